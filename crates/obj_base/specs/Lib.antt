@@ -1,0 +1,10 @@
+pub mod BlockSize
+pub mod Sound
+pub mod Features
+pub mod Stops
+pub use Rattle.apfs_model.specs.Counts
+pub use Rattle.apfs_model.specs.Bytes
+pub use Rattle.apfs_model.specs.Blocks
+pub use Rattle.apfs_model.specs.Lists
+pub use Rattle.apfs_model.specs.Sum
+pub use Rattle.apfs_model.specs.Object

@@ -1,0 +1,26 @@
+-- What a call that may stop has answered.
+use Rattle.std.specs.Prelude.{◌≡◌, ℕ, Result, Ok, Err}
+use Rattle.obj_base.specs.declared.stop.Feature.{Feature}
+use Rattle.obj_base.specs.declared.stop.Stop.{Stop}
+use Rattle.obj_base.specs.declared.stop.Stop.TheVariants.{Found, Unsupported, ReadFault, NoMemory}
+
+-- what a stop tells: a fact of the fault, or of the feature and its block; nothing where reading failed or memory ran out
+abbrev pub Tells : {F : Type 0} → (F → Type 0) → (Feature → ℕ → Type 0) → Stop F → Type 0
+Tells fault feature (Found f) = fault f
+Tells fault feature (Unsupported name block) = feature name block
+Tells fault feature ReadFault = Unit {0}
+Tells fault feature NoMemory = Unit {0}
+
+-- the answer is determined: a value as view shows it, a fault and a feature are those of the answer
+abbrev pub Gives : {T U F : Type 0} → (T → U) → Result T (Stop F) → Result U (Stop F) → Type 0
+Gives view (Ok value) answer = answer ≡ Ok (view value)
+Gives view (Err stop) answer = Tells (λ f. answer ≡ Err (Found f)) (λ name block. answer ≡ Err (Unsupported name block)) stop
+
+-- the answer is one of those that are there: a fact of the value, else what the stop tells
+abbrev pub Answers : {T F : Type 0} → (T → Type 0) → (F → Type 0) → (Feature → ℕ → Type 0) → Result T (Stop F) → Type 0
+Answers value fault feature (Ok x) = value x
+Answers value fault feature (Err stop) = Tells fault feature stop
+
+-- no feature is told of
+abbrev pub NoFeature : Feature → ℕ → Type 0
+NoFeature name block = ⊥
