@@ -1,0 +1,4 @@
+pub mod Memory
+pub use Rattle.apfs_model.specs.Counts
+pub use Rattle.apfs_model.specs.Source
+pub use Rattle.apfs_model.specs.Sink
