@@ -1,0 +1,9 @@
+pub mod Words
+pub mod Texts
+pub mod RingText
+pub mod Outcome
+pub mod Seen
+pub mod Ended
+pub use Rattle.apfs_model.specs.Counts
+pub use Rattle.apfs_model.specs.Source
+pub use Rattle.apfs_model.specs.Sink
