@@ -1,0 +1,6 @@
+pub mod Rank
+pub mod Shape
+pub mod Node
+pub mod Entries
+pub mod Soundness
+pub mod View
