@@ -4,10 +4,11 @@ use Rattle.std.proofs.Common.{arith}
 use Rattle.std.proofs.Math.Nat.{mul-le-mul_right}
 use Rattle.std.proofs.lemmas.Bool.Decides.{nat_tests}
 use Rattle.std.proofs.lemmas.Grind.{common_steps}
+use Rattle.std.proofs.lemmas.List.FromFn.{length-map-range_with_len}
 use Rattle.bt_node.specs.Shape.{Shape}
 use Rattle.bt_node.specs.Node.{count_of, level_of, table_begin, table_length_of, keys_begin, end_of}
-use Rattle.bt_node.specs.Entries.{place_len, place_of, is_ghost}
-use Rattle.bt_node.specs.Soundness.{is_table_inside, is_key_inside, is_value_inside, is_entry_inside, is_bounded, each_entry, IsTable}
+use Rattle.bt_node.specs.Entries.{place_len, place_of, is_ghost, pair_of, pairs_of}
+use Rattle.bt_node.specs.Soundness.{is_table_inside, is_key_inside, is_entry_inside, is_bounded, each_entry}
 use Rattle.bt_node.specs.View.{IsLegible}
 use Rattle.bt_node.proofs.Ranges.{one_passes}
 
@@ -17,7 +18,7 @@ unfolding end_of
 end_inside node = Prim.grind (arith, common_steps)
 
 -- a table that holds its entries and lies inside the node holds each of them
-place_held : (node : List ℕ) (i : ℕ) → count_of node * place_len node ≤ table_length_of node → keys_begin node ≤ end_of node → i < count_of node → table_begin node + (i + 1) * place_len node ≤ length node
+pub place_held : (node : List ℕ) (i : ℕ) → count_of node * place_len node ≤ table_length_of node → keys_begin node ≤ end_of node → i < count_of node → table_begin node + (i + 1) * place_len node ≤ length node
 unfolding keys_begin
 place_held node i holds ends low =
     let within : end_of node ≤ length node = end_inside node in
@@ -35,8 +36,9 @@ table_ends node e = Prim.grind (arith, nat_tests, common_steps)
 pub place_inside : (node : List ℕ) (i : ℕ) → is_table_inside node ≡ true → i < count_of node → table_begin node + (i + 1) * place_len node ≤ length node
 place_inside node i e low = place_held node i (table_holds node e) (table_ends node e) low
 
-pub place_lent : {K : Type 0} (shape : Shape K) (node : List ℕ) (i : ℕ) → IsLegible shape node → i < count_of node → table_begin node + (i + 1) * place_len node ≤ length node
-place_lent shape node i legible low = place_held node i legible.table.holds legible.table.ends low
+-- a node lists as many entries as it has
+pub pairs_counted : {K : Type 0} (shape : Shape K) (node : List ℕ) → length (pairs_of shape node) ≡ count_of node
+pairs_counted shape node = length-map-range_with_len (pair_of shape node) 0 (count_of node)
 
 -- in a bounded node the table lies inside
 pub bounded_table : {K : Type 0} (shape : Shape K) (node : List ℕ) → is_bounded shape node ≡ true → is_table_inside node ≡ true

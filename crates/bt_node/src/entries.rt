@@ -5,8 +5,7 @@ ghost use Rattle.bt_node.specs.Node as fields;
 ghost use Rattle.bt_node.specs.Entries as spec;
 ghost use Rattle.bt_node.specs.Soundness as sound;
 
-use crate::TreeKey;
-use crate::node;
+use crate::{TreeKey, node};
 use obj_base::{u16_at, u64_at};
 
 // A value offset that says that there is no value (B-Trees, BTOFF_INVALID).

@@ -5,8 +5,7 @@ ghost use Rattle.bt_node.specs.Entries as entry;
 ghost use Rattle.bt_node.specs.Soundness as spec;
 
 use crate::entries::{self, Place};
-use crate::node;
-use crate::{Layout, NodeAt, NodeFault, Site, TreeKey};
+use crate::{Layout, NodeAt, NodeFault, Site, TreeKey, node};
 use obj_base::{Bad, Expect, Feature, sound};
 
 // The kinds of a tree's root and of its other nodes (Objects, Object Types).
@@ -268,11 +267,7 @@ fn of_header(bad: Bad<obj_base::HeadFault>) -> Bad<NodeFault>
 
 // All the tests of a node.
 #[tactic(auto, unfolding(crate::specs::Soundness::node_of))]
-pub(crate) fn test<K: TreeKey>(
-    bytes: &[u8],
-    at: &NodeAt,
-    site: &Site,
-) -> Result<(), Bad<NodeFault>>
+pub(crate) fn test<K: TreeKey>(bytes: &[u8], at: &NodeAt, site: &Site) -> Result<(), Bad<NodeFault>>
     requires whole { length bytes.now % 4 ≡ 0 }
     requires long { 96 ≤ length bytes.now }
     ensures { MatchResult result (λ _. spec.node_of K.shape at.now site.now bytes.now ≡ Ok bytes.now) (λ bad. spec.node_of K.shape at.now site.now bytes.now ≡ Err bad) }

@@ -5,10 +5,7 @@ ghost use Rattle.bt_node.specs.Node as fields;
 ghost use Rattle.bt_node.specs.Entries as spec;
 ghost use Rattle.bt_node.specs.Soundness.{node_of, IsNode, IsSoundNode};
 
-use crate::entries;
-use crate::node;
-use crate::soundness;
-use crate::{NodeAt, NodeFault, RootInfo, Site, TreeKey};
+use crate::{NodeAt, NodeFault, RootInfo, Site, TreeKey, entries, node, soundness};
 use obj_base::Bad;
 use std::marker::{Model, PhantomData};
 
@@ -42,6 +39,7 @@ impl<'a, K: TreeKey> Model for NodeView<'a, K> {
 impl<'a, K: TreeKey> NodeView<'a, K> {
     /// The node in a block, or the first test that fails: the header's, `Sealed`, `NoHeader`, `Flags`, `Deep`, `Level`,
     /// `Size`, `Empty`, `Bounds`, `Ghost`, `Key`.
+    #[tactic(auto, using(crate::proofs::Laws::node_legible, crate::proofs::Laws::node_means, crate::proofs::Laws::means_node))]
     pub fn read(
         bytes: &'a [u8],
         at: &NodeAt,
@@ -62,6 +60,7 @@ impl<'a, K: TreeKey> NodeView<'a, K> {
     }
 
     /// The view that `read` gives for these arguments, where it answers Ok, without its tests.
+    #[tactic(auto, using(crate::proofs::Laws::node_legible))]
     pub fn kept(bytes: &'a [u8], at: &NodeAt, site: &Site) -> NodeView<'a, K>
         requires accepted { sizes.is_accepted site.now.block_size ≡ true }
         requires whole { length bytes.now ≡ site.now.block_size }
@@ -75,6 +74,7 @@ impl<'a, K: TreeKey> NodeView<'a, K> {
     }
 
     /// The number of entries.
+    #[tactic(auto, using(crate::proofs::Places::pairs_counted))]
     pub fn len(&self) -> usize
         ensures count { result ≡ fields.count_of self.now }
         ensures all { result ≡ length (spec.pairs_of K.shape self.now) }
@@ -89,8 +89,8 @@ impl<'a, K: TreeKey> NodeView<'a, K> {
         node::level(self.bytes)
     }
 
-    #[tactic(auto, using(crate::proofs::Places::place_lent, crate::proofs::Ranges::item_listed))]
     /// Entry `i`, in the order of the table of contents.
+    #[tactic(auto, using(crate::proofs::Places::place_held, crate::proofs::Ranges::item_listed))]
     pub fn entry(&self, i: usize) -> Entry<'a, K>
         requires { i < fields.count_of self.now }
         ensures key_bytes { result.key_bytes.now ≡ (spec.pair_of K.shape self.now i).key }
@@ -107,8 +107,8 @@ impl<'a, K: TreeKey> NodeView<'a, K> {
         }
     }
 
-    #[tactic(auto, using(crate::proofs::Places::place_lent, crate::proofs::Places::child_valued, crate::proofs::Ranges::item_listed))]
     /// The oid of the child that entry `i` names.
+    #[tactic(auto, using(crate::proofs::Places::place_held, crate::proofs::Places::child_valued, crate::proofs::Ranges::item_listed))]
     pub fn child(&self, i: usize) -> u64
         requires inside { i < fields.count_of self.now }
         requires upper { 0 < fields.level_of self.now }

@@ -1,5 +1,4 @@
-use Rattle.std.proofs.Common.{sym, ap, ◌∙◌, ◌<◌, ◌≡◌, false, true, ◌&&◌, arith, ℕ}
-use Rattle.std.specs.List.{range_with_len, list_all}
+use Rattle.std.proofs.Common.{sym, ◌∙◌, ◌<◌, ◌≡◌, false, true, arith}
 use Rattle.std.proofs.lemmas.Grind.{common_steps}
 use Rattle.apfs_model.proofs.Ranges.{all_more, all_fails}
 use Rattle.bt_node.specs.Node.{count_of}
