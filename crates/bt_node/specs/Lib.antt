@@ -1,3 +1,4 @@
+pub mod Site
 pub mod Rank
 pub mod Shape
 pub mod Node

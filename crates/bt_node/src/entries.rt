@@ -1,5 +1,5 @@
 // The entries of a node, lent from its bytes.
-ghost use Rattle.std.specs.Prelude.{◌≡◌, ◌+◌, ◌*◌, ◌≤◌, length, true, false, Some, None, MatchOption};
+ghost use Rattle.std.specs.Prelude.{◌≡◌, ◌+◌, ◌*◌, ◌≤◌, length, true, false, option_map};
 ghost use Rattle.apfs_model.specs.Bytes as numbers;
 ghost use Rattle.bt_node.specs.Node as fields;
 ghost use Rattle.bt_node.specs.Entries as spec;
@@ -123,7 +123,7 @@ pub(crate) fn value_in(bytes: &[u8], place: Place) -> Option<&[u8]>
     requires long { 96 ≤ length bytes.now }
     requires begins { spec.is_ghost place ≡ false → fields.keys_begin bytes.now + place.value_offset ≤ fields.end_of bytes.now }
     requires ends { spec.is_ghost place ≡ false → place.value_len ≤ place.value_offset }
-    ensures { MatchOption result (spec.value_in bytes.now place ≡ None) (λ value. spec.value_in bytes.now place ≡ Some value.now) }
+    ensures { option_map (λ value. value.now) result ≡ spec.value_in bytes.now place }
 {
     if is_ghost(place) {
         return None;

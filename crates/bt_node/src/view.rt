@@ -1,5 +1,5 @@
 // A node, over the block that is handed in.
-ghost use Rattle.std.specs.Prelude.{◌≡◌, ◌↔◌, ◌<◌, ℕ, List, length, true, None, Some, MatchOption, IsOk, slice_get};
+ghost use Rattle.std.specs.Prelude.{◌≡◌, ◌↔◌, ◌<◌, ℕ, List, length, true, Some, option_map, IsOk, IfOk, slice_get};
 ghost use Rattle.obj_base.specs.BlockSize as sizes;
 ghost use Rattle.bt_node.specs.Node as fields;
 ghost use Rattle.bt_node.specs.Entries as spec;
@@ -48,6 +48,7 @@ impl<'a, K: TreeKey> NodeView<'a, K> {
         requires accepted { sizes.is_accepted site.now.block_size ≡ true }
         requires whole { length bytes.now ≡ site.now.block_size }
         ensures first { result ≡ node_of K.shape at.now site.now bytes.now }
+        ensures same { IfOk result (λ node. node ≡ bytes.now) }
         ensures decides { IsOk result ↔ IsSoundNode K.shape at.now site.now bytes.now }
     {
         match soundness::test::<K>(bytes, at, site) {
@@ -94,7 +95,7 @@ impl<'a, K: TreeKey> NodeView<'a, K> {
     pub fn entry(&self, i: usize) -> Entry<'a, K>
         requires { i < fields.count_of self.now }
         ensures key_bytes { result.key_bytes.now ≡ (spec.pair_of K.shape self.now i).key }
-        ensures value { MatchOption result.value ((spec.pair_of K.shape self.now i).value ≡ None) (λ value. (spec.pair_of K.shape self.now i).value ≡ Some value.now) }
+        ensures value { option_map (λ value. value.now) result.value ≡ (spec.pair_of K.shape self.now i).value }
         ensures key { K.shape.read result.key_bytes.now ≡ Some result.key }
         ensures listed { slice_get (spec.pairs_of K.shape self.now) i ≡ Some (spec.pair_of K.shape self.now i) }
     {
