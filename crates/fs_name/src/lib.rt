@@ -1,0 +1,6 @@
+//! Names: their normal forms, their hashes, and which of them are the same.
+#![tactic(auto)]
+
+mod names;
+
+pub use names::Names;
