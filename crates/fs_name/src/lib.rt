@@ -1,6 +1,6 @@
 //! Names: their normal forms, their hashes, and which of them are the same.
 #![tactic(auto)]
 
-mod names;
+mod naming;
 
-pub use names::Names;
+pub use naming::Names;
