@@ -10,3 +10,6 @@ pub use crc::crc32c;
 pub use hash::{ascii_hash, name_hash};
 pub use naming::Names;
 pub use normal::same_name;
+
+#[cfg(test)]
+mod tests;
