@@ -14,8 +14,8 @@ pub number_written : (n x at k : ℕ) (block rest : List ℕ) → at ≤ length 
 number_written n x at k block rest inside small =
     let front : length (take at block) ≡ at = length-take-le at block inside in
     let behind : drop at (put_mid at k block (little_bytes n x ++ rest)) ≡ (little_bytes n x ++ rest) ++ post_of at k block =
-        ap (λ m. drop m (put_mid at k block (little_bytes n x ++ rest))) (sym front) ∙ drop-append_seam (take at block) ((little_bytes n x ++ rest) ++ post_of at k block) in
+    ap (λ m. drop m (put_mid at k block (little_bytes n x ++ rest))) (sym front) ∙ drop-append_seam (take at block) ((little_bytes n x ++ rest) ++ post_of at k block) in
     let read : number_at n (put_mid at k block (little_bytes n x ++ rest)) at ≡ little_from 0 n (drop at (put_mid at k block (little_bytes n x ++ rest))) =
-        sym (number_at_is n (put_mid at k block (little_bytes n x ++ rest)) at) in
+    sym (number_at_is n (put_mid at k block (little_bytes n x ++ rest)) at) in
     read ∙ ap (λ l. little_from 0 n l) (behind ∙ append_assoc (little_bytes n x) rest (post_of at k block))
     ∙ little_number-reads_back n x (rest ++ post_of at k block) small

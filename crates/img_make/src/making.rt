@@ -52,12 +52,7 @@ fn put_container_map(
 }
 
 // The two free queues.
-fn put_queues(
-    alloc: Global,
-    image: &mut Image,
-    xid: u64,
-    queued: &[Item],
-) -> Result<(), AllocError>
+fn put_queues(alloc: Global, image: &mut Image, xid: u64, queued: &[Item]) -> Result<(), AllocError>
     requires { 51 ≤ vec_len image.old.used }
     ensures { OnOk result (vec_len image.new.used ≡ vec_len image.old.used) }
 {

@@ -180,8 +180,16 @@ fn put_info(part: &mut [u8], tree: &Tree, totals: &Totals)
     put_u32(part, INFO_NODE_SIZE, BLOCK as u32);
     put_u32(part, INFO_KEY_SIZE, tree.key_size);
     put_u32(part, INFO_VALUE_SIZE, tree.value_size);
-    put_u32(part, INFO_LONGEST_KEY, totals.longest_key.max(tree.key_size));
-    put_u32(part, INFO_LONGEST_VALUE, totals.longest_value.max(tree.value_size));
+    put_u32(
+        part,
+        INFO_LONGEST_KEY,
+        totals.longest_key.max(tree.key_size),
+    );
+    put_u32(
+        part,
+        INFO_LONGEST_VALUE,
+        totals.longest_value.max(tree.value_size),
+    );
     put_u64(part, INFO_KEY_COUNT, totals.keys);
     put_u64(part, INFO_NODE_COUNT, totals.nodes);
 }

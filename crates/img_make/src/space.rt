@@ -224,7 +224,11 @@ pub(crate) fn chunk_info(alloc: Global, space: &Space<'_>) -> Result<Vec<u8>, Al
         subtype: 0,
     };
     let mut block = block_with(alloc, &head)?;
-    put_u32(&mut block, CIB_COUNT, (space.chunks.len() % 0x1_0000_0000) as u32);
+    put_u32(
+        &mut block,
+        CIB_COUNT,
+        (space.chunks.len() % 0x1_0000_0000) as u32,
+    );
     put_chunks(&mut block, space.chunks, space.xid);
     reseal(&mut block);
     Ok(block)

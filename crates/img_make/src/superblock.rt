@@ -119,10 +119,7 @@ fn put_names(block: &mut [u8], volumes: &[u64])
 }
 
 /// The container superblock.
-pub(crate) fn superblock(
-    alloc: Global,
-    container: &Container<'_>,
-) -> Result<Vec<u8>, AllocError>
+pub(crate) fn superblock(alloc: Global, container: &Container<'_>) -> Result<Vec<u8>, AllocError>
     ensures { IfOk result (λ block. vec_len block ≡ 4096) }
 {
     let head = Head {
