@@ -17,3 +17,6 @@ mod writer;
 pub use making::make;
 pub use plan::{Leaf, NewRange, Plan, QueueEntry, Version, VolPlan};
 pub use seal::reseal;
+
+#[cfg(test)]
+mod tests;
