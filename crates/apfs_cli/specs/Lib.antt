@@ -2,8 +2,10 @@ pub mod Words
 pub mod Texts
 pub mod RingText
 pub mod Outcome
+pub mod Written
+pub mod Says
 pub mod Seen
-pub mod Ended
+pub mod Rows
 pub use Rattle.apfs_model.specs.Counts
 pub use Rattle.apfs_model.specs.Source
 pub use Rattle.apfs_model.specs.Sink

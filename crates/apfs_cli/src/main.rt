@@ -1,8 +1,7 @@
 //! `apfs`: checks and browses APFS containers. What it writes, and how it ends, is said by the contract of `run`.
 #![tactic(auto)]
 
-mod answer;
-mod ended;
+mod ending;
 mod ring_text;
 mod run;
 #[cfg(test)]
@@ -18,7 +17,7 @@ use std::{env, fs};
 const OUT_OF_MEMORY: u8 = 5;
 
 // The words after the program's name; none where one of them isn't text, and an error where memory ran out.
-fn words(rt: &HostRuntime) -> io::Result<Vec<String>> {
+fn read_words(rt: &HostRuntime) -> io::Result<Vec<String>> {
     let mut words = Vec::new(rt.alloc());
     match env::args(rt) {
         Ok(args) => {
@@ -47,7 +46,7 @@ fn open(rt: &HostRuntime, words: &[String]) -> Opened<FileSource> {
 }
 
 fn main(rt: HostRuntime) -> ExitCode {
-    let Ok(words) = words(&rt) else {
+    let Ok(words) = read_words(&rt) else {
         return ExitCode::from(OUT_OF_MEMORY);
     };
     let mut image = open(&rt, &words);

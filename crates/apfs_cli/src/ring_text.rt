@@ -1,16 +1,15 @@
 // The command `ring`.
-ghost use Rattle.std.specs.Prelude.{◌≡◌, ◌≤◌, IfOk, IsErrOf, List, ℕ, Option, Some};
+ghost use Rattle.std.specs.Prelude.{◌≡◌, IfOk, Some};
 ghost use Rattle.std.specs.String.{string_bytes};
-ghost use Rattle.apfs_model.specs.Counts.{Rose};
 ghost use Rattle.apfs_model.specs.Source.{IsKept};
 ghost use Rattle.apfs_cli.specs.RingText.{line_text, ring_fault_text};
 ghost use Rattle.apfs_cli.specs.RingText as texts;
-ghost use Rattle.apfs_cli.specs.Outcome.{IsOutcome};
+ghost use Rattle.apfs_cli.specs.Says.{Says};
 ghost use Rattle.apfs_cli.specs.Seen.{seen};
-ghost use Rattle.apfs_cli.specs.declared.answer.Halt.TheVariants.{Read};
 ghost use Rattle.apfs_cli.specs.declared.words.Command.TheVariants.{Ring};
+ghost use Rattle.blk_source.specs.declared.source.Opened.TheVariants.{Image};
 
-use crate::answer::{Answer, Halt};
+use crate::ending::{Ending, faulty, written};
 use blk_source::BlockSource;
 use nx_ring::{RingFault, RingLine, ring};
 use obj_base::Stop;
@@ -53,17 +52,16 @@ fn fault_text(alloc: Global, fault: RingFault) -> Result<String, AllocError>
     }
 }
 
-/// What `ring` sets out to write of a source.
-pub fn ring_answer<S: BlockSource>(alloc: Global, src: &mut S) -> Result<Answer, Halt>
-    ensures found { IfOk result (λ answer. IsOutcome Ring (S.bytes src.old) (seen answer)) }
-    ensures cause { IsErrOf result Read → Rose (S.faults src.old) (S.faults src.new) }
+/// How `ring` ends on a source.
+pub fn ring_ending<S: BlockSource>(alloc: Global, src: &mut S) -> Ending
+    ensures says { Says S.bytes S.faults (Some Ring) (Image src.old) (Image src.new) (seen result) }
     ensures kept { IsKept S.bytes S.bytes_len S.faults src.old src.new }
 {
     match ring(alloc, src) {
-        Ok(lines) => Ok(Answer::written(alloc, text(alloc, &lines)?)),
-        Err(Stop::Found(fault)) => Answer::faulty(alloc, fault_text(alloc, fault)?.as_str()),
-        Err(Stop::Unsupported { feature, block }) => Answer::refused(alloc, feature, block),
-        Err(Stop::ReadFault) => Err(Halt::Read),
-        Err(Stop::NoMemory) => Err(Halt::Memory),
+        Ok(lines) => written(text(alloc, &lines)),
+        Err(Stop::Found(fault)) => faulty(fault_text(alloc, fault)),
+        Err(Stop::Unsupported { feature, block }) => Ending::Refused { feature, block },
+        Err(Stop::ReadFault) => Ending::ReadFailed,
+        Err(Stop::NoMemory) => Ending::OutOfMemory,
     }
 }

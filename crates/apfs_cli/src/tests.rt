@@ -24,6 +24,7 @@ enum Image {
 }
 
 // A name, what it is run on, the words, the status, and what is written on the two sinks.
+#[derive(Drop)]
 struct Case {
     name: &'static str,
     image: Image,
@@ -33,7 +34,7 @@ struct Case {
     err: &'static str,
 }
 
-const fn case(
+const fn row(
     name: &'static str,
     image: Image,
     words: &'static [&'static str],
@@ -53,12 +54,13 @@ const fn case(
 
 const USAGE: &str = "apfs: usage: apfs COMMAND IMAGE [WORDS]\n";
 
-const RING_LINES: &str = "1 block 2 xid 9 from 0 length 2\n5 block 6 xid 7 from 4 length 2\n7 block 8 xid 8 from 6 length 2\n";
+const RING_LINES: &str =
+    "1 block 2 xid 9 from 0 length 2\n5 block 6 xid 7 from 4 length 2\n7 block 8 xid 8 from 6 length 2\n";
 
 fn cases() -> [Case; 9] {
     [
-        case("clean_ring", Image::Ring, &["ring", "x"], 0, RING_LINES, ""),
-        case(
+        row("clean_ring", Image::Ring, &["ring", "x"], 0, RING_LINES, ""),
+        row(
             "fault_truncated",
             Image::RingCut,
             &["ring", "x"],
@@ -66,7 +68,7 @@ fn cases() -> [Case; 9] {
             "",
             "apfs: fault: Truncated have 255 need 256\n",
         ),
-        case(
+        row(
             "fault_block_zero_short",
             Image::RingShort,
             &["ring", "x"],
@@ -74,7 +76,7 @@ fn cases() -> [Case; 9] {
             "",
             "apfs: fault: BlockZero\n",
         ),
-        case(
+        row(
             "feature_non_contiguous",
             Image::RingSplit,
             &["ring", "x"],
@@ -82,11 +84,25 @@ fn cases() -> [Case; 9] {
             "",
             "apfs: unsupported: NonContiguous block 0\n",
         ),
-        case("words_none", Image::Absent, &[], 2, "", USAGE),
-        case("words_ring_alone", Image::Absent, &["ring"], 2, "", USAGE),
-        case("words_ring_three", Image::Ring, &["ring", "x", "y"], 2, "", USAGE),
-        case("words_unknown", Image::Ring, &["check", "x"], 2, "", USAGE),
-        case("answer_no_image", Image::Absent, &["ring", "x"], 8, "", "apfs: no image\n"),
+        row("words_none", Image::Absent, &[], 2, "", USAGE),
+        row("words_ring_alone", Image::Absent, &["ring"], 2, "", USAGE),
+        row(
+            "words_ring_three",
+            Image::Ring,
+            &["ring", "x", "y"],
+            2,
+            "",
+            USAGE,
+        ),
+        row("words_unknown", Image::Ring, &["check", "x"], 2, "", USAGE),
+        row(
+            "answer_no_image",
+            Image::Absent,
+            &["ring", "x"],
+            8,
+            "",
+            "apfs: no image\n",
+        ),
     ]
 }
 
@@ -144,6 +160,7 @@ fn handed(alloc: Global, image: Image, fails: Vec<u64>) -> Result<Opened<MemSour
 }
 
 // How a run ended.
+#[derive(Drop)]
 struct Ended {
     status: u8,
     out: MemSink,
@@ -152,12 +169,7 @@ struct Ended {
 }
 
 // Runs the words, with the numbers of the reads of the image and of the puts on both sinks that are refused.
-fn end(
-    alloc: Global,
-    image: Image,
-    words: &[&str],
-    fails: [&[u64]; 3],
-) -> Result<Ended, Fail> {
+fn end(alloc: Global, image: Image, words: &[&str], fails: [&[u64]; 3]) -> Result<Ended, Fail> {
     let words: Vec<String> = words
         .iter()
         .map(|word| String::from_str(alloc, word))
@@ -194,10 +206,19 @@ fn failure_of_each_read(rt: HostRuntime) -> Result<(), Fail> {
     let whole = end(rt.alloc(), Image::Ring, &["ring", "x"], [&[], &[], &[]])?;
     assert!(rt; 8 < whole.reads && whole.reads < 20);
     for number in 1..=whole.reads {
-        let ended = end(rt.alloc(), Image::Ring, &["ring", "x"], [&[number], &[], &[]])?;
+        let ended = end(
+            rt.alloc(),
+            Image::Ring,
+            &["ring", "x"],
+            [&[number], &[], &[]],
+        )?;
         assert_eq!(rt; ended.status, 3, "read {number}");
         assert_eq!(rt; ended.out.contents().len(), 0, "read {number}");
-        assert_eq!(rt; ended.err.contents(), b"apfs: read failed\n".as_slice(), "read {number}");
+        assert_eq!(rt;
+            ended.err.contents(),
+            b"apfs: read failed\n".as_slice(),
+            "read {number}"
+        );
     }
     Ok(())
 }

@@ -21,7 +21,7 @@ fn with_image(word: &str) -> Option<Command>
 }
 
 /// What the words ask for; None where they are no line of the program.
-pub fn command(words: &[String]) -> Option<Command>
+pub fn asked(words: &[String]) -> Option<Command>
     ensures { result ≡ command_of (map string_bytes words.now) }
 {
     match words {

@@ -1,0 +1,187 @@
+// The image of a plan.
+ghost use Rattle.std.specs.Prelude.{◌≡◌, ◌≤◌, ◌*◌, max, IfOk, OnOk, vec_len};
+ghost use Rattle.img_make.specs.Plans.{IsValid};
+
+use crate::Plan;
+use crate::checkpoint::{checkpoint_map, reaper};
+use crate::image::Image;
+use crate::layout::{
+    CHECKPOINT_MAP, CONTAINER_MAP, CONTAINER_MAP_ROOT, FIRST_FREE, FIRST_OID, MAIN_QUEUE,
+    MAIN_QUEUE_OID, POOL_BASE, POOL_BLOCKS, POOL_QUEUE, POOL_QUEUE_OID, REAPER, RING_BASE,
+    SPACE_MANAGER, SUPERBLOCK,
+};
+use crate::node::{Item, NodeHead, Totals, Tree, node};
+use crate::object_map::{MANUALLY_MANAGED, object_map};
+use crate::space::{CHUNK, Chunk, Space, bitmap, chunk_info, space_manager};
+use crate::superblock::{Container, superblock};
+use apfs_model::NoMemory;
+use std::alloc::{AllocError, Global};
+
+// The head of a tree's only node.
+fn only_node(oid: u64, xid: u64, keys: usize) -> NodeHead {
+    NodeHead {
+        oid,
+        xid,
+        level: 0,
+        totals: Some(Totals {
+            keys: keys as u64,
+            nodes: 1,
+            longest_key: 0,
+            longest_value: 0,
+        }),
+    }
+}
+
+// The container's object map and its tree.
+fn put_container_map(
+    alloc: Global,
+    image: &mut Image,
+    xid: u64,
+    records: &[Item],
+) -> Result<(), AllocError>
+    requires { 51 ≤ vec_len image.old.used }
+    ensures { OnOk result (vec_len image.new.used ≡ vec_len image.old.used) }
+{
+    let root = CONTAINER_MAP_ROOT as u64;
+    let map = object_map(alloc, CONTAINER_MAP as u64, xid, MANUALLY_MANAGED, root)?;
+    image.put(CONTAINER_MAP, &map);
+    let head = only_node(root, xid, records.len());
+    let tree = node(alloc, &Tree::OBJECT_MAP, &head, records)?;
+    image.put(CONTAINER_MAP_ROOT, &tree);
+    Ok(())
+}
+
+// The two free queues.
+fn put_queues(alloc: Global, image: &mut Image, xid: u64, queued: &[Item]) -> Result<(), AllocError>
+    requires { 51 ≤ vec_len image.old.used }
+    ensures { OnOk result (vec_len image.new.used ≡ vec_len image.old.used) }
+{
+    let pool_head = only_node(POOL_QUEUE_OID, xid, 0);
+    let pool = node(alloc, &Tree::QUEUE, &pool_head, &[])?;
+    image.put(POOL_QUEUE, &pool);
+    let main_head = only_node(MAIN_QUEUE_OID, xid, queued.len());
+    let main = node(alloc, &Tree::QUEUE, &main_head, queued)?;
+    image.put(MAIN_QUEUE, &main);
+    Ok(())
+}
+
+// How many blocks are free.
+fn free_count(used: &[bool]) -> usize {
+    used.iter().filter(|is_used| !**is_used).count()
+}
+
+// The chunks, and where their bitmaps stand in the pool: behind the chunk-info block, one for each chunk in use.
+fn chunks_of(alloc: Global, used: &[bool]) -> Result<Vec<Chunk>, AllocError> {
+    let mut chunks = Vec::new(alloc);
+    let mut bitmap = POOL_BASE;
+    for i in 0..used.len().div_ceil(CHUNK) {
+        let first = i * CHUNK;
+        let blocks = CHUNK.min(used.len() - first);
+        let free = free_count(&used[first..first + blocks]);
+        let in_use = free < blocks;
+        if in_use {
+            bitmap = bitmap.saturating_add(1);
+        }
+        chunks.push(Chunk {
+            blocks,
+            free,
+            bitmap: if in_use { bitmap } else { 0 },
+        })?;
+    }
+    Ok(chunks)
+}
+
+// The bitmaps of the chunks.
+fn put_bitmaps(alloc: Global, image: &mut Image, chunks: &[Chunk]) -> Result<(), AllocError>
+    ensures { OnOk result (vec_len image.new.used ≡ vec_len image.old.used) }
+{
+    for (i, chunk) in chunks.iter().enumerate() {
+        let first = i.saturating_mul(CHUNK).min(image.used.len());
+        let end = first.saturating_add(chunk.blocks).min(image.used.len());
+        let bits = bitmap(alloc, &image.used[first..end])?;
+        if chunk.bitmap != 0 && chunk.bitmap < image.used.len() {
+            image.put(chunk.bitmap, &bits);
+        }
+    }
+    Ok(())
+}
+
+// The space manager, the chunks and the pool.
+fn put_space(alloc: Global, image: &mut Image, xid: u64) -> Result<(), AllocError>
+    requires { 51 ≤ vec_len image.old.used }
+    ensures { OnOk result (vec_len image.new.used ≡ vec_len image.old.used) }
+{
+    let chunks = chunks_of(alloc, &image.used)?;
+    let space = Space {
+        xid,
+        blocks: image.used.len(),
+        free: free_count(&image.used),
+        pool_blocks: POOL_BLOCKS,
+        chunks: &chunks,
+    };
+    let manager = space_manager(alloc, &space)?;
+    image.put(SPACE_MANAGER, &manager);
+    let cib = chunk_info(alloc, &space)?;
+    image.put(POOL_BASE, &cib);
+    put_bitmaps(alloc, image, &chunks)?;
+    let bitmaps = chunks.iter().filter(|chunk| chunk.bitmap != 0).count();
+    let in_pool = vec![in alloc; true; bitmaps.saturating_add(1)]?;
+    let ring = bitmap(alloc, &in_pool)?;
+    image.put(RING_BASE, &ring);
+    Ok(())
+}
+
+// The checkpoint: its map, the reaper, the superblock and the superblock's copy.
+fn put_checkpoint(
+    alloc: Global,
+    image: &mut Image,
+    container: &Container<'_>,
+) -> Result<(), AllocError>
+    requires { 51 ≤ vec_len image.old.used }
+    ensures { OnOk result (vec_len image.new.used ≡ vec_len image.old.used) }
+{
+    let map = checkpoint_map(alloc, container.xid)?;
+    image.put(CHECKPOINT_MAP, &map);
+    let idle = reaper(alloc, container.xid)?;
+    image.put(REAPER, &idle);
+    let block = superblock(alloc, container)?;
+    image.put(SUPERBLOCK, &block);
+    image.put(0, &block);
+    Ok(())
+}
+
+// The image of a plan while it is made.
+fn image_of(alloc: Global, plan: &Plan) -> Result<Image, AllocError>
+    requires { IsValid plan.now }
+    ensures { IfOk result (λ image. vec_len image.used ≡ max plan.now.blocks 51) }
+{
+    let blocks = plan.blocks.max(FIRST_FREE as u64);
+    let mut image = Image::new(alloc, blocks as usize)?;
+    image.mark(0, FIRST_FREE);
+    put_container_map(alloc, &mut image, plan.xid, &[])?;
+    put_queues(alloc, &mut image, plan.xid, &[])?;
+    put_space(alloc, &mut image, plan.xid)?;
+    let container = Container {
+        blocks,
+        xid: plan.xid,
+        next_oid: FIRST_OID,
+        volumes: &[],
+    };
+    put_checkpoint(alloc, &mut image, &container)?;
+    Ok(image)
+}
+
+/// The image of a plan: blocks 0 to 50 hold the container's own objects, and the others follow from block 51 on. It has
+/// as many blocks as the plan asks for, or as many as are needed where that is more.
+pub fn make(alloc: Global, plan: &Plan) -> Result<Vec<u8>, NoMemory>
+    requires { IsValid plan.now }
+    ensures { IfOk result (λ image. vec_len image ≡ 4096 * max plan.now.blocks 51) }
+{
+    match image_of(alloc, plan) {
+        Ok(image) => {
+            let Image { bytes, .. } = image;
+            Ok(bytes)
+        }
+        Err(_) => Err(NoMemory),
+    }
+}
