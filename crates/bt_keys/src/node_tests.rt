@@ -45,6 +45,9 @@ const NODE_SIZE: usize = 4060;
 // A field's place and its 16 bits.
 type Edit = (usize, u16);
 
+// What a case is called, why its node isn't sound, and what is changed.
+type Case = (&'static str, Option<Bad<NodeFault>>, &'static [Edit]);
+
 const BASE: &[Edit] = &[
     (OID, 26),
     (16, 1),
@@ -115,72 +118,74 @@ const GHOST: Option<Bad<NodeFault>> = Some(Bad::Found(NodeFault::Ghost));
 const KEY: Option<Bad<NodeFault>> = Some(Bad::Found(NodeFault::Key));
 
 // Each test that an object map's node can fail alone, and then each neighbour pair, of which the first is named.
+const CASES: &[Case] = &[
+    ("nothing fails", None, &[]),
+    ("header", HEAD, &[(KIND, 3)]),
+    ("sealed", SEALED, &[(FLAGS, 7 + 8)]),
+    ("no header", NO_HEADER, &[(FLAGS, 7 + 16)]),
+    ("root flag", WRONG_FLAGS, &[(FLAGS, 6)]),
+    ("leaf flag", WRONG_FLAGS, &[(FLAGS, 5)]),
+    (
+        "fixed flag",
+        WRONG_FLAGS,
+        &[(FLAGS, 3), (60, 16), (62, 16), (TABLE_LENGTH, 8)],
+    ),
+    ("deep", DEEP, &[(FLAGS, 5), (LEVEL, 16)]),
+    ("size", WRONG_SIZE, &[(NODE_SIZE, 8192)]),
+    ("empty", EMPTY, &[(FLAGS, 5), (LEVEL, 1), (COUNT, 0)]),
+    ("value past the end", BOUNDS, &[(VALUE_OFFSET, 8)]),
+    ("value before the keys", BOUNDS, &[(VALUE_OFFSET, 4000)]),
+    ("key past the end", BOUNDS, &[(KEY_OFFSET, 3981)]),
+    ("table too short", BOUNDS, &[(TABLE_LENGTH, 3)]),
+    (
+        "table past the end",
+        BOUNDS,
+        &[(COUNT, 0), (TABLE_OFFSET, 4000)],
+    ),
+    ("ghost", GHOST, &[(VALUE_OFFSET, 0xffff)]),
+    ("header, sealed", HEAD, &[(KIND, 3), (FLAGS, 7 + 8)]),
+    ("sealed, no header", SEALED, &[(FLAGS, 7 + 8 + 16)]),
+    ("no header, flags", NO_HEADER, &[(FLAGS, 6 + 16)]),
+    ("flags, deep", WRONG_FLAGS, &[(FLAGS, 7), (LEVEL, 16)]),
+    (
+        "bounds, ghost",
+        BOUNDS,
+        &[(KEY_OFFSET, 3981), (VALUE_OFFSET, 0xffff)],
+    ),
+];
+
 #[test]
 fn the_first_failing_test_is_named(rt: HostRuntime) {
-    let cases: [(&str, Option<Bad<NodeFault>>, &[Edit]); 21] = [
-        ("nothing fails", None, &[]),
-        ("header", HEAD, &[(KIND, 3)]),
-        ("sealed", SEALED, &[(FLAGS, 7 + 8)]),
-        ("no header", NO_HEADER, &[(FLAGS, 7 + 16)]),
-        ("root flag", WRONG_FLAGS, &[(FLAGS, 6)]),
-        ("leaf flag", WRONG_FLAGS, &[(FLAGS, 5)]),
-        (
-            "fixed flag",
-            WRONG_FLAGS,
-            &[(FLAGS, 3), (60, 16), (62, 16), (TABLE_LENGTH, 8)],
-        ),
-        ("deep", DEEP, &[(FLAGS, 5), (LEVEL, 16)]),
-        ("size", WRONG_SIZE, &[(NODE_SIZE, 8192)]),
-        ("empty", EMPTY, &[(FLAGS, 5), (LEVEL, 1), (COUNT, 0)]),
-        ("value past the end", BOUNDS, &[(VALUE_OFFSET, 8)]),
-        ("value before the keys", BOUNDS, &[(VALUE_OFFSET, 4000)]),
-        ("key past the end", BOUNDS, &[(KEY_OFFSET, 3981)]),
-        ("table too short", BOUNDS, &[(TABLE_LENGTH, 3)]),
-        (
-            "table past the end",
-            BOUNDS,
-            &[(COUNT, 0), (TABLE_OFFSET, 4000)],
-        ),
-        ("ghost", GHOST, &[(VALUE_OFFSET, 0xffff)]),
-        ("header, sealed", HEAD, &[(KIND, 3), (FLAGS, 7 + 8)]),
-        ("sealed, no header", SEALED, &[(FLAGS, 7 + 8 + 16)]),
-        ("no header, flags", NO_HEADER, &[(FLAGS, 6 + 16)]),
-        ("flags, deep", WRONG_FLAGS, &[(FLAGS, 7), (LEVEL, 16)]),
-        (
-            "bounds, ghost",
-            BOUNDS,
-            &[(KEY_OFFSET, 3981), (VALUE_OFFSET, 0xffff)],
-        ),
-    ];
-    for (name, expected, edits) in cases {
-        assert_eq!(rt; fault::<OmapKey>(&made(edits), &AT), expected, "{name}");
+    for (name, expected, edits) in CASES {
+        assert_eq!(rt; fault::<OmapKey>(&made(edits), &AT), *expected, "{name}");
     }
 }
 
-// The same where a level is expected of the root.
+// The same where level 1 is expected of the root.
+const LEVEL_CASES: &[Case] = &[
+    ("level", WRONG_LEVEL, &[]),
+    ("level, size", WRONG_LEVEL, &[(NODE_SIZE, 8192)]),
+    ("deep, level", DEEP, &[(FLAGS, 5), (LEVEL, 16)]),
+    (
+        "size, empty",
+        WRONG_SIZE,
+        &[(FLAGS, 5), (LEVEL, 1), (COUNT, 0), (NODE_SIZE, 8192)],
+    ),
+    (
+        "empty, bounds",
+        EMPTY,
+        &[(FLAGS, 5), (LEVEL, 1), (COUNT, 0), (TABLE_OFFSET, 4000)],
+    ),
+];
+
 #[test]
 fn levels_are_compared_in_their_turn(rt: HostRuntime) {
     let at = NodeAt {
         level: Some(1),
         ..AT
     };
-    let cases: [(&str, Option<Bad<NodeFault>>, &[Edit]); 5] = [
-        ("level", WRONG_LEVEL, &[]),
-        ("level, size", WRONG_LEVEL, &[(NODE_SIZE, 8192)]),
-        ("deep, level", DEEP, &[(FLAGS, 5), (LEVEL, 16)]),
-        (
-            "size, empty",
-            WRONG_SIZE,
-            &[(FLAGS, 5), (LEVEL, 1), (COUNT, 0), (NODE_SIZE, 8192)],
-        ),
-        (
-            "empty, bounds",
-            EMPTY,
-            &[(FLAGS, 5), (LEVEL, 1), (COUNT, 0), (TABLE_OFFSET, 4000)],
-        ),
-    ];
-    for (name, expected, edits) in cases {
-        assert_eq!(rt; fault::<OmapKey>(&made(edits), &at), expected, "{name}");
+    for (name, expected, edits) in LEVEL_CASES {
+        assert_eq!(rt; fault::<OmapKey>(&made(edits), &at), *expected, "{name}");
     }
 }
 
@@ -196,18 +201,19 @@ const FS: &[Edit] = &[
     (70, 0x3000),
 ];
 
+const KEY_CASES: &[Case] = &[
+    ("nothing fails", None, &[]),
+    ("key", KEY, &[(58, 7)]),
+    ("ghost, key", GHOST, &[(58, 7), (60, 0xffff)]),
+];
+
 #[test]
 fn keys_are_read_last(rt: HostRuntime) {
-    let cases: [(&str, Option<Bad<NodeFault>>, &[Edit]); 3] = [
-        ("nothing fails", None, &[]),
-        ("key", KEY, &[(58, 7)]),
-        ("ghost, key", GHOST, &[(58, 7), (60, 0xffff)]),
-    ];
-    for (name, expected, edits) in cases {
+    for (name, expected, edits) in KEY_CASES {
         let mut node = made(FS);
         put(&mut node, edits);
         seal(&mut node);
-        assert_eq!(rt; fault::<FsKey>(&node, &AT), expected, "{name}");
+        assert_eq!(rt; fault::<FsKey>(&node, &AT), *expected, "{name}");
     }
 }
 

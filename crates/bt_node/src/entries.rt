@@ -128,8 +128,8 @@ pub(crate) fn value_in(bytes: &[u8], place: Place) -> Option<&[u8]>
     if is_ghost(place) {
         return None;
     }
-    let at = node::end(bytes) - usize::from(place.value_offset);
-    Some(&bytes[at..at + place.value_len])
+    let begin = node::end(bytes) - usize::from(place.value_offset);
+    Some(&bytes[begin..begin + place.value_len])
 }
 
 // The oid at the value's begin.

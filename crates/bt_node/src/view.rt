@@ -52,10 +52,7 @@ impl<'a, K: TreeKey> NodeView<'a, K> {
         ensures decides { IsOk result ↔ IsSoundNode K.shape at.now site.now bytes.now }
     {
         match soundness::test::<K>(bytes, at, site) {
-            Ok(()) => Ok(NodeView {
-                bytes,
-                kind: PhantomData,
-            }),
+            Ok(()) => Ok(NodeView::kept(bytes, at, site)),
             Err(bad) => Err(bad),
         }
     }
