@@ -52,5 +52,10 @@ pub(crate) const POOL_QUEUE_OID: u64 = 1029;
 
 pub(crate) const MAIN_QUEUE_OID: u64 = 1030;
 
+/// The ids of the first volume and of its file-system tree.
+pub(crate) const VOLUME_OID: u64 = 1026;
+
+pub(crate) const ROOT_OID: u64 = 1028;
+
 /// The first id that no fixed object has.
 pub(crate) const FIRST_OID: u64 = 1031;

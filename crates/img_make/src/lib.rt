@@ -9,9 +9,12 @@ mod making;
 mod node;
 mod object_map;
 mod plan;
+mod record;
 mod seal;
 mod space;
 mod superblock;
+mod tree;
+mod volume;
 mod writer;
 
 pub use making::make;

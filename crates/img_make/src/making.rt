@@ -157,7 +157,7 @@ fn image_of(alloc: Global, plan: &Plan) -> Result<Image, AllocError>
 {
     let blocks = plan.blocks.max(FIRST_FREE as u64);
     let mut image = Image::new(alloc, blocks as usize)?;
-    image.mark(0, FIRST_FREE);
+    image.mark(0, FIRST_FREE as u64);
     put_container_map(alloc, &mut image, plan.xid, &[])?;
     put_queues(alloc, &mut image, plan.xid, &[])?;
     put_space(alloc, &mut image, plan.xid)?;

@@ -2,7 +2,7 @@
 ghost use Rattle.std.specs.Prelude.{◌≡◌, ◌≤◌, length, IfOk, vec_len};
 
 use crate::header::{
-    EPHEMERAL, Head, NODE_KIND, OBJECT_MAP_KIND, PHYSICAL, QUEUE_KIND, ROOT_KIND, block_with,
+    EPHEMERAL, EXTENTS_KIND, FS_TREE_KIND, Head, NODE_KIND, OBJECT_MAP_KIND, PHYSICAL, QUEUE_KIND, ROOT_KIND, SNAPSHOTS_KIND, VIRTUAL, block_with,
 };
 use crate::layout::BLOCK;
 use crate::reseal;
@@ -91,6 +91,33 @@ impl Tree {
         key_size: 16,
         value_size: 8,
         flags: 0xc,
+    };
+
+    /// A file-system tree, which is virtual.
+    pub const FILE_SYSTEM: Tree = Tree {
+        storage: VIRTUAL,
+        subtype: FS_TREE_KIND,
+        key_size: 0,
+        value_size: 0,
+        flags: 0x40,
+    };
+
+    /// An extent reference tree, which is physical.
+    pub const EXTENTS: Tree = Tree {
+        storage: PHYSICAL,
+        subtype: EXTENTS_KIND,
+        key_size: 0,
+        value_size: 0,
+        flags: 0x50,
+    };
+
+    /// A snapshot metadata tree, which is physical.
+    pub const SNAPSHOTS: Tree = Tree {
+        storage: PHYSICAL,
+        subtype: SNAPSHOTS_KIND,
+        key_size: 0,
+        value_size: 0,
+        flags: 0x50,
     };
 
     // Whether all keys and all values have one size.
