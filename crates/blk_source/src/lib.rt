@@ -6,6 +6,8 @@ mod edge;
 mod memory;
 mod sink;
 mod source;
+#[cfg(test)]
+mod tests;
 
 pub use apfs_model::{NoMemory, ReadFailed, WriteFailed};
 pub use bytes::Bytes;

@@ -1,5 +1,5 @@
-// Sources in memory.
-ghost use Rattle.std.specs.Prelude.{◌≡◌, ◌≢◌, ◌+◌, ◌≤◌, ◌^◌, ◌<◌, ◌↔◌, List, ℕ, Option, Some, length, OnOk, OnErr, IsErr, IsTrue, Contains, [], not};
+// Sources in memory, for tests and for images that the program made.
+ghost use Rattle.std.specs.Prelude.{◌≡◌, ◌+◌, ◌≤◌, ◌↔◌, List, ℕ, Option, Some, length, OnOk, OnErr, IsErr, IsTrue, Contains};
 ghost use Rattle.apfs_model.specs.Counts.{one_more, Rose};
 ghost use Rattle.apfs_model.specs.Source.{Copies, told_length};
 
@@ -7,7 +7,7 @@ use crate::BlockSource;
 use apfs_model::ReadFailed;
 use std::marker::Model;
 
-/// A source in memory, which fails at the reads of these numbers, counted from 1.
+/// A source in memory, which fails at the reads of certain numbers, counted from 1.
 #[derive(Drop)]
 pub struct MemSource {
     bytes: Vec<u8>,
@@ -25,6 +25,7 @@ impl Model for MemSource {
 }
 
 impl MemSource {
+    /// A source of these bytes, whose reads of the numbers in `fails` are refused.
     pub fn new(bytes: Vec<u8>, fails: Vec<u64>) -> MemSource
         ensures bytes { result.bytes ≡ bytes.items }
         ensures fails { result.fails ≡ fails.items }
@@ -39,12 +40,21 @@ impl MemSource {
         }
     }
 
+    // Whether the next read is one of those that are refused.
+    fn is_refused(&self) -> bool
+        ensures { IsTrue result ↔ Contains self.now.fails (self.now.reads + 1) }
+    {
+        is_due(&self.fails, self.reads)
+    }
+
+    /// How often it was read.
     pub fn read_count(&self) -> u64
         ensures { result ≡ self.now.reads }
     {
         self.reads
     }
 
+    /// How often it has failed.
     pub fn fault_count(&self) -> u64
         ensures { result ≡ self.now.faults }
     {
@@ -60,6 +70,15 @@ pub(crate) fn is_due(fails: &[u64], calls: u64) -> bool
         Some(number) => fails.contains(&number),
         None => false,
     }
+}
+
+// Copies the bytes from a place on.
+fn copy_from(bytes: &[u8], at: u64, into: &mut [u8])
+    requires { at + length into.old ≤ length bytes.now }
+    ensures { Copies bytes.now at into.new }
+{
+    let from = at as usize;
+    into.copy_from_slice(&bytes[from..from + into.len()]);
 }
 
 impl BlockSource for MemSource {
@@ -82,23 +101,24 @@ impl BlockSource for MemSource {
         requires some { 1 ≤ length into.old }
         requires short { length into.old ≤ 65536 }
         ensures found { (image : List ℕ) → Some self.old.bytes ≡ Some image → OnOk result (Copies image at into.new) }
+        ensures cause { OnErr result (Rose self.old.faults self.new.faults) }
         ensures bytes { Some self.new.bytes ≡ Some self.old.bytes }
         ensures size { length self.new.bytes ≡ length self.old.bytes }
-        ensures cause { OnErr result (Rose self.old.faults self.new.faults) }
         ensures later { self.old.faults ≤ self.new.faults }
         ensures reads { self.new.reads ≡ one_more self.old.reads }
+
+        // It fails exactly at the numbers given.
         ensures fails { IsErr result ↔ Contains self.old.fails (self.old.reads + 1) }
-        ensures same_fails { self.new.fails ≡ self.old.fails }
         ensures faults { OnOk result (self.new.faults ≡ self.old.faults) }
+        ensures same_fails { self.new.fails ≡ self.old.fails }
     {
-        let failing = is_due(&self.fails, self.reads);
+        let failing = self.is_refused();
         self.reads = self.reads.saturating_add(1);
         if failing {
             self.faults = self.faults.saturating_add(1);
             return Err(ReadFailed);
         }
-        let from = at as usize;
-        into.copy_from_slice(&self.bytes[from..from + into.len()]);
+        copy_from(&self.bytes, at, into);
         Ok(())
     }
 }
@@ -119,6 +139,7 @@ impl Model for SureSource {
 }
 
 impl SureSource {
+    /// A source of these bytes.
     pub fn new(bytes: Vec<u8>) -> SureSource
         ensures bytes { result.bytes ≡ bytes.items }
         ensures reads { result.reads ≡ 0 }
@@ -144,8 +165,7 @@ impl BlockSource for SureSource {
 
     fn read_at(&mut self, at: u64, into: &mut [u8]) -> Result<(), ReadFailed> {
         self.reads = self.reads.saturating_add(1);
-        let from = at as usize;
-        into.copy_from_slice(&self.bytes[from..from + into.len()]);
+        copy_from(&self.bytes, at, into);
         Ok(())
     }
 }

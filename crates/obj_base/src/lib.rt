@@ -7,6 +7,8 @@ mod number;
 mod soundness;
 mod stop;
 mod sum;
+#[cfg(test)]
+mod tests;
 
 pub use block_size::is_accepted;
 pub use header::{Expect, HeadFault, Header, ObjFlags};

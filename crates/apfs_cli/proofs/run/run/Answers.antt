@@ -1,0 +1,56 @@
+-- Each status says what the outcome of that status says.
+use Rattle.std.proofs.Common.{map}
+use Rattle.std.specs.String.{string_bytes}
+use Rattle.apfs_cli.specs.Words.{command_of}
+use Rattle.apfs_cli.specs.Written.{sunk}
+use Rattle.apfs_cli.proofs.RowsLemmas.{text_row, fault_row, wrong_words_row, usage_row, read_failed_row, out_of_memory_row, feature_row, no_image_row, absent_row, write_failed_row}
+use Rattle.apfs_cli.proofs.run.run.Goals as goal
+
+pub returns-clause-text : goal.returns-clause-text
+returns-clause-text g c =
+    text_row g.S.BlockSource.bytes g.S.BlockSource.faults (command_of (map string_bytes c.args.words.now)) c.args.image.now c.end.new.image c.end.result
+    (sunk g.W.Sink.contents g.W.Sink.faults c.args.out.now c.end.new.out) (sunk g.E.Sink.contents g.E.Sink.faults c.args.err.now c.end.new.err) c.end.ensures.answer
+
+pub returns-clause-fault : goal.returns-clause-fault
+returns-clause-fault g c =
+    fault_row g.S.BlockSource.bytes g.S.BlockSource.faults (command_of (map string_bytes c.args.words.now)) c.args.image.now c.end.new.image c.end.result
+    (sunk g.W.Sink.contents g.W.Sink.faults c.args.out.now c.end.new.out) (sunk g.E.Sink.contents g.E.Sink.faults c.args.err.now c.end.new.err) c.end.ensures.answer
+
+pub returns-clause-wrong_words : goal.returns-clause-wrong_words
+returns-clause-wrong_words g c =
+    wrong_words_row g.S.BlockSource.bytes g.S.BlockSource.faults (command_of (map string_bytes c.args.words.now)) c.args.image.now c.end.new.image c.end.result
+    (sunk g.W.Sink.contents g.W.Sink.faults c.args.out.now c.end.new.out) (sunk g.E.Sink.contents g.E.Sink.faults c.args.err.now c.end.new.err) c.end.ensures.answer
+
+pub returns-clause-usage : goal.returns-clause-usage
+returns-clause-usage g c e =
+    (usage_row g.S.BlockSource.bytes g.S.BlockSource.faults (command_of (map string_bytes c.args.words.now)) c.args.image.now c.end.new.image c.end.result
+    (sunk g.W.Sink.contents g.W.Sink.faults c.args.out.now c.end.new.out) (sunk g.E.Sink.contents g.E.Sink.faults c.args.err.now c.end.new.err) c.end.ensures.answer e).1
+
+pub returns-clause-read_failed : goal.returns-clause-read_failed
+returns-clause-read_failed g c =
+    read_failed_row g.S.BlockSource.bytes g.S.BlockSource.faults (command_of (map string_bytes c.args.words.now)) c.args.image.now c.end.new.image c.end.result
+    (sunk g.W.Sink.contents g.W.Sink.faults c.args.out.now c.end.new.out) (sunk g.E.Sink.contents g.E.Sink.faults c.args.err.now c.end.new.err) c.end.ensures.answer
+
+pub returns-clause-out_of_memory : goal.returns-clause-out_of_memory
+returns-clause-out_of_memory g c =
+    out_of_memory_row g.S.BlockSource.bytes g.S.BlockSource.faults (command_of (map string_bytes c.args.words.now)) c.args.image.now c.end.new.image c.end.result
+    (sunk g.W.Sink.contents g.W.Sink.faults c.args.out.now c.end.new.out) (sunk g.E.Sink.contents g.E.Sink.faults c.args.err.now c.end.new.err) c.end.ensures.answer
+
+pub returns-clause-feature : goal.returns-clause-feature
+returns-clause-feature g c =
+    feature_row g.S.BlockSource.bytes g.S.BlockSource.faults (command_of (map string_bytes c.args.words.now)) c.args.image.now c.end.new.image c.end.result
+    (sunk g.W.Sink.contents g.W.Sink.faults c.args.out.now c.end.new.out) (sunk g.E.Sink.contents g.E.Sink.faults c.args.err.now c.end.new.err) c.end.ensures.answer
+
+pub returns-clause-no_image : goal.returns-clause-no_image
+returns-clause-no_image g c =
+    no_image_row g.S.BlockSource.bytes g.S.BlockSource.faults (command_of (map string_bytes c.args.words.now)) c.args.image.now c.end.new.image c.end.result
+    (sunk g.W.Sink.contents g.W.Sink.faults c.args.out.now c.end.new.out) (sunk g.E.Sink.contents g.E.Sink.faults c.args.err.now c.end.new.err) c.end.ensures.answer
+
+pub returns-clause-absent : goal.returns-clause-absent
+returns-clause-absent g c e =
+    (absent_row g.S.BlockSource.bytes g.S.BlockSource.faults (command_of (map string_bytes c.args.words.now)) c.args.image.now c.end.new.image c.end.result
+    (sunk g.W.Sink.contents g.W.Sink.faults c.args.out.now c.end.new.out) (sunk g.E.Sink.contents g.E.Sink.faults c.args.err.now c.end.new.err) c.end.ensures.answer e).1
+
+pub returns-clause-write_failed : goal.returns-clause-write_failed
+returns-clause-write_failed g c =
+    write_failed_row c.end.result c.end.ensures.answer.0 (sunk g.W.Sink.contents g.W.Sink.faults c.args.out.now c.end.new.out) (sunk g.E.Sink.contents g.E.Sink.faults c.args.err.now c.end.new.err) c.end.ensures.answer.2

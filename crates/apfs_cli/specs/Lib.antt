@@ -1,0 +1,11 @@
+pub mod Words
+pub mod Texts
+pub mod RingText
+pub mod Outcome
+pub mod Written
+pub mod Says
+pub mod Seen
+pub mod Rows
+pub use Rattle.apfs_model.specs.Counts
+pub use Rattle.apfs_model.specs.Source
+pub use Rattle.apfs_model.specs.Sink

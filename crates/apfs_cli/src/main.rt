@@ -1,0 +1,56 @@
+//! `apfs`: checks and browses APFS containers. What it writes, and how it ends, is said by the contract of `run`.
+#![tactic(auto)]
+
+mod ending;
+mod ring_text;
+mod run;
+#[cfg(test)]
+mod tests;
+mod words;
+
+use blk_source::{FileSource, Opened, StdSink};
+use std::io::{self, ErrorKind};
+use std::process::ExitCode;
+use std::{env, fs};
+
+// The status of a run for which there was no memory.
+const OUT_OF_MEMORY: u8 = 5;
+
+// The words after the program's name; none where one of them isn't text, and an error where memory ran out.
+fn read_words(rt: &HostRuntime) -> io::Result<Vec<String>> {
+    let mut words = Vec::new(rt.alloc());
+    match env::args(rt) {
+        Ok(args) => {
+            for word in args.skip(1) {
+                words.push(word)?;
+            }
+        }
+        Err(error) if error.kind() == ErrorKind::OutOfMemory => return Err(error),
+        Err(_) => {}
+    }
+    Ok(words)
+}
+
+// The image that the second word names.
+fn open(rt: &HostRuntime, words: &[String]) -> Opened<FileSource> {
+    let Some(path) = words.get(1) else {
+        return Opened::Absent;
+    };
+    let Ok(file) = fs::open(rt, path.as_str()) else {
+        return Opened::Absent;
+    };
+    match FileSource::new(file) {
+        Ok(source) => Opened::Image(source),
+        Err(_) => Opened::Absent,
+    }
+}
+
+fn main(rt: HostRuntime) -> ExitCode {
+    let Ok(words) = read_words(&rt) else {
+        return ExitCode::from(OUT_OF_MEMORY);
+    };
+    let mut image = open(&rt, &words);
+    let mut out = StdSink::new(rt.stdout());
+    let mut err = StdSink::new(rt.stderr());
+    ExitCode::from(run::run(rt.alloc(), &words, &mut image, &mut out, &mut err))
+}

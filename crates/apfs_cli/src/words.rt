@@ -1,0 +1,31 @@
+// The words after the program's name.
+ghost use Rattle.std.specs.Prelude.{◌≡◌, map};
+ghost use Rattle.std.specs.String.{string_bytes};
+ghost use Rattle.apfs_cli.specs.Words.{command_of, image_command};
+
+/// What a line of words asks for.
+#[derive(Clone, Copy, PartialEq, Eq, Debug)]
+pub enum Command {
+    /// The candidates of the descriptor ring.
+    Ring,
+}
+
+// The command that takes an image and nothing else.
+fn with_image(word: &str) -> Option<Command>
+    ensures { result ≡ image_command word.now }
+{
+    match word {
+        "ring" => Some(Command::Ring),
+        _ => None,
+    }
+}
+
+/// What the words ask for; None where they are no line of the program.
+pub fn asked(words: &[String]) -> Option<Command>
+    ensures { result ≡ command_of (map string_bytes words.now) }
+{
+    match words {
+        [command, _image] => with_image(command.as_str()),
+        _ => None,
+    }
+}

@@ -1,0 +1,28 @@
+// The least bit that differs.
+ghost use Rattle.std.specs.Prelude.{◌≡◌, ◌≢◌, ◌^◌, ◌≤◌, ◌↔◌, length, IsNone, IfSome};
+ghost use Rattle.bit_lanes.specs.Bits.{IsFirstDifference, IsLowestApart};
+
+#[tactic(auto, using(crate::proofs::ByteLemmas::differ_apart))]
+/// The least bit at which two runs of one length differ, and `None` where they are equal.
+pub fn first_difference(a: &[u8], b: &[u8]) -> Option<usize>
+    requires same_length { length a.now ≡ length b.now }
+    requires short { length a.now ≤ 2 ^ 61 }
+    ensures found { IfSome result (IsFirstDifference a.now b.now) }
+    ensures equal { IsNone result ↔ (a.now ≡ b.now) }
+{
+    'bytes: for i in 0..a.len() {
+        if a[i] != b[i] {
+            return Some(8 * i + lowest_difference(a[i], b[i]));
+        }
+    }
+    None
+}
+
+// The lowest bit at which two bytes differ.
+#[tactic(auto, using(crate::proofs::ByteLemmas::lowest_apart))]
+fn lowest_difference(x: u8, y: u8) -> usize
+    requires { x ≢ y }
+    ensures { IsLowestApart x y result }
+{
+    (x ^ y).trailing_zeros() as usize
+}

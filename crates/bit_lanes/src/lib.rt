@@ -1,0 +1,10 @@
+//! Bits of runs of bytes: counted, compared, joined and tested. Bit i is bit i mod 8, the lowest first, of byte i / 8.
+#![tactic(auto)]
+
+mod count;
+mod differ;
+mod join;
+
+pub use count::count_ones;
+pub use differ::first_difference;
+pub use join::{and_any, or_into};

@@ -1,0 +1,11 @@
+//! The keys and the values of the seven kinds of trees.
+#![tactic(auto)]
+
+mod number_key;
+mod record;
+mod record_key;
+mod values;
+
+pub use number_key::{OmapKey, OmapSnapKey, QueueKey};
+pub use record_key::{ExtKey, FsKey, FsPlainKey, SnapKey};
+pub use values::{ExtValue, OmapValue, ext_value, omap_snap_flags, omap_value, queue_length};

@@ -1,0 +1,279 @@
+// The tests of a node, in their order.
+ghost use Rattle.std.specs.Prelude.{◌≡◌, ◌+◌, ◌*◌, ◌≤◌, ◌<◌, ◌%◌, length, true, false, Ok, Err, MatchResult};
+ghost use Rattle.bt_node.specs.Node as fields;
+ghost use Rattle.bt_node.specs.Entries as entry;
+ghost use Rattle.bt_node.specs.Soundness as spec;
+
+use crate::entries::{self, Place};
+use crate::{Layout, NodeAt, NodeFault, Site, TreeKey, node};
+use obj_base::{Bad, Expect, Feature, sound};
+
+// The kinds of a tree's root and of its other nodes (Objects, Object Types).
+const ROOT_KIND: u16 = 2;
+
+const NODE_KIND: u16 = 3;
+
+// The greatest level of a root that is read.
+const MAX_LEVEL: u16 = 15;
+
+// The bytes of a child's oid.
+const CHILD_LEN: usize = 8;
+
+fn subtype<K: TreeKey>() -> u32
+    ensures { result ≡ K.shape.subtype }
+{
+    K::SUBTYPE
+}
+
+fn layout<K: TreeKey>() -> Layout
+    ensures { result ≡ K.shape.layout }
+{
+    K::LAYOUT
+}
+
+fn has_ghosts<K: TreeKey>() -> bool
+    ensures { result ≡ K.shape.ghosts }
+{
+    K::GHOSTS
+}
+
+// The header that is expected of a node.
+fn expect<K: TreeKey>(at: &NodeAt, site: &Site) -> Expect
+    ensures { result ≡ spec.node_expect K.shape at.now site.now }
+{
+    Expect {
+        kind: if at.root { ROOT_KIND } else { NODE_KIND },
+        subtype: Some(subtype::<K>()),
+        oid: Some(at.oid),
+        max_xid: site.max_xid,
+    }
+}
+
+fn has_layout(layout: Layout, bytes: &[u8]) -> bool
+    requires { 96 ≤ length bytes.now }
+    ensures { result ≡ spec.has_layout layout bytes.now }
+{
+    match layout {
+        Layout::Fixed => node::is_fixed(bytes),
+        Layout::Variable => !node::is_fixed(bytes),
+        Layout::Either => true,
+    }
+}
+
+fn is_alike(a: bool, b: bool) -> bool
+    ensures { result ≡ spec.is_alike a b }
+{
+    a == b
+}
+
+#[tactic(auto, unfolding(crate::specs::Soundness::has_right_flags))]
+fn has_right_flags(layout: Layout, at: &NodeAt, bytes: &[u8]) -> bool
+    requires { 96 ≤ length bytes.now }
+    ensures { result ≡ spec.has_right_flags layout at.now bytes.now }
+{
+    is_alike(at.root, node::is_root(bytes))
+        && is_alike(node::is_leaf(bytes), node::level(bytes) == 0)
+        && has_layout(layout, bytes)
+}
+
+fn has_level(expected: Option<u16>, bytes: &[u8]) -> bool
+    requires { 96 ≤ length bytes.now }
+    ensures { result ≡ spec.has_level expected bytes.now }
+{
+    match expected {
+        None => true,
+        Some(level) => level == node::level(bytes),
+    }
+}
+
+#[tactic(auto, unfolding(crate::specs::Soundness::is_empty))]
+fn is_empty(bytes: &[u8]) -> bool
+    requires { 96 ≤ length bytes.now }
+    ensures { result ≡ spec.is_empty bytes.now }
+{
+    node::count(bytes) == 0 && !(node::is_root(bytes) && node::level(bytes) == 0)
+}
+
+#[tactic(auto, unfolding(crate::specs::Soundness::is_key_inside))]
+fn is_key_inside(bytes: &[u8], place: Place) -> bool
+    requires { 96 ≤ length bytes.now }
+    ensures { result ≡ spec.is_key_inside bytes.now place }
+{
+    let begin = node::keys_begin(bytes) + usize::from(place.key_offset);
+    let end = node::end(bytes);
+    begin <= end && place.key_len <= end - begin
+}
+
+#[tactic(auto, unfolding(crate::specs::Soundness::is_value_inside))]
+fn is_value_inside(bytes: &[u8], place: Place) -> bool
+    requires { 96 ≤ length bytes.now }
+    ensures { result ≡ spec.is_value_inside bytes.now place }
+{
+    let offset = usize::from(place.value_offset);
+    entries::is_ghost(place)
+        || (node::keys_begin(bytes) + offset <= node::end(bytes)
+            && place.value_len <= offset
+            && (node::level(bytes) == 0 || CHILD_LEN <= place.value_len))
+}
+
+#[tactic(auto, unfolding(crate::specs::Soundness::is_table_inside))]
+fn is_table_inside(bytes: &[u8]) -> bool
+    requires { 96 ≤ length bytes.now }
+    ensures { result ≡ spec.is_table_inside bytes.now }
+{
+    node::count(bytes) * entries::place_len(bytes) <= node::table_length(bytes)
+        && node::keys_begin(bytes) <= node::end(bytes)
+}
+
+#[tactic(auto, using(crate::proofs::Places::place_inside))]
+fn is_entry_inside<K: TreeKey>(bytes: &[u8], i: usize) -> bool
+    requires long { 96 ≤ length bytes.now }
+    requires table { spec.is_table_inside bytes.now ≡ true }
+    requires inside { i < fields.count_of bytes.now }
+    ensures { result ≡ spec.is_entry_inside K.shape bytes.now i }
+{
+    let place = entries::place_at::<K>(bytes, i);
+    is_key_inside(bytes, place) && is_value_inside(bytes, place)
+}
+
+fn are_entries_inside<K: TreeKey>(bytes: &[u8]) -> bool
+    requires long { 96 ≤ length bytes.now }
+    requires table { spec.is_table_inside bytes.now ≡ true }
+    ensures { result ≡ spec.each_entry bytes.now (spec.is_entry_inside K.shape bytes.now) }
+{
+    for i in 0..node::count(bytes) {
+        if !is_entry_inside::<K>(bytes, i) {
+            return false;
+        }
+    }
+    true
+}
+
+#[tactic(auto, unfolding(crate::specs::Soundness::is_bounded))]
+fn is_bounded<K: TreeKey>(bytes: &[u8]) -> bool
+    requires { 96 ≤ length bytes.now }
+    ensures { result ≡ spec.is_bounded K.shape bytes.now }
+{
+    is_table_inside(bytes) && are_entries_inside::<K>(bytes)
+}
+
+// Whether entry `i` has a value.
+#[tactic(auto, using(crate::proofs::Places::place_inside))]
+fn has_value<K: TreeKey>(bytes: &[u8], i: usize) -> bool
+    requires long { 96 ≤ length bytes.now }
+    requires table { spec.is_table_inside bytes.now ≡ true }
+    requires inside { i < fields.count_of bytes.now }
+    ensures { result ≡ spec.has_value K.shape bytes.now i }
+{
+    !entries::is_ghost(entries::place_at::<K>(bytes, i))
+}
+
+fn have_values<K: TreeKey>(bytes: &[u8]) -> bool
+    requires long { 96 ≤ length bytes.now }
+    requires table { spec.is_table_inside bytes.now ≡ true }
+    ensures { result ≡ spec.each_entry bytes.now (spec.has_value K.shape bytes.now) }
+{
+    for i in 0..node::count(bytes) {
+        if !has_value::<K>(bytes, i) {
+            return false;
+        }
+    }
+    true
+}
+
+#[tactic(auto, unfolding(crate::specs::Soundness::has_values))]
+fn has_values<K: TreeKey>(bytes: &[u8]) -> bool
+    requires long { 96 ≤ length bytes.now }
+    requires table { spec.is_table_inside bytes.now ≡ true }
+    ensures { result ≡ spec.has_values K.shape bytes.now }
+{
+    (has_ghosts::<K>() && node::level(bytes) == 0) || have_values::<K>(bytes)
+}
+
+// Whether the key of entry `i` can be read.
+#[tactic(auto, using(crate::proofs::Places::place_inside, crate::proofs::Places::bounded_table, crate::proofs::Places::key_inside))]
+fn has_key<K: TreeKey>(bytes: &[u8], i: usize) -> bool
+    requires long { 96 ≤ length bytes.now }
+    requires bounded { spec.is_bounded K.shape bytes.now ≡ true }
+    requires inside { i < fields.count_of bytes.now }
+    ensures { result ≡ spec.has_key K.shape bytes.now i }
+{
+    let place = entries::place_at::<K>(bytes, i);
+    K::read(entries::key_in(bytes, place)).is_some()
+}
+
+#[tactic(auto, unfolding(crate::specs::Soundness::has_keys))]
+fn has_keys<K: TreeKey>(bytes: &[u8]) -> bool
+    requires long { 96 ≤ length bytes.now }
+    requires bounded { spec.is_bounded K.shape bytes.now ≡ true }
+    ensures { result ≡ spec.has_keys K.shape bytes.now }
+{
+    for i in 0..node::count(bytes) {
+        if !has_key::<K>(bytes, i) {
+            return false;
+        }
+    }
+    true
+}
+
+// The tests that follow that of the header.
+#[tactic(auto, unfolding(crate::specs::Soundness::after_head), using(crate::proofs::Places::bounded_table))]
+fn test_node<K: TreeKey>(bytes: &[u8], at: &NodeAt, site: &Site) -> Result<(), Bad<NodeFault>>
+    requires { 96 ≤ length bytes.now }
+    ensures { MatchResult result (λ _. spec.after_head K.shape at.now site.now bytes.now ≡ Ok bytes.now) (λ bad. spec.after_head K.shape at.now site.now bytes.now ≡ Err bad) }
+{
+    if node::is_hashed(bytes) {
+        return Err(Bad::Unsupported(Feature::Sealed));
+    }
+    if node::lacks_header(bytes) {
+        return Err(Bad::Unsupported(Feature::NoHeader));
+    }
+    if !has_right_flags(layout::<K>(), at, bytes) {
+        return Err(Bad::Found(NodeFault::Flags));
+    }
+    if at.root && node::level(bytes) > MAX_LEVEL {
+        return Err(Bad::Unsupported(Feature::Deep));
+    }
+    if !has_level(at.level, bytes) {
+        return Err(Bad::Found(NodeFault::Level));
+    }
+    if at.root && node::node_size(bytes) != site.block_size {
+        return Err(Bad::Unsupported(Feature::Size));
+    }
+    if is_empty(bytes) {
+        return Err(Bad::Found(NodeFault::Empty));
+    }
+    if !is_bounded::<K>(bytes) {
+        return Err(Bad::Found(NodeFault::Bounds));
+    }
+    if !has_values::<K>(bytes) {
+        return Err(Bad::Found(NodeFault::Ghost));
+    }
+    if !has_keys::<K>(bytes) {
+        return Err(Bad::Found(NodeFault::Key));
+    }
+    Ok(())
+}
+
+// A fault of the header as one of the node.
+fn of_header(bad: Bad<obj_base::HeadFault>) -> Bad<NodeFault>
+    ensures { result ≡ spec.of_header bad }
+{
+    match bad {
+        Bad::Found(fault) => Bad::Found(NodeFault::Head(fault)),
+        Bad::Unsupported(feature) => Bad::Unsupported(feature),
+    }
+}
+
+// All the tests of a node.
+#[tactic(auto, unfolding(crate::specs::Soundness::node_of))]
+pub(crate) fn test<K: TreeKey>(bytes: &[u8], at: &NodeAt, site: &Site) -> Result<(), Bad<NodeFault>>
+    requires whole { length bytes.now % 4 ≡ 0 }
+    requires long { 96 ≤ length bytes.now }
+    ensures { MatchResult result (λ _. spec.node_of K.shape at.now site.now bytes.now ≡ Ok bytes.now) (λ bad. spec.node_of K.shape at.now site.now bytes.now ≡ Err bad) }
+{
+    match sound(bytes, &expect::<K>(at, site)) {
+        Ok(_) => test_node::<K>(bytes, at, site),
+        Err(bad) => Err(of_header(bad)),
+    }
+}

@@ -1,0 +1,68 @@
+use super::*;
+use std::test::Fail;
+
+const KINDS: [Names; 3] = [Names::Exact, Names::Normal, Names::Folded];
+
+// The check value of CRC-32C, and the examples of RFC 3720, B.4.
+#[test]
+fn sums_of_the_standard(rt: HostRuntime) {
+    for (bytes, want) in [
+        (b"".as_slice(), 0),
+        (b"123456789".as_slice(), 0xe306_9283),
+        ([0x00; 32].as_slice(), 0x8a91_36aa),
+        ([0xff; 32].as_slice(), 0x62a8_ab43),
+    ] {
+        assert_eq!(rt; crc32c(bytes), want, "{bytes:?}");
+    }
+}
+
+// The word in a key has the hash above the length with the final zero.
+#[test]
+fn a_and_capital_a_hash_alike_where_letters_are_folded(rt: HostRuntime) {
+    let hash = ascii_hash(Names::Folded, b"A");
+    assert_eq!(rt; hash, 0x1e_55ec);
+    assert_eq!(rt; ascii_hash(Names::Folded, b"a"), hash);
+    assert_eq!(rt; u64::from(hash) * 1024 + 2, 0x7957_b002);
+}
+
+// The hashes of a name under each kind, by another program.
+#[test]
+fn hashes(rt: HostRuntime) -> Result<(), Fail> {
+    for (name, want) in [
+        ("", [0x3f_ffff, 0x3f_ffff, 0x3f_ffff]),
+        ("A", [0x3b_4167, 0x3b_4167, 0x1e_55ec]),
+        ("Read Me.TXT", [0x0a_e875, 0x0a_e875, 0x30_bcea]),
+        ("CAF\u{c9}", [0x1b_fff1, 0x20_2da6, 0x28_68e1]),
+        ("Cafe\u{301}", [0x3f_a967, 0x3f_a967, 0x28_68e1]),
+        ("stra\u{df}e", [0x3f_993d, 0x3f_993d, 0x14_6c83]),
+        ("\u{d55c}", [0x03_b483, 0x10_ad04, 0x10_ad04]),
+        ("\u{1fb4}", [0x18_ce64, 0x32_542d, 0x13_3556]),
+        ("\u{1f600}", [0x2f_ab5c, 0x2f_ab5c, 0x2f_ab5c]),
+    ] {
+        for (names, want) in KINDS.iter().zip(want.iter()) {
+            assert_eq!(rt; name_hash(rt.alloc(), *names, name)?, *want, "{name:?} {names:?}");
+        }
+    }
+    Ok(())
+}
+
+// Which names are the same under each kind, by another program.
+#[test]
+fn same_names(rt: HostRuntime) -> Result<(), Fail> {
+    for (a, b, want) in [
+        ("", "", [true, true, true]),
+        ("a", "b", [false, false, false]),
+        ("readme", "README", [false, false, true]),
+        ("caf\u{e9}", "cafe\u{301}", [false, true, true]),
+        ("CAF\u{c9}", "cafe\u{301}", [false, false, true]),
+        ("stra\u{df}e", "STRASSE", [false, false, true]),
+        ("\u{3c3}", "\u{3c2}", [false, false, true]),
+        ("\u{d55c}", "\u{1112}\u{1161}\u{11ab}", [false, true, true]),
+        ("\u{1fb4}", "\u{3b1}\u{345}\u{301}", [false, true, true]),
+    ] {
+        for (names, want) in KINDS.iter().zip(want.iter()) {
+            assert_eq!(rt; same_name(rt.alloc(), *names, a, b)?, *want, "{a:?} {b:?} {names:?}");
+        }
+    }
+    Ok(())
+}

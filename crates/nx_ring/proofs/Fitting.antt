@@ -1,0 +1,39 @@
+-- Blocks in an image.
+use Rattle.std.proofs.Common.{◌≡◌, ℕ, ◌+◌, ◌*◌, ◌/◌, ◌≤◌, ◌<◌, arith}
+use Rattle.std.proofs.Common.{List, true, false, Ok}
+use Rattle.nx_block.specs.Read.{read_of}
+use Rattle.std.proofs.Math.Nat.{mul-div-le, mul-le-mul_left}
+use Rattle.std.proofs.lemmas.Grind.{common_steps}
+use Rattle.obj_base.specs.BlockSize.{is_accepted}
+use Rattle.nx_block.specs.Super.{block_size_of, block_count_of, desc_base_of, desc_blocks_of, data_base_of, data_blocks_of}
+use Rattle.nx_ring.specs.Zero.{has_areas, is_area, is_short, is_contiguous, areas_of, Fits}
+
+-- a block below the end of a range that fits, fits
+pub block_fits : (size a b len : ℕ) → a < b → size * b ≤ len → size * a + size ≤ len
+block_fits size a b len low fits =
+    let more : size * (a + 1) ≤ size * b = mul-le-mul_left size (omega arith) in
+    grind arith
+
+-- the first blocks of an image, up to its last whole one, fit
+pub blocks_fit : (size n count len : ℕ) → n ≤ count → count ≤ len / size → size * n ≤ len
+blocks_fit size n count len low fits =
+    let more : size * n ≤ size * (len / size) = mul-le-mul_left size (omega arith) in
+    let whole : size * (len / size) ≤ len = mul-div-le len size in
+    omega arith
+
+-- the areas of a whole superblock fit in an image that has the container's blocks
+pub areas_fit : (len : ℕ) (zero : List ℕ) → is_accepted (block_size_of zero) ≡ true → has_areas zero ≡ true → is_short len zero ≡ false → is_contiguous zero ≡ true → Fits (areas_of zero) len
+unfolding has_areas is_area is_short is_contiguous areas_of
+areas_fit len zero size inside short apart = record {
+  accepted = size;
+  some_desc = Prim.grind (arith, common_steps, inside, apart);
+  some_data = Prim.grind (arith, common_steps, inside, apart);
+  few_desc = Prim.grind (arith, common_steps, apart);
+  few_data = Prim.grind (arith, common_steps, apart);
+  desc = blocks_fit (block_size_of zero) (desc_base_of zero + desc_blocks_of zero) (block_count_of zero) len (Prim.grind (arith, common_steps, inside, apart)) (Prim.grind (arith, common_steps, short));
+  «data» = blocks_fit (block_size_of zero) (data_base_of zero + data_blocks_of zero) (block_count_of zero) len (Prim.grind (arith, common_steps, inside, apart)) (Prim.grind (arith, common_steps, short));
+}
+
+-- a superblock that was read has an accepted block size, which is its length
+pub read_size : (bytes zero : List ℕ) → read_of bytes ≡ Ok zero → is_accepted (block_size_of zero) ≡ true
+read_size bytes zero e = Prim.grind (arith, common_steps, e)

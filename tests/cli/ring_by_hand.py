@@ -1,0 +1,191 @@
+#!/usr/bin/env python3
+"""What `apfs ring` and `apfs info` have to say of an image, worked out from its bytes by other means.
+
+    ring_by_hand.py ring IMAGE              the lines, the line on standard error and the status of `apfs ring`
+    ring_by_hand.py info IMAGE              the same for `apfs info`
+    ring_by_hand.py seal IMAGE BLOCK AT HEX..   the edits `AT HEX` that write these bytes at these places of the block and
+                                            make its sum right, as lines for a file of cases
+
+Nothing here comes from the program. Offsets are those of the Apple File System Reference, edition of 2020-06-22. A sum
+is the closed formula on plain integers of any size, with no remainder taken on the way.
+"""
+import sys
+import uuid
+
+TOP = 2**32 - 1
+ACCEPTED = (4096,)
+
+
+def number(data, at, width):
+    return int.from_bytes(data[at : at + width], "little")
+
+
+def stored_sum(data):
+    """The sum that has to stand in the first 8 bytes of an object."""
+    words = [number(data, at, 4) for at in range(8, len(data), 4)]
+    plain = sum(words)
+    weighted = sum((len(words) - i) * word for i, word in enumerate(words))
+    low = TOP - (plain + weighted) % TOP
+    high = TOP - (plain + low) % TOP
+    return high * 2**32 + low
+
+
+def is_sound(data, kind, oid, most):
+    """Whether an object passes the tests of its header; `most` is the greatest transaction, None for any."""
+    flags = number(data, 24, 4)
+    return (
+        number(data, 0, 8) == stored_sum(data)
+        and flags & 0x30000000 == 0
+        and flags % 0x10000 == kind
+        and number(data, 8, 8) == oid
+        and (most is None or number(data, 16, 8) <= most)
+    )
+
+
+class Super:
+    """The fields of a container superblock that are needed here."""
+
+    def __init__(self, data):
+        self.data = data
+        self.xid = number(data, 16, 8)
+        self.size = number(data, 36, 4)
+        self.blocks = number(data, 40, 8)
+        self.features = number(data, 64, 8)
+        self.uuid = uuid.UUID(bytes=bytes(data[72:88]))
+        self.areas = (number(data, 112, 8), number(data, 104, 4), number(data, 120, 8), number(data, 108, 4))
+        self.desc_index = number(data, 136, 4)
+        self.desc_len = number(data, 140, 4)
+        self.is_resizing = number(data, 1248, 8) != 0 or number(data, 1256, 8) != 0
+
+    def is_right(self):
+        return self.data[32:36] == b"NXSB" and self.size in ACCEPTED and len(self.data) == self.size and is_sound(self.data, 1, 1, None)
+
+
+class Ended(Exception):
+    """A status and the line on standard error."""
+
+
+class Image:
+    def __init__(self, path):
+        self.file = open(path, "rb")
+        self.length = self.file.seek(0, 2)
+        first = self.read(0, 4096)
+        if len(first) < 4096 or first[32:36] != b"NXSB" or number(first, 36, 4) not in ACCEPTED:
+            raise Ended(1, "fault: BlockZero")
+        self.size = number(first, 36, 4)
+        zero = Super(self.read(0, self.size))
+        if not zero.is_right() or not all(self.is_area(*area, zero.blocks) for area in (zero.areas[:2], zero.areas[2:])):
+            raise Ended(1, "fault: BlockZero")
+        have = self.length // self.size
+        if have < zero.blocks:
+            raise Ended(1, f"fault: Truncated have {have} need {zero.blocks}")
+        if (zero.areas[1] | zero.areas[3]) >= 2**31:
+            raise Ended(6, "unsupported: NonContiguous block 0")
+        self.zero = zero
+        self.base, self.ring, self.data_base, self.data_blocks = zero.areas
+        self.candidates = [(index, nx) for index, nx in enumerate(map(self.super_at, range(self.ring))) if self.is_candidate(nx)]
+
+    def read(self, at, length):
+        self.file.seek(at)
+        return self.file.read(length)
+
+    def block(self, number_of_block):
+        return self.read(number_of_block * self.size, self.size)
+
+    @staticmethod
+    def is_area(base, blocks, count):
+        blocks %= 2**31
+        return blocks > 0 and base < 2**63 and base + blocks <= count
+
+    def super_at(self, index):
+        return Super(self.block(self.base + index))
+
+    def is_candidate(self, nx):
+        return nx.is_right() and nx.size == self.size and nx.areas == self.zero.areas and nx.blocks * nx.size <= self.length
+
+    def mappings(self, index, nx):
+        """The mappings of a valid checkpoint, each as oid and first block; None where it isn't valid."""
+        if not 1 <= nx.desc_len <= self.ring or (nx.desc_index + nx.desc_len - 1) % self.ring != index:
+            return None
+        found, used = [], []
+        for step in range(nx.desc_len - 1):
+            block = self.base + (nx.desc_index + step) % self.ring
+            data = self.block(block)
+            count = number(data, 36, 4)
+            if not is_sound(data, 0xC, block, nx.xid) or 40 + 40 * count > self.size:
+                return None
+            for at in range(40, 40 + 40 * count, 40):
+                kind, length = number(data, at, 4) % 0x10000, number(data, at + 8, 4)
+                oid, first = number(data, at + 24, 8), number(data, at + 32, 8)
+                blocks = length // self.size
+                if blocks == 0 or length % self.size or blocks > self.data_blocks:
+                    return None
+                if not self.data_base <= first < self.data_base + self.data_blocks:
+                    return None
+                places = [self.data_base + (first - self.data_base + i) % self.data_blocks for i in range(blocks)]
+                if not is_sound(b"".join(map(self.block, places)), kind, oid, nx.xid):
+                    return None
+                found.append((oid, first))
+                used += places
+        if len({oid for oid, _ in found}) < len(found) or len(set(used)) < len(used):
+            return None
+        return found
+
+    def ring_lines(self):
+        return [f"{i} block {self.base + i} xid {nx.xid} from {nx.desc_index} length {nx.desc_len}" for i, nx in self.candidates]
+
+    def info_lines(self):
+        valid = [(nx.xid, -i, nx, maps) for i, nx in self.candidates if (maps := self.mappings(i, nx)) is not None]
+        if not valid:
+            raise Ended(1, "fault: NoCheckpoint")
+        xid, index, nx, maps = max(valid, key=lambda it: it[:2])
+        block = self.base - index
+        for name, is_there in (
+            ("Fusion", nx.features & 0x100),
+            ("Version", nx.features & 3 != 2),
+            ("UnknownContainer", nx.features & ~0x103),
+            ("Resizing", nx.is_resizing),
+        ):
+            if is_there:
+                raise Ended(6, f"unsupported: {name} block {block}")
+        return [
+            f"uuid {nx.uuid}",
+            f"block size {nx.size}",
+            f"blocks {nx.blocks}",
+            f"checkpoint xid {xid} block {block}",
+            f"maps {nx.desc_len - 1} objects {len(maps)}",
+            f"skipped {sum(other.xid > xid for _, other in self.candidates)}",
+        ]
+
+
+def seal(path, block, edits):
+    """The edits of one block of 4,096 bytes, and its sum after them."""
+    with open(path, "rb") as file:
+        file.seek(block * 4096)
+        data = bytearray(file.read(4096))
+    for at, text in edits:
+        data[at : at + len(text) // 2] = bytes.fromhex(text)
+    edits = [(0, stored_sum(data).to_bytes(8, "little").hex()), *edits]
+    return [f"{block * 4096 + at} {text}" for at, text in edits]
+
+
+def main(words):
+    if len(words) >= 5 and words[0] == "seal" and len(words) % 2:
+        print(*seal(words[1], int(words[2]), [(int(at), text) for at, text in zip(words[3::2], words[4::2])]), sep="\n")
+        return 0
+    if len(words) != 2 or words[0] not in ("ring", "info"):
+        print(__doc__, file=sys.stderr)
+        return 2
+    try:
+        image = Image(words[1])
+        for line in image.ring_lines() if words[0] == "ring" else image.info_lines():
+            print(line)
+    except Ended as ended:
+        status, line = ended.args
+        print(f"apfs: {line}", file=sys.stderr)
+        return status
+    return 0
+
+
+if __name__ == "__main__":
+    sys.exit(main(sys.argv[1:]))
