@@ -49,6 +49,9 @@ pub(crate) const SNAPSHOTS_KIND: u32 = 0x10;
 
 pub(crate) const REAPER_KIND: u32 = 0x11;
 
+/// The greatest id that a record's key has room for: its low 60 bits (File-System Objects, j_key_t).
+pub(crate) const MOST_ID: u64 = 0x0fff_ffff_ffff_ffff;
+
 /// The header of an object, but for its sum.
 #[derive(Clone, Copy)]
 pub(crate) struct Head {

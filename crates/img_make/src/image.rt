@@ -59,11 +59,11 @@ impl Image {
     pub(crate) fn mark(&mut self, first: u64, length: u64)
         ensures { vec_len self.new.used ≡ vec_len self.old.used }
     {
-        for (at, used) in self.used.iter_mut().enumerate() {
-            let block = at as u64;
-            if first <= block && block - first < length {
-                *used = true;
-            }
+        let blocks = self.used.len() as u64;
+        let start = first.min(blocks) as usize;
+        let end = first.saturating_add(length).min(blocks) as usize;
+        for at in start..end {
+            self.used[at] = true;
         }
     }
 

@@ -35,13 +35,11 @@ pub(crate) const RING_BASE: usize = 27;
 
 pub(crate) const RING_BLOCKS: u32 = 16;
 
-/// The pool: the chunk-info block, the chunks' bitmaps, and then empty blocks.
+/// The pool: the chunk-info block, the chunks' bitmaps, and then empty blocks. It is as long as it must be, and at least
+/// this long.
 pub(crate) const POOL_BASE: usize = 43;
 
 pub(crate) const POOL_BLOCKS: usize = 8;
-
-/// The first block behind the pool.
-pub(crate) const FIRST_FREE: usize = 51;
 
 /// The ids of the ephemeral objects.
 pub(crate) const SPACE_OID: u64 = 1024;

@@ -4,16 +4,13 @@ ghost use Rattle.std.specs.Prelude.{◌≡◌, ◌≤◌, ◌<◌, vec_len};
 use crate::Leaf;
 use crate::header::PHYSICAL;
 use crate::image::Image;
-use crate::node::{Item, NodeHead, Totals, Tree, node};
+use crate::node::{Item, NodeHead, Totals, Tree, node, node_bytes};
 use crate::record::child;
 use std::alloc::{AllocError, Global};
 use std::mem;
 
 // The most bytes of a node's items, so that they fit a root too.
 const MOST_BYTES: usize = 4000;
-
-// The bytes of the table that an item takes at most.
-const TABLE_BYTES: usize = 8;
 
 // A tree has at most so many levels above its leaves.
 const MOST_LEVELS: u16 = 15;
@@ -43,21 +40,13 @@ pub(crate) struct Root {
     pub xid: u64,
 }
 
-// The bytes that items take in a node.
-fn bytes_of(item: &Item) -> usize {
-    item.0
-        .len()
-        .saturating_add(item.1.len())
-        .saturating_add(TABLE_BYTES)
-}
-
 /// The items in as few leaves as hold them, one after another. The leaves have no ids yet.
 pub(crate) fn pack(alloc: Global, items: Vec<Item>) -> Result<Vec<Leaf>, AllocError> {
     let mut leaves = Vec::new(alloc);
     let mut last = Vec::new(alloc);
     let mut bytes = 0usize;
     for item in items {
-        let more = bytes_of(&item);
+        let more = node_bytes(&item);
         if bytes.saturating_add(more) > MOST_BYTES {
             let full = mem::replace(&mut last, Vec::new(alloc));
             leaves.push(Leaf { oid: 0, items: full })?;

@@ -83,10 +83,12 @@ pub(crate) struct Places {
     pub slot: usize,
     pub oid: u64,
     pub xid: u64,
-    /// The block of the object map.
+    /// The blocks of the object map and of its tree's root.
     pub map: usize,
-    /// The oid of the file-system tree.
+    pub map_root: usize,
+    /// The oid of the file-system tree, and the block of its root.
     pub root: u64,
+    pub root_block: usize,
     pub extents: usize,
     pub snapshots: usize,
     /// An id that no file has, nor any greater one.
