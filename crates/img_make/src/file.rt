@@ -45,6 +45,7 @@ pub(crate) const DIRECTORY: u16 = 4;
 pub(crate) const DIRECTORY_MODE: u16 = 0x41ed;
 
 /// An inode without extended fields.
+#[derive(Clone, Copy)]
 pub(crate) struct InodePlan {
     pub id: u64,
     pub parent: u64,

@@ -5,9 +5,9 @@ ghost use Rattle.img_make.specs.Plans.{IsValid};
 use crate::checkpoint::{checkpoint_map, reaper};
 use crate::image::Image;
 use crate::layout::{
-    CHECKPOINT_MAP, CONTAINER_MAP, CONTAINER_MAP_ROOT, FIRST_OID, MAIN_QUEUE,
-    MAIN_QUEUE_OID, POOL_BASE, POOL_BLOCKS, POOL_QUEUE, POOL_QUEUE_OID, REAPER, RING_BASE,
-    SPACE_MANAGER, SUPERBLOCK,
+    CHECKPOINT_MAP, CONTAINER_MAP, CONTAINER_MAP_ROOT, FIRST_OID, MAIN_QUEUE, MAIN_QUEUE_OID,
+    POOL_BASE, POOL_BLOCKS, POOL_QUEUE, POOL_QUEUE_OID, REAPER, RING_BASE, SPACE_MANAGER,
+    SUPERBLOCK,
 };
 use crate::node::{Item, NodeHead, Totals, Tree, node};
 use crate::object_map::{MANUALLY_MANAGED, object_map};
@@ -263,10 +263,11 @@ fn image_that_fits(alloc: Global, plan: &Plan) -> Result<Image, AllocError>
     for _ in 0..MOST_CHUNKS {
         let image = image_of(alloc, plan, pool_blocks)?;
         let chunks = chunks_of(alloc, &image.used)?;
-        if pool_use(&chunks) <= pool_blocks {
+        let needed = pool_use(&chunks);
+        if needed <= pool_blocks {
             return Ok(image);
         }
-        pool_blocks = pool_use(&chunks).min(MOST_CHUNKS + 1);
+        pool_blocks = needed.min(MOST_CHUNKS + 1);
     }
     Err(AllocError)
 }

@@ -3,7 +3,8 @@ ghost use Rattle.std.specs.Prelude.{◌≡◌, ◌≤◌, ◌-◌, ◌^◌, min,
 ghost use Rattle.img_make.specs.Plans.{bytes_in_node};
 
 use crate::header::{
-    EPHEMERAL, EXTENTS_KIND, FS_TREE_KIND, Head, NODE_KIND, OBJECT_MAP_KIND, PHYSICAL, QUEUE_KIND, ROOT_KIND, SNAPSHOTS_KIND, VIRTUAL, block_with,
+    EPHEMERAL, EXTENTS_KIND, FS_TREE_KIND, Head, NODE_KIND, OBJECT_MAP_KIND, PHYSICAL, QUEUE_KIND,
+    ROOT_KIND, SNAPSHOTS_KIND, VIRTUAL, block_with,
 };
 use crate::layout::BLOCK;
 use crate::reseal;
@@ -134,7 +135,10 @@ pub(crate) type Item = (Vec<u8>, Vec<u8>);
 pub(crate) fn node_bytes(item: &Item) -> usize
     ensures { result ≡ min (bytes_in_node (vec_len item.now.0) (vec_len item.now.1)) (2 ^ 64 - 1) }
 {
-    item.0.len().saturating_add(item.1.len()).saturating_add(ENTRY)
+    item.0
+        .len()
+        .saturating_add(item.1.len())
+        .saturating_add(ENTRY)
 }
 
 /// What a root says of its tree.
@@ -215,11 +219,7 @@ fn put_info(part: &mut [u8], tree: &Tree, totals: &Totals)
     put_u32(part, NODE_SIZE, BLOCK as u32);
     put_u32(part, KEY_SIZE, tree.key_size);
     put_u32(part, VALUE_SIZE, tree.value_size);
-    put_u32(
-        part,
-        LONGEST_KEY,
-        totals.longest_key.max(tree.key_size),
-    );
+    put_u32(part, LONGEST_KEY, totals.longest_key.max(tree.key_size));
     put_u32(
         part,
         LONGEST_VALUE,

@@ -88,9 +88,7 @@ impl Leaf {
     fn is_short(&self) -> bool
         ensures { IsTrue result ↔ All (λ item. (vec_len item.0 ≤ 900) × (vec_len item.1 ≤ 900)) self.now.items.items }
     {
-        self.items
-            .iter()
-            .all(|item| item.0.len() <= MOST_BYTES && item.1.len() <= MOST_BYTES)
+        self.items.iter().all(|item| item.0.len() <= MOST_BYTES && item.1.len() <= MOST_BYTES)
     }
 
     // Whether all that the leaf holds fits a node.

@@ -56,7 +56,11 @@ pub(crate) fn range_record(alloc: Global, range: &NewRange) -> Result<Item, Allo
     let mut key = vec![in alloc; 0u8; EXT_KEY]?;
     put_u64(&mut key, ID_AND_KIND, (range.first & MOST_ID) | EXTENT_KIND);
     let mut value = vec![in alloc; 0u8; EXT_VALUE]?;
-    put_u64(&mut value, EXT_LENGTH_AND_KIND, (range.length & MOST_ID) | NEW_KIND);
+    put_u64(
+        &mut value,
+        EXT_LENGTH_AND_KIND,
+        (range.length & MOST_ID) | NEW_KIND,
+    );
     put_u32(&mut value, EXT_COUNT, range.count.cast_unsigned());
     Ok((key, value))
 }

@@ -40,7 +40,14 @@ fn directory(alloc: Global, id: u64) -> Result<Item, AllocError> {
 // The records of a volume without files, in their order.
 fn first_records(alloc: Global) -> Result<Vec<Item>, AllocError> {
     let mut items = Vec::new(alloc);
-    items.push(entry(alloc, ABOVE_ROOT, b"private-dir", PRIVATE_HASH, PRIVATE, DIRECTORY)?)?;
+    items.push(entry(
+        alloc,
+        ABOVE_ROOT,
+        b"private-dir",
+        PRIVATE_HASH,
+        PRIVATE,
+        DIRECTORY,
+    )?)?;
     items.push(entry(alloc, ABOVE_ROOT, b"root", ROOT_HASH, ROOT, DIRECTORY)?)?;
     items.push(directory(alloc, ROOT)?)?;
     items.push(directory(alloc, PRIVATE)?)?;

@@ -2,9 +2,8 @@
 ghost use Rattle.std.specs.Prelude.{◌≡◌, length, IfOk, vec_len};
 
 use crate::header::{CIB_KIND, EPHEMERAL, Head, PHYSICAL, SPACE_KIND, block_with};
-use crate::layout;
-use crate::reseal;
 use crate::writer::{put_u16, put_u32, put_u64};
+use crate::{layout, reseal};
 use std::alloc::{AllocError, Global};
 
 // The fields of the space manager by offset.

@@ -2,9 +2,8 @@
 ghost use Rattle.std.specs.Prelude.{◌≡◌, length, IfOk, vec_len};
 
 use crate::header::{CONTAINER_KIND, EPHEMERAL, Head, block_with};
-use crate::layout;
-use crate::reseal;
 use crate::writer::{put_bytes, put_u32, put_u64};
+use crate::{layout, reseal};
 use std::alloc::{AllocError, Global};
 
 // The fields by offset.

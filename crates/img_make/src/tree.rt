@@ -49,14 +49,20 @@ pub(crate) fn pack(alloc: Global, items: Vec<Item>) -> Result<Vec<Leaf>, AllocEr
         let more = node_bytes(&item);
         if bytes.saturating_add(more) > MOST_BYTES {
             let full = mem::replace(&mut last, Vec::new(alloc));
-            leaves.push(Leaf { oid: 0, items: full })?;
+            leaves.push(Leaf {
+                oid: 0,
+                items: full,
+            })?;
             bytes = 0;
         }
         bytes = bytes.saturating_add(more);
         last.push(item)?;
     }
     if !last.is_empty() {
-        leaves.push(Leaf { oid: 0, items: last })?;
+        leaves.push(Leaf {
+            oid: 0,
+            items: last,
+        })?;
     }
     Ok(leaves)
 }

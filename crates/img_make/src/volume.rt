@@ -1,10 +1,9 @@
 // The volume superblock (Volumes, apfs_superblock_t).
 ghost use Rattle.std.specs.Prelude.{◌≡◌, length, IfOk, vec_len};
 
-use crate::VolPlan;
 use crate::header::{Head, PHYSICAL, ROOT_KIND, VIRTUAL, VOLUME_KIND, block_with};
-use crate::reseal;
 use crate::writer::{put_bytes, put_u16, put_u32, put_u64};
+use crate::{VolPlan, reseal};
 use fs_name::Names;
 use std::alloc::{AllocError, Global};
 
