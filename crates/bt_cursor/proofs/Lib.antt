@@ -8,3 +8,5 @@ pub mod Steps
 pub mod Orders
 pub mod Gone
 pub mod Passings
+pub mod Ranks
+pub mod Seeks

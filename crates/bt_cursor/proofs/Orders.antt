@@ -23,11 +23,11 @@ last_or-push : {X : Type 0} (d : X) (xs : List X) (x : X) → last_or d (xs ++ x
 last_or-push d [] x = refl
 last_or-push d (y ∷ ys) x = last_or-push y ys x
 
-last-push : {X : Type 0} (xs : List X) (x : X) → last (xs ++ x ∷ []) ≡ Some x
+pub last-push : {X : Type 0} (xs : List X) (x : X) → last (xs ++ x ∷ []) ≡ Some x
 last-push [] x = refl
 last-push (y ∷ ys) x = ap Some (last_or-push y ys x)
 
-first-if : (b : Bool) (n : ℕ) (others : Option ℕ) → cond b (Some n) others ≡ None → (b ≡ false) × (others ≡ None)
+pub first-if : (b : Bool) (n : ℕ) (others : Option ℕ) → cond b (Some n) others ≡ None → (b ≡ false) × (others ≡ None)
 first-if true n others e = absurd (cc)
 first-if false n others e = (refl, e)
 

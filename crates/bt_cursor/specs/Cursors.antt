@@ -1,5 +1,5 @@
 -- What a cursor is at.
-use Rattle.std.specs.Prelude.{◌≡◌, ℕ, Bool, true, false, List, [], ◌∷◌}
+use Rattle.std.specs.Prelude.{◌≡◌, ℕ, ◌+◌, Bool, true, false, List, [], ◌∷◌, length}
 use Rattle.bt_node.specs.Entries.{Pair}
 use Rattle.bt_node.specs.declared.key.TreeKey as keys
 use Rattle.bt_node.specs.declared.node.Site.{Site}
@@ -32,6 +32,10 @@ passed_of {k = k} cursor = passed_pair k.shape cursor.way
 -- how far it can still go
 abbrev pub fuel_of : {K N : Type 0} {k : keys.Ghosts K} {n : namers.Ghosts N} → Cursor K N k n → ℕ
 fuel_of cursor = fuel_way cursor.way
+
+-- how many levels it has buffers for below its root
+abbrev pub depth_of : {K N : Type 0} {k : keys.Ghosts K} {n : namers.Ghosts N} → Cursor K N k n → ℕ
+depth_of cursor = length cursor.way.spare.items + length cursor.way.above.items
 
 -- it was made from a source with this image, so that its buffers hold the nodes of its tree
 abbrev pub IsOn : {K N : Type 0} {k : keys.Ghosts K} {n : namers.Ghosts N} → List ℕ → Cursor K N k n → Type 0

@@ -4,11 +4,12 @@ ghost use Rattle.bt_cursor.specs.Stack.{IsWay};
 use crate::fault::WalkFault;
 use crate::namer::Namer;
 use crate::node::lend;
+use crate::seek::find;
 use crate::start::start;
 use crate::walk::{back, pass};
 use crate::way::Way;
 use blk_source::BlockSource;
-use bt_node::{Entry, Site, TreeKey};
+use bt_node::{Entry, Rank, Site, TreeKey};
 use obj_base::Stop;
 use std::alloc::Global;
 use std::marker::PhantomData;
@@ -26,7 +27,7 @@ pub struct Cursor<K: TreeKey, N: Namer> {
 }
 
 impl<K: TreeKey, N: Namer> Cursor<K, N> {
-    ghost use Rattle.std.specs.Prelude.{◌≡◌, ℕ, ◌+◌, ◌<◌, ◌≤◌, List, Some, option_map, OnErr, IfOk, IfErr, IsErrOf, IsOk, IsTrue};
+    ghost use Rattle.std.specs.Prelude.{◌≡◌, ℕ, ◌+◌, ◌<◌, ◌≤◌, List, Some, true, option_map, OnOk, OnErr, IfOk, IfErr, IsErrOf, IsOk, IsTrue};
     ghost use Rattle.apfs_model.specs.Counts.{Rose};
     ghost use Rattle.apfs_model.specs.Source.{IsKept};
     ghost use Rattle.obj_base.specs.declared.stop.Stop.TheVariants.{ReadFault, NoMemory};
@@ -34,8 +35,11 @@ impl<K: TreeKey, N: Namer> Cursor<K, N> {
     ghost use Rattle.bt_node.specs.Site.{IsSiteFor};
     ghost use Rattle.bt_cursor.specs.Tree.{tree_in};
     ghost use Rattle.bt_cursor.specs.Flat.{flat_of};
+    ghost use Rattle.bt_cursor.specs.Line.{line_of};
+    ghost use Rattle.bt_cursor.specs.Order.{is_ordered};
+    ghost use Rattle.bt_cursor.specs.From.{from_rank};
     ghost use Rattle.bt_cursor.specs.Faults.{IsOfNodes, IsNodeFault, HasFeature};
-    ghost use Rattle.bt_cursor.specs.Cursors.{site_of, root_of, tree_of, left_of, passed_of, fuel_of, IsOn, HasEntry, HasEntryIf, Moves};
+    ghost use Rattle.bt_cursor.specs.Cursors.{site_of, root_of, tree_of, left_of, passed_of, fuel_of, depth_of, IsOn, HasEntry, HasEntryIf, Moves};
 
     /// Reads the root, whose id is `root`, and stands before the first entry. Takes all its buffers here.
     pub fn new<S: BlockSource>(
@@ -80,6 +84,26 @@ impl<K: TreeKey, N: Namer> Cursor<K, N> {
     {
         back::<K>(&self.site, &mut self.way);
         Ok(())
+    }
+
+    /// Stands before the first entry whose rank isn't below `rank`, where the Line is ordered: by a search in each node
+    /// on the way down from the root. Takes no memory. After an error its place isn't known; `first` and `seek` know
+    /// one again.
+    pub fn seek<S: BlockSource>(&mut self, src: &mut S, rank: &Rank) -> Result<(), Stop<WalkFault>>
+        requires site { IsSiteFor (site_of self.old) (S.bytes_len src.old) }
+        ensures site { site_of self.new ≡ site_of self.old }
+        ensures root { root_of self.new ≡ root_of self.old }
+        ensures tree { tree_of self.new ≡ tree_of self.old }
+        ensures left { (image : List ℕ) → S.bytes src.old ≡ Some image → IsOn image self.old → is_ordered K.shape (line_of (tree_of self.old image) (root_of self.old)) ≡ true → OnOk result (left_of self.new image ≡ from_rank K.shape rank.now (flat_of (tree_of self.old image) (root_of self.old))) }
+        ensures within { (image : List ℕ) → S.bytes src.old ≡ Some image → IsOn image self.old → IsOn image self.new }
+        ensures present { (image : List ℕ) → S.bytes src.old ≡ Some image → IsOn image self.old → IfErr result (Tells (IsNodeFault (tree_of self.old image) (root_of self.old)) (HasFeature (tree_of self.old image) (root_of self.old))) }
+        ensures nodes { IfErr result IsOfNodes }
+        ensures reads { S.reads src.new ≤ S.reads src.old + depth_of self.old }
+        ensures cause { IsErrOf result ReadFault → Rose (S.faults src.old) (S.faults src.new) }
+        ensures memory { IsErrOf result NoMemory → ⊥ }
+        ensures kept { IsKept S.bytes S.bytes_len S.faults src.old src.new }
+    {
+        find::<K, S, N>(src, &self.namer, &self.site, &mut self.way, rank)
     }
 
     /// Moves onto the next entry of the flat list; false at its end. Takes no memory. After an error it stands where

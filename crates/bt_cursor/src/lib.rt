@@ -6,6 +6,7 @@ mod fault;
 mod liner;
 mod namer;
 mod node;
+mod seek;
 mod seen;
 mod start;
 mod walk;
