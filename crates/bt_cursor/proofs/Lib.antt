@@ -10,3 +10,4 @@ pub mod Gone
 pub mod Passings
 pub mod Ranks
 pub mod Seeks
+pub mod Places
