@@ -1,7 +1,7 @@
 -- The list of places has exactly those that are met.
-use Rattle.std.proofs.Common.{◌≡◌, ℕ, zero, suc, ◌+◌, ◌-◌, ◌<◌, ◌≤◌, Bool, true, false, List, [], ◌∷◌, ◌++◌, map, Option, Some, None, Result, Ok, Err, refl, ap, sym, ◌∙◌, subst, arith, inl, inr, ◌⊎◌, ◌&&◌}
+use Rattle.std.proofs.Common.{◌≡◌, ℕ, zero, suc, ◌+◌, ◌-◌, ◌<◌, ◌≤◌, Bool, true, false, cond, List, [], ◌∷◌, ◌++◌, length, map, Option, Some, None, Result, Ok, Err, refl, ap, sym, ◌∙◌, subst, arith, inl, inr, ◌⊎◌, ◌&&◌}
 use Rattle.std.specs.Prelude.{is_ok, is_none}
-use Rattle.std.specs.List.{range_with_len, flat_map, list_all}
+use Rattle.std.specs.List.{range_with_len, filter, flat_map, list_all}
 use Rattle.std.proofs.lemmas.Bool.{false≢true}
 use Rattle.std.proofs.lemmas.Grind.{flat_map-append}
 use Rattle.apfs_model.specs.Blocks.{block_of}
@@ -22,7 +22,7 @@ use Rattle.bt_cursor.specs.declared.fault.WalkFault.{WalkFault}
 use Rattle.bt_cursor.specs.declared.fault.WalkFault.TheVariants.{Unsound, Unnamed, Order, Counts}
 use Rattle.bt_cursor.specs.Tree.{Tree, root_place, child_place, node_at, judged, node_named, block_named, tree_in}
 use Rattle.bt_cursor.specs.Line.{Item, item_at, line_part, line_of}
-use Rattle.bt_cursor.specs.Met.{IsMet, first, after, places_under, places_in, places_of, has_node, is_walkable}
+use Rattle.bt_cursor.specs.Met.{IsMet, first, after, places_under, places_in, places_of, nodes_of, has_node, is_walkable}
 use Rattle.bt_cursor.specs.Whole.{is_whole, IsWhole}
 use Rattle.bt_cursor.specs.Order.{out_of_order, is_ordered}
 use Rattle.bt_cursor.specs.Faults.{HasGap, HasFeature, IsNodeFault, IsOutOfOrder, IsWalkFault, IsOfWorld}
@@ -204,3 +204,11 @@ whole-world tree root (Found Counts) levelled whole told = false≢true (sym tol
 whole-world tree root (Unsupported feature block) levelled whole told = no-gap tree root (Unsupported feature block) levelled whole.walkable told
 whole-world tree root ReadFault levelled whole told = tt
 whole-world tree root NoMemory levelled whole told = tt
+
+filter-all : {X : Type 0} (p : X → Bool) (xs : List X) → list_all p xs ≡ true → filter p xs ≡ xs
+filter-all p [] all = refl
+filter-all p (x ∷ xs) all = ap (λ (b : Bool). cond b (x ∷ filter p xs) (filter p xs)) (and-left (p x) (list_all p xs) all) ∙ ap (λ ys. x ∷ ys) (filter-all p xs (and-right (p x) (list_all p xs) all))
+
+-- the nodes met in a walkable tree are the root and those to which the items of its Line lead
+pub nodes-passed : {K : Type 0} (tree : Tree K) (root : ℕ) (passed : List Item) → is_walkable tree root ≡ true → line_of tree root ≡ passed → length (nodes_of tree root) ≡ length (places_in passed) + 1
+nodes-passed tree root passed all line = omega (arith, ap length (filter-all (has_node tree) (places_of tree root) all), ap (λ xs. length (places_in xs)) line)

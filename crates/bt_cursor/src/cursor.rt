@@ -40,7 +40,7 @@ impl<K: TreeKey, N: Namer> Cursor<K, N> {
     ghost use Rattle.bt_cursor.specs.Order.{is_ordered};
     ghost use Rattle.bt_cursor.specs.From.{from_rank};
     ghost use Rattle.bt_cursor.specs.Faults.{IsOfNodes, IsOfWorld, IsNodeFault, HasFeature};
-    ghost use Rattle.bt_cursor.specs.Cursors.{site_of, root_of, tree_of, left_of, passed_of, fuel_of, depth_of, IsOn, HasEntry, HasEntryIf, Moves};
+    ghost use Rattle.bt_cursor.specs.Cursors.{site_of, root_of, tree_of, left_of, passed_of, fuel_of, depth_of, IsOn, HasEntry, Moves};
 
     /// Reads the root, whose id is `root`, and stands before the first entry. Takes all its buffers here.
     pub fn new<S: BlockSource>(
@@ -123,7 +123,7 @@ impl<K: TreeKey, N: Namer> Cursor<K, N> {
         ensures tree { tree_of self.new ≡ tree_of self.old }
         ensures moved { (image : List ℕ) → S.bytes src.old ≡ Some image → IfOk result (Moves image self.old self.new) }
         ensures left { (image : List ℕ) → S.bytes src.old ≡ Some image → OnErr result (left_of self.new image ≡ left_of self.old image) }
-        ensures stands { IfOk result (HasEntryIf self.new) }
+        ensures stands { IfOk result (λ more. IsTrue more → HasEntry self.new) }
         ensures within { (image : List ℕ) → S.bytes src.old ≡ Some image → IsOn image self.old → IsOn image self.new }
         ensures present { (image : List ℕ) → S.bytes src.old ≡ Some image → IsOn image self.old → IfErr result (Tells (IsNodeFault (tree_of self.old image) (root_of self.old)) (HasFeature (tree_of self.old image) (root_of self.old))) }
         ensures clear { (image : List ℕ) → S.bytes src.old ≡ Some image → IsOn image self.old → is_walkable (tree_of self.old image) (root_of self.old) ≡ true → IfErr result IsOfWorld }

@@ -145,7 +145,8 @@ impl<K: TreeKey, N: Namer> Liner<K, N> {
         ensures whole { (image : List ℕ) → S.bytes src.old ≡ Some image → (passed : List Item) → HasPassed image passed self.old → IfOk result (λ more. IsFalse more → IsWhole (tree_of self.old image) (root_of self.old)) }
         ensures present { (image : List ℕ) → S.bytes src.old ≡ Some image → (passed : List Item) → HasPassed image passed self.old → IfErr result (Tells (IsWalkFault (tree_of self.old image) (root_of self.old)) (HasFeature (tree_of self.old image) (root_of self.old))) }
         ensures clear { (image : List ℕ) → S.bytes src.old ≡ Some image → (passed : List Item) → HasPassed image passed self.old → IsWhole (tree_of self.old image) (root_of self.old) → IfErr result IsOfWorld }
-        ensures stands { IfOk result (HasItemIf self.new) }
+        ensures stands { IfOk result (λ more. IsTrue more → HasItem self.new) }
+        ensures deep { IfOk result (λ more. IsTrue more → is_deep self.new ≡ nat_lt 0 (item_of self.new).level) }
         ensures reads { S.reads src.new ≤ S.reads src.old + reads_for (is_deep self.old) }
         ensures fuel { IfOk result (λ more. IsTrue more → fuel_of self.new < fuel_of self.old) }
         ensures cause { IsErrOf result ReadFault → Rose (S.faults src.old) (S.faults src.new) }
