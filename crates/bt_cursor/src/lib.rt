@@ -9,6 +9,8 @@ mod node;
 mod seek;
 mod seen;
 mod start;
+#[cfg(test)]
+mod tests;
 mod walk;
 mod way;
 
