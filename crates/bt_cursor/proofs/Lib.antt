@@ -11,3 +11,4 @@ pub mod Passings
 pub mod Ranks
 pub mod Seeks
 pub mod Places
+pub mod Examples
