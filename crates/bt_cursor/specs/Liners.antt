@@ -1,12 +1,11 @@
 -- What a liner is at.
-use Rattle.std.specs.Prelude.{◌≡◌, ℕ, ◌<◌, nat_lt, Bool, true, false, List, [], ◌∷◌, ◌++◌}
+use Rattle.std.specs.Prelude.{◌≡◌, ℕ, ◌<◌, nat_lt, Bool, true, false, List}
 use Rattle.bt_node.specs.declared.key.TreeKey as keys
 use Rattle.bt_node.specs.declared.node.Site.{Site}
 use Rattle.bt_cursor.specs.declared.namer.Namer as namers
 use Rattle.bt_cursor.specs.declared.liner.Liner.{Liner}
 use Rattle.bt_cursor.specs.Tree.{Tree, tree_in}
-use Rattle.bt_cursor.specs.Line.{Item, line_of}
-use Rattle.bt_cursor.specs.Whole.{IsWhole}
+use Rattle.bt_cursor.specs.Line.{Item}
 use Rattle.bt_cursor.specs.Stack.{IsIn}
 use Rattle.bt_cursor.specs.Ahead.{ahead_if, passed_item, passed_child, HasPassedOne}
 use Rattle.bt_cursor.specs.Advance.{HasGone}
@@ -51,8 +50,3 @@ HasItemIf liner false = Unit {0}
 pub record HasPassed {K N : Type 0} {k : keys.Ghosts K} {n : namers.Ghosts N} (image : List ℕ) (passed : List Item) (liner : Liner K N k n) : Type 0 where
   pub within : IsIn (tree_of liner image) liner.root liner.way.above.items liner.way.last
   pub gone : HasGone (tree_of liner image) liner.root passed (left_of liner image) liner.seen liner.deep (passed_child k.shape liner.way)
-
--- a move passes one more item; at the end all of the Line was passed, and the tree is whole
-abbrev pub Passes : {K N : Type 0} {k : keys.Ghosts K} {n : namers.Ghosts N} → List ℕ → List Item → Liner K N k n → Liner K N k n → Bool → Type 0
-Passes image passed old new true = HasPassed image (passed ++ item_of new ∷ []) new
-Passes image passed old new false = (line_of (tree_of old image) (root_of old) ≡ passed) × IsWhole (tree_of old image) (root_of old)

@@ -1,7 +1,7 @@
 use Rattle.bt_node.specs.Site.{IsSiteFor}
 use Rattle.bt_cursor.specs.Tree.{tree_in}
 use Rattle.bt_cursor.specs.Ahead.{passed_child}
-use Rattle.bt_cursor.specs.Liners.{root_of, tree_of, left_of, Passes}
+use Rattle.bt_cursor.specs.Liners.{root_of, tree_of, left_of}
 use Rattle.bt_cursor.proofs.Passings.{passes-on, passed-true, passed-line, passed-whole, stops-for}
 use Rattle.bt_cursor.proofs.Places.{tree-levelled, whole-world}
 use Rattle.bt_cursor.proofs.liner.Liner.next.Goals as goal
