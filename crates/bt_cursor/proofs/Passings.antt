@@ -19,13 +19,8 @@ use Rattle.bt_cursor.specs.Faults.{IsWalkFault, HasFeature}
 use Rattle.bt_cursor.specs.Stack.{IsIn}
 use Rattle.bt_cursor.specs.Ahead.{passed_child}
 use Rattle.bt_cursor.specs.Advance.{Entered, Advances, StopsFor, HasGone}
-use Rattle.bt_cursor.specs.Liners.{root_of, tree_of, left_of, item_of, HasItemIf, HasPassed}
+use Rattle.bt_cursor.specs.Liners.{root_of, tree_of, left_of, item_of, HasItemIf, HasPassed, Passes}
 use Rattle.bt_cursor.proofs.Gone.{gone-more, gone-order, gone-end, gone-counts}
-
--- a move passes one more item; at the end all of the Line was passed, and the tree is whole
-abbrev pub Passes : {K N : Type 0} {k : keys.Ghosts K} {n : namers.Ghosts N} → List ℕ → List Item → Liner K N k n → Liner K N k n → Bool → Type 0
-Passes image passed old new true = HasPassed image (passed ++ item_of new ∷ []) new
-Passes image passed old new false = (line_of (tree_of old image) (root_of old) ≡ passed) × IsWhole (tree_of old image) (root_of old)
 
 -- a step that went on, or ended
 pub passes-on : {K N : Type 0} {k : keys.Ghosts K} {n : namers.Ghosts N} (image : List ℕ) (passed : List Item) (old new : Liner K N k n) (more : Bool) → tree_of new ≡ tree_of old → root_of new ≡ root_of old → HasPassed image passed old →

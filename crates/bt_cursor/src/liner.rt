@@ -55,7 +55,7 @@ impl<K: TreeKey, N: Namer> Liner<K, N> {
     ghost use Rattle.bt_cursor.specs.Ahead.{passed_child};
     ghost use Rattle.bt_cursor.specs.Seen.{reads_for};
     ghost use Rattle.bt_cursor.specs.Advance.{Advances, Entered, StopsFor};
-    ghost use Rattle.bt_cursor.specs.Liners.{site_of, root_of, tree_of, left_of, item_of, is_deep, fuel_of, HasItem, HasItemIf, HasPassed};
+    ghost use Rattle.bt_cursor.specs.Liners.{site_of, root_of, tree_of, left_of, item_of, is_deep, fuel_of, HasItem, HasItemIf, HasSeenNone, Sees, HasPassed, Passes};
 
     /// Reads the root, whose id is `root`, and stands before the first item. Takes all its buffers here.
     pub fn new<S: BlockSource>(
@@ -70,6 +70,7 @@ impl<K: TreeKey, N: Namer> Liner<K, N> {
         ensures root { IfOk result (λ liner. root_of liner ≡ root) }
         ensures tree { IfOk result (λ liner. tree_of liner ≡ tree_in K.shape site (N.named namer)) }
         ensures deep { IfOk result (λ liner. is_deep liner ≡ false) }
+        ensures seen { IfOk result HasSeenNone }
         ensures passed { (image : List ℕ) → S.bytes src.old ≡ Some image → IfOk result (HasPassed image []) }
         ensures present { (image : List ℕ) → S.bytes src.old ≡ Some image → IfErr result (Tells (IsNodeFault (tree_in K.shape site (N.named namer) image) root) (HasFeature (tree_in K.shape site (N.named namer) image) root)) }
         ensures clear { (image : List ℕ) → S.bytes src.old ≡ Some image → is_walkable (tree_in K.shape site (N.named namer) image) root ≡ true → IfErr result IsOfWorld }
@@ -104,6 +105,7 @@ impl<K: TreeKey, N: Namer> Liner<K, N> {
         ensures tree { tree_of self.new ≡ tree_of self.old }
         ensures moved { (image : List ℕ) → S.bytes src.old ≡ Some image → IfOk result (Advances K.shape self.old.seen self.new.seen (left_of self.old image) (left_of self.new image) (item_of self.new)) }
         ensures entered { (image : List ℕ) → S.bytes src.old ≡ Some image → OnOk result (Entered (tree_of self.old image) self.old.deep (passed_child K.shape self.old.way)) }
+        ensures seen { IfOk result (Sees self.old self.new) }
         ensures stands { IfOk result (HasItemIf self.new) }
         ensures within { (image : List ℕ) → S.bytes src.old ≡ Some image → IsIn (tree_of self.old image) (root_of self.old) self.old.way.above.items self.old.way.last → IsIn (tree_of self.old image) (root_of self.old) self.new.way.above.items self.new.way.last }
         ensures present { (image : List ℕ) → S.bytes src.old ≡ Some image → IsIn (tree_of self.old image) (root_of self.old) self.old.way.above.items self.old.way.last → IfErr result (Tells (StopsFor (tree_of self.old image) (root_of self.old) self.old.deep (passed_child K.shape self.old.way) self.old.seen (left_of self.old image)) (HasFeature (tree_of self.old image) (root_of self.old))) }
@@ -140,13 +142,11 @@ impl<K: TreeKey, N: Namer> Liner<K, N> {
         ensures site { site_of self.new ≡ site_of self.old }
         ensures root { root_of self.new ≡ root_of self.old }
         ensures tree { tree_of self.new ≡ tree_of self.old }
-        ensures passed { (image : List ℕ) → S.bytes src.old ≡ Some image → (passed : List Item) → HasPassed image passed self.old → IfOk result (λ more. IsTrue more → HasPassed image (passed ++ item_of self.new ∷ []) self.new) }
-        ensures line { (image : List ℕ) → S.bytes src.old ≡ Some image → (passed : List Item) → HasPassed image passed self.old → IfOk result (λ more. IsFalse more → line_of (tree_of self.old image) (root_of self.old) ≡ passed) }
-        ensures whole { (image : List ℕ) → S.bytes src.old ≡ Some image → (passed : List Item) → HasPassed image passed self.old → IfOk result (λ more. IsFalse more → IsWhole (tree_of self.old image) (root_of self.old)) }
+        ensures passed { (image : List ℕ) → S.bytes src.old ≡ Some image → (passed : List Item) → HasPassed image passed self.old → IfOk result (Passes image passed self.old self.new) }
         ensures present { (image : List ℕ) → S.bytes src.old ≡ Some image → (passed : List Item) → HasPassed image passed self.old → IfErr result (Tells (IsWalkFault (tree_of self.old image) (root_of self.old)) (HasFeature (tree_of self.old image) (root_of self.old))) }
         ensures clear { (image : List ℕ) → S.bytes src.old ≡ Some image → (passed : List Item) → HasPassed image passed self.old → IsWhole (tree_of self.old image) (root_of self.old) → IfErr result IsOfWorld }
-        ensures stands { IfOk result (λ more. IsTrue more → HasItem self.new) }
-        ensures deep { IfOk result (λ more. IsTrue more → is_deep self.new ≡ nat_lt 0 (item_of self.new).level) }
+        ensures seen { IfOk result (Sees self.old self.new) }
+        ensures stands { IfOk result (HasItemIf self.new) }
         ensures reads { S.reads src.new ≤ S.reads src.old + reads_for (is_deep self.old) }
         ensures fuel { IfOk result (λ more. IsTrue more → fuel_of self.new < fuel_of self.old) }
         ensures cause { IsErrOf result ReadFault → Rose (S.faults src.old) (S.faults src.new) }

@@ -1,25 +1,12 @@
-use Rattle.bt_node.specs.Site.{IsSiteFor}
-use Rattle.bt_cursor.specs.Tree.{tree_in}
 use Rattle.bt_cursor.specs.Ahead.{passed_child}
 use Rattle.bt_cursor.specs.Liners.{root_of, tree_of, left_of}
-use Rattle.bt_cursor.proofs.Passings.{passes-on, passed-true, passed-line, passed-whole, stops-for}
+use Rattle.bt_cursor.proofs.Passings.{passes-on, stops-for}
 use Rattle.bt_cursor.proofs.Places.{tree-levelled, whole-world}
 use Rattle.bt_cursor.proofs.liner.Liner.next.Goals as goal
 
 pub returns-in-Ok-clause-passed : goal.returns-in-Ok-clause-passed
 returns-in-Ok-clause-passed g c image told passed has =
-    passed-true image passed c.args.self.now c.step.new.self c.in-Ok.more
-    (passes-on image passed c.args.self.now c.step.new.self c.in-Ok.more c.in-Ok.ensures.tree c.in-Ok.ensures.root has (c.in-Ok.ensures.moved image told) (c.in-Ok.ensures.entered image told) (c.in-Ok.ensures.within image told has.within) c.in-Ok.ensures.stands)
-
-pub returns-in-Ok-clause-line : goal.returns-in-Ok-clause-line
-returns-in-Ok-clause-line g c image told passed has =
-    passed-line image passed c.args.self.now c.step.new.self c.in-Ok.more
-    (passes-on image passed c.args.self.now c.step.new.self c.in-Ok.more c.in-Ok.ensures.tree c.in-Ok.ensures.root has (c.in-Ok.ensures.moved image told) (c.in-Ok.ensures.entered image told) (c.in-Ok.ensures.within image told has.within) c.in-Ok.ensures.stands)
-
-pub returns-in-Ok-clause-whole : goal.returns-in-Ok-clause-whole
-returns-in-Ok-clause-whole g c image told passed has =
-    passed-whole image passed c.args.self.now c.step.new.self c.in-Ok.more
-    (passes-on image passed c.args.self.now c.step.new.self c.in-Ok.more c.in-Ok.ensures.tree c.in-Ok.ensures.root has (c.in-Ok.ensures.moved image told) (c.in-Ok.ensures.entered image told) (c.in-Ok.ensures.within image told has.within) c.in-Ok.ensures.stands)
+    passes-on image passed c.args.self.now c.step.new.self c.in-Ok.more c.in-Ok.ensures.tree c.in-Ok.ensures.root has (c.in-Ok.ensures.moved image told) (c.in-Ok.ensures.entered image told) (c.in-Ok.ensures.within image told has.within) c.in-Ok.ensures.stands
 
 pub returns-in-Err-clause-present : goal.returns-in-Err-clause-present
 returns-in-Err-clause-present g c image told passed has =
