@@ -128,8 +128,7 @@ fn add_checkpoint(image: &mut [u8]) {
         put_in(image, to, XID, &2u64.to_le_bytes());
     }
     put_in(image, 3, OID, &3u64.to_le_bytes());
-    for (i, block) in (13u64..17).enumerate() {
-        let at = (40 * i).saturating_add(72);
+    for (at, block) in [(72, 13u64), (112, 14), (152, 15), (192, 16)] {
         put_in(image, 3, at, &block.to_le_bytes());
     }
     put_in(image, 4, DESC_INDEX, &2u32.to_le_bytes());
