@@ -1,5 +1,5 @@
 -- Which plans an image is made of.
-use Rattle.std.specs.Prelude.{◌≡◌, ℕ, ◌+◌, ◌≤◌, List, [], sum_by, length, All, IsNone, vec_len}
+use Rattle.std.specs.Prelude.{◌≡◌, ℕ, ◌+◌, ◌≤◌, [], sum_by, All, IsNone, vec_len}
 use Rattle.img_make.specs.declared.plan.Leaf.{Leaf}
 use Rattle.img_make.specs.declared.plan.Version.{Version}
 use Rattle.img_make.specs.declared.plan.VolPlan.{VolPlan}
