@@ -2,6 +2,8 @@
 ghost use Rattle.std.specs.Prelude.{◌≡◌, IfOk, Some};
 ghost use Rattle.std.specs.String.{string_bytes};
 ghost use Rattle.apfs_model.specs.Source.{IsKept};
+ghost use Rattle.nx_block.specs.Super.{uuid_of};
+ghost use Rattle.apfs_cli.specs.InfoText.{uuid_text, container_text, checkpoint_text};
 ghost use Rattle.apfs_cli.specs.InfoText as texts;
 ghost use Rattle.apfs_cli.specs.Says.{Says};
 ghost use Rattle.apfs_cli.specs.Seen.{seen};
@@ -11,29 +13,56 @@ ghost use Rattle.blk_source.specs.declared.source.Opened.TheVariants.{Image};
 use crate::ending::{Ending, faulty, written};
 use crate::ring_text::fault_text;
 use blk_source::BlockSource;
+use nx_block::NxView;
 use nx_ring::{Checkpoint, newest};
 use obj_base::Stop;
 use std::alloc::{AllocError, Global};
 use uuid::Uuid;
 
-// The six lines of a checkpoint.
-fn text(alloc: Global, checkpoint: &Checkpoint) -> Result<String, AllocError>
-    ensures { IfOk result (λ text. string_bytes text ≡ texts.info_text checkpoint.now) }
+// The container's identifier, in lower case with hyphens.
+#[tactic(auto, unfolding(crate::specs::InfoText::uuid_text))]
+fn identifier(alloc: Global, nx: &NxView<'_>) -> Result<String, AllocError>
+    ensures { IfOk result (λ text. string_bytes text ≡ uuid_text (uuid_of nx.now)) }
 {
-    let nx = checkpoint.nx();
     let mut buffer = Uuid::encode_buffer();
     let uuid = Uuid::from_bytes(nx.uuid()).hyphenated();
-    let uuid = uuid.encode_lower(&mut buffer);
+    String::from_str(alloc, uuid.encode_lower(&mut buffer))
+}
+
+// The lines of a container, by its superblock and the text of its identifier.
+fn container_lines(alloc: Global, nx: &NxView<'_>, uuid: &str) -> Result<String, AllocError>
+    requires { uuid.now ≡ uuid_text (uuid_of nx.now) }
+    ensures { IfOk result (λ text. string_bytes text ≡ container_text nx.now) }
+{
     let size = nx.block_size();
     let blocks = nx.block_count();
+    format!(in alloc; "uuid {uuid}\nblock size {size}\nblocks {blocks}\n")
+}
+
+// The lines of a checkpoint.
+fn checkpoint_lines(alloc: Global, checkpoint: &Checkpoint) -> Result<String, AllocError>
+    ensures { IfOk result (λ text. string_bytes text ≡ checkpoint_text checkpoint.now) }
+{
     let xid = checkpoint.xid();
     let block = checkpoint.block();
     let maps = checkpoint.maps();
     let objects = checkpoint.mapped();
     let skipped = checkpoint.skipped().len();
     format!(in alloc;
-        "uuid {uuid}\nblock size {size}\nblocks {blocks}\ncheckpoint xid {xid} block {block}\nmaps {maps} objects {objects}\nskipped {skipped}\n"
+        "checkpoint xid {xid} block {block}\nmaps {maps} objects {objects}\nskipped {skipped}\n"
     )
+}
+
+// All six lines.
+fn text(alloc: Global, checkpoint: &Checkpoint) -> Result<String, AllocError>
+    ensures { IfOk result (λ text. string_bytes text ≡ texts.info_text checkpoint.now) }
+{
+    let nx = checkpoint.nx();
+    let uuid = identifier(alloc, &nx)?;
+    let mut text = container_lines(alloc, &nx, uuid.as_str())?;
+    let lines = checkpoint_lines(alloc, checkpoint)?;
+    text.push_str(lines.as_str())?;
+    Ok(text)
 }
 
 /// How `info` ends on a source.

@@ -1,11 +1,11 @@
 -- One more candidate, from the last to the first.
-use Rattle.std.proofs.Common.{◌≡◌, ℕ, zero, suc, ◌+◌, ◌-◌, ◌*◌, ◌≤◌, ◌<◌, Bool, true, false, List, [], ◌∷◌, ◌++◌, length, map, filter, take, get_or, Option, Some, None, option_map, refl, ap, sym, subst, ◌∙◌, arith}
+use Rattle.std.proofs.Common.{◌≡◌, ℕ, suc, ◌+◌, ◌-◌, ◌*◌, ◌≤◌, ◌<◌, Bool, true, false, List, [], ◌∷◌, ◌++◌, length, map, filter, take, get_or, Option, Some, None, option_map, refl, ap, sym, subst, ◌∙◌, arith}
 use Rattle.std.specs.List.{range_with_len, filter_map}
 use Rattle.std.proofs.lemmas.Grind.{common_steps}
 use Rattle.std.proofs.Common.{nat_lt}
 use Rattle.std.proofs.lemmas.List.{take_more, map-append}
 use Rattle.std.proofs.lemmas.List.Elements.{filter-append}
-use Rattle.apfs_model.specs.Lists.{greatest, greater_of}
+use Rattle.apfs_model.specs.Lists.{greater_of}
 use Rattle.nx_ring.specs.declared.areas.Areas.{Areas}
 use Rattle.nx_ring.specs.declared.line.RingLine.{RingLine}
 use Rattle.nx_ring.specs.Candidates.{candidate, candidate_in, ring_block}

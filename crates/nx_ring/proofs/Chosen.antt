@@ -1,5 +1,5 @@
 -- What the newest checkpoint is, and what the tests before it name.
-use Rattle.std.proofs.Common.{inl, inr, IfOk, ◌≡◌, ◌⊎◌, ℕ, true, false, List, [], Option, Some, None, option_map, Result, Ok, Err, IfErr, refl, ap, sym, subst, ◌∙◌, arith}
+use Rattle.std.proofs.Common.{inl, inr, IfOk, ◌≡◌, ℕ, List, [], Option, Some, None, option_map, Result, Ok, Err, IfErr, refl, ap, sym, subst, ◌∙◌, arith}
 use Rattle.std.specs.List.{range_with_len}
 use Rattle.std.proofs.lemmas.Grind.{common_steps}
 use Rattle.obj_base.specs.declared.stop.Feature.{Feature}

@@ -11,7 +11,7 @@ use Rattle.std.proofs.lemmas.Grind.{flat_map-append}
 use Rattle.std.proofs.lemmas.List.Concat.{flat_map-cons}
 use Rattle.apfs_model.specs.Blocks.{block_of}
 use Rattle.nx_ring.specs.declared.mappings.Mapping.{Mapping}
-use Rattle.std.proofs.Common.{Bool, false, ◌&&◌, ◌<◌, ◌≤◌, length, take, get_or, length-append}
+use Rattle.std.proofs.Common.{false, ◌&&◌, ◌<◌, ◌≤◌, length, take, get_or, length-append}
 use Rattle.std.proofs.lemmas.List.{take_more, map-append}
 use Rattle.std.proofs.lemmas.List.FromFn.{length-map-range_with_len}
 use Rattle.std.proofs.lemmas.List.Folds.{length-flat_map-take}

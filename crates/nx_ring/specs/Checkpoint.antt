@@ -1,5 +1,5 @@
 -- A checkpoint, and what it maps.
-use Rattle.std.specs.Prelude.{ℕ, ◌-◌, ◌==◌, List, map, Option, option_map}
+use Rattle.std.specs.Prelude.{ℕ, ◌==◌, List, map, Option, option_map}
 use Rattle.std.specs.List.{find}
 use Rattle.nx_ring.specs.declared.line.RingLine.{RingLine}
 use Rattle.nx_ring.specs.Objects.{Place}

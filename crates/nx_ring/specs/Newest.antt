@@ -1,6 +1,6 @@
 -- The newest checkpoint.
 use Rattle.std.specs.Prelude.{◌≡◌, ◌⊎◌, ℕ, ◌*◌, ◌≤◌, Bool, false, nat_lt, List, [], map, filter, Option, None, Some, option_map, Result, Ok, Err}
-use Rattle.std.specs.List.{filter_map, range_with_len}
+use Rattle.std.specs.List.{filter_map}
 use Rattle.apfs_model.specs.Lists.{greatest, In}
 use Rattle.obj_base.specs.declared.stop.Feature.{Feature}
 use Rattle.obj_base.specs.declared.stop.Stop.{Stop}

@@ -1,5 +1,5 @@
 -- The objects that a checkpoint maps, in the data area (Container, checkpoint_mapping_t).
-use Rattle.std.specs.Prelude.{ℕ, ◌+◌, ◌-◌, ◌*◌, ◌/◌, ◌%◌, Bool, ◌&&◌, nat_le, List, map, Some, is_ok}
+use Rattle.std.specs.Prelude.{ℕ, ◌+◌, ◌-◌, ◌/◌, ◌%◌, Bool, ◌&&◌, nat_le, List, map, Some, is_ok}
 use Rattle.std.specs.List.{range_with_len, flat_map}
 use Rattle.apfs_model.specs.Blocks.{block_of, is_in, is_multiple}
 use Rattle.apfs_model.specs.Object.{kind_in}

@@ -1,5 +1,4 @@
 -- Stops that tell nothing of the image.
-use Rattle.std.specs.Prelude.{ℕ}
 use Rattle.obj_base.specs.Stops.{Tells, NoFeature}
 use Rattle.obj_base.specs.declared.stop.Stop.{Stop}
 use Rattle.nx_ring.specs.declared.fault.RingFault.{RingFault}

@@ -10,6 +10,8 @@ mod features;
 mod line;
 mod mappings;
 mod objects;
+#[cfg(test)]
+mod tests;
 mod valid;
 mod view;
 mod zero;

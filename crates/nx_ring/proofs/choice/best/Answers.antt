@@ -1,4 +1,4 @@
-use Rattle.std.proofs.Common.{◌≡◌, ◌∙◌, ℕ, List, ◌+◌, ◌-◌, IfSome, ap, sym, subst, refl, arith}
+use Rattle.std.proofs.Common.{◌∙◌, ℕ, ◌+◌, ◌-◌, IfSome, ap, sym, subst, refl, arith}
 use Rattle.std.specs.List.{range_with_len}
 use Rattle.nx_ring.specs.Newest.{best_of, IsHeld}
 use Rattle.nx_ring.proofs.Best.{best_start, range_below, mul_below}

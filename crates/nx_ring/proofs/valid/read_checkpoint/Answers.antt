@@ -1,4 +1,4 @@
-use Rattle.std.proofs.Common.{◌≡◌, ◌∙◌, ℕ, List, map, IfOk, IfSome, subst, arith}
+use Rattle.std.proofs.Common.{◌≡◌, ◌∙◌, List, map, IfOk, IfSome, subst, arith}
 use Rattle.std.proofs.lemmas.Grind.{common_steps}
 use Rattle.std.proofs.lemmas.Result.{IfOk-weaker}
 use Rattle.nx_ring.specs.declared.mappings.Mapping.{Mapping}

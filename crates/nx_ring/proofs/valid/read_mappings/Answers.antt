@@ -1,4 +1,4 @@
-use Rattle.std.proofs.Common.{◌≡◌, ℕ, arith}
+use Rattle.std.proofs.Common.{◌≡◌, arith}
 use Rattle.std.proofs.lemmas.Grind.{common_steps}
 use Rattle.nx_ring.specs.Valid.{has_mappings, mappings_of}
 use Rattle.nx_ring.proofs.Some.{some_at}

@@ -1,8 +1,8 @@
-use Rattle.std.proofs.Common.{◌≡◌, ◌∙◌, ℕ, get_or, take, map, arith}
+use Rattle.std.proofs.Common.{◌∙◌, arith}
 use Rattle.std.proofs.lemmas.Grind.{common_steps}
 use Rattle.std.proofs.lemmas.List.Folds.{list_all_more}
 use Rattle.nx_ring.specs.declared.mappings.Mapping.{Mapping}
-use Rattle.nx_ring.specs.Objects.{has_object, place_at}
+use Rattle.nx_ring.specs.Objects.{has_object}
 use Rattle.nx_ring.proofs.More.{places_more, blocks_length}
 use Rattle.nx_ring.proofs.valid.read_objects.Goals as goal
 
