@@ -1,0 +1,14 @@
+pub mod Nodes
+pub mod Pairs
+pub mod Ways
+pub mod Lines
+pub mod Fuels
+pub mod Flats
+pub mod Steps
+pub mod Orders
+pub mod Gone
+pub mod Passings
+pub mod Ranks
+pub mod Seeks
+pub mod Places
+pub mod Examples

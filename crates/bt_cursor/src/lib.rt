@@ -1,0 +1,20 @@
+//! Walks over any tree: the flat list of its entries, a place in it, and its Line with order and counts.
+#![tactic(auto)]
+
+mod cursor;
+mod fault;
+mod liner;
+mod namer;
+mod node;
+mod seek;
+mod seen;
+mod start;
+#[cfg(test)]
+mod tests;
+mod walk;
+mod way;
+
+pub use cursor::Cursor;
+pub use fault::WalkFault;
+pub use liner::{LineItem, Liner};
+pub use namer::{Namer, Physical};
