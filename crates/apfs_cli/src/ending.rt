@@ -14,8 +14,8 @@ use std::alloc::{AllocError, Global};
 /// What a run sets out to write, with its status.
 #[derive(Debug, Drop)]
 pub enum Ending {
-    /// The whole text of the command. Status 0.
-    Written(String),
+    /// The whole text of the command, as its bytes. Status 0.
+    Written(Vec<u8>),
     /// A fault, by its text. Status 1.
     Faulty(String),
     /// The words are no line of the program. Status 2.
@@ -38,9 +38,9 @@ const OUT_OF_MEMORY: u8 = 5;
 
 const OUT_OF_MEMORY_LINE: &str = "apfs: out of memory\n";
 
-/// The ending with this text.
-pub fn written(text: Result<String, AllocError>) -> Ending
-    ensures { MatchResult text (λ t. seen result ≡ outcome.Written (string_bytes t)) (λ _. seen result ≡ outcome.OutOfMemory) }
+/// The ending with this text, as its bytes.
+pub fn written(text: Result<Vec<u8>, AllocError>) -> Ending
+    ensures { MatchResult text (λ t. seen result ≡ outcome.Written t.items) (λ _. seen result ≡ outcome.OutOfMemory) }
 {
     match text {
         Ok(text) => Ending::Written(text),
@@ -59,7 +59,7 @@ pub fn faulty(text: Result<String, AllocError>) -> Ending
 }
 
 // Puts a text, unless it is empty. Whether it was put.
-fn put_text<W: Sink>(text: &str, out: &mut W) -> bool
+fn put_text<W: Sink>(text: &[u8], out: &mut W) -> bool
     ensures whole { IsTrue result → Wrote (W.contents out.old) (W.contents out.new) text.now }
     ensures part { WrotePart (W.contents out.old) (W.contents out.new) text.now }
     ensures cause { IsFalse result → Rose (W.faults out.old) (W.faults out.new) }
@@ -67,20 +67,20 @@ fn put_text<W: Sink>(text: &str, out: &mut W) -> bool
     if text.is_empty() {
         return true;
     }
-    match out.put(text.as_bytes()) {
+    match out.put(text) {
         Ok(()) => true,
         Err(_) => false,
     }
 }
 
 // Writes the text and then the line, and gives the status; where writing fails nothing more is written.
-fn finish<W: Sink, E: Sink>(status: u8, text: &str, line: &str, out: &mut W, err: &mut E) -> u8
+fn finish<W: Sink, E: Sink>(status: u8, text: &[u8], line: &str, out: &mut W, err: &mut E) -> u8
     ensures { IsEnded result status text.now line.now (sunk W.contents W.faults out.old out.new) (sunk E.contents E.faults err.old err.new) }
 {
     if !put_text(text, out) {
         return WRITE_FAILED;
     }
-    if !put_text(line, err) {
+    if !put_text(line.as_bytes(), err) {
         return WRITE_FAILED;
     }
     status
@@ -103,12 +103,12 @@ impl Ending {
     }
 
     // The text for the first sink.
-    fn text(&self) -> &str
+    fn text(&self) -> &[u8]
         ensures { result.now ≡ outcome.text_of (seen self.now) }
     {
         match self {
-            Ending::Written(text) => text.as_str(),
-            _ => "",
+            Ending::Written(text) => text.as_slice(),
+            _ => &[],
         }
     }
 
@@ -138,6 +138,6 @@ pub fn write<W: Sink, E: Sink>(alloc: Global, ending: &Ending, out: &mut W, err:
 {
     match ending.line(alloc) {
         Ok(line) => finish(ending.status(), ending.text(), line.as_str(), out, err),
-        Err(_) => finish(OUT_OF_MEMORY, "", OUT_OF_MEMORY_LINE, out, err),
+        Err(_) => finish(OUT_OF_MEMORY, &[], OUT_OF_MEMORY_LINE, out, err),
     }
 }

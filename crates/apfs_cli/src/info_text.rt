@@ -19,13 +19,13 @@ use obj_base::Stop;
 use std::alloc::{AllocError, Global};
 use uuid::Uuid;
 
-// The container's identifier, in lower case with hyphens.
+/// An identifier, in lower case with hyphens.
 #[tactic(auto, unfolding(crate::specs::InfoText::uuid_text))]
-fn identifier(alloc: Global, nx: &NxView<'_>) -> Result<String, AllocError>
-    ensures { IfOk result (λ text. string_bytes text ≡ uuid_text (uuid_of nx.now)) }
+pub fn identifier(alloc: Global, uuid: [u8; 16]) -> Result<String, AllocError>
+    ensures { IfOk result (λ text. string_bytes text ≡ uuid_text uuid) }
 {
     let mut buffer = Uuid::encode_buffer();
-    let uuid = Uuid::from_bytes(nx.uuid()).hyphenated();
+    let uuid = Uuid::from_bytes(uuid).hyphenated();
     String::from_str(alloc, uuid.encode_lower(&mut buffer))
 }
 
@@ -54,14 +54,14 @@ fn checkpoint_lines(alloc: Global, checkpoint: &Checkpoint) -> Result<String, Al
 }
 
 // All six lines.
-fn text(alloc: Global, checkpoint: &Checkpoint) -> Result<String, AllocError>
-    ensures { IfOk result (λ text. string_bytes text ≡ texts.info_text checkpoint.now) }
+fn text(alloc: Global, checkpoint: &Checkpoint) -> Result<Vec<u8>, AllocError>
+    ensures { IfOk result (λ text. text.items ≡ texts.info_text checkpoint.now) }
 {
     let nx = checkpoint.nx();
-    let uuid = identifier(alloc, &nx)?;
-    let mut text = container_lines(alloc, &nx, uuid.as_str())?;
+    let uuid = identifier(alloc, nx.uuid())?;
+    let mut text = container_lines(alloc, &nx, uuid.as_str())?.into_bytes();
     let lines = checkpoint_lines(alloc, checkpoint)?;
-    text.push_str(lines.as_str())?;
+    text.extend_from_slice(lines.as_bytes())?;
     Ok(text)
 }
 

@@ -5,6 +5,7 @@ mod ending;
 mod info_text;
 mod ring_text;
 mod run;
+mod shown;
 #[cfg(test)]
 mod tests;
 mod words;

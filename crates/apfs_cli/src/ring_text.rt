@@ -28,13 +28,13 @@ fn line(alloc: Global, line: &RingLine) -> Result<String, AllocError>
 }
 
 // A line for each candidate.
-fn text(alloc: Global, lines: &[RingLine]) -> Result<String, AllocError>
-    ensures { IfOk result (λ text. string_bytes text ≡ texts.ring_text lines.now) }
+fn text(alloc: Global, lines: &[RingLine]) -> Result<Vec<u8>, AllocError>
+    ensures { IfOk result (λ text. text.items ≡ texts.ring_text lines.now) }
 {
-    let mut text = String::new(alloc);
+    let mut text = Vec::new(alloc);
     'candidates: for candidate in lines {
         let piece = line(alloc, candidate)?;
-        text.push_str(piece.as_str())?;
+        text.extend_from_slice(piece.as_bytes())?;
     }
     Ok(text)
 }
