@@ -1,0 +1,97 @@
+-- What is left of a way, a step at a time.
+use Rattle.std.proofs.Common.{◌≡◌, ℕ, suc, ◌+◌, ◌-◌, ◌<◌, ◌≤◌, nat_lt, Bool, true, false, cond, List, [], ◌∷◌, ◌++◌, drop, map, Ok, ap, sym, ◌∙◌, refl, append_assoc, append-nil, arith}
+use Rattle.std.specs.List.{flat_map, filter}
+use Rattle.std.proofs.lemmas.Bool.Decides.{nat_tests}
+use Rattle.std.proofs.lemmas.List.{map-append}
+use Rattle.std.proofs.lemmas.List.Elements.{filter-append}
+use Rattle.apfs_model.specs.Lists.{through, value_of}
+use Rattle.bt_node.specs.Node.{level_of, count_of}
+use Rattle.bt_node.specs.Entries.{Pair, pair_of, pairs_of}
+use Rattle.bt_cursor.specs.Tree.{Tree, child_place, node_at}
+use Rattle.bt_cursor.specs.Line.{Item, item_at, line_part, is_leaf_item, leaf_pairs}
+use Rattle.bt_cursor.specs.Ahead.{line_from, line_under, rest}
+use Rattle.bt_cursor.specs.declared.way.Step.{Step}
+use Rattle.bt_cursor.proofs.Pairs.{pairs_cons, pairs_end}
+
+-- one more step below: what is left of it comes first
+pub rest_push : {K : Type 0} (tree : Tree K) (steps : List Step) (step : Step) → rest tree (steps ++ step ∷ []) ≡ line_from tree step.block.items step.next ++ rest tree steps
+rest_push tree [] step = sym (append-nil (line_from tree step.block.items step.next))
+rest_push tree (s ∷ steps) step = ap (λ xs. xs ++ line_from tree s.block.items s.next) (rest_push tree steps step) ∙ append_assoc (line_from tree step.block.items step.next) (rest tree steps) (line_from tree s.block.items s.next)
+
+-- nothing is left from the end on
+pub line_from_end : {K : Type 0} (tree : Tree K) (node : List ℕ) (i : ℕ) → count_of node ≤ i → line_from tree node i ≡ []
+line_from_end tree node i past = ap (flat_map (line_part tree (level_of node))) (pairs_end tree.shape node i past)
+
+-- the first of some entries apart
+pub line_from-cons : {K : Type 0} (tree : Tree K) (node : List ℕ) (i : ℕ) → i < count_of node → line_from tree node i ≡ line_part tree (level_of node) (pair_of tree.shape node i) ++ line_from tree node (i + 1)
+line_from-cons tree node i low = ap (flat_map (line_part tree (level_of node))) (pairs_cons tree.shape node i low)
+
+-- one level up, where nothing is left
+pub line-up : {K : Type 0} (tree : Tree K) (above lower_above : List Step) (last lower : Step) → lower_above ≡ above ++ last ∷ [] → count_of lower.block.items ≤ lower.next →
+    line_from tree last.block.items last.next ++ rest tree above ≡ line_from tree lower.block.items lower.next ++ rest tree lower_above
+line-up tree above lower_above last lower taken past =
+    sym (ap (λ xs. xs ++ rest tree lower_above) (line_from_end tree lower.block.items lower.next past) ∙ (ap (rest tree) taken ∙ rest_push tree above last))
+
+-- the next item apart, at level 0
+pub line_from-leaf : {K : Type 0} (tree : Tree K) (node : List ℕ) (i : ℕ) → i < count_of node → level_of node ≡ 0 → line_from tree node i ≡ item_at (level_of node) (pair_of tree.shape node i) ∷ line_from tree node (i + 1)
+line_from-leaf tree node i low leaf =
+    line_from-cons tree node i low
+    ∙ (ap (λ l. line_part tree l (pair_of tree.shape node i) ++ line_from tree node (i + 1)) leaf
+    ∙ ap (λ l. item_at l (pair_of tree.shape node i) ∷ line_from tree node (i + 1)) (sym leaf))
+
+-- the next item apart, above level 0
+pub line_from-inner : {K : Type 0} (tree : Tree K) (node : List ℕ) (i level : ℕ) → i < count_of node → level_of node ≡ suc level →
+    line_from tree node i ≡ item_at (level_of node) (pair_of tree.shape node i) ∷ (line_under tree level (pair_of tree.shape node i) ++ line_from tree node (i + 1))
+line_from-inner tree node i level low high =
+    line_from-cons tree node i low
+    ∙ (ap (λ l. line_part tree l (pair_of tree.shape node i) ++ line_from tree node (i + 1)) high
+    ∙ ap (λ l. item_at l (pair_of tree.shape node i) ∷ (line_under tree level (pair_of tree.shape node i) ++ line_from tree node (i + 1))) (sym high))
+
+-- the items of a child are those of its node
+pub line_under-node : {K : Type 0} (tree : Tree K) (pair : Pair) (below : List ℕ) (level : ℕ) → tree.look (child_place level pair) ≡ Ok below → level_of below ≡ level → line_under tree level pair ≡ line_from tree below 0
+line_under-node tree pair below level named same =
+    ap (λ o. through (value_of o) (λ node. flat_map (line_part tree level) (pairs_of tree.shape node))) named
+    ∙ ap (λ l. flat_map (line_part tree l) (pairs_of tree.shape below)) (sym same)
+
+-- the child's items come first in what is left
+pub line-down : {K : Type 0} (tree : Tree K) (above : List Step) (last lower : Step) (pair : Pair) (level : ℕ) →
+    tree.look (child_place level pair) ≡ Ok lower.block.items → level_of lower.block.items ≡ level → lower.next ≡ 0 →
+    line_from tree lower.block.items lower.next ++ rest tree (above ++ last ∷ []) ≡ line_under tree level pair ++ (line_from tree last.block.items last.next ++ rest tree above)
+line-down tree above last lower pair level named same first =
+    ap (λ j. line_from tree lower.block.items j ++ rest tree (above ++ last ∷ [])) first
+    ∙ (ap (λ xs. line_from tree lower.block.items 0 ++ xs) (rest_push tree above last)
+    ∙ ap (λ xs. xs ++ (line_from tree last.block.items last.next ++ rest tree above)) (sym (line_under-node tree pair lower.block.items level named same)))
+
+pub leaf_pairs-append : (xs ys : List Item) → leaf_pairs (xs ++ ys) ≡ leaf_pairs xs ++ leaf_pairs ys
+leaf_pairs-append xs ys = ap (map (λ (item : Item). item.pair)) (filter-append is_leaf_item xs ys) ∙ map-append (λ (item : Item). item.pair) (filter is_leaf_item xs) (filter is_leaf_item ys)
+
+-- an item above level 0 is no entry of a leaf
+pub leaf_pairs-inner : (level : ℕ) (pair : Pair) (items : List Item) → 0 < level → leaf_pairs (item_at level pair ∷ items) ≡ leaf_pairs items
+leaf_pairs-inner level pair items upper =
+    let inner : is_leaf_item (item_at level pair) ≡ false = grind (arith, nat_tests) in
+    ap (λ (b : Bool). map (λ (item : Item). item.pair) (cond b (item_at level pair ∷ filter is_leaf_item items) (filter is_leaf_item items))) inner
+
+pub leaf_pairs-leaf : (level : ℕ) (pair : Pair) (items : List Item) → level ≡ 0 → leaf_pairs (item_at level pair ∷ items) ≡ pair ∷ leaf_pairs items
+leaf_pairs-leaf level pair items leaf = ap (λ l. leaf_pairs (item_at l pair ∷ items)) leaf
+
+-- the entries of leaves that are left are the same one level down
+pub pairs-down : {K : Type 0} (tree : Tree K) (above : List Step) (last moved lower : Step) (level i : ℕ) → i < count_of last.block.items → level_of last.block.items ≡ suc level → moved.block.items ≡ last.block.items → moved.next ≡ i + 1 →
+    tree.look (child_place level (pair_of tree.shape last.block.items i)) ≡ Ok lower.block.items → level_of lower.block.items ≡ level → lower.next ≡ 0 →
+    leaf_pairs (line_from tree lower.block.items lower.next ++ rest tree (above ++ moved ∷ [])) ≡ leaf_pairs (line_from tree last.block.items i ++ rest tree above)
+pairs-down tree above last moved lower level i low high bytes next named same first =
+    let pair = pair_of tree.shape last.block.items i in
+    let upper : 0 < level_of last.block.items = omega arith in
+    ap leaf_pairs (line-down tree above moved lower pair level named same first)
+    ∙ (ap (λ b. leaf_pairs (line_under tree level pair ++ (line_from tree b moved.next ++ rest tree above))) bytes
+    ∙ (ap (λ j. leaf_pairs (line_under tree level pair ++ (line_from tree last.block.items j ++ rest tree above))) next
+    ∙ (ap leaf_pairs (sym (append_assoc (line_under tree level pair) (line_from tree last.block.items (i + 1)) (rest tree above)))
+    ∙ (sym (leaf_pairs-inner (level_of last.block.items) pair ((line_under tree level pair ++ line_from tree last.block.items (i + 1)) ++ rest tree above) upper)
+    ∙ ap (λ xs. leaf_pairs (xs ++ rest tree above)) (sym (line_from-inner tree last.block.items i level low high))))))
+
+-- an entry of level 0 stands for itself
+pub pairs-pass : {K : Type 0} (tree : Tree K) (above : List Step) (node : List ℕ) (i j : ℕ) → i < count_of node → level_of node ≡ 0 → i ≡ j →
+    leaf_pairs (line_from tree node i ++ rest tree above) ≡ pair_of tree.shape node j ∷ leaf_pairs (line_from tree node (i + 1) ++ rest tree above)
+pairs-pass tree above node i j low leaf same =
+    ap (λ xs. leaf_pairs (xs ++ rest tree above)) (line_from-leaf tree node i low leaf)
+    ∙ (leaf_pairs-leaf (level_of node) (pair_of tree.shape node i) (line_from tree node (i + 1) ++ rest tree above) leaf
+    ∙ ap (λ k. pair_of tree.shape node k ∷ leaf_pairs (line_from tree node (i + 1) ++ rest tree above)) same)

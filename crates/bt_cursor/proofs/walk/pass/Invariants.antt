@@ -1,0 +1,21 @@
+use Rattle.std.proofs.Common.{◌≡◌, ◌<◌, ◌≤◌, ℕ, List, Some, length}
+use Rattle.apfs_model.specs.Source.{IsKept}
+use Rattle.bt_node.specs.Node.{level_of, count_of}
+use Rattle.bt_cursor.specs.Tree.{tree_in}
+use Rattle.bt_cursor.specs.Stack.{IsWay, IsIn}
+use Rattle.bt_cursor.specs.Ahead.{pairs_ahead}
+use Rattle.bt_cursor.specs.Fuel.{fuel_way}
+use Rattle.bt_cursor.proofs.walk.pass.Given as goal
+
+abbrev pub invariant-descend : goal.invariant-descend
+invariant-descend g l = record {
+  way : IsWay g.K.TreeKey.shape l.site l.way.above.items l.way.last l.way.spare.items;
+  left : l.way.last.next < count_of l.way.last.block.items;
+  same : (image : List ℕ) → g.S.BlockSource.bytes l.fn.src ≡ Some image → pairs_ahead (tree_in g.K.TreeKey.shape l.site (g.N.Namer.named l.namer) image) l.way ≡ pairs_ahead (tree_in g.K.TreeKey.shape l.site (g.N.Namer.named l.namer) image) l.fn.way;
+  fuel : fuel_way l.way ≤ fuel_way l.fn.way;
+  within : (image : List ℕ) → g.S.BlockSource.bytes l.fn.src ≡ Some image → (root : ℕ) → IsIn (tree_in g.K.TreeKey.shape l.site (g.N.Namer.named l.namer) image) root l.fn.way.above.items l.fn.way.last → IsIn (tree_in g.K.TreeKey.shape l.site (g.N.Namer.named l.namer) image) root l.way.above.items l.way.last;
+  kept : IsKept g.S.BlockSource.bytes g.S.BlockSource.bytes_len g.S.BlockSource.faults l.fn.src l.src;
+}
+
+abbrev pub decreases-descend : goal.decreases-descend
+decreases-descend g l = level_of l.way.last.block.items

@@ -1,0 +1,79 @@
+-- What is left of a way.
+use Rattle.std.specs.Prelude.{◌≡◌, ℕ, ◌+◌, ◌-◌, ◌<◌, Bool, true, false, List, [], ◌∷◌, ◌++◌, drop, flat_map}
+use Rattle.apfs_model.specs.Lists.{through}
+use Rattle.bt_node.specs.Node.{level_of}
+use Rattle.bt_node.specs.Entries.{Pair, pair_of, pairs_of}
+use Rattle.bt_node.specs.Shape.{Shape}
+use Rattle.bt_node.specs.declared.node.NodeAt.{NodeAt}
+use Rattle.bt_cursor.specs.Tree.{Tree, child_place, node_at}
+use Rattle.bt_cursor.specs.Line.{Item, item_at, line_part, leaf_pairs}
+use Rattle.bt_cursor.specs.declared.way.Step.{Step}
+use Rattle.bt_cursor.specs.declared.way.Way.{Way}
+
+-- the bytes of a step's buffer, whatever a call answers
+abbrev pub items_of : {U : Type 0} → Step → U → List ℕ
+items_of step u = step.block.items
+
+-- the items of a node from an entry on
+abbrev pub line_from : {K : Type 0} → Tree K → List ℕ → ℕ → List Item
+line_from tree node i = flat_map (line_part tree (level_of node)) (drop i (pairs_of tree.shape node))
+
+-- what is left of the nodes above the last
+abbrev pub rest : {K : Type 0} → Tree K → List Step → List Item
+rest tree [] = []
+rest tree (step ∷ steps) = rest tree steps ++ line_from tree step.block.items step.next
+
+-- what is left of a way
+abbrev pub ahead : {K : Type 0} → Tree K → Way → List Item
+ahead tree way = line_from tree way.last.block.items way.last.next ++ rest tree way.above.items
+
+-- the entry passed last, and the place of its child
+abbrev pub passed_pair : {K : Type 0} → Shape K → Way → Pair
+passed_pair shape way = pair_of shape way.last.block.items (way.last.next - 1)
+
+abbrev pub passed_item : {K : Type 0} → Shape K → Way → Item
+passed_item shape way = item_at (level_of way.last.block.items) (passed_pair shape way)
+
+abbrev pub passed_child : {K : Type 0} → Shape K → Way → NodeAt
+passed_child shape way = child_place (level_of way.last.block.items - 1) (passed_pair shape way)
+
+-- the items of a child of a level
+abbrev pub line_under : {K : Type 0} → Tree K → ℕ → Pair → List Item
+line_under tree level pair = through (node_at tree (child_place level pair)) (λ node. flat_map (line_part tree level) (pairs_of tree.shape node))
+
+-- what is left, where the child of the entry passed last may be still to come
+abbrev pub ahead_if : {K : Type 0} → Tree K → Bool → Way → List Item
+ahead_if tree true way = line_under tree (level_of way.last.block.items - 1) (passed_pair tree.shape way) ++ ahead tree way
+ahead_if tree false way = ahead tree way
+
+-- the entries of leaves that are left
+abbrev pub pairs_ahead : {K : Type 0} → Tree K → Way → List Pair
+pairs_ahead tree way = leaf_pairs (ahead tree way)
+
+-- an entry was passed
+pub record HasPassedOne (way : Way) : Type 0 where
+  pub some : 0 < way.last.next
+
+-- an entry of level 0 was passed last
+pub record Stands (way : Way) : Type 0 where
+  pub leaf : level_of way.last.block.items ≡ 0
+  pub some : 0 < way.last.next
+
+abbrev pub StandsIf : Way → Bool → Type 0
+StandsIf way true = Stands way
+StandsIf way false = Unit {0}
+
+-- an entry above level 0 was passed last
+pub record IsDeep (way : Way) : Type 0 where
+  pub upper : 0 < level_of way.last.block.items
+  pub some : 0 < way.last.next
+
+-- the next entry of level 0 was passed, or there is none
+abbrev pub MovesWay : {K : Type 0} → Tree K → Way → Way → Bool → Type 0
+MovesWay tree old new true = pairs_ahead tree old ≡ passed_pair tree.shape new ∷ pairs_ahead tree new
+MovesWay tree old new false = pairs_ahead tree old ≡ []
+
+-- a root alone, before its first entry
+pub record IsStart (way : Way) : Type 0 where
+  pub above : way.above.items ≡ []
+  pub next : way.last.next ≡ 0

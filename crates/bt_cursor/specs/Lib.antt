@@ -1,0 +1,14 @@
+pub mod Tree
+pub mod Flat
+pub mod Line
+pub mod Met
+pub mod Order
+pub mod Counts
+pub mod Whole
+pub mod From
+pub mod Faults
+pub mod Stack
+pub mod Ahead
+pub mod Fuel
+pub mod Seen
+pub mod Cursors

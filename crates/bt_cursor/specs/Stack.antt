@@ -1,0 +1,45 @@
+-- A way from a root down to a place.
+use Rattle.std.specs.Prelude.{◌≡◌, ℕ, ◌+◌, ◌<◌, ◌≤◌, true, List, [], ◌∷◌, length, slice_index_or, All, Ok}
+use Rattle.obj_base.specs.BlockSize.{is_accepted}
+use Rattle.bt_node.specs.Shape.{Shape}
+use Rattle.bt_node.specs.Node.{level_of, count_of}
+use Rattle.bt_node.specs.Soundness.{IsNode}
+use Rattle.bt_node.specs.declared.node.Site.{Site}
+use Rattle.bt_cursor.specs.Tree.{Tree, root_place}
+use Rattle.bt_cursor.specs.Met.{IsMet}
+use Rattle.bt_cursor.specs.declared.way.Step.{Step}
+
+-- a buffer of a block
+abbrev pub IsLong : Site → Step → Type 0
+IsLong site step = length step.block.items ≡ site.block_size
+
+-- a step through a node that is sound as expected
+pub record IsStep {K : Type 0} (shape : Shape K) (site : Site) (step : Step) : Type 0 where
+  pub accepted : is_accepted site.block_size ≡ true
+  pub long : IsLong site step
+  pub node : IsNode shape step.at site step.block.items
+  pub inside : step.next ≤ count_of step.block.items
+
+-- the steps of a way go through such nodes, and there is a buffer for each level below
+pub record IsWay {K : Type 0} (shape : Shape K) (site : Site) (above : List Step) (last : Step) (spare : List Step) : Type 0 where
+  pub hold : All (IsStep shape site) above
+  pub hold_last : IsStep shape site last
+  pub levels : (i : ℕ) (d : Step) → i < length above → level_of (slice_index_or above i d).block.items + i < length above + 1 + length spare
+  pub level_last : level_of last.block.items ≤ length spare
+  pub buffers : All (IsLong site) spare
+
+-- a step through a node that is met in a tree
+pub record IsMetStep {K : Type 0} (tree : Tree K) (root : ℕ) (step : Step) : Type 0 where
+  pub met : IsMet tree root step.at
+  pub node : tree.look step.at ≡ Ok step.block.items
+
+-- the first step of a way
+abbrev pub bottom : List Step → Step → Step
+bottom [] last = last
+bottom (step ∷ steps) last = step
+
+-- a way through nodes of a tree, from its root on
+pub record IsIn {K : Type 0} (tree : Tree K) (root : ℕ) (above : List Step) (last : Step) : Type 0 where
+  pub hold : All (IsMetStep tree root) above
+  pub hold_last : IsMetStep tree root last
+  pub base : tree.look (root_place root) ≡ Ok (bottom above last).block.items

@@ -1,0 +1,14 @@
+//! Walks over any tree: the flat list of its entries, a place in it, and its Line with order and counts.
+#![tactic(auto)]
+
+mod cursor;
+mod fault;
+mod namer;
+mod node;
+mod start;
+mod walk;
+mod way;
+
+pub use cursor::Cursor;
+pub use fault::WalkFault;
+pub use namer::{Namer, Physical};
