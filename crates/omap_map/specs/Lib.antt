@@ -1,0 +1,5 @@
+pub mod Fields
+pub mod Records
+pub mod Resolve
+pub mod Features
+pub mod Maps
