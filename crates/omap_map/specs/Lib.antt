@@ -1,5 +1,6 @@
 pub mod Fields
 pub mod Records
 pub mod Resolve
+pub mod Search
 pub mod Features
 pub mod Maps

@@ -2,7 +2,11 @@
 #![tactic(auto)]
 
 mod fault;
+mod namer;
+mod omap;
 mod records;
 
 pub use fault::OmapFault;
+pub use namer::At;
+pub use omap::Omap;
 pub use records::{OmapRecord, Place};

@@ -1,4 +1,6 @@
 // The records of an object map, and the places that they give.
+ghost use Rattle.std.specs.Prelude.{◌≡◌, ◌≤◌, length, true, false};
+ghost use Rattle.std.specs.List.Sorted.{IsPartitionPoint};
 
 /// A record of an object map: where an object lies from a transaction on (Object Maps, `omap_key_t` and `omap_val_t`).
 #[derive(Clone, Copy, PartialEq, Eq, Debug)]
@@ -22,4 +24,29 @@ pub struct Place {
     pub flags: u32,
     /// The object's size in bytes.
     pub size: u32,
+}
+
+// The flag of a mapping whose object was deleted (Object Maps, Object Map Value Flags).
+const DELETED: u32 = 1;
+
+impl OmapRecord {
+    ghost use Rattle.omap_map.specs.Records.{is_deleted};
+    ghost use Rattle.omap_map.specs.Resolve.{place_of};
+
+    pub(crate) fn is_deleted(&self) -> bool
+        ensures { result ≡ is_deleted self.now.flags }
+    {
+        self.flags & DELETED == DELETED
+    }
+
+    pub(crate) fn place(&self) -> Place
+        ensures { result ≡ place_of self.now }
+    {
+        Place {
+            block: self.paddr,
+            xid: self.xid,
+            flags: self.flags,
+            size: self.size,
+        }
+    }
 }

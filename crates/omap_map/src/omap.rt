@@ -1,0 +1,92 @@
+// An object map, and what its records resolve to.
+ghost use Rattle.std.specs.Prelude.{◌≡◌, ◌≤◌, length, true, false};
+ghost use Rattle.std.specs.List.Sorted.{IsPartitionPoint};
+ghost use Rattle.omap_map.specs.Records.{IsAscending};
+ghost use Rattle.omap_map.specs.Search.{is_by};
+ghost use Rattle.omap_map.specs.Resolve as spec;
+
+use crate::{OmapRecord, Place};
+use std::marker::Model;
+
+/// An object map that was loaded: its records in tree order, and its snapshots.
+#[derive(Drop)]
+pub struct Omap {
+    records: Vec<OmapRecord>,
+    snapshots: Vec<(u64, u32)>,
+    snap_count: u32,
+}
+
+impl Model for Omap {
+    ghost use Rattle.omap_map.specs.Records.{IsAscending};
+    ghost use Rattle.omap_map.specs.Maps.{Contents};
+
+    ghost Value = { Contents };
+
+    ghost view = { λ a. record { records = a.records.items; snapshots = a.snapshots.items; snap_count = a.snap_count } };
+
+    ghost invariant = { λ a. IsAscending a.records.items };
+}
+
+impl Omap {
+    /// The records, in tree order: by oid, then by transaction.
+    pub fn records(&self) -> &[OmapRecord]
+        ensures all { result.now ≡ self.now.records }
+        ensures ascending { IsAscending result.now }
+    {
+        &self.records
+    }
+
+    /// The snapshots that the map knows, each by its transaction and its flags, in tree order.
+    pub fn snapshots(&self) -> &[(u64, u32)]
+        ensures { result.now ≡ self.now.snapshots }
+    {
+        &self.snapshots
+    }
+
+    /// The number of snapshots that the map counts (Object Maps, `om_snap_count`).
+    pub fn snap_count(&self) -> u32
+        ensures { result ≡ self.now.snap_count }
+    {
+        self.snap_count
+    }
+
+    // How many records don't come after an id and a transaction.
+    fn count_by(&self, oid: u64, xid: u64) -> usize
+        ensures bound { result ≤ length self.now.records }
+        ensures split { IsPartitionPoint (λ r. is_by oid xid r ≡ true) (λ r. is_by oid xid r ≡ false) self.now.records result }
+    {
+        self.records.as_slice().partition_point(
+            |record: &OmapRecord| -> bool
+                ensures { result ≡ is_by oid xid record.now }
+            { record.oid < oid || (record.oid == oid && record.xid <= xid) },
+        )
+    }
+
+    // The record of an id of the greatest transaction of at most `xid`.
+    fn latest(&self, oid: u64, xid: u64) -> Option<OmapRecord>
+        ensures { result ≡ spec.latest self.now.records oid xid }
+    {
+        let by = self.count_by(oid, xid);
+        if by == 0 {
+            return None;
+        }
+        let last = self.records[by - 1];
+        if last.oid != oid {
+            return None;
+        }
+        Some(last)
+    }
+
+    /// Where `oid` lies at transaction `xid`: by the record of the greatest transaction of at most `xid` among those of
+    /// `oid`. None where there is no such record, or where it is marked deleted.
+    #[tactic(auto, unfolding(crate::specs::Resolve::resolve, crate::specs::Resolve::resolved))]
+    pub fn resolve(&self, oid: u64, xid: u64) -> Option<Place>
+        ensures { result ≡ spec.resolve self.now.records oid xid }
+    {
+        let record = self.latest(oid, xid)?;
+        if record.is_deleted() {
+            return None;
+        }
+        Some(record.place())
+    }
+}
