@@ -4,3 +4,7 @@ pub mod Ways
 pub mod Lines
 pub mod Fuels
 pub mod Flats
+pub mod Steps
+pub mod Orders
+pub mod Gone
+pub mod Passings

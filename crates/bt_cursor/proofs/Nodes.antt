@@ -88,3 +88,7 @@ gap_fault tree root at (Found Counts) met of told = of
 gap_fault tree root at (Unsupported feature block) met of told = record { at = at; met = met; gap = told }
 gap_fault tree root at ReadFault met of told = tt
 gap_fault tree root at NoMemory met of told = tt
+
+-- a root tells of its tree
+pub root_told : {K : Type 0} (shape : Shape K) (site : Site) (step : Step) → IsStep shape site step → step.at.root ≡ true → is_root step.block.items ≡ true
+root_told shape site step sound root = (node_means shape step.at site step.block.items sound.node).root_right ∙ root

@@ -41,10 +41,13 @@ passed_child shape way = child_place (level_of way.last.block.items - 1) (passed
 abbrev pub line_under : {K : Type 0} → Tree K → ℕ → Pair → List Item
 line_under tree level pair = through (node_at tree (child_place level pair)) (λ node. flat_map (line_part tree level) (pairs_of tree.shape node))
 
--- what is left, where the child of the entry passed last may be still to come
+-- what is left from an entry of a node on, where the child of the entry before may be still to come
+abbrev pub ahead_at : {K : Type 0} → Tree K → Bool → List ℕ → ℕ → List Step → List Item
+ahead_at tree true node next above = line_under tree (level_of node - 1) (pair_of tree.shape node (next - 1)) ++ (line_from tree node next ++ rest tree above)
+ahead_at tree false node next above = line_from tree node next ++ rest tree above
+
 abbrev pub ahead_if : {K : Type 0} → Tree K → Bool → Way → List Item
-ahead_if tree true way = line_under tree (level_of way.last.block.items - 1) (passed_pair tree.shape way) ++ ahead tree way
-ahead_if tree false way = ahead tree way
+ahead_if tree deep way = ahead_at tree deep way.last.block.items way.last.next way.above.items
 
 -- the entries of leaves that are left
 abbrev pub pairs_ahead : {K : Type 0} → Tree K → Way → List Pair

@@ -12,3 +12,5 @@ pub mod Ahead
 pub mod Fuel
 pub mod Seen
 pub mod Cursors
+pub mod Advance
+pub mod Liners

@@ -3,12 +3,15 @@
 
 mod cursor;
 mod fault;
+mod liner;
 mod namer;
 mod node;
+mod seen;
 mod start;
 mod walk;
 mod way;
 
 pub use cursor::Cursor;
 pub use fault::WalkFault;
+pub use liner::{LineItem, Liner};
 pub use namer::{Namer, Physical};

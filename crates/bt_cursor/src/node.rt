@@ -4,7 +4,7 @@ ghost use Rattle.apfs_model.specs.Counts.{Rose};
 ghost use Rattle.apfs_model.specs.Source.{IsKept};
 ghost use Rattle.obj_base.specs.declared.stop.Stop.TheVariants.{ReadFault, NoMemory};
 ghost use Rattle.obj_base.specs.Stops.{Gives};
-ghost use Rattle.bt_node.specs.Node.{level_of, count_of};
+ghost use Rattle.bt_node.specs.Node.{level_of, count_of, key_count_of, node_count_of};
 ghost use Rattle.obj_base.specs.BlockSize.{is_accepted};
 ghost use Rattle.bt_node.specs.Soundness.{node_of, IsNode};
 ghost use Rattle.bt_node.specs.Entries.{child_of, pair_of};
@@ -18,7 +18,7 @@ use crate::fault::WalkFault;
 use crate::namer::Namer;
 use crate::way::Step;
 use blk_source::BlockSource;
-use bt_node::{Entry, NodeAt, NodeView, Site, TreeKey};
+use bt_node::{Entry, NodeAt, NodeView, RootInfo, Site, TreeKey};
 use obj_base::{Bad, Stop};
 
 // The node of a step.
@@ -131,4 +131,15 @@ pub(crate) fn lend<'a, K: TreeKey>(step: &'a Step, site: &Site, i: usize) -> Ent
     ensures key { K.shape.read result.key_bytes.now ≡ Some result.key }
 {
     view::<K>(step, site).entry(i)
+}
+
+/// What a root tells of its tree.
+#[tactic(auto, using(crate::proofs::Nodes::root_told))]
+pub(crate) fn info<K: TreeKey>(step: &Step, site: &Site) -> RootInfo
+    requires step { IsStep K.shape site.now step.now }
+    requires root { step.now.at.root ≡ true }
+    ensures keys { result.key_count ≡ key_count_of step.now.block.items }
+    ensures nodes { result.node_count ≡ node_count_of step.now.block.items }
+{
+    view::<K>(step, site).info().unwrap()
 }

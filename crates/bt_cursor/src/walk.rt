@@ -1,5 +1,5 @@
 // Steps over a tree, up and down.
-ghost use Rattle.std.specs.Prelude.{◌≡◌, ℕ, ◌+◌, ◌-◌, ◌*◌, ◌<◌, ◌≤◌, List, [], ◌∷◌, ◌++◌, length, Some, OnOk, OnErr, IfOk, IfErr, IsErrOf, IsTrue, IsFalse, IsOk};
+ghost use Rattle.std.specs.Prelude.{◌≡◌, ℕ, ◌+◌, ◌-◌, ◌*◌, ◌<◌, ◌≤◌, List, [], ◌∷◌, ◌++◌, length, Some, OnOk, OnErr, IfOk, IfErr, IsErrOf, IsTrue, IsFalse};
 ghost use Rattle.apfs_model.specs.Counts.{Rose};
 ghost use Rattle.apfs_model.specs.Source.{IsKept};
 ghost use Rattle.obj_base.specs.declared.stop.Stop.TheVariants.{ReadFault, NoMemory};
@@ -13,6 +13,7 @@ ghost use Rattle.bt_cursor.specs.Stack.{IsWay, IsIn};
 ghost use Rattle.bt_cursor.specs.Ahead.{items_of, ahead, ahead_if, pairs_ahead, passed_child, IsDeep, MovesWay, StandsIf};
 ghost use Rattle.bt_cursor.specs.Fuel.{weight, fuel_way, fuel_if};
 ghost use Rattle.bt_cursor.specs.Seen.{reads_for};
+ghost use Rattle.bt_cursor.specs.Advance.{Entered};
 
 use crate::fault::WalkFault;
 use crate::namer::Namer;
@@ -206,7 +207,7 @@ pub(crate) fn fall<K: TreeKey, S: BlockSource, N: Namer>(
     requires deep { IsTrue deep → IsDeep way.old }
     ensures way { IsWay K.shape site.now way.new.above.items way.new.last way.new.spare.items }
     ensures same { (image : List ℕ) → S.bytes src.old ≡ Some image → OnOk result (ahead (tree_in K.shape site.now (N.named namer.now) image) way.new ≡ ahead_if (tree_in K.shape site.now (N.named namer.now) image) deep way.old) }
-    ensures entered { (image : List ℕ) → S.bytes src.old ≡ Some image → OnOk result (IsTrue deep → IsOk (look_in K.shape site.now (N.named namer.now) image (passed_child K.shape way.old))) }
+    ensures entered { (image : List ℕ) → S.bytes src.old ≡ Some image → OnOk result (Entered (tree_in K.shape site.now (N.named namer.now) image) deep (passed_child K.shape way.old)) }
     ensures fuel { OnOk result (fuel_way way.new ≤ fuel_if deep way.old) }
     ensures back { OnErr result (IsTrue deep → IsDeep way.new) }
     ensures within { (image : List ℕ) → S.bytes src.old ≡ Some image → (root : ℕ) → IsIn (tree_in K.shape site.now (N.named namer.now) image) root way.old.above.items way.old.last → IsIn (tree_in K.shape site.now (N.named namer.now) image) root way.new.above.items way.new.last }

@@ -1,0 +1,46 @@
+-- What a liner has passed.
+use Rattle.std.proofs.Common.{◌≡◌, ℕ, ◌+◌, ◌-◌, Bool, true, false, List, [], ◌∷◌, ◌++◌, Some, Ok, ap, sym, ◌∙◌, subst}
+use Rattle.obj_base.specs.Stops.{Tells}
+use Rattle.obj_base.specs.declared.stop.Stop.{Stop}
+use Rattle.obj_base.specs.declared.stop.Stop.TheVariants.{Found, Unsupported, ReadFault, NoMemory}
+use Rattle.bt_node.specs.declared.key.TreeKey as keys
+use Rattle.bt_node.specs.declared.node.NodeAt.{NodeAt}
+use Rattle.bt_cursor.specs.declared.fault.WalkFault.{WalkFault}
+use Rattle.bt_cursor.specs.declared.fault.WalkFault.TheVariants.{Unsound, Unnamed, Order, Counts}
+use Rattle.bt_cursor.specs.declared.liner.Liner.{Liner}
+use Rattle.bt_cursor.specs.declared.namer.Namer as namers
+use Rattle.bt_cursor.specs.declared.seen.Seen.{Seen}
+use Rattle.bt_cursor.specs.Tree.{Tree}
+use Rattle.bt_cursor.specs.Line.{Item}
+use Rattle.bt_cursor.specs.Faults.{IsWalkFault, HasFeature}
+use Rattle.bt_cursor.specs.Stack.{IsIn}
+use Rattle.bt_cursor.specs.Ahead.{passed_child}
+use Rattle.bt_cursor.specs.Advance.{Entered, Advances, StopsFor, HasGone}
+use Rattle.bt_cursor.specs.Liners.{root_of, tree_of, left_of, item_of, HasItemIf, HasPassed, Passes}
+use Rattle.bt_cursor.proofs.Gone.{gone-more, gone-order, gone-end, gone-counts}
+
+-- a step that went on, or ended
+pub passes-on : {K N : Type 0} {k : keys.Ghosts K} {n : namers.Ghosts N} (image : List ℕ) (passed : List Item) (old new : Liner K N k n) (more : Bool) → tree_of new ≡ tree_of old → root_of new ≡ root_of old → HasPassed image passed old →
+    Advances k.shape old.seen new.seen (left_of old image) (left_of new image) (item_of new) more → Entered (tree_of old image) old.deep (passed_child k.shape old.way) → IsIn (tree_of old image) (root_of old) new.way.above.items new.way.last → HasItemIf new more →
+    Passes image passed old new more
+passes-on {k = k} image passed old new true tree root has moved entered within item =
+    let same : tree_of new image ≡ tree_of old image = ap (λ f. f image) tree in
+    let more = gone-more (tree_of old image) (root_of old) passed (left_of old image) (left_of new image) (item_of new) old.seen new.seen old.deep new.deep (passed_child k.shape old.way) has.gone moved.0 moved.1.0 moved.1.1 entered item.1 in
+    record {
+      within = subst (λ r. IsIn (tree_of new image) r new.way.above.items new.way.last) (sym root) (subst (λ t. IsIn t (root_of old) new.way.above.items new.way.last) (sym same) within);
+      gone = subst (λ r. HasGone (tree_of new image) r (passed ++ item_of new ∷ []) (left_of new image) new.seen new.deep (passed_child k.shape new.way)) (sym root)
+          (subst (λ t. HasGone t (root_of old) (passed ++ item_of new ∷ []) (left_of new image) new.seen new.deep (passed_child k.shape new.way)) (sym same) more);
+    }
+passes-on {k = k} image passed old new false tree root has moved entered within item =
+    gone-end (tree_of old image) (root_of old) passed (left_of old image) old.seen old.deep (passed_child k.shape old.way) has.gone moved.0 moved.1 entered
+
+-- a step that stopped
+pub stops-for : {K : Type 0} (tree : Tree K) (root : ℕ) (passed left : List Item) (seen : Seen) (deep : Bool) (child : NodeAt) (stop : Stop WalkFault) → HasGone tree root passed left seen deep child →
+    Tells (StopsFor tree root deep child seen left) (HasFeature tree root) stop → Tells (IsWalkFault tree root) (HasFeature tree root) stop
+stops-for tree root passed left seen deep child (Found (Unsound block why)) gone told = told
+stops-for tree root passed left seen deep child (Found (Unnamed oid)) gone told = told
+stops-for tree root passed left seen deep child (Found (Order item)) gone told = gone-order tree root passed left seen deep child item gone told.0 told.1
+stops-for tree root passed left seen deep child (Found Counts) gone told = gone-counts tree root passed left seen deep child gone told.none told.wrong told.entered
+stops-for tree root passed left seen deep child (Unsupported feature block) gone told = told
+stops-for tree root passed left seen deep child ReadFault gone told = tt
+stops-for tree root passed left seen deep child NoMemory gone told = tt

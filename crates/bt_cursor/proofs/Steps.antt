@@ -1,0 +1,52 @@
+-- One item of a Line.
+use Rattle.std.proofs.Common.{◌≡◌, ℕ, suc, ◌+◌, ◌-◌, ◌<◌, nat_lt, Bool, true, false, List, [], ◌∷◌, ◌++◌, Some, None, Option, cond, refl, ap, sym, ◌∙◌, subst, append_assoc, arith, ◌&&◌, ◌||◌}
+use Rattle.std.proofs.lemmas.Bool.Decides.{nat_tests}
+use Rattle.apfs_model.specs.Lists.{passes}
+use Rattle.bt_node.specs.Shape.{Shape}
+use Rattle.bt_node.specs.Node.{level_of, count_of}
+use Rattle.bt_node.specs.Entries.{Pair, pair_of}
+use Rattle.bt_cursor.specs.Tree.{Tree}
+use Rattle.bt_cursor.specs.Line.{Item, item_at, is_leaf_item}
+use Rattle.bt_cursor.specs.Order.{rank_or_least}
+use Rattle.bt_cursor.specs.Ahead.{line_from, line_under, rest, ahead_at}
+use Rattle.bt_cursor.specs.Seen.{falls_below, is_again, is_out, seen_more, seen_item, seen_key, seen_next}
+use Rattle.bt_cursor.specs.declared.seen.Seen.{Seen}
+use Rattle.bt_cursor.specs.declared.way.Step.{Step}
+use Rattle.bt_cursor.proofs.Lines.{line_from-leaf, line_from-inner}
+
+seen-if : (b : Bool) (this new : Seen) → cond b None (Some this) ≡ Some new → (b ≡ false) × (new ≡ this)
+seen-if true this new e = absurd (cc)
+seen-if false this new e = (refl, cc)
+
+none-if : (b : Bool) (this : Seen) → cond b None (Some this) ≡ None → b ≡ true
+none-if true this e = refl
+none-if false this e = absurd (cc)
+
+-- the next item, and what is left after it
+pub line-step : {K : Type 0} (tree : Tree K) (node : List ℕ) (i : ℕ) (above : List Step) (deep : Bool) → i < count_of node → deep ≡ nat_lt 0 (level_of node) →
+    line_from tree node i ++ rest tree above ≡ item_at (level_of node) (pair_of tree.shape node (i + 1 - 1)) ∷ ahead_at tree deep node (i + 1) above
+line-step tree node i above true low upper =
+    let high : level_of node ≡ suc (level_of node - 1) = grind (arith, nat_tests) in
+    let back : i ≡ i + 1 - 1 = omega arith in
+    let part : ℕ → List Item = λ k. line_under tree (level_of node - 1) (pair_of tree.shape node k) in
+    ap (λ xs. xs ++ rest tree above) (line_from-inner tree node i (level_of node - 1) low high)
+    ∙ (ap (λ xs. item_at (level_of node) (pair_of tree.shape node i) ∷ xs) (append_assoc (part i) (line_from tree node (i + 1)) (rest tree above))
+    ∙ ap (λ k. item_at (level_of node) (pair_of tree.shape node k) ∷ (part k ++ (line_from tree node (i + 1) ++ rest tree above))) back)
+line-step tree node i above false low upper =
+    let leaf : level_of node ≡ 0 = grind (arith, nat_tests) in
+    let back : i ≡ i + 1 - 1 = omega arith in
+    ap (λ xs. xs ++ rest tree above) (line_from-leaf tree node i low leaf)
+    ∙ ap (λ k. item_at (level_of node) (pair_of tree.shape node k) ∷ (line_from tree node (i + 1) ++ rest tree above)) back
+
+-- a key that was read stands for its bytes
+pub next_read : {K : Type 0} (shape : Shape K) (seen : Seen) (level : ℕ) (pair : Pair) (key : K) → shape.read pair.key ≡ Some key → seen_key shape seen level key ≡ seen_next shape seen (item_at level pair)
+next_read {K = K} shape seen level pair key read =
+    let f : Option K → Option Seen = λ o. cond (falls_below (rank_or_least shape o) seen.before || ((is_leaf_item (item_at level pair) && passes o shape.strict) && is_again (rank_or_least shape o) seen.leaf)) None (Some (seen_more seen level (rank_or_least shape o))) in
+    ap f (sym read)
+
+-- an item that was seen was in order, and one that wasn't was out of order
+pub seen_some : {K : Type 0} (shape : Shape K) (seen new : Seen) (item : Item) → seen_next shape seen item ≡ Some new → (is_out shape seen item ≡ false) × (new ≡ seen_item shape seen item)
+seen_some shape seen new item e = seen-if (is_out shape seen item) (seen_item shape seen item) new e
+
+pub seen_none : {K : Type 0} (shape : Shape K) (seen : Seen) (item : Item) → seen_next shape seen item ≡ None → is_out shape seen item ≡ true
+seen_none shape seen item e = none-if (is_out shape seen item) (seen_item shape seen item) e

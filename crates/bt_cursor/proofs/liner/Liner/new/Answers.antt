@@ -1,0 +1,22 @@
+use Rattle.std.proofs.Common.{◌≡◌, ap, sym, ◌∙◌}
+use Rattle.bt_node.specs.Node.{key_count_of, node_count_of}
+use Rattle.bt_cursor.specs.Tree.{tree_in}
+use Rattle.bt_cursor.specs.Ahead.{line_from, rest, passed_child}
+use Rattle.bt_cursor.specs.Seen.{seen_start}
+use Rattle.bt_cursor.proofs.Flats.{line-start}
+use Rattle.bt_cursor.proofs.Gone.{gone-start}
+use Rattle.bt_cursor.proofs.Ways.{IsIn-start}
+use Rattle.bt_cursor.proofs.liner.Liner.new.Goals as goal
+
+pub returns-clause-passed : goal.returns-clause-passed
+returns-clause-passed g c image told =
+    let tree = tree_in g.K.TreeKey.shape c.args.site (g.N.Namer.named c.args.namer) image in
+    let way = c.in_ok-way.way in
+    let at = c.in_ok-way.ensures in
+    let node = way.last.block.items in
+    let found = at.found image told in
+    record {
+      within = IsIn-start tree c.args.root way.above.items way.last at.start.above at.at found;
+      gone = gone-start tree c.args.root node _ c.begin-seen.result _ found (sym (line-start tree c.args.root way.above.items way.last at.start.above at.start.next found))
+          (c.begin-seen.ensures ∙ (ap (λ n. seen_start n c.info.result.node_count) c.info.ensures.keys ∙ ap (seen_start (key_count_of node)) c.info.ensures.nodes));
+    }

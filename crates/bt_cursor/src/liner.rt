@@ -1,0 +1,165 @@
+// The Line of a tree, with its order and counts.
+ghost use Rattle.std.specs.Prelude.{◌≡◌, true};
+ghost use Rattle.bt_cursor.specs.Stack.{IsWay};
+ghost use Rattle.bt_cursor.specs.Ahead.{IsDeep};
+
+use crate::fault::WalkFault;
+use crate::namer::Namer;
+use crate::node::{info, lend, level};
+use crate::seen::{Seen, begin, fits, see_next};
+use crate::start::start;
+use crate::walk::{climb, fall};
+use crate::way::Way;
+use blk_source::BlockSource;
+use bt_node::{Entry, Site, TreeKey};
+use obj_base::Stop;
+use std::alloc::Global;
+use std::marker::PhantomData;
+
+/// A walk over the Line of a tree: each entry before those of its child. It tests the order of the items and at the
+/// end the root's numbers of keys and of nodes. It holds no source: each call that reads is handed the source from
+/// which it was made.
+#[derive(Drop)]
+pub struct Liner<K: TreeKey, N: Namer> {
+    namer: N,
+    site: Site,
+    root: u64,
+    way: Way,
+    deep: bool,
+    seen: Seen,
+    kind: PhantomData<K>,
+    ghost sound: { IsWay K.shape site way.above.items way.last way.spare.items },
+    ghost deep_in: { deep ≡ true → IsDeep way },
+}
+
+/// An item of the Line: an entry, and how far its node stands above the leaves.
+#[derive(Drop)]
+pub struct LineItem<'a, K: TreeKey> {
+    pub level: u16,
+    pub pair: Entry<'a, K>,
+}
+
+impl<K: TreeKey, N: Namer> Liner<K, N> {
+    ghost use Rattle.std.specs.Prelude.{◌≡◌, ℕ, ◌+◌, ◌-◌, ◌<◌, ◌≤◌, nat_lt, false, List, [], Some, option_map, OnOk, IfOk, IfErr, IsErrOf, IsTrue};
+    ghost use Rattle.apfs_model.specs.Counts.{Rose};
+    ghost use Rattle.apfs_model.specs.Source.{IsKept};
+    ghost use Rattle.obj_base.specs.declared.stop.Stop.TheVariants.{ReadFault, NoMemory};
+    ghost use Rattle.obj_base.specs.Stops.{Tells};
+    ghost use Rattle.bt_node.specs.Site.{IsSiteFor};
+    ghost use Rattle.bt_cursor.specs.Tree.{tree_in};
+    ghost use Rattle.bt_cursor.specs.Line.{Item};
+    ghost use Rattle.bt_cursor.specs.Faults.{IsOfNodes, IsNodeFault, IsWalkFault, HasFeature};
+    ghost use Rattle.bt_cursor.specs.Stack.{IsIn};
+    ghost use Rattle.bt_cursor.specs.Ahead.{passed_child};
+    ghost use Rattle.bt_cursor.specs.Seen.{reads_for};
+    ghost use Rattle.bt_cursor.specs.Advance.{Advances, Entered, StopsFor};
+    ghost use Rattle.bt_cursor.specs.Liners.{site_of, root_of, tree_of, left_of, item_of, is_deep, fuel_of, HasItem, HasItemIf, HasPassed, Passes};
+
+    /// Reads the root, whose id is `root`, and stands before the first item. Takes all its buffers here.
+    pub fn new<S: BlockSource>(
+        alloc: Global,
+        src: &mut S,
+        namer: N,
+        root: u64,
+        site: Site,
+    ) -> Result<Liner<K, N>, Stop<WalkFault>>
+        requires site { IsSiteFor site (S.bytes_len src.old) }
+        ensures site { IfOk result (λ liner. site_of liner ≡ site) }
+        ensures root { IfOk result (λ liner. root_of liner ≡ root) }
+        ensures tree { IfOk result (λ liner. tree_of liner ≡ tree_in K.shape site (N.named namer)) }
+        ensures deep { IfOk result (λ liner. is_deep liner ≡ false) }
+        ensures passed { (image : List ℕ) → S.bytes src.old ≡ Some image → IfOk result (HasPassed image []) }
+        ensures present { (image : List ℕ) → S.bytes src.old ≡ Some image → IfErr result (Tells (IsNodeFault (tree_in K.shape site (N.named namer) image) root) (HasFeature (tree_in K.shape site (N.named namer) image) root)) }
+        ensures nodes { IfErr result IsOfNodes }
+        ensures reads { S.reads src.new ≤ S.reads src.old + 1 }
+        ensures cause { IsErrOf result ReadFault → Rose (S.faults src.old) (S.faults src.new) }
+        ensures kept { IsKept S.bytes S.bytes_len S.faults src.old src.new }
+    {
+        let way = start::<K, S, N>(alloc, src, &namer, &site, root)?;
+        let seen = begin(info::<K>(&way.last, &site));
+        Ok(Liner {
+            namer,
+            site,
+            root,
+            way,
+            deep: false,
+            seen,
+            kind: PhantomData,
+        })
+    }
+
+    // Moves onto the next item, by what was seen so far.
+    #[tactic(auto, using(crate::proofs::Nodes::step_few))]
+    fn step<S: BlockSource>(&mut self, src: &mut S) -> Result<bool, Stop<WalkFault>>
+        requires site { IsSiteFor (site_of self.old) (S.bytes_len src.old) }
+        ensures site { site_of self.new ≡ site_of self.old }
+        ensures root { root_of self.new ≡ root_of self.old }
+        ensures tree { tree_of self.new ≡ tree_of self.old }
+        ensures moved { (image : List ℕ) → S.bytes src.old ≡ Some image → IfOk result (Advances K.shape self.old.seen self.new.seen (left_of self.old image) (left_of self.new image) (item_of self.new)) }
+        ensures entered { (image : List ℕ) → S.bytes src.old ≡ Some image → OnOk result (Entered (tree_of self.old image) self.old.deep (passed_child K.shape self.old.way)) }
+        ensures stands { IfOk result (HasItemIf self.new) }
+        ensures within { (image : List ℕ) → S.bytes src.old ≡ Some image → IsIn (tree_of self.old image) (root_of self.old) self.old.way.above.items self.old.way.last → IsIn (tree_of self.old image) (root_of self.old) self.new.way.above.items self.new.way.last }
+        ensures present { (image : List ℕ) → S.bytes src.old ≡ Some image → IsIn (tree_of self.old image) (root_of self.old) self.old.way.above.items self.old.way.last → IfErr result (Tells (StopsFor (tree_of self.old image) (root_of self.old) self.old.deep (passed_child K.shape self.old.way) self.old.seen (left_of self.old image)) (HasFeature (tree_of self.old image) (root_of self.old))) }
+        ensures reads { S.reads src.new ≤ S.reads src.old + reads_for (is_deep self.old) }
+        ensures fuel { IfOk result (λ more. IsTrue more → fuel_of self.new < fuel_of self.old) }
+        ensures cause { IsErrOf result ReadFault → Rose (S.faults src.old) (S.faults src.new) }
+        ensures memory { IsErrOf result NoMemory → ⊥ }
+        ensures kept { IsKept S.bytes S.bytes_len S.faults src.old src.new }
+    {
+        fall::<K, S, N>(src, &self.namer, &self.site, &mut self.way, self.deep)?;
+        self.deep = false;
+        if !climb::<K>(&self.site, &mut self.way) {
+            if fits(self.seen) {
+                return Ok(false);
+            }
+            return Err(Stop::Found(WalkFault::Counts));
+        }
+        let Some(seen) = see_next::<K>(&self.way.last, &self.site, self.seen) else {
+            return Err(Stop::Found(WalkFault::Order {
+                item: self.seen.number,
+            }));
+        };
+        let high = level::<K>(&self.way.last, &self.site);
+        self.seen = seen;
+        self.way.last.next += 1;
+        self.deep = 0 < high;
+        Ok(true)
+    }
+
+    /// Moves onto the next item of the Line; false at the end of a whole tree. Takes no memory. After an error no
+    /// further call of it means anything.
+    pub fn next<S: BlockSource>(&mut self, src: &mut S) -> Result<bool, Stop<WalkFault>>
+        requires site { IsSiteFor (site_of self.old) (S.bytes_len src.old) }
+        ensures site { site_of self.new ≡ site_of self.old }
+        ensures root { root_of self.new ≡ root_of self.old }
+        ensures tree { tree_of self.new ≡ tree_of self.old }
+        ensures passed { (image : List ℕ) → S.bytes src.old ≡ Some image → (passed : List Item) → HasPassed image passed self.old → IfOk result (Passes image passed self.old self.new) }
+        ensures present { (image : List ℕ) → S.bytes src.old ≡ Some image → (passed : List Item) → HasPassed image passed self.old → IfErr result (Tells (IsWalkFault (tree_of self.old image) (root_of self.old)) (HasFeature (tree_of self.old image) (root_of self.old))) }
+        ensures stands { IfOk result (HasItemIf self.new) }
+        ensures reads { S.reads src.new ≤ S.reads src.old + reads_for (is_deep self.old) }
+        ensures fuel { IfOk result (λ more. IsTrue more → fuel_of self.new < fuel_of self.old) }
+        ensures cause { IsErrOf result ReadFault → Rose (S.faults src.old) (S.faults src.new) }
+        ensures memory { IsErrOf result NoMemory → ⊥ }
+        ensures kept { IsKept S.bytes S.bytes_len S.faults src.old src.new }
+    {
+        match self.step(src) {
+            Ok(more) => Ok(more),
+            Err(stop) => Err(stop),
+        }
+    }
+
+    /// The item onto which the last call of `next` moved, lent from its block.
+    #[tactic(auto, using(crate::proofs::Ways::hold_inside))]
+    pub fn item(&self) -> LineItem<'_, K>
+        requires { HasItem self.now }
+        ensures level { result.level ≡ (item_of self.now).level }
+        ensures key_bytes { result.pair.key_bytes.now ≡ (item_of self.now).pair.key }
+        ensures value { option_map (λ value. value.now) result.pair.value ≡ (item_of self.now).pair.value }
+        ensures key { K.shape.read result.pair.key_bytes.now ≡ Some result.pair.key }
+    {
+        LineItem {
+            level: level::<K>(&self.way.last, &self.site),
+            pair: lend::<K>(&self.way.last, &self.site, self.way.last.next - 1),
+        }
+    }
+}

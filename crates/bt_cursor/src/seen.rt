@@ -1,0 +1,141 @@
+// What a walk over a Line has seen.
+ghost use Rattle.std.specs.Prelude.{◌≡◌, ◌<◌, Option};
+ghost use Rattle.bt_node.specs.Node.{level_of, count_of};
+ghost use Rattle.bt_node.specs.Entries.{pair_of};
+ghost use Rattle.bt_cursor.specs.Line.{item_at};
+ghost use Rattle.bt_cursor.specs.Stack.{IsStep};
+ghost use Rattle.bt_cursor.specs.Seen as spec;
+
+use crate::node::{lend, level};
+use crate::way::Step;
+use bt_node::{Rank, RootInfo, Site, TreeKey};
+
+/// How many are still to come, and whether more came than were to come.
+#[derive(Clone, Copy, PartialEq, Eq, Debug)]
+pub(crate) struct Tally {
+    pub left: u64,
+    pub over: bool,
+}
+
+/// The rank of the last item and of the last one of level 0, how many items there were, and how many keys and nodes
+/// are still to come by the root's numbers.
+#[derive(Clone, Copy, PartialEq, Eq, Debug)]
+pub(crate) struct Seen {
+    pub before: Option<Rank>,
+    pub leaf: Option<Rank>,
+    pub number: u64,
+    pub keys: Tally,
+    pub nodes: Tally,
+}
+
+// The rank is below the last item's.
+fn falls(rank: &Rank, before: Option<Rank>) -> bool
+    ensures { result ≡ spec.falls_below rank.now before }
+{
+    match before {
+        None => false,
+        Some(before) => rank.is_below(&before),
+    }
+}
+
+// The rank is that of the last key of level 0.
+fn repeats(rank: &Rank, leaf: Option<Rank>) -> bool
+    ensures { result ≡ spec.is_again rank.now leaf }
+{
+    match leaf {
+        None => false,
+        Some(leaf) => rank.id == leaf.id && rank.kind == leaf.kind && rank.sub == leaf.sub,
+    }
+}
+
+// One fewer is to come.
+fn spend(tally: Tally) -> Tally
+    ensures { result ≡ spec.spend tally }
+{
+    if tally.left == 0 {
+        Tally {
+            left: 0,
+            over: true,
+        }
+    } else {
+        Tally {
+            left: tally.left - 1,
+            over: tally.over,
+        }
+    }
+}
+
+/// What is seen before the first item: of the nodes, the root.
+pub(crate) fn begin(info: RootInfo) -> Seen
+    ensures { result ≡ spec.seen_start info.key_count info.node_count }
+{
+    Seen {
+        before: None,
+        leaf: None,
+        number: 0,
+        keys: Tally {
+            left: info.key_count,
+            over: false,
+        },
+        nodes: spend(Tally {
+            left: info.node_count,
+            over: false,
+        }),
+    }
+}
+
+// What is seen after an item of a level and a rank.
+fn more(seen: Seen, level: u16, rank: Rank) -> Seen
+    ensures { result ≡ spec.seen_more seen level rank }
+{
+    let number = seen.number.saturating_add(1);
+    if level == 0 {
+        Seen {
+            before: Some(rank),
+            leaf: Some(rank),
+            number,
+            keys: spend(seen.keys),
+            nodes: seen.nodes,
+        }
+    } else {
+        Seen {
+            before: Some(rank),
+            leaf: seen.leaf,
+            number,
+            keys: seen.keys,
+            nodes: spend(seen.nodes),
+        }
+    }
+}
+
+// What is seen after an item, or None where it is out of order.
+fn see<K: TreeKey>(seen: Seen, level: u16, key: &K) -> Option<Seen>
+    ensures { result ≡ spec.seen_key K.shape seen level key.now }
+{
+    let rank = key.rank();
+    if falls(&rank, seen.before) {
+        return None;
+    }
+    if level == 0 && key.strict() && repeats(&rank, seen.leaf) {
+        return None;
+    }
+    Some(more(seen, level, rank))
+}
+
+/// What is seen after the next item of a step, or None where it is out of order.
+#[tactic(auto, using(crate::proofs::Steps::next_read))]
+pub(crate) fn see_next<K: TreeKey>(step: &Step, site: &Site, seen: Seen) -> Option<Seen>
+    requires step { IsStep K.shape site.now step.now }
+    requires inside { step.now.next < count_of step.now.block.items }
+    ensures { result ≡ spec.seen_next K.shape seen (item_at (level_of step.now.block.items) (pair_of K.shape step.now.block.items step.now.next)) }
+{
+    let entry = lend::<K>(step, site, step.next);
+    see::<K>(seen, level::<K>(step, site), &entry.key)
+}
+
+/// No key and no node is still to come, and none came that was not to come.
+pub(crate) fn fits(seen: Seen) -> bool
+    ensures { result ≡ spec.fits seen }
+{
+    !seen.keys.over && seen.keys.left == 0 && !seen.nodes.over && seen.nodes.left == 0
+}
