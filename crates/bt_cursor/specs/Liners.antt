@@ -1,9 +1,10 @@
 -- What a liner is at.
-use Rattle.std.specs.Prelude.{◌≡◌, ℕ, ◌<◌, nat_lt, Bool, true, false, List, [], ◌∷◌, ◌++◌}
+use Rattle.std.specs.Prelude.{◌≡◌, ℕ, ◌<◌, nat_lt, Bool, true, false, List, [], ◌∷◌, ◌++◌, None}
 use Rattle.bt_node.specs.declared.key.TreeKey as keys
 use Rattle.bt_node.specs.declared.node.Site.{Site}
 use Rattle.bt_cursor.specs.declared.namer.Namer as namers
 use Rattle.bt_cursor.specs.declared.liner.Liner.{Liner}
+use Rattle.bt_cursor.specs.declared.seen.Seen.{Seen}
 use Rattle.bt_cursor.specs.Tree.{Tree, tree_in}
 use Rattle.bt_cursor.specs.Line.{Item, line_of}
 use Rattle.bt_cursor.specs.Whole.{IsWhole}
@@ -11,6 +12,7 @@ use Rattle.bt_cursor.specs.Stack.{IsIn}
 use Rattle.bt_cursor.specs.Ahead.{ahead_if, passed_item, passed_child, HasPassedOne}
 use Rattle.bt_cursor.specs.Advance.{HasGone}
 use Rattle.bt_cursor.specs.Fuel.{fuel_if}
+use Rattle.bt_cursor.specs.Seen.{is_out, seen_item}
 
 -- the site by which it reads, and the id of its root
 abbrev pub site_of : {K N : Type 0} {k : keys.Ghosts K} {n : namers.Ghosts N} → Liner K N k n → Site
@@ -46,6 +48,20 @@ HasItem liner = HasPassedOne liner.way
 abbrev pub HasItemIf : {K N : Type 0} {k : keys.Ghosts K} {n : namers.Ghosts N} → Liner K N k n → Bool → Type 0
 HasItemIf liner true = HasPassedOne liner.way × (liner.deep ≡ nat_lt 0 (item_of liner).level)
 HasItemIf liner false = Unit {0}
+
+-- what it has seen, whether or not the image is told
+abbrev pub seen_of : {K N : Type 0} {k : keys.Ghosts K} {n : namers.Ghosts N} → Liner K N k n → Seen
+seen_of liner = liner.seen
+
+-- it has passed no item
+pub record HasSeenNone {K N : Type 0} {k : keys.Ghosts K} {n : namers.Ghosts N} (liner : Liner K N k n) : Type 0 where
+  pub before : (seen_of liner).before ≡ None
+  pub leaf : (seen_of liner).leaf ≡ None
+
+-- a move sees one more item, in order after those that it saw, whether or not the image is told
+abbrev pub Sees : {K N : Type 0} {k : keys.Ghosts K} {n : namers.Ghosts N} → Liner K N k n → Liner K N k n → Bool → Type 0
+Sees {k = k} old new true = (is_out k.shape (seen_of old) (item_of new) ≡ false) × (seen_of new ≡ seen_item k.shape (seen_of old) (item_of new))
+Sees old new false = Unit {0}
 
 -- it was made from a source with this image and has passed these items of its tree's Line, of which all were in order
 pub record HasPassed {K N : Type 0} {k : keys.Ghosts K} {n : namers.Ghosts N} (image : List ℕ) (passed : List Item) (liner : Liner K N k n) : Type 0 where

@@ -53,7 +53,7 @@ impl<K: TreeKey, N: Namer> Liner<K, N> {
     ghost use Rattle.bt_cursor.specs.Ahead.{passed_child};
     ghost use Rattle.bt_cursor.specs.Seen.{reads_for};
     ghost use Rattle.bt_cursor.specs.Advance.{Advances, Entered, StopsFor};
-    ghost use Rattle.bt_cursor.specs.Liners.{site_of, root_of, tree_of, left_of, item_of, is_deep, fuel_of, HasItem, HasItemIf, HasPassed, Passes};
+    ghost use Rattle.bt_cursor.specs.Liners.{site_of, root_of, tree_of, left_of, item_of, is_deep, fuel_of, HasItem, HasItemIf, HasSeenNone, Sees, HasPassed, Passes};
 
     /// Reads the root, whose id is `root`, and stands before the first item. Takes all its buffers here.
     pub fn new<S: BlockSource>(
@@ -68,6 +68,7 @@ impl<K: TreeKey, N: Namer> Liner<K, N> {
         ensures root { IfOk result (λ liner. root_of liner ≡ root) }
         ensures tree { IfOk result (λ liner. tree_of liner ≡ tree_in K.shape site (N.named namer)) }
         ensures deep { IfOk result (λ liner. is_deep liner ≡ false) }
+        ensures seen { IfOk result HasSeenNone }
         ensures passed { (image : List ℕ) → S.bytes src.old ≡ Some image → IfOk result (HasPassed image []) }
         ensures present { (image : List ℕ) → S.bytes src.old ≡ Some image → IfErr result (Tells (IsNodeFault (tree_in K.shape site (N.named namer) image) root) (HasFeature (tree_in K.shape site (N.named namer) image) root)) }
         ensures nodes { IfErr result IsOfNodes }
@@ -97,6 +98,7 @@ impl<K: TreeKey, N: Namer> Liner<K, N> {
         ensures tree { tree_of self.new ≡ tree_of self.old }
         ensures moved { (image : List ℕ) → S.bytes src.old ≡ Some image → IfOk result (Advances K.shape self.old.seen self.new.seen (left_of self.old image) (left_of self.new image) (item_of self.new)) }
         ensures entered { (image : List ℕ) → S.bytes src.old ≡ Some image → OnOk result (Entered (tree_of self.old image) self.old.deep (passed_child K.shape self.old.way)) }
+        ensures seen { IfOk result (Sees self.old self.new) }
         ensures stands { IfOk result (HasItemIf self.new) }
         ensures within { (image : List ℕ) → S.bytes src.old ≡ Some image → IsIn (tree_of self.old image) (root_of self.old) self.old.way.above.items self.old.way.last → IsIn (tree_of self.old image) (root_of self.old) self.new.way.above.items self.new.way.last }
         ensures present { (image : List ℕ) → S.bytes src.old ≡ Some image → IsIn (tree_of self.old image) (root_of self.old) self.old.way.above.items self.old.way.last → IfErr result (Tells (StopsFor (tree_of self.old image) (root_of self.old) self.old.deep (passed_child K.shape self.old.way) self.old.seen (left_of self.old image)) (HasFeature (tree_of self.old image) (root_of self.old))) }
@@ -135,6 +137,7 @@ impl<K: TreeKey, N: Namer> Liner<K, N> {
         ensures tree { tree_of self.new ≡ tree_of self.old }
         ensures passed { (image : List ℕ) → S.bytes src.old ≡ Some image → (passed : List Item) → HasPassed image passed self.old → IfOk result (Passes image passed self.old self.new) }
         ensures present { (image : List ℕ) → S.bytes src.old ≡ Some image → (passed : List Item) → HasPassed image passed self.old → IfErr result (Tells (IsWalkFault (tree_of self.old image) (root_of self.old)) (HasFeature (tree_of self.old image) (root_of self.old))) }
+        ensures seen { IfOk result (Sees self.old self.new) }
         ensures stands { IfOk result (HasItemIf self.new) }
         ensures reads { S.reads src.new ≤ S.reads src.old + reads_for (is_deep self.old) }
         ensures fuel { IfOk result (λ more. IsTrue more → fuel_of self.new < fuel_of self.old) }

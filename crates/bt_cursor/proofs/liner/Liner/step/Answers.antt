@@ -24,6 +24,16 @@ returns-clause-moved g c image told =
       subst (λ k. (is_out shape self.seen (item_at (level_of node) (pair_of shape node k)) ≡ false) × (c.in-Some.seen ≡ seen_item shape self.seen (item_at (level_of node) (pair_of shape node k)))) (sym back) both,
     )
 
+pub returns-clause-seen : goal.returns-clause-seen
+returns-clause-seen g c =
+    let shape = g.K.TreeKey.shape in
+    let self = c.args.self.now in
+    let last = c.climb.new.way.last in
+    let node = last.block.items in
+    let back : last.next + 1 - 1 ≡ last.next = omega arith in
+    let both = seen_some shape self.seen c.in-Some.seen (item_at (level_of node) (pair_of shape node last.next)) (sym c.in-Some.ensures) in
+    subst (λ k. (is_out shape self.seen (item_at (level_of node) (pair_of shape node k)) ≡ false) × (c.in-Some.seen ≡ seen_item shape self.seen (item_at (level_of node) (pair_of shape node k)))) (sym back) both
+
 pub returns-in_default-clause-present : goal.returns-in_default-clause-present
 returns-in_default-clause-present g c image told within =
     let shape = g.K.TreeKey.shape in
