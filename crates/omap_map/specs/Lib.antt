@@ -4,3 +4,4 @@ pub mod Resolve
 pub mod Search
 pub mod Features
 pub mod Maps
+pub mod Gathered

@@ -120,29 +120,34 @@ after_header block bytes (Err bad) = Err (of_header block bad)
 unfoldable pub object_of : List ℕ → Site → ℕ → Result (List ℕ) (Stop OmapFault)
 object_of image site block = after_header block (map_in image site block) (head_of image site block)
 
--- a fault of one of a map's trees is there
-abbrev pub IsTreeFault : List ℕ → Site → List ℕ → ℕ → WalkFault → Type 0
-IsTreeFault image site bytes root why =
-    ((root ≡ tree_of bytes) × IsWalkFault (record_tree image site) root why)
-    ⊎ ((root ≡ snap_tree_of bytes) × (has_no_snapshots bytes ≡ false) × IsWalkFault (snapshot_tree image site) root why)
+-- a fault of the tree of a root is there
+abbrev pub IsTreeFault : {K : Type 0} → Tree K → ℕ → OmapFault → Type 0
+IsTreeFault tree root (Head block why) = ⊥
+IsTreeFault tree root (TreeFault other why) = (other ≡ root) × IsWalkFault tree root why
 
--- a feature of a node of one of a map's trees is there
-abbrev pub IsTreeFeature : List ℕ → Site → List ℕ → Feature → ℕ → Type 0
-IsTreeFeature image site bytes feature block =
+-- a fault of one of the two trees of a map is there
+abbrev pub IsTreesFault : List ℕ → Site → List ℕ → OmapFault → Type 0
+IsTreesFault image site bytes fault =
+    IsTreeFault (record_tree image site) (tree_of bytes) fault
+    ⊎ ((has_no_snapshots bytes ≡ false) × IsTreeFault (snapshot_tree image site) (snap_tree_of bytes) fault)
+
+-- a feature of a node of one of the two trees of a map is there
+abbrev pub IsTreesFeature : List ℕ → Site → List ℕ → Feature → ℕ → Type 0
+IsTreesFeature image site bytes feature block =
     HasFeature (record_tree image site) (tree_of bytes) feature block
     ⊎ ((has_no_snapshots bytes ≡ false) × HasFeature (snapshot_tree image site) (snap_tree_of bytes) feature block)
 
 -- the fault of the map in a block is there: of its object, or of one of its trees
 abbrev pub IsMapFault : List ℕ → Site → ℕ → OmapFault → Type 0
 IsMapFault image site at (Head block why) = (block ≡ at) × (in_container site.blocks at ≡ Some at) × (head_of image site at ≡ Err (bads.Found why))
-IsMapFault image site at (TreeFault root why) = (is_map_object image site at ≡ true) × IsTreeFault image site (map_in image site at) root why
+IsMapFault image site at (TreeFault root why) = (is_map_object image site at ≡ true) × IsTreesFault image site (map_in image site at) (TreeFault root why)
 
 -- a feature of the map in a block is there: of its header, of its fields, or of a node of one of its trees
 abbrev pub IsMapFeature : List ℕ → Site → ℕ → Feature → ℕ → Type 0
 IsMapFeature image site at feature block =
     ((block ≡ at) × (in_container site.blocks at ≡ Some at) × (head_of image site at ≡ Err (bads.Unsupported feature)))
     ⊎ ((is_map_object image site at ≡ true)
-    × (((block ≡ at) × In feature (map_features (map_in image site at))) ⊎ IsTreeFeature image site (map_in image site at) feature block))
+    × (((block ≡ at) × In feature (map_features (map_in image site at))) ⊎ IsTreesFeature image site (map_in image site at) feature block))
 
 -- the map in a block is whole, no revert of it is pending, and this is what it has
 pub record IsLoaded (image : List ℕ) (site : Site) (block : ℕ) (contents : Contents) : Type 0 where

@@ -2,7 +2,9 @@
 #![tactic(auto)]
 
 mod fault;
+mod gather;
 mod namer;
+mod object;
 mod omap;
 mod records;
 
