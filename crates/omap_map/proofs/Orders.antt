@@ -14,6 +14,11 @@ use Rattle.bt_keys.specs.Shapes.{rank3, omap_shape}
 use Rattle.bt_keys.specs.Values.{omap_value_of}
 use Rattle.bt_keys.specs.declared.number_key.OmapKey.{OmapKey}
 use Rattle.bt_keys.specs.declared.values.OmapValue.{OmapValue}
+use Rattle.bt_keys.specs.contracts.number_key.OmapKeyTreeKey.TheImpl.{ghosts as omap_ghosts}
+use Rattle.bt_cursor.specs.declared.namer.Namer as namers
+use Rattle.bt_cursor.specs.declared.liner.Liner.{Liner}
+use Rattle.bt_cursor.specs.declared.seen.Seen.{Seen}
+use Rattle.bt_cursor.specs.Liners.{item_of, seen_of, Sees}
 use Rattle.bt_cursor.specs.Line.{Item, is_leaf_item}
 use Rattle.bt_cursor.specs.Order.{rank_of, rank_or_least, is_strict_leaf}
 use Rattle.bt_cursor.specs.Seen.{falls_below, is_again}
@@ -118,3 +123,20 @@ ordered-more before leaf records item ordered out =
     let falls = falls_below (rank_of omap_shape item.pair) before in
     let apart = is_strict_leaf omap_shape item && is_again (rank_of omap_shape item.pair) leaf in
     ordered-by before leaf records item (is_leaf_item item) refl ordered (or-first falls apart out) (or-second falls apart out)
+
+-- before the first item
+pub ordered-start : (before leaf : Option Rank) (records : List OmapRecord) → before ≡ None → leaf ≡ None → records ≡ [] → IsOrdered before leaf records
+ordered-start before leaf records e f g = record {
+  ascending = λ i j d less low. absurd (omega (arith, ap length g));
+  upto = λ k d low. absurd (omega (arith, ap length g));
+  leaf_first = subst (λ o. IsLeafUpTo o before) (sym f) tt;
+}
+
+-- after one more item that a liner saw in order
+pub ordered-seen : {N : Type 0} {n : namers.Ghosts N} (old new : Liner OmapKey N omap_ghosts n) (records more : List OmapRecord) → IsOrdered (seen_of old).before (seen_of old).leaf records
+    → Sees old new true → more ≡ records ++ records_in (item_of new) → IsOrdered (seen_of new).before (seen_of new).leaf more
+ordered-seen old new records more ordered sees e =
+    let rank = rank_of omap_shape (item_of new).pair in
+    let next : IsOrdered (Some rank) (cond ((item_of new).level == 0) (Some rank) (seen_of old).leaf) (records ++ records_in (item_of new)) = ordered-more (seen_of old).before (seen_of old).leaf records (item_of new) ordered sees.0 in
+    subst (λ (s : Seen). IsOrdered s.before s.leaf more) (sym sees.1)
+    (subst (IsOrdered (Some rank) (cond ((item_of new).level == 0) (Some rank) (seen_of old).leaf)) (sym e) next)

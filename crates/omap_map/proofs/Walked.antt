@@ -53,20 +53,20 @@ places-more passed item =
     ∙ (let one : length (places_in (item ∷ [])) ≡ reads_for (nat_lt 0 item.level) = ap length (append-nil (places_under item.level item.pair)) ∙ under-deep item.level item.pair in ap (λ n. length (places_in passed) + n) one))
 
 -- why a walk stops is there, said of the map
-pub raise-tells : {K : Type 0} (tree : Tree K) (root : ℕ) (stop : Stop WalkFault) → Tells (IsWalkFault tree root) (HasFeature tree root) stop → Tells (IsTreeFault tree root) (HasFeature tree root) (raised root stop)
-raise-tells tree root (Found why) h = (refl, h)
-raise-tells tree root (Unsupported feature block) h = h
-raise-tells tree root ReadFault h = tt
-raise-tells tree root NoMemory h = tt
+pub raise_tells : {K : Type 0} (tree : Tree K) (root : ℕ) (stop : Stop WalkFault) → Tells (IsWalkFault tree root) (HasFeature tree root) stop → Tells (IsTreeFault tree root) (HasFeature tree root) (raised root stop)
+raise_tells tree root (Found why) h = (refl, h)
+raise_tells tree root (Unsupported feature block) h = h
+raise_tells tree root ReadFault h = tt
+raise_tells tree root NoMemory h = tt
 
-pub node-tells : {K : Type 0} (tree : Tree K) (root : ℕ) (stop : Stop WalkFault) → Tells (IsNodeFault tree root) (HasFeature tree root) stop → Tells (IsWalkFault tree root) (HasFeature tree root) stop
-node-tells tree root (Found (Unsound block why)) h = h
-node-tells tree root (Found (Unnamed oid)) h = h
-node-tells tree root (Found (Order item)) h = absurd h
-node-tells tree root (Found Counts) h = absurd h
-node-tells tree root (Unsupported feature block) h = h
-node-tells tree root ReadFault h = tt
-node-tells tree root NoMemory h = tt
+pub node_tells : {K : Type 0} (tree : Tree K) (root : ℕ) (stop : Stop WalkFault) → Tells (IsNodeFault tree root) (HasFeature tree root) stop → Tells (IsWalkFault tree root) (HasFeature tree root) stop
+node_tells tree root (Found (Unsound block why)) h = h
+node_tells tree root (Found (Unnamed oid)) h = h
+node_tells tree root (Found (Order item)) h = absurd h
+node_tells tree root (Found Counts) h = absurd h
+node_tells tree root (Unsupported feature block) h = h
+node_tells tree root ReadFault h = tt
+node_tells tree root NoMemory h = tt
 
 -- a move walks on
 pub walks-on : {K N : Type 0} {k : keys.Ghosts K} {n : namers.Ghosts N} (image : List ℕ) (passed : List Item) (start reads reads' : ℕ) (old new : Liner K N k n) (more : Bool)
