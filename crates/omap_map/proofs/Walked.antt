@@ -100,3 +100,11 @@ gathers-all gives tree root passed gathered start reads walked same = record {
   whole = walked.whole;
   few = walked.few;
 }
+
+-- nothing is gathered before the first item
+pub gathers-none : {K N T : Type 0} {k : keys.Ghosts K} {n : namers.Ghosts N} (gives : List Pair → List T) (image : List ℕ) (gathered : List T) (start reads : ℕ) (liner : Liner K N k n) → HasWalked image [] start reads liner → gathered ≡ [] → gives [] ≡ [] → HasGathered gives image gathered start reads liner
+gathers-none gives image gathered start reads liner walked e f = record {
+  passed = [];
+  walked = walked;
+  same = e ∙ sym f;
+}
