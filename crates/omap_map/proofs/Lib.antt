@@ -4,3 +4,4 @@ pub mod Splits
 pub mod Examples
 pub mod Orders
 pub mod Walked
+pub mod Loads

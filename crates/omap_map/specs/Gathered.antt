@@ -1,8 +1,10 @@
 -- What is gathered on a walk over a map's tree.
-use Rattle.std.specs.Prelude.{◌≡◌, ℕ, ◌+◌, ◌≤◌, Bool, true, false, List, [], ◌∷◌, ◌++◌, All, Option, None, Some, length}
+use Rattle.std.specs.Prelude.{◌≡◌, ℕ, ◌+◌, ◌≤◌, Bool, true, false, List, [], ◌∷◌, ◌++◌, All, Option, None, Some, length, ◌||◌, ◌==◌, if◌then◌else◌}
 use Rattle.obj_base.specs.declared.stop.Stop.{Stop}
 use Rattle.obj_base.specs.declared.stop.Stop.TheVariants.{Found, Unsupported, ReadFault, NoMemory}
 use Rattle.obj_base.specs.Stops.{Tells, NoFeature}
+use Rattle.obj_base.specs.declared.stop.Feature.{Feature}
+use Rattle.bt_node.specs.declared.node.Site.{Site}
 use Rattle.bt_node.specs.declared.key.Rank.{Rank}
 use Rattle.bt_node.specs.declared.key.TreeKey as keys
 use Rattle.bt_node.specs.Rank.{is_below}
@@ -16,9 +18,11 @@ use Rattle.bt_cursor.specs.Flat.{flat_of}
 use Rattle.bt_cursor.specs.Line.{Item, line_of, leaf_pairs}
 use Rattle.bt_cursor.specs.Met.{places_in, nodes_of}
 use Rattle.bt_cursor.specs.Whole.{is_whole}
+use Rattle.bt_cursor.specs.Faults.{HasFeature}
 use Rattle.bt_cursor.specs.Seen.{reads_for}
 use Rattle.bt_cursor.specs.Liners.{root_of, tree_of, item_of, is_deep, seen_of, HasPassed}
 use Rattle.omap_map.specs.Records.{records_of, snapshots_of, IsAscending}
+use Rattle.omap_map.specs.Maps.{snapshot_tree, IsTreeFault}
 use Rattle.omap_map.specs.declared.records.OmapRecord.{OmapRecord}
 use Rattle.omap_map.specs.declared.fault.OmapFault.{OmapFault}
 use Rattle.omap_map.specs.declared.fault.OmapFault.TheVariants.{Tree as TreeFault}
@@ -95,3 +99,16 @@ Gathers gives image gathered start reads old new false = IsGathered gives (tree_
 abbrev pub StaysOrdered : {K N : Type 0} {k : keys.Ghosts K} {n : namers.Ghosts N} → List OmapRecord → Liner K N k n → Bool → Type 0
 StaysOrdered records new true = IsOrdered (seen_of new).before (seen_of new).leaf records
 StaysOrdered records new false = IsAscending records
+
+-- the snapshots of the tree of a root, where there is one
+pub record HasSnapshots (image : List ℕ) (site : Site) (root : ℕ) (snapshots : List (ℕ × ℕ)) (start reads : ℕ) : Type 0 where
+  pub same : snapshots ≡ (if root == 0 then [] else snapshots_of (flat_of (snapshot_tree image site) root))
+  pub whole : (root == 0 || is_whole (snapshot_tree image site) root) ≡ true
+  pub few : reads ≤ start + (if root == 0 then 0 else length (nodes_of (snapshot_tree image site) root))
+
+-- a fault of the tree of a root is there, where there is one
+abbrev pub IsSnapshotsFault : List ℕ → Site → ℕ → OmapFault → Type 0
+IsSnapshotsFault image site root fault = ((root == 0) ≡ false) × IsTreeFault (snapshot_tree image site) root fault
+
+abbrev pub IsSnapshotsFeature : List ℕ → Site → ℕ → Feature → ℕ → Type 0
+IsSnapshotsFeature image site root feature block = ((root == 0) ≡ false) × HasFeature (snapshot_tree image site) root feature block

@@ -12,7 +12,7 @@ ghost use Rattle.bt_cursor.specs.Line.{Item};
 ghost use Rattle.bt_cursor.specs.Liners.{site_of, root_of, tree_of, item_of, seen_of, fuel_of, HasItem, HasItemIf, HasSeenNone, Sees, HasPassed};
 ghost use Rattle.omap_map.specs.Records.{records_of, snapshots_of, IsAscending};
 ghost use Rattle.omap_map.specs.Maps.{record_tree, snapshot_tree, IsTreeFault};
-ghost use Rattle.omap_map.specs.Gathered.{raised, records_in, snapshots_in, IsOrdered, HasWalked, WalksOn, HasGathered, IsGathered, Gathers, StaysOrdered};
+ghost use Rattle.omap_map.specs.Gathered.{raised, records_in, snapshots_in, IsOrdered, HasWalked, WalksOn, HasGathered, IsGathered, Gathers, StaysOrdered, HasSnapshots, IsSnapshotsFault, IsSnapshotsFeature};
 
 use crate::{OmapFault, OmapRecord};
 use blk_source::BlockSource;
@@ -248,5 +248,27 @@ pub(crate) fn snapshots<S: BlockSource>(
         if !more {
             return Ok(snapshots);
         }
+    }
+}
+
+/// The snapshots of the tree of a root, where it is whole; none where the root is 0, since there is no tree then.
+pub(crate) fn snapshots_if<S: BlockSource>(
+    alloc: Global,
+    src: &mut S,
+    root: u64,
+    site: &Site,
+) -> Result<Vec<(u64, u32)>, Stop<OmapFault>>
+    requires site { IsSiteFor site.now (S.bytes_len src.old) }
+    ensures gathered { (image : List ℕ) → S.bytes src.old ≡ Some image → IfOk result (λ snapshots. HasSnapshots image site.now root snapshots.items (S.reads src.old) (S.reads src.new)) }
+    ensures present { (image : List ℕ) → S.bytes src.old ≡ Some image → IfErr result (Tells (IsSnapshotsFault image site.now root) (IsSnapshotsFeature image site.now root)) }
+    ensures cause { IsErrOf result ReadFault → Rose (S.faults src.old) (S.faults src.new) }
+    ensures kept { IsKept S.bytes S.bytes_len S.faults src.old src.new }
+{
+    if root == 0 {
+        return Ok(Vec::new(alloc));
+    }
+    match snapshots(alloc, src, root, site) {
+        Ok(snapshots) => Ok(snapshots),
+        Err(stop) => Err(stop),
     }
 }

@@ -52,7 +52,7 @@ walk-preserved g c =
       tree = λ image. ap (λ f. f image) now.tree ∙ c.walk.invariant.tree image;
       ordered = subst (λ b. StaysOrdered items c.gather_record.new.liner b) on now.ordered;
       gathered = λ image told. subst (λ b. Gathers records_of image items before after c.walk.liner c.gather_record.new.liner b) on
-      (now.gathered image (c.walk.invariant.kept.same_bytes ∙ told) before (c.walk.invariant.gathered image told));
+          (now.gathered image (c.walk.invariant.kept.same_bytes ∙ told) before (c.walk.invariant.gathered image told));
       kept = record {
         same_bytes = now.kept.same_bytes ∙ c.walk.invariant.kept.same_bytes;
         same_size = now.kept.same_size ∙ c.walk.invariant.kept.same_size;

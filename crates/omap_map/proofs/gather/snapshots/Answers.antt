@@ -49,7 +49,7 @@ walk-preserved g c =
       root = now.root ∙ c.walk.invariant.root;
       tree = λ image. ap (λ f. f image) now.tree ∙ c.walk.invariant.tree image;
       gathered = λ image told. subst (λ b. Gathers snapshots_of image items before after c.walk.liner c.gather_snapshot.new.liner b) on
-      (now.gathered image (c.walk.invariant.kept.same_bytes ∙ told) before (c.walk.invariant.gathered image told));
+          (now.gathered image (c.walk.invariant.kept.same_bytes ∙ told) before (c.walk.invariant.gathered image told));
       kept = record {
         same_bytes = now.kept.same_bytes ∙ c.walk.invariant.kept.same_bytes;
         same_size = now.kept.same_size ∙ c.walk.invariant.kept.same_size;
