@@ -78,7 +78,7 @@ impl<'a> Model for NxView<'a> {
 }
 
 // A range of blocks at byte `at`: its first block and its number of blocks (General-Purpose Types, prange_t).
-fn range_in(bytes: &[u8], at: usize) -> (u64, u64)
+pub(crate) fn range_in(bytes: &[u8], at: usize) -> (u64, u64)
     requires { at + 16 ≤ length bytes.now }
     ensures { result ≡ range_at bytes.now at }
 {

@@ -1,6 +1,8 @@
 -- Blocks in an image.
 use Rattle.std.proofs.Common.{◌≡◌, ℕ, ◌+◌, ◌*◌, ◌/◌, ◌≤◌, ◌<◌, arith}
 use Rattle.std.proofs.Common.{List, true, false, Ok}
+use Rattle.std.proofs.Common.{◌^◌, ◌%◌}
+use Rattle.apfs_model.specs.Blocks.{is_multiple}
 use Rattle.nx_block.specs.Read.{read_of}
 use Rattle.std.proofs.Math.Nat.{mul-div-le, mul-le-mul_left}
 use Rattle.std.proofs.lemmas.Grind.{common_steps}
@@ -21,19 +23,32 @@ blocks_fit size n count len low fits =
     let whole : size * (len / size) ≤ len = mul-div-le len size in
     omega arith
 
+-- an area that fits ends below 2 ^ 64
+pub small_area : (size n len : ℕ) → is_accepted size ≡ true → size * n ≤ len → len < 2 ^ 64 → n < 2 ^ 64
+small_area size n len accepted fits small = Prim.grind (arith, common_steps, accepted, fits, small)
+
 -- the areas of a whole superblock fit in an image that has the container's blocks
-pub areas_fit : (len : ℕ) (zero : List ℕ) → is_accepted (block_size_of zero) ≡ true → has_areas zero ≡ true → is_short len zero ≡ false → is_contiguous zero ≡ true → Fits (areas_of zero) len
+pub areas_fit : (len : ℕ) (zero : List ℕ) → len < 2 ^ 64 → is_accepted (block_size_of zero) ≡ true → has_areas zero ≡ true → is_short len zero ≡ false → is_contiguous zero ≡ true → Fits (areas_of zero) len
 unfolding has_areas is_area is_short is_contiguous areas_of
-areas_fit len zero size inside short apart = record {
-  accepted = size;
-  some_desc = Prim.grind (arith, common_steps, inside, apart);
-  some_data = Prim.grind (arith, common_steps, inside, apart);
-  few_desc = Prim.grind (arith, common_steps, apart);
-  few_data = Prim.grind (arith, common_steps, apart);
-  desc = blocks_fit (block_size_of zero) (desc_base_of zero + desc_blocks_of zero) (block_count_of zero) len (Prim.grind (arith, common_steps, inside, apart)) (Prim.grind (arith, common_steps, short));
-  «data» = blocks_fit (block_size_of zero) (data_base_of zero + data_blocks_of zero) (block_count_of zero) len (Prim.grind (arith, common_steps, inside, apart)) (Prim.grind (arith, common_steps, short));
-}
+areas_fit len zero low size inside short apart =
+    let desc : block_size_of zero * (desc_base_of zero + desc_blocks_of zero) ≤ len = blocks_fit (block_size_of zero) (desc_base_of zero + desc_blocks_of zero) (block_count_of zero) len (Prim.grind (arith, common_steps, inside, apart)) (Prim.grind (arith, common_steps, short)) in
+    let area : block_size_of zero * (data_base_of zero + data_blocks_of zero) ≤ len = blocks_fit (block_size_of zero) (data_base_of zero + data_blocks_of zero) (block_count_of zero) len (Prim.grind (arith, common_steps, inside, apart)) (Prim.grind (arith, common_steps, short)) in
+    record {
+      accepted = size;
+      some_desc = Prim.grind (arith, common_steps, inside, apart);
+      some_data = Prim.grind (arith, common_steps, inside, apart);
+      few_desc = Prim.grind (arith, common_steps, apart);
+      few_data = Prim.grind (arith, common_steps, apart);
+      small_desc = small_area (block_size_of zero) (desc_base_of zero + desc_blocks_of zero) len size desc low;
+      small_data = small_area (block_size_of zero) (data_base_of zero + data_blocks_of zero) len size area low;
+      desc = desc;
+      «data» = area;
+    }
 
 -- a superblock that was read has an accepted block size, which is its length
 pub read_size : (bytes zero : List ℕ) → read_of bytes ≡ Ok zero → is_accepted (block_size_of zero) ≡ true
 read_size bytes zero e = Prim.grind (arith, common_steps, e)
+
+-- a whole number of accepted blocks, one or more, is a length that has a sum
+pub whole_object : (size n : ℕ) → is_accepted size ≡ true → 1 ≤ n / size → is_multiple n size ≡ true → (n % 4 ≡ 0) × (36 ≤ n)
+whole_object size n accepted some whole = (Prim.grind (arith, common_steps, accepted, some, whole), Prim.grind (arith, common_steps, accepted, some, whole))

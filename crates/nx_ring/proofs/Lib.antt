@@ -1,3 +1,9 @@
+pub mod Laws
 pub mod More
 pub mod Fitting
 pub mod Present
+pub mod Apart
+pub mod Few
+pub mod Some
+pub mod Best
+pub mod Chosen

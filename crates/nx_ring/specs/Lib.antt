@@ -1,6 +1,10 @@
+pub mod Stops
 pub mod Zero
 pub mod Candidates
 pub mod Mappings
+pub mod Objects
 pub mod Valid
+pub mod Features
+pub mod Checkpoint
 pub mod Newest
 pub mod Ring

@@ -4,8 +4,10 @@ use Rattle.std.specs.List.{range_with_len, flat_map, list_all}
 use Rattle.apfs_model.specs.Lists.{is_distinct}
 use Rattle.nx_ring.specs.declared.areas.Areas.{Areas}
 use Rattle.nx_ring.specs.declared.line.RingLine.{RingLine}
+use Rattle.nx_ring.specs.declared.mappings.Mapping.{Mapping}
 use Rattle.nx_ring.specs.Candidates.{ring_block}
-use Rattle.nx_ring.specs.Mappings.{Mapping, mappings_in, is_map, mapped_blocks, is_placed, has_object}
+use Rattle.nx_ring.specs.Mappings.{mappings_in, is_map}
+use Rattle.nx_ring.specs.Objects.{mapped_blocks, is_placed, has_object}
 
 -- the index of the descriptor area that is so many behind the checkpoint's begin, with wrap
 unfoldable pub index_behind : Areas → RingLine → ℕ → ℕ
@@ -17,21 +19,29 @@ ends_here areas line =
     (nat_le 1 line.desc_len && nat_le line.desc_len areas.desc_blocks)
     && (index_behind areas line (line.desc_len - 1) == line.index)
 
--- the indices of a checkpoint's maps: those before its superblock
-abbrev pub map_indices : Areas → RingLine → List ℕ
-map_indices areas line = map (index_behind areas line) (range_with_len 0 (line.desc_len - 1))
+-- how many maps a checkpoint has: the blocks before its superblock
+abbrev pub map_blocks : RingLine → ℕ
+map_blocks line = line.desc_len - 1
 
--- a sound checkpoint map at an index
-abbrev pub is_map_at : List ℕ → Areas → RingLine → ℕ → Bool
-is_map_at image areas line index = is_map (areas.desc_base + index) line.xid (ring_block image areas index)
+-- the block that is so many behind the checkpoint's begin
+abbrev pub map_block : List ℕ → Areas → RingLine → ℕ → List ℕ
+map_block image areas line j = ring_block image areas (index_behind areas line j)
 
--- the blocks before the superblock are sound checkpoint maps whose counts fit
+-- that block is a sound checkpoint map whose mappings fit
+unfoldable pub is_map_behind : List ℕ → Areas → RingLine → ℕ → Bool
+is_map_behind image areas line j = is_map (areas.desc_base + index_behind areas line j) line.xid (map_block image areas line j)
+
+-- the blocks before the superblock are such maps
 unfoldable pub has_maps : List ℕ → Areas → RingLine → Bool
-has_maps image areas line = list_all (is_map_at image areas line) (map_indices areas line)
+has_maps image areas line = list_all (is_map_behind image areas line) (range_with_len 0 (map_blocks line))
+
+-- the mappings of the first so many maps of a checkpoint
+abbrev pub first_mappings : List ℕ → Areas → RingLine → ℕ → List Mapping
+first_mappings image areas line n = flat_map (λ j. mappings_in (map_block image areas line j)) (range_with_len 0 n)
 
 -- the mappings of a checkpoint
 unfoldable pub mappings_of : List ℕ → Areas → RingLine → List Mapping
-mappings_of image areas line = flat_map (λ index. mappings_in (ring_block image areas index)) (map_indices areas line)
+mappings_of image areas line = first_mappings image areas line (map_blocks line)
 
 -- each mapping has a size of whole blocks and begins in the data area
 unfoldable pub are_placed : Areas → List Mapping → Bool
@@ -41,23 +51,33 @@ are_placed areas mappings = list_all (is_placed areas) mappings
 unfoldable pub have_objects : List ℕ → Areas → ℕ → List Mapping → Bool
 have_objects image areas xid mappings = list_all (has_object image areas xid) mappings
 
+-- the oids of mappings
+abbrev pub ids_of : List Mapping → List ℕ
+ids_of mappings = map (λ (m : Mapping). m.oid) mappings
+
 -- no oid is mapped twice
-unfoldable pub maps_ids_once : List Mapping → Bool
-maps_ids_once mappings = is_distinct (map (λ (m : Mapping). m.oid) mappings)
+unfoldable pub have_ids_once : List Mapping → Bool
+have_ids_once mappings = is_distinct (ids_of mappings)
+
+-- the data blocks of all mappings
+abbrev pub blocks_of : Areas → List Mapping → List ℕ
+blocks_of areas mappings = flat_map (mapped_blocks areas) mappings
 
 -- no data block is in two mappings
-unfoldable pub maps_blocks_once : Areas → List Mapping → Bool
-maps_blocks_once areas mappings = is_distinct (flat_map (mapped_blocks areas) mappings)
+unfoldable pub have_blocks_once : Areas → List Mapping → Bool
+have_blocks_once areas mappings = is_distinct (blocks_of areas mappings)
 
--- a candidate's mappings, and the objects that they map, are right
-unfoldable pub has_mappings : List ℕ → Areas → ℕ → List Mapping → Bool
-has_mappings image areas xid mappings =
-    (are_placed areas mappings && have_objects image areas xid mappings)
-    && (maps_ids_once mappings && maps_blocks_once areas mappings)
+-- mappings that are placed, each in blocks of its own, and of different oids
+unfoldable pub are_apart : Areas → List Mapping → Bool
+are_apart areas mappings = (are_placed areas mappings && have_ids_once mappings) && have_blocks_once areas mappings
+
+-- a candidate ends at its superblock, has sound maps before it, and its mappings are placed and apart
+unfoldable pub has_mappings : List ℕ → Areas → RingLine → Bool
+has_mappings image areas line = (ends_here areas line && has_maps image areas line) && are_apart areas (mappings_of image areas line)
 
 -- a valid candidate
 unfoldable pub is_valid : List ℕ → Areas → RingLine → Bool
-is_valid image areas line = (ends_here areas line && has_maps image areas line) && has_mappings image areas line.xid (mappings_of image areas line)
+is_valid image areas line = has_mappings image areas line && have_objects image areas line.xid (mappings_of image areas line)
 
 -- the facts that make a candidate valid
 pub record IsValid (image : List ℕ) (areas : Areas) (line : RingLine) : Type 0 where
@@ -65,5 +85,5 @@ pub record IsValid (image : List ℕ) (areas : Areas) (line : RingLine) : Type 0
   pub maps : has_maps image areas line ≡ true
   pub placed : are_placed areas (mappings_of image areas line) ≡ true
   pub objects : have_objects image areas line.xid (mappings_of image areas line) ≡ true
-  pub ids_once : maps_ids_once (mappings_of image areas line) ≡ true
-  pub blocks_once : maps_blocks_once areas (mappings_of image areas line) ≡ true
+  pub ids_once : have_ids_once (mappings_of image areas line) ≡ true
+  pub blocks_once : have_blocks_once areas (mappings_of image areas line) ≡ true

@@ -99,6 +99,8 @@ pub record Fits (areas : Areas) (len : ℕ) : Type 0 where
   pub some_data : 0 < areas.data_blocks
   pub few_desc : areas.desc_blocks < 2 ^ 31
   pub few_data : areas.data_blocks < 2 ^ 31
+  pub small_desc : areas.desc_base + areas.desc_blocks < 2 ^ 64
+  pub small_data : areas.data_base + areas.data_blocks < 2 ^ 64
   pub desc : areas.size * (areas.desc_base + areas.desc_blocks) ≤ len
   pub «data» : areas.size * (areas.data_base + areas.data_blocks) ≤ len
 

@@ -1,6 +1,7 @@
 // Reading blocks.
 ghost use Rattle.std.specs.Prelude.{◌≡◌, ◌+◌, ◌*◌, ◌≤◌, ◌<◌, List, ℕ, Some, length, IfErr, IsErrOf, OnOk, OnErr, IfOk, Ok};
 ghost use Rattle.obj_base.specs.Stops.{Gives};
+ghost use Rattle.nx_ring.specs.Stops.{IsFree};
 ghost use Rattle.apfs_model.specs.Counts.{Rose};
 ghost use Rattle.apfs_model.specs.Source.{IsKept};
 ghost use Rattle.apfs_model.specs.Blocks.{block_of};
@@ -46,6 +47,7 @@ pub(crate) fn read_new<S: BlockSource>(
     requires inside { size * block + size ≤ S.bytes_len src.old }
     ensures found { (image : List ℕ) → S.bytes src.old ≡ Some image → Gives (λ bytes. bytes.items) result (Ok (block_of size image block)) }
     ensures len { IfOk result (λ bytes. length bytes.items ≡ size) }
+    ensures free { IfErr result IsFree }
     ensures cause { IsErrOf result ReadFault → Rose (S.faults src.old) (S.faults src.new) }
     ensures kept { IsKept S.bytes S.bytes_len S.faults src.old src.new }
     ensures reads { S.reads src.new ≤ S.reads src.old + 1 }

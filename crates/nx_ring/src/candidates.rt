@@ -25,7 +25,7 @@ use std::alloc::Global;
 
 // The line of a block at an index, where it is a candidate in an image of `len` bytes.
 #[tactic(auto, unfolding(crate::specs::Candidates::is_candidate, crate::specs::Candidates::candidate_in))]
-fn line_in(areas: &Areas, index: u32, len: u64, bytes: &[u8]) -> Option<RingLine>
+pub(crate) fn line_in(areas: &Areas, index: u32, len: u64, bytes: &[u8]) -> Option<RingLine>
     requires whole { sizes.is_accepted (length bytes.now) ≡ true }
     requires small { areas.now.desc_base + index < 2 ^ 64 }
     ensures { result ≡ candidate_in len areas.now index bytes.now }

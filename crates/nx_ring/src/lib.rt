@@ -1,13 +1,23 @@
-//! The ring of checkpoints of a container: the candidates in its descriptor area.
+//! The ring of checkpoints of a container: the candidates in its descriptor area, and the newest valid checkpoint.
 #![tactic(auto)]
 
 mod areas;
 mod block;
 mod candidates;
+mod choice;
 mod fault;
+mod features;
 mod line;
+mod mappings;
+mod objects;
+#[cfg(test)]
+mod tests;
+mod valid;
+mod view;
 mod zero;
 
 pub use candidates::ring;
+pub use choice::newest;
 pub use fault::RingFault;
 pub use line::RingLine;
+pub use view::Checkpoint;

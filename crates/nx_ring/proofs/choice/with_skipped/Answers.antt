@@ -1,0 +1,15 @@
+use Rattle.std.proofs.Common.{arith}
+use Rattle.std.proofs.lemmas.Grind.{common_steps}
+use Rattle.nx_ring.specs.declared.line.RingLine.{RingLine}
+use Rattle.nx_ring.specs.Newest.{skipped_of}
+use Rattle.nx_ring.proofs.Best.{skipped_more}
+use Rattle.nx_ring.proofs.choice.with_skipped.Goals as goal
+
+pub each-init : goal.each-init
+unfolding skipped_of
+each-init c = c.new-passed.ensures.items
+
+pub each-preserved : goal.each-preserved
+each-preserved c =
+    let none : RingLine = record { index = 0; block = 0; xid = 0; desc_index = 0; desc_len = 0 } in
+    Prim.grind (arith, common_steps, c.in_ok-add_skipped.ensures.added, c.each.invariant, skipped_more c.args.lines.now c.xid-xid.result c.each.line-index none c.each-test.true)

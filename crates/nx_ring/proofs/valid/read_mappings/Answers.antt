@@ -1,0 +1,20 @@
+use Rattle.std.proofs.Common.{◌≡◌, arith}
+use Rattle.std.proofs.lemmas.Grind.{common_steps}
+use Rattle.nx_ring.specs.Valid.{has_mappings, mappings_of}
+use Rattle.nx_ring.proofs.Some.{some_at}
+use Rattle.nx_ring.proofs.valid.read_mappings.Goals as goal
+
+pub returns-then-not-apart-clause-found : goal.returns-then-not-apart-clause-found
+unfolding has_mappings
+returns-then-not-apart-clause-found g c image told =
+    let listed : c.in-Some.mappings.items ≡ mappings_of image c.args.areas.now c.args.line.now = some_at _ c.in-Some.is (c.in_ok-mappings.ensures.listed image told) in
+    Prim.grind (arith, common_steps, listed, c.as_slice.ensures.value, c.in_ok-apart.ensures.found, c.if-not-apart.true)
+
+pub returns-clause-found : goal.returns-clause-found
+unfolding has_mappings
+returns-clause-found g c image told =
+    let listed : c.in-Some.mappings.items ≡ mappings_of image c.args.areas.now c.args.line.now = some_at _ c.in-Some.is (c.in_ok-mappings.ensures.listed image told) in
+    Prim.grind (arith, common_steps, listed, c.as_slice.ensures.value, c.in_ok-apart.ensures.found, c.if-not-apart.false, c.in_ok-mappings.ensures.found image told, c.in-Some.is, c.ends_here.ensures.here, c.if-not-ends_here.false)
+
+pub returns-clause-listed : goal.returns-clause-listed
+returns-clause-listed g c image told = some_at _ c.in-Some.is (c.in_ok-mappings.ensures.listed image told)

@@ -1,0 +1,329 @@
+// Which candidates are valid.
+//
+// Tests: the checkpoint ends at its superblock, its maps are sound, its mappings are placed and apart, its objects are
+// sound. Gives: the objects. Rests on: the areas of a right block 0.
+ghost use Rattle.std.specs.Prelude.{◌≡◌, ◌+◌, ◌-◌, ◌≤◌, ◌<◌, ◌^◌, ◌++◌, List, ℕ, Some, None, true, length, map, nat_le, IfOk, OnOk, IfErr, IfSome, IsErrOf};
+ghost use Rattle.std.specs.Option.{is_some};
+ghost use Rattle.apfs_model.specs.Counts.{Rose};
+ghost use Rattle.apfs_model.specs.Source.{IsKept};
+ghost use Rattle.apfs_model.specs.Lists.{is_distinct};
+ghost use Rattle.obj_base.specs.declared.stop.Stop.TheVariants.{ReadFault, NoMemory};
+ghost use Rattle.nx_ring.specs.Zero.{Fits};
+ghost use Rattle.nx_ring.specs.Mappings.{mappings_in};
+ghost use Rattle.nx_ring.specs.Objects.{mapped_blocks, place_at};
+ghost use Rattle.nx_ring.specs.Objects as objects;
+ghost use Rattle.nx_ring.specs.Valid as valid;
+ghost use Rattle.nx_ring.specs.Stops.{IsFree};
+
+use crate::areas::Areas;
+use crate::block::read_new;
+use crate::mappings::{Mapping, add_mappings, is_map};
+use crate::objects::{Object, data_block, is_placed, read_mapped};
+use crate::{RingFault, RingLine};
+use blk_source::BlockSource;
+use obj_base::Stop;
+use std::alloc::Global;
+use std::collections::BTreeSet;
+
+// The index of the descriptor area that is so many behind the checkpoint's begin, with wrap.
+#[tactic(auto, unfolding(crate::specs::Valid::index_behind))]
+fn index_behind(areas: &Areas, line: &RingLine, j: u32) -> u64
+    requires { 0 < areas.now.desc_blocks }
+    ensures here { result ≡ valid.index_behind areas.now line.now j }
+    ensures inside { result < areas.now.desc_blocks }
+{
+    (u64::from(line.desc_index) + u64::from(j)) % u64::from(areas.desc_blocks)
+}
+
+// Whether a checkpoint has one block or more, at most the area, and its superblock is its last.
+#[tactic(auto, unfolding(crate::specs::Valid::ends_here))]
+fn ends_here(areas: &Areas, line: &RingLine) -> bool
+    requires { 0 < areas.now.desc_blocks }
+    ensures here { result ≡ valid.ends_here areas.now line.now }
+    ensures some { result ≡ true → 1 ≤ line.now.desc_len }
+    ensures few { result ≡ true → line.now.desc_len ≤ areas.now.desc_blocks }
+{
+    1 <= line.desc_len
+        && line.desc_len <= areas.desc_blocks
+        && index_behind(areas, line, line.desc_len - 1) == u64::from(line.index)
+}
+
+// Reads the block that is so many behind the checkpoint's begin, and adds its mappings where it is a sound map.
+#[tactic(auto, using(crate::proofs::Fitting::block_fits), unfolding(crate::specs::Valid::is_map_behind, crate::specs::Candidates::ring_block))]
+fn add_map<S: BlockSource>(
+    alloc: Global,
+    src: &mut S,
+    areas: &Areas,
+    line: &RingLine,
+    j: u32,
+    into: &mut Vec<Mapping>,
+) -> Result<bool, Stop<RingFault>>
+    requires { Fits areas.now (S.bytes_len src.old) }
+    ensures found { (image : List ℕ) → S.bytes src.old ≡ Some image → IfOk result (λ sound. sound ≡ valid.is_map_behind image areas.now line.now j) }
+    ensures added { (image : List ℕ) → S.bytes src.old ≡ Some image → IfOk result (λ sound. sound ≡ true → into.new.items ≡ into.old.items ++ mappings_in (valid.map_block image areas.now line.now j)) }
+    ensures free { IfErr result IsFree }
+    ensures cause { IsErrOf result ReadFault → Rose (S.faults src.old) (S.faults src.new) }
+    ensures kept { IsKept S.bytes S.bytes_len S.faults src.old src.new }
+    ensures reads { S.reads src.new ≤ S.reads src.old + 1 }
+{
+    let block = areas.desc_base + index_behind(areas, line, j);
+    let held = read_new(alloc, src, block, areas.size)?;
+    let bytes = held.as_slice();
+    if !is_map(block, line.xid, bytes) {
+        return Ok(false);
+    }
+    add_mappings(bytes, into)?;
+    Ok(true)
+}
+
+// Reads a checkpoint's maps, and gives its mappings where all maps are sound.
+#[tactic(auto, using(crate::proofs::More::first_more, crate::proofs::More::maps_more, crate::proofs::More::maps_fail), unfolding(crate::specs::Valid::has_maps, crate::specs::Valid::mappings_of))]
+fn read_maps<S: BlockSource>(
+    alloc: Global,
+    src: &mut S,
+    areas: &Areas,
+    line: &RingLine,
+) -> Result<Option<Vec<Mapping>>, Stop<RingFault>>
+    requires fits { Fits areas.now (S.bytes_len src.old) }
+    requires some { 1 ≤ line.now.desc_len }
+    ensures found { (image : List ℕ) → S.bytes src.old ≡ Some image → IfOk result (λ all. is_some all ≡ valid.has_maps image areas.now line.now) }
+    ensures listed { (image : List ℕ) → S.bytes src.old ≡ Some image → IfOk result (λ all. IfSome all (λ mappings. mappings.items ≡ valid.mappings_of image areas.now line.now)) }
+    ensures free { IfErr result IsFree }
+    ensures cause { IsErrOf result ReadFault → Rose (S.faults src.old) (S.faults src.new) }
+    ensures kept { IsKept S.bytes S.bytes_len S.faults src.old src.new }
+    ensures reads { S.reads src.new ≤ S.reads src.old + (line.now.desc_len - 1) }
+{
+    let mut mappings = Vec::new(alloc);
+    'maps: for j in 0..line.desc_len - 1 {
+        if !add_map(alloc, src, areas, line, j, &mut mappings)? {
+            return Ok(None);
+        }
+    }
+    Ok(Some(mappings))
+}
+
+// Whether each mapping has whole blocks and begins in the data area.
+#[tactic(auto, unfolding(crate::specs::Valid::are_placed))]
+fn are_placed(areas: &Areas, mappings: &[Mapping]) -> bool
+    requires { 0 < areas.now.size }
+    ensures { result ≡ valid.are_placed areas.now mappings.now }
+{
+    'each: for m in mappings {
+        if !is_placed(areas, m) {
+            return false;
+        }
+    }
+    true
+}
+
+// The oids of mappings.
+#[tactic(auto, using(crate::proofs::More::ids_more))]
+fn ids_of(alloc: Global, mappings: &[Mapping]) -> Result<Vec<u64>, Stop<RingFault>>
+    ensures found { IfOk result (λ ids. ids.items ≡ valid.ids_of mappings.now) }
+    ensures stops { IfErr result (λ stop. stop ≡ NoMemory) }
+{
+    let mut ids = Vec::new(alloc);
+    'each: for m in mappings {
+        ids.push(m.oid)?;
+    }
+    Ok(ids)
+}
+
+// Adds the blocks of a mapping.
+#[tactic(auto, using(crate::proofs::More::object_more), unfolding(crate::specs::Objects::is_placed))]
+fn add_blocks(areas: &Areas, m: &Mapping, into: &mut Vec<u64>) -> Result<(), Stop<RingFault>>
+    requires some { 0 < areas.now.size }
+    requires placed { objects.is_placed areas.now m.now ≡ true }
+    requires small { areas.now.data_base + areas.now.data_blocks < 2 ^ 64 }
+    ensures added { OnOk result (into.new.items ≡ into.old.items ++ mapped_blocks areas.now m.now) }
+    ensures stops { IfErr result (λ stop. stop ≡ NoMemory) }
+{
+    'each: for t in 0..m.size / areas.size {
+        into.push(data_block(areas, m.paddr, t))?;
+    }
+    Ok(())
+}
+
+// The data blocks of mappings.
+#[tactic(auto, using(crate::proofs::More::blocks_more), unfolding(crate::specs::Valid::are_placed))]
+fn blocks_of(
+    alloc: Global,
+    areas: &Areas,
+    mappings: &[Mapping],
+) -> Result<Vec<u64>, Stop<RingFault>>
+    requires some { 0 < areas.now.size }
+    requires placed { valid.are_placed areas.now mappings.now ≡ true }
+    requires small { areas.now.data_base + areas.now.data_blocks < 2 ^ 64 }
+    ensures found { IfOk result (λ blocks. blocks.items ≡ valid.blocks_of areas.now mappings.now) }
+    ensures stops { IfErr result (λ stop. stop ≡ NoMemory) }
+{
+    let mut blocks = Vec::new(alloc);
+    'each: for m in mappings {
+        add_blocks(areas, m, &mut blocks)?;
+    }
+    Ok(blocks)
+}
+
+// Whether mappings have at most as many blocks as the data area.
+#[tactic(auto, using(crate::proofs::More::blocks_length, crate::proofs::More::blocks_part))]
+fn are_few(areas: &Areas, mappings: &[Mapping]) -> bool
+    requires some { 0 < areas.now.size }
+    ensures { result ≡ nat_le (length (valid.blocks_of areas.now mappings.now)) areas.now.data_blocks }
+{
+    let mut count: u64 = 0;
+    'each: for m in mappings {
+        count += u64::from(m.size / areas.size);
+        if count > u64::from(areas.data_blocks) {
+            return false;
+        }
+    }
+    true
+}
+
+// Whether no number stands twice.
+fn are_distinct(alloc: Global, numbers: &[u64]) -> Result<bool, Stop<RingFault>>
+    ensures found { IfOk result (λ apart. apart ≡ is_distinct numbers.now) }
+    ensures stops { IfErr result (λ stop. stop ≡ NoMemory) }
+{
+    let mut seen = BTreeSet::new(alloc);
+    'each: for n in numbers {
+        if !seen.insert(*n)? {
+            return Ok(false);
+        }
+    }
+    Ok(true)
+}
+
+// Whether no oid is mapped twice.
+#[tactic(auto, unfolding(crate::specs::Valid::have_ids_once))]
+fn have_ids_once(alloc: Global, mappings: &[Mapping]) -> Result<bool, Stop<RingFault>>
+    ensures found { IfOk result (λ once. once ≡ valid.have_ids_once mappings.now) }
+    ensures stops { IfErr result (λ stop. stop ≡ NoMemory) }
+{
+    let ids = ids_of(alloc, mappings)?;
+    are_distinct(alloc, ids.as_slice())
+}
+
+// Whether no data block is in two mappings. Memory is taken only where they have at most as many blocks as the data
+// area.
+#[tactic(auto, using(crate::proofs::Few::many_blocks), unfolding(crate::specs::Valid::have_blocks_once))]
+fn have_blocks_once(
+    alloc: Global,
+    areas: &Areas,
+    mappings: &[Mapping],
+) -> Result<bool, Stop<RingFault>>
+    requires some { 0 < areas.now.size }
+    requires area { 0 < areas.now.data_blocks }
+    requires placed { valid.are_placed areas.now mappings.now ≡ true }
+    requires small { areas.now.data_base + areas.now.data_blocks < 2 ^ 64 }
+    ensures found { IfOk result (λ once. once ≡ valid.have_blocks_once areas.now mappings.now) }
+    ensures stops { IfErr result (λ stop. stop ≡ NoMemory) }
+{
+    if !are_few(areas, mappings) {
+        return Ok(false);
+    }
+    let blocks = blocks_of(alloc, areas, mappings)?;
+    are_distinct(alloc, blocks.as_slice())
+}
+
+// Whether mappings are placed, each in blocks of its own, and of different oids.
+#[tactic(auto, unfolding(crate::specs::Valid::are_apart))]
+fn are_apart(alloc: Global, areas: &Areas, mappings: &[Mapping]) -> Result<bool, Stop<RingFault>>
+    requires some { 0 < areas.now.size }
+    requires area { 0 < areas.now.data_blocks }
+    requires small { areas.now.data_base + areas.now.data_blocks < 2 ^ 64 }
+    ensures found { IfOk result (λ apart. apart ≡ valid.are_apart areas.now mappings.now) }
+    ensures stops { IfErr result (λ stop. stop ≡ NoMemory) }
+{
+    if !are_placed(areas, mappings) {
+        return Ok(false);
+    }
+    let once = have_ids_once(alloc, mappings)?;
+    if !once {
+        return Ok(false);
+    }
+    have_blocks_once(alloc, areas, mappings)
+}
+
+// Reads the objects of mappings, and gives them where each is sound.
+#[tactic(auto, using(crate::proofs::More::blocks_length, crate::proofs::More::blocks_part), unfolding(crate::specs::Valid::have_objects, crate::specs::Valid::are_placed))]
+fn read_objects<S: BlockSource>(
+    alloc: Global,
+    src: &mut S,
+    areas: &Areas,
+    xid: u64,
+    mappings: &[Mapping],
+) -> Result<Option<Vec<Object>>, Stop<RingFault>>
+    requires fits { Fits areas.now (S.bytes_len src.old) }
+    requires placed { valid.are_placed areas.now mappings.now ≡ true }
+    ensures found { (image : List ℕ) → S.bytes src.old ≡ Some image → IfOk result (λ all. is_some all ≡ valid.have_objects image areas.now xid mappings.now) }
+    ensures listed { (image : List ℕ) → S.bytes src.old ≡ Some image → IfOk result (λ all. IfSome all (λ objects. objects.items ≡ map (place_at image areas.now) mappings.now)) }
+    ensures free { IfErr result IsFree }
+    ensures cause { IsErrOf result ReadFault → Rose (S.faults src.old) (S.faults src.new) }
+    ensures kept { IsKept S.bytes S.bytes_len S.faults src.old src.new }
+    ensures reads { S.reads src.new ≤ S.reads src.old + length (valid.blocks_of areas.now mappings.now) }
+{
+    let mut all = Vec::new(alloc);
+    'each: for m in mappings {
+        let Some(object) = read_mapped(alloc, src, areas, xid, m)? else {
+            return Ok(None);
+        };
+        all.push(object)?;
+    }
+    Ok(Some(all))
+}
+
+// Reads the maps of a candidate, and gives its mappings where it ends at its superblock, its maps are sound, and its
+// mappings are placed and apart.
+#[tactic(auto, unfolding(crate::specs::Valid::has_mappings))]
+fn read_mappings<S: BlockSource>(
+    alloc: Global,
+    src: &mut S,
+    areas: &Areas,
+    line: &RingLine,
+) -> Result<Option<Vec<Mapping>>, Stop<RingFault>>
+    requires { Fits areas.now (S.bytes_len src.old) }
+    ensures found { (image : List ℕ) → S.bytes src.old ≡ Some image → IfOk result (λ all. is_some all ≡ valid.has_mappings image areas.now line.now) }
+    ensures listed { (image : List ℕ) → S.bytes src.old ≡ Some image → IfOk result (λ all. IfSome all (λ mappings. mappings.items ≡ valid.mappings_of image areas.now line.now)) }
+    ensures ends { IfOk result (λ all. IfSome all (λ mappings. 1 ≤ line.now.desc_len)) }
+    ensures apart { IfOk result (λ all. IfSome all (λ mappings. valid.are_apart areas.now mappings.items ≡ true)) }
+    ensures free { IfErr result IsFree }
+    ensures cause { IsErrOf result ReadFault → Rose (S.faults src.old) (S.faults src.new) }
+    ensures kept { IsKept S.bytes S.bytes_len S.faults src.old src.new }
+    ensures reads { S.reads src.new + 1 ≤ S.reads src.old + areas.now.desc_blocks }
+{
+    if !ends_here(areas, line) {
+        return Ok(None);
+    }
+    let Some(mappings) = read_maps(alloc, src, areas, line)? else {
+        return Ok(None);
+    };
+    let apart = are_apart(alloc, areas, mappings.as_slice())?;
+    if !apart {
+        return Ok(None);
+    }
+    Ok(Some(mappings))
+}
+
+// Reads the maps and the objects of a candidate, and gives the objects where it is valid.
+#[tactic(auto, using(crate::proofs::Few::few_blocks, crate::proofs::Few::apart_placed), unfolding(crate::specs::Valid::is_valid))]
+pub(crate) fn read_checkpoint<S: BlockSource>(
+    alloc: Global,
+    src: &mut S,
+    areas: &Areas,
+    line: &RingLine,
+) -> Result<Option<Vec<Object>>, Stop<RingFault>>
+    requires { Fits areas.now (S.bytes_len src.old) }
+    ensures found { (image : List ℕ) → S.bytes src.old ≡ Some image → IfOk result (λ all. is_some all ≡ valid.is_valid image areas.now line.now) }
+    ensures listed { (image : List ℕ) → S.bytes src.old ≡ Some image → IfOk result (λ all. IfSome all (λ objects. objects.items ≡ map (place_at image areas.now) (valid.mappings_of image areas.now line.now))) }
+    ensures ends { IfOk result (λ all. IfSome all (λ objects. 1 ≤ line.now.desc_len)) }
+    ensures free { IfErr result IsFree }
+    ensures cause { IsErrOf result ReadFault → Rose (S.faults src.old) (S.faults src.new) }
+    ensures kept { IsKept S.bytes S.bytes_len S.faults src.old src.new }
+    ensures reads { S.reads src.new + 1 ≤ S.reads src.old + (areas.now.desc_blocks + areas.now.data_blocks) }
+{
+    let Some(mappings) = read_mappings(alloc, src, areas, line)? else {
+        return Ok(None);
+    };
+    read_objects(alloc, src, areas, line.xid, mappings.as_slice())
+}
