@@ -1,7 +1,6 @@
 -- What the parts of a map tell of the whole.
-use Rattle.std.specs.Prelude.{◌≡◌, ◌⊎◌, ℕ, ◌+◌, ◌≤◌, ◌<◌, ◌&&◌, ◌||◌, ◌==◌, nat_lt, Bool, true, false, List, [], ◌∷◌, length, Option, None, Some, Result, Ok, Err, refl, is_ok, is_some, if◌then◌else◌}
+use Rattle.std.specs.Prelude.{◌≡◌, ℕ, ◌+◌, ◌≤◌, ◌<◌, ◌&&◌, ◌||◌, Bool, true, false, List, [], ◌∷◌, Option, Some, Result, Ok, Err, refl, is_ok, is_some, if◌then◌else◌}
 use Rattle.std.proofs.Common.{arith, ap, sym, ◌∙◌, subst, inl, inr}
-use Rattle.std.proofs.lemmas.Grind.{common_steps}
 use Rattle.std.proofs.lemmas.Bool.Decides.{nat_tests}
 use Rattle.apfs_model.specs.Blocks.{in_container}
 use Rattle.apfs_model.specs.Lists.{In}
@@ -9,7 +8,6 @@ use Rattle.obj_base.specs.declared.header.Header.{Header}
 use Rattle.obj_base.specs.declared.header.HeadFault.{HeadFault}
 use Rattle.obj_base.specs.declared.stop.Bad.{Bad}
 use Rattle.obj_base.specs.declared.stop.Bad.TheVariants as bads
-use Rattle.obj_base.specs.declared.stop.Feature.{Feature}
 use Rattle.obj_base.specs.declared.stop.Feature.TheVariants.{Revert}
 use Rattle.obj_base.specs.declared.stop.Stop.{Stop}
 use Rattle.obj_base.specs.declared.stop.Stop.TheVariants.{Found, Unsupported, ReadFault, NoMemory}
@@ -17,12 +15,11 @@ use Rattle.obj_base.specs.Stops.{Tells}
 use Rattle.bt_node.specs.declared.node.Site.{Site}
 use Rattle.bt_cursor.specs.Faults.{HasFeature}
 use Rattle.bt_cursor.specs.Flat.{flat_of}
-use Rattle.bt_cursor.specs.Met.{nodes_of}
 use Rattle.bt_cursor.specs.Whole.{is_whole}
 use Rattle.omap_map.specs.Fields.{snap_count_of, tree_of, snap_tree_of}
 use Rattle.omap_map.specs.Records.{records_of, snapshots_of}
-use Rattle.omap_map.specs.Features.{is_reverting, map_features}
-use Rattle.omap_map.specs.Maps.{Contents, map_in, head_of, is_map_object, record_tree, snapshot_tree, map_records, map_snapshots, contents_of, has_no_snapshots, has_whole_snapshots, is_whole_map, map_nodes, of_header, unless_reverting, after_header, object_of, IsTreeFault, IsMapFault, IsMapFeature, IsLoaded}
+use Rattle.omap_map.specs.Features.{is_reverting}
+use Rattle.omap_map.specs.Maps.{Contents, map_in, head_of, is_map_object, record_tree, snapshot_tree, map_records, map_snapshots, contents_of, has_no_snapshots, has_whole_snapshots, is_whole_map, map_nodes, after_header, object_of, IsTreeFault, IsMapFault, IsMapFeature, IsLoaded}
 use Rattle.omap_map.specs.Gathered.{IsGathered, HasSnapshots, IsSnapshotsFault, IsSnapshotsFeature}
 use Rattle.omap_map.specs.declared.records.OmapRecord.{OmapRecord}
 use Rattle.omap_map.specs.declared.fault.OmapFault.{OmapFault}

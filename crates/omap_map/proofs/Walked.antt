@@ -1,31 +1,29 @@
 -- Walks over whole trees.
-use Rattle.std.specs.Prelude.{◌≡◌, ℕ, zero, suc, ◌+◌, ◌≤◌, ◌<◌, ◌&&◌, ◌==◌, nat_lt, Bool, true, false, cond, List, [], ◌∷◌, ◌++◌, length, refl, map, filter}
-use Rattle.std.specs.List.{list_all, flat_map}
-use Rattle.std.proofs.Common.{arith, ap, sym, ◌∙◌, subst, append-nil, length-append}
+use Rattle.std.specs.Prelude.{◌≡◌, ℕ, zero, suc, ◌+◌, ◌≤◌, ◌&&◌, nat_lt, Bool, true, false, cond, List, [], ◌∷◌, ◌++◌, length, refl, filter}
+use Rattle.std.specs.List.{list_all}
+use Rattle.std.proofs.Common.{arith, ap, sym, ◌∙◌, append-nil, length-append}
 use Rattle.std.proofs.lemmas.Bool.Decides.{nat_tests}
 use Rattle.std.proofs.lemmas.List.Concat.{flat_map-append}
 use Rattle.obj_base.specs.declared.stop.Stop.{Stop}
 use Rattle.obj_base.specs.declared.stop.Stop.TheVariants.{Found, Unsupported, ReadFault, NoMemory}
 use Rattle.obj_base.specs.Stops.{Tells}
 use Rattle.bt_node.specs.Entries.{Pair}
-use Rattle.bt_node.specs.declared.node.NodeAt.{NodeAt}
 use Rattle.bt_node.specs.declared.key.TreeKey as keys
 use Rattle.bt_cursor.specs.declared.namer.Namer as namers
 use Rattle.bt_cursor.specs.declared.liner.Liner.{Liner}
 use Rattle.bt_cursor.specs.declared.fault.WalkFault.{WalkFault}
 use Rattle.bt_cursor.specs.declared.fault.WalkFault.TheVariants.{Unsound, Unnamed, Order, Counts}
-use Rattle.bt_cursor.specs.Tree.{Tree, root_place}
-use Rattle.bt_cursor.specs.Flat.{flat_of}
+use Rattle.bt_cursor.specs.Tree.{Tree}
 use Rattle.bt_cursor.specs.Line.{Item, line_of, leaf_pairs}
 use Rattle.bt_cursor.specs.Met.{places_under, places_in, places_of, has_node, nodes_of, is_walkable}
 use Rattle.bt_cursor.specs.Faults.{IsNodeFault, IsWalkFault, HasFeature}
 use Rattle.bt_cursor.specs.Whole.{IsWhole, is_whole}
 use Rattle.bt_cursor.specs.Seen.{reads_for}
-use Rattle.bt_cursor.specs.Liners.{root_of, tree_of, item_of, is_deep, HasPassed, Passes, HasItemIf}
+use Rattle.bt_cursor.specs.Liners.{root_of, tree_of, item_of, is_deep, Passes, HasItemIf}
 use Rattle.bt_cursor.proofs.Flats.{line-pairs}
 use Rattle.bt_cursor.proofs.Lines.{leaf_pairs-append}
 use Rattle.omap_map.specs.Maps.{IsTreeFault}
-use Rattle.omap_map.specs.Gathered.{raised, HasWalked, IsWalked, WalksOn, HasGathered, IsGathered, Gathers}
+use Rattle.omap_map.specs.Gathered.{raised, HasWalked, IsWalked, WalksOn, HasGathered, IsGathered}
 
 filter-more : {X : Type 0} (test : X → Bool) (x : X) (xs : List X) (b : Bool) → test x ≡ b → (b && list_all test xs) ≡ true → (list_all test xs ≡ true → filter test xs ≡ xs) → cond b (x ∷ filter test xs) (filter test xs) ≡ x ∷ xs
 filter-more test x xs true f e rec = ap (λ ys. x ∷ ys) (rec e)

@@ -19,7 +19,6 @@ use Rattle.bt_keys.specs.Shapes.{omap_shape, omap_snap_shape}
 use Rattle.bt_cursor.specs.Tree.{Tree, tree_in}
 use Rattle.bt_cursor.specs.Flat.{flat_of}
 use Rattle.bt_cursor.specs.Met.{nodes_of}
-use Rattle.bt_cursor.specs.declared.fault.WalkFault.{WalkFault}
 use Rattle.bt_cursor.specs.Faults.{IsWalkFault, HasFeature}
 use Rattle.bt_cursor.specs.Whole.{is_whole}
 use Rattle.omap_map.specs.Fields.{snap_count_of, tree_of, snap_tree_of}

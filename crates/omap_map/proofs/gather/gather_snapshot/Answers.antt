@@ -1,10 +1,8 @@
-use Rattle.std.proofs.Common.{◌≡◌, ◌∙◌, ◌++◌, Bool, true, false, sym, ap, subst, rules, List, ℕ, option_to_list}
+use Rattle.std.proofs.Common.{◌≡◌, ◌∙◌, ◌++◌, true, false, ap, subst, rules}
 use Rattle.std.proofs.lemmas.List.Elements.{filter_map-append}
-use Rattle.bt_cursor.specs.declared.seen.Seen.{Seen}
-use Rattle.bt_cursor.specs.Liners.{tree_of, root_of, item_of, seen_of, Sees}
+use Rattle.bt_cursor.specs.Liners.{tree_of, root_of, item_of}
 use Rattle.omap_map.specs.Records.{snapshot_of, snapshots_of}
-use Rattle.omap_map.specs.Gathered.{WalksOn, IsOrdered}
-use Rattle.omap_map.proofs.Orders.{ordered-seen}
+use Rattle.omap_map.specs.Gathered.{WalksOn}
 use Rattle.omap_map.proofs.Walked.{gathers-more, gathers-all}
 use Rattle.omap_map.proofs.gather.gather_snapshot.Goals as goal
 

@@ -1,4 +1,4 @@
-use Rattle.std.proofs.Common.{◌≡◌, ◌∙◌, true, false, [], refl, sym, ap, subst, rules, arith, ℕ}
+use Rattle.std.proofs.Common.{◌≡◌, ◌∙◌, true, false, refl, ap, subst, rules, arith, ℕ}
 use Rattle.obj_base.specs.Stops.{Tells}
 use Rattle.bt_cursor.specs.Tree.{Tree}
 use Rattle.bt_cursor.specs.Faults.{HasFeature}

@@ -1,10 +1,10 @@
-use Rattle.std.proofs.Common.{◌≡◌, ◌∙◌, ◌+◌, sym, ap, subst, Some}
+use Rattle.std.proofs.Common.{◌≡◌, ◌∙◌, ap, subst, Some}
 use Rattle.apfs_model.specs.Blocks.{in_container}
 use Rattle.omap_map.specs.Fields.{tree_of, snap_tree_of, snap_count_of}
 use Rattle.omap_map.specs.Records.{records_of}
 use Rattle.omap_map.specs.Maps.{Contents, record_tree}
 use Rattle.omap_map.specs.Gathered.{IsGathered, HasSnapshots}
-use Rattle.omap_map.proofs.Loads.{block_inside, object-tells, object-means, records-stop, snapshots-stop, HasParts, IsObject, parts-loaded, parts-few}
+use Rattle.omap_map.proofs.Loads.{block_inside, object-tells, object-means, records-stop, snapshots-stop, IsObject, parts-loaded, parts-few}
 use Rattle.omap_map.proofs.omap.Omap.load.Goals as goal
 
 pub returns-in-Err-clause-present : goal.returns-in-Err-clause-present
