@@ -8,3 +8,7 @@ pub mod Steps
 pub mod Orders
 pub mod Gone
 pub mod Passings
+pub mod Ranks
+pub mod Seeks
+pub mod Places
+pub mod Examples

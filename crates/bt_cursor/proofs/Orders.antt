@@ -1,5 +1,5 @@
 -- The first item out of order, and what was seen before it.
-use Rattle.std.proofs.Common.{◌≡◌, ◌==◌, ℕ, zero, suc, ◌+◌, Bool, true, false, cond, List, [], ◌∷◌, ◌++◌, length, map, Option, Some, None, refl, ap, sym, ◌∙◌, arith, append_assoc, append-nil, length-append, ◌&&◌, ◌||◌}
+use Rattle.std.proofs.Common.{◌≡◌, ◌==◌, nat_lt, ℕ, zero, suc, ◌+◌, Bool, true, false, cond, List, [], ◌∷◌, ◌++◌, length, map, Option, Some, None, refl, ap, sym, ◌∙◌, arith, append_assoc, append-nil, length-append, ◌&&◌, ◌||◌}
 use Rattle.std.specs.Prelude.{option_map}
 use Rattle.std.specs.List.{filter, flat_map}
 use Rattle.std.proofs.lemmas.Bool.Decides.{nat_tests}
@@ -14,7 +14,7 @@ use Rattle.bt_node.specs.declared.key.Rank.{Rank}
 use Rattle.bt_cursor.specs.Line.{Item, is_leaf_item, leaf_pairs}
 use Rattle.bt_cursor.specs.Met.{places_under, places_in}
 use Rattle.bt_cursor.specs.Order.{rank_of, is_strict_leaf, ranks_below, ranks_same, is_misplaced, first_misplaced}
-use Rattle.bt_cursor.specs.Seen.{spend, comes_to, seen_start, seen_item, is_out, HasSeen}
+use Rattle.bt_cursor.specs.Seen.{reads_for, spend, comes_to, seen_start, seen_item, is_out, HasSeen}
 use Rattle.bt_cursor.specs.declared.seen.Seen.{Seen}
 use Rattle.bt_cursor.specs.declared.seen.Tally.{Tally}
 use Rattle.bt_cursor.proofs.Lines.{leaf_pairs-append}
@@ -23,11 +23,11 @@ last_or-push : {X : Type 0} (d : X) (xs : List X) (x : X) → last_or d (xs ++ x
 last_or-push d [] x = refl
 last_or-push d (y ∷ ys) x = last_or-push y ys x
 
-last-push : {X : Type 0} (xs : List X) (x : X) → last (xs ++ x ∷ []) ≡ Some x
+pub last-push : {X : Type 0} (xs : List X) (x : X) → last (xs ++ x ∷ []) ≡ Some x
 last-push [] x = refl
 last-push (y ∷ ys) x = ap Some (last_or-push y ys x)
 
-first-if : (b : Bool) (n : ℕ) (others : Option ℕ) → cond b (Some n) others ≡ None → (b ≡ false) × (others ≡ None)
+pub first-if : (b : Bool) (n : ℕ) (others : Option ℕ) → cond b (Some n) others ≡ None → (b ≡ false) × (others ≡ None)
 first-if true n others e = absurd (cc)
 first-if false n others e = (refl, e)
 
@@ -87,6 +87,17 @@ pub places-more : (passed : List Item) (item : Item) → length (places_in (pass
 places-more passed item =
     let f : Item → List _ = λ (i : Item). places_under i.level i.pair in
     omega (arith, ap length (flat_map-append f passed (item ∷ [])), length-append (places_in passed) (places_in (item ∷ [])), ap length (append-nil (places_under item.level item.pair)), under-length item.level item.pair)
+
+read-if : (level : ℕ) (deep : Bool) → deep ≡ nat_lt 0 level → cond (level == 0) 0 1 ≡ reads_for deep
+read-if zero deep e = ap reads_for (sym e)
+read-if (suc level) deep e =
+    let upper : (suc level == 0) ≡ false = grind (arith, nat_tests) in
+    let above : nat_lt 0 (suc level) ≡ true = grind (arith, nat_tests) in
+    ap (λ (b : Bool). cond b 0 1) upper ∙ ap reads_for (sym (e ∙ above))
+
+-- each of them is read once
+pub places_read : (passed : List Item) (item : Item) (deep : Bool) → deep ≡ nat_lt 0 item.level → length (places_in (passed ++ item ∷ [])) ≡ length (places_in passed) + reads_for deep
+places_read passed item deep e = omega (arith, places-more passed item, read-if item.level deep e)
 
 keys-if : (b : Bool) (tally : Tally) (keys l m : ℕ) → ((n : ℕ) → comes_to tally n ≡ (keys == l + n)) → m ≡ l + cond b 1 0 → (n : ℕ) → comes_to (cond b (spend tally) tally) n ≡ (keys == m + n)
 keys-if true tally keys l m each more n = let e : l + suc n ≡ m + n = omega arith in spend-comes tally n ∙ (each (suc n) ∙ ap (λ k. keys == k) e)

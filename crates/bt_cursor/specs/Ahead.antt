@@ -62,10 +62,6 @@ pub record Stands (way : Way) : Type 0 where
   pub leaf : level_of way.last.block.items ≡ 0
   pub some : 0 < way.last.next
 
-abbrev pub StandsIf : Way → Bool → Type 0
-StandsIf way true = Stands way
-StandsIf way false = Unit {0}
-
 -- an entry above level 0 was passed last
 pub record IsDeep (way : Way) : Type 0 where
   pub upper : 0 < level_of way.last.block.items

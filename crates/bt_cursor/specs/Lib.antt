@@ -14,3 +14,4 @@ pub mod Seen
 pub mod Cursors
 pub mod Advance
 pub mod Liners
+pub mod Search

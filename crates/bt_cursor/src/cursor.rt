@@ -4,11 +4,12 @@ ghost use Rattle.bt_cursor.specs.Stack.{IsWay};
 use crate::fault::WalkFault;
 use crate::namer::Namer;
 use crate::node::lend;
+use crate::seek::find;
 use crate::start::start;
 use crate::walk::{back, pass};
 use crate::way::Way;
 use blk_source::BlockSource;
-use bt_node::{Entry, Site, TreeKey};
+use bt_node::{Entry, Rank, Site, TreeKey};
 use obj_base::Stop;
 use std::alloc::Global;
 use std::marker::PhantomData;
@@ -26,7 +27,7 @@ pub struct Cursor<K: TreeKey, N: Namer> {
 }
 
 impl<K: TreeKey, N: Namer> Cursor<K, N> {
-    ghost use Rattle.std.specs.Prelude.{◌≡◌, ℕ, ◌+◌, ◌<◌, ◌≤◌, List, Some, option_map, OnErr, IfOk, IfErr, IsErrOf, IsOk, IsTrue};
+    ghost use Rattle.std.specs.Prelude.{◌≡◌, ℕ, ◌+◌, ◌<◌, ◌≤◌, List, Some, true, option_map, OnOk, OnErr, IfOk, IfErr, IsErrOf, IsOk, IsTrue};
     ghost use Rattle.apfs_model.specs.Counts.{Rose};
     ghost use Rattle.apfs_model.specs.Source.{IsKept};
     ghost use Rattle.obj_base.specs.declared.stop.Stop.TheVariants.{ReadFault, NoMemory};
@@ -34,8 +35,12 @@ impl<K: TreeKey, N: Namer> Cursor<K, N> {
     ghost use Rattle.bt_node.specs.Site.{IsSiteFor};
     ghost use Rattle.bt_cursor.specs.Tree.{tree_in};
     ghost use Rattle.bt_cursor.specs.Flat.{flat_of};
-    ghost use Rattle.bt_cursor.specs.Faults.{IsOfNodes, IsNodeFault, HasFeature};
-    ghost use Rattle.bt_cursor.specs.Cursors.{site_of, root_of, tree_of, left_of, passed_of, fuel_of, IsOn, HasEntry, HasEntryIf, Moves};
+    ghost use Rattle.bt_cursor.specs.Line.{line_of};
+    ghost use Rattle.bt_cursor.specs.Met.{is_walkable};
+    ghost use Rattle.bt_cursor.specs.Order.{is_ordered};
+    ghost use Rattle.bt_cursor.specs.From.{from_rank};
+    ghost use Rattle.bt_cursor.specs.Faults.{IsOfNodes, IsOfWorld, IsNodeFault, HasFeature};
+    ghost use Rattle.bt_cursor.specs.Cursors.{site_of, root_of, tree_of, left_of, passed_of, fuel_of, depth_of, IsOn, HasEntry, Moves};
 
     /// Reads the root, whose id is `root`, and stands before the first entry. Takes all its buffers here.
     pub fn new<S: BlockSource>(
@@ -52,19 +57,22 @@ impl<K: TreeKey, N: Namer> Cursor<K, N> {
         ensures left { (image : List ℕ) → S.bytes src.old ≡ Some image → IfOk result (λ cursor. left_of cursor image ≡ flat_of (tree_in K.shape site (N.named namer) image) root) }
         ensures within { (image : List ℕ) → S.bytes src.old ≡ Some image → IfOk result (IsOn image) }
         ensures present { (image : List ℕ) → S.bytes src.old ≡ Some image → IfErr result (Tells (IsNodeFault (tree_in K.shape site (N.named namer) image) root) (HasFeature (tree_in K.shape site (N.named namer) image) root)) }
+        ensures clear { (image : List ℕ) → S.bytes src.old ≡ Some image → is_walkable (tree_in K.shape site (N.named namer) image) root ≡ true → IfErr result IsOfWorld }
         ensures nodes { IfErr result IsOfNodes }
         ensures reads { S.reads src.new ≤ S.reads src.old + 1 }
         ensures cause { IsErrOf result ReadFault → Rose (S.faults src.old) (S.faults src.new) }
         ensures kept { IsKept S.bytes S.bytes_len S.faults src.old src.new }
     {
-        let way = start::<K, S, N>(alloc, src, &namer, &site, root)?;
-        Ok(Cursor {
-            namer,
-            site,
-            root,
-            way,
-            kind: PhantomData,
-        })
+        match start::<K, S, N>(alloc, src, &namer, &site, root) {
+            Ok(way) => Ok(Cursor {
+                namer,
+                site,
+                root,
+                way,
+                kind: PhantomData,
+            }),
+            Err(stop) => Err(stop),
+        }
     }
 
     /// Stands before the first entry. Reads nothing, since the root is kept.
@@ -82,6 +90,30 @@ impl<K: TreeKey, N: Namer> Cursor<K, N> {
         Ok(())
     }
 
+    /// Stands before the first entry whose rank isn't below `rank`, where the Line is ordered: by a search in each node
+    /// on the way down from the root. Takes no memory. After an error its place isn't known; `first` and `seek` know
+    /// one again.
+    pub fn seek<S: BlockSource>(&mut self, src: &mut S, rank: &Rank) -> Result<(), Stop<WalkFault>>
+        requires site { IsSiteFor (site_of self.old) (S.bytes_len src.old) }
+        ensures site { site_of self.new ≡ site_of self.old }
+        ensures root { root_of self.new ≡ root_of self.old }
+        ensures tree { tree_of self.new ≡ tree_of self.old }
+        ensures left { (image : List ℕ) → S.bytes src.old ≡ Some image → IsOn image self.old → is_ordered K.shape (line_of (tree_of self.old image) (root_of self.old)) ≡ true → OnOk result (left_of self.new image ≡ from_rank K.shape rank.now (flat_of (tree_of self.old image) (root_of self.old))) }
+        ensures within { (image : List ℕ) → S.bytes src.old ≡ Some image → IsOn image self.old → IsOn image self.new }
+        ensures present { (image : List ℕ) → S.bytes src.old ≡ Some image → IsOn image self.old → IfErr result (Tells (IsNodeFault (tree_of self.old image) (root_of self.old)) (HasFeature (tree_of self.old image) (root_of self.old))) }
+        ensures clear { (image : List ℕ) → S.bytes src.old ≡ Some image → IsOn image self.old → is_walkable (tree_of self.old image) (root_of self.old) ≡ true → IfErr result IsOfWorld }
+        ensures nodes { IfErr result IsOfNodes }
+        ensures reads { S.reads src.new ≤ S.reads src.old + depth_of self.old }
+        ensures cause { IsErrOf result ReadFault → Rose (S.faults src.old) (S.faults src.new) }
+        ensures memory { IsErrOf result NoMemory → ⊥ }
+        ensures kept { IsKept S.bytes S.bytes_len S.faults src.old src.new }
+    {
+        match find::<K, S, N>(src, &self.namer, &self.site, &mut self.way, rank) {
+            Ok(()) => Ok(()),
+            Err(stop) => Err(stop),
+        }
+    }
+
     /// Moves onto the next entry of the flat list; false at its end. Takes no memory. After an error it stands where
     /// it stood.
     pub fn next<S: BlockSource>(&mut self, src: &mut S) -> Result<bool, Stop<WalkFault>>
@@ -91,16 +123,20 @@ impl<K: TreeKey, N: Namer> Cursor<K, N> {
         ensures tree { tree_of self.new ≡ tree_of self.old }
         ensures moved { (image : List ℕ) → S.bytes src.old ≡ Some image → IfOk result (Moves image self.old self.new) }
         ensures left { (image : List ℕ) → S.bytes src.old ≡ Some image → OnErr result (left_of self.new image ≡ left_of self.old image) }
-        ensures stands { IfOk result (HasEntryIf self.new) }
+        ensures stands { IfOk result (λ more. IsTrue more → HasEntry self.new) }
         ensures within { (image : List ℕ) → S.bytes src.old ≡ Some image → IsOn image self.old → IsOn image self.new }
         ensures present { (image : List ℕ) → S.bytes src.old ≡ Some image → IsOn image self.old → IfErr result (Tells (IsNodeFault (tree_of self.old image) (root_of self.old)) (HasFeature (tree_of self.old image) (root_of self.old))) }
+        ensures clear { (image : List ℕ) → S.bytes src.old ≡ Some image → IsOn image self.old → is_walkable (tree_of self.old image) (root_of self.old) ≡ true → IfErr result IsOfWorld }
         ensures nodes { IfErr result IsOfNodes }
         ensures fuel { IfOk result (λ more. IsTrue more → fuel_of self.new < fuel_of self.old) }
         ensures cause { IsErrOf result ReadFault → Rose (S.faults src.old) (S.faults src.new) }
         ensures memory { IsErrOf result NoMemory → ⊥ }
         ensures kept { IsKept S.bytes S.bytes_len S.faults src.old src.new }
     {
-        pass::<K, S, N>(src, &self.namer, &self.site, &mut self.way)
+        match pass::<K, S, N>(src, &self.namer, &self.site, &mut self.way) {
+            Ok(more) => Ok(more),
+            Err(stop) => Err(stop),
+        }
     }
 
     /// The entry onto which the last call of `next` moved, lent from its block.

@@ -6,8 +6,11 @@ mod fault;
 mod liner;
 mod namer;
 mod node;
+mod seek;
 mod seen;
 mod start;
+#[cfg(test)]
+mod tests;
 mod walk;
 mod way;
 

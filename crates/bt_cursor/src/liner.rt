@@ -40,15 +40,17 @@ pub struct LineItem<'a, K: TreeKey> {
 }
 
 impl<K: TreeKey, N: Namer> Liner<K, N> {
-    ghost use Rattle.std.specs.Prelude.{◌≡◌, ℕ, ◌+◌, ◌-◌, ◌<◌, ◌≤◌, nat_lt, false, List, [], Some, option_map, OnOk, IfOk, IfErr, IsErrOf, IsTrue};
+    ghost use Rattle.std.specs.Prelude.{◌≡◌, ℕ, ◌+◌, ◌-◌, ◌<◌, ◌≤◌, nat_lt, true, false, List, [], ◌∷◌, ◌++◌, Some, option_map, OnOk, IfOk, IfErr, IsErrOf, IsTrue, IsFalse};
     ghost use Rattle.apfs_model.specs.Counts.{Rose};
     ghost use Rattle.apfs_model.specs.Source.{IsKept};
     ghost use Rattle.obj_base.specs.declared.stop.Stop.TheVariants.{ReadFault, NoMemory};
     ghost use Rattle.obj_base.specs.Stops.{Tells};
     ghost use Rattle.bt_node.specs.Site.{IsSiteFor};
     ghost use Rattle.bt_cursor.specs.Tree.{tree_in};
-    ghost use Rattle.bt_cursor.specs.Line.{Item};
-    ghost use Rattle.bt_cursor.specs.Faults.{IsOfNodes, IsNodeFault, IsWalkFault, HasFeature};
+    ghost use Rattle.bt_cursor.specs.Line.{Item, line_of};
+    ghost use Rattle.bt_cursor.specs.Met.{is_walkable};
+    ghost use Rattle.bt_cursor.specs.Whole.{IsWhole};
+    ghost use Rattle.bt_cursor.specs.Faults.{IsOfNodes, IsOfWorld, IsNodeFault, IsWalkFault, HasFeature};
     ghost use Rattle.bt_cursor.specs.Stack.{IsIn};
     ghost use Rattle.bt_cursor.specs.Ahead.{passed_child};
     ghost use Rattle.bt_cursor.specs.Seen.{reads_for};
@@ -71,22 +73,27 @@ impl<K: TreeKey, N: Namer> Liner<K, N> {
         ensures seen { IfOk result HasSeenNone }
         ensures passed { (image : List ℕ) → S.bytes src.old ≡ Some image → IfOk result (HasPassed image []) }
         ensures present { (image : List ℕ) → S.bytes src.old ≡ Some image → IfErr result (Tells (IsNodeFault (tree_in K.shape site (N.named namer) image) root) (HasFeature (tree_in K.shape site (N.named namer) image) root)) }
+        ensures clear { (image : List ℕ) → S.bytes src.old ≡ Some image → is_walkable (tree_in K.shape site (N.named namer) image) root ≡ true → IfErr result IsOfWorld }
         ensures nodes { IfErr result IsOfNodes }
         ensures reads { S.reads src.new ≤ S.reads src.old + 1 }
         ensures cause { IsErrOf result ReadFault → Rose (S.faults src.old) (S.faults src.new) }
         ensures kept { IsKept S.bytes S.bytes_len S.faults src.old src.new }
     {
-        let way = start::<K, S, N>(alloc, src, &namer, &site, root)?;
-        let seen = begin(info::<K>(&way.last, &site));
-        Ok(Liner {
-            namer,
-            site,
-            root,
-            way,
-            deep: false,
-            seen,
-            kind: PhantomData,
-        })
+        match start::<K, S, N>(alloc, src, &namer, &site, root) {
+            Ok(way) => {
+                let seen = begin(info::<K>(&way.last, &site));
+                Ok(Liner {
+                    namer,
+                    site,
+                    root,
+                    way,
+                    deep: false,
+                    seen,
+                    kind: PhantomData,
+                })
+            }
+            Err(stop) => Err(stop),
+        }
     }
 
     // Moves onto the next item, by what was seen so far.
@@ -137,6 +144,7 @@ impl<K: TreeKey, N: Namer> Liner<K, N> {
         ensures tree { tree_of self.new ≡ tree_of self.old }
         ensures passed { (image : List ℕ) → S.bytes src.old ≡ Some image → (passed : List Item) → HasPassed image passed self.old → IfOk result (Passes image passed self.old self.new) }
         ensures present { (image : List ℕ) → S.bytes src.old ≡ Some image → (passed : List Item) → HasPassed image passed self.old → IfErr result (Tells (IsWalkFault (tree_of self.old image) (root_of self.old)) (HasFeature (tree_of self.old image) (root_of self.old))) }
+        ensures clear { (image : List ℕ) → S.bytes src.old ≡ Some image → (passed : List Item) → HasPassed image passed self.old → IsWhole (tree_of self.old image) (root_of self.old) → IfErr result IsOfWorld }
         ensures seen { IfOk result (Sees self.old self.new) }
         ensures stands { IfOk result (HasItemIf self.new) }
         ensures reads { S.reads src.new ≤ S.reads src.old + reads_for (is_deep self.old) }

@@ -10,7 +10,7 @@ ghost use Rattle.bt_node.specs.Site.{IsSiteFor};
 ghost use Rattle.bt_cursor.specs.Tree.{Look, tree_by, tree_in, look_in, child_place};
 ghost use Rattle.bt_cursor.specs.Faults.{IsOfNodes, IsNodeFault, HasFeature};
 ghost use Rattle.bt_cursor.specs.Stack.{IsWay, IsIn};
-ghost use Rattle.bt_cursor.specs.Ahead.{items_of, ahead, ahead_if, pairs_ahead, passed_child, IsDeep, MovesWay, StandsIf};
+ghost use Rattle.bt_cursor.specs.Ahead.{items_of, ahead, ahead_if, pairs_ahead, passed_child, IsDeep, MovesWay, Stands};
 ghost use Rattle.bt_cursor.specs.Fuel.{weight, fuel_way, fuel_if};
 ghost use Rattle.bt_cursor.specs.Seen.{reads_for};
 ghost use Rattle.bt_cursor.specs.Advance.{Entered};
@@ -174,7 +174,7 @@ pub(crate) fn pass<K: TreeKey, S: BlockSource, N: Namer>(
     ensures way { IsWay K.shape site.now way.new.above.items way.new.last way.new.spare.items }
     ensures moved { (image : List ℕ) → S.bytes src.old ≡ Some image → IfOk result (MovesWay (tree_in K.shape site.now (N.named namer.now) image) way.old way.new) }
     ensures same { (image : List ℕ) → S.bytes src.old ≡ Some image → OnErr result (pairs_ahead (tree_in K.shape site.now (N.named namer.now) image) way.new ≡ pairs_ahead (tree_in K.shape site.now (N.named namer.now) image) way.old) }
-    ensures stands { IfOk result (StandsIf way.new) }
+    ensures stands { IfOk result (λ more. IsTrue more → Stands way.new) }
     ensures within { (image : List ℕ) → S.bytes src.old ≡ Some image → (root : ℕ) → IsIn (tree_in K.shape site.now (N.named namer.now) image) root way.old.above.items way.old.last → IsIn (tree_in K.shape site.now (N.named namer.now) image) root way.new.above.items way.new.last }
     ensures present { (image : List ℕ) → S.bytes src.old ≡ Some image → (root : ℕ) → IsIn (tree_in K.shape site.now (N.named namer.now) image) root way.old.above.items way.old.last → IfErr result (Tells (IsNodeFault (tree_in K.shape site.now (N.named namer.now) image) root) (HasFeature (tree_in K.shape site.now (N.named namer.now) image) root)) }
     ensures nodes { IfErr result IsOfNodes }

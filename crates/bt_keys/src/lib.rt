@@ -1,9 +1,13 @@
 //! The keys and the values of the seven kinds of trees.
 #![tactic(auto)]
 
+#[cfg(test)]
+mod node_tests;
 mod number_key;
 mod record;
 mod record_key;
+#[cfg(test)]
+mod tests;
 mod values;
 
 pub use number_key::{OmapKey, OmapSnapKey, QueueKey};

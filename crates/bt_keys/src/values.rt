@@ -1,5 +1,5 @@
 // The values of the trees whose keys and values have fixed lengths.
-ghost use Rattle.std.specs.Prelude.{◌≡◌, ◌≤◌, ◌+◌, length, None, Some, option_map};
+ghost use Rattle.std.specs.Prelude.{◌≡◌, ◌≤◌, ◌+◌, length, option_map};
 ghost use Rattle.apfs_model.specs.Bytes.{i32_at};
 ghost use Rattle.bt_keys.specs.Values as spec;
 

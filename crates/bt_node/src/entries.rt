@@ -1,9 +1,8 @@
 // The entries of a node, lent from its bytes.
-ghost use Rattle.std.specs.Prelude.{◌≡◌, ◌+◌, ◌*◌, ◌≤◌, length, true, false, option_map};
+ghost use Rattle.std.specs.Prelude.{◌≡◌, ◌+◌, ◌*◌, ◌≤◌, length, false, option_map};
 ghost use Rattle.apfs_model.specs.Bytes as numbers;
 ghost use Rattle.bt_node.specs.Node as fields;
 ghost use Rattle.bt_node.specs.Entries as spec;
-ghost use Rattle.bt_node.specs.Soundness as sound;
 
 use crate::{TreeKey, node};
 use obj_base::{u16_at, u64_at};
@@ -12,7 +11,7 @@ use obj_base::{u16_at, u64_at};
 const NO_VALUE: u16 = 0xffff;
 
 // The bytes of a child's oid, which is what a fixed value holds above level 0.
-const CHILD_LEN: usize = 8;
+pub(crate) const CHILD_LEN: usize = 8;
 
 // The bytes of a table entry with offsets alone (kvoff_t), and with offsets and lengths (kvloc_t).
 const FIXED_LEN: usize = 4;
@@ -128,8 +127,8 @@ pub(crate) fn value_in(bytes: &[u8], place: Place) -> Option<&[u8]>
     if is_ghost(place) {
         return None;
     }
-    let at = node::end(bytes) - usize::from(place.value_offset);
-    Some(&bytes[at..at + place.value_len])
+    let begin = node::end(bytes) - usize::from(place.value_offset);
+    Some(&bytes[begin..begin + place.value_len])
 }
 
 // The oid at the value's begin.

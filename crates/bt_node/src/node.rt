@@ -164,11 +164,8 @@ pub(crate) fn end(bytes: &[u8]) -> usize
     ensures end { result ≡ fields.end_of bytes.now }
     ensures inside { result ≤ length bytes.now }
 {
-    if is_root(bytes) {
-        bytes.len() - INFO_LEN
-    } else {
-        bytes.len()
-    }
+    let info = if is_root(bytes) { INFO_LEN } else { 0 };
+    bytes.len() - info
 }
 
 #[tactic(auto, unfolding(crate::specs::Node::node_size_of))]

@@ -1,12 +1,15 @@
 // The tests of a node, in their order.
-ghost use Rattle.std.specs.Prelude.{◌≡◌, ◌+◌, ◌*◌, ◌≤◌, ◌<◌, ◌%◌, length, true, false, Ok, Err, MatchResult};
+//
+// Tests: the header, the flags, the level, the size, the table of contents, and each entry's place, value and key.
+// Gives: the first test that fails.
+// Rests on: the bytes of one block alone, and what is expected of its node.
+ghost use Rattle.std.specs.Prelude.{◌≡◌, ◌≤◌, ◌<◌, ◌%◌, length, true, MatchResult};
 ghost use Rattle.bt_node.specs.Node as fields;
-ghost use Rattle.bt_node.specs.Entries as entry;
 ghost use Rattle.bt_node.specs.Soundness as spec;
 
-use crate::entries::{self, Place};
+use crate::entries::{self, CHILD_LEN, Place};
 use crate::{Layout, NodeAt, NodeFault, Site, TreeKey, node};
-use obj_base::{Bad, Expect, Feature, sound};
+use obj_base::{Bad, Expect, Feature, HeadFault, sound};
 
 // The kinds of a tree's root and of its other nodes (Objects, Object Types).
 const ROOT_KIND: u16 = 2;
@@ -15,9 +18,6 @@ const NODE_KIND: u16 = 3;
 
 // The greatest level of a root that is read.
 const MAX_LEVEL: u16 = 15;
-
-// The bytes of a child's oid.
-const CHILD_LEN: usize = 8;
 
 fn subtype<K: TreeKey>() -> u32
     ensures { result ≡ K.shape.subtype }
@@ -94,6 +94,7 @@ fn is_empty(bytes: &[u8]) -> bool
     node::count(bytes) == 0 && !(node::is_root(bytes) && node::level(bytes) == 0)
 }
 
+// Whether a key lies between where the keys begin and where the values end.
 #[tactic(auto, unfolding(crate::specs::Soundness::is_key_inside))]
 fn is_key_inside(bytes: &[u8], place: Place) -> bool
     requires { 96 ≤ length bytes.now }
@@ -104,6 +105,7 @@ fn is_key_inside(bytes: &[u8], place: Place) -> bool
     begin <= end && place.key_len <= end - begin
 }
 
+// Whether a value does, and has room for a child's oid above level 0.
 #[tactic(auto, unfolding(crate::specs::Soundness::is_value_inside))]
 fn is_value_inside(bytes: &[u8], place: Place) -> bool
     requires { 96 ≤ length bytes.now }
@@ -116,6 +118,7 @@ fn is_value_inside(bytes: &[u8], place: Place) -> bool
             && (node::level(bytes) == 0 || CHILD_LEN <= place.value_len))
 }
 
+// Whether the table of contents holds its entries, and ends by where the values end.
 #[tactic(auto, unfolding(crate::specs::Soundness::is_table_inside))]
 fn is_table_inside(bytes: &[u8]) -> bool
     requires { 96 ≤ length bytes.now }
@@ -256,7 +259,7 @@ fn test_node<K: TreeKey>(bytes: &[u8], at: &NodeAt, site: &Site) -> Result<(), B
 }
 
 // A fault of the header as one of the node.
-fn of_header(bad: Bad<obj_base::HeadFault>) -> Bad<NodeFault>
+fn of_header(bad: Bad<HeadFault>) -> Bad<NodeFault>
     ensures { result ≡ spec.of_header bad }
 {
     match bad {

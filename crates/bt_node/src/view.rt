@@ -1,5 +1,5 @@
 // A node, over the block that is handed in.
-ghost use Rattle.std.specs.Prelude.{◌≡◌, ◌↔◌, ◌<◌, ℕ, List, length, true, Some, option_map, IsOk, IfOk, slice_get};
+ghost use Rattle.std.specs.Prelude.{◌≡◌, ◌↔◌, ◌<◌, length, true, option_map, IsOk, IfOk, slice_get};
 ghost use Rattle.obj_base.specs.BlockSize as sizes;
 ghost use Rattle.bt_node.specs.Node as fields;
 ghost use Rattle.bt_node.specs.Entries as spec;
@@ -38,7 +38,7 @@ impl<'a, K: TreeKey> Model for NodeView<'a, K> {
 
 impl<'a, K: TreeKey> NodeView<'a, K> {
     /// The node in a block, or the first test that fails: the header's, `Sealed`, `NoHeader`, `Flags`, `Deep`, `Level`,
-    /// `Size`, `Empty`, `Bounds`, `Ghost`, `Key`.
+    /// `Size`, `Empty`, `Bounds`, `Ghost`, `Key`. The block size is one that is read, and the block has that many bytes.
     #[tactic(auto, using(crate::proofs::Laws::node_legible, crate::proofs::Laws::node_means, crate::proofs::Laws::means_node))]
     pub fn read(
         bytes: &'a [u8],
@@ -52,10 +52,7 @@ impl<'a, K: TreeKey> NodeView<'a, K> {
         ensures decides { IsOk result ↔ IsSoundNode K.shape at.now site.now bytes.now }
     {
         match soundness::test::<K>(bytes, at, site) {
-            Ok(()) => Ok(NodeView {
-                bytes,
-                kind: PhantomData,
-            }),
+            Ok(()) => Ok(NodeView::kept(bytes, at, site)),
             Err(bad) => Err(bad),
         }
     }

@@ -5,14 +5,15 @@ use Rattle.bt_cursor.specs.Ahead.{line_from, rest, passed_child}
 use Rattle.bt_cursor.specs.Seen.{seen_start}
 use Rattle.bt_cursor.proofs.Flats.{line-start}
 use Rattle.bt_cursor.proofs.Gone.{gone-start}
+use Rattle.bt_cursor.proofs.Places.{tree-levelled, node-world}
 use Rattle.bt_cursor.proofs.Ways.{IsIn-start}
 use Rattle.bt_cursor.proofs.liner.Liner.new.Goals as goal
 
-pub returns-clause-passed : goal.returns-clause-passed
-returns-clause-passed g c image told =
+pub returns-in-Ok-clause-passed : goal.returns-in-Ok-clause-passed
+returns-in-Ok-clause-passed g c image told =
     let tree = tree_in g.K.TreeKey.shape c.args.site (g.N.Namer.named c.args.namer) image in
-    let way = c.in_ok-way.way in
-    let at = c.in_ok-way.ensures in
+    let way = c.in-Ok.way in
+    let at = c.in-Ok.ensures in
     let node = way.last.block.items in
     let found = at.found image told in
     record {
@@ -20,3 +21,8 @@ returns-clause-passed g c image told =
       gone = gone-start tree c.args.root node _ c.begin-seen.result _ found (sym (line-start tree c.args.root way.above.items way.last at.start.above at.start.next found))
           (c.begin-seen.ensures ∙ (ap (λ n. seen_start n c.info.result.node_count) c.info.ensures.keys ∙ ap (seen_start (key_count_of node)) c.info.ensures.nodes));
     }
+
+pub returns-in-Err-clause-clear : goal.returns-in-Err-clause-clear
+returns-in-Err-clause-clear g c image told walkable =
+    let named = g.N.Namer.named c.args.namer in
+    node-world (tree_in g.K.TreeKey.shape c.args.site named image) c.args.root c.in-Err.stop (tree-levelled g.K.TreeKey.shape c.args.site named image) walkable (c.in-Err.ensures.present image told)

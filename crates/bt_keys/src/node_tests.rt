@@ -1,0 +1,285 @@
+// Nodes read with the keys of their trees. The node that the cases start from is a root of level 0 of an object map's
+// tree, in block 26 of 4,096 bytes: its table is at offset 0 with length 4, and has one entry of key offset 0 and value
+// offset 16.
+
+use crate::{ExtKey, FsKey, OmapKey, QueueKey};
+use bt_node::{NodeAt, NodeFault, NodeView, Site, TreeKey};
+use obj_base::{Bad, Feature, HeadFault, sum64};
+use std::test::Fail;
+
+const SITE: Site = Site {
+    block_size: 4096,
+    blocks: 256,
+    max_xid: 1,
+};
+
+const AT: NodeAt = NodeAt {
+    oid: 26,
+    root: true,
+    level: None,
+};
+
+// The fields that the cases change, by offset.
+const OID: usize = 8;
+
+const KIND: usize = 24;
+
+const SUBTYPE: usize = 28;
+
+const FLAGS: usize = 32;
+
+const LEVEL: usize = 34;
+
+const COUNT: usize = 36;
+
+const TABLE_OFFSET: usize = 40;
+
+const TABLE_LENGTH: usize = 42;
+
+const KEY_OFFSET: usize = 56;
+
+const VALUE_OFFSET: usize = 58;
+
+const NODE_SIZE: usize = 4060;
+
+// A field's place and its 16 bits.
+type Edit = (usize, u16);
+
+// What a case is called, why its node isn't sound, and what is changed.
+type Case = (&'static str, Option<Bad<NodeFault>>, &'static [Edit]);
+
+const BASE: &[Edit] = &[
+    (OID, 26),
+    (16, 1),
+    (KIND, 2),
+    (SUBTYPE, 0xb),
+    (FLAGS, 7),
+    (COUNT, 1),
+    (TABLE_LENGTH, 4),
+    (KEY_OFFSET, 0),
+    (VALUE_OFFSET, 16),
+    (NODE_SIZE, 4096),
+    (4080, 1),
+    (4088, 1),
+];
+
+fn put(node: &mut [u8; 4096], edits: &[Edit]) {
+    for (at, value) in edits {
+        if *at < 4095 {
+            node[*at] = (*value % 256) as u8;
+            node[*at + 1] = (*value / 256) as u8;
+        }
+    }
+}
+
+fn seal(node: &mut [u8; 4096]) {
+    let sum = sum64(&node[..]).to_le_bytes();
+    for i in 0..8 {
+        node[i] = sum[i];
+    }
+}
+
+fn made(edits: &[Edit]) -> [u8; 4096] {
+    let mut node = [0; 4096];
+    put(&mut node, BASE);
+    put(&mut node, edits);
+    seal(&mut node);
+    node
+}
+
+// Why the node isn't sound, or None where it is.
+fn fault<K: TreeKey>(node: &[u8; 4096], at: &NodeAt) -> Option<Bad<NodeFault>> {
+    match NodeView::<K>::read(&node[..], at, &SITE) {
+        Ok(_) => None,
+        Err(bad) => Some(bad),
+    }
+}
+
+const HEAD: Option<Bad<NodeFault>> = Some(Bad::Found(NodeFault::Head(HeadFault::BadKind)));
+
+const SEALED: Option<Bad<NodeFault>> = Some(Bad::Unsupported(Feature::Sealed));
+
+const NO_HEADER: Option<Bad<NodeFault>> = Some(Bad::Unsupported(Feature::NoHeader));
+
+const WRONG_FLAGS: Option<Bad<NodeFault>> = Some(Bad::Found(NodeFault::Flags));
+
+const DEEP: Option<Bad<NodeFault>> = Some(Bad::Unsupported(Feature::Deep));
+
+const WRONG_LEVEL: Option<Bad<NodeFault>> = Some(Bad::Found(NodeFault::Level));
+
+const WRONG_SIZE: Option<Bad<NodeFault>> = Some(Bad::Unsupported(Feature::Size));
+
+const EMPTY: Option<Bad<NodeFault>> = Some(Bad::Found(NodeFault::Empty));
+
+const BOUNDS: Option<Bad<NodeFault>> = Some(Bad::Found(NodeFault::Bounds));
+
+const GHOST: Option<Bad<NodeFault>> = Some(Bad::Found(NodeFault::Ghost));
+
+const KEY: Option<Bad<NodeFault>> = Some(Bad::Found(NodeFault::Key));
+
+// Each test that an object map's node can fail alone, and then each neighbour pair, of which the first is named.
+const CASES: &[Case] = &[
+    ("nothing fails", None, &[]),
+    ("header", HEAD, &[(KIND, 3)]),
+    ("sealed", SEALED, &[(FLAGS, 7 + 8)]),
+    ("no header", NO_HEADER, &[(FLAGS, 7 + 16)]),
+    ("root flag", WRONG_FLAGS, &[(FLAGS, 6)]),
+    ("leaf flag", WRONG_FLAGS, &[(FLAGS, 5)]),
+    (
+        "fixed flag",
+        WRONG_FLAGS,
+        &[(FLAGS, 3), (60, 16), (62, 16), (TABLE_LENGTH, 8)],
+    ),
+    ("deep", DEEP, &[(FLAGS, 5), (LEVEL, 16)]),
+    ("size", WRONG_SIZE, &[(NODE_SIZE, 8192)]),
+    ("empty", EMPTY, &[(FLAGS, 5), (LEVEL, 1), (COUNT, 0)]),
+    ("value past the end", BOUNDS, &[(VALUE_OFFSET, 8)]),
+    ("value before the keys", BOUNDS, &[(VALUE_OFFSET, 4000)]),
+    ("key past the end", BOUNDS, &[(KEY_OFFSET, 3981)]),
+    ("table too short", BOUNDS, &[(TABLE_LENGTH, 3)]),
+    (
+        "table past the end",
+        BOUNDS,
+        &[(COUNT, 0), (TABLE_OFFSET, 4000)],
+    ),
+    ("ghost", GHOST, &[(VALUE_OFFSET, 0xffff)]),
+    ("header, sealed", HEAD, &[(KIND, 3), (FLAGS, 7 + 8)]),
+    ("sealed, no header", SEALED, &[(FLAGS, 7 + 8 + 16)]),
+    ("no header, flags", NO_HEADER, &[(FLAGS, 6 + 16)]),
+    ("flags, deep", WRONG_FLAGS, &[(FLAGS, 7), (LEVEL, 16)]),
+    (
+        "bounds, ghost",
+        BOUNDS,
+        &[(KEY_OFFSET, 3981), (VALUE_OFFSET, 0xffff)],
+    ),
+];
+
+#[test]
+fn the_first_failing_test_is_named(rt: HostRuntime) {
+    for (name, expected, edits) in CASES {
+        assert_eq!(rt; fault::<OmapKey>(&made(edits), &AT), *expected, "{name}");
+    }
+}
+
+// The same where level 1 is expected of the root.
+const LEVEL_CASES: &[Case] = &[
+    ("level", WRONG_LEVEL, &[]),
+    ("level, size", WRONG_LEVEL, &[(NODE_SIZE, 8192)]),
+    ("deep, level", DEEP, &[(FLAGS, 5), (LEVEL, 16)]),
+    (
+        "size, empty",
+        WRONG_SIZE,
+        &[(FLAGS, 5), (LEVEL, 1), (COUNT, 0), (NODE_SIZE, 8192)],
+    ),
+    (
+        "empty, bounds",
+        EMPTY,
+        &[(FLAGS, 5), (LEVEL, 1), (COUNT, 0), (TABLE_OFFSET, 4000)],
+    ),
+];
+
+#[test]
+fn levels_are_compared_in_their_turn(rt: HostRuntime) {
+    let at = NodeAt {
+        level: Some(1),
+        ..AT
+    };
+    for (name, expected, edits) in LEVEL_CASES {
+        assert_eq!(rt; fault::<OmapKey>(&made(edits), &at), *expected, "{name}");
+    }
+}
+
+// The record key of an inode of a file-system tree is 8 bytes with kind 3; the entry of the table has lengths.
+const FS: &[Edit] = &[
+    (SUBTYPE, 0xe),
+    (FLAGS, 3),
+    (TABLE_LENGTH, 8),
+    (58, 8),
+    (60, 16),
+    (62, 16),
+    (64, 2),
+    (70, 0x3000),
+];
+
+const KEY_CASES: &[Case] = &[
+    ("nothing fails", None, &[]),
+    ("key", KEY, &[(58, 7)]),
+    ("ghost, key", GHOST, &[(58, 7), (60, 0xffff)]),
+];
+
+#[test]
+fn keys_are_read_last(rt: HostRuntime) {
+    for (name, expected, edits) in KEY_CASES {
+        let mut node = made(FS);
+        put(&mut node, edits);
+        seal(&mut node);
+        assert_eq!(rt; fault::<FsKey>(&node, &AT), *expected, "{name}");
+    }
+}
+
+#[test]
+fn an_entry_is_lent_from_its_block(rt: HostRuntime) -> Result<(), Fail> {
+    let node = made(&[(60, 5), (4040, 9)]);
+    let Ok(read) = NodeView::<OmapKey>::read(&node[..], &AT, &SITE) else {
+        return Err(Fail::from("not sound"));
+    };
+    assert_eq!(rt; read.level(), 0);
+    assert_eq!(rt; read.len(), 1);
+    let view = NodeView::<OmapKey>::kept(&node[..], &AT, &SITE);
+    let entry = view.entry(0);
+    assert_eq!(rt; entry.key_bytes, &node[60..76]);
+    assert_eq!(rt; entry.value, Some(&node[4040..4056]));
+    assert_eq!(rt; entry.key, OmapKey { oid: 5, xid: 0 });
+    Ok(())
+}
+
+#[test]
+fn a_root_without_entries_is_sound(rt: HostRuntime) -> Result<(), Fail> {
+    let node = made(&[(COUNT, 0), (TABLE_LENGTH, 0)]);
+    let Ok(view) = NodeView::<OmapKey>::read(&node[..], &AT, &SITE) else {
+        return Err(Fail::from("not sound"));
+    };
+    assert_eq!(rt; view.len(), 0);
+    let info = view.info().ok_or("no root")?;
+    assert_eq!(rt; info.node_size, 4096);
+    assert_eq!(rt; info.key_count, 1);
+    assert_eq!(rt; info.node_count, 1);
+    Ok(())
+}
+
+// A queue's entry may have no value, and an extent reference tree's nodes have either layout.
+#[test]
+fn ghosts_and_both_layouts(rt: HostRuntime) -> Result<(), Fail> {
+    let node = made(&[(SUBTYPE, 9), (VALUE_OFFSET, 0xffff)]);
+    let Ok(view) = NodeView::<QueueKey>::read(&node[..], &AT, &SITE) else {
+        return Err(Fail::from("not sound"));
+    };
+    if view.len() == 1 {
+        assert_eq!(rt; view.entry(0).value, None);
+    }
+    let fixed = made(&[(SUBTYPE, 0xf), (VALUE_OFFSET, 20), (66, 0x2000)]);
+    assert_eq!(rt; fault::<ExtKey>(&fixed, &AT), None);
+    let variable = made(&[
+        (SUBTYPE, 0xf),
+        (FLAGS, 3),
+        (TABLE_LENGTH, 8),
+        (58, 8),
+        (60, 20),
+        (62, 20),
+        (70, 0x2000),
+    ]);
+    assert_eq!(rt; fault::<ExtKey>(&variable, &AT), None);
+    Ok(())
+}
+
+#[test]
+fn a_node_above_the_leaves_names_children(rt: HostRuntime) -> Result<(), Fail> {
+    let node = made(&[(FLAGS, 5), (LEVEL, 1), (4040, 9), (4046, 0x100)]);
+    let Ok(view) = NodeView::<OmapKey>::read(&node[..], &AT, &SITE) else {
+        return Err(Fail::from("not sound"));
+    };
+    if view.len() == 1 && view.level() == 1 {
+        assert_eq!(rt; view.child(0), 9 + 0x0100_0000_0000_0000);
+    }
+    Ok(())
+}

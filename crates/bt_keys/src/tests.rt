@@ -1,0 +1,157 @@
+// Keys and values by hand.
+
+use crate::*;
+use bt_node::{Rank, TreeKey};
+use std::process::Abort;
+
+// A key's bytes, and its rank and whether it is strict, or None where the bytes hold no key.
+type Case = (&'static [u8], Option<(u64, u64, u64, bool)>);
+
+fn seen<K: TreeKey>(key: &[u8]) -> Option<(u64, u64, u64, bool)> {
+    let key = K::read(key)?;
+    let rank = key.rank();
+    Some((rank.id, rank.kind, rank.sub, key.strict()))
+}
+
+fn read_all<K: TreeKey>(rt: &impl Abort, cases: &[Case]) {
+    for (key, expected) in cases {
+        assert_eq!(rt; seen::<K>(key), *expected, "{key:?}");
+    }
+}
+
+fn rank(id: u64, kind: u64, sub: u64) -> Rank {
+    Rank { id, kind, sub }
+}
+
+const TWO_NUMBERS: &[Case] = &[
+    (
+        &[2, 1, 0, 0, 0, 0, 0, 0, 7, 0, 0, 0, 0, 0, 0, 0],
+        Some((258, 7, 0, true)),
+    ),
+    (&[2, 1, 0, 0, 0, 0, 0, 0, 7, 0, 0, 0, 0, 0, 0], None),
+];
+
+const ONE_NUMBER: &[Case] = &[
+    (&[2, 1, 0, 0, 0, 0, 0, 0], Some((258, 0, 0, true))),
+    (&[2, 1, 0, 0, 0, 0, 0], None),
+];
+
+// Kinds 2 and 3, then a short key.
+const RANGES: &[Case] = &[
+    (&[2, 0, 0, 0, 0, 0, 0, 0x20], Some((2, 2, 0, true))),
+    (&[2, 0, 0, 0, 0, 0, 0, 0x30], None),
+    (&[2, 0, 0, 0, 0, 0, 0], None),
+];
+
+// A snapshot, its name under an id of all ones, and a name that leaves its key.
+const SNAPSHOTS: &[Case] = &[
+    (&[2, 0, 0, 0, 0, 0, 0, 0x10], Some((2, 1, 0, true))),
+    (
+        &[
+            0xff, 0xff, 0xff, 0xff, 0xff, 0xff, 0xff, 0xbf, 2, 0, b'a', 0,
+        ],
+        Some((0x0fff_ffff_ffff_ffff, 11, 0, false)),
+    ),
+    (
+        &[0xff, 0xff, 0xff, 0xff, 0xff, 0xff, 0xff, 0xbf, 2, 0, b'a'],
+        None,
+    ),
+    (&[2, 0, 0, 0, 0, 0, 0, 0x30], None),
+];
+
+// An inode, an entry whose word 0x1405 says a name of 5 bytes and the hash 5, and a file extent at 4,096.
+const HASHED: &[Case] = &[
+    (&[2, 0, 0, 0, 0, 0, 0, 0x30], Some((2, 3, 0, true))),
+    (
+        &[
+            2, 0, 0, 0, 0, 0, 0, 0x90, 5, 20, 0, 0, b'n', b'o', b't', b'e', 0,
+        ],
+        Some((2, 9, 5, false)),
+    ),
+    (
+        &[
+            2, 0, 0, 0, 0, 0, 0, 0x90, 5, 20, 0, 0, b'n', b'o', b't', b'e',
+        ],
+        None,
+    ),
+    (
+        &[2, 0, 0, 0, 0, 0, 0, 0x80, 0, 16, 0, 0, 0, 0, 0, 0],
+        Some((2, 8, 4096, true)),
+    ),
+    (&[2, 0, 0, 0, 0, 0, 0, 0x80, 0, 16, 0, 0, 0, 0, 0], None),
+];
+
+const PLAIN: &[Case] = &[
+    (
+        &[2, 0, 0, 0, 0, 0, 0, 0x90, 5, 0, b'n', b'o', b't', b'e', 0],
+        Some((2, 9, 0, false)),
+    ),
+    (
+        &[2, 0, 0, 0, 0, 0, 0, 0x90, 5, 0, b'n', b'o', b't', b'e'],
+        None,
+    ),
+    (
+        &[2, 0, 0, 0, 0, 0, 0, 0x50, 3, 0, 0, 0, 0, 0, 0, 0],
+        Some((2, 5, 3, true)),
+    ),
+];
+
+#[test]
+fn keys_of_numbers(rt: HostRuntime) {
+    read_all::<OmapKey>(&rt, TWO_NUMBERS);
+    read_all::<QueueKey>(&rt, TWO_NUMBERS);
+    read_all::<OmapSnapKey>(&rt, ONE_NUMBER);
+}
+
+#[test]
+fn keys_of_records(rt: HostRuntime) {
+    read_all::<ExtKey>(&rt, RANGES);
+    read_all::<SnapKey>(&rt, SNAPSHOTS);
+    read_all::<FsKey>(&rt, HASHED);
+    read_all::<FsPlainKey>(&rt, PLAIN);
+}
+
+#[test]
+fn ranks_are_ordered_by_their_fields(rt: HostRuntime) {
+    assert!(rt; rank(1, 9, 9).is_below(&rank(2, 0, 0)));
+    assert!(rt; rank(2, 3, 9) < rank(2, 9, 0));
+    assert!(rt; rank(2, 9, 4) < rank(2, 9, 5));
+    assert!(rt; !rank(2, 9, 5).is_below(&rank(2, 9, 5)));
+}
+
+#[test]
+fn values_of_an_object_map(rt: HostRuntime) {
+    let value = [4, 0, 0, 0, 0, 16, 0, 0, 61, 0, 0, 0, 0, 0, 0, 0];
+    let place = OmapValue {
+        flags: 4,
+        size: 4096,
+        paddr: 61,
+    };
+    assert_eq!(rt; omap_value(&value[..]), Some(place));
+    assert_eq!(rt; omap_value(&value[..15]), None);
+    assert_eq!(rt; omap_snap_flags(&value[..]), Some(4));
+    assert_eq!(rt; omap_snap_flags(&value[..15]), None);
+}
+
+#[test]
+fn values_of_a_queue(rt: HostRuntime) {
+    let value = [61, 0, 0, 0, 0, 0, 0, 0];
+    assert_eq!(rt; queue_length(None), Some(1));
+    assert_eq!(rt; queue_length(Some(&value[..])), Some(61));
+    assert_eq!(rt; queue_length(Some(&value[1..])), None);
+}
+
+#[test]
+fn values_of_ranges(rt: HostRuntime) {
+    let value = [
+        3, 0, 0, 0, 0, 0, 0, 0x10, 16, 0, 0, 0, 0, 0, 0, 0, 0xff, 0xff, 0xff, 0xff,
+    ];
+    let range = ExtValue {
+        length: 3,
+        kind: 1,
+        owner: 16,
+        count: -1,
+    };
+    assert_eq!(rt; ext_value(&value[..]), Some(range));
+    assert_eq!(rt; ext_value(&value[..19]), None);
+}
