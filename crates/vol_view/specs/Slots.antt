@@ -1,27 +1,31 @@
 -- What is answered of one slot.
-use Rattle.std.specs.Prelude.{ℕ, Bool, not, ◌==◌, List, Option, None, Some, option_and_then, Result, Ok, Err, if◌then◌else◌}
+use Rattle.std.specs.Prelude.{◌≡◌, ◌⊎◌, false, [], ℕ, Bool, not, ◌==◌, List, Option, None, Some, option_and_then, Result, Ok, Err, if◌then◌else◌}
 use Rattle.apfs_model.specs.Blocks.{in_container}
-use Rattle.apfs_model.specs.Lists.{and_then}
+use Rattle.apfs_model.specs.Lists.{In, and_then}
 use Rattle.obj_base.specs.Stops.{Tells, NoFeature}
 use Rattle.obj_base.specs.Sound.{sound_of, expecting}
 use Rattle.obj_base.specs.declared.header.Header.{Header}
 use Rattle.obj_base.specs.declared.header.HeadFault.{HeadFault}
 use Rattle.obj_base.specs.declared.stop.Bad.{Bad}
 use Rattle.obj_base.specs.declared.stop.Bad.TheVariants as bads
+use Rattle.obj_base.specs.declared.stop.Feature.{Feature}
 use Rattle.obj_base.specs.declared.stop.Feature.TheVariants.{Encrypted, NoHeader, Size}
 use Rattle.obj_base.specs.declared.stop.Stop.{Stop}
 use Rattle.obj_base.specs.declared.stop.Stop.TheVariants.{Found, Unsupported, ReadFault, NoMemory}
 use Rattle.obj_base.specs.declared.stop.Within.TheVariants.{Container}
 use Rattle.apfs_model.specs.Object.{volume_kind}
 use Rattle.bt_node.specs.declared.node.Site.{Site}
-use Rattle.nx_block.specs.Super.{fs_oid_of}
+use Rattle.nx_block.specs.Super.{fs_oid_of, omap_oid_of}
 use Rattle.nx_ring.specs.Checkpoint.{Seen}
 use Rattle.omap_map.specs.Records.{maps_encrypted, maps_headless}
 use Rattle.omap_map.specs.Resolve.{resolve}
+use Rattle.omap_map.specs.Features.{container_features, snapshot_features}
+use Rattle.omap_map.specs.Maps.{Contents, IsLoaded}
 use Rattle.omap_map.specs.declared.records.OmapRecord.{OmapRecord}
 use Rattle.omap_map.specs.declared.records.Place.{Place}
 use Rattle.omap_map.specs.declared.fault.OmapFault.{OmapFault}
 use Rattle.vol_view.specs.Heads.{site_of, super_in, has_magic, head_of}
+use Rattle.vol_view.specs.Stops.{IsVolume}
 use Rattle.vol_view.specs.declared.head.VolHead.{VolHead}
 use Rattle.vol_view.specs.declared.stop.VolStop.{VolStop}
 use Rattle.vol_view.specs.declared.stop.VolStop.TheVariants.{Head, Magic, Unnamed, Omap}
@@ -86,3 +90,17 @@ volume_for image site records slot oid = if oid == 0 then Ok None else and_then 
 -- the volume in a slot, if there is one, or why it can't be told
 unfoldable pub slot_of : List ℕ → Seen → List OmapRecord → ℕ → Result (Option VolHead) (Stop VolStop)
 slot_of image seen records slot = volume_for image (site_of seen) records slot (fs_oid_of seen.nx slot)
+
+-- the container's map was loaded, and it has no feature
+pub record HasMap (image : List ℕ) (seen : Seen) (contents : Contents) : Type 0 where
+  pub loaded : IsLoaded image (site_of seen) (omap_oid_of seen.nx) contents
+  pub plain : container_features contents.snap_count ≡ []
+  pub unmarked : snapshot_features contents.snapshots ≡ []
+
+-- a feature of a map that was loaded
+abbrev pub IsMarked : Contents → ℕ → Feature → ℕ → Type 0
+IsMarked contents block feature at = (at ≡ block) × (In feature (container_features contents.snap_count) ⊎ In feature (snapshot_features contents.snapshots))
+
+-- a slot is empty, or the volume in it is right
+abbrev pub IsRight : List ℕ → Seen → ℕ → Type 0
+IsRight image seen slot = (fs_oid_of seen.nx slot == 0) ≡ false → IsVolume image seen (fs_oid_of seen.nx slot)

@@ -1,5 +1,5 @@
 // What a volume's superblock tells (Volumes, apfs_superblock_t).
-ghost use Rattle.std.specs.Prelude.{◌≡◌, ◌≤◌, ◌+◌, length};
+ghost use Rattle.std.specs.Prelude.{◌≡◌, ◌≤◌, ◌+◌, ◌==◌, length, position, IfSome};
 ghost use Rattle.vol_view.specs.Fields as fields;
 
 use blk_source::Bytes;
@@ -82,14 +82,22 @@ pub(crate) fn role(bytes: &[u8]) -> u16
     u16_at(bytes, ROLE)
 }
 
+// The place of the first zero.
+fn first_zero(raw: &[u8]) -> Option<usize>
+    ensures place { result ≡ position (λ b. b == 0) raw.now }
+    ensures inside { IfSome result (λ end. end ≤ length raw.now) }
+{
+    raw.iter().position(|byte| *byte == 0)
+}
+
 /// The bytes of the name, up to the first zero.
-#[tactic(auto, unfolding(crate::specs::Fields::name_of))]
+#[tactic(auto, using(crate::proofs::Names::name_cut, crate::proofs::Names::name_full), unfolding(crate::specs::Fields::name_of))]
 pub(crate) fn name(bytes: &[u8]) -> &[u8]
     requires { 1024 ≤ length bytes.now }
     ensures { result.now ≡ fields.name_of bytes.now }
 {
     let raw = &bytes[NAME..NAME + NAME_LEN];
-    match raw.iter().position(|byte| *byte == 0) {
+    match first_zero(raw) {
         Some(end) => &raw[..end],
         None => raw,
     }

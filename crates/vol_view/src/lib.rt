@@ -2,9 +2,12 @@
 #![tactic(auto)]
 
 mod head;
+mod map;
 mod place;
+mod slots;
 mod stop;
 mod superblock;
 
 pub use head::VolHead;
+pub use slots::heads;
 pub use stop::VolStop;
