@@ -104,7 +104,6 @@ plain-located image seen contents oid place named e =
 
 inside-located : (image : List ℕ) (seen : Seen) (contents : Contents) (oid : ℕ) (place : Place) (o : Option ℕ) → IsNamed seen oid → volume_place image seen oid ≡ Some place → in_container (site_of seen).blocks place.block ≡ o
     → located (site_of seen) contents.records oid ≡ inside_of (site_of seen) oid place o → IsLocated image seen contents oid ⊎ IsLost image seen (located (site_of seen) contents.records oid)
-unfolding volume_block
 inside-located image seen contents oid place None named at inside e = inr (record {
   stop = Found (Unnamed Container oid);
   lost = e;
@@ -116,7 +115,6 @@ inside-located image seen contents oid place (Some b) named at inside e =
 
 place-located : (image : List ℕ) (seen : Seen) (contents : Contents) (oid : ℕ) (o : Option Place) → IsNamed seen oid → volume_place image seen oid ≡ o → located (site_of seen) contents.records oid ≡ placed_of (site_of seen) oid o
     → IsLocated image seen contents oid ⊎ IsLost image seen (located (site_of seen) contents.records oid)
-unfolding volume_block
 place-located image seen contents oid None named at e = inr (record {
   stop = Found (Unnamed Container oid);
   lost = e;
@@ -142,7 +140,6 @@ record IsStopped (image : List ℕ) (seen : Seen) (answer : Result (Option VolHe
   there : IsThere image seen stop
 
 head-is : (image : List ℕ) (seen : Seen) (slot oid : ℕ) (place : Place) → IsNamedIn image seen oid place → Some (head_of slot oid place.block (super_in image (site_of seen) place.block)) ≡ head_for image seen slot oid
-unfolding volume_block
 head-is image seen slot oid place named =
     let found : option_and_then (λ (p : Place). in_container (site_of seen).blocks p.block) (volume_place image seen oid) ≡ Some place.block = ap (option_and_then (λ (p : Place). in_container (site_of seen).blocks p.block)) named.at ∙ named.inside in
     sym (ap (λ (b : Bool). cond b None (option_map (λ block. head_of slot oid block (super_in image (site_of seen) block)) (volume_block image seen oid))) named.named.some
