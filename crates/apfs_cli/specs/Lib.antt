@@ -1,6 +1,7 @@
 pub mod Words
 pub mod Texts
 pub mod RingText
+pub mod InfoText
 pub mod Outcome
 pub mod Written
 pub mod Says

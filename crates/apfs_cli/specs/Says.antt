@@ -1,5 +1,5 @@
 -- When each outcome may be: by the words first, then by whether there is an image, then by the command and the image's bytes.
-use Rattle.std.specs.Prelude.{◌≡◌, ℕ, List, Option, Some, None, Ok, Err}
+use Rattle.std.specs.Prelude.{◌≡◌, ℕ, List, [], Option, Some, None, Ok, Err}
 use Rattle.apfs_model.specs.Counts.{Rose}
 use Rattle.blk_source.specs.declared.source.Opened.{Opened}
 use Rattle.blk_source.specs.declared.source.Opened.TheVariants.{Absent, Image}
@@ -7,24 +7,31 @@ use Rattle.obj_base.specs.declared.stop.Feature.{Feature}
 use Rattle.obj_base.specs.declared.stop.Stop.TheVariants.{Found, Unsupported}
 use Rattle.nx_ring.specs.declared.line.RingLine.{RingLine}
 use Rattle.nx_ring.specs.declared.fault.RingFault.{RingFault}
-use Rattle.nx_ring.specs.Ring.{ring_of, IsRingFault}
+use Rattle.nx_ring.specs.Ring.{ring_of, IsRingFault, IsRingFeature}
 use Rattle.nx_ring.specs.Zero.{IsNonContiguous}
+use Rattle.nx_ring.specs.Checkpoint.{Seen}
+use Rattle.nx_ring.specs.Features.{container_features}
+use Rattle.nx_ring.specs.Newest.{newest_of, IsFault as IsNewestFault}
 use Rattle.apfs_cli.specs.declared.words.Command.{Command}
-use Rattle.apfs_cli.specs.declared.words.Command.TheVariants.{Ring}
+use Rattle.apfs_cli.specs.declared.words.Command.TheVariants.{Ring, Info}
 use Rattle.apfs_cli.specs.RingText.{ring_text, ring_fault_text}
+use Rattle.apfs_cli.specs.InfoText.{info_text}
 use Rattle.apfs_cli.specs.Outcome.{Outcome, Written, Faulty, Usage, ReadFailed, OutOfMemory, Refused, NoImage}
 
 -- the text that a command writes of an image
 abbrev pub IsText : Command → List ℕ → List ℕ → Type 0
 IsText Ring image text = (lines : List RingLine) × (ring_of image ≡ Ok lines) × (text ≡ ring_text lines)
+IsText Info image text = (seen : Seen) × (newest_of image ≡ Ok seen) × (container_features seen.nx ≡ []) × (text ≡ info_text seen)
 
--- the text of a fault that a command may name of an image: one that is there, for `ring` the first
+-- the text of a fault that a command may name of an image: one that is there, and the first of those that the command looks for
 abbrev pub IsFault : Command → List ℕ → List ℕ → Type 0
 IsFault Ring image text = (fault : RingFault) × (ring_of image ≡ Err (Found fault)) × IsRingFault image fault × (text ≡ ring_fault_text fault)
+IsFault Info image text = (fault : RingFault) × IsNewestFault image fault × IsRingFault image fault × (text ≡ ring_fault_text fault)
 
--- a feature, with its block, that a command may refuse of an image: one that is there, for `ring` where no fault comes first
+-- a feature, with its block, that a command may refuse of an image: one that is there, where no fault comes first
 abbrev pub IsFeature : Command → List ℕ → Feature → ℕ → Type 0
 IsFeature Ring image feature block = (ring_of image ≡ Err (Unsupported feature block)) × IsNonContiguous image feature block
+IsFeature Info image feature block = IsRingFeature image feature block
 
 -- a fact of the image's bytes, where they are told
 abbrev pub OfImage : Option (List ℕ) → (List ℕ → Type 0) → Type 0

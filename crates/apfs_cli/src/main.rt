@@ -2,6 +2,7 @@
 #![tactic(auto)]
 
 mod ending;
+mod info_text;
 mod ring_text;
 mod run;
 #[cfg(test)]

@@ -39,8 +39,8 @@ fn text(alloc: Global, lines: &[RingLine]) -> Result<String, AllocError>
     Ok(text)
 }
 
-// The text of a fault of the ring.
-fn fault_text(alloc: Global, fault: RingFault) -> Result<String, AllocError>
+/// The text of a fault of the ring.
+pub fn fault_text(alloc: Global, fault: RingFault) -> Result<String, AllocError>
     ensures { IfOk result (λ text. string_bytes text ≡ ring_fault_text fault) }
 {
     match fault {

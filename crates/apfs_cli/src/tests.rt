@@ -1,163 +1,158 @@
 // The cases of the program, in one table, over images and sinks in memory. Their lines were worked out by hand.
+mod images;
+
 use crate::run::run;
-use blk_source::{MemSink, MemSource, Opened};
-use obj_base::sum64;
+use blk_source::{MemSink, Opened};
+use images::{Image, handed};
 use std::alloc::Global;
 use std::test::Fail;
 
-const BLOCK: usize = 4096;
-
 const ROOM: usize = 4096;
 
-// What a case is run on.
-#[derive(Clone, Copy, PartialEq, Eq, Debug)]
-enum Image {
-    Absent,
-    // A ring of eight blocks with superblocks at the indices 1, 3, 5 and 7, the second of them with a wrong sum.
-    Ring,
-    // The same without its last block.
-    RingCut,
-    // The first 4,095 bytes of it.
-    RingShort,
-    // The same, and block 0 says that its descriptor area isn't contiguous.
-    RingSplit,
-}
-
 // A name, what it is run on, the words, the status, and what is written on the two sinks.
-#[derive(Drop)]
-struct Case {
-    name: &'static str,
-    image: Image,
-    words: &'static [&'static str],
-    status: u8,
-    out: &'static str,
-    err: &'static str,
-}
-
-const fn row(
-    name: &'static str,
-    image: Image,
-    words: &'static [&'static str],
-    status: u8,
-    out: &'static str,
-    err: &'static str,
-) -> Case {
-    Case {
-        name,
-        image,
-        words,
-        status,
-        out,
-        err,
-    }
-}
+type Case = (
+    &'static str,
+    Image,
+    &'static [&'static str],
+    u8,
+    &'static str,
+    &'static str,
+);
 
 const USAGE: &str = "apfs: usage: apfs COMMAND IMAGE [WORDS]\n";
 
 const RING_LINES: &str =
     "1 block 2 xid 9 from 0 length 2\n5 block 6 xid 7 from 4 length 2\n7 block 8 xid 8 from 6 length 2\n";
 
-fn cases() -> [Case; 9] {
-    [
-        row("clean_ring", Image::Ring, &["ring", "x"], 0, RING_LINES, ""),
-        row(
-            "fault_truncated",
-            Image::RingCut,
-            &["ring", "x"],
-            1,
-            "",
-            "apfs: fault: Truncated have 255 need 256\n",
-        ),
-        row(
-            "fault_block_zero_short",
-            Image::RingShort,
-            &["ring", "x"],
-            1,
-            "",
-            "apfs: fault: BlockZero\n",
-        ),
-        row(
-            "feature_non_contiguous",
-            Image::RingSplit,
-            &["ring", "x"],
-            6,
-            "",
-            "apfs: unsupported: NonContiguous block 0\n",
-        ),
-        row("words_none", Image::Absent, &[], 2, "", USAGE),
-        row("words_ring_alone", Image::Absent, &["ring"], 2, "", USAGE),
-        row(
-            "words_ring_three",
-            Image::Ring,
-            &["ring", "x", "y"],
-            2,
-            "",
-            USAGE,
-        ),
-        row("words_unknown", Image::Ring, &["check", "x"], 2, "", USAGE),
-        row(
-            "answer_no_image",
-            Image::Absent,
-            &["ring", "x"],
-            8,
-            "",
-            "apfs: no image\n",
-        ),
-    ]
-}
+const INFO_LINES: &str =
+    "uuid 00112233-4455-6677-8899-aabbccddeeff\nblock size 4096\nblocks 256\ncheckpoint xid 1 block 2\nmaps 1 objects 4\nskipped 0\n";
 
-// Writes bytes at a place.
-fn put(image: &mut [u8], at: usize, bytes: &[u8]) {
-    for (byte, place) in bytes.iter().zip(image.iter_mut().skip(at)) {
-        *place = *byte;
-    }
-}
+const SKIPPED_LINES: &str =
+    "uuid 00112233-4455-6677-8899-aabbccddeeff\nblock size 4096\nblocks 256\ncheckpoint xid 1 block 2\nmaps 1 objects 4\nskipped 1\n";
 
-// A superblock of a container of 256 blocks, with 8 descriptor blocks from 1 and 16 data blocks from 9.
-fn superblock(xid: u64, desc_index: u32, desc_blocks: u32) -> [u8; BLOCK] {
-    let mut block = [0u8; BLOCK];
-    put(&mut block, 8, &1u64.to_le_bytes());
-    put(&mut block, 16, &xid.to_le_bytes());
-    put(&mut block, 24, &0x8000_0001u32.to_le_bytes());
-    put(&mut block, 32, b"NXSB");
-    put(&mut block, 36, &4096u32.to_le_bytes());
-    put(&mut block, 40, &256u64.to_le_bytes());
-    put(&mut block, 104, &desc_blocks.to_le_bytes());
-    put(&mut block, 108, &16u32.to_le_bytes());
-    put(&mut block, 112, &1u64.to_le_bytes());
-    put(&mut block, 120, &9u64.to_le_bytes());
-    put(&mut block, 136, &desc_index.to_le_bytes());
-    put(&mut block, 140, &2u32.to_le_bytes());
-    let sum = sum64(&block);
-    put(&mut block, 0, &sum.to_le_bytes());
-    block
-}
+const RING: &[&str] = &["ring", "x"];
 
-fn ring_image(alloc: Global, desc_blocks: u32) -> Result<Vec<u8>, Fail> {
-    let mut image = vec![in alloc; 0u8; 256 * BLOCK]?;
-    put(&mut image, 0, &superblock(9, 0, desc_blocks));
-    put(&mut image, 2 * BLOCK, &superblock(9, 0, 8));
-    put(&mut image, 4 * BLOCK, &superblock(6, 2, 8));
-    put(&mut image, 4 * BLOCK, &[0]);
-    put(&mut image, 6 * BLOCK, &superblock(7, 4, 8));
-    put(&mut image, 8 * BLOCK, &superblock(8, 6, 8));
-    Ok(image)
-}
+const INFO: &[&str] = &["info", "x"];
 
-// What a case is handed, with the numbers of the reads that are refused.
-fn handed(alloc: Global, image: Image, fails: Vec<u64>) -> Result<Opened<MemSource>, Fail> {
-    let mut bytes = match image {
-        Image::Absent => return Ok(Opened::Absent),
-        Image::RingSplit => ring_image(alloc, 0x8000_0008)?,
-        _ => ring_image(alloc, 8)?,
-    };
-    match image {
-        Image::RingCut => bytes.truncate(255 * BLOCK),
-        Image::RingShort => bytes.truncate(4095),
-        _ => {}
-    }
-    Ok(Opened::Image(MemSource::new(bytes, fails)))
-}
+const CASES: &[Case] = &[
+    ("clean_ring", Image::Ring, RING, 0, RING_LINES, ""),
+    (
+        "fault_truncated",
+        Image::RingCut,
+        RING,
+        1,
+        "",
+        "apfs: fault: Truncated have 255 need 256\n",
+    ),
+    (
+        "fault_block_zero_short",
+        Image::RingShort,
+        RING,
+        1,
+        "",
+        "apfs: fault: BlockZero\n",
+    ),
+    (
+        "feature_non_contiguous",
+        Image::RingSplit,
+        RING,
+        6,
+        "",
+        "apfs: unsupported: NonContiguous block 0\n",
+    ),
+    ("words_none", Image::Absent, &[], 2, "", USAGE),
+    ("words_ring_alone", Image::Absent, &["ring"], 2, "", USAGE),
+    (
+        "words_ring_three",
+        Image::Ring,
+        &["ring", "x", "y"],
+        2,
+        "",
+        USAGE,
+    ),
+    ("words_unknown", Image::Ring, &["check", "x"], 2, "", USAGE),
+    (
+        "words_info_three",
+        Image::Empty,
+        &["info", "x", "y"],
+        2,
+        "",
+        USAGE,
+    ),
+    (
+        "answer_no_image",
+        Image::Absent,
+        RING,
+        8,
+        "",
+        "apfs: no image\n",
+    ),
+    (
+        "answer_no_image_info",
+        Image::Absent,
+        INFO,
+        8,
+        "",
+        "apfs: no image\n",
+    ),
+    ("clean_info", Image::Empty, INFO, 0, INFO_LINES, ""),
+    (
+        "clean_info_skipped",
+        Image::EmptySkipped,
+        INFO,
+        0,
+        SKIPPED_LINES,
+        "",
+    ),
+    (
+        "fault_no_checkpoint",
+        Image::EmptyUnsummed,
+        INFO,
+        1,
+        "",
+        "apfs: fault: NoCheckpoint\n",
+    ),
+    (
+        "feature_fusion",
+        Image::EmptyFeatures(0x102),
+        INFO,
+        6,
+        "",
+        "apfs: unsupported: Fusion block 2\n",
+    ),
+    (
+        "feature_version",
+        Image::EmptyFeatures(0),
+        INFO,
+        6,
+        "",
+        "apfs: unsupported: Version block 2\n",
+    ),
+    (
+        "feature_unknown_container",
+        Image::EmptyFeatures(0x402),
+        INFO,
+        6,
+        "",
+        "apfs: unsupported: UnknownContainer block 2\n",
+    ),
+    (
+        "feature_resizing",
+        Image::EmptyResizing,
+        INFO,
+        6,
+        "",
+        "apfs: unsupported: Resizing block 2\n",
+    ),
+    (
+        "fault_block_zero_info",
+        Image::RingShort,
+        INFO,
+        1,
+        "",
+        "apfs: fault: BlockZero\n",
+    ),
+];
 
 // How a run ended.
 #[derive(Drop)]
@@ -199,37 +194,38 @@ fn ended_with(ended: &Ended, status: u8, out: &str, err: &str) -> bool {
 
 #[test]
 fn cases_end_as_said(rt: HostRuntime) -> Result<(), Fail> {
-    for case in &cases() {
-        let ended = end(rt.alloc(), case.image, case.words, [&[], &[], &[]])?;
-        let as_said = ended_with(&ended, case.status, case.out, case.err);
-        assert!(rt; as_said, "{}: status {}", case.name, ended.status);
+    for (name, image, words, status, out, err) in CASES {
+        let ended = end(rt.alloc(), *image, words, [&[], &[], &[]])?;
+        let as_said = ended_with(&ended, *status, out, err);
+        assert!(rt; as_said, "{name}: status {}", ended.status);
     }
     Ok(())
 }
 
 #[test]
 fn failure_of_each_read(rt: HostRuntime) -> Result<(), Fail> {
-    let whole = end(rt.alloc(), Image::Ring, &["ring", "x"], [&[], &[], &[]])?;
-    assert_eq!(rt; whole.reads, 9);
-    for number in 1..=whole.reads {
-        let ended = end(
-            rt.alloc(),
-            Image::Ring,
-            &["ring", "x"],
-            [&[number], &[], &[]],
-        )?;
-        let as_said = ended_with(&ended, 3, "", "apfs: read failed\n");
-        assert!(rt; as_said, "read {number}: status {}", ended.status);
+    for (image, words, reads) in [(Image::Ring, RING, 9), (Image::Empty, INFO, 14)] {
+        let whole = end(rt.alloc(), image, words, [&[], &[], &[]])?;
+        assert!(rt;
+            whole.reads >= reads && whole.reads < 40,
+            "{} reads",
+            whole.reads
+        );
+        for number in 1..=whole.reads {
+            let ended = end(rt.alloc(), image, words, [&[number], &[], &[]])?;
+            let as_said = ended_with(&ended, 3, "", "apfs: read failed\n");
+            assert!(rt; as_said, "read {number}: status {}", ended.status);
+        }
     }
     Ok(())
 }
 
 #[test]
 fn failure_of_each_put(rt: HostRuntime) -> Result<(), Fail> {
-    for case in &cases() {
-        let ended = end(rt.alloc(), case.image, case.words, [&[], &[1], &[1]])?;
+    for (name, image, words, ..) in CASES {
+        let ended = end(rt.alloc(), *image, words, [&[], &[1], &[1]])?;
         let as_said = ended_with(&ended, 4, "", "");
-        assert!(rt; as_said, "{}: status {}", case.name, ended.status);
+        assert!(rt; as_said, "{name}: status {}", ended.status);
     }
     Ok(())
 }

@@ -8,6 +8,8 @@ ghost use Rattle.apfs_cli.specs.Words.{command_of, image_command};
 pub enum Command {
     /// The candidates of the descriptor ring.
     Ring,
+    /// The newest checkpoint.
+    Info,
 }
 
 // The command that takes an image and nothing else.
@@ -16,6 +18,7 @@ fn with_image(word: &str) -> Option<Command>
 {
     match word {
         "ring" => Some(Command::Ring),
+        "info" => Some(Command::Info),
         _ => None,
     }
 }

@@ -62,9 +62,9 @@ same_of_xor : (x y : ℕ) → bit_xor x y ≡ 0 → x ≡ y
 same_of_xor x y none =
     same_from_bits x y
     (λ i. let even : (bit_number x i + bit_number y i) % 2 ≡ 0 = sym (bit_at_xor x y i) ∙ ap (λ n. bit_number n i) none ∙ bit_at-zero i in
-      let low_x : bit_number x i < 2 = bit_at-lt x i in
-      let low_y : bit_number y i < 2 = bit_at-lt y i in
-      Prim.omega arith)
+    let low_x : bit_number x i < 2 = bit_at-lt x i in
+    let low_y : bit_number y i < 2 = bit_at-lt y i in
+    Prim.omega arith)
 
 some_of_xor : (x y : ℕ) → x ≢ y → 0 < bit_xor x y
 some_of_xor x y apart =
@@ -83,7 +83,7 @@ lowest_apart x y low_x low_y apart =
       inside = t.0;
       differs = apart_test (bit_number x at) (bit_number y at) (bit_at-lt x at) (bit_at-lt y at) (sym (bit_at_xor x y at) ∙ t.1);
       least = λ k low.
-        equal_test (bit_number x k) (bit_number y k) (bit_at-lt x k) (bit_at-lt y k) (sym (bit_at_xor x y k) ∙ t.2 k low);
+          equal_test (bit_number x k) (bit_number y k) (bit_at-lt x k) (bit_at-lt y k) (sym (bit_at_xor x y k) ∙ t.2 k low);
     }
 
 no_bit : (i : ℕ) → has_bit 0 i ≡ false
@@ -111,13 +111,13 @@ first_from_byte a b i t low apart same =
       inside = Prim.omega arith;
       differs = λ e. apart.differs (sym (bit_in_byte a i t inside) ∙ e ∙ bit_in_byte b i t inside);
       least = λ k below.
-        elim (cases_lt k (8 * i)) [
-          | inl before ↦
-              bit_of_byte a k (k / 8) refl ∙ ap (λ byte. has_bit byte (k % 8)) (same (k / 8) (Prim.omega arith)) ∙ sym (bit_of_byte b k (k / 8) refl)
-          | inr here ↦
-              let byte : k / 8 ≡ i = Prim.omega arith in
-              bit_of_byte a k i byte ∙ apart.least (k % 8) (Prim.omega arith) ∙ sym (bit_of_byte b k i byte)
-        ];
+          elim (cases_lt k (8 * i)) [
+            | inl before ↦
+                bit_of_byte a k (k / 8) refl ∙ ap (λ byte. has_bit byte (k % 8)) (same (k / 8) (Prim.omega arith)) ∙ sym (bit_of_byte b k (k / 8) refl)
+            | inr here ↦
+                let byte : k / 8 ≡ i = Prim.omega arith in
+                bit_of_byte a k i byte ∙ apart.least (k % 8) (Prim.omega arith) ∙ sym (bit_of_byte b k i byte)
+          ];
     }
 
 -- runs that differ at a bit are not equal

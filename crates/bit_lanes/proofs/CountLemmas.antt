@@ -1,11 +1,11 @@
 -- Bits that are set, byte by byte.
 use Rattle.std.proofs.Common.{◌≡◌, ℕ, zero, suc, ◌+◌, ◌*◌, ◌/◌, ◌%◌, ◌^◌, ◌<◌, ◌≤◌, ◌-◌, eqb, cond, List, get_or, map, count_by, min, add-zero, refl, sym, ap, ap₂, ◌∙◌, arith}
 use Rattle.std.specs.Prelude.{count_ones}
-use Rattle.std.specs.List.{range_with_len, sum_by}
+use Rattle.std.specs.List.{range_with_len}
 use Rattle.std.specs.Int.{bit_at as bit_number}
 use Rattle.std.proofs.lemmas.List.{map-id}
-use Rattle.std.proofs.lemmas.List.Sums.{sum_by_push}
-use Rattle.std.proofs.lemmas.List.FromFn.{map-range_with_len_more}
+use Rattle.std.proofs.lemmas.List.Sums.{sum_by_push, count_by-le-length}
+use Rattle.std.proofs.lemmas.List.FromFn.{length-range_with_len, map-range_with_len_more}
 use Rattle.std.proofs.lemmas.Nat.Bits.{bit_at-suc, bit_at-lt}
 use Rattle.std.proofs.Math.Nat.{pow-suc}
 use lib.Count.{ones, ones_step}
@@ -71,3 +71,8 @@ ones_of_byte bytes i low =
 -- the same of a count that stands at its greatest number
 pub given_more : (n m : ℕ) → min (given n + m) (2 ^ 64 - 1) ≡ given (n + m)
 given_more n m = Prim.omega arith
+
+-- no more bits are set than there are
+pub ones_bound : (bytes : List ℕ) (n : ℕ) → ones_below bytes n ≤ n
+ones_bound bytes n =
+    Prim.omega (arith, count_by-le-length (bit_at bytes) (range_with_len 0 n), length-range_with_len 0 n)

@@ -1,5 +1,5 @@
 -- Bits of runs of bytes, one by one.
-use Rattle.std.specs.Prelude.{◌≡◌, ◌≢◌, ℕ, ◌*◌, ◌<◌, Bool, true, List, length, count_by}
+use Rattle.std.specs.Prelude.{◌≡◌, ◌≢◌, ℕ, ◌*◌, ◌<◌, true, List, length, count_by}
 use Rattle.std.specs.List.{range_with_len}
 use Rattle.apfs_model.specs.Bytes.{has_bit, bit_at}
 

@@ -2,8 +2,8 @@
 ghost use Rattle.std.specs.Prelude.{◌≡◌, ◌≢◌, ◌^◌, ◌≤◌, ◌↔◌, length, IsNone, IfSome};
 ghost use Rattle.bit_lanes.specs.Bits.{IsFirstDifference, IsLowestApart};
 
-#[tactic(auto, using(crate::proofs::ByteLemmas::differ_apart))]
 /// The least bit at which two runs of one length differ, and `None` where they are equal.
+#[tactic(auto, using(crate::proofs::ByteLemmas::differ_apart))]
 pub fn first_difference(a: &[u8], b: &[u8]) -> Option<usize>
     requires same_length { length a.now ≡ length b.now }
     requires short { length a.now ≤ 2 ^ 61 }

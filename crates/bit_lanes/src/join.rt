@@ -13,8 +13,8 @@ pub fn or_into(into: &mut [u8], from: &[u8])
     }
 }
 
-#[tactic(auto, using(crate::proofs::ByteLemmas::share_from_byte))]
 /// Whether some bit is set in both runs.
+#[tactic(auto, using(crate::proofs::ByteLemmas::share_from_byte))]
 pub fn and_any(a: &[u8], b: &[u8]) -> bool
     requires { length a.now ≡ length b.now }
     ensures { IsTrue result ↔ ShareBit a.now b.now }

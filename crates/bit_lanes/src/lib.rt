@@ -8,3 +8,6 @@ mod join;
 pub use count::count_ones;
 pub use differ::first_difference;
 pub use join::{and_any, or_into};
+
+#[cfg(test)]
+mod tests;

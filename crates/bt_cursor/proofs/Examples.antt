@@ -1,15 +1,13 @@
 -- Trees of a root and two leaves, worked out by hand.
-use Rattle.std.specs.Prelude.{◌≡◌, ℕ, zero, suc, ◌/◌, ◌%◌, ◌==◌, Bool, true, false, List, [], ◌∷◌, ◌++◌, length, replicate, Option, Some, None, Result, Ok, Err, refl, if◌then◌else◌}
+use Rattle.std.specs.Prelude.{◌≡◌, ℕ, zero, suc, ◌/◌, ◌%◌, ◌==◌, true, false, List, [], ◌∷◌, ◌++◌, length, replicate, Some, Ok, Err, refl, if◌then◌else◌}
 use Rattle.apfs_model.specs.Bytes.{u16_at, u32_at, u64_at}
 use Rattle.obj_base.specs.declared.stop.Stop.TheVariants.{Found}
 use Rattle.bt_node.specs.Entries.{Pair, fixed_place, variable_place, place_of, key_in, value_in}
 use Rattle.bt_node.specs.Node.{flags_of, level_of, count_of, table_offset_of, table_length_of, end_of, table_begin, keys_begin, key_count_of, node_count_of}
 use Rattle.bt_node.specs.Shape.{Shape}
 use Rattle.bt_node.specs.declared.key.Layout.TheVariants.{Fixed}
-use Rattle.bt_node.specs.declared.key.Rank.{Rank}
-use Rattle.bt_node.specs.declared.node.NodeAt.{NodeAt}
 use Rattle.bt_cursor.specs.declared.fault.WalkFault.TheVariants.{Unnamed}
-use Rattle.bt_cursor.specs.Tree.{Tree, Look, tree_by}
+use Rattle.bt_cursor.specs.Tree.{Tree, tree_by}
 use Rattle.bt_cursor.specs.Flat.{flat_of}
 use Rattle.bt_cursor.specs.Line.{item_at, line_of}
 use Rattle.bt_cursor.specs.Met.{nodes_of, is_walkable}

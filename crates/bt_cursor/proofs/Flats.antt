@@ -1,12 +1,12 @@
 -- The flat list is what the leaves have of the Line.
-use Rattle.std.proofs.Common.{◌≡◌, ℕ, zero, suc, ◌+◌, ◌<◌, Bool, false, List, [], ◌∷◌, ◌++◌, map, Option, None, Some, Ok, refl, ap, sym, ◌∙◌, arith, append-nil}
+use Rattle.std.proofs.Common.{◌≡◌, ℕ, zero, suc, List, [], ◌∷◌, ◌++◌, Option, None, Some, Ok, refl, ap, sym, ◌∙◌, arith, append-nil}
 use Rattle.std.specs.List.{flat_map}
 use Rattle.apfs_model.specs.Lists.{through, value_of}
 use Rattle.bt_node.specs.Node.{level_of}
 use Rattle.bt_node.specs.Entries.{Pair, pairs_of}
 use Rattle.bt_cursor.specs.Tree.{Tree, root_place, child_place, node_at}
 use Rattle.bt_cursor.specs.Flat.{flat_part, flat_of}
-use Rattle.bt_cursor.specs.Line.{Item, item_at, line_part, line_of, leaf_pairs}
+use Rattle.bt_cursor.specs.Line.{Item, line_part, line_of, leaf_pairs}
 use Rattle.bt_cursor.specs.Ahead.{line_from, rest}
 use Rattle.bt_cursor.specs.declared.way.Step.{Step}
 use Rattle.bt_cursor.proofs.Lines.{leaf_pairs-append, leaf_pairs-inner}

@@ -1,10 +1,10 @@
 -- How far a walk over a Line has gone.
-use Rattle.std.proofs.Common.{◌≡◌, ◌==◌, ℕ, zero, suc, ◌+◌, ◌-◌, nat_lt, Bool, true, false, cond, List, [], ◌∷◌, ◌++◌, length, Option, Some, Ok, All, refl, ap, sym, ◌∙◌, subst, arith, rules, append_assoc, append-nil, ◌&&◌}
-use Rattle.std.specs.List.{filter, list_all, flat_map}
+use Rattle.std.proofs.Common.{◌≡◌, ◌==◌, ℕ, zero, suc, ◌+◌, ◌-◌, nat_lt, Bool, true, false, cond, List, [], ◌∷◌, ◌++◌, length, Ok, All, refl, ap, sym, ◌∙◌, subst, arith, rules, append_assoc, append-nil, ◌&&◌}
+use Rattle.std.specs.List.{filter, list_all}
 use Rattle.std.proofs.lemmas.Bool.{false≢true}
 use Rattle.std.proofs.lemmas.Bool.Decides.{nat_tests}
 use Rattle.std.proofs.lemmas.Grind.{flat_map-append}
-use Rattle.std.proofs.lemmas.List.Elements.{All-head, All-tail, All-cons, All-nil, All-append, All-push}
+use Rattle.std.proofs.lemmas.List.Elements.{All-head, All-tail, All-cons, All-nil, All-push}
 use Rattle.apfs_model.specs.Lists.{value_of}
 use Rattle.bt_node.specs.Node.{key_count_of, node_count_of}
 use Rattle.bt_node.specs.Entries.{Pair}
@@ -12,8 +12,8 @@ use Rattle.bt_node.specs.declared.node.NodeAt.{NodeAt}
 use Rattle.bt_cursor.specs.Tree.{Tree, root_place, child_place}
 use Rattle.bt_cursor.specs.Flat.{flat_of}
 use Rattle.bt_cursor.specs.Line.{Item, line_of, leaf_pairs}
-use Rattle.bt_cursor.specs.Met.{places_under, places_in, places_of, has_node, nodes_of, is_walkable}
-use Rattle.bt_cursor.specs.Order.{is_ordered, out_of_order, first_misplaced}
+use Rattle.bt_cursor.specs.Met.{places_under, places_in, places_of, has_node, nodes_of}
+use Rattle.bt_cursor.specs.Order.{first_misplaced}
 use Rattle.bt_cursor.specs.Counts.{has_counts, is_counted}
 use Rattle.bt_cursor.specs.Whole.{IsWhole}
 use Rattle.bt_cursor.specs.Faults.{IsOutOfOrder}

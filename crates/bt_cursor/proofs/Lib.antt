@@ -12,3 +12,4 @@ pub mod Ranks
 pub mod Seeks
 pub mod Places
 pub mod Examples
+pub mod Wholes

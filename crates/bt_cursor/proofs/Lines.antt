@@ -1,5 +1,5 @@
 -- What is left of a way, a step at a time.
-use Rattle.std.proofs.Common.{◌≡◌, ℕ, suc, ◌+◌, ◌-◌, ◌<◌, ◌≤◌, nat_lt, Bool, true, false, cond, List, [], ◌∷◌, ◌++◌, drop, map, Ok, ap, sym, ◌∙◌, refl, append_assoc, append-nil, arith}
+use Rattle.std.proofs.Common.{◌≡◌, ℕ, suc, ◌+◌, ◌<◌, ◌≤◌, Bool, false, cond, List, [], ◌∷◌, ◌++◌, map, Ok, ap, sym, ◌∙◌, append_assoc, append-nil, arith}
 use Rattle.std.specs.List.{flat_map, filter}
 use Rattle.std.proofs.lemmas.Bool.Decides.{nat_tests}
 use Rattle.std.proofs.lemmas.List.{map-append}
@@ -7,7 +7,7 @@ use Rattle.std.proofs.lemmas.List.Elements.{filter-append}
 use Rattle.apfs_model.specs.Lists.{through, value_of}
 use Rattle.bt_node.specs.Node.{level_of, count_of}
 use Rattle.bt_node.specs.Entries.{Pair, pair_of, pairs_of}
-use Rattle.bt_cursor.specs.Tree.{Tree, child_place, node_at}
+use Rattle.bt_cursor.specs.Tree.{Tree, child_place}
 use Rattle.bt_cursor.specs.Line.{Item, item_at, line_part, is_leaf_item, leaf_pairs}
 use Rattle.bt_cursor.specs.Ahead.{line_from, line_under, rest}
 use Rattle.bt_cursor.specs.declared.way.Step.{Step}

@@ -1,6 +1,6 @@
 -- What is known of a sound node.
-use Rattle.std.specs.Prelude.{IsErrOf, Err, Ok, Result}
-use Rattle.std.proofs.Common.{◌≡◌, ◌==◌, ℕ, ◌+◌, ◌*◌, ◌≤◌, ◌<◌, true, false, Bool, cond, List, length, Some, arith, ap, sym, refl, ◌∙◌}
+use Rattle.std.specs.Prelude.{Err, Ok, Result}
+use Rattle.std.proofs.Common.{◌≡◌, ℕ, ◌*◌, ◌≤◌, ◌<◌, true, false, Bool, cond, List, length, Some, arith, ap, sym, ◌∙◌}
 use Rattle.std.proofs.lemmas.Bool.Decides.{nat_tests}
 use Rattle.std.proofs.lemmas.Grind.{common_steps}
 use Rattle.obj_base.specs.BlockSize.{is_accepted}
@@ -12,16 +12,15 @@ use Rattle.obj_base.specs.declared.stop.Stop.{Stop}
 use Rattle.obj_base.specs.declared.stop.Stop.TheVariants.{Found, Unsupported, ReadFault, NoMemory}
 use Rattle.obj_base.specs.Sound.{agrees, sound_of}
 use Rattle.bt_node.specs.Shape.{Shape}
-use Rattle.bt_node.specs.Node.{level_of, count_of, is_fixed, is_root, end_of, keys_begin, table_begin, table_length_of, table_offset_of}
-use Rattle.bt_node.specs.Entries.{Pair, place_len}
-use Rattle.bt_node.specs.Soundness.{node_of, node_expect, with_header, after_head, has_level, IsNode, IsSoundNode}
-use Rattle.bt_node.specs.declared.fault.NodeFault.{NodeFault}
+use Rattle.bt_node.specs.Node.{level_of, count_of, is_fixed, is_root, end_of, keys_begin, table_length_of}
+use Rattle.bt_node.specs.Entries.{Pair}
+use Rattle.bt_node.specs.Soundness.{node_of, node_expect, with_header, after_head, has_level, IsNode}
 use Rattle.bt_node.specs.declared.node.NodeAt.{NodeAt}
 use Rattle.bt_node.specs.declared.node.Site.{Site}
 use Rattle.bt_node.proofs.Laws.{node_means}
 use Rattle.bt_cursor.specs.Tree.{Tree, child_place}
 use Rattle.bt_cursor.specs.Met.{IsMet}
-use Rattle.bt_cursor.specs.Faults.{IsNodeFault, HasFeature, HasGap, IsOfNodes}
+use Rattle.bt_cursor.specs.Faults.{IsNodeFault, HasFeature, IsOfNodes}
 use Rattle.bt_cursor.specs.Stack.{IsStep}
 use Rattle.bt_cursor.specs.declared.fault.WalkFault.{WalkFault}
 use Rattle.bt_cursor.specs.declared.fault.WalkFault.TheVariants.{Unsound, Unnamed, Order, Counts}

@@ -1,11 +1,10 @@
 -- The first item out of order, and what was seen before it.
 use Rattle.std.proofs.Common.{◌≡◌, ◌==◌, nat_lt, ℕ, zero, suc, ◌+◌, Bool, true, false, cond, List, [], ◌∷◌, ◌++◌, length, map, Option, Some, None, refl, ap, sym, ◌∙◌, arith, append_assoc, append-nil, length-append, ◌&&◌, ◌||◌}
 use Rattle.std.specs.Prelude.{option_map}
-use Rattle.std.specs.List.{filter, flat_map}
+use Rattle.std.specs.List.{filter}
 use Rattle.std.proofs.lemmas.Bool.Decides.{nat_tests}
 use Rattle.std.proofs.lemmas.Grind.{flat_map-append}
 use Rattle.std.proofs.lemmas.List.Elements.{filter-append}
-use Rattle.apfs_model.specs.Counts.{given}
 use Rattle.apfs_model.specs.Lists.{last_or, last, passes}
 use Rattle.bt_node.specs.Entries.{Pair}
 use Rattle.bt_node.specs.Rank.{is_below, is_same_rank}

@@ -3,7 +3,7 @@ use Rattle.std.proofs.Common.{◌≡◌, ℕ, zero, suc, ◌+◌, ◌<◌, ◌�
 use Rattle.std.specs.List.{range_with_len}
 use Rattle.bt_node.specs.Shape.{Shape}
 use Rattle.bt_node.specs.Node.{count_of}
-use Rattle.bt_node.specs.Entries.{Pair, pair_of, pairs_of}
+use Rattle.bt_node.specs.Entries.{pair_of, pairs_of}
 
 -- one item of a mapped range apart
 drop-range : {X : Type 0} (f : ℕ → X) (a n i k : ℕ) → i < n → k ≡ a + i → drop i (map f (range_with_len a n)) ≡ f k ∷ drop (i + 1) (map f (range_with_len a n))

@@ -1,5 +1,5 @@
 -- The list of places has exactly those that are met.
-use Rattle.std.proofs.Common.{◌≡◌, ℕ, zero, suc, ◌+◌, ◌-◌, ◌<◌, ◌≤◌, Bool, true, false, cond, List, [], ◌∷◌, ◌++◌, length, map, Option, Some, None, Result, Ok, Err, refl, ap, sym, ◌∙◌, subst, arith, inl, inr, ◌⊎◌, ◌&&◌}
+use Rattle.std.proofs.Common.{◌≡◌, ℕ, zero, suc, ◌+◌, ◌<◌, Bool, true, false, cond, List, [], ◌∷◌, ◌++◌, length, map, Option, Some, None, Result, Ok, Err, refl, ap, sym, ◌∙◌, subst, arith, inl, inr, ◌⊎◌, ◌&&◌}
 use Rattle.std.specs.Prelude.{is_ok, is_none}
 use Rattle.std.specs.List.{range_with_len, filter, flat_map, list_all}
 use Rattle.std.proofs.lemmas.Bool.{false≢true}
@@ -20,13 +20,13 @@ use Rattle.bt_node.specs.declared.node.NodeAt.{NodeAt}
 use Rattle.bt_node.specs.declared.node.Site.{Site}
 use Rattle.bt_cursor.specs.declared.fault.WalkFault.{WalkFault}
 use Rattle.bt_cursor.specs.declared.fault.WalkFault.TheVariants.{Unsound, Unnamed, Order, Counts}
-use Rattle.bt_cursor.specs.Tree.{Tree, root_place, child_place, node_at, judged, node_named, block_named, tree_in}
-use Rattle.bt_cursor.specs.Line.{Item, item_at, line_part, line_of}
+use Rattle.bt_cursor.specs.Tree.{Tree, root_place, child_place, judged, node_named, block_named, tree_in}
+use Rattle.bt_cursor.specs.Line.{Item, line_part, line_of}
 use Rattle.bt_cursor.specs.Met.{IsMet, first, after, places_under, places_in, places_of, nodes_of, has_node, is_walkable}
-use Rattle.bt_cursor.specs.Whole.{is_whole, IsWhole}
-use Rattle.bt_cursor.specs.Order.{out_of_order, is_ordered}
+use Rattle.bt_cursor.specs.Whole.{IsWhole}
+use Rattle.bt_cursor.specs.Order.{is_ordered}
 use Rattle.bt_cursor.specs.Faults.{HasGap, HasFeature, IsNodeFault, IsOutOfOrder, IsWalkFault, IsOfWorld}
-use Rattle.bt_cursor.specs.Ahead.{line_from, line_under}
+use Rattle.bt_cursor.specs.Ahead.{line_from}
 use Rattle.bt_cursor.proofs.Lines.{line_under-node}
 use Rattle.bt_cursor.proofs.Nodes.{node_same, node-child}
 

@@ -1,5 +1,5 @@
 -- A rank's place in a tree.
-use Rattle.std.proofs.Common.{◌≡◌, ℕ, zero, suc, ◌+◌, ◌-◌, ◌<◌, ◌≤◌, Bool, true, false, cond, List, [], ◌∷◌, ◌++◌, take, drop, Ok, refl, ap, sym, ◌∙◌, subst, arith, All, inl, inr, append_assoc, append-nil}
+use Rattle.std.proofs.Common.{◌≡◌, ℕ, zero, suc, ◌+◌, ◌<◌, ◌≤◌, Bool, true, false, cond, List, [], ◌∷◌, ◌++◌, take, drop, Ok, refl, ap, sym, ◌∙◌, subst, arith, All, inl, inr, append_assoc, append-nil}
 use Rattle.std.specs.List.{flat_map}
 use Rattle.std.proofs.lemmas.Bool.{cases_lt}
 use Rattle.std.proofs.lemmas.Grind.{flat_map-append}
@@ -8,9 +8,8 @@ use Rattle.std.proofs.lemmas.List.Elements.{All-cons, All-nil, All-same, All-wea
 use Rattle.apfs_model.specs.Lists.{through, value_of}
 use Rattle.bt_node.specs.Node.{level_of, count_of}
 use Rattle.bt_node.specs.Entries.{Pair, pair_of, pairs_of}
-use Rattle.bt_node.specs.Rank.{is_below}
 use Rattle.bt_node.specs.declared.key.Rank.{Rank}
-use Rattle.bt_cursor.specs.Tree.{Tree, root_place, child_place, node_at}
+use Rattle.bt_cursor.specs.Tree.{Tree, root_place, child_place}
 use Rattle.bt_cursor.specs.Flat.{flat_of}
 use Rattle.bt_cursor.specs.Line.{Item, item_at, line_part, line_of, leaf_pairs}
 use Rattle.bt_cursor.specs.Order.{rank_of, ranks_below, is_ordered}

@@ -1,5 +1,5 @@
 -- One item of a Line.
-use Rattle.std.proofs.Common.{◌≡◌, ℕ, suc, ◌+◌, ◌-◌, ◌<◌, nat_lt, Bool, true, false, List, [], ◌∷◌, ◌++◌, Some, None, Option, cond, refl, ap, sym, ◌∙◌, subst, append_assoc, arith, ◌&&◌, ◌||◌}
+use Rattle.std.proofs.Common.{◌≡◌, ℕ, suc, ◌+◌, ◌-◌, ◌<◌, nat_lt, Bool, true, false, List, ◌∷◌, ◌++◌, Some, None, Option, cond, refl, ap, sym, ◌∙◌, append_assoc, arith, ◌&&◌, ◌||◌}
 use Rattle.std.proofs.lemmas.Bool.Decides.{nat_tests}
 use Rattle.apfs_model.specs.Lists.{passes}
 use Rattle.bt_node.specs.Shape.{Shape}

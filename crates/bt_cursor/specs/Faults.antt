@@ -1,5 +1,5 @@
 -- What a walk may name, and where it is there.
-use Rattle.std.specs.Prelude.{◌≡◌, ℕ, false, List, [], Some, Err, Result, Ok}
+use Rattle.std.specs.Prelude.{◌≡◌, ℕ, false, Some, Err}
 use Rattle.apfs_model.specs.Counts.{given}
 use Rattle.obj_base.specs.declared.stop.Feature.{Feature}
 use Rattle.obj_base.specs.declared.stop.Stop.{Stop}

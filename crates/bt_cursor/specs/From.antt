@@ -1,5 +1,5 @@
 -- A flat list from a rank on.
-use Rattle.std.specs.Prelude.{ℕ, Bool, List}
+use Rattle.std.specs.Prelude.{Bool, List}
 use Rattle.apfs_model.specs.Lists.{drop_while}
 use Rattle.bt_node.specs.Shape.{Shape}
 use Rattle.bt_node.specs.Rank.{is_below}

@@ -1,5 +1,5 @@
 -- What a liner is at.
-use Rattle.std.specs.Prelude.{◌≡◌, ℕ, ◌<◌, nat_lt, Bool, true, false, List, [], ◌∷◌, ◌++◌, None}
+use Rattle.std.specs.Prelude.{◌≡◌, ℕ, nat_lt, Bool, true, false, List, [], ◌∷◌, ◌++◌, None}
 use Rattle.bt_node.specs.declared.key.TreeKey as keys
 use Rattle.bt_node.specs.declared.node.Site.{Site}
 use Rattle.bt_cursor.specs.declared.namer.Namer as namers

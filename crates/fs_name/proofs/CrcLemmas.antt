@@ -1,8 +1,8 @@
 -- A remainder goes eight bits at a time by a table.
-use Rattle.std.proofs.Common.{◌≡◌, ℕ, zero, suc, ◌+◌, ◌*◌, ◌/◌, ◌%◌, ◌^◌, ◌<◌, Bool, true, false, cond, ◌&&◌, eqb, eqb-true, List, get_or, refl, sym, ap, ap₂, ◌∙◌, arith, inl, inr}
+use Rattle.std.proofs.Common.{◌≡◌, ℕ, zero, suc, ◌*◌, ◌/◌, ◌%◌, ◌^◌, ◌<◌, Bool, true, false, cond, eqb, eqb-true, get_or, refl, sym, ap, ap₂, ◌∙◌, arith}
 use Rattle.std.specs.Prelude.{bit_xor, bit_and}
 use Rattle.std.proofs.Math.Nat.{pow-suc, mul_assoc}
-use Rattle.std.proofs.lemmas.Bool.{cases_eq, and_parts}
+use Rattle.std.proofs.lemmas.Bool.{agree_below_at}
 use Rattle.std.proofs.lemmas.Nat.{xor_mod, xor_shr, xor_comm, and_mask, shr_split}
 use lib.Bits.{xor_assoc, xor_zero_r, xor_shifted}
 use Rattle.fs_name.specs.declared.crc.TheConstants.{TABLE}
@@ -47,24 +47,11 @@ high_part : (c byte : ℕ) → byte < 256 → bit_xor c byte / 256 ≡ c / 256
 high_part c byte low =
     let none : byte / 2 ^ 8 ≡ 0 = omega arith in xor_shr c byte 8 ∙ ap (bit_xor (c / 256)) none ∙ xor_zero_r (c / 256)
 
--- the table agrees with the bits below n
-abbrev is_right_below : ℕ → List ℕ → Bool
-is_right_below zero table = true
-is_right_below (suc n) table = eqb (get_or table n 0) (after_bits 8 n) && is_right_below n table
-
-right_at : (table : List ℕ) (n i : ℕ) → is_right_below n table ≡ true → i < n → get_or table i 0 ≡ after_bits 8 i
-right_at table zero i all low = absurd (omega arith)
-right_at table (suc n) i all low =
-    let parts = and_parts (eqb (get_or table n 0) (after_bits 8 n)) (is_right_below n table) all in
-    elim (cases_eq i n) [
-      | inl same ↦ rw same (eqb-true _ _ parts.0)
-      | inr other ↦ right_at table n i parts.1 (omega arith)
-    ]
-
 -- the table's rule, at each of its entries
-table_right : is_right_below 256 TABLE ≡ true
+table_right : (i : ℕ) → i < 256 → get_or TABLE i 0 ≡ after_bits 8 i
 unfolding after_bits
-table_right = refl
+table_right i low =
+    eqb-true _ _ (agree_below_at (λ b. eqb (get_or TABLE b 0) (after_bits 8 b)) (λ b. true) 256 i refl low)
 
 -- one byte by the table
 pub after_byte-table : (c byte : ℕ) → byte < 256 → bit_xor (get_or TABLE (bit_and (bit_xor c byte) 255) 0) (c / 256) ≡ after_byte c byte
@@ -74,5 +61,5 @@ after_byte-table c byte low =
     let place : bit_and x 255 ≡ x % 256 = and_mask x 8 in
     let inside : x % 256 < 256 = omega arith in
     ap₂ (λ i h. bit_xor (get_or TABLE i 0) h) place (sym (high_part c byte low))
-    ∙ ap (λ e. bit_xor e (x / 256)) (right_at TABLE 256 (x % 256) table_right inside)
+    ∙ ap (λ e. bit_xor e (x / 256)) (table_right (x % 256) inside)
     ∙ sym (shifted_bits 8 (x % 256) (x / 256)) ∙ ap (after_bits 8) (split_byte x)

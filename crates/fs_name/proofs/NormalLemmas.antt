@@ -1,17 +1,22 @@
 -- Texts and the characters of their normal forms.
-use Rattle.std.proofs.Common.{◌≡◌, ℕ, ◌<◌, ◌↔◌, Bool, true, false, List, map, All, IsTrue, Result, Ok, Err, IfOk, chars, string_bytes, encode_utf8_all, String, refl, sym, ap, ap₂, ◌∙◌}
-use Rattle.std.specs.Str.{IsUtf8, IsAscii, bytes_eq}
+use Rattle.std.proofs.Common.{◌≡◌, ℕ, ◌<◌, ◌↔◌, nat_lt, length, get_or, arith, inl, inr, Bool, true, false, List, map, All, IsTrue, Result, Ok, Err, IfOk, chars, string_bytes, encode_utf8_all, String, refl, sym, ap, ap₂, ◌∙◌}
+use Rattle.std.specs.Bool.{MatchBool}
+use Rattle.std.specs.Str.{IsUtf8, IsAscii, IsNotAscii, bytes_eq}
 use Rattle.std.specs.Cmp.Lexicographic.{bytes_decides}
-use Rattle.std.proofs.lemmas.List.{map-id}
+use Rattle.std.proofs.lemmas.Bool.{cases_lt, lt-ltb, le-ltb}
+use Rattle.std.proofs.lemmas.List.{map-id, get_or_past}
+use Rattle.std.proofs.lemmas.List.Folds.{list_all_at}
+use Rattle.std.proofs.lemmas.List.Sums.{list_all-from_AllPass}
 use Rattle.std.proofs.lemmas.Str.{encodes_same, encodes-chars, chars-IsAscii, IsUtf8-string_bytes}
 use Rattle.std.proofs.lemmas.Str.Ascii.{All-from_ascii}
-use Rattle.unicode_normalization.specs.Forms.{Nfd, nfd}
+use Rattle.unicode_normalization.specs.Forms.{Nfd}
 use Rattle.unicode_normalization.proofs.FormsLemmas.{normalize-ascii}
 use Rattle.caseless.specs.Caseless.{canonical_key, IsCanonicalMatch}
 use Rattle.caseless.proofs.CaselessLemmas.{canonical_key-ascii, default_case_fold-ascii}
 use Rattle.fs_name.specs.declared.naming.Names.{Names}
 use Rattle.fs_name.specs.declared.naming.Names.TheVariants.{Exact, Normal, Folded}
 use Rattle.fs_name.specs.Normal.{normal_chars, normal_form, letter_of, is_same_name}
+use Rattle.fs_name.specs.Text.{is_ascii_name}
 
 -- a text that was made of some characters has these characters
 pub chars_of_made : {Z : Type 0} (made : String Z) (cs : List ℕ) → string_bytes made ≡ encode_utf8_all cs → chars (string_bytes made) ≡ cs
@@ -69,3 +74,14 @@ folded_is same a b tells = test_is same (canonical_key (chars a)) (canonical_key
 pub folded_same : {E : Type 0} (result : Result Bool E) (names : Names) (a b : List ℕ) → names ≡ Folded → IfOk result (λ same. IsTrue same ↔ IsCanonicalMatch (chars a) (chars b)) → IfOk result (λ same. same ≡ is_same_name names a b)
 folded_same (Ok same) names a b folded tells = folded_is same a b tells ∙ ap (λ n. is_same_name n a b) (sym folded)
 folded_same (Err e) names a b folded tells = tells
+
+-- the test for ASCII is the library's
+pub is_ascii_name_is : (b : Bool) (name : List ℕ) → MatchBool b (IsAscii name) (IsNotAscii name) → b ≡ is_ascii_name name
+unfolding is_ascii_name
+is_ascii_name_is true name ascii = sym (list_all-from_AllPass (λ c. nat_lt c 128) name (λ k d low. lt-ltb _ _ (All-from_ascii name ascii k d low)))
+is_ascii_name_is false name (i, wide) =
+    let inside : i < length name = elim (cases_lt i (length name)) [
+      | inl low ↦ low
+      | inr past ↦ absurd (Prim.omega (arith, get_or_past name i 0 past))
+    ] in
+    sym (list_all_at (λ c. nat_lt c 128) name i 0 inside (le-ltb (get_or name i 0) 128 wide))

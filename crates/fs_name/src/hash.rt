@@ -51,15 +51,18 @@ fn text_hash(text: &str) -> u32
 fn after_text(text: &str) -> u32
     ensures { result ≡ fold after_char ones (chars text.now) }
 {
-    text.chars().fold(ONES, |rest, c| after_number(rest, u32::from(c)))
+    text.chars()
+        .fold(ONES, |rest, c| after_number(rest, u32::from(c)))
 }
 
 // The remainder after the normal form of an ASCII name.
 fn after_letters(names: Names, name: &[u8]) -> u32
     ensures { result ≡ fold (λ rest b. after_char rest (letter_of names b)) ones name.now }
 {
-    name.iter()
-        .fold(ONES, |rest, b| after_number(rest, u32::from(letter(names, *b))))
+    name.iter().fold(
+        ONES,
+        |rest, b| after_number(rest, u32::from(letter(names, *b))),
+    )
 }
 
 // The normal form of an ASCII letter.

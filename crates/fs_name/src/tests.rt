@@ -40,7 +40,11 @@ fn hashes(rt: HostRuntime) -> Result<(), Fail> {
         ("\u{1f600}", [0x2f_ab5c, 0x2f_ab5c, 0x2f_ab5c]),
     ] {
         for (names, want) in KINDS.iter().zip(want.iter()) {
-            assert_eq!(rt; name_hash(rt.alloc(), *names, name)?, *want, "{name:?} {names:?}");
+            assert_eq!(rt;
+                name_hash(rt.alloc(), *names, name)?,
+                *want,
+                "{name:?} {names:?}"
+            );
         }
     }
     Ok(())
@@ -61,7 +65,11 @@ fn same_names(rt: HostRuntime) -> Result<(), Fail> {
         ("\u{1fb4}", "\u{3b1}\u{345}\u{301}", [false, true, true]),
     ] {
         for (names, want) in KINDS.iter().zip(want.iter()) {
-            assert_eq!(rt; same_name(rt.alloc(), *names, a, b)?, *want, "{a:?} {b:?} {names:?}");
+            assert_eq!(rt;
+                same_name(rt.alloc(), *names, a, b)?,
+                *want,
+                "{a:?} {b:?} {names:?}"
+            );
         }
     }
     Ok(())

@@ -16,6 +16,8 @@ const TYPE: usize = 24;
 const SUBTYPE: usize = 28;
 
 /// How an object is found: the bits of its type above the kind (Objects, Object Type Flags).
+pub(crate) const VIRTUAL: u32 = 0;
+
 pub(crate) const EPHEMERAL: u32 = ObjFlags::EPHEMERAL.bits;
 
 pub(crate) const PHYSICAL: u32 = ObjFlags::PHYSICAL.bits;
@@ -37,7 +39,18 @@ pub(crate) const OBJECT_MAP_KIND: u32 = 0xb;
 
 pub(crate) const CHECKPOINT_MAP_KIND: u32 = 0xc;
 
+pub(crate) const VOLUME_KIND: u32 = 0xd;
+
+pub(crate) const FS_TREE_KIND: u32 = 0xe;
+
+pub(crate) const EXTENTS_KIND: u32 = 0xf;
+
+pub(crate) const SNAPSHOTS_KIND: u32 = 0x10;
+
 pub(crate) const REAPER_KIND: u32 = 0x11;
+
+/// The greatest id that a record's key has room for: its low 60 bits (File-System Objects, j_key_t).
+pub(crate) const MOST_ID: u64 = 0x0fff_ffff_ffff_ffff;
 
 /// The header of an object, but for its sum.
 #[derive(Clone, Copy)]

@@ -1,8 +1,11 @@
 // An image while it is made: its bytes, and which of its blocks are used.
-ghost use Rattle.std.specs.Prelude.{◌≡◌, ◌≤◌, ◌<◌, ◌*◌, length, IfOk, vec_len};
+ghost use Rattle.std.specs.Prelude.{◌≡◌, ◌≤◌, ◌<◌, ◌*◌, ◌+◌, length, IfOk, OnOk, OnErr, vec_len};
 
 use crate::layout::BLOCK;
 use std::alloc::{AllocError, Global};
+
+/// The most blocks of an image: those of a full chunk-info block.
+pub(crate) const MOST_BLOCKS: usize = 4_128_768;
 
 /// An image while it is made.
 #[derive(Drop)]
@@ -10,6 +13,8 @@ pub(crate) struct Image {
     pub bytes: Vec<u8>,
     /// Which blocks are used.
     pub used: Vec<bool>,
+    /// All blocks before this one are used.
+    pub next: usize,
     ghost whole: { vec_len bytes ≡ 4096 * vec_len used },
 }
 
@@ -21,7 +26,11 @@ impl Image {
     {
         let bytes = vec![in alloc; 0u8; blocks * BLOCK]?;
         let used = vec![in alloc; false; blocks]?;
-        Ok(Image { bytes, used })
+        Ok(Image {
+            bytes,
+            used,
+            next: 0,
+        })
     }
 
     /// Writes a block, and marks it used.
@@ -34,14 +43,72 @@ impl Image {
         self.used[at] = true;
     }
 
-    /// Marks blocks used, those that the image has.
-    pub(crate) fn mark(&mut self, first: usize, length: usize)
+    /// Writes the bytes from a block on, where the image has room for them.
+    pub(crate) fn put_contents(&mut self, block: u64, contents: &[u8])
         ensures { vec_len self.new.used ≡ vec_len self.old.used }
     {
-        for (at, used) in self.used.iter_mut().enumerate() {
-            if first <= at && at - first < length {
-                *used = true;
+        if block < MOST_BLOCKS as u64 {
+            let at = block as usize * BLOCK;
+            if at <= self.bytes.len() && contents.len() <= self.bytes.len() - at {
+                self.bytes[at..at + contents.len()].copy_from_slice(contents);
             }
         }
+    }
+
+    /// Marks blocks used, those that the image has.
+    pub(crate) fn mark(&mut self, first: u64, length: u64)
+        ensures { vec_len self.new.used ≡ vec_len self.old.used }
+    {
+        let blocks = self.used.len() as u64;
+        let start = first.min(blocks) as usize;
+        let end = first.saturating_add(length).min(blocks) as usize;
+        for at in start..end {
+            self.used[at] = true;
+        }
+    }
+
+    // One block more, which is free.
+    fn grow(&mut self) -> Result<(), AllocError>
+        ensures more { OnOk result (vec_len self.new.used ≡ vec_len self.old.used + 1) }
+        ensures same { OnErr result (vec_len self.new.used ≡ vec_len self.old.used) }
+    {
+        let blocks = self.used.len();
+        if blocks >= MOST_BLOCKS {
+            return Err(AllocError);
+        }
+        self.used.push(false)?;
+        match self.bytes.resize((blocks + 1) * BLOCK, 0) {
+            Ok(()) => Ok(()),
+            Err(error) => {
+                let _ = self.used.pop();
+                Err(error)
+            }
+        }
+    }
+
+    // The first free block, or the first behind the image.
+    fn first_free(&self) -> usize
+        ensures { result ≤ vec_len self.now.used }
+    {
+        for at in self.next..self.used.len() {
+            if !self.used[at] {
+                return at;
+            }
+        }
+        self.used.len()
+    }
+
+    /// The first free block, which is used from now on; the image has one more where there was none.
+    pub(crate) fn place(&mut self) -> Result<usize, AllocError>
+        ensures inside { IfOk result (λ at. at < vec_len self.new.used) }
+        ensures grows { vec_len self.old.used ≤ vec_len self.new.used }
+    {
+        let at = self.first_free();
+        if at == self.used.len() {
+            self.grow()?;
+        }
+        self.used[at] = true;
+        self.next = at;
+        Ok(at)
     }
 }

@@ -35,13 +35,11 @@ pub(crate) const RING_BASE: usize = 27;
 
 pub(crate) const RING_BLOCKS: u32 = 16;
 
-/// The pool: the chunk-info block, the chunks' bitmaps, and then empty blocks.
+/// The pool: the chunk-info block, the chunks' bitmaps, and then empty blocks. It is as long as it must be, and at least
+/// this long.
 pub(crate) const POOL_BASE: usize = 43;
 
 pub(crate) const POOL_BLOCKS: usize = 8;
-
-/// The first block behind the pool.
-pub(crate) const FIRST_FREE: usize = 51;
 
 /// The ids of the ephemeral objects.
 pub(crate) const SPACE_OID: u64 = 1024;
@@ -51,6 +49,11 @@ pub(crate) const REAPER_OID: u64 = 1025;
 pub(crate) const POOL_QUEUE_OID: u64 = 1029;
 
 pub(crate) const MAIN_QUEUE_OID: u64 = 1030;
+
+/// The ids of the first volume and of its file-system tree.
+pub(crate) const VOLUME_OID: u64 = 1026;
+
+pub(crate) const ROOT_OID: u64 = 1028;
 
 /// The first id that no fixed object has.
 pub(crate) const FIRST_OID: u64 = 1031;

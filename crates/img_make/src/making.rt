@@ -1,19 +1,22 @@
 // The image of a plan.
-ghost use Rattle.std.specs.Prelude.{◌≡◌, ◌≤◌, ◌*◌, max, IfOk, OnOk, vec_len};
+ghost use Rattle.std.specs.Prelude.{◌≡◌, ◌≤◌, ◌*◌, ◌%◌, max, IfOk, OnOk, vec_len};
 ghost use Rattle.img_make.specs.Plans.{IsValid};
 
-use crate::Plan;
 use crate::checkpoint::{checkpoint_map, reaper};
 use crate::image::Image;
 use crate::layout::{
-    CHECKPOINT_MAP, CONTAINER_MAP, CONTAINER_MAP_ROOT, FIRST_FREE, FIRST_OID, MAIN_QUEUE,
-    MAIN_QUEUE_OID, POOL_BASE, POOL_BLOCKS, POOL_QUEUE, POOL_QUEUE_OID, REAPER, RING_BASE,
-    SPACE_MANAGER, SUPERBLOCK,
+    CHECKPOINT_MAP, CONTAINER_MAP, CONTAINER_MAP_ROOT, FIRST_OID, MAIN_QUEUE, MAIN_QUEUE_OID,
+    POOL_BASE, POOL_BLOCKS, POOL_QUEUE, POOL_QUEUE_OID, REAPER, RING_BASE, SPACE_MANAGER,
+    SUPERBLOCK,
 };
 use crate::node::{Item, NodeHead, Totals, Tree, node};
 use crate::object_map::{MANUALLY_MANAGED, object_map};
-use crate::space::{CHUNK, Chunk, Space, bitmap, chunk_info, space_manager};
+use crate::placing::put_volume;
+use crate::record::map_record;
+use crate::space::{CHUNK, Chunk, MOST_CHUNKS, Space, bitmap, chunk_info, space_manager};
 use crate::superblock::{Container, superblock};
+use crate::tree::Ids;
+use crate::{Plan, VolPlan};
 use apfs_model::NoMemory;
 use std::alloc::{AllocError, Global};
 
@@ -106,8 +109,19 @@ fn put_bitmaps(alloc: Global, image: &mut Image, chunks: &[Chunk]) -> Result<(),
     Ok(())
 }
 
+// The blocks of the pool that are in use: the chunk-info block and the bitmaps.
+fn pool_use(chunks: &[Chunk]) -> usize {
+    let bitmaps = chunks.iter().filter(|chunk| chunk.bitmap != 0).count();
+    bitmaps.saturating_add(1)
+}
+
 // The space manager, the chunks and the pool.
-fn put_space(alloc: Global, image: &mut Image, xid: u64) -> Result<(), AllocError>
+fn put_space(
+    alloc: Global,
+    image: &mut Image,
+    xid: u64,
+    pool_blocks: usize,
+) -> Result<(), AllocError>
     requires { 51 ≤ vec_len image.old.used }
     ensures { OnOk result (vec_len image.new.used ≡ vec_len image.old.used) }
 {
@@ -116,7 +130,7 @@ fn put_space(alloc: Global, image: &mut Image, xid: u64) -> Result<(), AllocErro
         xid,
         blocks: image.used.len(),
         free: free_count(&image.used),
-        pool_blocks: POOL_BLOCKS,
+        pool_blocks,
         chunks: &chunks,
     };
     let manager = space_manager(alloc, &space)?;
@@ -124,8 +138,7 @@ fn put_space(alloc: Global, image: &mut Image, xid: u64) -> Result<(), AllocErro
     let cib = chunk_info(alloc, &space)?;
     image.put(POOL_BASE, &cib);
     put_bitmaps(alloc, image, &chunks)?;
-    let bitmaps = chunks.iter().filter(|chunk| chunk.bitmap != 0).count();
-    let in_pool = vec![in alloc; true; bitmaps.saturating_add(1)]?;
+    let in_pool = vec![in alloc; true; pool_use(&chunks)]?;
     let ring = bitmap(alloc, &in_pool)?;
     image.put(RING_BASE, &ring);
     Ok(())
@@ -150,34 +163,126 @@ fn put_checkpoint(
     Ok(())
 }
 
-// The image of a plan while it is made.
-fn image_of(alloc: Global, plan: &Plan) -> Result<Image, AllocError>
-    requires { IsValid plan.now }
-    ensures { IfOk result (λ image. vec_len image.used ≡ max plan.now.blocks 51) }
+// Marks the blocks that the volumes' files own.
+fn mark_ranges(image: &mut Image, volumes: &[VolPlan])
+    ensures { vec_len image.new.used ≡ vec_len image.old.used }
 {
-    let blocks = plan.blocks.max(FIRST_FREE as u64);
-    let mut image = Image::new(alloc, blocks as usize)?;
-    image.mark(0, FIRST_FREE);
-    put_container_map(alloc, &mut image, plan.xid, &[])?;
-    put_queues(alloc, &mut image, plan.xid, &[])?;
-    put_space(alloc, &mut image, plan.xid)?;
+    for volume in volumes.iter() {
+        for range in volume.extents.iter() {
+            image.mark(range.first, range.length);
+        }
+    }
+}
+
+// The first id that neither a fixed object nor a leaf of the plan has.
+fn first_id(volumes: &[VolPlan]) -> u64 {
+    let mut next = FIRST_OID;
+    for volume in volumes.iter() {
+        for version in volume.versions.iter() {
+            for leaf in version.leaves.iter() {
+                next = next.max(leaf.oid.saturating_add(1));
+            }
+        }
+    }
+    next
+}
+
+// The volumes, each behind the one before it: their oids and the blocks of their superblocks.
+fn put_volumes(
+    alloc: Global,
+    image: &mut Image,
+    plan: &Plan,
+    ids: &mut Ids,
+) -> Result<Vec<(u64, u64)>, AllocError>
+    ensures { vec_len image.old.used ≤ vec_len image.new.used }
+{
+    let mut placed = Vec::new(alloc);
+    for (slot, volume) in plan.volumes.iter().enumerate() {
+        placed.push(put_volume(alloc, image, volume, slot, plan.xid, ids)?)?;
+    }
+    Ok(placed)
+}
+
+// The objects of the container itself, once all others have their blocks.
+fn put_container(
+    alloc: Global,
+    image: &mut Image,
+    plan: &Plan,
+    placed: &[(u64, u64)],
+    next_oid: u64,
+    pool_blocks: usize,
+) -> Result<(), AllocError>
+    requires { 51 ≤ vec_len image.old.used }
+    ensures { OnOk result (vec_len image.new.used ≡ vec_len image.old.used) }
+{
+    let mut records = Vec::new(alloc);
+    let mut oids = Vec::new(alloc);
+    for (oid, block) in placed.iter() {
+        records.push(map_record(alloc, *oid, plan.xid, *block)?)?;
+        oids.push(*oid)?;
+    }
+    put_container_map(alloc, image, plan.xid, &records)?;
+    put_queues(alloc, image, plan.xid, &[])?;
+    put_space(alloc, image, plan.xid, pool_blocks)?;
     let container = Container {
-        blocks,
+        blocks: image.used.len() as u64,
         xid: plan.xid,
-        next_oid: FIRST_OID,
-        volumes: &[],
+        next_oid,
+        volumes: &oids,
     };
-    put_checkpoint(alloc, &mut image, &container)?;
+    put_checkpoint(alloc, image, &container)
+}
+
+// The image of a plan with a pool of so many blocks.
+fn image_of(alloc: Global, plan: &Plan, pool_blocks: usize) -> Result<Image, AllocError>
+    requires valid { IsValid plan.now }
+    requires least { 8 ≤ pool_blocks }
+    requires most { pool_blocks ≤ 127 }
+    ensures { IfOk result (λ image. max plan.now.blocks 51 ≤ vec_len image.used) }
+{
+    let fixed = (POOL_BASE + pool_blocks) as u64;
+    let mut image = Image::new(alloc, plan.blocks.max(fixed) as usize)?;
+    image.mark(0, fixed);
+    mark_ranges(&mut image, &plan.volumes);
+    let mut ids = Ids {
+        next: first_id(&plan.volumes),
+        given: Vec::new(alloc),
+    };
+    let placed = put_volumes(alloc, &mut image, plan, &mut ids)?;
+    put_container(alloc, &mut image, plan, &placed, ids.next, pool_blocks)?;
     Ok(image)
+}
+
+// The image of a plan, with a pool of 8 blocks or of as many as are needed. A greater pool may move blocks into a
+// further chunk, and so may ask for one more.
+fn image_that_fits(alloc: Global, plan: &Plan) -> Result<Image, AllocError>
+    requires { IsValid plan.now }
+    ensures { IfOk result (λ image. max plan.now.blocks 51 ≤ vec_len image.used) }
+{
+    let mut pool_blocks = POOL_BLOCKS;
+    for _ in 0..MOST_CHUNKS {
+        let image = image_of(alloc, plan, pool_blocks)?;
+        let chunks = chunks_of(alloc, &image.used)?;
+        let needed = pool_use(&chunks);
+        if needed <= pool_blocks {
+            return Ok(image);
+        }
+        pool_blocks = needed.min(MOST_CHUNKS + 1);
+    }
+    Err(AllocError)
 }
 
 /// The image of a plan: blocks 0 to 50 hold the container's own objects, and the others follow from block 51 on. It has
 /// as many blocks as the plan asks for, or as many as are needed where that is more.
+///
+/// The blocks of files stand where the plan says; those that it puts outside the container aren't written. An image of
+/// more than 126 chunks is as one for which there is no memory.
 pub fn make(alloc: Global, plan: &Plan) -> Result<Vec<u8>, NoMemory>
     requires { IsValid plan.now }
-    ensures { IfOk result (λ image. vec_len image ≡ 4096 * max plan.now.blocks 51) }
+    ensures whole { IfOk result (λ image. vec_len image % 4096 ≡ 0) }
+    ensures least { IfOk result (λ image. 4096 * max plan.now.blocks 51 ≤ vec_len image) }
 {
-    match image_of(alloc, plan) {
+    match image_that_fits(alloc, plan) {
         Ok(image) => {
             let Image { bytes, .. } = image;
             Ok(bytes)

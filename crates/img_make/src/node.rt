@@ -1,8 +1,10 @@
 // Nodes of trees (B-Trees, btree_node_phys_t and btree_info_t).
-ghost use Rattle.std.specs.Prelude.{◌≡◌, ◌≤◌, length, IfOk, vec_len};
+ghost use Rattle.std.specs.Prelude.{◌≡◌, ◌≤◌, ◌-◌, ◌^◌, min, length, IfOk, vec_len};
+ghost use Rattle.img_make.specs.Plans.{bytes_in_node};
 
 use crate::header::{
-    EPHEMERAL, Head, NODE_KIND, OBJECT_MAP_KIND, PHYSICAL, QUEUE_KIND, ROOT_KIND, block_with,
+    EPHEMERAL, EXTENTS_KIND, FS_TREE_KIND, Head, NODE_KIND, OBJECT_MAP_KIND, PHYSICAL, QUEUE_KIND,
+    ROOT_KIND, SNAPSHOTS_KIND, VIRTUAL, block_with,
 };
 use crate::layout::BLOCK;
 use crate::reseal;
@@ -14,7 +16,7 @@ const FLAGS: usize = 32;
 
 const LEVEL: usize = 34;
 
-const KEY_COUNT: usize = 36;
+const COUNT: usize = 36;
 
 const TABLE_LENGTH: usize = 42;
 
@@ -33,19 +35,19 @@ const INFO_BYTES: usize = 40;
 
 const INFO_FLAGS: usize = 0;
 
-const INFO_NODE_SIZE: usize = 4;
+const NODE_SIZE: usize = 4;
 
-const INFO_KEY_SIZE: usize = 8;
+const KEY_SIZE: usize = 8;
 
-const INFO_VALUE_SIZE: usize = 12;
+const VALUE_SIZE: usize = 12;
 
-const INFO_LONGEST_KEY: usize = 16;
+const LONGEST_KEY: usize = 16;
 
-const INFO_LONGEST_VALUE: usize = 20;
+const LONGEST_VALUE: usize = 20;
 
-const INFO_KEY_COUNT: usize = 24;
+const KEY_COUNT: usize = 24;
 
-const INFO_NODE_COUNT: usize = 32;
+const NODE_COUNT: usize = 32;
 
 // The flags of a node (B-Trees, B-Tree Node Flags).
 const ROOT: u16 = 1;
@@ -93,6 +95,33 @@ impl Tree {
         flags: 0xc,
     };
 
+    /// A file-system tree, which is virtual.
+    pub const FILE_SYSTEM: Tree = Tree {
+        storage: VIRTUAL,
+        subtype: FS_TREE_KIND,
+        key_size: 0,
+        value_size: 0,
+        flags: 0x40,
+    };
+
+    /// An extent reference tree, which is physical.
+    pub const EXTENTS: Tree = Tree {
+        storage: PHYSICAL,
+        subtype: EXTENTS_KIND,
+        key_size: 0,
+        value_size: 0,
+        flags: 0x50,
+    };
+
+    /// A snapshot metadata tree, which is physical.
+    pub const SNAPSHOTS: Tree = Tree {
+        storage: PHYSICAL,
+        subtype: SNAPSHOTS_KIND,
+        key_size: 0,
+        value_size: 0,
+        flags: 0x50,
+    };
+
     // Whether all keys and all values have one size.
     fn is_fixed(&self) -> bool {
         self.key_size != 0
@@ -101,6 +130,16 @@ impl Tree {
 
 /// A key and its value.
 pub(crate) type Item = (Vec<u8>, Vec<u8>);
+
+/// The bytes that an item takes in a node whose keys and values differ in size; as many as a number can tell.
+pub(crate) fn node_bytes(item: &Item) -> usize
+    ensures { result ≡ min (bytes_in_node (vec_len item.now.0) (vec_len item.now.1)) (2 ^ 64 - 1) }
+{
+    item.0
+        .len()
+        .saturating_add(item.1.len())
+        .saturating_add(ENTRY)
+}
 
 /// What a root says of its tree.
 #[derive(Clone, Copy)]
@@ -166,7 +205,7 @@ fn put_node_head(block: &mut [u8], tree: &Tree, head: &NodeHead, count: usize, t
     let fixed = if tree.is_fixed() { FIXED } else { 0 };
     put_u16(block, FLAGS, root | leaf | fixed);
     put_u16(block, LEVEL, head.level);
-    put_u32(block, KEY_COUNT, (count % 0x1_0000_0000) as u32);
+    put_u32(block, COUNT, (count % 0x1_0000_0000) as u32);
     put_u16(block, TABLE_LENGTH, low(table));
     put_u16(block, FREE_KEYS, NO_OFFSET);
     put_u16(block, FREE_VALUES, NO_OFFSET);
@@ -177,21 +216,17 @@ fn put_info(part: &mut [u8], tree: &Tree, totals: &Totals)
     requires { length part.old ≡ 40 }
 {
     put_u32(part, INFO_FLAGS, tree.flags);
-    put_u32(part, INFO_NODE_SIZE, BLOCK as u32);
-    put_u32(part, INFO_KEY_SIZE, tree.key_size);
-    put_u32(part, INFO_VALUE_SIZE, tree.value_size);
+    put_u32(part, NODE_SIZE, BLOCK as u32);
+    put_u32(part, KEY_SIZE, tree.key_size);
+    put_u32(part, VALUE_SIZE, tree.value_size);
+    put_u32(part, LONGEST_KEY, totals.longest_key.max(tree.key_size));
     put_u32(
         part,
-        INFO_LONGEST_KEY,
-        totals.longest_key.max(tree.key_size),
-    );
-    put_u32(
-        part,
-        INFO_LONGEST_VALUE,
+        LONGEST_VALUE,
         totals.longest_value.max(tree.value_size),
     );
-    put_u64(part, INFO_KEY_COUNT, totals.keys);
-    put_u64(part, INFO_NODE_COUNT, totals.nodes);
+    put_u64(part, KEY_COUNT, totals.keys);
+    put_u64(part, NODE_COUNT, totals.nodes);
 }
 
 // The table, the keys one after another, and the values backwards from `end`.

@@ -18,6 +18,9 @@ const TREE: usize = 48;
 /// The map can't have snapshots, as the container's (Object Maps, Object Map Flags).
 pub(crate) const MANUALLY_MANAGED: u32 = 1;
 
+/// The map may have snapshots, as that of a volume.
+pub(crate) const NO_FLAGS: u32 = 0;
+
 /// An object map in a block, whose tree's root is in another.
 pub(crate) fn object_map(
     alloc: Global,

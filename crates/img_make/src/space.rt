@@ -2,11 +2,8 @@
 ghost use Rattle.std.specs.Prelude.{◌≡◌, length, IfOk, vec_len};
 
 use crate::header::{CIB_KIND, EPHEMERAL, Head, PHYSICAL, SPACE_KIND, block_with};
-use crate::layout::{
-    BLOCK, MAIN_QUEUE_OID, POOL_BASE, POOL_QUEUE_OID, RING_BASE, RING_BLOCKS, SPACE_OID,
-};
-use crate::reseal;
 use crate::writer::{put_u16, put_u32, put_u64};
+use crate::{layout, reseal};
 use std::alloc::{AllocError, Global};
 
 // The fields of the space manager by offset.
@@ -32,15 +29,15 @@ const SECOND_ADDRESSES: usize = 128;
 
 const RING_BITMAPS: usize = 148;
 
-const POOL_BLOCKS_AT: usize = 152;
+const POOL_BLOCKS: usize = 152;
 
 const POOL_BITMAP_SIZE: usize = 160;
 
-const RING_BLOCKS_AT: usize = 164;
+const RING_BLOCKS: usize = 164;
 
-const RING_BASE_AT: usize = 168;
+const RING_BASE: usize = 168;
 
-const POOL_BASE_AT: usize = 176;
+const POOL_BASE: usize = 176;
 
 const POOL_QUEUE_TREE: usize = 208;
 
@@ -93,9 +90,10 @@ const CHUNK_BYTES: usize = 32;
 /// The blocks of a chunk, which are the bits of a block.
 pub(crate) const CHUNK: usize = 32_768;
 
-// The most chunks of a chunk-info block, and the most chunk-info blocks of an address block.
-const MOST_CHUNKS: usize = 126;
+/// The most chunks of a chunk-info block.
+pub(crate) const MOST_CHUNKS: usize = 126;
 
+// The most chunk-info blocks of an address block.
 const MOST_CIBS: u32 = 507;
 
 // No block of the ring follows.
@@ -124,7 +122,7 @@ pub(crate) struct Space<'a> {
 fn put_device(block: &mut [u8], space: &Space<'_>)
     requires { length block.old ≡ 4096 }
 {
-    put_u32(block, BLOCK_SIZE, BLOCK as u32);
+    put_u32(block, BLOCK_SIZE, layout::BLOCK as u32);
     put_u32(block, BLOCKS_PER_CHUNK, CHUNK as u32);
     put_u32(block, CHUNKS_PER_CIB, MOST_CHUNKS as u32);
     put_u32(block, CIBS_PER_CAB, MOST_CIBS);
@@ -133,7 +131,7 @@ fn put_device(block: &mut [u8], space: &Space<'_>)
     put_u32(block, MAIN_CIBS, 1);
     put_u64(block, MAIN_FREE, space.free as u64);
     put_u32(block, MAIN_ADDRESSES, CIB_ADDRESS as u32);
-    put_u64(block, CIB_ADDRESS, POOL_BASE as u64);
+    put_u64(block, CIB_ADDRESS, layout::POOL_BASE as u64);
     put_u32(block, SECOND_ADDRESSES, NO_ADDRESSES as u32);
 }
 
@@ -141,15 +139,15 @@ fn put_device(block: &mut [u8], space: &Space<'_>)
 fn put_pool(block: &mut [u8], space: &Space<'_>)
     requires { length block.old ≡ 4096 }
 {
-    put_u32(block, RING_BITMAPS, RING_BLOCKS);
-    put_u64(block, POOL_BLOCKS_AT, space.pool_blocks as u64);
+    put_u32(block, RING_BITMAPS, layout::RING_BLOCKS);
+    put_u64(block, POOL_BLOCKS, space.pool_blocks as u64);
     put_u32(block, POOL_BITMAP_SIZE, 1);
-    put_u32(block, RING_BLOCKS_AT, RING_BLOCKS);
-    put_u64(block, RING_BASE_AT, RING_BASE as u64);
-    put_u64(block, POOL_BASE_AT, POOL_BASE as u64);
-    put_u64(block, POOL_QUEUE_TREE, POOL_QUEUE_OID);
+    put_u32(block, RING_BLOCKS, layout::RING_BLOCKS);
+    put_u64(block, RING_BASE, layout::RING_BASE as u64);
+    put_u64(block, POOL_BASE, layout::POOL_BASE as u64);
+    put_u64(block, POOL_QUEUE_TREE, layout::POOL_QUEUE_OID);
     put_u16(block, POOL_QUEUE_LIMIT, 1);
-    put_u64(block, MAIN_QUEUE_TREE, MAIN_QUEUE_OID);
+    put_u64(block, MAIN_QUEUE_TREE, layout::MAIN_QUEUE_OID);
     put_u16(block, MAIN_QUEUE_LIMIT, 8);
 }
 
@@ -175,7 +173,7 @@ pub(crate) fn space_manager(alloc: Global, space: &Space<'_>) -> Result<Vec<u8>,
     ensures { IfOk result (λ block. vec_len block ≡ 4096) }
 {
     let head = Head {
-        oid: SPACE_OID,
+        oid: layout::SPACE_OID,
         xid: space.xid,
         storage: EPHEMERAL,
         kind: SPACE_KIND,
@@ -217,7 +215,7 @@ pub(crate) fn chunk_info(alloc: Global, space: &Space<'_>) -> Result<Vec<u8>, Al
     ensures { IfOk result (λ block. vec_len block ≡ 4096) }
 {
     let head = Head {
-        oid: POOL_BASE as u64,
+        oid: layout::POOL_BASE as u64,
         xid: space.xid,
         storage: PHYSICAL,
         kind: CIB_KIND,
@@ -249,7 +247,7 @@ fn mark_bits(block: &mut [u8], used: &[bool])
 pub(crate) fn bitmap(alloc: Global, used: &[bool]) -> Result<Vec<u8>, AllocError>
     ensures { IfOk result (λ block. vec_len block ≡ 4096) }
 {
-    let mut block = vec![in alloc; 0u8; BLOCK]?;
+    let mut block = vec![in alloc; 0u8; layout::BLOCK]?;
     mark_bits(&mut block, used);
     Ok(block)
 }

@@ -2,11 +2,8 @@
 ghost use Rattle.std.specs.Prelude.{◌≡◌, length, IfOk, vec_len};
 
 use crate::header::{CONTAINER_KIND, EPHEMERAL, Head, block_with};
-use crate::layout::{
-    BLOCK, CONTAINER_MAP, DATA_BASE, DATA_BLOCKS, DESC_BASE, DESC_BLOCKS, REAPER_OID, SPACE_OID,
-};
-use crate::reseal;
 use crate::writer::{put_bytes, put_u32, put_u64};
+use crate::{layout, reseal};
 use std::alloc::{AllocError, Global};
 
 // The fields by offset.
@@ -24,13 +21,13 @@ const NEXT_OID: usize = 88;
 
 const NEXT_XID: usize = 96;
 
-const DESC_BLOCKS_AT: usize = 104;
+const DESC_BLOCKS: usize = 104;
 
-const DATA_BLOCKS_AT: usize = 108;
+const DATA_BLOCKS: usize = 108;
 
-const DESC_BASE_AT: usize = 112;
+const DESC_BASE: usize = 112;
 
-const DATA_BASE_AT: usize = 120;
+const DATA_BASE: usize = 120;
 
 const DESC_NEXT: usize = 128;
 
@@ -40,11 +37,11 @@ const DESC_LEN: usize = 140;
 
 const DATA_LEN: usize = 148;
 
-const SPACE_OID_AT: usize = 152;
+const SPACE_OID: usize = 152;
 
 const OMAP_OID: usize = 160;
 
-const REAPER_OID_AT: usize = 168;
+const REAPER_OID: usize = 168;
 
 const MAX_FILE_SYSTEMS: usize = 180;
 
@@ -94,10 +91,10 @@ fn most_volumes(container: &Container<'_>) -> u32 {
 fn put_areas(block: &mut [u8])
     requires { length block.old ≡ 4096 }
 {
-    put_u32(block, DESC_BLOCKS_AT, DESC_BLOCKS);
-    put_u32(block, DATA_BLOCKS_AT, DATA_BLOCKS);
-    put_u64(block, DESC_BASE_AT, DESC_BASE);
-    put_u64(block, DATA_BASE_AT, DATA_BASE);
+    put_u32(block, DESC_BLOCKS, layout::DESC_BLOCKS);
+    put_u32(block, DATA_BLOCKS, layout::DATA_BLOCKS);
+    put_u64(block, DESC_BASE, layout::DESC_BASE);
+    put_u64(block, DATA_BASE, layout::DATA_BASE);
     put_u32(block, DESC_NEXT, 2);
     put_u32(block, DATA_NEXT, 4);
     put_u32(block, DESC_LEN, 2);
@@ -108,9 +105,9 @@ fn put_areas(block: &mut [u8])
 fn put_names(block: &mut [u8], volumes: &[u64])
     requires { length block.old ≡ 4096 }
 {
-    put_u64(block, SPACE_OID_AT, SPACE_OID);
-    put_u64(block, OMAP_OID, CONTAINER_MAP as u64);
-    put_u64(block, REAPER_OID_AT, REAPER_OID);
+    put_u64(block, SPACE_OID, layout::SPACE_OID);
+    put_u64(block, OMAP_OID, layout::CONTAINER_MAP as u64);
+    put_u64(block, REAPER_OID, layout::REAPER_OID);
     for (slot, oid) in volumes.iter().enumerate() {
         if slot < MOST_VOLUMES {
             put_u64(block, FS_OID + 8 * slot, *oid);
@@ -131,7 +128,7 @@ pub(crate) fn superblock(alloc: Global, container: &Container<'_>) -> Result<Vec
     };
     let mut block = block_with(alloc, &head)?;
     put_u32(&mut block, MAGIC, NX_MAGIC);
-    put_u32(&mut block, BLOCK_SIZE, BLOCK as u32);
+    put_u32(&mut block, BLOCK_SIZE, layout::BLOCK as u32);
     put_u64(&mut block, BLOCK_COUNT, container.blocks);
     put_u64(&mut block, INCOMPAT, VERSION_2);
     put_bytes(&mut block, UUID, &CONTAINER_UUID);

@@ -7,3 +7,4 @@ pub mod Few
 pub mod Some
 pub mod Best
 pub mod Chosen
+pub mod Sites

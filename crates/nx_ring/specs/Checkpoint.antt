@@ -2,6 +2,8 @@
 use Rattle.std.specs.Prelude.{ℕ, ◌==◌, List, map, Option, option_map}
 use Rattle.std.specs.List.{find}
 use Rattle.nx_ring.specs.declared.line.RingLine.{RingLine}
+use Rattle.bt_node.specs.declared.node.Site.{Site}
+use Rattle.nx_block.specs.Super.{block_size_of, block_count_of}
 use Rattle.nx_ring.specs.Objects.{Place}
 
 -- a checkpoint: its line, the bytes of its superblock, the objects that it maps, and the candidates before which it stands, by index and transaction
@@ -26,3 +28,7 @@ object_of seen oid = option_map (λ (p : Place). p.bytes) (eph seen oid)
 -- the first block of an oid's object
 abbrev pub object_block_of : Seen → ℕ → Option ℕ
 object_block_of seen oid = option_map (λ (p : Place). p.block) (eph seen oid)
+
+-- what the objects of a checkpoint's container are measured by: its block size, its number of blocks, and its transaction
+unfoldable pub site_of : Seen → Site
+site_of seen = record { block_size = block_size_of seen.nx; blocks = block_count_of seen.nx; max_xid = seen.line.xid }

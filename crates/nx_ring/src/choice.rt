@@ -2,7 +2,7 @@
 //
 // Tests: block 0, some candidate is valid, the container has no feature that is refused. Gives: the valid candidate of
 // the greatest transaction, and of the least index on a tie. Rests on: the candidates, and which are valid.
-ghost use Rattle.std.specs.Prelude.{◌≡◌, ◌+◌, ◌*◌, ◌≤◌, ◌<◌, ◌++◌, List, ℕ, Some, None, Ok, [], ◌∷◌, IfOk, IfErr, OnOk, IfSome, IsErrOf};
+ghost use Rattle.std.specs.Prelude.{◌≡◌, ◌+◌, ◌*◌, ◌≤◌, ◌<◌, ◌++◌, List, ℕ, Some, None, Ok, true, [], ◌∷◌, IfOk, IfErr, OnOk, IfSome, IsErrOf};
 ghost use Rattle.std.specs.List.{range_with_len};
 ghost use Rattle.apfs_model.specs.Counts.{Rose};
 ghost use Rattle.apfs_model.specs.Source.{IsKept};
@@ -14,6 +14,9 @@ ghost use Rattle.nx_ring.specs.Newest as found;
 ghost use Rattle.nx_ring.specs.Features.{container_features};
 ghost use Rattle.nx_ring.specs.Ring.{IsRingFault, IsRingFeature};
 ghost use Rattle.nx_ring.specs.Stops.{IsFree};
+ghost use Rattle.nx_ring.specs.Checkpoint.{site_of};
+ghost use Rattle.obj_base.specs.BlockSize as sizes;
+ghost use Rattle.bt_node.specs.Site.{IsSiteFor};
 
 use crate::areas::Areas;
 use crate::block::read_new;
@@ -147,11 +150,13 @@ fn find<S: BlockSource>(alloc: Global, src: &mut S) -> Result<Checkpoint, Stop<R
 }
 
 // The checkpoint, where its container has no feature that is refused.
+#[tactic(auto, using(crate::proofs::Sites::size_accepted))]
 fn without_features(checkpoint: Checkpoint) -> Result<Checkpoint, Stop<RingFault>>
     ensures same { IfOk result (λ seen. seen ≡ checkpoint) }
     ensures clear { IfOk result (λ seen. container_features checkpoint.nx ≡ []) }
     ensures present { IfErr result (Tells (λ fault. ⊥) (λ name block. found.IsFeatureOf checkpoint name block)) }
     ensures sure { IsErrOf result ReadFault → ⊥ }
+    ensures accepted { sizes.is_accepted (block_size_of checkpoint.nx) ≡ true }
 {
     if let Some(feature) = feature_of(&checkpoint.nx()) {
         return Err(Stop::Unsupported {
@@ -170,12 +175,13 @@ fn without_features(checkpoint: Checkpoint) -> Result<Checkpoint, Stop<RingFault
 /// One read for block 0 and one for each block of the descriptor area, and then for each candidate one for its
 /// superblock, its maps and the blocks of its objects, which are no more than both areas have. Two checkpoints are held
 /// at a time at most, each of which has no more bytes than both areas.
+#[tactic(auto, using(crate::proofs::Sites::site_right))]
 pub fn newest<S: BlockSource>(alloc: Global, src: &mut S) -> Result<Checkpoint, Stop<RingFault>>
     ensures clear { (image : List ℕ) → S.bytes src.old ≡ Some image → IfOk result (λ seen. found.newest_of image ≡ Ok seen) }
     ensures plain { IfOk result (λ seen. container_features seen.nx ≡ []) }
     ensures told { (image : List ℕ) → S.bytes src.old ≡ Some image → IfErr result (Tells (found.IsFault image) (found.IsFeature image)) }
     ensures present { (image : List ℕ) → S.bytes src.old ≡ Some image → IfErr result (Tells (IsRingFault image) (IsRingFeature image)) }
-    ensures site_fits { IfOk result (λ seen. block_count_of seen.nx * block_size_of seen.nx ≤ S.bytes_len src.old) }
+    ensures site { IfOk result (λ seen. IsSiteFor (site_of seen) (S.bytes_len src.old)) }
     ensures cause { IsErrOf result ReadFault → Rose (S.faults src.old) (S.faults src.new) }
     ensures kept { IsKept S.bytes S.bytes_len S.faults src.old src.new }
     ensures reads { (image : List ℕ) → S.bytes src.old ≡ Some image → S.reads src.new ≤ S.reads src.old + (1 + desc_blocks_of (zero_of image) + desc_blocks_of (zero_of image) * (desc_blocks_of (zero_of image) + data_blocks_of (zero_of image))) }

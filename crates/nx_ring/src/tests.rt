@@ -54,12 +54,12 @@ fn object(oid: u64, xid: u64) -> [u8; 4096] {
 }
 
 // An object of two blocks, the first in block 12 and the second in block 9.
-fn put_long_object(image: &mut [u8], oid: u64, xid: u64) {
+fn put_long_object(image: &mut [u8], oid: u64, xid: u64, tail: &[u8]) {
     let mut bytes = [0u8; 8192];
     put(&mut bytes, 8, &oid.to_le_bytes());
     put(&mut bytes, 16, &xid.to_le_bytes());
     put(&mut bytes, 24, &0x8000_0005u32.to_le_bytes());
-    put(&mut bytes, 5000, b"wrapped");
+    put(&mut bytes, 4096, tail);
     let sum = sum64(&bytes);
     put(&mut bytes, 0, &sum.to_le_bytes());
     for (i, byte) in bytes.iter().enumerate() {
@@ -80,6 +80,7 @@ enum Broken {
     Oid,
     Place,
     Twice,
+    Shared,
     Xid,
 }
 
@@ -91,7 +92,11 @@ fn image(alloc: Global, broken: Broken) -> Result<Vec<u8>, AllocError> {
     put(&mut image, 8192, &superblock(1, 0, 2));
     put(&mut image, 40960, &object(1024, 1));
     let size = if broken == Broken::Size { 8191 } else { 8192 };
-    let paddr = if broken == Broken::Place { 13 } else { 11 };
+    let paddr = match broken {
+        Broken::Place => 13,
+        Broken::Shared => 9,
+        _ => 11,
+    };
     let second = if broken == Broken::Twice { 1024 } else { 1025 };
     let there = if broken == Broken::Oid { 7 } else { second };
     let xid = if broken == Broken::Xid { 3 } else { 2 };
@@ -99,7 +104,12 @@ fn image(alloc: Global, broken: Broken) -> Result<Vec<u8>, AllocError> {
     put(&mut image, 12288, &map(3, 2, size, 1024, 12));
     put(&mut image, 16384, &map(4, 2, 4096, second, paddr));
     put(&mut image, 20480, &superblock(2, begin, 3));
-    put_long_object(&mut image, 1024, 2);
+    // Where the two share a block, the second half of the first object is the second object whole.
+    if broken == Broken::Shared {
+        put_long_object(&mut image, 1024, 2, &object(1025, 2));
+    } else {
+        put_long_object(&mut image, 1024, 2, b"wrapped");
+    }
     put(&mut image, 45056, &object(there, xid));
     if broken == Broken::MapSum {
         put(&mut image, 12288 + 4000, b"x");
@@ -164,6 +174,7 @@ fn takes_the_older_where_the_newer_is_broken(rt: HostRuntime) -> Result<(), Fail
         Broken::Oid,
         Broken::Place,
         Broken::Twice,
+        Broken::Shared,
         Broken::Xid,
     ];
     for broken in cases {

@@ -1,9 +1,10 @@
 // A checkpoint and what it maps.
 ghost use Rattle.std.specs.Prelude.{◌≡◌, ◌-◌, length, option_map, IfSome, IsNone, Option};
-ghost use Rattle.nx_ring.specs.Checkpoint.{eph, object_of, object_block_of};
+ghost use Rattle.nx_ring.specs.Checkpoint.{eph, object_of, object_block_of, site_of};
 
 use crate::RingLine;
 use crate::objects::Object;
+use bt_node::Site;
 use nx_block::{NxView, nx_read};
 use std::marker::Model;
 
@@ -78,6 +79,20 @@ impl Checkpoint {
         ensures { result.now ≡ self.now.skipped }
     {
         &self.passed
+    }
+
+    /// What the container's objects are measured by: its block size, its number of blocks, and the checkpoint's
+    /// transaction as the greatest that is allowed.
+    #[tactic(auto, unfolding(crate::specs::Checkpoint::site_of))]
+    pub fn site(&self) -> Site
+        ensures { result ≡ site_of self.now }
+    {
+        let nx = self.nx();
+        Site {
+            block_size: nx.block_size(),
+            blocks: nx.block_count(),
+            max_xid: self.xid(),
+        }
     }
 
     // The object of an oid.

@@ -1,5 +1,5 @@
-use Rattle.std.proofs.Common.{◌≡◌, suc, ◌-◌, ◌≤◌, refl, ap, sym, subst, arith, rules}
-use Rattle.bt_node.specs.Node.{level_of, count_of}
+use Rattle.std.proofs.Common.{◌≡◌, suc, ◌-◌, refl, sym, subst, arith, rules}
+use Rattle.bt_node.specs.Node.{level_of}
 use Rattle.bt_cursor.specs.Tree.{tree_in, look_in}
 use Rattle.bt_cursor.specs.Search.{IsSought}
 use Rattle.bt_cursor.specs.declared.way.Step.{Step}

@@ -1,4 +1,4 @@
-use Rattle.std.proofs.Common.{◌≡◌, ◌≤◌, ◌++◌, [], ◌∷◌, ap, sym, ◌∙◌, arith, rules}
+use Rattle.std.proofs.Common.{◌≡◌, ◌≤◌, ◌++◌, [], ◌∷◌, ap, ◌∙◌, arith, rules}
 use Rattle.bt_node.specs.Node.{count_of}
 use Rattle.bt_cursor.specs.Tree.{tree_by}
 use Rattle.bt_cursor.specs.Ahead.{line_from, rest}

@@ -3,7 +3,7 @@ use Rattle.obj_base.specs.Stops.{Tells}
 use Rattle.obj_base.specs.declared.stop.Stop.TheVariants.{Found, Unsupported}
 use Rattle.bt_node.specs.Node.{level_of, count_of}
 use Rattle.bt_node.specs.Entries.{pair_of}
-use Rattle.bt_cursor.specs.Tree.{tree_in, look_in, child_place}
+use Rattle.bt_cursor.specs.Tree.{tree_in, child_place}
 use Rattle.bt_cursor.specs.Met.{after}
 use Rattle.bt_cursor.proofs.Nodes.{node-child, node-some, step_few, gap_fault}
 use Rattle.bt_cursor.proofs.Fuels.{fuel_push, fuel-child}

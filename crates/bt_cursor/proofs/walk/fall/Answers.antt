@@ -1,4 +1,4 @@
-use Rattle.std.proofs.Common.{◌≡◌, suc, ◌+◌, ◌-◌, true, Bool, ◌++◌, ap, sym, ◌∙◌, arith, rules}
+use Rattle.std.proofs.Common.{◌≡◌, ◌-◌, true, Bool, ◌++◌, ap, sym, ◌∙◌, arith, rules}
 use Rattle.bt_node.specs.Node.{level_of}
 use Rattle.bt_cursor.specs.Tree.{tree_in}
 use Rattle.bt_cursor.specs.Ahead.{line_from, rest, ahead_if, passed_pair}

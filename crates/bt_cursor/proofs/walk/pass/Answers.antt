@@ -1,5 +1,5 @@
-use Rattle.std.proofs.Common.{◌≡◌, ◌+◌, ◌-◌, refl, ap, sym, ◌∙◌, arith, rules}
-use Rattle.bt_node.specs.Node.{level_of, count_of}
+use Rattle.std.proofs.Common.{◌≡◌, ◌+◌, ◌-◌, refl, sym, ◌∙◌, arith}
+use Rattle.bt_node.specs.Node.{level_of}
 use Rattle.bt_cursor.specs.Tree.{tree_in}
 use Rattle.bt_cursor.proofs.Lines.{pairs-pass}
 use Rattle.bt_cursor.proofs.Fuels.{fuel-pass, weight-some}

@@ -1,4 +1,4 @@
-use Rattle.std.proofs.Common.{◌≡◌, ◌<◌, ◌≤◌, ℕ, List, Some, length}
+use Rattle.std.proofs.Common.{◌≡◌, ◌<◌, ◌≤◌, ℕ, List, Some}
 use Rattle.apfs_model.specs.Source.{IsKept}
 use Rattle.bt_node.specs.Node.{level_of, count_of}
 use Rattle.bt_cursor.specs.Tree.{tree_in}

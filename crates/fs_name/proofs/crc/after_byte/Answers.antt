@@ -1,4 +1,4 @@
-use Rattle.std.proofs.Common.{◌≡◌, ap, ◌∙◌, ◌/◌, get_or, arith}
+use Rattle.std.proofs.Common.{ap, ◌∙◌, ◌/◌, get_or, arith}
 use Rattle.std.specs.Prelude.{bit_xor, bit_and}
 use Rattle.fs_name.specs.declared.crc.TheConstants.{TABLE}
 use Rattle.fs_name.proofs.CrcLemmas.{after_byte-table}

@@ -1,7 +1,6 @@
-use Rattle.std.proofs.Common.{◌≡◌, ap, sym, ◌∙◌}
-use Rattle.bt_node.specs.Node.{key_count_of, node_count_of}
+use Rattle.std.proofs.Common.{ap, sym, ◌∙◌}
+use Rattle.bt_node.specs.Node.{key_count_of}
 use Rattle.bt_cursor.specs.Tree.{tree_in}
-use Rattle.bt_cursor.specs.Ahead.{line_from, rest, passed_child}
 use Rattle.bt_cursor.specs.Seen.{seen_start}
 use Rattle.bt_cursor.proofs.Flats.{line-start}
 use Rattle.bt_cursor.proofs.Gone.{gone-start}

@@ -1,0 +1,29 @@
+-- What the command `info` writes.
+use Rattle.std.specs.Prelude.{ℕ, ◌-◌, List, length, codes}
+use Rattle.std.specs.Fmt.{decimal}
+use Rattle.uuid.specs.Text.{hyphenated_text, lower}
+use Rattle.nx_block.specs.Super.{uuid_of, block_size_of, block_count_of}
+use Rattle.nx_ring.specs.Checkpoint.{Seen}
+use Rattle.apfs_cli.specs.Texts.{◌▹◌}
+
+-- an identifier as it is printed: in lower case, with hyphens
+unfoldable pub uuid_text : List ℕ → List ℕ
+uuid_text bytes = hyphenated_text lower bytes
+
+-- a container: its identifier, its block size in bytes, and its number of blocks
+abbrev pub container_text : List ℕ → List ℕ
+container_text nx =
+    codes "uuid " ▹ uuid_text (uuid_of nx)
+    ▹ codes "\nblock size " ▹ decimal (block_size_of nx)
+    ▹ codes "\nblocks " ▹ decimal (block_count_of nx) ▹ codes "\n"
+
+-- a checkpoint: its transaction and the block of its superblock, the numbers of its maps and of the objects that they map, and that of the candidates before which it stands
+abbrev pub checkpoint_text : Seen → List ℕ
+checkpoint_text seen =
+    codes "checkpoint xid " ▹ decimal seen.line.xid ▹ codes " block " ▹ decimal seen.line.block
+    ▹ codes "\nmaps " ▹ decimal (seen.line.desc_len - 1) ▹ codes " objects " ▹ decimal (length seen.mapped)
+    ▹ codes "\nskipped " ▹ decimal (length seen.skipped) ▹ codes "\n"
+
+-- the six lines of a container and its newest checkpoint
+abbrev pub info_text : Seen → List ℕ
+info_text seen = container_text seen.nx ▹ checkpoint_text seen
