@@ -1,0 +1,158 @@
+-- What the parts of a map tell of the whole.
+use Rattle.std.specs.Prelude.{◌≡◌, ℕ, ◌+◌, ◌≤◌, ◌<◌, ◌&&◌, ◌||◌, Bool, true, false, List, [], ◌∷◌, Option, Some, Result, Ok, Err, refl, is_ok, is_some, if◌then◌else◌}
+use Rattle.std.proofs.Common.{arith, ap, sym, ◌∙◌, subst, inl, inr}
+use Rattle.std.proofs.lemmas.Bool.Decides.{nat_tests}
+use Rattle.apfs_model.specs.Blocks.{in_container}
+use Rattle.apfs_model.specs.Lists.{In}
+use Rattle.obj_base.specs.declared.header.Header.{Header}
+use Rattle.obj_base.specs.declared.header.HeadFault.{HeadFault}
+use Rattle.obj_base.specs.declared.stop.Bad.{Bad}
+use Rattle.obj_base.specs.declared.stop.Bad.TheVariants as bads
+use Rattle.obj_base.specs.declared.stop.Feature.TheVariants.{Revert}
+use Rattle.obj_base.specs.declared.stop.Stop.{Stop}
+use Rattle.obj_base.specs.declared.stop.Stop.TheVariants.{Found, Unsupported, ReadFault, NoMemory}
+use Rattle.obj_base.specs.Stops.{Tells}
+use Rattle.bt_node.specs.declared.node.Site.{Site}
+use Rattle.bt_cursor.specs.Faults.{HasFeature}
+use Rattle.bt_cursor.specs.Flat.{flat_of}
+use Rattle.bt_cursor.specs.Whole.{is_whole}
+use Rattle.omap_map.specs.Fields.{snap_count_of, tree_of, snap_tree_of}
+use Rattle.omap_map.specs.Records.{records_of, snapshots_of}
+use Rattle.omap_map.specs.Features.{is_reverting}
+use Rattle.omap_map.specs.Maps.{Contents, map_in, head_of, is_map_object, record_tree, snapshot_tree, map_records, map_snapshots, contents_of, has_no_snapshots, has_whole_snapshots, is_whole_map, map_nodes, after_header, object_of, IsTreeFault, IsMapFault, IsMapFeature, IsLoaded}
+use Rattle.omap_map.specs.Gathered.{IsGathered, HasSnapshots, IsSnapshotsFault, IsSnapshotsFeature}
+use Rattle.omap_map.specs.declared.records.OmapRecord.{OmapRecord}
+use Rattle.omap_map.specs.declared.fault.OmapFault.{OmapFault}
+use Rattle.omap_map.specs.declared.fault.OmapFault.TheVariants.{Head, Tree as TreeFault}
+
+-- a block above 0 and below the container's end is one of the container
+pub block_inside : (blocks block : ℕ) → 0 < block → block < blocks → in_container blocks block ≡ Some block
+block_inside blocks block low high = grind (arith, nat_tests)
+
+reverting-stop : (block : ℕ) (bytes : List ℕ) (stop : Stop OmapFault) (b : Bool) → is_reverting bytes ≡ b → (if b then Err (Unsupported Revert block) else Ok bytes) ≡ Err stop → (b ≡ true) × (stop ≡ Unsupported Revert block)
+reverting-stop block bytes stop true e f = (refl, cc)
+reverting-stop block bytes stop false e f = absurd (cc)
+
+-- why the object of a map stops is there
+header-stops : (image : List ℕ) (site : Site) (block : ℕ) (stop : Stop OmapFault) (r : Result Header (Bad HeadFault)) → in_container site.blocks block ≡ Some block → head_of image site block ≡ r → is_map_object image site block ≡ is_ok r
+    → after_header block (map_in image site block) r ≡ Err stop → Tells (IsMapFault image site block) (IsMapFeature image site block) stop
+header-stops image site block stop (Ok h) inside e sound f =
+    let pending = reverting-stop block (map_in image site block) stop (is_reverting (map_in image site block)) refl f in
+    subst (Tells (IsMapFault image site block) (IsMapFeature image site block)) (sym pending.1)
+    (inr (sound, inl (refl, subst (λ (b : Bool). In Revert (if b then Revert ∷ [] else [])) (sym pending.0) (inl refl))))
+header-stops image site block stop (Err (bads.Found why)) inside e sound f =
+    let same : stop ≡ Found (Head block why) = cc in
+    subst (Tells (IsMapFault image site block) (IsMapFeature image site block)) (sym same) (refl, inside, e)
+header-stops image site block stop (Err (bads.Unsupported feature)) inside e sound f =
+    let same : stop ≡ Unsupported feature block = cc in
+    subst (Tells (IsMapFault image site block) (IsMapFeature image site block)) (sym same) (inl (refl, inside, e))
+
+object-sound : (image : List ℕ) (site : Site) (block : ℕ) → in_container site.blocks block ≡ Some block → is_map_object image site block ≡ is_ok (head_of image site block)
+unfolding is_map_object
+object-sound image site block inside = ap (λ (o : Option ℕ). is_some o && is_ok (head_of image site block)) inside
+
+pub object-stops : (image : List ℕ) (site : Site) (block : ℕ) (stop : Stop OmapFault) → in_container site.blocks block ≡ Some block → object_of image site block ≡ Err stop → Tells (IsMapFault image site block) (IsMapFeature image site block) stop
+unfolding object_of
+object-stops image site block stop inside e = header-stops image site block stop (head_of image site block) inside refl (object-sound image site block inside) e
+
+-- the object of a map that doesn't stop is sound, and no revert is pending
+pub record IsObject (image : List ℕ) (site : Site) (block : ℕ) (bytes : List ℕ) : Type 0 where
+  pub same : bytes ≡ map_in image site block
+  pub sound : is_map_object image site block ≡ true
+  pub settled : is_reverting (map_in image site block) ≡ false
+
+abbrev as_stop : Stop OmapFault → Stop OmapFault
+as_stop stop = stop
+
+reverting-none : (block : ℕ) (bytes other : List ℕ) (b : Bool) → (if b then Err (as_stop (Unsupported Revert block)) else Ok bytes) ≡ Ok other → (b ≡ false) × (other ≡ bytes)
+reverting-none block bytes other true f = absurd (cc)
+reverting-none block bytes other false f = (refl, cc)
+
+header-means : (image : List ℕ) (site : Site) (block : ℕ) (bytes : List ℕ) (r : Result Header (Bad HeadFault)) → is_map_object image site block ≡ is_ok r → after_header block (map_in image site block) r ≡ Ok bytes → IsObject image site block bytes
+header-means image site block bytes (Ok h) sound f =
+    let settled = reverting-none block (map_in image site block) bytes (is_reverting (map_in image site block)) f in
+    record { same = settled.1; sound = sound; settled = settled.0 }
+header-means image site block bytes (Err bad) sound f = absurd (cc)
+
+pub object-means : (image : List ℕ) (site : Site) (block : ℕ) (bytes : List ℕ) → in_container site.blocks block ≡ Some block → object_of image site block ≡ Ok bytes → IsObject image site block bytes
+unfolding object_of
+object-means image site block bytes inside e = header-means image site block bytes (head_of image site block) (object-sound image site block inside) e
+
+-- why the tree of records stops is there
+pub records-stop : (image : List ℕ) (site : Site) (block : ℕ) (bytes : List ℕ) (root : ℕ) (stop : Stop OmapFault) → IsObject image site block bytes → root ≡ tree_of bytes
+    → Tells (IsTreeFault (record_tree image site) root) (HasFeature (record_tree image site) root) stop → Tells (IsMapFault image site block) (IsMapFeature image site block) stop
+records-stop image site block bytes root (Found (Head at why)) object e h = absurd h
+records-stop image site block bytes root (Found (TreeFault other why)) object e h =
+    (object.sound, inl (subst (λ r. IsTreeFault (record_tree image site) r (TreeFault other why)) (e ∙ ap tree_of object.same) h))
+records-stop image site block bytes root (Unsupported feature at) object e h =
+    inr (object.sound, inr (inl (subst (λ r. HasFeature (record_tree image site) r feature at) (e ∙ ap tree_of object.same) h)))
+records-stop image site block bytes root ReadFault object e h = tt
+records-stop image site block bytes root NoMemory object e h = tt
+
+-- why the tree of snapshots stops is there
+pub snapshots-stop : (image : List ℕ) (site : Site) (block : ℕ) (bytes : List ℕ) (root : ℕ) (stop : Stop OmapFault) → IsObject image site block bytes → root ≡ snap_tree_of bytes
+    → Tells (IsSnapshotsFault image site root) (IsSnapshotsFeature image site root) stop → Tells (IsMapFault image site block) (IsMapFeature image site block) stop
+snapshots-stop image site block bytes root (Found (Head at why)) object e h = absurd h.1
+snapshots-stop image site block bytes root (Found (TreeFault other why)) object e h =
+    (object.sound, inr (subst (λ r. IsSnapshotsFault image site r (TreeFault other why)) (e ∙ ap snap_tree_of object.same) h))
+snapshots-stop image site block bytes root (Unsupported feature at) object e h =
+    inr (object.sound, inr (inr (subst (λ r. IsSnapshotsFeature image site r feature at) (e ∙ ap snap_tree_of object.same) h)))
+snapshots-stop image site block bytes root ReadFault object e h = tt
+snapshots-stop image site block bytes root NoMemory object e h = tt
+
+-- the parts that were loaded
+pub record HasParts (image : List ℕ) (site : Site) (block : ℕ) (contents : Contents) (start first second last : ℕ) : Type 0 where
+  pub bytes : List ℕ
+  pub object : IsObject image site block bytes
+  pub records : IsGathered records_of (record_tree image site) (tree_of bytes) contents.records first second
+  pub snapshots : HasSnapshots image site (snap_tree_of bytes) contents.snapshots second last
+  pub count : contents.snap_count ≡ snap_count_of bytes
+
+contents-same : (a b : Contents) → a.records ≡ b.records → a.snapshots ≡ b.snapshots → a.snap_count ≡ b.snap_count → a ≡ b
+contents-same a b e f g =
+    let first : List OmapRecord → Contents = λ r. record { records = r; snapshots = a.snapshots; snap_count = a.snap_count } in
+    let second : List (ℕ × ℕ) → Contents = λ s. record { records = b.records; snapshots = s; snap_count = a.snap_count } in
+    let third : ℕ → Contents = λ n. record { records = b.records; snapshots = b.snapshots; snap_count = n } in
+    ap first e ∙ (ap second f ∙ ap third g)
+
+parts-records : (image : List ℕ) (site : Site) (block : ℕ) (records : List OmapRecord) → records ≡ records_of (flat_of (record_tree image site) (tree_of (map_in image site block))) → records ≡ map_records image site block
+unfolding map_records
+parts-records image site block records e = e
+
+parts-snapshots : (image : List ℕ) (site : Site) (block : ℕ) (snapshots : List (ℕ × ℕ)) → snapshots ≡ (if has_no_snapshots (map_in image site block) then [] else snapshots_of (flat_of (snapshot_tree image site) (snap_tree_of (map_in image site block)))) → snapshots ≡ map_snapshots image site block
+unfolding map_snapshots
+parts-snapshots image site block snapshots e = e
+
+parts-whole : (image : List ℕ) (site : Site) (block : ℕ) → is_map_object image site block ≡ true → is_whole (record_tree image site) (tree_of (map_in image site block)) ≡ true
+    → (has_no_snapshots (map_in image site block) || is_whole (snapshot_tree image site) (snap_tree_of (map_in image site block))) ≡ true → is_whole_map image site block ≡ true
+unfolding is_whole_map has_whole_snapshots
+parts-whole image site block e f g = ap (λ (b : Bool). b && (is_whole (record_tree image site) (tree_of (map_in image site block)) && has_whole_snapshots image site block)) e ∙ (ap (λ (b : Bool). b && has_whole_snapshots image site block) f ∙ g)
+
+-- they are those of a whole map
+pub parts-loaded : (image : List ℕ) (site : Site) (block : ℕ) (contents : Contents) (start first second last : ℕ) → HasParts image site block contents start first second last → IsLoaded image site block contents
+parts-loaded image site block contents start first second last parts =
+    let same = parts.object.same in
+    let gathered = subst (λ bytes. IsGathered records_of (record_tree image site) (tree_of bytes) contents.records first second) same parts.records in
+    let snapshots = subst (λ bytes. HasSnapshots image site (snap_tree_of bytes) contents.snapshots second last) same parts.snapshots in
+    record {
+      whole = parts-whole image site block parts.object.sound gathered.whole snapshots.whole;
+      settled = parts.object.settled;
+      same = contents-same contents (contents_of image site block) (parts-records image site block contents.records gathered.same) (parts-snapshots image site block contents.snapshots snapshots.same) (parts.count ∙ ap snap_count_of same);
+    }
+
+-- and there were no more reads than its object and its nodes
+pub parts-few : (image : List ℕ) (site : Site) (block : ℕ) (contents : Contents) (start first second last : ℕ) → first ≤ start + 1 → HasParts image site block contents start first second last → last ≤ start + (1 + map_nodes image site block)
+unfolding map_nodes
+parts-few image site block contents start first second last one parts =
+    let same = parts.object.same in
+    let gathered = subst (λ bytes. IsGathered records_of (record_tree image site) (tree_of bytes) contents.records first second) same parts.records in
+    let snapshots = subst (λ bytes. HasSnapshots image site (snap_tree_of bytes) contents.snapshots second last) same parts.snapshots in
+    omega (arith, gathered.few, snapshots.few, one)
+
+-- why the object of a map stops is there, as its answer tells it
+pub object-tells : (image : List ℕ) (site : Site) (block : ℕ) (stop : Stop OmapFault) → in_container site.blocks block ≡ Some block
+    → Tells (λ f. object_of image site block ≡ Err (Found f)) (λ name at. object_of image site block ≡ Err (Unsupported name at)) stop → Tells (IsMapFault image site block) (IsMapFeature image site block) stop
+object-tells image site block (Found f) inside h = object-stops image site block (Found f) inside h
+object-tells image site block (Unsupported name at) inside h = object-stops image site block (Unsupported name at) inside h
+object-tells image site block ReadFault inside h = tt
+object-tells image site block NoMemory inside h = tt

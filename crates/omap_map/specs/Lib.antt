@@ -1,0 +1,7 @@
+pub mod Fields
+pub mod Records
+pub mod Resolve
+pub mod Search
+pub mod Features
+pub mod Maps
+pub mod Gathered

@@ -1,0 +1,149 @@
+// An object map, and what its records resolve to.
+ghost use Rattle.std.specs.Prelude.{◌≡◌, ◌≤◌, length, true, false};
+ghost use Rattle.std.specs.List.Sorted.{IsPartitionPoint};
+ghost use Rattle.omap_map.specs.Records.{IsAscending};
+ghost use Rattle.omap_map.specs.Search.{is_by};
+ghost use Rattle.omap_map.specs.Resolve as spec;
+
+use crate::gather::{records, snapshots_if};
+use crate::object::{object, snap_count, snap_tree, tree};
+use crate::{OmapFault, OmapRecord, Place};
+use blk_source::BlockSource;
+use bt_node::Site;
+use obj_base::Stop;
+use std::alloc::Global;
+use std::marker::Model;
+
+/// An object map that was loaded: its records in tree order, and its snapshots.
+#[derive(Drop)]
+pub struct Omap {
+    records: Vec<OmapRecord>,
+    snapshots: Vec<(u64, u32)>,
+    snap_count: u32,
+}
+
+impl Model for Omap {
+    ghost use Rattle.omap_map.specs.Records.{IsAscending};
+    ghost use Rattle.omap_map.specs.Maps.{Contents};
+
+    ghost Value = { Contents };
+
+    ghost view = { λ a. record { records = a.records.items; snapshots = a.snapshots.items; snap_count = a.snap_count } };
+
+    ghost invariant = { λ a. IsAscending a.records.items };
+}
+
+impl Omap {
+    /// The records, in tree order: by oid, then by transaction.
+    pub fn records(&self) -> &[OmapRecord]
+        ensures all { result.now ≡ self.now.records }
+        ensures ascending { IsAscending result.now }
+    {
+        &self.records
+    }
+
+    /// The snapshots that the map knows, each by its transaction and its flags, in tree order.
+    pub fn snapshots(&self) -> &[(u64, u32)]
+        ensures { result.now ≡ self.now.snapshots }
+    {
+        &self.snapshots
+    }
+
+    /// The number of snapshots that the map counts (Object Maps, `om_snap_count`).
+    pub fn snap_count(&self) -> u32
+        ensures { result ≡ self.now.snap_count }
+    {
+        self.snap_count
+    }
+
+    // How many records don't come after an id and a transaction.
+    fn count_by(&self, oid: u64, xid: u64) -> usize
+        ensures bound { result ≤ length self.now.records }
+        ensures split { IsPartitionPoint (λ r. is_by oid xid r ≡ true) (λ r. is_by oid xid r ≡ false) self.now.records result }
+    {
+        self.records.as_slice().partition_point(
+            |record: &OmapRecord| -> bool
+                ensures { result ≡ is_by oid xid record.now }
+            { record.oid < oid || (record.oid == oid && record.xid <= xid) },
+        )
+    }
+
+    // The record of an id of the greatest transaction of at most `xid`.
+    fn latest(&self, oid: u64, xid: u64) -> Option<OmapRecord>
+        ensures { result ≡ spec.latest self.now.records oid xid }
+    {
+        let by = self.count_by(oid, xid);
+        if by == 0 {
+            return None;
+        }
+        let last = self.records[by - 1];
+        if last.oid != oid {
+            return None;
+        }
+        Some(last)
+    }
+
+    /// Where `oid` lies at transaction `xid`: by the record of the greatest transaction of at most `xid` among those of
+    /// `oid`. None where there is no such record, or where it is marked deleted.
+    #[tactic(auto, unfolding(crate::specs::Resolve::resolve, crate::specs::Resolve::resolved))]
+    pub fn resolve(&self, oid: u64, xid: u64) -> Option<Place>
+        ensures { result ≡ spec.resolve self.now.records oid xid }
+    {
+        let record = self.latest(oid, xid)?;
+        if record.is_deleted() {
+            return None;
+        }
+        Some(record.place())
+    }
+}
+
+impl Omap {
+    ghost use Rattle.std.specs.Prelude.{◌+◌, ◌<◌, ℕ, List, Some, Err, OnOk, IfOk, IfErr, IsErrOf};
+    ghost use Rattle.apfs_model.specs.Counts.{Rose};
+    ghost use Rattle.apfs_model.specs.Source.{IsKept};
+    ghost use Rattle.obj_base.specs.Stops.{Tells, Gives};
+    ghost use Rattle.obj_base.specs.declared.stop.Stop as stops;
+    ghost use Rattle.obj_base.specs.declared.stop.Stop.TheVariants.{ReadFault};
+    ghost use Rattle.bt_node.specs.Site.{IsSiteFor};
+    ghost use Rattle.omap_map.specs.declared.fault.OmapFault as faults;
+    ghost use Rattle.omap_map.specs.Maps.{object_of, map_nodes, IsLoaded, IsMapFault, IsMapFeature};
+
+    /// The object map in a block, with its tree and its tree of snapshots, where all of these are whole. `Head` comes
+    /// where its object isn't sound, `Tree` where one of its trees isn't whole, and `Unsupported` for a feature of its
+    /// header, for a pending revert (`Revert`) or for a feature of a node. A feature of a mapping, of a snapshot or of
+    /// the container's map isn't looked for.
+    pub fn load<S: BlockSource>(
+        alloc: Global,
+        src: &mut S,
+        block: u64,
+        site: &Site,
+    ) -> Result<Omap, Stop<OmapFault>>
+        requires site { IsSiteFor site.now (S.bytes_len src.old) }
+        requires above { 0 < block }
+        requires below { block < site.now.blocks }
+        ensures clear { (image : List ℕ) → S.bytes src.old ≡ Some image → IfOk result (IsLoaded image site.now block) }
+        ensures present { (image : List ℕ) → S.bytes src.old ≡ Some image → IfErr result (Tells (IsMapFault image site.now block) (IsMapFeature image site.now block)) }
+        ensures head { (image : List ℕ) → S.bytes src.old ≡ Some image → (stop : stops.Stop faults.OmapFault) → object_of image site.now block ≡ Err stop → Gives (λ omap. omap) result (Err stop) }
+        ensures cause { IsErrOf result ReadFault → Rose (S.faults src.old) (S.faults src.new) }
+        ensures kept { IsKept S.bytes S.bytes_len S.faults src.old src.new }
+        ensures reads { (image : List ℕ) → S.bytes src.old ≡ Some image → OnOk result (S.reads src.new ≤ S.reads src.old + (1 + map_nodes image site.now block)) }
+    {
+        let bytes = match object(alloc, src, block, site) {
+            Ok(bytes) => bytes,
+            Err(stop) => return Err(stop),
+        };
+        let records = match records(alloc, src, tree(&bytes), site) {
+            Ok(records) => records,
+            Err(stop) => return Err(stop),
+        };
+        let snapshots = match snapshots_if(alloc, src, snap_tree(&bytes), site) {
+            Ok(snapshots) => snapshots,
+            Err(stop) => return Err(stop),
+        };
+        Ok(Omap {
+            records,
+            snapshots,
+            snap_count: snap_count(&bytes),
+        })
+    }
+}

@@ -1,0 +1,17 @@
+use Rattle.std.proofs.Common.{◌≡◌, ◌∙◌, sym, ap, subst}
+use Rattle.obj_base.specs.Stops.{Tells}
+use Rattle.nx_block.specs.Super.{omap_oid_of}
+use Rattle.omap_map.specs.Maps.{IsMapFault, IsMapFeature}
+use Rattle.vol_view.specs.Heads.{site_of}
+use Rattle.vol_view.specs.Stops.{IsHeadsStop, IsHeadsFeature}
+use Rattle.vol_view.proofs.SlotsLemmas.{raise_tells}
+use Rattle.vol_view.proofs.map.container_map.Goals as goal
+
+pub returns-in-Err-clause-present : goal.returns-in-Err-clause-present
+returns-in-Err-clause-present g c image told =
+    let seen = c.args.cp.now in
+    let stop = c.in-Err.stop in
+    let block : c.omap_oid-block.result ≡ omap_oid_of seen.nx = c.omap_oid-block.ensures ∙ ap omap_oid_of c.nx.ensures in
+    let there = subst (λ s. Tells (IsMapFault image s c.omap_oid-block.result) (IsMapFeature image s c.omap_oid-block.result) stop) c.requires.same (c.in-Err.ensures.present image told) in
+    let there2 = subst (λ b. Tells (IsMapFault image (site_of seen) b) (IsMapFeature image (site_of seen) b) stop) block there in
+    subst (Tells (IsHeadsStop image seen) (IsHeadsFeature image seen)) (sym c.raise.ensures) (raise_tells image seen stop there2)

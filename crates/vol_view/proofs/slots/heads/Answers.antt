@@ -1,0 +1,45 @@
+use Rattle.std.proofs.Common.{◌≡◌, ◌∙◌, ◌+◌, ◌<◌, ◌++◌, ℕ, sym, ap, arith, below_more, option_to_list}
+use Rattle.nx_block.specs.Super.{slots}
+use Rattle.vol_view.specs.Heads.{heads_in, heads_of}
+use Rattle.vol_view.specs.Slots.{IsRight}
+use Rattle.vol_view.proofs.SlotsLemmas.{slot-tells, slot-found, map-plain, heads-more}
+use Rattle.vol_view.proofs.slots.heads.Goals as goal
+
+pub returns-in-Err-volume_in-clause-present : goal.returns-in-Err-volume_in-clause-present
+returns-in-Err-volume_in-clause-present g c image told =
+    let low : c.slots.slot < slots = omega arith in
+    slot-tells image c.args.cp.now c.in-Ok.omap c.slots.slot c.in-Err-volume_in.stop (c.in-Ok.ensures.clear image told) low
+    (c.in-Err-volume_in.ensures.found image (c.slots.invariant.kept.same_bytes ∙ told))
+
+pub slots-preserved : goal.slots-preserved
+slots-preserved g c =
+    let seen = c.args.cp.now in
+    let slot = c.slots.slot in
+    let head = c.in-Ok-volume_in.head in
+    let low : slot < slots = omega arith in
+    record {
+      found = λ image told.
+      let one = slot-found image seen c.in-Ok.omap slot head (c.in-Ok.ensures.clear image told) low (c.in-Ok-volume_in.ensures.found image (c.slots.invariant.kept.same_bytes ∙ told)) in
+      c.in_ok-add.ensures.more
+      ∙ (ap (λ xs. xs ++ option_to_list head) (c.slots.invariant.found image told)
+      ∙ (ap (λ h. heads_in image seen slot ++ option_to_list h) one.0 ∙ sym (heads-more image seen slot)));
+      right = λ image told.
+      let one = slot-found image seen c.in-Ok.omap slot head (c.in-Ok.ensures.clear image told) low (c.in-Ok-volume_in.ensures.found image (c.slots.invariant.kept.same_bytes ∙ told)) in
+      below_more (λ (k : ℕ). IsRight image seen k) slot (c.slots.invariant.right image told) one.1;
+      kept = record {
+        same_bytes = c.in-Ok-volume_in.ensures.kept.same_bytes ∙ c.slots.invariant.kept.same_bytes;
+        same_size = c.in-Ok-volume_in.ensures.kept.same_size ∙ c.slots.invariant.kept.same_size;
+        later = omega (arith, c.in-Ok-volume_in.ensures.kept.later, c.slots.invariant.kept.later);
+      };
+    }
+
+pub returns-clause-clear : goal.returns-clause-clear
+unfolding heads_of
+returns-clause-clear g c image told =
+    let seen = c.args.cp.now in
+    let end : c.slots.slot ≡ slots = omega arith in
+    record {
+      map = map-plain image seen c.in-Ok.omap (c.in-Ok.ensures.clear image told);
+      volumes = λ k low some. c.slots.invariant.right image told k (omega (arith, end)) some;
+      same = c.slots.invariant.found image told ∙ ap (heads_in image seen) end;
+    }

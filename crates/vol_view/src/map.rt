@@ -1,0 +1,93 @@
+// The container's object map.
+ghost use Rattle.std.specs.Prelude.{◌≡◌, [], ℕ, List, Some, IfOk, IfErr, IsErrOf, OnOk};
+ghost use Rattle.apfs_model.specs.Counts.{Rose};
+ghost use Rattle.apfs_model.specs.Source.{IsKept};
+ghost use Rattle.obj_base.specs.Stops.{Tells};
+ghost use Rattle.obj_base.specs.declared.stop.Stop.TheVariants.{ReadFault, NoMemory};
+ghost use Rattle.bt_node.specs.Site.{IsSiteFor};
+ghost use Rattle.omap_map.specs.Features.{has_snapshot_state, container_features, snapshot_features};
+ghost use Rattle.vol_view.specs.Heads.{site_of};
+ghost use Rattle.vol_view.specs.Stops.{IsHeadsStop, IsHeadsFeature};
+ghost use Rattle.vol_view.specs.Slots.{raised, HasMap, IsMarked};
+
+use crate::VolStop;
+use blk_source::BlockSource;
+use bt_node::Site;
+use nx_ring::Checkpoint;
+use obj_base::{Feature, Stop, Within};
+use omap_map::{Omap, OmapFault};
+use std::alloc::Global;
+
+// Why the container's map stops, said of the volumes.
+fn raise(stop: Stop<OmapFault>) -> Stop<VolStop>
+    ensures { result ≡ raised stop }
+{
+    match stop {
+        Stop::Found(fault) => Stop::Found(VolStop::Omap(fault)),
+        Stop::Unsupported { feature, block } => Stop::Unsupported { feature, block },
+        Stop::ReadFault => Stop::ReadFault,
+        Stop::NoMemory => Stop::NoMemory,
+    }
+}
+
+// Whether a snapshot of the map is being deleted or reverted to.
+fn has_marked(omap: &Omap) -> bool
+    ensures { result ≡ has_snapshot_state omap.now.snapshots }
+{
+    omap.snapshots().iter().any(|snapshot| snapshot.1 != 0)
+}
+
+// Tests the map's snapshots; `block` is the map's.
+fn test(omap: &Omap, block: u64) -> Result<(), Stop<VolStop>>
+    ensures plain { OnOk result (container_features omap.now.snap_count ≡ []) }
+    ensures unmarked { OnOk result (snapshot_features omap.now.snapshots ≡ []) }
+    ensures present { IfErr result (Tells (λ fault. ⊥) (IsMarked omap.now block)) }
+    ensures read { IsErrOf result ReadFault → ⊥ }
+    ensures memory { IsErrOf result NoMemory → ⊥ }
+{
+    if omap.snap_count() != 0 {
+        return Err(Stop::Unsupported {
+            feature: Feature::ContainerSnapshots,
+            block,
+        });
+    }
+    if has_marked(omap) {
+        return Err(Stop::Unsupported {
+            feature: Feature::SnapshotState,
+            block,
+        });
+    }
+    Ok(())
+}
+
+/// The container's object map, where it is whole and has no feature.
+#[tactic(auto, using(crate::proofs::SlotsLemmas::raise_tells, crate::proofs::SlotsLemmas::mark_tells))]
+pub(crate) fn container_map<S: BlockSource>(
+    alloc: Global,
+    src: &mut S,
+    cp: &Checkpoint,
+    site: &Site,
+) -> Result<Omap, Stop<VolStop>>
+    requires site { IsSiteFor site.now (S.bytes_len src.old) }
+    requires same { site.now ≡ site_of cp.now }
+    ensures clear { (image : List ℕ) → S.bytes src.old ≡ Some image → IfOk result (HasMap image cp.now) }
+    ensures present { (image : List ℕ) → S.bytes src.old ≡ Some image → IfErr result (Tells (IsHeadsStop image cp.now) (IsHeadsFeature image cp.now)) }
+    ensures cause { IsErrOf result ReadFault → Rose (S.faults src.old) (S.faults src.new) }
+    ensures kept { IsKept S.bytes S.bytes_len S.faults src.old src.new }
+{
+    let block = cp.nx().omap_oid();
+    if block == 0 || site.blocks <= block {
+        return Err(Stop::Found(VolStop::Unnamed {
+            within: Within::Physical,
+            oid: block,
+        }));
+    }
+    let omap = match Omap::load(alloc, src, block, site) {
+        Ok(omap) => omap,
+        Err(stop) => return Err(raise(stop)),
+    };
+    match test(&omap, block) {
+        Ok(()) => Ok(omap),
+        Err(stop) => Err(stop),
+    }
+}

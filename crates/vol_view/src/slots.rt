@@ -1,0 +1,107 @@
+// The volumes in the slots of a container's superblock.
+ghost use Rattle.std.specs.Prelude.{◌≡◌, ◌++◌, ◌<◌, ℕ, List, Some, IfOk, IfErr, IsErrOf, OnOk, option_to_list};
+ghost use Rattle.apfs_model.specs.Counts.{Rose};
+ghost use Rattle.apfs_model.specs.Source.{IsKept};
+ghost use Rattle.obj_base.specs.Stops.{Gives, Tells};
+ghost use Rattle.obj_base.specs.declared.stop.Stop.TheVariants.{ReadFault, NoMemory};
+ghost use Rattle.bt_node.specs.Site.{IsSiteFor};
+ghost use Rattle.nx_block.specs.Super as super_block;
+ghost use Rattle.vol_view.specs.Heads.{site_of};
+ghost use Rattle.vol_view.specs.Stops.{IsHeadsStop, IsHeadsFeature, AreHeads};
+ghost use Rattle.vol_view.specs.Slots.{slot_of};
+
+use crate::map::container_map;
+use crate::place::locate;
+use crate::superblock::{superblock, tell};
+use crate::{VolHead, VolStop};
+use blk_source::BlockSource;
+use bt_node::Site;
+use nx_ring::Checkpoint;
+use obj_base::Stop;
+use omap_map::Omap;
+use std::alloc::Global;
+
+// The number of slots for volumes (Container, `NX_MAX_FILE_SYSTEMS`).
+const SLOTS: u32 = 100;
+
+// The block size and the number of blocks of a checkpoint's container, and its transaction.
+fn site(cp: &Checkpoint) -> Site
+    ensures { result ≡ site_of cp.now }
+{
+    let nx = cp.nx();
+    Site {
+        block_size: nx.block_size(),
+        blocks: nx.block_count(),
+        max_xid: cp.xid(),
+    }
+}
+
+// The volume in a slot, by the container's map; None in an empty slot.
+#[tactic(auto, unfolding(crate::specs::Slots::slot_of))]
+fn volume_in<S: BlockSource>(
+    alloc: Global,
+    src: &mut S,
+    cp: &Checkpoint,
+    site: &Site,
+    omap: &Omap,
+    slot: u32,
+) -> Result<Option<VolHead>, Stop<VolStop>>
+    requires site { IsSiteFor site.now (S.bytes_len src.old) }
+    requires same { site.now ≡ site_of cp.now }
+    requires low { slot < super_block.slots }
+    ensures found { (image : List ℕ) → S.bytes src.old ≡ Some image → Gives (λ head. head) result (slot_of image cp.now omap.now.records slot) }
+    ensures cause { IsErrOf result ReadFault → Rose (S.faults src.old) (S.faults src.new) }
+    ensures kept { IsKept S.bytes S.bytes_len S.faults src.old src.new }
+{
+    let oid = cp.nx().fs_oid(slot);
+    if oid == 0 {
+        return Ok(None);
+    }
+    let place = locate(omap, oid, site)?;
+    let bytes = superblock(alloc, src, oid, place.block, site)?;
+    let head = tell(alloc, slot, oid, place.block, &bytes)?;
+    Ok(Some(head))
+}
+
+// Puts a volume behind those of the slots before.
+fn add(heads: &mut Vec<VolHead>, head: Option<VolHead>) -> Result<(), Stop<VolStop>>
+    ensures more { OnOk result (heads.new.items ≡ heads.old.items ++ option_to_list head) }
+    ensures memory { IfErr result (λ stop. stop ≡ NoMemory) }
+{
+    if let Some(head) = head {
+        heads.push(head)?;
+    }
+    Ok(())
+}
+
+/// The volumes of a checkpoint's container, one for each slot whose oid isn't 0, by slot. `Omap` comes where the
+/// container's object map isn't whole, and `Unnamed` where it or a volume's superblock has no block of the container;
+/// `Head` and `Magic` where a superblock isn't sound. `Unsupported` comes for a feature of the container's map and its
+/// snapshots, of a record that gives the block of a volume, or of a superblock's header. No feature of a volume is
+/// refused here.
+pub fn heads<S: BlockSource>(
+    alloc: Global,
+    src: &mut S,
+    cp: &Checkpoint,
+) -> Result<Vec<VolHead>, Stop<VolStop>>
+    requires site { IsSiteFor (site_of cp.now) (S.bytes_len src.old) }
+    ensures clear { (image : List ℕ) → S.bytes src.old ≡ Some image → IfOk result (λ heads. AreHeads image cp.now heads.items) }
+    ensures present { (image : List ℕ) → S.bytes src.old ≡ Some image → IfErr result (Tells (IsHeadsStop image cp.now) (IsHeadsFeature image cp.now)) }
+    ensures cause { IsErrOf result ReadFault → Rose (S.faults src.old) (S.faults src.new) }
+    ensures kept { IsKept S.bytes S.bytes_len S.faults src.old src.new }
+{
+    let site = site(cp);
+    let omap = match container_map(alloc, src, cp, &site) {
+        Ok(omap) => omap,
+        Err(stop) => return Err(stop),
+    };
+    let mut heads = Vec::new(alloc);
+    'slots: for slot in 0..SLOTS {
+        let head = match volume_in(alloc, src, cp, &site, &omap, slot) {
+            Ok(head) => head,
+            Err(stop) => return Err(stop),
+        };
+        add(&mut heads, head)?;
+    }
+    Ok(heads)
+}
