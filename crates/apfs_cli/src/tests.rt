@@ -34,6 +34,12 @@ const RING: &[&str] = &["ring", "x"];
 
 const INFO: &[&str] = &["info", "x"];
 
+const VOLUMES: &[&str] = &["volumes", "x"];
+
+const SMALL_LINE: &str = "0 ffeeddcc-bbaa-9988-7766-554433221100 0 folded 0 Small\n";
+
+const RENAMED_LINE: &str = "0 ffeeddcc-bbaa-9988-7766-554433221100 0 folded 0 a\\x0ab\\x2f\n";
+
 const CASES: &[Case] = &[
     ("clean_ring", Image::Ring, RING, 0, RING_LINES, ""),
     (
@@ -152,6 +158,48 @@ const CASES: &[Case] = &[
         "",
         "apfs: fault: BlockZero\n",
     ),
+    ("clean_volumes", Image::Small, VOLUMES, 0, SMALL_LINE, ""),
+    ("clean_volumes_none", Image::Empty, VOLUMES, 0, "", ""),
+    (
+        "clean_volumes_flagless",
+        Image::SmallFlagless,
+        VOLUMES,
+        0,
+        SMALL_LINE,
+        "",
+    ),
+    (
+        "clean_volumes_renamed",
+        Image::SmallRenamed,
+        VOLUMES,
+        0,
+        RENAMED_LINE,
+        "",
+    ),
+    (
+        "fault_unnamed_volume",
+        Image::SmallDeleted,
+        VOLUMES,
+        1,
+        "",
+        "apfs: fault: Unnamed container oid 1026 xid 1\n",
+    ),
+    (
+        "fault_unsound_volume",
+        Image::SmallUnsummed,
+        VOLUMES,
+        1,
+        "",
+        "apfs: fault: Unsound block 51 BadSum\n",
+    ),
+    (
+        "feature_container_snapshots",
+        Image::SmallMapSnapshots,
+        VOLUMES,
+        6,
+        "",
+        "apfs: unsupported: ContainerSnapshots block 25\n",
+    ),
 ];
 
 // How a run ended.
@@ -204,7 +252,11 @@ fn cases_end_as_said(rt: HostRuntime) -> Result<(), Fail> {
 
 #[test]
 fn failure_of_each_read(rt: HostRuntime) -> Result<(), Fail> {
-    for (image, words, reads) in [(Image::Ring, RING, 9), (Image::Empty, INFO, 14)] {
+    for (image, words, reads) in [
+        (Image::Ring, RING, 9),
+        (Image::Empty, INFO, 14),
+        (Image::Small, VOLUMES, 17),
+    ] {
         let whole = end(rt.alloc(), image, words, [&[], &[], &[]])?;
         assert!(rt;
             whole.reads >= reads && whole.reads < 40,
@@ -222,9 +274,15 @@ fn failure_of_each_read(rt: HostRuntime) -> Result<(), Fail> {
 
 #[test]
 fn failure_of_each_put(rt: HostRuntime) -> Result<(), Fail> {
-    for (name, image, words, ..) in CASES {
+    for (name, image, words, _, out, err) in CASES {
+        // Nothing is put where there is nothing to write.
+        let status = if out.is_empty() && err.is_empty() {
+            0
+        } else {
+            4
+        };
         let ended = end(rt.alloc(), *image, words, [&[], &[1], &[1]])?;
-        let as_said = ended_with(&ended, 4, "", "");
+        let as_said = ended_with(&ended, status, "", "");
         assert!(rt; as_said, "{name}: status {}", ended.status);
     }
     Ok(())

@@ -1,6 +1,6 @@
 // The images that the cases are run on, each one fact away from a good one.
 use blk_source::{MemSource, Opened};
-use img_make::{Plan, make, reseal};
+use img_make::{Plan, Sample, make, reseal, sample};
 use obj_base::sum64;
 use std::alloc::Global;
 use std::test::Fail;
@@ -19,6 +19,15 @@ const FEATURES: usize = 64;
 const DESC_INDEX: usize = 136;
 
 const BLOCKED_OUT_BLOCKS: usize = 1248;
+
+const MAP_SNAPSHOTS: usize = 36;
+
+const VOLUME_FLAGS: usize = 264;
+
+const VOLUME_NAME: usize = 704;
+
+// Where the value of the only entry of a root of level 0 begins, when it has 16 bytes.
+const ONLY_VALUE: usize = 4040;
 
 // What a case is run on.
 #[derive(Clone, Copy, PartialEq, Eq, Debug)]
@@ -42,6 +51,18 @@ pub enum Image {
     EmptyResizing,
     /// A second checkpoint follows, whose space manager has a wrong sum.
     EmptySkipped,
+    /// A container with one volume, which holds its two directories.
+    Small,
+    /// The record of its volume is marked deleted in the container's map.
+    SmallDeleted,
+    /// The sum of its volume's superblock is wrong.
+    SmallUnsummed,
+    /// The container's map counts a snapshot.
+    SmallMapSnapshots,
+    /// The flags of its volume are 0, so it counts as encrypted.
+    SmallFlagless,
+    /// The name of its volume has a newline and a slash.
+    SmallRenamed,
 }
 
 // Writes bytes at a place.
@@ -115,8 +136,12 @@ fn empty(alloc: Global) -> Result<Vec<u8>, Fail> {
         queued: Vec::new(alloc),
         jumpstart: Vec::new(alloc),
     };
+    made(alloc, &plan)
+}
+
+fn made(alloc: Global, plan: &Plan) -> Result<Vec<u8>, Fail> {
     if plan.valid() {
-        return Ok(make(alloc, &plan)?);
+        return Ok(make(alloc, plan)?);
     }
     Ok(Vec::new(alloc))
 }
@@ -141,7 +166,12 @@ fn bytes(alloc: Global, image: Image) -> Result<Vec<u8>, Fail> {
     match image {
         Image::RingSplit => ring(alloc, 0x8000_0008),
         Image::Absent | Image::Ring | Image::RingCut | Image::RingShort => ring(alloc, 8),
-        _ => empty(alloc),
+        Image::Empty
+        | Image::EmptyUnsummed
+        | Image::EmptyFeatures(_)
+        | Image::EmptyResizing
+        | Image::EmptySkipped => empty(alloc),
+        _ => made(alloc, &sample(alloc, Sample::S)?),
     }
 }
 
@@ -161,6 +191,23 @@ fn change(image: Image, bytes: &mut Vec<u8>) {
         Image::EmptySkipped => {
             add_checkpoint(bytes);
             put_in(bytes, 13, SUM, &[0, 0]);
+        }
+        Image::SmallDeleted => {
+            put_in(bytes, 26, ONLY_VALUE, &[1]);
+            seal(bytes, 26);
+        }
+        Image::SmallUnsummed => put_in(bytes, 51, SUM, &[0, 0]),
+        Image::SmallMapSnapshots => {
+            put_in(bytes, 25, MAP_SNAPSHOTS, &[1]);
+            seal(bytes, 25);
+        }
+        Image::SmallFlagless => {
+            put_in(bytes, 51, VOLUME_FLAGS, &[0]);
+            seal(bytes, 51);
+        }
+        Image::SmallRenamed => {
+            put_in(bytes, 51, VOLUME_NAME, b"a\nb/\0");
+            seal(bytes, 51);
         }
         _ => {}
     }
