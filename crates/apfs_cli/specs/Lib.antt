@@ -3,6 +3,8 @@ pub mod Texts
 pub mod RingText
 pub mod InfoText
 pub mod Names
+pub mod FaultTexts
+pub mod VolumesText
 pub mod Outcome
 pub mod Written
 pub mod Says

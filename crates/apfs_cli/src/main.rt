@@ -2,12 +2,14 @@
 #![tactic(auto)]
 
 mod ending;
+mod fault_texts;
 mod info_text;
 mod ring_text;
 mod run;
 mod shown;
 #[cfg(test)]
 mod tests;
+mod volumes_text;
 mod words;
 
 use blk_source::{FileSource, Opened, StdSink};

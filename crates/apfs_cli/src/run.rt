@@ -11,6 +11,7 @@ ghost use Rattle.apfs_cli.specs.Written.{sunk, Failed, Ends};
 use crate::ending::{Ending, write};
 use crate::info_text::info_ending;
 use crate::ring_text::ring_ending;
+use crate::volumes_text::volumes_ending;
 use crate::words::{Command, asked};
 use blk_source::{BlockSource, Opened, Sink};
 use std::alloc::Global;
@@ -28,6 +29,7 @@ fn decide<S: BlockSource>(alloc: Global, words: &[String], image: &mut Opened<S>
         Opened::Image(src) => match command {
             Command::Ring => ring_ending(alloc, src),
             Command::Info => info_ending(alloc, src),
+            Command::Volumes => volumes_ending(alloc, src),
         },
     }
 }

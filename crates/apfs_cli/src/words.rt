@@ -10,6 +10,8 @@ pub enum Command {
     Ring,
     /// The newest checkpoint.
     Info,
+    /// The volumes.
+    Volumes,
 }
 
 // The command that takes an image and nothing else.
@@ -19,6 +21,7 @@ fn with_image(word: &str) -> Option<Command>
     match word {
         "ring" => Some(Command::Ring),
         "info" => Some(Command::Info),
+        "volumes" => Some(Command::Volumes),
         _ => None,
     }
 }

@@ -7,6 +7,8 @@ mod namer;
 mod object;
 mod omap;
 mod records;
+#[cfg(test)]
+mod tests;
 
 pub use fault::OmapFault;
 pub use namer::At;

@@ -22,7 +22,7 @@ use Rattle.obj_base.specs.declared.stop.Stop.TheVariants.{Found, Unsupported, Re
 use Rattle.obj_base.specs.declared.stop.Within.TheVariants.{Physical, Container}
 use Rattle.bt_node.specs.declared.node.Site.{Site}
 use Rattle.nx_block.specs.Super.{omap_oid_of, fs_oid_of, slots}
-use Rattle.nx_ring.specs.Checkpoint.{Seen}
+use Rattle.nx_ring.specs.Checkpoint.{Seen, site_of}
 use Rattle.omap_map.specs.Fields.{snap_count_of}
 use Rattle.omap_map.specs.Records.{maps_encrypted, maps_headless}
 use Rattle.omap_map.specs.Features.{container_features, snapshot_features, mapping_features}
@@ -31,7 +31,7 @@ use Rattle.omap_map.specs.Maps.{Contents, map_in, map_records, map_snapshots, is
 use Rattle.omap_map.specs.declared.records.OmapRecord.{OmapRecord}
 use Rattle.omap_map.specs.declared.records.Place.{Place}
 use Rattle.omap_map.specs.declared.fault.OmapFault.{OmapFault}
-use Rattle.vol_view.specs.Heads.{site_of, super_in, super_test, has_magic, is_super, volume_place, volume_block, head_of, head_for, head_at, heads_in}
+use Rattle.vol_view.specs.Heads.{super_in, super_test, has_magic, is_super, volume_place, volume_block, head_of, head_for, head_at, heads_in}
 use Rattle.vol_view.specs.Stops.{IsNamed, IsNamedIn, IsHeadsStop, IsHeadsFeature, IsPlainMap, IsVolume}
 use Rattle.vol_view.specs.Slots.{raised, plain_of, inside_of, placed_of, located, magic_in, after_header, tested, told_of, volume_at, volume_for, slot_of, HasMap, IsMarked, IsRight}
 use Rattle.vol_view.specs.declared.head.VolHead.{VolHead}
@@ -98,7 +98,7 @@ plain-located : (image : List ℕ) (seen : Seen) (contents : Contents) (oid : �
     → IsLocated image seen contents oid ⊎ IsLost image seen (located (site_of seen) contents.records oid)
 plain-located image seen contents oid place named e =
     elim (plain-cases (site_of seen).block_size place (maps_encrypted place.flags) (maps_headless place.flags) (not (place.size == (site_of seen).block_size)) refl refl refl) [
-      inl h ↦ inl (record { place = place; found = e ∙ h.0; named = named; plain = h.1 })
+      | inl h ↦ inl (record { place = place; found = e ∙ h.0; named = named; plain = h.1 })
       | inr h ↦ inr (record { stop = Unsupported h.0 place.block; lost = e ∙ h.1.0; there = inr (inr (oid, place, named, refl, inl h.1.1)) })
     ]
 
@@ -123,6 +123,7 @@ place-located image seen contents oid None named at e = inr (record {
 place-located image seen contents oid (Some place) named at e = inside-located image seen contents oid place (in_container (site_of seen).blocks place.block) named at refl e
 
 located-or : (image : List ℕ) (seen : Seen) (contents : Contents) (oid : ℕ) → HasMap image seen contents → IsNamed seen oid → IsLocated image seen contents oid ⊎ IsLost image seen (located (site_of seen) contents.records oid)
+unfolding site_of
 located-or image seen contents oid has named =
     place-located image seen contents oid (volume_place image seen oid) named refl (ap (placed_of (site_of seen) oid) (sym (place-same image seen contents oid has)))
 
@@ -242,10 +243,16 @@ mark_tells image seen contents (Found f) loaded h = absurd h
 mark_tells image seen contents (Unsupported name at) loaded h =
     let count : contents.snap_count ≡ snap_count_of (map_in image (site_of seen) (omap_oid_of seen.nx)) = ap (λ (c : Contents). c.snap_count) loaded.same in
     let snapshots : contents.snapshots ≡ map_snapshots image (site_of seen) (omap_oid_of seen.nx) = ap (λ (c : Contents). c.snapshots) loaded.same in
-    inr (inl (h.0, (map-object image (site_of seen) (omap_oid_of seen.nx) contents loaded, (elim h.1 [
-      inl k ↦ inl (subst (λ n. In name (container_features n)) count k)
-      | inr k ↦ inr (subst (λ ss. In name (snapshot_features ss)) snapshots k)
-    ]))))
+    inr (inl (
+      h.0,
+      (
+        map-object image (site_of seen) (omap_oid_of seen.nx) contents loaded,
+        (elim h.1 [
+          | inl k ↦ inl (subst (λ n. In name (container_features n)) count k)
+          | inr k ↦ inr (subst (λ ss. In name (snapshot_features ss)) snapshots k)
+        ]),
+      ),
+    ))
 mark_tells image seen contents ReadFault loaded h = tt
 mark_tells image seen contents NoMemory loaded h = tt
 

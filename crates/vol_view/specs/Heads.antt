@@ -8,17 +8,13 @@ use Rattle.obj_base.specs.declared.header.Header.{Header}
 use Rattle.obj_base.specs.declared.header.HeadFault.{HeadFault}
 use Rattle.obj_base.specs.declared.stop.Bad.{Bad}
 use Rattle.bt_node.specs.declared.node.Site.{Site}
-use Rattle.nx_block.specs.Super.{block_size_of, block_count_of, omap_oid_of, fs_oid_of, slots}
-use Rattle.nx_ring.specs.Checkpoint.{Seen}
+use Rattle.nx_block.specs.Super.{omap_oid_of, fs_oid_of, slots}
+use Rattle.nx_ring.specs.Checkpoint.{Seen, site_of}
 use Rattle.omap_map.specs.Resolve.{place_of}
 use Rattle.omap_map.specs.Maps.{resolved_in}
 use Rattle.omap_map.specs.declared.records.Place.{Place}
 use Rattle.vol_view.specs.Fields as field
 use Rattle.vol_view.specs.declared.head.VolHead.{VolHead}
-
--- the block size and the number of blocks of a checkpoint's container, and its transaction
-abbrev pub site_of : Seen → Site
-site_of seen = record { block_size = block_size_of seen.nx; blocks = block_count_of seen.nx; max_xid = seen.line.xid }
 
 -- a volume's superblock in a block
 abbrev pub super_in : List ℕ → Site → ℕ → List ℕ

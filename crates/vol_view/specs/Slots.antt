@@ -16,7 +16,7 @@ use Rattle.obj_base.specs.declared.stop.Within.TheVariants.{Container}
 use Rattle.apfs_model.specs.Object.{volume_kind}
 use Rattle.bt_node.specs.declared.node.Site.{Site}
 use Rattle.nx_block.specs.Super.{fs_oid_of, omap_oid_of}
-use Rattle.nx_ring.specs.Checkpoint.{Seen}
+use Rattle.nx_ring.specs.Checkpoint.{Seen, site_of}
 use Rattle.omap_map.specs.Records.{maps_encrypted, maps_headless}
 use Rattle.omap_map.specs.Resolve.{resolve}
 use Rattle.omap_map.specs.Features.{container_features, snapshot_features}
@@ -24,7 +24,7 @@ use Rattle.omap_map.specs.Maps.{Contents, IsLoaded}
 use Rattle.omap_map.specs.declared.records.OmapRecord.{OmapRecord}
 use Rattle.omap_map.specs.declared.records.Place.{Place}
 use Rattle.omap_map.specs.declared.fault.OmapFault.{OmapFault}
-use Rattle.vol_view.specs.Heads.{site_of, super_in, has_magic, head_of}
+use Rattle.vol_view.specs.Heads.{super_in, has_magic, head_of}
 use Rattle.vol_view.specs.Stops.{IsVolume}
 use Rattle.vol_view.specs.declared.head.VolHead.{VolHead}
 use Rattle.vol_view.specs.declared.stop.VolStop.{VolStop}

@@ -6,12 +6,12 @@ use Rattle.obj_base.specs.declared.stop.Bad.TheVariants.{Found, Unsupported}
 use Rattle.obj_base.specs.declared.stop.Feature.{Feature}
 use Rattle.obj_base.specs.declared.stop.Within.TheVariants.{Physical, Ephemeral, Container, Volume}
 use Rattle.nx_block.specs.Super.{omap_oid_of, fs_oid_of, slots}
-use Rattle.nx_ring.specs.Checkpoint.{Seen}
+use Rattle.nx_ring.specs.Checkpoint.{Seen, site_of}
 use Rattle.omap_map.specs.Fields.{snap_count_of}
 use Rattle.omap_map.specs.Features.{is_reverting, container_features, snapshot_features, mapping_features}
 use Rattle.omap_map.specs.Maps.{map_in, map_snapshots, is_map_object, is_whole_map, IsMapFault, IsMapFeature}
 use Rattle.omap_map.specs.declared.records.Place.{Place}
-use Rattle.vol_view.specs.Heads.{site_of, super_in, super_test, has_magic, is_super, volume_place, volume_block, heads_of}
+use Rattle.vol_view.specs.Heads.{super_in, super_test, has_magic, is_super, volume_place, volume_block, heads_of}
 use Rattle.vol_view.specs.declared.head.VolHead.{VolHead}
 use Rattle.vol_view.specs.declared.stop.VolStop.{VolStop}
 use Rattle.vol_view.specs.declared.stop.VolStop.TheVariants.{Head, Magic, Unnamed, Omap, Walk, SnapRecord, SnapCount, SnapName, OmapSnaps}

@@ -6,7 +6,7 @@ ghost use Rattle.obj_base.specs.Stops.{Gives, Tells};
 ghost use Rattle.obj_base.specs.declared.stop.Stop.TheVariants.{ReadFault, NoMemory};
 ghost use Rattle.bt_node.specs.Site.{IsSiteFor};
 ghost use Rattle.nx_block.specs.Super as super_block;
-ghost use Rattle.vol_view.specs.Heads.{site_of};
+ghost use Rattle.nx_ring.specs.Checkpoint.{site_of};
 ghost use Rattle.vol_view.specs.Stops.{IsHeadsStop, IsHeadsFeature, AreHeads};
 ghost use Rattle.vol_view.specs.Slots.{slot_of};
 
@@ -23,18 +23,6 @@ use std::alloc::Global;
 
 // The number of slots for volumes (Container, `NX_MAX_FILE_SYSTEMS`).
 const SLOTS: u32 = 100;
-
-// The block size and the number of blocks of a checkpoint's container, and its transaction.
-fn site(cp: &Checkpoint) -> Site
-    ensures { result ≡ site_of cp.now }
-{
-    let nx = cp.nx();
-    Site {
-        block_size: nx.block_size(),
-        blocks: nx.block_count(),
-        max_xid: cp.xid(),
-    }
-}
 
 // The volume in a slot, by the container's map; None in an empty slot.
 #[tactic(auto, unfolding(crate::specs::Slots::slot_of))]
@@ -90,7 +78,7 @@ pub fn heads<S: BlockSource>(
     ensures cause { IsErrOf result ReadFault → Rose (S.faults src.old) (S.faults src.new) }
     ensures kept { IsKept S.bytes S.bytes_len S.faults src.old src.new }
 {
-    let site = site(cp);
+    let site = cp.site();
     let omap = match container_map(alloc, src, cp, &site) {
         Ok(omap) => omap,
         Err(stop) => return Err(stop),

@@ -2,7 +2,7 @@ use Rattle.std.proofs.Common.{◌≡◌, ◌∙◌, sym, ap, subst}
 use Rattle.obj_base.specs.Stops.{Tells}
 use Rattle.nx_block.specs.Super.{omap_oid_of}
 use Rattle.omap_map.specs.Maps.{IsMapFault, IsMapFeature}
-use Rattle.vol_view.specs.Heads.{site_of}
+use Rattle.nx_ring.specs.Checkpoint.{site_of}
 use Rattle.vol_view.specs.Stops.{IsHeadsStop, IsHeadsFeature}
 use Rattle.vol_view.proofs.SlotsLemmas.{raise_tells}
 use Rattle.vol_view.proofs.map.container_map.Goals as goal

@@ -19,13 +19,13 @@ slots-preserved g c =
     let low : slot < slots = omega arith in
     record {
       found = λ image told.
-      let one = slot-found image seen c.in-Ok.omap slot head (c.in-Ok.ensures.clear image told) low (c.in-Ok-volume_in.ensures.found image (c.slots.invariant.kept.same_bytes ∙ told)) in
-      c.in_ok-add.ensures.more
-      ∙ (ap (λ xs. xs ++ option_to_list head) (c.slots.invariant.found image told)
-      ∙ (ap (λ h. heads_in image seen slot ++ option_to_list h) one.0 ∙ sym (heads-more image seen slot)));
+          let one = slot-found image seen c.in-Ok.omap slot head (c.in-Ok.ensures.clear image told) low (c.in-Ok-volume_in.ensures.found image (c.slots.invariant.kept.same_bytes ∙ told)) in
+          c.in_ok-add.ensures.more
+          ∙ (ap (λ xs. xs ++ option_to_list head) (c.slots.invariant.found image told)
+          ∙ (ap (λ h. heads_in image seen slot ++ option_to_list h) one.0 ∙ sym (heads-more image seen slot)));
       right = λ image told.
-      let one = slot-found image seen c.in-Ok.omap slot head (c.in-Ok.ensures.clear image told) low (c.in-Ok-volume_in.ensures.found image (c.slots.invariant.kept.same_bytes ∙ told)) in
-      below_more (λ (k : ℕ). IsRight image seen k) slot (c.slots.invariant.right image told) one.1;
+          let one = slot-found image seen c.in-Ok.omap slot head (c.in-Ok.ensures.clear image told) low (c.in-Ok-volume_in.ensures.found image (c.slots.invariant.kept.same_bytes ∙ told)) in
+          below_more (λ (k : ℕ). IsRight image seen k) slot (c.slots.invariant.right image told) one.1;
       kept = record {
         same_bytes = c.in-Ok-volume_in.ensures.kept.same_bytes ∙ c.slots.invariant.kept.same_bytes;
         same_size = c.in-Ok-volume_in.ensures.kept.same_size ∙ c.slots.invariant.kept.same_size;
