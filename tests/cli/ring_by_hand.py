@@ -1,8 +1,10 @@
 #!/usr/bin/env python3
-"""What `apfs ring` and `apfs info` have to say of an image, worked out from its bytes by other means.
+"""What `apfs ring`, `apfs info` and `apfs volumes` have to say of an image, worked out from its bytes by other means.
 
     ring_by_hand.py ring IMAGE              the lines, the line on standard error and the status of `apfs ring`
     ring_by_hand.py info IMAGE              the same for `apfs info`
+    ring_by_hand.py volumes IMAGE           the same for `apfs volumes`, where the container's map has no other fault than
+                                            that a volume isn't found
     ring_by_hand.py seal IMAGE BLOCK AT HEX..   the edits `AT HEX` that write these bytes at these places of the block and
                                             make its sum right, as lines for a file of cases
 
@@ -134,7 +136,8 @@ class Image:
     def ring_lines(self):
         return [f"{i} block {self.base + i} xid {nx.xid} from {nx.desc_index} length {nx.desc_len}" for i, nx in self.candidates]
 
-    def info_lines(self):
+    def newest(self):
+        """The newest valid checkpoint: its transaction, its block, its superblock and its mappings."""
         valid = [(nx.xid, -i, nx, maps) for i, nx in self.candidates if (maps := self.mappings(i, nx)) is not None]
         if not valid:
             raise Ended(1, "fault: NoCheckpoint")
@@ -148,6 +151,10 @@ class Image:
         ):
             if is_there:
                 raise Ended(6, f"unsupported: {name} block {block}")
+        return xid, block, nx, maps
+
+    def info_lines(self):
+        xid, block, nx, maps = self.newest()
         return [
             f"uuid {nx.uuid}",
             f"block size {nx.size}",
@@ -156,6 +163,47 @@ class Image:
             f"maps {nx.desc_len - 1} objects {len(maps)}",
             f"skipped {sum(other.xid > xid for _, other in self.candidates)}",
         ]
+
+    def records(self, block):
+        """The records of an object map's tree: oid, transaction, flags, size and block."""
+        node = self.block(block)
+        begin = 56 + number(node, 40, 2)
+        keys = begin + number(node, 42, 2)
+        end = self.size - 40 * (number(node, 32, 2) & 1)
+        for at in range(begin, begin + 4 * number(node, 36, 4), 4):
+            key, value = keys + number(node, at, 2), end - number(node, at + 2, 2)
+            if number(node, 34, 2):
+                yield from self.records(number(node, value, 8))
+            else:
+                yield tuple(number(node, *it) for it in ((key, 8), (key + 8, 8), (value, 4), (value + 4, 4), (value + 8, 8)))
+
+    def volumes_lines(self):
+        xid, _, nx, _ = self.newest()
+        at = number(nx.data, 160, 8)
+        if number(self.block(at), 36, 4):
+            raise Ended(6, f"unsupported: ContainerSnapshots block {at}")
+        records = list(self.records(number(self.block(at), 48, 8)))
+        lines = []
+        for slot in range(100):
+            oid = number(nx.data, 184 + 8 * slot, 8)
+            found = [record for record in records if record[0] == oid and record[1] <= xid]
+            if oid == 0:
+                continue
+            if not found or max(found, key=lambda it: it[1])[2] & 1:
+                raise Ended(1, f"fault: Unnamed container oid {oid} xid {xid}")
+            block = max(found, key=lambda it: it[1])[4]
+            data = self.block(block)
+            if number(data, 0, 8) != stored_sum(data):
+                raise Ended(1, f"fault: Unsound block {block} BadSum")
+            if data[32:36] != b"APSB":
+                raise Ended(1, f"fault: Unsound block {block} Magic")
+            features = number(data, 56, 8)
+            names = "folded" if features & 1 else "normal" if features & 8 else "exact"
+            name = data[704:960].split(b"\0")[0]
+            shown = b"".join(b"\\x%02x" % b if b < 0x20 or b in b"\x7f/\\" else bytes([b]) for b in name).decode()
+            role, snapshots = number(data, 964, 2), number(data, 216, 8)
+            lines.append(f"{slot} {uuid.UUID(bytes=bytes(data[240:256]))} {role} {names} {snapshots} {shown}")
+        return lines
 
 
 def seal(path, block, edits):
@@ -173,12 +221,13 @@ def main(words):
     if len(words) >= 5 and words[0] == "seal" and len(words) % 2:
         print(*seal(words[1], int(words[2]), [(int(at), text) for at, text in zip(words[3::2], words[4::2])]), sep="\n")
         return 0
-    if len(words) != 2 or words[0] not in ("ring", "info"):
+    if len(words) != 2 or words[0] not in ("ring", "info", "volumes"):
         print(__doc__, file=sys.stderr)
         return 2
     try:
         image = Image(words[1])
-        for line in image.ring_lines() if words[0] == "ring" else image.info_lines():
+        lines = {"ring": image.ring_lines, "info": image.info_lines, "volumes": image.volumes_lines}[words[0]]
+        for line in lines():
             print(line)
     except Ended as ended:
         status, line = ended.args
