@@ -16,11 +16,14 @@ use Rattle.bt_node.specs.declared.node.Site.{Site}
 use Rattle.bt_cursor.specs.Faults.{HasFeature}
 use Rattle.bt_cursor.specs.Flat.{flat_of}
 use Rattle.bt_cursor.specs.Whole.{is_whole}
+use Rattle.bt_cursor.proofs.Places.{whole-world, tree-levelled}
+use Rattle.bt_cursor.proofs.Wholes.{whole_means}
+use Rattle.bt_keys.specs.Shapes.{omap_shape, omap_snap_shape}
 use Rattle.omap_map.specs.Fields.{snap_count_of, tree_of, snap_tree_of}
 use Rattle.omap_map.specs.Records.{records_of, snapshots_of}
 use Rattle.omap_map.specs.Features.{is_reverting}
 use Rattle.omap_map.specs.Maps.{Contents, map_in, head_of, is_map_object, record_tree, snapshot_tree, map_records, map_snapshots, contents_of, has_no_snapshots, has_whole_snapshots, is_whole_map, map_nodes, after_header, object_of, IsTreeFault, IsMapFault, IsMapFeature, IsLoaded}
-use Rattle.omap_map.specs.Gathered.{IsGathered, HasSnapshots, IsSnapshotsFault, IsSnapshotsFeature}
+use Rattle.omap_map.specs.Gathered.{IsGathered, HasSnapshots, IsSnapshotsFault, IsSnapshotsFeature, IsFree}
 use Rattle.omap_map.specs.declared.records.OmapRecord.{OmapRecord}
 use Rattle.omap_map.specs.declared.fault.OmapFault.{OmapFault}
 use Rattle.omap_map.specs.declared.fault.OmapFault.TheVariants.{Head, Tree as TreeFault}
@@ -156,3 +159,66 @@ object-tells image site block (Found f) inside h = object-stops image site block
 object-tells image site block (Unsupported name at) inside h = object-stops image site block (Unsupported name at) inside h
 object-tells image site block ReadFault inside h = tt
 object-tells image site block NoMemory inside h = tt
+
+and-left : (a b : Bool) → (a && b) ≡ true → a ≡ true
+and-left true b e = refl
+and-left false b e = e
+
+and-right : (a b : Bool) → (a && b) ≡ true → b ≡ true
+and-right true b e = e
+and-right false b e = absurd (cc)
+
+or-right : (a b : Bool) → a ≡ false → (a || b) ≡ true → b ≡ true
+or-right true b e f = absurd (cc)
+or-right false b e f = f
+
+-- a whole map has a sound object, in a block of the container
+pub whole-object : (image : List ℕ) (site : Site) (block : ℕ) → is_whole_map image site block ≡ true → is_map_object image site block ≡ true
+unfolding is_whole_map
+whole-object image site block e = and-left (is_map_object image site block) (is_whole (record_tree image site) (tree_of (map_in image site block)) && has_whole_snapshots image site block) e
+
+pub object-inside : (image : List ℕ) (site : Site) (block : ℕ) → is_map_object image site block ≡ true → is_some (in_container site.blocks block) ≡ true
+unfolding is_map_object
+object-inside image site block e = and-left (is_some (in_container site.blocks block)) (is_ok (head_of image site block)) e
+
+object-head : (image : List ℕ) (site : Site) (block : ℕ) → is_map_object image site block ≡ true → is_ok (head_of image site block) ≡ true
+unfolding is_map_object
+object-head image site block e = and-right (is_some (in_container site.blocks block)) (is_ok (head_of image site block)) e
+
+whole-records : (image : List ℕ) (site : Site) (block : ℕ) → is_whole_map image site block ≡ true → is_whole (record_tree image site) (tree_of (map_in image site block)) ≡ true
+unfolding is_whole_map
+whole-records image site block e =
+    and-left (is_whole (record_tree image site) (tree_of (map_in image site block))) (has_whole_snapshots image site block)
+    (and-right (is_map_object image site block) (is_whole (record_tree image site) (tree_of (map_in image site block)) && has_whole_snapshots image site block) e)
+
+whole-snapshots : (image : List ℕ) (site : Site) (block : ℕ) → is_whole_map image site block ≡ true → has_no_snapshots (map_in image site block) ≡ false → is_whole (snapshot_tree image site) (snap_tree_of (map_in image site block)) ≡ true
+unfolding is_whole_map has_whole_snapshots
+whole-snapshots image site block e f =
+    or-right (has_no_snapshots (map_in image site block)) (is_whole (snapshot_tree image site) (snap_tree_of (map_in image site block))) f
+    (and-right (is_whole (record_tree image site) (tree_of (map_in image site block))) (has_whole_snapshots image site block)
+    (and-right (is_map_object image site block) (is_whole (record_tree image site) (tree_of (map_in image site block)) && has_whole_snapshots image site block) e))
+
+ok-err : {T E : Type 0} (r : Result T E) (e : E) → r ≡ Err e → is_ok r ≡ true → ⊥
+ok-err (Ok x) e f g = cc
+ok-err (Err d) e f g = cc
+
+-- in a whole map of which no revert is pending, nothing is there that `load` could name
+pub whole-free : (image : List ℕ) (site : Site) (block : ℕ) (stop : Stop OmapFault) → is_whole_map image site block ≡ true → is_reverting (map_in image site block) ≡ false
+    → Tells (IsMapFault image site block) (IsMapFeature image site block) stop → IsFree stop
+whole-free image site block (Found (Head at why)) whole settled h = ok-err (head_of image site block) (bads.Found why) h.2 (object-head image site block (whole-object image site block whole))
+whole-free image site block (Found (TreeFault root why)) whole settled (sound, inl h) =
+    whole-world (record_tree image site) (tree_of (map_in image site block)) (Found why) (tree-levelled omap_shape site (in_container site.blocks) image)
+    (whole_means (record_tree image site) (tree_of (map_in image site block)) (whole-records image site block whole)) h.1
+whole-free image site block (Found (TreeFault root why)) whole settled (sound, inr h) =
+    whole-world (snapshot_tree image site) (snap_tree_of (map_in image site block)) (Found why) (tree-levelled omap_snap_shape site (in_container site.blocks) image)
+    (whole_means (snapshot_tree image site) (snap_tree_of (map_in image site block)) (whole-snapshots image site block whole h.0)) h.1.1
+whole-free image site block (Unsupported feature at) whole settled (inl h) = ok-err (head_of image site block) (bads.Unsupported feature) h.2 (object-head image site block (whole-object image site block whole))
+whole-free image site block (Unsupported feature at) whole settled (inr (sound, inl h)) = subst (λ (b : Bool). In feature (if b then Revert ∷ [] else [])) settled h.1
+whole-free image site block (Unsupported feature at) whole settled (inr (sound, inr (inl h))) =
+    whole-world (record_tree image site) (tree_of (map_in image site block)) (Unsupported feature at) (tree-levelled omap_shape site (in_container site.blocks) image)
+    (whole_means (record_tree image site) (tree_of (map_in image site block)) (whole-records image site block whole)) h
+whole-free image site block (Unsupported feature at) whole settled (inr (sound, inr (inr h))) =
+    whole-world (snapshot_tree image site) (snap_tree_of (map_in image site block)) (Unsupported feature at) (tree-levelled omap_snap_shape site (in_container site.blocks) image)
+    (whole_means (snapshot_tree image site) (snap_tree_of (map_in image site block)) (whole-snapshots image site block whole h.0)) h.1
+whole-free image site block ReadFault whole settled h = tt
+whole-free image site block NoMemory whole settled h = tt

@@ -106,7 +106,9 @@ impl Omap {
     ghost use Rattle.obj_base.specs.declared.stop.Stop.TheVariants.{ReadFault};
     ghost use Rattle.bt_node.specs.Site.{IsSiteFor};
     ghost use Rattle.omap_map.specs.declared.fault.OmapFault as faults;
-    ghost use Rattle.omap_map.specs.Maps.{object_of, map_nodes, IsLoaded, IsMapFault, IsMapFeature};
+    ghost use Rattle.omap_map.specs.Features.{is_reverting};
+    ghost use Rattle.omap_map.specs.Gathered.{IsFree};
+    ghost use Rattle.omap_map.specs.Maps.{map_in, is_whole_map, object_of, map_nodes, IsLoaded, IsMapFault, IsMapFeature};
 
     /// The object map in a block, with its tree and its tree of snapshots, where all of these are whole. `Head` comes
     /// where its object isn't sound, `Tree` where one of its trees isn't whole, and `Unsupported` for a feature of its
@@ -123,6 +125,7 @@ impl Omap {
         requires below { block < site.now.blocks }
         ensures clear { (image : List ℕ) → S.bytes src.old ≡ Some image → IfOk result (IsLoaded image site.now block) }
         ensures present { (image : List ℕ) → S.bytes src.old ≡ Some image → IfErr result (Tells (IsMapFault image site.now block) (IsMapFeature image site.now block)) }
+        ensures exact { (image : List ℕ) → S.bytes src.old ≡ Some image → is_whole_map image site.now block ≡ true → is_reverting (map_in image site.now block) ≡ false → IfErr result IsFree }
         ensures head { (image : List ℕ) → S.bytes src.old ≡ Some image → (stop : stops.Stop faults.OmapFault) → object_of image site.now block ≡ Err stop → Gives (λ omap. omap) result (Err stop) }
         ensures cause { IsErrOf result ReadFault → Rose (S.faults src.old) (S.faults src.new) }
         ensures kept { IsKept S.bytes S.bytes_len S.faults src.old src.new }

@@ -1,5 +1,5 @@
 -- What the answer of a slot means.
-use Rattle.std.specs.Prelude.{◌≡◌, ◌⊎◌, ℕ, ◌<◌, ◌+◌, ◌&&◌, ◌==◌, nat_lt, not, Bool, true, false, cond, List, [], ◌∷◌, ◌++◌, Option, None, Some, Result, Ok, Err, refl, is_ok, option_map, option_and_then, filter_map, option_to_list, if◌then◌else◌}
+use Rattle.std.specs.Prelude.{◌≡◌, ◌⊎◌, ℕ, ◌<◌, ◌+◌, ◌&&◌, ◌==◌, nat_lt, not, Bool, true, false, cond, List, [], ◌∷◌, ◌++◌, Option, None, Some, Result, Ok, Err, refl, is_ok, is_some, option_map, option_and_then, filter_map, option_to_list, if◌then◌else◌}
 use Rattle.std.specs.List.{range_with_len, cons_option}
 use Rattle.std.proofs.Common.{arith, ap, sym, ◌∙◌, subst, inl, inr, map}
 use Rattle.std.proofs.lemmas.Grind.{common_steps}
@@ -19,7 +19,7 @@ use Rattle.obj_base.specs.declared.stop.Feature.{Feature}
 use Rattle.obj_base.specs.declared.stop.Feature.TheVariants.{Encrypted, NoHeader, Size}
 use Rattle.obj_base.specs.declared.stop.Stop.{Stop}
 use Rattle.obj_base.specs.declared.stop.Stop.TheVariants.{Found, Unsupported, ReadFault, NoMemory}
-use Rattle.obj_base.specs.declared.stop.Within.TheVariants.{Physical, Container}
+use Rattle.obj_base.specs.declared.stop.Within.TheVariants.{Physical, Ephemeral, Container, Volume}
 use Rattle.bt_node.specs.declared.node.Site.{Site}
 use Rattle.nx_block.specs.Super.{omap_oid_of, fs_oid_of, slots}
 use Rattle.nx_ring.specs.Checkpoint.{Seen, site_of}
@@ -28,15 +28,16 @@ use Rattle.omap_map.specs.Records.{maps_encrypted, maps_headless}
 use Rattle.omap_map.specs.Features.{container_features, snapshot_features, mapping_features}
 use Rattle.omap_map.specs.Resolve.{resolved, resolve, place_of}
 use Rattle.omap_map.specs.Maps.{Contents, map_in, map_records, map_snapshots, is_map_object, is_whole_map, resolved_in, IsLoaded, IsMapFault, IsMapFeature}
+use Rattle.omap_map.proofs.Loads.{whole-object, object-inside, whole-free}
 use Rattle.omap_map.specs.declared.records.OmapRecord.{OmapRecord}
 use Rattle.omap_map.specs.declared.records.Place.{Place}
 use Rattle.omap_map.specs.declared.fault.OmapFault.{OmapFault}
 use Rattle.vol_view.specs.Heads.{super_in, super_test, has_magic, is_super, volume_place, volume_block, head_of, head_for, head_at, heads_in}
-use Rattle.vol_view.specs.Stops.{IsNamed, IsNamedIn, IsHeadsStop, IsHeadsFeature, IsPlainMap, IsVolume}
-use Rattle.vol_view.specs.Slots.{raised, plain_of, inside_of, placed_of, located, magic_in, after_header, tested, told_of, volume_at, volume_for, slot_of, HasMap, IsMarked, IsRight}
+use Rattle.vol_view.specs.Stops.{IsNamed, IsNamedIn, IsHeadsStop, IsHeadsFeature, IsPlainMap, IsVolume, AreRight}
+use Rattle.vol_view.specs.Slots.{IsFree, raised, plain_of, inside_of, placed_of, located, magic_in, after_header, tested, told_of, volume_at, volume_for, slot_of, HasMap, IsMarked, IsRight}
 use Rattle.vol_view.specs.declared.head.VolHead.{VolHead}
 use Rattle.vol_view.specs.declared.stop.VolStop.{VolStop}
-use Rattle.vol_view.specs.declared.stop.VolStop.TheVariants.{Head, Magic, Unnamed, Omap}
+use Rattle.vol_view.specs.declared.stop.VolStop.TheVariants.{Head, Magic, Unnamed, Omap, Walk, SnapRecord, SnapCount, SnapName, OmapSnaps}
 
 -- the place of a volume is what the records of a whole map resolve to
 place-same : (image : List ℕ) (seen : Seen) (contents : Contents) (oid : ℕ) → HasMap image seen contents → volume_place image seen oid ≡ resolve contents.records oid seen.line.xid
@@ -76,6 +77,13 @@ apart a b e = cc
 and-first : (a b : Bool) → (a && b) ≡ true → a ≡ true
 and-first true b e = refl
 and-first false b e = e
+
+and-second : (a b : Bool) → (a && b) ≡ true → b ≡ true
+and-second true b e = e
+and-second false b e = absurd (cc)
+
+true-false : (b : Bool) → b ≡ true → b ≡ false → ⊥
+true-false b e f = cc
 
 -- why a slot stops is there
 abbrev IsThere : List ℕ → Seen → Stop VolStop → Type 0
@@ -276,3 +284,67 @@ pub heads-more : (image : List ℕ) (seen : Seen) (n : ℕ) → heads_in image s
 heads-more image seen n =
     ap (filter_map (head_at image seen)) (range-more n)
     ∙ (filter_map-append (head_at image seen) (range_with_len 0 n) (n ∷ []) ∙ ap (λ ys. heads_in image seen n ++ ys) (one (head_at image seen) n))
+
+-- the volume that a slot names is right
+named-volume : (image : List ℕ) (seen : Seen) (oid : ℕ) → AreRight image seen → IsNamed seen oid → IsVolume image seen oid
+named-volume image seen oid right named =
+    subst (IsVolume image seen) named.same (right.volumes named.slot named.low (ap (λ n. n == 0) named.same ∙ named.some))
+
+place-one : (image : List ℕ) (seen : Seen) (oid : ℕ) (a b : Place) → volume_place image seen oid ≡ Some a → volume_place image seen oid ≡ Some b → a ≡ b
+place-one image seen oid a b e f = cc
+
+super-test : (image : List ℕ) (site : Site) (oid block : ℕ) → is_super image site (Some oid) block ≡ true → is_ok (super_test image site (Some oid) block) ≡ true
+unfolding is_super
+super-test image site oid block e = and-first (is_ok (super_test image site (Some oid) block)) (has_magic (super_in image site block)) e
+
+super-magic : (image : List ℕ) (site : Site) (oid block : ℕ) → is_super image site (Some oid) block ≡ true → has_magic (super_in image site block) ≡ true
+unfolding is_super
+super-magic image site oid block e = and-second (is_ok (super_test image site (Some oid) block)) (has_magic (super_in image site block)) e
+
+named-super : (image : List ℕ) (seen : Seen) (oid block : ℕ) (place : Place) → AreRight image seen → IsNamedIn image seen oid place → block ≡ place.block → is_super image (site_of seen) (Some oid) block ≡ true
+named-super image seen oid block place right named e =
+    let volume = named-volume image seen oid right named.named in
+    let same : volume.place ≡ place = place-one image seen oid volume.place place volume.at named.at in
+    subst (λ b. is_super image (site_of seen) (Some oid) b ≡ true) (ap (λ (p : Place). p.block) same ∙ sym e) volume.super
+
+named-plain : (image : List ℕ) (seen : Seen) (oid : ℕ) (place : Place) → AreRight image seen → IsNamedIn image seen oid place → mapping_features (site_of seen).block_size place.flags place.size ≡ []
+named-plain image seen oid place right named =
+    let volume = named-volume image seen oid right named.named in
+    subst (λ (p : Place). mapping_features (site_of seen).block_size p.flags p.size ≡ []) (place-one image seen oid volume.place place volume.at named.at) volume.plain
+
+ok-err : {T E : Type 0} (r : Result T E) (e : E) → r ≡ Err e → is_ok r ≡ true → ⊥
+ok-err (Ok x) e f g = cc
+ok-err (Err d) e f g = cc
+
+some-none : {T : Type 0} (o : Option T) → o ≡ None → is_some o ≡ true → ⊥
+some-none None e f = cc
+some-none (Some x) e f = cc
+
+volume-blocked : (image : List ℕ) (seen : Seen) (oid : ℕ) → IsVolume image seen oid → is_some (volume_block image seen oid) ≡ true
+volume-blocked image seen oid volume =
+    ap (λ (o : Option ℕ). is_some o) (ap (option_and_then (λ (p : Place). in_container (site_of seen).blocks p.block)) volume.at ∙ volume.inside)
+
+-- where nothing is there, nothing is named
+pub right-free : (image : List ℕ) (seen : Seen) (stop : Stop VolStop) → AreRight image seen → Tells (IsHeadsStop image seen) (IsHeadsFeature image seen) stop → IsFree stop
+right-free image seen (Found (Head block why)) right (oid, place, named, e, test) =
+    ok-err (super_test image (site_of seen) (Some oid) block) (bads.Found why) test (super-test image (site_of seen) oid block (named-super image seen oid block place right named e))
+right-free image seen (Found (Magic block)) right (oid, place, named, e, test, magic) = true-false (has_magic (super_in image (site_of seen) block)) (super-magic image (site_of seen) oid block (named-super image seen oid block place right named e)) magic
+right-free image seen (Found (Unnamed Physical oid)) right (e, none) =
+    some-none (in_container (site_of seen).blocks oid) none (subst (λ b. is_some (in_container (site_of seen).blocks b) ≡ true) (sym e) (object-inside image (site_of seen) (omap_oid_of seen.nx) (whole-object image (site_of seen) (omap_oid_of seen.nx) right.map.whole)))
+right-free image seen (Found (Unnamed Container oid)) right (named, none) = some-none (volume_block image seen oid) none (volume-blocked image seen oid (named-volume image seen oid right named))
+right-free image seen (Found (Unnamed Ephemeral oid)) right h = absurd h
+right-free image seen (Found (Unnamed (Volume slot) oid)) right h = absurd h
+right-free image seen (Found (Omap fault)) right h = whole-free image (site_of seen) (omap_oid_of seen.nx) (Found fault) right.map.whole right.map.settled h
+right-free image seen (Found (Walk root why)) right h = absurd h
+right-free image seen (Found (SnapRecord slot)) right h = absurd h
+right-free image seen (Found (SnapCount slot)) right h = absurd h
+right-free image seen (Found (SnapName slot)) right h = absurd h
+right-free image seen (Found (OmapSnaps slot)) right h = absurd h
+right-free image seen (Unsupported feature block) right (inl h) = whole-free image (site_of seen) (omap_oid_of seen.nx) (Unsupported feature block) right.map.whole right.map.settled h
+right-free image seen (Unsupported feature block) right (inr (inl (e, (sound, inl h)))) = subst (λ fs. In feature fs) right.map.plain h
+right-free image seen (Unsupported feature block) right (inr (inl (e, (sound, inr h)))) = subst (λ fs. In feature fs) right.map.unmarked h
+right-free image seen (Unsupported feature block) right (inr (inr (oid, place, named, e, inl h))) = subst (λ fs. In feature fs) (named-plain image seen oid place right named) h
+right-free image seen (Unsupported feature block) right (inr (inr (oid, place, named, e, inr test))) =
+    ok-err (super_test image (site_of seen) (Some oid) block) (bads.Unsupported feature) test (super-test image (site_of seen) oid block (named-super image seen oid block place right named e))
+right-free image seen ReadFault right h = tt
+right-free image seen NoMemory right h = tt

@@ -78,8 +78,12 @@ pub record IsVolume (image : List ℕ) (seen : Seen) (oid : ℕ) : Type 0 where
   pub plain : mapping_features (site_of seen).block_size place.flags place.size ≡ []
   pub super : is_super image (site_of seen) (Some oid) place.block ≡ true
 
--- these are the heads, and nothing that `heads` could name is there
-pub record AreHeads (image : List ℕ) (seen : Seen) (heads : List VolHead) : Type 0 where
+-- nothing that `heads` could name is there
+pub record AreRight (image : List ℕ) (seen : Seen) : Type 0 where
   pub map : IsPlainMap image seen
   pub volumes : (slot : ℕ) → slot < slots → (fs_oid_of seen.nx slot == 0) ≡ false → IsVolume image seen (fs_oid_of seen.nx slot)
+
+-- nothing that `heads` could name is there, and these are the heads
+pub record AreHeads (image : List ℕ) (seen : Seen) (heads : List VolHead) : Type 0 where
+  pub right : AreRight image seen
   pub same : heads ≡ heads_of image seen

@@ -7,6 +7,8 @@ mod place;
 mod slots;
 mod stop;
 mod superblock;
+#[cfg(test)]
+mod tests;
 
 pub use head::VolHead;
 pub use slots::heads;

@@ -7,8 +7,8 @@ ghost use Rattle.obj_base.specs.declared.stop.Stop.TheVariants.{ReadFault, NoMem
 ghost use Rattle.bt_node.specs.Site.{IsSiteFor};
 ghost use Rattle.nx_block.specs.Super as super_block;
 ghost use Rattle.nx_ring.specs.Checkpoint.{site_of};
-ghost use Rattle.vol_view.specs.Stops.{IsHeadsStop, IsHeadsFeature, AreHeads};
-ghost use Rattle.vol_view.specs.Slots.{slot_of};
+ghost use Rattle.vol_view.specs.Stops.{IsHeadsStop, IsHeadsFeature, AreRight, AreHeads};
+ghost use Rattle.vol_view.specs.Slots.{IsFree, slot_of};
 
 use crate::map::container_map;
 use crate::place::locate;
@@ -75,6 +75,7 @@ pub fn heads<S: BlockSource>(
     requires site { IsSiteFor (site_of cp.now) (S.bytes_len src.old) }
     ensures clear { (image : List ℕ) → S.bytes src.old ≡ Some image → IfOk result (λ heads. AreHeads image cp.now heads.items) }
     ensures present { (image : List ℕ) → S.bytes src.old ≡ Some image → IfErr result (Tells (IsHeadsStop image cp.now) (IsHeadsFeature image cp.now)) }
+    ensures exact { (image : List ℕ) → S.bytes src.old ≡ Some image → AreRight image cp.now → IfErr result IsFree }
     ensures cause { IsErrOf result ReadFault → Rose (S.faults src.old) (S.faults src.new) }
     ensures kept { IsKept S.bytes S.bytes_len S.faults src.old src.new }
 {

@@ -2,7 +2,7 @@ use Rattle.std.proofs.Common.{◌≡◌, ◌∙◌, ◌+◌, ◌<◌, ◌++◌, 
 use Rattle.nx_block.specs.Super.{slots}
 use Rattle.vol_view.specs.Heads.{heads_in, heads_of}
 use Rattle.vol_view.specs.Slots.{IsRight}
-use Rattle.vol_view.proofs.SlotsLemmas.{slot-tells, slot-found, map-plain, heads-more}
+use Rattle.vol_view.proofs.SlotsLemmas.{slot-tells, slot-found, map-plain, heads-more, right-free}
 use Rattle.vol_view.proofs.slots.heads.Goals as goal
 
 pub returns-in-Err-volume_in-clause-present : goal.returns-in-Err-volume_in-clause-present
@@ -39,7 +39,15 @@ returns-clause-clear g c image told =
     let seen = c.args.cp.now in
     let end : c.slots.slot ≡ slots = omega arith in
     record {
-      map = map-plain image seen c.in-Ok.omap (c.in-Ok.ensures.clear image told);
-      volumes = λ k low some. c.slots.invariant.right image told k (omega (arith, end)) some;
+      right = record {
+        map = map-plain image seen c.in-Ok.omap (c.in-Ok.ensures.clear image told);
+        volumes = λ k low some. c.slots.invariant.right image told k (omega (arith, end)) some;
+      };
       same = c.slots.invariant.found image told ∙ ap (heads_in image seen) end;
     }
+
+pub returns-in-Err-clause-exact : goal.returns-in-Err-clause-exact
+returns-in-Err-clause-exact g c image told right = right-free image c.args.cp.now c.in-Err.stop right (c.in-Err.ensures.present image told)
+
+pub returns-in-Err-volume_in-clause-exact : goal.returns-in-Err-volume_in-clause-exact
+returns-in-Err-volume_in-clause-exact g c image told right = right-free image c.args.cp.now c.in-Err-volume_in.stop right (returns-in-Err-volume_in-clause-present g c image told)

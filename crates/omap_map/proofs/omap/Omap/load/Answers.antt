@@ -4,7 +4,7 @@ use Rattle.omap_map.specs.Fields.{tree_of, snap_tree_of, snap_count_of}
 use Rattle.omap_map.specs.Records.{records_of}
 use Rattle.omap_map.specs.Maps.{Contents, record_tree}
 use Rattle.omap_map.specs.Gathered.{IsGathered, HasSnapshots}
-use Rattle.omap_map.proofs.Loads.{block_inside, object-tells, object-means, records-stop, snapshots-stop, IsObject, parts-loaded, parts-few}
+use Rattle.omap_map.proofs.Loads.{block_inside, object-tells, object-means, records-stop, snapshots-stop, IsObject, parts-loaded, parts-few, whole-free}
 use Rattle.omap_map.proofs.omap.Omap.load.Goals as goal
 
 pub returns-in-Err-clause-present : goal.returns-in-Err-clause-present
@@ -65,3 +65,12 @@ returns-clause-reads g c image told =
       snapshots = subst (λ root. HasSnapshots image site root contents.snapshots (reads c.records.new.src) (reads c.snapshots_if.new.src)) (c.snap_tree.ensures ∙ ap snap_tree_of c.deref-2.ensures.value) (c.in-Ok-snapshots_if.ensures.gathered image told2);
       count = c.snap_count.ensures ∙ ap snap_count_of c.deref-3.ensures.value;
     })
+
+pub returns-in-Err-clause-exact : goal.returns-in-Err-clause-exact
+returns-in-Err-clause-exact g c image told whole settled = whole-free image c.args.site.now c.args.block c.in-Err.stop whole settled (returns-in-Err-clause-present g c image told)
+
+pub returns-in-Err-records-clause-exact : goal.returns-in-Err-records-clause-exact
+returns-in-Err-records-clause-exact g c image told whole settled = whole-free image c.args.site.now c.args.block c.in-Err-records.stop whole settled (returns-in-Err-records-clause-present g c image told)
+
+pub returns-in-Err-snapshots_if-clause-exact : goal.returns-in-Err-snapshots_if-clause-exact
+returns-in-Err-snapshots_if-clause-exact g c image told whole settled = whole-free image c.args.site.now c.args.block c.in-Err-snapshots_if.stop whole settled (returns-in-Err-snapshots_if-clause-present g c image told)
