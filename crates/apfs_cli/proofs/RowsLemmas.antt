@@ -1,13 +1,13 @@
 -- What each status says, from what a run set out to write and how it ended.
 use Rattle.std.specs.Prelude.{◌≡◌, ◌⊎◌, ℕ, List, Option, Some, None, refl}
-use Rattle.std.proofs.Common.{inl, inr, sym, ◌∙◌, ap, subst, arith}
+use Rattle.std.proofs.Common.{inl, inr, sym, ◌∙◌, subst, arith}
 use Rattle.blk_source.specs.declared.source.Opened.{Opened}
 use Rattle.blk_source.specs.declared.source.Opened.TheVariants.{Absent, Image}
 use Rattle.obj_base.specs.declared.stop.Feature.{Feature}
 use Rattle.apfs_cli.specs.declared.words.Command.{Command}
-use Rattle.apfs_cli.specs.Outcome.{Outcome, status_of, text_of, line_of, Written, Faulty, Usage, ReadFailed, OutOfMemory, Refused, NoImage}
+use Rattle.apfs_cli.specs.Outcome.{Outcome, status_of, Written, Faulty, Usage, ReadFailed, OutOfMemory, Refused, NoImage}
 use Rattle.apfs_cli.specs.Says.{Says, HasNoImage, HasFailed}
-use Rattle.apfs_cli.specs.Written.{Sunk, Failed, IsWhole, Ends}
+use Rattle.apfs_cli.specs.Written.{Sunk, Failed, Ends}
 use Rattle.apfs_cli.specs.Rows.{BothWrote, HasText, NamesFault, NamesFeature, IsExactly}
 
 -- an outcome is told by its status

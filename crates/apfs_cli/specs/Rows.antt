@@ -1,12 +1,12 @@
 -- What each status says: one fact for each row of the table of statuses.
-use Rattle.std.specs.Prelude.{◌≡◌, ◌⊎◌, ℕ, [], List, Option, Some, None}
+use Rattle.std.specs.Prelude.{◌≡◌, ◌⊎◌, ℕ, List, Option}
 use Rattle.apfs_model.specs.Sink.{Wrote}
 use Rattle.blk_source.specs.declared.source.Opened.{Opened}
 use Rattle.obj_base.specs.declared.stop.Feature.{Feature}
 use Rattle.apfs_cli.specs.declared.words.Command.{Command}
-use Rattle.apfs_cli.specs.Outcome.{Outcome, text_of, line_of, Written, Faulty, Usage, ReadFailed, OutOfMemory, Refused, NoImage}
-use Rattle.apfs_cli.specs.Says.{Says, OfRun, IsText, IsFault, IsFeature, HasNoImage, HasFailed}
-use Rattle.apfs_cli.specs.Written.{Sunk, Failed}
+use Rattle.apfs_cli.specs.Outcome.{Outcome, text_of, line_of, Written, Faulty, Refused}
+use Rattle.apfs_cli.specs.Says.{OfRun, IsText, IsFault, IsFeature}
+use Rattle.apfs_cli.specs.Written.{Sunk}
 
 -- both sinks have all of an outcome more than before
 abbrev pub BothWrote : Sunk → Sunk → Outcome → Type 0

@@ -1,5 +1,5 @@
 -- The outcome is what was decided, or that memory ran out where there was none for its line.
-use Rattle.std.proofs.Common.{◌⊎◌, inl, inr}
+use Rattle.std.proofs.Common.{inl, inr}
 use Rattle.apfs_cli.specs.Outcome.{OutOfMemory}
 use Rattle.apfs_cli.specs.Seen.{seen}
 use Rattle.apfs_cli.proofs.run.end.Goals as goal
