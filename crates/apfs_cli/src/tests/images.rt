@@ -20,7 +20,11 @@ const DESC_INDEX: usize = 136;
 
 const BLOCKED_OUT_BLOCKS: usize = 1248;
 
+const MAGIC: usize = 32;
+
 const MAP_SNAPSHOTS: usize = 36;
+
+const MAP_REVERT: usize = 72;
 
 const VOLUME_FLAGS: usize = 264;
 
@@ -53,8 +57,6 @@ pub enum Image {
     EmptySkipped,
     /// A container with one volume, which holds its two directories.
     Small,
-    /// The record of its volume is marked deleted in the container's map.
-    SmallDeleted,
     /// The sum of its volume's superblock is wrong.
     SmallUnsummed,
     /// The container's map counts a snapshot.
@@ -63,6 +65,14 @@ pub enum Image {
     SmallFlagless,
     /// The name of its volume has a newline and a slash.
     SmallRenamed,
+    /// Its volume's superblock lacks its magic.
+    SmallMagic,
+    /// A revert of the container's map is pending.
+    SmallReverting,
+    /// The record of its volume has these flags.
+    SmallFlags(u8),
+    /// The record of its volume has a size of two blocks.
+    SmallSize,
 }
 
 // Writes bytes at a place.
@@ -192,9 +202,21 @@ fn change(image: Image, bytes: &mut Vec<u8>) {
             add_checkpoint(bytes);
             put_in(bytes, 13, SUM, &[0, 0]);
         }
-        Image::SmallDeleted => {
-            put_in(bytes, 26, ONLY_VALUE, &[1]);
+        Image::SmallFlags(flags) => {
+            put_in(bytes, 26, ONLY_VALUE, &[flags]);
             seal(bytes, 26);
+        }
+        Image::SmallSize => {
+            put_in(bytes, 26, ONLY_VALUE + 4, &8192u32.to_le_bytes());
+            seal(bytes, 26);
+        }
+        Image::SmallReverting => {
+            put_in(bytes, 25, MAP_REVERT, &[1]);
+            seal(bytes, 25);
+        }
+        Image::SmallMagic => {
+            put_in(bytes, 51, MAGIC, b"NXSB");
+            seal(bytes, 51);
         }
         Image::SmallUnsummed => put_in(bytes, 51, SUM, &[0, 0]),
         Image::SmallMapSnapshots => {
