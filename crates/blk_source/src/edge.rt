@@ -1,10 +1,13 @@
-// The trusted edge: a file as a source, a writer as a sink. No contract knows what a file or a terminal holds.
-ghost use Rattle.std.specs.Prelude.{◌≡◌, None};
+// The edge: a file as a source, a writer as a sink. No contract knows what a file holds, so a file tells nothing; what a
+// writer's sink holds is what its writer tells.
+ghost use Rattle.std.specs.Prelude.{◌≡◌, ◌≤◌, None, IfOk, OnOk, length};
+ghost use Rattle.std.specs.Io.KnownBytes.{WriteAppends};
+ghost use Rattle.apfs_model.specs.Sink.{Wrote, WrotePart};
 
 use crate::{BlockSource, Sink};
 use apfs_model::{ReadFailed, WriteFailed};
 use std::fs::File;
-use std::io::{Seek, SeekFrom, Write};
+use std::io::{ErrorKind, Seek, SeekFrom, Write};
 use std::os::unix::fs::FileExt;
 
 /// A file or a block device. It tells nothing.
@@ -18,7 +21,10 @@ pub struct FileSource {
 
 impl FileSource {
     /// A file by its length in bytes. `ReadFailed` where the length can't be asked for.
-    pub fn new(mut file: File) -> Result<FileSource, ReadFailed> {
+    pub fn new(mut file: File) -> Result<FileSource, ReadFailed>
+        ensures reads { IfOk result (λ source. source.reads ≡ 0) }
+        ensures faults { IfOk result (λ source. source.faults ≡ 0) }
+    {
         match file.seek(SeekFrom::End(0)) {
             Ok(len) => Ok(FileSource {
                 file,
@@ -59,7 +65,7 @@ impl BlockSource for FileSource {
     }
 }
 
-/// A writer. It tells nothing.
+/// A writer. It tells what its writer tells: a terminal, a file and a pipe tell nothing.
 #[derive(Drop)]
 pub struct StdSink<T: Write + Drop> {
     writer: T,
@@ -67,29 +73,69 @@ pub struct StdSink<T: Write + Drop> {
 }
 
 impl<T: Write + Drop> StdSink<T> {
-    pub fn new(writer: T) -> StdSink<T> {
+    /// A sink that puts into this writer.
+    pub fn new(writer: T) -> StdSink<T>
+        ensures writer { result.writer ≡ writer }
+        ensures faults { result.faults ≡ 0 }
+    {
         StdSink { writer, faults: 0 }
     }
 }
 
 impl<T: Write + Drop> Sink for StdSink<T> {
-    ghost contents = { λ _. None };
+    ghost contents = { λ s. T.contents s.writer };
 
     ghost faults = { λ s. s.faults };
 
     fn put(&mut self, piece: &[u8]) -> Result<(), WriteFailed> {
         match write_and_flush(&mut self.writer, piece) {
             Ok(()) => Ok(()),
-            Err(_) => {
+            Err(why) => {
                 self.faults = self.faults.saturating_add(1);
-                Err(WriteFailed)
+                Err(why)
             }
         }
     }
 }
 
-// A write that takes nothing of a piece is a failure of `write_all`.
-fn write_and_flush<T: Write>(writer: &mut T, piece: &[u8]) -> std::io::Result<()> {
-    writer.write_all(piece)?;
-    writer.flush()
+// Writes a front of a piece that isn't empty, and gives its length: 0 only where the write was interrupted. A write that
+// takes nothing is a failure.
+fn write_front<T: Write>(writer: &mut T, piece: &[u8]) -> Result<usize, WriteFailed>
+    ensures bound { IfOk result (λ n. n ≤ length piece.now) }
+    ensures bytes { WriteAppends (T.contents writer.old) (T.contents writer.new) result piece.now }
+{
+    match writer.write(piece) {
+        Ok(0) => Err(WriteFailed),
+        Ok(taken) => Ok(taken),
+        Err(why) if why.kind() == ErrorKind::Interrupted => Ok(0),
+        Err(_) => Err(WriteFailed),
+    }
+}
+
+// Writes the whole piece.
+fn write_whole<T: Write>(writer: &mut T, piece: &[u8]) -> Result<(), WriteFailed>
+    ensures whole { OnOk result (Wrote (T.contents writer.old) (T.contents writer.new) piece.now) }
+    ensures part { WrotePart (T.contents writer.old) (T.contents writer.new) piece.now }
+{
+    let mut rest = piece;
+    for _ in 0..u64::MAX {
+        if rest.is_empty() {
+            return Ok(());
+        }
+        let taken = write_front(writer, rest)?;
+        rest = &rest[taken..];
+    }
+    Err(WriteFailed)
+}
+
+// Writes the whole piece, and hands on what the writer keeps back.
+fn write_and_flush<T: Write>(writer: &mut T, piece: &[u8]) -> Result<(), WriteFailed>
+    ensures whole { OnOk result (Wrote (T.contents writer.old) (T.contents writer.new) piece.now) }
+    ensures part { WrotePart (T.contents writer.old) (T.contents writer.new) piece.now }
+{
+    write_whole(writer, piece)?;
+    match writer.flush() {
+        Ok(()) => Ok(()),
+        Err(_) => Err(WriteFailed),
+    }
 }

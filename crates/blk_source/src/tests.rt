@@ -3,7 +3,7 @@ use crate::{
     BlockSource, Bytes, FileSource, MemSink, MemSource, Opened, Sink, StdSink, SureSource,
 };
 use std::fs::OpenFile;
-use std::io::{self, Write};
+use std::io::{self, ErrorKind, Write};
 use std::test::Fail;
 use std::{env, fs, process};
 
@@ -74,14 +74,19 @@ fn a_file_is_read_and_its_end_is_a_failure(rt: HostRuntime) -> Result<(), Fail> 
     Ok(())
 }
 
-// A writer that takes at most one byte at a time, and none once it has taken so many.
+// A writer that takes at most one byte at a time, is interrupted before each, and takes none once it has taken so many.
 #[derive(Drop)]
 struct Narrow {
     left: usize,
+    is_ready: bool,
 }
 
 impl Write for Narrow {
     fn write(&mut self, piece: &[u8]) -> io::Result<usize> {
+        self.is_ready = !self.is_ready;
+        if !self.is_ready {
+            return Err(io::Error::from(ErrorKind::Interrupted));
+        }
         if self.left == 0 || piece.is_empty() {
             return Ok(0);
         }
@@ -96,7 +101,10 @@ impl Write for Narrow {
 
 #[test]
 fn a_writer_that_takes_nothing_fails(rt: HostRuntime) -> Result<(), Fail> {
-    let mut sink = StdSink::new(Narrow { left: 3 });
+    let mut sink = StdSink::new(Narrow {
+        left: 3,
+        is_ready: true,
+    });
     sink.put(b"ab")?;
     sink.put(b"")?;
     assert!(rt; sink.put(b"cd").is_err());

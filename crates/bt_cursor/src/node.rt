@@ -17,6 +17,7 @@ ghost use Rattle.bt_cursor.specs.Ahead.{items_of};
 use crate::fault::WalkFault;
 use crate::namer::Namer;
 use crate::way::Step;
+use blk_read::read_block;
 use blk_source::BlockSource;
 use bt_node::{Entry, NodeAt, NodeView, RootInfo, Site, TreeKey};
 use obj_base::{Bad, Stop};
@@ -89,7 +90,7 @@ fn test<K: TreeKey>(
     }
 }
 
-#[tactic(auto, using(crate::proofs::Nodes::accepted_size), unfolding(apfs_model::specs::Blocks::block_of))]
+#[tactic(auto, using(crate::proofs::Nodes::accepted_size))]
 /// Reads the node at a place, and stands before its first entry.
 pub(crate) fn load<K: TreeKey, S: BlockSource, N: Namer>(
     src: &mut S,
@@ -111,11 +112,10 @@ pub(crate) fn load<K: TreeKey, S: BlockSource, N: Namer>(
     ensures nodes { IfErr result IsOfNodes }
     ensures kept { IsKept S.bytes S.bytes_len S.faults src.old src.new }
 {
-    let _size = src.size();
     let Some(block) = block_in(namer, site, at.oid) else {
         return Err(Stop::Found(WalkFault::Unnamed { oid: at.oid }));
     };
-    src.read_at(u64::from(site.block_size) * block, &mut into.block)?;
+    read_block(src, block, &mut into.block)?;
     test::<K>(into, site, &at, block)?;
     into.at = at;
     into.next = 0;

@@ -1,4 +1,3 @@
-pub mod Stops
 pub mod Zero
 pub mod Candidates
 pub mod Mappings

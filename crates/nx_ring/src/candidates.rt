@@ -15,9 +15,9 @@ ghost use Rattle.nx_ring.specs.Candidates.{candidate_in, candidate, candidates, 
 ghost use Rattle.nx_ring.specs.Ring.{ring_of, IsRingFault};
 
 use crate::areas::Areas;
-use crate::block::read_new;
 use crate::zero::areas;
 use crate::{RingFault, RingLine};
+use blk_read::read_new;
 use blk_source::BlockSource;
 use nx_block::nx_read;
 use obj_base::Stop;

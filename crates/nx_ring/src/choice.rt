@@ -6,25 +6,24 @@ ghost use Rattle.std.specs.Prelude.{◌≡◌, ◌+◌, ◌*◌, ◌≤◌, ◌<
 ghost use Rattle.std.specs.List.{range_with_len};
 ghost use Rattle.apfs_model.specs.Counts.{Rose};
 ghost use Rattle.apfs_model.specs.Source.{IsKept};
-ghost use Rattle.obj_base.specs.Stops.{Gives, Tells};
+ghost use Rattle.obj_base.specs.Stops.{Gives, Tells, IsFree};
 ghost use Rattle.obj_base.specs.declared.stop.Stop.TheVariants.{ReadFault, NoMemory};
 ghost use Rattle.nx_block.specs.Super.{block_size_of, block_count_of, desc_blocks_of, data_blocks_of};
 ghost use Rattle.nx_ring.specs.Zero.{zero_of, areas_of, Fits};
 ghost use Rattle.nx_ring.specs.Newest as found;
 ghost use Rattle.nx_ring.specs.Features.{container_features};
 ghost use Rattle.nx_ring.specs.Ring.{IsRingFault, IsRingFeature};
-ghost use Rattle.nx_ring.specs.Stops.{IsFree};
 ghost use Rattle.nx_ring.specs.Checkpoint.{site_of};
 ghost use Rattle.obj_base.specs.BlockSize as sizes;
 ghost use Rattle.bt_node.specs.Site.{IsSiteFor};
 
 use crate::areas::Areas;
-use crate::block::read_new;
 use crate::candidates::{line_in, lines};
 use crate::features::feature_of;
 use crate::valid::read_checkpoint;
 use crate::zero::areas;
 use crate::{Checkpoint, RingFault, RingLine};
+use blk_read::read_new;
 use blk_source::BlockSource;
 use obj_base::Stop;
 use std::alloc::Global;

@@ -2,7 +2,6 @@
 #![tactic(auto)]
 
 mod areas;
-mod block;
 mod candidates;
 mod choice;
 mod fault;

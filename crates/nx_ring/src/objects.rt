@@ -5,15 +5,15 @@
 ghost use Rattle.std.specs.Prelude.{◌≡◌, ◌+◌, ◌*◌, ◌≤◌, ◌<◌, ◌/◌, ◌%◌, ◌^◌, List, ℕ, Some, None, true, length, IfOk, IfErr, IfSome, IsErrOf, if◌then◌else◌};
 ghost use Rattle.apfs_model.specs.Counts.{Rose};
 ghost use Rattle.apfs_model.specs.Source.{IsKept};
+ghost use Rattle.obj_base.specs.Stops.{IsFree};
 ghost use Rattle.obj_base.specs.declared.stop.Stop.TheVariants.{ReadFault};
 ghost use Rattle.nx_ring.specs.Zero.{Fits};
 ghost use Rattle.nx_ring.specs.Objects as objects;
-ghost use Rattle.nx_ring.specs.Stops.{IsFree};
 
 use crate::RingFault;
 use crate::areas::Areas;
-use crate::block::read_new;
 use crate::mappings::Mapping;
+use blk_read::read_new;
 use blk_source::BlockSource;
 use obj_base::{Expect, Stop, sound};
 use std::alloc::Global;

@@ -16,7 +16,7 @@ ghost use Rattle.nx_ring.specs.Zero.{is_area, has_areas, is_contiguous, first_of
 
 use crate::RingFault;
 use crate::areas::Areas;
-use crate::block::read_new;
+use blk_read::read_new;
 use blk_source::BlockSource;
 use nx_block::{NxView, nx_read, nx_size};
 use obj_base::{Feature, Stop};

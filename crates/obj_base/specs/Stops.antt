@@ -24,3 +24,7 @@ Answers value fault feature (Err stop) = Tells fault feature stop
 -- no feature is told of
 abbrev pub NoFeature : Feature → ℕ → Type 0
 NoFeature name block = ⊥
+
+-- nothing is told of the image: reading failed, or memory ran out
+abbrev pub IsFree : {F : Type 0} → Stop F → Type 0
+IsFree stop = Tells (λ fault. ⊥) NoFeature stop

@@ -1,5 +1,5 @@
 -- What the parts of a map tell of the whole.
-use Rattle.std.specs.Prelude.{◌≡◌, ℕ, ◌+◌, ◌≤◌, ◌<◌, ◌&&◌, ◌||◌, Bool, true, false, List, [], ◌∷◌, Option, Some, Result, Ok, Err, refl, is_ok, is_some, if◌then◌else◌}
+use Rattle.std.specs.Prelude.{◌≡◌, ℕ, ◌+◌, ◌≤◌, ◌<◌, ◌&&◌, ◌||◌, Bool, true, false, List, [], ◌∷◌, Option, None, Some, Result, Ok, Err, refl, is_ok, is_some, if◌then◌else◌}
 use Rattle.std.proofs.Common.{arith, ap, sym, ◌∙◌, subst, inl, inr}
 use Rattle.std.proofs.lemmas.Bool.Decides.{nat_tests}
 use Rattle.apfs_model.specs.Blocks.{in_container}
@@ -11,7 +11,7 @@ use Rattle.obj_base.specs.declared.stop.Bad.TheVariants as bads
 use Rattle.obj_base.specs.declared.stop.Feature.TheVariants.{Revert}
 use Rattle.obj_base.specs.declared.stop.Stop.{Stop}
 use Rattle.obj_base.specs.declared.stop.Stop.TheVariants.{Found, Unsupported, ReadFault, NoMemory}
-use Rattle.obj_base.specs.Stops.{Tells}
+use Rattle.obj_base.specs.Stops.{Tells, IsFree}
 use Rattle.bt_node.specs.declared.node.Site.{Site}
 use Rattle.bt_cursor.specs.Faults.{HasFeature}
 use Rattle.bt_cursor.specs.Flat.{flat_of}
@@ -21,9 +21,10 @@ use Rattle.bt_cursor.proofs.Wholes.{whole_means}
 use Rattle.bt_keys.specs.Shapes.{omap_shape, omap_snap_shape}
 use Rattle.omap_map.specs.Fields.{snap_count_of, tree_of, snap_tree_of}
 use Rattle.omap_map.specs.Records.{records_of, snapshots_of}
+use Rattle.omap_map.specs.Resolve.{resolved, named_by}
 use Rattle.omap_map.specs.Features.{is_reverting}
-use Rattle.omap_map.specs.Maps.{Contents, map_in, head_of, is_map_object, record_tree, snapshot_tree, map_records, map_snapshots, contents_of, has_no_snapshots, has_whole_snapshots, is_whole_map, map_nodes, after_header, object_of, IsTreeFault, IsMapFault, IsMapFeature, IsLoaded}
-use Rattle.omap_map.specs.Gathered.{IsGathered, HasSnapshots, IsSnapshotsFault, IsSnapshotsFeature, IsFree}
+use Rattle.omap_map.specs.Maps.{Contents, map_in, head_of, is_map_object, record_tree, snapshot_tree, map_records, map_snapshots, contents_of, has_no_snapshots, has_whole_snapshots, is_whole_map, map_nodes, resolved_in, named_in, after_header, object_of, IsTreeFault, IsMapFault, IsMapFeature, IsLoaded}
+use Rattle.omap_map.specs.Gathered.{IsGathered, HasSnapshots, IsSnapshotsFault, IsSnapshotsFeature}
 use Rattle.omap_map.specs.declared.records.OmapRecord.{OmapRecord}
 use Rattle.omap_map.specs.declared.fault.OmapFault.{OmapFault}
 use Rattle.omap_map.specs.declared.fault.OmapFault.TheVariants.{Head, Tree as TreeFault}
@@ -222,3 +223,14 @@ whole-free image site block (Unsupported feature at) whole settled (inr (sound, 
     (whole_means (snapshot_tree image site) (snap_tree_of (map_in image site block)) (whole-snapshots image site block whole h.0)) h.1
 whole-free image site block ReadFault whole settled h = tt
 whole-free image site block NoMemory whole settled h = tt
+
+-- through a loaded map an id resolves to the record of the image's map, and names its block
+pub resolved-loaded : (image : List ℕ) (site : Site) (block : ℕ) (contents : Contents) → IsLoaded image site block contents → (oid x : ℕ) → resolved contents.records oid x ≡ resolved_in image site block oid x
+unfolding resolved_in
+resolved-loaded image site block contents loaded oid x =
+    ap (λ (c : Contents). resolved c.records oid x) loaded.same ∙ ap (λ (b : Bool). if b then resolved (map_records image site block) oid x else None) (sym loaded.whole)
+
+pub named-loaded : (image : List ℕ) (site : Site) (block : ℕ) (contents : Contents) → IsLoaded image site block contents → (x oid : ℕ) → named_by contents.records x site.blocks oid ≡ named_in image site block x oid
+unfolding named_in
+named-loaded image site block contents loaded x oid =
+    ap (λ (c : Contents). named_by c.records x site.blocks oid) loaded.same ∙ ap (λ (b : Bool). if b then named_by (map_records image site block) x site.blocks oid else None) (sym loaded.whole)

@@ -2,7 +2,6 @@
 use Rattle.std.specs.Prelude.{◌≡◌, ℕ, ◌+◌, ◌≤◌, Bool, true, false, List, [], ◌∷◌, ◌++◌, All, Option, None, Some, length, ◌||◌, ◌==◌, if◌then◌else◌}
 use Rattle.obj_base.specs.declared.stop.Stop.{Stop}
 use Rattle.obj_base.specs.declared.stop.Stop.TheVariants.{Found, Unsupported, ReadFault, NoMemory}
-use Rattle.obj_base.specs.Stops.{Tells, NoFeature}
 use Rattle.obj_base.specs.declared.stop.Feature.{Feature}
 use Rattle.bt_node.specs.declared.node.Site.{Site}
 use Rattle.bt_node.specs.declared.key.Rank.{Rank}
@@ -33,10 +32,6 @@ raised root (Found why) = Found (TreeFault root why)
 raised root (Unsupported feature block) = Unsupported feature block
 raised root ReadFault = ReadFault
 raised root NoMemory = NoMemory
-
--- reading failed, or memory ran out
-abbrev pub IsFree : Stop OmapFault → Type 0
-IsFree stop = Tells (λ fault. ⊥) NoFeature stop
 
 -- the records, and the snapshots, that an item of a tree gives: those of an entry of a leaf
 abbrev pub records_in : Item → List OmapRecord

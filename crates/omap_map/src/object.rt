@@ -11,9 +11,9 @@ ghost use Rattle.bt_node.specs.Site.{IsSiteFor};
 ghost use Rattle.omap_map.specs.Fields as fields;
 ghost use Rattle.omap_map.specs.Features.{is_reverting};
 ghost use Rattle.omap_map.specs.Maps.{map_in, after_header, object_of};
-ghost use Rattle.omap_map.specs.Gathered.{IsFree};
 
 use crate::OmapFault;
+use blk_read::read_new;
 use blk_source::BlockSource;
 use bt_node::Site;
 use obj_base::{Bad, Expect, Feature, Stop, sound, u32_at, u64_at};
@@ -94,29 +94,6 @@ fn test(bytes: &[u8], block: u64, site: &Site) -> Result<(), Stop<OmapFault>>
     }
 }
 
-// Reads a block of a container.
-#[tactic(auto, unfolding(apfs_model::specs::Blocks::block_of))]
-fn read_block<S: BlockSource>(
-    alloc: Global,
-    src: &mut S,
-    block: u64,
-    site: &Site,
-) -> Result<Vec<u8>, Stop<OmapFault>>
-    requires site { IsSiteFor site.now (S.bytes_len src.old) }
-    requires below { block < site.now.blocks }
-    ensures found { (image : List ℕ) → S.bytes src.old ≡ Some image → IfOk result (λ bytes. bytes.items ≡ map_in image site.now block) }
-    ensures long { IfOk result (λ bytes. length bytes.items ≡ 4096) }
-    ensures free { IfErr result IsFree }
-    ensures reads { S.reads src.new ≤ S.reads src.old + 1 }
-    ensures cause { IsErrOf result ReadFault → Rose (S.faults src.old) (S.faults src.new) }
-    ensures kept { IsKept S.bytes S.bytes_len S.faults src.old src.new }
-{
-    let _size = src.size();
-    let mut bytes = vec![in alloc; 0u8; site.block_size as usize]?;
-    src.read_at(u64::from(site.block_size) * block, &mut bytes)?;
-    Ok(bytes)
-}
-
 /// The bytes of the map in a block, or the first test of its object that fails.
 #[tactic(auto, unfolding(crate::specs::Maps::object_of))]
 pub(crate) fn object<S: BlockSource>(
@@ -133,7 +110,7 @@ pub(crate) fn object<S: BlockSource>(
     ensures cause { IsErrOf result ReadFault → Rose (S.faults src.old) (S.faults src.new) }
     ensures kept { IsKept S.bytes S.bytes_len S.faults src.old src.new }
 {
-    let bytes = read_block(alloc, src, block, site)?;
+    let bytes = read_new(alloc, src, block, site.block_size)?;
     test(&bytes, block, site)?;
     Ok(bytes)
 }

@@ -101,13 +101,12 @@ impl Omap {
     ghost use Rattle.std.specs.Prelude.{◌+◌, ◌<◌, ℕ, List, Some, Err, OnOk, IfOk, IfErr, IsErrOf};
     ghost use Rattle.apfs_model.specs.Counts.{Rose};
     ghost use Rattle.apfs_model.specs.Source.{IsKept};
-    ghost use Rattle.obj_base.specs.Stops.{Tells, Gives};
+    ghost use Rattle.obj_base.specs.Stops.{Tells, Gives, IsFree};
     ghost use Rattle.obj_base.specs.declared.stop.Stop as stops;
     ghost use Rattle.obj_base.specs.declared.stop.Stop.TheVariants.{ReadFault};
     ghost use Rattle.bt_node.specs.Site.{IsSiteFor};
     ghost use Rattle.omap_map.specs.declared.fault.OmapFault as faults;
     ghost use Rattle.omap_map.specs.Features.{is_reverting};
-    ghost use Rattle.omap_map.specs.Gathered.{IsFree};
     ghost use Rattle.omap_map.specs.Maps.{map_in, is_whole_map, object_of, map_nodes, IsLoaded, IsMapFault, IsMapFeature};
 
     /// The object map in a block, with its tree and its tree of snapshots, where all of these are whole. `Head` comes

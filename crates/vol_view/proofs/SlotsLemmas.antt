@@ -1,16 +1,13 @@
 -- What the answer of a slot means.
-use Rattle.std.specs.Prelude.{◌≡◌, ◌⊎◌, ℕ, ◌<◌, ◌+◌, ◌&&◌, ◌==◌, nat_lt, not, Bool, true, false, cond, List, [], ◌∷◌, ◌++◌, Option, None, Some, Result, Ok, Err, refl, is_ok, is_some, option_map, option_and_then, filter_map, option_to_list, if◌then◌else◌}
+use Rattle.std.specs.Prelude.{◌≡◌, ◌⊎◌, ℕ, ◌<◌, ◌+◌, ◌&&◌, ◌==◌, nat_lt, not, Bool, true, false, cond, List, [], ◌∷◌, ◌++◌, Option, None, Some, Result, Ok, Err, refl, is_ok, is_some, option_map, option_and_then, filter_map, option_to_list}
 use Rattle.std.specs.List.{range_with_len, cons_option}
-use Rattle.std.proofs.Common.{arith, ap, sym, ◌∙◌, subst, inl, inr, map}
-use Rattle.std.proofs.lemmas.Grind.{common_steps}
-use Rattle.std.proofs.lemmas.Bool.Decides.{nat_tests}
+use Rattle.std.proofs.Common.{arith, ap, sym, ◌∙◌, subst, inl, inr}
 use Rattle.std.proofs.lemmas.List.{map-id}
 use Rattle.std.proofs.lemmas.List.Elements.{filter_map-append}
 use Rattle.std.proofs.lemmas.List.FromFn.{map-range_with_len_more}
 use Rattle.apfs_model.specs.Blocks.{in_container}
 use Rattle.apfs_model.specs.Lists.{In, and_then}
-use Rattle.obj_base.specs.Stops.{Tells}
-use Rattle.obj_base.specs.Sound.{sound_of, expecting}
+use Rattle.obj_base.specs.Stops.{Tells, IsFree}
 use Rattle.obj_base.specs.declared.header.Header.{Header}
 use Rattle.obj_base.specs.declared.header.HeadFault.{HeadFault}
 use Rattle.obj_base.specs.declared.stop.Bad.{Bad}
@@ -26,28 +23,23 @@ use Rattle.nx_ring.specs.Checkpoint.{Seen, site_of}
 use Rattle.omap_map.specs.Fields.{snap_count_of}
 use Rattle.omap_map.specs.Records.{maps_encrypted, maps_headless}
 use Rattle.omap_map.specs.Features.{container_features, snapshot_features, mapping_features}
-use Rattle.omap_map.specs.Resolve.{resolved, resolve, place_of}
-use Rattle.omap_map.specs.Maps.{Contents, map_in, map_records, map_snapshots, is_map_object, is_whole_map, resolved_in, IsLoaded, IsMapFault, IsMapFeature}
-use Rattle.omap_map.proofs.Loads.{whole-object, object-inside, whole-free}
-use Rattle.omap_map.specs.declared.records.OmapRecord.{OmapRecord}
+use Rattle.omap_map.specs.Resolve.{resolve, place_of}
+use Rattle.omap_map.specs.Maps.{Contents, map_in, map_snapshots, is_map_object, is_whole_map, IsLoaded, IsMapFault, IsMapFeature}
+use Rattle.omap_map.proofs.Loads.{whole-object, object-inside, whole-free, resolved-loaded}
 use Rattle.omap_map.specs.declared.records.Place.{Place}
 use Rattle.omap_map.specs.declared.fault.OmapFault.{OmapFault}
 use Rattle.vol_view.specs.Heads.{super_in, super_test, has_magic, is_super, volume_place, volume_block, head_of, head_for, head_at, heads_in}
 use Rattle.vol_view.specs.Stops.{IsNamed, IsNamedIn, IsHeadsStop, IsHeadsFeature, IsPlainMap, IsVolume, AreRight}
-use Rattle.vol_view.specs.Slots.{IsFree, raised, plain_of, inside_of, placed_of, located, magic_in, after_header, tested, told_of, volume_at, volume_for, slot_of, HasMap, IsMarked, IsRight}
+use Rattle.vol_view.specs.Slots.{raised, plain_of, inside_of, placed_of, located, after_header, told_of, volume_at, slot_of, HasMap, IsMarked, IsRight}
 use Rattle.vol_view.specs.declared.head.VolHead.{VolHead}
 use Rattle.vol_view.specs.declared.stop.VolStop.{VolStop}
 use Rattle.vol_view.specs.declared.stop.VolStop.TheVariants.{Head, Magic, Unnamed, Omap, Walk, SnapRecord, SnapCount, SnapName, OmapSnaps}
 
 -- the place of a volume is what the records of a whole map resolve to
 place-same : (image : List ℕ) (seen : Seen) (contents : Contents) (oid : ℕ) → HasMap image seen contents → volume_place image seen oid ≡ resolve contents.records oid seen.line.xid
-unfolding volume_place resolved_in resolve
+unfolding volume_place resolve
 place-same image seen contents oid has =
-    let site = site_of seen in
-    let block = omap_oid_of seen.nx in
-    let same : map_records image site block ≡ contents.records = ap (λ (c : Contents). c.records) (sym has.loaded.same) in
-    ap (λ (b : Bool). option_map place_of (cond b (resolved (map_records image site block) oid seen.line.xid) None)) has.loaded.whole
-    ∙ ap (λ (rs : List OmapRecord). option_map place_of (resolved rs oid seen.line.xid)) same
+    sym (ap (option_map place_of) (resolved-loaded image (site_of seen) (omap_oid_of seen.nx) contents has.loaded oid seen.line.xid))
 
 inside-same : (blocks n b : ℕ) → in_container blocks n ≡ Some b → n ≡ b
 inside-same blocks n b e = inside-if (nat_lt 0 n && nat_lt n blocks) n b e

@@ -1,5 +1,5 @@
 -- The volumes that a container's superblock names (Container, nx_fs_oid).
-use Rattle.std.specs.Prelude.{ℕ, Bool, ◌&&◌, ◌==◌, List, filter_map, Option, None, Some, option_map, option_and_then, is_ok, Result, if◌then◌else◌}
+use Rattle.std.specs.Prelude.{ℕ, Bool, ◌&&◌, ◌==◌, List, filter_map, Option, None, option_map, option_and_then, is_ok, Result, if◌then◌else◌}
 use Rattle.std.specs.List.{range_with_len}
 use Rattle.apfs_model.specs.Blocks.{block_of, in_container}
 use Rattle.apfs_model.specs.Object.{volume_kind}

@@ -1,8 +1,7 @@
 -- What is answered of one slot.
-use Rattle.std.specs.Prelude.{◌≡◌, ◌⊎◌, false, [], ℕ, Bool, not, ◌==◌, List, Option, None, Some, option_and_then, Result, Ok, Err, if◌then◌else◌}
+use Rattle.std.specs.Prelude.{◌≡◌, ◌⊎◌, false, [], ℕ, not, ◌==◌, List, Option, None, Some, Result, Ok, Err, if◌then◌else◌}
 use Rattle.apfs_model.specs.Blocks.{in_container}
 use Rattle.apfs_model.specs.Lists.{In, and_then}
-use Rattle.obj_base.specs.Stops.{Tells, NoFeature}
 use Rattle.obj_base.specs.Sound.{sound_of, expecting}
 use Rattle.obj_base.specs.declared.header.Header.{Header}
 use Rattle.obj_base.specs.declared.header.HeadFault.{HeadFault}
@@ -36,10 +35,6 @@ raised (Found fault) = Found (Omap fault)
 raised (Unsupported feature block) = Unsupported feature block
 raised ReadFault = ReadFault
 raised NoMemory = NoMemory
-
--- reading failed, or memory ran out
-abbrev pub IsFree : Stop VolStop → Type 0
-IsFree stop = Tells (λ fault. ⊥) NoFeature stop
 
 -- a place, where it has no feature
 abbrev pub plain_of : ℕ → Place → Result Place (Stop VolStop)

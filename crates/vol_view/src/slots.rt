@@ -2,13 +2,13 @@
 ghost use Rattle.std.specs.Prelude.{◌≡◌, ◌++◌, ◌<◌, ℕ, List, Some, IfOk, IfErr, IsErrOf, OnOk, option_to_list};
 ghost use Rattle.apfs_model.specs.Counts.{Rose};
 ghost use Rattle.apfs_model.specs.Source.{IsKept};
-ghost use Rattle.obj_base.specs.Stops.{Gives, Tells};
+ghost use Rattle.obj_base.specs.Stops.{Gives, Tells, IsFree};
 ghost use Rattle.obj_base.specs.declared.stop.Stop.TheVariants.{ReadFault, NoMemory};
 ghost use Rattle.bt_node.specs.Site.{IsSiteFor};
 ghost use Rattle.nx_block.specs.Super as super_block;
 ghost use Rattle.nx_ring.specs.Checkpoint.{site_of};
 ghost use Rattle.vol_view.specs.Stops.{IsHeadsStop, IsHeadsFeature, AreRight, AreHeads};
-ghost use Rattle.vol_view.specs.Slots.{IsFree, slot_of};
+ghost use Rattle.vol_view.specs.Slots.{slot_of};
 
 use crate::map::container_map;
 use crate::place::locate;

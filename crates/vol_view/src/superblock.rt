@@ -6,10 +6,11 @@ ghost use Rattle.obj_base.specs.Stops.{Gives};
 ghost use Rattle.obj_base.specs.declared.stop.Stop.TheVariants.{ReadFault, NoMemory};
 ghost use Rattle.bt_node.specs.Site.{IsSiteFor};
 ghost use Rattle.vol_view.specs.Heads.{super_in, head_of};
-ghost use Rattle.vol_view.specs.Slots.{IsFree, tested};
+ghost use Rattle.vol_view.specs.Slots.{tested};
 
 use crate::head::{incompat, magic, name, role, snapshots, uuid};
 use crate::{VolHead, VolStop};
+use blk_read::read_new;
 use blk_source::{BlockSource, Bytes};
 use bt_node::Site;
 use obj_base::{Bad, Expect, Stop, sound};
@@ -71,28 +72,6 @@ fn test(bytes: &[u8], oid: u64, block: u64, site: &Site) -> Result<(), Stop<VolS
     }
 }
 
-// Reads a block of a container.
-#[tactic(auto, unfolding(apfs_model::specs::Blocks::block_of))]
-fn read_block<S: BlockSource>(
-    alloc: Global,
-    src: &mut S,
-    block: u64,
-    site: &Site,
-) -> Result<Vec<u8>, Stop<VolStop>>
-    requires site { IsSiteFor site.now (S.bytes_len src.old) }
-    requires below { block < site.now.blocks }
-    ensures found { (image : List ℕ) → S.bytes src.old ≡ Some image → IfOk result (λ bytes. bytes.items ≡ super_in image site.now block) }
-    ensures long { IfOk result (λ bytes. length bytes.items ≡ 4096) }
-    ensures free { IfErr result IsFree }
-    ensures cause { IsErrOf result ReadFault → Rose (S.faults src.old) (S.faults src.new) }
-    ensures kept { IsKept S.bytes S.bytes_len S.faults src.old src.new }
-{
-    let _size = src.size();
-    let mut bytes = vec![in alloc; 0u8; site.block_size as usize]?;
-    src.read_at(u64::from(site.block_size) * block, &mut bytes)?;
-    Ok(bytes)
-}
-
 /// The superblock of a volume in a block, or the first test that fails.
 pub(crate) fn superblock<S: BlockSource>(
     alloc: Global,
@@ -109,7 +88,7 @@ pub(crate) fn superblock<S: BlockSource>(
     ensures cause { IsErrOf result ReadFault → Rose (S.faults src.old) (S.faults src.new) }
     ensures kept { IsKept S.bytes S.bytes_len S.faults src.old src.new }
 {
-    let bytes = read_block(alloc, src, block, site)?;
+    let bytes = read_new(alloc, src, block, site.block_size)?;
     test(&bytes, oid, block, site)?;
     Ok(bytes)
 }

@@ -1,4 +1,4 @@
-use Rattle.std.proofs.Common.{◌≡◌, ◌∙◌, ◌+◌, ◌<◌, ◌++◌, ℕ, sym, ap, arith, below_more, option_to_list}
+use Rattle.std.proofs.Common.{◌≡◌, ◌∙◌, ◌<◌, ◌++◌, ℕ, sym, ap, arith, below_more, option_to_list}
 use Rattle.nx_block.specs.Super.{slots}
 use Rattle.vol_view.specs.Heads.{heads_in, heads_of}
 use Rattle.vol_view.specs.Slots.{IsRight}
