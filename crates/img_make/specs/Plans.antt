@@ -1,5 +1,6 @@
 -- Which plans an image is made of.
-use Rattle.std.specs.Prelude.{◌≡◌, ℕ, ◌+◌, ◌≤◌, [], sum_by, All, IsNone, vec_len}
+use Rattle.std.specs.Prelude.{◌≡◌, ℕ, ◌+◌, ◌≤◌, [], ◌∷◌, List, sum_by, All, IsNone, vec_len, codes}
+use Rattle.fs_name.specs.declared.naming.Names.TheVariants.{Folded}
 use Rattle.img_make.specs.declared.plan.Leaf.{Leaf}
 use Rattle.img_make.specs.declared.plan.Version.{Version}
 use Rattle.img_make.specs.declared.plan.VolPlan.{VolPlan}
@@ -32,3 +33,30 @@ pub record IsValid (plan : Plan) : Type 0 where
   pub volumes : All IsVolume plan.volumes.items
   pub none_queued : plan.queued.items ≡ []
   pub no_jumpstart : plan.jumpstart.items ≡ []
+
+-- The only leaf of a tree without files: the root's oid, and the records of two directories and of their names.
+pub record IsBareLeaf (leaf : Leaf) : Type 0 where
+  pub root_oid : leaf.oid ≡ 1028
+  pub four_items : vec_len leaf.items ≡ 4
+
+-- A version without files: it is of transaction 1, and has one leaf.
+pub record IsBareVersion (version : Version) : Type 0 where
+  pub first_xid : version.xid ≡ 1
+  pub one_leaf : vec_len version.leaves ≡ 1
+  pub bare_leaf : All IsBareLeaf version.leaves.items
+
+-- The identifier of the small container's volume.
+abbrev pub small_uuid : List ℕ
+small_uuid =
+    0xff ∷ 0xee ∷ 0xdd ∷ 0xcc ∷ 0xbb ∷ 0xaa ∷ 0x99 ∷ 0x88 ∷
+    0x77 ∷ 0x66 ∷ 0x55 ∷ 0x44 ∷ 0x33 ∷ 0x22 ∷ 0x11 ∷ 0x00 ∷ []
+
+-- The volume of the small container: it is named Small, takes capital and small letters for the same, and has no files.
+pub record IsSmall (volume : VolPlan) : Type 0 where
+  pub named_small : volume.name.items ≡ codes "Small"
+  pub own_uuid : volume.uuid ≡ small_uuid
+  pub folded_names : volume.names ≡ Folded
+  pub one_version : vec_len volume.versions ≡ 1
+  pub bare_version : All IsBareVersion volume.versions.items
+  pub no_extents : volume.extents.items ≡ []
+  pub no_contents : volume.contents.items ≡ []

@@ -1,5 +1,5 @@
 // Records of files in a file-system tree (File-System Objects).
-ghost use Rattle.std.specs.Prelude.{◌≤◌, length};
+ghost use Rattle.std.specs.Prelude.{◌≡◌, ◌+◌, ◌≤◌, IfOk, length, vec_len};
 
 use crate::header::MOST_ID;
 use crate::node::Item;
@@ -55,7 +55,10 @@ pub(crate) struct InodePlan {
 }
 
 /// The record of an inode. Its private id is its own.
-pub(crate) fn inode(alloc: Global, plan: &InodePlan) -> Result<Item, AllocError> {
+pub(crate) fn inode(alloc: Global, plan: &InodePlan) -> Result<Item, AllocError>
+    ensures key { IfOk result (λ item. vec_len item.0 ≡ 8) }
+    ensures value { IfOk result (λ item. vec_len item.1 ≡ 92) }
+{
     let mut key = vec![in alloc; 0u8; KEY_BYTES]?;
     put_u64(&mut key, ID_AND_KIND, (plan.id & MOST_ID) | INODE_KIND);
     let mut value = vec![in alloc; 0u8; INODE_BYTES]?;
@@ -76,6 +79,8 @@ pub(crate) fn entry(
     kind: u16,
 ) -> Result<Item, AllocError>
     requires { length name.now ≤ 1022 }
+    ensures key { IfOk result (λ item. vec_len item.0 ≡ 13 + length name.now) }
+    ensures value { IfOk result (λ item. vec_len item.1 ≡ 18) }
 {
     let mut key = vec![in alloc; 0u8; HASHED_NAME + name.len() + 1]?;
     put_u64(&mut key, ID_AND_KIND, (directory & MOST_ID) | ENTRY_KIND);

@@ -1,4 +1,7 @@
 // The plans that tests begin with, made.
+ghost use Rattle.std.specs.Prelude.{◌≡◌, All, IfOk, vec_len};
+ghost use Rattle.img_make.specs.Plans.{IsBareLeaf, IsBareVersion, IsLeaf, IsLive, IsSmall, IsValid, IsVolume};
+
 use crate::file::{DIRECTORY, DIRECTORY_MODE, InodePlan, entry, inode};
 use crate::node::Item;
 use crate::{Leaf, Plan, Sample, Version, VolPlan};
@@ -27,7 +30,10 @@ const VOLUME_UUID: [u8; 16] = [
 ];
 
 // The inode of one of the two directories that each volume has.
-fn directory(alloc: Global, id: u64) -> Result<Item, AllocError> {
+fn directory(alloc: Global, id: u64) -> Result<Item, AllocError>
+    ensures key { IfOk result (λ item. vec_len item.0 ≡ 8) }
+    ensures value { IfOk result (λ item. vec_len item.1 ≡ 92) }
+{
     let plan = InodePlan {
         id,
         parent: ABOVE_ROOT,
@@ -37,62 +43,84 @@ fn directory(alloc: Global, id: u64) -> Result<Item, AllocError> {
     inode(alloc, &plan)
 }
 
-// The records of a volume without files, in their order.
-fn first_records(alloc: Global) -> Result<Vec<Item>, AllocError> {
-    let mut items = Vec::new(alloc);
-    items.push(entry(
+// The leaf of a volume without files: its records in their order.
+fn bare_leaf(alloc: Global) -> Result<Leaf, AllocError>
+    ensures fits { IfOk result IsLeaf }
+    ensures bare { IfOk result IsBareLeaf }
+{
+    let private = entry(
         alloc,
         ABOVE_ROOT,
         b"private-dir",
         PRIVATE_HASH,
         PRIVATE,
         DIRECTORY,
-    )?)?;
-    items.push(entry(alloc, ABOVE_ROOT, b"root", ROOT_HASH, ROOT, DIRECTORY)?)?;
-    items.push(directory(alloc, ROOT)?)?;
-    items.push(directory(alloc, PRIVATE)?)?;
-    Ok(items)
-}
-
-// The live version of a file-system tree of one node.
-fn only_version(alloc: Global, items: Vec<Item>) -> Result<Vec<Version>, AllocError> {
-    let mut leaves = Vec::new(alloc);
-    leaves.push(Leaf {
+    )?;
+    let root = entry(alloc, ABOVE_ROOT, b"root", ROOT_HASH, ROOT, DIRECTORY)?;
+    let items = vec![in alloc;
+        private,
+        root,
+        directory(alloc, ROOT)?,
+        directory(alloc, PRIVATE)?,
+    ]?;
+    Ok(Leaf {
         oid: ROOT_OID,
         items,
-    })?;
-    let mut versions = Vec::new(alloc);
-    versions.push(Version {
-        xid: 1,
-        snapshot: None,
-        leaves,
-    })?;
-    Ok(versions)
+    })
 }
 
-// The plan of the small container.
-fn small(alloc: Global) -> Result<Plan, AllocError> {
-    let items = first_records(alloc)?;
-    let mut volumes = Vec::new(alloc);
-    volumes.push(VolPlan {
+// The live version of a volume without files.
+fn bare_version(alloc: Global) -> Result<Version, AllocError>
+    ensures live { IfOk result IsLive }
+    ensures bare { IfOk result IsBareVersion }
+{
+    Ok(Version {
+        xid: 1,
+        snapshot: None,
+        leaves: vec![in alloc; bare_leaf(alloc)?]?,
+    })
+}
+
+// The volume of the small container.
+fn small_volume(alloc: Global) -> Result<VolPlan, AllocError>
+    ensures valid { IfOk result IsVolume }
+    ensures small { IfOk result IsSmall }
+{
+    Ok(VolPlan {
         name: b"Small".to_vec(alloc)?,
         uuid: VOLUME_UUID,
         names: Names::Folded,
-        versions: only_version(alloc, items)?,
+        versions: vec![in alloc; bare_version(alloc)?]?,
         extents: Vec::new(alloc),
         contents: Vec::new(alloc),
-    })?;
+    })
+}
+
+// The plan of the small container.
+fn small(alloc: Global) -> Result<Plan, AllocError>
+    ensures valid { IfOk result IsValid }
+    ensures blocks { IfOk result (λ plan. plan.blocks ≡ 256) }
+    ensures xid { IfOk result (λ plan. plan.xid ≡ 1) }
+    ensures one_volume { IfOk result (λ plan. vec_len plan.volumes ≡ 1) }
+    ensures volume { IfOk result (λ plan. All IsSmall plan.volumes.items) }
+{
     Ok(Plan {
         blocks: 256,
         xid: 1,
-        volumes,
+        volumes: vec![in alloc; small_volume(alloc)?]?,
         queued: Vec::new(alloc),
         jumpstart: Vec::new(alloc),
     })
 }
 
 /// The plan of a sample: a container of 256 blocks with one volume, all at transaction 1 and with times of 0.
-pub fn sample(alloc: Global, which: Sample) -> Result<Plan, NoMemory> {
+pub fn sample(alloc: Global, which: Sample) -> Result<Plan, NoMemory>
+    ensures valid { IfOk result IsValid }
+    ensures blocks { IfOk result (λ plan. plan.blocks ≡ 256) }
+    ensures xid { IfOk result (λ plan. plan.xid ≡ 1) }
+    ensures one_volume { IfOk result (λ plan. vec_len plan.volumes ≡ 1) }
+    ensures volume { IfOk result (λ plan. All IsSmall plan.volumes.items) }
+{
     let plan = match which {
         Sample::S | Sample::H | Sample::V | Sample::L | Sample::P | Sample::C => small(alloc),
     };
