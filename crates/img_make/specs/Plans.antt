@@ -52,7 +52,7 @@ small_uuid =
     0x77 ∷ 0x66 ∷ 0x55 ∷ 0x44 ∷ 0x33 ∷ 0x22 ∷ 0x11 ∷ 0x00 ∷ []
 
 -- The volume of the small container: it is named Small, takes capital and small letters for the same, and has no files.
-pub record IsSmall (volume : VolPlan) : Type 0 where
+pub record IsSmallVolume (volume : VolPlan) : Type 0 where
   pub named_small : volume.name.items ≡ codes "Small"
   pub own_uuid : volume.uuid ≡ small_uuid
   pub folded_names : volume.names ≡ Folded
@@ -60,3 +60,10 @@ pub record IsSmall (volume : VolPlan) : Type 0 where
   pub bare_version : All IsBareVersion volume.versions.items
   pub no_extents : volume.extents.items ≡ []
   pub no_contents : volume.contents.items ≡ []
+
+-- The plan of the small container: 256 blocks, all at transaction 1, with the small volume alone.
+pub record IsSmall (plan : Plan) : Type 0 where
+  pub blocks : plan.blocks ≡ 256
+  pub first_xid : plan.xid ≡ 1
+  pub one_volume : vec_len plan.volumes ≡ 1
+  pub small_volume : All IsSmallVolume plan.volumes.items

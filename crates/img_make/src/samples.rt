@@ -1,6 +1,7 @@
 // The plans that tests begin with, made.
-ghost use Rattle.std.specs.Prelude.{◌≡◌, All, IfOk, vec_len};
-ghost use Rattle.img_make.specs.Plans.{IsBareLeaf, IsBareVersion, IsLeaf, IsLive, IsSmall, IsValid, IsVolume};
+ghost use Rattle.std.specs.Prelude.{◌≡◌, IfOk, vec_len};
+ghost use Rattle.img_make.specs.declared.which.Sample.TheVariants.{S};
+ghost use Rattle.img_make.specs.Plans.{IsBareLeaf, IsBareVersion, IsLeaf, IsLive, IsSmall, IsSmallVolume, IsValid, IsVolume};
 
 use crate::file::{DIRECTORY, DIRECTORY_MODE, InodePlan, entry, inode};
 use crate::node::Item;
@@ -84,7 +85,7 @@ fn bare_version(alloc: Global) -> Result<Version, AllocError>
 // The volume of the small container.
 fn small_volume(alloc: Global) -> Result<VolPlan, AllocError>
     ensures valid { IfOk result IsVolume }
-    ensures small { IfOk result IsSmall }
+    ensures small { IfOk result IsSmallVolume }
 {
     Ok(VolPlan {
         name: b"Small".to_vec(alloc)?,
@@ -99,10 +100,7 @@ fn small_volume(alloc: Global) -> Result<VolPlan, AllocError>
 // The plan of the small container.
 fn small(alloc: Global) -> Result<Plan, AllocError>
     ensures valid { IfOk result IsValid }
-    ensures blocks { IfOk result (λ plan. plan.blocks ≡ 256) }
-    ensures xid { IfOk result (λ plan. plan.xid ≡ 1) }
-    ensures one_volume { IfOk result (λ plan. vec_len plan.volumes ≡ 1) }
-    ensures volume { IfOk result (λ plan. All IsSmall plan.volumes.items) }
+    ensures small { IfOk result IsSmall }
 {
     Ok(Plan {
         blocks: 256,
@@ -113,13 +111,12 @@ fn small(alloc: Global) -> Result<Plan, AllocError>
     })
 }
 
-/// The plan of a sample: a container of 256 blocks with one volume, all at transaction 1 and with times of 0.
+/// The plan of a sample, which `make` takes: a container of 256 blocks with one volume and with times of 0.
 pub fn sample(alloc: Global, which: Sample) -> Result<Plan, NoMemory>
     ensures valid { IfOk result IsValid }
     ensures blocks { IfOk result (λ plan. plan.blocks ≡ 256) }
-    ensures xid { IfOk result (λ plan. plan.xid ≡ 1) }
     ensures one_volume { IfOk result (λ plan. vec_len plan.volumes ≡ 1) }
-    ensures volume { IfOk result (λ plan. All IsSmall plan.volumes.items) }
+    ensures small { which ≡ S → IfOk result IsSmall }
 {
     let plan = match which {
         Sample::S | Sample::H | Sample::V | Sample::L | Sample::P | Sample::C => small(alloc),
