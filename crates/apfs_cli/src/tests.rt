@@ -3,7 +3,7 @@ mod images;
 
 use crate::run::run;
 use blk_source::{MemSink, Opened};
-use images::{Image, handed};
+use images::*;
 use std::alloc::Global;
 use std::test::Fail;
 
@@ -162,7 +162,7 @@ const CASES: &[Case] = &[
     ("clean_volumes_none", Image::Empty, VOLUMES, 0, "", ""),
     (
         "clean_volumes_flagless",
-        Image::SmallFlagless,
+        Image::SmallChanged(VOLUME, VOLUME_FLAGS, &[0]),
         VOLUMES,
         0,
         SMALL_LINE,
@@ -170,7 +170,7 @@ const CASES: &[Case] = &[
     ),
     (
         "clean_volumes_renamed",
-        Image::SmallRenamed,
+        Image::SmallChanged(VOLUME, VOLUME_NAME, b"a\nb/\0"),
         VOLUMES,
         0,
         RENAMED_LINE,
@@ -178,7 +178,7 @@ const CASES: &[Case] = &[
     ),
     (
         "fault_unnamed_volume",
-        Image::SmallFlags(1),
+        Image::SmallChanged(MAP_TREE, ONLY_VALUE, &[1]),
         VOLUMES,
         1,
         "",
@@ -194,7 +194,7 @@ const CASES: &[Case] = &[
     ),
     (
         "fault_magic_volume",
-        Image::SmallMagic,
+        Image::SmallChanged(VOLUME, MAGIC, b"NXSB"),
         VOLUMES,
         1,
         "",
@@ -202,7 +202,7 @@ const CASES: &[Case] = &[
     ),
     (
         "feature_container_snapshots",
-        Image::SmallMapSnapshots,
+        Image::SmallChanged(MAP, MAP_SNAPSHOTS, &[1]),
         VOLUMES,
         6,
         "",
@@ -210,7 +210,7 @@ const CASES: &[Case] = &[
     ),
     (
         "feature_revert",
-        Image::SmallReverting,
+        Image::SmallChanged(MAP, MAP_REVERT, &[1]),
         VOLUMES,
         6,
         "",
@@ -218,7 +218,7 @@ const CASES: &[Case] = &[
     ),
     (
         "feature_encrypted",
-        Image::SmallFlags(4),
+        Image::SmallChanged(MAP_TREE, ONLY_VALUE, &[4]),
         VOLUMES,
         6,
         "",
@@ -226,7 +226,7 @@ const CASES: &[Case] = &[
     ),
     (
         "feature_no_header",
-        Image::SmallFlags(8),
+        Image::SmallChanged(MAP_TREE, ONLY_VALUE, &[8]),
         VOLUMES,
         6,
         "",
@@ -234,11 +234,107 @@ const CASES: &[Case] = &[
     ),
     (
         "feature_size",
-        Image::SmallSize,
+        Image::SmallChanged(MAP_TREE, ONLY_VALUE + 4, &[0, 32]),
         VOLUMES,
         6,
         "",
         "apfs: unsupported: Size block 51\n",
+    ),
+    (
+        "feature_sealed",
+        Image::SmallChanged(MAP_TREE, NODE_FLAGS, &[15]),
+        VOLUMES,
+        6,
+        "",
+        "apfs: unsupported: Sealed block 26\n",
+    ),
+    (
+        "feature_deep",
+        Image::SmallChanged(MAP_TREE, NODE_FLAGS, &[5, 0, 16]),
+        VOLUMES,
+        6,
+        "",
+        "apfs: unsupported: Deep block 26\n",
+    ),
+    (
+        "fault_tree_counts",
+        Image::SmallChanged(MAP_TREE, KEY_COUNT, &[2]),
+        VOLUMES,
+        1,
+        "",
+        "apfs: fault: Counts root 26\n",
+    ),
+    (
+        "fault_tree_order",
+        Image::TwoExchanged,
+        VOLUMES,
+        1,
+        "",
+        "apfs: fault: Order root 26 item 1\n",
+    ),
+    (
+        "fault_bad_kind",
+        Image::SmallChanged(VOLUME, TYPE, &[14]),
+        VOLUMES,
+        1,
+        "",
+        "apfs: fault: Unsound block 51 BadKind\n",
+    ),
+    (
+        "fault_bad_subtype",
+        Image::SmallChanged(MAP_TREE, SUBTYPE, &[12]),
+        VOLUMES,
+        1,
+        "",
+        "apfs: fault: Unsound block 26 BadSubtype\n",
+    ),
+    (
+        "fault_bad_oid",
+        Image::SmallChanged(VOLUME, OID, &[3]),
+        VOLUMES,
+        1,
+        "",
+        "apfs: fault: Unsound block 51 BadOid\n",
+    ),
+    (
+        "fault_bad_xid",
+        Image::SmallChanged(VOLUME, XID, &[2]),
+        VOLUMES,
+        1,
+        "",
+        "apfs: fault: Unsound block 51 BadXid\n",
+    ),
+    (
+        "fault_node_flags",
+        Image::SmallChanged(MAP_TREE, NODE_FLAGS, &[5]),
+        VOLUMES,
+        1,
+        "",
+        "apfs: fault: Unsound block 26 Flags\n",
+    ),
+    (
+        "fault_node_bounds",
+        Image::SmallChanged(MAP_TREE, TABLE_LEN + 1, &[16]),
+        VOLUMES,
+        1,
+        "",
+        "apfs: fault: Unsound block 26 Bounds\n",
+    ),
+    (
+        "fault_node_empty",
+        Image::SmallChanged(MAP_TREE, NODE_FLAGS, &[5, 0, 1, 0, 0]),
+        VOLUMES,
+        1,
+        "",
+        "apfs: fault: Unsound block 26 Empty\n",
+    ),
+    (
+        "fault_node_ghost",
+        Image::SmallChanged(MAP_TREE, TABLE + 2, &[255, 255]),
+        VOLUMES,
+        1,
+        "",
+        "apfs: fault: Unsound block 26 Ghost\n",
     ),
 ];
 

@@ -7,12 +7,23 @@ use std::test::Fail;
 
 const BLOCK: usize = 4096;
 
+// Blocks of the small container: the container's object map, the only node of its tree, and the volume's superblock.
+pub const MAP: usize = 25;
+
+pub const MAP_TREE: usize = 26;
+
+pub const VOLUME: usize = 51;
+
 // The fields that the images are changed at, by offset in their block.
 const SUM: usize = 0;
 
-const OID: usize = 8;
+pub const OID: usize = 8;
 
-const XID: usize = 16;
+pub const XID: usize = 16;
+
+pub const TYPE: usize = 24;
+
+pub const SUBTYPE: usize = 28;
 
 const FEATURES: usize = 64;
 
@@ -20,18 +31,30 @@ const DESC_INDEX: usize = 136;
 
 const BLOCKED_OUT_BLOCKS: usize = 1248;
 
-const MAGIC: usize = 32;
+pub const MAGIC: usize = 32;
 
-const MAP_SNAPSHOTS: usize = 36;
+pub const MAP_SNAPSHOTS: usize = 36;
 
-const MAP_REVERT: usize = 72;
+pub const MAP_REVERT: usize = 72;
 
-const VOLUME_FLAGS: usize = 264;
+pub const VOLUME_FLAGS: usize = 264;
 
-const VOLUME_NAME: usize = 704;
+pub const VOLUME_NAME: usize = 704;
+
+// The fields of a node, and of a root's information, by offset in the block.
+pub const NODE_FLAGS: usize = 32;
+
+pub const TABLE_LEN: usize = 42;
+
+pub const KEY_COUNT: usize = 4080;
+
+// Where the table of contents begins; of each of its entries the first two bytes point to the key.
+pub const TABLE: usize = 56;
+
+const TABLE_ENTRY: usize = 4;
 
 // Where the value of the only entry of a root of level 0 begins, when it has 16 bytes.
-const ONLY_VALUE: usize = 4040;
+pub const ONLY_VALUE: usize = 4040;
 
 // What a case is run on.
 #[derive(Clone, Copy, PartialEq, Eq, Debug)]
@@ -59,20 +82,10 @@ pub enum Image {
     Small,
     /// The sum of its volume's superblock is wrong.
     SmallUnsummed,
-    /// The container's map counts a snapshot.
-    SmallMapSnapshots,
-    /// The flags of its volume are 0, so it counts as encrypted.
-    SmallFlagless,
-    /// The name of its volume has a newline and a slash.
-    SmallRenamed,
-    /// Its volume's superblock lacks its magic.
-    SmallMagic,
-    /// A revert of the container's map is pending.
-    SmallReverting,
-    /// The record of its volume has these flags.
-    SmallFlags(u8),
-    /// The record of its volume has a size of two blocks.
-    SmallSize,
+    /// The block of this number has other bytes from a place on, and a right sum.
+    SmallChanged(usize, usize, &'static [u8]),
+    /// A container with two such volumes, the keys of whose records are exchanged.
+    TwoExchanged,
 }
 
 // Writes bytes at a place.
@@ -112,8 +125,8 @@ fn superblock(xid: u64, desc_index: u32, desc_blocks: u32) -> [u8; BLOCK] {
     let mut block = [0u8; BLOCK];
     put(&mut block, OID, &1u64.to_le_bytes());
     put(&mut block, XID, &xid.to_le_bytes());
-    put(&mut block, 24, &0x8000_0001u32.to_le_bytes());
-    put(&mut block, 32, b"NXSB");
+    put(&mut block, TYPE, &0x8000_0001u32.to_le_bytes());
+    put(&mut block, MAGIC, b"NXSB");
     put(&mut block, 36, &4096u32.to_le_bytes());
     put(&mut block, 40, &256u64.to_le_bytes());
     put(&mut block, 104, &desc_blocks.to_le_bytes());
@@ -156,6 +169,23 @@ fn made(alloc: Global, plan: &Plan) -> Result<Vec<u8>, Fail> {
     Ok(Vec::new(alloc))
 }
 
+// A container with two volumes of the small one's kind.
+fn two(alloc: Global) -> Result<Vec<u8>, Fail> {
+    let mut plan = sample(alloc, Sample::S)?;
+    let mut other = sample(alloc, Sample::S)?;
+    if let Some(volume) = other.volumes.pop() {
+        plan.volumes.push(volume)?;
+    }
+    made(alloc, &plan)
+}
+
+// Exchanges the keys of the first two entries of a node whose keys have 16 bytes each.
+fn exchange_keys(image: &mut [u8], block: usize) {
+    put_in(image, block, TABLE, &16u16.to_le_bytes());
+    put_in(image, block, TABLE + TABLE_ENTRY, &0u16.to_le_bytes());
+    seal(image, block);
+}
+
 // Adds a checkpoint of transaction 2: its map in block 3, its superblock in 4, its objects in 13 to 16.
 fn add_checkpoint(image: &mut [u8]) {
     for (from, to) in [(1, 3), (2, 4), (9, 13), (10, 14), (11, 15), (12, 16)] {
@@ -181,6 +211,7 @@ fn bytes(alloc: Global, image: Image) -> Result<Vec<u8>, Fail> {
         | Image::EmptyFeatures(_)
         | Image::EmptyResizing
         | Image::EmptySkipped => empty(alloc),
+        Image::TwoExchanged => two(alloc),
         _ => made(alloc, &sample(alloc, Sample::S)?),
     }
 }
@@ -202,35 +233,12 @@ fn change(image: Image, bytes: &mut Vec<u8>) {
             add_checkpoint(bytes);
             put_in(bytes, 13, SUM, &[0, 0]);
         }
-        Image::SmallFlags(flags) => {
-            put_in(bytes, 26, ONLY_VALUE, &[flags]);
-            seal(bytes, 26);
+        Image::SmallChanged(block, at, other) => {
+            put_in(bytes, block, at, other);
+            seal(bytes, block);
         }
-        Image::SmallSize => {
-            put_in(bytes, 26, ONLY_VALUE + 4, &8192u32.to_le_bytes());
-            seal(bytes, 26);
-        }
-        Image::SmallReverting => {
-            put_in(bytes, 25, MAP_REVERT, &[1]);
-            seal(bytes, 25);
-        }
-        Image::SmallMagic => {
-            put_in(bytes, 51, MAGIC, b"NXSB");
-            seal(bytes, 51);
-        }
-        Image::SmallUnsummed => put_in(bytes, 51, SUM, &[0, 0]),
-        Image::SmallMapSnapshots => {
-            put_in(bytes, 25, MAP_SNAPSHOTS, &[1]);
-            seal(bytes, 25);
-        }
-        Image::SmallFlagless => {
-            put_in(bytes, 51, VOLUME_FLAGS, &[0]);
-            seal(bytes, 51);
-        }
-        Image::SmallRenamed => {
-            put_in(bytes, 51, VOLUME_NAME, b"a\nb/\0");
-            seal(bytes, 51);
-        }
+        Image::TwoExchanged => exchange_keys(bytes, MAP_TREE),
+        Image::SmallUnsummed => put_in(bytes, VOLUME, SUM, &[0, 0]),
         _ => {}
     }
 }
