@@ -1,0 +1,22 @@
+-- What the readers answer, by the place of an extended field.
+use Rattle.std.specs.Prelude.{◌≡◌, ℕ, ◌<◌, ◌≤◌, nat_lt, ◌&&◌, not, Bool, true, false, List, length, Option, None, Some, option_map, Result, Ok, Err, refl}
+use Rattle.std.proofs.Common.{arith, ap, sym, ◌∙◌, subst}
+use Rattle.std.proofs.lemmas.Grind.{common_steps}
+use Rattle.std.proofs.lemmas.Bool.Decides.{nat_tests}
+use Rattle.fs_record.specs.Fields.{field_of, have_fields_room, is_field_long, field_place}
+use Rattle.fs_record.specs.Inodes.{inode_in, inode_of, stream_at, stream_of, parent_of, private_id_of, links_of, bsd_flags_of, mode_of}
+use Rattle.fs_record.specs.declared.fields.Field.{Field}
+use Rattle.fs_record.specs.declared.fault.RecFault.{RecFault}
+use Rattle.fs_record.specs.declared.fault.RecFault.TheVariants.{Length, Fields}
+
+pub inode_short : (value : List ℕ) → length value < 92 → inode_of value ≡ Err Length
+unfolding inode_of
+inode_short value e = grind (arith, nat_tests, common_steps)
+
+pub inode_bad : (value : List ℕ) (why : RecFault) → 92 ≤ length value → field_place value 92 8 40 ≡ Err why → inode_of value ≡ Err why
+unfolding inode_of field_place
+inode_bad value why long e = grind (arith, nat_tests, common_steps)
+
+pub inode_read : (value : List ℕ) (place : Option ℕ) → 92 ≤ length value → field_place value 92 8 40 ≡ Ok place → inode_of value ≡ Ok (record { parent = parent_of value; private_id = private_id_of value; links = links_of value; bsd_flags = bsd_flags_of value; mode = mode_of value; stream = option_map (stream_at value) place })
+unfolding inode_of field_place stream_of
+inode_read value place long e = grind (arith, nat_tests, common_steps)

@@ -1,0 +1,4 @@
+pub mod Fields
+pub mod Search
+pub mod Inodes
+pub mod Extents
