@@ -26,7 +26,8 @@ chars_of_made made cs e = encodes_same (chars (string_bytes made)) cs (encodes-c
 pub same_text : (a b : List ℕ) → IsUtf8 a → IsUtf8 b → chars a ≡ chars b → a ≡ b
 same_text a b text_a text_b e = sym (encodes-chars a text_a) ∙ ap encode_utf8_all e ∙ encodes-chars b text_b
 
-same_test : (b t : Bool) → (b ≡ true → t ≡ true) → (t ≡ true → b ≡ true) → b ≡ t
+-- two tests that hold together
+pub same_test : (b t : Bool) → (b ≡ true → t ≡ true) → (t ≡ true → b ≡ true) → b ≡ t
 same_test true t there back = sym (there refl)
 same_test false true there back = back refl
 same_test false false there back = refl

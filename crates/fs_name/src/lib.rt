@@ -1,15 +1,17 @@
-//! Names: their normal forms, their hashes, and which of them are the same.
+//! Names: their normal forms, their hashes, which of them are the same, and how they are stored.
 #![tactic(auto)]
 
 mod crc;
 mod hash;
 mod naming;
 mod normal;
+mod text;
 
 pub use crc::crc32c;
 pub use hash::{ascii_hash, name_hash};
 pub use naming::Names;
 pub use normal::same_name;
+pub use text::stored_name;
 
 #[cfg(test)]
 mod tests;

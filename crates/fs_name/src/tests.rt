@@ -74,3 +74,20 @@ fn same_names(rt: HostRuntime) -> Result<(), Fail> {
     }
     Ok(())
 }
+
+// Which bytes are stored names.
+#[test]
+fn stored_names(rt: HostRuntime) {
+    for (raw, want) in [
+        (b"a\0".as_slice(), Some("a")),
+        ("\u{e9}\0".as_bytes(), Some("\u{e9}")),
+        (b"", None),
+        (b"\0", None),
+        (b"a", None),
+        (b"a\0\0", None),
+        (b"a\0b\0", None),
+        (b"\xff\0", None),
+    ] {
+        assert_eq!(rt; stored_name(raw), want, "{raw:?}");
+    }
+}
