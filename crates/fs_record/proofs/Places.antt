@@ -1,11 +1,11 @@
 -- A search over extended fields, field by field.
-use Rattle.std.specs.Prelude.{◌≡◌, ℕ, suc, ◌+◌, ◌-◌, ◌<◌, ◌≤◌, ◌*◌, length, ◌==◌, ◌&&◌, nat_lt, nat_le, not, Bool, true, false, List, [], ◌∷◌, map, Option, None, Some, IfSome, Result, Ok, Err, refl}
-use Rattle.std.specs.List.{range_with_len, list_all, find}
-use Rattle.std.proofs.Common.{arith, ap, sym, ◌∙◌, subst}
+use Rattle.std.specs.Prelude.{◌≡◌, ℕ, suc, ◌+◌, ◌-◌, ◌<◌, ◌≤◌, ◌*◌, length, true, false, List, [], ◌∷◌, map, Option, None, Some, IfSome, Ok, Err, refl}
+use Rattle.std.specs.List.{range_with_len}
+use Rattle.std.proofs.Common.{arith, ap, sym, subst}
 use Rattle.std.proofs.lemmas.Grind.{common_steps}
 use Rattle.std.proofs.lemmas.Bool.Decides.{nat_tests}
-use Rattle.fs_record.specs.Fields.{Size, size_at, sizes_of, field_count_of, laid_out, placed, padded, fields_of, field_of, has_table, have_fields_room, is_field_long, field_place}
-use Rattle.fs_record.specs.Search.{fits, field_seen, found_in, place_after}
+use Rattle.fs_record.specs.Fields.{size_at, sizes_of, field_count_of, laid_out, placed, padded, fields_of, field_of, has_table, have_fields_room, is_field_long, field_place}
+use Rattle.fs_record.specs.Search.{fits, field_seen, place_after}
 use Rattle.fs_record.specs.declared.fields.Field.{Field}
 use Rattle.fs_record.specs.declared.fault.RecFault.{RecFault}
 use Rattle.fs_record.specs.declared.fault.RecFault.TheVariants.{Fields}

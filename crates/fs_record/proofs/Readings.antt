@@ -1,17 +1,16 @@
 -- What the readers answer, by the place of an extended field.
-use Rattle.std.specs.Prelude.{◌≡◌, ℕ, ◌<◌, ◌≤◌, ◌%◌, nat_lt, ◌&&◌, not, Bool, true, false, List, length, Option, None, Some, option_map, Result, Ok, Err, refl}
-use Rattle.std.proofs.Common.{arith, ap, sym, ◌∙◌, subst}
+use Rattle.std.specs.Prelude.{◌≡◌, ℕ, ◌<◌, ◌≤◌, ◌%◌, List, length, Option, None, Some, option_map, Ok, Err}
+use Rattle.std.proofs.Common.{arith}
 use Rattle.std.proofs.lemmas.Grind.{common_steps}
 use Rattle.std.proofs.lemmas.Bool.Decides.{nat_tests}
 use Rattle.apfs_model.specs.Bytes.{u16_at, u64_at}
 use Rattle.fs_name.specs.declared.naming.Names.{Names}
 use Rattle.fs_name.specs.Text.{name_of}
-use Rattle.fs_record.specs.Fields.{field_of, have_fields_room, is_field_long, field_place}
-use Rattle.fs_record.specs.Inodes.{inode_in, inode_of, stream_at, stream_of, parent_of, private_id_of, links_of, bsd_flags_of, mode_of}
-use Rattle.fs_record.specs.Entries.{entry_of, entry_in, entry_hash, entry_name_bytes, sibling_of}
-use Rattle.fs_record.specs.declared.fields.Field.{Field}
+use Rattle.fs_record.specs.Fields.{field_place}
+use Rattle.fs_record.specs.Inodes.{inode_of, stream_at, stream_of, parent_of, private_id_of, links_of, bsd_flags_of, mode_of}
+use Rattle.fs_record.specs.Entries.{entry_of, entry_hash, entry_name_bytes, sibling_of}
 use Rattle.fs_record.specs.declared.fault.RecFault.{RecFault}
-use Rattle.fs_record.specs.declared.fault.RecFault.TheVariants.{Length, Fields, Name}
+use Rattle.fs_record.specs.declared.fault.RecFault.TheVariants.{Length, Name}
 
 pub inode_short : (value : List ℕ) → length value < 92 → inode_of value ≡ Err Length
 unfolding inode_of

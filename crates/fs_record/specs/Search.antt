@@ -1,5 +1,5 @@
 -- A search for the first extended field of a type, field by field.
-use Rattle.std.specs.Prelude.{ℕ, ◌+◌, Bool, ◌&&◌, ◌==◌, not, nat_le, nat_lt, List, Option, None, Some, option_map, Result, Ok, Err, if◌then◌else◌}
+use Rattle.std.specs.Prelude.{ℕ, ◌+◌, Bool, ◌==◌, not, nat_le, nat_lt, List, Option, None, Some, option_map, Result, Ok, Err, if◌then◌else◌}
 use Rattle.std.specs.List.{list_all, find}
 use Rattle.fs_record.specs.Fields.{is_field_long}
 use Rattle.fs_record.specs.declared.fields.Field.{Field}

@@ -93,12 +93,7 @@ fn see(
 
 // Searches the fields of a table.
 #[tactic(auto, unfolding(crate::specs::Fields::has_table))]
-fn search(
-    value: &[u8],
-    at: usize,
-    kind: u8,
-    least: usize,
-) -> Result<Option<usize>, RecFault>
+fn search(value: &[u8], at: usize, kind: u8, least: usize) -> Result<Option<usize>, RecFault>
     requires table { spec.has_table value.now at ≡ true }
     ensures found { result ≡ place_after (length value.now) kind least None (spec.laid_out (at + 4 + 4 * spec.field_count_of value.now at) (spec.sizes_of value.now at)) }
     ensures inside { IfOk result (λ place. IfSome place (λ begin. begin + least ≤ length value.now)) }
