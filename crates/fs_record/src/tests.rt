@@ -1,0 +1,177 @@
+// Records that were put together by hand, as a writer would, and with each part wrong alone.
+use crate::{
+    AttrBody, DirEntry, FileExt, RecFault, StreamSize, attr, entry, file_ext, inode, sibling_link,
+    sibling_map,
+};
+use fs_name::Names;
+use std::alloc::Global;
+use std::test::Fail;
+
+// An inode's value with a field of 5 bytes of type 4, and then a stream of 7 bytes in a block of 4,096.
+fn inode_value(alloc: Global) -> Result<Vec<u8>, Fail> {
+    let mut value = Vec::new(alloc);
+    value.extend_from_slice(&[2, 0, 0, 0, 0, 0, 0, 0, 16, 0, 0, 0, 0, 0, 0, 0])?;
+    value.extend_from_slice(&[0; 40])?;
+    value.extend_from_slice(&[1, 0, 0, 0, 0, 0, 0, 0, 0, 0, 0, 0, 0x20, 0, 0, 0])?;
+    value.extend_from_slice(&[0, 0, 0, 0, 0, 0, 0, 0, 0, 0x81])?;
+    value.extend_from_slice(&[0; 10])?;
+    value.extend_from_slice(&[2, 0, 48, 0, 4, 0, 5, 0, 8, 0, 40, 0])?;
+    value.extend_from_slice(&[9; 8])?;
+    value.extend_from_slice(&[7, 0, 0, 0, 0, 0, 0, 0, 0, 16])?;
+    value.extend_from_slice(&[0; 30])?;
+    Ok(value)
+}
+
+#[test]
+fn an_inode_is_read(rt: HostRuntime) -> Result<(), Fail> {
+    let value = inode_value(rt.alloc())?;
+    let read = inode(&value);
+    assert!(rt; read.is_ok());
+    if let Ok(inode) = read {
+        assert_eq!(rt;
+            (inode.parent(), inode.private_id(), inode.links()),
+            (2, 16, 1)
+        );
+        assert_eq!(rt;
+            (inode.bsd_flags(), inode.mode(), inode.kind()),
+            (0x20, 0x8100, 8)
+        );
+        let stream = StreamSize {
+            size: 7,
+            allocated: 4096,
+        };
+        assert_eq!(rt; inode.stream(), Some(stream));
+    }
+    for (len, why) in [
+        (91, RecFault::Length),
+        (95, RecFault::Fields),
+        (103, RecFault::Fields),
+        (151, RecFault::Fields),
+    ] {
+        let refused = inode(value.get(..len).unwrap_or(&[]));
+        assert!(rt;
+            matches!(refused, Err(found) if found == why),
+            "{len} bytes"
+        );
+    }
+    let bare = inode(value.get(..92).unwrap_or(&[]));
+    assert!(rt; matches!(bare, Ok(inode) if inode.stream().is_none()));
+    Ok(())
+}
+
+// The keys of the entry `hello` of directory 2 with the hash 0x12345, and of the entry and the attribute `hello` without
+// one.
+const HASHED_KEY: &[u8] = &[
+    2, 0, 0, 0, 0, 0, 0, 0x90, 6, 0x14, 0x8d, 4, b'h', b'e', b'l', b'l', b'o', 0,
+];
+
+const PLAIN_KEY: &[u8] = &[
+    2, 0, 0, 0, 0, 0, 0, 0x90, 6, 0, b'h', b'e', b'l', b'l', b'o', 0,
+];
+
+// The value of an entry of the regular file 16, with a field of the sibling 18.
+const ENTRY_VALUE: &[u8] = &[
+    16, 0, 0, 0, 0, 0, 0, 0, 0, 0, 0, 0, 0, 0, 0, 0, 8, 0, 1, 0, 8, 0, 1, 0, 8, 0, 18, 0, 0, 0, 0,
+    0, 0, 0,
+];
+
+const UNNAMED_KEY: &[u8] = &[2, 0, 0, 0, 0, 0, 0, 0x90, 1, 0, 0];
+
+fn is_hello(read: Result<DirEntry<'_>, RecFault>, hash: u32) -> bool {
+    match read {
+        Ok(entry) => {
+            entry.name() == "hello"
+                && entry.hash() == hash
+                && entry.file_id() == 16
+                && entry.kind() == 8
+                && entry.sibling() == Some(18)
+        }
+        Err(_) => false,
+    }
+}
+
+fn is_refused<T: Drop>(read: Result<T, RecFault>, why: RecFault) -> bool {
+    match read {
+        Ok(_) => false,
+        Err(found) => found == why,
+    }
+}
+
+#[test]
+#[tactic(auto, unfolding(bt_keys::specs::RecordKey::plain_name_len, bt_keys::specs::RecordKey::len_and_hash_of, apfs_model::specs::Bytes::u16_at, apfs_model::specs::Bytes::u32_at))]
+fn an_entry_is_read(rt: HostRuntime) {
+    assert!(rt; is_hello(entry(Names::Folded, HASHED_KEY, ENTRY_VALUE), 0x12345));
+    assert!(rt; is_hello(entry(Names::Exact, PLAIN_KEY, ENTRY_VALUE), 0));
+    let short = entry(Names::Exact, PLAIN_KEY, &ENTRY_VALUE[..17]);
+    assert!(rt; is_refused(short, RecFault::Length));
+    let cut = entry(Names::Exact, PLAIN_KEY, &ENTRY_VALUE[..33]);
+    assert!(rt; is_refused(cut, RecFault::Fields));
+    let unnamed = entry(Names::Exact, UNNAMED_KEY, &ENTRY_VALUE[..18]);
+    assert!(rt; is_refused(unnamed, RecFault::Name));
+}
+
+#[test]
+#[tactic(auto, unfolding(bt_keys::specs::RecordKey::plain_name_len, apfs_model::specs::Bytes::u16_at))]
+fn an_attribute_is_read(rt: HostRuntime) -> Result<(), Fail> {
+    let embedded = attr(PLAIN_KEY, &[2, 0, 3, 0, 7, 8, 9]);
+    assert!(rt; embedded.is_ok());
+    if let Ok(attr) = embedded {
+        assert_eq!(rt; attr.name(), "hello");
+        assert_eq!(rt; attr.body(), AttrBody::Embedded(&[7, 8, 9]));
+    }
+    let mut value = vec![in rt.alloc(); 0u8; 52]?;
+    value[..13].copy_from_slice(&[1, 0, 48, 0, 20, 0, 0, 0, 0, 0, 0, 0, 5]);
+    let streamed = attr(PLAIN_KEY, &value);
+    assert!(rt; streamed.is_ok());
+    if let Ok(attr) = streamed {
+        assert_eq!(rt; attr.body(), AttrBody::Stream { id: 20, size: 5 });
+    }
+    for (value, why) in [
+        ([2, 0, 0].as_slice(), RecFault::Length),
+        (&[2, 0, 1, 0], RecFault::Length),
+        (&[1, 0, 1, 0, 7], RecFault::Length),
+        (&[0, 0, 1, 0, 7], RecFault::Flags),
+    ] {
+        let refused = attr(PLAIN_KEY, value);
+        assert!(rt; matches!(refused, Err(found) if found == why), "{why:?}");
+    }
+    Ok(())
+}
+
+// The key of file 16 and sibling 18, or of stream 16 from byte 18 on.
+const SECOND_KEY: &[u8] = &[16, 0, 0, 0, 0, 0, 0, 0x50, 18, 0, 0, 0, 0, 0, 0, 0];
+
+#[test]
+fn siblings_are_read(rt: HostRuntime) {
+    let read = sibling_link(SECOND_KEY, &[2, 0, 0, 0, 0, 0, 0, 0, 2, 0, b'a', 0]);
+    assert!(rt; read.is_ok());
+    if let Ok(link) = read {
+        assert_eq!(rt; (link.file(), link.sibling(), link.parent()), (16, 18, 2));
+        assert_eq!(rt; link.name(), "a");
+    }
+    for (value, why) in [
+        ([2, 0, 0, 0, 0, 0, 0, 0, 2].as_slice(), RecFault::Length),
+        (&[2, 0, 0, 0, 0, 0, 0, 0, 2, 0, b'a'], RecFault::Length),
+        (&[2, 0, 0, 0, 0, 0, 0, 0, 1, 0, b'a', 0], RecFault::Name),
+    ] {
+        let refused = sibling_link(SECOND_KEY, value);
+        assert!(rt; matches!(refused, Err(found) if found == why), "{why:?}");
+    }
+    assert_eq!(rt; sibling_map(&[16, 0, 0, 0, 0, 0, 0, 0]), Ok(16));
+    assert_eq!(rt; sibling_map(&[16]), Err(RecFault::Length));
+}
+
+#[test]
+fn an_extent_is_read(rt: HostRuntime) {
+    let mut value = [0u8; 24];
+    value[1] = 16;
+    value[7] = 0xff;
+    value[8] = 57;
+    let extent = FileExt {
+        logical: 18,
+        length: 4096,
+        block: 57,
+    };
+    assert_eq!(rt; file_ext(SECOND_KEY, &value), Ok(extent));
+    assert_eq!(rt; file_ext(SECOND_KEY, &value[..23]), Err(RecFault::Length));
+}
