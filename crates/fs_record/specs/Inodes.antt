@@ -1,6 +1,6 @@
 -- Inodes (File-System Objects, j_inode_val_t).
 use Rattle.std.specs.Prelude.{ℕ, ◌+◌, ◌/◌, ℤ, Bool, not, ◌&&◌, nat_lt, List, length, Option, option_map, Result, Ok, Err, if◌then◌else◌}
-use Rattle.apfs_model.specs.Bytes.{u16_at, u32_at, u64_at, i32_at, has_bit}
+use Rattle.apfs_model.specs.Bytes.{u16_at, u32_at, u64_at, i32_at}
 use Rattle.fs_record.specs.Fields.{field_of, have_fields_room, is_field_long}
 use Rattle.fs_record.specs.declared.fields.Field.{Field}
 use Rattle.fs_record.specs.declared.fault.RecFault.{RecFault}
@@ -73,22 +73,6 @@ inode_of value =
 abbrev pub kind_in : ℕ → ℕ
 kind_in mode = mode / 4096
 
-abbrev pub directory_kind : ℕ
-directory_kind = 4
-
-abbrev pub regular_kind : ℕ
-regular_kind = 8
-
-abbrev pub link_kind : ℕ
-link_kind = 10
-
 -- the kind of an inode
 abbrev pub inode_kind : Inode → ℕ
 inode_kind inode = kind_in inode.mode
-
--- a compressed file, and one whose data lies elsewhere (BSD flags UF_COMPRESSED and SF_DATALESS)
-abbrev pub is_compressed : Inode → Bool
-is_compressed inode = has_bit inode.bsd_flags 5
-
-abbrev pub is_dataless : Inode → Bool
-is_dataless inode = has_bit inode.bsd_flags 30

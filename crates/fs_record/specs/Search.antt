@@ -22,5 +22,6 @@ abbrev pub found_in : ℕ → ℕ → Option ℕ → List Field → Result (Opti
 found_in type least (Some at) fs = Ok (Some at)
 found_in type least None fs = if not (is_field_long (find (λ (f : Field). f.kind == type) fs) least) then Err Fields else Ok (option_map (λ (f : Field). f.at) (find (λ (f : Field). f.kind == type) fs))
 
+-- the same, where each field that is left fits
 unfoldable pub place_after : ℕ → ℕ → ℕ → Option ℕ → List Field → Result (Option ℕ) RecFault
 place_after len type least found fs = if not (list_all (fits len) fs) then Err Fields else found_in type least found fs

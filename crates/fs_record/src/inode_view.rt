@@ -68,7 +68,7 @@ impl Inode<'_> {
         u32_at(self.value, LINKS).cast_signed()
     }
 
-    /// The flags that users set (File-System Objects, "BSD flags").
+    /// The BSD flags, which `chflags` sets: 0x20 for a compressed file, 0x40000000 for a dataless one.
     pub fn bsd_flags(&self) -> u32
         ensures { result ≡ self.now.bsd_flags }
     {
