@@ -1,8 +1,11 @@
 // The edge: a file as a source, a writer as a sink. No contract knows what a file holds, so a file tells nothing; what a
 // writer's sink holds is what its writer tells.
-ghost use Rattle.std.specs.Prelude.{◌≡◌, ◌≤◌, None, IfOk, OnOk, length};
+ghost use Rattle.std.specs.Prelude.{◌≡◌, ◌≤◌, ◌+◌, List, ℕ, Some, IfOk, OnOk, OnErr, length};
 ghost use Rattle.std.specs.Io.KnownBytes.{WriteAppends};
+ghost use Rattle.apfs_model.specs.Counts.{one_more, Rose};
+ghost use Rattle.apfs_model.specs.Source.{Copies};
 ghost use Rattle.apfs_model.specs.Sink.{Wrote, WrotePart};
+ghost use Rattle.blk_source.specs.Edge.{untold};
 
 use crate::{BlockSource, Sink};
 use apfs_model::{ReadFailed, WriteFailed};
@@ -40,7 +43,7 @@ impl FileSource {
 impl BlockSource for FileSource {
     ghost bytes_len = { λ s. s.len };
 
-    ghost bytes = { λ _. None };
+    ghost bytes = { λ _. untold };
 
     ghost faults = { λ s. s.faults };
 
@@ -53,7 +56,20 @@ impl BlockSource for FileSource {
     }
 
     // A read that gives nothing before the end is a failure of `read_exact_at`.
-    fn read_at(&mut self, at: u64, into: &mut [u8]) -> Result<(), ReadFailed> {
+    fn read_at(&mut self, at: u64, into: &mut [u8]) -> Result<(), ReadFailed>
+        requires inside { at + length into.old ≤ self.old.len }
+        requires some { 1 ≤ length into.old }
+        requires short { length into.old ≤ 65536 }
+        ensures found { (image : List ℕ) → untold ≡ Some image → OnOk result (Copies image at into.new) }
+        ensures cause { OnErr result (Rose self.old.faults self.new.faults) }
+        ensures bytes { untold ≡ untold }
+        ensures size { self.new.len ≡ self.old.len }
+        ensures later { self.old.faults ≤ self.new.faults }
+        ensures reads { self.new.reads ≡ one_more self.old.reads }
+
+        // The count of faults stays where the read succeeds.
+        ensures faults { OnOk result (self.new.faults ≡ self.old.faults) }
+    {
         self.reads = self.reads.saturating_add(1);
         match self.file.read_exact_at(into, at) {
             Ok(()) => Ok(()),
@@ -87,7 +103,15 @@ impl<T: Write + Drop> Sink for StdSink<T> {
 
     ghost faults = { λ s. s.faults };
 
-    fn put(&mut self, piece: &[u8]) -> Result<(), WriteFailed> {
+    fn put(&mut self, piece: &[u8]) -> Result<(), WriteFailed>
+        ensures put { OnOk result (Wrote (T.contents self.old.writer) (T.contents self.new.writer) piece.now) }
+        ensures part { WrotePart (T.contents self.old.writer) (T.contents self.new.writer) piece.now }
+        ensures cause { OnErr result (Rose self.old.faults self.new.faults) }
+        ensures later { self.old.faults ≤ self.new.faults }
+
+        // The count of faults stays where the put succeeds.
+        ensures faults { OnOk result (self.new.faults ≡ self.old.faults) }
+    {
         match write_and_flush(&mut self.writer, piece) {
             Ok(()) => Ok(()),
             Err(why) => {
