@@ -16,7 +16,7 @@ use Rattle.bt_node.specs.Node.{level_of, count_of, is_fixed, is_root, end_of, ke
 use Rattle.bt_node.specs.Entries.{Pair}
 use Rattle.bt_node.specs.Soundness.{node_of, node_expect, with_header, after_head, has_level, IsNode}
 use Rattle.bt_node.specs.declared.node.NodeAt.{NodeAt}
-use Rattle.bt_node.specs.declared.node.Site.{Site}
+use Rattle.obj_base.specs.declared.site.Site.{Site}
 use Rattle.bt_node.proofs.Laws.{node_means}
 use Rattle.bt_cursor.specs.Tree.{Tree, child_place}
 use Rattle.bt_cursor.specs.Met.{IsMet}

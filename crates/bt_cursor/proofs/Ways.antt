@@ -6,7 +6,7 @@ use Rattle.std.proofs.lemmas.Bool.{cases_lt}
 use Rattle.bt_node.specs.Shape.{Shape}
 use Rattle.bt_node.specs.Node.{level_of, count_of}
 use Rattle.bt_node.specs.Entries.{pair_of}
-use Rattle.bt_node.specs.declared.node.Site.{Site}
+use Rattle.obj_base.specs.declared.site.Site.{Site}
 use Rattle.bt_cursor.specs.Tree.{Tree, root_place, child_place}
 use Rattle.bt_cursor.specs.Met.{IsMet, first, after}
 use Rattle.bt_cursor.specs.Stack.{IsStep, IsLong, IsWay, IsMetStep, IsIn, bottom}

@@ -2,7 +2,7 @@
 use Rattle.std.specs.Prelude.{◌≡◌, ℕ, ◌+◌, Bool, true, false, List, [], ◌∷◌, length}
 use Rattle.bt_node.specs.Entries.{Pair}
 use Rattle.bt_node.specs.declared.key.TreeKey as keys
-use Rattle.bt_node.specs.declared.node.Site.{Site}
+use Rattle.obj_base.specs.declared.site.Site.{Site}
 use Rattle.bt_cursor.specs.declared.namer.Namer as namers
 use Rattle.bt_cursor.specs.declared.cursor.Cursor.{Cursor}
 use Rattle.bt_cursor.specs.Tree.{Tree, tree_in}

@@ -1,7 +1,7 @@
 -- What a liner is at.
 use Rattle.std.specs.Prelude.{◌≡◌, ℕ, nat_lt, Bool, true, false, List, [], ◌∷◌, ◌++◌, None}
 use Rattle.bt_node.specs.declared.key.TreeKey as keys
-use Rattle.bt_node.specs.declared.node.Site.{Site}
+use Rattle.obj_base.specs.declared.site.Site.{Site}
 use Rattle.bt_cursor.specs.declared.namer.Namer as namers
 use Rattle.bt_cursor.specs.declared.liner.Liner.{Liner}
 use Rattle.bt_cursor.specs.declared.seen.Seen.{Seen}

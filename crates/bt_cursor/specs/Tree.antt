@@ -10,7 +10,7 @@ use Rattle.bt_node.specs.Shape.{Shape}
 use Rattle.apfs_model.specs.Bytes.{u64_at}
 use Rattle.bt_node.specs.Entries.{Pair, bytes_in}
 use Rattle.bt_node.specs.Soundness.{node_of}
-use Rattle.bt_node.specs.declared.node.Site.{Site}
+use Rattle.obj_base.specs.declared.site.Site.{Site}
 use Rattle.bt_node.specs.declared.node.NodeAt.{NodeAt}
 use Rattle.bt_node.specs.declared.fault.NodeFault.{NodeFault}
 use Rattle.bt_cursor.specs.declared.fault.WalkFault.{WalkFault}

@@ -32,7 +32,7 @@ impl<K: TreeKey, N: Namer> Cursor<K, N> {
     ghost use Rattle.apfs_model.specs.Source.{IsKept};
     ghost use Rattle.obj_base.specs.declared.stop.Stop.TheVariants.{ReadFault, NoMemory};
     ghost use Rattle.obj_base.specs.Stops.{Tells};
-    ghost use Rattle.bt_node.specs.Site.{IsSiteFor};
+    ghost use Rattle.obj_base.specs.Site.{IsSiteFor};
     ghost use Rattle.bt_cursor.specs.Tree.{tree_in};
     ghost use Rattle.bt_cursor.specs.Flat.{flat_of};
     ghost use Rattle.bt_cursor.specs.Line.{line_of};

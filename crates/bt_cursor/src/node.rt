@@ -8,7 +8,7 @@ ghost use Rattle.bt_node.specs.Node.{level_of, count_of, key_count_of, node_coun
 ghost use Rattle.obj_base.specs.BlockSize.{is_accepted};
 ghost use Rattle.bt_node.specs.Soundness.{node_of, IsNode};
 ghost use Rattle.bt_node.specs.Entries.{child_of, pair_of};
-ghost use Rattle.bt_node.specs.Site.{IsSiteFor};
+ghost use Rattle.obj_base.specs.Site.{IsSiteFor};
 ghost use Rattle.bt_cursor.specs.Tree.{block_named, judged, look_in};
 ghost use Rattle.bt_cursor.specs.Faults.{IsOfNodes};
 ghost use Rattle.bt_cursor.specs.Stack.{IsStep, IsLong};

@@ -6,7 +6,7 @@ ghost use Rattle.obj_base.specs.declared.stop.Stop.TheVariants.{ReadFault, NoMem
 ghost use Rattle.obj_base.specs.Stops.{Tells};
 ghost use Rattle.bt_node.specs.Node.{count_of};
 ghost use Rattle.bt_node.specs.Entries.{pair_of};
-ghost use Rattle.bt_node.specs.Site.{IsSiteFor};
+ghost use Rattle.obj_base.specs.Site.{IsSiteFor};
 ghost use Rattle.bt_cursor.specs.Tree.{tree_in};
 ghost use Rattle.bt_cursor.specs.Flat.{flat_of};
 ghost use Rattle.bt_cursor.specs.Line.{line_of};

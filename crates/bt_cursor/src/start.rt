@@ -4,7 +4,7 @@ ghost use Rattle.apfs_model.specs.Counts.{Rose};
 ghost use Rattle.apfs_model.specs.Source.{IsKept};
 ghost use Rattle.obj_base.specs.declared.stop.Stop.TheVariants.{ReadFault, NoMemory};
 ghost use Rattle.obj_base.specs.Stops.{Tells};
-ghost use Rattle.bt_node.specs.Site.{IsSiteFor};
+ghost use Rattle.obj_base.specs.Site.{IsSiteFor};
 ghost use Rattle.bt_cursor.specs.Tree.{look_in, tree_in, root_place};
 ghost use Rattle.bt_cursor.specs.Faults.{IsOfNodes, IsNodeFault, HasFeature};
 ghost use Rattle.bt_cursor.specs.Stack.{IsLong, IsStep, IsWay};

@@ -6,7 +6,7 @@ ghost use Rattle.obj_base.specs.declared.stop.Stop.TheVariants.{ReadFault, NoMem
 ghost use Rattle.obj_base.specs.Stops.{Gives, Tells};
 ghost use Rattle.bt_node.specs.Node.{level_of, count_of};
 ghost use Rattle.bt_node.specs.Entries.{pair_of};
-ghost use Rattle.bt_node.specs.Site.{IsSiteFor};
+ghost use Rattle.obj_base.specs.Site.{IsSiteFor};
 ghost use Rattle.bt_cursor.specs.Tree.{Look, tree_by, tree_in, look_in, child_place};
 ghost use Rattle.bt_cursor.specs.Faults.{IsOfNodes, IsNodeFault, HasFeature};
 ghost use Rattle.bt_cursor.specs.Stack.{IsWay, IsIn};

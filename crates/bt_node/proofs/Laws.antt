@@ -9,7 +9,7 @@ use Rattle.obj_base.specs.declared.header.HeadFault.{HeadFault}
 use Rattle.obj_base.specs.declared.stop.Bad.{Bad}
 use Rattle.obj_base.specs.Sound.{sound_of}
 use Rattle.obj_base.proofs.SoundLemmas.{sound_means, means_sound}
-use Rattle.bt_node.specs.declared.node.Site.{Site}
+use Rattle.obj_base.specs.declared.site.Site.{Site}
 use Rattle.bt_node.specs.declared.node.NodeAt.{NodeAt}
 use Rattle.bt_node.specs.Shape.{Shape}
 use Rattle.bt_node.specs.Node.{level_of, count_of, is_root, is_leaf, is_hashed, lacks_header, end_of, keys_begin, node_size_of}

@@ -11,7 +11,7 @@ use Rattle.obj_base.specs.declared.stop.Feature.TheVariants.{Sealed, NoHeader, D
 use Rattle.obj_base.specs.Sound.{sound_of, agrees, IsSound}
 use Rattle.bt_node.specs.declared.key.Layout.{Layout}
 use Rattle.bt_node.specs.declared.key.Layout.TheVariants.{Fixed, Variable, Either}
-use Rattle.bt_node.specs.declared.node.Site.{Site}
+use Rattle.obj_base.specs.declared.site.Site.{Site}
 use Rattle.bt_node.specs.declared.node.NodeAt.{NodeAt}
 use Rattle.bt_node.specs.declared.fault.NodeFault.{NodeFault}
 use Rattle.bt_node.specs.declared.fault.NodeFault.TheVariants.{Head, Level, Flags, Bounds, Key, Empty, Ghost}

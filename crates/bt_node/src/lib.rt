@@ -10,5 +10,6 @@ mod view;
 
 pub use fault::NodeFault;
 pub use key::{Layout, Rank, TreeKey};
-pub use node::{NodeAt, RootInfo, Site};
+pub use node::{NodeAt, RootInfo};
+pub use obj_base::Site;
 pub use view::{Entry, NodeView};

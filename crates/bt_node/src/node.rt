@@ -38,17 +38,6 @@ const KEY_COUNT: usize = 24;
 
 const NODE_COUNT: usize = 32;
 
-/// What the objects of a container are measured by.
-#[derive(Clone, Copy, PartialEq, Eq, Debug)]
-pub struct Site {
-    /// The bytes of a block.
-    pub block_size: u32,
-    /// The number of the container's blocks.
-    pub blocks: u64,
-    /// The greatest transaction that is allowed.
-    pub max_xid: u64,
-}
-
 /// What is expected of a node.
 #[derive(Clone, Copy, PartialEq, Eq, Debug)]
 pub struct NodeAt {

@@ -5,21 +5,9 @@ ghost use Rattle.std.specs.Prelude.{◌≡◌, ◌≤◌, ◌<◌, length};
 ghost use Rattle.nx_block.specs.Jump.{jump_of, jump_count_of, jump_extent_of};
 
 use crate::view::range_in;
+use apfs_layout::jumpstart;
 use obj_base::u32_at;
 use std::marker::Model;
-
-// The fields of a jumpstart by offset (EFI Jumpstart, nx_efi_jumpstart_t).
-const MAGIC: usize = 32;
-
-const COUNT: usize = 44;
-
-const EXTENTS: usize = 176;
-
-// The bytes of an extent.
-const EXTENT_LEN: usize = 16;
-
-// The bytes JSDR as a number.
-const JUMP_MAGIC: u32 = 0x5244_534a;
 
 /// An EFI jumpstart, whose extents fit its block (EFI Jumpstart, `nx_efi_jumpstart_t`). Contracts see its bytes.
 #[derive(Debug, Drop)]
@@ -44,8 +32,8 @@ pub fn jump_read(bytes: &[u8]) -> Option<Jump<'_>>
     requires { 4096 ≤ length bytes.now }
     ensures { result ≡ jump_of bytes.now }
 {
-    let count = u32_at(bytes, COUNT) as usize;
-    if u32_at(bytes, MAGIC) == JUMP_MAGIC && EXTENTS + EXTENT_LEN * count <= bytes.len() {
+    let count = u32_at(bytes, jumpstart::COUNT) as usize;
+    if u32_at(bytes, jumpstart::MAGIC) == jumpstart::JUMP_MAGIC && jumpstart::EXTENTS + jumpstart::EXTENT_LEN * count <= bytes.len() {
         return Some(Jump { bytes });
     }
     None
@@ -57,7 +45,7 @@ impl Jump<'_> {
     pub fn count(&self) -> u32
         ensures { result ≡ jump_count_of self.now }
     {
-        u32_at(self.bytes, COUNT)
+        u32_at(self.bytes, jumpstart::COUNT)
     }
 
     /// The first block and the number of blocks of an extent of the driver, counted from 0.
@@ -65,6 +53,6 @@ impl Jump<'_> {
         requires { i < jump_count_of self.now }
         ensures { result ≡ jump_extent_of self.now i }
     {
-        range_in(self.bytes, EXTENTS + EXTENT_LEN * i as usize)
+        range_in(self.bytes, jumpstart::EXTENTS + jumpstart::EXTENT_LEN * i as usize)
     }
 }

@@ -4,17 +4,9 @@
 ghost use Rattle.std.specs.Prelude.{◌≡◌, ◌≤◌, ◌%◌, length};
 ghost use Rattle.nx_block.specs.Read.{size_of, read_of};
 
-use crate::view::{BLOCK_SIZE, MAGIC};
 use crate::{NxFault, NxView};
+use apfs_layout::{container, kind};
 use obj_base::{Bad, Expect, HeadFault, is_accepted, sound, u32_at};
-
-// The bytes NXSB as a number.
-const NX_MAGIC: u32 = 0x4253_584e;
-
-// The kind and the oid of a superblock.
-const CONTAINER_KIND: u16 = 1;
-
-const CONTAINER_OID: u64 = 1;
 
 /// The block size in bytes by the first 4,096 bytes of a container. None exactly where the magic isn't `NXSB` or the
 /// size isn't one of those accepted.
@@ -23,8 +15,8 @@ pub fn nx_size(first: &[u8]) -> Option<u32>
     requires { length first.now ≡ 4096 }
     ensures { result ≡ size_of first.now }
 {
-    let size = u32_at(first, BLOCK_SIZE);
-    if u32_at(first, MAGIC) == NX_MAGIC && is_accepted(size) {
+    let size = u32_at(first, container::BLOCK_SIZE);
+    if u32_at(first, container::MAGIC) == container::NX_MAGIC && is_accepted(size) {
         Some(size)
     } else {
         None
@@ -39,17 +31,17 @@ pub fn nx_read(bytes: &[u8]) -> Result<NxView<'_>, NxFault>
     requires long { 4096 ≤ length bytes.now }
     ensures { result ≡ read_of bytes.now }
 {
-    if u32_at(bytes, MAGIC) != NX_MAGIC {
+    if u32_at(bytes, container::MAGIC) != container::NX_MAGIC {
         return Err(NxFault::BadMagic);
     }
-    let size = u32_at(bytes, BLOCK_SIZE);
+    let size = u32_at(bytes, container::BLOCK_SIZE);
     if !is_accepted(size) || size as usize != bytes.len() {
         return Err(NxFault::BadBlockSize);
     }
     let expect = Expect {
-        kind: CONTAINER_KIND,
+        kind: kind::CONTAINER,
         subtype: None,
-        oid: Some(CONTAINER_OID),
+        oid: Some(container::NX_OID),
         max_xid: u64::MAX,
     };
     match sound(bytes, &expect) {

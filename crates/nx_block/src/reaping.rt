@@ -4,18 +4,9 @@
 ghost use Rattle.std.specs.Prelude.{◌≡◌, ◌≤◌, length};
 ghost use Rattle.nx_block.specs.Reaper.{reaper_head_of, reaper_flags_of, reap_next_of, reap_count_of};
 
+use apfs_layout::reaping;
 use obj_base::{u32_at, u64_at};
 use std::marker::Model;
-
-// The fields of a reaper by offset (Reaper, nx_reaper_phys_t).
-const HEAD: usize = 48;
-
-const FLAGS: usize = 64;
-
-// The fields of a reap list by offset (Reaper, nx_reap_list_phys_t).
-const NEXT: usize = 32;
-
-const COUNT: usize = 48;
 
 /// A reaper (Reaper, `nx_reaper_phys_t`). Contracts see its bytes.
 #[derive(Debug, Drop)]
@@ -71,14 +62,14 @@ impl Reaper<'_> {
     pub fn head(&self) -> u64
         ensures { result ≡ reaper_head_of self.now }
     {
-        u64_at(self.bytes, HEAD)
+        u64_at(self.bytes, reaping::REAPER_HEAD)
     }
 
     /// The flags: 2 where the reaper is at work on an object.
     pub fn flags(&self) -> u32
         ensures { result ≡ reaper_flags_of self.now }
     {
-        u32_at(self.bytes, FLAGS)
+        u32_at(self.bytes, reaping::REAPER_FLAGS)
     }
 }
 
@@ -88,13 +79,13 @@ impl ReapList<'_> {
     pub fn next(&self) -> u64
         ensures { result ≡ reap_next_of self.now }
     {
-        u64_at(self.bytes, NEXT)
+        u64_at(self.bytes, reaping::LIST_NEXT)
     }
 
     /// The entries that the list holds.
     pub fn count(&self) -> u32
         ensures { result ≡ reap_count_of self.now }
     {
-        u32_at(self.bytes, COUNT)
+        u32_at(self.bytes, reaping::LIST_COUNT)
     }
 }

@@ -3,61 +3,9 @@ ghost use Rattle.std.specs.Prelude.{◌≡◌, ◌<◌, ◌≤◌, ◌+◌, leng
 ghost use Rattle.obj_base.specs.Sound.{header_of};
 ghost use Rattle.nx_block.specs.Super.{magic_bytes_of, block_size_of, block_count_of, incompat_of, uuid_of, next_oid_of, next_xid_of, desc_blocks_of, data_blocks_of, desc_base_of, data_base_of, desc_next_of, data_next_of, desc_index_of, desc_len_of, data_index_of, data_len_of, space_oid_of, omap_oid_of, reaper_oid_of, fs_oid_of, blocked_of, eviction_of, jumpstart_of, locker_of, media_locker_of, slots, range_at};
 
+use apfs_layout::container;
 use obj_base::{Header, u32_at, u64_at};
 use std::marker::Model;
-
-// The fields of a superblock by offset (Container, nx_superblock_t).
-pub(crate) const MAGIC: usize = 32;
-
-pub(crate) const BLOCK_SIZE: usize = 36;
-
-const BLOCK_COUNT: usize = 40;
-
-const INCOMPAT: usize = 64;
-
-const UUID: usize = 72;
-
-const NEXT_OID: usize = 88;
-
-const NEXT_XID: usize = 96;
-
-const DESC_BLOCKS: usize = 104;
-
-const DATA_BLOCKS: usize = 108;
-
-const DESC_BASE: usize = 112;
-
-const DATA_BASE: usize = 120;
-
-const DESC_NEXT: usize = 128;
-
-const DATA_NEXT: usize = 132;
-
-const DESC_INDEX: usize = 136;
-
-const DESC_LEN: usize = 140;
-
-const DATA_INDEX: usize = 144;
-
-const DATA_LEN: usize = 148;
-
-const SPACE_OID: usize = 152;
-
-const OMAP_OID: usize = 160;
-
-const REAPER_OID: usize = 168;
-
-const FS_OID: usize = 184;
-
-const BLOCKED: usize = 1240;
-
-const EVICTION: usize = 1256;
-
-const JUMPSTART: usize = 1272;
-
-const LOCKER: usize = 1296;
-
-const MEDIA_LOCKER: usize = 1392;
 
 /// A superblock that passed its tests (Container, `nx_superblock_t`). Contracts see its bytes.
 #[derive(Debug, Drop)]
@@ -108,7 +56,7 @@ impl<'a> NxView<'a> {
         ensures { result ≡ magic_bytes_of self.now }
     {
         let mut magic = [0u8; 4];
-        magic.copy_from_slice(&self.bytes[MAGIC..MAGIC + 4]);
+        magic.copy_from_slice(&self.bytes[container::MAGIC..container::MAGIC + 4]);
         magic
     }
 
@@ -116,21 +64,21 @@ impl<'a> NxView<'a> {
     pub fn block_size(&self) -> u32
         ensures { result ≡ block_size_of self.now }
     {
-        u32_at(self.bytes, BLOCK_SIZE)
+        u32_at(self.bytes, container::BLOCK_SIZE)
     }
 
     /// The number of blocks of the container.
     pub fn block_count(&self) -> u64
         ensures { result ≡ block_count_of self.now }
     {
-        u64_at(self.bytes, BLOCK_COUNT)
+        u64_at(self.bytes, container::BLOCK_COUNT)
     }
 
     /// The incompatible features (Container, Incompatible Container Feature Flags).
     pub fn incompat(&self) -> u64
         ensures { result ≡ incompat_of self.now }
     {
-        u64_at(self.bytes, INCOMPAT)
+        u64_at(self.bytes, container::INCOMPAT)
     }
 
     /// The container's identifier.
@@ -138,7 +86,7 @@ impl<'a> NxView<'a> {
         ensures { result ≡ uuid_of self.now }
     {
         let mut uuid = [0u8; 16];
-        uuid.copy_from_slice(&self.bytes[UUID..UUID + 16]);
+        uuid.copy_from_slice(&self.bytes[container::UUID..container::UUID + 16]);
         uuid
     }
 
@@ -146,105 +94,105 @@ impl<'a> NxView<'a> {
     pub fn next_oid(&self) -> u64
         ensures { result ≡ next_oid_of self.now }
     {
-        u64_at(self.bytes, NEXT_OID)
+        u64_at(self.bytes, container::NEXT_OID)
     }
 
     /// The next transaction.
     pub fn next_xid(&self) -> u64
         ensures { result ≡ next_xid_of self.now }
     {
-        u64_at(self.bytes, NEXT_XID)
+        u64_at(self.bytes, container::NEXT_XID)
     }
 
     /// The blocks of the descriptor area; the highest bit says that it isn't contiguous.
     pub fn desc_blocks(&self) -> u32
         ensures { result ≡ desc_blocks_of self.now }
     {
-        u32_at(self.bytes, DESC_BLOCKS)
+        u32_at(self.bytes, container::DESC_BLOCKS)
     }
 
     /// The blocks of the data area; the highest bit says that it isn't contiguous.
     pub fn data_blocks(&self) -> u32
         ensures { result ≡ data_blocks_of self.now }
     {
-        u32_at(self.bytes, DATA_BLOCKS)
+        u32_at(self.bytes, container::DATA_BLOCKS)
     }
 
     /// The first block of the descriptor area.
     pub fn desc_base(&self) -> u64
         ensures { result ≡ desc_base_of self.now }
     {
-        u64_at(self.bytes, DESC_BASE)
+        u64_at(self.bytes, container::DESC_BASE)
     }
 
     /// The first block of the data area.
     pub fn data_base(&self) -> u64
         ensures { result ≡ data_base_of self.now }
     {
-        u64_at(self.bytes, DATA_BASE)
+        u64_at(self.bytes, container::DATA_BASE)
     }
 
     /// The next index of the descriptor area.
     pub fn desc_next(&self) -> u32
         ensures { result ≡ desc_next_of self.now }
     {
-        u32_at(self.bytes, DESC_NEXT)
+        u32_at(self.bytes, container::DESC_NEXT)
     }
 
     /// The next index of the data area.
     pub fn data_next(&self) -> u32
         ensures { result ≡ data_next_of self.now }
     {
-        u32_at(self.bytes, DATA_NEXT)
+        u32_at(self.bytes, container::DATA_NEXT)
     }
 
     /// The index of the checkpoint's first block in the descriptor area.
     pub fn desc_index(&self) -> u32
         ensures { result ≡ desc_index_of self.now }
     {
-        u32_at(self.bytes, DESC_INDEX)
+        u32_at(self.bytes, container::DESC_INDEX)
     }
 
     /// The blocks of the checkpoint in the descriptor area: its maps and its superblock.
     pub fn desc_len(&self) -> u32
         ensures { result ≡ desc_len_of self.now }
     {
-        u32_at(self.bytes, DESC_LEN)
+        u32_at(self.bytes, container::DESC_LEN)
     }
 
     /// The index of the checkpoint's first block in the data area.
     pub fn data_index(&self) -> u32
         ensures { result ≡ data_index_of self.now }
     {
-        u32_at(self.bytes, DATA_INDEX)
+        u32_at(self.bytes, container::DATA_INDEX)
     }
 
     /// The blocks of the checkpoint in the data area.
     pub fn data_len(&self) -> u32
         ensures { result ≡ data_len_of self.now }
     {
-        u32_at(self.bytes, DATA_LEN)
+        u32_at(self.bytes, container::DATA_LEN)
     }
 
     /// The ephemeral oid of the space manager.
     pub fn space_oid(&self) -> u64
         ensures { result ≡ space_oid_of self.now }
     {
-        u64_at(self.bytes, SPACE_OID)
+        u64_at(self.bytes, container::SPACE_OID)
     }
 
     /// The block of the container's object map.
     pub fn omap_oid(&self) -> u64
         ensures { result ≡ omap_oid_of self.now }
     {
-        u64_at(self.bytes, OMAP_OID)
+        u64_at(self.bytes, container::OMAP_OID)
     }
 
     /// The ephemeral oid of the reaper.
     pub fn reaper_oid(&self) -> u64
         ensures { result ≡ reaper_oid_of self.now }
     {
-        u64_at(self.bytes, REAPER_OID)
+        u64_at(self.bytes, container::REAPER_OID)
     }
 
     /// The virtual oid of the volume in a slot, 0 where there is none.
@@ -252,41 +200,41 @@ impl<'a> NxView<'a> {
         requires { slot < slots }
         ensures { result ≡ fs_oid_of self.now slot }
     {
-        u64_at(self.bytes, FS_OID + 8 * slot as usize)
+        u64_at(self.bytes, container::FS_OID + 8 * slot as usize)
     }
 
     /// The first block and the number of blocks of the range from which none is given out, while the container shrinks.
     pub fn blocked(&self) -> (u64, u64)
         ensures { result ≡ blocked_of self.now }
     {
-        range_in(self.bytes, BLOCKED)
+        range_in(self.bytes, container::BLOCKED)
     }
 
     /// The tree of the blocks that are moved while the container shrinks, 0 where there is none.
     pub fn eviction(&self) -> u64
         ensures { result ≡ eviction_of self.now }
     {
-        u64_at(self.bytes, EVICTION)
+        u64_at(self.bytes, container::EVICTION)
     }
 
     /// The block of the EFI jumpstart, 0 where there is none.
     pub fn jumpstart(&self) -> u64
         ensures { result ≡ jumpstart_of self.now }
     {
-        u64_at(self.bytes, JUMPSTART)
+        u64_at(self.bytes, container::JUMPSTART)
     }
 
     /// The first block and the number of blocks of the container's key locker.
     pub fn locker(&self) -> (u64, u64)
         ensures { result ≡ locker_of self.now }
     {
-        range_in(self.bytes, LOCKER)
+        range_in(self.bytes, container::LOCKER)
     }
 
     /// The first block and the number of blocks of the media key locker.
     pub fn media_locker(&self) -> (u64, u64)
         ensures { result ≡ media_locker_of self.now }
     {
-        range_in(self.bytes, MEDIA_LOCKER)
+        range_in(self.bytes, container::MEDIA_LOCKER)
     }
 }

@@ -3,7 +3,7 @@ use Rattle.std.specs.Prelude.{◌≡◌, ℕ, true, List, is_ok}
 use Rattle.std.proofs.Common.{arith, mul_comm}
 use Rattle.std.proofs.lemmas.Grind.{common_steps}
 use Rattle.obj_base.specs.BlockSize.{is_accepted}
-use Rattle.bt_node.specs.Site.{IsSiteFor}
+use Rattle.obj_base.specs.Site.{IsSiteFor}
 use Rattle.nx_block.specs.Super.{block_size_of, block_count_of}
 use Rattle.nx_block.specs.Read.{read_of}
 use Rattle.nx_ring.specs.Checkpoint.{Seen, site_of}

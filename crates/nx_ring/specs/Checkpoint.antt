@@ -2,7 +2,7 @@
 use Rattle.std.specs.Prelude.{ℕ, ◌==◌, List, map, Option, option_map}
 use Rattle.std.specs.List.{find}
 use Rattle.nx_ring.specs.declared.line.RingLine.{RingLine}
-use Rattle.bt_node.specs.declared.node.Site.{Site}
+use Rattle.obj_base.specs.declared.site.Site.{Site}
 use Rattle.nx_block.specs.Super.{block_size_of, block_count_of}
 use Rattle.nx_ring.specs.Objects.{Place}
 

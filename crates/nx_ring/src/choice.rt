@@ -15,7 +15,7 @@ ghost use Rattle.nx_ring.specs.Features.{container_features};
 ghost use Rattle.nx_ring.specs.Ring.{IsRingFault, IsRingFeature};
 ghost use Rattle.nx_ring.specs.Checkpoint.{site_of};
 ghost use Rattle.obj_base.specs.BlockSize as sizes;
-ghost use Rattle.bt_node.specs.Site.{IsSiteFor};
+ghost use Rattle.obj_base.specs.Site.{IsSiteFor};
 
 use crate::areas::Areas;
 use crate::candidates::{line_in, lines};

@@ -1,4 +1,5 @@
 pub mod BlockSize
+pub mod Site
 pub mod Sound
 pub mod Features
 pub mod Stops

@@ -6,5 +6,5 @@ ghost use Rattle.obj_base.specs.BlockSize as sizes;
 pub const fn is_accepted(size: u32) -> bool
     ensures { result ≡ sizes.is_accepted size }
 {
-    size == 4096
+    matches!(size, 4096 | 8192 | 16384 | 32768 | 65536)
 }

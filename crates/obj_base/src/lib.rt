@@ -4,6 +4,7 @@
 mod block_size;
 mod header;
 mod number;
+mod site;
 mod soundness;
 mod stop;
 mod sum;
@@ -13,6 +14,7 @@ mod tests;
 pub use block_size::is_accepted;
 pub use header::{Expect, HeadFault, Header, ObjFlags};
 pub use number::{u16_at, u32_at, u64_at};
+pub use site::Site;
 pub use soundness::sound;
 pub use stop::{Bad, Feature, Stop, Within};
 pub use sum::sum64;

@@ -3,7 +3,7 @@ use Rattle.std.specs.Prelude.{◌≡◌, ℕ, ◌+◌, ◌≤◌, Bool, true, fa
 use Rattle.obj_base.specs.declared.stop.Stop.{Stop}
 use Rattle.obj_base.specs.declared.stop.Stop.TheVariants.{Found, Unsupported, ReadFault, NoMemory}
 use Rattle.obj_base.specs.declared.stop.Feature.{Feature}
-use Rattle.bt_node.specs.declared.node.Site.{Site}
+use Rattle.obj_base.specs.declared.site.Site.{Site}
 use Rattle.bt_node.specs.declared.key.Rank.{Rank}
 use Rattle.bt_node.specs.declared.key.TreeKey as keys
 use Rattle.bt_node.specs.Rank.{is_below}

@@ -5,7 +5,7 @@ ghost use Rattle.apfs_model.specs.Source.{IsKept};
 ghost use Rattle.apfs_model.specs.Blocks.{in_container};
 ghost use Rattle.obj_base.specs.Stops.{Tells};
 ghost use Rattle.obj_base.specs.declared.stop.Stop.TheVariants.{ReadFault, NoMemory};
-ghost use Rattle.bt_node.specs.Site.{IsSiteFor};
+ghost use Rattle.obj_base.specs.Site.{IsSiteFor};
 ghost use Rattle.bt_cursor.specs.Faults.{HasFeature};
 ghost use Rattle.bt_cursor.specs.Tree.{tree_in};
 ghost use Rattle.bt_cursor.specs.Line.{Item};

@@ -7,7 +7,7 @@ ghost use Rattle.obj_base.specs.BlockSize.{is_accepted};
 ghost use Rattle.obj_base.specs.Sound.{sound_of, expecting};
 ghost use Rattle.obj_base.specs.Stops.{Gives};
 ghost use Rattle.obj_base.specs.declared.stop.Stop.TheVariants.{ReadFault, NoMemory};
-ghost use Rattle.bt_node.specs.Site.{IsSiteFor};
+ghost use Rattle.obj_base.specs.Site.{IsSiteFor};
 ghost use Rattle.omap_map.specs.Fields as fields;
 ghost use Rattle.omap_map.specs.Features.{is_reverting};
 ghost use Rattle.omap_map.specs.Maps.{map_in, after_header, object_of};

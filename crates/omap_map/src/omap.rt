@@ -104,7 +104,7 @@ impl Omap {
     ghost use Rattle.obj_base.specs.Stops.{Tells, Gives, IsFree};
     ghost use Rattle.obj_base.specs.declared.stop.Stop as stops;
     ghost use Rattle.obj_base.specs.declared.stop.Stop.TheVariants.{ReadFault};
-    ghost use Rattle.bt_node.specs.Site.{IsSiteFor};
+    ghost use Rattle.obj_base.specs.Site.{IsSiteFor};
     ghost use Rattle.omap_map.specs.declared.fault.OmapFault as faults;
     ghost use Rattle.omap_map.specs.Features.{is_reverting};
     ghost use Rattle.omap_map.specs.Maps.{map_in, is_whole_map, object_of, map_nodes, IsLoaded, IsMapFault, IsMapFeature};

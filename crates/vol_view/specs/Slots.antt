@@ -13,7 +13,7 @@ use Rattle.obj_base.specs.declared.stop.Stop.{Stop}
 use Rattle.obj_base.specs.declared.stop.Stop.TheVariants.{Found, Unsupported, ReadFault, NoMemory}
 use Rattle.obj_base.specs.declared.stop.Within.TheVariants.{Container}
 use Rattle.apfs_model.specs.Object.{volume_kind}
-use Rattle.bt_node.specs.declared.node.Site.{Site}
+use Rattle.obj_base.specs.declared.site.Site.{Site}
 use Rattle.nx_block.specs.Super.{fs_oid_of, omap_oid_of}
 use Rattle.nx_ring.specs.Checkpoint.{Seen, site_of}
 use Rattle.omap_map.specs.Records.{maps_encrypted, maps_headless}

@@ -4,7 +4,7 @@ ghost use Rattle.apfs_model.specs.Counts.{Rose};
 ghost use Rattle.apfs_model.specs.Source.{IsKept};
 ghost use Rattle.obj_base.specs.Stops.{Gives};
 ghost use Rattle.obj_base.specs.declared.stop.Stop.TheVariants.{ReadFault, NoMemory};
-ghost use Rattle.bt_node.specs.Site.{IsSiteFor};
+ghost use Rattle.obj_base.specs.Site.{IsSiteFor};
 ghost use Rattle.vol_view.specs.Heads.{super_in, head_of};
 ghost use Rattle.vol_view.specs.Slots.{tested};
 
