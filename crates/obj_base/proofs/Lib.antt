@@ -1,3 +1,4 @@
 pub mod Numbers
 pub mod Sums
 pub mod SoundLemmas
+pub mod StopLemmas

@@ -1,6 +1,9 @@
 -- What a call that may stop has answered.
 use Rattle.std.specs.Prelude.{◌≡◌, ℕ, Result, Ok, Err}
 use Rattle.obj_base.specs.declared.stop.Feature.{Feature}
+use Rattle.obj_base.specs.declared.stop.Bad.{Bad}
+use Rattle.obj_base.specs.declared.stop.Bad.TheVariants as bads
+use Rattle.obj_base.specs.declared.stop.Unsound.{Unsound}
 use Rattle.obj_base.specs.declared.stop.Stop.{Stop}
 use Rattle.obj_base.specs.declared.stop.Stop.TheVariants.{Found, Unsupported, ReadFault, NoMemory}
 
@@ -28,3 +31,33 @@ NoFeature name block = ⊥
 -- nothing is told of the image: reading failed, or memory ran out
 abbrev pub IsFree : {F : Type 0} → Stop F → Type 0
 IsFree stop = Tells (λ fault. ⊥) NoFeature stop
+
+-- why a call stops where a test of the object in a block refuses: the fault and the feature are those of the block
+abbrev pub in_block : {F : Type 0} → ℕ → Bad F → Stop (Unsound F)
+in_block block (bads.Found why) = Found (record { block = block; why = why })
+in_block block (bads.Unsupported feature) = Unsupported feature block
+
+-- a stop whose fault is told in other words; all else stays
+abbrev pub raised : {F G : Type 0} → (F → G) → Stop F → Stop G
+raised say (Found fault) = Found (say fault)
+raised say (Unsupported feature block) = Unsupported feature block
+raised say ReadFault = ReadFault
+raised say NoMemory = NoMemory
+
+-- a fact of a stop's fault, where it tells of one
+abbrev pub ForFound : {F : Type 0} → Stop F → (F → Type 0) → Type 0
+ForFound {F} stop fact = (fault : F) → stop ≡ Found fault → fact fault
+
+-- a stop tells of a fault, of which a fact holds
+abbrev pub IsFoundAnd : {F : Type 0} → Stop F → (F → Type 0) → Type 0
+IsFoundAnd (Found fault) fact = fact fault
+IsFoundAnd (Unsupported feature block) fact = ⊥
+IsFoundAnd ReadFault fact = ⊥
+IsFoundAnd NoMemory fact = ⊥
+
+-- a stop is another one, its fault told in words that a relation allows; all else is the same
+abbrev pub IsRaised : {F G : Type 0} → (F → G → Type 0) → Stop F → Stop G → Type 0
+IsRaised says (Found fault) stop = IsFoundAnd stop (says fault)
+IsRaised says (Unsupported feature block) stop = stop ≡ Unsupported feature block
+IsRaised says ReadFault stop = stop ≡ ReadFault
+IsRaised says NoMemory stop = stop ≡ NoMemory

@@ -16,5 +16,5 @@ pub use header::{Expect, HeadFault, Header, ObjFlags};
 pub use number::{u16_at, u32_at, u64_at};
 pub use site::Site;
 pub use soundness::sound;
-pub use stop::{Bad, Feature, Stop, Within};
+pub use stop::{Bad, Feature, Stop, Unsound, Within};
 pub use sum::sum64;

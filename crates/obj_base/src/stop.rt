@@ -1,6 +1,7 @@
 // Why a call stops, and the features that are refused.
 ghost use Rattle.std.specs.Prelude.{◌≡◌};
 ghost use Rattle.obj_base.specs.Features.{feature_name};
+ghost use Rattle.obj_base.specs.Stops.{in_block, ForFound, IsRaised};
 ghost use Rattle.obj_base.specs.declared.stop.Stop.TheVariants.{ReadFault, NoMemory};
 
 use apfs_model::{NoMemory as OutOfMemory, ReadFailed};
@@ -104,6 +105,42 @@ pub enum Stop<F> {
     Unsupported { feature: Feature, block: u64 },
     ReadFault,
     NoMemory,
+}
+
+/// An object in a block fails a test.
+#[derive(Clone, Copy, PartialEq, Eq, Debug)]
+pub struct Unsound<F> {
+    /// The block in which the object stands.
+    pub block: u64,
+    /// The test that fails.
+    pub why: F,
+}
+
+impl<F> Bad<F> {
+    /// The refusal of a test of the object in a block, as a stop that names the block.
+    pub fn in_block(self, block: u64) -> Stop<Unsound<F>>
+        ensures { result ≡ in_block block self }
+    {
+        match self {
+            Bad::Found(why) => Stop::Found(Unsound { block, why }),
+            Bad::Unsupported(feature) => Stop::Unsupported { feature, block },
+        }
+    }
+}
+
+impl<F> Stop<F> {
+    /// The same stop, its fault told in the words that `say` gives.
+    pub fn map<G, S: FnOnce(F) -> G>(self, say: S) -> Stop<G>
+        requires { ForFound self (S.pre say) }
+        ensures { IsRaised (S.post say) self result }
+    {
+        match self {
+            Stop::Found(fault) => Stop::Found(say(fault)),
+            Stop::Unsupported { feature, block } => Stop::Unsupported { feature, block },
+            Stop::ReadFault => Stop::ReadFault,
+            Stop::NoMemory => Stop::NoMemory,
+        }
+    }
 }
 
 impl<F> From<ReadFailed> for Stop<F> {

@@ -1,7 +1,7 @@
 // Values from outside: the sum of two blocks worked out by hand, and each call once.
 use crate::{
-    Bad, Expect, Feature, HeadFault, ObjFlags, Stop, is_accepted, sound, sum64, u16_at, u32_at,
-    u64_at,
+    Bad, Expect, Feature, HeadFault, ObjFlags, Stop, Unsound, is_accepted, sound, sum64, u16_at,
+    u32_at, u64_at,
 };
 use apfs_model::{NoMemory, ReadFailed};
 use bitflags::Flags;
@@ -64,6 +64,22 @@ fn a_header_is_tested(rt: HostRuntime) {
 fn causes_are_carried(rt: HostRuntime) {
     assert!(rt; Stop::<HeadFault>::from(ReadFailed) == Stop::ReadFault);
     assert!(rt; Stop::<HeadFault>::from(NoMemory) == Stop::NoMemory);
+    let sum = Bad::Found(HeadFault::BadSum).in_block(7);
+    assert!(rt;
+        sum == Stop::Found(Unsound {
+            block: 7,
+            why: HeadFault::BadSum
+        })
+    );
+    assert!(rt; sum.map(|unsound| unsound.block) == Stop::Found(7));
+    let sealed = Bad::<HeadFault>::Unsupported(Feature::Sealed).in_block(7);
+    assert!(rt;
+        sealed
+            == Stop::Unsupported {
+                feature: Feature::Sealed,
+                block: 7
+            }
+    );
     assert_eq!(rt; Feature::LaterTree.name(), "LaterTree");
     assert!(rt; is_accepted(4096) && !is_accepted(4097));
 }
