@@ -3,6 +3,7 @@ pub mod Site
 pub mod Sound
 pub mod Features
 pub mod Stops
+pub mod Words
 pub use Rattle.apfs_model.specs.Counts
 pub use Rattle.apfs_model.specs.Bytes
 pub use Rattle.apfs_model.specs.Blocks

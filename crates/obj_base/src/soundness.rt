@@ -3,18 +3,8 @@ ghost use Rattle.std.specs.Prelude.{◌≡◌, ◌≤◌, ◌%◌, ◌↔◌, le
 ghost use Rattle.obj_base.specs.Sound.{header_of, sound_of, IsSound};
 
 use crate::{Bad, Expect, Feature, HeadFault, Header, ObjFlags, sum64, u32_at, u64_at};
+use apfs_layout::object;
 use bitflags::Flags;
-
-// The fields of a header by offset (Objects, obj_phys_t).
-const SUM: usize = 0;
-
-const OID: usize = 8;
-
-const XID: usize = 16;
-
-const TYPE: usize = 24;
-
-const SUBTYPE: usize = 28;
 
 // The header of an object, sound or not.
 #[tactic(auto, unfolding(apfs_model::specs::Object::sum_field, apfs_model::specs::Object::oid_of, apfs_model::specs::Object::xid_of, apfs_model::specs::Object::type_of, apfs_model::specs::Object::subtype_of))]
@@ -22,16 +12,16 @@ fn header_in(bytes: &[u8]) -> Header
     requires { 36 ≤ length bytes.now }
     ensures { result ≡ header_of bytes.now }
 {
-    let word = u32_at(bytes, TYPE);
+    let word = u32_at(bytes, object::TYPE);
     Header {
-        sum: u64_at(bytes, SUM),
-        oid: u64_at(bytes, OID),
-        xid: u64_at(bytes, XID),
+        sum: u64_at(bytes, object::SUM),
+        oid: u64_at(bytes, object::OID),
+        xid: u64_at(bytes, object::XID),
         kind: (word % 0x1_0000) as u16,
         flags: ObjFlags {
             bits: word & 0xffff_0000,
         },
-        subtype: u32_at(bytes, SUBTYPE),
+        subtype: u32_at(bytes, object::SUBTYPE),
     }
 }
 
