@@ -56,7 +56,7 @@ abbrev pub bytes_in : Option (List ℕ) → List ℕ
 bytes_in None = []
 bytes_in (Some bytes) = bytes
 
--- the child that entry i of a node above the leaves names: the oid at its value's begin
+-- the child that entry i of a node above the leaves names: the oid at the start of its value
 abbrev pub child_of : {K : Type 0} → Shape K → List ℕ → ℕ → ℕ
 child_of shape node i = u64_at (bytes_in (pair_of shape node i).value) 0
 

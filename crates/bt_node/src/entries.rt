@@ -5,18 +5,8 @@ ghost use Rattle.bt_node.specs.Node as fields;
 ghost use Rattle.bt_node.specs.Entries as spec;
 
 use crate::{TreeKey, node};
+use apfs_layout::node as layout;
 use obj_base::{u16_at, u64_at};
-
-// A value offset that says that there is no value (B-Trees, BTOFF_INVALID).
-const NO_VALUE: u16 = 0xffff;
-
-// The bytes of a child's oid, which is what a fixed value holds above level 0.
-pub(crate) const CHILD_LEN: usize = 8;
-
-// The bytes of a table entry with offsets alone (kvoff_t), and with offsets and lengths (kvloc_t).
-const FIXED_LEN: usize = 4;
-
-const VARIABLE_LEN: usize = 8;
 
 // Where an entry of the table says that a key and a value lie.
 #[derive(Clone, Copy, PartialEq, Eq, Debug)]
@@ -40,7 +30,7 @@ fn fixed_value_len<K: TreeKey>(bytes: &[u8]) -> usize
     if node::level(bytes) == 0 {
         K::VALUE_LEN
     } else {
-        CHILD_LEN
+        layout::CHILD_LEN
     }
 }
 
@@ -77,9 +67,9 @@ pub(crate) fn place_len(bytes: &[u8]) -> usize
     ensures { result ≡ spec.place_len bytes.now }
 {
     if node::is_fixed(bytes) {
-        FIXED_LEN
+        layout::FIXED_ENTRY_LEN
     } else {
-        VARIABLE_LEN
+        layout::VARIABLE_ENTRY_LEN
     }
 }
 
@@ -90,18 +80,18 @@ pub(crate) fn place_at<K: TreeKey>(bytes: &[u8], i: usize) -> Place
     requires inside { fields.table_begin bytes.now + (i + 1) * spec.place_len bytes.now ≤ length bytes.now }
     ensures { result ≡ spec.place_of K.shape bytes.now i }
 {
-    let begin = node::table_begin(bytes);
+    let start = node::table_begin(bytes);
     if node::is_fixed(bytes) {
-        fixed_place::<K>(bytes, begin + FIXED_LEN * i)
+        fixed_place::<K>(bytes, start + layout::FIXED_ENTRY_LEN * i)
     } else {
-        variable_place(bytes, begin + VARIABLE_LEN * i)
+        variable_place(bytes, start + layout::VARIABLE_ENTRY_LEN * i)
     }
 }
 
 pub(crate) fn is_ghost(place: Place) -> bool
     ensures { result ≡ spec.is_ghost place }
 {
-    place.value_offset == NO_VALUE
+    place.value_offset == layout::NO_VALUE
 }
 
 // The key's bytes.
@@ -127,11 +117,11 @@ pub(crate) fn value_in(bytes: &[u8], place: Place) -> Option<&[u8]>
     if is_ghost(place) {
         return None;
     }
-    let begin = node::end(bytes) - usize::from(place.value_offset);
-    Some(&bytes[begin..begin + place.value_len])
+    let start = node::end(bytes) - usize::from(place.value_offset);
+    Some(&bytes[start..start + place.value_len])
 }
 
-// The oid at the value's begin.
+// The oid at the start of the value.
 #[tactic(auto, unfolding(crate::specs::Entries::value_in))]
 pub(crate) fn child_in(bytes: &[u8], place: Place) -> u64
     requires long { 96 ≤ length bytes.now }

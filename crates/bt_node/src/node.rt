@@ -2,41 +2,8 @@
 ghost use Rattle.std.specs.Prelude.{◌≡◌, ◌+◌, ◌≤◌, ◌<◌, ◌^◌, length};
 ghost use Rattle.bt_node.specs.Node as fields;
 
+use apfs_layout::node as layout;
 use obj_base::{u16_at, u32_at, u64_at};
-
-// The fields of a node by offset, behind the object's header.
-const FLAGS: usize = 32;
-
-const LEVEL: usize = 34;
-
-const COUNT: usize = 36;
-
-const TABLE_OFFSET: usize = 40;
-
-const TABLE_LENGTH: usize = 42;
-
-// The table of contents is counted from here.
-const TABLE: usize = 56;
-
-// The flags of a node (B-Trees, B-Tree Node Flags).
-const ROOT: u16 = 1;
-
-const LEAF: u16 = 2;
-
-const FIXED: u16 = 4;
-
-const HASHED: u16 = 8;
-
-const NO_HEADER: u16 = 0x10;
-
-// A root's last bytes tell of its tree (B-Trees, btree_info_t); its fields by offset.
-const INFO_LEN: usize = 40;
-
-const NODE_SIZE: usize = 4;
-
-const KEY_COUNT: usize = 24;
-
-const NODE_COUNT: usize = 32;
 
 /// What is expected of a node.
 #[derive(Clone, Copy, PartialEq, Eq, Debug)]
@@ -63,42 +30,42 @@ fn flags(bytes: &[u8]) -> u16
     requires { 96 ≤ length bytes.now }
     ensures { result ≡ fields.flags_of bytes.now }
 {
-    u16_at(bytes, FLAGS)
+    u16_at(bytes, layout::FLAGS)
 }
 
 pub(crate) fn is_root(bytes: &[u8]) -> bool
     requires { 96 ≤ length bytes.now }
     ensures { result ≡ fields.is_root bytes.now }
 {
-    flags(bytes) & ROOT == ROOT
+    flags(bytes) & layout::ROOT == layout::ROOT
 }
 
 pub(crate) fn is_leaf(bytes: &[u8]) -> bool
     requires { 96 ≤ length bytes.now }
     ensures { result ≡ fields.is_leaf bytes.now }
 {
-    flags(bytes) & LEAF == LEAF
+    flags(bytes) & layout::LEAF == layout::LEAF
 }
 
 pub(crate) fn is_fixed(bytes: &[u8]) -> bool
     requires { 96 ≤ length bytes.now }
     ensures { result ≡ fields.is_fixed bytes.now }
 {
-    flags(bytes) & FIXED == FIXED
+    flags(bytes) & layout::FIXED == layout::FIXED
 }
 
 pub(crate) fn is_hashed(bytes: &[u8]) -> bool
     requires { 96 ≤ length bytes.now }
     ensures { result ≡ fields.is_hashed bytes.now }
 {
-    flags(bytes) & HASHED == HASHED
+    flags(bytes) & layout::HASHED == layout::HASHED
 }
 
 pub(crate) fn lacks_header(bytes: &[u8]) -> bool
     requires { 96 ≤ length bytes.now }
     ensures { result ≡ fields.lacks_header bytes.now }
 {
-    flags(bytes) & NO_HEADER == NO_HEADER
+    flags(bytes) & layout::NO_HEADER == layout::NO_HEADER
 }
 
 #[tactic(auto, unfolding(crate::specs::Node::level_of))]
@@ -106,7 +73,7 @@ pub(crate) fn level(bytes: &[u8]) -> u16
     requires { 96 ≤ length bytes.now }
     ensures { result ≡ fields.level_of bytes.now }
 {
-    u16_at(bytes, LEVEL)
+    u16_at(bytes, layout::LEVEL)
 }
 
 #[tactic(auto, unfolding(crate::specs::Node::count_of))]
@@ -115,16 +82,16 @@ pub(crate) fn count(bytes: &[u8]) -> usize
     ensures count { result ≡ fields.count_of bytes.now }
     ensures small { result < 2 ^ 32 }
 {
-    u32_at(bytes, COUNT) as usize
+    u32_at(bytes, layout::COUNT) as usize
 }
 
 #[tactic(auto, unfolding(crate::specs::Node::table_begin, crate::specs::Node::table_offset_of))]
 pub(crate) fn table_begin(bytes: &[u8]) -> usize
     requires { 96 ≤ length bytes.now }
-    ensures begin { result ≡ fields.table_begin bytes.now }
+    ensures start { result ≡ fields.table_begin bytes.now }
     ensures small { result < 56 + 2 ^ 16 }
 {
-    TABLE + usize::from(u16_at(bytes, TABLE_OFFSET))
+    layout::TABLE + usize::from(u16_at(bytes, layout::TABLE_OFFSET))
 }
 
 #[tactic(auto, unfolding(crate::specs::Node::table_length_of))]
@@ -133,14 +100,14 @@ pub(crate) fn table_length(bytes: &[u8]) -> usize
     ensures len { result ≡ fields.table_length_of bytes.now }
     ensures small { result < 2 ^ 16 }
 {
-    usize::from(u16_at(bytes, TABLE_LENGTH))
+    usize::from(u16_at(bytes, layout::TABLE_LENGTH))
 }
 
 // Where the table ends and the keys begin.
 #[tactic(auto, unfolding(crate::specs::Node::keys_begin))]
 pub(crate) fn keys_begin(bytes: &[u8]) -> usize
     requires { 96 ≤ length bytes.now }
-    ensures begin { result ≡ fields.keys_begin bytes.now }
+    ensures start { result ≡ fields.keys_begin bytes.now }
     ensures small { result < 56 + 2 ^ 17 }
 {
     table_begin(bytes) + table_length(bytes)
@@ -153,7 +120,7 @@ pub(crate) fn end(bytes: &[u8]) -> usize
     ensures end { result ≡ fields.end_of bytes.now }
     ensures inside { result ≤ length bytes.now }
 {
-    let info = if is_root(bytes) { INFO_LEN } else { 0 };
+    let info = if is_root(bytes) { layout::INFO_LEN } else { 0 };
     bytes.len() - info
 }
 
@@ -162,7 +129,7 @@ pub(crate) fn node_size(bytes: &[u8]) -> u32
     requires { 96 ≤ length bytes.now }
     ensures { result ≡ fields.node_size_of bytes.now }
 {
-    u32_at(bytes, bytes.len() - INFO_LEN + NODE_SIZE)
+    u32_at(bytes, bytes.len() - layout::INFO_LEN + layout::NODE_SIZE)
 }
 
 #[tactic(auto, unfolding(crate::specs::Node::node_size_of, crate::specs::Node::key_count_of, crate::specs::Node::node_count_of))]
@@ -173,10 +140,10 @@ pub(crate) fn info(bytes: &[u8]) -> Option<RootInfo>
     if !is_root(bytes) {
         return None;
     }
-    let info = bytes.len() - INFO_LEN;
+    let info = bytes.len() - layout::INFO_LEN;
     Some(RootInfo {
-        node_size: u32_at(bytes, info + NODE_SIZE),
-        key_count: u64_at(bytes, info + KEY_COUNT),
-        node_count: u64_at(bytes, info + NODE_COUNT),
+        node_size: u32_at(bytes, info + layout::NODE_SIZE),
+        key_count: u64_at(bytes, info + layout::KEY_COUNT),
+        node_count: u64_at(bytes, info + layout::NODE_COUNT),
     })
 }

@@ -7,17 +7,10 @@ ghost use Rattle.std.specs.Prelude.{◌≡◌, ◌≤◌, ◌<◌, ◌%◌, leng
 ghost use Rattle.bt_node.specs.Node as fields;
 ghost use Rattle.bt_node.specs.Soundness as spec;
 
-use crate::entries::{self, CHILD_LEN, Place};
+use crate::entries::{self, Place};
 use crate::{Layout, NodeAt, NodeFault, Site, TreeKey, node};
+use apfs_layout::{kind, node as layout};
 use obj_base::{Bad, Expect, Feature, HeadFault, sound};
-
-// The kinds of a tree's root and of its other nodes (Objects, Object Types).
-const ROOT_KIND: u16 = 2;
-
-const NODE_KIND: u16 = 3;
-
-// The greatest level of a root that is read.
-const MAX_LEVEL: u16 = 15;
 
 fn subtype<K: TreeKey>() -> u32
     ensures { result ≡ K.shape.subtype }
@@ -42,7 +35,11 @@ fn expect<K: TreeKey>(at: &NodeAt, site: &Site) -> Expect
     ensures { result ≡ spec.node_expect K.shape at.now site.now }
 {
     Expect {
-        kind: if at.root { ROOT_KIND } else { NODE_KIND },
+        kind: if at.root {
+            kind::TREE_ROOT
+        } else {
+            kind::TREE_NODE
+        },
         subtype: Some(subtype::<K>()),
         oid: Some(at.oid),
         max_xid: site.max_xid,
@@ -100,9 +97,9 @@ fn is_key_inside(bytes: &[u8], place: Place) -> bool
     requires { 96 ≤ length bytes.now }
     ensures { result ≡ spec.is_key_inside bytes.now place }
 {
-    let begin = node::keys_begin(bytes) + usize::from(place.key_offset);
+    let start = node::keys_begin(bytes) + usize::from(place.key_offset);
     let end = node::end(bytes);
-    begin <= end && place.key_len <= end - begin
+    start <= end && place.key_len <= end - start
 }
 
 // Whether a value does, and has room for a child's oid above level 0.
@@ -115,7 +112,7 @@ fn is_value_inside(bytes: &[u8], place: Place) -> bool
     entries::is_ghost(place)
         || (node::keys_begin(bytes) + offset <= node::end(bytes)
             && place.value_len <= offset
-            && (node::level(bytes) == 0 || CHILD_LEN <= place.value_len))
+            && (node::level(bytes) == 0 || layout::CHILD_LEN <= place.value_len))
 }
 
 // Whether the table of contents holds its entries, and ends by where the values end.
@@ -234,7 +231,7 @@ fn test_node<K: TreeKey>(bytes: &[u8], at: &NodeAt, site: &Site) -> Result<(), B
     if !has_right_flags(layout::<K>(), at, bytes) {
         return Err(Bad::Found(NodeFault::Flags));
     }
-    if at.root && node::level(bytes) > MAX_LEVEL {
+    if at.root && node::level(bytes) > layout::MAX_LEVEL {
         return Err(Bad::Unsupported(Feature::Deep));
     }
     if !has_level(at.level, bytes) {

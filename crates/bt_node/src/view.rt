@@ -92,7 +92,7 @@ impl<'a, K: TreeKey> NodeView<'a, K> {
     pub fn entry(&self, i: usize) -> Entry<'a, K>
         requires { i < fields.count_of self.now }
         ensures key_bytes { result.key_bytes.now ≡ (spec.pair_of K.shape self.now i).key }
-        ensures value { option_map (λ value. value.now) result.value ≡ (spec.pair_of K.shape self.now i).value }
+        ensures value_bytes { option_map (λ value. value.now) result.value ≡ (spec.pair_of K.shape self.now i).value }
         ensures key { K.shape.read result.key_bytes.now ≡ Some result.key }
         ensures listed { slice_get (spec.pairs_of K.shape self.now) i ≡ Some (spec.pair_of K.shape self.now i) }
     {
