@@ -33,7 +33,9 @@ pub fn jump_read(bytes: &[u8]) -> Option<Jump<'_>>
     ensures { result ≡ jump_of bytes.now }
 {
     let count = u32_at(bytes, jumpstart::COUNT) as usize;
-    if u32_at(bytes, jumpstart::MAGIC) == jumpstart::JUMP_MAGIC && jumpstart::EXTENTS + jumpstart::EXTENT_LEN * count <= bytes.len() {
+    if u32_at(bytes, jumpstart::MAGIC) == jumpstart::JUMP_MAGIC
+        && jumpstart::EXTENTS + jumpstart::EXTENT_LEN * count <= bytes.len()
+    {
         return Some(Jump { bytes });
     }
     None
@@ -53,6 +55,9 @@ impl Jump<'_> {
         requires { i < jump_count_of self.now }
         ensures { result ≡ jump_extent_of self.now i }
     {
-        range_in(self.bytes, jumpstart::EXTENTS + jumpstart::EXTENT_LEN * i as usize)
+        range_in(
+            self.bytes,
+            jumpstart::EXTENTS + jumpstart::EXTENT_LEN * i as usize,
+        )
     }
 }
