@@ -1,7 +1,5 @@
 // What no clause says: that calls succeed, and what a file and a writer do.
-use crate::{
-    BlockSource, Bytes, FileSource, MemSink, MemSource, Opened, Sink, StdSink, SureSource,
-};
+use crate::{BlockSource, FileSource, MemSink, MemSource, Opened, Sink, StdSink, SureSource};
 use std::fs::OpenFile;
 use std::io::{self, ErrorKind, Write};
 use std::test::Fail;
@@ -43,15 +41,6 @@ fn a_sink_in_memory_refuses_by_number_and_by_room(rt: HostRuntime) -> Result<(),
     assert!(rt; sink.put(b"g").is_err());
     assert_eq!(rt; sink.contents(), b"abdef".as_slice());
     assert_eq!(rt; sink.fault_count(), 2);
-    Ok(())
-}
-
-#[test]
-fn bytes_are_a_copy(rt: HostRuntime) -> Result<(), Fail> {
-    let name = Bytes::from_slice(rt.alloc(), b"name")?;
-    assert_eq!(rt; name.as_slice(), b"name".as_slice());
-    assert!(rt; name == Bytes::from_slice(rt.alloc(), b"name")?);
-    assert!(rt; name != Bytes::from_slice(rt.alloc(), b"names")?);
     Ok(())
 }
 

@@ -1,7 +1,7 @@
 // A text or a name as its bytes.
 ghost use Rattle.std.specs.Prelude.{◌≡◌, IfOk, List, ℕ};
 
-use apfs_model::NoMemory;
+use crate::NoMemory;
 use std::alloc::Global;
 use std::marker::Model;
 

@@ -1,0 +1,12 @@
+// What no clause says: that a copy is made, with ample memory.
+use crate::Bytes;
+use std::test::Fail;
+
+#[test]
+fn bytes_are_a_copy(rt: HostRuntime) -> Result<(), Fail> {
+    let name = Bytes::from_slice(rt.alloc(), b"name")?;
+    assert_eq!(rt; name.as_slice(), b"name".as_slice());
+    assert!(rt; name == Bytes::from_slice(rt.alloc(), b"name")?);
+    assert!(rt; name != Bytes::from_slice(rt.alloc(), b"names")?);
+    Ok(())
+}
