@@ -22,7 +22,7 @@ pub fn read_block<S: BlockSource>(
     requires short { length into.old ≤ 65536 }
     requires inside { length into.old * block + length into.old ≤ S.bytes_len src.old }
     ensures found { (image : List ℕ) → S.bytes src.old ≡ Some image → OnOk result (into.new ≡ block_of (length into.old) image block) }
-    ensures len { length into.new ≡ length into.old }
+    ensures long { length into.new ≡ length into.old }
     ensures cause { OnErr result (Rose (S.faults src.old) (S.faults src.new)) }
     ensures kept { IsKept S.bytes S.bytes_len S.faults src.old src.new }
     ensures reads { S.reads src.new ≡ one_more (S.reads src.old) }
@@ -43,7 +43,7 @@ pub fn read_new<S: BlockSource, F>(
     requires short { size ≤ 65536 }
     requires inside { size * block + size ≤ S.bytes_len src.old }
     ensures found { (image : List ℕ) → S.bytes src.old ≡ Some image → IfOk result (λ bytes. bytes.items ≡ block_of size image block) }
-    ensures len { IfOk result (λ bytes. length bytes.items ≡ size) }
+    ensures long { IfOk result (λ bytes. length bytes.items ≡ size) }
     ensures free { IfErr result IsFree }
     ensures cause { IsErrOf result ReadFault → Rose (S.faults src.old) (S.faults src.new) }
     ensures kept { IsKept S.bytes S.bytes_len S.faults src.old src.new }

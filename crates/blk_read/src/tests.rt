@@ -1,7 +1,10 @@
 // What no clause says: that calls succeed.
-use crate::{read_block, read_new};
+ghost use Rattle.std.specs.Prelude.{◌<◌};
+
+use crate::{read_block, read_new, read_sound};
 use blk_source::{MemSource, SureSource};
-use obj_base::Stop;
+use obj_base::{Expect, HeadFault, Site, Stop, Unsound};
+use std::alloc::Global;
 use std::test::Fail;
 
 #[test]
@@ -22,4 +25,54 @@ fn a_failed_read_is_carried(rt: HostRuntime) -> Result<(), Fail> {
     let bytes: Result<Vec<u8>, Stop<()>> = read_new(alloc, &mut source, 1, 1);
     assert!(rt; matches!(bytes, Err(Stop::ReadFault)));
     Ok(())
+}
+
+// The header of the object map with oid 1 of transaction 5 in a block of 4,096 bytes that is otherwise zero. Its sum was
+// worked out by another program.
+const HEADER: [u8; 36] = [
+    72, 187, 255, 63, 166, 68, 0, 128, 1, 0, 0, 0, 0, 0, 0, 0, 5, 0, 0, 0, 0, 0, 0, 0, 11, 0, 0,
+    64, 0, 0, 0, 0, 0, 0, 0, 0,
+];
+
+// The length of the object in a block of an image of two blocks, the second with that header, or why it is refused.
+fn judge(
+    alloc: Global,
+    block: u64,
+    kind: u16,
+    oid: Option<u64>,
+) -> Result<usize, Stop<Unsound<HeadFault>>>
+    requires { block < 2 }
+{
+    let mut image = vec![in alloc; 0u8; 8192]?;
+    image[4096..4132].copy_from_slice(&HEADER);
+    let site = Site {
+        block_size: 4096,
+        blocks: 2,
+        max_xid: 5,
+    };
+    let expect = Expect {
+        kind,
+        subtype: None,
+        oid,
+        max_xid: 5,
+    };
+    let object = read_sound(alloc, &mut SureSource::new(image), &site, block, &expect)?;
+    Ok(object.len())
+}
+
+#[test]
+fn an_object_is_judged_where_it_stands(rt: HostRuntime) {
+    let alloc = rt.alloc();
+    let refused = |block, why| Err(Stop::Found(Unsound { block, why }));
+    assert_eq!(rt; judge(alloc, 1, 0xb, Some(1)), Ok(4096));
+    assert_eq!(rt; judge(alloc, 1, 0xb, None), Ok(4096));
+    assert_eq!(rt;
+        judge(alloc, 1, 0xc, Some(1)),
+        refused(1, HeadFault::BadKind)
+    );
+    assert_eq!(rt;
+        judge(alloc, 1, 0xb, Some(2)),
+        refused(1, HeadFault::BadOid)
+    );
+    assert_eq!(rt; judge(alloc, 0, 0, Some(0)), refused(0, HeadFault::BadSum));
 }
