@@ -1,18 +1,40 @@
 -- The laws of the seven kinds of keys.
-use Rattle.std.specs.Prelude.{◌≡◌, ℕ, ◌≤◌, List, length, Some, refl}
-use Rattle.std.proofs.Common.{ap, arith}
-use Rattle.std.proofs.lemmas.Grind.{common_steps}
+use Rattle.std.specs.Prelude.{◌≡◌, ℕ, ◌≤◌, Bool, true, false, ◌&&◌, nat_lt, nat_le, List, length, Option, Some, None, if◌then◌else◌, refl}
+use Rattle.std.proofs.Common.{ap, sym}
+use Rattle.std.proofs.lemmas.Bool.{ltb-false, leb-true, false≢true}
+use Rattle.std.proofs.lemmas.Option.{none-some, same_Some}
 use Rattle.bt_node.specs.declared.key.Rank.{Rank}
 use Rattle.bt_node.specs.Shape.{IsLawful}
-use Rattle.bt_keys.specs.RecordKey.{is_ext_key}
+use Rattle.bt_keys.specs.RecordKey.{id_of, record_kind_of, sub_of, is_ext_key, is_fs_key}
 use Rattle.bt_keys.specs.Shapes.{omap_shape, omap_snap_shape, queue_shape, ext_shape, snap_shape, fs_shape, fs_plain_shape}
+use Rattle.bt_keys.specs.FsTree.{IsFsKey, IsFsShape}
 use Rattle.bt_keys.specs.declared.number_key.OmapKey.{OmapKey}
 use Rattle.bt_keys.specs.declared.number_key.OmapSnapKey.{OmapSnapKey}
 use Rattle.bt_keys.specs.declared.number_key.QueueKey.{QueueKey}
 use Rattle.bt_keys.specs.declared.record_key.ExtKey.{ExtKey}
+use Rattle.bt_keys.specs.declared.record_key.FsKey.{FsKey}
+use Rattle.bt_keys.specs.declared.record_key.FsPlainKey.{FsPlainKey}
 
-pub omap_long : (key : List ℕ) (k : OmapKey) → omap_shape.read key ≡ Some k → 16 ≤ length key
-omap_long key k e = Prim.grind (arith, common_steps)
+-- what is read where a test fails is read only then
+read-fails : {X : Type 0} (test : Bool) (x y : X) → (if test then None else Some x) ≡ Some y → test ≡ false
+read-fails true x y e = absurd (none-some y e)
+read-fails false x y e = refl
+
+-- what is read where a test passes is read only then, and is what is read there
+read-passes : {X : Type 0} (test : Bool) (x y : X) → (if test then Some x else None) ≡ Some y → test ≡ true
+read-passes true x y e = refl
+read-passes false x y e = absurd (none-some y e)
+
+read-is : {X : Type 0} (test : Bool) (x y : X) → (if test then Some x else None) ≡ Some y → y ≡ x
+read-is true x y e = sym (same_Some x y e)
+read-is false x y e = absurd (none-some y e)
+
+first-passes : (a b : Bool) → (a && b) ≡ true → a ≡ true
+first-passes true b e = refl
+first-passes false b e = absurd (false≢true e)
+
+omap_long : (key : List ℕ) (k : OmapKey) → omap_shape.read key ≡ Some k → 16 ≤ length key
+omap_long key k e = ltb-false (length key) 16 (read-fails (nat_lt (length key) 16) _ k e)
 
 pub omap_lawful : IsLawful omap_shape
 omap_lawful = record {
@@ -20,8 +42,8 @@ omap_lawful = record {
   long = λ key k fixed e. omap_long key k e;
 }
 
-pub omap_snap_long : (key : List ℕ) (k : OmapSnapKey) → omap_snap_shape.read key ≡ Some k → 8 ≤ length key
-omap_snap_long key k e = Prim.grind (arith, common_steps)
+omap_snap_long : (key : List ℕ) (k : OmapSnapKey) → omap_snap_shape.read key ≡ Some k → 8 ≤ length key
+omap_snap_long key k e = ltb-false (length key) 8 (read-fails (nat_lt (length key) 8) _ k e)
 
 pub omap_snap_lawful : IsLawful omap_snap_shape
 omap_snap_lawful = record {
@@ -29,8 +51,8 @@ omap_snap_lawful = record {
   long = λ key k fixed e. omap_snap_long key k e;
 }
 
-pub queue_long : (key : List ℕ) (k : QueueKey) → queue_shape.read key ≡ Some k → 16 ≤ length key
-queue_long key k e = Prim.grind (arith, common_steps)
+queue_long : (key : List ℕ) (k : QueueKey) → queue_shape.read key ≡ Some k → 16 ≤ length key
+queue_long key k e = ltb-false (length key) 16 (read-fails (nat_lt (length key) 16) _ k e)
 
 pub queue_lawful : IsLawful queue_shape
 queue_lawful = record {
@@ -38,9 +60,9 @@ queue_lawful = record {
   long = λ key k fixed e. queue_long key k e;
 }
 
-pub ext_long : (key : List ℕ) (k : ExtKey) → ext_shape.read key ≡ Some k → 8 ≤ length key
+ext_long : (key : List ℕ) (k : ExtKey) → ext_shape.read key ≡ Some k → 8 ≤ length key
 unfolding is_ext_key
-ext_long key k e = Prim.grind (arith, common_steps)
+ext_long key k e = leb-true 8 (length key) (first-passes (nat_le 8 (length key)) _ (read-passes (is_ext_key key) _ k e))
 
 pub ext_lawful : IsLawful ext_shape
 ext_lawful = record {
@@ -65,3 +87,38 @@ fs_plain_lawful = record {
   one = λ a b s t e. ap (λ (r : Rank). record { id = r.id; kind = r.kind; sub = r.sub }) e;
   long = λ key k other e. absurd (other refl);
 }
+
+-- the key that is read from a record's bytes
+fs_key : List ℕ → FsKey
+fs_key key = record { id = id_of key; kind = record_kind_of key; sub = sub_of true key }
+
+fs_read : (key : List ℕ) (k : FsKey) → fs_shape.read key ≡ Some k → IsFsKey true key (fs_shape.rank k)
+unfolding fs_key
+fs_read key k e =
+    let same : k ≡ fs_key key = read-is (is_fs_key true key) (fs_key key) k e in
+    record {
+      whole = read-passes (is_fs_key true key) (fs_key key) k e;
+      id = ap (λ (f : FsKey). f.id) same;
+      kind = ap (λ (f : FsKey). f.kind) same;
+      sub = ap (λ (f : FsKey). f.sub) same;
+    }
+
+pub fs_of_tree : IsFsShape true fs_shape
+fs_of_tree = record { reads = fs_read; strict = λ k. refl }
+
+fs_plain_key : List ℕ → FsPlainKey
+fs_plain_key key = record { id = id_of key; kind = record_kind_of key; sub = sub_of false key }
+
+fs_plain_read : (key : List ℕ) (k : FsPlainKey) → fs_plain_shape.read key ≡ Some k → IsFsKey false key (fs_plain_shape.rank k)
+unfolding fs_plain_key
+fs_plain_read key k e =
+    let same : k ≡ fs_plain_key key = read-is (is_fs_key false key) (fs_plain_key key) k e in
+    record {
+      whole = read-passes (is_fs_key false key) (fs_plain_key key) k e;
+      id = ap (λ (f : FsPlainKey). f.id) same;
+      kind = ap (λ (f : FsPlainKey). f.kind) same;
+      sub = ap (λ (f : FsPlainKey). f.sub) same;
+    }
+
+pub fs_plain_of_tree : IsFsShape false fs_plain_shape
+fs_plain_of_tree = record { reads = fs_plain_read; strict = λ k. refl }

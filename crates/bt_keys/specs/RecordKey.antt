@@ -38,7 +38,7 @@ snapshot_name_record = 11
 abbrev pub sibling_map_record : ℕ
 sibling_map_record = 12
 
--- the number behind the record key: a sibling's id, or a logical address
+-- the number after the id and the kind: a sibling's id, or a logical address
 unfoldable pub second_of : List ℕ → ℕ
 second_of key = u64_at key 8
 

@@ -1,6 +1,7 @@
 //! The keys and the values of the seven kinds of trees.
 #![tactic(auto)]
 
+mod fs_tree;
 #[cfg(test)]
 mod node_tests;
 mod number_key;
@@ -10,6 +11,7 @@ mod record_key;
 mod tests;
 mod values;
 
+pub use fs_tree::FsTreeKey;
 pub use number_key::{OmapKey, OmapSnapKey, QueueKey};
 pub use record_key::{ExtKey, FsKey, FsPlainKey, SnapKey};
 pub use values::{ExtValue, OmapValue, ext_value, omap_snap_flags, omap_value, queue_length};

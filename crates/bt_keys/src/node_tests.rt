@@ -3,8 +3,10 @@
 // offset 16.
 
 use crate::{ExtKey, FsKey, OmapKey, QueueKey};
+use apfs_layout::{node, object};
 use bt_node::{NodeAt, NodeFault, NodeView, Site, TreeKey};
-use obj_base::{Bad, Feature, HeadFault, sum64};
+use obj_base::{Bad, Feature, HeadFault, is_accepted, sum64};
+use std::alloc::Global;
 use std::test::Fail;
 
 const SITE: Site = Site {
@@ -19,28 +21,29 @@ const AT: NodeAt = NodeAt {
     level: None,
 };
 
-// The fields that the cases change, by offset.
-const OID: usize = 8;
+// The fields that the cases change: those of the header and of the node, the two numbers of the entry in the table, and
+// the node size that the root tells.
+const OID: usize = object::OID;
 
-const KIND: usize = 24;
+const KIND: usize = object::TYPE;
 
-const SUBTYPE: usize = 28;
+const SUBTYPE: usize = object::SUBTYPE;
 
-const FLAGS: usize = 32;
+const FLAGS: usize = node::FLAGS;
 
-const LEVEL: usize = 34;
+const LEVEL: usize = node::LEVEL;
 
-const COUNT: usize = 36;
+const COUNT: usize = node::COUNT;
 
-const TABLE_OFFSET: usize = 40;
+const TABLE_OFFSET: usize = node::TABLE_OFFSET;
 
-const TABLE_LENGTH: usize = 42;
+const TABLE_LENGTH: usize = node::TABLE_LENGTH;
 
-const KEY_OFFSET: usize = 56;
+const KEY_OFFSET: usize = node::TABLE;
 
-const VALUE_OFFSET: usize = 58;
+const VALUE_OFFSET: usize = node::TABLE + 2;
 
-const NODE_SIZE: usize = 4060;
+const NODE_SIZE: usize = 4096 - node::INFO_LEN + node::NODE_SIZE;
 
 // A field's place and its 16 bits.
 type Edit = (usize, u16);
@@ -280,6 +283,119 @@ fn a_node_above_the_leaves_names_children(rt: HostRuntime) -> Result<(), Fail> {
     };
     if view.len() == 1 && view.level() == 1 {
         assert_eq!(rt; view.child(0), 9 + 0x0100_0000_0000_0000);
+    }
+    Ok(())
+}
+
+// Where bytes start and end.
+type Part = (usize, usize);
+
+// A larger node: its block size, whether it is a root, its bytes other than 0 by place, and where the key and the value of
+// its last entry lie. The sums were worked out apart.
+type Large = (u32, bool, &'static [(usize, u8)], Part, Part);
+
+// A root with two entries, of which the last has the key offset 60,000 and the value offset 65,000; and a node below a
+// root, whose table is at offset 512, with the key offset 12,000.
+const LARGE: &[Large] = &[
+    (
+        65536,
+        true,
+        &[
+            (0, 201),
+            (1, 19),
+            (2, 20),
+            (3, 169),
+            (4, 82),
+            (5, 1),
+            (6, 234),
+            (7, 88),
+            (8, 26),
+            (16, 1),
+            (24, 2),
+            (28, 11),
+            (32, 7),
+            (36, 2),
+            (42, 8),
+            (58, 16),
+            (60, 96),
+            (61, 234),
+            (62, 232),
+            (63, 253),
+            (64, 4),
+            (72, 1),
+            (496, 7),
+            (504, 61),
+            (60064, 5),
+            (60072, 1),
+            (65502, 1),
+            (65520, 2),
+            (65528, 1),
+        ],
+        (60064, 60080),
+        (496, 512),
+    ),
+    (
+        16384,
+        false,
+        &[
+            (0, 202),
+            (1, 204),
+            (2, 252),
+            (3, 197),
+            (4, 219),
+            (5, 1),
+            (6, 239),
+            (7, 57),
+            (8, 26),
+            (16, 1),
+            (24, 3),
+            (28, 11),
+            (32, 6),
+            (36, 1),
+            (41, 2),
+            (42, 4),
+            (568, 224),
+            (569, 46),
+            (570, 16),
+            (12572, 5),
+            (12580, 1),
+            (16368, 7),
+            (16376, 61),
+        ],
+        (12572, 12588),
+        (16368, 16384),
+    ),
+];
+
+fn filled(alloc: Global, len: usize, bytes: &[(usize, u8)]) -> Result<Vec<u8>, Fail> {
+    let mut node = vec![in alloc; 0u8; len]?;
+    for (at, byte) in bytes {
+        if let Some(place) = node.get_mut(*at) {
+            *place = *byte;
+        }
+    }
+    Ok(node)
+}
+
+#[test]
+fn larger_nodes_end_where_their_blocks_do(rt: HostRuntime) -> Result<(), Fail> {
+    for (block_size, root, bytes, key, value) in LARGE {
+        let node = filled(rt.alloc(), *block_size as usize, bytes)?;
+        let site = Site {
+            block_size: *block_size,
+            ..SITE
+        };
+        let at = NodeAt { root: *root, ..AT };
+        assert!(rt; is_accepted(*block_size) && node.len() == *block_size as usize);
+        let Ok(view) = NodeView::<OmapKey>::read(&node, &at, &site) else {
+            return Err(Fail::from("not sound"));
+        };
+        let last = view.len().saturating_sub(1);
+        assert!(rt; last < view.len());
+        let entry = view.entry(last);
+        assert_eq!(rt; entry.key, OmapKey { oid: 5, xid: 1 });
+        assert_eq!(rt; Some(entry.key_bytes), node.get(key.0..key.1));
+        assert_eq!(rt; entry.value, node.get(value.0..value.1));
     }
     Ok(())
 }

@@ -1,5 +1,6 @@
 // Keys that are numbers: those of object maps, of their snapshots and of free queues.
 
+use apfs_layout::{key as layout, kind, value};
 use bt_node::{Layout, Rank, TreeKey};
 use obj_base::u64_at;
 
@@ -24,38 +25,19 @@ pub struct QueueKey {
     pub paddr: u64,
 }
 
-// The fields of an object map's key by offset.
-const OMAP_OID: usize = 0;
-
-const OMAP_XID: usize = 8;
-
-const OMAP_KEY_LEN: usize = 16;
-
-// The field of a map snapshot's key.
-const SNAP_XID: usize = 0;
-
-const SNAP_KEY_LEN: usize = 8;
-
-// The fields of a free queue's key by offset.
-const QUEUE_XID: usize = 0;
-
-const QUEUE_PADDR: usize = 8;
-
-const QUEUE_KEY_LEN: usize = 16;
-
 impl TreeKey for OmapKey {
     ghost use Rattle.std.specs.Prelude.{refl, false};
     ghost use Rattle.bt_node.specs.declared.key.Layout.TheVariants.{Fixed};
     ghost use Rattle.bt_keys.specs.Shapes.{omap_shape};
     ghost use Rattle.bt_keys.specs.Laws.{omap_lawful};
 
-    const SUBTYPE: u32 = 0xb;
+    const SUBTYPE: u32 = kind::OBJECT_MAP as u32;
 
     const LAYOUT: Layout = Layout::Fixed;
 
-    const KEY_LEN: usize = OMAP_KEY_LEN;
+    const KEY_LEN: usize = layout::OMAP_LEN;
 
-    const VALUE_LEN: usize = 16;
+    const VALUE_LEN: usize = value::OMAP_LEN;
 
     const GHOSTS: bool = false;
 
@@ -84,12 +66,12 @@ impl TreeKey for OmapKey {
     ghost lawful = { omap_lawful };
 
     fn read(key: &[u8]) -> Option<Self> {
-        if key.len() < OMAP_KEY_LEN {
+        if key.len() < layout::OMAP_LEN {
             return None;
         }
         Some(OmapKey {
-            oid: u64_at(key, OMAP_OID),
-            xid: u64_at(key, OMAP_XID),
+            oid: u64_at(key, layout::OMAP_OID),
+            xid: u64_at(key, layout::OMAP_XID),
         })
     }
 
@@ -112,13 +94,13 @@ impl TreeKey for OmapSnapKey {
     ghost use Rattle.bt_keys.specs.Shapes.{omap_snap_shape};
     ghost use Rattle.bt_keys.specs.Laws.{omap_snap_lawful};
 
-    const SUBTYPE: u32 = 0x13;
+    const SUBTYPE: u32 = kind::MAP_SNAPSHOTS as u32;
 
     const LAYOUT: Layout = Layout::Fixed;
 
-    const KEY_LEN: usize = SNAP_KEY_LEN;
+    const KEY_LEN: usize = layout::MAP_SNAPSHOT_LEN;
 
-    const VALUE_LEN: usize = 16;
+    const VALUE_LEN: usize = value::MAP_SNAPSHOT_LEN;
 
     const GHOSTS: bool = false;
 
@@ -147,11 +129,11 @@ impl TreeKey for OmapSnapKey {
     ghost lawful = { omap_snap_lawful };
 
     fn read(key: &[u8]) -> Option<Self> {
-        if key.len() < SNAP_KEY_LEN {
+        if key.len() < layout::MAP_SNAPSHOT_LEN {
             return None;
         }
         Some(OmapSnapKey {
-            xid: u64_at(key, SNAP_XID),
+            xid: u64_at(key, layout::MAP_SNAPSHOT_XID),
         })
     }
 
@@ -174,13 +156,13 @@ impl TreeKey for QueueKey {
     ghost use Rattle.bt_keys.specs.Shapes.{queue_shape};
     ghost use Rattle.bt_keys.specs.Laws.{queue_lawful};
 
-    const SUBTYPE: u32 = 9;
+    const SUBTYPE: u32 = kind::FREE_QUEUE as u32;
 
     const LAYOUT: Layout = Layout::Fixed;
 
-    const KEY_LEN: usize = QUEUE_KEY_LEN;
+    const KEY_LEN: usize = layout::QUEUE_LEN;
 
-    const VALUE_LEN: usize = 8;
+    const VALUE_LEN: usize = value::QUEUE_LEN;
 
     const GHOSTS: bool = true;
 
@@ -209,12 +191,12 @@ impl TreeKey for QueueKey {
     ghost lawful = { queue_lawful };
 
     fn read(key: &[u8]) -> Option<Self> {
-        if key.len() < QUEUE_KEY_LEN {
+        if key.len() < layout::QUEUE_LEN {
             return None;
         }
         Some(QueueKey {
-            xid: u64_at(key, QUEUE_XID),
-            paddr: u64_at(key, QUEUE_PADDR),
+            xid: u64_at(key, layout::QUEUE_XID),
+            paddr: u64_at(key, layout::QUEUE_PADDR),
         })
     }
 

@@ -1,6 +1,7 @@
-// Keys that begin with a record's id and kind: those of extent reference, snapshot metadata and file-system trees.
+// Keys that start with a record's id and kind: those of extent reference, snapshot metadata and file-system trees.
 
 use crate::record;
+use apfs_layout::{key as layout, kind, value};
 use bt_node::{Layout, Rank, TreeKey};
 
 /// A key of an extent reference tree: the first block of a range (File-System Objects, `j_phys_ext_key_t`).
@@ -41,13 +42,13 @@ impl TreeKey for ExtKey {
     ghost use Rattle.bt_keys.specs.Shapes.{ext_shape};
     ghost use Rattle.bt_keys.specs.Laws.{ext_lawful};
 
-    const SUBTYPE: u32 = 0xf;
+    const SUBTYPE: u32 = kind::EXTENT_REFERENCES as u32;
 
     const LAYOUT: Layout = Layout::Either;
 
-    const KEY_LEN: usize = 8;
+    const KEY_LEN: usize = layout::RECORD_LEN;
 
-    const VALUE_LEN: usize = 20;
+    const VALUE_LEN: usize = value::EXT_LEN;
 
     const GHOSTS: bool = false;
 
@@ -88,7 +89,7 @@ impl TreeKey for ExtKey {
     fn rank(&self) -> Rank {
         Rank {
             id: self.first,
-            kind: u64::from(record::EXTENT),
+            kind: u64::from(layout::EXTENT),
             sub: 0,
         }
     }
@@ -104,7 +105,7 @@ impl TreeKey for SnapKey {
     ghost use Rattle.bt_keys.specs.Shapes.{snap_shape};
     ghost use Rattle.bt_keys.specs.Laws.{snap_lawful};
 
-    const SUBTYPE: u32 = 0x10;
+    const SUBTYPE: u32 = kind::SNAPSHOT_METADATA as u32;
 
     const LAYOUT: Layout = Layout::Variable;
 
@@ -158,7 +159,7 @@ impl TreeKey for SnapKey {
     }
 
     fn strict(&self) -> bool {
-        self.kind == record::SNAPSHOT
+        self.kind == layout::SNAPSHOT
     }
 }
 
@@ -168,7 +169,7 @@ impl TreeKey for FsKey {
     ghost use Rattle.bt_keys.specs.Shapes.{fs_shape};
     ghost use Rattle.bt_keys.specs.Laws.{fs_lawful};
 
-    const SUBTYPE: u32 = 0xe;
+    const SUBTYPE: u32 = kind::FILE_SYSTEM as u32;
 
     const LAYOUT: Layout = Layout::Variable;
 
@@ -233,7 +234,7 @@ impl TreeKey for FsPlainKey {
     ghost use Rattle.bt_keys.specs.Shapes.{fs_plain_shape};
     ghost use Rattle.bt_keys.specs.Laws.{fs_plain_lawful};
 
-    const SUBTYPE: u32 = 0xe;
+    const SUBTYPE: u32 = kind::FILE_SYSTEM as u32;
 
     const LAYOUT: Layout = Layout::Variable;
 

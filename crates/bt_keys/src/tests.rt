@@ -111,6 +111,19 @@ fn keys_of_records(rt: HostRuntime) {
     read_all::<FsPlainKey>(&rt, PLAIN);
 }
 
+fn parts<K: FsTreeKey>(key: &[u8]) -> Option<(u64, u8, bool)> {
+    let key = K::read(key)?;
+    Some((key.id(), key.kind(), K::HASHED))
+}
+
+#[test]
+fn keys_of_file_systems(rt: HostRuntime) {
+    let extent = [2, 0, 0, 0, 0, 0, 0, 0x80, 0, 16, 0, 0, 0, 0, 0, 0];
+    assert_eq!(rt; parts::<FsKey>(&extent), Some((2, 8, true)));
+    assert_eq!(rt; parts::<FsPlainKey>(&extent), Some((2, 8, false)));
+    assert_eq!(rt; parts::<FsPlainKey>(&extent[..15]), None);
+}
+
 #[test]
 fn ranks_are_ordered_by_their_fields(rt: HostRuntime) {
     assert!(rt; rank(1, 9, 9).is_below(&rank(2, 0, 0)));

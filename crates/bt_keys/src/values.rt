@@ -3,6 +3,8 @@ ghost use Rattle.std.specs.Prelude.{◌≡◌, ◌≤◌, ◌+◌, length, optio
 ghost use Rattle.apfs_model.specs.Bytes.{i32_at};
 ghost use Rattle.bt_keys.specs.Values as spec;
 
+use apfs_layout::key::KIND_UNIT;
+use apfs_layout::value as layout;
 use obj_base::{u32_at, u64_at};
 
 /// Where a version of an object lies (Object Maps, `omap_val_t`).
@@ -28,52 +30,18 @@ pub struct ExtValue {
     pub count: i32,
 }
 
-// The fields of an object map's value by offset.
-const OMAP_FLAGS: usize = 0;
-
-const OMAP_SIZE: usize = 4;
-
-const OMAP_PADDR: usize = 8;
-
-const OMAP_VALUE_LEN: usize = 16;
-
-// The field of a map snapshot's value that is read; an oid follows at 8.
-const SNAP_FLAGS: usize = 0;
-
-const SNAP_VALUE_LEN: usize = 16;
-
-// The field of a free queue's value.
-const QUEUE_LENGTH: usize = 0;
-
-const QUEUE_VALUE_LEN: usize = 8;
-
-// An entry of a free queue without a value frees one block.
-const GHOST_LENGTH: u64 = 1;
-
-// The fields of an extent's value by offset.
-const EXT_LENGTH_AND_KIND: usize = 0;
-
-const EXT_OWNER: usize = 8;
-
-const EXT_COUNT: usize = 16;
-
-const EXT_VALUE_LEN: usize = 20;
-
-// The length stands in the low 60 bits, and the kind in the high 4 (PEXT_LEN_MASK, PEXT_KIND_MASK).
-const KIND_UNIT: u64 = 1 << 60;
-
 /// The value of an object map's record; None where it is shorter than 16 bytes.
 #[tactic(auto, unfolding(crate::specs::Values::omap_value_of))]
 pub fn omap_value(value: &[u8]) -> Option<OmapValue>
     ensures { result ≡ spec.omap_value_of value.now }
 {
-    if value.len() < OMAP_VALUE_LEN {
+    if value.len() < layout::OMAP_LEN {
         return None;
     }
     Some(OmapValue {
-        flags: u32_at(value, OMAP_FLAGS),
-        size: u32_at(value, OMAP_SIZE),
-        paddr: u64_at(value, OMAP_PADDR),
+        flags: u32_at(value, layout::OMAP_FLAGS),
+        size: u32_at(value, layout::OMAP_SIZE),
+        paddr: u64_at(value, layout::OMAP_PADDR),
     })
 }
 
@@ -82,10 +50,10 @@ pub fn omap_value(value: &[u8]) -> Option<OmapValue>
 pub fn omap_snap_flags(value: &[u8]) -> Option<u32>
     ensures { result ≡ spec.omap_snap_flags_of value.now }
 {
-    if value.len() < SNAP_VALUE_LEN {
+    if value.len() < layout::MAP_SNAPSHOT_LEN {
         return None;
     }
-    Some(u32_at(value, SNAP_FLAGS))
+    Some(u32_at(value, layout::MAP_SNAPSHOT_FLAGS))
 }
 
 /// The length in blocks of a free queue's entry: 1 without a value, and None where the value is shorter than 8 bytes
@@ -95,12 +63,12 @@ pub fn queue_length(value: Option<&[u8]>) -> Option<u64>
     ensures { result ≡ spec.queue_length_of (option_map (λ v. v.now) value.entry) }
 {
     let Some(value) = value else {
-        return Some(GHOST_LENGTH);
+        return Some(layout::GHOST_LENGTH);
     };
-    if value.len() < QUEUE_VALUE_LEN {
+    if value.len() < layout::QUEUE_LEN {
         return None;
     }
-    Some(u64_at(value, QUEUE_LENGTH))
+    Some(u64_at(value, layout::QUEUE_LENGTH))
 }
 
 #[tactic(auto, unfolding(apfs_model::specs::Bytes::i32_at))]
@@ -116,14 +84,14 @@ fn i32_in(bytes: &[u8], at: usize) -> i32
 pub fn ext_value(value: &[u8]) -> Option<ExtValue>
     ensures { result ≡ spec.ext_value_of value.now }
 {
-    if value.len() < EXT_VALUE_LEN {
+    if value.len() < layout::EXT_LEN {
         return None;
     }
-    let word = u64_at(value, EXT_LENGTH_AND_KIND);
+    let word = u64_at(value, layout::EXT_LENGTH_AND_KIND);
     Some(ExtValue {
         length: word % KIND_UNIT,
         kind: (word / KIND_UNIT) as u8,
-        owner: u64_at(value, EXT_OWNER),
-        count: i32_in(value, EXT_COUNT),
+        owner: u64_at(value, layout::EXT_OWNER),
+        count: i32_in(value, layout::EXT_COUNT),
     })
 }
