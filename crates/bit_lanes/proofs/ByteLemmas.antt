@@ -166,3 +166,26 @@ joined_at old from n j in_old in_from =
           ∙ get_or_past old j 0 (Prim.omega arith)
           ∙ ap₂ bit_or (sym (get_or_past old j 0 (Prim.omega arith))) (sym (get_or_past from j 0 (Prim.omega arith)))
     ]
+
+-- 64 bytes more are joined
+pub joined_part : (old from now new : List ℕ) (part : ℕ) →
+    ((j : ℕ) → get_or now j 0 ≡ cond (ltb j (64 * part)) (bit_or (get_or old j 0) (get_or from j 0)) (get_or old j 0)) →
+    ((j : ℕ) → 64 * part ≤ j → j < 64 * part + 64 → get_or new j 0 ≡ bit_or (get_or now j 0) (get_or from j 0)) →
+    ((j : ℕ) → j < 64 * part → get_or new j 0 ≡ get_or now j 0) →
+    ((j : ℕ) → 64 * part + 64 ≤ j → get_or new j 0 ≡ get_or now j 0) →
+    (j : ℕ) → get_or new j 0 ≡ cond (ltb j (64 * (part + 1))) (bit_or (get_or old j 0) (get_or from j 0)) (get_or old j 0)
+joined_part old from now new part so_far here before after j =
+    elim (cases_lt j (64 * part)) [
+      | inl below ↦
+          before j below ∙ so_far j ∙ cond-true (ltb j (64 * part)) _ _ (lt-ltb j (64 * part) below)
+          ∙ sym (cond-true (ltb j (64 * (part + 1))) _ _ (lt-ltb j (64 * (part + 1)) (Prim.omega arith)))
+      | inr past ↦
+          let stays : get_or now j 0 ≡ get_or old j 0 = so_far j ∙ cond-false (ltb j (64 * part)) _ _ (le-ltb j (64 * part) past) in
+          elim (cases_lt j (64 * part + 64)) [
+            | inl inside ↦
+                here j past inside ∙ ap (λ n. bit_or n (get_or from j 0)) stays
+                ∙ sym (cond-true (ltb j (64 * (part + 1))) _ _ (lt-ltb j (64 * (part + 1)) (Prim.omega arith)))
+            | inr above ↦
+                after j above ∙ stays ∙ sym (cond-false (ltb j (64 * (part + 1))) _ _ (le-ltb j (64 * (part + 1)) (Prim.omega arith)))
+          ]
+    ]

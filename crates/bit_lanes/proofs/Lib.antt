@@ -1,2 +1,4 @@
 pub mod ByteLemmas
 pub mod CountLemmas
+pub mod WordLemmas
+pub mod LaneLemmas

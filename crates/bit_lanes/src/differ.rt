@@ -1,6 +1,8 @@
 // The least bit that differs.
-ghost use Rattle.std.specs.Prelude.{◌≡◌, ◌≢◌, ◌^◌, ◌≤◌, ◌↔◌, length, IsNone, IfSome};
+ghost use Rattle.std.specs.Prelude.{◌≡◌, ◌≢◌, ℕ, ◌^◌, ◌<◌, ◌≤◌, ◌↔◌, length, slice_index, IsNone, IfSome};
 ghost use Rattle.bit_lanes.specs.Bits.{IsFirstDifference, IsLowestApart};
+
+use crate::words::{PART, words_at};
 
 /// The least bit at which two runs of one length differ, and `None` where they are equal.
 #[tactic(auto, using(crate::proofs::ByteLemmas::differ_apart))]
@@ -10,12 +12,27 @@ pub fn first_difference(a: &[u8], b: &[u8]) -> Option<usize>
     ensures found { IfSome result (IsFirstDifference a.now b.now) }
     ensures equal { IsNone result ↔ (a.now ≡ b.now) }
 {
-    'bytes: for i in 0..a.len() {
+    'bytes: for i in equal_parts(a, b)..a.len() {
         if a[i] != b[i] {
             return Some(8 * i + lowest_difference(a[i], b[i]));
         }
     }
     None
+}
+
+// How many bytes two runs have that are equal, before the first 64 that differ.
+fn equal_parts(a: &[u8], b: &[u8]) -> usize
+    requires { length a.now ≡ length b.now }
+    ensures inside { result ≤ length a.now }
+    ensures equal { (i : ℕ) → i < result → slice_index a.now i ≡ slice_index b.now i }
+{
+    let parts = a.len() / PART;
+    'parts: for part in 0..parts {
+        if words_at(a, PART * part) != words_at(b, PART * part) {
+            return PART * part;
+        }
+    }
+    PART * parts
 }
 
 // The lowest bit at which two bytes differ.

@@ -4,6 +4,7 @@
 mod count;
 mod differ;
 mod join;
+mod words;
 
 pub use count::count_ones;
 pub use differ::first_difference;
