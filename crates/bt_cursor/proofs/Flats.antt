@@ -1,12 +1,16 @@
 -- The flat list is what the leaves have of the Line.
-use Rattle.std.proofs.Common.{◌≡◌, ℕ, zero, suc, List, [], ◌∷◌, ◌++◌, Option, None, Some, Ok, refl, ap, sym, ◌∙◌, arith, append-nil}
-use Rattle.std.specs.List.{flat_map}
+use Rattle.std.proofs.Common.{◌≡◌, ℕ, zero, suc, Bool, true, false, cond, List, [], ◌∷◌, ◌++◌, map, Option, None, Some, Result, Ok, Err, refl, ap, sym, ◌∙◌, arith, append-nil}
+use Rattle.std.specs.List.{flat_map, filter}
+use Rattle.std.proofs.lemmas.Grind.{flat_map-append}
 use Rattle.apfs_model.specs.Lists.{through, value_of}
+use Rattle.obj_base.specs.declared.stop.Stop.{Stop}
 use Rattle.bt_node.specs.Node.{level_of}
 use Rattle.bt_node.specs.Entries.{Pair, pairs_of}
 use Rattle.bt_cursor.specs.Tree.{Tree, root_place, child_place, node_at}
 use Rattle.bt_cursor.specs.Flat.{flat_part, flat_of}
-use Rattle.bt_cursor.specs.Line.{Item, line_part, line_of, leaf_pairs}
+use Rattle.bt_cursor.specs.Line.{Item, item_at, is_leaf_item, line_part, line_of, leaf_pairs}
+use Rattle.bt_cursor.specs.Gaps.{Gapped, or_gap, gapped_part, gapped_of, met_in, all_met, all_flat}
+use Rattle.bt_cursor.specs.declared.fault.WalkFault.{WalkFault}
 use Rattle.bt_cursor.specs.Ahead.{line_from, rest}
 use Rattle.bt_cursor.specs.declared.way.Step.{Step}
 use Rattle.bt_cursor.proofs.Lines.{leaf_pairs-append, leaf_pairs-inner}
@@ -39,5 +43,36 @@ line-start tree root above last none first node =
     ∙ (ap (line_from tree last.block.items) first
     ∙ sym (ap (λ o. through (value_of o) (λ node. flat_map (line_part tree (level_of node)) (pairs_of tree.shape node))) node)))
 
-pub pairs-start : {K : Type 0} (tree : Tree K) (root : ℕ) (above : List Step) (last : Step) → above ≡ [] → last.next ≡ 0 → tree.look (root_place root) ≡ Ok last.block.items → leaf_pairs (line_from tree last.block.items last.next ++ rest tree above) ≡ flat_of tree root
-pairs-start tree root above last none first node = ap leaf_pairs (line-start tree root above last none first node) ∙ line-pairs tree root
+met-flat_map : (f : Pair → List (Gapped Item)) (g : Pair → List Item) → ((p : Pair) → all_met (f p) ≡ g p) → (ps : List Pair) → all_met (flat_map f ps) ≡ flat_map g ps
+met-flat_map f g each [] = refl
+met-flat_map f g each (p ∷ ps) = flat_map-append met_in (f p) (flat_map f ps) ∙ (ap (λ xs. xs ++ all_met (flat_map f ps)) (each p) ∙ ap (λ xs. g p ++ xs) (met-flat_map f g each ps))
+
+met-through : (o : Result (List ℕ) (Stop WalkFault)) (f : List ℕ → List (Gapped Item)) (g : List ℕ → List Item) → ((node : List ℕ) → all_met (f node) ≡ g node) → all_met (or_gap o f) ≡ through (value_of o) g
+met-through (Ok node) f g each = each node
+met-through (Err why) f g each = refl
+
+met-part : {K : Type 0} (tree : Tree K) (level : ℕ) (pair : Pair) → all_met (gapped_part tree level pair) ≡ line_part tree level pair
+met-part tree zero pair = refl
+met-part tree (suc level) pair =
+    ap (λ xs. item_at (suc level) pair ∷ xs)
+    (met-through (tree.look (child_place level pair)) (λ node. flat_map (gapped_part tree level) (pairs_of tree.shape node)) (λ node. flat_map (line_part tree level) (pairs_of tree.shape node))
+    (λ node. met-flat_map (gapped_part tree level) (line_part tree level) (met-part tree level) (pairs_of tree.shape node)))
+
+-- the items of the Line with its gaps are the Line
+pub gapped-line : {K : Type 0} (tree : Tree K) (root : ℕ) → all_met (gapped_of tree root) ≡ line_of tree root
+gapped-line tree root = met-through (tree.look (root_place root)) (λ node. flat_map (gapped_part tree (level_of node)) (pairs_of tree.shape node)) (λ node. flat_map (line_part tree (level_of node)) (pairs_of tree.shape node))
+    (λ node. met-flat_map (gapped_part tree (level_of node)) (line_part tree (level_of node)) (met-part tree (level_of node)) (pairs_of tree.shape node))
+
+leaf-if : (b : Bool) (pair : Pair) (gapped : List (Gapped Pair)) (item : Item) (items : List Item) → item.pair ≡ pair → all_met gapped ≡ map (λ (i : Item). i.pair) items → all_met (cond b (Ok pair ∷ []) [] ++ gapped) ≡ map (λ (i : Item). i.pair) (cond b (item ∷ items) items)
+leaf-if true pair gapped item items same e = ap (λ xs. pair ∷ xs) e ∙ ap (λ p. p ∷ map (λ (i : Item). i.pair) items) (sym same)
+leaf-if false pair gapped item items same e = e
+
+-- of the flat list with gaps the entries are those of the leaves
+pub flat-met : (gapped : List (Gapped Item)) → all_met (all_flat gapped) ≡ leaf_pairs (all_met gapped)
+flat-met [] = refl
+flat-met (Ok item ∷ gapped) = leaf-if (is_leaf_item item) item.pair (all_flat gapped) item (filter is_leaf_item (all_met gapped)) refl (flat-met gapped)
+flat-met (Err why ∷ gapped) = flat-met gapped
+
+-- the flat list is the entries of the flat list with its gaps
+pub flat-gapped : {K : Type 0} (tree : Tree K) (root : ℕ) → all_met (all_flat (gapped_of tree root)) ≡ flat_of tree root
+flat-gapped tree root = flat-met (gapped_of tree root) ∙ (ap leaf_pairs (gapped-line tree root) ∙ line-pairs tree root)

@@ -1,11 +1,13 @@
 -- How far a walk over a Line has gone.
-use Rattle.std.proofs.Common.{◌≡◌, ◌==◌, ℕ, zero, suc, ◌+◌, ◌-◌, nat_lt, Bool, true, false, cond, List, [], ◌∷◌, ◌++◌, length, Ok, All, refl, ap, sym, ◌∙◌, subst, arith, rules, append_assoc, append-nil, ◌&&◌}
+use Rattle.std.proofs.Common.{◌≡◌, ◌==◌, ℕ, zero, suc, ◌+◌, ◌-◌, nat_lt, Bool, true, false, cond, List, [], ◌∷◌, ◌++◌, length, Some, Ok, All, refl, ap, sym, ◌∙◌, subst, arith, rules, append_assoc, append-nil, ◌&&◌}
 use Rattle.std.specs.List.{filter, list_all}
 use Rattle.std.proofs.lemmas.Bool.{false≢true}
 use Rattle.std.proofs.lemmas.Bool.Decides.{nat_tests}
 use Rattle.std.proofs.lemmas.Grind.{flat_map-append}
 use Rattle.std.proofs.lemmas.List.Elements.{All-head, All-tail, All-cons, All-nil, All-push}
-use Rattle.apfs_model.specs.Lists.{value_of}
+use Rattle.apfs_model.specs.Lists.{last, value_of}
+use Rattle.obj_base.specs.declared.stop.Stop.{Stop}
+use Rattle.bt_cursor.specs.declared.fault.WalkFault.{WalkFault}
 use Rattle.bt_node.specs.Node.{key_count_of, node_count_of}
 use Rattle.bt_node.specs.Entries.{Pair}
 use Rattle.bt_node.specs.declared.node.NodeAt.{NodeAt}
@@ -13,15 +15,15 @@ use Rattle.bt_cursor.specs.Tree.{Tree, root_place, child_place}
 use Rattle.bt_cursor.specs.Flat.{flat_of}
 use Rattle.bt_cursor.specs.Line.{Item, line_of, leaf_pairs}
 use Rattle.bt_cursor.specs.Met.{places_under, places_in, places_of, has_node, nodes_of}
-use Rattle.bt_cursor.specs.Order.{first_misplaced}
+use Rattle.bt_cursor.specs.Order.{first_misplaced, out_of_order}
 use Rattle.bt_cursor.specs.Counts.{has_counts, is_counted}
 use Rattle.bt_cursor.specs.Whole.{IsWhole}
 use Rattle.bt_cursor.specs.Faults.{IsOutOfOrder}
 use Rattle.bt_cursor.specs.Seen.{comes_to, seen_start, seen_item, is_out, fits, HasSeen}
-use Rattle.bt_cursor.specs.Advance.{Entered, IsBadNext, still, HasGone}
+use Rattle.bt_cursor.specs.Advance.{Entered, IsBadNext, IsGapOf, IsNextGap, still, HasGone}
 use Rattle.bt_cursor.specs.declared.seen.Seen.{Seen}
 use Rattle.bt_cursor.proofs.Flats.{line-pairs}
-use Rattle.bt_cursor.proofs.Orders.{first-hit, out-misplaced, HasSeen-more, HasSeen-start}
+use Rattle.bt_cursor.proofs.Orders.{last-push, first-hit, out-misplaced, HasSeen-more, HasSeen-start}
 use Rattle.std.specs.Prelude.{is_none, is_ok}
 
 all-passes : {X : Type 0} (p : X → Bool) (xs : List X) → All (λ x. p x ≡ true) xs → list_all p xs ≡ true
@@ -73,16 +75,23 @@ gone-more tree root passed left left_new item seen new deep deep_new child gone 
     }
 
 -- the next item is the first that is out of order
-pub gone-order : {K : Type 0} (tree : Tree K) (root : ℕ) (passed left : List Item) (seen : Seen) (deep : Bool) (child : NodeAt) (item : ℕ) → HasGone tree root passed left seen deep child → item ≡ seen.number → IsBadNext tree.shape seen left → IsOutOfOrder tree root item
-gone-order tree root passed [] seen deep child item gone same bad = absurd bad
-gone-order tree root passed (next ∷ items) seen deep child item gone same bad =
+pub gone-first : {K : Type 0} (tree : Tree K) (root : ℕ) (passed left : List Item) (seen : Seen) (deep : Bool) (child : NodeAt) → HasGone tree root passed left seen deep child → IsBadNext tree.shape seen left → out_of_order tree.shape (line_of tree root) ≡ Some (length passed)
+gone-first tree root passed [] seen deep child gone bad = absurd bad
+gone-first tree root passed (next ∷ items) seen deep child gone bad =
     let keys = key_count_of gone.node in
     let nodes = node_count_of gone.node in
-    record {
-      number = length passed;
-      first = ap (first_misplaced tree.shape []) gone.line ∙ first-hit tree.shape passed next items gone.seen_right.ordered (out-misplaced tree.shape keys nodes passed seen next gone.seen_right ∙ bad);
-      same = same ∙ gone.seen_right.number;
-    }
+    ap (first_misplaced tree.shape []) gone.line ∙ first-hit tree.shape passed next items gone.seen_right.ordered (out-misplaced tree.shape keys nodes passed seen next gone.seen_right ∙ bad)
+
+pub gone-order : {K : Type 0} (tree : Tree K) (root : ℕ) (passed left : List Item) (seen : Seen) (deep : Bool) (child : NodeAt) (item : ℕ) → HasGone tree root passed left seen deep child → item ≡ seen.number → IsBadNext tree.shape seen left → IsOutOfOrder tree root item
+gone-order tree root passed left seen deep child item gone same bad = record { number = length passed; first = gone-first tree root passed left seen deep child gone bad; same = same ∙ gone.seen_right.number }
+
+-- the child of the last item isn't there
+pub gone-gap : {K : Type 0} (tree : Tree K) (root : ℕ) (passed left : List Item) (seen : Seen) (deep : Bool) (child : NodeAt) (why : Stop WalkFault) → HasGone tree root passed left seen deep child → IsGapOf tree deep child why → IsNextGap tree root passed why
+gone-gap tree root passed left seen deep child why gone gap = record {
+  at = child;
+  next = ap last gone.places ∙ (ap (λ (d : Bool). last (gone.entered ++ still d child)) gap.comes ∙ last-push gone.entered child);
+  gap = gap.gap;
+}
 
 -- all of the Line was passed
 record IsDone {K : Type 0} (tree : Tree K) (root : ℕ) (passed : List Item) : Type 0 where
@@ -123,3 +132,7 @@ gone-end tree root passed left seen deep child gone none fit now =
 
 pub gone-counts : {K : Type 0} (tree : Tree K) (root : ℕ) (passed left : List Item) (seen : Seen) (deep : Bool) (child : NodeAt) → HasGone tree root passed left seen deep child → left ≡ [] → fits seen ≡ false → Entered tree deep child → is_counted tree root ≡ false
 gone-counts tree root passed left seen deep child gone none wrong now = counts-fit tree root passed left seen deep child gone (done tree root passed left seen deep child gone none now) ∙ wrong
+
+-- all of the Line was passed where its end was
+pub gone-line : {K : Type 0} (tree : Tree K) (root : ℕ) (passed left : List Item) (seen : Seen) (deep : Bool) (child : NodeAt) → HasGone tree root passed left seen deep child → left ≡ [] → Entered tree deep child → line_of tree root ≡ passed
+gone-line tree root passed left seen deep child gone none now = (done tree root passed left seen deep child gone none now).line

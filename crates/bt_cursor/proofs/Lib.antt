@@ -2,14 +2,17 @@ pub mod Nodes
 pub mod Pairs
 pub mod Ways
 pub mod Lines
+pub mod Gaps
 pub mod Fuels
 pub mod Flats
+pub mod Suffixes
 pub mod Steps
 pub mod Orders
 pub mod Gone
 pub mod Passings
 pub mod Ranks
 pub mod Seeks
+pub mod Runs
 pub mod Places
 pub mod Examples
 pub mod Wholes

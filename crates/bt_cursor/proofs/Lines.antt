@@ -70,28 +70,3 @@ pub leaf_pairs-inner : (level : ℕ) (pair : Pair) (items : List Item) → 0 < l
 leaf_pairs-inner level pair items upper =
     let inner : is_leaf_item (item_at level pair) ≡ false = grind (arith, nat_tests) in
     ap (λ (b : Bool). map (λ (item : Item). item.pair) (cond b (item_at level pair ∷ filter is_leaf_item items) (filter is_leaf_item items))) inner
-
-pub leaf_pairs-leaf : (level : ℕ) (pair : Pair) (items : List Item) → level ≡ 0 → leaf_pairs (item_at level pair ∷ items) ≡ pair ∷ leaf_pairs items
-leaf_pairs-leaf level pair items leaf = ap (λ l. leaf_pairs (item_at l pair ∷ items)) leaf
-
--- the entries of leaves that are left are the same one level down
-pub pairs-down : {K : Type 0} (tree : Tree K) (above : List Step) (last moved lower : Step) (level i : ℕ) → i < count_of last.block.items → level_of last.block.items ≡ suc level → moved.block.items ≡ last.block.items → moved.next ≡ i + 1 →
-    tree.look (child_place level (pair_of tree.shape last.block.items i)) ≡ Ok lower.block.items → level_of lower.block.items ≡ level → lower.next ≡ 0 →
-    leaf_pairs (line_from tree lower.block.items lower.next ++ rest tree (above ++ moved ∷ [])) ≡ leaf_pairs (line_from tree last.block.items i ++ rest tree above)
-pairs-down tree above last moved lower level i low high bytes next named same first =
-    let pair = pair_of tree.shape last.block.items i in
-    let upper : 0 < level_of last.block.items = omega arith in
-    ap leaf_pairs (line-down tree above moved lower pair level named same first)
-    ∙ (ap (λ b. leaf_pairs (line_under tree level pair ++ (line_from tree b moved.next ++ rest tree above))) bytes
-    ∙ (ap (λ j. leaf_pairs (line_under tree level pair ++ (line_from tree last.block.items j ++ rest tree above))) next
-    ∙ (ap leaf_pairs (sym (append_assoc (line_under tree level pair) (line_from tree last.block.items (i + 1)) (rest tree above)))
-    ∙ (sym (leaf_pairs-inner (level_of last.block.items) pair ((line_under tree level pair ++ line_from tree last.block.items (i + 1)) ++ rest tree above) upper)
-    ∙ ap (λ xs. leaf_pairs (xs ++ rest tree above)) (sym (line_from-inner tree last.block.items i level low high))))))
-
--- an entry of level 0 stands for itself
-pub pairs-pass : {K : Type 0} (tree : Tree K) (above : List Step) (node : List ℕ) (i j : ℕ) → i < count_of node → level_of node ≡ 0 → i ≡ j →
-    leaf_pairs (line_from tree node i ++ rest tree above) ≡ pair_of tree.shape node j ∷ leaf_pairs (line_from tree node (i + 1) ++ rest tree above)
-pairs-pass tree above node i j low leaf same =
-    ap (λ xs. leaf_pairs (xs ++ rest tree above)) (line_from-leaf tree node i low leaf)
-    ∙ (leaf_pairs-leaf (level_of node) (pair_of tree.shape node i) (line_from tree node (i + 1) ++ rest tree above) leaf
-    ∙ ap (λ k. pair_of tree.shape node k ∷ leaf_pairs (line_from tree node (i + 1) ++ rest tree above)) same)

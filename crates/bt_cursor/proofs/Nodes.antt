@@ -58,7 +58,10 @@ node_few shape at site node sound =
     omega (arith, times-few (is_fixed node) (count_of node) (table_length_of node) table.holds, keys-after node, table.ends, ends-inside node)
 
 pub accepted_size : (size : ℕ) → is_accepted size ≡ true → (96 ≤ size) × (size ≤ 65536)
-accepted_size size e = let same : size ≡ 4096 = grind (arith, nat_tests) in (omega arith, omega arith)
+accepted_size size e =
+    let low : 96 ≤ size = grind (arith, nat_tests) in
+    let high : size ≤ 65536 = grind (arith, nat_tests) in
+    (low, high)
 
 -- the entries of a step's node are few
 pub step_few : {K : Type 0} (shape : Shape K) (site : Site) (step : Step) → IsStep shape site step → count_of step.block.items ≤ 65536

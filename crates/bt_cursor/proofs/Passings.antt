@@ -1,5 +1,5 @@
 -- What a liner has passed.
-use Rattle.std.proofs.Common.{◌≡◌, ℕ, Bool, true, false, List, [], ◌∷◌, ◌++◌, ap, sym, subst}
+use Rattle.std.proofs.Common.{◌≡◌, ℕ, Bool, true, false, List, [], ◌∷◌, ◌++◌, ap, sym, ◌∙◌, subst}
 use Rattle.std.specs.Prelude.{IsTrue, IsFalse}
 use Rattle.std.proofs.lemmas.Bool.{false≢true}
 use Rattle.obj_base.specs.Stops.{Tells}
@@ -18,9 +18,9 @@ use Rattle.bt_cursor.specs.Whole.{IsWhole}
 use Rattle.bt_cursor.specs.Faults.{IsWalkFault, HasFeature}
 use Rattle.bt_cursor.specs.Stack.{IsIn}
 use Rattle.bt_cursor.specs.Ahead.{passed_child}
-use Rattle.bt_cursor.specs.Advance.{Entered, Advances, StopsFor, HasGone}
+use Rattle.bt_cursor.specs.Advance.{Entered, Advances, StopsFor, TellsGap, IsGapOf, IsNextGap, IsNextFault, HasGone}
 use Rattle.bt_cursor.specs.Liners.{root_of, tree_of, left_of, item_of, HasItemIf, HasPassed, Passes}
-use Rattle.bt_cursor.proofs.Gone.{gone-more, gone-order, gone-end, gone-counts}
+use Rattle.bt_cursor.proofs.Gone.{gone-more, gone-first, gone-order, gone-gap, gone-end, gone-line, gone-counts}
 
 -- a step that went on, or ended
 pub passes-on : {K N : Type 0} {k : keys.Ghosts K} {n : namers.Ghosts N} (image : List ℕ) (passed : List Item) (old new : Liner K N k n) (more : Bool) → tree_of new ≡ tree_of old → root_of new ≡ root_of old → HasPassed image passed old →
@@ -59,3 +59,14 @@ stops-for tree root passed left seen deep child (Found Counts) gone told = gone-
 stops-for tree root passed left seen deep child (Unsupported feature block) gone told = told
 stops-for tree root passed left seen deep child ReadFault gone told = tt
 stops-for tree root passed left seen deep child NoMemory gone told = tt
+
+-- what it names comes next
+pub stops-first : {K : Type 0} (tree : Tree K) (root : ℕ) (passed left : List Item) (seen : Seen) (deep : Bool) (child : NodeAt) (stop : Stop WalkFault) → HasGone tree root passed left seen deep child →
+    TellsGap (IsGapOf tree deep child) stop → Tells (StopsFor tree root deep child seen left) (HasFeature tree root) stop → Tells (IsNextFault tree root passed) (λ feature block. IsNextGap tree root passed (Unsupported feature block)) stop
+stops-first tree root passed left seen deep child (Found (Unsound block why)) gone gap told = gone-gap tree root passed left seen deep child (Found (Unsound block why)) gone gap
+stops-first tree root passed left seen deep child (Found (Unnamed oid)) gone gap told = gone-gap tree root passed left seen deep child (Found (Unnamed oid)) gone gap
+stops-first tree root passed left seen deep child (Found (Order item)) gone gap told = (told.0 ∙ gone.seen_right.number, gone-first tree root passed left seen deep child gone told.1)
+stops-first tree root passed left seen deep child (Found Counts) gone gap told = (gone-line tree root passed left seen deep child gone told.none told.entered, gone-counts tree root passed left seen deep child gone told.none told.wrong told.entered)
+stops-first tree root passed left seen deep child (Unsupported feature block) gone gap told = gone-gap tree root passed left seen deep child (Unsupported feature block) gone gap
+stops-first tree root passed left seen deep child ReadFault gone gap told = tt
+stops-first tree root passed left seen deep child NoMemory gone gap told = tt

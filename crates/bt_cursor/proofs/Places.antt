@@ -6,7 +6,7 @@ use Rattle.std.proofs.lemmas.Bool.{false≢true}
 use Rattle.std.proofs.lemmas.Grind.{flat_map-append}
 use Rattle.apfs_model.specs.Blocks.{block_of}
 use Rattle.apfs_model.specs.Lists.{In, Lists, through, value_of}
-use Rattle.obj_base.specs.Stops.{Tells}
+use Rattle.obj_base.specs.Stops.{Tells, IsFree}
 use Rattle.obj_base.specs.declared.stop.Bad.{Bad}
 use Rattle.obj_base.specs.declared.stop.Bad.TheVariants as bads
 use Rattle.obj_base.specs.declared.stop.Stop.{Stop}
@@ -25,7 +25,7 @@ use Rattle.bt_cursor.specs.Line.{Item, line_part, line_of}
 use Rattle.bt_cursor.specs.Met.{IsMet, first, after, places_under, places_in, places_of, nodes_of, has_node, is_walkable}
 use Rattle.bt_cursor.specs.Whole.{IsWhole}
 use Rattle.bt_cursor.specs.Order.{is_ordered}
-use Rattle.bt_cursor.specs.Faults.{HasGap, HasFeature, IsNodeFault, IsOutOfOrder, IsWalkFault, IsOfWorld}
+use Rattle.bt_cursor.specs.Faults.{HasGap, HasFeature, IsNodeFault, IsOutOfOrder, IsWalkFault}
 use Rattle.bt_cursor.specs.Ahead.{line_from}
 use Rattle.bt_cursor.proofs.Lines.{line_under-node}
 use Rattle.bt_cursor.proofs.Nodes.{node_same, node-child}
@@ -183,7 +183,7 @@ pub no-gap : {K : Type 0} (tree : Tree K) (root : ℕ) (why : Stop WalkFault) �
 no-gap tree root why levelled all gap = false≢true (sym (ap (λ o. is_ok o) gap.gap) ∙ walkable-met tree root levelled all gap.at gap.met)
 
 -- on a walkable tree a walk stops for no node
-pub node-world : {K : Type 0} (tree : Tree K) (root : ℕ) (stop : Stop WalkFault) → IsLevelled tree → is_walkable tree root ≡ true → Tells (IsNodeFault tree root) (HasFeature tree root) stop → IsOfWorld stop
+pub node-world : {K : Type 0} (tree : Tree K) (root : ℕ) (stop : Stop WalkFault) → IsLevelled tree → is_walkable tree root ≡ true → Tells (IsNodeFault tree root) (HasFeature tree root) stop → IsFree stop
 node-world tree root (Found (Unsound block why)) levelled all told = no-gap tree root (Found (Unsound block why)) levelled all told
 node-world tree root (Found (Unnamed oid)) levelled all told = no-gap tree root (Found (Unnamed oid)) levelled all told
 node-world tree root (Found (Order item)) levelled all told = told
@@ -196,7 +196,7 @@ no-order : {K : Type 0} (tree : Tree K) (root item : ℕ) → is_ordered tree.sh
 no-order tree root item ordered out = false≢true (sym (ap (λ o. is_none o) out.first) ∙ ordered)
 
 -- on a whole tree a walk over the Line stops for no fault
-pub whole-world : {K : Type 0} (tree : Tree K) (root : ℕ) (stop : Stop WalkFault) → IsLevelled tree → IsWhole tree root → Tells (IsWalkFault tree root) (HasFeature tree root) stop → IsOfWorld stop
+pub whole-world : {K : Type 0} (tree : Tree K) (root : ℕ) (stop : Stop WalkFault) → IsLevelled tree → IsWhole tree root → Tells (IsWalkFault tree root) (HasFeature tree root) stop → IsFree stop
 whole-world tree root (Found (Unsound block why)) levelled whole told = no-gap tree root (Found (Unsound block why)) levelled whole.walkable told
 whole-world tree root (Found (Unnamed oid)) levelled whole told = no-gap tree root (Found (Unnamed oid)) levelled whole.walkable told
 whole-world tree root (Found (Order item)) levelled whole told = no-order tree root item whole.ordered told

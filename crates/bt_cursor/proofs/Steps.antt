@@ -1,11 +1,18 @@
 -- One item of a Line.
-use Rattle.std.proofs.Common.{◌≡◌, ℕ, suc, ◌+◌, ◌-◌, ◌<◌, nat_lt, Bool, true, false, List, ◌∷◌, ◌++◌, Some, None, Option, cond, refl, ap, sym, ◌∙◌, append_assoc, arith, ◌&&◌, ◌||◌}
+use Rattle.std.proofs.Common.{◌≡◌, ℕ, suc, ◌+◌, ◌-◌, ◌<◌, nat_lt, Bool, true, false, List, ◌∷◌, ◌++◌, Some, None, Option, Err, cond, refl, ap, sym, ◌∙◌, append_assoc, arith, ◌&&◌, ◌||◌}
 use Rattle.std.proofs.lemmas.Bool.Decides.{nat_tests}
 use Rattle.apfs_model.specs.Lists.{passes}
 use Rattle.bt_node.specs.Shape.{Shape}
 use Rattle.bt_node.specs.Node.{level_of, count_of}
 use Rattle.bt_node.specs.Entries.{Pair, pair_of}
+use Rattle.obj_base.specs.Stops.{Tells}
+use Rattle.obj_base.specs.declared.stop.Stop.{Stop}
+use Rattle.obj_base.specs.declared.stop.Stop.TheVariants.{Found, Unsupported, ReadFault, NoMemory}
+use Rattle.bt_node.specs.declared.node.NodeAt.{NodeAt}
+use Rattle.bt_cursor.specs.declared.fault.WalkFault.{WalkFault}
+use Rattle.bt_cursor.specs.declared.fault.WalkFault.TheVariants.{Unsound, Unnamed, Order, Counts}
 use Rattle.bt_cursor.specs.Tree.{Tree}
+use Rattle.bt_cursor.specs.Advance.{TellsGap, IsGapOf}
 use Rattle.bt_cursor.specs.Line.{Item, item_at, is_leaf_item}
 use Rattle.bt_cursor.specs.Order.{rank_or_least, rank_of}
 use Rattle.bt_cursor.specs.Ahead.{line_from, line_under, rest, ahead_at}
@@ -54,3 +61,13 @@ seen_none shape seen item e = none-if (is_out shape seen item) (seen_item shape 
 -- a key that was read has the rank of its bytes
 pub rank_read : {K : Type 0} (shape : Shape K) (pair : Pair) (key : K) → shape.read pair.key ≡ Some key → shape.rank key ≡ rank_of shape pair
 rank_read shape pair key read = ap (rank_or_least shape) (sym read)
+
+-- a stop at a child that was still to come tells why it isn't there
+pub gap-told : {K : Type 0} (tree : Tree K) (deep : Bool) (child : NodeAt) (stop : Stop WalkFault) → deep ≡ true → Tells (λ fault. tree.look child ≡ Err (Found fault)) (λ feature block. tree.look child ≡ Err (Unsupported feature block)) stop → TellsGap (IsGapOf tree deep child) stop
+gap-told tree deep child (Found (Unsound block why)) now told = record { comes = now; gap = told }
+gap-told tree deep child (Found (Unnamed oid)) now told = record { comes = now; gap = told }
+gap-told tree deep child (Found (Order item)) now told = tt
+gap-told tree deep child (Found Counts) now told = tt
+gap-told tree deep child (Unsupported feature block) now told = record { comes = now; gap = told }
+gap-told tree deep child ReadFault now told = tt
+gap-told tree deep child NoMemory now told = tt

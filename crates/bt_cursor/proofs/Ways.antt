@@ -9,7 +9,7 @@ use Rattle.bt_node.specs.Entries.{pair_of}
 use Rattle.obj_base.specs.declared.site.Site.{Site}
 use Rattle.bt_cursor.specs.Tree.{Tree, root_place, child_place}
 use Rattle.bt_cursor.specs.Met.{IsMet, first, after}
-use Rattle.bt_cursor.specs.Stack.{IsStep, IsLong, IsWay, IsMetStep, IsIn, bottom}
+use Rattle.bt_cursor.specs.Stack.{IsStep, IsLong, IsWay, IsMetStep, IsUnder, IsLinked, IsIn, bottom}
 use Rattle.bt_cursor.specs.declared.way.Step.{Step}
 
 -- a bound that falls by one from one item to the next holds of one more
@@ -82,15 +82,43 @@ bottom-push : (above : List Step) (last lower : Step) → bottom (above ++ last 
 bottom-push [] last lower = refl
 bottom-push (s ∷ ss) last lower = refl
 
-pub IsIn-down : {K : Type 0} (tree : Tree K) (root : ℕ) (above : List Step) (last lower : Step) (level i : ℕ) → IsIn tree root above last → level_of last.block.items ≡ suc level → i < count_of last.block.items → lower.at ≡ child_place level (pair_of tree.shape last.block.items i) →
-    tree.look (child_place level (pair_of tree.shape last.block.items i)) ≡ Ok lower.block.items → IsIn tree root (above ++ last ∷ []) lower
-IsIn-down tree root above last lower level i within high low place node = record {
+bottom-moved : (above : List Step) (last : Step) (next : ℕ) → (bottom above last).block.items ≡ (bottom above (record last { next = next })).block.items
+bottom-moved [] last next = refl
+bottom-moved (s ∷ ss) last next = refl
+
+-- one more link below
+IsLinked-push : {K : Type 0} (tree : Tree K) (above : List Step) (last lower : Step) → IsLinked tree above last → IsUnder tree last lower → IsLinked tree (above ++ last ∷ []) lower
+IsLinked-push tree [] last lower linked under = (under, tt)
+IsLinked-push tree (s ∷ ss) last lower linked under = (subst (IsUnder tree s) (sym (bottom-push ss last lower)) linked.0, IsLinked-push tree ss last lower linked.1 under)
+
+IsLinked-pop : {K : Type 0} (tree : Tree K) (above : List Step) (last lower : Step) → IsLinked tree (above ++ last ∷ []) lower → IsLinked tree above last
+IsLinked-pop tree [] last lower linked = tt
+IsLinked-pop tree (s ∷ ss) last lower linked = (subst (IsUnder tree s) (bottom-push ss last lower) linked.0, IsLinked-pop tree ss last lower linked.1)
+
+IsUnder-moved : {K : Type 0} (tree : Tree K) (upper last : Step) (next : ℕ) → IsUnder tree upper last → IsUnder tree upper (record last { next = next })
+IsUnder-moved tree upper last next under = record { index = under.index; next = under.next; low = under.low; high = under.high; place = under.place }
+
+IsLinked-moved : {K : Type 0} (tree : Tree K) (above : List Step) (last : Step) (next : ℕ) → IsLinked tree above last → IsLinked tree above (record last { next = next })
+IsLinked-moved tree [] last next linked = tt
+IsLinked-moved tree (s ∷ []) last next linked = (IsUnder-moved tree s last next linked.0, tt)
+IsLinked-moved tree (s ∷ (t ∷ ss)) last next linked = (linked.0, IsLinked-moved tree (t ∷ ss) last next linked.1)
+
+pub IsIn-down : {K : Type 0} (tree : Tree K) (root : ℕ) (above : List Step) (last lower : Step) (level i : ℕ) → IsIn tree root above last → level_of last.block.items ≡ suc level → last.next ≡ i + 1 → i < count_of last.block.items → lower.at ≡ child_place level (pair_of tree.shape last.block.items i) →
+    level_of lower.block.items ≡ level → tree.look (child_place level (pair_of tree.shape last.block.items i)) ≡ Ok lower.block.items → IsIn tree root (above ++ last ∷ []) lower
+IsIn-down tree root above last lower level i within high next low place same node = record {
   hold = All-push (IsMetStep tree root) above last within.hold within.hold_last;
   hold_last = record {
     met = subst (IsMet tree root) (sym place) (after last.at last.block.items level i within.hold_last.met within.hold_last.node high low);
     node = ap tree.look place ∙ node;
   };
   base = within.base ∙ ap (λ (s : Step). Ok s.block.items) (sym (bottom-push above last lower));
+  linked = IsLinked-push tree above last lower within.linked (record {
+    index = i;
+    next = next;
+    low = low;
+    high = high ∙ ap suc (sym same);
+    place = place ∙ ap (λ l. child_place l (pair_of tree.shape last.block.items i)) (sym same);
+  });
 }
 
 pub IsIn-up : {K : Type 0} (tree : Tree K) (root : ℕ) (above lower_above : List Step) (last lower : Step) → IsIn tree root lower_above lower → lower_above ≡ above ++ last ∷ [] → IsIn tree root above last
@@ -100,12 +128,17 @@ IsIn-up tree root above lower_above last lower within taken =
       hold = held.0;
       hold_last = held.1;
       base = within.base ∙ ap (λ (s : Step). Ok s.block.items) (ap (λ ss. bottom ss lower) taken ∙ bottom-push above last lower);
+      linked = IsLinked-pop tree above last lower (subst (λ ss. IsLinked tree ss lower) taken within.linked);
     }
 
--- a step's index doesn't count
+-- a step's index doesn't count for what is above it
 pub IsIn-moved : {K : Type 0} (tree : Tree K) (root : ℕ) (above : List Step) (last : Step) (next : ℕ) → IsIn tree root above last → IsIn tree root above (record last { next = next })
-IsIn-moved tree root [] last next within = record { hold = within.hold; hold_last = record { met = within.hold_last.met; node = within.hold_last.node }; base = within.base }
-IsIn-moved tree root (s ∷ ss) last next within = record { hold = within.hold; hold_last = record { met = within.hold_last.met; node = within.hold_last.node }; base = within.base }
+IsIn-moved tree root above last next within = record {
+  hold = within.hold;
+  hold_last = record { met = within.hold_last.met; node = within.hold_last.node };
+  base = within.base ∙ ap (λ b. Ok b) (bottom-moved above last next);
+  linked = IsLinked-moved tree above last next within.linked;
+}
 
 -- a root alone
 pub IsIn-start : {K : Type 0} (tree : Tree K) (root : ℕ) (above : List Step) (last : Step) → above ≡ [] → last.at ≡ root_place root → tree.look (root_place root) ≡ Ok last.block.items → IsIn tree root above last
@@ -113,6 +146,7 @@ IsIn-start tree root above last none at node = subst (λ ss. IsIn tree root ss l
   hold = All-nil (IsMetStep tree root);
   hold_last = record { met = subst (IsMet tree root) (sym at) first; node = ap tree.look at ∙ node };
   base = node;
+  linked = tt;
 })
 
 -- the last node's index lies in it

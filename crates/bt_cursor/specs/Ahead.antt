@@ -1,12 +1,14 @@
 -- What is left of a way.
-use Rattle.std.specs.Prelude.{◌≡◌, ℕ, ◌-◌, ◌<◌, Bool, true, false, List, [], ◌∷◌, ◌++◌, drop, flat_map}
+use Rattle.std.specs.Prelude.{◌≡◌, ℕ, ◌+◌, ◌-◌, ◌<◌, ◌≤◌, Bool, true, false, List, [], ◌∷◌, ◌++◌, length, drop, flat_map, Ok}
 use Rattle.apfs_model.specs.Lists.{through}
 use Rattle.bt_node.specs.Node.{level_of}
 use Rattle.bt_node.specs.Entries.{Pair, pair_of, pairs_of}
 use Rattle.bt_node.specs.Shape.{Shape}
 use Rattle.bt_node.specs.declared.node.NodeAt.{NodeAt}
 use Rattle.bt_cursor.specs.Tree.{Tree, child_place, node_at}
-use Rattle.bt_cursor.specs.Line.{Item, item_at, line_part, leaf_pairs}
+use Rattle.bt_cursor.specs.Line.{Item, item_at, line_part}
+use Rattle.bt_cursor.specs.Met.{places_in}
+use Rattle.bt_cursor.specs.Gaps.{Gapped, or_gap, gapped_part, all_met, all_flat}
 use Rattle.bt_cursor.specs.declared.way.Step.{Step}
 use Rattle.bt_cursor.specs.declared.way.Way.{Way}
 
@@ -49,9 +51,24 @@ ahead_at tree false node next above = line_from tree node next ++ rest tree abov
 abbrev pub ahead_if : {K : Type 0} → Tree K → Bool → Way → List Item
 ahead_if tree deep way = ahead_at tree deep way.last.block.items way.last.next way.above.items
 
--- the entries of leaves that are left
-abbrev pub pairs_ahead : {K : Type 0} → Tree K → Way → List Pair
-pairs_ahead tree way = leaf_pairs (ahead tree way)
+-- the same with the gaps: of a node from an entry on, of the nodes above the last, and of a way
+abbrev pub gapped_from : {K : Type 0} → Tree K → List ℕ → ℕ → List (Gapped Item)
+gapped_from tree node i = flat_map (gapped_part tree (level_of node)) (drop i (pairs_of tree.shape node))
+
+abbrev pub gapped_rest : {K : Type 0} → Tree K → List Step → List (Gapped Item)
+gapped_rest tree [] = []
+gapped_rest tree (step ∷ steps) = gapped_rest tree steps ++ gapped_from tree step.block.items step.next
+
+abbrev pub gapped_ahead : {K : Type 0} → Tree K → Way → List (Gapped Item)
+gapped_ahead tree way = gapped_from tree way.last.block.items way.last.next ++ gapped_rest tree way.above.items
+
+-- of a child of a level
+abbrev pub gapped_under : {K : Type 0} → Tree K → ℕ → Pair → List (Gapped Item)
+gapped_under tree level pair = or_gap (tree.look (child_place level pair)) (λ node. flat_map (gapped_part tree level) (pairs_of tree.shape node))
+
+-- how many places of nodes are left
+abbrev pub places_ahead : {K : Type 0} → Tree K → Way → ℕ
+places_ahead tree way = length (places_in (all_met (gapped_ahead tree way)))
 
 -- an entry was passed
 pub record HasPassedOne (way : Way) : Type 0 where
@@ -67,10 +84,18 @@ pub record IsDeep (way : Way) : Type 0 where
   pub upper : 0 < level_of way.last.block.items
   pub some : 0 < way.last.next
 
--- the next entry of level 0 was passed, or there is none
+-- the next entry of level 0 was passed, and no gap before it, or there is neither
 abbrev pub MovesWay : {K : Type 0} → Tree K → Way → Way → Bool → Type 0
-MovesWay tree old new true = pairs_ahead tree old ≡ passed_pair tree.shape new ∷ pairs_ahead tree new
-MovesWay tree old new false = pairs_ahead tree old ≡ []
+MovesWay tree old new true = all_flat (gapped_ahead tree old) ≡ Ok (passed_pair tree.shape new) ∷ all_flat (gapped_ahead tree new)
+MovesWay tree old new false = all_flat (gapped_ahead tree old) ≡ []
+
+-- the nodes read were left before and aren't any more
+abbrev pub ReadsPast : {K : Type 0} → Tree K → ℕ → Way → ℕ → Way → Type 0
+ReadsPast tree old_reads old reads new = reads + places_ahead tree new ≤ old_reads + places_ahead tree old
+
+-- how many levels it has buffers for below its root
+abbrev pub depth_way : Way → ℕ
+depth_way way = length way.spare.items + length way.above.items
 
 -- a root alone, before its first entry
 pub record IsStart (way : Way) : Type 0 where

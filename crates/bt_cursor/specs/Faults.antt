@@ -52,10 +52,3 @@ IsOfNodes (Found Counts) = ⊥
 IsOfNodes (Unsupported feature block) = Unit {0}
 IsOfNodes ReadFault = Unit {0}
 IsOfNodes NoMemory = Unit {0}
-
--- a walk stops for the source or the memory alone
-abbrev pub IsOfWorld : Stop WalkFault → Type 0
-IsOfWorld (Found fault) = ⊥
-IsOfWorld (Unsupported feature block) = ⊥
-IsOfWorld ReadFault = Unit {0}
-IsOfWorld NoMemory = Unit {0}

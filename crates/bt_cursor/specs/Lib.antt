@@ -2,6 +2,7 @@ pub mod Tree
 pub mod Flat
 pub mod Line
 pub mod Met
+pub mod Gaps
 pub mod Order
 pub mod Counts
 pub mod Whole

@@ -31,16 +31,18 @@ impl<K: TreeKey, N: Namer> Cursor<K, N> {
     ghost use Rattle.apfs_model.specs.Counts.{Rose};
     ghost use Rattle.apfs_model.specs.Source.{IsKept};
     ghost use Rattle.obj_base.specs.declared.stop.Stop.TheVariants.{ReadFault, NoMemory};
-    ghost use Rattle.obj_base.specs.Stops.{Tells};
+    ghost use Rattle.obj_base.specs.Stops.{Tells, IsFree};
     ghost use Rattle.obj_base.specs.Site.{IsSiteFor};
     ghost use Rattle.bt_cursor.specs.Tree.{tree_in};
     ghost use Rattle.bt_cursor.specs.Flat.{flat_of};
     ghost use Rattle.bt_cursor.specs.Line.{line_of};
+    ghost use Rattle.bt_cursor.specs.Gaps.{gapped_of, StopsAt};
+    ghost use Rattle.bt_cursor.specs.Search.{IsPlaceOf};
     ghost use Rattle.bt_cursor.specs.Met.{is_walkable};
     ghost use Rattle.bt_cursor.specs.Order.{is_ordered};
     ghost use Rattle.bt_cursor.specs.From.{from_rank};
-    ghost use Rattle.bt_cursor.specs.Faults.{IsOfNodes, IsOfWorld, IsNodeFault, HasFeature};
-    ghost use Rattle.bt_cursor.specs.Cursors.{site_of, root_of, tree_of, left_of, passed_of, fuel_of, depth_of, IsOn, HasEntry, Moves};
+    ghost use Rattle.bt_cursor.specs.Faults.{IsOfNodes, IsNodeFault, HasFeature};
+    ghost use Rattle.bt_cursor.specs.Cursors.{site_of, root_of, tree_of, ahead_of, line_left_of, gapped_left_of, left_of, unread_of, passed_of, fuel_of, depth_of, HasDepth, IsOn, HasEntry, Moves};
 
     /// Reads the root, whose id is `root`, and stands before the first entry. Takes all its buffers here.
     pub fn new<S: BlockSource>(
@@ -54,11 +56,12 @@ impl<K: TreeKey, N: Namer> Cursor<K, N> {
         ensures site { IfOk result (λ cursor. site_of cursor ≡ site) }
         ensures root { IfOk result (λ cursor. root_of cursor ≡ root) }
         ensures tree { IfOk result (λ cursor. tree_of cursor ≡ tree_in K.shape site (N.named namer)) }
-        ensures left { (image : List ℕ) → S.bytes src.old ≡ Some image → IfOk result (λ cursor. left_of cursor image ≡ flat_of (tree_in K.shape site (N.named namer) image) root) }
+        ensures left { (image : List ℕ) → S.bytes src.old ≡ Some image → IfOk result (λ cursor. ahead_of cursor image ≡ gapped_of (tree_in K.shape site (N.named namer) image) root) }
+        ensures depth { (image : List ℕ) → S.bytes src.old ≡ Some image → IfOk result (HasDepth image) }
         ensures within { (image : List ℕ) → S.bytes src.old ≡ Some image → IfOk result (IsOn image) }
         ensures present { (image : List ℕ) → S.bytes src.old ≡ Some image → IfErr result (Tells (IsNodeFault (tree_in K.shape site (N.named namer) image) root) (HasFeature (tree_in K.shape site (N.named namer) image) root)) }
-        ensures clear { (image : List ℕ) → S.bytes src.old ≡ Some image → is_walkable (tree_in K.shape site (N.named namer) image) root ≡ true → IfErr result IsOfWorld }
-        ensures nodes { IfErr result IsOfNodes }
+        ensures exact { (image : List ℕ) → S.bytes src.old ≡ Some image → is_walkable (tree_in K.shape site (N.named namer) image) root ≡ true → IfErr result IsFree }
+        ensures of_nodes { IfErr result IsOfNodes }
         ensures reads { S.reads src.new ≤ S.reads src.old + 1 }
         ensures cause { IsErrOf result ReadFault → Rose (S.faults src.old) (S.faults src.new) }
         ensures kept { IsKept S.bytes S.bytes_len S.faults src.old src.new }
@@ -82,7 +85,8 @@ impl<K: TreeKey, N: Namer> Cursor<K, N> {
         ensures site { site_of self.new ≡ site_of self.old }
         ensures root { root_of self.new ≡ root_of self.old }
         ensures tree { tree_of self.new ≡ tree_of self.old }
-        ensures left { (image : List ℕ) → IsOn image self.old → left_of self.new image ≡ flat_of (tree_of self.old image) (root_of self.old) }
+        ensures depth { depth_of self.new ≡ depth_of self.old }
+        ensures left { (image : List ℕ) → IsOn image self.old → ahead_of self.new image ≡ gapped_of (tree_of self.old image) (root_of self.old) }
         ensures within { (image : List ℕ) → IsOn image self.old → IsOn image self.new }
         ensures kept { src.new ≡ src.old }
     {
@@ -90,22 +94,24 @@ impl<K: TreeKey, N: Namer> Cursor<K, N> {
         Ok(())
     }
 
-    /// Stands before the first entry whose rank isn't below `rank`, where the Line is ordered: by a search in each node
-    /// on the way down from the root. Takes no memory. After an error its place isn't known; `first` and `seek` know
-    /// one again.
+    /// Stands at a place of `rank`, by a search in each node on the way down from the root: where the Line is ordered,
+    /// before the first entry whose rank isn't below it. Takes no memory. After an error it stands at some place in the
+    /// tree.
     pub fn seek<S: BlockSource>(&mut self, src: &mut S, rank: &Rank) -> Result<(), Stop<WalkFault>>
         requires site { IsSiteFor (site_of self.old) (S.bytes_len src.old) }
         ensures site { site_of self.new ≡ site_of self.old }
         ensures root { root_of self.new ≡ root_of self.old }
         ensures tree { tree_of self.new ≡ tree_of self.old }
+        ensures depth { depth_of self.new ≡ depth_of self.old }
+        ensures place { (image : List ℕ) → S.bytes src.old ≡ Some image → IsOn image self.old → OnOk result (IsPlaceOf K.shape rank.now (line_of (tree_of self.old image) (root_of self.old)) (line_left_of self.new image)) }
         ensures left { (image : List ℕ) → S.bytes src.old ≡ Some image → IsOn image self.old → is_ordered K.shape (line_of (tree_of self.old image) (root_of self.old)) ≡ true → OnOk result (left_of self.new image ≡ from_rank K.shape rank.now (flat_of (tree_of self.old image) (root_of self.old))) }
         ensures within { (image : List ℕ) → S.bytes src.old ≡ Some image → IsOn image self.old → IsOn image self.new }
         ensures present { (image : List ℕ) → S.bytes src.old ≡ Some image → IsOn image self.old → IfErr result (Tells (IsNodeFault (tree_of self.old image) (root_of self.old)) (HasFeature (tree_of self.old image) (root_of self.old))) }
-        ensures clear { (image : List ℕ) → S.bytes src.old ≡ Some image → IsOn image self.old → is_walkable (tree_of self.old image) (root_of self.old) ≡ true → IfErr result IsOfWorld }
-        ensures nodes { IfErr result IsOfNodes }
+        ensures exact { (image : List ℕ) → S.bytes src.old ≡ Some image → IsOn image self.old → is_walkable (tree_of self.old image) (root_of self.old) ≡ true → IfErr result IsFree }
+        ensures of_nodes { IfErr result IsOfNodes }
         ensures reads { S.reads src.new ≤ S.reads src.old + depth_of self.old }
         ensures cause { IsErrOf result ReadFault → Rose (S.faults src.old) (S.faults src.new) }
-        ensures memory { IsErrOf result NoMemory → ⊥ }
+        ensures no_memory { IsErrOf result NoMemory → ⊥ }
         ensures kept { IsKept S.bytes S.bytes_len S.faults src.old src.new }
     {
         match find::<K, S, N>(src, &self.namer, &self.site, &mut self.way, rank) {
@@ -114,23 +120,27 @@ impl<K: TreeKey, N: Namer> Cursor<K, N> {
         }
     }
 
-    /// Moves onto the next entry of the flat list; false at its end. Takes no memory. After an error it stands where
-    /// it stood.
+    /// Moves onto the next entry of the flat list; false at its end. Where a child on the way to that entry isn't there
+    /// it says why and stays before it. Takes no memory. After an error it stands where it stood.
     pub fn next<S: BlockSource>(&mut self, src: &mut S) -> Result<bool, Stop<WalkFault>>
         requires site { IsSiteFor (site_of self.old) (S.bytes_len src.old) }
         ensures site { site_of self.new ≡ site_of self.old }
         ensures root { root_of self.new ≡ root_of self.old }
         ensures tree { tree_of self.new ≡ tree_of self.old }
+        ensures depth { depth_of self.new ≡ depth_of self.old }
         ensures moved { (image : List ℕ) → S.bytes src.old ≡ Some image → IfOk result (Moves image self.old self.new) }
-        ensures left { (image : List ℕ) → S.bytes src.old ≡ Some image → OnErr result (left_of self.new image ≡ left_of self.old image) }
+        ensures left { (image : List ℕ) → S.bytes src.old ≡ Some image → OnErr result (gapped_left_of self.new image ≡ gapped_left_of self.old image) }
+        ensures stops { (image : List ℕ) → S.bytes src.old ≡ Some image → IfErr result (StopsAt (gapped_left_of self.old image)) }
         ensures stands { IfOk result (λ more. IsTrue more → HasEntry self.new) }
         ensures within { (image : List ℕ) → S.bytes src.old ≡ Some image → IsOn image self.old → IsOn image self.new }
         ensures present { (image : List ℕ) → S.bytes src.old ≡ Some image → IsOn image self.old → IfErr result (Tells (IsNodeFault (tree_of self.old image) (root_of self.old)) (HasFeature (tree_of self.old image) (root_of self.old))) }
-        ensures clear { (image : List ℕ) → S.bytes src.old ≡ Some image → IsOn image self.old → is_walkable (tree_of self.old image) (root_of self.old) ≡ true → IfErr result IsOfWorld }
-        ensures nodes { IfErr result IsOfNodes }
+        ensures exact { (image : List ℕ) → S.bytes src.old ≡ Some image → IsOn image self.old → is_walkable (tree_of self.old image) (root_of self.old) ≡ true → IfErr result IsFree }
+        ensures of_nodes { IfErr result IsOfNodes }
+        ensures reads { (image : List ℕ) → S.bytes src.old ≡ Some image → OnOk result (S.reads src.new + unread_of self.new image ≤ S.reads src.old + unread_of self.old image) }
+        ensures few_reads { S.reads src.new ≤ S.reads src.old + depth_of self.old }
         ensures fuel { IfOk result (λ more. IsTrue more → fuel_of self.new < fuel_of self.old) }
         ensures cause { IsErrOf result ReadFault → Rose (S.faults src.old) (S.faults src.new) }
-        ensures memory { IsErrOf result NoMemory → ⊥ }
+        ensures no_memory { IsErrOf result NoMemory → ⊥ }
         ensures kept { IsKept S.bytes S.bytes_len S.faults src.old src.new }
     {
         match pass::<K, S, N>(src, &self.namer, &self.site, &mut self.way) {

@@ -43,18 +43,18 @@ impl<K: TreeKey, N: Namer> Liner<K, N> {
     ghost use Rattle.std.specs.Prelude.{◌≡◌, ℕ, ◌+◌, ◌-◌, ◌<◌, ◌≤◌, nat_lt, true, false, List, [], ◌∷◌, ◌++◌, Some, option_map, OnOk, IfOk, IfErr, IsErrOf, IsTrue, IsFalse};
     ghost use Rattle.apfs_model.specs.Counts.{Rose};
     ghost use Rattle.apfs_model.specs.Source.{IsKept};
-    ghost use Rattle.obj_base.specs.declared.stop.Stop.TheVariants.{ReadFault, NoMemory};
-    ghost use Rattle.obj_base.specs.Stops.{Tells};
+    ghost use Rattle.obj_base.specs.declared.stop.Stop.TheVariants.{Unsupported, ReadFault, NoMemory};
+    ghost use Rattle.obj_base.specs.Stops.{Tells, IsFree};
     ghost use Rattle.obj_base.specs.Site.{IsSiteFor};
     ghost use Rattle.bt_cursor.specs.Tree.{tree_in};
     ghost use Rattle.bt_cursor.specs.Line.{Item, line_of};
     ghost use Rattle.bt_cursor.specs.Met.{is_walkable};
     ghost use Rattle.bt_cursor.specs.Whole.{IsWhole};
-    ghost use Rattle.bt_cursor.specs.Faults.{IsOfNodes, IsOfWorld, IsNodeFault, IsWalkFault, HasFeature};
+    ghost use Rattle.bt_cursor.specs.Faults.{IsOfNodes, IsNodeFault, IsWalkFault, HasFeature};
     ghost use Rattle.bt_cursor.specs.Stack.{IsIn};
     ghost use Rattle.bt_cursor.specs.Ahead.{passed_child};
     ghost use Rattle.bt_cursor.specs.Seen.{reads_for};
-    ghost use Rattle.bt_cursor.specs.Advance.{Advances, Entered, StopsFor};
+    ghost use Rattle.bt_cursor.specs.Advance.{Advances, Entered, StopsFor, TellsGap, IsGapOf, IsNextGap, IsNextFault};
     ghost use Rattle.bt_cursor.specs.Liners.{site_of, root_of, tree_of, left_of, item_of, is_deep, fuel_of, HasItem, HasItemIf, HasSeenNone, Sees, HasPassed, Passes};
 
     /// Reads the root, whose id is `root`, and stands before the first item. Takes all its buffers here.
@@ -73,8 +73,8 @@ impl<K: TreeKey, N: Namer> Liner<K, N> {
         ensures seen { IfOk result HasSeenNone }
         ensures passed { (image : List ℕ) → S.bytes src.old ≡ Some image → IfOk result (HasPassed image []) }
         ensures present { (image : List ℕ) → S.bytes src.old ≡ Some image → IfErr result (Tells (IsNodeFault (tree_in K.shape site (N.named namer) image) root) (HasFeature (tree_in K.shape site (N.named namer) image) root)) }
-        ensures clear { (image : List ℕ) → S.bytes src.old ≡ Some image → is_walkable (tree_in K.shape site (N.named namer) image) root ≡ true → IfErr result IsOfWorld }
-        ensures nodes { IfErr result IsOfNodes }
+        ensures exact { (image : List ℕ) → S.bytes src.old ≡ Some image → is_walkable (tree_in K.shape site (N.named namer) image) root ≡ true → IfErr result IsFree }
+        ensures of_nodes { IfErr result IsOfNodes }
         ensures reads { S.reads src.new ≤ S.reads src.old + 1 }
         ensures cause { IsErrOf result ReadFault → Rose (S.faults src.old) (S.faults src.new) }
         ensures kept { IsKept S.bytes S.bytes_len S.faults src.old src.new }
@@ -109,10 +109,11 @@ impl<K: TreeKey, N: Namer> Liner<K, N> {
         ensures stands { IfOk result (HasItemIf self.new) }
         ensures within { (image : List ℕ) → S.bytes src.old ≡ Some image → IsIn (tree_of self.old image) (root_of self.old) self.old.way.above.items self.old.way.last → IsIn (tree_of self.old image) (root_of self.old) self.new.way.above.items self.new.way.last }
         ensures present { (image : List ℕ) → S.bytes src.old ≡ Some image → IsIn (tree_of self.old image) (root_of self.old) self.old.way.above.items self.old.way.last → IfErr result (Tells (StopsFor (tree_of self.old image) (root_of self.old) self.old.deep (passed_child K.shape self.old.way) self.old.seen (left_of self.old image)) (HasFeature (tree_of self.old image) (root_of self.old))) }
+        ensures gap { (image : List ℕ) → S.bytes src.old ≡ Some image → IfErr result (TellsGap (IsGapOf (tree_of self.old image) self.old.deep (passed_child K.shape self.old.way))) }
         ensures reads { S.reads src.new ≤ S.reads src.old + reads_for (is_deep self.old) }
         ensures fuel { IfOk result (λ more. IsTrue more → fuel_of self.new < fuel_of self.old) }
         ensures cause { IsErrOf result ReadFault → Rose (S.faults src.old) (S.faults src.new) }
-        ensures memory { IsErrOf result NoMemory → ⊥ }
+        ensures no_memory { IsErrOf result NoMemory → ⊥ }
         ensures kept { IsKept S.bytes S.bytes_len S.faults src.old src.new }
     {
         fall::<K, S, N>(src, &self.namer, &self.site, &mut self.way, self.deep)?;
@@ -144,13 +145,14 @@ impl<K: TreeKey, N: Namer> Liner<K, N> {
         ensures tree { tree_of self.new ≡ tree_of self.old }
         ensures passed { (image : List ℕ) → S.bytes src.old ≡ Some image → (passed : List Item) → HasPassed image passed self.old → IfOk result (Passes image passed self.old self.new) }
         ensures present { (image : List ℕ) → S.bytes src.old ≡ Some image → (passed : List Item) → HasPassed image passed self.old → IfErr result (Tells (IsWalkFault (tree_of self.old image) (root_of self.old)) (HasFeature (tree_of self.old image) (root_of self.old))) }
-        ensures clear { (image : List ℕ) → S.bytes src.old ≡ Some image → (passed : List Item) → HasPassed image passed self.old → IsWhole (tree_of self.old image) (root_of self.old) → IfErr result IsOfWorld }
+        ensures first { (image : List ℕ) → S.bytes src.old ≡ Some image → (passed : List Item) → HasPassed image passed self.old → IfErr result (Tells (IsNextFault (tree_of self.old image) (root_of self.old) passed) (λ feature block. IsNextGap (tree_of self.old image) (root_of self.old) passed (Unsupported feature block))) }
+        ensures exact { (image : List ℕ) → S.bytes src.old ≡ Some image → (passed : List Item) → HasPassed image passed self.old → IsWhole (tree_of self.old image) (root_of self.old) → IfErr result IsFree }
         ensures seen { IfOk result (Sees self.old self.new) }
         ensures stands { IfOk result (HasItemIf self.new) }
         ensures reads { S.reads src.new ≤ S.reads src.old + reads_for (is_deep self.old) }
         ensures fuel { IfOk result (λ more. IsTrue more → fuel_of self.new < fuel_of self.old) }
         ensures cause { IsErrOf result ReadFault → Rose (S.faults src.old) (S.faults src.new) }
-        ensures memory { IsErrOf result NoMemory → ⊥ }
+        ensures no_memory { IsErrOf result NoMemory → ⊥ }
         ensures kept { IsKept S.bytes S.bytes_len S.faults src.old src.new }
     {
         match self.step(src) {

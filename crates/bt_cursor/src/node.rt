@@ -79,9 +79,9 @@ fn test<K: TreeKey>(
     requires long { IsLong site.now step.now }
     ensures first { Gives (items_of step.now) result (judged block (node_of K.shape at.now site.now step.now.block.items)) }
     ensures node { OnOk result (IsNode K.shape at.now site.now step.now.block.items) }
-    ensures nodes { IfErr result IsOfNodes }
-    ensures read { IsErrOf result ReadFault → ⊥ }
-    ensures memory { IsErrOf result NoMemory → ⊥ }
+    ensures of_nodes { IfErr result IsOfNodes }
+    ensures no_read { IsErrOf result ReadFault → ⊥ }
+    ensures no_memory { IsErrOf result NoMemory → ⊥ }
 {
     match NodeView::<K>::read(&step.block, at, site) {
         Ok(_) => Ok(()),
@@ -108,8 +108,8 @@ pub(crate) fn load<K: TreeKey, S: BlockSource, N: Namer>(
     ensures long { IsLong site.now into.new }
     ensures reads { S.reads src.new ≤ S.reads src.old + 1 }
     ensures cause { IsErrOf result ReadFault → Rose (S.faults src.old) (S.faults src.new) }
-    ensures memory { IsErrOf result NoMemory → ⊥ }
-    ensures nodes { IfErr result IsOfNodes }
+    ensures no_memory { IsErrOf result NoMemory → ⊥ }
+    ensures of_nodes { IfErr result IsOfNodes }
     ensures kept { IsKept S.bytes S.bytes_len S.faults src.old src.new }
 {
     let Some(block) = block_in(namer, site, at.oid) else {

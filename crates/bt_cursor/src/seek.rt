@@ -8,14 +8,11 @@ ghost use Rattle.bt_node.specs.Node.{count_of};
 ghost use Rattle.bt_node.specs.Entries.{pair_of};
 ghost use Rattle.obj_base.specs.Site.{IsSiteFor};
 ghost use Rattle.bt_cursor.specs.Tree.{tree_in};
-ghost use Rattle.bt_cursor.specs.Flat.{flat_of};
-ghost use Rattle.bt_cursor.specs.Line.{line_of};
-ghost use Rattle.bt_cursor.specs.Order.{rank_of, is_ordered};
-ghost use Rattle.bt_cursor.specs.From.{from_rank};
+ghost use Rattle.bt_cursor.specs.Order.{rank_of};
 ghost use Rattle.bt_cursor.specs.Faults.{IsOfNodes, IsNodeFault, HasFeature};
 ghost use Rattle.bt_cursor.specs.Stack.{IsStep, IsWay, IsIn};
-ghost use Rattle.bt_cursor.specs.Ahead.{pairs_ahead};
-ghost use Rattle.bt_cursor.specs.Search.{IsCut};
+ghost use Rattle.bt_cursor.specs.Ahead.{depth_way};
+ghost use Rattle.bt_cursor.specs.Search.{IsCut, IsCutWay};
 
 use crate::fault::WalkFault;
 use crate::namer::Namer;
@@ -56,7 +53,7 @@ fn cut<K: TreeKey>(step: &Step, site: &Site, rank: &Rank) -> usize
     low
 }
 
-/// Goes to the first entry of level 0 whose rank isn't below one, where the Line is ordered.
+/// Goes to a place of a rank: by its place among the entries of the root, of the child before that place, and so on.
 pub(crate) fn find<K: TreeKey, S: BlockSource, N: Namer>(
     src: &mut S,
     namer: &N,
@@ -67,13 +64,14 @@ pub(crate) fn find<K: TreeKey, S: BlockSource, N: Namer>(
     requires site { IsSiteFor site.now (S.bytes_len src.old) }
     requires way { IsWay K.shape site.now way.old.above.items way.old.last way.old.spare.items }
     ensures way { IsWay K.shape site.now way.new.above.items way.new.last way.new.spare.items }
-    ensures found { (image : List ℕ) → S.bytes src.old ≡ Some image → (root : ℕ) → IsIn (tree_in K.shape site.now (N.named namer.now) image) root way.old.above.items way.old.last → is_ordered K.shape (line_of (tree_in K.shape site.now (N.named namer.now) image) root) ≡ true → OnOk result (pairs_ahead (tree_in K.shape site.now (N.named namer.now) image) way.new ≡ from_rank K.shape rank.now (flat_of (tree_in K.shape site.now (N.named namer.now) image) root)) }
+    ensures cut { OnOk result (IsCutWay K.shape rank.now way.new.above.items way.new.last) }
+    ensures depth { depth_way way.new ≡ depth_way way.old }
     ensures within { (image : List ℕ) → S.bytes src.old ≡ Some image → (root : ℕ) → IsIn (tree_in K.shape site.now (N.named namer.now) image) root way.old.above.items way.old.last → IsIn (tree_in K.shape site.now (N.named namer.now) image) root way.new.above.items way.new.last }
     ensures present { (image : List ℕ) → S.bytes src.old ≡ Some image → (root : ℕ) → IsIn (tree_in K.shape site.now (N.named namer.now) image) root way.old.above.items way.old.last → IfErr result (Tells (IsNodeFault (tree_in K.shape site.now (N.named namer.now) image) root) (HasFeature (tree_in K.shape site.now (N.named namer.now) image) root)) }
-    ensures nodes { IfErr result IsOfNodes }
-    ensures reads { S.reads src.new ≤ S.reads src.old + (length way.old.spare.items + length way.old.above.items) }
+    ensures of_nodes { IfErr result IsOfNodes }
+    ensures reads { S.reads src.new ≤ S.reads src.old + depth_way way.old }
     ensures cause { IsErrOf result ReadFault → Rose (S.faults src.old) (S.faults src.new) }
-    ensures memory { IsErrOf result NoMemory → ⊥ }
+    ensures no_memory { IsErrOf result NoMemory → ⊥ }
     ensures kept { IsKept S.bytes S.bytes_len S.faults src.old src.new }
 {
     back::<K>(site, way);

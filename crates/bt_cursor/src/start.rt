@@ -5,10 +5,11 @@ ghost use Rattle.apfs_model.specs.Source.{IsKept};
 ghost use Rattle.obj_base.specs.declared.stop.Stop.TheVariants.{ReadFault, NoMemory};
 ghost use Rattle.obj_base.specs.Stops.{Tells};
 ghost use Rattle.obj_base.specs.Site.{IsSiteFor};
+ghost use Rattle.bt_node.specs.Node.{level_of};
 ghost use Rattle.bt_cursor.specs.Tree.{look_in, tree_in, root_place};
 ghost use Rattle.bt_cursor.specs.Faults.{IsOfNodes, IsNodeFault, HasFeature};
 ghost use Rattle.bt_cursor.specs.Stack.{IsLong, IsStep, IsWay};
-ghost use Rattle.bt_cursor.specs.Ahead.{IsStart};
+ghost use Rattle.bt_cursor.specs.Ahead.{depth_way, IsStart};
 
 use crate::fault::WalkFault;
 use crate::namer::Namer;
@@ -22,7 +23,7 @@ use std::alloc::Global;
 // A buffer of one block.
 fn blank(alloc: Global, site: &Site, at: NodeAt) -> Result<Step, Stop<WalkFault>>
     ensures long { IfOk result (IsLong site.now) }
-    ensures memory { IfErr result (λ stop. stop ≡ NoMemory) }
+    ensures memory_only { IfErr result (λ stop. stop ≡ NoMemory) }
 {
     Ok(Step {
         block: vec![in alloc; 0u8; site.block_size as usize]?,
@@ -45,7 +46,7 @@ fn root_step<K: TreeKey, S: BlockSource, N: Namer>(
     ensures at { IfOk result (λ step. step.at ≡ root_place root) }
     ensures found { (image : List ℕ) → S.bytes src.old ≡ Some image → IfOk result (λ step. look_in K.shape site.now (N.named namer.now) image (root_place root) ≡ Ok step.block.items) }
     ensures present { (image : List ℕ) → S.bytes src.old ≡ Some image → IfErr result (Tells (IsNodeFault (tree_in K.shape site.now (N.named namer.now) image) root) (HasFeature (tree_in K.shape site.now (N.named namer.now) image) root)) }
-    ensures nodes { IfErr result IsOfNodes }
+    ensures of_nodes { IfErr result IsOfNodes }
     ensures reads { S.reads src.new ≤ S.reads src.old + 1 }
     ensures cause { IsErrOf result ReadFault → Rose (S.faults src.old) (S.faults src.new) }
     ensures kept { IsKept S.bytes S.bytes_len S.faults src.old src.new }
@@ -73,10 +74,11 @@ pub(crate) fn start<K: TreeKey, S: BlockSource, N: Namer>(
     requires site { IsSiteFor site.now (S.bytes_len src.old) }
     ensures way { IfOk result (λ way. IsWay K.shape site.now way.above.items way.last way.spare.items) }
     ensures start { IfOk result IsStart }
+    ensures depth { IfOk result (λ way. depth_way way ≡ level_of way.last.block.items) }
     ensures found { (image : List ℕ) → S.bytes src.old ≡ Some image → IfOk result (λ way. look_in K.shape site.now (N.named namer.now) image (root_place root) ≡ Ok way.last.block.items) }
     ensures at { IfOk result (λ way. way.last.at ≡ root_place root) }
     ensures present { (image : List ℕ) → S.bytes src.old ≡ Some image → IfErr result (Tells (IsNodeFault (tree_in K.shape site.now (N.named namer.now) image) root) (HasFeature (tree_in K.shape site.now (N.named namer.now) image) root)) }
-    ensures nodes { IfErr result IsOfNodes }
+    ensures of_nodes { IfErr result IsOfNodes }
     ensures reads { S.reads src.new ≤ S.reads src.old + 1 }
     ensures cause { IsErrOf result ReadFault → Rose (S.faults src.old) (S.faults src.new) }
     ensures kept { IsKept S.bytes S.bytes_len S.faults src.old src.new }

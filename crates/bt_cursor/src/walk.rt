@@ -1,5 +1,5 @@
 // Steps over a tree, up and down.
-ghost use Rattle.std.specs.Prelude.{◌≡◌, ℕ, ◌+◌, ◌-◌, ◌*◌, ◌<◌, ◌≤◌, List, [], ◌∷◌, ◌++◌, length, Some, OnOk, OnErr, IfOk, IfErr, IsErrOf, IsTrue, IsFalse};
+ghost use Rattle.std.specs.Prelude.{◌≡◌, ℕ, ◌+◌, ◌-◌, ◌*◌, ◌<◌, ◌≤◌, List, [], ◌∷◌, ◌++◌, length, Some, Ok, OnOk, OnErr, IfOk, IfErr, IsErrOf, IsTrue, IsFalse};
 ghost use Rattle.apfs_model.specs.Counts.{Rose};
 ghost use Rattle.apfs_model.specs.Source.{IsKept};
 ghost use Rattle.obj_base.specs.declared.stop.Stop.TheVariants.{ReadFault, NoMemory};
@@ -10,10 +10,12 @@ ghost use Rattle.obj_base.specs.Site.{IsSiteFor};
 ghost use Rattle.bt_cursor.specs.Tree.{Look, tree_by, tree_in, look_in, child_place};
 ghost use Rattle.bt_cursor.specs.Faults.{IsOfNodes, IsNodeFault, HasFeature};
 ghost use Rattle.bt_cursor.specs.Stack.{IsWay, IsIn};
-ghost use Rattle.bt_cursor.specs.Ahead.{items_of, ahead, ahead_if, pairs_ahead, passed_child, IsDeep, MovesWay, Stands};
+ghost use Rattle.bt_cursor.specs.Line.{item_at};
+ghost use Rattle.bt_cursor.specs.Gaps.{all_flat, StopsAt};
+ghost use Rattle.bt_cursor.specs.Ahead.{items_of, ahead, ahead_if, gapped_ahead, passed_child, depth_way, IsDeep, MovesWay, ReadsPast, Stands};
 ghost use Rattle.bt_cursor.specs.Fuel.{weight, fuel_way, fuel_if};
 ghost use Rattle.bt_cursor.specs.Seen.{reads_for};
-ghost use Rattle.bt_cursor.specs.Advance.{Entered};
+ghost use Rattle.bt_cursor.specs.Advance.{Entered, TellsGap, IsGapOf};
 
 use crate::fault::WalkFault;
 use crate::namer::Namer;
@@ -37,22 +39,24 @@ pub(crate) fn enter<K: TreeKey, S: BlockSource, N: Namer>(
     requires way { IsWay K.shape site.now way.old.above.items way.old.last way.old.spare.items }
     requires low { i < count_of way.old.last.block.items }
     requires upper { 0 < level_of way.old.last.block.items }
+    requires passed { way.old.last.next ≡ i + 1 }
     ensures found { (image : List ℕ) → S.bytes src.old ≡ Some image → Gives (items_of way.new.last) result (look_in K.shape site.now (N.named namer.now) image (child_place (level_of way.old.last.block.items - 1) (pair_of K.shape way.old.last.block.items i))) }
     ensures way { IsWay K.shape site.now way.new.above.items way.new.last way.new.spare.items }
     ensures above { OnOk result (way.new.above.items ≡ way.old.above.items ++ way.old.last ∷ []) }
     ensures first { OnOk result (way.new.last.next ≡ 0) }
     ensures level { OnOk result (level_of way.new.last.block.items + 1 ≡ level_of way.old.last.block.items) }
     ensures spare { OnOk result (length way.new.spare.items + 1 ≡ length way.old.spare.items) }
+    ensures depth { depth_way way.new ≡ depth_way way.old }
     ensures fuel { OnOk result (fuel_way way.new ≤ fuel_way way.old + 65536 * weight (level_of way.old.last.block.items - 1)) }
     ensures some { OnOk result (0 < count_of way.new.last.block.items) }
     ensures within { (image : List ℕ) → S.bytes src.old ≡ Some image → (root : ℕ) → IsIn (tree_in K.shape site.now (N.named namer.now) image) root way.old.above.items way.old.last → IsIn (tree_in K.shape site.now (N.named namer.now) image) root way.new.above.items way.new.last }
     ensures present { (image : List ℕ) → S.bytes src.old ≡ Some image → (root : ℕ) → IsIn (tree_in K.shape site.now (N.named namer.now) image) root way.old.above.items way.old.last → IfErr result (Tells (IsNodeFault (tree_in K.shape site.now (N.named namer.now) image) root) (HasFeature (tree_in K.shape site.now (N.named namer.now) image) root)) }
-    ensures nodes { IfErr result IsOfNodes }
+    ensures of_nodes { IfErr result IsOfNodes }
     ensures same_above { OnErr result (way.new.above.items ≡ way.old.above.items) }
     ensures same_last { OnErr result (way.new.last ≡ way.old.last) }
     ensures reads { S.reads src.new ≤ S.reads src.old + 1 }
     ensures cause { IsErrOf result ReadFault → Rose (S.faults src.old) (S.faults src.new) }
-    ensures memory { IsErrOf result NoMemory → ⊥ }
+    ensures no_memory { IsErrOf result NoMemory → ⊥ }
     ensures kept { IsKept S.bytes S.bytes_len S.faults src.old src.new }
 {
     let mut lower = way.spare.pop().unwrap();
@@ -101,7 +105,7 @@ pub(crate) fn back<K: TreeKey>(site: &Site, way: &mut Way)
     ensures way { IsWay K.shape site.now way.new.above.items way.new.last way.new.spare.items }
     ensures above { way.new.above.items ≡ [] }
     ensures next { way.new.last.next ≡ 0 }
-    ensures spare { length way.new.spare.items ≡ length way.old.spare.items + length way.old.above.items }
+    ensures depth { depth_way way.new ≡ depth_way way.old }
     ensures within { (look : Look) (root : ℕ) → IsIn (tree_by K.shape look) root way.old.above.items way.old.last → IsIn (tree_by K.shape look) root way.new.above.items way.new.last }
 {
     'climb: while up(way) {}
@@ -113,10 +117,13 @@ pub(crate) fn climb<K: TreeKey>(site: &Site, way: &mut Way) -> bool
     requires way { IsWay K.shape site.now way.old.above.items way.old.last way.old.spare.items }
     ensures way { IsWay K.shape site.now way.new.above.items way.new.last way.new.spare.items }
     ensures same { (look : Look) → ahead (tree_by K.shape look) way.new ≡ ahead (tree_by K.shape look) way.old }
+    ensures same_gapped { (look : Look) → gapped_ahead (tree_by K.shape look) way.new ≡ gapped_ahead (tree_by K.shape look) way.old }
+    ensures depth { depth_way way.new ≡ depth_way way.old }
     ensures within { (look : Look) (root : ℕ) → IsIn (tree_by K.shape look) root way.old.above.items way.old.last → IsIn (tree_by K.shape look) root way.new.above.items way.new.last }
     ensures fuel { fuel_way way.new ≤ fuel_way way.old }
     ensures left { IsTrue result → way.new.last.next < count_of way.new.last.block.items }
     ensures end { IsFalse result → (look : Look) → ahead (tree_by K.shape look) way.new ≡ [] }
+    ensures end_gapped { IsFalse result → (look : Look) → gapped_ahead (tree_by K.shape look) way.new ≡ [] }
 {
     'climb: while count::<K>(&way.last, site) <= way.last.next {
         if !up(way) {
@@ -139,15 +146,19 @@ fn down<K: TreeKey, S: BlockSource, N: Namer>(
     requires left { way.old.last.next < count_of way.old.last.block.items }
     requires upper { 0 < level_of way.old.last.block.items }
     ensures way { IsWay K.shape site.now way.new.above.items way.new.last way.new.spare.items }
-    ensures same { (image : List ℕ) → S.bytes src.old ≡ Some image → pairs_ahead (tree_in K.shape site.now (N.named namer.now) image) way.new ≡ pairs_ahead (tree_in K.shape site.now (N.named namer.now) image) way.old }
+    ensures passed { (image : List ℕ) → S.bytes src.old ≡ Some image → OnOk result (gapped_ahead (tree_in K.shape site.now (N.named namer.now) image) way.old ≡ Ok (item_at (level_of way.old.last.block.items) (pair_of K.shape way.old.last.block.items way.old.last.next)) ∷ gapped_ahead (tree_in K.shape site.now (N.named namer.now) image) way.new) }
+    ensures same { (image : List ℕ) → S.bytes src.old ≡ Some image → OnErr result (gapped_ahead (tree_in K.shape site.now (N.named namer.now) image) way.new ≡ gapped_ahead (tree_in K.shape site.now (N.named namer.now) image) way.old) }
+    ensures stops { (image : List ℕ) → S.bytes src.old ≡ Some image → IfErr result (StopsAt (all_flat (gapped_ahead (tree_in K.shape site.now (N.named namer.now) image) way.old))) }
+    ensures depth { depth_way way.new ≡ depth_way way.old }
+    ensures reads { S.reads src.new ≤ S.reads src.old + 1 }
     ensures more { OnOk result (way.new.last.next < count_of way.new.last.block.items) }
     ensures level { OnOk result (level_of way.new.last.block.items + 1 ≡ level_of way.old.last.block.items) }
     ensures within { (image : List ℕ) → S.bytes src.old ≡ Some image → (root : ℕ) → IsIn (tree_in K.shape site.now (N.named namer.now) image) root way.old.above.items way.old.last → IsIn (tree_in K.shape site.now (N.named namer.now) image) root way.new.above.items way.new.last }
     ensures present { (image : List ℕ) → S.bytes src.old ≡ Some image → (root : ℕ) → IsIn (tree_in K.shape site.now (N.named namer.now) image) root way.old.above.items way.old.last → IfErr result (Tells (IsNodeFault (tree_in K.shape site.now (N.named namer.now) image) root) (HasFeature (tree_in K.shape site.now (N.named namer.now) image) root)) }
-    ensures nodes { IfErr result IsOfNodes }
+    ensures of_nodes { IfErr result IsOfNodes }
     ensures fuel { OnOk result (fuel_way way.new < fuel_way way.old) }
     ensures cause { IsErrOf result ReadFault → Rose (S.faults src.old) (S.faults src.new) }
-    ensures memory { IsErrOf result NoMemory → ⊥ }
+    ensures no_memory { IsErrOf result NoMemory → ⊥ }
     ensures kept { IsKept S.bytes S.bytes_len S.faults src.old src.new }
 {
     let i = way.last.next;
@@ -173,14 +184,18 @@ pub(crate) fn pass<K: TreeKey, S: BlockSource, N: Namer>(
     requires way { IsWay K.shape site.now way.old.above.items way.old.last way.old.spare.items }
     ensures way { IsWay K.shape site.now way.new.above.items way.new.last way.new.spare.items }
     ensures moved { (image : List ℕ) → S.bytes src.old ≡ Some image → IfOk result (MovesWay (tree_in K.shape site.now (N.named namer.now) image) way.old way.new) }
-    ensures same { (image : List ℕ) → S.bytes src.old ≡ Some image → OnErr result (pairs_ahead (tree_in K.shape site.now (N.named namer.now) image) way.new ≡ pairs_ahead (tree_in K.shape site.now (N.named namer.now) image) way.old) }
+    ensures same { (image : List ℕ) → S.bytes src.old ≡ Some image → OnErr result (all_flat (gapped_ahead (tree_in K.shape site.now (N.named namer.now) image) way.new) ≡ all_flat (gapped_ahead (tree_in K.shape site.now (N.named namer.now) image) way.old)) }
+    ensures stops { (image : List ℕ) → S.bytes src.old ≡ Some image → IfErr result (StopsAt (all_flat (gapped_ahead (tree_in K.shape site.now (N.named namer.now) image) way.old))) }
+    ensures depth { depth_way way.new ≡ depth_way way.old }
+    ensures reads { (image : List ℕ) → S.bytes src.old ≡ Some image → OnOk result (ReadsPast (tree_in K.shape site.now (N.named namer.now) image) (S.reads src.old) way.old (S.reads src.new) way.new) }
+    ensures few_reads { S.reads src.new ≤ S.reads src.old + depth_way way.old }
     ensures stands { IfOk result (λ more. IsTrue more → Stands way.new) }
     ensures within { (image : List ℕ) → S.bytes src.old ≡ Some image → (root : ℕ) → IsIn (tree_in K.shape site.now (N.named namer.now) image) root way.old.above.items way.old.last → IsIn (tree_in K.shape site.now (N.named namer.now) image) root way.new.above.items way.new.last }
     ensures present { (image : List ℕ) → S.bytes src.old ≡ Some image → (root : ℕ) → IsIn (tree_in K.shape site.now (N.named namer.now) image) root way.old.above.items way.old.last → IfErr result (Tells (IsNodeFault (tree_in K.shape site.now (N.named namer.now) image) root) (HasFeature (tree_in K.shape site.now (N.named namer.now) image) root)) }
-    ensures nodes { IfErr result IsOfNodes }
+    ensures of_nodes { IfErr result IsOfNodes }
     ensures fuel { IfOk result (λ more. IsTrue more → fuel_way way.new < fuel_way way.old) }
     ensures cause { IsErrOf result ReadFault → Rose (S.faults src.old) (S.faults src.new) }
-    ensures memory { IsErrOf result NoMemory → ⊥ }
+    ensures no_memory { IsErrOf result NoMemory → ⊥ }
     ensures kept { IsKept S.bytes S.bytes_len S.faults src.old src.new }
 {
     if !climb::<K>(site, way) {
@@ -208,14 +223,15 @@ pub(crate) fn fall<K: TreeKey, S: BlockSource, N: Namer>(
     ensures way { IsWay K.shape site.now way.new.above.items way.new.last way.new.spare.items }
     ensures same { (image : List ℕ) → S.bytes src.old ≡ Some image → OnOk result (ahead (tree_in K.shape site.now (N.named namer.now) image) way.new ≡ ahead_if (tree_in K.shape site.now (N.named namer.now) image) deep way.old) }
     ensures entered { (image : List ℕ) → S.bytes src.old ≡ Some image → OnOk result (Entered (tree_in K.shape site.now (N.named namer.now) image) deep (passed_child K.shape way.old)) }
+    ensures gap { (image : List ℕ) → S.bytes src.old ≡ Some image → IfErr result (TellsGap (IsGapOf (tree_in K.shape site.now (N.named namer.now) image) deep (passed_child K.shape way.old))) }
     ensures fuel { OnOk result (fuel_way way.new ≤ fuel_if deep way.old) }
     ensures back { OnErr result (IsTrue deep → IsDeep way.new) }
     ensures within { (image : List ℕ) → S.bytes src.old ≡ Some image → (root : ℕ) → IsIn (tree_in K.shape site.now (N.named namer.now) image) root way.old.above.items way.old.last → IsIn (tree_in K.shape site.now (N.named namer.now) image) root way.new.above.items way.new.last }
     ensures present { (image : List ℕ) → S.bytes src.old ≡ Some image → (root : ℕ) → IsIn (tree_in K.shape site.now (N.named namer.now) image) root way.old.above.items way.old.last → IfErr result (Tells (IsNodeFault (tree_in K.shape site.now (N.named namer.now) image) root) (HasFeature (tree_in K.shape site.now (N.named namer.now) image) root)) }
-    ensures nodes { IfErr result IsOfNodes }
+    ensures of_nodes { IfErr result IsOfNodes }
     ensures reads { S.reads src.new ≤ S.reads src.old + reads_for deep }
     ensures cause { IsErrOf result ReadFault → Rose (S.faults src.old) (S.faults src.new) }
-    ensures memory { IsErrOf result NoMemory → ⊥ }
+    ensures no_memory { IsErrOf result NoMemory → ⊥ }
     ensures kept { IsKept S.bytes S.bytes_len S.faults src.old src.new }
 {
     if !deep {

@@ -1,55 +1,62 @@
-use Rattle.std.proofs.Common.{◌≡◌, suc, ◌-◌, refl, sym, subst, arith, rules}
+use Rattle.std.proofs.Common.{◌≡◌, ℕ, List, sym, subst, arith, rules, All, ◌∙◌}
+use Rattle.std.proofs.lemmas.List.Elements.{All-nil, All-push}
+use Rattle.obj_base.specs.Stops.{Tells}
 use Rattle.bt_node.specs.Node.{level_of}
 use Rattle.bt_cursor.specs.Tree.{tree_in, look_in}
-use Rattle.bt_cursor.specs.Search.{IsSought}
+use Rattle.bt_cursor.specs.Faults.{IsNodeFault, HasFeature}
+use Rattle.bt_cursor.specs.Search.{IsCutStep}
 use Rattle.bt_cursor.specs.declared.way.Step.{Step}
-use Rattle.bt_cursor.proofs.Seeks.{find-start, find-first, find-leaf, find-down}
 use Rattle.bt_cursor.proofs.Ways.{IsIn-moved}
 use Rattle.bt_cursor.proofs.seek.find.Goals as goal
 
-pub returns-then-i-eq0-clause-found : goal.returns-then-i-eq0-clause-found
-returns-then-i-eq0-clause-found g c image told root within ordered =
-    let tree = tree_in g.K.TreeKey.shape c.args.site.now (g.N.Namer.named c.args.namer.now) image in
-    find-first tree c.args.rank.now root c.descend.way.above.items c.descend.way.last c.cut-i.result (omega arith) c.cut-i.ensures.cut (c.descend.invariant.sought image told root within ordered)
+pub returns-then-i-eq0-clause-within : goal.returns-then-i-eq0-clause-within
+returns-then-i-eq0-clause-within g c image told root within =
+    IsIn-moved (tree_in g.K.TreeKey.shape c.args.site.now (g.N.Namer.named c.args.namer.now) image) root c.descend.way.above.items c.descend.way.last c.cut-i.result (c.descend.invariant.within image told root within)
 
-pub returns-then-level-eq0-clause-found : goal.returns-then-level-eq0-clause-found
-returns-then-level-eq0-clause-found g c image told root within ordered =
-    let tree = tree_in g.K.TreeKey.shape c.args.site.now (g.N.Namer.named c.args.namer.now) image in
-    let leaf : level_of c.descend.way.last.block.items ≡ 0 = omega arith in
-    find-leaf tree c.args.rank.now root c.descend.way.above.items c.descend.way.last c.cut-i.result (c.cut-i.result - 1) (omega arith) c.cut-i.ensures.inside leaf c.cut-i.ensures.cut (c.descend.invariant.sought image told root within ordered)
+pub returns-then-i-eq0-clause-cut : goal.returns-then-i-eq0-clause-cut
+returns-then-i-eq0-clause-cut g c = record { each = c.descend.invariant.cuts; here = c.cut-i.ensures.cut; leaf = λ some. absurd (omega arith) }
+
+pub returns-then-level-eq0-clause-within : goal.returns-then-level-eq0-clause-within
+returns-then-level-eq0-clause-within g c image told root within =
+    IsIn-moved (tree_in g.K.TreeKey.shape c.args.site.now (g.N.Namer.named c.args.namer.now) image) root c.descend.way.above.items c.descend.way.last c.cut-i.result (c.descend.invariant.within image told root within)
+
+pub returns-then-level-eq0-clause-cut : goal.returns-then-level-eq0-clause-cut
+returns-then-level-eq0-clause-cut g c = record { each = c.descend.invariant.cuts; here = c.cut-i.ensures.cut; leaf = λ some. omega arith }
 
 pub descend-preserved : goal.descend-preserved
 descend-preserved g c =
     let shape = g.K.TreeKey.shape in
     let last = c.descend.way.last in
     let moved : Step = record last { next = c.cut-i.result } in
-    let lower = c.enter.new.way.last in
     let above = c.descend.way.above.items in
-    let high : level_of last.block.items ≡ suc (level_of last.block.items - 1) = omega arith in
-    let same : level_of lower.block.items ≡ level_of last.block.items - 1 = omega (arith, c.in_ok-enter.ensures.level) in
+    let cuts = All-push (IsCutStep shape c.args.rank.now) above moved c.descend.invariant.cuts c.cut-i.ensures.cut in
     record {
       way = c.in_ok-enter.ensures.way;
       within = λ image told root within. c.in_ok-enter.ensures.within image (search rules) root (IsIn-moved (tree_in shape c.args.site.now (g.N.Namer.named c.args.namer.now) image) root above last c.cut-i.result (c.descend.invariant.within image told root within));
-      sought = λ image told root within ordered.
-          let tree = tree_in shape c.args.site.now (g.N.Namer.named c.args.namer.now) image in
-          let before = c.descend.invariant.sought image told root within ordered in
-          subst (λ ss. IsSought tree c.args.rank.now root ss lower) (sym c.in_ok-enter.ensures.above)
-          (find-down tree c.args.rank.now root above moved lower (level_of last.block.items - 1) c.cut-i.result (c.cut-i.result - 1) (omega arith) c.cut-i.ensures.inside high refl
-          (c.in_ok-enter.ensures.found image (search rules)) same c.cut-i.ensures.cut (record { found = before.found; order = before.order }));
+      cuts = subst (All (IsCutStep shape c.args.rank.now)) (sym c.in_ok-enter.ensures.above) cuts;
+      depth = c.in_ok-enter.ensures.depth ∙ c.descend.invariant.depth;
       reads = omega (arith, c.in_ok-enter.ensures.reads, c.in_ok-enter.ensures.spare, c.descend.invariant.reads);
       kept = search rules;
     }
 
 pub descend-init : goal.descend-init
-descend-init g c =
-    let shape = g.K.TreeKey.shape in
-    let way = c.back.new.way in
-    record {
-      way = c.back.ensures.way;
-      within = λ image told root within. c.back.ensures.within (look_in shape c.args.site.now (g.N.Namer.named c.args.namer.now) image) root within;
-      sought = λ image told root within ordered.
-          find-start (tree_in shape c.args.site.now (g.N.Namer.named c.args.namer.now) image) c.args.rank.now root way.above.items way.last c.back.ensures.above
-          (c.back.ensures.within (look_in shape c.args.site.now (g.N.Namer.named c.args.namer.now) image) root within) ordered;
-      reads = omega (arith, c.back.ensures.spare);
-      kept = search rules;
-    }
+descend-init g c = record {
+  way = c.back.ensures.way;
+  within = λ image told root within. c.back.ensures.within (look_in g.K.TreeKey.shape c.args.site.now (g.N.Namer.named c.args.namer.now) image) root within;
+  cuts = subst (All (IsCutStep g.K.TreeKey.shape c.args.rank.now)) (sym c.back.ensures.above) (All-nil (IsCutStep g.K.TreeKey.shape c.args.rank.now));
+  depth = c.back.ensures.depth;
+  reads = omega (arith, c.back.ensures.depth);
+  kept = search rules;
+}
+
+pub returns-in_err-enter-clause-within : goal.returns-in_err-enter-clause-within
+returns-in_err-enter-clause-within g c image told root within =
+    let tree = tree_in g.K.TreeKey.shape c.args.site.now (g.N.Namer.named c.args.namer.now) image in
+    c.in_err-enter.ensures.within image (search rules) root (IsIn-moved tree root c.descend.way.above.items c.descend.way.last c.cut-i.result (c.descend.invariant.within image told root within))
+
+pub returns-in_err-enter-clause-present : goal.returns-in_err-enter-clause-present
+returns-in_err-enter-clause-present g c image told root within =
+    let tree = tree_in g.K.TreeKey.shape c.args.site.now (g.N.Namer.named c.args.namer.now) image in
+    let present : Tells (IsNodeFault tree root) (HasFeature tree root) c.in_err-enter.field-0.0 =
+    c.in_err-enter.ensures.present image (search rules) root (IsIn-moved tree root c.descend.way.above.items c.descend.way.last c.cut-i.result (c.descend.invariant.within image told root within)) in
+    search rules

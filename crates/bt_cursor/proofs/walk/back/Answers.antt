@@ -9,6 +9,6 @@ climb-preserved g c =
     let spare : c.up.new.way.spare.items ≡ c.climb.way.spare.items ++ c.climb.way.last ∷ [] = search rules in
     record {
       way = IsWay-up g.K.TreeKey.shape c.args.site.now c.up.new.way.above.items c.climb.way.above.items c.up.new.way.last c.climb.way.last c.climb.way.spare.items c.up.new.way.spare.items c.climb.invariant.way taken spare;
-      count = omega (arith, ap length taken, ap length spare, length-append c.up.new.way.above.items (c.up.new.way.last ∷ []), length-append c.climb.way.spare.items (c.climb.way.last ∷ []));
+      depth = omega (arith, c.climb.invariant.depth, ap length taken, ap length spare, length-append c.up.new.way.above.items (c.up.new.way.last ∷ []), length-append c.climb.way.spare.items (c.climb.way.last ∷ []));
       within = λ look root within. IsIn-up (tree_by g.K.TreeKey.shape look) root c.up.new.way.above.items c.climb.way.above.items c.up.new.way.last c.climb.way.last (c.climb.invariant.within look root within) taken;
     }

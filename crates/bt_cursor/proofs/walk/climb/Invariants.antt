@@ -1,7 +1,7 @@
 use Rattle.std.proofs.Common.{◌≡◌, ◌≤◌, ℕ, length}
 use Rattle.bt_cursor.specs.Tree.{Look, tree_by}
 use Rattle.bt_cursor.specs.Stack.{IsWay, IsIn}
-use Rattle.bt_cursor.specs.Ahead.{ahead}
+use Rattle.bt_cursor.specs.Ahead.{ahead, gapped_ahead, depth_way}
 use Rattle.bt_cursor.specs.Fuel.{fuel_way}
 use Rattle.bt_cursor.proofs.walk.climb.Given as goal
 
@@ -9,6 +9,8 @@ abbrev pub invariant-climb : goal.invariant-climb
 invariant-climb g l = record {
   way : IsWay g.K.TreeKey.shape l.site l.way.above.items l.way.last l.way.spare.items;
   same : (look : Look) → ahead (tree_by g.K.TreeKey.shape look) l.way ≡ ahead (tree_by g.K.TreeKey.shape look) l.fn.way;
+  same_gapped : (look : Look) → gapped_ahead (tree_by g.K.TreeKey.shape look) l.way ≡ gapped_ahead (tree_by g.K.TreeKey.shape look) l.fn.way;
+  depth : depth_way l.way ≡ depth_way l.fn.way;
   fuel : fuel_way l.way ≤ fuel_way l.fn.way;
   within : (look : Look) (root : ℕ) → IsIn (tree_by g.K.TreeKey.shape look) root l.fn.way.above.items l.fn.way.last → IsIn (tree_by g.K.TreeKey.shape look) root l.way.above.items l.way.last;
 }

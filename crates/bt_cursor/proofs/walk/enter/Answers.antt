@@ -51,7 +51,10 @@ returns-in-Ok-clause-within g c image told root within =
     let pushed = c.push_reserved.ensures.items in
     let place : lower.at ≡ child_place (level_of last.block.items - 1) (pair_of shape last.block.items c.args.i) = search rules in
     let high : level_of last.block.items ≡ suc (level_of last.block.items - 1) = omega arith in
-    rw (pushed, c.replace-upper.ensures.after, c.replace-upper.ensures.value) (IsIn-down tree root c.args.way.now.above.items last lower (level_of last.block.items - 1) c.args.i within high c.requires.low place (sym (ap tree.look (search rules)) ∙ c.in-Ok.ensures.found image told))
+    let step = c.in-Ok.ensures.step in
+    let below : level_of lower.block.items ≡ level_of last.block.items - 1 =
+    node-child shape c.args.site.now lower.at lower.block.items (level_of last.block.items - 1) (pair_of shape last.block.items c.args.i) step.node place in
+    rw (pushed, c.replace-upper.ensures.after, c.replace-upper.ensures.value) (IsIn-down tree root c.args.way.now.above.items last lower (level_of last.block.items - 1) c.args.i within high c.requires.passed c.requires.low place below (sym (ap tree.look (search rules)) ∙ c.in-Ok.ensures.found image told))
 
 pub returns-in-Err-clause-present : goal.returns-in-Err-clause-present
 returns-in-Err-clause-present g c image told root within =
@@ -60,7 +63,7 @@ returns-in-Err-clause-present g c image told root within =
     let last = c.args.way.now.last in
     let high : level_of last.block.items ≡ suc (level_of last.block.items - 1) = omega arith in
     let met = after last.at last.block.items (level_of last.block.items - 1) c.args.i within.hold_last.met within.hold_last.node high c.requires.low in
-    gap_fault tree root (child_place (level_of last.block.items - 1) (pair_of shape last.block.items c.args.i)) c.in-Err.stop met c.in-Err.ensures.nodes
+    gap_fault tree root (child_place (level_of last.block.items - 1) (pair_of shape last.block.items c.args.i)) c.in-Err.stop met c.in-Err.ensures.of_nodes
     (subst (λ a. Tells (λ f. tree.look a ≡ Err (Found f)) (λ name block. tree.look a ≡ Err (Unsupported name block)) c.in-Err.stop) (search rules) (c.in-Err.ensures.found image told))
 
 pub returns-in-Ok-clause-spare : goal.returns-in-Ok-clause-spare

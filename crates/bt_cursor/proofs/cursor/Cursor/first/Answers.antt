@@ -1,7 +1,7 @@
 use Rattle.std.proofs.Common.{◌≡◌, Ok, ap, ◌∙◌}
 use Rattle.bt_cursor.specs.Tree.{tree_in, look_in, root_place}
 use Rattle.bt_cursor.specs.Stack.{IsIn, bottom}
-use Rattle.bt_cursor.proofs.Flats.{pairs-start}
+use Rattle.bt_cursor.proofs.Suffixes.{way-start}
 use Rattle.bt_cursor.proofs.cursor.Cursor.first.Goals as goal
 
 pub returns-clause-left : goal.returns-clause-left
@@ -12,4 +12,4 @@ returns-clause-left g c image on =
     let way = c.back.new.way in
     let within : IsIn tree self.root way.above.items way.last = c.back.ensures.within look self.root on in
     let base : look (root_place self.root) ≡ Ok way.last.block.items = within.base ∙ ap (λ ss. Ok (bottom ss way.last).block.items) c.back.ensures.above in
-    pairs-start tree self.root way.above.items way.last c.back.ensures.above c.back.ensures.next base
+    way-start tree self.root way.above.items way.last c.back.ensures.above c.back.ensures.next base

@@ -21,7 +21,7 @@ returns-in-Ok-clause-passed g c image told =
           (c.begin-seen.ensures ∙ (ap (λ n. seen_start n c.info.result.node_count) c.info.ensures.keys ∙ ap (seen_start (key_count_of node)) c.info.ensures.nodes));
     }
 
-pub returns-in-Err-clause-clear : goal.returns-in-Err-clause-clear
-returns-in-Err-clause-clear g c image told walkable =
+pub returns-in-Err-clause-exact : goal.returns-in-Err-clause-exact
+returns-in-Err-clause-exact g c image told walkable =
     let named = g.N.Namer.named c.args.namer in
     node-world (tree_in g.K.TreeKey.shape c.args.site named image) c.args.root c.in-Err.stop (tree-levelled g.K.TreeKey.shape c.args.site named image) walkable (c.in-Err.ensures.present image told)

@@ -6,6 +6,7 @@ use Rattle.bt_cursor.specs.Line.{item_at}
 use Rattle.bt_cursor.specs.Seen.{is_out, seen_item}
 use Rattle.bt_cursor.specs.Advance.{IsBadNext}
 use Rattle.bt_cursor.proofs.Fuels.{fuel-pass, pending-less}
+use Rattle.bt_cursor.proofs.Ways.{IsIn-moved}
 use Rattle.bt_cursor.proofs.Steps.{line-step, seen_some, seen_none}
 use Rattle.bt_cursor.proofs.liner.Liner.step.Goals as goal
 
@@ -53,3 +54,10 @@ returns-clause-fuel g c moved =
     let last = c.climb.new.way.last in
     let low : last.next < count_of last.block.items = search rules in
     omega (arith, fuel-pass last.block.items last.next (last.next + 1) low refl, pending-less last.block.items (nat_lt 0 c.level-high.result) (ap (nat_lt 0) c.level-high.ensures), c.climb.ensures.fuel, c.in_ok-fall.ensures.fuel)
+
+pub returns-clause-within : goal.returns-clause-within
+returns-clause-within g c image told within =
+    let self = c.args.self.now in
+    let look = look_in g.K.TreeKey.shape self.site (g.N.Namer.named self.namer) image in
+    let way = c.climb.new.way in
+    IsIn-moved (tree_in g.K.TreeKey.shape self.site (g.N.Namer.named self.namer) image) self.root way.above.items way.last (way.last.next + 1) (c.climb.ensures.within look self.root (c.in_ok-fall.ensures.within image told self.root within))

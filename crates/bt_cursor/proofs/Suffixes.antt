@@ -1,0 +1,212 @@
+-- What is left of a way is the end of its tree's Line, and where a rank's way stands in it.
+use Rattle.std.proofs.Common.{◌≡◌, ℕ, zero, suc, ◌+◌, ◌<◌, ◌≤◌, true, false, List, [], ◌∷◌, ◌++◌, take, drop, Some, Ok, refl, ap, sym, ◌∙◌, subst, arith, All, inl, inr, append_assoc, append-nil}
+use Rattle.std.specs.List.{flat_map}
+use Rattle.std.proofs.lemmas.Bool.{cases_lt}
+use Rattle.std.proofs.lemmas.Grind.{flat_map-append}
+use Rattle.std.proofs.lemmas.List.{take-append-drop}
+use Rattle.std.proofs.lemmas.List.Elements.{All-head, All-tail}
+use Rattle.apfs_model.specs.Lists.{last_or, last}
+use Rattle.bt_node.specs.Node.{level_of, count_of}
+use Rattle.bt_node.specs.Entries.{Pair, pair_of, pairs_of}
+use Rattle.bt_node.specs.Shape.{Shape}
+use Rattle.bt_node.specs.declared.key.Rank.{Rank}
+use Rattle.bt_cursor.specs.declared.way.Step.{Step}
+use Rattle.bt_cursor.specs.Tree.{Tree, root_place, child_place}
+use Rattle.bt_cursor.specs.Line.{Item, item_at, line_of}
+use Rattle.bt_cursor.specs.Gaps.{Gapped, or_gap, gapped_part, gapped_of, met_in, all_met, IsSuffix}
+use Rattle.bt_cursor.specs.Stack.{IsMetStep, IsUnder, IsLinked, IsIn, bottom}
+use Rattle.bt_cursor.specs.Ahead.{gapped_from, gapped_rest, gapped_under}
+use Rattle.bt_cursor.specs.From.{is_below_rank}
+use Rattle.bt_cursor.specs.Search.{IsCut, IsCutStep, IsCutWay, IsPlaceOf}
+use Rattle.bt_cursor.proofs.Gaps.{gapped_end, gapped-cons, gapped-leaf, gapped-inner, gapped_under-node}
+use Rattle.bt_cursor.proofs.Flats.{gapped-line}
+
+-- the items of the entries before an index
+front_of : {K : Type 0} → Tree K → List ℕ → ℕ → List (Gapped Item)
+front_of tree node i = flat_map (gapped_part tree (level_of node)) (take i (pairs_of tree.shape node))
+
+front-split : {K : Type 0} (tree : Tree K) (node : List ℕ) (i : ℕ) → gapped_from tree node 0 ≡ front_of tree node i ++ gapped_from tree node i
+unfolding front_of
+front-split tree node i =
+    let f = gapped_part tree (level_of node) in
+    let ps = pairs_of tree.shape node in
+    ap (flat_map f) (sym (take-append-drop i ps)) ∙ flat_map-append f (take i ps) (drop i ps)
+
+bottom-node : {K : Type 0} (tree : Tree K) (root : ℕ) (above : List Step) (last : Step) → All (IsMetStep tree root) above → IsMetStep tree root last → IsMetStep tree root (bottom above last)
+bottom-node tree root [] last held here = here
+bottom-node tree root (s ∷ ss) last held here = All-head (IsMetStep tree root) s ss held
+
+-- a step's items from the start on: those before the entry that was passed last, its item, those below, and the others
+through-step : {K : Type 0} (tree : Tree K) (root : ℕ) (upper lower : Step) (under : IsUnder tree upper lower) → IsMetStep tree root lower →
+    gapped_from tree upper.block.items 0 ≡ front_of tree upper.block.items under.index ++ (Ok (item_at (level_of upper.block.items) (pair_of tree.shape upper.block.items under.index)) ∷ (gapped_from tree lower.block.items 0 ++ gapped_from tree upper.block.items upper.next))
+through-step tree root upper lower under met =
+    let node = upper.block.items in
+    let i = under.index in
+    let item : Gapped Item = Ok (item_at (level_of node) (pair_of tree.shape node i)) in
+    let named : tree.look (child_place (level_of lower.block.items) (pair_of tree.shape node i)) ≡ Ok lower.block.items = ap tree.look (sym under.place) ∙ met.node in
+    front-split tree node i
+    ∙ (ap (λ xs. front_of tree node i ++ xs) (gapped-inner tree node i (level_of lower.block.items) under.low under.high)
+    ∙ (ap (λ xs. front_of tree node i ++ (item ∷ (xs ++ gapped_from tree node (i + 1)))) (gapped_under-node tree (pair_of tree.shape node i) lower.block.items (level_of lower.block.items) named refl)
+    ∙ ap (λ k. front_of tree node i ++ (item ∷ (gapped_from tree lower.block.items 0 ++ gapped_from tree node k))) (sym under.next)))
+
+-- the items of the lowest step that is given, split where a way stands
+abbrev Before : {K : Type 0} → Tree K → List Step → Step → List (Gapped Item) → Type 0
+Before tree above last before = gapped_from tree (bottom above last).block.items 0 ≡ before ++ (gapped_from tree last.block.items last.next ++ gapped_rest tree above)
+
+before-last : {K : Type 0} (tree : Tree K) (last : Step) (before : List (Gapped Item)) → gapped_from tree last.block.items 0 ≡ before ++ gapped_from tree last.block.items last.next → Before tree [] last before
+before-last tree last before split = split ∙ ap (λ xs. before ++ xs) (sym (append-nil (gapped_from tree last.block.items last.next)))
+
+before-more : {K : Type 0} (tree : Tree K) (root : ℕ) (s : Step) (ss : List Step) (last : Step) (before : List (Gapped Item)) (under : IsUnder tree s (bottom ss last)) → IsMetStep tree root (bottom ss last) → Before tree ss last before →
+    Before tree (s ∷ ss) last (front_of tree s.block.items under.index ++ (Ok (item_at (level_of s.block.items) (pair_of tree.shape s.block.items under.index)) ∷ before))
+before-more tree root s ss last before under met split =
+    let node = s.block.items in
+    let front = front_of tree node under.index in
+    let item : Gapped Item = Ok (item_at (level_of node) (pair_of tree.shape node under.index)) in
+    let here = gapped_from tree last.block.items last.next in
+    let after = gapped_from tree node s.next in
+    through-step tree root s (bottom ss last) under met
+    ∙ (ap (λ xs. front ++ (item ∷ (xs ++ after))) split
+    ∙ (ap (λ xs. front ++ (item ∷ xs)) (append_assoc before (here ++ gapped_rest tree ss) after)
+    ∙ (ap (λ xs. front ++ (item ∷ (before ++ xs))) (append_assoc here (gapped_rest tree ss) after)
+    ∙ sym (append_assoc front (item ∷ before) (here ++ (gapped_rest tree ss ++ after))))))
+
+before-way : {K : Type 0} (tree : Tree K) (root : ℕ) (above : List Step) (last : Step) → All (IsMetStep tree root) above → IsMetStep tree root last → IsLinked tree above last → (before : List (Gapped Item)) × Before tree above last before
+before-way tree root [] last held met linked = (front_of tree last.block.items last.next, before-last tree last (front_of tree last.block.items last.next) (front-split tree last.block.items last.next))
+before-way tree root (s ∷ ss) last held met linked =
+    let others = All-tail (IsMetStep tree root) s ss held in
+    let below = before-way tree root ss last others met linked.1 in (
+      front_of tree s.block.items linked.0.index ++ (Ok (item_at (level_of s.block.items) (pair_of tree.shape s.block.items linked.0.index)) ∷ below.0),
+      before-more tree root s ss last below.0 linked.0 (bottom-node tree root ss last others met) below.1,
+    )
+
+root-items : {K : Type 0} (tree : Tree K) (root : ℕ) (node : List ℕ) → tree.look (root_place root) ≡ Ok node → gapped_of tree root ≡ gapped_from tree node 0
+root-items tree root node found = ap (λ o. or_gap o (λ n. flat_map (gapped_part tree (level_of n)) (pairs_of tree.shape n))) found
+
+-- what is left of a way through a tree is the end of the tree's Line with its gaps
+pub way-suffix : {K : Type 0} (tree : Tree K) (root : ℕ) (above : List Step) (last : Step) → IsIn tree root above last → IsSuffix (gapped_from tree last.block.items last.next ++ gapped_rest tree above) (gapped_of tree root)
+way-suffix tree root above last within =
+    let split = before-way tree root above last within.hold within.hold_last within.linked in
+    record { before = split.0; split = root-items tree root (bottom above last).block.items within.base ∙ split.1 }
+
+-- at the start all of it is left
+pub way-start : {K : Type 0} (tree : Tree K) (root : ℕ) (above : List Step) (last : Step) → above ≡ [] → last.next ≡ 0 → tree.look (root_place root) ≡ Ok last.block.items → gapped_from tree last.block.items last.next ++ gapped_rest tree above ≡ gapped_of tree root
+way-start tree root above last none next found =
+    ap (λ ss. gapped_from tree last.block.items last.next ++ gapped_rest tree ss) none
+    ∙ (append-nil (gapped_from tree last.block.items last.next)
+    ∙ (ap (gapped_from tree last.block.items) next
+    ∙ sym (root-items tree root last.block.items found)))
+
+met-append : (xs ys : List (Gapped Item)) → all_met (xs ++ ys) ≡ all_met xs ++ all_met ys
+met-append xs ys = flat_map-append met_in xs ys
+
+-- the last of some items ranks below
+abbrev EndsBelow : {K : Type 0} → Shape K → Rank → List Item → Type 0
+EndsBelow shape rank items = (item : Item) → last items ≡ Some item → is_below_rank shape rank item.pair ≡ true
+
+-- the first of some items doesn't
+abbrev StartsAbove : {K : Type 0} → Shape K → Rank → List Item → Type 0
+StartsAbove shape rank items = (item : Item) (others : List Item) → items ≡ item ∷ others → is_below_rank shape rank item.pair ≡ false
+
+last-after : {X : Type 0} (xs : List X) (y : X) (ys : List X) → last (xs ++ (y ∷ ys)) ≡ Some (last_or y ys)
+last-after [] y ys = refl
+last-after (x ∷ []) y ys = refl
+last-after (x ∷ (z ∷ xs)) y ys = last-after (z ∷ xs) y ys
+
+ends-one : {K : Type 0} (shape : Shape K) (rank : Rank) (xs : List Item) (y : Item) (ys : List Item) → is_below_rank shape rank y.pair ≡ true → EndsBelow shape rank ys → EndsBelow shape rank (xs ++ (y ∷ ys))
+ends-one shape rank xs y [] low ends item e =
+    let same : Some y ≡ Some item = sym (last-after xs y []) ∙ e in
+    let here : y ≡ item = cc in
+    subst (λ (i : Item). is_below_rank shape rank i.pair ≡ true) here low
+ends-one shape rank xs y (z ∷ zs) low ends item e = ends item (sym (last-after xs y (z ∷ zs)) ∙ e)
+
+starts-append : {K : Type 0} (shape : Shape K) (rank : Rank) (xs ys : List Item) → StartsAbove shape rank xs → StartsAbove shape rank ys → StartsAbove shape rank (xs ++ ys)
+starts-append shape rank [] ys left right item others e = right item others e
+starts-append shape rank (x ∷ xs) ys left right item others e =
+    let here : x ≡ item = cc in
+    subst (λ (i : Item). is_below_rank shape rank i.pair ≡ false) here (left x xs refl)
+
+-- what is left of a node from a cut on
+part-head : {K : Type 0} (tree : Tree K) (level : ℕ) (pair : Pair) → (xs : List (Gapped Item)) × (gapped_part tree level pair ≡ Ok (item_at level pair) ∷ xs)
+part-head tree zero pair = ([], refl)
+part-head tree (suc level) pair = (gapped_under tree level pair, refl)
+
+from-head : {K : Type 0} (tree : Tree K) (node : List ℕ) (i : ℕ) → i < count_of node → (xs : List (Gapped Item)) × (gapped_from tree node i ≡ Ok (item_at (level_of node) (pair_of tree.shape node i)) ∷ xs)
+from-head tree node i low =
+    let head = part-head tree (level_of node) (pair_of tree.shape node i) in
+    (head.0 ++ gapped_from tree node (i + 1), gapped-cons tree node i low ∙ ap (λ xs. xs ++ gapped_from tree node (i + 1)) head.1)
+
+starts-node : {K : Type 0} (tree : Tree K) (rank : Rank) (node : List ℕ) (i : ℕ) → IsCut tree.shape rank node i → StartsAbove tree.shape rank (all_met (gapped_from tree node i))
+starts-node tree rank node i cut item others e =
+    elim (cases_lt i (count_of node)) [
+      | inl low ↦
+          let head = from-head tree node i low in
+          let same : item_at (level_of node) (pair_of tree.shape node i) ∷ all_met head.0 ≡ item ∷ others = sym (ap all_met head.1) ∙ e in
+          let here : item_at (level_of node) (pair_of tree.shape node i) ≡ item = cc in
+          subst (λ (x : Item). is_below_rank tree.shape rank x.pair ≡ false) here (cut.after low)
+      | inr past ↦ let none : [] ≡ item ∷ others = sym (ap all_met (gapped_end tree node i past)) ∙ e in absurd (cc)
+    ]
+
+starts-rest : {K : Type 0} (tree : Tree K) (rank : Rank) (above : List Step) → All (IsCutStep tree.shape rank) above → StartsAbove tree.shape rank (all_met (gapped_rest tree above))
+starts-rest tree rank [] cuts item others e = absurd (cc)
+starts-rest tree rank (s ∷ ss) cuts item others e =
+    let lower = all_met (gapped_rest tree ss) in
+    let here = all_met (gapped_from tree s.block.items s.next) in
+    starts-append tree.shape rank lower here (starts-rest tree rank ss (All-tail (IsCutStep tree.shape rank) s ss cuts)) (starts-node tree rank s.block.items s.next (All-head (IsCutStep tree.shape rank) s ss cuts)) item others
+    (sym (met-append (gapped_rest tree ss) (gapped_from tree s.block.items s.next)) ∙ e)
+
+-- the items before a cut
+record CutsBefore {K : Type 0} (tree : Tree K) (rank : Rank) (above : List Step) (last : Step) : Type 0 where
+  before : List (Gapped Item)
+  split : Before tree above last before
+  ends : EndsBelow tree.shape rank (all_met before)
+
+cuts-last : {K : Type 0} (tree : Tree K) (rank : Rank) (last : Step) (next : ℕ) → last.next ≡ next → next ≤ count_of last.block.items → IsCutStep tree.shape rank last → (0 < next → level_of last.block.items ≡ 0) → CutsBefore tree rank [] last
+cuts-last tree rank last zero at inside cut leaf = record {
+  before = [];
+  split = before-last tree last [] (ap (gapped_from tree last.block.items) (sym at));
+  ends = λ item e. absurd (cc);
+}
+cuts-last tree rank last (suc j) at inside cut leaf =
+    let node = last.block.items in
+    let front = front_of tree node j in
+    let item = item_at (level_of node) (pair_of tree.shape node j) in
+    let next : j + 1 ≡ last.next = omega (arith, at) in
+    let split : gapped_from tree node 0 ≡ (front ++ Ok item ∷ []) ++ gapped_from tree node last.next =
+    front-split tree node j
+    ∙ (ap (λ xs. front ++ xs) (gapped-leaf tree node j (omega arith) (leaf (omega arith)))
+    ∙ (ap (λ k. front ++ (Ok item ∷ gapped_from tree node k)) next
+    ∙ sym (append_assoc front (Ok item ∷ []) (gapped_from tree node last.next)))) in
+    record {
+      before = front ++ Ok item ∷ [];
+      split = before-last tree last (front ++ Ok item ∷ []) split;
+      ends = subst (EndsBelow tree.shape rank) (sym (met-append front (Ok item ∷ []))) (ends-one tree.shape rank (all_met front) item [] (cut.before j next) (λ other e. absurd (cc)));
+    }
+
+cuts-way : {K : Type 0} (tree : Tree K) (root : ℕ) (rank : Rank) (above : List Step) (last : Step) → All (IsMetStep tree root) above → IsMetStep tree root last → IsLinked tree above last → All (IsCutStep tree.shape rank) above → CutsBefore tree rank [] last → CutsBefore tree rank above last
+cuts-way tree root rank [] last held met linked cuts here = here
+cuts-way tree root rank (s ∷ ss) last held met linked cuts here =
+    let others = All-tail (IsMetStep tree root) s ss held in
+    let below = cuts-way tree root rank ss last others met linked.1 (All-tail (IsCutStep tree.shape rank) s ss cuts) here in
+    let under = linked.0 in
+    let node = s.block.items in
+    let front = front_of tree node under.index in
+    let item = item_at (level_of node) (pair_of tree.shape node under.index) in
+    let low = (All-head (IsCutStep tree.shape rank) s ss cuts).before under.index (sym under.next) in
+    record {
+      before = front ++ (Ok item ∷ below.before);
+      split = before-more tree root s ss last below.before under (bottom-node tree root ss last others met) below.split;
+      ends = subst (EndsBelow tree.shape rank) (sym (met-append front (Ok item ∷ below.before))) (ends-one tree.shape rank (all_met front) item (all_met below.before) low below.ends);
+    }
+
+-- a way that stands at a rank's cuts stands at a place of the rank in the Line
+pub cut-place : {K : Type 0} (tree : Tree K) (root : ℕ) (rank : Rank) (above : List Step) (last : Step) → IsIn tree root above last → IsCutWay tree.shape rank above last → last.next ≤ count_of last.block.items → IsPlaceOf tree.shape rank (line_of tree root) (all_met (gapped_from tree last.block.items last.next ++ gapped_rest tree above))
+cut-place tree root rank above last within cuts inside =
+    let here = gapped_from tree last.block.items last.next in
+    let others = gapped_rest tree above in
+    let split = cuts-way tree root rank above last within.hold within.hold_last within.linked cuts.each (cuts-last tree rank last last.next refl inside cuts.here cuts.leaf) in
+    record {
+      before = all_met split.before;
+      split = sym (gapped-line tree root) ∙ (ap all_met (root-items tree root (bottom above last).block.items within.base ∙ split.split) ∙ met-append split.before (here ++ others));
+      low = split.ends;
+      high = subst (StartsAbove tree.shape rank) (sym (met-append here others)) (starts-append tree.shape rank (all_met here) (all_met others) (starts-node tree rank last.block.items last.next cuts.here) (starts-rest tree rank above cuts.each));
+    }
