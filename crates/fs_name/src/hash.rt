@@ -28,7 +28,7 @@ pub fn ascii_hash(names: Names, name: &[u8]) -> u32
 #[tactic(auto, unfolding(crate::specs::Hash::name_hash_of))]
 pub fn name_hash(alloc: Global, names: Names, name: &str) -> Result<u32, NoMemory>
     ensures value { IfOk result (λ hash. hash ≡ name_hash_of names name.now) }
-    ensures no_memory { IsAscii name.now → IsOk result }
+    ensures plain { IsAscii name.now → IsOk result }
 {
     if name.is_ascii() {
         return Ok(ascii_hash(names, name.as_bytes()));

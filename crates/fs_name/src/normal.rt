@@ -13,7 +13,7 @@ use unicode_normalization::to_nfd;
 /// Whether two names are the same: whether their normal forms are equal. ASCII names take no memory.
 pub fn same_name(alloc: Global, names: Names, a: &str, b: &str) -> Result<bool, NoMemory>
     ensures value { IfOk result (λ same. same ≡ is_same_name names a.now b.now) }
-    ensures no_memory { IsAscii a.now → IsAscii b.now → IsOk result }
+    ensures plain { IsAscii a.now → IsAscii b.now → IsOk result }
 {
     match same_in(alloc, names, a, b) {
         Ok(same) => Ok(same),
@@ -25,7 +25,7 @@ pub fn same_name(alloc: Global, names: Names, a: &str, b: &str) -> Result<bool, 
 #[tactic(auto, using(crate::proofs::NormalLemmas::exact_same))]
 fn same_in(alloc: Global, names: Names, a: &str, b: &str) -> Result<bool, AllocError>
     ensures value { IfOk result (λ same. same ≡ is_same_name names a.now b.now) }
-    ensures no_memory { IsAscii a.now → IsAscii b.now → IsOk result }
+    ensures plain { IsAscii a.now → IsAscii b.now → IsOk result }
 {
     match names {
         Names::Exact => Ok(a == b),
@@ -54,7 +54,7 @@ pub fn normal_text(alloc: Global, names: Names, name: &str) -> Result<String, Al
 #[tactic(auto, using(crate::proofs::NormalLemmas::chars_eq, crate::proofs::NormalLemmas::ascii_same), unfolding(crate::specs::Normal::is_same_name, crate::specs::Normal::normal_chars))]
 fn same_decomposed(alloc: Global, a: &str, b: &str) -> Result<bool, AllocError>
     ensures value { IfOk result (λ same. same ≡ is_same_name Names.Normal a.now b.now) }
-    ensures no_memory { IsAscii a.now → IsAscii b.now → IsOk result }
+    ensures plain { IsAscii a.now → IsAscii b.now → IsOk result }
 {
     if a.is_ascii() && b.is_ascii() {
         return Ok(a == b);
