@@ -24,7 +24,7 @@ zeros_joined name = filter-append (λ b. b == 0) name (0 ∷ [])
 one_zero : (name : List ℕ) → (length (zeros (name ++ (0 ∷ []))) == 1) ≡ not (list_any (λ b. b == 0) name)
 one_zero name = rw (zeros_joined name, some_zero name) (grind (arith, common_steps))
 
--- UTF-8 with a zero behind it, and without
+-- UTF-8 with a zero after it, and without
 text_before_zero : (name : List ℕ) → IsUtf8 (name ++ (0 ∷ [])) → IsUtf8 name
 text_before_zero name text =
     let raw : List ℕ = name ++ (0 ∷ []) in

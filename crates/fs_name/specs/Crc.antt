@@ -27,6 +27,6 @@ after_byte remainder byte = after_bits 8 (bit_xor remainder byte)
 abbrev pub after_bytes : ℕ → List ℕ → ℕ
 after_bytes remainder bytes = fold after_byte remainder bytes
 
--- the CRC-32C of some bytes: begun with all bits set, and complemented at its end
+-- the CRC-32C of some bytes: started with all bits set, and complemented at its end
 unfoldable pub crc32c_of : List ℕ → ℕ
 crc32c_of bytes = bit_not w32 (after_bytes ones bytes)

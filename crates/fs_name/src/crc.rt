@@ -2,7 +2,7 @@
 ghost use Rattle.std.specs.Prelude.{◌≡◌};
 ghost use Rattle.fs_name.specs.Crc as spec;
 
-// A remainder with all bits set, with which each sum begins.
+// A remainder with all bits set, with which each sum starts.
 pub const ONES: u32 = 0xffff_ffff;
 
 // The low byte of a remainder.

@@ -3,6 +3,20 @@ use std::test::Fail;
 
 const KINDS: [Names; 3] = [Names::Exact, Names::Normal, Names::Folded];
 
+#[test]
+fn features_tell_how_names_are_compared(rt: HostRuntime) {
+    for (incompat, names, hashed) in [
+        (0, Names::Exact, false),
+        (2, Names::Exact, false),
+        (8, Names::Normal, true),
+        (1, Names::Folded, true),
+        (9, Names::Folded, true),
+    ] {
+        assert_eq!(rt; Names::of_features(incompat), names);
+        assert_eq!(rt; names.are_hashed(), hashed);
+    }
+}
+
 // The check value of CRC-32C, and the examples of RFC 3720, B.4.
 #[test]
 fn sums_of_the_standard(rt: HostRuntime) {
@@ -25,6 +39,16 @@ fn a_and_capital_a_hash_alike_where_letters_are_folded(rt: HostRuntime) {
     assert_eq!(rt; u64::from(hash) * 1024 + 2, 0x7957_b002);
 }
 
+// A name of 51 bytes in five scripts, its decomposition, and the folding of that, by another program.
+const LONG: &str =
+    "Gr\u{f6}\u{df}e \u{3a9}\u{39c}\u{388}\u{393}\u{391} \u{d55c}\u{ae00} \u{c5}ngstr\u{f6}m, \u{65e5}\u{672c}\u{8a9e}.txt";
+
+const LONG_DECOMPOSED: &str =
+    "Gro\u{308}\u{df}e \u{3a9}\u{39c}\u{395}\u{301}\u{393}\u{391} \u{1112}\u{1161}\u{11ab}\u{1100}\u{1173}\u{11af} A\u{30a}ngstro\u{308}m, \u{65e5}\u{672c}\u{8a9e}.txt";
+
+const LONG_FOLDED: &str =
+    "gro\u{308}sse \u{3c9}\u{3bc}\u{3b5}\u{301}\u{3b3}\u{3b1} \u{1112}\u{1161}\u{11ab}\u{1100}\u{1173}\u{11af} a\u{30a}ngstro\u{308}m, \u{65e5}\u{672c}\u{8a9e}.txt";
+
 // The hashes of a name under each kind, by another program.
 #[test]
 fn hashes(rt: HostRuntime) -> Result<(), Fail> {
@@ -38,6 +62,7 @@ fn hashes(rt: HostRuntime) -> Result<(), Fail> {
         ("\u{d55c}", [0x03_b483, 0x10_ad04, 0x10_ad04]),
         ("\u{1fb4}", [0x18_ce64, 0x32_542d, 0x13_3556]),
         ("\u{1f600}", [0x2f_ab5c, 0x2f_ab5c, 0x2f_ab5c]),
+        (LONG, [0x0f_de44, 0x2c_6c26, 0x39_0a1f]),
     ] {
         for (names, want) in KINDS.iter().zip(want.iter()) {
             assert_eq!(rt;
@@ -63,6 +88,8 @@ fn same_names(rt: HostRuntime) -> Result<(), Fail> {
         ("\u{3c3}", "\u{3c2}", [false, false, true]),
         ("\u{d55c}", "\u{1112}\u{1161}\u{11ab}", [false, true, true]),
         ("\u{1fb4}", "\u{3b1}\u{345}\u{301}", [false, true, true]),
+        (LONG, LONG_DECOMPOSED, [false, true, true]),
+        (LONG, LONG_FOLDED, [false, false, true]),
     ] {
         for (names, want) in KINDS.iter().zip(want.iter()) {
             assert_eq!(rt;
