@@ -21,8 +21,8 @@ fn ones_at(bytes: &[u8], at: usize) -> u64
 /// How many bits are set. From 2^61 bytes on `u64::MAX` stands for each greater number.
 #[tactic(auto, using(crate::proofs::CountLemmas::ones_of_byte, crate::proofs::CountLemmas::given_more, crate::proofs::CountLemmas::ones_bound), unfolding(crate::specs::Bits::ones_of))]
 pub fn count_ones(bytes: &[u8]) -> u64
-    ensures count { result ≡ given (ones_of bytes.now) }
-    ensures exact { length bytes.now < 2 ^ 61 → result ≡ ones_of bytes.now }
+    ensures value { result ≡ given (ones_of bytes.now) }
+    ensures below { length bytes.now < 2 ^ 61 → result ≡ ones_of bytes.now }
 {
     let parts = bytes.len() / PART;
     let mut count: u64 = 0;

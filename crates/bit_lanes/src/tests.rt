@@ -1,3 +1,4 @@
+// Counts and places worked out by hand. Runs of 130 bytes have two parts of 64 and a rest of two.
 use super::*;
 
 #[test]
@@ -6,6 +7,8 @@ fn counts(rt: HostRuntime) {
         ([].as_slice(), 0),
         ([0xff, 0xff, 0xff].as_slice(), 24),
         ([0x01, 0x80, 0x55].as_slice(), 6),
+        ([0xff; 64].as_slice(), 512),
+        ([0x52; 130].as_slice(), 390),
     ] {
         assert_eq!(rt; count_ones(bytes), want, "{bytes:?}");
     }
@@ -13,32 +16,50 @@ fn counts(rt: HostRuntime) {
 
 #[test]
 fn least_differences(rt: HostRuntime) {
+    let zeros = [0; 130];
+    let mut in_second_part = zeros;
+    in_second_part[100] = 0x14;
+    let mut in_rest = zeros;
+    in_rest[129] = 0x80;
     for (a, b, want) in [
         ([].as_slice(), [].as_slice(), None),
         ([0x00, 0x04].as_slice(), [0x00, 0x00].as_slice(), Some(10)),
         ([0x80, 0x01].as_slice(), [0x00, 0x00].as_slice(), Some(7)),
         ([0x11, 0xb0].as_slice(), [0x11, 0x10].as_slice(), Some(13)),
-        ([0x11, 0x10].as_slice(), [0x11, 0x10].as_slice(), None),
+        (in_second_part.as_slice(), in_rest.as_slice(), Some(802)),
+        (zeros.as_slice(), in_rest.as_slice(), Some(1039)),
+        (in_rest.as_slice(), in_rest.as_slice(), None),
     ] {
         assert_eq!(rt; a.len(), b.len());
-        assert!(rt; a.len() < 100);
+        assert!(rt; a.len() < 1000);
         assert_eq!(rt; first_difference(a, b), want, "{a:?} {b:?}");
     }
 }
 
 #[test]
 fn a_bit_of_either_is_set(rt: HostRuntime) {
-    let mut bytes = [0x01, 0x80, 0x00];
-    or_into(&mut bytes, &[0x10, 0x80, 0x00]);
-    assert_eq!(rt; bytes, [0x11, 0x80, 0x00]);
+    let mut few = [0x01, 0x80, 0x00];
+    or_into(&mut few, &[0x10, 0x80, 0x00]);
+    assert_eq!(rt; few, [0x11, 0x80, 0x00]);
+    let mut many = [0x03; 130];
+    or_into(&mut many, &[0x06; 130]);
+    assert!(rt; many.iter().all(|byte| *byte == 0x07));
 }
 
 #[test]
 fn shared_bits(rt: HostRuntime) {
+    let ones = [0x01; 130];
+    let mut in_second_part = [0x06; 130];
+    in_second_part[70] = 0x07;
+    let mut in_rest = [0x06; 130];
+    in_rest[128] = 0x07;
     for (a, b, want) in [
         ([].as_slice(), [].as_slice(), false),
         ([0x01, 0xf0].as_slice(), [0x02, 0x0f].as_slice(), false),
         ([0x01, 0xf0].as_slice(), [0x02, 0x10].as_slice(), true),
+        (ones.as_slice(), [0x06; 130].as_slice(), false),
+        (ones.as_slice(), in_second_part.as_slice(), true),
+        (ones.as_slice(), in_rest.as_slice(), true),
     ] {
         assert_eq!(rt; a.len(), b.len());
         assert_eq!(rt; and_any(a, b), want, "{a:?} {b:?}");

@@ -1,4 +1,4 @@
-// Values from outside: the sum of two blocks worked out by hand, and each call once.
+// Values from outside: sums worked out by the closed formula apart from the program, and each call once.
 use crate::{
     Bad, Expect, Feature, HeadFault, ObjFlags, Stop, Unsound, is_accepted, sound, sum64, u16_at,
     u32_at, u64_at,
@@ -7,18 +7,26 @@ use apfs_model::{NoMemory, ReadFailed};
 use bitflags::Flags;
 
 #[test]
-fn sums_by_hand(rt: HostRuntime) {
-    let mut block = [0u8; 4096];
-    assert_eq!(rt; sum64(&block), 0xffff_ffff_ffff_ffff);
-    block[8] = 1;
-    assert_eq!(rt; sum64(&block), 0x0000_03fe_ffff_fc00);
-    assert_eq!(rt;
-        sum64(&block).to_le_bytes(),
-        [0, 0xfc, 0xff, 0xff, 0xfe, 3, 0, 0]
-    );
-    block[8] = 0;
-    block[4092] = 1;
-    assert_eq!(rt; sum64(&block), 0x0000_0001_ffff_fffd);
+fn sums(rt: HostRuntime) {
+    let last_words = [0, 0, 0, 0, 0, 0, 0, 0, 1, 0, 0, 0, 2, 0, 0, 0];
+    let zeros = [0u8; 4096];
+    let mut first_word = [0u8; 4096];
+    first_word[8] = 1;
+    let mut last_word = [0u8; 4096];
+    last_word[4092] = 1;
+    for (bytes, sum) in [
+        (last_words.as_slice(), 0x0000_0004_ffff_fff8),
+        (zeros.as_slice(), 0xffff_ffff_ffff_ffff),
+        (first_word.as_slice(), 0x0000_03fe_ffff_fc00),
+        (last_word.as_slice(), 0x0000_0001_ffff_fffd),
+        ([0xff; 65536].as_slice(), 0xffff_ffff_ffff_ffff),
+        ([1; 131112].as_slice(), 0x8888_8888_eeee_eeee),
+    ] {
+        assert!(rt; bytes.len() >= 12 && bytes.len() % 4 == 0);
+        assert_eq!(rt; sum64(bytes), sum, "{} bytes", bytes.len());
+    }
+    let stored = sum64(&first_word).to_le_bytes();
+    assert_eq!(rt; stored, [0, 0xfc, 0xff, 0xff, 0xfe, 3, 0, 0]);
 }
 
 #[test]

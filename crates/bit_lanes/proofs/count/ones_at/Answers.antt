@@ -1,7 +1,6 @@
-use Rattle.std.proofs.Common.{◌≡◌, ◌+◌, ◌*◌, ◌<◌, ◌≤◌, ◌^◌, get_or, ap, ◌∙◌, arith}
+use Rattle.std.proofs.Common.{◌≡◌, ◌≤◌, get_or, ap, ◌∙◌, arith}
 use Rattle.std.specs.Prelude.{count_ones}
 use lib.Count.{ones-le}
-use Rattle.bit_lanes.specs.Bits.{ones_below}
 use Rattle.bit_lanes.specs.Words.{eight_words}
 use Rattle.bit_lanes.proofs.WordLemmas.{ones_of_word}
 use Rattle.bit_lanes.proofs.count.ones_at.Goals as goal

@@ -1,6 +1,5 @@
-use Rattle.std.proofs.Common.{◌≡◌, ℕ, ◌*◌, ◌<◌, ◌^◌, length, get_or, ap, sym, ◌∙◌, arith, inl, inr, w8, w64}
+use Rattle.std.proofs.Common.{◌≡◌, ℕ, ◌*◌, length, get_or, ap, sym, ◌∙◌, arith, inl, inr, w64}
 use Rattle.std.proofs.lemmas.Bool.{cases_lt}
-use Rattle.bit_lanes.specs.Words.{eight_words}
 use Rattle.bit_lanes.proofs.WordLemmas.{same_words}
 use Rattle.bit_lanes.proofs.LaneLemmas.{same_lanes}
 use Rattle.bit_lanes.proofs.differ.equal_parts.Goals as goal

@@ -1,5 +1,4 @@
-use Rattle.std.proofs.Common.{◌≡◌, ◌∙◌, ◌*◌, ◌+◌, ◌<◌, ◌≤◌, ltb, cond, get_or, sym, ap, ap₂, arith, inl, inr}
-use Rattle.std.specs.Prelude.{bit_or}
+use Rattle.std.proofs.Common.{◌∙◌, arith}
 use Rattle.bit_lanes.proofs.ByteLemmas.{joined_bits, joined_at, joined_part}
 use Rattle.bit_lanes.proofs.join.or_into.Goals as goal
 
