@@ -1,0 +1,4 @@
+pub mod Fronts
+pub mod Ranges
+pub mod Keeps
+pub mod Puts

@@ -1,0 +1,163 @@
+// Reading the parts of a read, each within one block.
+ghost use Rattle.std.specs.Prelude.{◌≡◌, ◌⊎◌, ◌+◌, ◌-◌, ◌*◌, ◌/◌, ◌%◌, ◌≤◌, ◌<◌, ℕ, List, Some, None, true, false, length, min, take, OnOk, OnErr, IfOk};
+ghost use Rattle.apfs_model.specs.Counts.{one_more, Rose};
+ghost use Rattle.apfs_model.specs.Source.{Copies, IsKept};
+ghost use Rattle.blk_cache.specs.Keeping.{keeps, Touches, last_touched, IsCache, Grows, IsSame};
+
+use crate::store::Store;
+use blk_source::{BlockSource, ReadFailed};
+use std::alloc::Global;
+
+// Reads as many bytes as a buffer has, from a place on, into it.
+fn fetch<S: BlockSource>(inner: &mut S, at: u64, buffer: Vec<u8>) -> Result<Vec<u8>, ReadFailed>
+    requires some { 1 ≤ length buffer.items }
+    requires short { length buffer.items ≤ 65536 }
+    requires inside { at + length buffer.items ≤ S.bytes_len inner.old }
+    ensures found { (image : List ℕ) → S.bytes inner.old ≡ Some image → IfOk result (λ bytes. Copies image at bytes.items) }
+    ensures long { IfOk result (λ bytes. length bytes.items ≡ length buffer.items) }
+    ensures cause { OnErr result (Rose (S.faults inner.old) (S.faults inner.new)) }
+    ensures kept { IsKept S.bytes S.bytes_len S.faults inner.old inner.new }
+    ensures reads { S.reads inner.new ≤ S.reads inner.old + 1 }
+{
+    let mut bytes = buffer;
+    inner.read_at(at, &mut bytes)?;
+    Ok(bytes)
+}
+
+// Reads a part of a block that isn't kept, and keeps the block where there is memory.
+fn fill<S: BlockSource>(
+    alloc: Global,
+    inner: &mut S,
+    store: &mut Store,
+    block: u64,
+    from: usize,
+    into: &mut [u8],
+) -> Result<(), ReadFailed>
+    requires cache { IsCache S.bytes S.bytes_len inner.old store.old }
+    requires lacks { keeps store.old block ≡ false }
+    requires some { 1 ≤ length into.old }
+    requires inside { store.old.size * block + from + length into.old ≤ S.bytes_len inner.old }
+    requires within { from + length into.old ≤ store.old.size }
+    ensures found { (image : List ℕ) → S.bytes inner.old ≡ Some image → OnOk result (Copies image (store.old.size * block + from) into.new) }
+    ensures cause { OnErr result (Rose (S.faults inner.old) (S.faults inner.new)) }
+    ensures kept { IsKept S.bytes S.bytes_len S.faults inner.old inner.new }
+    ensures cache { IsCache S.bytes S.bytes_len inner.new store.new }
+    ensures grows { Grows store.old store.new }
+    ensures last { OnOk result ((keeps store.new block ≡ true) ⊎ Rose store.old.lost store.new.lost) }
+    ensures counted { keeps store.new block ≡ true → store.new.lost ≡ store.old.lost }
+    ensures reads { S.reads inner.new ≤ S.reads inner.old + 1 }
+{
+    let size = store.size as u64;
+    let end = inner.size();
+    let first = size * block;
+    let len = size.min(end - first) as usize;
+    match vec![in alloc; 0u8; len] {
+        Ok(buffer) => {
+            let bytes = fetch(inner, first, buffer)?;
+            into.copy_from_slice(&bytes[from..from + into.len()]);
+            store.keep(block, bytes);
+            Ok(())
+        }
+        Err(_) => {
+            store.lose();
+            inner.read_at(first + from as u64, into)
+        }
+    }
+}
+
+// Reads a part of a block, which is kept afterwards where there is memory.
+fn part<S: BlockSource>(
+    alloc: Global,
+    inner: &mut S,
+    store: &mut Store,
+    at: u64,
+    into: &mut [u8],
+) -> Result<(), ReadFailed>
+    requires cache { IsCache S.bytes S.bytes_len inner.old store.old }
+    requires some { 1 ≤ length into.old }
+    requires inside { at + length into.old ≤ S.bytes_len inner.old }
+    requires within { at % store.old.size + length into.old ≤ store.old.size }
+    ensures found { (image : List ℕ) → S.bytes inner.old ≡ Some image → OnOk result (Copies image at into.new) }
+    ensures cause { OnErr result (Rose (S.faults inner.old) (S.faults inner.new)) }
+    ensures kept { IsKept S.bytes S.bytes_len S.faults inner.old inner.new }
+    ensures cache { IsCache S.bytes S.bytes_len inner.new store.new }
+    ensures grows { Grows store.old store.new }
+    ensures last { OnOk result ((keeps store.new (at / store.old.size) ≡ true) ⊎ Rose store.old.lost store.new.lost) }
+    ensures counted { keeps store.new (at / store.old.size) ≡ true → store.new.lost ≡ store.old.lost }
+    ensures served { keeps store.old (at / store.old.size) ≡ true → (S.reads inner.new ≡ S.reads inner.old) × IsSame store.old store.new }
+    ensures reads { S.reads inner.new ≤ S.reads inner.old + 1 }
+{
+    let size = store.size as u64;
+    let block = at / size;
+    let from = (at % size) as usize;
+    if store.serve(block, from, into) {
+        return Ok(());
+    }
+    fill(alloc, inner, store, block, from, into)
+}
+
+// How many of the bytes that are left lie in the block in which a place lies.
+fn part_len(size: u32, at: u64, left: usize) -> usize
+    requires size { 1 ≤ size }
+    requires left { 1 ≤ left }
+    ensures some { 1 ≤ result }
+    ensures few { result ≤ left }
+    ensures within { at % size + result ≤ size }
+{
+    let rest = size as u64 - at % size as u64;
+    left.min(rest as usize)
+}
+
+// Reads the part of a piece that follows the bytes that are there, up to the end of its block: how many are there then.
+fn next<S: BlockSource>(
+    alloc: Global,
+    inner: &mut S,
+    store: &mut Store,
+    at: u64,
+    done: usize,
+    into: &mut [u8],
+) -> Result<usize, ReadFailed>
+    requires cache { IsCache S.bytes S.bytes_len inner.old store.old }
+    requires some { done < length into.old }
+    requires inside { at + length into.old ≤ S.bytes_len inner.old }
+    ensures done { IfOk result (λ n. (done < n) × (n ≤ length into.old)) }
+    ensures found { (image : List ℕ) → S.bytes inner.old ≡ Some image → Copies image at (take done into.old) → IfOk result (λ n. Copies image at (take n into.new)) }
+    ensures cause { OnErr result (Rose (S.faults inner.old) (S.faults inner.new)) }
+    ensures kept { IsKept S.bytes S.bytes_len S.faults inner.old inner.new }
+    ensures cache { IsCache S.bytes S.bytes_len inner.new store.new }
+    ensures grows { Grows store.old store.new }
+    ensures last { IfOk result (λ n. (keeps store.new (last_touched store.old.size at n) ≡ true) ⊎ Rose store.old.lost store.new.lost) }
+    ensures served { keeps store.old ((at + done) / store.old.size) ≡ true → (S.reads inner.new ≡ S.reads inner.old) × IsSame store.old store.new }
+{
+    let _size = inner.size();
+    let from = at + done as u64;
+    let len = part_len(store.size, from, into.len() - done);
+    part(alloc, inner, store, from, &mut into[done..done + len])?;
+    Ok(done + len)
+}
+
+/// Reads a piece part by part, each within one block, which is kept afterwards where there is memory.
+pub(crate) fn parts<S: BlockSource>(
+    alloc: Global,
+    inner: &mut S,
+    store: &mut Store,
+    at: u64,
+    into: &mut [u8],
+) -> Result<(), ReadFailed>
+    requires cache { IsCache S.bytes S.bytes_len inner.old store.old }
+    requires some { 1 ≤ length into.old }
+    requires inside { at + length into.old ≤ S.bytes_len inner.old }
+    ensures found { (image : List ℕ) → S.bytes inner.old ≡ Some image → OnOk result (Copies image at into.new) }
+    ensures cause { OnErr result (Rose (S.faults inner.old) (S.faults inner.new)) }
+    ensures kept { IsKept S.bytes S.bytes_len S.faults inner.old inner.new }
+    ensures cache { IsCache S.bytes S.bytes_len inner.new store.new }
+    ensures grows { Grows store.old store.new }
+    ensures last { OnOk result ((keeps store.new (last_touched store.old.size at (length into.old)) ≡ true) ⊎ Rose store.old.lost store.new.lost) }
+    ensures served { ((block : ℕ) → Touches store.old.size at (length into.old) block → keeps store.old block ≡ true) → (S.reads inner.new ≡ S.reads inner.old) × IsSame store.old store.new }
+{
+    let mut done = 0;
+    while done < into.len() {
+        done = next(alloc, inner, store, at, done, into)?;
+    }
+    Ok(())
+}

@@ -1,0 +1,80 @@
+// What no clause says: that blocks are kept where there is memory.
+use crate::Cached;
+use blk_source::{BlockSource, MemSource, SureSource};
+use std::alloc::Global;
+use std::test::Fail;
+
+// An image of 20,000 bytes: four blocks of 4,096 bytes, and a short one.
+fn image(alloc: Global) -> Result<Vec<u8>, Fail> {
+    let mut bytes = Vec::new(alloc);
+    for i in 0..20_000u32 {
+        bytes.push((i / 7 % 251) as u8)?;
+    }
+    Ok(bytes)
+}
+
+// The bytes of a source from a place on.
+fn piece<S: BlockSource>(
+    alloc: Global,
+    source: &mut S,
+    at: u16,
+    len: u16,
+) -> Result<Vec<u8>, &'static str> {
+    let mut into = vec![in alloc; 0u8; len as usize].or(Err("no memory"))?;
+    if len == 0 || source.size() < at as u64 + len as u64 {
+        return Err("out of range");
+    }
+    source.read_at(at as u64, &mut into).or(Err("no read"))?;
+    Ok(into)
+}
+
+// Pieces of the image: within a block, over two, of all five, twice the same, at its end.
+const PIECES: [(u16, u16); 7] = [
+    (0, 16),
+    (4000, 200),
+    (0, 20_000),
+    (8192, 4096),
+    (8192, 4096),
+    (19_999, 1),
+    (16_000, 4000),
+];
+
+#[test]
+fn a_small_and_a_large_cache_give_the_same_bytes(rt: HostRuntime) -> Result<(), Fail> {
+    let alloc = rt.alloc();
+    let mut plain = SureSource::new(image(alloc)?);
+    let source = SureSource::new(image(alloc)?);
+    let mut small = Cached::new(alloc, source, 4096, 4).or(Err("no memory"))?;
+    let source = SureSource::new(image(alloc)?);
+    let mut large = Cached::new(alloc, source, 4096, 256).or(Err("no memory"))?;
+    for (at, len) in PIECES {
+        let bytes = piece(alloc, &mut plain, at, len)?;
+        assert!(rt; piece(alloc, &mut small, at, len)?.as_slice() == bytes.as_slice());
+        assert!(rt; piece(alloc, &mut large, at, len)?.as_slice() == bytes.as_slice());
+    }
+    assert_eq!(rt;
+        (small.kept(4), small.kept(0), large.kept(0)),
+        (true, false, true)
+    );
+    Ok(())
+}
+
+#[test]
+fn what_is_kept_is_not_read_again(rt: HostRuntime) -> Result<(), Fail> {
+    let alloc = rt.alloc();
+    let source = MemSource::new(image(alloc)?, vec![in alloc; 2]?);
+    let mut cached = Cached::new(alloc, source, 4096, 256).or(Err("no memory"))?;
+    assert_eq!(rt; piece(alloc, &mut cached, 0, 4096)?.len(), 4096);
+    assert!(rt; piece(alloc, &mut cached, 4090, 10).is_err());
+    assert_eq!(rt; (cached.kept(0), cached.kept(1)), (true, false));
+    for (at, len) in PIECES {
+        let _first = piece(alloc, &mut cached, at, len)?;
+    }
+    assert_eq!(rt; (cached.inner().read_count(), cached.lost()), (6, 0));
+    for (at, len) in PIECES {
+        let _second = piece(alloc, &mut cached, at, len)?;
+    }
+    assert_eq!(rt; (cached.inner().read_count(), cached.lost()), (6, 0));
+    assert_eq!(rt; cached.into_inner().fault_count(), 1);
+    Ok(())
+}
