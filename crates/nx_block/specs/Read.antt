@@ -13,17 +13,17 @@ use Rattle.nx_block.specs.declared.fault.NxFault.{NxFault}
 use Rattle.nx_block.specs.declared.fault.NxFault.TheVariants.{BadMagic, BadBlockSize, Head}
 
 -- the block size that a first block gives
-abbrev pub size_of : List ℕ → Option ℕ
+unfoldable pub size_of : List ℕ → Option ℕ
 size_of bytes = if (magic_of bytes == nx_magic) && is_accepted (block_size_of bytes) then Some (block_size_of bytes) else None
 
--- the superblock, where its header is sound; a header of another form is one of another kind
+-- the superblock, where its header is sound; an encrypted or a missing header is one of another kind
 abbrev pub with_head : List ℕ → Result Header (Bad HeadFault) → Result (List ℕ) NxFault
 with_head bytes (Ok _) = Ok bytes
 with_head bytes (Err (Found fault)) = Err (Head fault)
 with_head bytes (Err (Unsupported _)) = Err (Head BadKind)
 
 -- the superblock, or the first test that fails (Container, nx_superblock_t)
-abbrev pub read_of : List ℕ → Result (List ℕ) NxFault
+unfoldable pub read_of : List ℕ → Result (List ℕ) NxFault
 read_of bytes =
     if not (magic_of bytes == nx_magic) then Err BadMagic else
     if not (is_accepted (block_size_of bytes) && (block_size_of bytes == length bytes)) then Err BadBlockSize else

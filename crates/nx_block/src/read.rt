@@ -10,7 +10,7 @@ use obj_base::{Bad, Expect, HeadFault, is_accepted, sound, u32_at};
 
 /// The block size in bytes by the first 4,096 bytes of a container. None exactly where the magic isn't `NXSB` or the
 /// size isn't one of those accepted.
-#[tactic(auto, unfolding(crate::specs::Super::magic_of, crate::specs::Super::block_size_of))]
+#[tactic(auto, unfolding(crate::specs::Read::size_of, crate::specs::Super::magic_of, crate::specs::Super::block_size_of))]
 pub fn nx_size(first: &[u8]) -> Option<u32>
     requires { length first.now ≡ 4096 }
     ensures { result ≡ size_of first.now }
@@ -25,7 +25,7 @@ pub fn nx_size(first: &[u8]) -> Option<u32>
 
 /// The view of a superblock of any transaction, or the first test that fails: the magic, the block size, the header.
 /// The bytes are one block. A header that is encrypted or missing counts as one of another kind.
-#[tactic(auto, unfolding(crate::specs::Super::magic_of, crate::specs::Super::block_size_of))]
+#[tactic(auto, unfolding(crate::specs::Read::read_of, crate::specs::Super::magic_of, crate::specs::Super::block_size_of))]
 pub fn nx_read(bytes: &[u8]) -> Result<NxView<'_>, NxFault>
     requires whole { length bytes.now % 4 ≡ 0 }
     requires long { 4096 ≤ length bytes.now }
@@ -45,7 +45,7 @@ pub fn nx_read(bytes: &[u8]) -> Result<NxView<'_>, NxFault>
         max_xid: u64::MAX,
     };
     match sound(bytes, &expect) {
-        Ok(header) => Ok(NxView::of(header, bytes)),
+        Ok(header) => Ok(NxView::kept(header, bytes)),
         Err(Bad::Found(fault)) => Err(NxFault::Head(fault)),
         Err(Bad::Unsupported(_)) => Err(NxFault::Head(HeadFault::BadKind)),
     }

@@ -1,6 +1,7 @@
 // The fields of a superblock.
 ghost use Rattle.std.specs.Prelude.{◌≡◌, ◌<◌, ◌≤◌, ◌+◌, length};
 ghost use Rattle.obj_base.specs.Sound.{header_of};
+ghost use Rattle.nx_block.specs.Read.{read_of};
 ghost use Rattle.nx_block.specs.Super.{magic_bytes_of, block_size_of, block_count_of, incompat_of, uuid_of, next_oid_of, next_xid_of, desc_blocks_of, data_blocks_of, desc_base_of, data_base_of, desc_next_of, data_next_of, desc_index_of, desc_len_of, data_index_of, data_len_of, space_oid_of, omap_oid_of, reaper_oid_of, fs_oid_of, blocked_of, eviction_of, jumpstart_of, locker_of, media_locker_of, slots, range_at};
 
 use apfs_layout::container;
@@ -35,10 +36,11 @@ pub(crate) fn range_in(bytes: &[u8], at: usize) -> (u64, u64)
 
 #[tactic(auto, unfolding(crate::specs::Super::magic_bytes_of, crate::specs::Super::block_size_of, crate::specs::Super::block_count_of, crate::specs::Super::incompat_of, crate::specs::Super::uuid_of, crate::specs::Super::next_oid_of, crate::specs::Super::next_xid_of, crate::specs::Super::desc_blocks_of, crate::specs::Super::data_blocks_of, crate::specs::Super::desc_base_of, crate::specs::Super::data_base_of, crate::specs::Super::desc_next_of, crate::specs::Super::data_next_of, crate::specs::Super::desc_index_of, crate::specs::Super::desc_len_of, crate::specs::Super::data_index_of, crate::specs::Super::data_len_of, crate::specs::Super::space_oid_of, crate::specs::Super::omap_oid_of, crate::specs::Super::reaper_oid_of, crate::specs::Super::fs_oid_of, crate::specs::Super::blocked_of, crate::specs::Super::eviction_of, crate::specs::Super::jumpstart_of, crate::specs::Super::locker_of, crate::specs::Super::media_locker_of))]
 impl<'a> NxView<'a> {
-    // The view of a superblock with this header.
-    pub(crate) fn of(header: Header, bytes: &'a [u8]) -> NxView<'a>
+    /// The view that `nx_read` gives of a superblock, by the header that this view has, without its tests.
+    pub fn kept(header: Header, bytes: &'a [u8]) -> NxView<'a>
         requires long { 4096 ≤ length bytes.now }
         requires header { header ≡ header_of bytes.now }
+        requires read { read_of bytes.now ≡ Ok bytes.now }
         ensures { result ≡ bytes.now }
     {
         NxView { header, bytes }

@@ -17,14 +17,14 @@ distinct_more (x ∷ xs) n =
     let joined = has_joined xs (n ∷ []) x in
     Prim.grind (arith, common_steps, rest, joined)
 
--- what stands twice in a front stands twice in the whole
-pub distinct_front : (xs ys : List ℕ) → is_distinct xs ≡ false → is_distinct (xs ++ ys) ≡ false
-distinct_front [] ys e = absurd (Prim.cc)
-distinct_front (x ∷ xs) ys e =
-    let rest : is_distinct xs ≡ false → is_distinct (xs ++ ys) ≡ false = distinct_front xs ys in
+-- what stands twice in a prefix stands twice in the whole
+pub distinct_prefix : (xs ys : List ℕ) → is_distinct xs ≡ false → is_distinct (xs ++ ys) ≡ false
+distinct_prefix [] ys e = absurd (Prim.cc)
+distinct_prefix (x ∷ xs) ys e =
+    let rest : is_distinct xs ≡ false → is_distinct (xs ++ ys) ≡ false = distinct_prefix xs ys in
     let joined = has_joined xs ys x in
     Prim.grind (arith, common_steps, rest, joined, e)
 
 -- what stands twice among the first items stands twice in the whole
 pub distinct_take : (xs : List ℕ) (i : ℕ) → is_distinct (take i xs) ≡ false → is_distinct xs ≡ false
-distinct_take xs i e = ap is_distinct (sym (take-append-drop i xs)) ∙ distinct_front (take i xs) (drop i xs) e
+distinct_take xs i e = ap is_distinct (sym (take-append-drop i xs)) ∙ distinct_prefix (take i xs) (drop i xs) e

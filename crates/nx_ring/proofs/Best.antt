@@ -15,17 +15,17 @@ use Rattle.nx_ring.specs.Checkpoint.{Seen}
 use Rattle.nx_ring.specs.Newest.{newest_among, seen_of, best_of, is_beaten, skipped_of}
 
 -- a block that is no candidate changes nothing
-pub best_none : (image : List ℕ) (areas : Areas) (index : ℕ) (behind : List ℕ) → candidate image areas index ≡ None → best_of image areas (index ∷ behind) ≡ best_of image areas behind
+pub best_none : (image : List ℕ) (areas : Areas) (index : ℕ) (after : List ℕ) → candidate image areas index ≡ None → best_of image areas (index ∷ after) ≡ best_of image areas after
 unfolding best_of
-best_none image areas index behind e = Prim.grind (arith, common_steps, e)
+best_none image areas index after e = Prim.grind (arith, common_steps, e)
 
 invalid : (image : List ℕ) (areas : Areas) (line : RingLine) (rest : List RingLine) → is_valid image areas line ≡ false → newest_among image areas (line ∷ rest) ≡ newest_among image areas rest
 invalid image areas line rest e = Prim.grind (arith, common_steps, e)
 
 -- a candidate that isn't valid changes nothing
-pub best_invalid : (image : List ℕ) (areas : Areas) (index : ℕ) (behind : List ℕ) (line : RingLine) → candidate image areas index ≡ Some line → is_valid image areas line ≡ false → best_of image areas (index ∷ behind) ≡ best_of image areas behind
+pub best_invalid : (image : List ℕ) (areas : Areas) (index : ℕ) (after : List ℕ) (line : RingLine) → candidate image areas index ≡ Some line → is_valid image areas line ≡ false → best_of image areas (index ∷ after) ≡ best_of image areas after
 unfolding best_of
-best_invalid image areas index behind line e f = let same = invalid image areas line (filter_map (candidate image areas) behind) f in Prim.grind (arith, common_steps, e, same)
+best_invalid image areas index after line e f = let same = invalid image areas line (filter_map (candidate image areas) after) f in Prim.grind (arith, common_steps, e, same)
 
 valid : (image : List ℕ) (areas : Areas) (line : RingLine) (rest : List RingLine) → is_valid image areas line ≡ true → newest_among image areas (line ∷ rest) ≡ Some (greater_of (λ (l : RingLine). l.xid) line (newest_among image areas rest))
 valid image areas line rest e = Prim.grind (arith, common_steps, e)
@@ -45,20 +45,20 @@ either_way image areas line rest false f e = invalid image areas line rest f
 either_way image areas line rest true f e = valid image areas line rest f ∙ beaten image areas line (newest_among image areas rest) e
 
 -- a candidate of a smaller transaction than the best changes nothing
-pub best_beaten : (image : List ℕ) (areas : Areas) (index : ℕ) (behind : List ℕ) (line : RingLine) → candidate image areas index ≡ Some line → is_beaten (best_of image areas behind) line.xid ≡ true → best_of image areas (index ∷ behind) ≡ best_of image areas behind
+pub best_beaten : (image : List ℕ) (areas : Areas) (index : ℕ) (after : List ℕ) (line : RingLine) → candidate image areas index ≡ Some line → is_beaten (best_of image areas after) line.xid ≡ true → best_of image areas (index ∷ after) ≡ best_of image areas after
 unfolding best_of
-best_beaten image areas index behind line e f = let same = either_way image areas line (filter_map (candidate image areas) behind) (is_valid image areas line) refl f in Prim.grind (arith, common_steps, e, same)
+best_beaten image areas index after line e f = let same = either_way image areas line (filter_map (candidate image areas) after) (is_valid image areas line) refl f in Prim.grind (arith, common_steps, e, same)
 
 -- a valid candidate that isn't beaten is the best
-pub best_taken : (image : List ℕ) (areas : Areas) (index : ℕ) (behind : List ℕ) (line : RingLine) → candidate image areas index ≡ Some line → is_valid image areas line ≡ true → is_beaten (best_of image areas behind) line.xid ≡ false → best_of image areas (index ∷ behind) ≡ Some (seen_of image areas [] line)
+pub best_taken : (image : List ℕ) (areas : Areas) (index : ℕ) (after : List ℕ) (line : RingLine) → candidate image areas index ≡ Some line → is_valid image areas line ≡ true → is_beaten (best_of image areas after) line.xid ≡ false → best_of image areas (index ∷ after) ≡ Some (seen_of image areas [] line)
 unfolding best_of
-best_taken image areas index behind line e f g =
-    let rest = filter_map (candidate image areas) behind in
+best_taken image areas index after line e f g =
+    let rest = filter_map (candidate image areas) after in
     let step = valid image areas line rest f in
     let same = unbeaten image areas line (newest_among image areas rest) g in
     Prim.grind (arith, common_steps, e, step, same)
 
--- a range that begins one earlier
+-- a range that starts one earlier
 pub range_down : (i n : ℕ) → i < n → range_with_len i (n - i) ≡ i ∷ range_with_len (i + 1) (n - (i + 1))
 range_down i n low =
     let long : n - i ≡ suc (n - (i + 1)) = Prim.omega (arith, low) in

@@ -1,9 +1,10 @@
 -- Blocks in an image.
 use Rattle.std.proofs.Common.{◌≡◌, ℕ, ◌+◌, ◌*◌, ◌/◌, ◌≤◌, ◌<◌, arith}
-use Rattle.std.proofs.Common.{List, true, false, Ok}
+use Rattle.std.proofs.Common.{List, true, false, Ok, length, ap, sym, ◌∙◌}
 use Rattle.std.proofs.Common.{◌^◌, ◌%◌}
 use Rattle.apfs_model.specs.Blocks.{is_multiple}
 use Rattle.nx_block.specs.Read.{read_of}
+use Rattle.nx_block.proofs.Laws.{read_means}
 use Rattle.std.proofs.Math.Nat.{mul-div-le, mul-le-mul_left}
 use Rattle.std.proofs.lemmas.Grind.{common_steps}
 use Rattle.obj_base.specs.BlockSize.{is_accepted}
@@ -45,9 +46,21 @@ areas_fit len zero low size inside short apart =
       «data» = area;
     }
 
--- a superblock that was read has an accepted block size, which is its length
+-- an accepted size is long enough for a superblock, and a multiple of 4
+accepted_long : (n : ℕ) → is_accepted n ≡ true → (n % 4 ≡ 0) × (4096 ≤ n)
+accepted_long n e = (Prim.grind (arith, common_steps, e), Prim.grind (arith, common_steps, e))
+
+-- a superblock that was read is long enough to be read again
+pub read_long : (bytes : List ℕ) → read_of bytes ≡ Ok bytes → (length bytes % 4 ≡ 0) × (4096 ≤ length bytes)
+read_long bytes e =
+    let means = read_means bytes bytes e in
+    accepted_long (length bytes) (ap is_accepted (sym means.2) ∙ means.1)
+
+-- the block size of a superblock that was read
 pub read_size : (bytes zero : List ℕ) → read_of bytes ≡ Ok zero → is_accepted (block_size_of zero) ≡ true
-read_size bytes zero e = Prim.grind (arith, common_steps, e)
+read_size bytes zero e =
+    let means = read_means bytes zero e in
+    ap (λ b. is_accepted (block_size_of b)) means.0 ∙ means.1
 
 -- a whole number of accepted blocks, one or more, is a length that has a sum
 pub whole_object : (size n : ℕ) → is_accepted size ≡ true → 1 ≤ n / size → is_multiple n size ≡ true → (n % 4 ≡ 0) × (36 ≤ n)

@@ -8,3 +8,4 @@ pub mod Some
 pub mod Best
 pub mod Chosen
 pub mod Sites
+pub mod Zeros

@@ -18,7 +18,7 @@ use Rattle.std.proofs.lemmas.List.Folds.{length-flat_map-take}
 use Rattle.std.specs.List.{list_all}
 use Rattle.apfs_model.proofs.Ranges.{all_more, all_fails}
 use Rattle.nx_ring.specs.declared.line.RingLine.{RingLine}
-use Rattle.nx_ring.specs.Valid.{first_mappings, map_block, is_map_behind, ids_of, blocks_of}
+use Rattle.nx_ring.specs.Valid.{first_mappings, map_block, is_map_after, ids_of, blocks_of}
 use Rattle.nx_ring.specs.Mappings.{mapping_of_map, mappings_in}
 use Rattle.nx_ring.specs.Objects.{mapped_part, data_block, first_blocks, mapped_blocks, object_blocks, place_at}
 use Rattle.nx_ring.specs.declared.areas.Areas.{Areas}
@@ -58,12 +58,12 @@ pub first_more : (image : List ℕ) (areas : Areas) (line : RingLine) (n : ℕ) 
 first_more image areas line n = flat_more (λ j. mappings_in (map_block image areas line j)) n
 
 -- one more sound map
-pub maps_more : (image : List ℕ) (areas : Areas) (line : RingLine) (n : ℕ) → list_all (is_map_behind image areas line) (range_with_len 0 (n + 1)) ≡ (list_all (is_map_behind image areas line) (range_with_len 0 n) && is_map_behind image areas line n)
-maps_more image areas line n = all_more (is_map_behind image areas line) n
+pub maps_more : (image : List ℕ) (areas : Areas) (line : RingLine) (n : ℕ) → list_all (is_map_after image areas line) (range_with_len 0 (n + 1)) ≡ (list_all (is_map_after image areas line) (range_with_len 0 n) && is_map_after image areas line n)
+maps_more image areas line n = all_more (is_map_after image areas line) n
 
 -- one map that isn't sound
-pub maps_fail : (image : List ℕ) (areas : Areas) (line : RingLine) (n i : ℕ) → i < n → is_map_behind image areas line i ≡ false → list_all (is_map_behind image areas line) (range_with_len 0 n) ≡ false
-maps_fail image areas line n i low e = all_fails (is_map_behind image areas line) n i low e
+pub maps_fail : (image : List ℕ) (areas : Areas) (line : RingLine) (n i : ℕ) → i < n → is_map_after image areas line i ≡ false → list_all (is_map_after image areas line) (range_with_len 0 n) ≡ false
+maps_fail image areas line n i low e = all_fails (is_map_after image areas line) n i low e
 
 -- one more oid
 pub ids_more : (mappings : List Mapping) (i : ℕ) (d : Mapping) → i < length mappings → ids_of (take (i + 1) mappings) ≡ ids_of (take i mappings) ++ (get_or mappings i d).oid ∷ []

@@ -11,7 +11,7 @@ use Rattle.nx_ring.specs.declared.mappings.Mapping.{Mapping}
 abbrev pub object_blocks : Areas → Mapping → ℕ
 object_blocks areas m = m.size / areas.size
 
--- the block that is so many blocks behind a block of the data area, which goes on at its begin
+-- the block that is so many blocks after a block of the data area, which goes on at its start
 unfoldable pub data_block : Areas → ℕ → ℕ → ℕ
 data_block areas paddr t = areas.data_base + ((paddr - areas.data_base) + t) % areas.data_blocks
 
@@ -23,7 +23,7 @@ first_blocks areas m n = map (data_block areas m.paddr) (range_with_len 0 n)
 abbrev pub mapped_blocks : Areas → Mapping → List ℕ
 mapped_blocks areas m = first_blocks areas m (object_blocks areas m)
 
--- the first so many blocks of a mapped object, one behind the other
+-- the first so many blocks of a mapped object, one after the other
 abbrev pub mapped_part : List ℕ → Areas → Mapping → ℕ → List ℕ
 mapped_part image areas m n = flat_map (λ t. block_of areas.size image (data_block areas m.paddr t)) (range_with_len 0 n)
 
@@ -31,7 +31,7 @@ mapped_part image areas m n = flat_map (λ t. block_of areas.size image (data_bl
 abbrev pub mapped_bytes : List ℕ → Areas → Mapping → List ℕ
 mapped_bytes image areas m = mapped_part image areas m (object_blocks areas m)
 
--- a mapping has one or more whole blocks, at most the data area, and begins in the data area
+-- a mapping has one or more whole blocks, at most the data area, and starts in the data area
 unfoldable pub is_placed : Areas → Mapping → Bool
 is_placed areas m =
     (nat_le 1 (object_blocks areas m) && is_multiple m.size areas.size)

@@ -9,31 +9,31 @@ use Rattle.nx_ring.specs.Candidates.{ring_block}
 use Rattle.nx_ring.specs.Mappings.{mappings_in, is_map}
 use Rattle.nx_ring.specs.Objects.{mapped_blocks, is_placed, has_object}
 
--- the index of the descriptor area that is so many behind the checkpoint's begin, with wrap
-unfoldable pub index_behind : Areas → RingLine → ℕ → ℕ
-index_behind areas line j = (line.desc_index + j) % areas.desc_blocks
+-- the index of the descriptor area that is so many after the checkpoint's start, with wrap
+unfoldable pub index_after : Areas → RingLine → ℕ → ℕ
+index_after areas line j = (line.desc_index + j) % areas.desc_blocks
 
 -- a checkpoint has one block or more, at most the area, and its superblock is its last
 unfoldable pub ends_here : Areas → RingLine → Bool
 ends_here areas line =
     (nat_le 1 line.desc_len && nat_le line.desc_len areas.desc_blocks)
-    && (index_behind areas line (line.desc_len - 1) == line.index)
+    && (index_after areas line (line.desc_len - 1) == line.index)
 
 -- how many maps a checkpoint has: the blocks before its superblock
 abbrev pub map_blocks : RingLine → ℕ
 map_blocks line = line.desc_len - 1
 
--- the block that is so many behind the checkpoint's begin
+-- the block that is so many after the checkpoint's start
 abbrev pub map_block : List ℕ → Areas → RingLine → ℕ → List ℕ
-map_block image areas line j = ring_block image areas (index_behind areas line j)
+map_block image areas line j = ring_block image areas (index_after areas line j)
 
 -- that block is a sound checkpoint map whose mappings fit
-unfoldable pub is_map_behind : List ℕ → Areas → RingLine → ℕ → Bool
-is_map_behind image areas line j = is_map (areas.desc_base + index_behind areas line j) line.xid (map_block image areas line j)
+unfoldable pub is_map_after : List ℕ → Areas → RingLine → ℕ → Bool
+is_map_after image areas line j = is_map (areas.desc_base + index_after areas line j) line.xid (map_block image areas line j)
 
 -- the blocks before the superblock are such maps
 unfoldable pub has_maps : List ℕ → Areas → RingLine → Bool
-has_maps image areas line = list_all (is_map_behind image areas line) (range_with_len 0 (map_blocks line))
+has_maps image areas line = list_all (is_map_after image areas line) (range_with_len 0 (map_blocks line))
 
 -- the mappings of the first so many maps of a checkpoint
 abbrev pub first_mappings : List ℕ → Areas → RingLine → ℕ → List Mapping
@@ -43,7 +43,7 @@ first_mappings image areas line n = flat_map (λ j. mappings_in (map_block image
 unfoldable pub mappings_of : List ℕ → Areas → RingLine → List Mapping
 mappings_of image areas line = first_mappings image areas line (map_blocks line)
 
--- each mapping has a size of whole blocks and begins in the data area
+-- each mapping has a size of whole blocks and starts in the data area
 unfoldable pub are_placed : Areas → List Mapping → Bool
 are_placed areas mappings = list_all (is_placed areas) mappings
 

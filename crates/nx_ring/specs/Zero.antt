@@ -1,5 +1,5 @@
 -- The first block of a container, and the areas that it names.
-use Rattle.std.specs.Prelude.{◌≡◌, ℕ, ◌+◌, ◌*◌, ◌/◌, ◌%◌, ◌^◌, ◌≤◌, ◌<◌, Bool, true, false, not, ◌&&◌, nat_lt, nat_le, List, length, is_ok, Result, Ok, Err, if◌then◌else◌}
+use Rattle.std.specs.Prelude.{◌≡◌, ℕ, ◌+◌, ◌*◌, ◌/◌, ◌%◌, ◌^◌, ◌≤◌, ◌<◌, Bool, true, false, not, ◌&&◌, ◌==◌, nat_lt, nat_le, List, length, is_ok, Result, Ok, Err, if◌then◌else◌}
 use Rattle.std.specs.Option.{is_some}
 use Rattle.apfs_model.specs.Blocks.{block_of, is_inside}
 use Rattle.obj_base.specs.BlockSize.{is_accepted}
@@ -73,14 +73,14 @@ is_short len zero = nat_lt (blocks_in len zero) (block_count_of zero)
 unfoldable pub is_contiguous : List ℕ → Bool
 is_contiguous zero = nat_lt (desc_blocks_of zero) (2 ^ 31) && nat_lt (data_blocks_of zero) (2 ^ 31)
 
--- an answer, where an image of so many bytes has all blocks that block 0 tells of, and both areas are contiguous; else the first of the two that fails
+-- an answer, where an image of so many bytes has all blocks that block 0 tells of, and both areas are contiguous; otherwise the first of the two that fails
 unfoldable pub where_whole : {T : Type 0} → ℕ → List ℕ → Result T (Stop RingFault) → Result T (Stop RingFault)
 where_whole len zero answer =
     if is_short len zero then Err (Found (Truncated (blocks_in len zero) (block_count_of zero))) else
     if not (is_contiguous zero) then Err (Unsupported NonContiguous 0) else
     answer
 
--- an answer, where block 0 is right and both of these hold; else the first of the three that fails
+-- an answer, where block 0 is right and both of these hold; otherwise the first of the three that fails
 unfoldable pub after_zero : {T : Type 0} → List ℕ → Result T (Stop RingFault) → Result T (Stop RingFault)
 after_zero image answer = if is_right image then where_whole (length image) (zero_of image) answer else Err (Found BlockZero)
 
@@ -91,6 +91,10 @@ zero_in image = if has_zero image then Ok (zero_of image) else Err (Found BlockZ
 -- the areas that block 0 names in an image of so many bytes, or the first of the tests that fails
 unfoldable pub areas_in : ℕ → List ℕ → Result Areas (Stop RingFault)
 areas_in len zero = if is_whole zero then where_whole len zero (Ok (areas_of zero)) else Err (Found BlockZero)
+
+-- how many reads block 0 takes: one for the first bytes, and one more where it is larger
+unfoldable pub zero_reads : List ℕ → ℕ
+zero_reads image = if size_in image == 4096 then 1 else 2
 
 -- areas of one block or more, contiguous, in an image of so many bytes
 pub record Fits (areas : Areas) (len : ℕ) : Type 0 where

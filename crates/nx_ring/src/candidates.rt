@@ -2,16 +2,18 @@
 //
 // Tests: a block of the area is a sound superblock, agrees with block 0, and its container lies in the image. Gives:
 // the list of candidates. Rests on: the areas of a right block 0.
-ghost use Rattle.std.specs.Prelude.{◌≡◌, ◌+◌, ◌*◌, ◌%◌, ◌≤◌, ◌<◌, ◌^◌, ◌++◌, List, ℕ, Some, Ok, length, IfOk, IfErr, IsErrOf, OnOk, true};
+ghost use Rattle.std.specs.Prelude.{◌≡◌, ◌+◌, ◌*◌, ◌%◌, ◌≤◌, ◌<◌, ◌^◌, ◌++◌, List, ℕ, Some, Ok, Err, length, IfOk, IfErr, IfSome, IsErrOf, OnOk, true};
 ghost use Rattle.std.specs.Option.{option_to_list};
 ghost use Rattle.apfs_model.specs.Counts.{Rose};
 ghost use Rattle.apfs_model.specs.Source.{IsKept};
 ghost use Rattle.obj_base.specs.BlockSize as sizes;
 ghost use Rattle.obj_base.specs.Stops.{Gives, Tells};
-ghost use Rattle.obj_base.specs.declared.stop.Stop.TheVariants.{ReadFault, NoMemory};
+ghost use Rattle.obj_base.specs.declared.stop.Stop.TheVariants.{Found, Unsupported, ReadFault, NoMemory};
 ghost use Rattle.nx_block.specs.Super.{desc_blocks_of};
-ghost use Rattle.nx_ring.specs.Zero.{zero_of, areas_of, Fits, IsNonContiguous};
+ghost use Rattle.nx_block.specs.Read.{read_of};
+ghost use Rattle.nx_ring.specs.Zero.{zero_of, zero_reads, areas_of, Fits, IsNonContiguous};
 ghost use Rattle.nx_ring.specs.Candidates.{candidate_in, candidate, candidates, all_candidates};
+ghost use Rattle.nx_ring.specs.Newest.{IsHeld};
 ghost use Rattle.nx_ring.specs.Ring.{ring_of, IsRingFault};
 
 use crate::areas::Areas;
@@ -24,11 +26,13 @@ use obj_base::Stop;
 use std::alloc::Global;
 
 // The line of a block at an index, where it is a candidate in an image of `len` bytes.
-#[tactic(auto, unfolding(crate::specs::Candidates::is_candidate, crate::specs::Candidates::candidate_in))]
+#[tactic(auto, using(nx_block::proofs::Laws::read_means), unfolding(crate::specs::Candidates::is_candidate, crate::specs::Candidates::candidate_in))]
 pub(crate) fn line_in(areas: &Areas, index: u32, len: u64, bytes: &[u8]) -> Option<RingLine>
     requires whole { sizes.is_accepted (length bytes.now) ≡ true }
     requires small { areas.now.desc_base + index < 2 ^ 64 }
-    ensures { result ≡ candidate_in len areas.now index bytes.now }
+    ensures found { result ≡ candidate_in len areas.now index bytes.now }
+    ensures read { IfSome result (λ line. read_of bytes.now ≡ Ok bytes.now) }
+    ensures held { IfSome result (λ line. IsHeld bytes.now len) }
 {
     let Ok(nx) = nx_read(bytes) else {
         return None;
@@ -69,7 +73,7 @@ fn candidate_at<S: BlockSource>(
 // Adds a line, if there is one.
 fn keep(lines: &mut Vec<RingLine>, found: Option<RingLine>) -> Result<(), Stop<RingFault>>
     ensures added { OnOk result (lines.new.items ≡ lines.old.items ++ option_to_list found) }
-    ensures stops { IfErr result (λ stop. stop ≡ NoMemory) }
+    ensures memory_only { IfErr result (λ stop. stop ≡ NoMemory) }
 {
     if let Some(line) = found {
         lines.push(line)?;
@@ -99,15 +103,18 @@ pub(crate) fn lines<S: BlockSource>(
 }
 
 /// The candidates of the descriptor area, by index, or the first test of block 0 that fails: `BlockZero`, `Truncated`,
-/// `NonContiguous` (Container, "Mounting an Apple File System Partition"). One read for block 0, and one for each block
-/// of the descriptor area. Memory is taken for two blocks and the candidates.
+/// `NonContiguous` (Container, "Mounting an Apple File System Partition").
+///
+/// One read for the first 4,096 bytes, one more for block 0 where it is larger, and one for each block of the descriptor
+/// area. Memory is taken for two blocks and the candidates.
 #[tactic(auto, using(crate::proofs::Present::told_present), unfolding(crate::specs::Ring::ring_of, crate::specs::Zero::after_zero, crate::specs::Zero::where_whole, crate::specs::Zero::areas_of))]
 pub fn ring<S: BlockSource>(alloc: Global, src: &mut S) -> Result<Vec<RingLine>, Stop<RingFault>>
-    ensures found { (image : List ℕ) → S.bytes src.old ≡ Some image → Gives (λ lines. lines.items) result (ring_of image) }
+    ensures clear { (image : List ℕ) → S.bytes src.old ≡ Some image → IfOk result (λ lines. ring_of image ≡ Ok lines.items) }
+    ensures first { (image : List ℕ) → S.bytes src.old ≡ Some image → IfErr result (Tells (λ fault. ring_of image ≡ Err (Found fault)) (λ name block. ring_of image ≡ Err (Unsupported name block))) }
     ensures present { (image : List ℕ) → S.bytes src.old ≡ Some image → IfErr result (Tells (IsRingFault image) (IsNonContiguous image)) }
     ensures cause { IsErrOf result ReadFault → Rose (S.faults src.old) (S.faults src.new) }
     ensures kept { IsKept S.bytes S.bytes_len S.faults src.old src.new }
-    ensures reads { (image : List ℕ) → S.bytes src.old ≡ Some image → S.reads src.new ≤ S.reads src.old + 1 + desc_blocks_of (zero_of image) }
+    ensures reads { (image : List ℕ) → S.bytes src.old ≡ Some image → S.reads src.new ≤ S.reads src.old + (zero_reads image + desc_blocks_of (zero_of image)) }
 {
     let areas = areas(alloc, src)?;
     lines(alloc, src, &areas)

@@ -9,11 +9,12 @@ ghost use Rattle.apfs_model.specs.Source.{IsKept};
 ghost use Rattle.obj_base.specs.Stops.{Gives, Tells, IsFree};
 ghost use Rattle.obj_base.specs.declared.stop.Stop.TheVariants.{ReadFault, NoMemory};
 ghost use Rattle.nx_block.specs.Super.{block_size_of, block_count_of, desc_blocks_of, data_blocks_of};
-ghost use Rattle.nx_ring.specs.Zero.{zero_of, areas_of, Fits};
+ghost use Rattle.nx_ring.specs.Zero.{zero_of, zero_reads, areas_of, Fits};
 ghost use Rattle.nx_ring.specs.Newest as found;
+ghost use Rattle.nx_ring.specs.Newest.{newest_of};
 ghost use Rattle.nx_ring.specs.Features.{container_features};
 ghost use Rattle.nx_ring.specs.Ring.{IsRingFault, IsRingFeature};
-ghost use Rattle.nx_ring.specs.Checkpoint.{site_of};
+ghost use Rattle.nx_ring.specs.Checkpoint.{Seen, site_of};
 ghost use Rattle.obj_base.specs.BlockSize as sizes;
 ghost use Rattle.obj_base.specs.Site.{IsSiteFor};
 
@@ -39,7 +40,7 @@ fn is_beaten(best: &Option<Checkpoint>, xid: u64) -> bool
     }
 }
 
-// The best of the candidate at an index and the best so far, which is of the indices behind it.
+// The best of the candidate at an index and the best so far, which is of the indices after it.
 #[tactic(auto, using(crate::proofs::Fitting::block_fits), unfolding(crate::specs::Candidates::candidate_in, crate::specs::Candidates::is_candidate, crate::specs::Candidates::ring_block))]
 fn better<S: BlockSource>(
     alloc: Global,
@@ -51,7 +52,7 @@ fn better<S: BlockSource>(
     requires fits { Fits areas.now (S.bytes_len src.old) }
     requires inside { index < areas.now.desc_blocks }
     requires held { IfSome best (λ seen. found.IsHeld seen.nx (S.bytes_len src.old)) }
-    ensures found { (image : List ℕ) → S.bytes src.old ≡ Some image → (behind : List ℕ) → best ≡ found.best_of image areas.now behind → IfOk result (λ new. new ≡ found.best_of image areas.now (index ∷ behind)) }
+    ensures found { (image : List ℕ) → S.bytes src.old ≡ Some image → (after : List ℕ) → best ≡ found.best_of image areas.now after → IfOk result (λ new. new ≡ found.best_of image areas.now (index ∷ after)) }
     ensures holds { IfOk result (λ new. IfSome new (λ seen. found.IsHeld seen.nx (S.bytes_len src.old))) }
     ensures free { IfErr result IsFree }
     ensures cause { IsErrOf result ReadFault → Rose (S.faults src.old) (S.faults src.new) }
@@ -69,12 +70,7 @@ fn better<S: BlockSource>(
     let Some(objects) = read_checkpoint(alloc, src, areas, &entry)? else {
         return Ok(best);
     };
-    Ok(Some(Checkpoint {
-        entry,
-        superblock,
-        objects,
-        passed: Vec::new(alloc),
-    }))
+    Ok(Some(Checkpoint::of(alloc, entry, superblock, objects)))
 }
 
 // The valid candidate of the greatest transaction, and of the least index on a tie.
@@ -104,7 +100,7 @@ fn best<S: BlockSource>(
 #[tactic(auto, unfolding(crate::specs::Newest::skipped_of))]
 fn add_skipped(line: &RingLine, xid: u64, into: &mut Vec<(u32, u64)>) -> Result<(), Stop<RingFault>>
     ensures added { OnOk result (into.new.items ≡ into.old.items ++ found.skipped_of (line.now ∷ []) xid) }
-    ensures stops { IfErr result (λ stop. stop ≡ NoMemory) }
+    ensures memory_only { IfErr result (λ stop. stop ≡ NoMemory) }
 {
     if xid < line.xid {
         into.push((line.index, line.xid))?;
@@ -120,7 +116,7 @@ fn with_skipped(
     lines: &[RingLine],
 ) -> Result<Checkpoint, Stop<RingFault>>
     ensures found { IfOk result (λ seen. seen ≡ found.passing checkpoint (found.skipped_of lines.now checkpoint.line.xid)) }
-    ensures stops { IfErr result (λ stop. stop ≡ NoMemory) }
+    ensures memory_only { IfErr result (λ stop. stop ≡ NoMemory) }
 {
     let xid = checkpoint.xid();
     let mut passed = Vec::new(alloc);
@@ -138,7 +134,7 @@ fn find<S: BlockSource>(alloc: Global, src: &mut S) -> Result<Checkpoint, Stop<R
     ensures holds { IfOk result (λ seen. found.IsHeld seen.nx (S.bytes_len src.old)) }
     ensures cause { IsErrOf result ReadFault → Rose (S.faults src.old) (S.faults src.new) }
     ensures kept { IsKept S.bytes S.bytes_len S.faults src.old src.new }
-    ensures reads { (image : List ℕ) → S.bytes src.old ≡ Some image → S.reads src.new ≤ S.reads src.old + (1 + desc_blocks_of (zero_of image) + desc_blocks_of (zero_of image) * (desc_blocks_of (zero_of image) + data_blocks_of (zero_of image))) }
+    ensures reads { (image : List ℕ) → S.bytes src.old ≡ Some image → S.reads src.new ≤ S.reads src.old + (zero_reads image + desc_blocks_of (zero_of image) + desc_blocks_of (zero_of image) * (desc_blocks_of (zero_of image) + data_blocks_of (zero_of image))) }
 {
     let areas = areas(alloc, src)?;
     let lines = lines(alloc, src, &areas)?;
@@ -154,7 +150,7 @@ fn without_features(checkpoint: Checkpoint) -> Result<Checkpoint, Stop<RingFault
     ensures same { IfOk result (λ seen. seen ≡ checkpoint) }
     ensures clear { IfOk result (λ seen. container_features checkpoint.nx ≡ []) }
     ensures present { IfErr result (Tells (λ fault. ⊥) (λ name block. found.IsFeatureOf checkpoint name block)) }
-    ensures sure { IsErrOf result ReadFault → ⊥ }
+    ensures no_read { IsErrOf result ReadFault → ⊥ }
     ensures accepted { sizes.is_accepted (block_size_of checkpoint.nx) ≡ true }
 {
     if let Some(feature) = feature_of(&checkpoint.nx()) {
@@ -171,19 +167,20 @@ fn without_features(checkpoint: Checkpoint) -> Result<Checkpoint, Stop<RingFault
 /// `Truncated`, `NonContiguous`, `NoCheckpoint`, then the other features of the container by the newest superblock, of
 /// which any that is there may be named.
 ///
-/// One read for block 0 and one for each block of the descriptor area, and then for each candidate one for its
-/// superblock, its maps and the blocks of its objects, which are no more than both areas have. Two checkpoints are held
-/// at a time at most, each of which has no more bytes than both areas.
+/// One read for the first 4,096 bytes, one more for block 0 where it is larger, and one for each block of the descriptor
+/// area; then, for each of these blocks, no more reads than both areas have blocks, for the superblock, its maps and the
+/// blocks of its objects. Two checkpoints are held at a time at most, each of which has no more bytes than both areas.
 #[tactic(auto, using(crate::proofs::Sites::site_right))]
 pub fn newest<S: BlockSource>(alloc: Global, src: &mut S) -> Result<Checkpoint, Stop<RingFault>>
-    ensures clear { (image : List ℕ) → S.bytes src.old ≡ Some image → IfOk result (λ seen. found.newest_of image ≡ Ok seen) }
+    ensures clear { (image : List ℕ) → S.bytes src.old ≡ Some image → IfOk result (λ seen. newest_of image ≡ Ok seen) }
     ensures plain { IfOk result (λ seen. container_features seen.nx ≡ []) }
-    ensures told { (image : List ℕ) → S.bytes src.old ≡ Some image → IfErr result (Tells (found.IsFault image) (found.IsFeature image)) }
+    ensures first { (image : List ℕ) → S.bytes src.old ≡ Some image → IfErr result (Tells (found.IsFault image) (found.IsFeature image)) }
     ensures present { (image : List ℕ) → S.bytes src.old ≡ Some image → IfErr result (Tells (IsRingFault image) (IsRingFeature image)) }
+    ensures exact { (image : List ℕ) → S.bytes src.old ≡ Some image → (seen : Seen) → newest_of image ≡ Ok seen → container_features seen.nx ≡ [] → IfErr result IsFree }
     ensures site { IfOk result (λ seen. IsSiteFor (site_of seen) (S.bytes_len src.old)) }
     ensures cause { IsErrOf result ReadFault → Rose (S.faults src.old) (S.faults src.new) }
     ensures kept { IsKept S.bytes S.bytes_len S.faults src.old src.new }
-    ensures reads { (image : List ℕ) → S.bytes src.old ≡ Some image → S.reads src.new ≤ S.reads src.old + (1 + desc_blocks_of (zero_of image) + desc_blocks_of (zero_of image) * (desc_blocks_of (zero_of image) + data_blocks_of (zero_of image))) }
+    ensures reads { (image : List ℕ) → S.bytes src.old ≡ Some image → S.reads src.new ≤ S.reads src.old + (zero_reads image + desc_blocks_of (zero_of image) + desc_blocks_of (zero_of image) * (desc_blocks_of (zero_of image) + data_blocks_of (zero_of image))) }
 {
     match find(alloc, src) {
         Ok(checkpoint) => without_features(checkpoint),

@@ -5,30 +5,26 @@ ghost use Rattle.std.specs.Prelude.{◌≡◌, IfSome, IsNone, []};
 ghost use Rattle.apfs_model.specs.Lists.{In};
 ghost use Rattle.nx_ring.specs.Features as features;
 
+use apfs_layout::container;
 use nx_block::NxView;
 use obj_base::Feature;
 
-// The features by flag (Container, Incompatible Container Feature Flags).
-const VERSION_1: u64 = 1;
-
-const VERSION_2: u64 = 2;
-
-const FUSION: u64 = 0x100;
-
-const OTHERS: u64 = !(VERSION_1 | VERSION_2 | FUSION);
+// The features without a name (Container, Incompatible Container Feature Flags).
+const OTHERS: u64 = !(container::VERSION_1 | container::VERSION_2 | container::FUSION);
 
 #[tactic(auto, unfolding(crate::specs::Features::is_fusion))]
 fn is_fusion(nx: &NxView<'_>) -> bool
     ensures { result ≡ features.is_fusion nx.now }
 {
-    nx.incompat() & FUSION == FUSION
+    nx.incompat() & container::FUSION == container::FUSION
 }
 
 #[tactic(auto, unfolding(crate::specs::Features::has_other_version))]
 fn has_other_version(nx: &NxView<'_>) -> bool
     ensures { result ≡ features.has_other_version nx.now }
 {
-    nx.incompat() & VERSION_1 == VERSION_1 || nx.incompat() & VERSION_2 != VERSION_2
+    nx.incompat() & container::VERSION_1 == container::VERSION_1
+        || nx.incompat() & container::VERSION_2 != container::VERSION_2
 }
 
 #[tactic(auto, unfolding(crate::specs::Features::has_unknown_feature))]

@@ -9,7 +9,7 @@ pub struct RingLine {
     pub block: u64,
     /// Its transaction.
     pub xid: u64,
-    /// The index at which its checkpoint begins.
+    /// The index at which its checkpoint starts.
     pub desc_index: u32,
     /// How many blocks of the descriptor area its checkpoint has: the maps and the superblock.
     pub desc_len: u32,

@@ -7,27 +7,8 @@ ghost use Rattle.obj_base.specs.declared.stop.Stop.TheVariants.{NoMemory};
 ghost use Rattle.nx_ring.specs.Mappings as maps;
 
 use crate::RingFault;
+use apfs_layout::{checkpoint_map, kind};
 use obj_base::{Expect, Stop, sound, u32_at, u64_at};
-
-// The kind of a checkpoint map.
-const MAP_KIND: u16 = 0xc;
-
-// The fields of a checkpoint map by offset (Container, checkpoint_map_phys_t).
-const COUNT: usize = 36;
-
-const MAPPINGS: usize = 40;
-
-// The fields of a mapping by offset (Container, checkpoint_mapping_t).
-const TYPE: usize = 0;
-
-const SIZE: usize = 8;
-
-const OID: usize = 24;
-
-const PADDR: usize = 32;
-
-// The bytes of a mapping.
-const MAPPING_LEN: usize = 40;
 
 /// A mapping of an ephemeral object: its type, its size in bytes, its oid and its first block.
 #[derive(Clone, Copy, PartialEq, Eq, Debug)]
@@ -45,10 +26,10 @@ fn mapping_at(bytes: &[u8], at: usize) -> Mapping
     ensures { result ≡ maps.mapping_at bytes.now at }
 {
     Mapping {
-        type_bits: u32_at(bytes, at + TYPE),
-        size: u32_at(bytes, at + SIZE),
-        oid: u64_at(bytes, at + OID),
-        paddr: u64_at(bytes, at + PADDR),
+        type_bits: u32_at(bytes, at + checkpoint_map::MAPPING_TYPE),
+        size: u32_at(bytes, at + checkpoint_map::MAPPING_SIZE),
+        oid: u64_at(bytes, at + checkpoint_map::MAPPING_OID),
+        paddr: u64_at(bytes, at + checkpoint_map::MAPPING_PADDR),
     }
 }
 
@@ -60,13 +41,16 @@ pub(crate) fn is_map(block: u64, xid: u64, bytes: &[u8]) -> bool
     ensures counted { result ≡ true → maps.has_count bytes.now ≡ true }
 {
     let expect = Expect {
-        kind: MAP_KIND,
+        kind: kind::CHECKPOINT_MAP,
         subtype: None,
         oid: Some(block),
         max_xid: xid,
     };
     match sound(bytes, &expect) {
-        Ok(_) => MAPPINGS + MAPPING_LEN * u32_at(bytes, COUNT) as usize <= bytes.len(),
+        Ok(_) => {
+            let count = u32_at(bytes, checkpoint_map::COUNT) as usize;
+            checkpoint_map::MAPPINGS + checkpoint_map::MAPPING_LEN * count <= bytes.len()
+        }
         Err(_) => false,
     }
 }
@@ -77,10 +61,11 @@ pub(crate) fn add_mappings(bytes: &[u8], into: &mut Vec<Mapping>) -> Result<(), 
     requires fits { maps.has_count bytes.now ≡ true }
     requires long { 40 ≤ length bytes.now }
     ensures added { OnOk result (into.new.items ≡ into.old.items ++ maps.mappings_in bytes.now) }
-    ensures stops { IfErr result (λ stop. stop ≡ NoMemory) }
+    ensures memory_only { IfErr result (λ stop. stop ≡ NoMemory) }
 {
-    'mappings: for i in 0..u32_at(bytes, COUNT) as usize {
-        into.push(mapping_at(bytes, MAPPINGS + MAPPING_LEN * i))?;
+    'mappings: for i in 0..u32_at(bytes, checkpoint_map::COUNT) as usize {
+        let at = checkpoint_map::MAPPINGS + checkpoint_map::MAPPING_LEN * i;
+        into.push(mapping_at(bytes, at))?;
     }
     Ok(())
 }

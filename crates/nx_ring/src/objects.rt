@@ -55,7 +55,7 @@ impl Object {
     }
 }
 
-// Whether a mapping has one or more whole blocks, at most the data area, and begins in the data area.
+// Whether a mapping has one or more whole blocks, at most the data area, and starts in the data area.
 #[tactic(auto, unfolding(crate::specs::Objects::is_placed))]
 pub(crate) fn is_placed(areas: &Areas, m: &Mapping) -> bool
     requires { 0 < areas.now.size }
@@ -69,10 +69,10 @@ pub(crate) fn is_placed(areas: &Areas, m: &Mapping) -> bool
         && m.paddr - areas.data_base < u64::from(areas.data_blocks)
 }
 
-// The block that is so many blocks behind a block of the data area, with wrap.
+// The block that is so many blocks after a block of the data area, with wrap.
 #[tactic(auto, unfolding(crate::specs::Objects::data_block))]
 pub(crate) fn data_block(areas: &Areas, paddr: u64, t: u32) -> u64
-    requires begins { areas.now.data_base ≤ paddr }
+    requires starts { areas.now.data_base ≤ paddr }
     requires inside { paddr < areas.now.data_base + areas.now.data_blocks }
     requires small { areas.now.data_base + areas.now.data_blocks < 2 ^ 64 }
     ensures here { result ≡ objects.data_block areas.now paddr t }

@@ -25,11 +25,11 @@ use obj_base::Stop;
 use std::alloc::Global;
 use std::collections::BTreeSet;
 
-// The index of the descriptor area that is so many behind the checkpoint's begin, with wrap.
-#[tactic(auto, unfolding(crate::specs::Valid::index_behind))]
-fn index_behind(areas: &Areas, line: &RingLine, j: u32) -> u64
+// The index of the descriptor area that is so many after the checkpoint's start, with wrap.
+#[tactic(auto, unfolding(crate::specs::Valid::index_after))]
+fn index_after(areas: &Areas, line: &RingLine, j: u32) -> u64
     requires { 0 < areas.now.desc_blocks }
-    ensures here { result ≡ valid.index_behind areas.now line.now j }
+    ensures here { result ≡ valid.index_after areas.now line.now j }
     ensures inside { result < areas.now.desc_blocks }
 {
     (u64::from(line.desc_index) + u64::from(j)) % u64::from(areas.desc_blocks)
@@ -45,11 +45,11 @@ fn ends_here(areas: &Areas, line: &RingLine) -> bool
 {
     1 <= line.desc_len
         && line.desc_len <= areas.desc_blocks
-        && index_behind(areas, line, line.desc_len - 1) == u64::from(line.index)
+        && index_after(areas, line, line.desc_len - 1) == u64::from(line.index)
 }
 
-// Reads the block that is so many behind the checkpoint's begin, and adds its mappings where it is a sound map.
-#[tactic(auto, using(crate::proofs::Fitting::block_fits), unfolding(crate::specs::Valid::is_map_behind, crate::specs::Candidates::ring_block))]
+// Reads the block that is so many after the checkpoint's start, and adds its mappings where it is a sound map.
+#[tactic(auto, using(crate::proofs::Fitting::block_fits), unfolding(crate::specs::Valid::is_map_after, crate::specs::Candidates::ring_block))]
 fn add_map<S: BlockSource>(
     alloc: Global,
     src: &mut S,
@@ -59,14 +59,14 @@ fn add_map<S: BlockSource>(
     into: &mut Vec<Mapping>,
 ) -> Result<bool, Stop<RingFault>>
     requires { Fits areas.now (S.bytes_len src.old) }
-    ensures found { (image : List ℕ) → S.bytes src.old ≡ Some image → IfOk result (λ sound. sound ≡ valid.is_map_behind image areas.now line.now j) }
+    ensures found { (image : List ℕ) → S.bytes src.old ≡ Some image → IfOk result (λ sound. sound ≡ valid.is_map_after image areas.now line.now j) }
     ensures added { (image : List ℕ) → S.bytes src.old ≡ Some image → IfOk result (λ sound. sound ≡ true → into.new.items ≡ into.old.items ++ mappings_in (valid.map_block image areas.now line.now j)) }
     ensures free { IfErr result IsFree }
     ensures cause { IsErrOf result ReadFault → Rose (S.faults src.old) (S.faults src.new) }
     ensures kept { IsKept S.bytes S.bytes_len S.faults src.old src.new }
     ensures reads { S.reads src.new ≤ S.reads src.old + 1 }
 {
-    let block = areas.desc_base + index_behind(areas, line, j);
+    let block = areas.desc_base + index_after(areas, line, j);
     let held = read_new(alloc, src, block, areas.size)?;
     let bytes = held.as_slice();
     if !is_map(block, line.xid, bytes) {
@@ -102,7 +102,7 @@ fn read_maps<S: BlockSource>(
     Ok(Some(mappings))
 }
 
-// Whether each mapping has whole blocks and begins in the data area.
+// Whether each mapping has whole blocks and starts in the data area.
 #[tactic(auto, unfolding(crate::specs::Valid::are_placed))]
 fn are_placed(areas: &Areas, mappings: &[Mapping]) -> bool
     requires { 0 < areas.now.size }
@@ -120,7 +120,7 @@ fn are_placed(areas: &Areas, mappings: &[Mapping]) -> bool
 #[tactic(auto, using(crate::proofs::More::ids_more))]
 fn ids_of(alloc: Global, mappings: &[Mapping]) -> Result<Vec<u64>, Stop<RingFault>>
     ensures found { IfOk result (λ ids. ids.items ≡ valid.ids_of mappings.now) }
-    ensures stops { IfErr result (λ stop. stop ≡ NoMemory) }
+    ensures memory_only { IfErr result (λ stop. stop ≡ NoMemory) }
 {
     let mut ids = Vec::new(alloc);
     'each: for m in mappings {
@@ -136,7 +136,7 @@ fn add_blocks(areas: &Areas, m: &Mapping, into: &mut Vec<u64>) -> Result<(), Sto
     requires placed { objects.is_placed areas.now m.now ≡ true }
     requires small { areas.now.data_base + areas.now.data_blocks < 2 ^ 64 }
     ensures added { OnOk result (into.new.items ≡ into.old.items ++ mapped_blocks areas.now m.now) }
-    ensures stops { IfErr result (λ stop. stop ≡ NoMemory) }
+    ensures memory_only { IfErr result (λ stop. stop ≡ NoMemory) }
 {
     'each: for t in 0..m.size / areas.size {
         into.push(data_block(areas, m.paddr, t))?;
@@ -155,7 +155,7 @@ fn blocks_of(
     requires placed { valid.are_placed areas.now mappings.now ≡ true }
     requires small { areas.now.data_base + areas.now.data_blocks < 2 ^ 64 }
     ensures found { IfOk result (λ blocks. blocks.items ≡ valid.blocks_of areas.now mappings.now) }
-    ensures stops { IfErr result (λ stop. stop ≡ NoMemory) }
+    ensures memory_only { IfErr result (λ stop. stop ≡ NoMemory) }
 {
     let mut blocks = Vec::new(alloc);
     'each: for m in mappings {
@@ -183,7 +183,7 @@ fn are_few(areas: &Areas, mappings: &[Mapping]) -> bool
 // Whether no number stands twice.
 fn are_distinct(alloc: Global, numbers: &[u64]) -> Result<bool, Stop<RingFault>>
     ensures found { IfOk result (λ apart. apart ≡ is_distinct numbers.now) }
-    ensures stops { IfErr result (λ stop. stop ≡ NoMemory) }
+    ensures memory_only { IfErr result (λ stop. stop ≡ NoMemory) }
 {
     let mut seen = BTreeSet::new(alloc);
     'each: for n in numbers {
@@ -198,7 +198,7 @@ fn are_distinct(alloc: Global, numbers: &[u64]) -> Result<bool, Stop<RingFault>>
 #[tactic(auto, unfolding(crate::specs::Valid::have_ids_once))]
 fn have_ids_once(alloc: Global, mappings: &[Mapping]) -> Result<bool, Stop<RingFault>>
     ensures found { IfOk result (λ once. once ≡ valid.have_ids_once mappings.now) }
-    ensures stops { IfErr result (λ stop. stop ≡ NoMemory) }
+    ensures memory_only { IfErr result (λ stop. stop ≡ NoMemory) }
 {
     let ids = ids_of(alloc, mappings)?;
     are_distinct(alloc, ids.as_slice())
@@ -217,7 +217,7 @@ fn have_blocks_once(
     requires placed { valid.are_placed areas.now mappings.now ≡ true }
     requires small { areas.now.data_base + areas.now.data_blocks < 2 ^ 64 }
     ensures found { IfOk result (λ once. once ≡ valid.have_blocks_once areas.now mappings.now) }
-    ensures stops { IfErr result (λ stop. stop ≡ NoMemory) }
+    ensures memory_only { IfErr result (λ stop. stop ≡ NoMemory) }
 {
     if !are_few(areas, mappings) {
         return Ok(false);
@@ -233,7 +233,7 @@ fn are_apart(alloc: Global, areas: &Areas, mappings: &[Mapping]) -> Result<bool,
     requires area { 0 < areas.now.data_blocks }
     requires small { areas.now.data_base + areas.now.data_blocks < 2 ^ 64 }
     ensures found { IfOk result (λ apart. apart ≡ valid.are_apart areas.now mappings.now) }
-    ensures stops { IfErr result (λ stop. stop ≡ NoMemory) }
+    ensures memory_only { IfErr result (λ stop. stop ≡ NoMemory) }
 {
     if !are_placed(areas, mappings) {
         return Ok(false);

@@ -1,11 +1,13 @@
 // A checkpoint and what it maps.
-ghost use Rattle.std.specs.Prelude.{◌≡◌, ◌-◌, length, option_map, IfSome, IsNone, Option};
+ghost use Rattle.std.specs.Prelude.{◌≡◌, ◌-◌, ◌≤◌, [], Ok, length, option_map};
+ghost use Rattle.nx_block.specs.Read.{read_of};
 ghost use Rattle.nx_ring.specs.Checkpoint.{eph, object_of, object_block_of, site_of};
 
 use crate::RingLine;
 use crate::objects::Object;
-use bt_node::Site;
 use nx_block::{NxView, nx_read};
+use obj_base::{Header, Site};
+use std::alloc::Global;
 use std::marker::Model;
 
 /// A valid checkpoint. It has the bytes of its superblock and of each object that it maps once. Contracts see its line,
@@ -13,14 +15,16 @@ use std::marker::Model;
 #[derive(Debug, Drop)]
 pub struct Checkpoint {
     pub(crate) entry: RingLine,
+    // The header of the superblock, which was tested when the checkpoint was made.
+    head: Header,
     pub(crate) superblock: Vec<u8>,
     pub(crate) objects: Vec<Object>,
     pub(crate) passed: Vec<(u32, u64)>,
 }
 
 impl Model for Checkpoint {
-    ghost use Rattle.std.specs.Prelude.{◌≡◌, ◌≤◌, length, true, is_ok};
-    ghost use Rattle.obj_base.specs.BlockSize.{is_accepted};
+    ghost use Rattle.std.specs.Prelude.{◌≡◌, ◌≤◌, length, Ok};
+    ghost use Rattle.obj_base.specs.Sound.{header_of};
     ghost use Rattle.nx_block.specs.Read.{read_of};
     ghost use Rattle.nx_ring.specs.Checkpoint.{Seen};
 
@@ -28,15 +32,37 @@ impl Model for Checkpoint {
 
     ghost view = { λ a. record { line = a.entry; nx = a.superblock.items; mapped = a.objects.items; skipped = a.passed.items } };
 
-    ghost invariant = { λ a. (is_ok (read_of a.superblock.items) ≡ true) × (is_accepted (length a.superblock.items) ≡ true) × (1 ≤ a.entry.desc_len) };
+    ghost invariant = { λ a. (read_of a.superblock.items ≡ Ok a.superblock.items) × (4096 ≤ length a.superblock.items) × (a.head ≡ header_of a.superblock.items) × (1 ≤ a.entry.desc_len) };
 }
 
 impl Checkpoint {
-    /// The superblock.
+    // The checkpoint of a line, by the bytes of its superblock and its objects, before any candidate is skipped.
+    #[tactic(auto, using(crate::proofs::Fitting::read_long))]
+    pub(crate) fn of(
+        alloc: Global,
+        entry: RingLine,
+        superblock: Vec<u8>,
+        objects: Vec<Object>,
+    ) -> Checkpoint
+        requires read { read_of superblock.items ≡ Ok superblock.items }
+        requires some { 1 ≤ entry.desc_len }
+        ensures { result ≡ record { line = entry; nx = superblock.items; mapped = objects.items; skipped = [] } }
+    {
+        let head = nx_read(&superblock).unwrap().header();
+        Checkpoint {
+            entry,
+            head,
+            superblock,
+            objects,
+            passed: Vec::new(alloc),
+        }
+    }
+
+    /// The superblock. Its tests aren't made again.
     pub fn nx(&self) -> NxView<'_>
         ensures { result ≡ self.now.nx }
     {
-        nx_read(&self.superblock).unwrap()
+        NxView::kept(self.head, &self.superblock)
     }
 
     /// The transaction.

@@ -12,10 +12,11 @@ ghost use Rattle.obj_base.specs.declared.stop.Stop.TheVariants.{Found, ReadFault
 ghost use Rattle.nx_block.specs.Super.{block_count_of};
 ghost use Rattle.nx_block.specs.Read.{size_of, read_of};
 ghost use Rattle.nx_ring.specs.declared.fault.RingFault.TheVariants.{BlockZero};
-ghost use Rattle.nx_ring.specs.Zero.{is_area, has_areas, is_contiguous, first_of, zero_of, zero_in, areas_of, after_zero, areas_in, Fits};
+ghost use Rattle.nx_ring.specs.Zero.{is_area, has_areas, is_contiguous, first_of, zero_of, zero_in, zero_reads, areas_of, after_zero, areas_in, Fits};
 
 use crate::RingFault;
 use crate::areas::Areas;
+use apfs_layout::container;
 use blk_read::read_new;
 use blk_source::BlockSource;
 use nx_block::{NxView, nx_read, nx_size};
@@ -23,10 +24,7 @@ use obj_base::{Feature, Stop};
 use std::alloc::Global;
 
 // The bytes that tell the block size.
-const FIRST: u32 = 4096;
-
-// The highest bit of an area's number of blocks says that the area isn't contiguous.
-const APART: u32 = 0x8000_0000;
+const FIRST: u32 = container::FIRST_BYTES as u32;
 
 // The first block of this number and above is a negative one.
 const NEGATIVE: u64 = 0x8000_0000_0000_0000;
@@ -36,7 +34,7 @@ const NEGATIVE: u64 = 0x8000_0000_0000_0000;
 fn is_inside(base: u64, blocks: u32, count: u64) -> bool
     ensures { result ≡ is_area base blocks count }
 {
-    let len = u64::from(blocks % APART);
+    let len = u64::from(blocks % container::APART);
     0 < len && base < NEGATIVE && len <= count && base <= count - len
 }
 
@@ -55,17 +53,17 @@ fn are_inside(zero: &NxView<'_>) -> bool
 fn are_contiguous(zero: &NxView<'_>) -> bool
     ensures { result ≡ is_contiguous zero.now }
 {
-    zero.desc_blocks() < APART && zero.data_blocks() < APART
+    zero.desc_blocks() < container::APART && zero.data_blocks() < container::APART
 }
 
-// Reads block 0, by the block size that its first bytes give.
-#[tactic(auto, unfolding(crate::specs::Zero::zero_in, crate::specs::Zero::has_zero, crate::specs::Zero::zero_of, crate::specs::Zero::size_in, nx_block::specs::Super::block_size_of))]
+// Reads block 0, by the block size that its first bytes give: these alone where the block is no larger.
+#[tactic(auto, using(nx_block::proofs::Laws::size_means, crate::proofs::Zeros::one_read), unfolding(crate::specs::Zero::zero_in, crate::specs::Zero::has_zero, crate::specs::Zero::zero_of, crate::specs::Zero::size_in, nx_block::specs::Super::block_size_of))]
 fn read_zero<S: BlockSource>(alloc: Global, src: &mut S) -> Result<Vec<u8>, Stop<RingFault>>
     ensures found { (image : List ℕ) → S.bytes src.old ≡ Some image → Gives (λ bytes. bytes.items) result (zero_in image) }
     ensures whole { IfOk result (λ bytes. sizes.is_accepted (length bytes.items) ≡ true) }
     ensures cause { IsErrOf result ReadFault → Rose (S.faults src.old) (S.faults src.new) }
     ensures kept { IsKept S.bytes S.bytes_len S.faults src.old src.new }
-    ensures reads { S.reads src.new ≤ S.reads src.old + 1 }
+    ensures reads { (image : List ℕ) → S.bytes src.old ≡ Some image → S.reads src.new ≤ S.reads src.old + zero_reads image }
 {
     let len = src.size();
     if len < u64::from(FIRST) {
@@ -85,12 +83,12 @@ fn read_zero<S: BlockSource>(alloc: Global, src: &mut S) -> Result<Vec<u8>, Stop
 }
 
 // The areas that block 0 names in an image of `len` bytes, or the first of its tests that fails.
-#[tactic(auto, unfolding(crate::specs::Zero::areas_in, crate::specs::Zero::where_whole, crate::specs::Zero::is_whole, crate::specs::Zero::is_short))]
+#[tactic(auto, using(nx_block::proofs::Laws::read_means), unfolding(crate::specs::Zero::areas_in, crate::specs::Zero::where_whole, crate::specs::Zero::is_whole, crate::specs::Zero::is_short))]
 fn read_areas(bytes: &[u8], len: u64) -> Result<Areas, Stop<RingFault>>
     requires { sizes.is_accepted (length bytes.now) ≡ true }
     ensures found { Gives (λ areas. areas) result (areas_in len bytes.now) }
     ensures fits { IfOk result (λ areas. Fits areas len) }
-    ensures sure { IsErrOf result ReadFault → ⊥ }
+    ensures no_read { IsErrOf result ReadFault → ⊥ }
 {
     let Ok(zero) = nx_read(bytes) else {
         return Err(Stop::Found(RingFault::BlockZero));
@@ -119,7 +117,7 @@ pub(crate) fn areas<S: BlockSource>(alloc: Global, src: &mut S) -> Result<Areas,
     ensures fits { IfOk result (λ areas. Fits areas (S.bytes_len src.old)) }
     ensures cause { IsErrOf result ReadFault → Rose (S.faults src.old) (S.faults src.new) }
     ensures kept { IsKept S.bytes S.bytes_len S.faults src.old src.new }
-    ensures reads { S.reads src.new ≤ S.reads src.old + 1 }
+    ensures reads { (image : List ℕ) → S.bytes src.old ≡ Some image → S.reads src.new ≤ S.reads src.old + zero_reads image }
 {
     let bytes = read_zero(alloc, src)?;
     read_areas(&bytes, src.size())

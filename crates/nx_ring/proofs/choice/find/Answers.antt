@@ -12,22 +12,22 @@ use Rattle.nx_ring.proofs.choice.find.Goals as goal
 pub returns-in_err-lines-clause-reads : goal.returns-in_err-lines-clause-reads
 returns-in_err-lines-clause-reads g c image told =
     let s = sizes_are image c.in_ok-areas.areas (c.in_ok-areas.ensures.found image told) in
-    rw (s.0, s.1) (Prim.omega (arith, c.in_ok-areas.ensures.reads, c.in_err-lines.ensures.reads))
+    rw (s.0, s.1) (Prim.omega (arith, c.in_ok-areas.ensures.reads image told, c.in_err-lines.ensures.reads))
 
 pub returns-in_err-checkpoint-clause-reads : goal.returns-in_err-checkpoint-clause-reads
 returns-in_err-checkpoint-clause-reads g c image told =
     let s = sizes_are image c.in_ok-areas.areas (c.in_ok-areas.ensures.found image told) in
-    rw (s.0, s.1) (Prim.omega (arith, c.in_ok-areas.ensures.reads, c.in_ok-lines.ensures.reads, c.in_err-checkpoint.ensures.reads))
+    rw (s.0, s.1) (Prim.omega (arith, c.in_ok-areas.ensures.reads image told, c.in_ok-lines.ensures.reads, c.in_err-checkpoint.ensures.reads))
 
 pub returns-in-Some-clause-reads : goal.returns-in-Some-clause-reads
 returns-in-Some-clause-reads g c image told =
     let s = sizes_are image c.in_ok-areas.areas (c.in_ok-areas.ensures.found image told) in
-    rw (s.0, s.1) (Prim.omega (arith, c.in_ok-areas.ensures.reads, c.in_ok-lines.ensures.reads, c.in_ok-checkpoint.ensures.reads))
+    rw (s.0, s.1) (Prim.omega (arith, c.in_ok-areas.ensures.reads image told, c.in_ok-lines.ensures.reads, c.in_ok-checkpoint.ensures.reads))
 
 pub returns-clause-reads : goal.returns-clause-reads
 returns-clause-reads g c image told =
     let s = sizes_are image c.in_ok-areas.areas (c.in_ok-areas.ensures.found image told) in
-    rw (s.0, s.1) (Prim.omega (arith, c.in_ok-areas.ensures.reads, c.in_ok-lines.ensures.reads, c.in_ok-checkpoint.ensures.reads))
+    rw (s.0, s.1) (Prim.omega (arith, c.in_ok-areas.ensures.reads image told, c.in_ok-lines.ensures.reads, c.in_ok-checkpoint.ensures.reads))
 
 pub returns-in-Some-clause-found : goal.returns-in-Some-clause-found
 returns-in-Some-clause-found g c image told =
@@ -40,7 +40,7 @@ returns-in-Some-clause-found g c image told =
     let value : List RingLine → Result Seen (Stop RingFault) = λ ls. Ok (passing seen (skipped_of ls seen.line.xid)) in
     given_by (newest_of image) (passing seen (skipped_of c.as_slice.result.now seen.line.xid)) c.with_skipped.result
     (found_is image areas seen (c.in_ok-areas.ensures.found image told) best ∙ ap value lines)
-    c.with_skipped.ensures.found c.with_skipped.ensures.stops
+    c.with_skipped.ensures.found c.with_skipped.ensures.memory_only
 
 pub returns-clause-found : goal.returns-clause-found
 returns-clause-found g c image told =

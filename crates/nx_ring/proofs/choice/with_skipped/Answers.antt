@@ -1,5 +1,4 @@
-use Rattle.std.proofs.Common.{arith}
-use Rattle.std.proofs.lemmas.Grind.{common_steps}
+use Rattle.std.proofs.Common.{ℕ, List, [], ◌∷◌, ◌++◌, ap, sym, get_or, ◌∙◌}
 use Rattle.nx_ring.specs.declared.line.RingLine.{RingLine}
 use Rattle.nx_ring.specs.Newest.{skipped_of}
 use Rattle.nx_ring.proofs.Best.{skipped_more}
@@ -12,4 +11,5 @@ each-init c = c.new-passed.ensures.items
 pub each-preserved : goal.each-preserved
 each-preserved c =
     let none : RingLine = record { index = 0; block = 0; xid = 0; desc_index = 0; desc_len = 0 } in
-    Prim.grind (arith, common_steps, c.in_ok-add_skipped.ensures.added, c.each.invariant, skipped_more c.args.lines.now c.xid-xid.result c.each.line-index none c.each-test.true)
+    let one = skipped_of (get_or c.args.lines.now c.each.line-index none ∷ []) c.xid-xid.result in
+    c.in_ok-add_skipped.ensures.added ∙ (ap (λ (xs : List (ℕ × ℕ)). xs ++ one) c.each.invariant ∙ sym (skipped_more c.args.lines.now c.xid-xid.result c.each.line-index none c.each-test.true))
