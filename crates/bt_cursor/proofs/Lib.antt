@@ -8,6 +8,7 @@ pub mod Flats
 pub mod Suffixes
 pub mod Steps
 pub mod Orders
+pub mod Misplaced
 pub mod Gone
 pub mod Passings
 pub mod Ranks

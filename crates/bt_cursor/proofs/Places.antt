@@ -35,7 +35,7 @@ in-left x [] ys h = absurd h
 in-left x (z ∷ xs) ys (inl e) = inl e
 in-left x (z ∷ xs) ys (inr h) = inr (in-left x xs ys h)
 
-in-right : {X : Type 0} (x : X) (xs ys : List X) → In x ys → In x (xs ++ ys)
+pub in-right : {X : Type 0} (x : X) (xs ys : List X) → In x ys → In x (xs ++ ys)
 in-right x [] ys h = h
 in-right x (z ∷ xs) ys h = inr (in-right x xs ys h)
 

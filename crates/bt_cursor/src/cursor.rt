@@ -136,8 +136,8 @@ impl<K: TreeKey, N: Namer> Cursor<K, N> {
         ensures present { (image : List ℕ) → S.bytes src.old ≡ Some image → IsOn image self.old → IfErr result (Tells (IsNodeFault (tree_of self.old image) (root_of self.old)) (HasFeature (tree_of self.old image) (root_of self.old))) }
         ensures exact { (image : List ℕ) → S.bytes src.old ≡ Some image → IsOn image self.old → is_walkable (tree_of self.old image) (root_of self.old) ≡ true → IfErr result IsFree }
         ensures of_nodes { IfErr result IsOfNodes }
-        ensures reads { (image : List ℕ) → S.bytes src.old ≡ Some image → OnOk result (S.reads src.new + unread_of self.new image ≤ S.reads src.old + unread_of self.old image) }
-        ensures few_reads { S.reads src.new ≤ S.reads src.old + depth_of self.old }
+        ensures unread { (image : List ℕ) → S.bytes src.old ≡ Some image → OnOk result (S.reads src.new + unread_of self.new image ≤ S.reads src.old + unread_of self.old image) }
+        ensures reads { S.reads src.new ≤ S.reads src.old + depth_of self.old }
         ensures fuel { IfOk result (λ more. IsTrue more → fuel_of self.new < fuel_of self.old) }
         ensures cause { IsErrOf result ReadFault → Rose (S.faults src.old) (S.faults src.new) }
         ensures no_memory { IsErrOf result NoMemory → ⊥ }

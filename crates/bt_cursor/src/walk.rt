@@ -187,8 +187,8 @@ pub(crate) fn pass<K: TreeKey, S: BlockSource, N: Namer>(
     ensures same { (image : List ℕ) → S.bytes src.old ≡ Some image → OnErr result (all_flat (gapped_ahead (tree_in K.shape site.now (N.named namer.now) image) way.new) ≡ all_flat (gapped_ahead (tree_in K.shape site.now (N.named namer.now) image) way.old)) }
     ensures stops { (image : List ℕ) → S.bytes src.old ≡ Some image → IfErr result (StopsAt (all_flat (gapped_ahead (tree_in K.shape site.now (N.named namer.now) image) way.old))) }
     ensures depth { depth_way way.new ≡ depth_way way.old }
-    ensures reads { (image : List ℕ) → S.bytes src.old ≡ Some image → OnOk result (ReadsPast (tree_in K.shape site.now (N.named namer.now) image) (S.reads src.old) way.old (S.reads src.new) way.new) }
-    ensures few_reads { S.reads src.new ≤ S.reads src.old + depth_way way.old }
+    ensures unread { (image : List ℕ) → S.bytes src.old ≡ Some image → OnOk result (ReadsPast (tree_in K.shape site.now (N.named namer.now) image) (S.reads src.old) way.old (S.reads src.new) way.new) }
+    ensures reads { S.reads src.new ≤ S.reads src.old + depth_way way.old }
     ensures stands { IfOk result (λ more. IsTrue more → Stands way.new) }
     ensures within { (image : List ℕ) → S.bytes src.old ≡ Some image → (root : ℕ) → IsIn (tree_in K.shape site.now (N.named namer.now) image) root way.old.above.items way.old.last → IsIn (tree_in K.shape site.now (N.named namer.now) image) root way.new.above.items way.new.last }
     ensures present { (image : List ℕ) → S.bytes src.old ≡ Some image → (root : ℕ) → IsIn (tree_in K.shape site.now (N.named namer.now) image) root way.old.above.items way.old.last → IfErr result (Tells (IsNodeFault (tree_in K.shape site.now (N.named namer.now) image) root) (HasFeature (tree_in K.shape site.now (N.named namer.now) image) root)) }

@@ -53,8 +53,8 @@ returns-clause-moved g c image told =
     let leaf : level_of last.block.items ≡ 0 = omega arith in
     sym (c.descend.invariant.same image told) ∙ flat-pass tree c.descend.way.above.items last.block.items last.next (last.next + 1 - 1) c.descend.invariant.left leaf (omega arith)
 
-pub returns-clause-reads : goal.returns-clause-reads
-returns-clause-reads g c image told =
+pub returns-clause-unread : goal.returns-clause-unread
+returns-clause-unread g c image told =
     let tree = tree_in g.K.TreeKey.shape c.args.site.now (g.N.Namer.named c.args.namer.now) image in
     let last = c.descend.way.last in
     let leaf : level_of last.block.items ≡ 0 = omega arith in
@@ -69,8 +69,8 @@ returns-clause-fuel g c moved =
     let last = c.descend.way.last in
     omega (arith, fuel-pass last.block.items last.next (last.next + 1) c.descend.invariant.left refl, weight-some (level_of last.block.items), c.descend.invariant.fuel)
 
-pub returns-then-not-climb-clause-reads : goal.returns-then-not-climb-clause-reads
-returns-then-not-climb-clause-reads g c image told =
+pub returns-then-not-climb-clause-unread : goal.returns-then-not-climb-clause-unread
+returns-then-not-climb-clause-unread g c image told =
     let look = look_in g.K.TreeKey.shape c.args.site.now (g.N.Namer.named c.args.namer.now) image in
     omega (arith, places-same (tree_in g.K.TreeKey.shape c.args.site.now (g.N.Namer.named c.args.namer.now) image) c.args.way.now c.climb.new.way (c.climb.ensures.same_gapped look))
 
