@@ -1,1 +1,4 @@
-pub mod RowsLemmas
+pub mod Puts
+pub mod Endings
+pub mod Stops
+pub mod Statuses

@@ -1,4 +1,4 @@
--- The texts of faults of objects, ids and trees.
+-- The texts of faults.
 use Rattle.std.specs.Prelude.{ℕ, List, codes}
 use Rattle.std.specs.Fmt.{decimal}
 use Rattle.obj_base.specs.declared.header.HeadFault.{HeadFault}
@@ -6,13 +6,11 @@ use Rattle.obj_base.specs.declared.header.HeadFault.TheVariants.{BadSum, BadKind
 use Rattle.obj_base.specs.declared.stop.Within.{Within}
 use Rattle.obj_base.specs.declared.stop.Within.TheVariants.{Physical, Ephemeral, Container, Volume}
 use Rattle.bt_node.specs.declared.fault.NodeFault.{NodeFault}
-use Rattle.bt_node.specs.declared.fault.NodeFault.TheVariants.{Head as NodeHead, Level, Flags, Bounds, Key, Empty, Ghost}
-use Rattle.bt_cursor.specs.declared.fault.WalkFault.{WalkFault}
-use Rattle.bt_cursor.specs.declared.fault.WalkFault.TheVariants.{Unsound, Unnamed as UnnamedNode, Order, Counts}
-use Rattle.omap_map.specs.declared.fault.OmapFault.{OmapFault}
-use Rattle.omap_map.specs.declared.fault.OmapFault.TheVariants.{Head as MapHead, Tree}
-use Rattle.vol_view.specs.declared.stop.VolStop.{VolStop}
-use Rattle.vol_view.specs.declared.stop.VolStop.TheVariants.{Head, Magic, Unnamed, Omap, Walk, SnapRecord, SnapCount, SnapName, OmapSnaps}
+use Rattle.bt_node.specs.declared.fault.NodeFault.TheVariants.{Head, Level, Flags, Bounds, Key, Empty, Ghost}
+use Rattle.apfs_cli.specs.declared.fault.Why.{Why}
+use Rattle.apfs_cli.specs.declared.fault.Why.TheVariants.{Node, Magic}
+use Rattle.apfs_cli.specs.declared.fault.Fault.{Fault}
+use Rattle.apfs_cli.specs.declared.fault.Fault.TheVariants.{BlockZero, Truncated, NoCheckpoint, Unsound, Unnamed, SnapRecord, SnapCount, SnapName, OmapSnaps, TreeOrder, TreeCounts}
 use Rattle.apfs_cli.specs.Texts.{◌▹◌}
 
 -- the test of a header that fails
@@ -25,13 +23,18 @@ head_word BadXid = codes "BadXid"
 
 -- the test of a node that fails
 abbrev pub node_word : NodeFault → List ℕ
-node_word (NodeHead fault) = head_word fault
+node_word (Head fault) = head_word fault
 node_word Level = codes "Level"
 node_word Flags = codes "Flags"
 node_word Bounds = codes "Bounds"
 node_word Key = codes "Key"
 node_word Empty = codes "Empty"
 node_word Ghost = codes "Ghost"
+
+-- the test that a named object fails
+abbrev pub why_word : Why → List ℕ
+why_word (Node fault) = node_word fault
+why_word Magic = codes "Magic"
 
 -- where an id is looked up
 abbrev pub within_text : Within → List ℕ
@@ -44,34 +47,28 @@ within_text (Volume slot) = codes "volume " ▹ decimal slot
 abbrev pub unsound_text : ℕ → List ℕ → List ℕ
 unsound_text block word = codes "Unsound block " ▹ decimal block ▹ codes " " ▹ word
 
--- an id names no block of the container at a transaction
-abbrev pub unnamed_text : Within → ℕ → ℕ → List ℕ
-unnamed_text within oid xid = codes "Unnamed " ▹ within_text within ▹ codes " oid " ▹ decimal oid ▹ codes " xid " ▹ decimal xid
+-- an id in a space at a transaction
+abbrev pub oid_text : List ℕ → Within → ℕ → ℕ → List ℕ
+oid_text word within oid xid = word ▹ codes " " ▹ within_text within ▹ codes " oid " ▹ decimal oid ▹ codes " xid " ▹ decimal xid
 
--- a tree of physical nodes isn't whole, at the checkpoint's transaction
-abbrev pub tree_text : ℕ → ℕ → WalkFault → List ℕ
-tree_text xid root (Unsound block why) = unsound_text block (node_word why)
-tree_text xid root (UnnamedNode oid) = unnamed_text Physical oid xid
-tree_text xid root (Order item) = codes "Order root " ▹ decimal root ▹ codes " item " ▹ decimal item
-tree_text xid root Counts = codes "Counts root " ▹ decimal root
-
--- an object map isn't whole
-abbrev pub map_text : ℕ → OmapFault → List ℕ
-map_text xid (MapHead block why) = unsound_text block (head_word why)
-map_text xid (Tree root why) = tree_text xid root why
-
--- a fault of a volume in a slot
+-- a volume in a slot
 abbrev pub slot_text : ℕ → List ℕ → List ℕ
 slot_text slot word = codes "Volume " ▹ decimal slot ▹ codes " " ▹ word
 
--- the volumes can't be loaded at the checkpoint's transaction
-abbrev pub volume_fault_text : ℕ → VolStop → List ℕ
-volume_fault_text xid (Head block why) = unsound_text block (head_word why)
-volume_fault_text xid (Magic block) = unsound_text block (codes "Magic")
-volume_fault_text xid (Unnamed within oid) = unnamed_text within oid xid
-volume_fault_text xid (Omap fault) = map_text xid fault
-volume_fault_text xid (Walk root why) = tree_text xid root why
-volume_fault_text xid (SnapRecord slot) = slot_text slot (codes "SnapRecord")
-volume_fault_text xid (SnapCount slot) = slot_text slot (codes "SnapCount")
-volume_fault_text xid (SnapName slot) = slot_text slot (codes "SnapName")
-volume_fault_text xid (OmapSnaps slot) = slot_text slot (codes "OmapSnaps")
+-- a tree by the block of its root
+abbrev pub root_text : List ℕ → ℕ → List ℕ
+root_text word root = word ▹ codes " root " ▹ decimal root
+
+-- the text of a fault
+abbrev pub fault_text : Fault → List ℕ
+fault_text BlockZero = codes "BlockZero"
+fault_text (Truncated have need) = codes "Truncated have " ▹ decimal have ▹ codes " need " ▹ decimal need
+fault_text NoCheckpoint = codes "NoCheckpoint"
+fault_text (Unsound block why) = unsound_text block (why_word why)
+fault_text (Unnamed within oid xid) = oid_text (codes "Unnamed") within oid xid
+fault_text (SnapRecord slot) = slot_text slot (codes "SnapRecord")
+fault_text (SnapCount slot) = slot_text slot (codes "SnapCount")
+fault_text (SnapName slot) = slot_text slot (codes "SnapName")
+fault_text (OmapSnaps slot) = slot_text slot (codes "OmapSnaps")
+fault_text (TreeOrder root item) = root_text (codes "Order") root ▹ codes " item " ▹ decimal item
+fault_text (TreeCounts root) = root_text (codes "Counts") root

@@ -1,6 +1,7 @@
--- How names are shown.
+-- How names and identifiers are shown.
 use Rattle.std.specs.Prelude.{ℕ, ◌+◌, ◌/◌, ◌%◌, Bool, ◌||◌, ◌==◌, nat_lt, List, [], ◌∷◌, if◌then◌else◌}
 use Rattle.std.specs.List.{flat_map}
+use Rattle.uuid.specs.Text.{hyphenated_text, lower}
 
 -- a hexadecimal digit, in lower case
 abbrev pub hex_digit : ℕ → ℕ
@@ -17,3 +18,7 @@ shown_byte byte = if is_hidden byte then 0x5c ∷ 0x78 ∷ hex_digit (byte / 16)
 -- a name as it is shown
 abbrev pub shown_name : List ℕ → List ℕ
 shown_name name = flat_map shown_byte name
+
+-- an identifier as it is shown: in lower case, with hyphens
+unfoldable pub uuid_text : List ℕ → List ℕ
+uuid_text bytes = hyphenated_text lower bytes

@@ -1,31 +1,61 @@
 -- What each status says: one fact for each row of the table of statuses.
-use Rattle.std.specs.Prelude.{◌≡◌, ◌⊎◌, ℕ, List, Option}
+use Rattle.std.specs.Prelude.{◌≡◌, ◌⊎◌, ℕ, List, Option, Some}
 use Rattle.apfs_model.specs.Sink.{Wrote}
 use Rattle.blk_source.specs.declared.source.Opened.{Opened}
 use Rattle.obj_base.specs.declared.stop.Feature.{Feature}
-use Rattle.apfs_cli.specs.declared.words.Command.{Command}
-use Rattle.apfs_cli.specs.Outcome.{Outcome, text_of, line_of, Written, Faulty, Refused}
-use Rattle.apfs_cli.specs.Says.{OfRun, IsText, IsFault, IsFeature}
-use Rattle.apfs_cli.specs.Written.{Sunk}
+use Rattle.apfs_cli.specs.declared.fault.Fault.{Fault}
+use Rattle.apfs_cli.specs.ByCommand.{takes_image, IsText, IsFault, IsFeature}
+use Rattle.apfs_cli.specs.Outcome.{Outcome, text_of, line_of, Written, Faulty, ReadFailed, OutOfMemory, Refused}
+use Rattle.apfs_cli.specs.Says.{IsGiven, OfRun, HasFailed, IsPart, StopsAt}
+use Rattle.apfs_cli.specs.Words.{Asked}
+use Rattle.apfs_cli.specs.Written.{Sunk, Failed}
 
 -- both sinks have all of an outcome more than before
 abbrev pub BothWrote : Sunk → Sunk → Outcome → Type 0
 BothWrote out err outcome = Wrote out.old out.new (text_of outcome) × Wrote err.old err.new (line_of outcome)
 
 -- the first sink has the whole text of the command more, the second nothing
-abbrev pub HasText : {S : Type 0} → (S → Option (List ℕ)) → Option Command → Opened S → Sunk → Sunk → Type 0
+abbrev pub HasText : {S : Type 0} → (S → Option (List ℕ)) → Option Asked → Opened S → Sunk → Sunk → Type 0
 HasText bytes command image out err = (text : List ℕ) × OfRun bytes command image (λ c bs. IsText c bs text) × BothWrote out err (Written text)
 
--- the second sink has the line of a fault that is there more, the first nothing
-abbrev pub NamesFault : {S : Type 0} → (S → Option (List ℕ)) → Option Command → Opened S → Sunk → Sunk → Type 0
-NamesFault bytes command image out err = (text : List ℕ) × OfRun bytes command image (λ c bs. IsFault c bs text) × BothWrote out err (Faulty text)
+-- the second sink has the line of a fault that is there more, the first what the command writes before it looks
+abbrev pub NamesFault : {S : Type 0} → (S → Option (List ℕ)) → Option Asked → Opened S → Sunk → Sunk → Type 0
+NamesFault bytes command image out err =
+    (lead : List ℕ) × (fault : Fault) × OfRun bytes command image (λ c bs. StopsAt c bs lead (IsFault c bs fault)) × BothWrote out err (Faulty lead fault)
 
--- the second sink has the line of a feature that is there more, the first nothing
-abbrev pub NamesFeature : {S : Type 0} → (S → Option (List ℕ)) → Option Command → Opened S → Sunk → Sunk → Type 0
+-- the second sink has the line of a feature that is there more, the first what the command writes before it looks
+abbrev pub NamesFeature : {S : Type 0} → (S → Option (List ℕ)) → Option Asked → Opened S → Sunk → Sunk → Type 0
 NamesFeature bytes command image out err =
-    (feature : Feature) × (block : ℕ) × OfRun bytes command image (λ c bs. IsFeature c bs feature block) × BothWrote out err (Refused feature block)
+    (lead : List ℕ) × (feature : Feature) × (block : ℕ) × OfRun bytes command image (λ c bs. StopsAt c bs lead (IsFeature c bs feature block)) × BothWrote out err (Refused lead feature block)
+
+-- the source failed; the second sink has the line of that more, the first a part of the text
+abbrev pub SaysReadFailed : {S : Type 0} → (S → Option (List ℕ)) → (S → ℕ) → Option Asked → Opened S → Opened S → Sunk → Sunk → Type 0
+SaysReadFailed bytes faults command old new out err =
+    (part : List ℕ) × HasFailed faults command old new × IsPart bytes command old part × BothWrote out err (ReadFailed part)
+
+-- the second sink has the line of want of memory more, the first a part of the text
+abbrev pub SaysOutOfMemory : {S : Type 0} → (S → Option (List ℕ)) → Option Asked → Opened S → Sunk → Sunk → Type 0
+SaysOutOfMemory bytes command image out err = (part : List ℕ) × IsPart bytes command image part × BothWrote out err (OutOfMemory part)
+
+-- a sink failed, and the first has a part of the text more
+abbrev pub HasFailedPut : {S : Type 0} → (S → Option (List ℕ)) → Option Asked → Opened S → Sunk → Sunk → Type 0
+HasFailedPut bytes command image out err =
+    (part : List ℕ) × IsPart bytes command image part × Wrote out.old out.new part × (Failed out ⊎ Failed err)
+
+-- a text of the command exists: the words are right, what the command takes was handed in, and its bytes are told
+pub record HasDefinedText {S : Type 0} (bytes : S → Option (List ℕ)) (asked : Option Asked) (opened : Opened S) : Type 0 where
+  pub command : Asked
+  pub image : List ℕ
+  pub text : List ℕ
+  pub words : asked ≡ Some command
+  pub given : IsGiven bytes (takes_image command) opened image
+  pub defined : IsText command image text
 
 -- a status comes exactly where a fact holds, save that writing may fail or memory run out in its place
 pub record IsExactly (result status : ℕ) (P : Type 0) : Type 0 where
   pub only : result ≡ status → P
   pub always : P → (result ≡ status) ⊎ ((result ≡ 4) ⊎ (result ≡ 5))
+
+-- nothing but a failed read, a failed put or want of memory comes in place of the whole text
+abbrev pub IsWholeOrFree : ℕ → Type 0
+IsWholeOrFree result = (result ≡ 0) ⊎ ((result ≡ 3) ⊎ ((result ≡ 4) ⊎ (result ≡ 5)))

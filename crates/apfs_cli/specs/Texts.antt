@@ -1,5 +1,5 @@
 -- The lines on the second sink, and how texts are joined.
-use Rattle.std.specs.Prelude.{ℕ, ◌++◌, List, codes}
+use Rattle.std.specs.Prelude.{◌≡◌, ℕ, ◌++◌, List, codes}
 use Rattle.std.specs.Fmt.{decimal}
 use Rattle.obj_base.specs.declared.stop.Feature.{Feature}
 use Rattle.obj_base.specs.Features.{feature_name}
@@ -8,6 +8,10 @@ use Rattle.obj_base.specs.Features.{feature_name}
 infixr 5 ◌▹◌
 abbrev pub ◌▹◌ : List ℕ → List ℕ → List ℕ
 piece ▹ rest = piece ++ rest
+
+-- a text is a prefix of another
+abbrev pub IsPrefix : List ℕ → List ℕ → Type 0
+IsPrefix part text = (rest : List ℕ) × (text ≡ part ++ rest)
 
 -- the words are no line of the program
 abbrev pub usage_line : List ℕ

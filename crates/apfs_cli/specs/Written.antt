@@ -1,7 +1,9 @@
--- How a run ends that set out to write a text on the first sink and a line on the second.
-use Rattle.std.specs.Prelude.{◌≡◌, ◌⊎◌, ℕ, List, Option}
+-- What a run has written on its two sinks.
+use Rattle.std.specs.Prelude.{◌≡◌, ◌⊎◌, ℕ, ◌≤◌, List, Option, Result, Ok, Err}
 use Rattle.apfs_model.specs.Counts.{Rose}
 use Rattle.apfs_model.specs.Sink.{Wrote, WrotePart}
+use Rattle.apfs_cli.specs.declared.stopped.Stopped.{Stopped}
+use Rattle.apfs_cli.specs.declared.stopped.Stopped.TheVariants.{Faulty, Usage, ReadFailed, WriteFailed, OutOfMemory, Refused, NoImage}
 use Rattle.apfs_cli.specs.Outcome.{Outcome, status_of, text_of, line_of}
 
 -- a sink before and after the run: its contents where it tells them, and how often it failed
@@ -18,30 +20,37 @@ sunk contents faults old new = record { old = contents old; new = contents new; 
 abbrev pub Failed : Sunk → Type 0
 Failed sink = Rose sink.old_faults sink.new_faults
 
--- all was written, on both sinks
-pub record IsWhole (result status : ℕ) (text line : List ℕ) (out err : Sunk) : Type 0 where
+-- what stops a text: a put of it that fails, or want of memory
+abbrev pub CutsText : Stopped → Sunk → Type 0
+CutsText (Faulty fault) sink = ⊥
+CutsText Usage sink = ⊥
+CutsText ReadFailed sink = ⊥
+CutsText WriteFailed sink = Failed sink
+CutsText OutOfMemory sink = Unit {0}
+CutsText (Refused feature block) sink = ⊥
+CutsText NoImage sink = ⊥
+
+-- a text was put on a sink: all of it, or a prefix where something stopped it
+abbrev pub IsPut : List ℕ → Result Unit Stopped → Sunk → Type 0
+IsPut text (Ok done) sink = Wrote sink.old sink.new text × (sink.old_faults ≤ sink.new_faults)
+IsPut text (Err stopped) sink = CutsText stopped sink × WrotePart sink.old sink.new text
+
+-- a line was written, and the status is the one that goes with it
+pub record HasLine (result status : ℕ) (line : List ℕ) (err : Sunk) : Type 0 where
   pub status_is : result ≡ status
-  pub out_whole : Wrote out.old out.new text
-  pub err_whole : Wrote err.old err.new line
+  pub put : Wrote err.old err.new line
 
--- the first sink failed: it has a front of its text, and nothing was written on the second
-pub record IsOutFailed (result : ℕ) (text : List ℕ) (out err : Sunk) : Type 0 where
-  pub status_is : result ≡ 4
-  pub failed : Failed out
-  pub out_part : WrotePart out.old out.new text
-  pub err_same : err.new ≡ err.old
-
--- the second sink failed: it has a front of its line, and the first has all of its text
-pub record IsErrFailed (result : ℕ) (text line : List ℕ) (out err : Sunk) : Type 0 where
+-- a line wasn't written whole, since the second sink failed
+pub record LacksLine (result : ℕ) (line : List ℕ) (err : Sunk) : Type 0 where
   pub status_is : result ≡ 4
   pub failed : Failed err
-  pub out_whole : Wrote out.old out.new text
-  pub err_part : WrotePart err.old err.new line
+  pub part : WrotePart err.old err.new line
 
-abbrev pub IsEnded : ℕ → ℕ → List ℕ → List ℕ → Sunk → Sunk → Type 0
-IsEnded result status text line out err =
-    IsWhole result status text line out err ⊎ (IsOutFailed result text out err ⊎ IsErrFailed result text line out err)
+-- what the second sink and the status say
+abbrev pub IsSaid : ℕ → ℕ → List ℕ → Sunk → Type 0
+IsSaid result status line err = HasLine result status line err ⊎ LacksLine result line err
 
--- a run ends so that set out to write an outcome
-abbrev pub Ends : ℕ → Outcome → Sunk → Sunk → Type 0
-Ends result outcome out err = IsEnded result (status_of outcome) (text_of outcome) (line_of outcome) out err
+-- a run ends so with an outcome
+pub record Ends (result : ℕ) (outcome : Outcome) (out err : Sunk) : Type 0 where
+  pub text : Wrote out.old out.new (text_of outcome)
+  pub said : IsSaid result (status_of outcome) (line_of outcome) err

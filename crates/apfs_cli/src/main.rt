@@ -1,21 +1,23 @@
 //! `apfs`: checks and browses APFS containers. What it writes, and how it ends, is said by the contract of `run`.
 #![tactic(auto)]
 
-mod ending;
-mod fault_texts;
-mod info_text;
-mod ring_text;
+mod commands;
+mod fault;
+mod fault_text;
+mod put;
 mod run;
+mod say;
 mod shown;
+mod stopped;
 #[cfg(test)]
 mod tests;
-mod volumes_text;
 mod words;
 
 use blk_source::{FileSource, Opened, StdSink};
 use std::io::{self, ErrorKind};
 use std::process::ExitCode;
 use std::{env, fs};
+use words::asked;
 
 // The status of a run for which there was no memory.
 const OUT_OF_MEMORY: u8 = 5;
@@ -35,8 +37,19 @@ fn read_words(rt: &HostRuntime) -> io::Result<Vec<String>> {
     Ok(words)
 }
 
-// The image that the second word names.
+// Whether the words ask for a command that takes no image.
+fn wants_none(words: &[String]) -> bool {
+    match asked(words) {
+        Some(command) => !command.takes_image(),
+        None => false,
+    }
+}
+
+// The image that the second word names, unless the command takes none.
 fn open(rt: &HostRuntime, words: &[String]) -> Opened<FileSource> {
+    if wants_none(words) {
+        return Opened::Absent;
+    }
     let Some(path) = words.get(1) else {
         return Opened::Absent;
     };

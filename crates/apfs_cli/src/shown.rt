@@ -1,9 +1,11 @@
-// How names are shown.
-ghost use Rattle.std.specs.Prelude.{◌≡◌, ◌<◌, ◌++◌, OnOk};
-ghost use Rattle.apfs_cli.specs.Names.{shown_byte, shown_name};
+// How names and identifiers are shown.
+ghost use Rattle.std.specs.Prelude.{◌≡◌, ◌<◌, ◌++◌, IfOk, OnOk};
+ghost use Rattle.std.specs.String.{string_bytes};
+ghost use Rattle.apfs_cli.specs.Names.{shown_byte, shown_name, uuid_text};
 ghost use Rattle.apfs_cli.specs.Names as names;
 
-use std::alloc::AllocError;
+use std::alloc::{AllocError, Global};
+use uuid::Uuid;
 
 // A hexadecimal digit, in lower case.
 fn hex_digit(n: u8) -> u8
@@ -42,4 +44,14 @@ pub fn push_name(text: &mut Vec<u8>, name: &[u8]) -> Result<(), AllocError>
         push_byte(text, *byte)?;
     }
     Ok(())
+}
+
+/// An identifier as it is shown, in lower case with hyphens.
+#[tactic(auto, unfolding(crate::specs::Names::uuid_text))]
+pub fn identifier(alloc: Global, uuid: [u8; 16]) -> Result<String, AllocError>
+    ensures { IfOk result (λ text. string_bytes text ≡ uuid_text uuid) }
+{
+    let mut buffer = Uuid::encode_buffer();
+    let uuid = Uuid::from_bytes(uuid).hyphenated();
+    String::from_str(alloc, uuid.encode_lower(&mut buffer))
 }

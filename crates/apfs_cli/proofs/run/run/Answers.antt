@@ -3,12 +3,17 @@ use Rattle.std.proofs.Common.{map}
 use Rattle.std.specs.String.{string_bytes}
 use Rattle.apfs_cli.specs.Words.{command_of}
 use Rattle.apfs_cli.specs.Written.{sunk}
-use Rattle.apfs_cli.proofs.RowsLemmas.{text_row, fault_row, wrong_words_row, usage_row, read_failed_row, out_of_memory_row, feature_row, no_image_row, absent_row, write_failed_row}
+use Rattle.apfs_cli.proofs.Statuses.{text_row, whole_row, fault_row, wrong_words_row, usage_row, read_failed_row, write_failed_row, out_of_memory_row, feature_row, no_image_row, absent_row}
 use Rattle.apfs_cli.proofs.run.run.Goals as goal
 
 pub returns-clause-text : goal.returns-clause-text
 returns-clause-text g c =
     text_row g.S.BlockSource.bytes g.S.BlockSource.faults (command_of (map string_bytes c.args.words.now)) c.args.image.now c.end.new.image c.end.result
+    (sunk g.W.Sink.contents g.W.Sink.faults c.args.out.now c.end.new.out) (sunk g.E.Sink.contents g.E.Sink.faults c.args.err.now c.end.new.err) c.end.ensures.answer
+
+pub returns-clause-whole : goal.returns-clause-whole
+returns-clause-whole g c =
+    whole_row g.S.BlockSource.bytes g.S.BlockSource.faults (command_of (map string_bytes c.args.words.now)) c.args.image.now c.end.new.image c.end.result
     (sunk g.W.Sink.contents g.W.Sink.faults c.args.out.now c.end.new.out) (sunk g.E.Sink.contents g.E.Sink.faults c.args.err.now c.end.new.err) c.end.ensures.answer
 
 pub returns-clause-fault : goal.returns-clause-fault
@@ -31,6 +36,11 @@ returns-clause-read_failed g c =
     read_failed_row g.S.BlockSource.bytes g.S.BlockSource.faults (command_of (map string_bytes c.args.words.now)) c.args.image.now c.end.new.image c.end.result
     (sunk g.W.Sink.contents g.W.Sink.faults c.args.out.now c.end.new.out) (sunk g.E.Sink.contents g.E.Sink.faults c.args.err.now c.end.new.err) c.end.ensures.answer
 
+pub returns-clause-write_failed : goal.returns-clause-write_failed
+returns-clause-write_failed g c =
+    write_failed_row g.S.BlockSource.bytes g.S.BlockSource.faults (command_of (map string_bytes c.args.words.now)) c.args.image.now c.end.new.image c.end.result
+    (sunk g.W.Sink.contents g.W.Sink.faults c.args.out.now c.end.new.out) (sunk g.E.Sink.contents g.E.Sink.faults c.args.err.now c.end.new.err) c.end.ensures.answer
+
 pub returns-clause-out_of_memory : goal.returns-clause-out_of_memory
 returns-clause-out_of_memory g c =
     out_of_memory_row g.S.BlockSource.bytes g.S.BlockSource.faults (command_of (map string_bytes c.args.words.now)) c.args.image.now c.end.new.image c.end.result
@@ -50,7 +60,3 @@ pub returns-clause-absent : goal.returns-clause-absent
 returns-clause-absent g c e =
     (absent_row g.S.BlockSource.bytes g.S.BlockSource.faults (command_of (map string_bytes c.args.words.now)) c.args.image.now c.end.new.image c.end.result
     (sunk g.W.Sink.contents g.W.Sink.faults c.args.out.now c.end.new.out) (sunk g.E.Sink.contents g.E.Sink.faults c.args.err.now c.end.new.err) c.end.ensures.answer e).1
-
-pub returns-clause-write_failed : goal.returns-clause-write_failed
-returns-clause-write_failed g c =
-    write_failed_row c.end.result c.end.ensures.answer.0 (sunk g.W.Sink.contents g.W.Sink.faults c.args.out.now c.end.new.out) (sunk g.E.Sink.contents g.E.Sink.faults c.args.err.now c.end.new.err) c.end.ensures.answer.2

@@ -3,31 +3,20 @@ ghost use Rattle.std.specs.Prelude.{◌≡◌, IfOk, Some};
 ghost use Rattle.std.specs.String.{string_bytes};
 ghost use Rattle.apfs_model.specs.Source.{IsKept};
 ghost use Rattle.nx_block.specs.Super.{uuid_of};
-ghost use Rattle.apfs_cli.specs.InfoText.{uuid_text, container_text, checkpoint_text};
-ghost use Rattle.apfs_cli.specs.InfoText as texts;
-ghost use Rattle.apfs_cli.specs.Says.{Says};
-ghost use Rattle.apfs_cli.specs.Seen.{seen};
-ghost use Rattle.apfs_cli.specs.declared.words.Command.TheVariants.{Info};
+ghost use Rattle.apfs_cli.specs.Commands.Info.{container_text, checkpoint_text, info_text};
+ghost use Rattle.apfs_cli.specs.Names.{uuid_text};
+ghost use Rattle.apfs_cli.specs.Says.{HasEnded};
+ghost use Rattle.apfs_cli.specs.Words.{Info};
+ghost use Rattle.apfs_cli.specs.Written.{sunk, IsPut};
 ghost use Rattle.blk_source.specs.declared.source.Opened.TheVariants.{Image};
 
-use crate::ending::{Ending, faulty, written};
-use crate::ring_text::fault_text;
-use blk_source::BlockSource;
+use crate::put::put;
+use crate::shown::identifier;
+use crate::stopped::{Stopped, stopped_by};
+use blk_source::{BlockSource, Sink};
 use nx_block::NxView;
 use nx_ring::{Checkpoint, newest};
-use obj_base::Stop;
 use std::alloc::{AllocError, Global};
-use uuid::Uuid;
-
-/// An identifier, in lower case with hyphens.
-#[tactic(auto, unfolding(crate::specs::InfoText::uuid_text))]
-pub fn identifier(alloc: Global, uuid: [u8; 16]) -> Result<String, AllocError>
-    ensures { IfOk result (λ text. string_bytes text ≡ uuid_text uuid) }
-{
-    let mut buffer = Uuid::encode_buffer();
-    let uuid = Uuid::from_bytes(uuid).hyphenated();
-    String::from_str(alloc, uuid.encode_lower(&mut buffer))
-}
 
 // The lines of a container, by its superblock and the text of its identifier.
 fn container_lines(alloc: Global, nx: &NxView<'_>, uuid: &str) -> Result<String, AllocError>
@@ -55,7 +44,7 @@ fn checkpoint_lines(alloc: Global, checkpoint: &Checkpoint) -> Result<String, Al
 
 // All six lines.
 fn text(alloc: Global, checkpoint: &Checkpoint) -> Result<Vec<u8>, AllocError>
-    ensures { IfOk result (λ text. text.items ≡ texts.info_text checkpoint.now) }
+    ensures { IfOk result (λ text. text.items ≡ info_text checkpoint.now) }
 {
     let nx = checkpoint.nx();
     let uuid = identifier(alloc, nx.uuid())?;
@@ -65,16 +54,21 @@ fn text(alloc: Global, checkpoint: &Checkpoint) -> Result<Vec<u8>, AllocError>
     Ok(text)
 }
 
-/// How `info` ends on a source.
-pub fn info_ending<S: BlockSource>(alloc: Global, src: &mut S) -> Ending
-    ensures says { Says S.bytes S.faults (Some Info) (Image src.old) (Image src.new) (seen result) }
+// Puts all six lines.
+fn put_text<W: Sink>(alloc: Global, checkpoint: &Checkpoint, out: &mut W) -> Result<(), Stopped>
+    ensures { IsPut (info_text checkpoint.now) result (sunk W.contents W.faults out.old out.new) }
+{
+    let text = text(alloc, checkpoint)?;
+    put(text.as_slice(), out)
+}
+
+/// Writes what there is of the container and its newest checkpoint.
+pub fn write<S: BlockSource, W: Sink>(alloc: Global, src: &mut S, out: &mut W) -> Result<(), Stopped>
+    ensures answer { HasEnded S.bytes S.faults (Some Info) (Image src.old) (Image src.new) result (sunk W.contents W.faults out.old out.new) }
     ensures kept { IsKept S.bytes S.bytes_len S.faults src.old src.new }
 {
     match newest(alloc, src) {
-        Ok(checkpoint) => written(text(alloc, &checkpoint)),
-        Err(Stop::Found(fault)) => faulty(fault_text(alloc, fault)),
-        Err(Stop::Unsupported { feature, block }) => Ending::Refused { feature, block },
-        Err(Stop::ReadFault) => Ending::ReadFailed,
-        Err(Stop::NoMemory) => Ending::OutOfMemory,
+        Ok(checkpoint) => put_text(alloc, &checkpoint, out),
+        Err(stop) => Err(stopped_by(stop, ())),
     }
 }

@@ -1,14 +1,13 @@
--- What the command `info` writes.
-use Rattle.std.specs.Prelude.{ℕ, ◌-◌, List, length, codes}
+-- The command `info`: the newest checkpoint.
+use Rattle.std.specs.Prelude.{◌≡◌, ℕ, ◌-◌, List, length, codes}
 use Rattle.std.specs.Fmt.{decimal}
-use Rattle.uuid.specs.Text.{hyphenated_text, lower}
+use Rattle.obj_base.specs.declared.stop.Feature.{Feature}
 use Rattle.nx_block.specs.Super.{uuid_of, block_size_of, block_count_of}
 use Rattle.nx_ring.specs.Checkpoint.{Seen}
+use Rattle.apfs_cli.specs.declared.fault.Fault.{Fault}
+use Rattle.apfs_cli.specs.Checkpoints.{IsNewest, IsCheckpointFault, IsCheckpointFeature}
+use Rattle.apfs_cli.specs.Names.{uuid_text}
 use Rattle.apfs_cli.specs.Texts.{◌▹◌}
-
--- an identifier as it is printed: in lower case, with hyphens
-unfoldable pub uuid_text : List ℕ → List ℕ
-uuid_text bytes = hyphenated_text lower bytes
 
 -- a container: its identifier, its block size in bytes, and its number of blocks
 abbrev pub container_text : List ℕ → List ℕ
@@ -27,3 +26,15 @@ checkpoint_text seen =
 -- the six lines of a container and its newest checkpoint
 abbrev pub info_text : Seen → List ℕ
 info_text seen = container_text seen.nx ▹ checkpoint_text seen
+
+-- the text
+abbrev pub IsText : List ℕ → List ℕ → Type 0
+IsText image text = (seen : Seen) × IsNewest image seen × (text ≡ info_text seen)
+
+-- the fault that is named
+abbrev pub IsFault : List ℕ → Fault → Type 0
+IsFault image fault = IsCheckpointFault image fault
+
+-- the feature that is refused
+abbrev pub IsFeature : List ℕ → Feature → ℕ → Type 0
+IsFeature image feature block = IsCheckpointFeature image feature block

@@ -1,0 +1,228 @@
+-- What each status says, from the outcome that a run has come to.
+use Rattle.std.specs.Prelude.{◌≡◌, ◌⊎◌, ℕ, Bool, true, false, List, Option, Some, None, refl}
+use Rattle.std.proofs.Common.{inl, inr, sym, ◌∙◌, subst, arith}
+use Rattle.apfs_model.specs.Sink.{Wrote}
+use Rattle.blk_source.specs.declared.source.Opened.{Opened}
+use Rattle.blk_source.specs.declared.source.Opened.TheVariants.{Absent, Image}
+use Rattle.obj_base.specs.declared.stop.Feature.{Feature}
+use Rattle.apfs_cli.specs.declared.fault.Fault.{Fault}
+use Rattle.apfs_cli.specs.ByCommand.{takes_image, IsText}
+use Rattle.apfs_cli.specs.Outcome.{Outcome, status_of, text_of, line_of, Written, Faulty, Usage, ReadFailed, WriteFailed, OutOfMemory, Refused, NoImage}
+use Rattle.apfs_cli.specs.Says.{LacksImage, IsGiven, SourceFailed, Says, HasNoImage}
+use Rattle.apfs_cli.specs.Words.{Asked}
+use Rattle.apfs_cli.specs.Written.{Sunk, Failed, Ends, IsSaid}
+use Rattle.apfs_cli.specs.Rows.{BothWrote, HasText, NamesFault, NamesFeature, SaysReadFailed, SaysOutOfMemory, HasFailedPut, HasDefinedText, IsExactly, IsWholeOrFree}
+use Rattle.apfs_cli.proofs.Endings.{part_of}
+
+-- what a run has come to, and how it ended
+abbrev pub Answered : {S : Type 0} → (S → Option (List ℕ)) → (S → ℕ) → Option Asked → Opened S → Opened S → ℕ → Sunk → Sunk → Type 0
+Answered bytes faults command old new result out err = (o : Outcome) × Says bytes faults command old new out o × Ends result o out err
+
+-- an outcome is told by its status
+written_at : (o : Outcome) → status_of o ≡ 0 → (text : List ℕ) × (o ≡ Written text)
+written_at (Written text) e = (text, refl)
+written_at _ e = absurd (omega arith)
+
+faulty_at : (o : Outcome) → status_of o ≡ 1 → (lead : List ℕ) × (fault : Fault) × (o ≡ Faulty lead fault)
+faulty_at (Faulty lead fault) e = (lead, fault, refl)
+faulty_at _ e = absurd (omega arith)
+
+usage_at : (o : Outcome) → status_of o ≡ 2 → o ≡ Usage
+usage_at Usage e = refl
+usage_at _ e = absurd (omega arith)
+
+read_failed_at : (o : Outcome) → status_of o ≡ 3 → (part : List ℕ) × (o ≡ ReadFailed part)
+read_failed_at (ReadFailed part) e = (part, refl)
+read_failed_at _ e = absurd (omega arith)
+
+out_of_memory_at : (o : Outcome) → status_of o ≡ 5 → (part : List ℕ) × (o ≡ OutOfMemory part)
+out_of_memory_at (OutOfMemory part) e = (part, refl)
+out_of_memory_at _ e = absurd (omega arith)
+
+refused_at : (o : Outcome) → status_of o ≡ 6 → (lead : List ℕ) × (feature : Feature) × (block : ℕ) × (o ≡ Refused lead feature block)
+refused_at (Refused lead feature block) e = (lead, feature, block, refl)
+refused_at _ e = absurd (omega arith)
+
+no_image_at : (o : Outcome) → status_of o ≡ 8 → o ≡ NoImage
+no_image_at NoImage e = refl
+no_image_at _ e = absurd (omega arith)
+
+-- a run that ended with another status than 4 has that of its outcome, whose text and line were written
+whole_at : (result status : ℕ) (o : Outcome) (out err : Sunk) → Ends result o out err → result ≡ status → (status ≡ 4 → ⊥) → (status_of o ≡ status) × BothWrote out err o
+whole_at result status o out err ends e other =
+    elim ends.said [ inl has ↦ (sym has.status_is ∙ e, (ends.text, has.put)) | inr lacks ↦ absurd (other (sym e ∙ lacks.status_is)) ]
+
+-- the outcome of a run, by its status
+row : {S : Type 0} (bytes : S → Option (List ℕ)) (faults : S → ℕ) (command : Option Asked) (old new : Opened S) (result status : ℕ) (out err : Sunk) →
+    (status ≡ 4 → ⊥) → Answered bytes faults command old new result out err → result ≡ status →
+    (o : Outcome) × (status_of o ≡ status) × Says bytes faults command old new out o × BothWrote out err o
+row bytes faults command old new result status out err other (o, says, ends) e =
+    let whole = whole_at result status o out err ends e other in
+    (o, whole.0, says, whole.1)
+
+-- what an outcome says and has written
+abbrev pub SaysAndWrote : {S : Type 0} → (S → Option (List ℕ)) → (S → ℕ) → Option Asked → Opened S → Opened S → Sunk → Sunk → Outcome → Type 0
+SaysAndWrote bytes faults command old new out err o = Says bytes faults command old new out o × BothWrote out err o
+
+pub text_row : {S : Type 0} (bytes : S → Option (List ℕ)) (faults : S → ℕ) (command : Option Asked) (old new : Opened S) (result : ℕ) (out err : Sunk) →
+    Answered bytes faults command old new result out err → result ≡ 0 → HasText bytes command old out err
+text_row {S} bytes faults command old new result out err a e =
+    let at = row bytes faults command old new result 0 out err (λ h. omega arith) a e in
+    let o = written_at at.0 at.1 in
+    let P : Outcome → Type 0 = λ x. SaysAndWrote bytes faults command old new out err x in
+    let both = subst P o.1 (at.2, at.3) in
+    (o.0, both.0, both.1)
+
+pub fault_row : {S : Type 0} (bytes : S → Option (List ℕ)) (faults : S → ℕ) (command : Option Asked) (old new : Opened S) (result : ℕ) (out err : Sunk) →
+    Answered bytes faults command old new result out err → result ≡ 1 → NamesFault bytes command old out err
+fault_row {S} bytes faults command old new result out err a e =
+    let at = row bytes faults command old new result 1 out err (λ h. omega arith) a e in
+    let o = faulty_at at.0 at.1 in
+    let P : Outcome → Type 0 = λ x. SaysAndWrote bytes faults command old new out err x in
+    let both = subst P o.2 (at.2, at.3) in
+    (o.0, o.1, both.0, both.1)
+
+pub usage_row : {S : Type 0} (bytes : S → Option (List ℕ)) (faults : S → ℕ) (command : Option Asked) (old new : Opened S) (result : ℕ) (out err : Sunk) →
+    Answered bytes faults command old new result out err → result ≡ 2 → (command ≡ None) × BothWrote out err Usage
+usage_row {S} bytes faults command old new result out err a e =
+    let at = row bytes faults command old new result 2 out err (λ h. omega arith) a e in
+    let P : Outcome → Type 0 = λ x. SaysAndWrote bytes faults command old new out err x in
+    subst P (usage_at at.0 at.1) (at.2, at.3)
+
+pub read_failed_row : {S : Type 0} (bytes : S → Option (List ℕ)) (faults : S → ℕ) (command : Option Asked) (old new : Opened S) (result : ℕ) (out err : Sunk) →
+    Answered bytes faults command old new result out err → result ≡ 3 → SaysReadFailed bytes faults command old new out err
+read_failed_row {S} bytes faults command old new result out err a e =
+    let at = row bytes faults command old new result 3 out err (λ h. omega arith) a e in
+    let o = read_failed_at at.0 at.1 in
+    let P : Outcome → Type 0 = λ x. SaysAndWrote bytes faults command old new out err x in
+    let both = subst P o.1 (at.2, at.3) in
+    (o.0, both.0.0, both.0.1, both.1)
+
+pub out_of_memory_row : {S : Type 0} (bytes : S → Option (List ℕ)) (faults : S → ℕ) (command : Option Asked) (old new : Opened S) (result : ℕ) (out err : Sunk) →
+    Answered bytes faults command old new result out err → result ≡ 5 → SaysOutOfMemory bytes command old out err
+out_of_memory_row {S} bytes faults command old new result out err a e =
+    let at = row bytes faults command old new result 5 out err (λ h. omega arith) a e in
+    let o = out_of_memory_at at.0 at.1 in
+    let P : Outcome → Type 0 = λ x. SaysAndWrote bytes faults command old new out err x in
+    let both = subst P o.1 (at.2, at.3) in
+    (o.0, both.0, both.1)
+
+pub feature_row : {S : Type 0} (bytes : S → Option (List ℕ)) (faults : S → ℕ) (command : Option Asked) (old new : Opened S) (result : ℕ) (out err : Sunk) →
+    Answered bytes faults command old new result out err → result ≡ 6 → NamesFeature bytes command old out err
+feature_row {S} bytes faults command old new result out err a e =
+    let at = row bytes faults command old new result 6 out err (λ h. omega arith) a e in
+    let o = refused_at at.0 at.1 in
+    let P : Outcome → Type 0 = λ x. SaysAndWrote bytes faults command old new out err x in
+    let both = subst P o.3 (at.2, at.3) in
+    (o.0, o.1, o.2, both.0, both.1)
+
+pub absent_row : {S : Type 0} (bytes : S → Option (List ℕ)) (faults : S → ℕ) (command : Option Asked) (old new : Opened S) (result : ℕ) (out err : Sunk) →
+    Answered bytes faults command old new result out err → result ≡ 8 → HasNoImage command old × BothWrote out err NoImage
+absent_row {S} bytes faults command old new result out err a e =
+    let at = row bytes faults command old new result 8 out err (λ h. omega arith) a e in
+    let P : Outcome → Type 0 = λ x. SaysAndWrote bytes faults command old new out err x in
+    subst P (no_image_at at.0 at.1) (at.2, at.3)
+
+-- an outcome of status 4 is that of a failed put on the first sink
+first_failed : {S : Type 0} (bytes : S → Option (List ℕ)) (faults : S → ℕ) (command : Option Asked) (old new : Opened S) (out : Sunk) (o : Outcome) →
+    status_of o ≡ 4 → Says bytes faults command old new out o → Failed out
+first_failed bytes faults command old new out (WriteFailed part) e says = says.0
+first_failed bytes faults command old new out _ e says = absurd (omega arith)
+
+pub write_failed_row : {S : Type 0} (bytes : S → Option (List ℕ)) (faults : S → ℕ) (command : Option Asked) (old new : Opened S) (result : ℕ) (out err : Sunk) →
+    Answered bytes faults command old new result out err → result ≡ 4 → HasFailedPut bytes command old out err
+write_failed_row bytes faults command old new result out err (o, says, ends) e =
+    (text_of o, part_of bytes faults command old new out o says, ends.text,
+    elim ends.said [ inl has ↦ inl (first_failed bytes faults command old new out o (sym has.status_is ∙ e) says) | inr lacks ↦ inr lacks.failed ])
+
+-- a run ends with the status of its outcome, or a put on the second sink failed
+ended_as : (result : ℕ) (o : Outcome) (out err : Sunk) → Ends result o out err → (result ≡ status_of o) ⊎ (result ≡ 4)
+ended_as result o out err ends = elim ends.said [ inl has ↦ inl has.status_is | inr lacks ↦ inr lacks.status_is ]
+
+-- the outcomes of wrong words
+wrong_words_status : {S : Type 0} (bytes : S → Option (List ℕ)) (faults : S → ℕ) (old new : Opened S) (out : Sunk) (o : Outcome) → Says bytes faults None old new out o →
+    (status_of o ≡ 2) ⊎ ((status_of o ≡ 4) ⊎ (status_of o ≡ 5))
+wrong_words_status bytes faults old new out (Written text) says = absurd says
+wrong_words_status bytes faults old new out (Faulty lead fault) says = absurd says
+wrong_words_status bytes faults old new out Usage says = inl refl
+wrong_words_status bytes faults old new out (ReadFailed part) says = absurd says.0
+wrong_words_status bytes faults old new out (WriteFailed part) says = inr (inl refl)
+wrong_words_status bytes faults old new out (OutOfMemory part) says = inr (inr refl)
+wrong_words_status bytes faults old new out (Refused lead feature block) says = absurd says
+wrong_words_status bytes faults old new out NoImage says = absurd says
+
+-- a source that isn't there doesn't fail
+lacking_not_failed : {S : Type 0} (faults : S → ℕ) (wanted : Bool) (old new : Opened S) → LacksImage wanted old → SourceFailed faults old new → ⊥
+lacking_not_failed faults true Absent new lacks failed = absurd failed
+lacking_not_failed faults true (Image source) new lacks failed = absurd lacks
+lacking_not_failed faults false old new lacks failed = absurd lacks
+
+-- the outcomes where no image was handed in
+no_image_status : {S : Type 0} (bytes : S → Option (List ℕ)) (faults : S → ℕ) (command : Asked) (old new : Opened S) (out : Sunk) (o : Outcome) → LacksImage (takes_image command) old →
+    Says bytes faults (Some command) old new out o → (status_of o ≡ 8) ⊎ ((status_of o ≡ 4) ⊎ (status_of o ≡ 5))
+no_image_status bytes faults command old new out (Written text) has says = absurd (says.0 has)
+no_image_status bytes faults command old new out (Faulty lead fault) has says = absurd (says.0 has)
+no_image_status bytes faults command old new out Usage has says = Prim.cc
+no_image_status bytes faults command old new out (ReadFailed part) has says = absurd (lacking_not_failed faults (takes_image command) old new has says.0)
+no_image_status bytes faults command old new out (WriteFailed part) has says = inr (inl refl)
+no_image_status bytes faults command old new out (OutOfMemory part) has says = inr (inr refl)
+no_image_status bytes faults command old new out (Refused lead feature block) has says = absurd (says.0 has)
+no_image_status bytes faults command old new out NoImage has says = inl refl
+
+-- an image that is given isn't lacking
+given_not_lacking : {S : Type 0} (bytes : S → Option (List ℕ)) (wanted : Bool) (opened : Opened S) (image : List ℕ) → IsGiven bytes wanted opened image → LacksImage wanted opened → ⊥
+given_not_lacking bytes true Absent image given lacks = absurd given
+given_not_lacking bytes true (Image source) image given lacks = absurd lacks
+given_not_lacking bytes false opened image given lacks = absurd lacks
+
+-- the outcomes where the command has a text of the image
+text_status : {S : Type 0} (bytes : S → Option (List ℕ)) (faults : S → ℕ) (command : Asked) (old new : Opened S) (out : Sunk) (o : Outcome) (image text : List ℕ) →
+    IsGiven bytes (takes_image command) old image → IsText command image text → Says bytes faults (Some command) old new out o → IsWholeOrFree (status_of o)
+text_status bytes faults command old new out (Written whole) image text given defined says = inl refl
+text_status bytes faults command old new out (Faulty lead fault) image text given defined says = absurd ((says.1 image given).none text defined)
+text_status bytes faults command old new out Usage image text given defined says = Prim.cc
+text_status bytes faults command old new out (ReadFailed part) image text given defined says = inr (inl refl)
+text_status bytes faults command old new out (WriteFailed part) image text given defined says = inr (inr (inl refl))
+text_status bytes faults command old new out (OutOfMemory part) image text given defined says = inr (inr (inr refl))
+text_status bytes faults command old new out (Refused lead feature block) image text given defined says = absurd ((says.1 image given).none text defined)
+text_status bytes faults command old new out NoImage image text given defined says = absurd (given_not_lacking bytes (takes_image command) old image given says)
+
+-- a status, or 4, or 5
+one_of : (result status at : ℕ) → (at ≡ status) ⊎ ((at ≡ 4) ⊎ (at ≡ 5)) → (result ≡ at) ⊎ (result ≡ 4) → (result ≡ status) ⊎ ((result ≡ 4) ⊎ (result ≡ 5))
+one_of result status at which (inr failed) = inr (inl failed)
+one_of result status at (inl s) (inl e) = inl (e ∙ s)
+one_of result status at (inr (inl w)) (inl e) = inr (inl (e ∙ w))
+one_of result status at (inr (inr m)) (inl e) = inr (inr (e ∙ m))
+
+pub wrong_words_row : {S : Type 0} (bytes : S → Option (List ℕ)) (faults : S → ℕ) (command : Option Asked) (old new : Opened S) (result : ℕ) (out err : Sunk) →
+    Answered bytes faults command old new result out err → IsExactly result 2 (command ≡ None)
+wrong_words_row {S} bytes faults command old new result out err a = record {
+  only = λ e. (usage_row bytes faults command old new result out err a e).0;
+  always = λ none.
+      let P : Option Asked → Type 0 = λ c. Says bytes faults c old new out a.0 in
+      one_of result 2 (status_of a.0) (wrong_words_status bytes faults old new out a.0 (subst P none a.1)) (ended_as result a.0 out err a.2);
+}
+
+no_image_always : {S : Type 0} (bytes : S → Option (List ℕ)) (faults : S → ℕ) (command : Option Asked) (old new : Opened S) (result : ℕ) (out err : Sunk) →
+    Answered bytes faults command old new result out err → HasNoImage command old → (result ≡ 8) ⊎ ((result ≡ 4) ⊎ (result ≡ 5))
+no_image_always bytes faults None old new result out err a has = absurd has
+no_image_always bytes faults (Some command) old new result out err (o, says, ends) has =
+    one_of result 8 (status_of o) (no_image_status bytes faults command old new out o has says) (ended_as result o out err ends)
+
+pub no_image_row : {S : Type 0} (bytes : S → Option (List ℕ)) (faults : S → ℕ) (command : Option Asked) (old new : Opened S) (result : ℕ) (out err : Sunk) →
+    Answered bytes faults command old new result out err → IsExactly result 8 (HasNoImage command old)
+no_image_row bytes faults command old new result out err a = record {
+  only = λ e. (absent_row bytes faults command old new result out err a e).0;
+  always = no_image_always bytes faults command old new result out err a;
+}
+
+-- the status of an outcome, or 4
+whole_or_free : (result at : ℕ) → IsWholeOrFree at → (result ≡ at) ⊎ (result ≡ 4) → IsWholeOrFree result
+whole_or_free result at which (inl e) = let P : ℕ → Type 0 = λ n. IsWholeOrFree n in subst P (sym e) which
+whole_or_free result at which (inr failed) = inr (inr (inl failed))
+
+pub whole_row : {S : Type 0} (bytes : S → Option (List ℕ)) (faults : S → ℕ) (command : Option Asked) (old new : Opened S) (result : ℕ) (out err : Sunk) →
+    Answered bytes faults command old new result out err → HasDefinedText bytes command old → IsWholeOrFree result
+whole_row {S} bytes faults command old new result out err (o, says, ends) has =
+    let P : Option Asked → Type 0 = λ c. Says bytes faults c old new out o in
+    whole_or_free result (status_of o) (text_status bytes faults has.command old new out o has.image has.text has.given has.defined (subst P has.words says)) (ended_as result o out err ends)

@@ -1,0 +1,21 @@
+-- The line of each stop, whatever was written before.
+use Rattle.std.proofs.Common.{inl}
+use Rattle.apfs_cli.specs.FaultTexts.{fault_text}
+use Rattle.apfs_cli.specs.Texts.{fault_line, unsupported_line}
+use Rattle.apfs_cli.proofs.say.say.Goals as goal
+
+pub returns-in-Faulty : goal.returns-in-Faulty
+returns-in-Faulty g c part = rw c.in-Faulty.is (c.put_built.ensures (fault_line (fault_text c.in-Faulty.fault)) c.fault_line.ensures)
+
+pub returns-in-Usage : goal.returns-in-Usage
+returns-in-Usage g c part = rw c.in-Usage.is (inl c.put_line.ensures)
+
+pub returns-in-ReadFailed : goal.returns-in-ReadFailed
+returns-in-ReadFailed g c part = rw c.in-ReadFailed.is (inl c.put_line-in-ReadFailed.ensures)
+
+pub returns-in-Refused : goal.returns-in-Refused
+returns-in-Refused g c part =
+    rw c.in-Refused.is (c.put_built-in-Refused.ensures (unsupported_line c.in-Refused.feature c.in-Refused.block) c.unsupported_line.ensures)
+
+pub returns-in-NoImage : goal.returns-in-NoImage
+returns-in-NoImage g c part = rw c.in-NoImage.is (inl c.put_line-in-NoImage.ensures)

@@ -1,0 +1,38 @@
+-- What each command takes, writes and names.
+use Rattle.std.specs.Prelude.{ℕ, Bool, true, List, []}
+use Rattle.obj_base.specs.declared.stop.Feature.{Feature}
+use Rattle.apfs_cli.specs.declared.fault.Fault.{Fault}
+use Rattle.apfs_cli.specs.Words.{Asked, Ring, Info, Volumes}
+use Rattle.apfs_cli.specs.Commands.Ring as ring
+use Rattle.apfs_cli.specs.Commands.Info as info
+use Rattle.apfs_cli.specs.Commands.Volumes as volumes
+
+-- whether a command takes an image
+abbrev pub takes_image : Asked → Bool
+takes_image Ring = true
+takes_image Info = true
+takes_image Volumes = true
+
+-- the text that a command writes of an image
+abbrev pub IsText : Asked → List ℕ → List ℕ → Type 0
+IsText Ring image text = ring.IsText image text
+IsText Info image text = info.IsText image text
+IsText Volumes image text = volumes.IsText image text
+
+-- what a command writes before it looks at an image
+abbrev pub lead_of : Asked → List ℕ
+lead_of Ring = []
+lead_of Info = []
+lead_of Volumes = []
+
+-- a fault that a command may name of an image: one that is there
+abbrev pub IsFault : Asked → List ℕ → Fault → Type 0
+IsFault Ring image fault = ring.IsFault image fault
+IsFault Info image fault = info.IsFault image fault
+IsFault Volumes image fault = volumes.IsFault image fault
+
+-- a feature, with its block, that a command may refuse of an image: one that is there, where no fault comes first
+abbrev pub IsFeature : Asked → List ℕ → Feature → ℕ → Type 0
+IsFeature Ring image feature block = ring.IsFeature image feature block
+IsFeature Info image feature block = info.IsFeature image feature block
+IsFeature Volumes image feature block = volumes.IsFeature image feature block

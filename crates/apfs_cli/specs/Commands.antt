@@ -1,0 +1,4 @@
+-- The commands.
+pub mod Ring
+pub mod Info
+pub mod Volumes

@@ -1,0 +1,42 @@
+// The command `ring`.
+ghost use Rattle.std.specs.Prelude.{◌≡◌, IfOk, Some};
+ghost use Rattle.std.specs.String.{string_bytes};
+ghost use Rattle.apfs_model.specs.Source.{IsKept};
+ghost use Rattle.apfs_cli.specs.Commands.Ring.{line_text};
+ghost use Rattle.apfs_cli.specs.Says.{HasEnded};
+ghost use Rattle.apfs_cli.specs.Words.{Ring};
+ghost use Rattle.apfs_cli.specs.Written.{sunk};
+ghost use Rattle.blk_source.specs.declared.source.Opened.TheVariants.{Image};
+
+use crate::put::{Line, put_lines};
+use crate::stopped::{Stopped, stopped_by};
+use blk_source::{BlockSource, Sink};
+use nx_ring::{RingLine, ring};
+use std::alloc::{AllocError, Global};
+
+/// A candidate's index, its block, its transaction, and the blocks of its checkpoint.
+impl Line for RingLine {
+    ghost text = { λ line. line_text line };
+
+    fn line(&self, alloc: Global) -> Result<Vec<u8>, AllocError> {
+        let index = self.index;
+        let block = self.block;
+        let xid = self.xid;
+        let from = self.desc_index;
+        let length = self.desc_len;
+        let line =
+            format!(in alloc; "{index} block {block} xid {xid} from {from} length {length}\n")?;
+        Ok(line.into_bytes())
+    }
+}
+
+/// Writes the candidates of the descriptor ring.
+pub fn write<S: BlockSource, W: Sink>(alloc: Global, src: &mut S, out: &mut W) -> Result<(), Stopped>
+    ensures answer { HasEnded S.bytes S.faults (Some Ring) (Image src.old) (Image src.new) result (sunk W.contents W.faults out.old out.new) }
+    ensures kept { IsKept S.bytes S.bytes_len S.faults src.old src.new }
+{
+    match ring(alloc, src) {
+        Ok(lines) => put_lines(alloc, lines.as_slice(), out),
+        Err(stop) => Err(stopped_by(stop, ())),
+    }
+}

@@ -1,0 +1,47 @@
+// Why a run stops before its text is whole.
+ghost use Rattle.std.specs.Prelude.{◌≡◌};
+ghost use Rattle.apfs_cli.specs.Raised as raised;
+ghost use Rattle.apfs_cli.specs.declared.stopped.Stopped.TheVariants as stops;
+
+use crate::fault::{Fault, Raise};
+use obj_base::{Feature, Stop};
+use std::alloc::AllocError;
+
+/// Why a run stops before its text is whole.
+#[derive(Clone, Copy, Debug)]
+pub enum Stopped {
+    /// A fault. Status 1.
+    Faulty(Fault),
+    /// The words are no line of the program. Status 2.
+    Usage,
+    /// A read of the image failed. Status 3.
+    ReadFailed,
+    /// A put of the text failed. Status 4.
+    WriteFailed,
+    /// Memory ran out. Status 5.
+    OutOfMemory,
+    /// A feature that is refused, and its block. Status 6.
+    Refused { feature: Feature, block: u64 },
+    /// No image was handed in. Status 8.
+    NoImage,
+}
+
+impl From<AllocError> for Stopped {
+    ghost from_gives = { λ _ e. e ≡ stops.OutOfMemory };
+
+    fn from(_: AllocError) -> Self {
+        Stopped::OutOfMemory
+    }
+}
+
+/// Why the run stops, where a layer does at this place.
+pub fn stopped_by<P: Copy, F: Raise<P> + Drop>(stop: Stop<F>, place: P) -> Stopped
+    ensures { result ≡ raised.stopped_at (F.raised place) stop }
+{
+    match stop {
+        Stop::Found(fault) => Stopped::Faulty(fault.raise(place)),
+        Stop::Unsupported { feature, block } => Stopped::Refused { feature, block },
+        Stop::ReadFault => Stopped::ReadFailed,
+        Stop::NoMemory => Stopped::OutOfMemory,
+    }
+}
