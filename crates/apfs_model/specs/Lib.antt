@@ -2,6 +2,7 @@ pub mod Counts
 pub mod Bytes
 pub mod Blocks
 pub mod Lists
+pub mod Apart
 pub mod Sum
 pub mod Object
 pub mod Source
