@@ -84,4 +84,5 @@ pub enum TreeFault {
     LinkTarget(IdAt),
     Stream(IdAt),
     AttrOwner(IdAt),
+    NameHash(NamedAt),
 }
