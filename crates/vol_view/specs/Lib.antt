@@ -2,3 +2,9 @@ pub mod Fields
 pub mod Heads
 pub mod Stops
 pub mod Slots
+pub mod SnapRecords
+pub mod Volumes
+pub mod Agreement
+pub mod Features
+pub mod LoadStops
+pub mod Views

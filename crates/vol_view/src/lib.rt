@@ -1,4 +1,4 @@
-//! The volumes of a container: what their superblocks tell.
+//! The volumes of a container, their snapshots and their views.
 #![tactic(auto)]
 
 mod head;
@@ -9,7 +9,9 @@ mod stop;
 mod superblock;
 #[cfg(test)]
 mod tests;
+mod volume;
 
 pub use head::VolHead;
 pub use slots::heads;
 pub use stop::VolStop;
+pub use volume::{Snapshot, View, Volume};
