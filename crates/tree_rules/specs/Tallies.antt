@@ -1,0 +1,16 @@
+-- What is told of a view that meets its rules.
+use Rattle.std.specs.Prelude.{◌≡◌, ℕ, List, length}
+use Rattle.apfs_model.specs.Counts.{given}
+use Rattle.obj_base.specs.declared.site.Site.{Site}
+use Rattle.vol_view.specs.Volumes.{Loaded}
+use Rattle.vol_view.specs.Views.{view_flat}
+use Rattle.vol_view.specs.declared.volume.View.{View}
+use Rattle.view_rules.specs.Rules.{view_facts}
+use Rattle.view_rules.specs.declared.profile.Profile.{Profile}
+use Rattle.tree_rules.specs.Notes.{notes_of}
+use Rattle.tree_rules.specs.declared.tallies.ViewTally.{ViewTally}
+
+-- these are the number of a view's records, as it is given, and its notes
+pub record IsTally (profile : Profile) (image : List ℕ) (site : Site) (volume : Loaded) (view : View) (tally : ViewTally) : Type 0 where
+  pub records : tally.records ≡ given (length (view_flat image site volume view))
+  pub notes : tally.notes.items ≡ notes_of profile view (view_facts image site volume view)

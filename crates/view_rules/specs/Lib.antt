@@ -1,0 +1,11 @@
+pub mod Words
+pub mod Facts
+pub mod Names
+pub mod Entries
+pub mod Directories
+pub mod Counts
+pub mod Siblings
+pub mod Extents
+pub mod Inodes
+pub mod Rules
+pub mod Laws
