@@ -1,0 +1,20 @@
+pub mod Chains
+pub mod Lives
+pub mod Equal
+pub mod Refutes
+pub mod Nexts
+pub mod Alive
+pub mod NamesDecided
+pub mod Places
+pub mod Sounds
+pub mod SpaceDecided
+pub mod SettledDecided
+pub mod Decided
+pub mod Ranges
+pub mod Composed
+pub mod SpaceLifted
+pub mod Walks
+pub mod Looks
+pub mod QueuesLifted
+pub mod TreesLifted
+mod Examples
