@@ -1,0 +1,14 @@
+pub mod Newest
+pub mod Named
+pub mod Told
+pub mod Loaded
+pub mod There
+pub mod Law
+pub mod Browsed
+pub mod MapsThere
+pub mod VolumesThere
+pub mod ExtentsThere
+pub mod Same
+pub mod Numbers
+pub mod Profiles
+pub mod NoteKinds

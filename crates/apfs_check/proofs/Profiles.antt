@@ -1,0 +1,202 @@
+-- Under Strict three kinds of note are faults, and all else is as under Plain.
+use Rattle.std.proofs.Common.{◌≡◌, ℕ, ℤ, Bool, false, cond, List, [], ◌∷◌, map, filter, inl, inr, refl, ap, ◌∙◌, subst}
+use Rattle.std.specs.Prelude.{◌↔◌}
+use Rattle.apfs_model.specs.Lists.{In}
+use Rattle.obj_base.specs.declared.site.Site.{Site}
+use Rattle.fs_record.specs.declared.fault.NamedAt.{NamedAt}
+use Rattle.nx_ring.specs.Checkpoint.{Seen, site_of}
+use Rattle.vol_view.specs.Heads.{heads_of}
+use Rattle.vol_view.specs.Views.{views_of}
+use Rattle.vol_view.specs.Volumes.{Loaded}
+use Rattle.vol_view.specs.declared.volume.View.{View}
+use Rattle.ext_ref.specs.declared.range.NewRange.{NewRange}
+use Rattle.apfs_check.specs.Laws.{HasNoStrictNotes}
+use Rattle.apfs_model.proofs.Tests.{test_or}
+use Rattle.apfs_model.proofs.Searches.{in-filter}
+use Rattle.view_rules.specs.Words.{IsClear}
+use Rattle.view_rules.specs.Facts.{Facts}
+use Rattle.view_rules.specs.Names.{HasNameHashes, has_other_name_hash}
+use Rattle.tree_rules.specs.Notes.{hash_note, hash_notes}
+use Rattle.view_rules.specs.Rules.{view_facts, HasTreeRules}
+use Rattle.view_rules.specs.declared.profile.Profile.{Profile}
+use Rattle.view_rules.specs.declared.profile.Profile.TheVariants.{Plain, Strict}
+use Rattle.apfs_check.specs.declared.fault.Fault.{Fault}
+use Rattle.apfs_check.specs.declared.fault.Fault.TheVariants.{BlockZero, Truncated, NoCheckpoint, Unsound, Unnamed, NamedTwice, OwnedTwice, Outside, UnusedMapping, Leaked, Missing, PoolLeaked, PoolMissing, SpaceGeometry, SpaceCab, SpaceCib, SpaceIndex, SpacePlace, SpaceFreeCount, SpaceFreeTotal, PoolCount, PoolIndex, PoolPlace, SnapRecord, SnapCount, SnapName, OmapSnaps, TreeOrder, TreeCounts, Order, Counts, TreeRecord, Record, DupName, Hash, NoParent, NoInode, KindMismatch, DirNames, Unreached, Children, Links, SiblingLost, ExtentOrder, ExtentPlace, ExtentUncovered, LinkTarget, Stream, AttrOwner, NameHash, DataUnreached, DataCount}
+use Rattle.apfs_check.specs.Volumes.{volume_of, volume_ranges}
+use Rattle.apfs_check.specs.Data.{unreached_in, miscounted_in}
+use Rattle.apfs_check.specs.Notes.{of_views, of_volumes, view_hash_notes, unreached_note, unreached_notes, count_note, count_notes}
+use Rattle.apfs_check.specs.Present.{IsPresent}
+use Rattle.apfs_check.specs.WellFormed.{IsWellFormed}
+use Rattle.apfs_model.proofs.Empty.{map-none, flat-none, none-flat}
+
+-- ---- lists
+none-clear : {X : Type 0} (test : X → Bool) (xs : List X) → filter test xs ≡ [] → IsClear test xs
+none-clear test xs e x h = elim (test_or (test x)) as (λ _. test x ≡ false) [
+  | inr f ↦ f
+  | inl t ↦ absurd (subst (λ ys. In x ys) e (in-filter test x xs h t))
+]
+
+clear-none : {X : Type 0} (test : X → Bool) (xs : List X) → IsClear test xs → filter test xs ≡ []
+clear-none test [] clear = refl
+clear-none test (x ∷ xs) clear = ap (λ b. cond b (x ∷ filter test xs) (filter test xs)) (clear x (inl refl)) ∙ clear-none test xs (λ y h. clear y (inr h))
+
+-- ---- a view
+-- a view without notes on hashes has all hashes right
+hashes-clear : (view : View) (facts : Facts) → hash_notes view facts ≡ [] → HasNameHashes facts
+hashes-clear view facts e = none-clear (has_other_name_hash facts) facts.entries (map-none (hash_note view) (filter (has_other_name_hash facts) facts.entries) e)
+
+clear-hashes : (view : View) (facts : Facts) → HasNameHashes facts → hash_notes view facts ≡ []
+clear-hashes view facts clear = ap (map (hash_note view)) (clear-none (has_other_name_hash facts) facts.entries clear)
+
+-- the rules of a view under another profile, where the hashes are right if it is Strict
+rules-under : (a b : Profile) (image : List ℕ) (site : Site) (volume : Loaded) (view : View) (ranges : List NewRange) → (b ≡ Strict → HasNameHashes (view_facts image site volume view)) → HasTreeRules a image site volume view ranges → HasTreeRules b image site volume view ranges
+rules-under a b image site volume view ranges hashes r = record {
+  walkable = r.walkable;
+  ordered = r.ordered;
+  counted = r.counted;
+  records = r.records;
+  facts = record {
+    entry_names = r.facts.entry_names;
+    attribute_names = r.facts.attribute_names;
+    ascii_hashes = r.facts.ascii_hashes;
+    parents = r.facts.parents;
+    files = r.facts.files;
+    root = r.facts.root;
+    kinds = r.facts.kinds;
+    directory_names = r.facts.directory_names;
+    root_name = r.facts.root_name;
+    ways = r.facts.ways;
+    children = r.facts.children;
+    links = r.facts.links;
+    entry_fellows = r.facts.entry_fellows;
+    link_fellows = r.facts.link_fellows;
+    map_fellows = r.facts.map_fellows;
+    marks = r.facts.marks;
+    extent_order = r.facts.extent_order;
+    extent_places = r.facts.extent_places;
+    cover = r.facts.cover;
+    targets = r.facts.targets;
+    stream_sizes = r.facts.stream_sizes;
+    body_sizes = r.facts.body_sizes;
+    owners = r.facts.owners;
+    name_hashes = hashes;
+  };
+}
+
+-- ---- a container
+-- what is well-formed under Strict is so under Plain
+pub strict-plain : (image : List ℕ) → IsWellFormed Strict image → IsWellFormed Plain image
+strict-plain image w = record {
+  seen = w.seen;
+  newest = w.newest;
+  right = record {
+    accounted = w.right.accounted;
+    volumes = λ head one. let v = w.right.volumes head one in record {
+      agreed = v.agreed;
+      views = λ view h. rules-under Strict Plain image (site_of w.seen) (volume_of image w.seen head) view (volume_ranges image (site_of w.seen) head) (λ e. absurd (cc)) (v.views view h);
+      ranges = λ e. absurd (cc);
+    };
+  };
+}
+
+-- what is well-formed under Strict has none of the three kinds of note
+pub strict-noteless : (image : List ℕ) (w : IsWellFormed Strict image) → HasNoStrictNotes image w.seen
+strict-noteless image w = record {
+  hashes = none-flat (of_views view_hash_notes image w.seen) (heads_of image w.seen) (λ head one.
+      none-flat (view_hash_notes image w.seen head) (views_of (volume_of image w.seen head) w.seen) (λ view h.
+      clear-hashes view (view_facts image (site_of w.seen) (volume_of image w.seen head) view) (((w.right.volumes head one).views view h).facts.name_hashes refl)));
+  unreached = none-flat (unreached_notes image w.seen) (heads_of image w.seen) (λ head one. ap (map (unreached_note head)) ((w.right.volumes head one).ranges refl).reached);
+  counts = none-flat (count_notes image w.seen) (heads_of image w.seen) (λ head one. ap (map (count_note image w.seen head)) ((w.right.volumes head one).ranges refl).counted);
+}
+
+-- what is well-formed under Plain and has none of them is so under Strict
+pub noteless-strict : (image : List ℕ) (w : IsWellFormed Plain image) → HasNoStrictNotes image w.seen → IsWellFormed Strict image
+noteless-strict image w n = record {
+  seen = w.seen;
+  newest = w.newest;
+  right = record {
+    accounted = w.right.accounted;
+    volumes = λ head one. let v = w.right.volumes head one in record {
+      agreed = v.agreed;
+      views = λ view h.
+          rules-under Plain Strict image (site_of w.seen) (volume_of image w.seen head) view (volume_ranges image (site_of w.seen) head)
+          (λ _. hashes-clear view (view_facts image (site_of w.seen) (volume_of image w.seen head) view)
+          (flat-none (view_hash_notes image w.seen head) (views_of (volume_of image w.seen head) w.seen) (flat-none (of_views view_hash_notes image w.seen) (heads_of image w.seen) n.hashes head one) view h)) (v.views view h);
+      ranges = λ _. record {
+        reached = map-none (unreached_note head) (unreached_in image w.seen head) (flat-none (unreached_notes image w.seen) (heads_of image w.seen) n.unreached head one);
+        counted = map-none (count_note image w.seen head) (miscounted_in image w.seen head) (flat-none (count_notes image w.seen) (heads_of image w.seen) n.counts head one);
+      };
+    };
+  };
+}
+
+-- well-formed under Strict is well-formed under Plain without such notes
+pub strict_plain : (image : List ℕ) → IsWellFormed Strict image ↔ ((w : IsWellFormed Plain image) × HasNoStrictNotes image w.seen)
+unfolding strict-plain
+strict_plain image = ((λ w. (strict-plain image w, strict-noteless image w)), (λ t. noteless-strict image t.0 t.1))
+
+-- ---- faults that count under Strict alone
+plain-hashes : (image : List ℕ) (at : NamedAt) → IsPresent Plain image (NameHash at) → ⊥
+plain-hashes image at p = let z : Plain ≡ Strict = p.fact.fact.1 in cc
+
+plain-runs : (image : List ℕ) (slot block length : ℕ) → IsPresent Plain image (DataUnreached slot block length) → ⊥
+plain-runs image slot block length p = let z : Plain ≡ Strict = p.fact.strict in cc
+
+plain-counts : (image : List ℕ) (slot block : ℕ) (stored : ℤ) (streams : ℕ) → IsPresent Plain image (DataCount slot block stored streams) → ⊥
+plain-counts image slot block stored streams p = let z : Plain ≡ Strict = p.fact.strict in cc
+
+-- ---- faults
+-- what is present under Plain is so under Strict
+pub present-strict : (image : List ℕ) (fault : Fault) → IsPresent Plain image fault → IsPresent Strict image fault
+present-strict image BlockZero p = p
+present-strict image (Truncated have need) p = p
+present-strict image NoCheckpoint p = p
+present-strict image (Unsound block why) p = p
+present-strict image (Unnamed within oid xid) p = p
+present-strict image (NamedTwice within oid xid) p = p
+present-strict image (OwnedTwice block) p = p
+present-strict image (Outside block) p = p
+present-strict image (UnusedMapping within oid xid) p = p
+present-strict image (Leaked block) p = p
+present-strict image (Missing block) p = p
+present-strict image (PoolLeaked block) p = p
+present-strict image (PoolMissing block) p = p
+present-strict image SpaceGeometry p = p
+present-strict image (SpaceCab i) p = p
+present-strict image (SpaceCib i) p = p
+present-strict image (SpaceIndex k) p = p
+present-strict image (SpacePlace block) p = p
+present-strict image (SpaceFreeCount k) p = p
+present-strict image SpaceFreeTotal p = p
+present-strict image PoolCount p = p
+present-strict image (PoolIndex i) p = p
+present-strict image (PoolPlace block) p = p
+present-strict image (SnapRecord slot) p = p
+present-strict image (SnapCount slot) p = p
+present-strict image (SnapName slot) p = p
+present-strict image (OmapSnaps slot) p = p
+present-strict image (TreeOrder root item) p = p
+present-strict image (TreeCounts root) p = p
+present-strict image (TreeRecord root item) p = p
+present-strict image (Order slot xid item) p = p
+present-strict image (Counts slot xid) p = p
+present-strict image (Record slot xid item why) p = p
+present-strict image (DupName at) p = p
+present-strict image (Hash at) p = p
+present-strict image (NoParent at) p = p
+present-strict image (NoInode slot xid id name) p = p
+present-strict image (KindMismatch at) p = p
+present-strict image (DirNames at) p = p
+present-strict image (Unreached at) p = p
+present-strict image (Children at) p = p
+present-strict image (Links at) p = p
+present-strict image (SiblingLost at) p = p
+present-strict image (ExtentOrder at) p = p
+present-strict image (ExtentPlace at) p = p
+present-strict image (ExtentUncovered at) p = p
+present-strict image (LinkTarget at) p = p
+present-strict image (Stream at) p = p
+present-strict image (AttrOwner at) p = p
+present-strict image (NameHash at) p = absurd (plain-hashes image at p)
+present-strict image (DataUnreached slot block length) p = absurd (plain-runs image slot block length p)
+present-strict image (DataCount slot block stored streams) p = absurd (plain-counts image slot block stored streams p)
