@@ -1,0 +1,286 @@
+-- Paths, listings and trees on small lists of facts.
+use Rattle.std.proofs.Common.{◌≡◌, ℕ, ◌*◌, true, false, List, [], ◌∷◌, Some, None, Result, Ok, Err, inr, refl, ap, ap₂, arith, cond, zero, suc}
+use Rattle.std.specs.Prelude.{codes, pos, ◌++◌, bytes_eq, nat_lt}
+use Rattle.std.specs.List.{list_all}
+use Rattle.std.specs.Str.{IsAscii}
+use Rattle.std.proofs.lemmas.Bool.{ltb-true}
+use Rattle.std.specs.Fmt.{digits}
+use Rattle.apfs_model.specs.Blocks.{block_of}
+use Rattle.fs_name.specs.Normal.{is_same_name}
+use Rattle.fs_name.specs.declared.naming.Names.TheVariants.{Exact, Folded}
+use Rattle.fs_name.proofs.NormalLemmas.{ascii_normal_form}
+use Rattle.fs_record.specs.Inodes.{Inode}
+use Rattle.fs_record.specs.Entries.{Entry}
+use Rattle.fs_record.specs.Attributes.{Body, Attribute}
+use Rattle.fs_record.specs.Attributes.Body.{Embedded, Streamed}
+use Rattle.fs_record.specs.Facts.{Fact}
+use Rattle.fs_record.specs.declared.extents.FileExt.{FileExt}
+use Rattle.file_extent.specs.Streams.{stream_bytes, byte_of, byte_in}
+use Rattle.view_rules.specs.Facts.{Facts}
+use Rattle.path_walk.specs.Paths.{components}
+use Rattle.path_walk.specs.Places.{Place, placed, root_name}
+use Rattle.path_walk.specs.Found.{entries_in, entry_named, found}
+use Rattle.path_walk.specs.Listing.{children, listing}
+use Rattle.path_walk.specs.Tree.{rows_under, rows_below, tree}
+use Rattle.path_walk.specs.Contents.{readable, contents}
+use Rattle.path_walk.specs.Attributes.{attributes_in, attribute_named, attributes, attribute}
+use Rattle.path_walk.specs.Texts.{kind_text, ls_text, tree_text, xattr_text}
+use Rattle.path_walk.specs.Met.{Spot, spot_in, number_named, taken, own, below, IsMetTwice}
+use Rattle.path_walk.specs.declared.answer.Answer.{Answer}
+use Rattle.path_walk.specs.declared.answer.Answer.TheVariants.{NotFound, NotDirectory, NotFile, Compressed, Dataless, NoAttribute}
+use Rattle.apfs_model.proofs.Tests.{left-true, right-true}
+
+-- ---- facts
+abbrev inode : ℕ → ℕ → ℕ → Fact Inode
+inode id kind flags = record { id = id; what = record { parent = 2; private_id = id; links = pos 1; bsd_flags = flags; mode = 4096 * kind; stream = None } }
+
+-- a file with a stream of a size, whose private id is another
+abbrev file : ℕ → ℕ → ℕ → ℕ → Fact Inode
+file id private size flags = record { id = id; what = record { parent = 2; private_id = private; links = pos 1; bsd_flags = flags; mode = 4096 * 8; stream = Some (record { size = size; allocated = 4096 }) } }
+
+abbrev entry : ℕ → List ℕ → ℕ → Fact Entry
+entry id name file_id = record { id = id; what = record { name = name; hash = 0; file_id = file_id; kind = 8; sibling = None } }
+
+abbrev held : ℕ → List ℕ → Body → Fact Attribute
+held id name body = record { id = id; what = record { name = name; body = body } }
+
+abbrev extent : ℕ → ℕ → ℕ → ℕ → Fact FileExt
+extent id logical len block = record { id = id; what = record { logical = logical; length = len; block = block } }
+
+-- the two directories and the two entries that each view has
+abbrev base_inodes : List (Fact Inode)
+base_inodes = inode 2 4 0 ∷ inode 3 4 0 ∷ []
+
+abbrev base_entries : List (Fact Entry)
+base_entries = entry 1 (codes "private-dir") 3 ∷ entry 1 (codes "root") 2 ∷ []
+
+abbrev view : List (Fact Inode) → List (Fact Entry) → List (Fact Attribute) → List (Fact FileExt) → Facts
+view inodes entries held_by extents = record { names = Exact; inodes = base_inodes ++ inodes; entries = base_entries ++ entries; attributes = held_by; links = []; siblings = []; extents = extents }
+
+abbrev files : List (Fact Inode) → List (Fact Entry) → Facts
+files inodes entries = view inodes entries [] []
+
+-- what a command writes
+abbrev written : {X : Type 0} → (X → List ℕ) → Result X Answer → Result (List ℕ) Answer
+written text (Ok x) = Ok (text x)
+written text (Err a) = Err a
+
+abbrev ls : Facts → List ℕ → Result (List ℕ) Answer
+ls facts path = written ls_text (listing facts path)
+
+abbrev tree_lines : Facts → List ℕ → Result (List ℕ) Answer
+tree_lines facts path = written tree_text (tree facts path)
+
+-- ---- paths
+split : components (codes "//a/./b..//") ≡ codes "a" ∷ codes "." ∷ codes "b.." ∷ []
+unfolding components
+split = refl
+
+unsplit : components [] ≡ []
+unfolding components
+unsplit = refl
+
+-- ---- listings
+-- two names that differ in their case, in another order than they are listed in
+abbrev cased : Facts
+cased = files (inode 16 8 0 ∷ inode 17 8 0 ∷ []) (entry 2 (codes "a") 16 ∷ entry 2 (codes "A") 17 ∷ [])
+
+small_a : ls cased (codes "/a") ≡ Ok (codes "- 16 0 a\n")
+unfolding components entries_in entry_named found children kind_text digits
+small_a = refl
+
+capital_a : ls cased (codes "/A") ≡ Ok (codes "- 17 0 A\n")
+unfolding components entries_in entry_named found children kind_text digits
+capital_a = refl
+
+both : ls cased (codes "/") ≡ Ok (codes "- 17 0 A\n- 16 0 a\n")
+unfolding components entries_in entry_named found children kind_text digits
+both = refl
+
+nothing_there : ls (files [] []) (codes "/") ≡ Ok []
+unfolding components entries_in entry_named found children kind_text digits
+nothing_there = refl
+
+-- one file, by an empty path and by its own; a name that isn't there; a file that is no directory
+abbrev hello : Facts
+hello = view (file 16 20 5 0 ∷ []) (entry 2 (codes "hello.txt") 16 ∷ []) [] (extent 20 0 8 1 ∷ [])
+
+by_nothing : ls hello [] ≡ Ok (codes "- 16 5 hello.txt\n")
+unfolding components entries_in entry_named found children kind_text digits
+by_nothing = refl
+
+by_itself : ls hello (codes "/hello.txt") ≡ Ok (codes "- 16 5 hello.txt\n")
+unfolding components entries_in entry_named found children kind_text digits
+by_itself = refl
+
+no_directory : ls hello (codes "/hello.txt/x") ≡ Err NotDirectory
+unfolding components entries_in entry_named found children kind_text digits
+no_directory = refl
+
+-- a shorter name comes before a longer one that begins with it; a byte, a slash and a backslash that are hidden
+shown : ls (files (inode 16 8 0 ∷ inode 17 8 0 ∷ inode 18 8 0 ∷ inode 19 12 0 ∷ []) (entry 2 (codes "ab") 16 ∷ entry 2 (codes "a") 17 ∷ entry 2 (97 ∷ 10 ∷ 98 ∷ []) 18 ∷ entry 2 (47 ∷ 92 ∷ []) 19 ∷ [])) (codes "/")
+    ≡ Ok (codes "s 19 0 \\x2f\\x5c\n- 17 0 a\n- 18 0 a\\x0ab\n- 16 0 ab\n")
+unfolding components entries_in entry_named found children kind_text digits
+shown = refl
+
+-- an entry whose name is a slash isn't shown as the root is
+slash_alone : ls (files (inode 16 8 0 ∷ []) (entry 2 (codes "/") 16 ∷ [])) (codes "/") ≡ Ok (codes "- 16 0 \\x2f\n")
+unfolding components entries_in entry_named found children kind_text digits
+slash_alone = refl
+
+-- entries of a reserved directory are neither followed nor listed; those of 3 are
+abbrev kept_apart : Facts
+kept_apart = files (inode 5 4 0 ∷ inode 16 8 0 ∷ []) (entry 2 (codes "five") 5 ∷ entry 2 (codes "three") 3 ∷ entry 3 (codes "x") 16 ∷ entry 5 (codes "x") 16 ∷ [])
+
+reserved : ls kept_apart (codes "/five") ≡ Ok []
+unfolding components entries_in entry_named found children kind_text digits
+reserved = refl
+
+reserved_entry : ls kept_apart (codes "/five/x") ≡ Err NotFound
+unfolding components entries_in entry_named found children kind_text digits
+reserved_entry = refl
+
+private : ls kept_apart (codes "/three") ≡ Ok (codes "- 16 0 x\n")
+unfolding components entries_in entry_named found children kind_text digits
+private = refl
+
+-- ---- trees
+abbrev nested : Facts
+nested = files (inode 16 4 0 ∷ inode 17 8 0 ∷ inode 18 8 0 ∷ []) (entry 2 (codes "e") 18 ∷ entry 2 (codes "d") 16 ∷ entry 16 (codes "f") 17 ∷ [])
+
+each_before_its_contents : tree_lines nested (codes "/") ≡ Ok (codes "d 16 0 d\n- 17 0 d/f\n- 18 0 e\n")
+unfolding components entries_in entry_named found children kind_text rows_under rows_below digits
+each_before_its_contents = refl
+
+from_inside : tree_lines nested (codes "/d") ≡ Ok (codes "- 17 0 f\n")
+unfolding components entries_in entry_named found children kind_text rows_under rows_below digits
+from_inside = refl
+
+of_a_file : tree_lines nested (codes "/d/f") ≡ Ok (codes "- 17 0 f\n")
+unfolding components entries_in entry_named found children kind_text rows_under rows_below digits
+of_a_file = refl
+
+-- 3 and 5 are shown and not entered; 3 is entered as the path's own
+shut : tree_lines kept_apart (codes "/") ≡ Ok (codes "d 5 0 five\nd 3 0 three\n")
+unfolding components entries_in entry_named found children kind_text rows_under rows_below digits
+shut = refl
+
+open_by_path : tree_lines kept_apart (codes "/three") ≡ Ok (codes "- 16 0 x\n")
+unfolding components entries_in entry_named found children kind_text rows_under rows_below digits
+open_by_path = refl
+
+reserved_tree : tree_lines kept_apart (codes "/five") ≡ Ok []
+unfolding components entries_in entry_named found children kind_text rows_under rows_below digits
+reserved_tree = refl
+
+-- a directory that is in itself: its rows end, and it is met twice
+abbrev ring : Facts
+ring = files (inode 16 4 0 ∷ []) (entry 2 (codes "d") 16 ∷ entry 16 (codes "d") 16 ∷ [])
+
+ring_ends : tree_lines ring (codes "/") ≡ Ok (codes "d 16 0 d\nd 16 0 d/d\nd 16 0 d/d/d\nd 16 0 d/d/d/d\n")
+unfolding components entries_in entry_named found children kind_text rows_under rows_below digits
+ring_ends = refl
+
+-- the second component takes the entry of the directory in itself
+taken_twice : taken ring (codes "/d/d") ≡ spot_in 2 0 ∷ spot_in 16 0 ∷ []
+unfolding components entries_in entry_named taken number_named
+taken_twice = refl
+
+-- both entries name 16: in the root, and in the directory itself
+ring_root : Place
+ring_root = placed 2 root_name (inode 2 4 0).what
+
+met_twice : IsMetTwice ring (codes "/") 16
+unfolding components entries_in entry_named found ring_root
+met_twice = record {
+  one = spot_in 2 0;
+  other = spot_in 16 0;
+  different = λ e. let q : 2 ≡ 16 = ap (λ (s : Spot). s.id) e in absurd (omega arith);
+  one_met = inr (record { place = ring_root; found_there = refl; directory = refl; entered = own });
+  other_met = inr (record { place = ring_root; found_there = refl; directory = refl; entered = below (spot_in 2 0) 16 own (record { entry = (entry 2 (codes "d") 16).what; there = refl; names = refl }) refl });
+  one_names = record { entry = (entry 2 (codes "d") 16).what; there = refl; names = refl };
+  other_names = record { entry = (entry 16 (codes "d") 16).what; there = refl; names = refl };
+  directory = refl;
+}
+
+-- ---- names
+ascii-by : (bs : List ℕ) → list_all (λ b. nat_lt b 128) bs ≡ true → IsAscii bs
+ascii-by [] e zero = omega arith
+ascii-by [] e (suc i) = omega arith
+ascii-by (b ∷ bs) e zero = ltb-true b 128 (left-true (nat_lt b 128) (list_all (λ b. nat_lt b 128) bs) e)
+ascii-by (b ∷ bs) e (suc i) = ascii-by bs (right-true (nat_lt b 128) (list_all (λ b. nat_lt b 128) bs) e) i
+
+-- names that differ in their case alone are the same where case is folded, and others aren't
+read_me : is_same_name Folded (codes "ReadMe") (codes "README") ≡ true
+unfolding is_same_name
+read_me = ap₂ bytes_eq (ascii_normal_form Folded (codes "ReadMe") (ascii-by (codes "ReadMe") refl)) (ascii_normal_form Folded (codes "README") (ascii-by (codes "README") refl))
+
+read_us : is_same_name Folded (codes "ReadUs") (codes "README") ≡ false
+unfolding is_same_name
+read_us = ap₂ bytes_eq (ascii_normal_form Folded (codes "ReadUs") (ascii-by (codes "ReadUs") refl)) (ascii_normal_form Folded (codes "README") (ascii-by (codes "README") refl))
+
+-- the first of the same normal form is taken, where none has the same bytes
+by_form : let us : Entry = (entry 2 (codes "ReadUs") 17).what in let me : Entry = (entry 2 (codes "ReadMe") 16).what in entry_named Folded (codes "README") (us ∷ me ∷ []) ≡ Some me
+unfolding entry_named
+by_form = let us : Entry = (entry 2 (codes "ReadUs") 17).what in let me : Entry = (entry 2 (codes "ReadMe") 16).what in
+    ap₂ (λ b c. cond b (Some us) (cond c (Some me) None)) read_us read_me
+
+-- ---- contents, of an image with blocks of 4 bytes
+abbrev image : List ℕ
+image = 0 ∷ 0 ∷ 0 ∷ 0 ∷ codes "hello..."
+
+read : contents 4 image hello (codes "/hello.txt") ≡ Ok (codes "hello")
+unfolding components entries_in entry_named found readable stream_bytes byte_of byte_in block_of
+read = refl
+
+root_is_no_file : contents 4 image hello (codes "/") ≡ Err NotFile
+unfolding components entries_in entry_named found readable
+root_is_no_file = refl
+
+abbrev flagged : ℕ → ℕ → Facts
+flagged kind flags = files (inode 16 kind flags ∷ []) (entry 2 (codes "f") 16 ∷ [])
+
+no_stream : contents 4 image (flagged 8 0) (codes "f") ≡ Ok []
+unfolding components entries_in entry_named found readable
+no_stream = refl
+
+compressed_first : contents 4 image (flagged 8 0x40000020) (codes "f") ≡ Err Compressed
+unfolding components entries_in entry_named found readable
+compressed_first = refl
+
+dataless : contents 4 image (flagged 8 0x40000000) (codes "f") ≡ Err Dataless
+unfolding components entries_in entry_named found readable
+dataless = refl
+
+not_file_first : contents 4 image (flagged 10 0x40000020) (codes "f") ≡ Err NotFile
+unfolding components entries_in entry_named found readable
+not_file_first = refl
+
+-- ---- attributes
+abbrev link : Facts
+link = view (inode 16 10 0 ∷ []) (entry 2 (codes "l") 16 ∷ [])
+    (held 16 (codes "com.apple.fs.symlink") (Embedded (codes "hello" ++ 0 ∷ [])) ∷ held 16 (codes "b") (Streamed 20 3) ∷ held 17 (codes "x") (Embedded []) ∷ []) (extent 20 0 4 1 ∷ [])
+
+lengths : written xattr_text (attributes link (codes "/l")) ≡ Ok (codes "3 b\n6 com.apple.fs.symlink\n")
+unfolding components entries_in entry_named found attributes_in digits
+lengths = refl
+
+embedded : attribute 4 image link (codes "/l") (codes "com.apple.fs.symlink") ≡ Ok (codes "hello" ++ 0 ∷ [])
+unfolding components entries_in entry_named found attribute_named
+embedded = refl
+
+streamed : attribute 4 image link (codes "/l") (codes "b") ≡ Ok (codes "hel")
+unfolding components entries_in entry_named found attribute_named stream_bytes byte_of byte_in block_of
+streamed = refl
+
+of_another_file : attribute 4 image link (codes "/l") (codes "x") ≡ Err NoAttribute
+unfolding components entries_in entry_named found attribute_named
+of_another_file = refl
+
+link_is_no_file : contents 4 image link (codes "/l") ≡ Err NotFile
+unfolding components entries_in entry_named found readable
+link_is_no_file = refl
+
+link_line : ls link (codes "/l") ≡ Ok (codes "l 16 0 l\n")
+unfolding components entries_in entry_named found children kind_text digits
+link_line = refl

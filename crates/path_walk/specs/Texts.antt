@@ -1,0 +1,47 @@
+-- What the commands `ls`, `tree` and `xattr` write.
+use Rattle.std.specs.Prelude.{ℕ, ◌++◌, ◌==◌, List, codes, if◌then◌else◌}
+use Rattle.std.specs.Fmt.{decimal}
+use Rattle.std.specs.List.{flat_map}
+use Rattle.fs_name.specs.Shown.{shown_name}
+use Rattle.path_walk.specs.Shown.{shown_at}
+use Rattle.path_walk.specs.declared.target.Target.{Target}
+
+-- the letter of a kind of inode (File Modes): directories, regular files, symbolic links, pipes, devices of characters and of blocks, sockets, whiteouts, and others
+unfoldable pub kind_text : ℕ → List ℕ
+kind_text kind =
+    if kind == 4 then codes "d" else
+    if kind == 8 then codes "-" else
+    if kind == 10 then codes "l" else
+    if kind == 1 then codes "p" else
+    if kind == 2 then codes "c" else
+    if kind == 6 then codes "b" else
+    if kind == 12 then codes "s" else
+    if kind == 14 then codes "w" else codes "?"
+
+-- a line: a kind, an id, a size, and a shown name or path
+abbrev pub line_text : Target → List ℕ → List ℕ
+line_text target shown = kind_text target.kind ++ (codes " " ++ (decimal target.id ++ (codes " " ++ (decimal target.size ++ (codes " " ++ (shown ++ codes "\n"))))))
+
+-- the line of a target
+abbrev pub target_text : Target → List ℕ
+target_text target = line_text target (shown_at target.id target.name)
+
+-- `ls`: a line for each target
+abbrev pub ls_text : List Target → List ℕ
+ls_text targets = flat_map target_text targets
+
+-- the line of a row: the shown path in the name's place
+abbrev pub row_text : List ℕ × Target → List ℕ
+row_text row = line_text row.1 row.0
+
+-- `tree`: a line for each row
+abbrev pub tree_text : List (List ℕ × Target) → List ℕ
+tree_text rows = flat_map row_text rows
+
+-- the line of an attribute: how many bytes it holds, and its shown name
+abbrev pub attribute_text : List ℕ × ℕ → List ℕ
+attribute_text a = decimal a.1 ++ (codes " " ++ (shown_name a.0 ++ codes "\n"))
+
+-- `xattr` without a name: a line for each attribute
+abbrev pub xattr_text : List (List ℕ × ℕ) → List ℕ
+xattr_text attributes = flat_map attribute_text attributes
