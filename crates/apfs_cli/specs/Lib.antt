@@ -6,6 +6,8 @@ pub mod FaultTexts
 pub mod Checkpoints
 pub mod Commands
 pub mod ByCommand
+pub mod CheckFaults
+pub mod ReportText
 pub mod Outcome
 pub mod Written
 pub mod Seen
