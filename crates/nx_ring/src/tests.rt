@@ -1,73 +1,110 @@
-// Small rings of checkpoints. The container has 32 blocks: descriptors in blocks 1 to 8, data in blocks 9 to 12.
-use crate::{RingLine, newest, ring};
+// Small rings of checkpoints at three block sizes. The container has 32 blocks: descriptors in blocks 1 to 8, data in
+// blocks 9 to 12.
+use crate::{Checkpoint, RingFault, RingLine, newest, ring};
 use blk_source::MemSource;
-use obj_base::sum64;
+use obj_base::{Feature, Stop, sum64};
 use std::alloc::{AllocError, Global};
 use std::test::Fail;
 
-fn put(block: &mut [u8], at: usize, bytes: &[u8]) {
+// The types of a superblock, of a map, and of a space manager.
+const SUPERBLOCK: u32 = 0x8000_0001;
+
+const MAP: u32 = 0x4000_000c;
+
+const MANAGER: u32 = 0x8000_0005;
+
+// Puts bytes at a place, as far as there is room.
+fn put(into: &mut [u8], at: usize, bytes: &[u8]) {
     for (i, byte) in bytes.iter().enumerate() {
-        if let Some(place) = block.get_mut(at.saturating_add(i)) {
+        if let Some(place) = into.get_mut(at.saturating_add(i)) {
             *place = *byte;
         }
     }
 }
 
-// A block with a header, whose sum is stored.
-fn sealed(mut block: [u8; 4096], oid: u64, xid: u64, word: u32) -> [u8; 4096] {
-    put(&mut block, 8, &oid.to_le_bytes());
-    put(&mut block, 16, &xid.to_le_bytes());
-    put(&mut block, 24, &word.to_le_bytes());
-    let sum = sum64(&block);
-    put(&mut block, 0, &sum.to_le_bytes());
-    block
+// A block in the making.
+#[derive(Drop)]
+struct Block {
+    bytes: Vec<u8>,
 }
 
-fn superblock(xid: u64, desc_index: u32, desc_len: u32) -> [u8; 4096] {
-    let mut block = [0u8; 4096];
-    put(&mut block, 32, b"NXSB");
-    put(&mut block, 36, &4096u32.to_le_bytes());
-    put(&mut block, 40, &32u64.to_le_bytes());
-    put(&mut block, 64, &2u64.to_le_bytes());
-    put(&mut block, 104, &8u32.to_le_bytes());
-    put(&mut block, 108, &4u32.to_le_bytes());
-    put(&mut block, 112, &1u64.to_le_bytes());
-    put(&mut block, 120, &9u64.to_le_bytes());
-    put(&mut block, 136, &desc_index.to_le_bytes());
-    put(&mut block, 140, &desc_len.to_le_bytes());
-    sealed(block, 1, xid, 0x8000_0001)
-}
+impl Block {
+    fn new(alloc: Global, size: usize) -> Result<Block, AllocError> {
+        Ok(Block {
+            bytes: vec![in alloc; 0u8; size]?,
+        })
+    }
 
-// A map in a block with one mapping.
-fn map(at: u64, xid: u64, size: u32, oid: u64, paddr: u64) -> [u8; 4096] {
-    let mut block = [0u8; 4096];
-    put(&mut block, 36, &1u32.to_le_bytes());
-    put(&mut block, 40, &0x8000_0005u32.to_le_bytes());
-    put(&mut block, 48, &size.to_le_bytes());
-    put(&mut block, 64, &oid.to_le_bytes());
-    put(&mut block, 72, &paddr.to_le_bytes());
-    sealed(block, at, xid, 0x4000_000c)
-}
+    fn put32(&mut self, at: usize, number: u32) {
+        put(&mut self.bytes, at, &number.to_le_bytes());
+    }
 
-fn object(oid: u64, xid: u64) -> [u8; 4096] {
-    sealed([0u8; 4096], oid, xid, 0x8000_0005)
-}
+    fn put64(&mut self, at: usize, number: u64) {
+        put(&mut self.bytes, at, &number.to_le_bytes());
+    }
 
-// An object of two blocks, the first in block 12 and the second in block 9.
-fn put_long_object(image: &mut [u8], oid: u64, xid: u64, tail: &[u8]) {
-    let mut bytes = [0u8; 8192];
-    put(&mut bytes, 8, &oid.to_le_bytes());
-    put(&mut bytes, 16, &xid.to_le_bytes());
-    put(&mut bytes, 24, &0x8000_0005u32.to_le_bytes());
-    put(&mut bytes, 4096, tail);
-    let sum = sum64(&bytes);
-    put(&mut bytes, 0, &sum.to_le_bytes());
-    for (i, byte) in bytes.iter().enumerate() {
-        let at: usize = if i < 4096 { 12 * 4096 } else { 8 * 4096 };
-        if let Some(place) = image.get_mut(at.saturating_add(i)) {
-            *place = *byte;
+    // Gives it a header, and stores its sum.
+    fn seal(&mut self, oid: u64, xid: u64, word: u32) {
+        self.put64(8, oid);
+        self.put64(16, xid);
+        self.put32(24, word);
+        if self.bytes.len() >= 12 && self.bytes.len() % 4 == 0 {
+            let sum = sum64(&self.bytes);
+            self.put64(0, sum);
         }
     }
+}
+
+// A superblock that gives `stored` as the block size and `apart` with the number of descriptors.
+fn zero(alloc: Global, size: usize, stored: u32, apart: u32) -> Result<Block, AllocError> {
+    superblock(alloc, size, stored, apart, (1, 0, 2))
+}
+
+// A superblock of a transaction, with the index and the number of its checkpoint's descriptors.
+fn superblock(
+    alloc: Global,
+    size: usize,
+    stored: u32,
+    apart: u32,
+    checkpoint: (u64, u32, u32),
+) -> Result<Block, AllocError> {
+    let mut block = Block::new(alloc, size)?;
+    put(&mut block.bytes, 32, b"NXSB");
+    block.put32(36, stored);
+    block.put64(40, 32);
+    block.put64(64, 2);
+    block.put32(104, 8 | apart);
+    block.put32(108, 4);
+    block.put64(112, 1);
+    block.put64(120, 9);
+    block.put32(136, checkpoint.1);
+    block.put32(140, checkpoint.2);
+    block.seal(1, checkpoint.0, SUPERBLOCK);
+    Ok(block)
+}
+
+// A map in a block with one mapping: its size, its oid and its first block.
+fn map(
+    alloc: Global,
+    size: usize,
+    at: u64,
+    xid: u64,
+    mapping: (u32, u64, u64),
+) -> Result<Block, AllocError> {
+    let mut block = Block::new(alloc, size)?;
+    block.put32(36, 1);
+    block.put32(40, MANAGER);
+    block.put32(48, mapping.0);
+    block.put64(64, mapping.1);
+    block.put64(72, mapping.2);
+    block.seal(at, xid, MAP);
+    Ok(block)
+}
+
+fn object(alloc: Global, size: usize, oid: u64, xid: u64) -> Result<Block, AllocError> {
+    let mut block = Block::new(alloc, size)?;
+    block.seal(oid, xid, MANAGER);
+    Ok(block)
 }
 
 // How the second checkpoint is broken.
@@ -84,44 +121,96 @@ enum Broken {
     Xid,
 }
 
-// Two checkpoints: of transaction 1 with one map, and of transaction 2 with two maps and an object that wraps.
-fn image(alloc: Global, broken: Broken) -> Result<Vec<u8>, AllocError> {
-    let mut image = vec![in alloc; 0u8; 131072]?;
-    put(&mut image, 0, &superblock(1, 0, 2));
-    put(&mut image, 4096, &map(1, 1, 4096, 1024, 10));
-    put(&mut image, 8192, &superblock(1, 0, 2));
-    put(&mut image, 40960, &object(1024, 1));
-    let size = if broken == Broken::Size { 8191 } else { 8192 };
-    let paddr = match broken {
-        Broken::Place => 13,
-        Broken::Shared => 9,
-        _ => 11,
-    };
-    let second = if broken == Broken::Twice { 1024 } else { 1025 };
-    let there = if broken == Broken::Oid { 7 } else { second };
-    let xid = if broken == Broken::Xid { 3 } else { 2 };
-    let begin = if broken == Broken::End { 3 } else { 2 };
-    put(&mut image, 12288, &map(3, 2, size, 1024, 12));
-    put(&mut image, 16384, &map(4, 2, 4096, second, paddr));
-    put(&mut image, 20480, &superblock(2, begin, 3));
-    // Where the two share a block, the second half of the first object is the second object whole.
-    if broken == Broken::Shared {
-        put_long_object(&mut image, 1024, 2, &object(1025, 2));
-    } else {
-        put_long_object(&mut image, 1024, 2, b"wrapped");
+// An image in the making.
+#[derive(Drop)]
+struct Image {
+    bytes: Vec<u8>,
+    // The bytes of a block.
+    size: u32,
+}
+
+impl Image {
+    fn put(&mut self, block: usize, bytes: &[u8]) {
+        put(
+            &mut self.bytes,
+            (self.size as usize).saturating_mul(block),
+            bytes,
+        );
     }
-    put(&mut image, 45056, &object(there, xid));
+
+    // A checkpoint of transaction 1, with one map.
+    fn first(&mut self, alloc: Global) -> Result<(), AllocError> {
+        let stored = self.size;
+        let size = stored as usize;
+        self.put(0, &zero(alloc, size, stored, 0)?.bytes);
+        self.put(1, &map(alloc, size, 1, 1, (stored, 1024, 10))?.bytes);
+        self.put(2, &zero(alloc, size, stored, 0)?.bytes);
+        self.put(10, &object(alloc, size, 1024, 1)?.bytes);
+        Ok(())
+    }
+
+    // A checkpoint of transaction 2, with two maps.
+    fn second(&mut self, alloc: Global, broken: Broken) -> Result<(), AllocError> {
+        let stored = self.size;
+        let size = stored as usize;
+        let long = stored.saturating_mul(2);
+        let long = if broken == Broken::Size {
+            long.saturating_sub(1)
+        } else {
+            long
+        };
+        let paddr = match broken {
+            Broken::Place => 13,
+            Broken::Shared => 9,
+            _ => 11,
+        };
+        let oid = if broken == Broken::Twice { 1024 } else { 1025 };
+        let start = if broken == Broken::End { 3 } else { 2 };
+        self.put(3, &map(alloc, size, 3, 2, (long, 1024, 12))?.bytes);
+        self.put(4, &map(alloc, size, 4, 2, (stored, oid, paddr))?.bytes);
+        self.put(5, &superblock(alloc, size, stored, 0, (2, start, 3))?.bytes);
+        let there = if broken == Broken::Oid { 7 } else { oid };
+        let xid = if broken == Broken::Xid { 3 } else { 2 };
+        self.put(11, &object(alloc, size, there, xid)?.bytes);
+        self.long_object(alloc, broken)
+    }
+
+    // An object of two blocks, the first in block 12 and the second in block 9. Where two mappings share a block, the
+    // second half is an object of its own.
+    fn long_object(&mut self, alloc: Global, broken: Broken) -> Result<(), AllocError> {
+        let size = self.size as usize;
+        let mut both = Block::new(alloc, size.saturating_mul(2))?;
+        if broken == Broken::Shared {
+            put(&mut both.bytes, size, &object(alloc, size, 1025, 2)?.bytes);
+        } else {
+            put(&mut both.bytes, size, b"wrapped");
+        }
+        both.seal(1024, 2, MANAGER);
+        self.put(12, both.bytes.get(..size).unwrap_or(&[]));
+        self.put(9, both.bytes.get(size..).unwrap_or(&[]));
+        Ok(())
+    }
+}
+
+fn rings(alloc: Global, size: u32, broken: Broken) -> Result<Image, AllocError> {
+    let bytes = vec![in alloc; 0u8; (size as usize).saturating_mul(32)]?;
+    let mut image = Image { bytes, size };
+    image.first(alloc)?;
+    image.second(alloc, broken)?;
     if broken == Broken::MapSum {
-        put(&mut image, 12288 + 4000, b"x");
+        image.put(3, b"x");
     }
     Ok(image)
 }
 
+// The newest checkpoint of an image.
+fn newest_of(alloc: Global, image: Vec<u8>) -> Result<Checkpoint, Stop<RingFault>> {
+    newest(alloc, &mut MemSource::new(image, Vec::new(alloc)))
+}
+
 #[test]
-fn lists_candidates(rt: HostRuntime) -> Result<(), Fail> {
+fn lists_candidates_in_the_fewest_reads(rt: HostRuntime) -> Result<(), Fail> {
     let alloc = rt.alloc();
-    let mut source = MemSource::new(image(alloc, Broken::Nothing)?, Vec::new(alloc));
-    let lines = ring(alloc, &mut source).map_err(|_| "stopped")?;
     let wanted = [
         RingLine {
             index: 1,
@@ -138,29 +227,42 @@ fn lists_candidates(rt: HostRuntime) -> Result<(), Fail> {
             desc_len: 3,
         },
     ];
-    assert_eq!(rt; lines.as_slice(), wanted.as_slice());
-    assert_eq!(rt; source.read_count(), 9);
+    for (size, reads) in [(4096u32, 9u64), (16384, 10), (65536, 10)] {
+        let image = rings(alloc, size, Broken::Nothing)?;
+        let mut source = MemSource::new(image.bytes, Vec::new(alloc));
+        let lines = ring(alloc, &mut source).map_err(|_| "stopped")?;
+        assert_eq!(rt; lines.as_slice(), wanted.as_slice(), "{size}");
+        assert_eq!(rt; source.read_count(), reads, "{size}");
+    }
     Ok(())
 }
 
 #[test]
 fn takes_the_newest(rt: HostRuntime) -> Result<(), Fail> {
     let alloc = rt.alloc();
-    let mut source = MemSource::new(image(alloc, Broken::Nothing)?, Vec::new(alloc));
-    let checkpoint = newest(alloc, &mut source).map_err(|_| "stopped")?;
-    assert_eq!(rt; checkpoint.xid(), 2);
-    assert_eq!(rt; checkpoint.block(), 5);
-    assert_eq!(rt; checkpoint.index(), 4);
-    assert_eq!(rt; checkpoint.maps(), 2);
-    assert_eq!(rt; checkpoint.mapped(), 2);
-    assert_eq!(rt; checkpoint.skipped().len(), 0);
-    assert_eq!(rt; checkpoint.nx().block_count(), 32);
-    assert_eq!(rt;
-        checkpoint.object(1024).map_or(0, |object| object.len()),
-        8192
-    );
-    assert_eq!(rt; checkpoint.object_block(1024), Some(12));
-    assert_eq!(rt; checkpoint.object_block(7), None);
+    for stored in [4096u32, 16384, 65536] {
+        let size = stored as usize;
+        let image = rings(alloc, stored, Broken::Nothing)?;
+        let checkpoint = newest_of(alloc, image.bytes).map_err(|_| "stopped")?;
+        let maps = checkpoint.maps();
+        assert_eq!(rt;
+            (
+                checkpoint.xid(),
+                checkpoint.block(),
+                checkpoint.index(),
+                maps
+            ),
+            (2, 5, 4, 2)
+        );
+        assert_eq!(rt; (checkpoint.mapped(), checkpoint.skipped().len()), (2, 0));
+        assert_eq!(rt; checkpoint.nx().block_count(), 32);
+        assert_eq!(rt; checkpoint.site().block_size, stored);
+        let object = checkpoint.object(1024).unwrap_or(&[]);
+        assert_eq!(rt; object.len(), size.saturating_mul(2));
+        assert_eq!(rt; object.get(size).copied().unwrap_or(0), b'w');
+        assert_eq!(rt; checkpoint.object_block(1024), Some(12));
+        assert_eq!(rt; checkpoint.object_block(7), None);
+    }
     Ok(())
 }
 
@@ -178,13 +280,66 @@ fn takes_the_older_where_the_newer_is_broken(rt: HostRuntime) -> Result<(), Fail
         Broken::Xid,
     ];
     for broken in cases {
-        let mut source = MemSource::new(image(alloc, broken)?, Vec::new(alloc));
-        let checkpoint = newest(alloc, &mut source).map_err(|_| "stopped")?;
+        let image = rings(alloc, 4096, broken)?;
+        let checkpoint = newest_of(alloc, image.bytes).map_err(|_| "stopped")?;
         assert_eq!(rt; checkpoint.xid(), 1, "{broken:?}");
         assert_eq!(rt;
             checkpoint.skipped(),
             [(4u32, 2u64)].as_slice(),
             "{broken:?}"
+        );
+    }
+    Ok(())
+}
+
+// A block 0: the block size that it gives, the bit of an area that isn't contiguous, the bytes of the image that are
+// kept, and what is answered.
+type Zero = (u32, u32, usize, Stop<RingFault>);
+
+#[test]
+fn the_first_test_that_fails_is_answered(rt: HostRuntime) -> Result<(), Fail> {
+    let alloc = rt.alloc();
+    let whole: usize = 32 * 16384;
+    let wrong = Stop::Found(RingFault::BlockZero);
+    let short = Stop::Found(RingFault::Truncated { have: 31, need: 32 });
+    let apart = Stop::Unsupported {
+        feature: Feature::NonContiguous,
+        block: 0,
+    };
+    let cases: [Zero; 6] = [
+        (16384, 0, 4095, wrong),
+        (16384, 0, 4096, wrong),
+        (12288, 0, whole, wrong),
+        (16384, 0, whole - 16384, short),
+        (16384, 0x8000_0000, whole - 16384, short),
+        (16384, 0x8000_0000, whole, apart),
+    ];
+    for (stored, bit, kept, stop) in cases {
+        let mut image = rings(alloc, 16384, Broken::Nothing)?;
+        image.put(0, &zero(alloc, 16384, stored, bit)?.bytes);
+        image.bytes.truncate(kept);
+        let mut source = MemSource::new(image.bytes, Vec::new(alloc));
+        assert!(rt;
+            ring(alloc, &mut source).is_err_and(|other| other == stop),
+            "{stored} {kept}"
+        );
+        assert!(rt;
+            newest(alloc, &mut source).is_err_and(|other| other == stop),
+            "{stored} {kept}"
+        );
+    }
+    Ok(())
+}
+
+#[test]
+fn a_failed_read_stops_it(rt: HostRuntime) -> Result<(), Fail> {
+    let alloc = rt.alloc();
+    for read in [1u64, 2, 3, 12, 20] {
+        let image = rings(alloc, 16384, Broken::Nothing)?;
+        let mut source = MemSource::new(image.bytes, vec![in alloc; read]?);
+        assert!(rt;
+            newest(alloc, &mut source).is_err_and(|stop| stop == Stop::ReadFault),
+            "{read}"
         );
     }
     Ok(())
