@@ -1,13 +1,12 @@
 // Walks over trees that are written here.
 
 mod image;
-mod keys;
 
 use crate::{Cursor, Liner, Physical, WalkFault};
 use blk_source::MemSource;
+use bt_keys::{FsKey, FsPlainKey, QueueKey};
 use bt_node::{NodeFault, Rank, Site, TreeKey};
 use image::{Form, Node, tree_image};
-use keys::{Numbers, Record};
 use obj_base::{HeadFault, Stop};
 use std::alloc::Global;
 use std::process::Abort;
@@ -21,16 +20,28 @@ const SITE: Site = Site {
 
 const PHYSICAL: Physical = Physical { blocks: 8 };
 
-const NUMBERS: Form = Form {
-    subtype: 0xb,
+// The keys of a queue are two numbers, and a tree has each once.
+const QUEUE: Form = Form {
+    subtype: 9,
     fixed: true,
     key_len: 16,
+    name: &[],
 };
 
-const RECORDS: Form = Form {
+// A file-system tree whose names are hashed: the name's length with its hash above it, and the name.
+const HASHED: Form = Form {
     subtype: 0xe,
     fixed: false,
-    key_len: 8,
+    key_len: 16,
+    name: &[2, 8, 0, 0, b'a', 0],
+};
+
+// One whose names aren't: the name's length, and the name.
+const PLAIN: Form = Form {
+    subtype: 0xe,
+    fixed: false,
+    key_len: 16,
+    name: &[2, 0, b'a', 0],
 };
 
 // An item: its level, and the id and the kind of its rank.
@@ -128,7 +139,7 @@ fn assert_line<K: TreeKey>(
     items: &[Item],
     end: Result<(), Stop<WalkFault>>,
 ) -> Result<(), Fail> {
-    let image = tree_image(alloc, form, nodes)?;
+    let image = tree_image(alloc, 4096, form, nodes)?;
     let mut passed = Vec::new(alloc);
     let stop = line::<K>(alloc, image, Vec::new(alloc), &mut passed);
     assert_eq!(rt; stop, end);
@@ -143,10 +154,11 @@ fn assert_flat<K: TreeKey>(
     nodes: &[Node],
     from: Option<Rank>,
     items: &[Item],
+    end: Result<(), Stop<WalkFault>>,
 ) -> Result<(), Fail> {
-    let image = tree_image(alloc, form, nodes)?;
+    let image = tree_image(alloc, 4096, form, nodes)?;
     let mut passed = Vec::new(alloc);
-    assert_eq!(rt; flat::<K>(alloc, image, from, &mut passed), Ok(()));
+    assert_eq!(rt; flat::<K>(alloc, image, from, &mut passed), end);
     assert_eq!(rt; passed.as_slice(), items);
     Ok(())
 }
@@ -176,15 +188,15 @@ fn a_whole_line(rt: HostRuntime) -> Result<(), Fail> {
         (0, 5, 0),
         (0, 7, 0),
     ];
-    assert_line::<Numbers>(
+    assert_line::<QueueKey>(
         &rt,
         rt.alloc(),
-        NUMBERS,
+        QUEUE,
         &three_levels()[..],
         &items[..],
         Ok(()),
     )?;
-    assert_line::<Numbers>(&rt, rt.alloc(), NUMBERS, &[root(0, 0, 1, &[])], &[], Ok(()))
+    assert_line::<QueueKey>(&rt, rt.alloc(), QUEUE, &[root(0, 0, 1, &[])], &[], Ok(()))
 }
 
 // Two leaves in the blocks 2 and 3 under a root, the keys of each, what the root tells and names, and where the walk
@@ -289,12 +301,13 @@ fn lines_that_stop(rt: HostRuntime) -> Result<(), Fail> {
             inner(1, &[(3, 3)]),
         ];
         let end = Err(Stop::Found(*fault));
-        assert_line::<Numbers>(&rt, rt.alloc(), NUMBERS, &nodes[..], items, end)?;
+        assert_line::<QueueKey>(&rt, rt.alloc(), QUEUE, &nodes[..], items, end)?;
     }
     Ok(())
 }
 
-// A child that is named twice, by a key that a tree may have more than once, and then by one that it has once.
+// A child that is named twice. A directory's entries in a tree whose names aren't hashed may have equal ranks, in one
+// leaf and across two; an inode's key stands once.
 #[test]
 fn a_repeated_child(rt: HostRuntime) -> Result<(), Fail> {
     let twice = [(1, 2, 9), (0, 2, 9), (1, 2, 9), (0, 2, 9)];
@@ -303,7 +316,8 @@ fn a_repeated_child(rt: HostRuntime) -> Result<(), Fail> {
             root(1, keys, nodes, &[(TWO_NINE, 2), (TWO_NINE, 2)]),
             leaf(&[(TWO_NINE, 0)]),
         ];
-        assert_line::<Record>(&rt, rt.alloc(), RECORDS, &tree[..], &twice[..], end)?;
+        assert_line::<FsPlainKey>(&rt, rt.alloc(), PLAIN, &tree[..], &twice[..], end)?;
+        assert_line::<FsKey>(&rt, rt.alloc(), HASHED, &tree[..], &twice[..], end)?;
     }
     let tree = [
         root(1, 2, 3, &[(TWO_THREE, 2), (TWO_THREE, 2)]),
@@ -311,15 +325,15 @@ fn a_repeated_child(rt: HostRuntime) -> Result<(), Fail> {
     ];
     let once = [(1, 2, 3), (0, 2, 3), (1, 2, 3)];
     let end = Err(Stop::Found(WalkFault::Order { item: 3 }));
-    assert_line::<Record>(&rt, rt.alloc(), RECORDS, &tree[..], &once[..], end)
+    assert_line::<FsPlainKey>(&rt, rt.alloc(), PLAIN, &tree[..], &once[..], end)
 }
 
 #[test]
 fn a_failed_read(rt: HostRuntime) -> Result<(), Fail> {
-    let image = tree_image(rt.alloc(), NUMBERS, &three_levels()[..])?;
+    let image = tree_image(rt.alloc(), 4096, QUEUE, &three_levels()[..])?;
     let fails = vec![in rt.alloc(); 3u64; 1]?;
     let mut items = Vec::new(rt.alloc());
-    let stop = line::<Numbers>(rt.alloc(), image, fails, &mut items);
+    let stop = line::<QueueKey>(rt.alloc(), image, fails, &mut items);
     assert_eq!(rt; stop, Err(Stop::ReadFault));
     assert_eq!(rt; items.as_slice(), &[(2, 1, 0), (1, 1, 0)][..]);
     Ok(())
@@ -337,21 +351,107 @@ fn flat_lists(rt: HostRuntime) -> Result<(), Fail> {
         (rank(7, 0), 4),
         (rank(8, 0), 5),
     ] {
-        assert_flat::<Numbers>(&rt, rt.alloc(), NUMBERS, &tree[..], from, &all[skipped..])?;
+        assert_flat::<QueueKey>(
+            &rt,
+            rt.alloc(),
+            QUEUE,
+            &tree[..],
+            from,
+            &all[skipped..],
+            Ok(()),
+        )?;
     }
-    assert_flat::<Numbers>(&rt, rt.alloc(), NUMBERS, &[root(0, 0, 1, &[])], None, &[])
+    assert_flat::<QueueKey>(
+        &rt,
+        rt.alloc(),
+        QUEUE,
+        &[root(0, 0, 1, &[])],
+        None,
+        &[],
+        Ok(()),
+    )
 }
 
-// The kind stands in the high bits of the word, and counts after the id.
+// A child that isn't there: the entries before it are given, and it is named when it comes next, unless the search goes
+// past it.
+#[test]
+fn a_missing_child(rt: HostRuntime) -> Result<(), Fail> {
+    let tree = [
+        root(1, 3, 4, &[(1, 2), (3, 9), (5, 3)]),
+        leaf(&[(1, 0)]),
+        leaf(&[(5, 0)]),
+    ];
+    let missing = Err(Stop::Found(WalkFault::Unnamed { oid: 9 }));
+    let all = [(0, 1, 0), (0, 5, 0)];
+    for (from, items, end) in [
+        (None, &all[..1], missing),
+        (rank(2, 0), &all[..0], missing),
+        (rank(4, 0), &all[..0], missing),
+        (rank(5, 1), &all[..0], Ok(())),
+    ] {
+        assert_flat::<QueueKey>(&rt, rt.alloc(), QUEUE, &tree[..], from, items, end)?;
+    }
+    Ok(())
+}
+
+#[test]
+fn larger_blocks(rt: HostRuntime) -> Result<(), Fail> {
+    let site = Site {
+        block_size: 16384,
+        blocks: 8,
+        max_xid: 1,
+    };
+    let image = tree_image(rt.alloc(), 16384, QUEUE, &[root(0, 1, 1, &[(7, 0)])])?;
+    assert!(rt; image.len() >= 131072);
+    let mut src = MemSource::new(image, Vec::new(rt.alloc()));
+    let mut cursor = Cursor::<QueueKey, Physical>::new(rt.alloc(), &mut src, PHYSICAL, 1, site)?;
+    assert!(rt; cursor.next(&mut src)?);
+    assert_eq!(rt; cursor.item().key.xid, 7);
+    assert!(rt; !cursor.next(&mut src)?);
+    Ok(())
+}
+
+// The kind stands in the high bits of a key's first word, and counts after the id.
 #[test]
 fn a_search_by_ranks(rt: HostRuntime) -> Result<(), Fail> {
     let tree = [root(0, 2, 1, &[(TWO_NINE, 0), (SIXTEEN_THREE, 0)])];
-    assert_flat::<Record>(
+    let found = [(0, 16, 3)];
+    assert_flat::<FsKey>(
         &rt,
         rt.alloc(),
-        RECORDS,
+        HASHED,
         &tree[..],
         rank(16, 3),
-        &[(0, 16, 3)],
+        &found[..],
+        Ok(()),
+    )?;
+    assert_flat::<FsPlainKey>(
+        &rt,
+        rt.alloc(),
+        PLAIN,
+        &tree[..],
+        rank(16, 3),
+        &found[..],
+        Ok(()),
+    )
+}
+
+// Entries of equal ranks over two leaves, from the first of them on.
+#[test]
+fn equal_ranks(rt: HostRuntime) -> Result<(), Fail> {
+    let tree = [
+        root(1, 4, 3, &[(TWO_THREE, 2), (TWO_NINE, 3)]),
+        leaf(&[(TWO_THREE, 0), (TWO_NINE, 0)]),
+        leaf(&[(TWO_NINE, 0), (SIXTEEN_THREE, 0)]),
+    ];
+    let found = [(0, 2, 9), (0, 2, 9), (0, 16, 3)];
+    assert_flat::<FsPlainKey>(
+        &rt,
+        rt.alloc(),
+        PLAIN,
+        &tree[..],
+        rank(2, 9),
+        &found[..],
+        Ok(()),
     )
 }

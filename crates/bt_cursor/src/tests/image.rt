@@ -1,14 +1,17 @@
-// Containers of eight blocks of 4,096 bytes: nothing in block 0, and a node in each block from 1 on.
+// Containers of eight blocks: nothing in block 0, and a node of a tree in each block from 1 on.
 
+use apfs_layout::{kind, node, object};
 use obj_base::sum64;
 use std::alloc::{AllocError, Global};
 
-/// How the nodes of a tree are stored.
+/// How the nodes of a tree are stored: the kind of tree, whether keys and values have fixed sizes, how many bytes a key
+/// takes, and what follows the first word in a key of an entry of a directory (kind 9).
 #[derive(Clone, Copy, PartialEq, Eq, Debug)]
 pub struct Form {
-    pub subtype: u32,
+    pub subtype: u16,
     pub fixed: bool,
     pub key_len: u16,
+    pub name: &'static [u8],
 }
 
 /// A node: how far it stands above the leaves, the numbers of keys and nodes that a root tells, and for each entry the
@@ -20,104 +23,135 @@ pub struct Node {
     pub entries: &'static [(u64, u64)],
 }
 
-fn put(block: &mut [u8; 4096], at: usize, bytes: &[u8]) {
+// The kind of a directory's entry stands in the high four bits of its key's first word.
+const ENTRY: u64 = 9 << 60;
+
+fn put(block: &mut [u8], at: usize, bytes: &[u8]) {
     for (i, byte) in bytes.iter().enumerate() {
         let place = at.saturating_add(i);
-        if place < 4096 {
+        if place < block.len() {
             block[place] = *byte;
         }
     }
 }
 
-fn put_entry(
-    block: &mut [u8; 4096],
-    form: Form,
-    i: u16,
-    entries: u16,
-    end: u16,
-    entry: &(u64, u64),
-) {
-    let table_len = if form.fixed { 4 } else { 8 };
-    let place = 56 + table_len * usize::from(i);
-    let key_offset = i.saturating_mul(form.key_len);
-    let value_offset = i.saturating_add(1).saturating_mul(8);
-    let keys = 56 + table_len * usize::from(entries);
-    put(block, place, &key_offset.to_le_bytes());
-    if form.fixed {
-        put(block, place + 2, &value_offset.to_le_bytes());
+// The values end where a root's last bytes start, or at the block's end.
+fn end_of(size: usize, node: &Node) -> usize {
+    if node.root.is_some() {
+        size.saturating_sub(node::INFO_LEN)
     } else {
-        put(block, place + 2, &form.key_len.to_le_bytes());
-        put(block, place + 4, &value_offset.to_le_bytes());
-        put(block, place + 6, &8u16.to_le_bytes());
+        size
     }
+}
+
+// An entry: its place in the table, its key from the table's end on, and its value back from the end.
+fn put_entry(block: &mut [u8], form: Form, node: &Node, i: u16, entry: &(u64, u64)) {
+    let entry_len = if form.fixed {
+        node::FIXED_ENTRY_LEN
+    } else {
+        node::VARIABLE_ENTRY_LEN
+    };
+    let name: &[u8] = if entry.0 >= ENTRY { form.name } else { &[] };
+    let key = i.saturating_mul(form.key_len);
+    let value = i.saturating_add(1).saturating_mul(8);
+    let place = entry_len
+        .saturating_mul(usize::from(i))
+        .saturating_add(node::TABLE);
+    let keys = entry_len
+        .saturating_mul(node.entries.len())
+        .saturating_add(node::TABLE);
+    put(block, place, &key.to_le_bytes());
+    if form.fixed {
+        put(block, place.saturating_add(2), &value.to_le_bytes());
+    } else {
+        let len = u16::try_from(name.len()).unwrap_or(0).saturating_add(8);
+        put(block, place.saturating_add(2), &len.to_le_bytes());
+        put(block, place.saturating_add(4), &value.to_le_bytes());
+        put(block, place.saturating_add(6), &8u16.to_le_bytes());
+    }
+    let key_place = keys.saturating_add(usize::from(key));
+    put(block, key_place, &entry.0.to_le_bytes());
+    put(block, key_place.saturating_add(8), name);
+    let end = end_of(block.len(), node);
     put(
         block,
-        keys + usize::from(key_offset),
-        &entry.0.to_le_bytes(),
-    );
-    put(
-        block,
-        usize::from(end.saturating_sub(value_offset)),
+        end.saturating_sub(usize::from(value)),
         &entry.1.to_le_bytes(),
     );
 }
 
-fn node_block(form: Form, oid: u64, node: &Node) -> [u8; 4096] {
-    let mut block = [0; 4096];
-    let entries = u16::try_from(node.entries.len()).unwrap_or(0);
-    let end = if node.root.is_some() { 4056 } else { 4096 };
-    let kind: u32 = if node.root.is_some() { 2 } else { 3 };
-    let mut flags = 0u16;
-    if form.fixed {
-        flags |= 4;
-    }
-    if node.level == 0 {
-        flags |= 2;
-    }
-    if let Some((keys, nodes)) = node.root {
-        flags |= 1;
-        put(&mut block, 4060, &4096u32.to_le_bytes());
-        put(&mut block, 4080, &keys.to_le_bytes());
-        put(&mut block, 4088, &nodes.to_le_bytes());
-    }
-    put(&mut block, 8, &oid.to_le_bytes());
-    put(&mut block, 16, &1u64.to_le_bytes());
-    put(&mut block, 24, &kind.to_le_bytes());
-    put(&mut block, 28, &form.subtype.to_le_bytes());
-    put(&mut block, 32, &flags.to_le_bytes());
-    put(&mut block, 34, &node.level.to_le_bytes());
-    put(&mut block, 36, &u32::from(entries).to_le_bytes());
-    let table_len = if form.fixed { 4 } else { 8 };
+// What a root tells of its tree.
+fn put_info(block: &mut [u8], keys: u64, nodes: u64) {
+    let info = block.len().saturating_sub(node::INFO_LEN);
+    let size = u32::try_from(block.len()).unwrap_or(0);
     put(
-        &mut block,
-        42,
-        &entries.saturating_mul(table_len).to_le_bytes(),
+        block,
+        info.saturating_add(node::NODE_SIZE),
+        &size.to_le_bytes(),
     );
-    for (i, entry) in node.entries.iter().enumerate() {
-        put_entry(
-            &mut block,
-            form,
-            u16::try_from(i).unwrap_or(0),
-            entries,
-            end,
-            entry,
-        );
-    }
-    let sum = sum64(&block[..]);
-    put(&mut block, 0, &sum.to_le_bytes());
-    block
+    put(
+        block,
+        info.saturating_add(node::KEY_COUNT),
+        &keys.to_le_bytes(),
+    );
+    put(
+        block,
+        info.saturating_add(node::NODE_COUNT),
+        &nodes.to_le_bytes(),
+    );
 }
 
-/// The container with these nodes in the blocks from 1 on.
-pub fn tree_image(alloc: Global, form: Form, nodes: &[Node]) -> Result<Vec<u8>, AllocError> {
-    let mut image = vec![in alloc; 0u8; 4096]?;
-    for (i, node) in nodes.iter().enumerate() {
-        let oid = (i as u64).saturating_add(1);
-        image.extend_from_slice(&node_block(form, oid, node)[..])?;
+// The header of a node and the fields after it.
+fn put_head(block: &mut [u8], form: Form, oid: u64, node: &Node) {
+    let mut kind = kind::TREE_NODE;
+    let mut flags = 0u16;
+    let mut entry_len = 8u16;
+    if form.fixed {
+        flags |= node::FIXED;
+        entry_len = 4;
     }
-    if image.len() < 32768 {
-        let blank = vec![in alloc; 0u8; 32768 - image.len()]?;
-        image.extend_from_slice(&blank)?;
+    if node.level == 0 {
+        flags |= node::LEAF;
+    }
+    if let Some((keys, nodes)) = node.root {
+        kind = kind::TREE_ROOT;
+        flags |= node::ROOT;
+        put_info(block, keys, nodes);
+    }
+    let count = u16::try_from(node.entries.len()).unwrap_or(0);
+    put(block, object::OID, &oid.to_le_bytes());
+    put(block, object::XID, &1u64.to_le_bytes());
+    put(block, object::TYPE, &kind.to_le_bytes());
+    put(block, object::SUBTYPE, &form.subtype.to_le_bytes());
+    put(block, node::FLAGS, &flags.to_le_bytes());
+    put(block, node::LEVEL, &node.level.to_le_bytes());
+    put(block, node::COUNT, &count.to_le_bytes());
+    put(
+        block,
+        node::TABLE_LENGTH,
+        &count.saturating_mul(entry_len).to_le_bytes(),
+    );
+}
+
+/// The container of blocks of this size with these nodes in the blocks from 1 on.
+pub fn tree_image(
+    alloc: Global,
+    size: usize,
+    form: Form,
+    nodes: &[Node],
+) -> Result<Vec<u8>, AllocError> {
+    let mut image = vec![in alloc; 0u8; size]?;
+    for oid in 1..8u64 {
+        let mut block = vec![in alloc; 0u8; size]?;
+        if let Some(node) = nodes.get((oid - 1) as usize) {
+            put_head(&mut block, form, oid, node);
+            for (i, entry) in node.entries.iter().enumerate() {
+                put_entry(&mut block, form, node, u16::try_from(i).unwrap_or(0), entry);
+            }
+            let sum = sum64(&block);
+            put(&mut block, object::SUM, &sum.to_le_bytes());
+        }
+        image.extend_from_slice(&block)?;
     }
     Ok(image)
 }
