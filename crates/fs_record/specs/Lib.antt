@@ -5,3 +5,5 @@ pub mod Entries
 pub mod Attributes
 pub mod Siblings
 pub mod Extents
+pub mod StreamExtents
+pub mod Facts
