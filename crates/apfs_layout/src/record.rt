@@ -17,6 +17,9 @@ pub const INODE_MODE: usize = 80;
 
 pub const INODE_LEN: usize = 92;
 
+/// The unit of the kind, which stands in the high 4 bits of the mode.
+pub const MODE_KIND_UNIT: u16 = 1 << 12;
+
 // File-System Objects, j_drec_val_t.
 
 pub const ENTRY_FILE_ID: usize = 0;
@@ -24,6 +27,9 @@ pub const ENTRY_FILE_ID: usize = 0;
 pub const ENTRY_FLAGS: usize = 16;
 
 pub const ENTRY_LEN: usize = 18;
+
+/// One more than the greatest kind, which stands in the low 4 bits of the flags.
+pub const ENTRY_KINDS: u16 = 16;
 
 // Extended Attributes, j_xattr_val_t.
 
@@ -68,6 +74,9 @@ pub const EXTENT_LENGTH: usize = 0;
 pub const EXTENT_BLOCK: usize = 8;
 
 pub const EXTENT_LEN: usize = 24;
+
+/// One more than the greatest length: the unit of the flags.
+pub const EXTENT_FLAG_UNIT: u64 = 1 << 56;
 
 // Extended Fields, xf_blob_t and x_field_t, by offset in the head and in an item of the table.
 

@@ -23,9 +23,6 @@ ext_value_of value =
     if nat_lt (length value) 20 then None else
     Some (record { length = u64_at value 0 % 2 ^ 60; kind = u64_at value 0 / 2 ^ 60; owner = u64_at value 8; count = i32_at value 16 })
 
--- the kinds of ranges (j_obj_kinds)
+-- the kind of a range that the volume or the snapshot itself has written (j_obj_kinds)
 abbrev pub new_kind : ℕ
 new_kind = 1
-
-abbrev pub update_kind : ℕ
-update_kind = 2

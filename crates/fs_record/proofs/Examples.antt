@@ -6,14 +6,14 @@ use Rattle.fs_record.specs.Inodes.{stream_at, stream_of, inode_of}
 use Rattle.fs_record.specs.Attributes.{contents_len, flags_of, is_attribute_short, attribute_of}
 use Rattle.fs_record.specs.declared.fault.RecFault.TheVariants.{Length, Fields, Flags}
 
--- two fields: one of type 4 and 5 bytes, then a stream of size 7
+-- two fields: one of type 4 and 3 bytes, then a stream of size 7
 abbrev fields : List ℕ
-fields = 2 ∷ 0 ∷ 48 ∷ 0 ∷ 4 ∷ 0 ∷ 5 ∷ 0 ∷ 8 ∷ 0 ∷ 40 ∷ 0 ∷ []
+fields = 2 ∷ 0 ∷ 48 ∷ 0 ∷ 4 ∷ 0 ∷ 3 ∷ 0 ∷ 8 ∷ 0 ∷ 40 ∷ 0 ∷ []
 
 abbrev inode : List ℕ
 inode = replicate 92 0 ++ (fields ++ (replicate 8 9 ++ (7 ∷ replicate 39 0)))
 
--- the second field begins 8 bytes behind the first, whose size is rounded up
+-- the second field begins 8 bytes after the first, whose size is rounded up
 pub stream_found : stream_of inode ≡ Some (record { size = 7; allocated = 0 })
 unfolding stream_of stream_at field_of fields_of field_count_of size_at u16_at u64_at
 stream_found = refl

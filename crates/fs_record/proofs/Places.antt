@@ -21,7 +21,7 @@ unfolding place_after field_seen is_field_long
 place_short len type least (Some at) f fs why e = absurd (cc)
 place_short len type least None f fs why e = grind (arith, common_steps)
 
--- what is found after a field that fits decides with the fields behind it
+-- what is found after a field that fits decides with the fields after it
 pub place_more : (len type least : ℕ) (found new : Option ℕ) (f : Field) (fs : List Field) → fits len f ≡ true → field_seen type least found f ≡ Ok new → place_after len type least found (f ∷ fs) ≡ place_after len type least new fs
 unfolding place_after field_seen is_field_long
 place_more len type least (Some at) new f fs fit e = grind (arith, common_steps)
@@ -37,13 +37,13 @@ pub place_untabled : (value : List ℕ) (at type least : ℕ) → (length value 
 unfolding field_place have_fields_room
 place_untabled value at type least e f = grind (arith, nat_tests, common_steps)
 
--- else the place is that of the search over all fields
+-- otherwise the place is that of the search over all fields
 pub place_tabled : (value : List ℕ) (at type least : ℕ) → (length value ≡ at → ⊥) → has_table value at ≡ true → field_place value at type least ≡ place_after (length value) type least None (laid_out (at + 4 + 4 * field_count_of value at) (sizes_of value at))
 unfolding field_place have_fields_room field_of fields_of place_after
 place_tabled value at type least e f = grind (arith, nat_tests, common_steps)
 
 -- a field is found inside the value
-pub seen_inside : (len type least : ℕ) (found new : Option ℕ) (f : Field) → IfSome found (λ begin. begin + least ≤ len) → fits len f ≡ true → field_seen type least found f ≡ Ok new → IfSome new (λ begin. begin + least ≤ len)
+pub seen_inside : (len type least : ℕ) (found new : Option ℕ) (f : Field) → IfSome found (λ start. start + least ≤ len) → fits len f ≡ true → field_seen type least found f ≡ Ok new → IfSome new (λ start. start + least ≤ len)
 unfolding field_seen
 seen_inside len type least (Some at) new f inside fit e = grind (arith, nat_tests, common_steps)
 seen_inside len type least None new f inside fit e = grind (arith, nat_tests, common_steps)
@@ -51,10 +51,10 @@ seen_inside len type least None new f inside fit e = grind (arith, nat_tests, co
 range-next : (i n : ℕ) → i < n → range_with_len i (n - i) ≡ i ∷ range_with_len (i + 1) (n - (i + 1))
 range-next i n h = ap (range_with_len i) (let e : n - i ≡ suc (n - (i + 1)) = omega (arith, h) in e)
 
--- the fields that are left begin with the next one
-pub fields_next : (value : List ℕ) (at begin i n : ℕ) → i < n
-    → laid_out begin (map (size_at value at) (range_with_len i (n - i))) ≡ placed begin (size_at value at i) ∷ laid_out (begin + padded (size_at value at i).len) (map (size_at value at) (range_with_len (i + 1) (n - (i + 1))))
-fields_next value at begin i n h = ap (λ is. laid_out begin (map (size_at value at) is)) (range-next i n h)
+-- the fields that are left start with the next one
+pub fields_next : (value : List ℕ) (at start i n : ℕ) → i < n
+    → laid_out start (map (size_at value at) (range_with_len i (n - i))) ≡ placed start (size_at value at i) ∷ laid_out (start + padded (size_at value at i).len) (map (size_at value at) (range_with_len (i + 1) (n - (i + 1))))
+fields_next value at start i n h = ap (λ is. laid_out start (map (size_at value at) is)) (range-next i n h)
 
 end : (len type least : ℕ) (found : Option ℕ) → place_after len type least found [] ≡ Ok found
 unfolding place_after is_field_long
@@ -62,7 +62,7 @@ end len type least None = refl
 end len type least (Some at) = refl
 
 -- no field is left
-pub fields_end : (value : List ℕ) (at begin i n len type least : ℕ) (found : Option ℕ) → n ≤ i → place_after len type least found (laid_out begin (map (size_at value at) (range_with_len i (n - i)))) ≡ Ok found
-fields_end value at begin i n len type least found h =
+pub fields_end : (value : List ℕ) (at start i n len type least : ℕ) (found : Option ℕ) → n ≤ i → place_after len type least found (laid_out start (map (size_at value at) (range_with_len i (n - i)))) ≡ Ok found
+fields_end value at start i n len type least found h =
     let none : n - i ≡ 0 = omega (arith, h) in
-    subst (λ k. place_after len type least found (laid_out begin (map (size_at value at) (range_with_len i k))) ≡ Ok found) (sym none) (end len type least found)
+    subst (λ k. place_after len type least found (laid_out start (map (size_at value at) (range_with_len i k))) ≡ Ok found) (sym none) (end len type least found)

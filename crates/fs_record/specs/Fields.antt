@@ -11,7 +11,7 @@ pub record Size : Type 0 where
   pub kind : ℕ
   pub len : ℕ
 
--- how many fields a value has, where its fields begin at a place (xf_num_exts)
+-- how many fields a value has, where its fields start at a place (xf_num_exts)
 unfoldable pub field_count_of : List ℕ → ℕ → ℕ
 field_count_of value at = u16_at value at
 
@@ -27,20 +27,20 @@ sizes_of value at = map (size_at value at) (range_with_len 0 (field_count_of val
 abbrev pub padded : ℕ → ℕ
 padded n = 8 * ((n + 7) / 8)
 
--- a field of this size, whose contents begin at a place
+-- a field of this size, whose contents start at a place
 abbrev pub placed : ℕ → Size → Field
-placed begin s = record { kind = s.kind; at = begin; len = s.len }
+placed start s = record { kind = s.kind; at = start; len = s.len }
 
--- the fields, each behind the one before it, whose size is rounded up
+-- the fields, each after the one before it, whose size is rounded up
 abbrev pub laid_out : ℕ → List Size → List Field
-laid_out begin [] = []
-laid_out begin (s ∷ ss) = placed begin s ∷ laid_out (begin + padded s.len) ss
+laid_out start [] = []
+laid_out start (s ∷ ss) = placed start s ∷ laid_out (start + padded s.len) ss
 
 -- a value has no fields where it ends before them
 abbrev pub lacks_fields : List ℕ → ℕ → Bool
 lacks_fields value at = length value == at
 
--- the fields of a value, which begin at a place
+-- the fields of a value, which start at a place
 unfoldable pub fields_of : List ℕ → ℕ → List Field
 fields_of value at = if lacks_fields value at then [] else laid_out (at + 4 + 4 * field_count_of value at) (sizes_of value at)
 
@@ -61,7 +61,7 @@ unfoldable pub is_field_long : Option Field → ℕ → Bool
 is_field_long None n = true
 is_field_long (Some f) n = nat_le n f.len
 
--- where the contents of the first field of a type begin, where there is one; Fields where what is there doesn't fit or that field is too short
+-- where the contents of the first field of a type start, where there is one; Fields where what is there doesn't fit or that field is too short
 unfoldable pub field_place : List ℕ → ℕ → ℕ → ℕ → Result (Option ℕ) RecFault
 field_place value at type least =
     if not (have_fields_room value at && is_field_long (field_of value at type) least) then Err faults.Fields else

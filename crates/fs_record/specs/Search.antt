@@ -10,7 +10,7 @@ use Rattle.fs_record.specs.declared.fault.RecFault.TheVariants.{Fields}
 abbrev pub fits : ℕ → Field → Bool
 fits len f = nat_le (f.at + f.len) len
 
--- what is found after one more field: what was found before it, else this field where it is of the type and long enough
+-- what is found after one more field: what was found before it, otherwise this field where it is of the type and long enough
 unfoldable pub field_seen : ℕ → ℕ → Option ℕ → Field → Result (Option ℕ) RecFault
 field_seen type least (Some at) f = Ok (Some at)
 field_seen type least None f =

@@ -4,32 +4,9 @@ ghost use Rattle.bt_keys.specs.RecordKey.{has_plain_name, plain_name_of};
 ghost use Rattle.fs_record.specs.Attributes.{attribute_of, is_attribute_short, is_streamed, is_embedded, contents_of, body_in, body_seen};
 
 use crate::{Attr, AttrBody, RecFault};
+use apfs_layout::{key as keys, record as layout};
 use fs_name::stored_name;
 use obj_base::{u16_at, u64_at};
-
-// The fields of the key by offset.
-const NAME_LEN: usize = 8;
-
-const NAME: usize = 10;
-
-// The fields of the value by offset.
-const FLAGS: usize = 0;
-
-const CONTENTS_LEN: usize = 2;
-
-const CONTENTS: usize = 4;
-
-// The flags (XATTR_DATA_STREAM and XATTR_DATA_EMBEDDED).
-const STREAMED: u16 = 1;
-
-const EMBEDDED: u16 = 2;
-
-// The contents that stand for a stream: their bytes, and their fields by offset (j_xattr_dstream_t).
-const STREAM_LEN: usize = 48;
-
-const STREAM_ID: usize = 0;
-
-const STREAM_SIZE: usize = 8;
 
 // Whether the contents are a stream.
 #[tactic(auto, unfolding(crate::specs::Attributes::flags_of))]
@@ -37,7 +14,7 @@ fn is_a_stream(value: &[u8]) -> bool
     requires { 4 ≤ length value.now }
     ensures { result ≡ is_streamed value.now }
 {
-    u16_at(value, FLAGS) & STREAMED == STREAMED
+    u16_at(value, layout::ATTRIBUTE_FLAGS) & layout::ATTRIBUTE_STREAM == layout::ATTRIBUTE_STREAM
 }
 
 // Whether the contents stand in the value.
@@ -46,7 +23,8 @@ fn is_in_the_value(value: &[u8]) -> bool
     requires { 4 ≤ length value.now }
     ensures { result ≡ is_embedded value.now }
 {
-    u16_at(value, FLAGS) & EMBEDDED == EMBEDDED
+    u16_at(value, layout::ATTRIBUTE_FLAGS) & layout::ATTRIBUTE_EMBEDDED
+        == layout::ATTRIBUTE_EMBEDDED
 }
 
 // Whether the value is too short for its contents, or these for their stream.
@@ -54,11 +32,12 @@ fn is_in_the_value(value: &[u8]) -> bool
 fn is_short(value: &[u8]) -> bool
     ensures { result ≡ is_attribute_short value.now }
 {
-    if value.len() < CONTENTS {
+    if value.len() < layout::ATTRIBUTE_CONTENTS {
         return true;
     }
-    let len = usize::from(u16_at(value, CONTENTS_LEN));
-    value.len() < CONTENTS + len || (is_a_stream(value) && len < STREAM_LEN)
+    let len = usize::from(u16_at(value, layout::ATTRIBUTE_CONTENTS_LEN));
+    value.len() < layout::ATTRIBUTE_CONTENTS + len
+        || (is_a_stream(value) && len < layout::ATTRIBUTE_STREAM_LEN)
 }
 
 // The contents.
@@ -68,8 +47,8 @@ fn contents(value: &[u8]) -> &[u8]
     ensures contents { result.now ≡ contents_of value.now }
     ensures long { is_streamed value.now ≡ true → 48 ≤ length result.now }
 {
-    let len = usize::from(u16_at(value, CONTENTS_LEN));
-    &value[CONTENTS..CONTENTS + len]
+    let len = usize::from(u16_at(value, layout::ATTRIBUTE_CONTENTS_LEN));
+    &value[layout::ATTRIBUTE_CONTENTS..layout::ATTRIBUTE_CONTENTS + len]
 }
 
 // What the value holds.
@@ -81,8 +60,8 @@ fn body(value: &[u8]) -> AttrBody<'_>
     let contents = contents(value);
     if is_a_stream(value) {
         return AttrBody::Stream {
-            id: u64_at(contents, STREAM_ID),
-            size: u64_at(contents, STREAM_SIZE),
+            id: u64_at(contents, layout::ATTRIBUTE_STREAM_ID),
+            size: u64_at(contents, layout::ATTRIBUTE_STREAM_SIZE),
         };
     }
     AttrBody::Embedded(contents)
@@ -94,12 +73,12 @@ pub(crate) fn plain_name(key: &[u8]) -> &[u8]
     requires { has_plain_name key.now ≡ true }
     ensures { result.now ≡ plain_name_of key.now }
 {
-    &key[NAME..NAME + usize::from(u16_at(key, NAME_LEN))]
+    &key[keys::PLAIN_NAME..keys::PLAIN_NAME + usize::from(u16_at(key, keys::NAME_LEN))]
 }
 
 /// The attribute of a record, whose key has its name. `Length` where the value is too short for its contents, or these
-/// for their stream; else `Flags` where not exactly one of the two flags is set; else `Name` where the key's isn't a
-/// proper name.
+/// for their stream; otherwise `Flags` where not exactly one of the two flags is set; otherwise `Name` where the key's
+/// isn't a proper name.
 #[tactic(auto, unfolding(crate::specs::Attributes::attribute_of, crate::specs::Attributes::is_attribute_short, fs_name::specs::Text::name_of))]
 pub fn attr<'a>(key: &'a [u8], value: &'a [u8]) -> Result<Attr<'a>, RecFault>
     requires { has_plain_name key.now ≡ true }

@@ -7,33 +7,10 @@ ghost use Rattle.fs_record.specs.Entries.{entry_of, entry_name_bytes, entry_hash
 use crate::RecFault;
 use crate::attributes::plain_name;
 use crate::fields::find;
+use apfs_layout::{key as keys, record as layout};
 use fs_name::{Names, stored_name};
 use obj_base::{u16_at, u32_at, u64_at};
 use std::marker::Model;
-
-// The fields of a key with a hashed name by offset: its word of the name's length and hash, and the name.
-const LEN_AND_HASH: usize = 8;
-
-const NAME: usize = 12;
-
-// The length stands in the low 10 bits, and the hash in the high 22 (J_DREC_LEN_MASK, J_DREC_HASH_MASK).
-const HASH_UNIT: u32 = 1 << 10;
-
-// The fields of the value by offset.
-const FILE_ID: usize = 0;
-
-const FLAGS: usize = 16;
-
-// The kind stands in the low 4 bits of the flags (DREC_TYPE_MASK).
-const KIND_COUNT: u16 = 16;
-
-// The bytes before an entry's extended fields.
-const VALUE_LEN: usize = 18;
-
-// The extended field of a sibling's id: its type (DREC_EXT_TYPE_SIBLING_ID) and its bytes.
-const SIBLING: u8 = 1;
-
-const SIBLING_LEN: usize = 8;
 
 /// A directory entry.
 #[derive(Debug, Drop)]
@@ -96,8 +73,8 @@ fn hashed_name(key: &[u8]) -> &[u8]
     requires { has_hashed_name key.now ≡ true }
     ensures { result.now ≡ hashed_name_of key.now }
 {
-    let len = (u32_at(key, LEN_AND_HASH) % HASH_UNIT) as usize;
-    &key[NAME..NAME + len]
+    let len = (u32_at(key, keys::LEN_AND_HASH) % keys::HASH_UNIT) as usize;
+    &key[keys::HASHED_NAME..keys::HASHED_NAME + len]
 }
 
 // The hash in a key with a hashed name.
@@ -106,7 +83,7 @@ fn stored_hash(key: &[u8]) -> u32
     requires { has_hashed_name key.now ≡ true }
     ensures { result ≡ hash_of key.now }
 {
-    u32_at(key, LEN_AND_HASH) / HASH_UNIT
+    u32_at(key, keys::LEN_AND_HASH) / keys::HASH_UNIT
 }
 
 // The name in a key, with its final zero.
@@ -142,18 +119,23 @@ fn sibling(value: &[u8], place: Option<usize>) -> Option<u64>
     }
 }
 
-/// The entry of a record, whose key has its name. `Length` where the value is shorter than 18 bytes; else `Fields` where
-/// its extended fields don't fit it or that of its sibling has fewer than 8 bytes; else `Name` where the key's isn't a
-/// proper name.
+/// The entry of a record, whose key has its name. `Length` where the value is shorter than 18 bytes; otherwise `Fields`
+/// where its extended fields don't fit it or that of its sibling has fewer than 8 bytes; otherwise `Name` where the key's
+/// isn't a proper name.
 #[tactic(auto, using(crate::proofs::Readings::entry_short, crate::proofs::Readings::entry_bad, crate::proofs::Readings::entry_unnamed, crate::proofs::Readings::entry_read))]
 pub fn entry<'a>(names: Names, key: &'a [u8], value: &'a [u8]) -> Result<DirEntry<'a>, RecFault>
     requires { has_entry_name names key.now ≡ true }
     ensures { result ≡ entry_of names key.now value.now }
 {
-    if value.len() < VALUE_LEN {
+    if value.len() < layout::ENTRY_LEN {
         return Err(RecFault::Length);
     }
-    let place = match find(value, VALUE_LEN, SIBLING, SIBLING_LEN) {
+    let place = match find(
+        value,
+        layout::ENTRY_LEN,
+        layout::FIELD_SIBLING,
+        layout::FIELD_SIBLING_LEN,
+    ) {
         Ok(place) => place,
         Err(why) => return Err(why),
     };
@@ -163,8 +145,8 @@ pub fn entry<'a>(names: Names, key: &'a [u8], value: &'a [u8]) -> Result<DirEntr
     Ok(DirEntry {
         name,
         hash: hash(names, key),
-        file_id: u64_at(value, FILE_ID),
-        kind: u16_at(value, FLAGS) % KIND_COUNT,
+        file_id: u64_at(value, layout::ENTRY_FILE_ID),
+        kind: u16_at(value, layout::ENTRY_FLAGS) % layout::ENTRY_KINDS,
         sibling: sibling(value, place),
     })
 }

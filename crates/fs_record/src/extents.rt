@@ -3,12 +3,13 @@ ghost use Rattle.std.specs.Prelude.{◌≡◌, ◌≤◌, length};
 ghost use Rattle.fs_record.specs.Extents.{extent_of};
 
 use crate::RecFault;
+use apfs_layout::{key as keys, record as layout};
 use obj_base::u64_at;
 
 /// An extent of a stream.
 #[derive(Clone, Copy, PartialEq, Eq, Debug)]
 pub struct FileExt {
-    /// Where it begins in its stream, in bytes.
+    /// Where it starts in its stream, in bytes.
     pub logical: u64,
     /// Its length in bytes.
     pub length: u64,
@@ -16,31 +17,18 @@ pub struct FileExt {
     pub block: u64,
 }
 
-// The logical address in the key, by offset.
-const LOGICAL: usize = 8;
-
-// The fields of the value by offset.
-const LENGTH: usize = 0;
-
-const BLOCK: usize = 8;
-
-const VALUE_LEN: usize = 24;
-
-// The length stands in the low 56 bits (J_FILE_EXTENT_LEN_MASK).
-const LENGTH_UNIT: u64 = 1 << 56;
-
 /// The extent of a record, whose key has its logical address. `Length` exactly where the value is shorter than 24 bytes.
 #[tactic(auto, unfolding(crate::specs::Extents::extent_of, bt_keys::specs::RecordKey::second_of))]
 pub fn file_ext(key: &[u8], value: &[u8]) -> Result<FileExt, RecFault>
     requires { 16 ≤ length key.now }
     ensures { result ≡ extent_of key.now value.now }
 {
-    if value.len() < VALUE_LEN {
+    if value.len() < layout::EXTENT_LEN {
         return Err(RecFault::Length);
     }
     Ok(FileExt {
-        logical: u64_at(key, LOGICAL),
-        length: u64_at(value, LENGTH) % LENGTH_UNIT,
-        block: u64_at(value, BLOCK),
+        logical: u64_at(key, keys::SECOND),
+        length: u64_at(value, layout::EXTENT_LENGTH) % layout::EXTENT_FLAG_UNIT,
+        block: u64_at(value, layout::EXTENT_BLOCK),
     })
 }

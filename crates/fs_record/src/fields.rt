@@ -4,24 +4,10 @@ ghost use Rattle.fs_record.specs.Fields as spec;
 ghost use Rattle.fs_record.specs.Search.{field_seen, place_after};
 
 use crate::RecFault;
+use apfs_layout::record as layout;
 use obj_base::u16_at;
 
-// The bytes before the table of fields, which begin with their number.
-const COUNT: usize = 0;
-
-const HEAD_LEN: usize = 4;
-
-// The bytes of an item of the table, and its fields by offset.
-const ITEM_LEN: usize = 4;
-
-const TYPE: usize = 0;
-
-const SIZE: usize = 2;
-
-// The contents of a field begin at a multiple of so many bytes behind those of the first.
-const UNIT: usize = 8;
-
-/// A field: its type, where its contents begin, and how many bytes they have.
+/// A field: its type, where its contents start, and how many bytes they have.
 #[derive(Clone, Copy, PartialEq, Eq, Debug)]
 pub(crate) struct Field {
     pub(crate) kind: u8,
@@ -36,7 +22,7 @@ fn count(value: &[u8], at: usize) -> usize
     ensures count { result ≡ spec.field_count_of value.now at }
     ensures few { result < 65536 }
 {
-    usize::from(u16_at(value, at + COUNT))
+    usize::from(u16_at(value, at + layout::FIELDS_COUNT))
 }
 
 // Whether the table of fields lies in the value.
@@ -45,21 +31,22 @@ fn has_table(value: &[u8], at: usize) -> bool
     requires { at ≤ length value.now }
     ensures { result ≡ spec.has_table value.now at }
 {
-    value.len() - at >= HEAD_LEN && HEAD_LEN + ITEM_LEN * count(value, at) <= value.len() - at
+    value.len() - at >= layout::FIELDS_HEAD_LEN
+        && layout::FIELDS_HEAD_LEN + layout::FIELD_ITEM_LEN * count(value, at) <= value.len() - at
 }
 
-// Field `i`, whose contents begin at `begin`.
+// Field `i`, whose contents start at `start`.
 #[tactic(auto, unfolding(crate::specs::Fields::size_at))]
-fn field_at(value: &[u8], at: usize, i: usize, begin: usize) -> Field
+fn field_at(value: &[u8], at: usize, i: usize, start: usize) -> Field
     requires { at + 8 + 4 * i ≤ length value.now }
-    ensures field { result ≡ spec.placed begin (spec.size_at value.now at i) }
+    ensures field { result ≡ spec.placed start (spec.size_at value.now at i) }
     ensures short { result.len < 65536 }
 {
-    let item = at + HEAD_LEN + ITEM_LEN * i;
+    let item = at + layout::FIELDS_HEAD_LEN + layout::FIELD_ITEM_LEN * i;
     Field {
-        kind: value[item + TYPE],
-        at: begin,
-        len: usize::from(u16_at(value, item + SIZE)),
+        kind: value[item + layout::FIELD_TYPE],
+        at: start,
+        len: usize::from(u16_at(value, item + layout::FIELD_SIZE)),
     }
 }
 
@@ -69,10 +56,10 @@ fn padded(len: usize) -> usize
     ensures padded { result ≡ spec.padded len }
     ensures near { result ≤ len + 7 }
 {
-    UNIT * ((len + (UNIT - 1)) / UNIT)
+    layout::FIELD_UNIT * ((len + (layout::FIELD_UNIT - 1)) / layout::FIELD_UNIT)
 }
 
-// What is found after one more field: what was found before it, else this field where it is of the type.
+// What is found after one more field: what was found before it, otherwise this field where it is of the type.
 #[tactic(auto, unfolding(crate::specs::Search::field_seen))]
 fn see(
     kind: u8,
@@ -96,26 +83,26 @@ fn see(
 fn search(value: &[u8], at: usize, kind: u8, least: usize) -> Result<Option<usize>, RecFault>
     requires table { spec.has_table value.now at ≡ true }
     ensures found { result ≡ place_after (length value.now) kind least None (spec.laid_out (at + 4 + 4 * spec.field_count_of value.now at) (spec.sizes_of value.now at)) }
-    ensures inside { IfOk result (λ place. IfSome place (λ begin. begin + least ≤ length value.now)) }
+    ensures inside { IfOk result (λ place. IfSome place (λ start. start + least ≤ length value.now)) }
 {
     let count = count(value, at);
-    let mut begin = at + HEAD_LEN + ITEM_LEN * count;
+    let mut start = at + layout::FIELDS_HEAD_LEN + layout::FIELD_ITEM_LEN * count;
     let mut found = None;
     'fields: for i in 0..count {
-        let field = field_at(value, at, i, begin);
-        if value.len() < begin + field.len {
+        let field = field_at(value, at, i, start);
+        if value.len() < start + field.len {
             return Err(RecFault::Fields);
         }
         found = match see(kind, least, found, &field) {
             Ok(found) => found,
             Err(why) => return Err(why),
         };
-        begin += padded(field.len);
+        start += padded(field.len);
     }
     Ok(found)
 }
 
-/// Where the contents of the first field of a type begin, of the fields that begin at `at`; None where there is none.
+/// Where the contents of the first field of a type start, of the fields that start at `at`; None where there is none.
 /// `Fields` where the table or a field leaves the value, or where that field has fewer than `least` bytes.
 #[tactic(auto, using(crate::proofs::Places::place_none, crate::proofs::Places::place_untabled, crate::proofs::Places::place_tabled))]
 pub(crate) fn find(
@@ -126,7 +113,7 @@ pub(crate) fn find(
 ) -> Result<Option<usize>, RecFault>
     requires { at ≤ length value.now }
     ensures found { result ≡ spec.field_place value.now at kind least }
-    ensures inside { IfOk result (λ place. IfSome place (λ begin. begin + least ≤ length value.now)) }
+    ensures inside { IfOk result (λ place. IfSome place (λ start. start + least ≤ length value.now)) }
 {
     if value.len() == at {
         return Ok(None);

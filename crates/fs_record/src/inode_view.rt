@@ -2,6 +2,7 @@
 ghost use Rattle.std.specs.Prelude.{◌≡◌};
 ghost use Rattle.fs_record.specs.Inodes.{inode_kind};
 
+use apfs_layout::record as layout;
 use obj_base::{u16_at, u32_at, u64_at};
 use std::marker::Model;
 
@@ -12,20 +13,6 @@ pub struct StreamSize {
     /// How many bytes its blocks have.
     pub allocated: u64,
 }
-
-// The fields of the value by offset.
-const PARENT: usize = 0;
-
-const PRIVATE_ID: usize = 8;
-
-const LINKS: usize = 56;
-
-const BSD_FLAGS: usize = 68;
-
-const MODE: usize = 80;
-
-// The kind of an inode stands in the high 4 bits of its mode.
-const KIND_UNIT: u16 = 1 << 12;
 
 /// An inode, over the bytes of its value. Contracts see its fields.
 #[derive(Debug, Drop)]
@@ -51,42 +38,42 @@ impl Inode<'_> {
     pub fn parent(&self) -> u64
         ensures { result ≡ self.now.parent }
     {
-        u64_at(self.value, PARENT)
+        u64_at(self.value, layout::INODE_PARENT)
     }
 
     /// The id of its stream.
     pub fn private_id(&self) -> u64
         ensures { result ≡ self.now.private_id }
     {
-        u64_at(self.value, PRIVATE_ID)
+        u64_at(self.value, layout::INODE_PRIVATE_ID)
     }
 
     /// The number of a directory's children, and of another inode's hard links.
     pub fn links(&self) -> i32
         ensures { result ≡ self.now.links }
     {
-        u32_at(self.value, LINKS).cast_signed()
+        u32_at(self.value, layout::INODE_LINKS).cast_signed()
     }
 
     /// The BSD flags, which `chflags` sets: 0x20 for a compressed file, 0x40000000 for a dataless one.
     pub fn bsd_flags(&self) -> u32
         ensures { result ≡ self.now.bsd_flags }
     {
-        u32_at(self.value, BSD_FLAGS)
+        u32_at(self.value, layout::INODE_BSD_FLAGS)
     }
 
     /// The kind and the permissions (File-System Constants, "File Modes").
     pub fn mode(&self) -> u16
         ensures { result ≡ self.now.mode }
     {
-        u16_at(self.value, MODE)
+        u16_at(self.value, layout::INODE_MODE)
     }
 
     /// The kind: 4 for a directory, 8 for a regular file, 10 for a symbolic link.
     pub fn kind(&self) -> u16
         ensures { result ≡ inode_kind self.now }
     {
-        self.mode() / KIND_UNIT
+        self.mode() / layout::MODE_KIND_UNIT
     }
 
     /// The size of its stream, where it has one.

@@ -4,19 +4,8 @@ ghost use Rattle.fs_record.specs.Inodes.{inode_of, stream_at};
 
 use crate::fields::find;
 use crate::{Inode, RecFault, StreamSize};
+use apfs_layout::record as layout;
 use obj_base::u64_at;
-
-// The bytes before an inode's extended fields.
-const VALUE_LEN: usize = 92;
-
-// The extended field of a stream: its type (INO_EXT_TYPE_DSTREAM), its bytes, and its fields by offset (j_dstream_t).
-const STREAM: u8 = 8;
-
-const STREAM_LEN: usize = 40;
-
-const SIZE: usize = 0;
-
-const ALLOCATED: usize = 8;
 
 // The size of the stream at a place.
 #[tactic(auto, unfolding(crate::specs::Inodes::stream_at))]
@@ -25,8 +14,8 @@ fn stream_size(value: &[u8], at: usize) -> StreamSize
     ensures { result ≡ stream_at value.now at }
 {
     StreamSize {
-        size: u64_at(value, at + SIZE),
-        allocated: u64_at(value, at + ALLOCATED),
+        size: u64_at(value, at + layout::STREAM_SIZE),
+        allocated: u64_at(value, at + layout::STREAM_ALLOCATED),
     }
 }
 
@@ -41,16 +30,21 @@ fn stream(value: &[u8], place: Option<usize>) -> Option<StreamSize>
     }
 }
 
-/// The inode of a record. `Length` where the value is shorter than 92 bytes, and else `Fields` where its extended fields
+/// The inode of a record. `Length` where the value is shorter than 92 bytes, otherwise `Fields` where its extended fields
 /// don't fit it or that of its stream has fewer than 40 bytes.
 #[tactic(auto, using(crate::proofs::Readings::inode_short, crate::proofs::Readings::inode_bad, crate::proofs::Readings::inode_read))]
 pub fn inode(value: &[u8]) -> Result<Inode<'_>, RecFault>
     ensures { result ≡ inode_of value.now }
 {
-    if value.len() < VALUE_LEN {
+    if value.len() < layout::INODE_LEN {
         return Err(RecFault::Length);
     }
-    match find(value, VALUE_LEN, STREAM, STREAM_LEN) {
+    match find(
+        value,
+        layout::INODE_LEN,
+        layout::FIELD_STREAM,
+        layout::STREAM_LEN,
+    ) {
         Ok(place) => Ok(Inode {
             value,
             stream: stream(value, place),

@@ -9,6 +9,7 @@ mod fault;
 mod fields;
 mod inode_view;
 mod inodes;
+mod refusals;
 mod siblings;
 #[cfg(test)]
 mod tests;
@@ -20,4 +21,5 @@ pub use extents::{FileExt, file_ext};
 pub use fault::{IdAt, NamedAt, RecFault, TreeFault};
 pub use inode_view::{Inode, StreamSize};
 pub use inodes::inode;
+pub use refusals::refused;
 pub use siblings::{Sibling, sibling_link, sibling_map};

@@ -3,28 +3,10 @@ ghost use Rattle.std.specs.Prelude.{◌≡◌, ◌≤◌, length, false};
 ghost use Rattle.fs_record.specs.Siblings.{link_of, link_name_bytes, is_link_short, sibling_file_of};
 
 use crate::RecFault;
+use apfs_layout::{key as keys, record as layout};
 use fs_name::stored_name;
 use obj_base::{u16_at, u64_at};
 use std::marker::Model;
-
-// The fields of a record's key by offset; the id stands in the low 60 bits.
-const ID_AND_KIND: usize = 0;
-
-const ID_UNIT: u64 = 1 << 60;
-
-const SIBLING: usize = 8;
-
-// The fields of a link's value by offset.
-const PARENT: usize = 0;
-
-const NAME_LEN: usize = 8;
-
-const NAME: usize = 10;
-
-// The field of a map's value, and its bytes.
-const FILE: usize = 0;
-
-const MAP_LEN: usize = 8;
 
 /// A sibling link: one of the names of a file.
 #[derive(Debug, Drop)]
@@ -79,7 +61,8 @@ fn is_short(value: &[u8]) -> bool
     ensures short { result ≡ is_link_short value.now }
     ensures long { result ≡ false → 10 ≤ length value.now }
 {
-    value.len() < NAME || value.len() < NAME + usize::from(u16_at(value, NAME_LEN))
+    value.len() < layout::LINK_NAME
+        || value.len() < layout::LINK_NAME + usize::from(u16_at(value, layout::LINK_NAME_LEN))
 }
 
 // A link's name, with its final zero.
@@ -88,11 +71,11 @@ fn name_bytes(value: &[u8]) -> &[u8]
     requires { is_link_short value.now ≡ false }
     ensures { result.now ≡ link_name_bytes value.now }
 {
-    &value[NAME..NAME + usize::from(u16_at(value, NAME_LEN))]
+    &value[layout::LINK_NAME..layout::LINK_NAME + usize::from(u16_at(value, layout::LINK_NAME_LEN))]
 }
 
 /// The sibling link of a record, whose key has the file and the sibling. `Length` where the value is too short for its
-/// name, and else `Name` where that isn't a proper name.
+/// name, otherwise `Name` where that isn't a proper name.
 #[tactic(auto, unfolding(crate::specs::Siblings::link_of, bt_keys::specs::RecordKey::id_of, bt_keys::specs::RecordKey::second_of, fs_name::specs::Text::name_of))]
 pub fn sibling_link<'a>(key: &[u8], value: &'a [u8]) -> Result<Sibling<'a>, RecFault>
     requires { 16 ≤ length key.now }
@@ -103,9 +86,9 @@ pub fn sibling_link<'a>(key: &[u8], value: &'a [u8]) -> Result<Sibling<'a>, RecF
     }
     match stored_name(name_bytes(value)) {
         Some(name) => Ok(Sibling {
-            file: u64_at(key, ID_AND_KIND) % ID_UNIT,
-            sibling: u64_at(key, SIBLING),
-            parent: u64_at(value, PARENT),
+            file: u64_at(key, keys::ID_AND_KIND) % keys::KIND_UNIT,
+            sibling: u64_at(key, keys::SECOND),
+            parent: u64_at(value, layout::LINK_PARENT),
             name,
         }),
         None => Err(RecFault::Name),
@@ -117,8 +100,8 @@ pub fn sibling_link<'a>(key: &[u8], value: &'a [u8]) -> Result<Sibling<'a>, RecF
 pub fn sibling_map(value: &[u8]) -> Result<u64, RecFault>
     ensures { result ≡ sibling_file_of value.now }
 {
-    if value.len() < MAP_LEN {
+    if value.len() < layout::MAP_LEN {
         return Err(RecFault::Length);
     }
-    Ok(u64_at(value, FILE))
+    Ok(u64_at(value, layout::MAP_FILE))
 }

@@ -1,30 +1,60 @@
 // Records that were put together by hand, as a writer would, and with each part wrong alone.
+ghost use Rattle.std.specs.Prelude.{◌≡◌};
+ghost use Rattle.fs_name.specs.Normal.{are_hashed};
+
 use crate::{
-    AttrBody, DirEntry, FileExt, RecFault, StreamSize, attr, entry, file_ext, inode, sibling_link,
-    sibling_map,
+    AttrBody, DirEntry, FileExt, RecFault, StreamSize, attr, entry, file_ext, inode, refused,
+    sibling_link, sibling_map,
 };
+use bt_keys::{FsKey, FsPlainKey, FsTreeKey};
+use bt_node::Entry;
 use fs_name::Names;
 use std::alloc::Global;
 use std::test::Fail;
 
-// An inode's value with a field of 5 bytes of type 4, and then a stream of 7 bytes in a block of 4,096.
-fn inode_value(alloc: Global) -> Result<Vec<u8>, Fail> {
+// An inode's value with a field of so many bytes of type 4, padded, and then a stream of 7 bytes in a block of 4,096.
+fn inode_value(alloc: Global, len: u8, padded: &[u8]) -> Result<Vec<u8>, Fail> {
     let mut value = Vec::new(alloc);
     value.extend_from_slice(&[2, 0, 0, 0, 0, 0, 0, 0, 16, 0, 0, 0, 0, 0, 0, 0])?;
     value.extend_from_slice(&[0; 40])?;
     value.extend_from_slice(&[1, 0, 0, 0, 0, 0, 0, 0, 0, 0, 0, 0, 0x20, 0, 0, 0])?;
     value.extend_from_slice(&[0, 0, 0, 0, 0, 0, 0, 0, 0, 0x81])?;
     value.extend_from_slice(&[0; 10])?;
-    value.extend_from_slice(&[2, 0, 48, 0, 4, 0, 5, 0, 8, 0, 40, 0])?;
-    value.extend_from_slice(&[9; 8])?;
+    value.extend_from_slice(&[2, 0, 48, 0, 4, 0, len, 0, 8, 0, 40, 0])?;
+    value.extend_from_slice(padded)?;
     value.extend_from_slice(&[7, 0, 0, 0, 0, 0, 0, 0, 0, 16])?;
     value.extend_from_slice(&[0; 30])?;
     Ok(value)
 }
 
+const STREAM: StreamSize = StreamSize {
+    size: 7,
+    allocated: 4096,
+};
+
+#[test]
+fn a_stream_is_found_after_a_padded_field(rt: HostRuntime) -> Result<(), Fail> {
+    for (len, padded) in [
+        (0, [].as_slice()),
+        (1, &[9; 8]),
+        (4, &[9; 8]),
+        (5, &[9; 8]),
+        (8, &[9; 8]),
+        (9, &[9; 16]),
+    ] {
+        let value = inode_value(rt.alloc(), len, padded)?;
+        let read = inode(&value);
+        assert!(rt;
+            matches!(read, Ok(inode) if inode.stream() == Some(STREAM)),
+            "{len} bytes"
+        );
+    }
+    Ok(())
+}
+
 #[test]
 fn an_inode_is_read(rt: HostRuntime) -> Result<(), Fail> {
-    let value = inode_value(rt.alloc())?;
+    let value = inode_value(rt.alloc(), 3, &[9; 8])?;
     let read = inode(&value);
     assert!(rt; read.is_ok());
     if let Ok(inode) = read {
@@ -36,11 +66,7 @@ fn an_inode_is_read(rt: HostRuntime) -> Result<(), Fail> {
             (inode.bsd_flags(), inode.mode(), inode.kind()),
             (0x20, 0x8100, 8)
         );
-        let stream = StreamSize {
-            size: 7,
-            allocated: 4096,
-        };
-        assert_eq!(rt; inode.stream(), Some(stream));
+        assert_eq!(rt; inode.stream(), Some(STREAM));
     }
     for (len, why) in [
         (91, RecFault::Length),
@@ -69,10 +95,10 @@ const PLAIN_KEY: &[u8] = &[
     2, 0, 0, 0, 0, 0, 0, 0x90, 6, 0, b'h', b'e', b'l', b'l', b'o', 0,
 ];
 
-// The value of an entry of the regular file 16, with a field of the sibling 18.
+// The value of an entry of the regular file 16, with a flag beside its kind, and a field of the sibling 18.
 const ENTRY_VALUE: &[u8] = &[
-    16, 0, 0, 0, 0, 0, 0, 0, 0, 0, 0, 0, 0, 0, 0, 0, 8, 0, 1, 0, 8, 0, 1, 0, 8, 0, 18, 0, 0, 0, 0,
-    0, 0, 0,
+    16, 0, 0, 0, 0, 0, 0, 0, 0, 0, 0, 0, 0, 0, 0, 0, 0x18, 0, 1, 0, 8, 0, 1, 0, 8, 0, 18, 0, 0, 0,
+    0, 0, 0, 0,
 ];
 
 const UNNAMED_KEY: &[u8] = &[2, 0, 0, 0, 0, 0, 0, 0x90, 1, 0, 0];
@@ -174,4 +200,78 @@ fn an_extent_is_read(rt: HostRuntime) {
     };
     assert_eq!(rt; file_ext(SECOND_KEY, &value), Ok(extent));
     assert_eq!(rt; file_ext(SECOND_KEY, &value[..23]), Err(RecFault::Length));
+}
+
+// Why a record of a tree with these keys is refused; `Flags` where its key isn't read.
+fn why<K: FsTreeKey>(names: Names, key_bytes: &[u8], value: &[u8]) -> Option<RecFault>
+    requires { are_hashed names ≡ K.HASHED }
+{
+    let Some(key) = K::read(key_bytes) else {
+        return Some(RecFault::Flags);
+    };
+    let value = Some(value);
+    refused(
+        names,
+        &Entry {
+            key,
+            key_bytes,
+            value,
+        },
+    )
+}
+
+// The key of an inode, of a stream's id and of a sibling map; of an attribute; of an extent.
+const INODE_KEY: &[u8] = &[16, 0, 0, 0, 0, 0, 0, 0x30];
+
+const STREAM_KEY: &[u8] = &[16, 0, 0, 0, 0, 0, 0, 0x60];
+
+const MAP_KEY: &[u8] = &[18, 0, 0, 0, 0, 0, 0, 0xc0];
+
+const ATTRIBUTE_KEY: &[u8] = &[16, 0, 0, 0, 0, 0, 0, 0x40, 2, 0, b'a', 0];
+
+const EXTENT_KEY: &[u8] = &[16, 0, 0, 0, 0, 0, 0, 0x80, 0, 0, 0, 0, 0, 0, 0, 0];
+
+// A key, a value, and why the record is refused.
+const RECORDS: &[(&[u8], &[u8], Option<RecFault>)] = &[
+    (INODE_KEY, &[0; 92], None),
+    (INODE_KEY, &[0; 91], Some(RecFault::Length)),
+    (INODE_KEY, &[0; 95], Some(RecFault::Fields)),
+    (ATTRIBUTE_KEY, &[2, 0, 0, 0], None),
+    (ATTRIBUTE_KEY, &[3, 0, 0, 0], Some(RecFault::Length)),
+    (ATTRIBUTE_KEY, &[0, 0, 0, 0], Some(RecFault::Flags)),
+    (SECOND_KEY, &[2, 0, 0, 0, 0, 0, 0, 0, 2, 0, b'a', 0], None),
+    (
+        SECOND_KEY,
+        &[2, 0, 0, 0, 0, 0, 0, 0, 1, 0, 0],
+        Some(RecFault::Name),
+    ),
+    (EXTENT_KEY, &[0; 24], None),
+    (EXTENT_KEY, &[0; 23], Some(RecFault::Length)),
+    (MAP_KEY, &[0; 8], None),
+    (MAP_KEY, &[0; 7], Some(RecFault::Length)),
+    (STREAM_KEY, &[], None),
+];
+
+#[test]
+fn records_are_refused_by_their_readers(rt: HostRuntime) {
+    for (key, value, want) in RECORDS {
+        assert_eq!(rt; why::<FsKey>(Names::Normal, key, value), *want, "{key:?}");
+        assert_eq!(rt;
+            why::<FsPlainKey>(Names::Exact, key, value),
+            *want,
+            "{key:?}"
+        );
+    }
+    let short = Some(RecFault::Length);
+    assert_eq!(rt; why::<FsKey>(Names::Folded, HASHED_KEY, ENTRY_VALUE), None);
+    assert_eq!(rt;
+        why::<FsKey>(Names::Folded, HASHED_KEY, &ENTRY_VALUE[..17]),
+        short
+    );
+    assert_eq!(rt;
+        why::<FsPlainKey>(Names::Exact, PLAIN_KEY, ENTRY_VALUE),
+        None
+    );
+    let unnamed = why::<FsPlainKey>(Names::Exact, UNNAMED_KEY, &ENTRY_VALUE[..18]);
+    assert_eq!(rt; unnamed, Some(RecFault::Name));
 }
