@@ -19,7 +19,7 @@ abbrev pub Gives : {T U F : Type 0} → (T → U) → Result T (Stop F) → Resu
 Gives view (Ok value) answer = answer ≡ Ok (view value)
 Gives view (Err stop) answer = Tells (λ f. answer ≡ Err (Found f)) (λ name block. answer ≡ Err (Unsupported name block)) stop
 
--- the answer is one of those that are there: a fact of the value, else what the stop tells
+-- the answer is one of those that are there: a fact of the value, and otherwise what the stop tells
 abbrev pub Answers : {T F : Type 0} → (T → Type 0) → (F → Type 0) → (Feature → ℕ → Type 0) → Result T (Stop F) → Type 0
 Answers value fault feature (Ok x) = value x
 Answers value fault feature (Err stop) = Tells fault feature stop
@@ -37,7 +37,7 @@ abbrev pub in_block : {F : Type 0} → ℕ → Bad F → Stop (Unsound F)
 in_block block (bads.Found why) = Found (record { block = block; why = why })
 in_block block (bads.Unsupported feature) = Unsupported feature block
 
--- a stop whose fault is told in other words; all else stays
+-- a stop whose fault is told in other words; the rest stays
 abbrev pub raised : {F G : Type 0} → (F → G) → Stop F → Stop G
 raised say (Found fault) = Found (say fault)
 raised say (Unsupported feature block) = Unsupported feature block
@@ -55,7 +55,7 @@ IsFoundAnd (Unsupported feature block) fact = ⊥
 IsFoundAnd ReadFault fact = ⊥
 IsFoundAnd NoMemory fact = ⊥
 
--- a stop is another one, its fault told in words that a relation allows; all else is the same
+-- a stop is another one, its fault told in words that a relation allows; the rest is the same
 abbrev pub IsRaised : {F G : Type 0} → (F → G → Type 0) → Stop F → Stop G → Type 0
 IsRaised says (Found fault) stop = IsFoundAnd stop (says fault)
 IsRaised says (Unsupported feature block) stop = stop ≡ Unsupported feature block
