@@ -200,6 +200,7 @@ met_twice = record {
   directory = refl;
 }
 
+-- ---- names
 -- names that differ in their case alone are the same where case is folded, and others aren't
 read_me : is_same_name Folded (codes "ReadMe") (codes "README") ≡ true
 unfolding is_same_name
