@@ -36,6 +36,7 @@ is_unnamed_note (Count slot block stored streams) = false
 abbrev pub skipped_note : ℕ × ℕ → Note
 skipped_note candidate = Skipped candidate.0 candidate.1
 
+-- those of a checkpoint
 abbrev pub skipped_notes : Seen → List Note
 skipped_notes seen = map skipped_note seen.skipped
 
@@ -55,6 +56,7 @@ view_unnamed_notes image seen head view = unnamed_notes view (view_facts image (
 abbrev pub unreached_note : VolHead → ℕ × ℕ → Note
 unreached_note head run = Unreached head.slot run.0 run.1
 
+-- those of a volume
 abbrev pub unreached_notes : List ℕ → Seen → VolHead → List Note
 unreached_notes image seen head = map (unreached_note head) (unreached_in image seen head)
 
@@ -62,6 +64,7 @@ unreached_notes image seen head = map (unreached_note head) (unreached_in image 
 abbrev pub count_note : List ℕ → Seen → VolHead → NewRange → Note
 count_note image seen head r = Count head.slot r.first r.count (given (streams_in image seen head r))
 
+-- those of a volume, in tree order
 abbrev pub count_notes : List ℕ → Seen → VolHead → List Note
 count_notes image seen head = map (count_note image seen head) (miscounted_in image seen head)
 

@@ -45,6 +45,7 @@ pub record IsVolumeFault (image : List ℕ) (fault : VolStop) (seen : Seen) : Ty
   pub one : In head (sound_heads image seen)
   pub there : IsLoadStop image (site_of seen) head fault
 
+-- a fault of a volume is there
 abbrev pub HasVolumeFault : List ℕ → VolStop → Type 0
 HasVolumeFault image fault = OfNewest image (IsVolumeFault image fault)
 

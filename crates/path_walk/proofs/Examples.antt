@@ -1,9 +1,6 @@
 -- Paths, listings and trees on small lists of facts.
 use Rattle.std.proofs.Common.{◌≡◌, ℕ, ◌*◌, true, false, List, [], ◌∷◌, Some, None, Result, Ok, Err, inr, refl, ap, ap₂, arith, cond, zero, suc}
 use Rattle.std.specs.Prelude.{codes, pos, ◌++◌, bytes_eq, nat_lt}
-use Rattle.std.specs.List.{list_all}
-use Rattle.std.specs.Str.{IsAscii}
-use Rattle.std.proofs.lemmas.Bool.{ltb-true}
 use Rattle.std.specs.Fmt.{digits}
 use Rattle.apfs_model.specs.Blocks.{block_of}
 use Rattle.fs_name.specs.Normal.{is_same_name}
@@ -28,7 +25,7 @@ use Rattle.path_walk.specs.Texts.{kind_text, ls_text, tree_text, xattr_text}
 use Rattle.path_walk.specs.Met.{Spot, spot_in, number_named, taken, own, below, IsMetTwice}
 use Rattle.path_walk.specs.declared.answer.Answer.{Answer}
 use Rattle.path_walk.specs.declared.answer.Answer.TheVariants.{NotFound, NotDirectory, NotFile, Compressed, Dataless, NoAttribute}
-use Rattle.apfs_model.proofs.Tests.{left-true, right-true}
+use Rattle.view_rules.proofs.HashExamples.{ascii-by}
 
 -- ---- facts
 abbrev inode : ℕ → ℕ → ℕ → Fact Inode
@@ -204,12 +201,6 @@ met_twice = record {
 }
 
 -- ---- names
-ascii-by : (bs : List ℕ) → list_all (λ b. nat_lt b 128) bs ≡ true → IsAscii bs
-ascii-by [] e zero = omega arith
-ascii-by [] e (suc i) = omega arith
-ascii-by (b ∷ bs) e zero = ltb-true b 128 (left-true (nat_lt b 128) (list_all (λ b. nat_lt b 128) bs) e)
-ascii-by (b ∷ bs) e (suc i) = ascii-by bs (right-true (nat_lt b 128) (list_all (λ b. nat_lt b 128) bs) e) i
-
 -- names that differ in their case alone are the same where case is folded, and others aren't
 read_me : is_same_name Folded (codes "ReadMe") (codes "README") ≡ true
 unfolding is_same_name

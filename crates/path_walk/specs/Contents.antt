@@ -31,6 +31,7 @@ abbrev pub contents_by : ℕ → List ℕ → Facts → ℕ → Option StreamSiz
 contents_by block_size image facts id None = []
 contents_by block_size image facts id (Some stream) = stream_in block_size image facts id stream.size
 
+-- the contents of an inode
 abbrev pub contents_in : ℕ → List ℕ → Facts → Inode → List ℕ
 contents_in block_size image facts inode = contents_by block_size image facts inode.private_id inode.stream
 

@@ -16,6 +16,7 @@ pub record Spot : Type 0 where
   pub id : ℕ
   pub number : ℕ
 
+-- a spot by its parts
 abbrev pub spot_in : ℕ → ℕ → Spot
 spot_in id number = record { id = id; number = number }
 

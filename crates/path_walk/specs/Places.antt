@@ -12,6 +12,7 @@ pub record Place : Type 0 where
   pub name : List ℕ
   pub inode : Inode
 
+-- a place by its parts
 abbrev pub placed : ℕ → List ℕ → Inode → Place
 placed id name inode = record { id = id; name = name; inode = inode }
 

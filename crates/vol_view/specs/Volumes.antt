@@ -44,6 +44,7 @@ snapshot_by pair value bytes = record {
   meta_ext = field.meta_ext_of bytes;
 }
 
+-- that of a record, with its superblock as it stands in the image
 unfoldable pub snapshot_in : List ℕ → Site → Pair → Snapshot
 snapshot_in image site pair = snapshot_by pair (bytes_in pair.value) (super_in image site (snap_super_of (bytes_in pair.value)))
 
