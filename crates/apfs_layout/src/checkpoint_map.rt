@@ -1,5 +1,8 @@
 // A checkpoint map (Container, checkpoint_map_phys_t), by offset.
 
+/// The flags, which aren't read.
+pub const FLAGS: usize = 32;
+
 pub const COUNT: usize = 36;
 
 pub const MAPPINGS: usize = 40;
@@ -18,3 +21,6 @@ pub const MAPPING_SIZE: usize = 8;
 pub const MAPPING_OID: usize = 24;
 
 pub const MAPPING_PADDR: usize = 32;
+
+/// The flag of the last map of a checkpoint (Container, Checkpoint Flags).
+pub const LAST_MAP: u32 = 1;

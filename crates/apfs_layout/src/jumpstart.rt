@@ -2,6 +2,11 @@
 
 pub const MAGIC: usize = 32;
 
+/// The version and the length of the driver in bytes, which aren't read.
+pub const VERSION: usize = 36;
+
+pub const DRIVER_LEN: usize = 40;
+
 pub const COUNT: usize = 44;
 
 pub const EXTENTS: usize = 176;

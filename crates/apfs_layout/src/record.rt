@@ -66,6 +66,13 @@ pub const MAP_FILE: usize = 0;
 
 pub const MAP_LEN: usize = 8;
 
+// Data Streams, j_dstream_id_val_t.
+
+/// How many files have the stream, which isn't read.
+pub const STREAM_COUNT: usize = 0;
+
+pub const STREAM_ID_LEN: usize = 4;
+
 // Data Streams, j_file_extent_val_t.
 
 /// The length in bytes in the low 56 bits, flags in the others.
@@ -82,9 +89,15 @@ pub const EXTENT_FLAG_UNIT: u64 = 1 << 56;
 
 pub const FIELDS_COUNT: usize = 0;
 
+/// The bytes of all fields, which aren't compared.
+pub const FIELDS_USED: usize = 2;
+
 pub const FIELDS_HEAD_LEN: usize = 4;
 
 pub const FIELD_TYPE: usize = 0;
+
+/// The flags of a field, which aren't read.
+pub const FIELD_FLAGS: usize = 1;
 
 pub const FIELD_SIZE: usize = 2;
 
@@ -107,3 +120,6 @@ pub const STREAM_SIZE: usize = 0;
 pub const STREAM_ALLOCATED: usize = 8;
 
 pub const STREAM_LEN: usize = 40;
+
+/// The flag of a field that the system has made (Extended Fields, Extended-Field Flags).
+pub const FIELD_OF_SYSTEM: u8 = 0x20;

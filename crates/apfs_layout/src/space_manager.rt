@@ -45,6 +45,11 @@ pub const MAIN_QUEUE_TREE: usize = 248;
 
 pub const SECOND_QUEUE_TREE: usize = 288;
 
+/// How many blocks the main queue holds, and the oldest transaction in it, which aren't compared.
+pub const MAIN_QUEUE_COUNT: usize = 240;
+
+pub const MAIN_QUEUE_OLDEST: usize = 256;
+
 /// The limits of two queues, which aren't read.
 pub const POOL_QUEUE_LIMIT: usize = 224;
 

@@ -47,6 +47,9 @@ pub const SNAPSHOT_SUPERBLOCK: usize = 8;
 
 pub const SNAPSHOT_CREATED: usize = 16;
 
+/// The type of the extent reference tree, which isn't read.
+pub const SNAPSHOT_EXTENTS_TYPE: usize = 40;
+
 pub const SNAPSHOT_FLAGS: usize = 44;
 
 pub const SNAPSHOT_NAME_LEN: usize = 48;

@@ -5,7 +5,17 @@ pub const MAGIC: usize = 32;
 /// The volume's slot, which isn't read.
 pub const SLOT: usize = 36;
 
+/// The features that aren't incompatible, which aren't read.
+pub const FEATURES: usize = 40;
+
 pub const INCOMPAT: usize = 56;
+
+/// What is said of the volume's keys (Encryption, wrapped_meta_crypto_state_t), which isn't read: the version, the class, and the revision.
+pub const CRYPTO_VERSION: usize = 96;
+
+pub const CRYPTO_CLASS: usize = 104;
+
+pub const CRYPTO_REVISION: usize = 112;
 
 pub const ROOT_TYPE: usize = 116;
 
@@ -23,13 +33,22 @@ pub const SNAPS_ROOT: usize = 152;
 
 pub const REVERT_TO: usize = 160;
 
+/// The next id of a file, which isn't read.
+pub const NEXT_ID: usize = 176;
+
 pub const SNAPSHOTS: usize = 216;
 
 pub const UUID: usize = 240;
 
 pub const FS_FLAGS: usize = 264;
 
+/// The transaction in which the volume was made, which isn't read.
+pub const FORMATTED_BY_XID: usize = 312;
+
 pub const NAME: usize = 704;
+
+/// The next document id, which isn't read.
+pub const NEXT_DOCUMENT: usize = 960;
 
 pub const ROLE: usize = 964;
 
@@ -69,3 +88,6 @@ pub const SEALED: u64 = 0x20;
 
 /// The volume flag "not encrypted" (Volumes, Volume Flags).
 pub const UNENCRYPTED: u64 = 1;
+
+/// The feature that siblings tell of each name of a file (Volumes, Volume Feature Flags).
+pub const HARD_LINK_RECORDS: u64 = 2;
