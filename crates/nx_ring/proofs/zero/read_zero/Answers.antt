@@ -29,7 +29,7 @@ pub returns-clause-whole : goal.returns-clause-whole
 returns-clause-whole g c =
     IfOk-weaker c.read_new-2.result _ _
     (λ bytes e. ap is_accepted e ∙ (size_bounds c.deref.result.now c.in-Some.size c.in-Some.ensures).0)
-    c.read_new-2.ensures.len
+    c.read_new-2.ensures.long
 
 pub returns-clause-found : goal.returns-clause-found
 returns-clause-found g c image told =
