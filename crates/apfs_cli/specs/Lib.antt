@@ -1,4 +1,5 @@
 pub mod Words
+pub mod Cache
 pub mod Texts
 pub mod Names
 pub mod Raised

@@ -1,5 +1,33 @@
 //! The commands: each writes its text on a sink, and stops where there is none.
+ghost use Rattle.std.specs.Prelude.{◌≡◌, Some};
+ghost use Rattle.apfs_model.specs.Source.{IsKept};
+ghost use Rattle.blk_source.specs.declared.source.Opened.TheVariants.{Image};
+ghost use Rattle.apfs_cli.specs.Says.{HasEnded};
+ghost use Rattle.apfs_cli.specs.Words.{said};
+ghost use Rattle.apfs_cli.specs.Written.{sunk};
 
-pub mod info;
-pub mod ring;
-pub mod volumes;
+mod info;
+mod ring;
+mod volumes;
+
+use crate::stopped::Stopped;
+use crate::words::Command;
+use blk_source::{BlockSource, Sink};
+use std::alloc::Global;
+
+/// Runs a command that takes an image.
+pub fn on_image<S: BlockSource, W: Sink>(
+    alloc: Global,
+    command: Command,
+    src: &mut S,
+    out: &mut W,
+) -> Result<(), Stopped>
+    ensures answer { HasEnded S.bytes S.faults (Some (said command)) (Image src.old) (Image src.new) result (sunk W.contents W.faults out.old out.new) }
+    ensures kept { IsKept S.bytes S.bytes_len S.faults src.old src.new }
+{
+    match command {
+        Command::Ring => ring::write(alloc, src, out),
+        Command::Info => info::write(alloc, src, out),
+        Command::Volumes => volumes::write(alloc, src, out),
+    }
+}

@@ -4,6 +4,7 @@
 mod commands;
 mod fault;
 mod fault_text;
+mod over_cache;
 mod put;
 mod run;
 mod say;

@@ -1,37 +1,19 @@
 // The program, over what it is handed.
 ghost use Rattle.std.specs.Prelude.{◌≡◌, map, None, Some};
 ghost use Rattle.std.specs.String.{string_bytes};
-ghost use Rattle.apfs_model.specs.Source.{IsKept};
-ghost use Rattle.blk_source.specs.declared.source.Opened.TheVariants.{Image};
 ghost use Rattle.apfs_cli.specs.Outcome as outcomes;
 ghost use Rattle.apfs_cli.specs.Rows.{BothWrote, HasText, NamesFault, NamesFeature, SaysReadFailed, SaysOutOfMemory, HasFailedPut, HasDefinedText, IsExactly, IsWholeOrFree};
 ghost use Rattle.apfs_cli.specs.Says.{Says, HasEnded, HasNoImage, IsOpenedKept};
 ghost use Rattle.apfs_cli.specs.Words.{command_of, said};
 ghost use Rattle.apfs_cli.specs.Written.{sunk, Ends};
 
-use crate::commands::{info, ring, volumes};
+use crate::over_cache::on_cache;
 use crate::say::say;
 use crate::stopped::Stopped;
 use crate::words::{Command, asked};
 use blk_source::{BlockSource, Opened, Sink};
 use std::alloc::Global;
-
-// Runs a command that takes an image.
-fn on_image<S: BlockSource, W: Sink>(
-    alloc: Global,
-    command: Command,
-    src: &mut S,
-    out: &mut W,
-) -> Result<(), Stopped>
-    ensures answer { HasEnded S.bytes S.faults (Some (said command)) (Image src.old) (Image src.new) result (sunk W.contents W.faults out.old out.new) }
-    ensures kept { IsKept S.bytes S.bytes_len S.faults src.old src.new }
-{
-    match command {
-        Command::Ring => ring::write(alloc, src, out),
-        Command::Info => info::write(alloc, src, out),
-        Command::Volumes => volumes::write(alloc, src, out),
-    }
-}
+use std::mem;
 
 // Runs a command on what was handed in.
 fn on_opened<S: BlockSource, W: Sink>(
@@ -43,9 +25,13 @@ fn on_opened<S: BlockSource, W: Sink>(
     ensures answer { HasEnded S.bytes S.faults (Some (said command)) image.old image.new result (sunk W.contents W.faults out.old out.new) }
     ensures kept { IsOpenedKept S.bytes S.bytes_len image.old image.new }
 {
-    match image {
+    match mem::replace(image, Opened::Absent) {
         Opened::Absent => Err(Stopped::NoImage),
-        Opened::Image(src) => on_image(alloc, command, src, out),
+        Opened::Image(src) => {
+            let (ended, src) = on_cache(alloc, command, src, out);
+            *image = Opened::Image(src);
+            ended
+        }
     }
 }
 

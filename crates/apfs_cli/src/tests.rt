@@ -2,9 +2,11 @@
 mod images;
 
 use crate::run::run;
-use blk_source::{MemSink, Opened};
+use blk_source::{MemSink, Opened, StdSink};
 use images::*;
 use std::alloc::Global;
+use std::cell::Cell;
+use std::io::{self, Write};
 use std::test::Fail;
 
 const ROOM: usize = 4096;
@@ -20,6 +22,8 @@ type Case = (
 );
 
 const USAGE: &str = "apfs: usage: apfs COMMAND IMAGE [WORDS]\n";
+
+const NO_IMAGE: &str = "apfs: no image\n";
 
 const RING_LINES: &str =
     "1 block 2 xid 9 from 0 length 2\n5 block 6 xid 7 from 4 length 2\n7 block 8 xid 8 from 6 length 2\n";
@@ -59,6 +63,30 @@ const CASES: &[Case] = &[
         "apfs: fault: BlockZero\n",
     ),
     (
+        "fault_truncated_info",
+        Image::SmallCutSplit,
+        INFO,
+        1,
+        "",
+        "apfs: fault: Truncated have 255 need 256\n",
+    ),
+    (
+        "fault_truncated_volumes",
+        Image::SmallCutSplit,
+        VOLUMES,
+        1,
+        "",
+        "apfs: fault: Truncated have 255 need 256\n",
+    ),
+    (
+        "feature_non_contiguous_volumes",
+        Image::SmallSplit,
+        VOLUMES,
+        6,
+        "",
+        "apfs: unsupported: NonContiguous block 0\n",
+    ),
+    (
         "feature_non_contiguous",
         Image::RingSplit,
         RING,
@@ -91,7 +119,7 @@ const CASES: &[Case] = &[
         RING,
         8,
         "",
-        "apfs: no image\n",
+        NO_IMAGE,
     ),
     (
         "answer_no_image_info",
@@ -99,7 +127,7 @@ const CASES: &[Case] = &[
         INFO,
         8,
         "",
-        "apfs: no image\n",
+        NO_IMAGE,
     ),
     ("clean_info", Image::Empty, INFO, 0, INFO_LINES, ""),
     (
@@ -404,6 +432,65 @@ fn failure_of_each_read(rt: HostRuntime) -> Result<(), Fail> {
             let as_said = ended_with(&ended, 3, "", "apfs: read failed\n");
             assert!(rt; as_said, "read {number}: status {}", ended.status);
         }
+    }
+    Ok(())
+}
+
+// Whether a put of the first sink fails at these lines, so that it has those before it and the second sink has nothing.
+fn stops_after(ended: &Ended, lines: &str) -> bool {
+    ended_with(ended, 4, lines, "")
+}
+
+#[test]
+fn failure_of_a_later_put(rt: HostRuntime) -> Result<(), Fail> {
+    let ended = end(rt.alloc(), Image::Ring, RING, [&[], &[1], &[]])?;
+    assert!(rt; stops_after(&ended, ""));
+    let ended = end(rt.alloc(), Image::Ring, RING, [&[], &[2], &[]])?;
+    assert!(rt; stops_after(&ended, "1 block 2 xid 9 from 0 length 2\n"));
+    let ended = end(rt.alloc(), Image::Ring, RING, [&[], &[3], &[]])?;
+    assert!(rt; stops_after(&ended, "1 block 2 xid 9 from 0 length 2\n5 block 6 xid 7 from 4 length 2\n"));
+    let ended = end(rt.alloc(), Image::Ring, RING, [&[], &[4], &[]])?;
+    assert!(rt; ended_with(&ended, 0, RING_LINES, ""));
+    Ok(())
+}
+
+// A writer that keeps what it takes back until it is flushed, and counts the bytes that it has let go.
+#[derive(Drop)]
+struct Holding<'a> {
+    held: u64,
+    shown: &'a Cell<u64>,
+}
+
+impl Write for Holding<'_> {
+    fn write(&mut self, piece: &[u8]) -> io::Result<usize> {
+        self.held = self.held.saturating_add(piece.len() as u64);
+        Ok(piece.len())
+    }
+
+    fn flush(&mut self) -> io::Result<()> {
+        self.shown.set(self.shown.get().saturating_add(self.held));
+        self.held = 0;
+        Ok(())
+    }
+}
+
+#[test]
+fn what_is_written_is_flushed(rt: HostRuntime) -> Result<(), Fail> {
+    let alloc = rt.alloc();
+    let words = vec![in alloc; String::from_str(alloc, "ring")?, String::from_str(alloc, "x")?]?;
+    for (image, on_out, on_err) in [(Image::Ring, RING_LINES, ""), (Image::Absent, "", NO_IMAGE)] {
+        let (shown, said) = (Cell::new(0), Cell::new(0));
+        let mut out = StdSink::new(Holding {
+            held: 0,
+            shown: &shown,
+        });
+        let mut err = StdSink::new(Holding {
+            held: 0,
+            shown: &said,
+        });
+        let mut image = handed(alloc, image, Vec::new(alloc))?;
+        let _status = run(alloc, &words, &mut image, &mut out, &mut err);
+        assert_eq!(rt; (shown.get(), said.get()), (on_out.len() as u64, on_err.len() as u64));
     }
     Ok(())
 }

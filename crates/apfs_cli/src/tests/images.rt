@@ -27,6 +27,8 @@ pub const SUBTYPE: usize = 28;
 
 const FEATURES: usize = 64;
 
+const DESC_BLOCKS: usize = 104;
+
 const DESC_INDEX: usize = 136;
 
 const BLOCKED_OUT_BLOCKS: usize = 1248;
@@ -82,6 +84,10 @@ pub enum Image {
     Small,
     /// The sum of its volume's superblock is wrong.
     SmallUnsummed,
+    /// Block 0 says that its descriptor area isn't contiguous.
+    SmallSplit,
+    /// The same without its last block.
+    SmallCutSplit,
     /// The block of this number has other bytes from a place on, and a right sum.
     SmallChanged(usize, usize, &'static [u8]),
     /// A container with two such volumes, the keys of whose records are exchanged.
@@ -109,6 +115,12 @@ fn seal(image: &mut [u8], block: usize) {
             reseal(bytes_of);
         }
     }
+}
+
+// Says in block 0 that the descriptor area isn't contiguous, by the highest bit of its number of blocks.
+fn split(image: &mut [u8]) {
+    put_in(image, 0, DESC_BLOCKS + 3, &[0x80]);
+    seal(image, 0);
 }
 
 // Copies a block to another.
@@ -238,6 +250,11 @@ fn change(image: Image, bytes: &mut Vec<u8>) {
             seal(bytes, block);
         }
         Image::TwoExchanged => exchange_keys(bytes, MAP_TREE),
+        Image::SmallSplit => split(bytes),
+        Image::SmallCutSplit => {
+            split(bytes);
+            bytes.truncate(255 * BLOCK);
+        }
         Image::SmallUnsummed => put_in(bytes, VOLUME, SUM, &[0, 0]),
         _ => {}
     }

@@ -1,0 +1,26 @@
+-- What is said of the cache is said of the source in it.
+use Rattle.std.proofs.Common.{◌≡◌, ◌∙◌, ◌≤◌, ap}
+use Rattle.std.specs.Prelude.{Some}
+use Rattle.apfs_model.specs.Counts.{Rose}
+use Rattle.blk_cache.specs.declared.cached.Cached.{Cached}
+use Rattle.apfs_cli.specs.Words.{said}
+use Rattle.apfs_cli.specs.Written.{sunk}
+use Rattle.apfs_cli.proofs.Endings.{ended_same}
+use Rattle.apfs_cli.proofs.Puts.{rose_later}
+use Rattle.apfs_cli.proofs.over_cache.on_cache.Goals as goal
+
+pub returns-in-Ok-new-clause-answer : goal.returns-in-Ok-new-clause-answer
+returns-in-Ok-new-clause-answer g c =
+    let bytes = g.S.BlockSource.bytes in
+    let faults = g.S.BlockSource.faults in
+    let inner : c.in-Ok-new.cache.inner ≡ c.kept_size_of.new.src = c.in-Ok-new.ensures.inner in
+    let back : c.into_inner.result ≡ c.on_image-ended.new.src.inner = c.into_inner.ensures in
+    let later : faults c.args.src ≤ faults c.kept_size_of.new.src = c.in-Ok.ensures.kept.later in
+    let earlier : faults c.args.src ≤ faults c.in-Ok-new.cache.inner = rw inner later in
+    ended_same (λ (s : Cached g.row.S.Denot g.S.BlockSource). bytes s.inner) (λ (s : Cached g.row.S.Denot g.S.BlockSource). faults s.inner) bytes faults (Some (said c.args.command))
+    c.in-Ok-new.cache c.on_image-ended.new.src c.args.src c.into_inner.result c.on_image-ended.result
+    (sunk g.W.Sink.contents g.W.Sink.faults c.args.out.now c.on_image-ended.new.out)
+    (ap bytes inner ∙ c.in-Ok.ensures.kept.same_bytes)
+    (λ (rose : Rose (faults c.in-Ok-new.cache.inner) (faults c.on_image-ended.new.src.inner)).
+        rose_later (faults c.args.src) (faults c.in-Ok-new.cache.inner) (faults c.into_inner.result) earlier (rw back rose))
+    c.on_image-ended.ensures.answer

@@ -1,0 +1,67 @@
+// Commands over a cache of the image's blocks.
+ghost use Rattle.std.specs.Prelude.{◌≡◌, ℕ, List, Some, true, IfOk, OnErr};
+ghost use Rattle.apfs_model.specs.Counts.{Rose};
+ghost use Rattle.apfs_model.specs.Source.{IsKept};
+ghost use Rattle.blk_source.specs.declared.source.Opened.TheVariants.{Image};
+ghost use Rattle.obj_base.specs.BlockSize.{is_accepted};
+ghost use Rattle.apfs_cli.specs.Cache.{kept_size};
+ghost use Rattle.apfs_cli.specs.Says.{HasEnded};
+ghost use Rattle.apfs_cli.specs.Words.{said};
+ghost use Rattle.apfs_cli.specs.Written.{sunk};
+
+use crate::commands::on_image;
+use crate::stopped::Stopped;
+use crate::words::Command;
+use blk_cache::Cached;
+use blk_source::{BlockSource, ReadFailed, Sink};
+use nx_block::nx_size;
+use std::alloc::Global;
+
+// How many blocks are kept, which are at most 64 MiB.
+const BLOCKS: usize = 1024;
+
+// How many of an image's first bytes tell its block size.
+const FIRST: usize = 4096;
+
+// The size in bytes of the blocks that are kept where the image tells none.
+const LEAST: u32 = 4096;
+
+// The size in bytes of the blocks that are kept of a source.
+fn kept_size_of<S: BlockSource>(src: &mut S) -> Result<u32, ReadFailed>
+    ensures accepted { IfOk result (λ size. is_accepted size ≡ true) }
+    ensures value { (image : List ℕ) → S.bytes src.old ≡ Some image → IfOk result (λ size. size ≡ kept_size image) }
+    ensures cause { OnErr result (Rose (S.faults src.old) (S.faults src.new)) }
+    ensures kept { IsKept S.bytes S.bytes_len S.faults src.old src.new }
+{
+    if src.size() < FIRST as u64 {
+        return Ok(LEAST);
+    }
+    let mut first = [0u8; FIRST];
+    match src.read_at(0, &mut first) {
+        Ok(()) => Ok(nx_size(&first).unwrap_or(LEAST)),
+        Err(failed) => Err(failed),
+    }
+}
+
+/// Runs a command on an image whose blocks are kept as they are read, and gives the image back.
+pub fn on_cache<S: BlockSource, W: Sink>(
+    alloc: Global,
+    command: Command,
+    mut src: S,
+    out: &mut W,
+) -> (Result<(), Stopped>, S)
+    ensures answer { HasEnded S.bytes S.faults (Some (said command)) (Image src) (Image result.1) result.0 (sunk W.contents W.faults out.old out.new) }
+    ensures kept { IsKept S.bytes S.bytes_len S.faults src result.1 }
+{
+    let size = match kept_size_of(&mut src) {
+        Ok(size) => size,
+        Err(_) => return (Err(Stopped::ReadFailed), src),
+    };
+    match Cached::new(alloc, src, size, BLOCKS) {
+        Ok(mut cache) => {
+            let ended = on_image(alloc, command, &mut cache, out);
+            (ended, cache.into_inner())
+        }
+        Err(src) => (Err(Stopped::OutOfMemory), src),
+    }
+}
