@@ -10,10 +10,10 @@ use Rattle.bt_node.specs.Entries.{Pair, pair_of, pairs_of}
 use Rattle.bt_cursor.specs.declared.fault.WalkFault.{WalkFault}
 use Rattle.bt_cursor.specs.declared.way.Step.{Step}
 use Rattle.bt_cursor.specs.declared.way.Way.{Way}
-use Rattle.bt_cursor.specs.Tree.{Tree, child_place}
+use Rattle.bt_cursor.specs.Tree.{Tree, root_place, child_place}
 use Rattle.bt_cursor.specs.Line.{Item, item_at, is_leaf_item}
 use Rattle.bt_cursor.specs.Met.{places_in}
-use Rattle.bt_cursor.specs.Gaps.{Gapped, or_gap, gapped_part, all_met, all_flat, ComesTo, StopsAt}
+use Rattle.bt_cursor.specs.Gaps.{Gapped, or_gap, gapped_part, gapped_of, all_met, all_flat, ComesTo, StopsAt}
 use Rattle.bt_cursor.specs.Ahead.{gapped_from, gapped_rest, gapped_under, gapped_ahead, places_ahead}
 use Rattle.bt_cursor.proofs.Pairs.{pairs_cons, pairs_end}
 
@@ -135,3 +135,16 @@ stops-at tree above node level i (Found fault) low high named = gap-next tree ab
 stops-at tree above node level i (Unsupported feature block) low high named = gap-next tree above node level i (Unsupported feature block) low high named
 stops-at tree above node level i ReadFault low high named = tt
 stops-at tree above node level i NoMemory low high named = tt
+
+-- where there is no root the list is one gap
+root-gap : {K : Type 0} (tree : Tree K) (root : ℕ) (why : Stop WalkFault) → tree.look (root_place root) ≡ Err why → ComesTo (all_flat (gapped_of tree root)) why
+root-gap tree root why named = record {
+  after = [];
+  gap = ap (λ o. all_flat (or_gap o (λ node. flat_map (gapped_part tree (level_of node)) (pairs_of tree.shape node)))) named;
+}
+
+pub stops-root : {K : Type 0} (tree : Tree K) (root : ℕ) (stop : Stop WalkFault) → Tells (λ fault. tree.look (root_place root) ≡ Err (Found fault)) (λ feature block. tree.look (root_place root) ≡ Err (Unsupported feature block)) stop → StopsAt (all_flat (gapped_of tree root)) stop
+stops-root tree root (Found fault) named = root-gap tree root (Found fault) named
+stops-root tree root (Unsupported feature block) named = root-gap tree root (Unsupported feature block) named
+stops-root tree root ReadFault named = tt
+stops-root tree root NoMemory named = tt

@@ -15,5 +15,6 @@ pub mod Ranks
 pub mod Seeks
 pub mod Runs
 pub mod Places
+pub mod Walkables
 pub mod Examples
 pub mod Wholes

@@ -87,17 +87,6 @@ places-more passed item =
     let f : Item → List _ = λ (i : Item). places_under i.level i.pair in
     omega (arith, ap length (flat_map-append f passed (item ∷ [])), length-append (places_in passed) (places_in (item ∷ [])), ap length (append-nil (places_under item.level item.pair)), under-length item.level item.pair)
 
-read-if : (level : ℕ) (deep : Bool) → deep ≡ nat_lt 0 level → cond (level == 0) 0 1 ≡ reads_for deep
-read-if zero deep e = ap reads_for (sym e)
-read-if (suc level) deep e =
-    let upper : (suc level == 0) ≡ false = grind (arith, nat_tests) in
-    let above : nat_lt 0 (suc level) ≡ true = grind (arith, nat_tests) in
-    ap (λ (b : Bool). cond b 0 1) upper ∙ ap reads_for (sym (e ∙ above))
-
--- each of them is read once
-pub places_read : (passed : List Item) (item : Item) (deep : Bool) → deep ≡ nat_lt 0 item.level → length (places_in (passed ++ item ∷ [])) ≡ length (places_in passed) + reads_for deep
-places_read passed item deep e = omega (arith, places-more passed item, read-if item.level deep e)
-
 keys-if : (b : Bool) (tally : Tally) (keys l m : ℕ) → ((n : ℕ) → comes_to tally n ≡ (keys == l + n)) → m ≡ l + cond b 1 0 → (n : ℕ) → comes_to (cond b (spend tally) tally) n ≡ (keys == m + n)
 keys-if true tally keys l m each more n = let e : l + suc n ≡ m + n = omega arith in spend-comes tally n ∙ (each (suc n) ∙ ap (λ k. keys == k) e)
 keys-if false tally keys l m each more n = let e : l + n ≡ m + n = omega arith in each n ∙ ap (λ k. keys == k) e

@@ -1,5 +1,5 @@
 -- What a liner has passed.
-use Rattle.std.proofs.Common.{◌≡◌, ℕ, Bool, true, false, List, [], ◌∷◌, ◌++◌, ap, sym, ◌∙◌, subst}
+use Rattle.std.proofs.Common.{◌≡◌, ℕ, Bool, true, false, List, [], ◌∷◌, ◌++◌, Err, refl, ap, sym, ◌∙◌, subst}
 use Rattle.std.specs.Prelude.{IsTrue, IsFalse}
 use Rattle.std.proofs.lemmas.Bool.{false≢true}
 use Rattle.obj_base.specs.Stops.{Tells}
@@ -12,10 +12,10 @@ use Rattle.bt_cursor.specs.declared.fault.WalkFault.TheVariants.{Unsound, Unname
 use Rattle.bt_cursor.specs.declared.liner.Liner.{Liner}
 use Rattle.bt_cursor.specs.declared.namer.Namer as namers
 use Rattle.bt_cursor.specs.declared.seen.Seen.{Seen}
-use Rattle.bt_cursor.specs.Tree.{Tree}
+use Rattle.bt_cursor.specs.Tree.{Tree, root_place}
 use Rattle.bt_cursor.specs.Line.{Item, line_of}
 use Rattle.bt_cursor.specs.Whole.{IsWhole}
-use Rattle.bt_cursor.specs.Faults.{IsWalkFault, HasFeature}
+use Rattle.bt_cursor.specs.Faults.{IsOfNodes, IsWalkFault, HasFeature}
 use Rattle.bt_cursor.specs.Stack.{IsIn}
 use Rattle.bt_cursor.specs.Ahead.{passed_child}
 use Rattle.bt_cursor.specs.Advance.{Entered, Advances, StopsFor, TellsGap, IsGapOf, IsNextGap, IsNextFault, HasGone}
@@ -70,3 +70,17 @@ stops-first tree root passed left seen deep child (Found Counts) gone gap told =
 stops-first tree root passed left seen deep child (Unsupported feature block) gone gap told = gone-gap tree root passed left seen deep child (Unsupported feature block) gone gap
 stops-first tree root passed left seen deep child ReadFault gone gap told = tt
 stops-first tree root passed left seen deep child NoMemory gone gap told = tt
+
+-- what is named before the first item is why there is no root
+next-root : {K : Type 0} (tree : Tree K) (root : ℕ) (why : Stop WalkFault) → tree.look (root_place root) ≡ Err why → IsNextGap tree root [] why
+next-root tree root why named = record { at = root_place root; next = refl; gap = named }
+
+pub root-first : {K : Type 0} (tree : Tree K) (root : ℕ) (stop : Stop WalkFault) → IsOfNodes stop → Tells (λ fault. tree.look (root_place root) ≡ Err (Found fault)) (λ feature block. tree.look (root_place root) ≡ Err (Unsupported feature block)) stop →
+    Tells (IsNextFault tree root []) (λ feature block. IsNextGap tree root [] (Unsupported feature block)) stop
+root-first tree root (Found (Unsound block why)) of named = next-root tree root (Found (Unsound block why)) named
+root-first tree root (Found (Unnamed oid)) of named = next-root tree root (Found (Unnamed oid)) named
+root-first tree root (Found (Order item)) of named = absurd of
+root-first tree root (Found Counts) of named = absurd of
+root-first tree root (Unsupported feature block) of named = next-root tree root (Unsupported feature block) named
+root-first tree root ReadFault of named = tt
+root-first tree root NoMemory of named = tt

@@ -9,9 +9,6 @@ use Rattle.bt_cursor.specs.Order.{is_ordered}
 use Rattle.bt_cursor.specs.Counts.{is_counted}
 use Rattle.std.specs.Prelude.{Bool, ◌&&◌}
 
-all-three : (a b c : Bool) → a ≡ true → b ≡ true → c ≡ true → (a && (b && c)) ≡ true
-all-three a b c e f g = grind (arith, common_steps)
-
 first-of : (a b c : Bool) → (a && (b && c)) ≡ true → a ≡ true
 first-of a b c e = grind (arith, common_steps)
 
@@ -27,6 +24,3 @@ whole_means tree root e =
     let b = is_ordered tree.shape (line_of tree root) in
     let c = is_counted tree root in
     record { walkable = first-of a b c e; ordered = second-of a b c e; counted = third-of a b c e }
-
-pub means_whole : {K : Type 0} (tree : Tree K) (root : ℕ) → IsWhole tree root → is_whole tree root ≡ true
-means_whole tree root whole = all-three (is_walkable tree root) (is_ordered tree.shape (line_of tree root)) (is_counted tree root) whole.walkable whole.ordered whole.counted

@@ -5,8 +5,8 @@ use Rattle.bt_node.specs.Node.{level_of}
 use Rattle.bt_node.specs.Entries.{Pair, pairs_of}
 use Rattle.bt_cursor.specs.Tree.{Tree, root_place, child_place, node_at}
 
--- the entries that an entry of a level stands for: itself at level 0, else those that its child's entries stand for, in
--- their order; none where the child isn't there
+-- the entries that an entry of a level stands for: itself at level 0, otherwise those that its child's entries stand for,
+-- in their order; none where the child isn't there
 abbrev pub flat_part : {K : Type 0} → Tree K → ℕ → Pair → List Pair
 flat_part tree zero pair = pair ∷ []
 flat_part tree (suc level) pair = through (node_at tree (child_place level pair)) (λ node. flat_map (flat_part tree level) (pairs_of tree.shape node))

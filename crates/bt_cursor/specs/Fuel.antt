@@ -4,10 +4,6 @@ use Rattle.bt_node.specs.Node.{level_of, count_of}
 use Rattle.bt_cursor.specs.declared.way.Step.{Step}
 use Rattle.bt_cursor.specs.declared.way.Way.{Way}
 
--- more than the entries of any node
-abbrev pub most_entries : ℕ
-most_entries = 65536
-
 -- more than all that is below an entry of a level
 abbrev pub weight : ℕ → ℕ
 weight zero = 1

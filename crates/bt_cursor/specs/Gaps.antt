@@ -1,5 +1,6 @@
 -- The Line of a tree with its gaps: beside the entries, why a child isn't there.
-use Rattle.std.specs.Prelude.{◌≡◌, ℕ, zero, suc, List, [], ◌∷◌, ◌++◌, flat_map, Result, Ok, Err, if◌then◌else◌}
+use Rattle.std.specs.Prelude.{◌≡◌, ℕ, zero, suc, Bool, is_ok, List, [], ◌∷◌, ◌++◌, flat_map, Result, Ok, Err, if◌then◌else◌}
+use Rattle.std.specs.List.{list_all}
 use Rattle.obj_base.specs.Stops.{Tells}
 use Rattle.obj_base.specs.declared.stop.Stop.{Stop}
 use Rattle.obj_base.specs.declared.stop.Stop.TheVariants.{Found, Unsupported}
@@ -42,6 +43,10 @@ flat_in (Err why) = Err why ∷ []
 
 abbrev pub all_flat : List (Gapped Item) → List (Gapped Pair)
 all_flat gapped = flat_map flat_in gapped
+
+-- a list has no gap
+abbrev pub is_gapless : {X : Type 0} → List (Gapped X) → Bool
+is_gapless gapped = list_all (λ x. is_ok x) gapped
 
 -- a list is the end of another
 pub record IsSuffix {X : Type 0} (left whole : List X) : Type 0 where

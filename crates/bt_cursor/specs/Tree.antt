@@ -32,7 +32,7 @@ tree_by shape look = record { shape = shape; look = look }
 abbrev pub root_place : ℕ → NodeAt
 root_place oid = record { oid = oid; root = true; level = None }
 
--- the child that an entry above the leaves names: the oid at its value's begin
+-- the child that an entry above the leaves names: the oid at the start of its value
 abbrev pub child_in : Pair → ℕ
 child_in pair = u64_at (bytes_in pair.value) 0
 

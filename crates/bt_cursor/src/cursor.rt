@@ -36,7 +36,7 @@ impl<K: TreeKey, N: Namer> Cursor<K, N> {
     ghost use Rattle.bt_cursor.specs.Tree.{tree_in};
     ghost use Rattle.bt_cursor.specs.Flat.{flat_of};
     ghost use Rattle.bt_cursor.specs.Line.{line_of};
-    ghost use Rattle.bt_cursor.specs.Gaps.{gapped_of, StopsAt};
+    ghost use Rattle.bt_cursor.specs.Gaps.{gapped_of, all_flat, StopsAt};
     ghost use Rattle.bt_cursor.specs.Search.{IsPlaceOf};
     ghost use Rattle.bt_cursor.specs.Met.{is_walkable};
     ghost use Rattle.bt_cursor.specs.Order.{is_ordered};
@@ -59,6 +59,7 @@ impl<K: TreeKey, N: Namer> Cursor<K, N> {
         ensures left { (image : List ℕ) → S.bytes src.old ≡ Some image → IfOk result (λ cursor. ahead_of cursor image ≡ gapped_of (tree_in K.shape site (N.named namer) image) root) }
         ensures depth { (image : List ℕ) → S.bytes src.old ≡ Some image → IfOk result (HasDepth image) }
         ensures within { (image : List ℕ) → S.bytes src.old ≡ Some image → IfOk result (IsOn image) }
+        ensures stops { (image : List ℕ) → S.bytes src.old ≡ Some image → IfErr result (StopsAt (all_flat (gapped_of (tree_in K.shape site (N.named namer) image) root))) }
         ensures present { (image : List ℕ) → S.bytes src.old ≡ Some image → IfErr result (Tells (IsNodeFault (tree_in K.shape site (N.named namer) image) root) (HasFeature (tree_in K.shape site (N.named namer) image) root)) }
         ensures exact { (image : List ℕ) → S.bytes src.old ≡ Some image → is_walkable (tree_in K.shape site (N.named namer) image) root ≡ true → IfErr result IsFree }
         ensures of_nodes { IfErr result IsOfNodes }

@@ -6,7 +6,7 @@ ghost use Rattle.bt_cursor.specs.Ahead.{IsDeep};
 use crate::fault::WalkFault;
 use crate::namer::Namer;
 use crate::node::{info, lend, level};
-use crate::seen::{Seen, begin, fits, see_next};
+use crate::seen::{Seen, fits, nothing_seen, see_next};
 use crate::start::start;
 use crate::walk::{climb, fall};
 use crate::way::Way;
@@ -73,6 +73,7 @@ impl<K: TreeKey, N: Namer> Liner<K, N> {
         ensures seen { IfOk result HasSeenNone }
         ensures passed { (image : List ℕ) → S.bytes src.old ≡ Some image → IfOk result (HasPassed image []) }
         ensures present { (image : List ℕ) → S.bytes src.old ≡ Some image → IfErr result (Tells (IsNodeFault (tree_in K.shape site (N.named namer) image) root) (HasFeature (tree_in K.shape site (N.named namer) image) root)) }
+        ensures first { (image : List ℕ) → S.bytes src.old ≡ Some image → IfErr result (Tells (IsNextFault (tree_in K.shape site (N.named namer) image) root []) (λ feature block. IsNextGap (tree_in K.shape site (N.named namer) image) root [] (Unsupported feature block))) }
         ensures exact { (image : List ℕ) → S.bytes src.old ≡ Some image → is_walkable (tree_in K.shape site (N.named namer) image) root ≡ true → IfErr result IsFree }
         ensures of_nodes { IfErr result IsOfNodes }
         ensures reads { S.reads src.new ≤ S.reads src.old + 1 }
@@ -81,7 +82,7 @@ impl<K: TreeKey, N: Namer> Liner<K, N> {
     {
         match start::<K, S, N>(alloc, src, &namer, &site, root) {
             Ok(way) => {
-                let seen = begin(info::<K>(&way.last, &site));
+                let seen = nothing_seen(info::<K>(&way.last, &site));
                 Ok(Liner {
                     namer,
                     site,

@@ -66,7 +66,7 @@ fn spend(tally: Tally) -> Tally
 }
 
 /// What is seen before the first item: of the nodes, the root.
-pub(crate) fn begin(info: RootInfo) -> Seen
+pub(crate) fn nothing_seen(info: RootInfo) -> Seen
     ensures { result ≡ spec.seen_start info.key_count info.node_count }
 {
     Seen {

@@ -1,8 +1,8 @@
-// Where a walk begins.
-ghost use Rattle.std.specs.Prelude.{◌≡◌, ℕ, ◌+◌, ◌≤◌, List, Some, Ok, IfOk, IfErr, IsErrOf};
+// Where a walk starts.
+ghost use Rattle.std.specs.Prelude.{◌≡◌, ℕ, ◌+◌, ◌≤◌, List, Some, Ok, Err, IfOk, IfErr, IsErrOf};
 ghost use Rattle.apfs_model.specs.Counts.{Rose};
 ghost use Rattle.apfs_model.specs.Source.{IsKept};
-ghost use Rattle.obj_base.specs.declared.stop.Stop.TheVariants.{ReadFault, NoMemory};
+ghost use Rattle.obj_base.specs.declared.stop.Stop.TheVariants.{Found, Unsupported, ReadFault, NoMemory};
 ghost use Rattle.obj_base.specs.Stops.{Tells};
 ghost use Rattle.obj_base.specs.Site.{IsSiteFor};
 ghost use Rattle.bt_node.specs.Node.{level_of};
@@ -46,6 +46,7 @@ fn root_step<K: TreeKey, S: BlockSource, N: Namer>(
     ensures at { IfOk result (λ step. step.at ≡ root_place root) }
     ensures found { (image : List ℕ) → S.bytes src.old ≡ Some image → IfOk result (λ step. look_in K.shape site.now (N.named namer.now) image (root_place root) ≡ Ok step.block.items) }
     ensures present { (image : List ℕ) → S.bytes src.old ≡ Some image → IfErr result (Tells (IsNodeFault (tree_in K.shape site.now (N.named namer.now) image) root) (HasFeature (tree_in K.shape site.now (N.named namer.now) image) root)) }
+    ensures gap { (image : List ℕ) → S.bytes src.old ≡ Some image → IfErr result (Tells (λ fault. look_in K.shape site.now (N.named namer.now) image (root_place root) ≡ Err (Found fault)) (λ feature block. look_in K.shape site.now (N.named namer.now) image (root_place root) ≡ Err (Unsupported feature block))) }
     ensures of_nodes { IfErr result IsOfNodes }
     ensures reads { S.reads src.new ≤ S.reads src.old + 1 }
     ensures cause { IsErrOf result ReadFault → Rose (S.faults src.old) (S.faults src.new) }
@@ -78,6 +79,7 @@ pub(crate) fn start<K: TreeKey, S: BlockSource, N: Namer>(
     ensures found { (image : List ℕ) → S.bytes src.old ≡ Some image → IfOk result (λ way. look_in K.shape site.now (N.named namer.now) image (root_place root) ≡ Ok way.last.block.items) }
     ensures at { IfOk result (λ way. way.last.at ≡ root_place root) }
     ensures present { (image : List ℕ) → S.bytes src.old ≡ Some image → IfErr result (Tells (IsNodeFault (tree_in K.shape site.now (N.named namer.now) image) root) (HasFeature (tree_in K.shape site.now (N.named namer.now) image) root)) }
+    ensures gap { (image : List ℕ) → S.bytes src.old ≡ Some image → IfErr result (Tells (λ fault. look_in K.shape site.now (N.named namer.now) image (root_place root) ≡ Err (Found fault)) (λ feature block. look_in K.shape site.now (N.named namer.now) image (root_place root) ≡ Err (Unsupported feature block))) }
     ensures of_nodes { IfErr result IsOfNodes }
     ensures reads { S.reads src.new ≤ S.reads src.old + 1 }
     ensures cause { IsErrOf result ReadFault → Rose (S.faults src.old) (S.faults src.new) }

@@ -1,16 +1,21 @@
 // Walks over trees that are written here.
 
 mod image;
+mod trees;
 
 use crate::{Cursor, Liner, Physical, WalkFault};
 use blk_source::MemSource;
 use bt_keys::{FsKey, FsPlainKey, QueueKey};
-use bt_node::{NodeFault, Rank, Site, TreeKey};
+use bt_node::{Rank, Site, TreeKey};
 use image::{Form, Node, tree_image};
-use obj_base::{HeadFault, Stop};
+use obj_base::Stop;
 use std::alloc::Global;
 use std::process::Abort;
 use std::test::Fail;
+use trees::{
+    HASHED, Item, PLAIN, QUEUE, SIXTEEN_THREE, TWO_LEAVES, TWO_NINE, TWO_THREE, inner, leaf, root,
+    three_levels,
+};
 
 const SITE: Site = Site {
     block_size: 4096,
@@ -19,53 +24,6 @@ const SITE: Site = Site {
 };
 
 const PHYSICAL: Physical = Physical { blocks: 8 };
-
-// The keys of a queue are two numbers, and a tree has each once.
-const QUEUE: Form = Form {
-    subtype: 9,
-    fixed: true,
-    key_len: 16,
-    name: &[],
-};
-
-// A file-system tree whose names are hashed: the name's length with its hash above it, and the name.
-const HASHED: Form = Form {
-    subtype: 0xe,
-    fixed: false,
-    key_len: 16,
-    name: &[2, 8, 0, 0, b'a', 0],
-};
-
-// One whose names aren't: the name's length, and the name.
-const PLAIN: Form = Form {
-    subtype: 0xe,
-    fixed: false,
-    key_len: 16,
-    name: &[2, 0, b'a', 0],
-};
-
-// An item: its level, and the id and the kind of its rank.
-type Item = (u16, u64, u64);
-
-fn inner(level: u16, entries: &'static [(u64, u64)]) -> Node {
-    Node {
-        level,
-        root: None,
-        entries,
-    }
-}
-
-fn leaf(entries: &'static [(u64, u64)]) -> Node {
-    inner(0, entries)
-}
-
-fn root(level: u16, keys: u64, nodes: u64, entries: &'static [(u64, u64)]) -> Node {
-    Node {
-        level,
-        root: Some((keys, nodes)),
-        entries,
-    }
-}
 
 // Adds the items of the Line of the tree in block 1, until the walk stops.
 fn line<K: TreeKey>(
@@ -119,18 +77,6 @@ fn flat<K: TreeKey>(
     Ok(())
 }
 
-// A tree of three levels in the blocks 1 to 6, with the keys 1, 2, 3, 5 and 7.
-fn three_levels() -> [Node; 6] {
-    [
-        root(2, 5, 6, &[(1, 2), (5, 3)]),
-        inner(1, &[(1, 4), (3, 5)]),
-        inner(1, &[(5, 6)]),
-        leaf(&[(1, 0), (2, 0)]),
-        leaf(&[(3, 0)]),
-        leaf(&[(5, 0), (7, 0)]),
-    ]
-}
-
 fn assert_line<K: TreeKey>(
     rt: &impl Abort,
     alloc: Global,
@@ -167,13 +113,6 @@ fn rank(id: u64, kind: u64) -> Option<Rank> {
     Some(Rank { id, kind, sub: 0 })
 }
 
-// Words of records' keys: the ids 2 and 16 under the kinds 9 and 3.
-const TWO_NINE: u64 = 0x9000_0000_0000_0002;
-
-const TWO_THREE: u64 = 0x3000_0000_0000_0002;
-
-const SIXTEEN_THREE: u64 = 0x3000_0000_0000_0010;
-
 #[test]
 fn a_whole_line(rt: HostRuntime) -> Result<(), Fail> {
     let items = [
@@ -198,98 +137,6 @@ fn a_whole_line(rt: HostRuntime) -> Result<(), Fail> {
     )?;
     assert_line::<QueueKey>(&rt, rt.alloc(), QUEUE, &[root(0, 0, 1, &[])], &[], Ok(()))
 }
-
-// Two leaves in the blocks 2 and 3 under a root, the keys of each, what the root tells and names, and where the walk
-// stops.
-type Pair = (
-    (u64, u64),
-    &'static [(u64, u64)],
-    &'static [(u64, u64)],
-    &'static [(u64, u64)],
-    &'static [Item],
-    WalkFault,
-);
-
-const TWO_LEAVES: &[Pair] = &[
-    (
-        (3, 3),
-        &[(1, 2), (3, 3)],
-        &[(2, 0), (1, 0)],
-        &[(3, 0)],
-        &[(1, 1, 0), (0, 2, 0)],
-        WalkFault::Order { item: 2 },
-    ),
-    (
-        (3, 3),
-        &[(1, 2), (3, 3)],
-        &[(1, 0), (4, 0)],
-        &[(3, 0)],
-        &[(1, 1, 0), (0, 1, 0), (0, 4, 0)],
-        WalkFault::Order { item: 3 },
-    ),
-    (
-        (3, 3),
-        &[(1, 2), (3, 3)],
-        &[(1, 0), (3, 0)],
-        &[(3, 0)],
-        &[(1, 1, 0), (0, 1, 0), (0, 3, 0), (1, 3, 0)],
-        WalkFault::Order { item: 4 },
-    ),
-    (
-        (3, 3),
-        &[(1, 2), (3, 3)],
-        &[(1, 0), (1, 0)],
-        &[(3, 0)],
-        &[(1, 1, 0), (0, 1, 0)],
-        WalkFault::Order { item: 2 },
-    ),
-    (
-        (3, 3),
-        &[(1, 2), (3, 3)],
-        &[(1, 0)],
-        &[(3, 0)],
-        &[(1, 1, 0), (0, 1, 0), (1, 3, 0), (0, 3, 0)],
-        WalkFault::Counts,
-    ),
-    (
-        (2, 2),
-        &[(1, 2), (3, 3)],
-        &[(1, 0)],
-        &[(3, 0)],
-        &[(1, 1, 0), (0, 1, 0), (1, 3, 0), (0, 3, 0)],
-        WalkFault::Counts,
-    ),
-    (
-        (2, 3),
-        &[(1, 2), (3, 9)],
-        &[(1, 0)],
-        &[(3, 0)],
-        &[(1, 1, 0), (0, 1, 0), (1, 3, 0)],
-        WalkFault::Unnamed { oid: 9 },
-    ),
-    (
-        (2, 3),
-        &[(1, 2), (3, 7)],
-        &[(1, 0)],
-        &[(3, 0)],
-        &[(1, 1, 0), (0, 1, 0), (1, 3, 0)],
-        WalkFault::Unsound {
-            block: 7,
-            why: NodeFault::Head(HeadFault::BadSum),
-        },
-    ),
-    (
-        (2, 3),
-        &[(1, 2), (3, 4)],
-        &[(1, 0)],
-        &[(3, 0)],
-        &[(1, 1, 0), (0, 1, 0), (1, 3, 0)],
-        WalkFault::Unsound {
-            block: 4,
-            why: NodeFault::Level,
-        },
-    ),
-];
 
 #[test]
 fn lines_that_stop(rt: HostRuntime) -> Result<(), Fail> {

@@ -133,6 +133,13 @@ fn put_head(block: &mut [u8], form: Form, oid: u64, node: &Node) {
     );
 }
 
+fn seal(block: &mut [u8]) {
+    if block.len() >= 4096 && block.len() % 4096 == 0 {
+        let sum = sum64(block);
+        put(block, object::SUM, &sum.to_le_bytes());
+    }
+}
+
 /// The container of blocks of this size with these nodes in the blocks from 1 on.
 pub fn tree_image(
     alloc: Global,
@@ -148,8 +155,7 @@ pub fn tree_image(
             for (i, entry) in node.entries.iter().enumerate() {
                 put_entry(&mut block, form, node, u16::try_from(i).unwrap_or(0), entry);
             }
-            let sum = sum64(&block);
-            put(&mut block, object::SUM, &sum.to_le_bytes());
+            seal(&mut block);
         }
         image.extend_from_slice(&block)?;
     }
