@@ -5,7 +5,7 @@ use Rattle.apfs_model.specs.Lists.{In}
 use Rattle.obj_base.specs.declared.stop.Feature.{Feature}
 use Rattle.obj_base.specs.declared.stop.Stop.{Stop}
 use Rattle.obj_base.specs.declared.stop.Stop.TheVariants.{Found, Unsupported, ReadFault, NoMemory}
-use Rattle.obj_base.specs.Stops.{Tells, Gives, IsFree}
+use Rattle.obj_base.specs.Stops.{Tells, IsFree}
 use Rattle.nx_ring.specs.declared.line.RingLine.{RingLine}
 use Rattle.nx_ring.specs.declared.fault.RingFault.{RingFault}
 use Rattle.nx_ring.specs.Checkpoint.{Seen}

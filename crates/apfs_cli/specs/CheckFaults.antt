@@ -10,7 +10,7 @@ use Rattle.reach_sweep.specs.declared.fault.Why.TheVariants.{Node, Magic}
 use Rattle.apfs_check.specs.declared.fault.Fault.{Fault}
 use Rattle.apfs_check.specs.declared.fault.Fault.TheVariants.{BlockZero, Truncated, NoCheckpoint, Unsound, Unnamed, NamedTwice, OwnedTwice, Outside, UnusedMapping, Leaked, Missing, PoolLeaked, PoolMissing, SpaceGeometry, SpaceCab, SpaceCib, SpaceIndex, SpacePlace, SpaceFreeCount, SpaceFreeTotal, PoolCount, PoolIndex, PoolPlace, SnapRecord, SnapCount, SnapName, OmapSnaps, TreeOrder, TreeCounts, Order, Counts, TreeRecord, Record, DupName, Hash, NoParent, NoInode, KindMismatch, DirNames, Unreached, Children, Links, SiblingLost, ExtentOrder, ExtentPlace, ExtentUncovered, LinkTarget, Stream, AttrOwner, NameHash, DataUnreached, DataCount}
 use Rattle.apfs_cli.specs.Texts.{◌▹◌}
-use Rattle.apfs_cli.specs.Names.{shown_name}
+use Rattle.fs_name.specs.Shown.{shown_name}
 use Rattle.apfs_cli.specs.FaultTexts.{node_word, unsound_text, oid_text, slot_text, root_text}
 
 -- the test that a named object fails

@@ -1,8 +1,9 @@
 // How names and identifiers are shown.
 ghost use Rattle.std.specs.Prelude.{◌≡◌, ◌<◌, ◌++◌, IfOk, OnOk};
 ghost use Rattle.std.specs.String.{string_bytes};
-ghost use Rattle.apfs_cli.specs.Names.{shown_byte, shown_name, uuid_text};
-ghost use Rattle.apfs_cli.specs.Names as names;
+ghost use Rattle.fs_name.specs.Shown.{shown_byte, shown_name};
+ghost use Rattle.fs_name.specs.Shown as names;
+ghost use Rattle.apfs_cli.specs.Names.{uuid_text};
 
 use std::alloc::{AllocError, Global};
 use uuid::Uuid;

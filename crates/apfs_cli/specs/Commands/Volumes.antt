@@ -6,13 +6,14 @@ use Rattle.obj_base.specs.declared.stop.Feature.{Feature}
 use Rattle.fs_name.specs.declared.naming.Names.{Names}
 use Rattle.fs_name.specs.declared.naming.Names.TheVariants.{Exact, Normal, Folded}
 use Rattle.fs_name.specs.Normal.{names_of}
+use Rattle.fs_name.specs.Shown.{shown_name}
 use Rattle.nx_ring.specs.Checkpoint.{Seen}
 use Rattle.vol_view.specs.declared.head.VolHead.{VolHead}
 use Rattle.vol_view.specs.declared.stop.VolStop.{VolStop}
 use Rattle.vol_view.specs.Stops.{IsHeadsStop, IsHeadsFeature, AreHeads}
 use Rattle.apfs_cli.specs.declared.fault.Fault.{Fault}
 use Rattle.apfs_cli.specs.Checkpoints.{IsNewest, IsCheckpointFault, IsCheckpointFeature}
-use Rattle.apfs_cli.specs.Names.{shown_name, uuid_text}
+use Rattle.apfs_cli.specs.Names.{uuid_text}
 use Rattle.apfs_cli.specs.Raised.{of_volume}
 use Rattle.apfs_cli.specs.Texts.{◌▹◌}
 

@@ -1,5 +1,5 @@
 use Rattle.std.proofs.Common.{◌≡◌, ◌++◌, take}
-use Rattle.apfs_cli.specs.Names.{shown_name}
+use Rattle.fs_name.specs.Shown.{shown_name}
 use Rattle.apfs_cli.proofs.shown.push_name.Given as goal
 
 abbrev pub invariant-bytes : goal.invariant-bytes

@@ -17,7 +17,7 @@ pub returns-in-Ok-clause-answer : goal.returns-in-Ok-clause-answer
 returns-in-Ok-clause-answer g c =
     put_ended g.S.BlockSource.bytes g.S.BlockSource.faults (Some Ring) (Image c.args.src.now) (Image c.ring.new.src) (ring_text c.in-Ok.lines.items) c.put_lines.result
     (sunk g.W.Sink.contents g.W.Sink.faults c.args.out.now c.put_lines.new.out)
-    (λ lacks. lacks, λ image given. (c.in-Ok.lines.items, c.in-Ok.ensures.found image given, refl))
+    (λ lacks. lacks, λ image given. (c.in-Ok.lines.items, c.in-Ok.ensures.clear image given, refl))
     (rw c.as_slice.ensures.value at c.put_lines.ensures)
 
 pub returns-in-Err-clause-answer : goal.returns-in-Err-clause-answer
@@ -26,5 +26,5 @@ returns-in-Err-clause-answer g c =
     rw c.stopped_by.ensures
     (stop_ended g.S.BlockSource.bytes g.S.BlockSource.faults Ring (Image c.args.src.now) (Image c.ring.new.src) of_ring stop
     (g.W.Sink.contents c.args.out.now) (g.W.Sink.faults c.args.out.now) (λ lacks. lacks)
-    (λ image given. ring_stops image stop (c.in-Err.ensures.found image given) (c.in-Err.ensures.present image given))
+    (λ image given. ring_stops image stop (c.in-Err.ensures.first image given) (c.in-Err.ensures.present image given))
     (λ (e : stop ≡ ReadFault). c.in-Err.ensures.cause (ap (λ (s : Stop RingFault). Err s) e)))

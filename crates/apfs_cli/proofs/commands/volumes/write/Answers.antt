@@ -27,5 +27,5 @@ returns-in-Err-clause-answer g c =
     rw c.stopped_by.ensures
     (stop_ended g.S.BlockSource.bytes g.S.BlockSource.faults Volumes (Image c.args.src.now) (Image c.newest.new.src) of_ring stop
     (g.W.Sink.contents c.args.out.now) (g.W.Sink.faults c.args.out.now) (λ lacks. lacks)
-    (λ image given. volumes_stops image stop (c.in-Err.ensures.told image given) (c.in-Err.ensures.present image given))
+    (λ image given. volumes_stops image stop (c.in-Err.ensures.first image given) (c.in-Err.ensures.present image given))
     (λ (e : stop ≡ ReadFault). c.in-Err.ensures.cause (ap (λ (s : Stop RingFault). Err s) e)))
