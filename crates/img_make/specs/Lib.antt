@@ -1,1 +1,3 @@
-pub mod Plans
+pub mod Images
+pub use Rattle.img_plan.specs.Plans
+pub use Rattle.img_edit.specs.Edits

@@ -1,31 +1,21 @@
 //! Makes small containers for tests: a plan says what a container holds, and `make` lays it out.
 #![tactic(auto)]
 
-mod checkpoint;
-mod file;
-mod header;
-mod image;
-mod layout;
+mod checkpoints;
+mod geometry;
+mod laying;
 mod making;
-mod node;
-mod object_map;
-mod placing;
-mod plan;
-mod record;
-mod samples;
-mod seal;
-mod space;
-mod superblock;
-mod tree;
-mod volume;
-mod which;
-mod writer;
+mod objects;
 
-pub use making::make;
-pub use plan::{Leaf, NewRange, Plan, QueueEntry, Version, VolPlan};
-pub use samples::sample;
-pub use seal::reseal;
-pub use which::Sample;
+pub use checkpoints::{ring_of_four, skipped_checkpoint};
+pub use img_edit::{
+    edit, free, mark, places, put_bytes, put_u16, put_u32, put_u64, reseal, reseal_block, write,
+};
+pub use img_plan::{
+    FileTree, Item, Leaf, NewRange, Plan, QueueEntry, Sample, Version, VolPlan, pack, records,
+    sample,
+};
+pub use making::{make, make_with};
 
 #[cfg(test)]
 mod tests;

@@ -1,11 +1,18 @@
-// Made images, against what the format says of them. The sums were computed by another program from the tables of
-// docs/FORMAT.md.
-use crate::{Leaf, NewRange, Plan, Sample, Version, VolPlan, make, reseal, sample};
+// Made images, against what the format says of them.
+use crate::{
+    Leaf, NewRange, Plan, QueueEntry, Sample, Version, VolPlan, free, make, make_with, mark,
+    ring_of_four, sample, skipped_checkpoint,
+};
 use apfs_model::NoMemory;
 use fs_name::Names;
-use obj_base::u64_at;
+use obj_base::{sum64, u64_at};
 use std::alloc::{AllocError, Global};
+use std::process::Abort;
 use std::test::Fail;
+
+mod rows;
+
+use rows::Row;
 
 // A container of so many blocks without a volume.
 fn empty_plan(alloc: Global, blocks: u64) -> Plan {
@@ -27,11 +34,7 @@ fn image_of(alloc: Global, plan: &Plan) -> Result<Vec<u8>, NoMemory> {
     }
 }
 
-fn empty_image(alloc: Global, blocks: u64) -> Result<Vec<u8>, NoMemory> {
-    image_of(alloc, &empty_plan(alloc, blocks))
-}
-
-// The number of 64 bits at a byte of a block.
+// The number of 64 bits at a byte of a block of 4,096 bytes.
 fn number(image: &[u8], block: usize, at: usize) -> Option<u64> {
     let from = block.checked_mul(4096)?.checked_add(at)?;
     let part = image.get(from..from.checked_add(8)?)?;
@@ -42,96 +45,90 @@ fn number(image: &[u8], block: usize, at: usize) -> Option<u64> {
     }
 }
 
-// What the empty container of 256 blocks has: block, byte and number.
-const EMPTY: [(usize, usize, u64); 22] = [
-    // the stored sums: block 0 and the superblock, checkpoint map, space manager, reaper, both queues, the container's map
-    // and its tree, chunk-info block
-    (0, 0, 0xb0a6_6387_26e0_492f),
-    (1, 0, 0x8139_203a_3ec6_8f4e),
-    (2, 0, 0xb0a6_6387_26e0_492f),
-    (9, 0, 0x8e8e_c53b_f129_67e6),
-    (10, 0, 0x004c_e949_7fb3_0311),
-    (11, 0, 0xdc17_e37c_9446_082f),
-    (12, 0, 0xdc17_e77a_9446_0430),
-    (25, 0, 0x4001_1117_fffe_eea3),
-    (26, 0, 0x5c08_46ce_5455_a8b3),
-    (43, 0, 0x8008_9ba4_3ff7_622d),
-    // the magic number and the block size, the block count, the identifier, the next transaction
-    (2, 32, 0x0000_1000_4253_584e),
-    (2, 40, 256),
-    (2, 72, 0x7766_5544_3322_1100),
-    (2, 80, 0xffee_ddcc_bbaa_9988),
-    (2, 96, 2),
-    // the first volume's oid
-    (2, 184, 0),
-    // the free blocks and the address of the chunk-info block
-    (9, 72, 205),
-    (9, 2528, 43),
-    // the bitmaps of the pool and of the chunk
-    (27, 0, 3),
-    (44, 0, 0x0007_ffff_ffff_ffff),
-    (44, 8, 0),
-    (51, 0, 0),
-];
+// The row of a block of so many bytes.
+fn row_of(image: &[u8], size: usize, block: usize) -> Option<Row> {
+    let from = block.checked_mul(size)?;
+    let part = image.get(from..from.checked_add(size)?)?;
+    if part.len() >= 12 && part.len() % 4 == 0 {
+        Some((block, u64_at(part, 0), sum64(part)))
+    } else {
+        None
+    }
+}
+
+// The row of a block that isn't empty.
+fn row_in(rows: &[Row], block: usize) -> Option<Row> {
+    rows.iter().find(|row| row.0 == block).copied()
+}
+
+// The row of a block of zeros of 4,096 bytes or more.
+fn empty_row(block: usize) -> Row {
+    (block, 0, u64::MAX)
+}
+
+// Each block of an image has its row: that of the sample, otherwise that of the small one, otherwise none.
+fn assert_rows(rt: &impl Abort, image: &[u8], size: usize, rows: &[Row], small: &[Row]) {
+    for block in 0..256usize {
+        let wanted = row_in(rows, block)
+            .or(row_in(small, block))
+            .unwrap_or(empty_row(block));
+        assert_eq!(rt; row_of(image, size, block), Some(wanted));
+    }
+}
 
 #[test]
-fn the_empty_container_has_its_blocks(rt: HostRuntime) -> Result<(), Fail> {
-    let image = empty_image(rt.alloc(), 256)?;
-    assert_eq!(rt; image.len(), 1_048_576);
-    for (block, at, expected) in EMPTY {
-        assert_eq!(rt;
-            number(&image, block, at),
-            Some(expected),
-            "block {block} byte {at}"
-        );
+fn each_sample_has_its_blocks(rt: HostRuntime) -> Result<(), Fail> {
+    let samples: [(Sample, &[Row]); 6] = [
+        (Sample::S, &[]),
+        (Sample::H, &rows::HELLO),
+        (Sample::L, &rows::LINKS),
+        (Sample::P, &rows::HOLE),
+        (Sample::C, &rows::SHARED),
+        (Sample::V, &rows::SNAPSHOTS),
+    ];
+    for (which, rows) in samples {
+        let plan = sample(rt.alloc(), which)?;
+        let image = image_of(rt.alloc(), &plan)?;
+        assert_eq!(rt; image.len(), 1_048_576, "{which:?}");
+        assert_rows(&rt, &image, 4096, rows, &rows::SMALL);
     }
     Ok(())
 }
 
-// What the small container has besides: the sums of the superblock, the container's map tree, the chunk-info block, the
-// volume's superblock, its map and the map's tree, and its three trees; the free blocks, the first volume's oid, the
-// bitmap, the volume's features and the begin of its name.
-const SMALL: [(usize, usize, u64); 15] = [
-    (2, 0, 0xb0b5_b32b_26d0_f589),
-    (26, 0, 0x1c9d_2c4e_93d0_aeeb),
-    (43, 0, 0x8008_83fe_3ff7_79d9),
-    (51, 0, 0x5486_8b5f_e2e6_8b58),
-    (52, 0, 0x4001_e3a5_fffe_1be0),
-    (53, 0, 0x1c9d_a01e_93d0_3afb),
-    (54, 0, 0xd616_4faa_7e76_e040),
-    (55, 0, 0x5c08_bb78_5455_33ec),
-    (56, 0, 0x5c08_c36f_5455_2bf3),
-    (9, 72, 199),
-    (2, 184, 1026),
-    (44, 0, 0x01ff_ffff_ffff_ffff),
-    (44, 8, 0),
-    (51, 56, 1),
-    (51, 704, 0x006c_6c61_6d53),
-];
+#[test]
+fn greater_blocks_hold_the_same(rt: HostRuntime) -> Result<(), Fail> {
+    let sizes: [(u32, &[Row]); 2] = [(16384, &rows::SMALL_16384), (65536, &rows::SMALL_65536)];
+    let plan = sample(rt.alloc(), Sample::S)?;
+    assert_eq!(rt; plan.blocks, 256);
+    for (size, rows) in sizes {
+        if plan.valid() && plan.blocks == 256 {
+            let image = make_with(rt.alloc(), &plan, size)?;
+            assert_eq!(rt; image.len(), 256 * size as usize);
+            assert_rows(&rt, &image, size as usize, rows, &[]);
+        }
+    }
+    Ok(())
+}
 
 #[test]
-fn the_small_container_has_its_volume(rt: HostRuntime) -> Result<(), Fail> {
-    let plan = sample(rt.alloc(), Sample::S)?;
-    let image = image_of(rt.alloc(), &plan)?;
-    assert_eq!(rt; image.len(), 1_048_576);
-    for (block, at, expected) in SMALL {
-        assert_eq!(rt;
-            number(&image, block, at),
-            Some(expected),
-            "block {block} byte {at}"
-        );
-    }
+fn a_container_has_the_blocks_that_it_needs(rt: HostRuntime) -> Result<(), Fail> {
+    let image = image_of(rt.alloc(), &empty_plan(rt.alloc(), 0))?;
+    assert_eq!(rt; image.len(), 208_896);
+    assert_eq!(rt; number(&image, 2, 40), Some(51));
+    assert_eq!(rt; number(&image, 9, 72), Some(0));
     Ok(())
 }
 
 // A leaf of one item, whose key has so many bytes.
 fn leaf(alloc: Global, oid: u64, key: usize) -> Result<Leaf, AllocError> {
-    let mut items = Vec::new(alloc);
-    items.push((vec![in alloc; 0u8; key]?, vec![in alloc; 0u8; 1]?))?;
-    Ok(Leaf { oid, items })
+    let item = (vec![in alloc; 0u8; key]?, vec![in alloc; 0u8; 1]?);
+    Ok(Leaf {
+        oid,
+        items: vec![in alloc; item]?,
+    })
 }
 
-// The live version of a tree of six leaves, of which one node can name five and no more.
+// A tree of six leaves, of which one node can name five and no more.
 fn six_leaves(alloc: Global) -> Result<Version, AllocError> {
     let mut leaves = Vec::new(alloc);
     leaves.push(leaf(alloc, 1031, 24)?)?;
@@ -145,8 +142,9 @@ fn six_leaves(alloc: Global) -> Result<Version, AllocError> {
     })
 }
 
-// A container whose files own blocks among those that are free.
-fn tall_plan(alloc: Global) -> Result<Plan, AllocError> {
+// A container of two chunks whose files own blocks among those that are free, with a queue of two leaves and a
+// jumpstart.
+fn full_plan(alloc: Global) -> Result<Plan, AllocError> {
     let range = NewRange {
         first: 58,
         length: 2,
@@ -160,58 +158,122 @@ fn tall_plan(alloc: Global) -> Result<Plan, AllocError> {
         extents: vec![in alloc; range]?,
         contents: vec![in alloc; (58, b"hello".to_vec(alloc)?)]?,
     };
+    let mut queued = Vec::new(alloc);
+    for i in 0..126u64 {
+        queued.push(QueueEntry {
+            xid: 1,
+            paddr: 1000 + 2 * i,
+            length: 1,
+        })?;
+    }
     Ok(Plan {
-        blocks: 256,
+        blocks: 32_769,
         xid: 1,
         volumes: vec![in alloc; volume]?,
-        queued: Vec::new(alloc),
-        jumpstart: Vec::new(alloc),
+        queued,
+        jumpstart: vec![in alloc; (90, 3)]?,
     })
 }
 
-#[test]
-fn a_container_has_the_blocks_that_it_needs(rt: HostRuntime) -> Result<(), Fail> {
-    let image = empty_image(rt.alloc(), 0)?;
-    assert_eq!(rt; image.len(), 208_896);
-    assert_eq!(rt; number(&image, 2, 40), Some(51));
-    assert_eq!(rt; number(&image, 9, 72), Some(0));
-    Ok(())
-}
-
-#[test]
-fn a_second_chunk_has_no_bitmap(rt: HostRuntime) -> Result<(), Fail> {
-    let image = empty_image(rt.alloc(), 32_769)?;
-    // the address, the blocks with the free ones, and the bitmap of the second chunk
-    assert_eq!(rt; number(&image, 43, 80), Some(32_768));
-    assert_eq!(rt; number(&image, 43, 88), Some(0x0000_0001_0000_0001));
-    assert_eq!(rt; number(&image, 43, 96), Some(0));
-    Ok(())
-}
-
-// The root of the file-system tree, which stands above two nodes, and these above six leaves: its flags, level and
-// count, the number of keys, that of nodes. Then the oids of two leaves with the file's block between them, and the
-// flags, levels and counts of the two nodes.
-const TALL: [(usize, usize, u64); 8] = [
+// What the image of this plan has: block, byte and number.
+const FULL: [(usize, usize, u64); 26] = [
+    // the root of the file-system tree, above two nodes, and these above six leaves: flags, level and count, the number
+    // of keys, that of nodes
     (54, 32, 0x0000_0002_0002_0001),
     (54, 4080, 6),
     (54, 4088, 9),
+    // the oids of two leaves with the file's block between them, and the flags, levels and counts of the two nodes
     (57, 8, 1031),
     (58, 0, 0x006f_6c6c_6568),
     (60, 8, 2000),
     (65, 32, 0x0000_0005_0001_0000),
     (66, 32, 0x0000_0001_0001_0000),
+    // the queue: six mappings, the last of which are the leaves in blocks 13 and 14; the root of level 1, and the leaves
+    (1, 32, 0x0000_0006_0000_0001),
+    (1, 224, 2007),
+    (1, 232, 13),
+    (1, 264, 2008),
+    (1, 272, 14),
+    (2, 144, 0x0000_0006_0000_0000),
+    (12, 32, 0x0000_0002_0001_0005),
+    (12, 4080, 126),
+    (12, 4088, 3),
+    (13, 32, 0x0000_007d_0000_0006),
+    (14, 32, 0x0000_0001_0000_0006),
+    // the jumpstart, its magic and version, its count of extents, and the extent
+    (2, 1272, 67),
+    (67, 32, 0x0000_0001_5244_534a),
+    (67, 44, 1),
+    (67, 176, 90),
+    // the second chunk: its address, the blocks with the free ones, and its bitmap
+    (43, 80, 32_768),
+    (43, 88, 0x0000_0001_0000_0001),
+    (43, 96, 0),
 ];
 
 #[test]
-fn nodes_stand_round_the_blocks_of_files(rt: HostRuntime) -> Result<(), Fail> {
-    let plan = tall_plan(rt.alloc())?;
+fn a_full_container_has_its_parts(rt: HostRuntime) -> Result<(), Fail> {
+    let plan = full_plan(rt.alloc())?;
     let image = image_of(rt.alloc(), &plan)?;
-    for (block, at, expected) in TALL {
+    for (block, at, wanted) in FULL {
         assert_eq!(rt;
             number(&image, block, at),
-            Some(expected),
+            Some(wanted),
             "block {block} byte {at}"
         );
+    }
+    // 68 blocks from 0 on, the three of the jumpstart, and those of the queue are used
+    assert_eq!(rt; number(&image, 9, 72), Some(32_769 - 68 - 3 - 126));
+    Ok(())
+}
+
+#[test]
+fn a_block_is_marked_and_freed(rt: HostRuntime) -> Result<(), Fail> {
+    let plan = sample(rt.alloc(), Sample::S)?;
+    let mut image = image_of(rt.alloc(), &plan)?;
+    assert!(rt; mark(&mut image, 4096, 200));
+    assert!(rt; !mark(&mut image, 4096, 200));
+    // the bit, and the free blocks of the chunk, beside its blocks, and of the container
+    assert_eq!(rt; number(&image, 44, 24), Some(0x100));
+    assert_eq!(rt; number(&image, 43, 56), Some(0x0000_00c6_0000_0100));
+    assert_eq!(rt; number(&image, 9, 72), Some(198));
+    assert!(rt; free(&mut image, 4096, 200));
+    assert!(rt; !free(&mut image, 4096, 200));
+    assert_rows(&rt, &image, 4096, &[], &rows::SMALL);
+    Ok(())
+}
+
+// Superblocks and a checkpoint map that edits make: block, byte and number.
+const SKIPPED: [(usize, usize, u64); 6] = [
+    (3, 8, 3),
+    (3, 72, 13),
+    (3, 192, 16),
+    (4, 16, 2),
+    (4, 136, 0x0000_0002_0000_0002),
+    (13, 0, 0),
+];
+
+const RING: [(usize, usize, u64); 6] = [
+    (0, 16, 9),
+    (2, 16, 9),
+    (4, 0, 0),
+    (6, 16, 7),
+    (8, 16, 8),
+    (8, 136, 0x0000_0002_0000_0006),
+];
+
+#[test]
+fn images_of_several_checkpoints(rt: HostRuntime) -> Result<(), Fail> {
+    let plan = sample(rt.alloc(), Sample::S)?;
+    let mut skipped = image_of(rt.alloc(), &plan)?;
+    assert!(rt; skipped_checkpoint(&mut skipped));
+    for (block, at, wanted) in SKIPPED {
+        assert_eq!(rt; number(&skipped, block, at), Some(wanted), "block {block}");
+    }
+    let mut ring = image_of(rt.alloc(), &plan)?;
+    assert!(rt; ring_of_four(&mut ring));
+    for (block, at, wanted) in RING {
+        assert_eq!(rt; number(&ring, block, at), Some(wanted), "block {block}");
     }
     Ok(())
 }
@@ -220,15 +282,4 @@ fn nodes_stand_round_the_blocks_of_files(rt: HostRuntime) -> Result<(), Fail> {
 fn plans_that_ask_too_much_are_refused(rt: HostRuntime) {
     assert!(rt; empty_plan(rt.alloc(), 1_048_576).valid());
     assert!(rt; !empty_plan(rt.alloc(), 1_048_577).valid());
-}
-
-#[test]
-fn an_edited_block_is_whole_once_it_is_resealed(rt: HostRuntime) -> Result<(), Fail> {
-    // the first summed word is 1, as in the table of sums
-    let mut block = vec![in rt.alloc(); 0u8; 4096]?;
-    block[8] = 1;
-    reseal(&mut block);
-    assert_eq!(rt; number(&block, 0, 0), Some(0x0000_03fe_ffff_fc00));
-    assert_eq!(rt; number(&block, 0, 8), Some(1));
-    Ok(())
 }

@@ -1,0 +1,16 @@
+//! Edits of made images: numbers and bytes in blocks, sums stored anew, blocks marked and freed.
+#![tactic(auto)]
+
+mod counts;
+mod editing;
+pub mod places;
+mod seal;
+mod writer;
+
+pub use counts::{free, mark};
+pub use editing::{edit, reseal_block, write};
+pub use seal::reseal;
+pub use writer::{put_bytes, put_u16, put_u32, put_u64};
+
+#[cfg(test)]
+mod tests;

@@ -1,0 +1,150 @@
+// The file-system trees of a volume, each node written once for each transaction that changed it.
+ghost use Rattle.img_make.specs.Images.{HasGrown};
+
+use crate::geometry::Geometry;
+use crate::laying::image::Image;
+use crate::laying::trees::{Node, Plot, grow};
+use crate::objects::node::Tree;
+use img_plan::{Version, VolPlan};
+use std::alloc::{AllocError, Global};
+
+/// The ids of virtual and ephemeral objects: the first one that is free.
+#[derive(Clone, Copy)]
+pub(crate) struct Ids {
+    pub next: u64,
+}
+
+impl Ids {
+    /// The next id.
+    pub(crate) fn take(&mut self) -> u64 {
+        let oid = self.next;
+        self.next = oid.saturating_add(1);
+        oid
+    }
+}
+
+/// The ids of the nodes above the leaves, which all versions have in common.
+#[derive(Drop)]
+struct Uppers {
+    oids: Vec<u64>,
+}
+
+/// A record of an object map: an object of a transaction, in a block.
+#[derive(Clone, Copy)]
+pub(crate) struct Placed {
+    pub oid: u64,
+    pub xid: u64,
+    pub block: usize,
+}
+
+/// The root's id in a version: a leaf alone is the root, and keeps its own.
+pub(crate) fn root_of(version: &Version, root: u64) -> u64 {
+    match version.leaves.as_slice() {
+        [only] => only.oid,
+        _ => root,
+    }
+}
+
+impl Uppers {
+    // So many ids at least.
+    fn reach(&mut self, count: usize, ids: &mut Ids) -> Result<(), AllocError> {
+        for _ in self.oids.len()..count {
+            self.oids.push(ids.take())?;
+        }
+        Ok(())
+    }
+}
+
+// The nodes of one version's tree.
+fn nodes_of(
+    alloc: Global,
+    geometry: Geometry,
+    version: &Version,
+    root: u64,
+    uppers: &mut Uppers,
+    ids: &mut Ids,
+) -> Result<Vec<Node>, AllocError> {
+    let plot = Plot {
+        geometry,
+        tree: Tree::FILE_SYSTEM,
+        xid: version.xid,
+        root: root_of(version, root),
+        oids: &[],
+    };
+    let count = grow(alloc, &plot, &version.leaves)?.taken;
+    uppers.reach(count, ids)?;
+    let named = plot.with(&uppers.oids);
+    Ok(grow(alloc, &named, &version.leaves)?.nodes)
+}
+
+// The nodes of all versions, by id and then by transaction.
+fn all_nodes(
+    alloc: Global,
+    geometry: Geometry,
+    versions: &[Version],
+    root: u64,
+    ids: &mut Ids,
+) -> Result<Vec<Node>, AllocError> {
+    let mut nodes = Vec::new(alloc);
+    let mut uppers = Uppers {
+        oids: Vec::new(alloc),
+    };
+    for version in versions.iter() {
+        for node in nodes_of(alloc, geometry, version, root, &mut uppers, ids)? {
+            nodes.push(node)?;
+        }
+    }
+    nodes.sort_by_key(|node| (node.oid, node.xid))?;
+    Ok(nodes)
+}
+
+// The nodes without those that are as they were at an earlier transaction.
+fn changed(alloc: Global, nodes: Vec<Node>) -> Result<Vec<Node>, AllocError> {
+    let mut kept = Vec::new(alloc);
+    for node in nodes {
+        let is_kept = match kept.last() {
+            Some(last) => !node.is_as(last),
+            None => true,
+        };
+        if is_kept {
+            kept.push(node)?;
+        }
+    }
+    Ok(kept)
+}
+
+/// The trees of all versions of a volume: the live root's first node in a block that it is given, and the other nodes
+/// in the first free blocks, by id and then by transaction. The answer is where each stands, in this order.
+pub(crate) fn put_files(
+    alloc: Global,
+    image: &mut Image,
+    volume: &VolPlan,
+    root: u64,
+    root_block: usize,
+    ids: &mut Ids,
+) -> Result<Vec<Placed>, AllocError>
+    ensures { HasGrown image.old image.new }
+{
+    let live = match volume.versions.last() {
+        Some(version) => root_of(version, root),
+        None => root,
+    };
+    let nodes = all_nodes(alloc, image.geometry, &volume.versions, root, ids)?;
+    let mut placed = Vec::new(alloc);
+    let mut is_rooted = false;
+    for node in changed(alloc, nodes)?.iter() {
+        let block = if node.oid == live && !is_rooted {
+            is_rooted = true;
+            root_block
+        } else {
+            image.place()?
+        };
+        image.put(block, &node.bytes);
+        placed.push(Placed {
+            oid: node.oid,
+            xid: node.xid,
+            block,
+        })?;
+    }
+    Ok(placed)
+}

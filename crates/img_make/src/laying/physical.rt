@@ -1,0 +1,50 @@
+// Physical trees, whose nodes are named by their blocks.
+ghost use Rattle.img_make.specs.Images.{HasGrown};
+
+use crate::laying::image::Image;
+use crate::laying::trees::{Plot, grow};
+use crate::objects::node::Tree;
+use img_plan::{Item, pack};
+use std::alloc::{AllocError, Global};
+
+// So many blocks, the first free ones.
+fn blocks(alloc: Global, image: &mut Image, count: usize) -> Result<Vec<u64>, AllocError>
+    ensures { HasGrown image.old image.new }
+{
+    let mut blocks = Vec::new(alloc);
+    for _ in 0..count {
+        let block = image.place()?;
+        blocks.push(block as u64)?;
+    }
+    Ok(blocks)
+}
+
+/// A physical tree with its items in as few leaves as hold them: the root in its block, the other nodes in the first
+/// free blocks, the leaves before the levels above them.
+pub(crate) fn put_physical(
+    alloc: Global,
+    image: &mut Image,
+    tree: &Tree,
+    root: usize,
+    xid: u64,
+    items: Vec<Item>,
+) -> Result<(), AllocError>
+    ensures { HasGrown image.old image.new }
+{
+    let leaves = pack(alloc, items, 0)?;
+    let plot = Plot {
+        geometry: image.geometry,
+        tree: *tree,
+        xid,
+        root: root as u64,
+        oids: &[],
+    };
+    let count = grow(alloc, &plot, &leaves)?.taken;
+    let oids = blocks(alloc, image, count)?;
+    let named = plot.with(&oids);
+    let grown = grow(alloc, &named, &leaves)?;
+    for node in grown.nodes.iter() {
+        image.put(node.oid as usize, &node.bytes);
+    }
+    Ok(())
+}

@@ -1,0 +1,80 @@
+// The chunk-info block (Space Manager, chunk_info_block_t and chunk_info_t), and bitmaps.
+ghost use Rattle.std.specs.Prelude.{◌≡◌, ◌≤◌, length};
+
+use super::header::{Head, block_with};
+use crate::geometry::Geometry;
+use apfs_layout::chunk_info::{
+    CHUNK_ADDRESS, CHUNK_BITMAP, CHUNK_BLOCKS, CHUNK_FREE, CHUNK_XID, CIB_COUNT, CIB_ENTRIES,
+    ENTRY_LEN,
+};
+use apfs_layout::kind;
+use img_edit::places::POOL_BASE;
+use img_edit::{put_u32, put_u64, reseal};
+use std::alloc::{AllocError, Global};
+
+/// A chunk of blocks.
+#[derive(Clone, Copy)]
+pub(crate) struct Chunk {
+    pub blocks: usize,
+    pub free: usize,
+    /// The block of its bitmap, 0 where all its blocks are free.
+    pub bitmap: usize,
+}
+
+// The entry of the chunk that starts at a block, in the bytes that are its own.
+fn put_chunk(part: &mut [u8], first: usize, chunk: &Chunk, xid: u64)
+    requires { length part.old ≡ 32 }
+{
+    put_u64(part, CHUNK_XID, xid);
+    put_u64(part, CHUNK_ADDRESS, first as u64);
+    put_u32(part, CHUNK_BLOCKS, (chunk.blocks % 0x1_0000_0000) as u32);
+    put_u32(part, CHUNK_FREE, (chunk.free % 0x1_0000_0000) as u32);
+    put_u64(part, CHUNK_BITMAP, chunk.bitmap as u64);
+}
+
+// The entries of the chunks, those that the block has room for.
+fn put_chunks(block: &mut [u8], chunks: &[Chunk], xid: u64)
+    requires { 40 ≤ length block.old }
+{
+    let mut first = 0usize;
+    let parts = block[CIB_ENTRIES..].chunks_exact_mut(ENTRY_LEN);
+    for (part, chunk) in parts.zip(chunks.iter()) {
+        put_chunk(part, first, chunk, xid);
+        first = first.saturating_add(chunk.blocks);
+    }
+}
+
+/// The chunk-info block.
+pub(crate) fn chunk_info(
+    alloc: Global,
+    geometry: Geometry,
+    xid: u64,
+    chunks: &[Chunk],
+) -> Result<Vec<u8>, AllocError> {
+    let head = Head::physical(POOL_BASE, xid, kind::CHUNK_INFO);
+    let mut block = block_with(alloc, geometry, &head)?;
+    put_u32(&mut block, CIB_COUNT, (chunks.len() % 0x1_0000_0000) as u32);
+    put_chunks(&mut block, chunks, xid);
+    reseal(&mut block);
+    Ok(block)
+}
+
+// The bits of the blocks that are used, those that the block has room for.
+fn mark_bits(block: &mut [u8], used: &[bool]) {
+    for (i, is_used) in used.iter().enumerate() {
+        if *is_used && i / 8 < block.len() {
+            block[i / 8] |= 1 << (i % 8);
+        }
+    }
+}
+
+/// The bitmap of blocks, lowest bit first: 1 where a block is used.
+pub(crate) fn bitmap(
+    alloc: Global,
+    geometry: Geometry,
+    used: &[bool],
+) -> Result<Vec<u8>, AllocError> {
+    let mut block = vec![in alloc; 0u8; geometry.size]?;
+    mark_bits(&mut block, used);
+    Ok(block)
+}

@@ -1,0 +1,138 @@
+// The files of a volume while they are put together: inodes with their counts, and the records beside them.
+use crate::records::{
+    EntryPlan, InodePlan, Item, entry, file_extent, inode, rank, sibling_link, sibling_map,
+    stream_id,
+};
+use fs_name::Names;
+use std::alloc::{AllocError, Global};
+use std::collections::BTreeMap;
+
+// The ids of the directory above the root, of the root, and of the private directory.
+pub(crate) const ABOVE_ROOT: u64 = 1;
+
+pub(crate) const ROOT: u64 = 2;
+
+pub(crate) const PRIVATE: u64 = 3;
+
+// The most bytes of a name, for which the length in an entry's key has room.
+const MOST_OF_A_NAME: usize = 1022;
+
+// One more than the rest of a mode below its kind.
+const KIND_UNIT: u16 = 0x1000;
+
+/// The files of a volume: a root and a private directory, and what is added to them. Names of more than 1,022 bytes
+/// aren't added.
+#[derive(Drop)]
+pub struct FileTree {
+    names: Names,
+    inodes: BTreeMap<u64, InodePlan>,
+    items: Vec<Item>,
+}
+
+impl FileTree {
+    /// The files of a volume with nothing but its two directories.
+    pub fn new(alloc: Global, names: Names) -> Result<FileTree, AllocError> {
+        let mut tree = FileTree {
+            names,
+            inodes: BTreeMap::new(alloc),
+            items: Vec::new(alloc),
+        };
+        tree.add(alloc, InodePlan::directory(ROOT, ABOVE_ROOT), "root")?;
+        let private = InodePlan::directory(PRIVATE, ABOVE_ROOT);
+        tree.add(alloc, private, "private-dir")?;
+        Ok(tree)
+    }
+
+    /// Adds an inode that nothing names yet, in the place of any other of its id.
+    pub fn inode(&mut self, plan: InodePlan) -> Result<(), AllocError> {
+        self.inodes.insert(plan.id, plan)?;
+        Ok(())
+    }
+
+    /// Adds an inode, and its name in its parent.
+    pub fn add(&mut self, alloc: Global, plan: InodePlan, name: &str) -> Result<(), AllocError> {
+        let entry = EntryPlan {
+            directory: plan.parent,
+            file: plan.id,
+            kind: plan.mode / KIND_UNIT,
+            sibling: None,
+        };
+        self.inode(plan)?;
+        self.name(alloc, &entry, name)
+    }
+
+    /// Adds an entry of a directory, which then has one child more.
+    pub fn name(&mut self, alloc: Global, plan: &EntryPlan, name: &str) -> Result<(), AllocError> {
+        if name.len() <= MOST_OF_A_NAME {
+            self.items.push(entry(alloc, self.names, plan, name)?)?;
+            self.raise(plan.directory);
+        }
+        Ok(())
+    }
+
+    /// Adds one of several names of a regular file: an entry, a sibling link and a sibling map. The file has one link
+    /// more.
+    pub fn link(
+        &mut self,
+        alloc: Global,
+        file: u64,
+        sibling: u64,
+        directory: u64,
+        name: &str,
+    ) -> Result<(), AllocError> {
+        if name.len() > MOST_OF_A_NAME {
+            return Ok(());
+        }
+        let plan = EntryPlan {
+            directory,
+            file,
+            kind: 8,
+            sibling: Some(sibling),
+        };
+        self.name(alloc, &plan, name)?;
+        self.raise(file);
+        self.record(sibling_link(alloc, file, sibling, directory, name.as_bytes())?)?;
+        self.record(sibling_map(alloc, sibling, file)?)
+    }
+
+    /// Adds a stream, and its extents as logical address and length in bytes and first block.
+    pub fn stream(
+        &mut self,
+        alloc: Global,
+        stream: u64,
+        extents: &[(u64, u64, u64)],
+    ) -> Result<(), AllocError> {
+        self.record(stream_id(alloc, stream)?)?;
+        for (address, length, block) in extents.iter() {
+            self.record(file_extent(alloc, stream, *address, *length, *block)?)?;
+        }
+        Ok(())
+    }
+
+    /// Adds a record of any kind.
+    pub fn record(&mut self, item: Item) -> Result<(), AllocError> {
+        self.items.push(item)?;
+        Ok(())
+    }
+
+    // One child or link more of an inode.
+    fn raise(&mut self, id: u64) {
+        if let Some(inode) = self.inodes.get_mut(&id) {
+            inode.children_or_links = inode.children_or_links.saturating_add(1);
+        }
+    }
+
+    /// The records in the tree's order.
+    pub fn items(self, alloc: Global) -> Result<Vec<Item>, AllocError> {
+        let FileTree {
+            inodes,
+            mut items,
+            ..
+        } = self;
+        for plan in inodes.values() {
+            items.push(inode(alloc, plan)?)?;
+        }
+        items.sort_by_key(|item| rank(&item.0))?;
+        Ok(items)
+    }
+}

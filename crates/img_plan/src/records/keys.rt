@@ -1,0 +1,80 @@
+// The keys of records (File-System Objects, j_key_t), and what an item takes in a node.
+ghost use Rattle.std.specs.Prelude.{◌≡◌, ◌≤◌, ◌+◌, ◌-◌, ◌^◌, min, IfOk, length, vec_len};
+ghost use Rattle.img_plan.specs.Nodes.{bytes_in_node};
+
+use apfs_layout::key::{
+    ENTRY, FILE_EXTENT, ID_AND_KIND, KIND_UNIT, LEN_AND_HASH, NAME_LEN, PLAIN_NAME, RECORD_LEN,
+    SECOND, SECOND_LEN, SIBLING_LINK,
+};
+use apfs_layout::node::VARIABLE_ENTRY_LEN;
+use img_edit::{put_bytes, put_u16, put_u64};
+use obj_base::{u32_at, u64_at};
+use std::alloc::{AllocError, Global};
+
+/// A key and its value.
+pub type Item = (Vec<u8>, Vec<u8>);
+
+/// The bytes that an item takes in a node whose keys and values differ in size; as many as a number can tell.
+pub fn node_bytes(item: &Item) -> usize
+    ensures { result ≡ min (bytes_in_node (vec_len item.now.0) (vec_len item.now.1)) (2 ^ 64 - 1) }
+{
+    item.0
+        .len()
+        .saturating_add(item.1.len())
+        .saturating_add(VARIABLE_ENTRY_LEN)
+}
+
+// A key of so many bytes that starts with an id, of which the low 60 bits count, and a kind.
+pub(crate) fn key(alloc: Global, id: u64, kind: u8, len: usize) -> Result<Vec<u8>, AllocError>
+    requires { 8 ≤ len }
+    ensures { IfOk result (λ key. vec_len key ≡ len) }
+{
+    let mut key = vec![in alloc; 0u8; len]?;
+    let word = id % KIND_UNIT + u64::from(kind % 16) * KIND_UNIT;
+    put_u64(&mut key, ID_AND_KIND, word);
+    Ok(key)
+}
+
+// A key of an id, a kind and a second number.
+pub(crate) fn key_with(alloc: Global, id: u64, kind: u8, second: u64) -> Result<Vec<u8>, AllocError>
+    ensures { IfOk result (λ key. vec_len key ≡ 16) }
+{
+    let mut key = key(alloc, id, kind, SECOND_LEN)?;
+    put_u64(&mut key, SECOND, second);
+    Ok(key)
+}
+
+// A key of an id, a kind and a name, which it ends with a zero.
+pub(crate) fn key_named(
+    alloc: Global,
+    id: u64,
+    kind: u8,
+    name: &[u8],
+) -> Result<Vec<u8>, AllocError>
+    requires { length name.now ≤ 1022 }
+    ensures { IfOk result (λ key. vec_len key ≡ 11 + length name.now) }
+{
+    let mut key = key(alloc, id, kind, PLAIN_NAME + name.len() + 1)?;
+    put_u16(&mut key, NAME_LEN, name.len() as u16 + 1);
+    put_bytes(&mut key, PLAIN_NAME, name);
+    Ok(key)
+}
+
+/// Where a record of a file-system tree stands: its id, its kind, and the hash of an entry's name, the id of a
+/// sibling link or the logical address of an extent. A key that is too short for it stands first.
+pub fn rank(key: &[u8]) -> (u64, u64, u64) {
+    if key.len() < RECORD_LEN {
+        return (0, 0, 0);
+    }
+    let word = u64_at(key, ID_AND_KIND);
+    let kind = word / KIND_UNIT;
+    let has_number = kind == u64::from(SIBLING_LINK) || kind == u64::from(FILE_EXTENT);
+    let third = if kind == u64::from(ENTRY) && key.len() >= LEN_AND_HASH + 4 {
+        u64::from(u32_at(key, LEN_AND_HASH) / 0x400)
+    } else if has_number && key.len() >= SECOND_LEN {
+        u64_at(key, SECOND)
+    } else {
+        0
+    };
+    (word % KIND_UNIT, kind, third)
+}

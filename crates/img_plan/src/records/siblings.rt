@@ -1,0 +1,34 @@
+// Sibling links and maps (Siblings, j_sibling_val_t and j_sibling_map_val_t).
+ghost use Rattle.std.specs.Prelude.{◌≤◌, length};
+
+use super::keys::{Item, key, key_with};
+use apfs_layout::key::{RECORD_LEN, SIBLING_LINK, SIBLING_MAP};
+use apfs_layout::record::{LINK_NAME, LINK_NAME_LEN, LINK_PARENT, MAP_FILE, MAP_LEN};
+use img_edit::{put_bytes, put_u16, put_u64};
+use std::alloc::{AllocError, Global};
+
+/// The record of one name of a file, by its sibling id: the directory that has the entry, and the name.
+pub fn sibling_link(
+    alloc: Global,
+    file: u64,
+    sibling: u64,
+    directory: u64,
+    name: &[u8],
+) -> Result<Item, AllocError>
+    requires { length name.now ≤ 1022 }
+{
+    let key = key_with(alloc, file, SIBLING_LINK, sibling)?;
+    let mut value = vec![in alloc; 0u8; LINK_NAME + name.len() + 1]?;
+    put_u64(&mut value, LINK_PARENT, directory);
+    put_u16(&mut value, LINK_NAME_LEN, name.len() as u16 + 1);
+    put_bytes(&mut value, LINK_NAME, name);
+    Ok((key, value))
+}
+
+/// The record that leads from a sibling id to its file.
+pub fn sibling_map(alloc: Global, sibling: u64, file: u64) -> Result<Item, AllocError> {
+    let key = key(alloc, sibling, SIBLING_MAP, RECORD_LEN)?;
+    let mut value = vec![in alloc; 0u8; MAP_LEN]?;
+    put_u64(&mut value, MAP_FILE, file);
+    Ok((key, value))
+}

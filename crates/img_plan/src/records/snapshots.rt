@@ -1,0 +1,50 @@
+// Snapshots (Snapshot Metadata, j_snap_metadata_val_t and j_snap_name_val_t).
+ghost use Rattle.std.specs.Prelude.{◌≤◌, length};
+
+use super::keys::{Item, key, key_named};
+use apfs_layout::key::{KIND_UNIT, RECORD_LEN, SNAPSHOT, SNAPSHOT_NAME as NAME_KIND};
+use apfs_layout::value::{
+    SNAPSHOT_EXTENTS, SNAPSHOT_EXTENTS_TYPE, SNAPSHOT_NAME, SNAPSHOT_NAME_LEN, SNAPSHOT_SUPERBLOCK,
+};
+use img_edit::{put_bytes, put_u16, put_u32, put_u64};
+use std::alloc::{AllocError, Global};
+
+// The length of the value of a snapshot's name.
+const NAME_VALUE_LEN: usize = 8;
+
+// A physical tree (Objects, Object Types and Object Type Flags).
+const PHYSICAL_TREE: u32 = 0x4000_0002;
+
+// The id of all snapshot names.
+const NAMES_ID: u64 = KIND_UNIT - 1;
+
+/// The record of a snapshot of a transaction: the block of its extent reference tree's root, that of its volume
+/// superblock, and its name.
+pub fn snapshot_record(
+    alloc: Global,
+    xid: u64,
+    extents: u64,
+    superblock: u64,
+    name: &[u8],
+) -> Result<Item, AllocError>
+    requires { length name.now ≤ 1022 }
+{
+    let key = key(alloc, xid, SNAPSHOT, RECORD_LEN)?;
+    let mut value = vec![in alloc; 0u8; SNAPSHOT_NAME + name.len() + 1]?;
+    put_u64(&mut value, SNAPSHOT_EXTENTS, extents);
+    put_u64(&mut value, SNAPSHOT_SUPERBLOCK, superblock);
+    put_u32(&mut value, SNAPSHOT_EXTENTS_TYPE, PHYSICAL_TREE);
+    put_u16(&mut value, SNAPSHOT_NAME_LEN, name.len() as u16 + 1);
+    put_bytes(&mut value, SNAPSHOT_NAME, name);
+    Ok((key, value))
+}
+
+/// The record that leads from a snapshot's name to its transaction.
+pub fn snapshot_name(alloc: Global, xid: u64, name: &[u8]) -> Result<Item, AllocError>
+    requires { length name.now ≤ 1022 }
+{
+    let key = key_named(alloc, NAMES_ID, NAME_KIND, name)?;
+    let mut value = vec![in alloc; 0u8; NAME_VALUE_LEN]?;
+    put_u64(&mut value, 0, xid);
+    Ok((key, value))
+}
