@@ -125,8 +125,8 @@ pub fn make_with(alloc: Global, plan: &Plan, block_size: u32) -> Result<Vec<u8>,
     requires valid { IsValid plan.now }
     requires accepted { IsTrue (is_accepted block_size) }
     requires small { plan.now.blocks * block_size ≤ 2 ^ 32 }
-    ensures whole { IfOk result (λ image. vec_len image % block_size ≡ 0) }
-    ensures least { IfOk result (λ image. block_size * max plan.now.blocks 51 ≤ vec_len image) }
+    ensures in_blocks { IfOk result (λ image. vec_len image % block_size ≡ 0) }
+    ensures enough { IfOk result (λ image. block_size * max plan.now.blocks 51 ≤ vec_len image) }
 {
     match image_that_fits(alloc, Geometry::new(block_size), plan) {
         Ok(image) => {
@@ -140,8 +140,8 @@ pub fn make_with(alloc: Global, plan: &Plan, block_size: u32) -> Result<Vec<u8>,
 /// The image of a plan with blocks of 4,096 bytes, as `make_with` says.
 pub fn make(alloc: Global, plan: &Plan) -> Result<Vec<u8>, NoMemory>
     requires { IsValid plan.now }
-    ensures whole { IfOk result (λ image. vec_len image % 4096 ≡ 0) }
-    ensures least { IfOk result (λ image. 4096 * max plan.now.blocks 51 ≤ vec_len image) }
+    ensures in_blocks { IfOk result (λ image. vec_len image % 4096 ≡ 0) }
+    ensures enough { IfOk result (λ image. 4096 * max plan.now.blocks 51 ≤ vec_len image) }
 {
     make_with(alloc, plan, 4096)
 }
