@@ -1,5 +1,5 @@
 -- The first item out of order, and what was seen before it.
-use Rattle.std.proofs.Common.{◌≡◌, ◌==◌, nat_lt, ℕ, zero, suc, ◌+◌, Bool, true, false, cond, List, [], ◌∷◌, ◌++◌, length, map, Option, Some, None, refl, ap, sym, ◌∙◌, arith, append_assoc, append-nil, length-append, ◌&&◌, ◌||◌}
+use Rattle.std.proofs.Common.{◌≡◌, ◌==◌, ℕ, zero, suc, ◌+◌, Bool, true, false, cond, List, [], ◌∷◌, ◌++◌, length, map, Option, Some, None, refl, ap, sym, ◌∙◌, arith, append_assoc, append-nil, length-append, ◌&&◌, ◌||◌}
 use Rattle.std.specs.Prelude.{option_map}
 use Rattle.std.specs.List.{filter}
 use Rattle.std.proofs.lemmas.Bool.Decides.{nat_tests}
@@ -13,7 +13,7 @@ use Rattle.bt_node.specs.declared.key.Rank.{Rank}
 use Rattle.bt_cursor.specs.Line.{Item, is_leaf_item, leaf_pairs}
 use Rattle.bt_cursor.specs.Met.{places_under, places_in}
 use Rattle.bt_cursor.specs.Order.{rank_of, is_strict_leaf, ranks_below, ranks_same, is_misplaced, first_misplaced}
-use Rattle.bt_cursor.specs.Seen.{reads_for, spend, comes_to, seen_start, seen_item, is_out, HasSeen}
+use Rattle.bt_cursor.specs.Seen.{spend, comes_to, seen_start, seen_item, is_out, HasSeen}
 use Rattle.bt_cursor.specs.declared.seen.Seen.{Seen}
 use Rattle.bt_cursor.specs.declared.seen.Tally.{Tally}
 use Rattle.bt_cursor.proofs.Lines.{leaf_pairs-append}

@@ -1,7 +1,7 @@
 -- The list of places has exactly those that are met.
-use Rattle.std.proofs.Common.{◌≡◌, ℕ, zero, suc, ◌+◌, ◌<◌, Bool, true, false, cond, List, [], ◌∷◌, ◌++◌, length, map, Option, Some, None, Result, Ok, Err, refl, ap, sym, ◌∙◌, subst, arith, inl, inr, ◌⊎◌, ◌&&◌}
+use Rattle.std.proofs.Common.{◌≡◌, ℕ, zero, suc, ◌+◌, ◌<◌, Bool, true, false, List, [], ◌∷◌, ◌++◌, map, Option, Some, None, Result, Ok, Err, refl, ap, sym, ◌∙◌, subst, arith, inl, inr, ◌⊎◌, ◌&&◌}
 use Rattle.std.specs.Prelude.{is_ok, is_none}
-use Rattle.std.specs.List.{range_with_len, filter, flat_map, list_all}
+use Rattle.std.specs.List.{range_with_len, flat_map, list_all}
 use Rattle.std.proofs.lemmas.Bool.{false≢true}
 use Rattle.std.proofs.lemmas.Grind.{flat_map-append}
 use Rattle.apfs_model.specs.Blocks.{block_of}
@@ -22,7 +22,7 @@ use Rattle.bt_cursor.specs.declared.fault.WalkFault.{WalkFault}
 use Rattle.bt_cursor.specs.declared.fault.WalkFault.TheVariants.{Unsound, Unnamed, Order, Counts}
 use Rattle.bt_cursor.specs.Tree.{Tree, root_place, child_place, judged, node_named, block_named, tree_in}
 use Rattle.bt_cursor.specs.Line.{Item, line_part, line_of}
-use Rattle.bt_cursor.specs.Met.{IsMet, first, after, places_under, places_in, places_of, nodes_of, has_node, is_walkable}
+use Rattle.bt_cursor.specs.Met.{IsMet, first, after, places_under, places_in, places_of, has_node, is_walkable}
 use Rattle.bt_cursor.specs.Whole.{IsWhole}
 use Rattle.bt_cursor.specs.Order.{is_ordered}
 use Rattle.bt_cursor.specs.Faults.{HasGap, HasFeature, IsNodeFault, IsOutOfOrder, IsWalkFault}

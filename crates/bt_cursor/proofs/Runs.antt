@@ -1,14 +1,13 @@
 -- Entries that are met are in the flat list, and those of a run of ranks come one after another.
-use Rattle.std.proofs.Common.{◌≡◌, ◌==◌, ◌&&◌, nat_lt, ℕ, Bool, true, false, cond, List, [], ◌∷◌, ◌++◌, map, Ok, refl, ap, sym, ◌∙◌, subst, arith, All, inl, inr, ◌⊎◌}
+use Rattle.std.proofs.Common.{◌≡◌, ◌==◌, ◌&&◌, ℕ, Bool, true, false, cond, List, [], ◌∷◌, ◌++◌, map, refl, ap, sym, ◌∙◌, subst, arith, All, inl}
 use Rattle.std.specs.List.{filter, take_while}
 use Rattle.std.proofs.lemmas.Bool.{false≢true}
 use Rattle.std.proofs.lemmas.Bool.Decides.{nat_tests}
-use Rattle.std.proofs.lemmas.Grind.{common_steps, flat_map-append}
-use Rattle.std.proofs.lemmas.List.Elements.{All-head, All-tail, All-cons, All-nil, All-weaker}
+use Rattle.std.proofs.lemmas.Grind.{flat_map-append}
+use Rattle.std.proofs.lemmas.List.Elements.{All-head, All-tail, All-cons, All-weaker}
 use Rattle.std.proofs.lemmas.List.Sums.{take_while-cons}
 use Rattle.apfs_model.specs.Lists.{In}
 use Rattle.bt_node.specs.Entries.{Pair}
-use Rattle.bt_node.specs.Rank.{is_below}
 use Rattle.bt_node.specs.Shape.{Shape}
 use Rattle.bt_node.specs.declared.key.Rank.{Rank}
 use Rattle.bt_node.specs.declared.key.TreeKey as keys
@@ -18,10 +17,10 @@ use Rattle.bt_cursor.specs.Tree.{Tree}
 use Rattle.bt_cursor.specs.Flat.{flat_of}
 use Rattle.bt_cursor.specs.Line.{Item, is_leaf_item, line_of, leaf_pairs}
 use Rattle.bt_cursor.specs.Gaps.{Gapped, gapped_of, met_in, all_met, flat_in, all_flat, IsSuffix}
-use Rattle.bt_cursor.specs.Order.{rank_of, ranks_below, is_ordered}
+use Rattle.bt_cursor.specs.Order.{rank_of, is_ordered}
 use Rattle.bt_cursor.specs.From.{is_below_rank, from_rank, IsRun, run_in}
 use Rattle.bt_cursor.specs.Search.{IsInOrder}
-use Rattle.bt_cursor.specs.Cursors.{root_of, tree_of, ahead_of, gapped_left_of, left_of, passed_of, IsOn, Moves}
+use Rattle.bt_cursor.specs.Cursors.{root_of, tree_of, ahead_of, left_of, passed_of, IsOn, Moves}
 use Rattle.bt_cursor.proofs.Flats.{flat-gapped, line-pairs}
 use Rattle.bt_cursor.proofs.Places.{in-right}
 use Rattle.bt_cursor.proofs.Ranks.{rank-above, ordered-means, leaf-each}

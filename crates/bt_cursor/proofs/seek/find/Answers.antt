@@ -1,7 +1,6 @@
-use Rattle.std.proofs.Common.{◌≡◌, ℕ, List, sym, subst, arith, rules, All, ◌∙◌}
+use Rattle.std.proofs.Common.{sym, subst, arith, rules, All, ◌∙◌}
 use Rattle.std.proofs.lemmas.List.Elements.{All-nil, All-push}
 use Rattle.obj_base.specs.Stops.{Tells}
-use Rattle.bt_node.specs.Node.{level_of}
 use Rattle.bt_cursor.specs.Tree.{tree_in, look_in}
 use Rattle.bt_cursor.specs.Faults.{IsNodeFault, HasFeature}
 use Rattle.bt_cursor.specs.Search.{IsCutStep}
