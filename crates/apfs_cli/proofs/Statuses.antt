@@ -5,7 +5,7 @@ use Rattle.apfs_model.specs.Sink.{Wrote}
 use Rattle.blk_source.specs.declared.source.Opened.{Opened}
 use Rattle.blk_source.specs.declared.source.Opened.TheVariants.{Absent, Image}
 use Rattle.obj_base.specs.declared.stop.Feature.{Feature}
-use Rattle.apfs_cli.specs.declared.fault.Fault.{Fault}
+use Rattle.apfs_check.specs.declared.fault.Fault.{Fault}
 use Rattle.apfs_cli.specs.ByCommand.{takes_image, IsText}
 use Rattle.apfs_cli.specs.Outcome.{Outcome, status_of, text_of, line_of, Written, Faulty, Usage, ReadFailed, WriteFailed, OutOfMemory, Refused, NoImage}
 use Rattle.apfs_cli.specs.Says.{LacksImage, IsGiven, SourceFailed, Says, HasNoImage}

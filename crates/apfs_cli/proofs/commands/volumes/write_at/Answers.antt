@@ -7,7 +7,8 @@ use Rattle.obj_base.specs.declared.stop.Stop.TheVariants.{ReadFault}
 use Rattle.vol_view.specs.declared.stop.VolStop.{VolStop}
 use Rattle.apfs_cli.specs.Checkpoints.{IsNewest}
 use Rattle.apfs_cli.specs.Commands.Volumes.{volumes_text}
-use Rattle.apfs_cli.specs.Raised.{of_volume, stopped_at}
+use Rattle.apfs_check.specs.Raised.{of_volume}
+use Rattle.apfs_cli.specs.Seen.{stopped_at}
 use Rattle.apfs_cli.specs.Words.{Volumes}
 use Rattle.apfs_cli.specs.Written.{sunk}
 use Rattle.apfs_cli.proofs.Endings.{put_ended, stop_ended}
