@@ -131,9 +131,12 @@ first_failed bytes faults command old new out _ e says = absurd (omega arith)
 
 pub write_failed_row : {S : Type 0} (bytes : S → Option (List ℕ)) (faults : S → ℕ) (command : Option Asked) (old new : Opened S) (result : ℕ) (out err : Sunk) →
     Answered bytes faults command old new result out err → result ≡ 4 → HasFailedPut bytes command old out err
-write_failed_row bytes faults command old new result out err (o, says, ends) e =
-    (text_of o, part_of bytes faults command old new out o says, ends.text,
-    elim ends.said [ inl has ↦ inl (first_failed bytes faults command old new out o (sym has.status_is ∙ e) says) | inr lacks ↦ inr lacks.failed ])
+write_failed_row bytes faults command old new result out err (o, says, ends) e = (
+  text_of o,
+  part_of bytes faults command old new out o says,
+  ends.text,
+  elim ends.said [ inl has ↦ inl (first_failed bytes faults command old new out o (sym has.status_is ∙ e) says) | inr lacks ↦ inr lacks.failed ],
+)
 
 -- a run ends with the status of its outcome, or a put on the second sink failed
 ended_as : (result : ℕ) (o : Outcome) (out err : Sunk) → Ends result o out err → (result ≡ status_of o) ⊎ (result ≡ 4)

@@ -35,7 +35,13 @@ pub fn unsound(alloc: Global, block: u64, why: Why) -> Result<Vec<u8>, AllocErro
 }
 
 /// An id in a space at a transaction.
-pub fn of_oid(alloc: Global, word: &str, within: Within, oid: u64, xid: u64) -> Result<Vec<u8>, AllocError>
+pub fn of_oid(
+    alloc: Global,
+    word: &str,
+    within: Within,
+    oid: u64,
+    xid: u64,
+) -> Result<Vec<u8>, AllocError>
     ensures { IfOk result (λ text. text.items ≡ texts.oid_text word.now within oid xid) }
 {
     let place = within_text(alloc, within)?;
@@ -85,14 +91,26 @@ pub fn of_view(alloc: Global, word: &str, slot: u32, xid: u64) -> Result<Vec<u8>
 }
 
 /// An item of a view.
-pub fn of_view_item(alloc: Global, word: &str, slot: u32, xid: u64, item: u64) -> Result<Vec<u8>, AllocError>
+pub fn of_view_item(
+    alloc: Global,
+    word: &str,
+    slot: u32,
+    xid: u64,
+    item: u64,
+) -> Result<Vec<u8>, AllocError>
     ensures { IfOk result (λ text. text.items ≡ texts.item_text (texts.view_text word.now slot xid) item) }
 {
     Ok(format!(in alloc; "{word} volume {slot} view {xid} item {item}")?.into_bytes())
 }
 
 /// The record of an item of a view.
-pub fn of_record(alloc: Global, slot: u32, xid: u64, item: u64, why: RecFault) -> Result<Vec<u8>, AllocError>
+pub fn of_record(
+    alloc: Global,
+    slot: u32,
+    xid: u64,
+    item: u64,
+    why: RecFault,
+) -> Result<Vec<u8>, AllocError>
     ensures { IfOk result (λ text. text.items ≡ texts.record_text slot xid item why) }
 {
     let word = record_word(why);
@@ -108,17 +126,32 @@ pub fn of_id(alloc: Global, word: &str, at: &IdAt) -> Result<Vec<u8>, AllocError
 }
 
 /// A run of blocks of a volume.
-pub fn of_run(alloc: Global, word: &str, slot: u32, block: u64, length: u64) -> Result<Vec<u8>, AllocError>
+pub fn of_run(
+    alloc: Global,
+    word: &str,
+    slot: u32,
+    block: u64,
+    length: u64,
+) -> Result<Vec<u8>, AllocError>
     ensures { IfOk result (λ text. text.items ≡ texts.run_text word.now slot block length) }
 {
     Ok(format!(in alloc; "{word} volume {slot} block {block} length {length}")?.into_bytes())
 }
 
 /// A new range of a volume, with the count that it stores and the number of its streams.
-pub fn of_count(alloc: Global, word: &str, slot: u32, block: u64, stored: i32, streams: u64) -> Result<Vec<u8>, AllocError>
+pub fn of_count(
+    alloc: Global,
+    word: &str,
+    slot: u32,
+    block: u64,
+    stored: i32,
+    streams: u64,
+) -> Result<Vec<u8>, AllocError>
     ensures { IfOk result (λ text. text.items ≡ texts.count_text word.now slot block (signed_decimal stored) streams) }
 {
-    Ok(format!(in alloc; "{word} volume {slot} block {block} stored {stored} streams {streams}")?.into_bytes())
+    Ok(format!(in alloc;
+        "{word} volume {slot} block {block} stored {stored} streams {streams}"
+    )?.into_bytes())
 }
 
 /// A name of an object of a view.
@@ -132,7 +165,13 @@ pub fn of_name(alloc: Global, word: &str, at: &NamedAt) -> Result<Vec<u8>, Alloc
 }
 
 /// An id without an inode; without a name it is that of the root.
-pub fn no_inode(alloc: Global, slot: u32, xid: u64, id: u64, name: &Option<Bytes>) -> Result<Vec<u8>, AllocError>
+pub fn no_inode(
+    alloc: Global,
+    slot: u32,
+    xid: u64,
+    id: u64,
+    name: &Option<Bytes>,
+) -> Result<Vec<u8>, AllocError>
     ensures { IfOk result (λ text. text.items ≡ texts.inode_text slot xid id name.now) }
 {
     let mut text = format!(in alloc; "NoInode volume {slot} view {xid} id {id}")?.into_bytes();

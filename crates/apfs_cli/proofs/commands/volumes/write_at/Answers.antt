@@ -32,6 +32,6 @@ returns-in-Err-clause-answer g c =
     (stop_ended g.S.BlockSource.bytes g.S.BlockSource.faults Volumes (Image c.args.src.now) (Image c.heads.new.src) (of_volume seen.line.xid) stop
     (g.W.Sink.contents c.args.out.now) (g.W.Sink.faults c.args.out.now) (λ lacks. lacks)
     (λ image given.
-        let newest : IsNewest image seen = record { newest = c.requires.found image given; plain = c.requires.plain } in
-        heads_stops image seen stop newest (c.in-Err.ensures.present image given) (c.in-Err.ensures.exact image given))
+    let newest : IsNewest image seen = record { newest = c.requires.found image given; plain = c.requires.plain } in
+    heads_stops image seen stop newest (c.in-Err.ensures.present image given) (c.in-Err.ensures.exact image given))
     (λ (e : stop ≡ ReadFault). c.in-Err.ensures.cause (ap (λ (s : Stop VolStop). Err s) e)))
