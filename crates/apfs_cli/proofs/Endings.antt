@@ -9,16 +9,15 @@ use Rattle.obj_base.specs.declared.stop.Feature.{Feature}
 use Rattle.obj_base.specs.declared.stop.Stop.{Stop}
 use Rattle.obj_base.specs.declared.stop.Stop.TheVariants as layer
 use Rattle.obj_base.specs.Stops.{Tells}
-use Rattle.apfs_cli.specs.declared.fault.Fault.{Fault}
+use Rattle.apfs_check.specs.declared.fault.Fault.{Fault}
 use Rattle.apfs_cli.specs.declared.stopped.Stopped.{Stopped}
 use Rattle.apfs_cli.specs.declared.stopped.Stopped.TheVariants as stops
 use Rattle.apfs_cli.specs.declared.words.Command.{Command}
 use Rattle.apfs_cli.specs.declared.words.Command.TheVariants as commands
 use Rattle.apfs_cli.specs.ByCommand.{takes_image, lead_of, IsText, IsFault, IsFeature}
 use Rattle.apfs_cli.specs.Outcome.{Outcome, status_of, text_of, line_of, Written, Faulty, Usage, ReadFailed, WriteFailed, OutOfMemory, Refused, NoImage}
-use Rattle.apfs_cli.specs.Raised.{stopped_at}
 use Rattle.apfs_cli.specs.Says.{LacksImage, IsGiven, OfRun, SourceFailed, HasFailed, BeginsText, IsPart, StopsAt, Says, HasEnded}
-use Rattle.apfs_cli.specs.Seen.{outcome_of}
+use Rattle.apfs_cli.specs.Seen.{outcome_of, stopped_at}
 use Rattle.apfs_cli.specs.Words.{Asked, said}
 use Rattle.apfs_cli.specs.Written.{Sunk, IsPut, IsSaid, Ends}
 use Rattle.apfs_cli.proofs.Puts.{wrote_nothing, part_taken}

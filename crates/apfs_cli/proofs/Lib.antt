@@ -2,4 +2,4 @@ pub mod Puts
 pub mod Endings
 pub mod Stops
 pub mod Statuses
-pub mod CheckTexts
+mod Examples

@@ -66,10 +66,10 @@ pub texts_more : {X : Type 0} (f : X → List ℕ) (xs : List X) (i : ℕ) (x : 
     IsPut (flat_map f (take (i + 1) xs)) (Ok tt) (record { old = old; new = new; old_faults = a; new_faults = c })
 texts_more {X} f xs i x old mid new a b c low at before put =
     let same : flat_map f (take i xs) ++ f x ≡ flat_map f (take (i + 1) xs) =
-        ap (λ l. flat_map f (take i xs) ++ l) (sym (append-nil (f x)))
-        ∙ sym (flat_map-append f (take i xs) (x ∷ []))
-        ∙ ap (λ y. flat_map f (take i xs ++ y ∷ [])) at
-        ∙ ap (flat_map f) (sym (take_more xs i x low)) in
+    ap (λ l. flat_map f (take i xs) ++ l) (sym (append-nil (f x)))
+    ∙ sym (flat_map-append f (take i xs) (x ∷ []))
+    ∙ ap (λ y. flat_map f (take i xs ++ y ∷ [])) at
+    ∙ ap (flat_map f) (sym (take_more xs i x low)) in
     let P : List ℕ → Type 0 = λ text. Wrote old new text in
     (subst P same (wrote_more old mid new (flat_map f (take i xs)) (f x) before.0 put.0), omega (arith, before.1, put.1))
 
@@ -79,8 +79,9 @@ pub texts_cut : {X : Type 0} (f : X → List ℕ) (xs : List X) (i : ℕ) (x : X
     IsPut (f x) (Err stopped) (record { old = mid; new = new; old_faults = b; new_faults = c }) →
     IsPut (flat_map f xs) (Err stopped) (record { old = old; new = new; old_faults = a; new_faults = c })
 texts_cut {X} f xs i x stopped old mid new a b c low at before put =
-    let P : List ℕ → Type 0 = λ text. WrotePart old new text in
-    (cut_later stopped old mid new a b c before.1 put.0,
-    subst P (sym (texts_at f xs i x low at))
-    (part_longer old new (flat_map f (take i xs) ++ f x) (flat_map f (drop (i + 1) xs))
-    (part_more old mid new (flat_map f (take i xs)) (f x) before.0 put.1)))
+    let P : List ℕ → Type 0 = λ text. WrotePart old new text in (
+      cut_later stopped old mid new a b c before.1 put.0,
+      subst P (sym (texts_at f xs i x low at))
+          (part_longer old new (flat_map f (take i xs) ++ f x) (flat_map f (drop (i + 1) xs))
+          (part_more old mid new (flat_map f (take i xs)) (f x) before.0 put.1)),
+    )

@@ -5,7 +5,7 @@ use Rattle.apfs_model.specs.Sink.{Wrote}
 use Rattle.blk_source.specs.declared.source.Opened.{Opened}
 use Rattle.blk_source.specs.declared.source.Opened.TheVariants.{Absent, Image}
 use Rattle.obj_base.specs.declared.stop.Feature.{Feature}
-use Rattle.apfs_cli.specs.declared.fault.Fault.{Fault}
+use Rattle.apfs_check.specs.declared.fault.Fault.{Fault}
 use Rattle.apfs_cli.specs.ByCommand.{takes_image, IsText}
 use Rattle.apfs_cli.specs.Outcome.{Outcome, status_of, text_of, line_of, Written, Faulty, Usage, ReadFailed, WriteFailed, OutOfMemory, Refused, NoImage}
 use Rattle.apfs_cli.specs.Says.{LacksImage, IsGiven, SourceFailed, Says, HasNoImage}
@@ -131,9 +131,12 @@ first_failed bytes faults command old new out _ e says = absurd (omega arith)
 
 pub write_failed_row : {S : Type 0} (bytes : S → Option (List ℕ)) (faults : S → ℕ) (command : Option Asked) (old new : Opened S) (result : ℕ) (out err : Sunk) →
     Answered bytes faults command old new result out err → result ≡ 4 → HasFailedPut bytes command old out err
-write_failed_row bytes faults command old new result out err (o, says, ends) e =
-    (text_of o, part_of bytes faults command old new out o says, ends.text,
-    elim ends.said [ inl has ↦ inl (first_failed bytes faults command old new out o (sym has.status_is ∙ e) says) | inr lacks ↦ inr lacks.failed ])
+write_failed_row bytes faults command old new result out err (o, says, ends) e = (
+  text_of o,
+  part_of bytes faults command old new out o says,
+  ends.text,
+  elim ends.said [ inl has ↦ inl (first_failed bytes faults command old new out o (sym has.status_is ∙ e) says) | inr lacks ↦ inr lacks.failed ],
+)
 
 -- a run ends with the status of its outcome, or a put on the second sink failed
 ended_as : (result : ℕ) (o : Outcome) (out err : Sunk) → Ends result o out err → (result ≡ status_of o) ⊎ (result ≡ 4)

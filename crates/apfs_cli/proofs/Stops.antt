@@ -16,7 +16,7 @@ use Rattle.nx_ring.specs.Zero.{IsNonContiguous}
 use Rattle.vol_view.specs.declared.stop.VolStop.{VolStop}
 use Rattle.vol_view.specs.Stops.{IsHeadsStop, IsHeadsFeature, AreRight}
 use Rattle.apfs_cli.specs.Checkpoints.{IsNewest}
-use Rattle.apfs_cli.specs.Raised.{of_ring, of_volume}
+use Rattle.apfs_check.specs.Raised.{of_ring, of_volume}
 use Rattle.apfs_cli.specs.Words.{Ring, Info, Volumes}
 use Rattle.apfs_cli.proofs.Endings.{StopTells}
 

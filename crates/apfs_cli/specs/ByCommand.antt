@@ -1,7 +1,7 @@
 -- What each command takes, writes and names.
 use Rattle.std.specs.Prelude.{ℕ, Bool, true, List, []}
 use Rattle.obj_base.specs.declared.stop.Feature.{Feature}
-use Rattle.apfs_cli.specs.declared.fault.Fault.{Fault}
+use Rattle.apfs_check.specs.declared.fault.Fault.{Fault}
 use Rattle.apfs_cli.specs.Words.{Asked, Ring, Info, Volumes}
 use Rattle.apfs_cli.specs.Commands.Ring as ring
 use Rattle.apfs_cli.specs.Commands.Info as info

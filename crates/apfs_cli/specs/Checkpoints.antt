@@ -6,8 +6,8 @@ use Rattle.nx_ring.specs.Ring.{IsRingFault, IsRingFeature}
 use Rattle.nx_ring.specs.Checkpoint.{Seen}
 use Rattle.nx_ring.specs.Features.{container_features}
 use Rattle.nx_ring.specs.Newest.{newest_of, IsFault as IsNewestFault, IsFeature as IsNewestFeature}
-use Rattle.apfs_cli.specs.declared.fault.Fault.{Fault}
-use Rattle.apfs_cli.specs.Raised.{of_ring}
+use Rattle.apfs_check.specs.declared.fault.Fault.{Fault}
+use Rattle.apfs_check.specs.Raised.{of_ring}
 
 -- the newest checkpoint of a container without a feature that is refused
 pub record IsNewest (image : List ℕ) (seen : Seen) : Type 0 where

@@ -2,12 +2,10 @@ pub mod Words
 pub mod Cache
 pub mod Texts
 pub mod Names
-pub mod Raised
 pub mod FaultTexts
 pub mod Checkpoints
 pub mod Commands
 pub mod ByCommand
-pub mod CheckFaults
 pub mod ReportText
 pub mod Outcome
 pub mod Written

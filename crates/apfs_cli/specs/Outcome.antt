@@ -1,7 +1,7 @@
 -- How a run may end, with its status and what it has written: one case for each row of the table of statuses.
 use Rattle.std.specs.Prelude.{ℕ, [], List}
 use Rattle.obj_base.specs.declared.stop.Feature.{Feature}
-use Rattle.apfs_cli.specs.declared.fault.Fault.{Fault}
+use Rattle.apfs_check.specs.declared.fault.Fault.{Fault}
 use Rattle.apfs_cli.specs.FaultTexts.{fault_text}
 use Rattle.apfs_cli.specs.Texts.{usage_line, fault_line, read_failed_line, out_of_memory_line, unsupported_line, no_image_line}
 

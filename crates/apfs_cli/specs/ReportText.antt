@@ -7,7 +7,7 @@ use Rattle.tree_rules.specs.declared.notes.Note.{Note}
 use Rattle.tree_rules.specs.declared.notes.Note.TheVariants.{Skipped, Hash, Unreached, Unnamed, Count}
 use Rattle.apfs_check.specs.Report.{Told}
 use Rattle.apfs_cli.specs.Texts.{◌▹◌}
-use Rattle.apfs_cli.specs.CheckFaults.{id_text, name_text, run_text, count_text}
+use Rattle.apfs_cli.specs.FaultTexts.{id_text, name_text, run_text, count_text}
 
 -- the text of a note
 abbrev pub note_text : Note → List ℕ

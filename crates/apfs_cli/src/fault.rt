@@ -1,53 +1,19 @@
-// What is wrong with a container, whichever layer finds it.
+// What the layers find wrong, as faults of the container.
 ghost use Rattle.std.specs.Prelude.{◌≡◌};
-ghost use Rattle.apfs_cli.specs.Raised as raised;
+ghost use Rattle.apfs_check.specs.Raised as raised;
 
+use apfs_check::Fault;
 use bt_cursor::WalkFault;
 use bt_node::NodeFault;
 use nx_ring::RingFault;
 use obj_base::Within;
 use omap_map::OmapFault;
+use reach_sweep::Why;
 use vol_view::VolStop;
-
-/// The test that a named object fails.
-#[derive(Clone, Copy, Debug)]
-pub enum Why {
-    /// A test of its header, or of a node.
-    Node(NodeFault),
-    /// It lacks its magic.
-    Magic,
-}
-
-/// What is wrong with a container.
-#[derive(Clone, Copy, Debug)]
-pub enum Fault {
-    /// Block 0 isn't right.
-    BlockZero,
-    /// The image has fewer whole blocks than block 0 tells of.
-    Truncated { have: u64, need: u64 },
-    /// No candidate is valid.
-    NoCheckpoint,
-    /// A named object in this block fails a test.
-    Unsound { block: u64, why: Why },
-    /// An id that is named doesn't resolve.
-    Unnamed { within: Within, oid: u64, xid: u64 },
-    /// A record of a snapshot, or of a snapshot's name, of the volume in this slot can't be read.
-    SnapRecord { slot: u32 },
-    /// The volume in this slot doesn't have as many snapshots as it counts.
-    SnapCount { slot: u32 },
-    /// The snapshots and their names don't agree in the volume in this slot.
-    SnapName { slot: u32 },
-    /// The snapshots of the volume in this slot aren't those of its object map.
-    OmapSnaps { slot: u32 },
-    /// In the tree whose root stands in this block the item of this number is out of order.
-    TreeOrder { root: u64, item: u64 },
-    /// The numbers of keys and nodes of the root in this block are wrong.
-    TreeCounts { root: u64 },
-}
 
 /// What a layer finds wrong at a place `P`, which is what a fault of the container shows beside it.
 pub trait Raise<P> {
-    ghost use Rattle.apfs_cli.specs.declared.fault.Fault.{Fault};
+    ghost use Rattle.apfs_check.specs.declared.fault.Fault.{Fault};
 
     /// The fault of the container.
     ghost raised: { P → Self → Fault };
@@ -83,7 +49,7 @@ fn of_walk(within: Within, xid: u64, root: u64, fault: WalkFault) -> Fault
     }
 }
 
-// A fault of an object map.
+// A fault of an object map, whose trees are of physical nodes.
 fn of_map(xid: u64, fault: OmapFault) -> Fault
     ensures { result ≡ raised.of_map xid fault }
 {
@@ -96,7 +62,7 @@ fn of_map(xid: u64, fault: OmapFault) -> Fault
     }
 }
 
-/// A fault of the volumes is raised at the checkpoint's transaction.
+/// A fault of the volumes is raised at the checkpoint's transaction. A tree of snapshots is one of physical nodes.
 impl Raise<u64> for VolStop {
     ghost raised = { λ xid fault. raised.of_volume xid fault };
 

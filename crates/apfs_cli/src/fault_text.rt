@@ -1,97 +1,102 @@
-// The texts of faults.
+// The text of each fault.
 ghost use Rattle.std.specs.Prelude.{◌≡◌, IfOk};
-ghost use Rattle.std.specs.String.{string_bytes};
 ghost use Rattle.apfs_cli.specs.FaultTexts as texts;
 
-use crate::fault::{Fault, Why};
-use bt_node::NodeFault;
-use obj_base::{HeadFault, Within};
+use crate::fault_places as places;
+use apfs_check::Fault;
 use std::alloc::{AllocError, Global};
 
-// The test of a header that fails.
-fn head_word(fault: HeadFault) -> &'static str
-    ensures { result.now ≡ texts.head_word fault }
+/// The text of a fault, as its bytes: names in it are shown by bytes.
+pub fn fault_text(alloc: Global, fault: &Fault) -> Result<Vec<u8>, AllocError>
+    ensures { IfOk result (λ text. text.items ≡ texts.fault_text fault.now) }
 {
     match fault {
-        HeadFault::BadSum => "BadSum",
-        HeadFault::BadKind => "BadKind",
-        HeadFault::BadSubtype => "BadSubtype",
-        HeadFault::BadOid => "BadOid",
-        HeadFault::BadXid => "BadXid",
-    }
-}
-
-// The test of a node that fails.
-fn node_word(fault: NodeFault) -> &'static str
-    ensures { result.now ≡ texts.node_word fault }
-{
-    match fault {
-        NodeFault::Head(fault) => head_word(fault),
-        NodeFault::Level => "Level",
-        NodeFault::Flags => "Flags",
-        NodeFault::Bounds => "Bounds",
-        NodeFault::Key => "Key",
-        NodeFault::Empty => "Empty",
-        NodeFault::Ghost => "Ghost",
-    }
-}
-
-// The test that a named object fails.
-fn why_word(why: Why) -> &'static str
-    ensures { result.now ≡ texts.why_word why }
-{
-    match why {
-        Why::Node(fault) => node_word(fault),
-        Why::Magic => "Magic",
-    }
-}
-
-// Where an id is looked up.
-fn within_text(alloc: Global, within: Within) -> Result<String, AllocError>
-    ensures { IfOk result (λ text. string_bytes text ≡ texts.within_text within) }
-{
-    match within {
-        Within::Physical => String::from_str(alloc, "physical"),
-        Within::Ephemeral => String::from_str(alloc, "ephemeral"),
-        Within::Container => String::from_str(alloc, "container"),
-        Within::Volume(slot) => format!(in alloc; "volume {slot}"),
-    }
-}
-
-fn unsound(alloc: Global, block: u64, word: &str) -> Result<String, AllocError>
-    ensures { IfOk result (λ text. string_bytes text ≡ texts.unsound_text block word.now) }
-{
-    format!(in alloc; "Unsound block {block} {word}")
-}
-
-fn of_oid(alloc: Global, word: &str, within: Within, oid: u64, xid: u64) -> Result<String, AllocError>
-    ensures { IfOk result (λ text. string_bytes text ≡ texts.oid_text word.now within oid xid) }
-{
-    let place = within_text(alloc, within)?;
-    format!(in alloc; "{word} {place} oid {oid} xid {xid}")
-}
-
-fn of_slot(alloc: Global, slot: u32, word: &str) -> Result<String, AllocError>
-    ensures { IfOk result (λ text. string_bytes text ≡ texts.slot_text slot word.now) }
-{
-    format!(in alloc; "Volume {slot} {word}")
-}
-
-/// The text of a fault.
-pub fn fault_text(alloc: Global, fault: Fault) -> Result<String, AllocError>
-    ensures { IfOk result (λ text. string_bytes text ≡ texts.fault_text fault) }
-{
-    match fault {
-        Fault::BlockZero => String::from_str(alloc, "BlockZero"),
-        Fault::Truncated { have, need } => format!(in alloc; "Truncated have {have} need {need}"),
-        Fault::NoCheckpoint => String::from_str(alloc, "NoCheckpoint"),
-        Fault::Unsound { block, why } => unsound(alloc, block, why_word(why)),
-        Fault::Unnamed { within, oid, xid } => of_oid(alloc, "Unnamed", within, oid, xid),
-        Fault::SnapRecord { slot } => of_slot(alloc, slot, "SnapRecord"),
-        Fault::SnapCount { slot } => of_slot(alloc, slot, "SnapCount"),
-        Fault::SnapName { slot } => of_slot(alloc, slot, "SnapName"),
-        Fault::OmapSnaps { slot } => of_slot(alloc, slot, "OmapSnaps"),
-        Fault::TreeOrder { root, item } => format!(in alloc; "Order root {root} item {item}"),
-        Fault::TreeCounts { root } => format!(in alloc; "Counts root {root}"),
+        Fault::BlockZero => places::plain(alloc, "BlockZero"),
+        Fault::Truncated { have, need } => places::truncated(alloc, *have, *need),
+        Fault::NoCheckpoint => places::plain(alloc, "NoCheckpoint"),
+        Fault::Unsound { block, why } => places::unsound(alloc, *block, *why),
+        Fault::Unnamed { within, oid, xid } => places::of_oid(
+            alloc, "Unnamed", *within, *oid, *xid,
+        ),
+        Fault::NamedTwice { within, oid, xid } => places::of_oid(
+            alloc,
+            "NamedTwice",
+            *within,
+            *oid,
+            *xid,
+        ),
+        Fault::OwnedTwice { block } => places::of_block(alloc, "OwnedTwice", *block),
+        Fault::Outside { block } => places::of_block(alloc, "Outside", *block),
+        Fault::UnusedMapping { within, oid, xid } => places::of_oid(
+            alloc,
+            "UnusedMapping",
+            *within,
+            *oid,
+            *xid,
+        ),
+        Fault::Leaked { block } => places::of_block(alloc, "Leaked", *block),
+        Fault::Missing { block } => places::of_block(alloc, "Missing", *block),
+        Fault::PoolLeaked { block } => places::of_block(alloc, "PoolLeaked", *block),
+        Fault::PoolMissing { block } => places::of_block(alloc, "PoolMissing", *block),
+        Fault::SpaceGeometry => places::plain(alloc, "Space Geometry"),
+        Fault::SpaceCab { index } => places::of_number(alloc, "Space Cab", u64::from(*index)),
+        Fault::SpaceCib { index } => places::of_number(alloc, "Space Cib", u64::from(*index)),
+        Fault::SpaceIndex { chunk } => places::of_number(alloc, "Space Index", *chunk),
+        Fault::SpacePlace { block } => places::of_number(alloc, "Space Place", *block),
+        Fault::SpaceFreeCount { chunk } => places::of_number(alloc, "Space FreeCount", *chunk),
+        Fault::SpaceFreeTotal => places::plain(alloc, "Space FreeTotal"),
+        Fault::PoolCount => places::plain(alloc, "Pool Count"),
+        Fault::PoolIndex { at } => places::of_number(alloc, "Pool Index", u64::from(*at)),
+        Fault::PoolPlace { block } => places::of_number(alloc, "Pool Place", *block),
+        Fault::SnapRecord { slot } => places::of_slot(alloc, *slot, "SnapRecord"),
+        Fault::SnapCount { slot } => places::of_slot(alloc, *slot, "SnapCount"),
+        Fault::SnapName { slot } => places::of_slot(alloc, *slot, "SnapName"),
+        Fault::OmapSnaps { slot } => places::of_slot(alloc, *slot, "OmapSnaps"),
+        Fault::TreeOrder { root, item } => places::of_item(alloc, "Order", *root, *item),
+        Fault::TreeCounts { root } => places::of_root(alloc, "Counts", *root),
+        Fault::Order { slot, xid, item } => places::of_view_item(
+            alloc, "Order", *slot, *xid, *item,
+        ),
+        Fault::Counts { slot, xid } => places::of_view(alloc, "Counts", *slot, *xid),
+        Fault::TreeRecord { root, item } => places::of_item(alloc, "Record", *root, *item),
+        Fault::Record {
+            slot,
+            xid,
+            item,
+            why,
+        } => places::of_record(alloc, *slot, *xid, *item, *why),
+        Fault::DupName(at) => places::of_name(alloc, "DupName", at),
+        Fault::Hash(at) => places::of_name(alloc, "Hash", at),
+        Fault::NoParent(at) => places::of_name(alloc, "NoParent", at),
+        Fault::NoInode {
+            slot,
+            xid,
+            id,
+            name,
+        } => places::no_inode(alloc, *slot, *xid, *id, name),
+        Fault::KindMismatch(at) => places::of_name(alloc, "KindMismatch", at),
+        Fault::DirNames(at) => places::of_id(alloc, "DirNames", at),
+        Fault::Unreached(at) => places::of_id(alloc, "Unreached", at),
+        Fault::Children(at) => places::of_id(alloc, "Children", at),
+        Fault::Links(at) => places::of_id(alloc, "Links", at),
+        Fault::SiblingLost(at) => places::of_id(alloc, "SiblingLost", at),
+        Fault::ExtentOrder(at) => places::of_id(alloc, "ExtentOrder", at),
+        Fault::ExtentPlace(at) => places::of_id(alloc, "ExtentPlace", at),
+        Fault::ExtentUncovered(at) => places::of_id(alloc, "ExtentUncovered", at),
+        Fault::LinkTarget(at) => places::of_id(alloc, "LinkTarget", at),
+        Fault::Stream(at) => places::of_id(alloc, "Stream", at),
+        Fault::AttrOwner(at) => places::of_id(alloc, "AttrOwner", at),
+        Fault::NameHash(at) => places::of_name(alloc, "NameHash", at),
+        Fault::DataUnreached {
+            slot,
+            block,
+            length,
+        } => places::of_run(alloc, "DataUnreached", *slot, *block, *length),
+        Fault::DataCount {
+            slot,
+            block,
+            stored,
+            streams,
+        } => places::of_count(alloc, "DataCount", *slot, *block, *stored, *streams),
     }
 }

@@ -3,7 +3,9 @@
 
 mod commands;
 mod fault;
+mod fault_places;
 mod fault_text;
+mod fault_words;
 mod over_cache;
 mod put;
 mod run;

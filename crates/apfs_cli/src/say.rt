@@ -1,6 +1,5 @@
 // The line that says why there is no text, and the status.
 ghost use Rattle.std.specs.Prelude.{◌⊎◌, ◌≡◌, List, ℕ, IfOk};
-ghost use Rattle.std.specs.String.{string_bytes};
 ghost use Rattle.apfs_cli.specs.FaultTexts as texts;
 ghost use Rattle.apfs_cli.specs.Outcome.{status_of, line_of};
 ghost use Rattle.apfs_cli.specs.Seen.{outcome_of};
@@ -8,9 +7,9 @@ ghost use Rattle.apfs_cli.specs.Texts.{out_of_memory_line};
 ghost use Rattle.apfs_cli.specs.Texts as lines;
 ghost use Rattle.apfs_cli.specs.Written.{sunk, IsSaid};
 
-use crate::fault::Fault;
 use crate::fault_text::fault_text;
 use crate::stopped::Stopped;
+use apfs_check::Fault;
 use blk_source::Sink;
 use obj_base::Feature;
 use std::alloc::{AllocError, Global};
@@ -21,39 +20,43 @@ const WRITE_FAILED: u8 = 4;
 // The status of a run for which there was no memory, and its line.
 const OUT_OF_MEMORY: u8 = 5;
 
-const OUT_OF_MEMORY_LINE: &str = "apfs: out of memory\n";
+const OUT_OF_MEMORY_LINE: &[u8] = b"apfs: out of memory\n";
 
-fn fault_line(alloc: Global, fault: Fault) -> Result<String, AllocError>
-    ensures { IfOk result (λ line. string_bytes line ≡ lines.fault_line (texts.fault_text fault)) }
+fn fault_line(alloc: Global, fault: &Fault) -> Result<Vec<u8>, AllocError>
+    ensures { IfOk result (λ line. line.items ≡ lines.fault_line (texts.fault_text fault.now)) }
 {
+    let mut line = String::from_str(alloc, "apfs: fault: ")?.into_bytes();
     let text = fault_text(alloc, fault)?;
-    format!(in alloc; "apfs: fault: {text}\n")
+    line.extend_from_slice(text.as_slice())?;
+    line.push(b'\n')?;
+    Ok(line)
 }
 
-fn unsupported_line(alloc: Global, feature: Feature, block: u64) -> Result<String, AllocError>
-    ensures { IfOk result (λ line. string_bytes line ≡ lines.unsupported_line feature block) }
+fn unsupported_line(alloc: Global, feature: Feature, block: u64) -> Result<Vec<u8>, AllocError>
+    ensures { IfOk result (λ line. line.items ≡ lines.unsupported_line feature block) }
 {
     let name = feature.name();
-    format!(in alloc; "apfs: unsupported: {name} block {block}\n")
+    let line = format!(in alloc; "apfs: unsupported: {name} block {block}\n")?;
+    Ok(line.into_bytes())
 }
 
 // Puts a line and gives its status, or that of a failed put.
-fn put_line<E: Sink>(status: u8, line: &str, err: &mut E) -> u8
+fn put_line<E: Sink>(status: u8, line: &[u8], err: &mut E) -> u8
     ensures { IsSaid result status line.now (sunk E.contents E.faults err.old err.new) }
 {
-    match err.put(line.as_bytes()) {
+    match err.put(line) {
         Ok(()) => status,
         Err(_) => WRITE_FAILED,
     }
 }
 
 // Puts a line that was built, or that there was no memory for it.
-fn put_built<E: Sink>(status: u8, line: Result<String, AllocError>, err: &mut E) -> u8
-    ensures { (wanted : List ℕ) → IfOk line (λ text. string_bytes text ≡ wanted) →
+fn put_built<E: Sink>(status: u8, line: Result<Vec<u8>, AllocError>, err: &mut E) -> u8
+    ensures { (wanted : List ℕ) → IfOk line (λ text. text.items ≡ wanted) →
         IsSaid result status wanted (sunk E.contents E.faults err.old err.new) ⊎ IsSaid result 5 out_of_memory_line (sunk E.contents E.faults err.old err.new) }
 {
     match line {
-        Ok(line) => put_line(status, line.as_str(), err),
+        Ok(line) => put_line(status, line.as_slice(), err),
         Err(_) => put_line(OUT_OF_MEMORY, OUT_OF_MEMORY_LINE, err),
     }
 }
@@ -65,14 +68,14 @@ pub fn say<E: Sink>(alloc: Global, stopped: Stopped, err: &mut E) -> u8
         ⊎ IsSaid result 5 out_of_memory_line (sunk E.contents E.faults err.old err.new) }
 {
     match stopped {
-        Stopped::Faulty(fault) => put_built(1, fault_line(alloc, fault), err),
-        Stopped::Usage => put_line(2, "apfs: usage: apfs COMMAND IMAGE [WORDS]\n", err),
-        Stopped::ReadFailed => put_line(3, "apfs: read failed\n", err),
+        Stopped::Faulty(fault) => put_built(1, fault_line(alloc, &fault), err),
+        Stopped::Usage => put_line(2, b"apfs: usage: apfs COMMAND IMAGE [WORDS]\n", err),
+        Stopped::ReadFailed => put_line(3, b"apfs: read failed\n", err),
         Stopped::WriteFailed => WRITE_FAILED,
         Stopped::OutOfMemory => put_line(OUT_OF_MEMORY, OUT_OF_MEMORY_LINE, err),
         Stopped::Refused { feature, block } => {
             put_built(6, unsupported_line(alloc, feature, block), err)
         }
-        Stopped::NoImage => put_line(8, "apfs: no image\n", err),
+        Stopped::NoImage => put_line(8, b"apfs: no image\n", err),
     }
 }

@@ -1,14 +1,15 @@
 // Why a run stops before its text is whole.
 ghost use Rattle.std.specs.Prelude.{◌≡◌};
-ghost use Rattle.apfs_cli.specs.Raised as raised;
+ghost use Rattle.apfs_cli.specs.Seen.{stopped_at};
 ghost use Rattle.apfs_cli.specs.declared.stopped.Stopped.TheVariants as stops;
 
-use crate::fault::{Fault, Raise};
+use crate::fault::Raise;
+use apfs_check::Fault;
 use obj_base::{Feature, Stop};
 use std::alloc::AllocError;
 
 /// Why a run stops before its text is whole.
-#[derive(Clone, Copy, Debug)]
+#[derive(Debug, Drop)]
 pub enum Stopped {
     /// A fault. Status 1.
     Faulty(Fault),
@@ -36,7 +37,7 @@ impl From<AllocError> for Stopped {
 
 /// Why the run stops, where a layer does at this place.
 pub fn stopped_by<P: Copy, F: Raise<P> + Drop>(stop: Stop<F>, place: P) -> Stopped
-    ensures { result ≡ raised.stopped_at (F.raised place) stop }
+    ensures { result ≡ stopped_at (F.raised place) stop }
 {
     match stop {
         Stop::Found(fault) => Stopped::Faulty(fault.raise(place)),

@@ -113,22 +113,8 @@ const CASES: &[Case] = &[
         "",
         USAGE,
     ),
-    (
-        "answer_no_image",
-        Image::Absent,
-        RING,
-        8,
-        "",
-        NO_IMAGE,
-    ),
-    (
-        "answer_no_image_info",
-        Image::Absent,
-        INFO,
-        8,
-        "",
-        NO_IMAGE,
-    ),
+    ("answer_no_image", Image::Absent, RING, 8, "", NO_IMAGE),
+    ("answer_no_image_info", Image::Absent, INFO, 8, "", NO_IMAGE),
     ("clean_info", Image::Empty, INFO, 0, INFO_LINES, ""),
     (
         "clean_info_skipped",
@@ -448,7 +434,12 @@ fn failure_of_a_later_put(rt: HostRuntime) -> Result<(), Fail> {
     let ended = end(rt.alloc(), Image::Ring, RING, [&[], &[2], &[]])?;
     assert!(rt; stops_after(&ended, "1 block 2 xid 9 from 0 length 2\n"));
     let ended = end(rt.alloc(), Image::Ring, RING, [&[], &[3], &[]])?;
-    assert!(rt; stops_after(&ended, "1 block 2 xid 9 from 0 length 2\n5 block 6 xid 7 from 4 length 2\n"));
+    assert!(rt;
+        stops_after(
+            &ended,
+            "1 block 2 xid 9 from 0 length 2\n5 block 6 xid 7 from 4 length 2\n"
+        )
+    );
     let ended = end(rt.alloc(), Image::Ring, RING, [&[], &[4], &[]])?;
     assert!(rt; ended_with(&ended, 0, RING_LINES, ""));
     Ok(())
@@ -477,7 +468,10 @@ impl Write for Holding<'_> {
 #[test]
 fn what_is_written_is_flushed(rt: HostRuntime) -> Result<(), Fail> {
     let alloc = rt.alloc();
-    let words = vec![in alloc; String::from_str(alloc, "ring")?, String::from_str(alloc, "x")?]?;
+    let words = vec![in alloc;
+        String::from_str(alloc, "ring")?,
+        String::from_str(alloc, "x")?,
+    ]?;
     for (image, on_out, on_err) in [(Image::Ring, RING_LINES, ""), (Image::Absent, "", NO_IMAGE)] {
         let (shown, said) = (Cell::new(0), Cell::new(0));
         let mut out = StdSink::new(Holding {
@@ -490,7 +484,10 @@ fn what_is_written_is_flushed(rt: HostRuntime) -> Result<(), Fail> {
         });
         let mut image = handed(alloc, image, Vec::new(alloc))?;
         let _status = run(alloc, &words, &mut image, &mut out, &mut err);
-        assert_eq!(rt; (shown.get(), said.get()), (on_out.len() as u64, on_err.len() as u64));
+        assert_eq!(rt;
+            (shown.get(), said.get()),
+            (on_out.len() as u64, on_err.len() as u64)
+        );
     }
     Ok(())
 }

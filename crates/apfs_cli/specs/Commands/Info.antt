@@ -4,7 +4,7 @@ use Rattle.std.specs.Fmt.{decimal}
 use Rattle.obj_base.specs.declared.stop.Feature.{Feature}
 use Rattle.nx_block.specs.Super.{uuid_of, block_size_of, block_count_of}
 use Rattle.nx_ring.specs.Checkpoint.{Seen}
-use Rattle.apfs_cli.specs.declared.fault.Fault.{Fault}
+use Rattle.apfs_check.specs.declared.fault.Fault.{Fault}
 use Rattle.apfs_cli.specs.Checkpoints.{IsNewest, IsCheckpointFault, IsCheckpointFeature}
 use Rattle.apfs_cli.specs.Names.{uuid_text}
 use Rattle.apfs_cli.specs.Texts.{◌▹◌}

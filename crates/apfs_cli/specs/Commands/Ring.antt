@@ -8,8 +8,8 @@ use Rattle.nx_ring.specs.declared.line.RingLine.{RingLine}
 use Rattle.nx_ring.specs.declared.fault.RingFault.{RingFault}
 use Rattle.nx_ring.specs.Ring.{ring_of, IsRingFault}
 use Rattle.nx_ring.specs.Zero.{IsNonContiguous}
-use Rattle.apfs_cli.specs.declared.fault.Fault.{Fault}
-use Rattle.apfs_cli.specs.Raised.{of_ring}
+use Rattle.apfs_check.specs.declared.fault.Fault.{Fault}
+use Rattle.apfs_check.specs.Raised.{of_ring}
 use Rattle.apfs_cli.specs.Texts.{◌▹◌}
 
 -- the line of a candidate: its index, its block, its transaction, and where the blocks of its checkpoint begin and how many they are

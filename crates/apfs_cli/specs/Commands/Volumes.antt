@@ -11,10 +11,10 @@ use Rattle.nx_ring.specs.Checkpoint.{Seen}
 use Rattle.vol_view.specs.declared.head.VolHead.{VolHead}
 use Rattle.vol_view.specs.declared.stop.VolStop.{VolStop}
 use Rattle.vol_view.specs.Stops.{IsHeadsStop, IsHeadsFeature, AreHeads}
-use Rattle.apfs_cli.specs.declared.fault.Fault.{Fault}
+use Rattle.apfs_check.specs.declared.fault.Fault.{Fault}
 use Rattle.apfs_cli.specs.Checkpoints.{IsNewest, IsCheckpointFault, IsCheckpointFeature}
 use Rattle.apfs_cli.specs.Names.{uuid_text}
-use Rattle.apfs_cli.specs.Raised.{of_volume}
+use Rattle.apfs_check.specs.Raised.{of_volume}
 use Rattle.apfs_cli.specs.Texts.{◌▹◌}
 
 -- how a volume compares names

@@ -63,7 +63,11 @@ fn put_text<W: Sink>(alloc: Global, checkpoint: &Checkpoint, out: &mut W) -> Res
 }
 
 /// Writes what there is of the container and its newest checkpoint.
-pub fn write<S: BlockSource, W: Sink>(alloc: Global, src: &mut S, out: &mut W) -> Result<(), Stopped>
+pub fn write<S: BlockSource, W: Sink>(
+    alloc: Global,
+    src: &mut S,
+    out: &mut W,
+) -> Result<(), Stopped>
     ensures answer { HasEnded S.bytes S.faults (Some Info) (Image src.old) (Image src.new) result (sunk W.contents W.faults out.old out.new) }
     ensures kept { IsKept S.bytes S.bytes_len S.faults src.old src.new }
 {

@@ -24,14 +24,19 @@ impl Line for RingLine {
         let xid = self.xid;
         let from = self.desc_index;
         let length = self.desc_len;
-        let line =
-            format!(in alloc; "{index} block {block} xid {xid} from {from} length {length}\n")?;
+        let line = format!(in alloc;
+            "{index} block {block} xid {xid} from {from} length {length}\n"
+        )?;
         Ok(line.into_bytes())
     }
 }
 
 /// Writes the candidates of the descriptor ring.
-pub fn write<S: BlockSource, W: Sink>(alloc: Global, src: &mut S, out: &mut W) -> Result<(), Stopped>
+pub fn write<S: BlockSource, W: Sink>(
+    alloc: Global,
+    src: &mut S,
+    out: &mut W,
+) -> Result<(), Stopped>
     ensures answer { HasEnded S.bytes S.faults (Some Ring) (Image src.old) (Image src.new) result (sunk W.contents W.faults out.old out.new) }
     ensures kept { IsKept S.bytes S.bytes_len S.faults src.old src.new }
 {

@@ -86,7 +86,11 @@ fn write_at<S: BlockSource, W: Sink>(
 }
 
 /// Writes the volumes.
-pub fn write<S: BlockSource, W: Sink>(alloc: Global, src: &mut S, out: &mut W) -> Result<(), Stopped>
+pub fn write<S: BlockSource, W: Sink>(
+    alloc: Global,
+    src: &mut S,
+    out: &mut W,
+) -> Result<(), Stopped>
     ensures answer { HasEnded S.bytes S.faults (Some Volumes) (Image src.old) (Image src.new) result (sunk W.contents W.faults out.old out.new) }
     ensures kept { IsKept S.bytes S.bytes_len S.faults src.old src.new }
 {

@@ -22,5 +22,5 @@ returns-in-Ok-new-clause-answer g c =
     (sunk g.W.Sink.contents g.W.Sink.faults c.args.out.now c.on_image-ended.new.out)
     (ap bytes inner ∙ c.in-Ok.ensures.kept.same_bytes)
     (λ (rose : Rose (faults c.in-Ok-new.cache.inner) (faults c.on_image-ended.new.src.inner)).
-        rose_later (faults c.args.src) (faults c.in-Ok-new.cache.inner) (faults c.into_inner.result) earlier (rw back rose))
+    rose_later (faults c.args.src) (faults c.in-Ok-new.cache.inner) (faults c.into_inner.result) earlier (rw back rose))
     c.on_image-ended.ensures.answer

@@ -19,10 +19,12 @@ pub returns-in-Err-clause-answer : goal.returns-in-Err-clause-answer
 returns-in-Err-clause-answer g c =
     let a = c.in-Err.ensures.answer in
     let outcome = outcome_of (Err c.in-Err.stopped) a.0 in
-    elim (c.say.ensures a.0)
-    [ inl said ↦ (outcome, a.1, record { text = a.2; said = said })
-    | inr said ↦
-        (OutOfMemory (text_of outcome),
+    elim (c.say.ensures a.0) [
+      | inl said ↦ (outcome, a.1, record { text = a.2; said = said })
+      | inr said ↦ (
+        OutOfMemory (text_of outcome),
         part_of g.S.BlockSource.bytes g.S.BlockSource.faults (command_of (map string_bytes c.args.words.now)) c.args.image.now c.decide.new.image
-        (sunk g.W.Sink.contents g.W.Sink.faults c.args.out.now c.decide.new.out) outcome a.1,
-        record { text = a.2; said = said }) ]
+            (sunk g.W.Sink.contents g.W.Sink.faults c.args.out.now c.decide.new.out) outcome a.1,
+        record { text = a.2; said = said },
+      )
+    ]

@@ -6,7 +6,7 @@ use Rattle.obj_base.specs.declared.stop.Stop.{Stop}
 use Rattle.obj_base.specs.declared.stop.Stop.TheVariants.{ReadFault}
 use Rattle.nx_ring.specs.declared.fault.RingFault.{RingFault}
 use Rattle.apfs_cli.specs.Commands.Ring.{ring_text}
-use Rattle.apfs_cli.specs.Raised.{of_ring}
+use Rattle.apfs_check.specs.Raised.{of_ring}
 use Rattle.apfs_cli.specs.Words.{Ring}
 use Rattle.apfs_cli.specs.Written.{sunk}
 use Rattle.apfs_cli.proofs.Endings.{put_ended, stop_ended}

@@ -5,7 +5,7 @@ use Rattle.blk_source.specs.declared.source.Opened.TheVariants.{Image}
 use Rattle.obj_base.specs.declared.stop.Stop.{Stop}
 use Rattle.obj_base.specs.declared.stop.Stop.TheVariants.{ReadFault}
 use Rattle.nx_ring.specs.declared.fault.RingFault.{RingFault}
-use Rattle.apfs_cli.specs.Raised.{of_ring}
+use Rattle.apfs_check.specs.Raised.{of_ring}
 use Rattle.apfs_cli.specs.Words.{Volumes}
 use Rattle.apfs_cli.specs.Written.{sunk}
 use Rattle.apfs_cli.proofs.Endings.{stop_ended, ended_same}

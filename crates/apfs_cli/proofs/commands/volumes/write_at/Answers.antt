@@ -7,7 +7,8 @@ use Rattle.obj_base.specs.declared.stop.Stop.TheVariants.{ReadFault}
 use Rattle.vol_view.specs.declared.stop.VolStop.{VolStop}
 use Rattle.apfs_cli.specs.Checkpoints.{IsNewest}
 use Rattle.apfs_cli.specs.Commands.Volumes.{volumes_text}
-use Rattle.apfs_cli.specs.Raised.{of_volume, stopped_at}
+use Rattle.apfs_check.specs.Raised.{of_volume}
+use Rattle.apfs_cli.specs.Seen.{stopped_at}
 use Rattle.apfs_cli.specs.Words.{Volumes}
 use Rattle.apfs_cli.specs.Written.{sunk}
 use Rattle.apfs_cli.proofs.Endings.{put_ended, stop_ended}
@@ -31,6 +32,6 @@ returns-in-Err-clause-answer g c =
     (stop_ended g.S.BlockSource.bytes g.S.BlockSource.faults Volumes (Image c.args.src.now) (Image c.heads.new.src) (of_volume seen.line.xid) stop
     (g.W.Sink.contents c.args.out.now) (g.W.Sink.faults c.args.out.now) (λ lacks. lacks)
     (λ image given.
-        let newest : IsNewest image seen = record { newest = c.requires.found image given; plain = c.requires.plain } in
-        heads_stops image seen stop newest (c.in-Err.ensures.present image given) (c.in-Err.ensures.exact image given))
+    let newest : IsNewest image seen = record { newest = c.requires.found image given; plain = c.requires.plain } in
+    heads_stops image seen stop newest (c.in-Err.ensures.present image given) (c.in-Err.ensures.exact image given))
     (λ (e : stop ≡ ReadFault). c.in-Err.ensures.cause (ap (λ (s : Stop VolStop). Err s) e)))

@@ -1,0 +1,183 @@
+// The texts of faults, by the places that they name.
+ghost use Rattle.std.specs.Prelude.{◌≡◌, ◌++◌, IfOk};
+ghost use Rattle.std.specs.Fmt.{signed_decimal};
+ghost use Rattle.std.specs.String.{string_bytes};
+ghost use Rattle.apfs_cli.specs.FaultTexts as texts;
+
+use crate::fault_words::{record_word, why_word, within_text};
+use crate::shown::push_name;
+use apfs_model::Bytes;
+use fs_record::{IdAt, NamedAt, RecFault};
+use obj_base::Within;
+use reach_sweep::Why;
+use std::alloc::{AllocError, Global};
+
+/// A word alone.
+pub fn plain(alloc: Global, word: &str) -> Result<Vec<u8>, AllocError>
+    ensures { IfOk result (λ text. text.items ≡ word.now) }
+{
+    Ok(String::from_str(alloc, word)?.into_bytes())
+}
+
+/// An image has fewer blocks than it needs.
+pub fn truncated(alloc: Global, have: u64, need: u64) -> Result<Vec<u8>, AllocError>
+    ensures { IfOk result (λ text. text.items ≡ texts.truncated_text have need) }
+{
+    Ok(format!(in alloc; "Truncated have {have} need {need}")?.into_bytes())
+}
+
+/// An object in a block fails a test.
+pub fn unsound(alloc: Global, block: u64, why: Why) -> Result<Vec<u8>, AllocError>
+    ensures { IfOk result (λ text. text.items ≡ texts.unsound_text block (texts.why_word why)) }
+{
+    let word = why_word(why);
+    Ok(format!(in alloc; "Unsound block {block} {word}")?.into_bytes())
+}
+
+/// An id in a space at a transaction.
+pub fn of_oid(
+    alloc: Global,
+    word: &str,
+    within: Within,
+    oid: u64,
+    xid: u64,
+) -> Result<Vec<u8>, AllocError>
+    ensures { IfOk result (λ text. text.items ≡ texts.oid_text word.now within oid xid) }
+{
+    let place = within_text(alloc, within)?;
+    Ok(format!(in alloc; "{word} {place} oid {oid} xid {xid}")?.into_bytes())
+}
+
+/// A volume in a slot.
+pub fn of_slot(alloc: Global, slot: u32, word: &str) -> Result<Vec<u8>, AllocError>
+    ensures { IfOk result (λ text. text.items ≡ texts.slot_text slot word.now) }
+{
+    Ok(format!(in alloc; "Volume {slot} {word}")?.into_bytes())
+}
+
+/// A block.
+pub fn of_block(alloc: Global, word: &str, block: u64) -> Result<Vec<u8>, AllocError>
+    ensures { IfOk result (λ text. text.items ≡ texts.block_text word.now block) }
+{
+    Ok(format!(in alloc; "{word} block {block}")?.into_bytes())
+}
+
+/// A number after a word.
+pub fn of_number(alloc: Global, word: &str, number: u64) -> Result<Vec<u8>, AllocError>
+    ensures { IfOk result (λ text. text.items ≡ texts.number_text word.now number) }
+{
+    Ok(format!(in alloc; "{word} {number}")?.into_bytes())
+}
+
+/// A tree by the block of its root.
+pub fn of_root(alloc: Global, word: &str, root: u64) -> Result<Vec<u8>, AllocError>
+    ensures { IfOk result (λ text. text.items ≡ texts.root_text word.now root) }
+{
+    Ok(format!(in alloc; "{word} root {root}")?.into_bytes())
+}
+
+/// An item of a tree.
+pub fn of_item(alloc: Global, word: &str, root: u64, item: u64) -> Result<Vec<u8>, AllocError>
+    ensures { IfOk result (λ text. text.items ≡ texts.item_text (texts.root_text word.now root) item) }
+{
+    Ok(format!(in alloc; "{word} root {root} item {item}")?.into_bytes())
+}
+
+/// A view.
+pub fn of_view(alloc: Global, word: &str, slot: u32, xid: u64) -> Result<Vec<u8>, AllocError>
+    ensures { IfOk result (λ text. text.items ≡ texts.view_text word.now slot xid) }
+{
+    Ok(format!(in alloc; "{word} volume {slot} view {xid}")?.into_bytes())
+}
+
+/// An item of a view.
+pub fn of_view_item(
+    alloc: Global,
+    word: &str,
+    slot: u32,
+    xid: u64,
+    item: u64,
+) -> Result<Vec<u8>, AllocError>
+    ensures { IfOk result (λ text. text.items ≡ texts.item_text (texts.view_text word.now slot xid) item) }
+{
+    Ok(format!(in alloc; "{word} volume {slot} view {xid} item {item}")?.into_bytes())
+}
+
+/// The record of an item of a view.
+pub fn of_record(
+    alloc: Global,
+    slot: u32,
+    xid: u64,
+    item: u64,
+    why: RecFault,
+) -> Result<Vec<u8>, AllocError>
+    ensures { IfOk result (λ text. text.items ≡ texts.record_text slot xid item why) }
+{
+    let word = record_word(why);
+    Ok(format!(in alloc; "Record volume {slot} view {xid} item {item} {word}")?.into_bytes())
+}
+
+/// An object of a view.
+pub fn of_id(alloc: Global, word: &str, at: &IdAt) -> Result<Vec<u8>, AllocError>
+    ensures { IfOk result (λ text. text.items ≡ texts.id_text word.now at.now) }
+{
+    let (slot, xid, id) = (at.slot, at.xid, at.id);
+    Ok(format!(in alloc; "{word} volume {slot} view {xid} id {id}")?.into_bytes())
+}
+
+/// A run of blocks of a volume.
+pub fn of_run(
+    alloc: Global,
+    word: &str,
+    slot: u32,
+    block: u64,
+    length: u64,
+) -> Result<Vec<u8>, AllocError>
+    ensures { IfOk result (λ text. text.items ≡ texts.run_text word.now slot block length) }
+{
+    Ok(format!(in alloc; "{word} volume {slot} block {block} length {length}")?.into_bytes())
+}
+
+/// A new range of a volume, with the count that it stores and the number of its streams.
+pub fn of_count(
+    alloc: Global,
+    word: &str,
+    slot: u32,
+    block: u64,
+    stored: i32,
+    streams: u64,
+) -> Result<Vec<u8>, AllocError>
+    ensures { IfOk result (λ text. text.items ≡ texts.count_text word.now slot block (signed_decimal stored) streams) }
+{
+    Ok(format!(in alloc;
+        "{word} volume {slot} block {block} stored {stored} streams {streams}"
+    )?.into_bytes())
+}
+
+/// A name of an object of a view.
+pub fn of_name(alloc: Global, word: &str, at: &NamedAt) -> Result<Vec<u8>, AllocError>
+    ensures { IfOk result (λ text. text.items ≡ texts.name_text word.now at.now) }
+{
+    let (slot, xid, id) = (at.slot, at.xid, at.id);
+    let mut text = format!(in alloc; "{word} volume {slot} view {xid} id {id} name ")?.into_bytes();
+    push_name(&mut text, at.name.as_slice())?;
+    Ok(text)
+}
+
+/// An id without an inode; without a name it is that of the root.
+pub fn no_inode(
+    alloc: Global,
+    slot: u32,
+    xid: u64,
+    id: u64,
+    name: &Option<Bytes>,
+) -> Result<Vec<u8>, AllocError>
+    ensures { IfOk result (λ text. text.items ≡ texts.inode_text slot xid id name.now) }
+{
+    let mut text = format!(in alloc; "NoInode volume {slot} view {xid} id {id}")?.into_bytes();
+    if let Some(name) = name {
+        text.extend_from_slice(b" name ")?;
+        push_name(&mut text, name.as_slice())?;
+    }
+    Ok(text)
+}
