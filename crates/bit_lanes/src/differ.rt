@@ -9,7 +9,7 @@ use crate::words::{PART, words_at};
 pub fn first_difference(a: &[u8], b: &[u8]) -> Option<usize>
     requires same_length { length a.now ≡ length b.now }
     requires short { length a.now ≤ 2 ^ 61 }
-    ensures least { IfSome result (IsFirstDifference a.now b.now) }
+    ensures value { IfSome result (IsFirstDifference a.now b.now) }
     ensures equal { IsNone result ↔ (a.now ≡ b.now) }
 {
     'bytes: for i in equal_parts(a, b)..a.len() {

@@ -3,8 +3,8 @@ use Rattle.std.proofs.lemmas.Grind.{same_number_lists}
 use Rattle.bit_lanes.proofs.ByteLemmas.{first_from_byte}
 use Rattle.bit_lanes.proofs.differ.first_difference.Goals as goal
 
-pub returns-then-a-i-clause-least : goal.returns-then-a-i-clause-least
-returns-then-a-i-clause-least c =
+pub returns-then-a-i-clause-value : goal.returns-then-a-i-clause-value
+returns-then-a-i-clause-value c =
     first_from_byte c.args.a.now c.args.b.now c.bytes.i c.lowest_difference.result (omega arith) c.lowest_difference.ensures c.bytes.invariant
 
 pub returns-clause-equal : goal.returns-clause-equal
