@@ -48,7 +48,7 @@ use Rattle.reach_sweep.specs.Faults.{within_of, xid_of}
 use Rattle.reach_sweep.specs.Trees.{tree_line, misplaced, has_counts}
 use Rattle.reach_sweep.specs.Accounted.{IsAccounted}
 use Rattle.apfs_check.specs.Laws.{IsBrowsable}
-use Rattle.apfs_model.proofs.Tests.{test_or, left-true, right-true, both-true, left-or, right-or, in-range}
+use Rattle.apfs_model.proofs.BoolTests.{test_or, left-true, right-true, both-true, left-or, right-or, in-range}
 use Rattle.reach_sweep.proofs.Nexts.{in-next, in-unless}
 use Rattle.reach_sweep.proofs.Sounds.{map_naming, map-live, container-map-sound}
 use Rattle.reach_sweep.proofs.Refutes as reached

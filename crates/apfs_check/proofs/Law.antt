@@ -29,7 +29,7 @@ use Rattle.reach_sweep.specs.Features.{HasFeature, first}
 use Rattle.reach_sweep.specs.Accounted.{IsAccounted}
 use Rattle.reach_sweep.specs.declared.fault.ReachFault.{ReachFault}
 use Rattle.reach_sweep.specs.declared.fault.ReachFault.TheVariants as sweeps
-use Rattle.apfs_model.proofs.Tests.{test_or, clash}
+use Rattle.apfs_model.proofs.BoolTests.{test_or, clash}
 use Rattle.reach_sweep.proofs.NamesDecided.{then_or, each_or}
 use Rattle.reach_sweep.proofs.Refutes as reached
 use Rattle.reach_sweep.proofs.Decided as accounts

@@ -23,7 +23,7 @@ use Rattle.reach_sweep.specs.Resolved.{Found, resolved, standing, found_physical
 use Rattle.reach_sweep.specs.Tested.{tested}
 use Rattle.reach_sweep.specs.Next.{past_view}
 use Rattle.reach_sweep.specs.Live.{IsLive, NamesSound}
-use Rattle.apfs_model.proofs.Tests.{left-true, both-true, all-in, from-range}
+use Rattle.apfs_model.proofs.BoolTests.{left-true, both-true, all-in, from-range}
 use Rattle.apfs_model.proofs.Searches.{in-map, from-map, in-filter, from-filter}
 use Rattle.reach_sweep.proofs.Sounds.{cab-bytes, volume-map-sound}
 use Rattle.apfs_check.specs.Volumes.{has_sound_super, sound_heads, volume_of}

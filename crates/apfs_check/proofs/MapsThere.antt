@@ -35,7 +35,7 @@ use Rattle.reach_sweep.specs.Next.{names, map_namings}
 use Rattle.reach_sweep.specs.Live.{IsLive, led}
 use Rattle.reach_sweep.specs.Features.{HasFeature, of, placed_in, used_features, tested_features, field_features, features_through}
 use Rattle.reach_sweep.specs.Faults.{IsUnsound, IsUnnamed}
-use Rattle.apfs_model.proofs.Tests.{left-true, right-true}
+use Rattle.apfs_model.proofs.BoolTests.{left-true, right-true}
 use Rattle.apfs_model.proofs.Searches.{in-map}
 use Rattle.reach_sweep.proofs.Nexts.{in-next, in-unless}
 use Rattle.view_rules.specs.declared.profile.Profile.{Profile}

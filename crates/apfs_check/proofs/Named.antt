@@ -30,7 +30,7 @@ use Rattle.reach_sweep.specs.Resolved.{Found, resolved, standing, recorded}
 use Rattle.reach_sweep.specs.Tested.{Answer, of_header, with_magic, tested}
 use Rattle.reach_sweep.specs.Next.{roots, names, unless_zero, slot_namings, live_view, past_view, view_namings, record_namings, snapshot_namings, snapshots_namings, volume_namings, records_of_snapshots}
 use Rattle.reach_sweep.specs.Live.{IsLive, rooted, led}
-use Rattle.apfs_model.proofs.Tests.{left-true, right-true}
+use Rattle.apfs_model.proofs.BoolTests.{left-true, right-true}
 use Rattle.apfs_model.proofs.Searches.{in-left, in-right, in-flat_map, from-map, from-filter, filter-test}
 use Rattle.reach_sweep.proofs.Nexts.{in-next, in-unless}
 use Rattle.apfs_check.specs.Volumes.{has_sound_super, volume_of}

@@ -15,7 +15,7 @@ use Rattle.reach_sweep.specs.Live.{IsLive, IsNamed, newest, named}
 use Rattle.apfs_model.specs.Apart.{Apart}
 use Rattle.reach_sweep.specs.Tally.{IsNumberOf, IsOwnedBlock}
 use Rattle.reach_sweep.specs.Accounted.{IsAccounted}
-use Rattle.apfs_model.proofs.Tests.{in-range, from-range}
+use Rattle.apfs_model.proofs.BoolTests.{in-range, from-range}
 use Rattle.apfs_model.proofs.Finite.{Either, apart-same, IsOnce, once, apart-range, apart-filter}
 use Rattle.apfs_model.proofs.Searches.{in-flat_map, from-flat_map, in-filter, from-filter, filter-test}
 use Rattle.reach_sweep.proofs.Equal.{object_eq}

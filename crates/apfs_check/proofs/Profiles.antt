@@ -11,7 +11,7 @@ use Rattle.vol_view.specs.Volumes.{Loaded}
 use Rattle.vol_view.specs.declared.volume.View.{View}
 use Rattle.ext_ref.specs.declared.range.NewRange.{NewRange}
 use Rattle.apfs_check.specs.Laws.{HasNoStrictNotes}
-use Rattle.apfs_model.proofs.Tests.{test_or}
+use Rattle.apfs_model.proofs.BoolTests.{test_or}
 use Rattle.apfs_model.proofs.Searches.{in-filter}
 use Rattle.view_rules.specs.Words.{IsClear}
 use Rattle.view_rules.specs.Facts.{Facts}

@@ -14,7 +14,7 @@ use Rattle.vol_view.specs.LoadStops.{IsRightSnapshot, IsLoadable}
 use Rattle.vol_view.specs.declared.head.VolHead.{VolHead}
 use Rattle.vol_view.specs.declared.volume.Snapshot.{Snapshot}
 use Rattle.ext_ref.specs.Ranges.{ranges_of}
-use Rattle.apfs_model.proofs.Tests.{both-true}
+use Rattle.apfs_model.proofs.BoolTests.{both-true}
 use Rattle.apfs_check.specs.Volumes.{has_sound_super, sound_heads, volume_of, record_extents_root, past_extents_roots, volume_ranges}
 use Rattle.apfs_check.proofs.Loaded.{AllSound, sound-super, readable-long}
 

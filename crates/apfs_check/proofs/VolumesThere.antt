@@ -39,7 +39,7 @@ use Rattle.reach_sweep.specs.Next.{past_view}
 use Rattle.reach_sweep.specs.Live.{IsLive}
 use Rattle.reach_sweep.specs.Features.{Placed, HasFeature, placed_in, record_features, used_features, field_features}
 use Rattle.reach_sweep.specs.Faults.{IsUnsound, IsUnnamed}
-use Rattle.apfs_model.proofs.Tests.{in-range}
+use Rattle.apfs_model.proofs.BoolTests.{in-range}
 use Rattle.apfs_model.proofs.Searches.{in-left, in-right, in-flat_map, filter-test}
 use Rattle.reach_sweep.proofs.Sounds.{map-live}
 use Rattle.view_rules.specs.declared.profile.Profile.{Profile}

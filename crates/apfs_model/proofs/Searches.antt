@@ -4,7 +4,7 @@ use Rattle.std.specs.Prelude.{slice_get}
 use Rattle.std.specs.List.{find, flat_map, filter, list_all, list_any}
 use Rattle.std.proofs.lemmas.Bool.{cases_lt}
 use Rattle.apfs_model.specs.Lists.{In, Lists, has, passes}
-use Rattle.apfs_model.proofs.Tests.{left-or, right-or, either-from, test_or, equal-from, from-equal}
+use Rattle.apfs_model.proofs.BoolTests.{left-or, right-or, either-from, test_or, equal-from, from-equal}
 
 pub in-left : {X : Type 0} (x : X) (xs ys : List X) → In x xs → In x (xs ++ ys)
 in-left x [] ys h = absurd h

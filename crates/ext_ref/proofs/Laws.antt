@@ -5,7 +5,7 @@ use Rattle.std.proofs.Common.{arith}
 use Rattle.std.proofs.lemmas.Grind.{common_steps}
 use Rattle.apfs_model.specs.Blocks.{in_container}
 use Rattle.apfs_model.specs.Lists.{passes}
-use Rattle.apfs_model.proofs.Tests.{denied, former-true, latter-true}
+use Rattle.apfs_model.proofs.BoolTests.{denied, former-true, latter-true}
 use Rattle.apfs_model.proofs.Searches.{any-passes}
 use Rattle.obj_base.specs.declared.stop.Feature.{Feature}
 use Rattle.obj_base.specs.declared.stop.Stop.TheVariants.{Found, Unsupported}

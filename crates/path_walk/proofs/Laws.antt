@@ -34,7 +34,7 @@ use Rattle.path_walk.specs.Met.{Spot, spot_in, number_named, IsMetTwice}
 use Rattle.path_walk.specs.declared.answer.Answer.{Answer}
 use Rattle.path_walk.specs.declared.answer.Answer.TheVariants.{NotFound, NotDirectory, NotFile, Compressed, Dataless, NoAttribute}
 use Rattle.path_walk.specs.declared.target.Target.{Target}
-use Rattle.apfs_model.proofs.Tests.{both-true, left-true, right-true, false-not, not-false, clash, never-true}
+use Rattle.apfs_model.proofs.BoolTests.{both-true, left-true, right-true, false-not, not-false, clash, never-true}
 use Rattle.path_walk.proofs.Tallies.{tally, tally-is, tally-cons, tally-in, tally-all, tally-apart, tally-by}
 use Rattle.path_walk.proofs.Rows.{in-entries, kept-entries, inode-fact}
 

@@ -7,7 +7,7 @@ use Rattle.std.specs.Cmp.{IsTotalOrder}
 use Rattle.std.specs.Cmp.Lexicographic.{slice_cmp, nat_list_cmp_total}
 use Rattle.apfs_model.specs.Lists.{In}
 use Rattle.path_walk.specs.Order.{is_after, put_in, by_name}
-use Rattle.apfs_model.proofs.Tests.{both-true, left-true, right-true, not-true, false-not, clash, never-true}
+use Rattle.apfs_model.proofs.BoolTests.{both-true, left-true, right-true, not-true, false-not, clash, never-true}
 use Rattle.path_walk.proofs.Tallies.{in-kept}
 
 -- ---- the order

@@ -12,7 +12,7 @@ use Rattle.fs_record.specs.Facts.{Fact, told_by, fact_of, facts_of, all_for, rea
 use Rattle.fs_record.specs.declared.fault.RecFault.{RecFault}
 use Rattle.view_rules.specs.Facts.{facts_in}
 use Rattle.path_walk.specs.Found.{entries_in}
-use Rattle.apfs_model.proofs.Tests.{never-true}
+use Rattle.apfs_model.proofs.BoolTests.{never-true}
 
 -- no record of a kind and an id
 abbrev pub HasNo : ℕ → ℕ → List Pair → Type 0

@@ -29,7 +29,7 @@ use Rattle.reach_sweep.specs.Next.{roots, next, names, names_if, unless_zero, sl
 use Rattle.reach_sweep.specs.Live.{Live, rooted, led, IsLive}
 use Rattle.reach_sweep.specs.Features.{HasFeature}
 use Rattle.reach_sweep.specs.Faults.{Present, IsNamedTwice}
-use Rattle.apfs_model.proofs.Tests.{equal-from}
+use Rattle.apfs_model.proofs.BoolTests.{equal-from}
 use Rattle.apfs_model.proofs.Searches.{in-map, from-map}
 use Rattle.reach_sweep.specs.Laws.{Flawed}
 use Rattle.reach_sweep.proofs.Chains.{Link, link_of, links, first_link, IsLinked, chain_or}

@@ -16,7 +16,7 @@ use Rattle.reach_sweep.specs.Trees.{tree_line, misplaced, has_counts, is_short_a
 use Rattle.reach_sweep.specs.Features.{Placed, first, of, used_features, tested_features, features_through}
 use Rattle.reach_sweep.specs.Faults.{is_once, within_of, xid_of}
 use Rattle.reach_sweep.specs.Accounted.{AreInOrder, IsPlain}
-use Rattle.apfs_model.proofs.Tests.{test_or}
+use Rattle.apfs_model.proofs.BoolTests.{test_or}
 use Rattle.apfs_model.proofs.Searches.{in-right, every_of, below_or}
 use Rattle.reach_sweep.proofs.Equal.{lookup_eq, naming_eq}
 use Rattle.std.proofs.lemmas.Bool.{cases_eq}

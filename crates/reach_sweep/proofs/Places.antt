@@ -5,7 +5,7 @@ use Rattle.apfs_model.specs.Blocks.{rounded_up}
 use Rattle.obj_base.specs.declared.site.Site.{Site}
 use Rattle.space_map.specs.Fields.{cib_chunks_of, cab_cibs_of, blocks_of, chunks_of, cibs_of, cabs_of, addresses_of}
 use Rattle.space_map.specs.Geometry.{chunk_len, most_chunks, most_cibs, has_units, has_rooms, has_numbers, address_count, has_address, has_addresses, is_shaped, has_cib_place, has_chunk_place}
-use Rattle.apfs_model.proofs.Tests.{left-true, right-true, both-true, other-true, from-below, upto-from, from-upto, equal-from}
+use Rattle.apfs_model.proofs.BoolTests.{left-true, right-true, both-true, other-true, from-below, upto-from, from-upto, equal-from}
 
 -- a thing of so many stands in one of as many units as they need
 pub below-rounded : (i n unit : ℕ) → 1 ≤ unit → i < n → i / unit < rounded_up n unit

@@ -8,7 +8,7 @@ use Rattle.reach_sweep.specs.Owners.{Owner, covers}
 use Rattle.apfs_model.specs.Apart.{Apart}
 use Rattle.reach_sweep.specs.Reached.{HasBlocks, range_of, AreRangesOf}
 use Rattle.reach_sweep.specs.Settled.{has_block, is_held, is_held_at, IsHeldTwice, AreApart}
-use Rattle.apfs_model.proofs.Tests.{test_or, clash, left-true, right-true, below-from, upto-from, equal-from}
+use Rattle.apfs_model.proofs.BoolTests.{test_or, clash, left-true, right-true, below-from, upto-from, equal-from}
 use Rattle.apfs_model.proofs.Searches.{in-map, from-map}
 
 -- some item passes

@@ -27,7 +27,7 @@ use Rattle.reach_sweep.specs.Faults.{Present, IsUnsound, is_of_pool, IsMisshapen
 use Rattle.reach_sweep.specs.Accounted.{AreNamed, AreInOrder, IsPlain, IsShaped, IsAccounted}
 use Rattle.reach_sweep.specs.Reached.{Whole, IsReached, IsReachedFault}
 use Rattle.reach_sweep.specs.Settled.{mark_of, pool_mark_of, IsSettledWith, IsSettleFault}
-use Rattle.apfs_model.proofs.Tests.{clash, left-true, right-true, other-true, below-from, all-in, in-range}
+use Rattle.apfs_model.proofs.BoolTests.{clash, left-true, right-true, other-true, below-from, all-in, in-range}
 
 -- all of an accounted container but the account of its blocks
 pub record Unsettled (image : List ℕ) (seen : Seen) : Type 0 where

@@ -30,7 +30,7 @@ use Rattle.reach_sweep.specs.Owners.{Owner, covers, first_owners, owners_through
 use Rattle.reach_sweep.specs.PoolOwners.{pool_owners_through, IsPoolOwner, IsPoolOwned, IsPoolFree}
 use Rattle.reach_sweep.specs.Faults.{is_of_pool, lies_inside, HasBits, HasMark, HasPoolMark}
 use Rattle.reach_sweep.specs.Accounted.{IsShaped, IsSettled, IsPoolSettled}
-use Rattle.apfs_model.proofs.Tests.{test_or, clash, right-true, both-true, below-from, from-below, unequal-from}
+use Rattle.apfs_model.proofs.BoolTests.{test_or, clash, right-true, both-true, below-from, from-below, unequal-from}
 use Rattle.apfs_model.proofs.Searches.{in-left, in-right, in-append, in-flat_map, from-flat_map, every_of, any_of}
 use Rattle.reach_sweep.proofs.Equal.{object_eq, owner_eq}
 use Rattle.reach_sweep.proofs.Nexts.{in-next}

@@ -20,7 +20,7 @@ use Rattle.reach_sweep.specs.Resolved.{Found, resolved, standing, found_physical
 use Rattle.reach_sweep.specs.Tested.{Answer, of_header, head_tested, tested}
 use Rattle.reach_sweep.specs.Next.{roots}
 use Rattle.reach_sweep.specs.Live.{rooted, IsLive, NamesSound}
-use Rattle.apfs_model.proofs.Tests.{both-true}
+use Rattle.apfs_model.proofs.BoolTests.{both-true}
 use Rattle.apfs_model.proofs.Inside.{inside-same}
 
 -- a header that passes its tests

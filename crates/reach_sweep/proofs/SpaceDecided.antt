@@ -30,7 +30,7 @@ use Rattle.reach_sweep.specs.Live.{led, IsLive, NamesSound}
 use Rattle.reach_sweep.specs.Features.{features_through, used_features, tested_features, field_features}
 use Rattle.reach_sweep.specs.Faults.{Present}
 use Rattle.reach_sweep.specs.Accounted.{IsPlain, IsShaped}
-use Rattle.apfs_model.proofs.Tests.{test_or, left-true, right-true, both-true, from-below, upto-from, from-upto, equal-from, from-equal, in-range, from-range}
+use Rattle.apfs_model.proofs.BoolTests.{test_or, left-true, right-true, both-true, from-below, upto-from, from-upto, equal-from, from-equal, in-range, from-range}
 use Rattle.apfs_model.proofs.Searches.{in-right, in-map, in-filter, all-of}
 use Rattle.reach_sweep.proofs.Nexts.{in-next}
 use Rattle.reach_sweep.specs.Laws.{Flawed}

@@ -29,7 +29,7 @@ use Rattle.reach_sweep.specs.Next.{unless_zero, address_naming, addresses_in, ad
 use Rattle.reach_sweep.specs.Live.{led, IsLive, NamesSound}
 use Rattle.reach_sweep.specs.Faults.{Present}
 use Rattle.reach_sweep.specs.Raised.{of_space}
-use Rattle.apfs_model.proofs.Tests.{test_or, equal-from, left-true, right-true, both-true, below-from, from-equal, in-range}
+use Rattle.apfs_model.proofs.BoolTests.{test_or, equal-from, left-true, right-true, both-true, below-from, from-equal, in-range}
 use Rattle.apfs_model.proofs.Searches.{in-right, in-map, in-filter}
 use Rattle.reach_sweep.proofs.Nexts.{in-next}
 use Rattle.reach_sweep.proofs.Sounds.{manager_naming, manager-live}

@@ -31,7 +31,7 @@ use Rattle.reach_sweep.specs.Live.{IsLive, led}
 use Rattle.reach_sweep.specs.Features.{Placed, HasFeature, of, used_features, tested_features, features_through}
 use Rattle.reach_sweep.specs.Faults.{IsUnsound, IsUnnamed, within_of, xid_of, Present}
 use Rattle.reach_sweep.specs.Raised.{of_walk}
-use Rattle.apfs_model.proofs.Tests.{test_or, in-range}
+use Rattle.apfs_model.proofs.BoolTests.{test_or, in-range}
 use Rattle.apfs_model.proofs.Searches.{in-right, in-map, all-of}
 use Rattle.reach_sweep.proofs.Nexts.{in-next}
 

@@ -3,7 +3,7 @@ use Rattle.std.specs.Prelude.{◌≡◌, ℕ, ◌<◌, Bool, true, false, ◌&&�
 use Rattle.std.proofs.Common.{arith, ap, sym, subst, inl, inr}
 use Rattle.std.proofs.lemmas.Grind.{common_steps}
 use Rattle.apfs_model.specs.Blocks.{in_container}
-use Rattle.apfs_model.proofs.Tests.{clash, left-true, right-true, other-true}
+use Rattle.apfs_model.proofs.BoolTests.{clash, left-true, right-true, other-true}
 use Rattle.obj_base.specs.declared.stop.Within.TheVariants.{Physical, Ephemeral, Container, Volume}
 use Rattle.obj_base.specs.declared.site.Site.{Site}
 use Rattle.space_map.specs.Fields.{cabs_of, cibs_of, chunks_of}

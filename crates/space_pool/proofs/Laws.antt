@@ -4,7 +4,7 @@ use Rattle.std.specs.List.{range_with_len, list_any, list_all}
 use Rattle.std.proofs.Common.{arith, subst, sym, inl, inr}
 use Rattle.std.proofs.lemmas.Grind.{common_steps}
 use Rattle.apfs_model.specs.Lists.{In, passes}
-use Rattle.apfs_model.proofs.Tests.{clash, denied, left-true, right-true, former-true, latter-true}
+use Rattle.apfs_model.proofs.BoolTests.{clash, denied, left-true, right-true, former-true, latter-true}
 use Rattle.apfs_model.proofs.Searches.{any-passes}
 use Rattle.apfs_model.proofs.Ranges.{all_fails}
 use Rattle.obj_base.specs.declared.stop.Feature.{Feature}

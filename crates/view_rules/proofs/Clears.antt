@@ -13,7 +13,7 @@ use Rattle.view_rules.specs.Facts.{Facts, inode_at}
 use Rattle.view_rules.specs.Entries.{has_root, IsNoRoot}
 use Rattle.view_rules.specs.Directories.{is_user_directory, is_root_named, parent_at, Leads, HasWays, IsUnreached}
 use Rattle.view_rules.specs.Siblings.{is_twin, is_entry_lost, sibling_place, HasEntryFellows}
-use Rattle.apfs_model.proofs.Tests.{test_or}
+use Rattle.apfs_model.proofs.BoolTests.{test_or}
 use Rattle.apfs_model.proofs.Searches.{every_or, found-in, in-map}
 use Rattle.view_rules.proofs.Searches.{clear_or}
 use Rattle.view_rules.proofs.Ways.{leads_or}

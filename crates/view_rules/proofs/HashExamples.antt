@@ -4,7 +4,7 @@ use Rattle.std.specs.Prelude.{◌==◌, not, nat_lt, codes}
 use Rattle.std.specs.List.{list_all}
 use Rattle.std.specs.Str.{IsAscii}
 use Rattle.std.proofs.lemmas.Bool.{ltb-true}
-use Rattle.apfs_model.proofs.Tests.{left-true, right-true}
+use Rattle.apfs_model.proofs.BoolTests.{left-true, right-true}
 use Rattle.fs_name.specs.declared.naming.Names.TheVariants.{Folded}
 use Rattle.fs_name.specs.Text.{is_ascii_name}
 use Rattle.fs_name.specs.Crc.{after_bits, after_byte, crc32c_of}

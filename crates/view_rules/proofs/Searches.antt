@@ -1,7 +1,7 @@
 -- A rule is clear of a list, or an item breaks it.
 use Rattle.std.proofs.Common.{◌≡◌, Bool, true, false, List, ◌⊎◌, inl, inr, refl, sym, ◌∙◌}
 use Rattle.std.proofs.lemmas.Bool.{false≢true}
-use Rattle.apfs_model.proofs.Tests.{test_or}
+use Rattle.apfs_model.proofs.BoolTests.{test_or}
 use Rattle.apfs_model.proofs.Searches.{every_or}
 use Rattle.view_rules.specs.Words.{IsClear, IsBroken}
 

@@ -35,7 +35,7 @@ use Rattle.vol_view.specs.Volumes.{Loaded}
 use Rattle.vol_view.specs.Views.{view_named, hashed_tree, plain_tree, view_line, is_view_walkable, is_view_ordered, is_view_counted, FactBy, IsViewFault, IsViewFeature}
 use Rattle.vol_view.specs.declared.volume.View.{View}
 use Rattle.view_rules.specs.Rules.{refusal_of, HasRecords, IsRecord}
-use Rattle.apfs_model.proofs.Tests.{test_or}
+use Rattle.apfs_model.proofs.BoolTests.{test_or}
 use Rattle.apfs_model.proofs.Searches.{every_or, in-get, get-in}
 
 -- why a look-up in an image gives no node: a fault of the node, or a feature of it
