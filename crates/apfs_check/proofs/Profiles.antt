@@ -8,6 +8,7 @@ use Rattle.nx_ring.specs.Checkpoint.{Seen, site_of}
 use Rattle.vol_view.specs.Heads.{heads_of}
 use Rattle.vol_view.specs.Views.{views_of}
 use Rattle.vol_view.specs.Volumes.{Loaded}
+use Rattle.vol_view.specs.declared.head.VolHead.{VolHead}
 use Rattle.vol_view.specs.declared.volume.View.{View}
 use Rattle.ext_ref.specs.declared.range.NewRange.{NewRange}
 use Rattle.apfs_check.specs.Laws.{HasNoStrictNotes}
@@ -23,7 +24,7 @@ use Rattle.view_rules.specs.declared.profile.Profile.TheVariants.{Plain, Strict}
 use Rattle.apfs_check.specs.declared.fault.Fault.{Fault}
 use Rattle.apfs_check.specs.declared.fault.Fault.TheVariants.{BlockZero, Truncated, NoCheckpoint, Unsound, Unnamed, NamedTwice, OwnedTwice, Outside, UnusedMapping, Leaked, Missing, PoolLeaked, PoolMissing, SpaceGeometry, SpaceCab, SpaceCib, SpaceIndex, SpacePlace, SpaceFreeCount, SpaceFreeTotal, PoolCount, PoolIndex, PoolPlace, SnapRecord, SnapCount, SnapName, OmapSnaps, TreeOrder, TreeCounts, Order, Counts, TreeRecord, Record, DupName, Hash, NoParent, NoInode, KindMismatch, DirNames, Unreached, Children, Links, SiblingLost, ExtentOrder, ExtentPlace, ExtentUncovered, LinkTarget, Stream, AttrOwner, NameHash, DataUnreached, DataCount}
 use Rattle.apfs_check.specs.Volumes.{volume_of, volume_ranges}
-use Rattle.apfs_check.specs.Data.{unreached_in, miscounted_in}
+use Rattle.apfs_check.specs.Data.{unreached_in, miscounted_in, HasRightData}
 use Rattle.apfs_check.specs.Notes.{of_views, of_volumes, view_hash_notes, unreached_note, unreached_notes, count_note, count_notes}
 use Rattle.apfs_check.specs.Present.{IsPresent}
 use Rattle.apfs_check.specs.WellFormed.{IsWellFormed}
@@ -84,20 +85,26 @@ rules-under a b image site volume view ranges hashes r = record {
 }
 
 -- ---- a container
--- what is well-formed under Strict is so under Plain
-pub strict-plain : (image : List ℕ) → IsWellFormed Strict image → IsWellFormed Plain image
-strict-plain image w = record {
+-- what is well-formed under a profile is so under another, where hashes and data are right if that is Strict
+abbrev under : (a b : Profile) (image : List ℕ) (w : IsWellFormed a image) →
+    ((head : VolHead) → In head (heads_of image w.seen) → (view : View) → In view (views_of (volume_of image w.seen head) w.seen) → b ≡ Strict → HasNameHashes (view_facts image (site_of w.seen) (volume_of image w.seen head) view)) →
+    ((head : VolHead) → In head (heads_of image w.seen) → b ≡ Strict → HasRightData image w.seen head) → IsWellFormed b image
+under a b image w hashes reached = record {
   seen = w.seen;
   newest = w.newest;
   right = record {
     accounted = w.right.accounted;
     volumes = λ head one. let v = w.right.volumes head one in record {
       agreed = v.agreed;
-      views = λ view h. rules-under Strict Plain image (site_of w.seen) (volume_of image w.seen head) view (volume_ranges image (site_of w.seen) head) (λ e. absurd (cc)) (v.views view h);
-      ranges = λ e. absurd (cc);
+      views = λ view h. rules-under a b image (site_of w.seen) (volume_of image w.seen head) view (volume_ranges image (site_of w.seen) head) (hashes head one view h) (v.views view h);
+      ranges = reached head one;
     };
   };
 }
+
+-- what is well-formed under Strict is so under Plain
+pub strict-plain : (image : List ℕ) → IsWellFormed Strict image → IsWellFormed Plain image
+strict-plain image w = under Strict Plain image w (λ head one view h e. absurd (cc)) (λ head one e. absurd (cc))
 
 -- what is well-formed under Strict has none of the three kinds of note
 pub strict-noteless : (image : List ℕ) (w : IsWellFormed Strict image) → HasNoStrictNotes image w.seen
@@ -111,24 +118,13 @@ strict-noteless image w = record {
 
 -- what is well-formed under Plain and has none of them is so under Strict
 pub noteless-strict : (image : List ℕ) (w : IsWellFormed Plain image) → HasNoStrictNotes image w.seen → IsWellFormed Strict image
-noteless-strict image w n = record {
-  seen = w.seen;
-  newest = w.newest;
-  right = record {
-    accounted = w.right.accounted;
-    volumes = λ head one. let v = w.right.volumes head one in record {
-      agreed = v.agreed;
-      views = λ view h.
-          rules-under Plain Strict image (site_of w.seen) (volume_of image w.seen head) view (volume_ranges image (site_of w.seen) head)
-          (λ _. hashes-clear view (view_facts image (site_of w.seen) (volume_of image w.seen head) view)
-          (flat-none (view_hash_notes image w.seen head) (views_of (volume_of image w.seen head) w.seen) (flat-none (of_views view_hash_notes image w.seen) (heads_of image w.seen) n.hashes head one) view h)) (v.views view h);
-      ranges = λ _. record {
-        reached = map-none (unreached_note head) (unreached_in image w.seen head) (flat-none (unreached_notes image w.seen) (heads_of image w.seen) n.unreached head one);
-        counted = map-none (count_note image w.seen head) (miscounted_in image w.seen head) (flat-none (count_notes image w.seen) (heads_of image w.seen) n.counts head one);
-      };
-    };
-  };
-}
+noteless-strict image w n = under Plain Strict image w
+    (λ head one view h _. hashes-clear view (view_facts image (site_of w.seen) (volume_of image w.seen head) view)
+    (flat-none (view_hash_notes image w.seen head) (views_of (volume_of image w.seen head) w.seen) (flat-none (of_views view_hash_notes image w.seen) (heads_of image w.seen) n.hashes head one) view h))
+    (λ head one _. record {
+      reached = map-none (unreached_note head) (unreached_in image w.seen head) (flat-none (unreached_notes image w.seen) (heads_of image w.seen) n.unreached head one);
+      counted = map-none (count_note image w.seen head) (miscounted_in image w.seen head) (flat-none (count_notes image w.seen) (heads_of image w.seen) n.counts head one);
+    })
 
 -- well-formed under Strict is well-formed under Plain without such notes
 pub strict_plain : (image : List ℕ) → IsWellFormed Strict image ↔ ((w : IsWellFormed Plain image) × HasNoStrictNotes image w.seen)
