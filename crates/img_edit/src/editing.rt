@@ -7,7 +7,7 @@ use crate::seal::reseal;
 use crate::writer::put_bytes;
 
 // Where a block starts, where an image of so many bytes has it.
-fn start_of(length: usize, block_size: usize, block: usize) -> Option<usize>
+pub(crate) fn start_of(length: usize, block_size: usize, block: usize) -> Option<usize>
     ensures { MatchOption result (length < block_size * block + block_size) (λ start. (start ≡ block_size * block) × (start + block_size ≤ length)) }
 {
     let start = block_size.checked_mul(block)?;

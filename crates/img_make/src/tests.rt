@@ -119,6 +119,16 @@ fn a_container_has_the_blocks_that_it_needs(rt: HostRuntime) -> Result<(), Fail>
     Ok(())
 }
 
+#[test]
+fn a_second_chunk_has_no_bitmap(rt: HostRuntime) -> Result<(), Fail> {
+    let image = image_of(rt.alloc(), &empty_plan(rt.alloc(), 32_769))?;
+    // the address, the blocks with the free ones, and the bitmap of the second chunk
+    assert_eq!(rt; number(&image, 43, 80), Some(32_768));
+    assert_eq!(rt; number(&image, 43, 88), Some(0x0000_0001_0000_0001));
+    assert_eq!(rt; number(&image, 43, 96), Some(0));
+    Ok(())
+}
+
 // A leaf of one item, whose key has so many bytes.
 fn leaf(alloc: Global, oid: u64, key: usize) -> Result<Leaf, AllocError> {
     let item = (vec![in alloc; 0u8; key]?, vec![in alloc; 0u8; 1]?);
@@ -142,7 +152,7 @@ fn six_leaves(alloc: Global) -> Result<Version, AllocError> {
     })
 }
 
-// A container of two chunks whose files own blocks among those that are free, with a queue of two leaves and a
+// A container whose files own blocks among those that are free, with a queue of two leaves and a
 // jumpstart.
 fn full_plan(alloc: Global) -> Result<Plan, AllocError> {
     let range = NewRange {
@@ -167,7 +177,7 @@ fn full_plan(alloc: Global) -> Result<Plan, AllocError> {
         })?;
     }
     Ok(Plan {
-        blocks: 32_769,
+        blocks: 1300,
         xid: 1,
         volumes: vec![in alloc; volume]?,
         queued,
@@ -176,7 +186,7 @@ fn full_plan(alloc: Global) -> Result<Plan, AllocError> {
 }
 
 // What the image of this plan has: block, byte and number.
-const FULL: [(usize, usize, u64); 26] = [
+const FULL: [(usize, usize, u64); 23] = [
     // the root of the file-system tree, above two nodes, and these above six leaves: flags, level and count, the number
     // of keys, that of nodes
     (54, 32, 0x0000_0002_0002_0001),
@@ -205,10 +215,6 @@ const FULL: [(usize, usize, u64); 26] = [
     (67, 32, 0x0000_0001_5244_534a),
     (67, 44, 1),
     (67, 176, 90),
-    // the second chunk: its address, the blocks with the free ones, and its bitmap
-    (43, 80, 32_768),
-    (43, 88, 0x0000_0001_0000_0001),
-    (43, 96, 0),
 ];
 
 #[test]
@@ -223,7 +229,7 @@ fn a_full_container_has_its_parts(rt: HostRuntime) -> Result<(), Fail> {
         );
     }
     // 68 blocks from 0 on, the three of the jumpstart, and those of the queue are used
-    assert_eq!(rt; number(&image, 9, 72), Some(32_769 - 68 - 3 - 126));
+    assert_eq!(rt; number(&image, 9, 72), Some(1300 - 68 - 3 - 126));
     Ok(())
 }
 
