@@ -10,8 +10,9 @@ use Rattle.bt_cursor.specs.declared.fault.WalkFault.TheVariants.{Unnamed}
 use Rattle.bt_cursor.specs.Tree.{Tree, tree_by}
 use Rattle.bt_cursor.specs.Flat.{flat_of}
 use Rattle.bt_cursor.specs.Line.{item_at, line_of}
+use Rattle.bt_cursor.specs.Gaps.{gapped_of, all_flat}
 use Rattle.bt_cursor.specs.Met.{nodes_of, is_walkable}
-use Rattle.bt_cursor.specs.Order.{out_of_order}
+use Rattle.bt_cursor.specs.Order.{is_misplaced_at, out_of_order}
 use Rattle.bt_cursor.specs.Counts.{is_counted}
 use Rattle.bt_cursor.specs.Whole.{is_whole}
 use Rattle.bt_cursor.specs.From.{from_rank}
@@ -66,6 +67,14 @@ pub falling : out_of_order shape (line_of (tree (root 9 7 2 3 2 3) 9 7) 1) ≡ S
 unfolding fixed_place variable_place place_of key_in value_in flags_of level_of count_of table_offset_of table_length_of end_of table_begin keys_begin key_count_of node_count_of u16_at u32_at u64_at
 falling = refl
 
+pub fallen : is_misplaced_at shape (line_of (tree (root 9 7 2 3 2 3) 9 7) 1) 2 ≡ true
+unfolding fixed_place variable_place place_of key_in value_in flags_of level_of count_of table_offset_of table_length_of end_of table_begin keys_begin key_count_of node_count_of u16_at u32_at u64_at
+fallen = refl
+
+pub standing : is_misplaced_at shape (line_of (tree (root 9 7 2 3 2 3) 9 7) 1) 1 ≡ false
+unfolding fixed_place variable_place place_of key_in value_in flags_of level_of count_of table_offset_of table_length_of end_of table_begin keys_begin key_count_of node_count_of u16_at u32_at u64_at
+standing = refl
+
 -- item 3, the second leaf's entry, has the rank of the first leaf's; the root's entry before it may have it
 pub repeating : out_of_order shape (line_of (tree (root 7 7 2 3 2 3) 7 7) 1) ≡ Some 3
 unfolding fixed_place variable_place place_of key_in value_in flags_of level_of count_of table_offset_of table_length_of end_of table_begin keys_begin key_count_of node_count_of u16_at u32_at u64_at
@@ -85,6 +94,15 @@ repeated = refl
 pub missing : flat_of (tree (root 7 9 2 4 2 3) 7 9) 1 ≡ pair 7 7 ∷ []
 unfolding fixed_place variable_place place_of key_in value_in flags_of level_of count_of table_offset_of table_length_of end_of table_begin keys_begin key_count_of node_count_of u16_at u32_at u64_at
 missing = refl
+
+-- it is a gap, after the entry that names it
+pub gapped : gapped_of (tree (root 7 9 2 4 2 3) 7 9) 1 ≡ Ok (item_at 1 (pair 7 2)) ∷ Ok (item_at 0 (pair 7 7)) ∷ Ok (item_at 1 (pair 9 4)) ∷ Err (Found (Unnamed 4)) ∷ []
+unfolding fixed_place variable_place place_of key_in value_in flags_of level_of count_of table_offset_of table_length_of end_of table_begin keys_begin key_count_of node_count_of u16_at u32_at u64_at
+gapped = refl
+
+pub flat_gapped : all_flat (gapped_of (tree (root 7 9 2 4 2 3) 7 9) 1) ≡ Ok (pair 7 7) ∷ Err (Found (Unnamed 4)) ∷ []
+unfolding fixed_place variable_place place_of key_in value_in flags_of level_of count_of table_offset_of table_length_of end_of table_begin keys_begin key_count_of node_count_of u16_at u32_at u64_at
+flat_gapped = refl
 
 pub unwalkable : is_walkable (tree (root 7 9 2 4 2 3) 7 9) 1 ≡ false
 unfolding fixed_place variable_place place_of key_in value_in flags_of level_of count_of table_offset_of table_length_of end_of table_begin keys_begin key_count_of node_count_of u16_at u32_at u64_at

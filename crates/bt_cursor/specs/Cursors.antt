@@ -61,7 +61,8 @@ depth_of cursor = depth_way cursor.way
 abbrev pub HasDepth : {K N : Type 0} {k : keys.Ghosts K} {n : namers.Ghosts N} → List ℕ → Cursor K N k n → Type 0
 HasDepth image cursor = option_map level_of (node_at (tree_of cursor image) (root_place (root_of cursor))) ≡ Some (depth_of cursor)
 
--- it was made from a source with this image, so that its buffers hold the nodes of its tree
+-- it was made from a source with this image: its buffers hold the nodes of its tree from the root down to its place, each
+-- the child of the entry that was passed last in the one above
 abbrev pub IsOn : {K N : Type 0} {k : keys.Ghosts K} {n : namers.Ghosts N} → List ℕ → Cursor K N k n → Type 0
 IsOn image cursor = IsIn (tree_of cursor image) cursor.root cursor.way.above.items cursor.way.last
 
