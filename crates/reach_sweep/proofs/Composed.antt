@@ -21,7 +21,7 @@ use Rattle.reach_sweep.specs.Tally.{IsTally}
 use Rattle.reach_sweep.specs.Reached.{Whole, IsReached}
 use Rattle.reach_sweep.specs.Settled.{is_held, mark_of, pool_mark_of, is_chunk_counted, IsSettledWith, IsSettleFault}
 use Rattle.apfs_model.proofs.BoolTests.{test_or, clash}
-use Rattle.reach_sweep.proofs.Places.{shape-from, block-chunk}
+use Rattle.space_map.proofs.Places.{shape-from, block-chunk}
 use Rattle.reach_sweep.proofs.Sounds.{manager_naming, manager-live, manager-there}
 use Rattle.reach_sweep.proofs.SpaceDecided.{Managed}
 use Rattle.reach_sweep.proofs.SettledDecided.{bits-there, some-size}

@@ -5,7 +5,6 @@ pub mod Refutes
 pub mod Nexts
 pub mod Alive
 pub mod NamesDecided
-pub mod Places
 pub mod Sounds
 pub mod SpaceDecided
 pub mod SettledDecided

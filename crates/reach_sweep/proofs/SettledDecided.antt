@@ -36,7 +36,7 @@ use Rattle.reach_sweep.proofs.Equal.{object_eq, owner_eq}
 use Rattle.reach_sweep.proofs.Nexts.{in-next}
 use Rattle.reach_sweep.specs.Laws.{Flawed}
 use Rattle.reach_sweep.proofs.NamesDecided.{AllSound, each_or, found_or}
-use Rattle.reach_sweep.proofs.Places.{Shape, block-chunk}
+use Rattle.space_map.proofs.Places.{Shape, block-chunk}
 use Rattle.reach_sweep.proofs.Sounds.{map_naming, map-live, container-map-sound, volume-map-sound}
 use Rattle.reach_sweep.proofs.SpaceDecided.{Managed, each_below, told, then_or}
 

@@ -35,7 +35,7 @@ use Rattle.apfs_model.proofs.Searches.{in-right, in-map, in-filter, all-of}
 use Rattle.reach_sweep.proofs.Nexts.{in-next}
 use Rattle.reach_sweep.specs.Laws.{Flawed}
 use Rattle.reach_sweep.proofs.NamesDecided.{AllSound, each_or}
-use Rattle.reach_sweep.proofs.Places.{Shape, shape-from, cab-address, cib-address, cib-place, cib-cab, chunk-place, chunk-cib}
+use Rattle.space_map.proofs.Places.{Shape, shape-from, cab-address, cib-address, cib-place, cib-cab, chunk-place, chunk-cib}
 use Rattle.reach_sweep.proofs.Sounds.{manager_naming, manager-live, manager-there, cab-info, cib-info, cab-bytes}
 
 -- what is known of the manager: it is named, sound, and shaped
