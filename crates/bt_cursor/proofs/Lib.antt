@@ -16,3 +16,4 @@ pub mod Runs
 pub mod Places
 pub mod Examples
 pub mod Wholes
+pub mod Gathers

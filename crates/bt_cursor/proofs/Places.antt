@@ -205,7 +205,7 @@ whole-world tree root (Unsupported feature block) levelled whole told = no-gap t
 whole-world tree root ReadFault levelled whole told = tt
 whole-world tree root NoMemory levelled whole told = tt
 
-filter-all : {X : Type 0} (p : X → Bool) (xs : List X) → list_all p xs ≡ true → filter p xs ≡ xs
+pub filter-all : {X : Type 0} (p : X → Bool) (xs : List X) → list_all p xs ≡ true → filter p xs ≡ xs
 filter-all p [] all = refl
 filter-all p (x ∷ xs) all = ap (λ (b : Bool). cond b (x ∷ filter p xs) (filter p xs)) (and-left (p x) (list_all p xs) all) ∙ ap (λ ys. x ∷ ys) (filter-all p xs (and-right (p x) (list_all p xs) all))
 
