@@ -18,3 +18,4 @@ pub mod Places
 pub mod Walkables
 pub mod Examples
 pub mod Wholes
+pub mod Gathers

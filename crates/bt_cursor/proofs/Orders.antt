@@ -38,14 +38,14 @@ first-append shape before (x ∷ xs) ys e =
     ap (λ (b : Bool). cond b (Some (length before)) (first_misplaced shape (before ++ x ∷ []) (xs ++ ys))) both.0
     ∙ (first-append shape (before ++ x ∷ []) xs ys both.1 ∙ ap (λ zs. first_misplaced shape zs ys) (append_assoc before (x ∷ []) xs))
 
-first-push : {K : Type 0} (shape : Shape K) (passed : List Item) (item : Item) → first_misplaced shape [] passed ≡ None → is_misplaced shape passed item ≡ false → first_misplaced shape [] (passed ++ item ∷ []) ≡ None
+pub first-push : {K : Type 0} (shape : Shape K) (passed : List Item) (item : Item) → first_misplaced shape [] passed ≡ None → is_misplaced shape passed item ≡ false → first_misplaced shape [] (passed ++ item ∷ []) ≡ None
 first-push shape passed item e right = first-append shape [] passed (item ∷ []) e ∙ ap (λ (b : Bool). cond b (Some (length passed)) None) right
 
 -- the next item is the first out of order
 pub first-hit : {K : Type 0} (shape : Shape K) (passed : List Item) (item : Item) (items : List Item) → first_misplaced shape [] passed ≡ None → is_misplaced shape passed item ≡ true → first_misplaced shape [] (passed ++ (item ∷ items)) ≡ Some (length passed)
 first-hit shape passed item items e wrong = first-append shape [] passed (item ∷ items) e ∙ ap (λ (b : Bool). cond b (Some (length passed)) (first_misplaced shape (passed ++ item ∷ []) items)) wrong
 
-passes-map : {X Y : Type 0} (o : Option X) (f : X → Y) (g : Y → Bool) → passes (option_map f o) g ≡ passes o (λ x. g (f x))
+pub passes-map : {X Y : Type 0} (o : Option X) (f : X → Y) (g : Y → Bool) → passes (option_map f o) g ≡ passes o (λ x. g (f x))
 passes-map None f g = refl
 passes-map (Some x) f g = refl
 
@@ -63,7 +63,7 @@ out-misplaced shape keys nodes passed seen item has =
 spend-comes : (tally : Tally) (n : ℕ) → comes_to (spend tally) n ≡ comes_to tally (suc n)
 spend-comes tally n = grind (arith, nat_tests)
 
-leaf-if : (b : Bool) (f : Item → Rank) (xs : List Item) (item : Item) (leaf : Option Rank) → leaf ≡ option_map f (last xs) → cond b (Some (f item)) leaf ≡ option_map f (last (xs ++ cond b (item ∷ []) []))
+pub leaf-if : (b : Bool) (f : Item → Rank) (xs : List Item) (item : Item) (leaf : Option Rank) → leaf ≡ option_map f (last xs) → cond b (Some (f item)) leaf ≡ option_map f (last (xs ++ cond b (item ∷ []) []))
 leaf-if true f xs item leaf e = sym (ap (option_map f) (last-push xs item))
 leaf-if false f xs item leaf e = e ∙ ap (λ ys. option_map f (last ys)) (sym (append-nil xs))
 

@@ -15,4 +15,5 @@ pub mod Seen
 pub mod Cursors
 pub mod Advance
 pub mod Liners
+pub mod Gathered
 pub mod Search

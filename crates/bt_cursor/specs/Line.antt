@@ -1,10 +1,10 @@
 -- The Line of a tree: all its entries, each before what stands below it.
-use Rattle.std.specs.Prelude.{ℕ, zero, suc, Bool, ◌==◌, List, [], ◌∷◌, map, flat_map}
+use Rattle.std.specs.Prelude.{ℕ, zero, suc, Bool, ◌==◌, List, [], ◌∷◌, map, flat_map, Option, None, Some, if◌then◌else◌}
 use Rattle.std.specs.List.{filter}
 use Rattle.apfs_model.specs.Lists.{through}
 use Rattle.bt_node.specs.Node.{level_of}
 use Rattle.bt_node.specs.Entries.{Pair, pairs_of}
-use Rattle.bt_cursor.specs.Tree.{Tree, root_place, child_place, node_at}
+use Rattle.bt_cursor.specs.Tree.{Tree, root_place, child_in, child_place, node_at}
 
 -- an item of the Line: an entry, and the level of its node
 pub record Item : Type 0 where
@@ -13,6 +13,10 @@ pub record Item : Type 0 where
 
 abbrev pub item_at : ℕ → Pair → Item
 item_at level pair = record { level = level; pair = pair }
+
+-- the id of the child to which an item leads, above the leaves
+abbrev pub child_id : Item → Option ℕ
+child_id item = if item.level == 0 then None else Some (child_in item.pair)
 
 -- an entry of a level, and the items of its child; none of those where the child isn't there
 abbrev pub line_part : {K : Type 0} → Tree K → ℕ → Pair → List Item

@@ -3,6 +3,7 @@
 
 mod cursor;
 mod fault;
+mod gathering;
 mod liner;
 mod namer;
 mod node;
@@ -16,5 +17,6 @@ mod way;
 
 pub use cursor::Cursor;
 pub use fault::WalkFault;
+pub use gathering::{GatherFault, Keeper, gather};
 pub use liner::{LineItem, Liner};
 pub use namer::{Namer, Physical};

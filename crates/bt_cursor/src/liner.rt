@@ -5,7 +5,7 @@ ghost use Rattle.bt_cursor.specs.Ahead.{IsDeep};
 
 use crate::fault::WalkFault;
 use crate::namer::Namer;
-use crate::node::{info, lend, level};
+use crate::node::{child, info, lend, level};
 use crate::seen::{Seen, fits, nothing_seen, see_next};
 use crate::start::start;
 use crate::walk::{climb, fall};
@@ -37,6 +37,8 @@ pub struct Liner<K: TreeKey, N: Namer> {
 pub struct LineItem<'a, K: TreeKey> {
     pub level: u16,
     pub pair: Entry<'a, K>,
+    /// The id of the child to which it leads; None at an item of a leaf.
+    pub child: Option<u64>,
 }
 
 impl<K: TreeKey, N: Namer> Liner<K, N> {
@@ -47,7 +49,7 @@ impl<K: TreeKey, N: Namer> Liner<K, N> {
     ghost use Rattle.obj_base.specs.Stops.{Tells, IsFree};
     ghost use Rattle.obj_base.specs.Site.{IsSiteFor};
     ghost use Rattle.bt_cursor.specs.Tree.{tree_in};
-    ghost use Rattle.bt_cursor.specs.Line.{Item, line_of};
+    ghost use Rattle.bt_cursor.specs.Line.{Item, child_id, line_of};
     ghost use Rattle.bt_cursor.specs.Met.{is_walkable};
     ghost use Rattle.bt_cursor.specs.Whole.{IsWhole};
     ghost use Rattle.bt_cursor.specs.Faults.{IsOfNodes, IsNodeFault, IsWalkFault, HasFeature};
@@ -170,10 +172,18 @@ impl<K: TreeKey, N: Namer> Liner<K, N> {
         ensures key_bytes { result.pair.key_bytes.now ≡ (item_of self.now).pair.key }
         ensures value { option_map (λ value. value.now) result.pair.value ≡ (item_of self.now).pair.value }
         ensures key { K.shape.read result.pair.key_bytes.now ≡ Some result.pair.key }
+        ensures child { result.child ≡ child_id (item_of self.now) }
     {
+        let last = self.way.last.next - 1;
+        let level = level::<K>(&self.way.last, &self.site);
         LineItem {
-            level: level::<K>(&self.way.last, &self.site),
-            pair: lend::<K>(&self.way.last, &self.site, self.way.last.next - 1),
+            level,
+            pair: lend::<K>(&self.way.last, &self.site, last),
+            child: if level == 0 {
+                None
+            } else {
+                Some(child::<K>(&self.way.last, &self.site, last))
+            },
         }
     }
 }

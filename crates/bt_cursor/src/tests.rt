@@ -1,5 +1,6 @@
 // Walks over trees that are written here.
 
+mod gathers;
 mod image;
 mod trees;
 

@@ -1,0 +1,80 @@
+// Trees whose items are gathered.
+
+use super::image::{Node, tree_image};
+use super::keys::Numbers;
+use super::{NUMBERS, PHYSICAL, SITE, leaf, root, three_levels};
+use crate::{GatherFault, Keeper, LineItem, Physical, WalkFault, gather};
+use blk_source::{MemSource, NoMemory};
+use obj_base::Stop;
+use std::alloc::Global;
+use std::test::Fail;
+
+/// The first words of the keys of leaves, and the ids of the children; an item above level 1 is refused.
+#[derive(Drop)]
+struct Words {
+    words: Vec<u64>,
+    children: Vec<u64>,
+}
+
+impl Keeper<Numbers> for Words {
+    ghost use Rattle.std.specs.Prelude.{nat_lt};
+
+    ghost refuses = { λ item. nat_lt 1 item.level };
+
+    ghost holds = { λ words items. Unit {0} };
+
+    fn keep(&mut self, item: LineItem<'_, Numbers>) -> Result<bool, NoMemory> {
+        if item.level > 1 {
+            return Ok(false);
+        }
+        let pushed = match item.child {
+            Some(child) => self.children.push(child),
+            None => self.words.push(item.pair.key.first),
+        };
+        pushed.or(Err(NoMemory)).and(Ok(true))
+    }
+}
+
+// Gathers the tree in block 1.
+fn words(alloc: Global, nodes: &[Node], fails: Vec<u64>) -> Result<Words, Stop<GatherFault>> {
+    let Ok(image) = tree_image(alloc, NUMBERS, nodes) else {
+        return Err(Stop::NoMemory);
+    };
+    if image.len() < 32768 {
+        return Err(Stop::NoMemory);
+    }
+    let mut src = MemSource::new(image, fails);
+    let none = Words {
+        words: Vec::new(alloc),
+        children: Vec::new(alloc),
+    };
+    gather::<Numbers, MemSource, Physical, Words>(alloc, &mut src, PHYSICAL, 1, &SITE, none)
+}
+
+#[test]
+fn what_items_give_is_gathered(rt: HostRuntime) -> Result<(), Fail> {
+    let alloc = rt.alloc();
+    let leaves = [leaf(&[(1, 0), (2, 0)]), leaf(&[(3, 0)])];
+    let tree = [root(1, 3, 3, &[(1, 2), (3, 3)]), leaves[0], leaves[1]];
+    match words(alloc, &tree[..], Vec::new(alloc)) {
+        Ok(kept) => {
+            assert_eq!(rt; kept.words.as_slice(), &[1, 2, 3][..]);
+            assert_eq!(rt; kept.children.as_slice(), &[2, 3][..]);
+        }
+        Err(_) => panic!(rt; "it is whole"),
+    }
+    let few = [root(1, 2, 3, &[(1, 2), (3, 3)]), leaves[0], leaves[1]];
+    let counts = Stop::Found(GatherFault::Tree(WalkFault::Counts));
+    let refused = Stop::Found(GatherFault::Refused { item: 0 });
+    for (nodes, fails, stop) in [
+        (&few[..], 0, counts),
+        (&three_levels()[..], 0, refused),
+        (&tree[..], 2, Stop::ReadFault),
+    ] {
+        match words(alloc, nodes, vec![in alloc; fails]?) {
+            Ok(_) => panic!(rt; "it is whole"),
+            Err(other) => assert_eq!(rt; other, stop),
+        }
+    }
+    Ok(())
+}
