@@ -2,6 +2,7 @@
 mod images;
 
 use crate::run::run;
+use apfs_layout::{node, object, object_map, volume};
 use blk_source::{MemSink, Opened, StdSink};
 use images::*;
 use std::alloc::Global;
@@ -176,7 +177,7 @@ const CASES: &[Case] = &[
     ("clean_volumes_none", Image::Empty, VOLUMES, 0, "", ""),
     (
         "clean_volumes_flagless",
-        Image::SmallChanged(VOLUME, VOLUME_FLAGS, &[0]),
+        Image::SmallChanged(VOLUME, volume::FS_FLAGS, &[0]),
         VOLUMES,
         0,
         SMALL_LINE,
@@ -184,7 +185,7 @@ const CASES: &[Case] = &[
     ),
     (
         "clean_volumes_renamed",
-        Image::SmallChanged(VOLUME, VOLUME_NAME, b"a\nb/\0"),
+        Image::SmallChanged(VOLUME, volume::NAME, b"a\nb/\0"),
         VOLUMES,
         0,
         RENAMED_LINE,
@@ -208,7 +209,7 @@ const CASES: &[Case] = &[
     ),
     (
         "fault_magic_volume",
-        Image::SmallChanged(VOLUME, MAGIC, b"NXSB"),
+        Image::SmallChanged(VOLUME, volume::MAGIC, b"NXSB"),
         VOLUMES,
         1,
         "",
@@ -216,7 +217,7 @@ const CASES: &[Case] = &[
     ),
     (
         "feature_container_snapshots",
-        Image::SmallChanged(MAP, MAP_SNAPSHOTS, &[1]),
+        Image::SmallChanged(MAP, object_map::SNAP_COUNT, &[1]),
         VOLUMES,
         6,
         "",
@@ -224,7 +225,7 @@ const CASES: &[Case] = &[
     ),
     (
         "feature_revert",
-        Image::SmallChanged(MAP, MAP_REVERT, &[1]),
+        Image::SmallChanged(MAP, object_map::REVERT_MIN, &[1]),
         VOLUMES,
         6,
         "",
@@ -256,7 +257,7 @@ const CASES: &[Case] = &[
     ),
     (
         "feature_sealed",
-        Image::SmallChanged(MAP_TREE, NODE_FLAGS, &[15]),
+        Image::SmallChanged(MAP_TREE, node::FLAGS, &[15]),
         VOLUMES,
         6,
         "",
@@ -264,7 +265,7 @@ const CASES: &[Case] = &[
     ),
     (
         "feature_deep",
-        Image::SmallChanged(MAP_TREE, NODE_FLAGS, &[5, 0, 16]),
+        Image::SmallChanged(MAP_TREE, node::FLAGS, &[5, 0, 16]),
         VOLUMES,
         6,
         "",
@@ -272,7 +273,7 @@ const CASES: &[Case] = &[
     ),
     (
         "fault_tree_counts",
-        Image::SmallChanged(MAP_TREE, KEY_COUNT, &[2]),
+        Image::SmallChanged(MAP_TREE, ROOT_KEY_COUNT, &[2]),
         VOLUMES,
         1,
         "",
@@ -288,7 +289,7 @@ const CASES: &[Case] = &[
     ),
     (
         "fault_bad_kind",
-        Image::SmallChanged(VOLUME, TYPE, &[14]),
+        Image::SmallChanged(VOLUME, object::TYPE, &[14]),
         VOLUMES,
         1,
         "",
@@ -296,7 +297,7 @@ const CASES: &[Case] = &[
     ),
     (
         "fault_bad_subtype",
-        Image::SmallChanged(MAP_TREE, SUBTYPE, &[12]),
+        Image::SmallChanged(MAP_TREE, object::SUBTYPE, &[12]),
         VOLUMES,
         1,
         "",
@@ -304,7 +305,7 @@ const CASES: &[Case] = &[
     ),
     (
         "fault_bad_oid",
-        Image::SmallChanged(VOLUME, OID, &[3]),
+        Image::SmallChanged(VOLUME, object::OID, &[3]),
         VOLUMES,
         1,
         "",
@@ -312,7 +313,7 @@ const CASES: &[Case] = &[
     ),
     (
         "fault_bad_xid",
-        Image::SmallChanged(VOLUME, XID, &[2]),
+        Image::SmallChanged(VOLUME, object::XID, &[2]),
         VOLUMES,
         1,
         "",
@@ -320,7 +321,7 @@ const CASES: &[Case] = &[
     ),
     (
         "fault_node_flags",
-        Image::SmallChanged(MAP_TREE, NODE_FLAGS, &[5]),
+        Image::SmallChanged(MAP_TREE, node::FLAGS, &[5]),
         VOLUMES,
         1,
         "",
@@ -328,7 +329,7 @@ const CASES: &[Case] = &[
     ),
     (
         "fault_node_bounds",
-        Image::SmallChanged(MAP_TREE, TABLE_LEN + 1, &[16]),
+        Image::SmallChanged(MAP_TREE, node::TABLE_LENGTH + 1, &[16]),
         VOLUMES,
         1,
         "",
@@ -336,7 +337,7 @@ const CASES: &[Case] = &[
     ),
     (
         "fault_node_empty",
-        Image::SmallChanged(MAP_TREE, NODE_FLAGS, &[5, 0, 1, 0, 0]),
+        Image::SmallChanged(MAP_TREE, node::FLAGS, &[5, 0, 1, 0, 0]),
         VOLUMES,
         1,
         "",
@@ -344,7 +345,7 @@ const CASES: &[Case] = &[
     ),
     (
         "fault_node_ghost",
-        Image::SmallChanged(MAP_TREE, TABLE + 2, &[255, 255]),
+        Image::SmallChanged(MAP_TREE, node::TABLE + 2, &[255, 255]),
         VOLUMES,
         1,
         "",

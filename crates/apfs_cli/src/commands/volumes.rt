@@ -3,7 +3,6 @@ ghost use Rattle.std.specs.Prelude.{◌≡◌, ◌++◌, [], List, ℕ, IfOk, Ok
 ghost use Rattle.std.specs.String.{string_bytes};
 ghost use Rattle.apfs_model.specs.Source.{IsKept};
 ghost use Rattle.obj_base.specs.Site.{IsSiteFor};
-ghost use Rattle.fs_name.specs.Normal.{names_of};
 ghost use Rattle.nx_ring.specs.Checkpoint.{site_of};
 ghost use Rattle.nx_ring.specs.Features.{container_features};
 ghost use Rattle.nx_ring.specs.Newest.{newest_of};
@@ -19,25 +18,19 @@ use crate::put::{Line, put_lines};
 use crate::shown::{identifier, push_name};
 use crate::stopped::{Stopped, stopped_by};
 use blk_source::{BlockSource, Sink};
+use fs_name::Names;
 use nx_ring::{Checkpoint, newest};
 use std::alloc::{AllocError, Global};
 use vol_view::{VolHead, heads};
 
-// The incompatible features by which a volume compares names (Volumes, Incompatible Volume Feature Flags).
-const CASE_INSENSITIVE: u64 = 1;
-
-const NORMALIZATION_INSENSITIVE: u64 = 8;
-
-// How a volume compares names, by its incompatible features.
-fn names_word(incompat: u64) -> &'static str
-    ensures { result.now ≡ texts.names_word (names_of incompat) }
+// How a volume compares names.
+fn names_word(names: Names) -> &'static str
+    ensures { result.now ≡ texts.names_word names }
 {
-    if incompat & CASE_INSENSITIVE == CASE_INSENSITIVE {
-        "folded"
-    } else if incompat & NORMALIZATION_INSENSITIVE == NORMALIZATION_INSENSITIVE {
-        "normal"
-    } else {
-        "exact"
+    match names {
+        Names::Exact => "exact",
+        Names::Normal => "normal",
+        Names::Folded => "folded",
     }
 }
 
@@ -48,7 +41,7 @@ fn before_name(alloc: Global, head: &VolHead, uuid: &str) -> Result<String, Allo
 {
     let slot = head.slot;
     let role = head.role;
-    let names = names_word(head.incompat);
+    let names = names_word(Names::of_features(head.incompat));
     let snapshots = head.snapshots;
     format!(in alloc; "{slot} {uuid} {role} {names} {snapshots} ")
 }

@@ -1,11 +1,16 @@
 // The images that the cases are run on, each one fact away from a good one.
+use apfs_layout::container::{BLOCKED, DESC_BLOCKS, INCOMPAT};
+use apfs_layout::node::{INFO_LEN, KEY_COUNT, TABLE};
+use apfs_layout::object::SUM;
 use blk_source::{MemSource, Opened};
-use img_make::{Plan, Sample, make, reseal, sample};
-use obj_base::sum64;
+use img_make::{Plan, Sample, edit, make, ring_of_four, sample, skipped_checkpoint, write};
 use std::alloc::Global;
 use std::test::Fail;
 
 const BLOCK: usize = 4096;
+
+// The superblock of the only checkpoint.
+const SUPERBLOCK: usize = 2;
 
 // Blocks of the small container: the container's object map, the only node of its tree, and the volume's superblock.
 pub const MAP: usize = 25;
@@ -14,49 +19,11 @@ pub const MAP_TREE: usize = 26;
 
 pub const VOLUME: usize = 51;
 
-// The fields that the images are changed at, by offset in their block.
-const SUM: usize = 0;
+// Where the number of keys of a root stands in its block.
+pub const ROOT_KEY_COUNT: usize = BLOCK - INFO_LEN + KEY_COUNT;
 
-pub const OID: usize = 8;
-
-pub const XID: usize = 16;
-
-pub const TYPE: usize = 24;
-
-pub const SUBTYPE: usize = 28;
-
-const FEATURES: usize = 64;
-
-const DESC_BLOCKS: usize = 104;
-
-const DESC_INDEX: usize = 136;
-
-const BLOCKED_OUT_BLOCKS: usize = 1248;
-
-pub const MAGIC: usize = 32;
-
-pub const MAP_SNAPSHOTS: usize = 36;
-
-pub const MAP_REVERT: usize = 72;
-
-pub const VOLUME_FLAGS: usize = 264;
-
-pub const VOLUME_NAME: usize = 704;
-
-// The fields of a node, and of a root's information, by offset in the block.
-pub const NODE_FLAGS: usize = 32;
-
-pub const TABLE_LEN: usize = 42;
-
-pub const KEY_COUNT: usize = 4080;
-
-// Where the table of contents begins; of each of its entries the first two bytes point to the key.
-pub const TABLE: usize = 56;
-
-const TABLE_ENTRY: usize = 4;
-
-// Where the value of the only entry of a root of level 0 begins, when it has 16 bytes.
-pub const ONLY_VALUE: usize = 4040;
+// Where the value of the only entry of a root of level 0 starts, when it has 16 bytes.
+pub const ONLY_VALUE: usize = BLOCK - INFO_LEN - 16;
 
 // What a case is run on.
 #[derive(Clone, Copy, PartialEq, Eq, Debug)]
@@ -94,91 +61,18 @@ pub enum Image {
     TwoExchanged,
 }
 
-// Writes bytes at a place.
-fn put(image: &mut [u8], at: usize, bytes: &[u8]) {
-    for (byte, place) in bytes.iter().zip(image.iter_mut().skip(at)) {
-        *place = *byte;
-    }
-}
-
-// Writes bytes at a place in a block.
-fn put_in(image: &mut [u8], block: usize, at: usize, bytes: &[u8]) {
-    if let Some(bytes_of) = image.chunks_exact_mut(BLOCK).nth(block) {
-        put(bytes_of, at, bytes);
-    }
-}
-
-// Stores the sum of a block anew.
-fn seal(image: &mut [u8], block: usize) {
-    if let Some(bytes_of) = image.chunks_exact_mut(BLOCK).nth(block) {
-        if bytes_of.len() == BLOCK {
-            reseal(bytes_of);
-        }
-    }
-}
-
-// Says in block 0 that the descriptor area isn't contiguous, by the highest bit of its number of blocks.
-fn split(image: &mut [u8]) {
-    put_in(image, 0, DESC_BLOCKS + 3, &[0x80]);
-    seal(image, 0);
-}
-
-// Copies a block to another.
-fn copy(image: &mut [u8], from: usize, to: usize) {
-    let mut bytes = [0u8; BLOCK];
-    if let Some(bytes_of) = image.chunks_exact(BLOCK).nth(from) {
-        put(&mut bytes, 0, bytes_of);
-    }
-    put_in(image, to, 0, &bytes);
-}
-
-// A superblock of a container of 256 blocks, with 8 descriptor blocks from 1 and 16 data blocks from 9.
-fn superblock(xid: u64, desc_index: u32, desc_blocks: u32) -> [u8; BLOCK] {
-    let mut block = [0u8; BLOCK];
-    put(&mut block, OID, &1u64.to_le_bytes());
-    put(&mut block, XID, &xid.to_le_bytes());
-    put(&mut block, TYPE, &0x8000_0001u32.to_le_bytes());
-    put(&mut block, MAGIC, b"NXSB");
-    put(&mut block, 36, &4096u32.to_le_bytes());
-    put(&mut block, 40, &256u64.to_le_bytes());
-    put(&mut block, 104, &desc_blocks.to_le_bytes());
-    put(&mut block, 108, &16u32.to_le_bytes());
-    put(&mut block, 112, &1u64.to_le_bytes());
-    put(&mut block, 120, &9u64.to_le_bytes());
-    put(&mut block, DESC_INDEX, &desc_index.to_le_bytes());
-    put(&mut block, 140, &2u32.to_le_bytes());
-    let sum = sum64(&block);
-    put(&mut block, SUM, &sum.to_le_bytes());
-    block
-}
-
-fn ring(alloc: Global, desc_blocks: u32) -> Result<Vec<u8>, Fail> {
-    let mut image = vec![in alloc; 0u8; 256 * BLOCK]?;
-    put(&mut image, 0, &superblock(9, 0, desc_blocks));
-    put(&mut image, 2 * BLOCK, &superblock(9, 0, 8));
-    put(&mut image, 4 * BLOCK, &superblock(6, 2, 8));
-    put(&mut image, 4 * BLOCK, &[0]);
-    put(&mut image, 6 * BLOCK, &superblock(7, 4, 8));
-    put(&mut image, 8 * BLOCK, &superblock(8, 6, 8));
-    Ok(image)
-}
-
-fn empty(alloc: Global) -> Result<Vec<u8>, Fail> {
-    let plan = Plan {
-        blocks: 256,
-        xid: 1,
-        volumes: Vec::new(alloc),
-        queued: Vec::new(alloc),
-        jumpstart: Vec::new(alloc),
-    };
-    made(alloc, &plan)
-}
-
 fn made(alloc: Global, plan: &Plan) -> Result<Vec<u8>, Fail> {
     if plan.valid() {
         return Ok(make(alloc, plan)?);
     }
     Ok(Vec::new(alloc))
+}
+
+// A container without volumes.
+fn empty(alloc: Global) -> Result<Vec<u8>, Fail> {
+    let mut plan = sample(alloc, Sample::S)?;
+    plan.volumes.clear();
+    made(alloc, &plan)
 }
 
 // A container with two volumes of the small one's kind.
@@ -191,34 +85,25 @@ fn two(alloc: Global) -> Result<Vec<u8>, Fail> {
     made(alloc, &plan)
 }
 
-// Exchanges the keys of the first two entries of a node whose keys have 16 bytes each.
-fn exchange_keys(image: &mut [u8], block: usize) {
-    put_in(image, block, TABLE, &16u16.to_le_bytes());
-    put_in(image, block, TABLE + TABLE_ENTRY, &0u16.to_le_bytes());
-    seal(image, block);
+// Says in block 0 that the descriptor area isn't contiguous, by the highest bit of its number of blocks.
+fn split(image: &mut [u8]) -> bool {
+    edit(image, BLOCK, 0, DESC_BLOCKS + 3, &[0x80])
 }
 
-// Adds a checkpoint of transaction 2: its map in block 3, its superblock in 4, its objects in 13 to 16.
-fn add_checkpoint(image: &mut [u8]) {
-    for (from, to) in [(1, 3), (2, 4), (9, 13), (10, 14), (11, 15), (12, 16)] {
-        copy(image, from, to);
-        put_in(image, to, XID, &2u64.to_le_bytes());
-    }
-    put_in(image, 3, OID, &3u64.to_le_bytes());
-    for (at, block) in [(72, 13u64), (112, 14), (152, 15), (192, 16)] {
-        put_in(image, 3, at, &block.to_le_bytes());
-    }
-    put_in(image, 4, DESC_INDEX, &2u32.to_le_bytes());
-    for block in [3, 4, 13, 14, 15, 16] {
-        seal(image, block);
-    }
+// Exchanges the places of the keys of the first two entries of a node whose keys have 16 bytes each.
+fn exchange_keys(image: &mut [u8], block: usize) -> bool {
+    edit(image, BLOCK, block, TABLE, &[16, 0]) && edit(image, BLOCK, block, TABLE + 4, &[0, 0])
 }
 
+// A good image.
 fn bytes(alloc: Global, image: Image) -> Result<Vec<u8>, Fail> {
     match image {
-        Image::RingSplit => ring(alloc, 0x8000_0008),
-        Image::Absent | Image::Ring | Image::RingCut | Image::RingShort => ring(alloc, 8),
-        Image::Empty
+        Image::Absent
+        | Image::Ring
+        | Image::RingCut
+        | Image::RingShort
+        | Image::RingSplit
+        | Image::Empty
         | Image::EmptyUnsummed
         | Image::EmptyFeatures(_)
         | Image::EmptyResizing
@@ -228,35 +113,31 @@ fn bytes(alloc: Global, image: Image) -> Result<Vec<u8>, Fail> {
     }
 }
 
-fn change(image: Image, bytes: &mut Vec<u8>) {
+// Changes it. Answers whether it has what is changed.
+fn change(image: Image, bytes: &mut [u8]) -> bool {
     match image {
-        Image::RingCut => bytes.truncate(255 * BLOCK),
-        Image::RingShort => bytes.truncate(4095),
-        Image::EmptyUnsummed => put_in(bytes, 2, SUM, &[0, 0]),
+        Image::Ring | Image::RingCut | Image::RingShort => ring_of_four(bytes),
+        Image::RingSplit => ring_of_four(bytes) && split(bytes),
+        Image::EmptyUnsummed => write(bytes, BLOCK, SUPERBLOCK, SUM, &[0, 0]),
         Image::EmptyFeatures(features) => {
-            put_in(bytes, 2, FEATURES, &features.to_le_bytes());
-            seal(bytes, 2);
+            edit(bytes, BLOCK, SUPERBLOCK, INCOMPAT, &features.to_le_bytes())
         }
-        Image::EmptyResizing => {
-            put_in(bytes, 2, BLOCKED_OUT_BLOCKS, &[1]);
-            seal(bytes, 2);
-        }
-        Image::EmptySkipped => {
-            add_checkpoint(bytes);
-            put_in(bytes, 13, SUM, &[0, 0]);
-        }
-        Image::SmallChanged(block, at, other) => {
-            put_in(bytes, block, at, other);
-            seal(bytes, block);
-        }
+        Image::EmptyResizing => edit(bytes, BLOCK, SUPERBLOCK, BLOCKED + 8, &[1]),
+        Image::EmptySkipped => skipped_checkpoint(bytes),
+        Image::SmallChanged(block, at, other) => edit(bytes, BLOCK, block, at, other),
+        Image::SmallSplit | Image::SmallCutSplit => split(bytes),
+        Image::SmallUnsummed => write(bytes, BLOCK, VOLUME, SUM, &[0, 0]),
         Image::TwoExchanged => exchange_keys(bytes, MAP_TREE),
-        Image::SmallSplit => split(bytes),
-        Image::SmallCutSplit => {
-            split(bytes);
-            bytes.truncate(255 * BLOCK);
-        }
-        Image::SmallUnsummed => put_in(bytes, VOLUME, SUM, &[0, 0]),
-        _ => {}
+        Image::Absent | Image::Empty | Image::Small => true,
+    }
+}
+
+// How many bytes of an image are handed in.
+fn length(image: Image) -> usize {
+    match image {
+        Image::RingShort => 4095,
+        Image::RingCut | Image::SmallCutSplit => 255 * BLOCK,
+        _ => 256 * BLOCK,
     }
 }
 
@@ -266,6 +147,9 @@ pub fn handed(alloc: Global, image: Image, fails: Vec<u64>) -> Result<Opened<Mem
         return Ok(Opened::Absent);
     }
     let mut bytes = bytes(alloc, image)?;
-    change(image, &mut bytes);
+    if !change(image, &mut bytes) {
+        bytes.clear();
+    }
+    bytes.truncate(length(image));
     Ok(Opened::Image(MemSource::new(bytes, fails)))
 }
