@@ -34,7 +34,8 @@ use Rattle.bt_cursor.specs.Seen.{reads_for, is_out, seen_item}
 use Rattle.bt_cursor.specs.Liners.{root_of, tree_of, item_of, is_deep, seen_of, left_of, Passes, HasItemIf, HasSeenNone, Sees, HasPassed}
 use Rattle.bt_cursor.specs.Gathered.{children_of, node_ids, shown, IsRefused, IsGatherFault, RefusesOne, SeesOrder, IsGathered, HasWalked, IsWalked, HasTaken, HasTakenAll, Takes}
 use Rattle.bt_cursor.proofs.Orders.{last-push, first-push, passes-map, leaf-if}
-use Rattle.bt_cursor.proofs.Places.{IsLevelled, whole-world, filter-all, nodes-passed}
+use Rattle.bt_cursor.proofs.Places.{IsLevelled, whole-world}
+use Rattle.bt_cursor.proofs.Walkables.{filter-all, nodes-passed}
 
 or-first : (a b : Bool) → (a || b) ≡ false → a ≡ false
 or-first true b e = e

@@ -204,11 +204,3 @@ whole-world tree root (Found Counts) levelled whole told = false≢true (sym tol
 whole-world tree root (Unsupported feature block) levelled whole told = no-gap tree root (Unsupported feature block) levelled whole.walkable told
 whole-world tree root ReadFault levelled whole told = tt
 whole-world tree root NoMemory levelled whole told = tt
-
-pub filter-all : {X : Type 0} (p : X → Bool) (xs : List X) → list_all p xs ≡ true → filter p xs ≡ xs
-filter-all p [] all = refl
-filter-all p (x ∷ xs) all = ap (λ (b : Bool). cond b (x ∷ filter p xs) (filter p xs)) (and-left (p x) (list_all p xs) all) ∙ ap (λ ys. x ∷ ys) (filter-all p xs (and-right (p x) (list_all p xs) all))
-
--- the nodes met in a walkable tree are the root and those to which the items of its Line lead
-pub nodes-passed : {K : Type 0} (tree : Tree K) (root : ℕ) (passed : List Item) → is_walkable tree root ≡ true → line_of tree root ≡ passed → length (nodes_of tree root) ≡ length (places_in passed) + 1
-nodes-passed tree root passed all line = omega (arith, ap length (filter-all (has_node tree) (places_of tree root) all), ap (λ xs. length (places_in xs)) line)

@@ -74,7 +74,7 @@ gapless-flat [] = refl
 gapless-flat (Ok item ∷ gapped) = flat-if (is_leaf_item item) item.pair (all_flat gapped) ∙ gapless-flat gapped
 gapless-flat (Err why ∷ gapped) = refl
 
-filter-all : {X : Type 0} (p : X → Bool) (xs : List X) → list_all p xs ≡ true → filter p xs ≡ xs
+pub filter-all : {X : Type 0} (p : X → Bool) (xs : List X) → list_all p xs ≡ true → filter p xs ≡ xs
 filter-all p [] all = refl
 filter-all p (x ∷ xs) all = ap (λ (b : Bool). cond b (x ∷ filter p xs) (filter p xs)) (and-first (p x) (list_all p xs) all) ∙ ap (λ ys. x ∷ ys) (filter-all p xs (and-second (p x) (list_all p xs) all))
 
