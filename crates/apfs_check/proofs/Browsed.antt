@@ -20,7 +20,6 @@ use Rattle.bt_cursor.specs.Counts.{is_counted}
 use Rattle.bt_cursor.specs.Whole.{is_whole}
 use Rattle.nx_block.specs.Super.{omap_oid_of, fs_oid_of, slots}
 use Rattle.nx_ring.specs.Checkpoint.{Seen, site_of}
-use Rattle.nx_ring.specs.Features as ring
 use Rattle.nx_ring.specs.Newest.{newest_of}
 use Rattle.omap_map.specs.Fields.{snap_count_of, tree_of, snap_tree_of}
 use Rattle.omap_map.specs.Features.{is_reverting, map_features, snapshot_features, container_features, mapping_features}
@@ -52,10 +51,9 @@ use Rattle.apfs_model.proofs.BoolTests.{test_or, left-true, right-true, both-tru
 use Rattle.reach_sweep.proofs.Nexts.{in-next, in-unless}
 use Rattle.reach_sweep.proofs.Sounds.{map_naming, map-live, container-map-sound}
 use Rattle.reach_sweep.proofs.Refutes as reached
-use Rattle.view_rules.specs.Rules.{HasTreeRules}
 use Rattle.view_rules.specs.declared.profile.Profile.{Profile}
 use Rattle.view_rules.specs.declared.profile.Profile.TheVariants.{Strict}
-use Rattle.apfs_check.specs.Volumes.{volume_of, volume_ranges}
+use Rattle.apfs_check.specs.Volumes.{volume_of}
 use Rattle.apfs_check.specs.Data.{HasRightData}
 use Rattle.apfs_check.specs.WellFormed.{HasAgreement, HasViewRules, IsWellFormed}
 use Rattle.apfs_model.proofs.Inside.{inside-itself}

@@ -1,8 +1,7 @@
 -- What a scan of an extent reference tree tells is present in the container, where the root is that of a volume or of a snapshot.
-use Rattle.std.proofs.Common.{◌≡◌, ℕ, zero, suc, ◌<◌, Bool, true, false, ◌==◌, List, [], ◌∷◌, ◌++◌, length, filter, Option, Ok, inl, inr, refl, ap, sym, ◌∙◌, subst, arith}
-use Rattle.std.specs.Prelude.{slice_get, flat_map}
+use Rattle.std.proofs.Common.{◌≡◌, ℕ, true, false, ◌==◌, List, ◌∷◌, ◌++◌, filter, Ok, inl, inr, refl, sym, subst}
 use Rattle.apfs_model.specs.Blocks.{in_container}
-use Rattle.apfs_model.specs.Lists.{In, through, passes}
+use Rattle.apfs_model.specs.Lists.{In}
 use Rattle.obj_base.specs.declared.stop.Feature.{Feature}
 use Rattle.obj_base.specs.declared.stop.Stop.TheVariants as stops
 use Rattle.obj_base.specs.declared.stop.Within.TheVariants.{Physical}

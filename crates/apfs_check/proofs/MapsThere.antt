@@ -13,7 +13,7 @@ use Rattle.obj_base.specs.declared.stop.Stop.TheVariants as stops
 use Rattle.obj_base.specs.declared.stop.Within.TheVariants.{Physical}
 use Rattle.bt_node.specs.declared.fault.NodeFault.TheVariants as nodes
 use Rattle.obj_base.specs.declared.site.Site.{Site}
-use Rattle.bt_keys.specs.Shapes.{omap_shape, omap_snap_shape, snap_shape}
+use Rattle.bt_keys.specs.Shapes.{omap_shape, omap_snap_shape}
 use Rattle.bt_cursor.specs.declared.fault.WalkFault.{WalkFault}
 use Rattle.bt_cursor.specs.Faults.{IsWalkFault}
 use Rattle.nx_ring.specs.Checkpoint.{Seen, site_of}

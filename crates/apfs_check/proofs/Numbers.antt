@@ -1,5 +1,5 @@
 -- The numbers of a report are well defined: they are there, and there is one of each.
-use Rattle.std.proofs.Common.{◌≡◌, ℕ, zero, suc, ◌+◌, ◌-◌, ◌<◌, ◌≤◌, Bool, true, false, cond, List, [], ◌∷◌, length, filter, Option, Some, None, Ok, Result, inl, inr, refl, ap, sym, ◌∙◌, subst, arith}
+use Rattle.std.proofs.Common.{◌≡◌, ℕ, ◌-◌, ◌<◌, Bool, List, [], ◌∷◌, length, filter, Option, Some, None, Ok, Result, inl, inr, refl, ap, sym, ◌∙◌, subst, arith}
 use Rattle.std.specs.Prelude.{flat_map}
 use Rattle.std.specs.List.{range_with_len}
 use Rattle.apfs_model.specs.Counts.{given}
@@ -12,7 +12,6 @@ use Rattle.vol_view.specs.Heads.{heads_of}
 use Rattle.reach_sweep.specs.Naming.{Object, Newest, Naming}
 use Rattle.reach_sweep.specs.Resolved.{Found, resolved}
 use Rattle.reach_sweep.specs.Live.{IsLive, IsNamed, newest, named}
-use Rattle.apfs_model.specs.Apart.{Apart}
 use Rattle.reach_sweep.specs.Tally.{IsNumberOf, IsOwnedBlock}
 use Rattle.reach_sweep.specs.Accounted.{IsAccounted}
 use Rattle.apfs_model.proofs.BoolTests.{in-range, from-range}

@@ -4,7 +4,7 @@ use Rattle.std.specs.Prelude.{◌↔◌}
 use Rattle.apfs_model.specs.Lists.{In}
 use Rattle.obj_base.specs.declared.site.Site.{Site}
 use Rattle.fs_record.specs.declared.fault.NamedAt.{NamedAt}
-use Rattle.nx_ring.specs.Checkpoint.{Seen, site_of}
+use Rattle.nx_ring.specs.Checkpoint.{site_of}
 use Rattle.vol_view.specs.Heads.{heads_of}
 use Rattle.vol_view.specs.Views.{views_of}
 use Rattle.vol_view.specs.Volumes.{Loaded}
@@ -25,7 +25,7 @@ use Rattle.apfs_check.specs.declared.fault.Fault.{Fault}
 use Rattle.apfs_check.specs.declared.fault.Fault.TheVariants.{BlockZero, Truncated, NoCheckpoint, Unsound, Unnamed, NamedTwice, OwnedTwice, Outside, UnusedMapping, Leaked, Missing, PoolLeaked, PoolMissing, SpaceGeometry, SpaceCab, SpaceCib, SpaceIndex, SpacePlace, SpaceFreeCount, SpaceFreeTotal, PoolCount, PoolIndex, PoolPlace, SnapRecord, SnapCount, SnapName, OmapSnaps, TreeOrder, TreeCounts, Order, Counts, TreeRecord, Record, DupName, Hash, NoParent, NoInode, KindMismatch, DirNames, Unreached, Children, Links, SiblingLost, ExtentOrder, ExtentPlace, ExtentUncovered, LinkTarget, Stream, AttrOwner, NameHash, DataUnreached, DataCount}
 use Rattle.apfs_check.specs.Volumes.{volume_of, volume_ranges}
 use Rattle.apfs_check.specs.Data.{unreached_in, miscounted_in, HasRightData}
-use Rattle.apfs_check.specs.Notes.{of_views, of_volumes, view_hash_notes, unreached_note, unreached_notes, count_note, count_notes}
+use Rattle.apfs_check.specs.Notes.{of_views, view_hash_notes, unreached_note, unreached_notes, count_note, count_notes}
 use Rattle.apfs_check.specs.Present.{IsPresent}
 use Rattle.apfs_check.specs.WellFormed.{IsWellFormed}
 use Rattle.apfs_model.proofs.Empty.{map-none, flat-none, none-flat}

@@ -1,6 +1,6 @@
 -- What a walk over a tree of an image tells of named objects: over the trees of views, of object maps and of snapshots.
-use Rattle.std.proofs.Common.{◌≡◌, ℕ, Bool, true, false, List, map, Option, Some, None, refl, ap, sym, ◌∙◌, subst, if◌then◌else◌}
-use Rattle.std.specs.Prelude.{option_map, option_and_then}
+use Rattle.std.proofs.Common.{◌≡◌, ℕ, Bool, true, false, List, refl, ap, sym, ◌∙◌, subst}
+use Rattle.std.specs.Prelude.{option_and_then}
 use Rattle.apfs_model.specs.Blocks.{in_container}
 use Rattle.obj_base.specs.declared.stop.Feature.{Feature}
 use Rattle.obj_base.specs.declared.stop.Stop.{Stop}
@@ -8,7 +8,7 @@ use Rattle.obj_base.specs.declared.stop.Stop.TheVariants.{Found as Fails, Unsupp
 use Rattle.obj_base.specs.declared.stop.Within.TheVariants.{Volume}
 use Rattle.bt_node.specs.declared.fault.NodeFault.{NodeFault}
 use Rattle.obj_base.specs.declared.site.Site.{Site}
-use Rattle.bt_keys.specs.Shapes.{omap_shape, omap_snap_shape, ext_shape, snap_shape, fs_shape, fs_plain_shape}
+use Rattle.bt_keys.specs.Shapes.{fs_shape, fs_plain_shape}
 use Rattle.bt_keys.specs.declared.record_key.FsKey.{FsKey}
 use Rattle.bt_keys.specs.declared.record_key.FsPlainKey.{FsPlainKey}
 use Rattle.bt_cursor.specs.declared.fault.WalkFault.{WalkFault}
@@ -16,10 +16,7 @@ use Rattle.bt_cursor.specs.declared.fault.WalkFault.TheVariants as walks
 use Rattle.bt_cursor.specs.Tree.{Tree, block_named}
 use Rattle.bt_cursor.specs.Faults.{HasGap}
 use Rattle.nx_ring.specs.Checkpoint.{Seen, site_of}
-use Rattle.omap_map.specs.Resolve.{resolved as resolves, resolve, place_of, named_by}
-use Rattle.omap_map.specs.Maps.{map_records, is_whole_map, resolved_in, named_in}
-use Rattle.omap_map.specs.declared.records.OmapRecord.{OmapRecord}
-use Rattle.omap_map.specs.declared.records.Place.{Place}
+use Rattle.omap_map.specs.Maps.{named_in}
 use Rattle.fs_name.specs.Normal.{are_hashed}
 use Rattle.vol_view.specs.Volumes.{map_block_of, loaded_of}
 use Rattle.vol_view.specs.Views.{view_named, hashed_tree, plain_tree, FactBy, IsViewFault, IsViewFeature}
@@ -27,12 +24,11 @@ use Rattle.vol_view.specs.declared.head.VolHead.{VolHead}
 use Rattle.vol_view.specs.declared.volume.View.{View}
 use Rattle.vol_view.proofs.Maps.{named-in_image}
 use Rattle.reach_sweep.specs.declared.fault.Why.TheVariants.{Node}
-use Rattle.reach_sweep.specs.Naming.{ViewAt, ByBlock, InView, Object, InBlock, OfRecord, MapRecords, MapSnapshots, ExtentRefs, SnapMetadata, Files}
-use Rattle.reach_sweep.specs.Resolved.{standing, recorded, found_virtual}
+use Rattle.reach_sweep.specs.Naming.{ViewAt, InView, Files}
+use Rattle.reach_sweep.specs.Resolved.{found_virtual}
 use Rattle.reach_sweep.specs.Features.{HasFeature}
 use Rattle.reach_sweep.specs.Faults.{IsUnsound, IsUnnamed}
 use Rattle.apfs_check.specs.Volumes.{volume_of}
-use Rattle.apfs_model.proofs.Inside.{inside-same}
 use Rattle.reach_sweep.proofs.Walks.{Matches, IsWalkOf, IsRootNaming, Told, gap-told}
 use Rattle.reach_sweep.proofs.Looks.{virtual-match}
 use Rattle.apfs_check.proofs.Named.{IsViewNamed}

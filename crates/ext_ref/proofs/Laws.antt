@@ -1,10 +1,6 @@
 -- Where an extent reference tree is right, nothing that could be named of it is there.
-use Rattle.std.specs.Prelude.{◌≡◌, ℕ, zero, suc, Bool, true, false, not, ◌&&◌, ◌||◌, ◌==◌, List, [], ◌∷◌, slice_get}
-use Rattle.std.specs.List.{list_any}
-use Rattle.std.proofs.Common.{arith}
-use Rattle.std.proofs.lemmas.Grind.{common_steps}
+use Rattle.std.specs.Prelude.{◌≡◌, ℕ, true, false, ◌==◌, List}
 use Rattle.apfs_model.specs.Blocks.{in_container}
-use Rattle.apfs_model.specs.Lists.{passes}
 use Rattle.apfs_model.proofs.BoolTests.{denied, former-true, latter-true}
 use Rattle.apfs_model.proofs.Searches.{any-passes}
 use Rattle.obj_base.specs.declared.stop.Feature.{Feature}

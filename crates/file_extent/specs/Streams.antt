@@ -1,5 +1,5 @@
 -- The bytes of a stream (Data Streams).
-use Rattle.std.specs.Prelude.{ℕ, ◌+◌, ◌-◌, ◌/◌, ◌%◌, List, [], map, min, slice_index, Option, None, Some, if◌then◌else◌}
+use Rattle.std.specs.Prelude.{ℕ, ◌+◌, ◌-◌, ◌/◌, ◌%◌, List, map, min, slice_index, Option, None, Some, if◌then◌else◌}
 use Rattle.std.specs.List.{range_with_len, find}
 use Rattle.apfs_model.specs.Blocks.{block_of}
 use Rattle.bt_node.specs.Entries.{Pair}

@@ -1,6 +1,6 @@
 -- Paths, listings and trees on small lists of facts.
-use Rattle.std.proofs.Common.{◌≡◌, ℕ, ◌*◌, true, false, List, [], ◌∷◌, Some, None, Result, Ok, Err, inr, refl, ap, ap₂, arith, cond, zero, suc}
-use Rattle.std.specs.Prelude.{codes, pos, ◌++◌, bytes_eq, nat_lt}
+use Rattle.std.proofs.Common.{◌≡◌, ℕ, ◌*◌, true, false, List, [], ◌∷◌, Some, None, Result, Ok, Err, inr, refl, ap, ap₂, arith, cond}
+use Rattle.std.specs.Prelude.{codes, pos, ◌++◌, bytes_eq}
 use Rattle.std.specs.Fmt.{digits}
 use Rattle.apfs_model.specs.Blocks.{block_of}
 use Rattle.fs_name.specs.Normal.{is_same_name}

@@ -11,10 +11,8 @@ use Rattle.bt_node.specs.Entries.{Pair}
 use Rattle.fs_name.specs.declared.naming.Names.{Names}
 use Rattle.fs_record.specs.Inodes.{Inode, inode_kind}
 use Rattle.fs_record.specs.Entries.{Entry}
-use Rattle.fs_record.specs.Attributes.{Body, Attribute}
-use Rattle.fs_record.specs.Attributes.Body.{Embedded, Streamed}
+use Rattle.fs_record.specs.Attributes.{Attribute}
 use Rattle.fs_record.specs.Facts.{Fact, is_reserved, root_id, first_user_id, regular_kind}
-use Rattle.fs_record.specs.declared.inode_view.StreamSize.{StreamSize}
 use Rattle.apfs_model.specs.Bytes.{has_flag}
 use Rattle.file_extent.specs.Streams.{extents_for, stream_bytes}
 use Rattle.view_rules.specs.Facts.{Facts, facts_in, inode_at, has_inode, is_directory, has_directory, does_count, names_file, entry_count, entry_count_in}

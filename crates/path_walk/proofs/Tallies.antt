@@ -1,11 +1,10 @@
 -- How many items of a list pass a test.
 use Rattle.std.proofs.Common.{◌≡◌, ℕ, ◌+◌, ◌≤◌, Bool, true, false, cond, List, [], ◌∷◌, ◌++◌, length, map, Option, Some, None, ◌⊎◌, inl, inr, refl, ap, sym, ◌∙◌, arith}
-use Rattle.std.specs.Prelude.{filter, filter_map, option_map, count_by, not, ◌&&◌, ◌||◌, ◌==◌}
+use Rattle.std.specs.Prelude.{filter, filter_map, option_map, count_by}
 use Rattle.std.specs.List.{cons_option}
 use Rattle.std.proofs.lemmas.Bool.{false≢true}
-use Rattle.std.proofs.lemmas.Bool.Decides.{Decides-eqb}
 use Rattle.std.proofs.lemmas.List.Sums.{sum_by-cons}
-use Rattle.apfs_model.specs.Lists.{In, has}
+use Rattle.apfs_model.specs.Lists.{In}
 use Rattle.apfs_model.proofs.Searches.{from-filter, filter-test}
 use Rattle.path_walk.specs.Order.{is_after, put_in, by_name}
 

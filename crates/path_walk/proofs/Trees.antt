@@ -1,27 +1,21 @@
 -- A tree of a view that meets its rules enters no directory twice, and the number of entries is no bound on it.
-use Rattle.std.proofs.Common.{◌≡◌, ℕ, zero, suc, ◌+◌, ◌≤◌, Bool, true, false, cond, List, [], ◌∷◌, ◌++◌, length, map, Option, Some, ◌⊎◌, inl, inr, refl, ap, sym, ◌∙◌, subst, arith, ◌<◌}
-use Rattle.std.specs.Prelude.{filter, filter_map, option_map, not, ◌&&◌, ◌==◌, nat_le}
-use Rattle.std.specs.List.{find}
-use Rattle.std.proofs.lemmas.Bool.{cases_eq, cases_lt, leb-true}
+use Rattle.std.proofs.Common.{◌≡◌, ℕ, zero, suc, ◌+◌, ◌≤◌, Bool, true, false, cond, List, [], ◌∷◌, ◌++◌, length, map, Some, ◌⊎◌, inl, inr, refl, ap, sym, ◌∙◌, subst, arith, ◌<◌}
+use Rattle.std.specs.Prelude.{filter, not, ◌&&◌, ◌==◌}
+use Rattle.std.proofs.lemmas.Bool.{cases_lt}
 use Rattle.std.proofs.lemmas.Bool.Decides.{Decides-eqb}
 use Rattle.apfs_model.specs.Lists.{In, has}
 use Rattle.apfs_model.specs.Apart.{Apart}
-use Rattle.fs_record.specs.Inodes.{Inode}
 use Rattle.fs_record.specs.Entries.{Entry}
-use Rattle.fs_record.specs.Facts.{Fact, all_for, is_reserved, first_user_id}
-use Rattle.view_rules.specs.Facts.{Facts, inode_at, is_directory, does_count, names_file, entry_count, entry_count_in}
-use Rattle.view_rules.specs.Directories.{is_user_directory, is_misnamed, HasDirNames, HasWays, parent_at, Leads}
+use Rattle.fs_record.specs.Facts.{Fact, is_reserved}
+use Rattle.view_rules.specs.Facts.{Facts, inode_at, does_count, names_file, entry_count}
+use Rattle.view_rules.specs.Directories.{HasDirNames, HasWays, parent_at}
 use Rattle.apfs_model.proofs.BoolTests.{test_or}
-use Rattle.apfs_model.proofs.Searches.{found-in}
 use Rattle.view_rules.proofs.Ways.{trapped}
-use Rattle.path_walk.specs.Places.{Place, placed}
-use Rattle.path_walk.specs.Found.{entries_in, place_by}
-use Rattle.path_walk.specs.Listing.{children}
 use Rattle.path_walk.specs.Paths.{slash}
-use Rattle.path_walk.specs.Tree.{Row, is_opened, row_after, rows_of, rows_under, rows_from, rows_below}
-use Rattle.apfs_model.proofs.BoolTests.{both-true, left-true, right-true, not-true, false-not, not-false, clash, never-true}
-use Rattle.apfs_model.proofs.Searches.{in-has, has-in, from-map, in-append}
-use Rattle.path_walk.proofs.Tallies.{tally, tally-is, tally-cons, tally-nil, tally-append, tally-in, tally-all, tally-le, tally-apart, tally-map, tally-kept, tally-given, tally-by, in-kept, in-given, in-by, mapped-at}
+use Rattle.path_walk.specs.Tree.{Row, is_opened, rows_of, rows_under, rows_from, rows_below}
+use Rattle.apfs_model.proofs.BoolTests.{both-true, left-true, right-true, not-true, false-not, clash, never-true}
+use Rattle.apfs_model.proofs.Searches.{in-has, has-in, in-append}
+use Rattle.path_walk.proofs.Tallies.{tally, tally-is, tally-cons, tally-nil, tally-append, tally-in, tally-all, tally-le, tally-apart}
 use Rattle.path_walk.proofs.Rows.{rows-tally, place-file, rows-from, some-same, IsNamed, opened-named}
 
 -- a row leads to an id

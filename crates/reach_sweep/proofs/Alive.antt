@@ -4,7 +4,6 @@ use Rattle.std.specs.Prelude.{option_map, option_and_then}
 use Rattle.std.specs.List.{flat_map, range_with_len, find}
 use Rattle.apfs_model.specs.Lists.{In, Lists, through}
 use Rattle.apfs_model.specs.Blocks.{in_container}
-use Rattle.obj_base.specs.declared.stop.Feature.{Feature}
 use Rattle.obj_base.specs.declared.stop.Within.TheVariants.{Ephemeral}
 use Rattle.bt_node.specs.Entries.{Pair, bytes_in}
 use Rattle.bt_node.specs.Node.{level_of}
@@ -19,7 +18,6 @@ use Rattle.vol_view.specs.SnapRecords.{is_snapshot_long, snap_extents_of}
 use Rattle.space_map.specs.Fields.{cabs_of, cibs_of, pool_queue_of, main_queue_of}
 use Rattle.space_map.specs.Blocks.{manager_of}
 use Rattle.space_pool.specs.declared.entry.Queue.TheVariants.{Pool, Main}
-use Rattle.reach_sweep.specs.declared.fault.ReachFault.{ReachFault}
 use Rattle.reach_sweep.specs.declared.fault.ReachFault.TheVariants.{NamedTwice}
 use Rattle.reach_sweep.specs.Naming.{ViewAt, LookUp, ByBlock, ByMapping, InContainer, InView, Object, Newest, OfId, Namer, Whole, Kept, TreeKind, MapRecords, MapSnapshots, ExtentRefs, SnapMetadata, FreeQueue, Files, Expected, SpaceManager, ContainerMap, ReaperObject, ReapList, Jumpstart, VolumeIn, VolumeMap, ExtendedMetadata, SnapshotSuper, AddressBlock, InfoBlock, TreeRoot, TreeNode, Naming, naming}
 use Rattle.reach_sweep.specs.Resolved.{Found, resolved, standing, is_node, mapped, mapped_node, found_ephemeral}
@@ -27,8 +25,7 @@ use Rattle.space_pool.specs.Queues.{one_block}
 use Rattle.reach_sweep.specs.Tested.{Answer, tested}
 use Rattle.reach_sweep.specs.Next.{roots, next, names, names_if, unless_zero, slot_namings, map_namings, live_view, past_view, view_namings, record_namings, snapshot_namings, snapshots_namings, records_of_snapshots, address_naming, addresses_in, address_namings, cib_naming, cab_namings, cibs_in, children_in, child_namings, node_namings}
 use Rattle.reach_sweep.specs.Live.{Live, rooted, led, IsLive}
-use Rattle.reach_sweep.specs.Features.{HasFeature}
-use Rattle.reach_sweep.specs.Faults.{Present, IsNamedTwice}
+use Rattle.reach_sweep.specs.Faults.{IsNamedTwice}
 use Rattle.apfs_model.proofs.BoolTests.{equal-from}
 use Rattle.apfs_model.proofs.Searches.{in-map, from-map}
 use Rattle.reach_sweep.specs.Laws.{Flawed}

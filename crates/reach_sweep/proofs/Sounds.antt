@@ -1,5 +1,5 @@
 -- What a live naming of a sound object says of the object.
-use Rattle.std.proofs.Common.{◌≡◌, ℕ, Bool, true, false, ◌&&◌, nat_lt, List, Option, Some, None, Result, Ok, Err, is_ok, inl, inr, refl, ap, sym, ◌∙◌, subst, if◌then◌else◌}
+use Rattle.std.proofs.Common.{◌≡◌, ℕ, true, List, Option, Some, None, Result, Ok, Err, is_ok, inl, inr, refl, ap, sym, ◌∙◌, subst}
 use Rattle.std.specs.Prelude.{option_map, option_and_then, is_some}
 use Rattle.apfs_model.specs.Blocks.{block_of, in_container}
 use Rattle.apfs_model.specs.Object.{cab_kind, cib_kind, map_kind}

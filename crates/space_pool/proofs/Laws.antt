@@ -1,9 +1,9 @@
 -- Where the pool's bitmap and a queue are right, nothing that could be named of them is there.
-use Rattle.std.specs.Prelude.{◌≡◌, ℕ, ◌<◌, zero, suc, Bool, true, false, not, ◌&&◌, ◌||◌, ◌==◌, nat_lt, List, [], ◌∷◌, slice_get}
-use Rattle.std.specs.List.{range_with_len, list_any, list_all}
+use Rattle.std.specs.Prelude.{◌≡◌, ℕ, ◌<◌, Bool, true, false, ◌&&◌, ◌==◌, nat_lt, List, [], ◌∷◌}
+use Rattle.std.specs.List.{range_with_len, list_all}
 use Rattle.std.proofs.Common.{arith, subst, sym, inl, inr}
 use Rattle.std.proofs.lemmas.Grind.{common_steps}
-use Rattle.apfs_model.specs.Lists.{In, passes}
+use Rattle.apfs_model.specs.Lists.{In}
 use Rattle.apfs_model.proofs.BoolTests.{clash, denied, left-true, right-true, former-true, latter-true}
 use Rattle.apfs_model.proofs.Searches.{any-passes}
 use Rattle.apfs_model.proofs.Ranges.{all_fails}

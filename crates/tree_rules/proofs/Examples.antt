@@ -1,6 +1,6 @@
 -- The notes of a small view.
-use Rattle.std.proofs.Common.{◌≡◌, ℕ, ◌*◌, true, false, List, [], ◌∷◌, map, None, refl}
-use Rattle.std.specs.Prelude.{ℤ, pos, codes}
+use Rattle.std.proofs.Common.{◌≡◌, ℕ, ◌*◌, true, false, [], ◌∷◌, map, None, refl}
+use Rattle.std.specs.Prelude.{pos, codes}
 use Rattle.fs_name.specs.Text.{is_ascii_name}
 use Rattle.fs_name.specs.declared.naming.Names.TheVariants.{Exact}
 use Rattle.fs_record.specs.Inodes.{Inode}

@@ -1,7 +1,6 @@
 -- Where a volume can be loaded, nothing that `load` could name of it is there.
-use Rattle.std.specs.Prelude.{◌≡◌, ◌⊎◌, ℕ, Bool, true, false, ◌&&◌, ◌||◌, ◌==◌, List, [], None, Some, is_ok, is_some}
-use Rattle.std.proofs.Common.{arith, ap, sym, subst, inl, inr}
-use Rattle.std.proofs.lemmas.Grind.{common_steps}
+use Rattle.std.specs.Prelude.{◌≡◌, ◌⊎◌, ℕ, true, false, ◌==◌, List, [], None, Some, is_ok, is_some}
+use Rattle.std.proofs.Common.{ap, sym, subst, inl, inr}
 use Rattle.apfs_model.specs.Blocks.{in_container}
 use Rattle.apfs_model.specs.Lists.{In}
 use Rattle.apfs_model.proofs.BoolTests.{clash, left-true, right-true, other-true}
