@@ -3,5 +3,6 @@ pub mod Laws
 pub mod Splits
 pub mod Examples
 pub mod Orders
-pub mod Walked
+pub mod Kept
+pub mod Objects
 pub mod Loads

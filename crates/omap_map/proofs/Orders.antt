@@ -1,11 +1,11 @@
 -- The records of a Line in order ascend.
-use Rattle.std.specs.Prelude.{◌≡◌, ◌&&◌, ◌||◌, ◌==◌, Bool, true, false, cond, List, [], ◌∷◌, ◌++◌, length, slice_index_or, Option, None, Some, refl, map, option_map, option_and_then}
-use Rattle.std.specs.List.{cons_option}
-use Rattle.std.proofs.Common.{arith, ap, sym, subst, append-nil}
+use Rattle.std.specs.Prelude.{◌≡◌, ℕ, is_none, ◌&&◌, ◌||◌, ◌==◌, Bool, true, false, cond, List, [], ◌∷◌, ◌++◌, length, slice_index_or, Option, None, Some, refl, map, option_map, option_and_then}
+use Rattle.std.specs.List.{cons_option, filter}
+use Rattle.std.proofs.Common.{arith, ap, sym, subst, ◌∙◌, append-nil, append_assoc}
 use Rattle.std.proofs.lemmas.Bool.Decides.{nat_tests}
-use Rattle.std.proofs.lemmas.List.Elements.{All-push}
+use Rattle.std.proofs.lemmas.List.Elements.{All-push, filter-append, filter_map-append}
 use Rattle.std.proofs.lemmas.List.Quantifiers.{all_pairs_push}
-use Rattle.apfs_model.specs.Lists.{passes}
+use Rattle.apfs_model.specs.Lists.{last, passes}
 use Rattle.bt_node.specs.declared.key.Rank.{Rank}
 use Rattle.bt_node.specs.Rank.{is_below, is_same_rank}
 use Rattle.bt_node.specs.Entries.{Pair, bytes_in}
@@ -13,15 +13,12 @@ use Rattle.bt_keys.specs.Shapes.{rank3, omap_shape}
 use Rattle.bt_keys.specs.Values.{omap_value_of}
 use Rattle.bt_keys.specs.declared.number_key.OmapKey.{OmapKey}
 use Rattle.bt_keys.specs.declared.values.OmapValue.{OmapValue}
-use Rattle.bt_keys.specs.contracts.number_key.OmapKeyTreeKey.TheImpl.{ghosts as omap_ghosts}
-use Rattle.bt_cursor.specs.declared.namer.Namer as namers
-use Rattle.bt_cursor.specs.declared.liner.Liner.{Liner}
-use Rattle.bt_cursor.specs.declared.seen.Seen.{Seen}
-use Rattle.bt_cursor.specs.Liners.{item_of, seen_of, Sees}
-use Rattle.bt_cursor.specs.Line.{Item, is_leaf_item}
-use Rattle.bt_cursor.specs.Order.{rank_of, rank_or_least, is_strict_leaf}
+use Rattle.bt_cursor.specs.Line.{Item, is_leaf_item, leaf_pairs}
+use Rattle.bt_cursor.proofs.Lines.{leaf_pairs-append}
+use Rattle.bt_cursor.proofs.Orders.{last-push, first-if, passes-map, leaf-if}
+use Rattle.bt_cursor.specs.Order.{rank_of, rank_or_least, is_strict_leaf, ranks_same, is_misplaced, first_misplaced, out_of_order, is_ordered}
 use Rattle.bt_cursor.specs.Seen.{falls_below, is_again}
-use Rattle.omap_map.specs.Records.{record_of, records_of, joined, is_before}
+use Rattle.omap_map.specs.Records.{record_of, records_of, joined, is_before, IsAscending}
 use Rattle.omap_map.specs.Gathered.{records_in, IsUpTo, IsLeafUpTo, IsOrdered}
 use Rattle.omap_map.specs.declared.records.OmapRecord.{OmapRecord}
 
@@ -123,19 +120,51 @@ ordered-more before leaf records item ordered out =
     let apart = is_strict_leaf omap_shape item && is_again (rank_of omap_shape item.pair) leaf in
     ordered-by before leaf records item (is_leaf_item item) refl ordered (or-first falls apart out) (or-second falls apart out)
 
--- before the first item
-pub ordered-start : (before leaf : Option Rank) (records : List OmapRecord) → before ≡ None → leaf ≡ None → records ≡ [] → IsOrdered before leaf records
-ordered-start before leaf records e f g = record {
-  ascending = λ i j d less low. absurd (omega (arith, ap length g));
-  upto = λ k d low. absurd (omega (arith, ap length g));
-  leaf_first = subst (λ o. IsLeafUpTo o before) (sym f) tt;
+abbrev ranked : List Item → Option Rank
+ranked items = option_map (λ (item : Item). rank_of omap_shape item.pair) (last items)
+
+-- after items in order their records ascend, and none ranks above the last of them
+abbrev IsOrderedAfter : List Item → Type 0
+IsOrderedAfter items = IsOrdered (ranked items) (ranked (filter is_leaf_item items)) (records_of (leaf_pairs items))
+
+misplaced-out : (before : List Item) (item : Item) → is_misplaced omap_shape before item ≡ (falls_below (rank_of omap_shape item.pair) (ranked before) || (is_strict_leaf omap_shape item && is_again (rank_of omap_shape item.pair) (ranked (filter is_leaf_item before))))
+misplaced-out before item =
+    let f : Item → Rank = λ (other : Item). rank_of omap_shape other.pair in
+    let rank = rank_of omap_shape item.pair in
+    ap (λ (b : Bool). b || (is_strict_leaf omap_shape item && passes (last (filter is_leaf_item before)) (ranks_same omap_shape item))) (sym (passes-map (last before) f (is_below rank)))
+    ∙ ap (λ (b : Bool). passes (ranked before) (is_below rank) || (is_strict_leaf omap_shape item && b)) (sym (passes-map (last (filter is_leaf_item before)) f (is_same_rank rank)))
+
+ordered-after : (before : List Item) (item : Item) → IsOrderedAfter before → is_misplaced omap_shape before item ≡ false → IsOrderedAfter (before ++ item ∷ [])
+ordered-after before item ordered right =
+    let f : Item → Rank = λ (other : Item). rank_of omap_shape other.pair in
+    let leaves = filter is_leaf_item before in
+    let more = ordered-more (ranked before) (ranked leaves) (records_of (leaf_pairs before)) item ordered (sym (misplaced-out before item) ∙ right) in
+    let first : ranked (before ++ item ∷ []) ≡ Some (f item) = ap (option_map f) (last-push before item) in
+    let second : ranked (filter is_leaf_item (before ++ item ∷ [])) ≡ cond (item.level == 0) (Some (f item)) (ranked leaves) =
+    ap ranked (filter-append is_leaf_item before (item ∷ [])) ∙ sym (leaf-if (is_leaf_item item) f leaves item (ranked leaves) refl) in
+    let third : records_of (leaf_pairs (before ++ item ∷ [])) ≡ records_of (leaf_pairs before) ++ records_in item = ap records_of (leaf_pairs-append before (item ∷ [])) ∙ filter_map-append record_of (leaf_pairs before) (leaf_pairs (item ∷ [])) in
+    subst (λ (o : Option Rank). IsOrdered o (ranked (filter is_leaf_item (before ++ item ∷ []))) (records_of (leaf_pairs (before ++ item ∷ [])))) (sym first)
+    (subst (λ (o : Option Rank). IsOrdered (Some (f item)) o (records_of (leaf_pairs (before ++ item ∷ [])))) (sym second)
+    (subst (IsOrdered (Some (f item)) (cond (item.level == 0) (Some (f item)) (ranked leaves))) (sym third) more))
+
+ascending-after : (before items : List Item) → IsOrderedAfter before → first_misplaced omap_shape before items ≡ None → IsAscending (records_of (leaf_pairs (before ++ items)))
+ascending-after before [] ordered none = subst (λ (is : List Item). IsAscending (records_of (leaf_pairs is))) (sym (append-nil before)) ordered.ascending
+ascending-after before (item ∷ items) ordered none =
+    let both = first-if (is_misplaced omap_shape before item) (length before) (first_misplaced omap_shape (before ++ item ∷ []) items) none in
+    subst (λ (is : List Item). IsAscending (records_of (leaf_pairs is))) (append_assoc before (item ∷ []) items)
+    (ascending-after (before ++ item ∷ []) items (ordered-after before item ordered both.0) both.1)
+
+ordered-none : IsOrderedAfter []
+ordered-none = record {
+  ascending = λ i j d less low. absurd (omega arith);
+  upto = λ k d low. absurd (omega arith);
+  leaf_first = tt;
 }
 
--- after one more item that a liner saw in order
-pub ordered-seen : {N : Type 0} {n : namers.Ghosts N} (old new : Liner OmapKey N omap_ghosts n) (records more : List OmapRecord) → IsOrdered (seen_of old).before (seen_of old).leaf records
-    → Sees old new true → more ≡ records ++ records_in (item_of new) → IsOrdered (seen_of new).before (seen_of new).leaf more
-ordered-seen old new records more ordered sees e =
-    let rank = rank_of omap_shape (item_of new).pair in
-    let next : IsOrdered (Some rank) (cond ((item_of new).level == 0) (Some rank) (seen_of old).leaf) (records ++ records_in (item_of new)) = ordered-more (seen_of old).before (seen_of old).leaf records (item_of new) ordered sees.0 in
-    subst (λ (s : Seen). IsOrdered s.before s.leaf more) (sym sees.1)
-    (subst (IsOrdered (Some rank) (cond ((item_of new).level == 0) (Some rank) (seen_of old).leaf)) (sym e) next)
+none-first : (o : Option ℕ) → is_none o ≡ true → o ≡ None
+none-first None e = refl
+none-first (Some n) e = absurd (cc)
+
+-- the records of items in order ascend
+pub ascending-ordered : (items : List Item) → is_ordered omap_shape items ≡ true → IsAscending (records_of (leaf_pairs items))
+ascending-ordered items e = ascending-after [] items ordered-none (none-first (out_of_order omap_shape items) e)

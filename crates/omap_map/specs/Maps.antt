@@ -1,5 +1,5 @@
 -- The object maps of an image.
-use Rattle.std.specs.Prelude.{◌≡◌, ◌⊎◌, ℕ, ◌+◌, Bool, true, false, ◌&&◌, ◌||◌, ◌==◌, List, [], length, is_ok, is_some, Option, None, Some, Result, Ok, Err, if◌then◌else◌}
+use Rattle.std.specs.Prelude.{◌≡◌, ◌⊎◌, ℕ, ◌+◌, Bool, true, false, ◌&&◌, ◌||◌, ◌==◌, List, [], ◌∷◌, ◌++◌, length, is_ok, is_some, Option, None, Some, Result, Ok, Err, if◌then◌else◌}
 use Rattle.apfs_model.specs.Blocks.{block_of, in_container}
 use Rattle.apfs_model.specs.Lists.{In}
 use Rattle.apfs_model.specs.Object.{map_kind}
@@ -12,6 +12,7 @@ use Rattle.obj_base.specs.declared.stop.Feature.{Feature}
 use Rattle.obj_base.specs.declared.stop.Feature.TheVariants.{Revert}
 use Rattle.obj_base.specs.declared.stop.Stop.{Stop}
 use Rattle.obj_base.specs.declared.stop.Stop.TheVariants as stops
+use Rattle.obj_base.specs.declared.stop.Unsound.{Unsound}
 use Rattle.obj_base.specs.declared.site.Site.{Site}
 use Rattle.bt_keys.specs.declared.number_key.OmapKey.{OmapKey}
 use Rattle.bt_keys.specs.declared.number_key.OmapSnapKey.{OmapSnapKey}
@@ -21,6 +22,7 @@ use Rattle.bt_cursor.specs.Flat.{flat_of}
 use Rattle.bt_cursor.specs.Met.{nodes_of}
 use Rattle.bt_cursor.specs.Faults.{IsWalkFault, HasFeature}
 use Rattle.bt_cursor.specs.Whole.{is_whole}
+use Rattle.bt_cursor.specs.Gathered.{node_ids}
 use Rattle.omap_map.specs.Fields.{snap_count_of, tree_of, snap_tree_of}
 use Rattle.omap_map.specs.Records.{records_of, snapshots_of}
 use Rattle.omap_map.specs.Resolve.{resolved, named_by}
@@ -29,11 +31,12 @@ use Rattle.omap_map.specs.declared.records.OmapRecord.{OmapRecord}
 use Rattle.omap_map.specs.declared.fault.OmapFault.{OmapFault}
 use Rattle.omap_map.specs.declared.fault.OmapFault.TheVariants.{Head, Tree as TreeFault}
 
--- what a loaded map has: its records in tree order, its snapshots, and the number of snapshots that it counts
+-- what a loaded map has: its records in tree order, its snapshots, the number of snapshots that it counts, and the blocks in which it lies
 pub record Contents : Type 0 where
   pub records : List OmapRecord
   pub snapshots : List (ℕ × ℕ)
   pub snap_count : ℕ
+  pub blocks : List ℕ
 
 -- the bytes of the map in a block
 abbrev pub map_in : List ℕ → Site → ℕ → List ℕ
@@ -68,12 +71,19 @@ map_snapshots image site block =
     if has_no_snapshots (map_in image site block) then [] else
     snapshots_of (flat_of (snapshot_tree image site) (snap_tree_of (map_in image site block)))
 
+-- the blocks of the map in a block: its own, those of the nodes of its tree, and those of the nodes of its tree of snapshots, each tree in the order of its walk; the id of a physical object is its block
+unfoldable pub map_blocks : List ℕ → Site → ℕ → List ℕ
+map_blocks image site block =
+    block ∷ (node_ids (record_tree image site) (tree_of (map_in image site block))
+    ++ (if has_no_snapshots (map_in image site block) then [] else node_ids (snapshot_tree image site) (snap_tree_of (map_in image site block))))
+
 -- what the map in a block has
 abbrev pub contents_of : List ℕ → Site → ℕ → Contents
 contents_of image site block = record {
   records = map_records image site block;
   snapshots = map_snapshots image site block;
   snap_count = snap_count_of (map_in image site block);
+  blocks = map_blocks image site block;
 }
 
 -- the tree of the snapshots is whole, where the map has one
@@ -100,6 +110,10 @@ resolved_in image site block oid x = if is_whole_map image site block then resol
 -- the block that an oid names at x through the map in a block
 unfoldable pub named_in : List ℕ → Site → ℕ → ℕ → ℕ → Option ℕ
 named_in image site block x oid = if is_whole_map image site block then named_by (map_records image site block) x site.blocks oid else None
+
+-- a test of the map's object that fails, said of the map
+abbrev pub head_fault : Unsound HeadFault → OmapFault
+head_fault unsound = Head unsound.block unsound.why
 
 -- a fault of the header is one of the map; a feature of the header stands in the map's block
 abbrev pub of_header : ℕ → Bad HeadFault → Stop OmapFault

@@ -2,13 +2,14 @@
 #![tactic(auto)]
 
 mod fault;
-mod gather;
+mod keep;
 mod namer;
 mod object;
 mod omap;
 mod records;
 #[cfg(test)]
 mod tests;
+mod trees;
 
 pub use fault::OmapFault;
 pub use namer::At;

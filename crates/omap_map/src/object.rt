@@ -1,44 +1,27 @@
 // The object of a map: its bytes, their fields and their tests (Object Maps, omap_phys_t).
-ghost use Rattle.std.specs.Prelude.{◌≡◌, ◌+◌, ◌≤◌, ◌<◌, ℕ, List, Some, length, true, IfOk, IfErr, IsErrOf};
+ghost use Rattle.std.specs.Prelude.{◌≡◌, ◌+◌, ◌≤◌, ◌<◌, ℕ, List, Some, length, IfOk, IsErrOf};
 ghost use Rattle.apfs_model.specs.Counts.{Rose};
 ghost use Rattle.apfs_model.specs.Source.{IsKept};
-ghost use Rattle.apfs_model.specs.Object.{map_kind};
-ghost use Rattle.obj_base.specs.BlockSize.{is_accepted};
-ghost use Rattle.obj_base.specs.Sound.{sound_of, expecting};
-ghost use Rattle.obj_base.specs.Stops.{Gives};
-ghost use Rattle.obj_base.specs.declared.stop.Stop.TheVariants.{ReadFault, NoMemory};
+ghost use Rattle.obj_base.specs.Stops.{Gives, raised};
+ghost use Rattle.obj_base.specs.declared.stop.Stop.TheVariants.{ReadFault};
 ghost use Rattle.obj_base.specs.Site.{IsSiteFor};
 ghost use Rattle.omap_map.specs.Fields as fields;
 ghost use Rattle.omap_map.specs.Features.{is_reverting};
-ghost use Rattle.omap_map.specs.Maps.{map_in, after_header, object_of};
+ghost use Rattle.omap_map.specs.Maps.{head_fault, object_of};
 
 use crate::OmapFault;
-use blk_read::read_new;
+use apfs_layout::{kind, object_map};
+use blk_read::read_sound;
 use blk_source::BlockSource;
-use bt_node::Site;
-use obj_base::{Bad, Expect, Feature, Stop, sound, u32_at, u64_at};
+use obj_base::{Expect, Feature, HeadFault, Site, Stop, Unsound, u32_at, u64_at};
 use std::alloc::Global;
-
-// The fields of an object map by offset, behind the object's header.
-const SNAP_COUNT: usize = 36;
-
-const TREE: usize = 48;
-
-const SNAP_TREE: usize = 56;
-
-const REVERT_MIN: usize = 72;
-
-const REVERT_MAX: usize = 80;
-
-// The kind of an object map (Objects, Object Types).
-const MAP_KIND: u16 = 0xb;
 
 #[tactic(auto, unfolding(crate::specs::Fields::snap_count_of))]
 pub(crate) fn snap_count(bytes: &[u8]) -> u32
     requires { 96 ≤ length bytes.now }
     ensures { result ≡ fields.snap_count_of bytes.now }
 {
-    u32_at(bytes, SNAP_COUNT)
+    u32_at(bytes, object_map::SNAP_COUNT)
 }
 
 #[tactic(auto, unfolding(crate::specs::Fields::tree_of))]
@@ -46,7 +29,7 @@ pub(crate) fn tree(bytes: &[u8]) -> u64
     requires { 96 ≤ length bytes.now }
     ensures { result ≡ fields.tree_of bytes.now }
 {
-    u64_at(bytes, TREE)
+    u64_at(bytes, object_map::TREE)
 }
 
 #[tactic(auto, unfolding(crate::specs::Fields::snap_tree_of))]
@@ -54,7 +37,7 @@ pub(crate) fn snap_tree(bytes: &[u8]) -> u64
     requires { 96 ≤ length bytes.now }
     ensures { result ≡ fields.snap_tree_of bytes.now }
 {
-    u64_at(bytes, SNAP_TREE)
+    u64_at(bytes, object_map::SNAP_TREE)
 }
 
 // Whether a revert of the map to a snapshot is pending.
@@ -63,39 +46,23 @@ fn is_pending(bytes: &[u8]) -> bool
     requires { 96 ≤ length bytes.now }
     ensures { result ≡ is_reverting bytes.now }
 {
-    u64_at(bytes, REVERT_MIN) != 0 || u64_at(bytes, REVERT_MAX) != 0
+    u64_at(bytes, object_map::REVERT_MIN) != 0 || u64_at(bytes, object_map::REVERT_MAX) != 0
 }
 
-// Tests the header of the map in a block, and then whether a revert is pending.
-fn test(bytes: &[u8], block: u64, site: &Site) -> Result<(), Stop<OmapFault>>
-    requires { length bytes.now ≡ 4096 }
-    ensures first { Gives (λ _. bytes.now) result (after_header block bytes.now (sound_of bytes.now (expecting map_kind (Some block) site.now.max_xid))) }
-    ensures read { IsErrOf result ReadFault → ⊥ }
-    ensures memory { IsErrOf result NoMemory → ⊥ }
+// Why the object of a map isn't sound, said of the map.
+fn raise(stop: Stop<Unsound<HeadFault>>) -> Stop<OmapFault>
+    ensures { result ≡ raised head_fault stop }
 {
-    let expect = Expect {
-        kind: MAP_KIND,
-        subtype: None,
-        oid: Some(block),
-        max_xid: site.max_xid,
-    };
-    match sound(bytes, &expect) {
-        Ok(_) => {
-            if is_pending(bytes) {
-                return Err(Stop::Unsupported {
-                    feature: Feature::Revert,
-                    block,
-                });
-            }
-            Ok(())
-        }
-        Err(Bad::Found(why)) => Err(Stop::Found(OmapFault::Head { block, why })),
-        Err(Bad::Unsupported(feature)) => Err(Stop::Unsupported { feature, block }),
+    match stop {
+        Stop::Found(Unsound { block, why }) => Stop::Found(OmapFault::Head { block, why }),
+        Stop::Unsupported { feature, block } => Stop::Unsupported { feature, block },
+        Stop::ReadFault => Stop::ReadFault,
+        Stop::NoMemory => Stop::NoMemory,
     }
 }
 
 /// The bytes of the map in a block, or the first test of its object that fails.
-#[tactic(auto, unfolding(crate::specs::Maps::object_of))]
+#[tactic(auto, using(blk_read::proofs::Sizes::accepted_size))]
 pub(crate) fn object<S: BlockSource>(
     alloc: Global,
     src: &mut S,
@@ -105,12 +72,26 @@ pub(crate) fn object<S: BlockSource>(
     requires site { IsSiteFor site.now (S.bytes_len src.old) }
     requires below { block < site.now.blocks }
     ensures found { (image : List ℕ) → S.bytes src.old ≡ Some image → Gives (λ bytes. bytes.items) result (object_of image site.now block) }
-    ensures long { IfOk result (λ bytes. length bytes.items ≡ 4096) }
+    ensures long { IfOk result (λ bytes. 96 ≤ length bytes.items) }
     ensures reads { S.reads src.new ≤ S.reads src.old + 1 }
     ensures cause { IsErrOf result ReadFault → Rose (S.faults src.old) (S.faults src.new) }
     ensures kept { IsKept S.bytes S.bytes_len S.faults src.old src.new }
 {
-    let bytes = read_new(alloc, src, block, site.block_size)?;
-    test(&bytes, block, site)?;
+    let expect = Expect {
+        kind: kind::OBJECT_MAP,
+        subtype: None,
+        oid: Some(block),
+        max_xid: site.max_xid,
+    };
+    let bytes = match read_sound(alloc, src, site, block, &expect) {
+        Ok(bytes) => bytes,
+        Err(stop) => return Err(raise(stop)),
+    };
+    if is_pending(&bytes) {
+        return Err(Stop::Unsupported {
+            feature: Feature::Revert,
+            block,
+        });
+    }
     Ok(bytes)
 }

@@ -1,25 +1,26 @@
 // An object map, and what its records resolve to.
-ghost use Rattle.std.specs.Prelude.{◌≡◌, ◌≤◌, length, true, false};
+ghost use Rattle.std.specs.Prelude.{◌≡◌, ◌≤◌, ◌==◌, length, true, false, [], ◌∷◌, ◌++◌, OnOk, IfOk, IfErr, if◌then◌else◌};
+ghost use Rattle.obj_base.specs.declared.stop.Stop.TheVariants.{NoMemory};
 ghost use Rattle.std.specs.List.Sorted.{IsPartitionPoint};
 ghost use Rattle.omap_map.specs.Records.{IsAscending};
 ghost use Rattle.omap_map.specs.Search.{is_by};
 ghost use Rattle.omap_map.specs.Resolve as spec;
 
-use crate::gather::{records, snapshots_if};
 use crate::object::{object, snap_count, snap_tree, tree};
+use crate::trees::{records, snapshots_if};
 use crate::{OmapFault, OmapRecord, Place};
 use blk_source::BlockSource;
-use bt_node::Site;
-use obj_base::Stop;
+use obj_base::{Site, Stop};
 use std::alloc::Global;
 use std::marker::Model;
 
-/// An object map that was loaded: its records in tree order, and its snapshots.
+/// An object map that was loaded: its records in tree order, its snapshots, and the blocks in which it lies.
 #[derive(Drop)]
 pub struct Omap {
     records: Vec<OmapRecord>,
     snapshots: Vec<(u64, u32)>,
     snap_count: u32,
+    blocks: Vec<u64>,
 }
 
 impl Model for Omap {
@@ -28,7 +29,7 @@ impl Model for Omap {
 
     ghost Value = { Contents };
 
-    ghost view = { λ a. record { records = a.records.items; snapshots = a.snapshots.items; snap_count = a.snap_count } };
+    ghost view = { λ a. record { records = a.records.items; snapshots = a.snapshots.items; snap_count = a.snap_count; blocks = a.blocks.items } };
 
     ghost invariant = { λ a. IsAscending a.records.items };
 }
@@ -54,6 +55,14 @@ impl Omap {
         ensures { result ≡ self.now.snap_count }
     {
         self.snap_count
+    }
+
+    /// The blocks in which the map lies: its own, then those of the nodes of its tree, and then those of the nodes of its
+    /// tree of snapshots, each tree in the order in which a walk meets them.
+    pub fn blocks(&self) -> &[u64]
+        ensures { result.now ≡ self.now.blocks }
+    {
+        &self.blocks
     }
 
     // How many records don't come after an id and a transaction.
@@ -98,7 +107,7 @@ impl Omap {
 }
 
 impl Omap {
-    ghost use Rattle.std.specs.Prelude.{◌+◌, ◌<◌, ℕ, List, Some, Err, OnOk, IfOk, IfErr, IsErrOf};
+    ghost use Rattle.std.specs.Prelude.{◌+◌, ◌<◌, ℕ, List, Some, Err, IsErrOf};
     ghost use Rattle.apfs_model.specs.Counts.{Rose};
     ghost use Rattle.apfs_model.specs.Source.{IsKept};
     ghost use Rattle.obj_base.specs.Stops.{Tells, Gives, IsFree};
@@ -134,18 +143,48 @@ impl Omap {
             Ok(bytes) => bytes,
             Err(stop) => return Err(stop),
         };
-        let records = match records(alloc, src, tree(&bytes), site) {
-            Ok(records) => records,
+        let root = tree(&bytes);
+        let kept = match records(alloc, src, root, site) {
+            Ok(kept) => kept,
             Err(stop) => return Err(stop),
         };
-        let snapshots = match snapshots_if(alloc, src, snap_tree(&bytes), site) {
-            Ok(snapshots) => snapshots,
+        let snap_root = snap_tree(&bytes);
+        let snapped = match snapshots_if(alloc, src, snap_root, site) {
+            Ok(snapped) => snapped,
             Err(stop) => return Err(stop),
         };
+        let mut blocks = lay(alloc, block, root, &kept.blocks)?;
+        lay_snapshots(&mut blocks, snap_root, &snapped.blocks)?;
         Ok(Omap {
-            records,
-            snapshots,
+            records: kept.records,
+            snapshots: snapped.snapshots,
             snap_count: snap_count(&bytes),
+            blocks,
         })
     }
+}
+
+// The block of a map, that of the root of its tree, and those of the nodes below.
+fn lay(alloc: Global, block: u64, root: u64, below: &[u64]) -> Result<Vec<u64>, Stop<OmapFault>>
+    ensures all { IfOk result (λ blocks. blocks.items ≡ block ∷ (root ∷ below.now)) }
+    ensures memory_only { IfErr result (λ stop. stop ≡ NoMemory) }
+{
+    let mut blocks = Vec::new(alloc);
+    blocks.push(block)?;
+    blocks.push(root)?;
+    blocks.extend_from_slice(below)?;
+    Ok(blocks)
+}
+
+// Puts the block of the root of a tree of snapshots, and those of the nodes below, after the others, where there is one.
+fn lay_snapshots(blocks: &mut Vec<u64>, root: u64, below: &[u64]) -> Result<(), Stop<OmapFault>>
+    ensures all { OnOk result (blocks.new.items ≡ blocks.old.items ++ (if root == 0 then [] else root ∷ below.now)) }
+    ensures memory_only { IfErr result (λ stop. stop ≡ NoMemory) }
+{
+    if root == 0 {
+        return Ok(());
+    }
+    blocks.push(root)?;
+    blocks.extend_from_slice(below)?;
+    Ok(())
 }

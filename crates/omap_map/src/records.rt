@@ -2,6 +2,8 @@
 ghost use Rattle.std.specs.Prelude.{◌≡◌, ◌≤◌, length, true, false};
 ghost use Rattle.std.specs.List.Sorted.{IsPartitionPoint};
 
+use apfs_layout::object_map;
+
 /// A record of an object map: where an object lies from a transaction on (Object Maps, `omap_key_t` and `omap_val_t`).
 #[derive(Clone, Copy, PartialEq, Eq, Debug)]
 pub struct OmapRecord {
@@ -26,9 +28,6 @@ pub struct Place {
     pub size: u32,
 }
 
-// The flag of a mapping whose object was deleted (Object Maps, Object Map Value Flags).
-const DELETED: u32 = 1;
-
 impl OmapRecord {
     ghost use Rattle.omap_map.specs.Records.{is_deleted};
     ghost use Rattle.omap_map.specs.Resolve.{place_of};
@@ -36,7 +35,7 @@ impl OmapRecord {
     pub(crate) fn is_deleted(&self) -> bool
         ensures { result ≡ is_deleted self.now.flags }
     {
-        self.flags & DELETED == DELETED
+        self.flags & object_map::DELETED == object_map::DELETED
     }
 
     pub(crate) fn place(&self) -> Place

@@ -17,13 +17,17 @@ struct Words {
 }
 
 impl Keeper<Numbers> for Words {
-    ghost use Rattle.std.specs.Prelude.{nat_lt};
+    ghost use Rattle.std.specs.Prelude.{◌≡◌, List, IfOk, IsTrue, not, nat_lt};
+    ghost use Rattle.bt_cursor.specs.Line.{Item};
 
     ghost refuses = { λ item. nat_lt 1 item.level };
 
     ghost holds = { λ words items. Unit {0} };
 
-    fn keep(&mut self, item: LineItem<'_, Numbers>) -> Result<bool, NoMemory> {
+    fn keep(&mut self, item: LineItem<'_, Numbers>) -> Result<bool, NoMemory>
+        ensures refused { IfOk result (λ kept. kept ≡ not (nat_lt 1 item.entry.level)) }
+        ensures held { (items : List Item) → Unit {0} → IfOk result (λ kept. IsTrue kept → Unit {0}) }
+    {
         if item.level > 1 {
             return Ok(false);
         }
@@ -36,7 +40,7 @@ impl Keeper<Numbers> for Words {
 }
 
 // Gathers the tree in block 1.
-fn words(alloc: Global, nodes: &[Node], fails: Vec<u64>) -> Result<Words, Stop<GatherFault>> {
+fn gathered(alloc: Global, nodes: &[Node], fails: Vec<u64>) -> Result<Words, Stop<GatherFault>> {
     let Ok(image) = tree_image(alloc, NUMBERS, nodes) else {
         return Err(Stop::NoMemory);
     };
@@ -56,7 +60,7 @@ fn what_items_give_is_gathered(rt: HostRuntime) -> Result<(), Fail> {
     let alloc = rt.alloc();
     let leaves = [leaf(&[(1, 0), (2, 0)]), leaf(&[(3, 0)])];
     let tree = [root(1, 3, 3, &[(1, 2), (3, 3)]), leaves[0], leaves[1]];
-    match words(alloc, &tree[..], Vec::new(alloc)) {
+    match gathered(alloc, &tree[..], Vec::new(alloc)) {
         Ok(kept) => {
             assert_eq!(rt; kept.words.as_slice(), &[1, 2, 3][..]);
             assert_eq!(rt; kept.children.as_slice(), &[2, 3][..]);
@@ -71,7 +75,7 @@ fn what_items_give_is_gathered(rt: HostRuntime) -> Result<(), Fail> {
         (&three_levels()[..], 0, refused),
         (&tree[..], 2, Stop::ReadFault),
     ] {
-        match words(alloc, nodes, vec![in alloc; fails]?) {
+        match gathered(alloc, nodes, vec![in alloc; fails]?) {
             Ok(_) => panic!(rt; "it is whole"),
             Err(other) => assert_eq!(rt; other, stop),
         }
