@@ -26,7 +26,7 @@ metadata_of image site head = metadata_pairs image site (field.snaps_root_of (su
 
 -- a map in which nothing is found
 abbrev pub empty_map : Contents
-empty_map = record { records = []; snapshots = []; snap_count = 0 }
+empty_map = record { records = []; snapshots = []; snap_count = 0; blocks = [] }
 
 -- what the map in a block has; through a map that isn't whole nothing is found
 unfoldable pub map_or_empty : List ℕ → Site → ℕ → Contents
