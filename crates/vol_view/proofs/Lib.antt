@@ -1,5 +1,7 @@
 pub mod Names
 pub mod SlotsLemmas
+pub mod Supers
+pub mod Placed
 pub mod Maps
 pub mod LoadLaws
 pub mod SnapshotsExamples

@@ -30,7 +30,7 @@ use Rattle.omap_map.specs.declared.records.Place.{Place}
 use Rattle.omap_map.specs.declared.fault.OmapFault.{OmapFault}
 use Rattle.vol_view.specs.Heads.{super_in, super_test, has_magic, is_super, volume_place, volume_block, head_of, head_for, head_at, heads_in}
 use Rattle.vol_view.specs.Stops.{IsNamed, IsNamedIn, IsHeadsStop, IsHeadsFeature, IsPlainMap, IsVolume, AreRight}
-use Rattle.vol_view.specs.Slots.{raised, plain_of, inside_of, placed_of, located, after_header, told_of, volume_at, slot_of, HasMap, IsMarked, IsRight}
+use Rattle.vol_view.specs.Slots.{map_raised, plain_of, inside_of, placed_of, located, after_header, told_of, volume_at, slot_of, HasMap, IsMarked, IsRight}
 use Rattle.vol_view.specs.declared.head.VolHead.{VolHead}
 use Rattle.vol_view.specs.declared.stop.VolStop.{VolStop}
 use Rattle.vol_view.specs.declared.stop.VolStop.TheVariants.{Head, Magic, Unnamed, Omap, Walk, SnapRecord, SnapCount, SnapName, OmapSnaps}
@@ -227,7 +227,7 @@ slot-tells image seen contents slot ReadFault has low h = tt
 slot-tells image seen contents slot NoMemory has low h = tt
 
 -- why the container's map stops is there
-pub raise_tells : (image : List ℕ) (seen : Seen) (stop : Stop OmapFault) → Tells (IsMapFault image (site_of seen) (omap_oid_of seen.nx)) (IsMapFeature image (site_of seen) (omap_oid_of seen.nx)) stop → Tells (IsHeadsStop image seen) (IsHeadsFeature image seen) (raised stop)
+pub raise_tells : (image : List ℕ) (seen : Seen) (stop : Stop OmapFault) → Tells (IsMapFault image (site_of seen) (omap_oid_of seen.nx)) (IsMapFeature image (site_of seen) (omap_oid_of seen.nx)) stop → Tells (IsHeadsStop image seen) (IsHeadsFeature image seen) (map_raised stop)
 raise_tells image seen (Found f) h = h
 raise_tells image seen (Unsupported name at) h = inl h
 raise_tells image seen ReadFault h = tt

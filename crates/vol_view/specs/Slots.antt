@@ -10,7 +10,9 @@ use Rattle.obj_base.specs.declared.stop.Bad.TheVariants as bads
 use Rattle.obj_base.specs.declared.stop.Feature.{Feature}
 use Rattle.obj_base.specs.declared.stop.Feature.TheVariants.{Encrypted, NoHeader, Size}
 use Rattle.obj_base.specs.declared.stop.Stop.{Stop}
-use Rattle.obj_base.specs.declared.stop.Stop.TheVariants.{Found, Unsupported, ReadFault, NoMemory}
+use Rattle.obj_base.specs.declared.stop.Stop.TheVariants.{Found, Unsupported}
+use Rattle.obj_base.specs.declared.stop.Unsound.{Unsound}
+use Rattle.obj_base.specs.Stops.{raised}
 use Rattle.obj_base.specs.declared.stop.Within.TheVariants.{Container}
 use Rattle.apfs_model.specs.Object.{volume_kind}
 use Rattle.obj_base.specs.declared.site.Site.{Site}
@@ -30,11 +32,15 @@ use Rattle.vol_view.specs.declared.stop.VolStop.{VolStop}
 use Rattle.vol_view.specs.declared.stop.VolStop.TheVariants.{Head, Magic, Unnamed, Omap}
 
 -- why the container's map stops, said of the volumes
-abbrev pub raised : Stop OmapFault → Stop VolStop
-raised (Found fault) = Found (Omap fault)
-raised (Unsupported feature block) = Unsupported feature block
-raised ReadFault = ReadFault
-raised NoMemory = NoMemory
+abbrev pub map_raised : Stop OmapFault → Stop VolStop
+map_raised stop = raised Omap stop
+
+-- why an object in a block isn't sound, said of a superblock there
+abbrev pub of_unsound : Unsound HeadFault → VolStop
+of_unsound unsound = Head unsound.block unsound.why
+
+abbrev pub head_raised : Stop (Unsound HeadFault) → Stop VolStop
+head_raised stop = raised of_unsound stop
 
 -- a place, where it has no feature
 abbrev pub plain_of : ℕ → Place → Result Place (Stop VolStop)
@@ -66,9 +72,9 @@ after_header block bytes (Ok _) = magic_in block bytes
 after_header block bytes (Err (bads.Found why)) = Err (Found (Head block why))
 after_header block bytes (Err (bads.Unsupported feature)) = Err (Unsupported feature block)
 
--- the superblock of a volume in a block, or the first test that fails
-abbrev pub tested : Site → ℕ → ℕ → List ℕ → Result (List ℕ) (Stop VolStop)
-tested site oid block bytes = after_header block bytes (sound_of bytes (expecting volume_kind (Some oid) site.max_xid))
+-- the superblock of a volume in a block, or the first test that fails; an oid that is left out isn't tested
+abbrev pub tested : Site → Option ℕ → ℕ → List ℕ → Result (List ℕ) (Stop VolStop)
+tested site oid block bytes = after_header block bytes (sound_of bytes (expecting volume_kind oid site.max_xid))
 
 -- what a superblock that was tested tells of a volume
 abbrev pub told_of : ℕ → ℕ → ℕ → List ℕ → Result (Option VolHead) (Stop VolStop)
@@ -76,7 +82,7 @@ told_of slot oid block bytes = Ok (Some (head_of slot oid block bytes))
 
 -- the volume at a place
 abbrev pub volume_at : List ℕ → Site → ℕ → ℕ → Place → Result (Option VolHead) (Stop VolStop)
-volume_at image site slot oid place = and_then (tested site oid place.block (super_in image site place.block)) (told_of slot oid place.block)
+volume_at image site slot oid place = and_then (tested site (Some oid) place.block (super_in image site place.block)) (told_of slot oid place.block)
 
 -- the volume of an oid in a slot, by the records of the container's map
 abbrev pub volume_for : List ℕ → Site → List OmapRecord → ℕ → ℕ → Result (Option VolHead) (Stop VolStop)

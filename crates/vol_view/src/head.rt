@@ -1,26 +1,12 @@
 // What a volume's superblock tells (Volumes, apfs_superblock_t).
 ghost use Rattle.std.specs.Prelude.{◌≡◌, ◌≤◌, ◌+◌, ◌==◌, length, position, IfSome};
+ghost use Rattle.fs_name.specs.Normal.{names_of};
 ghost use Rattle.vol_view.specs.Fields as fields;
 
+use apfs_layout::volume;
 use blk_source::Bytes;
+use fs_name::Names;
 use obj_base::{u16_at, u32_at, u64_at};
-
-// The fields of a superblock by offset, behind the object's header.
-const MAGIC: usize = 32;
-
-const INCOMPAT: usize = 56;
-
-const SNAPSHOTS: usize = 216;
-
-const UUID: usize = 240;
-
-const UUID_LEN: usize = 16;
-
-const NAME: usize = 704;
-
-const NAME_LEN: usize = 256;
-
-const ROLE: usize = 964;
 
 /// What a volume's superblock tells before its trees are read.
 #[derive(Debug, Drop)]
@@ -36,8 +22,17 @@ pub struct VolHead {
     pub incompat: u64,
     /// The number of snapshots that it counts.
     pub snapshots: u64,
-    /// Its name, without the zeros behind it.
+    /// Its name, without the zeros after it.
     pub name: Bytes,
+}
+
+impl VolHead {
+    /// How it compares names.
+    pub fn names(&self) -> Names
+        ensures { result ≡ names_of self.now.incompat }
+    {
+        Names::of_features(self.incompat)
+    }
 }
 
 #[tactic(auto, unfolding(crate::specs::Fields::magic_of))]
@@ -45,7 +40,7 @@ pub(crate) fn magic(bytes: &[u8]) -> u32
     requires { 1024 ≤ length bytes.now }
     ensures { result ≡ fields.magic_of bytes.now }
 {
-    u32_at(bytes, MAGIC)
+    u32_at(bytes, volume::MAGIC)
 }
 
 #[tactic(auto, unfolding(crate::specs::Fields::incompat_of))]
@@ -53,7 +48,7 @@ pub(crate) fn incompat(bytes: &[u8]) -> u64
     requires { 1024 ≤ length bytes.now }
     ensures { result ≡ fields.incompat_of bytes.now }
 {
-    u64_at(bytes, INCOMPAT)
+    u64_at(bytes, volume::INCOMPAT)
 }
 
 #[tactic(auto, unfolding(crate::specs::Fields::snapshots_of))]
@@ -61,7 +56,7 @@ pub(crate) fn snapshots(bytes: &[u8]) -> u64
     requires { 1024 ≤ length bytes.now }
     ensures { result ≡ fields.snapshots_of bytes.now }
 {
-    u64_at(bytes, SNAPSHOTS)
+    u64_at(bytes, volume::SNAPSHOTS)
 }
 
 #[tactic(auto, unfolding(crate::specs::Fields::uuid_of))]
@@ -69,8 +64,8 @@ pub(crate) fn uuid(bytes: &[u8]) -> [u8; 16]
     requires { 1024 ≤ length bytes.now }
     ensures { result ≡ fields.uuid_of bytes.now }
 {
-    let mut uuid = [0u8; UUID_LEN];
-    uuid.copy_from_slice(&bytes[UUID..UUID + UUID_LEN]);
+    let mut uuid = [0u8; volume::UUID_LEN];
+    uuid.copy_from_slice(&bytes[volume::UUID..volume::UUID + volume::UUID_LEN]);
     uuid
 }
 
@@ -79,7 +74,7 @@ pub(crate) fn role(bytes: &[u8]) -> u16
     requires { 1024 ≤ length bytes.now }
     ensures { result ≡ fields.role_of bytes.now }
 {
-    u16_at(bytes, ROLE)
+    u16_at(bytes, volume::ROLE)
 }
 
 // The place of the first zero.
@@ -96,7 +91,7 @@ pub(crate) fn name(bytes: &[u8]) -> &[u8]
     requires { 1024 ≤ length bytes.now }
     ensures { result.now ≡ fields.name_of bytes.now }
 {
-    let raw = &bytes[NAME..NAME + NAME_LEN];
+    let raw = &bytes[volume::NAME..volume::NAME + volume::NAME_LEN];
     match first_zero(raw) {
         Some(end) => &raw[..end],
         None => raw,

@@ -8,19 +8,18 @@ ghost use Rattle.obj_base.specs.Site.{IsSiteFor};
 ghost use Rattle.omap_map.specs.Features.{has_snapshot_state, container_features, snapshot_features};
 ghost use Rattle.nx_ring.specs.Checkpoint.{site_of};
 ghost use Rattle.vol_view.specs.Stops.{IsHeadsStop, IsHeadsFeature};
-ghost use Rattle.vol_view.specs.Slots.{raised, HasMap, IsMarked};
+ghost use Rattle.vol_view.specs.Slots.{map_raised, HasMap, IsMarked};
 
 use crate::VolStop;
 use blk_source::BlockSource;
-use bt_node::Site;
 use nx_ring::Checkpoint;
-use obj_base::{Feature, Stop, Within};
+use obj_base::{Feature, Site, Stop, Within};
 use omap_map::{Omap, OmapFault};
 use std::alloc::Global;
 
 // Why the container's map stops, said of the volumes.
 fn raise(stop: Stop<OmapFault>) -> Stop<VolStop>
-    ensures { result ≡ raised stop }
+    ensures { result ≡ map_raised stop }
 {
     match stop {
         Stop::Found(fault) => Stop::Found(VolStop::Omap(fault)),
@@ -42,8 +41,8 @@ fn test(omap: &Omap, block: u64) -> Result<(), Stop<VolStop>>
     ensures plain { OnOk result (container_features omap.now.snap_count ≡ []) }
     ensures unmarked { OnOk result (snapshot_features omap.now.snapshots ≡ []) }
     ensures present { IfErr result (Tells (λ fault. ⊥) (IsMarked omap.now block)) }
-    ensures read { IsErrOf result ReadFault → ⊥ }
-    ensures memory { IsErrOf result NoMemory → ⊥ }
+    ensures no_read { IsErrOf result ReadFault → ⊥ }
+    ensures no_memory { IsErrOf result NoMemory → ⊥ }
 {
     if omap.snap_count() != 0 {
         return Err(Stop::Unsupported {
@@ -76,7 +75,7 @@ pub(crate) fn container_map<S: BlockSource>(
     ensures kept { IsKept S.bytes S.bytes_len S.faults src.old src.new }
 {
     let block = cp.nx().omap_oid();
-    if block == 0 || site.blocks <= block {
+    if !site.has_block(block) {
         return Err(Stop::Found(VolStop::Unnamed {
             within: Within::Physical,
             oid: block,

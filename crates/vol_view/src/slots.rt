@@ -1,6 +1,7 @@
 // The volumes in the slots of a container's superblock.
-ghost use Rattle.std.specs.Prelude.{◌≡◌, ◌++◌, ◌<◌, ℕ, List, Some, IfOk, IfErr, IsErrOf, OnOk, option_to_list};
+ghost use Rattle.std.specs.Prelude.{◌≡◌, ◌++◌, ◌<◌, ℕ, List, Some, IfOk, IfErr, IfSome, IsErrOf, OnOk, option_to_list};
 ghost use Rattle.apfs_model.specs.Counts.{Rose};
+ghost use Rattle.apfs_model.specs.Lists.{In};
 ghost use Rattle.apfs_model.specs.Source.{IsKept};
 ghost use Rattle.obj_base.specs.Stops.{Gives, Tells, IsFree};
 ghost use Rattle.obj_base.specs.declared.stop.Stop.TheVariants.{ReadFault, NoMemory};
@@ -8,6 +9,7 @@ ghost use Rattle.obj_base.specs.Site.{IsSiteFor};
 ghost use Rattle.nx_block.specs.Super as super_block;
 ghost use Rattle.nx_ring.specs.Checkpoint.{site_of};
 ghost use Rattle.vol_view.specs.Stops.{IsHeadsStop, IsHeadsFeature, AreRight, AreHeads};
+ghost use Rattle.vol_view.specs.Heads.{IsPlaced, IsHead};
 ghost use Rattle.vol_view.specs.Slots.{slot_of};
 
 use crate::map::container_map;
@@ -15,14 +17,14 @@ use crate::place::locate;
 use crate::superblock::{superblock, tell};
 use crate::{VolHead, VolStop};
 use blk_source::BlockSource;
-use bt_node::Site;
+use apfs_layout::container;
 use nx_ring::Checkpoint;
-use obj_base::Stop;
+use obj_base::{Site, Stop};
 use omap_map::Omap;
 use std::alloc::Global;
 
 // The number of slots for volumes (Container, `NX_MAX_FILE_SYSTEMS`).
-const SLOTS: u32 = 100;
+const SLOTS: u32 = container::SLOTS as u32;
 
 // The volume in a slot, by the container's map; None in an empty slot.
 #[tactic(auto, unfolding(crate::specs::Slots::slot_of))]
@@ -38,6 +40,7 @@ fn volume_in<S: BlockSource>(
     requires same { site.now ≡ site_of cp.now }
     requires low { slot < super_block.slots }
     ensures found { (image : List ℕ) → S.bytes src.old ≡ Some image → Gives (λ head. head) result (slot_of image cp.now omap.now.records slot) }
+    ensures placed { IfOk result (λ head. IfSome head (IsPlaced (site_of cp.now))) }
     ensures cause { IsErrOf result ReadFault → Rose (S.faults src.old) (S.faults src.new) }
     ensures kept { IsKept S.bytes S.bytes_len S.faults src.old src.new }
 {
@@ -46,15 +49,15 @@ fn volume_in<S: BlockSource>(
         return Ok(None);
     }
     let place = locate(omap, oid, site)?;
-    let bytes = superblock(alloc, src, oid, place.block, site)?;
+    let bytes = superblock(alloc, src, Some(oid), place.block, site)?;
     let head = tell(alloc, slot, oid, place.block, &bytes)?;
     Ok(Some(head))
 }
 
-// Puts a volume behind those of the slots before.
+// Puts a volume after those of the slots before.
 fn add(heads: &mut Vec<VolHead>, head: Option<VolHead>) -> Result<(), Stop<VolStop>>
     ensures more { OnOk result (heads.new.items ≡ heads.old.items ++ option_to_list head) }
-    ensures memory { IfErr result (λ stop. stop ≡ NoMemory) }
+    ensures memory_only { IfErr result (λ stop. stop ≡ NoMemory) }
 {
     if let Some(head) = head {
         heads.push(head)?;
@@ -74,6 +77,7 @@ pub fn heads<S: BlockSource>(
 ) -> Result<Vec<VolHead>, Stop<VolStop>>
     requires site { IsSiteFor (site_of cp.now) (S.bytes_len src.old) }
     ensures clear { (image : List ℕ) → S.bytes src.old ≡ Some image → IfOk result (λ heads. AreHeads image cp.now heads.items) }
+    ensures each { IfOk result (λ heads. (head : VolHead) → In head heads.items → IsHead (S.bytes src.old) cp.now head) }
     ensures present { (image : List ℕ) → S.bytes src.old ≡ Some image → IfErr result (Tells (IsHeadsStop image cp.now) (IsHeadsFeature image cp.now)) }
     ensures exact { (image : List ℕ) → S.bytes src.old ≡ Some image → AreRight image cp.now → IfErr result IsFree }
     ensures cause { IsErrOf result ReadFault → Rose (S.faults src.old) (S.faults src.new) }

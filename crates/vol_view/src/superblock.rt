@@ -6,21 +6,15 @@ ghost use Rattle.obj_base.specs.Stops.{Gives};
 ghost use Rattle.obj_base.specs.declared.stop.Stop.TheVariants.{ReadFault, NoMemory};
 ghost use Rattle.obj_base.specs.Site.{IsSiteFor};
 ghost use Rattle.vol_view.specs.Heads.{super_in, head_of};
-ghost use Rattle.vol_view.specs.Slots.{tested};
+ghost use Rattle.vol_view.specs.Slots.{tested, head_raised};
 
 use crate::head::{incompat, magic, name, role, snapshots, uuid};
 use crate::{VolHead, VolStop};
-use blk_read::read_new;
+use apfs_layout::{kind, volume};
+use blk_read::read_sound;
 use blk_source::{BlockSource, Bytes};
-use bt_node::Site;
-use obj_base::{Bad, Expect, Stop, sound};
+use obj_base::{Expect, HeadFault, Site, Stop, Unsound};
 use std::alloc::Global;
-
-// The kind of a volume's superblock (Objects, Object Types).
-const VOLUME_KIND: u16 = 0xd;
-
-// The bytes APSB as a number.
-const VOLUME_MAGIC: u32 = 0x4253_5041;
 
 /// What a volume's superblock in a block tells.
 pub(crate) fn tell(
@@ -31,8 +25,8 @@ pub(crate) fn tell(
     bytes: &[u8],
 ) -> Result<VolHead, Stop<VolStop>>
     requires { 1024 ≤ length bytes.now }
-    ensures told { IfOk result (λ head. head ≡ head_of slot oid block bytes.now) }
-    ensures memory { IfErr result (λ stop. stop ≡ NoMemory) }
+    ensures found { IfOk result (λ head. head ≡ head_of slot oid block bytes.now) }
+    ensures memory_only { IfErr result (λ stop. stop ≡ NoMemory) }
 {
     let name = Bytes::from_slice(alloc, name(bytes))?;
     Ok(VolHead {
@@ -47,36 +41,25 @@ pub(crate) fn tell(
     })
 }
 
-// Tests the header of a superblock, and then its magic.
-fn test(bytes: &[u8], oid: u64, block: u64, site: &Site) -> Result<(), Stop<VolStop>>
-    requires { length bytes.now ≡ 4096 }
-    ensures first { Gives (λ _. bytes.now) result (tested site.now oid block bytes.now) }
-    ensures read { IsErrOf result ReadFault → ⊥ }
-    ensures memory { IsErrOf result NoMemory → ⊥ }
+// Why an object in a block isn't sound, said of a superblock there.
+fn raise(stop: Stop<Unsound<HeadFault>>) -> Stop<VolStop>
+    ensures { result ≡ head_raised stop }
 {
-    let expect = Expect {
-        kind: VOLUME_KIND,
-        subtype: None,
-        oid: Some(oid),
-        max_xid: site.max_xid,
-    };
-    match sound(bytes, &expect) {
-        Ok(_) => {
-            if magic(bytes) != VOLUME_MAGIC {
-                return Err(Stop::Found(VolStop::Magic { block }));
-            }
-            Ok(())
-        }
-        Err(Bad::Found(why)) => Err(Stop::Found(VolStop::Head { block, why })),
-        Err(Bad::Unsupported(feature)) => Err(Stop::Unsupported { feature, block }),
+    match stop {
+        Stop::Found(Unsound { block, why }) => Stop::Found(VolStop::Head { block, why }),
+        Stop::Unsupported { feature, block } => Stop::Unsupported { feature, block },
+        Stop::ReadFault => Stop::ReadFault,
+        Stop::NoMemory => Stop::NoMemory,
     }
 }
 
-/// The superblock of a volume in a block, or the first test that fails.
+/// The superblock of a volume in a block, or the first test that fails: those of the header, then the magic. An oid that
+/// is left out isn't tested.
+#[tactic(auto, using(crate::proofs::Supers::raise_head, crate::proofs::Supers::long_enough), unfolding(blk_read::specs::Object::sound_object))]
 pub(crate) fn superblock<S: BlockSource>(
     alloc: Global,
     src: &mut S,
-    oid: u64,
+    oid: Option<u64>,
     block: u64,
     site: &Site,
 ) -> Result<Vec<u8>, Stop<VolStop>>
@@ -84,11 +67,22 @@ pub(crate) fn superblock<S: BlockSource>(
     requires below { block < site.now.blocks }
     ensures found { (image : List ℕ) → S.bytes src.old ≡ Some image → Gives (λ bytes. bytes.items) result (tested site.now oid block (super_in image site.now block)) }
     ensures same { (image : List ℕ) → S.bytes src.old ≡ Some image → IfOk result (λ bytes. bytes.items ≡ super_in image site.now block) }
-    ensures long { IfOk result (λ bytes. length bytes.items ≡ 4096) }
+    ensures long { IfOk result (λ bytes. 1024 ≤ length bytes.items) }
     ensures cause { IsErrOf result ReadFault → Rose (S.faults src.old) (S.faults src.new) }
     ensures kept { IsKept S.bytes S.bytes_len S.faults src.old src.new }
 {
-    let bytes = read_new(alloc, src, block, site.block_size)?;
-    test(&bytes, oid, block, site)?;
+    let expect = Expect {
+        kind: kind::VOLUME,
+        subtype: None,
+        oid,
+        max_xid: site.max_xid,
+    };
+    let bytes = match read_sound(alloc, src, site, block, &expect) {
+        Ok(bytes) => bytes,
+        Err(stop) => return Err(raise(stop)),
+    };
+    if magic(&bytes) != volume::VOLUME_MAGIC {
+        return Err(Stop::Found(VolStop::Magic { block }));
+    }
     Ok(bytes)
 }

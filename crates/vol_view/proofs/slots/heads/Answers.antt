@@ -1,8 +1,11 @@
-use Rattle.std.proofs.Common.{◌≡◌, ◌∙◌, ◌<◌, ◌++◌, ℕ, sym, ap, arith, below_more, option_to_list}
+use Rattle.std.proofs.Common.{◌≡◌, ◌∙◌, ◌<◌, ◌++◌, ℕ, sym, ap, subst, arith, below_more, option_to_list}
 use Rattle.nx_block.specs.Super.{slots}
-use Rattle.vol_view.specs.Heads.{heads_in, heads_of}
+use Rattle.apfs_model.specs.Lists.{In}
+use Rattle.nx_ring.specs.Checkpoint.{site_of}
+use Rattle.vol_view.specs.Heads.{heads_in, heads_of, IsPlaced}
 use Rattle.vol_view.specs.Slots.{IsRight}
 use Rattle.vol_view.proofs.SlotsLemmas.{slot-tells, slot-found, map-plain, heads-more, right-free}
+use Rattle.vol_view.proofs.Placed.{each-more}
 use Rattle.vol_view.proofs.slots.heads.Goals as goal
 
 pub returns-in-Err-volume_in-clause-present : goal.returns-in-Err-volume_in-clause-present
@@ -26,6 +29,7 @@ slots-preserved g c =
       right = λ image told.
           let one = slot-found image seen c.in-Ok.omap slot head (c.in-Ok.ensures.clear image told) low (c.in-Ok-volume_in.ensures.found image (c.slots.invariant.kept.same_bytes ∙ told)) in
           below_more (λ (k : ℕ). IsRight image seen k) slot (c.slots.invariant.right image told) one.1;
+      placed = each-more (IsPlaced (site_of seen)) c.slots.heads.items head c.in_ok-add.new.heads.items c.in_ok-add.ensures.more c.slots.invariant.placed c.in-Ok-volume_in.ensures.placed;
       kept = record {
         same_bytes = c.in-Ok-volume_in.ensures.kept.same_bytes ∙ c.slots.invariant.kept.same_bytes;
         same_size = c.in-Ok-volume_in.ensures.kept.same_size ∙ c.slots.invariant.kept.same_size;
@@ -44,6 +48,16 @@ returns-clause-clear g c image told =
         volumes = λ k low some. c.slots.invariant.right image told k (omega (arith, end)) some;
       };
       same = c.slots.invariant.found image told ∙ ap (heads_in image seen) end;
+    }
+
+pub returns-clause-each : goal.returns-clause-each
+unfolding heads_of
+returns-clause-each g c head one =
+    let seen = c.args.cp.now in
+    let end : c.slots.slot ≡ slots = omega arith in
+    record {
+      placed = c.slots.invariant.placed head one;
+      one = λ image told. subst (In head) (c.slots.invariant.found image told ∙ ap (heads_in image seen) end) one;
     }
 
 pub returns-in-Err-clause-exact : goal.returns-in-Err-clause-exact

@@ -1,6 +1,9 @@
 use Rattle.std.proofs.Common.{◌≡◌, ◌<◌, ℕ, List, Some}
 use Rattle.apfs_model.specs.Source.{IsKept}
-use Rattle.vol_view.specs.Heads.{heads_in}
+use Rattle.apfs_model.specs.Lists.{In}
+use Rattle.nx_ring.specs.Checkpoint.{site_of}
+use Rattle.vol_view.specs.declared.head.VolHead.{VolHead}
+use Rattle.vol_view.specs.Heads.{heads_in, IsPlaced}
 use Rattle.vol_view.specs.Slots.{IsRight}
 use Rattle.vol_view.proofs.slots.heads.Given as goal
 
@@ -8,5 +11,6 @@ abbrev pub invariant-slots : goal.invariant-slots
 invariant-slots g l = record {
   found : (image : List ℕ) → g.S.BlockSource.bytes l.fn.src ≡ Some image → l.heads.items ≡ heads_in image l.cp l.slot;
   right : (image : List ℕ) → g.S.BlockSource.bytes l.fn.src ≡ Some image → (k : ℕ) → k < l.slot → IsRight image l.cp k;
+  placed : (head : VolHead) → In head l.heads.items → IsPlaced (site_of l.cp) head;
   kept : IsKept g.S.BlockSource.bytes g.S.BlockSource.bytes_len g.S.BlockSource.faults l.fn.src l.src;
 }
