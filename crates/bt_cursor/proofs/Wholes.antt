@@ -24,3 +24,6 @@ whole_means tree root e =
     let b = is_ordered tree.shape (line_of tree root) in
     let c = is_counted tree root in
     record { walkable = first-of a b c e; ordered = second-of a b c e; counted = third-of a b c e }
+
+pub means_whole : {K : Type 0} (tree : Tree K) (root : ℕ) → IsWhole tree root → is_whole tree root ≡ true
+means_whole tree root whole = rw whole.walkable (rw whole.ordered whole.counted)

@@ -5,9 +5,8 @@ mod image;
 use crate::{At, Omap, OmapFault, OmapRecord, Place};
 use blk_source::MemSource;
 use bt_cursor::{Namer, WalkFault};
-use bt_node::Site;
 use image::{Entry, Map, Node, map_image};
-use obj_base::{Feature, HeadFault, Stop};
+use obj_base::{Feature, HeadFault, Site, Stop};
 use std::alloc::Global;
 use std::process::Abort;
 use std::test::Fail;
@@ -127,6 +126,7 @@ fn a_map_of_two_levels_with_snapshots(rt: HostRuntime) -> Result<(), Fail> {
     assert_five(&rt, &omap);
     assert_eq!(rt; omap.snap_count(), 2);
     assert!(rt; omap.snapshots() == [(3, 0), (5, 2)].as_slice());
+    assert!(rt; omap.blocks() == [1, 2, 3, 4, 5].as_slice());
     Ok(())
 }
 
