@@ -29,7 +29,7 @@ slots-preserved g c =
       right = λ image told.
           let one = slot-found image seen c.in-Ok.omap slot head (c.in-Ok.ensures.clear image told) low (c.in-Ok-volume_in.ensures.found image (c.slots.invariant.kept.same_bytes ∙ told)) in
           below_more (λ (k : ℕ). IsRight image seen k) slot (c.slots.invariant.right image told) one.1;
-      placed = each-more (IsPlaced (site_of seen)) c.slots.heads.items head c.in_ok-add.new.heads.items c.in_ok-add.ensures.more c.slots.invariant.placed c.in-Ok-volume_in.ensures.placed;
+      placed = each-more (IsPlaced (site_of seen)) c.slots.heads.items head _ c.in_ok-add.ensures.more c.slots.invariant.placed c.in-Ok-volume_in.ensures.placed;
       kept = record {
         same_bytes = c.in-Ok-volume_in.ensures.kept.same_bytes ∙ c.slots.invariant.kept.same_bytes;
         same_size = c.in-Ok-volume_in.ensures.kept.same_size ∙ c.slots.invariant.kept.same_size;
