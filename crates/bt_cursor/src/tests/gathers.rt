@@ -1,10 +1,11 @@
 // Trees whose items are gathered.
 
 use super::image::{Node, tree_image};
-use super::keys::Numbers;
-use super::{NUMBERS, PHYSICAL, SITE, leaf, root, three_levels};
+use super::trees::{QUEUE, leaf, root, three_levels};
+use super::{PHYSICAL, SITE};
 use crate::{GatherFault, Keeper, LineItem, Physical, WalkFault, gather};
 use blk_source::{MemSource, NoMemory};
+use bt_keys::QueueKey;
 use obj_base::Stop;
 use std::alloc::Global;
 use std::test::Fail;
@@ -16,7 +17,7 @@ struct Words {
     children: Vec<u64>,
 }
 
-impl Keeper<Numbers> for Words {
+impl Keeper<QueueKey> for Words {
     ghost use Rattle.std.specs.Prelude.{◌≡◌, List, IfOk, IsTrue, not, nat_lt};
     ghost use Rattle.bt_cursor.specs.Line.{Item};
 
@@ -24,7 +25,7 @@ impl Keeper<Numbers> for Words {
 
     ghost holds = { λ words items. Unit {0} };
 
-    fn keep(&mut self, item: LineItem<'_, Numbers>) -> Result<bool, NoMemory>
+    fn keep(&mut self, item: LineItem<'_, QueueKey>) -> Result<bool, NoMemory>
         ensures refused { IfOk result (λ kept. kept ≡ not (nat_lt 1 item.entry.level)) }
         ensures held { (items : List Item) → Unit {0} → IfOk result (λ kept. IsTrue kept → Unit {0}) }
     {
@@ -33,7 +34,7 @@ impl Keeper<Numbers> for Words {
         }
         let pushed = match item.child {
             Some(child) => self.children.push(child),
-            None => self.words.push(item.pair.key.first),
+            None => self.words.push(item.pair.key.xid),
         };
         pushed.or(Err(NoMemory)).and(Ok(true))
     }
@@ -41,7 +42,7 @@ impl Keeper<Numbers> for Words {
 
 // Gathers the tree in block 1.
 fn gathered(alloc: Global, nodes: &[Node], fails: Vec<u64>) -> Result<Words, Stop<GatherFault>> {
-    let Ok(image) = tree_image(alloc, NUMBERS, nodes) else {
+    let Ok(image) = tree_image(alloc, 4096, QUEUE, nodes) else {
         return Err(Stop::NoMemory);
     };
     if image.len() < 32768 {
@@ -52,7 +53,7 @@ fn gathered(alloc: Global, nodes: &[Node], fails: Vec<u64>) -> Result<Words, Sto
         words: Vec::new(alloc),
         children: Vec::new(alloc),
     };
-    gather::<Numbers, MemSource, Physical, Words>(alloc, &mut src, PHYSICAL, 1, &SITE, none)
+    gather::<QueueKey, MemSource, Physical, Words>(alloc, &mut src, PHYSICAL, 1, &SITE, none)
 }
 
 #[test]
