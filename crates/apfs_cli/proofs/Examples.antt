@@ -1,5 +1,5 @@
 -- Some texts of faults piece by piece.
-use Rattle.std.proofs.Common.{◌≡◌, ℕ, [], ◌∷◌, ◌++◌, Some, refl}
+use Rattle.std.proofs.Common.{◌≡◌, [], ◌∷◌, ◌++◌, Some, refl}
 use Rattle.std.specs.Prelude.{negsuc, codes}
 use Rattle.std.specs.Fmt.{decimal, signed_decimal}
 use Rattle.obj_base.specs.declared.stop.Within.TheVariants as withins
@@ -11,7 +11,7 @@ unused : fault_text (UnusedMapping (withins.Volume 0) 1031 3) ≡ codes "UnusedM
 unused = refl
 
 -- a name is shown with its slash hidden
-named : fault_text (NoInode 0 1 2 (Some (0x61 ∷ 0x2f ∷ []))) ≡ codes "NoInode volume " ++ (decimal 0 ++ (codes " view " ++ decimal 1)) ++ (codes " id " ++ (decimal 2 ++ codes " name a\\x2f"))
+named : fault_text (NoInode 0 1 2 (Some (0x61 ∷ 0x2f ∷ []))) ≡ (codes "NoInode volume " ++ (decimal 0 ++ (codes " view " ++ decimal 1)) ++ (codes " id " ++ decimal 2)) ++ codes " name a\\x2f"
 named = refl
 
 -- a count that is stored as a negative number

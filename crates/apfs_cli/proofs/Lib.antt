@@ -1,4 +1,5 @@
 pub mod Puts
+pub mod Kept
 pub mod Endings
 pub mod Stops
 pub mod Statuses

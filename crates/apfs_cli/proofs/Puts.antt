@@ -1,5 +1,5 @@
 -- What puts, one after the other, leave on a sink.
-use Rattle.std.proofs.Common.{◌≡◌, ℕ, ◌+◌, ◌<◌, ◌≤◌, List, [], ◌∷◌, ◌++◌, Option, None, Some, Result, Ok, Err, length, get_or, take, drop, refl, sym, ap, ◌∙◌, append_assoc, take-append-drop, drop-cons, subst, arith}
+use Rattle.std.proofs.Common.{◌≡◌, ℕ, ◌+◌, ◌<◌, ◌≤◌, List, [], ◌∷◌, ◌++◌, Option, None, Some, Ok, Err, length, get_or, take, drop, refl, sym, ap, ◌∙◌, append_assoc, take-append-drop, drop-cons, subst, arith}
 use Rattle.std.proofs.lemmas.List.{append-nil, take_more}
 use Rattle.std.proofs.lemmas.Grind.{flat_map-append}
 use Rattle.std.specs.List.{flat_map}
@@ -8,7 +8,7 @@ use Rattle.apfs_model.specs.Sink.{Wrote, WrotePart}
 use Rattle.apfs_cli.specs.declared.stopped.Stopped.{Stopped}
 use Rattle.apfs_cli.specs.declared.stopped.Stopped.TheVariants.{Faulty, Usage, ReadFailed, WriteFailed, OutOfMemory, Refused, NoImage}
 use Rattle.apfs_cli.specs.Texts.{IsPrefix}
-use Rattle.apfs_cli.specs.Written.{Sunk, CutsText, IsPut}
+use Rattle.apfs_cli.specs.Written.{CutsText, IsPut}
 
 pub wrote_nothing : (contents : Option (List ℕ)) → Wrote contents contents []
 wrote_nothing contents held told = told ∙ ap (λ (l : List ℕ). Some l) (sym (append-nil held))

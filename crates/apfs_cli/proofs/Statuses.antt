@@ -1,16 +1,15 @@
 -- What each status says, from the outcome that a run has come to.
 use Rattle.std.specs.Prelude.{◌≡◌, ◌⊎◌, ℕ, Bool, true, false, List, Option, Some, None, refl}
 use Rattle.std.proofs.Common.{inl, inr, sym, ◌∙◌, subst, arith}
-use Rattle.apfs_model.specs.Sink.{Wrote}
 use Rattle.blk_source.specs.declared.source.Opened.{Opened}
 use Rattle.blk_source.specs.declared.source.Opened.TheVariants.{Absent, Image}
 use Rattle.obj_base.specs.declared.stop.Feature.{Feature}
 use Rattle.apfs_check.specs.declared.fault.Fault.{Fault}
 use Rattle.apfs_cli.specs.ByCommand.{takes_image, IsText}
-use Rattle.apfs_cli.specs.Outcome.{Outcome, status_of, text_of, line_of, Written, Faulty, Usage, ReadFailed, WriteFailed, OutOfMemory, Refused, NoImage}
+use Rattle.apfs_cli.specs.Outcome.{Outcome, status_of, text_of, Written, Faulty, Usage, ReadFailed, WriteFailed, OutOfMemory, Refused, NoImage}
 use Rattle.apfs_cli.specs.Says.{LacksImage, IsGiven, SourceFailed, Says, HasNoImage}
 use Rattle.apfs_cli.specs.Words.{Asked}
-use Rattle.apfs_cli.specs.Written.{Sunk, Failed, Ends, IsSaid}
+use Rattle.apfs_cli.specs.Written.{Sunk, Failed, Ends}
 use Rattle.apfs_cli.specs.Rows.{BothWrote, HasText, NamesFault, NamesFeature, SaysReadFailed, SaysOutOfMemory, HasFailedPut, HasDefinedText, IsExactly, IsWholeOrFree}
 use Rattle.apfs_cli.proofs.Endings.{part_of}
 

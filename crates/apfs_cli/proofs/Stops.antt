@@ -1,12 +1,11 @@
 -- What the stops of layers say of the commands.
-use Rattle.std.specs.Prelude.{◌≡◌, ◌⊎◌, ℕ, List, [], Result, Ok, Err, refl}
-use Rattle.std.proofs.Common.{inl, inr, sym, ◌∙◌, subst}
+use Rattle.std.specs.Prelude.{◌≡◌, ℕ, List, Ok, Err, refl}
+use Rattle.std.proofs.Common.{inl, inr, subst}
 use Rattle.apfs_model.specs.Lists.{In}
 use Rattle.obj_base.specs.declared.stop.Feature.{Feature}
 use Rattle.obj_base.specs.declared.stop.Stop.{Stop}
 use Rattle.obj_base.specs.declared.stop.Stop.TheVariants.{Found, Unsupported, ReadFault, NoMemory}
 use Rattle.obj_base.specs.Stops.{Tells, IsFree}
-use Rattle.nx_ring.specs.declared.line.RingLine.{RingLine}
 use Rattle.nx_ring.specs.declared.fault.RingFault.{RingFault}
 use Rattle.nx_ring.specs.Checkpoint.{Seen}
 use Rattle.nx_ring.specs.Features.{container_features}

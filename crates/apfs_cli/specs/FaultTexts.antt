@@ -87,18 +87,26 @@ item_text place item = place ▹ codes " item " ▹ decimal item
 abbrev pub view_text : List ℕ → ℕ → ℕ → List ℕ
 view_text word slot xid = word ▹ codes " volume " ▹ decimal slot ▹ codes " view " ▹ decimal xid
 
+-- an object of a view by its id
+abbrev pub object_text : List ℕ → ℕ → ℕ → ℕ → List ℕ
+object_text word slot xid id = view_text word slot xid ▹ codes " id " ▹ decimal id
+
+-- and by a name of it
+abbrev pub named_text : List ℕ → ℕ → ℕ → ℕ → List ℕ → List ℕ
+named_text word slot xid id name = object_text word slot xid id ▹ codes " name " ▹ shown_name name
+
 -- an object of a view
 abbrev pub id_text : List ℕ → IdAt → List ℕ
-id_text word at = view_text word at.slot at.xid ▹ codes " id " ▹ decimal at.id
+id_text word at = object_text word at.slot at.xid at.id
 
 -- a name of an object of a view
 abbrev pub name_text : List ℕ → NamedAt → List ℕ
-name_text word at = view_text word at.slot at.xid ▹ codes " id " ▹ decimal at.id ▹ codes " name " ▹ shown_name at.name
+name_text word at = named_text word at.slot at.xid at.id at.name
 
 -- an id without an inode; without a name it is that of the root
 abbrev pub inode_text : ℕ → ℕ → ℕ → Option (List ℕ) → List ℕ
-inode_text slot xid id None = view_text (codes "NoInode") slot xid ▹ codes " id " ▹ decimal id
-inode_text slot xid id (Some name) = view_text (codes "NoInode") slot xid ▹ codes " id " ▹ decimal id ▹ codes " name " ▹ shown_name name
+inode_text slot xid id None = object_text (codes "NoInode") slot xid id
+inode_text slot xid id (Some name) = named_text (codes "NoInode") slot xid id name
 
 -- a run of blocks of a volume
 abbrev pub run_text : List ℕ → ℕ → ℕ → ℕ → List ℕ

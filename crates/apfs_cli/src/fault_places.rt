@@ -113,16 +113,41 @@ pub fn of_record(
 ) -> Result<Vec<u8>, AllocError>
     ensures { IfOk result (λ text. text.items ≡ texts.record_text slot xid item why) }
 {
-    let word = record_word(why);
-    Ok(format!(in alloc; "Record volume {slot} view {xid} item {item} {word}")?.into_bytes())
+    let mut text = of_view_item(alloc, "Record", slot, xid, item)?;
+    text.push(b' ')?;
+    text.extend_from_slice(record_word(why).as_bytes())?;
+    Ok(text)
+}
+
+// An object of a view by its id.
+fn object(alloc: Global, word: &str, slot: u32, xid: u64, id: u64) -> Result<Vec<u8>, AllocError>
+    ensures { IfOk result (λ text. text.items ≡ texts.object_text word.now slot xid id) }
+{
+    Ok(format!(in alloc; "{word} volume {slot} view {xid} id {id}")?.into_bytes())
+}
+
+// An object of a view by its id and a name of it.
+fn named(
+    alloc: Global,
+    word: &str,
+    slot: u32,
+    xid: u64,
+    id: u64,
+    name: &[u8],
+) -> Result<Vec<u8>, AllocError>
+    ensures { IfOk result (λ text. text.items ≡ texts.named_text word.now slot xid id name.now) }
+{
+    let mut text = object(alloc, word, slot, xid, id)?;
+    text.extend_from_slice(b" name ")?;
+    push_name(&mut text, name)?;
+    Ok(text)
 }
 
 /// An object of a view.
 pub fn of_id(alloc: Global, word: &str, at: &IdAt) -> Result<Vec<u8>, AllocError>
     ensures { IfOk result (λ text. text.items ≡ texts.id_text word.now at.now) }
 {
-    let (slot, xid, id) = (at.slot, at.xid, at.id);
-    Ok(format!(in alloc; "{word} volume {slot} view {xid} id {id}")?.into_bytes())
+    object(alloc, word, at.slot, at.xid, at.id)
 }
 
 /// A run of blocks of a volume.
@@ -158,10 +183,7 @@ pub fn of_count(
 pub fn of_name(alloc: Global, word: &str, at: &NamedAt) -> Result<Vec<u8>, AllocError>
     ensures { IfOk result (λ text. text.items ≡ texts.name_text word.now at.now) }
 {
-    let (slot, xid, id) = (at.slot, at.xid, at.id);
-    let mut text = format!(in alloc; "{word} volume {slot} view {xid} id {id} name ")?.into_bytes();
-    push_name(&mut text, at.name.as_slice())?;
-    Ok(text)
+    named(alloc, word, at.slot, at.xid, at.id, at.name.as_slice())
 }
 
 /// An id without an inode; without a name it is that of the root.
@@ -174,10 +196,8 @@ pub fn no_inode(
 ) -> Result<Vec<u8>, AllocError>
     ensures { IfOk result (λ text. text.items ≡ texts.inode_text slot xid id name.now) }
 {
-    let mut text = format!(in alloc; "NoInode volume {slot} view {xid} id {id}")?.into_bytes();
-    if let Some(name) = name {
-        text.extend_from_slice(b" name ")?;
-        push_name(&mut text, name.as_slice())?;
+    match name {
+        Some(name) => named(alloc, "NoInode", slot, xid, id, name.as_slice()),
+        None => object(alloc, "NoInode", slot, xid, id),
     }
-    Ok(text)
 }

@@ -1,9 +1,10 @@
 // Commands over a cache of the image's blocks.
-ghost use Rattle.std.specs.Prelude.{◌≡◌, ℕ, List, Some, true, IfOk, OnErr};
+ghost use Rattle.std.specs.Prelude.{◌≡◌, ℕ, List, Some, true, length, unwrap_or, IfOk, OnErr};
 ghost use Rattle.apfs_model.specs.Counts.{Rose};
 ghost use Rattle.apfs_model.specs.Source.{IsKept};
 ghost use Rattle.blk_source.specs.declared.source.Opened.TheVariants.{Image};
 ghost use Rattle.obj_base.specs.BlockSize.{is_accepted};
+ghost use Rattle.nx_block.specs.Read.{size_of};
 ghost use Rattle.apfs_cli.specs.Cache.{kept_size};
 ghost use Rattle.apfs_cli.specs.Says.{HasEnded};
 ghost use Rattle.apfs_cli.specs.Words.{said};
@@ -26,6 +27,18 @@ const FIRST: usize = 4096;
 // The size in bytes of the blocks that are kept where the image tells none.
 const LEAST: u32 = 4096;
 
+// The block size that an image's first bytes tell, or the least one.
+fn told_size(first: &[u8]) -> u32
+    requires { length first.now ≡ 4096 }
+    ensures accepted { is_accepted result ≡ true }
+    ensures value { result ≡ unwrap_or (size_of first.now) 4096 }
+{
+    match nx_size(first) {
+        Some(size) => size,
+        None => LEAST,
+    }
+}
+
 // The size in bytes of the blocks that are kept of a source.
 fn kept_size_of<S: BlockSource>(src: &mut S) -> Result<u32, ReadFailed>
     ensures accepted { IfOk result (λ size. is_accepted size ≡ true) }
@@ -38,7 +51,7 @@ fn kept_size_of<S: BlockSource>(src: &mut S) -> Result<u32, ReadFailed>
     }
     let mut first = [0u8; FIRST];
     match src.read_at(0, &mut first) {
-        Ok(()) => Ok(nx_size(&first).unwrap_or(LEAST)),
+        Ok(()) => Ok(told_size(&first)),
         Err(failed) => Err(failed),
     }
 }

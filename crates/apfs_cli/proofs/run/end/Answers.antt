@@ -1,6 +1,6 @@
 -- The outcome is what was decided, or that memory ran out where there was none for its line.
 use Rattle.std.proofs.Common.{inl, inr, refl}
-use Rattle.std.specs.Prelude.{map, Err, Ok}
+use Rattle.std.specs.Prelude.{map, Err}
 use Rattle.std.specs.String.{string_bytes}
 use Rattle.apfs_cli.specs.Outcome.{Written, OutOfMemory, text_of}
 use Rattle.apfs_cli.specs.Seen.{outcome_of}

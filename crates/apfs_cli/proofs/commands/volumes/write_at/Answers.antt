@@ -1,6 +1,6 @@
 -- The volumes are put, or what stops their heads is told.
 use Rattle.std.proofs.Common.{◌≡◌, ◌∙◌, ap, refl}
-use Rattle.std.specs.Prelude.{ℕ, List, Some, Err}
+use Rattle.std.specs.Prelude.{Some, Err}
 use Rattle.blk_source.specs.declared.source.Opened.TheVariants.{Image}
 use Rattle.obj_base.specs.declared.stop.Stop.{Stop}
 use Rattle.obj_base.specs.declared.stop.Stop.TheVariants.{ReadFault}
