@@ -1,0 +1,4 @@
+#[test]
+fn nothing(rt: HostRuntime) {
+    assert!(rt; true);
+}
