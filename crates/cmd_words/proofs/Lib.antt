@@ -6,3 +6,4 @@ mod Found
 mod Grammars
 mod WholeLines
 mod ByParts
+mod Flags

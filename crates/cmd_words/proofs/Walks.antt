@@ -1,22 +1,16 @@
 -- One step of clap's walk over words, at a command of places, options and flags.
-use Rattle.std.proofs.Common.{◌≡◌, ◌∙◌, ◌+◌, ◌==◌, ◌&&◌, ◌||◌, ◌⊎◌, ⊎_elim, inl, inr, ℕ, Bool, true, false, not, List, [], ◌∷◌, ◌++◌, Option, Some, None, min, refl, sym, ap, ap₂, subst, arith, if◌then◌else◌, length, true≢false, codes}
+use Rattle.std.proofs.Common.{◌≡◌, ◌∙◌, ◌+◌, ◌==◌, ◌&&◌, ◌||◌, ◌⊎◌, ⊎_elim, inl, inr, ℕ, Bool, true, false, List, [], ◌∷◌, ◌++◌, Option, Some, None, min, refl, sym, ap, ap₂, subst, arith, if◌then◌else◌, length, true≢false}
 use Rattle.std.specs.Prelude.{fold, slice_get, option_and_then, encode_utf8, drop}
-use Rattle.std.proofs.lemmas.Grind.{common_steps}
 use Rattle.std.proofs.lemmas.Bool.Decides.{nat_tests}
-use Rattle.std.proofs.lemmas.Slice.Eq.{bytes_eq-Decides}
 use Rattle.std.specs.Option.{option_map_or}
 use Rattle.std.specs.Str.{bytes_eq, chars}
 use Rattle.clap.specs.Lexer.{long_of, name_and_value, short_of, usize_max}
-use Rattle.clap.specs.Walk.{Held, default_rows, reading_by, to_positional, used_by_id, Step, Row, Rule, Waiting, Walk, after_step, arg_by_index, arg_by_long, at_row, finished, has_row, idle, is_empty, is_pending, long_or_other, option, positional, pushed, settled, settled_rows, short_or_plain, subcommand_met, trailing, used, walked, with_default, with_values, more_values, without}
+use Rattle.clap.specs.Walk.{Held, default_rows, reading_by, to_positional, used_by_id, Step, Row, Rule, Waiting, Walk, after_step, arg_by_index, arg_by_long, finished, has_row, idle, is_empty, is_pending, long_or_other, option, positional, pushed, settled, settled_rows, short_or_plain, subcommand_met, trailing, walked, with_default}
 use Rattle.clap.specs.Kinds.{Kinds, or_else}
 use Rattle.clap.specs.Faults.{given_default_fault, bundle_fault, bundle_step_fault, check_fault, defaults_fault, flag_word_fault, flags_fault, long_fault, positional_fault, short_fault, settle_fault, step_fault, stray_fault, turn_fault, use_fault}
-use Rattle.clap.specs.Values.{reading_of}
-use Rattle.clap.specs.declared.builder.value_parser.ValueParser.TheVariants as vp
-use Rattle.clap.specs.declared.parser.matches.ValueSource.TheVariants.{CommandLine}
-use Rattle.clap.specs.declared.error.kind.ErrorKind.TheVariants as kind
 use Rattle.cmd_words.specs.Said.{Grammar, Said, Text, all_by_place, first_said, is_among, is_once, is_value, says}
-use Rattle.cmd_words.proofs.Shapes.{HasNames, HasPlaces, HasRule, row_for, rows_for, set_rule, flag_rule, shape_with}
-use Rattle.cmd_words.proofs.Rows.{bool_cases, flag_again, flag_first, flag_used, has_row-said, once_more, row_pushed, text_itself, text_same, twice, use_again, use_first, used_once}
+use Rattle.cmd_words.proofs.Shapes.{HasNames, HasPlaces, HasRule, rows_for, set_rule, flag_rule, shape_with}
+use Rattle.cmd_words.proofs.Rows.{bool_cases, once_more, twice, use_again, use_first, used_once}
 
 -- ---- kinds
 

@@ -1,34 +1,18 @@
 -- The line by clap is the line by the grammars.
-use Rattle.std.proofs.Common.{◌≡◌, ◌∙◌, ◌==◌, ◌&&◌, ◌||◌, ⊎_elim, ℕ, Bool, true, false, not, List, [], ◌∷◌, Option, Some, None, option_map, map, refl, sym, ap, ap₂, subst, if◌then◌else◌, codes, true≢false}
-use Rattle.std.specs.Prelude.{option_and_then, find, fold, slice_get}
-use Rattle.std.specs.Char.{encode_utf8}
-use Rattle.std.specs.List.{list_all, list_any}
-use Rattle.std.specs.Str.{IsUtf8, bytes_eq, chars, encode_utf8_all}
-use Rattle.std.proofs.lemmas.Str.{chars-encodes}
-use Rattle.std.proofs.lemmas.Bool.Decides.{nat_tests}
+use Rattle.std.proofs.Common.{◌≡◌, ◌∙◌, Bool, true, false, List, [], ◌∷◌, Option, Some, None, option_map, map, refl, ap, if◌then◌else◌}
+use Rattle.std.specs.Prelude.{option_and_then, find, slice_get}
+use Rattle.std.specs.Str.{bytes_eq}
 use Rattle.std.specs.String.{string_bytes}
 use Rattle.std.proofs.lemmas.Str.{IsUtf8-string_bytes}
 use Rattle.std.specs.declared.string.String.{String}
 use Rattle.cmd_words.specs.ByClap.{line_by_clap, read_by_clap}
-use Rattle.cmd_words.specs.Asked.{Asked, AskedTarget}
 use Rattle.cmd_words.specs.Lines.{alone, line_named, line_of, read, snapshots_by, snapshots_words, target_by, target_words, xattr_by, xattr_words}
-use Rattle.std.proofs.Common.{arith}
-use Rattle.clap.specs.Walk.{Row, Rule, Walk, rows_after, settled, arg_by_long, arg_by_short, finished, first_of, is_empty, nothing_held, walk_from, walked}
-use Rattle.clap.specs.Simple.{App, argument_words, built, names_of}
-use Rattle.clap.specs.Takes.{is_given}
-use Rattle.clap.specs.Facts.{explicit_source}
-use Rattle.std.specs.Option.{option_map_or}
-use Rattle.clap.specs.declared.error.kind.ErrorKind.{ErrorKind}
-use Rattle.clap.specs.declared.error.kind.ErrorKind.TheVariants.{MissingRequiredArgument}
-use Rattle.clap.specs.Kinds.{Kinds, or_else}
-use Rattle.clap.specs.Faults.{built_fault, check_fault, defaults_fault, settle_fault, turn_fault, walk_fault}
-use Rattle.clap.proofs.FaultLemmas.{leaf_fault}
-use Rattle.cmd_words.specs.Commands.{bare_app, found_in, target_app, snapshots_app, xattr_app}
-use Rattle.cmd_words.specs.Said.{Grammar, Said, Text, is_among, is_once, is_whole, said_by_words, said_from, says, value_said}
-use Rattle.cmd_words.proofs.Shapes.{HasNames, HasPlaces, HasRule, row_for, rows_for, set_rule, flag_rule, shape_with}
-use Rattle.cmd_words.proofs.Rows.{bool_cases, text_same}
-use Rattle.cmd_words.proofs.Walks.{AllOpen, IsOpen, NoDefaults, Opens, ended, taken_from, whole}
-use Rattle.cmd_words.proofs.Taken.{reads}
+use Rattle.clap.specs.Walk.{Row, first_of}
+use Rattle.clap.specs.Simple.{App}
+use Rattle.cmd_words.specs.Commands.{target_app, snapshots_app, xattr_app}
+use Rattle.cmd_words.specs.Said.{Grammar, Said, Text, said_by_words, value_said}
+use Rattle.cmd_words.proofs.Shapes.{row_for, rows_for}
+use Rattle.cmd_words.proofs.Walks.{AllOpen}
 use Rattle.cmd_words.proofs.Found.{IsCommand, found-said, text_opens}
 use Rattle.cmd_words.proofs.Grammars.{snapshots_is, target_is, xattr_is}
 
