@@ -1,0 +1,104 @@
+-- The commands of this crate, with their grammars.
+use Rattle.std.proofs.Common.{◌≡◌, ◌∙◌, ◌&&◌, ◌||◌, ⊎_elim, ℕ, Bool, true, false, not, List, [], ◌∷◌, Some, None, refl, sym, ap, ap₂, subst, codes, true≢false}
+use Rattle.std.specs.Str.{bytes_eq}
+use Rattle.cmd_words.specs.Lines.{snapshots_words, target_words, xattr_words}
+use Rattle.clap.specs.Walk.{Rule, arg_by_long, arg_by_short}
+use Rattle.cmd_words.specs.Commands.{target_app, snapshots_app, xattr_app}
+use Rattle.cmd_words.specs.Said.{Text, is_among, says}
+use Rattle.cmd_words.proofs.Shapes.{HasNames, HasRule, set_rule, flag_rule}
+use Rattle.cmd_words.proofs.Rows.{bool_cases, text_same}
+use Rattle.cmd_words.proofs.Found.{IsCommand, given-said}
+
+pub required_path : (b : Bool) → (not b || false) ≡ not (b && true)
+required_path true = refl
+required_path false = refl
+
+abbrev pub place_set : Bool → Text → ℕ → Rule
+place_set required name i = set_rule name None (Some i) required
+
+abbrev pub option_set : Text → Rule
+option_set name = set_rule name (Some name) None false
+
+has_option : (c : List Rule) (name given : Text) → bytes_eq name given ≡ true → HasRule c name (arg_by_long c name) → HasRule c given (arg_by_long c given)
+has_option c name given e r = subst (λ (t : Text). HasRule c t (arg_by_long c t)) (text_same name given e) r
+
+neither : (a b : Bool) → (a || (b || false)) ≡ false → (a ≡ false) × (b ≡ false)
+neither true b e = absurd (true≢false e)
+neither false true e = absurd (true≢false e)
+neither false false e = (refl, refl)
+
+-- two options, which no letter names
+pub two_options : (c : List Rule) (a b : Text) (flags places required : List Text) → ((x : ℕ) → arg_by_short c x ≡ None) → HasRule c a (arg_by_long c a) → HasRule c b (arg_by_long c b)
+    → ((name : Text) → bytes_eq a name ≡ false → bytes_eq b name ≡ false → is_among name flags ≡ true → arg_by_long c name ≡ Some (flag_rule name))
+    → ((name : Text) → bytes_eq a name ≡ false → bytes_eq b name ≡ false → is_among name flags ≡ false → arg_by_long c name ≡ None)
+    → HasNames c (record { options = a ∷ b ∷ []; flags = flags; places = places; required = required })
+two_options c a b flags places required short first second flag other = record {
+  short = short;
+  known = λ name e. ⊎_elim (λ (f : bytes_eq a name ≡ true). has_option c a name f first)
+      (λ (f : bytes_eq a name ≡ false). ⊎_elim (λ (g : bytes_eq b name ≡ true). has_option c b name g second)
+      (λ (g : bytes_eq b name ≡ false). absurd (true≢false (sym e ∙ ap₂ (λ (x y : Bool). x || (y || false)) f g))) (bool_cases (bytes_eq b name))) (bool_cases (bytes_eq a name));
+  flag = λ name e f. let h = neither (bytes_eq a name) (bytes_eq b name) e in flag name h.0 h.1 f;
+  unknown = λ name e f. let h = neither (bytes_eq a name) (bytes_eq b name) e in other name h.0 h.1 f;
+}
+
+one_option : (c : List Rule) (a : Text) → ((x : ℕ) → arg_by_short c x ≡ None) → HasRule c a (arg_by_long c a)
+    → ((name : Text) → bytes_eq a name ≡ false → arg_by_long c name ≡ None) → HasNames c (record { options = a ∷ []; flags = []; places = []; required = [] })
+one_option c a short first other = record {
+  short = short;
+  known = λ name e. ⊎_elim (λ (f : bytes_eq a name ≡ true). has_option c a name f first)
+      (λ (f : bytes_eq a name ≡ false). absurd (true≢false (sym e ∙ ap (λ (x : Bool). x || false) f))) (bool_cases (bytes_eq a name));
+  flag = λ name e f. absurd (true≢false (sym f));
+  unknown = λ name e f. other name (neither (bytes_eq a name) false e).0;
+}
+
+abbrev target_rules : List Rule
+target_rules = place_set true (codes "path") 1 ∷ option_set (codes "volume") ∷ option_set (codes "snapshot") ∷ []
+
+abbrev xattr_rules : List Rule
+xattr_rules = place_set true (codes "path") 1 ∷ place_set false (codes "name") 2 ∷ option_set (codes "volume") ∷ option_set (codes "snapshot") ∷ []
+
+abbrev snapshots_rules : List Rule
+snapshots_rules = option_set (codes "volume") ∷ []
+
+pub target_is : IsCommand target_app target_words
+target_is = record {
+  rules_are = target_rules;
+  is = refl;
+  words = λ xs. refl;
+  none = (refl, (refl, (refl, tt)));
+  names_are = two_options target_rules (codes "volume") (codes "snapshot") [] (codes "path" ∷ []) (codes "path" ∷ []) (λ x. refl)
+      (record { long = Some (codes "volume"); index = None; required = false; is = refl; by_id = refl })
+      (record { long = Some (codes "snapshot"); index = None; required = false; is = refl; by_id = refl })
+      (λ name e f g. absurd (true≢false (sym g))) (λ name e f g. rw (e, f) refl);
+  places_are = (record { long = None; index = Some 1; required = true; is = refl; by_id = refl }, refl);
+  required_are = λ all. ap (λ (b : Bool). not b || false) (given-said (codes "path") all) ∙ required_path (says (codes "path") all);
+}
+
+pub xattr_is : IsCommand xattr_app xattr_words
+xattr_is = record {
+  rules_are = xattr_rules;
+  is = refl;
+  words = λ xs. refl;
+  none = (refl, (refl, (refl, (refl, tt))));
+  names_are = two_options xattr_rules (codes "volume") (codes "snapshot") [] (codes "path" ∷ codes "name" ∷ []) (codes "path" ∷ []) (λ x. refl)
+      (record { long = Some (codes "volume"); index = None; required = false; is = refl; by_id = refl })
+      (record { long = Some (codes "snapshot"); index = None; required = false; is = refl; by_id = refl })
+      (λ name e f g. absurd (true≢false (sym g))) (λ name e f g. rw (e, f) refl);
+  places_are = (
+    record { long = None; index = Some 1; required = true; is = refl; by_id = refl },
+    (record { long = None; index = Some 2; required = false; is = refl; by_id = refl }, refl),
+  );
+  required_are = λ all. ap (λ (b : Bool). not b || false) (given-said (codes "path") all) ∙ required_path (says (codes "path") all);
+}
+
+pub snapshots_is : IsCommand snapshots_app snapshots_words
+snapshots_is = record {
+  rules_are = snapshots_rules;
+  is = refl;
+  words = λ xs. refl;
+  none = (refl, tt);
+  names_are = one_option snapshots_rules (codes "volume") (λ x. refl)
+      (record { long = Some (codes "volume"); index = None; required = false; is = refl; by_id = refl }) (λ name e. rw e refl);
+  places_are = refl;
+  required_are = λ all. refl;
+}

@@ -1,0 +1,9 @@
+mod Shapes
+mod Rows
+mod Walks
+mod Taken
+mod Found
+mod Grammars
+mod WholeLines
+mod ByParts
+mod Flags

@@ -1,0 +1,6 @@
+-- What the words say, what a line asks for, and the lines; then the same by clap.
+pub mod Said
+pub mod Asked
+pub mod Lines
+pub mod Commands
+pub mod ByClap

@@ -1,0 +1,97 @@
+-- Which words are a line of the program, and what the line asks for.
+use Rattle.std.specs.Prelude.{nat_le, Bool, ◌+◌, ◌-◌, ◌*◌, ◌==◌, ◌&&◌, ℕ, not, List, [], ◌∷◌}
+use Rattle.std.specs.Prelude.{Option, Some, None, option_map, option_and_then, if◌then◌else◌, codes}
+use Rattle.std.specs.Str.{bytes_eq}
+use Rattle.cmd_words.specs.Said.{Grammar, Text, said_by_words, value_said}
+use Rattle.cmd_words.specs.Asked.{Asked, AskedTarget, Cat, Check, Info, Ls, Ring, Snapshots, Space, Tree, Volumes, Xattr}
+
+-- ---- the parts of a line
+
+-- `0` to `9`
+abbrev pub is_digit : ℕ → Bool
+is_digit byte = nat_le 48 byte && nat_le byte 57
+
+-- one or two decimal digits without a leading zero, or `0`
+abbrev pub small_number : Text → Option ℕ
+small_number (d ∷ []) = if is_digit d then Some (d - 48) else None
+small_number (d ∷ e ∷ []) =
+    if is_digit d && is_digit e && not (d == 48) then Some (10 * (d - 48) + (e - 48)) else None
+small_number _ = None
+
+-- the volume that an option gives: none where the option is absent, and no answer where its value is no number
+abbrev pub volume_by : Option Text → Option (Option ℕ)
+volume_by None = Some None
+volume_by (Some text) = option_map (λ n. Some n) (small_number text)
+
+-- a path and its view, where `value` gives what was said for a name
+abbrev pub target_by : (Text → Option Text) → Option AskedTarget
+target_by value = option_and_then (λ path. option_map (λ volume. record {
+  path = path;
+  volume = volume;
+  snapshot = value (codes "snapshot");
+}) (volume_by (value (codes "volume")))) (value (codes "path"))
+
+-- attributes, where `value` gives what was said for a name
+abbrev pub xattr_by : (Text → Option Text) → Option Asked
+xattr_by value = option_map (λ target. Xattr target (value (codes "name"))) (target_by value)
+
+-- snapshots, where `value` gives what was said for a name
+abbrev pub snapshots_by : (Text → Option Text) → Option Asked
+snapshots_by value = option_map Snapshots (volume_by (value (codes "volume")))
+
+-- ---- the words after the image
+
+-- `PATH [--volume N] [--snapshot NAME]`
+abbrev pub target_words : Grammar
+target_words = record {
+  options = codes "volume" ∷ codes "snapshot" ∷ [];
+  flags = [];
+  places = codes "path" ∷ [];
+  required = codes "path" ∷ [];
+}
+
+-- `PATH [NAME] [--volume N] [--snapshot NAME]`
+abbrev pub xattr_words : Grammar
+xattr_words = record {
+  options = codes "volume" ∷ codes "snapshot" ∷ [];
+  flags = [];
+  places = codes "path" ∷ codes "name" ∷ [];
+  required = codes "path" ∷ [];
+}
+
+-- `[--volume N]`
+abbrev pub snapshots_words : Grammar
+snapshots_words = record { options = codes "volume" ∷ []; flags = []; places = []; required = [] }
+
+-- what words of a grammar ask for, by what they say for each name
+abbrev pub read : {X : Type 0} → Grammar → ((Text → Option Text) → Option X) → List Text → Option X
+read grammar parts words =
+    option_and_then (λ all. parts (λ name. value_said name all)) (said_by_words grammar words)
+
+-- a line that has no word after the image
+abbrev pub alone : Asked → List Text → Option Asked
+alone asked [] = Some asked
+alone asked (word ∷ rest) = None
+
+-- ---- the line
+
+-- the line of a command, where the others are the lines of each kind of words after the image
+abbrev pub line_named : Text → (Asked → Option Asked) → Option Asked → Option AskedTarget → Option Asked → Option Asked
+line_named command by_image snapshots target xattr =
+    if bytes_eq command (codes "ring") then by_image Ring else
+    if bytes_eq command (codes "info") then by_image Info else
+    if bytes_eq command (codes "volumes") then by_image Volumes else
+    if bytes_eq command (codes "space") then by_image Space else
+    if bytes_eq command (codes "check") then by_image Check else
+    if bytes_eq command (codes "snapshots") then snapshots else
+    if bytes_eq command (codes "ls") then option_map Ls target else
+    if bytes_eq command (codes "tree") then option_map Tree target else
+    if bytes_eq command (codes "cat") then option_map Cat target else
+    if bytes_eq command (codes "xattr") then xattr else
+    None
+
+-- what a line of words asks for; None where the words are no line of the program
+abbrev pub line_of : List Text → Option Asked
+line_of (command ∷ image ∷ rest) = line_named command (λ asked. alone asked rest)
+    (read snapshots_words snapshots_by rest) (read target_words target_by rest) (read xattr_words xattr_by rest)
+line_of words = None

@@ -1,0 +1,12 @@
+//! The words of a command line: which are a line of the program, and what the line asks for.
+#![tactic(auto)]
+
+mod commands;
+mod lines;
+mod parts;
+mod reading;
+#[cfg(test)]
+mod tests;
+
+pub use lines::{Line, Target};
+pub use reading::line_in;

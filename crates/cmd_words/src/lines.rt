@@ -1,0 +1,37 @@
+//! What a line asks for.
+
+/// A path, and the view in which it is looked up.
+#[derive(Clone, Copy, PartialEq, Eq, Debug)]
+pub struct Target<'a> {
+    /// The path, as it stands.
+    pub path: &'a str,
+    /// The slot of the volume, from 0 to 99, where one is named.
+    pub volume: Option<u8>,
+    /// The name of the snapshot, as it stands, where one is named.
+    pub snapshot: Option<&'a str>,
+}
+
+/// What a line asks for, with its words beside the image.
+#[derive(Clone, Copy, PartialEq, Eq, Debug)]
+pub enum Line<'a> {
+    /// The candidates of the descriptor ring.
+    Ring,
+    /// The newest checkpoint.
+    Info,
+    /// The volumes.
+    Volumes,
+    /// The space that is in use and free.
+    Space,
+    /// Whether the container is well-formed.
+    Check,
+    /// The snapshots of the volume in a slot, from 0 to 99, where one is named.
+    Snapshots(Option<u8>),
+    /// What a directory has.
+    Ls(Target<'a>),
+    /// What is under a directory.
+    Tree(Target<'a>),
+    /// The bytes of a file.
+    Cat(Target<'a>),
+    /// The extended attributes, or the bytes of the one that is named.
+    Xattr(Target<'a>, Option<&'a str>),
+}

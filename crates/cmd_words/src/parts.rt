@@ -1,0 +1,76 @@
+//! The parts of a line, from what clap found in its words.
+ghost use Rattle.std.specs.Prelude.{◌≡◌, option_map};
+ghost use Rattle.clap.specs.Words.{first_of, found_of, rows_of};
+ghost use Rattle.cmd_words.specs.Lines.{small_number, snapshots_by, target_by, volume_by, xattr_by};
+ghost use Rattle.cmd_words.specs.Asked.{asked_by, target_asked};
+
+use crate::lines::{Line, Target};
+use clap::ArgMatches;
+
+// One or two decimal digits without a leading zero, or `0`.
+fn number_of(text: &str) -> Option<u8>
+    ensures { result ≡ small_number text.now }
+{
+    match text.as_bytes() {
+        [d @ b'0'..=b'9'] => Some(*d - b'0'),
+        [d @ b'1'..=b'9', e @ b'0'..=b'9'] => Some(10 * (*d - b'0') + (*e - b'0')),
+        _ => None,
+    }
+}
+
+// The volume that an option gives; None where what it gives is no number of a volume.
+fn volume_of(value: Option<&str>) -> Option<Option<u8>>
+    ensures { result ≡ volume_by (option_map (λ text. text.now) value.entry) }
+{
+    match value {
+        None => Some(None),
+        Some(text) => match number_of(text) {
+            Some(volume) => Some(Some(volume)),
+            None => None,
+        },
+    }
+}
+
+// The value that was found under a name.
+fn text_in<'a>(matches: &ArgMatches<'a>, name: &str) -> Option<&'a str>
+    ensures { option_map (λ text. text.now) result ≡ first_of name.now (rows_of (found_of matches.now)) }
+{
+    matches.get_str(name)
+}
+
+/// The path and its view.
+pub fn target_in<'a>(matches: &ArgMatches<'a>) -> Option<Target<'a>>
+    ensures { option_map target_asked result ≡ target_by (λ name. first_of name (rows_of (found_of matches.now))) }
+{
+    let Some(path) = text_in(matches, "path") else {
+        return None;
+    };
+    let Some(volume) = volume_of(text_in(matches, "volume")) else {
+        return None;
+    };
+    Some(Target {
+        path,
+        volume,
+        snapshot: text_in(matches, "snapshot"),
+    })
+}
+
+/// The line that asks for attributes.
+pub fn xattr_in<'a>(matches: &ArgMatches<'a>) -> Option<Line<'a>>
+    ensures { option_map asked_by result ≡ xattr_by (λ name. first_of name (rows_of (found_of matches.now))) }
+{
+    let Some(target) = target_in(matches) else {
+        return None;
+    };
+    Some(Line::Xattr(target, text_in(matches, "name")))
+}
+
+/// The line that asks for snapshots.
+pub fn snapshots_in<'a>(matches: &ArgMatches<'a>) -> Option<Line<'a>>
+    ensures { option_map asked_by result ≡ snapshots_by (λ name. first_of name (rows_of (found_of matches.now))) }
+{
+    let Some(volume) = volume_of(text_in(matches, "volume")) else {
+        return None;
+    };
+    Some(Line::Snapshots(volume))
+}

@@ -1,0 +1,106 @@
+//! A line, from its words.
+ghost use Rattle.std.specs.Prelude.{◌≡◌, IfOk, map, option_map, true};
+ghost use Rattle.std.specs.String.{string_bytes};
+ghost use Rattle.clap.specs.Words.{app_of, found_of, is_simple_and_free, rows_of};
+ghost use Rattle.cmd_words.specs.Asked.{asked_by, target_asked};
+ghost use Rattle.cmd_words.specs.ByClap.{line_by_clap, read_by_clap};
+ghost use Rattle.cmd_words.specs.Commands.{found_in, snapshots_app, target_app, xattr_app};
+ghost use Rattle.cmd_words.specs.Lines.{alone, line_of, snapshots_by, target_by, xattr_by};
+
+use crate::commands::{snapshots_command, target_command, xattr_command};
+use crate::lines::{Line, Target};
+use crate::parts::{snapshots_in, target_in, xattr_in};
+use clap::error::ErrorKind;
+use clap::{ArgMatches, Command};
+use std::alloc::{AllocError, Global};
+
+// What a command finds in the words, where it takes them.
+fn found<'a>(
+    command: Command<'a>,
+    words: &'a [String],
+) -> Result<Option<ArgMatches<'a>>, AllocError>
+    requires { is_simple_and_free (app_of command) ≡ true }
+    ensures { IfOk result (λ matches. option_map (λ m. rows_of (found_of m)) matches
+        ≡ found_in (app_of command.entry) (map string_bytes words.now)) }
+{
+    match command.try_get_matches_from(words) {
+        Ok(matches) => Ok(Some(matches)),
+        Err(error) => match error.kind() {
+            ErrorKind::OutOfMemory => Err(AllocError),
+            _ => Ok(None),
+        },
+    }
+}
+
+// A line that has no word after the image.
+fn alone<'a>(line: Line<'a>, rest: &[String]) -> Option<Line<'a>>
+    ensures { option_map asked_by result ≡ alone (asked_by line.entry) (map string_bytes rest.now) }
+{
+    match rest {
+        [] => Some(line),
+        _ => None,
+    }
+}
+
+// The path and its view.
+fn target_said<'a>(alloc: Global, rest: &'a [String]) -> Result<Option<Target<'a>>, AllocError>
+    ensures { IfOk result (λ target. option_map target_asked target
+        ≡ read_by_clap target_app target_by (map string_bytes rest.entry.now)) }
+{
+    let Some(matches) = found(target_command(alloc)?, rest)? else {
+        return Ok(None);
+    };
+    Ok(target_in(&matches))
+}
+
+// The line that asks for attributes.
+fn xattr_line<'a>(alloc: Global, rest: &'a [String]) -> Result<Option<Line<'a>>, AllocError>
+    ensures { IfOk result (λ line. option_map asked_by line
+        ≡ read_by_clap xattr_app xattr_by (map string_bytes rest.entry.now)) }
+{
+    let Some(matches) = found(xattr_command(alloc)?, rest)? else {
+        return Ok(None);
+    };
+    Ok(xattr_in(&matches))
+}
+
+// The line that asks for snapshots.
+fn snapshots_line<'a>(alloc: Global, rest: &'a [String]) -> Result<Option<Line<'a>>, AllocError>
+    ensures { IfOk result (λ line. option_map asked_by line
+        ≡ read_by_clap snapshots_app snapshots_by (map string_bytes rest.entry.now)) }
+{
+    let Some(matches) = found(snapshots_command(alloc)?, rest)? else {
+        return Ok(None);
+    };
+    Ok(snapshots_in(&matches))
+}
+
+// The line that the words are, by clap's definitions.
+fn line_by_clap<'a>(alloc: Global, words: &'a [String]) -> Result<Option<Line<'a>>, AllocError>
+    ensures { IfOk result (λ line. option_map asked_by line ≡ line_by_clap (map string_bytes words.entry.now)) }
+{
+    let [command, _image, rest @ ..] = words else {
+        return Ok(None);
+    };
+    match command.as_str() {
+        "ring" => Ok(alone(Line::Ring, rest)),
+        "info" => Ok(alone(Line::Info, rest)),
+        "volumes" => Ok(alone(Line::Volumes, rest)),
+        "space" => Ok(alone(Line::Space, rest)),
+        "check" => Ok(alone(Line::Check, rest)),
+        "snapshots" => snapshots_line(alloc, rest),
+        "ls" => Ok(target_said(alloc, rest)?.map(Line::Ls)),
+        "tree" => Ok(target_said(alloc, rest)?.map(Line::Tree)),
+        "cat" => Ok(target_said(alloc, rest)?.map(Line::Cat)),
+        "xattr" => xattr_line(alloc, rest),
+        _ => Ok(None),
+    }
+}
+
+/// The line that the words are, if they are one. The first word is the command and the second the image, which is
+/// taken as it stands; a request for help is no line.
+pub fn line_in<'a>(alloc: Global, words: &'a [String]) -> Result<Option<Line<'a>>, AllocError>
+    ensures { IfOk result (λ line. option_map asked_by line ≡ line_of (map string_bytes words.entry.now)) }
+{
+    line_by_clap(alloc, words)
+}

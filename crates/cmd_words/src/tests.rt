@@ -1,0 +1,146 @@
+//! Lines, right and wrong, worked out by hand. The words of a line are parted by `|`.
+use crate::{Line, Target, line_in};
+use std::alloc::{AllocError, Global};
+
+// Whether the words ask for this.
+fn asks_for(alloc: Global, text: &str, wanted: Option<Line<'_>>) -> Result<bool, AllocError> {
+    let mut words: Vec<String> = Vec::new(alloc);
+    for word in text.split('|') {
+        words.push(format!(in alloc; "{word}")?)?;
+    }
+    Ok(line_in(alloc, words.as_slice())? == wanted)
+}
+
+// A path in the volume and the snapshot that are meant.
+fn at<'a>(path: &'a str, volume: Option<u8>, snapshot: Option<&'a str>) -> Target<'a> {
+    Target {
+        path,
+        volume,
+        snapshot,
+    }
+}
+
+#[test]
+fn right_lines_say_their_parts(rt: HostRuntime) -> Result<(), AllocError> {
+    let rows = [
+        ("ring|img", Line::Ring),
+        ("info|img", Line::Info),
+        ("volumes|--help", Line::Volumes),
+        ("space|img", Line::Space),
+        ("check|", Line::Check),
+        ("snapshots|img", Line::Snapshots(None)),
+        ("snapshots|img|--volume=2", Line::Snapshots(Some(2))),
+        ("snapshots|img|--", Line::Snapshots(None)),
+        ("ls|img|/", Line::Ls(at("/", None, None))),
+        ("ls|img|", Line::Ls(at("", None, None))),
+        ("ls|--volume|é", Line::Ls(at("é", None, None))),
+        ("tree|img|a", Line::Tree(at("a", None, None))),
+        ("tree|img|help", Line::Tree(at("help", None, None))),
+        ("xattr|img|a", Line::Xattr(at("a", None, None), None)),
+        (
+            "xattr|img|a|--|-n",
+            Line::Xattr(at("a", None, None), Some("-n")),
+        ),
+        (
+            "xattr|img|--volume=1|a|--snapshot|s|n",
+            Line::Xattr(at("a", Some(1), Some("s")), Some("n")),
+        ),
+    ];
+    for (text, line) in rows {
+        let as_said = asks_for(rt.alloc(), text, Some(line))?;
+        assert!(rt; as_said, "{text}");
+    }
+    Ok(())
+}
+
+#[test]
+fn options_stand_anywhere(rt: HostRuntime) -> Result<(), AllocError> {
+    let rows = [
+        ("cat|img|a|--volume|3", at("a", Some(3), None)),
+        ("cat|img|--volume=0|a", at("a", Some(0), None)),
+        ("cat|img|a|--volume=10", at("a", Some(10), None)),
+        (
+            "cat|img|--snapshot|s|--volume|99|a",
+            at("a", Some(99), Some("s")),
+        ),
+        ("cat|img|a|--snapshot=", at("a", None, Some(""))),
+        ("cat|img|a|--snapshot|", at("a", None, Some(""))),
+        ("cat|img|a|--snapshot=-x", at("a", None, Some("-x"))),
+        (
+            "cat|img|a|--snapshot=--volume=3",
+            at("a", None, Some("--volume=3")),
+        ),
+        ("cat|img|a|--snapshot=a=b", at("a", None, Some("a=b"))),
+        ("cat|img|a|--snapshot|-", at("a", None, Some("-"))),
+        ("cat|img|a|--snapshot=-é", at("a", None, Some("-é"))),
+        ("cat|img|--|-a", at("-a", None, None)),
+        ("cat|img|--|--", at("--", None, None)),
+        ("cat|img|--|--help", at("--help", None, None)),
+        (
+            "cat|img|--volume=3|--|--volume=4",
+            at("--volume=4", Some(3), None),
+        ),
+        ("cat|img|a|--", at("a", None, None)),
+        ("cat|img|-", at("-", None, None)),
+    ];
+    for (text, target) in rows {
+        let as_said = asks_for(rt.alloc(), text, Some(Line::Cat(target)))?;
+        assert!(rt; as_said, "{text}");
+    }
+    Ok(())
+}
+
+#[test]
+fn wrong_words_are_no_line(rt: HostRuntime) -> Result<(), AllocError> {
+    let rows = [
+        "",
+        "help",
+        "--help",
+        "--help|img",
+        "ls",
+        "ring",
+        "RING|img",
+        "rings|img",
+        "ring|img|a",
+        "ring|img|--",
+        "check|img|--strict",
+        "gen|3",
+        "LS|img|a",
+        "lsx|img|a",
+        "ls|img",
+        "ls|img|a|b",
+        "ls|img|a|--quick",
+        "cat|img|--",
+        "cat|img|a|--|b",
+        "cat|img|a|--volume=07",
+        "cat|img|a|--volume=100",
+        "cat|img|a|--volume=+3",
+        "cat|img|a|--volume=",
+        "cat|img|a|--volume|",
+        "cat|img|a|--volume",
+        "cat|img|a|--vol=3",
+        "cat|img|a|-v|3",
+        "cat|img|a|--volume=3|--volume=3",
+        "cat|img|a|--volume|3|--volume=3",
+        "cat|img|a|--snapshot=x|--snapshot|y",
+        "cat|img|a|--snapshot|-x",
+        "cat|img|a|--snapshot|--volume=3",
+        "cat|img|a|--snapshot|--|x",
+        "cat|img|-a",
+        "cat|img|-1",
+        "cat|img|---",
+        "cat|img|--=x",
+        "cat|img|a|-h",
+        "cat|img|a|--help",
+        "cat|img|a|-V",
+        "cat|img|a|--version",
+        "xattr|img|a|n|m",
+        "snapshots|img|a",
+        "snapshots|img|--snapshot=a",
+    ];
+    for text in rows {
+        let as_said = asks_for(rt.alloc(), text, None)?;
+        assert!(rt; as_said, "{text}");
+    }
+    Ok(())
+}
