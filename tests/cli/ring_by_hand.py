@@ -15,7 +15,7 @@ import sys
 import uuid
 
 TOP = 2**32 - 1
-ACCEPTED = (4096,)
+ACCEPTED = (4096, 8192, 16384, 32768, 65536)
 
 
 def number(data, at, width):
