@@ -1,7 +1,8 @@
 -- What each command takes, writes and names.
-use Rattle.std.specs.Prelude.{ℕ, Bool, true, List, []}
+use Rattle.std.specs.Prelude.{◌⊎◌, ℕ, Bool, true, List, []}
 use Rattle.obj_base.specs.declared.stop.Feature.{Feature}
 use Rattle.apfs_check.specs.declared.fault.Fault.{Fault}
+use Rattle.path_walk.specs.declared.answer.Answer.{Answer}
 use Rattle.apfs_cli.specs.Words.{Asked, Ring, Info, Volumes}
 use Rattle.apfs_cli.specs.Commands.Ring as ring
 use Rattle.apfs_cli.specs.Commands.Info as info
@@ -36,3 +37,13 @@ abbrev pub IsFeature : Asked → List ℕ → Feature → ℕ → Type 0
 IsFeature Ring image feature block = ring.IsFeature image feature block
 IsFeature Info image feature block = info.IsFeature image feature block
 IsFeature Volumes image feature block = volumes.IsFeature image feature block
+
+-- an answer that a command gives of an image in place of a text: by its cause
+abbrev pub IsAnswer : Asked → List ℕ → Answer → Type 0
+IsAnswer Ring image answer = ⊥
+IsAnswer Info image answer = ⊥
+IsAnswer Volumes image answer = ⊥
+
+-- a command is defined to write a text of an image, or to answer
+abbrev pub HasResult : Asked → List ℕ → Type 0
+HasResult command image = ((text : List ℕ) × IsText command image text) ⊎ ((answer : Answer) × IsAnswer command image answer)
