@@ -9,9 +9,11 @@ mod stop;
 mod superblock;
 #[cfg(test)]
 mod tests;
+mod views;
 mod volume;
 
 pub use head::VolHead;
 pub use slots::heads;
 pub use stop::VolStop;
+pub use views::{by_name, live, past};
 pub use volume::{Snapshot, View, Volume};
