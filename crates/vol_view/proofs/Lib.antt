@@ -4,5 +4,9 @@ pub mod Supers
 pub mod Placed
 pub mod Maps
 pub mod LoadLaws
+pub mod Gatherings
+pub mod LoadSteps
+pub mod Wholeness
+pub mod Indexes
 pub mod SnapshotsExamples
 pub mod FeaturesExamples
