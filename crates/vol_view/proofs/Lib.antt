@@ -8,5 +8,6 @@ pub mod Gatherings
 pub mod LoadSteps
 pub mod Wholeness
 pub mod Indexes
+pub mod HeadsKept
 pub mod SnapshotsExamples
 pub mod FeaturesExamples
