@@ -35,5 +35,8 @@ pub fn past(volume: &Volume, i: usize) -> View
 pub fn by_name(volume: &Volume, name: &[u8]) -> Option<usize>
     ensures { result ≡ by_name_of volume.now name.now }
 {
-    volume.snaps.iter().position(|snapshot: &Snapshot| snapshot.name.as_slice() == name)
+    volume
+        .snaps
+        .iter()
+        .position(|snapshot: &Snapshot| snapshot.name.as_slice() == name)
 }
