@@ -1,5 +1,5 @@
 -- What a run of a command on the volume that is meant has come to, where it doesn't get to that volume.
-use Rattle.std.specs.Prelude.{◌≡◌, ◌⊎◌, ℕ, List, [], Option, Some, None, Err, refl}
+use Rattle.std.specs.Prelude.{◌≡◌, ◌⊎◌, ℕ, List, [], Option, Some, Err, refl}
 use Rattle.std.proofs.Common.{inl, inr, sym, ◌∙◌, subst}
 use Rattle.obj_base.specs.declared.stop.Feature.{Feature}
 use Rattle.apfs_check.specs.declared.fault.Fault.{Fault}
@@ -9,11 +9,10 @@ use Rattle.path_walk.specs.declared.answer.Answer.TheVariants.{NoVolume}
 use Rattle.apfs_cli.specs.declared.stopped.Stopped.{Stopped}
 use Rattle.apfs_cli.specs.declared.stopped.Stopped.TheVariants as stops
 use Rattle.apfs_cli.specs.ByCommand.{takes_image, lead_of, IsText, IsFault, IsFeature, IsAnswer, HasResult}
-use Rattle.apfs_cli.specs.Meant.{IsMeant, HasVolume, HasNoVolume, IsMeantFault, IsMeantFeature}
+use Rattle.apfs_cli.specs.Meant.{HasVolume, HasNoVolume, IsMeantFault, IsMeantFeature}
 use Rattle.apfs_cli.specs.Reached.{IsClear, TellsWay, IsWhileLooking}
-use Rattle.apfs_cli.specs.Says.{LacksImage, IsGiven, OfRun, SourceFailed, StopsAt, AnswersAt, HasEnded}
-use Rattle.apfs_cli.specs.Words.{Asked}
-use Rattle.apfs_cli.specs.Written.{Sunk}
+use Rattle.apfs_cli.specs.Says.{LacksImage, IsGiven, SourceFailed, AnswersAt, HasEnded}
+use Rattle.apfs_cli.specs.Words.{Asked, Snapshots}
 use Rattle.apfs_cli.proofs.Puts.{wrote_nothing}
 use Rattle.apfs_cli.proofs.Ways.{volume_or_none}
 
@@ -80,3 +79,14 @@ way_ended bytes faults command named old new stops.OutOfMemory contents count is
 way_ended bytes faults command named old new stops.Usage contents count is has tells looking cause = absurd looking
 way_ended bytes faults command named old new stops.WriteFailed contents count is has tells looking cause = absurd looking
 way_ended bytes faults command named old new stops.NoImage contents count is has tells looking cause = absurd looking
+
+-- `snapshots` is one
+pub snapshots_over : (named : Option ℕ) → IsOverVolume (Snapshots named) named
+snapshots_over named = record {
+  lead_is = refl;
+  text = λ image text is. record { seen = is.0; head = is.1; volume = is.2; is = is.3 };
+  answer = λ image answer is. inl is;
+  none = λ image lacks. (refl, lacks);
+  fault = λ image fault there. there;
+  feature = λ image feature block there. there;
+}

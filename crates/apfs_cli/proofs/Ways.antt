@@ -1,22 +1,26 @@
 -- What stands in the way to the volume that is meant.
-use Rattle.std.specs.Prelude.{◌≡◌, ℕ, List, Option, Some, None, Ok, refl}
+use Rattle.std.specs.Prelude.{◌≡◌, ℕ, ◌==◌, List, Option, Some, None, refl}
 use Rattle.std.proofs.Common.{inl, inr, sym, ◌∙◌, ap, subst}
+use Rattle.apfs_model.specs.Lists.{In}
+use Rattle.apfs_model.proofs.Searches.{found-in}
 use Rattle.obj_base.specs.declared.stop.Stop.{Stop}
 use Rattle.obj_base.specs.declared.stop.Stop.TheVariants.{Found, Unsupported, ReadFault, NoMemory}
 use Rattle.obj_base.specs.Stops.{Tells, IsFree}
 use Rattle.nx_ring.specs.declared.fault.RingFault.{RingFault}
 use Rattle.nx_ring.specs.Checkpoint.{Seen, site_of}
-use Rattle.nx_ring.specs.Newest.{newest_of, IsFault as IsNewestFault, IsFeature as IsNewestFeature}
+use Rattle.nx_ring.specs.Newest.{IsFault as IsNewestFault, IsFeature as IsNewestFeature}
 use Rattle.nx_ring.specs.Ring.{IsRingFault, IsRingFeature}
 use Rattle.vol_view.specs.declared.head.VolHead.{VolHead}
 use Rattle.vol_view.specs.declared.stop.VolStop.{VolStop}
 use Rattle.vol_view.specs.Heads.{heads_of}
-use Rattle.vol_view.specs.Stops.{IsHeadsStop, IsHeadsFeature, AreRight}
+use Rattle.vol_view.specs.Stops.{IsHeadsStop, IsHeadsFeature, AreRight, AreHeads}
 use Rattle.vol_view.specs.LoadStops.{IsLoadStop, IsLoadFeature, IsLoadable}
 use Rattle.apfs_check.specs.Raised.{of_ring, of_volume}
+use Rattle.apfs_check.specs.declared.fault.Fault.{Fault}
+use Rattle.apfs_cli.specs.declared.stopped.Stopped.TheVariants as stops
 use Rattle.apfs_cli.specs.Checkpoints.{IsNewest}
-use Rattle.apfs_cli.specs.Meant.{meant_head, IsMeant, HasVolume, HasNoVolume}
-use Rattle.apfs_cli.specs.Reached.{IsClear, TellsWay}
+use Rattle.apfs_cli.specs.Meant.{meant_slot, meant_head, IsMeant, HasVolume, HasNoVolume}
+use Rattle.apfs_cli.specs.Reached.{IsClear, TellsWay, IsWhileLooking}
 use Rattle.apfs_cli.specs.Seen.{stopped_at}
 use Rattle.apfs_cli.proofs.Stops.{one_newest, no_newest_fault, no_newest_feature}
 
@@ -87,3 +91,32 @@ load_way image named seen head (Unsupported feature block) meant there exact =
     (λ clear. exact (loadable_at image named seen head meant clear), inr (inr (record { seen = seen; head = head; meant = meant; there = there })))
 load_way image named seen head ReadFault meant there exact = tt
 load_way image named seen head NoMemory meant there exact = tt
+
+-- a stop of a layer comes while an image is looked at
+pub looking_at : {F : Type 0} (fault : F → Fault) (stop : Stop F) → IsWhileLooking (stopped_at fault stop)
+looking_at fault (Found why) = tt
+looking_at fault (Unsupported feature block) = tt
+looking_at fault ReadFault = tt
+looking_at fault NoMemory = tt
+
+-- a run stops for a failed read where the layer does
+pub read_fault_at : {F : Type 0} (fault : F → Fault) (stop : Stop F) → stopped_at fault stop ≡ stops.ReadFailed → stop ≡ ReadFault
+read_fault_at fault (Found why) e = Prim.cc
+read_fault_at fault (Unsupported feature block) e = Prim.cc
+read_fault_at fault ReadFault e = refl
+read_fault_at fault NoMemory e = Prim.cc
+
+-- what the slot that is meant holds, by the heads that were told
+pub held_at : (image : List ℕ) (named : Option ℕ) (seen : Seen) (heads list : List VolHead) (held : Option VolHead) → IsNewest image seen → AreHeads image seen heads → list ≡ heads →
+    held ≡ meant_head named list → IsMeant image named seen held
+held_at image named seen heads list held newest are listed is = record {
+  newest = newest;
+  right = are.right;
+  same = is ∙ ap (λ (hs : List VolHead). meant_head named hs) (listed ∙ are.same);
+}
+
+-- a head that is meant is one of those that were told
+pub in_heads : (named : Option ℕ) (heads list : List VolHead) (head : VolHead) → list ≡ heads → Some head ≡ meant_head named list → In head heads
+in_heads named heads list head listed is =
+    let P : List VolHead → Type 0 = λ hs. In head hs in
+    subst P listed (found-in (λ (h : VolHead). h.slot == meant_slot named list) list head (sym is)).0

@@ -13,6 +13,8 @@ pub data Asked : Type 0 where
   Info : Asked
   -- the volumes
   Volumes : Asked
+  -- the snapshots of the volume in a slot, or of the first volume
+  Snapshots : Option ℕ → Asked
 
 -- what a line asks for, where the program has its command
 abbrev pub built : lines.Asked → Option Asked
@@ -21,7 +23,7 @@ built lines.Info = Some Info
 built lines.Volumes = Some Volumes
 built lines.Space = None
 built lines.Check = None
-built (lines.Snapshots volume) = None
+built (lines.Snapshots volume) = Some (Snapshots volume)
 built (lines.Ls target) = None
 built (lines.Tree target) = None
 built (lines.Cat target) = None
@@ -36,3 +38,4 @@ abbrev pub said : Command → Asked
 said commands.Ring = Ring
 said commands.Info = Info
 said commands.Volumes = Volumes
+said (commands.Snapshots volume) = Snapshots volume

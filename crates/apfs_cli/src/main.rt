@@ -6,6 +6,7 @@ mod fault;
 mod fault_places;
 mod fault_text;
 mod fault_words;
+mod meant;
 mod over_cache;
 mod put;
 mod run;

@@ -70,6 +70,7 @@ fn failure_of_each_read(rt: HostRuntime) -> Result<(), Fail> {
         (Image::Ring, RING, 9),
         (Image::Empty, INFO, 14),
         (Image::Small, VOLUMES, 17),
+        (Image::Views, SNAPSHOTS, 20),
     ] {
         let whole = end(rt.alloc(), image, words, [&[], &[], &[]])?;
         assert!(rt;

@@ -18,6 +18,8 @@ pub enum Command {
     Info,
     /// The volumes.
     Volumes,
+    /// The snapshots of the volume in the slot that is named, or of the first volume.
+    Snapshots(Option<u8>),
 }
 
 impl Command {
@@ -26,7 +28,7 @@ impl Command {
         ensures { result ≡ by_command.takes_image (said self) }
     {
         match self {
-            Command::Ring | Command::Info | Command::Volumes => true,
+            Command::Ring | Command::Info | Command::Volumes | Command::Snapshots(_) => true,
         }
     }
 }
@@ -39,7 +41,8 @@ fn built(line: Line<'_>) -> Option<Command>
         Line::Ring => Some(Command::Ring),
         Line::Info => Some(Command::Info),
         Line::Volumes => Some(Command::Volumes),
-        Line::Space | Line::Check | Line::Snapshots(_) => None,
+        Line::Snapshots(volume) => Some(Command::Snapshots(volume)),
+        Line::Space | Line::Check => None,
         Line::Ls(_) | Line::Tree(_) | Line::Cat(_) | Line::Xattr(..) => None,
     }
 }

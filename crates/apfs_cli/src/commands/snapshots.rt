@@ -1,10 +1,10 @@
 // The command `snapshots`.
 ghost use Rattle.std.specs.Prelude.{◌≡◌, Some};
 ghost use Rattle.apfs_model.specs.Source.{IsKept};
-ghost use Rattle.apfs_cli.specs.Commands.Snapshots.{snapshot_text};
+ghost use Rattle.apfs_cli.specs.Commands.Snapshots.{snapshot_text, snapshots_text};
 ghost use Rattle.apfs_cli.specs.Says.{HasEnded};
 ghost use Rattle.apfs_cli.specs.Words.{Snapshots};
-ghost use Rattle.apfs_cli.specs.Written.{sunk};
+ghost use Rattle.apfs_cli.specs.Written.{sunk, IsPut};
 ghost use Rattle.blk_source.specs.declared.source.Opened.TheVariants.{Image};
 
 use crate::meant::reach;
@@ -13,7 +13,7 @@ use crate::shown::push_name;
 use crate::stopped::Stopped;
 use blk_source::{BlockSource, Sink};
 use std::alloc::{AllocError, Global};
-use vol_view::Snapshot;
+use vol_view::{Snapshot, Volume};
 
 /// A snapshot's transaction, when it was made, and its name.
 impl Line for Snapshot {
@@ -29,6 +29,13 @@ impl Line for Snapshot {
     }
 }
 
+// Puts a line for each snapshot of a volume.
+fn put_snapshots<W: Sink>(alloc: Global, volume: &Volume, out: &mut W) -> Result<(), Stopped>
+    ensures { IsPut (snapshots_text volume.now.snaps) result (sunk W.contents W.faults out.old out.new) }
+{
+    put_lines(alloc, volume.snaps.as_slice(), out)
+}
+
 /// Writes the snapshots of the volume that is meant.
 pub fn write<S: BlockSource, W: Sink>(
     alloc: Global,
@@ -40,7 +47,7 @@ pub fn write<S: BlockSource, W: Sink>(
     ensures kept { IsKept S.bytes S.bytes_len S.faults src.old src.new }
 {
     match reach(alloc, src, volume) {
-        Ok(reached) => put_lines(alloc, reached.volume.snaps.as_slice(), out),
+        Ok(reached) => put_snapshots(alloc, &reached.volume, out),
         Err(stopped) => Err(stopped),
     }
 }

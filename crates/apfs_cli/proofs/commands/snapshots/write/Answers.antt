@@ -14,10 +14,10 @@ use Rattle.apfs_cli.proofs.commands.snapshots.write.Goals as goal
 pub returns-in-Ok-clause-answer : goal.returns-in-Ok-clause-answer
 returns-in-Ok-clause-answer g c =
     let reached = c.in-Ok.reached in
-    put_ended g.S.BlockSource.bytes g.S.BlockSource.faults (Some (Snapshots c.args.volume)) (Image c.args.src.now) (Image c.reach.new.src) (snapshots_text reached.volume.snaps) c.put_lines.result
-    (sunk g.W.Sink.contents g.W.Sink.faults c.args.out.now c.put_lines.new.out)
+    put_ended g.S.BlockSource.bytes g.S.BlockSource.faults (Some (Snapshots c.args.volume)) (Image c.args.src.now) (Image c.reach.new.src) (snapshots_text reached.volume.snaps) c.put_snapshots.result
+    (sunk g.W.Sink.contents g.W.Sink.faults c.args.out.now c.put_snapshots.new.out)
     (λ lacks. lacks, λ image given. (reached.checkpoint, reached.volume.head, reached.volume, c.in-Ok.ensures.clear image given, refl))
-    (rw c.as_slice.ensures.value at c.put_lines.ensures)
+    c.put_snapshots.ensures
 
 pub returns-in-Err-clause-answer : goal.returns-in-Err-clause-answer
 returns-in-Err-clause-answer g c =
