@@ -6,8 +6,8 @@ ghost use Rattle.space_map.specs.Geometry.{chunk_len};
 ghost use Rattle.space_map.specs.Marks.{has_bits};
 
 use crate::Chunk;
-use apfs_layout::space_manager;
-use obj_base::{Site, u32_at, u64_at};
+use crate::manager::Manager;
+use obj_base::Site;
 use std::marker::Model;
 
 /// The space of a container that was loaded: its manager's bytes, the blocks that tell of chunks, and the chunks.
@@ -71,34 +71,27 @@ impl Space {
     }
 
     /// How many blocks of the device are free (Space Manager, `sm_free_count`).
-    #[tactic(auto, unfolding(crate::specs::Fields::free_of))]
     pub fn free(&self) -> u64
         ensures { result ≡ free_of self.now.manager }
     {
-        u64_at(&self.manager, space_manager::MAIN_FREE)
+        Manager::of(&self.manager).free()
     }
 
     /// The pool, from which the blocks that tell of the space are taken: its first block and how many it has (Space
     /// Manager, `sm_ip_base` and `sm_ip_block_count`).
-    #[tactic(auto, unfolding(crate::specs::Fields::pool_base_of, crate::specs::Fields::pool_blocks_of))]
     pub fn pool(&self) -> (u64, u64)
         ensures { result ≡ (pool_base_of self.now.manager, pool_blocks_of self.now.manager) }
     {
-        (
-            u64_at(&self.manager, space_manager::POOL_BASE),
-            u64_at(&self.manager, space_manager::POOL_BLOCKS),
-        )
+        let manager = Manager::of(&self.manager);
+        (manager.pool_base(), manager.pool_blocks())
     }
 
     /// The ring of the pool's bitmaps: its first block and how many it has (Space Manager, `sm_ip_bm_base` and
     /// `sm_ip_bm_block_count`).
-    #[tactic(auto, unfolding(crate::specs::Fields::ring_base_of, crate::specs::Fields::ring_blocks_of))]
     pub fn pool_ring(&self) -> (u64, u64)
         ensures { result ≡ (ring_base_of self.now.manager, ring_blocks_of self.now.manager) }
     {
-        (
-            u64_at(&self.manager, space_manager::RING_BASE),
-            u64::from(u32_at(&self.manager, space_manager::RING_BLOCKS)),
-        )
+        let manager = Manager::of(&self.manager);
+        (manager.ring_base(), u64::from(manager.ring_blocks()))
     }
 }
