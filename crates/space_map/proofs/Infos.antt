@@ -1,13 +1,13 @@
 -- The blocks that tell of chunks: how they are named, read and counted.
-use Rattle.std.specs.Prelude.{◌≡◌, ℕ, zero, suc, ◌+◌, ◌-◌, ◌*◌, ◌/◌, ◌%◌, ◌<◌, ◌≤◌, Bool, true, false, ◌&&◌, ◌||◌, ◌==◌, nat_lt, min, List, [], ◌∷◌, ◌++◌, length, map, refl, Some, None, Ok, Err, Result, is_ok, is_some, slice_index_or, if◌then◌else◌}
+use Rattle.std.specs.Prelude.{◌≡◌, ℕ, zero, suc, ◌+◌, ◌-◌, ◌*◌, ◌/◌, ◌%◌, ◌<◌, ◌≤◌, Bool, true, false, ◌&&◌, ◌==◌, nat_lt, min, List, [], ◌∷◌, ◌++◌, length, map, refl, Some, None, Ok, Err, Result, is_ok, is_some, slice_index_or, if◌then◌else◌}
 use Rattle.std.specs.List.{range_with_len}
-use Rattle.std.proofs.Common.{arith, ap, sym, ◌∙◌, subst, inl, inr, length-append, append_assoc, append-nil}
+use Rattle.std.proofs.Common.{arith, ap, sym, ◌∙◌, subst, inl, length-append, append_assoc, append-nil}
 use Rattle.std.proofs.lemmas.Grind.{common_steps}
 use Rattle.std.proofs.lemmas.List.FromFn.{map-range_with_len_more, length-map-range_with_len, get_or-map-range_with_len}
 use Rattle.std.proofs.Math.Numerals.{add-one}
 use Rattle.apfs_model.specs.Blocks.{block_of, in_container, rounded_up}
-use Rattle.apfs_model.specs.Object.{cab_kind, cib_kind}
-use Rattle.apfs_model.proofs.BoolTests.{clash, left-true, right-true, both-true, other-true, from-below, equal-from}
+use Rattle.apfs_model.specs.Object.{cab_kind}
+use Rattle.apfs_model.proofs.BoolTests.{clash, both-true, other-true, from-below, equal-from}
 use Rattle.obj_base.specs.BlockSize.{is_accepted}
 use Rattle.obj_base.specs.Sound.{expecting}
 use Rattle.obj_base.specs.Stops.{Tells, raised}
@@ -23,13 +23,13 @@ use Rattle.obj_base.specs.declared.site.Site.{Site}
 use Rattle.blk_read.specs.Object.{judged, sound_object}
 use Rattle.blk_read.proofs.Sizes.{accepted_size}
 use Rattle.space_map.specs.Fields.{cab_cibs_of, cib_chunks_of, cabs_of, cibs_of, chunks_of}
-use Rattle.space_map.specs.Geometry.{most_cibs, is_shaped, has_address}
+use Rattle.space_map.specs.Geometry.{is_shaped, has_address}
 use Rattle.space_map.specs.Blocks.{address_at, cab_address_at, cab_block_for, cab_blocks, cib_block, cib_blocks, info_test, info_index_of, info_count_of, is_info, is_cab_named, has_cab_for, is_cib_named}
-use Rattle.space_map.specs.Tests.{share, is_cab, is_cib, is_in_pool}
-use Rattle.space_map.specs.Stops.{NamesCab, NamesCib, NamesInfo, NamesInside, IsFaultOf, IsInfoFeature, IsRightCab, IsRightCib}
+use Rattle.space_map.specs.Tests.{share, is_cab, is_cib}
+use Rattle.space_map.specs.Stops.{NamesCib, NamesInfo, NamesInside, IsFaultOf, IsInfoFeature, IsRightCab}
 use Rattle.space_map.specs.Held.{unsound, first_cibs, AreNamed}
 use Rattle.space_map.proofs.Shapes.{unit_start, units_hold, mul-add-mod}
-use Rattle.space_map.proofs.Places.{Shape, shape-from, cab-address, cib-address, cib-place, cib-cab}
+use Rattle.space_map.proofs.Places.{shape-from, cab-address, cib-address, cib-place, cib-cab}
 use Rattle.std.proofs.lemmas.Nat.{div-mul-add}
 
 -- a block of the container, by its test

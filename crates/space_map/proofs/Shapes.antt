@@ -1,5 +1,5 @@
 -- Shapes: what rounding up is, and what rooms say.
-use Rattle.std.specs.Prelude.{◌≡◌, ℕ, zero, suc, ◌+◌, ◌-◌, ◌*◌, ◌/◌, ◌%◌, ◌<◌, ◌≤◌, true, min, nat_le, ◌&&◌, List}
+use Rattle.std.specs.Prelude.{◌≡◌, ℕ, ◌+◌, ◌-◌, ◌*◌, ◌/◌, ◌%◌, ◌<◌, ◌≤◌, true, min, nat_le, ◌&&◌, List}
 use Rattle.std.proofs.Common.{arith, ap, sym, ◌∙◌, ◌⊎◌, inl, inr}
 use Rattle.std.proofs.lemmas.Bool.{cases_lt}
 use Rattle.std.proofs.Math.Nat.{mod-lt, div-mul-le_self, mul-le-mul_right, lt-div-mul-add}
@@ -7,7 +7,7 @@ use Rattle.std.proofs.lemmas.Nat.{div-mul-add}
 use Rattle.apfs_model.specs.Blocks.{rounded_up}
 use Rattle.apfs_model.proofs.BoolTests.{left-true, right-true, upto-from}
 use Rattle.space_map.specs.Fields.{cib_chunks_of, cab_cibs_of}
-use Rattle.space_map.specs.Geometry.{most_chunks, most_cibs, has_rooms}
+use Rattle.space_map.specs.Geometry.{most_chunks, has_rooms}
 
 rounding-step : (n unit q r : ℕ) → 1 ≤ unit → q * unit + r ≡ n → r < unit → (r < 1) ⊎ (1 ≤ r) → q + min 1 r ≡ rounded_up n unit
 rounding-step n unit q r some e low (inl none) =

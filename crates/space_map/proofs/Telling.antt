@@ -1,27 +1,26 @@
 -- What a chunk-info block tells of its chunks, and where they stand among all.
-use Rattle.std.specs.Prelude.{◌≡◌, ℕ, ◌+◌, ◌-◌, ◌*◌, ◌/◌, ◌%◌, ◌<◌, ◌≤◌, ◌^◌, Bool, true, false, ◌&&◌, ◌||◌, ◌==◌, nat_lt, nat_le, min, List, [], ◌∷◌, ◌++◌, length, map, refl, slice_index_or}
-use Rattle.std.specs.List.{range_with_len}
-use Rattle.std.proofs.Common.{arith, ap, sym, ◌∙◌, subst, inl, inr, take, length-append}
+use Rattle.std.specs.Prelude.{◌≡◌, ℕ, ◌+◌, ◌-◌, ◌*◌, ◌/◌, ◌%◌, ◌<◌, ◌≤◌, Bool, true, false, ◌&&◌, ◌||◌, nat_lt, List, [], ◌∷◌, ◌++◌, length, refl, slice_index_or}
+use Rattle.std.proofs.Common.{arith, ap, sym, ◌∙◌, subst, inr, take, length-append}
 use Rattle.std.specs.List.{sum_by}
 use Rattle.std.proofs.lemmas.Nat.{div-mul-add}
 use Rattle.std.proofs.lemmas.List.Sums.{sum-map, sum_by_more_le}
 use Rattle.space_map.proofs.Shapes.{unit_start, mul-add-mod}
 use Rattle.std.proofs.lemmas.List.FromFn.{map-range_with_len_more}
-use Rattle.apfs_model.specs.Blocks.{block_of, rounded_up}
+use Rattle.apfs_model.specs.Blocks.{block_of}
 use Rattle.apfs_model.specs.Object.{cib_kind}
-use Rattle.apfs_model.proofs.BoolTests.{left-true, right-true, both-true, from-below}
+use Rattle.apfs_model.proofs.BoolTests.{both-true, from-below}
 use Rattle.obj_base.specs.BlockSize.{is_accepted}
 use Rattle.obj_base.specs.declared.site.Site.{Site}
 use Rattle.blk_read.proofs.Sizes.{accepted_size}
-use Rattle.space_map.specs.Fields.{cib_chunks_of, cibs_of, chunks_of}
-use Rattle.space_map.specs.Geometry.{chunk_len, most_chunks, is_shaped, has_chunk_place}
+use Rattle.space_map.specs.Fields.{cib_chunks_of, chunks_of}
+use Rattle.space_map.specs.Geometry.{chunk_len, is_shaped, has_chunk_place}
 use Rattle.space_map.specs.Blocks.{cib_block, is_info, is_cib_named}
-use Rattle.space_map.specs.Chunks.{chunk_from, chunk_in, cib_block_for, chunk_at, is_told}
+use Rattle.space_map.specs.Chunks.{chunk_in, cib_block_for, chunk_at, is_told}
 use Rattle.space_map.specs.Marks.{lacks_bitmap, free_sum}
 use Rattle.space_map.specs.Tests.{share, is_in_pool}
-use Rattle.space_map.specs.Stops.{MustBeInPool, is_bitmap_placed, IsRightCib}
+use Rattle.space_map.specs.Stops.{MustBeInPool, is_bitmap_placed}
 use Rattle.space_map.specs.Held.{first_chunks, IsTelling}
-use Rattle.space_map.proofs.Places.{Shape, shape-from, chunk-place}
+use Rattle.space_map.proofs.Places.{shape-from, chunk-place}
 use Rattle.space_map.specs.declared.chunk.Chunk.{Chunk}
 
 neither : (a b : Bool) → (a || b) ≡ false → (a ≡ false) × (b ≡ false)

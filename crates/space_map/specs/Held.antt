@@ -1,5 +1,5 @@
 -- What holds of each space that was loaded, and of what was read of one on the way.
-use Rattle.std.specs.Prelude.{◌≡◌, ℕ, ◌<◌, ◌≤◌, true, List, length, map, All, slice_index_or}
+use Rattle.std.specs.Prelude.{◌≡◌, ◌⊎◌, ℕ, ◌<◌, ◌≤◌, true, List, length, map, All, slice_index_or}
 use Rattle.std.specs.List.{range_with_len}
 use Rattle.apfs_model.specs.Blocks.{rounded_up}
 use Rattle.obj_base.specs.declared.site.Site.{Site}
@@ -9,7 +9,8 @@ use Rattle.space_map.specs.Blocks.{cib_block, cib_blocks, is_cib_named}
 use Rattle.space_map.specs.Chunks.{chunk_at}
 use Rattle.space_map.specs.Marks.{has_bits}
 use Rattle.space_map.specs.Tests.{is_chunk}
-use Rattle.space_map.specs.Stops.{is_bitmap_placed, IsRightCab, IsRightCib}
+use Rattle.space_map.specs.Stops.{is_bitmap_placed, IsRightCab, IsRightCib, IsUnnamedManager, IsUnsoundManager}
+use Rattle.nx_ring.specs.Checkpoint.{Seen}
 use Rattle.space_map.specs.declared.chunk.Chunk.{Chunk}
 use Rattle.space_map.specs.declared.fault.SpaceFault.{SpaceFault}
 use Rattle.space_map.specs.declared.fault.SpaceFault.TheVariants as faults
@@ -49,3 +50,7 @@ pub record AreNamed (image : List ℕ) (site : Site) (manager : List ℕ) (cibs 
 -- an object that isn't sound, said of the space
 abbrev pub unsound : Unsound HeadFault → SpaceFault
 unsound object = faults.Unsound object.block object.why
+
+-- a fault of the space manager itself is there
+abbrev pub IsManagerFault : Seen → SpaceFault → Type 0
+IsManagerFault seen fault = IsUnnamedManager seen fault ⊎ IsUnsoundManager seen fault

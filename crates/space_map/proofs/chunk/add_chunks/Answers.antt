@@ -1,8 +1,6 @@
-use Rattle.std.proofs.Common.{◌≡◌, ◌∙◌, ◌<◌, ◌+◌, ◌*◌, ◌≤◌, ◌^◌, ℕ, true, length, ap, sym, subst, arith}
-use Rattle.obj_base.specs.Stops.{Tells}
+use Rattle.std.proofs.Common.{◌≡◌, ◌∙◌, ◌<◌, ◌*◌, true, length, ap, sym, subst, arith}
 use Rattle.space_map.specs.Fields.{chunks_of, cib_chunks_of}
-use Rattle.space_map.specs.Geometry.{chunk_len}
-use Rattle.space_map.specs.Chunks.{chunk_in, chunk_at, is_told}
+use Rattle.space_map.specs.Chunks.{chunk_at, is_told}
 use Rattle.space_map.specs.Tests.{share}
 use Rattle.space_map.proofs.Telling.{entry_fits, chunk_start, chunk-here, told-here, chunks_more, one_longer}
 use Rattle.space_map.proofs.chunk.add_chunks.Goals as goal

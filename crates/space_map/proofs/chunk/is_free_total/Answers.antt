@@ -1,6 +1,5 @@
-use Rattle.std.proofs.Common.{◌≡◌, ◌<◌, ◌+◌, ◌≤◌, false, ◌==◌, arith, take, length, slice_index_or}
+use Rattle.std.proofs.Common.{arith}
 use Rattle.std.proofs.lemmas.Grind.{common_steps}
-use Rattle.space_map.specs.Marks.{free_sum}
 use Rattle.space_map.specs.declared.chunk.Chunk.{Chunk}
 use Rattle.space_map.proofs.Telling.{free_part}
 use Rattle.space_map.proofs.chunk.is_free_total.Goals as goal

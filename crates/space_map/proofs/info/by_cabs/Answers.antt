@@ -1,4 +1,4 @@
-use Rattle.std.proofs.Common.{◌≡◌, ◌∙◌, ◌<◌, ◌+◌, ◌*◌, ◌++◌, ◌≤◌, ℕ, [], ◌∷◌, ap, sym, subst, length, map, arith, below_more}
+use Rattle.std.proofs.Common.{◌≡◌, ◌∙◌, ◌<◌, ◌*◌, ◌++◌, ◌≤◌, ℕ, [], ◌∷◌, ap, sym, subst, length, map, arith, below_more}
 use Rattle.std.specs.List.{range_with_len}
 use Rattle.space_map.specs.Fields.{cabs_of, cibs_of, cab_cibs_of}
 use Rattle.space_map.specs.Blocks.{address_at, cab_address_at}

@@ -1,10 +1,8 @@
-use Rattle.std.proofs.Common.{◌≡◌, ◌∙◌, ◌<◌, ◌+◌, ◌*◌, ◌≤◌, ℕ, List, ap, sym, subst, length, arith, below_more, slice_index_or}
+use Rattle.std.proofs.Common.{◌≡◌, ◌∙◌, ◌<◌, ◌*◌, ◌≤◌, ℕ, ap, sym, subst, length, arith, below_more}
 use Rattle.apfs_model.specs.Blocks.{block_of}
 use Rattle.space_map.specs.Fields.{cibs_of, chunks_of, cib_chunks_of}
-use Rattle.space_map.specs.Blocks.{cib_block}
-use Rattle.space_map.specs.Tests.{share}
-use Rattle.space_map.specs.Stops.{NamesCib, IsRightCib}
-use Rattle.space_map.specs.Held.{first_chunks, IsTelling}
+use Rattle.space_map.specs.Stops.{IsRightCib}
+use Rattle.space_map.specs.Held.{first_chunks}
 use Rattle.space_map.proofs.Infos.{cibs_start, cibs_hold, count_next, count_all, cib-names}
 use Rattle.space_map.proofs.info.chunks.Goals as goal
 

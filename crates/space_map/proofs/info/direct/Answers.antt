@@ -1,6 +1,6 @@
 use Rattle.std.proofs.Common.{◌≡◌, ◌∙◌, arith}
 use Rattle.space_map.specs.Fields.{cibs_of}
-use Rattle.space_map.proofs.Infos.{cib-has-address, cabs_all, cabs_none, direct_all, direct_long, named_direct}
+use Rattle.space_map.proofs.Infos.{cib-has-address, cabs_none, direct_all, direct_long, named_direct}
 use Rattle.space_map.proofs.info.direct.Goals as goal
 
 pub address-requires : goal.address-requires

@@ -1,9 +1,9 @@
-use Rattle.std.proofs.Common.{◌≡◌, ◌∙◌, ℕ, List, true, false, ap, sym, subst}
+use Rattle.std.proofs.Common.{◌≡◌, ◌∙◌, true, false, ap, subst}
 use Rattle.apfs_model.specs.Blocks.{block_of}
 use Rattle.apfs_model.specs.Object.{cab_kind}
 use Rattle.space_map.specs.Fields.{cibs_of, cab_cibs_of}
 use Rattle.space_map.specs.Blocks.{address_at, is_info}
-use Rattle.space_map.specs.Tests.{share, is_cab, is_in_pool}
+use Rattle.space_map.specs.Tests.{share, is_in_pool}
 use Rattle.space_map.proofs.Infos.{cab-has-address, cab-is-named, cab-names, cab-test}
 use Rattle.space_map.proofs.info.read_cab.Goals as goal
 

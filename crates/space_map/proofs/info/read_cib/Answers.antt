@@ -1,9 +1,9 @@
-use Rattle.std.proofs.Common.{◌≡◌, ◌∙◌, ℕ, List, true, false, ap, sym, subst}
+use Rattle.std.proofs.Common.{◌≡◌, ◌∙◌, true, false, ap, subst}
 use Rattle.apfs_model.specs.Blocks.{block_of}
 use Rattle.apfs_model.specs.Object.{cib_kind}
 use Rattle.space_map.specs.Fields.{chunks_of, cib_chunks_of}
 use Rattle.space_map.specs.Blocks.{cib_block, is_info}
-use Rattle.space_map.specs.Tests.{share, is_cib, is_in_pool}
+use Rattle.space_map.specs.Tests.{share, is_in_pool}
 use Rattle.space_map.proofs.Infos.{cib-test}
 use Rattle.space_map.proofs.info.read_cib.Goals as goal
 
