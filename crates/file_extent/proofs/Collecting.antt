@@ -115,11 +115,13 @@ each-of shape id (p ∷ ps) (e ∷ es) same =
 
 -- the extents that were collected are some of the stream's
 pub collected-within : {K : Type 0} (tree : Tree K) (root id : ℕ) (left : List Pair) (es : List FileExt) → IsCollected tree root id left es → (before after : List FileExt) × (extents_for id (flat_of tree root) ≡ before ++ (es ++ after))
-collected-within tree root id left es c =
-    (extents_for id c.before, extents_for id left,
-        ap (extents_for id) c.split
-        ∙ extents-append id c.before (c.taken ++ left)
-        ∙ ap (λ (l : List FileExt). extents_for id c.before ++ l) (extents-append id c.taken left ∙ ap (λ (l : List FileExt). l ++ extents_for id left) c.same))
+collected-within tree root id left es c = (
+  extents_for id c.before,
+  extents_for id left,
+  ap (extents_for id) c.split
+      ∙ extents-append id c.before (c.taken ++ left)
+      ∙ ap (λ (l : List FileExt). extents_for id c.before ++ l) (extents-append id c.taken left ∙ ap (λ (l : List FileExt). l ++ extents_for id left) c.same),
+)
 
 -- and all of them where the walk goes on with none
 pub collected-all : {K : Type 0} (hashed : Bool) (tree : Tree K) (root id : ℕ) (left : List Pair) (es : List FileExt) → IsFsShape hashed tree.shape → IsCollected tree root id left es → ((p : Pair) (ps : List Pair) → left ≡ p ∷ ps → run_in tree.shape (is_run id) p ≡ false) → AreCollected tree root id es
@@ -163,8 +165,8 @@ pub collected-more : {K : Type 0} (hashed : Bool) (tree : Tree K) (root id : ℕ
 collected-more {K} hashed tree root id left rest es pair key e law c next read same kind told =
     let known : IsFsKey hashed pair.key (tree.shape.rank key) = law.reads pair.key key read in
     let rank : rank_of tree.shape pair ≡ extent_rank id e =
-        ap (rank_or_least tree.shape) read
-        ∙ rank-of (tree.shape.rank key) id file_extent_record e.logical (known.id ∙ same) (known.kind ∙ kind) (known.sub ∙ (sub-second hashed pair.key kind ∙ sym (logical-read pair e told))) in
+    ap (rank_or_least tree.shape) read
+    ∙ rank-of (tree.shape.rank key) id file_extent_record e.logical (known.id ∙ same) (known.kind ∙ kind) (known.sub ∙ (sub-second hashed pair.key kind ∙ sym (logical-read pair e told))) in
     let after : c.taken ++ left ≡ (c.taken ++ pair ∷ []) ++ rest = ap (λ (l : List Pair). c.taken ++ l) next ∙ sym (append_assoc c.taken (pair ∷ []) rest) in
     record {
       before = c.before;

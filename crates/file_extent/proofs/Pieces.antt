@@ -69,9 +69,9 @@ pub bytes-solid : (block_size : ℕ) (image : List ℕ) (es : List FileExt) (i n
     bytes_from block_size image es i n ≡ take n (drop at image)
 bytes-solid block_size image es i n at left e some part solid low few same inside =
     map-take (byte_of block_size image es) image i at n inside (λ j k from to eq.
-        byte-over block_size image es j (Some e) (part.same j from (omega arith))
-        ∙ byte-image block_size image e (j - e.logical) some solid
-        ∙ ap (λ a. get_or image a 0) (let q : block_size * e.block + (j - e.logical) ≡ k = omega arith in q))
+    byte-over block_size image es j (Some e) (part.same j from (omega arith))
+    ∙ byte-image block_size image e (j - e.logical) some solid
+    ∙ ap (λ a. get_or image a 0) (let q : block_size * e.block + (j - e.logical) ≡ k = omega arith in q))
 
 -- the bytes of a hole, and of a part that none covers
 pub bytes-hole : (block_size : ℕ) (image : List ℕ) (es : List FileExt) (i n left : ℕ) (e : FileExt) → IsPart es i (Some e) left → is_hole e ≡ true → n ≤ left → bytes_from block_size image es i n ≡ replicate n 0

@@ -66,8 +66,8 @@ refused_there pairs id pair why one told =
 pub goes_on : {K : Type 0} (hashed : Bool) (tree : Tree K) (root id : ℕ) (left rest : List Pair) (es : List FileExt) (pair : Pair) (key : K) (o : Option FileExt) → IsFsShape hashed tree.shape → IsCollected tree root id left es → left ≡ pair ∷ rest → tree.shape.read pair.key ≡ Some key → extent_in id pair ≡ Ok o → GoesOn tree root id rest es o
 goes_on hashed tree root id left rest es pair key None law c next read told =
     collected-all hashed tree root id left es law c (λ p ps at.
-        let same : p ≡ pair = cc in
-        ap (run_in tree.shape (is_run id)) same ∙ (run-read hashed tree.shape id pair key law read ∙ none-told id pair told))
+    let same : p ≡ pair = cc in
+    ap (run_in tree.shape (is_run id)) same ∙ (run-read hashed tree.shape id pair key law read ∙ none-told id pair told))
 goes_on hashed tree root id left rest es pair key (Some e) law c next read told =
     let t = some-told id pair e told in
     collected-more hashed tree root id left rest es pair key e law c next read t.same t.kind t.read
@@ -76,3 +76,10 @@ goes_on hashed tree root id left rest es pair key (Some e) law c next read told 
 pub goes_on_none : {K : Type 0} (hashed : Bool) (tree : Tree K) (root id : ℕ) (left : List Pair) (es : List FileExt) → IsFsShape hashed tree.shape → IsCollected tree root id left es → left ≡ [] → AreCollected tree root id es
 goes_on_none hashed tree root id left es law c end =
     collected-all hashed tree root id left es law c (λ p ps at. let bad : [] ≡ p ∷ ps = sym end ∙ at in absurd (let q : ⊥ = cc in q))
+
+-- the same for another name of the tree and of the answer
+pub went_on : {K : Type 0} (old new : Tree K) (root id : ℕ) (left rest : List Pair) (es : List FileExt) (o p : Option FileExt) → old ≡ new → o ≡ p → (IsCollected old root id left es → GoesOn old root id rest es o) → IsCollected new root id left es → GoesOn new root id rest es p
+went_on {K} old new root id left rest es o p same_tree same goes collected =
+    subst (λ (t : Tree K). GoesOn t root id rest es p) same_tree
+    (subst (λ (q : Option FileExt). GoesOn old root id rest es q) same
+    (goes (subst (λ (t : Tree K). IsCollected t root id left es) (sym same_tree) collected)))

@@ -58,12 +58,12 @@ each-part : {K : Type 0} (tree : Tree K) (P : Pair → Type 0) → ((at : NodeAt
 each-part tree P nodes zero pair here = All-cons P pair [] here (All-nil P)
 each-part tree P nodes (suc level) pair here =
     each-through P (tree.look (child_place level pair)) (λ node. flat_map (flat_part tree level) (pairs_of tree.shape node)) (λ node there.
-        each-flat P (flat_part tree level) (pairs_of tree.shape node) (nodes (child_place level pair) node there) (each-part tree P nodes level))
+    each-flat P (flat_part tree level) (pairs_of tree.shape node) (nodes (child_place level pair) node there) (each-part tree P nodes level))
 
 each-entry : {K : Type 0} (tree : Tree K) (root : ℕ) (P : Pair → Type 0) → ((at : NodeAt) (node : List ℕ) → tree.look at ≡ Ok node → All P (pairs_of tree.shape node)) → All P (flat_of tree root)
 each-entry tree root P nodes =
     each-through P (tree.look (root_place root)) (λ node. flat_map (flat_part tree (level_of node)) (pairs_of tree.shape node)) (λ node there.
-        each-flat P (flat_part tree (level_of node)) (pairs_of tree.shape node) (nodes (root_place root) node there) (each-part tree P nodes (level_of node)))
+    each-flat P (flat_part tree (level_of node)) (pairs_of tree.shape node) (nodes (root_place root) node there) (each-part tree P nodes (level_of node)))
 
 judged-ok : {K : Type 0} (shape : Shape K) (site : Site) (at : NodeAt) (block : ℕ) (bytes node : List ℕ) (r : Result (List ℕ) (Bad NodeFault)) → node_of shape at site bytes ≡ r → judged block r ≡ Ok node → node_of shape at site node ≡ Ok node
 judged-ok shape site at block bytes node (Ok other) test e =
@@ -81,8 +81,8 @@ pub tree-readable : {K : Type 0} (shape : Shape K) (site : Site) (named : ℕ �
 tree-readable shape site named image root =
     let tree = tree_in shape site named image in
     each-entry tree root (λ (p : Pair). IsSome (shape.read p.key)) (λ at node there.
-        let sound = node_means shape at site node (named-ok shape site image at node (block_named site named at.oid) there) in
-        each-range (λ (p : Pair). IsSome (shape.read p.key)) (pair_of shape node) 0 (count_of node) (λ i low. (sound.table.entries i (omega arith)).readable))
+    let sound = node_means shape at site node (named-ok shape site image at node (block_named site named at.oid) there) in
+    each-range (λ (p : Pair). IsSome (shape.read p.key)) (pair_of shape node) 0 (count_of node) (λ i low. (sound.table.entries i (omega arith)).readable))
 
 -- ---- why a walk stops is there
 pub walk_tells : {K : Type 0} (site : Site) (tree : Tree K) (root id : ℕ) (stop : Stop WalkFault) → Tells (IsNodeFault tree root) (HasFeature tree root) stop → Tells (IsCollectStop site tree root id) (HasFeature tree root) (raised (stops.Walk root) stop)

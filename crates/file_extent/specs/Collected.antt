@@ -14,6 +14,8 @@ use Rattle.bt_cursor.specs.Line.{line_of}
 use Rattle.bt_cursor.specs.Order.{rank_of, is_ordered}
 use Rattle.bt_cursor.specs.From.{from_rank}
 use Rattle.bt_cursor.specs.Faults.{IsWalkFault}
+use Rattle.bt_cursor.specs.declared.gathering.GatherFault.{GatherFault}
+use Rattle.bt_cursor.specs.declared.gathering.GatherFault.TheVariants.{Tree as TreeFault, Refused}
 use Rattle.fs_record.specs.StreamExtents.{are_apart, are_extents_ordered}
 use Rattle.fs_record.specs.Facts.{read_extent}
 use Rattle.fs_record.specs.declared.fault.RecFault.{RecFault}
@@ -99,3 +101,11 @@ abbrev pub Follow : List FileExt → FileExt → Follows → Type 0
 Follow es e After = last_end 0 es ≤ e.logical
 Follow es e Over = are_apart (es ++ e ∷ []) ≡ false
 Follow es e Before = IsMisordered es e
+
+-- why a tree isn't whole, said of a stream
+abbrev pub gather_raised : ℕ → Stop GatherFault → Stop StreamStop
+gather_raised root (Found (TreeFault why)) = Found (Walk root why)
+gather_raised root (Found (Refused item)) = Found Order
+gather_raised root (Unsupported feature block) = Unsupported feature block
+gather_raised root ReadFault = ReadFault
+gather_raised root NoMemory = NoMemory

@@ -9,7 +9,7 @@ use Rattle.fs_record.specs.StreamExtents.{are_extents_ordered}
 use Rattle.fs_record.specs.Facts.{read_extent}
 use Rattle.fs_record.specs.declared.fault.RecFault.{RecFault}
 use Rattle.vol_view.specs.Volumes.{Loaded}
-use Rattle.vol_view.specs.Views.{view_flat, IsViewFault, IsViewFeature}
+use Rattle.vol_view.specs.Views.{view_flat, is_view_whole, IsViewFault, IsViewFeature}
 use Rattle.vol_view.specs.declared.volume.View.{View}
 use Rattle.file_extent.specs.Streams.{Opened, extents_for, opened_of, are_extents_placed}
 use Rattle.file_extent.specs.declared.stop.StreamStop.{StreamStop}
@@ -39,3 +39,10 @@ pub record IsOpened (image : List ℕ) (site : Site) (volume : Loaded) (view : V
   pub same : stream ≡ opened_of site (view_flat image site volume view) id size
   pub ordered : are_extents_ordered site.block_size stream.extents ≡ true
   pub placed : are_extents_placed site stream.extents ≡ true
+
+-- nothing that could be named of a stream is there: the view's tree is whole, the records of the stream's extents can be read, and the extents are ordered and lie in the container
+pub record IsStreamSound (image : List ℕ) (site : Site) (volume : Loaded) (view : View) (id : ℕ) : Type 0 where
+  pub whole : is_view_whole image site volume view ≡ true
+  pub readable : (why : RecFault) → HasRefused (view_flat image site volume view) id why → ⊥
+  pub ordered : are_extents_ordered site.block_size (extents_for id (view_flat image site volume view)) ≡ true
+  pub placed : are_extents_placed site (extents_for id (view_flat image site volume view)) ≡ true

@@ -69,7 +69,13 @@ fn extent_at<K: FsTreeKey>(id: u64, item: &Entry<'_, K>) -> Result<Option<FileEx
     requires { K.shape.read item.now.key_bytes.now ≡ Some item.now.key }
     ensures { result ≡ extent_in id (record { key = item.now.key_bytes.now; value = option_map (λ v. v.now) item.now.value }) }
 {
-    extent_of(id, item.key.id(), item.key.kind(), item.key_bytes, item.value)
+    extent_of(
+        id,
+        item.key.id(),
+        item.key.kind(),
+        item.key_bytes,
+        item.value,
+    )
 }
 
 // A walk that stands before the first extent of a stream.
@@ -133,5 +139,40 @@ fn step<K: FsTreeKey, S: BlockSource, N: Namer>(
         },
         Ok(false) => Ok(None),
         Err(stop) => Err(raise(root, stop)),
+    }
+}
+
+/// All extents of a stream, as they are laid. None where they aren't in order, which is so in no tree whose records are.
+pub(crate) fn collect<K: FsTreeKey, S: BlockSource, N: Namer>(
+    alloc: Global,
+    src: &mut S,
+    namer: N,
+    root: u64,
+    site: &Site,
+    id: u64,
+) -> Result<Option<Vec<FileExt>>, Stop<StreamStop>>
+    requires site { IsSiteFor site.now (S.bytes_len src.old) }
+    ensures laid { IfOk result (λ all. IfSome all (λ extents. AreLaid site.now extents.items)) }
+    ensures all { (image : List ℕ) → S.bytes src.old ≡ Some image → IfOk result (λ all. MatchOption all (is_ordered K.shape (line_of (tree_in K.shape site.now (N.named namer) image) root) ≡ true → ⊥) (λ extents. AreCollected (tree_in K.shape site.now (N.named namer) image) root id extents.items)) }
+    ensures present { (image : List ℕ) → S.bytes src.old ≡ Some image → IfErr result (Tells (IsCollectStop site.now (tree_in K.shape site.now (N.named namer) image) root id) (HasFeature (tree_in K.shape site.now (N.named namer) image) root)) }
+    ensures cause { IsErrOf result ReadFault → Rose (S.faults src.old) (S.faults src.new) }
+    ensures kept { IsKept S.bytes S.bytes_len S.faults src.old src.new }
+{
+    let mut cursor = match open::<K, S, N>(alloc, src, namer, root, site, id) {
+        Ok(cursor) => cursor,
+        Err(stop) => return Err(stop),
+    };
+    let mut extents = Vec::new(alloc);
+    'walk: loop {
+        let extent = match step(src, &mut cursor, root, site, id) {
+            Ok(Some(extent)) => extent,
+            Ok(None) => return Ok(Some(extents)),
+            Err(stop) => return Err(stop),
+        };
+        match lay(site, &mut extents, extent) {
+            Ok(true) => (),
+            Ok(false) => return Ok(None),
+            Err(stop) => return Err(stop),
+        }
     }
 }

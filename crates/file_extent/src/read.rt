@@ -118,7 +118,14 @@ fn next<S: BlockSource>(
     let i = from + done as u64;
     let part = part_at(extents, i);
     let len = few(part.left, into.len() - done);
-    put(src, site, extents, i, part.extent, &mut into[done..done + len])?;
+    put(
+        src,
+        site,
+        extents,
+        i,
+        part.extent,
+        &mut into[done..done + len],
+    )?;
     Ok(done + len)
 }
 

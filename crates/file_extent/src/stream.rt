@@ -1,11 +1,14 @@
 // The stream of a file, or of an attribute, that was opened.
 
-use crate::CopyFault;
 use crate::read::fill;
+use crate::start::extents_in;
+use crate::{CopyFault, StreamStop};
 use blk_source::{BlockSource, ReadFailed, Sink};
 use fs_record::FileExt;
-use obj_base::Site;
+use obj_base::{Site, Stop};
+use std::alloc::Global;
 use std::marker::Model;
+use vol_view::{View, Volume};
 
 // The bytes that are copied at once.
 const PIECE: usize = 4096;
@@ -31,26 +34,45 @@ impl Model for Stream {
 }
 
 impl Stream {
-    ghost use Rattle.std.specs.Prelude.{◌≡◌, ◌+◌, ◌-◌, ◌<◌, ◌≤◌, ℕ, List, Some, length, take, OnOk, OnErr, IfOk, IsErrOf};
+    ghost use Rattle.std.specs.Prelude.{◌≡◌, ◌+◌, ◌-◌, ◌<◌, ◌≤◌, ℕ, List, Some, true, length, take, OnOk, OnErr, IfOk, IfErr, IsErrOf};
     ghost use Rattle.apfs_model.specs.Counts.{Rose};
     ghost use Rattle.apfs_model.specs.Source.{IsKept};
     ghost use Rattle.apfs_model.specs.Sink.{Wrote, WrotePart};
     ghost use Rattle.obj_base.specs.Site.{IsSiteFor};
     ghost use Rattle.file_extent.specs.Streams.{read_len, bytes_from, stream_bytes};
-    ghost use Rattle.file_extent.specs.Laid.{AreLaid};
+    ghost use Rattle.obj_base.specs.Stops.{Tells, IsFree};
+    ghost use Rattle.obj_base.specs.declared.stop.Stop.TheVariants as stops;
+    ghost use Rattle.vol_view.specs.Views.{is_view_ordered};
+    ghost use Rattle.file_extent.specs.Stops.{IsStreamStop, IsStreamFeature, IsStreamSound, IsOpened};
     ghost use Rattle.file_extent.specs.declared.stop.CopyFault.TheVariants.{ReadFault, WriteFault};
 
-    /// A stream by its parts.
-    pub(crate) fn of(site: Site, extents: Vec<FileExt>, size: u64) -> Stream
-        requires { AreLaid site extents.items }
-        ensures site { result.site ≡ site }
-        ensures extents { result.extents ≡ extents.items }
-        ensures size { result.size ≡ size }
+    /// Opens the stream of an id, with a size in bytes, in a view (Data Streams): collects its extents by a search to the
+    /// first of them and a walk over them. `Walk` and `Extent` tell why the tree can't be walked or a record can't be read,
+    /// `Order` and `Outside` that the extents of this stream aren't ordered or leave the container.
+    pub fn start<S: BlockSource>(
+        alloc: Global,
+        src: &mut S,
+        volume: &Volume,
+        view: &View,
+        id: u64,
+        size: u64,
+        site: &Site,
+    ) -> Result<Stream, Stop<StreamStop>>
+        requires { IsSiteFor site.now (S.bytes_len src.old) }
+        ensures clear { (image : List ℕ) → S.bytes src.old ≡ Some image → is_view_ordered image site.now volume.now view.now ≡ true → IfOk result (IsOpened image site.now volume.now view.now id size) }
+        ensures same { IfOk result (λ stream. (stream.site ≡ site.now) × (stream.size ≡ size)) }
+        ensures present { (image : List ℕ) → S.bytes src.old ≡ Some image → IfErr result (Tells (IsStreamStop image site.now volume.now view.now id) (IsStreamFeature image site.now volume.now view.now)) }
+        ensures exact { (image : List ℕ) → S.bytes src.old ≡ Some image → IsStreamSound image site.now volume.now view.now id → IfErr result IsFree }
+        ensures cause { IsErrOf result stops.ReadFault → Rose (S.faults src.old) (S.faults src.new) }
+        ensures kept { IsKept S.bytes S.bytes_len S.faults src.old src.new }
     {
-        Stream {
-            site,
-            extents,
-            size,
+        match extents_in(alloc, src, volume, view, site, id) {
+            Ok(extents) => Ok(Stream {
+                site: *site,
+                extents,
+                size,
+            }),
+            Err(stop) => Err(stop),
         }
     }
 
