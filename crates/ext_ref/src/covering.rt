@@ -3,6 +3,8 @@ ghost use Rattle.std.specs.Prelude.{◌≡◌, map, ◌≤◌, ◌<◌, ◌||◌
 ghost use Rattle.std.specs.List.Sorted.{IsNonDecreasingBy, IsPartitionPoint};
 ghost use Rattle.ext_ref.specs.declared.covering.Span as declared;
 ghost use Rattle.ext_ref.specs.Cover.{is_owned, is_covered};
+ghost use Rattle.ext_ref.specs.Reach as reach;
+ghost use Rattle.ext_ref.specs.Reach.{Reaches};
 ghost use Rattle.ext_ref.specs.Spans as spec;
 ghost use Rattle.ext_ref.specs.Spans.{span_has, is_spanned, are_spanned, joined_spans, AreProper, AreApart, BeginBy};
 
@@ -162,4 +164,45 @@ impl Cover {
     {
         has_all(&self.spans, first, length)
     }
+}
+
+// The end of a range that doesn't begin after a block, where it is further on than another end.
+fn further(block: u128, far: u128, range: NewRange) -> u128
+    ensures { result ≡ reach.further block far range }
+{
+    let span = span_of(range);
+    if u128::from(span.first) <= block && far < span.end {
+        span.end
+    } else {
+        far
+    }
+}
+
+// The block up to which the blocks of ranges from a block on are known to go on without a gap: the greatest end of a
+// range that has that block, and the block itself where none has it.
+fn reach_from(ranges: &[NewRange], block: u128) -> u128
+    ensures { Reaches ranges.now ranges.now block result }
+{
+    let mut far = block;
+    for range in ranges {
+        far = further(block, far, *range);
+    }
+    far
+}
+
+/// Whether each block of a range, by its first block and its length, lies in some of `ranges`. Goes through the ranges
+/// once for each of them that it needs: for many questions of the same ranges, make a `Cover`.
+pub fn covered(ranges: &[NewRange], first: u64, length: u64) -> bool
+    ensures { result ≡ is_covered ranges.now first length }
+{
+    let end = u128::from(first) + u128::from(length);
+    let mut block = u128::from(first);
+    while block < end {
+        let next = reach_from(ranges, block);
+        if next == block {
+            return false;
+        }
+        block = next;
+    }
+    true
 }
