@@ -1,13 +1,11 @@
 -- What was gathered of the tree of a free queue.
-use Rattle.std.specs.Prelude.{◌≡◌, ℕ, ◌<◌, ◌==◌, Bool, true, false, if◌then◌else◌, List, [], ◌∷◌, ◌++◌, length, slice_get, Option, None, Some, option_to_list, refl}
-use Rattle.std.specs.List.{list_all}
-use Rattle.std.proofs.Common.{arith, ap, sym, ◌∙◌, subst, get_or}
+use Rattle.std.specs.Prelude.{◌≡◌, ℕ, ◌<◌, ◌==◌, Bool, true, false, if◌then◌else◌, List, [], ◌∷◌, ◌++◌, length, slice_get, Option, Some, refl}
+use Rattle.std.proofs.Common.{ap, sym, ◌∙◌, subst, get_or}
 use Rattle.std.proofs.lemmas.List.Elements.{filter_map-append}
 use Rattle.std.proofs.lemmas.Option.{slice_get-get_or}
 use Rattle.apfs_model.specs.Lists.{In, passes}
 use Rattle.apfs_model.proofs.BoolTests.{false-not, both-true, left-or, right-or}
 use Rattle.apfs_model.proofs.Searches.{get-in}
-use Rattle.obj_base.specs.declared.stop.Feature.{Feature}
 use Rattle.obj_base.specs.declared.stop.Stop.{Stop}
 use Rattle.obj_base.specs.declared.stop.Stop.TheVariants.{Found, Unsupported, ReadFault, NoMemory}
 use Rattle.obj_base.specs.Stops.{Tells, IsFree, raised}
@@ -25,7 +23,7 @@ use Rattle.bt_cursor.proofs.Lines.{leaf_pairs-append}
 use Rattle.bt_cursor.proofs.Wholes.{means_whole}
 use Rattle.nx_ring.specs.Checkpoint.{Seen}
 use Rattle.space_pool.specs.Queues.{queue_tree, queue_root, queue_of, queue_entry_of, queue_entries_in, queue_entries, ephemeral_named, is_short_item, are_queued_in_pool, is_queued_in_pool}
-use Rattle.space_pool.specs.Stops.{HasShortItem, HasTree, IsQueueFault, IsQueueFeature, has_long_values, is_right_tree, AreQueued, HasOutside}
+use Rattle.space_pool.specs.Stops.{HasShortItem, HasTree, IsQueueFault, IsQueueFeature, has_long_values, is_right_tree, AreQueued}
 use Rattle.space_pool.specs.Gathered.{entries_at, Gathers, said, walk_said, IsTreeFault, AreEntries, queue_nodes, IsOutside, IsPlaceFault}
 use Rattle.space_pool.specs.declared.entry.Queue.{Queue}
 use Rattle.space_pool.specs.declared.entry.Queue.TheVariants.{Pool, Main}

@@ -1,5 +1,5 @@
 -- What the look-up of ephemeral ids names.
-use Rattle.std.specs.Prelude.{◌≡◌, ℕ, ◌==◌, List, length, Option, None, Some, option_map, option_and_then, Err, refl, if◌then◌else◌}
+use Rattle.std.specs.Prelude.{◌≡◌, ℕ, ◌==◌, List, length, Option, None, Some, option_map, option_and_then, refl, if◌then◌else◌}
 use Rattle.std.proofs.Common.{ap, sym, ◌∙◌}
 use Rattle.apfs_model.specs.Blocks.{in_container}
 use Rattle.obj_base.specs.declared.site.Site.{Site}

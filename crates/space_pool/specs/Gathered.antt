@@ -1,5 +1,5 @@
 -- What a walk over the tree of a free queue gives, and what stops it.
-use Rattle.std.specs.Prelude.{◌≡◌, ℕ, ◌+◌, ◌≤◌, ◌==◌, true, false, List, [], ◌∷◌, length, Option, Some, None, if◌then◌else◌}
+use Rattle.std.specs.Prelude.{◌≡◌, ℕ, ◌==◌, true, false, List, [], ◌∷◌, length, Some, if◌then◌else◌}
 use Rattle.apfs_model.specs.Lists.{In}
 use Rattle.bt_cursor.specs.declared.fault.WalkFault.{WalkFault}
 use Rattle.bt_cursor.specs.declared.fault.WalkFault.TheVariants as walks
@@ -9,7 +9,7 @@ use Rattle.bt_cursor.specs.Line.{Item, leaf_pairs}
 use Rattle.bt_cursor.specs.Met.{nodes_of}
 use Rattle.bt_cursor.specs.Faults.{IsNodeFault, IsWalkFault}
 use Rattle.nx_ring.specs.Checkpoint.{Seen}
-use Rattle.space_pool.specs.Queues.{queue_entries_in, queue_entries, queue_tree, ephemeral_named, is_queued_in_pool, are_queued_in_pool}
+use Rattle.space_pool.specs.Queues.{queue_entries_in, queue_entries, queue_tree, ephemeral_named, is_queued_in_pool}
 use Rattle.space_pool.specs.Stops.{HasShortItem, is_right_tree}
 use Rattle.space_pool.specs.declared.entry.Queue.{Queue}
 use Rattle.space_pool.specs.declared.entry.Queue.TheVariants.{Pool}

@@ -1,4 +1,4 @@
-use Rattle.std.proofs.Common.{◌≡◌, ◌∙◌, ap, sym, refl, false, ℕ, get_or}
+use Rattle.std.proofs.Common.{◌∙◌, ap, sym, refl, ℕ, get_or}
 use Rattle.std.specs.Prelude.{◌||◌, ◌==◌}
 use Rattle.apfs_model.specs.Blocks.{is_within}
 use Rattle.space_pool.specs.Queues.{is_queued_in_pool}

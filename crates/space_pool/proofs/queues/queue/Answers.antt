@@ -1,4 +1,4 @@
-use Rattle.std.proofs.Common.{◌≡◌, ◌∙◌, ℕ, false, ap, sym}
+use Rattle.std.proofs.Common.{◌∙◌, ℕ, ap}
 use Rattle.obj_base.specs.declared.stop.Stop.TheVariants.{Found}
 use Rattle.apfs_model.proofs.BoolTests.{never-true, equal-from}
 use Rattle.space_pool.specs.Queues.{queue_of, queue_entries}
