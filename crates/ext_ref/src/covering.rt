@@ -5,6 +5,7 @@ ghost use Rattle.ext_ref.specs.declared.covering.Span as declared;
 ghost use Rattle.ext_ref.specs.Cover.{is_owned, is_covered};
 ghost use Rattle.ext_ref.specs.Reach as reach;
 ghost use Rattle.ext_ref.specs.Reach.{Reaches};
+ghost use Rattle.ext_ref.specs.Left.{AreFull};
 ghost use Rattle.ext_ref.specs.Spans as spec;
 ghost use Rattle.ext_ref.specs.Spans.{span_has, is_spanned, are_spanned, joined_spans, AreProper, AreApart, BeginBy};
 
@@ -14,9 +15,9 @@ use std::marker::Model;
 
 // A range of blocks by its first block and the one after its last.
 #[derive(Clone, Copy)]
-struct Span {
-    first: u64,
-    end: u128,
+pub(crate) struct Span {
+    pub first: u64,
+    pub end: u128,
 }
 
 /// The blocks of some ranges, so kept that one search tells whether a further range lies in them.
@@ -78,13 +79,14 @@ fn joined(last: Span, span: Span) -> Option<Span>
 }
 
 // Puts a span after those that don't begin after it.
-fn put(spans: &mut Vec<Span>, span: Span) -> Result<(), AllocError>
+pub(crate) fn put(spans: &mut Vec<Span>, span: Span) -> Result<(), AllocError>
     requires apart { AreApart spans.old.items }
     requires after { BeginBy span.first spans.old.items }
     requires proper { span.first ≤ span.end }
     ensures apart { OnOk result (AreApart spans.new.items) }
     ensures by { OnOk result (BeginBy span.first spans.new.items) }
     ensures blocks { OnOk result ((block : ℕ) → is_spanned spans.new.items block ≡ (is_spanned spans.old.items block || span_has block span)) }
+    ensures full { AreFull spans.old.items → span.first < span.end → OnOk result (AreFull spans.new.items) }
 {
     let Some(last) = spans.pop() else {
         spans.push(span)?;

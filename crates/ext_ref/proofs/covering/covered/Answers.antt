@@ -1,5 +1,5 @@
 use Rattle.std.proofs.Common.{arith, ◌+◌, ◌≤◌, ◌<◌, sym}
-use Rattle.ext_ref.proofs.Reaching.{covered-stuck, covered-all}
+use Rattle.ext_ref.proofs.Onward.{covered-stuck, covered-all}
 use Rattle.ext_ref.proofs.covering.covered.Goals as goal
 
 pub returns-then-next-block : goal.returns-then-next-block

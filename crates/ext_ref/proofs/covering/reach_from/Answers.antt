@@ -1,4 +1,4 @@
-use Rattle.ext_ref.proofs.Reaching.{reaches-start, reaches-more}
+use Rattle.ext_ref.proofs.Onward.{reaches-start, reaches-more}
 use Rattle.ext_ref.proofs.covering.reach_from.Goals as goal
 
 pub loop-range-init : goal.loop-range-init
