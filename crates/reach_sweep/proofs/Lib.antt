@@ -16,4 +16,5 @@ pub mod Walks
 pub mod Looks
 pub mod QueuesLifted
 pub mod TreesLifted
+pub mod ClaimLemmas
 mod Examples

@@ -14,5 +14,6 @@ pub mod Accounted
 pub mod Tally
 pub mod Reached
 pub mod Settled
+pub mod Claimed
 pub mod Bound
 pub mod Laws
