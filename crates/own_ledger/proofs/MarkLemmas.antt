@@ -1,5 +1,5 @@
 -- The marks of a ledger, by its bits.
-use Rattle.std.proofs.Common.{◌≡◌, ℕ, zero, suc, ◌+◌, ◌-◌, ◌*◌, ◌/◌, ◌%◌, ◌^◌, ◌<◌, ◌≤◌, Bool, true, false, not, ◌&&◌, ◌||◌, nat_le, List, length, take, replicate, min, slice_range, refl, ap, ap₂, sym, ◌∙◌, arith, inl, inr, cond}
+use Rattle.std.proofs.Common.{◌≡◌, ℕ, zero, suc, ◌+◌, ◌-◌, ◌*◌, ◌/◌, ◌%◌, ◌^◌, ◌<◌, ◌≤◌, Bool, true, false, not, ◌&&◌, ◌||◌, nat_le, List, length, take, replicate, min, slice_range, refl, ap, ap₂, sym, ◌∙◌, arith, inl, inr, cond, zero-add}
 use Rattle.std.specs.Prelude.{count_by}
 use Rattle.std.specs.List.{range_with_len}
 use Rattle.std.proofs.lemmas.Bool.{cases_Bool}
@@ -160,7 +160,7 @@ claim-adds l_first blocks old new first length inside set =
 
 -- ---- comparisons
 
-bit_in_front : (bytes : List ℕ) (n k : ℕ) → k < 8 * n → bit_at (take n bytes) k ≡ bit_at bytes k
+pub bit_in_front : (bytes : List ℕ) (n k : ℕ) → k < 8 * n → bit_at (take n bytes) k ≡ bit_at bytes k
 unfolding bit_at
 bit_in_front bytes n k low = ap (λ b. has_bit b (k % 8)) (get_or-take n bytes (k / 8) 0 (omega arith))
 
@@ -212,7 +212,7 @@ one_or_none p i = cond (p i) 1 0
 count_first : (p : ℕ → Bool) (a n : ℕ) → count_by p (range_with_len a (suc n)) ≡ one_or_none p a + count_by p (range_with_len (a + 1) n)
 count_first p a n = sum_by-cons (one_or_none p) a (range_with_len (a + 1) n)
 
-count_same : (p q : ℕ → Bool) (a b n : ℕ) → ((i : ℕ) → i < n → p (a + i) ≡ q (b + i)) → count_by p (range_with_len a n) ≡ count_by q (range_with_len b n)
+pub count_same : (p q : ℕ → Bool) (a b n : ℕ) → ((i : ℕ) → i < n → p (a + i) ≡ q (b + i)) → count_by p (range_with_len a n) ≡ count_by q (range_with_len b n)
 count_same p q a b zero same = refl
 count_same p q a b (suc n) same =
     let here : p a ≡ q b = ap p (omega arith) ∙ same 0 (omega arith) ∙ ap q (omega arith) in
@@ -238,7 +238,11 @@ count_split p a (suc n) m =
     let after = count_first p a (n + m) in
     ap (λ k. count_by p (range_with_len a k)) left ∙ omega (arith, before, after, rest, moved)
 
-count_bound : (p : ℕ → Bool) (a n : ℕ) → count_by p (range_with_len a n) ≤ n
+-- one number more
+pub count_more : (p : ℕ → Bool) (n : ℕ) → count_by p (range_with_len 0 (n + 1)) ≡ count_by p (range_with_len 0 n) + cond (p n) 1 0
+count_more p n = count_split p 0 n 1 ∙ omega (arith, count_first p (0 + n) 0, ap {B = ℕ} (λ k. cond (p k) 1 0) (zero-add n))
+
+pub count_bound : (p : ℕ → Bool) (a n : ℕ) → count_by p (range_with_len a n) ≤ n
 count_bound p a n = omega (arith, count_by-le-length p (range_with_len a n), length-range_with_len a n)
 
 -- the bits that are set are as many as the blocks that are held

@@ -17,4 +17,5 @@ pub mod Looks
 pub mod QueuesLifted
 pub mod TreesLifted
 pub mod ClaimLemmas
+pub mod ChunkLemmas
 mod Examples

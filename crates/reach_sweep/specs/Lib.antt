@@ -15,5 +15,6 @@ pub mod Tally
 pub mod Reached
 pub mod Settled
 pub mod Claimed
+pub mod Agreed
 pub mod Bound
 pub mod Laws

@@ -1,6 +1,7 @@
 //! Accounting: what a container's objects name, which blocks they own, and which are marked.
 #![tactic(auto)]
 
+mod chunks;
 mod claims;
 mod fault;
 mod theorem;
