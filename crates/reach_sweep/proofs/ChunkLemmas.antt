@@ -22,7 +22,7 @@ use Rattle.space_map.specs.declared.chunk.Chunk.{Chunk}
 use Rattle.space_map.proofs.Marked.{bits_are_marks}
 use Rattle.reach_sweep.specs.declared.fault.ReachFault.{ReachFault}
 use Rattle.reach_sweep.specs.declared.fault.ReachFault.TheVariants.{Unsound, Unnamed, NamedTwice, OwnedTwice, Outside, UnusedMapping, Leaked, Missing, PoolLeaked, PoolMissing, FreeCount, Space, Pool, Tree, Value}
-use Rattle.reach_sweep.specs.Agreed.{unmarked, IsAgreed, HasMarkAt, HasWrongCount, IsAgreeFault, told_of, marks_in, count_of}
+use Rattle.reach_sweep.specs.Agreed.{unmarked, IsAgreed, HasMarkAt, HasWrongCount, IsAgreeFault, told_of, marks_in, first_of, count_of, free_at, IsChunkAgreed, IsChunkFault}
 
 -- ---- numbers
 
@@ -156,3 +156,28 @@ chunk-is image space known k none low =
 pub bits-marks : (image : List ℕ) (space : Known) (k : ℕ) (place : ℕ) → place < count_of space k →
     bit_at (bitmap_of space.site.block_size image (chunk_at space.site.block_size image space.manager k)) place ≡ marks_in image space k place
 bits-marks image space k place low = bits_are_marks space.site.block_size image (chunk_at space.site.block_size image space.manager k) place (omega arith)
+
+-- what was read of a chunk: its bits, and from the list its free count; and its blocks
+pub record IsReadOf (image : List ℕ) (space : Known) (k : ℕ) (bits : List ℕ) (first blocks free : ℕ) : Type 0 where
+  pub bits_are : bits ≡ bitmap_of space.site.block_size image (chunk_at space.site.block_size image space.manager k)
+  pub first_is : first ≡ first_of space k
+  pub blocks_are : blocks ≡ count_of space k
+  pub free_is : free ≡ free_at image space k
+
+read-marks : (image : List ℕ) (space : Known) (k : ℕ) (bits : List ℕ) (first blocks free : ℕ) → IsReadOf image space k bits first blocks free → (place : ℕ) → place < count_of space k → bit_at bits place ≡ marks_in image space k place
+read-marks image space k bits first blocks free read place low = ap (λ xs. bit_at xs place) read.bits_are ∙ bits-marks image space k place low
+
+-- what is said of that is said of the chunk
+pub chunk-agreed : (image : List ℕ) (space : Known) (ledger : HeldBlocks) (k : ℕ) (bits : List ℕ) (first blocks free : ℕ) → IsReadOf image space k bits first blocks free →
+    IsAgreed (bit_at bits) ledger first blocks free → IsChunkAgreed image space ledger k
+chunk-agreed image space ledger k bits first blocks free read agreed =
+    agreed-same (bit_at bits) (marks_in image space k) ledger (first_of space k) (count_of space k) (free_at image space k) (read-marks image space k bits first blocks free read)
+    (subst (λ n. IsAgreed (bit_at bits) ledger (first_of space k) (count_of space k) n) read.free_is
+    (subst (λ n. IsAgreed (bit_at bits) ledger (first_of space k) n free) read.blocks_are (subst (λ n. IsAgreed (bit_at bits) ledger n blocks free) read.first_is agreed)))
+
+pub chunk-fault : (image : List ℕ) (space : Known) (ledger : HeldBlocks) (k : ℕ) (bits : List ℕ) (first blocks free : ℕ) (fault : ReachFault) → IsReadOf image space k bits first blocks free →
+    IsAgreeFault (bit_at bits) ledger k first blocks free fault → IsChunkFault image space ledger k fault
+chunk-fault image space ledger k bits first blocks free fault read present =
+    fault-same (bit_at bits) (marks_in image space k) ledger k (first_of space k) (count_of space k) (free_at image space k) fault (read-marks image space k bits first blocks free read)
+    (subst (λ n. IsAgreeFault (bit_at bits) ledger k (first_of space k) (count_of space k) n fault) read.free_is
+    (subst (λ n. IsAgreeFault (bit_at bits) ledger k (first_of space k) n free fault) read.blocks_are (subst (λ n. IsAgreeFault (bit_at bits) ledger k n blocks free fault) read.first_is present)))

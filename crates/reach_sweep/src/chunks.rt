@@ -12,18 +12,15 @@ ghost use Rattle.obj_base.specs.BlockSize as sizes;
 ghost use Rattle.obj_base.specs.Site.{IsSiteFor};
 ghost use Rattle.obj_base.specs.Stops.{Tells, NoFeature};
 ghost use Rattle.obj_base.specs.declared.stop.Stop.TheVariants.{ReadFault, NoMemory};
-ghost use Rattle.space_map.specs.Chunks.{chunk_at};
 ghost use Rattle.space_map.specs.Geometry.{chunk_len};
-ghost use Rattle.space_map.specs.Marks.{bitmap_of, has_bits};
 ghost use Rattle.space_map.specs.Tests.{share};
 ghost use Rattle.space_map.specs.Stops.{known_of};
-ghost use Rattle.own_ledger.specs.Held.{holds, lies_in, IsLeastDifference};
+ghost use Rattle.own_ledger.specs.Held.{lies_in};
 ghost use Rattle.reach_sweep.specs.Agreed.{IsAgreed, IsAgreeFault, told_of, IsChunkAgreed, IsChunkFault, IsOfChunk};
 
 use crate::ReachFault;
 use bit_lanes::count_ones;
-use blk_read::read_block;
-use blk_source::{BlockSource, ReadFailed};
+use blk_source::BlockSource;
 use obj_base::{Site, Stop};
 use own_ledger::{Difference, Ledger};
 use space_map::Space;
@@ -110,29 +107,6 @@ fn chunk_range(site: &Site, number: u64) -> (u64, u64)
     (first, len.min(site.blocks - first))
 }
 
-// Reads the bits of a chunk.
-fn chunk_bits<S: BlockSource>(
-    src: &mut S,
-    space: &Space,
-    number: usize,
-    bits: &mut [u8],
-) -> Result<(), ReadFailed>
-    requires site { IsSiteFor space.now.site (S.bytes_len src.old) }
-    requires low { number < length space.now.chunks }
-    requires long { length bits.old ≡ space.now.site.block_size }
-    ensures found { (image : List ℕ) → S.bytes src.old ≡ Some image → space.now ≡ known_of image space.now.site space.now.manager → OnOk result (bits.new ≡ bitmap_of space.now.site.block_size image (chunk_at space.now.site.block_size image space.now.manager number)) }
-    ensures cause { OnErr result (Rose (S.faults src.old) (S.faults src.new)) }
-    ensures kept { IsKept S.bytes S.bytes_len S.faults src.old src.new }
-    ensures reads { S.reads src.new ≤ S.reads src.old + 1 }
-{
-    let bitmap = space.chunks()[number].bitmap;
-    if bitmap == 0 {
-        bits.fill(0);
-        return Ok(());
-    }
-    read_block(src, bitmap, bits)
-}
-
 // Whether the chunk of a number agrees with a ledger of the container.
 fn settle_chunk<S: BlockSource>(
     src: &mut S,
@@ -152,9 +126,9 @@ fn settle_chunk<S: BlockSource>(
     ensures kept { IsKept S.bytes S.bytes_len S.faults src.old src.new }
     ensures reads { S.reads src.new ≤ S.reads src.old + 1 }
 {
-    let (first, blocks) = chunk_range(&space.site(), number as u64);
     let free = space.chunks()[number].free;
-    chunk_bits(src, space, number, bits)?;
+    let (first, blocks) = chunk_range(&space.site(), number as u64);
+    space.bitmap(src, number, bits)?;
     match agree(ledger, number as u64, first, blocks, free, bits) {
         Ok(()) => Ok(()),
         Err(fault) => Err(Stop::Found(fault)),
