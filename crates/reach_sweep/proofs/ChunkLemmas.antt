@@ -1,6 +1,5 @@
 -- The bits of chunks against what a ledger holds.
-use Rattle.std.proofs.Common.{◌≡◌, ℕ, zero, suc, ◌+◌, ◌-◌, ◌*◌, ◌/◌, ◌%◌, ◌^◌, ◌<◌, ◌≤◌, Bool, true, false, not, ◌&&◌, ◌||◌, ◌==◌, List, length, length-take-le, take, get_or, map, min, cond, if◌then◌else◌, refl, ap, ap₂, sym, ◌∙◌, subst, arith, inl, inr}
-use Rattle.std.specs.Prelude.{count_by, filter}
+use Rattle.std.proofs.Common.{◌≡◌, ℕ, ◌+◌, ◌-◌, ◌*◌, ◌/◌, ◌<◌, ◌≤◌, Bool, true, false, not, ◌==◌, List, length, length-take-le, take, get_or, map, cond, if◌then◌else◌, refl, ap, sym, ◌∙◌, subst, arith, inl, inr}
 use Rattle.std.specs.List.{range_with_len}
 use Rattle.std.proofs.Math.Nat.{le-div_iff_mul-le}
 use Rattle.std.proofs.lemmas.List.Sums.{length-filter}
@@ -11,7 +10,7 @@ use Rattle.apfs_model.specs.Blocks.{rounded_up}
 use Rattle.apfs_model.proofs.BoolTests.{equal-from, either-from}
 use Rattle.bit_lanes.specs.Bits.{ones_below, ones_of}
 use Rattle.obj_base.specs.BlockSize.{is_accepted}
-use Rattle.own_ledger.specs.Held.{HeldBlocks, holds, Agrees, IsLeastDifference}
+use Rattle.own_ledger.specs.Held.{HeldBlocks, Agrees, IsLeastDifference}
 use Rattle.own_ledger.specs.declared.held.Difference.{Difference}
 use Rattle.own_ledger.proofs.MarkLemmas.{count_same, count_more, bit_in_front}
 use Rattle.space_map.specs.Fields.{chunks_of}

@@ -1,7 +1,6 @@
 -- Ranges that are claimed one after the other.
-use Rattle.std.proofs.Common.{◌≡◌, ℕ, zero, suc, ◌+◌, ◌<◌, ◌≤◌, Bool, true, false, ◌||◌, List, [], ◌∷◌, ◌++◌, length, length-take-le, take, get_or, Option, Some, None, inl, inr, refl, ap, ap₂, sym, ◌∙◌, subst, arith}
-use Rattle.std.specs.Prelude.{slice_get, nat_le}
-use Rattle.std.specs.List.{list_any}
+use Rattle.std.proofs.Common.{◌≡◌, ℕ, zero, suc, ◌+◌, ◌<◌, ◌≤◌, Bool, true, false, ◌||◌, List, [], ◌∷◌, ◌++◌, length, length-take-le, take, get_or, Some, inl, inr, refl, ap, ap₂, sym, ◌∙◌, subst, arith}
+use Rattle.std.specs.Prelude.{slice_get}
 use Rattle.std.proofs.lemmas.Bool.{cases_lt}
 use Rattle.std.proofs.lemmas.List.{take_more, length_push}
 use Rattle.std.proofs.lemmas.List.Folds.{list_any-append}
@@ -9,13 +8,13 @@ use Rattle.std.proofs.lemmas.Option.{slice_get_past, slice_get-get_or}
 use Rattle.apfs_model.specs.Blocks.{is_in, is_within}
 use Rattle.apfs_model.specs.Lists.{In, passes}
 use Rattle.apfs_model.proofs.BoolTests.{test_or, clash, other-true, left-or, right-or}
-use Rattle.apfs_model.proofs.Searches.{in-left, in-right, in-append}
-use Rattle.own_ledger.specs.Held.{HeldBlocks, holds, lies_in, CanClaim, AddsRange, IsOutside, IsTwice, IsClaimFault}
+use Rattle.apfs_model.proofs.Searches.{in-append}
+use Rattle.own_ledger.specs.Held.{HeldBlocks, holds, lies_in, CanClaim, AddsRange, IsClaimFault}
 use Rattle.own_ledger.specs.declared.held.ClaimFault.{ClaimFault}
 use Rattle.own_ledger.specs.declared.held.ClaimFault.TheVariants as claims
 use Rattle.own_ledger.proofs.MarkLemmas.{part-from, in-above, in-below, in-from}
-use Rattle.reach_sweep.specs.Settled.{has_block, is_held, is_held_at, IsHeldTwice, AreApart}
-use Rattle.reach_sweep.specs.Claimed.{AreClaimed, HasLeaving, HasTwice, IsRangeFault}
+use Rattle.reach_sweep.specs.Settled.{has_block, is_held, is_held_at, AreApart}
+use Rattle.reach_sweep.specs.Claimed.{AreClaimed, IsRangeFault}
 
 -- ---- one range more
 

@@ -18,4 +18,6 @@ pub mod QueuesLifted
 pub mod TreesLifted
 pub mod ClaimLemmas
 pub mod ChunkLemmas
+pub mod PoolLemmas
+pub mod SettleLemmas
 mod Examples

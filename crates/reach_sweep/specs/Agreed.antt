@@ -1,7 +1,6 @@
 -- Whether the bits of a part of the container say what a ledger holds, and a free count what the bits say.
 use Rattle.std.specs.Prelude.{◌≡◌, ℕ, ◌+◌, ◌*◌, ◌<◌, Bool, true, false, not, List, length, filter, if◌then◌else◌}
 use Rattle.std.specs.List.{range_with_len}
-use Rattle.space_map.specs.Fields.{chunks_of}
 use Rattle.space_map.specs.Geometry.{chunk_len}
 use Rattle.space_map.specs.Chunks.{chunk_at}
 use Rattle.space_map.specs.Marks.{is_marked_in}

@@ -1,5 +1,5 @@
 -- Ranges that a ledger has claimed, one after the other.
-use Rattle.std.specs.Prelude.{◌≡◌, ℕ, ◌<◌, Bool, true, false, List}
+use Rattle.std.specs.Prelude.{◌≡◌, ℕ, ◌<◌, true, false, List}
 use Rattle.apfs_model.specs.Blocks.{is_in}
 use Rattle.apfs_model.specs.Lists.{In}
 use Rattle.own_ledger.specs.Held.{HeldBlocks, holds, lies_in}

@@ -16,5 +16,7 @@ pub mod Reached
 pub mod Settled
 pub mod Claimed
 pub mod Agreed
+pub mod Kept
+pub mod Pooled
 pub mod Bound
 pub mod Laws

@@ -4,7 +4,12 @@
 mod chunks;
 mod claims;
 mod fault;
+mod pools;
+mod settled;
 mod theorem;
+mod whole;
 
 pub use fault::{ReachFault, Why};
+pub use settled::settle;
 pub use theorem::accounted_or_flawed;
+pub use whole::Reached;

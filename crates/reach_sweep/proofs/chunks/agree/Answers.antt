@@ -1,5 +1,5 @@
 use Rattle.std.proofs.Common.{refl, arith}
-use Rattle.reach_sweep.proofs.ChunkLemmas.{agreed-from, wrong-count, difference-is}
+use Rattle.reach_sweep.proofs.ChunkLemmas.{agreed-from, wrong-count}
 use Rattle.reach_sweep.proofs.chunks.agree.Goals as goal
 
 pub returns-then-from-ones-clause-present : goal.returns-then-from-ones-clause-present

@@ -1,5 +1,4 @@
 use Rattle.std.proofs.Common.{◌≡◌, ◌/◌, length, take, length-take-le, sym, ◌∙◌, arith}
-use Rattle.bit_lanes.specs.Bits.{ones_below}
 use Rattle.bit_lanes.proofs.CountLemmas.{ones_bound}
 use Rattle.reach_sweep.proofs.ChunkLemmas.{ones-whole, ones-set, ones-clear}
 use Rattle.reach_sweep.proofs.chunks.ones_in.Goals as goal

@@ -1,4 +1,4 @@
-use Rattle.std.proofs.Common.{◌≡◌, ◌≤◌}
+use Rattle.std.proofs.Common.{◌≡◌}
 use Rattle.bit_lanes.specs.Bits.{ones_below}
 use Rattle.reach_sweep.proofs.chunks.ones_in.Given as goal
 

@@ -1,4 +1,4 @@
-use Rattle.std.proofs.Common.{ℕ, take}
+use Rattle.std.proofs.Common.{ℕ}
 use Rattle.reach_sweep.proofs.ClaimLemmas.{claimed-none, claimed-more, refused-range}
 use Rattle.reach_sweep.proofs.claims.claim_all.Goals as goal
 
