@@ -16,8 +16,4 @@ pub mod Walks
 pub mod Looks
 pub mod QueuesLifted
 pub mod TreesLifted
-pub mod ClaimLemmas
-pub mod ChunkLemmas
-pub mod PoolLemmas
-pub mod SettleLemmas
 mod Examples

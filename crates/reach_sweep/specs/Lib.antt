@@ -14,9 +14,5 @@ pub mod Accounted
 pub mod Tally
 pub mod Reached
 pub mod Settled
-pub mod Claimed
-pub mod Agreed
-pub mod Kept
-pub mod Pooled
 pub mod Bound
 pub mod Laws
