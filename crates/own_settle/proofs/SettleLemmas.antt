@@ -48,7 +48,8 @@ known-is image seen whole r =
     let site : whole.space.site ≡ site_of seen = ap (λ (k : Known). k.site) r.space.same in
     r.space.same ∙ ap (λ s. known_of image s whole.space.manager) (sym site)
 
-chunks-counted : (image : List ℕ) (space : Known) → space ≡ known_of image space.site space.manager → length space.chunks ≡ chunks_of space.manager
+-- the list of chunks has as many as the manager says
+pub chunks-counted : (image : List ℕ) (space : Known) → space ≡ known_of image space.site space.manager → length space.chunks ≡ chunks_of space.manager
 unfolding known_of chunks_in
 chunks-counted image space known =
     ap (λ (k : Known). length k.chunks) known ∙ length-map-range_with_len (chunk_at space.site.block_size image space.manager) 0 (chunks_of space.manager)

@@ -13,7 +13,6 @@ ghost use Rattle.nx_ring.specs.Checkpoint.{Seen};
 ghost use Rattle.own_ledger.specs.Held.{IsEmpty};
 ghost use Rattle.reach_rules.specs.Reached.{IsReached};
 ghost use Rattle.reach_rules.specs.Settled.{IsSettledWith, IsSettleFault};
-ghost use Rattle.reach_rules.specs.Bound.{RoseBy, settle_reads};
 ghost use Rattle.own_settle.specs.Pooled.{owner_fault};
 
 use crate::chunks::settle_chunks;
@@ -54,7 +53,7 @@ pub fn settle<S: BlockSource>(
     ensures exact { (image : List ℕ) (seen : Seen) → S.bytes src.old ≡ Some image → IsReached image seen reached.now → (number : ℕ) → IsSettledWith image reached.now number → IfErr result IsFree }
     ensures cause { IsErrOf result ReadFault → Rose (S.faults src.old) (S.faults src.new) }
     ensures kept { IsKept S.bytes S.bytes_len S.faults src.old src.new }
-    ensures reads { RoseBy (settle_reads reached.now) (S.reads src.old) (S.reads src.new) }
+    ensures reads { S.reads src.new ≤ S.reads src.old + length reached.now.space.chunks }
 {
     let _size = src.size();
     let space = reached.space();
