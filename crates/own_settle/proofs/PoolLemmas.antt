@@ -1,9 +1,12 @@
 -- The ranges of the pool's owners against its bits.
-use Rattle.std.proofs.Common.{◌≡◌, ℕ, ◌+◌, ◌-◌, Bool, true, false, not, List, refl, ap, ap₂, sym, ◌∙◌, subst, arith, inr, if◌then◌else◌}
+use Rattle.std.proofs.Common.{◌≡◌, ℕ, ◌+◌, ◌-◌, Bool, true, false, not, List, refl, ap, ap₂, sym, ◌∙◌, subst, arith, inr, if◌then◌else◌, ◌*◌, ◌^◌, ◌&&◌, nat_lt}
 use Rattle.apfs_model.specs.Bytes.{bit_at}
-use Rattle.apfs_model.specs.Blocks.{is_in, is_within}
-use Rattle.apfs_model.proofs.BoolTests.{clash}
-use Rattle.space_map.specs.Fields.{pool_base_of, pool_blocks_of}
+use Rattle.apfs_model.specs.Blocks.{is_in, is_inside, is_within}
+use Rattle.apfs_model.proofs.BoolTests.{clash, left-true, right-true, upto-from}
+use Rattle.obj_base.specs.declared.site.Site.{Site}
+use Rattle.space_map.specs.Fields.{pool_base_of, pool_blocks_of, pool_bitmap_blocks_of}
+use Rattle.space_map.specs.Geometry.{chunk_len}
+use Rattle.space_pool.specs.Bits.{has_pool_bits, has_indexes, is_pool_count, is_pool_shaped}
 use Rattle.space_pool.specs.declared.fault.PoolFault.TheVariants as pools
 use Rattle.own_ledger.specs.Held.{HeldBlocks, holds, IsEmpty, Agrees, IsLeastDifference}
 use Rattle.own_ledger.specs.declared.held.ClaimFault.{ClaimFault}
@@ -16,6 +19,7 @@ use Rattle.reach_rules.specs.Faults.{is_of_pool}
 use Rattle.reach_rules.specs.Reached.{Whole, AreInPool}
 use Rattle.reach_rules.specs.Settled.{is_held, pool_mark_of, ArePoolSettled, IsSettleFault}
 use Rattle.own_settle.specs.Claimed.{AreClaimed, IsRangeFault}
+use Rattle.own_settle.specs.Kept.{HasPool}
 use Rattle.own_settle.specs.Pooled.{pool_fault, pool_told_of, IsPoolSideFault}
 
 -- the pool's ranges settle with its bits
@@ -96,3 +100,18 @@ pool-side image whole (Pool (pools.Walk root why)) placed h = absurd h
 pool-side image whole (Pool (pools.Value root item)) placed h = absurd h
 pool-side image whole (Tree root item) placed h = absurd h
 pool-side image whole (Value root item) placed h = absurd h
+
+-- a pool whose bitmap can be read, and whose bits are those of all its blocks, has room: what `Reached` asks
+pub pool-room : (site : Site) (manager bits : List ℕ) → is_pool_shaped site manager ≡ true → length bits ≡ pool_bitmap_blocks_of manager * site.block_size → HasPool site.blocks manager bits
+unfolding is_pool_shaped is_pool_count has_pool_bits
+pool-room site manager bits shaped long =
+    let blocks = pool_blocks_of manager in
+    let count = left-true (is_pool_count site manager) _ shaped in
+    let sizes = left-true (has_pool_bits site.block_size manager && has_indexes manager) _ count in
+    let places = right-true (has_pool_bits site.block_size manager && has_indexes manager) _ count in
+    let pool = left-true (is_inside (pool_base_of manager) blocks site.blocks) _ places in
+    let enough = upto-from blocks (pool_bitmap_blocks_of manager * chunk_len site.block_size) (left-true (has_pool_bits site.block_size manager) _ sizes) in
+    record {
+      inside = upto-from (pool_base_of manager + blocks) site.blocks (right-true (nat_lt (pool_base_of manager) (2 ^ 63)) _ pool);
+      enough = omega (arith, enough, long);
+    }

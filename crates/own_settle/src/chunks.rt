@@ -18,11 +18,11 @@ ghost use Rattle.space_map.specs.Stops.{known_of};
 ghost use Rattle.own_ledger.specs.Held.{lies_in};
 ghost use Rattle.own_settle.specs.Agreed.{IsAgreed, IsAgreeFault, told_of, IsChunkAgreed, IsChunkFault, IsOfChunk};
 
-use reach_rules::ReachFault;
 use bit_lanes::count_ones;
 use blk_source::BlockSource;
 use obj_base::{Site, Stop};
 use own_ledger::{Difference, Ledger};
+use reach_rules::ReachFault;
 use space_map::Space;
 
 // Whether a bit is set.

@@ -9,3 +9,6 @@ mod whole;
 
 pub use settled::settle;
 pub use whole::Reached;
+
+#[cfg(test)]
+mod tests;

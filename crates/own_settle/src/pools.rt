@@ -9,11 +9,11 @@ ghost use Rattle.reach_rules.specs.Reached.{AreInPool};
 ghost use Rattle.reach_rules.specs.Settled.{ArePoolSettled};
 ghost use Rattle.own_settle.specs.Pooled.{pool_fault, pool_told_of, IsPoolSideFault};
 
-use crate::claims::claim_all;
 use crate::Reached;
-use reach_rules::ReachFault;
+use crate::claims::claim_all;
 use obj_base::Stop;
 use own_ledger::{ClaimFault, Difference, Ledger};
+use reach_rules::ReachFault;
 use space_pool::PoolFault;
 use std::alloc::Global;
 

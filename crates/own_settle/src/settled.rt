@@ -15,14 +15,14 @@ ghost use Rattle.reach_rules.specs.Reached.{IsReached};
 ghost use Rattle.reach_rules.specs.Settled.{IsSettledWith, IsSettleFault};
 ghost use Rattle.own_settle.specs.Pooled.{owner_fault};
 
+use crate::Reached;
 use crate::chunks::settle_chunks;
 use crate::claims::claim_all;
 use crate::pools::settle_pool;
-use crate::Reached;
-use reach_rules::ReachFault;
 use blk_source::BlockSource;
 use obj_base::Stop;
 use own_ledger::{ClaimFault, Ledger};
+use reach_rules::ReachFault;
 use std::alloc::Global;
 
 // What a refused claim says of the container's ranges.
