@@ -27,6 +27,7 @@ pub each_lacks : (S : Type 0) (command : Command) → LacksImage {S = S} (takes_
 each_lacks S commands.Ring = tt
 each_lacks S commands.Info = tt
 each_lacks S commands.Volumes = tt
+each_lacks S commands.Space = tt
 each_lacks S (commands.Snapshots volume) = tt
 
 -- a fact of the command and the image that another follows from

@@ -3,6 +3,7 @@ pub mod Kept
 pub mod Endings
 pub mod Stops
 pub mod Ways
+pub mod Spaces
 pub mod Answered
 pub mod OverVolume
 pub mod Statuses

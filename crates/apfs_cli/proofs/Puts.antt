@@ -70,7 +70,7 @@ texts_at f xs i x low at =
     ∙ sym (append_assoc (flat_map f (take i xs)) (f x) (flat_map f (drop (i + 1) xs)))
 
 -- the texts of the items up to a place, that of the item there among them
-texts_to : {X : Type 0} (f : X → List ℕ) (xs : List X) (i : ℕ) (x : X) → i < length xs → x ≡ get_or xs i x →
+pub texts_to : {X : Type 0} (f : X → List ℕ) (xs : List X) (i : ℕ) (x : X) → i < length xs → x ≡ get_or xs i x →
     flat_map f (take (i + 1) xs) ≡ flat_map f (take i xs) ++ f x
 texts_to f xs i x low at =
     ap (flat_map f) (take_more xs i x low)

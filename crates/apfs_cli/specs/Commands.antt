@@ -2,4 +2,5 @@
 pub mod Ring
 pub mod Info
 pub mod Volumes
+pub mod Space
 pub mod Snapshots

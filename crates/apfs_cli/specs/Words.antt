@@ -13,6 +13,8 @@ pub data Asked : Type 0 where
   Info : Asked
   -- the volumes
   Volumes : Asked
+  -- the space that is in use and free
+  Space : Asked
   -- the snapshots of the volume in a slot, or of the first volume
   Snapshots : Option ℕ → Asked
 
@@ -21,7 +23,7 @@ abbrev pub built : lines.Asked → Option Asked
 built lines.Ring = Some Ring
 built lines.Info = Some Info
 built lines.Volumes = Some Volumes
-built lines.Space = None
+built lines.Space = Some Space
 built lines.Check = None
 built (lines.Snapshots volume) = Some (Snapshots volume)
 built (lines.Ls target) = None
@@ -38,4 +40,5 @@ abbrev pub said : Command → Asked
 said commands.Ring = Ring
 said commands.Info = Info
 said commands.Volumes = Volumes
+said commands.Space = Space
 said (commands.Snapshots volume) = Snapshots volume

@@ -9,6 +9,8 @@ use nx_ring::RingFault;
 use obj_base::Within;
 use omap_map::OmapFault;
 use reach_rules::Why;
+use space_map::SpaceFault;
+use space_pool::PoolFault;
 use vol_view::VolStop;
 
 /// What a layer finds wrong at a place `P`, which is what a fault of the container shows beside it.
@@ -83,6 +85,51 @@ impl Raise<u64> for VolStop {
             VolStop::SnapCount { slot } => Fault::SnapCount { slot },
             VolStop::SnapName { slot } => Fault::SnapName { slot },
             VolStop::OmapSnaps { slot } => Fault::OmapSnaps { slot },
+        }
+    }
+}
+
+/// A fault of the space manager is raised at the checkpoint's transaction.
+impl Raise<u64> for SpaceFault {
+    ghost use Rattle.reach_rules.specs.declared.fault.ReachFault.TheVariants as sweeps;
+
+    ghost raised = { λ xid fault. raised.of_sweep xid (sweeps.Space fault) };
+
+    fn raise(self, xid: u64) -> Fault {
+        match self {
+            SpaceFault::Unnamed { within, oid } => Fault::Unnamed { within, oid, xid },
+            SpaceFault::Unsound { block, why } => Fault::Unsound {
+                block,
+                why: Why::Node(NodeFault::Head(why)),
+            },
+            SpaceFault::Geometry => Fault::SpaceGeometry,
+            SpaceFault::Cab { index } => Fault::SpaceCab { index },
+            SpaceFault::Cib { index } => Fault::SpaceCib { index },
+            SpaceFault::Index { chunk } => Fault::SpaceIndex { chunk },
+            SpaceFault::Place { block } => Fault::SpacePlace { block },
+            SpaceFault::FreeTotal => Fault::SpaceFreeTotal,
+        }
+    }
+}
+
+/// A fault of the pool or of a free queue is raised at the checkpoint's transaction. A queue's nodes are ephemeral.
+impl Raise<u64> for PoolFault {
+    ghost use Rattle.reach_rules.specs.declared.fault.ReachFault.TheVariants as sweeps;
+
+    ghost raised = { λ xid fault. raised.of_sweep xid (sweeps.Pool fault) };
+
+    fn raise(self, xid: u64) -> Fault {
+        match self {
+            PoolFault::Index { at } => Fault::PoolIndex { at },
+            PoolFault::Count => Fault::PoolCount,
+            PoolFault::Place { block } => Fault::PoolPlace { block },
+            PoolFault::Unnamed { oid } => Fault::Unnamed {
+                within: Within::Ephemeral,
+                oid,
+                xid,
+            },
+            PoolFault::Walk { root, why } => of_walk(Within::Ephemeral, xid, root, why),
+            PoolFault::Value { root, item } => Fault::TreeRecord { root, item },
         }
     }
 }

@@ -18,6 +18,8 @@ pub enum Command {
     Info,
     /// The volumes.
     Volumes,
+    /// The space that is in use and free.
+    Space,
     /// The snapshots of the volume in the slot that is named, or of the first volume.
     Snapshots(Option<u8>),
 }
@@ -28,7 +30,8 @@ impl Command {
         ensures { result ≡ by_command.takes_image (said self) }
     {
         match self {
-            Command::Ring | Command::Info | Command::Volumes | Command::Snapshots(_) => true,
+            Command::Ring | Command::Info | Command::Volumes => true,
+            Command::Space | Command::Snapshots(_) => true,
         }
     }
 }
@@ -42,7 +45,8 @@ fn built(line: Line<'_>) -> Option<Command>
         Line::Info => Some(Command::Info),
         Line::Volumes => Some(Command::Volumes),
         Line::Snapshots(volume) => Some(Command::Snapshots(volume)),
-        Line::Space | Line::Check => None,
+        Line::Space => Some(Command::Space),
+        Line::Check => None,
         Line::Ls(_) | Line::Tree(_) | Line::Cat(_) | Line::Xattr(..) => None,
     }
 }
