@@ -83,7 +83,7 @@ impl Reached {
     /// The bits of the pool, from its first block on.
     pub fn pool(&self) -> &[u8]
         ensures all { result.now ≡ self.now.pool }
-        ensures room { HasPool self.now.space.site.blocks self.now.space.manager result.now }
+        ensures has_pool { HasPool self.now.space.site.blocks self.now.space.manager result.now }
     {
         &self.pool
     }
