@@ -56,7 +56,7 @@ impl Space {
     /// The bytes of the space manager, those of all its blocks.
     pub fn manager(&self) -> &[u8]
         ensures all { result.now ≡ self.now.manager }
-        ensures long { 4096 ≤ length result.now }
+        ensures least { 4096 ≤ length result.now }
     {
         &self.manager
     }
@@ -178,7 +178,7 @@ impl Space {
     ) -> Result<(), ReadFailed>
         requires site { IsSiteFor self.now.site (S.bytes_len src.old) }
         requires low { chunk < length self.now.chunks }
-        requires long { length into.old ≡ self.now.site.block_size }
+        requires one_block { length into.old ≡ self.now.site.block_size }
         ensures found { (image : List ℕ) → S.bytes src.old ≡ Some image → self.now ≡ known_of image self.now.site self.now.manager → OnOk result (into.new ≡ bitmap_of self.now.site.block_size image (chunk_at self.now.site.block_size image self.now.manager chunk)) }
         ensures cause { OnErr result (Rose (S.faults src.old) (S.faults src.new)) }
         ensures kept { IsKept S.bytes S.bytes_len S.faults src.old src.new }
