@@ -4,8 +4,8 @@ use Rattle.fs_record.specs.Attributes.{Body, Embedded, Streamed, Attribute}
 use Rattle.fs_record.specs.Facts.{Fact}
 use Rattle.view_rules.specs.Facts.{Facts}
 use Rattle.view_rules.specs.Inodes.{target_name}
-use Rattle.view_facts.specs.declared.facts.Contents.{Contents}
-use Rattle.view_facts.specs.declared.facts.Contents.TheVariants as kept
+use Rattle.view_facts.specs.declared.contents.Contents.{Contents}
+use Rattle.view_facts.specs.declared.contents.Contents.TheVariants as kept
 
 -- an attribute's body, by what is kept of it
 abbrev pub body_of : Contents → Body

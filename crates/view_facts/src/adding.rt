@@ -13,16 +13,13 @@ ghost use Rattle.fs_record.specs.Facts as spec;
 ghost use Rattle.view_facts.specs.Contents.{body_of, brief_body};
 ghost use Rattle.view_facts.specs.Adding.{said_by, brief_said, facts_with};
 
-use crate::facts::Contents;
+use crate::contents::{Contents, TARGET_NAME};
 use crate::{AttributeFact, EntryFact, ExtentFact, Facts, InodeFact, LinkFact, SiblingFact};
 use apfs_layout::key as kinds;
 use blk_source::NoMemory;
 use fs_name::Names;
 use fs_record::{AttrBody, RecFault, attr, entry, file_ext, inode, sibling_link, sibling_map};
 use std::alloc::Global;
-
-/// The name of the attribute that has the target of a symbolic link (Extended Attributes, SYMLINK_EA_NAME).
-const TARGET_NAME: &str = "com.apple.fs.symlink";
 
 // Puts a fact after those that are kept.
 fn put<T: Drop>(list: &mut Vec<T>, fact: T) -> Result<(), NoMemory>

@@ -1,7 +1,9 @@
 // What is kept of the records of a view, those of each kind in record order.
-ghost use Rattle.std.specs.Prelude.{◌≡◌, string_bytes};
+ghost use Rattle.std.specs.Prelude.{◌≡◌, ◌&&◌, bytes_eq};
+ghost use Rattle.view_rules.specs.Inodes as rules;
 ghost use Rattle.fs_record.specs.Inodes.{inode_kind};
 
+use crate::contents::{Contents, TARGET_NAME, holds_target, is_large};
 use apfs_layout::record as layout;
 use fs_name::Names;
 use fs_record::{FileExt, StreamSize};
@@ -130,13 +132,6 @@ impl EntryFact {
     }
 }
 
-/// What is kept of an attribute's contents: the bytes that stand in its record, or the size of its stream.
-#[derive(Debug, Drop)]
-pub(crate) enum Contents {
-    Embedded(Vec<u8>),
-    Stream { id: u64, size: u64 },
-}
-
 /// An attribute, which contracts see as the fact of its record.
 #[derive(Debug, Drop)]
 pub struct AttributeFact {
@@ -169,6 +164,21 @@ impl AttributeFact {
         ensures { result.now ≡ self.now.what.name }
     {
         self.name.as_str()
+    }
+
+    /// Whether it is the target of a symbolic link: it stands in the record under the target's name, and its one zero is the
+    /// last of two bytes or more.
+    pub fn gives_target(&self) -> bool
+        ensures { result ≡ (bytes_eq self.now.what.name rules.target_name && rules.holds_target self.now.what.body) }
+    {
+        self.name.as_str() == TARGET_NAME && holds_target(&self.contents)
+    }
+
+    /// Whether it is a stream of 2^63 bytes or more.
+    pub fn has_large_body(&self) -> bool
+        ensures { result ≡ rules.is_large_body self.now.what.body }
+    {
+        is_large(&self.contents)
     }
 }
 

@@ -2,6 +2,7 @@
 #![tactic(auto)]
 
 mod adding;
+mod contents;
 mod facts;
 mod gathering;
 mod keep;
