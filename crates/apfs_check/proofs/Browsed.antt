@@ -35,22 +35,22 @@ use Rattle.vol_view.specs.LoadStops.{metadata_root, has_whole_metadata, IsRightS
 use Rattle.vol_view.specs.Views.{views_of}
 use Rattle.vol_view.specs.declared.head.VolHead.{VolHead}
 use Rattle.vol_view.specs.declared.volume.View.{View}
-use Rattle.reach_sweep.specs.declared.fault.Why.TheVariants.{Node}
-use Rattle.reach_sweep.specs.declared.fault.ReachFault.TheVariants as sweeps
-use Rattle.reach_sweep.specs.Naming.{ViewAt, LookUp, ByBlock, Newest, InBlock, OfRecord, Namer, Whole, Kept, TreeKind, MapRecords, MapSnapshots, SnapMetadata, Expected, ContainerMap, VolumeIn, VolumeMap, SnapshotSuper, TreeRoot, Naming, naming}
-use Rattle.reach_sweep.specs.Resolved.{Found, resolved, standing, recorded}
-use Rattle.reach_sweep.specs.Tested.{Answer, tested}
-use Rattle.reach_sweep.specs.Next.{names, map_namings, past_view}
-use Rattle.reach_sweep.specs.Live.{IsLive, NamesSound, led}
-use Rattle.reach_sweep.specs.Features.{placed_in, record_features, used_features, tested_features, field_features, features_through}
-use Rattle.reach_sweep.specs.Faults.{within_of, xid_of}
-use Rattle.reach_sweep.specs.Trees.{tree_line, misplaced, has_counts}
-use Rattle.reach_sweep.specs.Accounted.{IsAccounted}
+use Rattle.reach_rules.specs.declared.fault.Why.TheVariants.{Node}
+use Rattle.reach_rules.specs.declared.fault.ReachFault.TheVariants as sweeps
+use Rattle.reach_rules.specs.Naming.{ViewAt, LookUp, ByBlock, Newest, InBlock, OfRecord, Namer, Whole, Kept, TreeKind, MapRecords, MapSnapshots, SnapMetadata, Expected, ContainerMap, VolumeIn, VolumeMap, SnapshotSuper, TreeRoot, Naming, naming}
+use Rattle.reach_rules.specs.Resolved.{Found, resolved, standing, recorded}
+use Rattle.reach_rules.specs.Tested.{Answer, tested}
+use Rattle.reach_rules.specs.Next.{names, map_namings, past_view}
+use Rattle.reach_rules.specs.Live.{IsLive, NamesSound, led}
+use Rattle.reach_rules.specs.Features.{placed_in, record_features, used_features, tested_features, field_features, features_through}
+use Rattle.reach_rules.specs.Faults.{within_of, xid_of}
+use Rattle.reach_rules.specs.Trees.{tree_line, misplaced, has_counts}
+use Rattle.reach_rules.specs.Accounted.{IsAccounted}
 use Rattle.apfs_check.specs.Laws.{IsBrowsable}
 use Rattle.apfs_model.proofs.BoolTests.{test_or, left-true, right-true, both-true, left-or, right-or, in-range}
-use Rattle.reach_sweep.proofs.Nexts.{in-next, in-unless}
-use Rattle.reach_sweep.proofs.Sounds.{map_naming, map-live, container-map-sound}
-use Rattle.reach_sweep.proofs.Refutes as reached
+use Rattle.reach_rules.proofs.Nexts.{in-next, in-unless}
+use Rattle.reach_rules.proofs.Sounds.{map_naming, map-live, container-map-sound}
+use Rattle.reach_rules.proofs.Refutes as reached
 use Rattle.view_rules.specs.declared.profile.Profile.{Profile}
 use Rattle.view_rules.specs.declared.profile.Profile.TheVariants.{Strict}
 use Rattle.apfs_check.specs.Volumes.{volume_of}
@@ -58,9 +58,9 @@ use Rattle.apfs_check.specs.Data.{HasRightData}
 use Rattle.apfs_check.specs.WellFormed.{HasAgreement, HasViewRules, IsWellFormed}
 use Rattle.apfs_model.proofs.Inside.{inside-itself}
 use Rattle.apfs_model.proofs.Empty.{left-none, right-none, map-none, flat-none}
-use Rattle.reach_sweep.proofs.Looks.{standing-by}
-use Rattle.reach_sweep.proofs.Walks.{IsWalkOf, IsRootNaming, Told, walkable-from}
-use Rattle.reach_sweep.proofs.Looks.{records-walk, snapshots-walk, metadata-walk}
+use Rattle.reach_rules.proofs.Looks.{standing-by}
+use Rattle.reach_rules.proofs.Walks.{IsWalkOf, IsRootNaming, Told, walkable-from}
+use Rattle.reach_rules.proofs.Looks.{records-walk, snapshots-walk, metadata-walk}
 use Rattle.apfs_check.proofs.Named.{volume-tested, slot_naming, slot-live, head-named, volume-names, in-metadata, super_naming, record-names}
 use Rattle.apfs_check.proofs.Loaded.{sound-super, sound-map, sound-snapshot, readable-long}
 

@@ -16,20 +16,20 @@ use Rattle.vol_view.specs.declared.head.VolHead.{VolHead}
 use Rattle.ext_ref.specs.Stops as extents
 use Rattle.ext_ref.specs.declared.stop.ExtStop.{ExtStop}
 use Rattle.ext_ref.specs.declared.stop.ExtStop.TheVariants as stopped
-use Rattle.reach_sweep.specs.Naming.{ByBlock, Namer, Whole, Kept, ExtentRefs, SnapMetadata, TreeRoot, Naming, naming}
-use Rattle.reach_sweep.specs.Next.{unless_zero, live_view, past_view, view_namings, volume_namings, snapshots_namings, records_of_snapshots}
+use Rattle.reach_rules.specs.Naming.{ByBlock, Namer, Whole, Kept, ExtentRefs, SnapMetadata, TreeRoot, Naming, naming}
+use Rattle.reach_rules.specs.Next.{unless_zero, live_view, past_view, view_namings, volume_namings, snapshots_namings, records_of_snapshots}
 use Rattle.apfs_model.proofs.Searches.{in-left, in-right, from-map, from-filter, filter-test}
 use Rattle.view_rules.specs.declared.profile.Profile.{Profile}
 use Rattle.apfs_check.specs.Volumes.{has_sound_super, sound_heads, record_extents_root, past_extents_roots}
 use Rattle.apfs_check.specs.Present.{IsPresent, IsFeature}
 use Rattle.apfs_check.specs.Raised.{of_extents}
-use Rattle.reach_sweep.proofs.Nexts.{in-unless}
-use Rattle.reach_sweep.proofs.Walks.{IsRootNaming, gap-told}
-use Rattle.reach_sweep.proofs.Looks.{extents-walk}
+use Rattle.reach_rules.proofs.Nexts.{in-unless}
+use Rattle.reach_rules.proofs.Walks.{IsRootNaming, gap-told}
+use Rattle.reach_rules.proofs.Looks.{extents-walk}
 use Rattle.apfs_check.proofs.Named.{IsHeadNaming, head-named, volume-names, record-names}
 use Rattle.apfs_check.proofs.Loaded.{from-sound}
 use Rattle.apfs_check.proofs.There.{walk-there, feature-there}
-use Rattle.reach_sweep.proofs.TreesLifted.{extents-present}
+use Rattle.reach_rules.proofs.TreesLifted.{extents-present}
 use Rattle.apfs_check.proofs.VolumesThere.{sound-head}
 
 -- the roots of the extent reference trees of a volume and of its snapshots

@@ -24,15 +24,15 @@ use Rattle.vol_view.specs.declared.stop.VolStop.TheVariants as volumes
 use Rattle.vol_view.specs.declared.volume.View.{View}
 use Rattle.space_map.specs.declared.fault.SpaceFault.TheVariants as spaces
 use Rattle.space_pool.specs.declared.fault.PoolFault.TheVariants as pools
-use Rattle.reach_sweep.specs.Faults as reach
-use Rattle.reach_sweep.specs.Features.{HasFeature, first}
-use Rattle.reach_sweep.specs.Accounted.{IsAccounted}
-use Rattle.reach_sweep.specs.declared.fault.ReachFault.{ReachFault}
-use Rattle.reach_sweep.specs.declared.fault.ReachFault.TheVariants as sweeps
+use Rattle.reach_rules.specs.Faults as reach
+use Rattle.reach_rules.specs.Features.{HasFeature, first}
+use Rattle.reach_rules.specs.Accounted.{IsAccounted}
+use Rattle.reach_rules.specs.declared.fault.ReachFault.{ReachFault}
+use Rattle.reach_rules.specs.declared.fault.ReachFault.TheVariants as sweeps
 use Rattle.apfs_model.proofs.BoolTests.{test_or, clash}
-use Rattle.reach_sweep.proofs.NamesDecided.{then_or, each_or}
-use Rattle.reach_sweep.proofs.Refutes as reached
-use Rattle.reach_sweep.proofs.Decided as accounts
+use Rattle.reach_rules.proofs.NamesDecided.{then_or, each_or}
+use Rattle.reach_rules.proofs.Refutes as reached
+use Rattle.reach_rules.proofs.Decided as accounts
 use Rattle.view_rules.specs.Rules.{IsTreeFault}
 use Rattle.view_rules.specs.declared.profile.Profile.{Profile}
 use Rattle.view_rules.specs.declared.profile.Profile.TheVariants.{Plain, Strict}

@@ -18,14 +18,14 @@ use Rattle.vol_view.specs.Views.{past_of, views_of, rooted_views}
 use Rattle.vol_view.specs.Agreement.{are_readable}
 use Rattle.vol_view.specs.declared.head.VolHead.{VolHead}
 use Rattle.vol_view.specs.declared.volume.View.{View}
-use Rattle.reach_sweep.specs.Naming.{ViewAt, ByBlock, InBlock, Whole, Kept, SnapshotSuper, VolumeMap, Naming, naming}
-use Rattle.reach_sweep.specs.Resolved.{Found, resolved, standing, found_physical}
-use Rattle.reach_sweep.specs.Tested.{tested}
-use Rattle.reach_sweep.specs.Next.{past_view}
-use Rattle.reach_sweep.specs.Live.{IsLive, NamesSound}
+use Rattle.reach_rules.specs.Naming.{ViewAt, ByBlock, InBlock, Whole, Kept, SnapshotSuper, VolumeMap, Naming, naming}
+use Rattle.reach_rules.specs.Resolved.{Found, resolved, standing, found_physical}
+use Rattle.reach_rules.specs.Tested.{tested}
+use Rattle.reach_rules.specs.Next.{past_view}
+use Rattle.reach_rules.specs.Live.{IsLive, NamesSound}
 use Rattle.apfs_model.proofs.BoolTests.{left-true, both-true, all-in, from-range}
 use Rattle.apfs_model.proofs.Searches.{in-map, from-map, in-filter, from-filter}
-use Rattle.reach_sweep.proofs.Sounds.{cab-bytes, volume-map-sound}
+use Rattle.reach_rules.proofs.Sounds.{cab-bytes, volume-map-sound}
 use Rattle.apfs_check.specs.Volumes.{has_sound_super, sound_heads, volume_of}
 use Rattle.apfs_check.proofs.Named.{snapshot-tested, from-filter_map, head-at, head-named, head-tested, volume-names, super_naming, record-names}
 

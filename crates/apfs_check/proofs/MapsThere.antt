@@ -26,25 +26,25 @@ use Rattle.omap_map.specs.declared.fault.OmapFault.TheVariants as maps
 use Rattle.vol_view.specs.Heads.{super_in, super_test, has_magic, is_super}
 use Rattle.vol_view.specs.SnapRecords.{metadata_tree}
 use Rattle.vol_view.specs.declared.stop.VolStop.TheVariants as volumes
-use Rattle.reach_sweep.specs.declared.fault.Why.{Why}
-use Rattle.reach_sweep.specs.declared.fault.Why.TheVariants.{Node, Magic}
-use Rattle.reach_sweep.specs.Naming.{ByBlock, InBlock, Namer, Whole, MapRecords, MapSnapshots, SnapMetadata, Expected, TreeRoot, Naming, naming}
-use Rattle.reach_sweep.specs.Resolved.{Found, resolved, standing}
-use Rattle.reach_sweep.specs.Tested.{Answer, of_header, with_magic, head_tested, tested}
-use Rattle.reach_sweep.specs.Next.{names, map_namings}
-use Rattle.reach_sweep.specs.Live.{IsLive, led}
-use Rattle.reach_sweep.specs.Features.{HasFeature, of, placed_in, used_features, tested_features, field_features, features_through}
-use Rattle.reach_sweep.specs.Faults.{IsUnsound, IsUnnamed}
+use Rattle.reach_rules.specs.declared.fault.Why.{Why}
+use Rattle.reach_rules.specs.declared.fault.Why.TheVariants.{Node, Magic}
+use Rattle.reach_rules.specs.Naming.{ByBlock, InBlock, Namer, Whole, MapRecords, MapSnapshots, SnapMetadata, Expected, TreeRoot, Naming, naming}
+use Rattle.reach_rules.specs.Resolved.{Found, resolved, standing}
+use Rattle.reach_rules.specs.Tested.{Answer, of_header, with_magic, head_tested, tested}
+use Rattle.reach_rules.specs.Next.{names, map_namings}
+use Rattle.reach_rules.specs.Live.{IsLive, led}
+use Rattle.reach_rules.specs.Features.{HasFeature, of, placed_in, used_features, tested_features, field_features, features_through}
+use Rattle.reach_rules.specs.Faults.{IsUnsound, IsUnnamed}
 use Rattle.apfs_model.proofs.BoolTests.{left-true, right-true}
 use Rattle.apfs_model.proofs.Searches.{in-map}
-use Rattle.reach_sweep.proofs.Nexts.{in-next, in-unless}
+use Rattle.reach_rules.proofs.Nexts.{in-next, in-unless}
 use Rattle.view_rules.specs.declared.profile.Profile.{Profile}
 use Rattle.apfs_check.specs.Present.{IsPresent}
 use Rattle.apfs_check.specs.Raised.{of_map, of_volume}
 use Rattle.apfs_model.proofs.Inside.{inside-itself}
-use Rattle.reach_sweep.proofs.Walks.{IsRootNaming, gap-told}
-use Rattle.reach_sweep.proofs.Looks.{records-walk, snapshots-walk}
-use Rattle.reach_sweep.proofs.TreesLifted.{records-present, snapshots-present, metadata-present}
+use Rattle.reach_rules.proofs.Walks.{IsRootNaming, gap-told}
+use Rattle.reach_rules.proofs.Looks.{records-walk, snapshots-walk}
+use Rattle.reach_rules.proofs.TreesLifted.{records-present, snapshots-present, metadata-present}
 use Rattle.apfs_check.proofs.There.{walk-there}
 
 -- ---- tests of headers

@@ -24,18 +24,18 @@ use Rattle.vol_view.specs.Volumes.{super_of, map_block_of, metadata_of, snapshot
 use Rattle.vol_view.specs.Views.{live_of, past_of, rooted_views}
 use Rattle.vol_view.specs.declared.head.VolHead.{VolHead}
 use Rattle.vol_view.specs.declared.volume.View.{View}
-use Rattle.reach_sweep.specs.declared.fault.Why.TheVariants.{Magic}
-use Rattle.reach_sweep.specs.Naming.{ViewAt, ByBlock, ByMapping, InContainer, InView, Newest, InBlock, OfRecord, Namer, Whole, Kept, Files, ReaperObject, Jumpstart, VolumeIn, SnapshotSuper, TreeRoot, ExtentRefs, SnapMetadata, Naming, naming}
-use Rattle.reach_sweep.specs.Resolved.{Found, resolved, standing, recorded}
-use Rattle.reach_sweep.specs.Tested.{Answer, of_header, with_magic, tested}
-use Rattle.reach_sweep.specs.Next.{roots, names, unless_zero, slot_namings, live_view, past_view, view_namings, record_namings, snapshot_namings, snapshots_namings, volume_namings, records_of_snapshots}
-use Rattle.reach_sweep.specs.Live.{IsLive, rooted, led}
+use Rattle.reach_rules.specs.declared.fault.Why.TheVariants.{Magic}
+use Rattle.reach_rules.specs.Naming.{ViewAt, ByBlock, ByMapping, InContainer, InView, Newest, InBlock, OfRecord, Namer, Whole, Kept, Files, ReaperObject, Jumpstart, VolumeIn, SnapshotSuper, TreeRoot, ExtentRefs, SnapMetadata, Naming, naming}
+use Rattle.reach_rules.specs.Resolved.{Found, resolved, standing, recorded}
+use Rattle.reach_rules.specs.Tested.{Answer, of_header, with_magic, tested}
+use Rattle.reach_rules.specs.Next.{roots, names, unless_zero, slot_namings, live_view, past_view, view_namings, record_namings, snapshot_namings, snapshots_namings, volume_namings, records_of_snapshots}
+use Rattle.reach_rules.specs.Live.{IsLive, rooted, led}
 use Rattle.apfs_model.proofs.BoolTests.{left-true, right-true}
 use Rattle.apfs_model.proofs.Searches.{in-left, in-right, in-flat_map, from-map, from-filter, filter-test}
-use Rattle.reach_sweep.proofs.Nexts.{in-next, in-unless}
+use Rattle.reach_rules.proofs.Nexts.{in-next, in-unless}
 use Rattle.apfs_check.specs.Volumes.{has_sound_super, volume_of}
 use Rattle.apfs_model.proofs.Inside.{inside-itself}
-use Rattle.reach_sweep.proofs.Walks.{IsRootNaming}
+use Rattle.reach_rules.proofs.Walks.{IsRootNaming}
 
 if-ok : (b : Bool) (x y : Answer) → is_ok x ≡ true → is_ok y ≡ false → is_ok (if b then x else y) ≡ b
 if-ok true x y a c = a

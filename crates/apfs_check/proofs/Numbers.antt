@@ -9,17 +9,17 @@ use Rattle.nx_ring.specs.Checkpoint.{Seen, site_of}
 use Rattle.nx_ring.specs.declared.fault.RingFault.{RingFault}
 use Rattle.space_map.specs.Marks.{is_marked}
 use Rattle.vol_view.specs.Heads.{heads_of}
-use Rattle.reach_sweep.specs.Naming.{Object, Newest, Naming}
-use Rattle.reach_sweep.specs.Resolved.{Found, resolved}
-use Rattle.reach_sweep.specs.Live.{IsLive, IsNamed, newest, named}
-use Rattle.reach_sweep.specs.Tally.{IsNumberOf, IsOwnedBlock}
-use Rattle.reach_sweep.specs.Accounted.{IsAccounted}
+use Rattle.reach_rules.specs.Naming.{Object, Newest, Naming}
+use Rattle.reach_rules.specs.Resolved.{Found, resolved}
+use Rattle.reach_rules.specs.Live.{IsLive, IsNamed, newest, named}
+use Rattle.reach_rules.specs.Tally.{IsNumberOf, IsOwnedBlock}
+use Rattle.reach_rules.specs.Accounted.{IsAccounted}
 use Rattle.apfs_model.proofs.BoolTests.{in-range, from-range}
 use Rattle.apfs_model.proofs.Finite.{Either, apart-same, IsOnce, once, apart-range, apart-filter}
 use Rattle.apfs_model.proofs.Searches.{in-flat_map, from-flat_map, in-filter, from-filter, filter-test}
-use Rattle.reach_sweep.proofs.Equal.{object_eq}
-use Rattle.reach_sweep.proofs.Alive.{live_or}
-use Rattle.reach_sweep.proofs.Decided as accounts
+use Rattle.reach_rules.proofs.Equal.{object_eq}
+use Rattle.reach_rules.proofs.Alive.{live_or}
+use Rattle.reach_rules.proofs.Decided as accounts
 use Rattle.tree_rules.specs.declared.notes.Note.{Note}
 use Rattle.view_rules.specs.declared.profile.Profile.{Profile}
 use Rattle.apfs_check.specs.Notes.{notes_of}

@@ -20,11 +20,11 @@ use Rattle.vol_view.specs.declared.volume.View.{View}
 use Rattle.ext_ref.specs.declared.range.NewRange.{NewRange}
 use Rattle.space_map.specs.declared.fault.SpaceFault.TheVariants as spaces
 use Rattle.space_pool.specs.declared.fault.PoolFault.TheVariants as pools
-use Rattle.reach_sweep.specs.Faults as reach
-use Rattle.reach_sweep.specs.Raised as reached
-use Rattle.reach_sweep.specs.Features.{HasFeature, first}
-use Rattle.reach_sweep.specs.declared.fault.ReachFault.{ReachFault}
-use Rattle.reach_sweep.specs.declared.fault.ReachFault.TheVariants as sweeps
+use Rattle.reach_rules.specs.Faults as reach
+use Rattle.reach_rules.specs.Raised as reached
+use Rattle.reach_rules.specs.Features.{HasFeature, first}
+use Rattle.reach_rules.specs.declared.fault.ReachFault.{ReachFault}
+use Rattle.reach_rules.specs.declared.fault.ReachFault.TheVariants as sweeps
 use Rattle.view_rules.specs.Rules.{IsTreeFault}
 use Rattle.view_rules.specs.declared.profile.Profile.{Profile}
 use Rattle.view_rules.specs.declared.profile.Profile.TheVariants.{Strict}

@@ -23,14 +23,14 @@ use Rattle.vol_view.specs.Views.{view_named, hashed_tree, plain_tree, FactBy, Is
 use Rattle.vol_view.specs.declared.head.VolHead.{VolHead}
 use Rattle.vol_view.specs.declared.volume.View.{View}
 use Rattle.vol_view.proofs.Maps.{named-in_image}
-use Rattle.reach_sweep.specs.declared.fault.Why.TheVariants.{Node}
-use Rattle.reach_sweep.specs.Naming.{ViewAt, InView, Files}
-use Rattle.reach_sweep.specs.Resolved.{found_virtual}
-use Rattle.reach_sweep.specs.Features.{HasFeature}
-use Rattle.reach_sweep.specs.Faults.{IsUnsound, IsUnnamed}
+use Rattle.reach_rules.specs.declared.fault.Why.TheVariants.{Node}
+use Rattle.reach_rules.specs.Naming.{ViewAt, InView, Files}
+use Rattle.reach_rules.specs.Resolved.{found_virtual}
+use Rattle.reach_rules.specs.Features.{HasFeature}
+use Rattle.reach_rules.specs.Faults.{IsUnsound, IsUnnamed}
 use Rattle.apfs_check.specs.Volumes.{volume_of}
-use Rattle.reach_sweep.proofs.Walks.{Matches, IsWalkOf, IsRootNaming, Told, gap-told}
-use Rattle.reach_sweep.proofs.Looks.{virtual-match}
+use Rattle.reach_rules.proofs.Walks.{Matches, IsWalkOf, IsRootNaming, Told, gap-told}
+use Rattle.reach_rules.proofs.Looks.{virtual-match}
 use Rattle.apfs_check.proofs.Named.{IsViewNamed}
 
 -- in a view of a volume too

@@ -30,25 +30,25 @@ use Rattle.vol_view.specs.LoadStops.{metadata_root, IsSnapshotOf, NamesSuper, Is
 use Rattle.vol_view.specs.declared.head.VolHead.{VolHead}
 use Rattle.vol_view.specs.declared.stop.VolStop.{VolStop}
 use Rattle.vol_view.specs.declared.stop.VolStop.TheVariants as volumes
-use Rattle.reach_sweep.specs.declared.fault.Why.{Why}
-use Rattle.reach_sweep.specs.declared.fault.Why.TheVariants.{Node, Magic}
-use Rattle.reach_sweep.specs.Naming.{ViewAt, ByBlock, Newest, OfRecord, Namer, Whole, Kept, SnapMetadata, ContainerMap, VolumeIn, VolumeMap, SnapshotSuper, TreeRoot, Naming, naming}
-use Rattle.reach_sweep.specs.Resolved.{Found, resolved, standing, recorded}
-use Rattle.reach_sweep.specs.Tested.{with_magic, head_tested, tested}
-use Rattle.reach_sweep.specs.Next.{past_view}
-use Rattle.reach_sweep.specs.Live.{IsLive}
-use Rattle.reach_sweep.specs.Features.{Placed, HasFeature, placed_in, record_features, used_features, field_features}
-use Rattle.reach_sweep.specs.Faults.{IsUnsound, IsUnnamed}
+use Rattle.reach_rules.specs.declared.fault.Why.{Why}
+use Rattle.reach_rules.specs.declared.fault.Why.TheVariants.{Node, Magic}
+use Rattle.reach_rules.specs.Naming.{ViewAt, ByBlock, Newest, OfRecord, Namer, Whole, Kept, SnapMetadata, ContainerMap, VolumeIn, VolumeMap, SnapshotSuper, TreeRoot, Naming, naming}
+use Rattle.reach_rules.specs.Resolved.{Found, resolved, standing, recorded}
+use Rattle.reach_rules.specs.Tested.{with_magic, head_tested, tested}
+use Rattle.reach_rules.specs.Next.{past_view}
+use Rattle.reach_rules.specs.Live.{IsLive}
+use Rattle.reach_rules.specs.Features.{Placed, HasFeature, placed_in, record_features, used_features, field_features}
+use Rattle.reach_rules.specs.Faults.{IsUnsound, IsUnnamed}
 use Rattle.apfs_model.proofs.BoolTests.{in-range}
 use Rattle.apfs_model.proofs.Searches.{in-left, in-right, in-flat_map, filter-test}
-use Rattle.reach_sweep.proofs.Sounds.{map-live}
+use Rattle.reach_rules.proofs.Sounds.{map-live}
 use Rattle.view_rules.specs.declared.profile.Profile.{Profile}
 use Rattle.apfs_check.specs.Volumes.{has_sound_super, sound_heads}
 use Rattle.apfs_check.specs.Present.{IsPresent, IsFeature}
 use Rattle.apfs_check.specs.Raised.{of_volume}
-use Rattle.reach_sweep.proofs.Nexts.{in-unless}
-use Rattle.reach_sweep.proofs.Walks.{IsRootNaming, gap-told}
-use Rattle.reach_sweep.proofs.Looks.{metadata-walk}
+use Rattle.reach_rules.proofs.Nexts.{in-unless}
+use Rattle.reach_rules.proofs.Walks.{IsRootNaming, gap-told}
+use Rattle.reach_rules.proofs.Looks.{metadata-walk}
 use Rattle.apfs_check.proofs.Named.{place-found, slot_naming, slot-live, IsHeadNaming, head-named, volume-names, in-metadata, super_naming, record-names}
 use Rattle.apfs_check.proofs.Loaded.{from-sound}
 use Rattle.apfs_check.proofs.There.{feature-there}

@@ -11,7 +11,7 @@ use Rattle.vol_view.specs.LoadStops.{IsVolumeOf}
 use Rattle.vol_view.specs.Views.{views_of}
 use Rattle.vol_view.specs.declared.head.VolHead.{VolHead}
 use Rattle.vol_view.specs.declared.volume.View.{View}
-use Rattle.reach_sweep.specs.Accounted.{IsAccounted}
+use Rattle.reach_rules.specs.Accounted.{IsAccounted}
 use Rattle.view_rules.specs.declared.profile.Profile.{Profile}
 use Rattle.view_rules.specs.declared.profile.Profile.TheVariants.{Plain, Strict}
 use Rattle.apfs_check.specs.Volumes.{volume_of}

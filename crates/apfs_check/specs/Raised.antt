@@ -17,9 +17,9 @@ use Rattle.ext_ref.specs.declared.stop.ExtStop.{ExtStop}
 use Rattle.ext_ref.specs.declared.stop.ExtStop.TheVariants as extents
 use Rattle.space_map.specs.declared.fault.SpaceFault.TheVariants as spaces
 use Rattle.space_pool.specs.declared.fault.PoolFault.TheVariants as pools
-use Rattle.reach_sweep.specs.declared.fault.Why.TheVariants.{Node, Magic}
-use Rattle.reach_sweep.specs.declared.fault.ReachFault.{ReachFault}
-use Rattle.reach_sweep.specs.declared.fault.ReachFault.TheVariants as sweeps
+use Rattle.reach_rules.specs.declared.fault.Why.TheVariants.{Node, Magic}
+use Rattle.reach_rules.specs.declared.fault.ReachFault.{ReachFault}
+use Rattle.reach_rules.specs.declared.fault.ReachFault.TheVariants as sweeps
 use Rattle.apfs_check.specs.declared.fault.Fault.{Fault}
 use Rattle.apfs_check.specs.declared.fault.Fault.TheVariants.{BlockZero, Truncated, NoCheckpoint, Unsound, Unnamed, NamedTwice, OwnedTwice, Outside, UnusedMapping, Leaked, Missing, PoolLeaked, PoolMissing, SpaceGeometry, SpaceCab, SpaceCib, SpaceIndex, SpacePlace, SpaceFreeCount, SpaceFreeTotal, PoolCount, PoolIndex, PoolPlace, SnapRecord, SnapCount, SnapName, OmapSnaps, TreeOrder, TreeCounts, Order, Counts, TreeRecord, Record, DupName, Hash, NoParent, NoInode, KindMismatch, DirNames, Unreached, Children, Links, SiblingLost, ExtentOrder, ExtentPlace, ExtentUncovered, LinkTarget, Stream, AttrOwner, NameHash}
 

@@ -10,7 +10,7 @@ use Rattle.vol_view.specs.Agreement.{Agree}
 use Rattle.vol_view.specs.Views.{views_of}
 use Rattle.vol_view.specs.declared.head.VolHead.{VolHead}
 use Rattle.vol_view.specs.declared.volume.View.{View}
-use Rattle.reach_sweep.specs.Accounted.{IsAccounted}
+use Rattle.reach_rules.specs.Accounted.{IsAccounted}
 use Rattle.view_rules.specs.Rules.{HasTreeRules}
 use Rattle.view_rules.specs.declared.profile.Profile.{Profile}
 use Rattle.view_rules.specs.declared.profile.Profile.TheVariants.{Strict}

@@ -3,7 +3,7 @@
 use apfs_model::Bytes;
 use fs_record::{IdAt, NamedAt, RecFault};
 use obj_base::Within;
-use reach_sweep::Why;
+use reach_rules::Why;
 
 /// What is wrong with a container.
 #[derive(PartialEq, Debug, Drop)]

@@ -8,7 +8,7 @@ use bt_node::NodeFault;
 use nx_ring::RingFault;
 use obj_base::Within;
 use omap_map::OmapFault;
-use reach_sweep::Why;
+use reach_rules::Why;
 use vol_view::VolStop;
 
 /// What a layer finds wrong at a place `P`, which is what a fault of the container shows beside it.

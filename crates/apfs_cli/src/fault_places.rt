@@ -9,7 +9,7 @@ use crate::shown::push_name;
 use apfs_model::Bytes;
 use fs_record::{IdAt, NamedAt, RecFault};
 use obj_base::Within;
-use reach_sweep::Why;
+use reach_rules::Why;
 use std::alloc::{AllocError, Global};
 
 /// A word alone.

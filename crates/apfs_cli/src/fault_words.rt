@@ -6,7 +6,7 @@ ghost use Rattle.apfs_cli.specs.FaultTexts as texts;
 use bt_node::NodeFault;
 use fs_record::RecFault;
 use obj_base::{HeadFault, Within};
-use reach_sweep::Why;
+use reach_rules::Why;
 use std::alloc::{AllocError, Global};
 
 /// The test of a header that fails.

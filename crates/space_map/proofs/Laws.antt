@@ -1,17 +1,26 @@
 -- Where a container's space is right, no fault of it is there.
-use Rattle.std.specs.Prelude.{◌≡◌, ℕ, ◌<◌, Bool, true, false, ◌&&◌, nat_lt, List, is_ok, is_some}
-use Rattle.std.proofs.Common.{arith, ap, sym, subst, inl, inr}
+use Rattle.std.specs.Prelude.{◌≡◌, ℕ, ◌<◌, Bool, true, false, ◌&&◌, nat_lt, List, Option, None, Some, Err, is_ok, is_some}
+use Rattle.std.proofs.Common.{arith, ap, sym, ◌∙◌, subst, inl, inr}
 use Rattle.std.proofs.lemmas.Grind.{common_steps}
 use Rattle.apfs_model.specs.Blocks.{in_container}
 use Rattle.apfs_model.proofs.BoolTests.{clash, left-true, right-true, other-true}
+use Rattle.apfs_model.specs.Lists.{In}
+use Rattle.obj_base.specs.Stops.{Tells, IsFree}
+use Rattle.obj_base.specs.declared.header.HeadFault.{HeadFault}
+use Rattle.obj_base.specs.declared.stop.Bad.{Bad}
+use Rattle.obj_base.specs.declared.stop.Bad.TheVariants.{Found, Unsupported}
+use Rattle.obj_base.specs.declared.stop.Feature.{Feature}
+use Rattle.obj_base.specs.declared.stop.Stop.{Stop}
+use Rattle.obj_base.specs.declared.stop.Stop.TheVariants as stops
+use Rattle.nx_ring.specs.Checkpoint.{Seen, site_of}
 use Rattle.obj_base.specs.declared.stop.Within.TheVariants.{Physical, Ephemeral, Container, Volume}
 use Rattle.obj_base.specs.declared.site.Site.{Site}
 use Rattle.space_map.specs.Fields.{cabs_of, cibs_of, chunks_of}
-use Rattle.space_map.specs.Blocks.{address_at, cib_block, info_test, is_info, is_cab_named, is_cib_named}
+use Rattle.space_map.specs.Blocks.{manager_of, manager_test, address_at, cib_block, info_test, is_info, is_cab_named, is_cib_named}
 use Rattle.space_map.specs.Chunks.{chunk_at, is_told}
 use Rattle.space_map.specs.Marks.{lacks_bitmap}
 use Rattle.space_map.specs.Tests.{is_in_pool}
-use Rattle.space_map.specs.Stops.{NamesInfo, MustBeInPool, IsFaultOf, IsRightSpace, is_bitmap_placed}
+use Rattle.space_map.specs.Stops.{HasManager, NamesInfo, MustBeInPool, space_features, IsFaultOf, IsRightSpace, is_bitmap_placed, IsSpaceFault, IsSpaceFeature, IsSpaceOf, Known}
 use Rattle.space_map.specs.declared.fault.SpaceFault.{SpaceFault}
 use Rattle.space_map.specs.declared.fault.SpaceFault.TheVariants.{Unnamed, Unsound, Geometry, Cab, Cib, Index, Place, FreeTotal}
 
@@ -73,3 +82,53 @@ space-refutes image site manager (Cib i) right (named, sound, wrong) = clash _ (
 space-refutes image site manager (Index k) right (told, wrong) = clash _ (right.chunks k (chunk-low image site manager k told)) wrong
 space-refutes image site manager (Place block) right (must, wrong) = clash _ (must-placed image site manager block right must) wrong
 space-refutes image site manager FreeTotal right (told, wrong) = clash _ right.total wrong
+
+right-manager : (seen : Seen) (m m' : List ℕ) (b : ℕ) → HasManager seen m b → manager_of seen ≡ Some m' → m ≡ m'
+right-manager seen m m' b has other = let e : ◌≡◌ {A = Option (List ℕ)} (Some m) (Some m') = sym has.some ∙ other in cc
+
+info-clash : {A : Type 0} (image : List ℕ) (site : Site) (manager : List ℕ) (kind block : ℕ) (bad : Bad HeadFault) → IsRightSpace image site manager → NamesInfo image site manager kind block → info_test image site kind block ≡ Err bad → A
+info-clash image site manager kind block bad right named failing =
+    clash (is_ok (info_test image site kind block)) (info-ok image site kind block (named-sound image site manager kind block right named)) (ap is_ok failing)
+
+test-clash : {A : Type 0} (seen : Seen) (m m' : List ℕ) (b : ℕ) (bad : Bad HeadFault) → HasManager seen m b → manager_of seen ≡ Some m' → manager_test seen m' ≡ Err bad → A
+test-clash seen m m' b bad has other failing =
+    clash (is_ok (manager_test seen m')) (subst (λ x. is_ok (manager_test seen x) ≡ true) (right-manager seen m m' b has other) has.sound) (ap is_ok failing)
+
+fault-free : (image : List ℕ) (seen : Seen) (space : Known) (fault : SpaceFault) → IsSpaceOf image seen space → IsSpaceFault image seen fault → ⊥
+fault-free image seen space (Unnamed Ephemeral oid) is (inl (same, none)) = let e : ◌≡◌ {A = Option ℕ} (Some is.block) None = sym is.manager.at ∙ none in cc
+fault-free image seen space (Unnamed Physical oid) is (inl h) = h
+fault-free image seen space (Unnamed Container oid) is (inl h) = h
+fault-free image seen space (Unnamed (Volume slot) oid) is (inl h) = h
+fault-free image seen space (Unsound block why) is (inl h) = h
+fault-free image seen space Geometry is (inl h) = h
+fault-free image seen space (Cab i) is (inl h) = h
+fault-free image seen space (Cib i) is (inl h) = h
+fault-free image seen space (Index k) is (inl h) = h
+fault-free image seen space (Place block) is (inl h) = h
+fault-free image seen space FreeTotal is (inl h) = h
+fault-free image seen space (Unsound block why) is (inr (inl (m, some, at, failing))) = test-clash seen space.manager m is.block (Found why) is.manager some failing
+fault-free image seen space (Unnamed within oid) is (inr (inl h)) = h
+fault-free image seen space Geometry is (inr (inl h)) = h
+fault-free image seen space (Cab i) is (inr (inl h)) = h
+fault-free image seen space (Cib i) is (inr (inl h)) = h
+fault-free image seen space (Index k) is (inr (inl h)) = h
+fault-free image seen space (Place block) is (inr (inl h)) = h
+fault-free image seen space FreeTotal is (inr (inl h)) = h
+fault-free image seen space fault is (inr (inr (m, b, has, h))) =
+    space-refutes image (site_of seen) space.manager fault is.right (subst (λ x. IsFaultOf image (site_of seen) x fault) (sym (right-manager seen space.manager m is.block is.manager has.some)) h)
+
+feature-free : (image : List ℕ) (seen : Seen) (space : Known) (feature : Feature) (block : ℕ) → IsSpaceOf image seen space → IsSpaceFeature image seen feature block → ⊥
+feature-free image seen space feature block is (inl (m, some, at, inl failing)) = test-clash seen space.manager m is.block (Unsupported feature) is.manager some failing
+feature-free image seen space feature block is (inl (m, some, at, inr (ok, h))) =
+    let same : m ≡ space.manager = sym (right-manager seen space.manager m is.block is.manager some) in
+    subst (In feature) is.right.plain (subst (λ x. In feature (space_features x)) same h)
+feature-free image seen space feature block is (inr (m, b, has, (kind, named, failing))) =
+    let same : m ≡ space.manager = sym (right-manager seen space.manager m is.block is.manager has.some) in
+    info-clash image (site_of seen) space.manager kind block (Unsupported feature) is.right (subst (λ x. NamesInfo image (site_of seen) x kind block) same named.named) failing
+
+-- where a container's space is right, nothing that could stop a call is there
+pub right-free : (image : List ℕ) (seen : Seen) (space : Known) (stop : Stop SpaceFault) → IsSpaceOf image seen space → Tells (IsSpaceFault image seen) (IsSpaceFeature image seen) stop → IsFree stop
+right-free image seen space (stops.Found fault) is h = fault-free image seen space fault is h
+right-free image seen space (stops.Unsupported feature block) is h = feature-free image seen space feature block is h
+right-free image seen space stops.ReadFault is h = tt
+right-free image seen space stops.NoMemory is h = tt

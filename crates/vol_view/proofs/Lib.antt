@@ -4,5 +4,10 @@ pub mod Supers
 pub mod Placed
 pub mod Maps
 pub mod LoadLaws
+pub mod Gatherings
+pub mod LoadSteps
+pub mod Wholeness
+pub mod Indexes
+pub mod HeadsKept
 pub mod SnapshotsExamples
 pub mod FeaturesExamples

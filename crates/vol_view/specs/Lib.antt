@@ -7,4 +7,6 @@ pub mod Volumes
 pub mod Agreement
 pub mod Features
 pub mod LoadStops
+pub mod Named
+pub mod Gathered
 pub mod Views

@@ -1,5 +1,5 @@
-// The container's object map.
-ghost use Rattle.std.specs.Prelude.{◌≡◌, [], ℕ, List, Some, IfOk, IfErr, IsErrOf, OnOk};
+// The object maps of the container and of its volumes.
+ghost use Rattle.std.specs.Prelude.{◌≡◌, ◌≤◌, length, [], ℕ, List, Some, IfOk, IfErr, IsErrOf, OnOk};
 ghost use Rattle.apfs_model.specs.Counts.{Rose};
 ghost use Rattle.apfs_model.specs.Source.{IsKept};
 ghost use Rattle.obj_base.specs.Stops.{Tells};
@@ -9,8 +9,14 @@ ghost use Rattle.omap_map.specs.Features.{has_snapshot_state, container_features
 ghost use Rattle.nx_ring.specs.Checkpoint.{site_of};
 ghost use Rattle.vol_view.specs.Stops.{IsHeadsStop, IsHeadsFeature};
 ghost use Rattle.vol_view.specs.Slots.{map_raised, HasMap, IsMarked};
+ghost use Rattle.vol_view.specs.Fields as fields;
+ghost use Rattle.vol_view.specs.Volumes.{super_of};
+ghost use Rattle.vol_view.specs.LoadStops.{IsLoadStop, IsLoadFeature};
+ghost use Rattle.vol_view.specs.Gathered.{HasVolumeMap};
+ghost use Rattle.vol_view.specs.declared.head.VolHead.{VolHead};
 
 use crate::VolStop;
+use crate::fields::omap_oid;
 use blk_source::BlockSource;
 use nx_ring::Checkpoint;
 use obj_base::{Feature, Site, Stop, Within};
@@ -89,4 +95,38 @@ pub(crate) fn container_map<S: BlockSource>(
         Ok(()) => Ok(omap),
         Err(stop) => Err(stop),
     }
+}
+
+/// The object map of a volume, by its superblock's bytes, where it is whole and its snapshots have no feature.
+pub(crate) fn volume_map<S: BlockSource>(
+    alloc: Global,
+    src: &mut S,
+    bytes: &[u8],
+    site: &Site,
+) -> Result<Omap, Stop<VolStop>>
+    requires site { IsSiteFor site.now (S.bytes_len src.old) }
+    requires long { 1024 ≤ length bytes.now }
+    ensures clear { (image : List ℕ) → S.bytes src.old ≡ Some image → IfOk result (HasVolumeMap image site.now (fields.omap_oid_of bytes.now)) }
+    ensures present { (image : List ℕ) → S.bytes src.old ≡ Some image → (head : VolHead) → bytes.now ≡ super_of image site.now head → IfErr result (Tells (IsLoadStop image site.now head) (IsLoadFeature image site.now head)) }
+    ensures cause { IsErrOf result ReadFault → Rose (S.faults src.old) (S.faults src.new) }
+    ensures kept { IsKept S.bytes S.bytes_len S.faults src.old src.new }
+{
+    let block = omap_oid(bytes);
+    if !site.has_block(block) {
+        return Err(Stop::Found(VolStop::Unnamed {
+            within: Within::Physical,
+            oid: block,
+        }));
+    }
+    let omap = match Omap::load(alloc, src, block, site) {
+        Ok(omap) => omap,
+        Err(stop) => return Err(raise(stop)),
+    };
+    if has_marked(&omap) {
+        return Err(Stop::Unsupported {
+            feature: Feature::SnapshotState,
+            block,
+        });
+    }
+    Ok(omap)
 }

@@ -1,5 +1,7 @@
 // The volume of the small sample container, a second volume beside it, and small edits of both.
 
+mod loads;
+
 use crate::{VolHead, VolStop, heads};
 use blk_source::{Bytes, MemSource};
 use fs_name::Names;

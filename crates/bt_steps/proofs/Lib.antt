@@ -1,0 +1,3 @@
+pub mod Notings
+pub mod Laws
+pub mod Few

@@ -1,0 +1,270 @@
+// The space of the small container, and of edits of it.
+ghost use Rattle.std.specs.Prelude.{◌≡◌, ◌≤◌, IfOk, length};
+ghost use Rattle.obj_base.specs.Site.{IsSiteFor};
+
+use crate::{Chunk, Space, SpaceFault};
+use blk_source::{BlockSource, MemSource};
+use img_make::{Plan, Sample, edit, make, make_with, sample, write};
+use nx_ring::newest;
+use obj_base::{Feature, HeadFault, Stop, Within};
+use std::alloc::Global;
+use std::process::Abort;
+use std::test::Fail;
+
+// An edit: a block, a place in it, and the bytes that it gets.
+type Edit = (usize, usize, &'static [u8]);
+
+// The newest superblock, the space manager, the chunk-info block, and a block of the pool that nothing uses.
+const NEWEST: usize = 2;
+
+const MANAGER: usize = 9;
+
+const CIB: usize = 43;
+
+const SPARE: usize = 45;
+
+// Where the manager has the address of its chunk-info block.
+const ADDRESS: usize = 2528;
+
+// The container with a chunk-info address block in the spare block: the manager's count and address, and the block's
+// oid, transaction, kind, count and address.
+const WITH_CAB: &[Edit] = &[
+    (MANAGER, 68, &[1]),
+    (MANAGER, ADDRESS, &[45]),
+    (SPARE, 8, &[45]),
+    (SPARE, 16, &[1]),
+    (SPARE, 24, &[6, 0, 0, 0x40]),
+    (SPARE, 36, &[1]),
+    (SPARE, 40, &[43]),
+];
+
+fn put(image: &mut [u8], edits: &[Edit], sealed: bool) -> Result<(), Fail> {
+    for (block, place, bytes) in edits.iter() {
+        let done = if sealed {
+            edit(image, 4096, *block, *place, bytes)
+        } else {
+            write(image, 4096, *block, *place, bytes)
+        };
+        if !done {
+            return Err(Fail::from("no such place"));
+        }
+    }
+    Ok(())
+}
+
+fn made(alloc: Global, plan: &Plan) -> Result<Vec<u8>, Fail> {
+    if !plan.valid() {
+        return Err(Fail::from("the plan isn't valid"));
+    }
+    Ok(make(alloc, plan)?)
+}
+
+fn edited(alloc: Global, first: &[Edit], then: &[Edit], sealed: bool) -> Result<Vec<u8>, Fail> {
+    let mut image = made(alloc, &sample(alloc, Sample::S)?)?;
+    put(&mut image, first, true)?;
+    put(&mut image, then, sealed)?;
+    Ok(image)
+}
+
+// The small container with blocks of 65,536 bytes.
+fn large(alloc: Global) -> Result<Vec<u8>, Fail> {
+    let plan = sample(alloc, Sample::S)?;
+    if !plan.valid() || plan.blocks > 256 {
+        return Err(Fail::from("the plan isn't valid"));
+    }
+    Ok(make_with(alloc, &plan, 65536)?)
+}
+
+// The space of an image, by its newest checkpoint; a fault of the ring is no answer of these tests.
+fn load<S: BlockSource>(alloc: Global, src: &mut S) -> Result<Space, Stop<SpaceFault>>
+    ensures { IfOk result (λ space. IsSiteFor space.site (S.bytes_len src.new)) }
+{
+    match newest(alloc, src) {
+        Ok(cp) => Space::load(alloc, src, &cp),
+        Err(Stop::ReadFault) => Err(Stop::ReadFault),
+        Err(_) => Err(Stop::NoMemory),
+    }
+}
+
+// Whether a block of an image is marked; None past the container, and where the source fails.
+fn marked(alloc: Global, image: Vec<u8>, fails: Vec<u64>, block: u64) -> Option<bool> {
+    let mut src = MemSource::new(image, fails);
+    let space = load(alloc, &mut src).ok()?;
+    if block >= space.site().blocks {
+        return None;
+    }
+    space.marked(&mut src, block).ok()
+}
+
+// How many bits of a chunk of an image are set; None where there is no such chunk.
+fn ones(alloc: Global, image: Vec<u8>, chunk: usize) -> Option<u32> {
+    let mut src = MemSource::new(image, Vec::new(alloc));
+    let space = load(alloc, &mut src).ok()?;
+    if chunk >= space.chunks().len() {
+        return None;
+    }
+    let mut into = vec![in alloc; 0xffu8; space.site().block_size as usize].ok()?;
+    space.bitmap(&mut src, chunk, &mut into).ok()?;
+    let mut ones = 0u32;
+    for byte in &into {
+        ones = ones.saturating_add(byte.count_ones());
+    }
+    Some(ones)
+}
+
+fn assert_small(rt: &impl Abort, alloc: Global, image: Vec<u8>, cabs: &[u64]) {
+    let mut src = MemSource::new(image, Vec::new(alloc));
+    let Ok(space) = load(alloc, &mut src) else {
+        panic!(rt; "it isn't loaded");
+    };
+    assert_eq!(rt; (space.site().blocks, space.free()), (256, 199));
+    assert_eq!(rt; (space.pool(), space.pool_ring()), ((43, 8), (27, 16)));
+    assert_eq!(rt; space.cabs(), cabs);
+    assert_eq!(rt; space.cibs(), [43].as_slice());
+    let chunk = Chunk {
+        first: 0,
+        blocks: 256,
+        free: 199,
+        bitmap: 44,
+    };
+    assert_eq!(rt; space.chunks(), [chunk].as_slice());
+    assert_eq!(rt; &space.manager()[24..28], [5, 0, 0, 0x80].as_slice());
+}
+
+#[test]
+fn the_small_container(rt: HostRuntime) -> Result<(), Fail> {
+    let alloc = rt.alloc();
+    assert_small(&rt, alloc, edited(alloc, &[], &[], true)?, &[]);
+    assert_small(&rt, alloc, edited(alloc, WITH_CAB, &[], true)?, &[45]);
+    // Of a chunk's number of blocks the low 20 bits count.
+    let bits: &[Edit] = &[(CIB, 59, &[0xf0])];
+    assert_small(&rt, alloc, edited(alloc, bits, &[], true)?, &[]);
+    assert_small(&rt, alloc, large(alloc)?, &[]);
+    Ok(())
+}
+
+#[test]
+fn marks(rt: HostRuntime) -> Result<(), Fail> {
+    let alloc = rt.alloc();
+    for (block, mark) in [(0, true), (56, true), (57, false), (255, false)] {
+        let image = edited(alloc, &[], &[], true)?;
+        let answer = marked(alloc, image, Vec::new(alloc), block);
+        assert_eq!(rt; answer, Some(mark), "{block}");
+    }
+    assert_eq!(rt; ones(alloc, edited(alloc, &[], &[], true)?, 0), Some(57));
+    let none: &[Edit] = &[(CIB, 64, &[0])];
+    assert_eq!(rt; ones(alloc, edited(alloc, none, &[], true)?, 0), Some(0));
+    let image = edited(alloc, none, &[], true)?;
+    assert_eq!(rt; marked(alloc, image, Vec::new(alloc), 0), Some(false));
+    Ok(())
+}
+
+// A chunk's free count isn't tested against its bitmap, and a bitmap may stand anywhere in the pool.
+#[test]
+fn near_misses(rt: HostRuntime) -> Result<(), Fail> {
+    let alloc = rt.alloc();
+    let counted = edited(
+        alloc,
+        &[(MANAGER, 72, &[198]), (CIB, 60, &[198])],
+        &[],
+        true,
+    )?;
+    let mut src = MemSource::new(counted, Vec::new(alloc));
+    assert!(rt; load(alloc, &mut src).is_ok_and(|space| space.free() == 198));
+    let moved = edited(alloc, &[(CIB, 64, &[50])], &[], true)?;
+    assert_eq!(rt; marked(alloc, moved, Vec::new(alloc), 56), Some(false));
+    Ok(())
+}
+
+fn assert_stop(rt: &impl Abort, alloc: Global, image: Vec<u8>, stop: Stop<SpaceFault>) {
+    let mut src = MemSource::new(image, Vec::new(alloc));
+    match load(alloc, &mut src) {
+        Ok(_) => panic!(rt; "it is loaded: {stop:?}"),
+        Err(other) => assert_eq!(rt; other, stop),
+    }
+}
+
+#[test]
+fn what_stops_it(rt: HostRuntime) -> Result<(), Fail> {
+    let alloc = rt.alloc();
+    let unnamed = |within: Within, oid: u64| SpaceFault::Unnamed { within, oid };
+    let cases: [(Edit, SpaceFault); 13] = [
+        ((NEWEST, 152, &[77]), unnamed(Within::Ephemeral, 1101)),
+        ((MANAGER, ADDRESS, &[0]), unnamed(Within::Physical, 0)),
+        (
+            (NEWEST, 152, &[1]),
+            SpaceFault::Unsound {
+                block: 10,
+                why: HeadFault::BadKind,
+            },
+        ),
+        (
+            (CIB, 24, &[8]),
+            SpaceFault::Unsound {
+                block: 43,
+                why: HeadFault::BadKind,
+            },
+        ),
+        ((MANAGER, 36, &[0xf8, 0x7f]), SpaceFault::Geometry),
+        ((MANAGER, 56, &[2]), SpaceFault::Geometry),
+        ((CIB, 32, &[1]), SpaceFault::Cib { index: 0 }),
+        ((CIB, 36, &[2]), SpaceFault::Cib { index: 0 }),
+        ((CIB, 48, &[1]), SpaceFault::Index { chunk: 0 }),
+        ((CIB, 56, &[255, 0]), SpaceFault::Index { chunk: 0 }),
+        ((CIB, 64, &[200]), SpaceFault::Place { block: 200 }),
+        ((MANAGER, ADDRESS, &[51]), SpaceFault::Place { block: 51 }),
+        ((MANAGER, 72, &[198]), SpaceFault::FreeTotal),
+    ];
+    for (change, fault) in cases {
+        let image = edited(alloc, &[change], &[], true)?;
+        assert_stop(&rt, alloc, image, Stop::Found(fault));
+    }
+    let torn = edited(alloc, &[], &[(CIB, 4095, &[1])], false)?;
+    let why = HeadFault::BadSum;
+    assert_stop(
+        &rt,
+        alloc,
+        torn,
+        Stop::Found(SpaceFault::Unsound { block: 43, why }),
+    );
+    let numbered = edited(alloc, WITH_CAB, &[(SPARE, 32, &[1])], true)?;
+    assert_stop(
+        &rt,
+        alloc,
+        numbered,
+        Stop::Found(SpaceFault::Cab { index: 0 }),
+    );
+    Ok(())
+}
+
+#[test]
+fn a_second_device_is_refused(rt: HostRuntime) -> Result<(), Fail> {
+    let alloc = rt.alloc();
+    for place in [96, 288] {
+        let image = edited(alloc, &[(MANAGER, place, &[1])], &[], true)?;
+        let fusion = Stop::Unsupported {
+            feature: Feature::Fusion,
+            block: 9,
+        };
+        assert_stop(&rt, alloc, image, fusion);
+    }
+    Ok(())
+}
+
+// The last read is the one of the chunk-info block.
+#[test]
+fn a_failed_read_stops_it(rt: HostRuntime) -> Result<(), Fail> {
+    let alloc = rt.alloc();
+    let mut src = MemSource::new(edited(alloc, &[], &[], true)?, Vec::new(alloc));
+    assert!(rt; load(alloc, &mut src).is_ok());
+    let last = src.read_count();
+    let fails = vec![in alloc; last]?;
+    let mut src = MemSource::new(edited(alloc, &[], &[], true)?, fails);
+    assert!(rt; matches!(load(alloc, &mut src), Err(Stop::ReadFault)));
+    for (later, answer) in [(1, None), (2, Some(true))] {
+        let fails = vec![in alloc; last.saturating_add(later)]?;
+        let image = edited(alloc, &[], &[], true)?;
+        assert_eq!(rt; marked(alloc, image, fails, 0), answer, "{later}");
+    }
+    Ok(())
+}

@@ -1,0 +1,32 @@
+use Rattle.std.proofs.Common.{◌≡◌, ◌∙◌, ◌==◌, [], false, sym, ap, subst}
+use Rattle.apfs_model.proofs.BoolTests.{never-true, equal-from}
+use Rattle.obj_base.specs.Stops.{Tells}
+use Rattle.vol_view.specs.Fields.{snaps_root_of}
+use Rattle.vol_view.specs.LoadStops.{IsLoadStop, IsLoadFeature}
+use Rattle.vol_view.specs.Gathered.{HasMetadata}
+use Rattle.vol_view.proofs.LoadSteps.{no-metadata, gathered-metadata, metadata-tells}
+use Rattle.vol_view.proofs.metadata.gathered.Goals as goal
+
+pub returns-then-root-eq0-clause-clear : goal.returns-then-root-eq0-clause-clear
+returns-then-root-eq0-clause-clear g c image told =
+    let site = c.args.site.now in
+    let root = snaps_root_of c.args.bytes.now in
+    let none : root ≡ 0 = sym c.snaps_root-root.ensures ∙ c.if-root-eq0.true in
+    subst (λ xs. HasMetadata image site root xs c.new-2.result.items) (sym c.new.ensures.items) (subst (λ ys. HasMetadata image site root [] ys) (sym c.new-2.ensures.items) (no-metadata image site root none))
+
+pub returns-in-Ok-clause-clear : goal.returns-in-Ok-clause-clear
+returns-in-Ok-clause-clear g c image told =
+    let site = c.args.site.now in
+    let root = c.snaps_root-root.result in
+    let some : (root == 0) ≡ false = never-true (root == 0) (λ t. c.if-root-eq0.false (equal-from root 0 t)) in
+    subst (λ r. HasMetadata image site r c.in-Ok.kept.snapshots.items c.in-Ok.kept.names.items) c.snaps_root-root.ensures
+    (gathered-metadata image site root c.in-Ok.kept.snapshots.items c.in-Ok.kept.names.items some (c.in-Ok.ensures.clear image told))
+
+pub returns-in-Err-clause-present : goal.returns-in-Err-clause-present
+returns-in-Err-clause-present g c image told same =
+    let site = c.args.site.now in
+    let head = c.args.head.now in
+    let root = c.snaps_root-root.result in
+    let some : (root == 0) ≡ false = never-true (root == 0) (λ t. c.if-root-eq0.false (equal-from root 0 t)) in
+    subst (Tells (IsLoadStop image site head) (IsLoadFeature image site head)) (sym c.raise.ensures)
+    (metadata-tells image site head root c.in-Err.stop (c.snaps_root-root.ensures ∙ ap snaps_root_of same) some (c.in-Err.ensures.present image told))
