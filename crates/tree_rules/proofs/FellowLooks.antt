@@ -1,5 +1,5 @@
 -- Entries, links and maps that go together.
-use Rattle.std.proofs.Common.{◌≡◌, ℕ, Bool, true, false, List, [], ◌∷◌, Option, Some, None, refl, ap, sym, ◌∙◌, subst}
+use Rattle.std.proofs.Common.{◌≡◌, ℕ, Bool, true, false, cond, List, [], ◌∷◌, Option, Some, None, refl, ap, sym, ◌∙◌, subst}
 use Rattle.std.specs.Prelude.{count_by, bytes_eq, ◌==◌, ◌&&◌, ◌||◌, nat_lt, not, option_map, is_some}
 use Rattle.std.specs.List.{list_any}
 use Rattle.std.specs.BTreeMap.{BTreeMap}
@@ -7,10 +7,10 @@ use Rattle.std.proofs.lemmas.Cmp.{nat_eq_equiv, nat_list_eq_equiv}
 use Rattle.apfs_model.specs.Lists.{passes}
 use Rattle.fs_record.specs.Entries.{Entry}
 use Rattle.fs_record.specs.Siblings.{Link}
-use Rattle.fs_record.specs.Facts.{Fact}
+use Rattle.fs_record.specs.Facts.{Fact, private_id}
 use Rattle.view_rules.specs.Facts.{Facts, is_system_id}
-use Rattle.view_rules.specs.Siblings.{go_together, has_link, has_entry, has_map, is_map_of, is_entry_lost}
-use Rattle.tree_rules.specs.Keys.{Key, is_same_key, has_key, key_count, CountsKeys, fellow_key, entry_fellow, link_fellow, sibling_key, map_sibling}
+use Rattle.view_rules.specs.Siblings.{go_together, has_link, has_entry, has_map, is_map_of, is_twin, is_entry_lost, is_linked_entry, is_private_entry, is_system_link}
+use Rattle.tree_rules.specs.Keys.{Key, is_same_key, has_key, key_count, CountsKeys, fellow_key, entry_fellow, link_fellow, sibling_key, map_sibling, private_sibling, system_sibling, linked_sibling}
 use Rattle.tree_rules.proofs.Counting.{count-same, any-counted}
 
 assoc : (a b c d : Bool) → ((a && b) && (c && d)) ≡ (a && (b && (c && d)))
@@ -80,3 +80,37 @@ lost_some facts e s is = ap (λ o. (is_some o && not (is_system_id e.id)) && not
 pub lost_none : (facts : Facts) (e : Fact Entry) → e.what.sibling ≡ None → is_entry_lost facts e ≡ false
 unfolding is_entry_lost
 lost_none facts e is = ap (λ o. (is_some o && not (is_system_id e.id)) && not (has_link facts e && passes o (has_map facts e.what.file_id))) is
+
+guarded : (b : Bool) (o : Option ℕ) (f file sibling : ℕ) → passes (cond b (option_map (sibling_key f) o) None) (λ k. is_same_key k (sibling_key file sibling)) ≡ (((f == file) && passes o (λ s. s == sibling)) && b)
+guarded true (Some s) f file sibling = sym (assoc (f == file) (s == sibling) true true)
+guarded true None f file sibling = sym (no-sibling (f == file) true)
+guarded false o f file sibling = sym (and-false ((f == file) && passes o (λ s. s == sibling)))
+  where
+    and-false : (a : Bool) → (a && false) ≡ false
+    and-false true = refl
+    and-false false = refl
+
+-- an entry of the private directory has the key of its sibling
+pub private_counts : (facts : Facts) (m : BTreeMap Key ℕ) (file sibling : ℕ) → CountsKeys private_sibling facts.entries m → nat_lt 0 (key_count m (sibling_key file sibling)) ≡ list_any (is_private_entry file sibling) facts.entries
+private_counts facts m file sibling counts =
+    ap (nat_lt 0) (counts (sibling_key file sibling) ∙ count-same (has_key private_sibling (sibling_key file sibling)) (is_private_entry file sibling) (λ e. guarded (e.id == private_id) e.what.sibling e.what.file_id file sibling) facts.entries)
+    ∙ any-counted (is_private_entry file sibling) facts.entries
+
+-- a link of the private directory or of a reserved id has the key of its sibling
+pub system_counts : (facts : Facts) (m : BTreeMap Key ℕ) (file sibling : ℕ) → CountsKeys system_sibling facts.links m → nat_lt 0 (key_count m (sibling_key file sibling)) ≡ list_any (is_system_link file sibling) facts.links
+system_counts facts m file sibling counts =
+    ap (nat_lt 0) (counts (sibling_key file sibling) ∙ count-same (has_key system_sibling (sibling_key file sibling)) (is_system_link file sibling) (λ l. guarded (is_system_id l.what.parent) (Some l.what.sibling) l.what.file file sibling) facts.links)
+    ∙ any-counted (is_system_link file sibling) facts.links
+
+-- an entry that needs its fellows and has its link has the key of its sibling
+pub linked_counts : (facts : Facts) (m : BTreeMap Key ℕ) (file sibling : ℕ) → CountsKeys (linked_sibling facts) facts.entries m → nat_lt 0 (key_count m (sibling_key file sibling)) ≡ list_any (is_linked_entry facts file sibling) facts.entries
+linked_counts facts m file sibling counts =
+    ap (nat_lt 0) (counts (sibling_key file sibling) ∙ count-same (has_key (linked_sibling facts) (sibling_key file sibling)) (is_linked_entry facts file sibling) (λ e. guarded (is_twin e && has_link facts e) e.what.sibling e.what.file_id file sibling) facts.entries)
+    ∙ any-counted (is_linked_entry facts file sibling) facts.entries
+
+-- the key of an entry of a sibling
+pub linked_some : (facts : Facts) (e : Fact Entry) (s : ℕ) → e.what.sibling ≡ Some s → linked_sibling facts e ≡ cond (not (is_system_id e.id) && has_link facts e) (Some (sibling_key e.what.file_id s)) None
+linked_some facts e s is = ap (λ o. cond ((is_some o && not (is_system_id e.id)) && has_link facts e) (option_map (sibling_key e.what.file_id) o) None) is
+
+pub linked_none : (facts : Facts) (e : Fact Entry) → e.what.sibling ≡ None → linked_sibling facts e ≡ None
+linked_none facts e is = ap (λ o. cond ((is_some o && not (is_system_id e.id)) && has_link facts e) (option_map (sibling_key e.what.file_id) o) None) is

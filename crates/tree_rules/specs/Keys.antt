@@ -1,5 +1,5 @@
 -- Counts of facts by numbers and a name.
-use Rattle.std.specs.Prelude.{◌≡◌, ℕ, Bool, List, count_by, unwrap_or, ◌==◌, ◌&&◌, bytes_eq, Option, Some, option_map, []}
+use Rattle.std.specs.Prelude.{◌≡◌, ℕ, Bool, List, count_by, unwrap_or, ◌==◌, ◌&&◌, bytes_eq, Option, None, Some, option_map, [], if◌then◌else◌}
 use Rattle.std.specs.declared.cmp.Ordering.{Ordering}
 use Rattle.std.specs.Ordering.{nat_cmp, on, then_cmp, is_eq, as_partial_cmp}
 use Rattle.std.specs.Cmp.{IsTotalOrder, IsPartialOrder, partial_order_from_own_ties, partial_order_from_total}
@@ -12,7 +12,9 @@ use Rattle.apfs_model.specs.Lists.{passes}
 use Rattle.fs_record.specs.Entries.{Entry}
 use Rattle.fs_record.specs.Attributes.{Attribute}
 use Rattle.fs_record.specs.Siblings.{Link}
-use Rattle.fs_record.specs.Facts.{Fact}
+use Rattle.fs_record.specs.Facts.{Fact, private_id}
+use Rattle.view_rules.specs.Facts.{Facts, is_system_id}
+use Rattle.view_rules.specs.Siblings.{is_twin, has_link}
 
 -- what facts are counted by: three numbers and a name
 pub record Key : Type 0 where
@@ -84,3 +86,15 @@ sibling_key file sibling = record { first = file; second = sibling; third = 0; n
 -- that of a map
 abbrev pub map_sibling : Fact ℕ → Option Key
 map_sibling m = Some (sibling_key m.what m.id)
+
+-- the sibling of an entry of the private directory
+abbrev pub private_sibling : Fact Entry → Option Key
+private_sibling e = if e.id == private_id then option_map (sibling_key e.what.file_id) e.what.sibling else None
+
+-- the sibling of a link whose parent is the private directory or reserved
+abbrev pub system_sibling : Fact Link → Option Key
+system_sibling l = if is_system_id l.what.parent then Some (sibling_key l.what.file l.what.sibling) else None
+
+-- the sibling of an entry that needs its fellows and has its link
+abbrev pub linked_sibling : Facts → Fact Entry → Option Key
+linked_sibling facts e = if is_twin e && has_link facts e then option_map (sibling_key e.what.file_id) e.what.sibling else None

@@ -1,5 +1,6 @@
 // The rules on siblings: entries, links and maps that go together.
-ghost use Rattle.std.specs.Prelude.{◌≡◌, ◌&&◌, not, find, IfOk};
+ghost use Rattle.std.specs.Prelude.{◌≡◌, ◌&&◌, ◌||◌, not, find, IfOk};
+ghost use Rattle.std.specs.List.{list_any};
 ghost use Rattle.std.specs.Option.{option_copied};
 ghost use Rattle.view_rules.specs.Facts as rules;
 ghost use Rattle.view_rules.specs.Siblings as spec;
@@ -7,11 +8,13 @@ ghost use Rattle.tree_rules.specs.Keys as keys;
 
 use crate::ids::is_system_id;
 use crate::key::KeyRef;
-use crate::keys::{ByFellow, ByLink, ByMap, count, tally};
+use crate::keys::{
+    ByFellow, ByLink, ByMap, ByPrivate, BySystemLink, add, count, sibling_ref, tally,
+};
 use blk_source::NoMemory;
 use std::alloc::Global;
 use std::collections::BTreeMap;
-use view_facts::{EntryFact, Facts, LinkFact};
+use view_facts::{EntryFact, Facts, LinkFact, SiblingFact};
 
 // Whether an entry has its link.
 #[tactic(auto, using(crate::proofs::FellowLooks::has_link_some, crate::proofs::FellowLooks::has_link_none))]
@@ -179,4 +182,131 @@ pub(crate) fn lost_link(alloc: Global, facts: &Facts) -> Result<Option<&LinkFact
     let entries = tally::<_, ByFellow>(alloc, &facts.entries)?;
     let maps = tally::<_, ByMap>(alloc, &facts.siblings)?;
     Ok(lost_link_by(facts, &entries, &maps))
+}
+
+// The sibling of an entry that needs its fellows and has its link.
+#[tactic(auto, using(crate::proofs::FellowLooks::linked_some, crate::proofs::FellowLooks::linked_none))]
+fn linked_key<'a>(
+    facts: &'a Facts,
+    links: &BTreeMap<KeyRef<'a>, u64>,
+    e: &'a EntryFact,
+) -> Option<KeyRef<'a>>
+    requires { keys.CountsKeys keys.link_fellow facts.now.links links.now }
+    ensures { result ≡ keys.linked_sibling facts.now e.now }
+{
+    let sibling = e.sibling()?;
+    if is_system_id(e.id()) || !has_link(facts, links, e) {
+        return None;
+    }
+    Some(sibling_ref(e.file_id(), sibling))
+}
+
+// Counts the entries that need their fellows and have their links, by their siblings.
+fn linked_by<'a>(
+    alloc: Global,
+    facts: &'a Facts,
+    links: &BTreeMap<KeyRef<'a>, u64>,
+) -> Result<BTreeMap<KeyRef<'a>, u64>, NoMemory>
+    requires { keys.CountsKeys keys.link_fellow facts.now.links links.now }
+    ensures { IfOk result (keys.CountsKeys (keys.linked_sibling facts.now) facts.now.entries) }
+{
+    let mut counts = BTreeMap::new(alloc);
+    for e in &facts.entries {
+        if let Some(key) = linked_key(facts, links, e) {
+            add(&mut counts, key)?;
+        }
+    }
+    Ok(counts)
+}
+
+// Whether a sibling of a file has an entry that needs its fellows and has its link.
+#[tactic(auto, using(crate::proofs::FellowLooks::linked_counts))]
+fn has_linked<'a>(
+    facts: &'a Facts,
+    linked: &BTreeMap<KeyRef<'a>, u64>,
+    file: u64,
+    sibling: u64,
+) -> bool
+    requires { keys.CountsKeys (keys.linked_sibling facts.now) facts.now.entries linked.now }
+    ensures { result ≡ list_any (spec.is_linked_entry facts.now file sibling) facts.now.entries }
+{
+    count(linked, sibling_ref(file, sibling)) > 0
+}
+
+// Whether a sibling of a file has an entry in the private directory.
+#[tactic(auto, using(crate::proofs::FellowLooks::private_counts))]
+fn has_private<'a>(
+    facts: &'a Facts,
+    private: &BTreeMap<KeyRef<'a>, u64>,
+    file: u64,
+    sibling: u64,
+) -> bool
+    requires { keys.CountsKeys keys.private_sibling facts.now.entries private.now }
+    ensures { result ≡ list_any (spec.is_private_entry file sibling) facts.now.entries }
+{
+    count(private, sibling_ref(file, sibling)) > 0
+}
+
+// Whether a sibling of a file has a link whose parent is the private directory or reserved.
+#[tactic(auto, using(crate::proofs::FellowLooks::system_counts))]
+fn has_system<'a>(
+    facts: &'a Facts,
+    system: &BTreeMap<KeyRef<'a>, u64>,
+    file: u64,
+    sibling: u64,
+) -> bool
+    requires { keys.CountsKeys keys.system_sibling facts.now.links system.now }
+    ensures { result ≡ list_any (spec.is_system_link file sibling) facts.now.links }
+{
+    count(system, sibling_ref(file, sibling)) > 0
+}
+
+// Whether a map lacks its entry or its link.
+#[tactic(auto, unfolding(view_rules::specs::Siblings::is_map_lost))]
+fn is_map_lost<'a>(
+    facts: &'a Facts,
+    linked: &BTreeMap<KeyRef<'a>, u64>,
+    private: &BTreeMap<KeyRef<'a>, u64>,
+    system: &BTreeMap<KeyRef<'a>, u64>,
+    m: &SiblingFact,
+) -> bool
+    requires linked { keys.CountsKeys (keys.linked_sibling facts.now) facts.now.entries linked.now }
+    requires private { keys.CountsKeys keys.private_sibling facts.now.entries private.now }
+    requires system { keys.CountsKeys keys.system_sibling facts.now.links system.now }
+    ensures { result ≡ spec.is_map_lost facts.now m.now }
+{
+    !has_linked(facts, linked, m.file(), m.id())
+        && !has_private(facts, private, m.file(), m.id())
+        && !has_system(facts, system, m.file(), m.id())
+}
+
+// The first map that lacks its entry or its link.
+fn lost_map_by<'a>(
+    facts: &'a Facts,
+    linked: &BTreeMap<KeyRef<'a>, u64>,
+    private: &BTreeMap<KeyRef<'a>, u64>,
+    system: &BTreeMap<KeyRef<'a>, u64>,
+) -> Option<&'a SiblingFact>
+    requires linked { keys.CountsKeys (keys.linked_sibling facts.now) facts.now.entries linked.now }
+    requires private { keys.CountsKeys keys.private_sibling facts.now.entries private.now }
+    requires system { keys.CountsKeys keys.system_sibling facts.now.links system.now }
+    ensures { option_copied result ≡ find (spec.is_map_lost facts.now) facts.now.siblings }
+{
+    for m in &facts.siblings {
+        if is_map_lost(facts, linked, private, system, m) {
+            return Some(m);
+        }
+    }
+    None
+}
+
+/// The first map that lacks its entry or its link.
+pub(crate) fn lost_map(alloc: Global, facts: &Facts) -> Result<Option<&SiblingFact>, NoMemory>
+    ensures { IfOk result (λ first. option_copied first ≡ find (spec.is_map_lost facts.now) facts.now.siblings) }
+{
+    let links = tally::<_, ByLink>(alloc, &facts.links)?;
+    let linked = linked_by(alloc, facts, &links)?;
+    let private = tally::<_, ByPrivate>(alloc, &facts.entries)?;
+    let system = tally::<_, BySystemLink>(alloc, &facts.links)?;
+    Ok(lost_map_by(facts, &linked, &private, &system))
 }

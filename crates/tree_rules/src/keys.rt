@@ -2,6 +2,7 @@
 ghost use Rattle.std.specs.Prelude.{◌≡◌, ◌+◌, ◌-◌, ◌<◌, ◌^◌, Option, IfOk, OnOk, if◌then◌else◌};
 ghost use Rattle.tree_rules.specs.Keys as spec;
 
+use crate::ids::is_system_id;
 use crate::key::KeyRef;
 use blk_source::NoMemory;
 use std::alloc::Global;
@@ -17,8 +18,11 @@ pub(crate) trait KeyOf<T> {
         ensures { result ≡ key item.now };
 }
 
-// Counts one more.
-fn add<'a>(counts: &mut BTreeMap<KeyRef<'a>, u64>, key: KeyRef<'a>) -> Result<(), NoMemory>
+/// Counts one more.
+pub(crate) fn add<'a>(
+    counts: &mut BTreeMap<KeyRef<'a>, u64>,
+    key: KeyRef<'a>,
+) -> Result<(), NoMemory>
     requires { (q : spec.Key) → spec.key_count counts.old q < 2 ^ 64 - 1 }
     ensures { OnOk result ((q : spec.Key) → spec.key_count counts.new q ≡ spec.key_count counts.old q + (if spec.is_same_key key.entry q then 1 else 0)) }
 {
@@ -132,5 +136,48 @@ impl KeyOf<SiblingFact> for ByMap {
             third: 0,
             name: "",
         })
+    }
+}
+
+/// A sibling of a file.
+pub(crate) fn sibling_ref<'a>(file: u64, sibling: u64) -> KeyRef<'a>
+    ensures { result ≡ spec.sibling_key file sibling }
+{
+    KeyRef {
+        first: file,
+        second: sibling,
+        third: 0,
+        name: "",
+    }
+}
+
+/// Entries of the private directory, by their sibling.
+pub(crate) struct ByPrivate;
+
+impl KeyOf<EntryFact> for ByPrivate {
+    ghost key = { spec.private_sibling };
+
+    fn key<'a>(e: &'a EntryFact) -> Option<KeyRef<'a>> {
+        if e.id() != 3 {
+            return None;
+        }
+        match e.sibling() {
+            Some(sibling) => Some(sibling_ref(e.file_id(), sibling)),
+            None => None,
+        }
+    }
+}
+
+/// Links whose parent is the private directory or reserved, by their sibling.
+pub(crate) struct BySystemLink;
+
+impl KeyOf<LinkFact> for BySystemLink {
+    ghost key = { spec.system_sibling };
+
+    fn key<'a>(l: &'a LinkFact) -> Option<KeyRef<'a>> {
+        if !is_system_id(l.parent()) {
+            return None;
+        }
+        Some(sibling_ref(l.file(), l.sibling()))
     }
 }
