@@ -1,13 +1,13 @@
 -- What one more record adds.
-use Rattle.std.proofs.Common.{◌≡◌, ℕ, List, [], ◌∷◌, ◌++◌, map, Option, Some, None, refl, ap, sym, ◌∙◌, append-nil}
-use Rattle.std.specs.Prelude.{filter_map, option_map, option_to_list, Result}
+use Rattle.std.proofs.Common.{◌≡◌, List, [], ◌∷◌, ◌++◌, map, Option, Some, None, refl, ap, ◌∙◌}
+use Rattle.std.specs.Prelude.{filter_map, option_map, option_to_list}
 use Rattle.std.specs.List.{cons_option}
 use Rattle.std.proofs.lemmas.List.{map-append}
 use Rattle.std.proofs.lemmas.List.Elements.{filter_map-append}
 use Rattle.bt_node.specs.Entries.{Pair}
 use Rattle.bt_keys.specs.RecordKey.{inode_record, attribute_record, sibling_link_record, file_extent_record, entry_record, sibling_map_record}
 use Rattle.fs_name.specs.declared.naming.Names.{Names}
-use Rattle.fs_record.specs.Facts.{Fact, fact_of, read_inode, read_entry, read_attribute, read_link, read_sibling, read_extent, inodes_of, entries_of, attributes_of, links_of, sibling_files_of, extents_of}
+use Rattle.fs_record.specs.Facts.{fact_of, read_inode, read_entry, read_attribute, read_link, read_sibling, read_extent, inodes_of, entries_of, attributes_of, links_of, sibling_files_of, extents_of}
 use Rattle.view_rules.specs.Facts.{Facts, facts_in}
 use Rattle.view_facts.specs.Contents.{brief, brief_facts}
 use Rattle.view_facts.specs.Adding.{facts_with}

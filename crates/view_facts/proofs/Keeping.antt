@@ -1,11 +1,9 @@
 -- What is kept after one more item.
-use Rattle.std.proofs.Common.{◌≡◌, ℕ, zero, suc, ◌+◌, ◌<◌, ◌≤◌, Bool, true, false, cond, List, [], ◌∷◌, ◌++◌, length, map, Option, Some, None, ◌⊎◌, inl, inr, refl, ap, sym, ◌∙◌, subst, arith, length-append, append-nil}
-use Rattle.std.specs.Prelude.{slice_get, min, ◌^◌, ◌-◌, MatchOption}
+use Rattle.std.proofs.Common.{◌≡◌, ℕ, zero, suc, ◌+◌, ◌<◌, Bool, true, false, cond, List, [], ◌∷◌, ◌++◌, length, map, Option, Some, None, inl, inr, refl, ap, sym, ◌∙◌, subst, arith, length-append, append-nil}
+use Rattle.std.specs.Prelude.{slice_get, min, ◌^◌, ◌-◌}
 use Rattle.std.proofs.lemmas.Bool.Decides.{nat_tests}
 use Rattle.apfs_model.specs.Counts.{given}
-use Rattle.apfs_model.specs.Lists.{In}
 use Rattle.apfs_model.proofs.Searches.{in-append}
-use Rattle.bt_node.specs.Entries.{Pair}
 use Rattle.bt_cursor.specs.Line.{Item, leaf_pairs, is_leaf_item}
 use Rattle.bt_cursor.proofs.Lines.{leaf_pairs-append, leaf_pairs-inner}
 use Rattle.fs_name.specs.declared.naming.Names.{Names}

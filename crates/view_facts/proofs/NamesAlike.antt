@@ -1,17 +1,14 @@
 -- What records say rests on whether names are hashed, and on no more of how they are compared.
-use Rattle.std.proofs.Common.{◌≡◌, ℕ, List, Bool, true, false, Option, refl, ap, sym, ◌∙◌, subst}
-use Rattle.std.specs.Prelude.{filter_map, ◌&&◌}
+use Rattle.std.proofs.Common.{◌≡◌, ℕ, List, refl, ap, sym, ◌∙◌}
 use Rattle.std.proofs.lemmas.Bool.{false≢true}
-use Rattle.apfs_model.specs.Lists.{In}
 use Rattle.bt_node.specs.Entries.{Pair}
 use Rattle.bt_cursor.specs.Line.{Item}
-use Rattle.bt_keys.specs.RecordKey.{entry_record}
 use Rattle.fs_name.specs.declared.naming.Names.{Names}
 use Rattle.fs_name.specs.declared.naming.Names.TheVariants.{Exact, Normal, Folded}
 use Rattle.fs_name.specs.Normal.{are_hashed}
 use Rattle.fs_record.specs.Entries.{entry_of}
 use Rattle.fs_record.specs.declared.fault.RecFault.{RecFault}
-use Rattle.fs_record.specs.Facts.{fact_of, read_entry, entries_of, refused}
+use Rattle.fs_record.specs.Facts.{entries_of, refused}
 use Rattle.view_rules.specs.Facts.{Facts, facts_in}
 use Rattle.view_rules.specs.Rules.{refusal_of, HasRecords, IsRecord}
 use Rattle.view_facts.specs.Contents.{brief_facts}

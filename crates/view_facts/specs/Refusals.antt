@@ -1,5 +1,5 @@
 -- The record that is refused.
-use Rattle.std.specs.Prelude.{◌≡◌, ℕ, List, Option, None, Some, option_map, MatchOption}
+use Rattle.std.specs.Prelude.{ℕ, List, Option, None, Some, option_map, MatchOption}
 use Rattle.bt_cursor.specs.Line.{Item}
 use Rattle.fs_name.specs.declared.naming.Names.{Names}
 use Rattle.fs_record.specs.declared.fault.RecFault.{RecFault}

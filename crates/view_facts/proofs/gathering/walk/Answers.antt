@@ -1,6 +1,5 @@
-use Rattle.std.proofs.Common.{◌≡◌, ℕ, ◌+◌, ◌≤◌, List, length, false, Err, refl, ap, sym, ◌∙◌, subst}
+use Rattle.std.proofs.Common.{◌≡◌, ◌+◌, ◌≤◌, length, false, ap, sym, ◌∙◌, subst}
 use Rattle.obj_base.specs.Stops.{Tells}
-use Rattle.obj_base.specs.declared.stop.Stop.TheVariants.{ReadFault}
 use Rattle.omap_map.specs.Maps.{Contents}
 use Rattle.omap_map.specs.Resolve.{named_by}
 use Rattle.bt_cursor.specs.Tree.{tree_in}
@@ -8,9 +7,8 @@ use Rattle.bt_cursor.specs.Met.{nodes_of}
 use Rattle.bt_cursor.specs.Faults.{HasFeature}
 use Rattle.bt_cursor.specs.Gathered.{IsGatherFault, IsGathered}
 use Rattle.vol_view.specs.Volumes.{Loaded}
-use Rattle.vol_view.specs.Views.{view_tree}
 use Rattle.view_facts.specs.Kept.{IsKeptOf}
-use Rattle.view_facts.proofs.Walks.{says_tells, says_read, walked}
+use Rattle.view_facts.proofs.Walks.{says_tells, walked}
 use Rattle.view_facts.proofs.gathering.walk.Goals as goal
 
 pub returns-in-Err-clause-present : goal.returns-in-Err-clause-present

@@ -1,4 +1,4 @@
-use Rattle.std.proofs.Common.{◌≡◌, ◌+◌, ◌≤◌, List, length, ap, sym, ◌∙◌, subst}
+use Rattle.std.proofs.Common.{◌+◌, ◌≤◌, List, length, ap, sym, ◌∙◌, subst}
 use Rattle.fs_name.specs.Normal.{are_hashed}
 use Rattle.vol_view.specs.Volumes.{Loaded}
 use Rattle.bt_node.specs.declared.node.NodeAt.{NodeAt}

@@ -1,6 +1,5 @@
-use Rattle.std.proofs.Common.{List, ◌≡◌, refl, sym, subst, ◌∷◌, [], ◌++◌, Option, arith}
+use Rattle.std.proofs.Common.{◌≡◌, sym, subst, ◌∷◌, [], ◌++◌, Option, arith}
 use Rattle.std.specs.Prelude.{option_map}
-use Rattle.bt_cursor.specs.Line.{Item}
 use Rattle.bt_cursor.specs.Gathered.{shown}
 use Rattle.view_facts.specs.Kept.{IsKeptOf}
 use Rattle.view_facts.specs.declared.keep.Refusal.{Refusal}
