@@ -1,9 +1,8 @@
 -- Counts of facts by a number.
-use Rattle.std.proofs.Common.{◌≡◌, ℕ, zero, suc, ◌+◌, ◌<◌, ◌≤◌, Bool, true, false, cond, List, [], ◌∷◌, length, take, get_or, Option, Some, None, refl, ap, sym, ◌∙◌, subst, arith}
-use Rattle.std.specs.Prelude.{◌^◌, ◌-◌, count_by, unwrap_or, bytes_eq, ◌==◌, ◌&&◌, nat_lt, not}
+use Rattle.std.proofs.Common.{◌≡◌, ℕ, zero, suc, ◌+◌, ◌<◌, Bool, true, false, cond, List, [], ◌∷◌, length, take, get_or, Option, Some, None, refl, ap, sym, ◌∙◌, arith}
+use Rattle.std.specs.Prelude.{◌^◌, ◌-◌, count_by, bytes_eq, ◌==◌, ◌&&◌, nat_lt, not}
 use Rattle.std.specs.List.{list_any}
-use Rattle.std.specs.Ordering.{nat_cmp}
-use Rattle.std.specs.BTreeMap.{BTreeMap, get, Updates}
+use Rattle.std.specs.BTreeMap.{BTreeMap}
 use Rattle.std.proofs.lemmas.Grind.{common_steps}
 use Rattle.std.proofs.lemmas.List.{length-take-le}
 use Rattle.std.proofs.lemmas.List.Sums.{count_by-le-length, count_by_more_yes, count_by_more_no}
@@ -12,7 +11,7 @@ use Rattle.apfs_model.specs.Lists.{passes}
 use Rattle.fs_record.specs.Entries.{Entry}
 use Rattle.fs_record.specs.Attributes.{Attribute}
 use Rattle.fs_record.specs.Facts.{Fact}
-use Rattle.view_rules.specs.Facts.{Facts, does_count, is_system_id, names_file, entry_count, child_count}
+use Rattle.view_rules.specs.Facts.{Facts, does_count, is_system_id, names_file, entry_count}
 use Rattle.view_rules.specs.Counts.{is_system_name}
 use Rattle.view_rules.specs.Inodes.{gives_target, target_name, holds_target}
 use Rattle.tree_rules.specs.Ids.{has_id, count_in, CountsIds, counted_file, system_file, target_file}

@@ -1,14 +1,13 @@
 -- Counts of facts by numbers and a name.
-use Rattle.std.proofs.Common.{◌≡◌, ℕ, ◌+◌, ◌<◌, ◌≤◌, Bool, true, false, cond, List, length, take, get_or, Option, Some, None, refl, ap, sym, ◌∙◌, subst, arith}
-use Rattle.std.specs.Prelude.{◌^◌, ◌-◌, count_by, unwrap_or, bytes_eq, ◌==◌, ◌&&◌}
-use Rattle.std.specs.Ordering.{is_eq}
+use Rattle.std.proofs.Common.{◌≡◌, ℕ, ◌+◌, ◌<◌, Bool, true, false, cond, List, length, take, get_or, Option, Some, None, refl, ap, sym, ◌∙◌, arith}
+use Rattle.std.specs.Prelude.{◌^◌, ◌-◌, count_by, unwrap_or, ◌==◌}
 use Rattle.std.specs.BTreeMap.{BTreeMap, get, Updates}
 use Rattle.std.proofs.lemmas.Slice.Eq.{bytes_eq-Decides}
 use Rattle.std.proofs.lemmas.List.{length-take-le}
 use Rattle.std.proofs.lemmas.List.Sums.{count_by-le-length, count_by_more_yes, count_by_more_no}
 use Rattle.apfs_model.specs.Lists.{passes}
 use Rattle.apfs_model.proofs.BoolTests.{left-true, right-true, equal-from}
-use Rattle.tree_rules.specs.Keys.{Key, key_cmp, is_same_key, key_ties, has_key, key_count, CountsKeys}
+use Rattle.tree_rules.specs.Keys.{Key, key_cmp, is_same_key, key_ties, has_key, CountsKeys}
 
 -- keys that are the same are equal
 pub same-key : (a b : Key) → is_same_key a b ≡ true → a ≡ b

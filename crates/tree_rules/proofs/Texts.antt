@@ -1,5 +1,5 @@
 -- Names of ASCII characters.
-use Rattle.std.proofs.Common.{◌≡◌, ℕ, zero, suc, ◌<◌, ◌≤◌, Bool, true, false, List, [], ◌∷◌, refl, ap, sym, ◌∙◌, arith}
+use Rattle.std.proofs.Common.{◌≡◌, ℕ, zero, suc, ◌≤◌, Bool, true, false, List, [], ◌∷◌, refl, ap, arith}
 use Rattle.std.specs.Prelude.{IsAscii, nat_lt, ◌&&◌, slice_index}
 use Rattle.std.specs.Str.{IsNotAscii}
 use Rattle.std.specs.List.{list_all}

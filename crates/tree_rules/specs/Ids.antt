@@ -1,5 +1,5 @@
 -- Counts of facts by a number.
-use Rattle.std.specs.Prelude.{◌≡◌, ℕ, Bool, List, count_by, unwrap_or, ◌==◌, ◌&&◌, not, Option, None, Some, bytes_eq, if◌then◌else◌}
+use Rattle.std.specs.Prelude.{◌≡◌, ℕ, Bool, List, count_by, unwrap_or, ◌==◌, ◌&&◌, Option, None, Some, bytes_eq, if◌then◌else◌}
 use Rattle.std.specs.Ordering.{nat_cmp}
 use Rattle.std.specs.BTreeMap.{BTreeMap, get}
 use Rattle.apfs_model.specs.Lists.{passes}

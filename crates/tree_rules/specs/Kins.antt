@@ -1,5 +1,5 @@
 -- The kind and the parent of each inode.
-use Rattle.std.specs.Prelude.{◌≡◌, ℕ, Bool, List, ◌==◌, Option, None, Some, option_map, if◌then◌else◌}
+use Rattle.std.specs.Prelude.{◌≡◌, ℕ, List, ◌==◌, Option, None, Some, option_map, if◌then◌else◌}
 use Rattle.std.specs.Ordering.{nat_cmp}
 use Rattle.std.specs.BTreeMap.{BTreeMap, get}
 use Rattle.fs_record.specs.Inodes.{Inode, inode_kind}
