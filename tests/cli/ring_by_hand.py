@@ -1,10 +1,13 @@
 #!/usr/bin/env python3
-"""What `apfs ring`, `apfs info` and `apfs volumes` have to say of an image, worked out from its bytes by other means.
+"""What `apfs ring`, `info`, `volumes` and `snapshots` have to say of an image, worked out from its bytes by other means.
 
     ring_by_hand.py ring IMAGE              the lines, the line on standard error and the status of `apfs ring`
     ring_by_hand.py info IMAGE              the same for `apfs info`
     ring_by_hand.py volumes IMAGE           the same for `apfs volumes`, where the container's map has no other fault than
                                             that a volume isn't found
+    ring_by_hand.py snapshots IMAGE [--volume N]
+                                            the same for `apfs snapshots`, where nothing is wrong but a volume's or a snapshot's flags
+                                            or the number of snapshots
     ring_by_hand.py seal IMAGE BLOCK AT HEX..   the edits `AT HEX` that write these bytes at these places of the block and
                                             make its sum right, as lines for a file of cases
 
@@ -177,13 +180,13 @@ class Image:
             else:
                 yield tuple(number(node, *it) for it in ((key, 8), (key + 8, 8), (value, 4), (value + 4, 4), (value + 8, 8)))
 
-    def volumes_lines(self):
+    def volumes(self):
+        """The volumes by slot: the slot, the block of the superblock, and its bytes."""
         xid, _, nx, _ = self.newest()
         at = number(nx.data, 160, 8)
         if number(self.block(at), 36, 4):
             raise Ended(6, f"unsupported: ContainerSnapshots block {at}")
         records = list(self.records(number(self.block(at), 48, 8)))
-        lines = []
         for slot in range(100):
             oid = number(nx.data, 184 + 8 * slot, 8)
             found = [record for record in records if record[0] == oid and record[1] <= xid]
@@ -197,13 +200,56 @@ class Image:
                 raise Ended(1, f"fault: Unsound block {block} BadSum")
             if data[32:36] != b"APSB":
                 raise Ended(1, f"fault: Unsound block {block} Magic")
+            yield slot, block, data
+
+    def volumes_lines(self):
+        lines = []
+        for slot, _, data in self.volumes():
             features = number(data, 56, 8)
             names = "folded" if features & 1 else "normal" if features & 8 else "exact"
-            name = data[704:960].split(b"\0")[0]
-            shown = b"".join(b"\\x%02x" % b if b < 0x20 or b in b"\x7f/\\" else bytes([b]) for b in name).decode()
             role, snapshots = number(data, 964, 2), number(data, 216, 8)
-            lines.append(f"{slot} {uuid.UUID(bytes=bytes(data[240:256]))} {role} {names} {snapshots} {shown}")
+            name = shown(data[704:960].split(b"\0")[0])
+            lines.append(f"{slot} {uuid.UUID(bytes=bytes(data[240:256]))} {role} {names} {snapshots} {name}")
         return lines
+
+    def metadata(self, block):
+        """The records of a volume's snapshot metadata tree: key and value."""
+        node = self.block(block)
+        begin = 56 + number(node, 40, 2)
+        keys = begin + number(node, 42, 2)
+        end = self.size - 40 * (number(node, 32, 2) & 1)
+        for at in range(begin, begin + 8 * number(node, 36, 4), 8):
+            key = keys + number(node, at, 2)
+            value = end - number(node, at + 4, 2)
+            if number(node, 34, 2):
+                yield from self.metadata(number(node, value, 8))
+            else:
+                yield node[key : key + number(node, at + 2, 2)], node[value : value + number(node, at + 6, 2)]
+
+    def snapshots_lines(self, wanted=None):
+        found = {slot: (block, data) for slot, block, data in self.volumes()}
+        slot = min(found, default=0) if wanted is None else int(wanted)
+        if slot not in found:
+            raise Ended(7, "answer: NoVolume")
+        block, data = found[slot]
+        if not number(data, 264, 8) & 1:
+            raise Ended(6, f"unsupported: Encrypted block {block}")
+        lines, root = [], number(data, 152, 8)
+        for key, value in self.metadata(root) if root else []:
+            if key[7] >> 4 == 1:
+                xid, created = number(key, 0, 8) % 2**60, number(value, 16, 8)
+                marks, superblock = number(value, 44, 4), number(value, 8, 8)
+                if marks & 3:
+                    raise Ended(6, f"unsupported: {'Dataless' if marks & 1 else 'SnapshotState'} block {superblock}")
+                lines.append(f"{xid} {created} {shown(value[50 : 49 + number(value, 48, 2)])}")
+        if len(lines) != number(data, 216, 8):
+            raise Ended(1, f"fault: Volume {slot} SnapCount")
+        return lines
+
+
+def shown(name):
+    """A name, each byte of it that isn't shown as it is by its number."""
+    return b"".join(b"\\x%02x" % b if b < 0x20 or b in b"\x7f/\\" else bytes([b]) for b in name).decode()
 
 
 def seal(path, block, edits):
@@ -221,13 +267,17 @@ def main(words):
     if len(words) >= 5 and words[0] == "seal" and len(words) % 2:
         print(*seal(words[1], int(words[2]), [(int(at), text) for at, text in zip(words[3::2], words[4::2])]), sep="\n")
         return 0
-    if len(words) != 2 or words[0] not in ("ring", "info", "volumes"):
+    if words[:1] == ["snapshots"] and len(words) == 4 and words[2] == "--volume":
+        words, options = words[:2], words[3:]
+    else:
+        options = []
+    if len(words) != 2 or words[0] not in ("ring", "info", "volumes", "snapshots"):
         print(__doc__, file=sys.stderr)
         return 2
     try:
         image = Image(words[1])
-        lines = {"ring": image.ring_lines, "info": image.info_lines, "volumes": image.volumes_lines}[words[0]]
-        for line in lines():
+        lines = {"ring": image.ring_lines, "info": image.info_lines, "volumes": image.volumes_lines, "snapshots": image.snapshots_lines}
+        for line in lines[words[0]](*options):
             print(line)
     except Ended as ended:
         status, line = ended.args

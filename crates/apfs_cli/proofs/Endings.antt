@@ -9,13 +9,14 @@ use Rattle.obj_base.specs.declared.stop.Stop.{Stop}
 use Rattle.obj_base.specs.declared.stop.Stop.TheVariants as layer
 use Rattle.obj_base.specs.Stops.{Tells}
 use Rattle.apfs_check.specs.declared.fault.Fault.{Fault}
+use Rattle.path_walk.specs.declared.answer.Answer.{Answer}
 use Rattle.apfs_cli.specs.declared.stopped.Stopped.{Stopped}
 use Rattle.apfs_cli.specs.declared.stopped.Stopped.TheVariants as stops
 use Rattle.apfs_cli.specs.declared.words.Command.{Command}
 use Rattle.apfs_cli.specs.declared.words.Command.TheVariants as commands
-use Rattle.apfs_cli.specs.ByCommand.{takes_image, IsText, IsFault, IsFeature}
-use Rattle.apfs_cli.specs.Outcome.{Outcome, text_of, Written, Faulty, Usage, ReadFailed, WriteFailed, OutOfMemory, Refused, NoImage}
-use Rattle.apfs_cli.specs.Says.{LacksImage, IsGiven, OfRun, SourceFailed, HasFailed, BeginsText, IsPart, StopsAt, Says, HasEnded}
+use Rattle.apfs_cli.specs.ByCommand.{takes_image, lead_of, IsText, IsFault, IsFeature, IsAnswer, HasResult}
+use Rattle.apfs_cli.specs.Outcome.{Outcome, text_of, Written, Faulty, Usage, ReadFailed, WriteFailed, OutOfMemory, Refused, Answered, NoImage}
+use Rattle.apfs_cli.specs.Says.{LacksImage, IsGiven, OfRun, SourceFailed, HasFailed, BeginsText, IsPart, StopsAt, AnswersAt, Says, HasEnded}
 use Rattle.apfs_cli.specs.Seen.{outcome_of, stopped_at}
 use Rattle.apfs_cli.specs.Words.{Asked, said}
 use Rattle.apfs_cli.specs.Written.{Sunk, IsPut}
@@ -26,6 +27,7 @@ pub each_lacks : (S : Type 0) (command : Command) → LacksImage {S = S} (takes_
 each_lacks S commands.Ring = tt
 each_lacks S commands.Info = tt
 each_lacks S commands.Volumes = tt
+each_lacks S (commands.Snapshots volume) = tt
 
 -- a fact of the command and the image that another follows from
 of_run : {S : Type 0} (bytes : S → Option (List ℕ)) (command : Option Asked) (opened : Opened S) (P Q : Asked → List ℕ → Type 0) →
@@ -40,22 +42,25 @@ part_of_text bytes command opened text part rest split told =
     inr (of_run bytes command opened (λ c image. IsText c image text) (λ c image. BeginsText c image part) (λ c image is. inr (text, is, (rest, split))) told)
 
 -- what a command writes before it looks is a part of what it writes
-part_of_lead : {S : Type 0} (bytes : S → Option (List ℕ)) (command : Option Asked) (opened : Opened S) (lead : List ℕ) (there : Asked → List ℕ → Type 0) →
-    OfRun bytes command opened (λ c image. StopsAt c image lead (there c image)) → IsPart bytes command opened lead
-part_of_lead bytes command opened lead there told =
-    inr (of_run bytes command opened (λ c image. StopsAt c image lead (there c image)) (λ c image. BeginsText c image lead)
-    (λ c image at. inl ([], sym at.lead_is ∙ sym (append-nil lead))) told)
+part_of_lead : {S : Type 0} (bytes : S → Option (List ℕ)) (command : Option Asked) (opened : Opened S) (lead : List ℕ) (P : Asked → List ℕ → Type 0) →
+    ((c : Asked) (image : List ℕ) → P c image → lead ≡ lead_of c) → OfRun bytes command opened P → IsPart bytes command opened lead
+part_of_lead bytes command opened lead P lead_is told =
+    inr (of_run bytes command opened P (λ c image. BeginsText c image lead) (λ c image at. inl ([], sym (lead_is c image at) ∙ sym (append-nil lead))) told)
 
 -- whatever the outcome, a part of what the command writes was written
 pub part_of : {S : Type 0} (bytes : S → Option (List ℕ)) (faults : S → ℕ) (command : Option Asked) (old new : Opened S) (out : Sunk) (o : Outcome) →
     Says bytes faults command old new out o → IsPart bytes command old (text_of o)
 part_of bytes faults command old new out (Written text) says = part_of_text bytes command old text text [] (sym (append-nil text)) says
-part_of bytes faults command old new out (Faulty lead fault) says = part_of_lead bytes command old lead (λ c image. IsFault c image fault) says
+part_of bytes faults command old new out (Faulty lead fault) says =
+    part_of_lead bytes command old lead (λ c image. StopsAt c image lead (IsFault c image fault)) (λ c image at. at.lead_is) says
 part_of bytes faults command old new out Usage says = inl refl
 part_of bytes faults command old new out (ReadFailed part) says = says.1
 part_of bytes faults command old new out (WriteFailed part) says = says.1
 part_of bytes faults command old new out (OutOfMemory part) says = says
-part_of bytes faults command old new out (Refused lead feature block) says = part_of_lead bytes command old lead (λ c image. IsFeature c image feature block) says
+part_of bytes faults command old new out (Refused lead feature block) says =
+    part_of_lead bytes command old lead (λ c image. StopsAt c image lead (IsFeature c image feature block)) (λ c image at. at.lead_is) says
+part_of bytes faults command old new out (Answered lead answer) says =
+    part_of_lead bytes command old lead (λ c image. AnswersAt c image lead answer) (λ c image at. at.lead_is) says
 part_of bytes faults command old new out NoImage says = inl refl
 
 -- the text of a command was put
@@ -72,6 +77,7 @@ put_ended bytes faults command old new text (Err (stops.Faulty fault)) out told 
 put_ended bytes faults command old new text (Err stops.Usage) out told put = absurd put.0
 put_ended bytes faults command old new text (Err stops.ReadFailed) out told put = absurd put.0
 put_ended bytes faults command old new text (Err (stops.Refused feature block)) out told put = absurd put.0
+put_ended bytes faults command old new text (Err (stops.Answered answer)) out told put = absurd put.0
 put_ended bytes faults command old new text (Err stops.NoImage) out told put = absurd put.0
 
 -- what a stop says of a command and an image, where nothing was written
@@ -88,6 +94,11 @@ stop_ended bytes faults command old new fault (layer.Found why) contents count h
 stop_ended bytes faults command old new fault (layer.Unsupported feature block) contents count has told cause = ([], (has, told), wrote_nothing contents)
 stop_ended bytes faults command old new fault layer.ReadFault contents count has told cause = ([], (cause refl, inl refl), wrote_nothing contents)
 stop_ended bytes faults command old new fault layer.NoMemory contents count has told cause = ([], inl refl, wrote_nothing contents)
+
+-- a command has neither a text nor an answer
+pub no_result : (command : Asked) (image : List ℕ) → ((text : List ℕ) → IsText command image text → ⊥) → ((answer : Answer) → IsAnswer command image answer → ⊥) → HasResult command image → ⊥
+no_result command image text answer (inl has) = text has.0 has.1
+no_result command image text answer (inr has) = answer has.0 has.1
 
 -- the same bytes are given
 given_same : {S T : Type 0} (bytes : S → Option (List ℕ)) (tells : T → Option (List ℕ)) (wanted : Bool) (source : S) (other : T) (image : List ℕ) → bytes source ≡ tells other →
@@ -127,6 +138,7 @@ says_same bytes faults tells counts command old new before after out (ReadFailed
 says_same bytes faults tells counts command old new before after out (WriteFailed part) same rises says = (says.0, part_same bytes tells command old before part same says.1)
 says_same bytes faults tells counts command old new before after out (OutOfMemory part) same rises says = part_same bytes tells command old before part same says
 says_same bytes faults tells counts command old new before after out (Refused lead feature block) same rises says = run_same bytes tells command old before (λ c image. StopsAt c image lead (IsFeature c image feature block)) same says
+says_same bytes faults tells counts command old new before after out (Answered lead answer) same rises says = run_same bytes tells command old before (λ c image. AnswersAt c image lead answer) same says
 says_same bytes faults tells counts None old new before after out NoImage same rises says = absurd says
 says_same bytes faults tells counts (Some command) old new before after out NoImage same rises says = absurd (lacks_none (takes_image command) old says)
 

@@ -5,17 +5,19 @@ use Rattle.blk_source.specs.declared.source.Opened.{Opened}
 use Rattle.blk_source.specs.declared.source.Opened.TheVariants.{Absent, Image}
 use Rattle.obj_base.specs.declared.stop.Feature.{Feature}
 use Rattle.apfs_check.specs.declared.fault.Fault.{Fault}
-use Rattle.apfs_cli.specs.ByCommand.{takes_image, IsText}
-use Rattle.apfs_cli.specs.Outcome.{Outcome, status_of, text_of, Written, Faulty, Usage, ReadFailed, WriteFailed, OutOfMemory, Refused, NoImage}
+use Rattle.path_walk.specs.declared.answer.Answer.{Answer}
+use Rattle.apfs_cli.specs.ByCommand.{takes_image, IsText, IsAnswer}
+use Rattle.apfs_cli.specs.Outcome.{Outcome, status_of, text_of, Written, Faulty, Usage, ReadFailed, WriteFailed, OutOfMemory, Refused, Answered, NoImage}
 use Rattle.apfs_cli.specs.Says.{LacksImage, IsGiven, SourceFailed, Says, HasNoImage}
 use Rattle.apfs_cli.specs.Words.{Asked}
 use Rattle.apfs_cli.specs.Written.{Sunk, Failed, Ends}
-use Rattle.apfs_cli.specs.Rows.{BothWrote, HasText, NamesFault, NamesFeature, SaysReadFailed, SaysOutOfMemory, HasFailedPut, HasDefinedText, IsExactly, IsWholeOrFree}
+use Rattle.apfs_cli.specs.Rows.{BothWrote, HasText, NamesFault, NamesFeature, NamesAnswer, SaysReadFailed, SaysOutOfMemory, HasFailedPut, HasDefinedText, HasDefinedAnswer, IsExactly, IsWholeOrFree, IsAnsweredOrFree}
+use Rattle.apfs_cli.proofs.Answered.{text_or_answer}
 use Rattle.apfs_cli.proofs.Endings.{part_of}
 
 -- what a run has come to, and how it ended
-abbrev pub Answered : {S : Type 0} → (S → Option (List ℕ)) → (S → ℕ) → Option Asked → Opened S → Opened S → ℕ → Sunk → Sunk → Type 0
-Answered bytes faults command old new result out err = (o : Outcome) × Says bytes faults command old new out o × Ends result o out err
+abbrev pub CameTo : {S : Type 0} → (S → Option (List ℕ)) → (S → ℕ) → Option Asked → Opened S → Opened S → ℕ → Sunk → Sunk → Type 0
+CameTo bytes faults command old new result out err = (o : Outcome) × Says bytes faults command old new out o × Ends result o out err
 
 -- an outcome is told by its status
 written_at : (o : Outcome) → status_of o ≡ 0 → (text : List ℕ) × (o ≡ Written text)
@@ -42,6 +44,10 @@ refused_at : (o : Outcome) → status_of o ≡ 6 → (lead : List ℕ) × (featu
 refused_at (Refused lead feature block) e = (lead, feature, block, refl)
 refused_at _ e = absurd (omega arith)
 
+answered_at : (o : Outcome) → status_of o ≡ 7 → (lead : List ℕ) × (answer : Answer) × (o ≡ Answered lead answer)
+answered_at (Answered lead answer) e = (lead, answer, refl)
+answered_at _ e = absurd (omega arith)
+
 no_image_at : (o : Outcome) → status_of o ≡ 8 → o ≡ NoImage
 no_image_at NoImage e = refl
 no_image_at _ e = absurd (omega arith)
@@ -53,7 +59,7 @@ whole_at result status o out err ends e other =
 
 -- the outcome of a run, by its status
 row : {S : Type 0} (bytes : S → Option (List ℕ)) (faults : S → ℕ) (command : Option Asked) (old new : Opened S) (result status : ℕ) (out err : Sunk) →
-    (status ≡ 4 → ⊥) → Answered bytes faults command old new result out err → result ≡ status →
+    (status ≡ 4 → ⊥) → CameTo bytes faults command old new result out err → result ≡ status →
     (o : Outcome) × (status_of o ≡ status) × Says bytes faults command old new out o × BothWrote out err o
 row bytes faults command old new result status out err other (o, says, ends) e =
     let whole = whole_at result status o out err ends e other in
@@ -64,7 +70,7 @@ abbrev pub SaysAndWrote : {S : Type 0} → (S → Option (List ℕ)) → (S → 
 SaysAndWrote bytes faults command old new out err o = Says bytes faults command old new out o × BothWrote out err o
 
 pub text_row : {S : Type 0} (bytes : S → Option (List ℕ)) (faults : S → ℕ) (command : Option Asked) (old new : Opened S) (result : ℕ) (out err : Sunk) →
-    Answered bytes faults command old new result out err → result ≡ 0 → HasText bytes command old out err
+    CameTo bytes faults command old new result out err → result ≡ 0 → HasText bytes command old out err
 text_row {S} bytes faults command old new result out err a e =
     let at = row bytes faults command old new result 0 out err (λ h. omega arith) a e in
     let o = written_at at.0 at.1 in
@@ -73,7 +79,7 @@ text_row {S} bytes faults command old new result out err a e =
     (o.0, both.0, both.1)
 
 pub fault_row : {S : Type 0} (bytes : S → Option (List ℕ)) (faults : S → ℕ) (command : Option Asked) (old new : Opened S) (result : ℕ) (out err : Sunk) →
-    Answered bytes faults command old new result out err → result ≡ 1 → NamesFault bytes command old out err
+    CameTo bytes faults command old new result out err → result ≡ 1 → NamesFault bytes command old out err
 fault_row {S} bytes faults command old new result out err a e =
     let at = row bytes faults command old new result 1 out err (λ h. omega arith) a e in
     let o = faulty_at at.0 at.1 in
@@ -82,14 +88,14 @@ fault_row {S} bytes faults command old new result out err a e =
     (o.0, o.1, both.0, both.1)
 
 pub usage_row : {S : Type 0} (bytes : S → Option (List ℕ)) (faults : S → ℕ) (command : Option Asked) (old new : Opened S) (result : ℕ) (out err : Sunk) →
-    Answered bytes faults command old new result out err → result ≡ 2 → (command ≡ None) × BothWrote out err Usage
+    CameTo bytes faults command old new result out err → result ≡ 2 → (command ≡ None) × BothWrote out err Usage
 usage_row {S} bytes faults command old new result out err a e =
     let at = row bytes faults command old new result 2 out err (λ h. omega arith) a e in
     let P : Outcome → Type 0 = λ x. SaysAndWrote bytes faults command old new out err x in
     subst P (usage_at at.0 at.1) (at.2, at.3)
 
 pub read_failed_row : {S : Type 0} (bytes : S → Option (List ℕ)) (faults : S → ℕ) (command : Option Asked) (old new : Opened S) (result : ℕ) (out err : Sunk) →
-    Answered bytes faults command old new result out err → result ≡ 3 → SaysReadFailed bytes faults command old new out err
+    CameTo bytes faults command old new result out err → result ≡ 3 → SaysReadFailed bytes faults command old new out err
 read_failed_row {S} bytes faults command old new result out err a e =
     let at = row bytes faults command old new result 3 out err (λ h. omega arith) a e in
     let o = read_failed_at at.0 at.1 in
@@ -98,7 +104,7 @@ read_failed_row {S} bytes faults command old new result out err a e =
     (o.0, both.0.0, both.0.1, both.1)
 
 pub out_of_memory_row : {S : Type 0} (bytes : S → Option (List ℕ)) (faults : S → ℕ) (command : Option Asked) (old new : Opened S) (result : ℕ) (out err : Sunk) →
-    Answered bytes faults command old new result out err → result ≡ 5 → SaysOutOfMemory bytes command old out err
+    CameTo bytes faults command old new result out err → result ≡ 5 → SaysOutOfMemory bytes command old out err
 out_of_memory_row {S} bytes faults command old new result out err a e =
     let at = row bytes faults command old new result 5 out err (λ h. omega arith) a e in
     let o = out_of_memory_at at.0 at.1 in
@@ -107,7 +113,7 @@ out_of_memory_row {S} bytes faults command old new result out err a e =
     (o.0, both.0, both.1)
 
 pub feature_row : {S : Type 0} (bytes : S → Option (List ℕ)) (faults : S → ℕ) (command : Option Asked) (old new : Opened S) (result : ℕ) (out err : Sunk) →
-    Answered bytes faults command old new result out err → result ≡ 6 → NamesFeature bytes command old out err
+    CameTo bytes faults command old new result out err → result ≡ 6 → NamesFeature bytes command old out err
 feature_row {S} bytes faults command old new result out err a e =
     let at = row bytes faults command old new result 6 out err (λ h. omega arith) a e in
     let o = refused_at at.0 at.1 in
@@ -115,8 +121,17 @@ feature_row {S} bytes faults command old new result out err a e =
     let both = subst P o.3 (at.2, at.3) in
     (o.0, o.1, o.2, both.0, both.1)
 
+pub answered_row : {S : Type 0} (bytes : S → Option (List ℕ)) (faults : S → ℕ) (command : Option Asked) (old new : Opened S) (result : ℕ) (out err : Sunk) →
+    CameTo bytes faults command old new result out err → result ≡ 7 → NamesAnswer bytes command old out err
+answered_row {S} bytes faults command old new result out err a e =
+    let at = row bytes faults command old new result 7 out err (λ h. omega arith) a e in
+    let o = answered_at at.0 at.1 in
+    let P : Outcome → Type 0 = λ x. SaysAndWrote bytes faults command old new out err x in
+    let both = subst P o.2 (at.2, at.3) in
+    (o.0, o.1, both.0, both.1)
+
 pub absent_row : {S : Type 0} (bytes : S → Option (List ℕ)) (faults : S → ℕ) (command : Option Asked) (old new : Opened S) (result : ℕ) (out err : Sunk) →
-    Answered bytes faults command old new result out err → result ≡ 8 → HasNoImage command old × BothWrote out err NoImage
+    CameTo bytes faults command old new result out err → result ≡ 8 → HasNoImage command old × BothWrote out err NoImage
 absent_row {S} bytes faults command old new result out err a e =
     let at = row bytes faults command old new result 8 out err (λ h. omega arith) a e in
     let P : Outcome → Type 0 = λ x. SaysAndWrote bytes faults command old new out err x in
@@ -129,7 +144,7 @@ first_failed bytes faults command old new out (WriteFailed part) e says = says.0
 first_failed bytes faults command old new out _ e says = absurd (omega arith)
 
 pub write_failed_row : {S : Type 0} (bytes : S → Option (List ℕ)) (faults : S → ℕ) (command : Option Asked) (old new : Opened S) (result : ℕ) (out err : Sunk) →
-    Answered bytes faults command old new result out err → result ≡ 4 → HasFailedPut bytes command old out err
+    CameTo bytes faults command old new result out err → result ≡ 4 → HasFailedPut bytes command old out err
 write_failed_row bytes faults command old new result out err (o, says, ends) e = (
   text_of o,
   part_of bytes faults command old new out o says,
@@ -151,6 +166,7 @@ wrong_words_status bytes faults old new out (ReadFailed part) says = absurd says
 wrong_words_status bytes faults old new out (WriteFailed part) says = inr (inl refl)
 wrong_words_status bytes faults old new out (OutOfMemory part) says = inr (inr refl)
 wrong_words_status bytes faults old new out (Refused lead feature block) says = absurd says
+wrong_words_status bytes faults old new out (Answered lead answer) says = absurd says
 wrong_words_status bytes faults old new out NoImage says = absurd says
 
 -- a source that isn't there doesn't fail
@@ -169,6 +185,7 @@ no_image_status bytes faults command old new out (ReadFailed part) has says = ab
 no_image_status bytes faults command old new out (WriteFailed part) has says = inr (inl refl)
 no_image_status bytes faults command old new out (OutOfMemory part) has says = inr (inr refl)
 no_image_status bytes faults command old new out (Refused lead feature block) has says = absurd (says.0 has)
+no_image_status bytes faults command old new out (Answered lead answer) has says = absurd (says.0 has)
 no_image_status bytes faults command old new out NoImage has says = inl refl
 
 -- an image that is given isn't lacking
@@ -181,12 +198,13 @@ given_not_lacking bytes false opened image given lacks = absurd lacks
 text_status : {S : Type 0} (bytes : S → Option (List ℕ)) (faults : S → ℕ) (command : Asked) (old new : Opened S) (out : Sunk) (o : Outcome) (image text : List ℕ) →
     IsGiven bytes (takes_image command) old image → IsText command image text → Says bytes faults (Some command) old new out o → IsWholeOrFree (status_of o)
 text_status bytes faults command old new out (Written whole) image text given defined says = inl refl
-text_status bytes faults command old new out (Faulty lead fault) image text given defined says = absurd ((says.1 image given).none text defined)
+text_status bytes faults command old new out (Faulty lead fault) image text given defined says = absurd ((says.1 image given).none (inl (text, defined)))
 text_status bytes faults command old new out Usage image text given defined says = Prim.cc
 text_status bytes faults command old new out (ReadFailed part) image text given defined says = inr (inl refl)
 text_status bytes faults command old new out (WriteFailed part) image text given defined says = inr (inr (inl refl))
 text_status bytes faults command old new out (OutOfMemory part) image text given defined says = inr (inr (inr refl))
-text_status bytes faults command old new out (Refused lead feature block) image text given defined says = absurd ((says.1 image given).none text defined)
+text_status bytes faults command old new out (Refused lead feature block) image text given defined says = absurd ((says.1 image given).none (inl (text, defined)))
+text_status bytes faults command old new out (Answered lead answer) image text given defined says = absurd ((says.1 image given).none text defined)
 text_status bytes faults command old new out NoImage image text given defined says = absurd (given_not_lacking bytes (takes_image command) old image given says)
 
 -- a status, or 4, or 5
@@ -197,7 +215,7 @@ one_of result status at (inr (inl w)) (inl e) = inr (inl (e ∙ w))
 one_of result status at (inr (inr m)) (inl e) = inr (inr (e ∙ m))
 
 pub wrong_words_row : {S : Type 0} (bytes : S → Option (List ℕ)) (faults : S → ℕ) (command : Option Asked) (old new : Opened S) (result : ℕ) (out err : Sunk) →
-    Answered bytes faults command old new result out err → IsExactly result 2 (command ≡ None)
+    CameTo bytes faults command old new result out err → IsExactly result 2 (command ≡ None)
 wrong_words_row {S} bytes faults command old new result out err a = record {
   only = λ e. (usage_row bytes faults command old new result out err a e).0;
   always = λ none.
@@ -206,13 +224,13 @@ wrong_words_row {S} bytes faults command old new result out err a = record {
 }
 
 no_image_always : {S : Type 0} (bytes : S → Option (List ℕ)) (faults : S → ℕ) (command : Option Asked) (old new : Opened S) (result : ℕ) (out err : Sunk) →
-    Answered bytes faults command old new result out err → HasNoImage command old → (result ≡ 8) ⊎ ((result ≡ 4) ⊎ (result ≡ 5))
+    CameTo bytes faults command old new result out err → HasNoImage command old → (result ≡ 8) ⊎ ((result ≡ 4) ⊎ (result ≡ 5))
 no_image_always bytes faults None old new result out err a has = absurd has
 no_image_always bytes faults (Some command) old new result out err (o, says, ends) has =
     one_of result 8 (status_of o) (no_image_status bytes faults command old new out o has says) (ended_as result o out err ends)
 
 pub no_image_row : {S : Type 0} (bytes : S → Option (List ℕ)) (faults : S → ℕ) (command : Option Asked) (old new : Opened S) (result : ℕ) (out err : Sunk) →
-    Answered bytes faults command old new result out err → IsExactly result 8 (HasNoImage command old)
+    CameTo bytes faults command old new result out err → IsExactly result 8 (HasNoImage command old)
 no_image_row bytes faults command old new result out err a = record {
   only = λ e. (absent_row bytes faults command old new result out err a e).0;
   always = no_image_always bytes faults command old new result out err a;
@@ -224,7 +242,31 @@ whole_or_free result at which (inl e) = let P : ℕ → Type 0 = λ n. IsWholeOr
 whole_or_free result at which (inr failed) = inr (inr (inl failed))
 
 pub whole_row : {S : Type 0} (bytes : S → Option (List ℕ)) (faults : S → ℕ) (command : Option Asked) (old new : Opened S) (result : ℕ) (out err : Sunk) →
-    Answered bytes faults command old new result out err → HasDefinedText bytes command old → IsWholeOrFree result
+    CameTo bytes faults command old new result out err → HasDefinedText bytes command old → IsWholeOrFree result
 whole_row {S} bytes faults command old new result out err (o, says, ends) has =
     let P : Option Asked → Type 0 = λ c. Says bytes faults c old new out o in
     whole_or_free result (status_of o) (text_status bytes faults has.command old new out o has.image has.text has.given has.defined (subst P has.words says)) (ended_as result o out err ends)
+
+-- the outcomes where the command has an answer of the image
+answer_status : {S : Type 0} (bytes : S → Option (List ℕ)) (faults : S → ℕ) (command : Asked) (old new : Opened S) (out : Sunk) (o : Outcome) (image : List ℕ) (answer : Answer) →
+    IsGiven bytes (takes_image command) old image → IsAnswer command image answer → Says bytes faults (Some command) old new out o → IsAnsweredOrFree (status_of o)
+answer_status bytes faults command old new out (Written text) image answer given defined says = absurd (text_or_answer command image text answer (says.1 image given) defined)
+answer_status bytes faults command old new out (Faulty lead fault) image answer given defined says = absurd ((says.1 image given).none (inr (answer, defined)))
+answer_status bytes faults command old new out Usage image answer given defined says = Prim.cc
+answer_status bytes faults command old new out (ReadFailed part) image answer given defined says = inr (inl refl)
+answer_status bytes faults command old new out (WriteFailed part) image answer given defined says = inr (inr (inl refl))
+answer_status bytes faults command old new out (OutOfMemory part) image answer given defined says = inr (inr (inr refl))
+answer_status bytes faults command old new out (Refused lead feature block) image answer given defined says = absurd ((says.1 image given).none (inr (answer, defined)))
+answer_status bytes faults command old new out (Answered lead other) image answer given defined says = inl refl
+answer_status bytes faults command old new out NoImage image answer given defined says = absurd (given_not_lacking bytes (takes_image command) old image given says)
+
+-- the status of an outcome, or 4
+answered_or_free : (result at : ℕ) → IsAnsweredOrFree at → (result ≡ at) ⊎ (result ≡ 4) → IsAnsweredOrFree result
+answered_or_free result at which (inl e) = let P : ℕ → Type 0 = λ n. IsAnsweredOrFree n in subst P (sym e) which
+answered_or_free result at which (inr failed) = inr (inr (inl failed))
+
+pub always_answered_row : {S : Type 0} (bytes : S → Option (List ℕ)) (faults : S → ℕ) (command : Option Asked) (old new : Opened S) (result : ℕ) (out err : Sunk) →
+    CameTo bytes faults command old new result out err → HasDefinedAnswer bytes command old → IsAnsweredOrFree result
+always_answered_row {S} bytes faults command old new result out err (o, says, ends) has =
+    let P : Option Asked → Type 0 = λ c. Says bytes faults c old new out o in
+    answered_or_free result (status_of o) (answer_status bytes faults has.command old new out o has.image has.answer has.given has.defined (subst P has.words says)) (ended_as result o out err ends)

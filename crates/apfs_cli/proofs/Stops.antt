@@ -17,33 +17,33 @@ use Rattle.vol_view.specs.Stops.{IsHeadsStop, IsHeadsFeature, AreRight}
 use Rattle.apfs_cli.specs.Checkpoints.{IsNewest}
 use Rattle.apfs_check.specs.Raised.{of_ring, of_volume}
 use Rattle.apfs_cli.specs.Words.{Ring, Info, Volumes}
-use Rattle.apfs_cli.proofs.Endings.{StopTells}
+use Rattle.apfs_cli.proofs.Endings.{StopTells, no_result}
 
 -- what stops `ring`
 pub ring_stops : (image : List ℕ) (stop : Stop RingFault) →
     Tells (λ why. ring_of image ≡ Err (Found why)) (λ feature block. ring_of image ≡ Err (Unsupported feature block)) stop → Tells (IsRingFault image) (IsNonContiguous image) stop → StopTells Ring image of_ring stop
 ring_stops image (Found why) first there = record {
   lead_is = refl;
-  none = λ text is. let ok : ring_of image ≡ Ok is.0 = is.1 in Prim.cc;
+  none = no_result Ring image (λ text is. let ok : ring_of image ≡ Ok is.0 = is.1 in Prim.cc) (λ answer is. is);
   there_is = (why, first, there, refl);
 }
 ring_stops image (Unsupported feature block) first there = record {
   lead_is = refl;
-  none = λ text is. let ok : ring_of image ≡ Ok is.0 = is.1 in Prim.cc;
+  none = no_result Ring image (λ text is. let ok : ring_of image ≡ Ok is.0 = is.1 in Prim.cc) (λ answer is. is);
   there_is = (first, there);
 }
 ring_stops image ReadFault first there = tt
 ring_stops image NoMemory first there = tt
 
 -- a container has one newest checkpoint
-one_newest : (image : List ℕ) (a b : Seen) → newest_of image ≡ Ok a → newest_of image ≡ Ok b → a ≡ b
+pub one_newest : (image : List ℕ) (a b : Seen) → newest_of image ≡ Ok a → newest_of image ≡ Ok b → a ≡ b
 one_newest image a b first second = Prim.cc
 
 -- there is no newest checkpoint of a plain container where a fault or a feature is named for it
-no_newest_fault : (image : List ℕ) (why : RingFault) (seen : Seen) → IsNewestFault image why → IsNewest image seen → ⊥
+pub no_newest_fault : (image : List ℕ) (why : RingFault) (seen : Seen) → IsNewestFault image why → IsNewest image seen → ⊥
 no_newest_fault image why seen fault is = let ok : newest_of image ≡ Ok seen = is.newest in Prim.cc
 
-no_newest_feature : (image : List ℕ) (feature : Feature) (block : ℕ) (seen : Seen) → IsNewestFeature image feature block → IsNewest image seen → ⊥
+pub no_newest_feature : (image : List ℕ) (feature : Feature) (block : ℕ) (seen : Seen) → IsNewestFeature image feature block → IsNewest image seen → ⊥
 no_newest_feature image feature block seen (inl first) is = let ok : newest_of image ≡ Ok seen = is.newest in Prim.cc
 no_newest_feature image feature block seen (inr has) is =
     let P : Seen → Type 0 = λ s. In feature (container_features s.nx) in
@@ -55,12 +55,12 @@ pub info_stops : (image : List ℕ) (stop : Stop RingFault) →
     Tells (IsNewestFault image) (IsNewestFeature image) stop → Tells (IsRingFault image) (IsRingFeature image) stop → StopTells Info image of_ring stop
 info_stops image (Found why) first there = record {
   lead_is = refl;
-  none = λ text is. no_newest_fault image why is.0 first is.1;
+  none = no_result Info image (λ text is. no_newest_fault image why is.0 first is.1) (λ answer is. is);
   there_is = (why, first, there, refl);
 }
 info_stops image (Unsupported feature block) first there = record {
   lead_is = refl;
-  none = λ text is. no_newest_feature image feature block is.0 first is.1;
+  none = no_result Info image (λ text is. no_newest_feature image feature block is.0 first is.1) (λ answer is. is);
   there_is = (first, there);
 }
 info_stops image ReadFault first there = tt
@@ -71,12 +71,12 @@ pub volumes_stops : (image : List ℕ) (stop : Stop RingFault) →
     Tells (IsNewestFault image) (IsNewestFeature image) stop → Tells (IsRingFault image) (IsRingFeature image) stop → StopTells Volumes image of_ring stop
 volumes_stops image (Found why) first there = record {
   lead_is = refl;
-  none = λ text is. no_newest_fault image why is.0 first is.2;
+  none = no_result Volumes image (λ text is. no_newest_fault image why is.0 first is.2) (λ answer is. is);
   there_is = inl (why, first, there, refl);
 }
 volumes_stops image (Unsupported feature block) first there = record {
   lead_is = refl;
-  none = λ text is. no_newest_feature image feature block is.0 first is.2;
+  none = no_result Volumes image (λ text is. no_newest_feature image feature block is.0 first is.2) (λ answer is. is);
   there_is = inl (first, there);
 }
 volumes_stops image ReadFault first there = tt
@@ -93,12 +93,12 @@ pub heads_stops : (image : List ℕ) (seen : Seen) (stop : Stop VolStop) → IsN
     Tells (IsHeadsStop image seen) (IsHeadsFeature image seen) stop → (AreRight image seen → IsFree stop) → StopTells Volumes image (of_volume seen.line.xid) stop
 heads_stops image seen (Found why) newest there exact = record {
   lead_is = refl;
-  none = λ text is. no_heads image seen is.0 newest is.2 is.3.right exact;
+  none = no_result Volumes image (λ text is. no_heads image seen is.0 newest is.2 is.3.right exact) (λ answer is. is);
   there_is = inr (seen, why, newest, there, refl);
 }
 heads_stops image seen (Unsupported feature block) newest there exact = record {
   lead_is = refl;
-  none = λ text is. no_heads image seen is.0 newest is.2 is.3.right exact;
+  none = no_result Volumes image (λ text is. no_heads image seen is.0 newest is.2 is.3.right exact) (λ answer is. is);
   there_is = inr (seen, newest, there);
 }
 heads_stops image seen ReadFault newest there exact = tt

@@ -2,3 +2,4 @@
 pub mod Ring
 pub mod Info
 pub mod Volumes
+pub mod Snapshots

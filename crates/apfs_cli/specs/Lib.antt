@@ -4,12 +4,14 @@ pub mod Texts
 pub mod Names
 pub mod FaultTexts
 pub mod Checkpoints
+pub mod Meant
 pub mod Commands
 pub mod ByCommand
 pub mod ReportText
 pub mod Outcome
 pub mod Written
 pub mod Seen
+pub mod Reached
 pub mod Says
 pub mod Rows
 pub use Rattle.apfs_model.specs.Counts

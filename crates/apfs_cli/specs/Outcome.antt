@@ -2,8 +2,9 @@
 use Rattle.std.specs.Prelude.{ℕ, [], List}
 use Rattle.obj_base.specs.declared.stop.Feature.{Feature}
 use Rattle.apfs_check.specs.declared.fault.Fault.{Fault}
+use Rattle.path_walk.specs.declared.answer.Answer.{Answer}
 use Rattle.apfs_cli.specs.FaultTexts.{fault_text}
-use Rattle.apfs_cli.specs.Texts.{usage_line, fault_line, read_failed_line, out_of_memory_line, unsupported_line, no_image_line}
+use Rattle.apfs_cli.specs.Texts.{usage_line, fault_line, read_failed_line, out_of_memory_line, unsupported_line, answer_line, no_image_line}
 
 pub data Outcome : Type 0 where
   -- the whole text of the command
@@ -20,6 +21,8 @@ pub data Outcome : Type 0 where
   OutOfMemory : List ℕ → Outcome
   -- a feature that is refused and its block, after what the command writes before it looks
   Refused : List ℕ → Feature → ℕ → Outcome
+  -- an answer in place of a text, after what the command writes before it looks
+  Answered : List ℕ → Answer → Outcome
   -- no image was handed in
   NoImage : Outcome
 
@@ -31,6 +34,7 @@ status_of (ReadFailed part) = 3
 status_of (WriteFailed part) = 4
 status_of (OutOfMemory part) = 5
 status_of (Refused lead feature block) = 6
+status_of (Answered lead answer) = 7
 status_of NoImage = 8
 
 -- what is written on the first sink
@@ -42,6 +46,7 @@ text_of (ReadFailed part) = part
 text_of (WriteFailed part) = part
 text_of (OutOfMemory part) = part
 text_of (Refused lead feature block) = lead
+text_of (Answered lead answer) = lead
 text_of NoImage = []
 
 -- what is written on the second sink
@@ -53,4 +58,5 @@ line_of (ReadFailed part) = read_failed_line
 line_of (WriteFailed part) = []
 line_of (OutOfMemory part) = out_of_memory_line
 line_of (Refused lead feature block) = unsupported_line feature block
+line_of (Answered lead answer) = answer_line answer
 line_of NoImage = no_image_line

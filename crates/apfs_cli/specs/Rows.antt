@@ -4,9 +4,10 @@ use Rattle.apfs_model.specs.Sink.{Wrote}
 use Rattle.blk_source.specs.declared.source.Opened.{Opened}
 use Rattle.obj_base.specs.declared.stop.Feature.{Feature}
 use Rattle.apfs_check.specs.declared.fault.Fault.{Fault}
-use Rattle.apfs_cli.specs.ByCommand.{takes_image, IsText, IsFault, IsFeature}
-use Rattle.apfs_cli.specs.Outcome.{Outcome, text_of, line_of, Written, Faulty, ReadFailed, OutOfMemory, Refused}
-use Rattle.apfs_cli.specs.Says.{IsGiven, OfRun, HasFailed, IsPart, StopsAt}
+use Rattle.path_walk.specs.declared.answer.Answer.{Answer}
+use Rattle.apfs_cli.specs.ByCommand.{takes_image, IsText, IsFault, IsFeature, IsAnswer}
+use Rattle.apfs_cli.specs.Outcome.{Outcome, text_of, line_of, Written, Faulty, ReadFailed, OutOfMemory, Refused, Answered}
+use Rattle.apfs_cli.specs.Says.{IsGiven, OfRun, HasFailed, IsPart, StopsAt, AnswersAt}
 use Rattle.apfs_cli.specs.Words.{Asked}
 use Rattle.apfs_cli.specs.Written.{Sunk, Failed}
 
@@ -27,6 +28,11 @@ NamesFault bytes command image out err =
 abbrev pub NamesFeature : {S : Type 0} → (S → Option (List ℕ)) → Option Asked → Opened S → Sunk → Sunk → Type 0
 NamesFeature bytes command image out err =
     (lead : List ℕ) × (feature : Feature) × (block : ℕ) × OfRun bytes command image (λ c bs. StopsAt c bs lead (IsFeature c bs feature block)) × BothWrote out err (Refused lead feature block)
+
+-- the second sink has the line of an answer more, which is the command's only one, and the first what the command writes before it looks
+abbrev pub NamesAnswer : {S : Type 0} → (S → Option (List ℕ)) → Option Asked → Opened S → Sunk → Sunk → Type 0
+NamesAnswer bytes command image out err =
+    (lead : List ℕ) × (answer : Answer) × OfRun bytes command image (λ c bs. AnswersAt c bs lead answer) × BothWrote out err (Answered lead answer)
 
 -- the source failed; the second sink has the line of that more, the first a part of the text
 abbrev pub SaysReadFailed : {S : Type 0} → (S → Option (List ℕ)) → (S → ℕ) → Option Asked → Opened S → Opened S → Sunk → Sunk → Type 0
@@ -51,6 +57,15 @@ pub record HasDefinedText {S : Type 0} (bytes : S → Option (List ℕ)) (asked 
   pub given : IsGiven bytes (takes_image command) opened image
   pub defined : IsText command image text
 
+-- an answer of the command exists: the words are right, what the command takes was handed in, and its bytes are told
+pub record HasDefinedAnswer {S : Type 0} (bytes : S → Option (List ℕ)) (asked : Option Asked) (opened : Opened S) : Type 0 where
+  pub command : Asked
+  pub image : List ℕ
+  pub answer : Answer
+  pub words : asked ≡ Some command
+  pub given : IsGiven bytes (takes_image command) opened image
+  pub defined : IsAnswer command image answer
+
 -- a status comes exactly where a fact holds, save that writing may fail or memory run out in its place
 pub record IsExactly (result status : ℕ) (P : Type 0) : Type 0 where
   pub only : result ≡ status → P
@@ -59,3 +74,7 @@ pub record IsExactly (result status : ℕ) (P : Type 0) : Type 0 where
 -- nothing but a failed read, a failed put or want of memory comes in place of the whole text
 abbrev pub IsWholeOrFree : ℕ → Type 0
 IsWholeOrFree result = (result ≡ 0) ⊎ ((result ≡ 3) ⊎ ((result ≡ 4) ⊎ (result ≡ 5)))
+
+-- nothing but a failed read, a failed put or want of memory comes in place of an answer
+abbrev pub IsAnsweredOrFree : ℕ → Type 0
+IsAnsweredOrFree result = (result ≡ 7) ⊎ ((result ≡ 3) ⊎ ((result ≡ 4) ⊎ (result ≡ 5)))

@@ -4,11 +4,12 @@ use Rattle.apfs_model.specs.Counts.{Rose}
 use Rattle.apfs_model.specs.Sink.{Wrote}
 use Rattle.blk_source.specs.declared.source.Opened.{Opened}
 use Rattle.blk_source.specs.declared.source.Opened.TheVariants.{Absent, Image}
+use Rattle.path_walk.specs.declared.answer.Answer.{Answer}
 use Rattle.apfs_cli.specs.declared.stopped.Stopped.{Stopped}
 use Rattle.apfs_cli.specs.Words.{Asked}
 use Rattle.apfs_cli.specs.Texts.{IsPrefix}
-use Rattle.apfs_cli.specs.ByCommand.{takes_image, lead_of, IsText, IsFault, IsFeature}
-use Rattle.apfs_cli.specs.Outcome.{Outcome, text_of, Written, Faulty, Usage, ReadFailed, WriteFailed, OutOfMemory, Refused, NoImage}
+use Rattle.apfs_cli.specs.ByCommand.{takes_image, lead_of, IsText, IsFault, IsFeature, IsAnswer, HasResult}
+use Rattle.apfs_cli.specs.Outcome.{Outcome, text_of, Written, Faulty, Usage, ReadFailed, WriteFailed, OutOfMemory, Refused, Answered, NoImage}
 use Rattle.apfs_cli.specs.Seen.{outcome_of}
 use Rattle.apfs_cli.specs.Written.{Sunk, Failed}
 
@@ -53,11 +54,18 @@ BeginsText command image part = IsPrefix part (lead_of command) ⊎ ((text : Lis
 abbrev pub IsPart : {S : Type 0} → (S → Option (List ℕ)) → Option Asked → Opened S → List ℕ → Type 0
 IsPart bytes command opened part = (part ≡ []) ⊎ OfRun bytes command opened (λ c image. BeginsText c image part)
 
--- a command stops at what is there in an image: it has no text of it, and has written its lead
+-- a command stops at what is there in an image: it has neither a text nor an answer of it, and has written its lead
 pub record StopsAt (command : Asked) (image lead : List ℕ) (there : Type 0) : Type 0 where
   pub lead_is : lead ≡ lead_of command
-  pub none : (text : List ℕ) → IsText command image text → ⊥
+  pub none : HasResult command image → ⊥
   pub there_is : there
+
+-- a command answers of an image: it has no text of it and no other answer, and has written its lead
+pub record AnswersAt (command : Asked) (image lead : List ℕ) (answer : Answer) : Type 0 where
+  pub lead_is : lead ≡ lead_of command
+  pub none : (text : List ℕ) → IsText command image text → ⊥
+  pub only : (other : Answer) → IsAnswer command image other → other ≡ answer
+  pub answer_is : IsAnswer command image answer
 
 -- what an outcome says of the words, of what was handed in and of its bytes, and of the first sink
 abbrev pub Says : {S : Type 0} → (S → Option (List ℕ)) → (S → ℕ) → Option Asked → Opened S → Opened S → Sunk → Outcome → Type 0
@@ -68,6 +76,7 @@ Says bytes faults command old new out (ReadFailed part) = HasFailed faults comma
 Says bytes faults command old new out (WriteFailed part) = Failed out × IsPart bytes command old part
 Says bytes faults command old new out (OutOfMemory part) = IsPart bytes command old part
 Says bytes faults command old new out (Refused lead feature block) = OfRun bytes command old (λ c image. StopsAt c image lead (IsFeature c image feature block))
+Says bytes faults command old new out (Answered lead answer) = OfRun bytes command old (λ c image. AnswersAt c image lead answer)
 Says bytes faults command old new out NoImage = HasNoImage command old
 
 -- a run has come to an outcome that words and image allow, and has written its text

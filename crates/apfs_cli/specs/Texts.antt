@@ -3,6 +3,8 @@ use Rattle.std.specs.Prelude.{◌≡◌, ℕ, ◌++◌, List, codes}
 use Rattle.std.specs.Fmt.{decimal}
 use Rattle.obj_base.specs.declared.stop.Feature.{Feature}
 use Rattle.obj_base.specs.Features.{feature_name}
+use Rattle.path_walk.specs.declared.answer.Answer.{Answer}
+use Rattle.path_walk.specs.declared.answer.Answer.TheVariants.{NotFound, NotDirectory, NotFile, Compressed, Dataless, NoAttribute, NoVolume, NoSnapshot}
 
 -- a piece of a text, and what follows it
 infixr 5 ◌▹◌
@@ -32,6 +34,21 @@ out_of_memory_line = codes "apfs: out of memory\n"
 -- a feature that is refused stands in a block
 abbrev pub unsupported_line : Feature → ℕ → List ℕ
 unsupported_line feature block = codes "apfs: unsupported: " ▹ feature_name feature ▹ codes " block " ▹ decimal block ▹ codes "\n"
+
+-- the word of an answer
+abbrev pub answer_name : Answer → List ℕ
+answer_name NotFound = codes "NotFound"
+answer_name NotDirectory = codes "NotDirectory"
+answer_name NotFile = codes "NotFile"
+answer_name Compressed = codes "Compressed"
+answer_name Dataless = codes "Dataless"
+answer_name NoAttribute = codes "NoAttribute"
+answer_name NoVolume = codes "NoVolume"
+answer_name NoSnapshot = codes "NoSnapshot"
+
+-- what is asked for isn't there
+abbrev pub answer_line : Answer → List ℕ
+answer_line answer = codes "apfs: answer: " ▹ answer_name answer ▹ codes "\n"
 
 -- no image was handed in
 abbrev pub no_image_line : List ℕ

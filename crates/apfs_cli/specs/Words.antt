@@ -1,6 +1,7 @@
--- Which words are a line that the program takes, and what they ask for.
-use Rattle.std.specs.Prelude.{ℕ, List, [], ◌∷◌, codes, Option, Some, None, if◌then◌else◌}
-use Rattle.std.specs.Str.{bytes_eq}
+-- Which words are a line of a command that the program has, and what they ask for.
+use Rattle.std.specs.Prelude.{ℕ, List, Option, Some, None, option_and_then}
+use Rattle.cmd_words.specs.Asked as lines
+use Rattle.cmd_words.specs.Lines.{line_of}
 use Rattle.apfs_cli.specs.declared.words.Command.{Command}
 use Rattle.apfs_cli.specs.declared.words.Command.TheVariants as commands
 
@@ -12,22 +13,29 @@ pub data Asked : Type 0 where
   Info : Asked
   -- the volumes
   Volumes : Asked
+  -- the snapshots of the volume in a slot, or of the first volume
+  Snapshots : Option ℕ → Asked
 
--- a command that takes an image and nothing else
-abbrev pub image_command : List ℕ → Option Asked
-image_command word =
-    if bytes_eq word (codes "ring") then Some Ring else
-    if bytes_eq word (codes "info") then Some Info else
-    if bytes_eq word (codes "volumes") then Some Volumes else
-    None
+-- what a line asks for, where the program has its command
+abbrev pub built : lines.Asked → Option Asked
+built lines.Ring = Some Ring
+built lines.Info = Some Info
+built lines.Volumes = Some Volumes
+built lines.Space = None
+built lines.Check = None
+built (lines.Snapshots volume) = Some (Snapshots volume)
+built (lines.Ls target) = None
+built (lines.Tree target) = None
+built (lines.Cat target) = None
+built (lines.Xattr target name) = None
 
--- what a line of words asks for; None where the words are no line of the program
-abbrev pub command_of : List (List ℕ) → Option Asked
-command_of (command ∷ image ∷ []) = image_command command
-command_of words = None
+-- what the words ask for; None where they are no line of a command that the program has
+unfoldable pub command_of : List (List ℕ) → Option Asked
+command_of words = option_and_then built (line_of words)
 
 -- a command without where its words lie
 abbrev pub said : Command → Asked
 said commands.Ring = Ring
 said commands.Info = Info
 said commands.Volumes = Volumes
+said (commands.Snapshots volume) = Snapshots volume

@@ -1,9 +1,9 @@
 -- What a run has written on its two sinks.
-use Rattle.std.specs.Prelude.{◌≡◌, ◌⊎◌, ℕ, ◌≤◌, List, Option, Result, Ok, Err}
+use Rattle.std.specs.Prelude.{◌≡◌, ◌⊎◌, ◌++◌, ℕ, ◌≤◌, List, Option, Result, Ok, Err}
 use Rattle.apfs_model.specs.Counts.{Rose}
 use Rattle.apfs_model.specs.Sink.{Wrote, WrotePart}
 use Rattle.apfs_cli.specs.declared.stopped.Stopped.{Stopped}
-use Rattle.apfs_cli.specs.declared.stopped.Stopped.TheVariants.{Faulty, Usage, ReadFailed, WriteFailed, OutOfMemory, Refused, NoImage}
+use Rattle.apfs_cli.specs.declared.stopped.Stopped.TheVariants.{Faulty, Usage, ReadFailed, WriteFailed, OutOfMemory, Refused, Answered, NoImage}
 use Rattle.apfs_cli.specs.Outcome.{Outcome, status_of, text_of, line_of}
 
 -- a sink before and after the run: its contents where it tells them, and how often it failed
@@ -28,12 +28,18 @@ CutsText ReadFailed sink = ⊥
 CutsText WriteFailed sink = Failed sink
 CutsText OutOfMemory sink = Unit {0}
 CutsText (Refused feature block) sink = ⊥
+CutsText (Answered answer) sink = ⊥
 CutsText NoImage sink = ⊥
 
 -- a text was put on a sink: all of it, or a prefix where something stopped it
 abbrev pub IsPut : List ℕ → Result Unit Stopped → Sunk → Type 0
 IsPut text (Ok done) sink = Wrote sink.old sink.new text × (sink.old_faults ≤ sink.new_faults)
 IsPut text (Err stopped) sink = CutsText stopped sink × WrotePart sink.old sink.new text
+
+-- a text comes after what waits: a part of both was put and the rest waits, or something cut both short
+abbrev pub Passes : List ℕ → List ℕ → List ℕ → Result Unit Stopped → Sunk → Type 0
+Passes waited text waits (Ok done) sink = (part : List ℕ) × (waited ++ text ≡ part ++ waits) × IsPut part (Ok done) sink
+Passes waited text waits (Err stopped) sink = IsPut (waited ++ text) (Err stopped) sink
 
 -- a line was written, and the status is the one that goes with it
 pub record HasLine (result status : ℕ) (line : List ℕ) (err : Sunk) : Type 0 where

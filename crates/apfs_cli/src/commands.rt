@@ -8,6 +8,7 @@ ghost use Rattle.apfs_cli.specs.Written.{sunk};
 
 mod info;
 mod ring;
+mod snapshots;
 mod volumes;
 
 use crate::stopped::Stopped;
@@ -29,5 +30,6 @@ pub fn on_image<S: BlockSource, W: Sink>(
         Command::Ring => ring::write(alloc, src, out),
         Command::Info => info::write(alloc, src, out),
         Command::Volumes => volumes::write(alloc, src, out),
+        Command::Snapshots(volume) => snapshots::write(alloc, volume, src, out),
     }
 }

@@ -6,6 +6,7 @@ mod fault;
 mod fault_places;
 mod fault_text;
 mod fault_words;
+mod meant;
 mod over_cache;
 mod put;
 mod run;
@@ -17,6 +18,7 @@ mod tests;
 mod words;
 
 use blk_source::{FileSource, Opened, StdSink};
+use std::alloc::{AllocError, Global};
 use std::io::{self, ErrorKind};
 use std::process::ExitCode;
 use std::{env, fs};
@@ -41,22 +43,16 @@ fn read_words(rt: &HostRuntime) -> io::Result<Vec<String>> {
 }
 
 // Whether the words ask for a command that takes no image.
-fn wants_none(words: &[String]) -> bool {
-    match asked(words) {
-        Some(command) => !command.takes_image(),
-        None => false,
+fn wants_none(alloc: Global, words: &[String]) -> Result<bool, AllocError> {
+    match asked(alloc, words)? {
+        Some(command) => Ok(!command.takes_image()),
+        None => Ok(false),
     }
 }
 
-// The image that the second word names, unless the command takes none.
-fn open(rt: &HostRuntime, words: &[String]) -> Opened<FileSource> {
-    if wants_none(words) {
-        return Opened::Absent;
-    }
-    let Some(path) = words.get(1) else {
-        return Opened::Absent;
-    };
-    let Ok(file) = fs::open(rt, path.as_str()) else {
+// The image that a word names.
+fn open(rt: &HostRuntime, path: &str) -> Opened<FileSource> {
+    let Ok(file) = fs::open(rt, path) else {
         return Opened::Absent;
     };
     match FileSource::new(file) {
@@ -65,11 +61,24 @@ fn open(rt: &HostRuntime, words: &[String]) -> Opened<FileSource> {
     }
 }
 
+// The image that the second word names, unless the command takes none.
+fn image_of(rt: &HostRuntime, words: &[String]) -> Result<Opened<FileSource>, AllocError> {
+    if wants_none(rt.alloc(), words)? {
+        return Ok(Opened::Absent);
+    }
+    match words.get(1) {
+        Some(path) => Ok(open(rt, path.as_str())),
+        None => Ok(Opened::Absent),
+    }
+}
+
 fn main(rt: HostRuntime) -> ExitCode {
     let Ok(words) = read_words(&rt) else {
         return ExitCode::from(OUT_OF_MEMORY);
     };
-    let mut image = open(&rt, &words);
+    let Ok(mut image) = image_of(&rt, &words) else {
+        return ExitCode::from(OUT_OF_MEMORY);
+    };
     let mut out = StdSink::new(rt.stdout());
     let mut err = StdSink::new(rt.stderr());
     ExitCode::from(run::run(rt.alloc(), &words, &mut image, &mut out, &mut err))

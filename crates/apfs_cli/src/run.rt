@@ -2,7 +2,7 @@
 ghost use Rattle.std.specs.Prelude.{◌≡◌, map, None, Some};
 ghost use Rattle.std.specs.String.{string_bytes};
 ghost use Rattle.apfs_cli.specs.Outcome as outcomes;
-ghost use Rattle.apfs_cli.specs.Rows.{BothWrote, HasText, NamesFault, NamesFeature, SaysReadFailed, SaysOutOfMemory, HasFailedPut, HasDefinedText, IsExactly, IsWholeOrFree};
+ghost use Rattle.apfs_cli.specs.Rows.{BothWrote, HasText, NamesFault, NamesFeature, NamesAnswer, SaysReadFailed, SaysOutOfMemory, HasFailedPut, HasDefinedText, HasDefinedAnswer, IsExactly, IsWholeOrFree, IsAnsweredOrFree};
 ghost use Rattle.apfs_cli.specs.Says.{Says, HasEnded, HasNoImage, IsOpenedKept};
 ghost use Rattle.apfs_cli.specs.Words.{command_of, said};
 ghost use Rattle.apfs_cli.specs.Written.{sunk, Ends};
@@ -45,7 +45,7 @@ fn decide<S: BlockSource, W: Sink>(
     ensures answer { HasEnded S.bytes S.faults (command_of (map string_bytes words.now)) image.old image.new result (sunk W.contents W.faults out.old out.new) }
     ensures kept { IsOpenedKept S.bytes S.bytes_len image.old image.new }
 {
-    match asked(words) {
+    match asked(alloc, words)? {
         Some(command) => on_opened(alloc, command, image, out),
         None => Err(Stopped::Usage),
     }
@@ -95,6 +95,8 @@ pub fn run<S: BlockSource, W: Sink, E: Sink>(
     ensures write_failed { result ≡ 4 → HasFailedPut S.bytes (command_of (map string_bytes words.now)) image.old (sunk W.contents W.faults out.old out.new) (sunk E.contents E.faults err.old err.new) }
     ensures out_of_memory { result ≡ 5 → SaysOutOfMemory S.bytes (command_of (map string_bytes words.now)) image.old (sunk W.contents W.faults out.old out.new) (sunk E.contents E.faults err.old err.new) }
     ensures feature { result ≡ 6 → NamesFeature S.bytes (command_of (map string_bytes words.now)) image.old (sunk W.contents W.faults out.old out.new) (sunk E.contents E.faults err.old err.new) }
+    ensures answered { result ≡ 7 → NamesAnswer S.bytes (command_of (map string_bytes words.now)) image.old (sunk W.contents W.faults out.old out.new) (sunk E.contents E.faults err.old err.new) }
+    ensures always_answered { HasDefinedAnswer S.bytes (command_of (map string_bytes words.now)) image.old → IsAnsweredOrFree result }
     ensures no_image { IsExactly result 8 (HasNoImage (command_of (map string_bytes words.now)) image.old) }
     ensures absent { result ≡ 8 → BothWrote (sunk W.contents W.faults out.old out.new) (sunk E.contents E.faults err.old err.new) outcomes.NoImage }
 {

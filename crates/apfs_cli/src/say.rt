@@ -12,6 +12,7 @@ use crate::stopped::Stopped;
 use apfs_check::Fault;
 use blk_source::Sink;
 use obj_base::Feature;
+use path_walk::Answer;
 use std::alloc::{AllocError, Global};
 
 // The status of a run whose writing failed.
@@ -38,6 +39,21 @@ fn unsupported_line(alloc: Global, feature: Feature, block: u64) -> Result<Vec<u
     let name = feature.name();
     let line = format!(in alloc; "apfs: unsupported: {name} block {block}\n")?;
     Ok(line.into_bytes())
+}
+
+fn answer_line(answer: Answer) -> &'static [u8]
+    ensures { result.now ≡ lines.answer_line answer }
+{
+    match answer {
+        Answer::NotFound => b"apfs: answer: NotFound\n",
+        Answer::NotDirectory => b"apfs: answer: NotDirectory\n",
+        Answer::NotFile => b"apfs: answer: NotFile\n",
+        Answer::Compressed => b"apfs: answer: Compressed\n",
+        Answer::Dataless => b"apfs: answer: Dataless\n",
+        Answer::NoAttribute => b"apfs: answer: NoAttribute\n",
+        Answer::NoVolume => b"apfs: answer: NoVolume\n",
+        Answer::NoSnapshot => b"apfs: answer: NoSnapshot\n",
+    }
 }
 
 // Puts a line and gives its status, or that of a failed put.
@@ -76,6 +92,7 @@ pub fn say<E: Sink>(alloc: Global, stopped: Stopped, err: &mut E) -> u8
         Stopped::Refused { feature, block } => {
             put_built(6, unsupported_line(alloc, feature, block), err)
         }
+        Stopped::Answered(answer) => put_line(7, answer_line(answer), err),
         Stopped::NoImage => put_line(8, b"apfs: no image\n", err),
     }
 }

@@ -6,6 +6,7 @@ ghost use Rattle.apfs_cli.specs.declared.stopped.Stopped.TheVariants as stops;
 use crate::fault::Raise;
 use apfs_check::Fault;
 use obj_base::{Feature, Stop};
+use path_walk::Answer;
 use std::alloc::AllocError;
 
 /// Why a run stops before its text is whole.
@@ -23,6 +24,8 @@ pub enum Stopped {
     OutOfMemory,
     /// A feature that is refused, and its block. Status 6.
     Refused { feature: Feature, block: u64 },
+    /// What is asked for isn't there. Status 7.
+    Answered(Answer),
     /// No image was handed in. Status 8.
     NoImage,
 }

@@ -1,12 +1,15 @@
 // The cases of the program, in one table, over images and sinks in memory. Their lines were worked out by hand.
+ghost use Rattle.std.specs.Prelude.{replicate};
+
 mod cases;
 mod images;
 
+use crate::put::{Line, put_lines};
 use crate::run::run;
 use blk_source::{MemSink, Opened, StdSink};
 use cases::*;
 use images::{Image, handed};
-use std::alloc::Global;
+use std::alloc::{AllocError, Global};
 use std::cell::Cell;
 use std::io::{self, Write};
 use std::test::Fail;
@@ -67,6 +70,7 @@ fn failure_of_each_read(rt: HostRuntime) -> Result<(), Fail> {
         (Image::Ring, RING, 9),
         (Image::Empty, INFO, 14),
         (Image::Small, VOLUMES, 17),
+        (Image::Views, SNAPSHOTS, 20),
     ] {
         let whole = end(rt.alloc(), image, words, [&[], &[], &[]])?;
         assert!(rt;
@@ -83,26 +87,36 @@ fn failure_of_each_read(rt: HostRuntime) -> Result<(), Fail> {
     Ok(())
 }
 
-// Whether a put of the first sink fails at these lines, so that it has those before it and the second sink has nothing.
-fn stops_after(ended: &Ended, lines: &str) -> bool {
-    ended_with(ended, 4, lines, "")
+// A line of so many bytes, all of them the same.
+#[derive(Drop)]
+struct Long {
+    byte: u8,
+    length: usize,
+}
+
+impl Line for Long {
+    ghost text = { λ long. replicate long.length long.byte };
+
+    fn line(&self, alloc: Global) -> Result<Vec<u8>, AllocError> {
+        vec![in alloc; self.byte; self.length]
+    }
 }
 
 #[test]
 fn failure_of_a_later_put(rt: HostRuntime) -> Result<(), Fail> {
-    let ended = end(rt.alloc(), Image::Ring, RING, [&[], &[1], &[]])?;
-    assert!(rt; stops_after(&ended, ""));
-    let ended = end(rt.alloc(), Image::Ring, RING, [&[], &[2], &[]])?;
-    assert!(rt; stops_after(&ended, "1 block 2 xid 9 from 0 length 2\n"));
-    let ended = end(rt.alloc(), Image::Ring, RING, [&[], &[3], &[]])?;
-    assert!(rt;
-        stops_after(
-            &ended,
-            "1 block 2 xid 9 from 0 length 2\n5 block 6 xid 7 from 4 length 2\n"
-        )
-    );
-    let ended = end(rt.alloc(), Image::Ring, RING, [&[], &[4], &[]])?;
-    assert!(rt; ended_with(&ended, 0, RING_LINES, ""));
+    let alloc = rt.alloc();
+    let items = [b'a', b'b', b'c'].map(|byte| Long {
+        byte,
+        length: 40_000,
+    });
+    for (refused, is_whole, written) in [(1, false, 0), (2, false, 80_000), (3, true, 120_000)] {
+        let mut out = MemSink::new(alloc, 3 * 40_000, [refused].to_vec(alloc)?)?;
+        let ended = put_lines(alloc, &items, &mut out);
+        let contents = out.contents();
+        assert_eq!(rt; (ended.is_ok(), contents.len()), (is_whole, written));
+        let before = contents.iter().filter(|byte| **byte == b'a').count();
+        assert_eq!(rt; before, written.min(40_000));
+    }
     Ok(())
 }
 

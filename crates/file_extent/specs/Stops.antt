@@ -1,25 +1,19 @@
 -- What is there where a stream can't be opened, and what holds where it can.
-use Rattle.std.specs.Prelude.{◌≡◌, ℕ, Bool, true, false, List, Err}
-use Rattle.std.specs.List.{list_all}
+use Rattle.std.specs.Prelude.{◌≡◌, ℕ, true, false, List, Err}
 use Rattle.apfs_model.specs.Lists.{In}
 use Rattle.obj_base.specs.declared.stop.Feature.{Feature}
 use Rattle.bt_node.specs.Entries.{Pair}
 use Rattle.obj_base.specs.declared.site.Site.{Site}
 use Rattle.bt_keys.specs.RecordKey.{id_of, record_kind_of, file_extent_record}
-use Rattle.fs_record.specs.StreamExtents.{are_extents_ordered, is_extent_placed}
+use Rattle.fs_record.specs.StreamExtents.{are_extents_ordered}
 use Rattle.fs_record.specs.Facts.{read_extent}
 use Rattle.fs_record.specs.declared.fault.RecFault.{RecFault}
-use Rattle.fs_record.specs.declared.extents.FileExt.{FileExt}
 use Rattle.vol_view.specs.Volumes.{Loaded}
-use Rattle.vol_view.specs.Views.{view_flat, IsViewFault, IsViewFeature}
+use Rattle.vol_view.specs.Views.{view_flat, is_view_whole, IsViewFault, IsViewFeature}
 use Rattle.vol_view.specs.declared.volume.View.{View}
-use Rattle.file_extent.specs.Streams.{Opened, extents_for, opened_of}
+use Rattle.file_extent.specs.Streams.{Opened, extents_for, opened_of, are_extents_placed}
 use Rattle.file_extent.specs.declared.stop.StreamStop.{StreamStop}
 use Rattle.file_extent.specs.declared.stop.StreamStop.TheVariants.{Walk, Extent, Order, Outside}
-
--- the extents of a stream lie in the container, but for holes
-unfoldable pub are_extents_placed : Site → List FileExt → Bool
-are_extents_placed site es = list_all (is_extent_placed site.block_size site.blocks) es
 
 -- a record of an extent of a stream is refused, for this reason
 pub record HasRefused (pairs : List Pair) (id : ℕ) (why : RecFault) : Type 0 where
@@ -45,3 +39,10 @@ pub record IsOpened (image : List ℕ) (site : Site) (volume : Loaded) (view : V
   pub same : stream ≡ opened_of site (view_flat image site volume view) id size
   pub ordered : are_extents_ordered site.block_size stream.extents ≡ true
   pub placed : are_extents_placed site stream.extents ≡ true
+
+-- nothing that could be named of a stream is there: the view's tree is whole, the records of the stream's extents can be read, and the extents are ordered and lie in the container
+pub record IsStreamSound (image : List ℕ) (site : Site) (volume : Loaded) (view : View) (id : ℕ) : Type 0 where
+  pub whole : is_view_whole image site volume view ≡ true
+  pub readable : (why : RecFault) → HasRefused (view_flat image site volume view) id why → ⊥
+  pub ordered : are_extents_ordered site.block_size (extents_for id (view_flat image site volume view)) ≡ true
+  pub placed : are_extents_placed site (extents_for id (view_flat image site volume view)) ≡ true

@@ -1,10 +1,10 @@
 -- The bytes of a stream (Data Streams).
-use Rattle.std.specs.Prelude.{ℕ, ◌+◌, ◌-◌, ◌/◌, ◌%◌, List, map, min, slice_index, Option, None, Some, if◌then◌else◌}
-use Rattle.std.specs.List.{range_with_len, find}
+use Rattle.std.specs.Prelude.{ℕ, Bool, ◌+◌, ◌-◌, ◌/◌, ◌%◌, List, map, min, slice_index, Option, None, Some, if◌then◌else◌}
+use Rattle.std.specs.List.{range_with_len, find, list_all}
 use Rattle.apfs_model.specs.Blocks.{block_of}
 use Rattle.bt_node.specs.Entries.{Pair}
 use Rattle.obj_base.specs.declared.site.Site.{Site}
-use Rattle.fs_record.specs.StreamExtents.{covers, is_hole}
+use Rattle.fs_record.specs.StreamExtents.{covers, is_hole, is_extent_placed}
 use Rattle.fs_record.specs.Facts.{extents_of, all_for}
 use Rattle.fs_record.specs.declared.extents.FileExt.{FileExt}
 
@@ -40,6 +40,10 @@ stream_bytes block_size image es size = bytes_from block_size image es 0 size
 -- how many bytes a read of n bytes from a place on gives: the fewer of n and what is left of the size
 abbrev pub read_len : ℕ → ℕ → ℕ → ℕ
 read_len size offset n = min n (size - offset)
+
+-- the extents of a stream lie in the container, but for holes
+unfoldable pub are_extents_placed : Site → List FileExt → Bool
+are_extents_placed site es = list_all (is_extent_placed site.block_size site.blocks) es
 
 -- what is known of a stream once it is opened
 pub record Opened : Type 0 where

@@ -9,12 +9,10 @@ use Rattle.fs_name.specs.Normal.{names_of}
 use Rattle.fs_name.specs.Shown.{shown_name}
 use Rattle.nx_ring.specs.Checkpoint.{Seen}
 use Rattle.vol_view.specs.declared.head.VolHead.{VolHead}
-use Rattle.vol_view.specs.declared.stop.VolStop.{VolStop}
-use Rattle.vol_view.specs.Stops.{IsHeadsStop, IsHeadsFeature, AreHeads}
+use Rattle.vol_view.specs.Stops.{AreHeads}
 use Rattle.apfs_check.specs.declared.fault.Fault.{Fault}
-use Rattle.apfs_cli.specs.Checkpoints.{IsNewest, IsCheckpointFault, IsCheckpointFeature}
+use Rattle.apfs_cli.specs.Checkpoints.{IsNewest, IsCheckpointFault, IsCheckpointFeature, IsVolumesFault, IsVolumesFeature}
 use Rattle.apfs_cli.specs.Names.{uuid_text}
-use Rattle.apfs_check.specs.Raised.{of_volume}
 use Rattle.apfs_cli.specs.Texts.{◌▹◌}
 
 -- how a volume compares names
@@ -41,14 +39,10 @@ volumes_text heads = flat_map volume_text heads
 abbrev pub IsText : List ℕ → List ℕ → Type 0
 IsText image text = (seen : Seen) × (heads : List VolHead) × IsNewest image seen × AreHeads image seen heads × (text ≡ volumes_text heads)
 
--- a fault of the volumes of the newest checkpoint
-abbrev pub IsVolumesFault : List ℕ → Fault → Type 0
-IsVolumesFault image fault = (seen : Seen) × (why : VolStop) × IsNewest image seen × IsHeadsStop image seen why × (fault ≡ of_volume seen.line.xid why)
-
 -- the fault that is named
 abbrev pub IsFault : List ℕ → Fault → Type 0
 IsFault image fault = IsCheckpointFault image fault ⊎ IsVolumesFault image fault
 
 -- the feature that is refused
 abbrev pub IsFeature : List ℕ → Feature → ℕ → Type 0
-IsFeature image feature block = IsCheckpointFeature image feature block ⊎ ((seen : Seen) × IsNewest image seen × IsHeadsFeature image seen feature block)
+IsFeature image feature block = IsCheckpointFeature image feature block ⊎ IsVolumesFeature image feature block

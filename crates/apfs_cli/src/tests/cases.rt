@@ -31,6 +31,12 @@ pub const INFO: &[&str] = &["info", "x"];
 
 pub const VOLUMES: &[&str] = &["volumes", "x"];
 
+pub const SNAPSHOTS: &[&str] = &["snapshots", "x"];
+
+pub const VIEWS_LINES: &str = "2 0 s2\n4 0 s4\n";
+
+pub const NO_VOLUME: &str = "apfs: answer: NoVolume\n";
+
 pub const SMALL_LINE: &str = "0 ffeeddcc-bbaa-9988-7766-554433221100 0 folded 0 Small\n";
 
 pub const RENAMED_LINE: &str = "0 ffeeddcc-bbaa-9988-7766-554433221100 0 folded 0 a\\x0ab\\x2f\n";
@@ -340,5 +346,118 @@ pub const CASES: &[Case] = &[
         1,
         "",
         "apfs: fault: Unsound block 26 Ghost\n",
+    ),
+    (
+        "words_snapshots_twice",
+        Image::Views,
+        &["snapshots", "x", "--volume", "0", "--volume=0"],
+        2,
+        "",
+        USAGE,
+    ),
+    (
+        "answer_no_image_snapshots",
+        Image::Absent,
+        SNAPSHOTS,
+        8,
+        "",
+        NO_IMAGE,
+    ),
+    (
+        "clean_snapshots",
+        Image::Views,
+        SNAPSHOTS,
+        0,
+        VIEWS_LINES,
+        "",
+    ),
+    ("clean_snapshots_none", Image::Small, SNAPSHOTS, 0, "", ""),
+    (
+        "clean_snapshots_volume",
+        Image::Views,
+        &["snapshots", "x", "--volume=0"],
+        0,
+        VIEWS_LINES,
+        "",
+    ),
+    (
+        "clean_snapshots_later_slot",
+        Image::ViewsLater,
+        SNAPSHOTS,
+        0,
+        VIEWS_LINES,
+        "",
+    ),
+    (
+        "answer_no_volume",
+        Image::Hello,
+        &["snapshots", "x", "--volume", "7"],
+        7,
+        "",
+        NO_VOLUME,
+    ),
+    (
+        "answer_no_volume_below",
+        Image::ViewsLater,
+        &["snapshots", "x", "--volume=0"],
+        7,
+        "",
+        NO_VOLUME,
+    ),
+    (
+        "answer_no_volume_at_all",
+        Image::Empty,
+        SNAPSHOTS,
+        7,
+        "",
+        NO_VOLUME,
+    ),
+    (
+        "fault_truncated_snapshots",
+        Image::SmallCutSplit,
+        SNAPSHOTS,
+        1,
+        "",
+        "apfs: fault: Truncated have 255 need 256\n",
+    ),
+    (
+        "fault_snap_count",
+        Image::ViewsChanged(VOLUME, volume::SNAPSHOTS, &[3]),
+        SNAPSHOTS,
+        1,
+        "",
+        "apfs: fault: Volume 0 SnapCount\n",
+    ),
+    (
+        "feature_snapshot_state",
+        Image::ViewsChanged(SNAPS_TREE, FIRST_FLAGS, &[2]),
+        SNAPSHOTS,
+        6,
+        "",
+        "apfs: unsupported: SnapshotState block 60\n",
+    ),
+    (
+        "feature_dataless",
+        Image::ViewsChanged(SNAPS_TREE, SECOND_FLAGS, &[1]),
+        SNAPSHOTS,
+        6,
+        "",
+        "apfs: unsupported: Dataless block 62\n",
+    ),
+    (
+        "feature_encrypted_volume",
+        Image::SmallChanged(VOLUME, volume::FS_FLAGS, &[0]),
+        SNAPSHOTS,
+        6,
+        "",
+        "apfs: unsupported: Encrypted block 51\n",
+    ),
+    (
+        "feature_later_tree",
+        Image::SmallChanged(VOLUME, volume::RESERVED, &[7]),
+        SNAPSHOTS,
+        6,
+        "",
+        "apfs: unsupported: LaterTree block 51\n",
     ),
 ];

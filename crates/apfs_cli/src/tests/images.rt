@@ -1,7 +1,8 @@
 // The images that the cases are run on, each one fact away from a good one.
-use apfs_layout::container::{BLOCKED, DESC_BLOCKS, INCOMPAT};
+use apfs_layout::container::{BLOCKED, DESC_BLOCKS, FS_OID, INCOMPAT};
 use apfs_layout::node::{INFO_LEN, KEY_COUNT, TABLE};
 use apfs_layout::object::SUM;
+use apfs_layout::value::{SNAPSHOT_FLAGS, SNAPSHOT_NAME};
 use blk_source::{MemSource, Opened};
 use img_make::{Plan, Sample, edit, make, ring_of_four, sample, skipped_checkpoint, write};
 use std::alloc::Global;
@@ -19,11 +20,19 @@ pub const MAP_TREE: usize = 26;
 
 pub const VOLUME: usize = 51;
 
+// The only node of the snapshot metadata tree of the small container's volume.
+pub const SNAPS_TREE: usize = 56;
+
 // Where the number of keys of a root stands in its block.
 pub const ROOT_KEY_COUNT: usize = BLOCK - INFO_LEN + KEY_COUNT;
 
 // Where the value of the only entry of a root of level 0 starts, when it has 16 bytes.
 pub const ONLY_VALUE: usize = BLOCK - INFO_LEN - 16;
+
+// Where the flags of the first two of the records of a lone root stand, which are of snapshots with names of two bytes.
+pub const FIRST_FLAGS: usize = BLOCK - INFO_LEN - (SNAPSHOT_NAME + 3) + SNAPSHOT_FLAGS;
+
+pub const SECOND_FLAGS: usize = BLOCK - INFO_LEN - 2 * (SNAPSHOT_NAME + 3) + SNAPSHOT_FLAGS;
 
 // What a case is run on.
 #[derive(Clone, Copy, PartialEq, Eq, Debug)]
@@ -59,6 +68,14 @@ pub enum Image {
     SmallChanged(usize, usize, &'static [u8]),
     /// A container with two such volumes, the keys of whose records are exchanged.
     TwoExchanged,
+    /// A container whose volume has a file and two snapshots.
+    Views,
+    /// Its superblock names the volume in slot 3.
+    ViewsLater,
+    /// The block of this number has other bytes from a place on, and a right sum.
+    ViewsChanged(usize, usize, &'static [u8]),
+    /// A container whose volume has one file with five bytes.
+    Hello,
 }
 
 fn made(alloc: Global, plan: &Plan) -> Result<Vec<u8>, Fail> {
@@ -109,6 +126,10 @@ fn bytes(alloc: Global, image: Image) -> Result<Vec<u8>, Fail> {
         | Image::EmptyResizing
         | Image::EmptySkipped => empty(alloc),
         Image::TwoExchanged => two(alloc),
+        Image::Views | Image::ViewsLater | Image::ViewsChanged(..) => {
+            made(alloc, &sample(alloc, Sample::V)?)
+        }
+        Image::Hello => made(alloc, &sample(alloc, Sample::H)?),
         _ => made(alloc, &sample(alloc, Sample::S)?),
     }
 }
@@ -124,11 +145,17 @@ fn change(image: Image, bytes: &mut [u8]) -> bool {
         }
         Image::EmptyResizing => edit(bytes, BLOCK, SUPERBLOCK, BLOCKED + 8, &[1]),
         Image::EmptySkipped => skipped_checkpoint(bytes),
-        Image::SmallChanged(block, at, other) => edit(bytes, BLOCK, block, at, other),
+        Image::SmallChanged(block, at, other) | Image::ViewsChanged(block, at, other) => {
+            edit(bytes, BLOCK, block, at, other)
+        }
+        Image::ViewsLater => {
+            edit(bytes, BLOCK, SUPERBLOCK, FS_OID, &[0, 0])
+                && edit(bytes, BLOCK, SUPERBLOCK, FS_OID + 3 * 8, &[2, 4])
+        }
         Image::SmallSplit | Image::SmallCutSplit => split(bytes),
         Image::SmallUnsummed => write(bytes, BLOCK, VOLUME, SUM, &[0, 0]),
         Image::TwoExchanged => exchange_keys(bytes, MAP_TREE),
-        Image::Absent | Image::Empty | Image::Small => true,
+        Image::Absent | Image::Empty | Image::Small | Image::Views | Image::Hello => true,
     }
 }
 

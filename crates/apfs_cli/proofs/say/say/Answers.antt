@@ -19,3 +19,6 @@ returns-in-Refused g c part =
 
 pub returns-in-NoImage : goal.returns-in-NoImage
 returns-in-NoImage g c part = rw c.in-NoImage.is (inl c.put_line-in-NoImage.ensures)
+
+pub returns-in-Answered : goal.returns-in-Answered
+returns-in-Answered g c part = rw (c.in-Answered.is, ← c.answer_line.ensures) (inl c.put_line-in-Answered.ensures)

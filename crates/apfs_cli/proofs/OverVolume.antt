@@ -1,0 +1,92 @@
+-- What a run of a command on the volume that is meant has come to, where it doesn't get to that volume.
+use Rattle.std.specs.Prelude.{◌≡◌, ◌⊎◌, ℕ, List, [], Option, Some, Err, refl}
+use Rattle.std.proofs.Common.{inl, inr, sym, ◌∙◌, subst}
+use Rattle.obj_base.specs.declared.stop.Feature.{Feature}
+use Rattle.apfs_check.specs.declared.fault.Fault.{Fault}
+use Rattle.blk_source.specs.declared.source.Opened.{Opened}
+use Rattle.path_walk.specs.declared.answer.Answer.{Answer}
+use Rattle.path_walk.specs.declared.answer.Answer.TheVariants.{NoVolume}
+use Rattle.apfs_cli.specs.declared.stopped.Stopped.{Stopped}
+use Rattle.apfs_cli.specs.declared.stopped.Stopped.TheVariants as stops
+use Rattle.apfs_cli.specs.ByCommand.{takes_image, lead_of, IsText, IsFault, IsFeature, IsAnswer, HasResult}
+use Rattle.apfs_cli.specs.Meant.{HasVolume, HasNoVolume, IsMeantFault, IsMeantFeature}
+use Rattle.apfs_cli.specs.Reached.{IsClear, TellsWay, IsWhileLooking}
+use Rattle.apfs_cli.specs.Says.{LacksImage, IsGiven, SourceFailed, AnswersAt, HasEnded}
+use Rattle.apfs_cli.specs.Words.{Asked, Snapshots}
+use Rattle.apfs_cli.proofs.Puts.{wrote_nothing}
+use Rattle.apfs_cli.proofs.Ways.{volume_or_none}
+
+-- a command is one on the volume that is meant
+pub record IsOverVolume (command : Asked) (named : Option ℕ) : Type 0 where
+  pub lead_is : [] ≡ lead_of command
+  pub text : (image text : List ℕ) → IsText command image text → HasVolume image named
+  pub answer : (image : List ℕ) (answer : Answer) → IsAnswer command image answer → ((answer ≡ NoVolume) × HasNoVolume image named) ⊎ HasVolume image named
+  pub none : (image : List ℕ) → HasNoVolume image named → IsAnswer command image NoVolume
+  pub fault : (image : List ℕ) (fault : Fault) → IsMeantFault image named fault → IsFault command image fault
+  pub feature : (image : List ℕ) (feature : Feature) (block : ℕ) → IsMeantFeature image named feature block → IsFeature command image feature block
+
+-- it has nothing of an image where something stands in the way
+result_clear : (command : Asked) (named : Option ℕ) (image : List ℕ) → IsOverVolume command named → HasResult command image → IsClear image named
+result_clear command named image is (inl has) = inl (is.text image has.0 has.1)
+result_clear command named image is (inr has) = elim (is.answer image has.0 has.1) [ inl lacks ↦ inr lacks.1 | inr volume ↦ inl volume ]
+
+-- where the slot that is meant holds none, that is the only answer
+no_volume_answers : (command : Asked) (named : Option ℕ) (image : List ℕ) (answer : Answer) → IsOverVolume command named → answer ≡ NoVolume → HasNoVolume image named → AnswersAt command image [] answer
+no_volume_answers command named image answer is same lacks = record {
+  lead_is = is.lead_is;
+  none = λ text has. volume_or_none image named (is.text image text has) lacks;
+  only = λ other has. elim (is.answer image other has) [ inl which ↦ which.0 ∙ sym same | inr volume ↦ absurd (volume_or_none image named volume lacks) ];
+  answer_is = let P : Answer → Type 0 = λ a. IsAnswer command image a in subst P (sym same) (is.none image lacks);
+}
+
+-- a command on the volume that is meant stopped on its way to it, and nothing was written
+pub way_ended : {S : Type 0} (bytes : S → Option (List ℕ)) (faults : S → ℕ) (command : Asked) (named : Option ℕ) (old new : Opened S) (stopped : Stopped)
+    (contents : Option (List ℕ)) (count : ℕ) → IsOverVolume command named → (LacksImage (takes_image command) old → ⊥) →
+    ((image : List ℕ) → IsGiven bytes (takes_image command) old image → TellsWay image named stopped) → IsWhileLooking stopped →
+    (stopped ≡ stops.ReadFailed → SourceFailed faults old new) →
+    HasEnded bytes faults (Some command) old new (Err stopped) (record { old = contents; new = contents; old_faults = count; new_faults = count })
+way_ended bytes faults command named old new (stops.Faulty fault) contents count is has tells looking cause = (
+  [],
+  (
+    has,
+    λ image given. record {
+      lead_is = is.lead_is;
+      none = λ result. (tells image given).0 (result_clear command named image is result);
+      there_is = is.fault image fault (tells image given).1;
+    },
+  ),
+  wrote_nothing contents,
+)
+way_ended bytes faults command named old new (stops.Refused feature block) contents count is has tells looking cause = (
+  [],
+  (
+    has,
+    λ image given. record {
+      lead_is = is.lead_is;
+      none = λ result. (tells image given).0 (result_clear command named image is result);
+      there_is = is.feature image feature block (tells image given).1;
+    },
+  ),
+  wrote_nothing contents,
+)
+way_ended bytes faults command named old new (stops.Answered answer) contents count is has tells looking cause = (
+  [],
+  (has, λ image given. no_volume_answers command named image answer is (tells image given).0 (tells image given).1),
+  wrote_nothing contents,
+)
+way_ended bytes faults command named old new stops.ReadFailed contents count is has tells looking cause = ([], (cause refl, inl refl), wrote_nothing contents)
+way_ended bytes faults command named old new stops.OutOfMemory contents count is has tells looking cause = ([], inl refl, wrote_nothing contents)
+way_ended bytes faults command named old new stops.Usage contents count is has tells looking cause = absurd looking
+way_ended bytes faults command named old new stops.WriteFailed contents count is has tells looking cause = absurd looking
+way_ended bytes faults command named old new stops.NoImage contents count is has tells looking cause = absurd looking
+
+-- `snapshots` is one
+pub snapshots_over : (named : Option ℕ) → IsOverVolume (Snapshots named) named
+snapshots_over named = record {
+  lead_is = refl;
+  text = λ image text is. record { seen = is.0; head = is.1; volume = is.2; is = is.3 };
+  answer = λ image answer is. inl is;
+  none = λ image lacks. (refl, lacks);
+  fault = λ image fault there. there;
+  feature = λ image feature block there. there;
+}

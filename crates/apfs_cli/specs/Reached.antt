@@ -1,0 +1,32 @@
+-- What is said of a call that looks for the volume that is meant. No public clause speaks of it.
+use Rattle.std.specs.Prelude.{◌≡◌, ◌⊎◌, ℕ, List, Option}
+use Rattle.path_walk.specs.declared.answer.Answer.TheVariants.{NoVolume}
+use Rattle.apfs_cli.specs.declared.stopped.Stopped.{Stopped}
+use Rattle.apfs_cli.specs.declared.stopped.Stopped.TheVariants.{Faulty, Usage, ReadFailed, WriteFailed, OutOfMemory, Refused, Answered, NoImage}
+use Rattle.apfs_cli.specs.Meant.{HasVolume, HasNoVolume, IsMeantFault, IsMeantFeature}
+
+-- nothing stands in the way: the volume that is meant loads, or its slot holds none
+abbrev pub IsClear : List ℕ → Option ℕ → Type 0
+IsClear image named = HasVolume image named ⊎ HasNoVolume image named
+
+-- what a stop on the way to the volume that is meant says
+abbrev pub TellsWay : List ℕ → Option ℕ → Stopped → Type 0
+TellsWay image named (Faulty fault) = (IsClear image named → ⊥) × IsMeantFault image named fault
+TellsWay image named (Refused feature block) = (IsClear image named → ⊥) × IsMeantFeature image named feature block
+TellsWay image named (Answered answer) = (answer ≡ NoVolume) × HasNoVolume image named
+TellsWay image named ReadFailed = Unit {0}
+TellsWay image named OutOfMemory = Unit {0}
+TellsWay image named Usage = Unit {0}
+TellsWay image named WriteFailed = Unit {0}
+TellsWay image named NoImage = Unit {0}
+
+-- a run stops while it looks at an image: neither for its words, nor for want of an image, nor since a put failed
+abbrev pub IsWhileLooking : Stopped → Type 0
+IsWhileLooking Usage = ⊥
+IsWhileLooking WriteFailed = ⊥
+IsWhileLooking NoImage = ⊥
+IsWhileLooking (Faulty fault) = Unit {0}
+IsWhileLooking (Refused feature block) = Unit {0}
+IsWhileLooking (Answered answer) = Unit {0}
+IsWhileLooking ReadFailed = Unit {0}
+IsWhileLooking OutOfMemory = Unit {0}

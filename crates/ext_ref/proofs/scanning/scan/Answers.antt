@@ -1,0 +1,15 @@
+use Rattle.std.proofs.Common.{ℕ, List, [], sym, subst}
+use Rattle.apfs_model.proofs.BoolTests.{from-equal}
+use Rattle.ext_ref.specs.declared.range.NewRange.{NewRange}
+use Rattle.ext_ref.specs.Stops.{IsScanned}
+use Rattle.ext_ref.proofs.Gathered.{none-scanned, right_free}
+use Rattle.ext_ref.proofs.scanning.scan.Goals as goal
+
+pub returns-then-root-eq0-clause-clear : goal.returns-then-root-eq0-clause-clear
+returns-then-root-eq0-clause-clear g c image told =
+    subst (λ (ranges : List NewRange). IsScanned image c.args.site.now c.args.root c.new.result.items ranges) (sym c.new-then-root-eq0.ensures.items)
+    (subst (λ (nodes : List ℕ). IsScanned image c.args.site.now c.args.root nodes []) (sym c.new.ensures.items)
+    (none-scanned image c.args.site.now c.args.root (from-equal c.args.root 0 c.if-root-eq0.true)))
+
+pub returns-in-Err-clause-exact : goal.returns-in-Err-clause-exact
+returns-in-Err-clause-exact g c image told right = right_free image c.args.site.now c.args.root c.in-Err.stop right (c.in-Err.ensures.present image told)

@@ -1,0 +1,10 @@
+//! A set of blocks of a range, one bit each: claimed range by range, counted, and compared with bits.
+#![tactic(auto)]
+
+mod held;
+mod runs;
+
+pub use held::{ClaimFault, Difference, Ledger};
+
+#[cfg(test)]
+mod tests;

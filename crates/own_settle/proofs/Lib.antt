@@ -1,0 +1,4 @@
+pub mod ClaimLemmas
+pub mod ChunkLemmas
+pub mod PoolLemmas
+pub mod SettleLemmas

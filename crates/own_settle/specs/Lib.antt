@@ -1,0 +1,4 @@
+pub mod Claimed
+pub mod Agreed
+pub mod Kept
+pub mod Pooled

@@ -1,0 +1,142 @@
+// The pool and the queues of made containers.
+
+use crate::{PoolFault, Queue, QueueEntry, pool_bits, queue};
+use blk_source::MemSource;
+use img_make::{Plan, Sample, edit, make, sample};
+use nx_ring::newest;
+use obj_base::Stop;
+use space_map::Space;
+use std::alloc::Global;
+use std::test::Fail;
+
+// The space manager of the small container, and where its indexes of the pool's bitmap begin.
+const MANAGER: usize = 9;
+
+const INDEXES: usize = 0x9d8;
+
+// The number of the pool's bitmap blocks, and the root of the main queue, in the manager.
+const BITMAP_BLOCKS: usize = 160;
+
+const MAIN_ROOT: usize = 248;
+
+// An edit of the manager: a place and its new bytes.
+type Edit<'a> = (usize, &'a [u8]);
+
+fn image(alloc: Global, plan: &Plan, edits: &[Edit<'_>]) -> Result<Vec<u8>, Fail> {
+    if !plan.valid() {
+        return Err(Fail::from("the plan isn't valid"));
+    }
+    let mut image = make(alloc, plan)?;
+    for (place, bytes) in edits.iter() {
+        if !edit(&mut image, 4096, MANAGER, *place, bytes) {
+            return Err(Fail::from("no such place"));
+        }
+    }
+    Ok(image)
+}
+
+// The pool's bits of an image; what stops the calls before is no answer of these tests.
+fn bits(alloc: Global, image: Vec<u8>) -> Result<Vec<u8>, Stop<PoolFault>> {
+    let mut src = MemSource::new(image, Vec::new(alloc));
+    let Ok(cp) = newest(alloc, &mut src) else {
+        return Err(Stop::NoMemory);
+    };
+    let Ok(space) = Space::load(alloc, &mut src, &cp) else {
+        return Err(Stop::NoMemory);
+    };
+    pool_bits(alloc, &mut src, &cp, &space)
+}
+
+// The entries of a queue of an image.
+fn entries(
+    alloc: Global,
+    image: Vec<u8>,
+    which: Queue,
+) -> Result<Vec<QueueEntry>, Stop<PoolFault>> {
+    let mut src = MemSource::new(image, Vec::new(alloc));
+    let Ok(cp) = newest(alloc, &mut src) else {
+        return Err(Stop::NoMemory);
+    };
+    let Ok(space) = Space::load(alloc, &mut src, &cp) else {
+        return Err(Stop::NoMemory);
+    };
+    queue(alloc, &mut src, &cp, &space, which)
+}
+
+#[test]
+fn two_blocks_of_the_pool_are_marked(rt: HostRuntime) -> Result<(), Fail> {
+    let alloc = rt.alloc();
+    let plan = sample(alloc, Sample::S)?;
+    let Ok(bits) = bits(alloc, image(alloc, &plan, &[])?) else {
+        panic!(rt; "there are no bits");
+    };
+    assert_eq!(rt; bits.len(), 4096);
+    assert_eq!(rt; bits.first().copied(), Some(3));
+    assert!(rt; bits.iter().skip(1).all(|byte| *byte == 0));
+    Ok(())
+}
+
+#[test]
+fn what_is_wrong_with_the_bitmap(rt: HostRuntime) -> Result<(), Fail> {
+    let alloc = rt.alloc();
+    let plan = sample(alloc, Sample::S)?;
+    let cases: [(&[Edit<'_>], PoolFault); 3] = [
+        (&[(INDEXES, &[16])], PoolFault::Index { at: 0 }),
+        (
+            &[(BITMAP_BLOCKS, &[2]), (INDEXES, &[1, 0, 1, 0])],
+            PoolFault::Index { at: 1 },
+        ),
+        (&[(BITMAP_BLOCKS, &[0])], PoolFault::Count),
+    ];
+    for (edits, fault) in cases {
+        assert_eq!(rt;
+            bits(alloc, image(alloc, &plan, edits)?).err(),
+            Some(Stop::Found(fault))
+        );
+    }
+    Ok(())
+}
+
+#[test]
+fn what_waits_in_a_queue(rt: HostRuntime) -> Result<(), Fail> {
+    let alloc = rt.alloc();
+    let mut plan = sample(alloc, Sample::S)?;
+    let queued = [(1, 100, 1), (1, 102, 3)];
+    for (xid, paddr, length) in queued {
+        plan.queued
+            .push(img_make::QueueEntry { xid, paddr, length })?;
+    }
+    let Ok(main) = entries(alloc, image(alloc, &plan, &[])?, Queue::Main) else {
+        panic!(rt; "there is no main queue");
+    };
+    let found = main
+        .iter()
+        .map(|entry| (entry.xid, entry.paddr, entry.length))
+        .collect::<Vec<_>>(alloc)?;
+    assert_eq!(rt; found.as_slice(), queued.as_slice());
+    let pool = entries(alloc, image(alloc, &plan, &[])?, Queue::Pool);
+    assert!(rt; pool.is_ok_and(|entries| entries.is_empty()));
+    Ok(())
+}
+
+#[test]
+fn a_queue_without_a_tree(rt: HostRuntime) -> Result<(), Fail> {
+    let alloc = rt.alloc();
+    let plan = sample(alloc, Sample::S)?;
+    let none = entries(
+        alloc,
+        image(alloc, &plan, &[(MAIN_ROOT, &[0, 0])])?,
+        Queue::Main,
+    );
+    assert!(rt; none.is_ok_and(|entries| entries.is_empty()));
+    let unnamed = entries(
+        alloc,
+        image(alloc, &plan, &[(MAIN_ROOT, &[0x88, 0x13])])?,
+        Queue::Main,
+    );
+    assert_eq!(rt;
+        unnamed.err(),
+        Some(Stop::Found(PoolFault::Unnamed { oid: 5000 }))
+    );
+    Ok(())
+}
