@@ -1,19 +1,21 @@
--- Streams of a view that meets its rules, and what is there where a stream can't be opened.
+-- What is there where a stream can't be opened.
 use Rattle.std.proofs.Common.{◌≡◌, ℕ, Bool, true, false, cond, not, ◌&&◌, ◌==◌, List, [], ◌∷◌, map, Option, Some, None, Result, Ok, Err, inl, inr, refl, ap, sym, ◌∙◌, subst, arith}
 use Rattle.std.specs.List.{filter, list_all}
 use Rattle.std.proofs.lemmas.Bool.Decides.{nat_tests}
 use Rattle.std.proofs.lemmas.Grind.{common_steps}
+use Rattle.std.proofs.lemmas.Option.{none-some, same_Some}
 use Rattle.apfs_model.specs.Lists.{In}
 use Rattle.apfs_model.proofs.BoolTests.{test_or, clash, left-true, right-true, both-true, not-true, not-false, false-not, equal-from, from-equal}
+use Rattle.obj_base.specs.Stops.{Tells}
+use Rattle.obj_base.specs.declared.stop.Stop.{Stop}
+use Rattle.obj_base.specs.declared.stop.Stop.TheVariants.{Found, Unsupported, ReadFault, NoMemory}
 use Rattle.obj_base.specs.declared.site.Site.{Site}
 use Rattle.bt_node.specs.Entries.{Pair}
-use Rattle.bt_keys.specs.Shapes.{fs_shape, fs_plain_shape}
 use Rattle.bt_keys.specs.RecordKey.{id_of, record_kind_of, inode_record, attribute_record, sibling_link_record, file_extent_record}
 use Rattle.bt_cursor.specs.Line.{Item, is_leaf_item, line_of, leaf_pairs}
 use Rattle.bt_cursor.specs.Flat.{flat_of}
-use Rattle.bt_cursor.specs.Met.{is_walkable}
-use Rattle.bt_cursor.specs.Order.{is_ordered}
-use Rattle.bt_cursor.specs.Counts.{is_counted}
+use Rattle.bt_cursor.specs.declared.fault.WalkFault.{WalkFault}
+use Rattle.bt_cursor.specs.declared.fault.WalkFault.TheVariants.{Unsound, Unnamed, Order, Counts}
 use Rattle.bt_cursor.proofs.Flats.{line-pairs}
 use Rattle.fs_name.specs.declared.naming.Names.{Names}
 use Rattle.fs_name.specs.Normal.{are_hashed}
@@ -22,25 +24,22 @@ use Rattle.fs_record.specs.StreamExtents.{are_extents_ordered, is_extent_placed}
 use Rattle.fs_record.specs.declared.fault.RecFault.{RecFault}
 use Rattle.fs_record.specs.declared.extents.FileExt.{FileExt}
 use Rattle.vol_view.specs.Volumes.{Loaded}
-use Rattle.vol_view.specs.Views.{view_flat, view_line, hashed_tree, plain_tree, is_view_walkable, is_view_ordered, is_view_counted, is_view_whole}
+use Rattle.vol_view.specs.Views.{view_flat, view_line, hashed_tree, plain_tree, IsViewFault}
 use Rattle.vol_view.specs.declared.volume.View.{View}
 use Rattle.file_extent.specs.Streams.{extents_for, are_extents_placed}
-use Rattle.file_extent.specs.Stops.{HasRefused, IsStreamSound}
-use Rattle.ext_ref.specs.declared.range.NewRange.{NewRange}
+use Rattle.file_extent.specs.Stops.{HasRefused, IsStreamStop, IsStreamFeature}
+use Rattle.file_extent.specs.declared.stop.StreamStop.{StreamStop}
+use Rattle.file_extent.specs.declared.stop.StreamStop.TheVariants as streams
+use Rattle.fs_record.specs.declared.fault.TreeFault.TheVariants.{ExtentOrder, ExtentPlace}
 use Rattle.view_rules.specs.Words.{IsClear, IsBroken}
 use Rattle.view_rules.specs.Facts.{Facts, facts_in, id_of_fact}
 use Rattle.view_rules.specs.Extents.{is_disordered, is_misplaced, IsExtentOrder, IsExtentPlace}
-use Rattle.view_rules.specs.Rules.{view_facts, refusal_of, HasRecords, HasTreeRules}
-use Rattle.view_rules.specs.declared.profile.Profile.{Profile}
-
--- ---- the tree of such a view is whole
-whole-if : (b w v o p c d : Bool) → cond b w v ≡ true → cond b o p ≡ true → cond b c d ≡ true → cond b (w && (o && c)) (v && (p && d)) ≡ true
-whole-if true w v o p c d walkable ordered counted = both-true w (o && c) walkable (both-true o c ordered counted)
-whole-if false w v o p c d walkable ordered counted = both-true v (p && d) walkable (both-true p d ordered counted)
-
-order-by : (b : Bool) (f g : List Item → Bool) (l m : List Item) → cond b (f (cond b l m)) (g (cond b l m)) ≡ true → cond b (f l) (g m) ≡ true
-order-by true f g l m e = e
-order-by false f g l m e = e
+use Rattle.view_rules.specs.Rules.{view_facts, refusal_of, HasRecords, raised}
+use Rattle.path_walk.specs.Stops.{IsPathFault, IsStopThere}
+use Rattle.path_walk.specs.Parts.{IsNoAnswer}
+use Rattle.path_walk.specs.Streamed.{id_at, stream_raised}
+use Rattle.path_walk.specs.declared.stop.PathStop.{PathStop}
+use Rattle.path_walk.specs.declared.stop.PathStop.TheVariants as paths
 
 -- ---- a record of an extent that is refused
 record LeafOf (items : List Item) (pair : Pair) : Type 0 where
@@ -122,7 +121,7 @@ not-all test (e ∷ es) fails = elim (test_or (test e)) as (λ _. (x : FileExt) 
   | inl passes ↦
       let rest : list_all test es ≡ false = sym (ap (λ b. b && list_all test es) passes) ∙ fails in
       let r = not-all test es rest in (r.0, (inr r.1.0, r.1.1))
-  | inr no ↦ (e, (inl refl, no))
+  | inr fails_here ↦ (e, (inl refl, fails_here))
 ]
 
 -- ExtentOrder and ExtentPlace, by what fails
@@ -140,36 +139,54 @@ place_there site facts id fails =
     let f = fact-of id facts.extents some.0 some.1.0 in
     record { item = f.fact; listed = f.one; same = f.same; breach = false-not (is_extent_placed site.block_size site.blocks f.fact.what) (ap (is_extent_placed site.block_size site.blocks) f.what ∙ some.1.1) }
 
--- and clear where neither is there
-never-false : (b : Bool) → (b ≡ false → ⊥) → b ≡ true
-never-false true no = refl
-never-false false no = absurd (no refl)
+-- ---- why a stream can't be opened is there
+walk_there : (image : List ℕ) (site : Site) (volume : Loaded) (view : View) (why : WalkFault) → IsViewFault image site volume view why → IsPathFault image site volume view (raised view why)
+walk_there image site volume view (Unsound block why) h = λ profile ranges. h
+walk_there image site volume view (Unnamed oid) h = λ profile ranges. ((refl, refl), h)
+walk_there image site volume view (Order item) h = λ profile ranges. ((refl, refl), h)
+walk_there image site volume view Counts h = λ profile ranges. ((refl, refl), h)
 
-ordered-clear : (block_size : ℕ) (facts : Facts) (id : ℕ) → IsClear (is_disordered block_size facts) facts.extents → are_extents_ordered block_size (all_for id facts.extents) ≡ true
-ordered-clear block_size facts id clear = never-false (are_extents_ordered block_size (all_for id facts.extents)) (λ fails.
-    let there = order_there block_size facts id fails in
-    clash (is_disordered block_size facts there.item) there.breach (clear there.item there.listed))
-
-placed-clear : (site : Site) (facts : Facts) (id : ℕ) → IsClear (is_misplaced site.block_size site.blocks) facts.extents → are_extents_placed site (all_for id facts.extents) ≡ true
-placed-clear site facts id clear = never-false (are_extents_placed site (all_for id facts.extents)) (λ fails.
-    let there = place_there site facts id fails in
-    clash (is_misplaced site.block_size site.blocks there.item) there.breach (clear there.item there.listed))
-
--- each stream of a view that meets its rules can be opened
-pub lawful_stream : (profile : Profile) (image : List ℕ) (site : Site) (volume : Loaded) (view : View) (ranges : List NewRange) (id : ℕ) → HasTreeRules profile image site volume view ranges → IsStreamSound image site volume view id
-unfolding is_view_whole is_view_walkable is_view_counted view_line
-lawful_stream profile image site volume view ranges id rules =
+pub stream_there : (image : List ℕ) (site : Site) (volume : Loaded) (view : View) (id : ℕ) (stop : Stop StreamStop) (p : Stop PathStop) → stream_raised view id stop ≡ Some p → Tells (IsStreamStop image site volume view id) (IsStreamFeature image site volume view) stop → IsStopThere image site volume view p
+stream_there image site volume view id (Found (streams.Walk root why)) p e h =
+    subst (IsStopThere image site volume view) (same_Some (Found (paths.Fault (raised view why))) p e) (walk_there image site volume view why h.1)
+stream_there image site volume view id (Found (streams.Extent why)) p e h = absurd (none-some p e)
+stream_there image site volume view id (Found streams.Order) p e h =
     let facts : Facts = view_facts image site volume view in
-    let same : extents_for id (view_flat image site volume view) ≡ all_for id facts.extents = extents-are id facts (view_flat image site volume view) refl in
-    record {
-      whole =
-          let hashed = hashed_tree image site volume view in
-          let plain = plain_tree image site volume view in
-          whole-if (are_hashed volume.names) (is_walkable hashed view.root_oid) (is_walkable plain view.root_oid) (is_ordered fs_shape (line_of hashed view.root_oid)) (is_ordered fs_plain_shape (line_of plain view.root_oid)) (is_counted hashed view.root_oid) (is_counted plain view.root_oid)
-          rules.walkable
-          (order-by (are_hashed volume.names) (is_ordered fs_shape) (is_ordered fs_plain_shape) (line_of hashed view.root_oid) (line_of plain view.root_oid) rules.ordered)
-          rules.counted;
-      readable = λ why there. unrefused image site volume view id why rules.records there;
-      ordered = ap (are_extents_ordered site.block_size) same ∙ ordered-clear site.block_size facts id rules.facts.extent_order;
-      placed = ap (are_extents_placed site) same ∙ placed-clear site facts id rules.facts.extent_places;
-    }
+    subst (IsStopThere image site volume view) (same_Some (Found (paths.Fault (ExtentOrder (id_at view id)))) p e)
+    (λ profile ranges. ((refl, refl), order_there site.block_size facts id (sym (ap (are_extents_ordered site.block_size) (extents-are id facts (view_flat image site volume view) refl)) ∙ h)))
+stream_there image site volume view id (Found streams.Outside) p e h =
+    let facts : Facts = view_facts image site volume view in
+    subst (IsStopThere image site volume view) (same_Some (Found (paths.Fault (ExtentPlace (id_at view id)))) p e)
+    (λ profile ranges. ((refl, refl), place_there site facts id (sym (ap (are_extents_placed site) (extents-are id facts (view_flat image site volume view) refl)) ∙ h)))
+stream_there image site volume view id (Unsupported feature block) p e h = subst (IsStopThere image site volume view) (same_Some (Unsupported feature block) p e) h
+stream_there image site volume view id ReadFault p e h = subst (IsStopThere image site volume view) (same_Some ReadFault p e) tt
+stream_there image site volume view id NoMemory p e h = subst (IsStopThere image site volume view) (same_Some NoMemory p e) tt
+
+-- where it is a refused record, not all records can be read
+pub stream_refused : (image : List ℕ) (site : Site) (volume : Loaded) (view : View) (id : ℕ) (stop : Stop StreamStop) → stream_raised view id stop ≡ None → Tells (IsStreamStop image site volume view id) (IsStreamFeature image site volume view) stop → HasRecords volume.names (view_line image site volume view) → ⊥
+stream_refused image site volume view id (Found (streams.Walk root why)) e h records = let q : ⊥ = cc in q
+stream_refused image site volume view id (Found (streams.Extent why)) e h records = unrefused image site volume view id why records h
+stream_refused image site volume view id (Found streams.Order) e h records = let q : ⊥ = cc in q
+stream_refused image site volume view id (Found streams.Outside) e h records = let q : ⊥ = cc in q
+stream_refused image site volume view id (Unsupported feature block) e h records = let q : ⊥ = cc in q
+stream_refused image site volume view id ReadFault e h records = let q : ⊥ = cc in q
+stream_refused image site volume view id NoMemory e h records = let q : ⊥ = cc in q
+
+-- and it is no answer
+pub stream_unanswered : (view : View) (id : ℕ) (stop : Stop StreamStop) (p : Stop PathStop) → stream_raised view id stop ≡ Some p → IsNoAnswer p
+stream_unanswered view id (Found (streams.Walk root why)) p e = subst IsNoAnswer (same_Some (Found (paths.Fault (raised view why))) p e) tt
+stream_unanswered view id (Found (streams.Extent why)) p e = absurd (none-some p e)
+stream_unanswered view id (Found streams.Order) p e = subst IsNoAnswer (same_Some (Found (paths.Fault (ExtentOrder (id_at view id)))) p e) tt
+stream_unanswered view id (Found streams.Outside) p e = subst IsNoAnswer (same_Some (Found (paths.Fault (ExtentPlace (id_at view id)))) p e) tt
+stream_unanswered view id (Unsupported feature block) p e = subst IsNoAnswer (same_Some (Unsupported feature block) p e) tt
+stream_unanswered view id ReadFault p e = subst IsNoAnswer (same_Some ReadFault p e) tt
+stream_unanswered view id NoMemory p e = subst IsNoAnswer (same_Some NoMemory p e) tt
+
+pub stream_read : (view : View) (id : ℕ) (stop : Stop StreamStop) → stream_raised view id stop ≡ Some ReadFault → stop ≡ ReadFault
+stream_read view id (Found (streams.Walk root why)) e = absurd (let q : ⊥ = cc in q)
+stream_read view id (Found (streams.Extent why)) e = absurd (let q : ⊥ = cc in q)
+stream_read view id (Found streams.Order) e = absurd (let q : ⊥ = cc in q)
+stream_read view id (Found streams.Outside) e = absurd (let q : ⊥ = cc in q)
+stream_read view id (Unsupported feature block) e = absurd (let q : ⊥ = cc in q)
+stream_read view id ReadFault e = refl
+stream_read view id NoMemory e = absurd (let q : ⊥ = cc in q)
