@@ -13,3 +13,5 @@ pub mod Rising
 pub mod Known
 pub mod Viewed
 pub mod Listed
+pub mod StreamFaults
+pub mod Givens

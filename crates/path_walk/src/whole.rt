@@ -21,8 +21,8 @@ use obj_base::{Site, Stop};
 use std::alloc::Global;
 use vol_view::{View, Volume};
 
-// What a walk names, said of the view.
-fn fault_of(view: &View, why: WalkFault) -> TreeFault
+/// What a walk names, said of the view.
+pub(crate) fn fault_of(view: &View, why: WalkFault) -> TreeFault
     ensures { result ≡ rules.raised view.now why }
 {
     match why {
@@ -58,8 +58,8 @@ pub(crate) fn raise(view: &View, stop: Stop<WalkFault>) -> Stop<PathStop>
     }
 }
 
-// What is gathered of a view whose tree is whole.
-fn survey_view<S: BlockSource>(
+/// What is gathered of a view whose tree is whole.
+pub(crate) fn survey_view<S: BlockSource>(
     alloc: Global,
     src: &mut S,
     volume: &Volume,
