@@ -46,7 +46,7 @@ next-at : (m : ℕ) (ms : List ℕ) (j n : ℕ) → get_or ms j 0 ≡ n → get_
 next-at m ms j n e = rw add-one e
 
 -- a number of a list has a place there
-in-place : (ns : List ℕ) (n : ℕ) → In n ns → (j : ℕ) × ((j < length ns) × (get_or ns j 0 ≡ n))
+pub in-place : (ns : List ℕ) (n : ℕ) → In n ns → (j : ℕ) × ((j < length ns) × (get_or ns j 0 ≡ n))
 in-place [] n h = absurd h
 in-place (m ∷ ms) n (inl e) = (0, (omega arith, sym e))
 in-place (m ∷ ms) n (inr h) = let t = in-place ms n h in let low : t.0 < length ms = t.1.0 in (t.0 + 1, (omega arith, next-at m ms t.0 n t.1.1))

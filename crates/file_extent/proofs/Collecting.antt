@@ -1,41 +1,30 @@
 -- The extents of a stream among the records of a tree, passed one after another.
-use Rattle.std.proofs.Common.{◌≡◌, ℕ, ◌+◌, ◌<◌, ◌≤◌, Bool, true, false, cond, ◌&&◌, ◌==◌, nat_lt, nat_le, List, [], ◌∷◌, ◌++◌, length, map, Option, Some, None, Result, Ok, Err, All, IsSome, inl, inr, refl, ap, ap₂, sym, ◌∙◌, subst, arith, append_assoc, append-nil}
-use Rattle.std.specs.Prelude.{option_map, filter_map}
-use Rattle.std.specs.List.{filter, take_while, cons_option, list_all}
+use Rattle.std.proofs.Common.{◌≡◌, ℕ, Bool, true, false, cond, ◌&&◌, ◌==◌, nat_lt, List, [], ◌∷◌, ◌++◌, length, map, Option, Some, None, Result, Ok, Err, All, IsSome, refl, ap, ap₂, sym, ◌∙◌, arith, append_assoc}
+use Rattle.std.specs.Prelude.{option_map}
+use Rattle.std.specs.List.{filter, take_while, cons_option}
 use Rattle.std.proofs.lemmas.Bool.{false≢true}
 use Rattle.std.proofs.lemmas.Bool.Decides.{nat_tests}
-use Rattle.std.proofs.lemmas.Option.{none-some}
 use Rattle.std.proofs.lemmas.List.{map-append}
-use Rattle.std.proofs.lemmas.List.Elements.{All-nil, All-cons, All-head, All-tail, All-append, filter-append, filter_map-append}
-use Rattle.apfs_model.specs.Lists.{In, value_of}
-use Rattle.apfs_model.proofs.BoolTests.{test_or, clash, left-true, right-true, both-true, equal-from, from-equal}
-use Rattle.obj_base.specs.Stops.{Tells, IsFree, raised}
-use Rattle.obj_base.specs.declared.stop.Stop.{Stop}
-use Rattle.obj_base.specs.declared.stop.Stop.TheVariants.{Found, Unsupported, ReadFault, NoMemory}
-use Rattle.obj_base.specs.declared.site.Site.{Site}
+use Rattle.std.proofs.lemmas.List.Elements.{All-nil, All-cons, All-head, All-tail, filter-append, filter_map-append}
+use Rattle.apfs_model.specs.Lists.{value_of}
+use Rattle.apfs_model.proofs.BoolTests.{from-equal}
 use Rattle.bt_node.specs.Shape.{Shape}
 use Rattle.bt_node.specs.Entries.{Pair, bytes_in}
-use Rattle.bt_node.specs.Rank.{is_below}
 use Rattle.bt_node.specs.declared.key.Rank.{Rank}
 use Rattle.bt_keys.specs.RecordKey.{id_of, record_kind_of, sub_of, second_of, has_second, hash_of, entry_record, file_extent_record}
 use Rattle.bt_keys.specs.FsTree.{IsFsKey, IsFsShape}
 use Rattle.bt_cursor.specs.Tree.{Tree}
 use Rattle.bt_cursor.specs.Flat.{flat_of}
-use Rattle.bt_cursor.specs.Line.{Item, line_of, leaf_pairs}
-use Rattle.bt_cursor.specs.Order.{rank_of, rank_or_least, is_ordered}
-use Rattle.bt_cursor.specs.From.{from_rank, is_below_rank, run_in}
-use Rattle.bt_cursor.specs.Search.{IsInOrder}
-use Rattle.bt_cursor.specs.Faults.{IsNodeFault, IsWalkFault, HasFeature}
+use Rattle.bt_cursor.specs.Order.{rank_of, rank_or_least}
+use Rattle.bt_cursor.specs.From.{from_rank, run_in}
 use Rattle.bt_cursor.proofs.Runs.{run-flat, run-taken, run-kind}
-use Rattle.bt_cursor.proofs.Ranks.{ordered-means, leaf-each}
-use Rattle.bt_cursor.proofs.Flats.{line-pairs}
 use Rattle.fs_record.specs.Facts.{Fact, told_by, fact_of, facts_of, all_for, read_extent, extents_of}
 use Rattle.fs_record.specs.Extents.{extent_of}
 use Rattle.fs_record.specs.declared.fault.RecFault.{RecFault}
 use Rattle.fs_record.specs.declared.fault.RecFault.TheVariants.{Length}
 use Rattle.fs_record.specs.declared.extents.FileExt.{FileExt}
 use Rattle.file_extent.specs.Streams.{extents_for}
-use Rattle.file_extent.specs.Collected.{is_of_stream, some_extent, extent_in, stream_rank, extent_rank, IsReadable, IsCollected, AreCollected}
+use Rattle.file_extent.specs.Collected.{is_of_stream, stream_rank, extent_rank, IsCollected, AreCollected}
 
 -- ---- the extents of lists of records
 all-append : {X : Type 0} (id : ℕ) (fs gs : List (Fact X)) → all_for id (fs ++ gs) ≡ all_for id fs ++ all_for id gs

@@ -1,17 +1,17 @@
 -- An extent after those before it.
-use Rattle.std.proofs.Common.{◌≡◌, ℕ, zero, suc, ◌+◌, ◌-◌, ◌<◌, ◌≤◌, ◌^◌, Bool, true, false, cond, not, ◌&&◌, ◌||◌, nat_lt, nat_le, List, [], ◌∷◌, ◌++◌, length, Option, Some, None, inl, inr, refl, ap, sym, ◌∙◌, subst, arith}
+use Rattle.std.proofs.Common.{◌≡◌, ℕ, zero, suc, ◌+◌, ◌-◌, ◌<◌, ◌≤◌, ◌^◌, Bool, true, false, not, ◌&&◌, List, [], ◌∷◌, ◌++◌, length, Some, None, inl, inr, refl, ap, sym, ◌∙◌, subst, arith}
 use Rattle.std.specs.List.{slice_get, list_all, list_any}
 use Rattle.std.proofs.lemmas.Bool.Decides.{nat_tests}
 use Rattle.std.proofs.lemmas.Grind.{common_steps}
 use Rattle.std.proofs.lemmas.Option.{none-some, same_Some}
 use Rattle.std.proofs.lemmas.List.Folds.{list_all-append}
 use Rattle.apfs_model.specs.Lists.{In}
-use Rattle.apfs_model.proofs.BoolTests.{test_or, clash, left-true, right-true, both-true, left-or, right-or, upto-from, below-from, all-in}
+use Rattle.apfs_model.proofs.BoolTests.{both-true, left-or, right-or, all-in}
 use Rattle.obj_base.specs.declared.site.Site.{Site}
 use Rattle.fs_record.specs.StreamExtents.{extent_end, overlap, is_extent_even, is_extent_placed, are_apart, are_extents_ordered}
 use Rattle.fs_record.specs.declared.extents.FileExt.{FileExt}
 use Rattle.file_extent.specs.Streams.{are_extents_placed}
-use Rattle.file_extent.specs.Laid.{are_rising, last_end, AreLaid}
+use Rattle.file_extent.specs.Laid.{last_end, AreLaid}
 use Rattle.file_extent.specs.Collected.{IsMisordered}
 use Rattle.file_extent.proofs.Searches.{rising-push, rising-apart}
 

@@ -1,14 +1,14 @@
 -- Extents that aren't in order are of a tree whose records aren't, and what some extents of a stream fail all of them fail.
-use Rattle.std.proofs.Common.{◌≡◌, ℕ, ◌+◌, ◌<◌, ◌≤◌, Bool, true, false, cond, not, ◌&&◌, ◌||◌, nat_lt, List, [], ◌∷◌, ◌++◌, map, All, inl, inr, refl, ap, sym, ◌∙◌, subst, arith}
+use Rattle.std.proofs.Common.{◌≡◌, ℕ, ◌<◌, Bool, true, false, cond, not, List, [], ◌∷◌, ◌++◌, map, All, inl, inr, refl, ap, sym, ◌∙◌, subst, arith}
 use Rattle.std.specs.List.{filter, list_all, list_any}
 use Rattle.std.proofs.lemmas.Bool.{false≢true}
 use Rattle.std.proofs.lemmas.Bool.Decides.{nat_tests}
 use Rattle.std.proofs.lemmas.Grind.{common_steps}
 use Rattle.std.proofs.lemmas.List.{map-append}
 use Rattle.std.proofs.lemmas.List.Folds.{list_all-append}
-use Rattle.std.proofs.lemmas.List.Elements.{All-nil, All-cons, All-head, All-tail, All-map}
+use Rattle.std.proofs.lemmas.List.Elements.{All-head, All-tail, All-map}
 use Rattle.apfs_model.specs.Lists.{In}
-use Rattle.apfs_model.proofs.BoolTests.{test_or, clash, left-true, right-true, both-true, not-true, false-not}
+use Rattle.apfs_model.proofs.BoolTests.{clash, left-true, right-true, both-true, not-true, false-not}
 use Rattle.obj_base.specs.Stops.{Tells}
 use Rattle.obj_base.specs.declared.stop.Stop.{Stop}
 use Rattle.obj_base.specs.declared.stop.Stop.TheVariants.{Found, Unsupported, ReadFault, NoMemory}
@@ -30,7 +30,7 @@ use Rattle.bt_cursor.proofs.Ranks.{ordered-means, leaf-each}
 use Rattle.bt_cursor.proofs.Flats.{line-pairs}
 use Rattle.fs_record.specs.StreamExtents.{overlap, is_extent_even, is_extent_placed, are_apart, are_extents_ordered}
 use Rattle.fs_record.specs.declared.extents.FileExt.{FileExt}
-use Rattle.file_extent.specs.Streams.{extents_for, are_extents_placed}
+use Rattle.file_extent.specs.Streams.{are_extents_placed}
 use Rattle.file_extent.specs.declared.stop.StreamStop.TheVariants.{Walk, Extent, Order, Outside}
 use Rattle.file_extent.specs.Collected.{extent_rank, IsCollected, IsCollectStop, IsAddStop, IsMisordered, gather_raised}
 use Rattle.file_extent.proofs.Collecting.{collected-within}

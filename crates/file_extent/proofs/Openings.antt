@@ -1,5 +1,5 @@
 -- What is known of the extents of a stream of a view, by the kind of the view's keys.
-use Rattle.std.proofs.Common.{◌≡◌, ℕ, Bool, true, false, cond, List, [], inl, inr, refl, ap, sym, ◌∙◌, subst}
+use Rattle.std.proofs.Common.{◌≡◌, ℕ, Bool, true, false, cond, List, inl, inr, ap, sym, ◌∙◌, subst}
 use Rattle.apfs_model.proofs.BoolTests.{test_or, clash}
 use Rattle.obj_base.specs.Stops.{Tells, IsFree}
 use Rattle.obj_base.specs.declared.stop.Stop.{Stop}
@@ -7,7 +7,6 @@ use Rattle.obj_base.specs.declared.stop.Stop.TheVariants.{Found, Unsupported, Re
 use Rattle.obj_base.specs.declared.site.Site.{Site}
 use Rattle.bt_node.specs.Entries.{Pair}
 use Rattle.bt_keys.specs.Shapes.{fs_shape, fs_plain_shape}
-use Rattle.bt_cursor.specs.Tree.{Tree}
 use Rattle.bt_cursor.specs.Flat.{flat_of}
 use Rattle.bt_cursor.specs.Line.{line_of}
 use Rattle.bt_cursor.specs.Order.{is_ordered}
@@ -21,7 +20,7 @@ use Rattle.fs_record.specs.declared.extents.FileExt.{FileExt}
 use Rattle.vol_view.specs.Volumes.{Loaded}
 use Rattle.vol_view.specs.Views.{view_named, hashed_tree, plain_tree, view_flat, view_line, is_view_ordered, is_view_whole, FactBy, IsViewFault, IsViewFeature}
 use Rattle.vol_view.specs.declared.volume.View.{View}
-use Rattle.file_extent.specs.Streams.{Opened, extents_for, opened_of, are_extents_placed}
+use Rattle.file_extent.specs.Streams.{extents_for, are_extents_placed}
 use Rattle.file_extent.specs.Stops.{HasRefused, IsStreamStop, IsStreamFeature, IsStreamSound, IsOpened}
 use Rattle.file_extent.specs.Laid.{AreLaid}
 use Rattle.file_extent.specs.Collected.{AreCollected, IsCollectStop}

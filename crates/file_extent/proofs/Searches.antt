@@ -1,11 +1,11 @@
 -- Which extent covers a byte, where extents rise.
-use Rattle.std.proofs.Common.{◌≡◌, ℕ, zero, suc, ◌+◌, ◌<◌, ◌≤◌, Bool, true, false, cond, ◌&&◌, nat_lt, nat_le, List, [], ◌∷◌, ◌++◌, length, Option, Some, None, refl, ap, sym, ◌∙◌, subst, arith}
-use Rattle.std.specs.List.{slice_get, find, list_all, list_any}
+use Rattle.std.proofs.Common.{◌≡◌, ℕ, zero, suc, ◌+◌, ◌<◌, ◌≤◌, true, false, cond, nat_le, List, [], ◌∷◌, ◌++◌, Some, None, refl, ap, ◌∙◌, subst, arith}
+use Rattle.std.specs.List.{slice_get, list_any}
 use Rattle.std.proofs.lemmas.Bool.Decides.{nat_tests}
 use Rattle.std.proofs.lemmas.Grind.{common_steps}
 use Rattle.std.proofs.lemmas.Option.{none-some, same_Some}
 use Rattle.apfs_model.proofs.BoolTests.{left-true, right-true, both-true, upto-from, from-upto, false-not}
-use Rattle.fs_record.specs.StreamExtents.{extent_end, covers, overlap, is_extent_even, are_apart, are_extents_ordered}
+use Rattle.fs_record.specs.StreamExtents.{extent_end, covers, overlap, are_apart}
 use Rattle.fs_record.specs.declared.extents.FileExt.{FileExt}
 use Rattle.file_extent.specs.Streams.{extent_over}
 use Rattle.file_extent.specs.Laid.{are_rising, last_end, IsPart}

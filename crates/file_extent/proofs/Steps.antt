@@ -1,10 +1,8 @@
 -- A step of a walk over the extents of a stream.
-use Rattle.std.proofs.Common.{◌≡◌, ℕ, Bool, true, false, cond, ◌&&◌, ◌==◌, List, [], ◌∷◌, ◌++◌, Option, Some, None, Result, Ok, Err, refl, ap, ap₂, sym, ◌∙◌, subst, arith}
-use Rattle.std.proofs.lemmas.Bool.Decides.{nat_tests}
+use Rattle.std.proofs.Common.{◌≡◌, ℕ, Bool, true, false, cond, ◌==◌, List, [], ◌∷◌, Option, Some, None, Result, Ok, Err, refl, ap, sym, ◌∙◌, subst}
 use Rattle.apfs_model.specs.Lists.{In}
 use Rattle.apfs_model.proofs.BoolTests.{left-true, right-true, equal-from}
 use Rattle.bt_node.specs.Entries.{Pair}
-use Rattle.bt_node.specs.Shape.{Shape}
 use Rattle.bt_keys.specs.RecordKey.{id_of, record_kind_of, file_extent_record}
 use Rattle.bt_keys.specs.FsTree.{IsFsShape}
 use Rattle.bt_cursor.specs.Tree.{Tree}

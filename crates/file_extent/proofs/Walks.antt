@@ -1,11 +1,11 @@
 -- What a walk over the extents of a stream tells.
-use Rattle.std.proofs.Common.{◌≡◌, ℕ, zero, suc, ◌+◌, ◌<◌, ◌≤◌, Bool, true, false, cond, List, [], ◌∷◌, ◌++◌, length, map, Option, Some, None, Result, Ok, Err, All, IsSome, inl, inr, refl, ap, sym, ◌∙◌, subst, arith}
-use Rattle.std.specs.Prelude.{option_and_then, flat_map}
+use Rattle.std.proofs.Common.{◌≡◌, ℕ, zero, suc, ◌+◌, ◌<◌, ◌≤◌, Bool, true, List, [], ◌∷◌, length, map, Option, Some, None, Result, Ok, Err, All, IsSome, refl, ap, sym, ◌∙◌, arith}
+use Rattle.std.specs.Prelude.{flat_map}
 use Rattle.std.specs.List.{range_with_len}
 use Rattle.std.proofs.lemmas.List.Elements.{All-nil, All-cons, All-head, All-tail, All-append}
-use Rattle.apfs_model.specs.Lists.{In, through, value_of}
+use Rattle.apfs_model.specs.Lists.{through, value_of}
 use Rattle.apfs_model.specs.Blocks.{block_of}
-use Rattle.obj_base.specs.Stops.{Tells, IsFree, raised}
+use Rattle.obj_base.specs.Stops.{Tells, raised}
 use Rattle.obj_base.specs.declared.stop.Bad.{Bad}
 use Rattle.obj_base.specs.declared.stop.Bad.TheVariants as bads
 use Rattle.obj_base.specs.declared.stop.Stop.{Stop}
@@ -18,16 +18,16 @@ use Rattle.bt_node.specs.Soundness.{node_of}
 use Rattle.bt_node.specs.declared.node.NodeAt.{NodeAt}
 use Rattle.bt_node.specs.declared.fault.NodeFault.{NodeFault}
 use Rattle.bt_node.proofs.Laws.{node_means}
-use Rattle.bt_keys.specs.RecordKey.{record_kind_of, file_extent_record}
+use Rattle.bt_keys.specs.RecordKey.{file_extent_record}
 use Rattle.bt_keys.specs.FsTree.{IsFsShape}
 use Rattle.bt_keys.proofs.FsKeys.{extent_long}
-use Rattle.bt_cursor.specs.Tree.{Tree, root_place, child_place, node_at, judged, node_named, block_named, look_in, tree_in}
+use Rattle.bt_cursor.specs.Tree.{Tree, root_place, child_place, judged, node_named, block_named, tree_in}
 use Rattle.bt_cursor.specs.Flat.{flat_part, flat_of}
 use Rattle.bt_cursor.specs.Gaps.{IsSuffix}
 use Rattle.bt_cursor.specs.Line.{line_of}
 use Rattle.bt_cursor.specs.Order.{is_ordered}
 use Rattle.bt_cursor.specs.From.{from_rank}
-use Rattle.bt_cursor.specs.Faults.{IsNodeFault, IsWalkFault, HasFeature}
+use Rattle.bt_cursor.specs.Faults.{IsNodeFault, HasFeature}
 use Rattle.bt_cursor.specs.declared.fault.WalkFault.{WalkFault}
 use Rattle.bt_cursor.specs.declared.fault.WalkFault.TheVariants.{Unsound, Unnamed, Order, Counts}
 use Rattle.bt_cursor.proofs.Nodes.{node_same}

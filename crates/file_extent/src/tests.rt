@@ -1,5 +1,7 @@
 // The stream of the sample container's file that begins with a hole: 5,000 bytes, of which the first 4,096 are a hole and
 // the others are `A`s in block 57.
+ghost use Rattle.std.specs.Prelude.{length, IfOk};
+ghost use Rattle.obj_base.specs.Site.{IsSiteFor};
 
 use crate::{CopyFault, Stream, StreamStop};
 use blk_source::{MemSink, MemSource};
@@ -47,18 +49,22 @@ fn edited(alloc: Global, at: usize, byte: u8) -> Result<MemSource, Fail> {
 }
 
 // The stream of an id in the live view; a fault of the layers below is no answer of these tests.
-fn open(alloc: Global, src: &mut MemSource, id: u64) -> Result<Stream, Stop<StreamStop>> {
+fn open(alloc: Global, src: &mut MemSource, id: u64) -> Result<Stream, Stop<StreamStop>>
+    ensures { IfOk result (λ stream. IsSiteFor stream.site (length src.new.bytes)) }
+{
     let Ok(cp) = newest(alloc, src) else {
         return Err(Stop::NoMemory);
     };
-    let Ok(found) = heads(alloc, src, &cp) else {
-        return Err(Stop::NoMemory);
+    let found = match heads(alloc, src, &cp) {
+        Ok(found) => found,
+        Err(_) => return Err(Stop::NoMemory),
     };
     if found.is_empty() {
         return Err(Stop::NoMemory);
     }
-    let Ok(volume) = load(alloc, src, &cp, &found[0]) else {
-        return Err(Stop::NoMemory);
+    let volume = match load(alloc, src, &cp, &found[0]) {
+        Ok(volume) => volume,
+        Err(_) => return Err(Stop::NoMemory),
     };
     Stream::start(
         alloc,

@@ -1,5 +1,5 @@
 -- The ranges of the pool's owners against its bits.
-use Rattle.std.proofs.Common.{◌≡◌, ℕ, ◌+◌, ◌-◌, Bool, true, false, not, List, refl, ap, ap₂, sym, ◌∙◌, subst, arith, inr, if◌then◌else◌, ◌*◌, ◌^◌, ◌&&◌, nat_lt}
+use Rattle.std.proofs.Common.{◌≡◌, ℕ, ◌+◌, ◌-◌, Bool, true, false, not, List, refl, ap, ap₂, sym, ◌∙◌, subst, arith, inr, if◌then◌else◌, ◌*◌, ◌^◌, ◌&&◌, nat_lt, length}
 use Rattle.apfs_model.specs.Bytes.{bit_at}
 use Rattle.apfs_model.specs.Blocks.{is_in, is_inside, is_within}
 use Rattle.apfs_model.proofs.BoolTests.{clash, left-true, right-true, upto-from}

@@ -1,6 +1,5 @@
 // What is reached of a container.
-ghost use Rattle.std.specs.Prelude.{◌≡◌, ◌+◌, ◌*◌, ◌≤◌, length};
-ghost use Rattle.space_map.specs.Fields.{pool_base_of, pool_blocks_of};
+ghost use Rattle.std.specs.Prelude.{◌≡◌};
 ghost use Rattle.own_settle.specs.Kept.{HasPool};
 
 use space_map::Space;
@@ -84,8 +83,7 @@ impl Reached {
     /// The bits of the pool, from its first block on.
     pub fn pool(&self) -> &[u8]
         ensures all { result.now ≡ self.now.pool }
-        ensures enough { pool_blocks_of self.now.space.manager ≤ 8 * length result.now }
-        ensures inside { pool_base_of self.now.space.manager + pool_blocks_of self.now.space.manager ≤ self.now.space.site.blocks }
+        ensures has_pool { HasPool self.now.space.site.blocks self.now.space.manager result.now }
     {
         &self.pool
     }

@@ -244,7 +244,7 @@ inside (x ∷ xs) zero lt = (x, refl)
 inside (x ∷ xs) (suc i) lt = inside xs i (omega arith)
 
 -- the number of the first item that passes, and the item: both are there, or neither
-placed-as-found : {X : Type 0} (p : X → Bool) (xs : List X) → ((i : ℕ) × (x : X) × (position p xs ≡ Some i) × (find p xs ≡ Some x) × (slice_get xs i ≡ Some x)) ⊎ ((position p xs ≡ None) × (find p xs ≡ None))
+pub placed-as-found : {X : Type 0} (p : X → Bool) (xs : List X) → ((i : ℕ) × (x : X) × (position p xs ≡ Some i) × (find p xs ≡ Some x) × (slice_get xs i ≡ Some x)) ⊎ ((position p xs ≡ None) × (find p xs ≡ None))
 placed-as-found {X} p xs =
     let at : ℕ = position_or_len p xs in
     let Goal : Type 0 = ((i : ℕ) × (x : X) × (position p xs ≡ Some i) × (find p xs ≡ Some x) × (slice_get xs i ≡ Some x)) ⊎ ((position p xs ≡ None) × (find p xs ≡ None)) in

@@ -6,3 +6,12 @@ pub mod Trees
 pub mod Laws
 pub mod Answers
 pub mod Examples
+pub mod Searched
+pub mod Chosen
+pub mod Surveyed
+pub mod Rising
+pub mod Known
+pub mod Viewed
+pub mod Listed
+pub mod StreamFaults
+pub mod Givens

@@ -9,9 +9,10 @@ use Rattle.fs_record.specs.Entries.{Entry}
 use Rattle.fs_record.specs.Facts.{all_for, is_reserved}
 use Rattle.view_rules.specs.Facts.{Facts, is_directory}
 use Rattle.path_walk.specs.Paths.{components}
-use Rattle.path_walk.specs.Places.{Place, place_of, root_of}
+use Rattle.path_walk.specs.Places.{Place, place_of, root_of, target_of}
 use Rattle.path_walk.specs.declared.answer.Answer.{Answer}
 use Rattle.path_walk.specs.declared.answer.Answer.TheVariants.{NotFound, NotDirectory}
+use Rattle.path_walk.specs.declared.target.Target.{Target}
 
 -- the entries of a directory, in record order; those of a reserved directory are neither followed nor listed
 unfoldable pub entries_in : Facts → ℕ → List Entry
@@ -52,3 +53,7 @@ walk facts (name ∷ names) place = and_then (step facts place name) (λ next. w
 -- where a path leads, or the answer
 unfoldable pub found : Facts → List ℕ → Result Place Answer
 found facts path = and_then (ok_or (root_of facts) NotFound) (λ root. walk facts (components path) root)
+
+-- what a path leads to, as it is told, or the answer
+abbrev pub target_found : Facts → List ℕ → Result Target Answer
+target_found facts path = and_then (found facts path) (λ (place : Place). Ok (target_of place))

@@ -1,5 +1,5 @@
 -- What is gathered of the records of snapshots and of their names.
-use Rattle.std.specs.Prelude.{◌≡◌, ◌⊎◌, ℕ, ◌+◌, ◌<◌, not, Bool, true, false, cond, ◌&&◌, ◌||◌, ◌==◌, nat_le, List, [], ◌∷◌, ◌++◌, length, map, Option, None, Some, refl, Result, Ok, Err, IfOk, IsTrue, is_some, is_none, option_map, option_to_list}
+use Rattle.std.specs.Prelude.{◌≡◌, ℕ, ◌+◌, ◌<◌, not, Bool, true, false, cond, ◌&&◌, ◌||◌, ◌==◌, nat_le, List, [], ◌∷◌, ◌++◌, length, map, Option, None, Some, refl, Result, Ok, Err, IfOk, IsTrue, is_some, is_none, option_map, option_to_list}
 use Rattle.std.specs.List.{filter, list_all, list_any}
 use Rattle.std.proofs.Common.{arith, ap, sym, ◌∙◌, subst, inl, inr}
 use Rattle.std.proofs.lemmas.Bool.Decides.{nat_tests}
@@ -19,7 +19,7 @@ use Rattle.bt_cursor.proofs.Lines.{leaf_pairs-append}
 use Rattle.fs_name.specs.Text.{is_name, name_in, name_of}
 use Rattle.vol_view.specs.SnapRecords.{is_snapshot, is_snapshot_name, snapshot_pairs, name_pairs, snap_name_len, snap_name_bytes, is_snapshot_long, is_snapshot_readable, is_name_readable, named_xid}
 use Rattle.vol_view.specs.Agreement.{are_readable}
-use Rattle.vol_view.specs.Gathered.{named_in_value, snapshot_with, snapshot_read, name_with, name_read, snapshot_told, name_told, is_unread, is_refused, Tell}
+use Rattle.vol_view.specs.Gathered.{snapshot_with, snapshot_read, name_with, name_read, snapshot_told, name_told, is_unread, is_refused, Tell}
 use Rattle.vol_view.specs.declared.records.SnapshotRecord.{SnapshotRecord}
 use Rattle.vol_view.specs.declared.records.NameRecord.{NameRecord}
 

@@ -1,11 +1,11 @@
 -- Records looked up by their names.
-use Rattle.std.specs.Prelude.{◌≡◌, ℕ, zero, suc, ◌+◌, ◌-◌, ◌<◌, ◌≤◌, ◌++◌, length, Bool, true, false, cond, not, ◌&&◌, ◌||◌, ◌==◌, List, [], ◌∷◌, map, Option, None, Some, refl, is_some, bytes_eq}
+use Rattle.std.specs.Prelude.{◌≡◌, ℕ, zero, suc, ◌+◌, ◌-◌, ◌<◌, ◌≤◌, ◌++◌, length, Bool, true, false, cond, not, ◌&&◌, ◌||◌, ◌==◌, List, [], ◌∷◌, map, Option, Some, refl, is_some, bytes_eq}
 use Rattle.std.specs.List.{list_all, list_any}
-use Rattle.std.proofs.Common.{arith, ap, sym, ◌∙◌, subst, inl, inr, take, drop, get_or, drop-cons}
+use Rattle.std.proofs.Common.{arith, ap, sym, ◌∙◌, subst, take, drop, get_or, drop-cons}
 use Rattle.std.proofs.lemmas.List.{take_more}
 use Rattle.std.proofs.lemmas.List.Folds.{list_all-append}
 use Rattle.std.proofs.lemmas.Slice.Eq.{bytes_eq-Decides}
-use Rattle.apfs_model.specs.Lists.{In, has_text, are_distinct, passes}
+use Rattle.apfs_model.specs.Lists.{has_text, are_distinct, passes}
 use Rattle.apfs_model.proofs.BoolTests.{clash, left-true, right-true, both-true, never-true, not-true, equal-from, from-equal, all-in}
 use Rattle.vol_view.specs.Named.{named_by, xid_in, is_told}
 use Rattle.vol_view.specs.Gathered.{is_same, are_same}

@@ -1,51 +1,42 @@
 -- What the steps of `load` say of the volume.
-use Rattle.std.specs.Prelude.{◌≡◌, ◌⊎◌, ℕ, ◌<◌, Bool, true, false, cond, ◌&&◌, ◌||◌, ◌==◌, nat_lt, List, [], ◌∷◌, ◌++◌, length, map, Option, None, Some, Result, Ok, Err, refl, is_ok, is_some, IfOk, IsTrue, option_to_list, bytes_eq}
-use Rattle.std.specs.List.{list_all, list_any}
-use Rattle.std.proofs.Common.{arith, ap, sym, ◌∙◌, subst, inl, inr}
+use Rattle.std.specs.Prelude.{◌≡◌, ℕ, Bool, true, false, cond, ◌&&◌, ◌||◌, ◌==◌, nat_lt, List, [], ◌∷◌, None, Some, Result, Ok, Err, refl, is_ok}
+use Rattle.std.proofs.Common.{ap, sym, ◌∙◌, subst, inl, inr}
 use Rattle.apfs_model.specs.Blocks.{in_container}
-use Rattle.apfs_model.specs.Lists.{In, are_distinct}
-use Rattle.apfs_model.proofs.BoolTests.{clash, left-true, right-true, both-true, never-true, all-in}
-use Rattle.apfs_model.proofs.Searches.{from-map}
-use Rattle.obj_base.specs.Stops.{Tells, NoFeature, raised}
+use Rattle.apfs_model.specs.Lists.{In}
+use Rattle.obj_base.specs.Stops.{Tells, raised}
 use Rattle.obj_base.specs.declared.stop.Feature.{Feature}
 use Rattle.obj_base.specs.declared.stop.Feature.TheVariants.{SnapshotState}
 use Rattle.obj_base.specs.declared.stop.Stop.{Stop}
 use Rattle.obj_base.specs.declared.stop.Stop.TheVariants.{Found, Unsupported, ReadFault, NoMemory}
-use Rattle.obj_base.specs.declared.stop.Within.TheVariants.{Physical, Ephemeral, Container, Volume}
-use Rattle.obj_base.specs.Sound.{sound_of, expecting}
 use Rattle.obj_base.specs.declared.header.Header.{Header}
 use Rattle.obj_base.specs.declared.header.HeadFault.{HeadFault}
 use Rattle.obj_base.specs.declared.stop.Bad.{Bad}
 use Rattle.obj_base.specs.declared.stop.Bad.TheVariants as bads
 use Rattle.obj_base.specs.declared.site.Site.{Site}
-use Rattle.bt_node.specs.Entries.{Pair, bytes_in}
-use Rattle.bt_cursor.specs.Line.{Item, is_leaf_item, leaf_pairs, line_of}
+use Rattle.bt_cursor.specs.Line.{leaf_pairs, line_of}
 use Rattle.bt_cursor.specs.Flat.{flat_of}
-use Rattle.bt_cursor.specs.Whole.{IsWhole, is_whole}
+use Rattle.bt_cursor.specs.Whole.{is_whole}
 use Rattle.bt_cursor.specs.Faults.{HasFeature}
-use Rattle.bt_cursor.specs.Gathered.{IsGatherFault, IsGathered, IsRefused}
+use Rattle.bt_cursor.specs.Gathered.{IsGatherFault, IsGathered}
 use Rattle.bt_cursor.specs.declared.gathering.GatherFault.{GatherFault}
 use Rattle.bt_cursor.specs.declared.gathering.GatherFault.TheVariants as gathers
 use Rattle.bt_cursor.proofs.Flats.{line-pairs}
 use Rattle.bt_cursor.proofs.Wholes.{means_whole}
-use Rattle.apfs_model.specs.Object.{volume_kind}
-use Rattle.omap_map.specs.Fields.{snap_count_of}
 use Rattle.omap_map.specs.Features.{has_snapshot_state, snapshot_features}
-use Rattle.omap_map.specs.Maps.{Contents, map_in, map_snapshots, is_map_object, IsLoaded, IsMapFault, IsMapFeature}
+use Rattle.omap_map.specs.Maps.{Contents, map_snapshots, IsLoaded, IsMapFault, IsMapFeature}
 use Rattle.omap_map.specs.declared.fault.OmapFault.{OmapFault}
 use Rattle.omap_map.proofs.Loads.{whole-object}
-use Rattle.vol_view.specs.Fields as field
 use Rattle.vol_view.specs.Heads.{super_in, super_test, has_magic, is_super}
-use Rattle.vol_view.specs.Slots.{map_raised, magic_in, after_header, tested}
+use Rattle.vol_view.specs.Slots.{map_raised, after_header, tested}
 use Rattle.vol_view.specs.SnapRecords.{metadata_tree, metadata_pairs}
-use Rattle.vol_view.specs.Volumes.{super_of, map_block_of, metadata_of}
+use Rattle.vol_view.specs.Volumes.{map_block_of, metadata_of}
 use Rattle.vol_view.specs.Agreement.{are_readable}
 use Rattle.vol_view.specs.LoadStops.{metadata_root, IsLoadStop, IsLoadFeature}
 use Rattle.vol_view.specs.Gathered.{first_of, is_refused, Tell, metadata_stop, HasMetadata}
 use Rattle.vol_view.specs.declared.head.VolHead.{VolHead}
 use Rattle.vol_view.specs.declared.volume.Snapshot.{Snapshot}
 use Rattle.vol_view.specs.declared.stop.VolStop.{VolStop}
-use Rattle.vol_view.specs.declared.stop.VolStop.TheVariants.{Head, Magic, Unnamed, Omap, Walk, SnapRecord, SnapCount, SnapName, OmapSnaps}
+use Rattle.vol_view.specs.declared.stop.VolStop.TheVariants.{Magic}
 use Rattle.vol_view.specs.declared.records.SnapshotRecord.{SnapshotRecord}
 use Rattle.vol_view.specs.declared.records.NameRecord.{NameRecord}
 use Rattle.vol_view.proofs.Gatherings.{kept-readable, refused-unreadable}

@@ -1,30 +1,27 @@
 -- A volume whose parts were loaded: how its records agree, its snapshots, and the whole.
-use Rattle.std.specs.Prelude.{◌≡◌, ◌⊎◌, ℕ, ◌+◌, ◌<◌, ◌++◌, Result, Ok, Err, IfOk, Bool, true, false, cond, ◌&&◌, ◌||◌, ◌==◌, List, [], ◌∷◌, length, map, None, Some, refl, is_ok, bytes_eq}
+use Rattle.std.specs.Prelude.{◌≡◌, ℕ, ◌+◌, ◌<◌, ◌++◌, Result, Ok, Err, IfOk, Bool, true, cond, ◌&&◌, ◌||◌, ◌==◌, List, [], ◌∷◌, length, map, refl, bytes_eq}
 use Rattle.std.specs.List.{list_all, list_any}
 use Rattle.std.proofs.lemmas.List.{length-map, map-append, take_more}
 use Rattle.omap_map.proofs.Lists.{contains-in}
 use Rattle.std.proofs.Common.{ap, sym, ◌∙◌, subst, inl, inr, get_or, take}
-use Rattle.apfs_model.specs.Blocks.{in_container}
 use Rattle.apfs_model.specs.Lists.{In, are_distinct}
 use Rattle.apfs_model.proofs.BoolTests.{left-true}
 use Rattle.apfs_model.proofs.Searches.{from-map, in-map, in-append}
 use Rattle.obj_base.specs.Stops.{Tells, NoFeature, IsFree}
-use Rattle.obj_base.specs.declared.stop.Feature.{Feature}
 use Rattle.obj_base.specs.declared.stop.Stop.{Stop}
 use Rattle.obj_base.specs.declared.stop.Stop.TheVariants.{Found, Unsupported, ReadFault, NoMemory}
 use Rattle.obj_base.specs.declared.stop.Within.TheVariants.{Physical, Ephemeral, Container, Volume}
 use Rattle.obj_base.specs.declared.site.Site.{Site}
-use Rattle.bt_node.specs.Entries.{Pair, bytes_in}
+use Rattle.bt_node.specs.Entries.{Pair}
 use Rattle.omap_map.specs.Features.{snapshot_features}
-use Rattle.omap_map.specs.Maps.{Contents, contents_of, is_whole_map, map_in, map_snapshots}
+use Rattle.omap_map.specs.Maps.{Contents, contents_of, is_whole_map}
 use Rattle.omap_map.proofs.Loads.{whole-object}
 use Rattle.vol_view.specs.Fields as field
-use Rattle.vol_view.specs.Heads.{super_in, is_super}
-use Rattle.vol_view.specs.SnapRecords.{snapshot_pairs, name_pairs, snap_xid, named_xid, snap_super_of, snap_flags_of, snapshot_name, record_name, is_snapshot_long, is_snapshot_readable, is_name_readable}
+use Rattle.vol_view.specs.SnapRecords.{snapshot_pairs, name_pairs, snapshot_name, record_name, is_snapshot_long, is_snapshot_readable, is_name_readable}
 use Rattle.vol_view.specs.Volumes.{Loaded, super_of, map_block_of, metadata_of, empty_map, map_or_empty, snapshot_in, snapshots_in, loaded_by, loaded_of}
 use Rattle.vol_view.specs.Agreement.{are_readable, is_snap_count, is_fellow, is_snapshot_named, is_name_used, are_named, are_map_snapshots, Agree}
-use Rattle.vol_view.specs.Features.{volume_features, snapshot_super_features, snapshot_record_features}
-use Rattle.vol_view.specs.LoadStops.{counted_snapshots, map_count, map_xids, has_whole_metadata, IsSnapshotOf, IsRightSnapshot, IsLoadStop, IsLoadFeature, IsLoadable, IsVolumeOf}
+use Rattle.vol_view.specs.Features.{volume_features, snapshot_record_features}
+use Rattle.vol_view.specs.LoadStops.{counted_snapshots, map_count, map_xids, has_whole_metadata, IsSnapshotOf, IsLoadStop, IsLoadFeature, IsLoadable, IsVolumeOf}
 use Rattle.vol_view.specs.Gathered.{snapshot_told, name_told, HasVolumeMap, HasMetadata, is_same, are_same, map_agrees, AgreeBy, Disagree, snapshot_for, IsRecordStop, IsRecordFeature, IsStopOfOne, IsFeatureOfOne, AreSnapshots, IsRightRecord, IsRightSnapshotOf}
 use Rattle.vol_view.specs.declared.head.VolHead.{VolHead}
 use Rattle.vol_view.specs.declared.volume.Snapshot.{Snapshot}

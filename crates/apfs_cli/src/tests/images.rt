@@ -29,6 +29,12 @@ pub const ROOT_KEY_COUNT: usize = BLOCK - INFO_LEN + KEY_COUNT;
 // Where the value of the only entry of a root of level 0 starts, when it has 16 bytes.
 pub const ONLY_VALUE: usize = BLOCK - INFO_LEN - 16;
 
+// The object map of that volume.
+pub const VOLUME_MAP: usize = 52;
+
+// Where the name in the first record of a lone root stands, which is of a snapshot with a name of two bytes.
+pub const FIRST_NAME: usize = BLOCK - INFO_LEN - 3;
+
 // Where the flags of the first two of the records of a lone root stand, which are of snapshots with names of two bytes.
 pub const FIRST_FLAGS: usize = BLOCK - INFO_LEN - (SNAPSHOT_NAME + 3) + SNAPSHOT_FLAGS;
 

@@ -59,13 +59,32 @@ fn assert_loaded(rt: &impl Abort, alloc: Global, edits: &[Edit]) -> Result<(), F
         panic!(rt; "there is no volume");
     };
     assert_eq!(rt; volume.names, Names::Folded);
-    assert_eq!(rt; (volume.root_oid, volume.extents_root, volume.snaps_root, volume.meta_ext), (1028, 55, 56, 0));
+    assert_eq!(rt;
+        (
+            volume.root_oid,
+            volume.extents_root,
+            volume.snaps_root,
+            volume.meta_ext
+        ),
+        (1028, 55, 56, 0)
+    );
     assert_eq!(rt; volume.snaps.len(), 2);
     let first = &volume.snaps[0];
-    assert_eq!(rt; (first.xid, first.super_block, first.extents_root, first.root_oid), (2, 60, 61, 1028));
+    assert_eq!(rt;
+        (
+            first.xid,
+            first.super_block,
+            first.extents_root,
+            first.root_oid
+        ),
+        (2, 60, 61, 1028)
+    );
     assert!(rt; first.name == Bytes::from_slice(alloc, b"s2")?);
     let last = &volume.snaps[1];
-    assert_eq!(rt; (last.xid, last.super_block, last.extents_root, last.root_oid), (4, 62, 63, 1028));
+    assert_eq!(rt;
+        (last.xid, last.super_block, last.extents_root, last.root_oid),
+        (4, 62, 63, 1028)
+    );
     let now = live(&volume, &cp);
     assert_eq!(rt; (now.slot, now.xid, now.root_oid), (0, 5, 1028));
     let before = past(&volume, 1);
@@ -81,7 +100,11 @@ fn a_volume_with_two_snapshots(rt: HostRuntime) -> Result<(), Fail> {
     let alloc = rt.alloc();
     assert_loaded(&rt, alloc, &[])?;
     // Of a snapshot's superblock neither the reserved number nor the types of its physical trees are looked at.
-    assert_loaded(&rt, alloc, &[(FIRST, 1048, 1), (FIRST, 123, 0), (FIRST, 160, 1)])
+    assert_loaded(
+        &rt,
+        alloc,
+        &[(FIRST, 1048, 1), (FIRST, 123, 0), (FIRST, 160, 1)],
+    )
 }
 
 #[test]
@@ -96,7 +119,13 @@ fn the_small_volume_has_none(rt: HostRuntime) -> Result<(), Fail> {
     Ok(())
 }
 
-fn assert_stop(rt: &impl Abort, alloc: Global, edit: Edit, sealed: bool, stop: Stop<VolStop>) -> Result<(), Fail> {
+fn assert_stop(
+    rt: &impl Abort,
+    alloc: Global,
+    edit: Edit,
+    sealed: bool,
+    stop: Stop<VolStop>,
+) -> Result<(), Fail> {
     match loaded(alloc, edited(alloc, &[edit], sealed)?) {
         Ok(_) => panic!(rt; "there is a volume"),
         Err(other) => assert_eq!(rt; other, stop),
@@ -109,11 +138,29 @@ fn what_stops_a_volume(rt: HostRuntime) -> Result<(), Fail> {
     let alloc = rt.alloc();
     let physical = Within::Physical;
     let faults = [
-        ((SUPER, 128, 0), VolStop::Unnamed { within: physical, oid: 0 }),
-        ((METADATA, RECORD_2 + 8, 0), VolStop::Unnamed { within: physical, oid: 0 }),
-        ((METADATA, RECORD_2 + 52, 0x33), VolStop::SnapRecord { slot: 0 }),
+        (
+            (SUPER, 128, 0),
+            VolStop::Unnamed {
+                within: physical,
+                oid: 0,
+            },
+        ),
+        (
+            (METADATA, RECORD_2 + 8, 0),
+            VolStop::Unnamed {
+                within: physical,
+                oid: 0,
+            },
+        ),
+        (
+            (METADATA, RECORD_2 + 52, 0x33),
+            VolStop::SnapRecord { slot: 0 },
+        ),
         ((SUPER, 216, 3), VolStop::SnapCount { slot: 0 }),
-        ((METADATA, RECORD_2 + 51, 0x33), VolStop::SnapName { slot: 0 }),
+        (
+            (METADATA, RECORD_2 + 51, 0x33),
+            VolStop::SnapName { slot: 0 },
+        ),
         ((METADATA, NAME_2, 4), VolStop::SnapName { slot: 0 }),
         ((VOLUME_MAP, 36, 3), VolStop::OmapSnaps { slot: 0 }),
         ((FIRST, 32, 0), VolStop::Magic { block: 60 }),
@@ -122,11 +169,32 @@ fn what_stops_a_volume(rt: HostRuntime) -> Result<(), Fail> {
         assert_stop(&rt, alloc, edit, true, Stop::Found(fault))?;
     }
     let why = HeadFault::BadSum;
-    assert_stop(&rt, alloc, (FIRST, 4095, 1), false, Stop::Found(VolStop::Head { block: 60, why }))?;
+    assert_stop(
+        &rt,
+        alloc,
+        (FIRST, 4095, 1),
+        false,
+        Stop::Found(VolStop::Head { block: 60, why }),
+    )?;
     let map = OmapFault::Head { block: 52, why };
-    assert_stop(&rt, alloc, (VOLUME_MAP, 4095, 1), false, Stop::Found(VolStop::Omap(map)))?;
-    let why = WalkFault::Unsound { block: 56, why: NodeFault::Head(why) };
-    assert_stop(&rt, alloc, (METADATA, 4000, 1), false, Stop::Found(VolStop::Walk { root: 56, why }))
+    assert_stop(
+        &rt,
+        alloc,
+        (VOLUME_MAP, 4095, 1),
+        false,
+        Stop::Found(VolStop::Omap(map)),
+    )?;
+    let why = WalkFault::Unsound {
+        block: 56,
+        why: NodeFault::Head(why),
+    };
+    assert_stop(
+        &rt,
+        alloc,
+        (METADATA, 4000, 1),
+        false,
+        Stop::Found(VolStop::Walk { root: 56, why }),
+    )
 }
 
 #[test]
@@ -141,7 +209,11 @@ fn features_of_a_volume(rt: HostRuntime) -> Result<(), Fail> {
         ((SUPER, 123, 0), Feature::Storage, 51),
         ((SUPER, 1048, 1), Feature::LaterTree, 51),
         ((SUPER, 56, 0x41), Feature::UnknownVolume, 51),
-        ((MAP_SNAPSHOTS, 4096 - 40 - 16, 1), Feature::SnapshotState, 52),
+        (
+            (MAP_SNAPSHOTS, 4096 - 40 - 16, 1),
+            Feature::SnapshotState,
+            52,
+        ),
         ((METADATA, RECORD_2 + 44, 2), Feature::SnapshotState, 60),
         ((METADATA, RECORD_4 + 44, 1), Feature::Dataless, 62),
         ((FIRST, 264, 0), Feature::Encrypted, 60),

@@ -1,10 +1,9 @@
-use Rattle.std.proofs.Common.{◌≡◌, ℕ, List, [], ◌∷◌, ◌++◌, Option, Some, None, true, false, ap, sym, ◌∙◌, subst, refl, arith}
+use Rattle.std.proofs.Common.{◌≡◌, ℕ, List, [], ◌∷◌, ◌++◌, Some, None, ap, sym, ◌∙◌, subst, arith}
 use Rattle.std.specs.Bool.{MatchBool}
 use Rattle.obj_base.specs.Stops.{Tells}
 use Rattle.bt_cursor.specs.Tree.{Tree, tree_in}
 use Rattle.bt_cursor.specs.Faults.{HasFeature}
 use Rattle.bt_cursor.specs.Cursors.{tree_of, left_of}
-use Rattle.fs_record.specs.declared.extents.FileExt.{FileExt}
 use Rattle.file_extent.specs.Laid.{AreLaid}
 use Rattle.file_extent.specs.Collected.{IsCollected, IsCollectStop, IsMisordered}
 use Rattle.file_extent.proofs.Lays.{laid-none}

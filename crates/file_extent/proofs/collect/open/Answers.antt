@@ -1,4 +1,4 @@
-use Rattle.std.proofs.Common.{◌≡◌, ℕ, List, [], Some, true, ap, sym, ◌∙◌, subst, refl}
+use Rattle.std.proofs.Common.{◌≡◌, ℕ, List, true, ap, sym, ◌∙◌, subst}
 use Rattle.obj_base.specs.Stops.{Tells}
 use Rattle.bt_node.specs.Entries.{Pair}
 use Rattle.bt_cursor.specs.Tree.{Tree, tree_in}
@@ -10,7 +10,7 @@ use Rattle.bt_cursor.specs.From.{from_rank}
 use Rattle.bt_cursor.specs.Faults.{IsNodeFault, HasFeature}
 use Rattle.bt_cursor.specs.Cursors.{root_of, tree_of, left_of}
 use Rattle.bt_cursor.proofs.Runs.{flat-suffix}
-use Rattle.file_extent.specs.Collected.{stream_rank, IsCollectStop, IsCollected}
+use Rattle.file_extent.specs.Collected.{stream_rank, IsCollectStop}
 use Rattle.file_extent.proofs.Walks.{tree-readable, walk_tells, collected_none}
 use Rattle.file_extent.proofs.collect.open.Goals as goal
 

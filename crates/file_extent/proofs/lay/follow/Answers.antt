@@ -1,5 +1,4 @@
-use Rattle.std.proofs.Common.{◌≡◌, ◌≤◌, length, Some, ap, sym, ◌∙◌}
-use Rattle.std.specs.Option.{option_copied}
+use Rattle.std.proofs.Common.{sym}
 use Rattle.file_extent.proofs.Lays.{follows_after}
 use Rattle.file_extent.proofs.lay.follow.Goals as goal
 

@@ -1,4 +1,4 @@
-use Rattle.std.proofs.Common.{◌≡◌, ◌++◌, ◌<◌, ◌≤◌, ◌-◌, ◌∷◌, [], List, length, arith, ap, sym, subst, ◌∙◌}
+use Rattle.std.proofs.Common.{◌++◌, ◌-◌, ◌∷◌, [], List, length, arith, ap, sym, subst, ◌∙◌}
 use Rattle.std.specs.List.{slice_get}
 use Rattle.fs_record.specs.declared.extents.FileExt.{FileExt}
 use Rattle.file_extent.specs.Laid.{AreLaid}

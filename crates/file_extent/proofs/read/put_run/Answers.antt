@@ -1,8 +1,6 @@
-use Rattle.std.proofs.Common.{◌≡◌, ◌+◌, ◌-◌, ◌*◌, ◌≤◌, ℕ, List, length, take, drop, arith, refl, ap, sym, ◌∙◌}
-use Rattle.obj_base.specs.declared.site.Site.{Site}
-use Rattle.fs_record.specs.declared.extents.FileExt.{FileExt}
+use Rattle.std.proofs.Common.{◌≡◌, ◌+◌, ◌-◌, ◌*◌, ℕ, length, take, drop, arith, refl, ap, sym, ◌∙◌}
 use Rattle.file_extent.proofs.Pieces.{bytes-solid}
-use Rattle.file_extent.proofs.Insides.{IsRunInside, run-inside, size-some}
+use Rattle.file_extent.proofs.Insides.{run-inside, size-some}
 use Rattle.file_extent.proofs.read.put_run.Goals as goal
 
 pub overflow_mul-first : goal.overflow_mul-first

@@ -1,4 +1,4 @@
-use Rattle.std.proofs.Common.{◌≡◌, ◌+◌, ◌-◌, ◌<◌, ◌≤◌, ℕ, List, length, Some, slice_index_or, arith}
+use Rattle.std.proofs.Common.{◌≡◌, ◌-◌, Some, slice_index_or, arith}
 use Rattle.std.specs.List.{slice_get}
 use Rattle.std.proofs.lemmas.Option.{slice_get-get_or}
 use Rattle.fs_record.specs.declared.extents.FileExt.{FileExt}

@@ -1,6 +1,5 @@
-use Rattle.std.proofs.Common.{◌≡◌, ◌+◌, ◌-◌, ◌<◌, ◌≤◌, ℕ, List, length, Some, arith, ap, sym, ◌∙◌}
+use Rattle.std.proofs.Common.{◌≡◌, ◌-◌, arith, ap, ◌∙◌}
 use Rattle.std.specs.List.{slice_get}
-use Rattle.fs_record.specs.declared.extents.FileExt.{FileExt}
 use Rattle.file_extent.proofs.Searches.{part-covered, part-uncovered, part-first}
 use Rattle.file_extent.proofs.search.part_at.Goals as goal
 

@@ -1,4 +1,4 @@
-use Rattle.std.proofs.Common.{◌≡◌, ◌∙◌, ◌<◌, true, false, map, length, get_or, sym, ap, arith, below_more, bytes_eq}
+use Rattle.std.proofs.Common.{◌≡◌, ◌∙◌, ◌<◌, map, length, get_or, sym, ap, arith, below_more, bytes_eq}
 use Rattle.std.proofs.lemmas.List.{get_or-map, length-map, ext_get_or}
 use Rattle.std.proofs.lemmas.Slice.Eq.{bytes_eq-Decides}
 use Rattle.std.specs.Prelude.{ℕ, List}

@@ -1,4 +1,4 @@
-use Rattle.std.proofs.Common.{◌≡◌, ◌∙◌, sym, ap, subst}
+use Rattle.std.proofs.Common.{◌∙◌, sym, ap, subst}
 use Rattle.obj_base.specs.Stops.{Tells}
 use Rattle.vol_view.specs.Fields.{omap_oid_of}
 use Rattle.vol_view.specs.LoadStops.{IsLoadStop, IsLoadFeature}

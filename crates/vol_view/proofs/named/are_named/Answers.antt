@@ -1,8 +1,7 @@
 use Rattle.std.proofs.Common.{◌≡◌, ◌∙◌, true, false, sym, ap, subst, map}
-use Rattle.std.specs.Prelude.{ℕ, List, Bool, ◌&&◌, Option, IfNone, IfSome}
+use Rattle.std.specs.Prelude.{Bool, ◌&&◌, IfNone, IfSome}
 use Rattle.std.specs.List.{list_all}
 use Rattle.apfs_model.specs.Lists.{are_distinct}
-use Rattle.vol_view.specs.Gathered.{are_same}
 use Rattle.vol_view.specs.Named.{IsIndex, is_told}
 use Rattle.vol_view.specs.declared.records.SnapshotRecord.{SnapshotRecord}
 use Rattle.vol_view.specs.declared.records.NameRecord.{NameRecord}

@@ -1,11 +1,11 @@
-use Rattle.std.proofs.Common.{◌≡◌, ◌∙◌, ◌-◌, ◌<◌, ◌≤◌, ◌∷◌, true, false, refl, sym, ap, subst, arith, map, length, drop, cond, nat_cmp, Some}
+use Rattle.std.proofs.Common.{◌≡◌, ◌∙◌, ◌-◌, ◌<◌, ◌≤◌, ◌∷◌, true, false, sym, ap, subst, arith, map, length, drop, cond, nat_cmp, Some}
 use Rattle.std.specs.Prelude.{bytes_eq, is_some, ℕ, List}
 use Rattle.std.specs.BTreeMap.{get_by}
 use Rattle.std.specs.Cmp.Lexicographic.{slice_cmp}
 use Rattle.std.proofs.lemmas.Map.Text.{btree_map_updates_str}
 use Rattle.apfs_model.proofs.BoolTests.{never-true}
 use Rattle.apfs_model.specs.Lists.{are_distinct}
-use Rattle.vol_view.specs.Named.{IsIndex, named_by, xid_in}
+use Rattle.vol_view.specs.Named.{named_by, xid_in}
 use Rattle.vol_view.proofs.Indexes.{distinct-drop, drop-here, distinct-more, twice-there}
 use Rattle.vol_view.proofs.named.index.Goals as goal
 

@@ -1,9 +1,5 @@
-use Rattle.std.proofs.Common.{◌≡◌, ◌∙◌, refl, sym, ap, subst, inl, inr, true, arith}
-use Rattle.std.proofs.lemmas.Grind.{common_steps}
-use Rattle.std.specs.Prelude.{[], Some, nat_lt, ◌&&◌}
-use Rattle.obj_base.specs.declared.site.Site.{Site}
-use Rattle.apfs_model.proofs.BoolTests.{not-false, not-true}
-use Rattle.apfs_model.specs.Blocks.{in_container}
+use Rattle.std.proofs.Common.{◌≡◌, ◌∙◌, refl, ap, subst, inr, true, arith}
+use Rattle.std.specs.Prelude.{[], nat_lt, ◌&&◌}
 use Rattle.apfs_model.specs.Lists.{In}
 use Rattle.vol_view.specs.Fields.{root_oid_of, meta_ext_of}
 use Rattle.vol_view.specs.Features.{snapshot_super_features, snapshot_record_features}

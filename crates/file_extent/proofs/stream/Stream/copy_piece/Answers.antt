@@ -1,5 +1,4 @@
-use Rattle.std.proofs.Common.{◌≡◌, ◌+◌, ◌-◌, ◌<◌, ◌≤◌, ℕ, List, take, arith, refl, ap, sym, ◌∙◌}
-use Rattle.apfs_model.specs.Sink.{WrotePart}
+use Rattle.std.proofs.Common.{◌+◌, ◌-◌, ◌≤◌, take, arith, refl}
 use Rattle.file_extent.specs.Streams.{bytes_from}
 use Rattle.file_extent.proofs.Pieces.{bytes-more}
 use Rattle.file_extent.proofs.Copies.{part-longer, part-same}

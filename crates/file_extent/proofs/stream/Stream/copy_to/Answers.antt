@@ -1,8 +1,7 @@
-use Rattle.std.proofs.Common.{◌≡◌, ◌+◌, ◌-◌, ◌<◌, ◌≤◌, ◌++◌, ℕ, List, Some, arith, refl, ap, sym, ◌∙◌}
-use Rattle.apfs_model.specs.Sink.{Wrote, WrotePart}
+use Rattle.std.proofs.Common.{◌≡◌, ◌-◌, ◌++◌, ℕ, Some, arith, ap, ◌∙◌}
 use Rattle.file_extent.specs.Streams.{Opened, bytes_from, stream_bytes}
 use Rattle.file_extent.proofs.Pieces.{bytes-more}
-use Rattle.file_extent.proofs.Copies.{wrote-more, part-after, part-same}
+use Rattle.file_extent.proofs.Copies.{wrote-more, part-after}
 use Rattle.file_extent.proofs.stream.Stream.copy_to.Goals as goal
 
 pub returns-in-Err-clause-part : goal.returns-in-Err-clause-part

@@ -1,4 +1,3 @@
-use Rattle.std.proofs.Common.{◌≡◌, ap, sym, ◌∙◌, subst}
 use Rattle.file_extent.proofs.Openings.{opened, sound_free}
 use Rattle.file_extent.proofs.stream.Stream.start.Goals as goal
 

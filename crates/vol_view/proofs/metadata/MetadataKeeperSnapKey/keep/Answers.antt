@@ -1,4 +1,4 @@
-use Rattle.std.proofs.Common.{◌≡◌, ◌++◌, ◌∙◌, sym, ap, subst, arith, option_map, option_to_list, IfOk}
+use Rattle.std.proofs.Common.{◌≡◌, ◌++◌, subst, arith, option_map, option_to_list, IfOk}
 use Rattle.std.specs.Prelude.{is_some}
 use Rattle.vol_view.specs.Gathered.{snapshot_read, name_read}
 use Rattle.vol_view.proofs.Gatherings.{key-named, snapshot-held, name-held}

@@ -1,0 +1,96 @@
+-- Listings, as they are told, and the steps of a path one after the other.
+use Rattle.std.proofs.Common.{◌≡◌, ℕ, zero, suc, ◌+◌, ◌<◌, ◌≤◌, Bool, true, false, cond, List, [], ◌∷◌, ◌++◌, length, map, take, drop, get_or, Option, Some, None, Result, Ok, Err, refl, ap, sym, ◌∙◌, arith}
+use Rattle.std.specs.Prelude.{filter_map, option_map}
+use Rattle.std.specs.List.{cons_option}
+use Rattle.std.proofs.lemmas.List.{drop_more, take_more, take_all}
+use Rattle.std.proofs.lemmas.List.Elements.{filter_map-append}
+use Rattle.apfs_model.specs.Lists.{and_then}
+use Rattle.fs_record.specs.Entries.{Entry}
+use Rattle.fs_record.specs.Facts.{Fact}
+use Rattle.view_rules.specs.Facts.{Facts, is_directory}
+use Rattle.path_walk.specs.Places.{Place, target_of}
+use Rattle.path_walk.specs.Found.{entries_in, place_by, found}
+use Rattle.path_walk.specs.Order.{is_after, put_in, by_name}
+use Rattle.path_walk.specs.Listing.{children, listed, listing}
+use Rattle.path_walk.specs.Parts.{whats, by_part, along, target_by, targets_by}
+use Rattle.path_walk.specs.declared.answer.Answer.{Answer}
+use Rattle.path_walk.specs.declared.target.Target.{Target}
+use Rattle.path_walk.proofs.Known.{along_on, along_stops}
+
+-- ---- one part after another
+pub ok_same : {T E : Type 0} (x y : T) → ◌≡◌ {A = Result T E} (Ok x) (Ok y) → y ≡ x
+ok_same x y e = cc
+
+drop-all : {X : Type 0} (xs : List X) → drop (length xs) xs ≡ []
+drop-all [] = refl
+drop-all (x ∷ xs) = drop-all xs
+
+drop-at : {P : Type 0} (now : P → List ℕ) (parts : List P) (i : ℕ) (d : P) → i < length parts → map now (drop i parts) ≡ now (get_or parts i d) ∷ map now (drop (i + 1) parts)
+drop-at now parts i d low = ap (map now) (drop_more parts i d low)
+
+pub along_next : {P : Type 0} (now : P → List ℕ) (facts : Facts) (parts : List P) (i : ℕ) (d : P) (place next : Place) (whole : Result Place Answer) → i < length parts → by_part facts place (now (get_or parts i d)) ≡ Ok next → along facts (map now (drop i parts)) place ≡ whole → along facts (map now (drop (i + 1) parts)) next ≡ whole
+along_next now facts parts i d place next whole low step so_far = sym (along_on facts (map now (drop (i + 1) parts)) place next (now (get_or parts i d)) step) ∙ (sym (ap (λ ps. along facts ps place) (drop-at now parts i d low)) ∙ so_far)
+
+pub along_ends : {P : Type 0} (now : P → List ℕ) (facts : Facts) (parts : List P) (i : ℕ) (d : P) (place : Place) (a : Answer) (whole : Result Place Answer) → i < length parts → by_part facts place (now (get_or parts i d)) ≡ Err a → along facts (map now (drop i parts)) place ≡ whole → whole ≡ Err a
+along_ends now facts parts i d place a whole low step so_far = sym so_far ∙ (ap (λ ps. along facts ps place) (drop-at now parts i d low) ∙ along_stops facts (map now (drop (i + 1) parts)) place (now (get_or parts i d)) a step)
+
+pub along_done : {P : Type 0} (now : P → List ℕ) (facts : Facts) (parts : List P) (i : ℕ) (place : Place) (whole : Result Place Answer) → i ≡ length parts → along facts (map now (drop i parts)) place ≡ whole → whole ≡ Ok place
+along_done now facts parts i place whole end so_far = sym so_far ∙ ap (λ ps. along facts (map now ps) place) (ap (λ k. drop k parts) end ∙ drop-all parts)
+
+-- ---- one entry after another
+whats-join : (es fs : List (Fact Entry)) → whats (es ++ fs) ≡ whats es ++ whats fs
+whats-join [] fs = refl
+whats-join (e ∷ es) fs = ap (λ l. e.what ∷ l) (whats-join es fs)
+
+pub targets_more : (facts : Facts) (es : List (Fact Entry)) (i : ℕ) (e : Fact Entry) (target : Target) (targets : List Target) → i < length es → e ≡ get_or es i e → target_by facts e.what ≡ Some target → targets ≡ targets_by facts (whats (take i es)) → targets ++ target ∷ [] ≡ targets_by facts (whats (take (i + 1) es))
+targets_more facts es i e target targets low at there so_far =
+    let more : whats (take (i + 1) es) ≡ whats (take i es) ++ e.what ∷ [] = ap whats (take_more es i e low ∙ ap (λ (f : Fact Entry). take i es ++ f ∷ []) (sym at)) ∙ whats-join (take i es) (e ∷ []) in
+    ap (λ l. l ++ target ∷ []) so_far
+    ∙ (ap (λ (o : Option Target). targets_by facts (whats (take i es)) ++ cons_option o []) (sym there)
+    ∙ (sym (filter_map-append (target_by facts) (whats (take i es)) (e.what ∷ [])) ∙ ap (targets_by facts) (sym more)))
+
+pub targets_done : (facts : Facts) (es : List (Fact Entry)) (i : ℕ) (targets : List Target) → i ≡ length es → targets ≡ targets_by facts (whats (take i es)) → targets ≡ targets_by facts (whats es)
+targets_done facts es i targets end so_far = so_far ∙ ap (λ l. targets_by facts (whats l)) (take_all i es (omega arith))
+
+-- ---- listings
+given-map : {X Y Z : Type 0} (f : Y → Z) (g : X → Option Y) (xs : List X) → filter_map (λ x. option_map f (g x)) xs ≡ map f (filter_map g xs)
+given-map f g [] = refl
+given-map {X} {Y} {Z} f g (x ∷ xs) =
+    let rest = given-map f g xs in
+    let go : (o : Option Y) → cons_option (option_map f o) (filter_map (λ x. option_map f (g x)) xs) ≡ map f (cons_option o (filter_map g xs)) = λ o. elim o as (λ o. cons_option (option_map f o) (filter_map (λ x. option_map f (g x)) xs) ≡ map f (cons_option o (filter_map g xs))) [
+      | None ↦ rest
+      | Some y ↦ ap (λ l. f y ∷ l) rest
+    ] in
+    go (g x)
+
+put-map : {X Y : Type 0} (f : X → Y) (name : Y → List ℕ) (x : X) (xs : List X) → put_in name (f x) (map f xs) ≡ map f (put_in (λ z. name (f z)) x xs)
+put-map f name x [] = refl
+put-map {X} {Y} f name x (y ∷ ys) =
+    let rest = put-map f name x ys in
+    let go : (b : Bool) → cond b (f y ∷ put_in name (f x) (map f ys)) (f x ∷ f y ∷ map f ys) ≡ map f (cond b (y ∷ put_in (λ z. name (f z)) x ys) (x ∷ y ∷ ys)) = λ b. elim b as (λ b. cond b (f y ∷ put_in name (f x) (map f ys)) (f x ∷ f y ∷ map f ys) ≡ map f (cond b (y ∷ put_in (λ z. name (f z)) x ys) (x ∷ y ∷ ys))) [
+      | true ↦ ap (λ l. f y ∷ l) rest
+      | false ↦ refl
+    ] in
+    go (is_after name (f x) (f y))
+
+name-map : {X Y : Type 0} (f : X → Y) (name : Y → List ℕ) (xs : List X) → by_name name (map f xs) ≡ map f (by_name (λ x. name (f x)) xs)
+name-map f name [] = refl
+name-map f name (x ∷ xs) = ap (put_in name (f x)) (name-map f name xs) ∙ put-map f name x (by_name (λ x. name (f x)) xs)
+
+-- what a directory has, from what its entries lead to
+pub children_told : (facts : Facts) (id : ℕ) (es : List Entry) (targets sorted : List Target) → es ≡ entries_in facts id → targets ≡ targets_by facts es → sorted ≡ by_name (λ (t : Target). t.name) targets → sorted ≡ map target_of (children facts id)
+unfolding children
+children_told facts id es targets sorted e f g =
+    g ∙ (ap (by_name (λ (t : Target). t.name)) (f ∙ (ap (targets_by facts) e ∙ given-map target_of (place_by facts) (entries_in facts id))) ∙ name-map target_of (λ (t : Target). t.name) (filter_map (place_by facts) (entries_in facts id)))
+
+pub listed_directory : (facts : Facts) (place : Place) (targets : List Target) → is_directory place.inode ≡ true → targets ≡ map target_of (children facts place.id) → targets ≡ map target_of (listed facts place)
+listed_directory facts place targets e f = f ∙ sym (ap (λ b. map target_of (cond b (children facts place.id) (place ∷ []))) e)
+
+pub listed_file : (facts : Facts) (place : Place) (targets : List Target) → is_directory place.inode ≡ false → targets ≡ target_of place ∷ [] → targets ≡ map target_of (listed facts place)
+listed_file facts place targets e f = f ∙ sym (ap (λ b. map target_of (cond b (children facts place.id) (place ∷ []))) e)
+
+pub listing_found : (facts : Facts) (path : List ℕ) (place : Place) (targets : List Target) → found facts path ≡ Ok place → targets ≡ map target_of (listed facts place) → listing facts path ≡ Ok targets
+listing_found facts path place targets there e = ap (λ (r : Result Place Answer). and_then {T = Place} {U = List Target} r (λ (p : Place). Ok (map target_of (listed facts p)))) there ∙ ap Ok (sym e)
+
+pub listing_answered : (facts : Facts) (path : List ℕ) (a : Answer) → found facts path ≡ Err a → listing facts path ≡ Err a
+listing_answered facts path a e = ap (λ (r : Result Place Answer). and_then {T = Place} {U = List Target} r (λ (p : Place). Ok (map target_of (listed facts p)))) e

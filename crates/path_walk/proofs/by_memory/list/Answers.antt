@@ -1,0 +1,25 @@
+use Rattle.std.proofs.Common.{rules, ◌≡◌, ◌∙◌, List, Result, Ok, map, true, ap, Vec, Global}
+use Rattle.view_rules.specs.Facts.{is_directory}
+use Rattle.path_walk.specs.Places.{Place, target_of}
+use Rattle.path_walk.specs.Found.{found}
+use Rattle.path_walk.specs.Listing.{children, listing}
+use Rattle.path_walk.specs.declared.answer.Answer.{Answer}
+use Rattle.path_walk.specs.declared.target.Target.{Target}
+use Rattle.path_walk.proofs.Known.{known_ends}
+use Rattle.path_walk.proofs.Listed.{ok_same, listed_directory, listing_found, listing_answered}
+use Rattle.path_walk.proofs.by_memory.list.Goals as goal
+
+pub returns-in-Err-clause-known : goal.returns-in-Err-clause-known
+returns-in-Err-clause-known c facts named r =
+    known_ends facts c.args.view.now (λ (p : Place). p) (found facts c.args.path.now) (λ (v : Vec Target Global). v.items) (listing facts c.args.path.now) c.in-Err.stop (listing_answered facts c.args.path.now) (c.in-Err.ensures.known facts named r)
+
+pub returns-in-Ok-children-clause-known : goal.returns-in-Ok-children-clause-known
+returns-in-Ok-children-clause-known c facts named r =
+    let directory : is_directory c.in-Ok.place.inode ≡ true = search rules in
+    let these = ok_same (map target_of (children facts c.place.inside.id)) c.in-Ok-children.targets.items (c.in-Ok-children.ensures.known facts r) in
+    listing_found facts c.args.path.now c.in-Ok.place c.in-Ok-children.targets.items (c.in-Ok.ensures.known facts named r)
+    (listed_directory facts c.in-Ok.place c.in-Ok-children.targets.items directory (these ∙ ap (λ (p : Place). map target_of (children facts p.id)) c.place.view_is))
+
+pub returns-clause-known : goal.returns-clause-known
+returns-clause-known c facts named r =
+    known_ends facts c.args.view.now (λ (v : Vec Target Global). v.items) (Ok (map target_of (children facts c.place.inside.id))) (λ (v : Vec Target Global). v.items) (listing facts c.args.path.now) c.in-Err-children.stop (λ a e. absurd cc) (c.in-Err-children.ensures.known facts r)

@@ -1,0 +1,12 @@
+use Rattle.view_rules.specs.Facts.{Facts}
+use Rattle.view_rules.specs.Rules.{view_facts}
+use Rattle.path_walk.specs.Places.{Place}
+use Rattle.path_walk.specs.Found.{found, target_found}
+use Rattle.path_walk.specs.declared.target.Target.{Target}
+use Rattle.path_walk.proofs.Known.{given_on, target_lost}
+use Rattle.path_walk.proofs.locating.find.Goals as goal
+
+pub returns-in-Err-clause-exact : goal.returns-in-Err-clause-exact
+returns-in-Err-clause-exact g c image told lawful =
+    let facts : Facts = view_facts image c.args.site.now c.args.volume.now c.args.view.now in
+    given_on (λ (p : Place). p) (found facts c.args.path.now) (λ (t : Target). t) (target_found facts c.args.path.now) c.in-Err.stop (target_lost facts c.args.path.now) (c.in-Err.ensures.exact image told lawful)

@@ -1,0 +1,23 @@
+use Rattle.std.proofs.Common.{◌≡◌, Err, ap, sym}
+use Rattle.fs_name.specs.declared.naming.Names.{Names}
+use Rattle.vol_view.specs.Volumes.{Loaded}
+use Rattle.view_rules.specs.Facts.{Facts}
+use Rattle.view_rules.specs.Rules.{view_facts}
+use Rattle.path_walk.specs.Places.{Place}
+use Rattle.path_walk.specs.Found.{found}
+use Rattle.path_walk.proofs.Known.{unanswered_given, known_given, known_there}
+use Rattle.path_walk.proofs.locating.locate_whole.Goals as goal
+
+pub returns-in-Err-clause-exact : goal.returns-in-Err-clause-exact
+returns-in-Err-clause-exact g c image told lawful =
+    unanswered_given image c.args.site.now c.args.volume.now c.args.view.now (λ (p : Place). p) (found (view_facts image c.args.site.now c.args.volume.now c.args.view.now) c.args.path.now) c.in-Err.stop lawful (c.in-Err.ensures.present image told) c.in-Err.ensures.unanswered
+
+pub returns-clause-exact : goal.returns-clause-exact
+returns-clause-exact g c image told lawful =
+    let facts : Facts = view_facts image c.args.site.now c.args.volume.now c.args.view.now in
+    known_given image c.args.site.now c.args.volume.now c.args.view.now (λ (p : Place). p) (found facts c.args.path.now) (Err c.in-Err-locate.stop) lawful (c.in-Err-locate.ensures.known facts (sym (ap (λ (v : Loaded). v.names) c.volume.view_is)) (c.in-Ok.ensures.clear image told))
+
+pub returns-clause-present : goal.returns-clause-present
+returns-clause-present g c image told =
+    let facts : Facts = view_facts image c.args.site.now c.args.volume.now c.args.view.now in
+    known_there image c.args.site.now c.args.volume.now c.args.view.now (λ (p : Place). p) (found facts c.args.path.now) c.in-Err-locate.stop (c.in-Err-locate.ensures.known facts (sym (ap (λ (v : Loaded). v.names) c.volume.view_is)) (c.in-Ok.ensures.clear image told))

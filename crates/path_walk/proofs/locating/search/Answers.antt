@@ -1,0 +1,17 @@
+use Rattle.std.proofs.Common.{rules, ◌≡◌, true, false}
+use Rattle.fs_name.specs.Normal.{are_hashed}
+use Rattle.view_rules.specs.Facts.{Facts}
+use Rattle.path_walk.specs.Places.{Place}
+use Rattle.path_walk.specs.Found.{found}
+use Rattle.path_walk.proofs.Viewed.{leads_hashed, leads_plain}
+use Rattle.path_walk.proofs.locating.search.Goals as goal
+
+pub returns-in-Ok-clause-leads : goal.returns-in-Ok-clause-leads
+returns-in-Ok-clause-leads g c image told =
+    let e : are_hashed c.args.volume.now.names ≡ true = search rules in
+    leads_hashed image c.args.site.now c.args.volume.now c.args.view.now (λ (p : Place). p) (λ (facts : Facts). found facts c.args.path.now) c.in-Ok.onward e (c.in-Ok.ensures.leads image told)
+
+pub returns-in-Ok-search_by-clause-leads : goal.returns-in-Ok-search_by-clause-leads
+returns-in-Ok-search_by-clause-leads g c image told =
+    let e : are_hashed c.args.volume.now.names ≡ false = search rules in
+    leads_plain image c.args.site.now c.args.volume.now c.args.view.now (λ (p : Place). p) (λ (facts : Facts). found facts c.args.path.now) c.in-Ok-search_by.onward e (c.in-Ok-search_by.ensures.leads image told)

@@ -1,0 +1,208 @@
+-- What the parts of the calls on paths give. These are for the contracts of this crate's own functions; what the calls promise is said elsewhere.
+use Rattle.std.specs.Prelude.{◌≡◌, ◌⊎◌, ℕ, ◌≤◌, Bool, true, false, ◌&&◌, ◌==◌, List, [], ◌∷◌, ◌++◌, Option, None, Some, Result, Ok, Err, filter, filter_map, option_map, map, length, if◌then◌else◌}
+use Rattle.std.specs.Option.{ok_or}
+use Rattle.apfs_model.specs.Counts.{given}
+use Rattle.apfs_model.specs.Lists.{In, value_of}
+use Rattle.obj_base.specs.declared.site.Site.{Site}
+use Rattle.obj_base.specs.declared.stop.Stop.{Stop}
+use Rattle.obj_base.specs.declared.stop.Stop.TheVariants.{Found, Unsupported, ReadFault, NoMemory}
+use Rattle.bt_node.specs.Shape.{Shape}
+use Rattle.bt_node.specs.Entries.{Pair}
+use Rattle.bt_node.specs.declared.key.Rank.{Rank}
+use Rattle.bt_keys.specs.RecordKey.{inode_record, entry_record}
+use Rattle.bt_cursor.specs.Line.{Item, leaf_pairs}
+use Rattle.bt_cursor.specs.From.{run_in}
+use Rattle.bt_cursor.specs.declared.fault.WalkFault.{WalkFault}
+use Rattle.bt_cursor.specs.declared.gathering.GatherFault.{GatherFault}
+use Rattle.bt_cursor.specs.declared.gathering.GatherFault.TheVariants as gathers
+use Rattle.fs_name.specs.declared.naming.Names.{Names}
+use Rattle.fs_name.specs.declared.naming.Names.TheVariants.{Exact, Folded}
+use Rattle.fs_record.specs.Inodes.{Inode}
+use Rattle.fs_record.specs.Entries.{Entry}
+use Rattle.fs_record.specs.Facts.{Fact, read_inode, read_entry, inodes_of, entries_of, root_id, is_reserved}
+use Rattle.fs_record.specs.declared.fault.RecFault.{RecFault}
+use Rattle.fs_record.specs.declared.fault.TreeFault.{TreeFault}
+use Rattle.fs_record.specs.declared.fault.TreeFault.TheVariants.{NoInode}
+use Rattle.vol_view.specs.Volumes.{Loaded}
+use Rattle.vol_view.specs.Views.{view_line}
+use Rattle.vol_view.specs.declared.volume.View.{View}
+use Rattle.view_rules.specs.Facts.{Facts}
+use Rattle.view_rules.specs.Entries.{IsNoInode, has_root}
+use Rattle.view_rules.specs.Rules as rules
+use Rattle.view_rules.specs.Rules.{HasRecords, IsRecord, view_facts}
+use Rattle.path_walk.specs.Paths.{is_component}
+use Rattle.path_walk.specs.Places.{Place, root_of, target_of}
+use Rattle.path_walk.specs.Found.{place_by, step, walk}
+use Rattle.path_walk.specs.declared.answer.Answer.{Answer}
+use Rattle.path_walk.specs.declared.answer.Answer.TheVariants.{NotFound}
+use Rattle.path_walk.specs.declared.stop.PathStop.{PathStop}
+use Rattle.path_walk.specs.declared.target.Target.{Target}
+use Rattle.path_walk.specs.declared.stop.PathStop.TheVariants as stops
+use Rattle.path_walk.specs.declared.search.Took.{Took}
+use Rattle.path_walk.specs.declared.search.Took.TheVariants.{One, End, Refused}
+use Rattle.path_walk.specs.declared.onward.Onward.{Onward}
+use Rattle.path_walk.specs.declared.onward.Onward.TheVariants.{To, Answered, Lost}
+
+-- what some entries say, without the ids of their directories
+abbrev pub whats : List (Fact Entry) → List Entry
+whats entries = map (λ (f : Fact Entry). f.what) entries
+
+-- the rank of a record of an id and a kind
+abbrev pub is_of : ℕ → ℕ → Rank → Bool
+is_of id kind r = (r.id == id) && (r.kind == kind)
+
+-- what is read, through f, and nothing where it is refused
+abbrev pub with_read : {X Y : Type 0} → Result X RecFault → (X → Option Y) → Option Y
+with_read (Ok x) f = f x
+with_read (Err why) f = None
+
+-- the entries of a directory at the start of some records, after others; nothing where one of them is refused
+abbrev pub run_entries : {K : Type 0} → Shape K → Names → ℕ → List Entry → List Pair → Option (List Entry)
+run_entries shape names id before [] = Some before
+run_entries shape names id before (pair ∷ pairs) =
+    if run_in shape (is_of id entry_record) pair
+    then with_read (read_entry names pair) (λ (e : Entry). run_entries shape names id (before ++ e ∷ []) pairs)
+    else Some before
+
+-- the inode of an id at the start of some records; nothing where it is refused
+abbrev pub first_inode : {K : Type 0} → Shape K → ℕ → List Pair → Option Inode
+first_inode shape id [] = None
+first_inode shape id (pair ∷ pairs) = if run_in shape (is_of id inode_record) pair then value_of (read_inode pair) else None
+
+-- what is taken of one more record, whatever comes after it
+abbrev pub Takes : {K : Type 0} → Shape K → Names → ℕ → Pair → List Entry → List Entry → Took → Type 0
+Takes shape names id pair old new One = (pairs : List Pair) → run_entries shape names id old (pair ∷ pairs) ≡ run_entries shape names id new pairs
+Takes shape names id pair old new End = (pairs : List Pair) → run_entries shape names id old (pair ∷ pairs) ≡ Some new
+Takes shape names id pair old new Refused = (pairs : List Pair) → run_entries shape names id old (pair ∷ pairs) ≡ None
+
+-- what is taken of the records that are left
+abbrev pub TakesNext : {K : Type 0} → Shape K → Names → ℕ → List Pair → List Pair → List Entry → List Entry → Took → Type 0
+TakesNext shape names id left left_then old new One = run_entries shape names id old left ≡ run_entries shape names id new left_then
+TakesNext shape names id left left_then old new End = run_entries shape names id old left ≡ Some new
+TakesNext shape names id left left_then old new Refused = run_entries shape names id old left ≡ None
+
+-- one part of a path on from a place; an empty one is no component
+abbrev pub by_part : Facts → Place → List ℕ → Result Place Answer
+by_part facts place part = if is_component part then step facts place part else Ok place
+
+-- all parts of a path on from a place
+abbrev pub along : Facts → List (List ℕ) → Place → Result Place Answer
+along facts parts place = walk facts (filter is_component parts) place
+
+-- what was answered by searches: the value, as view shows it, or the answer; nothing is said of what was lost
+abbrev pub Leads : {T U : Type 0} → (T → U) → Result U Answer → Onward T → Type 0
+Leads shows wanted (To x) = wanted ≡ Ok (shows x)
+Leads shows wanted (Answered a) = wanted ≡ Err a
+Leads shows wanted Lost = Unit {0}
+
+-- what a walk names, said of a path
+abbrev pub of_walk : View → WalkFault → PathStop
+of_walk view why = stops.Fault (rules.raised view why)
+
+-- a fault of a view, said of a path
+abbrev pub of_view : TreeFault → PathStop
+of_view fault = stops.Fault fault
+
+-- names that are hashed or not
+abbrev pub names_by : Bool → Names
+names_by true = Folded
+names_by false = Exact
+
+-- the first refusal after some items, of which this one is of the last
+abbrev pub first_refusal : Option (ℕ × RecFault) → ℕ → Option RecFault → Option (ℕ × RecFault)
+first_refusal (Some before) number why = Some before
+first_refusal None number None = None
+first_refusal None number (Some why) = Some (number, why)
+
+-- the first of some items that is refused, if one is
+abbrev pub IsRefusal : Names → List Item → Option (ℕ × RecFault) → Type 0
+IsRefusal names items None = HasRecords names items
+IsRefusal names items (Some at) = IsRecord names items at.0 at.1
+
+-- what was gathered of some items: how many they are, the first that is refused, and the entries and inodes among them
+pub record HasGathered (names : Names) (number : ℕ) (refusal : Option (ℕ × RecFault)) (entries : List (Fact Entry)) (inodes : List (Fact Inode)) (items : List Item) : Type 0 where
+  pub counted : number ≡ given (length items)
+  pub refused : IsRefusal names items refusal
+  pub all_entries : entries ≡ entries_of names (leaf_pairs items)
+  pub all_inodes : inodes ≡ inodes_of (leaf_pairs items)
+
+-- facts by ids that don't fall
+abbrev pub Rises : {X : Type 0} → List (Fact X) → Type 0
+Rises [] = Unit {0}
+Rises {X} (f ∷ fs) = ((g : Fact X) → In g fs → f.id ≤ g.id) × Rises fs
+
+-- facts by ids that don't fall, none of which is below an id
+abbrev pub IsFirst : {X : Type 0} → ℕ → List (Fact X) → Type 0
+IsFirst {X} id fs = Rises fs × ((f : Fact X) → In f fs → id ≤ f.id)
+
+-- the entries and the inodes of some facts, each by ids that don't fall
+pub record Remembers (facts : Facts) (entries : List (Fact Entry)) (inodes : List (Fact Inode)) : Type 0 where
+  pub all_entries : entries ≡ facts.entries
+  pub all_inodes : inodes ≡ facts.inodes
+  pub entries_rise : Rises entries
+  pub inodes_rise : Rises inodes
+
+-- some entries are ones that count among the entries of a view
+abbrev pub HasEntries : Facts → List (Fact Entry) → Type 0
+HasEntries facts entries = (e : Fact Entry) → In e entries → In e facts.entries × (is_reserved e.id ≡ false)
+
+-- NoInode of a view: an entry's file has no inode, or the root has none
+abbrev pub IsLack : Facts → View → TreeFault → Type 0
+IsLack facts view fault =
+    ((id : ℕ) × (name : List ℕ) × (fault ≡ NoInode view.slot view.xid id (Some name)) × IsNoInode facts id name)
+    ⊎ ((fault ≡ NoInode view.slot view.xid root_id None) × (has_root facts ≡ false))
+
+-- what was answered by the facts of a view: the value, as view shows it, the answer, or an inode that is missing; or memory ran out
+abbrev pub IsKnown : {T U : Type 0} → Facts → View → (T → U) → Result U Answer → Result T (Stop PathStop) → Type 0
+IsKnown facts view shows wanted (Ok x) = wanted ≡ Ok (shows x)
+IsKnown facts view shows wanted (Err (Found (stops.Answer a))) = wanted ≡ Err a
+IsKnown facts view shows wanted (Err (Found (stops.Fault fault))) = IsLack facts view fault
+IsKnown facts view shows wanted (Err (Unsupported feature block)) = ⊥
+IsKnown facts view shows wanted (Err ReadFault) = ⊥
+IsKnown facts view shows wanted (Err NoMemory) = Unit {0}
+
+-- a stop of a gathering that refuses no item is that of its walk
+abbrev pub IsWalkStop : Stop GatherFault → Stop WalkFault → Type 0
+IsWalkStop (Found (gathers.Tree why)) stop = stop ≡ Found why
+IsWalkStop (Found (gathers.Refused item)) stop = ⊥
+IsWalkStop (Unsupported feature block) stop = stop ≡ Unsupported feature block
+IsWalkStop ReadFault stop = stop ≡ ReadFault
+IsWalkStop NoMemory stop = stop ≡ NoMemory
+
+-- NoInode of a view, of an entry's file
+abbrev pub lacking_entry : View → ℕ → List ℕ → TreeFault
+lacking_entry view id name = NoInode view.slot view.xid id (Some name)
+
+-- the root, or NotFound where there is none
+abbrev pub rooted : Facts → Result Place Answer
+rooted facts = ok_or (root_of facts) NotFound
+
+-- what was answered of an entry's file: its place, or that it has no inode; or memory ran out
+abbrev pub IsPlaceKnown : Facts → View → Fact Entry → Result Place (Stop PathStop) → Type 0
+IsPlaceKnown facts view e (Ok place) = place_by facts e.what ≡ Some place
+IsPlaceKnown facts view e (Err (Found (stops.Answer a))) = ⊥
+IsPlaceKnown facts view e (Err (Found (stops.Fault fault))) = (place_by facts e.what ≡ None) × (fault ≡ lacking_entry view e.id e.what.name)
+IsPlaceKnown facts view e (Err (Unsupported feature block)) = ⊥
+IsPlaceKnown facts view e (Err ReadFault) = ⊥
+IsPlaceKnown facts view e (Err NoMemory) = Unit {0}
+
+-- what is gathered of a view: the first of its records that is refused, its entries and its inodes
+pub record IsSurveyed (image : List ℕ) (site : Site) (volume : Loaded) (view : View) (refusal : Option (ℕ × RecFault)) (entries : List (Fact Entry)) (inodes : List (Fact Inode)) : Type 0 where
+  pub refused : IsRefusal volume.names (view_line image site volume view) refusal
+  pub remembers : Remembers (view_facts image site volume view) entries inodes
+
+-- an entry's file as it is told
+abbrev pub target_by : Facts → Entry → Option Target
+target_by facts e = option_map target_of (place_by facts e)
+
+-- what a directory's entries lead to, as it is told, in record order
+abbrev pub targets_by : Facts → List Entry → List Target
+targets_by facts es = filter_map (target_by facts) es
+
+-- a call stops with no answer
+abbrev pub IsNoAnswer : Stop PathStop → Type 0
+IsNoAnswer (Found (stops.Answer a)) = ⊥
+IsNoAnswer (Found (stops.Fault fault)) = Unit {0}
+IsNoAnswer (Unsupported feature block) = Unit {0}
+IsNoAnswer ReadFault = Unit {0}
+IsNoAnswer NoMemory = Unit {0}

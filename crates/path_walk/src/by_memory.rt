@@ -1,0 +1,229 @@
+// Paths by the entries and the inodes of a view in memory.
+ghost use Rattle.std.specs.Prelude.{◌≡◌, map, IfOk, IsErrOf};
+ghost use Rattle.obj_base.specs.declared.stop.Stop.TheVariants.{ReadFault};
+ghost use Rattle.view_rules.specs.Facts.{Facts};
+ghost use Rattle.path_walk.specs.Places.{target_of};
+ghost use Rattle.path_walk.specs.Found.{step, found};
+ghost use Rattle.path_walk.specs.Listing.{children, listing};
+ghost use Rattle.path_walk.specs.Parts.{whats, by_part, along, rooted, lacking_entry, targets_by, HasEntries, Remembers, IsKnown, IsPlaceKnown};
+
+use crate::by_search::{ROOT, place_of, root_of_inode};
+use crate::choice::{choose, parts};
+use crate::files::Files;
+use crate::kept::{KeptEntry, Place};
+use crate::order::{alone, by_name};
+use crate::{Answer, PathStop, Target};
+use apfs_model::{Bytes, NoMemory};
+use fs_name::Names;
+use fs_record::TreeFault;
+use obj_base::Stop;
+use std::alloc::Global;
+use vol_view::View;
+
+/// The fault of an entry whose file has no inode.
+pub(crate) fn lacking(alloc: Global, view: &View, entry: &KeptEntry) -> Result<TreeFault, NoMemory>
+    ensures { IfOk result (λ fault. fault ≡ lacking_entry view.now entry.now.id entry.now.what.name) }
+{
+    let name = Bytes::from_slice(alloc, entry.name().as_bytes())?;
+    Ok(TreeFault::NoInode {
+        slot: view.slot,
+        xid: view.xid,
+        id: entry.id(),
+        name: Some(name),
+    })
+}
+
+// The place of an entry's file.
+pub(crate) fn place_in(
+    alloc: Global,
+    files: &Files,
+    view: &View,
+    entry: &KeptEntry,
+) -> Result<Place, Stop<PathStop>>
+    ensures no_read { IsErrOf result ReadFault → ⊥ }
+    ensures known { (facts : Facts) → Remembers facts files.now.entries.items files.now.inodes.items → IsPlaceKnown facts view.now entry.now result }
+{
+    match files.inode(entry.file_id()) {
+        Some(inode) => {
+            let place = place_of(alloc, entry, inode.copied())?;
+            Ok(place)
+        }
+        None => {
+            let fault = lacking(alloc, view, entry)?;
+            Err(Stop::Found(PathStop::Fault(fault)))
+        }
+    }
+}
+
+// One name on from a place.
+fn go_on(
+    alloc: Global,
+    files: &Files,
+    names: Names,
+    view: &View,
+    place: &Place,
+    name: &str,
+) -> Result<Place, Stop<PathStop>>
+    ensures no_read { IsErrOf result ReadFault → ⊥ }
+    ensures known { (facts : Facts) → facts.names ≡ names → Remembers facts files.now.entries.items files.now.inodes.items → IsKnown facts view.now (λ p. p) (step facts place.now name.now) result }
+{
+    if !place.is_directory() {
+        return Err(Stop::Found(PathStop::Answer(Answer::NotDirectory)));
+    }
+    let chosen = choose(alloc, names, name, files.directory(place.id))?;
+    match chosen {
+        None => Err(Stop::Found(PathStop::Answer(Answer::NotFound))),
+        Some(entry) => match place_in(alloc, files, view, entry) {
+            Ok(place) => Ok(place),
+            Err(stop) => Err(stop),
+        },
+    }
+}
+
+// One part of a path on from a place; an empty part stays there.
+fn go_by(
+    alloc: Global,
+    files: &Files,
+    names: Names,
+    view: &View,
+    place: Place,
+    part: &str,
+) -> Result<Place, Stop<PathStop>>
+    ensures no_read { IsErrOf result ReadFault → ⊥ }
+    ensures known { (facts : Facts) → facts.names ≡ names → Remembers facts files.now.entries.items files.now.inodes.items → IsKnown facts view.now (λ p. p) (by_part facts place part.now) result }
+{
+    if part.is_empty() {
+        return Ok(place);
+    }
+    match go_on(alloc, files, names, view, &place, part) {
+        Ok(next) => Ok(next),
+        Err(stop) => Err(stop),
+    }
+}
+
+// All parts of a path on from a place.
+fn go_along(
+    alloc: Global,
+    files: &Files,
+    names: Names,
+    view: &View,
+    start: Place,
+    parts: &[&str],
+) -> Result<Place, Stop<PathStop>>
+    ensures no_read { IsErrOf result ReadFault → ⊥ }
+    ensures known { (facts : Facts) → facts.names ≡ names → Remembers facts files.now.entries.items files.now.inodes.items → IsKnown facts view.now (λ p. p) (along facts (map (λ part. part.now) parts.now) start) result }
+{
+    let mut place = start;
+    for part in parts {
+        place = match go_by(alloc, files, names, view, place, part) {
+            Ok(next) => next,
+            Err(stop) => return Err(stop),
+        };
+    }
+    Ok(place)
+}
+
+// The root.
+fn root(alloc: Global, files: &Files, view: &View) -> Result<Place, Stop<PathStop>>
+    ensures no_read { IsErrOf result ReadFault → ⊥ }
+    ensures known { (facts : Facts) → Remembers facts files.now.entries.items files.now.inodes.items → IsKnown facts view.now (λ p. p) (rooted facts) result }
+{
+    match files.inode(ROOT) {
+        Some(inode) => {
+            let place = root_of_inode(alloc, inode.copied())?;
+            Ok(place)
+        }
+        None => Err(Stop::Found(PathStop::Fault(TreeFault::NoInode {
+            slot: view.slot,
+            xid: view.xid,
+            id: ROOT,
+            name: None,
+        }))),
+    }
+}
+
+/// Where a path leads.
+pub(crate) fn locate(
+    alloc: Global,
+    files: &Files,
+    names: Names,
+    view: &View,
+    path: &str,
+) -> Result<Place, Stop<PathStop>>
+    ensures no_read { IsErrOf result ReadFault → ⊥ }
+    ensures known { (facts : Facts) → facts.names ≡ names → Remembers facts files.now.entries.items files.now.inodes.items → IsKnown facts view.now (λ p. p) (found facts path.now) result }
+{
+    let parts = parts(alloc, path)?;
+    let root = match root(alloc, files, view) {
+        Ok(root) => root,
+        Err(stop) => return Err(stop),
+    };
+    match go_along(alloc, files, names, view, root, &parts) {
+        Ok(place) => Ok(place),
+        Err(stop) => Err(stop),
+    }
+}
+
+// What some entries lead to, in their order.
+fn targets_in(
+    alloc: Global,
+    files: &Files,
+    view: &View,
+    entries: &[KeptEntry],
+) -> Result<Vec<Target>, Stop<PathStop>>
+    ensures no_read { IsErrOf result ReadFault → ⊥ }
+    ensures known { (facts : Facts) → Remembers facts files.now.entries.items files.now.inodes.items → HasEntries facts entries.now → IsKnown facts view.now (λ targets. targets.items) (Ok (targets_by facts (whats entries.now))) result }
+{
+    let mut targets = Vec::new(alloc);
+    for entry in entries {
+        let place = match place_in(alloc, files, view, entry) {
+            Ok(place) => place,
+            Err(stop) => return Err(stop),
+        };
+        targets.push(place.target())?;
+    }
+    Ok(targets)
+}
+
+/// What a directory has, by name.
+pub(crate) fn children(
+    alloc: Global,
+    files: &Files,
+    view: &View,
+    id: u64,
+) -> Result<Vec<Target>, Stop<PathStop>>
+    ensures no_read { IsErrOf result ReadFault → ⊥ }
+    ensures known { (facts : Facts) → Remembers facts files.now.entries.items files.now.inodes.items → IsKnown facts view.now (λ targets. targets.items) (Ok (map target_of (children facts id))) result }
+{
+    let targets = match targets_in(alloc, files, view, files.directory(id)) {
+        Ok(targets) => targets,
+        Err(stop) => return Err(stop),
+    };
+    let sorted = by_name(targets)?;
+    Ok(sorted)
+}
+
+/// What is listed of a path.
+pub(crate) fn list(
+    alloc: Global,
+    files: &Files,
+    names: Names,
+    view: &View,
+    path: &str,
+) -> Result<Vec<Target>, Stop<PathStop>>
+    ensures no_read { IsErrOf result ReadFault → ⊥ }
+    ensures known { (facts : Facts) → facts.names ≡ names → Remembers facts files.now.entries.items files.now.inodes.items → IsKnown facts view.now (λ targets. targets.items) (listing facts path.now) result }
+{
+    let place = match locate(alloc, files, names, view, path) {
+        Ok(place) => place,
+        Err(stop) => return Err(stop),
+    };
+    if !place.is_directory() {
+        let targets = alone(alloc, place)?;
+        return Ok(targets);
+    }
+    match children(alloc, files, view, place.id) {
+        Ok(targets) => Ok(targets),
+        Err(stop) => Err(stop),
+    }
+}

@@ -1,0 +1,446 @@
+// Paths by searches in a view's tree.
+ghost use Rattle.std.specs.Prelude.{◌≡◌, ℕ, true, List, [], ◌∷◌, Some, map, IfOk, IfErr, IfSome, IsErrOf};
+ghost use Rattle.apfs_model.specs.Counts.{Rose};
+ghost use Rattle.apfs_model.specs.Source.{IsKept};
+ghost use Rattle.obj_base.specs.declared.stop.Stop.TheVariants.{ReadFault};
+ghost use Rattle.obj_base.specs.Stops.{Tells};
+ghost use Rattle.obj_base.specs.Site.{IsSiteFor};
+ghost use Rattle.bt_cursor.specs.Flat.{flat_of};
+ghost use Rattle.bt_cursor.specs.Line.{line_of};
+ghost use Rattle.bt_cursor.specs.Order.{is_ordered};
+ghost use Rattle.bt_cursor.specs.Faults.{IsNodeFault, HasFeature};
+ghost use Rattle.bt_cursor.specs.Cursors.{site_of, root_of, tree_of, IsOn};
+ghost use Rattle.fs_name.specs.Normal.{are_hashed};
+ghost use Rattle.fs_record.specs.Facts as facts;
+ghost use Rattle.vol_view.specs.Views.{view_tree};
+ghost use Rattle.view_rules.specs.Facts.{facts_in};
+ghost use Rattle.path_walk.specs.Places.{placed, target_of};
+ghost use Rattle.path_walk.specs.Listing.{children, listed, listing};
+ghost use Rattle.path_walk.specs.Found.{entries_in, step, walk, found};
+ghost use Rattle.path_walk.specs.Paths.{is_component, components};
+ghost use Rattle.path_walk.specs.Parts.{whats, by_part, along, target_by, targets_by, Leads};
+
+use crate::choice::{choose, parts};
+use crate::kept::{KeptEntry, KeptInode, Place};
+use crate::onward::Onward;
+use crate::order::{alone, by_name};
+use crate::search::{find_entries, find_inode};
+use crate::{Answer, Target};
+use apfs_model::{Bytes, NoMemory};
+use blk_source::BlockSource;
+use bt_cursor::{Cursor, Namer, WalkFault};
+use bt_keys::FsTreeKey;
+use fs_name::Names;
+use obj_base::{Site, Stop};
+use omap_map::At;
+use std::alloc::Global;
+use vol_view::{View, Volume};
+
+/// The id of the root (File-System Objects, `ROOT_DIR_INO_NUM`).
+pub(crate) const ROOT: u64 = 2;
+
+// The most entries of a directory whose inodes are searched for one by one; where there are more, one walk over the whole
+// tree finds all of them.
+const FEW: usize = 1000;
+
+/// Whether an id is reserved: a directory of such an id has no entries that are followed or listed.
+pub(crate) fn is_reserved(id: u64) -> bool
+    ensures { result ≡ facts.is_reserved id }
+{
+    id == 1 || (4 <= id && id <= 15)
+}
+
+/// The place of an entry's file, which has this inode.
+pub(crate) fn place_of(
+    alloc: Global,
+    entry: &KeptEntry,
+    inode: KeptInode,
+) -> Result<Place, NoMemory>
+    ensures { IfOk result (λ place. place ≡ placed entry.now.what.file_id entry.now.what.name inode) }
+{
+    let name = Bytes::from_slice(alloc, entry.name().as_bytes())?;
+    Ok(Place {
+        id: entry.file_id(),
+        name,
+        inode,
+    })
+}
+
+/// The place of the root, which has this inode.
+pub(crate) fn root_of_inode(alloc: Global, inode: KeptInode) -> Result<Place, NoMemory>
+    ensures { IfOk result (λ place. place ≡ placed 2 (0x2f ∷ []) inode) }
+{
+    let name = Bytes::from_slice(alloc, b"/")?;
+    Ok(Place {
+        id: ROOT,
+        name,
+        inode,
+    })
+}
+
+/// The entries of a directory that are followed and listed; None where one of them can't be read.
+#[tactic(auto, unfolding(crate::specs::Found::entries_in))]
+pub(crate) fn directory<K: FsTreeKey, S: BlockSource, N: Namer>(
+    alloc: Global,
+    src: &mut S,
+    cursor: &mut Cursor<K, N>,
+    names: Names,
+    id: u64,
+) -> Result<Option<Vec<KeptEntry>>, Stop<WalkFault>>
+    requires site { IsSiteFor (site_of cursor.old) (S.bytes_len src.old) }
+    requires hashed { are_hashed names ≡ K.HASHED }
+    ensures site { site_of cursor.new ≡ site_of cursor.old }
+    ensures root { root_of cursor.new ≡ root_of cursor.old }
+    ensures tree { tree_of cursor.new ≡ tree_of cursor.old }
+    ensures within { (image : List ℕ) → S.bytes src.old ≡ Some image → IsOn image cursor.old → IsOn image cursor.new }
+    ensures found { (image : List ℕ) → S.bytes src.old ≡ Some image → IsOn image cursor.old → is_ordered K.shape (line_of (tree_of cursor.old image) (root_of cursor.old)) ≡ true → IfOk result (λ run. IfSome run (λ v. whats v.items ≡ entries_in (facts_in names (flat_of (tree_of cursor.old image) (root_of cursor.old))) id)) }
+    ensures present { (image : List ℕ) → S.bytes src.old ≡ Some image → IsOn image cursor.old → IfErr result (Tells (IsNodeFault (tree_of cursor.old image) (root_of cursor.old)) (HasFeature (tree_of cursor.old image) (root_of cursor.old))) }
+    ensures cause { IsErrOf result ReadFault → Rose (S.faults src.old) (S.faults src.new) }
+    ensures kept { IsKept S.bytes S.bytes_len S.faults src.old src.new }
+{
+    if is_reserved(id) {
+        return Ok(Some(Vec::new(alloc)));
+    }
+    match find_entries(alloc, src, cursor, names, id) {
+        Ok(run) => Ok(run),
+        Err(stop) => Err(stop),
+    }
+}
+
+// One name on from a place.
+fn go_on<K: FsTreeKey, S: BlockSource, N: Namer>(
+    alloc: Global,
+    src: &mut S,
+    cursor: &mut Cursor<K, N>,
+    names: Names,
+    place: &Place,
+    name: &str,
+) -> Result<Onward<Place>, Stop<WalkFault>>
+    requires site { IsSiteFor (site_of cursor.old) (S.bytes_len src.old) }
+    requires hashed { are_hashed names ≡ K.HASHED }
+    ensures site { site_of cursor.new ≡ site_of cursor.old }
+    ensures root { root_of cursor.new ≡ root_of cursor.old }
+    ensures tree { tree_of cursor.new ≡ tree_of cursor.old }
+    ensures within { (image : List ℕ) → S.bytes src.old ≡ Some image → IsOn image cursor.old → IsOn image cursor.new }
+    ensures leads { (image : List ℕ) → S.bytes src.old ≡ Some image → IsOn image cursor.old → is_ordered K.shape (line_of (tree_of cursor.old image) (root_of cursor.old)) ≡ true → IfOk result (Leads (λ place. place) (step (facts_in names (flat_of (tree_of cursor.old image) (root_of cursor.old))) place.now name.now)) }
+    ensures present { (image : List ℕ) → S.bytes src.old ≡ Some image → IsOn image cursor.old → IfErr result (Tells (IsNodeFault (tree_of cursor.old image) (root_of cursor.old)) (HasFeature (tree_of cursor.old image) (root_of cursor.old))) }
+    ensures cause { IsErrOf result ReadFault → Rose (S.faults src.old) (S.faults src.new) }
+    ensures kept { IsKept S.bytes S.bytes_len S.faults src.old src.new }
+{
+    if !place.is_directory() {
+        return Ok(Onward::Answered(Answer::NotDirectory));
+    }
+    let run = match directory(alloc, src, cursor, names, place.id) {
+        Ok(run) => run,
+        Err(stop) => return Err(stop),
+    };
+    let Some(entries) = run else {
+        return Ok(Onward::Lost);
+    };
+    let Some(entry) = choose(alloc, names, name, &entries)? else {
+        return Ok(Onward::Answered(Answer::NotFound));
+    };
+    let found = match find_inode(src, cursor, entry.file_id()) {
+        Ok(found) => found,
+        Err(stop) => return Err(stop),
+    };
+    let Some(inode) = found else {
+        return Ok(Onward::Lost);
+    };
+    let next = place_of(alloc, entry, inode)?;
+    Ok(Onward::To(next))
+}
+
+// One part of a path on from a place; an empty part stays there.
+fn go_by<K: FsTreeKey, S: BlockSource, N: Namer>(
+    alloc: Global,
+    src: &mut S,
+    cursor: &mut Cursor<K, N>,
+    names: Names,
+    place: Place,
+    part: &str,
+) -> Result<Onward<Place>, Stop<WalkFault>>
+    requires site { IsSiteFor (site_of cursor.old) (S.bytes_len src.old) }
+    requires hashed { are_hashed names ≡ K.HASHED }
+    ensures site { site_of cursor.new ≡ site_of cursor.old }
+    ensures root { root_of cursor.new ≡ root_of cursor.old }
+    ensures tree { tree_of cursor.new ≡ tree_of cursor.old }
+    ensures within { (image : List ℕ) → S.bytes src.old ≡ Some image → IsOn image cursor.old → IsOn image cursor.new }
+    ensures leads { (image : List ℕ) → S.bytes src.old ≡ Some image → IsOn image cursor.old → is_ordered K.shape (line_of (tree_of cursor.old image) (root_of cursor.old)) ≡ true → IfOk result (Leads (λ place. place) (by_part (facts_in names (flat_of (tree_of cursor.old image) (root_of cursor.old))) place part.now)) }
+    ensures present { (image : List ℕ) → S.bytes src.old ≡ Some image → IsOn image cursor.old → IfErr result (Tells (IsNodeFault (tree_of cursor.old image) (root_of cursor.old)) (HasFeature (tree_of cursor.old image) (root_of cursor.old))) }
+    ensures cause { IsErrOf result ReadFault → Rose (S.faults src.old) (S.faults src.new) }
+    ensures kept { IsKept S.bytes S.bytes_len S.faults src.old src.new }
+{
+    if part.is_empty() {
+        return Ok(Onward::To(place));
+    }
+    match go_on(alloc, src, cursor, names, &place, part) {
+        Ok(onward) => Ok(onward),
+        Err(stop) => Err(stop),
+    }
+}
+
+// All parts of a path on from a place.
+fn go_along<K: FsTreeKey, S: BlockSource, N: Namer>(
+    alloc: Global,
+    src: &mut S,
+    cursor: &mut Cursor<K, N>,
+    names: Names,
+    start: Place,
+    parts: &[&str],
+) -> Result<Onward<Place>, Stop<WalkFault>>
+    requires site { IsSiteFor (site_of cursor.old) (S.bytes_len src.old) }
+    requires hashed { are_hashed names ≡ K.HASHED }
+    ensures site { site_of cursor.new ≡ site_of cursor.old }
+    ensures root { root_of cursor.new ≡ root_of cursor.old }
+    ensures tree { tree_of cursor.new ≡ tree_of cursor.old }
+    ensures within { (image : List ℕ) → S.bytes src.old ≡ Some image → IsOn image cursor.old → IsOn image cursor.new }
+    ensures leads { (image : List ℕ) → S.bytes src.old ≡ Some image → IsOn image cursor.old → is_ordered K.shape (line_of (tree_of cursor.old image) (root_of cursor.old)) ≡ true → IfOk result (Leads (λ place. place) (along (facts_in names (flat_of (tree_of cursor.old image) (root_of cursor.old))) (map (λ part. part.now) parts.now) start)) }
+    ensures present { (image : List ℕ) → S.bytes src.old ≡ Some image → IsOn image cursor.old → IfErr result (Tells (IsNodeFault (tree_of cursor.old image) (root_of cursor.old)) (HasFeature (tree_of cursor.old image) (root_of cursor.old))) }
+    ensures cause { IsErrOf result ReadFault → Rose (S.faults src.old) (S.faults src.new) }
+    ensures kept { IsKept S.bytes S.bytes_len S.faults src.old src.new }
+{
+    let mut place = start;
+    for part in parts {
+        let onward = match go_by(alloc, src, cursor, names, place, part) {
+            Ok(onward) => onward,
+            Err(stop) => return Err(stop),
+        };
+        match onward {
+            Onward::To(next) => place = next,
+            Onward::Answered(answer) => return Ok(Onward::Answered(answer)),
+            Onward::Lost => return Ok(Onward::Lost),
+        }
+    }
+    Ok(Onward::To(place))
+}
+
+/// Where a path leads, from a cursor of the view's tree.
+pub(crate) fn locate<K: FsTreeKey, S: BlockSource, N: Namer>(
+    alloc: Global,
+    src: &mut S,
+    cursor: &mut Cursor<K, N>,
+    names: Names,
+    path: &str,
+) -> Result<Onward<Place>, Stop<WalkFault>>
+    requires site { IsSiteFor (site_of cursor.old) (S.bytes_len src.old) }
+    requires hashed { are_hashed names ≡ K.HASHED }
+    ensures site { site_of cursor.new ≡ site_of cursor.old }
+    ensures root { root_of cursor.new ≡ root_of cursor.old }
+    ensures tree { tree_of cursor.new ≡ tree_of cursor.old }
+    ensures within { (image : List ℕ) → S.bytes src.old ≡ Some image → IsOn image cursor.old → IsOn image cursor.new }
+    ensures leads { (image : List ℕ) → S.bytes src.old ≡ Some image → IsOn image cursor.old → is_ordered K.shape (line_of (tree_of cursor.old image) (root_of cursor.old)) ≡ true → IfOk result (Leads (λ place. place) (found (facts_in names (flat_of (tree_of cursor.old image) (root_of cursor.old))) path.now)) }
+    ensures present { (image : List ℕ) → S.bytes src.old ≡ Some image → IsOn image cursor.old → IfErr result (Tells (IsNodeFault (tree_of cursor.old image) (root_of cursor.old)) (HasFeature (tree_of cursor.old image) (root_of cursor.old))) }
+    ensures cause { IsErrOf result ReadFault → Rose (S.faults src.old) (S.faults src.new) }
+    ensures kept { IsKept S.bytes S.bytes_len S.faults src.old src.new }
+{
+    let parts = parts(alloc, path)?;
+    let found = match find_inode(src, cursor, ROOT) {
+        Ok(found) => found,
+        Err(stop) => return Err(stop),
+    };
+    let Some(inode) = found else {
+        return Ok(Onward::Lost);
+    };
+    let root = root_of_inode(alloc, inode)?;
+    match go_along(alloc, src, cursor, names, root, &parts) {
+        Ok(onward) => Ok(onward),
+        Err(stop) => Err(stop),
+    }
+}
+
+// An entry's file as it is told; None where it has no inode, or one that can't be read.
+fn target_at<K: FsTreeKey, S: BlockSource, N: Namer>(
+    alloc: Global,
+    src: &mut S,
+    cursor: &mut Cursor<K, N>,
+    names: Names,
+    entry: &KeptEntry,
+) -> Result<Option<Target>, Stop<WalkFault>>
+    requires site { IsSiteFor (site_of cursor.old) (S.bytes_len src.old) }
+    requires hashed { are_hashed names ≡ K.HASHED }
+    ensures site { site_of cursor.new ≡ site_of cursor.old }
+    ensures root { root_of cursor.new ≡ root_of cursor.old }
+    ensures tree { tree_of cursor.new ≡ tree_of cursor.old }
+    ensures within { (image : List ℕ) → S.bytes src.old ≡ Some image → IsOn image cursor.old → IsOn image cursor.new }
+    ensures found { (image : List ℕ) → S.bytes src.old ≡ Some image → IsOn image cursor.old → is_ordered K.shape (line_of (tree_of cursor.old image) (root_of cursor.old)) ≡ true → IfOk result (λ found. IfSome found (λ target. target_by (facts_in names (flat_of (tree_of cursor.old image) (root_of cursor.old))) entry.now.what ≡ Some target)) }
+    ensures present { (image : List ℕ) → S.bytes src.old ≡ Some image → IsOn image cursor.old → IfErr result (Tells (IsNodeFault (tree_of cursor.old image) (root_of cursor.old)) (HasFeature (tree_of cursor.old image) (root_of cursor.old))) }
+    ensures cause { IsErrOf result ReadFault → Rose (S.faults src.old) (S.faults src.new) }
+    ensures kept { IsKept S.bytes S.bytes_len S.faults src.old src.new }
+{
+    let found = match find_inode(src, cursor, entry.file_id()) {
+        Ok(found) => found,
+        Err(stop) => return Err(stop),
+    };
+    let Some(inode) = found else {
+        return Ok(None);
+    };
+    let place = place_of(alloc, entry, inode)?;
+    Ok(Some(place.target()))
+}
+
+// What some entries lead to, in their order; None where a file has no inode, or one that can't be read.
+fn targets_at<K: FsTreeKey, S: BlockSource, N: Namer>(
+    alloc: Global,
+    src: &mut S,
+    cursor: &mut Cursor<K, N>,
+    names: Names,
+    entries: &[KeptEntry],
+) -> Result<Option<Vec<Target>>, Stop<WalkFault>>
+    requires site { IsSiteFor (site_of cursor.old) (S.bytes_len src.old) }
+    requires hashed { are_hashed names ≡ K.HASHED }
+    ensures site { site_of cursor.new ≡ site_of cursor.old }
+    ensures root { root_of cursor.new ≡ root_of cursor.old }
+    ensures tree { tree_of cursor.new ≡ tree_of cursor.old }
+    ensures within { (image : List ℕ) → S.bytes src.old ≡ Some image → IsOn image cursor.old → IsOn image cursor.new }
+    ensures found { (image : List ℕ) → S.bytes src.old ≡ Some image → IsOn image cursor.old → is_ordered K.shape (line_of (tree_of cursor.old image) (root_of cursor.old)) ≡ true → IfOk result (λ found. IfSome found (λ targets. targets.items ≡ targets_by (facts_in names (flat_of (tree_of cursor.old image) (root_of cursor.old))) (whats entries.now))) }
+    ensures present { (image : List ℕ) → S.bytes src.old ≡ Some image → IsOn image cursor.old → IfErr result (Tells (IsNodeFault (tree_of cursor.old image) (root_of cursor.old)) (HasFeature (tree_of cursor.old image) (root_of cursor.old))) }
+    ensures cause { IsErrOf result ReadFault → Rose (S.faults src.old) (S.faults src.new) }
+    ensures kept { IsKept S.bytes S.bytes_len S.faults src.old src.new }
+{
+    let mut targets = Vec::new(alloc);
+    for entry in entries {
+        let found = match target_at(alloc, src, cursor, names, entry) {
+            Ok(found) => found,
+            Err(stop) => return Err(stop),
+        };
+        let Some(target) = found else {
+            return Ok(None);
+        };
+        targets.push(target)?;
+    }
+    Ok(Some(targets))
+}
+
+// What a directory has, by name; None where it has many entries, or a record of them can't be read or isn't there.
+fn children<K: FsTreeKey, S: BlockSource, N: Namer>(
+    alloc: Global,
+    src: &mut S,
+    cursor: &mut Cursor<K, N>,
+    names: Names,
+    id: u64,
+) -> Result<Option<Vec<Target>>, Stop<WalkFault>>
+    requires site { IsSiteFor (site_of cursor.old) (S.bytes_len src.old) }
+    requires hashed { are_hashed names ≡ K.HASHED }
+    ensures site { site_of cursor.new ≡ site_of cursor.old }
+    ensures root { root_of cursor.new ≡ root_of cursor.old }
+    ensures tree { tree_of cursor.new ≡ tree_of cursor.old }
+    ensures within { (image : List ℕ) → S.bytes src.old ≡ Some image → IsOn image cursor.old → IsOn image cursor.new }
+    ensures found { (image : List ℕ) → S.bytes src.old ≡ Some image → IsOn image cursor.old → is_ordered K.shape (line_of (tree_of cursor.old image) (root_of cursor.old)) ≡ true → IfOk result (λ found. IfSome found (λ targets. targets.items ≡ map target_of (children (facts_in names (flat_of (tree_of cursor.old image) (root_of cursor.old))) id))) }
+    ensures present { (image : List ℕ) → S.bytes src.old ≡ Some image → IsOn image cursor.old → IfErr result (Tells (IsNodeFault (tree_of cursor.old image) (root_of cursor.old)) (HasFeature (tree_of cursor.old image) (root_of cursor.old))) }
+    ensures cause { IsErrOf result ReadFault → Rose (S.faults src.old) (S.faults src.new) }
+    ensures kept { IsKept S.bytes S.bytes_len S.faults src.old src.new }
+{
+    let run = match directory(alloc, src, cursor, names, id) {
+        Ok(run) => run,
+        Err(stop) => return Err(stop),
+    };
+    let Some(entries) = run else {
+        return Ok(None);
+    };
+    if entries.len() > FEW {
+        return Ok(None);
+    }
+    let found = match targets_at(alloc, src, cursor, names, &entries) {
+        Ok(found) => found,
+        Err(stop) => return Err(stop),
+    };
+    let Some(targets) = found else {
+        return Ok(None);
+    };
+    let sorted = by_name(targets)?;
+    Ok(Some(sorted))
+}
+
+// What is listed of a place.
+#[tactic(auto, using(crate::proofs::Listed::listed_directory, crate::proofs::Listed::listed_file))]
+fn listed<K: FsTreeKey, S: BlockSource, N: Namer>(
+    alloc: Global,
+    src: &mut S,
+    cursor: &mut Cursor<K, N>,
+    names: Names,
+    place: Place,
+) -> Result<Option<Vec<Target>>, Stop<WalkFault>>
+    requires site { IsSiteFor (site_of cursor.old) (S.bytes_len src.old) }
+    requires hashed { are_hashed names ≡ K.HASHED }
+    ensures site { site_of cursor.new ≡ site_of cursor.old }
+    ensures root { root_of cursor.new ≡ root_of cursor.old }
+    ensures tree { tree_of cursor.new ≡ tree_of cursor.old }
+    ensures within { (image : List ℕ) → S.bytes src.old ≡ Some image → IsOn image cursor.old → IsOn image cursor.new }
+    ensures found { (image : List ℕ) → S.bytes src.old ≡ Some image → IsOn image cursor.old → is_ordered K.shape (line_of (tree_of cursor.old image) (root_of cursor.old)) ≡ true → IfOk result (λ found. IfSome found (λ targets. targets.items ≡ map target_of (listed (facts_in names (flat_of (tree_of cursor.old image) (root_of cursor.old))) place))) }
+    ensures present { (image : List ℕ) → S.bytes src.old ≡ Some image → IsOn image cursor.old → IfErr result (Tells (IsNodeFault (tree_of cursor.old image) (root_of cursor.old)) (HasFeature (tree_of cursor.old image) (root_of cursor.old))) }
+    ensures cause { IsErrOf result ReadFault → Rose (S.faults src.old) (S.faults src.new) }
+    ensures kept { IsKept S.bytes S.bytes_len S.faults src.old src.new }
+{
+    if place.is_directory() {
+        return match children(alloc, src, cursor, names, place.id) {
+            Ok(found) => Ok(found),
+            Err(stop) => Err(stop),
+        };
+    }
+    let targets = alone(alloc, place)?;
+    Ok(Some(targets))
+}
+
+/// What is listed of a path, from a cursor of the view's tree.
+pub(crate) fn list<K: FsTreeKey, S: BlockSource, N: Namer>(
+    alloc: Global,
+    src: &mut S,
+    cursor: &mut Cursor<K, N>,
+    names: Names,
+    path: &str,
+) -> Result<Onward<Vec<Target>>, Stop<WalkFault>>
+    requires site { IsSiteFor (site_of cursor.old) (S.bytes_len src.old) }
+    requires hashed { are_hashed names ≡ K.HASHED }
+    ensures site { site_of cursor.new ≡ site_of cursor.old }
+    ensures root { root_of cursor.new ≡ root_of cursor.old }
+    ensures tree { tree_of cursor.new ≡ tree_of cursor.old }
+    ensures within { (image : List ℕ) → S.bytes src.old ≡ Some image → IsOn image cursor.old → IsOn image cursor.new }
+    ensures leads { (image : List ℕ) → S.bytes src.old ≡ Some image → IsOn image cursor.old → is_ordered K.shape (line_of (tree_of cursor.old image) (root_of cursor.old)) ≡ true → IfOk result (Leads (λ targets. targets.items) (listing (facts_in names (flat_of (tree_of cursor.old image) (root_of cursor.old))) path.now)) }
+    ensures present { (image : List ℕ) → S.bytes src.old ≡ Some image → IsOn image cursor.old → IfErr result (Tells (IsNodeFault (tree_of cursor.old image) (root_of cursor.old)) (HasFeature (tree_of cursor.old image) (root_of cursor.old))) }
+    ensures cause { IsErrOf result ReadFault → Rose (S.faults src.old) (S.faults src.new) }
+    ensures kept { IsKept S.bytes S.bytes_len S.faults src.old src.new }
+{
+    let onward = match locate(alloc, src, cursor, names, path) {
+        Ok(onward) => onward,
+        Err(stop) => return Err(stop),
+    };
+    let place = match onward {
+        Onward::To(place) => place,
+        Onward::Answered(answer) => return Ok(Onward::Answered(answer)),
+        Onward::Lost => return Ok(Onward::Lost),
+    };
+    match listed(alloc, src, cursor, names, place) {
+        Ok(Some(targets)) => Ok(Onward::To(targets)),
+        Ok(None) => Ok(Onward::Lost),
+        Err(stop) => Err(stop),
+    }
+}
+
+/// A cursor of a view's tree.
+pub(crate) fn open<'a, K: FsTreeKey, S: BlockSource>(
+    alloc: Global,
+    src: &mut S,
+    volume: &'a Volume,
+    view: &View,
+    site: &Site,
+) -> Result<Cursor<K, At<'a>>, Stop<WalkFault>>
+    requires site { IsSiteFor site.now (S.bytes_len src.old) }
+    ensures site { IfOk result (λ cursor. site_of cursor ≡ site.now) }
+    ensures root { IfOk result (λ cursor. root_of cursor ≡ view.now.root_oid) }
+    ensures tree { IfOk result (λ cursor. (image : List ℕ) → tree_of cursor image ≡ view_tree K.shape image site.now volume.now view.now) }
+    ensures within { (image : List ℕ) → S.bytes src.old ≡ Some image → IfOk result (IsOn image) }
+    ensures present { (image : List ℕ) → S.bytes src.old ≡ Some image → IfErr result (Tells (IsNodeFault (view_tree K.shape image site.now volume.now view.now) view.now.root_oid) (HasFeature (view_tree K.shape image site.now volume.now view.now) view.now.root_oid)) }
+    ensures cause { IsErrOf result ReadFault → Rose (S.faults src.old) (S.faults src.new) }
+    ensures kept { IsKept S.bytes S.bytes_len S.faults src.old src.new }
+{
+    let namer = At {
+        omap: &volume.omap,
+        xid: view.xid,
+        blocks: site.blocks,
+    };
+    match Cursor::<K, At<'a>>::new(alloc, src, namer, view.root_oid, *site) {
+        Ok(cursor) => Ok(cursor),
+        Err(stop) => Err(stop),
+    }
+}

@@ -1,0 +1,93 @@
+// The entries and the inodes of a view in memory.
+ghost use Rattle.std.specs.Prelude.{◌≡◌, ◌==◌, ◌≤◌, nat_lt, ℕ, true, false, length, List, Some, None, option_map, filter, slice_get};
+ghost use Rattle.std.specs.List.Sorted.{IsPartitionPoint};
+ghost use Rattle.fs_record.specs.Facts.{Fact};
+ghost use Rattle.view_rules.specs.Facts.{Facts, inode_at};
+ghost use Rattle.path_walk.specs.Found.{entries_in};
+ghost use Rattle.path_walk.specs.Parts.{whats, Rises, IsFirst, Remembers, HasEntries};
+
+use crate::by_search::is_reserved;
+use crate::kept::{InodeAt, KeptEntry, KeptInode};
+
+/// The entries of a view, by the ids of their directories, and its inodes by their ids, each in record order.
+#[derive(Drop)]
+pub(crate) struct Files {
+    pub(crate) entries: Vec<KeptEntry>,
+    pub(crate) inodes: Vec<InodeAt>,
+}
+
+// How many entries are of directories below an id.
+fn entries_below(entries: &[KeptEntry], id: u64) -> usize
+    ensures bound { result ≤ length entries.now }
+    ensures split { Rises entries.now → IsPartitionPoint (λ f. nat_lt f.id id ≡ true) (λ f. nat_lt f.id id ≡ false) entries.now result }
+{
+    entries.partition_point(
+        |entry: &KeptEntry| -> bool
+            ensures { result ≡ nat_lt entry.now.id id }
+        { entry.id() < id },
+    )
+}
+
+// How many of some entries are of the directory of an id, where they stand first.
+fn entries_of(entries: &[KeptEntry], id: u64) -> usize
+    ensures bound { result ≤ length entries.now }
+    ensures split { IsFirst id entries.now → IsPartitionPoint (λ f. (f.id == id) ≡ true) (λ f. (f.id == id) ≡ false) entries.now result }
+{
+    entries.partition_point(
+        |entry: &KeptEntry| -> bool
+            ensures { result ≡ (entry.now.id == id) }
+        { entry.id() == id },
+    )
+}
+
+// How many inodes are of ids below an id.
+fn inodes_below(inodes: &[InodeAt], id: u64) -> usize
+    ensures bound { result ≤ length inodes.now }
+    ensures split { Rises inodes.now → IsPartitionPoint (λ f. nat_lt f.id id ≡ true) (λ f. nat_lt f.id id ≡ false) inodes.now result }
+{
+    inodes.partition_point(
+        |at: &InodeAt| -> bool
+            ensures { result ≡ nat_lt at.now.id id }
+        { at.id() < id },
+    )
+}
+
+// The entries of the directory of an id.
+fn run_of(entries: &[KeptEntry], id: u64) -> &[KeptEntry]
+    ensures { Rises entries.now → result.now ≡ filter (λ f. f.id == id) entries.now }
+{
+    let from = entries_below(entries, id);
+    let rest = &entries[from..];
+    let count = entries_of(rest, id);
+    &rest[..count]
+}
+
+impl Files {
+    /// The entries of a directory that are followed and listed.
+    #[tactic(auto, unfolding(crate::specs::Found::entries_in))]
+    pub(crate) fn directory(&self, id: u64) -> &[KeptEntry]
+        ensures each { (facts : Facts) → Remembers facts self.now.entries.items self.now.inodes.items → HasEntries facts result.now }
+        ensures all { (facts : Facts) → Remembers facts self.now.entries.items self.now.inodes.items → whats result.now ≡ entries_in facts id }
+    {
+        if is_reserved(id) {
+            return &[];
+        }
+        run_of(&self.entries, id)
+    }
+
+    /// The inode of an id, the first where there are more.
+    pub(crate) fn inode(&self, id: u64) -> Option<&KeptInode>
+        ensures { (facts : Facts) → Remembers facts self.now.entries.items self.now.inodes.items → option_map (λ inode. inode.now) result ≡ inode_at facts id }
+    {
+        let from = inodes_below(&self.inodes, id);
+        if from == self.inodes.len() {
+            return None;
+        }
+        let at = &self.inodes[from];
+        if at.id() == id {
+            Some(at.inode())
+        } else {
+            None
+        }
+    }
+}

@@ -1,0 +1,249 @@
+// What is kept of a view's records: entries, inodes, and places.
+ghost use Rattle.std.specs.Prelude.{◌≡◌, IfOk};
+ghost use Rattle.path_walk.specs.Places as spec;
+ghost use Rattle.view_rules.specs.Facts.{is_directory};
+
+use crate::Target;
+use apfs_layout::record as layout;
+use apfs_model::{Bytes, NoMemory};
+use fs_record::{DirEntry, Inode, StreamSize};
+use std::alloc::Global;
+use std::marker::Model;
+
+// The kind of a directory (File System Constants, File Modes).
+const DIRECTORY: u16 = 4;
+
+/// An entry of a directory, by the directory's id.
+#[derive(Debug, Drop)]
+pub(crate) struct KeptEntry {
+    id: u64,
+    name: String,
+    hash: u32,
+    file_id: u64,
+    kind: u16,
+    sibling: Option<u64>,
+}
+
+impl Model for KeptEntry {
+    ghost use Rattle.std.specs.Prelude.{string_bytes};
+    ghost use Rattle.fs_record.specs.Entries.{Entry};
+    ghost use Rattle.fs_record.specs.Facts.{Fact};
+
+    ghost Value = { Fact Entry };
+
+    ghost view = { λ a. record { id = a.id; what = record { name = string_bytes a.name; hash = a.hash; file_id = a.file_id; kind = a.kind; sibling = a.sibling } } };
+}
+
+impl KeptEntry {
+    /// A copy of an entry of a directory.
+    pub(crate) fn of(alloc: Global, id: u64, entry: &DirEntry<'_>) -> Result<KeptEntry, NoMemory>
+        ensures { IfOk result (λ kept. kept ≡ record { id = id; what = entry.now }) }
+    {
+        match String::from_str(alloc, entry.name()) {
+            Ok(name) => Ok(KeptEntry {
+                id,
+                name,
+                hash: entry.hash(),
+                file_id: entry.file_id(),
+                kind: entry.kind(),
+                sibling: entry.sibling(),
+            }),
+            Err(_) => Err(NoMemory),
+        }
+    }
+
+    /// The id of its directory.
+    pub(crate) fn id(&self) -> u64
+        ensures { result ≡ self.now.id }
+    {
+        self.id
+    }
+
+    /// The name, without its final zero.
+    pub(crate) fn name(&self) -> &str
+        ensures { result.now ≡ self.now.what.name }
+    {
+        self.name.as_str()
+    }
+
+    /// The id of the file.
+    pub(crate) fn file_id(&self) -> u64
+        ensures { result ≡ self.now.what.file_id }
+    {
+        self.file_id
+    }
+}
+
+/// An inode.
+#[derive(Debug, Drop)]
+pub(crate) struct KeptInode {
+    parent: u64,
+    private_id: u64,
+    links: i32,
+    bsd_flags: u32,
+    mode: u16,
+    stream: Option<StreamSize>,
+}
+
+impl Model for KeptInode {
+    ghost use Rattle.fs_record.specs.Inodes as inodes;
+
+    ghost Value = { inodes.Inode };
+
+    ghost view = { λ a. record { parent = a.parent; private_id = a.private_id; links = a.links; bsd_flags = a.bsd_flags; mode = a.mode; stream = a.stream } };
+}
+
+impl KeptInode {
+    ghost use Rattle.fs_record.specs.Inodes as inodes;
+
+    /// A copy of an inode.
+    pub(crate) fn of(inode: &Inode<'_>) -> KeptInode
+        ensures { result ≡ inode.now }
+    {
+        KeptInode {
+            parent: inode.parent(),
+            private_id: inode.private_id(),
+            links: inode.links(),
+            bsd_flags: inode.bsd_flags(),
+            mode: inode.mode(),
+            stream: inode.stream(),
+        }
+    }
+
+    /// Another copy.
+    pub(crate) fn copied(&self) -> KeptInode
+        ensures { result ≡ self.now }
+    {
+        KeptInode {
+            parent: self.parent,
+            private_id: self.private_id,
+            links: self.links,
+            bsd_flags: self.bsd_flags,
+            mode: self.mode,
+            stream: self.stream,
+        }
+    }
+
+    /// The id of its stream.
+    pub(crate) fn private_id(&self) -> u64
+        ensures { result ≡ self.now.private_id }
+    {
+        self.private_id
+    }
+
+    /// The BSD flags.
+    pub(crate) fn bsd_flags(&self) -> u32
+        ensures { result ≡ self.now.bsd_flags }
+    {
+        self.bsd_flags
+    }
+
+    /// The kind of the file.
+    pub(crate) fn kind(&self) -> u16
+        ensures { result ≡ inodes.inode_kind self.now }
+    {
+        self.mode / layout::MODE_KIND_UNIT
+    }
+
+    /// The size of its stream, where it has one.
+    pub(crate) fn stream(&self) -> Option<StreamSize>
+        ensures { result ≡ self.now.stream }
+    {
+        self.stream
+    }
+
+    /// Whether it is a directory.
+    pub(crate) fn is_directory(&self) -> bool
+        ensures { result ≡ is_directory self.now }
+    {
+        self.kind() == DIRECTORY
+    }
+}
+
+/// An inode, by its id.
+#[derive(Debug, Drop)]
+pub(crate) struct InodeAt {
+    id: u64,
+    inode: KeptInode,
+}
+
+impl Model for InodeAt {
+    ghost use Rattle.fs_record.specs.Inodes as inodes;
+    ghost use Rattle.fs_record.specs.Facts.{Fact};
+
+    ghost Value = { Fact inodes.Inode };
+
+    ghost view = { λ a. record { id = a.id; what = a.inode } };
+}
+
+impl InodeAt {
+    /// The inode of an id.
+    pub(crate) fn of(id: u64, inode: KeptInode) -> InodeAt
+        ensures { result ≡ record { id = id; what = inode } }
+    {
+        InodeAt { id, inode }
+    }
+
+    /// The id.
+    pub(crate) fn id(&self) -> u64
+        ensures { result ≡ self.now.id }
+    {
+        self.id
+    }
+
+    /// The inode.
+    pub(crate) fn inode(&self) -> &KeptInode
+        ensures { result.now ≡ self.now.what }
+    {
+        &self.inode
+    }
+}
+
+/// What a name leads to: an id, the name, and the inode.
+#[derive(Debug, Drop)]
+pub(crate) struct Place {
+    pub(crate) id: u64,
+    pub(crate) name: Bytes,
+    pub(crate) inode: KeptInode,
+}
+
+impl Model for Place {
+    ghost use Rattle.path_walk.specs.Places as places;
+
+    ghost Value = { places.Place };
+
+    ghost view = { λ a. record { id = a.id; name = a.name; inode = a.inode } };
+}
+
+// The size of a stream, 0 without one.
+fn size(stream: Option<StreamSize>) -> u64
+    ensures { result ≡ spec.size_of stream }
+{
+    match stream {
+        None => 0,
+        Some(stream) => stream.size,
+    }
+}
+
+impl Place {
+    /// The place as it is told.
+    pub(crate) fn target(self) -> Target
+        ensures { result ≡ spec.target_of self }
+    {
+        let kind = self.inode.kind();
+        let size = size(self.inode.stream());
+        Target {
+            id: self.id,
+            name: self.name,
+            kind,
+            size,
+        }
+    }
+
+    /// Whether it is a directory.
+    pub(crate) fn is_directory(&self) -> bool
+        ensures { result ≡ is_directory self.now.inode }
+    {
+        self.inode.is_directory()
+    }
+}

@@ -1,0 +1,124 @@
+// A whole view in memory.
+ghost use Rattle.std.specs.Prelude.{◌≡◌, ℕ, List, Some, IfOk, IfErr, IsErrOf};
+ghost use Rattle.apfs_model.specs.Counts.{Rose};
+ghost use Rattle.apfs_model.specs.Source.{IsKept};
+ghost use Rattle.obj_base.specs.declared.stop.Stop.TheVariants.{ReadFault};
+ghost use Rattle.obj_base.specs.Stops.{raised};
+ghost use Rattle.obj_base.specs.Site.{IsSiteFor};
+ghost use Rattle.view_rules.specs.Rules as rules;
+ghost use Rattle.view_rules.specs.Rules.{view_facts};
+ghost use Rattle.path_walk.specs.Stops.{IsStopThere};
+ghost use Rattle.path_walk.specs.Parts.{of_walk, Remembers, IsSurveyed, IsNoAnswer};
+
+use crate::PathStop;
+use crate::files::Files;
+use crate::survey::{Survey, gather_all};
+use blk_source::BlockSource;
+use bt_cursor::WalkFault;
+use bt_keys::{FsKey, FsPlainKey};
+use fs_record::TreeFault;
+use obj_base::{Site, Stop};
+use std::alloc::Global;
+use vol_view::{View, Volume};
+
+/// What a walk names, said of the view.
+pub(crate) fn fault_of(view: &View, why: WalkFault) -> TreeFault
+    ensures { result ≡ rules.raised view.now why }
+{
+    match why {
+        WalkFault::Unsound { block, why } => TreeFault::Unsound { block, why },
+        WalkFault::Unnamed { oid } => TreeFault::Unnamed {
+            slot: view.slot,
+            oid,
+            xid: view.xid,
+        },
+        WalkFault::Order { item } => TreeFault::Order {
+            slot: view.slot,
+            xid: view.xid,
+            item,
+        },
+        WalkFault::Counts => TreeFault::Counts {
+            slot: view.slot,
+            xid: view.xid,
+        },
+    }
+}
+
+/// Why a walk stops, said of a path.
+#[tactic(auto, using(crate::proofs::Known::raised_unanswered))]
+pub(crate) fn raise(view: &View, stop: Stop<WalkFault>) -> Stop<PathStop>
+    ensures raised { result ≡ raised (of_walk view.now) stop }
+    ensures unanswered { IsNoAnswer result }
+{
+    match stop {
+        Stop::Found(why) => Stop::Found(PathStop::Fault(fault_of(view, why))),
+        Stop::Unsupported { feature, block } => Stop::Unsupported { feature, block },
+        Stop::ReadFault => Stop::ReadFault,
+        Stop::NoMemory => Stop::NoMemory,
+    }
+}
+
+/// What is gathered of a view whose tree is whole.
+pub(crate) fn survey_view<S: BlockSource>(
+    alloc: Global,
+    src: &mut S,
+    volume: &Volume,
+    view: &View,
+    site: &Site,
+) -> Result<Survey, Stop<PathStop>>
+    requires site { IsSiteFor site.now (S.bytes_len src.old) }
+    ensures clear { (image : List ℕ) → S.bytes src.old ≡ Some image → IfOk result (λ kept. IsSurveyed image site.now volume.now view.now kept.refusal kept.entries.items kept.inodes.items) }
+    ensures present { (image : List ℕ) → S.bytes src.old ≡ Some image → IfErr result (IsStopThere image site.now volume.now view.now) }
+    ensures unanswered { IfErr result IsNoAnswer }
+    ensures cause { IsErrOf result ReadFault → Rose (S.faults src.old) (S.faults src.new) }
+    ensures kept { IsKept S.bytes S.bytes_len S.faults src.old src.new }
+{
+    if volume.names.are_hashed() {
+        match gather_all::<FsKey, S>(alloc, src, volume, view, site) {
+            Ok(kept) => Ok(kept),
+            Err(stop) => Err(raise(view, stop)),
+        }
+    } else {
+        match gather_all::<FsPlainKey, S>(alloc, src, volume, view, site) {
+            Ok(kept) => Ok(kept),
+            Err(stop) => Err(raise(view, stop)),
+        }
+    }
+}
+
+/// The entries and the inodes of a view whose tree is whole and whose records can all be read.
+pub(crate) fn gather_view<S: BlockSource>(
+    alloc: Global,
+    src: &mut S,
+    volume: &Volume,
+    view: &View,
+    site: &Site,
+) -> Result<Files, Stop<PathStop>>
+    requires site { IsSiteFor site.now (S.bytes_len src.old) }
+    ensures clear { (image : List ℕ) → S.bytes src.old ≡ Some image → IfOk result (λ files. Remembers (view_facts image site.now volume.now view.now) files.entries.items files.inodes.items) }
+    ensures present { (image : List ℕ) → S.bytes src.old ≡ Some image → IfErr result (IsStopThere image site.now volume.now view.now) }
+    ensures unanswered { IfErr result IsNoAnswer }
+    ensures cause { IsErrOf result ReadFault → Rose (S.faults src.old) (S.faults src.new) }
+    ensures kept { IsKept S.bytes S.bytes_len S.faults src.old src.new }
+{
+    let kept = match survey_view(alloc, src, volume, view, site) {
+        Ok(kept) => kept,
+        Err(stop) => return Err(stop),
+    };
+    let Survey {
+        alloc: _,
+        number: _,
+        refusal,
+        entries,
+        inodes,
+    } = kept;
+    match refusal {
+        None => Ok(Files { entries, inodes }),
+        Some((item, why)) => Err(Stop::Found(PathStop::Fault(TreeFault::Record {
+            slot: view.slot,
+            xid: view.xid,
+            item,
+            why,
+        }))),
+    }
+}

@@ -1,0 +1,6 @@
+use Rattle.std.proofs.Common.{ap, ◌∙◌, nat_eq}
+use Rattle.tree_rules.proofs.Counting.{any_counts}
+use Rattle.tree_rules.proofs.remarks.lacks_entries.Goals as goal
+
+pub returns : goal.returns
+returns c = ap (λ n. nat_eq n 0) c.count.ensures ∙ any_counts c.args.facts.now c.args.files.now c.args.id c.requires

@@ -1,0 +1,15 @@
+use Rattle.std.proofs.Common.{◌∙◌, ap}
+use Rattle.view_rules.specs.Facts.{Facts}
+use Rattle.view_rules.specs.Names.{has_other_name_hash}
+use Rattle.tree_rules.proofs.Finds.{found_item, next_item}
+use Rattle.tree_rules.proofs.remarks.other_name_hash.Goals as goal
+
+pub returns-then-other : goal.returns-then-other
+returns-then-other c =
+    found_item (has_other_name_hash c.args.facts.now) c.args.facts.now.entries c.deref-e-items.result.now c.loop-e.e-index c.e-item.result c.in_ok-other.other
+    (c.deref-e-items.ensures.value ∙ ap (λ (f : Facts). f.entries) c.facts.view_is) c.loop-e-test.true c.e-item.is c.loop-e.invariant c.in_ok-other.ensures c.if-other.true
+
+pub loop-e-preserved : goal.loop-e-preserved
+loop-e-preserved c =
+    next_item (has_other_name_hash c.args.facts.now) c.args.facts.now.entries c.deref-e-items.result.now c.loop-e.e-index c.e-item.result c.in_ok-other.other
+    (c.deref-e-items.ensures.value ∙ ap (λ (f : Facts). f.entries) c.facts.view_is) c.loop-e-test.true c.e-item.is c.loop-e.invariant c.in_ok-other.ensures c.if-other.false

@@ -1,0 +1,172 @@
+// The notes of a view: hashes of names that aren't ASCII, and inodes without entries.
+ghost use Rattle.std.specs.Prelude.{◌≡◌, ◌++◌, ◌==◌, ◌&&◌, not, nat_le, Some, None, option_to_list, find, IfOk, OnOk, if◌then◌else◌};
+ghost use Rattle.std.specs.List.{list_any};
+ghost use Rattle.std.specs.Option.{option_copied};
+ghost use Rattle.fs_record.specs.Entries.{Entry};
+ghost use Rattle.fs_record.specs.Facts.{Fact};
+ghost use Rattle.view_rules.specs.Facts.{is_directory};
+ghost use Rattle.view_rules.specs.Names as names;
+ghost use Rattle.tree_rules.specs.Ids.{CountsIds};
+ghost use Rattle.tree_rules.specs.Notes as spec;
+
+use crate::Note;
+use crate::ids::{ByAnyFile, count, tally};
+use apfs_model::Bytes;
+use blk_source::NoMemory;
+use fs_name::name_hash;
+use fs_record::{IdAt, NamedAt};
+use std::alloc::Global;
+use std::collections::BTreeMap;
+use view_facts::{EntryFact, Facts, InodeFact};
+use vol_view::View;
+
+// Whether an entry's name isn't ASCII, and its key has another hash.
+#[tactic(auto, using(crate::proofs::Texts::ascii_name, crate::proofs::Texts::other_name), unfolding(view_rules::specs::Names::has_other_name_hash, view_rules::specs::Names::has_other_hash))]
+fn has_other_hash(alloc: Global, facts: &Facts, e: &EntryFact) -> Result<bool, NoMemory>
+    ensures { IfOk result (λ other. other ≡ names.has_other_name_hash facts.now e.now) }
+{
+    let name = e.name();
+    if name.is_ascii() {
+        return Ok(false);
+    }
+    if !facts.names.are_hashed() {
+        return Ok(false);
+    }
+    match name_hash(alloc, facts.names, name) {
+        Ok(hash) => Ok(hash != e.hash()),
+        Err(_) => Err(NoMemory),
+    }
+}
+
+/// The first entry whose name isn't ASCII and whose key has another hash.
+pub(crate) fn other_name_hash(alloc: Global, facts: &Facts) -> Result<Option<&EntryFact>, NoMemory>
+    ensures { IfOk result (λ first. option_copied first ≡ find (names.has_other_name_hash facts.now) facts.now.entries) }
+{
+    for e in &facts.entries {
+        let other = has_other_hash(alloc, facts, e)?;
+        if other {
+            return Ok(Some(e));
+        }
+    }
+    Ok(None)
+}
+
+// The note of an entry, where its name isn't ASCII and its key has another hash.
+fn hash_note(
+    alloc: Global,
+    view: &View,
+    facts: &Facts,
+    e: &EntryFact,
+) -> Result<Option<Note>, NoMemory>
+    ensures { IfOk result (λ note. note ≡ (if names.has_other_name_hash facts.now e.now then Some (spec.hash_note view.now e.now) else None)) }
+{
+    if !has_other_hash(alloc, facts, e)? {
+        return Ok(None);
+    }
+    let name = Bytes::from_slice(alloc, e.name().as_bytes())?;
+    Ok(Some(Note::Hash(NamedAt {
+        slot: view.slot,
+        xid: view.xid,
+        id: e.id(),
+        name,
+    })))
+}
+
+// Puts a note after the others, where there is one.
+fn put(notes: &mut Vec<Note>, note: Option<Note>) -> Result<(), NoMemory>
+    ensures { OnOk result (notes.new.items ≡ notes.old.items ++ option_to_list note) }
+{
+    let Some(note) = note else {
+        return Ok(());
+    };
+    match notes.push(note) {
+        Ok(()) => Ok(()),
+        Err(_) => Err(NoMemory),
+    }
+}
+
+/// The notes on hashes, in record order.
+pub(crate) fn hash_notes(alloc: Global, view: &View, facts: &Facts) -> Result<Vec<Note>, NoMemory>
+    ensures { IfOk result (λ notes. notes.items ≡ spec.hash_notes view.now facts.now) }
+{
+    let mut notes = Vec::new(alloc);
+    for e in &facts.entries {
+        let note = hash_note(alloc, view, facts, e)?;
+        put(&mut notes, note)?;
+    }
+    Ok(notes)
+}
+
+// Whether a file has no entry.
+#[tactic(auto, using(crate::proofs::Counting::any_counts))]
+fn lacks_entries(facts: &Facts, files: &BTreeMap<u64, u64>, id: u64) -> bool
+    requires { CountsIds (λ e. Some e.what.file_id) facts.now.entries files.now }
+    ensures { result ≡ not (list_any (λ (e : Fact Entry). e.what.file_id == id) facts.now.entries) }
+{
+    count(files, id) == 0
+}
+
+// Whether an inode is of 16 or more, and no directory.
+fn is_user_file(f: &InodeFact) -> bool
+    ensures { result ≡ (nat_le 16 f.now.id && not (is_directory f.now.what)) }
+{
+    f.id() >= 16 && f.kind() != 4
+}
+
+// Whether an inode of 16 or more, no directory, has no entry.
+#[tactic(auto, unfolding(crate::specs::Notes::is_unnamed))]
+fn is_unnamed(facts: &Facts, files: &BTreeMap<u64, u64>, f: &InodeFact) -> bool
+    requires { CountsIds (λ e. Some e.what.file_id) facts.now.entries files.now }
+    ensures { result ≡ spec.is_unnamed facts.now f.now }
+{
+    is_user_file(f) && lacks_entries(facts, files, f.id())
+}
+
+// The note of an inode, where it has no entry.
+fn unnamed_note(
+    view: &View,
+    facts: &Facts,
+    files: &BTreeMap<u64, u64>,
+    f: &InodeFact,
+) -> Option<Note>
+    requires { CountsIds (λ e. Some e.what.file_id) facts.now.entries files.now }
+    ensures { result ≡ (if spec.is_unnamed facts.now f.now then Some (spec.unnamed_note view.now f.now) else None) }
+{
+    if !is_unnamed(facts, files, f) {
+        return None;
+    }
+    Some(Note::Unnamed(IdAt {
+        slot: view.slot,
+        xid: view.xid,
+        id: f.id(),
+    }))
+}
+
+// The notes of inodes, by how many entries each file has.
+fn unnamed_by(
+    alloc: Global,
+    view: &View,
+    facts: &Facts,
+    files: &BTreeMap<u64, u64>,
+) -> Result<Vec<Note>, NoMemory>
+    requires { CountsIds (λ e. Some e.what.file_id) facts.now.entries files.now }
+    ensures { IfOk result (λ notes. notes.items ≡ spec.unnamed_notes view.now facts.now) }
+{
+    let mut notes = Vec::new(alloc);
+    for f in &facts.inodes {
+        put(&mut notes, unnamed_note(view, facts, files, f))?;
+    }
+    Ok(notes)
+}
+
+/// The notes on inodes without entries, in record order.
+pub(crate) fn unnamed_notes(
+    alloc: Global,
+    view: &View,
+    facts: &Facts,
+) -> Result<Vec<Note>, NoMemory>
+    ensures { IfOk result (λ notes. notes.items ≡ spec.unnamed_notes view.now facts.now) }
+{
+    let files = tally::<_, ByAnyFile>(alloc, &facts.entries)?;
+    unnamed_by(alloc, view, facts, &files)
+}

@@ -1,0 +1,4 @@
+pub mod Adds
+pub mod NamesAlike
+pub mod Keeping
+pub mod Walks

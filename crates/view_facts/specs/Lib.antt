@@ -1,0 +1,5 @@
+pub mod Contents
+pub mod Adding
+pub mod Refusals
+pub mod Kept
+pub mod Stops

@@ -1,0 +1,11 @@
+//! What the records of a view say: its facts, gathered in one walk over its tree.
+#![tactic(auto)]
+
+mod adding;
+mod contents;
+mod facts;
+mod gathering;
+mod keep;
+
+pub use facts::{AttributeFact, EntryFact, ExtentFact, Facts, InodeFact, LinkFact, SiblingFact};
+pub use gathering::{ViewFacts, view_facts};
