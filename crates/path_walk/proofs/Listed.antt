@@ -25,14 +25,14 @@ drop-all : {X : Type 0} (xs : List X) → drop (length xs) xs ≡ []
 drop-all [] = refl
 drop-all (x ∷ xs) = drop-all xs
 
-drop-at : {P : Type 0} (now : P → List ℕ) (parts : List P) (i : ℕ) (d : P) → i < length parts → map now (drop i parts) ≡ now (get_or parts i d) ∷ map now (drop (i + 1) parts)
-drop-at now parts i d low = ap (map now) (drop_more parts i d low)
+pub drop_at : {P : Type 0} (now : P → List ℕ) (parts : List P) (i : ℕ) (d : P) → i < length parts → map now (drop i parts) ≡ now (get_or parts i d) ∷ map now (drop (i + 1) parts)
+drop_at now parts i d low = ap (map now) (drop_more parts i d low)
 
 pub along_next : {P : Type 0} (now : P → List ℕ) (facts : Facts) (parts : List P) (i : ℕ) (d : P) (place next : Place) (whole : Result Place Answer) → i < length parts → by_part facts place (now (get_or parts i d)) ≡ Ok next → along facts (map now (drop i parts)) place ≡ whole → along facts (map now (drop (i + 1) parts)) next ≡ whole
-along_next now facts parts i d place next whole low step so_far = sym (along_on facts (map now (drop (i + 1) parts)) place next (now (get_or parts i d)) step) ∙ (sym (ap (λ ps. along facts ps place) (drop-at now parts i d low)) ∙ so_far)
+along_next now facts parts i d place next whole low step so_far = sym (along_on facts (map now (drop (i + 1) parts)) place next (now (get_or parts i d)) step) ∙ (sym (ap (λ ps. along facts ps place) (drop_at now parts i d low)) ∙ so_far)
 
 pub along_ends : {P : Type 0} (now : P → List ℕ) (facts : Facts) (parts : List P) (i : ℕ) (d : P) (place : Place) (a : Answer) (whole : Result Place Answer) → i < length parts → by_part facts place (now (get_or parts i d)) ≡ Err a → along facts (map now (drop i parts)) place ≡ whole → whole ≡ Err a
-along_ends now facts parts i d place a whole low step so_far = sym so_far ∙ (ap (λ ps. along facts ps place) (drop-at now parts i d low) ∙ along_stops facts (map now (drop (i + 1) parts)) place (now (get_or parts i d)) a step)
+along_ends now facts parts i d place a whole low step so_far = sym so_far ∙ (ap (λ ps. along facts ps place) (drop_at now parts i d low) ∙ along_stops facts (map now (drop (i + 1) parts)) place (now (get_or parts i d)) a step)
 
 pub along_done : {P : Type 0} (now : P → List ℕ) (facts : Facts) (parts : List P) (i : ℕ) (place : Place) (whole : Result Place Answer) → i ≡ length parts → along facts (map now (drop i parts)) place ≡ whole → whole ≡ Ok place
 along_done now facts parts i place whole end so_far = sym so_far ∙ ap (λ ps. along facts (map now ps) place) (ap (λ k. drop k parts) end ∙ drop-all parts)

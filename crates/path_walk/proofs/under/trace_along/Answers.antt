@@ -1,0 +1,40 @@
+use Rattle.std.proofs.Common.{◌≡◌, ◌<◌, ◌+◌, ℕ, List, [], ◌∷◌, Result, map, length, drop, get_or, subst, arith, Bor}
+use Rattle.path_walk.specs.Places.{Place}
+use Rattle.path_walk.specs.Parts.{along, by_part, TakesFrom}
+use Rattle.path_walk.specs.declared.answer.Answer.{Answer}
+use Rattle.path_walk.proofs.Listed.{drop_at, along_next, along_ends, along_done}
+use Rattle.path_walk.proofs.Entered.{tree_ends}
+use Rattle.path_walk.proofs.under.trace_along.Goals as goal
+
+pub returns-in-Err-clause-known : goal.returns-in-Err-clause-known
+returns-in-Err-clause-known c facts path named r memo takes =
+    let h = c.loop-part.invariant facts path named r memo takes in
+    let low : c.loop-part.part-index < length c.args.parts.now = omega arith in
+    let d : Bor (List ℕ) = record { ref_ptr = (0, 0); now = [] } in
+    let part : List ℕ = (get_or c.args.parts.now c.loop-part.part-index d).now in
+    let rest : List (List ℕ) = map (λ (p : Bor (List ℕ)). p.now) (drop (c.loop-part.part-index + 1) c.args.parts.now) in
+    let whole : Result Place Answer = along facts (map (λ (p : Bor (List ℕ)). p.now) c.args.parts.now) c.args.start in
+    let left : TakesFrom facts path (part ∷ rest) c.loop-part.place = subst (λ (ps : List (List ℕ)). TakesFrom facts path ps c.loop-part.place) (drop_at (λ (p : Bor (List ℕ)). p.now) c.args.parts.now c.loop-part.part-index d low) h.1.0 in
+    tree_ends facts c.args.view.now path (λ (p : Place). p) (by_part facts c.loop-part.place part) (λ (p : Place). p) whole c.in-Err.stop
+    (λ a e. along_ends (λ (p : Bor (List ℕ)). p.now) facts c.args.parts.now c.loop-part.part-index d c.loop-part.place a whole low e h.0) (c.in-Err.ensures.known facts path rest named r h.1.1 left)
+
+pub loop-part-preserved : goal.loop-part-preserved
+loop-part-preserved c facts path named r memo takes =
+    let h = c.loop-part.invariant facts path named r memo takes in
+    let low : c.loop-part.part-index < length c.args.parts.now = omega arith in
+    let d : Bor (List ℕ) = record { ref_ptr = (0, 0); now = [] } in
+    let part : List ℕ = (get_or c.args.parts.now c.loop-part.part-index d).now in
+    let rest : List (List ℕ) = map (λ (p : Bor (List ℕ)). p.now) (drop (c.loop-part.part-index + 1) c.args.parts.now) in
+    let whole : Result Place Answer = along facts (map (λ (p : Bor (List ℕ)). p.now) c.args.parts.now) c.args.start in
+    let left : TakesFrom facts path (part ∷ rest) c.loop-part.place = subst (λ (ps : List (List ℕ)). TakesFrom facts path ps c.loop-part.place) (drop_at (λ (p : Bor (List ℕ)). p.now) c.args.parts.now c.loop-part.part-index d low) h.1.0 in (
+      along_next (λ (p : Bor (List ℕ)). p.now) facts c.args.parts.now c.loop-part.part-index d c.loop-part.place c.in-Ok.next whole low (c.in-Ok.ensures.known facts path rest named r h.1.1 left) h.0,
+      (c.in-Ok.ensures.taken facts path rest named r h.1.1 left, c.in-Ok.ensures.kept facts path rest named r h.1.1 left),
+    )
+
+pub returns-clause-known : goal.returns-clause-known
+returns-clause-known c facts path named r memo takes =
+    let end : c.loop-part.part-index ≡ length c.args.parts.now = omega arith in
+    along_done (λ (p : Bor (List ℕ)). p.now) facts c.args.parts.now c.loop-part.part-index c.loop-part.place (along facts (map (λ (p : Bor (List ℕ)). p.now) c.args.parts.now) c.args.start) end (c.loop-part.invariant facts path named r memo takes).0
+
+pub returns-clause-kept : goal.returns-clause-kept
+returns-clause-kept c facts path named r memo takes = (c.loop-part.invariant facts path named r memo takes).1.1

@@ -1,0 +1,25 @@
+use Rattle.std.proofs.Common.{sym, subst}
+use Rattle.path_walk.specs.Places.{Place}
+use Rattle.path_walk.specs.Parts.{by_part, IsTaken}
+use Rattle.path_walk.proofs.Memos.{taken_part}
+use Rattle.path_walk.proofs.Entered.{path_known, stop_known}
+use Rattle.path_walk.proofs.under.trace_part.Goals as goal
+
+pub returns-in-Err-clause-known : goal.returns-in-Err-clause-known
+returns-in-Err-clause-known c facts path rest named r memo takes =
+    path_known facts c.args.view.now path (λ (p : Place). p) (by_part facts c.args.place c.args.part.now) (λ (p : Place). p) (by_part facts c.args.place c.args.part.now) c.in-Err.stop (λ a e. e) (c.in-Err.ensures.known facts named r)
+
+pub returns-in-Ok-keep_part-clause-kept : goal.returns-in-Ok-keep_part-clause-kept
+returns-in-Ok-keep_part-clause-kept c facts path rest named r memo takes =
+    let t = taken_part facts path rest c.args.place c.in-Ok.next c.args.part.now (c.in-Ok.ensures.known facts named r) takes in
+    c.in-Ok-keep_part.ensures.kept facts path named r memo (subst (λ (p : Place). IsTaken facts path p.id c.args.part.now c.in-Ok.next) (sym c.place.view_is) t.0)
+
+pub returns-in-Ok-keep_part-clause-taken : goal.returns-in-Ok-keep_part-clause-taken
+returns-in-Ok-keep_part-clause-taken c facts path rest named r memo takes =
+    (taken_part facts path rest c.args.place c.in-Ok.next c.args.part.now (c.in-Ok.ensures.known facts named r) takes).1
+
+pub returns-in-Err-keep_part-clause-known : goal.returns-in-Err-keep_part-clause-known
+returns-in-Err-keep_part-clause-known c facts path rest named r memo takes =
+    let t = taken_part facts path rest c.args.place c.in-Ok.next c.args.part.now (c.in-Ok.ensures.known facts named r) takes in
+    stop_known facts c.args.view.now path (λ (p : Place). p) (by_part facts c.args.place c.args.part.now) c.in-Err-keep_part.stop
+    (c.in-Err-keep_part.ensures.stops facts path named r memo (subst (λ (p : Place). IsTaken facts path p.id c.args.part.now c.in-Ok.next) (sym c.place.view_is) t.0))
