@@ -13,11 +13,8 @@ pub mod Rising
 pub mod Known
 pub mod Viewed
 pub mod Listed
-<<<<<<< HEAD
 pub mod StreamFaults
 pub mod Givens
-=======
 pub mod Told
 pub mod Memos
 pub mod Entered
->>>>>>> 300b2bd85fae3050111e2755cc7db4fc032c2140
