@@ -71,6 +71,7 @@ fn failure_of_each_read(rt: HostRuntime) -> Result<(), Fail> {
         (Image::Empty, INFO, 14),
         (Image::Small, VOLUMES, 17),
         (Image::Views, SNAPSHOTS, 20),
+        (Image::Small, SPACE, 15),
     ] {
         let whole = end(rt.alloc(), image, words, [&[], &[], &[]])?;
         assert!(rt;

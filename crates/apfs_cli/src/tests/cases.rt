@@ -1,6 +1,7 @@
 // The cases: what a run is handed, and how it ends. Their lines were worked out by hand.
 use crate::tests::images::*;
-use apfs_layout::{node, object, object_map, volume};
+use apfs_layout::chunk_info::{CHUNK_BITMAP, CIB_ENTRIES};
+use apfs_layout::{node, object, object_map, space_manager, volume};
 
 // A name, what it is run on, the words, the status, and what is written on the two sinks.
 pub type Case = (
@@ -30,6 +31,11 @@ pub const RING: &[&str] = &["ring", "x"];
 pub const INFO: &[&str] = &["info", "x"];
 
 pub const VOLUMES: &[&str] = &["volumes", "x"];
+
+pub const SPACE: &[&str] = &["space", "x"];
+
+pub const SPACE_LINES: &str =
+    "blocks 256 free 199\nchunk 0 blocks 256 free 199 bitmap 44\npool blocks 8 free 6\nqueue pool entries 0 blocks 0\nqueue main entries 0 blocks 0\n";
 
 pub const SNAPSHOTS: &[&str] = &["snapshots", "x"];
 
@@ -507,5 +513,47 @@ pub const CASES: &[Case] = &[
         6,
         "",
         "apfs: unsupported: LaterTree block 51\n",
+    ),
+    ("clean_space", Image::Small, SPACE, 0, SPACE_LINES, ""),
+    ("answer_no_image_space", Image::Absent, SPACE, 8, "", NO_IMAGE),
+    (
+        "fault_no_checkpoint_space",
+        Image::EmptyUnsummed,
+        SPACE,
+        1,
+        "",
+        "apfs: fault: NoCheckpoint\n",
+    ),
+    (
+        "fault_space_geometry",
+        Image::SmallChanged(MANAGER, space_manager::BLOCKS_PER_CHUNK, &[0xf8, 0x7f]),
+        SPACE,
+        1,
+        "",
+        "apfs: fault: Space Geometry\n",
+    ),
+    (
+        "fault_space_place",
+        Image::SmallChanged(CHUNK_INFO, CIB_ENTRIES + CHUNK_BITMAP, &[200]),
+        SPACE,
+        1,
+        "",
+        "apfs: fault: Space Place 200\n",
+    ),
+    (
+        "fault_space_free_total",
+        Image::SmallChanged(MANAGER, space_manager::MAIN_FREE, &[198]),
+        SPACE,
+        1,
+        "",
+        "apfs: fault: Space FreeTotal\n",
+    ),
+    (
+        "fault_pool_index",
+        Image::SmallChanged(MANAGER, POOL_INDEX, &[16]),
+        SPACE,
+        1,
+        "",
+        "apfs: fault: Pool Index 0\n",
     ),
 ];

@@ -20,6 +20,13 @@ pub const MAP_TREE: usize = 26;
 
 pub const VOLUME: usize = 51;
 
+// Its space manager, where that has the index of the pool's bitmap, and the block that tells of its chunk.
+pub const MANAGER: usize = 9;
+
+pub const POOL_INDEX: usize = 2520;
+
+pub const CHUNK_INFO: usize = 43;
+
 // The only node of the snapshot metadata tree of the small container's volume.
 pub const SNAPS_TREE: usize = 56;
 
