@@ -1,10 +1,11 @@
 #!/usr/bin/env python3
-"""What `apfs ring`, `info`, `volumes` and `snapshots` have to say of an image, worked out from its bytes by other means.
+"""What `apfs ring`, `info`, `volumes`, `space` and `snapshots` have to say of an image, worked out from its bytes by other means.
 
     ring_by_hand.py ring IMAGE              the lines, the line on standard error and the status of `apfs ring`
     ring_by_hand.py info IMAGE              the same for `apfs info`
     ring_by_hand.py volumes IMAGE           the same for `apfs volumes`, where the container's map has no other fault than
                                             that a volume isn't found
+    ring_by_hand.py space IMAGE             the same for `apfs space`, where nothing is damaged but the number of free blocks
     ring_by_hand.py snapshots IMAGE [--volume N]
                                             the same for `apfs snapshots`, where nothing is wrong but a volume's or a snapshot's flags
                                             or the number of snapshots
@@ -212,6 +213,45 @@ class Image:
             lines.append(f"{slot} {uuid.UUID(bytes=bytes(data[240:256]))} {role} {names} {snapshots} {name}")
         return lines
 
+    def queued(self, objects, oid):
+        """The lengths of the entries of a free queue's tree; an entry without a value has one block."""
+        node = self.block(objects[oid])
+        begin = 56 + number(node, 40, 2)
+        end = self.size - 40 * (number(node, 32, 2) & 1)
+        for at in range(begin, begin + 4 * number(node, 36, 4), 4):
+            value = number(node, at + 2, 2)
+            if number(node, 34, 2):
+                yield from self.queued(objects, number(node, end - value, 8))
+            else:
+                yield 1 if value == 0xFFFF else number(node, end - value, 8)
+
+    def space_lines(self):
+        _, _, nx, maps = self.newest()
+        objects = dict(maps)
+        manager = self.block(objects[number(nx.data, 152, 8)])
+        lines = [f"blocks {nx.blocks} free {number(manager, 72, 8)}"]
+        addresses, count = number(manager, 80, 4), number(manager, 68, 4) or number(manager, 64, 4)
+        blocks = [number(manager, addresses + 8 * i, 8) for i in range(count)]
+        if number(manager, 68, 4):
+            blocks = [number(self.block(cab), 40 + 8 * i, 8) for cab in blocks for i in range(number(self.block(cab), 36, 4))]
+        total = 0
+        for info in map(self.block, blocks):
+            for at in range(40, 40 + 32 * number(info, 36, 4), 32):
+                free, bitmap = number(info, at + 20, 4), number(info, at + 24, 8)
+                lines.append(f"chunk {len(lines) - 1} blocks {number(info, at + 16, 4) % 2**20} free {free} bitmap {bitmap}")
+                total += free
+        if total != number(manager, 72, 8):
+            raise Ended(1, "fault: Space FreeTotal")
+        pool, ring, indexes = number(manager, 152, 8), number(manager, 168, 8), number(manager, 328, 4)
+        bits = b"".join(self.block(ring + number(manager, indexes + 2 * i, 2)) for i in range(number(manager, 160, 4)))
+        free = sum(bits[i // 8] >> i % 8 & 1 == 0 for i in range(pool))
+        lines.append(f"pool blocks {pool} free {free}")
+        for name, at in (("pool", 208), ("main", 248)):
+            oid = number(manager, at, 8)
+            lengths = list(self.queued(objects, oid)) if oid else []
+            lines.append(f"queue {name} entries {len(lengths)} blocks {sum(lengths)}")
+        return lines
+
     def metadata(self, block):
         """The records of a volume's snapshot metadata tree: key and value."""
         node = self.block(block)
@@ -271,12 +311,12 @@ def main(words):
         words, options = words[:2], words[3:]
     else:
         options = []
-    if len(words) != 2 or words[0] not in ("ring", "info", "volumes", "snapshots"):
+    if len(words) != 2 or words[0] not in ("ring", "info", "volumes", "space", "snapshots"):
         print(__doc__, file=sys.stderr)
         return 2
     try:
         image = Image(words[1])
-        lines = {"ring": image.ring_lines, "info": image.info_lines, "volumes": image.volumes_lines, "snapshots": image.snapshots_lines}
+        lines = {"ring": image.ring_lines, "info": image.info_lines, "volumes": image.volumes_lines, "space": image.space_lines, "snapshots": image.snapshots_lines}
         for line in lines[words[0]](*options):
             print(line)
     except Ended as ended:
