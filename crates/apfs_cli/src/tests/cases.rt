@@ -515,7 +515,14 @@ pub const CASES: &[Case] = &[
         "apfs: unsupported: LaterTree block 51\n",
     ),
     ("clean_space", Image::Small, SPACE, 0, SPACE_LINES, ""),
-    ("answer_no_image_space", Image::Absent, SPACE, 8, "", NO_IMAGE),
+    (
+        "answer_no_image_space",
+        Image::Absent,
+        SPACE,
+        8,
+        "",
+        NO_IMAGE,
+    ),
     (
         "fault_no_checkpoint_space",
         Image::EmptyUnsummed,
