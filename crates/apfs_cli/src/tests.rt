@@ -65,6 +65,26 @@ fn cases_end_as_said(rt: HostRuntime) -> Result<(), Fail> {
 }
 
 #[test]
+fn feature_cases_end_as_said(rt: HostRuntime) -> Result<(), Fail> {
+    for (name, image, words, status, out, err) in FEATURE_CASES {
+        let ended = end(rt.alloc(), *image, words, [&[], &[], &[]])?;
+        let as_said = ended_with(&ended, *status, out, err);
+        assert!(rt; as_said, "{name}: status {}", ended.status);
+    }
+    Ok(())
+}
+
+#[test]
+fn volume_cases_end_as_said(rt: HostRuntime) -> Result<(), Fail> {
+    for (name, image, words, status, out, err) in VOLUME_CASES {
+        let ended = end(rt.alloc(), *image, words, [&[], &[], &[]])?;
+        let as_said = ended_with(&ended, *status, out, err);
+        assert!(rt; as_said, "{name}: status {}", ended.status);
+    }
+    Ok(())
+}
+
+#[test]
 fn failure_of_each_read(rt: HostRuntime) -> Result<(), Fail> {
     for (image, words, reads) in [
         (Image::Ring, RING, 9),
@@ -171,6 +191,22 @@ fn what_is_written_is_flushed(rt: HostRuntime) -> Result<(), Fail> {
 #[test]
 fn failure_of_each_put(rt: HostRuntime) -> Result<(), Fail> {
     for (name, image, words, _, out, err) in CASES {
+        // Nothing is put where there is nothing to write.
+        let status = if out.is_empty() && err.is_empty() {
+            0
+        } else {
+            4
+        };
+        let ended = end(rt.alloc(), *image, words, [&[], &[1], &[1]])?;
+        let as_said = ended_with(&ended, status, "", "");
+        assert!(rt; as_said, "{name}: status {}", ended.status);
+    }
+    Ok(())
+}
+
+#[test]
+fn failure_of_each_put_of_features(rt: HostRuntime) -> Result<(), Fail> {
+    for (name, image, words, _, out, err) in FEATURE_CASES {
         // Nothing is put where there is nothing to write.
         let status = if out.is_empty() && err.is_empty() {
             0

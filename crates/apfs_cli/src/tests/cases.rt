@@ -217,6 +217,10 @@ pub const CASES: &[Case] = &[
         "",
         "apfs: fault: Unsound block 51 Magic\n",
     ),
+];
+
+// Those of features, and of words.
+pub const FEATURE_CASES: &[Case] = &[
     (
         "feature_container_snapshots",
         Image::SmallChanged(MAP, object_map::SNAP_COUNT, &[1]),
@@ -353,6 +357,10 @@ pub const CASES: &[Case] = &[
         "",
         "apfs: fault: Unsound block 26 Ghost\n",
     ),
+];
+
+// Those of the commands on one volume, and of space.
+pub const VOLUME_CASES: &[Case] = &[
     (
         "words_snapshots_twice",
         Image::Views,
