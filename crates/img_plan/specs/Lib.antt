@@ -1,2 +1,4 @@
 pub mod Nodes
 pub mod Plans
+pub mod Records
+pub mod Samples

@@ -1,6 +1,8 @@
 // The keys of records (File-System Objects, j_key_t), and what an item takes in a node.
-ghost use Rattle.std.specs.Prelude.{◌≡◌, ◌≤◌, ◌+◌, ◌-◌, ◌^◌, min, IfOk, length, vec_len};
+ghost use Rattle.std.specs.Prelude.{◌≡◌, ◌≤◌, ◌<◌, ◌+◌, ◌-◌, ◌%◌, ◌^◌, min, IfOk, length, vec_len};
+ghost use Rattle.apfs_model.specs.Bytes as number;
 ghost use Rattle.img_plan.specs.Nodes.{bytes_in_node};
+ghost use Rattle.img_plan.specs.Records.{IsLongKey, id_and_kind, id_of, kind_of, sub_of};
 
 use apfs_layout::key::{
     ENTRY, FILE_EXTENT, ID_AND_KIND, KIND_UNIT, LEN_AND_HASH, NAME_LEN, PLAIN_NAME, RECORD_LEN,
@@ -27,7 +29,8 @@ pub fn node_bytes(item: &Item) -> usize
 // A key of so many bytes that starts with an id, of which the low 60 bits count, and a kind.
 pub(crate) fn key(alloc: Global, id: u64, kind: u8, len: usize) -> Result<Vec<u8>, AllocError>
     requires { 8 ≤ len }
-    ensures { IfOk result (λ key. vec_len key ≡ len) }
+    ensures len { IfOk result (λ key. vec_len key ≡ len) }
+    ensures start { IfOk result (λ key. number.u64_at key.items 0 ≡ id_and_kind id (kind % 16)) }
 {
     let mut key = vec![in alloc; 0u8; len]?;
     let word = id % KIND_UNIT + u64::from(kind % 16) * KIND_UNIT;
@@ -35,12 +38,21 @@ pub(crate) fn key(alloc: Global, id: u64, kind: u8, len: usize) -> Result<Vec<u8
     Ok(key)
 }
 
+// The second number of a key.
+fn put_second(key: &mut [u8], second: u64)
+    requires { length key.old ≡ 16 }
+    ensures start { number.u64_at key.new 0 ≡ number.u64_at key.old 0 }
+    ensures second { number.u64_at key.new 8 ≡ second }
+{
+    put_u64(key, SECOND, second);
+}
+
 // A key of an id, a kind and a second number.
 pub(crate) fn key_with(alloc: Global, id: u64, kind: u8, second: u64) -> Result<Vec<u8>, AllocError>
-    ensures { IfOk result (λ key. vec_len key ≡ 16) }
+    ensures { IfOk result (λ key. IsLongKey id (kind % 16) second key.items) }
 {
     let mut key = key(alloc, id, kind, SECOND_LEN)?;
-    put_u64(&mut key, SECOND, second);
+    put_second(&mut key, second);
     Ok(key)
 }
 
@@ -62,7 +74,12 @@ pub(crate) fn key_named(
 
 /// Where a record of a file-system tree stands: its id, its kind, and the hash of an entry's name, the id of a
 /// sibling link or the logical address of an extent. A key that is too short for it stands first.
-pub fn rank(key: &[u8]) -> (u64, u64, u64) {
+pub fn rank(key: &[u8]) -> (u64, u64, u64)
+    ensures short { length key.now < 8 → result ≡ (0, 0, 0) }
+    ensures id { 8 ≤ length key.now → result.0 ≡ id_of key.now }
+    ensures kind { 8 ≤ length key.now → result.1 ≡ kind_of key.now }
+    ensures sub { 8 ≤ length key.now → result.2 ≡ sub_of key.now }
+{
     if key.len() < RECORD_LEN {
         return (0, 0, 0);
     }

@@ -1,5 +1,9 @@
 // Ranges of blocks: those that files own (Snapshot Metadata, j_phys_ext_key_t and j_phys_ext_val_t), and those that are
 // freed (Space Manager, spaceman_free_queue_entry_t).
+ghost use Rattle.std.specs.Prelude.{◌≡◌, IfOk, length};
+ghost use Rattle.apfs_model.specs.Bytes as number;
+ghost use Rattle.img_plan.specs.Records.{IsNumberValue, IsPairKey, IsRangeValue, IsShortKey};
+
 use super::keys::{Item, key as record_key};
 use crate::plan::{NewRange, QueueEntry};
 use apfs_layout::key::{EXTENT, KIND_UNIT, RECORD_LEN};
@@ -7,21 +11,44 @@ use apfs_layout::{key, value};
 use img_edit::{put_u32, put_u64};
 use std::alloc::{AllocError, Global};
 
+// The value of a range, in bytes that are zeros: its length with its kind, and how many streams have it.
+fn put_range(value: &mut [u8], blocks: u64, count: i32)
+    requires len { length value.old ≡ 20 }
+    requires owner { number.u64_at value.old 8 ≡ 0 }
+    ensures { IsRangeValue blocks count value.new }
+{
+    let word = blocks % KIND_UNIT + u64::from(value::EXT_NEW) * KIND_UNIT;
+    put_u64(value, value::EXT_LENGTH_AND_KIND, word);
+    put_u32(value, value::EXT_COUNT, count.cast_unsigned());
+}
+
+// A key of two numbers.
+fn put_pair(freed: &mut [u8], xid: u64, paddr: u64)
+    requires { length freed.old ≡ 16 }
+    ensures { IsPairKey xid paddr freed.new }
+{
+    put_u64(freed, key::QUEUE_XID, xid);
+    put_u64(freed, key::QUEUE_PADDR, paddr);
+}
+
 /// The record of a range of blocks that files own.
-pub fn range_record(alloc: Global, range: &NewRange) -> Result<Item, AllocError> {
+pub fn range_record(alloc: Global, range: &NewRange) -> Result<Item, AllocError>
+    ensures key { IfOk result (λ item. IsShortKey range.now.first 2 item.0.items) }
+    ensures value { IfOk result (λ item. IsRangeValue range.now.length range.now.count item.1.items) }
+{
     let first = record_key(alloc, range.first, EXTENT, RECORD_LEN)?;
     let mut owned = vec![in alloc; 0u8; value::EXT_LEN]?;
-    let word = range.length % KIND_UNIT + u64::from(value::EXT_NEW) * KIND_UNIT;
-    put_u64(&mut owned, value::EXT_LENGTH_AND_KIND, word);
-    put_u32(&mut owned, value::EXT_COUNT, range.count.cast_unsigned());
+    put_range(&mut owned, range.length, range.count);
     Ok((first, owned))
 }
 
 /// The record of a range of blocks that are freed with a transaction.
-pub fn queue_record(alloc: Global, entry: &QueueEntry) -> Result<Item, AllocError> {
+pub fn queue_record(alloc: Global, entry: &QueueEntry) -> Result<Item, AllocError>
+    ensures key { IfOk result (λ item. IsPairKey entry.now.xid entry.now.paddr item.0.items) }
+    ensures value { IfOk result (λ item. IsNumberValue entry.now.length item.1.items) }
+{
     let mut freed = vec![in alloc; 0u8; key::QUEUE_LEN]?;
-    put_u64(&mut freed, key::QUEUE_XID, entry.xid);
-    put_u64(&mut freed, key::QUEUE_PADDR, entry.paddr);
+    put_pair(&mut freed, entry.xid, entry.paddr);
     let mut length = vec![in alloc; 0u8; value::QUEUE_LEN]?;
     put_u64(&mut length, value::QUEUE_LENGTH, entry.length);
     Ok((freed, length))

@@ -1,5 +1,6 @@
 // Sibling links and maps (Siblings, j_sibling_val_t and j_sibling_map_val_t).
-ghost use Rattle.std.specs.Prelude.{◌≤◌, length};
+ghost use Rattle.std.specs.Prelude.{◌≤◌, IfOk, length};
+ghost use Rattle.img_plan.specs.Records.{IsNumberValue, IsShortKey};
 
 use super::keys::{Item, key, key_with};
 use apfs_layout::key::{RECORD_LEN, SIBLING_LINK, SIBLING_MAP};
@@ -26,7 +27,10 @@ pub fn sibling_link(
 }
 
 /// The record that leads from a sibling id to its file.
-pub fn sibling_map(alloc: Global, sibling: u64, file: u64) -> Result<Item, AllocError> {
+pub fn sibling_map(alloc: Global, sibling: u64, file: u64) -> Result<Item, AllocError>
+    ensures key { IfOk result (λ item. IsShortKey sibling 12 item.0.items) }
+    ensures value { IfOk result (λ item. IsNumberValue file item.1.items) }
+{
     let key = key(alloc, sibling, SIBLING_MAP, RECORD_LEN)?;
     let mut value = vec![in alloc; 0u8; MAP_LEN]?;
     put_u64(&mut value, MAP_FILE, file);

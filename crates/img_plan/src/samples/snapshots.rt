@@ -1,4 +1,5 @@
-// An empty file whose name is `old` in the snapshot `s2`, and `new` in the snapshot `s4` and now.
+// An empty file whose name is `old` before transaction 4, and `new` from it on and now: with the snapshots `s2` and `s4`,
+// or with one at each transaction from 1 to 8.
 ghost use Rattle.std.specs.Prelude.{◌≡◌, IfOk, vec_len};
 
 use super::common::container;
@@ -52,4 +53,28 @@ pub(super) fn snapshots(alloc: Global) -> Result<Plan, AllocError>
     let renamed = version(alloc, 4, Some(b"s4".to_vec(alloc)?), "new")?;
     let versions = vec![in alloc; made, kept, renamed]?;
     container(alloc, 5, versions, Vec::new(alloc), Vec::new(alloc))
+}
+
+// The transactions with the snapshots that keep them, and the file's name then.
+const EIGHT: [(u64, &[u8], &str); 8] = [
+    (1, b"s1", "old"),
+    (2, b"s2", "old"),
+    (3, b"s3", "old"),
+    (4, b"s4", "new"),
+    (5, b"s5", "new"),
+    (6, b"s6", "new"),
+    (7, b"s7", "new"),
+    (8, b"s8", "new"),
+];
+
+// A container with eight snapshots of a volume, whose tree has four nodes in all.
+pub(super) fn eight(alloc: Global) -> Result<Plan, AllocError>
+    ensures blocks { IfOk result (λ plan. plan.blocks ≡ 256) }
+    ensures one_volume { IfOk result (λ plan. vec_len plan.volumes ≡ 1) }
+{
+    let mut versions = Vec::new(alloc);
+    for (xid, snapshot, name) in EIGHT {
+        versions.push(version(alloc, xid, Some(snapshot.to_vec(alloc)?), name)?)?;
+    }
+    container(alloc, 9, versions, Vec::new(alloc), Vec::new(alloc))
 }

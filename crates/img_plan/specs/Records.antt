@@ -1,0 +1,68 @@
+-- What keys and values of records hold, by the format's tables.
+use Rattle.std.specs.Prelude.{◌≡◌, ℕ, ℤ, ◌+◌, ◌*◌, ◌/◌, ◌%◌, ◌^◌, Bool, ◌&&◌, ◌||◌, ◌==◌, nat_le, List, length, if◌then◌else◌}
+use Rattle.apfs_model.specs.Bytes.{u32_at, u64_at, i32_at}
+
+-- what a record's key starts with: an id, of which the low 60 bits count, and a kind in the high 4 bits
+abbrev pub id_and_kind : ℕ → ℕ → ℕ
+id_and_kind id kind = id % 2 ^ 60 + kind * 2 ^ 60
+
+-- a key that is an id and a kind
+pub record IsShortKey (id kind : ℕ) (key : List ℕ) : Type 0 where
+  pub len : length key ≡ 8
+  pub start : u64_at key 0 ≡ id_and_kind id kind
+
+-- a key that is an id, a kind and a second number
+pub record IsLongKey (id kind second : ℕ) (key : List ℕ) : Type 0 where
+  pub len : length key ≡ 16
+  pub start : u64_at key 0 ≡ id_and_kind id kind
+  pub after : u64_at key 8 ≡ second
+
+-- a key that is two numbers
+pub record IsPairKey (first second : ℕ) (key : List ℕ) : Type 0 where
+  pub len : length key ≡ 16
+  pub start : u64_at key 0 ≡ first
+  pub after : u64_at key 8 ≡ second
+
+-- a value that is one number
+pub record IsNumberValue (number : ℕ) (value : List ℕ) : Type 0 where
+  pub len : length value ≡ 8
+  pub is : u64_at value 0 ≡ number
+
+-- the value of a range of blocks: its length in the low 60 bits with the kind New, no owner, and how many streams have it (Snapshot Metadata, j_phys_ext_val_t)
+pub record IsRangeValue (blocks : ℕ) (count : ℤ) (value : List ℕ) : Type 0 where
+  pub len : length value ≡ 20
+  pub length_and_kind : u64_at value 0 ≡ id_and_kind blocks 1
+  pub owner : u64_at value 8 ≡ 0
+  pub streams : i32_at value 16 ≡ count
+
+-- the value of a stream that one file has (Data Streams, j_dstream_id_val_t)
+pub record IsStreamValue (value : List ℕ) : Type 0 where
+  pub len : length value ≡ 4
+  pub count : u32_at value 0 ≡ 1
+
+-- the value of an extent of a stream: its length in bytes in the low 56 bits without flags, its first block, and no key (Data Streams, j_file_extent_val_t)
+pub record IsExtentValue (bytes block : ℕ) (value : List ℕ) : Type 0 where
+  pub len : length value ≡ 24
+  pub length_and_flags : u64_at value 0 ≡ bytes % 2 ^ 56
+  pub first_block : u64_at value 8 ≡ block
+  pub key_id : u64_at value 16 ≡ 0
+
+-- the id of a record by its key
+abbrev pub id_of : List ℕ → ℕ
+id_of key = u64_at key 0 % 2 ^ 60
+
+-- the kind of a record by its key
+abbrev pub kind_of : List ℕ → ℕ
+kind_of key = u64_at key 0 / 2 ^ 60
+
+-- the hash of an entry's name by its key, 0 where the key is too short for it
+abbrev pub hash_in : List ℕ → ℕ
+hash_in key = if nat_le 12 (length key) then u32_at key 8 / 2 ^ 10 else 0
+
+-- the number of 64 bits after an id and a kind, 0 where the key is too short for it
+abbrev pub second_in : List ℕ → ℕ
+second_in key = if nat_le 16 (length key) then u64_at key 8 else 0
+
+-- what a record's key adds to its id and its kind: the hash of an entry's name, the id of a sibling link or the logical address of an extent, otherwise 0
+abbrev pub sub_of : List ℕ → ℕ
+sub_of key = if kind_of key == 9 then hash_in key else (if kind_of key == 5 || kind_of key == 8 then second_in key else 0)
