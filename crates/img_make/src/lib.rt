@@ -8,6 +8,7 @@ mod making;
 mod objects;
 
 pub use checkpoints::{ring_of_four, skipped_checkpoint};
+pub use geometry::Groups;
 pub use img_edit::{
     edit, free, mark, places, put_bytes, put_u16, put_u32, put_u64, reseal, reseal_block, write,
 };
@@ -15,7 +16,7 @@ pub use img_plan::{
     FileTree, Item, Leaf, NewRange, Plan, QueueEntry, Sample, Version, VolPlan, pack, records,
     sample,
 };
-pub use making::{make, make_with};
+pub use making::{make, make_grouped, make_with};
 
 #[cfg(test)]
 mod tests;

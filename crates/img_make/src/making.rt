@@ -4,18 +4,18 @@ ghost use Rattle.obj_base.specs.BlockSize.{is_accepted};
 ghost use Rattle.img_plan.specs.Plans.{IsValid};
 ghost use Rattle.img_make.specs.Images.{HasGrown, IsImageOf};
 
-use crate::geometry::Geometry;
+use crate::geometry::{Geometry, Groups};
 use crate::laying::container::put_container;
 use crate::laying::files::{Ids, Placed};
 use crate::laying::image::Image;
-use crate::laying::space::{chunks_of, pool_use};
+use crate::laying::space::{chunks_of, pool_of};
 use crate::laying::volumes::put_volume;
 use apfs_model::NoMemory;
 use img_edit::places::{FIRST_OID, POOL_BASE, POOL_BLOCKS};
 use img_plan::{Plan, VolPlan};
 use std::alloc::{AllocError, Global};
 
-// The most blocks of the pool: a chunk-info block of 4,096 bytes, and a bitmap for each of its chunks.
+// The most blocks of the pool: those of a chunk-info block of 4,096 bytes, and of a bitmap for each of its chunks.
 const MOST_OF_THE_POOL: usize = 127;
 
 // Marks the blocks that the volumes' files own.
@@ -105,8 +105,8 @@ fn image_that_fits(alloc: Global, geometry: Geometry, plan: &Plan) -> Result<Ima
     let mut pool_blocks = POOL_BLOCKS;
     for _ in 0..MOST_OF_THE_POOL {
         let image = image_of(alloc, geometry, plan, pool_blocks)?;
-        let chunks = chunks_of(alloc, &image.used, geometry.chunk())?;
-        let needed = pool_use(&chunks);
+        let chunks = chunks_of(alloc, geometry, &image.used)?;
+        let needed = pool_of(geometry, &chunks).in_use();
         if needed <= pool_blocks {
             return Ok(image);
         }
@@ -115,12 +115,27 @@ fn image_that_fits(alloc: Global, geometry: Geometry, plan: &Plan) -> Result<Ima
     Err(AllocError)
 }
 
+// The bytes of the image of a plan.
+#[tactic(auto, using(crate::proofs::Sizes::whole_blocks, crate::proofs::Sizes::more_blocks))]
+fn made(alloc: Global, geometry: Geometry, plan: &Plan) -> Result<Vec<u8>, NoMemory>
+    requires { IsValid plan.now }
+    ensures in_blocks { IfOk result (λ image. vec_len image % geometry.size ≡ 0) }
+    ensures enough { IfOk result (λ image. geometry.size * max plan.now.blocks 51 ≤ vec_len image) }
+{
+    match image_that_fits(alloc, geometry, plan) {
+        Ok(image) => {
+            let Image { bytes, .. } = image;
+            Ok(bytes)
+        }
+        Err(_) => Err(NoMemory),
+    }
+}
+
 /// The image of a plan with blocks of so many bytes: blocks 0 to 50 hold the container's own objects, and the others
 /// follow from block 51 on. It has as many blocks as the plan asks for, or as many as are needed where that is more.
 ///
 /// The blocks of files stand where the plan says; those that it puts outside the container aren't written. An image of
 /// more than 4,128,768 blocks is as one for which there is no memory.
-#[tactic(auto, using(crate::proofs::Sizes::whole_blocks, crate::proofs::Sizes::more_blocks))]
 pub fn make_with(alloc: Global, plan: &Plan, block_size: u32) -> Result<Vec<u8>, NoMemory>
     requires valid { IsValid plan.now }
     requires accepted { IsTrue (is_accepted block_size) }
@@ -128,13 +143,22 @@ pub fn make_with(alloc: Global, plan: &Plan, block_size: u32) -> Result<Vec<u8>,
     ensures in_blocks { IfOk result (λ image. vec_len image % block_size ≡ 0) }
     ensures enough { IfOk result (λ image. block_size * max plan.now.blocks 51 ≤ vec_len image) }
 {
-    match image_that_fits(alloc, Geometry::new(block_size), plan) {
-        Ok(image) => {
-            let Image { bytes, .. } = image;
-            Ok(bytes)
-        }
-        Err(_) => Err(NoMemory),
-    }
+    made(alloc, Geometry::new(block_size), plan)
+}
+
+/// The image of a plan with blocks of 4,096 bytes and with chunk-info address blocks, whose chunk-info blocks have so many
+/// chunks at most; otherwise as `make_with` says. The pool has the chunk-info blocks first, then the bitmaps, and then the
+/// address blocks. An image whose pool is of more than 127 blocks is as one for which there is no memory.
+pub fn make_grouped(alloc: Global, plan: &Plan, groups: Groups) -> Result<Vec<u8>, NoMemory>
+    requires valid { IsValid plan.now }
+    requires some_chunks { 1 ≤ groups.chunks }
+    requires few_chunks { groups.chunks ≤ 126 }
+    requires some_cibs { 1 ≤ groups.cibs }
+    requires few_cibs { groups.cibs ≤ 507 }
+    ensures in_blocks { IfOk result (λ image. vec_len image % 4096 ≡ 0) }
+    ensures enough { IfOk result (λ image. 4096 * max plan.now.blocks 51 ≤ vec_len image) }
+{
+    made(alloc, Geometry::grouped(groups), plan)
 }
 
 /// The image of a plan with blocks of 4,096 bytes, as `make_with` says.

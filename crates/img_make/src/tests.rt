@@ -1,7 +1,7 @@
 // Made images, against what the format says of them.
 use crate::{
-    Leaf, NewRange, Plan, QueueEntry, Sample, Version, VolPlan, free, make, make_with, mark,
-    ring_of_four, sample, skipped_checkpoint,
+    Groups, Leaf, NewRange, Plan, QueueEntry, Sample, Version, VolPlan, free, make, make_grouped,
+    make_with, mark, ring_of_four, sample, skipped_checkpoint,
 };
 use apfs_model::NoMemory;
 use fs_name::Names;
@@ -78,19 +78,77 @@ fn assert_rows(rt: &impl Abort, image: &[u8], size: usize, rows: &[Row], small: 
 
 #[test]
 fn each_sample_has_its_blocks(rt: HostRuntime) -> Result<(), Fail> {
-    let samples: [(Sample, &[Row]); 6] = [
+    let samples: [(Sample, &[Row]); 9] = [
         (Sample::S, &[]),
         (Sample::H, &rows::HELLO),
         (Sample::L, &rows::LINKS),
         (Sample::P, &rows::HOLE),
         (Sample::C, &rows::SHARED),
         (Sample::V, &rows::SNAPSHOTS),
+        (Sample::V2, &rows::EIGHT_SNAPSHOTS),
+        (Sample::J, &rows::JUMPSTART),
+        (Sample::T, &rows::TWO_VOLUMES),
     ];
     for (which, rows) in samples {
         let plan = sample(rt.alloc(), which)?;
         let image = image_of(rt.alloc(), &plan)?;
         assert_eq!(rt; image.len(), 1_048_576, "{which:?}");
         assert_rows(&rt, &image, 4096, rows, &rows::SMALL);
+    }
+    Ok(())
+}
+
+#[test]
+fn an_address_block_names_the_chunk_info_block(rt: HostRuntime) -> Result<(), Fail> {
+    let plan = sample(rt.alloc(), Sample::S)?;
+    if plan.valid() {
+        let groups = Groups {
+            chunks: 126,
+            cibs: 1,
+        };
+        let image = make_grouped(rt.alloc(), &plan, groups)?;
+        assert_rows(&rt, &image, 4096, &rows::ADDRESS_BLOCK, &rows::SMALL);
+    }
+    Ok(())
+}
+
+// What a container of two chunks has, with one chunk to a chunk-info block, and one of these to an address block: block,
+// byte and number.
+const GROUPED: [(usize, usize, u64); 15] = [
+    // the manager's sizes of groups, its chunks, chunk-info blocks and address blocks, and both addresses
+    (9, 40, 0x0000_0001_0000_0001),
+    (9, 56, 2),
+    (9, 64, 0x0000_0002_0000_0002),
+    (9, 80, 2584),
+    (9, 2584, 46),
+    (9, 2592, 47),
+    // the pool's bits: two chunk-info blocks, a bitmap, and two address blocks
+    (27, 0, 31),
+    // of both chunk-info blocks index and count; the first one's bitmap, and the second one's first block
+    (43, 32, 0x0000_0001_0000_0000),
+    (43, 64, 45),
+    (44, 32, 0x0000_0001_0000_0001),
+    (44, 48, 32768),
+    // of both address blocks index and count, and the address
+    (46, 32, 0x0000_0001_0000_0000),
+    (46, 40, 43),
+    (47, 32, 0x0000_0001_0000_0001),
+    (47, 40, 44),
+];
+
+#[test]
+fn address_blocks_name_groups(rt: HostRuntime) -> Result<(), Fail> {
+    let plan = empty_plan(rt.alloc(), 32_769);
+    if plan.valid() {
+        let groups = Groups { chunks: 1, cibs: 1 };
+        let image = make_grouped(rt.alloc(), &plan, groups)?;
+        for (block, at, wanted) in GROUPED {
+            assert_eq!(rt;
+                number(&image, block, at),
+                Some(wanted),
+                "block {block} byte {at}"
+            );
+        }
     }
     Ok(())
 }

@@ -2,9 +2,10 @@
 ghost use Rattle.std.specs.Prelude.{◌≡◌, ◌<◌, length};
 ghost use Rattle.img_make.specs.Images.{HasGrown};
 
+use crate::geometry::Geometry;
 use crate::laying::image::Image;
-use crate::objects::chunk_info::{Chunk, bitmap, chunk_info};
-use crate::objects::space_manager::{Space, space_manager};
+use crate::objects::chunk_info::{Chunk, Spot, address_block, bitmap, chunk_info};
+use crate::objects::space_manager::{PoolPlan, Space, space_manager};
 use img_edit::places::{POOL_BASE, RING_BASE, SPACE_MANAGER};
 use img_plan::QueueEntry;
 use std::alloc::{AllocError, Global};
@@ -14,36 +15,82 @@ fn free_count(used: &[bool]) -> usize {
     used.iter().filter(|is_used| !**is_used).count()
 }
 
-/// The chunks of so many blocks, and where their bitmaps stand in the pool: after the chunk-info block, one for each
-/// chunk in use.
+// How many chunk-info blocks a container has.
+fn cibs_of(geometry: Geometry, blocks: usize) -> usize {
+    blocks
+        .div_ceil(geometry.chunk())
+        .div_ceil(geometry.chunks_per_cib)
+}
+
+/// The chunks of a container, and where their bitmaps stand in the pool: after the chunk-info blocks, one for each chunk
+/// in use.
 pub(crate) fn chunks_of(
     alloc: Global,
+    geometry: Geometry,
     used: &[bool],
-    blocks: usize,
-) -> Result<Vec<Chunk>, AllocError>
-    requires { 0 < blocks }
-{
+) -> Result<Vec<Chunk>, AllocError> {
     let mut chunks = Vec::new(alloc);
-    let mut bitmap = POOL_BASE;
-    for part in used.chunks(blocks) {
+    let mut bitmap = POOL_BASE.saturating_add(cibs_of(geometry, used.len()));
+    for part in used.chunks(geometry.chunk()) {
         let free = free_count(part);
         let in_use = free < part.len();
-        if in_use {
-            bitmap = bitmap.saturating_add(1);
-        }
         chunks.push(Chunk {
             blocks: part.len(),
             free,
             bitmap: if in_use { bitmap } else { 0 },
         })?;
+        if in_use {
+            bitmap = bitmap.saturating_add(1);
+        }
     }
     Ok(chunks)
 }
 
-/// The blocks of the pool that are in use: the chunk-info block and the bitmaps.
-pub(crate) fn pool_use(chunks: &[Chunk]) -> usize {
-    let bitmaps = chunks.iter().filter(|chunk| chunk.bitmap != 0).count();
-    bitmaps.saturating_add(1)
+/// What stands in the pool of a container with these chunks.
+pub(crate) fn pool_of(geometry: Geometry, chunks: &[Chunk]) -> PoolPlan {
+    let cibs = chunks.len().div_ceil(geometry.chunks_per_cib);
+    PoolPlan {
+        chunks: chunks.len(),
+        cibs,
+        bitmaps: chunks.iter().filter(|chunk| chunk.bitmap != 0).count(),
+        cabs: if geometry.has_cabs {
+            cibs.div_ceil(geometry.cibs_per_cab)
+        } else {
+            0
+        },
+    }
+}
+
+// The chunk-info blocks.
+fn put_cibs(alloc: Global, image: &mut Image, xid: u64, chunks: &[Chunk]) -> Result<(), AllocError>
+    ensures { HasGrown image.old image.new }
+{
+    let geometry = image.geometry;
+    let most = geometry.chunks_per_cib;
+    for (index, group) in chunks.chunks(most).enumerate() {
+        let block = POOL_BASE.saturating_add(index);
+        let start = index.saturating_mul(most).saturating_mul(geometry.chunk());
+        let bytes = chunk_info(alloc, geometry, xid, Spot { block, index }, start, group)?;
+        image.put(block, &bytes);
+    }
+    Ok(())
+}
+
+// The address blocks, each of which names the chunk-info blocks after those of the one before it.
+fn put_cabs(alloc: Global, image: &mut Image, xid: u64, pool: &PoolPlan) -> Result<(), AllocError>
+    ensures { HasGrown image.old image.new }
+{
+    let geometry = image.geometry;
+    let most = geometry.cibs_per_cab;
+    for index in 0..pool.cabs {
+        let named = index.saturating_mul(most);
+        let count = pool.cibs.saturating_sub(named).min(most);
+        let block = pool.first_cab().saturating_add(index);
+        let first = POOL_BASE.saturating_add(named);
+        let bytes = address_block(alloc, geometry, xid, Spot { block, index }, first, count)?;
+        image.put(block, &bytes);
+    }
+    Ok(())
 }
 
 // The bitmaps of the chunks.
@@ -74,21 +121,22 @@ pub(crate) fn put_space(
     ensures { HasGrown image.old image.new }
 {
     let geometry = image.geometry;
-    let chunks = chunks_of(alloc, &image.used, geometry.chunk())?;
+    let chunks = chunks_of(alloc, geometry, &image.used)?;
+    let pool = pool_of(geometry, &chunks);
     let space = Space {
         xid,
         blocks: image.used.len(),
         free: free_count(&image.used),
         pool_blocks,
-        chunks: &chunks,
+        pool,
         queued,
     };
     let manager = space_manager(alloc, geometry, &space)?;
     image.put(SPACE_MANAGER, &manager);
-    let cib = chunk_info(alloc, geometry, xid, &chunks)?;
-    image.put(POOL_BASE, &cib);
+    put_cibs(alloc, image, xid, &chunks)?;
     put_bitmaps(alloc, image, &chunks)?;
-    let in_pool = vec![in alloc; true; pool_use(&chunks)]?;
+    put_cabs(alloc, image, xid, &pool)?;
+    let in_pool = vec![in alloc; true; pool.in_use()]?;
     let ring = bitmap(alloc, geometry, &in_pool)?;
     image.put(RING_BASE, &ring);
     Ok(())

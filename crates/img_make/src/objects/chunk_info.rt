@@ -1,14 +1,14 @@
-// The chunk-info block (Space Manager, chunk_info_block_t and chunk_info_t), and bitmaps.
+// Chunk-info blocks (Space Manager, chunk_info_block_t and chunk_info_t), the blocks of their addresses
+// (cib_addr_block_t), and bitmaps.
 ghost use Rattle.std.specs.Prelude.{◌≡◌, ◌≤◌, length};
 
 use super::header::{Head, block_with};
 use crate::geometry::Geometry;
 use apfs_layout::chunk_info::{
-    CHUNK_ADDRESS, CHUNK_BITMAP, CHUNK_BLOCKS, CHUNK_FREE, CHUNK_XID, CIB_COUNT, CIB_ENTRIES,
-    ENTRY_LEN,
+    ADDRESS_LEN, CAB_ADDRESSES, CAB_COUNT, CAB_INDEX, CHUNK_ADDRESS, CHUNK_BITMAP, CHUNK_BLOCKS,
+    CHUNK_FREE, CHUNK_XID, CIB_COUNT, CIB_ENTRIES, CIB_INDEX, ENTRY_LEN,
 };
 use apfs_layout::kind;
-use img_edit::places::POOL_BASE;
 use img_edit::{put_u32, put_u64, reseal};
 use std::alloc::{AllocError, Global};
 
@@ -32,11 +32,11 @@ fn put_chunk(part: &mut [u8], first: usize, chunk: &Chunk, xid: u64)
     put_u64(part, CHUNK_BITMAP, chunk.bitmap as u64);
 }
 
-// The entries of the chunks, those that the block has room for.
-fn put_chunks(block: &mut [u8], chunks: &[Chunk], xid: u64)
+// The entries of the chunks from a block on, those that the chunk-info block has room for.
+fn put_chunks(block: &mut [u8], start: usize, chunks: &[Chunk], xid: u64)
     requires { 40 ≤ length block.old }
 {
-    let mut first = 0usize;
+    let mut first = start;
     let parts = block[CIB_ENTRIES..].chunks_exact_mut(ENTRY_LEN);
     for (part, chunk) in parts.zip(chunks.iter()) {
         put_chunk(part, first, chunk, xid);
@@ -44,17 +44,52 @@ fn put_chunks(block: &mut [u8], chunks: &[Chunk], xid: u64)
     }
 }
 
-/// The chunk-info block.
+/// Where a block of the pool stands, and its place among those of its kind.
+#[derive(Clone, Copy)]
+pub(crate) struct Spot {
+    pub block: usize,
+    pub index: usize,
+}
+
+/// A chunk-info block, whose chunks start at a block.
 pub(crate) fn chunk_info(
     alloc: Global,
     geometry: Geometry,
     xid: u64,
+    spot: Spot,
+    start: usize,
     chunks: &[Chunk],
 ) -> Result<Vec<u8>, AllocError> {
-    let head = Head::physical(POOL_BASE, xid, kind::CHUNK_INFO);
+    let head = Head::physical(spot.block, xid, kind::CHUNK_INFO);
     let mut block = block_with(alloc, geometry, &head)?;
+    put_u32(&mut block, CIB_INDEX, (spot.index % 0x1_0000_0000) as u32);
     put_u32(&mut block, CIB_COUNT, (chunks.len() % 0x1_0000_0000) as u32);
-    put_chunks(&mut block, chunks, xid);
+    put_chunks(&mut block, start, chunks, xid);
+    reseal(&mut block);
+    Ok(block)
+}
+
+/// Addresses of blocks that follow one another, those that there is room for.
+pub(crate) fn put_addresses(part: &mut [u8], first: usize, count: usize) {
+    for i in 0..count.min(part.len() / ADDRESS_LEN) {
+        put_u64(part, ADDRESS_LEN * i, first.saturating_add(i) as u64);
+    }
+}
+
+/// An address block of chunk-info blocks that follow one another.
+pub(crate) fn address_block(
+    alloc: Global,
+    geometry: Geometry,
+    xid: u64,
+    spot: Spot,
+    first: usize,
+    count: usize,
+) -> Result<Vec<u8>, AllocError> {
+    let head = Head::physical(spot.block, xid, kind::CHUNK_ADDRESSES);
+    let mut block = block_with(alloc, geometry, &head)?;
+    put_u32(&mut block, CAB_INDEX, (spot.index % 0x1_0000_0000) as u32);
+    put_u32(&mut block, CAB_COUNT, (count % 0x1_0000_0000) as u32);
+    put_addresses(&mut block[CAB_ADDRESSES..], first, count);
     reseal(&mut block);
     Ok(block)
 }

@@ -1,26 +1,27 @@
 // The space manager (Space Manager, spaceman_phys_t).
 ghost use Rattle.std.specs.Prelude.{◌≡◌, ◌≤◌, length};
 
-use super::chunk_info::Chunk;
+use super::chunk_info::put_addresses;
 use super::header::{Head, block_with};
 use crate::geometry::Geometry;
 use apfs_layout::kind;
 use apfs_layout::space_manager::{
     BLOCK_SIZE, BLOCKS_PER_CHUNK, CHUNKS_PER_CIB, CIBS_PER_CAB, MAIN_ADDRESSES, MAIN_BLOCKS,
-    MAIN_CHUNKS, MAIN_CIBS, MAIN_FREE, MAIN_QUEUE_COUNT, MAIN_QUEUE_LIMIT, MAIN_QUEUE_OLDEST,
-    MAIN_QUEUE_TREE, POOL_BASE, POOL_BITMAP_SIZE, POOL_BLOCKS, POOL_QUEUE_LIMIT, POOL_QUEUE_TREE,
-    RING_BASE, RING_BITMAPS, RING_BLOCKS, RING_FREE_HEAD, RING_FREE_NEXT, RING_FREE_TAIL,
-    RING_INDEXES, RING_XIDS, SECOND_ADDRESSES,
+    MAIN_CABS, MAIN_CHUNKS, MAIN_CIBS, MAIN_FREE, MAIN_QUEUE_COUNT, MAIN_QUEUE_LIMIT,
+    MAIN_QUEUE_OLDEST, MAIN_QUEUE_TREE, POOL_BASE, POOL_BITMAP_SIZE, POOL_BLOCKS, POOL_QUEUE_LIMIT,
+    POOL_QUEUE_TREE, RING_BASE, RING_BITMAPS, RING_BLOCKS, RING_FREE_HEAD, RING_FREE_NEXT,
+    RING_FREE_TAIL, RING_INDEXES, RING_XIDS, SECOND_ADDRESSES,
 };
 use img_edit::{places, put_u16, put_u32, put_u64, reseal};
 use img_plan::QueueEntry;
 use std::alloc::{AllocError, Global};
 
-// After the fields, where the fields say: the index of the current bitmap, the address of the chunk-info block, the
-// transaction of the bitmap, the order of the ring's free blocks, and no address of a second device.
+// After the fields, where the fields say: the index of the current bitmap, the address of the first block of the chunks, the
+// transaction of the bitmap, the order of the ring's free blocks, no address of a second device, and all addresses where
+// there are several.
 const RING_INDEX: usize = 2520;
 
-const CIB_ADDRESS: usize = 2528;
+const ONE_ADDRESS: usize = 2528;
 
 const RING_XID: usize = 2536;
 
@@ -28,8 +29,44 @@ const RING_NEXT: usize = 2544;
 
 const NO_ADDRESSES: usize = 2576;
 
+const ADDRESSES: usize = 2584;
+
 // No block of the ring follows.
 const NO_INDEX: u16 = 0xffff;
+
+/// What stands in the pool, from its first block on: chunk-info blocks, the bitmaps of chunks in use, address blocks.
+#[derive(Clone, Copy)]
+pub(crate) struct PoolPlan {
+    pub chunks: usize,
+    pub cibs: usize,
+    pub bitmaps: usize,
+    pub cabs: usize,
+}
+
+impl PoolPlan {
+    /// The first address block, where there is one.
+    pub(crate) fn first_cab(&self) -> usize {
+        places::POOL_BASE
+            .saturating_add(self.cibs)
+            .saturating_add(self.bitmaps)
+    }
+
+    /// How many blocks of the pool are in use.
+    pub(crate) fn in_use(&self) -> usize {
+        self.cibs
+            .saturating_add(self.bitmaps)
+            .saturating_add(self.cabs)
+    }
+
+    // The first of the blocks that the space manager names, and their number.
+    fn named(&self) -> (usize, usize) {
+        if self.cabs == 0 {
+            (places::POOL_BASE, self.cibs)
+        } else {
+            (self.first_cab(), self.cabs)
+        }
+    }
+}
 
 /// How the blocks of a container are used.
 #[derive(Clone, Copy)]
@@ -38,8 +75,13 @@ pub(crate) struct Space<'a> {
     pub blocks: usize,
     pub free: usize,
     pub pool_blocks: usize,
-    pub chunks: &'a [Chunk],
+    pub pool: PoolPlan,
     pub queued: &'a [QueueEntry],
+}
+
+// The low 32 bits of a number.
+fn narrow(number: usize) -> u32 {
+    (number % 0x1_0000_0000) as u32
 }
 
 // The sizes of a chunk and of its kin, and the main device.
@@ -48,15 +90,24 @@ fn put_device(block: &mut [u8], geometry: Geometry, space: &Space<'_>)
 {
     put_u32(block, BLOCK_SIZE, geometry.size as u32);
     put_u32(block, BLOCKS_PER_CHUNK, geometry.chunk() as u32);
-    put_u32(block, CHUNKS_PER_CIB, geometry.most_chunks() as u32);
-    put_u32(block, CIBS_PER_CAB, geometry.most_cibs() as u32);
+    put_u32(block, CHUNKS_PER_CIB, narrow(geometry.chunks_per_cib));
+    put_u32(block, CIBS_PER_CAB, narrow(geometry.cibs_per_cab));
     put_u64(block, MAIN_BLOCKS, space.blocks as u64);
-    put_u64(block, MAIN_CHUNKS, space.chunks.len() as u64);
-    put_u32(block, MAIN_CIBS, 1);
+    put_u64(block, MAIN_CHUNKS, space.pool.chunks as u64);
+    put_u32(block, MAIN_CIBS, narrow(space.pool.cibs));
+    put_u32(block, MAIN_CABS, narrow(space.pool.cabs));
     put_u64(block, MAIN_FREE, space.free as u64);
-    put_u32(block, MAIN_ADDRESSES, CIB_ADDRESS as u32);
-    put_u64(block, CIB_ADDRESS, places::POOL_BASE as u64);
     put_u32(block, SECOND_ADDRESSES, NO_ADDRESSES as u32);
+}
+
+// The addresses of the blocks that lead to the chunks.
+fn put_names(block: &mut [u8], pool: &PoolPlan)
+    requires { 4096 ≤ length block.old }
+{
+    let (first, count) = pool.named();
+    let place = if count == 1 { ONE_ADDRESS } else { ADDRESSES };
+    put_u32(block, MAIN_ADDRESSES, place as u32);
+    put_addresses(&mut block[place..], first, count);
 }
 
 // The pool with its ring.
@@ -115,6 +166,7 @@ pub(crate) fn space_manager(
     let head = Head::ephemeral(places::SPACE_OID, space.xid, kind::SPACE_MANAGER);
     let mut block = block_with(alloc, geometry, &head)?;
     put_device(&mut block, geometry, space);
+    put_names(&mut block, &space.pool);
     put_pool(&mut block, space);
     put_queues(&mut block, space.queued);
     put_ring(&mut block, space.xid);

@@ -1,0 +1,5 @@
+use Rattle.img_make.specs.Images.{HasGrown}
+use Rattle.img_make.proofs.laying.space.put_cabs.Given as goal
+
+abbrev pub invariant-loop-index : goal.invariant-loop-index
+invariant-loop-index l = HasGrown l.initial.image l.image
