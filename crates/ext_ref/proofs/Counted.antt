@@ -26,21 +26,21 @@ of-contains : (ns : List ℕ) (n : ℕ) → Contains ns n → In n ns
 of-contains ns n (k, low, e) = subst (λ (m : ℕ). In m ns) e (get-in ns k (get_or ns k n) (slice_get-get_or ns k n low))
 
 -- what is distinct in a list is in it, each once
-into-distinct : (ns : List ℕ) (n : ℕ) → In n ns → In n (distinct ns)
+pub into-distinct : (ns : List ℕ) (n : ℕ) → In n ns → In n (distinct ns)
 into-distinct [] n h = absurd h
 into-distinct (m ∷ ms) n h = elim (test_or (has ms m)) as (λ _. In n (distinct (m ∷ ms))) [
   | inl t ↦ subst (λ (b : Bool). In n (if b then distinct ms else m ∷ distinct ms)) (sym t) (elim h as (λ _. In n (distinct ms)) [ inl e ↦ into-distinct ms n (subst (λ (k : ℕ). In k ms) (sym e) (has-in m ms t)) | inr k ↦ into-distinct ms n k ])
   | inr f ↦ subst (λ (b : Bool). In n (if b then distinct ms else m ∷ distinct ms)) (sym f) (elim h as (λ _. In n (m ∷ distinct ms)) [ inl e ↦ inl e | inr k ↦ inr (into-distinct ms n k) ])
 ]
 
-from-distinct : (ns : List ℕ) (n : ℕ) → In n (distinct ns) → In n ns
+pub from-distinct : (ns : List ℕ) (n : ℕ) → In n (distinct ns) → In n ns
 from-distinct [] n h = absurd h
 from-distinct (m ∷ ms) n h = elim (test_or (has ms m)) as (λ _. In n (m ∷ ms)) [
   | inl t ↦ inr (from-distinct ms n (subst (λ (b : Bool). In n (if b then distinct ms else m ∷ distinct ms)) t h))
   | inr f ↦ let k : In n (m ∷ distinct ms) = subst (λ (b : Bool). In n (if b then distinct ms else m ∷ distinct ms)) f h in elim k as (λ _. In n (m ∷ ms)) [ inl e ↦ inl e | inr l ↦ inr (from-distinct ms n l) ]
 ]
 
-apart-distinct : (ns : List ℕ) → Apart (distinct ns)
+pub apart-distinct : (ns : List ℕ) → Apart (distinct ns)
 apart-distinct [] = tt
 apart-distinct (m ∷ ms) = elim (test_or (has ms m)) as (λ _. Apart (distinct (m ∷ ms))) [
   | inl t ↦ subst (λ (b : Bool). Apart (if b then distinct ms else m ∷ distinct ms)) (sym t) (apart-distinct ms)

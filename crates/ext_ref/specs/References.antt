@@ -1,13 +1,18 @@
 -- How many streams refer to a range.
-use Rattle.std.specs.Prelude.{ℕ, ◌+◌, Bool, not, ◌&&◌, nat_lt, min, max, List, length, map, filter}
+use Rattle.std.specs.Prelude.{◌≡◌, ◌<◌, ◌≤◌, ℕ, ◌+◌, Bool, not, ◌&&◌, nat_lt, min, max, List, length, map, filter, slice_index, slice_index_or}
+use Rattle.std.specs.List.Sorted.{IsNonDecreasingBy}
 use Rattle.apfs_model.specs.Lists.{distinct}
 use Rattle.fs_record.specs.StreamExtents.{extent_blocks, is_hole}
 use Rattle.fs_record.specs.declared.extents.FileExt.{FileExt}
 use Rattle.ext_ref.specs.declared.range.NewRange.{NewRange}
 
+-- the block after an extent's last one
+abbrev pub end_of : ℕ → FileExt → ℕ
+end_of block_size e = e.block + extent_blocks block_size e
+
 -- an extent other than a hole has a block in common with a range
 unfoldable pub touches : ℕ → NewRange → FileExt → Bool
-touches block_size r e = not (is_hole e) && nat_lt (max r.first e.block) (min (r.first + r.length) (e.block + extent_blocks block_size e))
+touches block_size r e = not (is_hole e) && nat_lt (max r.first e.block) (min (r.first + r.length) (end_of block_size e))
 
 -- the ids of the extents that touch a range; each extent stands after its stream's id
 abbrev pub ids_touching : ℕ → List (ℕ × FileExt) → NewRange → List ℕ
@@ -20,3 +25,9 @@ streams_of block_size extents r = length (distinct (ids_touching block_size exte
 -- that number for each range
 abbrev pub references_of : ℕ → List NewRange → List (ℕ × FileExt) → List ℕ
 references_of block_size ranges extents = map (streams_of block_size extents) ranges
+
+-- numbers beside extents that never fall, of which none is less than the end of its extent or of one before it
+pub record AreEnds (block_size : ℕ) (extents : List (ℕ × FileExt)) (ends : List ℕ) : Type 0 where
+  pub long : length ends ≡ length extents
+  pub rising : IsNonDecreasingBy (λ (n : ℕ). n) ends
+  pub far : (i : ℕ) (none : ℕ × FileExt) → i < length extents → end_of block_size (slice_index_or extents i none).1 ≤ slice_index ends i

@@ -1,8 +1,10 @@
 // The extent reference tree of a made container, and ranges that meet, overlap or pass the greatest number.
+ghost use Rattle.std.specs.Prelude.{◌≤◌};
 
-use crate::{Cover, ExtScan, ExtStop, NewRange, covered, new_ranges, scan};
+use crate::{Cover, ExtScan, ExtStop, NewRange, covered, new_ranges, references, scan};
 use blk_source::{BlockSource, MemSource};
 use bt_cursor::WalkFault;
+use fs_record::FileExt;
 use img_make::{Sample, make, sample};
 use obj_base::{Site, Stop};
 use std::alloc::Global;
@@ -119,5 +121,42 @@ fn which_ranges_are_covered(rt: HostRuntime) -> Result<(), Fail> {
             "{first} {length}"
         );
     }
+    Ok(())
+}
+
+// An extent of so many blocks of 4,096 bytes, less one byte.
+fn extent(block: u64, blocks: u64) -> FileExt
+    requires some { 1 ≤ blocks }
+    requires few { blocks ≤ 1000 }
+{
+    FileExt {
+        logical: 0,
+        length: 4096 * blocks - 1,
+        block,
+    }
+}
+
+#[test]
+fn streams_are_counted_once_a_range(rt: HostRuntime) -> Result<(), Fail> {
+    let ranges = [
+        range(40, 1),
+        range(10, 5),
+        range(12, 8),
+        range(30, 0),
+        range(TOP, 5),
+        range(1, 1000),
+    ];
+    // streams 1 and 2 share block 14, stream 2 twice; a hole; an extent over two ranges; one about an empty range
+    let extents = [
+        (3, extent(39, 2)),
+        (2, extent(14, 1)),
+        (1, extent(10, 2)),
+        (2, extent(14, 2)),
+        (4, extent(0, 1000)),
+        (1, extent(14, 1)),
+        (5, extent(29, 3)),
+    ];
+    let counts = references(rt.alloc(), &ranges, &extents, 4096)?;
+    assert_eq!(rt; counts.as_slice(), [1, 2, 2, 0, 0, 4].as_slice());
     Ok(())
 }
