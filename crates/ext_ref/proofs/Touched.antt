@@ -1,6 +1,6 @@
 -- Which extents may touch a range, and in which order they are looked at.
-use Rattle.std.proofs.Common.{◌≡◌, ℕ, zero, suc, ◌+◌, ◌-◌, ◌<◌, ◌≤◌, Bool, true, false, cond, not, ◌&&◌, ◌||◌, ◌==◌, nat_lt, min, max, List, [], ◌∷◌, ◌++◌, length, map, filter, take, drop, get_or, refl, ap, sym, subst, ◌∙◌, arith, length-drop}
-use Rattle.std.specs.Prelude.{slice_range}
+use Rattle.std.proofs.Common.{◌≡◌, ℕ, suc, ◌+◌, ◌-◌, ◌<◌, ◌≤◌, Bool, true, false, cond, not, ◌&&◌, ◌||◌, ◌==◌, nat_lt, min, max, List, [], ◌∷◌, ◌++◌, length, map, filter, take, drop, get_or, refl, ap, sym, subst, ◌∙◌, arith, length-drop}
+use Rattle.std.specs.Prelude.{slice_range, if◌then◌else◌}
 use Rattle.std.specs.List.{list_any}
 use Rattle.std.specs.List.Sorted.{IsPermutation}
 use Rattle.std.specs.List.Sorted.{IsNonDecreasingBy}
@@ -14,7 +14,7 @@ use Rattle.apfs_model.proofs.Finite.{apart-same}
 use Rattle.fs_record.specs.StreamExtents.{is_hole}
 use Rattle.fs_record.specs.declared.extents.FileExt.{FileExt}
 use Rattle.ext_ref.specs.declared.range.NewRange.{NewRange}
-use Rattle.ext_ref.specs.References.{end_of, touches, ids_touching, streams_of, references_of}
+use Rattle.ext_ref.specs.References.{end_of, taken_end, touches, ids_touching, streams_of, references_of}
 use Rattle.ext_ref.proofs.Counted.{into-distinct, from-distinct, apart-distinct}
 
 -- where no item passes, none is left
@@ -55,12 +55,17 @@ and-false false = refl
 none-common : (first end block reach : ℕ) → min end reach ≤ max first block → nat_lt (max first block) (min end reach) ≡ false
 none-common first end block reach h = le-ltb (max first block) (min end reach) h
 
--- an extent that ends by a range's begin doesn't touch it
-pub ended-apart : (block_size : ℕ) (r : NewRange) (e : FileExt) (reach : ℕ) → end_of block_size e ≤ reach → reach ≤ r.first → touches block_size r e ≡ false
-unfolding touches
+-- an extent that ends by a range's begin doesn't touch it, and neither does a hole
+pub ended-apart : (block_size : ℕ) (r : NewRange) (e : FileExt) (reach : ℕ) → taken_end block_size e ≤ reach → reach ≤ r.first → touches block_size r e ≡ false
+unfolding touches taken_end
 ended-apart block_size r e reach near by =
-    let h : min (r.first + r.length) (end_of block_size e) ≤ max r.first e.block = omega (arith, near, by) in
-    ap (λ (b : Bool). not (is_hole e) && b) (none-common r.first (r.first + r.length) e.block (end_of block_size e) h) ∙ and-false (not (is_hole e))
+    let end : ℕ = end_of block_size e in
+    let go : (b : Bool) → (if b then 0 else end) ≤ reach → (not b && nat_lt (max r.first e.block) (min (r.first + r.length) end)) ≡ false =
+    λ b. elim b as (λ b. (if b then 0 else end) ≤ reach → (not b && nat_lt (max r.first e.block) (min (r.first + r.length) end)) ≡ false) [
+      | true ↦ λ h. refl
+      | false ↦ λ h. none-common r.first (r.first + r.length) e.block end (omega (arith, h, by))
+    ] in
+    go (is_hole e) near
 
 -- nor does one that begins at a range's end or after it
 pub begun-apart : (block_size : ℕ) (r : NewRange) (e : FileExt) → r.first + r.length ≤ e.block → touches block_size r e ≡ false
@@ -110,4 +115,4 @@ references-same block_size (r ∷ rs) xs ys moves =
 pub record SoFar (block_size : ℕ) (extents : List (ℕ × FileExt)) (ends : List ℕ) (greatest : ℕ) : Type 0 where
   pub rising : IsNonDecreasingBy (λ (n : ℕ). n) ends
   pub top : (i : ℕ) → i < length ends → get_or ends i 0 ≤ greatest
-  pub far : (i : ℕ) (none : ℕ × FileExt) → i < length ends → end_of block_size (get_or extents i none).1 ≤ get_or ends i 0
+  pub far : (i : ℕ) (none : ℕ × FileExt) → i < length ends → taken_end block_size (get_or extents i none).1 ≤ get_or ends i 0

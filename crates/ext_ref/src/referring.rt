@@ -22,6 +22,19 @@ fn end_of(extent: FileExt, block_size: u32) -> u128
     u128::from(extent.block) + blocks
 }
 
+// The block after an extent's last one, and 0 for a hole.
+#[tactic(auto, unfolding(crate::specs::References::taken_end))]
+fn taken_end(extent: FileExt, block_size: u32) -> u128
+    requires { 0 < block_size }
+    ensures { result ≡ spec.taken_end block_size extent }
+{
+    if extent.block == 0 {
+        0
+    } else {
+        end_of(extent, block_size)
+    }
+}
+
 // Whether an extent other than a hole has a block in common with a range.
 #[tactic(auto, unfolding(crate::specs::References::touches))]
 fn touches(range: NewRange, extent: FileExt, block_size: u32) -> bool
@@ -80,7 +93,7 @@ fn by_block(alloc: Global, extents: &[(u64, FileExt)]) -> Result<Vec<(u64, FileE
     Ok(sorted)
 }
 
-// For each extent the greatest end of those up to it.
+// For each extent the greatest end of those up to it, holes left out.
 fn ends_of(
     alloc: Global,
     extents: &[(u64, FileExt)],
@@ -92,7 +105,7 @@ fn ends_of(
     let mut ends = Vec::new(alloc);
     let mut greatest = 0u128;
     for extent in extents {
-        greatest = greatest.max(end_of(extent.1, block_size));
+        greatest = greatest.max(taken_end(extent.1, block_size));
         ends.push(greatest)?;
     }
     Ok(ends)
