@@ -63,5 +63,5 @@ read_size bytes zero e =
     ap (λ b. is_accepted (block_size_of b)) means.0 ∙ means.1
 
 -- a whole number of accepted blocks, one or more, is a length that has a sum
-pub whole_object : (size n : ℕ) → is_accepted size ≡ true → 1 ≤ n / size → is_multiple n size ≡ true → (n % 4 ≡ 0) × (36 ≤ n)
+pub whole_object : (size n : ℕ) → is_accepted size ≡ true → 1 ≤ n / size → is_multiple n size ≡ true → (n % 4 ≡ 0) × (4096 ≤ n)
 whole_object size n accepted some whole = (Prim.grind (arith, common_steps, accepted, some, whole), Prim.grind (arith, common_steps, accepted, some, whole))

@@ -28,11 +28,13 @@ pub struct Object {
 }
 
 impl Model for Object {
-    ghost use Rattle.nx_ring.specs.Objects.{Place};
+    ghost use Rattle.nx_ring.specs.Objects.{Place, HasWholeBlocks};
 
     ghost Value = { Place };
 
     ghost view = { λ a. record { oid = a.oid; block = a.block; bytes = a.held.items } };
+
+    ghost invariant = { λ a. HasWholeBlocks a.held.items };
 }
 
 impl Object {
@@ -49,7 +51,8 @@ impl Object {
     }
 
     pub(crate) fn bytes(&self) -> &[u8]
-        ensures { result.now ≡ self.now.bytes }
+        ensures same { result.now ≡ self.now.bytes }
+        ensures whole { objects.HasWholeBlocks result.now }
     {
         &self.held
     }

@@ -1,7 +1,8 @@
 // A checkpoint and what it maps.
-ghost use Rattle.std.specs.Prelude.{◌≡◌, ◌-◌, ◌≤◌, [], Ok, length, option_map};
+ghost use Rattle.std.specs.Prelude.{◌≡◌, ◌-◌, ◌≤◌, [], Ok, length, option_map, IfSome};
 ghost use Rattle.nx_block.specs.Read.{read_of};
 ghost use Rattle.nx_ring.specs.Checkpoint.{eph, object_of, object_block_of, site_of};
+ghost use Rattle.nx_ring.specs.Objects.{HasWholeBlocks};
 
 use crate::RingLine;
 use crate::objects::Object;
@@ -129,9 +130,11 @@ impl Checkpoint {
         self.objects.iter().find(|object| object.oid() == oid)
     }
 
-    /// The bytes of the object that an ephemeral oid names. None exactly where no mapping has the oid.
+    /// The bytes of the object that an ephemeral oid names. It has whole blocks. None exactly
+    /// where no mapping has the oid.
     pub fn object(&self, oid: u64) -> Option<&[u8]>
-        ensures { option_map (λ bytes. bytes.now) result ≡ object_of self.now oid }
+        ensures found { option_map (λ bytes. bytes.now) result ≡ object_of self.now oid }
+        ensures whole { IfSome result (λ bytes. HasWholeBlocks bytes.now) }
     {
         match self.find(oid) {
             Some(object) => Some(object.bytes()),

@@ -2,9 +2,9 @@
 //
 // Tests: it is there, its first block is one of the container, it is sound, and there is no second device. Gives: its
 // bytes. Rests on: the objects that a checkpoint maps.
-ghost use Rattle.std.specs.Prelude.{◌≡◌, ◌≤◌, ◌%◌, ℕ, [], Some, None, length, IfOk, IfErr, IsErrOf};
+ghost use Rattle.std.specs.Prelude.{◌≡◌, ◌≤◌, ℕ, [], length, IfOk, IfErr, IsErrOf};
 ghost use Rattle.obj_base.specs.Stops.{Tells};
-ghost use Rattle.obj_base.specs.declared.stop.Stop.TheVariants.{ReadFault, NoMemory};
+ghost use Rattle.obj_base.specs.declared.stop.Stop.TheVariants.{ReadFault};
 ghost use Rattle.nx_block.specs.Super.{space_oid_of};
 ghost use Rattle.nx_ring.specs.Checkpoint.{site_of};
 ghost use Rattle.space_map.specs.Blocks.{manager_block};
@@ -33,20 +33,6 @@ fn first_block(cp: &Checkpoint, site: &Site, oid: u64) -> Option<u64>
     }
 }
 
-// A copy of the bytes of an object, which has whole blocks as each object of a checkpoint has. One that hadn't would be
-// answered as want of memory.
-fn copy(alloc: Global, bytes: &[u8]) -> Result<Vec<u8>, Stop<SpaceFault>>
-    ensures same { IfOk result (λ copy. copy.items ≡ bytes.now) }
-    ensures long { IfOk result (λ copy. 4096 ≤ length copy.items) }
-    ensures whole { IfOk result (λ copy. length copy.items % 4 ≡ 0) }
-    ensures memory_only { IfErr result (λ stop. stop ≡ NoMemory) }
-{
-    if bytes.len() < 4096 || bytes.len() % 4 != 0 {
-        return Err(Stop::NoMemory);
-    }
-    Ok(bytes.to_vec(alloc)?)
-}
-
 /// The bytes of the space manager that a checkpoint's superblock names.
 pub(crate) fn sound_manager(
     alloc: Global,
@@ -71,7 +57,7 @@ pub(crate) fn sound_manager(
     let Some(block) = first_block(cp, site, oid) else {
         return Err(Stop::Found(unnamed));
     };
-    let manager = copy(alloc, bytes)?;
+    let manager = bytes.to_vec(alloc)?;
     let expect = Expect {
         kind: kind::SPACE_MANAGER,
         subtype: None,
