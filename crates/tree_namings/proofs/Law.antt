@@ -3,7 +3,6 @@ use Rattle.std.proofs.Common.{◌≡◌, ℕ, zero, suc, ◌<◌, true, false, L
 use Rattle.std.specs.List.{range_with_len, flat_map}
 use Rattle.apfs_model.specs.Blocks.{block_of}
 use Rattle.apfs_model.specs.Lists.{In, Lists, through, value_of}
-use Rattle.apfs_model.proofs.BoolTests.{all-in, clash}
 use Rattle.obj_base.specs.declared.site.Site.{Site}
 use Rattle.obj_base.specs.declared.stop.Bad.{Bad}
 use Rattle.obj_base.specs.declared.stop.Bad.TheVariants as bads
@@ -16,9 +15,7 @@ use Rattle.bt_node.specs.declared.fault.NodeFault.{NodeFault}
 use Rattle.bt_node.specs.declared.node.NodeAt.{NodeAt}
 use Rattle.bt_cursor.specs.declared.fault.WalkFault.{WalkFault}
 use Rattle.bt_cursor.specs.Tree.{Tree, root_place, child_in, child_place, judged, node_named, block_named, node_at, tree_in}
-use Rattle.bt_cursor.specs.Met.{IsMet, first, after, places_of, has_node, is_walkable}
 use Rattle.bt_cursor.proofs.Nodes.{node_same}
-use Rattle.bt_cursor.proofs.Places.{tree-levelled, places-met}
 use Rattle.bt_steps.specs.declared.step.Step.{Step}
 use Rattle.bt_steps.specs.Steps.{numbered, steps_part, steps_of, step_by}
 use Rattle.nx_ring.specs.Checkpoint.{Seen, site_of}
@@ -26,10 +23,10 @@ use Rattle.reach_rules.specs.Naming.{LookUp, Object, Namer, Whole, TreeKind, Exp
 use Rattle.reach_rules.specs.Resolved.{Found, resolved, found_by, is_node}
 use Rattle.reach_rules.specs.Tested.{Answer, of_node, node_answer, node_tested, tested}
 use Rattle.reach_rules.specs.Next.{names, names_if, next, children_in, child_namings, node_namings}
-use Rattle.reach_rules.specs.Live.{Live, rooted, led}
-use Rattle.reach_rules.specs.Features.{used_features, tested_features, features_through}
+use Rattle.reach_rules.specs.Live.{Live}
+use Rattle.reach_rules.specs.Features.{used_features}
 use Rattle.reach_rules.proofs.Walks.{Matches, IsWalkOf}
-use Rattle.tree_namings.specs.Namings.{node_id, step_naming, tree_namings, IsPlainNaming}
+use Rattle.tree_namings.specs.Namings.{node_id, step_naming, tree_namings}
 use Rattle.tree_namings.proofs.Lists.{lists-none, lists-both, lists-by}
 
 -- trees of a shape are walked as the nodes of a kind of trees are named, and their objects are these
@@ -119,7 +116,7 @@ sees-found image seen kind object shape named at n (Some f) (Some block) answer 
     ∙ (ap (λ k. judged k (node_of shape at (site_of seen) (block_of (site_of seen).block_size image block))) (sym m.0)
     ∙ ap (λ bytes. judged f.block (node_of shape at (site_of seen) bytes)) (sym m.1)))
 
-sees : {K : Type 0} (image : List ℕ) (seen : Seen) (kind : TreeKind) (how : LookUp) (object : ℕ → Object) (shape : Shape K) (named : ℕ → Option ℕ) (at : NodeAt) (n : Naming) → IsTreeOf image seen kind how object shape named → IsAt kind how at n → Sees image seen object shape named at n
+pub sees : {K : Type 0} (image : List ℕ) (seen : Seen) (kind : TreeKind) (how : LookUp) (object : ℕ → Object) (shape : Shape K) (named : ℕ → Option ℕ) (at : NodeAt) (n : Naming) → IsTreeOf image seen kind how object shape named → IsAt kind how at n → Sees image seen object shape named at n
 unfolding resolved
 sees image seen kind how object shape named at n tree is =
     let e : Expected = n.expected in
@@ -131,7 +128,7 @@ sees image seen kind how object shape named at n tree is =
 
 -- ---- what a node names
 -- its children, from a number on
-abbrev kids_of : Namer → TreeKind → LookUp → ℕ → ℕ → List ℕ → List Naming
+abbrev pub kids_of : Namer → TreeKind → LookUp → ℕ → ℕ → List ℕ → List Naming
 kids_of namer kind how zero i oids = []
 kids_of namer kind how (suc level) i oids = child_namings namer kind how level i oids
 
@@ -147,14 +144,8 @@ map-map f g (x ∷ xs) = ap (λ ys. g (f x) ∷ ys) (map-map f g xs)
 kids-same : {K : Type 0} (shape : Shape K) (node : List ℕ) → children_of shape node ≡ map child_in (pairs_of shape node)
 kids-same shape node = map-map (pair_of shape node) child_in (range_with_len 0 (count_of node))
 
--- the level at which a place's node stands
-abbrev level_at : Expected → List ℕ → ℕ
-level_at (TreeRoot kind) node = level_of node
-level_at (TreeNode kind level) node = level
-level_at e node = 0
-
 -- what the naming of a node leads to
-next-root : {K : Type 0} (image : List ℕ) (seen : Seen) (kind : TreeKind) (how : LookUp) (object : ℕ → Object) (shape : Shape K) (named : ℕ → Option ℕ) (at : NodeAt) (n : Naming) → IsTreeOf image seen kind how object shape named → IsAt kind how at n →
+pub next-root : {K : Type 0} (image : List ℕ) (seen : Seen) (kind : TreeKind) (how : LookUp) (object : ℕ → Object) (shape : Shape K) (named : ℕ → Option ℕ) (at : NodeAt) (n : Naming) → IsTreeOf image seen kind how object shape named → IsAt kind how at n →
     n.expected ≡ TreeRoot kind → (h : HasNode image seen object shape named at n) → next image seen n ≡ kids_of (Whole (object at.oid)) kind how (level_of h.node) 0 (map child_in (pairs_of shape h.node))
 next-root image seen kind how object shape named at n tree is e h =
     next-some image seen n h.thing (Ok h.node) h.found h.passes
@@ -165,7 +156,7 @@ next-root image seen kind how object shape named at n tree is e h =
     ∙ (ap (λ oids. node_namings (Whole (object at.oid)) kind how (level_of h.node) oids) (tree.walk.kids h.node ∙ kids-same shape h.node)
     ∙ node-kids (Whole (object at.oid)) kind how (level_of h.node) (map child_in (pairs_of shape h.node)))))))
 
-next-child : {K : Type 0} (image : List ℕ) (seen : Seen) (kind : TreeKind) (how : LookUp) (object : ℕ → Object) (shape : Shape K) (named : ℕ → Option ℕ) (at : NodeAt) (n : Naming) (level : ℕ) → IsTreeOf image seen kind how object shape named → IsAt kind how at n →
+pub next-child : {K : Type 0} (image : List ℕ) (seen : Seen) (kind : TreeKind) (how : LookUp) (object : ℕ → Object) (shape : Shape K) (named : ℕ → Option ℕ) (at : NodeAt) (n : Naming) (level : ℕ) → IsTreeOf image seen kind how object shape named → IsAt kind how at n →
     n.expected ≡ TreeNode kind level → (h : HasNode image seen object shape named at n) → next image seen n ≡ kids_of (Whole (object at.oid)) kind how level 0 (map child_in (pairs_of shape h.node))
 next-child image seen kind how object shape named at n level tree is e h =
     next-some image seen n h.thing (Ok h.node) h.found h.passes

@@ -1,2 +1,3 @@
 pub mod Namings
 pub mod Laws
+pub mod Walked
