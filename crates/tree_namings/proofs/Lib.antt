@@ -1,0 +1,5 @@
+pub mod Lists
+pub mod Law
+pub mod Plain
+pub mod Walking
+pub mod OfKinds

@@ -1,0 +1,3 @@
+pub mod Namings
+pub mod Laws
+pub mod Walked
