@@ -11,27 +11,13 @@ ghost use Rattle.view_rules.specs.Extents.{extents_with_ids};
 ghost use Rattle.view_rules.specs.Rules as rules;
 ghost use Rattle.view_rules.specs.declared.profile.Profile.{Profile};
 
-use blk_source::{BlockSource, NoMemory};
+use blk_source::BlockSource;
 use fs_record::{FileExt, TreeFault};
 use obj_base::{Site, Stop};
+use rule_breaks::extents::extents_with_ids;
 use std::alloc::Global;
-use view_facts::{Facts, view_facts};
+use view_facts::view_facts;
 use vol_view::{View, Volume};
-
-// The extents among some facts, each after its stream's id.
-fn with_ids(alloc: Global, facts: &Facts) -> Result<Vec<(u64, FileExt)>, NoMemory>
-    ensures { IfOk result (λ extents. extents.items ≡ extents_with_ids facts.now) }
-{
-    match facts
-        .extents
-        .iter()
-        .map(|f| (f.id(), f.extent()))
-        .collect(alloc)
-    {
-        Ok(extents) => Ok(extents),
-        Err(_) => Err(NoMemory),
-    }
-}
 
 /// The extents of a view in record order, each after the id of its stream, where its tree is whole and each record can be
 /// read. `Unsound`, `Unnamed`, `Order`, `Counts` and `Record` tell what is wrong, where something is.
@@ -53,7 +39,7 @@ pub fn view_extents<S: BlockSource>(
         Ok(gathered) => gathered,
         Err(stop) => return Err(stop),
     };
-    match with_ids(alloc, &gathered.facts) {
+    match extents_with_ids(alloc, &gathered.facts) {
         Ok(extents) => Ok(extents),
         Err(_) => Err(Stop::NoMemory),
     }

@@ -6,22 +6,22 @@ ghost use Rattle.fs_record.specs.Entries.{Entry};
 ghost use Rattle.fs_record.specs.Facts.{Fact};
 ghost use Rattle.view_rules.specs.Facts.{is_directory};
 ghost use Rattle.view_rules.specs.Names as names;
-ghost use Rattle.tree_rules.specs.Ids.{CountsIds};
+ghost use Rattle.rule_index.specs.Ids.{CountsIds};
 ghost use Rattle.tree_rules.specs.Notes as spec;
 
 use crate::Note;
-use crate::ids::{ByAnyFile, count, tally};
 use apfs_model::Bytes;
 use blk_source::NoMemory;
 use fs_name::name_hash;
 use fs_record::{IdAt, NamedAt};
+use rule_index::ids::{ByAnyFile, count, tally};
 use std::alloc::Global;
 use std::collections::BTreeMap;
 use view_facts::{EntryFact, Facts, InodeFact};
 use vol_view::View;
 
 // Whether an entry's name isn't ASCII, and its key has another hash.
-#[tactic(auto, using(crate::proofs::Texts::ascii_name, crate::proofs::Texts::other_name), unfolding(view_rules::specs::Names::has_other_name_hash, view_rules::specs::Names::has_other_hash))]
+#[tactic(auto, using(rule_breaks::proofs::Texts::ascii_name, rule_breaks::proofs::Texts::other_name), unfolding(view_rules::specs::Names::has_other_name_hash, view_rules::specs::Names::has_other_hash))]
 fn has_other_hash(alloc: Global, facts: &Facts, e: &EntryFact) -> Result<bool, NoMemory>
     ensures { IfOk result (λ other. other ≡ names.has_other_name_hash facts.now e.now) }
 {
@@ -98,7 +98,7 @@ pub(crate) fn hash_notes(alloc: Global, view: &View, facts: &Facts) -> Result<Ve
 }
 
 // Whether a file has no entry.
-#[tactic(auto, using(crate::proofs::Counting::any_counts))]
+#[tactic(auto, using(rule_index::proofs::Counting::any_counts))]
 fn lacks_entries(facts: &Facts, files: &BTreeMap<u64, u64>, id: u64) -> bool
     requires { CountsIds (λ e. Some e.what.file_id) facts.now.entries files.now }
     ensures { result ≡ not (list_any (λ (e : Fact Entry). e.what.file_id == id) facts.now.entries) }

@@ -2,7 +2,7 @@ use Rattle.std.proofs.Common.{◌∙◌, ap}
 use Rattle.view_rules.specs.Facts.{Facts}
 use Rattle.tree_rules.specs.Notes.{hash_note}
 use Rattle.view_rules.specs.Names.{has_other_name_hash}
-use Rattle.tree_rules.proofs.Finds.{noted-more}
+use Rattle.rule_breaks.proofs.Finds.{noted-more}
 use Rattle.tree_rules.proofs.remarks.hash_notes.Goals as goal
 
 pub loop-e-preserved : goal.loop-e-preserved

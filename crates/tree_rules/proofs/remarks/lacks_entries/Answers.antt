@@ -1,5 +1,5 @@
 use Rattle.std.proofs.Common.{ap, ◌∙◌, nat_eq}
-use Rattle.tree_rules.proofs.Counting.{any_counts}
+use Rattle.rule_index.proofs.Counting.{any_counts}
 use Rattle.tree_rules.proofs.remarks.lacks_entries.Goals as goal
 
 pub returns : goal.returns

@@ -1,7 +1,7 @@
 use Rattle.std.proofs.Common.{◌∙◌, ap}
 use Rattle.view_rules.specs.Facts.{Facts}
 use Rattle.view_rules.specs.Names.{has_other_name_hash}
-use Rattle.tree_rules.proofs.Finds.{found_item, next_item}
+use Rattle.rule_breaks.proofs.Finds.{found_item, next_item}
 use Rattle.tree_rules.proofs.remarks.other_name_hash.Goals as goal
 
 pub returns-then-other : goal.returns-then-other

@@ -1,7 +1,7 @@
 use Rattle.std.proofs.Common.{◌∙◌, ap}
 use Rattle.view_rules.specs.Facts.{Facts}
 use Rattle.tree_rules.specs.Notes.{unnamed_note, is_unnamed}
-use Rattle.tree_rules.proofs.Finds.{noted-more}
+use Rattle.rule_breaks.proofs.Finds.{noted-more}
 use Rattle.tree_rules.proofs.remarks.unnamed_by.Goals as goal
 
 pub loop-f-preserved : goal.loop-f-preserved

@@ -1,0 +1,5 @@
+pub mod Finds
+pub mod Texts
+pub mod FellowLooks
+pub mod Rounded
+pub mod Orders

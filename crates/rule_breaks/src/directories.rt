@@ -1,0 +1,47 @@
+// The rules on directories: each has one entry, in the directory of its parent, and the root has none.
+ghost use Rattle.std.specs.Prelude.{◌≡◌, ◌==◌, ◌&&◌, find};
+ghost use Rattle.std.specs.Option.{option_copied};
+ghost use Rattle.view_rules.specs.Facts.{entry_count, entry_count_in};
+ghost use Rattle.view_rules.specs.Directories as spec;
+
+use rule_index::Index;
+use view_facts::InodeFact;
+
+/// Whether an inode is a directory of 16 or more.
+pub fn is_user_directory(f: &InodeFact) -> bool
+    ensures { result ≡ spec.is_user_directory f.now }
+{
+    f.kind() == 4 && f.id() >= 16
+}
+
+/// Whether the root has an entry.
+#[tactic(auto, unfolding(view_rules::specs::Directories::is_root_named))]
+pub fn is_root_named(index: &Index<'_>) -> bool
+    ensures { result ≡ spec.is_root_named index.now.facts.now }
+{
+    index.entry_count(2) > 0
+}
+
+// Whether an inode has exactly one entry, in the directory of its parent.
+#[tactic(auto, using(rule_index::proofs::HomeLooks::home_counts))]
+fn is_at_home(index: &Index<'_>, f: &InodeFact) -> bool
+    ensures { result ≡ ((entry_count index.now.facts.now f.now.id == 1) && (entry_count_in index.now.facts.now f.now.id f.now.what.parent == 1)) }
+{
+    index.entry_count(f.id()) == 1 && index.is_home(f.id(), f.parent())
+}
+
+// Whether a directory of 16 or more hasn't exactly one entry, in the directory of its parent.
+#[tactic(auto, unfolding(view_rules::specs::Directories::is_misnamed))]
+fn is_misnamed(index: &Index<'_>, f: &InodeFact) -> bool
+    ensures { result ≡ spec.is_misnamed index.now.facts.now f.now }
+{
+    is_user_directory(f) && !is_at_home(index, f)
+}
+
+/// The first directory of 16 or more that hasn't exactly one entry, in the directory of its parent.
+pub fn misnamed<'a>(index: &Index<'a>) -> Option<&'a InodeFact>
+    ensures { option_copied result ≡ find (spec.is_misnamed index.now.facts.now) index.now.facts.now.inodes }
+{
+    let facts = index.facts;
+    facts.inodes.iter().find(|f| is_misnamed(index, f))
+}

@@ -1,0 +1,75 @@
+// The rules on entries: each has its directory and its file, of the same kind, and the right hash of an ASCII name.
+ghost use Rattle.std.specs.Prelude.{◌≡◌, ◌==◌, not, find};
+ghost use Rattle.std.specs.Option.{option_copied};
+ghost use Rattle.apfs_model.specs.Lists.{passes};
+ghost use Rattle.view_rules.specs.Entries as spec;
+
+use rule_index::Index;
+use rule_index::ids::does_count;
+use view_facts::EntryFact;
+
+// Whether an entry that counts stands in what is no directory.
+#[tactic(auto, unfolding(view_rules::specs::Entries::lacks_parent))]
+fn lacks_parent(index: &Index<'_>, e: &EntryFact) -> bool
+    ensures { result ≡ spec.lacks_parent index.now.facts.now e.now }
+{
+    does_count(e) && !index.has_directory(e.id())
+}
+
+// Whether an entry that counts is of a file without an inode.
+#[tactic(auto, unfolding(view_rules::specs::Entries::lacks_inode))]
+fn lacks_inode(index: &Index<'_>, e: &EntryFact) -> bool
+    ensures { result ≡ spec.lacks_inode index.now.facts.now e.now }
+{
+    does_count(e) && !index.has_inode(e.file_id())
+}
+
+// Whether there is a kind, and it is another.
+fn is_other(kind: Option<u16>, other: u16) -> bool
+    ensures { result ≡ passes kind (λ k. not (k == other)) }
+{
+    match kind {
+        Some(kind) => kind != other,
+        None => false,
+    }
+}
+
+// Whether an entry that counts is of another kind than the inode of its file.
+#[tactic(auto, using(rule_index::proofs::KinLooks::kind_passes), unfolding(view_rules::specs::Entries::has_other_kind))]
+fn has_other_kind(index: &Index<'_>, e: &EntryFact) -> bool
+    ensures { result ≡ spec.has_other_kind index.now.facts.now e.now }
+{
+    does_count(e) && is_other(index.kind(e.file_id()), e.kind())
+}
+
+/// The first entry that counts in what is no directory.
+pub fn lacking_parent<'a>(index: &Index<'a>) -> Option<&'a EntryFact>
+    ensures { option_copied result ≡ find (spec.lacks_parent index.now.facts.now) index.now.facts.now.entries }
+{
+    let facts = index.facts;
+    facts.entries.iter().find(|e| lacks_parent(index, e))
+}
+
+/// The first entry that counts of a file without an inode.
+pub fn lacking_inode<'a>(index: &Index<'a>) -> Option<&'a EntryFact>
+    ensures { option_copied result ≡ find (spec.lacks_inode index.now.facts.now) index.now.facts.now.entries }
+{
+    let facts = index.facts;
+    facts.entries.iter().find(|e| lacks_inode(index, e))
+}
+
+/// The first entry that counts of another kind than the inode of its file.
+pub fn other_kind<'a>(index: &Index<'a>) -> Option<&'a EntryFact>
+    ensures { option_copied result ≡ find (spec.has_other_kind index.now.facts.now) index.now.facts.now.entries }
+{
+    let facts = index.facts;
+    facts.entries.iter().find(|e| has_other_kind(index, e))
+}
+
+/// Whether the root is there, and a directory.
+#[tactic(auto, unfolding(view_rules::specs::Entries::has_root))]
+pub fn has_root(index: &Index<'_>) -> bool
+    ensures { result ≡ spec.has_root index.now.facts.now }
+{
+    index.has_directory(2)
+}

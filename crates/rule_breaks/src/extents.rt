@@ -1,0 +1,142 @@
+// The rules on the places of extents, and the extents of a view.
+ghost use Rattle.std.specs.Prelude.{◌≡◌, ◌<◌, find, IfOk};
+ghost use Rattle.std.specs.Option.{option_copied};
+ghost use Rattle.ext_ref.specs.Cover.{is_covered};
+ghost use Rattle.ext_ref.specs.Spans.{IsCoverOf};
+ghost use Rattle.fs_record.specs.StreamExtents as stream;
+ghost use Rattle.view_rules.specs.Extents as spec;
+
+use blk_source::NoMemory;
+use ext_ref::{Cover, NewRange};
+use fs_record::FileExt;
+use std::alloc::Global;
+use view_facts::{ExtentFact, Facts};
+
+/// A first block of 2^63 or more is a negative one (General-Purpose Types, `prange_t`).
+const NEGATIVE: u64 = 0x8000_0000_0000_0000;
+
+// How many blocks an extent has.
+fn extent_blocks(block_size: u32, extent: FileExt) -> u128
+    requires { 0 < block_size }
+    ensures { result ≡ stream.extent_blocks block_size extent }
+{
+    (u128::from(extent.length) + (u128::from(block_size) - 1)) / u128::from(block_size)
+}
+
+// Whether an extent is a hole, or lies in a container of so many blocks.
+#[tactic(auto, unfolding(fs_record::specs::StreamExtents::is_extent_placed))]
+fn is_placed(block_size: u32, blocks: u64, extent: FileExt) -> bool
+    requires { 0 < block_size }
+    ensures { result ≡ stream.is_extent_placed block_size blocks extent }
+{
+    if extent.block == 0 {
+        return true;
+    }
+    if extent.block >= NEGATIVE {
+        return false;
+    }
+    u128::from(extent.block) + extent_blocks(block_size, extent) <= u128::from(blocks)
+}
+
+// Whether an extent leaves the container.
+#[tactic(auto, unfolding(view_rules::specs::Extents::is_misplaced))]
+fn is_misplaced(block_size: u32, blocks: u64, f: &ExtentFact) -> bool
+    requires { 0 < block_size }
+    ensures { result ≡ spec.is_misplaced block_size blocks f.now }
+{
+    !is_placed(block_size, blocks, f.extent())
+}
+
+/// The first extent that leaves the container.
+pub fn misplaced(facts: &Facts, block_size: u32, blocks: u64) -> Option<&ExtentFact>
+    requires { 0 < block_size }
+    ensures { option_copied result ≡ find (spec.is_misplaced block_size blocks) facts.now.extents }
+{
+    facts
+        .extents
+        .iter()
+        .find(|f| is_misplaced(block_size, blocks, f))
+}
+
+// How many blocks an extent has, as a number of 64 bits.
+#[tactic(auto, using(crate::proofs::Rounded::rounded_fits))]
+fn short_blocks(block_size: u32, extent: FileExt) -> u64
+    requires { 0 < block_size }
+    ensures { result ≡ stream.extent_blocks block_size extent }
+{
+    extent_blocks(block_size, extent) as u64
+}
+
+// Whether some ranges cover a range of blocks.
+#[tactic(auto, using(crate::proofs::Rounded::covers_same))]
+fn covers(cover: &Cover, ranges: &[NewRange], first: u64, length: u64) -> bool
+    requires { IsCoverOf ranges.now cover.now }
+    ensures { result ≡ is_covered ranges.now first length }
+{
+    cover.covers(first, length)
+}
+
+// Whether an extent that is no hole isn't covered.
+#[tactic(auto, unfolding(view_rules::specs::Extents::is_uncovered))]
+fn is_uncovered(block_size: u32, cover: &Cover, ranges: &[NewRange], f: &ExtentFact) -> bool
+    requires size { 0 < block_size }
+    requires cover { IsCoverOf ranges.now cover.now }
+    ensures { result ≡ spec.is_uncovered block_size ranges.now f.now }
+{
+    let extent = f.extent();
+    extent.block != 0
+        && !covers(
+            cover,
+            ranges,
+            extent.block,
+            short_blocks(block_size, extent),
+        )
+}
+
+// The first extent that isn't covered.
+fn uncovered_by<'a>(
+    facts: &'a Facts,
+    block_size: u32,
+    cover: &Cover,
+    ranges: &[NewRange],
+) -> Option<&'a ExtentFact>
+    requires size { 0 < block_size }
+    requires cover { IsCoverOf ranges.now cover.now }
+    ensures { option_copied result ≡ find (spec.is_uncovered block_size ranges.now) facts.now.extents }
+{
+    facts
+        .extents
+        .iter()
+        .find(|f| is_uncovered(block_size, cover, ranges, f))
+}
+
+/// The first extent that is no hole and that the ranges don't cover.
+pub fn uncovered<'a>(
+    alloc: Global,
+    facts: &'a Facts,
+    block_size: u32,
+    ranges: &[NewRange],
+) -> Result<Option<&'a ExtentFact>, NoMemory>
+    requires { 0 < block_size }
+    ensures { IfOk result (λ first. option_copied first ≡ find (spec.is_uncovered block_size ranges.now) facts.now.extents) }
+{
+    match Cover::of(alloc, ranges) {
+        Ok(cover) => Ok(uncovered_by(facts, block_size, &cover, ranges)),
+        Err(_) => Err(NoMemory),
+    }
+}
+
+/// The extents among some facts, each after its stream's id.
+pub fn extents_with_ids(alloc: Global, facts: &Facts) -> Result<Vec<(u64, FileExt)>, NoMemory>
+    ensures { IfOk result (λ extents. extents.items ≡ spec.extents_with_ids facts.now) }
+{
+    match facts
+        .extents
+        .iter()
+        .map(|f| (f.id(), f.extent()))
+        .collect(alloc)
+    {
+        Ok(extents) => Ok(extents),
+        Err(_) => Err(NoMemory),
+    }
+}

@@ -1,0 +1,75 @@
+// The rules on the targets of symbolic links, the sizes of streams, and the owners of attributes.
+ghost use Rattle.std.specs.Prelude.{◌≡◌, find};
+ghost use Rattle.std.specs.Option.{option_copied};
+ghost use Rattle.view_rules.specs.Inodes as spec;
+
+use rule_index::Index;
+use view_facts::{AttributeFact, Facts, InodeFact};
+
+/// The least size of a stream that is too large, in bytes.
+const LARGE_SIZE: u64 = 0x8000_0000_0000_0000;
+
+// Whether a symbolic link lacks its target.
+#[tactic(auto, unfolding(view_rules::specs::Inodes::lacks_target))]
+fn lacks_target(index: &Index<'_>, f: &InodeFact) -> bool
+    ensures { result ≡ spec.lacks_target index.now.facts.now f.now }
+{
+    f.kind() == 10 && !index.has_target(f.id())
+}
+
+// Whether an inode has a stream that is too large.
+#[tactic(auto, unfolding(view_rules::specs::Inodes::has_large_stream))]
+fn has_large_stream(f: &InodeFact) -> bool
+    ensures { result ≡ spec.has_large_stream f.now }
+{
+    match f.stream() {
+        Some(stream) => stream.size >= LARGE_SIZE,
+        None => false,
+    }
+}
+
+// Whether an attribute has a stream that is too large.
+#[tactic(auto, unfolding(view_rules::specs::Inodes::has_large_body))]
+fn has_large_body(a: &AttributeFact) -> bool
+    ensures { result ≡ spec.has_large_body a.now }
+{
+    a.has_large_body()
+}
+
+// Whether the file of an attribute has no inode.
+#[tactic(auto, unfolding(view_rules::specs::Inodes::lacks_owner))]
+fn lacks_owner(index: &Index<'_>, a: &AttributeFact) -> bool
+    ensures { result ≡ spec.lacks_owner index.now.facts.now a.now }
+{
+    !index.has_inode(a.id())
+}
+
+/// The first symbolic link without its target.
+pub fn lacking_target<'a>(index: &Index<'a>) -> Option<&'a InodeFact>
+    ensures { option_copied result ≡ find (spec.lacks_target index.now.facts.now) index.now.facts.now.inodes }
+{
+    let facts = index.facts;
+    facts.inodes.iter().find(|f| lacks_target(index, f))
+}
+
+/// The first inode whose stream is too large.
+pub fn large_stream(facts: &Facts) -> Option<&InodeFact>
+    ensures { option_copied result ≡ find spec.has_large_stream facts.now.inodes }
+{
+    facts.inodes.iter().find(|f| has_large_stream(f))
+}
+
+/// The first attribute whose stream is too large.
+pub fn large_body(facts: &Facts) -> Option<&AttributeFact>
+    ensures { option_copied result ≡ find spec.has_large_body facts.now.attributes }
+{
+    facts.attributes.iter().find(|a| has_large_body(a))
+}
+
+/// The first attribute of a file without an inode.
+pub fn lacking_owner<'a>(index: &Index<'a>) -> Option<&'a AttributeFact>
+    ensures { option_copied result ≡ find (spec.lacks_owner index.now.facts.now) index.now.facts.now.attributes }
+{
+    let facts = index.facts;
+    facts.attributes.iter().find(|a| lacks_owner(index, a))
+}

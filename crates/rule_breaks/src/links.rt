@@ -1,0 +1,62 @@
+// The rules on the numbers of a directory's children and of a file's links.
+ghost use Rattle.std.specs.Prelude.{◌≡◌, ℤ, pos, not, find};
+ghost use Rattle.std.specs.Option.{option_copied};
+ghost use Rattle.std.specs.Ordering.{int_eq};
+ghost use Rattle.view_rules.specs.Counts as spec;
+ghost use Rattle.view_rules.specs.Facts as rules;
+
+use rule_index::Index;
+use view_facts::InodeFact;
+
+// Whether a number is another than a count.
+fn is_other(number: i32, count: u64) -> bool
+    ensures { result ≡ not (int_eq number (pos count)) }
+{
+    i128::from(number) != i128::from(count)
+}
+
+// Whether the children of an inode are counted: it is the root, or a directory of 16 or more.
+fn is_counted_directory(f: &InodeFact) -> bool
+    ensures { result ≡ spec.is_counted_directory f.now }
+{
+    f.kind() == 4 && (f.id() == 2 || f.id() >= 16)
+}
+
+// Whether a directory has another number of children.
+#[tactic(auto, unfolding(view_rules::specs::Counts::has_other_children))]
+fn has_other_children(index: &Index<'_>, f: &InodeFact) -> bool
+    ensures { result ≡ spec.has_other_children index.now.facts.now f.now }
+{
+    is_counted_directory(f) && is_other(f.links(), index.child_count(f.id()))
+}
+
+// Whether the links of an inode are counted.
+fn is_linked_file(index: &Index<'_>, f: &InodeFact) -> bool
+    ensures { result ≡ spec.is_linked_file index.now.facts.now f.now }
+{
+    f.kind() == 8 && index.entry_count(f.id()) > 0 && !index.has_system_name(f.id())
+}
+
+// Whether a file has another number of links.
+#[tactic(auto, unfolding(view_rules::specs::Counts::has_other_links))]
+fn has_other_links(index: &Index<'_>, f: &InodeFact) -> bool
+    ensures { result ≡ spec.has_other_links index.now.facts.now f.now }
+{
+    is_linked_file(index, f) && is_other(f.links(), index.entry_count(f.id()))
+}
+
+/// The first directory with another number of children.
+pub fn other_children<'a>(index: &Index<'a>) -> Option<&'a InodeFact>
+    ensures { option_copied result ≡ find (spec.has_other_children index.now.facts.now) index.now.facts.now.inodes }
+{
+    let facts = index.facts;
+    facts.inodes.iter().find(|f| has_other_children(index, f))
+}
+
+/// The first file with another number of links.
+pub fn other_links<'a>(index: &Index<'a>) -> Option<&'a InodeFact>
+    ensures { option_copied result ≡ find (spec.has_other_links index.now.facts.now) index.now.facts.now.inodes }
+{
+    let facts = index.facts;
+    facts.inodes.iter().find(|f| has_other_links(index, f))
+}

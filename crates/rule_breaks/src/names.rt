@@ -1,0 +1,48 @@
+// The rules on the hashes of names, and on the marks of files with several names.
+ghost use Rattle.std.specs.Prelude.{◌≡◌, find};
+ghost use Rattle.std.specs.Option.{option_copied};
+ghost use Rattle.view_rules.specs.Names as spec;
+ghost use Rattle.view_rules.specs.Siblings as siblings;
+
+use fs_name::ascii_hash;
+use rule_index::Index;
+use rule_index::ids::does_count;
+use view_facts::{EntryFact, Facts};
+
+// Whether an entry's name is ASCII, and its key has another hash.
+#[tactic(auto, using(crate::proofs::Texts::ascii_name, crate::proofs::Texts::other_name), unfolding(view_rules::specs::Names::has_other_ascii_hash, view_rules::specs::Names::has_other_hash))]
+fn has_other_ascii_hash(facts: &Facts, e: &EntryFact) -> bool
+    ensures { result ≡ spec.has_other_ascii_hash facts.now e.now }
+{
+    let name = e.name();
+    if !name.is_ascii() {
+        return false;
+    }
+    facts.names.are_hashed() && ascii_hash(facts.names, name.as_bytes()) != e.hash()
+}
+
+/// The first entry whose name is ASCII and whose key has another hash.
+pub fn other_ascii_hash(facts: &Facts) -> Option<&EntryFact>
+    ensures { option_copied result ≡ find (spec.has_other_ascii_hash facts.now) facts.now.entries }
+{
+    facts
+        .entries
+        .iter()
+        .find(|e| has_other_ascii_hash(facts, e))
+}
+
+// Whether an entry that counts has no sibling's id, and its file has two entries or more.
+#[tactic(auto, unfolding(view_rules::specs::Siblings::is_unmarked))]
+fn is_unmarked(index: &Index<'_>, e: &EntryFact) -> bool
+    ensures { result ≡ siblings.is_unmarked index.now.facts.now e.now }
+{
+    does_count(e) && e.sibling().is_none() && index.entry_count(e.file_id()) > 1
+}
+
+/// The first entry without a sibling's id of a file with two entries or more.
+pub fn unmarked<'a>(index: &Index<'a>) -> Option<&'a EntryFact>
+    ensures { option_copied result ≡ find (siblings.is_unmarked index.now.facts.now) index.now.facts.now.entries }
+{
+    let facts = index.facts;
+    facts.entries.iter().find(|e| is_unmarked(index, e))
+}

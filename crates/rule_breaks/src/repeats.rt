@@ -1,0 +1,86 @@
+// The rules on names that are there twice.
+ghost use Rattle.std.specs.Prelude.{◌≡◌, find, IfOk};
+ghost use Rattle.std.specs.Option.{option_copied};
+ghost use Rattle.view_rules.specs.Names as spec;
+ghost use Rattle.rule_index.specs.Keys as keys;
+
+use blk_source::NoMemory;
+use rule_index::KeyRef;
+use rule_index::keys::{ByAttribute, ByEntry, count, place_ref, tally};
+use std::alloc::Global;
+use std::collections::BTreeMap;
+use view_facts::{AttributeFact, EntryFact, Facts};
+
+// Whether an entry's name is there again in its directory.
+#[tactic(auto, unfolding(view_rules::specs::Names::is_entry_repeated))]
+fn is_entry_repeated<'a>(
+    facts: &'a Facts,
+    counts: &BTreeMap<KeyRef<'a>, u64>,
+    e: &'a EntryFact,
+) -> bool
+    requires { keys.CountsKeys keys.entry_key facts.now.entries counts.now }
+    ensures { result ≡ spec.is_entry_repeated facts.now e.now }
+{
+    count(counts, place_ref(e.id(), e.name())) > 1
+}
+
+// The first entry whose name is counted twice.
+fn entry_counted_twice<'a>(
+    facts: &'a Facts,
+    counts: &BTreeMap<KeyRef<'a>, u64>,
+) -> Option<&'a EntryFact>
+    requires { keys.CountsKeys keys.entry_key facts.now.entries counts.now }
+    ensures { option_copied result ≡ find (spec.is_entry_repeated facts.now) facts.now.entries }
+{
+    for e in &facts.entries {
+        if is_entry_repeated(facts, counts, e) {
+            return Some(e);
+        }
+    }
+    None
+}
+
+/// The first entry whose name is there again in its directory.
+pub fn repeated_entry(alloc: Global, facts: &Facts) -> Result<Option<&EntryFact>, NoMemory>
+    ensures { IfOk result (λ first. option_copied first ≡ find (spec.is_entry_repeated facts.now) facts.now.entries) }
+{
+    let counts = tally::<_, ByEntry>(alloc, &facts.entries)?;
+    Ok(entry_counted_twice(facts, &counts))
+}
+
+// Whether an attribute's name is there again among those of its file.
+#[tactic(auto, unfolding(view_rules::specs::Names::is_attribute_repeated))]
+fn is_attribute_repeated<'a>(
+    facts: &'a Facts,
+    counts: &BTreeMap<KeyRef<'a>, u64>,
+    a: &'a AttributeFact,
+) -> bool
+    requires { keys.CountsKeys keys.attribute_key facts.now.attributes counts.now }
+    ensures { result ≡ spec.is_attribute_repeated facts.now a.now }
+{
+    count(counts, place_ref(a.id(), a.name())) > 1
+}
+
+// The first attribute whose name is counted twice.
+fn attribute_counted_twice<'a>(
+    facts: &'a Facts,
+    counts: &BTreeMap<KeyRef<'a>, u64>,
+) -> Option<&'a AttributeFact>
+    requires { keys.CountsKeys keys.attribute_key facts.now.attributes counts.now }
+    ensures { option_copied result ≡ find (spec.is_attribute_repeated facts.now) facts.now.attributes }
+{
+    for a in &facts.attributes {
+        if is_attribute_repeated(facts, counts, a) {
+            return Some(a);
+        }
+    }
+    None
+}
+
+/// The first attribute whose name is there again among those of its file.
+pub fn repeated_attribute(alloc: Global, facts: &Facts) -> Result<Option<&AttributeFact>, NoMemory>
+    ensures { IfOk result (λ first. option_copied first ≡ find (spec.is_attribute_repeated facts.now) facts.now.attributes) }
+{
+    let counts = tally::<_, ByAttribute>(alloc, &facts.attributes)?;
+    Ok(attribute_counted_twice(facts, &counts))
+}

@@ -1,0 +1,4 @@
+pub mod Counting
+pub mod KinLooks
+pub mod HomeLooks
+pub mod KeyCounts

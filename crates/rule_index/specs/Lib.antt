@@ -1,0 +1,4 @@
+pub mod Ids
+pub mod Kins
+pub mod Homes
+pub mod Keys

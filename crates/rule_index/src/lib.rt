@@ -1,0 +1,12 @@
+//! What the rules of a view look up in its facts: by an id, or by numbers and a name.
+#![tactic(auto)]
+
+mod homes;
+pub mod ids;
+mod index;
+mod key;
+pub mod keys;
+mod kin;
+
+pub use index::Index;
+pub use key::KeyRef;

@@ -1,6 +1,0 @@
-use Rattle.std.proofs.Common.{take}
-use Rattle.tree_rules.specs.Keys.{CountsKeys}
-use Rattle.tree_rules.proofs.keys.tally.Given as goal
-
-abbrev pub invariant-loop-item : goal.invariant-loop-item
-invariant-loop-item g l = CountsKeys g.B.KeyOf.key (take l.item-index l.items) l.counts
