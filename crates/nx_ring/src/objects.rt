@@ -52,7 +52,7 @@ impl Object {
 
     pub(crate) fn bytes(&self) -> &[u8]
         ensures same { result.now ≡ self.now.bytes }
-        ensures whole { objects.HasWholeBlocks result.now }
+        ensures in_whole_blocks { objects.HasWholeBlocks result.now }
     {
         &self.held
     }

@@ -134,7 +134,7 @@ impl Checkpoint {
     /// where no mapping has the oid.
     pub fn object(&self, oid: u64) -> Option<&[u8]>
         ensures found { option_map (λ bytes. bytes.now) result ≡ object_of self.now oid }
-        ensures whole { IfSome result (λ bytes. HasWholeBlocks bytes.now) }
+        ensures in_whole_blocks { IfSome result (λ bytes. HasWholeBlocks bytes.now) }
     {
         match self.find(oid) {
             Some(object) => Some(object.bytes()),
