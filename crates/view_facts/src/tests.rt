@@ -1,0 +1,175 @@
+// The facts of the sample containers, and of a small one with a symbolic link. What is wanted was worked out by hand.
+ghost use Rattle.std.specs.Prelude.{length, IfOk};
+ghost use Rattle.obj_base.specs.Site.{IsSiteFor};
+
+use crate::{ViewFacts, view_facts};
+use blk_source::MemSource;
+use fs_name::Names;
+use fs_record::{RecFault, TreeFault};
+use img_make::records::{InodePlan, Item, LINK_MODE, attribute};
+use img_make::{FileTree, Plan, Sample, make, sample};
+use nx_ring::newest;
+use obj_base::{Site, Stop};
+use std::alloc::{AllocError, Global};
+use std::process::Abort;
+use std::test::Fail;
+use vol_view::{View, Volume, heads, live, load};
+
+const FILE: u64 = 16;
+
+const ROOT: u64 = 2;
+
+// The live view of the only volume, with its volume and its site.
+#[derive(Drop)]
+struct Live {
+    volume: Volume,
+    view: View,
+    site: Site,
+}
+
+fn open_live(alloc: Global, src: &mut MemSource) -> Result<Live, Fail>
+    ensures { IfOk result (λ at. IsSiteFor at.site (length src.new.bytes)) }
+{
+    let Ok(cp) = newest(alloc, src) else {
+        return Err(Fail::from("there is no checkpoint"));
+    };
+    let found = match heads(alloc, src, &cp) {
+        Ok(found) => found,
+        Err(_) => return Err(Fail::from("there are no heads")),
+    };
+    if found.is_empty() {
+        return Err(Fail::from("there is no volume"));
+    }
+    let volume = match load(alloc, src, &cp, &found[0]) {
+        Ok(volume) => volume,
+        Err(_) => return Err(Fail::from("the volume isn't loaded")),
+    };
+    let view = live(&volume, &cp);
+    Ok(Live {
+        volume,
+        view,
+        site: cp.site(),
+    })
+}
+
+fn facts_of(alloc: Global, plan: &Plan) -> Result<Result<ViewFacts, Stop<TreeFault>>, Fail> {
+    if !plan.valid() {
+        return Err(Fail::from("the plan isn't valid"));
+    }
+    let mut src = MemSource::new(make(alloc, plan)?, Vec::new(alloc));
+    let at = open_live(alloc, &mut src)?;
+    Ok(view_facts(alloc, &mut src, &at.volume, &at.view, &at.site))
+}
+
+// The small container with a symbolic link whose target has these bytes.
+fn linked(alloc: Global, target: &[u8]) -> Result<Vec<Item>, AllocError> {
+    let mut tree = FileTree::new(alloc, Names::Folded)?;
+    let mut link = InodePlan::file(FILE, ROOT);
+    link.mode = LINK_MODE;
+    tree.add(alloc, link, "l")?;
+    if target.len() <= 100 {
+        tree.record(attribute(alloc, FILE, b"com.apple.fs.symlink", target)?)?;
+    }
+    tree.items(alloc)
+}
+
+// The small container with these records.
+fn with_items(alloc: Global, items: Vec<Item>) -> Result<Plan, Fail> {
+    let mut plan = sample(alloc, Sample::S)?;
+    let Some(volume) = plan.volumes.first_mut() else {
+        return Err(Fail::from("the sample has no volume"));
+    };
+    let Some(version) = volume.versions.first_mut() else {
+        return Err(Fail::from("the volume has no version"));
+    };
+    let Some(leaf) = version.leaves.first_mut() else {
+        return Err(Fail::from("the version has no leaf"));
+    };
+    leaf.items = items;
+    Ok(plan)
+}
+
+// How many records, inodes, entries, attributes, sibling links, sibling maps and extents there are.
+fn counts(found: &ViewFacts) -> [u64; 7] {
+    let facts = &found.facts;
+    [
+        found.records,
+        facts.inodes.len() as u64,
+        facts.entries.len() as u64,
+        facts.attributes.len() as u64,
+        facts.links.len() as u64,
+        facts.siblings.len() as u64,
+        facts.extents.len() as u64,
+    ]
+}
+
+#[test]
+fn each_kind_of_record_is_counted(rt: HostRuntime) -> Result<(), Fail> {
+    let alloc = rt.alloc();
+    // The bare volume has 4 records. A file has an inode and an entry, one with a stream also the record of its id and its
+    // extents, and each of two names an entry, a link and a map.
+    let cases = [
+        (Sample::S, [4, 2, 2, 0, 0, 0, 0]),
+        (Sample::H, [8, 3, 3, 0, 0, 0, 1]),
+        (Sample::L, [11, 3, 4, 0, 2, 2, 0]),
+        (Sample::P, [9, 3, 3, 0, 0, 0, 2]),
+        (Sample::V, [6, 3, 3, 0, 0, 0, 0]),
+    ];
+    for (which, wanted) in cases {
+        let Ok(found) = facts_of(alloc, &sample(alloc, which)?)? else {
+            panic!(rt; "{which:?}: there are no facts");
+        };
+        assert_eq!(rt; counts(&found), wanted, "{which:?}");
+    }
+    Ok(())
+}
+
+#[test]
+fn the_target_of_a_link_is_kept(rt: HostRuntime) -> Result<(), Fail> {
+    let alloc = rt.alloc();
+    let cases: [(&[u8], bool); 4] = [
+        (b"hello\0", true),
+        (b"hello", false),
+        (b"\0", false),
+        (b"he\0lo\0", false),
+    ];
+    for (target, is_target) in cases {
+        let plan = with_items(alloc, linked(alloc, target)?)?;
+        let Ok(found) = facts_of(alloc, &plan)? else {
+            panic!(rt; "there are no facts");
+        };
+        let [attribute] = found.facts.attributes.as_slice() else {
+            panic!(rt; "there isn't one attribute");
+        };
+        assert_eq!(rt;
+            (attribute.id(), attribute.gives_target()),
+            (FILE, is_target)
+        );
+    }
+    Ok(())
+}
+
+#[test]
+fn the_first_record_that_is_refused_is_named(rt: HostRuntime) -> Result<(), Fail> {
+    let alloc = rt.alloc();
+    let mut items = linked(alloc, b"hello\0")?;
+    // Items 5 and 6 are the inode of the link and its attribute. Before them stand the entries of directory 1, the root's inode and
+    // its entry, and the inode of directory 3.
+    for (number, length) in [(6, 3), (5, 91)] {
+        if let Some(item) = items.get_mut(number) {
+            item.1.truncate(length);
+        }
+    }
+    let stop = match facts_of(alloc, &with_items(alloc, items)?)? {
+        Ok(_) => panic!(rt; "there are facts"),
+        Err(stop) => stop,
+    };
+    let fault = TreeFault::Record {
+        slot: 0,
+        xid: 1,
+        item: 5,
+        why: RecFault::Length,
+    };
+    assert_eq!(rt; stop, Stop::Found(fault));
+    Ok(())
+}
