@@ -1,0 +1,40 @@
+use Rattle.std.proofs.Common.{◌≡◌, ℕ, List, Option, Some, Ok, Err, ap, sym, ◌∙◌, subst}
+use Rattle.fs_record.specs.declared.inode_view.StreamSize.{StreamSize}
+use Rattle.file_extent.specs.Streams.{Opened, stream_bytes, extents_for}
+use Rattle.vol_view.specs.Views.{view_flat}
+use Rattle.view_rules.specs.Facts.{Facts}
+use Rattle.view_rules.specs.Rules.{view_facts}
+use Rattle.path_walk.specs.Places.{Place}
+use Rattle.path_walk.specs.Found.{found}
+use Rattle.path_read.specs.Contents.{stream_in, contents, readable}
+use Rattle.path_read.specs.Written.{opened_bytes}
+use Rattle.path_read.proofs.Laws.{same_stream}
+use Rattle.path_walk.proofs.Known.{given_on, unanswered_given}
+use Rattle.path_read.proofs.Givens.{contents_lost, contents_stream}
+use Rattle.path_read.proofs.contents.open.Goals as goal
+
+pub returns-in-Err-clause-exact : goal.returns-in-Err-clause-exact
+returns-in-Err-clause-exact g c = λ image told lawful.
+    let facts : Facts = view_facts image c.args.site.now c.args.volume.now c.args.view.now in
+    given_on (λ (p : Place). p) (found facts c.args.path.now) (opened_bytes image) (contents c.args.site.now.block_size image facts c.args.path.now) c.in-Err.stop
+    (λ a e. contents_lost c.args.site.now.block_size image facts c.args.path.now a e) (c.in-Err.ensures.exact image told lawful)
+
+pub returns-in-Ok-open_stream-clause-exact : goal.returns-in-Ok-open_stream-clause-exact
+returns-in-Ok-open_stream-clause-exact g c = λ image told lawful.
+    let facts : Facts = view_facts image c.args.site.now c.args.volume.now c.args.view.now in
+    let bs = c.args.site.now.block_size in
+    let flat = view_flat image c.args.site.now c.args.volume.now c.args.view.now in
+    let size = c.in-Some-stream.stream.size in
+    let inode = c.place.inside.inode in
+    let place : Place = record { id = c.place.inside.id; name = c.place.inside.name; inode = inode } in
+    let there : found facts c.args.path.now ≡ Ok place = c.in-Ok.ensures.exact image told lawful ∙ ap (λ (p : Place). Ok p) (sym c.place.view_is) in
+    let opened = c.in-Ok-open_stream.ensures.opened image (c.in-Ok.ensures.kept.same_bytes ∙ told) lawful.rules.ordered in
+    contents_stream bs image facts c.args.path.now place c.in-Some-stream.stream there c.in-None.ensures (sym c.in-Some-stream.ensures)
+    ∙ ap (λ (n : ℕ). Ok (stream_in bs image facts n size)) (sym c.private_id.ensures)
+    ∙ ap (λ (l : List ℕ). Ok l) (same_stream bs image c.args.volume.now.names flat c.private_id.result size)
+    ∙ ap (λ (o : Opened). Ok (stream_bytes o.site.block_size image o.extents o.size)) (sym opened.same)
+
+pub returns-clause-exact : goal.returns-clause-exact
+returns-clause-exact g c = λ image told lawful.
+    unanswered_given image c.args.site.now c.args.volume.now c.args.view.now (opened_bytes image) (contents c.args.site.now.block_size image (view_facts image c.args.site.now c.args.volume.now c.args.view.now) c.args.path.now) c.in-Err-open_stream.stop lawful
+    (c.in-Err-open_stream.ensures.present image (c.in-Ok.ensures.kept.same_bytes ∙ told)) c.in-Err-open_stream.ensures.unanswered
