@@ -74,15 +74,7 @@ fn open<S: BlockSource>(
         Some(stream) => stream.size,
         None => return Ok(None),
     };
-    match open_stream(
-        alloc,
-        src,
-        volume,
-        view,
-        site,
-        inode.private_id(),
-        size,
-    ) {
+    match open_stream(alloc, src, volume, view, site, inode.private_id(), size) {
         Ok(stream) => Ok(Some(stream)),
         Err(stop) => Err(stop),
     }

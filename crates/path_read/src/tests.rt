@@ -90,11 +90,22 @@ fn a_file_is_written(rt: HostRuntime) -> Result<(), Fail> {
     let mut src = made(alloc)?;
     let (volume, view, site) = open(alloc, &mut src)?;
     let mut out = MemSink::new(alloc, 100, Vec::new(alloc))?;
-    let end = cat(alloc, &mut src, &volume, &view, &site, "/hello.txt", &mut out);
+    let end = cat(
+        alloc,
+        &mut src,
+        &volume,
+        &view,
+        &site,
+        "/hello.txt",
+        &mut out,
+    );
     assert_eq!(rt; end, Ok(()));
     assert_eq!(rt; out.contents(), b"hello".as_slice());
     let end = cat(alloc, &mut src, &volume, &view, &site, "/l", &mut out);
-    assert_eq!(rt; end, Err(WriteStop::Stopped(Stop::Found(PathStop::Answer(Answer::NotFile)))));
+    assert_eq!(rt;
+        end,
+        Err(WriteStop::Stopped(Stop::Found(PathStop::Answer(Answer::NotFile))))
+    );
     Ok(())
 }
 
@@ -132,7 +143,10 @@ fn an_attribute_is_written(rt: HostRuntime) -> Result<(), Fail> {
     assert_eq!(rt; end, Ok(()));
     assert_eq!(rt; bytes.as_slice(), b"hel".as_slice());
     let (end, bytes) = written(alloc, "com.apple.fs.symlin")?;
-    assert_eq!(rt; end, Err(WriteStop::Stopped(Stop::Found(PathStop::Answer(Answer::NoAttribute)))));
+    assert_eq!(rt;
+        end,
+        Err(WriteStop::Stopped(Stop::Found(PathStop::Answer(Answer::NoAttribute))))
+    );
     assert_eq!(rt; bytes.len(), 0);
     Ok(())
 }

@@ -14,7 +14,7 @@ returns-in-Ok-find_attributes-clause-found g c image told ordered =
     let here = c.in-Ok-find_attributes.ensures.found image (c.in-Ok.ensures.kept.same_bytes ∙ told) (c.in-Ok.ensures.within image told)
     (ordered_at g.K.TreeKey.shape (tree_of c.in-Ok.cursor image) tree (root_of c.in-Ok.cursor) c.args.view.now.root_oid (c.in-Ok.ensures.tree image) c.in-Ok.ensures.root ordered) in
     let same = flat_at (tree_of c.in-Ok.cursor image) tree (root_of c.in-Ok.cursor) c.args.view.now.root_oid (c.in-Ok.ensures.tree image) c.in-Ok.ensures.root in
-    subst (λ (ps : List Pair). IfSome c.in-Ok-find_attributes.run (λ v. v.items ≡ all_for c.args.id (attributes_of ps))) same here
+    subst (λ (ps : List Pair). IfSome c.in-Ok-find_attributes.run' (λ v. v.items ≡ all_for c.args.id (attributes_of ps))) same here
 
 pub returns-in-Ok-find_attributes-clause-refused : goal.returns-in-Ok-find_attributes-clause-refused
 returns-in-Ok-find_attributes-clause-refused g c image told none =

@@ -1,5 +1,5 @@
 use Rattle.std.proofs.Common.{◌≡◌, ℕ, List, Option, Some, Ok, Err, ap, sym, ◌∙◌, subst}
-use Rattle.fs_record.specs.declared.inode_view.StreamSize.{StreamSize}
+use Rattle.fs_record.specs.Inodes.{Inode}
 use Rattle.file_extent.specs.Streams.{Opened, stream_bytes, extents_for}
 use Rattle.vol_view.specs.Views.{view_flat}
 use Rattle.view_rules.specs.Facts.{Facts}
@@ -25,12 +25,13 @@ returns-in-Ok-open_stream-clause-exact g c = λ image told lawful.
     let bs = c.args.site.now.block_size in
     let flat = view_flat image c.args.site.now c.args.volume.now c.args.view.now in
     let size = c.in-Some-stream.stream.size in
-    let inode = c.place.inside.inode in
-    let place : Place = record { id = c.place.inside.id; name = c.place.inside.name; inode = inode } in
-    let there : found facts c.args.path.now ≡ Ok place = c.in-Ok.ensures.exact image told lawful ∙ ap (λ (p : Place). Ok p) (sym c.place.view_is) in
+    let place : Place = c.in-Ok.place in
+    let inode : Inode = c.inode.result.now in
+    let is : inode ≡ place.inode = c.inode.ensures in
+    let there : found facts c.args.path.now ≡ Ok place = c.in-Ok.ensures.exact image told lawful in
     let opened = c.in-Ok-open_stream.ensures.opened image (c.in-Ok.ensures.kept.same_bytes ∙ told) lawful.rules.ordered in
-    contents_stream bs image facts c.args.path.now place c.in-Some-stream.stream there c.in-None.ensures (sym c.in-Some-stream.ensures)
-    ∙ ap (λ (n : ℕ). Ok (stream_in bs image facts n size)) (sym c.private_id.ensures)
+    contents_stream bs image facts c.args.path.now place c.in-Some-stream.stream there (subst (λ (i : Inode). readable i ≡ Ok i) is c.in-None.ensures) (ap (λ (i : Inode). i.stream) (sym is) ∙ sym c.in-Some-stream.ensures)
+    ∙ ap (λ (n : ℕ). Ok (stream_in bs image facts n size)) (sym (c.private_id.ensures ∙ ap (λ (i : Inode). i.private_id) is))
     ∙ ap (λ (l : List ℕ). Ok l) (same_stream bs image c.args.volume.now.names flat c.private_id.result size)
     ∙ ap (λ (o : Opened). Ok (stream_bytes o.site.block_size image o.extents o.size)) (sym opened.same)
 
