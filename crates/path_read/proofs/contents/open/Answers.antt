@@ -26,8 +26,8 @@ returns-in-Ok-open_stream-clause-exact g c = λ image told lawful.
     let flat = view_flat image c.args.site.now c.args.volume.now c.args.view.now in
     let size = c.in-Some-stream.stream.size in
     let place : Place = c.in-Ok.place in
-    let inode : Inode = c.inode.result.now in
-    let is : inode ≡ place.inode = c.inode.ensures in
+    let inode : Inode = c.inode-inode.result.now in
+    let is : inode ≡ place.inode = c.inode-inode.ensures in
     let there : found facts c.args.path.now ≡ Ok place = c.in-Ok.ensures.exact image told lawful in
     let opened = c.in-Ok-open_stream.ensures.opened image (c.in-Ok.ensures.kept.same_bytes ∙ told) lawful.rules.ordered in
     contents_stream bs image facts c.args.path.now place c.in-Some-stream.stream there (subst (λ (i : Inode). readable i ≡ Ok i) is c.in-None.ensures) (ap (λ (i : Inode). i.stream) (sym is) ∙ sym c.in-Some-stream.ensures)
