@@ -1,4 +1,4 @@
-use Rattle.std.proofs.Common.{◌≡◌, ◌∙◌, ℕ, List, Ok, ap, sym}
+use Rattle.std.proofs.Common.{◌≡◌, ◌∙◌, ℕ, List, Ok, ap, sym, Vec, Global}
 use Rattle.fs_record.specs.Attributes.{Attribute}
 use Rattle.view_rules.specs.Facts.{Facts}
 use Rattle.view_rules.specs.Rules.{view_facts}
@@ -11,11 +11,11 @@ use Rattle.path_read.proofs.attributes.attrs.Goals as goal
 pub returns-in-Err-clause-exact : goal.returns-in-Err-clause-exact
 returns-in-Err-clause-exact g c = λ image told lawful.
     let facts : Facts = view_facts image c.args.site.now c.args.volume.now c.args.view.now in
-    given_on (λ v. v.items) (attributes_at facts c.args.path.now) (λ v. v.items) (attributes facts c.args.path.now) c.in-Err.stop
+    given_on (λ (v : Vec Attribute Global). v.items) (attributes_at facts c.args.path.now) (λ (v : Vec (List ℕ × ℕ) Global). v.items) (attributes facts c.args.path.now) c.in-Err.stop
     (attributes_lost facts c.args.path.now) (c.in-Err.ensures.exact image told lawful)
 
-pub returns-in_ok-listed-clause-exact : goal.returns-in_ok-listed-clause-exact
-returns-in_ok-listed-clause-exact g c = λ image told lawful.
+pub returns-clause-exact : goal.returns-clause-exact
+returns-clause-exact g c = λ image told lawful.
     let facts : Facts = view_facts image c.args.site.now c.args.volume.now c.args.view.now in
     attributes_given facts c.args.path.now c.in-Ok.attributes.items (c.in-Ok.ensures.exact image told lawful)
     ∙ ap (λ (l : List (List ℕ × ℕ)). Ok l) (sym c.in_ok-listed.ensures)

@@ -1,4 +1,4 @@
-use Rattle.std.proofs.Common.{◌≡◌, ◌∙◌, ℕ, List, ap}
+use Rattle.std.proofs.Common.{◌≡◌, ◌∙◌, ℕ, List, ap, Vec, Global}
 use Rattle.fs_record.specs.Attributes.{Attribute}
 use Rattle.fs_record.specs.Facts.{all_for}
 use Rattle.view_rules.specs.Facts.{Facts}
@@ -13,7 +13,7 @@ use Rattle.path_read.proofs.attributes.gathered.Goals as goal
 pub returns-in-Err-clause-exact : goal.returns-in-Err-clause-exact
 returns-in-Err-clause-exact g c = λ image told lawful.
     let facts : Facts = view_facts image c.args.site.now c.args.volume.now c.args.view.now in
-    given_on (λ (p : Place). p) (found facts c.args.path.now) (λ v. v.items) (attributes_at facts c.args.path.now) c.in-Err.stop
+    given_on (λ (p : Place). p) (found facts c.args.path.now) (λ (v : Vec Attribute Global). v.items) (attributes_at facts c.args.path.now) c.in-Err.stop
     (gathered_lost facts c.args.path.now) (c.in-Err.ensures.exact image told lawful)
 
 pub returns-in-Ok-attributes_for-clause-exact : goal.returns-in-Ok-attributes_for-clause-exact
@@ -24,5 +24,5 @@ returns-in-Ok-attributes_for-clause-exact g c = λ image told lawful.
 
 pub returns-clause-exact : goal.returns-clause-exact
 returns-clause-exact g c = λ image told lawful.
-    unanswered_given image c.args.site.now c.args.volume.now c.args.view.now (λ v. v.items) (attributes_at (view_facts image c.args.site.now c.args.volume.now c.args.view.now) c.args.path.now) c.in-Err-attributes_for.stop lawful
+    unanswered_given image c.args.site.now c.args.volume.now c.args.view.now (λ (v : Vec Attribute Global). v.items) (attributes_at (view_facts image c.args.site.now c.args.volume.now c.args.view.now) c.args.path.now) c.in-Err-attributes_for.stop lawful
     (c.in-Err-attributes_for.ensures.present image (c.in-Ok.ensures.kept.same_bytes ∙ told)) c.in-Err-attributes_for.ensures.unanswered

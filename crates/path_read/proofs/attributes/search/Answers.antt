@@ -10,7 +10,7 @@ use Rattle.path_read.proofs.attributes.search.Goals as goal
 pub returns-in-Ok-clause-found : goal.returns-in-Ok-clause-found
 returns-in-Ok-clause-found g c image told ordered =
     let e : are_hashed c.args.volume.now.names ≡ true = search rules in
-    subst (λ (ps : List Pair). IfSome c.in-Ok.run (λ v. v.items ≡ all_for c.args.id (attributes_of ps))) (sym (hashed_flat image c.args.site.now c.args.volume.now c.args.view.now e))
+    subst (λ (ps : List Pair). IfSome c.in-Ok.run' (λ v. v.items ≡ all_for c.args.id (attributes_of ps))) (sym (hashed_flat image c.args.site.now c.args.volume.now c.args.view.now e))
     (c.in-Ok.ensures.found image told (hashed_ordered image c.args.site.now c.args.volume.now c.args.view.now e ordered))
 
 pub returns-in-Ok-clause-refused : goal.returns-in-Ok-clause-refused
@@ -21,7 +21,7 @@ returns-in-Ok-clause-refused g c image told none =
 pub returns-in-Ok-search_by-clause-found : goal.returns-in-Ok-search_by-clause-found
 returns-in-Ok-search_by-clause-found g c image told ordered =
     let e : are_hashed c.args.volume.now.names ≡ false = search rules in
-    subst (λ (ps : List Pair). IfSome c.in-Ok-search_by.run (λ v. v.items ≡ all_for c.args.id (attributes_of ps))) (sym (plain_flat image c.args.site.now c.args.volume.now c.args.view.now e))
+    subst (λ (ps : List Pair). IfSome c.in-Ok-search_by.run' (λ v. v.items ≡ all_for c.args.id (attributes_of ps))) (sym (plain_flat image c.args.site.now c.args.volume.now c.args.view.now e))
     (c.in-Ok-search_by.ensures.found image told (plain_ordered image c.args.site.now c.args.volume.now c.args.view.now e ordered))
 
 pub returns-in-Ok-search_by-clause-refused : goal.returns-in-Ok-search_by-clause-refused
