@@ -2,46 +2,41 @@
 use Rattle.std.proofs.Common.{◌≡◌, ℕ, ◌*◌, true, false, List, [], ◌∷◌, Some, None, Result, Ok, Err, inr, refl, ap, ap₂, arith, cond}
 use Rattle.std.specs.Prelude.{codes, pos, ◌++◌, bytes_eq}
 use Rattle.std.specs.Fmt.{digits}
-use Rattle.apfs_model.specs.Blocks.{block_of}
 use Rattle.fs_name.specs.Normal.{is_same_name}
 use Rattle.fs_name.specs.declared.naming.Names.TheVariants.{Exact, Folded}
 use Rattle.fs_name.proofs.NormalLemmas.{ascii_normal_form}
 use Rattle.fs_record.specs.Inodes.{Inode}
 use Rattle.fs_record.specs.Entries.{Entry}
 use Rattle.fs_record.specs.Attributes.{Body, Attribute}
-use Rattle.fs_record.specs.Attributes.Body.{Embedded, Streamed}
 use Rattle.fs_record.specs.Facts.{Fact}
 use Rattle.fs_record.specs.declared.extents.FileExt.{FileExt}
-use Rattle.file_extent.specs.Streams.{stream_bytes, byte_of, byte_in}
 use Rattle.view_rules.specs.Facts.{Facts}
 use Rattle.path_walk.specs.Paths.{components}
 use Rattle.path_walk.specs.Places.{Place, placed, root_name}
 use Rattle.path_walk.specs.Found.{entries_in, entry_named, found}
 use Rattle.path_walk.specs.Listing.{children, listing}
 use Rattle.path_walk.specs.Tree.{rows_under, rows_below, tree}
-use Rattle.path_walk.specs.Contents.{readable, contents}
-use Rattle.path_walk.specs.Attributes.{attributes_in, attribute_named, attributes, attribute}
-use Rattle.path_walk.specs.Texts.{kind_text, ls_text, tree_text, xattr_text}
+use Rattle.path_walk.specs.Texts.{kind_text, ls_text, tree_text}
 use Rattle.path_walk.specs.Met.{Spot, spot_in, number_named, taken, own, below, IsMetTwice}
 use Rattle.path_walk.specs.declared.answer.Answer.{Answer}
-use Rattle.path_walk.specs.declared.answer.Answer.TheVariants.{NotFound, NotDirectory, NotFile, Compressed, Dataless, NoAttribute}
+use Rattle.path_walk.specs.declared.answer.Answer.TheVariants.{NotFound, NotDirectory}
 use Rattle.view_rules.proofs.HashExamples.{ascii-by}
 
 -- ---- facts
-abbrev inode : ℕ → ℕ → ℕ → Fact Inode
+abbrev pub inode : ℕ → ℕ → ℕ → Fact Inode
 inode id kind flags = record { id = id; what = record { parent = 2; private_id = id; links = pos 1; bsd_flags = flags; mode = 4096 * kind; stream = None } }
 
 -- a file with a stream of a size, whose private id is another
-abbrev file : ℕ → ℕ → ℕ → ℕ → Fact Inode
+abbrev pub file : ℕ → ℕ → ℕ → ℕ → Fact Inode
 file id private size flags = record { id = id; what = record { parent = 2; private_id = private; links = pos 1; bsd_flags = flags; mode = 4096 * 8; stream = Some (record { size = size; allocated = 4096 }) } }
 
-abbrev entry : ℕ → List ℕ → ℕ → Fact Entry
+abbrev pub entry : ℕ → List ℕ → ℕ → Fact Entry
 entry id name file_id = record { id = id; what = record { name = name; hash = 0; file_id = file_id; kind = 8; sibling = None } }
 
-abbrev held : ℕ → List ℕ → Body → Fact Attribute
+abbrev pub held : ℕ → List ℕ → Body → Fact Attribute
 held id name body = record { id = id; what = record { name = name; body = body } }
 
-abbrev extent : ℕ → ℕ → ℕ → ℕ → Fact FileExt
+abbrev pub extent : ℕ → ℕ → ℕ → ℕ → Fact FileExt
 extent id logical len block = record { id = id; what = record { logical = logical; length = len; block = block } }
 
 -- the two directories and the two entries that each view has
@@ -51,14 +46,14 @@ base_inodes = inode 2 4 0 ∷ inode 3 4 0 ∷ []
 abbrev base_entries : List (Fact Entry)
 base_entries = entry 1 (codes "private-dir") 3 ∷ entry 1 (codes "root") 2 ∷ []
 
-abbrev view : List (Fact Inode) → List (Fact Entry) → List (Fact Attribute) → List (Fact FileExt) → Facts
+abbrev pub view : List (Fact Inode) → List (Fact Entry) → List (Fact Attribute) → List (Fact FileExt) → Facts
 view inodes entries held_by extents = record { names = Exact; inodes = base_inodes ++ inodes; entries = base_entries ++ entries; attributes = held_by; links = []; siblings = []; extents = extents }
 
-abbrev files : List (Fact Inode) → List (Fact Entry) → Facts
+abbrev pub files : List (Fact Inode) → List (Fact Entry) → Facts
 files inodes entries = view inodes entries [] []
 
 -- what a command writes
-abbrev written : {X : Type 0} → (X → List ℕ) → Result X Answer → Result (List ℕ) Answer
+abbrev pub written : {X : Type 0} → (X → List ℕ) → Result X Answer → Result (List ℕ) Answer
 written text (Ok x) = Ok (text x)
 written text (Err a) = Err a
 
@@ -99,7 +94,7 @@ unfolding components entries_in entry_named found children kind_text digits
 nothing_there = refl
 
 -- one file, by an empty path and by its own; a name that isn't there; a file that is no directory
-abbrev hello : Facts
+abbrev pub hello : Facts
 hello = view (file 16 20 5 0 ∷ []) (entry 2 (codes "hello.txt") 16 ∷ []) [] (extent 20 0 8 1 ∷ [])
 
 by_nothing : ls hello [] ≡ Ok (codes "- 16 5 hello.txt\n")
@@ -216,62 +211,7 @@ unfolding entry_named
 by_form = let us : Entry = (entry 2 (codes "ReadUs") 17).what in let me : Entry = (entry 2 (codes "ReadMe") 16).what in
     ap₂ (λ b c. cond b (Some us) (cond c (Some me) None)) read_us read_me
 
--- ---- contents, of an image with blocks of 4 bytes
-abbrev image : List ℕ
-image = 0 ∷ 0 ∷ 0 ∷ 0 ∷ codes "hello..."
-
-read : contents 4 image hello (codes "/hello.txt") ≡ Ok (codes "hello")
-unfolding components entries_in entry_named found readable stream_bytes byte_of byte_in block_of
-read = refl
-
-root_is_no_file : contents 4 image hello (codes "/") ≡ Err NotFile
-unfolding components entries_in entry_named found readable
-root_is_no_file = refl
-
-abbrev flagged : ℕ → ℕ → Facts
-flagged kind flags = files (inode 16 kind flags ∷ []) (entry 2 (codes "f") 16 ∷ [])
-
-no_stream : contents 4 image (flagged 8 0) (codes "f") ≡ Ok []
-unfolding components entries_in entry_named found readable
-no_stream = refl
-
-compressed_first : contents 4 image (flagged 8 0x40000020) (codes "f") ≡ Err Compressed
-unfolding components entries_in entry_named found readable
-compressed_first = refl
-
-dataless : contents 4 image (flagged 8 0x40000000) (codes "f") ≡ Err Dataless
-unfolding components entries_in entry_named found readable
-dataless = refl
-
-not_file_first : contents 4 image (flagged 10 0x40000020) (codes "f") ≡ Err NotFile
-unfolding components entries_in entry_named found readable
-not_file_first = refl
-
--- ---- attributes
-abbrev link : Facts
-link = view (inode 16 10 0 ∷ []) (entry 2 (codes "l") 16 ∷ [])
-    (held 16 (codes "com.apple.fs.symlink") (Embedded (codes "hello" ++ 0 ∷ [])) ∷ held 16 (codes "b") (Streamed 20 3) ∷ held 17 (codes "x") (Embedded []) ∷ []) (extent 20 0 4 1 ∷ [])
-
-lengths : written xattr_text (attributes link (codes "/l")) ≡ Ok (codes "3 b\n6 com.apple.fs.symlink\n")
-unfolding components entries_in entry_named found attributes_in digits
-lengths = refl
-
-embedded : attribute 4 image link (codes "/l") (codes "com.apple.fs.symlink") ≡ Ok (codes "hello" ++ 0 ∷ [])
-unfolding components entries_in entry_named found attribute_named
-embedded = refl
-
-streamed : attribute 4 image link (codes "/l") (codes "b") ≡ Ok (codes "hel")
-unfolding components entries_in entry_named found attribute_named stream_bytes byte_of byte_in block_of
-streamed = refl
-
-of_another_file : attribute 4 image link (codes "/l") (codes "x") ≡ Err NoAttribute
-unfolding components entries_in entry_named found attribute_named
-of_another_file = refl
-
-link_is_no_file : contents 4 image link (codes "/l") ≡ Err NotFile
-unfolding components entries_in entry_named found readable
-link_is_no_file = refl
-
-link_line : ls link (codes "/l") ≡ Ok (codes "l 16 0 l\n")
+-- a symbolic link
+link_line : ls (files (inode 16 10 0 ∷ []) (entry 2 (codes "l") 16 ∷ [])) (codes "/l") ≡ Ok (codes "l 16 0 l\n")
 unfolding components entries_in entry_named found children kind_text digits
 link_line = refl

@@ -32,8 +32,8 @@ use Rattle.view_rules.proofs.Law.{refutes, featureless_rules}
 use Rattle.path_walk.specs.Paths.{is_component, parts_of, components}
 use Rattle.path_walk.specs.Places.{Place, placed, place_of, root_of, root_name, target_of}
 use Rattle.path_walk.specs.Found.{entries_in, entry_named, place_by, followed, step, walk, found, target_found}
-use Rattle.path_walk.specs.Stops.{IsTold, IsLawful, IsPathFault, IsGiven, IsPathStop, IsStopThere}
-use Rattle.path_walk.specs.Parts.{by_part, along, rooted, of_walk, IsLack, IsKnown, IsPlaceKnown, IsRefusal, IsSurveyed, IsNoAnswer, HasEntries, lacking_entry, target_by, targets_by}
+use Rattle.path_walk.specs.Stops.{IsTold, IsLawful, IsPathFault, IsGiven, IsPathStop, IsStopThere, of_walk, IsNoAnswer}
+use Rattle.path_walk.specs.Parts.{by_part, along, rooted, IsLack, IsKnown, IsPlaceKnown, IsRefusal, IsSurveyed, HasEntries, lacking_entry, target_by, targets_by}
 use Rattle.path_walk.specs.declared.answer.Answer.{Answer}
 use Rattle.path_walk.specs.declared.answer.Answer.TheVariants.{NotFound, NotDirectory}
 use Rattle.path_walk.specs.declared.stop.PathStop.{PathStop}

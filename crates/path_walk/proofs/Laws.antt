@@ -11,10 +11,7 @@ use Rattle.bt_node.specs.Entries.{Pair}
 use Rattle.fs_name.specs.declared.naming.Names.{Names}
 use Rattle.fs_record.specs.Inodes.{Inode, inode_kind}
 use Rattle.fs_record.specs.Entries.{Entry}
-use Rattle.fs_record.specs.Attributes.{Attribute}
 use Rattle.fs_record.specs.Facts.{Fact, is_reserved, root_id, first_user_id, regular_kind}
-use Rattle.apfs_model.specs.Bytes.{has_flag}
-use Rattle.file_extent.specs.Streams.{extents_for, stream_bytes}
 use Rattle.view_rules.specs.Facts.{Facts, facts_in, inode_at, has_inode, is_directory, has_directory, does_count, names_file, entry_count, entry_count_in}
 use Rattle.view_rules.specs.Names.{is_entry_at, is_entry_repeated, HasDistinctEntries}
 use Rattle.view_rules.specs.Entries.{lacks_inode, HasFiles, has_root}
@@ -26,11 +23,9 @@ use Rattle.path_walk.specs.Places.{Place, placed, root_of, root_name, target_of}
 use Rattle.path_walk.specs.Found.{entries_in, has_name, has_form, entry_named, place_by, followed, step, walk, found}
 use Rattle.path_walk.specs.Listing.{children, listed, listing}
 use Rattle.path_walk.specs.Tree.{tree}
-use Rattle.path_walk.specs.Contents.{stream_in, readable, contents, compressed_flag, dataless_flag}
-use Rattle.path_walk.specs.Attributes.{attributes, held_by, attribute_named, attribute}
 use Rattle.path_walk.specs.Met.{Spot, spot_in, number_named, IsMetTwice}
 use Rattle.path_walk.specs.declared.answer.Answer.{Answer}
-use Rattle.path_walk.specs.declared.answer.Answer.TheVariants.{NotFound, NotDirectory, NotFile, Compressed, Dataless, NoAttribute}
+use Rattle.path_walk.specs.declared.answer.Answer.TheVariants.{NotFound, NotDirectory}
 use Rattle.path_walk.specs.declared.target.Target.{Target}
 use Rattle.apfs_model.proofs.BoolTests.{both-true, left-true, right-true, false-not, not-false, clash, never-true}
 use Rattle.path_walk.proofs.Tallies.{tally, tally-is, tally-cons, tally-in, tally-all, tally-apart, tally-by}
@@ -96,9 +91,9 @@ abbrev pub IsPathAnswer : Answer → Type 0
 IsPathAnswer a = (a ≡ NotFound) ⊎ (a ≡ NotDirectory)
 
 -- an answer of two steps is one of the first, or one of the second
-answers-then : {T U : Type 0} (P : Answer → Type 0) (r : Result T Answer) (next : T → Result U Answer) → ((a : Answer) → r ≡ Err a → P a) → ((x : T) (a : Answer) → next x ≡ Err a → P a) → (a : Answer) → and_then r next ≡ Err a → P a
-answers-then P (Ok x) next f g a e = g x a e
-answers-then P (Err b) next f g a e = subst P (err-same b a e) (f b refl)
+pub answers_then : {T U : Type 0} (P : Answer → Type 0) (r : Result T Answer) (next : T → Result U Answer) → ((a : Answer) → r ≡ Err a → P a) → ((x : T) (a : Answer) → next x ≡ Err a → P a) → (a : Answer) → and_then r next ≡ Err a → P a
+answers_then P (Ok x) next f g a e = g x a e
+answers_then P (Err b) next f g a e = subst P (err-same b a e) (f b refl)
 
 lacking : {T : Type 0} (o : Option T) (a : Answer) → ok_or o NotFound ≡ Err a → IsPathAnswer a
 lacking None a e = inl (sym (err-same NotFound a e))
@@ -119,62 +114,18 @@ step-answers facts place name a e =
 
 walk-answers : (facts : Facts) (names : List (List ℕ)) (place : Place) (a : Answer) → walk facts names place ≡ Err a → IsPathAnswer a
 walk-answers facts [] place a e = absurd (ok-err place a e)
-walk-answers facts (name ∷ names) place a e = answers-then IsPathAnswer (step facts place name) (λ next. walk facts names next) (step-answers facts place name) (λ next b h. walk-answers facts names next b h) a e
+walk-answers facts (name ∷ names) place a e = answers_then IsPathAnswer (step facts place name) (λ next. walk facts names next) (step-answers facts place name) (λ next b h. walk-answers facts names next b h) a e
 
 pub found_answers : (facts : Facts) (path : List ℕ) (a : Answer) → found facts path ≡ Err a → IsPathAnswer a
 unfolding found
-found_answers facts path a e = answers-then IsPathAnswer (ok_or (root_of facts) NotFound) (λ root. walk facts (components path) root) (λ b h. lacking (root_of facts) b h) (λ root b h. walk-answers facts (components path) root b h) a e
+found_answers facts path a e = answers_then IsPathAnswer (ok_or (root_of facts) NotFound) (λ root. walk facts (components path) root) (λ b h. lacking (root_of facts) b h) (λ root b h. walk-answers facts (components path) root b h) a e
 
--- what is answered of a listing, of a tree and of attributes is answered of the path
+-- what is answered of a listing and of a tree is answered of the path
 pub listing_answers : (facts : Facts) (path : List ℕ) (a : Answer) → listing facts path ≡ Err a → IsPathAnswer a
-listing_answers facts path a e = answers-then IsPathAnswer (found facts path) _ (found_answers facts path) (λ place b h. absurd (ok-err _ b h)) a e
+listing_answers facts path a e = answers_then IsPathAnswer (found facts path) _ (found_answers facts path) (λ place b h. absurd (ok-err _ b h)) a e
 
 pub tree_answers : (facts : Facts) (path : List ℕ) (a : Answer) → tree facts path ≡ Err a → IsPathAnswer a
-tree_answers facts path a e = answers-then IsPathAnswer (found facts path) _ (found_answers facts path) (λ place b h. absurd (ok-err _ b h)) a e
-
-pub attributes_answers : (facts : Facts) (path : List ℕ) (a : Answer) → attributes facts path ≡ Err a → IsPathAnswer a
-attributes_answers facts path a e = answers-then IsPathAnswer (found facts path) _ (found_answers facts path) (λ place b h. absurd (ok-err _ b h)) a e
-
--- the answers of contents
-abbrev pub IsFileAnswer : Answer → Type 0
-IsFileAnswer a = IsPathAnswer a ⊎ ((a ≡ NotFile) ⊎ ((a ≡ Compressed) ⊎ (a ≡ Dataless)))
-
-readable-answers : (inode : Inode) (a : Answer) → readable inode ≡ Err a → IsFileAnswer a
-unfolding readable
-readable-answers inode a e =
-    let ends : (b : Bool) → cond b (Err Dataless) (Ok inode) ≡ Err a → IsFileAnswer a = λ b. elim b as (λ b. cond b (Err Dataless) (Ok inode) ≡ Err a → IsFileAnswer a) [
-      | true ↦ λ h. inr (inr (inr (sym (err-same Dataless a h))))
-      | false ↦ λ h. absurd (ok-err inode a h)
-    ] in
-    let last : Result Inode Answer = cond (has_flag inode.bsd_flags dataless_flag) (Err Dataless) (Ok inode) in
-    let then : (b : Bool) → cond b (Err Compressed) last ≡ Err a → IsFileAnswer a = λ b. elim b as (λ b. cond b (Err Compressed) last ≡ Err a → IsFileAnswer a) [
-      | true ↦ λ h. inr (inr (inl (sym (err-same Compressed a h))))
-      | false ↦ λ h. ends (has_flag inode.bsd_flags dataless_flag) h
-    ] in
-    let middle : Result Inode Answer = cond (has_flag inode.bsd_flags compressed_flag) (Err Compressed) last in
-    let first : (b : Bool) → cond b (Err NotFile) middle ≡ Err a → IsFileAnswer a = λ b. elim b as (λ b. cond b (Err NotFile) middle ≡ Err a → IsFileAnswer a) [
-      | true ↦ λ h. inr (inl (sym (err-same NotFile a h)))
-      | false ↦ λ h. then (has_flag inode.bsd_flags compressed_flag) h
-    ] in
-    first (not (inode_kind inode == regular_kind)) e
-
-pub contents_answers : (block_size : ℕ) (image : List ℕ) (facts : Facts) (path : List ℕ) (a : Answer) → contents block_size image facts path ≡ Err a → IsFileAnswer a
-contents_answers block_size image facts path a e =
-    answers-then IsFileAnswer (found facts path) _ (λ b h. inl (found_answers facts path b h))
-    (λ place b h. answers-then IsFileAnswer (readable place.inode) _ (readable-answers place.inode) (λ inode c k. absurd (ok-err _ c k)) b h) a e
-
--- the answers of an attribute
-abbrev pub IsAttributeAnswer : Answer → Type 0
-IsAttributeAnswer a = IsPathAnswer a ⊎ (a ≡ NoAttribute)
-
-held-answers : (block_size : ℕ) (image : List ℕ) (facts : Facts) (o : Option Attribute) (a : Answer) → held_by block_size image facts o ≡ Err a → IsAttributeAnswer a
-held-answers block_size image facts None a e = inr (sym (err-same NoAttribute a e))
-held-answers block_size image facts (Some x) a e = absurd (ok-err _ a e)
-
-pub attribute_answers : (block_size : ℕ) (image : List ℕ) (facts : Facts) (path name : List ℕ) (a : Answer) → attribute block_size image facts path name ≡ Err a → IsAttributeAnswer a
-attribute_answers block_size image facts path name a e =
-    answers-then IsAttributeAnswer (found facts path) _ (λ b h. inl (found_answers facts path b h))
-    (λ place b h. held-answers block_size image facts (attribute_named facts place.id name) b h) a e
+tree_answers facts path a e = answers_then IsPathAnswer (found facts path) _ (found_answers facts path) (λ place b h. absurd (ok-err _ b h)) a e
 
 -- ---- listings
 -- what is listed of a path that leads to no directory is the one target
@@ -322,9 +273,3 @@ never_twice facts clear unnamed path id m = elim (met_twice_is_there facts path 
   | inl b ↦ broken-clear b clear
   | inr t ↦ clash (is_root_named facts) t.1 unnamed
 ]
-
--- ---- contents
--- a stream by the facts of some records is the one by the records
-pub same_stream : (block_size : ℕ) (image : List ℕ) (names : Names) (pairs : List Pair) (id size : ℕ) → stream_in block_size image (facts_in names pairs) id size ≡ stream_bytes block_size image (extents_for id pairs) size
-unfolding extents_for
-same_stream block_size image names pairs id size = refl

@@ -13,8 +13,6 @@ pub mod Rising
 pub mod Known
 pub mod Viewed
 pub mod Listed
-pub mod StreamFaults
-pub mod Givens
 pub mod Told
 pub mod Memos
 pub mod Entered

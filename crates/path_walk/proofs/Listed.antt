@@ -73,15 +73,16 @@ put-map {X} {Y} f name x (y ∷ ys) =
     ] in
     go (is_after name (f x) (f y))
 
-name-map : {X Y : Type 0} (f : X → Y) (name : Y → List ℕ) (xs : List X) → by_name name (map f xs) ≡ map f (by_name (λ x. name (f x)) xs)
-name-map f name [] = refl
-name-map f name (x ∷ xs) = ap (put_in name (f x)) (name-map f name xs) ∙ put-map f name x (by_name (λ x. name (f x)) xs)
+-- a list by name, of what is told of its items
+pub name_map : {X Y : Type 0} (f : X → Y) (name : Y → List ℕ) (xs : List X) → by_name name (map f xs) ≡ map f (by_name (λ x. name (f x)) xs)
+name_map f name [] = refl
+name_map f name (x ∷ xs) = ap (put_in name (f x)) (name_map f name xs) ∙ put-map f name x (by_name (λ x. name (f x)) xs)
 
 -- what a directory has, from what its entries lead to
 pub children_told : (facts : Facts) (id : ℕ) (es : List Entry) (targets sorted : List Target) → es ≡ entries_in facts id → targets ≡ targets_by facts es → sorted ≡ by_name (λ (t : Target). t.name) targets → sorted ≡ map target_of (children facts id)
 unfolding children
 children_told facts id es targets sorted e f g =
-    g ∙ (ap (by_name (λ (t : Target). t.name)) (f ∙ (ap (targets_by facts) e ∙ given-map target_of (place_by facts) (entries_in facts id))) ∙ name-map target_of (λ (t : Target). t.name) (filter_map (place_by facts) (entries_in facts id)))
+    g ∙ (ap (by_name (λ (t : Target). t.name)) (f ∙ (ap (targets_by facts) e ∙ given-map target_of (place_by facts) (entries_in facts id))) ∙ name_map target_of (λ (t : Target). t.name) (filter_map (place_by facts) (entries_in facts id)))
 
 pub listed_directory : (facts : Facts) (place : Place) (targets : List Target) → is_directory place.inode ≡ true → targets ≡ map target_of (children facts place.id) → targets ≡ map target_of (listed facts place)
 listed_directory facts place targets e f = f ∙ sym (ap (λ b. map target_of (cond b (children facts place.id) (place ∷ []))) e)

@@ -5,10 +5,10 @@ use Rattle.std.specs.List.{cons_option}
 use Rattle.std.proofs.lemmas.Bool.Decides.{Decides-eqb}
 use Rattle.apfs_model.specs.Lists.{In, value_of}
 use Rattle.bt_node.specs.Entries.{Pair}
-use Rattle.bt_keys.specs.RecordKey.{id_of, record_kind_of, entry_record, attribute_record}
+use Rattle.bt_keys.specs.RecordKey.{id_of, record_kind_of, entry_record}
 use Rattle.fs_name.specs.declared.naming.Names.{Names}
 use Rattle.fs_record.specs.Entries.{Entry}
-use Rattle.fs_record.specs.Facts.{Fact, told_by, fact_of, facts_of, all_for, read_entry, read_attribute, entries_of, attributes_of, is_reserved}
+use Rattle.fs_record.specs.Facts.{Fact, told_by, fact_of, facts_of, all_for, read_entry, entries_of, is_reserved}
 use Rattle.fs_record.specs.declared.fault.RecFault.{RecFault}
 use Rattle.view_rules.specs.Facts.{facts_in}
 use Rattle.path_walk.specs.Found.{entries_in}
@@ -55,9 +55,10 @@ none-for {X} kind id read (pair ∷ pairs) n =
     ] in
     go (record_kind_of pair.key == kind) refl
 
-all-run : {X : Type 0} (kind id : ℕ) (read : Pair → Result X RecFault) (before run after : List Pair) → HasNo kind id before → HasNo kind id after →
+-- the facts of an id are those of a run of records, where all of them stand in it
+pub all_run : {X : Type 0} (kind id : ℕ) (read : Pair → Result X RecFault) (before run after : List Pair) → HasNo kind id before → HasNo kind id after →
     all_for id (facts_of kind read (before ++ (run ++ after))) ≡ all_for id (facts_of kind read run)
-all-run {X} kind id read before run after m n =
+all_run {X} kind id read before run after m n =
     ap (all_for id) (given-append (fact_of kind read) before (run ++ after) ∙ ap (λ (l : List (Fact X)). facts_of kind read before ++ l) (given-append (fact_of kind read) run after))
     ∙ (all-append id (facts_of kind read before) (facts_of kind read run ++ facts_of kind read after)
     ∙ (ap₂ (λ (a b : List X). a ++ b) (none-for kind id read before m) (all-append id (facts_of kind read run) (facts_of kind read after))
@@ -67,10 +68,4 @@ all-run {X} kind id read before run after m n =
 pub entries_in_a_run : (names : Names) (id : ℕ) (before run after : List Pair) → HasNo entry_record id before → HasNo entry_record id after →
     entries_in (facts_in names (before ++ (run ++ after))) id ≡ cond (is_reserved id) [] (all_for id (entries_of names run))
 unfolding entries_in entries_of
-entries_in_a_run names id before run after m n = ap (λ (l : List Entry). cond (is_reserved id) [] l) (all-run entry_record id (read_entry names) before run after m n)
-
--- the attributes of a file too
-pub attributes_in_a_run : (id : ℕ) (before run after : List Pair) → HasNo attribute_record id before → HasNo attribute_record id after →
-    all_for id (attributes_of (before ++ (run ++ after))) ≡ all_for id (attributes_of run)
-unfolding attributes_of
-attributes_in_a_run id before run after m n = all-run attribute_record id read_attribute before run after m n
+entries_in_a_run names id before run after m n = ap (λ (l : List Entry). cond (is_reserved id) [] l) (all_run entry_record id (read_entry names) before run after m n)

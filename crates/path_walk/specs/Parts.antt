@@ -31,14 +31,12 @@ use Rattle.vol_view.specs.Views.{view_line}
 use Rattle.vol_view.specs.declared.volume.View.{View}
 use Rattle.view_rules.specs.Facts.{Facts, inode_at, is_directory}
 use Rattle.view_rules.specs.Entries.{IsNoInode, has_root}
-use Rattle.view_rules.specs.Rules as rules
 use Rattle.view_rules.specs.Rules.{HasRecords, IsRecord, view_facts}
 use Rattle.path_walk.specs.Paths.{slash, is_component}
 use Rattle.path_walk.specs.Places.{Place, root_of, target_of}
 use Rattle.path_walk.specs.Found.{entries_in, place_by, step, walk, found}
 use Rattle.path_walk.specs.Listing.{children}
 use Rattle.path_walk.specs.Met.{Spot, spot_in, number_named, taken_from, taken, IsEntryOf, IsEntered, IsMet, IsMetTwice}
-use Rattle.path_walk.specs.Stops.{IsTold}
 use Rattle.path_walk.specs.declared.answer.Answer.{Answer}
 use Rattle.path_walk.specs.declared.answer.Answer.TheVariants.{NotFound}
 use Rattle.path_walk.specs.declared.stop.PathStop.{PathStop}
@@ -100,10 +98,6 @@ abbrev pub Leads : {T U : Type 0} → (T → U) → Result U Answer → Onward T
 Leads shows wanted (To x) = wanted ≡ Ok (shows x)
 Leads shows wanted (Answered a) = wanted ≡ Err a
 Leads shows wanted Lost = Unit {0}
-
--- what a walk names, said of a path
-abbrev pub of_walk : View → WalkFault → PathStop
-of_walk view why = stops.Fault (rules.raised view why)
 
 -- a fault of a view, said of a path
 abbrev pub of_view : TreeFault → PathStop
@@ -204,14 +198,6 @@ target_by facts e = option_map target_of (place_by facts e)
 -- what a directory's entries lead to, as it is told, in record order
 abbrev pub targets_by : Facts → List Entry → List Target
 targets_by facts es = filter_map (target_by facts) es
-
--- a call stops with no answer, and tells nothing of a tree
-abbrev pub IsNoAnswer : Stop PathStop → Type 0
-IsNoAnswer (Found (stops.Answer a)) = ⊥
-IsNoAnswer (Found (stops.Fault fault)) = (facts : Facts) (path : List ℕ) → IsTold facts path fault
-IsNoAnswer (Unsupported feature block) = Unit {0}
-IsNoAnswer ReadFault = Unit {0}
-IsNoAnswer NoMemory = Unit {0}
 
 -- ---- trees, of rows as they are told
 -- a directory that is entered where it is met on the way

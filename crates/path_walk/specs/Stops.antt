@@ -4,6 +4,7 @@ use Rattle.obj_base.specs.Stops.{Tells}
 use Rattle.obj_base.specs.declared.stop.Stop.{Stop}
 use Rattle.obj_base.specs.declared.stop.Stop.TheVariants.{Found, Unsupported, ReadFault, NoMemory}
 use Rattle.obj_base.specs.declared.site.Site.{Site}
+use Rattle.bt_cursor.specs.declared.fault.WalkFault.{WalkFault}
 use Rattle.fs_record.specs.declared.fault.TreeFault.{TreeFault}
 use Rattle.fs_record.specs.declared.fault.TreeFault.TheVariants.{Unsound, Unnamed, Order, Counts, Record, DupName, Hash, NoParent, NoInode, KindMismatch, DirNames, Unreached, Children, Links, SiblingLost, ExtentOrder, ExtentPlace, ExtentUncovered, LinkTarget, Stream, AttrOwner, NameHash}
 use Rattle.vol_view.specs.Volumes.{Loaded}
@@ -11,6 +12,7 @@ use Rattle.vol_view.specs.Views.{IsViewFeature}
 use Rattle.vol_view.specs.declared.volume.View.{View}
 use Rattle.ext_ref.specs.declared.range.NewRange.{NewRange}
 use Rattle.view_rules.specs.Facts.{Facts}
+use Rattle.view_rules.specs.Rules as rules
 use Rattle.view_rules.specs.Rules.{HasTreeRules, IsTreeFault}
 use Rattle.view_rules.specs.declared.profile.Profile.{Profile}
 use Rattle.path_walk.specs.Met.{IsMetTwice}
@@ -70,3 +72,15 @@ IsPathStop image site volume view (stops.Fault fault) = IsPathFault image site v
 -- what stops a call is there, whatever the view: a fault of it, or a feature of one of its nodes
 abbrev pub IsStopThere : List ℕ → Site → Loaded → View → Stop PathStop → Type 0
 IsStopThere image site volume view stop = Tells (IsPathStop image site volume view) (IsViewFeature image site volume view) stop
+
+-- what a walk names, said of a path
+abbrev pub of_walk : View → WalkFault → PathStop
+of_walk view why = stops.Fault (rules.raised view why)
+
+-- a call stops with no answer, and tells nothing of a tree
+abbrev pub IsNoAnswer : Stop PathStop → Type 0
+IsNoAnswer (Found (stops.Answer a)) = ⊥
+IsNoAnswer (Found (stops.Fault fault)) = (facts : Facts) (path : List ℕ) → IsTold facts path fault
+IsNoAnswer (Unsupported feature block) = Unit {0}
+IsNoAnswer ReadFault = Unit {0}
+IsNoAnswer NoMemory = Unit {0}

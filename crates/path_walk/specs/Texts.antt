@@ -1,8 +1,7 @@
--- What the commands `ls`, `tree` and `xattr` write.
+-- What the commands `ls` and `tree` write.
 use Rattle.std.specs.Prelude.{ℕ, ◌++◌, ◌==◌, List, codes, if◌then◌else◌}
 use Rattle.std.specs.Fmt.{decimal}
 use Rattle.std.specs.List.{flat_map}
-use Rattle.fs_name.specs.Shown.{shown_name}
 use Rattle.path_walk.specs.Shown.{shown_at}
 use Rattle.path_walk.specs.declared.target.Target.{Target}
 
@@ -37,11 +36,3 @@ row_text row = line_text row.1 row.0
 -- `tree`: a line for each row
 abbrev pub tree_text : List (List ℕ × Target) → List ℕ
 tree_text rows = flat_map row_text rows
-
--- the line of an attribute: how many bytes it holds, and its shown name
-abbrev pub attribute_text : List ℕ × ℕ → List ℕ
-attribute_text a = decimal a.1 ++ (codes " " ++ (shown_name a.0 ++ codes "\n"))
-
--- `xattr` without a name: a line for each attribute
-abbrev pub xattr_text : List (List ℕ × ℕ) → List ℕ
-xattr_text attributes = flat_map attribute_text attributes

@@ -418,7 +418,7 @@ pub(crate) fn list<K: FsTreeKey, S: BlockSource, N: Namer>(
 }
 
 /// A cursor of a view's tree.
-pub(crate) fn open<'a, K: FsTreeKey, S: BlockSource>(
+pub fn open_view<'a, K: FsTreeKey, S: BlockSource>(
     alloc: Global,
     src: &mut S,
     volume: &'a Volume,

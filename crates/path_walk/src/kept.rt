@@ -76,7 +76,7 @@ impl KeptEntry {
 
 /// An inode.
 #[derive(Debug, Drop)]
-pub(crate) struct KeptInode {
+pub struct KeptInode {
     parent: u64,
     private_id: u64,
     links: i32,
@@ -125,28 +125,28 @@ impl KeptInode {
     }
 
     /// The id of its stream.
-    pub(crate) fn private_id(&self) -> u64
+    pub fn private_id(&self) -> u64
         ensures { result ≡ self.now.private_id }
     {
         self.private_id
     }
 
     /// The BSD flags.
-    pub(crate) fn bsd_flags(&self) -> u32
+    pub fn bsd_flags(&self) -> u32
         ensures { result ≡ self.now.bsd_flags }
     {
         self.bsd_flags
     }
 
     /// The kind of the file.
-    pub(crate) fn kind(&self) -> u16
+    pub fn kind(&self) -> u16
         ensures { result ≡ inodes.inode_kind self.now }
     {
         self.mode / layout::MODE_KIND_UNIT
     }
 
     /// The size of its stream, where it has one.
-    pub(crate) fn stream(&self) -> Option<StreamSize>
+    pub fn stream(&self) -> Option<StreamSize>
         ensures { result ≡ self.now.stream }
     {
         self.stream
@@ -201,7 +201,7 @@ impl InodeAt {
 
 /// What a name leads to: an id, the name, and the inode.
 #[derive(Debug, Drop)]
-pub(crate) struct Place {
+pub struct Place {
     pub(crate) id: u64,
     pub(crate) name: Bytes,
     pub(crate) inode: KeptInode,
@@ -226,6 +226,20 @@ fn size(stream: Option<StreamSize>) -> u64
 }
 
 impl Place {
+    /// The id.
+    pub fn id(&self) -> u64
+        ensures { result ≡ self.now.id }
+    {
+        self.id
+    }
+
+    /// The inode.
+    pub fn inode(&self) -> &KeptInode
+        ensures { result.now ≡ self.now.inode }
+    {
+        &self.inode
+    }
+
     /// The place as it is told.
     pub(crate) fn target(self) -> Target
         ensures { result ≡ spec.target_of self }

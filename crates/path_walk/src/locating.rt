@@ -14,8 +14,8 @@ ghost use Rattle.vol_view.specs.Views.{view_tree, is_view_ordered};
 ghost use Rattle.view_rules.specs.Facts.{facts_in};
 ghost use Rattle.view_rules.specs.Rules.{view_facts};
 ghost use Rattle.path_walk.specs.Found.{found, target_found};
-ghost use Rattle.path_walk.specs.Stops.{IsLawful, IsGiven, IsStopThere};
-ghost use Rattle.path_walk.specs.Parts.{Leads, IsNoAnswer};
+ghost use Rattle.path_walk.specs.Stops.{IsLawful, IsGiven, IsStopThere, IsNoAnswer};
+ghost use Rattle.path_walk.specs.Parts.{Leads};
 
 use crate::kept::Place;
 use crate::onward::Onward;
@@ -44,7 +44,7 @@ fn search_by<K: FsTreeKey, S: BlockSource>(
     ensures cause { IsErrOf result ReadFault → Rose (S.faults src.old) (S.faults src.new) }
     ensures kept { IsKept S.bytes S.bytes_len S.faults src.old src.new }
 {
-    let mut cursor = match by_search::open::<K, S>(alloc, src, volume, view, site) {
+    let mut cursor = match by_search::open_view::<K, S>(alloc, src, volume, view, site) {
         Ok(cursor) => cursor,
         Err(stop) => return Err(stop),
     };
@@ -109,7 +109,7 @@ fn locate_whole<S: BlockSource>(
 }
 
 /// Where a path leads: by searches, and where a record that is needed isn't found or can't be read, by all records.
-pub(crate) fn locate<S: BlockSource>(
+pub fn locate<S: BlockSource>(
     alloc: Global,
     src: &mut S,
     volume: &Volume,

@@ -6,9 +6,10 @@ ghost use Rattle.obj_base.specs.declared.stop.Stop.TheVariants.{ReadFault};
 ghost use Rattle.obj_base.specs.Stops.{raised};
 ghost use Rattle.obj_base.specs.Site.{IsSiteFor};
 ghost use Rattle.view_rules.specs.Rules as rules;
-ghost use Rattle.view_rules.specs.Rules.{view_facts};
-ghost use Rattle.path_walk.specs.Stops.{IsStopThere};
-ghost use Rattle.path_walk.specs.Parts.{of_walk, Remembers, IsSurveyed, IsNoAnswer};
+ghost use Rattle.vol_view.specs.Views.{view_line};
+ghost use Rattle.view_rules.specs.Rules.{view_facts, HasRecords};
+ghost use Rattle.path_walk.specs.Stops.{IsStopThere, of_walk, IsNoAnswer};
+ghost use Rattle.path_walk.specs.Parts.{Remembers, IsSurveyed};
 
 use crate::PathStop;
 use crate::files::Files;
@@ -16,13 +17,13 @@ use crate::survey::{Survey, gather_all};
 use blk_source::BlockSource;
 use bt_cursor::WalkFault;
 use bt_keys::{FsKey, FsPlainKey};
-use fs_record::TreeFault;
+use fs_record::{RecFault, TreeFault};
 use obj_base::{Site, Stop};
 use std::alloc::Global;
 use vol_view::{View, Volume};
 
 /// What a walk names, said of the view.
-pub(crate) fn fault_of(view: &View, why: WalkFault) -> TreeFault
+pub fn fault_of(view: &View, why: WalkFault) -> TreeFault
     ensures { result ≡ rules.raised view.now why }
 {
     match why {
@@ -46,7 +47,7 @@ pub(crate) fn fault_of(view: &View, why: WalkFault) -> TreeFault
 
 /// Why a walk stops, said of a path.
 #[tactic(auto, using(crate::proofs::Known::raised_unanswered))]
-pub(crate) fn raise(view: &View, stop: Stop<WalkFault>) -> Stop<PathStop>
+pub fn raise(view: &View, stop: Stop<WalkFault>) -> Stop<PathStop>
     ensures raised { result ≡ raised (of_walk view.now) stop }
     ensures unanswered { IsNoAnswer result }
 {
@@ -83,6 +84,41 @@ pub(crate) fn survey_view<S: BlockSource>(
             Ok(kept) => Ok(kept),
             Err(stop) => Err(raise(view, stop)),
         }
+    }
+}
+
+/// Why the records of a view can't all be read, by a walk over its whole tree: a fault of the tree, or `Record`. Where they can all
+/// be read a `Record` is named that isn't there, so it is called after a record was refused.
+pub fn refusal<S: BlockSource>(
+    alloc: Global,
+    src: &mut S,
+    volume: &Volume,
+    view: &View,
+    site: &Site,
+) -> Stop<PathStop>
+    requires site { IsSiteFor site.now (S.bytes_len src.old) }
+    ensures present { (image : List ℕ) → S.bytes src.old ≡ Some image → (HasRecords volume.now.names (view_line image site.now volume.now view.now) → ⊥) → IsStopThere image site.now volume.now view.now result }
+    ensures unanswered { IsNoAnswer result }
+    ensures cause { result ≡ ReadFault → Rose (S.faults src.old) (S.faults src.new) }
+    ensures kept { IsKept S.bytes S.bytes_len S.faults src.old src.new }
+{
+    let kept = match survey_view(alloc, src, volume, view, site) {
+        Ok(kept) => kept,
+        Err(stop) => return stop,
+    };
+    match kept.refusal {
+        Some((item, why)) => Stop::Found(PathStop::Fault(TreeFault::Record {
+            slot: view.slot,
+            xid: view.xid,
+            item,
+            why,
+        })),
+        None => Stop::Found(PathStop::Fault(TreeFault::Record {
+            slot: view.slot,
+            xid: view.xid,
+            item: 0,
+            why: RecFault::Length,
+        })),
     }
 }
 

@@ -1,0 +1,6 @@
+pub mod StreamFaults
+pub mod Laws
+pub mod Examples
+pub mod Givens
+pub mod Searched
+pub mod Named

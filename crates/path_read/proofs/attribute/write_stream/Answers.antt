@@ -1,0 +1,44 @@
+use Rattle.std.proofs.Common.{◌≡◌, ◌∙◌, ℕ, List, Ok, ap, sym, subst}
+use Rattle.apfs_model.specs.Sink.{WrotePart}
+use Rattle.file_extent.specs.Streams.{Opened, stream_bytes}
+use Rattle.view_rules.specs.Rules.{view_facts}
+use Rattle.path_walk.proofs.Known.{unanswered_given}
+use Rattle.path_read.specs.Contents.{stream_in}
+use Rattle.path_read.proofs.Givens.{stopped_written, ok-same, stream_opened}
+use Rattle.path_read.proofs.attribute.write_stream.Goals as goal
+
+pub returns-in-Err-clause-exact : goal.returns-in-Err-clause-exact
+returns-in-Err-clause-exact g c = λ image told lawful.
+    let whole = stream_in c.args.site.now.block_size image (view_facts image c.args.site.now c.args.volume.now c.args.view.now) c.args.id c.args.size in
+    let shows = λ (s : Opened). stream_bytes s.site.block_size image s.extents s.size in
+    stopped_written (g.W.Sink.contents c.args.out.now) shows (Ok whole) c.in-Err.stop
+    (unanswered_given image c.args.site.now c.args.volume.now c.args.view.now shows (Ok whole) c.in-Err.stop lawful (c.in-Err.ensures.present image told) c.in-Err.ensures.unanswered)
+
+pub returns-in-Ok-copy_to-clause-exact : goal.returns-in-Ok-copy_to-clause-exact
+returns-in-Ok-copy_to-clause-exact g c = λ image told lawful.
+    let stream : Opened = c.in-Ok.stream in
+    let same = stream_opened image c.args.site.now c.args.volume.now c.args.view.now c.args.id c.args.size stream (c.in-Ok.ensures.opened image told lawful.rules.ordered) in
+    record {
+      text = stream_bytes stream.site.block_size image stream.extents stream.size;
+      same = ap (λ (l : List ℕ). Ok l) same;
+      put = c.in-Ok-copy_to.ensures.put image (c.in-Ok.ensures.kept.same_bytes ∙ told);
+    }
+
+pub returns-in-Err-ReadFault-clause-exact : goal.returns-in-Err-ReadFault-clause-exact
+returns-in-Err-ReadFault-clause-exact g c = λ image told lawful text want.
+    let stream : Opened = c.in-Ok.stream in
+    let whole = stream_in c.args.site.now.block_size image (view_facts image c.args.site.now c.args.volume.now c.args.view.now) c.args.id c.args.size in
+    let same = stream_opened image c.args.site.now c.args.volume.now c.args.view.now c.args.id c.args.size stream (c.in-Ok.ensures.opened image told lawful.rules.ordered) in
+    subst (λ (l : List ℕ). WrotePart (g.W.Sink.contents c.args.out.now) (g.W.Sink.contents c.copy_to.new.out) l)
+    (ok-same (Ok whole) (stream_bytes stream.site.block_size image stream.extents stream.size) text (ap (λ (l : List ℕ). Ok l) same) want)
+    (c.in-Err-ReadFault.ensures.part image (c.in-Ok.ensures.kept.same_bytes ∙ told))
+
+pub returns-clause-exact : goal.returns-clause-exact
+returns-clause-exact g c = λ image told lawful.
+    let stream : Opened = c.in-Ok.stream in
+    let same = stream_opened image c.args.site.now c.args.volume.now c.args.view.now c.args.id c.args.size stream (c.in-Ok.ensures.opened image told lawful.rules.ordered) in
+    record {
+      text = stream_bytes stream.site.block_size image stream.extents stream.size;
+      same = ap (λ (l : List ℕ). Ok l) same;
+      put = c.in-Err-WriteFault.ensures.part image (c.in-Ok.ensures.kept.same_bytes ∙ told);
+    }

@@ -1,0 +1,28 @@
+use Rattle.std.proofs.Common.{◌≡◌, ◌∙◌, ℕ, List, ap, Vec, Global}
+use Rattle.fs_record.specs.Attributes.{Attribute}
+use Rattle.fs_record.specs.Facts.{all_for}
+use Rattle.view_rules.specs.Facts.{Facts}
+use Rattle.view_rules.specs.Rules.{view_facts}
+use Rattle.path_walk.specs.Places.{Place}
+use Rattle.path_walk.specs.Found.{found}
+use Rattle.path_walk.proofs.Known.{given_on, unanswered_given}
+use Rattle.path_read.specs.Parts.{attributes_at}
+use Rattle.path_read.proofs.Named.{gathered_at, gathered_lost}
+use Rattle.path_read.proofs.attributes.gathered.Goals as goal
+
+pub returns-in-Err-clause-exact : goal.returns-in-Err-clause-exact
+returns-in-Err-clause-exact g c = λ image told lawful.
+    let facts : Facts = view_facts image c.args.site.now c.args.volume.now c.args.view.now in
+    given_on (λ (p : Place). p) (found facts c.args.path.now) (λ (v : Vec Attribute Global). v.items) (attributes_at facts c.args.path.now) c.in-Err.stop
+    (gathered_lost facts c.args.path.now) (c.in-Err.ensures.exact image told lawful)
+
+pub returns-in-Ok-attributes_for-clause-exact : goal.returns-in-Ok-attributes_for-clause-exact
+returns-in-Ok-attributes_for-clause-exact g c = λ image told lawful.
+    let facts : Facts = view_facts image c.args.site.now c.args.volume.now c.args.view.now in
+    gathered_at facts c.args.path.now c.in-Ok.place c.in-Ok-attributes_for.attributes.items (c.in-Ok.ensures.exact image told lawful)
+    (c.in-Ok-attributes_for.ensures.found image (c.in-Ok.ensures.kept.same_bytes ∙ told) lawful.rules.ordered ∙ ap (λ (n : ℕ). all_for n facts.attributes) c.id.ensures)
+
+pub returns-clause-exact : goal.returns-clause-exact
+returns-clause-exact g c = λ image told lawful.
+    unanswered_given image c.args.site.now c.args.volume.now c.args.view.now (λ (v : Vec Attribute Global). v.items) (attributes_at (view_facts image c.args.site.now c.args.volume.now c.args.view.now) c.args.path.now) c.in-Err-attributes_for.stop lawful
+    (c.in-Err-attributes_for.ensures.present image (c.in-Ok.ensures.kept.same_bytes ∙ told)) c.in-Err-attributes_for.ensures.unanswered

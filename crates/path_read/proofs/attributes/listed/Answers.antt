@@ -1,0 +1,10 @@
+use Rattle.std.proofs.Common.{◌∙◌, ap, ℕ, List}
+use Rattle.fs_record.specs.Attributes.{Attribute}
+use Rattle.path_walk.specs.Order.{by_name}
+use Rattle.path_walk.proofs.Listed.{name_map}
+use Rattle.path_read.specs.Attributes.{attribute_told}
+use Rattle.path_read.proofs.attributes.listed.Goals as goal
+
+pub returns-in-Ok : goal.returns-in-Ok
+returns-in-Ok c =
+    c.in-Ok.ensures ∙ (ap (by_name (λ (t : List ℕ × ℕ). t.0)) c.in_ok-told.ensures ∙ name_map attribute_told (λ (t : List ℕ × ℕ). t.0) c.args.attributes.now)

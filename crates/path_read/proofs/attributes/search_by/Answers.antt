@@ -1,0 +1,28 @@
+use Rattle.std.proofs.Common.{◌≡◌, ◌∙◌, List, None, subst}
+use Rattle.std.specs.Prelude.{IfSome}
+use Rattle.bt_node.specs.Entries.{Pair}
+use Rattle.bt_cursor.specs.Cursors.{root_of, tree_of}
+use Rattle.fs_record.specs.Facts.{all_for, attributes_of}
+use Rattle.vol_view.specs.Views.{view_tree}
+use Rattle.path_walk.proofs.Searched.{flat_at, ordered_at, tells_at}
+use Rattle.path_read.specs.Parts.{HasRefused}
+use Rattle.path_read.proofs.attributes.search_by.Goals as goal
+
+pub returns-in-Ok-find_attributes-clause-found : goal.returns-in-Ok-find_attributes-clause-found
+returns-in-Ok-find_attributes-clause-found g c image told ordered =
+    let tree = view_tree g.K.TreeKey.shape image c.args.site.now c.args.volume.now c.args.view.now in
+    let here = c.in-Ok-find_attributes.ensures.found image (c.in-Ok.ensures.kept.same_bytes ∙ told) (c.in-Ok.ensures.within image told)
+    (ordered_at g.K.TreeKey.shape (tree_of c.in-Ok.cursor image) tree (root_of c.in-Ok.cursor) c.args.view.now.root_oid (c.in-Ok.ensures.tree image) c.in-Ok.ensures.root ordered) in
+    let same = flat_at (tree_of c.in-Ok.cursor image) tree (root_of c.in-Ok.cursor) c.args.view.now.root_oid (c.in-Ok.ensures.tree image) c.in-Ok.ensures.root in
+    subst (λ (ps : List Pair). IfSome c.in-Ok-find_attributes.run' (λ v. v.items ≡ all_for c.args.id (attributes_of ps))) same here
+
+pub returns-in-Ok-find_attributes-clause-refused : goal.returns-in-Ok-find_attributes-clause-refused
+returns-in-Ok-find_attributes-clause-refused g c image told none =
+    let tree = view_tree g.K.TreeKey.shape image c.args.site.now c.args.volume.now c.args.view.now in
+    let same = flat_at (tree_of c.in-Ok.cursor image) tree (root_of c.in-Ok.cursor) c.args.view.now.root_oid (c.in-Ok.ensures.tree image) c.in-Ok.ensures.root in
+    subst HasRefused same (c.in-Ok-find_attributes.ensures.refused image (c.in-Ok.ensures.kept.same_bytes ∙ told) (c.in-Ok.ensures.within image told) none)
+
+pub returns-clause-present : goal.returns-clause-present
+returns-clause-present g c image told =
+    tells_at (tree_of c.in-Ok.cursor image) (view_tree g.K.TreeKey.shape image c.args.site.now c.args.volume.now c.args.view.now) (root_of c.in-Ok.cursor) c.args.view.now.root_oid c.in-Err-find_attributes.stop (c.in-Ok.ensures.tree image) c.in-Ok.ensures.root
+    (c.in-Err-find_attributes.ensures.present image (c.in-Ok.ensures.kept.same_bytes ∙ told) (c.in-Ok.ensures.within image told))

@@ -1,0 +1,41 @@
+use Rattle.std.proofs.Common.{◌≡◌, ℕ, List, Option, Some, Ok, Err, ap, sym, ◌∙◌, subst}
+use Rattle.fs_record.specs.Inodes.{Inode}
+use Rattle.file_extent.specs.Streams.{Opened, stream_bytes, extents_for}
+use Rattle.vol_view.specs.Views.{view_flat}
+use Rattle.view_rules.specs.Facts.{Facts}
+use Rattle.view_rules.specs.Rules.{view_facts}
+use Rattle.path_walk.specs.Places.{Place}
+use Rattle.path_walk.specs.Found.{found}
+use Rattle.path_read.specs.Contents.{stream_in, contents, readable}
+use Rattle.path_read.specs.Written.{opened_bytes}
+use Rattle.path_read.proofs.Laws.{same_stream}
+use Rattle.path_walk.proofs.Known.{given_on, unanswered_given}
+use Rattle.path_read.proofs.Givens.{contents_lost, contents_stream}
+use Rattle.path_read.proofs.contents.open.Goals as goal
+
+pub returns-in-Err-clause-exact : goal.returns-in-Err-clause-exact
+returns-in-Err-clause-exact g c = λ image told lawful.
+    let facts : Facts = view_facts image c.args.site.now c.args.volume.now c.args.view.now in
+    given_on (λ (p : Place). p) (found facts c.args.path.now) (opened_bytes image) (contents c.args.site.now.block_size image facts c.args.path.now) c.in-Err.stop
+    (λ a e. contents_lost c.args.site.now.block_size image facts c.args.path.now a e) (c.in-Err.ensures.exact image told lawful)
+
+pub returns-in-Ok-open_stream-clause-exact : goal.returns-in-Ok-open_stream-clause-exact
+returns-in-Ok-open_stream-clause-exact g c = λ image told lawful.
+    let facts : Facts = view_facts image c.args.site.now c.args.volume.now c.args.view.now in
+    let bs = c.args.site.now.block_size in
+    let flat = view_flat image c.args.site.now c.args.volume.now c.args.view.now in
+    let size = c.in-Some-stream.stream.size in
+    let place : Place = c.in-Ok.place in
+    let inode : Inode = c.inode-inode.result.now in
+    let is : inode ≡ place.inode = c.inode-inode.ensures in
+    let there : found facts c.args.path.now ≡ Ok place = c.in-Ok.ensures.exact image told lawful in
+    let opened = c.in-Ok-open_stream.ensures.opened image (c.in-Ok.ensures.kept.same_bytes ∙ told) lawful.rules.ordered in
+    contents_stream bs image facts c.args.path.now place c.in-Some-stream.stream there (subst (λ (i : Inode). readable i ≡ Ok i) is c.in-None.ensures) (ap (λ (i : Inode). i.stream) (sym is) ∙ sym c.in-Some-stream.ensures)
+    ∙ ap (λ (n : ℕ). Ok (stream_in bs image facts n size)) (sym (c.private_id.ensures ∙ ap (λ (i : Inode). i.private_id) is))
+    ∙ ap (λ (l : List ℕ). Ok l) (same_stream bs image c.args.volume.now.names flat c.private_id.result size)
+    ∙ ap (λ (o : Opened). Ok (stream_bytes o.site.block_size image o.extents o.size)) (sym opened.same)
+
+pub returns-clause-exact : goal.returns-clause-exact
+returns-clause-exact g c = λ image told lawful.
+    unanswered_given image c.args.site.now c.args.volume.now c.args.view.now (opened_bytes image) (contents c.args.site.now.block_size image (view_facts image c.args.site.now c.args.volume.now c.args.view.now) c.args.path.now) c.in-Err-open_stream.stop lawful
+    (c.in-Err-open_stream.ensures.present image (c.in-Ok.ensures.kept.same_bytes ∙ told)) c.in-Err-open_stream.ensures.unanswered

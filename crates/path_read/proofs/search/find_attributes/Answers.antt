@@ -1,0 +1,27 @@
+use Rattle.std.proofs.Common.{◌≡◌, ◌∙◌, sym, subst, None, Some, Option, List}
+use Rattle.std.specs.Prelude.{option_map}
+use Rattle.bt_cursor.specs.Cursors.{root_of, tree_of, left_of}
+use Rattle.fs_record.specs.Attributes.{Attribute}
+use Rattle.fs_record.specs.Facts.{all_for, attributes_of}
+use Rattle.bt_cursor.specs.Flat.{flat_of}
+use Rattle.path_walk.proofs.Searched.{tells_same, flat_same}
+use Rattle.path_read.specs.Parts.{HasRefused}
+use Rattle.path_read.proofs.Searched.{attributes_found, refused_found, if_seen, none_seen}
+use Rattle.path_read.proofs.search.find_attributes.Goals as goal
+
+pub returns-in-Ok-take_run-clause-found : goal.returns-in-Ok-take_run-clause-found
+returns-in-Ok-take_run-clause-found g c image told on ordered =
+    if_seen (λ v. v.items) c.in-Ok-take_run.run' (all_for c.args.id (attributes_of (flat_of (tree_of c.args.cursor.now image) (root_of c.args.cursor.now))))
+    (attributes_found g.K.FsTreeKey.HASHED image c.args.cursor.now (root_of c.args.cursor.now) c.args.id (left_of c.seek.new.self image) (option_map (λ v. v.items) c.in-Ok-take_run.run') g.met.K.FsTreeKey.of_tree ordered
+    (c.in-Ok.ensures.left image told on ordered) (c.in-Ok-take_run.ensures.taken image (c.in-Ok.ensures.kept.same_bytes ∙ told)))
+
+pub returns-in-Ok-take_run-clause-refused : goal.returns-in-Ok-take_run-clause-refused
+returns-in-Ok-take_run-clause-refused g c image told on none =
+    let here = refused_found g.K.FsTreeKey.HASHED image c.seek.new.self c.args.id g.met.K.FsTreeKey.of_tree (c.in-Ok.ensures.within image told on)
+    (c.in-Ok-take_run.ensures.taken image (c.in-Ok.ensures.kept.same_bytes ∙ told) ∙ none_seen (λ v. v.items) c.in-Ok-take_run.run' none) in
+    subst HasRefused (flat_same (tree_of c.args.cursor.now) (tree_of c.seek.new.self) (root_of c.args.cursor.now) (root_of c.seek.new.self) image c.in-Ok.ensures.tree c.in-Ok.ensures.root) here
+
+pub returns-in-Err-take_run-clause-present : goal.returns-in-Err-take_run-clause-present
+returns-in-Err-take_run-clause-present g c image told on =
+    tells_same (tree_of c.args.cursor.now) (tree_of c.seek.new.self) (root_of c.args.cursor.now) (root_of c.seek.new.self) image c.in-Err-take_run.stop c.in-Ok.ensures.tree c.in-Ok.ensures.root
+    (c.in-Err-take_run.ensures.present image (c.in-Ok.ensures.kept.same_bytes ∙ told) (c.in-Ok.ensures.within image told on))

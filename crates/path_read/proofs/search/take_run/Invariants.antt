@@ -1,0 +1,18 @@
+use Rattle.std.proofs.Common.{◌≡◌, ℕ, List, [], Some}
+use Rattle.apfs_model.specs.Source.{IsKept}
+use Rattle.bt_cursor.specs.Cursors.{site_of, root_of, tree_of, left_of, fuel_of, IsOn}
+use Rattle.path_read.specs.Parts.{run_attributes}
+use Rattle.path_read.proofs.search.take_run.Given as goal
+
+abbrev pub invariant-run : goal.invariant-run
+invariant-run g l = record {
+  site : site_of l.cursor ≡ site_of l.fn.cursor;
+  root : root_of l.cursor ≡ root_of l.fn.cursor;
+  tree : tree_of l.cursor ≡ tree_of l.fn.cursor;
+  within : (image : List ℕ) → g.S.BlockSource.bytes l.fn.src ≡ Some image → IsOn image l.fn.cursor → IsOn image l.cursor;
+  taken : (image : List ℕ) → g.S.BlockSource.bytes l.fn.src ≡ Some image → run_attributes g.K.TreeKey.shape l.id [] (left_of l.fn.cursor image) ≡ run_attributes g.K.TreeKey.shape l.id l.taken.items (left_of l.cursor image);
+  kept : IsKept g.S.BlockSource.bytes g.S.BlockSource.bytes_len g.S.BlockSource.faults l.fn.src l.src;
+}
+
+abbrev pub decreases-run : goal.decreases-run
+decreases-run g l = fuel_of l.cursor

@@ -1,0 +1,6 @@
+pub mod Contents
+pub mod Attributes
+pub mod Texts
+pub mod Written
+pub mod Streamed
+pub mod Parts

@@ -1,0 +1,17 @@
+//! What files and attributes of a view hold.
+#![tactic(auto)]
+
+mod attribute;
+mod attributes;
+mod contents;
+mod kept;
+mod search;
+mod stop;
+mod streams;
+#[cfg(test)]
+mod tests;
+
+pub use attribute::attr;
+pub use attributes::attrs;
+pub use contents::cat;
+pub use stop::WriteStop;
