@@ -22,7 +22,7 @@ returns-in-Err-clause-exact g c = λ image told lawful.
 pub returns-in-None-clause-exact : goal.returns-in-None-clause-exact
 returns-in-None-clause-exact g c = λ image told lawful.
     let facts : Facts = view_facts image c.args.site.now c.args.volume.now c.args.view.now in
-    attribute_given c.args.site.now.block_size image facts c.args.path.now c.args.name.now c.in-Ok.attributes.items None (c.in-Ok.ensures.exact image told lawful) (ap (find (is_called c.args.name.now)) (sym c.deref.ensures) ∙ sym c.in-None.ensures)
+    attribute_given c.args.site.now.block_size image facts c.args.path.now c.args.name.now c.in-Ok.attributes.items None (c.in-Ok.ensures.exact image told lawful) (ap (find (is_called c.args.name.now)) (sym c.deref.ensures.value) ∙ sym c.in-None.ensures)
 
 pub returns-in-Ok-write_body-clause-exact : goal.returns-in-Ok-write_body-clause-exact
 returns-in-Ok-write_body-clause-exact g c = λ image told lawful.
@@ -30,7 +30,7 @@ returns-in-Ok-write_body-clause-exact g c = λ image told lawful.
     let bs = c.args.site.now.block_size in
     let a : Attribute = c.in-Some.attribute.now in
     let given : attribute bs image facts c.args.path.now c.args.name.now ≡ Ok (body_in bs image facts a.body) =
-    attribute_given bs image facts c.args.path.now c.args.name.now c.in-Ok.attributes.items (Some a) (c.in-Ok.ensures.exact image told lawful) (ap (find (is_called c.args.name.now)) (sym c.deref.ensures) ∙ sym c.in-Some.ensures) in
+    attribute_given bs image facts c.args.path.now c.args.name.now c.in-Ok.attributes.items (Some a) (c.in-Ok.ensures.exact image told lawful) (ap (find (is_called c.args.name.now)) (sym c.deref.ensures.value) ∙ sym c.in-Some.ensures) in
     written_same (g.W.Sink.contents c.args.out.now) (g.W.Sink.contents c.write_body.new.out) (Ok (body_in bs image facts a.body)) (attribute bs image facts c.args.path.now c.args.name.now) (Ok tt) (sym given)
     (c.in-Ok-write_body.ensures.exact image (c.in-Ok.ensures.kept.same_bytes ∙ told) lawful)
 
@@ -40,6 +40,6 @@ returns-clause-exact g c = λ image told lawful.
     let bs = c.args.site.now.block_size in
     let a : Attribute = c.in-Some.attribute.now in
     let given : attribute bs image facts c.args.path.now c.args.name.now ≡ Ok (body_in bs image facts a.body) =
-    attribute_given bs image facts c.args.path.now c.args.name.now c.in-Ok.attributes.items (Some a) (c.in-Ok.ensures.exact image told lawful) (ap (find (is_called c.args.name.now)) (sym c.deref.ensures) ∙ sym c.in-Some.ensures) in
+    attribute_given bs image facts c.args.path.now c.args.name.now c.in-Ok.attributes.items (Some a) (c.in-Ok.ensures.exact image told lawful) (ap (find (is_called c.args.name.now)) (sym c.deref.ensures.value) ∙ sym c.in-Some.ensures) in
     written_same (g.W.Sink.contents c.args.out.now) (g.W.Sink.contents c.write_body.new.out) (Ok (body_in bs image facts a.body)) (attribute bs image facts c.args.path.now c.args.name.now) (Err c.in-Err-write_body.stop) (sym given)
     (c.in-Err-write_body.ensures.exact image (c.in-Ok.ensures.kept.same_bytes ∙ told) lawful)

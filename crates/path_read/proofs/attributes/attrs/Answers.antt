@@ -18,4 +18,4 @@ pub returns-clause-exact : goal.returns-clause-exact
 returns-clause-exact g c = λ image told lawful.
     let facts : Facts = view_facts image c.args.site.now c.args.volume.now c.args.view.now in
     attributes_given facts c.args.path.now c.in-Ok.attributes.items (c.in-Ok.ensures.exact image told lawful)
-    ∙ ap (λ (l : List (List ℕ × ℕ)). Ok l) (sym c.in_ok-listed.ensures)
+    ∙ ap (λ (l : List (List ℕ × ℕ)). Ok l) (sym (rw c.deref.ensures.value at c.in_ok-listed.ensures))
