@@ -1,5 +1,5 @@
 -- One more hit is taken.
-use Rattle.std.proofs.Common.{◌≡◌, ℕ, zero, suc, ◌+◌, ◌<◌, List, [], ◌∷◌, ◌++◌, length, get_or, take, true, ◌⊎◌, inl, inr, refl, ap, sym, ◌∙◌, subst, append_assoc, append-nil, Option, Some, IfSome}
+use Rattle.std.proofs.Common.{◌≡◌, ℕ, zero, suc, ◌+◌, ◌<◌, List, [], ◌∷◌, ◌++◌, length, get_or, take, true, ◌⊎◌, inl, inr, ap, sym, ◌∙◌, subst, append_assoc, append-nil, Option, Some, IfSome}
 use Rattle.std.specs.List.{flat_map}
 use Rattle.std.proofs.lemmas.List.{take_more}
 use Rattle.std.proofs.lemmas.Grind.{flat_map-append}
@@ -12,16 +12,15 @@ use Rattle.obj_base.specs.declared.stop.Stop.TheVariants.{Found, Unsupported, Re
 use Rattle.obj_base.specs.Stops.{Tells, IsFree}
 use Rattle.omap_map.specs.declared.records.OmapRecord.{OmapRecord}
 use Rattle.reach_rules.specs.declared.fault.ReachFault.{ReachFault}
-use Rattle.reach_rules.specs.Tested.{Answer}
 use Rattle.view_sweep.specs.declared.wanted.SweptView.{SweptView}
 use Rattle.view_sweep.specs.declared.wanted.Want.{Want}
 use Rattle.view_sweep.specs.declared.wanted.Want.TheVariants.{Root, Metadata, Node}
 use Rattle.view_sweep.specs.declared.wanted.Wanted.{Wanted}
 use Rattle.view_sweep.specs.declared.used.Used.{Used}
 use Rattle.view_sweep.specs.declared.used.Hit.{Hit}
-use Rattle.view_sweep.specs.Found.{tested_as, is_sound, kids_from, kids_by, wants_by, wants_of, bytes_at}
+use Rattle.view_sweep.specs.Found.{tested_as, is_sound, kids_from, kids_by, wants_by, wants_of}
 use Rattle.view_sweep.specs.Here.{IsBadHit, IsRefusedHit}
-use Rattle.view_sweep.specs.Swept.{AreOfHits, AreSound, hit_wants}
+use Rattle.view_sweep.specs.Swept.{AreOfHits, AreSound}
 use Rattle.view_sweep.specs.Tests.{IsFaultOf, IsFeatureOf}
 use Rattle.view_sweep.proofs.Losts.{nobody}
 use Rattle.view_sweep.proofs.Ranked.{every-push}

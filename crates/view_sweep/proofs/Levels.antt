@@ -1,5 +1,5 @@
 -- Levels fall, and the level at which an object is wanted stands in its bytes.
-use Rattle.std.proofs.Common.{◌≡◌, ℕ, zero, suc, ◌<◌, ◌≤◌, Bool, true, false, ◌==◌, List, [], ◌∷◌, Option, Some, None, Result, Ok, Err, is_ok, ◌⊎◌, inl, inr, refl, ap, sym, ◌∙◌, subst, arith, if◌then◌else◌}
+use Rattle.std.proofs.Common.{◌≡◌, ℕ, zero, suc, ◌<◌, ◌≤◌, Bool, true, false, ◌==◌, List, [], ◌∷◌, Option, Some, None, Result, Ok, Err, is_ok, ◌⊎◌, inl, inr, refl, ap, sym, ◌∙◌, arith, if◌then◌else◌}
 use Rattle.std.proofs.lemmas.Grind.{common_steps}
 use Rattle.apfs_model.specs.Lists.{In}
 use Rattle.apfs_model.specs.Object.{kind_of, root_kind, node_kind, extended_metadata_kind}
@@ -8,7 +8,7 @@ use Rattle.obj_base.specs.declared.header.HeadFault.{HeadFault}
 use Rattle.obj_base.specs.declared.stop.Bad.{Bad}
 use Rattle.obj_base.specs.declared.stop.Bad.TheVariants as bads
 use Rattle.obj_base.specs.declared.site.Site.{Site}
-use Rattle.obj_base.specs.Sound.{sound_of, expecting, IsSound}
+use Rattle.obj_base.specs.Sound.{sound_of, expecting}
 use Rattle.obj_base.proofs.SoundLemmas.{sound_means}
 use Rattle.bt_node.specs.Shape.{Shape}
 use Rattle.bt_node.specs.Node as nodes
@@ -19,12 +19,12 @@ use Rattle.bt_node.proofs.Laws.{node_means}
 use Rattle.bt_keys.specs.Shapes.{fs_shape, fs_plain_shape}
 use Rattle.omap_map.specs.declared.records.OmapRecord.{OmapRecord}
 use Rattle.reach_rules.specs.Naming.{Files}
-use Rattle.reach_rules.specs.Tested.{Answer, node_answer, of_node, of_header, head_tested, tested}
+use Rattle.reach_rules.specs.Tested.{Answer, node_answer, of_node, of_header, tested}
 use Rattle.view_sweep.specs.declared.wanted.SweptView.{SweptView}
 use Rattle.view_sweep.specs.declared.wanted.Want.{Want}
 use Rattle.view_sweep.specs.declared.wanted.Want.TheVariants.{Root, Metadata, Node}
 use Rattle.view_sweep.specs.declared.wanted.Wanted.{Wanted}
-use Rattle.view_sweep.specs.Wanted.{wanted, expected_by}
+use Rattle.view_sweep.specs.Wanted.{wanted}
 use Rattle.view_sweep.specs.Found.{World, kids_from, kids_by, wants_by, wants_if, next_by, next_of, tested_as, is_sound}
 use Rattle.view_sweep.specs.Swept.{level_by, level_of}
 use Rattle.view_sweep.proofs.Sounds.{node-level}

@@ -1,14 +1,14 @@
 -- Things of one rank in a sorted list are one, where neighbours are.
-use Rattle.std.proofs.Common.{◌≡◌, ℕ, ◌+◌, ◌-◌, ◌<◌, ◌≤◌, Bool, false, List, [], ◌∷◌, ◌++◌, length, get_or, take, ◌⊎◌, inl, inr, refl, ap, sym, ◌∙◌, subst, arith}
+use Rattle.std.proofs.Common.{◌≡◌, ℕ, ◌+◌, ◌-◌, ◌<◌, ◌≤◌, List, [], ◌∷◌, ◌++◌, length, get_or, take, inl, inr, ap, sym, ◌∙◌, subst, arith}
 use Rattle.std.specs.declared.cmp.Ordering.{Ordering}
-use Rattle.std.specs.declared.cmp.Ordering.TheVariants.{Less, Equal, Greater}
+use Rattle.std.specs.declared.cmp.Ordering.TheVariants.{Equal}
 use Rattle.std.specs.Ordering.{is_lt}
 use Rattle.std.specs.Cmp.{IsTotalOrder}
 use Rattle.std.specs.List.Sorted.{IsSortedBy}
 use Rattle.std.proofs.lemmas.Cmp.{tied_back}
 use Rattle.std.proofs.lemmas.List.{take_more, take_all}
 use Rattle.apfs_model.specs.Lists.{In}
-use Rattle.view_sweep.proofs.Ranked.{between, ties-right, in-take, take-in, get_or-same, in-push}
+use Rattle.view_sweep.proofs.Ranked.{between, ties-right, in-take, take-in, in-push}
 
 -- things of one rank are one
 pub record AreOne {X : Type 0} (R : X → X → Ordering) (xs : List X) : Type 0 where

@@ -1,8 +1,7 @@
 -- The orders in which objects are sorted are total, and things that tie are alike.
-use Rattle.std.proofs.Common.{◌≡◌, ℕ, refl, ap, sym, ◌∙◌}
-use Rattle.std.specs.declared.cmp.Ordering.{Ordering}
+use Rattle.std.proofs.Common.{◌≡◌, ℕ, ap}
 use Rattle.std.specs.declared.cmp.Ordering.TheVariants.{Equal}
-use Rattle.std.specs.Ordering.{is_lt, nat_cmp, ordering_then}
+use Rattle.std.specs.Ordering.{nat_cmp, ordering_then}
 use Rattle.std.specs.Cmp.{IsTotalOrder, IsStrictWeakOrder}
 use Rattle.std.proofs.lemmas.Cmp.{nat_cmp_total, then_total, on_total}
 use Rattle.std.proofs.lemmas.List.Sorted.{ranks_by}
@@ -11,7 +10,6 @@ use Rattle.view_sweep.specs.declared.wanted.SweptView.{SweptView}
 use Rattle.view_sweep.specs.declared.wanted.Want.{Want}
 use Rattle.view_sweep.specs.declared.wanted.Wanted.{Wanted}
 use Rattle.view_sweep.specs.declared.used.Used.{Used}
-use Rattle.view_sweep.specs.declared.used.Hit.{Hit}
 use Rattle.view_sweep.specs.Found.{used_of}
 use Rattle.view_sweep.specs.Order.{id_rank, used_rank, is_id_below, is_hit_below}
 use Rattle.view_sweep.proofs.Ranked.{nat-tie, nat-ties, then-tie, then-ties}

@@ -1,7 +1,7 @@
 -- Each of some sorted things is read once.
-use Rattle.std.proofs.Common.{◌≡◌, ℕ, ◌+◌, ◌-◌, ◌<◌, ◌≤◌, Bool, false, List, [], ◌∷◌, ◌++◌, length, map, get_or, take, Option, Some, None, ◌⊎◌, inl, inr, refl, ap, sym, ◌∙◌, subst, arith}
+use Rattle.std.proofs.Common.{◌≡◌, ℕ, ◌+◌, ◌-◌, ◌<◌, ◌≤◌, List, [], ◌∷◌, ◌++◌, length, map, get_or, take, Option, Some, None, ◌⊎◌, inl, inr, ap, sym, ◌∙◌, subst, arith}
 use Rattle.std.specs.declared.cmp.Ordering.{Ordering}
-use Rattle.std.specs.declared.cmp.Ordering.TheVariants.{Less, Equal, Greater}
+use Rattle.std.specs.declared.cmp.Ordering.TheVariants.{Equal}
 use Rattle.std.specs.Ordering.{is_lt}
 use Rattle.std.specs.Cmp.{IsTotalOrder}
 use Rattle.std.specs.List.Sorted.{IsSortedBy}
@@ -9,8 +9,8 @@ use Rattle.std.proofs.lemmas.Cmp.{tied_itself}
 use Rattle.std.proofs.lemmas.List.{take_more, take_all, map-append}
 use Rattle.apfs_model.specs.Lists.{In}
 use Rattle.apfs_model.specs.Apart.{Apart}
-use Rattle.apfs_model.proofs.Searches.{in-left, in-right, in-append, in-map, from-map}
-use Rattle.view_sweep.proofs.Ranked.{between, ties-right, in-take, place-in, take-in, get_or-same, in-push}
+use Rattle.apfs_model.proofs.Searches.{in-left, in-right, from-map}
+use Rattle.view_sweep.proofs.Ranked.{between, in-take, get_or-same, in-push}
 
 pub apart-push : {X : Type 0} (xs : List X) (y : X) → Apart xs → (In y xs → ⊥) → Apart (xs ++ y ∷ [])
 apart-push [] y a free = ((λ h. h), tt)

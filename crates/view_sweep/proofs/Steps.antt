@@ -1,18 +1,14 @@
 -- A level taken.
-use Rattle.std.proofs.Common.{◌≡◌, ℕ, ◌<◌, true, false, Bool, List, [], ◌∷◌, ◌++◌, length, map, get_or, Option, Some, None, Ok, Err, is_ok, ◌⊎◌, inl, inr, refl, ap, sym, ◌∙◌, subst}
+use Rattle.std.proofs.Common.{◌≡◌, ℕ, true, false, List, ◌++◌, map, Option, Some, Ok, Err, is_ok, ◌⊎◌, inl, inr, refl, ap, sym, ◌∙◌, subst}
 use Rattle.std.specs.Prelude.{Contains}
 use Rattle.std.specs.List.{flat_map}
 use Rattle.std.specs.List.Sorted.{IsPermutation}
 use Rattle.std.proofs.lemmas.List.Sorted.{IsPermutation-sym, Contains-permutation}
-use Rattle.apfs_model.specs.Blocks.{in_container}
 use Rattle.apfs_model.specs.Lists.{In}
 use Rattle.apfs_model.proofs.Searches.{in-left, in-right, in-append, in-map, from-map, in-flat_map, from-flat_map}
-use Rattle.obj_base.specs.declared.site.Site.{Site}
-use Rattle.obj_base.specs.declared.stop.Feature.{Feature}
 use Rattle.obj_base.specs.declared.stop.Stop.{Stop}
 use Rattle.obj_base.specs.declared.stop.Stop.TheVariants.{Found, Unsupported, ReadFault, NoMemory}
 use Rattle.obj_base.specs.Stops.{Tells, NoFeature}
-use Rattle.omap_map.specs.Features.{mapping_features}
 use Rattle.omap_map.specs.declared.records.OmapRecord.{OmapRecord}
 use Rattle.reach_rules.specs.declared.fault.ReachFault.{ReachFault}
 use Rattle.reach_rules.specs.declared.fault.ReachFault.TheVariants.{Unsound, Unnamed, NamedTwice}
@@ -22,8 +18,8 @@ use Rattle.view_sweep.specs.declared.used.Used.{Used}
 use Rattle.view_sweep.specs.declared.used.Hit.{Hit}
 use Rattle.view_sweep.specs.Wanted.{AreTold, AreBelow}
 use Rattle.view_sweep.specs.Found.{World, used_by, used_of, tested_as, is_sound, wants_of, wants_if, next_by, next_of}
-use Rattle.view_sweep.specs.Here.{IsHere, IsFeatureHere, TellsHere, Among, IsLostHere, IsMappedBy, IsTwiceHere, IsBadHit, IsRefusedHit}
-use Rattle.view_sweep.specs.Swept.{AreHits, ArePlaced, ArePlain, AreSound, AreRead, AreOfHits, AreOfThese, IsOnce, IsClear, IsUsedBy, IsStep, hit_wants}
+use Rattle.view_sweep.specs.Here.{IsHere, TellsHere, Among, IsLostHere, IsMappedBy, IsTwiceHere, IsBadHit, IsRefusedHit}
+use Rattle.view_sweep.specs.Swept.{AreHits, ArePlaced, ArePlain, AreSound, AreRead, AreOfHits, AreOfThese, IsOnce, IsClear, IsStep, hit_wants}
 use Rattle.view_sweep.proofs.Ranked.{in-place, place-in}
 
 -- in another order

@@ -1,13 +1,13 @@
 -- The levels together are what is live.
 use Rattle.std.proofs.Common.{◌≡◌, ℕ, suc, ◌<◌, ◌≤◌, Bool, true, false, ◌==◌, List, [], ◌∷◌, ◌++◌, Option, Some, ◌⊎◌, inl, inr, refl, ap, sym, ◌∙◌, subst, arith, if◌then◌else◌}
-use Rattle.std.specs.List.{filter, flat_map}
+use Rattle.std.specs.List.{filter}
 use Rattle.std.proofs.lemmas.Bool.{cases_lt}
 use Rattle.std.proofs.lemmas.Bool.Decides.{Decides-eqb}
 use Rattle.apfs_model.specs.Apart.{Apart}
 use Rattle.apfs_model.specs.Lists.{In}
 use Rattle.apfs_model.proofs.Searches.{in-left, in-right, in-append, in-flat_map, from-flat_map, in-filter, from-filter, filter-test}
 use Rattle.omap_map.specs.declared.records.OmapRecord.{OmapRecord}
-use Rattle.reach_rules.specs.Live.{Live, rooted, led}
+use Rattle.reach_rules.specs.Live.{rooted, led}
 use Rattle.view_sweep.specs.declared.wanted.Head.{Head}
 use Rattle.view_sweep.specs.declared.wanted.Want.TheVariants.{Metadata}
 use Rattle.view_sweep.specs.declared.wanted.Wanted.{Wanted}

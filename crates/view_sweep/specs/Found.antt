@@ -1,14 +1,12 @@
 -- By which record a wanted object is found, whether it is sound, and what it wants in turn.
-use Rattle.std.specs.Prelude.{◌≡◌, ℕ, zero, suc, true, Bool, List, [], ◌∷◌, Option, None, Some, Result, Ok, Err, is_ok, option_map, option_and_then, slice_get}
+use Rattle.std.specs.Prelude.{ℕ, zero, suc, Bool, List, [], ◌∷◌, Option, Ok, Err, is_ok, option_map, option_and_then, slice_get}
 use Rattle.apfs_model.specs.Blocks.{block_of, in_container}
-use Rattle.apfs_model.specs.Lists.{In, through}
+use Rattle.apfs_model.specs.Lists.{through}
 use Rattle.obj_base.specs.declared.site.Site.{Site}
-use Rattle.obj_base.specs.declared.stop.Bad.{Bad}
 use Rattle.bt_node.specs.Node.{level_of}
 use Rattle.omap_map.specs.Resolve.{resolved}
 use Rattle.omap_map.specs.declared.records.OmapRecord.{OmapRecord}
 use Rattle.vol_view.specs.Volumes.{Loaded}
-use Rattle.reach_rules.specs.declared.fault.Why.{Why}
 use Rattle.reach_rules.specs.Naming.{Files}
 use Rattle.reach_rules.specs.Tested.{Answer, tested}
 use Rattle.reach_rules.specs.Next.{children_in}

@@ -1,5 +1,5 @@
 -- The orders in which objects are sorted.
-use Rattle.std.specs.Prelude.{ℕ, Bool}
+use Rattle.std.specs.Prelude.{Bool}
 use Rattle.std.specs.declared.cmp.Ordering.{Ordering}
 use Rattle.std.specs.Ordering.{nat_cmp, ordering_then, is_lt}
 use Rattle.view_sweep.specs.declared.wanted.Wanted.{Wanted}

@@ -1,5 +1,5 @@
 -- What is swept: a level, and all that is live.
-use Rattle.std.specs.Prelude.{◌≡◌, ◌⊎◌, ℕ, ◌≤◌, true, List, ◌∷◌, [], ◌++◌, map, flat_map, Option, None, Some, if◌then◌else◌}
+use Rattle.std.specs.Prelude.{◌≡◌, ◌⊎◌, ℕ, ◌≤◌, true, List, ◌∷◌, [], ◌++◌, flat_map, Option, Some}
 use Rattle.apfs_model.specs.Blocks.{in_container}
 use Rattle.apfs_model.specs.Lists.{In}
 use Rattle.apfs_model.specs.Apart.{Apart}
@@ -14,7 +14,7 @@ use Rattle.view_sweep.specs.declared.wanted.Wanted.{Wanted}
 use Rattle.view_sweep.specs.declared.used.Used.{Used}
 use Rattle.view_sweep.specs.declared.used.Hit.{Hit}
 use Rattle.view_sweep.specs.Wanted.{heads_want}
-use Rattle.view_sweep.specs.Found.{World, used_by, used_of, is_sound, wants_of, next_of}
+use Rattle.view_sweep.specs.Found.{World, used_by, is_sound, wants_of, next_of}
 
 -- each hit has the record by which what is wanted is found
 abbrev pub AreHits : (Wanted → Option OmapRecord) → List Hit → Type 0

@@ -1,7 +1,7 @@
 -- What is wanted of views, as namings.
-use Rattle.std.specs.Prelude.{◌≡◌, ℕ, suc, ◌<◌, ◌==◌, List, [], ◌∷◌, flat_map, if◌then◌else◌}
+use Rattle.std.specs.Prelude.{◌≡◌, ℕ, ◌<◌, ◌==◌, List, [], ◌∷◌, flat_map, if◌then◌else◌}
 use Rattle.apfs_model.specs.Lists.{In}
-use Rattle.reach_rules.specs.Naming.{ViewAt, LookUp, InView, OfRecord, Namer, Whole, Files, Expected, ExtendedMetadata, TreeRoot, TreeNode, Naming, naming}
+use Rattle.reach_rules.specs.Naming.{ViewAt, InView, OfRecord, Namer, Whole, Files, Expected, ExtendedMetadata, TreeRoot, TreeNode, Naming, naming}
 use Rattle.view_sweep.specs.declared.wanted.SweptView.{SweptView}
 use Rattle.view_sweep.specs.declared.wanted.Head.{Head}
 use Rattle.view_sweep.specs.declared.wanted.Want.{Want}

@@ -1,15 +1,13 @@
-use Rattle.std.proofs.Common.{◌≡◌, ℕ, List, [], ◌++◌, length, map, sym, ◌∙◌, subst}
+use Rattle.std.proofs.Common.{◌≡◌, List, [], ◌++◌, length, map, sym, ◌∙◌, subst}
 use Rattle.std.specs.List.{flat_map}
-use Rattle.std.specs.List.Sorted.{IsPermutation}
 use Rattle.std.proofs.lemmas.List.Sorted.{IsPermutation-sym}
-use Rattle.apfs_model.specs.Lists.{In}
 use Rattle.obj_base.specs.Stops.{Tells, NoFeature}
 use Rattle.view_sweep.specs.declared.wanted.Wanted.{Wanted}
 use Rattle.view_sweep.specs.declared.used.Hit.{Hit}
 use Rattle.view_sweep.specs.Wanted.{AreTold, AreBelow}
 use Rattle.view_sweep.specs.Found.{World, world, looked, used_of, bytes_at}
 use Rattle.view_sweep.specs.Here.{Among, IsTwiceHere, IsLostHere, IsMappedBy, IsBadHit, IsRefusedHit}
-use Rattle.view_sweep.specs.Swept.{IsOnce, AreHits, ArePlaced, AreSound, AreRead, AreOfHits, hit_wants}
+use Rattle.view_sweep.specs.Swept.{IsOnce, ArePlaced, AreSound, AreRead, AreOfHits, hit_wants}
 use Rattle.view_sweep.proofs.Steps.{in-permuted, told-permuted, below-permuted, placed-permuted, here-more, twice-tells, lost-tells, bad-tells, wanted_of, step_from, views_from}
 use Rattle.view_sweep.proofs.level.take_level.Goals as goal
 

@@ -1,4 +1,4 @@
-use Rattle.std.proofs.Common.{◌≡◌, ℕ, [], ◌∷◌, ◌++◌, ap, ◌∙◌}
+use Rattle.std.proofs.Common.{ℕ, [], ◌∷◌, ◌++◌, ap, ◌∙◌}
 use Rattle.view_sweep.specs.Found.{kid}
 use Rattle.view_sweep.proofs.Kids.{kids_more}
 use Rattle.view_sweep.proofs.nodes.add_kids.Goals as goal

@@ -1,4 +1,4 @@
-use Rattle.std.proofs.Common.{◌≡◌, ℕ, suc, ◌+◌, ◌-◌, ◌≤◌, ◌<◌, List, [], ◌++◌, length, Some, arith, subst, sym, ap, ◌∙◌, length-append}
+use Rattle.std.proofs.Common.{◌≡◌, ℕ, suc, ◌+◌, ◌-◌, ◌≤◌, ◌<◌, List, [], ◌++◌, length, Some, arith, subst, ap, ◌∙◌, length-append}
 use Rattle.std.specs.List.{filter}
 use Rattle.apfs_model.specs.Lists.{In}
 use Rattle.view_sweep.specs.declared.wanted.Head.{Head}

@@ -1,12 +1,11 @@
-use Rattle.std.proofs.Common.{◌≡◌, ℕ, List, [], Some, sym, ◌∙◌, subst, length}
-use Rattle.apfs_model.specs.Lists.{In}
+use Rattle.std.proofs.Common.{◌≡◌, List, [], sym, ◌∙◌, subst, length}
 use Rattle.view_sweep.specs.declared.wanted.Head.{Head}
 use Rattle.view_sweep.specs.declared.wanted.Wanted.{Wanted}
 use Rattle.view_sweep.specs.declared.used.Used.{Used}
 use Rattle.view_sweep.specs.Wanted.{heads_want, AreTold, AreBelow, AreOfHeads}
 use Rattle.view_sweep.specs.Found.{World, world}
 use Rattle.view_sweep.specs.Here.{Among, TellsHere}
-use Rattle.view_sweep.specs.Swept.{IsLive, IsStep, IsSwept, AreKids, AreOfThese}
+use Rattle.view_sweep.specs.Swept.{IsLive, IsStep, AreKids, AreOfThese}
 use Rattle.reach_rules.specs.Live.{rooted}
 use Rattle.view_sweep.proofs.Steps.{here-more}
 use Rattle.view_sweep.proofs.Wholes.{told-of, below-of, heads-views, these-views, kids-step, swept-top}
