@@ -1,0 +1,14 @@
+pub mod Records
+pub mod Ranked
+pub mod Readings
+pub mod Onces
+pub mod Orders
+pub mod Kids
+pub mod Sounds
+pub mod Losts
+pub mod Clashes
+pub mod Sizes
+pub mod Hits
+pub mod Steps
+pub mod Levels
+pub mod Wholes

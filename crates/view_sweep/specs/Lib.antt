@@ -1,0 +1,6 @@
+pub mod Wanted
+pub mod Found
+pub mod Tests
+pub mod Here
+pub mod Order
+pub mod Swept

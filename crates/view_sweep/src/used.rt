@@ -1,0 +1,34 @@
+// Which records of object maps are used.
+
+use crate::wanted::Wanted;
+use omap_map::OmapRecord;
+
+/// A record of the object map in a block.
+#[derive(Clone, Copy, PartialEq, Eq, Debug)]
+pub struct Used {
+    /// The block of the map.
+    pub map: u64,
+    pub mapping: OmapRecord,
+}
+
+/// What is wanted, and the record by which it is found.
+#[derive(Clone, Copy, PartialEq, Eq, Debug)]
+pub(crate) struct Hit {
+    pub wanted: Wanted,
+    pub mapping: OmapRecord,
+}
+
+impl Hit {
+    ghost use Rattle.std.specs.Prelude.{◌≡◌};
+    ghost use Rattle.view_sweep.specs.Found.{used_of};
+
+    /// The record that is used.
+    pub(crate) fn used(&self) -> Used
+        ensures { result ≡ used_of self.now }
+    {
+        Used {
+            map: self.wanted.view.map,
+            mapping: self.mapping,
+        }
+    }
+}
