@@ -8,6 +8,7 @@ mod fault_text;
 mod fault_words;
 mod meant;
 mod meant_view;
+mod on_path;
 mod over_cache;
 mod put;
 mod run;

@@ -1,12 +1,12 @@
 // Why a run stops before its text is whole.
 ghost use Rattle.std.specs.Prelude.{◌≡◌};
-ghost use Rattle.apfs_cli.specs.Seen.{stopped_at, answered_of, stopped_on};
+ghost use Rattle.apfs_cli.specs.Seen.{stopped_at};
 ghost use Rattle.apfs_cli.specs.declared.stopped.Stopped.TheVariants as stops;
 
 use crate::fault::Raise;
 use apfs_check::Fault;
 use obj_base::{Feature, Stop};
-use path_walk::{Answer, PathStop};
+use path_walk::Answer;
 use std::alloc::AllocError;
 
 /// Why a run stops before its text is whole.
@@ -44,30 +44,6 @@ pub fn stopped_by<P: Copy, F: Raise<P> + Drop>(stop: Stop<F>, place: P) -> Stopp
 {
     match stop {
         Stop::Found(fault) => Stopped::Faulty(fault.raise(place)),
-        Stop::Unsupported { feature, block } => Stopped::Refused { feature, block },
-        Stop::ReadFault => Stopped::ReadFailed,
-        Stop::NoMemory => Stopped::OutOfMemory,
-    }
-}
-
-// What is answered of a path. That a slot has no volume, or that no snapshot has a name, isn't: these come before.
-fn of_path(answer: Answer) -> Answer
-    ensures { result ≡ answered_of answer }
-{
-    match answer {
-        Answer::NoVolume | Answer::NoSnapshot => Answer::NotFound,
-        Answer::NotFound | Answer::NotDirectory | Answer::NotFile => answer,
-        Answer::Compressed | Answer::Dataless | Answer::NoAttribute => answer,
-    }
-}
-
-/// Why the run stops, where a call on a path does.
-pub fn stopped_on_path(stop: Stop<PathStop>) -> Stopped
-    ensures { result ≡ stopped_on stop }
-{
-    match stop {
-        Stop::Found(PathStop::Answer(answer)) => Stopped::Answered(of_path(answer)),
-        Stop::Found(PathStop::Fault(fault)) => Stopped::Faulty(fault.raise(())),
         Stop::Unsupported { feature, block } => Stopped::Refused { feature, block },
         Stop::ReadFault => Stopped::ReadFailed,
         Stop::NoMemory => Stopped::OutOfMemory,

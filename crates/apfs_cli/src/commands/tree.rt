@@ -9,8 +9,9 @@ ghost use Rattle.apfs_cli.specs.Written.{sunk};
 ghost use Rattle.blk_source.specs.declared.source.Opened.TheVariants.{Image};
 
 use crate::meant_view::reach_view;
+use crate::on_path::stopped_on_path;
 use crate::put::{Line, put_lines};
-use crate::stopped::{Stopped, stopped_on_path};
+use crate::stopped::Stopped;
 use crate::target_line::line_with;
 use apfs_model::Bytes;
 use blk_source::{BlockSource, Sink};
