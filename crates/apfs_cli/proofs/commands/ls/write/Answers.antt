@@ -43,7 +43,7 @@ returns-in-Ok-list-clause-answer g c =
     let view : View = c.in-Ok.viewed.view in
     let P : Site → Type 0 = λ site. (image : List ℕ) → g.S.BlockSource.bytes c.reach_view.new.src ≡ Some image → IsLawful image site volume view →
     listing (view_facts image site volume view) target.path ≡ Ok c.in-Ok-list.items.items in
-    let exact = subst P c.site.ensures c.in-Ok-list.ensures.exact in
+    let exact = subst P c.site-site.ensures c.in-Ok-list.ensures.exact in
     view_put_ended g.S.BlockSource.bytes g.S.BlockSource.faults (Ls target) (command.wanted target.path) (command.told target.path) target (Image c.args.src.now) (Image c.list.new.src) seen volume view
     (ls_text c.in-Ok-list.items.items) c.put_lines.result (sunk g.W.Sink.contents g.W.Sink.faults c.args.out.now c.put_lines.new.out) (ls_over target) (λ lacks. lacks)
     (λ image given. c.in-Ok.ensures.clear image given)
@@ -62,8 +62,8 @@ returns-clause-answer g c =
     let P : Site → Type 0 = λ site. (image : List ℕ) → bytes c.reach_view.new.src ≡ Some image → IsLawful image site volume view →
     IsGiven (λ (rows : Vec Target Global). rows.items) (listing (view_facts image site volume view) target.path) (Err stop) in
     let Q : Site → Type 0 = λ site. (image : List ℕ) → bytes c.reach_view.new.src ≡ Some image → IsStopThere image site volume view stop in
-    let exact = subst P c.site.ensures c.in-Err-list.ensures.exact in
-    let present = subst Q c.site.ensures c.in-Err-list.ensures.present in
+    let exact = subst P c.site-site.ensures c.in-Err-list.ensures.exact in
+    let present = subst Q c.site-site.ensures c.in-Err-list.ensures.present in
     let later : faults c.args.src.now ≤ faults c.reach_view.new.src = c.in-Ok.ensures.kept.later in
     rw c.stopped_on_path.ensures
     (view_stop_ended bytes faults (Ls target) (command.wanted target.path) (command.told target.path) target (Image c.args.src.now) (Image c.list.new.src) seen volume view stop

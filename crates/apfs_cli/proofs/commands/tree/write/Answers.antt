@@ -44,7 +44,7 @@ returns-in-Ok-tree-clause-answer g c =
     let view : View = c.in-Ok.viewed.view in
     let P : Site → Type 0 = λ site. (image : List ℕ) → g.S.BlockSource.bytes c.reach_view.new.src ≡ Some image → IsLawful image site volume view →
     tree (view_facts image site volume view) target.path ≡ Ok c.in-Ok-tree.items.items in
-    let exact = subst P c.site.ensures c.in-Ok-tree.ensures.exact in
+    let exact = subst P c.site-site.ensures c.in-Ok-tree.ensures.exact in
     view_put_ended g.S.BlockSource.bytes g.S.BlockSource.faults (Tree target) (command.wanted target.path) (command.told target.path) target (Image c.args.src.now) (Image c.tree.new.src) seen volume view
     (tree_text c.in-Ok-tree.items.items) c.put_lines.result (sunk g.W.Sink.contents g.W.Sink.faults c.args.out.now c.put_lines.new.out) (tree_over target) (λ lacks. lacks)
     (λ image given. c.in-Ok.ensures.clear image given)
@@ -63,10 +63,10 @@ returns-clause-answer g c =
     let P : Site → Type 0 = λ site. (image : List ℕ) → bytes c.reach_view.new.src ≡ Some image → IsLawful image site volume view →
     IsGiven (λ (rows : Vec (List ℕ × Target) Global). rows.items) (tree (view_facts image site volume view) target.path) (Err stop) in
     let Q : Site → Type 0 = λ site. (image : List ℕ) → bytes c.reach_view.new.src ≡ Some image → IsStopThere image site volume view stop in
-    let exact = subst P c.site.ensures c.in-Err-tree.ensures.exact in
-    let present = subst Q c.site.ensures c.in-Err-tree.ensures.present in
+    let exact = subst P c.site-site.ensures c.in-Err-tree.ensures.exact in
+    let present = subst Q c.site-site.ensures c.in-Err-tree.ensures.present in
     let R : Site → Type 0 = λ site. (image : List ℕ) → bytes c.reach_view.new.src ≡ Some image → (fault : TreeFault) → ◌≡◌ {A = Result (Vec (List ℕ × Target) Global) (Stop PathStop)} (Err stop) (Err (Found (Fault fault))) → IsTold (view_facts image site volume view) target.path fault in
-    let told = subst R c.site.ensures c.in-Err-tree.ensures.told in
+    let told = subst R c.site-site.ensures c.in-Err-tree.ensures.told in
     let later : faults c.args.src.now ≤ faults c.reach_view.new.src = c.in-Ok.ensures.kept.later in
     rw c.stopped_on_path.ensures
     (view_stop_ended bytes faults (Tree target) (command.wanted target.path) (command.told target.path) target (Image c.args.src.now) (Image c.tree.new.src) seen volume view stop
