@@ -16,7 +16,7 @@ use Rattle.apfs_cli.specs.declared.words.Command.{Command}
 use Rattle.apfs_cli.specs.declared.words.Command.TheVariants as commands
 use Rattle.apfs_cli.specs.ByCommand.{takes_image, lead_of, IsText, IsFault, IsFeature, IsAnswer, HasResult}
 use Rattle.apfs_cli.specs.Outcome.{Outcome, text_of, Written, Faulty, Usage, ReadFailed, WriteFailed, OutOfMemory, Refused, Answered, NoImage}
-use Rattle.apfs_cli.specs.Says.{LacksImage, IsGiven, OfRun, SourceFailed, HasFailed, BeginsText, IsPart, StopsAt, AnswersAt, Says, HasEnded}
+use Rattle.apfs_cli.specs.Says.{LacksImage, IsGiven, OfRun, SourceFailed, HasFailed, BeginsText, IsPart, IsTextIf, StopsAt, AnswersAt, Says, HasEnded}
 use Rattle.apfs_cli.specs.Seen.{outcome_of, stopped_at}
 use Rattle.apfs_cli.specs.Words.{Asked, said}
 use Rattle.apfs_cli.specs.Written.{Sunk, IsPut}
@@ -29,6 +29,8 @@ each_lacks S commands.Info = tt
 each_lacks S commands.Volumes = tt
 each_lacks S commands.Space = tt
 each_lacks S (commands.Snapshots volume) = tt
+each_lacks S (commands.Ls target) = tt
+each_lacks S (commands.Tree target) = tt
 
 -- a fact of the command and the image that another follows from
 of_run : {S : Type 0} (bytes : S → Option (List ℕ)) (command : Option Asked) (opened : Opened S) (P Q : Asked → List ℕ → Type 0) →
@@ -38,9 +40,9 @@ of_run bytes (Some command) opened P Q follows fact = (fact.0, λ image given. f
 
 -- a prefix of a text that a command has is a part of what it writes
 part_of_text : {S : Type 0} (bytes : S → Option (List ℕ)) (command : Option Asked) (opened : Opened S) (text part rest : List ℕ) → text ≡ part ++ rest →
-    OfRun bytes command opened (λ c image. IsText c image text) → IsPart bytes command opened part
+    OfRun bytes command opened (λ c image. IsTextIf c image text) → IsPart bytes command opened part
 part_of_text bytes command opened text part rest split told =
-    inr (of_run bytes command opened (λ c image. IsText c image text) (λ c image. BeginsText c image part) (λ c image is. inr (text, is, (rest, split))) told)
+    inr (of_run bytes command opened (λ c image. IsTextIf c image text) (λ c image. BeginsText c image part) (λ c image is. inr (text, is, (rest, split))) told)
 
 -- what a command writes before it looks is a part of what it writes
 part_of_lead : {S : Type 0} (bytes : S → Option (List ℕ)) (command : Option Asked) (opened : Opened S) (lead : List ℕ) (P : Asked → List ℕ → Type 0) →
@@ -64,22 +66,29 @@ part_of bytes faults command old new out (Answered lead answer) says =
     part_of_lead bytes command old lead (λ c image. AnswersAt c image lead answer) (λ c image at. at.lead_is) says
 part_of bytes faults command old new out NoImage says = inl refl
 
+-- a text was put that is the command's, where what it rests on holds
+pub put_ended_if : {S : Type 0} (bytes : S → Option (List ℕ)) (faults : S → ℕ) (command : Option Asked) (old new : Opened S) (text : List ℕ) (ended : Result Unit Stopped) (out : Sunk) →
+    OfRun bytes command old (λ c image. IsTextIf c image text) → IsPut text ended out → HasEnded bytes faults command old new ended out
+put_ended_if bytes faults command old new text (Ok done) out told put = (text, told, put.0)
+put_ended_if bytes faults command old new text (Err stops.WriteFailed) out told put =
+    let taken = part_taken out.old out.new text put.1 in
+    (taken.0, (put.0, part_of_text bytes command old text taken.0 taken.1.0 taken.1.1 told), taken.2)
+put_ended_if bytes faults command old new text (Err stops.OutOfMemory) out told put =
+    let taken = part_taken out.old out.new text put.1 in
+    (taken.0, part_of_text bytes command old text taken.0 taken.1.0 taken.1.1 told, taken.2)
+put_ended_if bytes faults command old new text (Err (stops.Faulty fault)) out told put = absurd put.0
+put_ended_if bytes faults command old new text (Err stops.Usage) out told put = absurd put.0
+put_ended_if bytes faults command old new text (Err stops.ReadFailed) out told put = absurd put.0
+put_ended_if bytes faults command old new text (Err (stops.Refused feature block)) out told put = absurd put.0
+put_ended_if bytes faults command old new text (Err (stops.Answered answer)) out told put = absurd put.0
+put_ended_if bytes faults command old new text (Err stops.NoImage) out told put = absurd put.0
+
 -- the text of a command was put
 pub put_ended : {S : Type 0} (bytes : S → Option (List ℕ)) (faults : S → ℕ) (command : Option Asked) (old new : Opened S) (text : List ℕ) (ended : Result Unit Stopped) (out : Sunk) →
     OfRun bytes command old (λ c image. IsText c image text) → IsPut text ended out → HasEnded bytes faults command old new ended out
-put_ended bytes faults command old new text (Ok done) out told put = (text, told, put.0)
-put_ended bytes faults command old new text (Err stops.WriteFailed) out told put =
-    let taken = part_taken out.old out.new text put.1 in
-    (taken.0, (put.0, part_of_text bytes command old text taken.0 taken.1.0 taken.1.1 told), taken.2)
-put_ended bytes faults command old new text (Err stops.OutOfMemory) out told put =
-    let taken = part_taken out.old out.new text put.1 in
-    (taken.0, part_of_text bytes command old text taken.0 taken.1.0 taken.1.1 told, taken.2)
-put_ended bytes faults command old new text (Err (stops.Faulty fault)) out told put = absurd put.0
-put_ended bytes faults command old new text (Err stops.Usage) out told put = absurd put.0
-put_ended bytes faults command old new text (Err stops.ReadFailed) out told put = absurd put.0
-put_ended bytes faults command old new text (Err (stops.Refused feature block)) out told put = absurd put.0
-put_ended bytes faults command old new text (Err (stops.Answered answer)) out told put = absurd put.0
-put_ended bytes faults command old new text (Err stops.NoImage) out told put = absurd put.0
+put_ended bytes faults command old new text ended out told put =
+    put_ended_if bytes faults command old new text ended out
+    (of_run bytes command old (λ c image. IsText c image text) (λ c image. IsTextIf c image text) (λ c image is rests. is) told) put
 
 -- what a stop says of a command and an image, where nothing was written
 abbrev pub StopTells : {F : Type 0} → Asked → List ℕ → (F → Fault) → Stop F → Type 0
@@ -131,7 +140,7 @@ failed_same faults counts (Some command) old new before after rises failed = ris
 pub says_same : {S T : Type 0} (bytes : S → Option (List ℕ)) (faults : S → ℕ) (tells : T → Option (List ℕ)) (counts : T → ℕ) (command : Option Asked) (old new : S) (before after : T) (out : Sunk) (o : Outcome) →
     bytes old ≡ tells before → (Rose (faults old) (faults new) → Rose (counts before) (counts after)) →
     Says bytes faults command (Image old) (Image new) out o → Says tells counts command (Image before) (Image after) out o
-says_same bytes faults tells counts command old new before after out (Written text) same rises says = run_same bytes tells command old before (λ c image. IsText c image text) same says
+says_same bytes faults tells counts command old new before after out (Written text) same rises says = run_same bytes tells command old before (λ c image. IsTextIf c image text) same says
 says_same bytes faults tells counts command old new before after out (Faulty lead fault) same rises says = run_same bytes tells command old before (λ c image. StopsAt c image lead (IsFault c image fault)) same says
 says_same bytes faults tells counts command old new before after out Usage same rises says = says
 says_same bytes faults tells counts command old new before after out (ReadFailed part) same rises says =

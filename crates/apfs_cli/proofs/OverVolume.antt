@@ -31,12 +31,14 @@ result_clear command named image is (inl has) = inl (is.text image has.0 has.1)
 result_clear command named image is (inr has) = elim (is.answer image has.0 has.1) [ inl lacks ↦ inr lacks.1 | inr volume ↦ inl volume ]
 
 -- where the slot that is meant holds none, that is the only answer
-no_volume_answers : (command : Asked) (named : Option ℕ) (image : List ℕ) (answer : Answer) → IsOverVolume command named → answer ≡ NoVolume → HasNoVolume image named → AnswersAt command image [] answer
+pub no_volume_answers : (command : Asked) (named : Option ℕ) (image : List ℕ) (answer : Answer) → IsOverVolume command named → answer ≡ NoVolume → HasNoVolume image named → AnswersAt command image [] answer
 no_volume_answers command named image answer is same lacks = record {
   lead_is = is.lead_is;
-  none = λ text has. volume_or_none image named (is.text image text has) lacks;
-  only = λ other has. elim (is.answer image other has) [ inl which ↦ which.0 ∙ sym same | inr volume ↦ absurd (volume_or_none image named volume lacks) ];
-  answer_is = let P : Answer → Type 0 = λ a. IsAnswer command image a in subst P (sym same) (is.none image lacks);
+  only_is = λ rests. record {
+    none = λ text has. volume_or_none image named (is.text image text has) lacks;
+    only = λ other has. elim (is.answer image other has) [ inl which ↦ which.0 ∙ sym same | inr volume ↦ absurd (volume_or_none image named volume lacks) ];
+    answer_is = let P : Answer → Type 0 = λ a. IsAnswer command image a in subst P (sym same) (is.none image lacks);
+  };
 }
 
 -- a command on the volume that is meant stopped on its way to it, and nothing was written

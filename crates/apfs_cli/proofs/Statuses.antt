@@ -6,13 +6,14 @@ use Rattle.blk_source.specs.declared.source.Opened.TheVariants.{Absent, Image}
 use Rattle.obj_base.specs.declared.stop.Feature.{Feature}
 use Rattle.apfs_check.specs.declared.fault.Fault.{Fault}
 use Rattle.path_walk.specs.declared.answer.Answer.{Answer}
-use Rattle.apfs_cli.specs.ByCommand.{takes_image, IsText, IsAnswer}
+use Rattle.apfs_cli.specs.ByCommand.{takes_image, IsText, IsAnswer, RestsOn}
 use Rattle.apfs_cli.specs.Outcome.{Outcome, status_of, text_of, Written, Faulty, Usage, ReadFailed, WriteFailed, OutOfMemory, Refused, Answered, NoImage}
 use Rattle.apfs_cli.specs.Says.{LacksImage, IsGiven, SourceFailed, Says, HasNoImage}
 use Rattle.apfs_cli.specs.Words.{Asked}
 use Rattle.apfs_cli.specs.Written.{Sunk, Failed, Ends}
 use Rattle.apfs_cli.specs.Rows.{BothWrote, HasText, NamesFault, NamesFeature, NamesAnswer, SaysReadFailed, SaysOutOfMemory, HasFailedPut, HasDefinedText, HasDefinedAnswer, IsExactly, IsWholeOrFree, IsAnsweredOrFree}
-use Rattle.apfs_cli.proofs.Answered.{text_or_answer}
+use Rattle.apfs_cli.proofs.Answered.{text_or_answer, text_rests, answer_rests}
+use Rattle.apfs_cli.proofs.ByAnswers.{for_answer}
 use Rattle.apfs_cli.proofs.Endings.{part_of}
 
 -- what a run has come to, and how it ended
@@ -204,7 +205,8 @@ text_status bytes faults command old new out (ReadFailed part) image text given 
 text_status bytes faults command old new out (WriteFailed part) image text given defined says = inr (inr (inl refl))
 text_status bytes faults command old new out (OutOfMemory part) image text given defined says = inr (inr (inr refl))
 text_status bytes faults command old new out (Refused lead feature block) image text given defined says = absurd ((says.1 image given).none (inl (text, defined)))
-text_status bytes faults command old new out (Answered lead answer) image text given defined says = absurd ((says.1 image given).none text defined)
+text_status bytes faults command old new out (Answered lead answer) image text given defined says =
+    absurd (((says.1 image given).only_is (for_answer answer (Unit {0}) (Unit {0}) (RestsOn command image) tt tt (text_rests command image text defined))).none text defined)
 text_status bytes faults command old new out NoImage image text given defined says = absurd (given_not_lacking bytes (takes_image command) old image given says)
 
 -- a status, or 4, or 5
@@ -250,7 +252,7 @@ whole_row {S} bytes faults command old new result out err (o, says, ends) has =
 -- the outcomes where the command has an answer of the image
 answer_status : {S : Type 0} (bytes : S → Option (List ℕ)) (faults : S → ℕ) (command : Asked) (old new : Opened S) (out : Sunk) (o : Outcome) (image : List ℕ) (answer : Answer) →
     IsGiven bytes (takes_image command) old image → IsAnswer command image answer → Says bytes faults (Some command) old new out o → IsAnsweredOrFree (status_of o)
-answer_status bytes faults command old new out (Written text) image answer given defined says = absurd (text_or_answer command image text answer (says.1 image given) defined)
+answer_status bytes faults command old new out (Written text) image answer given defined says = absurd (text_or_answer command image text answer (says.1 image given (answer_rests command image answer defined)) defined)
 answer_status bytes faults command old new out (Faulty lead fault) image answer given defined says = absurd ((says.1 image given).none (inr (answer, defined)))
 answer_status bytes faults command old new out Usage image answer given defined says = Prim.cc
 answer_status bytes faults command old new out (ReadFailed part) image answer given defined says = inr (inl refl)

@@ -25,7 +25,7 @@ use Rattle.apfs_cli.specs.Seen.{stopped_at}
 use Rattle.apfs_cli.proofs.Stops.{one_newest, no_newest_fault, no_newest_feature}
 
 -- the slot that is meant holds one thing
-one_held : (image : List ℕ) (named : Option ℕ) (a b : Seen) (x y : Option VolHead) → IsMeant image named a x → IsMeant image named b y → x ≡ y
+pub one_held : (image : List ℕ) (named : Option ℕ) (a b : Seen) (x y : Option VolHead) → IsMeant image named a x → IsMeant image named b y → x ≡ y
 one_held image named a b x y first second =
     first.same ∙ ap (λ s. meant_head named (heads_of image s)) (one_newest image a b first.newest.newest second.newest.newest) ∙ sym second.same
 

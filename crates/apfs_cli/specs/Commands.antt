@@ -4,3 +4,5 @@ pub mod Info
 pub mod Volumes
 pub mod Space
 pub mod Snapshots
+pub mod Ls
+pub mod Tree

@@ -5,6 +5,8 @@ pub mod Names
 pub mod FaultTexts
 pub mod Checkpoints
 pub mod Meant
+pub mod MeantView
+pub mod OnView
 pub mod Commands
 pub mod ByCommand
 pub mod ReportText

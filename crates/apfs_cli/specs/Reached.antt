@@ -3,7 +3,10 @@ use Rattle.std.specs.Prelude.{◌≡◌, ◌⊎◌, ℕ, List, Option}
 use Rattle.path_walk.specs.declared.answer.Answer.TheVariants.{NoVolume}
 use Rattle.apfs_cli.specs.declared.stopped.Stopped.{Stopped}
 use Rattle.apfs_cli.specs.declared.stopped.Stopped.TheVariants.{Faulty, Usage, ReadFailed, WriteFailed, OutOfMemory, Refused, Answered, NoImage}
+use Rattle.cmd_words.specs.Asked.{AskedTarget}
 use Rattle.apfs_cli.specs.Meant.{HasVolume, HasNoVolume, IsMeantFault, IsMeantFeature}
+use Rattle.apfs_cli.specs.MeantView.{HasNoSnapshot}
+use Rattle.apfs_cli.specs.OnView.{ByAnswer}
 
 -- nothing stands in the way: the volume that is meant loads, or its slot holds none
 abbrev pub IsClear : List ℕ → Option ℕ → Type 0
@@ -19,6 +22,17 @@ TellsWay image named OutOfMemory = Unit {0}
 TellsWay image named Usage = Unit {0}
 TellsWay image named WriteFailed = Unit {0}
 TellsWay image named NoImage = Unit {0}
+
+-- what a stop on the way to the view that is meant says
+abbrev pub TellsViewWay : List ℕ → AskedTarget → Stopped → Type 0
+TellsViewWay image target (Faulty fault) = TellsWay image target.volume (Faulty fault)
+TellsViewWay image target (Refused feature block) = TellsWay image target.volume (Refused feature block)
+TellsViewWay image target (Answered answer) = ByAnswer answer (HasNoVolume image target.volume) (HasNoSnapshot image target) ⊥
+TellsViewWay image target ReadFailed = Unit {0}
+TellsViewWay image target OutOfMemory = Unit {0}
+TellsViewWay image target Usage = Unit {0}
+TellsViewWay image target WriteFailed = Unit {0}
+TellsViewWay image target NoImage = Unit {0}
 
 -- a run stops while it looks at an image: neither for its words, nor for want of an image, nor since a put failed
 abbrev pub IsWhileLooking : Stopped → Type 0

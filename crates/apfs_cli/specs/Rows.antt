@@ -7,7 +7,7 @@ use Rattle.apfs_check.specs.declared.fault.Fault.{Fault}
 use Rattle.path_walk.specs.declared.answer.Answer.{Answer}
 use Rattle.apfs_cli.specs.ByCommand.{takes_image, IsText, IsFault, IsFeature, IsAnswer}
 use Rattle.apfs_cli.specs.Outcome.{Outcome, text_of, line_of, Written, Faulty, ReadFailed, OutOfMemory, Refused, Answered}
-use Rattle.apfs_cli.specs.Says.{IsGiven, OfRun, HasFailed, IsPart, StopsAt, AnswersAt}
+use Rattle.apfs_cli.specs.Says.{IsGiven, OfRun, HasFailed, IsPart, IsTextIf, StopsAt, AnswersAt}
 use Rattle.apfs_cli.specs.Words.{Asked}
 use Rattle.apfs_cli.specs.Written.{Sunk, Failed}
 
@@ -15,9 +15,9 @@ use Rattle.apfs_cli.specs.Written.{Sunk, Failed}
 abbrev pub BothWrote : Sunk → Sunk → Outcome → Type 0
 BothWrote out err outcome = Wrote out.old out.new (text_of outcome) × Wrote err.old err.new (line_of outcome)
 
--- the first sink has the whole text of the command more, the second nothing
+-- the first sink has the whole text of the command more, the second nothing; of a command on a view, where the view meets its rules
 abbrev pub HasText : {S : Type 0} → (S → Option (List ℕ)) → Option Asked → Opened S → Sunk → Sunk → Type 0
-HasText bytes command image out err = (text : List ℕ) × OfRun bytes command image (λ c bs. IsText c bs text) × BothWrote out err (Written text)
+HasText bytes command image out err = (text : List ℕ) × OfRun bytes command image (λ c bs. IsTextIf c bs text) × BothWrote out err (Written text)
 
 -- the second sink has the line of a fault that is there more, the first what the command writes before it looks
 abbrev pub NamesFault : {S : Type 0} → (S → Option (List ℕ)) → Option Asked → Opened S → Sunk → Sunk → Type 0

@@ -6,9 +6,10 @@ use Rattle.blk_source.specs.declared.source.Opened.{Opened}
 use Rattle.blk_source.specs.declared.source.Opened.TheVariants.{Absent, Image}
 use Rattle.path_walk.specs.declared.answer.Answer.{Answer}
 use Rattle.apfs_cli.specs.declared.stopped.Stopped.{Stopped}
+use Rattle.apfs_cli.specs.OnView.{ByAnswer}
 use Rattle.apfs_cli.specs.Words.{Asked}
 use Rattle.apfs_cli.specs.Texts.{IsPrefix}
-use Rattle.apfs_cli.specs.ByCommand.{takes_image, lead_of, IsText, IsFault, IsFeature, IsAnswer, HasResult}
+use Rattle.apfs_cli.specs.ByCommand.{takes_image, lead_of, IsText, IsFault, IsFeature, IsAnswer, RestsOn, HasResult}
 use Rattle.apfs_cli.specs.Outcome.{Outcome, text_of, Written, Faulty, Usage, ReadFailed, WriteFailed, OutOfMemory, Refused, Answered, NoImage}
 use Rattle.apfs_cli.specs.Seen.{outcome_of}
 use Rattle.apfs_cli.specs.Written.{Sunk, Failed}
@@ -46,9 +47,13 @@ abbrev pub HasFailed : {S : Type 0} → (S → ℕ) → Option Asked → Opened 
 HasFailed faults None old new = ⊥
 HasFailed faults (Some command) old new = SourceFailed faults old new
 
+-- a text is the command's, where what it rests on holds
+abbrev pub IsTextIf : Asked → List ℕ → List ℕ → Type 0
+IsTextIf command image text = RestsOn command image → IsText command image text
+
 -- a part of what a command writes: of its lead, or of its text
 abbrev pub BeginsText : Asked → List ℕ → List ℕ → Type 0
-BeginsText command image part = IsPrefix part (lead_of command) ⊎ ((text : List ℕ) × IsText command image text × IsPrefix part text)
+BeginsText command image part = IsPrefix part (lead_of command) ⊎ ((text : List ℕ) × IsTextIf command image text × IsPrefix part text)
 
 -- what may have been written before a run stops: nothing, or a part of what the command writes
 abbrev pub IsPart : {S : Type 0} → (S → Option (List ℕ)) → Option Asked → Opened S → List ℕ → Type 0
@@ -60,16 +65,20 @@ pub record StopsAt (command : Asked) (image lead : List ℕ) (there : Type 0) : 
   pub none : HasResult command image → ⊥
   pub there_is : there
 
--- a command answers of an image: it has no text of it and no other answer, and has written its lead
-pub record AnswersAt (command : Asked) (image lead : List ℕ) (answer : Answer) : Type 0 where
-  pub lead_is : lead ≡ lead_of command
+-- a command has an answer of an image: no text of it and no other answer
+pub record IsOnlyAnswer (command : Asked) (image : List ℕ) (answer : Answer) : Type 0 where
   pub none : (text : List ℕ) → IsText command image text → ⊥
   pub only : (other : Answer) → IsAnswer command image other → other ≡ answer
   pub answer_is : IsAnswer command image answer
 
+-- a command answers of an image, and has written its lead; NoVolume and NoSnapshot rest on nothing
+pub record AnswersAt (command : Asked) (image lead : List ℕ) (answer : Answer) : Type 0 where
+  pub lead_is : lead ≡ lead_of command
+  pub only_is : ByAnswer answer (Unit {0}) (Unit {0}) (RestsOn command image) → IsOnlyAnswer command image answer
+
 -- what an outcome says of the words, of what was handed in and of its bytes, and of the first sink
 abbrev pub Says : {S : Type 0} → (S → Option (List ℕ)) → (S → ℕ) → Option Asked → Opened S → Opened S → Sunk → Outcome → Type 0
-Says bytes faults command old new out (Written text) = OfRun bytes command old (λ c image. IsText c image text)
+Says bytes faults command old new out (Written text) = OfRun bytes command old (λ c image. IsTextIf c image text)
 Says bytes faults command old new out (Faulty lead fault) = OfRun bytes command old (λ c image. StopsAt c image lead (IsFault c image fault))
 Says bytes faults command old new out Usage = command ≡ None
 Says bytes faults command old new out (ReadFailed part) = HasFailed faults command old new × IsPart bytes command old part

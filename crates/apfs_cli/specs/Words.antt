@@ -1,6 +1,7 @@
 -- Which words are a line of a command that the program has, and what they ask for.
 use Rattle.std.specs.Prelude.{ℕ, List, Option, Some, None, option_and_then}
 use Rattle.cmd_words.specs.Asked as lines
+use Rattle.cmd_words.specs.Asked.{AskedTarget, target_asked}
 use Rattle.cmd_words.specs.Lines.{line_of}
 use Rattle.apfs_cli.specs.declared.words.Command.{Command}
 use Rattle.apfs_cli.specs.declared.words.Command.TheVariants as commands
@@ -17,6 +18,10 @@ pub data Asked : Type 0 where
   Space : Asked
   -- the snapshots of the volume in a slot, or of the first volume
   Snapshots : Option ℕ → Asked
+  -- what a path lists in a view
+  Ls : AskedTarget → Asked
+  -- what is under a path in a view
+  Tree : AskedTarget → Asked
 
 -- what a line asks for, where the program has its command
 abbrev pub built : lines.Asked → Option Asked
@@ -26,8 +31,8 @@ built lines.Volumes = Some Volumes
 built lines.Space = Some Space
 built lines.Check = None
 built (lines.Snapshots volume) = Some (Snapshots volume)
-built (lines.Ls target) = None
-built (lines.Tree target) = None
+built (lines.Ls target) = Some (Ls target)
+built (lines.Tree target) = Some (Tree target)
 built (lines.Cat target) = None
 built (lines.Xattr target name) = None
 
@@ -42,3 +47,5 @@ said commands.Info = Info
 said commands.Volumes = Volumes
 said commands.Space = Space
 said (commands.Snapshots volume) = Snapshots volume
+said (commands.Ls target) = Ls (target_asked target)
+said (commands.Tree target) = Tree (target_asked target)

@@ -7,9 +7,11 @@ ghost use Rattle.apfs_cli.specs.Words.{said};
 ghost use Rattle.apfs_cli.specs.Written.{sunk};
 
 mod info;
+mod ls;
 mod ring;
 mod snapshots;
 mod space;
+mod tree;
 mod volumes;
 
 use crate::stopped::Stopped;
@@ -20,11 +22,11 @@ use std::alloc::Global;
 /// Runs a command that takes an image.
 pub fn on_image<S: BlockSource, W: Sink>(
     alloc: Global,
-    command: Command,
+    command: Command<'_>,
     src: &mut S,
     out: &mut W,
 ) -> Result<(), Stopped>
-    ensures answer { HasEnded S.bytes S.faults (Some (said command)) (Image src.old) (Image src.new) result (sunk W.contents W.faults out.old out.new) }
+    ensures answer { HasEnded S.bytes S.faults (Some (said command.entry)) (Image src.old) (Image src.new) result (sunk W.contents W.faults out.old out.new) }
     ensures kept { IsKept S.bytes S.bytes_len S.faults src.old src.new }
 {
     match command {
@@ -33,5 +35,7 @@ pub fn on_image<S: BlockSource, W: Sink>(
         Command::Volumes => volumes::write(alloc, src, out),
         Command::Space => space::write(alloc, src, out),
         Command::Snapshots(volume) => snapshots::write(alloc, volume, src, out),
+        Command::Ls(target) => ls::write(alloc, target, src, out),
+        Command::Tree(target) => tree::write(alloc, target, src, out),
     }
 }

@@ -5,6 +5,7 @@ ghost use Rattle.apfs_check.specs.Raised as raised;
 use apfs_check::Fault;
 use bt_cursor::WalkFault;
 use bt_node::NodeFault;
+use fs_record::TreeFault;
 use nx_ring::RingFault;
 use obj_base::Within;
 use omap_map::OmapFault;
@@ -130,6 +131,65 @@ impl Raise<u64> for PoolFault {
             },
             PoolFault::Walk { root, why } => of_walk(Within::Ephemeral, xid, root, why),
             PoolFault::Value { root, item } => Fault::TreeRecord { root, item },
+        }
+    }
+}
+
+/// A fault of a view has its place.
+impl Raise<()> for TreeFault {
+    ghost raised = { λ place fault. raised.of_view fault };
+
+    fn raise(self, _place: ()) -> Fault {
+        match self {
+            TreeFault::Unsound { block, why } => Fault::Unsound {
+                block,
+                why: Why::Node(why),
+            },
+            TreeFault::Unnamed { slot, oid, xid } => Fault::Unnamed {
+                within: Within::Volume(slot),
+                oid,
+                xid,
+            },
+            TreeFault::Order { slot, xid, item } => Fault::Order { slot, xid, item },
+            TreeFault::Counts { slot, xid } => Fault::Counts { slot, xid },
+            TreeFault::Record {
+                slot,
+                xid,
+                item,
+                why,
+            } => Fault::Record {
+                slot,
+                xid,
+                item,
+                why,
+            },
+            TreeFault::DupName(at) => Fault::DupName(at),
+            TreeFault::Hash(at) => Fault::Hash(at),
+            TreeFault::NoParent(at) => Fault::NoParent(at),
+            TreeFault::NoInode {
+                slot,
+                xid,
+                id,
+                name,
+            } => Fault::NoInode {
+                slot,
+                xid,
+                id,
+                name,
+            },
+            TreeFault::KindMismatch(at) => Fault::KindMismatch(at),
+            TreeFault::DirNames(at) => Fault::DirNames(at),
+            TreeFault::Unreached(at) => Fault::Unreached(at),
+            TreeFault::Children(at) => Fault::Children(at),
+            TreeFault::Links(at) => Fault::Links(at),
+            TreeFault::SiblingLost(at) => Fault::SiblingLost(at),
+            TreeFault::ExtentOrder(at) => Fault::ExtentOrder(at),
+            TreeFault::ExtentPlace(at) => Fault::ExtentPlace(at),
+            TreeFault::ExtentUncovered(at) => Fault::ExtentUncovered(at),
+            TreeFault::LinkTarget(at) => Fault::LinkTarget(at),
+            TreeFault::Stream(at) => Fault::Stream(at),
+            TreeFault::AttrOwner(at) => Fault::AttrOwner(at),
+            TreeFault::NameHash(at) => Fault::NameHash(at),
         }
     }
 }

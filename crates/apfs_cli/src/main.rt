@@ -7,12 +7,15 @@ mod fault_places;
 mod fault_text;
 mod fault_words;
 mod meant;
+mod meant_view;
+mod on_path;
 mod over_cache;
 mod put;
 mod run;
 mod say;
 mod shown;
 mod stopped;
+mod target_line;
 #[cfg(test)]
 mod tests;
 mod words;

@@ -59,11 +59,11 @@ fn kept_size_of<S: BlockSource>(src: &mut S) -> Result<u32, ReadFailed>
 /// Runs a command on an image whose blocks are kept as they are read, and gives the image back.
 pub fn on_cache<S: BlockSource, W: Sink>(
     alloc: Global,
-    command: Command,
+    command: Command<'_>,
     mut src: S,
     out: &mut W,
 ) -> (Result<(), Stopped>, S)
-    ensures answer { HasEnded S.bytes S.faults (Some (said command)) (Image src) (Image result.1) result.0 (sunk W.contents W.faults out.old out.new) }
+    ensures answer { HasEnded S.bytes S.faults (Some (said command.entry)) (Image src) (Image result.1) result.0 (sunk W.contents W.faults out.old out.new) }
     ensures kept { IsKept S.bytes S.bytes_len S.faults src result.1 }
 {
     let size = match kept_size_of(&mut src) {

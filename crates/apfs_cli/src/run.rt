@@ -18,11 +18,11 @@ use std::mem;
 // Runs a command on what was handed in.
 fn on_opened<S: BlockSource, W: Sink>(
     alloc: Global,
-    command: Command,
+    command: Command<'_>,
     image: &mut Opened<S>,
     out: &mut W,
 ) -> Result<(), Stopped>
-    ensures answer { HasEnded S.bytes S.faults (Some (said command)) image.old image.new result (sunk W.contents W.faults out.old out.new) }
+    ensures answer { HasEnded S.bytes S.faults (Some (said command.entry)) image.old image.new result (sunk W.contents W.faults out.old out.new) }
     ensures kept { IsOpenedKept S.bytes S.bytes_len image.old image.new }
 {
     match mem::replace(image, Opened::Absent) {

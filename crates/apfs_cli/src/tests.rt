@@ -12,6 +12,7 @@ use images::{Image, handed};
 use std::alloc::{AllocError, Global};
 use std::cell::Cell;
 use std::io::{self, Write};
+use std::process::Abort;
 use std::test::Fail;
 
 const ROOM: usize = 4096;
@@ -54,58 +55,74 @@ fn ended_with(ended: &Ended, status: u8, out: &str, err: &str) -> bool {
         && ended.err.contents() == err.as_bytes()
 }
 
-#[test]
-fn cases_end_as_said(rt: HostRuntime) -> Result<(), Fail> {
-    for (name, image, words, status, out, err) in CASES {
-        let ended = end(rt.alloc(), *image, words, [&[], &[], &[]])?;
+// Whether each case ends as is said.
+fn end_as_said(rt: &impl Abort, alloc: Global, cases: &[Case]) -> Result<(), Fail> {
+    for (name, image, words, status, out, err) in cases {
+        let ended = end(alloc, *image, words, [&[], &[], &[]])?;
         let as_said = ended_with(&ended, *status, out, err);
         assert!(rt; as_said, "{name}: status {}", ended.status);
     }
     Ok(())
+}
+
+#[test]
+fn cases_end_as_said(rt: HostRuntime) -> Result<(), Fail> {
+    end_as_said(&rt, rt.alloc(), CASES)
 }
 
 #[test]
 fn feature_cases_end_as_said(rt: HostRuntime) -> Result<(), Fail> {
-    for (name, image, words, status, out, err) in FEATURE_CASES {
-        let ended = end(rt.alloc(), *image, words, [&[], &[], &[]])?;
-        let as_said = ended_with(&ended, *status, out, err);
-        assert!(rt; as_said, "{name}: status {}", ended.status);
-    }
-    Ok(())
+    end_as_said(&rt, rt.alloc(), FEATURE_CASES)
 }
 
 #[test]
 fn volume_cases_end_as_said(rt: HostRuntime) -> Result<(), Fail> {
-    for (name, image, words, status, out, err) in VOLUME_CASES {
-        let ended = end(rt.alloc(), *image, words, [&[], &[], &[]])?;
-        let as_said = ended_with(&ended, *status, out, err);
-        assert!(rt; as_said, "{name}: status {}", ended.status);
+    end_as_said(&rt, rt.alloc(), VOLUME_CASES)
+}
+
+#[test]
+fn view_cases_end_as_said(rt: HostRuntime) -> Result<(), Fail> {
+    end_as_said(&rt, rt.alloc(), VIEW_CASES)
+}
+
+// Whether a run ends with 3 and writes nothing, for each of its reads that is refused, which are so many at least.
+fn fail_at_each_read(
+    rt: &impl Abort,
+    alloc: Global,
+    rows: &[(Image, &[&str], u64)],
+) -> Result<(), Fail> {
+    for (image, words, reads) in rows {
+        let whole = end(alloc, *image, words, [&[], &[], &[]])?;
+        assert!(rt;
+            whole.reads >= *reads && whole.reads < 40,
+            "{} reads",
+            whole.reads
+        );
+        for number in 1..=whole.reads {
+            let ended = end(alloc, *image, words, [&[number], &[], &[]])?;
+            let as_said = ended_with(&ended, 3, "", "apfs: read failed\n");
+            assert!(rt; as_said, "read {number}: status {}", ended.status);
+        }
     }
     Ok(())
 }
 
 #[test]
 fn failure_of_each_read(rt: HostRuntime) -> Result<(), Fail> {
-    for (image, words, reads) in [
+    let rows = [
         (Image::Ring, RING, 9),
         (Image::Empty, INFO, 14),
         (Image::Small, VOLUMES, 17),
         (Image::Views, SNAPSHOTS, 20),
         (Image::Small, SPACE, 15),
-    ] {
-        let whole = end(rt.alloc(), image, words, [&[], &[], &[]])?;
-        assert!(rt;
-            whole.reads >= reads && whole.reads < 40,
-            "{} reads",
-            whole.reads
-        );
-        for number in 1..=whole.reads {
-            let ended = end(rt.alloc(), image, words, [&[number], &[], &[]])?;
-            let as_said = ended_with(&ended, 3, "", "apfs: read failed\n");
-            assert!(rt; as_said, "read {number}: status {}", ended.status);
-        }
-    }
-    Ok(())
+    ];
+    fail_at_each_read(&rt, rt.alloc(), &rows)
+}
+
+#[test]
+fn failure_of_each_read_of_a_view(rt: HostRuntime) -> Result<(), Fail> {
+    let rows = [(Image::Views, LS_OLD, 21), (Image::Views, TREE_OLD, 21)];
+    fail_at_each_read(&rt, rt.alloc(), &rows)
 }
 
 // A line of so many bytes, all of them the same.
@@ -188,16 +205,16 @@ fn what_is_written_is_flushed(rt: HostRuntime) -> Result<(), Fail> {
     Ok(())
 }
 
-#[test]
-fn failure_of_each_put(rt: HostRuntime) -> Result<(), Fail> {
-    for (name, image, words, _, out, err) in CASES {
+// Whether each case ends with 4 and writes nothing, where the first put on each sink is refused.
+fn fail_at_the_first_put(rt: &impl Abort, alloc: Global, cases: &[Case]) -> Result<(), Fail> {
+    for (name, image, words, _, out, err) in cases {
         // Nothing is put where there is nothing to write.
         let status = if out.is_empty() && err.is_empty() {
             0
         } else {
             4
         };
-        let ended = end(rt.alloc(), *image, words, [&[], &[1], &[1]])?;
+        let ended = end(alloc, *image, words, [&[], &[1], &[1]])?;
         let as_said = ended_with(&ended, status, "", "");
         assert!(rt; as_said, "{name}: status {}", ended.status);
     }
@@ -205,17 +222,16 @@ fn failure_of_each_put(rt: HostRuntime) -> Result<(), Fail> {
 }
 
 #[test]
+fn failure_of_each_put(rt: HostRuntime) -> Result<(), Fail> {
+    fail_at_the_first_put(&rt, rt.alloc(), CASES)
+}
+
+#[test]
 fn failure_of_each_put_of_features(rt: HostRuntime) -> Result<(), Fail> {
-    for (name, image, words, _, out, err) in FEATURE_CASES {
-        // Nothing is put where there is nothing to write.
-        let status = if out.is_empty() && err.is_empty() {
-            0
-        } else {
-            4
-        };
-        let ended = end(rt.alloc(), *image, words, [&[], &[1], &[1]])?;
-        let as_said = ended_with(&ended, status, "", "");
-        assert!(rt; as_said, "{name}: status {}", ended.status);
-    }
-    Ok(())
+    fail_at_the_first_put(&rt, rt.alloc(), FEATURE_CASES)
+}
+
+#[test]
+fn failure_of_each_put_of_views(rt: HostRuntime) -> Result<(), Fail> {
+    fail_at_the_first_put(&rt, rt.alloc(), VIEW_CASES)
 }

@@ -6,12 +6,12 @@ ghost use Rattle.apfs_cli.specs.ByCommand as by_command;
 ghost use Rattle.apfs_cli.specs.Words.{command_of, said};
 ghost use Rattle.apfs_cli.specs.Words as lines;
 
-use cmd_words::{Line, line_in};
+use cmd_words::{Line, Target, line_in};
 use std::alloc::{AllocError, Global};
 
 /// What a line of words asks for, with its words beside the image.
 #[derive(Clone, Copy, PartialEq, Eq, Debug)]
-pub enum Command {
+pub enum Command<'a> {
     /// The candidates of the descriptor ring.
     Ring,
     /// The newest checkpoint.
@@ -22,22 +22,27 @@ pub enum Command {
     Space,
     /// The snapshots of the volume in the slot that is named, or of the first volume.
     Snapshots(Option<u8>),
+    /// What a path lists in a view.
+    Ls(Target<'a>),
+    /// What is under a path in a view.
+    Tree(Target<'a>),
 }
 
-impl Command {
+impl Command<'_> {
     /// Whether it takes an image.
     pub fn takes_image(self) -> bool
-        ensures { result ≡ by_command.takes_image (said self) }
+        ensures { result ≡ by_command.takes_image (said self.entry) }
     {
         match self {
             Command::Ring | Command::Info | Command::Volumes => true,
             Command::Space | Command::Snapshots(_) => true,
+            Command::Ls(_) | Command::Tree(_) => true,
         }
     }
 }
 
 // The command of a line, where the program has it.
-fn built(line: Line<'_>) -> Option<Command>
+fn built<'a>(line: Line<'a>) -> Option<Command<'a>>
     ensures { option_map said result ≡ lines.built (asked_by line.entry) }
 {
     match line {
@@ -47,14 +52,16 @@ fn built(line: Line<'_>) -> Option<Command>
         Line::Snapshots(volume) => Some(Command::Snapshots(volume)),
         Line::Space => Some(Command::Space),
         Line::Check => None,
-        Line::Ls(_) | Line::Tree(_) | Line::Cat(_) | Line::Xattr(..) => None,
+        Line::Ls(target) => Some(Command::Ls(target)),
+        Line::Tree(target) => Some(Command::Tree(target)),
+        Line::Cat(_) | Line::Xattr(..) => None,
     }
 }
 
 /// What the words ask for; None where they are no line of a command that the program has.
 #[tactic(auto, unfolding(crate::specs::Words::command_of))]
-pub fn asked(alloc: Global, words: &[String]) -> Result<Option<Command>, AllocError>
-    ensures { IfOk result (λ command. option_map said command ≡ command_of (map string_bytes words.now)) }
+pub fn asked<'a>(alloc: Global, words: &'a [String]) -> Result<Option<Command<'a>>, AllocError>
+    ensures { IfOk result (λ command. option_map said command ≡ command_of (map string_bytes words.entry.now)) }
 {
     match line_in(alloc, words)? {
         Some(line) => Ok(built(line)),

@@ -13,6 +13,37 @@ pub type Case = (
     &'static str,
 );
 
+pub const NOT_FOUND: &str = "apfs: answer: NotFound\n";
+
+pub const NOT_DIRECTORY: &str = "apfs: answer: NotDirectory\n";
+
+pub const NO_SNAPSHOT: &str = "apfs: answer: NoSnapshot\n";
+
+pub const HELLO_LINE: &str = "- 16 5 hello.txt\n";
+
+pub const LS: &[&str] = &["ls", "x", "/"];
+
+pub const TREE: &[&str] = &["tree", "x", "/"];
+
+pub const LS_OLD: &[&str] = &["ls", "x", "/", "--snapshot", "s2"];
+
+pub const TREE_OLD: &[&str] = &["tree", "x", "--snapshot=s2", "/"];
+
+// A directory with an empty file.
+pub const FOLDER: Image = Image::Files(&[(16, 2, 4, "d"), (17, 16, 8, "f")]);
+
+// Two empty files whose names are alike.
+pub const ALIKE: Image = Image::Files(&[(16, 2, 8, "a"), (17, 2, 8, "A")]);
+
+// A directory that is named by the root and in itself.
+pub const NAMED_TWICE: Image = Image::Named(&[(16, 2, 4, "d")], &[(16, 16, "d")]);
+
+// A directory with two names in the root.
+pub const TWO_NAMES: Image = Image::Named(&[(16, 2, 4, "c")], &[(2, 16, "d")]);
+
+pub const SPACE_QUEUED_LINES: &str =
+    "blocks 256 free 198\nchunk 0 blocks 256 free 198 bitmap 44\npool blocks 8 free 6\nqueue pool entries 0 blocks 0\nqueue main entries 1 blocks 1\n";
+
 pub const USAGE: &str = "apfs: usage: apfs COMMAND IMAGE [WORDS]\n";
 
 pub const NO_IMAGE: &str = "apfs: no image\n";
@@ -570,5 +601,273 @@ pub const VOLUME_CASES: &[Case] = &[
         1,
         "",
         "apfs: fault: Pool Index 0\n",
+    ),
+];
+
+// Those of the commands on one view.
+pub const VIEW_CASES: &[Case] = &[
+    ("words_ls_alone", Image::Hello, &["ls", "x"], 2, "", USAGE),
+    (
+        "words_ls_stray",
+        Image::Hello,
+        &["ls", "x", "/", "y"],
+        2,
+        "",
+        USAGE,
+    ),
+    ("answer_no_image_ls", Image::Absent, LS, 8, "", NO_IMAGE),
+    ("answer_no_image_tree", Image::Absent, TREE, 8, "", NO_IMAGE),
+    ("clean_ls_none", Image::Small, LS, 0, "", ""),
+    (
+        "clean_ls_empty_path",
+        Image::Hello,
+        &["ls", "x", ""],
+        0,
+        HELLO_LINE,
+        "",
+    ),
+    (
+        "clean_ls_file",
+        Image::Hello,
+        &["ls", "x", "/hello.txt"],
+        0,
+        HELLO_LINE,
+        "",
+    ),
+    (
+        "clean_ls_newline",
+        Image::Files(&[(16, 2, 8, "a\nb")]),
+        LS,
+        0,
+        "- 16 0 a\\x0ab\n",
+        "",
+    ),
+    (
+        "clean_ls_normal_form",
+        Image::Files(&[(16, 2, 8, "ReadMe")]),
+        &["ls", "x", "/README"],
+        0,
+        "- 16 0 ReadMe\n",
+        "",
+    ),
+    (
+        "clean_ls_same_bytes",
+        ALIKE,
+        &["ls", "x", "/A"],
+        0,
+        "- 17 0 A\n",
+        "",
+    ),
+    (
+        "clean_ls_same_bytes_first",
+        ALIKE,
+        &["ls", "x", "/a"],
+        0,
+        "- 16 0 a\n",
+        "",
+    ),
+    ("clean_ls_by_name", ALIKE, LS, 0, "- 17 0 A\n- 16 0 a\n", ""),
+    (
+        "clean_ls_kinds",
+        Image::Files(&[
+            (16, 2, 4, "a"),
+            (17, 2, 10, "b"),
+            (18, 2, 1, "c"),
+            (19, 2, 2, "d"),
+            (20, 2, 6, "e"),
+            (21, 2, 12, "f"),
+            (22, 2, 14, "g"),
+            (23, 2, 9, "h"),
+        ]),
+        LS,
+        0,
+        "d 16 0 a\nl 17 0 b\np 18 0 c\nc 19 0 d\nb 20 0 e\ns 21 0 f\nw 22 0 g\n? 23 0 h\n",
+        "",
+    ),
+    ("clean_ls_live", Image::Views, LS, 0, "- 16 0 new\n", ""),
+    (
+        "clean_ls_snapshot_old",
+        Image::Views,
+        LS_OLD,
+        0,
+        "- 16 0 old\n",
+        "",
+    ),
+    (
+        "clean_ls_snapshot_new",
+        Image::Views,
+        &["ls", "x", "/", "--volume=0", "--snapshot", "s4"],
+        0,
+        "- 16 0 new\n",
+        "",
+    ),
+    (
+        "answer_not_found",
+        Image::Hello,
+        &["ls", "x", "/x"],
+        7,
+        "",
+        NOT_FOUND,
+    ),
+    (
+        "answer_not_directory",
+        Image::Hello,
+        &["ls", "x", "/hello.txt/x"],
+        7,
+        "",
+        NOT_DIRECTORY,
+    ),
+    (
+        "answer_no_volume_ls",
+        Image::Hello,
+        &["ls", "x", "/", "--volume", "7"],
+        7,
+        "",
+        NO_VOLUME,
+    ),
+    (
+        "answer_no_snapshot",
+        Image::Hello,
+        &["ls", "x", "/", "--snapshot", "x"],
+        7,
+        "",
+        NO_SNAPSHOT,
+    ),
+    (
+        "answer_no_snapshot_prefix",
+        Image::Views,
+        &["tree", "x", "/", "--snapshot", "s"],
+        7,
+        "",
+        NO_SNAPSHOT,
+    ),
+    (
+        "feature_later_tree_ls",
+        Image::SmallChanged(VOLUME, volume::RESERVED, &[7]),
+        LS,
+        6,
+        "",
+        "apfs: unsupported: LaterTree block 51\n",
+    ),
+    (
+        "fault_truncated_ls",
+        Image::SmallCutSplit,
+        LS,
+        1,
+        "",
+        "apfs: fault: Truncated have 255 need 256\n",
+    ),
+    (
+        "clean_tree_folder",
+        FOLDER,
+        TREE,
+        0,
+        "d 16 0 d\n- 17 0 d/f\n",
+        "",
+    ),
+    (
+        "clean_tree_below",
+        FOLDER,
+        &["tree", "x", "d"],
+        0,
+        "- 17 0 f\n",
+        "",
+    ),
+    (
+        "clean_tree_file",
+        FOLDER,
+        &["tree", "x", "/d/f"],
+        0,
+        "- 17 0 f\n",
+        "",
+    ),
+    (
+        "clean_tree_snapshot",
+        Image::Views,
+        TREE_OLD,
+        0,
+        "- 16 0 old\n",
+        "",
+    ),
+    (
+        "answer_not_found_tree",
+        FOLDER,
+        &["tree", "x", "/f"],
+        7,
+        "",
+        NOT_FOUND,
+    ),
+    (
+        "fault_dir_names_within",
+        NAMED_TWICE,
+        TREE,
+        1,
+        "",
+        "apfs: fault: DirNames volume 0 view 1 id 16\n",
+    ),
+    (
+        "fault_dir_names_path",
+        NAMED_TWICE,
+        &["tree", "x", "/d"],
+        1,
+        "",
+        "apfs: fault: DirNames volume 0 view 1 id 16\n",
+    ),
+    (
+        "fault_dir_names_beside",
+        TWO_NAMES,
+        TREE,
+        1,
+        "",
+        "apfs: fault: DirNames volume 0 view 1 id 16\n",
+    ),
+    (
+        "fault_view_order",
+        Image::Backwards,
+        TREE,
+        1,
+        "",
+        "apfs: fault: Order volume 0 view 1 item 1\n",
+    ),
+    (
+        "fault_view_counts",
+        Image::SmallChanged(FILES_TREE, ROOT_KEY_COUNT, &[5]),
+        TREE,
+        1,
+        "",
+        "apfs: fault: Counts volume 0 view 1\n",
+    ),
+    (
+        "fault_view_unsound",
+        Image::SmallChanged(FILES_TREE, object::SUBTYPE, &[15]),
+        LS,
+        1,
+        "",
+        "apfs: fault: Unsound block 54 BadSubtype\n",
+    ),
+    (
+        "fault_record_length",
+        Image::ShortInode,
+        TREE,
+        1,
+        "",
+        "apfs: fault: Record volume 0 view 1 item 4 Length\n",
+    ),
+    ("clean_ls_record_unneeded", Image::ShortInode, LS, 0, "", ""),
+    (
+        "fault_no_inode",
+        Image::Named(&[], &[(2, 17, "e")]),
+        LS,
+        1,
+        "",
+        "apfs: fault: NoInode volume 0 view 1 id 2 name e\n",
+    ),
+    (
+        "clean_space_queued",
+        Image::Queued,
+        SPACE,
+        0,
+        SPACE_QUEUED_LINES,
+        "",
     ),
 ];

@@ -4,8 +4,13 @@ use apfs_layout::node::{INFO_LEN, KEY_COUNT, TABLE};
 use apfs_layout::object::SUM;
 use apfs_layout::value::{SNAPSHOT_FLAGS, SNAPSHOT_NAME};
 use blk_source::{MemSource, Opened};
-use img_make::{Plan, Sample, edit, make, ring_of_four, sample, skipped_checkpoint, write};
-use std::alloc::Global;
+use fs_name::Names;
+use img_make::records::{EntryPlan, InodePlan};
+use img_make::{
+    FileTree, Item, Leaf, Plan, QueueEntry, Sample, Version, edit, make, ring_of_four, sample,
+    skipped_checkpoint, write,
+};
+use std::alloc::{AllocError, Global};
 use std::test::Fail;
 
 const BLOCK: usize = 4096;
@@ -27,6 +32,9 @@ pub const POOL_INDEX: usize = 2520;
 
 pub const CHUNK_INFO: usize = 43;
 
+// The only node of its file-system tree.
+pub const FILES_TREE: usize = 54;
+
 // The only node of the snapshot metadata tree of the small container's volume.
 pub const SNAPS_TREE: usize = 56;
 
@@ -46,6 +54,9 @@ pub const FIRST_NAME: usize = BLOCK - INFO_LEN - 3;
 pub const FIRST_FLAGS: usize = BLOCK - INFO_LEN - (SNAPSHOT_NAME + 3) + SNAPSHOT_FLAGS;
 
 pub const SECOND_FLAGS: usize = BLOCK - INFO_LEN - 2 * (SNAPSHOT_NAME + 3) + SNAPSHOT_FLAGS;
+
+// The oid of the root of the file-system tree of a made volume.
+const ROOT_OID: u64 = 1028;
 
 // What a case is run on.
 #[derive(Clone, Copy, PartialEq, Eq, Debug)]
@@ -89,6 +100,16 @@ pub enum Image {
     ViewsChanged(usize, usize, &'static [u8]),
     /// A container whose volume has one file with five bytes.
     Hello,
+    /// A container whose volume has these files, each as its id, its parent, its kind and its name.
+    Files(&'static [(u64, u64, u16, &'static str)]),
+    /// A container whose volume has these files, and these further entries, each as its directory, its file and its name.
+    Named(&'static [(u64, u64, u16, &'static str)], &'static [(u64, u64, &'static str)]),
+    /// The small container, and the records of its volume's files stand in the opposite order.
+    Backwards,
+    /// The small container, whose volume has one more inode (16), with a value of 8 bytes.
+    ShortInode,
+    /// The small container, and block 60 waits in the main queue.
+    Queued,
 }
 
 fn made(alloc: Global, plan: &Plan) -> Result<Vec<u8>, Fail> {
@@ -112,6 +133,85 @@ fn two(alloc: Global) -> Result<Vec<u8>, Fail> {
     if let Some(volume) = other.volumes.pop() {
         plan.volumes.push(volume)?;
     }
+    made(alloc, &plan)
+}
+
+// The files of a volume, each as its id, its parent, its kind and its name.
+fn file_tree(
+    alloc: Global,
+    files: &[(u64, u64, u16, &str)],
+    names: &[(u64, u64, &str)],
+) -> Result<FileTree, AllocError> {
+    let mut tree = FileTree::new(alloc, Names::Folded)?;
+    for (id, parent, kind, name) in files {
+        let mut plan = InodePlan::file(*id, *parent);
+        if *kind == 4 {
+            plan = InodePlan::directory(*id, *parent);
+        } else {
+            plan.mode = kind.saturating_mul(0x1000);
+        }
+        tree.add(alloc, plan, name)?;
+    }
+    for (directory, file, name) in names {
+        let plan = EntryPlan {
+            directory: *directory,
+            file: *file,
+            kind: 4,
+            sibling: None,
+        };
+        tree.name(alloc, &plan, name)?;
+    }
+    Ok(tree)
+}
+
+// A container whose volume has these records of files.
+fn with_records(alloc: Global, items: Vec<Item>) -> Result<Vec<u8>, Fail> {
+    let mut plan = sample(alloc, Sample::S)?;
+    let Some(mut volume) = plan.volumes.pop() else {
+        return Ok(Vec::new(alloc));
+    };
+    let leaf = Leaf {
+        oid: ROOT_OID,
+        items,
+    };
+    let version = Version {
+        xid: 1,
+        snapshot: None,
+        leaves: vec![in alloc; leaf]?,
+    };
+    volume.versions = vec![in alloc; version]?;
+    plan.volumes.push(volume)?;
+    made(alloc, &plan)
+}
+
+// A container whose volume has its two directories alone, and their records in the opposite order.
+fn backwards(alloc: Global) -> Result<Vec<u8>, Fail> {
+    let mut items = file_tree(alloc, &[], &[])?.items(alloc)?;
+    items.reverse();
+    with_records(alloc, items)
+}
+
+// The key of the inode 16, and a value of 8 bytes.
+fn short_inode(alloc: Global) -> Result<Item, AllocError> {
+    let key = [16, 0, 0, 0, 0, 0, 0, 0x30].to_vec(alloc)?;
+    Ok((key, [0u8; 8].to_vec(alloc)?))
+}
+
+// A container whose volume has such a record besides its two directories.
+fn with_short_inode(alloc: Global) -> Result<Vec<u8>, Fail> {
+    let mut tree = file_tree(alloc, &[], &[])?;
+    tree.record(short_inode(alloc)?)?;
+    with_records(alloc, tree.items(alloc)?)
+}
+
+// The small container, and block 60 waits in the main queue.
+fn queued(alloc: Global) -> Result<Vec<u8>, Fail> {
+    let mut plan = sample(alloc, Sample::S)?;
+    plan.queued.push(QueueEntry {
+        xid: 1,
+        paddr: 60,
+        length: 1,
+    })?;
     made(alloc, &plan)
 }
 
@@ -143,6 +243,13 @@ fn bytes(alloc: Global, image: Image) -> Result<Vec<u8>, Fail> {
             made(alloc, &sample(alloc, Sample::V)?)
         }
         Image::Hello => made(alloc, &sample(alloc, Sample::H)?),
+        Image::Files(files) => with_records(alloc, file_tree(alloc, files, &[])?.items(alloc)?),
+        Image::Named(files, names) => {
+            with_records(alloc, file_tree(alloc, files, names)?.items(alloc)?)
+        }
+        Image::Backwards => backwards(alloc),
+        Image::ShortInode => with_short_inode(alloc),
+        Image::Queued => queued(alloc),
         _ => made(alloc, &sample(alloc, Sample::S)?),
     }
 }
@@ -169,6 +276,8 @@ fn change(image: Image, bytes: &mut [u8]) -> bool {
         Image::SmallUnsummed => write(bytes, BLOCK, VOLUME, SUM, &[0, 0]),
         Image::TwoExchanged => exchange_keys(bytes, MAP_TREE),
         Image::Absent | Image::Empty | Image::Small | Image::Views | Image::Hello => true,
+        Image::Files(_) | Image::Named(..) | Image::Queued => true,
+        Image::Backwards | Image::ShortInode => true,
     }
 }
 

@@ -1,0 +1,58 @@
+-- The commands that are ones on the view that is meant.
+use Rattle.std.specs.Prelude.{◌≡◌, ℕ, List, Result, Ok, Err, refl}
+use Rattle.std.proofs.Common.{inl, inr, sym, subst}
+use Rattle.apfs_model.specs.Lists.{and_then}
+use Rattle.cmd_words.specs.Asked.{AskedTarget}
+use Rattle.view_rules.specs.Facts.{Facts}
+use Rattle.path_walk.specs.Listing.{listing}
+use Rattle.path_walk.specs.Texts.{ls_text, tree_text}
+use Rattle.path_walk.specs.Tree as trees
+use Rattle.path_walk.specs.declared.answer.Answer.{Answer}
+use Rattle.path_walk.proofs.Laws.{IsPathAnswer, listing_answers, tree_answers}
+use Rattle.apfs_cli.specs.Commands.Ls as ls
+use Rattle.apfs_cli.specs.Commands.Tree as tree
+use Rattle.apfs_cli.specs.Words.{Ls, Tree}
+use Rattle.apfs_cli.proofs.ByAnswers.{IsOfPath}
+use Rattle.apfs_cli.proofs.OverView.{IsOverView}
+
+-- NotFound and NotDirectory are answers of a path
+path_is_of : (answer : Answer) → IsPathAnswer answer → IsOfPath answer
+path_is_of answer (inl same) = let P : Answer → Type 0 = λ a. IsOfPath a in subst P (sym same) tt
+path_is_of answer (inr same) = let P : Answer → Type 0 = λ a. IsOfPath a in subst P (sym same) tt
+
+-- the answers of a text are those of what it is made of
+text_answers : {U : Type 0} (wanted : Result U Answer) (text : U → List ℕ) (answer : Answer) → ((a : Answer) → wanted ≡ Err a → IsPathAnswer a) →
+    ◌≡◌ {A = Result (List ℕ) Answer} (and_then wanted (λ x. Ok (text x))) (Err answer) → IsOfPath answer
+text_answers (Ok x) text answer answers e = absurd Prim.cc
+text_answers {U} (Err a) text answer answers e =
+    let same : a ≡ answer = Prim.cc in
+    let P : Answer → Type 0 = λ b. IsPathAnswer b in
+    path_is_of answer (subst P same (answers a refl))
+
+-- `ls` is one
+pub ls_over : (target : AskedTarget) → IsOverView (Ls target) (ls.wanted target.path) (ls.told target.path) target
+ls_over target = record {
+  lead_is = refl;
+  rests = λ image rests. rests;
+  text = λ image text is. is;
+  text_is = λ image text is. is;
+  answer = λ image answer is. is;
+  answer_is = λ image answer is. is;
+  fault_is = λ image fault there. there;
+  feature_is = λ image feature block there. there;
+  of_path = λ size image facts answer e. text_answers (listing facts target.path) ls_text answer (listing_answers facts target.path) e;
+}
+
+-- `tree` is one
+pub tree_over : (target : AskedTarget) → IsOverView (Tree target) (tree.wanted target.path) (tree.told target.path) target
+tree_over target = record {
+  lead_is = refl;
+  rests = λ image rests. rests;
+  text = λ image text is. is;
+  text_is = λ image text is. is;
+  answer = λ image answer is. is;
+  answer_is = λ image answer is. is;
+  fault_is = λ image fault there. there;
+  feature_is = λ image feature block there. there;
+  of_path = λ size image facts answer e. text_answers (trees.tree facts target.path) tree_text answer (tree_answers facts target.path) e;
+}

@@ -1,0 +1,49 @@
+// The command `ls`.
+ghost use Rattle.std.specs.Prelude.{◌≡◌, Some};
+ghost use Rattle.apfs_model.specs.Source.{IsKept};
+ghost use Rattle.cmd_words.specs.Asked.{target_asked};
+ghost use Rattle.path_walk.specs.Texts.{target_text};
+ghost use Rattle.apfs_cli.specs.Says.{HasEnded};
+ghost use Rattle.apfs_cli.specs.Words.{Ls};
+ghost use Rattle.apfs_cli.specs.Written.{sunk};
+ghost use Rattle.blk_source.specs.declared.source.Opened.TheVariants.{Image};
+
+use crate::meant_view::reach_view;
+use crate::on_path::stopped_on_path;
+use crate::put::{Line, put_lines};
+use crate::stopped::Stopped;
+use crate::target_line::target_line;
+use blk_source::{BlockSource, Sink};
+use cmd_words::Target;
+use path_walk::list;
+use std::alloc::{AllocError, Global};
+
+/// A target's kind, id, size and name.
+impl Line for path_walk::Target {
+    ghost text = { λ target. target_text target };
+
+    fn line(&self, alloc: Global) -> Result<Vec<u8>, AllocError> {
+        target_line(alloc, self)
+    }
+}
+
+/// Writes what a path lists in the view that is meant.
+pub fn write<S: BlockSource, W: Sink>(
+    alloc: Global,
+    target: Target<'_>,
+    src: &mut S,
+    out: &mut W,
+) -> Result<(), Stopped>
+    ensures answer { HasEnded S.bytes S.faults (Some (Ls (target_asked target.entry))) (Image src.old) (Image src.new) result (sunk W.contents W.faults out.old out.new) }
+    ensures kept { IsKept S.bytes S.bytes_len S.faults src.old src.new }
+{
+    let viewed = match reach_view(alloc, src, target) {
+        Ok(viewed) => viewed,
+        Err(stopped) => return Err(stopped),
+    };
+    let site = viewed.checkpoint.site();
+    match list(alloc, src, &viewed.volume, &viewed.view, &site, target.path) {
+        Ok(items) => put_lines(alloc, items.as_slice(), out),
+        Err(stop) => Err(stopped_on_path(stop)),
+    }
+}
