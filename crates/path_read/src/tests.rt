@@ -63,7 +63,7 @@ fn made(alloc: Global) -> Result<MemSource, Fail> {
 
 // The volume, its live view and the site.
 fn open(alloc: Global, src: &mut MemSource) -> Result<(Volume, View, Site), Fail>
-    ensures { IfOk result (λ found. IsSiteFor found.1.1 (length src.new.bytes)) }
+    ensures { IfOk result (λ found. IsSiteFor found.2 (length src.new.bytes)) }
 {
     let Ok(cp) = newest(alloc, src) else {
         return Err(Fail::from("no checkpoint"));
