@@ -1,0 +1,192 @@
+-- What a fact that breaks a rule shows.
+use Rattle.std.proofs.Common.{◌≡◌, ℕ, Bool, true, false, List, Option, Some, None, ◌⊎◌, inl, inr, refl, ap, sym, ◌∙◌, subst}
+use Rattle.std.specs.Prelude.{MatchOption, option_or}
+use Rattle.std.specs.List.{find}
+use Rattle.fs_record.specs.Inodes.{Inode}
+use Rattle.fs_record.specs.Entries.{Entry}
+use Rattle.fs_record.specs.Attributes.{Attribute}
+use Rattle.fs_record.specs.Siblings.{Link}
+use Rattle.fs_record.specs.Facts.{Fact}
+use Rattle.fs_record.specs.declared.extents.FileExt.{FileExt}
+use Rattle.fs_record.specs.declared.fault.IdAt.{IdAt}
+use Rattle.fs_record.specs.declared.fault.NamedAt.{NamedAt}
+use Rattle.fs_record.specs.declared.fault.TreeFault.{TreeFault}
+use Rattle.fs_record.specs.declared.fault.TreeFault.TheVariants.{DupName, Hash, NoParent, NoInode, KindMismatch, DirNames, Unreached, Children, Links, SiblingLost, ExtentOrder, ExtentPlace, ExtentUncovered, LinkTarget, Stream, AttrOwner, NameHash}
+use Rattle.view_rules.specs.Words.{IsClear, IsBroken}
+use Rattle.view_rules.specs.Facts.{Facts, id_of_fact}
+use Rattle.view_rules.specs.Names.{HasDistinctEntries, HasDistinctAttributes, HasAsciiHashes, HasNameHashes, entry_place, attribute_place, is_entry_repeated, is_attribute_repeated, has_other_ascii_hash, has_other_name_hash}
+use Rattle.view_rules.specs.Entries.{HasParents, HasFiles, HasKinds, lacks_parent, lacks_inode, has_root, has_other_kind}
+use Rattle.view_rules.specs.Directories.{HasDirNames, HasWays, is_misnamed, is_root_named, IsUnreached}
+use Rattle.view_rules.specs.Counts.{HasChildren, HasLinks, has_other_children, has_other_links}
+use Rattle.view_rules.specs.Siblings.{HasEntryFellows, HasLinkFellows, HasMapFellows, HasMarks, is_entry_lost, is_link_lost, is_map_lost, is_unmarked, sibling_place, link_place, file_place}
+use Rattle.view_rules.specs.Extents.{HasExtentOrder, HasExtentPlaces, HasCover, IsExtentOrder, is_misplaced, is_uncovered}
+use Rattle.view_rules.specs.Inodes.{HasTargets, HasStreamSizes, HasBodySizes, HasOwners, lacks_target, has_large_stream, has_large_body, lacks_owner}
+use Rattle.view_rules.specs.Rules.{HasFactRules}
+use Rattle.view_rules.specs.declared.profile.Profile.TheVariants.{Strict}
+use Rattle.apfs_model.proofs.BoolTests.{clash}
+use Rattle.apfs_model.proofs.Searches.{found-in}
+use Rattle.rule_breaks.proofs.Finds.{none-clear, found-broken}
+use Rattle.rule_breaks.proofs.FellowLooks.{lost_none}
+use Rattle.tree_rules.specs.declared.faults.Asked.{Asked}
+use Rattle.tree_rules.specs.Faults.{id_at, named_at, IsShown, IsFirst}
+
+-- where nothing is found no item breaks the rule
+pub none_clear : {X : Type 0} (breaks : X → Bool) (xs : List X) → None ≡ find breaks xs → IsClear breaks xs
+none_clear breaks xs none = none-clear breaks xs (sym none)
+
+-- some rules hold and some more, or the first fault that is given is there
+pub both : {A B F : Type 0} (Present : F → Type 0) (one other : Option F) → MatchOption one A Present → MatchOption other B Present → MatchOption (option_or one other) (A × B) Present
+both Present (Some f) other there more = there
+both Present None (Some g) holds there = there
+both Present None None holds more = (holds, more)
+
+pub entry_twice : (asked : Asked) (facts : Facts) (x : Fact Entry) (at : NamedAt) → Some x ≡ find (is_entry_repeated facts) facts.entries → at ≡ named_at asked.view.now x.id x.what.name → IsShown asked facts (DupName at)
+entry_twice asked facts x at found is = subst (λ (y : NamedAt). IsShown asked facts (DupName y)) (sym is) ((refl, refl), inl (found-broken (is_entry_repeated facts) entry_place facts.entries x (sym found)))
+
+pub attribute_twice : (asked : Asked) (facts : Facts) (x : Fact Attribute) (at : NamedAt) → Some x ≡ find (is_attribute_repeated facts) facts.attributes → at ≡ named_at asked.view.now x.id x.what.name → IsShown asked facts (DupName at)
+attribute_twice asked facts x at found is = subst (λ (y : NamedAt). IsShown asked facts (DupName y)) (sym is) ((refl, refl), inr (found-broken (is_attribute_repeated facts) attribute_place facts.attributes x (sym found)))
+
+pub other_hash : (asked : Asked) (facts : Facts) (x : Fact Entry) (at : NamedAt) → Some x ≡ find (has_other_ascii_hash facts) facts.entries → at ≡ named_at asked.view.now x.id x.what.name → IsShown asked facts (Hash at)
+other_hash asked facts x at found is = subst (λ (y : NamedAt). IsShown asked facts (Hash y)) (sym is) ((refl, refl), found-broken (has_other_ascii_hash facts) entry_place facts.entries x (sym found))
+
+pub no_parent : (asked : Asked) (facts : Facts) (x : Fact Entry) (at : NamedAt) → Some x ≡ find (lacks_parent facts) facts.entries → at ≡ named_at asked.view.now x.id x.what.name → IsShown asked facts (NoParent at)
+no_parent asked facts x at found is = subst (λ (y : NamedAt). IsShown asked facts (NoParent y)) (sym is) ((refl, refl), found-broken (lacks_parent facts) entry_place facts.entries x (sym found))
+
+pub other_kind : (asked : Asked) (facts : Facts) (x : Fact Entry) (at : NamedAt) → Some x ≡ find (has_other_kind facts) facts.entries → at ≡ named_at asked.view.now x.id x.what.name → IsShown asked facts (KindMismatch at)
+other_kind asked facts x at found is = subst (λ (y : NamedAt). IsShown asked facts (KindMismatch y)) (sym is) ((refl, refl), found-broken (has_other_kind facts) entry_place facts.entries x (sym found))
+
+pub no_inode : (asked : Asked) (facts : Facts) (x : Fact Entry) (at : NamedAt) → Some x ≡ find (lacks_inode facts) facts.entries → at ≡ named_at asked.view.now x.id x.what.name → IsShown asked facts (NoInode at.slot at.xid at.id (Some at.name))
+no_inode asked facts x at found is = subst (λ (y : NamedAt). IsShown asked facts (NoInode y.slot y.xid y.id (Some y.name))) (sym is) ((refl, refl), found-broken (lacks_inode facts) entry_place facts.entries x (sym found))
+
+pub name_hash : (asked : Asked) (facts : Facts) (x : Fact Entry) (at : NamedAt) → Some x ≡ find (has_other_name_hash facts) facts.entries → asked.profile ≡ Strict → at ≡ named_at asked.view.now x.id x.what.name → IsShown asked facts (NameHash at)
+name_hash asked facts x at found strict is = subst (λ (y : NamedAt). IsShown asked facts (NameHash y)) (sym is) ((refl, refl), strict, found-broken (has_other_name_hash facts) entry_place facts.entries x (sym found))
+
+pub misnamed : (asked : Asked) (facts : Facts) (x : Fact Inode) (at : IdAt) → Some x ≡ find (is_misnamed facts) facts.inodes → at ≡ id_at asked.view.now x.id → IsShown asked facts (DirNames at)
+misnamed asked facts x at found is = subst (λ (y : IdAt). IsShown asked facts (DirNames y)) (sym is) ((refl, refl), inl (found-broken (is_misnamed facts) id_of_fact facts.inodes x (sym found)))
+
+pub children : (asked : Asked) (facts : Facts) (x : Fact Inode) (at : IdAt) → Some x ≡ find (has_other_children facts) facts.inodes → at ≡ id_at asked.view.now x.id → IsShown asked facts (Children at)
+children asked facts x at found is = subst (λ (y : IdAt). IsShown asked facts (Children y)) (sym is) ((refl, refl), found-broken (has_other_children facts) id_of_fact facts.inodes x (sym found))
+
+pub links : (asked : Asked) (facts : Facts) (x : Fact Inode) (at : IdAt) → Some x ≡ find (has_other_links facts) facts.inodes → at ≡ id_at asked.view.now x.id → IsShown asked facts (Links at)
+links asked facts x at found is = subst (λ (y : IdAt). IsShown asked facts (Links y)) (sym is) ((refl, refl), found-broken (has_other_links facts) id_of_fact facts.inodes x (sym found))
+
+pub lost_link : (asked : Asked) (facts : Facts) (x : Fact Link) (at : IdAt) → Some x ≡ find (is_link_lost facts) facts.links → at ≡ id_at asked.view.now x.what.sibling → IsShown asked facts (SiblingLost at)
+lost_link asked facts x at found is = subst (λ (y : IdAt). IsShown asked facts (SiblingLost y)) (sym is) ((refl, refl), inr (inl (found-broken (is_link_lost facts) link_place facts.links x (sym found))))
+
+pub lost_map : (asked : Asked) (facts : Facts) (x : Fact ℕ) (at : IdAt) → Some x ≡ find (is_map_lost facts) facts.siblings → at ≡ id_at asked.view.now x.id → IsShown asked facts (SiblingLost at)
+lost_map asked facts x at found is = subst (λ (y : IdAt). IsShown asked facts (SiblingLost y)) (sym is) ((refl, refl), inr (inr (inl (found-broken (is_map_lost facts) id_of_fact facts.siblings x (sym found)))))
+
+pub unmarked : (asked : Asked) (facts : Facts) (x : Fact Entry) (at : IdAt) → Some x ≡ find (is_unmarked facts) facts.entries → at ≡ id_at asked.view.now x.what.file_id → IsShown asked facts (SiblingLost at)
+unmarked asked facts x at found is = subst (λ (y : IdAt). IsShown asked facts (SiblingLost y)) (sym is) ((refl, refl), inr (inr (inr (found-broken (is_unmarked facts) file_place facts.entries x (sym found)))))
+
+pub place : (asked : Asked) (facts : Facts) (x : Fact FileExt) (at : IdAt) → Some x ≡ find (is_misplaced asked.site.now.block_size asked.site.now.blocks) facts.extents → at ≡ id_at asked.view.now x.id → IsShown asked facts (ExtentPlace at)
+place asked facts x at found is = subst (λ (y : IdAt). IsShown asked facts (ExtentPlace y)) (sym is) ((refl, refl), found-broken (is_misplaced asked.site.now.block_size asked.site.now.blocks) id_of_fact facts.extents x (sym found))
+
+pub cover : (asked : Asked) (facts : Facts) (x : Fact FileExt) (at : IdAt) → Some x ≡ find (is_uncovered asked.site.now.block_size asked.ranges.now) facts.extents → at ≡ id_at asked.view.now x.id → IsShown asked facts (ExtentUncovered at)
+cover asked facts x at found is = subst (λ (y : IdAt). IsShown asked facts (ExtentUncovered y)) (sym is) ((refl, refl), found-broken (is_uncovered asked.site.now.block_size asked.ranges.now) id_of_fact facts.extents x (sym found))
+
+pub target : (asked : Asked) (facts : Facts) (x : Fact Inode) (at : IdAt) → Some x ≡ find (lacks_target facts) facts.inodes → at ≡ id_at asked.view.now x.id → IsShown asked facts (LinkTarget at)
+target asked facts x at found is = subst (λ (y : IdAt). IsShown asked facts (LinkTarget y)) (sym is) ((refl, refl), found-broken (lacks_target facts) id_of_fact facts.inodes x (sym found))
+
+pub stream : (asked : Asked) (facts : Facts) (x : Fact Inode) (at : IdAt) → Some x ≡ find has_large_stream facts.inodes → at ≡ id_at asked.view.now x.id → IsShown asked facts (Stream at)
+stream asked facts x at found is = subst (λ (y : IdAt). IsShown asked facts (Stream y)) (sym is) ((refl, refl), inl (found-broken has_large_stream id_of_fact facts.inodes x (sym found)))
+
+pub body : (asked : Asked) (facts : Facts) (x : Fact Attribute) (at : IdAt) → Some x ≡ find has_large_body facts.attributes → at ≡ id_at asked.view.now x.id → IsShown asked facts (Stream at)
+body asked facts x at found is = subst (λ (y : IdAt). IsShown asked facts (Stream y)) (sym is) ((refl, refl), inr (found-broken has_large_body id_of_fact facts.attributes x (sym found)))
+
+pub owner : (asked : Asked) (facts : Facts) (x : Fact Attribute) (at : IdAt) → Some x ≡ find (lacks_owner facts) facts.attributes → at ≡ id_at asked.view.now x.id → IsShown asked facts (AttrOwner at)
+owner asked facts x at found is = subst (λ (y : IdAt). IsShown asked facts (AttrOwner y)) (sym is) ((refl, refl), found-broken (lacks_owner facts) id_of_fact facts.attributes x (sym found))
+
+pub lost_entry : (asked : Asked) (facts : Facts) (x : Fact Entry) (s : ℕ) (at : IdAt) → Some x ≡ find (is_entry_lost facts) facts.entries → x.what.sibling ≡ Some s → at ≡ id_at asked.view.now s → IsShown asked facts (SiblingLost at)
+lost_entry asked facts x s at found twin is =
+    subst (λ (y : IdAt). IsShown asked facts (SiblingLost y)) (sym is) ((refl, refl), inl (subst (λ o. IsBroken (is_entry_lost facts) sibling_place facts.entries o) twin (found-broken (is_entry_lost facts) sibling_place facts.entries x (sym found))))
+
+-- an entry that lacks its fellows is of a sibling
+pub of_sibling : (facts : Facts) (x : Fact Entry) → Some x ≡ find (is_entry_lost facts) facts.entries → x.what.sibling ≡ None → ⊥
+of_sibling facts x found none = clash (is_entry_lost facts x) (found-in (is_entry_lost facts) facts.entries x (sym found)).1 (lost_none facts x none)
+
+pub order : (asked : Asked) (facts : Facts) (id : ℕ) (at : IdAt) → at ≡ id_at asked.view.now id → IsExtentOrder asked.site.now.block_size facts id → IsShown asked facts (ExtentOrder at)
+order asked facts id at is there = subst (λ (y : IdAt). IsShown asked facts (ExtentOrder y)) (sym is) ((refl, refl), there)
+
+pub way : (asked : Asked) (facts : Facts) (id : ℕ) (at : IdAt) → at ≡ id_at asked.view.now id → IsUnreached facts id → IsShown asked facts (Unreached at)
+way asked facts id at is there = subst (λ (y : IdAt). IsShown asked facts (Unreached y)) (sym is) ((refl, refl), there)
+
+-- the root
+pub root : (asked : Asked) (facts : Facts) → has_root facts ≡ false → IsShown asked facts (NoInode asked.view.now.slot asked.view.now.xid 2 None)
+root asked facts fails = ((refl, refl), (refl, fails))
+
+pub root_name : (asked : Asked) (facts : Facts) (at : IdAt) → at ≡ id_at asked.view.now 2 → is_root_named facts ≡ true → IsShown asked facts (DirNames at)
+root_name asked facts at is named = subst (λ (y : IdAt). IsShown asked facts (DirNames y)) (sym is) ((refl, refl), inr (refl, named))
+
+-- the rules on facts, group by group
+abbrev pub names_hold : Facts → Type 0
+names_hold facts = HasDistinctEntries facts × (HasDistinctAttributes facts × HasAsciiHashes facts)
+
+abbrev pub entries_hold : Facts → Type 0
+entries_hold facts = HasParents facts × (HasFiles facts × ((has_root facts ≡ true) × HasKinds facts))
+
+abbrev pub directories_hold : Facts → Type 0
+directories_hold facts = HasDirNames facts × (is_root_named facts ≡ false)
+
+abbrev pub counts_hold : Facts → Type 0
+counts_hold facts = HasChildren facts × HasLinks facts
+
+abbrev pub siblings_hold : Facts → Type 0
+siblings_hold facts = HasEntryFellows facts × (HasLinkFellows facts × (HasMapFellows facts × HasMarks facts))
+
+abbrev pub extents_hold : Asked → Facts → Type 0
+extents_hold asked facts = HasExtentOrder asked.site.now.block_size facts × (HasExtentPlaces asked.site.now.block_size asked.site.now.blocks facts × HasCover asked.site.now.block_size asked.ranges.now facts)
+
+abbrev pub inodes_hold : Facts → Type 0
+inodes_hold facts = HasTargets facts × (HasStreamSizes facts × (HasBodySizes facts × HasOwners facts))
+
+abbrev pub hashes_hold : Asked → Facts → Type 0
+hashes_hold asked facts = asked.profile ≡ Strict → HasNameHashes facts
+
+fact-rules : (asked : Asked) (facts : Facts) → names_hold facts → entries_hold facts → directories_hold facts → HasWays facts → counts_hold facts → siblings_hold facts → extents_hold asked facts → inodes_hold facts → hashes_hold asked facts
+    → HasFactRules asked.profile asked.site.now asked.ranges.now facts
+fact-rules asked facts n e d w c s x i h = record {
+  entry_names = n.0;
+  attribute_names = n.1.0;
+  ascii_hashes = n.1.1;
+  parents = e.0;
+  files = e.1.0;
+  root = e.1.1.0;
+  kinds = e.1.1.1;
+  directory_names = d.0;
+  root_name = d.1;
+  ways = w;
+  children = c.0;
+  links = c.1;
+  entry_fellows = s.0;
+  link_fellows = s.1.0;
+  map_fellows = s.1.1.0;
+  marks = s.1.1.1;
+  extent_order = x.0;
+  extent_places = x.1.0;
+  cover = x.1.1;
+  targets = i.0;
+  stream_sizes = i.1.0;
+  body_sizes = i.1.1.0;
+  owners = i.1.1.1;
+  name_hashes = h;
+}
+
+told-more : {A B F : Type 0} (Present : F → Type 0) (o : Option F) → (A → B) → MatchOption o A Present → MatchOption o B Present
+told-more Present None f holds = f holds
+told-more Present (Some x) f there = there
+
+-- the first fault of all groups
+pub first_of_all : (asked : Asked) (facts : Facts) (n e d w c s x i h : Option TreeFault) → IsFirst asked facts (names_hold facts) n → IsFirst asked facts (entries_hold facts) e → IsFirst asked facts (directories_hold facts) d → IsFirst asked facts (HasWays facts) w → IsFirst asked facts (counts_hold facts) c
+    → IsFirst asked facts (siblings_hold facts) s → IsFirst asked facts (extents_hold asked facts) x → IsFirst asked facts (inodes_hold facts) i → IsFirst asked facts (hashes_hold asked facts) h
+    → IsFirst asked facts (HasFactRules asked.profile asked.site.now asked.ranges.now facts) (option_or n (option_or e (option_or d (option_or w (option_or c (option_or s (option_or x (option_or i h))))))))
+first_of_all asked facts n e d w c s x i h pn pe pd pw pc ps px pi ph =
+    told-more (IsShown asked facts) (option_or n (option_or e (option_or d (option_or w (option_or c (option_or s (option_or x (option_or i h))))))))
+    (λ t. fact-rules asked facts t.0 t.1.0 t.1.1.0 t.1.1.1.0 t.1.1.1.1.0 t.1.1.1.1.1.0 t.1.1.1.1.1.1.0 t.1.1.1.1.1.1.1.0 t.1.1.1.1.1.1.1.1)
+    (both (IsShown asked facts) n (option_or e (option_or d (option_or w (option_or c (option_or s (option_or x (option_or i h))))))) pn
+    (both (IsShown asked facts) e (option_or d (option_or w (option_or c (option_or s (option_or x (option_or i h)))))) pe
+    (both (IsShown asked facts) d (option_or w (option_or c (option_or s (option_or x (option_or i h))))) pd
+    (both (IsShown asked facts) w (option_or c (option_or s (option_or x (option_or i h)))) pw
+    (both (IsShown asked facts) c (option_or s (option_or x (option_or i h))) pc
+    (both (IsShown asked facts) s (option_or x (option_or i h)) ps
+    (both (IsShown asked facts) x (option_or i h) px (both (IsShown asked facts) i h pi ph))))))))
