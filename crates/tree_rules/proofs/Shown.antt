@@ -40,66 +40,66 @@ both Present (Some f) other there more = there
 both Present None (Some g) holds there = there
 both Present None None holds more = (holds, more)
 
-pub entry_twice : (asked : Asked) (facts : Facts) (x : Fact Entry) (at : NamedAt) → Some x ≡ find (is_entry_repeated facts) facts.entries → at ≡ named_at asked.view.now x.id x.what.name → IsShown asked facts (DupName at)
-entry_twice asked facts x at found is = subst (λ (y : NamedAt). IsShown asked facts (DupName y)) (sym is) ((refl, refl), inl (found-broken (is_entry_repeated facts) entry_place facts.entries x (sym found)))
+pub entry_twice : (asked : Asked) (facts : Facts) (x : Fact Entry) (n : ℕ) (name : List ℕ) (at : NamedAt) → Some x ≡ find (is_entry_repeated facts) facts.entries → n ≡ x.id → name ≡ x.what.name → at ≡ named_at asked.view.now n name → IsShown asked facts (DupName at)
+entry_twice asked facts x n name at found called named is = subst (λ (y : NamedAt). IsShown asked facts (DupName y)) (sym (is ∙ (λ i. named_at asked.view.now (called i) (named i)))) ((refl, refl), inl (found-broken (is_entry_repeated facts) entry_place facts.entries x (sym found)))
 
-pub attribute_twice : (asked : Asked) (facts : Facts) (x : Fact Attribute) (at : NamedAt) → Some x ≡ find (is_attribute_repeated facts) facts.attributes → at ≡ named_at asked.view.now x.id x.what.name → IsShown asked facts (DupName at)
-attribute_twice asked facts x at found is = subst (λ (y : NamedAt). IsShown asked facts (DupName y)) (sym is) ((refl, refl), inr (found-broken (is_attribute_repeated facts) attribute_place facts.attributes x (sym found)))
+pub attribute_twice : (asked : Asked) (facts : Facts) (x : Fact Attribute) (n : ℕ) (name : List ℕ) (at : NamedAt) → Some x ≡ find (is_attribute_repeated facts) facts.attributes → n ≡ x.id → name ≡ x.what.name → at ≡ named_at asked.view.now n name → IsShown asked facts (DupName at)
+attribute_twice asked facts x n name at found called named is = subst (λ (y : NamedAt). IsShown asked facts (DupName y)) (sym (is ∙ (λ i. named_at asked.view.now (called i) (named i)))) ((refl, refl), inr (found-broken (is_attribute_repeated facts) attribute_place facts.attributes x (sym found)))
 
-pub other_hash : (asked : Asked) (facts : Facts) (x : Fact Entry) (at : NamedAt) → Some x ≡ find (has_other_ascii_hash facts) facts.entries → at ≡ named_at asked.view.now x.id x.what.name → IsShown asked facts (Hash at)
-other_hash asked facts x at found is = subst (λ (y : NamedAt). IsShown asked facts (Hash y)) (sym is) ((refl, refl), found-broken (has_other_ascii_hash facts) entry_place facts.entries x (sym found))
+pub other_hash : (asked : Asked) (facts : Facts) (x : Fact Entry) (n : ℕ) (name : List ℕ) (at : NamedAt) → Some x ≡ find (has_other_ascii_hash facts) facts.entries → n ≡ x.id → name ≡ x.what.name → at ≡ named_at asked.view.now n name → IsShown asked facts (Hash at)
+other_hash asked facts x n name at found called named is = subst (λ (y : NamedAt). IsShown asked facts (Hash y)) (sym (is ∙ (λ i. named_at asked.view.now (called i) (named i)))) ((refl, refl), found-broken (has_other_ascii_hash facts) entry_place facts.entries x (sym found))
 
-pub no_parent : (asked : Asked) (facts : Facts) (x : Fact Entry) (at : NamedAt) → Some x ≡ find (lacks_parent facts) facts.entries → at ≡ named_at asked.view.now x.id x.what.name → IsShown asked facts (NoParent at)
-no_parent asked facts x at found is = subst (λ (y : NamedAt). IsShown asked facts (NoParent y)) (sym is) ((refl, refl), found-broken (lacks_parent facts) entry_place facts.entries x (sym found))
+pub no_parent : (asked : Asked) (facts : Facts) (x : Fact Entry) (n : ℕ) (name : List ℕ) (at : NamedAt) → Some x ≡ find (lacks_parent facts) facts.entries → n ≡ x.id → name ≡ x.what.name → at ≡ named_at asked.view.now n name → IsShown asked facts (NoParent at)
+no_parent asked facts x n name at found called named is = subst (λ (y : NamedAt). IsShown asked facts (NoParent y)) (sym (is ∙ (λ i. named_at asked.view.now (called i) (named i)))) ((refl, refl), found-broken (lacks_parent facts) entry_place facts.entries x (sym found))
 
-pub other_kind : (asked : Asked) (facts : Facts) (x : Fact Entry) (at : NamedAt) → Some x ≡ find (has_other_kind facts) facts.entries → at ≡ named_at asked.view.now x.id x.what.name → IsShown asked facts (KindMismatch at)
-other_kind asked facts x at found is = subst (λ (y : NamedAt). IsShown asked facts (KindMismatch y)) (sym is) ((refl, refl), found-broken (has_other_kind facts) entry_place facts.entries x (sym found))
+pub other_kind : (asked : Asked) (facts : Facts) (x : Fact Entry) (n : ℕ) (name : List ℕ) (at : NamedAt) → Some x ≡ find (has_other_kind facts) facts.entries → n ≡ x.id → name ≡ x.what.name → at ≡ named_at asked.view.now n name → IsShown asked facts (KindMismatch at)
+other_kind asked facts x n name at found called named is = subst (λ (y : NamedAt). IsShown asked facts (KindMismatch y)) (sym (is ∙ (λ i. named_at asked.view.now (called i) (named i)))) ((refl, refl), found-broken (has_other_kind facts) entry_place facts.entries x (sym found))
 
-pub no_inode : (asked : Asked) (facts : Facts) (x : Fact Entry) (at : NamedAt) → Some x ≡ find (lacks_inode facts) facts.entries → at ≡ named_at asked.view.now x.id x.what.name → IsShown asked facts (NoInode at.slot at.xid at.id (Some at.name))
-no_inode asked facts x at found is = subst (λ (y : NamedAt). IsShown asked facts (NoInode y.slot y.xid y.id (Some y.name))) (sym is) ((refl, refl), found-broken (lacks_inode facts) entry_place facts.entries x (sym found))
+pub no_inode : (asked : Asked) (facts : Facts) (x : Fact Entry) (n : ℕ) (name : List ℕ) (at : NamedAt) → Some x ≡ find (lacks_inode facts) facts.entries → n ≡ x.id → name ≡ x.what.name → at ≡ named_at asked.view.now n name → IsShown asked facts (NoInode at.slot at.xid at.id (Some at.name))
+no_inode asked facts x n name at found called named is = subst (λ (y : NamedAt). IsShown asked facts (NoInode y.slot y.xid y.id (Some y.name))) (sym (is ∙ (λ i. named_at asked.view.now (called i) (named i)))) ((refl, refl), found-broken (lacks_inode facts) entry_place facts.entries x (sym found))
 
-pub name_hash : (asked : Asked) (facts : Facts) (x : Fact Entry) (at : NamedAt) → Some x ≡ find (has_other_name_hash facts) facts.entries → asked.profile ≡ Strict → at ≡ named_at asked.view.now x.id x.what.name → IsShown asked facts (NameHash at)
-name_hash asked facts x at found strict is = subst (λ (y : NamedAt). IsShown asked facts (NameHash y)) (sym is) ((refl, refl), strict, found-broken (has_other_name_hash facts) entry_place facts.entries x (sym found))
+pub name_hash : (asked : Asked) (facts : Facts) (x : Fact Entry) (n : ℕ) (name : List ℕ) (at : NamedAt) → Some x ≡ find (has_other_name_hash facts) facts.entries → asked.profile ≡ Strict → n ≡ x.id → name ≡ x.what.name → at ≡ named_at asked.view.now n name → IsShown asked facts (NameHash at)
+name_hash asked facts x n name at found strict called named is = subst (λ (y : NamedAt). IsShown asked facts (NameHash y)) (sym (is ∙ (λ i. named_at asked.view.now (called i) (named i)))) ((refl, refl), strict, found-broken (has_other_name_hash facts) entry_place facts.entries x (sym found))
 
-pub misnamed : (asked : Asked) (facts : Facts) (x : Fact Inode) (at : IdAt) → Some x ≡ find (is_misnamed facts) facts.inodes → at ≡ id_at asked.view.now x.id → IsShown asked facts (DirNames at)
-misnamed asked facts x at found is = subst (λ (y : IdAt). IsShown asked facts (DirNames y)) (sym is) ((refl, refl), inl (found-broken (is_misnamed facts) id_of_fact facts.inodes x (sym found)))
+pub misnamed : (asked : Asked) (facts : Facts) (x : Fact Inode) (n : ℕ) (at : IdAt) → Some x ≡ find (is_misnamed facts) facts.inodes → n ≡ x.id → at ≡ id_at asked.view.now n → IsShown asked facts (DirNames at)
+misnamed asked facts x n at found called is = subst (λ (y : IdAt). IsShown asked facts (DirNames y)) (sym (is ∙ ap (id_at asked.view.now) called)) ((refl, refl), inl (found-broken (is_misnamed facts) id_of_fact facts.inodes x (sym found)))
 
-pub children : (asked : Asked) (facts : Facts) (x : Fact Inode) (at : IdAt) → Some x ≡ find (has_other_children facts) facts.inodes → at ≡ id_at asked.view.now x.id → IsShown asked facts (Children at)
-children asked facts x at found is = subst (λ (y : IdAt). IsShown asked facts (Children y)) (sym is) ((refl, refl), found-broken (has_other_children facts) id_of_fact facts.inodes x (sym found))
+pub children : (asked : Asked) (facts : Facts) (x : Fact Inode) (n : ℕ) (at : IdAt) → Some x ≡ find (has_other_children facts) facts.inodes → n ≡ x.id → at ≡ id_at asked.view.now n → IsShown asked facts (Children at)
+children asked facts x n at found called is = subst (λ (y : IdAt). IsShown asked facts (Children y)) (sym (is ∙ ap (id_at asked.view.now) called)) ((refl, refl), found-broken (has_other_children facts) id_of_fact facts.inodes x (sym found))
 
-pub links : (asked : Asked) (facts : Facts) (x : Fact Inode) (at : IdAt) → Some x ≡ find (has_other_links facts) facts.inodes → at ≡ id_at asked.view.now x.id → IsShown asked facts (Links at)
-links asked facts x at found is = subst (λ (y : IdAt). IsShown asked facts (Links y)) (sym is) ((refl, refl), found-broken (has_other_links facts) id_of_fact facts.inodes x (sym found))
+pub links : (asked : Asked) (facts : Facts) (x : Fact Inode) (n : ℕ) (at : IdAt) → Some x ≡ find (has_other_links facts) facts.inodes → n ≡ x.id → at ≡ id_at asked.view.now n → IsShown asked facts (Links at)
+links asked facts x n at found called is = subst (λ (y : IdAt). IsShown asked facts (Links y)) (sym (is ∙ ap (id_at asked.view.now) called)) ((refl, refl), found-broken (has_other_links facts) id_of_fact facts.inodes x (sym found))
 
-pub lost_link : (asked : Asked) (facts : Facts) (x : Fact Link) (at : IdAt) → Some x ≡ find (is_link_lost facts) facts.links → at ≡ id_at asked.view.now x.what.sibling → IsShown asked facts (SiblingLost at)
-lost_link asked facts x at found is = subst (λ (y : IdAt). IsShown asked facts (SiblingLost y)) (sym is) ((refl, refl), inr (inl (found-broken (is_link_lost facts) link_place facts.links x (sym found))))
+pub lost_link : (asked : Asked) (facts : Facts) (x : Fact Link) (n : ℕ) (at : IdAt) → Some x ≡ find (is_link_lost facts) facts.links → n ≡ x.what.sibling → at ≡ id_at asked.view.now n → IsShown asked facts (SiblingLost at)
+lost_link asked facts x n at found called is = subst (λ (y : IdAt). IsShown asked facts (SiblingLost y)) (sym (is ∙ ap (id_at asked.view.now) called)) ((refl, refl), inr (inl (found-broken (is_link_lost facts) link_place facts.links x (sym found))))
 
-pub lost_map : (asked : Asked) (facts : Facts) (x : Fact ℕ) (at : IdAt) → Some x ≡ find (is_map_lost facts) facts.siblings → at ≡ id_at asked.view.now x.id → IsShown asked facts (SiblingLost at)
-lost_map asked facts x at found is = subst (λ (y : IdAt). IsShown asked facts (SiblingLost y)) (sym is) ((refl, refl), inr (inr (inl (found-broken (is_map_lost facts) id_of_fact facts.siblings x (sym found)))))
+pub lost_map : (asked : Asked) (facts : Facts) (x : Fact ℕ) (n : ℕ) (at : IdAt) → Some x ≡ find (is_map_lost facts) facts.siblings → n ≡ x.id → at ≡ id_at asked.view.now n → IsShown asked facts (SiblingLost at)
+lost_map asked facts x n at found called is = subst (λ (y : IdAt). IsShown asked facts (SiblingLost y)) (sym (is ∙ ap (id_at asked.view.now) called)) ((refl, refl), inr (inr (inl (found-broken (is_map_lost facts) id_of_fact facts.siblings x (sym found)))))
 
-pub unmarked : (asked : Asked) (facts : Facts) (x : Fact Entry) (at : IdAt) → Some x ≡ find (is_unmarked facts) facts.entries → at ≡ id_at asked.view.now x.what.file_id → IsShown asked facts (SiblingLost at)
-unmarked asked facts x at found is = subst (λ (y : IdAt). IsShown asked facts (SiblingLost y)) (sym is) ((refl, refl), inr (inr (inr (found-broken (is_unmarked facts) file_place facts.entries x (sym found)))))
+pub unmarked : (asked : Asked) (facts : Facts) (x : Fact Entry) (n : ℕ) (at : IdAt) → Some x ≡ find (is_unmarked facts) facts.entries → n ≡ x.what.file_id → at ≡ id_at asked.view.now n → IsShown asked facts (SiblingLost at)
+unmarked asked facts x n at found called is = subst (λ (y : IdAt). IsShown asked facts (SiblingLost y)) (sym (is ∙ ap (id_at asked.view.now) called)) ((refl, refl), inr (inr (inr (found-broken (is_unmarked facts) file_place facts.entries x (sym found)))))
 
-pub place : (asked : Asked) (facts : Facts) (x : Fact FileExt) (at : IdAt) → Some x ≡ find (is_misplaced asked.site.now.block_size asked.site.now.blocks) facts.extents → at ≡ id_at asked.view.now x.id → IsShown asked facts (ExtentPlace at)
-place asked facts x at found is = subst (λ (y : IdAt). IsShown asked facts (ExtentPlace y)) (sym is) ((refl, refl), found-broken (is_misplaced asked.site.now.block_size asked.site.now.blocks) id_of_fact facts.extents x (sym found))
+pub place : (asked : Asked) (facts : Facts) (x : Fact FileExt) (n : ℕ) (at : IdAt) → Some x ≡ find (is_misplaced asked.site.now.block_size asked.site.now.blocks) facts.extents → n ≡ x.id → at ≡ id_at asked.view.now n → IsShown asked facts (ExtentPlace at)
+place asked facts x n at found called is = subst (λ (y : IdAt). IsShown asked facts (ExtentPlace y)) (sym (is ∙ ap (id_at asked.view.now) called)) ((refl, refl), found-broken (is_misplaced asked.site.now.block_size asked.site.now.blocks) id_of_fact facts.extents x (sym found))
 
-pub cover : (asked : Asked) (facts : Facts) (x : Fact FileExt) (at : IdAt) → Some x ≡ find (is_uncovered asked.site.now.block_size asked.ranges.now) facts.extents → at ≡ id_at asked.view.now x.id → IsShown asked facts (ExtentUncovered at)
-cover asked facts x at found is = subst (λ (y : IdAt). IsShown asked facts (ExtentUncovered y)) (sym is) ((refl, refl), found-broken (is_uncovered asked.site.now.block_size asked.ranges.now) id_of_fact facts.extents x (sym found))
+pub cover : (asked : Asked) (facts : Facts) (x : Fact FileExt) (n : ℕ) (at : IdAt) → Some x ≡ find (is_uncovered asked.site.now.block_size asked.ranges.now) facts.extents → n ≡ x.id → at ≡ id_at asked.view.now n → IsShown asked facts (ExtentUncovered at)
+cover asked facts x n at found called is = subst (λ (y : IdAt). IsShown asked facts (ExtentUncovered y)) (sym (is ∙ ap (id_at asked.view.now) called)) ((refl, refl), found-broken (is_uncovered asked.site.now.block_size asked.ranges.now) id_of_fact facts.extents x (sym found))
 
-pub target : (asked : Asked) (facts : Facts) (x : Fact Inode) (at : IdAt) → Some x ≡ find (lacks_target facts) facts.inodes → at ≡ id_at asked.view.now x.id → IsShown asked facts (LinkTarget at)
-target asked facts x at found is = subst (λ (y : IdAt). IsShown asked facts (LinkTarget y)) (sym is) ((refl, refl), found-broken (lacks_target facts) id_of_fact facts.inodes x (sym found))
+pub target : (asked : Asked) (facts : Facts) (x : Fact Inode) (n : ℕ) (at : IdAt) → Some x ≡ find (lacks_target facts) facts.inodes → n ≡ x.id → at ≡ id_at asked.view.now n → IsShown asked facts (LinkTarget at)
+target asked facts x n at found called is = subst (λ (y : IdAt). IsShown asked facts (LinkTarget y)) (sym (is ∙ ap (id_at asked.view.now) called)) ((refl, refl), found-broken (lacks_target facts) id_of_fact facts.inodes x (sym found))
 
-pub stream : (asked : Asked) (facts : Facts) (x : Fact Inode) (at : IdAt) → Some x ≡ find has_large_stream facts.inodes → at ≡ id_at asked.view.now x.id → IsShown asked facts (Stream at)
-stream asked facts x at found is = subst (λ (y : IdAt). IsShown asked facts (Stream y)) (sym is) ((refl, refl), inl (found-broken has_large_stream id_of_fact facts.inodes x (sym found)))
+pub stream : (asked : Asked) (facts : Facts) (x : Fact Inode) (n : ℕ) (at : IdAt) → Some x ≡ find has_large_stream facts.inodes → n ≡ x.id → at ≡ id_at asked.view.now n → IsShown asked facts (Stream at)
+stream asked facts x n at found called is = subst (λ (y : IdAt). IsShown asked facts (Stream y)) (sym (is ∙ ap (id_at asked.view.now) called)) ((refl, refl), inl (found-broken has_large_stream id_of_fact facts.inodes x (sym found)))
 
-pub body : (asked : Asked) (facts : Facts) (x : Fact Attribute) (at : IdAt) → Some x ≡ find has_large_body facts.attributes → at ≡ id_at asked.view.now x.id → IsShown asked facts (Stream at)
-body asked facts x at found is = subst (λ (y : IdAt). IsShown asked facts (Stream y)) (sym is) ((refl, refl), inr (found-broken has_large_body id_of_fact facts.attributes x (sym found)))
+pub body : (asked : Asked) (facts : Facts) (x : Fact Attribute) (n : ℕ) (at : IdAt) → Some x ≡ find has_large_body facts.attributes → n ≡ x.id → at ≡ id_at asked.view.now n → IsShown asked facts (Stream at)
+body asked facts x n at found called is = subst (λ (y : IdAt). IsShown asked facts (Stream y)) (sym (is ∙ ap (id_at asked.view.now) called)) ((refl, refl), inr (found-broken has_large_body id_of_fact facts.attributes x (sym found)))
 
-pub owner : (asked : Asked) (facts : Facts) (x : Fact Attribute) (at : IdAt) → Some x ≡ find (lacks_owner facts) facts.attributes → at ≡ id_at asked.view.now x.id → IsShown asked facts (AttrOwner at)
-owner asked facts x at found is = subst (λ (y : IdAt). IsShown asked facts (AttrOwner y)) (sym is) ((refl, refl), found-broken (lacks_owner facts) id_of_fact facts.attributes x (sym found))
+pub owner : (asked : Asked) (facts : Facts) (x : Fact Attribute) (n : ℕ) (at : IdAt) → Some x ≡ find (lacks_owner facts) facts.attributes → n ≡ x.id → at ≡ id_at asked.view.now n → IsShown asked facts (AttrOwner at)
+owner asked facts x n at found called is = subst (λ (y : IdAt). IsShown asked facts (AttrOwner y)) (sym (is ∙ ap (id_at asked.view.now) called)) ((refl, refl), found-broken (lacks_owner facts) id_of_fact facts.attributes x (sym found))
 
-pub lost_entry : (asked : Asked) (facts : Facts) (x : Fact Entry) (s : ℕ) (at : IdAt) → Some x ≡ find (is_entry_lost facts) facts.entries → x.what.sibling ≡ Some s → at ≡ id_at asked.view.now s → IsShown asked facts (SiblingLost at)
+pub lost_entry : (asked : Asked) (facts : Facts) (x : Fact Entry) (s : ℕ) (at : IdAt) → Some x ≡ find (is_entry_lost facts) facts.entries → Some s ≡ x.what.sibling → at ≡ id_at asked.view.now s → IsShown asked facts (SiblingLost at)
 lost_entry asked facts x s at found twin is =
-    subst (λ (y : IdAt). IsShown asked facts (SiblingLost y)) (sym is) ((refl, refl), inl (subst (λ o. IsBroken (is_entry_lost facts) sibling_place facts.entries o) twin (found-broken (is_entry_lost facts) sibling_place facts.entries x (sym found))))
+    subst (λ (y : IdAt). IsShown asked facts (SiblingLost y)) (sym is) ((refl, refl), inl (subst (λ o. IsBroken (is_entry_lost facts) sibling_place facts.entries o) (sym twin) (found-broken (is_entry_lost facts) sibling_place facts.entries x (sym found))))
 
 -- an entry that lacks its fellows is of a sibling
 pub of_sibling : (facts : Facts) (x : Fact Entry) → Some x ≡ find (is_entry_lost facts) facts.entries → x.what.sibling ≡ None → ⊥
@@ -108,8 +108,8 @@ of_sibling facts x found none = clash (is_entry_lost facts x) (found-in (is_entr
 pub order : (asked : Asked) (facts : Facts) (id : ℕ) (at : IdAt) → at ≡ id_at asked.view.now id → IsExtentOrder asked.site.now.block_size facts id → IsShown asked facts (ExtentOrder at)
 order asked facts id at is there = subst (λ (y : IdAt). IsShown asked facts (ExtentOrder y)) (sym is) ((refl, refl), there)
 
-pub way : (asked : Asked) (facts : Facts) (id : ℕ) (at : IdAt) → at ≡ id_at asked.view.now id → IsUnreached facts id → IsShown asked facts (Unreached at)
-way asked facts id at is there = subst (λ (y : IdAt). IsShown asked facts (Unreached y)) (sym is) ((refl, refl), there)
+pub way : (asked : Asked) (facts : Facts) (id n : ℕ) (at : IdAt) → IsUnreached facts id → n ≡ id → at ≡ id_at asked.view.now n → IsShown asked facts (Unreached at)
+way asked facts id n at there called is = subst (λ (y : IdAt). IsShown asked facts (Unreached y)) (sym (is ∙ ap (id_at asked.view.now) called)) ((refl, refl), there)
 
 -- the root
 pub root : (asked : Asked) (facts : Facts) → has_root facts ≡ false → IsShown asked facts (NoInode asked.view.now.slot asked.view.now.xid 2 None)

@@ -1,7 +1,5 @@
-use Rattle.std.proofs.Common.{◌∙◌, ap}
-use Rattle.tree_rules.specs.Faults.{id_at}
 use Rattle.tree_rules.proofs.Shown.{owner}
 use Rattle.tree_rules.proofs.faults.inodes.owner.Goals as goal
 
 pub returns-in-Some : goal.returns-in-Some
-returns-in-Some c = owner c.args.asked.now c.args.index.now.facts.now c.in-Some.a.now c.id_at.result c.in-Some.ensures (c.id_at.ensures ∙ ap (id_at c.args.asked.now.view.now) c.id.ensures)
+returns-in-Some c = owner c.args.asked.now c.args.index.now.facts.now c.in-Some.a.now c.id.result c.id_at.result c.in-Some.ensures c.id.ensures c.id_at.ensures
