@@ -1,0 +1,5 @@
+use Rattle.tree_rules.proofs.Shown.{entry_twice}
+use Rattle.tree_rules.proofs.faults.names.entry_twice.Goals as goal
+
+pub returns-in_ok-at-in-Some : goal.returns-in_ok-at-in-Some
+returns-in_ok-at-in-Some c = entry_twice c.args.asked.now c.args.facts.now c.in-Some.e.now c.id.result c.name.result.now c.in_ok-at.at c.in-Some.ensures c.id.ensures c.name.ensures c.in_ok-at.ensures

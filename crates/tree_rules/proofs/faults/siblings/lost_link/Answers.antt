@@ -1,0 +1,5 @@
+use Rattle.tree_rules.proofs.Shown.{lost_link}
+use Rattle.tree_rules.proofs.faults.siblings.lost_link.Goals as goal
+
+pub returns-in-Some : goal.returns-in-Some
+returns-in-Some c = lost_link c.args.asked.now c.args.facts.now c.in-Some.l.now c.sibling.result c.id_at.result c.in-Some.ensures c.sibling.ensures c.id_at.ensures

@@ -1,0 +1,5 @@
+use Rattle.tree_rules.proofs.Shown.{lost_map}
+use Rattle.tree_rules.proofs.faults.siblings.lost_map.Goals as goal
+
+pub returns-in-Some : goal.returns-in-Some
+returns-in-Some c = lost_map c.args.asked.now c.args.facts.now c.in-Some.m.now c.id.result c.id_at.result c.in-Some.ensures c.id.ensures c.id_at.ensures
