@@ -41,7 +41,8 @@ fn cover(alloc: Global, asked: &Asked<'_>, facts: &Facts) -> Result<Option<TreeF
     requires { 0 < asked.now.site.now.block_size }
     ensures { IfOk result (spec.IsFirst asked.now facts.now (rules.HasCover asked.now.site.now.block_size asked.now.ranges.now facts.now)) }
 {
-    match uncovered(alloc, facts, asked.site.block_size, asked.ranges)? {
+    let first = uncovered(alloc, facts, asked.site.block_size, asked.ranges)?;
+    match first {
         Some(f) => Ok(Some(TreeFault::ExtentUncovered(id_at(asked.view, f.id())))),
         None => Ok(None),
     }

@@ -59,5 +59,6 @@ pub(super) fn fault(asked: &Asked<'_>, index: &Index<'_>) -> Option<TreeFault>
     let target = target(asked, index);
     let stream = stream(asked, index);
     let body = body(asked, index);
-    target.or(stream.or(body.or(owner(asked, index))))
+    let owner = owner(asked, index);
+    target.or(stream.or(body.or(owner)))
 }

@@ -20,7 +20,8 @@ fn entry_twice(
 ) -> Result<Option<TreeFault>, NoMemory>
     ensures { IfOk result (spec.IsFirst asked.now facts.now (rules.HasDistinctEntries facts.now)) }
 {
-    match repeated_entry(alloc, facts)? {
+    let first = repeated_entry(alloc, facts)?;
+    match first {
         Some(e) => {
             let at = named_at(alloc, asked.view, e.id(), e.name())?;
             Ok(Some(TreeFault::DupName(at)))
@@ -38,7 +39,8 @@ fn attribute_twice(
 ) -> Result<Option<TreeFault>, NoMemory>
     ensures { IfOk result (spec.IsFirst asked.now facts.now (rules.HasDistinctAttributes facts.now)) }
 {
-    match repeated_attribute(alloc, facts)? {
+    let first = repeated_attribute(alloc, facts)?;
+    match first {
         Some(a) => {
             let at = named_at(alloc, asked.view, a.id(), a.name())?;
             Ok(Some(TreeFault::DupName(at)))

@@ -34,7 +34,8 @@ fn lost_entry(
 fn lost_link(alloc: Global, asked: &Asked<'_>, facts: &Facts) -> Result<Option<TreeFault>, NoMemory>
     ensures { IfOk result (spec.IsFirst asked.now facts.now (rules.HasLinkFellows facts.now)) }
 {
-    match fellows::lost_link(alloc, facts)? {
+    let first = fellows::lost_link(alloc, facts)?;
+    match first {
         Some(l) => Ok(Some(TreeFault::SiblingLost(id_at(asked.view, l.sibling())))),
         None => Ok(None),
     }
@@ -45,7 +46,8 @@ fn lost_link(alloc: Global, asked: &Asked<'_>, facts: &Facts) -> Result<Option<T
 fn lost_map(alloc: Global, asked: &Asked<'_>, facts: &Facts) -> Result<Option<TreeFault>, NoMemory>
     ensures { IfOk result (spec.IsFirst asked.now facts.now (rules.HasMapFellows facts.now)) }
 {
-    match fellows::lost_map(alloc, facts)? {
+    let first = fellows::lost_map(alloc, facts)?;
+    match first {
         Some(m) => Ok(Some(TreeFault::SiblingLost(id_at(asked.view, m.id())))),
         None => Ok(None),
     }
