@@ -5,7 +5,7 @@ ghost use Rattle.tree_rules.specs.Faults as spec;
 
 use super::{Asked, named_at};
 use blk_source::NoMemory;
-use fs_record::{NamedAt, TreeFault};
+use fs_record::TreeFault;
 use rule_breaks::entries;
 use rule_index::Index;
 use std::alloc::Global;
@@ -39,17 +39,12 @@ fn no_inode(
 {
     match entries::lacking_inode(index) {
         Some(e) => {
-            let NamedAt {
-                slot,
-                xid,
-                id,
-                name,
-            } = named_at(alloc, asked.view, e.id(), e.name())?;
+            let at = named_at(alloc, asked.view, e.id(), e.name())?;
             Ok(Some(TreeFault::NoInode {
-                slot,
-                xid,
-                id,
-                name: Some(name),
+                slot: at.slot,
+                xid: at.xid,
+                id: at.id,
+                name: Some(at.name),
             }))
         }
         None => Ok(None),
