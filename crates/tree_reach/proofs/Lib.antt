@@ -1,0 +1,3 @@
+pub mod ParentLooks
+pub mod Climbing
+pub mod Reaching
