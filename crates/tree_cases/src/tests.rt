@@ -1,0 +1,5 @@
+// The cases, in tables.
+mod cases;
+mod trees;
+mod views;
+mod ways;
