@@ -12,3 +12,4 @@ pub mod Hits
 pub mod Steps
 pub mod Levels
 pub mod Wholes
+pub mod Placed

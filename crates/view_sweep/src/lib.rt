@@ -8,6 +8,8 @@ mod once;
 mod order;
 mod reading;
 mod sweeping;
+#[cfg(test)]
+mod tests;
 mod used;
 mod wanted;
 
