@@ -3,3 +3,4 @@ pub mod Law
 pub mod Plain
 pub mod Walking
 pub mod OfKinds
+pub mod Parts

@@ -1,3 +1,4 @@
 pub mod Namings
 pub mod Laws
 pub mod Walked
+pub mod Parts
