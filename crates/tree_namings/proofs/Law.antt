@@ -64,7 +64,7 @@ next-none : (image : List ℕ) (seen : Seen) (n : Naming) → resolved image see
 unfolding next
 next-none image seen n e = ap (λ o. through o (λ (f : Found). names_if image seen n f (tested (site_of seen) n.expected n.oid f.bytes))) e
 
-next-some : (image : List ℕ) (seen : Seen) (n : Naming) (f : Found) (a : Answer) → resolved image seen n ≡ Some f → tested (site_of seen) n.expected n.oid f.bytes ≡ a → next image seen n ≡ names_if image seen n f a
+pub next-some : (image : List ℕ) (seen : Seen) (n : Naming) (f : Found) (a : Answer) → resolved image seen n ≡ Some f → tested (site_of seen) n.expected n.oid f.bytes ≡ a → next image seen n ≡ names_if image seen n f a
 unfolding next
 next-some image seen n f a e t =
     ap (λ o. through o (λ (f : Found). names_if image seen n f (tested (site_of seen) n.expected n.oid f.bytes))) e ∙ ap (names_if image seen n f) t

@@ -3,3 +3,9 @@ pub mod Law
 pub mod Plain
 pub mod Walking
 pub mod OfKinds
+pub mod Parts
+pub mod Joined
+pub mod Container
+pub mod Space
+pub mod Tells
+pub mod Views

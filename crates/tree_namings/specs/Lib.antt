@@ -1,3 +1,9 @@
 pub mod Namings
 pub mod Laws
 pub mod Walked
+pub mod Parts
+pub mod Joined
+pub mod Container
+pub mod Space
+pub mod Tells
+pub mod Views
