@@ -1,0 +1,4 @@
+pub mod Named
+pub mod Owned
+pub mod Held
+pub mod Adds
