@@ -2,9 +2,13 @@
 #![tactic(auto)]
 
 mod gathered;
+mod keepers;
 mod naming;
 mod owner;
+mod steps;
+mod trees;
 
 pub use gathered::Gathered;
 pub use naming::{By, Expects, Mapping, Named, NamedBy, Tree, ViewKey};
 pub use owner::{Owned, OwnedBy};
+pub use trees::add_metadata;
