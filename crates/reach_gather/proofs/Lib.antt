@@ -1,2 +1,6 @@
 mod Growing
 mod Kept
+mod Owning
+mod Branches
+mod Telling
+mod Told

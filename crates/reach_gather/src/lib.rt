@@ -5,10 +5,11 @@ mod gathered;
 mod keepers;
 mod naming;
 mod owner;
+mod ranges;
 mod steps;
 mod trees;
 
 pub use gathered::Gathered;
 pub use naming::{By, Expects, Mapping, Named, NamedBy, Tree, ViewKey};
 pub use owner::{Owned, OwnedBy};
-pub use trees::add_metadata;
+pub use trees::{add_extents, add_map_records, add_map_snapshots, add_metadata};

@@ -6,8 +6,8 @@ ghost use Rattle.tree_namings.specs.Namings.{level_below, node_id, step_naming};
 ghost use Rattle.reach_gather.specs.Named.{kind_of, naming_of};
 ghost use Rattle.reach_gather.specs.Steps.{block_steps, id_steps, block_owner};
 
-use crate::naming::{By, Expects, Named, NamedBy, Tree};
 use crate::Gathered;
+use crate::naming::{By, Expects, Named, NamedBy, Tree};
 use blk_source::NoMemory;
 use bt_steps::Step;
 

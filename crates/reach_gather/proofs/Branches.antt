@@ -1,0 +1,66 @@
+-- What a tree adds that was walked.
+use Rattle.std.proofs.Common.{◌≡◌, ℕ, true, false, List, [], ◌∷◌, ◌++◌, map, inl, inr, refl, ap, sym, ◌∙◌, subst}
+use Rattle.apfs_model.specs.Lists.{In}
+use Rattle.apfs_model.proofs.Searches.{from-map}
+use Rattle.bt_steps.specs.declared.step.Step.{Step}
+use Rattle.nx_ring.specs.Checkpoint.{Seen}
+use Rattle.reach_rules.specs.Naming.{ByBlock, InBlock, TreeKind, TreeRoot, TreeNode, Naming}
+use Rattle.reach_rules.specs.Owners.{Owner, owners_through, told_owners, tree_owners}
+use Rattle.reach_rules.specs.PoolOwners.{pool_owners_through, pool_tree_owners}
+use Rattle.tree_namings.specs.Namings.{level_below, step_naming, tree_namings, IsPlainNaming, AreNamingsOf}
+use Rattle.tree_namings.proofs.Joined.{part-tree}
+use Rattle.tree_namings.proofs.Views.{outside-views}
+use Rattle.tree_namings.specs.Views.{is_in_view}
+use Rattle.reach_gather.specs.Held.{Held, GrewBy, some_owners}
+use Rattle.reach_gather.specs.Adds.{Adds}
+use Rattle.reach_gather.specs.Steps.{block_steps, block_owner}
+use Rattle.reach_gather.proofs.Growing.{grewby-one, grewby-join}
+use Rattle.reach_gather.proofs.Owning.{own-block, pool-block, OwnBlocks, grewby-blocks}
+
+-- the nodes below a root own their blocks
+nodes-own : (image : List ℕ) (seen : Seen) (kind : TreeKind) (root : Naming) (steps : List Step) → root.how ≡ ByBlock → AreNamingsOf image seen root (tree_namings InBlock kind root steps) → OwnBlocks image seen (map (step_naming InBlock kind root.how root.oid) steps)
+nodes-own image seen kind root steps how are = record {
+  owners = λ n h.
+      let t = from-map (step_naming InBlock kind root.how root.oid) steps n h in
+      let s : Step = t.0 in
+      own-block image seen n (TreeNode kind (level_below s.level)) (are.plain n (inr h)) (ap (λ (m : Naming). m.how) t.1.1 ∙ how) (ap (λ (m : Naming). m.expected) t.1.1) refl;
+  pool_owners = λ n h.
+      let t = from-map (step_naming InBlock kind root.how root.oid) steps n h in
+      let s : Step = t.0 in
+      pool-block image seen n (TreeNode kind (level_below s.level)) (are.plain n (inr h)) (ap (λ (m : Naming). m.how) t.1.1 ∙ how) (ap (λ (m : Naming). m.expected) t.1.1) refl;
+}
+
+-- the owners through the naming of a root
+pub root-owners : (image : List ℕ) (seen : Seen) (kind : TreeKind) (root : Naming) (p : IsPlainNaming image seen root) → root.how ≡ ByBlock → root.expected ≡ TreeRoot kind → owners_through image seen root ≡ block_owner root ∷ tree_owners image seen root kind
+root-owners image seen kind root p how is = own-block image seen root (TreeRoot kind) p how is refl
+
+pub root-pool : (image : List ℕ) (seen : Seen) (kind : TreeKind) (root : Naming) (p : IsPlainNaming image seen root) → root.how ≡ ByBlock → root.expected ≡ TreeRoot kind → pool_owners_through image seen root ≡ pool_tree_owners image seen root kind
+root-pool image seen kind root p how is = pool-block image seen root (TreeRoot kind) p how is refl
+
+list-end : {X : Type 0} (xs : List X) → xs ++ [] ≡ xs
+list-end [] = refl
+list-end (x ∷ xs) = ap (λ ys. x ∷ ys) (list-end xs)
+
+by-block : (root : Naming) → root.how ≡ ByBlock → is_in_view root.how ≡ false
+by-block root how = ap is_in_view how
+
+-- a tree of physical nodes, from the naming of its root on: what its root tells was added with it, and then the nodes below
+pub tree-adds : (image : List ℕ) (seen : Seen) (kind : TreeKind) (root : Naming) (steps : List Step) (a b c : Held) → root.how ≡ ByBlock → root.expected ≡ TreeRoot kind → AreNamingsOf image seen root (tree_namings InBlock kind root steps)
+    → pool_tree_owners image seen root kind ≡ []
+    → b.namings ≡ a.namings ++ root ∷ [] → b.owners ≡ a.owners ++ block_owner root ∷ some_owners (tree_owners image seen root kind) → b.pool_owners ≡ a.pool_owners
+    → c.namings ≡ b.namings ++ block_steps kind root.oid steps → c.owners ≡ b.owners ++ map block_owner (block_steps kind root.oid steps) → c.pool_owners ≡ b.pool_owners
+    → Adds image seen (root ∷ []) [] a c
+tree-adds image seen kind root steps a b c how is are pool p q r s t u =
+    let plain : IsPlainNaming image seen root = are.plain root (inl refl) in
+    let nodes : List Naming = map (step_naming InBlock kind root.how root.oid) steps in
+    let same : block_steps kind root.oid steps ≡ nodes = ap (λ h. map (step_naming InBlock kind h root.oid) steps) (sym how) in
+    record {
+      these = root ∷ nodes;
+      part = part-tree image seen root (root ∷ nodes) are;
+      outside = (outside-views image seen).tree InBlock kind root steps (by-block root how);
+      grew = grewby-join image seen (root ∷ []) nodes a b c
+          (grewby-one image seen root a b p
+          (q ∙ ap (λ xs. a.owners ++ some_owners xs) (sym (root-owners image seen kind root plain how is)))
+          (r ∙ (sym (list-end a.pool_owners) ∙ ap (λ xs. a.pool_owners ++ some_owners xs) (sym (root-pool image seen kind root plain how is ∙ pool)))))
+          (grewby-blocks image seen nodes b c (nodes-own image seen kind root steps how are) (s ∙ ap (λ xs. b.namings ++ xs) same) (t ∙ ap (λ xs. b.owners ++ map block_owner xs) same) u);
+    }
