@@ -9,3 +9,4 @@ pub mod Container
 pub mod Space
 pub mod Tells
 pub mod Views
+pub mod Account

@@ -84,7 +84,7 @@ view-next image seen n m v h =
     each-in IsOfView (names image seen (InView v.view) n.expected (Whole l.object.object) l.object.bytes) m (each-named image seen v.view n.expected (Whole l.object.object) l.object.bytes v.expects)
     (subst (λ how. In m (names image seen how n.expected (Whole l.object.object) l.object.bytes)) v.how_is l.names)
 
-view-live : (image : List ℕ) (seen : Seen) (n : Naming) → Live (all_views image seen) (next image seen) n → IsOfView n
+pub view-live : (image : List ℕ) (seen : Seen) (n : Naming) → Live (all_views image seen) (next image seen) n → IsOfView n
 view-live image seen n (rooted _ h) = each-in IsOfView (all_views image seen) n (each-all image seen) h
 view-live image seen n (led m _ live h) = view-next image seen m n (view-live image seen m live) h
 

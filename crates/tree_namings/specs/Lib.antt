@@ -7,3 +7,4 @@ pub mod Container
 pub mod Space
 pub mod Tells
 pub mod Views
+pub mod Account

@@ -1,3 +1,4 @@
+use Rattle.tree_namings.proofs.Account.{account-told}
 use Rattle.tree_namings.proofs.Joined.{parts-join}
 use Rattle.tree_namings.proofs.Container.{plain-facts, parts-of-container}
 use Rattle.tree_namings.proofs.Space.{space-part}
@@ -17,4 +18,5 @@ returns c image seen = record {
   views = views-tell image seen;
   outside = outside-views image seen;
   told = joined-tells image seen;
+  account = account-told image seen;
 }
