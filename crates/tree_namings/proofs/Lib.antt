@@ -10,3 +10,4 @@ pub mod Space
 pub mod Tells
 pub mod Views
 pub mod Account
+pub mod Ranges

@@ -12,6 +12,7 @@ use Rattle.tree_namings.specs.Container.{PlainLeads, PartsOfContainer}
 use Rattle.tree_namings.specs.Space.{IsSpacePart}
 use Rattle.tree_namings.specs.Tells.{PartTells, PlainTells, WholeTells}
 use Rattle.tree_namings.specs.Account.{AccountTold}
+use Rattle.tree_namings.specs.Ranges.{RangesTold}
 use Rattle.tree_namings.specs.Views.{ViewsTell, OutsideViews, JoinedTells}
 
 -- what is live from the naming of a root are that naming and those of the steps of its tree
@@ -40,3 +41,4 @@ pub record PartsJoined (image : List ℕ) (seen : Seen) : Type 0 where
   pub outside : OutsideViews image seen
   pub told : JoinedTells image seen
   pub account : AccountTold image seen
+  pub ranges : RangesTold image seen

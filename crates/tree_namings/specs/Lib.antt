@@ -8,3 +8,4 @@ pub mod Space
 pub mod Tells
 pub mod Views
 pub mod Account
+pub mod Ranges

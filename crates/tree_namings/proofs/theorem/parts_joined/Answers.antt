@@ -1,4 +1,5 @@
 use Rattle.tree_namings.proofs.Account.{account-told}
+use Rattle.tree_namings.proofs.Ranges.{ranges-told}
 use Rattle.tree_namings.proofs.Joined.{parts-join}
 use Rattle.tree_namings.proofs.Container.{plain-facts, parts-of-container}
 use Rattle.tree_namings.proofs.Space.{space-part}
@@ -19,4 +20,5 @@ returns c image seen = record {
   outside = outside-views image seen;
   told = joined-tells image seen;
   account = account-told image seen;
+  ranges = ranges-told image seen;
 }
