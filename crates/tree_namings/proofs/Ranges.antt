@@ -1,23 +1,27 @@
 -- No owner stands twice among those of which namings tell that tell apart.
-use Rattle.std.proofs.Common.{◌≡◌, ℕ, suc, ◌≤◌, Bool, true, false, List, [], ◌∷◌, ◌++◌, length, map, Option, Some, None, Ok, Err, ◌⊎◌, inl, inr, refl, ap, sym, ◌∙◌, subst, arith, if◌then◌else◌}
-use Rattle.std.specs.List.{flat_map, filter}
+use Rattle.std.proofs.Common.{◌≡◌, ℕ, suc, ◌≤◌, ◌/◌, Bool, true, false, ◌&&◌, ◌==◌, List, [], ◌∷◌, ◌++◌, length, map, Option, Some, None, Ok, Err, ◌⊎◌, inl, inr, refl, ap, sym, ◌∙◌, subst, arith, if◌then◌else◌}
+use Rattle.std.specs.List.{flat_map, filter, range_with_len}
 use Rattle.apfs_model.specs.Apart.{Apart}
 use Rattle.apfs_model.specs.Lists.{In, Lists, through}
-use Rattle.apfs_model.proofs.BoolTests.{clash}
-use Rattle.apfs_model.proofs.Finite.{apart-filter}
-use Rattle.apfs_model.proofs.Searches.{in-append, from-map, from-flat_map}
+use Rattle.apfs_model.proofs.BoolTests.{clash, equal-from, left-true}
+use Rattle.apfs_model.proofs.Finite.{apart-filter, apart-range}
+use Rattle.apfs_model.proofs.Searches.{in-append, filter-test, from-map, from-flat_map}
 use Rattle.nx_block.specs.Jump.{jump_extents_of}
 use Rattle.nx_ring.specs.Checkpoint.{Seen, site_of}
 use Rattle.omap_map.specs.declared.records.OmapRecord.{OmapRecord}
+use Rattle.space_map.specs.Blocks.{manager_of}
+use Rattle.space_map.specs.Fields.{chunks_of, cib_chunks_of}
+use Rattle.space_map.specs.Geometry.{has_chunk_place}
 use Rattle.space_pool.specs.declared.entry.Queue.TheVariants.{Pool, Main}
 use Rattle.reach_rules.specs.Naming.{Object, Newest, InBlock, OfId, OfRecord, TreeKind, MapRecords, MapSnapshots, ExtentRefs, SnapMetadata, FreeQueue, Files, Expected, SpaceManager, ContainerMap, ReaperObject, ReapList, Jumpstart, VolumeIn, VolumeMap, ExtendedMetadata, SnapshotSuper, AddressBlock, InfoBlock, TreeRoot, TreeNode, Naming}
 use Rattle.reach_rules.specs.Resolved.{Found, resolved}
 use Rattle.reach_rules.specs.Tested.{Answer, tested}
 use Rattle.reach_rules.specs.Live.{IsNamed}
 use Rattle.reach_rules.specs.Owners.{Who, BlockZero, Descriptors, Checkpoints, KeyLocker, MediaLocker, InternalPool, PoolRing, Named, Recorded, Told, Bitmap, Owner, owner, first_owners, told_from, new_ranges_of, queued_ranges_of, tells_of_chunks, object_owners, tree_owners, told_owners, told_if, owners_through, IsOwner}
+use Rattle.reach_rules.specs.PoolOwners.{pool_object_owners, is_chunk_of, has_bitmap_in, bitmaps_in, bitmap_owner, bitmap_owners, pool_tree_owners, pool_told_owners, pool_told_if, pool_owners_through, IsPoolOwner}
 use Rattle.tree_namings.specs.Views.{record_object, record_owner, ResolvesTo, AreJoined}
 use Rattle.tree_namings.specs.Account.{has_blocks}
-use Rattle.tree_namings.specs.Ranges.{TellApart, joined_owners, joined_objects, RangesTold}
+use Rattle.tree_namings.specs.Ranges.{TellApart, TellPoolApart, joined_owners, joined_objects, RangesTold}
 use Rattle.tree_namings.proofs.Views.{joined-tells}
 use Rattle.tree_namings.proofs.Account.{account-told}
 
@@ -383,6 +387,193 @@ owners-apart image seen all records t =
       | inr l ↦ let q = from-map record_owner records a l in clash (is-first a.who) (first-who seen.nx a h) (recorded-first q.0 a.who (ap (λ (x : Owner). x.who) q.1.1))
     ])
 
+-- ---- owners of the pool
+-- the chunk that an owner's name has
+bitmap-in : Who → Option ℕ
+bitmap-in BlockZero = None
+bitmap-in Descriptors = None
+bitmap-in Checkpoints = None
+bitmap-in KeyLocker = None
+bitmap-in MediaLocker = None
+bitmap-in InternalPool = None
+bitmap-in PoolRing = None
+bitmap-in (Named n) = None
+bitmap-in (Recorded map r) = None
+bitmap-in (Told n i) = None
+bitmap-in (Bitmap k) = Some k
+
+-- the bitmap of a chunk of which the chunk-info block of an index tells
+record IsBitmapOf (seen : Seen) (e : Expected) (w : Who) : Type 0 where
+  chunk : ℕ
+  manager : List ℕ
+  some : manager_of seen ≡ Some manager
+  info : e ≡ InfoBlock (chunk / cib_chunks_of manager)
+  is : w ≡ Bitmap chunk
+
+abbrev IsPoolTold : Seen → Naming → Expected → Who → Type 0
+IsPoolTold seen n e w = ((i : ℕ) × (w ≡ Told n i)) ⊎ IsBitmapOf seen e w
+
+pool-by : (seen : Seen) (n : Naming) (e : Expected) (ranges : List (ℕ × ℕ)) (a : Owner) → In a (told_from n 0 ranges) → IsPoolTold seen n e a.who
+pool-by seen n e ranges a h = let t = told-who n 0 ranges a h in inl (t.0, t.1.1)
+
+pool-tree-by : (image : List ℕ) (seen : Seen) (n : Naming) (kind : TreeKind) (e : Expected) (a : Owner) → In a (pool_tree_owners image seen n kind) → IsPoolTold seen n e a.who
+pool-tree-by image seen n MapRecords e a h = absurd h
+pool-tree-by image seen n MapSnapshots e a h = absurd h
+pool-tree-by image seen n ExtentRefs e a h = absurd h
+pool-tree-by image seen n SnapMetadata e a h = absurd h
+pool-tree-by image seen n (FreeQueue Pool) e a h = pool-by seen n e (queued_ranges_of image seen n.oid) a h
+pool-tree-by image seen n (FreeQueue Main) e a h = absurd h
+pool-tree-by image seen n (Files hashed) e a h = absurd h
+
+bitmap-by : (seen : Seen) (B : ℕ) (i : ℕ) (bytes : List ℕ) (o : Option (List ℕ)) (a : Owner) → manager_of seen ≡ o → In a (through o (λ manager. bitmap_owners B manager i bytes)) → IsBitmapOf seen (InfoBlock i) a.who
+bitmap-by seen B i bytes None a e h = absurd h
+bitmap-by seen B i bytes (Some manager) a e h =
+    let t = from-map (bitmap_owner manager bytes) (bitmaps_in B manager i bytes) a h in
+    let k : ℕ = t.0 in
+    let test : (is_chunk_of B manager i k && has_bitmap_in manager bytes k) ≡ true = filter-test (λ k. is_chunk_of B manager i k && has_bitmap_in manager bytes k) k (range_with_len 0 (chunks_of manager)) t.1.0 in
+    let of : is_chunk_of B manager i k ≡ true = left-true (is_chunk_of B manager i k) (has_bitmap_in manager bytes k) test in
+    let at : k / cib_chunks_of manager ≡ i = equal-from (k / cib_chunks_of manager) i (left-true (k / cib_chunks_of manager == i) (has_chunk_place B manager k) of) in
+    record { chunk = k; manager = manager; some = e; info = ap InfoBlock (sym at); is = ap (λ (x : Owner). x.who) t.1.1 }
+
+pool-object-told : (image : List ℕ) (seen : Seen) (n : Naming) (e : Expected) (bytes : List ℕ) (a : Owner) → In a (pool_told_owners image seen n e bytes) → IsPoolTold seen n e a.who
+pool-object-told image seen n SpaceManager bytes a h = absurd h
+pool-object-told image seen n ContainerMap bytes a h = absurd h
+pool-object-told image seen n ReaperObject bytes a h = absurd h
+pool-object-told image seen n ReapList bytes a h = absurd h
+pool-object-told image seen n Jumpstart bytes a h = absurd h
+pool-object-told image seen n (VolumeIn slot) bytes a h = absurd h
+pool-object-told image seen n VolumeMap bytes a h = absurd h
+pool-object-told image seen n ExtendedMetadata bytes a h = absurd h
+pool-object-told image seen n (SnapshotSuper view) bytes a h = absurd h
+pool-object-told image seen n (AddressBlock i) bytes a h = absurd h
+pool-object-told image seen n (InfoBlock i) bytes a h = inr (bitmap-by seen (site_of seen).block_size i bytes (manager_of seen) a refl h)
+pool-object-told image seen n (TreeRoot kind) bytes a h = pool-tree-by image seen n kind (TreeRoot kind) a h
+pool-object-told image seen n (TreeNode kind level) bytes a h = absurd h
+
+pool-tree-apart : (image : List ℕ) (seen : Seen) (n : Naming) (kind : TreeKind) → Apart (pool_tree_owners image seen n kind)
+pool-tree-apart image seen n MapRecords = tt
+pool-tree-apart image seen n MapSnapshots = tt
+pool-tree-apart image seen n ExtentRefs = tt
+pool-tree-apart image seen n SnapMetadata = tt
+pool-tree-apart image seen n (FreeQueue Pool) = told-apart n 0 (queued_ranges_of image seen n.oid)
+pool-tree-apart image seen n (FreeQueue Main) = tt
+pool-tree-apart image seen n (Files hashed) = tt
+
+one-bitmap : (manager cib : List ℕ) (k l : ℕ) → bitmap_owner manager cib k ≡ bitmap_owner manager cib l → k ≡ l
+unfolding bitmap-in
+one-bitmap manager cib k l e = let z : ◌≡◌ {A = Option ℕ} (Some k) (Some l) = ap (λ (a : Owner). bitmap-in a.who) e in some-same k l z
+
+bitmaps-apart : (B : ℕ) (i : ℕ) (bytes : List ℕ) (o : Option (List ℕ)) → Apart (through o (λ manager. bitmap_owners B manager i bytes))
+bitmaps-apart B i bytes None = tt
+bitmaps-apart B i bytes (Some manager) =
+    apart-map (bitmap_owner manager bytes) (bitmaps_in B manager i bytes) (one-bitmap manager bytes)
+    (apart-filter (λ k. is_chunk_of B manager i k && has_bitmap_in manager bytes k) (range_with_len 0 (chunks_of manager)) (apart-range 0 (chunks_of manager)))
+
+pool-object-apart : (image : List ℕ) (seen : Seen) (n : Naming) (e : Expected) (bytes : List ℕ) → Apart (pool_told_owners image seen n e bytes)
+pool-object-apart image seen n SpaceManager bytes = tt
+pool-object-apart image seen n ContainerMap bytes = tt
+pool-object-apart image seen n ReaperObject bytes = tt
+pool-object-apart image seen n ReapList bytes = tt
+pool-object-apart image seen n Jumpstart bytes = tt
+pool-object-apart image seen n (VolumeIn slot) bytes = tt
+pool-object-apart image seen n VolumeMap bytes = tt
+pool-object-apart image seen n ExtendedMetadata bytes = tt
+pool-object-apart image seen n (SnapshotSuper view) bytes = tt
+pool-object-apart image seen n (AddressBlock i) bytes = tt
+pool-object-apart image seen n (InfoBlock i) bytes = bitmaps-apart (site_of seen).block_size i bytes (manager_of seen)
+pool-object-apart image seen n (TreeRoot kind) bytes = pool-tree-apart image seen n kind
+pool-object-apart image seen n (TreeNode kind level) bytes = tt
+
+pool-one-who : (n : Naming) (block : ℕ) (b : Bool) (a : Owner) → In a (if b then owner (Named n) block 1 ∷ [] else []) → a.who ≡ Named n
+pool-one-who n block true a (inl e) = ap (λ (x : Owner). x.who) e
+pool-one-who n block true a (inr h) = absurd h
+pool-one-who n block false a h = absurd h
+
+pool-object-who : (n : Naming) (o : Object) (a : Owner) → In a (pool_object_owners n o) → a.who ≡ Named n
+pool-object-who n Newest a h = absurd h
+pool-object-who n (InBlock block) a h = pool-one-who n block (tells_of_chunks n.expected) a h
+pool-object-who n (OfId oid) a h = absurd h
+pool-object-who n (OfRecord map r) a h = absurd h
+
+pool-one-apart : (n : Naming) (block : ℕ) (b : Bool) → Apart (if b then owner (Named n) block 1 ∷ [] else [])
+pool-one-apart n block true = ((λ h. h), tt)
+pool-one-apart n block false = tt
+
+pool-object-alone : (n : Naming) (o : Object) → Apart (pool_object_owners n o)
+pool-object-alone n Newest = tt
+pool-object-alone n (InBlock block) = pool-one-apart n block (tells_of_chunks n.expected)
+pool-object-alone n (OfId oid) = tt
+pool-object-alone n (OfRecord map r) = tt
+
+not-pool-told : (seen : Seen) (n : Naming) (e : Expected) (w : Who) → w ≡ Named n → IsPoolTold seen n e w → ⊥
+not-pool-told seen n e w x (inl (i, y)) = let z : Named n ≡ Told n i = sym x ∙ y in let q : ⊥ = cc in q
+not-pool-told seen n e w x (inr b) = let z : Named n ≡ Bitmap b.chunk = sym x ∙ b.is in let q : ⊥ = cc in q
+
+pool-if-by : (image : List ℕ) (seen : Seen) (n : Naming) (f : Found) (answer : Answer) (a : Owner) → In a (pool_told_if image seen n f answer) → IsPoolTold seen n n.expected a.who
+pool-if-by image seen n f (Ok bytes) a h = pool-object-told image seen n n.expected f.bytes a h
+pool-if-by image seen n f (Err bad) a h = absurd h
+
+pool-if-apart : (image : List ℕ) (seen : Seen) (n : Naming) (f : Found) (answer : Answer) → Apart (pool_told_if image seen n f answer)
+pool-if-apart image seen n f (Ok bytes) = pool-object-apart image seen n n.expected f.bytes
+pool-if-apart image seen n f (Err bad) = tt
+
+abbrev pool_owners_by : List ℕ → Seen → Naming → Option Found → List Owner
+pool_owners_by image seen n o = through o (λ (f : Found). pool_object_owners n f.object ++ pool_told_if image seen n f (tested (site_of seen) n.expected n.oid f.bytes))
+
+pool-by-who : (image : List ℕ) (seen : Seen) (n : Naming) (o : Option Found) (a : Owner) → In a (pool_owners_by image seen n o) → (a.who ≡ Named n) ⊎ IsPoolTold seen n n.expected a.who
+pool-by-who image seen n None a h = absurd h
+pool-by-who image seen n (Some f) a h =
+    let t : Answer = tested (site_of seen) n.expected n.oid f.bytes in
+    elim (in-append a (pool_object_owners n f.object) (pool_told_if image seen n f t) h) as (λ _. (a.who ≡ Named n) ⊎ IsPoolTold seen n n.expected a.who) [
+      | inl k ↦ inl (pool-object-who n f.object a k)
+      | inr k ↦ inr (pool-if-by image seen n f t a k)
+    ]
+
+pool-by-apart : (image : List ℕ) (seen : Seen) (n : Naming) (o : Option Found) → Apart (pool_owners_by image seen n o)
+pool-by-apart image seen n None = tt
+pool-by-apart image seen n (Some f) =
+    let t : Answer = tested (site_of seen) n.expected n.oid f.bytes in
+    apart-append (pool_object_owners n f.object) (pool_told_if image seen n f t) (pool-object-alone n f.object) (pool-if-apart image seen n f t)
+    (λ a h k. not-pool-told seen n n.expected a.who (pool-object-who n f.object a h) (pool-if-by image seen n f t a k))
+
+pool-through-who : (image : List ℕ) (seen : Seen) (n : Naming) (a : Owner) → In a (pool_owners_through image seen n) → (a.who ≡ Named n) ⊎ IsPoolTold seen n n.expected a.who
+unfolding pool_owners_through
+pool-through-who image seen n a h = pool-by-who image seen n (resolved image seen n) a h
+
+pool-through-apart : (image : List ℕ) (seen : Seen) (n : Naming) → Apart (pool_owners_through image seen n)
+unfolding pool_owners_through
+pool-through-apart image seen n = pool-by-apart image seen n (resolved image seen n)
+
+-- what the name of an owner of the pool has, by how it is told of
+abbrev ShowsPool : Seen → Naming → Who → Type 0
+ShowsPool seen n w = (naming-in w ≡ Some n) ⊎ ((naming-in w ≡ None) × IsBitmapOf seen n.expected w)
+
+pool-shown : (seen : Seen) (n : Naming) (w : Who) → (w ≡ Named n) ⊎ IsPoolTold seen n n.expected w → ShowsPool seen n w
+unfolding naming-in
+pool-shown seen n w (inl x) = inl (ap naming-in x)
+pool-shown seen n w (inr (inl (i, x))) = inl (ap naming-in x)
+pool-shown seen n w (inr (inr b)) = inr (ap naming-in b.is, b)
+
+one-index : (seen : Seen) (m n : Naming) (w : Who) → IsBitmapOf seen m.expected w → (b : IsBitmapOf seen n.expected w) → m.expected ≡ InfoBlock (b.chunk / cib_chunks_of b.manager)
+unfolding bitmap-in
+one-index seen m n w a b =
+    let k : ◌≡◌ {A = Option ℕ} (Some a.chunk) (Some b.chunk) = sym (ap bitmap-in a.is) ∙ ap bitmap-in b.is in
+    let chunk : a.chunk ≡ b.chunk = some-same a.chunk b.chunk k in
+    let o : ◌≡◌ {A = Option (List ℕ)} (Some a.manager) (Some b.manager) = sym a.some ∙ b.some in
+    let manager : a.manager ≡ b.manager = some-same a.manager b.manager o in
+    a.info ∙ (ap (λ x. InfoBlock (x / cib_chunks_of a.manager)) chunk ∙ ap (λ x. InfoBlock (b.chunk / cib_chunks_of x)) manager)
+
+one-pool-teller : (seen : Seen) (all : List Naming) → TellPoolApart all → (m n : Naming) (w : Who) → In m all → In n all → ShowsPool seen m w → ShowsPool seen n w → m ≡ n
+one-pool-teller seen all t m n w hm hn (inl a) (inl b) = let z : Some m ≡ Some n = sym a ∙ b in cc
+one-pool-teller seen all t m n w hm hn (inl a) (inr (none, b)) = none-some m (naming-in w) a none
+one-pool-teller seen all t m n w hm hn (inr (none, a)) (inl b) = none-some n (naming-in w) b none
+one-pool-teller seen all t m n w hm hn (inr (none, a)) (inr (other, b)) = t.by_index m n (b.chunk / cib_chunks_of b.manager) hm hn (one-index seen m n w a b) b.info
+
+pool-apart : (image : List ℕ) (seen : Seen) (all : List Naming) → TellPoolApart all → Apart (flat_map (pool_owners_through image seen) all)
+pool-apart image seen all t =
+    apart-flat (pool_owners_through image seen) all t.apart (λ n h. pool-through-apart image seen n)
+    (λ m n a hm hn k l. one-pool-teller seen all t m n a.who hm hn (pool-shown seen m a.who (pool-through-who image seen m a k)) (pool-shown seen n a.who (pool-through-who image seen n a l)))
+
 pub ranges-told : (image : List ℕ) (seen : Seen) → RangesTold image seen
 ranges-told image seen = record {
   apart = owners-apart image seen;
@@ -390,6 +581,12 @@ ranges-told image seen = record {
     owners = filter has_blocks (joined_owners image seen all records);
     lists = (account-told image seen).owners (joined_owners image seen all records) (joined-tells image seen all views records j).owners;
     apart = apart-filter has_blocks (joined_owners image seen all records) (owners-apart image seen all records t);
+    same = refl;
+  };
+  pool_ranges = λ all views records j t. record {
+    owners = filter has_blocks (flat_map (pool_owners_through image seen) all);
+    lists = (account-told image seen).pool_owners (flat_map (pool_owners_through image seen) all) (joined-tells image seen all views records j).pool_owners;
+    apart = apart-filter has_blocks (flat_map (pool_owners_through image seen) all) (pool-apart image seen all t);
     same = refl;
   };
   objects = λ all views records objects j a into back.

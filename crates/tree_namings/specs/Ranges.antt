@@ -5,8 +5,9 @@ use Rattle.apfs_model.specs.Counts.{given}
 use Rattle.apfs_model.specs.Lists.{In}
 use Rattle.nx_ring.specs.Checkpoint.{Seen}
 use Rattle.omap_map.specs.declared.records.OmapRecord.{OmapRecord}
-use Rattle.reach_rules.specs.Naming.{Object, Newest, SpaceManager, Naming}
+use Rattle.reach_rules.specs.Naming.{Object, Newest, SpaceManager, InfoBlock, Naming}
 use Rattle.reach_rules.specs.Owners.{Owner, first_owners, owners_through, IsOwner}
+use Rattle.reach_rules.specs.PoolOwners.{pool_owners_through, IsPoolOwner}
 use Rattle.reach_rules.specs.Reached.{range_of, AreRangesOf}
 use Rattle.reach_rules.specs.Tally.{IsObjectCount}
 use Rattle.tree_namings.specs.Tells.{objects_through}
@@ -22,6 +23,11 @@ pub record TellApart (image : List ℕ) (seen : Seen) (all : List Naming) (recor
   pub records_apart : Apart records
   pub others : (n : Naming) (r : ℕ × OmapRecord) → In n all → In r records → ResolvesTo image seen n r → ⊥
 
+-- the same of owners of the pool: no naming stands twice, and one at most expects the chunk-info block of an index
+pub record TellPoolApart (all : List Naming) : Type 0 where
+  pub apart : Apart all
+  pub by_index : (m n : Naming) (i : ℕ) → In m all → In n all → m.expected ≡ InfoBlock i → n.expected ≡ InfoBlock i → m ≡ n
+
 -- the owners of a container by its parts and its views
 abbrev pub joined_owners : List ℕ → Seen → List Naming → List (ℕ × OmapRecord) → List Owner
 joined_owners image seen all records = first_owners seen.nx ++ (flat_map (owners_through image seen) all ++ map record_owner records)
@@ -34,4 +40,5 @@ joined_objects image seen all records = Newest ∷ flat_map (objects_through ima
 pub record RangesTold (image : List ℕ) (seen : Seen) : Type 0 where
   pub apart : (all : List Naming) (records : List (ℕ × OmapRecord)) → TellApart image seen all records → Apart (joined_owners image seen all records)
   pub ranges : (all views : List Naming) (records : List (ℕ × OmapRecord)) → AreJoined image seen all views records → TellApart image seen all records → AreRangesOf (IsOwner image seen) (map range_of (filter has_blocks (joined_owners image seen all records)))
+  pub pool_ranges : (all views : List Naming) (records : List (ℕ × OmapRecord)) → AreJoined image seen all views records → TellPoolApart all → AreRangesOf (IsPoolOwner image seen) (map range_of (filter has_blocks (flat_map (pool_owners_through image seen) all)))
   pub objects : (all views : List Naming) (records : List (ℕ × OmapRecord)) (objects : List Object) → AreJoined image seen all views records → Apart objects → ((x : Object) → In x objects → In x (joined_objects image seen all records)) → ((x : Object) → In x (joined_objects image seen all records) → In x objects) → IsObjectCount image seen (given (length objects))
