@@ -1,17 +1,16 @@
 -- What the parts and the views of a container tell of its account.
-use Rattle.std.proofs.Common.{◌≡◌, ℕ, ◌<◌, Bool, true, false, not, ◌==◌, List, [], length, None, ◌⊎◌, inl, inr, refl, ap, sym, ◌∙◌, subst, arith}
+use Rattle.std.proofs.Common.{◌≡◌, ℕ, Bool, true, false, not, ◌==◌, List, inl, inr, refl, ap, sym, ◌∙◌, subst, arith}
 use Rattle.std.specs.List.{filter}
-use Rattle.apfs_model.specs.Lists.{In, Lists}
+use Rattle.apfs_model.specs.Lists.{Lists}
 use Rattle.apfs_model.proofs.Searches.{in-filter, from-filter, filter-test}
 use Rattle.nx_ring.specs.Checkpoint.{Seen}
 use Rattle.omap_map.specs.declared.records.OmapRecord.{OmapRecord}
 use Rattle.reach_rules.specs.Naming.{TreeKind, Files, Expected, TreeRoot, TreeNode, ExtendedMetadata, Naming}
-use Rattle.reach_rules.specs.Live.{IsLive}
 use Rattle.reach_rules.specs.Owners.{Owner}
 use Rattle.reach_rules.specs.Trees.{tree_line, misplaced, has_counts, IsRightTree}
 use Rattle.reach_rules.specs.Accounted.{AreNamed, AreInOrder}
 use Rattle.reach_rules.specs.Reached.{HasBlocks}
-use Rattle.tree_namings.specs.Views.{ExpectsOfView, ResolvesTo, AreJoined}
+use Rattle.tree_namings.specs.Views.{ExpectsOfView, AreJoined}
 use Rattle.tree_namings.specs.Account.{AreCovered, AreRightTrees, has_blocks, AccountTold}
 use Rattle.tree_namings.proofs.Views.{view-live, joined-tells}
 

@@ -1,8 +1,8 @@
 -- No owner stands twice among those of which namings tell that tell apart.
-use Rattle.std.proofs.Common.{◌≡◌, ℕ, suc, ◌≤◌, ◌/◌, Bool, true, false, ◌&&◌, ◌==◌, List, [], ◌∷◌, ◌++◌, length, map, Option, Some, None, Ok, Err, ◌⊎◌, inl, inr, refl, ap, sym, ◌∙◌, subst, arith, if◌then◌else◌}
+use Rattle.std.proofs.Common.{◌≡◌, ℕ, suc, ◌≤◌, ◌/◌, Bool, true, false, ◌&&◌, ◌==◌, List, [], ◌∷◌, ◌++◌, map, Option, Some, None, Ok, Err, ◌⊎◌, inl, inr, refl, ap, sym, ◌∙◌, subst, arith, if◌then◌else◌}
 use Rattle.std.specs.List.{flat_map, filter, range_with_len}
 use Rattle.apfs_model.specs.Apart.{Apart}
-use Rattle.apfs_model.specs.Lists.{In, Lists, through}
+use Rattle.apfs_model.specs.Lists.{In, through}
 use Rattle.apfs_model.proofs.BoolTests.{clash, equal-from, left-true}
 use Rattle.apfs_model.proofs.Finite.{apart-filter, apart-range}
 use Rattle.apfs_model.proofs.Searches.{in-append, filter-test, from-map, from-flat_map}
@@ -16,12 +16,11 @@ use Rattle.space_pool.specs.declared.entry.Queue.TheVariants.{Pool, Main}
 use Rattle.reach_rules.specs.Naming.{Object, Newest, InBlock, OfId, OfRecord, TreeKind, MapRecords, MapSnapshots, ExtentRefs, SnapMetadata, FreeQueue, Files, Expected, SpaceManager, ContainerMap, ReaperObject, ReapList, Jumpstart, VolumeIn, VolumeMap, ExtendedMetadata, SnapshotSuper, AddressBlock, InfoBlock, TreeRoot, TreeNode, Naming}
 use Rattle.reach_rules.specs.Resolved.{Found, resolved}
 use Rattle.reach_rules.specs.Tested.{Answer, tested}
-use Rattle.reach_rules.specs.Live.{IsNamed}
-use Rattle.reach_rules.specs.Owners.{Who, BlockZero, Descriptors, Checkpoints, KeyLocker, MediaLocker, InternalPool, PoolRing, Named, Recorded, Told, Bitmap, Owner, owner, first_owners, told_from, new_ranges_of, queued_ranges_of, tells_of_chunks, object_owners, tree_owners, told_owners, told_if, owners_through, IsOwner}
-use Rattle.reach_rules.specs.PoolOwners.{pool_object_owners, is_chunk_of, has_bitmap_in, bitmaps_in, bitmap_owner, bitmap_owners, pool_tree_owners, pool_told_owners, pool_told_if, pool_owners_through, IsPoolOwner}
-use Rattle.tree_namings.specs.Views.{record_object, record_owner, ResolvesTo, AreJoined}
+use Rattle.reach_rules.specs.Owners.{Who, BlockZero, Descriptors, Checkpoints, KeyLocker, MediaLocker, InternalPool, PoolRing, Named, Recorded, Told, Bitmap, Owner, owner, first_owners, told_from, new_ranges_of, queued_ranges_of, tells_of_chunks, object_owners, tree_owners, told_owners, told_if, owners_through}
+use Rattle.reach_rules.specs.PoolOwners.{pool_object_owners, is_chunk_of, has_bitmap_in, bitmaps_in, bitmap_owner, bitmap_owners, pool_tree_owners, pool_told_owners, pool_told_if, pool_owners_through}
+use Rattle.tree_namings.specs.Views.{record_object, record_owner, ResolvesTo}
 use Rattle.tree_namings.specs.Account.{has_blocks}
-use Rattle.tree_namings.specs.Ranges.{TellApart, TellPoolApart, joined_owners, joined_objects, RangesTold}
+use Rattle.tree_namings.specs.Ranges.{TellApart, TellPoolApart, joined_owners, RangesTold}
 use Rattle.tree_namings.proofs.Views.{joined-tells}
 use Rattle.tree_namings.proofs.Account.{account-told}
 
