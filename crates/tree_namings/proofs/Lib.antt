@@ -11,3 +11,4 @@ pub mod Tells
 pub mod Views
 pub mod Account
 pub mod Ranges
+pub mod Gathered

@@ -13,6 +13,7 @@ use Rattle.tree_namings.specs.Space.{IsSpacePart}
 use Rattle.tree_namings.specs.Tells.{PartTells, PlainTells, WholeTells}
 use Rattle.tree_namings.specs.Account.{AccountTold}
 use Rattle.tree_namings.specs.Ranges.{RangesTold}
+use Rattle.tree_namings.specs.Gathered.{GatheredReaches}
 use Rattle.tree_namings.specs.Views.{ViewsTell, OutsideViews, JoinedTells}
 
 -- what is live from the naming of a root are that naming and those of the steps of its tree
@@ -42,3 +43,4 @@ pub record PartsJoined (image : List ℕ) (seen : Seen) : Type 0 where
   pub told : JoinedTells image seen
   pub account : AccountTold image seen
   pub ranges : RangesTold image seen
+  pub reached : GatheredReaches image seen

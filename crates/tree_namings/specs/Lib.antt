@@ -9,3 +9,4 @@ pub mod Tells
 pub mod Views
 pub mod Account
 pub mod Ranges
+pub mod Gathered

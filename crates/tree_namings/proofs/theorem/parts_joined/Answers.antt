@@ -1,5 +1,6 @@
 use Rattle.tree_namings.proofs.Account.{account-told}
 use Rattle.tree_namings.proofs.Ranges.{ranges-told}
+use Rattle.tree_namings.proofs.Gathered.{gathered-reaches}
 use Rattle.tree_namings.proofs.Joined.{parts-join}
 use Rattle.tree_namings.proofs.Container.{plain-facts, parts-of-container}
 use Rattle.tree_namings.proofs.Space.{space-part}
@@ -21,4 +22,5 @@ returns c image seen = record {
   told = joined-tells image seen;
   account = account-told image seen;
   ranges = ranges-told image seen;
+  reached = gathered-reaches image seen;
 }
