@@ -73,7 +73,7 @@ of-id : (image : List ℕ) (site : Site) (e : Expected) (oid : ℕ) (o : Option 
 of-id image site e oid None f h = absurd (let z : ◌≡◌ {A = Option Found} None (Some f) = h in let q : ⊥ = cc in q)
 of-id image site e oid (Some place) f h = of-place image site oid place (is_node e) f h
 
-plain-id : (image : List ℕ) (seen : Seen) (n : Naming) (p : IsPlainNaming image seen n) → n.how ≡ ByMapping → p.object.object ≡ OfId n.oid
+pub plain-id : (image : List ℕ) (seen : Seen) (n : Naming) (p : IsPlainNaming image seen n) → n.how ≡ ByMapping → p.object.object ≡ OfId n.oid
 unfolding resolved
 plain-id image seen n p h =
     let by : found_ephemeral image seen n.expected n.oid ≡ Some p.object = subst (λ how. found_by image seen how n.expected n.oid ≡ Some p.object) h p.found in
