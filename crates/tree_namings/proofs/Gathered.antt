@@ -1,13 +1,11 @@
 -- Once all is gathered, all is reached.
-use Rattle.std.proofs.Common.{◌≡◌, ℕ, false, ◌==◌, List, length, map, refl, sym, subst}
+use Rattle.std.proofs.Common.{ℕ, List, map, refl, sym, subst}
 use Rattle.std.specs.List.{flat_map}
-use Rattle.apfs_model.specs.Counts.{given}
-use Rattle.apfs_model.specs.Lists.{In, Lists}
+use Rattle.apfs_model.specs.Lists.{Lists}
 use Rattle.nx_ring.specs.Checkpoint.{Seen}
-use Rattle.reach_rules.specs.Naming.{Object}
 use Rattle.reach_rules.specs.Owners.{Owner, IsOwner}
 use Rattle.reach_rules.specs.PoolOwners.{pool_owners_through, IsPoolOwner}
-use Rattle.reach_rules.specs.Reached.{HasBlocks, range_of, AreRangesOf}
+use Rattle.reach_rules.specs.Reached.{range_of, AreRangesOf}
 use Rattle.reach_rules.specs.Tally.{IsObjectCount}
 use Rattle.tree_namings.specs.Ranges.{joined_owners}
 use Rattle.tree_namings.specs.Gathered.{AreOwnersOf, GatheredReaches}

@@ -1,17 +1,17 @@
 -- What plain namings tell of.
-use Rattle.std.proofs.Common.{◌≡◌, ℕ, true, false, List, [], ◌∷◌, ◌++◌, map, Option, Some, Ok, Err, is_ok, inl, inr, refl, ap, sym, ◌∙◌, subst}
+use Rattle.std.proofs.Common.{◌≡◌, ℕ, true, false, List, [], ◌∷◌, ◌++◌, map, Ok, Err, is_ok, inl, inr, refl, ap, sym, ◌∙◌, subst}
 use Rattle.std.specs.List.{flat_map}
 use Rattle.apfs_model.specs.Apart.{Apart}
 use Rattle.apfs_model.specs.Lists.{In, through}
 use Rattle.apfs_model.proofs.Searches.{in-map, from-map}
 use Rattle.bt_steps.specs.declared.step.Step.{Step}
 use Rattle.nx_ring.specs.Checkpoint.{Seen, site_of}
-use Rattle.reach_rules.specs.Naming.{LookUp, ByBlock, ByMapping, Object, Newest, InBlock, OfId, OfRecord, Namer, Whole, Kept, TreeKind, Naming}
-use Rattle.reach_rules.specs.Resolved.{Found, resolved}
+use Rattle.reach_rules.specs.Naming.{ByBlock, ByMapping, Object, Newest, InBlock, OfId, OfRecord, Namer, Whole, Kept, TreeKind, Naming}
+use Rattle.reach_rules.specs.Resolved.{Found}
 use Rattle.reach_rules.specs.Tested.{Answer, tested}
-use Rattle.reach_rules.specs.Owners.{Owner, object_owners, told_owners, told_if, owners_through}
+use Rattle.reach_rules.specs.Owners.{object_owners, told_owners, told_if, owners_through}
 use Rattle.reach_rules.specs.PoolOwners.{pool_object_owners, pool_told_owners, pool_told_if, pool_owners_through}
-use Rattle.tree_namings.specs.Namings.{node_id, step_naming, IsPlainNaming}
+use Rattle.tree_namings.specs.Namings.{step_naming, IsPlainNaming}
 use Rattle.tree_namings.specs.Tells.{objects_through}
 use Rattle.tree_namings.specs.Owned.{block_nodes, mapped_nodes, ArePlain, node_owner, step_key, PlainOwned}
 use Rattle.tree_namings.proofs.Container.{plain-block, plain-id}

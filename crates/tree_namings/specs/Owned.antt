@@ -4,7 +4,7 @@ use Rattle.apfs_model.specs.Apart.{Apart}
 use Rattle.apfs_model.specs.Lists.{In}
 use Rattle.bt_steps.specs.declared.step.Step.{Step}
 use Rattle.nx_ring.specs.Checkpoint.{Seen}
-use Rattle.reach_rules.specs.Naming.{LookUp, ByBlock, ByMapping, Object, InBlock, OfId, TreeKind, Naming}
+use Rattle.reach_rules.specs.Naming.{ByBlock, ByMapping, InBlock, OfId, TreeKind, Naming}
 use Rattle.reach_rules.specs.Owners.{Owner, owner, Named, object_owners, told_owners, owners_through}
 use Rattle.reach_rules.specs.PoolOwners.{pool_object_owners, pool_told_owners, pool_owners_through}
 use Rattle.tree_namings.specs.Namings.{node_id, step_naming, IsPlainNaming}
