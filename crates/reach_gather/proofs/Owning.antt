@@ -10,7 +10,7 @@ use Rattle.reach_rules.specs.Tested.{Answer, tested}
 use Rattle.reach_rules.specs.Owners.{Owner, tells_of_chunks, object_owners, told_owners, told_if, owners_through}
 use Rattle.reach_rules.specs.PoolOwners.{pool_object_owners, pool_told_owners, pool_told_if, pool_owners_through}
 use Rattle.tree_namings.specs.Namings.{IsPlainNaming}
-use Rattle.tree_namings.proofs.Container.{plain-block}
+use Rattle.tree_namings.proofs.Container.{plain-block, plain-facts}
 use Rattle.reach_gather.specs.Held.{Held, Grew, IsOwnerThrough, GrewBy}
 use Rattle.reach_gather.specs.Steps.{block_owner}
 use Rattle.reach_gather.proofs.Growing.{grew-none, grew-put}
@@ -57,6 +57,19 @@ pool-block image seen n e p how is tells =
     ∙ (ap (λ (o : Found). pool_object_owners n o.object ++ pool_told_owners image seen n n.expected p.object.bytes) (plain-block image seen n p how)
     ∙ (ap (λ xs. xs ++ pool_told_owners image seen n n.expected p.object.bytes) (block-pool n (ap tells_of_chunks is ∙ tells))
     ∙ ap (λ x. pool_told_owners image seen n x p.object.bytes) is))
+
+-- an ephemeral object owns no block, and what it tells
+pub own-id : (image : List ℕ) (seen : Seen) (n : Naming) (e : Expected) (p : IsPlainNaming image seen n) → n.how ≡ ByMapping → n.expected ≡ e → owners_through image seen n ≡ told_owners image seen n e p.object.bytes
+own-id image seen n e p how is =
+    own-plain image seen n p
+    ∙ (ap (λ (o : Object). object_owners n o ++ told_owners image seen n n.expected p.object.bytes) ((plain-facts image seen).id n p how)
+    ∙ ap (λ x. told_owners image seen n x p.object.bytes) is)
+
+pub pool-id : (image : List ℕ) (seen : Seen) (n : Naming) (e : Expected) (p : IsPlainNaming image seen n) → n.how ≡ ByMapping → n.expected ≡ e → pool_owners_through image seen n ≡ pool_told_owners image seen n e p.object.bytes
+pool-id image seen n e p how is =
+    pool-plain image seen n p
+    ∙ (ap (λ (o : Object). pool_object_owners n o ++ pool_told_owners image seen n n.expected p.object.bytes) ((plain-facts image seen).id n p how)
+    ∙ ap (λ x. pool_told_owners image seen n x p.object.bytes) is)
 
 -- namings that own their blocks and nothing else
 pub record OwnBlocks (image : List ℕ) (seen : Seen) (ns : List Naming) : Type 0 where

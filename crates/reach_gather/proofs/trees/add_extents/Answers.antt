@@ -27,7 +27,7 @@ returns-clause-clear g c = λ image told.
     let steps : c.deref.result.now ≡ c.in-Ok.walked.steps.items = c.deref.ensures.value in
     let ranges : c.as_slice.result.now ≡ c.in-Ok.walked.kept.ranges.items = c.as_slice.ensures.value in
     let walked = c.in-Ok.ensures.clear image told in
-    tree-adds image c.args.cp.now ExtentRefs root c.in-Ok.walked.steps.items c.args.out.now c.tell_all.new.out c.note_blocks.new.out how kind (walked.namings root kind how refl)
+    tree-adds image c.args.cp.now ExtentRefs root c.in-Ok.walked.steps.items c.args.out.now c.tell_all.new.out c.note_blocks.new.out how kind (walked.namings root kind how refl) (c.in-Ok.ensures.clear image told).whole.right
     refl
     (c.tell_all.ensures.namings ∙ c.in_ok-note_block.ensures.namings)
     (told-after c.args.out.now.owners c.note_block.new.self.owners c.tell_all.new.out.owners (block_owner root) (told_from root 0 (map range_of_new c.as_slice.result.now)) (told_from root 0 (new_ranges_of image c.args.cp.now root.oid)) c.in_ok-note_block.ensures.owners c.in_ok-tell_all.ensures.owners

@@ -23,7 +23,7 @@ returns-clause-clear g c = λ image told.
     let how = ap look_of c.requires.how in
     let kind = ap expected_of c.requires.kind in
     let steps : c.deref.result.now ≡ c.in-Ok.walked.steps.items = c.deref.ensures.value in
-    tree-adds image c.args.cp.now SnapMetadata root c.in-Ok.walked.steps.items c.args.out.now c.note_block.new.self c.note_blocks.new.out how kind ((c.in-Ok.ensures.clear image told).namings root kind how refl)
+    tree-adds image c.args.cp.now SnapMetadata root c.in-Ok.walked.steps.items c.args.out.now c.note_block.new.self c.note_blocks.new.out how kind ((c.in-Ok.ensures.clear image told).namings root kind how refl) (c.in-Ok.ensures.clear image told).whole.right
     refl
     c.in_ok-note_block.ensures.namings
     c.in_ok-note_block.ensures.owners
