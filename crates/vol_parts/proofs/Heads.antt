@@ -1,5 +1,5 @@
 -- What is known of a head of a container whose heads are right.
-use Rattle.std.proofs.Common.{◌≡◌, ℕ, zero, suc, ◌<◌, Bool, true, false, ◌==◌, List, [], ◌∷◌, Option, None, Some, is_ok, inl, inr, refl, ap, sym, ◌∙◌, subst, if◌then◌else◌}
+use Rattle.std.proofs.Common.{◌≡◌, ℕ, ◌<◌, Bool, true, false, ◌==◌, List, [], ◌∷◌, Option, None, Some, is_ok, inl, inr, refl, ap, sym, ◌∙◌, subst, if◌then◌else◌}
 use Rattle.std.specs.Prelude.{filter_map, option_map, option_and_then}
 use Rattle.std.specs.List.{range_with_len, cons_option}
 use Rattle.apfs_model.specs.Blocks.{in_container}
@@ -74,7 +74,7 @@ right-head image seen slot low some v =
     }
 
 -- that of a slot
-slot-right : (image : List ℕ) (seen : Seen) (slot : ℕ) (head : VolHead) → AreRight image seen → slot < slots → head_at image seen slot ≡ Some head → IsRightHead image seen head × (head.slot ≡ slot)
+pub slot-right : (image : List ℕ) (seen : Seen) (slot : ℕ) (head : VolHead) → AreRight image seen → slot < slots → head_at image seen slot ≡ Some head → IsRightHead image seen head × (head.slot ≡ slot)
 unfolding head_at
 slot-right image seen slot head right low e =
     let oid : ℕ = fs_oid_of seen.nx slot in

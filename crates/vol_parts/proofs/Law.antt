@@ -1,20 +1,19 @@
 -- The law of the parts of a container that `heads` and `load` have tested.
-use Rattle.std.proofs.Common.{◌≡◌, ℕ, List, ◌∷◌, ◌++◌, map, Option, Some, inl, inr, refl, ap, sym, ◌∙◌, subst}
+use Rattle.std.proofs.Common.{◌≡◌, ℕ, List, ◌++◌, map, Option, Some, inr, ap, sym, ◌∙◌, subst}
 use Rattle.apfs_model.specs.Lists.{In}
 use Rattle.apfs_model.proofs.Searches.{in-right, in-map, from-map}
 use Rattle.nx_block.specs.Super.{omap_oid_of, reaper_oid_of, jumpstart_of}
 use Rattle.nx_ring.specs.Checkpoint.{Seen, site_of}
 use Rattle.vol_view.specs.Fields as field
 use Rattle.vol_view.specs.Stops.{AreHeads}
-use Rattle.vol_view.specs.Volumes.{map_block_of}
 use Rattle.vol_view.specs.declared.head.VolHead.{VolHead}
-use Rattle.reach_rules.specs.Naming.{ByBlock, ByMapping, Newest, OfRecord, Whole, Expected, ReaperObject, Jumpstart, VolumeIn, Naming}
+use Rattle.reach_rules.specs.Naming.{ByBlock, ByMapping, Newest, OfRecord, Whole, ReaperObject, Jumpstart, VolumeIn, Naming}
 use Rattle.reach_rules.specs.Resolved.{Found, resolved, standing}
 use Rattle.reach_rules.specs.Next.{roots, unless_zero}
 use Rattle.reach_rules.specs.Live.{IsLive, rooted}
 use Rattle.reach_rules.specs.Maps.{GivesMap}
 use Rattle.vol_parts.specs.Told.{head_naming}
-use Rattle.vol_parts.specs.Laws.{IsGivenBy, HasParts, PartsOfVolumes}
+use Rattle.vol_parts.specs.Laws.{IsGivenBy, PartsOfVolumes}
 use Rattle.vol_parts.proofs.Leads.{record-found}
 use Rattle.vol_parts.proofs.MapParts.{container-part}
 use Rattle.vol_parts.proofs.Heads.{IsRightHead, head-right}
@@ -64,7 +63,7 @@ given-by image seen heads slot map are g =
 
 pub the-law : PartsOfVolumes
 the-law image seen heads are = record {
-  map = container-part image seen are.right.map;
+  container = container-part image seen are.right.map;
   slots_are = slots-are image seen heads are;
   only = λ n live how. heads-only image seen heads n are (in-slots image seen n live how);
   volumes = λ head volume h of. volume-part image seen head volume (head-right image seen heads head are h) (head-live image seen heads head are h) of;

@@ -1,5 +1,5 @@
 -- What the naming of a sound object resolves to and leads to, and that it is plain.
-use Rattle.std.proofs.Common.{◌≡◌, ℕ, Bool, true, false, List, [], ◌++◌, Option, None, Some, Result, Ok, Err, is_ok, refl, ap, ◌∙◌, if◌then◌else◌}
+use Rattle.std.proofs.Common.{◌≡◌, ℕ, Bool, true, false, List, [], ◌++◌, None, Some, Result, Ok, Err, is_ok, refl, ap, ◌∙◌, if◌then◌else◌}
 use Rattle.std.specs.Prelude.{option_map, option_and_then}
 use Rattle.apfs_model.specs.Blocks.{in_container}
 use Rattle.apfs_model.specs.Lists.{through}

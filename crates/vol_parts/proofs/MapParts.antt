@@ -1,12 +1,10 @@
 -- The naming of an object map that was loaded.
-use Rattle.std.proofs.Common.{◌≡◌, ℕ, Bool, true, false, List, [], ◌++◌, Some, is_ok, refl, ap, ◌∙◌}
-use Rattle.std.specs.Prelude.{is_some, ◌&&◌, ◌||◌}
+use Rattle.std.proofs.Common.{◌≡◌, ℕ, true, false, List, [], ◌++◌, Some, is_ok, refl, ap, ◌∙◌}
+use Rattle.std.specs.Prelude.{is_some, ◌&&◌}
 use Rattle.apfs_model.specs.Blocks.{in_container}
-use Rattle.apfs_model.specs.Object.{map_kind}
 use Rattle.apfs_model.proofs.BoolTests.{left-true, right-true, other-true}
 use Rattle.apfs_model.proofs.Inside.{inside-itself}
 use Rattle.obj_base.specs.Features.{with_feature}
-use Rattle.obj_base.specs.Sound.{sound_of, expecting}
 use Rattle.obj_base.specs.declared.stop.Feature.TheVariants.{Revert}
 use Rattle.obj_base.specs.declared.site.Site.{Site}
 use Rattle.bt_cursor.specs.Whole.{is_whole}

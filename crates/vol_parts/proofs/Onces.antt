@@ -1,10 +1,10 @@
 -- Volumes of one id.
-use Rattle.std.proofs.Common.{◌≡◌, ℕ, zero, suc, ◌+◌, ◌<◌, ◌≤◌, Bool, true, false, not, ◌==◌, List, [], ◌∷◌, ◌++◌, map, length, get_or, take, drop, Option, None, Some, inl, inr, refl, ap, sym, ◌∙◌, subst, arith, add-one}
+use Rattle.std.proofs.Common.{◌≡◌, ℕ, zero, suc, ◌+◌, ◌<◌, ◌≤◌, true, false, not, ◌==◌, List, [], ◌∷◌, ◌++◌, length, get_or, take, drop, Option, None, Some, inl, inr, refl, ap, sym, ◌∙◌, subst, arith, add-one}
 use Rattle.std.specs.Prelude.{filter_map, ◌&&◌, ◌||◌}
 use Rattle.std.specs.List.{range_with_len, cons_option}
 use Rattle.std.proofs.lemmas.List.{at_drop_more, at_drop_all}
 use Rattle.std.proofs.Math.Seq.{split_at}
-use Rattle.apfs_model.specs.Lists.{In, has, is_distinct}
+use Rattle.apfs_model.specs.Lists.{In, has}
 use Rattle.apfs_model.proofs.BoolTests.{clash, left-true, right-true, not-true}
 use Rattle.apfs_model.proofs.Searches.{in-map, from-map, in-has, has-in}
 use Rattle.obj_base.specs.declared.stop.Within.TheVariants.{Container}
@@ -14,8 +14,7 @@ use Rattle.vol_view.specs.Heads.{head_at, heads_of}
 use Rattle.vol_view.specs.Stops.{AreRight, AreHeads}
 use Rattle.vol_view.specs.declared.head.VolHead.{VolHead}
 use Rattle.reach_rules.specs.declared.fault.ReachFault.TheVariants.{NamedTwice}
-use Rattle.reach_rules.specs.Naming.{InContainer, VolumeIn, Naming}
-use Rattle.reach_rules.specs.Live.{IsLive}
+use Rattle.reach_rules.specs.Naming.{VolumeIn, Naming}
 use Rattle.reach_rules.specs.Reached.{IsReachedFault}
 use Rattle.vol_parts.specs.Told.{head_naming}
 use Rattle.vol_parts.specs.Once.{oids_of, are_apart, IsTwice, AreVolumesOnce}
@@ -52,7 +51,7 @@ twice-found heads i head low e h =
       one = head;
       after = after;
       other = t.0;
-      split = split_at heads i head low ∙ (ap (λ g. take i heads ++ g ∷ drop (suc i) heads) (sym e) ∙ ap (λ n. take i heads ++ head ∷ drop n heads) (sym add-one));
+      split = split_at heads i head low ∙ (ap (λ g. take i heads ++ g ∷ drop (suc i) heads) (sym e) ∙ ap (λ n. take i heads ++ head ∷ drop n heads) (sym (add-one i)));
       later = t.1.0;
       same = sym t.1.1;
       oid_is = refl;

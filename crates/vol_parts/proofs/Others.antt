@@ -1,11 +1,11 @@
 -- Volumes alone are looked up in the container's object map.
-use Rattle.std.proofs.Common.{◌≡◌, ℕ, zero, suc, ◌+◌, ◌*◌, Bool, true, false, ◌==◌, List, [], ◌∷◌, ◌++◌, map, ◌⊎◌, inl, inr, refl, ap, sym, ◌∙◌, subst}
+use Rattle.std.proofs.Common.{◌≡◌, ℕ, zero, suc, ◌+◌, ◌*◌, true, false, ◌==◌, List, [], ◌∷◌, ◌++◌, map, ◌⊎◌, inl, inr, refl, ap, sym, ◌∙◌, subst}
 use Rattle.std.specs.List.{flat_map, range_with_len}
 use Rattle.apfs_model.specs.Lists.{In}
 use Rattle.apfs_model.proofs.Searches.{in-append, from-flat_map}
 use Rattle.bt_node.specs.Entries.{Pair, bytes_in}
 use Rattle.bt_node.specs.Node.{level_of}
-use Rattle.nx_block.specs.Super.{omap_oid_of, reaper_oid_of, jumpstart_of, fs_oid_of, slots}
+use Rattle.nx_block.specs.Super.{reaper_oid_of, jumpstart_of, fs_oid_of, slots}
 use Rattle.nx_block.specs.Reaper.{reaper_head_of, reap_next_of}
 use Rattle.nx_ring.specs.Checkpoint.{Seen, site_of}
 use Rattle.omap_map.specs.Fields as maps
@@ -16,8 +16,8 @@ use Rattle.space_map.specs.Blocks.{manager_of}
 use Rattle.space_pool.specs.declared.entry.Queue.TheVariants.{Pool, Main}
 use Rattle.reach_rules.specs.Naming.{ViewAt, LookUp, ByBlock, ByMapping, InContainer, InView, Newest, Namer, Whole, Kept, TreeKind, MapRecords, MapSnapshots, ExtentRefs, SnapMetadata, FreeQueue, Files, Expected, SpaceManager, ContainerMap, ReaperObject, ReapList, Jumpstart, VolumeIn, VolumeMap, ExtendedMetadata, SnapshotSuper, AddressBlock, InfoBlock, TreeRoot, TreeNode, Naming, naming}
 use Rattle.reach_rules.specs.Resolved.{Found, is_node}
-use Rattle.reach_rules.specs.Next.{roots, next, names, unless_zero, slot_namings, map_namings, live_view, past_view, view_namings, record_namings, snapshot_namings, snapshots_namings, records_of_snapshots, address_naming, addresses_in, address_namings, manager_namings, cib_naming, cibs_in, cab_namings, children_in, child_namings, node_namings, volume_namings}
-use Rattle.reach_rules.specs.Live.{Live, rooted, led, IsLive}
+use Rattle.reach_rules.specs.Next.{roots, names, unless_zero, slot_namings, map_namings, live_view, past_view, view_namings, record_namings, snapshot_namings, snapshots_namings, records_of_snapshots, address_naming, addresses_in, address_namings, manager_namings, cib_naming, cibs_in, cab_namings, children_in, child_namings, node_namings, volume_namings}
+use Rattle.reach_rules.specs.Live.{rooted, led, IsLive}
 use Rattle.reach_rules.proofs.Nexts.{Each, each-in, each-append, each-map, each-if, each-unless, each-through, from-next}
 
 -- a naming that is neither looked up in the container's map nor expects the volume of a slot

@@ -1,22 +1,21 @@
 -- What a loaded volume tells is what its superblock names.
-use Rattle.std.proofs.Common.{◌≡◌, ℕ, zero, suc, ◌+◌, Bool, true, false, List, [], ◌∷◌, ◌++◌, map, Option, Some, inl, inr, refl, ap, sym, ◌∙◌, subst, if◌then◌else◌}
-use Rattle.std.specs.Prelude.{slice_get, slice_index, ◌&&◌, nat_le, length}
+use Rattle.std.proofs.Common.{◌≡◌, ℕ, suc, ◌+◌, true, List, [], ◌∷◌, ◌++◌, map, inl, inr, refl, ap, sym, ◌∙◌, if◌then◌else◌}
+use Rattle.std.specs.Prelude.{slice_index, ◌&&◌, nat_le, length}
 use Rattle.std.specs.List.{list_all}
 use Rattle.apfs_model.specs.Lists.{In}
 use Rattle.apfs_model.proofs.BoolTests.{left-true, all-in}
 use Rattle.obj_base.specs.declared.site.Site.{Site}
 use Rattle.bt_node.specs.Entries.{Pair, bytes_in}
 use Rattle.nx_ring.specs.Checkpoint.{Seen, site_of}
-use Rattle.omap_map.specs.Maps.{Contents, contents_of, map_blocks, map_records, is_whole_map}
+use Rattle.omap_map.specs.Maps.{contents_of, map_blocks, map_records, is_whole_map}
 use Rattle.fs_name.specs.Normal.{names_of, are_hashed}
 use Rattle.vol_view.specs.Fields as field
 use Rattle.vol_view.specs.SnapRecords.{snapshot_pairs, name_pairs, is_snapshot_long, is_snapshot_readable, is_name_readable, snap_name_len, snap_name_bytes}
 use Rattle.fs_name.specs.Text.{is_name}
 use Rattle.vol_view.specs.Agreement.{are_readable}
-use Rattle.vol_view.specs.Volumes.{Loaded, super_of, map_block_of, metadata_of, empty_map, map_or_empty, snapshot_in, loaded_of}
+use Rattle.vol_view.specs.Volumes.{super_of, map_block_of, metadata_of, empty_map, map_or_empty, snapshot_in, loaded_of}
 use Rattle.vol_view.specs.LoadStops.{IsLoadable}
 use Rattle.vol_view.specs.declared.head.VolHead.{VolHead}
-use Rattle.vol_view.specs.declared.volume.Snapshot.{Snapshot}
 use Rattle.reach_rules.specs.Naming.{ByBlock, Namer, ExtentRefs, SnapMetadata, VolumeMap, TreeRoot, Naming, naming}
 use Rattle.reach_rules.specs.Next.{unless_zero, live_view, view_namings, record_namings, snapshots_namings, past_view, volume_namings}
 use Rattle.vol_parts.specs.Told.{map_of, told_snapshots, told_with, told_volume}

@@ -1,5 +1,5 @@
 -- Trees that are whole, in the words of namings.
-use Rattle.std.proofs.Common.{◌≡◌, ℕ, true, false, List, Option, Some, None, refl, ap, ◌∙◌}
+use Rattle.std.proofs.Common.{◌≡◌, ℕ, true, false, List, Option, Some, None, refl, ◌∙◌}
 use Rattle.std.specs.Prelude.{Bool, is_none, slice_get}
 use Rattle.apfs_model.specs.Lists.{passes}
 use Rattle.bt_node.specs.Shape.{Shape}

@@ -1,6 +1,6 @@
 -- The naming of a volume that was loaded, and what stands below it.
-use Rattle.std.proofs.Common.{◌≡◌, ℕ, suc, ◌+◌, ◌*◌, Bool, true, false, ◌==◌, List, [], ◌∷◌, ◌++◌, map, Option, None, Some, is_ok, inl, inr, refl, ap, sym, ◌∙◌, subst, if◌then◌else◌}
-use Rattle.std.specs.Prelude.{slice_get, ◌||◌}
+use Rattle.std.proofs.Common.{◌≡◌, ℕ, ◌+◌, ◌*◌, true, false, ◌==◌, List, [], ◌∷◌, ◌++◌, map, None, Some, is_ok, inl, inr, refl, ap, sym, ◌∙◌, subst, if◌then◌else◌}
+use Rattle.std.specs.Prelude.{slice_get}
 use Rattle.std.specs.List.{flat_map}
 use Rattle.apfs_model.specs.Lists.{In}
 use Rattle.apfs_model.proofs.BoolTests.{other-true}
@@ -11,8 +11,7 @@ use Rattle.bt_cursor.specs.Whole.{is_whole}
 use Rattle.nx_block.specs.Super.{omap_oid_of}
 use Rattle.nx_ring.specs.Checkpoint.{Seen, site_of}
 use Rattle.omap_map.specs.Maps.{map_records}
-use Rattle.vol_view.specs.Fields as field
-use Rattle.vol_view.specs.Features.{volume_features, snapshot_record_features}
+use Rattle.vol_view.specs.Features.{snapshot_record_features}
 use Rattle.vol_view.specs.Heads.{super_in}
 use Rattle.vol_view.specs.SnapRecords.{metadata_tree, snapshot_pairs, snap_super_of, snap_flags_of, is_snapshot_long}
 use Rattle.vol_view.specs.Volumes.{Loaded, super_of, map_block_of, metadata_of, snapshot_in, loaded_of}
@@ -22,9 +21,8 @@ use Rattle.vol_view.specs.declared.volume.Snapshot.{Snapshot}
 use Rattle.reach_rules.specs.Naming.{ViewAt, Newest, InBlock, OfRecord, Namer, Whole, Kept, SnapMetadata, VolumeIn, SnapshotSuper, Naming}
 use Rattle.reach_rules.specs.Resolved.{Found, resolved, standing}
 use Rattle.reach_rules.specs.Tested.{tested}
-use Rattle.reach_rules.specs.Next.{next, records_of_snapshots}
+use Rattle.reach_rules.specs.Next.{next}
 use Rattle.reach_rules.specs.Live.{IsLive}
-use Rattle.reach_rules.specs.Maps.{GivesMap}
 use Rattle.reach_rules.specs.Features.{Placed, placed_in, record_features, volume_object_features}
 use Rattle.tree_namings.specs.Namings.{IsPlainNaming}
 use Rattle.tree_namings.specs.Walked.{IsWholeTree}

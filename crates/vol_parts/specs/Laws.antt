@@ -25,7 +25,7 @@ pub record IsGivenBy (image : List ℕ) (seen : Seen) (heads : List VolHead) (sl
 -- the container's map is right; the slots' namings are those of the heads, and no other live naming is looked up in that map; each
 -- loaded volume is right; and maps of volumes are those of the heads
 pub record HasParts (image : List ℕ) (seen : Seen) (heads : List VolHead) : Type 0 where
-  pub map : IsMapPart image seen (container_map seen)
+  pub container : IsMapPart image seen (container_map seen)
   pub slots_are : flat_map (slot_namings seen.nx) (range_with_len 0 slots) ≡ map head_naming heads
   pub only : (n : Naming) → IsLive image seen n → n.how ≡ InContainer → In n (map head_naming heads)
   pub volumes : (head : VolHead) (volume : Loaded) → In head heads → IsVolumeOf image (site_of seen) head volume → IsVolumePart image seen head volume

@@ -1,6 +1,5 @@
 -- What holds of the namings of what `heads` and `load` have tested.
 use Rattle.std.specs.Prelude.{◌≡◌, ℕ, true, false, ◌==◌, List, Some, slice_get}
-use Rattle.apfs_model.specs.Lists.{In}
 use Rattle.nx_block.specs.Super.{omap_oid_of}
 use Rattle.nx_ring.specs.Checkpoint.{Seen, site_of}
 use Rattle.omap_map.specs.Fields as maps

@@ -1,5 +1,5 @@
 // Whether the volumes of a container are named once.
-ghost use Rattle.std.specs.Prelude.{◌≡◌, ℕ, List, true, is_ok, IfErr, OnOk, IfSome, IsNone, is_none};
+ghost use Rattle.std.specs.Prelude.{◌≡◌, ℕ, List, true, is_ok, IfErr, OnOk, IfSome, is_none};
 ghost use Rattle.apfs_model.specs.Lists.{has};
 ghost use Rattle.obj_base.specs.Stops.{Tells};
 ghost use Rattle.vol_view.specs.Stops.{AreHeads};
