@@ -3,3 +3,4 @@ pub mod Owned
 pub mod Held
 pub mod Adds
 pub mod Steps
+pub mod Reading

@@ -3,6 +3,7 @@
 
 mod gathered;
 mod keepers;
+mod maps;
 mod naming;
 mod owner;
 mod queues;
