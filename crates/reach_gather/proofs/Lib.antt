@@ -4,3 +4,4 @@ mod Owning
 mod Branches
 mod Telling
 mod Told
+mod Fields

@@ -1,7 +1,9 @@
 -- What a part of a container adds to what is gathered.
 use Rattle.std.specs.Prelude.{ℕ, List}
+use Rattle.apfs_model.specs.Lists.{In}
 use Rattle.nx_ring.specs.Checkpoint.{Seen}
 use Rattle.reach_rules.specs.Naming.{Naming}
+use Rattle.reach_rules.specs.Live.{IsLive}
 use Rattle.tree_namings.specs.Account.{AreRightTrees}
 use Rattle.tree_namings.specs.Joined.{ArePart}
 use Rattle.tree_namings.specs.Views.{AreOutside}
@@ -15,3 +17,7 @@ pub record Adds (image : List ℕ) (seen : Seen) (first rest : List Naming) (old
   pub outside : AreOutside these
   pub trees : AreRightTrees image seen these
   pub grew : GrewBy image seen these old new
+
+-- each of some namings is live
+abbrev pub AreLive : List ℕ → Seen → List Naming → Type 0
+AreLive image seen ns = (n : Naming) → In n ns → IsLive image seen n
