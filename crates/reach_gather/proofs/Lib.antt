@@ -5,3 +5,5 @@ mod Branches
 mod Telling
 mod Told
 mod Fields
+mod Pasts
+mod Latest

@@ -8,8 +8,11 @@ mod naming;
 mod owner;
 mod queues;
 mod ranges;
+mod resolving;
+mod snapshots;
 mod steps;
 mod trees;
+mod volumes;
 
 pub use gathered::Gathered;
 pub use naming::{By, Expects, Mapping, Named, NamedBy, Tree, ViewKey};
