@@ -11,9 +11,9 @@ drop-end : {X : Type 0} (xs : List X) → drop (length xs) xs ≡ []
 drop-end [] = refl
 drop-end (x ∷ xs) = drop-end xs
 
-pub latest-none : (records : List OmapRecord) (oid xid : ℕ) → None ≡ latest (drop (length records) records) oid xid
+pub latest-none : (records : List OmapRecord) (j oid xid : ℕ) → j ≡ length records → None ≡ latest (drop j records) oid xid
 unfolding latest
-latest-none records oid xid = sym (ap (λ rs. greatest (λ (r : OmapRecord). r.xid) (filter (is_for oid xid) rs)) (drop-end records))
+latest-none records j oid xid e = sym (ap (λ rs. greatest (λ (r : OmapRecord). r.xid) (filter (is_for oid xid) rs)) (ap (λ k. drop k records) e ∙ drop-end records))
 
 by-test : (b : Bool) (x : OmapRecord) (rest : List OmapRecord) → greatest (λ (r : OmapRecord). r.xid) (cond b (x ∷ rest) rest) ≡ (if b then Some (greater_of (λ (r : OmapRecord). r.xid) x (greatest (λ (r : OmapRecord). r.xid) rest)) else greatest (λ (r : OmapRecord). r.xid) rest)
 by-test true x rest = refl
@@ -28,3 +28,11 @@ latest-more records i j x best next oid xid low after is was e =
     e ∙ (ap (λ b. if is_for oid xid x then Some (greater_of (λ (r : OmapRecord). r.xid) x b) else b) so
     ∙ (sym (by-test (is_for oid xid x) x (filter (is_for oid xid) (drop (i + 1) records)))
     ∙ sym (ap (λ rs. greatest (λ (r : OmapRecord). r.xid) (filter (is_for oid xid) rs)) more)))
+
+abbrev pub no_record : OmapRecord
+no_record = record { oid = 0; xid = 0; flags = 0; size = 0; paddr = 0 }
+
+pub get-self : (xs : List OmapRecord) (i : ℕ) (d : OmapRecord) → i < length xs → get_or xs i (get_or xs i d) ≡ get_or xs i d
+get-self [] i d low = absurd (omega arith)
+get-self (x ∷ xs) zero d low = refl
+get-self (x ∷ xs) (suc i) d low = get-self xs i d (omega arith)

@@ -7,7 +7,8 @@ use Rattle.vol_view.specs.declared.volume.Snapshot.{Snapshot}
 use Rattle.reach_rules.specs.Naming.{ViewAt, InBlock, Namer, Whole, Naming}
 use Rattle.reach_rules.specs.Next.{next}
 use Rattle.tree_namings.specs.Namings.{IsPlainNaming}
-use Rattle.vol_parts.specs.Told.{past_at, live_at, map_of, super_in_view, told_view}
+use Rattle.vol_parts.specs.Parts.{IsMapPart}
+use Rattle.vol_parts.specs.Told.{past_at, live_at, map_of, map_in_volume, super_in_view, told_view}
 
 -- what the superblock of a snapshot names in its view
 abbrev pub past_view_namings : ViewAt → Snapshot → List Naming
@@ -33,3 +34,8 @@ abbrev pub volume_views : Seen → Namer → Loaded → List Naming
 volume_views seen namer volume =
     told_view namer (live_at seen volume.head.slot (map_of volume) (are_hashed volume.names)) volume.root_oid volume.meta_ext
     ++ pasts_namings volume.head.slot (map_of volume) (are_hashed volume.names) 0 volume.snaps
+
+-- the map of a volume is right, and so are the superblocks of its snapshots
+pub record AreVolumeParts (image : List ℕ) (seen : Seen) (namer : Namer) (volume : Loaded) : Type 0 where
+  pub map : IsMapPart image seen (map_in_volume namer (map_of volume))
+  pub snapshots : AreSuperParts image seen volume (map_of volume)

@@ -20,3 +20,4 @@ pub use owner::{Owned, OwnedBy};
 pub use queues::{add_main_queue, add_pool_queue};
 pub use trees::{add_extents, add_map_records, add_map_snapshots, add_metadata};
 pub use maps::add_map;
+pub use volumes::add_volume;

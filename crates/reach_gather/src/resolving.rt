@@ -27,15 +27,15 @@ fn greater(one: OmapRecord, best: Option<OmapRecord>) -> OmapRecord
 
 // The better of a record and the best one further on, for an id and a transaction.
 fn better(
-    one: OmapRecord,
+    one: &OmapRecord,
     oid: u64,
     xid: u64,
     best: Option<OmapRecord>,
 ) -> Option<OmapRecord>
-    ensures { result ≡ (if spec.is_for oid xid one then Some (greater_of (λ (r : OmapRecord). r.xid) one best) else best) }
+    ensures { result ≡ (if spec.is_for oid xid one.now then Some (greater_of (λ (r : OmapRecord). r.xid) one.now best) else best) }
 {
     if one.oid == oid && one.xid <= xid {
-        Some(greater(one, best))
+        Some(greater(*one, best))
     } else {
         best
     }
@@ -46,11 +46,10 @@ fn latest(records: &[OmapRecord], oid: u64, xid: u64) -> Option<OmapRecord>
     ensures { result ≡ spec.latest records.now oid xid }
 {
     let mut best = None;
-    let mut i = records.len();
-    'back: while i > 0 {
-        i -= 1;
+    for k in 0..records.len() {
+        let i = records.len() - 1 - k;
         let one = &records[i];
-        best = better(*one, oid, xid, best);
+        best = better(one, oid, xid, best);
     }
     best
 }

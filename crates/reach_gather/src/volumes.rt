@@ -17,10 +17,11 @@ ghost use Rattle.reach_rules.specs.Naming.{ByBlock, ExtentRefs, SnapMetadata, Tr
 ghost use Rattle.reach_rules.specs.Next.{unless_zero};
 ghost use Rattle.reach_rules.specs.Reached.{IsReachedFault};
 ghost use Rattle.vol_parts.specs.Parts.{IsVolumePart, volume_namer};
-ghost use Rattle.vol_parts.specs.Told.{head_naming};
+ghost use Rattle.vol_parts.specs.Told as told;
+ghost use Rattle.vol_parts.specs.Told.{head_naming, told_volume};
 ghost use Rattle.reach_gather.specs.Adds.{Adds, AreLive};
-ghost use Rattle.reach_gather.specs.Named.{namer_of};
-ghost use Rattle.reach_gather.specs.Views.{volume_views};
+ghost use Rattle.reach_gather.specs.Named.{namer_of, naming_of};
+ghost use Rattle.reach_gather.specs.Views.{AreVolumeParts, volume_views};
 
 use crate::Gathered;
 use crate::maps::add_map;
@@ -95,6 +96,119 @@ fn add_live_metadata<S: BlockSource>(
         oid,
     };
     match add_metadata(alloc, src, cp, root, out) {
+        Ok(()) => Ok(()),
+        Err(stop) => Err(stop),
+    }
+}
+
+// The block of a volume's object map: the first of those in which the map lies.
+fn map_of(volume: &Volume) -> u64
+    ensures { result ≡ told.map_of volume.now }
+{
+    let blocks = volume.omap.blocks();
+    if blocks.is_empty() { 0 } else { blocks[0] }
+}
+
+// The record of the container's map by which the volume of a slot is found.
+fn mapping_of(map: u64, found: OmapRecord) -> Mapping
+    ensures { result ≡ record { map = map; oid = found.oid; xid = found.xid; flags = found.flags; size = found.size; paddr = found.paddr } }
+{
+    Mapping {
+        map,
+        oid: found.oid,
+        xid: found.xid,
+        flags: found.flags,
+        size: found.size,
+        paddr: found.paddr,
+    }
+}
+
+// The naming of a volume by its slot.
+fn named(volume: &Volume) -> Named
+    ensures naming { naming_of result ≡ head_naming volume.now.head }
+    ensures oid { result.oid ≡ volume.now.head.oid }
+{
+    Named {
+        by: NamedBy::Newest,
+        at: 184 + 8 * u64::from(volume.head.slot),
+        expects: Expects::Volume(volume.head.slot),
+        how: By::Container,
+        oid: volume.head.oid,
+    }
+}
+
+// Adds what a volume's superblock names, by the object of which it is; what its views name is left to the rest.
+fn add_named<S: BlockSource>(
+    alloc: Global,
+    src: &mut S,
+    cp: &Checkpoint,
+    volume: &Volume,
+    by: NamedBy,
+    out: &mut Gathered,
+) -> Result<(), Stop<ReachFault>>
+    requires site { IsSiteFor (site_of cp.now) (S.bytes_len src.old) }
+    ensures clear { (image : List ℕ) → S.bytes src.old ≡ Some image → AreVolumeParts image cp.now (namer_of by) volume.now → OnOk result (Adds image cp.now (told_volume cp.now (namer_of by) volume.now) (volume_views cp.now (namer_of by) volume.now) out.old out.new) }
+    ensures present { (image : List ℕ) → S.bytes src.old ≡ Some image → AreVolumeParts image cp.now (namer_of by) volume.now → AreLive image cp.now (told_volume cp.now (namer_of by) volume.now) → IfErr result (Tells (IsReachedFault image cp.now) (HasFeature image cp.now)) }
+    ensures cause { IsErrOf result ReadFault → Rose (S.faults src.old) (S.faults src.new) }
+    ensures kept { IsKept S.bytes S.bytes_len S.faults src.old src.new }
+{
+    let map = map_of(volume);
+    let omap = Named {
+        by,
+        at: 128,
+        expects: Expects::VolumeMap,
+        how: By::Block,
+        oid: map,
+    };
+    match add_map(alloc, src, cp, omap, out) {
+        Ok(_) => (),
+        Err(stop) => return Err(stop),
+    }
+    match add_live_extents(alloc, src, cp, by, volume.extents_root, out) {
+        Ok(()) => (),
+        Err(stop) => return Err(stop),
+    }
+    match add_live_metadata(alloc, src, cp, by, volume.snaps_root, out) {
+        Ok(()) => (),
+        Err(stop) => return Err(stop),
+    }
+    match add_snapshots(alloc, src, cp, volume, map, out) {
+        Ok(()) => Ok(()),
+        Err(stop) => Err(stop),
+    }
+}
+
+/// Adds a volume, by a record of the container's map, with all that its superblock names but what its views do, which is left to
+/// the rest. `records` are those of the container's map.
+pub fn add_volume<S: BlockSource>(
+    alloc: Global,
+    src: &mut S,
+    cp: &Checkpoint,
+    volume: &Volume,
+    records: &[OmapRecord],
+    out: &mut Gathered,
+) -> Result<(), Stop<ReachFault>>
+    requires site { IsSiteFor (site_of cp.now) (S.bytes_len src.old) }
+    ensures clear { (image : List ℕ) → S.bytes src.old ≡ Some image → records.now ≡ map_records image (site_of cp.now) (omap_oid_of cp.now.nx) → (part : IsVolumePart image cp.now volume.now.head volume.now) → OnOk result (Adds image cp.now (head_naming volume.now.head ∷ []) (volume_views cp.now (volume_namer cp.now part.mapping) volume.now) out.old out.new) }
+    ensures present { (image : List ℕ) → S.bytes src.old ≡ Some image → records.now ≡ map_records image (site_of cp.now) (omap_oid_of cp.now.nx) → IsVolumePart image cp.now volume.now.head volume.now → IsLive image cp.now (head_naming volume.now.head) → IfErr result (Tells (IsReachedFault image cp.now) (HasFeature image cp.now)) }
+    ensures cause { IsErrOf result ReadFault → Rose (S.faults src.old) (S.faults src.new) }
+    ensures kept { IsKept S.bytes S.bytes_len S.faults src.old src.new }
+{
+    let _size = src.size();
+    let map = cp.nx().omap_oid();
+    let found = match resolve(records, volume.head.oid, cp.xid()) {
+        Some(found) => found,
+        None => {
+            return Err(Stop::Found(ReachFault::Unnamed {
+                within: Within::Container,
+                oid: volume.head.oid,
+                xid: cp.xid(),
+            }));
+        }
+    };
+    let mapping = mapping_of(map, found);
+    out.note_record(named(volume), mapping)?;
+    match add_named(alloc, src, cp, volume, NamedBy::Record(mapping), out) {
         Ok(()) => Ok(()),
         Err(stop) => Err(stop),
     }

@@ -1,0 +1,46 @@
+use Rattle.std.proofs.Common.{◌≡◌, ◌∙◌, ◌++◌, ℕ, List, [], ◌∷◌, ap, refl, sym, subst}
+use Rattle.fs_name.specs.Normal.{are_hashed}
+use Rattle.nx_ring.specs.Checkpoint.{Seen}
+use Rattle.vol_view.specs.Volumes.{Loaded}
+use Rattle.reach_rules.specs.Naming.{ByBlock, Namer, ExtentRefs, SnapMetadata, TreeRoot, Naming}
+use Rattle.reach_rules.specs.Next.{unless_zero}
+use Rattle.vol_parts.specs.Parts.{IsMapPart}
+use Rattle.vol_parts.specs.Told.{map_of, map_in_volume, told_view, live_at, told_snapshots}
+use Rattle.reach_gather.specs.Adds.{Adds}
+use Rattle.reach_gather.specs.Held.{Held}
+use Rattle.reach_gather.specs.Named.{namer_of}
+use Rattle.reach_gather.specs.Views.{AreSuperParts, pasts_namings}
+use Rattle.reach_gather.proofs.Growing.{adds-left, adds-join}
+use Rattle.reach_gather.proofs.volumes.add_named.Goals as goal
+
+pub returns-in-Ok-add_snapshots-clause-clear : goal.returns-in-Ok-add_snapshots-clause-clear
+returns-in-Ok-add_snapshots-clause-clear g c = λ image told parts.
+    let seen : Seen = c.args.cp.now in
+    let volume : Loaded = c.args.volume.now in
+    let me : Namer = namer_of c.args.by in
+    let em : c.map_of-map.result ≡ map_of volume = c.map_of-map.ensures in
+    let a : Held = c.args.out.now in
+    let b : Held = c.add_map.new.out in
+    let m : Held = c.add_live_extents.new.out in
+    let d : Held = c.add_live_metadata.new.out in
+    let e : Held = c.add_snapshots.new.out in
+    let told1 = c.in-Ok.ensures.kept.same_bytes ∙ told in
+    let told2 = c.in-Ok-add_live_extents.ensures.kept.same_bytes ∙ told1 in
+    let told3 = c.in-Ok-add_live_metadata.ensures.kept.same_bytes ∙ told2 in
+    let view : List Naming = told_view me (live_at seen volume.head.slot (map_of volume) (are_hashed volume.names)) volume.root_oid volume.meta_ext in
+    let pasts : List Naming = pasts_namings volume.head.slot (map_of volume) (are_hashed volume.names) 0 volume.snaps in
+    let snaps : List Naming = told_snapshots volume.head.slot (map_of volume) (are_hashed volume.names) 0 volume.snaps in
+    let one : Adds image seen (map_in_volume me (map_of volume) ∷ []) [] a b =
+        subst (λ x. Adds image seen (map_in_volume me x ∷ []) [] a b) em (c.in-Ok.ensures.clear image told (subst (λ x. IsMapPart image seen (map_in_volume me x)) (sym em) parts.map)) in
+    let two : Adds image seen (unless_zero me 144 (TreeRoot ExtentRefs) ByBlock volume.extents_root) [] b m =
+        subst (λ x. Adds image seen (unless_zero me 144 (TreeRoot ExtentRefs) ByBlock x) [] b m) (ap (λ (v : Loaded). v.extents_root) c.volume.view_is) (c.in-Ok-add_live_extents.ensures.clear image told1) in
+    let three : Adds image seen (unless_zero me 152 (TreeRoot SnapMetadata) ByBlock volume.snaps_root) [] m d =
+        subst (λ x. Adds image seen (unless_zero me 152 (TreeRoot SnapMetadata) ByBlock x) [] m d) (ap (λ (v : Loaded). v.snaps_root) c.volume.view_is) (c.in-Ok-add_live_metadata.ensures.clear image told2) in
+    let four : Adds image seen snaps pasts d e =
+        subst (λ x. Adds image seen (told_snapshots volume.head.slot x (are_hashed volume.names) 0 volume.snaps) (pasts_namings volume.head.slot x (are_hashed volume.names) 0 volume.snaps) d e) em
+        (c.in-Ok-add_snapshots.ensures.clear image told3 (subst (λ x. AreSuperParts image seen volume x) (sym em) parts.snapshots)) in
+    let ext : List Naming = unless_zero me 144 (TreeRoot ExtentRefs) ByBlock volume.extents_root in
+    let meta : List Naming = unless_zero me 152 (TreeRoot SnapMetadata) ByBlock volume.snaps_root in
+    adds-join image seen (map_in_volume me (map_of volume) ∷ []) (view ++ (ext ++ (meta ++ snaps))) [] (view ++ pasts) a b e one
+    (adds-join image seen view (ext ++ (meta ++ snaps)) view pasts b b e (adds-left image seen view b)
+    (adds-join image seen ext (meta ++ snaps) [] pasts b m e two (adds-join image seen meta snaps [] pasts m d e three four)))
