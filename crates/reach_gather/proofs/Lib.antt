@@ -7,3 +7,4 @@ mod Told
 mod Fields
 mod Pasts
 mod Latest
+mod Slots

@@ -34,8 +34,8 @@ snapshot-adds image seen view snapshot a b c part p q r kept =
     let rest : List Naming = past_view_namings view snapshot in
     let own = one-owns image seen n (own-block image seen n (SnapshotSuper view) part.plain refl refl refl, pool-block image seen n (SnapshotSuper view) part.plain refl refl refl) in
     let first : Adds image seen (n ∷ []) rest a b =
-        adds-step image seen n rest a b b part.plain refl (super-root image seen view snapshot) (block-grew image seen n a b own p q r)
-        (adds-as image seen rest (next image seen n) rest b b part.leads (adds-left image seen rest b)) in
+    adds-step image seen n rest a b b part.plain refl (super-root image seen view snapshot) (block-grew image seen n a b own p q r)
+    (adds-as image seen rest (next image seen n) rest b b part.leads (adds-left image seen rest b)) in
     subst (λ rs. Adds image seen (told_snapshot view snapshot) rs a c) (list-end rest)
     (adds-join image seen (n ∷ []) (unless_zero (Kept view) 0 (TreeRoot ExtentRefs) ByBlock snapshot.extents_root) rest [] a b c first kept)
 
@@ -73,11 +73,11 @@ pasts-next image seen slot map hashed xs i x view a b c low is same before one =
     let long : length (take i xs) ≡ i = length-take xs i low in
     let place : 0 + length (take i xs) ≡ i = omega (arith, long) in
     let told : told_snapshots slot map hashed 0 (take (i + 1) xs) ≡ told_snapshots slot map hashed 0 (take i xs) ++ told_snapshot view x =
-        ap (told_snapshots slot map hashed 0) more ∙ (told-more slot map hashed 0 (take i xs) x ∙ (ap (λ k. told_snapshots slot map hashed 0 (take i xs) ++ told_snapshot (past_at slot map hashed k x) x) place
-        ∙ ap (λ v. told_snapshots slot map hashed 0 (take i xs) ++ told_snapshot v x) (sym same))) in
+    ap (told_snapshots slot map hashed 0) more ∙ (told-more slot map hashed 0 (take i xs) x ∙ (ap (λ k. told_snapshots slot map hashed 0 (take i xs) ++ told_snapshot (past_at slot map hashed k x) x) place
+    ∙ ap (λ v. told_snapshots slot map hashed 0 (take i xs) ++ told_snapshot v x) (sym same))) in
     let rests : pasts_namings slot map hashed 0 (take (i + 1) xs) ≡ pasts_namings slot map hashed 0 (take i xs) ++ past_view_namings view x =
-        ap (pasts_namings slot map hashed 0) more ∙ (pasts-more slot map hashed 0 (take i xs) x ∙ (ap (λ k. pasts_namings slot map hashed 0 (take i xs) ++ past_view_namings (past_at slot map hashed k x) x) place
-        ∙ ap (λ v. pasts_namings slot map hashed 0 (take i xs) ++ past_view_namings v x) (sym same))) in
+    ap (pasts_namings slot map hashed 0) more ∙ (pasts-more slot map hashed 0 (take i xs) x ∙ (ap (λ k. pasts_namings slot map hashed 0 (take i xs) ++ past_view_namings (past_at slot map hashed k x) x) place
+    ∙ ap (λ v. pasts_namings slot map hashed 0 (take i xs) ++ past_view_namings v x) (sym same))) in
     subst (λ rs. Adds image seen (told_snapshots slot map hashed 0 (take (i + 1) xs)) rs a c) (sym rests)
     (adds-as image seen (told_snapshots slot map hashed 0 (take i xs) ++ told_snapshot view x) (told_snapshots slot map hashed 0 (take (i + 1) xs)) (pasts_namings slot map hashed 0 (take i xs) ++ past_view_namings view x) a c told
     (adds-join image seen (told_snapshots slot map hashed 0 (take i xs)) (told_snapshot view x) (pasts_namings slot map hashed 0 (take i xs)) (past_view_namings view x) a b c before one))

@@ -1,5 +1,6 @@
 -- What the views of volumes name, which is left to the sweep over all views.
-use Rattle.std.specs.Prelude.{◌≡◌, ℕ, suc, Bool, List, [], ◌∷◌, ◌++◌, slice_get, Some}
+use Rattle.std.specs.Prelude.{◌≡◌, ℕ, suc, Bool, List, [], ◌∷◌, ◌++◌, map, flat_map, slice_get, Some}
+use Rattle.apfs_model.specs.Lists.{In}
 use Rattle.fs_name.specs.Normal.{are_hashed}
 use Rattle.nx_ring.specs.Checkpoint.{Seen}
 use Rattle.vol_view.specs.Volumes.{Loaded}
@@ -7,8 +8,8 @@ use Rattle.vol_view.specs.declared.volume.Snapshot.{Snapshot}
 use Rattle.reach_rules.specs.Naming.{ViewAt, InBlock, Namer, Whole, Naming}
 use Rattle.reach_rules.specs.Next.{next}
 use Rattle.tree_namings.specs.Namings.{IsPlainNaming}
-use Rattle.vol_parts.specs.Parts.{IsMapPart}
-use Rattle.vol_parts.specs.Told.{past_at, live_at, map_of, map_in_volume, super_in_view, told_view}
+use Rattle.vol_parts.specs.Parts.{IsMapPart, IsVolumePart, volume_namer}
+use Rattle.vol_parts.specs.Told.{head_naming, past_at, live_at, map_of, map_in_volume, super_in_view, told_view}
 
 -- what the superblock of a snapshot names in its view
 abbrev pub past_view_namings : ViewAt → Snapshot → List Naming
@@ -39,3 +40,16 @@ volume_views seen namer volume =
 pub record AreVolumeParts (image : List ℕ) (seen : Seen) (namer : Namer) (volume : Loaded) : Type 0 where
   pub map : IsMapPart image seen (map_in_volume namer (map_of volume))
   pub snapshots : AreSuperParts image seen volume (map_of volume)
+
+-- each of some volumes is right, and the object of its superblock is known
+abbrev pub AreNamedParts : List ℕ → Seen → (Loaded → Namer) → List Loaded → Type 0
+AreNamedParts image seen namer volumes =
+    (volume : Loaded) → In volume volumes → (part : IsVolumePart image seen volume.head volume) × (namer volume ≡ volume_namer seen part.mapping)
+
+-- the namings of some volumes by their slots
+abbrev pub slots_namings : List Loaded → List Naming
+slots_namings volumes = map (λ (volume : Loaded). head_naming volume.head) volumes
+
+-- what the views of some volumes name
+abbrev pub loaded_views : Seen → (Loaded → Namer) → List Loaded → List Naming
+loaded_views seen namer volumes = flat_map (λ (volume : Loaded). volume_views seen (namer volume) volume) volumes

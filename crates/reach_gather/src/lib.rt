@@ -15,9 +15,9 @@ mod trees;
 mod volumes;
 
 pub use gathered::Gathered;
+pub use maps::add_map;
 pub use naming::{By, Expects, Mapping, Named, NamedBy, Tree, ViewKey};
 pub use owner::{Owned, OwnedBy};
 pub use queues::{add_main_queue, add_pool_queue};
 pub use trees::{add_extents, add_map_records, add_map_snapshots, add_metadata};
-pub use maps::add_map;
-pub use volumes::add_volume;
+pub use volumes::{add_volume, add_volumes};

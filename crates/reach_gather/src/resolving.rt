@@ -14,24 +14,13 @@ fn greater(one: OmapRecord, best: Option<OmapRecord>) -> OmapRecord
     ensures { result ≡ greater_of (λ (r : OmapRecord). r.xid) one best }
 {
     match best {
-        Some(other) => {
-            if one.xid < other.xid {
-                other
-            } else {
-                one
-            }
-        }
+        Some(other) => { if one.xid < other.xid { other } else { one } }
         None => one,
     }
 }
 
 // The better of a record and the best one further on, for an id and a transaction.
-fn better(
-    one: &OmapRecord,
-    oid: u64,
-    xid: u64,
-    best: Option<OmapRecord>,
-) -> Option<OmapRecord>
+fn better(one: &OmapRecord, oid: u64, xid: u64, best: Option<OmapRecord>) -> Option<OmapRecord>
     ensures { result ≡ (if spec.is_for oid xid one.now then Some (greater_of (λ (r : OmapRecord). r.xid) one.now best) else best) }
 {
     if one.oid == oid && one.xid <= xid {

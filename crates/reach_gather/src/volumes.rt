@@ -13,7 +13,8 @@ ghost use Rattle.nx_ring.specs.Checkpoint.{site_of};
 ghost use Rattle.omap_map.specs.Maps.{map_records};
 ghost use Rattle.reach_rules.specs.Features.{HasFeature};
 ghost use Rattle.reach_rules.specs.Live.{IsLive};
-ghost use Rattle.reach_rules.specs.Naming.{ByBlock, ExtentRefs, SnapMetadata, TreeRoot};
+ghost use Rattle.vol_view.specs.Volumes.{Loaded};
+ghost use Rattle.reach_rules.specs.Naming.{ByBlock, Namer, ExtentRefs, SnapMetadata, TreeRoot};
 ghost use Rattle.reach_rules.specs.Next.{unless_zero};
 ghost use Rattle.reach_rules.specs.Reached.{IsReachedFault};
 ghost use Rattle.vol_parts.specs.Parts.{IsVolumePart, volume_namer};
@@ -21,7 +22,7 @@ ghost use Rattle.vol_parts.specs.Told as told;
 ghost use Rattle.vol_parts.specs.Told.{head_naming, told_volume};
 ghost use Rattle.reach_gather.specs.Adds.{Adds, AreLive};
 ghost use Rattle.reach_gather.specs.Named.{namer_of, naming_of};
-ghost use Rattle.reach_gather.specs.Views.{AreVolumeParts, volume_views};
+ghost use Rattle.reach_gather.specs.Views.{AreVolumeParts, AreNamedParts, volume_views, slots_namings, loaded_views};
 
 use crate::Gathered;
 use crate::maps::add_map;
@@ -212,4 +213,30 @@ pub fn add_volume<S: BlockSource>(
         Ok(()) => Ok(()),
         Err(stop) => Err(stop),
     }
+}
+
+/// Adds volumes, each with all that its superblock names but what its views do, which is left to the rest. `records` are those of
+/// the container's map.
+pub fn add_volumes<S: BlockSource>(
+    alloc: Global,
+    src: &mut S,
+    cp: &Checkpoint,
+    volumes: &[Volume],
+    records: &[OmapRecord],
+    out: &mut Gathered,
+) -> Result<(), Stop<ReachFault>>
+    requires site { IsSiteFor (site_of cp.now) (S.bytes_len src.old) }
+    ensures clear { (image : List ℕ) (namer : Loaded → Namer) → S.bytes src.old ≡ Some image → records.now ≡ map_records image (site_of cp.now) (omap_oid_of cp.now.nx) → AreNamedParts image cp.now namer volumes.now → OnOk result (Adds image cp.now (slots_namings volumes.now) (loaded_views cp.now namer volumes.now) out.old out.new) }
+    ensures present { (image : List ℕ) (namer : Loaded → Namer) → S.bytes src.old ≡ Some image → records.now ≡ map_records image (site_of cp.now) (omap_oid_of cp.now.nx) → AreNamedParts image cp.now namer volumes.now → AreLive image cp.now (slots_namings volumes.now) → IfErr result (Tells (IsReachedFault image cp.now) (HasFeature image cp.now)) }
+    ensures cause { IsErrOf result ReadFault → Rose (S.faults src.old) (S.faults src.new) }
+    ensures kept { IsKept S.bytes S.bytes_len S.faults src.old src.new }
+{
+    let _size = src.size();
+    for volume in volumes {
+        match add_volume(alloc, src, cp, volume, records, out) {
+            Ok(()) => (),
+            Err(stop) => return Err(stop),
+        }
+    }
+    Ok(())
 }

@@ -6,7 +6,6 @@ use Rattle.reach_gather.proofs.resolving.latest.Goals as goal
 pub loop-k-init : goal.loop-k-init
 loop-k-init c = latest-none c.args.records.now (length c.args.records.now - 0) c.args.oid c.args.xid (omega arith)
 
-
 pub loop-k-preserved : goal.loop-k-preserved
 loop-k-preserved c =
     let i : ℕ = length c.args.records.now - 1 - c.loop-k.k in

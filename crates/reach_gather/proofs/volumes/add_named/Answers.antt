@@ -31,14 +31,14 @@ returns-in-Ok-add_snapshots-clause-clear g c = λ image told parts.
     let pasts : List Naming = pasts_namings volume.head.slot (map_of volume) (are_hashed volume.names) 0 volume.snaps in
     let snaps : List Naming = told_snapshots volume.head.slot (map_of volume) (are_hashed volume.names) 0 volume.snaps in
     let one : Adds image seen (map_in_volume me (map_of volume) ∷ []) [] a b =
-        subst (λ x. Adds image seen (map_in_volume me x ∷ []) [] a b) em (c.in-Ok.ensures.clear image told (subst (λ x. IsMapPart image seen (map_in_volume me x)) (sym em) parts.map)) in
+    subst (λ x. Adds image seen (map_in_volume me x ∷ []) [] a b) em (c.in-Ok.ensures.clear image told (subst (λ x. IsMapPart image seen (map_in_volume me x)) (sym em) parts.map)) in
     let two : Adds image seen (unless_zero me 144 (TreeRoot ExtentRefs) ByBlock volume.extents_root) [] b m =
-        subst (λ x. Adds image seen (unless_zero me 144 (TreeRoot ExtentRefs) ByBlock x) [] b m) (ap (λ (v : Loaded). v.extents_root) c.volume.view_is) (c.in-Ok-add_live_extents.ensures.clear image told1) in
+    subst (λ x. Adds image seen (unless_zero me 144 (TreeRoot ExtentRefs) ByBlock x) [] b m) (ap (λ (v : Loaded). v.extents_root) c.volume.view_is) (c.in-Ok-add_live_extents.ensures.clear image told1) in
     let three : Adds image seen (unless_zero me 152 (TreeRoot SnapMetadata) ByBlock volume.snaps_root) [] m d =
-        subst (λ x. Adds image seen (unless_zero me 152 (TreeRoot SnapMetadata) ByBlock x) [] m d) (ap (λ (v : Loaded). v.snaps_root) c.volume.view_is) (c.in-Ok-add_live_metadata.ensures.clear image told2) in
+    subst (λ x. Adds image seen (unless_zero me 152 (TreeRoot SnapMetadata) ByBlock x) [] m d) (ap (λ (v : Loaded). v.snaps_root) c.volume.view_is) (c.in-Ok-add_live_metadata.ensures.clear image told2) in
     let four : Adds image seen snaps pasts d e =
-        subst (λ x. Adds image seen (told_snapshots volume.head.slot x (are_hashed volume.names) 0 volume.snaps) (pasts_namings volume.head.slot x (are_hashed volume.names) 0 volume.snaps) d e) em
-        (c.in-Ok-add_snapshots.ensures.clear image told3 (subst (λ x. AreSuperParts image seen volume x) (sym em) parts.snapshots)) in
+    subst (λ x. Adds image seen (told_snapshots volume.head.slot x (are_hashed volume.names) 0 volume.snaps) (pasts_namings volume.head.slot x (are_hashed volume.names) 0 volume.snaps) d e) em
+    (c.in-Ok-add_snapshots.ensures.clear image told3 (subst (λ x. AreSuperParts image seen volume x) (sym em) parts.snapshots)) in
     let ext : List Naming = unless_zero me 144 (TreeRoot ExtentRefs) ByBlock volume.extents_root in
     let meta : List Naming = unless_zero me 152 (TreeRoot SnapMetadata) ByBlock volume.snaps_root in
     adds-join image seen (map_in_volume me (map_of volume) ∷ []) (view ++ (ext ++ (meta ++ snaps))) [] (view ++ pasts) a b e one
