@@ -94,7 +94,7 @@ pub map-adds : (image : List ℕ) (seen : Seen) (n : Naming) (tree past : ℕ) (
 map-adds image seen n tree past a b c d how expects part is_tree is_past p q r records snapshots =
     let namer : Namer = Whole (InBlock n.oid) in
     let leads : next image seen n ≡ naming namer 48 (TreeRoot MapRecords) ByBlock tree ∷ unless_zero namer 56 (TreeRoot MapSnapshots) ByBlock past =
-        part.leads ∙ (λ i. naming namer 48 (TreeRoot MapRecords) ByBlock (sym is_tree i) ∷ unless_zero namer 56 (TreeRoot MapSnapshots) ByBlock (sym is_past i)) in
+    part.leads ∙ (λ i. naming namer 48 (TreeRoot MapRecords) ByBlock (sym is_tree i) ∷ unless_zero namer 56 (TreeRoot MapSnapshots) ByBlock (sym is_past i)) in
     adds-step image seen n [] a b d part.plain (ap is_in_view how) (no-root image seen n expects) (block-grew image seen n a b (one-owns image seen n (map-owns image seen n how expects part.plain)) p q r)
     (adds-as image seen (naming namer 48 (TreeRoot MapRecords) ByBlock tree ∷ unless_zero namer 56 (TreeRoot MapSnapshots) ByBlock past) (next image seen n) [] b d leads
     (adds-join image seen (naming namer 48 (TreeRoot MapRecords) ByBlock tree ∷ []) (unless_zero namer 56 (TreeRoot MapSnapshots) ByBlock past) [] [] b c d records snapshots))

@@ -5,3 +5,6 @@ mod Branches
 mod Telling
 mod Told
 mod Fields
+mod Numbered
+mod Chunked
+mod Spaced

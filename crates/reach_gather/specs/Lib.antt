@@ -4,3 +4,5 @@ pub mod Held
 pub mod Adds
 pub mod Steps
 pub mod Reading
+pub mod Infos
+pub mod Pooled

@@ -2,18 +2,21 @@
 #![tactic(auto)]
 
 mod gathered;
+mod infos;
 mod keepers;
 mod maps;
 mod naming;
 mod owner;
 mod queues;
 mod ranges;
+mod space;
 mod steps;
 mod trees;
 
 pub use gathered::Gathered;
+pub use maps::add_map;
 pub use naming::{By, Expects, Mapping, Named, NamedBy, Tree, ViewKey};
 pub use owner::{Owned, OwnedBy};
 pub use queues::{add_main_queue, add_pool_queue};
+pub use space::add_space;
 pub use trees::{add_extents, add_map_records, add_map_snapshots, add_metadata};
-pub use maps::add_map;
