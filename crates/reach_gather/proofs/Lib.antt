@@ -8,3 +8,4 @@ mod Fields
 mod Numbered
 mod Chunked
 mod Spaced
+mod Chain

@@ -6,3 +6,4 @@ pub mod Steps
 pub mod Reading
 pub mod Infos
 pub mod Pooled
+pub mod Chain
