@@ -2,3 +2,4 @@ pub mod Tolds
 pub mod Chained
 pub mod Ways
 pub mod Onces
+pub mod Jumps

@@ -97,11 +97,11 @@ pub pairs-apart : (xs : List ℕ) → ((i j : ℕ) → i < j → j < length xs �
 pairs-apart [] f = tt
 pairs-apart (x ∷ xs) f = (
   (λ h.
-  let t = in-place x xs h in
-  let low : t.0 < length xs = t.1.0 in
-  let l : x < get_or xs t.0 0 = f 0 (suc t.0) (omega arith) (omega arith) in
-  let e : get_or xs t.0 0 ≡ x = t.1.1 in
-  omega arith),
+      let t = in-place x xs h in
+      let low : t.0 < length xs = t.1.0 in
+      let l : x < get_or xs t.0 0 = f 0 (suc t.0) (omega arith) (omega arith) in
+      let e : get_or xs t.0 0 ≡ x = t.1.1 in
+      omega arith),
   pairs-apart xs (λ i j less low. f (suc i) (suc j) (omega arith) (omega arith)),
 )
 

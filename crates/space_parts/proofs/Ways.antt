@@ -76,7 +76,7 @@ pending-more (r ∷ ids) oid x =
     ∙ ap (λ p. unless_zero (Whole (OfId oid)) p ReapList ByMapping x) (place-more 48 ids oid)
 
 -- a field names what it gives
-from-unless : (namer : Namer) (at : ℕ) (e : Expected) (how : LookUp) (oid : ℕ) (m : Naming) → In m (unless_zero namer at e how oid) → m ≡ naming namer at e how oid
+pub from-unless : (namer : Namer) (at : ℕ) (e : Expected) (how : LookUp) (oid : ℕ) (m : Naming) → In m (unless_zero namer at e how oid) → m ≡ naming namer at e how oid
 from-unless namer at e how oid m h =
     let go : (b : Bool) → In m (if b then [] else naming namer at e how oid ∷ []) → m ≡ naming namer at e how oid = λ b. elim b as (λ b. In m (if b then [] else naming namer at e how oid ∷ []) → m ≡ naming namer at e how oid) [
       | true ↦ λ k. absurd k
