@@ -9,3 +9,4 @@ mod Numbered
 mod Chunked
 mod Spaced
 mod Chain
+mod Started

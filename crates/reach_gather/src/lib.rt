@@ -3,6 +3,7 @@
 
 mod gathered;
 mod infos;
+mod jumping;
 mod keepers;
 mod maps;
 mod naming;
@@ -15,6 +16,7 @@ mod steps;
 mod trees;
 
 pub use gathered::Gathered;
+pub use jumping::add_jumpstart;
 pub use maps::add_map;
 pub use naming::{By, Expects, Mapping, Named, NamedBy, Tree, ViewKey};
 pub use owner::{Owned, OwnedBy};
