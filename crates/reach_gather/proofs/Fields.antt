@@ -8,7 +8,12 @@ use Rattle.obj_base.specs.declared.stop.Stop.TheVariants.{Found as Fault, Unsupp
 use Rattle.obj_base.specs.Stops.{Tells}
 use Rattle.nx_ring.specs.Checkpoint.{Seen, site_of}
 use Rattle.omap_map.specs.Fields as maps
-use Rattle.omap_map.specs.Maps.{map_in}
+use Rattle.apfs_model.specs.Bytes.{u64_at}
+use Rattle.bt_cursor.specs.Flat.{flat_of}
+use Rattle.obj_base.specs.declared.site.Site.{Site}
+use Rattle.omap_map.specs.Maps.{map_in, map_records, record_tree}
+use Rattle.omap_map.specs.Records.{records_of}
+use Rattle.omap_map.specs.declared.records.OmapRecord.{OmapRecord}
 use Rattle.reach_rules.specs.declared.fault.ReachFault.{ReachFault}
 use Rattle.reach_rules.specs.Naming.{LookUp, ByBlock, InBlock, Namer, Whole, MapRecords, MapSnapshots, Expected, ContainerMap, VolumeMap, TreeKind, TreeRoot, Naming, naming}
 use Rattle.reach_rules.specs.Next.{next, unless_zero, map_namings}
@@ -117,3 +122,16 @@ lost-tells image seen n (Fault fault) how p lost = absurd (lost-never image seen
 lost-tells image seen n (Unsupported feature block) how p lost = absurd lost
 lost-tells image seen n ReadFault how p lost = tt
 lost-tells image seen n NoMemory how p lost = tt
+
+-- the fields of an object map, as they were read
+pub tree-field : (image : List ℕ) (seen : Seen) (block : ℕ) (bytes lent : List ℕ) (field : ℕ) → bytes ≡ map_in image (site_of seen) block → lent ≡ bytes → field ≡ u64_at lent 48 → field ≡ maps.tree_of (map_in image (site_of seen) block)
+unfolding maps.tree_of
+tree-field image seen block bytes lent field same lends is = is ∙ ap (λ bs. u64_at bs 48) (lends ∙ same)
+
+pub past-field : (image : List ℕ) (seen : Seen) (block : ℕ) (bytes lent : List ℕ) (field : ℕ) → bytes ≡ map_in image (site_of seen) block → lent ≡ bytes → field ≡ u64_at lent 56 → field ≡ maps.snap_tree_of (map_in image (site_of seen) block)
+unfolding maps.snap_tree_of
+past-field image seen block bytes lent field same lends is = is ∙ ap (λ bs. u64_at bs 56) (lends ∙ same)
+
+pub records-of-map : (image : List ℕ) (site : Site) (block root tree : ℕ) (records : List OmapRecord) → root ≡ tree → tree ≡ maps.tree_of (map_in image site block) → records ≡ records_of (flat_of (record_tree image site) root) → records ≡ map_records image site block
+unfolding map_records
+records-of-map image site block root tree records same is kept = kept ∙ ap (λ oid. records_of (flat_of (record_tree image site) oid)) (same ∙ is)

@@ -10,3 +10,5 @@ mod Chunked
 mod Spaced
 mod Chain
 mod Started
+mod Pasts
+mod Latest

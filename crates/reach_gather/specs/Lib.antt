@@ -7,3 +7,4 @@ pub mod Reading
 pub mod Infos
 pub mod Pooled
 pub mod Chain
+pub mod Views

@@ -11,9 +11,12 @@ mod owner;
 mod queues;
 mod ranges;
 mod reaping;
+mod resolving;
+mod snapshots;
 mod space;
 mod steps;
 mod trees;
+mod volumes;
 
 pub use gathered::Gathered;
 pub use jumping::add_jumpstart;
