@@ -97,10 +97,10 @@ grewby-one image seen n a b p q r = record {
 }
 
 -- ---- parts
-outside-both : (ns ms : List Naming) → AreOutside ns → AreOutside ms → AreOutside (ns ++ ms)
+pub outside-both : (ns ms : List Naming) → AreOutside ns → AreOutside ms → AreOutside (ns ++ ms)
 outside-both ns ms p q = λ n h. elim (in-append n ns ms h) as (λ _. is_in_view n.how ≡ false) [ inl k ↦ p n k | inr k ↦ q n k ]
 
-trees-both : (image : List ℕ) (seen : Seen) (ns ms : List Naming) → AreRightTrees image seen ns → AreRightTrees image seen ms → AreRightTrees image seen (ns ++ ms)
+pub trees-both : (image : List ℕ) (seen : Seen) (ns ms : List Naming) → AreRightTrees image seen ns → AreRightTrees image seen ms → AreRightTrees image seen (ns ++ ms)
 trees-both image seen ns ms p q = λ n kind h is. elim (in-append n ns ms h) as (λ _. IsRightTree image seen kind n.oid) [ inl k ↦ p n kind k is | inr k ↦ q n kind k is ]
 
 -- where a naming names the root of a tree, the tree is right

@@ -5,6 +5,11 @@ mod Branches
 mod Telling
 mod Told
 mod Fields
+mod Numbered
+mod Chunked
+mod Spaced
+mod Chain
+mod Started
 mod Pasts
 mod Latest
 mod Slots

@@ -4,4 +4,7 @@ pub mod Held
 pub mod Adds
 pub mod Steps
 pub mod Reading
+pub mod Infos
+pub mod Pooled
+pub mod Chain
 pub mod Views

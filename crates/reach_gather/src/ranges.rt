@@ -40,6 +40,16 @@ impl Ranged for QueueEntry {
     }
 }
 
+impl Ranged for (u64, u64) {
+    ghost range = { λ r. r };
+
+    fn range(&self) -> (u64, u64)
+        ensures { result ≡ self.now }
+    {
+        *self
+    }
+}
+
 /// The ranges of which an object tells, each with its place.
 pub(crate) fn tell_all<T: Ranged>(
     out: &mut Gathered,

@@ -1,0 +1,31 @@
+use Rattle.std.proofs.Common.{◌≡◌, ◌∙◌, ◌++◌, ◌∷◌, [], ℕ, List, map, ap, sym}
+use Rattle.nx_block.specs.Super.{jumpstart_of}
+use Rattle.nx_ring.specs.Checkpoint.{Seen}
+use Rattle.reach_rules.specs.Naming.{ByBlock, Newest, Whole, Jumpstart}
+use Rattle.reach_rules.specs.Owners.{told_from}
+use Rattle.reach_gather.specs.Held.{some_owners}
+use Rattle.reach_gather.specs.Steps.{block_owner}
+use Rattle.reach_gather.proofs.Fields.{adds-zero}
+use Rattle.reach_gather.proofs.Started.{jump_by, jump-adds}
+use Rattle.reach_gather.proofs.jumping.add_jumpstart.Goals as goal
+
+pub returns-then-block-eq0-clause-clear : goal.returns-then-block-eq0-clause-clear
+returns-then-block-eq0-clause-clear g c = λ image told.
+    let seen : Seen = c.args.cp.now in
+    let by : c.jumpstart-block.result ≡ jumpstart_of seen.nx = c.jumpstart-block.ensures ∙ ap jumpstart_of c.nx.ensures in
+    adds-zero image seen (Whole Newest) 1272 Jumpstart ByBlock (jumpstart_of seen.nx) c.args.out.now (sym by ∙ c.if-block-eq0.true)
+
+pub returns-clause-clear : goal.returns-clause-clear
+returns-clause-clear g c = λ image told.
+    let seen : Seen = c.args.cp.now in
+    let by : c.jumpstart-block.result ≡ jumpstart_of seen.nx = c.jumpstart-block.ensures ∙ ap jumpstart_of c.nx.ensures in
+    let extents : c.as_slice.result.now ≡ c.in-Ok.extents.items = c.as_slice.ensures.value in
+    jump-adds image seen c.in-Ok.extents.items c.args.out.now c.note_block.new.self c.tell_all.new.out (c.in-Ok.ensures.clear image told) (λ z. c.if-block-eq0.false (by ∙ z))
+    (c.in_ok-note_block.ensures.namings ∙ ap (λ (b : ℕ). c.args.out.now.namings ++ jump_by b ∷ []) by)
+    (c.in_ok-note_block.ensures.owners ∙ ap (λ (b : ℕ). c.args.out.now.owners ++ block_owner (jump_by b) ∷ []) by)
+    c.note_block.ensures.pool_owners
+    c.tell_all.ensures.namings
+    (c.in_ok-tell_all.ensures.owners
+    ∙ (ap (λ (b : ℕ). c.note_block.new.self.owners ++ some_owners (told_from (jump_by b) 0 (map (λ (r : ℕ × ℕ). r) c.as_slice.result.now))) by
+    ∙ ap (λ (xs : List (ℕ × ℕ)). c.note_block.new.self.owners ++ some_owners (told_from (jump_by (jumpstart_of seen.nx)) 0 (map (λ (r : ℕ × ℕ). r) xs))) extents))
+    c.tell_all.ensures.pool_owners

@@ -1,0 +1,29 @@
+use Rattle.std.proofs.Common.{◌≡◌, ◌∙◌, ◌++◌, ℕ, List, Some, map, ap, refl, sym, subst}
+use Rattle.nx_block.specs.Super.{space_oid_of}
+use Rattle.nx_ring.specs.Checkpoint.{Seen}
+use Rattle.space_map.specs.Stops.{Known}
+use Rattle.reach_gather.specs.Infos.{known_cabs, known_cibs, bitmaps_from}
+use Rattle.reach_gather.specs.Steps.{block_owner}
+use Rattle.reach_gather.proofs.Spaced.{space-adds, manager-queues}
+use Rattle.reach_gather.proofs.space.add_space.Goals as goal
+
+pub returns-in-Err-clause-present : goal.returns-in-Err-clause-present
+returns-in-Err-clause-present g c = λ image told is. c.in-Err.ensures.present image told is (manager-queues image c.args.cp.now c.args.space.now is).0
+
+pub returns-in-Err-add_main-clause-present : goal.returns-in-Err-add_main-clause-present
+returns-in-Err-add_main-clause-present g c = λ image told is. c.in-Err-add_main.ensures.present image (c.add_pool.ensures.kept.same_bytes ∙ told) (manager-queues image c.args.cp.now c.args.space.now is).1
+
+pub returns-clause-clear : goal.returns-clause-clear
+returns-clause-clear g c = λ image told is.
+    let seen : Seen = c.args.cp.now in
+    let space : Known = c.args.space.now in
+    let by : c.space_oid.result ≡ space_oid_of seen.nx = c.space_oid.ensures ∙ ap space_oid_of c.nx.ensures in
+    space-adds image seen space c.args.out.now c.add_manager.new.out c.add_pool.new.out c.add_main.new.out c.note_space.new.out is
+    c.in_ok-add_manager.ensures.namings
+    c.in_ok-add_manager.ensures.owners
+    c.add_manager.ensures.pool_owners
+    (c.in-Ok.ensures.clear image told)
+    (c.in-Ok-add_main.ensures.clear image (c.add_pool.ensures.kept.same_bytes ∙ told))
+    (c.in_ok-note_space.ensures.namings ∙ ap (λ (oid : ℕ). (c.add_main.new.out.namings ++ known_cabs oid space) ++ known_cibs oid space) by)
+    c.note_space.ensures.owners
+    (c.in_ok-note_space.ensures.pool_owners ∙ ap (λ (oid : ℕ). ((c.add_main.new.out.pool_owners ++ map block_owner (known_cabs oid space)) ++ map block_owner (known_cibs oid space)) ++ bitmaps_from 0 space.chunks) by)

@@ -1,0 +1,73 @@
+// The reaper and its lists.
+ghost use Rattle.std.specs.Prelude.{◌≡◌, ◌<◌, ◌++◌, ℕ, List, [], length, map, OnOk, IfErr, IsErrOf};
+ghost use Rattle.std.specs.List.{range_with_len};
+ghost use Rattle.obj_base.specs.Stops.{Tells};
+ghost use Rattle.obj_base.specs.declared.stop.Stop.TheVariants.{ReadFault};
+ghost use Rattle.reach_rules.specs.Features.{HasFeature};
+ghost use Rattle.reach_rules.specs.Reached.{IsReachedFault};
+ghost use Rattle.tree_namings.specs.Container.{reaper_naming};
+ghost use Rattle.reach_gather.specs.Adds.{Adds};
+ghost use Rattle.reach_gather.specs.Chain.{reap_at};
+ghost use Rattle.reach_gather.specs.Named.{naming_of};
+
+use crate::Gathered;
+use crate::naming::{By, Expects, Named, NamedBy};
+use blk_source::NoMemory;
+use nx_ring::Checkpoint;
+use obj_base::Stop;
+use reach_rules::ReachFault;
+use space_parts::reap;
+use std::alloc::Global;
+
+// The naming of the reaper, or of a list.
+fn link(ids: &[u64], i: usize) -> Named
+    requires { i < length ids.now }
+    ensures { naming_of result ≡ reap_at ids.now i }
+{
+    if i == 0 {
+        return Named {
+            by: NamedBy::Newest,
+            at: 168,
+            expects: Expects::Reaper,
+            how: By::Mapping,
+            oid: ids[i],
+        };
+    }
+    Named {
+        by: NamedBy::Id(ids[i - 1]),
+        at: if i == 1 { 48 } else { 32 },
+        expects: Expects::ReapList,
+        how: By::Mapping,
+        oid: ids[i],
+    }
+}
+
+// The reaper and its lists, none of which owns a block.
+fn note_links(ids: &[u64], out: &mut Gathered) -> Result<(), NoMemory>
+    ensures namings { OnOk result (out.new.namings ≡ out.old.namings ++ map (reap_at ids.now) (range_with_len 0 (length ids.now))) }
+    ensures owners { out.new.owners ≡ out.old.owners }
+    ensures pool_owners { out.new.pool_owners ≡ out.old.pool_owners }
+{
+    for i in 0..ids.len() {
+        out.note_id(link(ids, i))?;
+    }
+    Ok(())
+}
+
+/// Adds the reaper and its lists, where the superblock names a reaper. Nothing is read.
+pub fn add_reaper(
+    alloc: Global,
+    cp: &Checkpoint,
+    out: &mut Gathered,
+) -> Result<(), Stop<ReachFault>>
+    ensures clear { (image : List ℕ) → OnOk result (Adds image cp.now (reaper_naming cp.now.nx) [] out.old out.new) }
+    ensures present { (image : List ℕ) → IfErr result (Tells (IsReachedFault image cp.now) (HasFeature image cp.now)) }
+    ensures no_read { IsErrOf result ReadFault → ⊥ }
+{
+    let ids = match reap(alloc, cp) {
+        Ok(ids) => ids,
+        Err(stop) => return Err(stop),
+    };
+    note_links(ids.as_slice(), out)?;
+    Ok(())
+}

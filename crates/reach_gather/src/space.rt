@@ -1,0 +1,206 @@
+// The space of a container: its manager, the two free queues, and the blocks that tell of chunks.
+ghost use Rattle.std.specs.Prelude.{◌≡◌, ◌∷◌, ◌++◌, ◌||◌, ◌==◌, ℕ, List, [], Some, true, OnOk, IfErr, IfNone, IfSome, IsErrOf, if◌then◌else◌};
+ghost use Rattle.std.specs.List.{list_all};
+ghost use Rattle.apfs_model.specs.Blocks.{is_within};
+ghost use Rattle.apfs_model.specs.Counts.{Rose};
+ghost use Rattle.apfs_model.specs.Source.{IsKept};
+ghost use Rattle.obj_base.specs.Site.{IsSiteFor};
+ghost use Rattle.obj_base.specs.Stops.{Tells};
+ghost use Rattle.obj_base.specs.declared.stop.Stop.TheVariants.{ReadFault};
+ghost use Rattle.nx_block.specs.Super.{space_oid_of};
+ghost use Rattle.nx_ring.specs.Checkpoint.{site_of};
+ghost use Rattle.space_map.specs.Fields.{pool_base_of, pool_blocks_of, ring_base_of, ring_blocks_of, pool_queue_of, main_queue_of};
+ghost use Rattle.space_map.specs.Stops.{IsSpaceOf};
+ghost use Rattle.space_pool.specs.Gathered.{IsOutside};
+ghost use Rattle.space_pool.specs.Queues.{is_queued_in_pool};
+ghost use Rattle.reach_rules.specs.Features.{HasFeature};
+ghost use Rattle.reach_rules.specs.Owners.{owner, InternalPool, PoolRing};
+ghost use Rattle.reach_rules.specs.Reached.{IsReachedFault};
+ghost use Rattle.tree_namings.specs.Container.{pool_queue_naming, main_queue_naming, manager_naming};
+ghost use Rattle.tree_namings.specs.Space.{manager_namer};
+ghost use Rattle.reach_gather.specs.Adds.{Adds, AreLive};
+ghost use Rattle.reach_gather.specs.Pooled.{ArePooled};
+ghost use Rattle.reach_gather.specs.declared.naming.By.TheVariants as looks;
+ghost use Rattle.reach_gather.specs.declared.naming.Expects.TheVariants as expects;
+ghost use Rattle.reach_gather.specs.declared.naming.NamedBy.TheVariants as namers;
+
+use crate::Gathered;
+use crate::infos::note_space;
+use crate::naming::{By, Expects, Named, NamedBy, Tree};
+use crate::owner::{Owned, OwnedBy};
+use crate::queues::{add_main_queue, add_pool_queue};
+use apfs_layout::space_manager as layout;
+use blk_source::{BlockSource, NoMemory};
+use nx_ring::Checkpoint;
+use obj_base::{Stop, u64_at};
+use reach_rules::ReachFault;
+use space_map::Space;
+use space_pool::{PoolFault, QueueEntry};
+use std::alloc::Global;
+
+// The manager, with the pool and the ring of the pool's bitmaps.
+fn add_manager(cp: &Checkpoint, space: &Space, out: &mut Gathered) -> Result<(), NoMemory>
+    ensures namings { OnOk result (out.new.namings ≡ out.old.namings ++ manager_naming cp.now.nx ∷ []) }
+    ensures owners { OnOk result (out.new.owners ≡ (out.old.owners ++ (if pool_blocks_of space.now.manager == 0 then [] else owner InternalPool (pool_base_of space.now.manager) (pool_blocks_of space.now.manager) ∷ [])) ++ (if ring_blocks_of space.now.manager == 0 then [] else owner PoolRing (ring_base_of space.now.manager) (ring_blocks_of space.now.manager) ∷ [])) }
+    ensures pool_owners { out.new.pool_owners ≡ out.old.pool_owners }
+{
+    let manager = Named {
+        by: NamedBy::Newest,
+        at: 152,
+        expects: Expects::SpaceManager,
+        how: By::Mapping,
+        oid: cp.nx().space_oid(),
+    };
+    let (first, blocks) = space.pool();
+    let (ring, ring_blocks) = space.pool_ring();
+    out.note_id(manager)?;
+    out.tell(Owned {
+        who: OwnedBy::InternalPool,
+        first,
+        blocks,
+    })?;
+    out.tell(Owned {
+        who: OwnedBy::PoolRing,
+        first: ring,
+        blocks: ring_blocks,
+    })
+}
+
+// The root of the pool's queue, 0 where it has none.
+#[tactic(auto, unfolding(space_map::specs::Fields::pool_queue_of))]
+fn pool_root(space: &Space) -> u64
+    ensures { result ≡ pool_queue_of space.now.manager }
+{
+    u64_at(space.manager(), layout::POOL_QUEUE_TREE)
+}
+
+// The root of the main device's queue, 0 where it has none.
+#[tactic(auto, unfolding(space_map::specs::Fields::main_queue_of))]
+fn main_root(space: &Space) -> u64
+    ensures { result ≡ main_queue_of space.now.manager }
+{
+    u64_at(space.manager(), layout::MAIN_QUEUE_TREE)
+}
+
+// The naming of the root of a queue, by the manager.
+fn root(cp: &Checkpoint, at: u64, tree: Tree, oid: u64) -> Named
+    ensures { result ≡ record { by = namers.Id (space_oid_of cp.now.nx); at = at; expects = expects.Root tree; how = looks.Mapping; oid = oid } }
+{
+    Named {
+        by: NamedBy::Id(cp.nx().space_oid()),
+        at,
+        expects: Expects::Root(tree),
+        how: By::Mapping,
+        oid,
+    }
+}
+
+// Whether an entry lies in the pool, which has so many blocks from a first one on.
+fn is_in(entry: QueueEntry, first: u64, blocks: u64) -> bool
+    ensures { result ≡ ((entry.length == 0) || is_within entry.paddr entry.length first blocks) }
+{
+    let end = u128::from(first) + u128::from(blocks);
+    entry.length == 0
+        || (first <= entry.paddr && u128::from(entry.paddr) + u128::from(entry.length) <= end)
+}
+
+// The first block of an entry that leaves the pool.
+#[tactic(auto, unfolding(space_pool::specs::Queues::is_queued_in_pool))]
+fn outside(space: &Space, entries: &[QueueEntry]) -> Option<u64>
+    ensures none { IfNone result (list_all (is_queued_in_pool space.now.manager) entries.now ≡ true) }
+    ensures some { IfSome result (IsOutside space.now.manager entries.now) }
+{
+    let (first, blocks) = space.pool();
+    for entry in entries {
+        if !is_in(*entry, first, blocks) {
+            return Some(entry.paddr);
+        }
+    }
+    None
+}
+
+// Adds the pool's queue, where it has one, whose entries lie in the pool.
+fn add_pool<S: BlockSource>(
+    alloc: Global,
+    src: &mut S,
+    cp: &Checkpoint,
+    space: &Space,
+    out: &mut Gathered,
+) -> Result<(), Stop<ReachFault>>
+    requires site { IsSiteFor (site_of cp.now) (S.bytes_len src.old) }
+    ensures clear { (image : List ℕ) → S.bytes src.old ≡ Some image → OnOk result (Adds image cp.now (pool_queue_naming (manager_namer cp.now.nx) space.now.manager) [] out.old out.new) }
+    ensures queued { (image : List ℕ) → S.bytes src.old ≡ Some image → OnOk result (ArePooled image cp.now space.now.manager) }
+    ensures present { (image : List ℕ) → S.bytes src.old ≡ Some image → IsSpaceOf image cp.now space.now → AreLive image cp.now (pool_queue_naming (manager_namer cp.now.nx) space.now.manager) → IfErr result (Tells (IsReachedFault image cp.now) (HasFeature image cp.now)) }
+    ensures cause { IsErrOf result ReadFault → Rose (S.faults src.old) (S.faults src.new) }
+    ensures kept { IsKept S.bytes S.bytes_len S.faults src.old src.new }
+{
+    let oid = pool_root(space);
+    if oid == 0 {
+        let _size = src.size();
+        return Ok(());
+    }
+    let root = root(cp, 208, Tree::PoolQueue, oid);
+    let entries = match add_pool_queue(alloc, src, cp, root, out) {
+        Ok(entries) => entries,
+        Err(stop) => return Err(stop),
+    };
+    match outside(space, &entries) {
+        Some(block) => Err(Stop::Found(ReachFault::Pool(PoolFault::Place { block }))),
+        None => Ok(()),
+    }
+}
+
+// Adds the main device's queue, where it has one.
+fn add_main<S: BlockSource>(
+    alloc: Global,
+    src: &mut S,
+    cp: &Checkpoint,
+    space: &Space,
+    out: &mut Gathered,
+) -> Result<(), Stop<ReachFault>>
+    requires site { IsSiteFor (site_of cp.now) (S.bytes_len src.old) }
+    ensures clear { (image : List ℕ) → S.bytes src.old ≡ Some image → OnOk result (Adds image cp.now (main_queue_naming (manager_namer cp.now.nx) space.now.manager) [] out.old out.new) }
+    ensures present { (image : List ℕ) → S.bytes src.old ≡ Some image → AreLive image cp.now (main_queue_naming (manager_namer cp.now.nx) space.now.manager) → IfErr result (Tells (IsReachedFault image cp.now) (HasFeature image cp.now)) }
+    ensures cause { IsErrOf result ReadFault → Rose (S.faults src.old) (S.faults src.new) }
+    ensures kept { IsKept S.bytes S.bytes_len S.faults src.old src.new }
+{
+    let oid = main_root(space);
+    if oid == 0 {
+        let _size = src.size();
+        return Ok(());
+    }
+    let root = root(cp, 248, Tree::MainQueue, oid);
+    match add_main_queue(alloc, src, cp, root, out) {
+        Ok(()) => Ok(()),
+        Err(stop) => Err(stop),
+    }
+}
+
+/// Adds the space that was loaded of a container: its manager, the free queues with what they keep, and the blocks that tell of chunks with the
+/// bitmaps of the chunks. `Pool` comes where an entry of the pool's queue leaves the pool.
+pub fn add_space<S: BlockSource>(
+    alloc: Global,
+    src: &mut S,
+    cp: &Checkpoint,
+    space: &Space,
+    out: &mut Gathered,
+) -> Result<(), Stop<ReachFault>>
+    requires site { IsSiteFor (site_of cp.now) (S.bytes_len src.old) }
+    ensures clear { (image : List ℕ) → S.bytes src.old ≡ Some image → IsSpaceOf image cp.now space.now → OnOk result (Adds image cp.now (manager_naming cp.now.nx ∷ []) [] out.old out.new) }
+    ensures queued { (image : List ℕ) → S.bytes src.old ≡ Some image → OnOk result (ArePooled image cp.now space.now.manager) }
+    ensures present { (image : List ℕ) → S.bytes src.old ≡ Some image → IsSpaceOf image cp.now space.now → IfErr result (Tells (IsReachedFault image cp.now) (HasFeature image cp.now)) }
+    ensures cause { IsErrOf result ReadFault → Rose (S.faults src.old) (S.faults src.new) }
+    ensures kept { IsKept S.bytes S.bytes_len S.faults src.old src.new }
+{
+    add_manager(cp, space, out)?;
+    match add_pool(alloc, src, cp, space, out) {
+        Ok(()) => (),
+        Err(stop) => return Err(stop),
+    }
+    match add_main(alloc, src, cp, space, out) {
+        Ok(()) => (),
+        Err(stop) => return Err(stop),
+    }
+    note_space(space, cp.nx().space_oid(), out)?;
+    Ok(())
+}

@@ -1,0 +1,5 @@
+pub mod Tolds
+pub mod Chained
+pub mod Ways
+pub mod Onces
+pub mod Jumps

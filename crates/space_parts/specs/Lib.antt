@@ -1,0 +1,4 @@
+pub mod Told
+pub mod Reaped
+pub mod Once
+pub mod Jumped

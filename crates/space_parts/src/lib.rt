@@ -1,0 +1,11 @@
+//! The parts of a container that tell of its space, and the reaper with its lists: their namings.
+#![tactic(auto)]
+
+mod objects;
+mod once;
+mod reaping;
+mod starting;
+
+pub use once::{ephemeral_once, ids_once};
+pub use reaping::reap;
+pub use starting::jumpstart;
