@@ -21,12 +21,18 @@ use Rattle.reach_gather.specs.declared.naming.Named as kept
 use Rattle.reach_gather.specs.declared.owner.OwnedBy.{OwnedBy}
 use Rattle.reach_gather.specs.declared.owner.OwnedBy.TheVariants as owners
 use Rattle.reach_gather.specs.declared.owner.Owned.{Owned}
-use Rattle.reach_gather.specs.Named.{record_of, view_of, namer_of, kind_of, expected_of, look_of, naming_of}
+use Rattle.reach_gather.specs.Named.{record_of, namer_of, kind_of, expected_of, look_of, naming_of}
 use Rattle.reach_gather.specs.Owned.{who_of, owner_as}
 
 -- ---- the ways back; what is never kept goes anywhere
 abbrev mapping_back : ℕ → OmapRecord → Mapping
 mapping_back map r = record { map = map; oid = r.oid; xid = r.xid; flags = r.flags; size = r.size; paddr = r.paddr }
+
+abbrev record_back : Mapping → Object → Mapping
+record_back other Newest = other
+record_back other (InBlock block) = other
+record_back other (OfId oid) = other
+record_back other (OfRecord map r) = mapping_back map r
 
 abbrev view_back : ViewAt → ViewKey
 view_back v = record { slot = v.slot; place = v.place; xid = v.xid; map = v.map; hashed = v.hashed }
@@ -159,6 +165,9 @@ owner-back a = let k : owned_by (who_back (who_of a.who)) a.first a.blocks ≡ o
 -- ---- so two of one translation are one
 pub look_one : (a b : By) → look_of a ≡ look_of b → a ≡ b
 look_one a b e = sym (look-back a) ∙ (ap look_back e ∙ look-back b)
+
+pub mapping_one : (a b : Mapping) → OfRecord a.map (record_of a) ≡ OfRecord b.map (record_of b) → a ≡ b
+mapping_one a b e = ap (record_back a) e
 
 pub naming_one : (a b : kept.Named) → naming_of a ≡ naming_of b → a ≡ b
 naming_one a b e = sym (naming-back a) ∙ (ap naming_back e ∙ naming-back b)

@@ -1,2 +1,5 @@
 mod Growing
 pub mod Backs
+pub mod Ties
+pub mod Finishes
+pub mod Onces

@@ -1,8 +1,11 @@
 //! What is gathered of a container: its namings, each with its owner.
 #![tactic(auto)]
 
+mod counting;
+mod finishing;
 mod gathered;
 mod naming;
+mod once;
 mod owner;
 
 pub use gathered::Gathered;
