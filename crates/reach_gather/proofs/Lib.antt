@@ -3,3 +3,4 @@ pub mod Backs
 pub mod Ties
 pub mod Finishes
 pub mod Onces
+pub mod Counts

@@ -1,11 +1,13 @@
 -- What is told of all that was gathered.
-use Rattle.std.specs.Prelude.{◌≡◌, ℕ, Bool, true, false, List, map}
+use Rattle.std.specs.Prelude.{◌≡◌, ◌⊎◌, ℕ, Bool, true, false, List, map}
 use Rattle.apfs_model.specs.Apart.{Apart}
 use Rattle.apfs_model.specs.Lists.{In, Lists}
 use Rattle.omap_map.specs.declared.records.OmapRecord.{OmapRecord}
-use Rattle.reach_rules.specs.Naming.{LookUp, ByBlock, ByMapping, Object, Newest, InBlock, OfId, OfRecord, Naming}
+use Rattle.nx_ring.specs.Checkpoint.{Seen}
+use Rattle.reach_rules.specs.Naming.{LookUp, ByBlock, ByMapping, InContainer, Object, Newest, InBlock, OfId, OfRecord, Naming}
 use Rattle.reach_rules.specs.Owners.{Owner}
 use Rattle.reach_rules.specs.Reached.{range_of}
+use Rattle.tree_namings.specs.Views.{ResolvesTo}
 use Rattle.reach_gather.specs.declared.naming.Mapping.{Mapping}
 use Rattle.reach_gather.specs.declared.naming.By.{By}
 use Rattle.reach_gather.specs.declared.naming.By.TheVariants as looks
@@ -61,3 +63,9 @@ IsObjectOf namings records Newest = Unit {0}
 IsObjectOf namings records (InBlock block) = IsIdOf ByBlock namings block
 IsObjectOf namings records (OfId oid) = IsIdOf ByMapping namings oid
 IsObjectOf namings records (OfRecord map r) = In (map, r) records
+
+-- records are those that views use, and those to which the namings resolve that are looked up in the container
+pub record AreRecordsWith (image : List ℕ) (seen : Seen) (namings : List Naming) (used records : List (ℕ × OmapRecord)) : Type 0 where
+  pub of_views : (r : ℕ × OmapRecord) → In r used → In r records
+  pub of_namings : (n : Naming) → In n namings → n.how ≡ InContainer → (r : ℕ × OmapRecord) → ResolvesTo image seen n r → In r records
+  pub only : (r : ℕ × OmapRecord) → In r records → In r used ⊎ ((n : Naming) × (In n namings × ResolvesTo image seen n r))
