@@ -6,11 +6,13 @@ use Rattle.apfs_model.specs.Lists.{In}
 use Rattle.apfs_model.proofs.BoolTests.{not-true, false-not}
 use Rattle.apfs_model.proofs.Searches.{in-left, in-right, in-append, in-filter, from-filter, filter-test}
 use Rattle.nx_ring.specs.Checkpoint.{Seen}
-use Rattle.reach_rules.specs.Naming.{Naming}
+use Rattle.reach_rules.specs.Naming.{TreeKind, TreeRoot, Naming}
+use Rattle.reach_rules.specs.Trees.{IsRightTree}
 use Rattle.reach_rules.specs.Next.{next}
 use Rattle.reach_rules.specs.Owners.{Owner, owners_through}
 use Rattle.reach_rules.specs.PoolOwners.{pool_owners_through}
 use Rattle.tree_namings.specs.Namings.{IsPlainNaming}
+use Rattle.tree_namings.specs.Account.{AreRightTrees}
 use Rattle.tree_namings.specs.Joined.{ArePart}
 use Rattle.tree_namings.specs.Views.{is_in_view, AreOutside}
 use Rattle.tree_namings.proofs.Joined.{part-none, part-left, part-join, part-step}
@@ -98,12 +100,19 @@ grewby-one image seen n a b p q r = record {
 outside-both : (ns ms : List Naming) → AreOutside ns → AreOutside ms → AreOutside (ns ++ ms)
 outside-both ns ms p q = λ n h. elim (in-append n ns ms h) as (λ _. is_in_view n.how ≡ false) [ inl k ↦ p n k | inr k ↦ q n k ]
 
+trees-both : (image : List ℕ) (seen : Seen) (ns ms : List Naming) → AreRightTrees image seen ns → AreRightTrees image seen ms → AreRightTrees image seen (ns ++ ms)
+trees-both image seen ns ms p q = λ n kind h is. elim (in-append n ns ms h) as (λ _. IsRightTree image seen kind n.oid) [ inl k ↦ p n kind k is | inr k ↦ q n kind k is ]
+
+-- where a naming names the root of a tree, the tree is right
+abbrev pub IsRightRoot : List ℕ → Seen → Naming → Type 0
+IsRightRoot image seen n = (kind : TreeKind) → n.expected ≡ TreeRoot kind → IsRightTree image seen kind n.oid
+
 pub adds-none : (image : List ℕ) (seen : Seen) (a : Held) → Adds image seen [] [] a a
-adds-none image seen a = record { these = []; part = part-none image seen; outside = λ n h. absurd h; grew = grewby-none image seen a }
+adds-none image seen a = record { these = []; part = part-none image seen; outside = λ n h. absurd h; trees = λ n kind h e. absurd h; grew = grewby-none image seen a }
 
 -- all is left to the rest
 pub adds-left : (image : List ℕ) (seen : Seen) (ns : List Naming) (a : Held) → Adds image seen ns ns a a
-adds-left image seen ns a = record { these = []; part = part-left image seen ns; outside = λ n h. absurd h; grew = grewby-none image seen a }
+adds-left image seen ns a = record { these = []; part = part-left image seen ns; outside = λ n h. absurd h; trees = λ n kind h e. absurd h; grew = grewby-none image seen a }
 
 -- one part, and then another
 pub adds-join : (image : List ℕ) (seen : Seen) (ns ms rs ss : List Naming) (a b c : Held) → Adds image seen ns rs a b → Adds image seen ms ss b c → Adds image seen (ns ++ ms) (rs ++ ss) a c
@@ -111,15 +120,17 @@ adds-join image seen ns ms rs ss a b c g h = record {
   these = g.these ++ h.these;
   part = part-join image seen ns ms g.these h.these rs ss g.part h.part;
   outside = outside-both g.these h.these g.outside h.outside;
+  trees = trees-both image seen g.these h.these g.trees h.trees;
   grew = grewby-join image seen g.these h.these a b c g.grew h.grew;
 }
 
 -- a naming, and then what it leads to
-pub adds-step : (image : List ℕ) (seen : Seen) (n : Naming) (rs : List Naming) (a b c : Held) → IsPlainNaming image seen n → is_in_view n.how ≡ false → GrewBy image seen (n ∷ []) a b → Adds image seen (next image seen n) rs b c → Adds image seen (n ∷ []) rs a c
-adds-step image seen n rs a b c plain out g h = record {
+pub adds-step : (image : List ℕ) (seen : Seen) (n : Naming) (rs : List Naming) (a b c : Held) → IsPlainNaming image seen n → is_in_view n.how ≡ false → IsRightRoot image seen n → GrewBy image seen (n ∷ []) a b → Adds image seen (next image seen n) rs b c → Adds image seen (n ∷ []) rs a c
+adds-step image seen n rs a b c plain out right g h = record {
   these = n ∷ h.these;
   part = part-step image seen n h.these rs plain h.part;
   outside = outside-both (n ∷ []) h.these (λ m k. elim k as (λ _. is_in_view m.how ≡ false) [ inl e ↦ subst (λ (x : Naming). is_in_view x.how ≡ false) (sym e) out | inr k ↦ absurd k ]) h.outside;
+  trees = trees-both image seen (n ∷ []) h.these (λ m kind k is. elim k as (λ _. IsRightTree image seen kind m.oid) [ inl e ↦ subst (λ (x : Naming). IsRightTree image seen kind x.oid) (sym e) (right kind (ap (λ (x : Naming). x.expected) (sym e) ∙ is)) | inr k ↦ absurd k ]) h.trees;
   grew = grewby-join image seen (n ∷ []) h.these a b c g h.grew;
 }
 

@@ -1,4 +1,10 @@
 mod Growing
+mod Kept
+mod Owning
+mod Branches
+mod Telling
+mod Told
+mod Fields
 pub mod Backs
 pub mod Ties
 pub mod Finishes

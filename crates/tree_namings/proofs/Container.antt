@@ -14,7 +14,7 @@ use Rattle.nx_ring.specs.Checkpoint.{Seen, site_of, eph}
 use Rattle.vol_view.specs.SnapRecords.{is_snapshot_long}
 use Rattle.space_map.specs.Fields.{cabs_of, cibs_of}
 use Rattle.space_pool.specs.Queues.{one_block}
-use Rattle.reach_rules.specs.Naming.{ViewAt, LookUp, ByBlock, ByMapping, Newest, InBlock, OfId, Namer, Whole, Expected, SpaceManager, ReaperObject, ReapList, Jumpstart, VolumeIn, ExtendedMetadata, SnapshotSuper, AddressBlock, InfoBlock, Naming, naming}
+use Rattle.reach_rules.specs.Naming.{ViewAt, ByBlock, ByMapping, InBlock, OfId, Namer, Whole, Expected, SpaceManager, ReaperObject, ReapList, VolumeIn, SnapshotSuper, AddressBlock, InfoBlock, Naming, naming}
 use Rattle.reach_rules.specs.Resolved.{Found, resolved, standing, found_by, found_physical, found_ephemeral, is_node, mapped, mapped_node}
 use Rattle.reach_rules.specs.Tested.{Answer, tested}
 use Rattle.reach_rules.specs.Next.{roots, names, next, unless_zero, slot_namings, live_view, past_view, view_namings, record_namings, snapshots_namings, records_of_snapshots, address_naming, addresses_in, address_namings}
@@ -23,9 +23,9 @@ use Rattle.reach_rules.specs.Features.{used_features, field_features, tested_fea
 use Rattle.reach_rules.proofs.Looks.{standing-by}
 use Rattle.reach_rules.proofs.Nexts.{Each, each-in, each-if, each-map}
 use Rattle.tree_namings.specs.Namings.{IsPlainNaming}
-use Rattle.tree_namings.specs.Parts.{records_naming, ExpectsMap}
+use Rattle.tree_namings.specs.Parts.{records_naming}
 use Rattle.tree_namings.specs.Joined.{ArePart}
-use Rattle.tree_namings.specs.Container.{pool_queue_naming, main_queue_naming, block_namings, past_naming, volume_map_naming, extents_naming, metadata_naming, super_naming, kept_extents_naming, manager_naming, container_map_naming, reaper_naming, jumpstart_naming, reap_namings, IsChain, past_namings, IsSnapshot, AreSnapshots, kept_namings, pasts_namings, views_namings, volume_views, slot_views, all_views, ExpectsNone, PlainLeads, IsManagerPart, AreBlocksPart, IsMapPart, IsChainPart, IsReaperPart, IsRecordPart, AreRecordsPart, IsVolumePart, IsSlotPart, IsWholePart, PartsOfContainer}
+use Rattle.tree_namings.specs.Container.{pool_queue_naming, main_queue_naming, block_namings, past_naming, volume_map_naming, extents_naming, metadata_naming, super_naming, kept_extents_naming, manager_naming, container_map_naming, reaper_naming, jumpstart_naming, reap_namings, past_namings, IsSnapshot, kept_namings, pasts_namings, views_namings, volume_views, slot_views, all_views, ExpectsNone, PlainLeads, IsManagerPart, AreBlocksPart, IsMapPart, IsChainPart, IsReaperPart, IsRecordPart, AreRecordsPart, IsVolumePart, IsSlotPart, IsWholePart, PartsOfContainer}
 use Rattle.tree_namings.proofs.Parts.{sound-names, map-names, of-parts}
 use Rattle.tree_namings.proofs.Joined.{part-none, part-left, part-join, part-step, part-listed, part-flat, part-each, part-all, part-zero, part-some}
 
@@ -73,7 +73,7 @@ of-id : (image : List ℕ) (site : Site) (e : Expected) (oid : ℕ) (o : Option 
 of-id image site e oid None f h = absurd (let z : ◌≡◌ {A = Option Found} None (Some f) = h in let q : ⊥ = cc in q)
 of-id image site e oid (Some place) f h = of-place image site oid place (is_node e) f h
 
-plain-id : (image : List ℕ) (seen : Seen) (n : Naming) (p : IsPlainNaming image seen n) → n.how ≡ ByMapping → p.object.object ≡ OfId n.oid
+pub plain-id : (image : List ℕ) (seen : Seen) (n : Naming) (p : IsPlainNaming image seen n) → n.how ≡ ByMapping → p.object.object ≡ OfId n.oid
 unfolding resolved
 plain-id image seen n p h =
     let by : found_ephemeral image seen n.expected n.oid ≡ Some p.object = subst (λ how. found_by image seen how n.expected n.oid ≡ Some p.object) h p.found in

@@ -1,20 +1,17 @@
 -- What is live from the parts of a container that are lists of their own.
-use Rattle.std.proofs.Common.{◌≡◌, ℕ, true, false, List, [], ◌∷◌, ◌++◌, map, Option, Some, Ok, Err, is_ok, inl, inr, refl, ap, sym, ◌∙◌, subst}
+use Rattle.std.proofs.Common.{◌≡◌, ℕ, true, false, List, [], ◌∷◌, ◌++◌, Some, Ok, Err, is_ok, inl, inr, refl, ap, sym, ◌∙◌, subst}
 use Rattle.std.specs.List.{flat_map}
-use Rattle.apfs_model.specs.Lists.{In, Lists, through}
-use Rattle.apfs_model.proofs.Searches.{in-left, in-right, in-append, from-map}
+use Rattle.apfs_model.specs.Lists.{In, Lists}
 use Rattle.nx_ring.specs.Checkpoint.{Seen, site_of}
 use Rattle.omap_map.specs.Fields as maps
 use Rattle.space_map.specs.Blocks.{manager_of}
-use Rattle.reach_rules.specs.Naming.{LookUp, ByBlock, Namer, Whole, InBlock, TreeKind, MapRecords, MapSnapshots, Expected, ContainerMap, VolumeMap, Jumpstart, ExtendedMetadata, AddressBlock, InfoBlock, TreeRoot, Naming, naming}
+use Rattle.reach_rules.specs.Naming.{ByBlock, Namer, Whole, MapRecords, MapSnapshots, Expected, Jumpstart, ExtendedMetadata, AddressBlock, InfoBlock, TreeRoot, Naming}
 use Rattle.reach_rules.specs.Resolved.{Found, resolved}
 use Rattle.reach_rules.specs.Tested.{Answer, tested}
-use Rattle.reach_rules.specs.Next.{names, names_if, next, unless_zero, map_namings, cab_namings, cib_naming, cibs_in}
+use Rattle.reach_rules.specs.Next.{names, next, unless_zero, map_namings, cab_namings, cib_naming, cibs_in}
 use Rattle.reach_rules.specs.Live.{Live, rooted, led, IsSoundFor}
 use Rattle.reach_rules.proofs.Nexts.{Each, each-in, each-unless, each-map, each-through, from-next}
-use Rattle.tree_namings.specs.Laws.{NamingsOfSteps}
-use Rattle.tree_namings.specs.Namings.{tree_steps, tree_namings}
-use Rattle.tree_namings.specs.Parts.{physical_namings, records_naming, map_part, ExpectsMap, AreOfMap, IsAlone, NamingsOfParts}
+use Rattle.tree_namings.specs.Parts.{physical_namings, records_naming, ExpectsMap, AreOfMap, IsAlone, NamingsOfParts}
 use Rattle.tree_namings.proofs.Lists.{lists-none, lists-both, lists-by}
 use Rattle.tree_namings.proofs.Law.{next-some}
 use Rattle.tree_namings.proofs.OfKinds.{of-steps}

@@ -1,5 +1,5 @@
 -- In a right space all that the space manager names is plain.
-use Rattle.std.proofs.Common.{◌≡◌, ℕ, ◌+◌, ◌*◌, ◌/◌, ◌%◌, ◌<◌, Bool, true, false, ◌&&◌, ◌==◌, nat_lt, List, [], ◌∷◌, ◌++◌, map, Option, Some, None, Result, Ok, Err, is_ok, ◌⊎◌, inl, inr, refl, ap, sym, ◌∙◌, subst, arith, if◌then◌else◌}
+use Rattle.std.proofs.Common.{◌≡◌, ℕ, ◌+◌, ◌*◌, ◌/◌, ◌%◌, ◌<◌, Bool, true, false, ◌&&◌, ◌==◌, nat_lt, List, [], ◌∷◌, ◌++◌, map, Some, None, Result, Ok, Err, is_ok, ◌⊎◌, inl, inr, refl, ap, sym, ◌∙◌, subst, arith, if◌then◌else◌}
 use Rattle.std.specs.Prelude.{is_some}
 use Rattle.std.specs.List.{range_with_len}
 use Rattle.apfs_model.specs.Blocks.{block_of, in_container}
@@ -11,17 +11,15 @@ use Rattle.obj_base.specs.declared.header.Header.{Header}
 use Rattle.obj_base.specs.declared.header.HeadFault.{HeadFault}
 use Rattle.obj_base.specs.declared.stop.Bad.{Bad}
 use Rattle.obj_base.specs.declared.stop.Bad.TheVariants.{Found as Fails, Unsupported}
-use Rattle.nx_block.specs.Super.{space_oid_of}
 use Rattle.nx_ring.specs.Checkpoint.{Seen, site_of}
 use Rattle.space_map.specs.Fields.{cabs_of, cibs_of, cab_cibs_of, addresses_of}
 use Rattle.space_map.specs.Geometry.{has_address, has_cib_place}
-use Rattle.space_map.specs.Blocks.{manager_of, address_at, cab_address_at, cab_block_for, cib_block, is_info, info_test}
+use Rattle.space_map.specs.Blocks.{address_at, cab_address_at, cab_block_for, cib_block, is_info, info_test}
 use Rattle.space_map.specs.Stops.{HasManager, IsRightSpace}
-use Rattle.reach_rules.specs.Naming.{ByBlock, InBlock, OfId, Namer, Whole, Expected, AddressBlock, InfoBlock, Naming, naming}
+use Rattle.reach_rules.specs.Naming.{ByBlock, InBlock, Namer, Whole, Expected, AddressBlock, InfoBlock, Naming, naming}
 use Rattle.reach_rules.specs.Resolved.{Found, resolved, standing}
 use Rattle.reach_rules.specs.Tested.{of_header, tested}
 use Rattle.reach_rules.specs.Next.{names, next, address_naming, addresses_in, address_namings, is_cib_of, cibs_in, cib_naming, cab_namings}
-use Rattle.reach_rules.specs.Live.{IsSoundFor, NamesSound}
 use Rattle.reach_rules.specs.Features.{placed_in}
 use Rattle.reach_rules.proofs.Looks.{standing-by}
 use Rattle.reach_rules.proofs.Nexts.{from-next}
@@ -30,7 +28,7 @@ use Rattle.tree_namings.specs.Namings.{IsPlainNaming}
 use Rattle.tree_namings.specs.Joined.{ArePart}
 use Rattle.tree_namings.specs.Container.{pool_queue_naming, main_queue_naming, manager_naming}
 use Rattle.tree_namings.specs.Space.{manager_namer, blocks_namings, IsSpacePart}
-use Rattle.tree_namings.proofs.Container.{plain-by, plain-block, block-stands, manager-part, blocks-part}
+use Rattle.tree_namings.proofs.Container.{plain-by, block-stands, manager-part, blocks-part}
 
 -- a header's answer, said of a named object
 ok-header : (bytes : List ℕ) (r : Result Header (Bad HeadFault)) → is_ok r ≡ true → is_ok (of_header bytes r) ≡ true

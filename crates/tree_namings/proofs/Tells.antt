@@ -1,5 +1,5 @@
 -- What the parts of a container tell.
-use Rattle.std.proofs.Common.{◌≡◌, ℕ, true, List, [], ◌∷◌, ◌++◌, Option, Some, None, ◌⊎◌, inl, inr, refl, sym, subst}
+use Rattle.std.proofs.Common.{◌≡◌, ℕ, true, List, [], ◌∷◌, ◌++◌, Option, Some, None, inl, inr, refl, sym, subst}
 use Rattle.std.proofs.lemmas.List.{append-nil}
 use Rattle.std.specs.List.{flat_map}
 use Rattle.apfs_model.specs.Lists.{In, Lists, through}
@@ -8,10 +8,9 @@ use Rattle.nx_ring.specs.Checkpoint.{Seen}
 use Rattle.reach_rules.specs.Naming.{Object, Newest, Naming}
 use Rattle.reach_rules.specs.Resolved.{Found, resolved}
 use Rattle.reach_rules.specs.Next.{roots, next}
-use Rattle.reach_rules.specs.Live.{Live, IsLive, Names, NamesSound, IsNamed, newest, named}
+use Rattle.reach_rules.specs.Live.{Live, IsLive, IsNamed, newest, named}
 use Rattle.reach_rules.specs.Owners.{Owner, first_owners, owners_through, IsOwner, first, of}
 use Rattle.reach_rules.specs.PoolOwners.{pool_owners_through, IsPoolOwner}
-use Rattle.reach_rules.specs.Features.{features_through}
 use Rattle.reach_rules.specs.Faults.{is_once}
 use Rattle.tree_namings.specs.Namings.{IsPlainNaming}
 use Rattle.tree_namings.specs.Joined.{ArePart}

@@ -1,5 +1,5 @@
 -- What the views of a container tell; and the container with its views.
-use Rattle.std.proofs.Common.{◌≡◌, ℕ, zero, suc, Bool, true, false, ◌==◌, List, [], ◌∷◌, ◌++◌, map, Option, Some, None, Ok, Err, ◌⊎◌, inl, inr, refl, ap, sym, ◌∙◌, subst, if◌then◌else◌}
+use Rattle.std.proofs.Common.{◌≡◌, ℕ, zero, suc, Bool, true, false, ◌==◌, List, [], ◌∷◌, ◌++◌, map, Some, Ok, Err, ◌⊎◌, inl, inr, refl, ap, sym, ◌∙◌, subst, if◌then◌else◌}
 use Rattle.std.proofs.lemmas.List.{append-nil}
 use Rattle.std.specs.List.{flat_map, range_with_len}
 use Rattle.apfs_model.specs.Lists.{In, Lists, through}
@@ -15,12 +15,12 @@ use Rattle.vol_view.specs.Fields as volumes
 use Rattle.vol_view.specs.SnapRecords.{is_snapshot_long}
 use Rattle.space_map.specs.Fields.{cabs_of, cibs_of}
 use Rattle.space_map.specs.Blocks.{manager_of}
-use Rattle.reach_rules.specs.Naming.{ViewAt, LookUp, ByBlock, ByMapping, InContainer, InView, Object, Newest, InBlock, OfId, OfRecord, Namer, Whole, TreeKind, Files, Expected, ReapList, ExtendedMetadata, AddressBlock, InfoBlock, TreeRoot, TreeNode, Naming, naming}
+use Rattle.reach_rules.specs.Naming.{ViewAt, LookUp, ByBlock, ByMapping, InContainer, InView, Object, Newest, InBlock, OfId, OfRecord, Namer, Whole, TreeKind, Files, Expected, ReapList, ExtendedMetadata, AddressBlock, InfoBlock, Naming, naming}
 use Rattle.reach_rules.specs.Resolved.{Found, resolved}
 use Rattle.reach_rules.specs.Tested.{Answer, tested}
 use Rattle.reach_rules.specs.Next.{roots, names, next, unless_zero, slot_namings, live_view, past_view, view_namings, records_of_snapshots, address_naming, addresses_in, address_namings, cib_naming, cibs_in, cab_namings, children_in, child_namings, node_namings}
 use Rattle.reach_rules.specs.Live.{Live, rooted, led, IsLive}
-use Rattle.reach_rules.specs.Owners.{Owner, object_owners, told_owners, told_if, owners_through}
+use Rattle.reach_rules.specs.Owners.{object_owners, told_owners, told_if, owners_through}
 use Rattle.reach_rules.specs.PoolOwners.{pool_object_owners, pool_told_owners, pool_told_if, pool_owners_through, IsPoolOwner}
 use Rattle.reach_rules.specs.Faults.{is_once}
 use Rattle.reach_rules.specs.Maps.{IsUsed, IsIdle}
@@ -29,7 +29,7 @@ use Rattle.tree_namings.specs.Namings.{step_naming, tree_namings}
 use Rattle.tree_namings.specs.Joined.{ArePart, HaveSame}
 use Rattle.tree_namings.specs.Container.{block_namings, reap_namings, super_naming, kept_namings, past_namings, pasts_namings, views_namings, volume_views, slot_views, all_views}
 use Rattle.tree_namings.specs.Tells.{objects_through, IsThrough, ArePlainFrom, AreOnce}
-use Rattle.tree_namings.specs.Views.{ExpectsOfView, IsOfView, is_in_view, record_object, record_owner, ResolvesTo, AreRecordsOf, ViewsTell, AreOutside, OutsideViews, AreOnceAs, AreJoined, IsTold, JoinedTells}
+use Rattle.tree_namings.specs.Views.{ExpectsOfView, IsOfView, is_in_view, record_object, record_owner, ResolvesTo, AreRecordsOf, ViewsTell, AreOutside, OutsideViews, AreOnceAs, JoinedTells}
 use Rattle.tree_namings.proofs.Joined.{live-among}
 use Rattle.tree_namings.proofs.Tells.{part-tells, plain-tells}
 
@@ -84,7 +84,7 @@ view-next image seen n m v h =
     each-in IsOfView (names image seen (InView v.view) n.expected (Whole l.object.object) l.object.bytes) m (each-named image seen v.view n.expected (Whole l.object.object) l.object.bytes v.expects)
     (subst (λ how. In m (names image seen how n.expected (Whole l.object.object) l.object.bytes)) v.how_is l.names)
 
-view-live : (image : List ℕ) (seen : Seen) (n : Naming) → Live (all_views image seen) (next image seen) n → IsOfView n
+pub view-live : (image : List ℕ) (seen : Seen) (n : Naming) → Live (all_views image seen) (next image seen) n → IsOfView n
 view-live image seen n (rooted _ h) = each-in IsOfView (all_views image seen) n (each-all image seen) h
 view-live image seen n (led m _ live h) = view-next image seen m n (view-live image seen m live) h
 

@@ -1,5 +1,5 @@
 -- The parts of a container: what is live from its manager, its maps, its reaper, its volumes, and all of its roots.
-use Rattle.std.specs.Prelude.{◌≡◌, ◌⊎◌, ℕ, suc, true, false, ◌==◌, List, [], ◌∷◌, ◌++◌, map, flat_map, Some, if◌then◌else◌}
+use Rattle.std.specs.Prelude.{◌≡◌, ◌⊎◌, ℕ, suc, true, false, ◌==◌, List, [], ◌∷◌, ◌++◌, flat_map, Some, if◌then◌else◌}
 use Rattle.std.specs.List.{range_with_len}
 use Rattle.apfs_model.specs.Blocks.{block_of, in_container}
 use Rattle.apfs_model.specs.Lists.{In, through}
@@ -22,10 +22,11 @@ use Rattle.tree_namings.specs.Parts.{records_naming, ExpectsMap}
 use Rattle.tree_namings.specs.Joined.{ArePart}
 
 -- ---- what is named, field by field
--- the roots of the free queues, by the space manager
+-- the root of the pool's free queue, by the space manager
 abbrev pub pool_queue_naming : Namer → List ℕ → List Naming
 pool_queue_naming namer manager = unless_zero namer 208 (TreeRoot (FreeQueue Pool)) ByMapping (pool_queue_of manager)
 
+-- the root of the main device's
 abbrev pub main_queue_naming : Namer → List ℕ → List Naming
 main_queue_naming namer manager = unless_zero namer 248 (TreeRoot (FreeQueue Main)) ByMapping (main_queue_of manager)
 
@@ -37,33 +38,39 @@ block_namings image seen n = n ∷ next image seen n
 abbrev pub past_naming : Namer → List ℕ → List Naming
 past_naming namer bytes = unless_zero namer 56 (TreeRoot MapSnapshots) ByBlock (maps.snap_tree_of bytes)
 
--- a volume's object map, and the roots of its physical trees
+-- a volume's object map
 abbrev pub volume_map_naming : Namer → List ℕ → Naming
 volume_map_naming namer bytes = naming namer 128 VolumeMap ByBlock (volumes.omap_oid_of bytes)
 
+-- the root of a volume's extent references
 abbrev pub extents_naming : Namer → List ℕ → List Naming
 extents_naming namer bytes = unless_zero namer 144 (TreeRoot ExtentRefs) ByBlock (volumes.extents_root_of bytes)
 
+-- the root of its snapshot metadata
 abbrev pub metadata_naming : Namer → List ℕ → List Naming
 metadata_naming namer bytes = unless_zero namer 152 (TreeRoot SnapMetadata) ByBlock (volumes.snaps_root_of bytes)
 
--- a snapshot's superblock, and the root of its extent references, by its record
+-- a snapshot's superblock, by its record
 abbrev pub super_naming : ViewAt → List ℕ → Naming
 super_naming view value = naming (Kept view) 8 (SnapshotSuper view) ByBlock (snap_super_of value)
 
+-- the root of the extent references of a snapshot, by its record
 abbrev pub kept_extents_naming : ViewAt → List ℕ → List Naming
 kept_extents_naming view value = unless_zero (Kept view) 0 (TreeRoot ExtentRefs) ByBlock (snap_extents_of value)
 
--- the space manager, the object map, the reaper and the jumpstart of a container
+-- the space manager of a container
 abbrev pub manager_naming : List ℕ → Naming
 manager_naming nx = naming (Whole Newest) 152 SpaceManager ByMapping (space_oid_of nx)
 
+-- its object map
 abbrev pub container_map_naming : List ℕ → Naming
 container_map_naming nx = naming (Whole Newest) 160 ContainerMap ByBlock (omap_oid_of nx)
 
+-- its reaper
 abbrev pub reaper_naming : List ℕ → List Naming
 reaper_naming nx = unless_zero (Whole Newest) 168 ReaperObject ByMapping (reaper_oid_of nx)
 
+-- its jumpstart
 abbrev pub jumpstart_naming : List ℕ → List Naming
 jumpstart_naming nx = unless_zero (Whole Newest) 1272 Jumpstart ByBlock (jumpstart_of nx)
 
@@ -124,10 +131,11 @@ views_namings image seen slot f =
 abbrev pub volume_views : List ℕ → Seen → ℕ → Naming → List Naming
 volume_views image seen slot n = through (resolved image seen n) (views_namings image seen slot)
 
--- what the views of the volume in a slot name, and those of all volumes
+-- what the views of the volume in a slot name, where it has one
 abbrev pub slot_views : List ℕ → Seen → ℕ → List Naming
 slot_views image seen slot = flat_map (volume_views image seen slot) (slot_namings seen.nx slot)
 
+-- what the views of all volumes name
 unfoldable pub all_views : List ℕ → Seen → List Naming
 all_views image seen = flat_map (slot_views image seen) (range_with_len 0 slots)
 

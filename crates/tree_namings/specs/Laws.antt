@@ -11,6 +11,10 @@ use Rattle.tree_namings.specs.Joined.{PartsJoin}
 use Rattle.tree_namings.specs.Container.{PlainLeads, PartsOfContainer}
 use Rattle.tree_namings.specs.Space.{IsSpacePart}
 use Rattle.tree_namings.specs.Tells.{PartTells, PlainTells, WholeTells}
+use Rattle.tree_namings.specs.Account.{AccountTold}
+use Rattle.tree_namings.specs.Ranges.{RangesTold}
+use Rattle.tree_namings.specs.Gathered.{GatheredReaches}
+use Rattle.tree_namings.specs.Owned.{PlainOwned}
 use Rattle.tree_namings.specs.Views.{ViewsTell, OutsideViews, JoinedTells}
 
 -- what is live from the naming of a root are that naming and those of the steps of its tree
@@ -35,6 +39,10 @@ pub record PartsJoined (image : List ℕ) (seen : Seen) : Type 0 where
   pub part : PartTells image seen
   pub plain : PlainTells image seen
   pub whole : WholeTells image seen
+  pub owned : PlainOwned image seen
   pub views : ViewsTell image seen
   pub outside : OutsideViews image seen
   pub told : JoinedTells image seen
+  pub account : AccountTold image seen
+  pub ranges : RangesTold image seen
+  pub reached : GatheredReaches image seen

@@ -7,3 +7,7 @@ pub mod Container
 pub mod Space
 pub mod Tells
 pub mod Views
+pub mod Account
+pub mod Ranges
+pub mod Gathered
+pub mod Owned

@@ -38,10 +38,11 @@ is_in_view ByMapping = false
 is_in_view InContainer = false
 is_in_view (InView view) = true
 
--- a record of the object map in a block, as an object and as an owner
+-- a record of the object map in a block, as an object
 abbrev pub record_object : ℕ × OmapRecord → Object
 record_object r = OfRecord r.0 r.1
 
+-- and as an owner
 abbrev pub record_owner : ℕ × OmapRecord → Owner
 record_owner r = owner (Recorded r.0 r.1) r.1.paddr 1
 

@@ -1,0 +1,11 @@
+use Rattle.std.proofs.Common.{◌∙◌, ◌++◌, ap}
+use Rattle.std.specs.Prelude.{option_map}
+use Rattle.bt_cursor.specs.Gathered.{shown}
+use Rattle.omap_map.specs.Records.{record_of}
+use Rattle.reach_gather.proofs.Kept.{kept-more}
+use Rattle.reach_gather.proofs.keepers.records.RecordsKeeperOmapKey.keep.Goals as goal
+
+pub returns-clause-held : goal.returns-clause-held
+returns-clause-held c items had kept =
+    let item = shown c.args.item.level c.args.item.pair.key_bytes.now (option_map (λ value. value.now) c.args.item.pair.value) in
+    kept-more record_of c.args.self.now.records.items c.add.new.gathered.items items item had (c.in_ok-add.ensures ∙ ap (λ xs. c.args.self.now.records.items ++ xs) c.record_in.ensures)
