@@ -1,8 +1,8 @@
--- The objects that are counted are those that are named.
-use Rattle.std.proofs.Common.{◌≡◌, ℕ, Bool, true, false, List, [], ◌∷◌, ◌++◌, map, Option, Some, None, inl, inr, refl, ap, sym, ◌∙◌, subst, if◌then◌else◌}
-use Rattle.std.specs.Prelude.{flat_map, option_map, option_and_then}
+-- The objects that are counted, and the owners whose ranges are given, are those that are gathered.
+use Rattle.std.proofs.Common.{◌≡◌, ℕ, Bool, true, false, List, [], ◌∷◌, map, Option, Some, None, inl, inr, refl, ap, sym, ◌∙◌, subst, if◌then◌else◌}
+use Rattle.std.specs.Prelude.{◌==◌, flat_map, option_map, option_and_then}
 use Rattle.apfs_model.specs.Blocks.{in_container}
-use Rattle.apfs_model.specs.Lists.{In, Lists, through}
+use Rattle.apfs_model.specs.Lists.{In, through}
 use Rattle.apfs_model.proofs.Searches.{in-left, in-right, in-append, in-map, from-map, in-flat_map, from-flat_map}
 use Rattle.obj_base.specs.declared.site.Site.{Site}
 use Rattle.nx_ring.specs.Checkpoint.{Seen, eph, site_of}
@@ -12,12 +12,15 @@ use Rattle.omap_map.specs.declared.records.OmapRecord.{OmapRecord}
 use Rattle.space_pool.specs.Queues.{one_block}
 use Rattle.reach_rules.specs.Naming.{LookUp, ByBlock, ByMapping, InContainer, InView, Object, Newest, InBlock, OfId, OfRecord, Expected, Naming}
 use Rattle.reach_rules.specs.Resolved.{Found, resolved, found_by, found_virtual, recorded, standing, mapped, mapped_node, is_node}
-use Rattle.reach_rules.specs.Live.{IsNamed}
-use Rattle.reach_rules.specs.Tally.{IsNumberOf, IsObjectCount}
+use Rattle.reach_rules.specs.Owners.{Owner}
+use Rattle.reach_rules.specs.Tally.{IsNumberOf}
 use Rattle.reach_rules.proofs.Looks.{standing-by}
 use Rattle.tree_namings.specs.Tells.{objects_through}
-use Rattle.tree_namings.specs.Views.{is_in_view, record_object, ResolvesTo, AreOutside}
-use Rattle.reach_gather.specs.Finished.{IsIdOf, IsObjectOf, AreRecordsWith}
+use Rattle.tree_namings.specs.Views.{is_in_view, record_object, ResolvesTo, AreOutside, AreOnceAs}
+use Rattle.tree_namings.specs.Joined.{HaveSame}
+use Rattle.tree_namings.specs.Ranges.{joined_objects}
+use Rattle.tree_namings.specs.Gathered.{AreOnceOf, AreOwnersOf}
+use Rattle.reach_gather.specs.Finished.{AreRangesOnce, IsIdOf, IsObjectOf, AreRecordsWith}
 
 -- what is found through a test, and in another form
 found-through : {X Y : Type 0} (g : X → Option Y) (y : Y) (o : Option X) → option_and_then g o ≡ Some y → (x : X) × ((o ≡ Some x) × (g x ≡ Some y))
@@ -76,9 +79,6 @@ through-one image seen n x h =
 abbrev pub DoResolve : List ℕ → Seen → List Naming → Type 0
 DoResolve image seen ns = (n : Naming) → In n ns → (f : Found) × (resolved image seen n ≡ Some f)
 
-abbrev all_objects : List ℕ → Seen → List Naming → List (ℕ × OmapRecord) → List Object
-all_objects image seen ns used = Newest ∷ flat_map (objects_through image seen) ns ++ map record_object used
-
 -- an id by a look-up, as the object to which its naming resolves
 id-told : (image : List ℕ) (seen : Seen) (ns : List Naming) → DoResolve image seen ns → (how : LookUp) (oid : ℕ) (i : IsIdOf how ns oid) → (x : Object) → ((y : Object) → IsObjectBy how oid y → y ≡ x) → In x (flat_map (objects_through image seen) ns)
 id-told image seen ns found how oid i x is =
@@ -86,13 +86,13 @@ id-told image seen ns found how oid i x is =
     let by : IsObjectBy how oid t.0.object = subst (λ k. IsObjectBy how k t.0.object) (sym i.oid_is) (subst (λ h. IsObjectBy h i.naming.oid t.0.object) i.how_is (resolved-by image seen i.naming t.0 t.1)) in
     in-flat_map (objects_through image seen) i.naming x ns i.one (subst (λ (y : Object). In y (objects_through image seen i.naming)) (is t.0.object by) (one-through image seen i.naming t.0 t.1))
 
-told-object : (image : List ℕ) (seen : Seen) (ns : List Naming) (used records : List (ℕ × OmapRecord)) → DoResolve image seen ns → AreRecordsWith image seen ns used records → (x : Object) → IsObjectOf ns records x → In x (all_objects image seen ns used)
+told-object : (image : List ℕ) (seen : Seen) (ns : List Naming) (used records : List (ℕ × OmapRecord)) → DoResolve image seen ns → AreRecordsWith image seen ns used records → (x : Object) → IsObjectOf ns records x → In x (joined_objects image seen ns used)
 told-object image seen ns used records found recs Newest h = inl refl
 told-object image seen ns used records found recs (InBlock block) h =
     inr (in-left (InBlock block) (flat_map (objects_through image seen) ns) (map record_object used) (id-told image seen ns found ByBlock block h (InBlock block) (λ y e. e)))
 told-object image seen ns used records found recs (OfId oid) h =
     inr (in-left (OfId oid) (flat_map (objects_through image seen) ns) (map record_object used) (id-told image seen ns found ByMapping oid h (OfId oid) (λ y e. e)))
-told-object image seen ns used records found recs (OfRecord block r) h = elim (recs.only (block, r) h) as (λ _. In (OfRecord block r) (all_objects image seen ns used)) [
+told-object image seen ns used records found recs (OfRecord block r) h = elim (recs.only (block, r) h) as (λ _. In (OfRecord block r) (joined_objects image seen ns used)) [
   | inl k ↦ inr (in-right (OfRecord block r) (flat_map (objects_through image seen) ns) (map record_object used) (in-map record_object used (block, r) k))
   | inr t ↦
       let to : ResolvesTo image seen t.0 (block, r) = t.1.1 in
@@ -109,7 +109,7 @@ by-look image seen ns used records recs n h out f e InContainer how by =
     subst (IsObjectOf ns records) (sym by.1) (recs.of_namings n h how by.0 (record { object = f; found = e; record_is = by.1 }))
 by-look image seen ns used records recs n h out f e (InView view) how by = absurd (let z : true ≡ false = sym (ap is_in_view how) ∙ out in let q : ⊥ = cc in q)
 
-object-told : (image : List ℕ) (seen : Seen) (ns : List Naming) (used records : List (ℕ × OmapRecord)) → AreOutside ns → AreRecordsWith image seen ns used records → (x : Object) → In x (all_objects image seen ns used) → IsObjectOf ns records x
+object-told : (image : List ℕ) (seen : Seen) (ns : List Naming) (used records : List (ℕ × OmapRecord)) → AreOutside ns → AreRecordsWith image seen ns used records → (x : Object) → In x (joined_objects image seen ns used) → IsObjectOf ns records x
 object-told image seen ns used records outside recs x (inl e) = subst (IsObjectOf ns records) (sym e) tt
 object-told image seen ns used records outside recs x (inr h) = elim (in-append x (flat_map (objects_through image seen) ns) (map record_object used) h) as (λ _. IsObjectOf ns records x) [
   | inl k ↦
@@ -119,15 +119,34 @@ object-told image seen ns used records outside recs x (inr h) = elim (in-append 
   | inr k ↦ let t = from-map record_object used x k in subst (IsObjectOf ns records) (sym t.1.1) (recs.of_views t.0 t.1.0)
 ]
 
--- the number of the objects of namings that resolve, none of them in a view, and of records with those that views use, is that of the named objects
-pub count-named : (image : List ℕ) (seen : Seen) (ns : List Naming) (used records : List (ℕ × OmapRecord)) → AreOutside ns → DoResolve image seen ns → AreRecordsWith image seen ns used records → Lists (all_objects image seen ns used) (IsNamed image seen) →
-    (number : ℕ) → IsNumberOf (IsObjectOf ns records) number → IsObjectCount image seen number
-count-named image seen ns used records outside found recs l number n = record {
-  all = n.all;
-  lists = (
-    (λ x h. l.0 x (told-object image seen ns used records found recs x (n.lists.0 x h))),
-    (λ x h. n.lists.1 x (object-told image seen ns used records outside recs x (l.1 x h))),
-  );
+-- ---- namings in another order
+ids-same : (how : LookUp) (ns ms : List Naming) → ((n : Naming) → In n ns → In n ms) → (oid : ℕ) → IsIdOf how ns oid → IsIdOf how ms oid
+ids-same how ns ms into oid i = record { naming = i.naming; one = into i.naming i.one; how_is = i.how_is; oid_is = i.oid_is }
+
+objects-same : (ns ms : List Naming) (records : List (ℕ × OmapRecord)) → ((n : Naming) → In n ns → In n ms) → (x : Object) → IsObjectOf ns records x → IsObjectOf ms records x
+objects-same ns ms records into Newest h = tt
+objects-same ns ms records into (InBlock block) h = ids-same ByBlock ns ms into block h
+objects-same ns ms records into (OfId oid) h = ids-same ByMapping ns ms into oid h
+objects-same ns ms records into (OfRecord block r) h = h
+
+pub once-same : (how : LookUp) (ns ms : List Naming) → ((n : Naming) → In n ms → In n ns) → AreOnceAs how ns → AreOnceAs how ms
+once-same how ns ms into once m n hm hn = once m n (into m hm) (into n hn)
+
+-- ---- all that was gathered
+-- namings that resolve, none of them in a view, and the records with those that views use: the objects that are counted are theirs, each once
+pub objects-once : (image : List ℕ) (seen : Seen) (namings ns : List Naming) (used records : List (ℕ × OmapRecord)) → HaveSame namings ns → AreOutside ns → DoResolve image seen ns → AreRecordsWith image seen ns used records →
+    (number : ℕ) (n : IsNumberOf (IsObjectOf namings records) number) → AreOnceOf n.all (joined_objects image seen ns used)
+objects-once image seen namings ns used records same outside found recs number n = record {
   apart = n.apart;
-  same = n.same;
+  there = λ x h. told-object image seen ns used records found recs x (objects-same namings ns records same.there x (n.lists.0 x h));
+  all = λ x h. n.lists.1 x (objects-same ns namings records same.back x (object-told image seen ns used records outside recs x h));
+}
+
+-- owners with a block: those whose ranges are given are these, each once
+pub owners-once : (held those : List Owner) (ranges : List (ℕ × ℕ)) → ((a : Owner) → In a held → In a those × ((a.blocks == 0) ≡ false)) → ((a : Owner) → In a those → (a.blocks == 0) ≡ false → In a held) → (r : AreRangesOnce held ranges) → AreOwnersOf r.each those
+owners-once held those ranges into back r = record {
+  apart = r.apart;
+  there = λ a h. (into a (r.lists.0 a h)).0;
+  some = λ a h. (into a (r.lists.0 a h)).1;
+  all = λ a h some. r.lists.1 a (back a h some);
 }
