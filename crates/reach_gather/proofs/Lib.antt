@@ -13,3 +13,8 @@ mod Started
 mod Pasts
 mod Latest
 mod Slots
+pub mod Backs
+pub mod Ties
+pub mod Finishes
+pub mod Onces
+pub mod Counts

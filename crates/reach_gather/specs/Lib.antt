@@ -8,3 +8,4 @@ pub mod Infos
 pub mod Pooled
 pub mod Chain
 pub mod Views
+pub mod Finished
