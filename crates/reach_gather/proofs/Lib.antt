@@ -5,3 +5,8 @@ mod Branches
 mod Telling
 mod Told
 mod Fields
+pub mod Backs
+pub mod Ties
+pub mod Finishes
+pub mod Onces
+pub mod Counts

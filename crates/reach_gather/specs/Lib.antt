@@ -4,3 +4,4 @@ pub mod Held
 pub mod Adds
 pub mod Steps
 pub mod Reading
+pub mod Finished

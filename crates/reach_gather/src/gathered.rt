@@ -9,9 +9,9 @@ use std::marker::Model;
 /// Namings, and the owners of one block or more that are met through them.
 #[derive(Drop)]
 pub struct Gathered {
-    namings: Vec<Named>,
-    owners: Vec<Owned>,
-    pool_owners: Vec<Owned>,
+    pub(crate) namings: Vec<Named>,
+    pub(crate) owners: Vec<Owned>,
+    pub(crate) pool_owners: Vec<Owned>,
 }
 
 impl Model for Gathered {

@@ -1,10 +1,13 @@
 //! What is gathered of a container: its namings, each with its owner.
 #![tactic(auto)]
 
+mod counting;
+mod finishing;
 mod gathered;
 mod keepers;
 mod maps;
 mod naming;
+mod once;
 mod owner;
 mod queues;
 mod ranges;

@@ -1,0 +1,60 @@
+// How many objects are named.
+ghost use Rattle.std.specs.Prelude.{◌≡◌, ◌↔◌, ◌+◌, map, filter, length, IfOk};
+ghost use Rattle.apfs_model.specs.Apart.{Apart};
+ghost use Rattle.apfs_model.specs.Counts.{given};
+ghost use Rattle.apfs_model.specs.Lists.{In, Lists};
+ghost use Rattle.reach_rules.specs.Tally.{IsNumberOf};
+ghost use Rattle.reach_gather.specs.declared.naming.Mapping as entry;
+ghost use Rattle.reach_gather.specs.declared.naming.Named as kept;
+ghost use Rattle.reach_gather.specs.Named.{look_of, naming_of};
+ghost use Rattle.reach_gather.specs.Finished.{is_look, id_of, IsIdOf, mapping_as, IsObjectOf};
+
+use crate::gathered::Gathered;
+use crate::naming::{By, Mapping, Named};
+use crate::once::is_look;
+use apart_lists::distinct;
+use std::alloc::{AllocError, Global};
+
+// The ids of the namings that are looked up so.
+fn ids_of(alloc: Global, namings: &[Named], how: By) -> Result<Vec<u64>, AllocError>
+    ensures { IfOk result (λ v. v.items ≡ map id_of (filter (λ (n : kept.Named). is_look n.how how) namings.now)) }
+{
+    namings
+        .iter()
+        .filter(|naming| is_look(naming.how, how))
+        .map(|naming| naming.oid)
+        .collect(alloc)
+}
+
+// The ids of the namings that are looked up so, each once.
+fn ids_once(alloc: Global, namings: &[Named], how: By) -> Result<Vec<u64>, AllocError>
+    ensures lists { IfOk result (λ v. Lists v.items (IsIdOf (look_of how) (map naming_of namings.now))) }
+    ensures apart { IfOk result (λ v. Apart v.items) }
+{
+    let mut ids = ids_of(alloc, namings, how)?;
+    distinct(&mut ids);
+    Ok(ids)
+}
+
+// One more than three numbers together.
+fn all_of(ids: usize, blocks: usize, records: usize) -> u64
+    ensures { result ≡ given (1 + ids + blocks + records) }
+{
+    1u64.saturating_add(ids as u64)
+        .saturating_add(blocks as u64)
+        .saturating_add(records as u64)
+}
+
+impl Gathered {
+    /// How many objects are named: the newest superblock, those of the blocks and of the ephemeral ids that are named, and those of
+    /// the records, each once. The records are left each once.
+    pub fn objects(&self, alloc: Global, records: &mut Vec<Mapping>) -> Result<u64, AllocError>
+        ensures count { IfOk result (IsNumberOf (IsObjectOf self.now.namings (map mapping_as records.old.items))) }
+        ensures same { IfOk result (λ number. (m : entry.Mapping) → In m records.old.items ↔ In m records.new.items) }
+    {
+        let ids = ids_once(alloc, &self.namings, By::Mapping)?;
+        let blocks = ids_once(alloc, &self.namings, By::Block)?;
+        distinct(records);
+        Ok(all_of(ids.len(), blocks.len(), records.len()))
+    }
+}

@@ -1,0 +1,141 @@
+// Whether an id is named twice.
+ghost use Rattle.std.specs.Prelude.{◌≡◌, true, false, List, ℕ, filter, map, OnOk, IfOk, IfErr, IsErrOf};
+ghost use Rattle.std.specs.List.Sorted.{IsPermutation, IsNonDecreasingBy};
+ghost use Rattle.apfs_model.specs.Lists.{In};
+ghost use Rattle.obj_base.specs.Stops.{Tells};
+ghost use Rattle.obj_base.specs.declared.stop.Stop.TheVariants.{ReadFault};
+ghost use Rattle.reach_rules.specs.Naming.{Naming, ByMapping, InContainer};
+ghost use Rattle.reach_rules.specs.Live.{IsLive};
+ghost use Rattle.reach_rules.specs.Faults as spec;
+ghost use Rattle.reach_rules.specs.Features.{HasFeature};
+ghost use Rattle.reach_rules.specs.Reached.{IsReachedFault};
+ghost use Rattle.tree_namings.specs.Views.{AreOnceAs};
+ghost use Rattle.reach_gather.specs.declared.naming.Named as kept;
+ghost use Rattle.reach_gather.specs.Named.{look_of, naming_of};
+ghost use Rattle.reach_gather.specs.Finished.{is_look, id_of, AreOnceHere};
+
+use crate::gathered::Gathered;
+use crate::naming::{By, Named};
+use nx_ring::Checkpoint;
+use obj_base::{Stop, Within};
+use reach_rules::ReachFault;
+use std::alloc::{AllocError, Global};
+
+// Whether two look-ups are one.
+pub(crate) fn is_look(how: By, other: By) -> bool
+    ensures { result ≡ is_look how other }
+{
+    match how {
+        By::Block => match other {
+            By::Block => true,
+            By::Mapping => false,
+            By::Container => false,
+        },
+        By::Mapping => match other {
+            By::Block => false,
+            By::Mapping => true,
+            By::Container => false,
+        },
+        By::Container => match other {
+            By::Block => false,
+            By::Mapping => false,
+            By::Container => true,
+        },
+    }
+}
+
+// The space of a look-up.
+fn within_of(how: By) -> Within
+    ensures { result ≡ spec.within_of (look_of how) }
+{
+    match how {
+        By::Block => Within::Physical,
+        By::Mapping => Within::Ephemeral,
+        By::Container => Within::Container,
+    }
+}
+
+// The namings that are looked up so.
+fn those(alloc: Global, namings: &[Named], how: By) -> Result<Vec<Named>, AllocError>
+    ensures { IfOk result (λ v. v.items ≡ filter (λ (n : kept.Named). is_look n.how how) namings.now) }
+{
+    namings
+        .iter()
+        .filter(|naming| is_look(naming.how, how))
+        .copied()
+        .collect(alloc)
+}
+
+// Puts the namings of one id side by side.
+fn by_id(namings: &mut Vec<Named>)
+    ensures order { IsPermutation namings.old.items namings.new.items }
+    ensures sorted { IsNonDecreasingBy id_of namings.new.items }
+{
+    namings.sort_unstable_by_key(|naming| naming.oid);
+}
+
+// Whether two namings name one id.
+fn is_clash(before: &Named, naming: &Named) -> bool
+    ensures clash { result ≡ true → (before.now.oid ≡ naming.now.oid) × (before.now ≡ naming.now → ⊥) }
+    ensures alike { result ≡ false → before.now.oid ≡ naming.now.oid → before.now ≡ naming.now }
+{
+    before.oid == naming.oid && before != naming
+}
+
+// Whether no two namings that are looked up so, and stand by their ids, name one id.
+fn beside(namings: &[Named], how: By, cp: &Checkpoint) -> Result<(), Stop<ReachFault>>
+    requires sorted { IsNonDecreasingBy id_of namings.now }
+    requires alike { (n : kept.Named) → In n namings.now → n.how ≡ how }
+    requires each { spec.is_once (look_of how) ≡ true }
+    ensures once { OnOk result (AreOnceHere namings.now) }
+    ensures present { (image : List ℕ) → ((n : kept.Named) → In n namings.now → IsLive image cp.now (naming_of n)) → IfErr result (Tells (IsReachedFault image cp.now) (HasFeature image cp.now)) }
+    ensures no_read { IsErrOf result ReadFault → ⊥ }
+{
+    for i in 1..namings.len() {
+        let before = namings[i - 1];
+        let naming = namings[i];
+        if is_clash(&before, &naming) {
+            return Err(Stop::Found(ReachFault::NamedTwice {
+                within: within_of(how),
+                oid: naming.oid,
+                xid: cp.xid(),
+            }));
+        }
+    }
+    Ok(())
+}
+
+// Whether no two namings that are looked up so name one id.
+fn once_as(
+    alloc: Global,
+    namings: &[Named],
+    how: By,
+    cp: &Checkpoint,
+) -> Result<(), Stop<ReachFault>>
+    requires each { spec.is_once (look_of how) ≡ true }
+    ensures once { OnOk result (AreOnceAs (look_of how) (map naming_of namings.now)) }
+    ensures present { (image : List ℕ) → ((n : Naming) → In n (map naming_of namings.now) → IsLive image cp.now n) → IfErr result (Tells (IsReachedFault image cp.now) (HasFeature image cp.now)) }
+    ensures no_read { IsErrOf result ReadFault → ⊥ }
+{
+    let mut kept = match those(alloc, namings, how) {
+        Ok(kept) => kept,
+        Err(_) => return Err(Stop::NoMemory),
+    };
+    by_id(&mut kept);
+    beside(&kept, how, cp)
+}
+
+impl Gathered {
+    /// Whether no two namings name one ephemeral id, or one id in the container's object map. A naming that was noted twice is one.
+    pub fn once(&self, alloc: Global, cp: &Checkpoint) -> Result<(), Stop<ReachFault>>
+        ensures clear { OnOk result (AreOnceAs ByMapping self.now.namings × AreOnceAs InContainer self.now.namings) }
+        ensures present { (image : List ℕ) → ((n : Naming) → In n self.now.namings → IsLive image cp.now n) → IfErr result (Tells (IsReachedFault image cp.now) (HasFeature image cp.now)) }
+        ensures no_read { IsErrOf result ReadFault → ⊥ }
+    {
+        match once_as(alloc, &self.namings, By::Mapping, cp) {
+            Ok(()) => {}
+            Err(stop) => return Err(stop),
+        }
+        once_as(alloc, &self.namings, By::Container, cp)
+    }
+}
