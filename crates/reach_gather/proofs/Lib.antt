@@ -1,4 +1,4 @@
-mod Growing
+pub mod Growing
 mod Kept
 mod Owning
 mod Branches

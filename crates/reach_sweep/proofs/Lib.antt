@@ -1,0 +1,5 @@
+pub mod Added
+pub mod Joined
+pub mod Covered
+pub mod Owners
+pub mod Composed
