@@ -5,3 +5,4 @@ pub mod Adds
 pub mod Steps
 pub mod Reading
 pub mod Finished
+pub mod Views

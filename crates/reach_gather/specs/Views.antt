@@ -1,0 +1,35 @@
+-- What the views of volumes name, which is left to the sweep over all views.
+use Rattle.std.specs.Prelude.{◌≡◌, ℕ, suc, Bool, List, [], ◌∷◌, ◌++◌, slice_get, Some}
+use Rattle.fs_name.specs.Normal.{are_hashed}
+use Rattle.nx_ring.specs.Checkpoint.{Seen}
+use Rattle.vol_view.specs.Volumes.{Loaded}
+use Rattle.vol_view.specs.declared.volume.Snapshot.{Snapshot}
+use Rattle.reach_rules.specs.Naming.{ViewAt, InBlock, Namer, Whole, Naming}
+use Rattle.reach_rules.specs.Next.{next}
+use Rattle.tree_namings.specs.Namings.{IsPlainNaming}
+use Rattle.vol_parts.specs.Told.{past_at, live_at, map_of, super_in_view, told_view}
+
+-- what the superblock of a snapshot names in its view
+abbrev pub past_view_namings : ViewAt → Snapshot → List Naming
+past_view_namings view snapshot = told_view (Whole (InBlock snapshot.super_block)) view snapshot.root_oid snapshot.meta_ext
+
+-- the superblock of a snapshot is plain, and leads to what is told of its view
+pub record IsSuperPart (image : List ℕ) (seen : Seen) (view : ViewAt) (snapshot : Snapshot) : Type 0 where
+  pub plain : IsPlainNaming image seen (super_in_view view snapshot)
+  pub leads : next image seen (super_in_view view snapshot) ≡ past_view_namings view snapshot
+
+-- so it is of each snapshot of a volume whose object map stands in a block
+abbrev pub AreSuperParts : List ℕ → Seen → Loaded → ℕ → Type 0
+AreSuperParts image seen volume map =
+    (i : ℕ) (snapshot : Snapshot) → slice_get volume.snaps i ≡ Some snapshot → IsSuperPart image seen (past_at volume.head.slot map (are_hashed volume.names) i snapshot) snapshot
+
+-- what the superblocks of a volume's snapshots name, the first of them having place i
+abbrev pub pasts_namings : ℕ → ℕ → Bool → ℕ → List Snapshot → List Naming
+pasts_namings slot map hashed i [] = []
+pasts_namings slot map hashed i (snapshot ∷ snapshots) = past_view_namings (past_at slot map hashed i snapshot) snapshot ++ pasts_namings slot map hashed (suc i) snapshots
+
+-- what the views of a volume name, by the object of its superblock
+abbrev pub volume_views : Seen → Namer → Loaded → List Naming
+volume_views seen namer volume =
+    told_view namer (live_at seen volume.head.slot (map_of volume) (are_hashed volume.names)) volume.root_oid volume.meta_ext
+    ++ pasts_namings volume.head.slot (map_of volume) (are_hashed volume.names) 0 volume.snaps
