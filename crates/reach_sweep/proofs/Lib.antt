@@ -3,3 +3,4 @@ pub mod Joined
 pub mod Covered
 pub mod Owners
 pub mod Composed
+pub mod Views
