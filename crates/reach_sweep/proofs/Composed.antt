@@ -11,6 +11,7 @@ use Rattle.reach_sweep.proofs.Added.{parts-added, held-same}
 use Rattle.reach_sweep.proofs.Joined.{joined-by}
 use Rattle.reach_sweep.proofs.Covered.{covered-by}
 use Rattle.reach_sweep.proofs.Owners.{owners-by, pool-owners-by, objects-by}
+use Rattle.reach_sweep.proofs.Swept.{views-are}
 
 calls-reached : (image : List ℕ) (seen : Seen) → AreCallsReached image seen
 calls-reached image seen heads rest first used all_used those maps start parts done whole c =
@@ -48,4 +49,5 @@ parts-compose image seen = record {
   pool_owners = pool-owners-by image seen;
   objects = objects-by image seen;
   reached = calls-reached image seen;
+  views = views-are image seen;
 }

@@ -2,5 +2,6 @@ pub mod Added
 pub mod Joined
 pub mod Covered
 pub mod Owners
-pub mod Composed
 pub mod Views
+pub mod Swept
+pub mod Composed

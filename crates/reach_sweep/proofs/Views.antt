@@ -71,7 +71,7 @@ one-views image seen volume f of bytes =
 
 -- ---- of all
 -- a slot's naming expects the slot's volume
-slot-expected : (nx : List ℕ) (slot : ℕ) (m : Naming) → In m (slot_namings nx slot) → m.expected ≡ VolumeIn slot
+pub slot-expected : (nx : List ℕ) (slot : ℕ) (m : Naming) → In m (slot_namings nx slot) → m.expected ≡ VolumeIn slot
 slot-expected nx slot m h =
     let n : Naming = naming (Whole Newest) (184 + 8 * slot) (VolumeIn slot) InContainer (fs_oid_of nx slot) in
     let go : (b : Bool) → In m (if b then [] else n ∷ []) → m.expected ≡ VolumeIn slot = λ b. elim b as (λ b. In m (if b then [] else n ∷ []) → m.expected ≡ VolumeIn slot) [
@@ -80,7 +80,7 @@ slot-expected nx slot m h =
     ] in
     go (fs_oid_of nx slot == 0) h
 
-same-slot : (a b : ℕ) → VolumeIn a ≡ VolumeIn b → a ≡ b
+pub same-slot : (a b : ℕ) → VolumeIn a ≡ VolumeIn b → a ≡ b
 same-slot a b e = cc
 
 -- what the views of one of the volumes name, by the object of its superblock

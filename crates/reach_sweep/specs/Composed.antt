@@ -34,6 +34,7 @@ use Rattle.view_sweep.specs.Unused.{AreAllUsed}
 use Rattle.reach_gather.specs.Held.{Held, some_owners}
 use Rattle.reach_gather.specs.Adds.{Adds}
 use Rattle.reach_gather.specs.Finished.{AreRangesOnce, IsObjectOf, AreRecordsWith}
+use Rattle.reach_sweep.specs.Views.{ViewsAre}
 
 -- a record that is used, with the block of its map
 abbrev pub record_used : Used → ℕ × OmapRecord
@@ -195,3 +196,4 @@ pub record PartsCompose (image : List ℕ) (seen : Seen) : Type 0 where
   pub pool_owners : ArePoolOwnersBy image seen
   pub objects : AreObjectsBy image seen
   pub reached : AreCallsReached image seen
+  pub views : ViewsAre image seen

@@ -1,5 +1,5 @@
 -- The views of the volumes that were loaded: what they name, and how they are swept.
-use Rattle.std.specs.Prelude.{◌≡◌, ℕ, zero, suc, List, [], ◌∷◌, ◌++◌, map, flat_map, slice_get, Option, None, Some}
+use Rattle.std.specs.Prelude.{◌≡◌, ℕ, zero, suc, List, [], ◌∷◌, ◌++◌, map, flat_map, slice_get, length, Option, None, Some}
 use Rattle.apfs_model.specs.Lists.{In}
 use Rattle.fs_name.specs.Normal.{are_hashed}
 use Rattle.nx_block.specs.Super.{omap_oid_of}
@@ -18,7 +18,8 @@ use Rattle.vol_parts.specs.Parts.{volume_namer}
 use Rattle.vol_parts.specs.Laws.{HasParts}
 use Rattle.view_sweep.specs.declared.wanted.SweptView.{SweptView}
 use Rattle.view_sweep.specs.declared.wanted.Head.{Head}
-use Rattle.view_sweep.specs.Named.{head_namings}
+use Rattle.view_sweep.specs.Wanted.{AreToldHeads, AreBelowHeads}
+use Rattle.view_sweep.specs.Named.{head_namings, AreOfImage}
 use Rattle.reach_gather.specs.Views.{volume_views}
 
 -- the head of a loaded volume
@@ -95,7 +96,11 @@ abbrev pub supers_of : (Loaded → Namer) → List Loaded → SweptView → Name
 supers_of namer volumes v = view_namer namer (slice_get volumes v.volume) v.place
 
 -- ---- what all views name
--- it is what the views of the volumes do, as they were loaded, and as they are swept
+-- it is what the views of the volumes do, as they were loaded, and as they are swept; and of what is swept each view is told by its slot
+-- and its place, is of one of the volumes, and is of the image
 pub record ViewsAre (image : List ℕ) (seen : Seen) : Type 0 where
   pub loaded : (heads : List VolHead) (volumes : List Loaded) (namer : Loaded → Namer) → HasParts image seen heads → AreVolumes image seen heads volumes namer → HaveSame (all_views image seen) (volumes_views seen namer volumes)
   pub swept : (heads : List VolHead) (volumes : List Loaded) (namer : Loaded → Namer) → HasParts image seen heads → AreVolumes image seen heads volumes namer → HaveSame (all_views image seen) (head_namings (supers_of namer volumes) (swept_heads seen volumes))
+  pub told : (heads : List VolHead) (volumes : List Loaded) (namer : Loaded → Namer) → HasParts image seen heads → AreVolumes image seen heads volumes namer → AreToldHeads (swept_heads seen volumes)
+  pub below : (volumes : List Loaded) → AreBelowHeads (length volumes) (swept_heads seen volumes)
+  pub of_image : (heads : List VolHead) (volumes : List Loaded) (namer : Loaded → Namer) → AreVolumes image seen heads volumes namer → AreOfImage image seen (site_of seen) volumes (swept_heads seen volumes)
