@@ -10,6 +10,7 @@ use Rattle.reach_sweep.specs.Composed.{records_used, AreCallsReached, PartsCompo
 use Rattle.reach_sweep.proofs.Added.{parts-added, held-same}
 use Rattle.reach_sweep.proofs.Joined.{joined-by}
 use Rattle.reach_sweep.proofs.Covered.{covered-by}
+use Rattle.reach_sweep.proofs.Records.{records-by}
 use Rattle.reach_sweep.proofs.Owners.{owners-by, pool-owners-by, objects-by}
 use Rattle.reach_sweep.proofs.Swept.{views-are}
 
@@ -45,6 +46,7 @@ parts-compose image seen = record {
   added = parts-added image seen;
   joined = joined-by image seen;
   covered = covered-by image seen;
+  records = records-by image seen;
   owners = owners-by image seen;
   pool_owners = pool-owners-by image seen;
   objects = objects-by image seen;

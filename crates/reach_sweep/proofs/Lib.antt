@@ -4,4 +4,5 @@ pub mod Covered
 pub mod Owners
 pub mod Views
 pub mod Swept
+pub mod Records
 pub mod Composed

@@ -1,18 +1,18 @@
 -- What is gathered of a container call by call, and that all is reached with it.
-use Rattle.std.specs.Prelude.{◌≡◌, ℕ, List, [], ◌∷◌, ◌++◌, length, map, flat_map}
+use Rattle.std.specs.Prelude.{◌≡◌, ℕ, List, [], ◌∷◌, ◌++◌, length, map, flat_map, Some}
 use Rattle.apfs_model.specs.Counts.{given}
 use Rattle.apfs_model.specs.Lists.{In}
 use Rattle.nx_block.specs.Super.{omap_oid_of}
 use Rattle.nx_ring.specs.Checkpoint.{Seen, site_of}
 use Rattle.nx_ring.specs.Features.{container_features}
-use Rattle.omap_map.specs.Maps.{map_records}
+use Rattle.omap_map.specs.Maps.{map_records, resolved_in}
 use Rattle.omap_map.specs.declared.records.OmapRecord.{OmapRecord}
 use Rattle.vol_view.specs.Volumes.{Loaded}
 use Rattle.vol_view.specs.LoadStops.{IsVolumeOf}
 use Rattle.vol_view.specs.declared.head.VolHead.{VolHead}
 use Rattle.space_map.specs.Stops.{IsSpaceOf}
 use Rattle.space_pool.specs.Stops.{ArePoolBits}
-use Rattle.reach_rules.specs.Naming.{ByMapping, InContainer, Object, Naming}
+use Rattle.reach_rules.specs.Naming.{ByMapping, InContainer, Object, Namer, Naming}
 use Rattle.reach_rules.specs.Next.{roots}
 use Rattle.reach_rules.specs.Owners.{Owner, first_owners}
 use Rattle.reach_rules.specs.PoolOwners.{pool_owners_through}
@@ -34,7 +34,7 @@ use Rattle.view_sweep.specs.Unused.{AreAllUsed}
 use Rattle.reach_gather.specs.Held.{Held, some_owners}
 use Rattle.reach_gather.specs.Adds.{Adds}
 use Rattle.reach_gather.specs.Finished.{AreRangesOnce, IsObjectOf, AreRecordsWith}
-use Rattle.reach_sweep.specs.Views.{ViewsAre}
+use Rattle.reach_sweep.specs.Views.{AreVolumes, ViewsAre}
 
 -- a record that is used, with the block of its map
 abbrev pub record_used : Used → ℕ × OmapRecord
@@ -112,6 +112,28 @@ AreCoveredBy image seen =
     → ((u : Used) → In u used → In (record_used u) those)
     → AreRecordsWith image seen all records those
     → AreCovered image seen all records
+
+-- a record of the container's map by which the volume of a head is found
+pub record IsHeadRecord (image : List ℕ) (seen : Seen) (heads : List VolHead) (r : ℕ × OmapRecord) : Type 0 where
+  pub head : VolHead
+  pub one : In head heads
+  pub map_is : r.0 ≡ omap_oid_of seen.nx
+  pub found : resolved_in image (site_of seen) (omap_oid_of seen.nx) head.oid seen.line.xid ≡ Some r.1
+
+-- records are those by which the volumes of some heads are found
+pub record AreHeadRecords (image : List ℕ) (seen : Seen) (heads : List VolHead) (records : List (ℕ × OmapRecord)) : Type 0 where
+  pub all : (head : VolHead) (r : OmapRecord) → In head heads → resolved_in image (site_of seen) (omap_oid_of seen.nx) head.oid seen.line.xid ≡ Some r → In (omap_oid_of seen.nx, r) records
+  pub only : (r : ℕ × OmapRecord) → In r records → IsHeadRecord image seen heads r
+
+-- the records that views use, and those by which the volumes are found: these are all that are used
+abbrev pub AreRecordsBy : List ℕ → Seen → Type 0
+AreRecordsBy image seen =
+    (heads : List VolHead) (volumes : List Loaded) (namer : Loaded → Namer) (all views : List Naming) (records of_heads : List (ℕ × OmapRecord))
+    → HasParts image seen heads
+    → AreVolumes image seen heads volumes namer
+    → AreJoined image seen all views records
+    → AreHeadRecords image seen heads of_heads
+    → AreRecordsWith image seen all records (records ++ of_heads)
 
 -- ---- owners and objects
 -- owners, each once, whose ranges these are
@@ -192,6 +214,7 @@ pub record PartsCompose (image : List ℕ) (seen : Seen) : Type 0 where
   pub added : ArePartsAdded image seen
   pub joined : AreJoinedBy image seen
   pub covered : AreCoveredBy image seen
+  pub records : AreRecordsBy image seen
   pub owners : AreOwnersBy image seen
   pub pool_owners : ArePoolOwnersBy image seen
   pub objects : AreObjectsBy image seen
