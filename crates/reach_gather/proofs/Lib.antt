@@ -1,18 +1,18 @@
-mod Growing
-mod Kept
-mod Owning
-mod Branches
-mod Telling
-mod Told
-mod Fields
-mod Numbered
-mod Chunked
-mod Spaced
-mod Chain
-mod Started
-mod Pasts
-mod Latest
-mod Slots
+pub mod Growing
+pub mod Kept
+pub mod Owning
+pub mod Branches
+pub mod Telling
+pub mod Told
+pub mod Fields
+pub mod Numbered
+pub mod Chunked
+pub mod Spaced
+pub mod Chain
+pub mod Started
+pub mod Pasts
+pub mod Latest
+pub mod Slots
 pub mod Backs
 pub mod Ties
 pub mod Finishes
