@@ -1,0 +1,4 @@
+pub mod Told
+pub mod Parts
+pub mod Laws
+pub mod Once
