@@ -1,15 +1,15 @@
 -- What is live from the naming of a root are that naming and those of the steps of its tree.
-use Rattle.std.proofs.Common.{◌≡◌, ℕ, zero, suc, ◌<◌, true, false, List, [], ◌∷◌, ◌++◌, map, Option, Some, None, Result, Ok, Err, is_ok, ◌⊎◌, inl, inr, refl, ap, sym, ◌∙◌, subst, arith}
+use Rattle.std.proofs.Common.{◌≡◌, ℕ, zero, suc, true, false, List, [], ◌∷◌, ◌++◌, map, Option, Some, None, Result, Ok, Err, ◌⊎◌, inl, inr, refl, ap, sym, ◌∙◌, subst}
 use Rattle.std.specs.List.{range_with_len, flat_map}
 use Rattle.apfs_model.specs.Blocks.{block_of}
-use Rattle.apfs_model.specs.Lists.{In, Lists, through, value_of}
+use Rattle.apfs_model.specs.Lists.{Lists, through, value_of}
 use Rattle.obj_base.specs.declared.site.Site.{Site}
 use Rattle.obj_base.specs.declared.stop.Bad.{Bad}
 use Rattle.obj_base.specs.declared.stop.Bad.TheVariants as bads
 use Rattle.obj_base.specs.declared.stop.Stop.{Stop}
 use Rattle.bt_node.specs.Shape.{Shape}
 use Rattle.bt_node.specs.Node.{level_of, count_of}
-use Rattle.bt_node.specs.Entries.{Pair, pair_of, pairs_of, child_of, children_of}
+use Rattle.bt_node.specs.Entries.{Pair, pair_of, pairs_of, children_of}
 use Rattle.bt_node.specs.Soundness.{node_of}
 use Rattle.bt_node.specs.declared.fault.NodeFault.{NodeFault}
 use Rattle.bt_node.specs.declared.node.NodeAt.{NodeAt}
@@ -17,7 +17,7 @@ use Rattle.bt_cursor.specs.declared.fault.WalkFault.{WalkFault}
 use Rattle.bt_cursor.specs.Tree.{Tree, root_place, child_in, child_place, judged, node_named, block_named, node_at, tree_in}
 use Rattle.bt_cursor.proofs.Nodes.{node_same}
 use Rattle.bt_steps.specs.declared.step.Step.{Step}
-use Rattle.bt_steps.specs.Steps.{numbered, steps_part, steps_of, step_by}
+use Rattle.bt_steps.specs.Steps.{numbered, steps_part, steps_of}
 use Rattle.nx_ring.specs.Checkpoint.{Seen, site_of}
 use Rattle.reach_rules.specs.Naming.{LookUp, Object, Namer, Whole, TreeKind, Expected, TreeRoot, TreeNode, Naming, naming}
 use Rattle.reach_rules.specs.Resolved.{Found, resolved, found_by, is_node}
@@ -64,7 +64,7 @@ next-none : (image : List ℕ) (seen : Seen) (n : Naming) → resolved image see
 unfolding next
 next-none image seen n e = ap (λ o. through o (λ (f : Found). names_if image seen n f (tested (site_of seen) n.expected n.oid f.bytes))) e
 
-next-some : (image : List ℕ) (seen : Seen) (n : Naming) (f : Found) (a : Answer) → resolved image seen n ≡ Some f → tested (site_of seen) n.expected n.oid f.bytes ≡ a → next image seen n ≡ names_if image seen n f a
+pub next-some : (image : List ℕ) (seen : Seen) (n : Naming) (f : Found) (a : Answer) → resolved image seen n ≡ Some f → tested (site_of seen) n.expected n.oid f.bytes ≡ a → next image seen n ≡ names_if image seen n f a
 unfolding next
 next-some image seen n f a e t =
     ap (λ o. through o (λ (f : Found). names_if image seen n f (tested (site_of seen) n.expected n.oid f.bytes))) e ∙ ap (names_if image seen n f) t

@@ -3,3 +3,13 @@ pub mod Law
 pub mod Plain
 pub mod Walking
 pub mod OfKinds
+pub mod Parts
+pub mod Joined
+pub mod Container
+pub mod Space
+pub mod Tells
+pub mod Views
+pub mod Account
+pub mod Ranges
+pub mod Gathered
+pub mod Owned

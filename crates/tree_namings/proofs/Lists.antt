@@ -1,5 +1,5 @@
 -- What is live, as lists that are told.
-use Rattle.std.proofs.Common.{List, [], ◌∷◌, ◌++◌, inl, inr, refl, sym, subst}
+use Rattle.std.proofs.Common.{List, [], ◌∷◌, ◌++◌, inl, inr}
 use Rattle.apfs_model.specs.Lists.{In, Lists}
 use Rattle.reach_rules.specs.Live.{Live, rooted, led}
 use Rattle.apfs_model.proofs.Searches.{in-left, in-right, in-append}

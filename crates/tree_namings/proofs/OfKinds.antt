@@ -1,6 +1,6 @@
 -- The trees of each kind are walked as their nodes are named.
-use Rattle.std.proofs.Common.{◌≡◌, ℕ, true, false, List, [], Option, Some, None, Result, Err, is_ok, inl, refl, ap, sym, ◌∙◌, subst}
-use Rattle.std.specs.Prelude.{option_map, option_and_then, if◌then◌else◌, ◌==◌, length, Bool}
+use Rattle.std.proofs.Common.{◌≡◌, ℕ, true, List, Option, Some, None, Result, Err, is_ok, inl, refl, ap, sym, ◌∙◌, subst}
+use Rattle.std.specs.Prelude.{option_map, option_and_then, if◌then◌else◌}
 use Rattle.apfs_model.specs.Blocks.{in_container}
 use Rattle.apfs_model.proofs.BoolTests.{all-in, clash}
 use Rattle.bt_node.specs.Shape.{Shape}
@@ -17,7 +17,7 @@ use Rattle.nx_ring.specs.Objects.{Place}
 use Rattle.nx_ring.specs.Checkpoint.{Seen, site_of, eph}
 use Rattle.space_pool.specs.declared.entry.Queue.{Queue}
 use Rattle.space_pool.specs.Queues.{one_block, ephemeral_named, queue_tree}
-use Rattle.reach_rules.specs.Naming.{ByBlock, ByMapping, Object, InBlock, OfId, TreeKind, MapRecords, MapSnapshots, ExtentRefs, SnapMetadata, FreeQueue, Expected, TreeRoot, Naming}
+use Rattle.reach_rules.specs.Naming.{ByBlock, ByMapping, InBlock, OfId, TreeKind, MapRecords, MapSnapshots, ExtentRefs, SnapMetadata, FreeQueue, Expected, TreeRoot, Naming}
 use Rattle.reach_rules.specs.Resolved.{Found, resolved, standing, found_physical, found_by, found_ephemeral, is_node, mapped, mapped_node}
 use Rattle.reach_rules.specs.Trees.{tree_line, misplaced, has_counts}
 use Rattle.reach_rules.specs.declared.fault.ReachFault.TheVariants.{Unnamed}

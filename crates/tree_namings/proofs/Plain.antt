@@ -1,5 +1,5 @@
 -- In a tree that has all its nodes, each naming that is live from the root's resolves to a sound object without a feature.
-use Rattle.std.proofs.Common.{◌≡◌, ℕ, zero, suc, ◌+◌, ◌<◌, true, false, List, [], ◌∷◌, ◌++◌, map, Option, Result, Ok, Err, is_ok, inl, inr, refl, ap, sym, ◌∙◌, subst, arith}
+use Rattle.std.proofs.Common.{◌≡◌, ℕ, zero, suc, ◌+◌, ◌<◌, true, List, [], ◌∷◌, ◌++◌, map, Option, Ok, is_ok, inl, inr, refl, ap, sym, ◌∙◌, subst, arith}
 use Rattle.std.specs.List.{range_with_len}
 use Rattle.apfs_model.specs.Lists.{In, through}
 use Rattle.apfs_model.proofs.BoolTests.{all-in, clash}
@@ -13,13 +13,13 @@ use Rattle.bt_cursor.specs.Met.{IsMet, first, after, places_of, has_node, is_wal
 use Rattle.bt_cursor.proofs.Places.{tree-levelled, places-met}
 use Rattle.nx_ring.specs.Checkpoint.{Seen, site_of}
 use Rattle.reach_rules.specs.Naming.{LookUp, Object, Namer, Whole, TreeKind, Expected, TreeRoot, TreeNode, Naming}
-use Rattle.reach_rules.specs.Resolved.{Found, resolved}
+use Rattle.reach_rules.specs.Resolved.{Found}
 use Rattle.reach_rules.specs.Tested.{Answer, tested}
 use Rattle.reach_rules.specs.Next.{next, child_namings}
 use Rattle.reach_rules.specs.Live.{Live, rooted, led}
 use Rattle.reach_rules.specs.Features.{used_features, field_features, tested_features, features_through}
 use Rattle.tree_namings.specs.Namings.{IsPlainNaming}
-use Rattle.tree_namings.proofs.Law.{IsTreeOf, Expects, IsAt, HasNode, HasNone, Sees, sees, kids_of, next-root, next-child}
+use Rattle.tree_namings.proofs.Law.{IsTreeOf, Expects, IsAt, HasNode, Sees, sees, kids_of, next-root, next-child}
 
 -- a child that is named
 record IsKid (kind : TreeKind) (how : LookUp) (level : ℕ) (pairs : List Pair) (m : Naming) : Type 0 where

@@ -1,29 +1,28 @@
 -- What a walk over the tree of a named root tells.
-use Rattle.std.proofs.Common.{◌≡◌, ℕ, zero, suc, ◌+◌, ◌≤◌, ◌<◌, Bool, true, false, ◌||◌, List, [], ◌∷◌, ◌++◌, length, map, Option, Some, None, Result, Ok, Err, ◌⊎◌, inl, inr, refl, ap, sym, ◌∙◌, subst, arith, length-append}
+use Rattle.std.proofs.Common.{◌≡◌, ℕ, zero, suc, ◌+◌, ◌≤◌, ◌<◌, Bool, true, false, ◌||◌, List, [], ◌∷◌, ◌++◌, length, Option, Some, None, Result, Ok, Err, ◌⊎◌, inl, inr, refl, ap, sym, ◌∙◌, subst, arith, length-append}
 use Rattle.std.specs.Prelude.{is_none, slice_get}
 use Rattle.std.specs.List.{flat_map, list_any}
 use Rattle.std.proofs.lemmas.List.Concat.{flat_map-append}
-use Rattle.apfs_model.specs.Lists.{In, Lists, through, value_of, passes}
+use Rattle.apfs_model.specs.Lists.{Lists, through, value_of, passes}
 use Rattle.obj_base.specs.Stops.{Tells, IsFree, raised}
 use Rattle.obj_base.specs.declared.stop.Stop.{Stop}
 use Rattle.obj_base.specs.declared.stop.Stop.TheVariants.{Found as Fails, Unsupported, ReadFault, NoMemory}
 use Rattle.bt_node.specs.Shape.{Shape}
 use Rattle.bt_node.specs.Node.{level_of}
 use Rattle.bt_node.specs.Entries.{Pair, pairs_of}
-use Rattle.bt_node.specs.declared.node.NodeAt.{NodeAt}
 use Rattle.bt_cursor.specs.declared.fault.WalkFault.{WalkFault}
 use Rattle.bt_cursor.specs.declared.fault.WalkFault.TheVariants as walks
 use Rattle.bt_cursor.specs.declared.gathering.GatherFault.{GatherFault}
 use Rattle.bt_cursor.specs.declared.gathering.GatherFault.TheVariants as gathers
 use Rattle.bt_cursor.specs.Tree.{Tree, root_place, child_place, node_at, tree_in}
-use Rattle.bt_cursor.specs.Line.{Item, line_of, line_part, item_at}
+use Rattle.bt_cursor.specs.Line.{Item, line_of, line_part}
 use Rattle.bt_cursor.specs.Flat.{flat_of}
 use Rattle.bt_cursor.specs.Met.{places_under, places_in, places_of, has_node, nodes_of, is_walkable}
-use Rattle.bt_cursor.specs.Order.{out_of_order, is_ordered}
+use Rattle.bt_cursor.specs.Order.{out_of_order}
 use Rattle.bt_cursor.specs.Counts as counts
 use Rattle.bt_cursor.specs.Whole.{IsWhole}
 use Rattle.bt_cursor.specs.Faults as faults
-use Rattle.bt_cursor.specs.Gathered.{IsRefused, IsGatherFault}
+use Rattle.bt_cursor.specs.Gathered.{IsGatherFault}
 use Rattle.bt_cursor.proofs.Walkables.{filter-all}
 use Rattle.bt_steps.specs.declared.step.Step.{Step}
 use Rattle.bt_steps.specs.Steps.{numbered, steps_part, steps_of}
@@ -33,14 +32,14 @@ use Rattle.reach_rules.specs.Naming.{LookUp, Object, TreeKind, TreeRoot, Naming}
 use Rattle.reach_rules.specs.Resolved.{Found, resolved}
 use Rattle.reach_rules.specs.Next.{next}
 use Rattle.reach_rules.specs.Live.{Live}
-use Rattle.reach_rules.specs.Trees.{tree_line, misplaced, has_counts, is_short, is_short_at, NamesRoot, IsRightTree}
+use Rattle.reach_rules.specs.Trees.{tree_line, misplaced, has_counts, is_short, NamesRoot}
 use Rattle.reach_rules.specs.Features.{HasFeature}
 use Rattle.reach_rules.specs.Faults.{within_of, xid_of}
 use Rattle.reach_rules.specs.Reached.{IsReachedFault}
 use Rattle.reach_rules.proofs.Walks.{IsRootNaming, walk-present, gap-told}
 use Rattle.tree_namings.specs.Namings.{tree_steps, tree_namings, AreNamingsOf}
 use Rattle.tree_namings.specs.Walked.{has_all_nodes, IsWholeTree, IsTreeWalked, IsNamedRoot, of_gather}
-use Rattle.tree_namings.proofs.Law.{IsTreeOf, IsAt, HasNode, HasNone, Sees, sees, tree-lives}
+use Rattle.tree_namings.proofs.Law.{IsTreeOf, IsAt, Sees, sees, tree-lives}
 use Rattle.tree_namings.proofs.Plain.{live-plain}
 
 -- the trees of a kind are these

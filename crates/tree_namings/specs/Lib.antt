@@ -1,3 +1,13 @@
 pub mod Namings
 pub mod Laws
 pub mod Walked
+pub mod Parts
+pub mod Joined
+pub mod Container
+pub mod Space
+pub mod Tells
+pub mod Views
+pub mod Account
+pub mod Ranges
+pub mod Gathered
+pub mod Owned

@@ -13,7 +13,6 @@ use Rattle.bt_cursor.specs.Gathered.{IsGatherFault}
 use Rattle.bt_steps.specs.Noted.{IsWalked}
 use Rattle.space_pool.specs.Queues.{ephemeral_named}
 use Rattle.space_pool.specs.declared.entry.Queue.TheVariants.{Main}
-use Rattle.reach_rules.specs.Naming.{MapRecords, MapSnapshots, ExtentRefs, SnapMetadata}
 use Rattle.reach_rules.specs.Features.{HasFeature}
 use Rattle.reach_rules.specs.Reached.{IsReachedFault}
 use Rattle.tree_namings.specs.Walked.{of_gather}

@@ -12,7 +12,7 @@ use Rattle.bt_cursor.specs.Faults as faults
 use Rattle.bt_cursor.specs.Gathered.{IsGatherFault}
 use Rattle.bt_steps.specs.Noted.{IsWalked}
 use Rattle.apfs_model.specs.Blocks.{in_container}
-use Rattle.reach_rules.specs.Naming.{MapRecords, MapSnapshots, ExtentRefs, SnapMetadata}
+use Rattle.reach_rules.specs.Naming.{SnapMetadata}
 use Rattle.reach_rules.specs.Features.{HasFeature}
 use Rattle.reach_rules.specs.Reached.{IsReachedFault}
 use Rattle.tree_namings.specs.Walked.{of_gather}
