@@ -2,6 +2,8 @@
 #![tactic(auto)]
 
 mod once;
+#[cfg(test)]
+mod tests;
 mod theorem;
 
 pub use once::slots_once;
