@@ -25,9 +25,12 @@ use Rattle.view_sweep.specs.Tests.{IsFaultOf, IsFeatureOf}
 use Rattle.view_sweep.proofs.Losts.{nobody}
 use Rattle.view_sweep.proofs.Ranked.{every-push}
 
--- a hit that isn't there, where a list has no item
+-- a record and a hit that aren't there, where a list has no item
+abbrev pub norecord : OmapRecord
+norecord = record { oid = 0; xid = 0; flags = 0; size = 0; paddr = 0 }
+
 abbrev pub nohit : Hit
-nohit = record { wanted = nobody; mapping = record { oid = 0; xid = 0; flags = 0; size = 0; paddr = 0 } }
+nohit = record { wanted = nobody; mapping = norecord }
 
 pub flat-more : {X : Type 0} (f : X → List Wanted) (hits : List X) (i : ℕ) (d : X) (front out new : List Wanted) → i < length hits → out ≡ front ++ flat_map f (take i hits) → new ≡ out ++ f (get_or hits i d) → new ≡ front ++ flat_map f (take (i + 1) hits)
 flat-more f hits i d front out new low done step =

@@ -12,3 +12,7 @@ pub mod Hits
 pub mod Steps
 pub mod Levels
 pub mod Wholes
+pub mod Ends
+pub mod Named
+pub mod Reached
+pub mod Idles

@@ -11,7 +11,7 @@ use Rattle.view_sweep.specs.declared.wanted.Want.{Want}
 use Rattle.view_sweep.specs.declared.wanted.Wanted.{Wanted}
 use Rattle.view_sweep.specs.declared.used.Used.{Used}
 use Rattle.view_sweep.specs.Found.{used_of}
-use Rattle.view_sweep.specs.Order.{id_rank, used_rank, is_id_below, is_hit_below}
+use Rattle.view_sweep.specs.Order.{id_rank, used_rank, is_id_below, is_used_below, is_hit_below}
 use Rattle.view_sweep.proofs.Ranked.{nat-tie, nat-ties, then-tie, then-ties}
 
 pub id_total : IsTotalOrder id_rank
@@ -29,6 +29,9 @@ used_total =
     (then_total (on_total (λ (u : Used). u.mapping.xid) nat_cmp_total)
     (then_total (on_total (λ (u : Used). u.mapping.paddr) nat_cmp_total)
     (then_total (on_total (λ (u : Used). u.mapping.flags) nat_cmp_total) (on_total (λ (u : Used). u.mapping.size) nat_cmp_total)))))
+
+pub used_order : IsStrictWeakOrder is_used_below
+used_order = ranks_by used_total (λ (u : Used). u)
 
 pub hit_order : IsStrictWeakOrder is_hit_below
 hit_order = ranks_by used_total used_of

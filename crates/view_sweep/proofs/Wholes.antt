@@ -37,7 +37,7 @@ head-level h w (inr k) =
     ] in
     go (h.meta_ext == 0) k
 
-heads-level : (heads : List Head) (w : Wanted) → In w (heads_want heads) → level_of w ≡ 16
+pub heads-level : (heads : List Head) (w : Wanted) → In w (heads_want heads) → level_of w ≡ 16
 heads-level heads w h = let t = from-flat_map head_wants w heads h in head-level t.0 w t.1.1
 
 -- what is live is wanted by a superblock, or below level 16

@@ -4,3 +4,5 @@ pub mod Tests
 pub mod Here
 pub mod Order
 pub mod Swept
+pub mod Named
+pub mod Unused

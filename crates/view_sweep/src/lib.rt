@@ -1,16 +1,19 @@
 //! One sweep over the virtual objects of all views: each object is read once, however many views name it.
 #![tactic(auto)]
 
+mod idle;
 mod level;
 mod looking;
 mod nodes;
 mod once;
 mod order;
+mod reaching;
 mod reading;
 mod sweeping;
 mod used;
 mod wanted;
 
-pub use sweeping::sweep;
+pub use idle::{MapRecords, unused};
+pub use reaching::reach_views;
 pub use used::Used;
 pub use wanted::{Head, SweptView};

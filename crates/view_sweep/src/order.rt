@@ -1,9 +1,11 @@
-// Sorting: what is wanted by view and id, what is found by record.
+// Sorting: what is wanted by view and id, what is found and what is used by record.
 ghost use Rattle.std.specs.List.Sorted.{IsPermutation, IsSortedBy};
-ghost use Rattle.view_sweep.specs.Order.{is_id_below, is_hit_below};
+ghost use Rattle.std.specs.Prelude.{◌≡◌};
+ghost use Rattle.view_sweep.specs.Order.{used_rank, is_id_below, is_hit_below, is_used_below};
 
-use crate::used::Hit;
+use crate::used::{Hit, Used};
 use crate::wanted::Wanted;
+use std::cmp::Ordering;
 
 /// Puts what is wanted under one id of a view side by side.
 pub(crate) fn by_id(wants: &mut Vec<Wanted>)
@@ -37,4 +39,30 @@ pub(crate) fn by_record(hits: &mut Vec<Hit>)
             ),
         )
     });
+}
+
+/// How a used record stands to another: by the map, then by all that a record says.
+pub(crate) fn rank(a: &Used, b: &Used) -> Ordering
+    ensures { result ≡ used_rank a.now b.now }
+{
+    a.map.cmp(&b.map).then(
+        a.mapping.oid.cmp(&b.mapping.oid).then(
+            a.mapping.xid.cmp(&b.mapping.xid).then(
+                a.mapping.paddr.cmp(&b.mapping.paddr).then(
+                    a.mapping
+                        .flags
+                        .cmp(&b.mapping.flags)
+                        .then(a.mapping.size.cmp(&b.mapping.size)),
+                ),
+            ),
+        ),
+    )
+}
+
+/// Puts used records in their order.
+pub(crate) fn by_use(used: &mut Vec<Used>)
+    ensures order { IsPermutation used.old.items used.new.items }
+    ensures sorted { IsSortedBy is_used_below used.new.items }
+{
+    used.sort_unstable_by(|a, b| rank(a, b));
 }

@@ -107,7 +107,7 @@ fn levels<S: BlockSource>(
 
 /// Sweeps the virtual objects of all views at once, level by level: each record of an object map is read once, however
 /// many views name its object. What is answered is the records that are used, each once.
-pub fn sweep<S: BlockSource>(
+pub(crate) fn sweep<S: BlockSource>(
     alloc: Global,
     src: &mut S,
     site: &Site,
