@@ -1,6 +1,6 @@
 -- Facts by what is answered.
 use Rattle.std.specs.Prelude.{◌≡◌, ◌⊎◌, refl}
-use Rattle.std.proofs.Common.{inl, inr, sym, subst}
+use Rattle.std.proofs.Common.{inl, inr}
 use Rattle.path_walk.specs.declared.answer.Answer.{Answer}
 use Rattle.path_walk.specs.declared.answer.Answer.TheVariants.{NotFound, NotDirectory, NotFile, Compressed, Dataless, NoAttribute, NoVolume, NoSnapshot}
 use Rattle.apfs_cli.specs.OnView.{ByAnswer}

@@ -31,6 +31,8 @@ each_lacks S commands.Space = tt
 each_lacks S (commands.Snapshots volume) = tt
 each_lacks S (commands.Ls target) = tt
 each_lacks S (commands.Tree target) = tt
+each_lacks S (commands.Cat target) = tt
+each_lacks S (commands.Xattr target name) = tt
 
 -- a fact of the command and the image that another follows from
 of_run : {S : Type 0} (bytes : S → Option (List ℕ)) (command : Option Asked) (opened : Opened S) (P Q : Asked → List ℕ → Type 0) →
@@ -116,7 +118,7 @@ given_same : {S T : Type 0} (bytes : S → Option (List ℕ)) (tells : T → Opt
 given_same bytes tells true source other image same given = same ∙ given
 given_same bytes tells false source other image same given = given
 
-lacks_none : {S : Type 0} (wanted : Bool) (source : S) → LacksImage wanted (Image source) → ⊥
+pub lacks_none : {S : Type 0} (wanted : Bool) (source : S) → LacksImage wanted (Image source) → ⊥
 lacks_none true source lacks = lacks
 lacks_none false source lacks = lacks
 

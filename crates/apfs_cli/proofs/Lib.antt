@@ -10,5 +10,7 @@ pub mod Answered
 pub mod OverVolume
 pub mod OverView
 pub mod OverViews
+pub mod AtView
+pub mod Contents
 pub mod Statuses
 mod Examples

@@ -1,7 +1,8 @@
 -- What a run of a command on the view that is meant has come to.
-use Rattle.std.specs.Prelude.{◌≡◌, ◌⊎◌, ℕ, List, [], Option, Some, Result, Ok, Err, refl}
+use Rattle.std.specs.Prelude.{◌≡◌, ◌⊎◌, ℕ, true, List, [], Option, Some, Result, Ok, Err, refl}
 use Rattle.std.proofs.Common.{inl, inr, sym, ◌∙◌, ap, subst}
 use Rattle.apfs_model.specs.Lists.{and_then}
+use Rattle.apfs_model.specs.Sink.{Wrote}
 use Rattle.obj_base.specs.declared.stop.Feature.{Feature}
 use Rattle.obj_base.specs.declared.stop.Stop.{Stop}
 use Rattle.obj_base.specs.declared.stop.Stop.TheVariants as layer
@@ -24,7 +25,7 @@ use Rattle.apfs_cli.specs.declared.stopped.Stopped.{Stopped}
 use Rattle.apfs_cli.specs.declared.stopped.Stopped.TheVariants as stops
 use Rattle.apfs_cli.specs.ByCommand.{takes_image, lead_of, IsText, IsFault, IsFeature, IsAnswer, RestsOn, HasResult}
 use Rattle.apfs_cli.specs.Meant.{HasVolume, HasNoVolume}
-use Rattle.apfs_cli.specs.MeantView.{IsMeantView, HasView, HasNoSnapshot, IsLawfulView}
+use Rattle.apfs_cli.specs.MeantView.{IsMeantView, HasNoSnapshot, IsLawfulView}
 use Rattle.apfs_cli.specs.OnView.{ByAnswer, Wanted, IsWantedOf, IsTextOn, IsAnswerOn, IsFaultOn, IsFeatureOn}
 use Rattle.apfs_cli.specs.Reached.{TellsWay, TellsViewWay, IsWhileLooking}
 use Rattle.apfs_cli.specs.Says.{LacksImage, IsGiven, SourceFailed, StopsAt, IsOnlyAnswer, AnswersAt, HasEnded}
@@ -41,6 +42,7 @@ use Rattle.apfs_cli.proofs.Ways.{volume_or_none}
 -- a command is one on the view that is meant, of which something is wanted
 pub record IsOverView (command : Asked) (wanted : Wanted) (told : Facts → TreeFault → Type 0) (target : AskedTarget) : Type 0 where
   pub lead_is : [] ≡ lead_of command
+  pub takes : takes_image command ≡ true
   pub rests : (image : List ℕ) → RestsOn command image → IsLawfulView image target
   pub text : (image text : List ℕ) → IsText command image text → IsTextOn wanted target image text
   pub text_is : (image text : List ℕ) → IsTextOn wanted target image text → IsText command image text
@@ -230,18 +232,18 @@ feature_on command wanted told target image seen volume view feature block is on
 
 -- a call on a path of the view that is meant stopped, and nothing was written
 pub view_stop_ended : {S : Type 0} (bytes : S → Option (List ℕ)) (faults : S → ℕ) (command : Asked) (wanted : Wanted) (told : Facts → TreeFault → Type 0) (target : AskedTarget) (old new : Opened S)
-    (seen : Seen) (volume : Loaded) (view : View) (stop : Stop PathStop) (contents : Option (List ℕ)) (count : ℕ) → IsOverView command wanted told target → (LacksImage (takes_image command) old → ⊥) →
+    (seen : Seen) (volume : Loaded) (view : View) (stop : Stop PathStop) (out : Sunk) → IsOverView command wanted told target → (LacksImage (takes_image command) old → ⊥) →
     ((image : List ℕ) → IsGiven bytes (takes_image command) old image → IsOnPath wanted told target image seen volume view stop) →
-    (stop ≡ layer.ReadFault → SourceFailed faults old new) →
-    HasEnded bytes faults (Some command) old new (Err (stopped_on stop)) (record { old = contents; new = contents; old_faults = count; new_faults = count })
-view_stop_ended bytes faults command wanted told target old new seen volume view (layer.Found (paths.Answer answer)) contents count is has on cause =
-    ([], (has, λ image given. answer_on command wanted told target image seen volume view answer is (on image given)), wrote_nothing contents)
-view_stop_ended bytes faults command wanted told target old new seen volume view (layer.Found (paths.Fault fault)) contents count is has on cause =
-    ([], (has, λ image given. fault_on command wanted told target image seen volume view fault is (on image given)), wrote_nothing contents)
-view_stop_ended bytes faults command wanted told target old new seen volume view (layer.Unsupported feature block) contents count is has on cause =
-    ([], (has, λ image given. feature_on command wanted told target image seen volume view feature block is (on image given)), wrote_nothing contents)
-view_stop_ended bytes faults command wanted told target old new seen volume view layer.ReadFault contents count is has on cause = ([], (cause refl, inl refl), wrote_nothing contents)
-view_stop_ended bytes faults command wanted told target old new seen volume view layer.NoMemory contents count is has on cause = ([], inl refl, wrote_nothing contents)
+    (stop ≡ layer.ReadFault → SourceFailed faults old new) → Wrote out.old out.new [] →
+    HasEnded bytes faults (Some command) old new (Err (stopped_on stop)) out
+view_stop_ended bytes faults command wanted told target old new seen volume view (layer.Found (paths.Answer answer)) out is has on cause nothing =
+    ([], (has, λ image given. answer_on command wanted told target image seen volume view answer is (on image given)), nothing)
+view_stop_ended bytes faults command wanted told target old new seen volume view (layer.Found (paths.Fault fault)) out is has on cause nothing =
+    ([], (has, λ image given. fault_on command wanted told target image seen volume view fault is (on image given)), nothing)
+view_stop_ended bytes faults command wanted told target old new seen volume view (layer.Unsupported feature block) out is has on cause nothing =
+    ([], (has, λ image given. feature_on command wanted told target image seen volume view feature block is (on image given)), nothing)
+view_stop_ended bytes faults command wanted told target old new seen volume view layer.ReadFault out is has on cause nothing = ([], (cause refl, inl refl), nothing)
+view_stop_ended bytes faults command wanted told target old new seen volume view layer.NoMemory out is has on cause nothing = ([], inl refl, nothing)
 
 -- the text that is wanted of the view that is meant was put
 pub view_put_ended : {S : Type 0} (bytes : S → Option (List ℕ)) (faults : S → ℕ) (command : Asked) (wanted : Wanted) (told : Facts → TreeFault → Type 0) (target : AskedTarget) (old new : Opened S)

@@ -4,12 +4,10 @@ use Rattle.std.specs.List.{position_or_len}
 use Rattle.std.proofs.Common.{inl, inr, sym, ◌∙◌, ap, subst, cond, arith}
 use Rattle.cmd_words.specs.Asked.{AskedTarget}
 use Rattle.nx_ring.specs.Checkpoint.{Seen, site_of}
-use Rattle.vol_view.specs.declared.head.VolHead.{VolHead}
 use Rattle.vol_view.specs.declared.volume.Snapshot.{Snapshot}
 use Rattle.vol_view.specs.declared.volume.View.{View}
 use Rattle.vol_view.specs.Volumes.{Loaded, loaded_of}
 use Rattle.vol_view.specs.Views.{by_name_of}
-use Rattle.view_rules.specs.Facts.{Facts}
 use Rattle.view_rules.specs.Rules.{view_facts}
 use Rattle.path_walk.specs.Stops.{IsLawful}
 use Rattle.path_walk.specs.declared.answer.Answer.{Answer}

@@ -6,3 +6,5 @@ pub mod Space
 pub mod Snapshots
 pub mod Ls
 pub mod Tree
+pub mod Cat
+pub mod Xattr

@@ -1,5 +1,5 @@
 -- Which words are a line of a command that the program has, and what they ask for.
-use Rattle.std.specs.Prelude.{ℕ, List, Option, Some, None, option_and_then}
+use Rattle.std.specs.Prelude.{ℕ, List, Option, Some, None, option_map, option_and_then}
 use Rattle.cmd_words.specs.Asked as lines
 use Rattle.cmd_words.specs.Asked.{AskedTarget, target_asked}
 use Rattle.cmd_words.specs.Lines.{line_of}
@@ -22,6 +22,10 @@ pub data Asked : Type 0 where
   Ls : AskedTarget → Asked
   -- what is under a path in a view
   Tree : AskedTarget → Asked
+  -- the contents of a file in a view
+  Cat : AskedTarget → Asked
+  -- the attributes of what a path leads to in a view, or what the one of a name holds
+  Xattr : AskedTarget → Option (List ℕ) → Asked
 
 -- what a line asks for, where the program has its command
 abbrev pub built : lines.Asked → Option Asked
@@ -33,8 +37,8 @@ built lines.Check = None
 built (lines.Snapshots volume) = Some (Snapshots volume)
 built (lines.Ls target) = Some (Ls target)
 built (lines.Tree target) = Some (Tree target)
-built (lines.Cat target) = None
-built (lines.Xattr target name) = None
+built (lines.Cat target) = Some (Cat target)
+built (lines.Xattr target name) = Some (Xattr target name)
 
 -- what the words ask for; None where they are no line of a command that the program has
 unfoldable pub command_of : List (List ℕ) → Option Asked
@@ -49,3 +53,5 @@ said commands.Space = Space
 said (commands.Snapshots volume) = Snapshots volume
 said (commands.Ls target) = Ls (target_asked target)
 said (commands.Tree target) = Tree (target_asked target)
+said (commands.Cat target) = Cat (target_asked target)
+said (commands.Xattr target name) = Xattr (target_asked target) (option_map (λ text. text.now) name)

@@ -6,6 +6,7 @@ ghost use Rattle.apfs_cli.specs.Says.{HasEnded};
 ghost use Rattle.apfs_cli.specs.Words.{said};
 ghost use Rattle.apfs_cli.specs.Written.{sunk};
 
+mod cat;
 mod info;
 mod ls;
 mod ring;
@@ -13,6 +14,7 @@ mod snapshots;
 mod space;
 mod tree;
 mod volumes;
+mod xattr;
 
 use crate::stopped::Stopped;
 use crate::words::Command;
@@ -37,5 +39,7 @@ pub fn on_image<S: BlockSource, W: Sink>(
         Command::Snapshots(volume) => snapshots::write(alloc, volume, src, out),
         Command::Ls(target) => ls::write(alloc, target, src, out),
         Command::Tree(target) => tree::write(alloc, target, src, out),
+        Command::Cat(target) => cat::write(alloc, target, src, out),
+        Command::Xattr(target, name) => xattr::write(alloc, target, name, src, out),
     }
 }

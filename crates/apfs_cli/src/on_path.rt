@@ -1,10 +1,11 @@
 // Why a run stops where a call on a path does.
 ghost use Rattle.std.specs.Prelude.{◌≡◌};
-ghost use Rattle.apfs_cli.specs.Seen.{answered_of, stopped_on};
+ghost use Rattle.apfs_cli.specs.Seen.{answered_of, stopped_on, stopped_writing};
 
 use crate::fault::Raise;
 use crate::stopped::Stopped;
 use obj_base::Stop;
+use path_read::WriteStop;
 use path_walk::{Answer, PathStop};
 
 // What is answered of a path. That a slot has no volume, or that no snapshot has a name, isn't: these come before.
@@ -28,5 +29,15 @@ pub fn stopped_on_path(stop: Stop<PathStop>) -> Stopped
         Stop::Unsupported { feature, block } => Stopped::Refused { feature, block },
         Stop::ReadFault => Stopped::ReadFailed,
         Stop::NoMemory => Stopped::OutOfMemory,
+    }
+}
+
+/// Why the run stops, where a call on a path that writes does.
+pub fn stopped_on_write(stop: WriteStop) -> Stopped
+    ensures { result ≡ stopped_writing stop }
+{
+    match stop {
+        WriteStop::Stopped(stop) => stopped_on_path(stop),
+        WriteStop::WriteFault => Stopped::WriteFailed,
     }
 }

@@ -2,12 +2,14 @@
 ghost use Rattle.std.specs.Prelude.{replicate};
 
 mod cases;
+mod contents;
 mod images;
 
 use crate::put::{Line, put_lines};
 use crate::run::run;
 use blk_source::{MemSink, Opened, StdSink};
 use cases::*;
+use contents::*;
 use images::{Image, handed};
 use std::alloc::{AllocError, Global};
 use std::cell::Cell;
@@ -15,7 +17,7 @@ use std::io::{self, Write};
 use std::process::Abort;
 use std::test::Fail;
 
-const ROOM: usize = 4096;
+const ROOM: usize = 8192;
 
 // How a run ended.
 #[derive(Drop)]
@@ -123,6 +125,85 @@ fn failure_of_each_read(rt: HostRuntime) -> Result<(), Fail> {
 fn failure_of_each_read_of_a_view(rt: HostRuntime) -> Result<(), Fail> {
     let rows = [(Image::Views, LS_OLD, 21), (Image::Views, TREE_OLD, 21)];
     fail_at_each_read(&rt, rt.alloc(), &rows)
+}
+
+#[test]
+fn content_cases_end_as_said(rt: HostRuntime) -> Result<(), Fail> {
+    end_as_said(&rt, rt.alloc(), CONTENT_CASES)
+}
+
+#[test]
+fn failure_of_each_read_of_contents(rt: HostRuntime) -> Result<(), Fail> {
+    let rows = [(Image::Link, XATTR, 20), (Image::Link, TARGET, 20)];
+    fail_at_each_read(&rt, rt.alloc(), &rows)
+}
+
+// A file that starts with a hole, and the same where what follows has no extent.
+const HOLE: Image = Image::Streamed(5000, &[(0, 4096, 0), (4096, 4096, 57)]);
+
+const HOLE_ALONE: Image = Image::Streamed(5000, &[(0, 4096, 0)]);
+
+// 4,096 zeros, and 904 times a byte.
+fn hole_then(alloc: Global, byte: u8) -> Result<Vec<u8>, AllocError> {
+    let mut contents = vec![in alloc; 0u8; 4096]?;
+    contents.extend_from_slice(&[byte; 904])?;
+    Ok(contents)
+}
+
+#[test]
+fn a_hole_is_written_as_zeros(rt: HostRuntime) -> Result<(), Fail> {
+    let alloc = rt.alloc();
+    for (image, byte) in [(HOLE, b'A'), (HOLE_ALONE, 0)] {
+        let ended = end(alloc, image, CAT_HOLE, [&[], &[], &[]])?;
+        let contents = hole_then(alloc, byte)?;
+        assert_eq!(rt; (ended.status, ended.err.contents().len()), (0, 0));
+        assert!(rt; ended.out.contents() == contents.as_slice());
+    }
+    Ok(())
+}
+
+// Whether a run has this status and this line, and has written so many bytes of the contents of the file with a hole.
+fn ended_within(
+    alloc: Global,
+    ended: &Ended,
+    status: u8,
+    line: &str,
+    bytes: usize,
+) -> Result<bool, AllocError> {
+    let contents = hole_then(alloc, b'A')?;
+    let out = ended.out.contents();
+    let as_said = ended.status == status && ended.err.contents() == line.as_bytes();
+    Ok(as_said && out.len() == bytes && contents.starts_with(out))
+}
+
+#[test]
+fn failure_of_each_read_of_a_file(rt: HostRuntime) -> Result<(), Fail> {
+    let alloc = rt.alloc();
+    let whole = end(alloc, HOLE, CAT_HOLE, [&[], &[], &[]])?;
+    assert!(rt;
+        whole.reads > 20 && whole.reads < 40,
+        "{} reads",
+        whole.reads
+    );
+    for number in 1..=whole.reads {
+        let ended = end(alloc, HOLE, CAT_HOLE, [&[number], &[], &[]])?;
+        // The last read is of the block after the hole.
+        let bytes = if number == whole.reads { 4096 } else { 0 };
+        let as_said = ended_within(alloc, &ended, 3, "apfs: read failed\n", bytes)?;
+        assert!(rt; as_said, "read {number}: status {}", ended.status);
+    }
+    Ok(())
+}
+
+#[test]
+fn failure_of_each_put_of_a_file(rt: HostRuntime) -> Result<(), Fail> {
+    let alloc = rt.alloc();
+    for (number, status, bytes) in [(1, 4, 0), (2, 4, 4096), (3, 0, 5000)] {
+        let ended = end(alloc, HOLE, CAT_HOLE, [&[], &[number], &[]])?;
+        let as_said = ended_within(alloc, &ended, status, "", bytes)?;
+        assert!(rt; as_said, "put {number}: status {}", ended.status);
+    }
+    Ok(())
 }
 
 // A line of so many bytes, all of them the same.
@@ -234,4 +315,9 @@ fn failure_of_each_put_of_features(rt: HostRuntime) -> Result<(), Fail> {
 #[test]
 fn failure_of_each_put_of_views(rt: HostRuntime) -> Result<(), Fail> {
     fail_at_the_first_put(&rt, rt.alloc(), VIEW_CASES)
+}
+
+#[test]
+fn failure_of_each_put_of_contents(rt: HostRuntime) -> Result<(), Fail> {
+    fail_at_the_first_put(&rt, rt.alloc(), CONTENT_CASES)
 }

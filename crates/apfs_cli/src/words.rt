@@ -26,6 +26,10 @@ pub enum Command<'a> {
     Ls(Target<'a>),
     /// What is under a path in a view.
     Tree(Target<'a>),
+    /// The contents of a file in a view.
+    Cat(Target<'a>),
+    /// The attributes of what a path leads to in a view, or what the one of a name holds.
+    Xattr(Target<'a>, Option<&'a str>),
 }
 
 impl Command<'_> {
@@ -37,6 +41,7 @@ impl Command<'_> {
             Command::Ring | Command::Info | Command::Volumes => true,
             Command::Space | Command::Snapshots(_) => true,
             Command::Ls(_) | Command::Tree(_) => true,
+            Command::Cat(_) | Command::Xattr(..) => true,
         }
     }
 }
@@ -54,7 +59,8 @@ fn built<'a>(line: Line<'a>) -> Option<Command<'a>>
         Line::Check => None,
         Line::Ls(target) => Some(Command::Ls(target)),
         Line::Tree(target) => Some(Command::Tree(target)),
-        Line::Cat(_) | Line::Xattr(..) => None,
+        Line::Cat(target) => Some(Command::Cat(target)),
+        Line::Xattr(target, name) => Some(Command::Xattr(target, name)),
     }
 }
 

@@ -40,6 +40,7 @@ impl Stream {
     ghost use Rattle.apfs_model.specs.Sink.{Wrote, WrotePart};
     ghost use Rattle.obj_base.specs.Site.{IsSiteFor};
     ghost use Rattle.file_extent.specs.Streams.{read_len, bytes_from, stream_bytes};
+    ghost use Rattle.file_extent.specs.Copied.{CopiedWhole, CopiedFront, Copied};
     ghost use Rattle.obj_base.specs.Stops.{Tells, IsFree};
     ghost use Rattle.obj_base.specs.declared.stop.Stop.TheVariants as stops;
     ghost use Rattle.vol_view.specs.Views.{is_view_ordered};
@@ -132,8 +133,8 @@ impl Stream {
         requires low { at < self.now.size }
         requires room { 0 < length piece.old }
         ensures next { IfOk result (λ n. (at < n) × (n ≤ self.now.size)) }
-        ensures put { (image : List ℕ) → S.bytes src.old ≡ Some image → IfOk result (λ n. Wrote (W.contents out.old) (W.contents out.new) (bytes_from self.now.site.block_size image self.now.extents at (n - at))) }
-        ensures part { (image : List ℕ) → S.bytes src.old ≡ Some image → OnErr result (WrotePart (W.contents out.old) (W.contents out.new) (bytes_from self.now.site.block_size image self.now.extents at (self.now.size - at))) }
+        ensures put { IfOk result (λ n. CopiedWhole (W.contents out.old) (W.contents out.new) (S.bytes src.old) (λ image. bytes_from self.now.site.block_size image self.now.extents at (n - at))) }
+        ensures part { OnErr result (CopiedFront (W.contents out.old) (W.contents out.new) (S.bytes src.old) (λ image. bytes_from self.now.site.block_size image self.now.extents at (self.now.size - at))) }
         ensures read_cause { IsErrOf result ReadFault → Rose (S.faults src.old) (S.faults src.new) }
         ensures write_cause { IsErrOf result WriteFault → Rose (W.faults out.old) (W.faults out.new) }
         ensures kept { IsKept S.bytes S.bytes_len S.faults src.old src.new }
@@ -148,13 +149,14 @@ impl Stream {
     }
 
     /// Copies the whole stream into a sink, in pieces of at most 4,096 bytes. After an error the sink has a front of the
-    /// bytes. Takes no memory.
+    /// bytes. Where the source doesn't tell its bytes, one part of which nothing is known was put. Takes no memory.
     pub fn copy_to<S: BlockSource, W: Sink>(
         &self,
         src: &mut S,
         out: &mut W,
     ) -> Result<(), CopyFault>
         requires { IsSiteFor self.now.site (S.bytes_len src.old) }
+        ensures text { Copied (W.contents out.old) (W.contents out.new) (S.bytes src.old) (λ image. stream_bytes self.now.site.block_size image self.now.extents self.now.size) result }
         ensures put { (image : List ℕ) → S.bytes src.old ≡ Some image → OnOk result (Wrote (W.contents out.old) (W.contents out.new) (stream_bytes self.now.site.block_size image self.now.extents self.now.size)) }
         ensures part { (image : List ℕ) → S.bytes src.old ≡ Some image → OnErr result (WrotePart (W.contents out.old) (W.contents out.new) (stream_bytes self.now.site.block_size image self.now.extents self.now.size)) }
         ensures read_cause { IsErrOf result ReadFault → Rose (S.faults src.old) (S.faults src.new) }

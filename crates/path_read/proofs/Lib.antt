@@ -4,3 +4,4 @@ pub mod Examples
 pub mod Givens
 pub mod Searched
 pub mod Named
+pub mod Parted

@@ -1,5 +1,5 @@
 -- What a call that writes contents has answered.
-use Rattle.std.specs.Prelude.{◌≡◌, ℕ, List, [], Option, None, Some, Result, Ok, Err}
+use Rattle.std.specs.Prelude.{◌≡◌, ◌++◌, ◌⊎◌, ℕ, List, [], Option, None, Some, Result, Ok, Err}
 use Rattle.apfs_model.specs.Sink.{Wrote, WrotePart}
 use Rattle.obj_base.specs.declared.site.Site.{Site}
 use Rattle.obj_base.specs.declared.stop.Stop.{Stop}
@@ -53,3 +53,21 @@ IsWriteStopThere image site volume view writes.WriteFault = Unit {0}
 abbrev pub opened_bytes : List ℕ → Option Opened → List ℕ
 opened_bytes image None = []
 opened_bytes image (Some stream) = stream_bytes stream.site.block_size image stream.extents stream.size
+
+-- nothing was put, or a front of a text, which is the one that is wanted where the view meets its rules
+abbrev pub HasFront : Option (List ℕ) → (List ℕ → Type 0) → (List ℕ → Result (List ℕ) Answer) → List ℕ → Type 0
+HasFront told lawful wanted part =
+    (part ≡ []) ⊎ ((image : List ℕ) → told ≡ Some image → (text : List ℕ) × (rest : List ℕ) × (text ≡ part ++ rest) × (lawful image → wanted image ≡ Ok text))
+
+-- what was put is the text that is wanted, where the view meets its rules
+abbrev pub HasWhole : Option (List ℕ) → (List ℕ → Type 0) → (List ℕ → Result (List ℕ) Answer) → List ℕ → Type 0
+HasWhole told lawful wanted part = (image : List ℕ) → told ≡ Some image → lawful image → wanted image ≡ Ok part
+
+-- how much of what is wanted was put: the whole, or after an error a front
+abbrev pub HasSome : Option (List ℕ) → (List ℕ → Type 0) → (List ℕ → Result (List ℕ) Answer) → Result (Unit {0}) WriteStop → List ℕ → Type 0
+HasSome told lawful wanted (Ok _) part = HasWhole told lawful wanted part
+HasSome told lawful wanted (Err _) part = HasFront told lawful wanted part
+
+-- the sink keeps what it had and has one part more: the whole text, or after an error a front of it
+abbrev pub HasPart : Option (List ℕ) → Option (List ℕ) → Option (List ℕ) → (List ℕ → Type 0) → (List ℕ → Result (List ℕ) Answer) → Result (Unit {0}) WriteStop → Type 0
+HasPart old new told lawful wanted result = (part : List ℕ) × Wrote old new part × HasSome told lawful wanted result part

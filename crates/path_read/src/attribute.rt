@@ -11,7 +11,7 @@ ghost use Rattle.path_read.specs.Attributes as spec;
 ghost use Rattle.path_read.specs.Attributes.{is_called};
 ghost use Rattle.path_read.specs.Contents.{stream_in, body_in};
 ghost use Rattle.path_read.specs.Parts.{body_of};
-ghost use Rattle.path_read.specs.Written.{IsWritten, IsUntouched, IsWriteStopThere};
+ghost use Rattle.path_read.specs.Written.{HasPart, IsWritten, IsUntouched, IsWriteStopThere};
 ghost use Rattle.path_read.specs.declared.stop.WriteStop.TheVariants as writes;
 
 use crate::WriteStop;
@@ -50,6 +50,7 @@ fn write_stream<S: BlockSource, W: Sink>(
 ) -> Result<(), WriteStop>
     requires site { IsSiteFor site.now (S.bytes_len src.old) }
     ensures exact { (image : List ℕ) → S.bytes src.old ≡ Some image → IsLawful image site.now volume.now view.now → IsWritten (W.contents out.old) (W.contents out.new) (Ok (stream_in site.now.block_size image (view_facts image site.now volume.now view.now) id size)) result }
+    ensures text { HasPart (W.contents out.old) (W.contents out.new) (S.bytes src.old) (λ image. IsLawful image site.now volume.now view.now) (λ image. Ok (stream_in site.now.block_size image (view_facts image site.now volume.now view.now) id size)) result }
     ensures untouched { IfErr result (IsUntouched (W.contents out.old) (W.contents out.new)) }
     ensures present { (image : List ℕ) → S.bytes src.old ≡ Some image → IfErr result (IsWriteStopThere image site.now volume.now view.now) }
     ensures read_cause { result ≡ Err (writes.Stopped ReadFault) → Rose (S.faults src.old) (S.faults src.new) }
@@ -80,6 +81,7 @@ fn write_body<S: BlockSource, W: Sink>(
 ) -> Result<(), WriteStop>
     requires site { IsSiteFor site.now (S.bytes_len src.old) }
     ensures exact { (image : List ℕ) → S.bytes src.old ≡ Some image → IsLawful image site.now volume.now view.now → IsWritten (W.contents out.old) (W.contents out.new) (Ok (body_in site.now.block_size image (view_facts image site.now volume.now view.now) (body_of body.now))) result }
+    ensures text { HasPart (W.contents out.old) (W.contents out.new) (S.bytes src.old) (λ image. IsLawful image site.now volume.now view.now) (λ image. Ok (body_in site.now.block_size image (view_facts image site.now volume.now view.now) (body_of body.now))) result }
     ensures untouched { IfErr result (IsUntouched (W.contents out.old) (W.contents out.new)) }
     ensures present { (image : List ℕ) → S.bytes src.old ≡ Some image → IfErr result (IsWriteStopThere image site.now volume.now view.now) }
     ensures read_cause { result ≡ Err (writes.Stopped ReadFault) → Rose (S.faults src.old) (S.faults src.new) }
@@ -113,6 +115,7 @@ pub fn attr<S: BlockSource, W: Sink>(
 ) -> Result<(), WriteStop>
     requires site { IsSiteFor site.now (S.bytes_len src.old) }
     ensures exact { (image : List ℕ) → S.bytes src.old ≡ Some image → IsLawful image site.now volume.now view.now → IsWritten (W.contents out.old) (W.contents out.new) (spec.attribute site.now.block_size image (view_facts image site.now volume.now view.now) path.now name.now) result }
+    ensures text { HasPart (W.contents out.old) (W.contents out.new) (S.bytes src.old) (λ image. IsLawful image site.now volume.now view.now) (λ image. spec.attribute site.now.block_size image (view_facts image site.now volume.now view.now) path.now name.now) result }
     ensures untouched { IfErr result (IsUntouched (W.contents out.old) (W.contents out.new)) }
     ensures present { (image : List ℕ) → S.bytes src.old ≡ Some image → IfErr result (IsWriteStopThere image site.now volume.now view.now) }
     ensures read_cause { result ≡ Err (writes.Stopped ReadFault) → Rose (S.faults src.old) (S.faults src.new) }

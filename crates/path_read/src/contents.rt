@@ -7,7 +7,7 @@ ghost use Rattle.obj_base.specs.Site.{IsSiteFor};
 ghost use Rattle.view_rules.specs.Rules.{view_facts};
 ghost use Rattle.path_read.specs.Contents as spec;
 ghost use Rattle.path_walk.specs.Stops.{IsLawful, IsGiven, IsStopThere};
-ghost use Rattle.path_read.specs.Written.{IsWritten, IsUntouched, IsWriteStopThere, opened_bytes};
+ghost use Rattle.path_read.specs.Written.{HasPart, IsWritten, IsUntouched, IsWriteStopThere, opened_bytes};
 ghost use Rattle.path_read.specs.declared.stop.WriteStop.TheVariants as writes;
 
 use crate::WriteStop;
@@ -95,6 +95,7 @@ pub fn cat<S: BlockSource, W: Sink>(
 ) -> Result<(), WriteStop>
     requires site { IsSiteFor site.now (S.bytes_len src.old) }
     ensures exact { (image : List ℕ) → S.bytes src.old ≡ Some image → IsLawful image site.now volume.now view.now → IsWritten (W.contents out.old) (W.contents out.new) (spec.contents site.now.block_size image (view_facts image site.now volume.now view.now) path.now) result }
+    ensures text { HasPart (W.contents out.old) (W.contents out.new) (S.bytes src.old) (λ image. IsLawful image site.now volume.now view.now) (λ image. spec.contents site.now.block_size image (view_facts image site.now volume.now view.now) path.now) result }
     ensures untouched { IfErr result (IsUntouched (W.contents out.old) (W.contents out.new)) }
     ensures present { (image : List ℕ) → S.bytes src.old ≡ Some image → IfErr result (IsWriteStopThere image site.now volume.now view.now) }
     ensures read_cause { result ≡ Err (writes.Stopped ReadFault) → Rose (S.faults src.old) (S.faults src.new) }

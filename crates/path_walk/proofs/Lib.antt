@@ -16,3 +16,4 @@ pub mod Listed
 pub mod Told
 pub mod Memos
 pub mod Entered
+pub mod Staying

@@ -21,7 +21,7 @@ use Rattle.path_walk.proofs.Known.{along_on, along_stops}
 pub ok_same : {T E : Type 0} (x y : T) → ◌≡◌ {A = Result T E} (Ok x) (Ok y) → y ≡ x
 ok_same x y e = cc
 
-drop-all : {X : Type 0} (xs : List X) → drop (length xs) xs ≡ []
+pub drop-all : {X : Type 0} (xs : List X) → drop (length xs) xs ≡ []
 drop-all [] = refl
 drop-all (x ∷ xs) = drop-all xs
 

@@ -27,15 +27,15 @@ use Rattle.path_walk.proofs.Laws.{number_of_the_entry, ok-err}
 use Rattle.path_walk.proofs.Rows.{place-file}
 use Rattle.path_walk.proofs.Known.{step_file}
 
-same-number : (a b : ℕ) → is_eq (nat_cmp a b) ≡ true → a ≡ b
-same-number a b e = grind arith
+pub same_number : (a b : ℕ) → is_eq (nat_cmp a b) ≡ true → a ≡ b
+same_number a b e = grind arith
 
 -- a spot that is kept of a directory
 pub memo_put : (facts : Facts) (path : List ℕ) (old new : BTreeMap ℕ (ℕ × ℕ)) (id : ℕ) (s : ℕ × ℕ) → IsMemo facts path old → Updates nat_cmp old new id (Some s) → IsMet facts path (spot_in s.0 s.1) → IsEntryOf facts (spot_in s.0 s.1) id → IsMemo facts path new
 memo_put facts path old new id s memo updates met entry q =
     let Good : Option (ℕ × ℕ) → Type 0 = λ o. IfSome o (λ t. IsMet facts path (spot_in t.0 t.1) × IsEntryOf facts (spot_in t.0 t.1) q) in
     let go : (b : Bool) → is_at (nat_cmp id) q ≡ b → Good (cond b (Some s) (get nat_cmp old q)) = λ b. elim b as (λ b. is_at (nat_cmp id) q ≡ b → Good (cond b (Some s) (get nat_cmp old q))) [
-      | true ↦ λ e. (met, subst (λ i. IsEntryOf facts (spot_in s.0 s.1) i) (same-number id q e) entry)
+      | true ↦ λ e. (met, subst (λ i. IsEntryOf facts (spot_in s.0 s.1) i) (same_number id q e) entry)
       | false ↦ λ e. memo q
     ] in
     subst Good (sym (updates.0 q)) (go (is_at (nat_cmp id) q) refl)
@@ -101,8 +101,8 @@ taken-next facts names place next name s there h =
     in-cons (spot_named facts place name) s (through (value_of (step facts place name)) (λ (p : Place). taken_from facts names p))
     (subst (λ (r : Result Place Answer). In s (through (value_of r) (λ (p : Place). taken_from facts names p))) (sym there) h)
 
-step-directory : (facts : Facts) (place next : Place) (name : List ℕ) → step facts place name ≡ Ok next → is_directory place.inode ≡ true
-step-directory facts place next name e = elim (test_or (is_directory place.inode)) as (λ _. is_directory place.inode ≡ true) [
+pub step_directory : (facts : Facts) (place next : Place) (name : List ℕ) → step facts place name ≡ Ok next → is_directory place.inode ≡ true
+step_directory facts place next name e = elim (test_or (is_directory place.inode)) as (λ _. is_directory place.inode ≡ true) [
   | inl is ↦ is
   | inr isnt ↦ let h : Err NotDirectory ≡ Ok next = sym (step_file facts place name isnt) ∙ e in absurd (ok-err next NotDirectory (sym h))
 ]
@@ -117,7 +117,7 @@ entry-followed facts (Some x) next e = (x, (refl, some-placed (place_by facts x)
 
 step-entry : (facts : Facts) (place next : Place) (name : List ℕ) (number : ℕ) → step facts place name ≡ Ok next → number_named facts.names name (entries_in facts place.id) ≡ Some number → (inode_at facts next.id ≡ Some next.inode) × IsEntryOf facts (spot_in place.id number) next.id
 step-entry facts place next name number there named =
-    let directory = step-directory facts place next name there in
+    let directory = step_directory facts place next name there in
     let f : followed facts (entry_named facts.names name (entries_in facts place.id)) ≡ Ok next = sym (ap (λ b. cond (not b) (Err NotDirectory) (followed facts (entry_named facts.names name (entries_in facts place.id)))) directory) ∙ there in
     let t = entry-followed facts (entry_named facts.names name (entries_in facts place.id)) next f in
     let file = place-file facts t.0 next t.1.1 in
@@ -126,7 +126,7 @@ step-entry facts place next name number there named =
 taken-by : (facts : Facts) (path : List ℕ) (names : List (List ℕ)) (place next : Place) (name : List ℕ) → step facts place name ≡ Ok next → ((s : Spot) → In s (taken_from facts (name ∷ names) place) → In s (taken facts path)) → IsTaken facts path place.id name next
 taken-by facts path names place next name there kept component number named =
     let t = step-entry facts place next name number there named in
-    (kept (spot_in place.id number) (taken-first facts names place name number (step-directory facts place next name there) named), t.0, t.1)
+    (kept (spot_in place.id number) (taken-first facts names place name number (step_directory facts place next name there) named), t.0, t.1)
 
 -- one part on
 pub taken_part : (facts : Facts) (path : List ℕ) (parts : List (List ℕ)) (place next : Place) (part : List ℕ) → by_part facts place part ≡ Ok next → ((s : Spot) → In s (taken_from facts (filter is_component (part ∷ parts)) place) → In s (taken facts path)) →

@@ -36,7 +36,7 @@ use Rattle.path_walk.specs.Paths.{slash, is_component}
 use Rattle.path_walk.specs.Places.{Place, root_of, target_of}
 use Rattle.path_walk.specs.Found.{entries_in, place_by, step, walk, found}
 use Rattle.path_walk.specs.Listing.{children}
-use Rattle.path_walk.specs.Met.{Spot, spot_in, number_named, taken_from, taken, IsEntryOf, IsEntered, IsMet, IsMetTwice}
+use Rattle.path_walk.specs.Met.{Spot, spot_in, number_named, taken_from, taken, is_user_id, IsEntryOf, IsEntered, IsMet, IsMetTwice}
 use Rattle.path_walk.specs.declared.answer.Answer.{Answer}
 use Rattle.path_walk.specs.declared.answer.Answer.TheVariants.{NotFound}
 use Rattle.path_walk.specs.declared.stop.PathStop.{PathStop}
@@ -225,6 +225,35 @@ told_from facts (suc n) (row ∷ rows) = row ∷ told_from facts n (told_under f
 -- each spot that is kept of a directory is one that the tree of a path meets, and its entry names the directory
 abbrev pub IsMemo : Facts → List ℕ → BTreeMap ℕ (ℕ × ℕ) → Type 0
 IsMemo facts path memo = (id : ℕ) → IfSome (get nat_cmp memo id) (λ s. IsMet facts path (spot_in s.0 s.1) × IsEntryOf facts (spot_in s.0 s.1) id)
+
+-- the spot of an entry that names a directory of 16 or more is the one that is kept of it
+abbrev pub IsKeptAt : Facts → BTreeMap ℕ (ℕ × ℕ) → Spot → Type 0
+IsKeptAt facts memo spot = (id : ℕ) → IsEntryOf facts spot id → is_user_id facts id ≡ true → get nat_cmp memo id ≡ Some (spot.id, spot.number)
+
+-- the spots of all entries of a directory are kept so
+abbrev pub AreKeptIn : Facts → BTreeMap ℕ (ℕ × ℕ) → ℕ → Type 0
+AreKeptIn facts memo id = (number : ℕ) → IsKeptAt facts memo (spot_in id number)
+
+-- the spots of all entries of directories that rows name and that are entered are kept so
+abbrev pub AreRowsKept : Facts → BTreeMap ℕ (ℕ × ℕ) → List (List ℕ × Target) → Type 0
+AreRowsKept facts memo rows = (row : List ℕ × Target) → In row rows → is_opened_target row.1 ≡ true → AreKeptIn facts memo row.1.id
+
+-- what is kept of a directory stays
+abbrev pub StaysKept : BTreeMap ℕ (ℕ × ℕ) → BTreeMap ℕ (ℕ × ℕ) → Type 0
+StaysKept old new = (id : ℕ) (s : ℕ × ℕ) → get nat_cmp old id ≡ Some s → get nat_cmp new id ≡ Some s
+
+-- the spot of the entry that a part of a path takes in a directory is kept so
+abbrev pub KeepsTaken : Facts → BTreeMap ℕ (ℕ × ℕ) → ℕ → List ℕ → Type 0
+KeepsTaken facts memo id part = is_component part ≡ true → (number : ℕ) → number_named facts.names part (entries_in facts id) ≡ Some number → IsKeptAt facts memo (spot_in id number)
+
+-- of the spots that some parts take from a place on, each is kept so, or is one that other parts take from another place on
+abbrev pub KeepsFrom : Facts → BTreeMap ℕ (ℕ × ℕ) → List (List ℕ) → Place → List (List ℕ) → Place → Type 0
+KeepsFrom facts memo parts place rest next =
+    (s : Spot) → In s (taken_from facts (filter is_component parts) place) → IsKeptAt facts memo s ⊎ In s (taken_from facts (filter is_component rest) next)
+
+-- each spot that a path takes is kept so
+abbrev pub KeepsPath : Facts → BTreeMap ℕ (ℕ × ℕ) → List ℕ → Type 0
+KeepsPath facts memo path = (s : Spot) → In s (taken facts path) → IsKeptAt facts memo s
 
 -- DirNames of a tree, as it is told
 abbrev pub IsRepeat : Facts → View → List ℕ → TreeFault → Type 0

@@ -1,11 +1,12 @@
 // What is under a directory of a view.
-ghost use Rattle.std.specs.Prelude.{◌≡◌, ℕ, List, Some, IfErr, IsErrOf};
+ghost use Rattle.std.specs.Prelude.{◌≡◌, ℕ, List, Some, IfOk, IfErr, IsErrOf};
 ghost use Rattle.apfs_model.specs.Counts.{Rose};
 ghost use Rattle.apfs_model.specs.Source.{IsKept};
 ghost use Rattle.obj_base.specs.declared.stop.Stop.TheVariants.{Found, ReadFault};
 ghost use Rattle.obj_base.specs.Site.{IsSiteFor};
 ghost use Rattle.fs_record.specs.declared.fault.TreeFault.{TreeFault};
 ghost use Rattle.view_rules.specs.Rules.{view_facts};
+ghost use Rattle.path_walk.specs.Met.{IsShownTwice};
 ghost use Rattle.path_walk.specs.Tree as spec;
 ghost use Rattle.path_walk.specs.Stops.{IsLawful, IsGiven, IsStopThere, IsTold};
 ghost use Rattle.path_walk.specs.declared.stop.PathStop.TheVariants as stops;
@@ -36,6 +37,7 @@ pub fn tree<S: BlockSource>(
     ensures exact { (image : List ℕ) → S.bytes src.old ≡ Some image → IsLawful image site.now volume.now view.now → IsGiven (λ rows. rows.items) (spec.tree (view_facts image site.now volume.now view.now) path.now) result }
     ensures present { (image : List ℕ) → S.bytes src.old ≡ Some image → IfErr result (IsStopThere image site.now volume.now view.now) }
     ensures told { (image : List ℕ) → S.bytes src.old ≡ Some image → (fault : TreeFault) → IsErrOf result (Found (stops.Fault fault)) → IsTold (view_facts image site.now volume.now view.now) path.now fault }
+    ensures clear { (image : List ℕ) → S.bytes src.old ≡ Some image → IfOk result (λ rows. (id : ℕ) → IsShownTwice (view_facts image site.now volume.now view.now) path.now rows.items id → ⊥) }
     ensures cause { IsErrOf result ReadFault → Rose (S.faults src.old) (S.faults src.new) }
     ensures kept { IsKept S.bytes S.bytes_len S.faults src.old src.new }
 {

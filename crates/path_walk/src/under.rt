@@ -1,5 +1,7 @@
 // What is under a directory, depth first, by the entries and the inodes of a view in memory.
-ghost use Rattle.std.specs.Prelude.{◌≡◌, ◌++◌, ℕ, IsErrOf, true, false, List, [], ◌∷◌, map, reverse, length, IfOk, IfErr, OnOk, Ok};
+ghost use Rattle.std.specs.Prelude.{◌≡◌, ◌++◌, ℕ, IsErrOf, true, false, List, [], ◌∷◌, map, reverse, length, Some, IfOk, IfErr, OnOk, Ok};
+ghost use Rattle.std.specs.BTreeMap.{get};
+ghost use Rattle.std.specs.Ordering.{nat_cmp};
 ghost use Rattle.obj_base.specs.declared.stop.Stop.TheVariants as stops;
 ghost use Rattle.obj_base.specs.declared.stop.Stop.TheVariants.{ReadFault};
 ghost use Rattle.view_rules.specs.Facts.{Facts};
@@ -8,8 +10,8 @@ ghost use Rattle.path_walk.specs.Places.{target_of};
 ghost use Rattle.path_walk.specs.Found.{found};
 ghost use Rattle.path_walk.specs.Listing.{children};
 ghost use Rattle.path_walk.specs.Tree as spec;
-ghost use Rattle.path_walk.specs.Met.{spot_in, is_user_id, IsEntryOf, IsEntered, IsMet, IsMetTwice};
-ghost use Rattle.path_walk.specs.Parts.{whats, by_part, along, targets_by, is_opened_target, told_after, told_of, told_under, told_from, IsMemo, IsTaken, TakesFrom, HasAll, IsUnderway, Remembers, IsTreeStop, IsTreeKnown};
+ghost use Rattle.path_walk.specs.Met.{spot_in, is_user_id, IsEntryOf, IsEntered, IsMet, IsMetTwice, IsShownTwice};
+ghost use Rattle.path_walk.specs.Parts.{whats, by_part, along, targets_by, is_opened_target, told_after, told_of, told_under, told_from, IsMemo, IsTaken, TakesFrom, HasAll, IsUnderway, Remembers, IsTreeStop, IsTreeKnown, StaysKept, AreKeptIn, AreRowsKept, KeepsTaken, KeepsFrom, KeepsPath};
 
 use crate::by_memory::{go_by, place_in, root};
 use crate::by_search::ROOT;
@@ -55,6 +57,8 @@ fn keep_spot(
 ) -> Result<bool, NoMemory>
     ensures kept { (facts : Facts) (path : List ℕ) → IsMemo facts path memo.old → IsMet facts path (spot_in spot.0 spot.1) → IsEntryOf facts (spot_in spot.0 spot.1) id → OnOk result (IsMemo facts path memo.new) }
     ensures twice { (facts : Facts) (path : List ℕ) → IsMemo facts path memo.old → IsMet facts path (spot_in spot.0 spot.1) → IsEntryOf facts (spot_in spot.0 spot.1) id → is_user_id facts id ≡ true → IfOk result (λ same. same ≡ false → IsMetTwice facts path id) }
+    ensures stays { OnOk result (StaysKept memo.old memo.new) }
+    ensures holds { IfOk result (λ same. same ≡ true → get nat_cmp memo.new id ≡ Some spot) }
 {
     let before = memo.get(&id).copied();
     match before {
@@ -78,6 +82,8 @@ fn meet(
     ensures no_read { IsErrOf result ReadFault → ⊥ }
     ensures kept { (facts : Facts) (path : List ℕ) → IsMemo facts path memo.old → IsMet facts path (spot_in spot.0 spot.1) → IsEntryOf facts (spot_in spot.0 spot.1) id → OnOk result (IsMemo facts path memo.new) }
     ensures stops { (facts : Facts) (path : List ℕ) → IsMemo facts path memo.old → IsMet facts path (spot_in spot.0 spot.1) → IsEntryOf facts (spot_in spot.0 spot.1) id → (opened ≡ true → is_user_id facts id ≡ true) → IfErr result (IsTreeStop facts view.now path) }
+    ensures stays { OnOk result (StaysKept memo.old memo.new) }
+    ensures holds { opened ≡ true → OnOk result (get nat_cmp memo.new id ≡ Some spot) }
 {
     if !opened {
         return Ok(());
@@ -107,6 +113,7 @@ fn meet_entries(
     ensures gives { (facts : Facts) (path : List ℕ) (first : ℕ) → IsUnderway facts path first files.now.entries.items files.now.inodes.items → IsEntered facts first id → HasAll facts id entries.now → IsMemo facts path memo.old → IfOk result (λ targets. targets.items ≡ targets_by facts (whats entries.now)) }
     ensures kept { (facts : Facts) (path : List ℕ) (first : ℕ) → IsUnderway facts path first files.now.entries.items files.now.inodes.items → IsEntered facts first id → HasAll facts id entries.now → IsMemo facts path memo.old → OnOk result (IsMemo facts path memo.new) }
     ensures stops { (facts : Facts) (path : List ℕ) (first : ℕ) → IsUnderway facts path first files.now.entries.items files.now.inodes.items → IsEntered facts first id → HasAll facts id entries.now → IsMemo facts path memo.old → IfErr result (IsTreeStop facts view.now path) }
+    ensures all { (facts : Facts) (path : List ℕ) (first : ℕ) → IsUnderway facts path first files.now.entries.items files.now.inodes.items → IsEntered facts first id → HasAll facts id entries.now → IsMemo facts path memo.old → OnOk result (StaysKept memo.old memo.new × AreKeptIn facts memo.new id) }
 {
     let mut targets = Vec::new(alloc);
     for (number, entry) in entries.iter().enumerate() {
@@ -136,6 +143,7 @@ fn enter(
     ensures gives { (facts : Facts) (path : List ℕ) (first : ℕ) → IsUnderway facts path first files.now.entries.items files.now.inodes.items → IsEntered facts first id → IsMemo facts path memo.old → IfOk result (λ targets. targets.items ≡ map target_of (children facts id)) }
     ensures kept { (facts : Facts) (path : List ℕ) (first : ℕ) → IsUnderway facts path first files.now.entries.items files.now.inodes.items → IsEntered facts first id → IsMemo facts path memo.old → OnOk result (IsMemo facts path memo.new) }
     ensures stops { (facts : Facts) (path : List ℕ) (first : ℕ) → IsUnderway facts path first files.now.entries.items files.now.inodes.items → IsEntered facts first id → IsMemo facts path memo.old → IfErr result (IsTreeStop facts view.now path) }
+    ensures all { (facts : Facts) (path : List ℕ) (first : ℕ) → IsUnderway facts path first files.now.entries.items files.now.inodes.items → IsEntered facts first id → IsMemo facts path memo.old → OnOk result (StaysKept memo.old memo.new × AreKeptIn facts memo.new id) }
 {
     let targets = match meet_entries(alloc, files, view, memo, id, files.directory(id)) {
         Ok(targets) => targets,
@@ -222,6 +230,7 @@ fn go_under(
     ensures gives { (facts : Facts) (path : List ℕ) (first : ℕ) → IsUnderway facts path first files.now.entries.items files.now.inodes.items → (is_opened_target row.now.1 ≡ true → IsEntered facts first row.now.1.id) → IsMemo facts path memo.old → OnOk result (reverse left.new.items ≡ told_under facts row.now ++ reverse left.old.items) }
     ensures kept { (facts : Facts) (path : List ℕ) (first : ℕ) → IsUnderway facts path first files.now.entries.items files.now.inodes.items → (is_opened_target row.now.1 ≡ true → IsEntered facts first row.now.1.id) → IsMemo facts path memo.old → OnOk result (IsMemo facts path memo.new) }
     ensures stops { (facts : Facts) (path : List ℕ) (first : ℕ) → IsUnderway facts path first files.now.entries.items files.now.inodes.items → (is_opened_target row.now.1 ≡ true → IsEntered facts first row.now.1.id) → IsMemo facts path memo.old → IfErr result (IsTreeStop facts view.now path) }
+    ensures all { (facts : Facts) (path : List ℕ) (first : ℕ) → IsUnderway facts path first files.now.entries.items files.now.inodes.items → (is_opened_target row.now.1 ≡ true → IsEntered facts first row.now.1.id) → IsMemo facts path memo.old → OnOk result (StaysKept memo.old memo.new × (is_opened_target row.now.1 ≡ true → AreKeptIn facts memo.new row.now.1.id)) }
 {
     if !is_opened(&row.1) {
         return Ok(());
@@ -248,6 +257,7 @@ fn rows_below(
     ensures no_read { IsErrOf result ReadFault → ⊥ }
     ensures gives { (facts : Facts) (path : List ℕ) → IsUnderway facts path id files.now.entries.items files.now.inodes.items → IsMemo facts path memo.old → IfOk result (λ rows. rows.items ≡ told_from facts (length facts.entries) (told_of facts [] id)) }
     ensures stops { (facts : Facts) (path : List ℕ) → IsUnderway facts path id files.now.entries.items files.now.inodes.items → IsMemo facts path memo.old → IfErr result (IsTreeStop facts view.now path) }
+    ensures all { (facts : Facts) (path : List ℕ) → IsUnderway facts path id files.now.entries.items files.now.inodes.items → IsMemo facts path memo.old → IfOk result (λ rows. StaysKept memo.old memo.new × (AreKeptIn facts memo.new id × AreRowsKept facts memo.new rows.items)) }
 {
     let targets = match enter(alloc, files, view, memo, id) {
         Ok(targets) => targets,
@@ -287,6 +297,7 @@ fn keep_part(
     ensures no_read { IsErrOf result ReadFault → ⊥ }
     ensures kept { (facts : Facts) (path : List ℕ) → facts.names ≡ names → Remembers facts files.now.entries.items files.now.inodes.items → IsMemo facts path memo.old → IsTaken facts path place part.now next.now → OnOk result (IsMemo facts path memo.new) }
     ensures stops { (facts : Facts) (path : List ℕ) → facts.names ≡ names → Remembers facts files.now.entries.items files.now.inodes.items → IsMemo facts path memo.old → IsTaken facts path place part.now next.now → IfErr result (IsTreeStop facts view.now path) }
+    ensures all { (facts : Facts) (path : List ℕ) → facts.names ≡ names → Remembers facts files.now.entries.items files.now.inodes.items → IsMemo facts path memo.old → IsTaken facts path place part.now next.now → OnOk result (StaysKept memo.old memo.new × KeepsTaken facts memo.new place part.now) }
 {
     if part.is_empty() {
         return Ok(());
@@ -315,6 +326,7 @@ fn trace_part(
     ensures known { (facts : Facts) (path : List ℕ) (rest : List (List ℕ)) → facts.names ≡ names → Remembers facts files.now.entries.items files.now.inodes.items → IsMemo facts path memo.old → TakesFrom facts path (part.now ∷ rest) place → IsTreeKnown facts view.now path (λ place. place) (by_part facts place part.now) result }
     ensures kept { (facts : Facts) (path : List ℕ) (rest : List (List ℕ)) → facts.names ≡ names → Remembers facts files.now.entries.items files.now.inodes.items → IsMemo facts path memo.old → TakesFrom facts path (part.now ∷ rest) place → OnOk result (IsMemo facts path memo.new) }
     ensures taken { (facts : Facts) (path : List ℕ) (rest : List (List ℕ)) → facts.names ≡ names → Remembers facts files.now.entries.items files.now.inodes.items → IsMemo facts path memo.old → TakesFrom facts path (part.now ∷ rest) place → IfOk result (TakesFrom facts path rest) }
+    ensures all { (facts : Facts) (path : List ℕ) (rest : List (List ℕ)) → facts.names ≡ names → Remembers facts files.now.entries.items files.now.inodes.items → IsMemo facts path memo.old → TakesFrom facts path (part.now ∷ rest) place → IfOk result (λ next. StaysKept memo.old memo.new × KeepsFrom facts memo.new (part.now ∷ rest) place rest next) }
 {
     let id = place.id;
     let next = match go_by(alloc, files, names, view, place, part) {
@@ -340,6 +352,7 @@ fn trace_along(
     ensures no_read { IsErrOf result ReadFault → ⊥ }
     ensures known { (facts : Facts) (path : List ℕ) → facts.names ≡ names → Remembers facts files.now.entries.items files.now.inodes.items → IsMemo facts path memo.old → TakesFrom facts path (map (λ part. part.now) parts.now) start → IsTreeKnown facts view.now path (λ place. place) (along facts (map (λ part. part.now) parts.now) start) result }
     ensures kept { (facts : Facts) (path : List ℕ) → facts.names ≡ names → Remembers facts files.now.entries.items files.now.inodes.items → IsMemo facts path memo.old → TakesFrom facts path (map (λ part. part.now) parts.now) start → OnOk result (IsMemo facts path memo.new) }
+    ensures all { (facts : Facts) (path : List ℕ) → facts.names ≡ names → Remembers facts files.now.entries.items files.now.inodes.items → IsMemo facts path memo.old → TakesFrom facts path (map (λ part. part.now) parts.now) start → IfOk result (KeepsFrom facts memo.new (map (λ part. part.now) parts.now) start []) }
 {
     let mut place = start;
     for part in parts {
@@ -363,6 +376,7 @@ fn trace(
     ensures no_read { IsErrOf result ReadFault → ⊥ }
     ensures known { (facts : Facts) → facts.names ≡ names → Remembers facts files.now.entries.items files.now.inodes.items → IsMemo facts path.now memo.old → IsTreeKnown facts view.now path.now (λ place. place) (found facts path.now) result }
     ensures kept { (facts : Facts) → facts.names ≡ names → Remembers facts files.now.entries.items files.now.inodes.items → IsMemo facts path.now memo.old → OnOk result (IsMemo facts path.now memo.new) }
+    ensures all { (facts : Facts) → facts.names ≡ names → Remembers facts files.now.entries.items files.now.inodes.items → IsMemo facts path.now memo.old → OnOk result (KeepsPath facts memo.new path.now) }
 {
     let parts = parts(alloc, path)?;
     let root = match root(alloc, files, view) {
@@ -385,6 +399,7 @@ pub(crate) fn tree_in(
 ) -> Result<Vec<(Bytes, Target)>, Stop<PathStop>>
     ensures no_read { IsErrOf result ReadFault → ⊥ }
     ensures known { (facts : Facts) → facts.names ≡ names → Remembers facts files.now.entries.items files.now.inodes.items → IsTreeKnown facts view.now path.now (λ rows. rows.items) (spec.tree facts path.now) result }
+    ensures clear { (facts : Facts) → facts.names ≡ names → Remembers facts files.now.entries.items files.now.inodes.items → IfOk result (λ rows. (id : ℕ) → IsShownTwice facts path.now rows.items id → ⊥) }
 {
     let mut memo = BTreeMap::new(alloc);
     let place = match trace(alloc, files, names, view, &mut memo, path) {

@@ -1,5 +1,7 @@
 -- What a fact that breaks a rule shows.
-use Rattle.std.proofs.Common.{◌≡◌, ℕ, Bool, true, false, List, Option, Some, None, ◌⊎◌, inl, inr, refl, ap, sym, ◌∙◌, subst}
+use Rattle.std.proofs.Common.{◌≡◌, ℕ, Bool, true, false, List, Option, Some, None, inl, inr, refl, ap, sym, ◌∙◌, subst}
+use Rattle.std.specs.Prelude.{option_map}
+use Rattle.std.specs.Option.{option_or}
 use Rattle.std.specs.List.{find}
 use Rattle.fs_record.specs.Inodes.{Inode}
 use Rattle.fs_record.specs.Entries.{Entry}
@@ -13,24 +15,33 @@ use Rattle.fs_record.specs.declared.fault.TreeFault.{TreeFault}
 use Rattle.fs_record.specs.declared.fault.TreeFault.TheVariants.{DupName, Hash, NoParent, NoInode, KindMismatch, DirNames, Unreached, Children, Links, SiblingLost, ExtentOrder, ExtentPlace, ExtentUncovered, LinkTarget, Stream, AttrOwner, NameHash}
 use Rattle.view_rules.specs.Words.{IsClear, IsBroken}
 use Rattle.view_rules.specs.Facts.{Facts, id_of_fact}
-use Rattle.view_rules.specs.Names.{HasDistinctEntries, HasDistinctAttributes, HasAsciiHashes, HasNameHashes, entry_place, attribute_place, is_entry_repeated, is_attribute_repeated, has_other_ascii_hash, has_other_name_hash}
-use Rattle.view_rules.specs.Entries.{HasParents, HasFiles, HasKinds, lacks_parent, lacks_inode, has_root, has_other_kind}
-use Rattle.view_rules.specs.Directories.{HasDirNames, HasWays, is_misnamed, is_root_named, IsUnreached}
-use Rattle.view_rules.specs.Counts.{HasChildren, HasLinks, has_other_children, has_other_links}
-use Rattle.view_rules.specs.Siblings.{HasEntryFellows, HasLinkFellows, HasMapFellows, HasMarks, is_entry_lost, is_link_lost, is_map_lost, is_unmarked, sibling_place, link_place, file_place}
-use Rattle.view_rules.specs.Extents.{HasExtentOrder, HasExtentPlaces, HasCover, IsExtentOrder, is_misplaced, is_uncovered}
-use Rattle.view_rules.specs.Inodes.{HasTargets, HasStreamSizes, HasBodySizes, HasOwners, lacks_target, has_large_stream, has_large_body, lacks_owner}
+use Rattle.view_rules.specs.Names.{entry_place, attribute_place, is_entry_repeated, is_attribute_repeated, has_other_ascii_hash, has_other_name_hash}
+use Rattle.view_rules.specs.Entries.{lacks_parent, lacks_inode, has_root, has_other_kind}
+use Rattle.view_rules.specs.Directories.{is_misnamed, is_root_named, IsUnreached}
+use Rattle.view_rules.specs.Counts.{has_other_children, has_other_links}
+use Rattle.view_rules.specs.Siblings.{HasEntryFellows, is_entry_lost, is_link_lost, is_map_lost, is_unmarked, sibling_place, link_place, file_place}
+use Rattle.view_rules.specs.Extents.{IsExtentOrder, is_misplaced, is_uncovered}
+use Rattle.view_rules.specs.Inodes.{lacks_target, has_large_stream, has_large_body, lacks_owner}
 use Rattle.view_rules.specs.declared.profile.Profile.TheVariants.{Strict}
 use Rattle.apfs_model.proofs.BoolTests.{clash}
 use Rattle.apfs_model.proofs.Searches.{found-in}
 use Rattle.rule_breaks.proofs.Finds.{none-clear, found-broken}
 use Rattle.rule_breaks.proofs.FellowLooks.{lost_none}
 use Rattle.rule_faults.specs.declared.faults.Asked.{Asked}
-use Rattle.rule_faults.specs.Faults.{id_at, named_at, IsShown}
+use Rattle.rule_faults.specs.Faults.{id_at, named_at, IsShown, IsFirst}
 
 -- where nothing is found no item breaks the rule
 pub none_clear : {X : Type 0} (breaks : X → Bool) (xs : List X) → None ≡ find breaks xs → IsClear breaks xs
 none_clear breaks xs none = none-clear breaks xs (sym none)
+
+-- some rules hold and some more, or the first fault that is given is there
+first-of : (asked : Asked) (facts : Facts) (A B : Type 0) (one other : Option TreeFault) → IsFirst asked facts A one → IsFirst asked facts B other → IsFirst asked facts (A × B) (option_or one other)
+first-of asked facts A B (Some f) other there more = there
+first-of asked facts A B None (Some g) holds there = there
+first-of asked facts A B None None holds more = (holds, more)
+
+pub both : (asked : Asked) (facts : Facts) (A B : Type 0) (one other first : Option TreeFault) → first ≡ option_or one other → IsFirst asked facts A one → IsFirst asked facts B other → IsFirst asked facts (A × B) first
+both asked facts A B one other first is here there = subst (λ o. IsFirst asked facts (A × B) o) (sym is) (first-of asked facts A B one other here there)
 
 pub entry_twice : (asked : Asked) (facts : Facts) (x : Fact Entry) (n : ℕ) (name : List ℕ) (at : NamedAt) → Some x ≡ find (is_entry_repeated facts) facts.entries → n ≡ x.id → name ≡ x.what.name → at ≡ named_at asked.view.now n name → IsShown asked facts (DupName at)
 entry_twice asked facts x n name at found called named is = subst (λ (y : NamedAt). IsShown asked facts (DupName y)) (sym (is ∙ (λ i. named_at asked.view.now (called i) (named i)))) ((refl, refl), inl (found-broken (is_entry_repeated facts) entry_place facts.entries x (sym found)))
@@ -89,13 +100,16 @@ body asked facts x n at found called is = subst (λ (y : IdAt). IsShown asked fa
 pub owner : (asked : Asked) (facts : Facts) (x : Fact Attribute) (n : ℕ) (at : IdAt) → Some x ≡ find (lacks_owner facts) facts.attributes → n ≡ x.id → at ≡ id_at asked.view.now n → IsShown asked facts (AttrOwner at)
 owner asked facts x n at found called is = subst (λ (y : IdAt). IsShown asked facts (AttrOwner y)) (sym (is ∙ ap (id_at asked.view.now) called)) ((refl, refl), found-broken (lacks_owner facts) id_of_fact facts.attributes x (sym found))
 
-pub lost_entry : (asked : Asked) (facts : Facts) (x : Fact Entry) (s : ℕ) (at : IdAt) → Some x ≡ find (is_entry_lost facts) facts.entries → Some s ≡ x.what.sibling → at ≡ id_at asked.view.now s → IsShown asked facts (SiblingLost at)
-lost_entry asked facts x s at found twin is =
-    subst (λ (y : IdAt). IsShown asked facts (SiblingLost y)) (sym is) ((refl, refl), inl (subst (λ o. IsBroken (is_entry_lost facts) sibling_place facts.entries o) (sym twin) (found-broken (is_entry_lost facts) sibling_place facts.entries x (sym found))))
-
--- an entry that lacks its fellows is of a sibling
-pub of_sibling : (facts : Facts) (x : Fact Entry) → Some x ≡ find (is_entry_lost facts) facts.entries → x.what.sibling ≡ None → ⊥
-of_sibling facts x found none = clash (is_entry_lost facts x) (found-in (is_entry_lost facts) facts.entries x (sym found)).1 (lost_none facts x none)
+-- an entry that lacks its fellows is of a sibling, and that is the one named
+pub lost_entry : (asked : Asked) (facts : Facts) (x : Fact Entry) (first : Option TreeFault) → Some x ≡ find (is_entry_lost facts) facts.entries → first ≡ option_map (λ s. SiblingLost (id_at asked.view.now s)) x.what.sibling → IsFirst asked facts (HasEntryFellows facts) first
+lost_entry asked facts x first found is =
+    let there : IsBroken (is_entry_lost facts) sibling_place facts.entries (sibling_place x) = found-broken (is_entry_lost facts) sibling_place facts.entries x (sym found) in
+    let go : (o : Option ℕ) → x.what.sibling ≡ o → IsFirst asked facts (HasEntryFellows facts) (option_map (λ s. SiblingLost (id_at asked.view.now s)) o) =
+    λ o. elim o as (λ o. x.what.sibling ≡ o → IsFirst asked facts (HasEntryFellows facts) (option_map (λ s. SiblingLost (id_at asked.view.now s)) o)) [
+      | None ↦ λ none. absurd (clash (is_entry_lost facts x) (found-in (is_entry_lost facts) facts.entries x (sym found)).1 (lost_none facts x none))
+      | Some s ↦ λ twin. ((refl, refl), inl (subst (λ p. IsBroken (is_entry_lost facts) sibling_place facts.entries p) twin there))
+    ] in
+    subst (λ y. IsFirst asked facts (HasEntryFellows facts) y) (sym is) (go x.what.sibling refl)
 
 pub order : (asked : Asked) (facts : Facts) (id : ℕ) (at : IdAt) → at ≡ id_at asked.view.now id → IsExtentOrder asked.site.now.block_size facts id → IsShown asked facts (ExtentOrder at)
 order asked facts id at is there = subst (λ (y : IdAt). IsShown asked facts (ExtentOrder y)) (sym is) ((refl, refl), there)

@@ -6,10 +6,11 @@ ghost use Rattle.fs_record.specs.Entries.{Entry};
 ghost use Rattle.fs_record.specs.Facts.{Fact};
 ghost use Rattle.view_rules.specs.Facts.{is_directory};
 ghost use Rattle.view_rules.specs.Names as names;
+ghost use Rattle.rule_faults.specs.Faults as faults;
 ghost use Rattle.rule_index.specs.Ids.{CountsIds};
 ghost use Rattle.tree_rules.specs.Notes as spec;
 
-use crate::Note;
+use crate::{Note, Profile};
 use apfs_model::Bytes;
 use blk_source::NoMemory;
 use fs_name::name_hash;
@@ -51,6 +52,19 @@ pub(crate) fn other_name_hash(alloc: Global, facts: &Facts) -> Result<Option<&En
     Ok(None)
 }
 
+/// The place of an entry and its name.
+pub(crate) fn named_at(alloc: Global, view: &View, e: &EntryFact) -> Result<NamedAt, NoMemory>
+    ensures { IfOk result (λ at. at ≡ faults.named_at view.now e.now.id e.now.what.name) }
+{
+    let name = Bytes::from_slice(alloc, e.name().as_bytes())?;
+    Ok(NamedAt {
+        slot: view.slot,
+        xid: view.xid,
+        id: e.id(),
+        name,
+    })
+}
+
 // The note of an entry, where its name isn't ASCII and its key has another hash.
 fn hash_note(
     alloc: Global,
@@ -63,13 +77,8 @@ fn hash_note(
     if !has_other_hash(alloc, facts, e)? {
         return Ok(None);
     }
-    let name = Bytes::from_slice(alloc, e.name().as_bytes())?;
-    Ok(Some(Note::Hash(NamedAt {
-        slot: view.slot,
-        xid: view.xid,
-        id: e.id(),
-        name,
-    })))
+    let at = named_at(alloc, view, e)?;
+    Ok(Some(Note::Hash(at)))
 }
 
 // Puts a note after the others, where there is one.
@@ -85,8 +94,8 @@ fn put(notes: &mut Vec<Note>, note: Option<Note>) -> Result<(), NoMemory>
     }
 }
 
-/// The notes on hashes, in record order.
-pub(crate) fn hash_notes(alloc: Global, view: &View, facts: &Facts) -> Result<Vec<Note>, NoMemory>
+// The notes on hashes, in record order.
+fn hash_notes(alloc: Global, view: &View, facts: &Facts) -> Result<Vec<Note>, NoMemory>
     ensures { IfOk result (λ notes. notes.items ≡ spec.hash_notes view.now facts.now) }
 {
     let mut notes = Vec::new(alloc);
@@ -142,31 +151,51 @@ fn unnamed_note(
     }))
 }
 
-// The notes of inodes, by how many entries each file has.
+// The notes of inodes after others, by how many entries each file has.
 fn unnamed_by(
-    alloc: Global,
     view: &View,
     facts: &Facts,
     files: &BTreeMap<u64, u64>,
+    before: Vec<Note>,
 ) -> Result<Vec<Note>, NoMemory>
     requires { CountsIds (λ e. Some e.what.file_id) facts.now.entries files.now }
-    ensures { IfOk result (λ notes. notes.items ≡ spec.unnamed_notes view.now facts.now) }
+    ensures { IfOk result (λ notes. notes.items ≡ before.items ++ spec.unnamed_notes view.now facts.now) }
 {
-    let mut notes = Vec::new(alloc);
+    let mut notes = before;
     for f in &facts.inodes {
         put(&mut notes, unnamed_note(view, facts, files, f))?;
     }
     Ok(notes)
 }
 
-/// The notes on inodes without entries, in record order.
-pub(crate) fn unnamed_notes(
+// The notes on inodes without entries, in record order, after others.
+fn unnamed_notes(
     alloc: Global,
     view: &View,
     facts: &Facts,
+    before: Vec<Note>,
 ) -> Result<Vec<Note>, NoMemory>
-    ensures { IfOk result (λ notes. notes.items ≡ spec.unnamed_notes view.now facts.now) }
+    ensures { IfOk result (λ notes. notes.items ≡ before.items ++ spec.unnamed_notes view.now facts.now) }
 {
     let files = tally::<_, ByAnyFile>(alloc, &facts.entries)?;
-    unnamed_by(alloc, view, facts, &files)
+    unnamed_by(view, facts, &files, before)
+}
+
+/// The notes of a view: those on hashes, which are faults under Strict, and then those on inodes without entries.
+#[tactic(auto, unfolding(crate::specs::Notes::notes_of))]
+pub(crate) fn notes(
+    alloc: Global,
+    profile: Profile,
+    view: &View,
+    facts: &Facts,
+) -> Result<Vec<Note>, NoMemory>
+    ensures { IfOk result (λ notes. notes.items ≡ spec.notes_of profile view.now facts.now) }
+{
+    match profile {
+        Profile::Plain => {
+            let hashes = hash_notes(alloc, view, facts)?;
+            unnamed_notes(alloc, view, facts, hashes)
+        }
+        Profile::Strict => unnamed_notes(alloc, view, facts, Vec::new(alloc)),
+    }
 }

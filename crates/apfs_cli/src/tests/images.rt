@@ -2,10 +2,11 @@
 use apfs_layout::container::{BLOCKED, DESC_BLOCKS, FS_OID, INCOMPAT};
 use apfs_layout::node::{INFO_LEN, KEY_COUNT, TABLE};
 use apfs_layout::object::SUM;
+use apfs_layout::record::ATTRIBUTE_FLAGS;
 use apfs_layout::value::{SNAPSHOT_FLAGS, SNAPSHOT_NAME};
 use blk_source::{MemSource, Opened};
 use fs_name::Names;
-use img_make::records::{EntryPlan, InodePlan};
+use img_make::records::{EntryPlan, InodePlan, LINK_MODE, attribute};
 use img_make::{
     FileTree, Item, Leaf, Plan, QueueEntry, Sample, Version, edit, make, ring_of_four, sample,
     skipped_checkpoint, write,
@@ -100,6 +101,14 @@ pub enum Image {
     ViewsChanged(usize, usize, &'static [u8]),
     /// A container whose volume has one file with five bytes.
     Hello,
+    /// Its file has these flags.
+    Flagged(u32),
+    /// A container whose volume has one file with so many bytes and these extents, each as its logical address and its length in bytes, and its first block.
+    Streamed(u64, &'static [(u64, u64, u64)]),
+    /// A container whose volume has one symbolic link.
+    Link,
+    /// The record of its target doesn't say where the target's bytes are.
+    LinkUnsaid,
     /// A container whose volume has these files, each as its id, its parent, its kind and its name.
     Files(&'static [(u64, u64, u16, &'static str)]),
     /// A container whose volume has these files, and these further entries, each as its directory, its file and its name.
@@ -164,9 +173,9 @@ fn file_tree(
     Ok(tree)
 }
 
-// A container whose volume has these records of files.
-fn with_records(alloc: Global, items: Vec<Item>) -> Result<Vec<u8>, Fail> {
-    let mut plan = sample(alloc, Sample::S)?;
+// A sample whose volume has these records of files in place of its own.
+fn with_items(alloc: Global, which: Sample, items: Vec<Item>) -> Result<Vec<u8>, Fail> {
+    let mut plan = sample(alloc, which)?;
     let Some(mut volume) = plan.volumes.pop() else {
         return Ok(Vec::new(alloc));
     };
@@ -182,6 +191,43 @@ fn with_records(alloc: Global, items: Vec<Item>) -> Result<Vec<u8>, Fail> {
     volume.versions = vec![in alloc; version]?;
     plan.volumes.push(volume)?;
     made(alloc, &plan)
+}
+
+// A container whose volume has these records of files.
+fn with_records(alloc: Global, items: Vec<Item>) -> Result<Vec<u8>, Fail> {
+    with_items(alloc, Sample::S, items)
+}
+
+// The file 16 in the root, with so many bytes in these extents, and with these flags.
+fn with_file(
+    alloc: Global,
+    which: Sample,
+    name: &str,
+    flags: u32,
+    size: u64,
+    extents: &[(u64, u64, u64)],
+) -> Result<Vec<u8>, Fail> {
+    let mut tree = file_tree(alloc, &[], &[])?;
+    let mut file = InodePlan::file(16, 2);
+    file.bsd_flags = flags;
+    file.stream = Some(size);
+    tree.add(alloc, file, name)?;
+    tree.stream(alloc, 16, extents)?;
+    with_items(alloc, which, tree.items(alloc)?)
+}
+
+// A container whose volume has the symbolic link 16 to `hello`, whose target has these flags where some are given.
+fn with_link(alloc: Global, flags: Option<u8>) -> Result<Vec<u8>, Fail> {
+    let mut tree = file_tree(alloc, &[], &[])?;
+    let mut link = InodePlan::file(16, 2);
+    link.mode = LINK_MODE;
+    tree.add(alloc, link, "l")?;
+    let mut target = attribute(alloc, 16, b"com.apple.fs.symlink", b"hello\0")?;
+    if let (Some(flags), Some(byte)) = (flags, target.1.get_mut(ATTRIBUTE_FLAGS)) {
+        *byte = flags;
+    }
+    tree.record(target)?;
+    with_records(alloc, tree.items(alloc)?)
 }
 
 // A container whose volume has its two directories alone, and their records in the opposite order.
@@ -243,6 +289,12 @@ fn bytes(alloc: Global, image: Image) -> Result<Vec<u8>, Fail> {
             made(alloc, &sample(alloc, Sample::V)?)
         }
         Image::Hello => made(alloc, &sample(alloc, Sample::H)?),
+        Image::Flagged(flags) => {
+            with_file(alloc, Sample::H, "hello.txt", flags, 5, &[(0, 4096, 57)])
+        }
+        Image::Streamed(size, extents) => { with_file(alloc, Sample::P, "hole", 0, size, extents) }
+        Image::Link => with_link(alloc, None),
+        Image::LinkUnsaid => with_link(alloc, Some(0)),
         Image::Files(files) => with_records(alloc, file_tree(alloc, files, &[])?.items(alloc)?),
         Image::Named(files, names) => {
             with_records(alloc, file_tree(alloc, files, names)?.items(alloc)?)
@@ -278,6 +330,7 @@ fn change(image: Image, bytes: &mut [u8]) -> bool {
         Image::Absent | Image::Empty | Image::Small | Image::Views | Image::Hello => true,
         Image::Files(_) | Image::Named(..) | Image::Queued => true,
         Image::Backwards | Image::ShortInode => true,
+        Image::Flagged(_) | Image::Streamed(..) | Image::Link | Image::LinkUnsaid => true,
     }
 }
 

@@ -50,3 +50,14 @@ pub fn owner(asked: &Asked<'_>, index: &Index<'_>) -> Option<TreeFault>
         None => None,
     }
 }
+
+/// A fault of an inode or of an attribute, where one is there.
+pub fn fault(asked: &Asked<'_>, index: &Index<'_>) -> Option<TreeFault>
+    ensures { spec.IsFirst asked.now index.now.facts.now (rules.HasTargets index.now.facts.now × (rules.HasStreamSizes index.now.facts.now × (rules.HasBodySizes index.now.facts.now × rules.HasOwners index.now.facts.now))) result }
+{
+    let target = target(asked, index);
+    let stream = stream(asked, index);
+    let body = body(asked, index);
+    let owner = owner(asked, index);
+    target.or(stream.or(body.or(owner)))
+}

@@ -9,7 +9,13 @@ use Rattle.path_read.specs.Contents.{body_in}
 use Rattle.path_read.specs.Parts.{attributes_at, body_of}
 use Rattle.path_read.specs.Written.{IsWritten}
 use Rattle.path_read.proofs.Named.{attribute_given, attribute_lost}
+use Rattle.obj_base.specs.declared.stop.Stop.TheVariants.{Found}
+use Rattle.path_walk.specs.Stops.{IsLawful}
+use Rattle.path_walk.specs.declared.stop.PathStop.TheVariants as stops
+use Rattle.path_walk.specs.declared.answer.Answer.TheVariants.{NoAttribute}
+use Rattle.path_read.specs.declared.stop.WriteStop.TheVariants.{Stopped}
 use Rattle.path_read.proofs.Givens.{stopped_written, written_same}
+use Rattle.path_read.proofs.Parted.{none_parted, parted_same}
 use Rattle.path_read.proofs.attribute.attr.Goals as goal
 
 pub returns-in-Err-clause-exact : goal.returns-in-Err-clause-exact
@@ -48,3 +54,43 @@ returns-clause-exact g c = λ image told lawful.
     written_same (g.W.Sink.contents c.args.out.now) (g.W.Sink.contents c.write_body.new.out) (Ok (body_in bs image facts a.body)) (attribute bs image facts c.args.path.now c.args.name.now) (Err c.in-Err-write_body.stop) (sym given)
     (subst (λ (b : Body). IsWritten (g.W.Sink.contents c.args.out.now) (g.W.Sink.contents c.write_body.new.out) (Ok (body_in bs image facts b)) (Err c.in-Err-write_body.stop)) same
     (c.in-Err-write_body.ensures.exact image (c.in-Ok.ensures.kept.same_bytes ∙ told) lawful))
+
+pub returns-in-Err-clause-text : goal.returns-in-Err-clause-text
+returns-in-Err-clause-text g c =
+    none_parted (g.W.Sink.contents c.args.out.now) (g.S.BlockSource.bytes c.args.src.now)
+    (λ (image : List ℕ). IsLawful image c.args.site.now c.args.volume.now c.args.view.now)
+    (λ (image : List ℕ). attribute c.args.site.now.block_size image (view_facts image c.args.site.now c.args.volume.now c.args.view.now) c.args.path.now c.args.name.now) (Stopped c.in-Err.stop)
+
+pub returns-in-None-clause-text : goal.returns-in-None-clause-text
+returns-in-None-clause-text g c =
+    none_parted (g.W.Sink.contents c.args.out.now) (g.S.BlockSource.bytes c.args.src.now)
+    (λ (image : List ℕ). IsLawful image c.args.site.now c.args.volume.now c.args.view.now)
+    (λ (image : List ℕ). attribute c.args.site.now.block_size image (view_facts image c.args.site.now c.args.volume.now c.args.view.now) c.args.path.now c.args.name.now) (Stopped (Found (stops.Answer NoAttribute)))
+
+pub returns-in-Ok-write_body-clause-text : goal.returns-in-Ok-write_body-clause-text
+returns-in-Ok-write_body-clause-text g c =
+    let a : Attribute = c.in-Some.attribute.now in
+    let same : body_of c.attribute.inside.body ≡ a.body = ap (λ (x : Attribute). x.body) c.attribute.view_is in
+    parted_same (g.W.Sink.contents c.args.out.now) (g.W.Sink.contents c.write_body.new.out) (g.S.BlockSource.bytes c.args.src.now) (g.S.BlockSource.bytes c.gathered.new.src)
+    (λ (image : List ℕ). IsLawful image c.args.site.now c.args.volume.now c.args.view.now)
+    (λ (image : List ℕ). Ok (body_in c.args.site.now.block_size image (view_facts image c.args.site.now c.args.volume.now c.args.view.now) (body_of c.attribute.inside.body)))
+    (λ (image : List ℕ). attribute c.args.site.now.block_size image (view_facts image c.args.site.now c.args.volume.now c.args.view.now) c.args.path.now c.args.name.now) (Ok tt) c.in-Ok.ensures.kept.same_bytes
+    (λ image told lawful.
+    let facts : Facts = view_facts image c.args.site.now c.args.volume.now c.args.view.now in
+    attribute_given c.args.site.now.block_size image facts c.args.path.now c.args.name.now c.in-Ok.attributes.items (Some a) (c.in-Ok.ensures.exact image told lawful) (ap (find (is_called c.args.name.now)) (sym c.deref.ensures.value) ∙ sym c.in-Some.ensures)
+    ∙ ap (λ (b : Body). Ok (body_in c.args.site.now.block_size image facts b)) (sym same))
+    c.in-Ok-write_body.ensures.text
+
+pub returns-clause-text : goal.returns-clause-text
+returns-clause-text g c =
+    let a : Attribute = c.in-Some.attribute.now in
+    let same : body_of c.attribute.inside.body ≡ a.body = ap (λ (x : Attribute). x.body) c.attribute.view_is in
+    parted_same (g.W.Sink.contents c.args.out.now) (g.W.Sink.contents c.write_body.new.out) (g.S.BlockSource.bytes c.args.src.now) (g.S.BlockSource.bytes c.gathered.new.src)
+    (λ (image : List ℕ). IsLawful image c.args.site.now c.args.volume.now c.args.view.now)
+    (λ (image : List ℕ). Ok (body_in c.args.site.now.block_size image (view_facts image c.args.site.now c.args.volume.now c.args.view.now) (body_of c.attribute.inside.body)))
+    (λ (image : List ℕ). attribute c.args.site.now.block_size image (view_facts image c.args.site.now c.args.volume.now c.args.view.now) c.args.path.now c.args.name.now) (Err c.in-Err-write_body.stop) c.in-Ok.ensures.kept.same_bytes
+    (λ image told lawful.
+    let facts : Facts = view_facts image c.args.site.now c.args.volume.now c.args.view.now in
+    attribute_given c.args.site.now.block_size image facts c.args.path.now c.args.name.now c.in-Ok.attributes.items (Some a) (c.in-Ok.ensures.exact image told lawful) (ap (find (is_called c.args.name.now)) (sym c.deref.ensures.value) ∙ sym c.in-Some.ensures)
+    ∙ ap (λ (b : Body). Ok (body_in c.args.site.now.block_size image facts b)) (sym same))
+    c.in-Err-write_body.ensures.text

@@ -4,7 +4,11 @@ use Rattle.file_extent.specs.Streams.{Opened, stream_bytes}
 use Rattle.view_rules.specs.Rules.{view_facts}
 use Rattle.path_walk.proofs.Known.{unanswered_given}
 use Rattle.path_read.specs.Contents.{stream_in}
+use Rattle.path_walk.specs.Stops.{IsLawful}
+use Rattle.obj_base.specs.declared.stop.Stop.TheVariants.{ReadFault}
+use Rattle.path_read.specs.declared.stop.WriteStop.TheVariants.{Stopped, WriteFault}
 use Rattle.path_read.proofs.Givens.{stopped_written, ok-same, stream_opened}
+use Rattle.path_read.proofs.Parted.{none_parted, whole_parted, front_parted}
 use Rattle.path_read.proofs.attribute.write_stream.Goals as goal
 
 pub returns-in-Err-clause-exact : goal.returns-in-Err-clause-exact
@@ -42,3 +46,36 @@ returns-clause-exact g c = λ image told lawful.
       same = ap (λ (l : List ℕ). Ok l) same;
       put = c.in-Err-WriteFault.ensures.part image (c.in-Ok.ensures.kept.same_bytes ∙ told);
     }
+
+pub returns-in-Err-clause-text : goal.returns-in-Err-clause-text
+returns-in-Err-clause-text g c =
+    none_parted (g.W.Sink.contents c.args.out.now) (g.S.BlockSource.bytes c.args.src.now)
+    (λ (image : List ℕ). IsLawful image c.args.site.now c.args.volume.now c.args.view.now)
+    (λ (image : List ℕ). Ok (stream_in c.args.site.now.block_size image (view_facts image c.args.site.now c.args.volume.now c.args.view.now) c.args.id c.args.size)) (Stopped c.in-Err.stop)
+
+pub returns-in-Ok-copy_to-clause-text : goal.returns-in-Ok-copy_to-clause-text
+returns-in-Ok-copy_to-clause-text g c =
+    let stream : Opened = c.in-Ok.stream in
+    whole_parted (g.W.Sink.contents c.args.out.now) (g.W.Sink.contents c.copy_to.new.out) (g.S.BlockSource.bytes c.args.src.now) (g.S.BlockSource.bytes c.open_stream.new.src)
+    (λ (image : List ℕ). IsLawful image c.args.site.now c.args.volume.now c.args.view.now)
+    (λ (image : List ℕ). Ok (stream_in c.args.site.now.block_size image (view_facts image c.args.site.now c.args.volume.now c.args.view.now) c.args.id c.args.size))
+    (λ (image : List ℕ). stream_bytes stream.site.block_size image stream.extents stream.size) c.in-Ok.ensures.kept.same_bytes
+    (λ image told lawful. ap (λ (l : List ℕ). Ok l) (stream_opened image c.args.site.now c.args.volume.now c.args.view.now c.args.id c.args.size stream (c.in-Ok.ensures.opened image told lawful.rules.ordered))) c.in-Ok-copy_to.ensures.text
+
+pub returns-in-Err-ReadFault-clause-text : goal.returns-in-Err-ReadFault-clause-text
+returns-in-Err-ReadFault-clause-text g c =
+    let stream : Opened = c.in-Ok.stream in
+    front_parted (g.W.Sink.contents c.args.out.now) (g.W.Sink.contents c.copy_to.new.out) (g.S.BlockSource.bytes c.args.src.now) (g.S.BlockSource.bytes c.open_stream.new.src)
+    (λ (image : List ℕ). IsLawful image c.args.site.now c.args.volume.now c.args.view.now)
+    (λ (image : List ℕ). Ok (stream_in c.args.site.now.block_size image (view_facts image c.args.site.now c.args.volume.now c.args.view.now) c.args.id c.args.size))
+    (λ (image : List ℕ). stream_bytes stream.site.block_size image stream.extents stream.size) (Stopped ReadFault) c.in-Ok.ensures.kept.same_bytes
+    (λ image told lawful. ap (λ (l : List ℕ). Ok l) (stream_opened image c.args.site.now c.args.volume.now c.args.view.now c.args.id c.args.size stream (c.in-Ok.ensures.opened image told lawful.rules.ordered))) c.in-Err-ReadFault.ensures.text
+
+pub returns-clause-text : goal.returns-clause-text
+returns-clause-text g c =
+    let stream : Opened = c.in-Ok.stream in
+    front_parted (g.W.Sink.contents c.args.out.now) (g.W.Sink.contents c.copy_to.new.out) (g.S.BlockSource.bytes c.args.src.now) (g.S.BlockSource.bytes c.open_stream.new.src)
+    (λ (image : List ℕ). IsLawful image c.args.site.now c.args.volume.now c.args.view.now)
+    (λ (image : List ℕ). Ok (stream_in c.args.site.now.block_size image (view_facts image c.args.site.now c.args.volume.now c.args.view.now) c.args.id c.args.size))
+    (λ (image : List ℕ). stream_bytes stream.site.block_size image stream.extents stream.size) WriteFault c.in-Ok.ensures.kept.same_bytes
+    (λ image told lawful. ap (λ (l : List ℕ). Ok l) (stream_opened image c.args.site.now c.args.volume.now c.args.view.now c.args.id c.args.size stream (c.in-Ok.ensures.opened image told lawful.rules.ordered))) c.in-Err-WriteFault.ensures.text

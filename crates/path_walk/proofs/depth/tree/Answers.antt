@@ -26,3 +26,8 @@ pub returns-clause-told : goal.returns-clause-told
 returns-clause-told g c image told fault e =
     let facts : Facts = view_facts image c.args.site.now c.args.volume.now c.args.view.now in
     tree_told facts c.args.view.now c.args.path.now (λ (v : Vec (List ℕ × Target) Global). v.items) (tree facts c.args.path.now) c.in-Err-tree_in.stop fault (c.in-Err-tree_in.ensures.known facts (sym (ap (λ (v : Loaded). v.names) c.volume.view_is)) (c.in-Ok.ensures.clear image told)) e
+
+pub returns-in-Ok-tree_in-clause-clear : goal.returns-in-Ok-tree_in-clause-clear
+returns-in-Ok-tree_in-clause-clear g c image told =
+    let facts : Facts = view_facts image c.args.site.now c.args.volume.now c.args.view.now in
+    c.in-Ok-tree_in.ensures.clear facts (sym (ap (λ (v : Loaded). v.names) c.volume.view_is)) (c.in-Ok.ensures.clear image told)

@@ -16,3 +16,8 @@ pub returns-clause-kept : goal.returns-clause-kept
 returns-clause-kept c facts path first way entered memo =
     let all : HasAll facts c.args.id c.directory.result.now = record { all = c.directory.ensures.all facts way.remembers; each = c.directory.ensures.each facts way.remembers } in
     c.in-Ok.ensures.kept facts path first way entered all memo
+
+pub returns-clause-all : goal.returns-clause-all
+returns-clause-all c facts path first way entered memo =
+    let all : HasAll facts c.args.id c.directory.result.now = record { all = c.directory.ensures.all facts way.remembers; each = c.directory.ensures.each facts way.remembers } in
+    c.in-Ok.ensures.all facts path first way entered all memo

@@ -5,6 +5,7 @@ use Rattle.path_walk.specs.Listing.{children}
 use Rattle.path_walk.specs.Parts.{is_opened_target, told_after}
 use Rattle.path_walk.specs.declared.target.Target.{Target}
 use Rattle.path_walk.proofs.Entered.{under_opened, under_closed}
+use Rattle.apfs_model.proofs.BoolTests.{clash}
 use Rattle.path_walk.proofs.under.go_under.Goals as goal
 
 pub returns-then-not-is_opened-clause-gives : goal.returns-then-not-is_opened-clause-gives
@@ -28,3 +29,14 @@ pub returns-in-Ok-put_on-clause-kept : goal.returns-in-Ok-put_on-clause-kept
 returns-in-Ok-put_on-clause-kept c facts path first way entered memo =
     let e : is_opened_target c.args.row.now.1 ≡ true = search rules in
     c.in-Ok.ensures.kept facts path first way (entered e) memo
+
+pub returns-then-not-is_opened-clause-all : goal.returns-then-not-is_opened-clause-all
+returns-then-not-is_opened-clause-all c facts path first way entered memo =
+    let e : is_opened_target c.args.row.now.1 ≡ false = search rules in
+    (λ id s there. there, λ opened. absurd (clash (is_opened_target c.args.row.now.1) opened e))
+
+pub returns-in-Ok-put_on-clause-all : goal.returns-in-Ok-put_on-clause-all
+returns-in-Ok-put_on-clause-all c facts path first way entered memo =
+    let e : is_opened_target c.args.row.now.1 ≡ true = search rules in
+    let k = c.in-Ok.ensures.all facts path first way (entered e) memo in
+    (k.0, λ opened. k.1)

@@ -1,11 +1,12 @@
-use Rattle.std.proofs.Common.{◌≡◌, ◌∙◌, ℕ, List, Result, Ok, map, ap, sym, subst, Bor}
+use Rattle.std.proofs.Common.{◌≡◌, ◌∙◌, ℕ, List, Some, Result, Ok, map, ap, sym, subst, Bor}
 use Rattle.path_walk.specs.Paths.{parts_of}
-use Rattle.path_walk.specs.Places.{Place}
+use Rattle.path_walk.specs.Places.{Place, root_of}
 use Rattle.path_walk.specs.Found.{found}
 use Rattle.path_walk.specs.Parts.{along, rooted, TakesFrom}
 use Rattle.path_walk.proofs.Known.{found_by, found_lost}
 use Rattle.path_walk.proofs.Memos.{taken_root}
 use Rattle.path_walk.proofs.Entered.{path_known, tree_ends, rooted_some}
+use Rattle.path_walk.proofs.Staying.{keeps_path}
 use Rattle.path_walk.proofs.under.trace.Goals as goal
 
 pub returns-in-Err-clause-known : goal.returns-in-Err-clause-known
@@ -36,3 +37,11 @@ returns-clause-known c facts named r memo =
     let takes : TakesFrom facts c.args.path.now parts c.in-Ok.root = subst (λ (ps : List (List ℕ)). TakesFrom facts c.args.path.now ps c.in-Ok.root) (sym same) (taken_root facts c.args.path.now c.in-Ok.root (rooted_some facts c.in-Ok.root there)) in
     tree_ends facts c.args.view.now c.args.path.now (λ (p : Place). p) (along facts parts c.in-Ok.root) (λ (p : Place). p) (found facts c.args.path.now) c.in-Err-trace_along.stop
     (λ a e. found_by facts c.args.path.now c.in-Ok.root parts _ there same e) (c.in-Err-trace_along.ensures.known facts c.args.path.now named r memo takes)
+
+pub returns-in-Ok-trace_along-clause-all : goal.returns-in-Ok-trace_along-clause-all
+returns-in-Ok-trace_along-clause-all c facts named r memo =
+    let parts : List (List ℕ) = map (λ (p : Bor (List ℕ)). p.now) c.deref.result.now in
+    let same : parts ≡ parts_of c.args.path.now = ap (map (λ (p : Bor (List ℕ)). p.now)) c.deref.ensures.value ∙ c.in_ok-parts.ensures in
+    let root : root_of facts ≡ Some c.in-Ok.root = rooted_some facts c.in-Ok.root (c.in-Ok.ensures.known facts r) in
+    let takes : TakesFrom facts c.args.path.now parts c.in-Ok.root = subst (λ (ps : List (List ℕ)). TakesFrom facts c.args.path.now ps c.in-Ok.root) (sym same) (taken_root facts c.args.path.now c.in-Ok.root root) in
+    keeps_path facts c.trace_along.new.memo c.args.path.now parts c.in-Ok.root c.in-Ok-trace_along.place root same (c.in-Ok-trace_along.ensures.all facts c.args.path.now named r memo takes)

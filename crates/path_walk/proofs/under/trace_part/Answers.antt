@@ -1,8 +1,9 @@
 use Rattle.std.proofs.Common.{sym, subst}
 use Rattle.path_walk.specs.Places.{Place}
-use Rattle.path_walk.specs.Parts.{by_part, IsTaken}
+use Rattle.path_walk.specs.Parts.{by_part, IsTaken, KeepsTaken}
 use Rattle.path_walk.proofs.Memos.{taken_part}
 use Rattle.path_walk.proofs.Entered.{path_known, stop_known}
+use Rattle.path_walk.proofs.Staying.{keeps_part}
 use Rattle.path_walk.proofs.under.trace_part.Goals as goal
 
 pub returns-in-Err-clause-known : goal.returns-in-Err-clause-known
@@ -23,3 +24,12 @@ returns-in-Err-keep_part-clause-known c facts path rest named r memo takes =
     let t = taken_part facts path rest c.args.place c.in-Ok.next c.args.part.now (c.in-Ok.ensures.known facts named r) takes in
     stop_known facts c.args.view.now path (λ (p : Place). p) (by_part facts c.args.place c.args.part.now) c.in-Err-keep_part.stop
     (c.in-Err-keep_part.ensures.stops facts path named r memo (subst (λ (p : Place). IsTaken facts path p.id c.args.part.now c.in-Ok.next) (sym c.place.view_is) t.0))
+
+pub returns-in-Ok-keep_part-clause-all : goal.returns-in-Ok-keep_part-clause-all
+returns-in-Ok-keep_part-clause-all c facts path rest named r memo takes =
+    let t = taken_part facts path rest c.args.place c.in-Ok.next c.args.part.now (c.in-Ok.ensures.known facts named r) takes in
+    let k = c.in-Ok-keep_part.ensures.all facts path named r memo (subst (λ (p : Place). IsTaken facts path p.id c.args.part.now c.in-Ok.next) (sym c.place.view_is) t.0) in (
+      k.0,
+      keeps_part facts c.keep_part.new.memo rest c.args.place c.in-Ok.next c.args.part.now (c.in-Ok.ensures.known facts named r)
+          (subst (λ (p : Place). KeepsTaken facts c.keep_part.new.memo p.id c.args.part.now) c.place.view_is k.1),
+    )

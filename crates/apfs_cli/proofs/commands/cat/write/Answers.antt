@@ -1,0 +1,45 @@
+-- The contents are written, or what stands in the way to the view, or in it, is told.
+use Rattle.cmd_words.specs.Asked.{AskedTarget, target_asked}
+use Rattle.obj_base.specs.declared.site.Site.{Site}
+use Rattle.nx_ring.specs.Checkpoint.{Seen}
+use Rattle.vol_view.specs.Volumes.{Loaded}
+use Rattle.vol_view.specs.declared.volume.View.{View}
+use Rattle.apfs_cli.specs.Commands.Cat as command
+use Rattle.apfs_cli.specs.Words.{Cat}
+use Rattle.apfs_cli.specs.Written.{sunk}
+use Rattle.apfs_cli.proofs.AtView.{IsAtView, way_stopped}
+use Rattle.apfs_cli.proofs.Contents.{contents_written, writing_stopped}
+use Rattle.apfs_cli.proofs.OverViews.{cat_over}
+use Rattle.apfs_cli.proofs.commands.cat.write.Goals as goal
+
+pub returns-in-Err-clause-answer : goal.returns-in-Err-clause-answer
+returns-in-Err-clause-answer g c =
+    let target : AskedTarget = target_asked c.args.target in
+    way_stopped g.S.BlockSource.bytes g.S.BlockSource.faults (Cat target) (command.wanted target.path) (command.told target.path) target c.args.src.now c.reach_view.new.src c.in-Err.stopped
+    (g.W.Sink.contents c.args.out.now) (g.W.Sink.faults c.args.out.now) (cat_over target) c.in-Err.ensures.way c.in-Err.ensures.looking c.in-Err.ensures.cause
+
+pub returns-in-Ok-cat-clause-answer : goal.returns-in-Ok-cat-clause-answer
+returns-in-Ok-cat-clause-answer g c =
+    let target : AskedTarget = target_asked c.args.target in
+    let seen : Seen = c.in-Ok.viewed.checkpoint in
+    let volume : Loaded = c.in-Ok.viewed.volume in
+    let view : View = c.in-Ok.viewed.view in
+    let site : Site = c.site-site.result in
+    let at : IsAtView g.S.BlockSource.bytes g.S.BlockSource.faults target c.args.src.now c.reach_view.new.src seen volume view site =
+    record { site_is = c.site-site.ensures; meant = c.in-Ok.ensures.clear; same_bytes = c.in-Ok.ensures.kept.same_bytes; later = c.in-Ok.ensures.kept.later } in
+    contents_written g.S.BlockSource.bytes g.S.BlockSource.faults (Cat target) (command.wanted target.path) (command.told target.path) target c.args.src.now c.reach_view.new.src c.cat.new.src
+    seen volume view site (sunk g.W.Sink.contents g.W.Sink.faults c.args.out.now c.cat.new.out) (cat_over target) at c.in-Ok-cat.ensures.text
+
+pub returns-clause-answer : goal.returns-clause-answer
+returns-clause-answer g c =
+    let target : AskedTarget = target_asked c.args.target in
+    let seen : Seen = c.in-Ok.viewed.checkpoint in
+    let volume : Loaded = c.in-Ok.viewed.volume in
+    let view : View = c.in-Ok.viewed.view in
+    let site : Site = c.site-site.result in
+    let at : IsAtView g.S.BlockSource.bytes g.S.BlockSource.faults target c.args.src.now c.reach_view.new.src seen volume view site =
+    record { site_is = c.site-site.ensures; meant = c.in-Ok.ensures.clear; same_bytes = c.in-Ok.ensures.kept.same_bytes; later = c.in-Ok.ensures.kept.later } in
+    rw c.stopped_on_write.ensures
+    (writing_stopped g.S.BlockSource.bytes g.S.BlockSource.faults (Cat target) (command.wanted target.path) (command.told target.path) target c.args.src.now c.reach_view.new.src c.cat.new.src
+    seen volume view site c.in-Err-cat.stop (sunk g.W.Sink.contents g.W.Sink.faults c.args.out.now c.cat.new.out) (cat_over target) at
+    c.in-Err-cat.ensures.text c.in-Err-cat.ensures.untouched c.in-Err-cat.ensures.exact c.in-Err-cat.ensures.present (λ facts fault. tt) c.in-Err-cat.ensures.read_cause c.in-Err-cat.ensures.write_cause)

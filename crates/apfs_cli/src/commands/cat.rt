@@ -1,0 +1,45 @@
+// The command `cat`.
+ghost use Rattle.std.specs.Prelude.{◌≡◌, Some};
+ghost use Rattle.apfs_model.specs.Source.{IsKept};
+ghost use Rattle.cmd_words.specs.Asked.{target_asked};
+ghost use Rattle.apfs_cli.specs.Says.{HasEnded};
+ghost use Rattle.apfs_cli.specs.Words.{Cat};
+ghost use Rattle.apfs_cli.specs.Written.{sunk};
+ghost use Rattle.blk_source.specs.declared.source.Opened.TheVariants.{Image};
+
+use crate::meant_view::reach_view;
+use crate::on_path::stopped_on_write;
+use crate::stopped::Stopped;
+use blk_source::{BlockSource, Sink};
+use cmd_words::Target;
+use path_read::cat;
+use std::alloc::Global;
+
+/// Writes the contents of a file in the view that is meant.
+pub fn write<S: BlockSource, W: Sink>(
+    alloc: Global,
+    target: Target<'_>,
+    src: &mut S,
+    out: &mut W,
+) -> Result<(), Stopped>
+    ensures answer { HasEnded S.bytes S.faults (Some (Cat (target_asked target.entry))) (Image src.old) (Image src.new) result (sunk W.contents W.faults out.old out.new) }
+    ensures kept { IsKept S.bytes S.bytes_len S.faults src.old src.new }
+{
+    let viewed = match reach_view(alloc, src, target) {
+        Ok(viewed) => viewed,
+        Err(stopped) => return Err(stopped),
+    };
+    let site = viewed.checkpoint.site();
+    match cat(
+        alloc,
+        src,
+        &viewed.volume,
+        &viewed.view,
+        &site,
+        target.path,
+        out,
+    ) {
+        Ok(()) => Ok(()),
+        Err(stop) => Err(stopped_on_write(stop)),
+    }
+}

@@ -1,0 +1,9 @@
+use Rattle.view_rules.specs.Names.{HasDistinctEntries, HasDistinctAttributes, HasAsciiHashes}
+use Rattle.rule_faults.proofs.Shown.{both}
+use Rattle.rule_faults.proofs.faults.names.fault.Goals as goal
+
+pub returns : goal.returns
+returns c =
+    let a = c.args.asked.now in
+    let f = c.args.facts.now in
+    both a f (HasDistinctEntries f) (HasDistinctAttributes f × HasAsciiHashes f) c.in_ok-entry.entry c.or.result c.or-2.result c.or-2.ensures c.in_ok-entry.ensures (both a f (HasDistinctAttributes f) (HasAsciiHashes f) c.in_ok-attribute.attribute c.in_ok-hash.hash c.or.result c.or.ensures c.in_ok-attribute.ensures c.in_ok-hash.ensures)

@@ -1,0 +1,78 @@
+// Faults of names: those that are there twice, and hashes of ASCII ones.
+ghost use Rattle.std.specs.Prelude.{IfOk};
+ghost use Rattle.view_rules.specs.Names as rules;
+ghost use Rattle.rule_faults.specs.Faults as spec;
+
+use super::{Asked, named_at};
+use blk_source::NoMemory;
+use fs_record::TreeFault;
+use rule_breaks::names::other_ascii_hash;
+use rule_breaks::repeats::{repeated_attribute, repeated_entry};
+use std::alloc::Global;
+use view_facts::Facts;
+
+// A name that is twice in a directory.
+#[tactic(auto, using(crate::proofs::Shown::entry_twice, crate::proofs::Shown::none_clear))]
+fn entry_twice(
+    alloc: Global,
+    asked: &Asked<'_>,
+    facts: &Facts,
+) -> Result<Option<TreeFault>, NoMemory>
+    ensures { IfOk result (spec.IsFirst asked.now facts.now (rules.HasDistinctEntries facts.now)) }
+{
+    let first = repeated_entry(alloc, facts)?;
+    match first {
+        Some(e) => {
+            let at = named_at(alloc, asked.view, e.id(), e.name())?;
+            Ok(Some(TreeFault::DupName(at)))
+        }
+        None => Ok(None),
+    }
+}
+
+// A name that is twice among the attributes of a file.
+#[tactic(auto, using(crate::proofs::Shown::attribute_twice, crate::proofs::Shown::none_clear))]
+fn attribute_twice(
+    alloc: Global,
+    asked: &Asked<'_>,
+    facts: &Facts,
+) -> Result<Option<TreeFault>, NoMemory>
+    ensures { IfOk result (spec.IsFirst asked.now facts.now (rules.HasDistinctAttributes facts.now)) }
+{
+    let first = repeated_attribute(alloc, facts)?;
+    match first {
+        Some(a) => {
+            let at = named_at(alloc, asked.view, a.id(), a.name())?;
+            Ok(Some(TreeFault::DupName(at)))
+        }
+        None => Ok(None),
+    }
+}
+
+// An ASCII name whose key has another hash.
+#[tactic(auto, using(crate::proofs::Shown::other_hash, crate::proofs::Shown::none_clear))]
+fn other_hash(
+    alloc: Global,
+    asked: &Asked<'_>,
+    facts: &Facts,
+) -> Result<Option<TreeFault>, NoMemory>
+    ensures { IfOk result (spec.IsFirst asked.now facts.now (rules.HasAsciiHashes facts.now)) }
+{
+    match other_ascii_hash(facts) {
+        Some(e) => {
+            let at = named_at(alloc, asked.view, e.id(), e.name())?;
+            Ok(Some(TreeFault::Hash(at)))
+        }
+        None => Ok(None),
+    }
+}
+
+/// A fault of a name, where one is there.
+pub fn fault(alloc: Global, asked: &Asked<'_>, facts: &Facts) -> Result<Option<TreeFault>, NoMemory>
+    ensures { IfOk result (spec.IsFirst asked.now facts.now (rules.HasDistinctEntries facts.now × (rules.HasDistinctAttributes facts.now × rules.HasAsciiHashes facts.now))) }
+{
+    let entry = entry_twice(alloc, asked, facts)?;
+    let attribute = attribute_twice(alloc, asked, facts)?;
+    let hash = other_hash(alloc, asked, facts)?;
+    Ok(entry.or(attribute.or(hash)))
+}

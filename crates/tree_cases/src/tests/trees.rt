@@ -1,0 +1,239 @@
+// The trees of the cases: their records, and the containers that hold them.
+use apfs_layout::key::LEN_AND_HASH;
+use fs_name::Names;
+use img_make::records::{
+    DIRECTORY_MODE, EntryPlan, InodePlan, Item, attribute, entry, file_extent, inode, rank,
+    sibling_link, sibling_map, stream_attribute,
+};
+use img_make::{Leaf, Plan, Sample, make, put_u32, sample};
+use obj_base::u32_at;
+use std::alloc::{AllocError, Global};
+use std::test::Fail;
+
+// The oid of the root of the volume's file-system tree.
+const ROOT_OID: u64 = 1028;
+
+// The oids of two leaves below it.
+const FIRST_LEAF: u64 = 1031;
+
+const LAST_LEAF: u64 = 1032;
+
+// What stands in the place of the root, beside the private directory.
+#[derive(Clone, Copy, PartialEq, Eq, Debug)]
+pub enum Top {
+    /// A root that says it has so many children.
+    Root(u32),
+    /// Inode 2 is a regular file.
+    File,
+    /// No inode 2.
+    None,
+    /// A root without children, and a private directory that says it has so many.
+    Private(u32),
+}
+
+// A record of a tree.
+#[derive(Clone, Copy, Debug)]
+pub enum Rec {
+    /// An inode: its id, its parent, its mode, and the number of its children or links.
+    Inode(u64, u64, u16, u32),
+    /// A regular file in the root with one link: its id, and the size of its stream.
+    Streamed(u64, u64),
+    /// An inode whose value lacks its last byte: its id, and its parent.
+    Cut(u64, u64),
+    /// An entry: its directory, its file, the kind that it gives, and its name.
+    Entry(u64, u64, u16, &'static str),
+    /// The same, with a hash that is greater by one.
+    Hashed(u64, u64, u16, &'static str),
+    /// An entry with a sibling's id before its name.
+    Twin(u64, u64, u16, u64, &'static str),
+    /// A sibling link: its file, the sibling, its directory, and its name.
+    Link(u64, u64, u64, &'static str),
+    /// A sibling map: the sibling, and the file.
+    Map(u64, u64),
+    /// An attribute that stands in its record: its file, its name, and its bytes.
+    Attr(u64, &'static str, &'static [u8]),
+    /// An attribute that is a stream: its file, its name, and the size.
+    StreamAttr(u64, &'static str, u64),
+    /// An extent: its stream, its logical address, its length in bytes, and its first block.
+    Extent(u64, u64, u64, u64),
+}
+
+fn inode_of(
+    alloc: Global,
+    id: u64,
+    parent: u64,
+    mode: u16,
+    children_or_links: u32,
+    stream: Option<u64>,
+) -> Result<Item, AllocError> {
+    let mut plan = InodePlan::file(id, parent);
+    plan.mode = mode;
+    plan.children_or_links = children_or_links;
+    plan.stream = stream;
+    inode(alloc, &plan)
+}
+
+fn entry_of(
+    alloc: Global,
+    directory: u64,
+    file: u64,
+    kind: u16,
+    sibling: Option<u64>,
+    name: &str,
+) -> Result<Item, AllocError> {
+    let plan = EntryPlan {
+        directory,
+        file,
+        kind,
+        sibling,
+    };
+    if name.len() > 1022 {
+        return Err(AllocError);
+    }
+    entry(alloc, Names::Folded, &plan, name)
+}
+
+// Raises the hash in an entry's key by one.
+fn raise_hash(item: &mut Item) {
+    if item.0.len() >= LEN_AND_HASH + 4 {
+        let word = u32_at(&item.0, LEN_AND_HASH);
+        put_u32(&mut item.0, LEN_AND_HASH, word.wrapping_add(0x400));
+    }
+}
+
+fn attribute_of(alloc: Global, file: u64, name: &str, bytes: &[u8]) -> Result<Item, AllocError> {
+    if name.len() > 1022 || bytes.len() > 60_000 {
+        return Err(AllocError);
+    }
+    attribute(alloc, file, name.as_bytes(), bytes)
+}
+
+fn link_of(
+    alloc: Global,
+    file: u64,
+    sibling: u64,
+    directory: u64,
+    name: &str,
+) -> Result<Item, AllocError> {
+    if name.len() > 1022 {
+        return Err(AllocError);
+    }
+    sibling_link(alloc, file, sibling, directory, name.as_bytes())
+}
+
+fn large_of(alloc: Global, file: u64, name: &str, size: u64) -> Result<Item, AllocError> {
+    if name.len() > 1022 {
+        return Err(AllocError);
+    }
+    stream_attribute(alloc, file, name.as_bytes(), file, size)
+}
+
+fn item_of(alloc: Global, record: Rec) -> Result<Item, AllocError> {
+    match record {
+        Rec::Inode(id, parent, mode, number) => inode_of(alloc, id, parent, mode, number, None),
+        Rec::Streamed(id, size) => inode_of(alloc, id, 2, 0x81a4, 1, Some(size)),
+        Rec::Cut(id, parent) => {
+            let mut item = inode_of(alloc, id, parent, 0x81a4, 1, None)?;
+            item.1.pop();
+            Ok(item)
+        }
+        Rec::Entry(directory, file, kind, name) => {
+            entry_of(alloc, directory, file, kind, None, name)
+        }
+        Rec::Hashed(directory, file, kind, name) => {
+            let mut item = entry_of(alloc, directory, file, kind, None, name)?;
+            raise_hash(&mut item);
+            Ok(item)
+        }
+        Rec::Twin(directory, file, kind, sibling, name) => {
+            entry_of(alloc, directory, file, kind, Some(sibling), name)
+        }
+        Rec::Link(file, sibling, directory, name) => {
+            link_of(alloc, file, sibling, directory, name)
+        }
+        Rec::Map(sibling, file) => sibling_map(alloc, sibling, file),
+        Rec::Attr(file, name, bytes) => attribute_of(alloc, file, name, bytes),
+        Rec::StreamAttr(file, name, size) => large_of(alloc, file, name, size),
+        Rec::Extent(stream, address, length, block) => {
+            file_extent(alloc, stream, address, length, block)
+        }
+    }
+}
+
+// The directories that each volume has: their entries, and their inodes as a case has them.
+fn top_items(alloc: Global, top: Top) -> Result<Vec<Item>, AllocError> {
+    let (children, private) = match top {
+        Top::Root(children) => (children, 0),
+        Top::Private(private) => (0, private),
+        Top::File | Top::None => (0, 0),
+    };
+    let mut items = vec![in alloc;
+        entry_of(alloc, 1, 2, 4, None, "root")?,
+        entry_of(alloc, 1, 3, 4, None, "private-dir")?,
+        inode_of(alloc, 3, 1, DIRECTORY_MODE, private, None)?,
+    ]?;
+    match top {
+        Top::Root(_) | Top::Private(_) => {
+            items.push(inode_of(alloc, 2, 1, DIRECTORY_MODE, children, None)?)?;
+        }
+        Top::File => items.push(inode_of(alloc, 2, 1, 0x81a4, 1, None)?)?,
+        Top::None => {}
+    }
+    Ok(items)
+}
+
+// The items of a tree, in its order.
+fn items_of(alloc: Global, top: Top, records: &[Rec]) -> Result<Vec<Item>, AllocError> {
+    let mut items = top_items(alloc, top)?;
+    for record in records {
+        items.push(item_of(alloc, *record)?)?;
+    }
+    items.sort_by_key(|item| rank(&item.0))?;
+    Ok(items)
+}
+
+// Puts a tree of these leaves in the place of that of the plan's volume.
+fn set_tree(plan: &mut Plan, leaves: Vec<Leaf>) {
+    if let Some(volume) = plan.volumes.first_mut() {
+        if let Some(version) = volume.versions.first_mut() {
+            version.leaves = leaves;
+        }
+    }
+}
+
+// A container of 256 blocks, whose volume has a tree of these leaves.
+fn image_with(alloc: Global, leaves: Vec<Leaf>) -> Result<Vec<u8>, Fail> {
+    let mut plan = sample(alloc, Sample::S)?;
+    set_tree(&mut plan, leaves);
+    if !plan.valid() {
+        return Err(Fail::from("the plan isn't valid"));
+    }
+    Ok(make(alloc, &plan)?)
+}
+
+// A container whose volume has this tree, in one node.
+pub fn image_of(alloc: Global, top: Top, records: &[Rec]) -> Result<Vec<u8>, Fail> {
+    let root = Leaf {
+        oid: ROOT_OID,
+        items: items_of(alloc, top, records)?,
+    };
+    image_with(alloc, vec![in alloc; root]?)
+}
+
+// A container whose volume has this tree, in two leaves below the root, of which the last has its last item alone.
+pub fn image_of_two(alloc: Global, top: Top, records: &[Rec]) -> Result<Vec<u8>, Fail> {
+    let mut items = items_of(alloc, top, records)?;
+    let mut last = Vec::new(alloc);
+    if let Some(item) = items.pop() {
+        last.push(item)?;
+    }
+    let first = Leaf {
+        oid: FIRST_LEAF,
+        items,
+    };
+    let second = Leaf {
+        oid: LAST_LEAF,
+        items: last,
+    };
+    image_with(alloc, vec![in alloc; first, second]?)
+}

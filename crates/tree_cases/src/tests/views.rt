@@ -1,0 +1,288 @@
+// What is said of the views of the cases, under both profiles.
+use crate::tests::cases::{
+    Case, DIRECTORY_CASES, EXTENT_CASES, INODE_CASES, LEAF_CASES, NAME_CASES, SIBLING_CASES, Said,
+    Word,
+};
+use crate::tests::opened::open;
+use crate::tests::trees::{Rec, Top, image_of, image_of_two};
+use blk_source::{Bytes, MemSource};
+use ext_ref::NewRange;
+use fs_record::{IdAt, NamedAt, RecFault, TreeFault};
+use img_make::{Sample, make, sample};
+use obj_base::Stop;
+use std::alloc::Global;
+use std::process::Abort;
+use std::test::Fail;
+use tree_rules::{Note, Profile, ViewTally, check_view};
+
+// The ranges that cover the blocks of extents.
+const RANGES: [NewRange; 2] = [
+    NewRange {
+        first: 57,
+        length: 2,
+        count: 1,
+    },
+    NewRange {
+        first: 255,
+        length: 4,
+        count: 1,
+    },
+];
+
+// What is said of a view of the only volume, by its number.
+fn checked(
+    alloc: Global,
+    image: Vec<u8>,
+    number: usize,
+    profile: Profile,
+) -> Result<Result<ViewTally, Stop<TreeFault>>, Fail> {
+    let mut src = MemSource::new(image, Vec::new(alloc));
+    let at = open(alloc, &mut src, number)?;
+    Ok(check_view(
+        alloc, &mut src, &at.volume, &at.view, &RANGES, &at.site, profile,
+    ))
+}
+
+fn at(id: u64) -> IdAt {
+    IdAt {
+        slot: 0,
+        xid: 1,
+        id,
+    }
+}
+
+fn named_at(alloc: Global, id: u64, name: &str) -> Result<NamedAt, Fail> {
+    Ok(NamedAt {
+        slot: 0,
+        xid: 1,
+        id,
+        name: Bytes::from_slice(alloc, name.as_bytes())?,
+    })
+}
+
+// The fault of a word at an id; a word that wants a name has no fault without one.
+fn fault_at(word: Word, id: u64) -> Option<TreeFault> {
+    let fault = match word {
+        Word::DirNames => TreeFault::DirNames(at(id)),
+        Word::Unreached => TreeFault::Unreached(at(id)),
+        Word::Children => TreeFault::Children(at(id)),
+        Word::Links => TreeFault::Links(at(id)),
+        Word::SiblingLost => TreeFault::SiblingLost(at(id)),
+        Word::ExtentOrder => TreeFault::ExtentOrder(at(id)),
+        Word::ExtentPlace => TreeFault::ExtentPlace(at(id)),
+        Word::ExtentUncovered => TreeFault::ExtentUncovered(at(id)),
+        Word::LinkTarget => TreeFault::LinkTarget(at(id)),
+        Word::Stream => TreeFault::Stream(at(id)),
+        Word::AttrOwner => TreeFault::AttrOwner(at(id)),
+        _ => return None,
+    };
+    Some(fault)
+}
+
+// The fault of a word at an id and a name.
+fn fault_named(word: Word, at: NamedAt) -> Option<TreeFault> {
+    let fault = match word {
+        Word::DupName => TreeFault::DupName(at),
+        Word::Hash => TreeFault::Hash(at),
+        Word::NoParent => TreeFault::NoParent(at),
+        Word::KindMismatch => TreeFault::KindMismatch(at),
+        Word::NoInode => TreeFault::NoInode {
+            slot: at.slot,
+            xid: at.xid,
+            id: at.id,
+            name: Some(at.name),
+        },
+        _ => return None,
+    };
+    Some(fault)
+}
+
+// The fault that is said to be there, where one is.
+fn fault_of(alloc: Global, said: Said) -> Result<Option<TreeFault>, Fail> {
+    Ok(match said {
+        Said::Clean(_) | Said::Unnamed(..) | Said::Either(..) => None,
+        Said::Order(item) => Some(TreeFault::Order {
+            slot: 0,
+            xid: 1,
+            item,
+        }),
+        Said::Record(item) => Some(TreeFault::Record {
+            slot: 0,
+            xid: 1,
+            item,
+            why: RecFault::Length,
+        }),
+        Said::NoRoot => Some(TreeFault::NoInode {
+            slot: 0,
+            xid: 1,
+            id: 2,
+            name: None,
+        }),
+        Said::At(word, id) => fault_at(word, id),
+        Said::Named(word, id, name) => fault_named(word, named_at(alloc, id, name)?),
+    })
+}
+
+// Whether a tally is the one that is said.
+fn is_tally(tally: &ViewTally, said: Said) -> bool {
+    match said {
+        Said::Clean(records) => tally.records == records && tally.notes.is_empty(),
+        Said::Unnamed(records, id) => {
+            tally.records == records
+                && tally.notes.len() == 1
+                && tally.notes[0] == Note::Unnamed(at(id))
+        }
+        _ => false,
+    }
+}
+
+// Whether a fault is one that is said to be there.
+fn is_fault(alloc: Global, fault: &TreeFault, said: Said) -> Result<bool, Fail> {
+    if let Said::Either(one, other, id) = said {
+        return Ok(
+            fault_at(one, id).is_some_and(|f| f == *fault)
+                || fault_at(other, id).is_some_and(|f| f == *fault),
+        );
+    }
+    Ok(fault_of(alloc, said)?.is_some_and(|f| f == *fault))
+}
+
+// Whether what is answered is what is said.
+fn is_as_said(
+    alloc: Global,
+    answer: &Result<ViewTally, Stop<TreeFault>>,
+    said: Said,
+) -> Result<bool, Fail> {
+    Ok(match answer {
+        Ok(tally) => is_tally(tally, said),
+        Err(Stop::Found(fault)) => is_fault(alloc, fault, said)?,
+        Err(_) => false,
+    })
+}
+
+fn assert_case(
+    rt: &impl Abort,
+    alloc: Global,
+    name: &str,
+    image: &[u8],
+    said: Said,
+) -> Result<(), Fail> {
+    for profile in [Profile::Plain, Profile::Strict] {
+        let answer = checked(alloc, image.to_vec(alloc)?, 0, profile)?;
+        let as_said = is_as_said(alloc, &answer, said)?;
+        assert!(rt; as_said, "{name}: {answer:?}");
+    }
+    Ok(())
+}
+
+fn assert_cases(rt: &impl Abort, alloc: Global, cases: &[Case]) -> Result<(), Fail> {
+    for (name, top, records, said) in cases {
+        let image = image_of(alloc, *top, records)?;
+        assert_case(rt, alloc, name, &image, *said)?;
+    }
+    Ok(())
+}
+
+#[test]
+fn name_cases_end_as_said(rt: HostRuntime) -> Result<(), Fail> {
+    assert_cases(&rt, rt.alloc(), NAME_CASES)
+}
+
+#[test]
+fn directory_cases_end_as_said(rt: HostRuntime) -> Result<(), Fail> {
+    assert_cases(&rt, rt.alloc(), DIRECTORY_CASES)
+}
+
+#[test]
+fn sibling_cases_end_as_said(rt: HostRuntime) -> Result<(), Fail> {
+    assert_cases(&rt, rt.alloc(), SIBLING_CASES)
+}
+
+#[test]
+fn extent_cases_end_as_said(rt: HostRuntime) -> Result<(), Fail> {
+    assert_cases(&rt, rt.alloc(), EXTENT_CASES)
+}
+
+#[test]
+fn inode_cases_end_as_said(rt: HostRuntime) -> Result<(), Fail> {
+    assert_cases(&rt, rt.alloc(), INODE_CASES)
+}
+
+#[test]
+fn cases_of_two_leaves_end_as_said(rt: HostRuntime) -> Result<(), Fail> {
+    let alloc = rt.alloc();
+    for (name, top, records, said) in LEAF_CASES {
+        let image = image_of_two(alloc, *top, records)?;
+        assert_case(&rt, alloc, name, &image, *said)?;
+    }
+    Ok(())
+}
+
+// A name that isn't ASCII, with another hash in its entry.
+const OTHER_HASH: &[Rec] = &[Rec::Hashed(2, 16, 8, "é"), Rec::Inode(16, 2, 0x81a4, 1)];
+
+#[test]
+fn another_hash_is_a_fault_under_strict(rt: HostRuntime) -> Result<(), Fail> {
+    let alloc = rt.alloc();
+    let image = image_of(alloc, Top::Root(1), OTHER_HASH)?;
+    let fault = TreeFault::NameHash(named_at(alloc, 2, "é")?);
+    let answer = checked(alloc, image, 0, Profile::Strict)?;
+    assert!(rt; answer.is_err_and(|stop| stop == Stop::Found(fault)));
+    Ok(())
+}
+
+// Two such names, and two files without an entry, whose ids stand between those of the directories.
+const NOTED: &[Rec] = &[
+    Rec::Hashed(2, 18, 8, "é"),
+    Rec::Entry(2, 20, 4, "d"),
+    Rec::Hashed(20, 17, 8, "ü"),
+    Rec::Inode(16, 2, 0x81a4, 1),
+    Rec::Inode(17, 20, 0x81a4, 1),
+    Rec::Inode(18, 2, 0x81a4, 1),
+    Rec::Inode(19, 2, 0x81a4, 3),
+    Rec::Inode(20, 2, 0x41ed, 1),
+];
+
+#[test]
+fn notes_stand_in_their_order(rt: HostRuntime) -> Result<(), Fail> {
+    let alloc = rt.alloc();
+    let image = image_of(alloc, Top::Root(2), NOTED)?;
+    let Ok(tally) = checked(alloc, image, 0, Profile::Plain)? else {
+        panic!(rt; "the view breaks a rule");
+    };
+    let notes = vec![in alloc;
+        Note::Hash(named_at(alloc, 2, "é")?),
+        Note::Hash(named_at(alloc, 20, "ü")?),
+        Note::Unnamed(at(16)),
+        Note::Unnamed(at(19)),
+    ]?;
+    assert_eq!(rt; tally.records, 12);
+    assert!(rt; tally.notes.as_slice() == notes.as_slice());
+    Ok(())
+}
+
+#[test]
+fn samples_meet_the_rules(rt: HostRuntime) -> Result<(), Fail> {
+    let alloc = rt.alloc();
+    for (which, number, records) in [
+        (Sample::S, 0, 4),
+        (Sample::H, 0, 8),
+        (Sample::L, 0, 11),
+        (Sample::P, 0, 9),
+        (Sample::C, 0, 12),
+        (Sample::V, 0, 6),
+        (Sample::V, 1, 6),
+        (Sample::V, 2, 6),
+    ] {
+        let image = make(alloc, &sample(alloc, which)?)?;
+        let Ok(tally) = checked(alloc, image, number, Profile::Strict)? else {
+            panic!(rt; "{which:?} {number}: a rule is broken");
+        };
+        assert_eq!(rt;
+            (tally.records, tally.notes.len()),
+            (records, 0),
+            "{which:?} {number}"
+        );
+    }
+    Ok(())
+}
