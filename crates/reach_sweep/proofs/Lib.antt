@@ -5,4 +5,5 @@ pub mod Owners
 pub mod Views
 pub mod Swept
 pub mod Records
+pub mod Lives
 pub mod Composed
