@@ -12,6 +12,7 @@ use Rattle.reach_sweep.proofs.Joined.{joined-by}
 use Rattle.reach_sweep.proofs.Covered.{covered-by}
 use Rattle.reach_sweep.proofs.Records.{records-by}
 use Rattle.reach_sweep.proofs.Lives.{held-live, views-live, used-by, unused-present}
+use Rattle.reach_sweep.proofs.MapsOf.{maps-by}
 use Rattle.reach_sweep.proofs.Owners.{owners-by, pool-owners-by, objects-by}
 use Rattle.reach_sweep.proofs.Swept.{views-are}
 
@@ -51,6 +52,7 @@ parts-compose image seen = record {
   held_live = held-live image seen;
   views_live = views-live image seen;
   used = used-by image seen;
+  maps = maps-by image seen;
   unused = unused-present image seen;
   owners = owners-by image seen;
   pool_owners = pool-owners-by image seen;

@@ -6,4 +6,5 @@ pub mod Views
 pub mod Swept
 pub mod Records
 pub mod Lives
+pub mod MapsOf
 pub mod Composed

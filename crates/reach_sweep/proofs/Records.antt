@@ -31,7 +31,7 @@ heads-live image seen heads n p h =
     rooted n (inr (inr (in-right n reaper _ (in-right n jump _ (subst (λ (ns : List Naming). In n ns) (sym p.slots_are) h)))))
 
 -- the volume of a head is right
-head-part : (image : List ℕ) (seen : Seen) (heads : List VolHead) (volumes : List Loaded) (namer : Loaded → Namer) → HasParts image seen heads → AreVolumes image seen heads volumes namer → (head : VolHead) → In head heads → (volume : Loaded) × IsVolumePart image seen head volume
+pub head-part : (image : List ℕ) (seen : Seen) (heads : List VolHead) (volumes : List Loaded) (namer : Loaded → Namer) → HasParts image seen heads → AreVolumes image seen heads volumes namer → (head : VolHead) → In head heads → (volume : Loaded) × IsVolumePart image seen head volume
 head-part image seen heads volumes namer p v head h =
     let t = from-map head_of volumes head (subst (λ (hs : List VolHead). In head hs) v.heads_are h) in
     let volume : Loaded = t.0 in

@@ -1,9 +1,10 @@
 -- What is gathered of a container call by call, and that all is reached with it.
-use Rattle.std.specs.Prelude.{◌≡◌, ℕ, List, [], ◌∷◌, ◌++◌, length, map, flat_map, Some}
+use Rattle.std.specs.Prelude.{◌≡◌, ◌⊎◌, ℕ, List, [], ◌∷◌, ◌++◌, length, map, flat_map, Some}
 use Rattle.apfs_model.specs.Counts.{given}
 use Rattle.apfs_model.specs.Lists.{In}
 use Rattle.obj_base.specs.Stops.{Tells, NoFeature}
 use Rattle.obj_base.specs.declared.stop.Stop.{Stop}
+use Rattle.obj_base.specs.declared.stop.Within.TheVariants.{Container, Volume}
 use Rattle.nx_block.specs.Super.{omap_oid_of}
 use Rattle.nx_ring.specs.Checkpoint.{Seen, site_of}
 use Rattle.nx_ring.specs.Features.{container_features}
@@ -166,6 +167,29 @@ AreUsedBy image seen =
     → AreRecordsWith image seen all records (records_used used)
     → AreUsedOnes image seen used
 
+-- the records of the container's map, as `unused` takes them
+pub record IsContainerMap (image : List ℕ) (seen : Seen) (m : MapRecords) : Type 0 where
+  pub within_is : m.within ≡ Container
+  pub map_is : m.map ≡ omap_oid_of seen.nx
+  pub records_are : m.records.now ≡ map_records image (site_of seen) (omap_oid_of seen.nx)
+
+-- those of a volume's
+pub record IsVolumeMap (volumes : List Loaded) (m : MapRecords) : Type 0 where
+  pub volume : Loaded
+  pub one : In volume volumes
+  pub within_is : m.within ≡ Volume volume.head.slot
+  pub map_is : m.map ≡ map_of volume
+  pub records_are : m.records.now ≡ volume.omap.records
+
+-- maps of which each is the container's or a volume's are sound ones
+abbrev pub AreMapsBy : List ℕ → Seen → Type 0
+AreMapsBy image seen =
+    (heads : List VolHead) (volumes : List Loaded) (namer : Loaded → Namer) (maps : List MapRecords)
+    → HasParts image seen heads
+    → AreVolumes image seen heads volumes namer
+    → ((m : MapRecords) → In m maps → IsContainerMap image seen m ⊎ IsVolumeMap volumes m)
+    → AreMapsOf image seen maps
+
 -- so a record of a map that isn't used is there
 abbrev pub AreUnusedPresent : List ℕ → Seen → Type 0
 AreUnusedPresent image seen =
@@ -258,6 +282,7 @@ pub record PartsCompose (image : List ℕ) (seen : Seen) : Type 0 where
   pub held_live : AreHeldLive image seen
   pub views_live : AreViewsLive image seen
   pub used : AreUsedBy image seen
+  pub maps : AreMapsBy image seen
   pub unused : AreUnusedPresent image seen
   pub owners : AreOwnersBy image seen
   pub pool_owners : ArePoolOwnersBy image seen
