@@ -1,6 +1,5 @@
 -- The maps whose records are looked at are sound ones of the container.
-use Rattle.std.proofs.Common.{◌≡◌, ℕ, true, List, map, inl, inr, refl, ap, sym, ◌∙◌, subst}
-use Rattle.std.specs.Prelude.{◌&&◌}
+use Rattle.std.proofs.Common.{◌≡◌, ℕ, true, List, inl, inr, refl, sym, ◌∙◌, subst}
 use Rattle.apfs_model.specs.Lists.{In}
 use Rattle.apfs_model.proofs.BoolTests.{left-true}
 use Rattle.apfs_model.proofs.Searches.{in-map}
