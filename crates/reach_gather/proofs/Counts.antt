@@ -32,7 +32,7 @@ found-as {X} {Y} g y None e = absurd (let z : ◌≡◌ {A = Option Y} None (Som
 found-as {X} {Y} g y (Some x) e = let z : ◌≡◌ {A = Option Y} (Some (g x)) (Some y) = e in (x, (refl, (let k : y ≡ g x = cc in k)))
 
 -- ---- the object that is found by a look-up
-abbrev IsObjectBy : LookUp → ℕ → Object → Type 0
+abbrev pub IsObjectBy : LookUp → ℕ → Object → Type 0
 IsObjectBy ByBlock oid x = x ≡ InBlock oid
 IsObjectBy ByMapping oid x = x ≡ OfId oid
 IsObjectBy InContainer oid x = (r : ℕ × OmapRecord) × (x ≡ record_object r)
@@ -58,7 +58,7 @@ object-by image seen ByMapping e oid f h =
 object-by image seen InContainer e oid f h = by-record image (site_of seen) _ seen.line.xid oid f h
 object-by image seen (InView view) e oid f h = by-record image (site_of seen) view.map view.xid oid f h
 
-resolved-by : (image : List ℕ) (seen : Seen) (n : Naming) (f : Found) → resolved image seen n ≡ Some f → IsObjectBy n.how n.oid f.object
+pub resolved-by : (image : List ℕ) (seen : Seen) (n : Naming) (f : Found) → resolved image seen n ≡ Some f → IsObjectBy n.how n.oid f.object
 unfolding resolved
 resolved-by image seen n f h = object-by image seen n.how n.expected n.oid f h
 

@@ -1,5 +1,5 @@
 -- The parts of a container, added one after the other, and what is held of them then.
-use Rattle.std.proofs.Common.{◌≡◌, ℕ, List, [], ◌∷◌, ◌++◌, map, inl, inr, subst}
+use Rattle.std.proofs.Common.{ℕ, List, [], ◌∷◌, ◌++◌, map, inl, inr, subst}
 use Rattle.std.specs.List.{flat_map, range_with_len}
 use Rattle.apfs_model.specs.Lists.{In}
 use Rattle.nx_block.specs.Super.{slots}

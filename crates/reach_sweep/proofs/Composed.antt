@@ -1,5 +1,5 @@
 -- Once each call has said what it does, all is reached.
-use Rattle.std.proofs.Common.{◌≡◌, ℕ, List, sym, subst}
+use Rattle.std.proofs.Common.{ℕ, List, subst}
 use Rattle.nx_ring.specs.Checkpoint.{Seen}
 use Rattle.omap_map.specs.declared.records.OmapRecord.{OmapRecord}
 use Rattle.reach_rules.specs.Naming.{Naming}
@@ -11,6 +11,8 @@ use Rattle.reach_sweep.proofs.Added.{parts-added, held-same}
 use Rattle.reach_sweep.proofs.Joined.{joined-by}
 use Rattle.reach_sweep.proofs.Covered.{covered-by}
 use Rattle.reach_sweep.proofs.Records.{records-by}
+use Rattle.reach_sweep.proofs.Lives.{held-live, views-live, used-by, unused-present}
+use Rattle.reach_sweep.proofs.MapsOf.{maps-by}
 use Rattle.reach_sweep.proofs.Owners.{owners-by, pool-owners-by, objects-by}
 use Rattle.reach_sweep.proofs.Swept.{views-are}
 
@@ -47,6 +49,11 @@ parts-compose image seen = record {
   joined = joined-by image seen;
   covered = covered-by image seen;
   records = records-by image seen;
+  held_live = held-live image seen;
+  views_live = views-live image seen;
+  used = used-by image seen;
+  maps = maps-by image seen;
+  unused = unused-present image seen;
   owners = owners-by image seen;
   pool_owners = pool-owners-by image seen;
   objects = objects-by image seen;

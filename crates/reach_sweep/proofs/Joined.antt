@@ -1,6 +1,5 @@
 -- What was added, and what views use, is joined.
-use Rattle.std.proofs.Common.{◌≡◌, ℕ, List, map, sym, subst}
-use Rattle.apfs_model.specs.Lists.{In}
+use Rattle.std.proofs.Common.{ℕ, List, sym, subst}
 use Rattle.apfs_model.proofs.Searches.{in-map, from-map}
 use Rattle.nx_ring.specs.Checkpoint.{Seen}
 use Rattle.omap_map.specs.declared.records.OmapRecord.{OmapRecord}

@@ -5,4 +5,6 @@ pub mod Owners
 pub mod Views
 pub mod Swept
 pub mod Records
+pub mod Lives
+pub mod MapsOf
 pub mod Composed

@@ -1,10 +1,10 @@
 -- The owners that were told, and the objects that were counted.
-use Rattle.std.proofs.Common.{◌≡◌, ℕ, false, List, [], ◌∷◌, ◌++◌, map, inl, inr, refl, ap, sym, subst}
+use Rattle.std.proofs.Common.{◌≡◌, ℕ, false, List, [], ◌++◌, map, inl, inr, refl, sym, subst}
 use Rattle.std.specs.Prelude.{not, ◌==◌}
 use Rattle.std.specs.List.{flat_map}
-use Rattle.apfs_model.specs.Lists.{In, Lists}
+use Rattle.apfs_model.specs.Lists.{In}
 use Rattle.apfs_model.proofs.BoolTests.{not-true, false-not}
-use Rattle.apfs_model.proofs.Searches.{in-left, in-right, in-append, in-map, from-map, in-flat_map, from-flat_map, in-filter, from-filter, filter-test}
+use Rattle.apfs_model.proofs.Searches.{in-left, in-right, in-append, from-map, in-flat_map, from-flat_map, in-filter, from-filter, filter-test}
 use Rattle.nx_ring.specs.Checkpoint.{Seen}
 use Rattle.omap_map.specs.declared.records.OmapRecord.{OmapRecord}
 use Rattle.reach_rules.specs.Naming.{Naming}
@@ -12,9 +12,8 @@ use Rattle.reach_rules.specs.Owners.{Owner, first_owners, owners_through}
 use Rattle.reach_rules.specs.PoolOwners.{pool_owners_through}
 use Rattle.tree_namings.specs.Joined.{HaveSame}
 use Rattle.tree_namings.specs.Views.{record_owner}
-use Rattle.tree_namings.specs.Ranges.{joined_owners}
 use Rattle.tree_namings.proofs.Views.{joined-tells}
-use Rattle.reach_gather.specs.Held.{Held, IsOwnerThrough, some_owners}
+use Rattle.reach_gather.specs.Held.{IsOwnerThrough, some_owners}
 use Rattle.reach_gather.specs.Finished.{AreRangesOnce}
 use Rattle.reach_gather.proofs.Counts.{count-named}
 use Rattle.reach_sweep.specs.Composed.{AreOwnersAs, AreOwnersBy, ArePoolOwnersBy, AreObjectsBy}
@@ -100,7 +99,7 @@ pool-owners-by image seen rest records start parts done ranges s g told r =
       | inr w ↦ through-those t g.these parts.namings same a w
     ] in
     let back : (a : Owner) → IsSome those a → In a done.pool_owners = λ a o.
-        subst (λ (os : List Owner). In a os) (sym told.pool_owners) (g.grew.pool_owners.grown a (those-through t g.these parts.namings same a o)) in
+    subst (λ (os : List Owner). In a os) (sym told.pool_owners) (g.grew.pool_owners.grown a (those-through t g.these parts.namings same a o)) in
     owners-as done.pool_owners those ranges to back r
 
 -- ---- objects

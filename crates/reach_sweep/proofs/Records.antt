@@ -1,5 +1,5 @@
 -- The records that are used are those of views, and those by which the volumes are found.
-use Rattle.std.proofs.Common.{◌≡◌, ◌⊎◌, ℕ, List, ◌++◌, map, Option, Some, inl, inr, ap, sym, ◌∙◌, subst}
+use Rattle.std.proofs.Common.{◌≡◌, ◌⊎◌, ℕ, List, map, Option, Some, inl, inr, ap, sym, ◌∙◌, subst}
 use Rattle.apfs_model.specs.Lists.{In}
 use Rattle.apfs_model.proofs.Searches.{in-left, in-right, in-append, in-map, from-map}
 use Rattle.nx_block.specs.Super.{omap_oid_of}
@@ -8,12 +8,12 @@ use Rattle.omap_map.specs.Maps.{resolved_in}
 use Rattle.omap_map.specs.declared.records.OmapRecord.{OmapRecord}
 use Rattle.vol_view.specs.Volumes.{Loaded}
 use Rattle.vol_view.specs.declared.head.VolHead.{VolHead}
-use Rattle.reach_rules.specs.Naming.{LookUp, InContainer, InView, Object, OfRecord, Namer, Naming}
+use Rattle.reach_rules.specs.Naming.{InContainer, InView, OfRecord, Namer, Naming}
 use Rattle.reach_rules.specs.Resolved.{Found, resolved, standing}
 use Rattle.reach_rules.specs.Next.{roots}
 use Rattle.reach_rules.specs.Live.{IsLive, rooted}
 use Rattle.tree_namings.specs.Container.{reaper_naming, jumpstart_naming}
-use Rattle.tree_namings.specs.Views.{record_object, ResolvesTo, AreJoined}
+use Rattle.tree_namings.specs.Views.{record_object, ResolvesTo}
 use Rattle.tree_namings.proofs.Views.{view-live}
 use Rattle.vol_parts.specs.Told.{head_naming}
 use Rattle.vol_parts.specs.Parts.{IsVolumePart}
@@ -31,14 +31,14 @@ heads-live image seen heads n p h =
     rooted n (inr (inr (in-right n reaper _ (in-right n jump _ (subst (λ (ns : List Naming). In n ns) (sym p.slots_are) h)))))
 
 -- the volume of a head is right
-head-part : (image : List ℕ) (seen : Seen) (heads : List VolHead) (volumes : List Loaded) (namer : Loaded → Namer) → HasParts image seen heads → AreVolumes image seen heads volumes namer → (head : VolHead) → In head heads → (volume : Loaded) × IsVolumePart image seen head volume
+pub head-part : (image : List ℕ) (seen : Seen) (heads : List VolHead) (volumes : List Loaded) (namer : Loaded → Namer) → HasParts image seen heads → AreVolumes image seen heads volumes namer → (head : VolHead) → In head heads → (volume : Loaded) × IsVolumePart image seen head volume
 head-part image seen heads volumes namer p v head h =
     let t = from-map head_of volumes head (subst (λ (hs : List VolHead). In head hs) v.heads_are h) in
     let volume : Loaded = t.0 in
     let there : In volume.head heads = subst (λ (x : VolHead). In x heads) t.1.1 h in
     (volume, subst (λ (x : VolHead). IsVolumePart image seen x volume) (sym t.1.1) (p.volumes volume.head volume there (v.loaded volume t.1.0)))
 
-one-found : (o : Option Found) (f g : Found) → o ≡ Some f → o ≡ Some g → f ≡ g
+pub one-found : (o : Option Found) (f g : Found) → o ≡ Some f → o ≡ Some g → f ≡ g
 one-found o f g a b = let z : Some f ≡ Some g = sym a ∙ b in cc
 
 one-record : (o : Option OmapRecord) (r s : OmapRecord) → o ≡ Some r → o ≡ Some s → r ≡ s
@@ -56,7 +56,6 @@ record-is image seen head volume part n r same to =
     let f : Found = standing image (site_of seen) (OfRecord (omap_oid_of seen.nx) part.mapping) head.block in
     let e : f ≡ to.object = one-found (resolved image seen n) f to.object (ap (resolved image seen) same ∙ part.found) to.found in
     ap (λ (g : Found). g.object) e ∙ to.record_is
-
 
 pub records-by : (image : List ℕ) (seen : Seen) → AreRecordsBy image seen
 records-by image seen heads volumes namer all views records of_heads p v j hs =

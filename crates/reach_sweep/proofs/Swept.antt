@@ -12,8 +12,7 @@ use Rattle.apfs_model.proofs.Searches.{in-append, in-map, get-in, from-flat_map}
 use Rattle.fs_name.specs.Normal.{are_hashed}
 use Rattle.nx_block.specs.Super.{fs_oid_of, slots}
 use Rattle.nx_ring.specs.Checkpoint.{Seen, site_of}
-use Rattle.omap_map.specs.declared.records.OmapRecord.{OmapRecord}
-use Rattle.vol_view.specs.Volumes.{Loaded, map_block_of, map_or_empty, loaded_of}
+use Rattle.vol_view.specs.Volumes.{Loaded, map_or_empty, loaded_of}
 use Rattle.vol_view.specs.LoadStops.{IsLoadable, IsVolumeOf}
 use Rattle.vol_view.specs.declared.head.VolHead.{VolHead}
 use Rattle.vol_view.specs.declared.volume.Snapshot.{Snapshot}
@@ -30,7 +29,7 @@ use Rattle.view_sweep.specs.Wanted.{view_at, head_wants, heads_want, naming_of, 
 use Rattle.view_sweep.specs.Found.{records_at}
 use Rattle.view_sweep.specs.Named.{head_namings, AreOfImage}
 use Rattle.reach_gather.specs.Views.{pasts_namings, volume_views}
-use Rattle.reach_sweep.specs.Views.{head_of, AreVolumes, volumes_views, swept_view, live_head, past_head, past_heads, volume_heads, heads_from, swept_heads, past_namer, place_namer, view_namer, supers_of, ViewsAre}
+use Rattle.reach_sweep.specs.Views.{head_of, AreVolumes, volumes_views, swept_view, live_head, past_head, past_heads, volume_heads, heads_from, swept_heads, found_namer, past_namer, view_namer, supers_of, ViewsAre}
 use Rattle.reach_sweep.proofs.Views.{slot-expected, same-slot, views-loaded}
 
 -- ---- what the head of a view names
@@ -75,7 +74,7 @@ pasts-told namer volumes i volume k (s ∷ ss) e at =
     let supers : SweptView → Namer = supers_of namer volumes in
     let view = past_at volume.head.slot (map_of volume) (are_hashed volume.names) k s in
     let by : view_namer namer (slice_get volumes i) (suc k) ≡ Whole (InBlock s.super_block) =
-        ap (λ (o : Option Loaded). view_namer namer o (suc k)) e ∙ ap past_namer (stands-here volume.snaps k s ss at) in
+    ap (λ (o : Option Loaded). view_namer namer o (suc k)) e ∙ ap past_namer (stands-here volume.snaps k s ss at) in
     ap (λ x. told_view x view s.root_oid s.meta_ext ++ flat_map (told_by supers) (past_heads i volume (suc k) ss)) by
     ∙ ap (λ ns. told_view (Whole (InBlock s.super_block)) view s.root_oid s.meta_ext ++ ns) (pasts-told namer volumes i volume (suc k) ss e (stands-next volume.snaps k s ss at))
 
@@ -125,7 +124,12 @@ past-swept seen volumes i volume k [] e at h z = absurd z
 past-swept seen volumes i volume k (s ∷ ss) e at h (inl same) =
     let v : SweptView = (past_head i volume k s).view in
     let is : IsSweptOf seen volumes v = record {
-      i = i; volume = volume; at = e; volume_is = refl; slot_is = refl; map_is = refl;
+      i = i;
+      volume = volume;
+      at = e;
+      volume_is = refl;
+      slot_is = refl;
+      map_is = refl;
       view_is = ap (past_swept i volume k) (sym (stands-here volume.snaps k s ss at));
     } in
     subst (λ (x : Head). IsSweptOf seen volumes x.view) (sym same) is
@@ -198,10 +202,10 @@ slot-places image seen heads volumes p e i j v w a b same =
     let slots_are : flat_map (slot_namings nx) (range_with_len 0 slots) ≡ ns = p.slots_are ∙ (ap (map head_naming) e ∙ maps-one head_of head_naming volumes) in
     let apart : Apart ns = subst (λ (xs : List Naming). Apart xs) slots_are (slots-apart nx (range_with_len 0 slots) (apart-range 0 slots)) in
     let placed : (u : Loaded) → In u volumes → In (volume_naming u) (slot_namings nx u.head.slot) = λ u h.
-        let t = from-flat_map (slot_namings nx) (volume_naming u) (range_with_len 0 slots) (subst (λ (xs : List Naming). In (volume_naming u) xs) (sym slots_are) (in-map volume_naming volumes u h)) in
-        subst (λ s. In (volume_naming u) (slot_namings nx s)) (same-slot t.0 u.head.slot (sym (slot-expected nx t.0 (volume_naming u) t.1.1))) t.1.1 in
+    let t = from-flat_map (slot_namings nx) (volume_naming u) (range_with_len 0 slots) (subst (λ (xs : List Naming). In (volume_naming u) xs) (sym slots_are) (in-map volume_naming volumes u h)) in
+    subst (λ s. In (volume_naming u) (slot_namings nx s)) (same-slot t.0 u.head.slot (sym (slot-expected nx t.0 (volume_naming u) t.1.1))) t.1.1 in
     let one : volume_naming v ≡ volume_naming w =
-        slot-one nx w.head.slot (volume_naming v) (volume_naming w) (subst (λ s. In (volume_naming v) (slot_namings nx s)) same (placed v (get-in volumes i v a))) (placed w (get-in volumes j w b)) in
+    slot-one nx w.head.slot (volume_naming v) (volume_naming w) (subst (λ s. In (volume_naming v) (slot_namings nx s)) same (placed v (get-in volumes i v a))) (placed w (get-in volumes j w b)) in
     let at : (k : ℕ) (u : Loaded) → slice_get volumes k ≡ Some u → slice_get ns k ≡ Some (volume_naming u) = λ k u h. slice_get-map volume_naming volumes k ∙ ap (option_map volume_naming) h in
     apart-place ns apart i j (volume_naming w) (at i v a ∙ ap Some one) (at j w b)
 
@@ -248,6 +252,7 @@ of-image image seen heads volumes namer v = record {
 
 pub views-are : (image : List ℕ) (seen : Seen) → ViewsAre image seen
 views-are image seen = record {
+  volumes = λ volumes loaded. record { heads_are = refl; loaded = loaded; named = λ volume r h e. ap (found_namer seen) e };
   loaded = λ heads volumes namer p v. views-loaded image seen heads volumes namer p v;
   swept = λ heads volumes namer p v. subst (λ (ns : List Naming). HaveSame (all_views image seen) ns) (swept-same seen namer volumes) (views-loaded image seen heads volumes namer p v);
   told = λ heads volumes namer p v. told-heads image seen heads volumes namer p v;

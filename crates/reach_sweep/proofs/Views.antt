@@ -1,5 +1,5 @@
 -- What all views of a container name is what those of the loaded volumes do.
-use Rattle.std.proofs.Common.{◌≡◌, ℕ, suc, Bool, true, false, ◌==◌, ◌+◌, ◌*◌, List, [], ◌∷◌, ◌++◌, map, Option, Some, inl, inr, refl, ap, sym, ◌∙◌, subst, if◌then◌else◌}
+use Rattle.std.proofs.Common.{◌≡◌, ℕ, suc, Bool, true, false, ◌==◌, ◌+◌, ◌*◌, List, [], ◌∷◌, ◌++◌, map, Option, inl, inr, refl, ap, sym, ◌∙◌, subst, if◌then◌else◌}
 use Rattle.std.specs.List.{flat_map, range_with_len}
 use Rattle.apfs_model.specs.Lists.{In, through}
 use Rattle.apfs_model.proofs.Searches.{in-map, from-map, in-flat_map, from-flat_map}
@@ -14,12 +14,12 @@ use Rattle.vol_view.specs.Volumes.{Loaded, super_of, map_block_of, metadata_of, 
 use Rattle.vol_view.specs.LoadStops.{IsLoadable, IsVolumeOf}
 use Rattle.vol_view.specs.declared.head.VolHead.{VolHead}
 use Rattle.reach_rules.specs.Naming.{InContainer, Newest, OfRecord, Namer, Whole, VolumeIn, Naming, naming}
-use Rattle.reach_rules.specs.Resolved.{Found, resolved, standing}
+use Rattle.reach_rules.specs.Resolved.{Found, standing}
 use Rattle.reach_rules.specs.Next.{slot_namings, past_view}
 use Rattle.tree_namings.specs.Joined.{HaveSame}
 use Rattle.tree_namings.specs.Container.{views_namings, slot_views, all_views}
 use Rattle.tree_namings.specs.Container as rules
-use Rattle.vol_parts.specs.Told.{head_naming, map_of, live_at, told_view}
+use Rattle.vol_parts.specs.Told.{head_naming, live_at, told_view}
 use Rattle.vol_parts.specs.Parts.{volume_namer, IsVolumePart}
 use Rattle.vol_parts.specs.Laws.{HasParts}
 use Rattle.vol_parts.proofs.Tellings.{long-snapshots, map-is}
@@ -130,9 +130,9 @@ pub views-loaded : (image : List ℕ) (seen : Seen) (heads : List VolHead) (volu
 views-loaded image seen heads volumes namer p v =
     let told : Loaded → List Naming = λ volume. volume_views seen (namer volume) volume in
     let same : (volume : Loaded) → In volume volumes → rules.volume_views image seen volume.head.slot (head_naming volume.head) ≡ told volume = λ volume h.
-        let head : In volume.head heads = subst (λ (hs : List VolHead). In volume.head hs) (sym v.heads_are) (in-map head_of volumes volume h) in
-        let part = p.volumes volume.head volume head (v.loaded volume h) in
-        volume-same image seen volume (namer volume) part (v.loaded volume h) (v.named volume part.mapping h part.mapped) in
+    let head : In volume.head heads = subst (λ (hs : List VolHead). In volume.head hs) (sym v.heads_are) (in-map head_of volumes volume h) in
+    let part = p.volumes volume.head volume head (v.loaded volume h) in
+    volume-same image seen volume (namer volume) part (v.loaded volume h) (v.named volume part.mapping h part.mapped) in
     record {
       there = λ n h.
           let b = from-all image seen heads volumes p v.heads_are n h in

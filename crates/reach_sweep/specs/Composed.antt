@@ -1,7 +1,10 @@
 -- What is gathered of a container call by call, and that all is reached with it.
-use Rattle.std.specs.Prelude.{◌≡◌, ℕ, List, [], ◌∷◌, ◌++◌, length, map, flat_map, Some}
+use Rattle.std.specs.Prelude.{◌≡◌, ◌⊎◌, ℕ, List, [], ◌∷◌, ◌++◌, length, map, flat_map, Some}
 use Rattle.apfs_model.specs.Counts.{given}
 use Rattle.apfs_model.specs.Lists.{In}
+use Rattle.obj_base.specs.Stops.{Tells, NoFeature}
+use Rattle.obj_base.specs.declared.stop.Stop.{Stop}
+use Rattle.obj_base.specs.declared.stop.Within.TheVariants.{Container, Volume}
 use Rattle.nx_block.specs.Super.{omap_oid_of}
 use Rattle.nx_ring.specs.Checkpoint.{Seen, site_of}
 use Rattle.nx_ring.specs.Features.{container_features}
@@ -14,10 +17,13 @@ use Rattle.space_map.specs.Stops.{IsSpaceOf}
 use Rattle.space_pool.specs.Stops.{ArePoolBits}
 use Rattle.reach_rules.specs.Naming.{ByMapping, InContainer, Object, Namer, Naming}
 use Rattle.reach_rules.specs.Next.{roots}
+use Rattle.reach_rules.specs.Live.{IsLive}
+use Rattle.reach_rules.specs.Features.{HasFeature}
+use Rattle.reach_rules.specs.declared.fault.ReachFault.{ReachFault}
 use Rattle.reach_rules.specs.Owners.{Owner, first_owners}
 use Rattle.reach_rules.specs.PoolOwners.{pool_owners_through}
 use Rattle.reach_rules.specs.Accounted.{IsShaped}
-use Rattle.reach_rules.specs.Reached.{Whole, range_of, AreInPool, IsReached}
+use Rattle.reach_rules.specs.Reached.{Whole, range_of, AreInPool, IsReached, IsReachedFault}
 use Rattle.reach_rules.specs.Tally.{IsNumberOf}
 use Rattle.tree_namings.specs.Joined.{HaveSame}
 use Rattle.tree_namings.specs.Container.{manager_naming, container_map_naming, reaper_naming, jumpstart_naming, all_views}
@@ -29,8 +35,8 @@ use Rattle.vol_parts.specs.Told.{head_naming, map_of}
 use Rattle.vol_parts.specs.Laws.{HasParts}
 use Rattle.view_sweep.specs.declared.used.Used.{Used}
 use Rattle.view_sweep.specs.declared.idle.MapRecords.{MapRecords}
-use Rattle.view_sweep.specs.Named.{AreReached}
-use Rattle.view_sweep.specs.Unused.{AreAllUsed}
+use Rattle.view_sweep.specs.Named.{AreLive, AreReached}
+use Rattle.view_sweep.specs.Unused.{AreAllUsed, IsUnusedHere, AreMapsOf, AreUsedOnes}
 use Rattle.reach_gather.specs.Held.{Held, some_owners}
 use Rattle.reach_gather.specs.Adds.{Adds}
 use Rattle.reach_gather.specs.Finished.{AreRangesOnce, IsObjectOf, AreRecordsWith}
@@ -135,6 +141,64 @@ AreRecordsBy image seen =
     → AreHeadRecords image seen heads of_heads
     → AreRecordsWith image seen all records (records ++ of_heads)
 
+-- ---- what is live
+-- what was added is live
+abbrev pub AreHeldLive : List ℕ → Seen → Type 0
+AreHeldLive image seen =
+    (rest : List Naming) (start parts : Held)
+    → IsStart seen start
+    → Adds image seen (roots seen.nx) rest start parts
+    → (n : Naming) → In n parts.namings → IsLive image seen n
+
+-- and so is what views name
+abbrev pub AreViewsLive : List ℕ → Seen → Type 0
+AreViewsLive image seen =
+    (rest first : List Naming) (start parts : Held)
+    → Adds image seen (roots seen.nx) rest start parts
+    → HaveSame (all_views image seen) rest
+    → HaveSame (all_views image seen) first
+    → AreLive image seen first
+
+-- the records that are used are those to which live namings resolve
+abbrev pub AreUsedBy : List ℕ → Seen → Type 0
+AreUsedBy image seen =
+    (all views : List Naming) (records : List (ℕ × OmapRecord)) (used : List Used)
+    → AreJoined image seen all views records
+    → AreRecordsWith image seen all records (records_used used)
+    → AreUsedOnes image seen used
+
+-- the records of the container's map, as `unused` takes them
+pub record IsContainerMap (image : List ℕ) (seen : Seen) (m : MapRecords) : Type 0 where
+  pub within_is : m.within ≡ Container
+  pub map_is : m.map ≡ omap_oid_of seen.nx
+  pub records_are : m.records.now ≡ map_records image (site_of seen) (omap_oid_of seen.nx)
+
+-- those of a volume's
+pub record IsVolumeMap (volumes : List Loaded) (m : MapRecords) : Type 0 where
+  pub volume : Loaded
+  pub one : In volume volumes
+  pub within_is : m.within ≡ Volume volume.head.slot
+  pub map_is : m.map ≡ map_of volume
+  pub records_are : m.records.now ≡ volume.omap.records
+
+-- maps of which each is the container's or a volume's are sound ones
+abbrev pub AreMapsBy : List ℕ → Seen → Type 0
+AreMapsBy image seen =
+    (heads : List VolHead) (volumes : List Loaded) (namer : Loaded → Namer) (maps : List MapRecords)
+    → HasParts image seen heads
+    → AreVolumes image seen heads volumes namer
+    → ((m : MapRecords) → In m maps → IsContainerMap image seen m ⊎ IsVolumeMap volumes m)
+    → AreMapsOf image seen maps
+
+-- so a record of a map that isn't used is there
+abbrev pub AreUnusedPresent : List ℕ → Seen → Type 0
+AreUnusedPresent image seen =
+    (maps : List MapRecords) (used : List Used) (stop : Stop ReachFault)
+    → AreUsedOnes image seen used
+    → AreMapsOf image seen maps
+    → Tells (IsUnusedHere maps used) NoFeature stop
+    → Tells (IsReachedFault image seen) (HasFeature image seen) stop
+
 -- ---- owners and objects
 -- owners, each once, whose ranges these are
 pub record AreOwnersAs (ranges : List (ℕ × ℕ)) (those : List Owner) : Type 0 where
@@ -215,6 +279,11 @@ pub record PartsCompose (image : List ℕ) (seen : Seen) : Type 0 where
   pub joined : AreJoinedBy image seen
   pub covered : AreCoveredBy image seen
   pub records : AreRecordsBy image seen
+  pub held_live : AreHeldLive image seen
+  pub views_live : AreViewsLive image seen
+  pub used : AreUsedBy image seen
+  pub maps : AreMapsBy image seen
+  pub unused : AreUnusedPresent image seen
   pub owners : AreOwnersBy image seen
   pub pool_owners : ArePoolOwnersBy image seen
   pub objects : AreObjectsBy image seen

@@ -33,6 +33,14 @@ pub record AreVolumes (image : List ℕ) (seen : Seen) (heads : List VolHead) (v
   pub loaded : (volume : Loaded) → In volume volumes → IsVolumeOf image (site_of seen) volume.head volume
   pub named : (volume : Loaded) (r : OmapRecord) → In volume volumes → resolved_in image (site_of seen) (omap_oid_of seen.nx) volume.head.oid seen.line.xid ≡ Some r → namer volume ≡ volume_namer seen r
 
+-- the object of a volume's superblock, by the record of the container's map that is found for it
+abbrev pub found_namer : Seen → Option OmapRecord → Namer
+found_namer seen None = Whole Newest
+found_namer seen (Some r) = volume_namer seen r
+
+abbrev pub namer_by : List ℕ → Seen → Loaded → Namer
+namer_by image seen volume = found_namer seen (resolved_in image (site_of seen) (omap_oid_of seen.nx) volume.head.oid seen.line.xid)
+
 -- what the views of some volumes name
 abbrev pub volumes_views : Seen → (Loaded → Namer) → List Loaded → List Naming
 volumes_views seen namer volumes = flat_map (λ volume. volume_views seen (namer volume) volume) volumes
@@ -99,6 +107,7 @@ supers_of namer volumes v = view_namer namer (slice_get volumes v.volume) v.plac
 -- it is what the views of the volumes do, as they were loaded, and as they are swept; and of what is swept each view is told by its slot
 -- and its place, is of one of the volumes, and is of the image
 pub record ViewsAre (image : List ℕ) (seen : Seen) : Type 0 where
+  pub volumes : (volumes : List Loaded) → ((volume : Loaded) → In volume volumes → IsVolumeOf image (site_of seen) volume.head volume) → AreVolumes image seen (map head_of volumes) volumes (namer_by image seen)
   pub loaded : (heads : List VolHead) (volumes : List Loaded) (namer : Loaded → Namer) → HasParts image seen heads → AreVolumes image seen heads volumes namer → HaveSame (all_views image seen) (volumes_views seen namer volumes)
   pub swept : (heads : List VolHead) (volumes : List Loaded) (namer : Loaded → Namer) → HasParts image seen heads → AreVolumes image seen heads volumes namer → HaveSame (all_views image seen) (head_namings (supers_of namer volumes) (swept_heads seen volumes))
   pub told : (heads : List VolHead) (volumes : List Loaded) (namer : Loaded → Namer) → HasParts image seen heads → AreVolumes image seen heads volumes namer → AreToldHeads (swept_heads seen volumes)
