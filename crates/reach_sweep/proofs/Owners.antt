@@ -12,10 +12,9 @@ use Rattle.reach_rules.specs.Owners.{Owner, first_owners, owners_through}
 use Rattle.reach_rules.specs.PoolOwners.{pool_owners_through}
 use Rattle.tree_namings.specs.Joined.{HaveSame}
 use Rattle.tree_namings.specs.Views.{record_owner}
-use Rattle.tree_namings.proofs.Views.{joined-tells}
 use Rattle.reach_gather.specs.Held.{IsOwnerThrough, some_owners}
 use Rattle.reach_gather.specs.Finished.{AreRangesOnce}
-use Rattle.reach_gather.proofs.Counts.{count-named}
+use Rattle.reach_gather.proofs.Counts.{objects-once}
 use Rattle.reach_sweep.specs.Composed.{AreOwnersAs, AreOwnersBy, ArePoolOwnersBy, AreObjectsBy}
 use Rattle.reach_sweep.proofs.Added.{held-same}
 
@@ -104,15 +103,8 @@ pool-owners-by image seen rest records start parts done ranges s g told r =
 
 -- ---- objects
 pub objects-by : (image : List ℕ) (seen : Seen) → AreObjectsBy image seen
-objects-by image seen all views records those number j recs n =
-    let told = joined-tells image seen all views records j in
-    let c = count-named image seen all records those j.outside (λ m h. let p = j.part.plain m h in (p.object, p.found)) recs told.objects number n in
-    record {
-      objects = c.all;
-      are = record {
-        apart = c.apart;
-        there = λ x h. told.objects.1 x (c.lists.0 x h);
-        all = λ x h. c.lists.1 x (told.objects.0 x h);
-      };
-      same = c.same;
-    }
+objects-by image seen all views records those number j recs n = record {
+  objects = n.all;
+  are = objects-once image seen all all records those (record { there = λ m h. h; back = λ m h. h }) j.outside (λ m h. let p = j.part.plain m h in (p.object, p.found)) recs number n;
+  same = n.same;
+}
