@@ -4,6 +4,8 @@ pub mod Covered
 pub mod Owners
 pub mod Views
 pub mod Swept
+pub mod Heads
+pub mod Maps
 pub mod Records
 pub mod Lives
 pub mod MapsOf

@@ -29,7 +29,7 @@ use Rattle.view_sweep.specs.Wanted.{view_at, head_wants, heads_want, naming_of, 
 use Rattle.view_sweep.specs.Found.{records_at}
 use Rattle.view_sweep.specs.Named.{head_namings, AreOfImage}
 use Rattle.reach_gather.specs.Views.{pasts_namings, volume_views}
-use Rattle.reach_sweep.specs.Views.{head_of, AreVolumes, volumes_views, swept_view, live_head, past_head, past_heads, volume_heads, heads_from, swept_heads, found_namer, past_namer, view_namer, supers_of, ViewsAre}
+use Rattle.reach_sweep.specs.Views.{head_of, slot_of, slots_of, AreVolumes, volumes_views, swept_view, live_head, past_head, past_heads, volume_heads, heads_from, swept_heads, found_namer, past_namer, view_namer, supers_of, ViewsAre}
 use Rattle.reach_sweep.proofs.Views.{slot-expected, same-slot, views-loaded}
 
 -- ---- what the head of a view names
@@ -212,17 +212,27 @@ slot-places image seen heads volumes p e i j v w a b same =
 some-one : {X : Type 0} (x y : X) → Some x ≡ Some y → x ≡ y
 some-one x y e = cc
 
-told-heads : (image : List ℕ) (seen : Seen) (heads : List VolHead) (volumes : List Loaded) (namer : Loaded → Namer) → HasParts image seen heads → AreVolumes image seen heads volumes namer → AreToldHeads (swept_heads seen volumes)
-told-heads image seen heads volumes namer p v a b h k slot place =
+-- so each view is told by its slot and its place
+told-by : (seen : Seen) (volumes : List Loaded) → ((i j : ℕ) (v w : Loaded) → slice_get volumes i ≡ Some v → slice_get volumes j ≡ Some w → v.head.slot ≡ w.head.slot → i ≡ j) → AreToldHeads (swept_heads seen volumes)
+told-by seen volumes places a b h k slot place =
     let s = all-swept seen volumes a h in
     let t = all-swept seen volumes b k in
-    let i_is : s.i ≡ t.i = slot-places image seen heads volumes p v.heads_are s.i t.i s.volume t.volume s.at t.at (sym s.slot_is ∙ (slot ∙ t.slot_is)) in
+    let i_is : s.i ≡ t.i = places s.i t.i s.volume t.volume s.at t.at (sym s.slot_is ∙ (slot ∙ t.slot_is)) in
     let volume_is : s.volume ≡ t.volume = some-one s.volume t.volume (sym s.at ∙ (ap (slice_get volumes) i_is ∙ t.at)) in
     s.view_is
     ∙ (ap (λ i. swept_at seen i s.volume a.view.place) i_is
     ∙ (ap (λ x. swept_at seen t.i x a.view.place) volume_is
     ∙ (ap (swept_at seen t.i t.volume) place
     ∙ sym t.view_is)))
+
+told-heads : (image : List ℕ) (seen : Seen) (heads : List VolHead) (volumes : List Loaded) (namer : Loaded → Namer) → HasParts image seen heads → AreVolumes image seen heads volumes namer → AreToldHeads (swept_heads seen volumes)
+told-heads image seen heads volumes namer p v = told-by seen volumes (slot-places image seen heads volumes p v.heads_are)
+
+-- it suffices that the slots are apart
+pub told-apart : (seen : Seen) (volumes : List Loaded) → Apart (slots_of volumes) → AreToldHeads (swept_heads seen volumes)
+told-apart seen volumes apart =
+    let at : (k : ℕ) (u : Loaded) → slice_get volumes k ≡ Some u → slice_get (slots_of volumes) k ≡ Some u.head.slot = λ k u h. slice_get-map slot_of volumes k ∙ ap (option_map slot_of) h in
+    told-by seen volumes (λ i j v w e f same. apart-place (slots_of volumes) apart i j w.head.slot (at i v e ∙ ap Some same) (at j w f))
 
 below-heads : (seen : Seen) (volumes : List Loaded) → AreBelowHeads (length volumes) (swept_heads seen volumes)
 below-heads seen volumes h k = let s = all-swept seen volumes h k in subst (λ i. i < length volumes) (sym s.volume_is) (slice_get_within volumes s.i s.volume s.at)
