@@ -234,7 +234,7 @@ told-apart seen volumes apart =
     let at : (k : ℕ) (u : Loaded) → slice_get volumes k ≡ Some u → slice_get (slots_of volumes) k ≡ Some u.head.slot = λ k u h. slice_get-map slot_of volumes k ∙ ap (option_map slot_of) h in
     told-by seen volumes (λ i j v w e f same. apart-place (slots_of volumes) apart i j w.head.slot (at i v e ∙ ap Some same) (at j w f))
 
-below-heads : (seen : Seen) (volumes : List Loaded) → AreBelowHeads (length volumes) (swept_heads seen volumes)
+pub below-heads : (seen : Seen) (volumes : List Loaded) → AreBelowHeads (length volumes) (swept_heads seen volumes)
 below-heads seen volumes h k = let s = all-swept seen volumes h k in subst (λ i. i < length volumes) (sym s.volume_is) (slice_get_within volumes s.i s.volume s.at)
 
 -- ---- the maps of views

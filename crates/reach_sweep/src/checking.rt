@@ -66,6 +66,24 @@ fn joined(
     Ok(joined)
 }
 
+// Whether each record of some maps is one of two lists of used ones.
+fn unused_in(
+    alloc: Global,
+    maps: &[MapRecords<'_>],
+    found: &[Used],
+    used: &[Used],
+) -> Result<(), Stop<ReachFault>>
+    ensures clear { OnOk result (AreAllUsed maps.now (found.now ++ used.now)) }
+    ensures stops { IfErr result (Tells (IsUnusedHere maps.now (found.now ++ used.now)) NoFeature) }
+    ensures no_read { IsErrOf result ReadFault → ⊥ }
+{
+    let joined = joined(alloc, found, used)?;
+    match unused(alloc, maps, &joined) {
+        Ok(()) => Ok(()),
+        Err(stop) => Err(stop),
+    }
+}
+
 /// Whether each record of the container's object map and of those of its volumes that isn't marked deleted is used: to find a
 /// volume, or by a view. `records` are those of the container's map. `UnusedMapping` tells of one that isn't.
 pub fn check_used(
@@ -81,15 +99,8 @@ pub fn check_used(
     ensures present { (image : List ℕ) → AreUsedOnes image cp.now (found.now ++ used.now) → AreMapsOf image cp.now (maps_of cp.now volumes.now records.now) → IfErr result (Tells (IsReachedFault image cp.now) (HasFeature image cp.now)) }
     ensures no_read { IsErrOf result ReadFault → ⊥ }
 {
-    let maps = match maps(alloc, cp, volumes, records) {
-        Ok(maps) => maps,
-        Err(stop) => return Err(stop),
-    };
-    let all = match joined(alloc, found, used) {
-        Ok(all) => all,
-        Err(stop) => return Err(stop),
-    };
-    match unused(alloc, &maps, &all) {
+    let maps = maps(alloc, cp, volumes, records)?;
+    match unused_in(alloc, &maps, found, used) {
         Ok(()) => Ok(()),
         Err(stop) => Err(stop),
     }

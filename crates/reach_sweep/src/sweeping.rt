@@ -139,10 +139,7 @@ pub fn sweep_views<S: BlockSource>(
     ensures kept { IsKept S.bytes S.bytes_len S.faults src.old src.new }
 {
     let _size = src.size();
-    let heads = match heads(alloc, cp, volumes) {
-        Ok(heads) => heads,
-        Err(stop) => return Err(stop),
-    };
+    let heads = heads(alloc, cp, volumes)?;
     let site = cp.site();
     match reach_views(alloc, src, &site, volumes, &heads) {
         Ok(used) => Ok(used),
