@@ -1,5 +1,5 @@
 -- The records of all object maps, as they are handed in.
-use Rattle.std.specs.Prelude.{ℕ, List, ◌∷◌, ◌×◌, map}
+use Rattle.std.specs.Prelude.{ℕ, List, ◌∷◌, map}
 use Rattle.obj_base.specs.declared.stop.Within.{Within}
 use Rattle.obj_base.specs.declared.stop.Within.TheVariants.{Container, Volume}
 use Rattle.nx_block.specs.Super.{omap_oid_of}
