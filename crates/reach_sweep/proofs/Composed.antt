@@ -14,6 +14,7 @@ use Rattle.reach_sweep.proofs.Records.{records-by}
 use Rattle.reach_sweep.proofs.Lives.{held-live, views-live, used-by, unused-present}
 use Rattle.reach_sweep.proofs.MapsOf.{maps-by}
 use Rattle.reach_sweep.proofs.Owners.{owners-by, pool-owners-by, objects-by}
+use Rattle.reach_sweep.proofs.Pooled.{placed-by}
 use Rattle.reach_sweep.proofs.Swept.{views-are}
 
 calls-reached : (image : List ℕ) (seen : Seen) → AreCallsReached image seen
@@ -56,6 +57,7 @@ parts-compose image seen = record {
   unused = unused-present image seen;
   owners = owners-by image seen;
   pool_owners = pool-owners-by image seen;
+  placed = placed-by image seen;
   objects = objects-by image seen;
   reached = calls-reached image seen;
   views = views-are image seen;

@@ -2,6 +2,7 @@ pub mod Added
 pub mod Joined
 pub mod Covered
 pub mod Owners
+pub mod Pooled
 pub mod Views
 pub mod Swept
 pub mod Records

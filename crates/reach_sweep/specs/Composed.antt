@@ -13,7 +13,7 @@ use Rattle.omap_map.specs.declared.records.OmapRecord.{OmapRecord}
 use Rattle.vol_view.specs.Volumes.{Loaded}
 use Rattle.vol_view.specs.LoadStops.{IsVolumeOf}
 use Rattle.vol_view.specs.declared.head.VolHead.{VolHead}
-use Rattle.space_map.specs.Stops.{IsSpaceOf}
+use Rattle.space_map.specs.Stops.{Known, IsSpaceOf}
 use Rattle.space_pool.specs.Stops.{ArePoolBits}
 use Rattle.reach_rules.specs.Naming.{ByMapping, InContainer, Object, Namer, Naming}
 use Rattle.reach_rules.specs.Next.{roots}
@@ -40,6 +40,7 @@ use Rattle.view_sweep.specs.Unused.{AreAllUsed, IsUnusedHere, AreMapsOf, AreUsed
 use Rattle.reach_gather.specs.Held.{Held, some_owners}
 use Rattle.reach_gather.specs.Adds.{Adds}
 use Rattle.reach_gather.specs.Finished.{AreRangesOnce, IsObjectOf, AreRecordsWith}
+use Rattle.reach_gather.specs.Pooled.{ArePooled}
 use Rattle.reach_sweep.specs.Views.{AreVolumes, ViewsAre}
 
 -- a record that is used, with the block of its map
@@ -232,6 +233,18 @@ ArePoolOwnersBy image seen =
     → AreRangesOnce done.pool_owners ranges
     → AreOwnersAs ranges (flat_map (pool_owners_through image seen) parts.namings)
 
+-- which lie in the pool, in a right space whose queue's entries do
+abbrev pub ArePlacedBy : List ℕ → Seen → Type 0
+ArePlacedBy image seen =
+    (rest : List Naming) (records : List (ℕ × OmapRecord)) (start parts done : Held) (space : Known) (ranges : List (ℕ × ℕ))
+    → IsStart seen start
+    → Adds image seen (roots seen.nx) rest start parts
+    → HasRecords records parts done
+    → AreRangesOnce done.pool_owners ranges
+    → IsSpaceOf image seen space
+    → ArePooled image seen space.manager
+    → AreInPool space.manager ranges
+
 -- the objects that are counted are those of the namings and of the records
 abbrev pub AreObjectsBy : List ℕ → Seen → Type 0
 AreObjectsBy image seen =
@@ -286,6 +299,7 @@ pub record PartsCompose (image : List ℕ) (seen : Seen) : Type 0 where
   pub unused : AreUnusedPresent image seen
   pub owners : AreOwnersBy image seen
   pub pool_owners : ArePoolOwnersBy image seen
+  pub placed : ArePlacedBy image seen
   pub objects : AreObjectsBy image seen
   pub reached : AreCallsReached image seen
   pub views : ViewsAre image seen
