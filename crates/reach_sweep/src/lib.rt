@@ -1,6 +1,10 @@
-//! What is reached of a container: how what is gathered of it call by call is put together.
+//! The account of a container: all that is reached of it, and whether each of its blocks is owned once and marked.
 #![tactic(auto)]
 
+mod accounting;
+mod reaching;
 mod theorem;
 
+pub use accounting::{Tally, account};
+pub use reaching::reached;
 pub use theorem::parts_compose;
