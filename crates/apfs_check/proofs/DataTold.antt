@@ -1,6 +1,9 @@
 -- What is told of a volume's data, as the definitions have it.
-use Rattle.std.proofs.Common.{◌≡◌, ◌∙◌, ℕ, Bool, true, false, List, [], ◌∷◌, ◌++◌, map, inl, inr, refl, sym, ap, subst}
-use Rattle.std.specs.Prelude.{filter, if◌then◌else◌}
+use Rattle.std.proofs.Common.{◌≡◌, ◌∙◌, ℕ, zero, suc, ◌+◌, ◌<◌, pos, Bool, true, false, List, [], ◌∷◌, ◌++◌, length, get_or, take, map, arith, inl, inr, refl, sym, ap, subst}
+use Rattle.std.specs.Prelude.{◌^◌, not, filter, if◌then◌else◌}
+use Rattle.std.specs.Ordering.{int_eq}
+use Rattle.std.proofs.lemmas.List.{map-append, take_more}
+use Rattle.std.proofs.lemmas.List.Elements.{filter-append}
 use Rattle.apfs_model.specs.Counts.{given}
 use Rattle.apfs_model.specs.Lists.{In}
 use Rattle.apfs_model.proofs.Searches.{from-map}
@@ -12,6 +15,7 @@ use Rattle.nx_ring.specs.Newest.{newest_of}
 use Rattle.fs_record.specs.declared.extents.FileExt.{FileExt}
 use Rattle.vol_view.specs.Volumes.{Loaded}
 use Rattle.vol_view.specs.declared.head.VolHead.{VolHead}
+use Rattle.ext_ref.specs.References.{streams_of, references_of}
 use Rattle.ext_ref.specs.Unreached.{unreached_runs}
 use Rattle.ext_ref.specs.declared.range.NewRange.{NewRange}
 use Rattle.tree_rules.specs.declared.notes.Note.{Note}
@@ -51,6 +55,40 @@ wrong-same image seen volume ranges extents r p q =
     ∙ (ap (λ es. wrong_in volume size (volume_ranges image (site_of seen) head) es) q
     ∙ (ap (λ (v : Loaded). wrong_in v size (volume_ranges image (site_of seen) head) (volume_extents image seen head)) r.loaded.same
     ∙ chosen-map (counted_in image seen head) (has_no_snapshots (volume_of image seen head)) (filter (is_miscounted size (volume_extents image seen head)) (volume_ranges image (site_of seen) head))))
+
+-- ---- one range more
+at-map : {X : Type 0} (f : X → ℕ) (xs : List X) (i : ℕ) (d : X) → i < length xs → get_or (map f xs) i 0 ≡ f (get_or xs i d)
+at-map f [] i d low = absurd (omega arith)
+at-map f (x ∷ xs) zero d low = refl
+at-map f (x ∷ xs) (suc i) d low = at-map f xs i d (omega arith)
+
+given-low : (n : ℕ) → n < 2 ^ 64 → n ≡ given n
+given-low n low = omega arith
+
+one-wrong : (block_size : ℕ) (extents : List (ℕ × FileExt)) (r : NewRange) (b : Bool) → map (with_streams block_size extents) (if not b then r ∷ [] else []) ≡ (if b then [] else with_streams block_size extents r ∷ [])
+one-wrong block_size extents r true = refl
+one-wrong block_size extents r false = refl
+
+pub wrong-more : (block_size : ℕ) (extents : List (ℕ × FileExt)) (ranges : List NewRange) (counts : List ℕ) (i : ℕ) (none : NewRange) (wrong later : List (NewRange × ℕ)) → i < length ranges → counts ≡ references_of block_size ranges extents → get_or counts i 0 < 2 ^ 64 →
+    wrong ≡ map (with_streams block_size extents) (filter (is_miscounted block_size extents) (take i ranges)) →
+    later ≡ wrong ++ (if int_eq (get_or ranges i none).count (pos (get_or counts i 0)) then [] else (get_or ranges i none, get_or counts i 0) ∷ []) →
+    later ≡ map (with_streams block_size extents) (filter (is_miscounted block_size extents) (take (i + 1) ranges))
+unfolding is_miscounted
+wrong-more block_size extents ranges counts i none wrong later low same fits p q =
+    let r : NewRange = get_or ranges i none in
+    let n : ℕ = get_or counts i 0 in
+    let told = with_streams block_size extents in
+    let test = is_miscounted block_size extents in
+    let streams : n ≡ streams_of block_size extents r = ap (λ (cs : List ℕ). get_or cs i 0) same ∙ at-map (streams_of block_size extents) ranges i none low in
+    let number : n ≡ given (streams_of block_size extents r) = given-low n fits ∙ ap given streams in
+    let piece : (if int_eq r.count (pos n) then [] else (r, n) ∷ []) ≡ map told (filter test (r ∷ [])) =
+    ap (λ m. if int_eq r.count (pos m) then [] else (r, n) ∷ []) streams
+    ∙ (ap (λ m. if int_eq r.count (pos (streams_of block_size extents r)) then [] else (r, m) ∷ []) number ∙ sym (one-wrong block_size extents r (int_eq r.count (pos (streams_of block_size extents r))))) in
+    q
+    ∙ (ap (λ ws. ws ++ (if int_eq r.count (pos n) then [] else (r, n) ∷ [])) p
+    ∙ (ap (λ ws. map told (filter test (take i ranges)) ++ ws) piece
+    ∙ (sym (map-append told (filter test (take i ranges)) (filter test (r ∷ [])))
+    ∙ (ap (map told) (sym (filter-append test (take i ranges) (r ∷ []))) ∙ ap (λ rs. map told (filter test rs)) (sym (take_more ranges i none low))))))
 
 -- ---- their faults
 strict-there : (profile : Profile) (image : List ℕ) (fault : Fault) → profile ≡ Strict → IsPresent Strict image fault → IsPresent profile image fault
