@@ -65,6 +65,9 @@ records-are : (image : List ℕ) (seen : Seen) → sum (map (records_of_volume i
 unfolding records_in
 records-are image seen = refl
 
+from-nothing : (n : ℕ) → given (0 + n) ≡ given n
+from-nothing n = omega arith
+
 pub checked : (profile : Profile) (image : List ℕ) (seen : Seen) (volumes : List Loaded) (objects owned : ℕ) (held : Held) (told : Told) → AreReady image seen volumes → IsAccounted image seen → IsTally image seen objects owned → AddsVolumes profile image seen (map head_of volumes) nothing_held held →
     told ≡ record {
       xid = seen.line.xid;
@@ -90,9 +93,9 @@ checked profile image seen volumes objects owned held told are accounted tally a
         same = record {
           xid = ap (λ (t : Told). t.xid) same;
           volumes = ap (λ (t : Told). t.volumes) same ∙ (sym (length-map volumes head_of) ∙ ap (λ hs. length hs) (sym are.loaded.heads_are));
-          views = ap (λ (t : Told). t.views) same ∙ (all.views ∙ ap given (views-are image seen));
+          views = ap (λ (t : Told). t.views) same ∙ (all.views ∙ (from-nothing (sum (map (view_count image seen) heads)) ∙ ap given (views-are image seen)));
           objects = subst (λ n. IsObjectCount image seen n) (sym (ap (λ (t : Told). t.objects) same)) tally.named;
-          records = ap (λ (t : Told). t.records) same ∙ (all.records ∙ ap given (records-are image seen));
+          records = ap (λ (t : Told). t.records) same ∙ (all.records ∙ (from-nothing (sum (map (records_of_volume image seen) heads)) ∙ ap given (records-are image seen)));
           used = subst (λ n. IsOwnedCount image seen n) (sym (ap (λ (t : Told). t.used) same)) tally.held;
           free = ap (λ (t : Told). t.free) same ∙ ap (λ n. (site_of seen).blocks - n) (sym (ap (λ (t : Told). t.used) same));
           notes = ap (λ (t : Told). t.notes) same ∙ (notes-held all ∙ notes-are profile image seen);
