@@ -1,13 +1,16 @@
 -- What a check answers of a container that it has found right.
-use Rattle.std.proofs.Common.{◌≡◌, ◌∙◌, ℕ, ◌+◌, ◌-◌, List, [], ◌∷◌, ◌++◌, length, map, Ok, inl, inr, refl, sym, ap, subst, arith}
-use Rattle.std.specs.Prelude.{flat_map, sum}
+use Rattle.std.proofs.Common.{◌≡◌, ◌∙◌, ℕ, ◌+◌, ◌-◌, ◌≤◌, List, [], ◌∷◌, ◌++◌, length, map, Ok, inl, inr, refl, sym, ap, subst, arith}
+use Rattle.std.specs.Prelude.{Option, None, Some, filter_map, flat_map, min, sum}
+use Rattle.std.specs.List.{cons_option, range_with_len}
+use Rattle.std.proofs.lemmas.List.FromFn.{length-range_with_len}
 use Rattle.std.proofs.lemmas.List.{length-map}
 use Rattle.apfs_model.specs.Counts.{given}
 use Rattle.apfs_model.specs.Lists.{In}
 use Rattle.apfs_model.proofs.Searches.{from-map}
+use Rattle.nx_block.specs.Super.{slots}
 use Rattle.nx_ring.specs.Checkpoint.{Seen, site_of}
 use Rattle.nx_ring.specs.Newest.{newest_of}
-use Rattle.vol_view.specs.Heads.{heads_of}
+use Rattle.vol_view.specs.Heads.{head_at, heads_of}
 use Rattle.vol_view.specs.Volumes.{Loaded}
 use Rattle.vol_view.specs.LoadStops.{IsLoadable}
 use Rattle.vol_view.specs.Views.{views_of}
@@ -65,13 +68,27 @@ records-are : (image : List ℕ) (seen : Seen) → sum (map (records_of_volume i
 unfolding records_in
 records-are image seen = refl
 
+-- there are no more volumes than slots
+chosen-few : {X Y : Type 0} (f : X → Option Y) (xs : List X) → length (filter_map f xs) ≤ length xs
+chosen-few f [] = omega arith
+chosen-few f (x ∷ xs) =
+    let rest = chosen-few f xs in
+    elim (f x) as (λ o. length (cons_option o (filter_map f xs)) ≤ length (x ∷ xs)) [ None ↦ omega arith | Some y ↦ omega arith ]
+
+heads-few : (image : List ℕ) (seen : Seen) → length (heads_of image seen) ≤ slots
+unfolding heads_of
+heads-few image seen = omega (arith, chosen-few (head_at image seen) (range_with_len 0 slots), length-range_with_len 0 slots)
+
+few-loaded : (image : List ℕ) (seen : Seen) (n : ℕ) → n ≡ length (heads_of image seen) → min n slots ≡ length (heads_of image seen)
+few-loaded image seen n e = let few = heads-few image seen in omega arith
+
 from-nothing : (n : ℕ) → given (0 + n) ≡ given n
 from-nothing n = omega arith
 
 pub checked : (profile : Profile) (image : List ℕ) (seen : Seen) (volumes : List Loaded) (objects owned : ℕ) (held : Held) (told : Told) → AreReady image seen volumes → IsAccounted image seen → IsTally image seen objects owned → AddsVolumes profile image seen (map head_of volumes) nothing_held held →
     told ≡ record {
       xid = seen.line.xid;
-      volumes = length volumes;
+      volumes = min (length volumes) slots;
       views = given held.views;
       objects = objects;
       records = given held.records;
@@ -92,7 +109,7 @@ checked profile image seen volumes objects owned held told are accounted tally a
         newest = are.newest;
         same = record {
           xid = ap (λ (t : Told). t.xid) same;
-          volumes = ap (λ (t : Told). t.volumes) same ∙ (sym (length-map volumes head_of) ∙ ap (λ hs. length hs) (sym are.loaded.heads_are));
+          volumes = ap (λ (t : Told). t.volumes) same ∙ few-loaded image seen (length volumes) (sym (length-map volumes head_of) ∙ ap (λ hs. length hs) (sym are.loaded.heads_are));
           views = ap (λ (t : Told). t.views) same ∙ (all.views ∙ (from-nothing (sum (map (view_count image seen) heads)) ∙ ap given (views-are image seen)));
           objects = subst (λ n. IsObjectCount image seen n) (sym (ap (λ (t : Told). t.objects) same)) tally.named;
           records = ap (λ (t : Told). t.records) same ∙ (all.records ∙ (from-nothing (sum (map (records_of_volume image seen) heads)) ∙ ap given (records-are image seen)));
