@@ -1,5 +1,5 @@
 -- What a check answers of a container that it has found right.
-use Rattle.std.proofs.Common.{◌≡◌, ◌∙◌, ℕ, ◌+◌, ◌-◌, ◌≤◌, List, [], ◌∷◌, ◌++◌, length, map, Ok, inl, inr, refl, sym, ap, subst, arith}
+use Rattle.std.proofs.Common.{◌≡◌, ◌∙◌, ℕ, ◌+◌, ◌-◌, ◌≤◌, List, [], ◌∷◌, ◌++◌, length, map, refl, sym, ap, subst, arith}
 use Rattle.std.specs.Prelude.{Option, None, Some, filter_map, flat_map, min, sum}
 use Rattle.std.specs.List.{cons_option, range_with_len}
 use Rattle.std.proofs.lemmas.List.FromFn.{length-range_with_len}
@@ -9,13 +9,11 @@ use Rattle.apfs_model.specs.Lists.{In}
 use Rattle.apfs_model.proofs.Searches.{from-map}
 use Rattle.nx_block.specs.Super.{slots}
 use Rattle.nx_ring.specs.Checkpoint.{Seen, site_of}
-use Rattle.nx_ring.specs.Newest.{newest_of}
 use Rattle.vol_view.specs.Heads.{head_at, heads_of}
 use Rattle.vol_view.specs.Volumes.{Loaded}
 use Rattle.vol_view.specs.LoadStops.{IsLoadable}
 use Rattle.vol_view.specs.Views.{views_of}
 use Rattle.vol_view.specs.declared.head.VolHead.{VolHead}
-use Rattle.vol_view.specs.declared.volume.View.{View}
 use Rattle.reach_rules.specs.Accounted.{IsAccounted}
 use Rattle.reach_rules.specs.Tally.{IsObjectCount, IsOwnedCount, IsTally}
 use Rattle.reach_sweep.specs.Views.{head_of}
@@ -23,9 +21,7 @@ use Rattle.tree_rules.specs.declared.notes.Note.{Note}
 use Rattle.view_rules.specs.declared.profile.Profile.{Profile}
 use Rattle.view_rules.specs.declared.profile.Profile.TheVariants.{Plain, Strict}
 use Rattle.apfs_check.specs.Volumes.{volume_of}
-use Rattle.apfs_check.specs.Data.{HasRightData}
-use Rattle.apfs_check.specs.Notes.{skipped_notes, of_views, of_volumes, view_hash_notes, view_unnamed_notes, unreached_notes, count_notes, notes_of}
-use Rattle.apfs_check.specs.WellFormed.{HasViewRules}
+use Rattle.apfs_check.specs.Notes.{skipped_notes, of_views, of_volumes, view_unnamed_notes, notes_of}
 use Rattle.apfs_check.specs.Held.{Held, nothing_held, view_hashes, unreached_under, counts_under, AddsVolumes}
 use Rattle.apfs_check.specs.Report.{view_count, records_of_volume, views_in, records_in, Told, IsChecked}
 use Rattle.apfs_check.specs.Steps.{AreReady}
@@ -100,8 +96,8 @@ checked profile image seen volumes objects owned held told are accounted tally a
     let heads : List VolHead = heads_of image seen in
     let all : AddsVolumes profile image seen heads nothing_held held = subst (λ hs. AddsVolumes profile image seen hs nothing_held held) (sym are.loaded.heads_are) adds in
     let loadable : (head : VolHead) → In head heads → IsLoadable image (site_of seen) head = λ head one.
-        let t = from-map head_of volumes head (subst (In head) are.loaded.heads_are one) in
-        subst (IsLoadable image (site_of seen)) (sym t.1.1) (are.loaded.loaded t.0 t.1.0).right in
+    let t = from-map head_of volumes head (subst (In head) are.loaded.heads_are one) in
+    subst (IsLoadable image (site_of seen)) (sym t.1.1) (are.loaded.loaded t.0 t.1.0).right in
     record {
       right = composed profile image seen are.newest accounted loadable all.right all.data_right;
       report = record {

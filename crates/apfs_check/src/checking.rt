@@ -34,10 +34,7 @@ use tree_rules::Profile;
 use vol_view::Volume;
 
 // The newest checkpoint, whose superblock has no feature that is refused.
-fn newest_checkpoint<S: BlockSource>(
-    alloc: Global,
-    src: &mut S,
-) -> Result<Checkpoint, Stop<Fault>>
+fn newest_checkpoint<S: BlockSource>(alloc: Global, src: &mut S) -> Result<Checkpoint, Stop<Fault>>
     ensures clear { (image : List ℕ) → S.bytes src.old ≡ Some image → IfOk result (λ seen. newest_of image ≡ Ok seen) }
     ensures plain { IfOk result (λ seen. container_features seen.nx ≡ []) }
     ensures present { (profile : rules.Profile) (image : List ℕ) → S.bytes src.old ≡ Some image → IfErr result (IsThere profile image) }

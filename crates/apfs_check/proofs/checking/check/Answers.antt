@@ -1,4 +1,4 @@
-use Rattle.std.proofs.Common.{◌≡◌, ◌∙◌, ◌-◌, List, ◌++◌, length, map, sym, ap, subst}
+use Rattle.std.proofs.Common.{◌∙◌, ◌-◌, List, ◌++◌, length, map, sym, ap, subst}
 use Rattle.std.specs.Prelude.{min}
 use Rattle.apfs_model.specs.Counts.{given}
 use Rattle.nx_block.specs.Super.{slots}
@@ -7,7 +7,6 @@ use Rattle.vol_view.specs.Volumes.{Loaded}
 use Rattle.reach_sweep.specs.Views.{head_of}
 use Rattle.apfs_check.specs.Held.{AddsVolumes}
 use Rattle.apfs_check.specs.Notes.{skipped_notes}
-use Rattle.apfs_check.specs.Report.{Told}
 use Rattle.apfs_check.specs.Steps.{AreReady}
 use Rattle.apfs_check.proofs.Checked.{checked}
 use Rattle.apfs_check.proofs.Law.{check-free}
