@@ -2,7 +2,13 @@
 #![tactic(auto)]
 
 mod accounting;
+mod checking;
+mod finding;
+mod finishing;
+mod gathering;
+mod loading;
 mod reaching;
+mod sweeping;
 mod theorem;
 
 pub use accounting::{Tally, account};
