@@ -1,3 +1,4 @@
 pub mod Account
 pub mod Composed
+pub mod Used
 pub mod Views

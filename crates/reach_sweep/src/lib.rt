@@ -2,7 +2,10 @@
 #![tactic(auto)]
 
 mod accounting;
+mod checking;
+mod finding;
 mod reaching;
+mod sweeping;
 mod theorem;
 
 pub use accounting::{Tally, account};
