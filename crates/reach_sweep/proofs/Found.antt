@@ -92,6 +92,7 @@ head-record image seen heads volumes records whole heads_are are u h =
           ∙ (one.is ∙ ap (λ (x : Used). Some x.mapping) (sym one.used_is)));
     }
 
+-- the records by which all of them are found
 pub found-records : (image : List ℕ) (seen : Seen) (heads : List VolHead) (volumes : List Loaded) (namer : Loaded → Namer) (records : List OmapRecord) → HasParts image seen heads → records ≡ map_records image (site_of seen) (omap_oid_of seen.nx) → AreVolumes image seen heads volumes namer
     → AreHeadRecords image seen heads (records_used (filter_map (found_of seen records) volumes))
 found-records image seen heads volumes namer records p are v =

@@ -72,6 +72,7 @@ idle-told ms ns used same within oid xid h =
       xid_is = h.xid_is;
     }
 
+-- what is told of some maps is so of the others
 pub tells-told : (ms ns : List MapRecords) (used : List Used) → map told_by_map ms ≡ map told_by_map ns → (stop : Stop ReachFault) → Tells (IsUnusedHere ms used) NoFeature stop → Tells (IsUnusedHere ns used) NoFeature stop
 tells-told ms ns used same (Found (UnusedMapping within oid xid)) h = idle-told ms ns used same within oid xid h
 tells-told ms ns used same (Found fault) h = absurd h

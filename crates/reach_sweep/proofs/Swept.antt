@@ -234,6 +234,7 @@ told-apart seen volumes apart =
     let at : (k : ℕ) (u : Loaded) → slice_get volumes k ≡ Some u → slice_get (slots_of volumes) k ≡ Some u.head.slot = λ k u h. slice_get-map slot_of volumes k ∙ ap (option_map slot_of) h in
     told-by seen volumes (λ i j v w e f same. apart-place (slots_of volumes) apart i j w.head.slot (at i v e ∙ ap Some same) (at j w f))
 
+-- items of one list are told apart where what tells them has one place
 places-apart : {X Y : Type 0} (f : X → Y) (xs : List X) → ((i j : ℕ) (v w : X) → slice_get xs i ≡ Some v → slice_get xs j ≡ Some w → f v ≡ f w → i ≡ j) → Apart (map f xs)
 places-apart f [] p = tt
 places-apart f (x ∷ xs) p = (
