@@ -9,3 +9,4 @@ pub mod Records
 pub mod Lives
 pub mod MapsOf
 pub mod Composed
+pub mod Accounts

@@ -39,6 +39,8 @@ impl Model for Tally {
     ghost Value = { Counted };
 
     ghost view = { λ a. record { objects = a.named; owned = a.held } };
+
+    ghost inverse = { λ c. record { named = c.objects; held = c.owned } };
 }
 
 impl Tally {
