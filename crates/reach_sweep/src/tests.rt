@@ -52,8 +52,8 @@ fn load_all<S: BlockSource>(
     Ok(volumes)
 }
 
-// The account of an image whose reads of some numbers fail after those that come before it, and how many reads it takes.
-fn told(alloc: Global, image: Vec<u8>, fails: Vec<u64>) -> Result<(Told, u64), Fail> {
+// The account of an image whose reads of some numbers fail, and the numbers of reads before it and after it.
+fn told(alloc: Global, image: Vec<u8>, fails: Vec<u64>) -> Result<(Told, u64, u64), Fail> {
     let mut src = MemSource::new(image, fails);
     let Ok(cp) = newest(alloc, &mut src) else {
         return Err(Fail::from("no checkpoint"));
@@ -67,12 +67,12 @@ fn told(alloc: Global, image: Vec<u8>, fails: Vec<u64>) -> Result<(Told, u64), F
         Ok(tally) => Ok((tally.objects(), tally.owned())),
         Err(stop) => Err(stop),
     };
-    Ok((told, src.read_count().saturating_sub(before)))
+    Ok((told, before, src.read_count()))
 }
 
 // The account of an image.
 fn sum(alloc: Global, image: Vec<u8>) -> Result<Told, Fail> {
-    let (told, _) = told(alloc, image, Vec::new(alloc))?;
+    let (told, _, _) = told(alloc, image, Vec::new(alloc))?;
     Ok(told)
 }
 
@@ -150,9 +150,22 @@ fn owned_and_free_with_address_blocks(rt: HostRuntime) -> Result<(), Fail> {
 fn reads(rt: HostRuntime) -> Result<(), Fail> {
     let alloc = rt.alloc();
     for (which, most) in [(Sample::V, 24), (Sample::V2, 36)] {
-        let (found, taken) = told(alloc, plain(alloc, which)?, Vec::new(alloc))?;
+        let (found, before, after) = told(alloc, plain(alloc, which)?, Vec::new(alloc))?;
         assert!(rt; found.is_ok(), "{which:?}");
-        assert!(rt; taken <= most, "{which:?} {taken}");
+        assert!(rt; after.saturating_sub(before) <= most, "{which:?} {after}");
+    }
+    Ok(())
+}
+
+#[test]
+fn each_read_that_fails_is_told(rt: HostRuntime) -> Result<(), Fail> {
+    let alloc = rt.alloc();
+    let (_, before, after) = told(alloc, plain(alloc, Sample::S)?, Vec::new(alloc))?;
+    assert!(rt; before < after);
+    for number in before..after {
+        let fails = vec![in alloc; number + 1]?;
+        let (found, _, _) = told(alloc, plain(alloc, Sample::S)?, fails)?;
+        assert_eq!(rt; found, Err(Stop::ReadFault), "{number}");
     }
     Ok(())
 }

@@ -3,7 +3,7 @@
 use super::images::{Change, SMALL};
 use super::{Case, assert_cases};
 use apfs_layout::chunk_info::{CHUNK_ADDRESS, CHUNK_BITMAP, CIB_ENTRIES, CIB_INDEX};
-use apfs_layout::space_manager::{MAIN_CHUNKS, MAIN_FREE, POOL_BITMAP_SIZE};
+use apfs_layout::space_manager::{BLOCKS_PER_CHUNK, MAIN_FREE, POOL_BITMAP_SIZE};
 use img_make::places::{POOL_BASE, POOL_QUEUE, SPACE_MANAGER};
 use reach_rules::ReachFault;
 use space_map::SpaceFault;
@@ -16,7 +16,7 @@ const RING_INDEX: usize = 2520;
 const SPACE: &[Case] = &[
     (
         SMALL,
-        &[Change::Put(SPACE_MANAGER, MAIN_CHUNKS, &[2])],
+        &[Change::Put(SPACE_MANAGER, BLOCKS_PER_CHUNK, &[0xf8, 0x7f])],
         Err(ReachFault::Space(SpaceFault::Geometry)),
     ),
     (
