@@ -19,7 +19,7 @@ settle-requires-clause-site g c = same-site c.in-Ok.reached.space.site (site_of 
 
 pub settle-requires-clause-empty : goal.settle-requires-clause-empty
 settle-requires-clause-empty g c =
-    subst (λ n. IsEmpty c.in_ok-ledger.value 0 n) (ap (λ (s : Site). s.blocks) (c.site.ensures ∙ sym c.in-Ok.ensures.site)) c.in_ok-ledger.ensures
+    subst (λ n. IsEmpty c.in_ok-ledger.ledger 0 n) (ap (λ (s : Site). s.blocks) (c.site.ensures ∙ sym c.in-Ok.ensures.site)) c.in_ok-ledger.ensures
 
 pub returns-in-Ok-settle-clause-clear : goal.returns-in-Ok-settle-clause-clear
 returns-in-Ok-settle-clause-clear g c = λ image heads told are loaded.
