@@ -14,3 +14,6 @@ mod theorem;
 pub use accounting::{Tally, account};
 pub use reaching::reached;
 pub use theorem::parts_compose;
+
+#[cfg(test)]
+mod tests;
