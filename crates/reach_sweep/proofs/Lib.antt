@@ -8,4 +8,5 @@ pub mod Swept
 pub mod Records
 pub mod Lives
 pub mod MapsOf
+pub mod Gathers
 pub mod Composed

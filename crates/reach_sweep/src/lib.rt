@@ -2,6 +2,7 @@
 #![tactic(auto)]
 
 mod accounting;
+mod gathering;
 mod reaching;
 mod theorem;
 
