@@ -13,6 +13,7 @@ pub mod Listed
 pub mod Records
 pub mod Lives
 pub mod MapsOf
+pub mod Gathers
 pub mod Composed
 pub mod Together
 pub mod SpaceTells

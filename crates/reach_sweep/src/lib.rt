@@ -9,11 +9,10 @@ mod gathering;
 mod loading;
 mod reaching;
 mod sweeping;
+#[cfg(test)]
+mod tests;
 mod theorem;
 
 pub use accounting::{Tally, account};
 pub use reaching::reached;
 pub use theorem::parts_compose;
-
-#[cfg(test)]
-mod tests;
