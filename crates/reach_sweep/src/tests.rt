@@ -138,10 +138,10 @@ fn owned_and_free_are_all_blocks(rt: HostRuntime) -> Result<(), Fail> {
 #[test]
 fn owned_and_free_with_address_blocks(rt: HostRuntime) -> Result<(), Fail> {
     let alloc = rt.alloc();
-    let Ok((_, owned)) = sum(alloc, grouped(alloc)?)? else {
+    let Ok((_, owned)) = sum(alloc, grouped(alloc, &[])?)? else {
         panic!(rt; "no account");
     };
-    let (blocks, free) = space_of(alloc, grouped(alloc)?)?;
+    let (blocks, free) = space_of(alloc, grouped(alloc, &[])?)?;
     assert_eq!(rt; owned.saturating_add(free), blocks);
     Ok(())
 }

@@ -128,6 +128,16 @@ fn plan_of(alloc: Global, base: &Base) -> Result<Plan, Fail> {
     Ok(plan)
 }
 
+// Makes changes, one after the other.
+fn put_all(image: &mut [u8], changes: &[Change]) -> Result<(), Fail> {
+    for change in changes.iter() {
+        if !put(image, change) {
+            return Err(Fail::from("no such place"));
+        }
+    }
+    Ok(())
+}
+
 /// The bytes of an image, changed.
 pub fn image(alloc: Global, base: &Base, changes: &[Change]) -> Result<Vec<u8>, Fail> {
     let plan = plan_of(alloc, base)?;
@@ -135,17 +145,15 @@ pub fn image(alloc: Global, base: &Base, changes: &[Change]) -> Result<Vec<u8>, 
         return Err(Fail::from("the plan isn't valid"));
     }
     let mut image = make(alloc, &plan)?;
-    for change in changes.iter() {
-        if !put(&mut image, change) {
-            return Err(Fail::from("no such place"));
-        }
-    }
+    put_all(&mut image, changes)?;
     Ok(image)
 }
 
-/// The small container with an address block, in the block after the bitmap.
-pub fn grouped(alloc: Global) -> Result<Vec<u8>, Fail> {
+/// The small container with an address block, in the block after the bitmap, changed.
+pub fn grouped(alloc: Global, changes: &[Change]) -> Result<Vec<u8>, Fail> {
     let plan = sample(alloc, Sample::S)?;
     let groups = Groups { chunks: 1, cibs: 1 };
-    Ok(make_grouped(alloc, &plan, groups)?)
+    let mut image = make_grouped(alloc, &plan, groups)?;
+    put_all(&mut image, changes)?;
+    Ok(image)
 }

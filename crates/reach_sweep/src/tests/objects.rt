@@ -1,10 +1,10 @@
 // Objects that aren't sound, ids that don't resolve or are named twice, records that nothing uses, and trees out of order.
 
-use super::images::{Base, Change, Record, SMALL};
-use super::{Case, assert_cases};
+use super::images::{Base, Change, Record, SMALL, image};
+use super::{Case, assert_cases, sum};
 use apfs_layout::container::{FS_OID, REAPER_OID};
 use apfs_layout::jumpstart;
-use apfs_layout::node::{INFO_LEN, KEY_COUNT, TABLE};
+use apfs_layout::node::{FLAGS, INFO_LEN, KEY_COUNT, TABLE};
 use apfs_layout::object::{SUBTYPE, SUM, TYPE};
 use apfs_layout::reaping::REAPER_HEAD;
 use apfs_layout::space_manager::MAIN_QUEUE_TREE;
@@ -12,7 +12,7 @@ use apfs_layout::volume::EXTENTS_ROOT;
 use bt_node::NodeFault;
 use img_make::Sample;
 use img_make::places::{CONTAINER_MAP_ROOT, MAIN_QUEUE, REAPER, SPACE_MANAGER, SUPERBLOCK};
-use obj_base::{HeadFault, Within};
+use obj_base::{HeadFault, Stop, Within};
 use reach_rules::{ReachFault, Why};
 use std::test::Fail;
 
@@ -65,6 +65,31 @@ const UNSOUND: &[Case] = &[
         Err(ReachFault::Unsound {
             block: 54,
             why: Why::Node(NodeFault::Head(HeadFault::BadSum)),
+        }),
+    ),
+    (
+        SMALL,
+        &[Change::Put(EXTENTS, FLAGS, &[2])],
+        Err(ReachFault::Unsound {
+            block: 55,
+            why: Why::Node(NodeFault::Flags),
+        }),
+    ),
+    // A leaf of all three views, and the extent references of a snapshot.
+    (
+        SNAPSHOTS,
+        &[Change::Put(59, SUBTYPE, &[0x0f])],
+        Err(ReachFault::Unsound {
+            block: 59,
+            why: Why::Node(NodeFault::Head(HeadFault::BadSubtype)),
+        }),
+    ),
+    (
+        SNAPSHOTS,
+        &[Change::Put(61, TYPE, &[3])],
+        Err(ReachFault::Unsound {
+            block: 61,
+            why: Why::Node(NodeFault::Head(HeadFault::BadKind)),
         }),
     ),
     (
@@ -211,6 +236,33 @@ const UNUSED: &[Case] = &[
 #[test]
 fn records_that_nothing_uses(rt: HostRuntime) -> Result<(), Fail> {
     assert_cases(&rt, rt.alloc(), UNUSED)
+}
+
+// Both entries of the root of the files name 1031, and the record of 1032 is marked deleted.
+const TWICE: &[Change] = &[
+    Change::Put(FILES, END - 16, &[0x07, 0x04]),
+    Change::Records(
+        MAP_ROOT,
+        &[
+            ([1028, 1], &[SIZE, 54]),
+            ([1031, 1], &[SIZE, 57]),
+            ([1031, 4], &[SIZE, 58]),
+            ([1032, 1], &[DELETED, 59]),
+        ],
+    ),
+];
+
+// It is so in each of the three views.
+#[test]
+fn a_leaf_that_is_named_twice(rt: HostRuntime) -> Result<(), Fail> {
+    let alloc = rt.alloc();
+    let found = sum(alloc, image(alloc, &SNAPSHOTS, TWICE)?)?;
+    let Err(Stop::Found(ReachFault::NamedTwice { within, oid, xid })) = found else {
+        panic!(rt; "{found:?}");
+    };
+    assert_eq!(rt; (within, oid), (Within::Volume(0), 1031));
+    assert!(rt; [2, 4, 5].contains(&xid), "{xid}");
+    Ok(())
 }
 
 const TREES: &[Case] = &[

@@ -1,10 +1,11 @@
 // The space manager, what tells of chunks, and the pool.
 
-use super::images::{Change, SMALL};
-use super::{Case, assert_cases};
-use apfs_layout::chunk_info::{CHUNK_ADDRESS, CHUNK_BITMAP, CIB_ENTRIES, CIB_INDEX};
+use super::images::{Change, SMALL, grouped};
+use super::{Case, assert_cases, sum};
+use apfs_layout::chunk_info::{CAB_INDEX, CHUNK_ADDRESS, CHUNK_BITMAP, CIB_ENTRIES, CIB_INDEX};
 use apfs_layout::space_manager::{BLOCKS_PER_CHUNK, MAIN_FREE, POOL_BITMAP_SIZE};
 use img_make::places::{POOL_BASE, POOL_QUEUE, SPACE_MANAGER};
+use obj_base::Stop;
 use reach_rules::ReachFault;
 use space_map::SpaceFault;
 use space_pool::PoolFault;
@@ -44,6 +45,16 @@ const SPACE: &[Case] = &[
 #[test]
 fn chunks(rt: HostRuntime) -> Result<(), Fail> {
     assert_cases(&rt, rt.alloc(), SPACE)
+}
+
+// The address block stands in the third block of the pool.
+#[test]
+fn an_address_block_of_another_index(rt: HostRuntime) -> Result<(), Fail> {
+    let alloc = rt.alloc();
+    let found = sum(alloc, grouped(alloc, &[Change::Put(45, CAB_INDEX, &[1])])?)?;
+    let fault = ReachFault::Space(SpaceFault::Cab { index: 0 });
+    assert_eq!(rt; found, Err(Stop::Found(fault)));
+    Ok(())
 }
 
 // Block 60 isn't of the pool, and 50 is its last one.
