@@ -112,9 +112,13 @@ fn numbers(rt: HostRuntime) -> Result<(), Fail> {
     for (which, want) in [
         (Sample::S, (14, 57)),
         (Sample::H, (14, 58)),
+        (Sample::L, (14, 57)),
+        (Sample::P, (14, 58)),
         (Sample::C, (14, 58)),
         (Sample::V, (22, 65)),
         (Sample::V2, (34, 77)),
+        (Sample::J, (15, 60)),
+        (Sample::T, (20, 64)),
     ] {
         let found = sum(alloc, plain(alloc, which)?)?;
         assert_eq!(rt; found, Ok(want), "{which:?}");
