@@ -1,6 +1,6 @@
 -- What keys and values of records hold, by the format's tables.
-use Rattle.std.specs.Prelude.{◌≡◌, ℕ, ℤ, ◌+◌, ◌*◌, ◌/◌, ◌%◌, ◌^◌, Bool, ◌&&◌, ◌||◌, ◌==◌, nat_le, List, length, if◌then◌else◌}
-use Rattle.apfs_model.specs.Bytes.{u32_at, u64_at, i32_at}
+use Rattle.std.specs.Prelude.{◌≡◌, ℕ, ℤ, ◌+◌, ◌*◌, ◌/◌, ◌%◌, ◌^◌, Bool, ◌&&◌, ◌||◌, ◌==◌, nat_le, List, [], ◌∷◌, ◌++◌, length, take, drop, replicate, if◌then◌else◌}
+use Rattle.apfs_model.specs.Bytes.{u16_at, u32_at, u64_at, i32_at}
 
 -- what a record's key starts with: an id, of which the low 60 bits count, and a kind in the high 4 bits
 abbrev pub id_and_kind : ℕ → ℕ → ℕ
@@ -23,6 +23,21 @@ pub record IsPairKey (first second : ℕ) (key : List ℕ) : Type 0 where
   pub start : u64_at key 0 ≡ first
   pub after : u64_at key 8 ≡ second
 
+-- a key that is one number
+pub record IsNumberKey (number : ℕ) (key : List ℕ) : Type 0 where
+  pub len : length key ≡ 8
+  pub is : u64_at key 0 ≡ number
+
+-- bytes that end in a name and a zero after it, and have the length of both in 16 bits before them, from a place on
+pub record EndsInName (place : ℕ) (name bytes : List ℕ) : Type 0 where
+  pub len : u16_at bytes place ≡ length name + 1
+  pub rest : drop (place + 2) bytes ≡ name ++ 0 ∷ []
+
+-- a key that is an id, a kind and a name
+pub record IsNamedKey (id kind : ℕ) (name key : List ℕ) : Type 0 where
+  pub start : u64_at key 0 ≡ id_and_kind id kind
+  pub after : EndsInName 8 name key
+
 -- a value that is one number
 pub record IsNumberValue (number : ℕ) (value : List ℕ) : Type 0 where
   pub len : length value ≡ 8
@@ -34,6 +49,47 @@ pub record IsRangeValue (blocks : ℕ) (count : ℤ) (value : List ℕ) : Type 0
   pub length_and_kind : u64_at value 0 ≡ id_and_kind blocks 1
   pub owner : u64_at value 8 ≡ 0
   pub streams : i32_at value 16 ≡ count
+
+-- the value of a mapping of an object map: no flags, the object's length in bytes, and its block (Object Maps, omap_val_t)
+pub record IsMapValue (bytes block : ℕ) (value : List ℕ) : Type 0 where
+  pub len : length value ≡ 16
+  pub flags : u32_at value 0 ≡ 0
+  pub size : u32_at value 4 ≡ bytes
+  pub paddr : u64_at value 8 ≡ block
+
+-- the value of a sibling link: the directory that has the entry, and the name (Siblings, j_sibling_val_t)
+pub record IsLinkValue (directory : ℕ) (name value : List ℕ) : Type 0 where
+  pub parent : u64_at value 0 ≡ directory
+  pub after : EndsInName 8 name value
+
+-- the numbers of a snapshot's value: the block of its extent reference tree, that of its volume superblock, no times and no count of inodes, the type of a physical tree, and no flags (Snapshot Metadata, j_snap_metadata_val_t)
+pub record IsSnapshotFront (extents superblock : ℕ) (value : List ℕ) : Type 0 where
+  pub extents_root : u64_at value 0 ≡ extents
+  pub volume : u64_at value 8 ≡ superblock
+  pub created : u64_at value 16 ≡ 0
+  pub changed : u64_at value 24 ≡ 0
+  pub inum : u64_at value 32 ≡ 0
+  pub extents_type : u32_at value 40 ≡ 0x40000002
+  pub flags : u32_at value 44 ≡ 0
+
+-- the value of a snapshot: its numbers and its name
+pub record IsSnapshotValue (extents superblock : ℕ) (name value : List ℕ) : Type 0 where
+  pub front : IsSnapshotFront extents superblock value
+  pub after : EndsInName 48 name value
+
+-- the value of an attribute that holds its own bytes (Extended Attributes, j_xattr_val_t, XATTR_DATA_EMBEDDED)
+pub record IsEmbeddedValue (contents value : List ℕ) : Type 0 where
+  pub flags : u16_at value 0 ≡ 2
+  pub contents_len : u16_at value 2 ≡ length contents
+  pub contents_after : drop 4 value ≡ contents
+
+-- the value of an attribute whose bytes are a stream: its id, its size, and zeros (Extended Attributes, j_xattr_dstream_t, XATTR_DATA_STREAM)
+pub record IsStreamedValue (stream size : ℕ) (value : List ℕ) : Type 0 where
+  pub flags : u16_at value 0 ≡ 1
+  pub contents_len : u16_at value 2 ≡ 48
+  pub id : u64_at value 4 ≡ stream
+  pub bytes : u64_at value 12 ≡ size
+  pub rest : drop 20 value ≡ replicate 32 0
 
 -- the value of a stream that one file has (Data Streams, j_dstream_id_val_t)
 pub record IsStreamValue (value : List ℕ) : Type 0 where
