@@ -1,4 +1,5 @@
 pub mod Nodes
+pub mod Packing
 pub mod Plans
 pub mod Records
 pub mod Samples
