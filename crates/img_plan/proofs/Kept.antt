@@ -1,7 +1,7 @@
 -- Numbers that stay where others are written, and numbers in zeros.
-use Rattle.std.proofs.Common.{◌≡◌, ℕ, zero, suc, ◌+◌, ◌-◌, ◌*◌, ◌<◌, ◌≤◌, List, [], ◌∷◌, ◌++◌, length, take, drop, replicate, get_or, refl, ap, sym, ◌∙◌, inl, inr, arith}
+use Rattle.std.proofs.Common.{◌≡◌, ℕ, zero, suc, ◌+◌, ◌-◌, ◌*◌, ◌<◌, ◌≤◌, List, [], ◌∷◌, ◌++◌, length, take, drop, replicate, get_or, set, refl, ap, sym, ◌∙◌, inl, inr, arith}
 use Rattle.std.proofs.lemmas.Bool.{cases_lt}
-use Rattle.std.proofs.lemmas.List.{get_or-take, get_or-replicate, get_or_past, drop-drop, drop_at, take-take, take_at, take_all, length-take-le, length-replicate}
+use Rattle.std.proofs.lemmas.List.{get_or-take, get_or-drop, get_or-replicate, get_or_past, drop-drop, drop_at, take-take, take_at, take_all, take-set-le, length-take-le, length-replicate}
 use Rattle.img_edit.proofs.Sealed.{number_past}
 use Rattle.apfs_model.specs.Bytes.{number_at, u16_at, u64_at}
 use Rattle.img_edit.specs.Edits.{IsSameAround, put_at}
@@ -90,3 +90,25 @@ stays_after n old new at start end past same = number_past n new old end (at - e
 pub name_kept : (place : ℕ) (name items lent new rest : List ℕ) (n end : ℕ) → end ≤ place → length new ≡ n → lent ≡ items → drop end new ≡ drop end lent → EndsInName place name items → EndsInName place name (take n (new ++ rest))
 name_kept place name items lent new rest n end past long same after named =
     rw (take_at new rest n long) (name_stays place name items new end past (after ∙ ap (λ l. drop end l) same) named)
+
+-- a byte before a place stays where the bytes before that place do
+pub byte_before : (old new : List ℕ) (at start : ℕ) → at < start → take start new ≡ take start old → ◌≡◌ {A = ℕ} (get_or new at 0) (get_or old at 0)
+byte_before old new at start inside same = sym (get_or-take start new at 0 inside) ∙ ap (λ (l : List ℕ). get_or l at 0) same ∙ get_or-take start old at 0 inside
+
+-- a number before the place of a byte that is written stays
+pub number_set : (n : ℕ) (bytes : List ℕ) (place byte at : ℕ) → at + n ≤ place → number_at n (set bytes place byte) at ≡ number_at n bytes at
+number_set n bytes place byte at inside = number_before n bytes (set bytes place byte) at place inside (take-set-le place bytes place byte (omega arith))
+
+-- a number before the place of bytes that are put stays
+pub number_put : (n at place : ℕ) (part bytes : List ℕ) → at + n ≤ place → place ≤ length bytes → number_at n (put_at place part bytes) at ≡ number_at n bytes at
+number_put n at place part bytes inside long = number_before n bytes (put_at place part bytes) at place inside (take_put place part bytes long)
+
+-- a number in the bytes behind a place is the one that stands there
+pub number_behind : (n m at : ℕ) (bytes : List ℕ) → number_at n (drop m bytes) at ≡ number_at n bytes (m + at)
+number_behind zero m at bytes = refl
+number_behind (suc n) m at bytes =
+    let first : ◌≡◌ {A = ℕ} (get_or (drop m bytes) at 0) (get_or bytes (m + at) 0) = get_or-drop m bytes at 0 in
+    let rest : number_at n (drop m bytes) (suc at) ≡ number_at n bytes (m + suc at) = number_behind n m (suc at) bytes in
+    let e : m + suc at ≡ suc (m + at) = omega arith in
+    let moved : number_at n (drop m bytes) (suc at) ≡ number_at n bytes (suc (m + at)) = rest ∙ ap (λ k. number_at n bytes k) e in
+    cc

@@ -1,3 +1,4 @@
+pub mod Files
 pub mod Nodes
 pub mod Packing
 pub mod Plans

@@ -1,6 +1,12 @@
 -- What keys and values of records hold, by the format's tables.
-use Rattle.std.specs.Prelude.{◌≡◌, ℕ, ℤ, ◌+◌, ◌*◌, ◌/◌, ◌%◌, ◌^◌, Bool, ◌&&◌, ◌||◌, ◌==◌, nat_le, List, [], ◌∷◌, ◌++◌, length, take, drop, replicate, if◌then◌else◌}
+use Rattle.std.specs.Prelude.{◌≡◌, ℕ, ℤ, ◌+◌, ◌*◌, ◌/◌, ◌%◌, ◌^◌, Bool, ◌&&◌, ◌||◌, ◌==◌, nat_le, ◌-◌, min, List, [], ◌∷◌, ◌++◌, length, drop, replicate, slice_index, Option, None, Some, if◌then◌else◌}
+use Rattle.std.specs.Int.{div_ceil}
 use Rattle.apfs_model.specs.Bytes.{u16_at, u32_at, u64_at, i32_at}
+use Rattle.fs_name.specs.declared.naming.Names.{Names}
+use Rattle.fs_name.specs.declared.naming.Names.TheVariants.{Exact, Normal, Folded}
+use Rattle.fs_name.specs.Hash.{name_hash_of}
+use Rattle.img_plan.specs.declared.records.entries.EntryPlan.{EntryPlan}
+use Rattle.img_plan.specs.declared.records.inodes.InodePlan.{InodePlan}
 
 -- what a record's key starts with: an id, of which the low 60 bits count, and a kind in the high 4 bits
 abbrev pub id_and_kind : ℕ → ℕ → ℕ
@@ -37,6 +43,96 @@ pub record EndsInName (place : ℕ) (name bytes : List ℕ) : Type 0 where
 pub record IsNamedKey (id kind : ℕ) (name key : List ℕ) : Type 0 where
   pub start : u64_at key 0 ≡ id_and_kind id kind
   pub after : EndsInName 8 name key
+
+-- a key that is an id, the kind of an entry, the hash of a name, of which the low 22 bits count, and the name, whose length stands below the hash (File-System Objects, j_drec_hashed_key_t)
+pub record IsHashedKey (id hash : ℕ) (name key : List ℕ) : Type 0 where
+  pub start : u64_at key 0 ≡ id_and_kind id 9
+  pub len_and_hash : u32_at key 8 ≡ hash % 2 ^ 22 * 2 ^ 10 + (length name + 1)
+  pub rest : drop 12 key ≡ name ++ 0 ∷ []
+
+-- the key of an entry on a volume of these names: its name is hashed, save where only equal bytes make equal names
+abbrev pub IsEntryKey : Names → ℕ → List ℕ → List ℕ → Type 0
+IsEntryKey Exact id name key = IsNamedKey id 9 name key
+IsEntryKey Normal id name key = IsHashedKey id (name_hash_of Normal name) name key
+IsEntryKey Folded id name key = IsHashedKey id (name_hash_of Folded name) name key
+
+-- the head of extended fields of which there is one, of so many bytes, of the system (Extended Fields, xf_blob_t and x_field_t, XF_SYSTEM_FIELD)
+pub record IsOneField (kind size : ℕ) (part : List ℕ) : Type 0 where
+  pub count : u16_at part 0 ≡ 1
+  pub used : u16_at part 2 ≡ size
+  pub type : slice_index part 4 ≡ kind
+  pub flags : slice_index part 5 ≡ 0x20
+  pub size_again : u16_at part 6 ≡ size
+  pub len : length part ≡ 8 + size
+
+-- the extended field of a sibling id (DREC_EXT_TYPE_SIBLING_ID)
+pub record IsSiblingField (sibling : ℕ) (part : List ℕ) : Type 0 where
+  pub head : IsOneField 1 8 part
+  pub number : u64_at part 8 ≡ sibling
+
+-- an entry's extended fields: its sibling id, where it has one
+abbrev pub EndsInSibling : Option ℕ → List ℕ → Type 0
+EndsInSibling None part = part ≡ []
+EndsInSibling (Some sibling) part = IsSiblingField sibling part
+
+-- the fixed part of an entry's value: the inode, no time, and its kind (File-System Objects, j_drec_val_t)
+pub record IsEntryFront (file kind : ℕ) (value : List ℕ) : Type 0 where
+  pub inode : u64_at value 0 ≡ file
+  pub added : u64_at value 8 ≡ 0
+  pub flags : u16_at value 16 ≡ kind
+
+-- the value of an entry
+pub record IsEntryValue (plan : EntryPlan) (value : List ℕ) : Type 0 where
+  pub front : IsEntryFront plan.file plan.kind value
+  pub end : EndsInSibling plan.sibling (drop 18 value)
+
+-- the bytes of a stream's field: its size, the whole blocks of 4,096 bytes that hold it, and zeros (Data Streams, j_dstream_t)
+pub record IsStreamBytes (size : ℕ) (bytes : List ℕ) : Type 0 where
+  pub used : u64_at bytes 0 ≡ size
+  pub allocated : u64_at bytes 8 ≡ min (div_ceil size 4096 * 4096) (2 ^ 64 - 1)
+  pub rest : drop 16 bytes ≡ replicate 24 0
+
+-- the extended field of a stream (INO_EXT_TYPE_DSTREAM)
+pub record IsStreamField (size : ℕ) (part : List ℕ) : Type 0 where
+  pub head : IsOneField 8 40 part
+  pub stream : IsStreamBytes size (drop 8 part)
+
+-- an inode's extended fields: its stream, where it has one
+abbrev pub EndsInStream : Option ℕ → List ℕ → Type 0
+EndsInStream None part = part ≡ []
+EndsInStream (Some size) part = IsStreamField size part
+
+-- the fixed part of an inode's value: what the plan says, with its own id as its private id; no times, no class of protection, no writes, no owner, no group and no size before compression (File-System Objects, j_inode_val_t)
+pub record IsInodeFront (plan : InodePlan) (value : List ℕ) : Type 0 where
+  pub parent : u64_at value 0 ≡ plan.parent
+  pub private : u64_at value 8 ≡ plan.id
+  pub created : u64_at value 16 ≡ 0
+  pub modified : u64_at value 24 ≡ 0
+  pub changed : u64_at value 32 ≡ 0
+  pub accessed : u64_at value 40 ≡ 0
+  pub flags : u64_at value 48 ≡ plan.flags
+  pub links : u32_at value 56 ≡ plan.children_or_links
+  pub protection : u32_at value 60 ≡ 0
+  pub writes : u32_at value 64 ≡ 0
+  pub bsd_flags : u32_at value 68 ≡ plan.bsd_flags
+  pub owner : u32_at value 72 ≡ 0
+  pub group : u32_at value 76 ≡ 0
+  pub mode : u16_at value 80 ≡ plan.mode
+  pub pad : u16_at value 82 ≡ 0
+  pub uncompressed : u64_at value 84 ≡ 0
+
+-- the value of an inode
+pub record IsInodeValue (plan : InodePlan) (value : List ℕ) : Type 0 where
+  pub front : IsInodeFront plan value
+  pub end : EndsInStream plan.stream (drop 92 value)
+
+-- a directory without entries, whose mode is that which all may read and its owner may write
+abbrev pub directory_of : ℕ → ℕ → InodePlan
+directory_of id parent = record { id = id; parent = parent; flags = 0; children_or_links = 0; bsd_flags = 0; mode = 0x41ed; stream = None }
+
+-- a regular file with one name and without a stream, of a mode likewise
+abbrev pub file_of : ℕ → ℕ → InodePlan
+file_of id parent = record { id = id; parent = parent; flags = 0; children_or_links = 1; bsd_flags = 0; mode = 0x81a4; stream = None }
 
 -- a value that is one number
 pub record IsNumberValue (number : ℕ) (value : List ℕ) : Type 0 where
