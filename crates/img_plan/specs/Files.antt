@@ -1,6 +1,7 @@
 -- The files of a volume while they are put together: their inodes by id, and the records beside them.
-use Rattle.std.specs.Prelude.{◌≡◌, ℕ, ◌+◌, ◌-◌, ◌^◌, ◌/◌, ◌==◌, min, List, [], ◌∷◌, ◌++◌, Option, Some, None, option_map, nat_cmp, codes, if◌then◌else◌}
+use Rattle.std.specs.Prelude.{◌≡◌, ℕ, ◌+◌, ◌-◌, ◌^◌, ◌/◌, ◌==◌, min, List, [], ◌∷◌, ◌++◌, Option, Some, None, option_map, codes, if◌then◌else◌}
 use Rattle.std.specs.BTreeMap.{get}
+use Rattle.std.specs.Ordering.{nat_cmp}
 use Rattle.std.specs.List.{AllZip}
 use Rattle.fs_name.specs.declared.naming.Names.{Names}
 use Rattle.img_plan.specs.declared.files.FileTree.{FileTree}
