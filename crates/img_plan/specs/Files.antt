@@ -1,8 +1,9 @@
 -- The files of a volume while they are put together: their inodes by id, and the records beside them.
 use Rattle.std.specs.Prelude.{◌≡◌, ℕ, ◌+◌, ◌-◌, ◌^◌, ◌/◌, ◌==◌, min, List, [], ◌∷◌, ◌++◌, Option, Some, None, option_map, codes, if◌then◌else◌}
-use Rattle.std.specs.BTreeMap.{get}
+use Rattle.std.specs.BTreeMap.{get, values}
 use Rattle.std.specs.Ordering.{nat_cmp}
 use Rattle.std.specs.List.{AllZip}
+use Rattle.std.specs.List.Sorted.{IsPermutation}
 use Rattle.fs_name.specs.declared.naming.Names.{Names}
 use Rattle.img_plan.specs.declared.files.FileTree.{FileTree}
 use Rattle.img_plan.specs.declared.records.entries.EntryPlan.{EntryPlan}
@@ -21,6 +22,10 @@ inode_of tree id = get nat_cmp tree.inodes id
 -- the records beside the inodes, in the order in which they were added
 abbrev pub records_of : FileTree → List Pair
 records_of tree = tree.items.items
+
+-- the inodes by rising id
+abbrev pub inodes_of : FileTree → List InodePlan
+inodes_of tree = values tree.inodes
 
 -- the record of an entry with a name
 pub record IsEntry (names : Names) (plan : EntryPlan) (name : List ℕ) (item : Pair) : Type 0 where
@@ -140,3 +145,9 @@ pub record HasNoFiles (given : Names) (tree : FileTree) : Type 0 where
   pub root : IsEntry given (entry_of (directory_of 2 1)) (codes "root") items.0
   pub private : IsEntry given (entry_of (directory_of 3 1)) (codes "private-dir") items.1
   pub records : records_of tree ≡ items.0 ∷ items.1 ∷ []
+
+-- the records of a tree: those beside the inodes, and one of each inode
+pub record HoldsAll (tree : FileTree) (items : List Pair) : Type 0 where
+  pub inodes : List Pair
+  pub each : AllZip IsInode (inodes_of tree) inodes
+  pub all : IsPermutation (records_of tree ++ inodes) items

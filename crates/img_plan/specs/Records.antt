@@ -1,6 +1,8 @@
 -- What keys and values of records hold, by the format's tables.
-use Rattle.std.specs.Prelude.{◌≡◌, ℕ, ℤ, ◌+◌, ◌*◌, ◌/◌, ◌%◌, ◌^◌, Bool, ◌&&◌, ◌||◌, ◌==◌, nat_le, ◌-◌, min, List, [], ◌∷◌, ◌++◌, length, drop, replicate, slice_index, Option, None, Some, if◌then◌else◌}
+use Rattle.std.specs.Prelude.{◌≡◌, ℕ, ℤ, ◌+◌, ◌*◌, ◌/◌, ◌%◌, ◌^◌, ◌||◌, ◌==◌, nat_le, nat_lt, ◌-◌, min, List, [], ◌∷◌, ◌++◌, length, drop, replicate, slice_index, Option, None, Some, if◌then◌else◌}
 use Rattle.std.specs.Int.{div_ceil}
+use Rattle.std.specs.declared.cmp.Ordering.{Ordering}
+use Rattle.std.specs.Ordering.{nat_cmp, ordering_then}
 use Rattle.apfs_model.specs.Bytes.{u16_at, u32_at, u64_at, i32_at}
 use Rattle.fs_name.specs.declared.naming.Names.{Names}
 use Rattle.fs_name.specs.declared.naming.Names.TheVariants.{Exact, Normal, Folded}
@@ -218,3 +220,11 @@ second_in key = if nat_le 16 (length key) then u64_at key 8 else 0
 -- what a record's key adds to its id and its kind: the hash of an entry's name, the id of a sibling link or the logical address of an extent, otherwise 0
 abbrev pub sub_of : List ℕ → ℕ
 sub_of key = if kind_of key == 9 then hash_in key else (if kind_of key == 5 || kind_of key == 8 then second_in key else 0)
+
+-- where a record stands in its tree by its key: by its id, its kind and what the key adds; a key that is too short for it stands first
+unfoldable pub rank_of : List ℕ → ℕ × ℕ × ℕ
+rank_of key = if nat_lt (length key) 8 then (0, 0, 0) else (id_of key, kind_of key, sub_of key)
+
+-- the order of ranks: by the id, then by the kind, then by what the key adds
+abbrev pub rank_cmp : ℕ × ℕ × ℕ → ℕ × ℕ × ℕ → Ordering
+rank_cmp a b = ordering_then (ordering_then (nat_cmp a.0 b.0) (nat_cmp a.1 b.1)) (nat_cmp a.2 b.2)

@@ -32,7 +32,9 @@ pub struct FileTree {
 }
 
 impl FileTree {
-    ghost use Rattle.img_plan.specs.Files.{AddsEntry, AddsLink, AddsNamed, AddsRecord, AddsStream, HasNoFiles, IsUnchanged, Places, Raises, names_of, records_of};
+    ghost use Rattle.std.specs.Prelude.{IsSortedByKey};
+    ghost use Rattle.img_plan.specs.Records.{rank_cmp, rank_of};
+    ghost use Rattle.img_plan.specs.Files.{AddsEntry, AddsLink, AddsNamed, AddsRecord, AddsStream, HasNoFiles, HoldsAll, IsUnchanged, Places, Raises, names_of, records_of};
 
     /// The files of a volume with nothing but its two directories.
     pub fn new(alloc: Global, names: Names) -> Result<FileTree, AllocError>
@@ -151,13 +153,16 @@ impl FileTree {
     }
 
     /// The records in the tree's order.
-    pub fn items(self, alloc: Global) -> Result<Vec<Item>, AllocError> {
+    pub fn items(self, alloc: Global) -> Result<Vec<Item>, AllocError>
+        ensures all { IfOk result (λ items. HoldsAll self items.items) }
+        ensures ordered { IfOk result (λ items. IsSortedByKey (λ item. rank_of item.0.items) rank_cmp items.items) }
+    {
         let FileTree {
             inodes,
             mut items,
             ..
         } = self;
-        for plan in inodes.values() {
+        'inodes: for plan in inodes.values() {
             items.push(inode(alloc, plan)?)?;
         }
         items.sort_by_key(|item| rank(&item.0))?;

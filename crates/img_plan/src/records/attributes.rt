@@ -29,11 +29,7 @@ fn put_streamed(value: &mut [u8], stream: u64, size: u64)
     ensures { IsStreamedValue stream size value.new }
 {
     put_u16(value, ATTRIBUTE_FLAGS, ATTRIBUTE_STREAM);
-    put_u16(
-        value,
-        ATTRIBUTE_CONTENTS_LEN,
-        ATTRIBUTE_STREAM_LEN as u16,
-    );
+    put_u16(value, ATTRIBUTE_CONTENTS_LEN, ATTRIBUTE_STREAM_LEN as u16);
     put_u64(value, ATTRIBUTE_CONTENTS + ATTRIBUTE_STREAM_ID, stream);
     put_u64(value, ATTRIBUTE_CONTENTS + ATTRIBUTE_STREAM_SIZE, size);
 }

@@ -2,7 +2,7 @@
 ghost use Rattle.std.specs.Prelude.{◌≡◌, ◌≤◌, ◌<◌, ◌+◌, ◌-◌, ◌%◌, ◌^◌, min, IfOk, drop, length, vec_len};
 ghost use Rattle.apfs_model.specs.Bytes as number;
 ghost use Rattle.img_plan.specs.Nodes.{bytes_in_node};
-ghost use Rattle.img_plan.specs.Records.{IsLongKey, IsNamedKey, id_and_kind, id_of, kind_of, sub_of};
+ghost use Rattle.img_plan.specs.Records.{IsLongKey, IsNamedKey, id_and_kind, id_of, kind_of, rank_of, sub_of};
 
 use super::names::zeros_and_name;
 use apfs_layout::key::{
@@ -84,7 +84,9 @@ pub(crate) fn key_named(
 
 /// Where a record of a file-system tree stands: its id, its kind, and the hash of an entry's name, the id of a
 /// sibling link or the logical address of an extent. A key that is too short for it stands first.
+#[tactic(auto, unfolding(crate::specs::Records::rank_of))]
 pub fn rank(key: &[u8]) -> (u64, u64, u64)
+    ensures value { result ≡ rank_of key.now }
     ensures short { length key.now < 8 → result ≡ (0, 0, 0) }
     ensures id { 8 ≤ length key.now → result.0 ≡ id_of key.now }
     ensures kind { 8 ≤ length key.now → result.1 ≡ kind_of key.now }

@@ -22,7 +22,11 @@ fn put_name(bytes: &mut [u8], place: usize, name: &[u8])
 }
 
 // So many zeros, and then a name with its length.
-pub(super) fn zeros_and_name(alloc: Global, zeros: usize, name: &[u8]) -> Result<Vec<u8>, AllocError>
+pub(super) fn zeros_and_name(
+    alloc: Global,
+    zeros: usize,
+    name: &[u8],
+) -> Result<Vec<u8>, AllocError>
     requires short { length name.now ≤ 1022 }
     requires front { zeros ≤ 100 }
     ensures named { IfOk result (λ bytes. EndsInName zeros name.now bytes.items) }

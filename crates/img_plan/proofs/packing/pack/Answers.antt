@@ -1,4 +1,4 @@
-use Rattle.std.proofs.Common.{◌≡◌, [], ap, subst, sym, ◌∙◌, arith}
+use Rattle.std.proofs.Common.{◌≡◌, [], subst, sym, ◌∙◌, arith}
 use Rattle.std.proofs.lemmas.Iterator.Adapters.{YieldsList-from_vec}
 use Rattle.std.proofs.lemmas.Iterator.Consumers.{YieldsList-end}
 use Rattle.std.proofs.lemmas.Bool.Decides.{nat_tests}
@@ -18,10 +18,10 @@ returns c =
     let was : IsPacking items c.items.packing = subst (λ l. IsPacking l c.items.packing) same c.items.invariant.packing in
     elim c.if-not-is_empty.branch [
       | then-not-is_empty+in_ok-close w ↦
-        let packed : IsPacked c.args.first items w.close.new.self.leaves.items = subst (λ f. IsPacked f items w.close.new.self.leaves.items) c.items.invariant.first (closed c.items.packing w.close.new.self items was w.in_ok-close.ensures) in
-        subst (λ (p : Packing). IsPacked c.args.first items p.leaves.items) (sym w.packing-is) packed
+          let packed : IsPacked c.args.first items w.close.new.self.leaves.items = subst (λ f. IsPacked f items w.close.new.self.leaves.items) c.items.invariant.first (closed c.items.packing w.close.new.self items was w.in_ok-close.ensures) in
+          subst (λ (p : Packing). IsPacked c.args.first items p.leaves.items) (sym w.packing-is) packed
       | else-not-is_empty w ↦
-        let none : c.items.packing.last.items ≡ [] = nil_from_length c.items.packing.last.items (grind (arith, nat_tests)) in
-        let packed : IsPacked c.args.first items c.items.packing.leaves.items = subst (λ f. IsPacked f items c.items.packing.leaves.items) c.items.invariant.first (none_packed c.items.packing items was none) in
-        subst (λ (p : Packing). IsPacked c.args.first items p.leaves.items) (sym w.packing-is) packed
+          let none : c.items.packing.last.items ≡ [] = nil_from_length c.items.packing.last.items (grind (arith, nat_tests)) in
+          let packed : IsPacked c.args.first items c.items.packing.leaves.items = subst (λ f. IsPacked f items c.items.packing.leaves.items) c.items.invariant.first (none_packed c.items.packing items was none) in
+          subst (λ (p : Packing). IsPacked c.args.first items p.leaves.items) (sym w.packing-is) packed
     ]

@@ -1,4 +1,4 @@
-use Rattle.std.proofs.Common.{◌≡◌, ap, subst}
+use Rattle.std.proofs.Common.{subst}
 use Rattle.std.proofs.lemmas.Result.{on_ok_weaker}
 use Rattle.img_plan.specs.Files.{IsLink}
 use Rattle.img_plan.proofs.FilesSteps.{linked}
@@ -14,7 +14,7 @@ returns-clause-ok c = λ short.
     let given : IsLink file sibling directory c.as_bytes.result.now link = record { key = c.in_ok-sibling_link.ensures.key; value = c.in_ok-sibling_link.ensures.value } in
     let is_link : IsLink file sibling directory c.args.name.now link = subst (λ n. IsLink file sibling directory n link) c.as_bytes.ensures.value given in
     on_ok_weaker c.record-2.result
-      (λ second. linked file sibling directory c.args.name.now link map c.args.self.now c.name.new.self c.raise.new.self c.record.new.self c.record-2.new.self
-        (c.in_ok-name.ensures.ok short) c.raise.ensures c.in_ok-record.ensures.ok second is_link
-        (record { key = c.in_ok-sibling_map.ensures.key; value = c.in_ok-sibling_map.ensures.value }))
-      c.record-2.ensures.ok
+    (λ second. linked file sibling directory c.args.name.now link map c.args.self.now c.name.new.self c.raise.new.self c.record.new.self c.record-2.new.self
+    (c.in_ok-name.ensures.ok short) c.raise.ensures c.in_ok-record.ensures.ok second is_link
+    (record { key = c.in_ok-sibling_map.ensures.key; value = c.in_ok-sibling_map.ensures.value }))
+    c.record-2.ensures.ok

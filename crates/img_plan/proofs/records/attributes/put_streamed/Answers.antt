@@ -11,8 +11,8 @@ returns c = record {
   id = stays_before 8 _ _ 4 12 20 (omega arith) c.put_u64-2.ensures.same ∙ c.put_u64.ensures.value;
   bytes = c.put_u64-2.ensures.value;
   rest = c.put_u64-2.ensures.same.after
-    ∙ rest_stays _ _ 4 12 20 (omega arith) c.put_u64.ensures.same
-    ∙ rest_stays _ _ 2 4 20 (omega arith) c.put_u16-2.ensures.same
-    ∙ rest_stays _ _ 0 2 20 (omega arith) c.put_u16.ensures.same
-    ∙ c.requires.zeros;
+      ∙ rest_stays _ _ 4 12 20 (omega arith) c.put_u64.ensures.same
+      ∙ rest_stays _ _ 2 4 20 (omega arith) c.put_u16-2.ensures.same
+      ∙ rest_stays _ _ 0 2 20 (omega arith) c.put_u16.ensures.same
+      ∙ c.requires.zeros;
 }

@@ -7,9 +7,9 @@ use Rattle.img_plan.proofs.records.inodes.inode.Goals as goal
 pub returns-in_ok-inode_value-in-None-clause-value : goal.returns-in_ok-inode_value-in-None-clause-value
 returns-in_ok-inode_value-in-None-clause-value c =
     let items = c.in_ok-inode_value-in-None.field-0.items in record {
-  front = c.in_ok-inode_value-in-None.ensures.front;
-  end = subst (λ s. EndsInStream s (drop 92 items)) (sym c.in-None.is) (drop_all 92 items (omega (arith, c.in_ok-inode_value-in-None.field-0.ok.0, c.in_ok-inode_value-in-None.ensures.len)));
-}
+      front = c.in_ok-inode_value-in-None.ensures.front;
+      end = subst (λ s. EndsInStream s (drop 92 items)) (sym c.in-None.is) (drop_all 92 items (omega (arith, c.in_ok-inode_value-in-None.field-0.ok.0, c.in_ok-inode_value-in-None.ensures.len)));
+    }
 
 pub returns-in_ok-value-in-Some-clause-value : goal.returns-in_ok-value-in-Some-clause-value
 returns-in_ok-value-in-Some-clause-value c =

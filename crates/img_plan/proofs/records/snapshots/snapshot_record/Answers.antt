@@ -9,6 +9,6 @@ returns-clause-value c =
     let items = c.in_ok-value.value.items in
     let new = c.put_snapshot.new.value in
     let long : length new ≡ c.in_ok-value.value.len = omega arith in record {
-  front = subst (λ l. IsSnapshotFront c.args.extents c.args.superblock l) (sym (take_at new (drop (length new) items) c.in_ok-value.value.len long)) c.put_snapshot.ensures.numbers;
-  after = name_kept 48 c.args.name.now items c.deref_mut.result.now new (drop (length new) items) c.in_ok-value.value.len 48 (omega arith) long c.deref_mut.ensures.value c.put_snapshot.ensures.same c.in_ok-value.ensures.named;
-}
+      front = subst (λ l. IsSnapshotFront c.args.extents c.args.superblock l) (sym (take_at new (drop (length new) items) c.in_ok-value.value.len long)) c.put_snapshot.ensures.numbers;
+      after = name_kept 48 c.args.name.now items c.deref_mut.result.now new (drop (length new) items) c.in_ok-value.value.len 48 (omega arith) long c.deref_mut.ensures.value c.put_snapshot.ensures.same c.in_ok-value.ensures.named;
+    }
