@@ -68,3 +68,7 @@ one_extent_more stream extents extent item old mid new was add is_extent = recor
   extents = zip_push (IsExtent stream) extents was.tail extent item was.extents is_extent;
   records = add.records ∙ ap (λ l. l ++ item ∷ []) was.records ∙ append_assoc (records_of old) (was.head ∷ was.tail) (item ∷ []);
 }
+
+-- one item more behind those that came after the first ones
+pub pushed : (old more now new : List Pair) (item : Pair) → new ≡ now ++ item ∷ [] → now ≡ old ++ more → new ≡ old ++ (more ++ item ∷ [])
+pushed old more now new item push was = push ∙ ap (λ l. l ++ item ∷ []) was ∙ append_assoc old more (item ∷ [])

@@ -53,7 +53,7 @@ impl FileTree {
 
     /// Adds an inode that nothing names yet, in the place of any other of its id.
     pub fn inode(&mut self, plan: InodePlan) -> Result<(), AllocError>
-        ensures ok { OnOk result (Places plan self.old self.new) }
+        ensures adds { OnOk result (Places plan self.old self.new) }
         ensures err { OnErr result (IsUnchanged self.old self.new) }
     {
         self.inodes.insert(plan.id, plan)?;
@@ -62,8 +62,8 @@ impl FileTree {
 
     /// Adds an inode, and its name in its parent. After an Err the inode may be there without its name.
     pub fn add(&mut self, alloc: Global, plan: InodePlan, name: &str) -> Result<(), AllocError>
-        ensures ok { length name.now ≤ 1022 → OnOk result (AddsNamed plan name.now self.old self.new) }
-        ensures long { 1022 < length name.now → OnOk result (Places plan self.old self.new) }
+        ensures adds { length name.now ≤ 1022 → OnOk result (AddsNamed plan name.now self.old self.new) }
+        ensures too_long { 1022 < length name.now → OnOk result (Places plan self.old self.new) }
         ensures err { OnErr result (records_of self.new ≡ records_of self.old) }
     {
         let entry = EntryPlan {
@@ -78,8 +78,8 @@ impl FileTree {
 
     /// Adds an entry of a directory, which then has one child more.
     pub fn name(&mut self, alloc: Global, plan: &EntryPlan, name: &str) -> Result<(), AllocError>
-        ensures ok { length name.now ≤ 1022 → OnOk result (AddsEntry plan.now name.now self.old self.new) }
-        ensures long { 1022 < length name.now → IsUnchanged self.old self.new }
+        ensures adds { length name.now ≤ 1022 → OnOk result (AddsEntry plan.now name.now self.old self.new) }
+        ensures too_long { 1022 < length name.now → IsUnchanged self.old self.new }
         ensures err { OnErr result (IsUnchanged self.old self.new) }
     {
         if name.len() <= MOST_OF_A_NAME {
@@ -99,8 +99,8 @@ impl FileTree {
         directory: u64,
         name: &str,
     ) -> Result<(), AllocError>
-        ensures ok { length name.now ≤ 1022 → OnOk result (AddsLink file sibling directory name.now self.old self.new) }
-        ensures long { 1022 < length name.now → IsUnchanged self.old self.new }
+        ensures adds { length name.now ≤ 1022 → OnOk result (AddsLink file sibling directory name.now self.old self.new) }
+        ensures too_long { 1022 < length name.now → IsUnchanged self.old self.new }
     {
         if name.len() > MOST_OF_A_NAME {
             return Ok(());
@@ -125,7 +125,7 @@ impl FileTree {
         stream: u64,
         extents: &[(u64, u64, u64)],
     ) -> Result<(), AllocError>
-        ensures ok { OnOk result (AddsStream stream extents.now self.old self.new) }
+        ensures adds { OnOk result (AddsStream stream extents.now self.old self.new) }
     {
         self.record(stream_id(alloc, stream)?)?;
         'extents: for (address, length, block) in extents.iter() {
@@ -136,7 +136,7 @@ impl FileTree {
 
     /// Adds a record of any kind.
     pub fn record(&mut self, item: Item) -> Result<(), AllocError>
-        ensures ok { OnOk result (AddsRecord item self.old self.new) }
+        ensures adds { OnOk result (AddsRecord item self.old self.new) }
         ensures err { OnErr result (IsUnchanged self.old self.new) }
     {
         self.items.push(item)?;

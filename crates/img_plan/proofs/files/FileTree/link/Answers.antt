@@ -4,8 +4,8 @@ use Rattle.img_plan.specs.Files.{IsLink}
 use Rattle.img_plan.proofs.FilesSteps.{linked}
 use Rattle.img_plan.proofs.files.FileTree.link.Goals as goal
 
-pub returns-clause-ok : goal.returns-clause-ok
-returns-clause-ok c = λ short.
+pub returns-clause-adds : goal.returns-clause-adds
+returns-clause-adds c = λ short.
     let file = c.args.file in
     let sibling = c.args.sibling in
     let directory = c.args.directory in
@@ -15,6 +15,6 @@ returns-clause-ok c = λ short.
     let is_link : IsLink file sibling directory c.args.name.now link = subst (λ n. IsLink file sibling directory n link) c.as_bytes.ensures.value given in
     on_ok_weaker c.record-2.result
     (λ second. linked file sibling directory c.args.name.now link map c.args.self.now c.name.new.self c.raise.new.self c.record.new.self c.record-2.new.self
-    (c.in_ok-name.ensures.ok short) c.raise.ensures c.in_ok-record.ensures.ok second is_link
+    (c.in_ok-name.ensures.adds short) c.raise.ensures c.in_ok-record.ensures.adds second is_link
     (record { key = c.in_ok-sibling_map.ensures.key; value = c.in_ok-sibling_map.ensures.value }))
-    c.record-2.ensures.ok
+    c.record-2.ensures.adds

@@ -1,8 +1,8 @@
 use Rattle.std.proofs.Common.{◌∙◌}
 use Rattle.img_plan.proofs.files.FileTree.name.Goals as goal
 
-pub returns-in_ok-push-clause-ok : goal.returns-in_ok-push-clause-ok
-returns-in_ok-push-clause-ok c = λ short. record {
+pub returns-in_ok-push-clause-adds : goal.returns-in_ok-push-clause-adds
+returns-in_ok-push-clause-adds c = λ short. record {
   names = c.raise.ensures.names;
   inodes = c.raise.ensures.inodes;
   item = c.in_ok-entry.field-0;

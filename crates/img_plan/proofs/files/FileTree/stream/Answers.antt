@@ -13,4 +13,4 @@ extents-preserved c =
     let item = c.in_ok-file_extent.field-0 in
     let is_extent : IsExtent c.args.stream here item = record { key = c.in_ok-file_extent.ensures.key; value = c.in_ok-file_extent.ensures.value } in
     subst (λ l. AddsStream c.args.stream l c.args.self.now c.record-in-extents.new.self) (sym (take_more xs i none (omega arith)))
-    (one_extent_more c.args.stream (take i xs) here item c.args.self.now c.extents.self c.record-in-extents.new.self c.extents.invariant c.in_ok-record-2.ensures.ok is_extent)
+    (one_extent_more c.args.stream (take i xs) here item c.args.self.now c.extents.self c.record-in-extents.new.self c.extents.invariant c.in_ok-record-2.ensures.adds is_extent)
