@@ -23,6 +23,7 @@ use Rattle.view_rules.specs.declared.profile.Profile.{Profile}
 use Rattle.apfs_check.specs.Volumes.{has_sound_super, sound_heads, record_extents_root, past_extents_roots}
 use Rattle.apfs_check.specs.Present.{IsPresent, IsFeature}
 use Rattle.apfs_check.specs.Raised.{of_extents}
+use Rattle.apfs_check.specs.Steps.{IsExtentsRoot}
 use Rattle.reach_rules.proofs.Nexts.{in-unless}
 use Rattle.reach_rules.proofs.Walks.{IsRootNaming, gap-told}
 use Rattle.reach_rules.proofs.Looks.{extents-walk}
@@ -31,10 +32,6 @@ use Rattle.apfs_check.proofs.Loaded.{from-sound}
 use Rattle.apfs_check.proofs.There.{walk-there, feature-there}
 use Rattle.reach_rules.proofs.TreesLifted.{extents-present}
 use Rattle.apfs_check.proofs.VolumesThere.{sound-head}
-
--- the roots of the extent reference trees of a volume and of its snapshots
-abbrev pub IsExtentsRoot : List ℕ → Seen → VolHead → ℕ → Type 0
-IsExtentsRoot image seen head root = In root ((loaded_of image (site_of seen) head).extents_root ∷ past_extents_roots image (site_of seen) head)
 
 -- that of a volume is named by its superblock
 live-root : (image : List ℕ) (seen : Seen) (head : VolHead) (n : IsHeadNaming image seen head) → has_sound_super image (site_of seen) head ≡ true → (root : ℕ) → root ≡ (loaded_of image (site_of seen) head).extents_root → (root == 0) ≡ false → IsRootNaming image seen ExtentRefs ByBlock root

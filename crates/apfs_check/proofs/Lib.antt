@@ -12,3 +12,9 @@ pub mod Same
 pub mod Numbers
 pub mod Profiles
 pub mod NoteKinds
+pub mod Adding
+pub mod Stopped
+pub mod Short
+pub mod ViewSteps
+pub mod DataTold
+pub mod Checked

@@ -16,6 +16,7 @@ use Rattle.vol_view.specs.declared.volume.Snapshot.{Snapshot}
 use Rattle.ext_ref.specs.Ranges.{ranges_of}
 use Rattle.apfs_model.proofs.BoolTests.{both-true}
 use Rattle.apfs_check.specs.Volumes.{has_sound_super, sound_heads, volume_of, record_extents_root, past_extents_roots, volume_ranges}
+use Rattle.apfs_check.specs.Steps.{snapshot_root}
 use Rattle.apfs_check.proofs.Loaded.{AllSound, sound-super, readable-long}
 
 -- a list of which all pass
@@ -54,11 +55,7 @@ root-same : (image : List ℕ) (site : Site) (pair : Pair) → (snapshot_in imag
 unfolding snapshot_in
 root-same image site pair = refl
 
--- the roots of the extent reference trees of the snapshots of a volume
-abbrev pub snapshot_root : Snapshot → ℕ
-snapshot_root s = s.extents_root
-
-roots-same : (image : List ℕ) (site : Site) (head : VolHead) → IsLoadable image site head → past_extents_roots image site head ≡ map snapshot_root (snapshots_in image site head)
+pub roots-same : (image : List ℕ) (site : Site) (head : VolHead) → IsLoadable image site head → past_extents_roots image site head ≡ map snapshot_root (snapshots_in image site head)
 roots-same image site head r =
     let pairs : List Pair = snapshot_pairs (metadata_of image site head) in
     ap (map record_extents_root) (filter-all is_snapshot_long pairs (λ pair h. readable-long (metadata_of image site head) r.agreed.readable pair h))
@@ -70,3 +67,8 @@ pub ranges-same : (image : List ℕ) (seen : Seen) (head : VolHead) → IsLoadab
 unfolding loaded_of volume_ranges
 ranges-same image seen head r =
     ap (λ roots. ranges_of image (site_of seen) (volume_of image seen head).extents_root ++ flat_map (ranges_of image (site_of seen)) roots) (roots-same image (site_of seen) head r)
+
+-- the roots of the snapshots' trees are those of the volume that was loaded
+pub past-roots : (image : List ℕ) (seen : Seen) (head : VolHead) → IsLoadable image (site_of seen) head → past_extents_roots image (site_of seen) head ≡ map snapshot_root (volume_of image seen head).snaps
+unfolding loaded_of
+past-roots image seen head r = roots-same image (site_of seen) head r

@@ -6,3 +6,6 @@ pub mod Present
 pub mod Raised
 pub mod Report
 pub mod Laws
+pub mod Held
+pub mod Steps
+pub mod DataSteps

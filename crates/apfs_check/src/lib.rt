@@ -1,8 +1,20 @@
-//! The whole check: what is wrong with a container where it isn't well-formed.
+//! The whole check: whether a container is well-formed, and what is wrong with it where it isn't.
 #![tactic(auto)]
 
+mod checking;
+mod data;
 mod fault;
+mod gathered;
+mod loading;
+mod notes;
+mod raising;
+mod ranges;
+mod report;
 mod theorem;
+mod views;
+mod volumes;
 
+pub use checking::check;
 pub use fault::Fault;
+pub use report::Report;
 pub use theorem::well_formed_or_flawed;

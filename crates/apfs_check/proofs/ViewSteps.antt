@@ -1,0 +1,95 @@
+-- Going through the views of a volume that was loaded.
+use Rattle.std.proofs.Common.{◌≡◌, ◌∙◌, ℕ, zero, suc, ◌+◌, ◌-◌, ◌<◌, ◌≤◌, Bool, true, false, List, [], ◌∷◌, ◌++◌, length, Option, Some, None, map, take, inl, inr, refl, sym, ap, subst, arith}
+use Rattle.std.specs.Prelude.{◌^◌, ◌==◌, ◌||◌, ◌&&◌, nat_lt, nat_le, flat_map, slice_get, option_map}
+use Rattle.std.proofs.lemmas.Grind.{flat_map-append}
+use Rattle.std.proofs.lemmas.List.{length-map}
+use Rattle.std.proofs.lemmas.Option.{slice_get-map}
+use Rattle.apfs_model.specs.Lists.{In}
+use Rattle.apfs_model.proofs.BoolTests.{not-false, test_or, other-true, right-true, upto-from, clash}
+use Rattle.apfs_model.proofs.Searches.{in-append, from-map}
+use Rattle.obj_base.specs.declared.site.Site.{Site}
+use Rattle.nx_ring.specs.Checkpoint.{Seen, site_of}
+use Rattle.fs_record.specs.Facts.{Fact}
+use Rattle.fs_record.specs.StreamExtents.{extent_blocks, is_hole, is_extent_placed}
+use Rattle.fs_record.specs.declared.extents.FileExt.{FileExt}
+use Rattle.vol_view.specs.Volumes.{Loaded}
+use Rattle.vol_view.specs.Views.{live_of, past_of, views_of, rooted_views}
+use Rattle.vol_view.specs.declared.head.VolHead.{VolHead}
+use Rattle.vol_view.specs.declared.volume.View.{View}
+use Rattle.ext_ref.specs.Ranges.{ranges_of}
+use Rattle.view_rules.specs.Facts.{Facts}
+use Rattle.view_rules.specs.Extents.{is_misplaced}
+use Rattle.view_rules.specs.Rules.{view_facts}
+use Rattle.view_rules.specs.declared.profile.Profile.{Profile}
+use Rattle.apfs_check.specs.Volumes.{volume_of, volume_ranges, extent_of, view_extents, volume_extents}
+use Rattle.apfs_check.specs.WellFormed.{HasViewRules}
+use Rattle.apfs_check.specs.DataSteps.{AreShortOrHoles}
+use Rattle.apfs_check.specs.Steps.{IsReady, snapshot_root}
+use Rattle.apfs_check.proofs.Same.{views-same, ranges-same}
+use Rattle.apfs_check.proofs.Adding.{append-none, appended-more}
+
+-- ---- one item more of a list
+pub take-one : {X : Type 0} (xs : List X) (i : ℕ) (x : X) → slice_get xs i ≡ Some x → take (i + 1) xs ≡ take i xs ++ x ∷ []
+take-one [] i x e = absurd (cc)
+take-one (y ∷ ys) zero x e = let same : y ≡ x = cc in ap (λ z. z ∷ []) same
+take-one (y ∷ ys) (suc i) x e =
+    let next : suc i + 1 ≡ suc (i + 1) = omega arith in
+    ap (λ n. take n (y ∷ ys)) next ∙ ap (λ zs. y ∷ zs) (take-one ys i x e)
+
+-- ---- a view by its place
+pub live-place : (volume : Loaded) (seen : Seen) (view : View) → view ≡ live_of volume seen → slice_get (views_of volume seen) 0 ≡ Some view
+live-place volume seen view e = ap (λ v. Some v) (sym e)
+
+pub past-place : (volume : Loaded) (seen : Seen) (place : ℕ) (view : View) → 0 < place → option_map (past_of volume) (slice_get volume.snaps (place - 1)) ≡ Some view → slice_get (views_of volume seen) place ≡ Some view
+past-place volume seen zero view some e = absurd (omega arith)
+past-place volume seen (suc k) view some e =
+    let same : suc k - 1 ≡ k = omega arith in
+    slice_get-map (past_of volume) volume.snaps k ∙ subst (λ n. option_map (past_of volume) (slice_get volume.snaps n) ≡ Some view) same e
+
+-- how many there are
+pub views-length : (volume : Loaded) (seen : Seen) → length (views_of volume seen) ≡ length volume.snaps + 1
+views-length volume seen = let e = length-map volume.snaps (past_of volume) in omega (arith, e)
+
+-- ---- the new ranges of a volume that was loaded
+pub ranges-joined : (image : List ℕ) (seen : Seen) (volume : Loaded) → IsReady image seen volume → ranges_of image (site_of seen) volume.extents_root ++ flat_map (ranges_of image (site_of seen)) (map snapshot_root volume.snaps) ≡ volume_ranges image (site_of seen) volume.head
+ranges-joined image seen volume r =
+    ap (λ (v : Loaded). ranges_of image (site_of seen) v.extents_root ++ flat_map (ranges_of image (site_of seen)) (map snapshot_root v.snaps)) r.loaded.same ∙ sym (ranges-same image seen volume.head r.loaded.right)
+
+-- ---- the extents of all views
+pub extents-same : (image : List ℕ) (seen : Seen) (volume : Loaded) → IsReady image seen volume → flat_map (view_extents image (site_of seen) volume) (views_of volume seen) ≡ volume_extents image seen volume.head
+unfolding volume_extents
+extents-same image seen volume r =
+    let head = volume.head in
+    ap (λ (v : Loaded). flat_map (view_extents image (site_of seen) v) (views_of v seen)) r.loaded.same
+    ∙ ap (λ vs. flat_map (view_extents image (site_of seen) (volume_of image seen head)) vs) (sym (views-same image seen head r.loaded.right))
+
+-- those of one view more
+pub extents-more : (image : List ℕ) (site : Site) (volume : Loaded) (views : List View) (view : View) (a b c : List (ℕ × FileExt)) → b ≡ a ++ flat_map (view_extents image site volume) views → c ≡ b ++ view_extents image site volume view → c ≡ a ++ flat_map (view_extents image site volume) (views ++ view ∷ [])
+extents-more image site volume views view a b c p q = appended-more (view_extents image site volume) views (view ∷ []) a b c p (q ∙ ap (λ es. b ++ es) (sym (append-none (view_extents image site volume view))))
+
+pub extents-next : (image : List ℕ) (site : Site) (volume : Loaded) (views : List View) (i : ℕ) (view : View) (b c : List (ℕ × FileExt)) → slice_get views i ≡ Some view → b ≡ flat_map (view_extents image site volume) (take i views) → c ≡ b ++ view_extents image site volume view → c ≡ flat_map (view_extents image site volume) (take (i + 1) views)
+extents-next image site volume views i view b c at p q =
+    extents-more image site volume (take i views) view [] b c p q ∙ ap (λ vs. flat_map (view_extents image site volume) vs) (sym (take-one views i view at))
+
+-- the extents of a view that has its rules are holes, or end within the container
+placed-short : (block_size blocks : ℕ) (e : FileExt) → is_extent_placed block_size blocks e ≡ true → is_hole e ≡ false → e.block + extent_blocks block_size e ≤ blocks
+unfolding is_extent_placed
+placed-short block_size blocks e placed some =
+    let inside = other-true (is_hole e) _ some placed in
+    upto-from (e.block + extent_blocks block_size e) blocks (right-true (nat_lt e.block (2 ^ 63)) _ inside)
+
+fact-placed : (block_size blocks : ℕ) (f : Fact FileExt) → is_misplaced block_size blocks f ≡ false → is_extent_placed block_size blocks f.what ≡ true
+unfolding is_misplaced
+fact-placed block_size blocks f e = not-false (is_extent_placed block_size blocks f.what) e
+
+pub extents-short : (profile : Profile) (image : List ℕ) (seen : Seen) (volume : Loaded) → IsReady image seen volume → (view : View) → HasViewRules profile image seen volume.head view → (site_of seen).blocks < 2 ^ 64 → AreShortOrHoles (site_of seen).block_size (view_extents image (site_of seen) volume view)
+extents-short profile image seen volume r view rules low x h some =
+    let site : Site = site_of seen in
+    let facts : Facts = view_facts image site (volume_of image seen volume.head) view in
+    let listed : In x (view_extents image site (volume_of image seen volume.head) view) = subst (λ (v : Loaded). In x (view_extents image site v view)) r.loaded.same h in
+    let t = from-map extent_of facts.extents x listed in
+    let placed = fact-placed site.block_size site.blocks t.0 (rules.facts.extent_places t.0 t.1.0) in
+    let what : x.1 ≡ t.0.what = ap (λ (y : ℕ × FileExt). y.1) t.1.1 in
+    let end : t.0.what.block + extent_blocks site.block_size t.0.what ≤ site.blocks = placed-short site.block_size site.blocks t.0.what placed (subst (λ (e : FileExt). is_hole e ≡ false) what some) in
+    let ended : x.1.block + extent_blocks site.block_size x.1 ≤ site.blocks = subst (λ (e : FileExt). e.block + extent_blocks site.block_size e ≤ site.blocks) (sym what) end in
+    omega arith

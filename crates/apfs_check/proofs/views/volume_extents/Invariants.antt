@@ -1,0 +1,18 @@
+use Rattle.std.proofs.Common.{◌≡◌, ℕ, List, Some, take}
+use Rattle.std.specs.Prelude.{flat_map}
+use Rattle.apfs_model.specs.Source.{IsKept}
+use Rattle.nx_ring.specs.Checkpoint.{site_of}
+use Rattle.vol_view.specs.Views.{views_of}
+use Rattle.ext_ref.specs.Left.{AreShortExtents}
+use Rattle.view_rules.specs.declared.profile.Profile.{Profile}
+use Rattle.apfs_check.specs.Volumes.{view_extents}
+use Rattle.apfs_check.specs.Held.{AreRightViews}
+use Rattle.apfs_check.specs.Steps.{IsReady}
+use Rattle.apfs_check.proofs.views.volume_extents.Given as goal
+
+abbrev pub invariant-views : goal.invariant-views
+invariant-views g l = record {
+  added : (profile : Profile) (image : List ℕ) → g.S.BlockSource.bytes l.fn.src ≡ Some image → IsReady image l.cp l.volume → AreRightViews profile image l.cp l.volume → l.extents.items ≡ flat_map (view_extents image (site_of l.cp) l.volume) (take l.place (views_of l.volume l.cp));
+  short : AreShortExtents (site_of l.cp).block_size l.extents.items;
+  kept : IsKept g.S.BlockSource.bytes g.S.BlockSource.bytes_len g.S.BlockSource.faults l.fn.src l.src;
+}
