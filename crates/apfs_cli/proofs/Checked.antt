@@ -13,19 +13,21 @@ use Rattle.apfs_check.specs.Present as container
 use Rattle.apfs_check.specs.WellFormed.{IsWellFormed}
 use Rattle.apfs_check.specs.declared.fault.Fault.{Fault}
 use Rattle.apfs_check.proofs.Law.{flawed_refutes}
+use Rattle.apfs_check.proofs.Numbers.{reported}
 use Rattle.path_walk.specs.declared.answer.Answer.{Answer}
 use Rattle.apfs_cli.specs.declared.stopped.Stopped.{Stopped}
 use Rattle.apfs_cli.specs.declared.stopped.Stopped.TheVariants as stops
 use Rattle.apfs_cli.specs.declared.words.Checks.{Checks}
 use Rattle.apfs_cli.specs.declared.words.Checks.TheVariants.{Quick, First}
 use Rattle.apfs_cli.specs.First.{ResultBy, FaultBy, FeatureBy}
-use Rattle.apfs_cli.specs.ByCommand.{takes_image, lead_of, IsText, IsFault, IsFeature, IsAnswer, RestsOn, HasResult, checks_of, quick}
+use Rattle.apfs_cli.specs.ByCommand.{takes_image, lead_of, IsText, IsFault, IsFeature, IsAnswer, RestsOn, HasResult, checks_of, quick, profile_of}
 use Rattle.apfs_cli.specs.Commands.Ls as ls
 use Rattle.apfs_cli.specs.Commands.Tree as tree
 use Rattle.apfs_cli.specs.Commands.Cat as cat
 use Rattle.apfs_cli.specs.Commands.Xattr as xattr
 use Rattle.apfs_cli.specs.Outcome.{Outcome, Written, Faulty, Usage, ReadFailed, WriteFailed, OutOfMemory, Refused, Answered, NoImage}
 use Rattle.apfs_cli.specs.Reached.{IsClean, IsWhileLooking, TellsFlaw}
+use Rattle.apfs_cli.specs.ReportText.{report_text}
 use Rattle.apfs_cli.specs.Says.{IsGiven, OfRun, BeginsText, IsPart, IsTextIf, StopsAt, AnswersAt, Says, HasEnded}
 use Rattle.apfs_cli.specs.Seen.{outcome_of, stopped_at}
 use Rattle.apfs_cli.specs.Texts.{IsPrefix}
@@ -176,6 +178,38 @@ xattr_after profile target name = record {
   rests = λ image w. well_lawful profile image target w;
   has = λ image w. well_wanted profile (xattr.wanted target.path name) target image (xattr_over target name).of_path w;
 }
+
+-- after a check a command has what it has without one
+result_after : (profile : Profile) (plain after : Asked) (image : List ℕ) → IsAfter profile plain after → IsWellFormed profile image → HasResult after image
+result_after profile plain after image a w =
+    elim (a.has image w) as (λ _. HasResult after image) [ inl has ↦ inl (has.0, a.text_is image has.0 w has.1) | inr has ↦ inr (has.0, a.answer_is image has.0 w has.1) ]
+
+-- a fact of the profile that is asked for
+at_profile : (asked profile : Profile) (image : List ℕ) → ◌≡◌ {A = Option Profile} (Some asked) (Some profile) → IsWellFormed profile image → IsWellFormed asked image
+at_profile asked profile image e w =
+    let same : asked ≡ profile = Prim.cc in
+    let P : Profile → Type 0 = λ p. IsWellFormed p image in
+    subst P (sym same) w
+
+-- of a well-formed container a command that checks it has a text or an answer
+pub sound_result : (command : Asked) (profile : Profile) (image : List ℕ) → profile_of command ≡ Some profile → IsWellFormed profile image → HasResult command image
+sound_result Ring profile image e w = absurd Prim.cc
+sound_result Info profile image e w = absurd Prim.cc
+sound_result Volumes profile image e w = absurd Prim.cc
+sound_result Space profile image e w = absurd Prim.cc
+sound_result (Snapshots volume) profile image e w = absurd Prim.cc
+sound_result (Check asked) profile image e w =
+    let right : IsWellFormed asked image = at_profile asked profile image e w in
+    let told = reported asked image right in
+    inl (report_text told.0, (told.0, record { right = right; report = told.1 }, refl))
+sound_result (Ls Quick target) profile image e w = absurd Prim.cc
+sound_result (Ls (First asked) target) profile image e w = result_after asked (Ls Quick target) (Ls (First asked) target) image (ls_after asked target) (at_profile asked profile image e w)
+sound_result (Tree Quick target) profile image e w = absurd Prim.cc
+sound_result (Tree (First asked) target) profile image e w = result_after asked (Tree Quick target) (Tree (First asked) target) image (tree_after asked target) (at_profile asked profile image e w)
+sound_result (Cat Quick target) profile image e w = absurd Prim.cc
+sound_result (Cat (First asked) target) profile image e w = result_after asked (Cat Quick target) (Cat (First asked) target) image (cat_after asked target) (at_profile asked profile image e w)
+sound_result (Xattr Quick target name) profile image e w = absurd Prim.cc
+sound_result (Xattr (First asked) target name) profile image e w = result_after asked (Xattr Quick target name) (Xattr (First asked) target name) image (xattr_after asked target name) (at_profile asked profile image e w)
 
 -- a check that was asked for found nothing, and the command came to something without one
 pub clean_ended : {S : Type 0} (bytes : S → Option (List ℕ)) (faults : S → ℕ) (command : Asked) (old new : S) (ended : Result Unit Stopped) (out : Sunk) → ((image : List ℕ) → bytes old ≡ Some image → IsClean (checks_of command) image) →

@@ -8,14 +8,15 @@ use Rattle.view_rules.specs.declared.profile.Profile.{Profile}
 use Rattle.apfs_check.specs.WellFormed.{IsWellFormed}
 use Rattle.apfs_check.specs.declared.fault.Fault.{Fault}
 use Rattle.path_walk.specs.declared.answer.Answer.{Answer}
-use Rattle.apfs_cli.specs.ByCommand.{takes_image, IsText, IsAnswer, RestsOn, profile_of}
+use Rattle.apfs_cli.specs.ByCommand.{takes_image, IsText, IsAnswer, RestsOn, HasResult, profile_of}
 use Rattle.apfs_cli.specs.Outcome.{Outcome, status_of, text_of, Written, Faulty, Usage, ReadFailed, WriteFailed, OutOfMemory, Refused, Answered, NoImage}
 use Rattle.apfs_cli.specs.Says.{LacksImage, IsGiven, SourceFailed, HasFailed, Says, HasNoImage}
 use Rattle.apfs_cli.specs.Words.{Asked}
 use Rattle.apfs_cli.specs.Written.{Sunk, Failed, Ends}
-use Rattle.apfs_cli.specs.Rows.{BothWrote, HasText, NamesFault, NamesFeature, NamesAnswer, SaysReadFailed, SaysOutOfMemory, HasFailedPut, HasDefinedText, HasDefinedAnswer, IsExactly, IsWholeOrFree, IsAnsweredOrFree, HasUnsound, IsFoundOrFree, IsUndisturbed, IsCompleted}
+use Rattle.apfs_cli.specs.Rows.{BothWrote, HasText, NamesFault, NamesFeature, NamesAnswer, SaysReadFailed, SaysOutOfMemory, HasFailedPut, HasDefinedText, HasDefinedAnswer, IsExactly, IsWholeOrFree, IsAnsweredOrFree, HasSound, IsCleanOrFree, HasUnsound, IsFoundOrFree, IsUndisturbed, IsCompleted}
 use Rattle.apfs_cli.proofs.Answered.{text_or_answer, text_rests, answer_rests, of_sound}
 use Rattle.apfs_cli.proofs.ByAnswers.{for_answer}
+use Rattle.apfs_cli.proofs.Checked.{sound_result}
 use Rattle.apfs_cli.proofs.Endings.{part_of}
 
 -- what a run has come to, and how it ended
@@ -275,6 +276,32 @@ always_answered_row {S} bytes faults command old new result out err (o, says, en
     let P : Option Asked → Type 0 = λ c. Says bytes faults c old new out o in
     answered_or_free result (status_of o) (answer_status bytes faults has.command old new out o has.image has.answer has.given has.defined (subst P has.words says)) (ended_as result o out err ends)
 
+-- the outcomes where the command has a text or an answer of the image
+result_status : {S : Type 0} (bytes : S → Option (List ℕ)) (faults : S → ℕ) (command : Asked) (old new : Opened S) (out : Sunk) (o : Outcome) (image : List ℕ) →
+    IsGiven bytes (takes_image command) old image → HasResult command image → Says bytes faults (Some command) old new out o → IsCleanOrFree (status_of o)
+result_status bytes faults command old new out (Written text) image given has says = inl refl
+result_status bytes faults command old new out (Faulty lead fault) image given has says = absurd ((says.1 image given).none has)
+result_status bytes faults command old new out Usage image given has says = Prim.cc
+result_status bytes faults command old new out (ReadFailed part) image given has says = inr (inr (inl refl))
+result_status bytes faults command old new out (WriteFailed part) image given has says = inr (inr (inr (inl refl)))
+result_status bytes faults command old new out (OutOfMemory part) image given has says = inr (inr (inr (inr refl)))
+result_status bytes faults command old new out (Refused lead feature block) image given has says = absurd ((says.1 image given).none has)
+result_status bytes faults command old new out (Answered lead answer) image given has says = inr (inl refl)
+result_status bytes faults command old new out NoImage image given has says = absurd (given_not_lacking bytes (takes_image command) old image given says)
+
+-- the status of an outcome, or 4
+clean_or_free : (result at : ℕ) → IsCleanOrFree at → (result ≡ at) ⊎ (result ≡ 4) → IsCleanOrFree result
+clean_or_free result at which (inl e) = let P : ℕ → Type 0 = λ n. IsCleanOrFree n in subst P (sym e) which
+clean_or_free result at which (inr failed) = inr (inr (inr (inl failed)))
+
+pub clean_row : {S : Type 0} (bytes : S → Option (List ℕ)) (faults : S → ℕ) (command : Option Asked) (old new : Opened S) (result : ℕ) (out err : Sunk) →
+    CameTo bytes faults command old new result out err → HasSound bytes command old → IsCleanOrFree result
+clean_row {S} bytes faults command old new result out err (o, says, ends) has =
+    let P : Option Asked → Type 0 = λ c. Says bytes faults c old new out o in
+    clean_or_free result (status_of o)
+    (result_status bytes faults has.command old new out o has.image has.given (sound_result has.command has.profile has.image has.checks has.sound) (subst P has.words says))
+    (ended_as result o out err ends)
+
 -- the outcomes where the command checks the container, which isn't well-formed
 unsound_status : {S : Type 0} (bytes : S → Option (List ℕ)) (faults : S → ℕ) (command : Asked) (old new : Opened S) (out : Sunk) (o : Outcome) (image : List ℕ) (profile : Profile) →
     IsGiven bytes (takes_image command) old image → profile_of command ≡ Some profile → (IsWellFormed profile image → ⊥) → Says bytes faults (Some command) old new out o → IsFoundOrFree (status_of o)
@@ -297,9 +324,9 @@ found_or_free : (result at : ℕ) → IsFoundOrFree at → (result ≡ at) ⊎ (
 found_or_free result at which (inl e) = let P : ℕ → Type 0 = λ n. IsFoundOrFree n in subst P (sym e) which
 found_or_free result at which (inr failed) = inr (inr (inr (inl failed)))
 
-pub found_row : {S : Type 0} (bytes : S → Option (List ℕ)) (faults : S → ℕ) (command : Option Asked) (old new : Opened S) (result : ℕ) (out err : Sunk) →
+pub flawed_row : {S : Type 0} (bytes : S → Option (List ℕ)) (faults : S → ℕ) (command : Option Asked) (old new : Opened S) (result : ℕ) (out err : Sunk) →
     CameTo bytes faults command old new result out err → HasUnsound bytes command old → IsFoundOrFree result
-found_row {S} bytes faults command old new result out err (o, says, ends) has =
+flawed_row {S} bytes faults command old new result out err (o, says, ends) has =
     let P : Option Asked → Type 0 = λ c. Says bytes faults c old new out o in
     found_or_free result (status_of o) (unsound_status bytes faults has.command old new out o has.image has.profile has.given has.checks has.unsound (subst P has.words says)) (ended_as result o out err ends)
 

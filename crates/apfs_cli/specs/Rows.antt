@@ -81,6 +81,20 @@ IsWholeOrFree result = (result ≡ 0) ⊎ ((result ≡ 3) ⊎ ((result ≡ 4) �
 abbrev pub IsAnsweredOrFree : ℕ → Type 0
 IsAnsweredOrFree result = (result ≡ 7) ⊎ ((result ≡ 3) ⊎ ((result ≡ 4) ⊎ (result ≡ 5)))
 
+-- the container is well-formed: the words are right, the command checks the container, and the bytes of what was handed in are told
+pub record HasSound {S : Type 0} (bytes : S → Option (List ℕ)) (asked : Option Asked) (opened : Opened S) : Type 0 where
+  pub command : Asked
+  pub image : List ℕ
+  pub profile : Profile
+  pub words : asked ≡ Some command
+  pub given : IsGiven bytes (takes_image command) opened image
+  pub checks : profile_of command ≡ Some profile
+  pub sound : IsWellFormed profile image
+
+-- the text is whole or an answer is given, and nothing but a failed read, a failed put or want of memory comes in its place
+abbrev pub IsCleanOrFree : ℕ → Type 0
+IsCleanOrFree result = (result ≡ 0) ⊎ ((result ≡ 7) ⊎ ((result ≡ 3) ⊎ ((result ≡ 4) ⊎ (result ≡ 5))))
+
 -- the container isn't well-formed: the words are right, the command checks the container, and the bytes of what was handed in are told
 pub record HasUnsound {S : Type 0} (bytes : S → Option (List ℕ)) (asked : Option Asked) (opened : Opened S) : Type 0 where
   pub command : Asked
