@@ -329,8 +329,12 @@ def fill(image, count):
 def main():
     source, copy, count = sys.argv[1], sys.argv[2], int(sys.argv[3])
     subprocess.run(["cp", "--sparse=always", source, copy], check=True)
-    with open(copy, "r+b") as file:
-        print(fill(Image(file), count))
+    try:
+        with open(copy, "r+b") as file:
+            print(fill(Image(file), count))
+    except SystemExit:
+        os.remove(copy)
+        raise
 
 
 if __name__ == "__main__":
