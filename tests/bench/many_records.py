@@ -4,9 +4,9 @@
     many_records.py IMAGE COPY RECORDS
 
 IMAGE is as `mkapfs` writes it: blocks of 4,096 bytes, one chunk of them that has a bitmap, one volume without files, whose names are hashed. The copy's
-volume has RECORDS records, or one less: its own, and those of folders of 1,000 empty files each, each with an inode and an entry. Leaves are filled in the order of
-their keys. The transaction stays as it is, and what the container had is changed in place: the root of the volume's tree, the root of its object map, its
-superblock, the container's superblock, the space manager, the chunk's information and its bitmap. The copy is well-formed.
+volume has RECORDS records, or one less: its own, and those of folders of 1,000 empty files each, an inode and an entry for each. Nodes are filled in the
+order of their keys. The transaction stays as it is, and what the container had is changed in place: the root of the volume's tree, the root of its object
+map, its superblock, the container's superblock, the space manager, the chunk's information and its bitmap. `apfsck` finds nothing in the copy.
 """
 import os
 import struct
@@ -17,8 +17,7 @@ sys.dont_write_bytecode = True
 from large_file import BLOCK, sum_of
 
 FILES = 1000
-SUPER, NODE_ROOT, NODE, MAP, ENTRIES = 1, 2, 3, 0xB, 0xE
-PHYSICAL, EPHEMERAL = 0x40000000, 0x80000000
+SUPER, NODE_ROOT, NODE = 1, 2, 3
 IS_ROOT, IS_LEAF, IS_FIXED = 1, 2, 4
 INODE, ENTRY, NAME = 3, 9, 4
 ROOT_FOLDER, FIRST_ID = 2, 16
