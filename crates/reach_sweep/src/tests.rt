@@ -8,13 +8,12 @@ ghost use Rattle.vol_view.specs.declared.head.VolHead.{VolHead};
 
 mod blocks;
 mod features;
-mod images;
 mod objects;
 mod space;
 
 use crate::account;
 use blk_source::{BlockSource, MemSource};
-use images::{Base, Change, grouped, image};
+use img_changes::{Base, Change, grouped, image};
 use img_make::Sample;
 use nx_ring::{Checkpoint, newest};
 use obj_base::Stop;

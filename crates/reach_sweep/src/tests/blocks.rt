@@ -1,10 +1,10 @@
 // Blocks that are owned twice, by none, or unmarked, and their near misses.
 
-use super::images::{Base, Change, SMALL};
 use super::{Case, assert_cases};
 use apfs_layout::chunk_info::{CHUNK_FREE, CIB_ENTRIES};
 use apfs_layout::space_manager::MAIN_FREE;
 use apfs_layout::volume::EXTENTS_ROOT;
+use img_changes::{Base, Change, SMALL};
 use img_make::Sample;
 use img_make::places::{POOL_BASE, POOL_QUEUE, RING_BASE, SPACE_MANAGER};
 use reach_rules::ReachFault;

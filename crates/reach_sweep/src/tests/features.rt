@@ -1,11 +1,11 @@
 // Features of objects, and of the records by which they are found.
 
-use super::images::{Change, SMALL, image};
 use super::sum;
 use apfs_layout::node::{FLAGS, INFO_LEN, NODE_SIZE};
 use apfs_layout::object::TYPE;
 use apfs_layout::reaping::REAPER_FLAGS;
 use apfs_layout::space_manager::SECOND_BLOCKS;
+use img_changes::{Change, SMALL, image};
 use img_make::places::{POOL_BASE, REAPER, SPACE_MANAGER};
 use obj_base::{Feature, Stop};
 use std::alloc::Global;

@@ -1,6 +1,5 @@
 // Objects that aren't sound, ids that don't resolve or are named twice, records that nothing uses, and trees out of order.
 
-use super::images::{Base, Change, Record, SMALL, image};
 use super::{Case, assert_cases, sum};
 use apfs_layout::container::{FS_OID, REAPER_OID};
 use apfs_layout::jumpstart;
@@ -10,6 +9,7 @@ use apfs_layout::reaping::REAPER_HEAD;
 use apfs_layout::space_manager::MAIN_QUEUE_TREE;
 use apfs_layout::volume::EXTENTS_ROOT;
 use bt_node::NodeFault;
+use img_changes::{Base, Change, Record, SMALL, image};
 use img_make::Sample;
 use img_make::places::{CONTAINER_MAP_ROOT, MAIN_QUEUE, REAPER, SPACE_MANAGER, SUPERBLOCK};
 use obj_base::{HeadFault, Stop, Within};

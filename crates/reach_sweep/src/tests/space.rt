@@ -1,9 +1,9 @@
 // The space manager, what tells of chunks, and the pool.
 
-use super::images::{Change, SMALL, grouped};
 use super::{Case, assert_cases, sum};
 use apfs_layout::chunk_info::{CAB_INDEX, CHUNK_ADDRESS, CHUNK_BITMAP, CIB_ENTRIES, CIB_INDEX};
 use apfs_layout::space_manager::{BLOCKS_PER_CHUNK, MAIN_FREE, POOL_BITMAP_SIZE};
+use img_changes::{Change, SMALL, grouped};
 use img_make::places::{POOL_BASE, POOL_QUEUE, SPACE_MANAGER};
 use obj_base::Stop;
 use reach_rules::ReachFault;

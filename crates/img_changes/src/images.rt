@@ -1,4 +1,5 @@
 // Made containers, and changes of them.
+ghost use Rattle.std.specs.Prelude.{◌≡◌, ◌*◌, ◌%◌, ◌≤◌, IfOk, vec_len};
 
 use apfs_layout::node::{COUNT, INFO_LEN, KEY_COUNT, TABLE, TABLE_LENGTH};
 use img_make::{
@@ -139,7 +140,10 @@ fn put_all(image: &mut [u8], changes: &[Change]) -> Result<(), Fail> {
 }
 
 /// The bytes of an image, changed.
-pub fn image(alloc: Global, base: &Base, changes: &[Change]) -> Result<Vec<u8>, Fail> {
+pub fn image(alloc: Global, base: &Base, changes: &[Change]) -> Result<Vec<u8>, Fail>
+    ensures in_blocks { IfOk result (λ image. vec_len image % 4096 ≡ 0) }
+    ensures enough { IfOk result (λ image. 4096 * 51 ≤ vec_len image) }
+{
     let plan = plan_of(alloc, base)?;
     if !plan.valid() {
         return Err(Fail::from("the plan isn't valid"));
@@ -150,7 +154,10 @@ pub fn image(alloc: Global, base: &Base, changes: &[Change]) -> Result<Vec<u8>, 
 }
 
 /// The small container with an address block, in the block after the bitmap, changed.
-pub fn grouped(alloc: Global, changes: &[Change]) -> Result<Vec<u8>, Fail> {
+pub fn grouped(alloc: Global, changes: &[Change]) -> Result<Vec<u8>, Fail>
+    ensures in_blocks { IfOk result (λ image. vec_len image % 4096 ≡ 0) }
+    ensures enough { IfOk result (λ image. 4096 * 51 ≤ vec_len image) }
+{
     let plan = sample(alloc, Sample::S)?;
     let groups = Groups { chunks: 1, cibs: 1 };
     let mut image = make_grouped(alloc, &plan, groups)?;
