@@ -28,11 +28,12 @@ each_lacks S commands.Ring = tt
 each_lacks S commands.Info = tt
 each_lacks S commands.Volumes = tt
 each_lacks S commands.Space = tt
+each_lacks S (commands.Check profile) = tt
 each_lacks S (commands.Snapshots volume) = tt
-each_lacks S (commands.Ls target) = tt
-each_lacks S (commands.Tree target) = tt
-each_lacks S (commands.Cat target) = tt
-each_lacks S (commands.Xattr target name) = tt
+each_lacks S (commands.Ls checks target) = tt
+each_lacks S (commands.Tree checks target) = tt
+each_lacks S (commands.Cat checks target) = tt
+each_lacks S (commands.Xattr checks target name) = tt
 
 -- a fact of the command and the image that another follows from
 of_run : {S : Type 0} (bytes : S → Option (List ℕ)) (command : Option Asked) (opened : Opened S) (P Q : Asked → List ℕ → Type 0) →

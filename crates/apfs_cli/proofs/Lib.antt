@@ -11,6 +11,8 @@ pub mod OverVolume
 pub mod OverView
 pub mod OverViews
 pub mod AtView
+pub mod Browsable
+pub mod Checked
 pub mod Contents
 pub mod Statuses
 mod Examples

@@ -1,4 +1,4 @@
--- The commands that are ones on the view that is meant.
+-- The commands that are ones on the view that is meant, without a check.
 use Rattle.std.specs.Prelude.{◌≡◌, ℕ, List, Option, None, Some, Result, Ok, Err, refl}
 use Rattle.std.proofs.Common.{inl, inr, sym, subst}
 use Rattle.apfs_model.specs.Lists.{and_then}
@@ -16,6 +16,7 @@ use Rattle.apfs_cli.specs.Commands.Ls as ls
 use Rattle.apfs_cli.specs.Commands.Tree as tree
 use Rattle.apfs_cli.specs.Commands.Cat as cat
 use Rattle.apfs_cli.specs.Commands.Xattr as xattr
+use Rattle.apfs_cli.specs.declared.words.Checks.TheVariants.{Quick}
 use Rattle.apfs_cli.specs.Words.{Ls, Tree, Cat, Xattr}
 use Rattle.apfs_cli.proofs.ByAnswers.{IsOfPath}
 use Rattle.apfs_cli.proofs.OverView.{IsOverView}
@@ -35,7 +36,7 @@ text_answers {U} (Err a) text answer answers e =
     path_is_of answer (subst P same (answers a refl))
 
 -- `ls` is one
-pub ls_over : (target : AskedTarget) → IsOverView (Ls target) (ls.wanted target.path) (ls.told target.path) target
+pub ls_over : (target : AskedTarget) → IsOverView (Ls Quick target) (ls.wanted target.path) (ls.told target.path) target
 ls_over target = record {
   lead_is = refl;
   takes = refl;
@@ -50,7 +51,7 @@ ls_over target = record {
 }
 
 -- `tree` is one
-pub tree_over : (target : AskedTarget) → IsOverView (Tree target) (tree.wanted target.path) (tree.told target.path) target
+pub tree_over : (target : AskedTarget) → IsOverView (Tree Quick target) (tree.wanted target.path) (tree.told target.path) target
 tree_over target = record {
   lead_is = refl;
   takes = refl;
@@ -77,7 +78,7 @@ attribute_is_of answer (inl path) = path_is_of answer path
 attribute_is_of answer (inr same) = let P : Answer → Type 0 = λ a. IsOfPath a in subst P (sym same) tt
 
 -- `cat` is one
-pub cat_over : (target : AskedTarget) → IsOverView (Cat target) (cat.wanted target.path) (cat.told target.path) target
+pub cat_over : (target : AskedTarget) → IsOverView (Cat Quick target) (cat.wanted target.path) (cat.told target.path) target
 cat_over target = record {
   lead_is = refl;
   takes = refl;
@@ -97,7 +98,7 @@ xattr_answers path None size image facts answer e = text_answers (attributes fac
 xattr_answers path (Some name) size image facts answer e = attribute_is_of answer (attribute_answers size image facts path name answer e)
 
 -- `xattr` is one
-pub xattr_over : (target : AskedTarget) (name : Option (List ℕ)) → IsOverView (Xattr target name) (xattr.wanted target.path name) (xattr.told target.path) target
+pub xattr_over : (target : AskedTarget) (name : Option (List ℕ)) → IsOverView (Xattr Quick target name) (xattr.wanted target.path name) (xattr.told target.path) target
 xattr_over target name = record {
   lead_is = refl;
   takes = refl;

@@ -58,6 +58,12 @@ put_after first second (Ok done) old mid new a b c before put = (wrote_more old 
 put_after first second (Err stopped) old mid new a b c before put =
     (cut_later stopped old mid new a b c before.1 put.0, part_more old mid new first second before.0 put.1)
 
+-- a text is cut short, and another after it isn't begun
+pub put_cut : (first second : List ℕ) (stopped : Stopped) (old new : Option (List ℕ)) (a b : ℕ) →
+    IsPut first (Err stopped) (record { old = old; new = new; old_faults = a; new_faults = b }) →
+    IsPut (first ++ second) (Err stopped) (record { old = old; new = new; old_faults = a; new_faults = b })
+put_cut first second stopped old new a b put = (put.0, part_longer old new first second put.1)
+
 -- the items from a place on
 rest_at : {X : Type 0} (xs : List X) (i : ℕ) (x : X) → i < length xs → x ≡ get_or xs i x → xs ≡ take i xs ++ (x ∷ drop (i + 1) xs)
 rest_at xs i x low at = grind (arith, take-append-drop, drop-cons)

@@ -4,16 +4,19 @@ use Rattle.std.proofs.Common.{inl, inr, sym, ◌∙◌, subst, arith}
 use Rattle.blk_source.specs.declared.source.Opened.{Opened}
 use Rattle.blk_source.specs.declared.source.Opened.TheVariants.{Absent, Image}
 use Rattle.obj_base.specs.declared.stop.Feature.{Feature}
+use Rattle.view_rules.specs.declared.profile.Profile.{Profile}
+use Rattle.apfs_check.specs.WellFormed.{IsWellFormed}
 use Rattle.apfs_check.specs.declared.fault.Fault.{Fault}
 use Rattle.path_walk.specs.declared.answer.Answer.{Answer}
-use Rattle.apfs_cli.specs.ByCommand.{takes_image, IsText, IsAnswer, RestsOn}
+use Rattle.apfs_cli.specs.ByCommand.{takes_image, IsText, IsAnswer, RestsOn, HasResult, profile_of}
 use Rattle.apfs_cli.specs.Outcome.{Outcome, status_of, text_of, Written, Faulty, Usage, ReadFailed, WriteFailed, OutOfMemory, Refused, Answered, NoImage}
-use Rattle.apfs_cli.specs.Says.{LacksImage, IsGiven, SourceFailed, Says, HasNoImage}
+use Rattle.apfs_cli.specs.Says.{LacksImage, IsGiven, SourceFailed, HasFailed, Says, HasNoImage}
 use Rattle.apfs_cli.specs.Words.{Asked}
 use Rattle.apfs_cli.specs.Written.{Sunk, Failed, Ends}
-use Rattle.apfs_cli.specs.Rows.{BothWrote, HasText, NamesFault, NamesFeature, NamesAnswer, SaysReadFailed, SaysOutOfMemory, HasFailedPut, HasDefinedText, HasDefinedAnswer, IsExactly, IsWholeOrFree, IsAnsweredOrFree}
-use Rattle.apfs_cli.proofs.Answered.{text_or_answer, text_rests, answer_rests}
+use Rattle.apfs_cli.specs.Rows.{BothWrote, HasText, NamesFault, NamesFeature, NamesAnswer, SaysReadFailed, SaysOutOfMemory, HasFailedPut, HasDefinedText, HasDefinedAnswer, IsExactly, IsWholeOrFree, IsAnsweredOrFree, HasSound, IsCleanOrFree, HasUnsound, IsFoundOrFree, IsUndisturbed, IsCompleted}
+use Rattle.apfs_cli.proofs.Answered.{text_or_answer, text_rests, answer_rests, of_sound}
 use Rattle.apfs_cli.proofs.ByAnswers.{for_answer}
+use Rattle.apfs_cli.proofs.Checked.{sound_result}
 use Rattle.apfs_cli.proofs.Endings.{part_of}
 
 -- what a run has come to, and how it ended
@@ -272,3 +275,82 @@ pub always_answered_row : {S : Type 0} (bytes : S → Option (List ℕ)) (faults
 always_answered_row {S} bytes faults command old new result out err (o, says, ends) has =
     let P : Option Asked → Type 0 = λ c. Says bytes faults c old new out o in
     answered_or_free result (status_of o) (answer_status bytes faults has.command old new out o has.image has.answer has.given has.defined (subst P has.words says)) (ended_as result o out err ends)
+
+-- the outcomes where the command has a text or an answer of the image
+result_status : {S : Type 0} (bytes : S → Option (List ℕ)) (faults : S → ℕ) (command : Asked) (old new : Opened S) (out : Sunk) (o : Outcome) (image : List ℕ) →
+    IsGiven bytes (takes_image command) old image → HasResult command image → Says bytes faults (Some command) old new out o → IsCleanOrFree (status_of o)
+result_status bytes faults command old new out (Written text) image given has says = inl refl
+result_status bytes faults command old new out (Faulty lead fault) image given has says = absurd ((says.1 image given).none has)
+result_status bytes faults command old new out Usage image given has says = Prim.cc
+result_status bytes faults command old new out (ReadFailed part) image given has says = inr (inr (inl refl))
+result_status bytes faults command old new out (WriteFailed part) image given has says = inr (inr (inr (inl refl)))
+result_status bytes faults command old new out (OutOfMemory part) image given has says = inr (inr (inr (inr refl)))
+result_status bytes faults command old new out (Refused lead feature block) image given has says = absurd ((says.1 image given).none has)
+result_status bytes faults command old new out (Answered lead answer) image given has says = inr (inl refl)
+result_status bytes faults command old new out NoImage image given has says = absurd (given_not_lacking bytes (takes_image command) old image given says)
+
+-- the status of an outcome, or 4
+clean_or_free : (result at : ℕ) → IsCleanOrFree at → (result ≡ at) ⊎ (result ≡ 4) → IsCleanOrFree result
+clean_or_free result at which (inl e) = let P : ℕ → Type 0 = λ n. IsCleanOrFree n in subst P (sym e) which
+clean_or_free result at which (inr failed) = inr (inr (inr (inl failed)))
+
+pub clean_row : {S : Type 0} (bytes : S → Option (List ℕ)) (faults : S → ℕ) (command : Option Asked) (old new : Opened S) (result : ℕ) (out err : Sunk) →
+    CameTo bytes faults command old new result out err → HasSound bytes command old → IsCleanOrFree result
+clean_row {S} bytes faults command old new result out err (o, says, ends) has =
+    let P : Option Asked → Type 0 = λ c. Says bytes faults c old new out o in
+    clean_or_free result (status_of o)
+    (result_status bytes faults has.command old new out o has.image has.given (sound_result has.command has.profile has.image has.checks has.sound) (subst P has.words says))
+    (ended_as result o out err ends)
+
+-- the outcomes where the command checks the container, which isn't well-formed
+unsound_status : {S : Type 0} (bytes : S → Option (List ℕ)) (faults : S → ℕ) (command : Asked) (old new : Opened S) (out : Sunk) (o : Outcome) (image : List ℕ) (profile : Profile) →
+    IsGiven bytes (takes_image command) old image → profile_of command ≡ Some profile → (IsWellFormed profile image → ⊥) → Says bytes faults (Some command) old new out o → IsFoundOrFree (status_of o)
+unsound_status bytes faults command old new out (Written text) image profile given checks unsound says =
+    let of = of_sound command profile checks in
+    absurd (unsound (of.text image text (says.1 image given (of.rests image))))
+unsound_status bytes faults command old new out (Faulty lead fault) image profile given checks unsound says = inl refl
+unsound_status bytes faults command old new out Usage image profile given checks unsound says = Prim.cc
+unsound_status bytes faults command old new out (ReadFailed part) image profile given checks unsound says = inr (inr (inl refl))
+unsound_status bytes faults command old new out (WriteFailed part) image profile given checks unsound says = inr (inr (inr (inl refl)))
+unsound_status bytes faults command old new out (OutOfMemory part) image profile given checks unsound says = inr (inr (inr (inr refl)))
+unsound_status bytes faults command old new out (Refused lead feature block) image profile given checks unsound says = inr (inl refl)
+unsound_status bytes faults command old new out (Answered lead answer) image profile given checks unsound says =
+    let of = of_sound command profile checks in
+    absurd (unsound (of.answer image answer ((says.1 image given).only_is (for_answer answer (Unit {0}) (Unit {0}) (RestsOn command image) tt tt (of.rests image))).answer_is))
+unsound_status bytes faults command old new out NoImage image profile given checks unsound says = absurd (given_not_lacking bytes (takes_image command) old image given says)
+
+-- the status of an outcome, or 4
+found_or_free : (result at : ℕ) → IsFoundOrFree at → (result ≡ at) ⊎ (result ≡ 4) → IsFoundOrFree result
+found_or_free result at which (inl e) = let P : ℕ → Type 0 = λ n. IsFoundOrFree n in subst P (sym e) which
+found_or_free result at which (inr failed) = inr (inr (inr (inl failed)))
+
+pub flawed_row : {S : Type 0} (bytes : S → Option (List ℕ)) (faults : S → ℕ) (command : Option Asked) (old new : Opened S) (result : ℕ) (out err : Sunk) →
+    CameTo bytes faults command old new result out err → HasUnsound bytes command old → IsFoundOrFree result
+flawed_row {S} bytes faults command old new result out err (o, says, ends) has =
+    let P : Option Asked → Type 0 = λ c. Says bytes faults c old new out o in
+    found_or_free result (status_of o) (unsound_status bytes faults has.command old new out o has.image has.profile has.given has.checks has.unsound (subst P has.words says)) (ended_as result o out err ends)
+
+-- the outcomes where neither the source nor the first sink failed
+undisturbed_status : {S : Type 0} (bytes : S → Option (List ℕ)) (faults : S → ℕ) (command : Asked) (old new : Opened S) (out : Sunk) (o : Outcome) (image : List ℕ) →
+    IsGiven bytes (takes_image command) old image → (HasFailed faults (Some command) old new → ⊥) → (Failed out → ⊥) → Says bytes faults (Some command) old new out o → IsCompleted (status_of o)
+undisturbed_status bytes faults command old new out (Written text) image given source sink says = inl refl
+undisturbed_status bytes faults command old new out (Faulty lead fault) image given source sink says = inr (inr (inl refl))
+undisturbed_status bytes faults command old new out Usage image given source sink says = Prim.cc
+undisturbed_status bytes faults command old new out (ReadFailed part) image given source sink says = absurd (source says.0)
+undisturbed_status bytes faults command old new out (WriteFailed part) image given source sink says = absurd (sink says.0)
+undisturbed_status bytes faults command old new out (OutOfMemory part) image given source sink says = inr (inr (inr (inr refl)))
+undisturbed_status bytes faults command old new out (Refused lead feature block) image given source sink says = inr (inr (inr (inl refl)))
+undisturbed_status bytes faults command old new out (Answered lead answer) image given source sink says = inr (inl refl)
+undisturbed_status bytes faults command old new out NoImage image given source sink says = absurd (given_not_lacking bytes (takes_image command) old image given says)
+
+-- where the second sink didn't fail, a run ends with the status of its outcome
+ended_whole : (result : ℕ) (o : Outcome) (out err : Sunk) → (Failed err → ⊥) → Ends result o out err → result ≡ status_of o
+ended_whole result o out err sink ends = elim ends.said [ inl has ↦ has.status_is | inr lacks ↦ absurd (sink lacks.failed) ]
+
+pub completed_row : {S : Type 0} (bytes : S → Option (List ℕ)) (faults : S → ℕ) (command : Option Asked) (old new : Opened S) (result : ℕ) (out err : Sunk) →
+    CameTo bytes faults command old new result out err → IsUndisturbed bytes faults command old new out err → IsCompleted result
+completed_row {S} bytes faults command old new result out err (o, says, ends) is =
+    let P : Option Asked → Type 0 = λ c. Says bytes faults c old new out o in
+    let Q : Option Asked → Type 0 = λ c. HasFailed faults c old new → ⊥ in
+    let R : ℕ → Type 0 = λ n. IsCompleted n in
+    subst R (sym (ended_whole result o out err is.line ends)) (undisturbed_status bytes faults is.command old new out o is.image is.given (subst Q is.words is.source) is.text (subst P is.words says))

@@ -3,6 +3,7 @@ pub mod Ring
 pub mod Info
 pub mod Volumes
 pub mod Space
+pub mod Check
 pub mod Snapshots
 pub mod Ls
 pub mod Tree

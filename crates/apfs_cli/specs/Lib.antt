@@ -7,9 +7,10 @@ pub mod Checkpoints
 pub mod Meant
 pub mod MeantView
 pub mod OnView
-pub mod Commands
-pub mod ByCommand
 pub mod ReportText
+pub mod Commands
+pub mod First
+pub mod ByCommand
 pub mod Outcome
 pub mod Written
 pub mod Seen

@@ -1,9 +1,13 @@
--- What is said of a call that looks for the volume that is meant. No public clause speaks of it.
+-- What is said of a call that checks a container, or that looks for the volume that is meant. No public clause speaks of it.
 use Rattle.std.specs.Prelude.{◌≡◌, ◌⊎◌, ℕ, List, Option}
 use Rattle.path_walk.specs.declared.answer.Answer.TheVariants.{NoVolume}
 use Rattle.apfs_cli.specs.declared.stopped.Stopped.{Stopped}
 use Rattle.apfs_cli.specs.declared.stopped.Stopped.TheVariants.{Faulty, Usage, ReadFailed, WriteFailed, OutOfMemory, Refused, Answered, NoImage}
 use Rattle.cmd_words.specs.Asked.{AskedTarget}
+use Rattle.apfs_check.specs.WellFormed.{IsWellFormed}
+use Rattle.apfs_cli.specs.declared.words.Checks.{Checks}
+use Rattle.apfs_cli.specs.declared.words.Checks.TheVariants.{Quick, First}
+use Rattle.apfs_cli.specs.First.{FaultBy, FeatureBy}
 use Rattle.apfs_cli.specs.Meant.{HasVolume, HasNoVolume, IsMeantFault, IsMeantFeature}
 use Rattle.apfs_cli.specs.MeantView.{HasNoSnapshot}
 use Rattle.apfs_cli.specs.OnView.{ByAnswer}
@@ -44,3 +48,19 @@ IsWhileLooking (Refused feature block) = Unit {0}
 IsWhileLooking (Answered answer) = Unit {0}
 IsWhileLooking ReadFailed = Unit {0}
 IsWhileLooking OutOfMemory = Unit {0}
+
+-- a check that was asked for found the container well-formed
+abbrev pub IsClean : Checks → List ℕ → Type 0
+IsClean Quick image = Unit {0}
+IsClean (First profile) image = IsWellFormed profile image
+
+-- what a stop of a check says; where none was asked for, nothing stops
+abbrev pub TellsFlaw : Checks → List ℕ → Stopped → Type 0
+TellsFlaw checks image (Faulty fault) = FaultBy checks image fault ⊥
+TellsFlaw checks image (Refused feature block) = FeatureBy checks image feature block ⊥
+TellsFlaw checks image (Answered answer) = ⊥
+TellsFlaw checks image ReadFailed = Unit {0}
+TellsFlaw checks image OutOfMemory = Unit {0}
+TellsFlaw checks image Usage = Unit {0}
+TellsFlaw checks image WriteFailed = Unit {0}
+TellsFlaw checks image NoImage = Unit {0}

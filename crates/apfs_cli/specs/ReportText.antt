@@ -9,9 +9,13 @@ use Rattle.apfs_check.specs.Report.{Told}
 use Rattle.apfs_cli.specs.Texts.{◌▹◌}
 use Rattle.apfs_cli.specs.FaultTexts.{id_text, name_text, run_text, count_text}
 
+-- a candidate is newer than the newest valid checkpoint
+abbrev pub skipped_text : ℕ → ℕ → List ℕ
+skipped_text index xid = codes "note skipped index " ▹ decimal index ▹ codes " xid " ▹ decimal xid
+
 -- the text of a note
 abbrev pub note_text : Note → List ℕ
-note_text (Skipped index xid) = codes "note skipped index " ▹ decimal index ▹ codes " xid " ▹ decimal xid
+note_text (Skipped index xid) = skipped_text index xid
 note_text (Hash at) = name_text (codes "note hash") at
 note_text (Unreached slot block length) = run_text (codes "note unreached") slot block length
 note_text (Unnamed at) = id_text (codes "note unnamed") at
@@ -31,8 +35,12 @@ things_text told =
 abbrev pub blocks_text : Told → List ℕ
 blocks_text told = codes "used " ▹ decimal told.used ▹ codes "\nfree " ▹ decimal told.free ▹ codes "\n"
 
+-- the nine lines of a report
+abbrev pub head_text : Told → List ℕ
+head_text told =
+    codes "clean\n" ▹ things_text told ▹ blocks_text told
+    ▹ codes "notes " ▹ decimal (given (length told.notes)) ▹ codes "\n"
+
 -- the nine lines of a report, and one for each note
 abbrev pub report_text : Told → List ℕ
-report_text told =
-    codes "clean\n" ▹ things_text told ▹ blocks_text told
-    ▹ codes "notes " ▹ decimal (given (length told.notes)) ▹ codes "\n" ▹ flat_map note_line told.notes
+report_text told = head_text told ▹ flat_map note_line told.notes

@@ -3,9 +3,11 @@ use Rattle.std.specs.Prelude.{◌≡◌, ◌⊎◌, ℕ, List, Option, Some}
 use Rattle.apfs_model.specs.Sink.{Wrote}
 use Rattle.blk_source.specs.declared.source.Opened.{Opened}
 use Rattle.obj_base.specs.declared.stop.Feature.{Feature}
+use Rattle.view_rules.specs.declared.profile.Profile.{Profile}
+use Rattle.apfs_check.specs.WellFormed.{IsWellFormed}
 use Rattle.apfs_check.specs.declared.fault.Fault.{Fault}
 use Rattle.path_walk.specs.declared.answer.Answer.{Answer}
-use Rattle.apfs_cli.specs.ByCommand.{takes_image, IsText, IsFault, IsFeature, IsAnswer}
+use Rattle.apfs_cli.specs.ByCommand.{takes_image, IsText, IsFault, IsFeature, IsAnswer, profile_of}
 use Rattle.apfs_cli.specs.Outcome.{Outcome, text_of, line_of, Written, Faulty, ReadFailed, OutOfMemory, Refused, Answered}
 use Rattle.apfs_cli.specs.Says.{IsGiven, OfRun, HasFailed, IsPart, IsTextIf, StopsAt, AnswersAt}
 use Rattle.apfs_cli.specs.Words.{Asked}
@@ -78,3 +80,45 @@ IsWholeOrFree result = (result ≡ 0) ⊎ ((result ≡ 3) ⊎ ((result ≡ 4) �
 -- nothing but a failed read, a failed put or want of memory comes in place of an answer
 abbrev pub IsAnsweredOrFree : ℕ → Type 0
 IsAnsweredOrFree result = (result ≡ 7) ⊎ ((result ≡ 3) ⊎ ((result ≡ 4) ⊎ (result ≡ 5)))
+
+-- the container is well-formed: the words are right, the command checks the container, and the bytes of what was handed in are told
+pub record HasSound {S : Type 0} (bytes : S → Option (List ℕ)) (asked : Option Asked) (opened : Opened S) : Type 0 where
+  pub command : Asked
+  pub image : List ℕ
+  pub profile : Profile
+  pub words : asked ≡ Some command
+  pub given : IsGiven bytes (takes_image command) opened image
+  pub checks : profile_of command ≡ Some profile
+  pub sound : IsWellFormed profile image
+
+-- the text is whole or an answer is given, and nothing but a failed read, a failed put or want of memory comes in its place
+abbrev pub IsCleanOrFree : ℕ → Type 0
+IsCleanOrFree result = (result ≡ 0) ⊎ ((result ≡ 7) ⊎ ((result ≡ 3) ⊎ ((result ≡ 4) ⊎ (result ≡ 5))))
+
+-- the container isn't well-formed: the words are right, the command checks the container, and the bytes of what was handed in are told
+pub record HasUnsound {S : Type 0} (bytes : S → Option (List ℕ)) (asked : Option Asked) (opened : Opened S) : Type 0 where
+  pub command : Asked
+  pub image : List ℕ
+  pub profile : Profile
+  pub words : asked ≡ Some command
+  pub given : IsGiven bytes (takes_image command) opened image
+  pub checks : profile_of command ≡ Some profile
+  pub unsound : IsWellFormed profile image → ⊥
+
+-- a fault or a feature is named, and nothing but a failed read, a failed put or want of memory comes in its place
+abbrev pub IsFoundOrFree : ℕ → Type 0
+IsFoundOrFree result = (result ≡ 1) ⊎ ((result ≡ 6) ⊎ ((result ≡ 3) ⊎ ((result ≡ 4) ⊎ (result ≡ 5))))
+
+-- nothing failed in the run: the words are right, the bytes of what was handed in are told, and neither the source nor a sink failed
+pub record IsUndisturbed {S : Type 0} (bytes : S → Option (List ℕ)) (faults : S → ℕ) (asked : Option Asked) (old new : Opened S) (out err : Sunk) : Type 0 where
+  pub command : Asked
+  pub image : List ℕ
+  pub words : asked ≡ Some command
+  pub given : IsGiven bytes (takes_image command) old image
+  pub source : HasFailed faults asked old new → ⊥
+  pub text : Failed out → ⊥
+  pub line : Failed err → ⊥
+
+-- the text is whole, an answer is given, or a fault or a feature is named; and nothing but want of memory comes in their place
+abbrev pub IsCompleted : ℕ → Type 0
+IsCompleted result = (result ≡ 0) ⊎ ((result ≡ 7) ⊎ ((result ≡ 1) ⊎ ((result ≡ 6) ⊎ (result ≡ 5))))

@@ -4,9 +4,12 @@ ghost use Rattle.apfs_model.specs.Source.{IsKept};
 ghost use Rattle.blk_source.specs.declared.source.Opened.TheVariants.{Image};
 ghost use Rattle.apfs_cli.specs.Says.{HasEnded};
 ghost use Rattle.apfs_cli.specs.Words.{said};
+ghost use Rattle.apfs_cli.specs.ByCommand.{quick};
 ghost use Rattle.apfs_cli.specs.Written.{sunk};
 
 mod cat;
+mod check;
+mod checked;
 mod info;
 mod ls;
 mod ring;
@@ -16,10 +19,35 @@ mod tree;
 mod volumes;
 mod xattr;
 
+use crate::commands::checked::check_first;
 use crate::stopped::Stopped;
 use crate::words::Command;
 use blk_source::{BlockSource, Sink};
 use std::alloc::Global;
+
+// Runs a command that takes an image, and checks nothing first.
+fn on_unchecked<S: BlockSource, W: Sink>(
+    alloc: Global,
+    command: Command<'_>,
+    src: &mut S,
+    out: &mut W,
+) -> Result<(), Stopped>
+    ensures answer { HasEnded S.bytes S.faults (Some (quick (said command.entry))) (Image src.old) (Image src.new) result (sunk W.contents W.faults out.old out.new) }
+    ensures kept { IsKept S.bytes S.bytes_len S.faults src.old src.new }
+{
+    match command {
+        Command::Ring => ring::write(alloc, src, out),
+        Command::Info => info::write(alloc, src, out),
+        Command::Volumes => volumes::write(alloc, src, out),
+        Command::Space => space::write(alloc, src, out),
+        Command::Check(profile) => check::write(alloc, profile, src, out),
+        Command::Snapshots(volume) => snapshots::write(alloc, volume, src, out),
+        Command::Ls(_, target) => ls::write(alloc, target, src, out),
+        Command::Tree(_, target) => tree::write(alloc, target, src, out),
+        Command::Cat(_, target) => cat::write(alloc, target, src, out),
+        Command::Xattr(_, target, name) => xattr::write(alloc, target, name, src, out),
+    }
+}
 
 /// Runs a command that takes an image.
 pub fn on_image<S: BlockSource, W: Sink>(
@@ -31,15 +59,8 @@ pub fn on_image<S: BlockSource, W: Sink>(
     ensures answer { HasEnded S.bytes S.faults (Some (said command.entry)) (Image src.old) (Image src.new) result (sunk W.contents W.faults out.old out.new) }
     ensures kept { IsKept S.bytes S.bytes_len S.faults src.old src.new }
 {
-    match command {
-        Command::Ring => ring::write(alloc, src, out),
-        Command::Info => info::write(alloc, src, out),
-        Command::Volumes => volumes::write(alloc, src, out),
-        Command::Space => space::write(alloc, src, out),
-        Command::Snapshots(volume) => snapshots::write(alloc, volume, src, out),
-        Command::Ls(target) => ls::write(alloc, target, src, out),
-        Command::Tree(target) => tree::write(alloc, target, src, out),
-        Command::Cat(target) => cat::write(alloc, target, src, out),
-        Command::Xattr(target, name) => xattr::write(alloc, target, name, src, out),
+    match check_first(alloc, command.checks(), src) {
+        Ok(()) => on_unchecked(alloc, command, src, out),
+        Err(stopped) => Err(stopped),
     }
 }

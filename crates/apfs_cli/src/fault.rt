@@ -25,6 +25,15 @@ pub trait Raise<P> {
         ensures { result ≡ raised place self };
 }
 
+/// A fault of the container is raised as it is.
+impl Raise<()> for Fault {
+    ghost raised = { λ place fault. fault };
+
+    fn raise(self, _place: ()) -> Fault {
+        self
+    }
+}
+
 impl Raise<()> for RingFault {
     ghost raised = { λ place fault. raised.of_ring fault };
 

@@ -1,8 +1,9 @@
-// The texts of faults, by the places that they name.
+// The texts of faults and of notes, by the places that they name.
 ghost use Rattle.std.specs.Prelude.{◌≡◌, ◌++◌, IfOk};
 ghost use Rattle.std.specs.Fmt.{signed_decimal};
 ghost use Rattle.std.specs.String.{string_bytes};
 ghost use Rattle.apfs_cli.specs.FaultTexts as texts;
+ghost use Rattle.apfs_cli.specs.ReportText as notes;
 
 use crate::fault_words::{record_word, why_word, within_text};
 use crate::shown::push_name;
@@ -24,6 +25,13 @@ pub fn truncated(alloc: Global, have: u64, need: u64) -> Result<Vec<u8>, AllocEr
     ensures { IfOk result (λ text. text.items ≡ texts.truncated_text have need) }
 {
     Ok(format!(in alloc; "Truncated have {have} need {need}")?.into_bytes())
+}
+
+/// A candidate is newer than the newest valid checkpoint.
+pub fn skipped(alloc: Global, index: u32, xid: u64) -> Result<Vec<u8>, AllocError>
+    ensures { IfOk result (λ text. text.items ≡ notes.skipped_text index xid) }
+{
+    Ok(format!(in alloc; "note skipped index {index} xid {xid}")?.into_bytes())
 }
 
 /// An object in a block fails a test.

@@ -2,7 +2,7 @@
 ghost use Rattle.std.specs.Prelude.{◌≡◌, map, None, Some};
 ghost use Rattle.std.specs.String.{string_bytes};
 ghost use Rattle.apfs_cli.specs.Outcome as outcomes;
-ghost use Rattle.apfs_cli.specs.Rows.{BothWrote, HasText, NamesFault, NamesFeature, NamesAnswer, SaysReadFailed, SaysOutOfMemory, HasFailedPut, HasDefinedText, HasDefinedAnswer, IsExactly, IsWholeOrFree, IsAnsweredOrFree};
+ghost use Rattle.apfs_cli.specs.Rows.{BothWrote, HasText, NamesFault, NamesFeature, NamesAnswer, SaysReadFailed, SaysOutOfMemory, HasFailedPut, HasDefinedText, HasDefinedAnswer, HasSound, HasUnsound, IsExactly, IsWholeOrFree, IsAnsweredOrFree, IsCleanOrFree, IsFoundOrFree, IsUndisturbed, IsCompleted};
 ghost use Rattle.apfs_cli.specs.Says.{Says, HasEnded, HasNoImage, IsOpenedKept};
 ghost use Rattle.apfs_cli.specs.Words.{command_of, said};
 ghost use Rattle.apfs_cli.specs.Written.{sunk, Ends};
@@ -97,6 +97,9 @@ pub fn run<S: BlockSource, W: Sink, E: Sink>(
     ensures feature { result ≡ 6 → NamesFeature S.bytes (command_of (map string_bytes words.now)) image.old (sunk W.contents W.faults out.old out.new) (sunk E.contents E.faults err.old err.new) }
     ensures answered { result ≡ 7 → NamesAnswer S.bytes (command_of (map string_bytes words.now)) image.old (sunk W.contents W.faults out.old out.new) (sunk E.contents E.faults err.old err.new) }
     ensures always_answered { HasDefinedAnswer S.bytes (command_of (map string_bytes words.now)) image.old → IsAnsweredOrFree result }
+    ensures clean { HasSound S.bytes (command_of (map string_bytes words.now)) image.old → IsCleanOrFree result }
+    ensures flawed { HasUnsound S.bytes (command_of (map string_bytes words.now)) image.old → IsFoundOrFree result }
+    ensures completed { IsUndisturbed S.bytes S.faults (command_of (map string_bytes words.now)) image.old image.new (sunk W.contents W.faults out.old out.new) (sunk E.contents E.faults err.old err.new) → IsCompleted result }
     ensures no_image { IsExactly result 8 (HasNoImage (command_of (map string_bytes words.now)) image.old) }
     ensures absent { result ≡ 8 → BothWrote (sunk W.contents W.faults out.old out.new) (sunk E.contents E.faults err.old err.new) outcomes.NoImage }
 {

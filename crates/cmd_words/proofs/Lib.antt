@@ -6,4 +6,3 @@ mod Found
 mod Grammars
 mod WholeLines
 mod ByParts
-mod Flags

@@ -1,6 +1,7 @@
 -- What a line asks for, with its texts as bytes.
-use Rattle.std.specs.Prelude.{ℕ, Option, option_map}
+use Rattle.std.specs.Prelude.{ℕ, Bool, Option, option_map}
 use Rattle.cmd_words.specs.Said.{Text}
+use Rattle.cmd_words.specs.declared.lines.Flags.{Flags}
 use Rattle.cmd_words.specs.declared.lines.Target.{Target}
 use Rattle.cmd_words.specs.declared.lines.Line.{Line}
 use Rattle.cmd_words.specs.declared.lines.Line.TheVariants as lines
@@ -10,6 +11,13 @@ pub record AskedTarget : Type 0 where
   pub path : Text
   pub volume : Option ℕ
   pub snapshot : Option Text
+
+-- which flags were said
+pub record AskedFlags : Type 0 where
+  -- the container isn't checked first
+  pub quick : Bool
+  -- what is a note otherwise is a fault
+  pub strict : Bool
 
 -- what a line asks for, with its words beside the image
 pub data Asked : Type 0 where
@@ -21,18 +29,18 @@ pub data Asked : Type 0 where
   Volumes : Asked
   -- the space that is in use and free
   Space : Asked
-  -- whether the container is well-formed
-  Check : Asked
+  -- whether the container is well-formed, strictly where the flag is true
+  Check : Bool → Asked
   -- the snapshots of a volume
   Snapshots : Option ℕ → Asked
   -- what a directory has
-  Ls : AskedTarget → Asked
+  Ls : AskedFlags → AskedTarget → Asked
   -- what is under a directory
-  Tree : AskedTarget → Asked
+  Tree : AskedFlags → AskedTarget → Asked
   -- the bytes of a file
-  Cat : AskedTarget → Asked
+  Cat : AskedFlags → AskedTarget → Asked
   -- the extended attributes, or the bytes of the one that is named
-  Xattr : AskedTarget → Option Text → Asked
+  Xattr : AskedFlags → AskedTarget → Option Text → Asked
 
 -- a target without where its words lie
 abbrev pub target_asked : Target → AskedTarget
@@ -42,15 +50,23 @@ target_asked target = record {
   snapshot = option_map (λ text. text.now) target.snapshot;
 }
 
+-- flags, as the definitions have them
+abbrev pub flags_asked : Flags → AskedFlags
+flags_asked flags = record { quick = flags.quick; strict = flags.strict }
+
+-- flags with a target, without where its words lie
+abbrev pub browse_asked : Flags × Target → AskedFlags × AskedTarget
+browse_asked browse = (flags_asked browse.0, target_asked browse.1)
+
 -- a line without where its words lie
 abbrev pub asked_by : Line → Asked
 asked_by lines.Ring = Ring
 asked_by lines.Info = Info
 asked_by lines.Volumes = Volumes
 asked_by lines.Space = Space
-asked_by lines.Check = Check
+asked_by (lines.Check strict) = Check strict
 asked_by (lines.Snapshots volume) = Snapshots volume
-asked_by (lines.Ls target) = Ls (target_asked target)
-asked_by (lines.Tree target) = Tree (target_asked target)
-asked_by (lines.Cat target) = Cat (target_asked target)
-asked_by (lines.Xattr target name) = Xattr (target_asked target) (option_map (λ text. text.now) name)
+asked_by (lines.Ls flags target) = Ls (flags_asked flags) (target_asked target)
+asked_by (lines.Tree flags target) = Tree (flags_asked flags) (target_asked target)
+asked_by (lines.Cat flags target) = Cat (flags_asked flags) (target_asked target)
+asked_by (lines.Xattr flags target name) = Xattr (flags_asked flags) (target_asked target) (option_map (λ text. text.now) name)

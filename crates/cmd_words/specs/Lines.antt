@@ -1,9 +1,9 @@
 -- Which words are a line of the program, and what the line asks for.
 use Rattle.std.specs.Prelude.{nat_le, Bool, ◌+◌, ◌-◌, ◌*◌, ◌==◌, ◌&&◌, ℕ, not, List, [], ◌∷◌}
-use Rattle.std.specs.Prelude.{Option, Some, None, option_map, option_and_then, if◌then◌else◌, codes}
+use Rattle.std.specs.Prelude.{Option, Some, None, is_some, option_map, option_and_then, if◌then◌else◌, codes}
 use Rattle.std.specs.Str.{bytes_eq}
 use Rattle.cmd_words.specs.Said.{Grammar, Text, said_by_words, value_said}
-use Rattle.cmd_words.specs.Asked.{Asked, AskedTarget, Cat, Check, Info, Ls, Ring, Snapshots, Space, Tree, Volumes, Xattr}
+use Rattle.cmd_words.specs.Asked.{Asked, AskedFlags, AskedTarget, Cat, Check, Info, Ls, Ring, Snapshots, Space, Tree, Volumes, Xattr}
 
 -- ---- the parts of a line
 
@@ -31,9 +31,21 @@ target_by value = option_and_then (λ path. option_map (λ volume. record {
   snapshot = value (codes "snapshot");
 }) (volume_by (value (codes "volume")))) (value (codes "path"))
 
+-- which flags were said, where `value` gives what was said for a name
+abbrev pub flags_by : (Text → Option Text) → AskedFlags
+flags_by value = record { quick = is_some (value (codes "quick")); strict = is_some (value (codes "strict")) }
+
+-- flags with a path and its view, where `value` gives what was said for a name
+abbrev pub browse_by : (Text → Option Text) → Option (AskedFlags × AskedTarget)
+browse_by value = option_map (λ target. (flags_by value, target)) (target_by value)
+
 -- attributes, where `value` gives what was said for a name
 abbrev pub xattr_by : (Text → Option Text) → Option Asked
-xattr_by value = option_map (λ target. Xattr target (value (codes "name"))) (target_by value)
+xattr_by value = option_map (λ target. Xattr (flags_by value) target (value (codes "name"))) (target_by value)
+
+-- a check, where `value` gives what was said for a name
+abbrev pub check_by : (Text → Option Text) → Option Asked
+check_by value = Some (Check (is_some (value (codes "strict"))))
 
 -- snapshots, where `value` gives what was said for a name
 abbrev pub snapshots_by : (Text → Option Text) → Option Asked
@@ -41,23 +53,27 @@ snapshots_by value = option_map Snapshots (volume_by (value (codes "volume")))
 
 -- ---- the words after the image
 
--- `PATH [--volume N] [--snapshot NAME]`
+-- `PATH [--volume N] [--snapshot NAME] [--quick] [--strict]`
 abbrev pub target_words : Grammar
 target_words = record {
   options = codes "volume" ∷ codes "snapshot" ∷ [];
-  flags = [];
+  flags = codes "quick" ∷ codes "strict" ∷ [];
   places = codes "path" ∷ [];
   required = codes "path" ∷ [];
 }
 
--- `PATH [NAME] [--volume N] [--snapshot NAME]`
+-- `PATH [NAME] [--volume N] [--snapshot NAME] [--quick] [--strict]`
 abbrev pub xattr_words : Grammar
 xattr_words = record {
   options = codes "volume" ∷ codes "snapshot" ∷ [];
-  flags = [];
+  flags = codes "quick" ∷ codes "strict" ∷ [];
   places = codes "path" ∷ codes "name" ∷ [];
   required = codes "path" ∷ [];
 }
+
+-- `[--strict]`
+abbrev pub check_words : Grammar
+check_words = record { options = []; flags = codes "strict" ∷ []; places = []; required = [] }
 
 -- `[--volume N]`
 abbrev pub snapshots_words : Grammar
@@ -76,22 +92,23 @@ alone asked (word ∷ rest) = None
 -- ---- the line
 
 -- the line of a command, where the others are the lines of each kind of words after the image
-abbrev pub line_named : Text → (Asked → Option Asked) → Option Asked → Option AskedTarget → Option Asked → Option Asked
-line_named command by_image snapshots target xattr =
+abbrev pub line_named : Text → (Asked → Option Asked) → Option Asked → Option Asked → Option (AskedFlags × AskedTarget) → Option Asked → Option Asked
+line_named command by_image check snapshots browse xattr =
     if bytes_eq command (codes "ring") then by_image Ring else
     if bytes_eq command (codes "info") then by_image Info else
     if bytes_eq command (codes "volumes") then by_image Volumes else
     if bytes_eq command (codes "space") then by_image Space else
-    if bytes_eq command (codes "check") then by_image Check else
+    if bytes_eq command (codes "check") then check else
     if bytes_eq command (codes "snapshots") then snapshots else
-    if bytes_eq command (codes "ls") then option_map Ls target else
-    if bytes_eq command (codes "tree") then option_map Tree target else
-    if bytes_eq command (codes "cat") then option_map Cat target else
+    if bytes_eq command (codes "ls") then option_map (λ b. Ls b.0 b.1) browse else
+    if bytes_eq command (codes "tree") then option_map (λ b. Tree b.0 b.1) browse else
+    if bytes_eq command (codes "cat") then option_map (λ b. Cat b.0 b.1) browse else
     if bytes_eq command (codes "xattr") then xattr else
     None
 
 -- what a line of words asks for; None where the words are no line of the program
 abbrev pub line_of : List Text → Option Asked
 line_of (command ∷ image ∷ rest) = line_named command (λ asked. alone asked rest)
-    (read snapshots_words snapshots_by rest) (read target_words target_by rest) (read xattr_words xattr_by rest)
+    (read check_words check_by rest) (read snapshots_words snapshots_by rest)
+    (read target_words browse_by rest) (read xattr_words xattr_by rest)
 line_of words = None

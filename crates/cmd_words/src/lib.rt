@@ -8,5 +8,5 @@ mod reading;
 #[cfg(test)]
 mod tests;
 
-pub use lines::{Line, Target};
+pub use lines::{Flags, Line, Target};
 pub use reading::line_in;

@@ -11,6 +11,15 @@ pub struct Target<'a> {
     pub snapshot: Option<&'a str>,
 }
 
+/// Which flags were said.
+#[derive(Clone, Copy, PartialEq, Eq, Debug)]
+pub struct Flags {
+    /// The container isn't checked first.
+    pub quick: bool,
+    /// What is a note otherwise is a fault.
+    pub strict: bool,
+}
+
 /// What a line asks for, with its words beside the image.
 #[derive(Clone, Copy, PartialEq, Eq, Debug)]
 pub enum Line<'a> {
@@ -22,16 +31,16 @@ pub enum Line<'a> {
     Volumes,
     /// The space that is in use and free.
     Space,
-    /// Whether the container is well-formed.
-    Check,
+    /// Whether the container is well-formed, strictly where the flag is true.
+    Check(bool),
     /// The snapshots of the volume in a slot, from 0 to 99, where one is named.
     Snapshots(Option<u8>),
     /// What a directory has.
-    Ls(Target<'a>),
+    Ls(Flags, Target<'a>),
     /// What is under a directory.
-    Tree(Target<'a>),
+    Tree(Flags, Target<'a>),
     /// The bytes of a file.
-    Cat(Target<'a>),
+    Cat(Flags, Target<'a>),
     /// The extended attributes, or the bytes of the one that is named.
-    Xattr(Target<'a>, Option<&'a str>),
+    Xattr(Flags, Target<'a>, Option<&'a str>),
 }

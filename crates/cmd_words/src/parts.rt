@@ -1,10 +1,10 @@
 //! The parts of a line, from what clap found in its words.
-ghost use Rattle.std.specs.Prelude.{◌≡◌, option_map};
+ghost use Rattle.std.specs.Prelude.{◌≡◌, is_some, option_map};
 ghost use Rattle.clap.specs.Words.{first_of, found_of, rows_of};
-ghost use Rattle.cmd_words.specs.Lines.{small_number, snapshots_by, target_by, volume_by, xattr_by};
-ghost use Rattle.cmd_words.specs.Asked.{asked_by, target_asked};
+ghost use Rattle.cmd_words.specs.Lines.{browse_by, check_by, flags_by, small_number, snapshots_by, target_by, volume_by, xattr_by};
+ghost use Rattle.cmd_words.specs.Asked.{asked_by, browse_asked, flags_asked, target_asked};
 
-use crate::lines::{Line, Target};
+use crate::lines::{Flags, Line, Target};
 use clap::ArgMatches;
 
 // One or two decimal digits without a leading zero, or `0`.
@@ -38,8 +38,25 @@ fn text_in<'a>(matches: &ArgMatches<'a>, name: &str) -> Option<&'a str>
     matches.get_str(name)
 }
 
-/// The path and its view.
-pub fn target_in<'a>(matches: &ArgMatches<'a>) -> Option<Target<'a>>
+// Whether a flag was said.
+fn is_said(matches: &ArgMatches<'_>, name: &str) -> bool
+    ensures { result ≡ is_some (first_of name.now (rows_of (found_of matches.now))) }
+{
+    text_in(matches, name).is_some()
+}
+
+// Which flags were said.
+fn flags_in(matches: &ArgMatches<'_>) -> Flags
+    ensures { flags_asked result ≡ flags_by (λ name. first_of name (rows_of (found_of matches.now))) }
+{
+    Flags {
+        quick: is_said(matches, "quick"),
+        strict: is_said(matches, "strict"),
+    }
+}
+
+// The path and its view.
+fn target_in<'a>(matches: &ArgMatches<'a>) -> Option<Target<'a>>
     ensures { option_map target_asked result ≡ target_by (λ name. first_of name (rows_of (found_of matches.now))) }
 {
     let Some(path) = text_in(matches, "path") else {
@@ -55,6 +72,16 @@ pub fn target_in<'a>(matches: &ArgMatches<'a>) -> Option<Target<'a>>
     })
 }
 
+/// The flags, and the path with its view.
+pub fn browse_in<'a>(matches: &ArgMatches<'a>) -> Option<(Flags, Target<'a>)>
+    ensures { option_map browse_asked result ≡ browse_by (λ name. first_of name (rows_of (found_of matches.now))) }
+{
+    let Some(target) = target_in(matches) else {
+        return None;
+    };
+    Some((flags_in(matches), target))
+}
+
 /// The line that asks for attributes.
 pub fn xattr_in<'a>(matches: &ArgMatches<'a>) -> Option<Line<'a>>
     ensures { option_map asked_by result ≡ xattr_by (λ name. first_of name (rows_of (found_of matches.now))) }
@@ -62,7 +89,14 @@ pub fn xattr_in<'a>(matches: &ArgMatches<'a>) -> Option<Line<'a>>
     let Some(target) = target_in(matches) else {
         return None;
     };
-    Some(Line::Xattr(target, text_in(matches, "name")))
+    Some(Line::Xattr(flags_in(matches), target, text_in(matches, "name")))
+}
+
+/// The line that asks for a check.
+pub fn check_in<'a>(matches: &ArgMatches<'a>) -> Option<Line<'a>>
+    ensures { option_map asked_by result ≡ check_by (λ name. first_of name (rows_of (found_of matches.now))) }
+{
+    Some(Line::Check(is_said(matches, "strict")))
 }
 
 /// The line that asks for snapshots.

@@ -2,14 +2,14 @@
 ghost use Rattle.std.specs.Prelude.{◌≡◌, IfOk, map, option_map, true};
 ghost use Rattle.std.specs.String.{string_bytes};
 ghost use Rattle.clap.specs.Words.{app_of, found_of, is_simple_and_free, rows_of};
-ghost use Rattle.cmd_words.specs.Asked.{asked_by, target_asked};
+ghost use Rattle.cmd_words.specs.Asked.{asked_by, browse_asked};
 ghost use Rattle.cmd_words.specs.ByClap.{line_by_clap, read_by_clap};
-ghost use Rattle.cmd_words.specs.Commands.{found_in, snapshots_app, target_app, xattr_app};
-ghost use Rattle.cmd_words.specs.Lines.{alone, line_of, snapshots_by, target_by, xattr_by};
+ghost use Rattle.cmd_words.specs.Commands.{check_app, found_in, snapshots_app, target_app, xattr_app};
+ghost use Rattle.cmd_words.specs.Lines.{alone, browse_by, check_by, line_of, snapshots_by, xattr_by};
 
-use crate::commands::{snapshots_command, target_command, xattr_command};
-use crate::lines::{Line, Target};
-use crate::parts::{snapshots_in, target_in, xattr_in};
+use crate::commands::{check_command, snapshots_command, target_command, xattr_command};
+use crate::lines::{Flags, Line, Target};
+use crate::parts::{browse_in, check_in, snapshots_in, xattr_in};
 use clap::error::ErrorKind;
 use clap::{ArgMatches, Command};
 use std::alloc::{AllocError, Global};
@@ -42,15 +42,29 @@ fn alone<'a>(line: Line<'a>, rest: &[String]) -> Option<Line<'a>>
     }
 }
 
-// The path and its view.
-fn target_said<'a>(alloc: Global, rest: &'a [String]) -> Result<Option<Target<'a>>, AllocError>
-    ensures { IfOk result (λ target. option_map target_asked target
-        ≡ read_by_clap target_app target_by (map string_bytes rest.entry.now)) }
+// The flags, and the path with its view.
+fn browse_said<'a>(
+    alloc: Global,
+    rest: &'a [String],
+) -> Result<Option<(Flags, Target<'a>)>, AllocError>
+    ensures { IfOk result (λ browse. option_map browse_asked browse
+        ≡ read_by_clap target_app browse_by (map string_bytes rest.entry.now)) }
 {
     let Some(matches) = found(target_command(alloc)?, rest)? else {
         return Ok(None);
     };
-    Ok(target_in(&matches))
+    Ok(browse_in(&matches))
+}
+
+// The line that asks for a check.
+fn check_line<'a>(alloc: Global, rest: &'a [String]) -> Result<Option<Line<'a>>, AllocError>
+    ensures { IfOk result (λ line. option_map asked_by line
+        ≡ read_by_clap check_app check_by (map string_bytes rest.entry.now)) }
+{
+    let Some(matches) = found(check_command(alloc)?, rest)? else {
+        return Ok(None);
+    };
+    Ok(check_in(&matches))
 }
 
 // The line that asks for attributes.
@@ -87,11 +101,11 @@ fn line_by_clap<'a>(alloc: Global, words: &'a [String]) -> Result<Option<Line<'a
         "info" => Ok(alone(Line::Info, rest)),
         "volumes" => Ok(alone(Line::Volumes, rest)),
         "space" => Ok(alone(Line::Space, rest)),
-        "check" => Ok(alone(Line::Check, rest)),
+        "check" => check_line(alloc, rest),
         "snapshots" => snapshots_line(alloc, rest),
-        "ls" => Ok(target_said(alloc, rest)?.map(Line::Ls)),
-        "tree" => Ok(target_said(alloc, rest)?.map(Line::Tree)),
-        "cat" => Ok(target_said(alloc, rest)?.map(Line::Cat)),
+        "ls" => Ok(browse_said(alloc, rest)?.map(|(flags, target)| Line::Ls(flags, target))),
+        "tree" => Ok(browse_said(alloc, rest)?.map(|(flags, target)| Line::Tree(flags, target))),
+        "cat" => Ok(browse_said(alloc, rest)?.map(|(flags, target)| Line::Cat(flags, target))),
         "xattr" => xattr_line(alloc, rest),
         _ => Ok(None),
     }

@@ -1,5 +1,5 @@
 //! Lines, right and wrong, worked out by hand. The words of a line are parted by `|`.
-use crate::{Line, Target, line_in};
+use crate::{Flags, Line, Target, line_in};
 use std::alloc::{AllocError, Global};
 
 // Whether the words ask for this.
@@ -20,6 +20,15 @@ fn at<'a>(path: &'a str, volume: Option<u8>, snapshot: Option<&'a str>) -> Targe
     }
 }
 
+// Neither flag was said.
+fn plain() -> Flags {
+    said(false, false)
+}
+
+fn said(quick: bool, strict: bool) -> Flags {
+    Flags { quick, strict }
+}
+
 #[test]
 fn right_lines_say_their_parts(rt: HostRuntime) -> Result<(), AllocError> {
     let rows = [
@@ -27,23 +36,44 @@ fn right_lines_say_their_parts(rt: HostRuntime) -> Result<(), AllocError> {
         ("info|img", Line::Info),
         ("volumes|--help", Line::Volumes),
         ("space|img", Line::Space),
-        ("check|", Line::Check),
+        ("check|", Line::Check(false)),
+        ("check|img|--strict", Line::Check(true)),
+        ("check|img|--strict|--", Line::Check(true)),
         ("snapshots|img", Line::Snapshots(None)),
         ("snapshots|img|--volume=2", Line::Snapshots(Some(2))),
         ("snapshots|img|--", Line::Snapshots(None)),
-        ("ls|img|/", Line::Ls(at("/", None, None))),
-        ("ls|img|", Line::Ls(at("", None, None))),
-        ("ls|--volume|é", Line::Ls(at("é", None, None))),
-        ("tree|img|a", Line::Tree(at("a", None, None))),
-        ("tree|img|help", Line::Tree(at("help", None, None))),
-        ("xattr|img|a", Line::Xattr(at("a", None, None), None)),
+        ("ls|img|/", Line::Ls(plain(), at("/", None, None))),
+        (
+            "ls|img|a|--quick",
+            Line::Ls(said(true, false), at("a", None, None)),
+        ),
+        (
+            "ls|img|--strict|a",
+            Line::Ls(said(false, true), at("a", None, None)),
+        ),
+        ("ls|img|", Line::Ls(plain(), at("", None, None))),
+        ("ls|--volume|é", Line::Ls(plain(), at("é", None, None))),
+        ("tree|img|a", Line::Tree(plain(), at("a", None, None))),
+        (
+            "tree|img|--strict|--quick|a",
+            Line::Tree(said(true, true), at("a", None, None)),
+        ),
+        ("tree|img|help", Line::Tree(plain(), at("help", None, None))),
+        (
+            "xattr|img|a",
+            Line::Xattr(plain(), at("a", None, None), None),
+        ),
+        (
+            "xattr|img|a|--quick|n",
+            Line::Xattr(said(true, false), at("a", None, None), Some("n")),
+        ),
         (
             "xattr|img|a|--|-n",
-            Line::Xattr(at("a", None, None), Some("-n")),
+            Line::Xattr(plain(), at("a", None, None), Some("-n")),
         ),
         (
             "xattr|img|--volume=1|a|--snapshot|s|n",
-            Line::Xattr(at("a", Some(1), Some("s")), Some("n")),
+            Line::Xattr(plain(), at("a", Some(1), Some("s")), Some("n")),
         ),
     ];
     for (text, line) in rows {
@@ -76,6 +106,11 @@ fn options_stand_anywhere(rt: HostRuntime) -> Result<(), AllocError> {
         ("cat|img|--|-a", at("-a", None, None)),
         ("cat|img|--|--", at("--", None, None)),
         ("cat|img|--|--help", at("--help", None, None)),
+        ("cat|img|--|--quick", at("--quick", None, None)),
+        (
+            "cat|img|a|--snapshot=--quick",
+            at("a", None, Some("--quick")),
+        ),
         (
             "cat|img|--volume=3|--|--volume=4",
             at("--volume=4", Some(3), None),
@@ -84,7 +119,7 @@ fn options_stand_anywhere(rt: HostRuntime) -> Result<(), AllocError> {
         ("cat|img|-", at("-", None, None)),
     ];
     for (text, target) in rows {
-        let as_said = asks_for(rt.alloc(), text, Some(Line::Cat(target)))?;
+        let as_said = asks_for(rt.alloc(), text, Some(Line::Cat(plain(), target)))?;
         assert!(rt; as_said, "{text}");
     }
     Ok(())
@@ -103,13 +138,27 @@ fn wrong_words_are_no_line(rt: HostRuntime) -> Result<(), AllocError> {
         "rings|img",
         "ring|img|a",
         "ring|img|--",
-        "check|img|--strict",
+        "check|img|--quick",
+        "check|img|a",
+        "check|img|--strict=true",
+        "check|img|--strict|--strict",
+        "ring|img|--strict",
+        "info|img|--quick",
+        "volumes|img|--strict",
+        "space|img|--strict",
         "gen|3",
         "LS|img|a",
         "lsx|img|a",
         "ls|img",
         "ls|img|a|b",
-        "ls|img|a|--quick",
+        "ls|img|a|--quick=1",
+        "ls|img|a|--quick=",
+        "ls|img|a|--quick|1",
+        "ls|img|a|--quick|--quick",
+        "ls|img|a|--strict|--quick|--strict",
+        "ls|img|a|--snapshot|--quick",
+        "ls|img|a|-q",
+        "ls|img|--quick",
         "cat|img|--",
         "cat|img|a|--|b",
         "cat|img|a|--volume=07",
@@ -136,6 +185,7 @@ fn wrong_words_are_no_line(rt: HostRuntime) -> Result<(), AllocError> {
         "cat|img|a|--version",
         "xattr|img|a|n|m",
         "snapshots|img|a",
+        "snapshots|img|--strict",
         "snapshots|img|--snapshot=a",
     ];
     for text in rows {

@@ -1,1 +1,4 @@
+pub mod FilesSteps
+pub mod Fronts
 pub mod Kept
+pub mod PackingSteps

@@ -1,4 +1,6 @@
+pub mod Files
 pub mod Nodes
+pub mod Packing
 pub mod Plans
 pub mod Records
 pub mod Samples

@@ -1,4 +1,6 @@
 // The files of a volume while they are put together: inodes with their counts, and the records beside them.
+ghost use Rattle.std.specs.Prelude.{◌≡◌, ◌≤◌, ◌<◌, IfOk, OnErr, OnOk, length};
+
 use crate::records::{
     EntryPlan, InodePlan, Item, entry, file_extent, inode, rank, sibling_link, sibling_map,
     stream_id,
@@ -30,8 +32,14 @@ pub struct FileTree {
 }
 
 impl FileTree {
+    ghost use Rattle.std.specs.Prelude.{IsSortedByKey};
+    ghost use Rattle.img_plan.specs.Records.{rank_cmp, rank_of};
+    ghost use Rattle.img_plan.specs.Files.{AddsEntry, AddsLink, AddsNamed, AddsRecord, AddsStream, HasNoFiles, HoldsAll, IsUnchanged, Places, Raises, names_of, records_of};
+
     /// The files of a volume with nothing but its two directories.
-    pub fn new(alloc: Global, names: Names) -> Result<FileTree, AllocError> {
+    pub fn new(alloc: Global, names: Names) -> Result<FileTree, AllocError>
+        ensures { IfOk result (HasNoFiles names) }
+    {
         let mut tree = FileTree {
             names,
             inodes: BTreeMap::new(alloc),
@@ -44,13 +52,20 @@ impl FileTree {
     }
 
     /// Adds an inode that nothing names yet, in the place of any other of its id.
-    pub fn inode(&mut self, plan: InodePlan) -> Result<(), AllocError> {
+    pub fn inode(&mut self, plan: InodePlan) -> Result<(), AllocError>
+        ensures adds { OnOk result (Places plan self.old self.new) }
+        ensures err { OnErr result (IsUnchanged self.old self.new) }
+    {
         self.inodes.insert(plan.id, plan)?;
         Ok(())
     }
 
-    /// Adds an inode, and its name in its parent.
-    pub fn add(&mut self, alloc: Global, plan: InodePlan, name: &str) -> Result<(), AllocError> {
+    /// Adds an inode, and its name in its parent. After an Err the inode may be there without its name.
+    pub fn add(&mut self, alloc: Global, plan: InodePlan, name: &str) -> Result<(), AllocError>
+        ensures adds { length name.now ≤ 1022 → OnOk result (AddsNamed plan name.now self.old self.new) }
+        ensures too_long { 1022 < length name.now → OnOk result (Places plan self.old self.new) }
+        ensures err { OnErr result (records_of self.new ≡ records_of self.old) }
+    {
         let entry = EntryPlan {
             directory: plan.parent,
             file: plan.id,
@@ -62,7 +77,11 @@ impl FileTree {
     }
 
     /// Adds an entry of a directory, which then has one child more.
-    pub fn name(&mut self, alloc: Global, plan: &EntryPlan, name: &str) -> Result<(), AllocError> {
+    pub fn name(&mut self, alloc: Global, plan: &EntryPlan, name: &str) -> Result<(), AllocError>
+        ensures adds { length name.now ≤ 1022 → OnOk result (AddsEntry plan.now name.now self.old self.new) }
+        ensures too_long { 1022 < length name.now → IsUnchanged self.old self.new }
+        ensures err { OnErr result (IsUnchanged self.old self.new) }
+    {
         if name.len() <= MOST_OF_A_NAME {
             self.items.push(entry(alloc, self.names, plan, name)?)?;
             self.raise(plan.directory);
@@ -71,7 +90,7 @@ impl FileTree {
     }
 
     /// Adds one of several names of a regular file: an entry, a sibling link and a sibling map. The file has one link
-    /// more.
+    /// more. After an Err part of it may be there.
     pub fn link(
         &mut self,
         alloc: Global,
@@ -79,7 +98,10 @@ impl FileTree {
         sibling: u64,
         directory: u64,
         name: &str,
-    ) -> Result<(), AllocError> {
+    ) -> Result<(), AllocError>
+        ensures adds { length name.now ≤ 1022 → OnOk result (AddsLink file sibling directory name.now self.old self.new) }
+        ensures too_long { 1022 < length name.now → IsUnchanged self.old self.new }
+    {
         if name.len() > MOST_OF_A_NAME {
             return Ok(());
         }
@@ -95,41 +117,52 @@ impl FileTree {
         self.record(sibling_map(alloc, sibling, file)?)
     }
 
-    /// Adds a stream, and its extents as logical address and length in bytes and first block.
+    /// Adds a stream, and its extents as logical address and length in bytes and first block. After an Err part of them
+    /// may be there.
     pub fn stream(
         &mut self,
         alloc: Global,
         stream: u64,
         extents: &[(u64, u64, u64)],
-    ) -> Result<(), AllocError> {
+    ) -> Result<(), AllocError>
+        ensures adds { OnOk result (AddsStream stream extents.now self.old self.new) }
+    {
         self.record(stream_id(alloc, stream)?)?;
-        for (address, length, block) in extents.iter() {
+        'extents: for (address, length, block) in extents.iter() {
             self.record(file_extent(alloc, stream, *address, *length, *block)?)?;
         }
         Ok(())
     }
 
     /// Adds a record of any kind.
-    pub fn record(&mut self, item: Item) -> Result<(), AllocError> {
+    pub fn record(&mut self, item: Item) -> Result<(), AllocError>
+        ensures adds { OnOk result (AddsRecord item self.old self.new) }
+        ensures err { OnErr result (IsUnchanged self.old self.new) }
+    {
         self.items.push(item)?;
         Ok(())
     }
 
     // One child or link more of an inode.
-    fn raise(&mut self, id: u64) {
+    fn raise(&mut self, id: u64)
+        ensures { Raises id self.old self.new }
+    {
         if let Some(inode) = self.inodes.get_mut(&id) {
             inode.children_or_links = inode.children_or_links.saturating_add(1);
         }
     }
 
     /// The records in the tree's order.
-    pub fn items(self, alloc: Global) -> Result<Vec<Item>, AllocError> {
+    pub fn items(self, alloc: Global) -> Result<Vec<Item>, AllocError>
+        ensures all { IfOk result (λ items. HoldsAll self items.items) }
+        ensures ordered { IfOk result (λ items. IsSortedByKey (λ item. rank_of item.0.items) rank_cmp items.items) }
+    {
         let FileTree {
             inodes,
             mut items,
             ..
         } = self;
-        for plan in inodes.values() {
+        'inodes: for plan in inodes.values() {
             items.push(inode(alloc, plan)?)?;
         }
         items.sort_by_key(|item| rank(&item.0))?;

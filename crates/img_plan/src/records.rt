@@ -6,6 +6,7 @@ mod fields;
 mod inodes;
 mod keys;
 mod mappings;
+mod names;
 mod ranges;
 mod siblings;
 mod snapshots;

@@ -28,6 +28,7 @@ pub use naming::{By, Expects, Mapping, Named, NamedBy, Tree, ViewKey};
 pub use owner::{Owned, OwnedBy};
 pub use queues::{add_main_queue, add_pool_queue};
 pub use reaping::add_reaper;
+pub use resolving::resolve;
 pub use space::add_space;
 pub use trees::{add_extents, add_map_records, add_map_snapshots, add_metadata};
 pub use volumes::{add_volume, add_volumes};

@@ -45,7 +45,7 @@ fn latest(records: &[OmapRecord], oid: u64, xid: u64) -> Option<OmapRecord>
 
 /// The record to which an id resolves at a transaction: the latest of at most that one, and none where it is marked deleted.
 #[tactic(auto, unfolding(omap_map::specs::Resolve::resolved))]
-pub(crate) fn resolve(records: &[OmapRecord], oid: u64, xid: u64) -> Option<OmapRecord>
+pub fn resolve(records: &[OmapRecord], oid: u64, xid: u64) -> Option<OmapRecord>
     ensures { result ≡ spec.resolved records.now oid xid }
 {
     let record = latest(records, oid, xid)?;

@@ -1,5 +1,5 @@
 -- What is told of the space of a container is present in the container.
-use Rattle.std.proofs.Common.{◌≡◌, ℕ, ◌+◌, ◌*◌, ◌/◌, ◌%◌, ◌<◌, Bool, true, false, ◌&&◌, ◌==◌, nat_lt, List, map, Option, Some, None, Result, Ok, Err, is_ok, inl, inr, refl, ap, sym, ◌∙◌, subst, arith, if◌then◌else◌}
+use Rattle.std.proofs.Common.{◌≡◌, ℕ, ◌+◌, ◌*◌, ◌/◌, ◌%◌, ◌<◌, Bool, true, false, ◌&&◌, ◌==◌, nat_lt, List, map, Option, Some, None, Result, Ok, Err, is_ok, inl, inr, refl, ap, ◌++◌, sym, ◌∙◌, subst, arith, if◌then◌else◌}
 use Rattle.std.specs.Prelude.{option_map, option_and_then, is_some}
 use Rattle.std.specs.List.{range_with_len}
 use Rattle.apfs_model.specs.Blocks.{block_of, in_container}
@@ -17,17 +17,19 @@ use Rattle.nx_ring.specs.Checkpoint.{Seen, site_of, eph}
 use Rattle.space_map.specs.Fields.{cabs_of, cibs_of, cab_cibs_of, addresses_of, pool_queue_of, main_queue_of}
 use Rattle.space_map.specs.Geometry.{has_address, has_cib_place}
 use Rattle.space_map.specs.Blocks.{manager_of, manager_block, manager_test, address_at, cab_address_at, cab_block_for, cib_block, is_info, info_test, is_cab_named, has_cab_for, is_cib_named}
-use Rattle.space_map.specs.Stops.{HasManager, NamesInfo, IsFaultOf, IsSpaceFault}
+use Rattle.obj_base.specs.declared.stop.Feature.{Feature}
+use Rattle.space_map.specs.Stops.{HasManager, NamesInfo, IsFaultOf, IsSpaceFault, space_features, IsInfoFeature, IsSpaceFeature}
 use Rattle.space_map.specs.declared.fault.SpaceFault.{SpaceFault}
 use Rattle.space_map.specs.declared.fault.SpaceFault.TheVariants as spaces
 use Rattle.space_pool.specs.declared.entry.Queue.TheVariants.{Pool as PoolQueue, Main}
 use Rattle.reach_rules.specs.declared.fault.Why.TheVariants.{Node}
 use Rattle.reach_rules.specs.Naming.{ByBlock, ByMapping, InBlock, OfId, Namer, Whole, FreeQueue, Expected, AddressBlock, InfoBlock, TreeRoot, Naming, naming}
 use Rattle.reach_rules.specs.Resolved.{Found, resolved, standing, mapped}
-use Rattle.reach_rules.specs.Tested.{of_header, head_tested, tested}
+use Rattle.reach_rules.specs.Tested.{Answer, of_header, head_tested, tested}
 use Rattle.reach_rules.specs.Next.{unless_zero, address_naming, addresses_in, address_namings, is_cib_of, cibs_in, cib_naming, cab_namings}
 use Rattle.reach_rules.specs.Live.{led, IsLive, NamesSound}
 use Rattle.reach_rules.specs.Faults.{Present}
+use Rattle.reach_rules.specs.Features.{used_features, tested_features, placed_in, features_through, HasFeature, of}
 use Rattle.reach_rules.specs.Raised.{of_space}
 use Rattle.apfs_model.proofs.BoolTests.{test_or, equal-from, left-true, right-true, both-true, below-from, from-equal, in-range}
 use Rattle.apfs_model.proofs.Searches.{in-right, in-map, in-filter}
@@ -285,3 +287,47 @@ space-present image seen (spaces.Cib i) (inr (inl p)) = absurd p
 space-present image seen (spaces.Index k) (inr (inl p)) = absurd p
 space-present image seen (spaces.Place block) (inr (inl p)) = absurd p
 space-present image seen spaces.FreeTotal (inr (inl p)) = absurd p
+
+-- ---- features
+-- a feature of the tests of a named object, or of its fields, is there
+pub feature-through : (image : List ℕ) (seen : Seen) (n : Naming) (f : Found) (a : Answer) (feature : Feature) (block : ℕ) → IsLive image seen n → resolved image seen n ≡ Some f → tested (site_of seen) n.expected n.oid f.bytes ≡ a →
+    In (feature, block) (used_features (site_of seen) f.object ++ tested_features image seen n.expected f a) → HasFeature image seen feature block
+unfolding features_through
+feature-through image seen n f a feature block live e t h =
+    of n live (subst (λ o. In (feature, block) (through o (λ (g : Found). used_features (site_of seen) g.object ++ tested_features image seen n.expected g (tested (site_of seen) n.expected n.oid g.bytes)))) (sym e)
+    (subst (λ x. In (feature, block) (used_features (site_of seen) f.object ++ tested_features image seen n.expected f x)) (sym t) h))
+
+refused-header : (bytes : List ℕ) (r : Result Header (Bad HeadFault)) (feature : Feature) → r ≡ Err (Unsupported feature) → of_header bytes r ≡ Err (Unsupported feature)
+refused-header bytes r feature e = ap (λ (x : Result Header (Bad HeadFault)). of_header bytes x) e
+
+passed-header : (bytes : List ℕ) (r : Result Header (Bad HeadFault)) → is_ok r ≡ true → of_header bytes r ≡ Ok bytes
+passed-header bytes (Ok h) e = refl
+passed-header bytes (Err bad) e = absurd (let z : false ≡ true = e in let q : ⊥ = cc in q)
+
+-- the manager's header is refused
+manager-refused : (image : List ℕ) (seen : Seen) (manager : List ℕ) (block : ℕ) (feature : Feature) → manager_of seen ≡ Some manager → manager_block seen ≡ Some block → manager_test seen manager ≡ Err (Unsupported feature) → HasFeature image seen feature block
+unfolding tested there site_of
+manager-refused image seen manager block feature some at refuses =
+    feature-through image seen (manager_naming seen) (there seen manager block) (Err (Unsupported feature)) feature block (manager-live image seen) (manager-found image seen manager block some at)
+    (refused-header manager (manager_test seen manager) feature refuses) (inl refl)
+
+-- a sound manager has a feature
+manager-feature : (image : List ℕ) (seen : Seen) (manager : List ℕ) (block : ℕ) (feature : Feature) → manager_of seen ≡ Some manager → manager_block seen ≡ Some block → is_ok (manager_test seen manager) ≡ true → In feature (space_features manager) → HasFeature image seen feature block
+unfolding tested there site_of
+manager-feature image seen manager block feature some at ok one =
+    feature-through image seen (manager_naming seen) (there seen manager block) (Ok manager) feature block (manager-live image seen) (manager-found image seen manager block some at)
+    (passed-header manager (manager_test seen manager) ok) (in-map (λ (x : Feature). (x, block)) (space_features manager) feature one)
+
+-- the header of a block that tells of chunks is refused
+info-refused : (image : List ℕ) (seen : Seen) (manager : List ℕ) (b : ℕ) → HasManager seen manager b → (feature : Feature) (block : ℕ) → IsInfoFeature image (site_of seen) manager feature block → HasFeature image seen feature block
+info-refused image seen manager b h feature block (kind, n, refuses) =
+    let t = info-is-named image seen manager b kind block h n.named in
+    let bytes : List ℕ = block_of (site_of seen).block_size image block in
+    feature-through image seen (naming t.namer t.at t.expected ByBlock block) (standing image (site_of seen) (InBlock block) block) (Err (Unsupported feature)) feature block t.live
+    (block-found image seen t.namer t.at t.expected block n.inside) (t.tests bytes ∙ refused-header bytes (info_test image (site_of seen) kind block) feature refuses) (inl refl)
+
+-- a feature that is told of the space of a container is there
+pub space-feature : (image : List ℕ) (seen : Seen) (feature : Feature) (block : ℕ) → IsSpaceFeature image seen feature block → HasFeature image seen feature block
+space-feature image seen feature block (inl (manager, some, at, inl refuses)) = manager-refused image seen manager block feature some at refuses
+space-feature image seen feature block (inl (manager, some, at, inr (ok, one))) = manager-feature image seen manager block feature some at ok one
+space-feature image seen feature block (inr (manager, b, h, i)) = info-refused image seen manager b h feature block i

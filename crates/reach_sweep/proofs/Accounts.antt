@@ -1,5 +1,5 @@
 -- What stops an account tells of what is present, and of nothing where the container is accounted.
-use Rattle.std.proofs.Common.{◌≡◌, ℕ, List, Option, None, Some, sym, subst}
+use Rattle.std.proofs.Common.{◌≡◌, ℕ, List, sym, subst}
 use Rattle.obj_base.specs.Stops.{Tells, NoFeature, IsFree}
 use Rattle.obj_base.specs.Site.{IsSiteFor}
 use Rattle.obj_base.specs.declared.site.Site.{Site}

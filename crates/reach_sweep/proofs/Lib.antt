@@ -5,8 +5,16 @@ pub mod Owners
 pub mod Pooled
 pub mod Views
 pub mod Swept
+pub mod Slots
+pub mod Heads
+pub mod Maps
+pub mod Found
+pub mod Listed
 pub mod Records
 pub mod Lives
 pub mod MapsOf
+pub mod Gathers
 pub mod Composed
+pub mod Together
+pub mod SpaceTells
 pub mod Accounts

@@ -22,7 +22,7 @@ use Rattle.reach_sweep.specs.Views.{head_of, AreVolumes}
 use Rattle.reach_sweep.specs.Composed.{IsHeadRecord, AreRecordsBy}
 
 -- the namings of heads are live
-heads-live : (image : List ℕ) (seen : Seen) (heads : List VolHead) (n : Naming) → HasParts image seen heads → In n (map head_naming heads) → IsLive image seen n
+pub heads-live : (image : List ℕ) (seen : Seen) (heads : List VolHead) (n : Naming) → HasParts image seen heads → In n (map head_naming heads) → IsLive image seen n
 unfolding roots
 heads-live image seen heads n p h =
     let slots : List Naming = map head_naming heads in

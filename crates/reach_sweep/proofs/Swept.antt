@@ -8,7 +8,7 @@ use Rattle.std.proofs.lemmas.Option.{slice_get_within, slice_get-map}
 use Rattle.apfs_model.specs.Apart.{Apart}
 use Rattle.apfs_model.specs.Lists.{In, through}
 use Rattle.apfs_model.proofs.Finite.{apart-range}
-use Rattle.apfs_model.proofs.Searches.{in-append, in-map, get-in, from-flat_map}
+use Rattle.apfs_model.proofs.Searches.{in-append, in-map, get-in, in-get, from-map, from-flat_map}
 use Rattle.fs_name.specs.Normal.{are_hashed}
 use Rattle.nx_block.specs.Super.{fs_oid_of, slots}
 use Rattle.nx_ring.specs.Checkpoint.{Seen, site_of}
@@ -29,7 +29,7 @@ use Rattle.view_sweep.specs.Wanted.{view_at, head_wants, heads_want, naming_of, 
 use Rattle.view_sweep.specs.Found.{records_at}
 use Rattle.view_sweep.specs.Named.{head_namings, AreOfImage}
 use Rattle.reach_gather.specs.Views.{pasts_namings, volume_views}
-use Rattle.reach_sweep.specs.Views.{head_of, AreVolumes, volumes_views, swept_view, live_head, past_head, past_heads, volume_heads, heads_from, swept_heads, found_namer, past_namer, view_namer, supers_of, ViewsAre}
+use Rattle.reach_sweep.specs.Views.{head_of, slot_of, slots_of, AreVolumes, volumes_views, swept_view, live_head, past_head, past_heads, volume_heads, heads_from, swept_heads, found_namer, past_namer, view_namer, supers_of, ViewsAre}
 use Rattle.reach_sweep.proofs.Views.{slot-expected, same-slot, views-loaded}
 
 -- ---- what the head of a view names
@@ -212,11 +212,12 @@ slot-places image seen heads volumes p e i j v w a b same =
 some-one : {X : Type 0} (x y : X) → Some x ≡ Some y → x ≡ y
 some-one x y e = cc
 
-told-heads : (image : List ℕ) (seen : Seen) (heads : List VolHead) (volumes : List Loaded) (namer : Loaded → Namer) → HasParts image seen heads → AreVolumes image seen heads volumes namer → AreToldHeads (swept_heads seen volumes)
-told-heads image seen heads volumes namer p v a b h k slot place =
+-- so each view is told by its slot and its place
+told-by : (seen : Seen) (volumes : List Loaded) → ((i j : ℕ) (v w : Loaded) → slice_get volumes i ≡ Some v → slice_get volumes j ≡ Some w → v.head.slot ≡ w.head.slot → i ≡ j) → AreToldHeads (swept_heads seen volumes)
+told-by seen volumes places a b h k slot place =
     let s = all-swept seen volumes a h in
     let t = all-swept seen volumes b k in
-    let i_is : s.i ≡ t.i = slot-places image seen heads volumes p v.heads_are s.i t.i s.volume t.volume s.at t.at (sym s.slot_is ∙ (slot ∙ t.slot_is)) in
+    let i_is : s.i ≡ t.i = places s.i t.i s.volume t.volume s.at t.at (sym s.slot_is ∙ (slot ∙ t.slot_is)) in
     let volume_is : s.volume ≡ t.volume = some-one s.volume t.volume (sym s.at ∙ (ap (slice_get volumes) i_is ∙ t.at)) in
     s.view_is
     ∙ (ap (λ i. swept_at seen i s.volume a.view.place) i_is
@@ -224,7 +225,31 @@ told-heads image seen heads volumes namer p v a b h k slot place =
     ∙ (ap (swept_at seen t.i t.volume) place
     ∙ sym t.view_is)))
 
-below-heads : (seen : Seen) (volumes : List Loaded) → AreBelowHeads (length volumes) (swept_heads seen volumes)
+told-heads : (image : List ℕ) (seen : Seen) (heads : List VolHead) (volumes : List Loaded) (namer : Loaded → Namer) → HasParts image seen heads → AreVolumes image seen heads volumes namer → AreToldHeads (swept_heads seen volumes)
+told-heads image seen heads volumes namer p v = told-by seen volumes (slot-places image seen heads volumes p v.heads_are)
+
+-- it suffices that the slots are apart
+pub told-apart : (seen : Seen) (volumes : List Loaded) → Apart (slots_of volumes) → AreToldHeads (swept_heads seen volumes)
+told-apart seen volumes apart =
+    let at : (k : ℕ) (u : Loaded) → slice_get volumes k ≡ Some u → slice_get (slots_of volumes) k ≡ Some u.head.slot = λ k u h. slice_get-map slot_of volumes k ∙ ap (option_map slot_of) h in
+    told-by seen volumes (λ i j v w e f same. apart-place (slots_of volumes) apart i j w.head.slot (at i v e ∙ ap Some same) (at j w f))
+
+places-apart : {X Y : Type 0} (f : X → Y) (xs : List X) → ((i j : ℕ) (v w : X) → slice_get xs i ≡ Some v → slice_get xs j ≡ Some w → f v ≡ f w → i ≡ j) → Apart (map f xs)
+places-apart f [] p = tt
+places-apart f (x ∷ xs) p = (
+  (λ h.
+      let t = from-map f xs (f x) h in
+      let g = in-get xs t.0 t.1.0 in
+      let z : 0 ≡ suc g.0 = p 0 (suc g.0) x t.0 refl g.1 t.1.1 in
+      absurd (omega arith)),
+  places-apart f xs (λ i j v w a b e. let z : suc i ≡ suc j = p (suc i) (suc j) v w a b e in omega arith),
+)
+
+-- the slots of the volumes of a container are apart
+pub slots-are-apart : (image : List ℕ) (seen : Seen) (heads : List VolHead) (volumes : List Loaded) (namer : Loaded → Namer) → HasParts image seen heads → AreVolumes image seen heads volumes namer → Apart (slots_of volumes)
+slots-are-apart image seen heads volumes namer p v = places-apart slot_of volumes (slot-places image seen heads volumes p v.heads_are)
+
+pub below-heads : (seen : Seen) (volumes : List Loaded) → AreBelowHeads (length volumes) (swept_heads seen volumes)
 below-heads seen volumes h k = let s = all-swept seen volumes h k in subst (λ i. i < length volumes) (sym s.volume_is) (slice_get_within volumes s.i s.volume s.at)
 
 -- ---- the maps of views

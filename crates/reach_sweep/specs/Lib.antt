@@ -1,3 +1,5 @@
 pub mod Account
 pub mod Composed
+pub mod Finished
+pub mod Used
 pub mod Views

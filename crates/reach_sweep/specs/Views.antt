@@ -26,6 +26,14 @@ use Rattle.reach_gather.specs.Views.{volume_views}
 abbrev pub head_of : Loaded → VolHead
 head_of volume = volume.head
 
+-- the slot of a loaded volume
+abbrev pub slot_of : Loaded → ℕ
+slot_of volume = volume.head.slot
+
+-- the slots of some
+abbrev pub slots_of : List Loaded → List ℕ
+slots_of volumes = map slot_of volumes
+
 -- the volumes of some heads were loaded, in their order; and of each the object of its superblock is known, by the record of the
 -- container's map
 pub record AreVolumes (image : List ℕ) (seen : Seen) (heads : List VolHead) (volumes : List Loaded) (namer : Loaded → Namer) : Type 0 where

@@ -2,7 +2,15 @@
 #![tactic(auto)]
 
 mod accounting;
+mod checking;
+mod finding;
+mod finishing;
+mod gathering;
+mod loading;
 mod reaching;
+mod sweeping;
+#[cfg(test)]
+mod tests;
 mod theorem;
 
 pub use accounting::{Tally, account};

@@ -5,6 +5,7 @@ ghost use Rattle.cmd_words.specs.Asked.{target_asked};
 ghost use Rattle.path_walk.specs.Texts.{row_text};
 ghost use Rattle.apfs_cli.specs.Says.{HasEnded};
 ghost use Rattle.apfs_cli.specs.Words.{Tree};
+ghost use Rattle.apfs_cli.specs.declared.words.Checks.TheVariants.{Quick};
 ghost use Rattle.apfs_cli.specs.Written.{sunk};
 ghost use Rattle.blk_source.specs.declared.source.Opened.TheVariants.{Image};
 
@@ -35,7 +36,7 @@ pub fn write<S: BlockSource, W: Sink>(
     src: &mut S,
     out: &mut W,
 ) -> Result<(), Stopped>
-    ensures answer { HasEnded S.bytes S.faults (Some (Tree (target_asked target.entry))) (Image src.old) (Image src.new) result (sunk W.contents W.faults out.old out.new) }
+    ensures answer { HasEnded S.bytes S.faults (Some (Tree Quick (target_asked target.entry))) (Image src.old) (Image src.new) result (sunk W.contents W.faults out.old out.new) }
     ensures kept { IsKept S.bytes S.bytes_len S.faults src.old src.new }
 {
     let viewed = match reach_view(alloc, src, target) {

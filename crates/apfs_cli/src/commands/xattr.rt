@@ -5,6 +5,7 @@ ghost use Rattle.cmd_words.specs.Asked.{target_asked};
 ghost use Rattle.path_read.specs.Texts.{attribute_text};
 ghost use Rattle.apfs_cli.specs.Says.{HasEnded};
 ghost use Rattle.apfs_cli.specs.Words.{Xattr};
+ghost use Rattle.apfs_cli.specs.declared.words.Checks.TheVariants.{Quick};
 ghost use Rattle.apfs_cli.specs.Written.{sunk};
 ghost use Rattle.blk_source.specs.declared.source.Opened.TheVariants.{Image};
 
@@ -39,7 +40,7 @@ fn write_all<S: BlockSource, W: Sink>(
     src: &mut S,
     out: &mut W,
 ) -> Result<(), Stopped>
-    ensures answer { HasEnded S.bytes S.faults (Some (Xattr (target_asked target.entry) None)) (Image src.old) (Image src.new) result (sunk W.contents W.faults out.old out.new) }
+    ensures answer { HasEnded S.bytes S.faults (Some (Xattr Quick (target_asked target.entry) None)) (Image src.old) (Image src.new) result (sunk W.contents W.faults out.old out.new) }
     ensures kept { IsKept S.bytes S.bytes_len S.faults src.old src.new }
 {
     let viewed = match reach_view(alloc, src, target) {
@@ -61,7 +62,7 @@ fn write_one<S: BlockSource, W: Sink>(
     src: &mut S,
     out: &mut W,
 ) -> Result<(), Stopped>
-    ensures answer { HasEnded S.bytes S.faults (Some (Xattr (target_asked target.entry) (Some name.now))) (Image src.old) (Image src.new) result (sunk W.contents W.faults out.old out.new) }
+    ensures answer { HasEnded S.bytes S.faults (Some (Xattr Quick (target_asked target.entry) (Some name.now))) (Image src.old) (Image src.new) result (sunk W.contents W.faults out.old out.new) }
     ensures kept { IsKept S.bytes S.bytes_len S.faults src.old src.new }
 {
     let viewed = match reach_view(alloc, src, target) {
@@ -92,7 +93,7 @@ pub fn write<S: BlockSource, W: Sink>(
     src: &mut S,
     out: &mut W,
 ) -> Result<(), Stopped>
-    ensures answer { HasEnded S.bytes S.faults (Some (Xattr (target_asked target.entry) (option_map (λ text. text.now) name.entry))) (Image src.old) (Image src.new) result (sunk W.contents W.faults out.old out.new) }
+    ensures answer { HasEnded S.bytes S.faults (Some (Xattr Quick (target_asked target.entry) (option_map (λ text. text.now) name.entry))) (Image src.old) (Image src.new) result (sunk W.contents W.faults out.old out.new) }
     ensures kept { IsKept S.bytes S.bytes_len S.faults src.old src.new }
 {
     match name {

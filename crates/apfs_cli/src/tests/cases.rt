@@ -21,13 +21,13 @@ pub const NO_SNAPSHOT: &str = "apfs: answer: NoSnapshot\n";
 
 pub const HELLO_LINE: &str = "- 16 5 hello.txt\n";
 
-pub const LS: &[&str] = &["ls", "x", "/"];
+pub const LS: &[&str] = &["ls", "x", "/", "--quick"];
 
-pub const TREE: &[&str] = &["tree", "x", "/"];
+pub const TREE: &[&str] = &["tree", "x", "/", "--quick"];
 
-pub const LS_OLD: &[&str] = &["ls", "x", "/", "--snapshot", "s2"];
+pub const LS_OLD: &[&str] = &["ls", "x", "/", "--snapshot", "s2", "--quick"];
 
-pub const TREE_OLD: &[&str] = &["tree", "x", "--snapshot=s2", "/"];
+pub const TREE_OLD: &[&str] = &["tree", "x", "--snapshot=s2", "/", "--quick"];
 
 // A directory with an empty file.
 pub const FOLDER: Image = Image::Files(&[(16, 2, 4, "d"), (17, 16, 8, "f")]);
@@ -138,7 +138,7 @@ pub const CASES: &[Case] = &[
         "",
         USAGE,
     ),
-    ("words_unknown", Image::Ring, &["check", "x"], 2, "", USAGE),
+    ("words_unknown", Image::Ring, &["checks", "x"], 2, "", USAGE),
     (
         "words_info_three",
         Image::Empty,
@@ -621,7 +621,7 @@ pub const VIEW_CASES: &[Case] = &[
     (
         "clean_ls_empty_path",
         Image::Hello,
-        &["ls", "x", ""],
+        &["ls", "x", "", "--quick"],
         0,
         HELLO_LINE,
         "",
@@ -629,7 +629,7 @@ pub const VIEW_CASES: &[Case] = &[
     (
         "clean_ls_file",
         Image::Hello,
-        &["ls", "x", "/hello.txt"],
+        &["ls", "x", "/hello.txt", "--quick"],
         0,
         HELLO_LINE,
         "",
@@ -645,7 +645,7 @@ pub const VIEW_CASES: &[Case] = &[
     (
         "clean_ls_normal_form",
         Image::Files(&[(16, 2, 8, "ReadMe")]),
-        &["ls", "x", "/README"],
+        &["ls", "x", "/README", "--quick"],
         0,
         "- 16 0 ReadMe\n",
         "",
@@ -653,7 +653,7 @@ pub const VIEW_CASES: &[Case] = &[
     (
         "clean_ls_same_bytes",
         ALIKE,
-        &["ls", "x", "/A"],
+        &["ls", "x", "/A", "--quick"],
         0,
         "- 17 0 A\n",
         "",
@@ -661,7 +661,7 @@ pub const VIEW_CASES: &[Case] = &[
     (
         "clean_ls_same_bytes_first",
         ALIKE,
-        &["ls", "x", "/a"],
+        &["ls", "x", "/a", "--quick"],
         0,
         "- 16 0 a\n",
         "",
@@ -696,7 +696,7 @@ pub const VIEW_CASES: &[Case] = &[
     (
         "clean_ls_snapshot_new",
         Image::Views,
-        &["ls", "x", "/", "--volume=0", "--snapshot", "s4"],
+        &["ls", "x", "/", "--volume=0", "--snapshot", "s4", "--quick"],
         0,
         "- 16 0 new\n",
         "",
@@ -704,7 +704,7 @@ pub const VIEW_CASES: &[Case] = &[
     (
         "answer_not_found",
         Image::Hello,
-        &["ls", "x", "/x"],
+        &["ls", "x", "/x", "--quick"],
         7,
         "",
         NOT_FOUND,
@@ -712,7 +712,7 @@ pub const VIEW_CASES: &[Case] = &[
     (
         "answer_not_directory",
         Image::Hello,
-        &["ls", "x", "/hello.txt/x"],
+        &["ls", "x", "/hello.txt/x", "--quick"],
         7,
         "",
         NOT_DIRECTORY,
@@ -720,7 +720,7 @@ pub const VIEW_CASES: &[Case] = &[
     (
         "answer_no_volume_ls",
         Image::Hello,
-        &["ls", "x", "/", "--volume", "7"],
+        &["ls", "x", "/", "--volume", "7", "--quick"],
         7,
         "",
         NO_VOLUME,
@@ -728,7 +728,7 @@ pub const VIEW_CASES: &[Case] = &[
     (
         "answer_no_snapshot",
         Image::Hello,
-        &["ls", "x", "/", "--snapshot", "x"],
+        &["ls", "x", "/", "--snapshot", "x", "--quick"],
         7,
         "",
         NO_SNAPSHOT,
@@ -736,7 +736,7 @@ pub const VIEW_CASES: &[Case] = &[
     (
         "answer_no_snapshot_prefix",
         Image::Views,
-        &["tree", "x", "/", "--snapshot", "s"],
+        &["tree", "x", "/", "--snapshot", "s", "--quick"],
         7,
         "",
         NO_SNAPSHOT,
@@ -768,7 +768,7 @@ pub const VIEW_CASES: &[Case] = &[
     (
         "clean_tree_below",
         FOLDER,
-        &["tree", "x", "d"],
+        &["tree", "x", "d", "--quick"],
         0,
         "- 17 0 f\n",
         "",
@@ -776,7 +776,7 @@ pub const VIEW_CASES: &[Case] = &[
     (
         "clean_tree_file",
         FOLDER,
-        &["tree", "x", "/d/f"],
+        &["tree", "x", "/d/f", "--quick"],
         0,
         "- 17 0 f\n",
         "",
@@ -792,7 +792,7 @@ pub const VIEW_CASES: &[Case] = &[
     (
         "answer_not_found_tree",
         FOLDER,
-        &["tree", "x", "/f"],
+        &["tree", "x", "/f", "--quick"],
         7,
         "",
         NOT_FOUND,
@@ -808,7 +808,7 @@ pub const VIEW_CASES: &[Case] = &[
     (
         "fault_dir_names_path",
         NAMED_TWICE,
-        &["tree", "x", "/d"],
+        &["tree", "x", "/d", "--quick"],
         1,
         "",
         "apfs: fault: DirNames volume 0 view 1 id 16\n",

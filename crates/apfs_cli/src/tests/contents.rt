@@ -13,13 +13,13 @@ const DATALESS: &str = "apfs: answer: Dataless\n";
 
 const NO_ATTRIBUTE: &str = "apfs: answer: NoAttribute\n";
 
-pub const CAT: &[&str] = &["cat", "x", "/hello.txt"];
+pub const CAT: &[&str] = &["cat", "x", "/hello.txt", "--quick"];
 
-pub const CAT_HOLE: &[&str] = &["cat", "x", "/hole"];
+pub const CAT_HOLE: &[&str] = &["cat", "x", "/hole", "--quick"];
 
-pub const XATTR: &[&str] = &["xattr", "x", "/l"];
+pub const XATTR: &[&str] = &["xattr", "x", "/l", "--quick"];
 
-pub const TARGET: &[&str] = &["xattr", "x", "/l", "com.apple.fs.symlink"];
+pub const TARGET: &[&str] = &["xattr", "x", "/l", "com.apple.fs.symlink", "--quick"];
 
 pub const CONTENT_CASES: &[Case] = &[
     ("words_cat_alone", Image::Hello, &["cat", "x"], 2, "", USAGE),
@@ -52,7 +52,7 @@ pub const CONTENT_CASES: &[Case] = &[
     (
         "clean_cat_empty_snapshot",
         Image::Views,
-        &["cat", "x", "/old", "--snapshot", "s2"],
+        &["cat", "x", "/old", "--snapshot", "s2", "--quick"],
         0,
         "",
         "",
@@ -76,7 +76,7 @@ pub const CONTENT_CASES: &[Case] = &[
     (
         "clean_ls_compressed",
         Image::Flagged(0x20),
-        &["ls", "x", "/"],
+        &["ls", "x", "/", "--quick"],
         0,
         HELLO_LINE,
         "",
@@ -84,7 +84,7 @@ pub const CONTENT_CASES: &[Case] = &[
     (
         "answer_not_found_cat",
         Image::Views,
-        &["cat", "x", "/old"],
+        &["cat", "x", "/old", "--quick"],
         7,
         "",
         NOT_FOUND,
@@ -92,7 +92,7 @@ pub const CONTENT_CASES: &[Case] = &[
     (
         "answer_not_directory_cat",
         Image::Hello,
-        &["cat", "x", "/hello.txt/x"],
+        &["cat", "x", "/hello.txt/x", "--quick"],
         7,
         "",
         NOT_DIRECTORY,
@@ -100,7 +100,7 @@ pub const CONTENT_CASES: &[Case] = &[
     (
         "answer_not_file_root",
         Image::Hello,
-        &["cat", "x", "/"],
+        &["cat", "x", "/", "--quick"],
         7,
         "",
         NOT_FILE,
@@ -108,7 +108,7 @@ pub const CONTENT_CASES: &[Case] = &[
     (
         "answer_not_file_link",
         Image::Link,
-        &["cat", "x", "/l"],
+        &["cat", "x", "/l", "--quick"],
         7,
         "",
         NOT_FILE,
@@ -140,7 +140,7 @@ pub const CONTENT_CASES: &[Case] = &[
     (
         "answer_no_volume_cat",
         Image::Hello,
-        &["cat", "x", "/hello.txt", "--volume", "7"],
+        &["cat", "x", "/hello.txt", "--volume", "7", "--quick"],
         7,
         "",
         NO_VOLUME,
@@ -148,7 +148,7 @@ pub const CONTENT_CASES: &[Case] = &[
     (
         "answer_no_snapshot_xattr",
         Image::Link,
-        &["xattr", "x", "/l", "--snapshot", "x"],
+        &["xattr", "x", "/l", "--snapshot", "x", "--quick"],
         7,
         "",
         NO_SNAPSHOT,
@@ -156,7 +156,7 @@ pub const CONTENT_CASES: &[Case] = &[
     (
         "feature_later_tree_cat",
         Image::SmallChanged(VOLUME, volume::RESERVED, &[7]),
-        &["cat", "x", "/"],
+        &["cat", "x", "/", "--quick"],
         6,
         "",
         "apfs: unsupported: LaterTree block 51\n",
@@ -188,7 +188,7 @@ pub const CONTENT_CASES: &[Case] = &[
     (
         "clean_xattr_none",
         Image::Hello,
-        &["xattr", "x", "/hello.txt"],
+        &["xattr", "x", "/hello.txt", "--quick"],
         0,
         "",
         "",
@@ -197,7 +197,15 @@ pub const CONTENT_CASES: &[Case] = &[
     (
         "clean_xattr_name_before_options",
         Image::Link,
-        &["xattr", "x", "--volume", "0", "/l", "com.apple.fs.symlink"],
+        &[
+            "xattr",
+            "x",
+            "--volume",
+            "0",
+            "/l",
+            "com.apple.fs.symlink",
+            "--quick",
+        ],
         0,
         "hello\0",
         "",
@@ -205,7 +213,7 @@ pub const CONTENT_CASES: &[Case] = &[
     (
         "clean_ls_link",
         Image::Link,
-        &["ls", "x", "/l"],
+        &["ls", "x", "/l", "--quick"],
         0,
         "l 16 0 l\n",
         "",
@@ -213,7 +221,7 @@ pub const CONTENT_CASES: &[Case] = &[
     (
         "answer_no_attribute",
         Image::Link,
-        &["xattr", "x", "/l", "x"],
+        &["xattr", "x", "/l", "x", "--quick"],
         7,
         "",
         NO_ATTRIBUTE,
@@ -221,7 +229,7 @@ pub const CONTENT_CASES: &[Case] = &[
     (
         "answer_no_attribute_prefix",
         Image::Link,
-        &["xattr", "x", "/l", "com.apple.fs.symlin"],
+        &["xattr", "x", "/l", "com.apple.fs.symlin", "--quick"],
         7,
         "",
         NO_ATTRIBUTE,
@@ -229,7 +237,7 @@ pub const CONTENT_CASES: &[Case] = &[
     (
         "answer_not_found_xattr",
         Image::Link,
-        &["xattr", "x", "/m"],
+        &["xattr", "x", "/m", "--quick"],
         7,
         "",
         NOT_FOUND,
@@ -237,7 +245,7 @@ pub const CONTENT_CASES: &[Case] = &[
     (
         "answer_not_found_xattr_name",
         Image::Link,
-        &["xattr", "x", "/m", "com.apple.fs.symlink"],
+        &["xattr", "x", "/m", "com.apple.fs.symlink", "--quick"],
         7,
         "",
         NOT_FOUND,
@@ -253,7 +261,7 @@ pub const CONTENT_CASES: &[Case] = &[
     (
         "clean_ls_attribute_unneeded",
         Image::LinkUnsaid,
-        &["ls", "x", "/"],
+        &["ls", "x", "/", "--quick"],
         0,
         "l 16 0 l\n",
         "",

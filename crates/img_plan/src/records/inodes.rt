@@ -1,7 +1,8 @@
 // Inodes (File-System Objects, j_inode_val_t).
-ghost use Rattle.std.specs.Prelude.{◌≡◌, ◌≤◌, ◌+◌, IfOk, IsNone, length, vec_len};
+ghost use Rattle.std.specs.Prelude.{◌≡◌, ◌≤◌, ◌+◌, IfOk, IsNone, drop, length, replicate, take, vec_len};
+ghost use Rattle.img_plan.specs.Records.{IsInodeFront, IsInodeValue, IsShortKey, IsStreamBytes, IsStreamField};
 
-use super::fields::{ONE_FIELD, put_field};
+use super::fields::{ONE_FIELD, put_field_at};
 use super::keys::{Item, key};
 use apfs_layout::key::{INODE, RECORD_LEN};
 use apfs_layout::record::{
@@ -38,9 +39,11 @@ pub struct InodePlan {
 }
 
 impl InodePlan {
+    ghost use Rattle.img_plan.specs.Records.{directory_of, file_of};
+
     /// A directory without entries.
     pub fn directory(id: u64, parent: u64) -> InodePlan
-        ensures { IsNone result.stream }
+        ensures { result ≡ directory_of id parent }
     {
         InodePlan {
             id,
@@ -55,7 +58,7 @@ impl InodePlan {
 
     /// A regular file with one name and without a stream.
     pub fn file(id: u64, parent: u64) -> InodePlan
-        ensures { IsNone result.stream }
+        ensures { result ≡ file_of id parent }
     {
         InodePlan {
             id,
@@ -69,44 +72,70 @@ impl InodePlan {
     }
 }
 
-// A stream of so many bytes, of which whole blocks of 4,096 bytes are allocated (Data Streams, j_dstream_t).
-fn stream_field(size: u64) -> [u8; 40] {
-    let mut field = [0u8; STREAM_LEN];
-    put_u64(&mut field, STREAM_SIZE, size);
+// A stream of so many bytes, of which whole blocks of 4,096 bytes are allocated (Data Streams, j_dstream_t), in bytes
+// that are zeros.
+fn put_stream(field: &mut [u8], size: u64)
+    requires len { length field.old ≡ 40 }
+    requires zeros { drop 16 field.old ≡ replicate 24 0 }
+    ensures { IsStreamBytes size field.new }
+{
+    put_u64(field, STREAM_SIZE, size);
     put_u64(
-        &mut field,
+        field,
         STREAM_ALLOCATED,
         size.div_ceil(4096).saturating_mul(4096),
     );
-    field
+}
+
+// The extended field of a stream in the bytes after the fixed part of an inode's value.
+fn put_stream_field(value: &mut [u8], size: u64)
+    requires { length value.old ≡ 140 }
+    ensures field { IsStreamField size (drop 92 value.new) }
+    ensures front { take 92 value.new ≡ take 92 value.old }
+{
+    let mut field = [0u8; STREAM_LEN];
+    put_stream(&mut field, size);
+    put_field_at(value, INODE_LEN, FIELD_STREAM, &field);
+}
+
+// The fixed part of an inode's value, in bytes that are zeros.
+fn put_inode(value: &mut [u8], plan: &InodePlan)
+    requires len { 92 ≤ length value.old }
+    requires zeros { take 92 value.old ≡ replicate 92 0 }
+    ensures { IsInodeFront plan.now value.new }
+{
+    put_u64(value, INODE_PARENT, plan.parent);
+    put_u64(value, INODE_PRIVATE_ID, plan.id);
+    put_u64(value, INODE_FLAGS, plan.flags);
+    put_u32(value, INODE_LINKS, plan.children_or_links);
+    put_u32(value, INODE_BSD_FLAGS, plan.bsd_flags);
+    put_u16(value, INODE_MODE, plan.mode);
 }
 
 // The value of an inode with so many bytes after its fixed part.
 fn inode_value(alloc: Global, plan: &InodePlan, more: usize) -> Result<Vec<u8>, AllocError>
     requires { more ≤ 100 }
-    ensures { IfOk result (λ value. vec_len value ≡ 92 + more) }
+    ensures len { IfOk result (λ value. vec_len value ≡ 92 + more) }
+    ensures front { IfOk result (λ value. IsInodeFront plan.now value.items) }
 {
     let mut value = vec![in alloc; 0u8; INODE_LEN + more]?;
-    put_u64(&mut value, INODE_PARENT, plan.parent);
-    put_u64(&mut value, INODE_PRIVATE_ID, plan.id);
-    put_u64(&mut value, INODE_FLAGS, plan.flags);
-    put_u32(&mut value, INODE_LINKS, plan.children_or_links);
-    put_u32(&mut value, INODE_BSD_FLAGS, plan.bsd_flags);
-    put_u16(&mut value, INODE_MODE, plan.mode);
+    put_inode(&mut value, plan);
     Ok(value)
 }
 
 /// The record of an inode. Its private id is its own.
 pub fn inode(alloc: Global, plan: &InodePlan) -> Result<Item, AllocError>
-    ensures key { IfOk result (λ item. vec_len item.0 ≡ 8) }
-    ensures value { IsNone plan.now.stream → IfOk result (λ item. vec_len item.1 ≡ 92) }
+    ensures key { IfOk result (λ item. IsShortKey plan.now.id 3 item.0.items) }
+    ensures value { IfOk result (λ item. IsInodeValue plan.now item.1.items) }
+    ensures key_len { IfOk result (λ item. vec_len item.0 ≡ 8) }
+    ensures value_len { IsNone plan.now.stream → IfOk result (λ item. vec_len item.1 ≡ 92) }
 {
     let key = key(alloc, plan.id, INODE, RECORD_LEN)?;
     match plan.stream {
         None => Ok((key, inode_value(alloc, plan, 0)?)),
         Some(size) => {
             let mut value = inode_value(alloc, plan, ONE_FIELD + STREAM_LEN)?;
-            put_field(&mut value[INODE_LEN..], FIELD_STREAM, &stream_field(size));
+            put_stream_field(&mut value, size);
             Ok((key, value))
         }
     }

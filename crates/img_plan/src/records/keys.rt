@@ -1,15 +1,16 @@
 // The keys of records (File-System Objects, j_key_t), and what an item takes in a node.
-ghost use Rattle.std.specs.Prelude.{◌≡◌, ◌≤◌, ◌<◌, ◌+◌, ◌-◌, ◌%◌, ◌^◌, min, IfOk, length, vec_len};
+ghost use Rattle.std.specs.Prelude.{◌≡◌, ◌≤◌, ◌<◌, ◌+◌, ◌-◌, ◌%◌, ◌^◌, min, IfOk, drop, length, vec_len};
 ghost use Rattle.apfs_model.specs.Bytes as number;
 ghost use Rattle.img_plan.specs.Nodes.{bytes_in_node};
-ghost use Rattle.img_plan.specs.Records.{IsLongKey, id_and_kind, id_of, kind_of, sub_of};
+ghost use Rattle.img_plan.specs.Records.{IsLongKey, IsNamedKey, id_and_kind, id_of, kind_of, rank_of, sub_of};
 
+use super::names::zeros_and_name;
 use apfs_layout::key::{
-    ENTRY, FILE_EXTENT, ID_AND_KIND, KIND_UNIT, LEN_AND_HASH, NAME_LEN, PLAIN_NAME, RECORD_LEN,
-    SECOND, SECOND_LEN, SIBLING_LINK,
+    ENTRY, FILE_EXTENT, ID_AND_KIND, KIND_UNIT, LEN_AND_HASH, NAME_LEN, RECORD_LEN, SECOND,
+    SECOND_LEN, SIBLING_LINK,
 };
 use apfs_layout::node::VARIABLE_ENTRY_LEN;
-use img_edit::{put_bytes, put_u16, put_u64};
+use img_edit::put_u64;
 use obj_base::{u32_at, u64_at};
 use std::alloc::{AllocError, Global};
 
@@ -26,6 +27,16 @@ pub fn node_bytes(item: &Item) -> usize
         .saturating_add(VARIABLE_ENTRY_LEN)
 }
 
+// The start of a key: an id, of which the low 60 bits count, and a kind.
+pub(super) fn put_start(key: &mut [u8], id: u64, kind: u8)
+    requires { 8 ≤ length key.old }
+    ensures start { number.u64_at key.new 0 ≡ id_and_kind id (kind % 16) }
+    ensures same { drop 8 key.new ≡ drop 8 key.old }
+{
+    let word = id % KIND_UNIT + u64::from(kind % 16) * KIND_UNIT;
+    put_u64(key, ID_AND_KIND, word);
+}
+
 // A key of so many bytes that starts with an id, of which the low 60 bits count, and a kind.
 pub(crate) fn key(alloc: Global, id: u64, kind: u8, len: usize) -> Result<Vec<u8>, AllocError>
     requires { 8 ≤ len }
@@ -33,8 +44,7 @@ pub(crate) fn key(alloc: Global, id: u64, kind: u8, len: usize) -> Result<Vec<u8
     ensures start { IfOk result (λ key. number.u64_at key.items 0 ≡ id_and_kind id (kind % 16)) }
 {
     let mut key = vec![in alloc; 0u8; len]?;
-    let word = id % KIND_UNIT + u64::from(kind % 16) * KIND_UNIT;
-    put_u64(&mut key, ID_AND_KIND, word);
+    put_start(&mut key, id, kind);
     Ok(key)
 }
 
@@ -64,17 +74,19 @@ pub(crate) fn key_named(
     name: &[u8],
 ) -> Result<Vec<u8>, AllocError>
     requires { length name.now ≤ 1022 }
-    ensures { IfOk result (λ key. vec_len key ≡ 11 + length name.now) }
+    ensures len { IfOk result (λ key. vec_len key ≡ 11 + length name.now) }
+    ensures named { IfOk result (λ key. IsNamedKey id (kind % 16) name.now key.items) }
 {
-    let mut key = key(alloc, id, kind, PLAIN_NAME + name.len() + 1)?;
-    put_u16(&mut key, NAME_LEN, name.len() as u16 + 1);
-    put_bytes(&mut key, PLAIN_NAME, name);
+    let mut key = zeros_and_name(alloc, NAME_LEN, name)?;
+    put_start(&mut key, id, kind);
     Ok(key)
 }
 
 /// Where a record of a file-system tree stands: its id, its kind, and the hash of an entry's name, the id of a
 /// sibling link or the logical address of an extent. A key that is too short for it stands first.
+#[tactic(auto, unfolding(crate::specs::Records::rank_of))]
 pub fn rank(key: &[u8]) -> (u64, u64, u64)
+    ensures value { result ≡ rank_of key.now }
     ensures short { length key.now < 8 → result ≡ (0, 0, 0) }
     ensures id { 8 ≤ length key.now → result.0 ≡ id_of key.now }
     ensures kind { 8 ≤ length key.now → result.1 ≡ kind_of key.now }

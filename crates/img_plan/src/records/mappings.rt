@@ -1,9 +1,32 @@
 // Records of object maps (Object Maps, omap_key_t, omap_val_t and omap_snapshot_t), and of nodes above the leaves.
+ghost use Rattle.std.specs.Prelude.{◌≡◌, IfOk, length, replicate};
+ghost use Rattle.apfs_model.specs.Bytes as number;
+ghost use Rattle.img_plan.specs.Records.{IsMapValue, IsNumberKey, IsNumberValue, IsPairKey};
+
 use super::keys::Item;
 use apfs_layout::node::CHILD_LEN;
 use apfs_layout::{key, value};
 use img_edit::{put_u32, put_u64};
 use std::alloc::{AllocError, Global};
+
+// A key of an object and a transaction.
+fn put_map_key(map_key: &mut [u8], oid: u64, xid: u64)
+    requires { length map_key.old ≡ 16 }
+    ensures { IsPairKey oid xid map_key.new }
+{
+    put_u64(map_key, key::OMAP_OID, oid);
+    put_u64(map_key, key::OMAP_XID, xid);
+}
+
+// The value of a mapping, in bytes that are zeros.
+fn put_map_value(map_value: &mut [u8], bytes: u32, block: u64)
+    requires len { length map_value.old ≡ 16 }
+    requires flags { number.u32_at map_value.old 0 ≡ 0 }
+    ensures { IsMapValue bytes block map_value.new }
+{
+    put_u32(map_value, value::OMAP_SIZE, bytes);
+    put_u64(map_value, value::OMAP_PADDR, block);
+}
 
 /// The record by which an object map finds an object of so many bytes, at a transaction, in a block.
 pub fn map_record(
@@ -12,25 +35,32 @@ pub fn map_record(
     xid: u64,
     bytes: u32,
     block: u64,
-) -> Result<Item, AllocError> {
+) -> Result<Item, AllocError>
+    ensures key { IfOk result (λ item. IsPairKey oid xid item.0.items) }
+    ensures value { IfOk result (λ item. IsMapValue bytes block item.1.items) }
+{
     let mut map_key = vec![in alloc; 0u8; key::OMAP_LEN]?;
-    put_u64(&mut map_key, key::OMAP_OID, oid);
-    put_u64(&mut map_key, key::OMAP_XID, xid);
+    put_map_key(&mut map_key, oid, xid);
     let mut map_value = vec![in alloc; 0u8; value::OMAP_LEN]?;
-    put_u32(&mut map_value, value::OMAP_SIZE, bytes);
-    put_u64(&mut map_value, value::OMAP_PADDR, block);
+    put_map_value(&mut map_value, bytes, block);
     Ok((map_key, map_value))
 }
 
 /// The record by which an object map tells of a snapshot's transaction.
-pub fn map_snapshot(alloc: Global, xid: u64) -> Result<Item, AllocError> {
+pub fn map_snapshot(alloc: Global, xid: u64) -> Result<Item, AllocError>
+    ensures key { IfOk result (λ item. IsNumberKey xid item.0.items) }
+    ensures value { IfOk result (λ item. item.1.items ≡ replicate 16 0) }
+{
     let mut snapshot = vec![in alloc; 0u8; key::MAP_SNAPSHOT_LEN]?;
     put_u64(&mut snapshot, key::MAP_SNAPSHOT_XID, xid);
     Ok((snapshot, vec![in alloc; 0u8; value::MAP_SNAPSHOT_LEN]?))
 }
 
 /// The item by which a node names its child.
-pub fn child(alloc: Global, first_key: &[u8], oid: u64) -> Result<Item, AllocError> {
+pub fn child(alloc: Global, first_key: &[u8], oid: u64) -> Result<Item, AllocError>
+    ensures key { IfOk result (λ item. item.0.items ≡ first_key.now) }
+    ensures value { IfOk result (λ item. IsNumberValue oid item.1.items) }
+{
     let copy = first_key.to_vec(alloc)?;
     let mut child = vec![in alloc; 0u8; CHILD_LEN]?;
     put_u64(&mut child, 0, oid);

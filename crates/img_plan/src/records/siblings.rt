@@ -1,11 +1,12 @@
 // Sibling links and maps (Siblings, j_sibling_val_t and j_sibling_map_val_t).
 ghost use Rattle.std.specs.Prelude.{◌≤◌, IfOk, length};
-ghost use Rattle.img_plan.specs.Records.{IsNumberValue, IsShortKey};
+ghost use Rattle.img_plan.specs.Records.{IsLinkValue, IsLongKey, IsNumberValue, IsShortKey};
 
 use super::keys::{Item, key, key_with};
+use super::names::zeros_and_name;
 use apfs_layout::key::{RECORD_LEN, SIBLING_LINK, SIBLING_MAP};
-use apfs_layout::record::{LINK_NAME, LINK_NAME_LEN, LINK_PARENT, MAP_FILE, MAP_LEN};
-use img_edit::{put_bytes, put_u16, put_u64};
+use apfs_layout::record::{LINK_NAME_LEN, LINK_PARENT, MAP_FILE, MAP_LEN};
+use img_edit::put_u64;
 use std::alloc::{AllocError, Global};
 
 /// The record of one name of a file, by its sibling id: the directory that has the entry, and the name.
@@ -17,12 +18,12 @@ pub fn sibling_link(
     name: &[u8],
 ) -> Result<Item, AllocError>
     requires { length name.now ≤ 1022 }
+    ensures key { IfOk result (λ item. IsLongKey file 5 sibling item.0.items) }
+    ensures value { IfOk result (λ item. IsLinkValue directory name.now item.1.items) }
 {
     let key = key_with(alloc, file, SIBLING_LINK, sibling)?;
-    let mut value = vec![in alloc; 0u8; LINK_NAME + name.len() + 1]?;
+    let mut value = zeros_and_name(alloc, LINK_NAME_LEN, name)?;
     put_u64(&mut value, LINK_PARENT, directory);
-    put_u16(&mut value, LINK_NAME_LEN, name.len() as u16 + 1);
-    put_bytes(&mut value, LINK_NAME, name);
     Ok((key, value))
 }
 

@@ -1,12 +1,12 @@
 -- What is said of the cache is said of the source in it.
-use Rattle.std.proofs.Common.{◌≡◌, ◌∙◌, ◌≤◌, ap}
+use Rattle.std.proofs.Common.{◌≡◌, ◌∙◌, ◌≤◌, [], ap, inl, refl}
 use Rattle.std.specs.Prelude.{Some}
 use Rattle.apfs_model.specs.Counts.{Rose}
 use Rattle.blk_cache.specs.declared.cached.Cached.{Cached}
 use Rattle.apfs_cli.specs.Words.{said}
 use Rattle.apfs_cli.specs.Written.{sunk}
 use Rattle.apfs_cli.proofs.Endings.{ended_same}
-use Rattle.apfs_cli.proofs.Puts.{rose_later}
+use Rattle.apfs_cli.proofs.Puts.{rose_later, wrote_nothing}
 use Rattle.apfs_cli.proofs.over_cache.on_cache.Goals as goal
 
 pub returns-in-Ok-new-clause-answer : goal.returns-in-Ok-new-clause-answer
@@ -24,3 +24,6 @@ returns-in-Ok-new-clause-answer g c =
     (λ (rose : Rose (faults c.in-Ok-new.cache.inner) (faults c.on_image-ended.new.src.inner)).
     rose_later (faults c.args.src) (faults c.in-Ok-new.cache.inner) (faults c.into_inner.result) earlier (rw back rose))
     c.on_image-ended.ensures.answer
+
+pub returns-in-Err-clause-answer : goal.returns-in-Err-clause-answer
+returns-in-Err-clause-answer g c = ([], (c.in-Err.ensures.cause, inl refl), wrote_nothing (g.W.Sink.contents c.args.out.now))

@@ -3,7 +3,7 @@ use Rattle.std.proofs.Common.{map}
 use Rattle.std.specs.String.{string_bytes}
 use Rattle.apfs_cli.specs.Words.{command_of}
 use Rattle.apfs_cli.specs.Written.{sunk}
-use Rattle.apfs_cli.proofs.Statuses.{text_row, whole_row, fault_row, wrong_words_row, usage_row, read_failed_row, write_failed_row, out_of_memory_row, feature_row, answered_row, always_answered_row, no_image_row, absent_row}
+use Rattle.apfs_cli.proofs.Statuses.{text_row, whole_row, fault_row, wrong_words_row, usage_row, read_failed_row, write_failed_row, out_of_memory_row, feature_row, answered_row, always_answered_row, clean_row, flawed_row, completed_row, no_image_row, absent_row}
 use Rattle.apfs_cli.proofs.run.run.Goals as goal
 
 pub returns-clause-text : goal.returns-clause-text
@@ -59,6 +59,21 @@ returns-clause-answered g c =
 pub returns-clause-always_answered : goal.returns-clause-always_answered
 returns-clause-always_answered g c =
     always_answered_row g.S.BlockSource.bytes g.S.BlockSource.faults (command_of (map string_bytes c.args.words.now)) c.args.image.now c.end.new.image c.end.result
+    (sunk g.W.Sink.contents g.W.Sink.faults c.args.out.now c.end.new.out) (sunk g.E.Sink.contents g.E.Sink.faults c.args.err.now c.end.new.err) c.end.ensures.answer
+
+pub returns-clause-clean : goal.returns-clause-clean
+returns-clause-clean g c =
+    clean_row g.S.BlockSource.bytes g.S.BlockSource.faults (command_of (map string_bytes c.args.words.now)) c.args.image.now c.end.new.image c.end.result
+    (sunk g.W.Sink.contents g.W.Sink.faults c.args.out.now c.end.new.out) (sunk g.E.Sink.contents g.E.Sink.faults c.args.err.now c.end.new.err) c.end.ensures.answer
+
+pub returns-clause-flawed : goal.returns-clause-flawed
+returns-clause-flawed g c =
+    flawed_row g.S.BlockSource.bytes g.S.BlockSource.faults (command_of (map string_bytes c.args.words.now)) c.args.image.now c.end.new.image c.end.result
+    (sunk g.W.Sink.contents g.W.Sink.faults c.args.out.now c.end.new.out) (sunk g.E.Sink.contents g.E.Sink.faults c.args.err.now c.end.new.err) c.end.ensures.answer
+
+pub returns-clause-completed : goal.returns-clause-completed
+returns-clause-completed g c =
+    completed_row g.S.BlockSource.bytes g.S.BlockSource.faults (command_of (map string_bytes c.args.words.now)) c.args.image.now c.end.new.image c.end.result
     (sunk g.W.Sink.contents g.W.Sink.faults c.args.out.now c.end.new.out) (sunk g.E.Sink.contents g.E.Sink.faults c.args.err.now c.end.new.err) c.end.ensures.answer
 
 pub returns-clause-no_image : goal.returns-clause-no_image

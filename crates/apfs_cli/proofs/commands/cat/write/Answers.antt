@@ -5,6 +5,7 @@ use Rattle.nx_ring.specs.Checkpoint.{Seen}
 use Rattle.vol_view.specs.Volumes.{Loaded}
 use Rattle.vol_view.specs.declared.volume.View.{View}
 use Rattle.apfs_cli.specs.Commands.Cat as command
+use Rattle.apfs_cli.specs.declared.words.Checks.TheVariants.{Quick}
 use Rattle.apfs_cli.specs.Words.{Cat}
 use Rattle.apfs_cli.specs.Written.{sunk}
 use Rattle.apfs_cli.proofs.AtView.{IsAtView, way_stopped}
@@ -15,7 +16,7 @@ use Rattle.apfs_cli.proofs.commands.cat.write.Goals as goal
 pub returns-in-Err-clause-answer : goal.returns-in-Err-clause-answer
 returns-in-Err-clause-answer g c =
     let target : AskedTarget = target_asked c.args.target in
-    way_stopped g.S.BlockSource.bytes g.S.BlockSource.faults (Cat target) (command.wanted target.path) (command.told target.path) target c.args.src.now c.reach_view.new.src c.in-Err.stopped
+    way_stopped g.S.BlockSource.bytes g.S.BlockSource.faults (Cat Quick target) (command.wanted target.path) (command.told target.path) target c.args.src.now c.reach_view.new.src c.in-Err.stopped
     (g.W.Sink.contents c.args.out.now) (g.W.Sink.faults c.args.out.now) (cat_over target) c.in-Err.ensures.way c.in-Err.ensures.looking c.in-Err.ensures.cause
 
 pub returns-in-Ok-cat-clause-answer : goal.returns-in-Ok-cat-clause-answer
@@ -27,7 +28,7 @@ returns-in-Ok-cat-clause-answer g c =
     let site : Site = c.site-site.result in
     let at : IsAtView g.S.BlockSource.bytes g.S.BlockSource.faults target c.args.src.now c.reach_view.new.src seen volume view site =
     record { site_is = c.site-site.ensures; meant = c.in-Ok.ensures.clear; same_bytes = c.in-Ok.ensures.kept.same_bytes; later = c.in-Ok.ensures.kept.later } in
-    contents_written g.S.BlockSource.bytes g.S.BlockSource.faults (Cat target) (command.wanted target.path) (command.told target.path) target c.args.src.now c.reach_view.new.src c.cat.new.src
+    contents_written g.S.BlockSource.bytes g.S.BlockSource.faults (Cat Quick target) (command.wanted target.path) (command.told target.path) target c.args.src.now c.reach_view.new.src c.cat.new.src
     seen volume view site (sunk g.W.Sink.contents g.W.Sink.faults c.args.out.now c.cat.new.out) (cat_over target) at c.in-Ok-cat.ensures.text
 
 pub returns-clause-answer : goal.returns-clause-answer
@@ -40,6 +41,6 @@ returns-clause-answer g c =
     let at : IsAtView g.S.BlockSource.bytes g.S.BlockSource.faults target c.args.src.now c.reach_view.new.src seen volume view site =
     record { site_is = c.site-site.ensures; meant = c.in-Ok.ensures.clear; same_bytes = c.in-Ok.ensures.kept.same_bytes; later = c.in-Ok.ensures.kept.later } in
     rw c.stopped_on_write.ensures
-    (writing_stopped g.S.BlockSource.bytes g.S.BlockSource.faults (Cat target) (command.wanted target.path) (command.told target.path) target c.args.src.now c.reach_view.new.src c.cat.new.src
+    (writing_stopped g.S.BlockSource.bytes g.S.BlockSource.faults (Cat Quick target) (command.wanted target.path) (command.told target.path) target c.args.src.now c.reach_view.new.src c.cat.new.src
     seen volume view site c.in-Err-cat.stop (sunk g.W.Sink.contents g.W.Sink.faults c.args.out.now c.cat.new.out) (cat_over target) at
     c.in-Err-cat.ensures.text c.in-Err-cat.ensures.untouched c.in-Err-cat.ensures.exact c.in-Err-cat.ensures.present (λ facts fault. tt) c.in-Err-cat.ensures.read_cause c.in-Err-cat.ensures.write_cause)

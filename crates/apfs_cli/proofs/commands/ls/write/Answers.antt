@@ -9,6 +9,7 @@ use Rattle.path_walk.specs.Listing.{listing}
 use Rattle.path_walk.specs.Texts.{ls_text}
 use Rattle.path_walk.specs.declared.target.Target.{Target}
 use Rattle.apfs_cli.specs.Commands.Ls as command
+use Rattle.apfs_cli.specs.declared.words.Checks.TheVariants.{Quick}
 use Rattle.apfs_cli.specs.Words.{Ls}
 use Rattle.apfs_cli.specs.Written.{sunk}
 use Rattle.apfs_cli.proofs.AtView.{IsAtView, way_stopped, list_put, list_stopped}
@@ -18,7 +19,7 @@ use Rattle.apfs_cli.proofs.commands.ls.write.Goals as goal
 pub returns-in-Err-clause-answer : goal.returns-in-Err-clause-answer
 returns-in-Err-clause-answer g c =
     let target : AskedTarget = target_asked c.args.target in
-    way_stopped g.S.BlockSource.bytes g.S.BlockSource.faults (Ls target) (command.wanted target.path) (command.told target.path) target c.args.src.now c.reach_view.new.src c.in-Err.stopped
+    way_stopped g.S.BlockSource.bytes g.S.BlockSource.faults (Ls Quick target) (command.wanted target.path) (command.told target.path) target c.args.src.now c.reach_view.new.src c.in-Err.stopped
     (g.W.Sink.contents c.args.out.now) (g.W.Sink.faults c.args.out.now) (ls_over target) c.in-Err.ensures.way c.in-Err.ensures.looking c.in-Err.ensures.cause
 
 pub returns-in-Ok-list-clause-answer : goal.returns-in-Ok-list-clause-answer
@@ -30,7 +31,7 @@ returns-in-Ok-list-clause-answer g c =
     let site : Site = c.site-site.result in
     let at : IsAtView g.S.BlockSource.bytes g.S.BlockSource.faults target c.args.src.now c.reach_view.new.src seen volume view site =
     record { site_is = c.site-site.ensures; meant = c.in-Ok.ensures.clear; same_bytes = c.in-Ok.ensures.kept.same_bytes; later = c.in-Ok.ensures.kept.later } in
-    list_put g.S.BlockSource.bytes g.S.BlockSource.faults (Ls target) (λ facts. listing facts target.path) ls_text (command.told target.path) target c.args.src.now c.reach_view.new.src c.list.new.src
+    list_put g.S.BlockSource.bytes g.S.BlockSource.faults (Ls Quick target) (λ facts. listing facts target.path) ls_text (command.told target.path) target c.args.src.now c.reach_view.new.src c.list.new.src
     seen volume view site c.in-Ok-list.items.items c.put_lines.result (sunk g.W.Sink.contents g.W.Sink.faults c.args.out.now c.put_lines.new.out) (ls_over target) at c.in-Ok-list.ensures.exact
     (rw c.as_slice.ensures.value at c.put_lines.ensures)
 
@@ -44,6 +45,6 @@ returns-clause-answer g c =
     let at : IsAtView g.S.BlockSource.bytes g.S.BlockSource.faults target c.args.src.now c.reach_view.new.src seen volume view site =
     record { site_is = c.site-site.ensures; meant = c.in-Ok.ensures.clear; same_bytes = c.in-Ok.ensures.kept.same_bytes; later = c.in-Ok.ensures.kept.later } in
     rw c.stopped_on_path.ensures
-    (list_stopped g.S.BlockSource.bytes g.S.BlockSource.faults (Ls target) (λ facts. listing facts target.path) ls_text (command.told target.path) target c.args.src.now c.reach_view.new.src c.list.new.src
+    (list_stopped g.S.BlockSource.bytes g.S.BlockSource.faults (Ls Quick target) (λ facts. listing facts target.path) ls_text (command.told target.path) target c.args.src.now c.reach_view.new.src c.list.new.src
     seen volume view site (λ (rows : Vec Target Global). rows.items) c.in-Err-list.stop (g.W.Sink.contents c.args.out.now) (g.W.Sink.faults c.args.out.now) (ls_over target) at
     c.in-Err-list.ensures.exact c.in-Err-list.ensures.present (λ image given fault e. tt) c.in-Err-list.ensures.cause)

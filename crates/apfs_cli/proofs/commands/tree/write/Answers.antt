@@ -11,6 +11,7 @@ use Rattle.path_walk.specs.Texts.{tree_text}
 use Rattle.path_walk.specs.declared.stop.PathStop.{PathStop}
 use Rattle.path_walk.specs.declared.target.Target.{Target}
 use Rattle.apfs_cli.specs.Commands.Tree as command
+use Rattle.apfs_cli.specs.declared.words.Checks.TheVariants.{Quick}
 use Rattle.apfs_cli.specs.Words.{Tree}
 use Rattle.apfs_cli.specs.Written.{sunk}
 use Rattle.apfs_cli.proofs.AtView.{IsAtView, way_stopped, list_put, list_stopped}
@@ -20,7 +21,7 @@ use Rattle.apfs_cli.proofs.commands.tree.write.Goals as goal
 pub returns-in-Err-clause-answer : goal.returns-in-Err-clause-answer
 returns-in-Err-clause-answer g c =
     let target : AskedTarget = target_asked c.args.target in
-    way_stopped g.S.BlockSource.bytes g.S.BlockSource.faults (Tree target) (command.wanted target.path) (command.told target.path) target c.args.src.now c.reach_view.new.src c.in-Err.stopped
+    way_stopped g.S.BlockSource.bytes g.S.BlockSource.faults (Tree Quick target) (command.wanted target.path) (command.told target.path) target c.args.src.now c.reach_view.new.src c.in-Err.stopped
     (g.W.Sink.contents c.args.out.now) (g.W.Sink.faults c.args.out.now) (tree_over target) c.in-Err.ensures.way c.in-Err.ensures.looking c.in-Err.ensures.cause
 
 pub returns-in-Ok-tree-clause-answer : goal.returns-in-Ok-tree-clause-answer
@@ -32,7 +33,7 @@ returns-in-Ok-tree-clause-answer g c =
     let site : Site = c.site-site.result in
     let at : IsAtView g.S.BlockSource.bytes g.S.BlockSource.faults target c.args.src.now c.reach_view.new.src seen volume view site =
     record { site_is = c.site-site.ensures; meant = c.in-Ok.ensures.clear; same_bytes = c.in-Ok.ensures.kept.same_bytes; later = c.in-Ok.ensures.kept.later } in
-    list_put g.S.BlockSource.bytes g.S.BlockSource.faults (Tree target) (λ facts. tree facts target.path) tree_text (command.told target.path) target c.args.src.now c.reach_view.new.src c.tree.new.src
+    list_put g.S.BlockSource.bytes g.S.BlockSource.faults (Tree Quick target) (λ facts. tree facts target.path) tree_text (command.told target.path) target c.args.src.now c.reach_view.new.src c.tree.new.src
     seen volume view site c.in-Ok-tree.items.items c.put_lines.result (sunk g.W.Sink.contents g.W.Sink.faults c.args.out.now c.put_lines.new.out) (tree_over target) at c.in-Ok-tree.ensures.exact
     (rw c.as_slice.ensures.value at c.put_lines.ensures)
 
@@ -46,6 +47,6 @@ returns-clause-answer g c =
     let at : IsAtView g.S.BlockSource.bytes g.S.BlockSource.faults target c.args.src.now c.reach_view.new.src seen volume view site =
     record { site_is = c.site-site.ensures; meant = c.in-Ok.ensures.clear; same_bytes = c.in-Ok.ensures.kept.same_bytes; later = c.in-Ok.ensures.kept.later } in
     rw c.stopped_on_path.ensures
-    (list_stopped g.S.BlockSource.bytes g.S.BlockSource.faults (Tree target) (λ facts. tree facts target.path) tree_text (command.told target.path) target c.args.src.now c.reach_view.new.src c.tree.new.src
+    (list_stopped g.S.BlockSource.bytes g.S.BlockSource.faults (Tree Quick target) (λ facts. tree facts target.path) tree_text (command.told target.path) target c.args.src.now c.reach_view.new.src c.tree.new.src
     seen volume view site (λ (rows : Vec (List ℕ × Target) Global). rows.items) c.in-Err-tree.stop (g.W.Sink.contents c.args.out.now) (g.W.Sink.faults c.args.out.now) (tree_over target) at
     c.in-Err-tree.ensures.exact c.in-Err-tree.ensures.present (λ image given fault e. c.in-Err-tree.ensures.told image given fault (ap (λ (s : Stop PathStop). Err s) e)) c.in-Err-tree.ensures.cause)

@@ -8,6 +8,7 @@ use Rattle.vol_view.specs.declared.volume.View.{View}
 use Rattle.path_read.specs.Attributes.{attributes}
 use Rattle.path_read.specs.Texts.{xattr_text}
 use Rattle.apfs_cli.specs.Commands.Xattr as command
+use Rattle.apfs_cli.specs.declared.words.Checks.TheVariants.{Quick}
 use Rattle.apfs_cli.specs.Words.{Xattr}
 use Rattle.apfs_cli.specs.Written.{sunk}
 use Rattle.apfs_cli.proofs.AtView.{IsAtView, way_stopped, list_put, list_stopped}
@@ -17,7 +18,7 @@ use Rattle.apfs_cli.proofs.commands.xattr.write_all.Goals as goal
 pub returns-in-Err-clause-answer : goal.returns-in-Err-clause-answer
 returns-in-Err-clause-answer g c =
     let target : AskedTarget = target_asked c.args.target in
-    way_stopped g.S.BlockSource.bytes g.S.BlockSource.faults (Xattr target None) (command.wanted target.path None) (command.told target.path) target c.args.src.now c.reach_view.new.src c.in-Err.stopped
+    way_stopped g.S.BlockSource.bytes g.S.BlockSource.faults (Xattr Quick target None) (command.wanted target.path None) (command.told target.path) target c.args.src.now c.reach_view.new.src c.in-Err.stopped
     (g.W.Sink.contents c.args.out.now) (g.W.Sink.faults c.args.out.now) (xattr_over target None) c.in-Err.ensures.way c.in-Err.ensures.looking c.in-Err.ensures.cause
 
 pub returns-in-Ok-attrs-clause-answer : goal.returns-in-Ok-attrs-clause-answer
@@ -29,7 +30,7 @@ returns-in-Ok-attrs-clause-answer g c =
     let site : Site = c.site-site.result in
     let at : IsAtView g.S.BlockSource.bytes g.S.BlockSource.faults target c.args.src.now c.reach_view.new.src seen volume view site =
     record { site_is = c.site-site.ensures; meant = c.in-Ok.ensures.clear; same_bytes = c.in-Ok.ensures.kept.same_bytes; later = c.in-Ok.ensures.kept.later } in
-    list_put g.S.BlockSource.bytes g.S.BlockSource.faults (Xattr target None) (λ facts. attributes facts target.path) xattr_text (command.told target.path) target c.args.src.now c.reach_view.new.src c.attrs.new.src
+    list_put g.S.BlockSource.bytes g.S.BlockSource.faults (Xattr Quick target None) (λ facts. attributes facts target.path) xattr_text (command.told target.path) target c.args.src.now c.reach_view.new.src c.attrs.new.src
     seen volume view site c.in-Ok-attrs.items.items c.put_lines.result (sunk g.W.Sink.contents g.W.Sink.faults c.args.out.now c.put_lines.new.out) (xattr_over target None) at c.in-Ok-attrs.ensures.exact
     (rw c.as_slice.ensures.value at c.put_lines.ensures)
 
@@ -43,6 +44,6 @@ returns-clause-answer g c =
     let at : IsAtView g.S.BlockSource.bytes g.S.BlockSource.faults target c.args.src.now c.reach_view.new.src seen volume view site =
     record { site_is = c.site-site.ensures; meant = c.in-Ok.ensures.clear; same_bytes = c.in-Ok.ensures.kept.same_bytes; later = c.in-Ok.ensures.kept.later } in
     rw c.stopped_on_path.ensures
-    (list_stopped g.S.BlockSource.bytes g.S.BlockSource.faults (Xattr target None) (λ facts. attributes facts target.path) xattr_text (command.told target.path) target c.args.src.now c.reach_view.new.src c.attrs.new.src
+    (list_stopped g.S.BlockSource.bytes g.S.BlockSource.faults (Xattr Quick target None) (λ facts. attributes facts target.path) xattr_text (command.told target.path) target c.args.src.now c.reach_view.new.src c.attrs.new.src
     seen volume view site (λ (rows : Vec (List ℕ × ℕ) Global). rows.items) c.in-Err-attrs.stop (g.W.Sink.contents c.args.out.now) (g.W.Sink.faults c.args.out.now) (xattr_over target None) at
     c.in-Err-attrs.ensures.exact c.in-Err-attrs.ensures.present (λ image given fault e. tt) c.in-Err-attrs.ensures.cause)

@@ -6,6 +6,7 @@ use Rattle.nx_ring.specs.Checkpoint.{Seen}
 use Rattle.vol_view.specs.Volumes.{Loaded}
 use Rattle.vol_view.specs.declared.volume.View.{View}
 use Rattle.apfs_cli.specs.Commands.Xattr as command
+use Rattle.apfs_cli.specs.declared.words.Checks.TheVariants.{Quick}
 use Rattle.apfs_cli.specs.Words.{Xattr}
 use Rattle.apfs_cli.specs.Written.{sunk}
 use Rattle.apfs_cli.proofs.AtView.{IsAtView, way_stopped}
@@ -17,7 +18,7 @@ pub returns-in-Err-clause-answer : goal.returns-in-Err-clause-answer
 returns-in-Err-clause-answer g c =
     let target : AskedTarget = target_asked c.args.target in
     let name : List ℕ = c.args.name.now in
-    way_stopped g.S.BlockSource.bytes g.S.BlockSource.faults (Xattr target (Some name)) (command.wanted target.path (Some name)) (command.told target.path) target c.args.src.now c.reach_view.new.src c.in-Err.stopped
+    way_stopped g.S.BlockSource.bytes g.S.BlockSource.faults (Xattr Quick target (Some name)) (command.wanted target.path (Some name)) (command.told target.path) target c.args.src.now c.reach_view.new.src c.in-Err.stopped
     (g.W.Sink.contents c.args.out.now) (g.W.Sink.faults c.args.out.now) (xattr_over target (Some name)) c.in-Err.ensures.way c.in-Err.ensures.looking c.in-Err.ensures.cause
 
 pub returns-in-Ok-attr-clause-answer : goal.returns-in-Ok-attr-clause-answer
@@ -30,7 +31,7 @@ returns-in-Ok-attr-clause-answer g c =
     let site : Site = c.site-site.result in
     let at : IsAtView g.S.BlockSource.bytes g.S.BlockSource.faults target c.args.src.now c.reach_view.new.src seen volume view site =
     record { site_is = c.site-site.ensures; meant = c.in-Ok.ensures.clear; same_bytes = c.in-Ok.ensures.kept.same_bytes; later = c.in-Ok.ensures.kept.later } in
-    contents_written g.S.BlockSource.bytes g.S.BlockSource.faults (Xattr target (Some name)) (command.wanted target.path (Some name)) (command.told target.path) target c.args.src.now c.reach_view.new.src c.attr.new.src
+    contents_written g.S.BlockSource.bytes g.S.BlockSource.faults (Xattr Quick target (Some name)) (command.wanted target.path (Some name)) (command.told target.path) target c.args.src.now c.reach_view.new.src c.attr.new.src
     seen volume view site (sunk g.W.Sink.contents g.W.Sink.faults c.args.out.now c.attr.new.out) (xattr_over target (Some name)) at c.in-Ok-attr.ensures.text
 
 pub returns-clause-answer : goal.returns-clause-answer
@@ -44,6 +45,6 @@ returns-clause-answer g c =
     let at : IsAtView g.S.BlockSource.bytes g.S.BlockSource.faults target c.args.src.now c.reach_view.new.src seen volume view site =
     record { site_is = c.site-site.ensures; meant = c.in-Ok.ensures.clear; same_bytes = c.in-Ok.ensures.kept.same_bytes; later = c.in-Ok.ensures.kept.later } in
     rw c.stopped_on_write.ensures
-    (writing_stopped g.S.BlockSource.bytes g.S.BlockSource.faults (Xattr target (Some name)) (command.wanted target.path (Some name)) (command.told target.path) target c.args.src.now c.reach_view.new.src c.attr.new.src
+    (writing_stopped g.S.BlockSource.bytes g.S.BlockSource.faults (Xattr Quick target (Some name)) (command.wanted target.path (Some name)) (command.told target.path) target c.args.src.now c.reach_view.new.src c.attr.new.src
     seen volume view site c.in-Err-attr.stop (sunk g.W.Sink.contents g.W.Sink.faults c.args.out.now c.attr.new.out) (xattr_over target (Some name)) at
     c.in-Err-attr.ensures.text c.in-Err-attr.ensures.untouched c.in-Err-attr.ensures.exact c.in-Err-attr.ensures.present (λ facts fault. tt) c.in-Err-attr.ensures.read_cause c.in-Err-attr.ensures.write_cause)

@@ -1,0 +1,6 @@
+//! Made containers, changed at a few places: what the tests of whole containers start from. For tests alone.
+#![tactic(auto)]
+
+mod images;
+
+pub use images::{Base, Change, Ranges, Record, SMALL, grouped, image};

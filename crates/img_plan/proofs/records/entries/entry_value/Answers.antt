@@ -1,0 +1,9 @@
+use Rattle.std.proofs.Common.{◌+◌, ap, ◌∙◌}
+use Rattle.apfs_model.specs.Bytes.{u64_at, number_at}
+use Rattle.img_plan.proofs.Kept.{number_in_zeros}
+use Rattle.img_plan.proofs.records.entries.entry_value.Goals as goal
+
+pub put_entry-requires-clause-added : goal.put_entry-requires-clause-added
+unfolding u64_at
+put_entry-requires-clause-added c =
+    ap (λ l. number_at 8 l 8) (c.deref_mut.ensures.value ∙ c.in_ok-value.ensures.items_if_clones_equal (λ y same. same)) ∙ number_in_zeros 8 (18 + c.args.more) 8

@@ -1,0 +1,61 @@
+-- What is told of the space and of the pool's bits is there, said of what is reached.
+use Rattle.std.proofs.Common.{refl, ◌≡◌, ℕ, List, ◌∙◌, ap, sym, subst}
+use Rattle.obj_base.specs.Stops.{Tells, NoFeature, raised}
+use Rattle.obj_base.specs.declared.stop.Stop.{Stop}
+use Rattle.obj_base.specs.declared.stop.Stop.TheVariants.{Found, Unsupported, ReadFault, NoMemory}
+use Rattle.nx_ring.specs.Checkpoint.{Seen}
+use Rattle.space_map.specs.Stops.{HasManager, IsSpaceFault, IsSpaceFeature}
+use Rattle.space_map.specs.declared.fault.SpaceFault.{SpaceFault}
+use Rattle.space_map.specs.declared.fault.SpaceFault.TheVariants as spaces
+use Rattle.space_pool.specs.Stops.{IsPoolFault}
+use Rattle.space_pool.specs.declared.fault.PoolFault.{PoolFault}
+use Rattle.space_pool.specs.declared.fault.PoolFault.TheVariants as pools
+use Rattle.reach_rules.specs.Raised.{of_space, of_pool}
+use Rattle.reach_rules.specs.Faults.{Present}
+use Rattle.reach_rules.specs.Features.{HasFeature}
+use Rattle.reach_rules.specs.Reached.{IsReachedFault}
+use Rattle.reach_rules.proofs.SpaceLifted.{space-present, space-feature}
+use Rattle.reach_rules.proofs.QueuesLifted.{pool-present}
+
+space-reached : (image : List ℕ) (seen : Seen) (fault : SpaceFault) → Present image seen (of_space seen fault) → IsReachedFault image seen (of_space seen fault)
+space-reached image seen (spaces.Unnamed within oid) p = p
+space-reached image seen (spaces.Unsound block why) p = p
+space-reached image seen spaces.Geometry p = p
+space-reached image seen (spaces.Cab i) p = p
+space-reached image seen (spaces.Cib i) p = p
+space-reached image seen (spaces.Index k) p = p
+space-reached image seen (spaces.Place block) p = p
+space-reached image seen spaces.FreeTotal p = p
+
+pub space-tells : (image : List ℕ) (seen : Seen) (stop : Stop SpaceFault) → Tells (IsSpaceFault image seen) (IsSpaceFeature image seen) stop → Tells (IsReachedFault image seen) (HasFeature image seen) (raised (of_space seen) stop)
+space-tells image seen (Found fault) t = space-reached image seen fault (space-present image seen fault t)
+space-tells image seen (Unsupported feature block) t = space-feature image seen feature block t
+space-tells image seen ReadFault t = t
+space-tells image seen NoMemory t = t
+
+pub space-read : (seen : Seen) (stop : Stop SpaceFault) → raised (of_space seen) stop ≡ ReadFault → stop ≡ ReadFault
+space-read seen (Found fault) e = absurd (let q : ⊥ = cc in q)
+space-read seen (Unsupported feature block) e = absurd (let q : ⊥ = cc in q)
+space-read seen ReadFault e = refl
+space-read seen NoMemory e = absurd (let q : ⊥ = cc in q)
+
+-- of the pool's bits a fault of their shape is told
+pool-reached : (image : List ℕ) (seen : Seen) (manager : List ℕ) (fault : PoolFault) → IsPoolFault seen manager fault → Present image seen (of_pool seen fault) → IsReachedFault image seen (of_pool seen fault)
+pool-reached image seen manager (pools.Index i) f p = p
+pool-reached image seen manager pools.Count f p = p
+pool-reached image seen manager (pools.Place block) f p = p
+pool-reached image seen manager (pools.Unnamed oid) f p = p
+pool-reached image seen manager (pools.Walk root why) f p = absurd f
+pool-reached image seen manager (pools.Value root item) f p = p
+
+pub pool-tells : (image : List ℕ) (seen : Seen) (manager : List ℕ) (block : ℕ) → HasManager seen manager block → (stop : Stop PoolFault) → Tells (IsPoolFault seen manager) NoFeature stop → Tells (IsReachedFault image seen) (HasFeature image seen) (raised (of_pool seen) stop)
+pool-tells image seen manager block h (Found fault) t = pool-reached image seen manager fault t (pool-present image seen manager block h fault t)
+pool-tells image seen manager block h (Unsupported feature at) t = absurd t
+pool-tells image seen manager block h ReadFault t = t
+pool-tells image seen manager block h NoMemory t = t
+
+pub pool-read : (seen : Seen) (stop : Stop PoolFault) → raised (of_pool seen) stop ≡ ReadFault → stop ≡ ReadFault
+pool-read seen (Found fault) e = absurd (let q : ⊥ = cc in q)
+pool-read seen (Unsupported feature block) e = absurd (let q : ⊥ = cc in q)
+pool-read seen ReadFault e = refl
+pool-read seen NoMemory e = absurd (let q : ⊥ = cc in q)

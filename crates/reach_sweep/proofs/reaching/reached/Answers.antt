@@ -1,0 +1,114 @@
+use Rattle.std.proofs.Common.{◌≡◌, ◌∙◌, ◌++◌, ℕ, List, Some, ap, refl, sym, subst}
+use Rattle.obj_base.specs.Stops.{Tells}
+use Rattle.nx_block.specs.Super.{omap_oid_of}
+use Rattle.nx_ring.specs.Checkpoint.{Seen, site_of}
+use Rattle.omap_map.specs.Maps.{map_records}
+use Rattle.vol_view.specs.Volumes.{Loaded}
+use Rattle.vol_view.specs.declared.head.VolHead.{VolHead}
+use Rattle.space_map.specs.Stops.{IsSpaceOf}
+use Rattle.view_sweep.specs.declared.used.Used.{Used}
+use Rattle.view_sweep.specs.Unused.{AreAllUsed, AreUsedOnes}
+use Rattle.reach_gather.specs.Held.{Held}
+use Rattle.reach_rules.specs.Features.{HasFeature}
+use Rattle.reach_rules.specs.Reached.{IsReachedFault}
+use Rattle.reach_sweep.specs.Composed.{AreListed, AreHeadRecords, records_used}
+use Rattle.reach_sweep.specs.Finished.{IsFinished}
+use Rattle.reach_sweep.specs.Used.{maps_of}
+use Rattle.reach_sweep.specs.Views.{namer_by}
+use Rattle.reach_sweep.proofs.Swept.{slots-are-apart}
+use Rattle.reach_sweep.proofs.Listed.{listed-by, of-maps}
+use Rattle.reach_sweep.proofs.Together.{AreGiven, given-of, AreParts, parts-live, swept-live, AreSwept, used-ones, AreKnown, all-reached}
+use Rattle.reach_sweep.proofs.reaching.reached.Goals as goal
+
+pub returns-in-Err-load_pool-clause-present : goal.returns-in-Err-load_pool-clause-present
+returns-in-Err-load_pool-clause-present g c = λ image heads told h l.
+    c.in-Err-load_pool.ensures.present image (c.load_space.ensures.kept.same_bytes ∙ told) (c.in-Ok.ensures.clear image told)
+
+pub returns-in-Err-add_parts-clause-present : goal.returns-in-Err-add_parts-clause-present
+returns-in-Err-add_parts-clause-present g c = λ image heads told h l.
+    let v = given-of image c.args.cp.now heads c.args.volumes.now h l in
+    c.in-Err-add_parts.ensures.present image heads (namer_by image c.args.cp.now) (c.load_pool.ensures.kept.same_bytes ∙ (c.load_space.ensures.kept.same_bytes ∙ told)) v.parts v.volumes_are (c.in-Ok.ensures.clear image told)
+
+pub returns-in-Err-once-clause-present : goal.returns-in-Err-once-clause-present
+returns-in-Err-once-clause-present g c = λ image heads told h l.
+    let v = given-of image c.args.cp.now heads c.args.volumes.now h l in
+    let parts : AreParts image c.args.cp.now c.args.volumes.now c.in_ok-parts.parts c.add_parts.new.out = record {
+      start_is = c.in_ok-parts.ensures.start;
+      added = c.in-Ok-add_parts.ensures.clear image heads (namer_by image c.args.cp.now) (c.load_pool.ensures.kept.same_bytes ∙ (c.load_space.ensures.kept.same_bytes ∙ told)) v.parts v.volumes_are (c.in-Ok.ensures.clear image told);
+    } in
+    c.in-Err-once.ensures.present image (parts-live image c.args.cp.now c.args.volumes.now c.in_ok-parts.parts c.add_parts.new.out parts)
+
+pub returns-in-Some-clause-present : goal.returns-in-Some-clause-present
+returns-in-Some-clause-present g c = λ image heads told h l.
+    let v = given-of image c.args.cp.now heads c.args.volumes.now h l in
+    absurd (c.in-Some.ensures.twice refl (slots-are-apart image c.args.cp.now heads c.args.volumes.now (namer_by image c.args.cp.now) v.parts v.volumes_are))
+
+pub returns-in-Err-sweep_views-clause-present : goal.returns-in-Err-sweep_views-clause-present
+returns-in-Err-sweep_views-clause-present g c = λ image heads told h l.
+    let v = given-of image c.args.cp.now heads c.args.volumes.now h l in
+    let before = c.load_pool.ensures.kept.same_bytes ∙ (c.load_space.ensures.kept.same_bytes ∙ told) in
+    let parts : AreParts image c.args.cp.now c.args.volumes.now c.in_ok-parts.parts c.add_parts.new.out = record {
+      start_is = c.in_ok-parts.ensures.start;
+      added = c.in-Ok-add_parts.ensures.clear image heads (namer_by image c.args.cp.now) before v.parts v.volumes_are (c.in-Ok.ensures.clear image told);
+    } in
+    c.in-Err-sweep_views.ensures.present image heads (namer_by image c.args.cp.now) (c.add_parts.ensures.kept.same_bytes ∙ before) v.parts v.volumes_are
+    (swept-live image c.args.cp.now heads c.args.volumes.now c.in_ok-parts.parts c.add_parts.new.out v parts)
+
+pub returns-in-Err-check_used-clause-present : goal.returns-in-Err-check_used-clause-present
+returns-in-Err-check_used-clause-present g c = λ image heads told h l.
+    let seen : Seen = c.args.cp.now in
+    let volumes : List Loaded = c.args.volumes.now in
+    let namer = namer_by image seen in
+    let found : List Used = c.in-Ok-head_records.found.items in
+    let used : List Used = c.in-Ok-sweep_views.used.items in
+    let v = given-of image seen heads volumes h l in
+    let before = c.load_pool.ensures.kept.same_bytes ∙ (c.load_space.ensures.kept.same_bytes ∙ told) in
+    let records : c.in-Ok-add_parts.records.items ≡ map_records image (site_of seen) (omap_oid_of seen.nx) = c.in-Ok-add_parts.ensures.records image before in
+    let swept : AreSwept image seen heads volumes c.in_ok-parts.parts c.add_parts.new.out used found = record {
+      given = v;
+      gathered = record {
+        start_is = c.in_ok-parts.ensures.start;
+        added = c.in-Ok-add_parts.ensures.clear image heads namer before v.parts v.volumes_are (c.in-Ok.ensures.clear image told);
+      };
+      once = c.in-Ok-once.ensures.clear;
+      reached = c.in-Ok-sweep_views.ensures.clear image heads namer (c.add_parts.ensures.kept.same_bytes ∙ before) v.parts v.volumes_are;
+      heads_found = c.in-Ok-head_records.ensures.found image heads namer v.parts (c.deref.ensures.value ∙ records) v.volumes_are;
+    } in
+    let ones : AreUsedOnes image seen (found ++ used) = used-ones image seen heads volumes c.in_ok-parts.parts c.add_parts.new.out used found swept in
+    c.in-Err-check_used.ensures.present image
+    (subst (λ (us : List Used). AreUsedOnes image seen (us ++ c.deref-4.result.now)) (sym c.deref-3.ensures.value) (subst (λ (us : List Used). AreUsedOnes image seen (found ++ us)) (sym c.deref-4.ensures.value) ones))
+    (of-maps image seen heads volumes namer c.deref-2.result.now v.parts v.volumes_are (c.deref-2.ensures.value ∙ records))
+
+pub returns-in-Ok-finish-clause-clear : goal.returns-in-Ok-finish-clause-clear
+returns-in-Ok-finish-clause-clear g c = λ image heads told h l.
+    let seen : Seen = c.args.cp.now in
+    let volumes : List Loaded = c.args.volumes.now in
+    let namer = namer_by image seen in
+    let found : List Used = c.in-Ok-head_records.found.items in
+    let used : List Used = c.in-Ok-sweep_views.used.items in
+    let v = given-of image seen heads volumes h l in
+    let before = c.load_pool.ensures.kept.same_bytes ∙ (c.load_space.ensures.kept.same_bytes ∙ told) in
+    let records : c.in-Ok-add_parts.records.items ≡ map_records image (site_of seen) (omap_oid_of seen.nx) = c.in-Ok-add_parts.ensures.records image before in
+    let swept : AreSwept image seen heads volumes c.in_ok-parts.parts c.add_parts.new.out used found = record {
+      given = v;
+      gathered = record {
+        start_is = c.in_ok-parts.ensures.start;
+        added = c.in-Ok-add_parts.ensures.clear image heads namer before v.parts v.volumes_are (c.in-Ok.ensures.clear image told);
+      };
+      once = c.in-Ok-once.ensures.clear;
+      reached = c.in-Ok-sweep_views.ensures.clear image heads namer (c.add_parts.ensures.kept.same_bytes ∙ before) v.parts v.volumes_are;
+      heads_found = c.in-Ok-head_records.ensures.found image heads namer v.parts (c.deref.ensures.value ∙ records) v.volumes_are;
+    } in
+    let known : AreKnown image seen heads (maps_of seen volumes c.deref-2.result.now) (found ++ used) c.in-Ok.space c.in-Ok-load_pool.pool.items = record {
+      plain = c.requires.plain;
+      listed = listed-by image seen heads volumes namer c.deref-2.result.now v.parts v.volumes_are (c.deref-2.ensures.value ∙ records);
+      all_are_used = subst (λ (us : List Used). AreAllUsed (maps_of seen volumes c.deref-2.result.now) (us ++ used)) c.deref-3.ensures.value
+          (subst (λ (us : List Used). AreAllUsed (maps_of seen volumes c.deref-2.result.now) (c.deref-3.result.now ++ us)) c.deref-4.ensures.value c.in-Ok-check_used.ensures.clear);
+      space_is = c.in-Ok.ensures.clear image told;
+      pool_is = c.in-Ok-load_pool.ensures.clear image (c.load_space.ensures.kept.same_bytes ∙ told);
+      queued = c.in-Ok-add_parts.ensures.queued image before;
+    } in
+    let finished : IsFinished (records_used used) (records_used found) c.add_parts.new.out c.in-Ok.space c.in-Ok-load_pool.pool.items c.in-Ok-finish.reached =
+    subst (λ (us : List Used). IsFinished (records_used us) (records_used found) c.add_parts.new.out c.in-Ok.space c.in-Ok-load_pool.pool.items c.in-Ok-finish.reached) c.deref-5.ensures.value
+    (subst (λ (us : List Used). IsFinished (records_used c.deref-5.result.now) (records_used us) c.add_parts.new.out c.in-Ok.space c.in-Ok-load_pool.pool.items c.in-Ok-finish.reached) c.deref-6.ensures.value c.in-Ok-finish.ensures.done) in
+    all-reached image seen heads volumes c.in_ok-parts.parts c.add_parts.new.out used found (maps_of seen volumes c.deref-2.result.now) c.in-Ok.space c.in-Ok-load_pool.pool.items c.in-Ok-finish.reached swept known finished
