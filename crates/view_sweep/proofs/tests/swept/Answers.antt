@@ -1,4 +1,4 @@
-use Rattle.std.proofs.Common.{◌≡◌, ◌<◌, List, length, subst, sym}
+use Rattle.std.proofs.Common.{List, subst, sym}
 use Rattle.view_sweep.specs.declared.wanted.Head.{Head}
 use Rattle.view_sweep.specs.Wanted.{AreToldHeads, AreBelowHeads}
 use Rattle.view_sweep.proofs.tests.swept.Goals as goal
