@@ -1,5 +1,5 @@
 -- What is live of views is a list.
-use Rattle.std.proofs.Common.{◌≡◌, ℕ, zero, suc, ◌<◌, List, [], ◌∷◌, ◌++◌, ◌⊎◌, inl, inr, ap, sym, ◌∙◌, arith}
+use Rattle.std.proofs.Common.{◌≡◌, ℕ, zero, suc, ◌<◌, List, [], ◌++◌, inl, inr, arith}
 use Rattle.std.specs.List.{flat_map}
 use Rattle.apfs_model.specs.Lists.{In, Lists}
 use Rattle.apfs_model.proofs.Searches.{in-left, in-right, in-append, from-flat_map}

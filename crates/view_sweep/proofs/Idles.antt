@@ -1,18 +1,14 @@
 -- Which records are used, where they are searched for in sorted ones.
-use Rattle.std.proofs.Common.{◌≡◌, ℕ, ◌<◌, ◌≤◌, Bool, true, false, List, [], ◌∷◌, length, get_or, Result, Ok, Err, is_ok, inl, inr, refl, ap, sym, ◌∙◌, subst, arith}
-use Rattle.std.specs.declared.cmp.Ordering.{Ordering}
+use Rattle.std.proofs.Common.{◌≡◌, ℕ, ◌<◌, ◌≤◌, true, false, List, [], length, get_or, Result, Ok, Err, is_ok, inl, inr, ap, sym, ◌∙◌, subst, arith}
 use Rattle.std.specs.declared.cmp.Ordering.TheVariants.{Less, Equal, Greater}
-use Rattle.std.specs.Ordering.{is_lt}
 use Rattle.std.specs.List.Sorted.{IsSortedBy, IsPermutation, IsBinarySearchResult, IsPartitionPoint}
 use Rattle.std.specs.Result.{MatchResult}
-use Rattle.std.specs.List.{AllWithin, HoldsAt}
+use Rattle.std.specs.List.{HoldsAt}
 use Rattle.std.proofs.lemmas.Bool.{cases_lt}
 use Rattle.std.proofs.lemmas.Cmp.{tied_itself}
 use Rattle.std.proofs.lemmas.List.Sorted.{IsPermutation-sym, searchable_from_sorted}
 use Rattle.apfs_model.specs.Lists.{In}
-use Rattle.nx_ring.specs.Checkpoint.{Seen, site_of}
-use Rattle.omap_map.specs.Records.{is_deleted}
-use Rattle.omap_map.specs.Maps.{map_records}
+use Rattle.nx_ring.specs.Checkpoint.{Seen}
 use Rattle.omap_map.specs.declared.records.OmapRecord.{OmapRecord}
 use Rattle.obj_base.specs.declared.stop.Within.{Within}
 use Rattle.obj_base.specs.declared.stop.Within.TheVariants.{Physical}
@@ -21,11 +17,11 @@ use Rattle.obj_base.specs.declared.stop.Stop.TheVariants.{Found, Unsupported, Re
 use Rattle.obj_base.specs.Stops.{Tells, IsFree, NoFeature}
 use Rattle.reach_rules.specs.declared.fault.ReachFault.{ReachFault}
 use Rattle.reach_rules.specs.declared.fault.ReachFault.TheVariants.{UnusedMapping}
-use Rattle.reach_rules.specs.Maps.{IsMapOf, IsUsed, AreUsed, IsUnused}
+use Rattle.reach_rules.specs.Maps.{IsMapOf, AreUsed, IsUnused}
 use Rattle.view_sweep.specs.declared.used.Used.{Used}
 use Rattle.view_sweep.specs.declared.idle.MapRecords.{MapRecords}
 use Rattle.view_sweep.specs.Order.{used_rank, is_used_below}
-use Rattle.view_sweep.specs.Unused.{used_in, AreUsedIn, AreAllUsed, IsIdleOf, HasIdle, IsUnusedHere, AreMapsOf, AreUsedOnes}
+use Rattle.view_sweep.specs.Unused.{used_in, AreAllUsed, HasIdle, IsUnusedHere, AreMapsOf, AreUsedOnes}
 use Rattle.view_sweep.proofs.Ranked.{in-place, place-in}
 use Rattle.view_sweep.proofs.Orders.{used_total, used-one}
 use Rattle.view_sweep.proofs.Steps.{in-permuted}

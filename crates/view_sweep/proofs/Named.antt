@@ -1,5 +1,5 @@
 -- What is wanted, as a naming: to which object it resolves, and what that one names.
-use Rattle.std.proofs.Common.{◌≡◌, ℕ, zero, suc, Bool, true, false, ◌==◌, List, [], ◌∷◌, ◌++◌, map, Option, Some, None, Ok, Err, refl, ap, sym, ◌∙◌, subst, if◌then◌else◌}
+use Rattle.std.proofs.Common.{◌≡◌, ℕ, zero, suc, Bool, true, false, ◌==◌, List, [], ◌∷◌, map, Option, Some, None, Ok, Err, refl, ap, sym, ◌∙◌, if◌then◌else◌}
 use Rattle.std.specs.Prelude.{option_map, option_and_then, slice_get}
 use Rattle.apfs_model.specs.Blocks.{in_container}
 use Rattle.apfs_model.specs.Lists.{through}
@@ -14,7 +14,7 @@ use Rattle.vol_view.specs.Volumes.{Loaded, map_block_of, map_or_empty, empty_map
 use Rattle.vol_view.specs.declared.head.VolHead.{VolHead}
 use Rattle.vol_view.specs.Fields as volumes
 use Rattle.reach_rules.specs.Naming.{LookUp, InView, OfRecord, Namer, Whole, Files, ExtendedMetadata, Naming, naming}
-use Rattle.reach_rules.specs.Resolved.{Found, standing, recorded, found_virtual, resolved}
+use Rattle.reach_rules.specs.Resolved.{Found, standing, recorded, resolved}
 use Rattle.reach_rules.specs.Tested.{Answer, tested}
 use Rattle.reach_rules.specs.Next.{children_in, child_namings, node_namings, unless_zero, view_namings, names, names_if, next}
 use Rattle.view_sweep.specs.declared.wanted.SweptView.{SweptView}
@@ -23,7 +23,7 @@ use Rattle.view_sweep.specs.declared.wanted.Want.{Want}
 use Rattle.view_sweep.specs.declared.wanted.Want.TheVariants.{Root, Metadata, Node}
 use Rattle.view_sweep.specs.declared.wanted.Wanted.{Wanted}
 use Rattle.view_sweep.specs.Wanted.{view_at, wanted, head_wants, expected_by, expected_of, naming_of}
-use Rattle.view_sweep.specs.Found.{World, world, looked, placed, records_at, bytes_at, tested_as, kids_from, kids_by, wants_by, wants_of, wants_if, next_by, next_of}
+use Rattle.view_sweep.specs.Found.{world, looked, placed, records_at, bytes_at, kids_from, kids_by, wants_by, wants_if, next_by, next_of}
 
 -- ---- to which object it resolves
 -- the object of a record that a view uses

@@ -1,5 +1,5 @@
 -- Views that are told by their places.
-use Rattle.std.proofs.Common.{◌≡◌, ℕ, true, ◌<◌, List, ◌∷◌, [], ◌++◌, ◌⊎◌, inl, inr, ap, sym, ◌∙◌, subst, arith, refl}
+use Rattle.std.proofs.Common.{◌≡◌, ℕ, true, ◌<◌, List, ◌∷◌, [], ◌++◌, inl, inr, ap, sym, ◌∙◌, subst}
 use Rattle.apfs_model.specs.Lists.{In}
 use Rattle.apfs_model.proofs.Searches.{in-append}
 use Rattle.view_sweep.specs.declared.wanted.SweptView.{SweptView}

@@ -1,5 +1,5 @@
 -- What is live of views is live as namings; what a sweep tells of it, said of namings.
-use Rattle.std.proofs.Common.{◌≡◌, ℕ, ◌≤◌, ◌<◌, true, false, List, [], ◌∷◌, ◌++◌, map, Option, Some, None, Result, Ok, Err, is_ok, inl, inr, refl, ap, sym, ◌∙◌, subst, arith}
+use Rattle.std.proofs.Common.{◌≡◌, ℕ, true, false, List, [], ◌∷◌, ◌++◌, map, Option, Some, None, Ok, Err, is_ok, inl, inr, refl, ap, sym, ◌∙◌, subst, arith}
 use Rattle.std.specs.Prelude.{option_map}
 use Rattle.apfs_model.specs.Lists.{In, through}
 use Rattle.apfs_model.proofs.BoolTests.{clash}
@@ -13,11 +13,11 @@ use Rattle.obj_base.specs.Stops.{Tells, IsFree}
 use Rattle.nx_ring.specs.Checkpoint.{Seen, site_of}
 use Rattle.omap_map.specs.Features.{mapping_features}
 use Rattle.omap_map.specs.declared.records.OmapRecord.{OmapRecord}
-use Rattle.vol_view.specs.Volumes.{Loaded, map_or_empty}
+use Rattle.vol_view.specs.Volumes.{Loaded}
 use Rattle.reach_rules.specs.declared.fault.Why.{Why}
 use Rattle.reach_rules.specs.declared.fault.ReachFault.{ReachFault}
 use Rattle.reach_rules.specs.declared.fault.ReachFault.TheVariants.{Unsound, Unnamed, NamedTwice}
-use Rattle.reach_rules.specs.Naming.{ViewAt, LookUp, InView, Object, OfRecord, Namer, Whole, Files, Expected, ExtendedMetadata, TreeRoot, TreeNode, Naming}
+use Rattle.reach_rules.specs.Naming.{ViewAt, LookUp, InView, OfRecord, Namer, Whole, Files, Expected, ExtendedMetadata, TreeRoot, TreeNode, Naming}
 use Rattle.reach_rules.specs.Resolved.{Found, resolved}
 use Rattle.reach_rules.specs.Tested.{Answer, tested}
 use Rattle.reach_rules.specs.Next.{next}
@@ -30,11 +30,11 @@ use Rattle.view_sweep.specs.declared.wanted.Want.{Want}
 use Rattle.view_sweep.specs.declared.wanted.Want.TheVariants.{Root, Metadata, Node}
 use Rattle.view_sweep.specs.declared.wanted.Wanted.{Wanted}
 use Rattle.view_sweep.specs.declared.used.Used.{Used}
-use Rattle.view_sweep.specs.Wanted.{view_at, wanted, heads_want, expected_by, expected_of, naming_of, AreToldHeads, AreOfHeads}
+use Rattle.view_sweep.specs.Wanted.{view_at, wanted, heads_want, expected_by, expected_of, naming_of, AreToldHeads}
 use Rattle.view_sweep.specs.Found.{World, world, looked, used_by, bytes_at, tested_as, wants_if, next_by, next_of}
-use Rattle.view_sweep.specs.Here.{IsHere, TellsHere, IsBad, IsLost, IsTwice}
-use Rattle.view_sweep.specs.Swept.{IsClear, IsLive, IsSwept, level_of}
-use Rattle.view_sweep.specs.Named.{head_namings, AreOfImage, AreLive, IsPlainNaming, ArePlainFrom, AreOnceFrom, IsOfRecord, HasRecord, IsReachedBy, AreReached}
+use Rattle.view_sweep.specs.Here.{IsHere, TellsHere, IsBad}
+use Rattle.view_sweep.specs.Swept.{IsClear, IsLive, IsSwept}
+use Rattle.view_sweep.specs.Named.{head_namings, AreOfImage, AreLive, IsPlainNaming, ArePlainFrom, AreOnceFrom, HasRecord, IsReachedBy, AreReached}
 use Rattle.view_sweep.proofs.Hits.{wants-view}
 use Rattle.view_sweep.proofs.Orders.{wanted-is}
 use Rattle.view_sweep.proofs.Wholes.{heads-views, told-of}

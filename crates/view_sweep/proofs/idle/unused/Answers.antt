@@ -1,4 +1,4 @@
-use Rattle.std.proofs.Common.{List, sym, subst}
+use Rattle.std.proofs.Common.{List, subst}
 use Rattle.std.proofs.lemmas.List.Sorted.{IsPermutation-sym}
 use Rattle.obj_base.specs.Stops.{Tells, NoFeature}
 use Rattle.view_sweep.specs.declared.used.Used.{Used}

@@ -1,6 +1,6 @@
-use Rattle.std.proofs.Common.{List, subst}
+use Rattle.std.proofs.Common.{subst}
 use Rattle.obj_base.specs.declared.site.Site.{Site}
-use Rattle.view_sweep.specs.Found.{World, world}
+use Rattle.view_sweep.specs.Found.{world}
 use Rattle.view_sweep.specs.Here.{TellsHere}
 use Rattle.view_sweep.specs.Swept.{IsLive, IsSwept}
 use Rattle.view_sweep.specs.Named.{head_namings}

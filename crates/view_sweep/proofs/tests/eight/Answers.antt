@@ -1,4 +1,4 @@
-use Rattle.std.proofs.Common.{ℕ, refl, arith}
+use Rattle.std.proofs.Common.{refl, arith}
 use Rattle.view_sweep.proofs.Placed.{placed-none, placed-more, told-placed, below-placed, first_view}
 use Rattle.view_sweep.proofs.tests.eight.Goals as goal
 
