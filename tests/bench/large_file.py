@@ -19,7 +19,7 @@ INODE, EXTENT, SIZES = 3, 8, 8
 def sum_of(block):
     """The sum of an object: Fletcher's, over the words after it."""
     low = high = 0
-    for word in struct.unpack("<1022I", block[8:]):
+    for word in struct.unpack(f"<{len(block) // 4 - 2}I", block[8:]):
         low = (low + word) % 0xFFFFFFFF
         high = (high + low) % 0xFFFFFFFF
     first = 0xFFFFFFFF - (low + high) % 0xFFFFFFFF
@@ -75,24 +75,29 @@ def grow(node, file, block, size):
     return changed
 
 
-image, copy, file, size = sys.argv[1], sys.argv[2], int(sys.argv[3]), int(sys.argv[4])
-subprocess.run(["cp", "--sparse=always", image, copy], check=True)
-with open(copy, "r+b") as out:
-    runs = list(runs_of(out.fileno()))
-    _, block = max((after[0] - before[1], -(-before[1] // BLOCK)) for before, after in zip(runs, runs[1:]))
-    changed = 0
-    for first, end in runs:
-        for number in range(first // BLOCK, end // BLOCK):
-            out.seek(number * BLOCK)
-            node = bytearray(out.read(BLOCK))
-            if grow(node, file, block, size):
-                struct.pack_into("<Q", node, 0, sum_of(node))
+def main():
+    image, copy, file, size = sys.argv[1], sys.argv[2], int(sys.argv[3]), int(sys.argv[4])
+    subprocess.run(["cp", "--sparse=always", image, copy], check=True)
+    with open(copy, "r+b") as out:
+        runs = list(runs_of(out.fileno()))
+        _, block = max((after[0] - before[1], -(-before[1] // BLOCK)) for before, after in zip(runs, runs[1:]))
+        changed = 0
+        for first, end in runs:
+            for number in range(first // BLOCK, end // BLOCK):
                 out.seek(number * BLOCK)
-                out.write(node)
-                changed += 1
-    out.seek(block * BLOCK)
-    with open("/dev/urandom", "rb") as noise:
-        piece = noise.read(1 << 20)
-    for at in range(0, size, len(piece)):
-        out.write(piece[: min(len(piece), size - at)])
-print(f"{changed} nodes changed, {size} bytes from block {block} on")
+                node = bytearray(out.read(BLOCK))
+                if grow(node, file, block, size):
+                    struct.pack_into("<Q", node, 0, sum_of(node))
+                    out.seek(number * BLOCK)
+                    out.write(node)
+                    changed += 1
+        out.seek(block * BLOCK)
+        with open("/dev/urandom", "rb") as noise:
+            piece = noise.read(1 << 20)
+        for at in range(0, size, len(piece)):
+            out.write(piece[: min(len(piece), size - at)])
+    print(f"{changed} nodes changed, {size} bytes from block {block} on")
+
+
+if __name__ == "__main__":
+    main()

@@ -16,7 +16,6 @@ use Rattle.vol_view.specs.declared.volume.View.{View}
 use Rattle.ext_ref.specs.declared.range.NewRange.{NewRange}
 use Rattle.reach_sweep.specs.Account.{AreLoadedOf}
 use Rattle.reach_sweep.specs.Views.{head_of}
-use Rattle.tree_rules.specs.declared.notes.Note.{Note}
 use Rattle.tree_rules.specs.declared.tallies.ViewTally.{ViewTally}
 use Rattle.tree_rules.specs.Notes as tree_notes
 use Rattle.tree_rules.specs.Tallies.{IsTally}
@@ -152,8 +151,10 @@ one-volume profile image seen volume a b c d same p e q =
     in-single : {X : Type 0} (x y : X) (P : X → Type 0) → P y → In x (y ∷ []) → P x
     in-single x y P p (inl e) = subst P (sym e) p
     in-single x y P p (inr h) = absurd h
+
     given-one : (a b n : ℕ) → b ≡ a → given (given (b + n)) ≡ given (a + (0 + n))
     given-one a b n e = omega arith
+
     sum-one : (n : ℕ) → n ≡ 0 + n
     sum-one n = omega arith
 
@@ -185,6 +186,7 @@ one-view profile image seen head view tally a b rules told put = record {
     in-single : {X : Type 0} (x y : X) (P : X → Type 0) → P y → In x (y ∷ []) → P x
     in-single x y P p (inl e) = subst P (sym e) p
     in-single x y P p (inr h) = absurd h
+
     given-one : (a n : ℕ) → given (given (a + given n)) ≡ given (a + (0 + n))
     given-one a n = omega arith
 

@@ -1,5 +1,5 @@
 -- What is told of a volume's data, as the definitions have it.
-use Rattle.std.proofs.Common.{◌≡◌, ◌∙◌, ℕ, zero, suc, ◌+◌, ◌<◌, pos, Bool, true, false, List, [], ◌∷◌, ◌++◌, length, get_or, take, map, arith, inl, inr, refl, sym, ap, subst}
+use Rattle.std.proofs.Common.{◌≡◌, ◌∙◌, ℕ, zero, suc, ◌+◌, ◌<◌, pos, Bool, true, false, List, [], ◌∷◌, ◌++◌, length, get_or, take, map, arith, refl, sym, ap, subst}
 use Rattle.std.specs.Prelude.{◌^◌, not, filter, if◌then◌else◌}
 use Rattle.std.specs.Ordering.{int_eq}
 use Rattle.std.proofs.lemmas.List.{map-append, take_more}
@@ -11,18 +11,16 @@ use Rattle.obj_base.specs.Stops.{Tells, NoFeature}
 use Rattle.obj_base.specs.declared.stop.Stop.{Stop}
 use Rattle.obj_base.specs.declared.stop.Stop.TheVariants.{Found, Unsupported, ReadFault, NoMemory}
 use Rattle.nx_ring.specs.Checkpoint.{Seen, site_of}
-use Rattle.nx_ring.specs.Newest.{newest_of}
 use Rattle.fs_record.specs.declared.extents.FileExt.{FileExt}
 use Rattle.vol_view.specs.Volumes.{Loaded}
 use Rattle.vol_view.specs.declared.head.VolHead.{VolHead}
 use Rattle.ext_ref.specs.References.{streams_of, references_of}
 use Rattle.ext_ref.specs.Unreached.{unreached_runs}
 use Rattle.ext_ref.specs.declared.range.NewRange.{NewRange}
-use Rattle.tree_rules.specs.declared.notes.Note.{Note}
 use Rattle.view_rules.specs.declared.profile.Profile.{Profile}
 use Rattle.view_rules.specs.declared.profile.Profile.TheVariants.{Strict}
 use Rattle.apfs_check.specs.Volumes.{volume_of, volume_ranges, volume_extents}
-use Rattle.apfs_check.specs.Data.{has_no_snapshots, is_miscounted, unreached_in, miscounted_in, streams_in, HasRightData}
+use Rattle.apfs_check.specs.Data.{has_no_snapshots, is_miscounted, unreached_in, miscounted_in, streams_in}
 use Rattle.apfs_check.specs.Notes.{unreached_note, count_note}
 use Rattle.apfs_check.specs.Present.{IsPresent}
 use Rattle.apfs_check.specs.Held.{Held, unless_strict, AddsData}

@@ -12,7 +12,6 @@ use Rattle.vol_view.specs.Volumes.{metadata_of, snapshot_in, has_super, snapshot
 use Rattle.vol_view.specs.Views.{live_of, past_of, views_of, rooted_views}
 use Rattle.vol_view.specs.LoadStops.{IsRightSnapshot, IsLoadable}
 use Rattle.vol_view.specs.declared.head.VolHead.{VolHead}
-use Rattle.vol_view.specs.declared.volume.Snapshot.{Snapshot}
 use Rattle.ext_ref.specs.Ranges.{ranges_of}
 use Rattle.apfs_model.proofs.BoolTests.{both-true}
 use Rattle.apfs_check.specs.Volumes.{has_sound_super, sound_heads, volume_of, record_extents_root, past_extents_roots, volume_ranges}

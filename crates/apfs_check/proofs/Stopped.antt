@@ -1,5 +1,5 @@
 -- What the parts of a check tell where they stop is present in the container.
-use Rattle.std.proofs.Common.{◌≡◌, ℕ, List, ◌∷◌, Some, Ok, inl, inr, refl, sym, ap, subst, map}
+use Rattle.std.proofs.Common.{◌≡◌, ℕ, List, Ok, inl, inr, sym, ap, subst}
 use Rattle.apfs_model.specs.Lists.{In}
 use Rattle.obj_base.specs.Stops.{Tells, raised}
 use Rattle.obj_base.specs.declared.stop.Feature.{Feature}
@@ -11,7 +11,6 @@ use Rattle.nx_ring.specs.Checkpoint.{Seen, site_of}
 use Rattle.nx_ring.specs.Newest.{newest_of}
 use Rattle.nx_ring.specs.declared.fault.RingFault.{RingFault}
 use Rattle.fs_record.specs.declared.fault.TreeFault.{TreeFault}
-use Rattle.vol_view.specs.Heads.{heads_of}
 use Rattle.vol_view.specs.Stops.{IsHeadsStop, IsHeadsFeature, AreHeads}
 use Rattle.vol_view.specs.LoadStops.{IsLoadStop, IsLoadFeature}
 use Rattle.vol_view.specs.Volumes.{Loaded}
@@ -26,12 +25,11 @@ use Rattle.ext_ref.specs.declared.stop.ExtStop.{ExtStop}
 use Rattle.reach_rules.specs.Faults as reach
 use Rattle.reach_rules.specs.Features.{HasFeature}
 use Rattle.reach_rules.specs.declared.fault.ReachFault.{ReachFault}
-use Rattle.reach_sweep.specs.Account.{AreLoadedOf}
 use Rattle.reach_sweep.specs.Views.{head_of}
 use Rattle.view_rules.specs.Rules.{IsTreeFault}
 use Rattle.view_rules.specs.declared.profile.Profile.{Profile}
 use Rattle.apfs_model.proofs.Searches.{in-map}
-use Rattle.apfs_check.specs.Volumes.{sound_heads, volume_of, volume_ranges, past_extents_roots}
+use Rattle.apfs_check.specs.Volumes.{sound_heads, volume_of, volume_ranges}
 use Rattle.apfs_check.specs.Present.{IsPresent, IsFeature}
 use Rattle.apfs_check.specs.Raised.{of_ring, of_volume, of_extents, of_sweep, of_view}
 use Rattle.apfs_check.specs.Steps.{IsThere, AreReady, IsReady, IsExtentsRoot, snapshot_root}

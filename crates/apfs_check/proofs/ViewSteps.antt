@@ -1,20 +1,18 @@
 -- Going through the views of a volume that was loaded.
-use Rattle.std.proofs.Common.{◌≡◌, ◌∙◌, ℕ, zero, suc, ◌+◌, ◌-◌, ◌<◌, ◌≤◌, Bool, true, false, List, [], ◌∷◌, ◌++◌, length, Option, Some, None, map, take, inl, inr, refl, sym, ap, subst, arith}
-use Rattle.std.specs.Prelude.{◌^◌, ◌==◌, ◌||◌, ◌&&◌, nat_lt, nat_le, flat_map, slice_get, option_map}
-use Rattle.std.proofs.lemmas.Grind.{flat_map-append}
+use Rattle.std.proofs.Common.{◌≡◌, ◌∙◌, ℕ, zero, suc, ◌+◌, ◌-◌, ◌<◌, ◌≤◌, true, false, List, [], ◌∷◌, ◌++◌, length, Some, map, take, sym, ap, subst, arith}
+use Rattle.std.specs.Prelude.{◌^◌, nat_lt, flat_map, slice_get, option_map}
 use Rattle.std.proofs.lemmas.List.{length-map}
 use Rattle.std.proofs.lemmas.Option.{slice_get-map}
 use Rattle.apfs_model.specs.Lists.{In}
-use Rattle.apfs_model.proofs.BoolTests.{not-false, test_or, other-true, right-true, upto-from, clash}
-use Rattle.apfs_model.proofs.Searches.{in-append, from-map}
+use Rattle.apfs_model.proofs.BoolTests.{not-false, other-true, right-true, upto-from}
+use Rattle.apfs_model.proofs.Searches.{from-map}
 use Rattle.obj_base.specs.declared.site.Site.{Site}
 use Rattle.nx_ring.specs.Checkpoint.{Seen, site_of}
 use Rattle.fs_record.specs.Facts.{Fact}
 use Rattle.fs_record.specs.StreamExtents.{extent_blocks, is_hole, is_extent_placed}
 use Rattle.fs_record.specs.declared.extents.FileExt.{FileExt}
 use Rattle.vol_view.specs.Volumes.{Loaded}
-use Rattle.vol_view.specs.Views.{live_of, past_of, views_of, rooted_views}
-use Rattle.vol_view.specs.declared.head.VolHead.{VolHead}
+use Rattle.vol_view.specs.Views.{live_of, past_of, views_of}
 use Rattle.vol_view.specs.declared.volume.View.{View}
 use Rattle.ext_ref.specs.Ranges.{ranges_of}
 use Rattle.view_rules.specs.Facts.{Facts}

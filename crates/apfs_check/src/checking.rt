@@ -1,10 +1,11 @@
 // The whole check of a container.
-ghost use Rattle.std.specs.Prelude.{◌≡◌, ◌-◌, ◌++◌, ℕ, List, [], Some, Ok, OnOk, IfOk, IfErr, IsErrOf, length};
+ghost use Rattle.std.specs.Prelude.{◌≡◌, ◌-◌, ◌++◌, ℕ, List, [], Some, Ok, OnOk, IfOk, IfErr, IsErrOf, length, min};
 ghost use Rattle.apfs_model.specs.Counts.{given, Rose};
 ghost use Rattle.apfs_model.specs.Source.{IsKept};
 ghost use Rattle.obj_base.specs.Site.{IsSiteFor};
 ghost use Rattle.obj_base.specs.Stops.{Tells, IsFree};
 ghost use Rattle.obj_base.specs.declared.stop.Stop.TheVariants.{ReadFault};
+ghost use Rattle.nx_block.specs.Super.{slots};
 ghost use Rattle.nx_ring.specs.Checkpoint.{site_of};
 ghost use Rattle.nx_ring.specs.Features.{container_features};
 ghost use Rattle.nx_ring.specs.Newest.{newest_of};
@@ -23,6 +24,7 @@ use crate::notes::skipped;
 use crate::raising::stop_of;
 use crate::volumes::add_volumes;
 use crate::{Fault, Report};
+use apfs_layout::container;
 use blk_source::BlockSource;
 use nx_ring::{Checkpoint, newest};
 use obj_base::Stop;
@@ -32,10 +34,7 @@ use tree_rules::Profile;
 use vol_view::Volume;
 
 // The newest checkpoint, whose superblock has no feature that is refused.
-fn newest_checkpoint<S: BlockSource>(
-    alloc: Global,
-    src: &mut S,
-) -> Result<Checkpoint, Stop<Fault>>
+fn newest_checkpoint<S: BlockSource>(alloc: Global, src: &mut S) -> Result<Checkpoint, Stop<Fault>>
     ensures clear { (image : List ℕ) → S.bytes src.old ≡ Some image → IfOk result (λ seen. newest_of image ≡ Ok seen) }
     ensures plain { IfOk result (λ seen. container_features seen.nx ≡ []) }
     ensures present { (profile : rules.Profile) (image : List ℕ) → S.bytes src.old ≡ Some image → IfErr result (IsThere profile image) }
@@ -70,7 +69,7 @@ fn tally_of<S: BlockSource>(
     }
 }
 
-// What is told of a container whose volumes were found right.
+// What is told of a container whose volumes were found right. It has no more volumes than slots.
 fn report(
     alloc: Global,
     cp: &Checkpoint,
@@ -78,14 +77,14 @@ fn report(
     tally: Tally,
     gathered: Gathered,
 ) -> Result<Report, AllocError>
-    ensures { IfOk result (λ report. report ≡ record { xid = cp.now.line.xid; volumes = length volumes.now; views = given gathered.views; objects = tally.objects; records = given gathered.records; used = tally.owned; free = (site_of cp.now).blocks - tally.owned; notes = skipped_notes cp.now ++ (gathered.hashes ++ (gathered.unreached ++ (gathered.unnamed ++ gathered.counts))) }) }
+    ensures { IfOk result (λ report. report ≡ record { xid = cp.now.line.xid; volumes = min (length volumes.now) slots; views = given gathered.views; objects = tally.objects; records = given gathered.records; used = tally.owned; free = (site_of cp.now).blocks - tally.owned; notes = skipped_notes cp.now ++ (gathered.hashes ++ (gathered.unreached ++ (gathered.unnamed ++ gathered.counts))) }) }
 {
     let view_count = gathered.views();
     let record_count = gathered.records();
     let all_notes = gathered.into_notes(skipped(alloc, cp)?)?;
     Ok(Report {
         newest_xid: cp.xid(),
-        volume_count: volumes.len() as u64,
+        volume_count: volumes.len().min(container::SLOTS) as u32,
         view_count,
         tally,
         record_count,

@@ -125,11 +125,7 @@ fn refuse_counts(slot: u32, wrong: &[(NewRange, u64)]) -> Result<(), Fault>
 }
 
 // Keeps a note on each of some ranges whose counts are wrong.
-fn note_counts(
-    slot: u32,
-    wrong: &[(NewRange, u64)],
-    out: &mut Gathered,
-) -> Result<(), AllocError>
+fn note_counts(slot: u32, wrong: &[(NewRange, u64)], out: &mut Gathered) -> Result<(), AllocError>
     ensures { OnOk result (out.new ≡ record out.old { counts = out.old.counts ++ map (wrong_note slot) wrong.now }) }
 {
     'wrong: for item in wrong {

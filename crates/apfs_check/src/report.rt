@@ -8,7 +8,7 @@ use tree_rules::Note;
 #[derive(Debug, Drop)]
 pub struct Report {
     pub(crate) newest_xid: u64,
-    pub(crate) volume_count: u64,
+    pub(crate) volume_count: u32,
     pub(crate) view_count: u64,
     pub(crate) tally: Tally,
     pub(crate) record_count: u64,
@@ -35,7 +35,7 @@ impl Report {
     }
 
     /// How many volumes there are.
-    pub fn volumes(&self) -> u64
+    pub fn volumes(&self) -> u32
         ensures { result ≡ self.now.volumes }
     {
         self.volume_count

@@ -23,7 +23,6 @@ use Rattle.apfs_check.proofs.Browsed.{browsed}
 use Rattle.path_walk.specs.Stops.{IsLawful}
 use Rattle.path_walk.specs.declared.answer.Answer.{Answer}
 use Rattle.path_walk.specs.declared.answer.Answer.TheVariants.{NoVolume, NoSnapshot}
-use Rattle.apfs_cli.specs.Checkpoints.{IsNewest}
 use Rattle.apfs_cli.specs.Meant.{meant_head, IsMeant, IsMeantVolume, HasNoVolume}
 use Rattle.apfs_cli.specs.MeantView.{view_of, IsMeantView, HasNoSnapshot, IsLawfulView}
 use Rattle.apfs_cli.specs.OnView.{Wanted, IsWantedOf, IsTextOn, IsAnswerOn}

@@ -1,5 +1,5 @@
 -- What a run of a command that checks the container first has come to: from the check where that stops it, and from the command without a check where the container is well-formed.
-use Rattle.std.specs.Prelude.{◌≡◌, ℕ, Bool, true, false, List, [], Option, Some, Result, Ok, Err, refl}
+use Rattle.std.specs.Prelude.{◌≡◌, ℕ, Bool, true, false, List, [], Option, Some, Result, Err, refl}
 use Rattle.std.proofs.Common.{inl, inr, sym, ◌∙◌, subst}
 use Rattle.apfs_model.specs.Counts.{Rose}
 use Rattle.blk_source.specs.declared.source.Opened.TheVariants.{Image}

@@ -16,3 +16,4 @@ pub mod Ends
 pub mod Named
 pub mod Reached
 pub mod Idles
+pub mod Placed

@@ -10,6 +10,8 @@ mod order;
 mod reaching;
 mod reading;
 mod sweeping;
+#[cfg(test)]
+mod tests;
 mod used;
 mod wanted;
 

@@ -82,7 +82,7 @@ pub fn told(alloc: Global, image: Vec<u8>, profile: Profile) -> Result<Report, S
 pub fn numbers(report: &Report) -> Numbers {
     [
         report.xid(),
-        report.volumes(),
+        u64::from(report.volumes()),
         report.views(),
         report.objects(),
         report.records(),

@@ -1,11 +1,12 @@
-use Rattle.std.proofs.Common.{◌≡◌, ◌∙◌, ◌-◌, List, ◌++◌, length, map, sym, ap, subst}
+use Rattle.std.proofs.Common.{◌∙◌, ◌-◌, List, ◌++◌, length, map, sym, ap, subst}
+use Rattle.std.specs.Prelude.{min}
 use Rattle.apfs_model.specs.Counts.{given}
+use Rattle.nx_block.specs.Super.{slots}
 use Rattle.nx_ring.specs.Checkpoint.{site_of}
 use Rattle.vol_view.specs.Volumes.{Loaded}
 use Rattle.reach_sweep.specs.Views.{head_of}
 use Rattle.apfs_check.specs.Held.{AddsVolumes}
 use Rattle.apfs_check.specs.Notes.{skipped_notes}
-use Rattle.apfs_check.specs.Report.{Told}
 use Rattle.apfs_check.specs.Steps.{AreReady}
 use Rattle.apfs_check.proofs.Checked.{checked}
 use Rattle.apfs_check.proofs.Law.{check-free}
@@ -84,7 +85,7 @@ returns-in-Ok-report-clause-clear g c image told =
     (c.in-Ok-report.ensures
     ∙ ap (λ (vs : List Loaded). record {
       xid = seen.line.xid;
-      volumes = length vs;
+      volumes = min (length vs) slots;
       views = given held.views;
       objects = tally.objects;
       records = given held.records;

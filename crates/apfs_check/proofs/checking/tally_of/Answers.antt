@@ -1,4 +1,4 @@
-use Rattle.std.proofs.Common.{◌≡◌, ◌∙◌, sym, ap, subst}
+use Rattle.std.proofs.Common.{◌∙◌, sym, ap, subst}
 use Rattle.obj_base.specs.Stops.{raised}
 use Rattle.vol_view.specs.Heads.{heads_of}
 use Rattle.apfs_check.specs.Raised.{of_sweep}

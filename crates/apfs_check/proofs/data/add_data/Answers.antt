@@ -1,4 +1,4 @@
-use Rattle.std.proofs.Common.{◌≡◌, ◌∙◌, ◌++◌, map, sym, ap, subst}
+use Rattle.std.proofs.Common.{◌≡◌, ◌∙◌, ◌++◌, map, ap, subst}
 use Rattle.obj_base.specs.Stops.{Tells, NoFeature}
 use Rattle.obj_base.specs.declared.site.Site.{Site}
 use Rattle.vol_view.specs.Volumes.{Loaded}

@@ -1,4 +1,4 @@
-use Rattle.std.proofs.Common.{◌≡◌, ◌∙◌, ◌<◌, ◌++◌, ◌∷◌, [], length, get_or, take, sym, ap, subst, arith}
+use Rattle.std.proofs.Common.{◌∙◌, ◌<◌, ◌++◌, ◌∷◌, [], length, take, sym, ap, subst, arith}
 use Rattle.obj_base.specs.Stops.{raised}
 use Rattle.vol_view.specs.Heads.{IsHead}
 use Rattle.reach_sweep.specs.Account.{AreLoadedOf}

@@ -1,4 +1,4 @@
-use Rattle.std.proofs.Common.{◌≡◌, ◌∙◌, sym, ap, subst}
+use Rattle.std.proofs.Common.{◌∙◌, sym, ap, subst}
 use Rattle.apfs_model.specs.Lists.{In}
 use Rattle.obj_base.specs.Stops.{raised}
 use Rattle.vol_view.specs.Heads.{IsHead}

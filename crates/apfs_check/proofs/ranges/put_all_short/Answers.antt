@@ -1,4 +1,4 @@
-use Rattle.std.proofs.Common.{◌<◌, length, pos, get_or, refl, arith}
+use Rattle.std.proofs.Common.{◌<◌, length, pos, get_or, arith}
 use Rattle.ext_ref.specs.declared.range.NewRange.{NewRange}
 use Rattle.apfs_check.proofs.Adding.{items-more, at-place}
 use Rattle.apfs_check.proofs.ranges.put_all_short.Goals as goal

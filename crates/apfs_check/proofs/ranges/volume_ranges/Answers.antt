@@ -4,7 +4,6 @@ use Rattle.nx_ring.specs.Checkpoint.{site_of}
 use Rattle.vol_view.specs.Volumes.{Loaded}
 use Rattle.ext_ref.specs.Ranges.{ranges_of}
 use Rattle.apfs_check.specs.Steps.{IsExtentsRoot, snapshot_root}
-use Rattle.apfs_check.proofs.Same.{ranges-same}
 use Rattle.apfs_check.proofs.Stopped.{live-root}
 use Rattle.apfs_check.proofs.ViewSteps.{ranges-joined}
 use Rattle.apfs_check.proofs.ranges.volume_ranges.Goals as goal

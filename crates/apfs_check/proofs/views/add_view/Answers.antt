@@ -1,5 +1,4 @@
-use Rattle.std.proofs.Common.{◌≡◌, ◌∙◌, sym, ap, subst}
-use Rattle.obj_base.specs.Stops.{Tells}
+use Rattle.std.proofs.Common.{sym, subst}
 use Rattle.apfs_check.specs.Steps.{IsThere}
 use Rattle.apfs_check.proofs.Adding.{view-added}
 use Rattle.apfs_check.proofs.Stopped.{view-stops-at}

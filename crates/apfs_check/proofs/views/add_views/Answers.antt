@@ -1,4 +1,4 @@
-use Rattle.std.proofs.Common.{◌≡◌, ◌∙◌, ◌∷◌, [], take, sym, ap, subst, arith}
+use Rattle.std.proofs.Common.{◌∙◌, ◌∷◌, [], take, sym, subst, arith}
 use Rattle.vol_view.specs.Views.{views_of}
 use Rattle.apfs_model.proofs.Searches.{get-in}
 use Rattle.apfs_check.specs.Held.{AddsViews}

@@ -1,4 +1,4 @@
-use Rattle.std.proofs.Common.{ℕ, ◌<◌, length, get_or, refl, arith}
+use Rattle.std.proofs.Common.{ℕ, ◌<◌, length, get_or, arith}
 use Rattle.fs_record.specs.declared.extents.FileExt.{FileExt}
 use Rattle.apfs_check.proofs.Adding.{items-more, at-place, item-in}
 use Rattle.apfs_check.proofs.views.put_all_short.Goals as goal

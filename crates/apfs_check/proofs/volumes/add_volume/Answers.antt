@@ -1,4 +1,4 @@
-use Rattle.std.proofs.Common.{◌≡◌, ◌∙◌, ◌+◌, length, sym, ap, subst, arith}
+use Rattle.std.proofs.Common.{◌≡◌, ◌∙◌, ◌+◌, length, ap, arith}
 use Rattle.apfs_model.specs.Counts.{given}
 use Rattle.nx_ring.specs.Checkpoint.{site_of}
 use Rattle.vol_view.specs.Volumes.{Loaded}
