@@ -1,0 +1,8 @@
+// The cases, in tables, and what a check answers.
+mod data;
+mod names;
+mod nodes;
+mod owners;
+mod reports;
+mod rows;
+mod space;

@@ -1,0 +1,61 @@
+// The data of volumes, and candidates that are passed over.
+use crate::tests::rows::{BOTH, Noted, PLAIN, Row, STRICT, Said, Wrong, assert_row, assert_rows};
+use img_changes::{Base, SMALL, image};
+use img_make::{Sample, skipped_checkpoint};
+use std::test::Fail;
+
+// The range of the file goes on in block 58.
+const LONGER: Base = (Sample::H, &[(57, 2)], &[]);
+
+// The range of the two files counts one.
+const ONE_COUNTED: Base = (Sample::C, &[(57, 1)], &[]);
+
+const DATA: &[Row] = &[
+    (
+        "note_unreached",
+        LONGER,
+        &[],
+        PLAIN,
+        Said::Clean([1, 1, 1, 14, 8, 59, 197], &[Noted::Unreached(58, 1)]),
+    ),
+    (
+        "fault_data_unreached",
+        LONGER,
+        &[],
+        STRICT,
+        Said::Fault(Wrong::DataUnreached(58, 1)),
+    ),
+    (
+        "note_count",
+        ONE_COUNTED,
+        &[],
+        PLAIN,
+        Said::Clean([1, 1, 1, 14, 12, 58, 198], &[Noted::Count(57, 1, 2)]),
+    ),
+    (
+        "fault_data_count",
+        ONE_COUNTED,
+        &[],
+        STRICT,
+        Said::Fault(Wrong::DataCount(57, 1, 2)),
+    ),
+];
+
+#[test]
+fn data_are_as_said(rt: HostRuntime) -> Result<(), Fail> {
+    assert_rows(&rt, rt.alloc(), DATA)
+}
+
+// A second checkpoint, whose space manager has a wrong sum, has its superblock in block 4, which has the index 3.
+const SKIPPED: (&str, Said) = (
+    "note_skipped",
+    Said::Clean([1, 1, 1, 14, 4, 57, 199], &[Noted::Skipped(3, 2)]),
+);
+
+#[test]
+fn a_candidate_that_is_skipped_is_noted(rt: HostRuntime) -> Result<(), Fail> {
+    let alloc = rt.alloc();
+    let mut image = image(alloc, &SMALL, &[])?;
+    assert!(rt; skipped_checkpoint(&mut image));
+    assert_row(&rt, alloc, SKIPPED.0, &image, BOTH, SKIPPED.1)
+}

@@ -1,0 +1,112 @@
+// Names that aren't ASCII, and their hashes.
+use crate::tests::rows::{BOTH, Said, assert_row, numbers, told};
+use apfs_check::Fault;
+use apfs_layout::key::LEN_AND_HASH;
+use blk_source::Bytes;
+use fs_name::Names;
+use fs_record::NamedAt;
+use img_make::records::InodePlan;
+use img_make::{FileTree, Item, Leaf, Plan, Sample, Version, make, put_u32, sample};
+use obj_base::Stop;
+use std::alloc::{AllocError, Global};
+use std::test::Fail;
+use tree_rules::{Note, Profile};
+
+// The oid of the root of the volume's file-system tree.
+const ROOT_OID: u64 = 1028;
+
+// The name, whose two bytes and the zero behind them follow 12 bytes in the key of its entry.
+const NAME: &str = "é";
+
+const KEY_LEN: usize = 15;
+
+// The records of a volume with the file `é`, which has block 57.
+fn items_of(alloc: Global) -> Result<Vec<Item>, AllocError> {
+    let mut tree = FileTree::new(alloc, Names::Folded)?;
+    let mut file = InodePlan::file(16, 2);
+    file.stream = Some(5);
+    tree.add(alloc, file, NAME)?;
+    tree.stream(alloc, 16, &[(0, 4096, 57)])?;
+    tree.items(alloc)
+}
+
+// Stores the hash 0 in the key of the file's entry.
+fn clear_hash(items: &mut [Item]) {
+    for item in items.iter_mut() {
+        if item.0.len() == KEY_LEN {
+            put_u32(&mut item.0, LEN_AND_HASH, 3);
+        }
+    }
+}
+
+// Puts a tree of a leaf in the place of that of the plan's volume.
+fn set_tree(plan: &mut Plan, versions: Vec<Version>) {
+    if let Some(volume) = plan.volumes.first_mut() {
+        volume.versions = versions;
+    }
+}
+
+// A container whose volume has these records.
+fn image_with(alloc: Global, items: Vec<Item>) -> Result<Vec<u8>, Fail> {
+    let mut plan = sample(alloc, Sample::H)?;
+    let leaf = Leaf {
+        oid: ROOT_OID,
+        items,
+    };
+    let version = Version {
+        xid: 1,
+        snapshot: None,
+        leaves: vec![in alloc; leaf]?,
+    };
+    set_tree(&mut plan, vec![in alloc; version]?);
+    if !plan.valid() {
+        return Err(Fail::from("the plan isn't valid"));
+    }
+    Ok(make(alloc, &plan)?)
+}
+
+// The container whose file has the hash 0.
+fn other_hash(alloc: Global) -> Result<Vec<u8>, Fail> {
+    let mut items = items_of(alloc)?;
+    clear_hash(&mut items);
+    image_with(alloc, items)
+}
+
+// The name where it stands: in the root of the only volume.
+fn named(alloc: Global) -> Result<NamedAt, Fail> {
+    Ok(NamedAt {
+        slot: 0,
+        xid: 1,
+        id: 2,
+        name: Bytes::from_slice(alloc, NAME.as_bytes())?,
+    })
+}
+
+#[test]
+fn note_hash(rt: HostRuntime) -> Result<(), Fail> {
+    let alloc = rt.alloc();
+    let notes = vec![in alloc; Note::Hash(named(alloc)?)]?;
+    let Ok(report) = told(alloc, other_hash(alloc)?, Profile::Plain) else {
+        panic!(rt; "the container isn't well-formed");
+    };
+    assert_eq!(rt; numbers(&report), [1, 1, 1, 14, 8, 58, 198]);
+    assert!(rt; report.notes() == notes.as_slice());
+    Ok(())
+}
+
+#[test]
+fn fault_name_hash(rt: HostRuntime) -> Result<(), Fail> {
+    let alloc = rt.alloc();
+    let fault = Fault::NameHash(named(alloc)?);
+    let answer = told(alloc, other_hash(alloc)?, Profile::Strict);
+    assert!(rt; answer.is_err_and(|stop| stop == Stop::Found(fault)));
+    Ok(())
+}
+
+#[test]
+fn clean_name_of_other_letters(rt: HostRuntime) -> Result<(), Fail> {
+    let alloc = rt.alloc();
+    let image = image_with(alloc, items_of(alloc)?)?;
+    let said = Said::Clean([1, 1, 1, 14, 8, 58, 198], &[]);
+    assert_row(&rt, alloc, NAME, &image, BOTH, said)
+}

@@ -1,0 +1,212 @@
+// A row of the tables: an image, the profiles under which it is checked, and what is answered.
+use apfs_check::{Fault, Report, check};
+use blk_source::MemSource;
+use bt_node::NodeFault;
+use fs_record::RecFault;
+use img_changes::{Base, Change, image};
+use obj_base::{Feature, Stop, Within};
+use reach_rules::Why;
+use std::alloc::Global;
+use std::process::Abort;
+use std::test::Fail;
+use tree_rules::{Note, Profile};
+
+// The numbers of a report: its transaction, its volumes, its views, its objects, its records, and its used and its free blocks.
+pub type Numbers = [u64; 7];
+
+// What is wrong with a container, with the numbers that tell of it; a volume is that of slot 0, and a view that of transaction 1.
+#[derive(Clone, Copy, PartialEq, Eq, Debug)]
+pub enum Wrong {
+    Unsound(u64, NodeFault),
+    NamedTwice(Within, u64, u64),
+    OwnedTwice(u64),
+    Outside(u64),
+    UnusedMapping(Within, u64, u64),
+    Leaked(u64),
+    Missing(u64),
+    PoolLeaked(u64),
+    PoolMissing(u64),
+    SpaceCab(u32),
+    SpaceCib(u32),
+    SpaceIndex(u64),
+    SpaceFreeCount(u64),
+    PoolCount,
+    PoolPlace(u64),
+    TreeRecord(u64, u64),
+    Record(u64, RecFault),
+    DataUnreached(u64, u64),
+    DataCount(u64, i32, u64),
+}
+
+// A note; a volume is that of slot 0.
+#[derive(Clone, Copy, PartialEq, Eq, Debug)]
+pub enum Noted {
+    Skipped(u32, u64),
+    Unreached(u64, u64),
+    Count(u64, i32, u64),
+}
+
+// What is said of an image.
+#[derive(Clone, Copy, Debug)]
+pub enum Said {
+    /// It is well-formed: the numbers of its report, and its notes.
+    Clean(Numbers, &'static [Noted]),
+    /// This is wrong with it.
+    Fault(Wrong),
+    /// It has this feature, for which this block is named.
+    Feature(Feature, u64),
+}
+
+// A name, what an image is made of, its changes, the profiles, and what is said of it.
+pub type Row = (
+    &'static str,
+    Base,
+    &'static [Change],
+    &'static [Profile],
+    Said,
+);
+
+pub const PLAIN: &[Profile] = &[Profile::Plain];
+
+pub const STRICT: &[Profile] = &[Profile::Strict];
+
+pub const BOTH: &[Profile] = &[Profile::Plain, Profile::Strict];
+
+// What a check answers of an image.
+pub fn told(alloc: Global, image: Vec<u8>, profile: Profile) -> Result<Report, Stop<Fault>> {
+    let mut src = MemSource::new(image, Vec::new(alloc));
+    check(alloc, &mut src, profile)
+}
+
+// The numbers of a report.
+pub fn numbers(report: &Report) -> Numbers {
+    [
+        report.xid(),
+        u64::from(report.volumes()),
+        report.views(),
+        report.objects(),
+        report.records(),
+        report.used(),
+        report.free(),
+    ]
+}
+
+// The fault that is meant.
+fn fault_of(wrong: Wrong) -> Fault {
+    match wrong {
+        Wrong::Unsound(block, why) => Fault::Unsound {
+            block,
+            why: Why::Node(why),
+        },
+        Wrong::NamedTwice(within, oid, xid) => Fault::NamedTwice { within, oid, xid },
+        Wrong::OwnedTwice(block) => Fault::OwnedTwice { block },
+        Wrong::Outside(block) => Fault::Outside { block },
+        Wrong::UnusedMapping(within, oid, xid) => Fault::UnusedMapping { within, oid, xid },
+        Wrong::Leaked(block) => Fault::Leaked { block },
+        Wrong::Missing(block) => Fault::Missing { block },
+        Wrong::PoolLeaked(block) => Fault::PoolLeaked { block },
+        Wrong::PoolMissing(block) => Fault::PoolMissing { block },
+        Wrong::SpaceCab(index) => Fault::SpaceCab { index },
+        Wrong::SpaceCib(index) => Fault::SpaceCib { index },
+        Wrong::SpaceIndex(chunk) => Fault::SpaceIndex { chunk },
+        Wrong::SpaceFreeCount(chunk) => Fault::SpaceFreeCount { chunk },
+        Wrong::PoolCount => Fault::PoolCount,
+        Wrong::PoolPlace(block) => Fault::PoolPlace { block },
+        Wrong::TreeRecord(root, item) => Fault::TreeRecord { root, item },
+        Wrong::Record(item, why) => Fault::Record {
+            slot: 0,
+            xid: 1,
+            item,
+            why,
+        },
+        Wrong::DataUnreached(block, length) => Fault::DataUnreached {
+            slot: 0,
+            block,
+            length,
+        },
+        Wrong::DataCount(block, stored, streams) => Fault::DataCount {
+            slot: 0,
+            block,
+            stored,
+            streams,
+        },
+    }
+}
+
+// The note that is meant.
+fn note_of(noted: Noted) -> Note {
+    match noted {
+        Noted::Skipped(index, xid) => Note::Skipped { index, xid },
+        Noted::Unreached(block, length) => Note::Unreached {
+            slot: 0,
+            block,
+            length,
+        },
+        Noted::Count(block, stored, streams) => Note::Count {
+            slot: 0,
+            block,
+            stored,
+            streams,
+        },
+    }
+}
+
+// Whether notes are those that are meant.
+fn are_notes(notes: &[Note], meant: &[Noted]) -> bool {
+    if notes.len() != meant.len() {
+        return false;
+    }
+    for (note, noted) in notes.iter().zip(meant.iter()) {
+        if *note != note_of(*noted) {
+            return false;
+        }
+    }
+    true
+}
+
+// Whether what is answered is what is said.
+fn is_as_said(answer: &Result<Report, Stop<Fault>>, said: Said) -> bool {
+    match answer {
+        Ok(report) => match said {
+            Said::Clean(want, notes) => {
+                numbers(report) == want && are_notes(report.notes(), notes)
+            }
+            _ => false,
+        },
+        Err(Stop::Found(fault)) => match said {
+            Said::Fault(wrong) => *fault == fault_of(wrong),
+            _ => false,
+        },
+        Err(Stop::Unsupported { feature, block }) => match said {
+            Said::Feature(want, at) => *feature == want && *block == at,
+            _ => false,
+        },
+        Err(_) => false,
+    }
+}
+
+// Whether an image is as said, under each of some profiles.
+pub fn assert_row(
+    rt: &impl Abort,
+    alloc: Global,
+    name: &str,
+    image: &[u8],
+    profiles: &[Profile],
+    said: Said,
+) -> Result<(), Fail> {
+    for profile in profiles.iter() {
+        let answer = told(alloc, image.to_vec(alloc)?, *profile);
+        let as_said = is_as_said(&answer, said);
+        assert!(rt; as_said, "{name}: {answer:?}");
+    }
+    Ok(())
+}
+
+// Whether each image of a table is as said.
+pub fn assert_rows(rt: &impl Abort, alloc: Global, rows: &[Row]) -> Result<(), Fail> {
+    for (name, base, changes, profiles, said) in rows.iter() {
+        let image = image(alloc, base, changes)?;
+        assert_row(rt, alloc, name, &image, profiles, *said)?;
+    }
+    Ok(())
+}
