@@ -1,5 +1,5 @@
 #!/usr/bin/env python3
-"""What `apfs ring`, `info`, `volumes`, `space` and `snapshots` have to say of an image, worked out from its bytes by other means.
+"""What `apfs ring`, `info`, `volumes`, `space`, `snapshots` and `check` have to say of an image, worked out from its bytes by other means.
 
     ring_by_hand.py ring IMAGE              the lines, the line on standard error and the status of `apfs ring`
     ring_by_hand.py info IMAGE              the same for `apfs info`
@@ -9,6 +9,7 @@
     ring_by_hand.py snapshots IMAGE [--volume N]
                                             the same for `apfs snapshots`, where nothing is wrong but a volume's or a snapshot's flags
                                             or the number of snapshots
+    ring_by_hand.py check IMAGE [--strict]  the same for `apfs check`, where nothing is wrong but sums of objects and hashes of names
     ring_by_hand.py seal IMAGE BLOCK AT HEX..   the edits `AT HEX` that write these bytes at these places of the block and
                                             make its sum right, as lines for a file of cases
 
@@ -16,6 +17,7 @@ Nothing here comes from the program. Offsets are those of the Apple File System 
 is the closed formula on plain integers of any size, with no remainder taken on the way.
 """
 import sys
+import unicodedata
 import uuid
 
 TOP = 2**32 - 1
@@ -287,6 +289,130 @@ class Image:
         return lines
 
 
+    # ---- check
+    def object(self, block):
+        """An object of one block, whose sum is right."""
+        data = self.block(block)
+        if number(data, 0, 8) != stored_sum(data):
+            raise Ended(1, f"fault: Unsound block {block} BadSum")
+        return data
+
+    def items(self, node):
+        """The entries of a node, in both layouts: key and value. Those of fixed sizes go on to the node's end; a value may be left out."""
+        flags, begin = number(node, 32, 2), 56 + number(node, 40, 2)
+        keys, end = begin + number(node, 42, 2), self.size - 40 * (number(node, 32, 2) & 1)
+        for i in range(number(node, 36, 4)):
+            if flags & 4:
+                key, value = (number(node, begin + 4 * i + at, 2) for at in (0, 2))
+                yield node[keys + key :], b"" if value == 0xFFFF else node[end - value :]
+            else:
+                key, key_length, value, length = (number(node, begin + 8 * i + at, 2) for at in (0, 2, 4, 6))
+                yield node[keys + key : keys + key + key_length], b"" if value == 0xFFFF else node[end - value : end - value + length]
+
+    def tree(self, oid, place):
+        """The nodes of a tree, each with the place that its id leads to."""
+        if oid == 0:
+            return
+        at = place(oid)
+        node = self.object(at[-1])
+        yield at, node
+        if number(node, 34, 2):
+            for _, value in self.items(node):
+                yield from self.tree(number(value, 0, 8), place)
+
+    def map_of(self, block):
+        """The objects of an object map, and its records."""
+        data = self.object(block)
+        nodes = [*self.tree(number(data, 48, 8), physical), *self.tree(number(data, 56, 8), physical)]
+        return [(block,), *(at for at, _ in nodes)], list(self.records(number(data, 48, 8)))
+
+    def view(self, slot, xid, map_block, records, superblock, hashed):
+        """Of a view: its objects, the number of its records, and its notes on hashes."""
+        def place(oid):
+            record = max((it for it in records if it[0] == oid and it[1] <= xid), key=lambda it: it[1])
+            return (map_block, *record)
+        nodes = list(self.tree(number(superblock, 136, 8), place))
+        leaves = [item for _, node in nodes if number(node, 34, 2) == 0 for item in self.items(node)]
+        objects = [at for at, _ in nodes]
+        if number(superblock, 1000, 8):
+            objects.append(place(number(superblock, 1000, 8)))
+        notes = []
+        for key, _ in leaves if hashed else []:
+            if key[7] >> 4 == 9:
+                name = key[12:-1]
+                if max(name) > 0x7F and number(key, 8, 4) >> 10 != name_hash(name.decode(), hashed & 1):
+                    notes.append(f"volume {slot} view {xid} id {number(key, 0, 8) % 2**60} name {shown(name)}")
+        return objects, len(leaves), notes
+
+    def check_lines(self, strict=False):
+        xid, _, nx, maps = self.newest()
+        ephemeral = dict(maps)
+        mapped = lambda oid: ("ephemeral", oid, ephemeral[oid])
+        objects, records, views, notes = {"newest"}, 0, 0, []
+        # what the newest superblock names
+        manager_oid, map_block, reaper = (number(nx.data, at, 8) for at in (152, 160, 168))
+        manager = self.block(ephemeral[manager_oid])
+        objects.add(mapped(manager_oid))
+        for at in (208, 248):
+            objects.update(at for at, _ in self.tree(number(manager, at, 8), mapped))
+        while reaper:
+            objects.add(mapped(reaper))
+            reaper = number(self.block(ephemeral[reaper]), 48 if reaper == number(nx.data, 168, 8) else 32, 8)
+        addresses, count = number(manager, 80, 4), number(manager, 68, 4) or number(manager, 64, 4)
+        blocks = [number(manager, addresses + 8 * i, 8) for i in range(count)]
+        objects.update((block,) for block in blocks)
+        if number(manager, 68, 4):
+            objects.update((number(self.object(cab), 40 + 8 * i, 8),) for cab in blocks for i in range(number(self.block(cab), 36, 4)))
+        if number(nx.data, 1272, 8):
+            objects.add((number(nx.data, 1272, 8),))
+        map_objects, container = self.map_of(map_block)
+        objects.update(map_objects)
+        # the volumes
+        found = list(self.volumes())
+        for slot, block, data in found:
+            objects.add((map_block, *next(it for it in container if it[4] == block)))
+            volume_map = number(data, 128, 8)
+            map_objects, mapping = self.map_of(volume_map)
+            objects.update(map_objects)
+            for root in (number(data, 144, 8), number(data, 152, 8)):
+                objects.update(at for at, _ in self.tree(root, physical))
+            superblocks = [(xid, data)]
+            for key, value in self.metadata(number(data, 152, 8)) if number(data, 152, 8) else []:
+                if key[7] >> 4 == 1:
+                    superblock = number(value, 8, 8)
+                    objects.add((superblock,))
+                    objects.update(at for at, _ in self.tree(number(value, 0, 8), physical))
+                    superblocks.append((number(key, 0, 8) % 2**60, self.object(superblock)))
+            for view_xid, superblock in superblocks:
+                of_view, count, more = self.view(slot, view_xid, volume_map, mapping, superblock, number(data, 56, 8) & 9)
+                objects.update(of_view)
+                records, views, notes = records + count, views + 1, notes + more
+        if strict and notes:
+            raise Ended(1, f"fault: NameHash {notes[0]}")
+        free = number(manager, 72, 8)
+        numbers = (("xid", xid), ("volumes", len(found)), ("views", views), ("objects", len(objects)), ("records", records))
+        numbers += (("used", nx.blocks - free), ("free", free), ("notes", len(notes)))
+        return ["clean", *(f"{word} {count}" for word, count in numbers), *(f"note hash {note}" for note in notes)]
+
+
+def physical(oid):
+    """The place of a physical object: its id is its block."""
+    return (oid,)
+
+
+def name_hash(name, folded):
+    """The 22 bits of a name's hash: of its letters taken apart, and folded where case doesn't count."""
+    name = unicodedata.normalize("NFD", name)
+    if folded:
+        name = unicodedata.normalize("NFD", name.casefold())
+    crc = TOP
+    for byte in name.encode("utf-32-le"):
+        crc ^= byte
+        for _ in range(8):
+            crc = crc >> 1 ^ (0x82F63B78 if crc & 1 else 0)
+    return crc % 2**22
+
+
 def shown(name):
     """A name, each byte of it that isn't shown as it is by its number."""
     return b"".join(b"\\x%02x" % b if b < 0x20 or b in b"\x7f/\\" else bytes([b]) for b in name).decode()
@@ -309,14 +435,16 @@ def main(words):
         return 0
     if words[:1] == ["snapshots"] and len(words) == 4 and words[2] == "--volume":
         words, options = words[:2], words[3:]
+    elif words[:1] == ["check"] and words[2:] == ["--strict"]:
+        words, options = words[:2], [True]
     else:
         options = []
-    if len(words) != 2 or words[0] not in ("ring", "info", "volumes", "space", "snapshots"):
+    if len(words) != 2 or words[0] not in ("ring", "info", "volumes", "space", "snapshots", "check"):
         print(__doc__, file=sys.stderr)
         return 2
     try:
         image = Image(words[1])
-        lines = {"ring": image.ring_lines, "info": image.info_lines, "volumes": image.volumes_lines, "space": image.space_lines, "snapshots": image.snapshots_lines}
+        lines = {"ring": image.ring_lines, "info": image.info_lines, "volumes": image.volumes_lines, "space": image.space_lines, "snapshots": image.snapshots_lines, "check": image.check_lines}
         for line in lines[words[0]](*options):
             print(line)
     except Ended as ended:
