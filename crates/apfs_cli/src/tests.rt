@@ -2,6 +2,7 @@
 ghost use Rattle.std.specs.Prelude.{replicate};
 
 mod cases;
+mod checks;
 mod contents;
 mod images;
 
@@ -9,6 +10,7 @@ use crate::put::{Line, put_lines};
 use crate::run::run;
 use blk_source::{MemSink, Opened, StdSink};
 use cases::*;
+use checks::{CHECK, CHECK_CASES, FIRST_CASES, NINE_VIEWS};
 use contents::*;
 use images::{Image, handed};
 use std::alloc::{AllocError, Global};
@@ -87,6 +89,28 @@ fn view_cases_end_as_said(rt: HostRuntime) -> Result<(), Fail> {
     end_as_said(&rt, rt.alloc(), VIEW_CASES)
 }
 
+#[test]
+fn check_cases_end_as_said(rt: HostRuntime) -> Result<(), Fail> {
+    end_as_said(&rt, rt.alloc(), CHECK_CASES)
+}
+
+// However many views a container has, what they share is read once.
+#[test]
+fn a_check_of_nine_views_takes_few_reads(rt: HostRuntime) -> Result<(), Fail> {
+    let ended = end(rt.alloc(), NINE_VIEWS, CHECK, [&[], &[], &[]])?;
+    assert!(rt;
+        ended.status == 0 && ended.reads <= 300,
+        "{} reads",
+        ended.reads
+    );
+    Ok(())
+}
+
+#[test]
+fn cases_that_check_first_end_as_said(rt: HostRuntime) -> Result<(), Fail> {
+    end_as_said(&rt, rt.alloc(), FIRST_CASES)
+}
+
 // Whether a run ends with 3 and writes nothing, for each of its reads that is refused, which are so many at least.
 fn fail_at_each_read(
     rt: &impl Abort,
@@ -117,6 +141,7 @@ fn failure_of_each_read(rt: HostRuntime) -> Result<(), Fail> {
         (Image::Small, VOLUMES, 17),
         (Image::Views, SNAPSHOTS, 20),
         (Image::Small, SPACE, 15),
+        (Image::Small, CHECK, 20),
     ];
     fail_at_each_read(&rt, rt.alloc(), &rows)
 }

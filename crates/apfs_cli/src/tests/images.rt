@@ -1,15 +1,17 @@
 // The images that the cases are run on, each one fact away from a good one.
 use apfs_layout::container::{BLOCKED, DESC_BLOCKS, FS_OID, INCOMPAT};
+use apfs_layout::key::LEN_AND_HASH;
 use apfs_layout::node::{INFO_LEN, KEY_COUNT, TABLE};
 use apfs_layout::object::SUM;
 use apfs_layout::record::ATTRIBUTE_FLAGS;
 use apfs_layout::value::{SNAPSHOT_FLAGS, SNAPSHOT_NAME};
 use blk_source::{MemSource, Opened};
 use fs_name::Names;
+use img_changes::{Base, Change};
 use img_make::records::{EntryPlan, InodePlan, LINK_MODE, attribute};
 use img_make::{
-    FileTree, Item, Leaf, Plan, QueueEntry, Sample, Version, edit, make, ring_of_four, sample,
-    skipped_checkpoint, write,
+    FileTree, Item, Leaf, Plan, QueueEntry, Sample, Version, edit, make, put_u32, ring_of_four,
+    sample, skipped_checkpoint, write,
 };
 use std::alloc::{AllocError, Global};
 use std::test::Fail;
@@ -60,7 +62,7 @@ pub const SECOND_FLAGS: usize = BLOCK - INFO_LEN - 2 * (SNAPSHOT_NAME + 3) + SNA
 const ROOT_OID: u64 = 1028;
 
 // What a case is run on.
-#[derive(Clone, Copy, PartialEq, Eq, Debug)]
+#[derive(Clone, Copy, Debug)]
 pub enum Image {
     Absent,
     /// A ring of eight blocks with superblocks at the indices 1, 3, 5 and 7, the second of them with a wrong sum.
@@ -119,6 +121,12 @@ pub enum Image {
     ShortInode,
     /// The small container, and block 60 waits in the main queue.
     Queued,
+    /// The small container, and a second checkpoint follows, whose space manager has a wrong sum.
+    SmallSkipped,
+    /// A container whose volume has the file `é` with five bytes, in whose key the hash is 0.
+    Unhashed,
+    /// A sample, changed.
+    Made(Base, &'static [Change]),
 }
 
 fn made(alloc: Global, plan: &Plan) -> Result<Vec<u8>, Fail> {
@@ -250,6 +258,25 @@ fn with_short_inode(alloc: Global) -> Result<Vec<u8>, Fail> {
     with_records(alloc, tree.items(alloc)?)
 }
 
+// How long the key of an entry is whose name has two bytes and a zero after them, and where its length and its hash stand.
+const SHORT_ENTRY: usize = 15;
+
+// A container whose volume has the file `é`, in whose key the hash is 0.
+fn unhashed(alloc: Global) -> Result<Vec<u8>, Fail> {
+    let mut tree = file_tree(alloc, &[], &[])?;
+    let mut file = InodePlan::file(16, 2);
+    file.stream = Some(5);
+    tree.add(alloc, file, "é")?;
+    tree.stream(alloc, 16, &[(0, 4096, 57)])?;
+    let mut items = tree.items(alloc)?;
+    for item in items.iter_mut() {
+        if item.0.len() == SHORT_ENTRY {
+            put_u32(&mut item.0, LEN_AND_HASH, 3);
+        }
+    }
+    with_items(alloc, Sample::H, items)
+}
+
 // The small container, and block 60 waits in the main queue.
 fn queued(alloc: Global) -> Result<Vec<u8>, Fail> {
     let mut plan = sample(alloc, Sample::S)?;
@@ -302,6 +329,8 @@ fn bytes(alloc: Global, image: Image) -> Result<Vec<u8>, Fail> {
         Image::Backwards => backwards(alloc),
         Image::ShortInode => with_short_inode(alloc),
         Image::Queued => queued(alloc),
+        Image::Unhashed => unhashed(alloc),
+        Image::Made(base, changes) => img_changes::image(alloc, &base, changes),
         _ => made(alloc, &sample(alloc, Sample::S)?),
     }
 }
@@ -316,7 +345,7 @@ fn change(image: Image, bytes: &mut [u8]) -> bool {
             edit(bytes, BLOCK, SUPERBLOCK, INCOMPAT, &features.to_le_bytes())
         }
         Image::EmptyResizing => edit(bytes, BLOCK, SUPERBLOCK, BLOCKED + 8, &[1]),
-        Image::EmptySkipped => skipped_checkpoint(bytes),
+        Image::EmptySkipped | Image::SmallSkipped => skipped_checkpoint(bytes),
         Image::SmallChanged(block, at, other) | Image::ViewsChanged(block, at, other) => {
             edit(bytes, BLOCK, block, at, other)
         }
@@ -330,6 +359,7 @@ fn change(image: Image, bytes: &mut [u8]) -> bool {
         Image::Absent | Image::Empty | Image::Small | Image::Views | Image::Hello => true,
         Image::Files(_) | Image::Named(..) | Image::Queued => true,
         Image::Backwards | Image::ShortInode => true,
+        Image::Unhashed | Image::Made(..) => true,
         Image::Flagged(_) | Image::Streamed(..) | Image::Link | Image::LinkUnsaid => true,
     }
 }
@@ -345,7 +375,7 @@ fn length(image: Image) -> usize {
 
 // What a case is handed, with the numbers of the reads that are refused.
 pub fn handed(alloc: Global, image: Image, fails: Vec<u64>) -> Result<Opened<MemSource>, Fail> {
-    if image == Image::Absent {
+    if matches!(image, Image::Absent) {
         return Ok(Opened::Absent);
     }
     let mut bytes = bytes(alloc, image)?;
