@@ -1,5 +1,4 @@
 pub mod Tolds
 pub mod Chained
 pub mod Ways
-pub mod Onces
 pub mod Jumps

@@ -1,4 +1,3 @@
 pub mod Told
 pub mod Reaped
-pub mod Once
 pub mod Jumped

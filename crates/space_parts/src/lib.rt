@@ -2,10 +2,8 @@
 #![tactic(auto)]
 
 mod objects;
-mod once;
 mod reaping;
 mod starting;
 
-pub use once::{ephemeral_once, ids_once};
 pub use reaping::reap;
 pub use starting::jumpstart;

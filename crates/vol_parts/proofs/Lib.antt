@@ -7,4 +7,3 @@ pub mod Tellings
 pub mod Others
 pub mod Volumes
 pub mod Law
-pub mod Onces

@@ -1,4 +1,3 @@
 pub mod Told
 pub mod Parts
 pub mod Laws
-pub mod Once
