@@ -16,5 +16,6 @@ mod volumes;
 
 pub use checking::check;
 pub use fault::Fault;
+pub use raising::Raise;
 pub use report::Report;
 pub use theorem::well_formed_or_flawed;

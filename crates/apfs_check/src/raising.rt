@@ -1,7 +1,6 @@
 // What the parts of a check find wrong, as faults of the container.
 ghost use Rattle.std.specs.Prelude.{◌≡◌};
 ghost use Rattle.obj_base.specs.Stops.{raised};
-ghost use Rattle.reach_rules.specs.declared.fault.ReachFault.TheVariants as sweeps;
 ghost use Rattle.apfs_check.specs.Raised as told;
 
 use crate::Fault;
@@ -29,7 +28,7 @@ pub trait Raise<P> {
 }
 
 /// Why a check stops, where a part of it does at this place.
-pub fn stop_of<P: Copy, F: Raise<P> + Drop>(stop: Stop<F>, place: P) -> Stop<Fault>
+pub(crate) fn stop_of<P: Copy, F: Raise<P> + Drop>(stop: Stop<F>, place: P) -> Stop<Fault>
     ensures { result ≡ raised (F.raises place) stop }
 {
     match stop {
@@ -37,6 +36,15 @@ pub fn stop_of<P: Copy, F: Raise<P> + Drop>(stop: Stop<F>, place: P) -> Stop<Fau
         Stop::Unsupported { feature, block } => Stop::Unsupported { feature, block },
         Stop::ReadFault => Stop::ReadFault,
         Stop::NoMemory => Stop::NoMemory,
+    }
+}
+
+/// A fault of the container is raised as it is.
+impl Raise<()> for Fault {
+    ghost raises = { λ place fault. fault };
+
+    fn raise(self, _place: ()) -> Fault {
+        self
     }
 }
 
@@ -119,40 +127,48 @@ impl Raise<(u64, u64)> for ExtStop {
     }
 }
 
-// A fault of the space manager.
-fn of_space(xid: u64, fault: SpaceFault) -> Fault
-    ensures { result ≡ told.of_sweep xid (sweeps.Space fault) }
-{
-    match fault {
-        SpaceFault::Unnamed { within, oid } => Fault::Unnamed { within, oid, xid },
-        SpaceFault::Unsound { block, why } => Fault::Unsound {
-            block,
-            why: Why::Node(NodeFault::Head(why)),
-        },
-        SpaceFault::Geometry => Fault::SpaceGeometry,
-        SpaceFault::Cab { index } => Fault::SpaceCab { index },
-        SpaceFault::Cib { index } => Fault::SpaceCib { index },
-        SpaceFault::Index { chunk } => Fault::SpaceIndex { chunk },
-        SpaceFault::Place { block } => Fault::SpacePlace { block },
-        SpaceFault::FreeTotal => Fault::SpaceFreeTotal,
+/// A fault of the space manager is raised at the checkpoint's transaction.
+impl Raise<u64> for SpaceFault {
+    ghost use Rattle.reach_rules.specs.declared.fault.ReachFault.TheVariants as sweeps;
+
+    ghost raises = { λ xid fault. told.of_sweep xid (sweeps.Space fault) };
+
+    fn raise(self, xid: u64) -> Fault {
+        match self {
+            SpaceFault::Unnamed { within, oid } => Fault::Unnamed { within, oid, xid },
+            SpaceFault::Unsound { block, why } => Fault::Unsound {
+                block,
+                why: Why::Node(NodeFault::Head(why)),
+            },
+            SpaceFault::Geometry => Fault::SpaceGeometry,
+            SpaceFault::Cab { index } => Fault::SpaceCab { index },
+            SpaceFault::Cib { index } => Fault::SpaceCib { index },
+            SpaceFault::Index { chunk } => Fault::SpaceIndex { chunk },
+            SpaceFault::Place { block } => Fault::SpacePlace { block },
+            SpaceFault::FreeTotal => Fault::SpaceFreeTotal,
+        }
     }
 }
 
-// A fault of the pool or of its queue.
-fn of_pool(xid: u64, fault: PoolFault) -> Fault
-    ensures { result ≡ told.of_sweep xid (sweeps.Pool fault) }
-{
-    match fault {
-        PoolFault::Index { at } => Fault::PoolIndex { at },
-        PoolFault::Count => Fault::PoolCount,
-        PoolFault::Place { block } => Fault::PoolPlace { block },
-        PoolFault::Unnamed { oid } => Fault::Unnamed {
-            within: Within::Ephemeral,
-            oid,
-            xid,
-        },
-        PoolFault::Walk { root, why } => of_walk(Within::Ephemeral, xid, root, why),
-        PoolFault::Value { root, item } => Fault::TreeRecord { root, item },
+/// A fault of the pool or of a free queue is raised at the checkpoint's transaction. A queue's nodes are ephemeral.
+impl Raise<u64> for PoolFault {
+    ghost use Rattle.reach_rules.specs.declared.fault.ReachFault.TheVariants as sweeps;
+
+    ghost raises = { λ xid fault. told.of_sweep xid (sweeps.Pool fault) };
+
+    fn raise(self, xid: u64) -> Fault {
+        match self {
+            PoolFault::Index { at } => Fault::PoolIndex { at },
+            PoolFault::Count => Fault::PoolCount,
+            PoolFault::Place { block } => Fault::PoolPlace { block },
+            PoolFault::Unnamed { oid } => Fault::Unnamed {
+                within: Within::Ephemeral,
+                oid,
+                xid,
+            },
+            PoolFault::Walk { root, why } => of_walk(Within::Ephemeral, xid, root, why),
+            PoolFault::Value { root, item } => Fault::TreeRecord { root, item },
+        }
     }
 }
 
@@ -177,8 +193,8 @@ impl Raise<u64> for ReachFault {
             ReachFault::PoolLeaked { block } => Fault::PoolLeaked { block },
             ReachFault::PoolMissing { block } => Fault::PoolMissing { block },
             ReachFault::FreeCount { chunk } => Fault::SpaceFreeCount { chunk },
-            ReachFault::Space(fault) => of_space(xid, fault),
-            ReachFault::Pool(fault) => of_pool(xid, fault),
+            ReachFault::Space(fault) => fault.raise(xid),
+            ReachFault::Pool(fault) => fault.raise(xid),
             ReachFault::Tree {
                 root,
                 item: Some(item),

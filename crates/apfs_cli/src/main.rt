@@ -2,7 +2,6 @@
 #![tactic(auto)]
 
 mod commands;
-mod fault;
 mod fault_places;
 mod fault_text;
 mod fault_words;

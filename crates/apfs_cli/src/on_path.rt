@@ -2,8 +2,8 @@
 ghost use Rattle.std.specs.Prelude.{◌≡◌};
 ghost use Rattle.apfs_cli.specs.Seen.{answered_of, stopped_on, stopped_writing};
 
-use crate::fault::Raise;
 use crate::stopped::Stopped;
+use apfs_check::Raise;
 use obj_base::Stop;
 use path_read::WriteStop;
 use path_walk::{Answer, PathStop};

@@ -3,8 +3,7 @@ ghost use Rattle.std.specs.Prelude.{◌≡◌};
 ghost use Rattle.apfs_cli.specs.Seen.{stopped_at};
 ghost use Rattle.apfs_cli.specs.declared.stopped.Stopped.TheVariants as stops;
 
-use crate::fault::Raise;
-use apfs_check::Fault;
+use apfs_check::{Fault, Raise};
 use obj_base::{Feature, Stop};
 use path_walk::Answer;
 use std::alloc::AllocError;
@@ -40,7 +39,7 @@ impl From<AllocError> for Stopped {
 
 /// Why the run stops, where a layer does at this place.
 pub fn stopped_by<P: Copy, F: Raise<P> + Drop>(stop: Stop<F>, place: P) -> Stopped
-    ensures { result ≡ stopped_at (F.raised place) stop }
+    ensures { result ≡ stopped_at (F.raises place) stop }
 {
     match stop {
         Stop::Found(fault) => Stopped::Faulty(fault.raise(place)),

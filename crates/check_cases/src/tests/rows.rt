@@ -73,13 +73,13 @@ pub const STRICT: &[Profile] = &[Profile::Strict];
 pub const BOTH: &[Profile] = &[Profile::Plain, Profile::Strict];
 
 // What a check answers of an image.
-pub fn told(alloc: Global, image: Vec<u8>, profile: Profile) -> Result<Report, Stop<Fault>> {
+pub(super) fn told(alloc: Global, image: Vec<u8>, profile: Profile) -> Result<Report, Stop<Fault>> {
     let mut src = MemSource::new(image, Vec::new(alloc));
     check(alloc, &mut src, profile)
 }
 
 // The numbers of a report.
-pub fn numbers(report: &Report) -> Numbers {
+pub(super) fn numbers(report: &Report) -> Numbers {
     [
         report.xid(),
         u64::from(report.volumes()),
@@ -186,7 +186,7 @@ fn is_as_said(answer: &Result<Report, Stop<Fault>>, said: Said) -> bool {
 }
 
 // Whether an image is as said, under each of some profiles.
-pub fn assert_row(
+pub(super) fn assert_row(
     rt: &impl Abort,
     alloc: Global,
     name: &str,
@@ -203,7 +203,7 @@ pub fn assert_row(
 }
 
 // Whether each image of a table is as said.
-pub fn assert_rows(rt: &impl Abort, alloc: Global, rows: &[Row]) -> Result<(), Fail> {
+pub(super) fn assert_rows(rt: &impl Abort, alloc: Global, rows: &[Row]) -> Result<(), Fail> {
     for (name, base, changes, profiles, said) in rows.iter() {
         let image = image(alloc, base, changes)?;
         assert_row(rt, alloc, name, &image, profiles, *said)?;

@@ -29,7 +29,7 @@ fn view_of(volume: &Volume, cp: &Checkpoint, number: usize) -> Option<View> {
 }
 
 // The view of a number.
-pub fn open(alloc: Global, src: &mut MemSource, number: usize) -> Result<Opened, Fail>
+pub(super) fn open(alloc: Global, src: &mut MemSource, number: usize) -> Result<Opened, Fail>
     ensures { IfOk result (λ at. IsSiteFor at.site (length src.new.bytes)) }
 {
     let Ok(cp) = newest(alloc, src) else {

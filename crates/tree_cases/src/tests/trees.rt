@@ -212,7 +212,7 @@ fn image_with(alloc: Global, leaves: Vec<Leaf>) -> Result<Vec<u8>, Fail> {
 }
 
 // A container whose volume has this tree, in one node.
-pub fn image_of(alloc: Global, top: Top, records: &[Rec]) -> Result<Vec<u8>, Fail> {
+pub(super) fn image_of(alloc: Global, top: Top, records: &[Rec]) -> Result<Vec<u8>, Fail> {
     let root = Leaf {
         oid: ROOT_OID,
         items: items_of(alloc, top, records)?,
@@ -221,7 +221,7 @@ pub fn image_of(alloc: Global, top: Top, records: &[Rec]) -> Result<Vec<u8>, Fai
 }
 
 // A container whose volume has this tree, in two leaves below the root, of which the last has its last item alone.
-pub fn image_of_two(alloc: Global, top: Top, records: &[Rec]) -> Result<Vec<u8>, Fail> {
+pub(super) fn image_of_two(alloc: Global, top: Top, records: &[Rec]) -> Result<Vec<u8>, Fail> {
     let mut items = items_of(alloc, top, records)?;
     let mut last = Vec::new(alloc);
     if let Some(item) = items.pop() {
