@@ -3,7 +3,7 @@ use Rattle.std.proofs.Common.{◌≡◌, ℕ, zero, suc, ◌+◌, ◌≤◌, ◌
 use Rattle.std.specs.Prelude.{is_none, slice_get}
 use Rattle.std.specs.List.{flat_map, list_any}
 use Rattle.std.proofs.lemmas.List.Concat.{flat_map-append}
-use Rattle.apfs_model.specs.Lists.{Lists, through, value_of, passes}
+use Rattle.apfs_model.specs.Lists.{through, value_of, passes}
 use Rattle.obj_base.specs.Stops.{Tells, IsFree, raised}
 use Rattle.obj_base.specs.declared.stop.Stop.{Stop}
 use Rattle.obj_base.specs.declared.stop.Stop.TheVariants.{Found as Fails, Unsupported, ReadFault, NoMemory}
@@ -31,7 +31,6 @@ use Rattle.nx_ring.specs.Checkpoint.{Seen, site_of}
 use Rattle.reach_rules.specs.Naming.{LookUp, Object, TreeKind, TreeRoot, Naming}
 use Rattle.reach_rules.specs.Resolved.{Found, resolved}
 use Rattle.reach_rules.specs.Next.{next}
-use Rattle.reach_rules.specs.Live.{Live}
 use Rattle.reach_rules.specs.Trees.{tree_line, misplaced, has_counts, is_short, NamesRoot}
 use Rattle.reach_rules.specs.Features.{HasFeature}
 use Rattle.reach_rules.specs.Faults.{within_of, xid_of}
