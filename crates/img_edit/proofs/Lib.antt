@@ -1,3 +1,4 @@
 pub mod Written
 pub mod Sealed
 pub mod Others
+pub mod Nodes
