@@ -8,7 +8,7 @@ use crate::laying::queues::put_queues;
 use crate::laying::space::put_space;
 use crate::objects::checkpoint_map::{Mapping, checkpoint_map};
 use crate::objects::jumpstart::jumpstart;
-use crate::objects::node::Tree;
+use img_edit::node::Tree;
 use crate::objects::object_map::{MapPlan, object_map};
 use crate::objects::reaper::reaper;
 use crate::objects::superblock::{Container, superblock};

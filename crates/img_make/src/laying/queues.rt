@@ -5,7 +5,7 @@ use crate::laying::files::Ids;
 use crate::laying::image::Image;
 use crate::laying::trees::{Grown, Plot, grow};
 use crate::objects::checkpoint_map::Mapping;
-use crate::objects::node::Tree;
+use img_edit::node::Tree;
 use apfs_layout::kind;
 use img_edit::places;
 use img_plan::records::queue_record;

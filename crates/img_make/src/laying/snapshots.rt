@@ -4,7 +4,7 @@ ghost use Rattle.img_make.specs.Images.{HasGrown};
 use crate::laying::files::root_of;
 use crate::laying::image::Image;
 use crate::laying::physical::put_physical;
-use crate::objects::node::Tree;
+use img_edit::node::Tree;
 use crate::objects::volume::{Places, volume_superblock};
 use img_plan::records::{map_snapshot, snapshot_name, snapshot_record};
 use img_plan::{Item, Version, VolPlan};

@@ -5,7 +5,7 @@ use crate::laying::files::{Ids, Placed, put_files, root_of};
 use crate::laying::image::Image;
 use crate::laying::physical::put_physical;
 use crate::laying::snapshots::{Kept, put_snapshots};
-use crate::objects::node::Tree;
+use img_edit::node::Tree;
 use crate::objects::object_map::{MapPlan, object_map};
 use crate::objects::volume::{Places, volume_superblock};
 use apfs_layout::key::KIND_UNIT;

@@ -2,7 +2,7 @@
 ghost use Rattle.std.specs.Prelude.{◌≡◌, ◌≤◌, length};
 
 use super::chunk_info::put_addresses;
-use super::header::{Head, block_with};
+use img_edit::header::{Head, block_with};
 use crate::geometry::Geometry;
 use apfs_layout::kind;
 use apfs_layout::space_manager::{
@@ -164,7 +164,7 @@ pub(crate) fn space_manager(
     space: &Space<'_>,
 ) -> Result<Vec<u8>, AllocError> {
     let head = Head::ephemeral(places::SPACE_OID, space.xid, kind::SPACE_MANAGER);
-    let mut block = block_with(alloc, geometry, &head)?;
+    let mut block = block_with(alloc, geometry.size, &head)?;
     put_device(&mut block, geometry, space);
     put_names(&mut block, &space.pool);
     put_pool(&mut block, space);
