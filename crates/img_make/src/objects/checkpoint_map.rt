@@ -1,13 +1,13 @@
 // The checkpoint map (Container, checkpoint_map_phys_t).
 ghost use Rattle.std.specs.Prelude.{◌≡◌, ◌≤◌, length, IfOk, vec_len};
 
-use img_edit::header::{EPHEMERAL, Head, block_with, type_of};
 use crate::geometry::Geometry;
 use apfs_layout::checkpoint_map::{
     COUNT, FLAGS, LAST_MAP, MAPPING_LEN, MAPPING_OID, MAPPING_PADDR, MAPPING_SIZE, MAPPING_SUBTYPE,
     MAPPING_TYPE, MAPPINGS,
 };
 use apfs_layout::kind;
+use img_edit::header::{EPHEMERAL, Head, block_with, type_of};
 use img_edit::places::CHECKPOINT_MAP;
 use img_edit::{put_u32, put_u64, reseal};
 use std::alloc::{AllocError, Global};

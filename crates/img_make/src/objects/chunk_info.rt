@@ -2,13 +2,13 @@
 // (cib_addr_block_t), and bitmaps.
 ghost use Rattle.std.specs.Prelude.{◌≡◌, ◌≤◌, length};
 
-use img_edit::header::{Head, block_with};
 use crate::geometry::Geometry;
 use apfs_layout::chunk_info::{
     ADDRESS_LEN, CAB_ADDRESSES, CAB_COUNT, CAB_INDEX, CHUNK_ADDRESS, CHUNK_BITMAP, CHUNK_BLOCKS,
     CHUNK_FREE, CHUNK_XID, CIB_COUNT, CIB_ENTRIES, CIB_INDEX, ENTRY_LEN,
 };
 use apfs_layout::kind;
+use img_edit::header::{Head, block_with};
 use img_edit::{put_u32, put_u64, reseal};
 use std::alloc::{AllocError, Global};
 

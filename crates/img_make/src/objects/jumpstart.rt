@@ -1,10 +1,10 @@
 // An EFI jumpstart (EFI Jumpstart, nx_efi_jumpstart_t).
 ghost use Rattle.std.specs.Prelude.{◌≡◌, ◌≤◌, length};
 
-use img_edit::header::{Head, block_with};
 use crate::geometry::Geometry;
 use apfs_layout::jumpstart::{COUNT, DRIVER_LEN, EXTENT_LEN, EXTENTS, JUMP_MAGIC, MAGIC, VERSION};
 use apfs_layout::kind;
+use img_edit::header::{Head, block_with};
 use img_edit::{put_u32, put_u64, reseal};
 use std::alloc::{AllocError, Global};
 

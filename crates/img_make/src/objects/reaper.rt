@@ -1,8 +1,8 @@
 // The reaper (Reaper, nx_reaper_phys_t).
-use img_edit::header::{Head, block_with};
 use crate::geometry::Geometry;
 use apfs_layout::kind;
 use apfs_layout::reaping::{REAPER_BUFFER, REAPER_BUFFER_SIZE, REAPER_FLAGS, REAPER_NEXT_ID};
+use img_edit::header::{Head, block_with};
 use img_edit::places::REAPER_OID;
 use img_edit::{put_u32, put_u64, reseal};
 use std::alloc::{AllocError, Global};
