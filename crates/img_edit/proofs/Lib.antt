@@ -2,3 +2,4 @@ pub mod Written
 pub mod Sealed
 pub mod Others
 pub mod Nodes
+pub mod Reading

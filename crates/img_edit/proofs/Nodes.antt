@@ -1,5 +1,5 @@
 -- The parts of a node: how long they are, and its values from the last one back.
-use Rattle.std.proofs.Common.{◌≡◌, ℕ, zero, suc, ◌+◌, ◌*◌, ◌-◌, ◌≤◌, Bool, replicate, true, false, List, [], ◌∷◌, ◌++◌, length, reverse, if◌then◌else◌, vec_len, length-append, drop, refl, ap, ◌∙◌, arith}
+use Rattle.std.proofs.Common.{◌≡◌, ℕ, ◌+◌, ◌*◌, ◌-◌, ◌≤◌, Bool, replicate, true, false, List, [], ◌∷◌, ◌++◌, length, reverse, if◌then◌else◌, vec_len, length-append, drop, refl, ap, ◌∙◌, arith}
 use Rattle.std.specs.List.{flat_map}
 use Rattle.std.proofs.lemmas.Grind.{flat_map-append}
 use Rattle.std.proofs.lemmas.List.{append-nil, length-replicate, reverse-append}

@@ -1,8 +1,9 @@
 -- The bytes of an object's header and of a node, in the order in which they stand.
-use Rattle.std.specs.Prelude.{◌≡◌, ℕ, ◌+◌, ◌-◌, ◌*◌, ◌≤◌, Bool, not, ◌==◌, [], ◌∷◌, ◌++◌, List, length, drop, replicate, max, bit_or, Option, None, Some, is_some, Vec, vec_len, if◌then◌else◌}
+use Rattle.std.specs.Prelude.{◌≡◌, ℕ, ◌+◌, ◌-◌, ◌*◌, ◌^◌, ◌≤◌, ◌<◌, Bool, false, not, ◌==◌, [], ◌∷◌, ◌++◌, List, length, drop, replicate, max, slice_index_or, bit_or, Option, None, Some, is_some, Vec, vec_len, if◌then◌else◌}
 use Rattle.std.specs.declared.alloc.Global.{Global}
 use Rattle.byteorder.specs.Endian.{little_bytes}
-use Rattle.apfs_model.specs.Object.{root_kind, node_kind, sum_field}
+use Rattle.apfs_model.specs.Bytes.{u16_at, part_at}
+use Rattle.apfs_model.specs.Object.{root_kind, node_kind, sum_field, oid_of, xid_of, type_of, subtype_of}
 use Rattle.apfs_model.specs.Sum.{sum_of}
 use Rattle.img_edit.specs.declared.header.Head.{Head}
 use Rattle.img_edit.specs.declared.node.Tree.{Tree}
@@ -98,3 +99,47 @@ pub record IsWhole (size : ℕ) (bytes object : List ℕ) : Type 0 where
   pub long : length object ≡ size
   pub sum : sum_field object ≡ sum_of object
   pub rest : drop 8 object ≡ bytes
+
+-- the header of an object is read in its bytes: its id, its transaction, its type and its subtype
+pub record HasHead (head : Head) (bytes : List ℕ) : Type 0 where
+  pub oid : oid_of bytes ≡ head.oid
+  pub xid : xid_of bytes ≡ head.xid
+  pub type : type_of bytes ≡ bit_or head.storage head.kind
+  pub subtype : subtype_of bytes ≡ head.subtype
+
+-- the bytes of what a root tells of its tree, and none at another node
+abbrev pub info_len : Option Totals → ℕ
+info_len None = 0
+info_len (Some totals) = 40
+
+-- where a table entry has the offset of a value: behind that of the key, and where sizes differ behind the key's length
+abbrev pub value_at : Bool → ℕ
+value_at fixed = if fixed then 2 else 4
+
+-- a table entry at a place tells the lengths of a key and of its value
+pub record HasLengths (node : List ℕ) (at : ℕ) (item : Pair) : Type 0 where
+  pub key : u16_at node (at + 2) ≡ vec_len item.0
+  pub value : u16_at node (at + 6) ≡ vec_len item.1
+
+-- item k of so many is read where its table entry tells: its key from the table's end on, its value back from where the values end; where sizes differ the entry tells the lengths of both
+pub record HasItem (tree : Tree) (count end : ℕ) (node : List ℕ) (k : ℕ) (item : Pair) : Type 0 where
+  pub key : part_at node (56 + count * entry_len tree + u16_at node (56 + k * entry_len tree)) (vec_len item.0) ≡ item.0.items
+  pub value : part_at node (end - u16_at node (56 + k * entry_len tree + value_at (is_fixed tree))) (vec_len item.1) ≡ item.1.items
+  pub lengths : is_fixed tree ≡ false → HasLengths node (56 + k * entry_len tree) item
+
+-- all items are read in a node
+abbrev pub HasItems : ℕ → Tree → NodeHead → List Pair → List ℕ → Type 0
+HasItems size tree head items node = (k : ℕ) (none : Pair) → k < length items → HasItem tree (length items) (size - info_len head.totals) node k (slice_index_or items k none)
+
+-- the numbers of a header fit their fields
+pub record FitsHead (head : Head) : Type 0 where
+  pub oid : head.oid < 2 ^ 64
+  pub xid : head.xid < 2 ^ 64
+  pub type : bit_or head.storage head.kind < 2 ^ 32
+  pub subtype : head.subtype < 2 ^ 32
+
+-- a node with zeros for its sum, which has room for its items
+pub record IsUnsealed (size : ℕ) (tree : Tree) (head : NodeHead) (items : List Pair) (node : List ℕ) : Type 0 where
+  pub room : taken_by size tree head items ≤ size
+  pub fits : FitsHead (head_of tree head)
+  pub bytes : node ≡ replicate 8 0 ++ node_of size tree head items

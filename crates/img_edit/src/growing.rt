@@ -1,5 +1,5 @@
 // Numbers added to bytes, the lowest byte of a number first.
-ghost use Rattle.std.specs.Prelude.{◌≡◌, ◌++◌, OnOk, replicate};
+ghost use Rattle.std.specs.Prelude.{◌≡◌, ◌<◌, ◌^◌, ◌++◌, OnOk, replicate};
 ghost use Rattle.img_edit.specs.Nodes.{number_bytes};
 
 use std::alloc::AllocError;
@@ -7,7 +7,8 @@ use std::alloc::AllocError;
 /// Adds a number of 16 bits.
 #[tactic(auto, unfolding(crate::specs::Nodes::number_bytes))]
 pub(crate) fn add_u16(bytes: &mut Vec<u8>, number: u16) -> Result<(), AllocError>
-    ensures { OnOk result (bytes.new.items ≡ bytes.old.items ++ number_bytes 2 number) }
+    ensures added { OnOk result (bytes.new.items ≡ bytes.old.items ++ number_bytes 2 number) }
+    ensures fits { number < 2 ^ 16 }
 {
     bytes.extend_from_slice(&number.to_le_bytes())
 }
@@ -15,7 +16,8 @@ pub(crate) fn add_u16(bytes: &mut Vec<u8>, number: u16) -> Result<(), AllocError
 /// Adds a number of 32 bits.
 #[tactic(auto, unfolding(crate::specs::Nodes::number_bytes))]
 pub(crate) fn add_u32(bytes: &mut Vec<u8>, number: u32) -> Result<(), AllocError>
-    ensures { OnOk result (bytes.new.items ≡ bytes.old.items ++ number_bytes 4 number) }
+    ensures added { OnOk result (bytes.new.items ≡ bytes.old.items ++ number_bytes 4 number) }
+    ensures fits { number < 2 ^ 32 }
 {
     bytes.extend_from_slice(&number.to_le_bytes())
 }
@@ -23,7 +25,8 @@ pub(crate) fn add_u32(bytes: &mut Vec<u8>, number: u32) -> Result<(), AllocError
 /// Adds a number of 64 bits.
 #[tactic(auto, unfolding(crate::specs::Nodes::number_bytes))]
 pub(crate) fn add_u64(bytes: &mut Vec<u8>, number: u64) -> Result<(), AllocError>
-    ensures { OnOk result (bytes.new.items ≡ bytes.old.items ++ number_bytes 8 number) }
+    ensures added { OnOk result (bytes.new.items ≡ bytes.old.items ++ number_bytes 8 number) }
+    ensures fits { number < 2 ^ 64 }
 {
     bytes.extend_from_slice(&number.to_le_bytes())
 }

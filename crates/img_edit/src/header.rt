@@ -1,6 +1,6 @@
 //! The header of an object (Objects, obj_phys_t).
 ghost use Rattle.std.specs.Prelude.{◌≡◌, ◌≤◌, ◌-◌, ◌++◌, IfOk, OnOk, bit_or, replicate, vec_len};
-ghost use Rattle.img_edit.specs.Nodes.{header_of};
+ghost use Rattle.img_edit.specs.Nodes.{FitsHead, HasHead, header_of};
 
 use crate::growing::{add_u32, add_u64, add_zeros};
 use apfs_layout::object::{HEADER_LEN, OID};
@@ -63,7 +63,8 @@ pub fn type_of(storage: u32, kind: u16) -> u32
 // The bytes of a header, with zeros for its sum.
 #[tactic(auto, unfolding(crate::specs::Nodes::header_of))]
 pub(crate) fn add_head(bytes: &mut Vec<u8>, head: &Head) -> Result<(), AllocError>
-    ensures { OnOk result (bytes.new.items ≡ bytes.old.items ++ (replicate 8 0 ++ header_of head.now)) }
+    ensures added { OnOk result (bytes.new.items ≡ bytes.old.items ++ (replicate 8 0 ++ header_of head.now)) }
+    ensures fits { OnOk result (FitsHead head.now) }
 {
     add_zeros(bytes, OID)?;
     add_u64(bytes, head.oid)?;
@@ -77,7 +78,8 @@ pub(crate) fn add_head(bytes: &mut Vec<u8>, head: &Head) -> Result<(), AllocErro
 pub fn block_with(alloc: Global, size: usize, head: &Head) -> Result<Vec<u8>, AllocError>
     requires { 32 ≤ size }
     ensures len { IfOk result (λ block. vec_len block ≡ size) }
-    ensures bytes { IfOk result (λ block. block.items ≡ replicate 8 0 ++ header_of head.now ++ replicate (size - 32) 0) }
+    ensures stands { IfOk result (λ block. block.items ≡ replicate 8 0 ++ header_of head.now ++ replicate (size - 32) 0) }
+    ensures header { IfOk result (λ block. HasHead head.now block.items) }
 {
     let mut block = Vec::with_capacity(alloc, size)?;
     add_head(&mut block, head)?;

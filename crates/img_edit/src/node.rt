@@ -1,5 +1,5 @@
 //! Nodes of trees (B-Trees, btree_node_phys_t and btree_info_t).
-ghost use Rattle.std.specs.Prelude.{◌≡◌, ◌≤◌, ◌<◌, ◌+◌, ◌-◌, ◌*◌, ◌%◌, ◌++◌, MatchOption, IfOk, OnOk, length, replicate, vec_len};
+ghost use Rattle.std.specs.Prelude.{◌≡◌, ◌≤◌, ◌<◌, ◌+◌, ◌-◌, ◌*◌, ◌%◌, ◌++◌, MatchOption, IfOk, IfSome, OnOk, length, replicate, vec_len};
 ghost use Rattle.img_edit.specs.Nodes as spec;
 
 use crate::growing::{add_u16, add_u32, add_u64, add_zeros};
@@ -257,9 +257,10 @@ fn add_entry(
     value: usize,
     item: &Item,
 ) -> Result<(), AllocError>
-    requires key { key + vec_len item.now.0 < 65536 }
+    requires key { key < 65536 }
+    requires key_len { vec_len item.now.0 < 65536 }
     requires value { value < 65536 }
-    requires value_len { vec_len item.now.1 ≤ value }
+    requires value_len { vec_len item.now.1 < 65536 }
     ensures { OnOk result (block.new.items ≡ block.old.items ++ spec.entry_of fixed key value item.now) }
 {
     add_u16(block, key as u16)?;
@@ -298,7 +299,7 @@ fn unsealed(
     items: &[Item],
 ) -> Result<Option<Vec<u8>>, AllocError>
     requires { size ≤ 65536 }
-    ensures { IfOk result (λ node. MatchOption node (size < spec.taken_by size tree.now head.now items.now) (λ block. (spec.taken_by size tree.now head.now items.now ≤ size) × (block.items ≡ replicate 8 0 ++ spec.node_of size tree.now head.now items.now))) }
+    ensures { IfOk result (λ node. MatchOption node (size < spec.taken_by size tree.now head.now items.now) (λ block. spec.IsUnsealed size tree.now head.now items.now block.items)) }
 {
     let keys = keys_of(alloc, items)?;
     let values = values_of(alloc, items)?;
@@ -339,7 +340,9 @@ pub fn node(
 ) -> Result<Option<Vec<u8>>, AllocError>
     requires whole { size % 4 ≡ 0 }
     requires most { size ≤ 65536 }
-    ensures { IfOk result (λ node. MatchOption node (size < spec.taken_by size tree.now head.now items.now) (λ block. spec.IsWhole size (spec.node_of size tree.now head.now items.now) block.items)) }
+    ensures stands { IfOk result (λ node. MatchOption node (size < spec.taken_by size tree.now head.now items.now) (λ block. spec.IsWhole size (spec.node_of size tree.now head.now items.now) block.items)) }
+    ensures header { IfOk result (λ node. IfSome node (λ block. spec.HasHead (spec.head_of tree.now head.now) block.items)) }
+    ensures items { IfOk result (λ node. IfSome node (λ block. spec.HasItems size tree.now head.now items.now block.items)) }
 {
     let Some(mut block) = unsealed(alloc, size, tree, head, items)? else {
         return Ok(None);

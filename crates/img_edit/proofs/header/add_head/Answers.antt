@@ -3,6 +3,6 @@ use Rattle.std.proofs.lemmas.Result.{IfOk-equal}
 use Rattle.img_edit.specs.Nodes.{header_of}
 use Rattle.img_edit.proofs.header.add_head.Goals as goal
 
-pub returns : goal.returns
+pub returns-clause-added : goal.returns-clause-added
 unfolding header_of
-returns c = search (rules, IfOk-equal, append_assoc)
+returns-clause-added c = search (rules, IfOk-equal, append_assoc)

@@ -1,4 +1,4 @@
-use Rattle.std.proofs.Common.{◌≡◌, map, reverse}
+use Rattle.std.proofs.Common.{◌≡◌, map}
 use Rattle.std.specs.List.{flat_map}
 use Rattle.img_edit.specs.Nodes.{Pair}
 use Rattle.img_edit.proofs.node.values_of.Given as goal
