@@ -78,7 +78,7 @@ pub(crate) fn add_head(bytes: &mut Vec<u8>, head: &Head) -> Result<(), AllocErro
 pub fn block_with(alloc: Global, size: usize, head: &Head) -> Result<Vec<u8>, AllocError>
     requires { 32 ≤ size }
     ensures len { IfOk result (λ block. vec_len block ≡ size) }
-    ensures stands { IfOk result (λ block. block.items ≡ replicate 8 0 ++ header_of head.now ++ replicate (size - 32) 0) }
+    ensures laid { IfOk result (λ block. block.items ≡ replicate 8 0 ++ header_of head.now ++ replicate (size - 32) 0) }
     ensures header { IfOk result (λ block. HasHead head.now block.items) }
 {
     let mut block = Vec::with_capacity(alloc, size)?;

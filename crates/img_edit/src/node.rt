@@ -340,7 +340,7 @@ pub fn node(
 ) -> Result<Option<Vec<u8>>, AllocError>
     requires whole { size % 4 ≡ 0 }
     requires most { size ≤ 65536 }
-    ensures stands { IfOk result (λ node. MatchOption node (size < spec.taken_by size tree.now head.now items.now) (λ block. spec.IsWhole size (spec.node_of size tree.now head.now items.now) block.items)) }
+    ensures laid { IfOk result (λ node. MatchOption node (size < spec.taken_by size tree.now head.now items.now) (λ block. spec.IsWhole size (spec.node_of size tree.now head.now items.now) block.items)) }
     ensures header { IfOk result (λ node. IfSome node (λ block. spec.HasHead (spec.head_of tree.now head.now) block.items)) }
     ensures items { IfOk result (λ node. IfSome node (λ block. spec.HasItems size tree.now head.now items.now block.items)) }
 {

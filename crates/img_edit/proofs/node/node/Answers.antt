@@ -18,7 +18,7 @@ returns c =
     let kept : take old.len (new ++ drop (length new) old.items) ≡ new = take_at new _ _ (omega (arith, old.ok.0)) in
     let rest : drop 8 new ≡ spec.node_of size tree head items = c.reseal.ensures.same ∙ ap (λ l. drop 8 l) c.deref_mut.ensures.value ∙ behind_sum _ old.items was.bytes in
     rw kept (record {
-      stands = record { long = omega (arith, long); sum = c.reseal.ensures.sum; rest = rest };
+      laid = record { long = omega (arith, long); sum = c.reseal.ensures.sum; rest = rest };
       header = node_head_read size tree head items new rest was.fits;
       items = items_read size tree head items new rest was.room c.requires.most;
     })
