@@ -1,3 +1,5 @@
 pub mod Written
 pub mod Sealed
 pub mod Others
+pub mod Nodes
+pub mod Reading

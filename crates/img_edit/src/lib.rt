@@ -3,6 +3,9 @@
 
 mod counts;
 mod editing;
+mod growing;
+pub mod header;
+pub mod node;
 pub mod places;
 mod seal;
 mod writer;

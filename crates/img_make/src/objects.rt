@@ -2,9 +2,7 @@
 
 pub(crate) mod checkpoint_map;
 pub(crate) mod chunk_info;
-pub(crate) mod header;
 pub(crate) mod jumpstart;
-pub(crate) mod node;
 pub(crate) mod object_map;
 pub(crate) mod reaper;
 pub(crate) mod space_manager;

@@ -6,6 +6,7 @@ use crate::{At, Omap, OmapFault, OmapRecord, Place};
 use blk_source::MemSource;
 use bt_cursor::{Namer, WalkFault};
 use image::{Entry, Map, Node, map_image};
+use img_edit::node::Tree;
 use obj_base::{Feature, HeadFault, Site, Stop};
 use std::alloc::Global;
 use std::process::Abort;
@@ -29,8 +30,7 @@ const THREE: &[Entry] = &[(7, 3, 0, 5), (7, 5, 1, 6), (9, 2, 0, 7)];
 
 fn records(level: u16, root: Option<(u64, u64)>, entries: &'static [Entry]) -> Node {
     Node {
-        subtype: 0xb,
-        key_len: 16,
+        tree: Tree::OBJECT_MAP,
         level,
         root,
         entries,
@@ -39,8 +39,7 @@ fn records(level: u16, root: Option<(u64, u64)>, entries: &'static [Entry]) -> N
 
 fn snapshots(entries: &'static [Entry]) -> Node {
     Node {
-        subtype: 0x13,
-        key_len: 8,
+        tree: Tree::MAP_SNAPSHOTS,
         level: 0,
         root: Some((2, 1)),
         entries,

@@ -3,29 +3,24 @@
 use crate::WalkFault;
 use crate::tests::image::{Form, Node};
 use bt_node::NodeFault;
+use img_edit::node::Tree;
 use obj_base::HeadFault;
 
 /// The keys of a queue are two numbers, and a tree has each once.
 pub const QUEUE: Form = Form {
-    subtype: 9,
-    fixed: true,
-    key_len: 16,
+    tree: Tree::QUEUE,
     name: &[],
 };
 
 /// A file-system tree whose names are hashed: the name's length with its hash above it, and the name.
 pub const HASHED: Form = Form {
-    subtype: 0xe,
-    fixed: false,
-    key_len: 16,
+    tree: Tree::FILE_SYSTEM,
     name: &[2, 8, 0, 0, b'a', 0],
 };
 
 /// One whose names aren't: the name's length, and the name.
 pub const PLAIN: Form = Form {
-    subtype: 0xe,
-    fixed: false,
-    key_len: 16,
+    tree: Tree::FILE_SYSTEM,
     name: &[2, 0, b'a', 0],
 };
 

@@ -4,7 +4,7 @@ ghost use Rattle.img_make.specs.Images.{HasGrown};
 use crate::geometry::Geometry;
 use crate::laying::image::Image;
 use crate::laying::trees::{Node, Plot, grow};
-use crate::objects::node::Tree;
+use img_edit::node::Tree;
 use img_plan::{Version, VolPlan};
 use std::alloc::{AllocError, Global};
 

@@ -3,7 +3,7 @@ ghost use Rattle.img_make.specs.Images.{HasGrown};
 
 use crate::laying::image::Image;
 use crate::laying::trees::{Plot, grow};
-use crate::objects::node::Tree;
+use img_edit::node::Tree;
 use img_plan::{Item, pack};
 use std::alloc::{AllocError, Global};
 

@@ -1,6 +1,6 @@
 // Trees of nodes, built from the leaves up.
 use crate::geometry::Geometry;
-use crate::objects::node::{NodeHead, Totals, Tree, node};
+use img_edit::node::{NodeHead, Totals, Tree, node};
 use img_plan::records::child;
 use img_plan::{Item, Leaf, pack};
 use std::alloc::{AllocError, Global};
@@ -83,6 +83,16 @@ fn first_key(part: &Leaf) -> &[u8] {
     }
 }
 
+// A node with its items. A valid plan has no leaf without room.
+fn node_of(
+    alloc: Global,
+    plot: &Plot<'_>,
+    head: &NodeHead,
+    items: &[Item],
+) -> Result<Vec<u8>, AllocError> {
+    node(alloc, plot.geometry.size, &plot.tree, head, items)?.ok_or(AllocError)
+}
+
 // The nodes of one level below the root; the items by which the level above names them.
 fn grow_level(
     alloc: Global,
@@ -101,7 +111,7 @@ fn grow_level(
             level,
             totals: None,
         };
-        let bytes = node(alloc, plot.geometry, &plot.tree, &head, &part.items)?;
+        let bytes = node_of(alloc, plot, &head, &part.items)?;
         grown.nodes.push(Node { oid, xid, bytes })?;
         children.push(child(alloc, first_key(part), oid)?)?;
     }
@@ -148,7 +158,7 @@ fn grow_root(
         level,
         totals: Some(totals),
     };
-    let bytes = node(alloc, plot.geometry, &plot.tree, &head, items)?;
+    let bytes = node_of(alloc, plot, &head, items)?;
     grown.nodes.push(Node { oid, xid, bytes })?;
     Ok(())
 }

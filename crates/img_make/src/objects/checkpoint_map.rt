@@ -1,13 +1,13 @@
 // The checkpoint map (Container, checkpoint_map_phys_t).
 ghost use Rattle.std.specs.Prelude.{◌≡◌, ◌≤◌, length, IfOk, vec_len};
 
-use super::header::{EPHEMERAL, Head, block_with, type_of};
 use crate::geometry::Geometry;
 use apfs_layout::checkpoint_map::{
     COUNT, FLAGS, LAST_MAP, MAPPING_LEN, MAPPING_OID, MAPPING_PADDR, MAPPING_SIZE, MAPPING_SUBTYPE,
     MAPPING_TYPE, MAPPINGS,
 };
 use apfs_layout::kind;
+use img_edit::header::{EPHEMERAL, Head, block_with, type_of};
 use img_edit::places::CHECKPOINT_MAP;
 use img_edit::{put_u32, put_u64, reseal};
 use std::alloc::{AllocError, Global};
@@ -50,7 +50,7 @@ pub(crate) fn checkpoint_map(
     mappings: &[Mapping],
 ) -> Result<Vec<u8>, AllocError> {
     let head = Head::physical(CHECKPOINT_MAP, xid, kind::CHECKPOINT_MAP);
-    let mut block = block_with(alloc, geometry, &head)?;
+    let mut block = block_with(alloc, geometry.size, &head)?;
     put_u32(&mut block, FLAGS, LAST_MAP);
     put_u32(&mut block, COUNT, (mappings.len() % 0x1_0000_0000) as u32);
     put_mappings(&mut block, geometry, mappings);

@@ -2,13 +2,13 @@
 // (cib_addr_block_t), and bitmaps.
 ghost use Rattle.std.specs.Prelude.{◌≡◌, ◌≤◌, length};
 
-use super::header::{Head, block_with};
 use crate::geometry::Geometry;
 use apfs_layout::chunk_info::{
     ADDRESS_LEN, CAB_ADDRESSES, CAB_COUNT, CAB_INDEX, CHUNK_ADDRESS, CHUNK_BITMAP, CHUNK_BLOCKS,
     CHUNK_FREE, CHUNK_XID, CIB_COUNT, CIB_ENTRIES, CIB_INDEX, ENTRY_LEN,
 };
 use apfs_layout::kind;
+use img_edit::header::{Head, block_with};
 use img_edit::{put_u32, put_u64, reseal};
 use std::alloc::{AllocError, Global};
 
@@ -61,7 +61,7 @@ pub(crate) fn chunk_info(
     chunks: &[Chunk],
 ) -> Result<Vec<u8>, AllocError> {
     let head = Head::physical(spot.block, xid, kind::CHUNK_INFO);
-    let mut block = block_with(alloc, geometry, &head)?;
+    let mut block = block_with(alloc, geometry.size, &head)?;
     put_u32(&mut block, CIB_INDEX, (spot.index % 0x1_0000_0000) as u32);
     put_u32(&mut block, CIB_COUNT, (chunks.len() % 0x1_0000_0000) as u32);
     put_chunks(&mut block, start, chunks, xid);
@@ -86,7 +86,7 @@ pub(crate) fn address_block(
     count: usize,
 ) -> Result<Vec<u8>, AllocError> {
     let head = Head::physical(spot.block, xid, kind::CHUNK_ADDRESSES);
-    let mut block = block_with(alloc, geometry, &head)?;
+    let mut block = block_with(alloc, geometry.size, &head)?;
     put_u32(&mut block, CAB_INDEX, (spot.index % 0x1_0000_0000) as u32);
     put_u32(&mut block, CAB_COUNT, (count % 0x1_0000_0000) as u32);
     put_addresses(&mut block[CAB_ADDRESSES..], first, count);

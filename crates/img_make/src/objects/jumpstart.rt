@@ -1,10 +1,10 @@
 // An EFI jumpstart (EFI Jumpstart, nx_efi_jumpstart_t).
 ghost use Rattle.std.specs.Prelude.{◌≡◌, ◌≤◌, length};
 
-use super::header::{Head, block_with};
 use crate::geometry::Geometry;
 use apfs_layout::jumpstart::{COUNT, DRIVER_LEN, EXTENT_LEN, EXTENTS, JUMP_MAGIC, MAGIC, VERSION};
 use apfs_layout::kind;
+use img_edit::header::{Head, block_with};
 use img_edit::{put_u32, put_u64, reseal};
 use std::alloc::{AllocError, Global};
 
@@ -40,7 +40,7 @@ pub(crate) fn jumpstart(
     extents: &[(u64, u64)],
 ) -> Result<Vec<u8>, AllocError> {
     let head = Head::physical(at, xid, kind::JUMPSTART);
-    let mut block = block_with(alloc, geometry, &head)?;
+    let mut block = block_with(alloc, geometry.size, &head)?;
     put_u32(&mut block, MAGIC, JUMP_MAGIC);
     put_u32(&mut block, VERSION, VERSION_1);
     put_u32(&mut block, DRIVER_LEN, driver_len(geometry, extents));

@@ -1,10 +1,10 @@
 // Object maps (Object Maps, omap_phys_t).
-use super::header::{Head, PHYSICAL, block_with, type_of};
 use crate::geometry::Geometry;
 use apfs_layout::kind;
 use apfs_layout::object_map::{
     FLAGS, LATEST_SNAP, MANUALLY_MANAGED, SNAP_COUNT, SNAP_TREE, SNAP_TREE_TYPE, TREE, TREE_TYPE,
 };
+use img_edit::header::{Head, PHYSICAL, block_with, type_of};
 use img_edit::{put_u32, put_u64, reseal};
 use std::alloc::{AllocError, Global};
 
@@ -32,7 +32,7 @@ pub(crate) fn object_map(
     plan: &MapPlan,
 ) -> Result<Vec<u8>, AllocError> {
     let head = Head::physical(plan.block, plan.xid, kind::OBJECT_MAP);
-    let mut map = block_with(alloc, geometry, &head)?;
+    let mut map = block_with(alloc, geometry.size, &head)?;
     let flags = if plan.is_container {
         MANUALLY_MANAGED
     } else {

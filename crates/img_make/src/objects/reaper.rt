@@ -1,8 +1,8 @@
 // The reaper (Reaper, nx_reaper_phys_t).
-use super::header::{Head, block_with};
 use crate::geometry::Geometry;
 use apfs_layout::kind;
 use apfs_layout::reaping::{REAPER_BUFFER, REAPER_BUFFER_SIZE, REAPER_FLAGS, REAPER_NEXT_ID};
+use img_edit::header::{Head, block_with};
 use img_edit::places::REAPER_OID;
 use img_edit::{put_u32, put_u64, reseal};
 use std::alloc::{AllocError, Global};
@@ -13,7 +13,7 @@ const ALWAYS_SET: u32 = 1;
 /// The reaper, which has nothing to do.
 pub(crate) fn reaper(alloc: Global, geometry: Geometry, xid: u64) -> Result<Vec<u8>, AllocError> {
     let head = Head::ephemeral(REAPER_OID, xid, kind::REAPER);
-    let mut block = block_with(alloc, geometry, &head)?;
+    let mut block = block_with(alloc, geometry.size, &head)?;
     put_u64(&mut block, REAPER_NEXT_ID, 1);
     put_u32(&mut block, REAPER_FLAGS, ALWAYS_SET);
     let buffer = geometry.size - REAPER_BUFFER;

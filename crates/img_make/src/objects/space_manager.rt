@@ -2,7 +2,6 @@
 ghost use Rattle.std.specs.Prelude.{◌≡◌, ◌≤◌, length};
 
 use super::chunk_info::put_addresses;
-use super::header::{Head, block_with};
 use crate::geometry::Geometry;
 use apfs_layout::kind;
 use apfs_layout::space_manager::{
@@ -12,6 +11,7 @@ use apfs_layout::space_manager::{
     POOL_QUEUE_TREE, RING_BASE, RING_BITMAPS, RING_BLOCKS, RING_FREE_HEAD, RING_FREE_NEXT,
     RING_FREE_TAIL, RING_INDEXES, RING_XIDS, SECOND_ADDRESSES,
 };
+use img_edit::header::{Head, block_with};
 use img_edit::{places, put_u16, put_u32, put_u64, reseal};
 use img_plan::QueueEntry;
 use std::alloc::{AllocError, Global};
@@ -164,7 +164,7 @@ pub(crate) fn space_manager(
     space: &Space<'_>,
 ) -> Result<Vec<u8>, AllocError> {
     let head = Head::ephemeral(places::SPACE_OID, space.xid, kind::SPACE_MANAGER);
-    let mut block = block_with(alloc, geometry, &head)?;
+    let mut block = block_with(alloc, geometry.size, &head)?;
     put_device(&mut block, geometry, space);
     put_names(&mut block, &space.pool);
     put_pool(&mut block, space);

@@ -1,7 +1,6 @@
 // The container superblock (Container, nx_superblock_t).
 ghost use Rattle.std.specs.Prelude.{◌≡◌, ◌≤◌, length};
 
-use super::header::{Head, block_with};
 use crate::geometry::Geometry;
 use apfs_layout::container::{
     BLOCK_COUNT, BLOCK_SIZE, DATA_BASE, DATA_BLOCKS, DATA_LEN, DATA_NEXT, DESC_BASE, DESC_BLOCKS,
@@ -9,6 +8,7 @@ use apfs_layout::container::{
     NEXT_OID, NEXT_XID, NX_MAGIC, NX_OID, OMAP_OID, REAPER_OID, SLOTS, SPACE_OID, UUID, VERSION_2,
 };
 use apfs_layout::kind;
+use img_edit::header::{Head, block_with};
 use img_edit::{places, put_bytes, put_u32, put_u64, reseal};
 use std::alloc::{AllocError, Global};
 
@@ -83,7 +83,7 @@ pub(crate) fn superblock(
     container: &Container<'_>,
 ) -> Result<Vec<u8>, AllocError> {
     let head = Head::ephemeral(NX_OID, container.xid, kind::CONTAINER);
-    let mut block = block_with(alloc, geometry, &head)?;
+    let mut block = block_with(alloc, geometry.size, &head)?;
     put_u32(&mut block, MAGIC, NX_MAGIC);
     put_u32(&mut block, BLOCK_SIZE, geometry.size as u32);
     put_u64(&mut block, BLOCK_COUNT, container.blocks);

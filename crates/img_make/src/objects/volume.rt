@@ -1,7 +1,6 @@
 // The volume superblock (Volumes, apfs_superblock_t).
 ghost use Rattle.std.specs.Prelude.{◌≡◌, ◌≤◌, length};
 
-use super::header::{Head, PHYSICAL, VIRTUAL, block_with, type_of};
 use crate::geometry::Geometry;
 use apfs_layout::kind;
 use apfs_layout::volume::{
@@ -11,6 +10,7 @@ use apfs_layout::volume::{
     SNAPS_ROOT, SNAPS_TYPE, SNAPSHOTS, UNENCRYPTED, UUID, VOLUME_MAGIC,
 };
 use fs_name::Names;
+use img_edit::header::{Head, PHYSICAL, VIRTUAL, block_with, type_of};
 use img_edit::{put_bytes, put_u16, put_u32, put_u64, reseal};
 use img_plan::VolPlan;
 use std::alloc::{AllocError, Global};
@@ -104,7 +104,7 @@ pub(crate) fn volume_superblock(
         kind: kind::VOLUME,
         subtype: 0,
     };
-    let mut block = block_with(alloc, geometry, &head)?;
+    let mut block = block_with(alloc, geometry.size, &head)?;
     put_u32(&mut block, MAGIC, VOLUME_MAGIC);
     put_u32(&mut block, SLOT, (places.slot % 0x1_0000_0000) as u32);
     put_trees(&mut block, places);

@@ -10,12 +10,10 @@ use apfs_layout::key::{
     SECOND_LEN, SIBLING_LINK,
 };
 use apfs_layout::node::VARIABLE_ENTRY_LEN;
+pub use img_edit::node::Item;
 use img_edit::put_u64;
 use obj_base::{u32_at, u64_at};
 use std::alloc::{AllocError, Global};
-
-/// A key and its value.
-pub type Item = (Vec<u8>, Vec<u8>);
 
 /// The bytes that an item takes in a node whose keys and values differ in size; as many as a number can tell.
 pub fn node_bytes(item: &Item) -> usize

@@ -1,6 +1,10 @@
 // Containers of eight blocks of 4,096 bytes: nothing in block 0, an object map in block 1, and nodes from block 2 on.
 
-use obj_base::sum64;
+use apfs_layout::kind;
+use apfs_layout::object_map::{REVERT_MIN, SNAP_COUNT, SNAP_TREE, TREE};
+use img_edit::header::{Head, block_with};
+use img_edit::node::{Item, NodeHead, Totals, Tree, node};
+use img_edit::{put_u32, put_u64, reseal};
 use std::alloc::{AllocError, Global};
 
 /// The fields of an object map that are read.
@@ -16,106 +20,81 @@ pub struct Map {
 pub type Entry = (u64, u64, u32, u64);
 
 /// A node of a tree of records or of snapshots, and the numbers of keys and nodes that a root tells.
-#[derive(Clone, Copy, PartialEq, Eq, Debug)]
+#[derive(Clone, Copy)]
 pub struct Node {
-    pub subtype: u32,
-    pub key_len: u16,
+    pub tree: Tree,
     pub level: u16,
     pub root: Option<(u64, u64)>,
     pub entries: &'static [Entry],
 }
 
-fn put(block: &mut [u8; 4096], at: usize, bytes: &[u8]) {
-    for (i, byte) in bytes.iter().enumerate() {
-        let place = at.saturating_add(i);
-        if place < 4096 {
-            block[place] = *byte;
-        }
-    }
+fn map_block(alloc: Global, map: Map) -> Result<Vec<u8>, AllocError> {
+    let head = Head::physical(1, 1, kind::OBJECT_MAP);
+    let mut block = block_with(alloc, 4096, &head)?;
+    put_u32(&mut block, SNAP_COUNT, map.snap_count);
+    put_u64(&mut block, TREE, map.tree);
+    put_u64(&mut block, SNAP_TREE, map.snap_tree);
+    put_u64(&mut block, REVERT_MIN, map.revert);
+    reseal(&mut block);
+    Ok(block)
 }
 
-fn put_header(block: &mut [u8; 4096], oid: u64, kind: u32, subtype: u32) {
-    put(block, 8, &oid.to_le_bytes());
-    put(block, 16, &1u64.to_le_bytes());
-    put(block, 24, &kind.to_le_bytes());
-    put(block, 28, &subtype.to_le_bytes());
+// The key of an entry, of one word or of two.
+fn key(alloc: Global, tree: Tree, entry: &Entry) -> Result<Vec<u8>, AllocError> {
+    let mut key = Vec::from_slice(alloc, &entry.0.to_le_bytes())?;
+    if tree.key_size == 16 {
+        key.extend_from_slice(&entry.1.to_le_bytes())?;
+    }
+    Ok(key)
 }
 
-fn seal(block: &mut [u8; 4096]) {
-    let sum = sum64(&block[..]);
-    put(block, 0, &sum.to_le_bytes());
+// The value of an entry: its flags, the bytes of a block, and its block; above the leaves a child alone.
+fn value(alloc: Global, level: u16, entry: &Entry) -> Result<Vec<u8>, AllocError> {
+    let mut value = Vec::new(alloc);
+    if level == 0 {
+        value.extend_from_slice(&entry.2.to_le_bytes())?;
+        value.extend_from_slice(&4096u32.to_le_bytes())?;
+    }
+    value.extend_from_slice(&entry.3.to_le_bytes())?;
+    Ok(value)
 }
 
-fn map_block(map: Map) -> [u8; 4096] {
-    let mut block = [0; 4096];
-    put_header(&mut block, 1, 0xb, 0);
-    put(&mut block, 36, &map.snap_count.to_le_bytes());
-    put(&mut block, 48, &map.tree.to_le_bytes());
-    put(&mut block, 56, &map.snap_tree.to_le_bytes());
-    put(&mut block, 72, &map.revert.to_le_bytes());
-    seal(&mut block);
-    block
+fn items(alloc: Global, plan: &Node) -> Result<Vec<Item>, AllocError> {
+    let mut items = Vec::new(alloc);
+    for entry in plan.entries.iter() {
+        let item = (
+            key(alloc, plan.tree, entry)?,
+            value(alloc, plan.level, entry)?,
+        );
+        items.push(item)?;
+    }
+    Ok(items)
 }
 
-fn put_entry(block: &mut [u8; 4096], node: &Node, i: u16, entry: &Entry) {
-    let count = node.entries.len().min(16);
-    let key_offset = i.saturating_mul(node.key_len);
-    let value_offset = i.saturating_add(1).saturating_mul(16);
-    let key = 56 + 4 * count + usize::from(key_offset);
-    let end: u16 = if node.root.is_some() { 4056 } else { 4096 };
-    let value = usize::from(end.saturating_sub(value_offset));
-    put(block, 56 + 4 * usize::from(i), &key_offset.to_le_bytes());
-    put(block, 58 + 4 * usize::from(i), &value_offset.to_le_bytes());
-    put(block, key, &entry.0.to_le_bytes());
-    if node.key_len == 16 {
-        put(block, key + 8, &entry.1.to_le_bytes());
-    }
-    if node.level == 0 {
-        put(block, value, &entry.2.to_le_bytes());
-        put(block, value + 4, &4096u32.to_le_bytes());
-        put(block, value + 8, &entry.3.to_le_bytes());
-    } else {
-        put(block, value, &entry.3.to_le_bytes());
-    }
-}
-
-fn node_block(oid: u64, node: &Node) -> [u8; 4096] {
-    let mut block = [0; 4096];
-    let count = node.entries.len().min(16) as u32;
-    let kind = if node.root.is_some() { 2 } else { 3 };
-    let mut flags = 4u16;
-    if node.level == 0 {
-        flags |= 2;
-    }
-    if let Some((keys, nodes)) = node.root {
-        flags |= 1;
-        put(&mut block, 4060, &4096u32.to_le_bytes());
-        put(&mut block, 4080, &keys.to_le_bytes());
-        put(&mut block, 4088, &nodes.to_le_bytes());
-    }
-    put_header(&mut block, oid, kind, node.subtype);
-    put(&mut block, 32, &flags.to_le_bytes());
-    put(&mut block, 34, &node.level.to_le_bytes());
-    put(&mut block, 36, &count.to_le_bytes());
-    put(&mut block, 42, &(4 * count).to_le_bytes()[..2]);
-    for (i, entry) in node.entries.iter().enumerate() {
-        put_entry(&mut block, node, u16::try_from(i).unwrap_or(0), entry);
-    }
-    seal(&mut block);
-    block
+fn node_block(alloc: Global, oid: u64, plan: &Node) -> Result<Vec<u8>, AllocError> {
+    let head = NodeHead {
+        oid,
+        xid: 1,
+        level: plan.level,
+        totals: plan.root.map(|(keys, nodes)| Totals {
+            keys,
+            nodes,
+            longest_key: 0,
+            longest_value: 0,
+        }),
+    };
+    let items = items(alloc, plan)?;
+    node(alloc, 4096, &plan.tree, &head, &items)?.ok_or(AllocError)
 }
 
 /// The container with this map in block 1 and these nodes in the blocks from 2 on.
 pub fn map_image(alloc: Global, map: Map, nodes: &[Node]) -> Result<Vec<u8>, AllocError> {
     let mut image = vec![in alloc; 0u8; 4096]?;
-    image.extend_from_slice(&map_block(map)[..])?;
-    for (i, node) in nodes.iter().enumerate() {
+    image.extend_from_slice(&map_block(alloc, map)?)?;
+    for (i, plan) in nodes.iter().enumerate() {
         let oid = (i as u64).saturating_add(2);
-        image.extend_from_slice(&node_block(oid, node)[..])?;
+        image.extend_from_slice(&node_block(alloc, oid, plan)?)?;
     }
-    if image.len() < 32768 {
-        let blank = vec![in alloc; 0u8; 32768 - image.len()]?;
-        image.extend_from_slice(&blank)?;
-    }
+    image.resize(image.len().max(32768), 0)?;
     Ok(image)
 }

@@ -1,0 +1,8 @@
+use Rattle.std.proofs.Common.{append_assoc, rules}
+use Rattle.std.proofs.lemmas.Result.{IfOk-equal}
+use Rattle.img_edit.specs.Nodes.{fields_of}
+use Rattle.img_edit.proofs.node.add_fields.Goals as goal
+
+pub returns : goal.returns
+unfolding fields_of
+returns c = search (rules, IfOk-equal, append_assoc)
