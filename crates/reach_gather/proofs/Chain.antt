@@ -3,6 +3,7 @@ use Rattle.std.proofs.Common.{◌≡◌, ℕ, zero, suc, ◌-◌, ◌<◌, Bool,
 use Rattle.std.specs.Prelude.{◌==◌, slice_index}
 use Rattle.std.specs.List.{range_with_len}
 use Rattle.std.proofs.lemmas.List.FromFn.{fill_by_all}
+use Rattle.apfs_model.specs.Apart.{Apart}
 use Rattle.apfs_model.specs.Lists.{In}
 use Rattle.apfs_model.proofs.BoolTests.{test_or, equal-from, from-equal, unequal-from, never-true}
 use Rattle.nx_ring.specs.Checkpoint.{Seen}
@@ -12,7 +13,7 @@ use Rattle.reach_rules.specs.PoolOwners.{pool_owners_through}
 use Rattle.reach_rules.specs.Trees.{IsRightTree}
 use Rattle.tree_namings.specs.Views.{is_in_view}
 use Rattle.tree_namings.specs.Container.{reaper_naming}
-use Rattle.tree_namings.proofs.Joined.{part-listed}
+use Rattle.tree_namings.proofs.Joined.{part-apart}
 use Rattle.space_parts.specs.Reaped.{list_namings, reaper_namings, IsReaped}
 use Rattle.reach_gather.specs.Held.{Held}
 use Rattle.reach_gather.specs.Adds.{Adds}
@@ -86,6 +87,20 @@ not-root : (e : Expected) (kind : TreeKind) → ExpectsReaping e → e ≡ TreeR
 not-root e kind (inl r) is = let z : ReaperObject ≡ TreeRoot kind = sym r ∙ is in let q : ⊥ = cc in q
 not-root e kind (inr r) is = let z : ReapList ≡ TreeRoot kind = sym r ∙ is in let q : ⊥ = cc in q
 
+-- ---- ids of which none stands twice are named once each
+list-of : (by at : ℕ) (ids : List ℕ) (n : Naming) → In n (list_namings by at ids) → In n.oid ids
+list-of by at [] n h = absurd h
+list-of by at (x ∷ xs) n (inl e) = inl (ap (λ (m : Naming). m.oid) e)
+list-of by at (x ∷ xs) n (inr h) = inr (list-of x 32 xs n h)
+
+list-apart : (by at : ℕ) (ids : List ℕ) → Apart ids → Apart (list_namings by at ids)
+list-apart by at [] a = tt
+list-apart by at (x ∷ xs) a = ((λ h. a.0 (list-of x 32 xs (naming (Whole (OfId by)) at ReapList ByMapping x) h)), list-apart x 32 xs a.1)
+
+reaper-apart : (ids : List ℕ) → Apart ids → Apart (reaper_namings ids)
+reaper-apart [] a = tt
+reaper-apart (x ∷ xs) a = ((λ h. a.0 (list-of x 48 xs (naming (Whole Newest) 168 ReaperObject ByMapping x) h)), list-apart x 48 xs a.1)
+
 -- ---- none of them owns a block
 reaping-own : (image : List ℕ) (seen : Seen) (ids : List ℕ) → IsReaped image seen ids → OwnNothing image seen (reaper_namings ids)
 reaping-own image seen ids is = record {
@@ -102,7 +117,7 @@ pub reaper-adds : (image : List ℕ) (seen : Seen) (ids : List ℕ) (a b : Held)
     → Adds image seen (reaper_naming seen.nx) [] a b
 reaper-adds image seen ids a b is p q r = record {
   these = reaper_namings ids;
-  part = part-listed image seen (reaper_naming seen.nx) (reaper_namings ids) is.live is.plain;
+  part = part-apart image seen (reaper_naming seen.nx) (reaper_namings ids) (reaper-apart ids is.apart) is.live is.plain;
   outside = λ n h. ap is_in_view (reaper-shown ids n h).0;
   trees = λ n kind h e. absurd (not-root n.expected kind (reaper-shown ids n h).1 e);
   grew = grewby-nothing image seen (reaper_namings ids) a b (reaping-own image seen ids is) (p ∙ ap (λ xs. a.namings ++ xs) (sym (links-are ids))) q r;

@@ -19,7 +19,7 @@ use Rattle.tree_namings.specs.Joined.{ArePart}
 use Rattle.tree_namings.specs.Container.{jumpstart_naming}
 use Rattle.tree_namings.specs.Views.{is_in_view}
 use Rattle.tree_namings.proofs.Container.{plain-block}
-use Rattle.tree_namings.proofs.Joined.{part-listed}
+use Rattle.tree_namings.proofs.Joined.{part-apart}
 use Rattle.space_parts.specs.Jumped.{IsJumped}
 use Rattle.reach_gather.specs.Held.{Held, some_owners}
 use Rattle.reach_gather.specs.Adds.{Adds}
@@ -65,7 +65,7 @@ jump-adds image seen extents a b c is not p q r s t u =
     let own : owners_through image seen n ≡ block_owner n ∷ told_from n 0 (jump_extents_of plain.object.bytes) = own-block image seen n Jumpstart plain refl refl refl in
     record {
       these = n ∷ [];
-      part = part-listed image seen (jumpstart_naming seen.nx) (n ∷ []) lists (λ m h. subst (IsPlainNaming image seen) (sym (jump-one n m h)) plain);
+      part = part-apart image seen (jumpstart_naming seen.nx) (n ∷ []) ((λ h. h), tt) lists (λ m h. subst (IsPlainNaming image seen) (sym (jump-one n m h)) plain);
       outside = λ m h. ap (λ (x : Naming). is_in_view x.how) (jump-one n m h);
       trees = λ m kind h e. absurd (let z : Jumpstart ≡ TreeRoot kind = ap (λ (x : Naming). x.expected) (sym (jump-one n m h)) ∙ e in let k : ⊥ = cc in k);
       grew = grewby-one image seen n a c (s ∙ p)

@@ -6,9 +6,9 @@ use Rattle.nx_block.specs.Super.{slots}
 use Rattle.nx_ring.specs.Checkpoint.{Seen}
 use Rattle.reach_rules.specs.Naming.{Naming}
 use Rattle.reach_rules.specs.Next.{roots, slot_namings}
-use Rattle.tree_namings.specs.Joined.{ArePart, HaveSame}
+use Rattle.tree_namings.specs.Joined.{AreAllOf, HaveSame}
 use Rattle.tree_namings.specs.Container.{manager_naming, container_map_naming, reaper_naming, jumpstart_naming}
-use Rattle.tree_namings.proofs.Joined.{part-same}
+use Rattle.tree_namings.proofs.Joined.{part-all-of, part-same}
 use Rattle.vol_parts.specs.Told.{head_naming}
 use Rattle.reach_gather.specs.Held.{Held, GrewBy}
 use Rattle.reach_gather.specs.Adds.{Adds}
@@ -41,5 +41,5 @@ pub same-back : (xs ys : List Naming) → HaveSame xs ys → HaveSame ys xs
 same-back xs ys s = record { there = s.back; back = s.there }
 
 -- they are the part, with what all views name as its rest
-pub held-part : (image : List ℕ) (seen : Seen) (rest views : List Naming) (start parts : Held) → IsStart seen start → Adds image seen (roots seen.nx) rest start parts → HaveSame views rest → ArePart image seen (roots seen.nx) parts.namings views
-held-part image seen rest views start parts s g same = part-same image seen (roots seen.nx) g.these parts.namings rest views (held-same image seen g.these start parts s g.grew) (same-back views rest same) g.part
+pub held-part : (image : List ℕ) (seen : Seen) (rest views : List Naming) (start parts : Held) → IsStart seen start → Adds image seen (roots seen.nx) rest start parts → HaveSame views rest → AreAllOf image seen (roots seen.nx) parts.namings views
+held-part image seen rest views start parts s g same = part-same image seen (roots seen.nx) g.these parts.namings rest views (held-same image seen g.these start parts s g.grew) (same-back views rest same) (part-all-of image seen (roots seen.nx) g.these rest g.part)

@@ -22,11 +22,12 @@ use Rattle.reach_rules.specs.Live.{IsSoundFor}
 use Rattle.reach_rules.specs.Features.{used_features, field_features, tested_features, features_through}
 use Rattle.reach_rules.proofs.Looks.{standing-by}
 use Rattle.reach_rules.proofs.Nexts.{Each, each-in, each-if, each-map}
-use Rattle.tree_namings.specs.Namings.{IsPlainNaming}
+use Rattle.tree_namings.specs.Namings.{IsPlainNaming, AreCounted}
 use Rattle.tree_namings.specs.Parts.{records_naming}
 use Rattle.tree_namings.specs.Joined.{ArePart}
 use Rattle.tree_namings.specs.Container.{pool_queue_naming, main_queue_naming, block_namings, past_naming, volume_map_naming, extents_naming, metadata_naming, super_naming, kept_extents_naming, manager_naming, container_map_naming, reaper_naming, jumpstart_naming, reap_namings, past_namings, IsSnapshot, kept_namings, pasts_namings, views_namings, volume_views, slot_views, all_views, ExpectsNone, PlainLeads, IsManagerPart, AreBlocksPart, IsMapPart, IsChainPart, IsReaperPart, IsRecordPart, AreRecordsPart, IsVolumePart, IsSlotPart, IsWholePart, PartsOfContainer}
 use Rattle.tree_namings.proofs.Parts.{sound-names, map-names, of-parts}
+use Rattle.tree_namings.proofs.Counted.{counts-self, counts-step}
 use Rattle.tree_namings.proofs.Joined.{part-none, part-left, part-join, part-step, part-listed, part-flat, part-each, part-all, part-zero, part-some}
 
 -- ---- what a plain naming leads to
@@ -112,9 +113,9 @@ none-listed image seen n p m (inl e) = subst (IsPlainNaming image seen) (sym e) 
 none-listed image seen n p m (inr k) = absurd k
 
 alone-part : (image : List ℕ) (seen : Seen) (n : Naming) → IsPlainNaming image seen n → ExpectsNone n.expected → ArePart image seen (n ∷ []) (n ∷ []) []
-alone-part image seen n p (inl e) = part-listed image seen (n ∷ []) (n ∷ []) ((of-parts image seen).jumpstart n e) (none-listed image seen n p)
-alone-part image seen n p (inr (inl e)) = part-listed image seen (n ∷ []) (n ∷ []) ((of-parts image seen).metadata n e) (none-listed image seen n p)
-alone-part image seen n p (inr (inr (i, e))) = part-listed image seen (n ∷ []) (n ∷ []) ((of-parts image seen).infos n i e) (none-listed image seen n p)
+alone-part image seen n p (inl e) = part-listed image seen (n ∷ []) (n ∷ []) ((of-parts image seen).jumpstart n e) (counts-self (next image seen) (n ∷ [])) (none-listed image seen n p)
+alone-part image seen n p (inr (inl e)) = part-listed image seen (n ∷ []) (n ∷ []) ((of-parts image seen).metadata n e) (counts-self (next image seen) (n ∷ [])) (none-listed image seen n p)
+alone-part image seen n p (inr (inr (i, e))) = part-listed image seen (n ∷ []) (n ∷ []) ((of-parts image seen).infos n i e) (counts-self (next image seen) (n ∷ [])) (none-listed image seen n p)
 
 -- ---- the space manager
 abbrev Tells : Naming → Type 0
@@ -130,10 +131,14 @@ block-plain : (image : List ℕ) (seen : Seen) (n : Naming) → IsPlainNaming im
 block-plain image seen n p more m (inl e) = subst (IsPlainNaming image seen) (sym e) p
 block-plain image seen n p more m (inr h) = more m h
 
+-- a block and those that it names, which name no more
+block-counts : (image : List ℕ) (seen : Seen) (n : Naming) → AreCounted image seen (n ∷ []) (block_namings image seen n) []
+block-counts image seen n = counts-step (next image seen) n (next image seen n) [] (counts-self (next image seen) (next image seen n))
+
 block-part : (image : List ℕ) (seen : Seen) (n : Naming) → IsPlainNaming image seen n → ((m : Naming) → In m (next image seen n) → IsPlainNaming image seen m) → Tells n → ArePart image seen (n ∷ []) (block_namings image seen n) []
 block-part image seen n p more (inl (i, e)) =
     subst (λ ns. ArePart image seen (n ∷ []) (n ∷ ns) []) (sym (plain-leads image seen n (InfoBlock i) p e)) (alone-part image seen n p (inr (inr (i, e))))
-block-part image seen n p more (inr (i, e)) = part-listed image seen (n ∷ []) (block_namings image seen n) ((of-parts image seen).addresses n i e) (block-plain image seen n p more)
+block-part image seen n p more (inr (i, e)) = part-listed image seen (n ∷ []) (block_namings image seen n) ((of-parts image seen).addresses n i e) (block-counts image seen n) (block-plain image seen n p more)
 
 pub blocks-part : (image : List ℕ) (seen : Seen) → AreBlocksPart image seen
 blocks-part image seen namer manager plain more =

@@ -1,6 +1,7 @@
 -- How parts of what is live are joined.
 use Rattle.std.proofs.Common.{◌≡◌, ℕ, true, false, ◌==◌, List, [], ◌∷◌, ◌++◌, ◌⊎◌, inl, inr, refl, sym, subst, if◌then◌else◌}
 use Rattle.std.specs.List.{flat_map}
+use Rattle.apfs_model.specs.Apart.{Apart}
 use Rattle.apfs_model.specs.Lists.{In, Lists}
 use Rattle.apfs_model.proofs.Searches.{in-left, in-right, in-append}
 use Rattle.nx_ring.specs.Checkpoint.{Seen}
@@ -8,9 +9,10 @@ use Rattle.reach_rules.specs.Naming.{LookUp, Namer, Expected, Naming, naming}
 use Rattle.reach_rules.specs.Next.{next, unless_zero}
 use Rattle.reach_rules.specs.Live.{Live, rooted, led}
 use Rattle.reach_rules.proofs.Lives.{live-left, live-right, live-append, live-unroll, live-roll}
-use Rattle.tree_namings.specs.Namings.{IsPlainNaming, AreNamingsOf}
-use Rattle.tree_namings.specs.Joined.{ArePart, HaveSame, PartsJoin}
+use Rattle.tree_namings.specs.Namings.{IsPlainNaming, AreCounted, AreNamingsOf}
+use Rattle.tree_namings.specs.Joined.{AreAllOf, ArePart, HaveSame, PartsJoin}
 use Rattle.tree_namings.proofs.Lists.{live-none}
+use Rattle.tree_namings.proofs.Counted.{counts-none, counts-left, counts-join, counts-step, counts-chain, counts-apart}
 
 pub part-none : (image : List ℕ) (seen : Seen) → ArePart image seen [] [] []
 part-none image seen = record {
@@ -18,6 +20,7 @@ part-none image seen = record {
   these_live = λ n h. absurd h;
   rest_live = λ n live. live;
   plain = λ n h. absurd h;
+  counted = counts-none (next image seen);
 }
 
 pub part-left : (image : List ℕ) (seen : Seen) (ns : List Naming) → ArePart image seen ns [] ns
@@ -26,6 +29,7 @@ part-left image seen ns = record {
   these_live = λ n h. absurd h;
   rest_live = λ n live. live;
   plain = λ n h. absurd h;
+  counted = counts-left (next image seen) ns;
 }
 
 pub part-join : (image : List ℕ) (seen : Seen) (ns ms xs ys rs ss : List Naming) → ArePart image seen ns xs rs → ArePart image seen ms ys ss → ArePart image seen (ns ++ ms) (xs ++ ys) (rs ++ ss)
@@ -39,6 +43,7 @@ part-join image seen ns ms xs ys rs ss a b =
       these_live = λ n h. elim (in-append n xs ys h) as (λ _. Live (ns ++ ms) leads n) [ inl k ↦ live-left leads ns ms n (a.these_live n k) | inr k ↦ live-right leads ns ms n (b.these_live n k) ];
       rest_live = λ n live. elim (live-append leads rs ss n live) as (λ _. Live (ns ++ ms) leads n) [ inl l ↦ live-left leads ns ms n (a.rest_live n l) | inr l ↦ live-right leads ns ms n (b.rest_live n l) ];
       plain = λ n h. elim (in-append n xs ys h) as (λ _. IsPlainNaming image seen n) [ inl k ↦ a.plain n k | inr k ↦ b.plain n k ];
+      counted = counts-join leads ns ms xs ys rs ss a.counted b.counted;
     }
 
 -- what is live from one thing is it, or live from those to which it leads
@@ -62,6 +67,7 @@ part-step image seen n xs rs p a =
       these_live = λ m h. elim h as (λ _. Live (n ∷ []) leads m) [ inl e ↦ rooted m (inl e) | inr k ↦ from-next-live leads n m (a.these_live m k) ];
       rest_live = λ m live. from-next-live leads n m (a.rest_live m live);
       plain = λ m h. elim h as (λ _. IsPlainNaming image seen m) [ inl e ↦ subst (IsPlainNaming image seen) (sym e) p | inr k ↦ a.plain m k ];
+      counted = counts-step leads n xs rs a.counted;
     }
 
 pub part-chain : (image : List ℕ) (seen : Seen) (ns xs rs ys ss : List Naming) → ArePart image seen ns xs rs → ArePart image seen rs ys ss → ArePart image seen ns (xs ++ ys) ss
@@ -75,6 +81,7 @@ part-chain image seen ns xs rs ys ss a b =
       these_live = λ n h. elim (in-append n xs ys h) as (λ _. Live ns leads n) [ inl k ↦ a.these_live n k | inr k ↦ a.rest_live n (b.these_live n k) ];
       rest_live = λ n live. a.rest_live n (b.rest_live n live);
       plain = λ n h. elim (in-append n xs ys h) as (λ _. IsPlainNaming image seen n) [ inl k ↦ a.plain n k | inr k ↦ b.plain n k ];
+      counted = counts-chain leads ns xs rs ys ss a.counted b.counted;
     }
 
 -- what is live from some things is live from all that have them
@@ -82,7 +89,12 @@ pub live-among : {N : Type 0} (leads : N → List N) (rs ss : List N) (n : N) �
 live-among leads rs ss n f (rooted _ h) = rooted n (f n h)
 live-among leads rs ss n f (led m _ live h) = led m n (live-among leads rs ss m f live) h
 
-pub part-same : (image : List ℕ) (seen : Seen) (ns xs ys rs ss : List Naming) → HaveSame xs ys → HaveSame rs ss → ArePart image seen ns xs rs → ArePart image seen ns ys ss
+-- ---- without the count
+-- a part is all but what its rest leads to
+pub part-all-of : (image : List ℕ) (seen : Seen) (ns xs rs : List Naming) → ArePart image seen ns xs rs → AreAllOf image seen ns xs rs
+part-all-of image seen ns xs rs a = record { split = a.split; these_live = a.these_live; rest_live = a.rest_live; plain = a.plain }
+
+pub part-same : (image : List ℕ) (seen : Seen) (ns xs ys rs ss : List Naming) → HaveSame xs ys → HaveSame rs ss → AreAllOf image seen ns xs rs → AreAllOf image seen ns ys ss
 part-same image seen ns xs ys rs ss s t a =
     let leads : Naming → List Naming = next image seen in
     record {
@@ -93,22 +105,27 @@ part-same image seen ns xs ys rs ss s t a =
     }
 
 -- ---- lists of all that is live
-pub part-listed : (image : List ℕ) (seen : Seen) (ns xs : List Naming) → Lists xs (Live ns (next image seen)) → ((n : Naming) → In n xs → IsPlainNaming image seen n) → ArePart image seen ns xs []
-part-listed image seen ns xs l p = record {
+pub part-listed : (image : List ℕ) (seen : Seen) (ns xs : List Naming) → Lists xs (Live ns (next image seen)) → AreCounted image seen ns xs [] → ((n : Naming) → In n xs → IsPlainNaming image seen n) → ArePart image seen ns xs []
+part-listed image seen ns xs l c p = record {
   split = λ n live. inl (l.1 n live);
   these_live = λ n h. l.0 n h;
   rest_live = λ n live. absurd (live-none (next image seen) n live);
   plain = λ n h. p n h;
+  counted = c;
 }
 
-pub part-lists : (image : List ℕ) (seen : Seen) (ns xs : List Naming) → ArePart image seen ns xs [] → Lists xs (Live ns (next image seen))
+-- where none stands twice the count follows
+pub part-apart : (image : List ℕ) (seen : Seen) (ns xs : List Naming) → Apart xs → Lists xs (Live ns (next image seen)) → ((n : Naming) → In n xs → IsPlainNaming image seen n) → ArePart image seen ns xs []
+part-apart image seen ns xs apart l p = part-listed image seen ns xs l (counts-apart (next image seen) ns xs apart l) p
+
+pub part-lists : (image : List ℕ) (seen : Seen) (ns xs : List Naming) → AreAllOf image seen ns xs [] → Lists xs (Live ns (next image seen))
 part-lists image seen ns xs a = (
   (λ n h. a.these_live n h),
   (λ n live. elim (a.split n live) as (λ _. In n xs) [ inl h ↦ h | inr l ↦ absurd (live-none (next image seen) n l) ]),
 )
 
 pub part-tree : (image : List ℕ) (seen : Seen) (root : Naming) (xs : List Naming) → AreNamingsOf image seen root xs → ArePart image seen (root ∷ []) xs []
-part-tree image seen root xs t = part-listed image seen (root ∷ []) xs t.live t.plain
+part-tree image seen root xs t = part-listed image seen (root ∷ []) xs t.live t.counted t.plain
 
 -- ---- of each of some things
 pub part-flat : {X : Type 0} (image : List ℕ) (seen : Seen) (first these rest : X → List Naming) (xs : List X) → ((x : X) → In x xs → ArePart image seen (first x) (these x) (rest x)) →
@@ -140,10 +157,12 @@ parts-join image seen = record {
   join = part-join image seen;
   step = part-step image seen;
   chain = part-chain image seen;
+  all_of = part-all-of image seen;
   same = part-same image seen;
   live_same = λ ns ms s n live. live-among (next image seen) ns ms n s.there live;
   tree = part-tree image seen;
   listed = part-listed image seen;
+  apart = part-apart image seen;
   lists = part-lists image seen;
   each = part-each image seen;
   all = part-all image seen;

@@ -2,7 +2,7 @@
 use Rattle.std.proofs.Common.{◌≡◌, ℕ, zero, suc, true, false, List, [], ◌∷◌, ◌++◌, map, Option, Some, None, Result, Ok, Err, ◌⊎◌, inl, inr, refl, ap, sym, ◌∙◌, subst}
 use Rattle.std.specs.List.{range_with_len, flat_map}
 use Rattle.apfs_model.specs.Blocks.{block_of}
-use Rattle.apfs_model.specs.Lists.{Lists, through, value_of}
+use Rattle.apfs_model.specs.Lists.{through, value_of}
 use Rattle.obj_base.specs.declared.site.Site.{Site}
 use Rattle.obj_base.specs.declared.stop.Bad.{Bad}
 use Rattle.obj_base.specs.declared.stop.Bad.TheVariants as bads
@@ -23,11 +23,10 @@ use Rattle.reach_rules.specs.Naming.{LookUp, Object, Namer, Whole, TreeKind, Exp
 use Rattle.reach_rules.specs.Resolved.{Found, resolved, found_by, is_node}
 use Rattle.reach_rules.specs.Tested.{Answer, of_node, node_answer, node_tested, tested}
 use Rattle.reach_rules.specs.Next.{names, names_if, next, children_in, child_namings, node_namings}
-use Rattle.reach_rules.specs.Live.{Live}
 use Rattle.reach_rules.specs.Features.{used_features}
 use Rattle.reach_rules.proofs.Walks.{Matches, IsWalkOf}
 use Rattle.tree_namings.specs.Namings.{node_id, step_naming, tree_namings}
-use Rattle.tree_namings.proofs.Lists.{lists-none, lists-both, lists-by}
+use Rattle.tree_namings.proofs.Counted.{AreAllFrom, all-none, all-both, all-by}
 
 -- trees of a shape are walked as the nodes of a kind of trees are named, and their objects are these
 pub record IsTreeOf {K : Type 0} (image : List ℕ) (seen : Seen) (kind : TreeKind) (how : LookUp) (object : ℕ → Object) (shape : Shape K) (named : ℕ → Option ℕ) : Type 0 where
@@ -181,7 +180,7 @@ no-steps tree from i (pair ∷ pairs) = no-steps tree from (suc i) pairs
 abbrev EntriesLive : {K : Type 0} → List ℕ → Seen → TreeKind → LookUp → (ℕ → Object) → Tree K → ℕ → ℕ → Type 0
 EntriesLive image seen kind how object tree root level =
     (from : Option ℕ) (i : ℕ) (pairs : List Pair)
-    → Lists (map (step_naming object kind how root) (flat_map (steps_part tree level from) (numbered i pairs))) (Live (kids_of (Whole (object (node_id root from))) kind how level i (map child_in pairs)) (next image seen))
+    → AreAllFrom (next image seen) (kids_of (Whole (object (node_id root from))) kind how level i (map child_in pairs)) (map (step_naming object kind how root) (flat_map (steps_part tree level from) (numbered i pairs)))
 
 -- the steps under a place
 abbrev under : {K : Type 0} → Tree K → ℕ → Option ℕ → NodeAt → List Step
@@ -191,24 +190,24 @@ under tree level from at = through (node_at tree at) (λ node. flat_map (steps_p
 child-lives : {K : Type 0} (image : List ℕ) (seen : Seen) (kind : TreeKind) (how : LookUp) (object : ℕ → Object) (shape : Shape K) (named : ℕ → Option ℕ) (root level : ℕ) (pair : Pair) (n : Naming) →
     IsTreeOf image seen kind how object shape named → EntriesLive image seen kind how object (tree_in shape (site_of seen) named image) root level →
     n.expected ≡ TreeNode kind level → Sees image seen object shape named (child_place level pair) n → IsAt kind how (child_place level pair) n →
-    Lists (map (step_naming object kind how root) (under (tree_in shape (site_of seen) named image) level (Some (child_in pair)) (child_place level pair))) (Live (next image seen n) (next image seen))
+    AreAllFrom (next image seen) (next image seen n) (map (step_naming object kind how root) (under (tree_in shape (site_of seen) named image) level (Some (child_in pair)) (child_place level pair)))
 child-lives {K} image seen kind how object shape named root level pair n tree rec e (inl h) is =
     let t : Tree K = tree_in shape (site_of seen) named image in
     let at : NodeAt = child_place level pair in
     let all = rec (Some (child_in pair)) 0 (pairs_of shape h.node) in
-    subst (λ ns. Lists (map (step_naming object kind how root) (under t level (Some (child_in pair)) at)) (Live ns (next image seen))) (sym (next-child image seen kind how object shape named at n level tree is e h))
-    (subst (λ o. Lists (map (step_naming object kind how root) (through (value_of o) (λ node. flat_map (steps_part t level (Some (child_in pair))) (numbered 0 (pairs_of shape node))))) (Live (kids_of (Whole (object at.oid)) kind how level 0 (map child_in (pairs_of shape h.node))) (next image seen))) (sym h.look) all)
+    subst (λ ns. AreAllFrom (next image seen) ns (map (step_naming object kind how root) (under t level (Some (child_in pair)) at))) (sym (next-child image seen kind how object shape named at n level tree is e h))
+    (subst (λ o. AreAllFrom (next image seen) (kids_of (Whole (object at.oid)) kind how level 0 (map child_in (pairs_of shape h.node))) (map (step_naming object kind how root) (through (value_of o) (λ node. flat_map (steps_part t level (Some (child_in pair))) (numbered 0 (pairs_of shape node)))))) (sym h.look) all)
 child-lives {K} image seen kind how object shape named root level pair n tree rec e (inr h) is =
     let t : Tree K = tree_in shape (site_of seen) named image in
     let at : NodeAt = child_place level pair in
-    subst (λ ns. Lists (map (step_naming object kind how root) (under t level (Some (child_in pair)) at)) (Live ns (next image seen))) (sym h.leads)
-    (subst (λ o. Lists (map (step_naming object kind how root) (through (value_of o) (λ node. flat_map (steps_part t level (Some (child_in pair))) (numbered 0 (pairs_of shape node))))) (Live [] (next image seen))) (sym h.look) (lists-none (next image seen)))
+    subst (λ ns. AreAllFrom (next image seen) ns (map (step_naming object kind how root) (under t level (Some (child_in pair)) at))) (sym h.leads)
+    (subst (λ o. AreAllFrom (next image seen) [] (map (step_naming object kind how root) (through (value_of o) (λ node. flat_map (steps_part t level (Some (child_in pair))) (numbered 0 (pairs_of shape node)))))) (sym h.look) (all-none (next image seen)))
 
 entries-live : {K : Type 0} (image : List ℕ) (seen : Seen) (kind : TreeKind) (how : LookUp) (object : ℕ → Object) (shape : Shape K) (named : ℕ → Option ℕ) → IsTreeOf image seen kind how object shape named → (root level : ℕ) →
     EntriesLive image seen kind how object (tree_in shape (site_of seen) named image) root level
 entries-live {K} image seen kind how object shape named tree root zero from i pairs =
-    subst (λ steps. Lists (map (step_naming object kind how root) steps) (Live [] (next image seen))) (sym (no-steps (tree_in shape (site_of seen) named image) from i pairs)) (lists-none (next image seen))
-entries-live image seen kind how object shape named tree root (suc level) from i [] = lists-none (next image seen)
+    subst (λ steps. AreAllFrom (next image seen) [] (map (step_naming object kind how root) steps)) (sym (no-steps (tree_in shape (site_of seen) named image) from i pairs)) (all-none (next image seen))
+entries-live image seen kind how object shape named tree root (suc level) from i [] = all-none (next image seen)
 entries-live {K} image seen kind how object shape named tree root (suc level) from i (pair ∷ pairs) =
     let t : Tree K = tree_in shape (site_of seen) named image in
     let at : NodeAt = child_place level pair in
@@ -220,30 +219,30 @@ entries-live {K} image seen kind how object shape named tree root (suc level) fr
     let others : List Step = flat_map (steps_part t (suc level) from) (numbered (suc i) pairs) in
     let child = child-lives image seen kind how object shape named root level pair n tree (entries-live image seen kind how object shape named tree root level) refl (sees image seen kind how object shape named at n tree is) is in
     let more = entries-live image seen kind how object shape named tree root (suc level) from (suc i) pairs in
-    subst (λ ns. Lists (n ∷ ns) (Live (n ∷ child_namings me kind how level (suc i) (map child_in pairs)) (next image seen))) (sym (map-append f below others))
-    (lists-both (next image seen) n (child_namings me kind how level (suc i) (map child_in pairs)) (n ∷ map f below) (map f others) (lists-by (next image seen) n (map f below) child) more)
+    subst (λ ns. AreAllFrom (next image seen) (n ∷ child_namings me kind how level (suc i) (map child_in pairs)) (n ∷ ns)) (sym (map-append f below others))
+    (all-both (next image seen) n (child_namings me kind how level (suc i) (map child_in pairs)) (n ∷ map f below) (map f others) (all-by (next image seen) n (map f below) child) more)
 
 root-lives : {K : Type 0} (image : List ℕ) (seen : Seen) (kind : TreeKind) (object : ℕ → Object) (shape : Shape K) (named : ℕ → Option ℕ) (n : Naming) → IsTreeOf image seen kind n.how object shape named → n.expected ≡ TreeRoot kind →
     IsAt kind n.how (root_place n.oid) n → Sees image seen object shape named (root_place n.oid) n →
-    Lists (map (step_naming object kind n.how n.oid) (steps_of (tree_in shape (site_of seen) named image) n.oid)) (Live (next image seen n) (next image seen))
+    AreAllFrom (next image seen) (next image seen n) (map (step_naming object kind n.how n.oid) (steps_of (tree_in shape (site_of seen) named image) n.oid))
 root-lives {K} image seen kind object shape named n tree e is (inl h) =
     let t : Tree K = tree_in shape (site_of seen) named image in
     let at : NodeAt = root_place n.oid in
     let f : Step → Naming = step_naming object kind n.how n.oid in
     let all = entries-live image seen kind n.how object shape named tree n.oid (level_of h.node) None 0 (pairs_of shape h.node) in
-    subst (λ ns. Lists (map f (steps_of t n.oid)) (Live ns (next image seen))) (sym (next-root image seen kind n.how object shape named at n tree is e h))
-    (subst (λ o. Lists (map f (through (value_of o) (λ node. flat_map (steps_part t (level_of node) None) (numbered 0 (pairs_of shape node))))) (Live (kids_of (Whole (object at.oid)) kind n.how (level_of h.node) 0 (map child_in (pairs_of shape h.node))) (next image seen))) (sym h.look) all)
+    subst (λ ns. AreAllFrom (next image seen) ns (map f (steps_of t n.oid))) (sym (next-root image seen kind n.how object shape named at n tree is e h))
+    (subst (λ o. AreAllFrom (next image seen) (kids_of (Whole (object at.oid)) kind n.how (level_of h.node) 0 (map child_in (pairs_of shape h.node))) (map f (through (value_of o) (λ node. flat_map (steps_part t (level_of node) None) (numbered 0 (pairs_of shape node)))))) (sym h.look) all)
 root-lives {K} image seen kind object shape named n tree e is (inr h) =
     let t : Tree K = tree_in shape (site_of seen) named image in
     let f : Step → Naming = step_naming object kind n.how n.oid in
-    subst (λ ns. Lists (map f (steps_of t n.oid)) (Live ns (next image seen))) (sym h.leads)
-    (subst (λ o. Lists (map f (through (value_of o) (λ node. flat_map (steps_part t (level_of node) None) (numbered 0 (pairs_of shape node))))) (Live [] (next image seen))) (sym h.look) (lists-none (next image seen)))
+    subst (λ ns. AreAllFrom (next image seen) ns (map f (steps_of t n.oid))) (sym h.leads)
+    (subst (λ o. AreAllFrom (next image seen) [] (map f (through (value_of o) (λ node. flat_map (steps_part t (level_of node) None) (numbered 0 (pairs_of shape node)))))) (sym h.look) (all-none (next image seen)))
 
 -- ---- the law
 pub tree-lives : {K : Type 0} (image : List ℕ) (seen : Seen) (kind : TreeKind) (object : ℕ → Object) (shape : Shape K) (named : ℕ → Option ℕ) (n : Naming) → IsTreeOf image seen kind n.how object shape named → n.expected ≡ TreeRoot kind →
-    Lists (tree_namings object kind n (steps_of (tree_in shape (site_of seen) named image) n.oid)) (Live (n ∷ []) (next image seen))
+    AreAllFrom (next image seen) (n ∷ []) (tree_namings object kind n (steps_of (tree_in shape (site_of seen) named image) n.oid))
 tree-lives {K} image seen kind object shape named n tree e =
     let at : NodeAt = root_place n.oid in
     let is : IsAt kind n.how at n = record { how_is = refl; oid_is = refl; expects = inl (e, refl) } in
-    lists-by (next image seen) n (map (step_naming object kind n.how n.oid) (steps_of (tree_in shape (site_of seen) named image) n.oid))
+    all-by (next image seen) n (map (step_naming object kind n.how n.oid) (steps_of (tree_in shape (site_of seen) named image) n.oid))
     (root-lives image seen kind object shape named n tree e is (sees image seen kind n.how object shape named at n tree is))

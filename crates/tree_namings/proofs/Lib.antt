@@ -1,4 +1,5 @@
 pub mod Lists
+pub mod Counted
 pub mod Law
 pub mod Plain
 pub mod Walking

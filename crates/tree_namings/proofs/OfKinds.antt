@@ -64,11 +64,11 @@ queue-tree image seen which = record {
 pub of-steps : NamingsOfSteps
 unfolding tree_steps
 of-steps = record {
-  records = λ image seen n e how. tree-lives image seen MapRecords InBlock omap_shape (in_container (site_of seen).blocks) n (subst (λ h. IsTreeOf image seen MapRecords h InBlock omap_shape (in_container (site_of seen).blocks)) (sym how) (physical-tree image seen MapRecords omap_shape (records-walk image seen))) e;
-  snapshots = λ image seen n e how. tree-lives image seen MapSnapshots InBlock omap_snap_shape (in_container (site_of seen).blocks) n (subst (λ h. IsTreeOf image seen MapSnapshots h InBlock omap_snap_shape (in_container (site_of seen).blocks)) (sym how) (physical-tree image seen MapSnapshots omap_snap_shape (snapshots-walk image seen))) e;
-  extents = λ image seen n e how. tree-lives image seen ExtentRefs InBlock ext_shape (in_container (site_of seen).blocks) n (subst (λ h. IsTreeOf image seen ExtentRefs h InBlock ext_shape (in_container (site_of seen).blocks)) (sym how) (physical-tree image seen ExtentRefs ext_shape (extents-walk image seen))) e;
-  metadata = λ image seen n e how. tree-lives image seen SnapMetadata InBlock snap_shape (in_container (site_of seen).blocks) n (subst (λ h. IsTreeOf image seen SnapMetadata h InBlock snap_shape (in_container (site_of seen).blocks)) (sym how) (physical-tree image seen SnapMetadata snap_shape (metadata-walk image seen))) e;
-  queues = λ image seen which n e how. tree-lives image seen (FreeQueue which) OfId queue_shape (ephemeral_named seen) n (subst (λ h. IsTreeOf image seen (FreeQueue which) h OfId queue_shape (ephemeral_named seen)) (sym how) (queue-tree image seen which)) e;
+  records = λ image seen n e how. (tree-lives image seen MapRecords InBlock omap_shape (in_container (site_of seen).blocks) n (subst (λ h. IsTreeOf image seen MapRecords h InBlock omap_shape (in_container (site_of seen).blocks)) (sym how) (physical-tree image seen MapRecords omap_shape (records-walk image seen))) e).live;
+  snapshots = λ image seen n e how. (tree-lives image seen MapSnapshots InBlock omap_snap_shape (in_container (site_of seen).blocks) n (subst (λ h. IsTreeOf image seen MapSnapshots h InBlock omap_snap_shape (in_container (site_of seen).blocks)) (sym how) (physical-tree image seen MapSnapshots omap_snap_shape (snapshots-walk image seen))) e).live;
+  extents = λ image seen n e how. (tree-lives image seen ExtentRefs InBlock ext_shape (in_container (site_of seen).blocks) n (subst (λ h. IsTreeOf image seen ExtentRefs h InBlock ext_shape (in_container (site_of seen).blocks)) (sym how) (physical-tree image seen ExtentRefs ext_shape (extents-walk image seen))) e).live;
+  metadata = λ image seen n e how. (tree-lives image seen SnapMetadata InBlock snap_shape (in_container (site_of seen).blocks) n (subst (λ h. IsTreeOf image seen SnapMetadata h InBlock snap_shape (in_container (site_of seen).blocks)) (sym how) (physical-tree image seen SnapMetadata snap_shape (metadata-walk image seen))) e).live;
+  queues = λ image seen which n e how. (tree-lives image seen (FreeQueue which) OfId queue_shape (ephemeral_named seen) n (subst (λ h. IsTreeOf image seen (FreeQueue which) h OfId queue_shape (ephemeral_named seen)) (sym how) (queue-tree image seen which)) e).live;
 }
 
 -- the trees of each kind

@@ -13,16 +13,16 @@ use Rattle.reach_rules.specs.Owners.{Owner, first_owners, owners_through, IsOwne
 use Rattle.reach_rules.specs.PoolOwners.{pool_owners_through, IsPoolOwner}
 use Rattle.reach_rules.specs.Faults.{is_once}
 use Rattle.tree_namings.specs.Namings.{IsPlainNaming}
-use Rattle.tree_namings.specs.Joined.{ArePart}
+use Rattle.tree_namings.specs.Joined.{AreAllOf}
 use Rattle.tree_namings.specs.Tells.{objects_through, IsThrough, ArePlainFrom, AreOnce, PartTells, PlainTells, WholeTells}
 use Rattle.tree_namings.proofs.Lists.{live-none}
 use Rattle.tree_namings.proofs.Joined.{part-lists}
 
 -- ---- with a rest
-plain-through : (image : List ℕ) (seen : Seen) (ns these rest : List Naming) → ArePart image seen ns these rest → ArePlainFrom image seen rest → ArePlainFrom image seen ns
+plain-through : (image : List ℕ) (seen : Seen) (ns these rest : List Naming) → AreAllOf image seen ns these rest → ArePlainFrom image seen rest → ArePlainFrom image seen ns
 plain-through image seen ns these rest a p n live = elim (a.split n live) as (λ _. IsPlainNaming image seen n) [ inl h ↦ a.plain n h | inr l ↦ p n l ]
 
-once-by : (image : List ℕ) (seen : Seen) (all rest : List Naming) → ArePart image seen (roots seen.nx) all rest → AreOnce (λ n. In n all) (λ n. In n all) → AreOnce (λ n. In n all) (Live rest (next image seen)) →
+once-by : (image : List ℕ) (seen : Seen) (all rest : List Naming) → AreAllOf image seen (roots seen.nx) all rest → AreOnce (λ n. In n all) (λ n. In n all) → AreOnce (λ n. In n all) (Live rest (next image seen)) →
     AreOnce (Live rest (next image seen)) (Live rest (next image seen)) → AreOnce (IsLive image seen) (IsLive image seen)
 once-by image seen all rest a both mixed more m n lm ln once how oid = elim (a.split m lm) as (λ _. m ≡ n) [
   | inl hm ↦ elim (a.split n ln) as (λ _. m ≡ n) [ inl hn ↦ both m n hm hn once how oid | inr kn ↦ mixed m n hm kn once how oid ]
@@ -30,7 +30,7 @@ once-by image seen all rest a both mixed more m n lm ln once how oid = elim (a.s
 ]
 
 -- what is told of through the namings of a part, and through those of its rest, is all that is told of
-pub through-part : {X : Type 0} (image : List ℕ) (seen : Seen) (told : Naming → List X) (ns these rest : List Naming) (more : List X) → ArePart image seen ns these rest → Lists more (IsThrough image seen told rest) →
+pub through-part : {X : Type 0} (image : List ℕ) (seen : Seen) (told : Naming → List X) (ns these rest : List Naming) (more : List X) → AreAllOf image seen ns these rest → Lists more (IsThrough image seen told rest) →
     Lists (flat_map told these ++ more) (IsThrough image seen told ns)
 through-part image seen told ns these rest more a l = (
   (λ x h. elim (in-append x (flat_map told these) more h) as (λ _. IsThrough image seen told ns x) [
@@ -47,7 +47,7 @@ through-part image seen told ns these rest more a l = (
 through-none : {X : Type 0} (image : List ℕ) (seen : Seen) (told : Naming → List X) → Lists [] (IsThrough image seen told [])
 through-none image seen told = ((λ x h. absurd h), (λ x t. absurd (live-none (next image seen) t.naming t.live)))
 
-through-all : {X : Type 0} (image : List ℕ) (seen : Seen) (told : Naming → List X) (ns these : List Naming) → ArePart image seen ns these [] → Lists (flat_map told these) (IsThrough image seen told ns)
+through-all : {X : Type 0} (image : List ℕ) (seen : Seen) (told : Naming → List X) (ns these : List Naming) → AreAllOf image seen ns these [] → Lists (flat_map told these) (IsThrough image seen told ns)
 through-all image seen told ns these a =
     subst (λ xs. Lists xs (IsThrough image seen told ns)) (append-nil (flat_map told these)) (through-part image seen told ns these [] [] a (through-none image seen told))
 

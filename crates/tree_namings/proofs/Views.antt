@@ -26,7 +26,7 @@ use Rattle.reach_rules.specs.Faults.{is_once}
 use Rattle.reach_rules.specs.Maps.{IsUsed, IsIdle}
 use Rattle.reach_rules.proofs.Nexts.{Each, each-in, each-append, each-map, each-flat, each-if, each-unless, each-through, from-next}
 use Rattle.tree_namings.specs.Namings.{step_naming, tree_namings}
-use Rattle.tree_namings.specs.Joined.{ArePart, HaveSame}
+use Rattle.tree_namings.specs.Joined.{AreAllOf, HaveSame}
 use Rattle.tree_namings.specs.Container.{block_namings, reap_namings, super_naming, kept_namings, past_namings, pasts_namings, views_namings, volume_views, slot_views, all_views}
 use Rattle.tree_namings.specs.Tells.{objects_through, IsThrough, ArePlainFrom, AreOnce}
 use Rattle.tree_namings.specs.Views.{ExpectsOfView, IsOfView, is_in_view, record_object, record_owner, ResolvesTo, AreRecordsOf, ViewsTell, AreOutside, OutsideViews, AreOnceAs, JoinedTells}
@@ -273,7 +273,7 @@ one-record image seen n r s a b =
     let e : record_object r ≡ record_object s = sym a.record_is ∙ (ap (λ (f : Found). f.object) same ∙ b.record_is) in
     ap (λ o. record-of o r) e
 
-idle-by : (image : List ℕ) (seen : Seen) (all views : List Naming) (records : List (ℕ × OmapRecord)) → ArePart image seen (roots seen.nx) all views → AreRecordsOf image seen views records → (r : ℕ × OmapRecord) → (In r records → ⊥) →
+idle-by : (image : List ℕ) (seen : Seen) (all views : List Naming) (records : List (ℕ × OmapRecord)) → AreAllOf image seen (roots seen.nx) all views → AreRecordsOf image seen views records → (r : ℕ × OmapRecord) → (In r records → ⊥) →
     ((n : Naming) → In n all → ResolvesTo image seen n r → ⊥) → IsIdle image seen r.0 r.1
 idle-by image seen all views records part are r none other n f names is =
     let t : ResolvesTo image seen n r = record { object = f; found = names.found; record_is = is } in

@@ -3,7 +3,7 @@ use Rattle.std.proofs.Common.{◌≡◌, ℕ, zero, suc, ◌+◌, ◌≤◌, ◌
 use Rattle.std.specs.Prelude.{is_none, slice_get}
 use Rattle.std.specs.List.{flat_map, list_any}
 use Rattle.std.proofs.lemmas.List.Concat.{flat_map-append}
-use Rattle.apfs_model.specs.Lists.{Lists, through, value_of, passes}
+use Rattle.apfs_model.specs.Lists.{through, value_of, passes}
 use Rattle.obj_base.specs.Stops.{Tells, IsFree, raised}
 use Rattle.obj_base.specs.declared.stop.Stop.{Stop}
 use Rattle.obj_base.specs.declared.stop.Stop.TheVariants.{Found as Fails, Unsupported, ReadFault, NoMemory}
@@ -31,7 +31,6 @@ use Rattle.nx_ring.specs.Checkpoint.{Seen, site_of}
 use Rattle.reach_rules.specs.Naming.{LookUp, Object, TreeKind, TreeRoot, Naming}
 use Rattle.reach_rules.specs.Resolved.{Found, resolved}
 use Rattle.reach_rules.specs.Next.{next}
-use Rattle.reach_rules.specs.Live.{Live}
 use Rattle.reach_rules.specs.Trees.{tree_line, misplaced, has_counts, is_short, NamesRoot}
 use Rattle.reach_rules.specs.Features.{HasFeature}
 use Rattle.reach_rules.specs.Faults.{within_of, xid_of}
@@ -39,6 +38,7 @@ use Rattle.reach_rules.specs.Reached.{IsReachedFault}
 use Rattle.reach_rules.proofs.Walks.{IsRootNaming, walk-present, gap-told}
 use Rattle.tree_namings.specs.Namings.{tree_steps, tree_namings, AreNamingsOf}
 use Rattle.tree_namings.specs.Walked.{has_all_nodes, IsWholeTree, IsTreeWalked, IsNamedRoot, of_gather}
+use Rattle.tree_namings.proofs.Counted.{AreAllFrom}
 use Rattle.tree_namings.proofs.Law.{IsTreeOf, IsAt, Sees, sees, tree-lives}
 use Rattle.tree_namings.proofs.Plain.{live-plain}
 
@@ -101,10 +101,11 @@ namings-from {K} {image} {seen} {kind} {how} {object} {shape} {named} k root ste
     let tree : Tree K = tree_in shape (site_of seen) named image in
     let of : IsTreeOf image seen kind n.how object shape named = subst (λ x. IsTreeOf image seen kind x object shape named) (sym h) k.tree in
     let same : steps_of tree n.oid ≡ steps = ap (steps_of tree) o ∙ sym s in
-    let live : Lists (tree_namings object kind n steps) (Live (n ∷ []) (next image seen)) = subst (λ xs. Lists (tree_namings object kind n xs) (Live (n ∷ []) (next image seen))) same (tree-lives image seen kind object shape named n of e) in
+    let from : AreAllFrom (next image seen) (n ∷ []) (tree_namings object kind n steps) = subst (λ xs. AreAllFrom (next image seen) (n ∷ []) (tree_namings object kind n xs)) same (tree-lives image seen kind object shape named n of e) in
     record {
-      live = live;
-      plain = λ m m-in. live-plain image seen kind object shape named n m of e (ap (is_walkable tree) o ∙ all) (live.0 m m-in);
+      live = from.live;
+      counted = from.counted;
+      plain = λ m m-in. live-plain image seen kind object shape named n m of e (ap (is_walkable tree) o ∙ all) (from.live.0 m m-in);
     }
 
 pub walked-tree : {K : Type 0} {image : List ℕ} {seen : Seen} {kind : TreeKind} {how : LookUp} {object : ℕ → Object} {shape : Shape K} {named : ℕ → Option ℕ} → IsKindOf image seen kind how object shape named →

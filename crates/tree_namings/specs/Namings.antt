@@ -1,5 +1,5 @@
 -- The namings of a tree, made from its steps.
-use Rattle.std.specs.Prelude.{◌≡◌, ℕ, zero, suc, List, [], ◌∷◌, map, Option, None, Some}
+use Rattle.std.specs.Prelude.{◌≡◌, ◌≤◌, ◌+◌, ℕ, zero, suc, Bool, List, [], ◌∷◌, map, flat_map, count_by, Option, None, Some}
 use Rattle.apfs_model.specs.Lists.{In, Lists}
 use Rattle.nx_ring.specs.Checkpoint.{Seen, site_of}
 use Rattle.omap_map.specs.Maps.{record_tree, snapshot_tree}
@@ -48,7 +48,12 @@ pub record IsPlainNaming (image : List ℕ) (seen : Seen) (n : Naming) : Type 0 
   pub sound : IsSoundFor seen n object
   pub plain : features_through image seen n ≡ []
 
--- what is live from a naming are these namings, each of which resolves, is sound, and has no feature
+-- of each kind of naming, these and a rest have no more than the first ones and all those to which these lead
+abbrev pub AreCounted : List ℕ → Seen → List Naming → List Naming → List Naming → Type 0
+AreCounted image seen first these rest = (test : Naming → Bool) → count_by test these + count_by test rest ≤ count_by test first + count_by test (flat_map (next image seen) these)
+
+-- what is live from a naming are these namings, each of which resolves, is sound, and has no feature; and they are counted
 pub record AreNamingsOf (image : List ℕ) (seen : Seen) (root : Naming) (namings : List Naming) : Type 0 where
   pub live : Lists namings (Live (root ∷ []) (next image seen))
+  pub counted : AreCounted image seen (root ∷ []) namings []
   pub plain : (n : Naming) → In n namings → IsPlainNaming image seen n

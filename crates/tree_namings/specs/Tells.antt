@@ -11,7 +11,7 @@ use Rattle.reach_rules.specs.PoolOwners.{pool_owners_through, IsPoolOwner}
 use Rattle.reach_rules.specs.Features.{features_through}
 use Rattle.reach_rules.specs.Faults.{is_once}
 use Rattle.tree_namings.specs.Namings.{IsPlainNaming}
-use Rattle.tree_namings.specs.Joined.{ArePart}
+use Rattle.tree_namings.specs.Joined.{AreAllOf}
 
 -- the object to which a naming resolves, where it does
 abbrev pub objects_through : List ℕ → Seen → Naming → List Object
@@ -33,11 +33,11 @@ AreOnce P Q = (m n : Naming) → P m → Q n → is_once m.how ≡ true → m.ho
 
 -- what a part of a container tells, with a rest of which the same is known otherwise
 pub record PartTells (image : List ℕ) (seen : Seen) : Type 0 where
-  pub through : (first these rest : List Naming) → ArePart image seen first these rest → ArePlainFrom image seen rest → ArePlainFrom image seen first
-  pub once : (all rest : List Naming) → ArePart image seen (roots seen.nx) all rest → AreOnce (λ n. In n all) (λ n. In n all) → AreOnce (λ n. In n all) (Live rest (next image seen)) → AreOnce (Live rest (next image seen)) (Live rest (next image seen)) → AreOnce (IsLive image seen) (IsLive image seen)
-  pub owners : (all rest : List Naming) (more : List Owner) → ArePart image seen (roots seen.nx) all rest → Lists more (IsThrough image seen (owners_through image seen) rest) → Lists (first_owners seen.nx ++ (flat_map (owners_through image seen) all ++ more)) (IsOwner image seen)
-  pub pool_owners : (all rest : List Naming) (more : List Owner) → ArePart image seen (roots seen.nx) all rest → Lists more (IsThrough image seen (pool_owners_through image seen) rest) → Lists (flat_map (pool_owners_through image seen) all ++ more) (IsPoolOwner image seen)
-  pub objects : (all rest : List Naming) (more : List Object) → ArePart image seen (roots seen.nx) all rest → Lists more (IsThrough image seen (objects_through image seen) rest) → Lists (Newest ∷ flat_map (objects_through image seen) all ++ more) (IsNamed image seen)
+  pub through : (first these rest : List Naming) → AreAllOf image seen first these rest → ArePlainFrom image seen rest → ArePlainFrom image seen first
+  pub once : (all rest : List Naming) → AreAllOf image seen (roots seen.nx) all rest → AreOnce (λ n. In n all) (λ n. In n all) → AreOnce (λ n. In n all) (Live rest (next image seen)) → AreOnce (Live rest (next image seen)) (Live rest (next image seen)) → AreOnce (IsLive image seen) (IsLive image seen)
+  pub owners : (all rest : List Naming) (more : List Owner) → AreAllOf image seen (roots seen.nx) all rest → Lists more (IsThrough image seen (owners_through image seen) rest) → Lists (first_owners seen.nx ++ (flat_map (owners_through image seen) all ++ more)) (IsOwner image seen)
+  pub pool_owners : (all rest : List Naming) (more : List Owner) → AreAllOf image seen (roots seen.nx) all rest → Lists more (IsThrough image seen (pool_owners_through image seen) rest) → Lists (flat_map (pool_owners_through image seen) all ++ more) (IsPoolOwner image seen)
+  pub objects : (all rest : List Naming) (more : List Object) → AreAllOf image seen (roots seen.nx) all rest → Lists more (IsThrough image seen (objects_through image seen) rest) → Lists (Newest ∷ flat_map (objects_through image seen) all ++ more) (IsNamed image seen)
 
 -- where each live naming is plain, it resolves to an object that is sound as it expects, and no feature is there through it
 pub record PlainTells (image : List ℕ) (seen : Seen) : Type 0 where
@@ -46,9 +46,9 @@ pub record PlainTells (image : List ℕ) (seen : Seen) : Type 0 where
 
 -- what a list of all that is live tells
 pub record WholeTells (image : List ℕ) (seen : Seen) : Type 0 where
-  pub live : (all : List Naming) → ArePart image seen (roots seen.nx) all [] → Lists all (IsLive image seen)
-  pub plain : (all : List Naming) → ArePart image seen (roots seen.nx) all [] → ArePlainFrom image seen (roots seen.nx)
-  pub once : (all : List Naming) → ArePart image seen (roots seen.nx) all [] → AreOnce (λ n. In n all) (λ n. In n all) → AreOnce (IsLive image seen) (IsLive image seen)
-  pub owners : (all : List Naming) → ArePart image seen (roots seen.nx) all [] → Lists (first_owners seen.nx ++ flat_map (owners_through image seen) all) (IsOwner image seen)
-  pub pool_owners : (all : List Naming) → ArePart image seen (roots seen.nx) all [] → Lists (flat_map (pool_owners_through image seen) all) (IsPoolOwner image seen)
-  pub objects : (all : List Naming) → ArePart image seen (roots seen.nx) all [] → Lists (Newest ∷ flat_map (objects_through image seen) all) (IsNamed image seen)
+  pub live : (all : List Naming) → AreAllOf image seen (roots seen.nx) all [] → Lists all (IsLive image seen)
+  pub plain : (all : List Naming) → AreAllOf image seen (roots seen.nx) all [] → ArePlainFrom image seen (roots seen.nx)
+  pub once : (all : List Naming) → AreAllOf image seen (roots seen.nx) all [] → AreOnce (λ n. In n all) (λ n. In n all) → AreOnce (IsLive image seen) (IsLive image seen)
+  pub owners : (all : List Naming) → AreAllOf image seen (roots seen.nx) all [] → Lists (first_owners seen.nx ++ flat_map (owners_through image seen) all) (IsOwner image seen)
+  pub pool_owners : (all : List Naming) → AreAllOf image seen (roots seen.nx) all [] → Lists (flat_map (pool_owners_through image seen) all) (IsPoolOwner image seen)
+  pub objects : (all : List Naming) → AreAllOf image seen (roots seen.nx) all [] → Lists (Newest ∷ flat_map (objects_through image seen) all) (IsNamed image seen)

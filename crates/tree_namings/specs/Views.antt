@@ -14,7 +14,7 @@ use Rattle.reach_rules.specs.PoolOwners.{pool_owners_through, IsPoolOwner}
 use Rattle.reach_rules.specs.Features.{features_through}
 use Rattle.reach_rules.specs.Maps.{IsUsed, IsIdle}
 use Rattle.tree_namings.specs.Namings.{tree_namings}
-use Rattle.tree_namings.specs.Joined.{ArePart, HaveSame}
+use Rattle.tree_namings.specs.Joined.{AreAllOf, HaveSame}
 use Rattle.tree_namings.specs.Container.{block_namings, reap_namings, kept_namings, all_views}
 use Rattle.tree_namings.specs.Tells.{objects_through, IsThrough, ArePlainFrom, AreOnce}
 
@@ -89,7 +89,7 @@ AreOnceAs how ns = (m n : Naming) → In m ns → In n ns → m.how ≡ how → 
 -- or one in the container once; what the views name, in any order; and the records that they use, each of whose namings is plain and
 -- names an id once
 pub record AreJoined (image : List ℕ) (seen : Seen) (all views : List Naming) (records : List (ℕ × OmapRecord)) : Type 0 where
-  pub part : ArePart image seen (roots seen.nx) all (all_views image seen)
+  pub part : AreAllOf image seen (roots seen.nx) all (all_views image seen)
   pub outside : AreOutside all
   pub mapped_once : AreOnceAs ByMapping all
   pub container_once : AreOnceAs InContainer all
