@@ -24,3 +24,4 @@ pub mod NextApart
 pub mod NamedAt
 pub mod OneObject
 pub mod NamedBound
+pub mod Within

@@ -1,7 +1,7 @@
 -- The namings that were gathered, and the records that views use, are no more than the named objects.
 use Rattle.std.proofs.Common.{◌≡◌, ℕ, suc, ◌+◌, ◌≤◌, true, false, List, [], ◌∷◌, ◌++◌, map, length, Option, Some, None, inl, inr, refl, ap, sym, ◌∙◌, subst, arith}
 use Rattle.std.specs.Prelude.{◌-◌, ◌^◌, min}
-use Rattle.std.specs.List.{flat_map, count_by}
+use Rattle.std.specs.List.{flat_map}
 use Rattle.std.proofs.lemmas.List.{length-append, length-map}
 use Rattle.apfs_model.specs.Apart.{Apart}
 use Rattle.apfs_model.specs.Counts.{given}
@@ -44,15 +44,10 @@ use Rattle.reach_sweep.proofs.NextApart.{apart-map, next-apart, roots-apart, IsK
 use Rattle.reach_sweep.proofs.OneObject.{IsApart, isnt-newest, IsOutside, one-object, views-apart}
 use Rattle.reach_sweep.proofs.Swept.{apart-append}
 
--- of each kind of naming, these and a rest have no more than the first ones and all those to which these lead
-abbrev pub AreCounted : List ℕ → Seen → List Naming → List Naming → List Naming → Type 0
-AreCounted image seen first these rest = (test : Naming → Bool) → count_by test these + count_by test rest ≤ count_by test first + count_by test (flat_map (next image seen) these)
-
--- what was added from all roots is counted, with what the views name as its rest
+-- all was added from the roots, with what the views name as its rest
 pub record IsAddedOnce (image : List ℕ) (seen : Seen) (whole : Whole) (rest : List Naming) (start parts : Held) : Type 0 where
   pub apart : IsApart image seen whole
   pub added : Adds image seen (roots seen.nx) rest start parts
-  pub counted : AreCounted image seen (roots seen.nx) added.these rest
   pub rest_is : HaveSame (all_views image seen) rest
 
 -- each of these is live, and not of a view
@@ -116,7 +111,7 @@ these-apart image seen whole rest start parts a =
       led_on = led-on image seen whole rest start parts a;
       unled = λ m n h i r. unled image seen m n i r;
       one = one-leader image seen whole rest start parts a;
-      counted = λ n. let all : times naming_eq n these + times naming_eq n rest ≤ times naming_eq n first + times naming_eq n (flat_map leads these) = a.counted (is_it naming_eq n) in omega arith;
+      counted = λ n. let all : times naming_eq n these + times naming_eq n rest ≤ times naming_eq n first + times naming_eq n (flat_map leads these) = a.added.part.counted (is_it naming_eq n) in omega arith;
     } in
     led-apart naming_eq leads first these once a.added.part.these_live
 
@@ -201,8 +196,8 @@ joined-long image seen ns used plain =
     let records : List Object = map record_object (records_used used) in
     let both : length (objects ++ records) ≡ length objects + length records = length-append objects records in
     let left : length objects ≡ length ns = objects-long image seen ns plain in
-    let right : length records ≡ length (records_used used) = length-map record_object (records_used used) in
-    let those : length (records_used used) ≡ length used = length-map record_used used in
+    let right : length records ≡ length (records_used used) = length-map (records_used used) record_object in
+    let those : length (records_used used) ≡ length used = length-map used record_used in
     let all : length (objects ++ records) ≡ length ns + length used = omega arith in
     ap suc all
 
