@@ -25,3 +25,4 @@ pub mod NamedAt
 pub mod OneObject
 pub mod NamedBound
 pub mod Within
+pub mod Spent
