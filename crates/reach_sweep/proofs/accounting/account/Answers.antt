@@ -42,7 +42,7 @@ returns-in-Ok-settle-clause-reads g c = λ image heads told are loaded manager i
     let r = c.in-Ok.ensures.clear image heads told are loaded in
     let s = c.in-Ok-settle.ensures.clear image c.args.cp.now (c.reached.ensures.kept.same_bytes ∙ told) r in
     subst (λ n. RoseBy (account_reads n manager) _ _) (sym c.objects.ensures)
-    (account-within image c.args.cp.now whole manager r.space is s.container.apart _ _ _ (c.in-Ok.ensures.reads image heads told are loaded) c.settle.ensures.reads)
+    (account-within image c.args.cp.now whole manager r is s.container.apart _ _ _ (c.in-Ok.ensures.reads image heads told are loaded) c.settle.ensures.reads)
 
 pub returns-clause-present : goal.returns-clause-present
 returns-clause-present g c = λ image heads told are loaded.
