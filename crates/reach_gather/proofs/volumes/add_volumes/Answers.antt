@@ -27,6 +27,10 @@ loop-volume-preserved g c = record {
       let part = parts x one in
       volumes-next image seen namer c.args.volumes.now c.loop-volume.volume-index x c.args.out.now c.loop-volume.out c.add_volume.new.out c.loop-volume-test.true (sym c.volume-item.is) (c.loop-volume.invariant.adds image namer told all parts)
       (subst (λ (n : Namer). Adds image seen (head_naming x.head ∷ []) (volume_views seen n x) c.loop-volume.out c.add_volume.new.out) (sym part.1) (c.in-Ok.ensures.clear image (c.loop-volume.invariant.kept.same_bytes ∙ told) all part.0));
+  reads = λ image told.
+      let before : g.S.BlockSource.reads c.loop-volume.src + length c.args.out.now.namings ≤ g.S.BlockSource.reads c.args.src.now + length c.loop-volume.out.namings = c.loop-volume.invariant.reads image told in
+      let one : g.S.BlockSource.reads c.add_volume.new.src + length c.loop-volume.out.namings ≤ g.S.BlockSource.reads c.loop-volume.src + length c.add_volume.new.out.namings = c.in-Ok.ensures.reads image (c.loop-volume.invariant.kept.same_bytes ∙ told) in
+      omega (arith, before, one);
 }
 
 pub returns-clause-clear : goal.returns-clause-clear
