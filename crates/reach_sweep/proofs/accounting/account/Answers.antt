@@ -1,4 +1,4 @@
-use Rattle.std.proofs.Common.{ℕ, ap, sym, ◌∙◌, subst}
+use Rattle.std.proofs.Common.{ap, sym, ◌∙◌, subst}
 use Rattle.obj_base.specs.declared.site.Site.{Site}
 use Rattle.nx_ring.specs.Checkpoint.{site_of}
 use Rattle.own_ledger.specs.Held.{IsEmpty}
@@ -41,8 +41,8 @@ returns-in-Ok-settle-clause-reads g c = λ image heads told are loaded manager i
     let whole = c.in-Ok.reached in
     let r = c.in-Ok.ensures.clear image heads told are loaded in
     let s = c.in-Ok-settle.ensures.clear image c.args.cp.now (c.reached.ensures.kept.same_bytes ∙ told) r in
-    subst (λ n. RoseBy (account_reads n manager) _ _) (sym c.objects.ensures)
-    (account-within image c.args.cp.now whole manager r is s.container.apart _ _ _ (c.in-Ok.ensures.reads image heads told are loaded) c.settle.ensures.reads)
+    subst (λ n. RoseBy (account_reads n manager) (g.S.BlockSource.reads c.args.src.now) (g.S.BlockSource.reads c.settle.new.src)) (sym c.objects.ensures)
+    (account-within image c.args.cp.now whole manager r is s.container.apart (g.S.BlockSource.reads c.args.src.now) (g.S.BlockSource.reads c.reached.new.src) (g.S.BlockSource.reads c.settle.new.src) (c.in-Ok.ensures.reads image heads told are loaded) c.settle.ensures.reads)
 
 pub returns-clause-present : goal.returns-clause-present
 returns-clause-present g c = λ image heads told are loaded.
