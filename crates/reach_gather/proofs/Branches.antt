@@ -16,7 +16,7 @@ use Rattle.tree_namings.specs.Views.{is_in_view}
 use Rattle.reach_gather.specs.Held.{Held, Grew, IsOwnerThrough, GrewBy, some_owners}
 use Rattle.reach_gather.specs.Adds.{Adds}
 use Rattle.reach_gather.specs.Steps.{block_steps, id_steps, block_owner}
-use Rattle.reach_gather.proofs.Growing.{grew-none, grew-put, grewby-one, grewby-join}
+use Rattle.reach_gather.proofs.Growing.{grew-none, grew-put, fits-more, grewby-one, grewby-join}
 use Rattle.reach_gather.proofs.Owning.{own-block, pool-block, own-id, pool-id, OwnBlocks, grewby-blocks}
 
 -- the nodes below a root own their blocks
@@ -103,6 +103,7 @@ pub record OwnNothing (image : List ℕ) (seen : Seen) (ns : List Naming) : Type
 pub grewby-nothing : (image : List ℕ) (seen : Seen) (ns : List Naming) (a b : Held) → OwnNothing image seen ns → b.namings ≡ a.namings ++ ns → b.owners ≡ a.owners → b.pool_owners ≡ a.pool_owners → GrewBy image seen ns a b
 grewby-nothing image seen ns a b own p q r = record {
   namings = grew-put a.namings b.namings ns (λ n. In n ns) p (λ n h. h) (λ n h. h);
+  fits = fits-more a.namings b.namings ns p;
   owners = subst (λ xs. Grew a.owners xs (IsOwnerThrough (owners_through image seen) ns)) (sym q) (grew-none a.owners (IsOwnerThrough (owners_through image seen) ns) (λ o w. subst (λ xs. In o xs) (own.owners w.naming w.one) w.owner));
   pool_owners = subst (λ xs. Grew a.pool_owners xs (IsOwnerThrough (pool_owners_through image seen) ns)) (sym r) (grew-none a.pool_owners (IsOwnerThrough (pool_owners_through image seen) ns) (λ o w. subst (λ xs. In o xs) (own.pool_owners w.naming w.one) w.owner));
 }

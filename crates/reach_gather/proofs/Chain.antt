@@ -1,7 +1,8 @@
 -- What the reaper with its lists adds.
-use Rattle.std.proofs.Common.{◌≡◌, ℕ, zero, suc, ◌-◌, ◌<◌, Bool, true, false, List, [], ◌∷◌, ◌++◌, length, map, get_or, ◌⊎◌, inl, inr, refl, ap, sym, ◌∙◌, subst, arith, if◌then◌else◌}
+use Rattle.std.proofs.Common.{◌≡◌, ℕ, zero, suc, ◌+◌, ◌-◌, ◌<◌, ◌≤◌, Bool, true, false, List, [], ◌∷◌, ◌++◌, length, map, get_or, ◌⊎◌, inl, inr, refl, ap, sym, ◌∙◌, subst, arith, if◌then◌else◌}
 use Rattle.std.specs.Prelude.{◌==◌, slice_index}
 use Rattle.std.specs.List.{range_with_len}
+use Rattle.std.proofs.lemmas.List.{length-append}
 use Rattle.std.proofs.lemmas.List.FromFn.{fill_by_all}
 use Rattle.apfs_model.specs.Apart.{Apart}
 use Rattle.apfs_model.specs.Lists.{In}
@@ -122,3 +123,7 @@ reaper-adds image seen ids a b is p q r = record {
   trees = λ n kind h e. absurd (not-root n.expected kind (reaper-shown ids n h).1 e);
   grew = grewby-nothing image seen (reaper_namings ids) a b (reaping-own image seen ids is) (p ∙ ap (λ xs. a.namings ++ xs) (sym (links-are ids))) q r;
 }
+
+-- a list to which others were put is no shorter
+pub longer : {X : Type 0} (old more new : List X) → new ≡ old ++ more → length old ≤ length new
+longer old more new e = let long : length new ≡ length old + length more = ap length e ∙ length-append old more in omega arith

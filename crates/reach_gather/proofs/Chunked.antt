@@ -1,11 +1,12 @@
 -- The blocks that tell of chunks, and the bitmaps of chunks, are those of a right space.
-use Rattle.std.proofs.Common.{◌≡◌, ℕ, ◌+◌, ◌*◌, ◌/◌, ◌%◌, ◌<◌, Bool, true, false, ◌&&◌, ◌==◌, List, [], ◌∷◌, ◌++◌, map, Some, ◌⊎◌, inl, inr, refl, ap, sym, ◌∙◌, subst, arith, if◌then◌else◌}
+use Rattle.std.proofs.Common.{◌≡◌, ℕ, ◌+◌, ◌*◌, ◌/◌, ◌%◌, ◌<◌, ◌≤◌, Bool, true, false, ◌&&◌, ◌==◌, List, [], ◌∷◌, ◌++◌, length, map, Some, ◌⊎◌, inl, inr, refl, ap, sym, ◌∙◌, subst, arith, if◌then◌else◌}
 use Rattle.std.specs.Prelude.{max, not, slice_index}
 use Rattle.std.specs.List.{range_with_len}
 use Rattle.std.proofs.lemmas.List.FromFn.{get_or-map-range_with_len}
 use Rattle.apfs_model.specs.Blocks.{block_of}
 use Rattle.apfs_model.specs.Lists.{In, through}
 use Rattle.apfs_model.proofs.BoolTests.{test_or, equal-from, from-equal, left-true, right-true, both-true, not-true, false-not, from-range, in-range}
+use Rattle.apfs_model.proofs.Finite.{apart-length}
 use Rattle.apfs_model.proofs.Searches.{in-left, in-right, in-append, in-map, from-map, in-filter, from-filter, filter-test, in-flat_map, from-flat_map}
 use Rattle.nx_block.specs.Super.{space_oid_of}
 use Rattle.nx_ring.specs.Checkpoint.{Seen, site_of}
@@ -30,16 +31,17 @@ use Rattle.tree_namings.proofs.Container.{plain-block, plain-facts}
 use Rattle.reach_gather.specs.Held.{Held, Grew, IsOwnerThrough, GrewBy}
 use Rattle.reach_gather.specs.Infos.{room_of, known_cab, known_cib, known_cabs, known_cibs, bitmaps_from}
 use Rattle.reach_gather.specs.Steps.{block_owner}
-use Rattle.reach_gather.proofs.Growing.{grew-none, grew-put}
+use Rattle.reach_gather.proofs.Growing.{grew-none, grew-put, fits-more}
 use Rattle.reach_gather.proofs.Owning.{own-plain, pool-plain}
 use Rattle.reach_gather.proofs.Numbered.{append-assoc, HasBitmap, in-bitmaps, from-bitmaps}
+use Rattle.reach_gather.proofs.Indexed.{infos-apart}
 
 -- ---- what is known of a space, by its manager
-cabs-known : (image : List ℕ) (seen : Seen) (space : Known) → IsSpaceOf image seen space → space.cabs ≡ map (address_at space.manager) (range_with_len 0 (cabs_of space.manager))
+pub cabs-known : (image : List ℕ) (seen : Seen) (space : Known) → IsSpaceOf image seen space → space.cabs ≡ map (address_at space.manager) (range_with_len 0 (cabs_of space.manager))
 unfolding known_of cab_blocks
 cabs-known image seen space is = ap (λ (k : Known). k.cabs) is.same
 
-cibs-known : (image : List ℕ) (seen : Seen) (space : Known) → IsSpaceOf image seen space → space.cibs ≡ map (cib_block (site_of seen).block_size image space.manager) (range_with_len 0 (cibs_of space.manager))
+pub cibs-known : (image : List ℕ) (seen : Seen) (space : Known) → IsSpaceOf image seen space → space.cibs ≡ map (cib_block (site_of seen).block_size image space.manager) (range_with_len 0 (cibs_of space.manager))
 unfolding known_of cib_blocks
 cibs-known image seen space is = ap (λ (k : Known). k.cibs) is.same
 
@@ -477,6 +479,9 @@ blocks-grew image seen space a b is plain p q r =
     let cibs : List Owner = map block_owner (known_cibs oid space) in
     record {
       namings = grew-put a.namings b.namings (Infos seen space) (λ n. In n ns) (p ∙ append-assoc a.namings (known_cabs oid space) (known_cibs oid space)) (λ n h. to-blocks image seen space n is plain h) (λ n h. from-blocks image seen space n is plain h);
+      fits = let k : length b.namings ≤ length a.namings + length (Infos seen space) = fits-more a.namings b.namings (Infos seen space) (p ∙ append-assoc a.namings (known_cabs oid space) (known_cibs oid space)) in
+          let l : length (Infos seen space) ≤ length ns = apart-length (Infos seen space) ns (infos-apart oid space) (λ n h. to-blocks image seen space n is plain h) in
+          omega arith;
       owners = subst (λ xs. Grew a.owners xs (IsOwnerThrough (owners_through image seen) ns)) (sym q) (grew-none a.owners (IsOwnerThrough (owners_through image seen) ns) (own-never image seen space is plain));
       pool_owners = grew-put a.pool_owners b.pool_owners (Told image seen space) (IsOwnerThrough (pool_owners_through image seen) ns)
           (r ∙ (append-assoc (a.pool_owners ++ cabs) cibs (bitmaps_from 0 space.chunks) ∙ append-assoc a.pool_owners cabs (cibs ++ bitmaps_from 0 space.chunks)))

@@ -1,5 +1,5 @@
 -- How what is gathered grows, part by part.
-use Rattle.std.proofs.Common.{◌≡◌, ℕ, true, false, List, [], ◌∷◌, ◌++◌, map, ◌⊎◌, inl, inr, refl, ap, sym, ◌∙◌, subst}
+use Rattle.std.proofs.Common.{◌≡◌, ◌+◌, ◌≤◌, ℕ, true, false, List, [], ◌∷◌, ◌++◌, length, map, ◌⊎◌, inl, inr, refl, ap, sym, ◌∙◌, subst, arith, length-append}
 use Rattle.std.specs.Prelude.{not, ◌==◌}
 use Rattle.std.specs.List.{filter}
 use Rattle.apfs_model.specs.Lists.{In}
@@ -40,6 +40,13 @@ grew-put old new xs P e to back = record {
   grown = λ x p. subst (λ ys. In x ys) (sym e) (in-right x old xs (back x p));
 }
 
+-- ---- how long they are
+pub noted-more : {X : Type 0} (old new xs : List X) → new ≡ old ++ xs → length new ≡ length old + length xs
+noted-more old new xs e = ap length e ∙ length-append old xs
+
+pub fits-more : {X : Type 0} (old new xs : List X) → new ≡ old ++ xs → length new ≤ length old + length xs
+fits-more old new xs e = let l = noted-more old new xs e in omega (arith, l)
+
 -- ---- owners
 through-split : (t : Naming → List Owner) (xs ys : List Naming) (o : Owner) → IsOwnerThrough t (xs ++ ys) o → IsOwnerThrough t xs o ⊎ IsOwnerThrough t ys o
 through-split t xs ys o w = elim (in-append w.naming xs ys w.one) as (λ _. IsOwnerThrough t xs o ⊎ IsOwnerThrough t ys o) [
@@ -57,6 +64,7 @@ through-right t xs ys o w = record { naming = w.naming; one = in-right w.naming 
 pub grewby-none : (image : List ℕ) (seen : Seen) (a : Held) → GrewBy image seen [] a a
 grewby-none image seen a = record {
   namings = grew-none a.namings (λ n. In n []) (λ n h. h);
+  fits = omega arith;
   owners = grew-none a.owners (IsOwnerThrough (owners_through image seen) []) (λ o w. w.one);
   pool_owners = grew-none a.pool_owners (IsOwnerThrough (pool_owners_through image seen) []) (λ o w. w.one);
 }
@@ -67,6 +75,10 @@ grewby-join image seen xs ys a b c g h =
     let p = pool_owners_through image seen in
     record {
       namings = grew-join a.namings b.namings c.namings (λ n. In n xs) (λ n. In n ys) (λ n. In n (xs ++ ys)) (λ n k. in-append n xs ys k) (λ n k. in-left n xs ys k) (λ n k. in-right n xs ys k) g.namings h.namings;
+      fits = let k : length b.namings ≤ length a.namings + length xs = g.fits in
+          let l : length c.namings ≤ length b.namings + length ys = h.fits in
+          let e : length (xs ++ ys) ≡ length xs + length ys = length-append xs ys in
+          omega (arith, e);
       owners = grew-join a.owners b.owners c.owners (IsOwnerThrough t xs) (IsOwnerThrough t ys) (IsOwnerThrough t (xs ++ ys)) (through-split t xs ys) (through-left t xs ys) (through-right t xs ys) g.owners h.owners;
       pool_owners = grew-join a.pool_owners b.pool_owners c.pool_owners (IsOwnerThrough p xs) (IsOwnerThrough p ys) (IsOwnerThrough p (xs ++ ys)) (through-split p xs ys) (through-left p xs ys) (through-right p xs ys) g.pool_owners h.pool_owners;
     }
@@ -92,6 +104,7 @@ one-naming n m h = h
 pub grewby-one : (image : List ℕ) (seen : Seen) (n : Naming) (a b : Held) → b.namings ≡ a.namings ++ n ∷ [] → b.owners ≡ a.owners ++ some_owners (owners_through image seen n) → b.pool_owners ≡ a.pool_owners ++ some_owners (pool_owners_through image seen n) → GrewBy image seen (n ∷ []) a b
 grewby-one image seen n a b p q r = record {
   namings = grew-put a.namings b.namings (n ∷ []) (λ m. In m (n ∷ [])) p (one-naming n) (one-naming n);
+  fits = fits-more a.namings b.namings (n ∷ []) p;
   owners = grew-put a.owners b.owners (some_owners (owners_through image seen n)) (IsOwnerThrough (owners_through image seen) (n ∷ [])) q (one-through (owners_through image seen) n) (through-one (owners_through image seen) n);
   pool_owners = grew-put a.pool_owners b.pool_owners (some_owners (pool_owners_through image seen n)) (IsOwnerThrough (pool_owners_through image seen) (n ∷ [])) r (one-through (pool_owners_through image seen) n) (through-one (pool_owners_through image seen) n);
 }

@@ -6,8 +6,10 @@ pub mod Telling
 pub mod Told
 pub mod Fields
 pub mod Numbered
+pub mod Indexed
 pub mod Chunked
 pub mod Spaced
+pub mod Noted
 pub mod Chain
 pub mod Started
 pub mod Pasts

@@ -13,7 +13,7 @@ use Rattle.tree_namings.specs.Namings.{IsPlainNaming}
 use Rattle.tree_namings.proofs.Container.{plain-block, plain-facts}
 use Rattle.reach_gather.specs.Held.{Held, Grew, IsOwnerThrough, GrewBy}
 use Rattle.reach_gather.specs.Steps.{block_owner}
-use Rattle.reach_gather.proofs.Growing.{grew-none, grew-put}
+use Rattle.reach_gather.proofs.Growing.{grew-none, grew-put, fits-more}
 
 -- of a sound object all is told
 ok-told : (image : List ℕ) (seen : Seen) (n : Naming) (f : Found) (a : Answer) → is_ok a ≡ true → told_if image seen n f a ≡ told_owners image seen n n.expected f.bytes
@@ -101,6 +101,7 @@ same-naming ns n h = h
 pub grewby-blocks : (image : List ℕ) (seen : Seen) (ns : List Naming) (a b : Held) → OwnBlocks image seen ns → b.namings ≡ a.namings ++ ns → b.owners ≡ a.owners ++ map block_owner ns → b.pool_owners ≡ a.pool_owners → GrewBy image seen ns a b
 grewby-blocks image seen ns a b own p q r = record {
   namings = grew-put a.namings b.namings ns (λ n. In n ns) p (same-naming ns) (same-naming ns);
+  fits = fits-more a.namings b.namings ns p;
   owners = grew-put a.owners b.owners (map block_owner ns) (IsOwnerThrough (owners_through image seen) ns) q (blocks-to image seen ns own) (blocks-back image seen ns own);
   pool_owners = subst (λ xs. Grew a.pool_owners xs (IsOwnerThrough (pool_owners_through image seen) ns)) (sym r) (grew-none a.pool_owners (IsOwnerThrough (pool_owners_through image seen) ns) (no-pool image seen ns own));
 }

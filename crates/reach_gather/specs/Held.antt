@@ -1,5 +1,5 @@
 -- What is gathered of a container, and how it grows.
-use Rattle.std.specs.Prelude.{◌≡◌, ◌⊎◌, ℕ, false, not, ◌==◌, List}
+use Rattle.std.specs.Prelude.{◌≡◌, ◌⊎◌, ◌+◌, ◌≤◌, ℕ, false, not, ◌==◌, List, length}
 use Rattle.std.specs.List.{filter}
 use Rattle.apfs_model.specs.Lists.{In}
 use Rattle.nx_ring.specs.Checkpoint.{Seen}
@@ -30,8 +30,9 @@ pub record IsOwnerThrough (through : Naming → List Owner) (these : List Naming
   pub owner : In o (through naming)
   pub some : (o.blocks == 0) ≡ false
 
--- what is gathered has grown by some namings, and by the owners through them
+-- what is gathered has grown by some namings, and by no more of them, and by the owners through them
 pub record GrewBy (image : List ℕ) (seen : Seen) (these : List Naming) (old new : Held) : Type 0 where
   pub namings : Grew old.namings new.namings (λ n. In n these)
+  pub fits : length new.namings ≤ length old.namings + length these
   pub owners : Grew old.owners new.owners (IsOwnerThrough (owners_through image seen) these)
   pub pool_owners : Grew old.pool_owners new.pool_owners (IsOwnerThrough (pool_owners_through image seen) these)

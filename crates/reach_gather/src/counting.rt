@@ -1,5 +1,5 @@
 // How many objects are named.
-ghost use Rattle.std.specs.Prelude.{◌≡◌, ◌↔◌, ◌+◌, map, filter, length, IfOk};
+ghost use Rattle.std.specs.Prelude.{◌≡◌, ◌↔◌, ◌+◌, ◌^◌, ◌<◌, map, filter, length, IfOk};
 ghost use Rattle.apfs_model.specs.Apart.{Apart};
 ghost use Rattle.apfs_model.specs.Counts.{given};
 ghost use Rattle.apfs_model.specs.Lists.{In, Lists};
@@ -51,6 +51,7 @@ impl Gathered {
     pub fn objects(&self, alloc: Global, records: &mut Vec<Mapping>) -> Result<u64, AllocError>
         ensures count { IfOk result (IsNumberOf (IsObjectOf self.now.namings (map mapping_as records.old.items))) }
         ensures same { IfOk result (λ number. (m : entry.Mapping) → In m records.old.items ↔ In m records.new.items) }
+        ensures few { length self.now.namings < 2 ^ 63 }
     {
         let ids = ids_once(alloc, &self.namings, By::Mapping)?;
         let blocks = ids_once(alloc, &self.namings, By::Block)?;

@@ -1,5 +1,5 @@
 // Object maps, with their trees.
-ghost use Rattle.std.specs.Prelude.{◌≡◌, ◌∷◌, ◌≤◌, ℕ, List, [], length, None, Some, OnOk, IfErr, IfOk, IsErrOf};
+ghost use Rattle.std.specs.Prelude.{◌≡◌, ◌∷◌, ◌≤◌, ◌+◌, ℕ, List, [], length, None, Some, OnOk, IfErr, IfOk, IsErrOf};
 ghost use Rattle.apfs_model.specs.Blocks.{in_container};
 ghost use Rattle.apfs_model.specs.Counts.{Rose};
 ghost use Rattle.apfs_model.specs.Source.{IsKept};
@@ -46,6 +46,7 @@ fn read<S: BlockSource>(
     ensures found { (image : List ℕ) → S.bytes src.old ≡ Some image → IfOk result (λ bytes. bytes.items ≡ map_in image (site_of cp.now) block) }
     ensures long { IfOk result (λ bytes. 4096 ≤ length bytes.items) }
     ensures lost { IfErr result (IsLostBlock cp.now block) }
+    ensures reads { S.reads src.new ≤ S.reads src.old + 1 }
     ensures cause { IsErrOf result ReadFault → Rose (S.faults src.old) (S.faults src.new) }
     ensures kept { IsKept S.bytes S.bytes_len S.faults src.old src.new }
 {
@@ -88,6 +89,7 @@ fn add_past<S: BlockSource>(
     requires site { IsSiteFor (site_of cp.now) (S.bytes_len src.old) }
     ensures clear { (image : List ℕ) → S.bytes src.old ≡ Some image → OnOk result (Adds image cp.now (unless_zero (Whole (InBlock map.oid)) 56 (TreeRoot MapSnapshots) ByBlock oid) [] out.old out.new) }
     ensures present { (image : List ℕ) → S.bytes src.old ≡ Some image → AreLive image cp.now (unless_zero (Whole (InBlock map.oid)) 56 (TreeRoot MapSnapshots) ByBlock oid) → IfErr result (Tells (IsReachedFault image cp.now) (HasFeature image cp.now)) }
+    ensures reads { (image : List ℕ) → S.bytes src.old ≡ Some image → OnOk result (S.reads src.new + length out.old.namings ≤ S.reads src.old + length out.new.namings) }
     ensures cause { IsErrOf result ReadFault → Rose (S.faults src.old) (S.faults src.new) }
     ensures kept { IsKept S.bytes S.bytes_len S.faults src.old src.new }
 {
@@ -116,6 +118,7 @@ pub fn add_map<S: BlockSource>(
     ensures clear { (image : List ℕ) → S.bytes src.old ≡ Some image → IsMapPart image cp.now (naming_of map) → OnOk result (Adds image cp.now (naming_of map ∷ []) [] out.old out.new) }
     ensures records { (image : List ℕ) → S.bytes src.old ≡ Some image → IfOk result (λ records. records.items ≡ map_records image (site_of cp.now) map.oid) }
     ensures present { (image : List ℕ) → S.bytes src.old ≡ Some image → IsMapPart image cp.now (naming_of map) → IsLive image cp.now (naming_of map) → IfErr result (Tells (IsReachedFault image cp.now) (HasFeature image cp.now)) }
+    ensures reads { (image : List ℕ) → S.bytes src.old ≡ Some image → OnOk result (S.reads src.new + length out.old.namings ≤ S.reads src.old + length out.new.namings) }
     ensures cause { IsErrOf result ReadFault → Rose (S.faults src.old) (S.faults src.new) }
     ensures kept { IsKept S.bytes S.bytes_len S.faults src.old src.new }
 {

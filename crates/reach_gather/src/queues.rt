@@ -1,5 +1,5 @@
 // The free queues, whose trees are of ephemeral nodes.
-ghost use Rattle.std.specs.Prelude.{◌≡◌, ◌∷◌, ◌==◌, ℕ, List, [], Some, true, false, OnOk, IfErr, IfOk, IsErrOf};
+ghost use Rattle.std.specs.Prelude.{◌≡◌, ◌∷◌, ◌==◌, ◌+◌, ◌≤◌, ℕ, List, [], length, Some, true, false, OnOk, IfErr, IfOk, IsErrOf};
 ghost use Rattle.std.specs.List.{list_all};
 ghost use Rattle.apfs_model.specs.Counts.{Rose};
 ghost use Rattle.apfs_model.specs.Source.{IsKept};
@@ -44,6 +44,7 @@ pub fn add_main_queue<S: BlockSource>(
     requires some { (root.oid == 0) ≡ false }
     ensures clear { (image : List ℕ) → S.bytes src.old ≡ Some image → OnOk result (Adds image cp.now (naming_of root ∷ []) [] out.old out.new) }
     ensures present { (image : List ℕ) → S.bytes src.old ≡ Some image → IsLive image cp.now (naming_of root) → IfErr result (Tells (IsReachedFault image cp.now) (HasFeature image cp.now)) }
+    ensures reads { (image : List ℕ) → S.bytes src.old ≡ Some image → OnOk result (S.reads src.new + length out.old.namings ≤ S.reads src.old + length out.new.namings) }
     ensures cause { IsErrOf result ReadFault → Rose (S.faults src.old) (S.faults src.new) }
     ensures kept { IsKept S.bytes S.bytes_len S.faults src.old src.new }
 {
@@ -75,6 +76,7 @@ pub fn add_pool_queue<S: BlockSource>(
     ensures clear { (image : List ℕ) → S.bytes src.old ≡ Some image → OnOk result (Adds image cp.now (naming_of root ∷ []) [] out.old out.new) }
     ensures entries { (image : List ℕ) → S.bytes src.old ≡ Some image → IfOk result (λ entries. entries.items ≡ queue_entries image cp.now root.oid) }
     ensures present { (image : List ℕ) → S.bytes src.old ≡ Some image → IsLive image cp.now (naming_of root) → IfErr result (Tells (IsReachedFault image cp.now) (HasFeature image cp.now)) }
+    ensures reads { (image : List ℕ) → S.bytes src.old ≡ Some image → OnOk result (S.reads src.new + length out.old.namings ≤ S.reads src.old + length out.new.namings) }
     ensures cause { IsErrOf result ReadFault → Rose (S.faults src.old) (S.faults src.new) }
     ensures kept { IsKept S.bytes S.bytes_len S.faults src.old src.new }
 {

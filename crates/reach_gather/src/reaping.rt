@@ -1,5 +1,5 @@
 // The reaper and its lists.
-ghost use Rattle.std.specs.Prelude.{◌≡◌, ◌<◌, ◌++◌, ℕ, List, [], length, map, OnOk, IfErr, IsErrOf};
+ghost use Rattle.std.specs.Prelude.{◌≡◌, ◌<◌, ◌≤◌, ◌++◌, ℕ, List, [], length, map, OnOk, IfErr, IsErrOf};
 ghost use Rattle.std.specs.List.{range_with_len};
 ghost use Rattle.obj_base.specs.Stops.{Tells};
 ghost use Rattle.obj_base.specs.declared.stop.Stop.TheVariants.{ReadFault};
@@ -62,6 +62,7 @@ pub fn add_reaper(
 ) -> Result<(), Stop<ReachFault>>
     ensures clear { (image : List ℕ) → OnOk result (Adds image cp.now (reaper_naming cp.now.nx) [] out.old out.new) }
     ensures present { (image : List ℕ) → IfErr result (Tells (IsReachedFault image cp.now) (HasFeature image cp.now)) }
+    ensures longer { OnOk result (length out.old.namings ≤ length out.new.namings) }
     ensures no_read { IsErrOf result ReadFault → ⊥ }
 {
     let ids = match reap(alloc, cp) {

@@ -1,5 +1,5 @@
 // The snapshots of a volume: their superblocks and their extent references; what their superblocks name is left to the views.
-ghost use Rattle.std.specs.Prelude.{◌≡◌, ◌<◌, ◌^◌, ℕ, List, [], Some, OnOk, IfErr, IsErrOf};
+ghost use Rattle.std.specs.Prelude.{◌≡◌, ◌<◌, ◌^◌, ◌+◌, ◌≤◌, ℕ, List, [], length, Some, OnOk, IfErr, IsErrOf};
 ghost use Rattle.apfs_model.specs.Counts.{Rose};
 ghost use Rattle.apfs_model.specs.Source.{IsKept};
 ghost use Rattle.fs_name.specs.Normal.{are_hashed};
@@ -38,6 +38,7 @@ fn add_kept_extents<S: BlockSource>(
     requires site { IsSiteFor (site_of cp.now) (S.bytes_len src.old) }
     ensures clear { (image : List ℕ) → S.bytes src.old ≡ Some image → OnOk result (Adds image cp.now (unless_zero (Kept (view_of view)) 0 (TreeRoot ExtentRefs) ByBlock oid) [] out.old out.new) }
     ensures present { (image : List ℕ) → S.bytes src.old ≡ Some image → AreLive image cp.now (unless_zero (Kept (view_of view)) 0 (TreeRoot ExtentRefs) ByBlock oid) → IfErr result (Tells (IsReachedFault image cp.now) (HasFeature image cp.now)) }
+    ensures reads { (image : List ℕ) → S.bytes src.old ≡ Some image → OnOk result (S.reads src.new + length out.old.namings ≤ S.reads src.old + length out.new.namings) }
     ensures cause { IsErrOf result ReadFault → Rose (S.faults src.old) (S.faults src.new) }
     ensures kept { IsKept S.bytes S.bytes_len S.faults src.old src.new }
 {
@@ -70,6 +71,7 @@ pub(crate) fn add_snapshot<S: BlockSource>(
     requires site { IsSiteFor (site_of cp.now) (S.bytes_len src.old) }
     ensures clear { (image : List ℕ) → S.bytes src.old ≡ Some image → IsSuperPart image cp.now (view_of view) snapshot.now → OnOk result (Adds image cp.now (told_snapshot (view_of view) snapshot.now) (past_view_namings (view_of view) snapshot.now) out.old out.new) }
     ensures present { (image : List ℕ) → S.bytes src.old ≡ Some image → AreLive image cp.now (told_snapshot (view_of view) snapshot.now) → IfErr result (Tells (IsReachedFault image cp.now) (HasFeature image cp.now)) }
+    ensures reads { (image : List ℕ) → S.bytes src.old ≡ Some image → OnOk result (S.reads src.new + length out.old.namings ≤ S.reads src.old + length out.new.namings) }
     ensures cause { IsErrOf result ReadFault → Rose (S.faults src.old) (S.faults src.new) }
     ensures kept { IsKept S.bytes S.bytes_len S.faults src.old src.new }
 {
@@ -113,6 +115,7 @@ pub(crate) fn add_snapshots<S: BlockSource>(
     requires site { IsSiteFor (site_of cp.now) (S.bytes_len src.old) }
     ensures clear { (image : List ℕ) → S.bytes src.old ≡ Some image → AreSuperParts image cp.now volume.now map → OnOk result (Adds image cp.now (told_snapshots volume.now.head.slot map (are_hashed volume.now.names) 0 volume.now.snaps) (pasts_namings volume.now.head.slot map (are_hashed volume.now.names) 0 volume.now.snaps) out.old out.new) }
     ensures present { (image : List ℕ) → S.bytes src.old ≡ Some image → AreLive image cp.now (told_snapshots volume.now.head.slot map (are_hashed volume.now.names) 0 volume.now.snaps) → IfErr result (Tells (IsReachedFault image cp.now) (HasFeature image cp.now)) }
+    ensures reads { (image : List ℕ) → S.bytes src.old ≡ Some image → OnOk result (S.reads src.new + length out.old.namings ≤ S.reads src.old + length out.new.namings) }
     ensures cause { IsErrOf result ReadFault → Rose (S.faults src.old) (S.faults src.new) }
     ensures kept { IsKept S.bytes S.bytes_len S.faults src.old src.new }
 {

@@ -1,5 +1,5 @@
 // Trees of physical nodes and of ephemeral ones, from the namings of their roots on.
-ghost use Rattle.std.specs.Prelude.{◌≡◌, ◌∷◌, ◌==◌, ℕ, List, [], Some, false, OnOk, IfErr, IfOk, IsErrOf};
+ghost use Rattle.std.specs.Prelude.{◌≡◌, ◌∷◌, ◌==◌, ◌+◌, ◌≤◌, ℕ, List, [], length, Some, false, OnOk, IfErr, IfOk, IsErrOf};
 ghost use Rattle.apfs_model.specs.Counts.{Rose};
 ghost use Rattle.apfs_model.specs.Source.{IsKept};
 ghost use Rattle.obj_base.specs.Site.{IsSiteFor};
@@ -46,6 +46,7 @@ pub fn add_metadata<S: BlockSource>(
     requires kind { root.expects ≡ expects.Root trees.Metadata }
     ensures clear { (image : List ℕ) → S.bytes src.old ≡ Some image → OnOk result (Adds image cp.now (naming_of root ∷ []) [] out.old out.new) }
     ensures present { (image : List ℕ) → S.bytes src.old ≡ Some image → IsLive image cp.now (naming_of root) → IfErr result (Tells (IsReachedFault image cp.now) (HasFeature image cp.now)) }
+    ensures reads { (image : List ℕ) → S.bytes src.old ≡ Some image → OnOk result (S.reads src.new + length out.old.namings ≤ S.reads src.old + length out.new.namings) }
     ensures cause { IsErrOf result ReadFault → Rose (S.faults src.old) (S.faults src.new) }
     ensures kept { IsKept S.bytes S.bytes_len S.faults src.old src.new }
 {
@@ -71,6 +72,7 @@ pub fn add_map_snapshots<S: BlockSource>(
     requires kind { root.expects ≡ expects.Root trees.MapSnapshots }
     ensures clear { (image : List ℕ) → S.bytes src.old ≡ Some image → OnOk result (Adds image cp.now (naming_of root ∷ []) [] out.old out.new) }
     ensures present { (image : List ℕ) → S.bytes src.old ≡ Some image → IsLive image cp.now (naming_of root) → IfErr result (Tells (IsReachedFault image cp.now) (HasFeature image cp.now)) }
+    ensures reads { (image : List ℕ) → S.bytes src.old ≡ Some image → OnOk result (S.reads src.new + length out.old.namings ≤ S.reads src.old + length out.new.namings) }
     ensures cause { IsErrOf result ReadFault → Rose (S.faults src.old) (S.faults src.new) }
     ensures kept { IsKept S.bytes S.bytes_len S.faults src.old src.new }
 {
@@ -97,6 +99,7 @@ pub fn add_map_records<S: BlockSource>(
     ensures clear { (image : List ℕ) → S.bytes src.old ≡ Some image → OnOk result (Adds image cp.now (naming_of root ∷ []) [] out.old out.new) }
     ensures records { (image : List ℕ) → S.bytes src.old ≡ Some image → IfOk result (λ records. records.items ≡ records_of (flat_of (record_tree image (site_of cp.now)) root.oid)) }
     ensures present { (image : List ℕ) → S.bytes src.old ≡ Some image → IsLive image cp.now (naming_of root) → IfErr result (Tells (IsReachedFault image cp.now) (HasFeature image cp.now)) }
+    ensures reads { (image : List ℕ) → S.bytes src.old ≡ Some image → OnOk result (S.reads src.new + length out.old.namings ≤ S.reads src.old + length out.new.namings) }
     ensures cause { IsErrOf result ReadFault → Rose (S.faults src.old) (S.faults src.new) }
     ensures kept { IsKept S.bytes S.bytes_len S.faults src.old src.new }
 {
@@ -126,6 +129,7 @@ pub fn add_extents<S: BlockSource>(
     requires some { (root.oid == 0) ≡ false }
     ensures clear { (image : List ℕ) → S.bytes src.old ≡ Some image → OnOk result (Adds image cp.now (naming_of root ∷ []) [] out.old out.new) }
     ensures present { (image : List ℕ) → S.bytes src.old ≡ Some image → IsLive image cp.now (naming_of root) → IfErr result (Tells (IsReachedFault image cp.now) (HasFeature image cp.now)) }
+    ensures reads { (image : List ℕ) → S.bytes src.old ≡ Some image → OnOk result (S.reads src.new + length out.old.namings ≤ S.reads src.old + length out.new.namings) }
     ensures cause { IsErrOf result ReadFault → Rose (S.faults src.old) (S.faults src.new) }
     ensures kept { IsKept S.bytes S.bytes_len S.faults src.old src.new }
 {

@@ -1,6 +1,6 @@
 // The volumes: their superblocks by records of the container's map, their maps, their physical trees and their snapshots; what
 // their views name is left to the sweep over all views.
-ghost use Rattle.std.specs.Prelude.{◌≡◌, ◌∷◌, ℕ, List, [], None, Some, OnOk, IfErr, IsErrOf};
+ghost use Rattle.std.specs.Prelude.{◌≡◌, ◌∷◌, ◌+◌, ◌≤◌, ℕ, List, [], length, None, Some, OnOk, IfErr, IsErrOf};
 ghost use Rattle.apfs_model.specs.Counts.{Rose};
 ghost use Rattle.apfs_model.specs.Lists.{In};
 ghost use Rattle.apfs_model.specs.Source.{IsKept};
@@ -50,6 +50,7 @@ fn add_live_extents<S: BlockSource>(
     requires site { IsSiteFor (site_of cp.now) (S.bytes_len src.old) }
     ensures clear { (image : List ℕ) → S.bytes src.old ≡ Some image → OnOk result (Adds image cp.now (unless_zero (namer_of by) 144 (TreeRoot ExtentRefs) ByBlock oid) [] out.old out.new) }
     ensures present { (image : List ℕ) → S.bytes src.old ≡ Some image → AreLive image cp.now (unless_zero (namer_of by) 144 (TreeRoot ExtentRefs) ByBlock oid) → IfErr result (Tells (IsReachedFault image cp.now) (HasFeature image cp.now)) }
+    ensures reads { (image : List ℕ) → S.bytes src.old ≡ Some image → OnOk result (S.reads src.new + length out.old.namings ≤ S.reads src.old + length out.new.namings) }
     ensures cause { IsErrOf result ReadFault → Rose (S.faults src.old) (S.faults src.new) }
     ensures kept { IsKept S.bytes S.bytes_len S.faults src.old src.new }
 {
@@ -82,6 +83,7 @@ fn add_live_metadata<S: BlockSource>(
     requires site { IsSiteFor (site_of cp.now) (S.bytes_len src.old) }
     ensures clear { (image : List ℕ) → S.bytes src.old ≡ Some image → OnOk result (Adds image cp.now (unless_zero (namer_of by) 152 (TreeRoot SnapMetadata) ByBlock oid) [] out.old out.new) }
     ensures present { (image : List ℕ) → S.bytes src.old ≡ Some image → AreLive image cp.now (unless_zero (namer_of by) 152 (TreeRoot SnapMetadata) ByBlock oid) → IfErr result (Tells (IsReachedFault image cp.now) (HasFeature image cp.now)) }
+    ensures reads { (image : List ℕ) → S.bytes src.old ≡ Some image → OnOk result (S.reads src.new + length out.old.namings ≤ S.reads src.old + length out.new.namings) }
     ensures cause { IsErrOf result ReadFault → Rose (S.faults src.old) (S.faults src.new) }
     ensures kept { IsKept S.bytes S.bytes_len S.faults src.old src.new }
 {
@@ -150,6 +152,7 @@ fn add_named<S: BlockSource>(
     requires site { IsSiteFor (site_of cp.now) (S.bytes_len src.old) }
     ensures clear { (image : List ℕ) → S.bytes src.old ≡ Some image → AreVolumeParts image cp.now (namer_of by) volume.now → OnOk result (Adds image cp.now (told_volume cp.now (namer_of by) volume.now) (volume_views cp.now (namer_of by) volume.now) out.old out.new) }
     ensures present { (image : List ℕ) → S.bytes src.old ≡ Some image → AreVolumeParts image cp.now (namer_of by) volume.now → AreLive image cp.now (told_volume cp.now (namer_of by) volume.now) → IfErr result (Tells (IsReachedFault image cp.now) (HasFeature image cp.now)) }
+    ensures reads { (image : List ℕ) → S.bytes src.old ≡ Some image → OnOk result (S.reads src.new + length out.old.namings ≤ S.reads src.old + length out.new.namings) }
     ensures cause { IsErrOf result ReadFault → Rose (S.faults src.old) (S.faults src.new) }
     ensures kept { IsKept S.bytes S.bytes_len S.faults src.old src.new }
 {
@@ -192,6 +195,7 @@ pub fn add_volume<S: BlockSource>(
     requires site { IsSiteFor (site_of cp.now) (S.bytes_len src.old) }
     ensures clear { (image : List ℕ) → S.bytes src.old ≡ Some image → records.now ≡ map_records image (site_of cp.now) (omap_oid_of cp.now.nx) → (part : IsVolumePart image cp.now volume.now.head volume.now) → OnOk result (Adds image cp.now (head_naming volume.now.head ∷ []) (volume_views cp.now (volume_namer cp.now part.mapping) volume.now) out.old out.new) }
     ensures present { (image : List ℕ) → S.bytes src.old ≡ Some image → records.now ≡ map_records image (site_of cp.now) (omap_oid_of cp.now.nx) → IsVolumePart image cp.now volume.now.head volume.now → IsLive image cp.now (head_naming volume.now.head) → IfErr result (Tells (IsReachedFault image cp.now) (HasFeature image cp.now)) }
+    ensures reads { (image : List ℕ) → S.bytes src.old ≡ Some image → OnOk result (S.reads src.new + length out.old.namings ≤ S.reads src.old + length out.new.namings) }
     ensures cause { IsErrOf result ReadFault → Rose (S.faults src.old) (S.faults src.new) }
     ensures kept { IsKept S.bytes S.bytes_len S.faults src.old src.new }
 {
@@ -228,6 +232,7 @@ pub fn add_volumes<S: BlockSource>(
     requires site { IsSiteFor (site_of cp.now) (S.bytes_len src.old) }
     ensures clear { (image : List ℕ) (namer : Loaded → Namer) → S.bytes src.old ≡ Some image → records.now ≡ map_records image (site_of cp.now) (omap_oid_of cp.now.nx) → AreNamedParts image cp.now namer volumes.now → OnOk result (Adds image cp.now (slots_namings volumes.now) (loaded_views cp.now namer volumes.now) out.old out.new) }
     ensures present { (image : List ℕ) (namer : Loaded → Namer) → S.bytes src.old ≡ Some image → records.now ≡ map_records image (site_of cp.now) (omap_oid_of cp.now.nx) → AreNamedParts image cp.now namer volumes.now → AreLive image cp.now (slots_namings volumes.now) → IfErr result (Tells (IsReachedFault image cp.now) (HasFeature image cp.now)) }
+    ensures reads { (image : List ℕ) → S.bytes src.old ≡ Some image → OnOk result (S.reads src.new + length out.old.namings ≤ S.reads src.old + length out.new.namings) }
     ensures cause { IsErrOf result ReadFault → Rose (S.faults src.old) (S.faults src.new) }
     ensures kept { IsKept S.bytes S.bytes_len S.faults src.old src.new }
 {

@@ -18,3 +18,11 @@ pub mod Composed
 pub mod Together
 pub mod SpaceTells
 pub mod Accounts
+pub mod Counting
+pub mod LedOnce
+pub mod NextApart
+pub mod NamedAt
+pub mod OneObject
+pub mod NamedBound
+pub mod Within
+pub mod Spent

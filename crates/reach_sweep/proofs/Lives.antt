@@ -31,13 +31,13 @@ views-live image seen rest first start parts g r f n h = g.part.rest_live n (roo
 
 -- ---- the records that are used
 -- what is found by a record, and not in a view, is looked up in the container's map
-in-container : (how : LookUp) (oid : ℕ) (x : Object) (map : ℕ) (r : OmapRecord) → IsObjectBy how oid x → x ≡ OfRecord map r → is_in_view how ≡ false → how ≡ InContainer
+pub in-container : (how : LookUp) (oid : ℕ) (x : Object) (map : ℕ) (r : OmapRecord) → IsObjectBy how oid x → x ≡ OfRecord map r → is_in_view how ≡ false → how ≡ InContainer
 in-container ByBlock oid x map r by is out = absurd (let z : InBlock oid ≡ OfRecord map r = sym by ∙ is in let q : ⊥ = cc in q)
 in-container ByMapping oid x map r by is out = absurd (let z : OfId oid ≡ OfRecord map r = sym by ∙ is in let q : ⊥ = cc in q)
 in-container InContainer oid x map r by is out = refl
 in-container (InView view) oid x map r by is out = absurd (let z : true ≡ false = out in let q : ⊥ = cc in q)
 
-same-record : (r s : ℕ × OmapRecord) → record_object r ≡ record_object s → r ≡ s
+pub same-record : (r s : ℕ × OmapRecord) → record_object r ≡ record_object s → r ≡ s
 same-record r s e =
     let a : r.0 ≡ s.0 = cc in
     let b : r.1 ≡ s.1 = cc in

@@ -40,23 +40,23 @@ use Rattle.reach_sweep.specs.Composed.{ArePlacedBy}
 
 -- ---- where live namings stand
 -- a chunk-info address block, and a chunk-info block, by its index
-record IsCabAt (manager : List ℕ) (how : LookUp) (oid i : ℕ) : Type 0 where
-  by : how ≡ ByBlock
-  some : (cabs_of manager == 0) ≡ false
-  low : i < cabs_of manager
-  at : oid ≡ address_at manager i
+pub record IsCabAt (manager : List ℕ) (how : LookUp) (oid i : ℕ) : Type 0 where
+  pub by : how ≡ ByBlock
+  pub some : (cabs_of manager == 0) ≡ false
+  pub low : i < cabs_of manager
+  pub at : oid ≡ address_at manager i
 
-record IsCibAt (image : List ℕ) (seen : Seen) (manager : List ℕ) (how : LookUp) (oid i : ℕ) : Type 0 where
-  by : how ≡ ByBlock
-  low : i < cibs_of manager
-  at : oid ≡ cib_block (site_of seen).block_size image manager i
+pub record IsCibAt (image : List ℕ) (seen : Seen) (manager : List ℕ) (how : LookUp) (oid i : ℕ) : Type 0 where
+  pub by : how ≡ ByBlock
+  pub low : i < cibs_of manager
+  pub at : oid ≡ cib_block (site_of seen).block_size image manager i
 
-record IsManagerAt (seen : Seen) (how : LookUp) (oid : ℕ) : Type 0 where
-  by : how ≡ ByMapping
-  at : oid ≡ space_oid_of seen.nx
+pub record IsManagerAt (seen : Seen) (how : LookUp) (oid : ℕ) : Type 0 where
+  pub by : how ≡ ByMapping
+  pub at : oid ≡ space_oid_of seen.nx
 
 -- the root of the pool's queue is the one that the manager names
-abbrev RootedAs : List ℕ → ℕ → TreeKind → Type 0
+abbrev pub RootedAs : List ℕ → ℕ → TreeKind → Type 0
 RootedAs manager oid MapRecords = Unit {0}
 RootedAs manager oid MapSnapshots = Unit {0}
 RootedAs manager oid ExtentRefs = Unit {0}
@@ -66,7 +66,7 @@ RootedAs manager oid (FreeQueue Main) = Unit {0}
 RootedAs manager oid (Files hashed) = Unit {0}
 
 -- an id stands where the manager says, by what is expected
-abbrev StandsAs : List ℕ → Seen → List ℕ → LookUp → ℕ → Expected → Type 0
+abbrev pub StandsAs : List ℕ → Seen → List ℕ → LookUp → ℕ → Expected → Type 0
 StandsAs image seen manager how oid SpaceManager = IsManagerAt seen how oid
 StandsAs image seen manager how oid ContainerMap = Unit {0}
 StandsAs image seen manager how oid ReaperObject = Unit {0}
@@ -82,10 +82,10 @@ StandsAs image seen manager how oid (TreeRoot kind) = RootedAs manager oid kind
 StandsAs image seen manager how oid (TreeNode kind level) = Unit {0}
 
 -- so does a naming
-abbrev IsRightAt : List ℕ → Seen → List ℕ → Naming → Type 0
+abbrev pub IsRightAt : List ℕ → Seen → List ℕ → Naming → Type 0
 IsRightAt image seen manager n = StandsAs image seen manager n.how n.oid n.expected
 
-each-all : {X : Type 0} (P : X → Type 0) (xs : List X) → ((x : X) → In x xs → P x) → Each P xs
+pub each-all : {X : Type 0} (P : X → Type 0) (xs : List X) → ((x : X) → In x xs → P x) → Each P xs
 each-all P [] h = tt
 each-all P (x ∷ xs) h = (h x (inl refl), each-all P xs (λ y k. h y (inr k)))
 
@@ -184,7 +184,7 @@ manager-bytes image seen manager block has how oid f at h =
     ap (λ (x : Found). x.bytes) (one-found f (there seen manager block) (sym here ∙ s.names.found))
 
 -- what is found by a block stands in it
-block-stands : (image : List ℕ) (seen : Seen) (how : LookUp) (e : Expected) (oid : ℕ) (f : Found) → how ≡ ByBlock → found_by image seen how e oid ≡ Some f → f ≡ standing image (site_of seen) (InBlock oid) oid
+pub block-stands : (image : List ℕ) (seen : Seen) (how : LookUp) (e : Expected) (oid : ℕ) (f : Found) → how ≡ ByBlock → found_by image seen how e oid ≡ Some f → f ≡ standing image (site_of seen) (InBlock oid) oid
 block-stands image seen how e oid f by h = standing-by image (site_of seen) oid f (subst (λ x. found_by image seen x e oid ≡ Some f) by h)
 
 block-bytes : (image : List ℕ) (seen : Seen) (how : LookUp) (e : Expected) (oid at : ℕ) (f : Found) → how ≡ ByBlock → oid ≡ at → found_by image seen how e oid ≡ Some f → f.bytes ≡ block_of (site_of seen).block_size image at
@@ -244,7 +244,7 @@ roots-right image seen manager =
     )
 
 -- each live naming stands where the manager says
-live-right : (image : List ℕ) (seen : Seen) (manager : List ℕ) (block : ℕ) → HasManager seen manager block → (n : Naming) → IsLive image seen n → IsRightAt image seen manager n
+pub live-right : (image : List ℕ) (seen : Seen) (manager : List ℕ) (block : ℕ) → HasManager seen manager block → (n : Naming) → IsLive image seen n → IsRightAt image seen manager n
 unfolding resolved
 live-right image seen manager block has n (rooted _ h) = each-in (IsRightAt image seen manager) (roots seen.nx) n (roots-right image seen manager) h
 live-right image seen manager block has n (led m _ live h) =

@@ -152,7 +152,7 @@ all-swept : (seen : Seen) (volumes : List Loaded) (h : Head) → In h (swept_hea
 all-swept seen volumes h m = heads-swept seen volumes 0 volumes (stands-first volumes) h m
 
 -- ---- no two volumes are of one slot
-apart-append : {X : Type 0} (xs ys : List X) → Apart xs → Apart ys → ((x : X) → In x xs → In x ys → ⊥) → Apart (xs ++ ys)
+pub apart-append : {X : Type 0} (xs ys : List X) → Apart xs → Apart ys → ((x : X) → In x xs → In x ys → ⊥) → Apart (xs ++ ys)
 apart-append [] ys a b n = b
 apart-append (x ∷ xs) ys a b n = (
   (λ h. elim (in-append x xs ys h) as (λ _. ⊥) [ inl k ↦ a.0 k | inr k ↦ n x (inl refl) k ]),
@@ -162,7 +162,7 @@ apart-append (x ∷ xs) ys a b n = (
 slot-apart : (nx : List ℕ) (slot : ℕ) → Apart (slot_namings nx slot)
 slot-apart nx slot = elim (fs_oid_of nx slot == 0) as (λ b. Apart (if b then [] else naming (Whole Newest) (184 + 8 * slot) (VolumeIn slot) InContainer (fs_oid_of nx slot) ∷ [])) [ true ↦ tt | false ↦ ((λ h. h), tt) ]
 
-slots-apart : (nx : List ℕ) (xs : List ℕ) → Apart xs → Apart (flat_map (slot_namings nx) xs)
+pub slots-apart : (nx : List ℕ) (xs : List ℕ) → Apart xs → Apart (flat_map (slot_namings nx) xs)
 slots-apart nx [] a = tt
 slots-apart nx (x ∷ xs) a = apart-append (slot_namings nx x) (flat_map (slot_namings nx) xs) (slot-apart nx x) (slots-apart nx xs a.1) (λ m h k.
     let t = from-flat_map (slot_namings nx) m xs k in

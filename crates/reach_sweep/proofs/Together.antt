@@ -81,7 +81,7 @@ joined-of image seen heads volumes start parts used found a =
     law.joined (volumes_views seen namer volumes) (swept_namings image seen volumes) used start parts a.gathered.start_is a.gathered.added a.once
     (law.views.loaded heads volumes namer a.given.parts a.given.volumes_are) (law.views.swept heads volumes namer a.given.parts a.given.volumes_are) a.reached
 
-records-of : (image : List ℕ) (seen : Seen) (heads : List VolHead) (volumes : List Loaded) (start parts : Held) (used found : List Used) → AreSwept image seen heads volumes start parts used found →
+pub records-of : (image : List ℕ) (seen : Seen) (heads : List VolHead) (volumes : List Loaded) (start parts : Held) (used found : List Used) → AreSwept image seen heads volumes start parts used found →
     AreRecordsWith image seen parts.namings (records_used used) (records_used used ++ records_used found)
 records-of image seen heads volumes start parts used found a =
     (parts-compose image seen).records heads volumes (namer_by image seen) parts.namings (swept_namings image seen volumes) (records_used used) (records_used found) a.given.parts a.given.volumes_are

@@ -9,7 +9,9 @@ ghost use Rattle.nx_ring.specs.Checkpoint.{site_of};
 ghost use Rattle.nx_ring.specs.Features.{container_features};
 ghost use Rattle.vol_view.specs.Stops.{AreHeads};
 ghost use Rattle.vol_view.specs.declared.head.VolHead.{VolHead};
+ghost use Rattle.space_map.specs.Blocks.{manager_of};
 ghost use Rattle.reach_rules.specs.Accounted.{IsAccounted};
+ghost use Rattle.reach_rules.specs.Bound.{RoseBy, account_reads};
 ghost use Rattle.reach_rules.specs.Faults.{Present};
 ghost use Rattle.reach_rules.specs.Features.{HasFeature};
 ghost use Rattle.reach_rules.specs.Tally.{IsTally};
@@ -72,6 +74,7 @@ pub fn account<S: BlockSource>(
     requires plain { container_features cp.now.nx ≡ [] }
     ensures clear { (image : List ℕ) (heads : List VolHead) → S.bytes src.old ≡ Some image → AreHeads image cp.now heads → AreLoadedOf image cp.now heads volumes.now → OnOk result (IsAccounted image cp.now) }
     ensures tally { (image : List ℕ) (heads : List VolHead) → S.bytes src.old ≡ Some image → AreHeads image cp.now heads → AreLoadedOf image cp.now heads volumes.now → IfOk result (λ tally. IsTally image cp.now tally.objects tally.owned) }
+    ensures reads { (image : List ℕ) (heads : List VolHead) → S.bytes src.old ≡ Some image → AreHeads image cp.now heads → AreLoadedOf image cp.now heads volumes.now → IfOk result (λ tally. (manager : List ℕ) → manager_of cp.now ≡ Some manager → RoseBy (account_reads tally.objects manager) (S.reads src.old) (S.reads src.new)) }
     ensures present { (image : List ℕ) (heads : List VolHead) → S.bytes src.old ≡ Some image → AreHeads image cp.now heads → AreLoadedOf image cp.now heads volumes.now → IfErr result (Tells (Present image cp.now) (HasFeature image cp.now)) }
     ensures exact { (image : List ℕ) (heads : List VolHead) → S.bytes src.old ≡ Some image → AreHeads image cp.now heads → AreLoadedOf image cp.now heads volumes.now → IsAccounted image cp.now → IfErr result IsFree }
     ensures cause { IsErrOf result ReadFault → Rose (S.faults src.old) (S.faults src.new) }

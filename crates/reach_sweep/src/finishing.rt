@@ -1,5 +1,5 @@
 // What is told of all that was gathered.
-ghost use Rattle.std.specs.Prelude.{◌≡◌, ◌++◌, List, map, OnOk, IfOk, IfErr};
+ghost use Rattle.std.specs.Prelude.{◌≡◌, ◌++◌, ◌+◌, ◌^◌, ◌<◌, List, map, length, OnOk, IfOk, IfErr};
 ghost use Rattle.obj_base.specs.declared.stop.Stop.TheVariants.{NoMemory};
 ghost use Rattle.own_settle.specs.Kept.{HasPool};
 ghost use Rattle.reach_gather.specs.Finished.{mapping_as};
@@ -84,6 +84,7 @@ pub(crate) fn finish(
 ) -> Result<Reached, Stop<ReachFault>>
     requires { HasPool space.site.blocks space.manager pool.items }
     ensures done { IfOk result (IsFinished (records_used used.now) (records_used found.now) parts.old space pool.items) }
+    ensures few { OnOk result (length parts.old.namings + length used.now < 2 ^ 64) }
     ensures memory_only { IfErr result (λ stop. stop ≡ NoMemory) }
 {
     match tell_records(used, parts) {

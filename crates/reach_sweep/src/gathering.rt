@@ -1,5 +1,5 @@
 // What is gathered of a container before its views are swept.
-ghost use Rattle.std.specs.Prelude.{◌≡◌, ◌∷◌, ◌++◌, ℕ, List, [], Some, OnOk, IfOk, IfErr, IsErrOf};
+ghost use Rattle.std.specs.Prelude.{◌≡◌, ◌∷◌, ◌++◌, ◌+◌, ◌≤◌, ℕ, List, [], Some, length, OnOk, IfOk, IfErr, IsErrOf};
 ghost use Rattle.apfs_model.specs.Counts.{Rose};
 ghost use Rattle.apfs_model.specs.Source.{IsKept};
 ghost use Rattle.obj_base.specs.Site.{IsSiteFor};
@@ -95,6 +95,7 @@ fn add_container_map<S: BlockSource>(
     requires site { IsSiteFor (site_of cp.now) (S.bytes_len src.old) }
     ensures clear { (image : List ℕ) → S.bytes src.old ≡ Some image → IsMapPart image cp.now (container_map cp.now) → OnOk result (Adds image cp.now (container_map_naming cp.now.nx ∷ []) [] out.old out.new) }
     ensures records { (image : List ℕ) → S.bytes src.old ≡ Some image → IfOk result (λ records. records.items ≡ map_records image (site_of cp.now) (omap_oid_of cp.now.nx)) }
+    ensures reads { (image : List ℕ) → S.bytes src.old ≡ Some image → OnOk result (S.reads src.new + length out.old.namings ≤ S.reads src.old + length out.new.namings) }
     ensures present { (image : List ℕ) → S.bytes src.old ≡ Some image → IsMapPart image cp.now (container_map cp.now) → IfErr result (Tells (IsReachedFault image cp.now) (HasFeature image cp.now)) }
     ensures cause { IsErrOf result ReadFault → Rose (S.faults src.old) (S.faults src.new) }
     ensures kept { IsKept S.bytes S.bytes_len S.faults src.old src.new }
@@ -126,6 +127,7 @@ pub(crate) fn add_parts<S: BlockSource>(
     ensures clear { (image : List ℕ) (heads : List VolHead) (namer : Loaded → Namer) → S.bytes src.old ≡ Some image → HasParts image cp.now heads → AreVolumes image cp.now heads volumes.now namer → IsSpaceOf image cp.now space.now → OnOk result (Adds image cp.now (roots cp.now.nx) (volumes_views cp.now namer volumes.now) out.old out.new) }
     ensures records { (image : List ℕ) → S.bytes src.old ≡ Some image → IfOk result (λ records. records.items ≡ map_records image (site_of cp.now) (omap_oid_of cp.now.nx)) }
     ensures queued { (image : List ℕ) → S.bytes src.old ≡ Some image → OnOk result (ArePooled image cp.now space.now.manager) }
+    ensures reads { (image : List ℕ) → S.bytes src.old ≡ Some image → IsSpaceOf image cp.now space.now → OnOk result (S.reads src.new + (length space.now.cabs + length space.now.cibs) + length out.old.namings ≤ S.reads src.old + length out.new.namings) }
     ensures present { (image : List ℕ) (heads : List VolHead) (namer : Loaded → Namer) → S.bytes src.old ≡ Some image → HasParts image cp.now heads → AreVolumes image cp.now heads volumes.now namer → IsSpaceOf image cp.now space.now → IfErr result (Tells (IsReachedFault image cp.now) (HasFeature image cp.now)) }
     ensures cause { IsErrOf result ReadFault → Rose (S.faults src.old) (S.faults src.new) }
     ensures kept { IsKept S.bytes S.bytes_len S.faults src.old src.new }

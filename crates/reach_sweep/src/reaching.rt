@@ -11,6 +11,7 @@ ghost use Rattle.nx_ring.specs.Features.{container_features};
 ghost use Rattle.vol_view.specs.Stops.{AreHeads};
 ghost use Rattle.vol_view.specs.declared.head.VolHead.{VolHead};
 ghost use Rattle.reach_rules.specs.declared.fault.ReachFault.TheVariants.{NamedTwice};
+ghost use Rattle.reach_rules.specs.Bound.{ReachedWithin};
 ghost use Rattle.reach_rules.specs.Features.{HasFeature};
 ghost use Rattle.reach_rules.specs.Reached.{IsReached, IsReachedFault};
 ghost use Rattle.reach_sweep.specs.Account.{AreLoadedOf};
@@ -52,6 +53,7 @@ pub fn reached<S: BlockSource>(
     requires plain { container_features cp.now.nx ≡ [] }
     ensures clear { (image : List ℕ) (heads : List VolHead) → S.bytes src.old ≡ Some image → AreHeads image cp.now heads → AreLoadedOf image cp.now heads volumes.now → IfOk result (IsReached image cp.now) }
     ensures site { IfOk result (λ whole. whole.space.site ≡ site_of cp.now) }
+    ensures reads { (image : List ℕ) (heads : List VolHead) → S.bytes src.old ≡ Some image → AreHeads image cp.now heads → AreLoadedOf image cp.now heads volumes.now → IfOk result (λ whole. ReachedWithin whole (S.reads src.old) (S.reads src.new)) }
     ensures present { (image : List ℕ) (heads : List VolHead) → S.bytes src.old ≡ Some image → AreHeads image cp.now heads → AreLoadedOf image cp.now heads volumes.now → IfErr result (Tells (IsReachedFault image cp.now) (HasFeature image cp.now)) }
     ensures cause { IsErrOf result ReadFault → Rose (S.faults src.old) (S.faults src.new) }
     ensures kept { IsKept S.bytes S.bytes_len S.faults src.old src.new }

@@ -1,4 +1,4 @@
-use Rattle.std.proofs.Common.{◌≡◌, ◌∙◌, ◌++◌, ◌∷◌, [], ℕ, List, map, ap, sym}
+use Rattle.std.proofs.Common.{◌≡◌, ◌∙◌, ◌++◌, ◌∷◌, [], ℕ, List, map, ap, sym, ◌+◌, ◌≤◌, length, arith}
 use Rattle.nx_block.specs.Super.{jumpstart_of}
 use Rattle.nx_ring.specs.Checkpoint.{Seen}
 use Rattle.reach_rules.specs.Naming.{ByBlock, Newest, Whole, Jumpstart}
@@ -7,6 +7,9 @@ use Rattle.reach_gather.specs.Held.{some_owners}
 use Rattle.reach_gather.specs.Steps.{block_owner}
 use Rattle.reach_gather.proofs.Fields.{adds-zero}
 use Rattle.reach_gather.proofs.Started.{jump_by, jump-adds}
+use Rattle.space_parts.specs.Jumped.{jump_root}
+use Rattle.reach_gather.specs.Named.{naming_of}
+use Rattle.reach_gather.proofs.Noted.{noted-one, jump-none, jump-one}
 use Rattle.reach_gather.proofs.jumping.add_jumpstart.Goals as goal
 
 pub returns-then-block-eq0-clause-clear : goal.returns-then-block-eq0-clause-clear
@@ -29,3 +32,20 @@ returns-clause-clear g c = λ image told.
     ∙ (ap (λ (b : ℕ). c.note_block.new.self.owners ++ some_owners (told_from (jump_by b) 0 (map (λ (r : ℕ × ℕ). r) c.as_slice.result.now))) by
     ∙ ap (λ (xs : List (ℕ × ℕ)). c.note_block.new.self.owners ++ some_owners (told_from (jump_by (jumpstart_of seen.nx)) 0 (map (λ (r : ℕ × ℕ). r) xs))) extents))
     c.tell_all.ensures.pool_owners
+
+pub returns-then-block-eq0-clause-reads : goal.returns-then-block-eq0-clause-reads
+returns-then-block-eq0-clause-reads g c = λ image told.
+    let seen : Seen = c.args.cp.now in
+    let by : c.jumpstart-block.result ≡ jumpstart_of seen.nx = c.jumpstart-block.ensures ∙ ap jumpstart_of c.nx.ensures in
+    let few : g.S.BlockSource.reads c.jumpstart.new.src ≤ g.S.BlockSource.reads c.args.src.now + length (jump_root seen.nx) = c.in-Ok.ensures.reads in
+    let none : length (jump_root seen.nx) ≡ 0 = jump-none seen.nx (sym by ∙ c.if-block-eq0.true) in
+    omega (arith, few, none)
+
+pub returns-clause-reads : goal.returns-clause-reads
+returns-clause-reads g c = λ image told.
+    let seen : Seen = c.args.cp.now in
+    let few : g.S.BlockSource.reads c.jumpstart.new.src ≤ g.S.BlockSource.reads c.args.src.now + length (jump_root seen.nx) = c.in-Ok.ensures.reads in
+    let most : length (jump_root seen.nx) ≤ 1 = jump-one seen.nx in
+    let one : length c.note_block.new.self.namings ≡ length c.args.out.now.namings + 1 = noted-one c.args.out.now.namings c.note_block.new.self.namings (jump_by c.jumpstart-block.result) c.in_ok-note_block.ensures.namings in
+    let same : length c.tell_all.new.out.namings ≡ length c.note_block.new.self.namings = ap length c.tell_all.ensures.namings in
+    omega (arith, few, most, one, same)

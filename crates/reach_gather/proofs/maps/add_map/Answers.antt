@@ -1,4 +1,4 @@
-use Rattle.std.proofs.Common.{◌≡◌, ◌∙◌, ℕ, List, [], ◌∷◌, ap, refl, sym, subst, inl, inr}
+use Rattle.std.proofs.Common.{◌≡◌, ◌∙◌, ℕ, List, [], ◌∷◌, ap, refl, sym, subst, inl, inr, ◌+◌, ◌≤◌, length, arith}
 use Rattle.nx_ring.specs.Checkpoint.{Seen, site_of}
 use Rattle.omap_map.specs.Fields as maps
 use Rattle.omap_map.specs.Maps.{map_in}
@@ -9,6 +9,7 @@ use Rattle.reach_gather.specs.Adds.{Adds, AreLive}
 use Rattle.reach_gather.specs.Named.{naming_of, look_of}
 use Rattle.reach_gather.specs.declared.naming.Named.{Named}
 use Rattle.reach_gather.proofs.Fields.{map-adds, map-leads, led-to, lost-tells, tree-field, past-field, records-of-map}
+use Rattle.reach_gather.proofs.Noted.{noted-one}
 use Rattle.reach_gather.proofs.maps.add_map.Goals as goal
 
 pub returns-in-Err-clause-present : goal.returns-in-Err-clause-present
@@ -47,3 +48,12 @@ pub returns-in-Ok-add_past-clause-records : goal.returns-in-Ok-add_past-clause-r
 returns-in-Ok-add_past-clause-records g c = λ image told.
     let tree = tree-field image c.args.cp.now c.args.map.oid c.in-Ok.bytes.items c.deref.result.now c.u64_at-tree.result (c.in-Ok.ensures.found image told) c.deref.ensures.value c.u64_at-tree.ensures in
     records-of-map image (site_of c.args.cp.now) c.args.map.oid c.root-root.result.oid c.u64_at-tree.result c.in-Ok-add_map_records.records.items (ap (λ (m : Named). m.oid) c.root-root.ensures) tree (c.in-Ok-add_map_records.ensures.records image (c.in-Ok.ensures.kept.same_bytes ∙ told))
+
+pub returns-in-Ok-add_past-clause-reads : goal.returns-in-Ok-add_past-clause-reads
+returns-in-Ok-add_past-clause-reads g c = λ image told.
+    let mid = c.in-Ok.ensures.kept.same_bytes ∙ told in
+    let first : g.S.BlockSource.reads c.read.new.src ≤ g.S.BlockSource.reads c.args.src.now + 1 = c.in-Ok.ensures.reads in
+    let one : length c.note_block.new.self.namings ≡ length c.args.out.now.namings + 1 = noted-one c.args.out.now.namings c.note_block.new.self.namings (naming_of c.args.map) c.in_ok-note_block.ensures.namings in
+    let records : g.S.BlockSource.reads c.add_map_records.new.src + length c.note_block.new.self.namings ≤ g.S.BlockSource.reads c.read.new.src + length c.add_map_records.new.out.namings = c.in-Ok-add_map_records.ensures.reads image mid in
+    let past : g.S.BlockSource.reads c.add_past.new.src + length c.add_map_records.new.out.namings ≤ g.S.BlockSource.reads c.add_map_records.new.src + length c.add_past.new.out.namings = c.in-Ok-add_past.ensures.reads image (c.in-Ok-add_map_records.ensures.kept.same_bytes ∙ mid) in
+    omega (arith, first, one, records, past)

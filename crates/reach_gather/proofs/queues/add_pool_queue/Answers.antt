@@ -2,12 +2,14 @@ use Rattle.std.proofs.Common.{◌≡◌, ◌∙◌, ◌++◌, map, ap, refl, sym
 use Rattle.nx_ring.specs.Checkpoint.{Seen}
 use Rattle.bt_steps.specs.declared.step.Step.{Step}
 use Rattle.space_pool.specs.declared.entry.Queue.TheVariants.{Pool, Main}
-use Rattle.reach_rules.specs.Naming.{FreeQueue, Naming}
+use Rattle.reach_rules.specs.Naming.{FreeQueue, Naming, ByMapping, OfId}
 use Rattle.reach_rules.specs.Owners.{told_from, queued_ranges_of}
 use Rattle.reach_gather.specs.Named.{naming_of, expected_of, look_of}
 use Rattle.reach_gather.specs.Steps.{id_steps}
 use Rattle.reach_gather.proofs.Branches.{queue-adds}
 use Rattle.reach_gather.proofs.Told.{range_of_entry, told-next, told-none, kept-entries, kept-ranges}
+use Rattle.tree_namings.specs.Namings.{step_naming}
+use Rattle.reach_gather.proofs.Noted.{tree-read}
 use Rattle.reach_gather.proofs.queues.add_pool_queue.Goals as goal
 
 pub returns-in-Err-clause-present : goal.returns-in-Err-clause-present
@@ -39,3 +41,8 @@ returns-clause-clear g c = λ image told.
 
 pub returns-clause-entries : goal.returns-clause-entries
 returns-clause-entries g c = λ image told. kept-entries image c.args.cp.now Pool c.args.root.oid c.in-Ok.walked.kept.entries.items c.requires.some (c.in-Ok.ensures.clear Pool image told).held
+
+pub returns-clause-reads : goal.returns-clause-reads
+returns-clause-reads g c = λ image told.
+    tree-read (step_naming OfId (FreeQueue Pool) ByMapping c.args.root.oid) (naming_of c.args.root) c.deref.result.now c.in-Ok.walked.steps.items c.args.out.now.namings c.tell_all_pool.new.out.namings c.note_ids.new.out.namings (g.S.BlockSource.reads c.args.src.now) (g.S.BlockSource.reads c.walk_queue.new.src)
+    (c.tell_all_pool.ensures.namings ∙ c.in_ok-note_id.ensures.namings) c.in_ok-note_ids.ensures.namings c.deref.ensures.value (c.in-Ok.ensures.reads image told)

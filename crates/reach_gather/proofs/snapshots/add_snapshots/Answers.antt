@@ -19,6 +19,7 @@ pub loop-i-init : goal.loop-i-init
 loop-i-init g c = record {
   kept = record { same_bytes = refl; same_size = refl; later = omega arith };
   adds = λ image told parts. adds-none image c.args.cp.now c.args.out.now;
+  reads = λ image told. omega arith;
 }
 
 pub returns-in-Err-clause-present : goal.returns-in-Err-clause-present
@@ -46,6 +47,10 @@ loop-i-preserved g c = record {
       let part : IsSuperPart image c.args.cp.now (past_at slot c.args.map hashed c.loop-i.i x) x = parts c.loop-i.i x (slice_get-get_or c.args.volume.now.snaps c.loop-i.i x low ∙ ap (λ y. Some y) is) in
       pasts-next image c.args.cp.now slot c.args.map hashed c.args.volume.now.snaps c.loop-i.i x (view_of c.view_at-view.result) c.args.out.now c.loop-i.out c.add_snapshot.new.out low is view (c.loop-i.invariant.adds image told parts)
       (c.in-Ok.ensures.clear image (c.loop-i.invariant.kept.same_bytes ∙ told) (subst (λ (v : ViewAt). IsSuperPart image c.args.cp.now v x) (sym view) part));
+  reads = λ image told.
+      let before : g.S.BlockSource.reads c.loop-i.src + length c.args.out.now.namings ≤ g.S.BlockSource.reads c.args.src.now + length c.loop-i.out.namings = c.loop-i.invariant.reads image told in
+      let one : g.S.BlockSource.reads c.add_snapshot.new.src + length c.loop-i.out.namings ≤ g.S.BlockSource.reads c.loop-i.src + length c.add_snapshot.new.out.namings = c.in-Ok.ensures.reads image (c.loop-i.invariant.kept.same_bytes ∙ told) in
+      omega (arith, before, one);
 }
 
 pub returns-clause-clear : goal.returns-clause-clear

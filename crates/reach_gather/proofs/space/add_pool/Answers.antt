@@ -11,9 +11,16 @@ use Rattle.tree_namings.specs.Space.{manager_namer}
 use Rattle.reach_gather.specs.Adds.{Adds, AreLive}
 use Rattle.reach_gather.specs.Named.{naming_of}
 use Rattle.reach_gather.specs.declared.naming.Named.{Named}
-use Rattle.reach_gather.proofs.Fields.{adds-some, live-some}
+use Rattle.reach_gather.proofs.Fields.{adds-zero, adds-some, live-some}
 use Rattle.reach_gather.proofs.Spaced.{all-pooled, none-pooled}
 use Rattle.reach_gather.proofs.space.add_pool.Goals as goal
+
+pub returns-then-oid-eq0-clause-clear : goal.returns-then-oid-eq0-clause-clear
+returns-then-oid-eq0-clause-clear g c = λ image told.
+    let seen : Seen = c.args.cp.now in
+    let me : Namer = manager_namer seen.nx in
+    subst (λ (oid : ℕ). Adds image seen (unless_zero me 208 (TreeRoot (FreeQueue Pool)) ByMapping oid) [] c.args.out.now c.args.out.now) c.pool_root-oid.ensures
+    (adds-zero image seen me 208 (TreeRoot (FreeQueue Pool)) ByMapping c.pool_root-oid.result c.args.out.now c.if-oid-eq0.true)
 
 pub returns-clause-clear : goal.returns-clause-clear
 returns-clause-clear g c = λ image told.

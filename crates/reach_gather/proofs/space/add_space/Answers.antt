@@ -5,6 +5,8 @@ use Rattle.space_map.specs.Stops.{Known}
 use Rattle.reach_gather.specs.Infos.{known_cabs, known_cibs, bitmaps_from}
 use Rattle.reach_gather.specs.Steps.{block_owner}
 use Rattle.reach_gather.proofs.Spaced.{space-adds, manager-queues}
+use Rattle.tree_namings.specs.Container.{manager_naming}
+use Rattle.reach_gather.proofs.Noted.{space-read}
 use Rattle.reach_gather.proofs.space.add_space.Goals as goal
 
 pub returns-in-Err-clause-present : goal.returns-in-Err-clause-present
@@ -27,3 +29,11 @@ returns-clause-clear g c = λ image told is.
     (c.in_ok-note_space.ensures.namings ∙ ap (λ (oid : ℕ). (c.add_main.new.out.namings ++ known_cabs oid space) ++ known_cibs oid space) by)
     c.note_space.ensures.owners
     (c.in_ok-note_space.ensures.pool_owners ∙ ap (λ (oid : ℕ). ((c.add_main.new.out.pool_owners ++ map block_owner (known_cabs oid space)) ++ map block_owner (known_cibs oid space)) ++ bitmaps_from 0 space.chunks) by)
+
+pub returns-clause-reads : goal.returns-clause-reads
+returns-clause-reads g c = λ image told is.
+    space-read image c.args.cp.now c.args.space.now c.space_oid.result (manager_naming c.args.cp.now.nx) c.args.out.now.namings c.add_manager.new.out.namings c.add_pool.new.out.namings c.add_main.new.out.namings c.note_space.new.out.namings (g.S.BlockSource.reads c.args.src.now) (g.S.BlockSource.reads c.add_pool.new.src) (g.S.BlockSource.reads c.add_main.new.src) is
+    c.in_ok-add_manager.ensures.namings
+    (c.in-Ok.ensures.reads image told)
+    (c.in-Ok-add_main.ensures.reads image (c.add_pool.ensures.kept.same_bytes ∙ told))
+    c.in_ok-note_space.ensures.namings

@@ -1,12 +1,14 @@
 use Rattle.std.proofs.Common.{◌≡◌, ◌∙◌, ◌++◌, map, ap, refl, sym, subst, List, ℕ}
 use Rattle.nx_ring.specs.Checkpoint.{Seen}
 use Rattle.bt_steps.specs.declared.step.Step.{Step}
-use Rattle.reach_rules.specs.Naming.{ExtentRefs, Naming}
+use Rattle.reach_rules.specs.Naming.{ExtentRefs, Naming, ByBlock, InBlock}
 use Rattle.reach_gather.specs.Named.{naming_of, expected_of, look_of}
 use Rattle.reach_gather.specs.Steps.{block_steps, block_owner}
 use Rattle.reach_rules.specs.Owners.{told_from, new_ranges_of}
 use Rattle.reach_gather.proofs.Branches.{tree-adds}
 use Rattle.reach_gather.proofs.Told.{range_of_new, told-after, new-ranges}
+use Rattle.tree_namings.specs.Namings.{step_naming}
+use Rattle.reach_gather.proofs.Noted.{tree-read}
 use Rattle.reach_gather.proofs.trees.add_extents.Goals as goal
 
 pub returns-in-Err-clause-present : goal.returns-in-Err-clause-present
@@ -36,3 +38,8 @@ returns-clause-clear g c = λ image told.
     (c.in_ok-note_blocks.ensures.namings ∙ ap (λ (xs : List Step). c.tell_all.new.out.namings ++ block_steps ExtentRefs root.oid xs) steps)
     (c.in_ok-note_blocks.ensures.owners ∙ ap (λ (xs : List Step). c.tell_all.new.out.owners ++ map block_owner (block_steps ExtentRefs root.oid xs)) steps)
     c.note_blocks.ensures.pool_owners
+
+pub returns-clause-reads : goal.returns-clause-reads
+returns-clause-reads g c = λ image told.
+    tree-read (step_naming InBlock ExtentRefs ByBlock c.args.root.oid) (naming_of c.args.root) c.deref.result.now c.in-Ok.walked.steps.items c.args.out.now.namings c.tell_all.new.out.namings c.note_blocks.new.out.namings (g.S.BlockSource.reads c.args.src.now) (g.S.BlockSource.reads c.walk_extents.new.src)
+    (c.tell_all.ensures.namings ∙ c.in_ok-note_block.ensures.namings) c.in_ok-note_blocks.ensures.namings c.deref.ensures.value (c.in-Ok.ensures.reads image told)

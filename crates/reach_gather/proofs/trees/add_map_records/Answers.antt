@@ -1,11 +1,13 @@
 use Rattle.std.proofs.Common.{◌≡◌, ◌∙◌, ◌++◌, map, ap, refl, sym, subst, List, ℕ}
 use Rattle.nx_ring.specs.Checkpoint.{Seen}
 use Rattle.bt_steps.specs.declared.step.Step.{Step}
-use Rattle.reach_rules.specs.Naming.{MapRecords, Naming}
+use Rattle.reach_rules.specs.Naming.{MapRecords, Naming, ByBlock, InBlock}
 use Rattle.reach_gather.specs.Named.{naming_of, expected_of, look_of}
 use Rattle.reach_gather.specs.Steps.{block_steps, block_owner}
 use Rattle.reach_gather.proofs.Branches.{tree-adds}
 use Rattle.reach_gather.proofs.Told.{map-records}
+use Rattle.tree_namings.specs.Namings.{step_naming}
+use Rattle.reach_gather.proofs.Noted.{tree-read}
 use Rattle.reach_gather.proofs.trees.add_map_records.Goals as goal
 
 pub returns-in-Err-clause-present : goal.returns-in-Err-clause-present
@@ -35,3 +37,8 @@ returns-clause-clear g c = λ image told.
 
 pub returns-clause-records : goal.returns-clause-records
 returns-clause-records g c = λ image told. map-records image c.args.cp.now c.args.root.oid c.in-Ok.walked.kept.records.items (c.in-Ok.ensures.clear image told).held
+
+pub returns-clause-reads : goal.returns-clause-reads
+returns-clause-reads g c = λ image told.
+    tree-read (step_naming InBlock MapRecords ByBlock c.args.root.oid) (naming_of c.args.root) c.deref.result.now c.in-Ok.walked.steps.items c.args.out.now.namings c.note_block.new.self.namings c.note_blocks.new.out.namings (g.S.BlockSource.reads c.args.src.now) (g.S.BlockSource.reads c.walk_records.new.src)
+    c.in_ok-note_block.ensures.namings c.in_ok-note_blocks.ensures.namings c.deref.ensures.value (c.in-Ok.ensures.reads image told)

@@ -1,4 +1,4 @@
-use Rattle.std.proofs.Common.{◌≡◌, ◌∙◌, ◌++◌, ℕ, List, [], ◌∷◌, ap, refl, sym, subst}
+use Rattle.std.proofs.Common.{◌≡◌, ◌∙◌, ◌++◌, ℕ, List, [], ◌∷◌, ap, refl, sym, subst, ◌+◌, ◌≤◌, length, arith}
 use Rattle.fs_name.specs.Normal.{are_hashed}
 use Rattle.nx_ring.specs.Checkpoint.{Seen}
 use Rattle.vol_view.specs.Volumes.{Loaded}
@@ -44,3 +44,14 @@ returns-in-Ok-add_snapshots-clause-clear g c = λ image told parts.
     adds-join image seen (map_in_volume me (map_of volume) ∷ []) (view ++ (ext ++ (meta ++ snaps))) [] (view ++ pasts) a b e one
     (adds-join image seen view (ext ++ (meta ++ snaps)) view pasts b b e (adds-left image seen view b)
     (adds-join image seen ext (meta ++ snaps) [] pasts b m e two (adds-join image seen meta snaps [] pasts m d e three four)))
+
+pub returns-in-Ok-add_snapshots-clause-reads : goal.returns-in-Ok-add_snapshots-clause-reads
+returns-in-Ok-add_snapshots-clause-reads g c = λ image told.
+    let told1 = c.in-Ok.ensures.kept.same_bytes ∙ told in
+    let told2 = c.in-Ok-add_live_extents.ensures.kept.same_bytes ∙ told1 in
+    let told3 = c.in-Ok-add_live_metadata.ensures.kept.same_bytes ∙ told2 in
+    let one : g.S.BlockSource.reads c.add_map.new.src + length c.args.out.now.namings ≤ g.S.BlockSource.reads c.args.src.now + length c.add_map.new.out.namings = c.in-Ok.ensures.reads image told in
+    let two : g.S.BlockSource.reads c.add_live_extents.new.src + length c.add_map.new.out.namings ≤ g.S.BlockSource.reads c.add_map.new.src + length c.add_live_extents.new.out.namings = c.in-Ok-add_live_extents.ensures.reads image told1 in
+    let three : g.S.BlockSource.reads c.add_live_metadata.new.src + length c.add_live_extents.new.out.namings ≤ g.S.BlockSource.reads c.add_live_extents.new.src + length c.add_live_metadata.new.out.namings = c.in-Ok-add_live_metadata.ensures.reads image told2 in
+    let four : g.S.BlockSource.reads c.add_snapshots.new.src + length c.add_live_metadata.new.out.namings ≤ g.S.BlockSource.reads c.add_live_metadata.new.src + length c.add_snapshots.new.out.namings = c.in-Ok-add_snapshots.ensures.reads image told3 in
+    omega (arith, one, two, three, four)

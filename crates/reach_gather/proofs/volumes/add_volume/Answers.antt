@@ -1,4 +1,4 @@
-use Rattle.std.proofs.Common.{◌≡◌, ◌∙◌, ℕ, List, [], ◌∷◌, Option, None, Some, ap, refl, sym, subst, inl, inr}
+use Rattle.std.proofs.Common.{◌≡◌, ◌∙◌, ℕ, List, [], ◌∷◌, Option, None, Some, ap, refl, sym, subst, inl, inr, ◌+◌, ◌≤◌, length, arith}
 use Rattle.nx_block.specs.Super.{omap_oid_of}
 use Rattle.nx_ring.specs.Checkpoint.{Seen}
 use Rattle.omap_map.specs.declared.records.OmapRecord.{OmapRecord}
@@ -7,11 +7,12 @@ use Rattle.reach_rules.specs.Naming.{Namer}
 use Rattle.vol_parts.specs.Parts.{IsVolumePart, IsMapPart, volume_namer}
 use Rattle.vol_parts.specs.Told.{head_naming, map_of, map_in_volume, told_volume}
 use Rattle.reach_gather.specs.Adds.{AreLive}
-use Rattle.reach_gather.specs.Named.{namer_of}
+use Rattle.reach_gather.specs.Named.{namer_of, naming_of}
 use Rattle.reach_gather.specs.Views.{AreVolumeParts}
 use Rattle.reach_gather.specs.declared.naming.NamedBy.TheVariants as by
 use Rattle.reach_gather.proofs.Fields.{led-to}
 use Rattle.reach_gather.proofs.Slots.{record-found, never-lost, found-one, namer-is, volume-adds}
+use Rattle.reach_gather.proofs.Noted.{noted-one}
 use Rattle.reach_gather.proofs.volumes.add_volume.Goals as goal
 
 pub returns-in-None-clause-present : goal.returns-in-None-clause-present
@@ -45,3 +46,9 @@ returns-in-Err-clause-present g c = λ image told all part live.
       snapshots = λ i snapshot at. let s = part.snapshots i snapshot at in record { plain = s.plain; leads = s.leads };
     })
     (subst (λ (n : Namer). AreLive image seen (told_volume seen n volume)) (sym named) (led-to image seen (head_naming volume.head) (told_volume seen (volume_namer seen part.mapping) volume) live part.leads))
+
+pub returns-in-Ok-clause-reads : goal.returns-in-Ok-clause-reads
+returns-in-Ok-clause-reads g c = λ image told.
+    let one : length c.note_record.new.self.namings ≡ length c.args.out.now.namings + 1 = noted-one c.args.out.now.namings c.note_record.new.self.namings (naming_of c.named.result) c.in_ok-note_record.ensures.namings in
+    let more : g.S.BlockSource.reads c.add_named.new.src + length c.note_record.new.self.namings ≤ g.S.BlockSource.reads c.args.src.now + length c.add_named.new.out.namings = c.in-Ok.ensures.reads image told in
+    omega (arith, one, more)

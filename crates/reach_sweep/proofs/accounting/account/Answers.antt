@@ -2,9 +2,11 @@ use Rattle.std.proofs.Common.{ap, sym, ◌∙◌, subst}
 use Rattle.obj_base.specs.declared.site.Site.{Site}
 use Rattle.nx_ring.specs.Checkpoint.{site_of}
 use Rattle.own_ledger.specs.Held.{IsEmpty}
+use Rattle.reach_rules.specs.Bound.{RoseBy, account_reads}
 use Rattle.reach_rules.specs.Tally.{IsTally}
 use Rattle.reach_rules.proofs.Composed.{composed, tallied}
 use Rattle.reach_sweep.proofs.Accounts.{reached-told, settle-told, accounted-free, same-site}
+use Rattle.reach_sweep.proofs.Spent.{account-within}
 use Rattle.reach_sweep.proofs.accounting.account.Goals as goal
 
 pub returns-in-Err-clause-present : goal.returns-in-Err-clause-present
@@ -33,6 +35,14 @@ returns-in-Ok-settle-clause-tally g c = λ image heads told are loaded.
     let r = c.in-Ok.ensures.clear image heads told are loaded in
     subst (λ n. IsTally image c.args.cp.now n c.in-Ok-settle.held) (sym c.objects.ensures)
     (tallied image c.args.cp.now whole c.in-Ok-settle.held r (c.in-Ok-settle.ensures.clear image c.args.cp.now (c.reached.ensures.kept.same_bytes ∙ told) r))
+
+pub returns-in-Ok-settle-clause-reads : goal.returns-in-Ok-settle-clause-reads
+returns-in-Ok-settle-clause-reads g c = λ image heads told are loaded manager is.
+    let whole = c.in-Ok.reached in
+    let r = c.in-Ok.ensures.clear image heads told are loaded in
+    let s = c.in-Ok-settle.ensures.clear image c.args.cp.now (c.reached.ensures.kept.same_bytes ∙ told) r in
+    subst (λ n. RoseBy (account_reads n manager) (g.S.BlockSource.reads c.args.src.now) (g.S.BlockSource.reads c.settle.new.src)) (sym c.objects.ensures)
+    (account-within image c.args.cp.now whole manager r is s.container.apart (g.S.BlockSource.reads c.args.src.now) (g.S.BlockSource.reads c.reached.new.src) (g.S.BlockSource.reads c.settle.new.src) (c.in-Ok.ensures.reads image heads told are loaded) c.settle.ensures.reads)
 
 pub returns-clause-present : goal.returns-clause-present
 returns-clause-present g c = λ image heads told are loaded.

@@ -1,4 +1,4 @@
-use Rattle.std.proofs.Common.{◌∙◌}
+use Rattle.std.proofs.Common.{◌∙◌, arith}
 use Rattle.nx_ring.specs.Checkpoint.{Seen}
 use Rattle.reach_sweep.proofs.Gathers.{slots-live, named-parts, roots-added}
 use Rattle.reach_sweep.proofs.gathering.add_parts.Goals as goal
@@ -34,3 +34,15 @@ returns-in-Ok-add_volumes-clause-clear g c = λ image heads namer told has volum
     (c.in-Ok-add_volumes.ensures.clear image namer told3
     (c.as_slice.ensures.value ∙ c.in-Ok-add_container_map.ensures.records image told1)
     (named-parts image seen heads c.args.volumes.now namer has volumes))
+
+pub returns-in-Ok-add_volumes-clause-reads : goal.returns-in-Ok-add_volumes-clause-reads
+returns-in-Ok-add_volumes-clause-reads g c = λ image told is.
+    let told1 = c.in-Ok.ensures.kept.same_bytes ∙ told in
+    let told2 = c.in-Ok-add_container_map.ensures.kept.same_bytes ∙ told1 in
+    let told3 = c.in-Ok-add_jumpstart.ensures.kept.same_bytes ∙ told2 in
+    let of_space = c.in-Ok.ensures.reads image told is in
+    let of_map = c.in-Ok-add_container_map.ensures.reads image told1 in
+    let of_reaper = c.in-Ok-add_reaper.ensures.longer in
+    let of_jumpstart = c.in-Ok-add_jumpstart.ensures.reads image told2 in
+    let of_volumes = c.in-Ok-add_volumes.ensures.reads image told3 in
+    omega arith

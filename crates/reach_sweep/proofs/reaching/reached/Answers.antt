@@ -1,4 +1,5 @@
-use Rattle.std.proofs.Common.{◌≡◌, ◌∙◌, ◌++◌, ℕ, List, Some, ap, refl, sym, subst}
+use Rattle.std.proofs.Common.{◌≡◌, ◌∙◌, ◌++◌, ◌+◌, ◌<◌, ℕ, List, Some, length, ap, refl, sym, subst}
+use Rattle.std.specs.Prelude.{◌^◌}
 use Rattle.obj_base.specs.Stops.{Tells}
 use Rattle.nx_block.specs.Super.{omap_oid_of}
 use Rattle.nx_ring.specs.Checkpoint.{Seen, site_of}
@@ -18,6 +19,7 @@ use Rattle.reach_sweep.specs.Views.{namer_by}
 use Rattle.reach_sweep.proofs.Swept.{slots-are-apart}
 use Rattle.reach_sweep.proofs.Listed.{listed-by, of-maps}
 use Rattle.reach_sweep.proofs.Together.{AreGiven, given-of, AreParts, parts-live, swept-live, AreSwept, used-ones, AreKnown, all-reached}
+use Rattle.reach_sweep.proofs.Within.{reads-within}
 use Rattle.reach_sweep.proofs.reaching.reached.Goals as goal
 
 pub returns-in-Err-load_pool-clause-present : goal.returns-in-Err-load_pool-clause-present
@@ -112,3 +114,43 @@ returns-in-Ok-finish-clause-clear g c = λ image heads told h l.
     subst (λ (us : List Used). IsFinished (records_used us) (records_used found) c.add_parts.new.out c.in-Ok.space c.in-Ok-load_pool.pool.items c.in-Ok-finish.reached) c.deref-5.ensures.value
     (subst (λ (us : List Used). IsFinished (records_used c.deref-5.result.now) (records_used us) c.add_parts.new.out c.in-Ok.space c.in-Ok-load_pool.pool.items c.in-Ok-finish.reached) c.deref-6.ensures.value c.in-Ok-finish.ensures.done) in
     all-reached image seen heads volumes c.in_ok-parts.parts c.add_parts.new.out used found (maps_of seen volumes c.deref-2.result.now) c.in-Ok.space c.in-Ok-load_pool.pool.items c.in-Ok-finish.reached swept known finished
+
+pub returns-in-Ok-finish-clause-reads : goal.returns-in-Ok-finish-clause-reads
+returns-in-Ok-finish-clause-reads g c = λ image heads told h l.
+    let seen : Seen = c.args.cp.now in
+    let volumes : List Loaded = c.args.volumes.now in
+    let namer = namer_by image seen in
+    let found : List Used = c.in-Ok-head_records.found.items in
+    let used : List Used = c.in-Ok-sweep_views.used.items in
+    let v = given-of image seen heads volumes h l in
+    let before = c.load_pool.ensures.kept.same_bytes ∙ (c.load_space.ensures.kept.same_bytes ∙ told) in
+    let records : c.in-Ok-add_parts.records.items ≡ map_records image (site_of seen) (omap_oid_of seen.nx) = c.in-Ok-add_parts.ensures.records image before in
+    let swept : AreSwept image seen heads volumes c.in_ok-parts.parts c.add_parts.new.out used found = record {
+      given = v;
+      gathered = record {
+        start_is = c.in_ok-parts.ensures.start;
+        added = c.in-Ok-add_parts.ensures.clear image heads namer before v.parts v.volumes_are (c.in-Ok.ensures.clear image told);
+      };
+      once = c.in-Ok-once.ensures.clear;
+      reached = c.in-Ok-sweep_views.ensures.clear image heads namer (c.add_parts.ensures.kept.same_bytes ∙ before) v.parts v.volumes_are;
+      heads_found = c.in-Ok-head_records.ensures.found image heads namer v.parts (c.deref.ensures.value ∙ records) v.volumes_are;
+    } in
+    let known : AreKnown image seen heads (maps_of seen volumes c.deref-2.result.now) (found ++ used) c.in-Ok.space c.in-Ok-load_pool.pool.items = record {
+      plain = c.requires.plain;
+      listed = listed-by image seen heads volumes namer c.deref-2.result.now v.parts v.volumes_are (c.deref-2.ensures.value ∙ records);
+      all_are_used = subst (λ (us : List Used). AreAllUsed (maps_of seen volumes c.deref-2.result.now) (us ++ used)) c.deref-3.ensures.value
+          (subst (λ (us : List Used). AreAllUsed (maps_of seen volumes c.deref-2.result.now) (c.deref-3.result.now ++ us)) c.deref-4.ensures.value c.in-Ok-check_used.ensures.clear);
+      space_is = c.in-Ok.ensures.clear image told;
+      pool_is = c.in-Ok-load_pool.ensures.clear image (c.load_space.ensures.kept.same_bytes ∙ told);
+      queued = c.in-Ok-add_parts.ensures.queued image before;
+    } in
+    let finished : IsFinished (records_used used) (records_used found) c.add_parts.new.out c.in-Ok.space c.in-Ok-load_pool.pool.items c.in-Ok-finish.reached =
+    subst (λ (us : List Used). IsFinished (records_used us) (records_used found) c.add_parts.new.out c.in-Ok.space c.in-Ok-load_pool.pool.items c.in-Ok-finish.reached) c.deref-5.ensures.value
+    (subst (λ (us : List Used). IsFinished (records_used c.deref-5.result.now) (records_used us) c.add_parts.new.out c.in-Ok.space c.in-Ok-load_pool.pool.items c.in-Ok-finish.reached) c.deref-6.ensures.value c.in-Ok-finish.ensures.done) in
+    let few : length c.add_parts.new.out.namings + length used < 2 ^ 64 = subst (λ (us : List Used). length c.add_parts.new.out.namings + length us < 2 ^ 64) c.deref-5.ensures.value c.in-Ok-finish.ensures.few in
+    reads-within image seen heads volumes c.in_ok-parts.parts c.add_parts.new.out used found (maps_of seen volumes c.deref-2.result.now) c.in-Ok.space c.in-Ok-load_pool.pool.items c.in-Ok-finish.reached swept known finished few _ _ _ _ _ (record {
+      of_space = c.in-Ok.ensures.reads;
+      of_pool = c.in-Ok-load_pool.ensures.reads;
+      of_parts = c.in-Ok-add_parts.ensures.reads image before (c.in-Ok.ensures.clear image told);
+      of_views = c.in-Ok-sweep_views.ensures.reads;
+    })

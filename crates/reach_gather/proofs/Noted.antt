@@ -1,0 +1,56 @@
+-- No more is read than namings are noted.
+use Rattle.std.proofs.Common.{◌≡◌, ℕ, suc, ◌+◌, ◌≤◌, List, [], ◌∷◌, ◌++◌, length, map, inl, inr, refl, ap, ◌∙◌, arith}
+use Rattle.std.specs.Prelude.{◌==◌}
+use Rattle.std.proofs.lemmas.List.{length-map}
+use Rattle.std.proofs.lemmas.List.FromFn.{length-map-range_with_len}
+use Rattle.apfs_model.proofs.BoolTests.{test_or, equal-from}
+use Rattle.bt_steps.specs.declared.step.Step.{Step}
+use Rattle.nx_ring.specs.Checkpoint.{Seen, site_of}
+use Rattle.space_map.specs.Fields.{cabs_of, cibs_of}
+use Rattle.space_map.specs.Blocks.{address_at, cib_block}
+use Rattle.space_map.specs.Stops.{Known, IsSpaceOf}
+use Rattle.nx_block.specs.Super.{jumpstart_of}
+use Rattle.reach_rules.specs.Naming.{ByBlock, Newest, Whole, Jumpstart, Naming}
+use Rattle.reach_rules.specs.Next.{unless_zero}
+use Rattle.space_parts.specs.Jumped.{jump_root}
+use Rattle.space_parts.proofs.Jumps.{one-root}
+use Rattle.reach_gather.specs.Infos.{known_cabs, known_cibs}
+use Rattle.reach_gather.proofs.Growing.{noted-more}
+use Rattle.reach_gather.proofs.Numbered.{append-assoc}
+use Rattle.reach_gather.proofs.Indexed.{infos-long}
+use Rattle.reach_gather.proofs.Chunked.{cabs-known, cibs-known}
+
+-- a naming is noted
+pub noted-one : (old new : List Naming) (n : Naming) → new ≡ old ++ n ∷ [] → length new ≡ length old + 1
+noted-one old new n e = noted-more old new (n ∷ []) e
+
+-- a tree by one read for its root and one for each of its steps, each of which is noted
+pub tree-read : (f : Step → Naming) (root : Naming) (noted steps : List Step) (a b c : List Naming) (before after : ℕ) → b ≡ a ++ root ∷ [] → c ≡ b ++ map f noted → noted ≡ steps → after ≤ before + suc (length steps)
+    → after + length a ≤ before + length c
+tree-read f root noted steps a b c before after p q same few =
+    let one : length b ≡ length a + 1 = noted-one a b root p in
+    let more : length c ≡ length b + length (map f noted) = noted-more b c (map f noted) q in
+    let long : length (map f noted) ≡ length steps = length-map noted f ∙ ap length same in
+    omega (arith, one, more, long, few)
+
+-- the blocks that tell of chunks are noted, and not read
+pub space-read : (image : List ℕ) (seen : Seen) (space : Known) (oid : ℕ) (manager : Naming) (a b c d e : List Naming) (before mid after : ℕ) → IsSpaceOf image seen space → b ≡ a ++ manager ∷ []
+    → mid + length b ≤ before + length c → after + length c ≤ mid + length d → e ≡ (d ++ known_cabs oid space) ++ known_cibs oid space
+    → after + (length space.cabs + length space.cibs) + length a ≤ before + length e
+space-read image seen space oid manager a b c d e before mid after is p pool main q =
+    let one : length b ≡ length a + 1 = noted-one a b manager p in
+    let more : length e ≡ length d + length (known_cabs oid space ++ known_cibs oid space) = noted-more d e (known_cabs oid space ++ known_cibs oid space) (q ∙ append-assoc d (known_cabs oid space) (known_cibs oid space)) in
+    let long : length (known_cabs oid space ++ known_cibs oid space) ≡ cabs_of space.manager + cibs_of space.manager = infos-long oid space in
+    let cabs : length space.cabs ≡ cabs_of space.manager = ap length (cabs-known image seen space is) ∙ length-map-range_with_len (address_at space.manager) 0 (cabs_of space.manager) in
+    let cibs : length space.cibs ≡ cibs_of space.manager = ap length (cibs-known image seen space is) ∙ length-map-range_with_len (cib_block (site_of seen).block_size image space.manager) 0 (cibs_of space.manager) in
+    omega (arith, one, pool, main, more, long, cabs, cibs)
+
+-- the superblock names one jumpstart at most
+pub jump-none : (nx : List ℕ) → jumpstart_of nx ≡ 0 → length (jump_root nx) ≡ 0
+jump-none nx zero = ap (λ o. length (unless_zero (Whole Newest) 1272 Jumpstart ByBlock o)) zero
+
+pub jump-one : (nx : List ℕ) → length (jump_root nx) ≤ 1
+jump-one nx = elim (test_or (jumpstart_of nx == 0)) as (λ _. length (jump_root nx) ≤ 1) [
+  | inl z ↦ let e : length (jump_root nx) ≡ 0 = jump-none nx (equal-from (jumpstart_of nx) 0 z) in omega (arith, e)
+  | inr s ↦ let e : length (jump_root nx) ≡ 1 = one-root nx (jumpstart_of nx) refl s in omega (arith, e)
+]
