@@ -1,6 +1,6 @@
 -- Counts of facts by a number.
-use Rattle.std.proofs.Common.{◌≡◌, ℕ, zero, suc, ◌+◌, ◌<◌, Bool, true, false, cond, List, [], ◌∷◌, length, take, get_or, Option, Some, None, refl, ap, sym, ◌∙◌, arith}
-use Rattle.std.specs.Prelude.{count_by, bytes_eq, ◌==◌, ◌&&◌, nat_lt, not}
+use Rattle.std.proofs.Common.{◌≡◌, ℕ, ◌+◌, ◌<◌, Bool, true, false, cond, List, [], ◌∷◌, length, take, get_or, Option, Some, None, refl, ap, sym, ◌∙◌, arith}
+use Rattle.std.specs.Prelude.{count_by, bytes_eq, ◌==◌, ◌&&◌, nat_lt}
 use Rattle.std.specs.List.{list_any}
 use Rattle.std.proofs.lemmas.Grind.{common_steps}
 use Rattle.std.proofs.lemmas.List.Sums.{count_by_more_yes, count_by_more_no}
@@ -65,10 +65,5 @@ target_counts facts m q counts =
     ap (nat_lt 0) (counts q ∙ count-same (has_id target_file q) (gives_target q) (target-test q) facts.attributes) ∙ any-counted (gives_target q) facts.attributes
 
 -- whether a file has an entry
-pub any_counts : (facts : Facts) (m : List ℕ) (q : ℕ) → CountsIds (λ (e : Fact Entry). Some e.what.file_id) facts.entries m → (count_in m q == 0) ≡ not (list_any (λ (e : Fact Entry). e.what.file_id == q) facts.entries)
-any_counts facts m q counts =
-    ap (λ n. n == 0) (counts q) ∙ (none-counted (count_by (λ (e : Fact Entry). e.what.file_id == q) facts.entries) ∙ ap not (any-counted (λ (e : Fact Entry). e.what.file_id == q) facts.entries))
-  where
-    none-counted : (n : ℕ) → (n == 0) ≡ not (nat_lt 0 n)
-    none-counted zero = refl
-    none-counted (suc n) = grind (arith, nat_tests)
+pub any_counts : (facts : Facts) (m : List ℕ) (q : ℕ) → CountsIds (λ (e : Fact Entry). Some e.what.file_id) facts.entries m → nat_lt 0 (count_in m q) ≡ list_any (λ (e : Fact Entry). e.what.file_id == q) facts.entries
+any_counts facts m q counts = ap (nat_lt 0) (counts q) ∙ any-counted (λ (e : Fact Entry). e.what.file_id == q) facts.entries

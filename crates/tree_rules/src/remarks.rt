@@ -132,12 +132,7 @@ fn is_unnamed(facts: &Facts, files: &Counts, f: &InodeFact) -> bool
 }
 
 // The note of an inode, where it has no entry.
-fn unnamed_note(
-    view: &View,
-    facts: &Facts,
-    files: &Counts,
-    f: &InodeFact,
-) -> Option<Note>
+fn unnamed_note(view: &View, facts: &Facts, files: &Counts, f: &InodeFact) -> Option<Note>
     requires { CountsIds (λ e. Some e.what.file_id) facts.now.entries files.now }
     ensures { result ≡ (if spec.is_unnamed facts.now f.now then Some (spec.unnamed_note view.now f.now) else None) }
 {
