@@ -2,13 +2,13 @@
 use Rattle.std.proofs.Common.{◌≡◌, ℕ, zero, suc, ◌+◌, ◌<◌, Bool, true, false, cond, List, [], ◌∷◌, ◌++◌, length, map, take, get_or, Option, Some, None, inl, inr, refl, ap, sym, ◌∙◌, subst, arith}
 use Rattle.std.specs.List.{find}
 use Rattle.std.proofs.lemmas.Option.{none-some}
+use Rattle.std.proofs.lemmas.List.Folds.{find-append}
+use Rattle.std.specs.Option.{option_or}
 use Rattle.std.specs.Prelude.{option_to_list, filter}
 use Rattle.std.proofs.lemmas.List.{take_more, map-append}
 use Rattle.std.proofs.lemmas.List.Elements.{filter-append}
 use Rattle.apfs_model.proofs.Searches.{found-in}
 use Rattle.view_rules.specs.Words.{IsClear, IsBroken}
-use Rattle.rule_index.specs.Kins.{first_of}
-use Rattle.rule_index.proofs.KinLooks.{find-push}
 
 -- where nothing is found no item breaks the rule
 pub none-clear : {X : Type 0} (breaks : X → Bool) (xs : List X) → find breaks xs ≡ None → IsClear breaks xs
@@ -40,7 +40,7 @@ find_here {X} test (y ∷ ys) (suc i) d low none passes =
 -- it doesn't
 pub find_more : {X : Type 0} (test : X → Bool) (xs : List X) (i : ℕ) (d : X) → i < length xs → find test (take i xs) ≡ None → test (get_or xs i d) ≡ false → find test (take (i + 1) xs) ≡ None
 find_more {X} test xs i d low none fails =
-    ap (find test) (take_more xs i d low) ∙ (find-push test (take i xs) (get_or xs i d) ∙ (ap (λ (o : Option X). first_of o (cond (test (get_or xs i d)) (Some (get_or xs i d)) None)) none ∙ ap (λ b. cond b (Some (get_or xs i d)) None) fails))
+    ap (find test) (take_more xs i d low) ∙ (find-append test (take i xs) (get_or xs i d ∷ []) ∙ (ap (λ (o : Option X). option_or o (cond (test (get_or xs i d)) (Some (get_or xs i d)) None)) none ∙ ap (λ b. cond b (Some (get_or xs i d)) None) fails))
 
 -- the item of a turn is the first that passes
 pub found_item : {X : Type 0} (test : X → Bool) (xs items : List X) (i : ℕ) (x : X) (r : Bool) → items ≡ xs → i < length items → x ≡ get_or items i x → find test (take i xs) ≡ None → r ≡ test x → r ≡ true → Some x ≡ find test xs

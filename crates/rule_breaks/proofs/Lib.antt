@@ -3,3 +3,4 @@ pub mod Texts
 pub mod FellowLooks
 pub mod Rounded
 pub mod Orders
+pub mod NamesApart

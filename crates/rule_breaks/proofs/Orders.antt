@@ -1,5 +1,5 @@
 -- The extents of a stream are in order, or two of them overlap.
-use Rattle.std.proofs.Common.{◌≡◌, ℕ, zero, suc, ◌+◌, ◌-◌, ◌<◌, ◌≤◌, Bool, true, false, cond, ◌&&◌, ◌||◌, ◌==◌, List, [], ◌∷◌, map, length, get_or, Option, Some, None, ◌⊎◌, inl, inr, refl, ap, sym, ◌∙◌, subst, arith}
+use Rattle.std.proofs.Common.{◌≡◌, ℕ, zero, suc, ◌+◌, ◌-◌, ◌<◌, ◌≤◌, Bool, true, false, cond, ◌&&◌, ◌||◌, ◌==◌, List, [], ◌∷◌, map, length, get_or, Option, Some, None, inl, inr, refl, ap, sym, ◌∙◌, subst, arith}
 use Rattle.std.specs.Prelude.{not, nat_lt, nat_le, min, max, filter, MatchOption, IfSome, IsNone}
 use Rattle.std.specs.List.{find, list_any, list_all, AllByRecursion, All, IsDistinct}
 use Rattle.std.specs.List.Sorted.{IsPermutation, IsSortedBy}
@@ -17,7 +17,6 @@ use Rattle.apfs_model.proofs.Searches.{in-map, from-map, in-filter, from-filter,
 use Rattle.fs_record.specs.Facts.{Fact, all_for}
 use Rattle.fs_record.specs.StreamExtents.{extent_end, overlap, is_extent_even, are_apart, are_extents_ordered}
 use Rattle.fs_record.specs.declared.extents.FileExt.{FileExt}
-use Rattle.view_rules.specs.Words.{IsClear, IsBroken}
 use Rattle.view_rules.specs.Facts.{Facts}
 use Rattle.view_rules.specs.Extents.{extents_with_ids, is_disordered, HasExtentOrder, IsExtentOrder}
 use Rattle.rule_breaks.specs.Order.{is_uneven, piece_cmp, follows, Follow, IsCrossing}

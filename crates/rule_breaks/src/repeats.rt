@@ -1,12 +1,13 @@
-// The rules on names that are there twice.
-ghost use Rattle.std.specs.Prelude.{◌≡◌, find, IfOk};
+// The rules on names that are there twice. In the usual case none is, and the digests of names show it.
+ghost use Rattle.std.specs.Prelude.{◌≡◌, true, None, find, IfOk};
 ghost use Rattle.std.specs.Option.{option_copied};
 ghost use Rattle.view_rules.specs.Names as spec;
 ghost use Rattle.rule_index.specs.Keys as keys;
 
 use blk_source::NoMemory;
-use rule_index::KeyRef;
+use rule_index::digests::{ByAttributeDigest, ByEntryDigest};
 use rule_index::keys::{ByAttribute, ByEntry, count, place_ref, tally};
+use rule_index::{KeyRef, ids};
 use std::alloc::Global;
 use std::collections::BTreeMap;
 use view_facts::{AttributeFact, EntryFact, Facts};
@@ -40,10 +41,21 @@ fn entry_counted_twice<'a>(
     None
 }
 
+// Whether it shows by the digests of names that none is there twice in a directory.
+fn are_entries_apart(alloc: Global, facts: &Facts) -> Result<bool, NoMemory>
+    ensures { IfOk result (λ apart. apart ≡ true → find (spec.is_entry_repeated facts.now) facts.now.entries ≡ None) }
+{
+    let digests = ids::tally::<_, ByEntryDigest>(alloc, &facts.entries)?;
+    Ok(digests.are_distinct())
+}
+
 /// The first entry whose name is there again in its directory.
 pub fn repeated_entry(alloc: Global, facts: &Facts) -> Result<Option<&EntryFact>, NoMemory>
     ensures { IfOk result (λ first. option_copied first ≡ find (spec.is_entry_repeated facts.now) facts.now.entries) }
 {
+    if are_entries_apart(alloc, facts)? {
+        return Ok(None);
+    }
     let counts = tally::<_, ByEntry>(alloc, &facts.entries)?;
     Ok(entry_counted_twice(facts, &counts))
 }
@@ -77,10 +89,21 @@ fn attribute_counted_twice<'a>(
     None
 }
 
+// Whether it shows by the digests of names that none is there twice among the attributes of a file.
+fn are_attributes_apart(alloc: Global, facts: &Facts) -> Result<bool, NoMemory>
+    ensures { IfOk result (λ apart. apart ≡ true → find (spec.is_attribute_repeated facts.now) facts.now.attributes ≡ None) }
+{
+    let digests = ids::tally::<_, ByAttributeDigest>(alloc, &facts.attributes)?;
+    Ok(digests.are_distinct())
+}
+
 /// The first attribute whose name is there again among those of its file.
 pub fn repeated_attribute(alloc: Global, facts: &Facts) -> Result<Option<&AttributeFact>, NoMemory>
     ensures { IfOk result (λ first. option_copied first ≡ find (spec.is_attribute_repeated facts.now) facts.now.attributes) }
 {
+    if are_attributes_apart(alloc, facts)? {
+        return Ok(None);
+    }
     let counts = tally::<_, ByAttribute>(alloc, &facts.attributes)?;
     Ok(attribute_counted_twice(facts, &counts))
 }

@@ -1,28 +1,21 @@
 -- Counts of facts by a number.
-use Rattle.std.proofs.Common.{◌≡◌, ℕ, zero, suc, ◌+◌, ◌<◌, Bool, true, false, cond, List, [], ◌∷◌, length, take, get_or, Option, Some, None, refl, ap, sym, ◌∙◌, arith}
-use Rattle.std.specs.Prelude.{◌^◌, ◌-◌, count_by, bytes_eq, ◌==◌, ◌&&◌, nat_lt, not}
+use Rattle.std.proofs.Common.{◌≡◌, ℕ, ◌+◌, ◌<◌, Bool, true, false, cond, List, [], ◌∷◌, length, take, get_or, Option, Some, None, refl, ap, sym, ◌∙◌, arith}
+use Rattle.std.specs.Prelude.{count_by, bytes_eq, ◌==◌, ◌&&◌, nat_lt}
 use Rattle.std.specs.List.{list_any}
-use Rattle.std.specs.BTreeMap.{BTreeMap}
 use Rattle.std.proofs.lemmas.Grind.{common_steps}
-use Rattle.std.proofs.lemmas.List.{length-take-le}
-use Rattle.std.proofs.lemmas.List.Sums.{count_by-le-length, count_by_more_yes, count_by_more_no}
+use Rattle.std.proofs.lemmas.List.Sums.{count_by_more_yes, count_by_more_no}
 use Rattle.std.proofs.lemmas.Bool.Decides.{nat_tests}
 use Rattle.apfs_model.specs.Lists.{passes}
 use Rattle.fs_record.specs.Entries.{Entry}
 use Rattle.fs_record.specs.Attributes.{Attribute}
 use Rattle.fs_record.specs.Facts.{Fact}
-use Rattle.view_rules.specs.Facts.{Facts, does_count, is_system_id, names_file, entry_count}
+use Rattle.view_rules.specs.Facts.{Facts, is_system_id}
 use Rattle.view_rules.specs.Counts.{is_system_name}
 use Rattle.view_rules.specs.Inodes.{gives_target, target_name, holds_target}
-use Rattle.rule_index.specs.Ids.{has_id, count_in, CountsIds, counted_file, system_file, target_file}
+use Rattle.rule_index.specs.Ids.{has_id, count_in, CountsIds, system_file, target_file}
 
--- the items so far have fewer of a number than there are items
-pub counts-few : {T : Type 0} (id : T → Option ℕ) (items : List T) (i : ℕ) (m : BTreeMap ℕ ℕ) → i < length items → length items < 2 ^ 64 → CountsIds id (take i items) m → (q : ℕ) → count_in m q < 2 ^ 64 - 1
-counts-few id items i m low fits counts q =
-    omega (arith, counts q, count_by-le-length (has_id id q) (take i items), length-take-le i items (omega arith))
-
--- the next item has the number that is counted
-pub counts-some : {T : Type 0} (id : T → Option ℕ) (items : List T) (i : ℕ) (d : T) (k : ℕ) (old new : BTreeMap ℕ ℕ) → i < length items → id (get_or items i d) ≡ Some k → CountsIds id (take i items) old
+-- the next item has the number that is added
+pub counts-some : {T : Type 0} (id : T → Option ℕ) (items : List T) (i : ℕ) (d : T) (k : ℕ) (old new : List ℕ) → i < length items → id (get_or items i d) ≡ Some k → CountsIds id (take i items) old
     → ((q : ℕ) → count_in new q ≡ count_in old q + cond (k == q) 1 0) → CountsIds id (take (i + 1) items) new
 counts-some id items i d k old new low has counts more q =
     let test : has_id id q (get_or items i d) ≡ (k == q) = ap (λ o. passes o (λ n. n == q)) has in
@@ -34,8 +27,8 @@ counts-some id items i d k old new low has counts more q =
     more q ∙ go (k == q) refl
 
 -- the next item has no number
-pub counts-none : {T : Type 0} (id : T → Option ℕ) (items : List T) (i : ℕ) (d : T) (m : BTreeMap ℕ ℕ) → i < length items → id (get_or items i d) ≡ None → CountsIds id (take i items) m → CountsIds id (take (i + 1) items) m
-counts-none id items i d m low has counts q =
+pub counts-none : {T : Type 0} (id : T → Option ℕ) (items : List T) (i : ℕ) (d : T) (ids : List ℕ) → i < length items → id (get_or items i d) ≡ None → CountsIds id (take i items) ids → CountsIds id (take (i + 1) items) ids
+counts-none id items i d ids low has counts q =
     let test : has_id id q (get_or items i d) ≡ false = ap (λ o. passes o (λ n. n == q)) has in
     counts q ∙ sym (count_by_more_no (has_id id q) items i d low test)
 
@@ -47,17 +40,13 @@ if-counted : (b : Bool) (n q : ℕ) → passes (cond b (Some n) None) (λ m. m =
 if-counted true n q = refl
 if-counted false n q = refl
 
--- the entries of a file
-pub file_counts : (facts : Facts) (m : BTreeMap ℕ ℕ) (q : ℕ) → CountsIds counted_file facts.entries m → count_in m q ≡ entry_count facts q
-file_counts facts m q counts = counts q ∙ count-same (has_id counted_file q) (names_file q) (λ e. if-counted (does_count e) e.what.file_id q) facts.entries
-
 -- some item passes where one is counted
 pub any-counted : {X : Type 0} (p : X → Bool) (xs : List X) → nat_lt 0 (count_by p xs) ≡ list_any p xs
 any-counted p [] = refl
 any-counted p (x ∷ xs) = grind (arith, nat_tests, common_steps, any-counted p xs)
 
 -- the entries of a file in the private directory or of a reserved id
-pub system_counts : (facts : Facts) (m : BTreeMap ℕ ℕ) (q : ℕ) → CountsIds system_file facts.entries m → nat_lt 0 (count_in m q) ≡ list_any (is_system_name q) facts.entries
+pub system_counts : (facts : Facts) (m : List ℕ) (q : ℕ) → CountsIds system_file facts.entries m → nat_lt 0 (count_in m q) ≡ list_any (is_system_name q) facts.entries
 system_counts facts m q counts =
     ap (nat_lt 0) (counts q ∙ count-same (has_id system_file q) (is_system_name q) (λ e. if-counted (is_system_id e.id) e.what.file_id q) facts.entries) ∙ any-counted (is_system_name q) facts.entries
 
@@ -71,15 +60,10 @@ target-test q a = if-counted (bytes_eq a.what.name target_name && holds_target a
     swapped false false = refl
 
 -- the targets of a file
-pub target_counts : (facts : Facts) (m : BTreeMap ℕ ℕ) (q : ℕ) → CountsIds target_file facts.attributes m → nat_lt 0 (count_in m q) ≡ list_any (gives_target q) facts.attributes
+pub target_counts : (facts : Facts) (m : List ℕ) (q : ℕ) → CountsIds target_file facts.attributes m → nat_lt 0 (count_in m q) ≡ list_any (gives_target q) facts.attributes
 target_counts facts m q counts =
     ap (nat_lt 0) (counts q ∙ count-same (has_id target_file q) (gives_target q) (target-test q) facts.attributes) ∙ any-counted (gives_target q) facts.attributes
 
 -- whether a file has an entry
-pub any_counts : (facts : Facts) (m : BTreeMap ℕ ℕ) (q : ℕ) → CountsIds (λ (e : Fact Entry). Some e.what.file_id) facts.entries m → (count_in m q == 0) ≡ not (list_any (λ (e : Fact Entry). e.what.file_id == q) facts.entries)
-any_counts facts m q counts =
-    ap (λ n. n == 0) (counts q) ∙ (none-counted (count_by (λ (e : Fact Entry). e.what.file_id == q) facts.entries) ∙ ap not (any-counted (λ (e : Fact Entry). e.what.file_id == q) facts.entries))
-  where
-    none-counted : (n : ℕ) → (n == 0) ≡ not (nat_lt 0 n)
-    none-counted zero = refl
-    none-counted (suc n) = grind (arith, nat_tests)
+pub any_counts : (facts : Facts) (m : List ℕ) (q : ℕ) → CountsIds (λ (e : Fact Entry). Some e.what.file_id) facts.entries m → nat_lt 0 (count_in m q) ≡ list_any (λ (e : Fact Entry). e.what.file_id == q) facts.entries
+any_counts facts m q counts = ap (nat_lt 0) (counts q) ∙ any-counted (λ (e : Fact Entry). e.what.file_id == q) facts.entries

@@ -1,61 +1,77 @@
--- The directory of the last entry of each file.
-use Rattle.std.proofs.Common.{◌≡◌, ℕ, ◌+◌, ◌<◌, Bool, true, false, cond, List, [], ◌∷◌, ◌++◌, length, take, get_or, Option, Some, refl, ap, sym, ◌∙◌, arith, append-nil}
-use Rattle.std.specs.Prelude.{option_map, ◌==◌, ◌&&◌, filter, count_by}
-use Rattle.std.specs.Ordering.{nat_cmp}
-use Rattle.std.specs.BTreeMap.{BTreeMap, get}
-use Rattle.std.proofs.lemmas.List.{take_more}
-use Rattle.std.proofs.lemmas.List.Elements.{filter-append}
+-- The directories of each file's entries.
+use Rattle.std.proofs.Common.{◌≡◌, ℕ, ◌+◌, ◌<◌, ◌≤◌, Bool, true, false, List, [], ◌∷◌, length, get_or, Result, Ok, Err, refl, ap, sym, ◌∙◌, inl, inr, arith}
+use Rattle.std.specs.Prelude.{◌==◌, ◌&&◌, count_by, nat_lt, is_ok}
+use Rattle.std.specs.List.{list_any}
+use Rattle.std.specs.Ordering.{is_lt}
+use Rattle.std.specs.declared.cmp.Ordering.{Ordering}
+use Rattle.std.specs.declared.cmp.Ordering.TheVariants.{Less, Equal, Greater}
+use Rattle.std.specs.Cmp.{IsTotalOrder}
+use Rattle.std.specs.List.Sorted.{IsSortedBy, IsNonDecreasingBy, IsBinarySearchResult, IsSearchInRange}
+use Rattle.std.proofs.lemmas.Bool.{cases_lt}
 use Rattle.std.proofs.lemmas.Bool.Decides.{nat_tests}
 use Rattle.std.proofs.lemmas.Grind.{common_steps}
-use Rattle.apfs_model.specs.Lists.{passes, last, last_or}
+use Rattle.std.proofs.lemmas.Cmp.{then_total, on_total, nat_cmp_total}
+use Rattle.std.proofs.lemmas.List.Sorted.{searchable_from_sorted, IsNonDecreasingBy-from_all_adjacent}
+use Rattle.apfs_model.proofs.BoolTests.{from-below}
 use Rattle.fs_record.specs.Entries.{Entry}
 use Rattle.fs_record.specs.Facts.{Fact}
-use Rattle.view_rules.specs.Facts.{Facts, names_file, entry_count, entry_count_in}
-use Rattle.rule_index.specs.Homes.{home_of, HasHomes}
+use Rattle.view_rules.specs.Facts.{Facts, does_count, names_file, entry_count, entry_count_in}
+use Rattle.rule_index.specs.Homes.{home_cmp, is_place, is_home, HasHomes}
+use Rattle.rule_index.proofs.InOrder.{some-count, none-count}
+use Rattle.rule_index.proofs.Counting.{any-counted, count-same}
 
-last_or-push : {X : Type 0} (x : X) (xs : List X) (y : X) → last_or x (xs ++ y ∷ []) ≡ y
-last_or-push x [] y = refl
-last_or-push x (z ∷ xs) y = last_or-push z xs y
+-- the order is total
+pub home_total : IsTotalOrder home_cmp
+home_total = then_total (on_total (λ (p : ℕ × ℕ). p.0) nat_cmp_total) (on_total (λ (p : ℕ × ℕ). p.1) nat_cmp_total)
 
-last-push : {X : Type 0} (xs : List X) (y : X) → last (xs ++ y ∷ []) ≡ Some y
-last-push [] y = refl
-last-push (x ∷ xs) y = ap Some (last_or-push x xs y)
+lower-first : (a b : ℕ × ℕ) → is_lt (home_cmp b a) ≡ false → a.0 ≤ b.0
+lower-first a b e = grind (arith, nat_tests)
 
-last-filter : {X : Type 0} (test : X → Bool) (xs : List X) (y : X) → last (filter test (xs ++ y ∷ [])) ≡ cond (test y) (Some y) (last (filter test xs))
-last-filter {X} test xs y =
-    let go : (b : Bool) → last (filter test xs ++ cond b (y ∷ []) []) ≡ cond b (Some y) (last (filter test xs)) =
-    λ b. elim b as (λ b. last (filter test xs ++ cond b (y ∷ []) []) ≡ cond b (Some y) (last (filter test xs))) [ true ↦ last-push (filter test xs) y | false ↦ ap last (append-nil (filter test xs)) ] in
-    ap last (filter-append test xs (y ∷ [])) ∙ go (test y)
+-- pairs in order are in the order of their files
+pub files-rise : (pairs : List (ℕ × ℕ)) → IsSortedBy (λ a b. is_lt (home_cmp a b)) pairs → IsNonDecreasingBy (λ (p : ℕ × ℕ). p.0) pairs
+files-rise pairs up = IsNonDecreasingBy-from_all_adjacent (λ (p : ℕ × ℕ). p.0) pairs (λ k d low. lower-first (get_or pairs k d) (get_or pairs (k + 1) d) (up k d (omega arith) low))
 
-mapped-if : (b : Bool) (e : Fact Entry) (o : Option (Fact Entry)) → option_map (λ (e : Fact Entry). e.id) (cond b (Some e) o) ≡ cond b (Some e.id) (option_map (λ (e : Fact Entry). e.id) o)
-mapped-if true e o = refl
-mapped-if false e o = refl
+-- pairs that tie are the same
+tied-place : (a : ℕ × ℕ) (file directory : ℕ) → home_cmp a (file, directory) ≡ Equal → is_place file directory a ≡ true
+tied-place a file directory e = grind (arith, nat_tests)
 
--- one more entry
-pub homes-more : (entries : List (Fact Entry)) (i : ℕ) (d : Fact Entry) (old new : BTreeMap ℕ ℕ) → i < length entries → HasHomes (take i entries) old
-    → ((q : ℕ) → get nat_cmp new q ≡ cond (names_file q (get_or entries i d)) (Some (get_or entries i d).id) (get nat_cmp old q)) → HasHomes (take (i + 1) entries) new
-homes-more entries i d old new low had more q =
-    more q
-    ∙ (ap (λ (o : Option ℕ). cond (names_file q (get_or entries i d)) (Some (get_or entries i d).id) o) (had q)
-    ∙ (sym (mapped-if (names_file q (get_or entries i d)) (get_or entries i d) (last (filter (names_file q) (take i entries))))
-    ∙ ap (option_map (λ (e : Fact Entry). e.id)) (sym (ap (λ es. last (filter (names_file q) es)) (take_more entries i d low) ∙ last-filter (names_file q) (take i entries) (get_or entries i d)))))
+other-place : (a : ℕ × ℕ) (file directory : ℕ) (o : Ordering) → o ≡ home_cmp a (file, directory) → (o ≡ Equal → ⊥) → is_place file directory a ≡ false
+other-place a file directory o e ne = grind (arith, nat_tests)
 
-count-filter : {X : Type 0} (p r : X → Bool) (xs : List X) → count_by (λ x. p x && r x) xs ≡ count_by r (filter p xs)
-count-filter p r [] = refl
-count-filter p r (x ∷ xs) =
-    let had = count-filter p r xs in grind (arith, nat_tests, common_steps)
+-- what a search for a pair answers
+pub among-places : (pairs : List (ℕ × ℕ)) (file directory : ℕ) (r : Result ℕ ℕ) → IsSortedBy (λ a b. is_lt (home_cmp a b)) pairs → IsSearchInRange r (length pairs) → IsBinarySearchResult (λ (p : ℕ × ℕ). home_cmp p (file, directory)) pairs r → is_ok r ≡ list_any (is_place file directory) pairs
+among-places pairs file directory (Ok i) up low found =
+    let d : ℕ × ℕ = (0, 0) in
+    let some : 0 < count_by (is_place file directory) pairs = some-count (is_place file directory) pairs i d low (tied-place (get_or pairs i d) file directory (found d)) in
+    sym (from-below 0 (count_by (is_place file directory) pairs) some) ∙ any-counted (is_place file directory) pairs
+among-places pairs file directory (Err i) up low found =
+    let point = found (searchable_from_sorted home_total (λ (p : ℕ × ℕ). p) pairs (file, directory) up) in
+    let none : count_by (is_place file directory) pairs ≡ 0 = none-count (is_place file directory) pairs (λ k d inside.
+    elim (cases_lt k i) as (λ _. is_place file directory (get_or pairs k d) ≡ false) [
+      | inl before ↦ other-place (get_or pairs k d) file directory Less (sym (point.0 k d (omega arith) before)) (λ e. cc)
+      | inr after ↦ other-place (get_or pairs k d) file directory Greater (sym (point.1 k d after inside)) (λ e. cc)
+    ]) in
+    sym (ap (nat_lt 0) none) ∙ any-counted (is_place file directory) pairs
 
-count-length : {X : Type 0} (p : X → Bool) (xs : List X) → count_by p xs ≡ length (filter p xs)
-count-length p [] = refl
-count-length p (x ∷ xs) = let had = count-length p xs in grind (arith, nat_tests, common_steps)
+-- a place of a list is an entry's
+pub home_any : (facts : Facts) (pairs : List (ℕ × ℕ)) (q d : ℕ) → HasHomes facts.entries pairs → list_any (is_place q d) pairs ≡ list_any (is_home q d) facts.entries
+home_any facts pairs q d homes =
+    sym (any-counted (is_place q d) pairs)
+    ∙ (ap (nat_lt 0) (homes (is_place q d) ∙ count-same (λ (e : Fact Entry). does_count e && is_place q d (e.what.file_id, e.id)) (is_home q d) (λ e. regrouped (does_count e) (e.what.file_id == q) (e.id == d)) facts.entries)
+    ∙ any-counted (is_home q d) facts.entries)
+  where
+    regrouped : (a b c : Bool) → (a && (b && c)) ≡ ((a && b) && c)
+    regrouped true b c = refl
+    regrouped false b c = refl
 
-one-home : (d : ℕ) (es : List (Fact Entry)) → length es ≡ 1 → passes (option_map (λ (e : Fact Entry). e.id) (last es)) (λ h. h == d) ≡ (count_by (λ (e : Fact Entry). e.id == d) es == 1)
-one-home d [] e = absurd (omega arith)
-one-home d (x ∷ []) e = grind (arith, nat_tests, common_steps)
-one-home d (x ∷ (y ∷ es)) e = absurd (omega arith)
+-- where a file has one entry, an entry of it in a directory is the one
+one-or-none : (n m : ℕ) → n ≤ m → m ≡ 1 → nat_lt 0 n ≡ (n == 1)
+one-or-none n m le one = grind (arith, nat_tests)
 
--- where a file has one entry, it stands in its home
-pub home_counts : (facts : Facts) (q d : ℕ) → entry_count facts q ≡ 1 → passes (home_of facts.entries q) (λ h. h == d) ≡ (entry_count_in facts q d == 1)
+part-count : {X : Type 0} (p r : X → Bool) (xs : List X) → count_by (λ x. p x && r x) xs ≤ count_by p xs
+part-count p r [] = omega arith
+part-count p r (x ∷ xs) = let had = part-count p r xs in grind (arith, nat_tests, common_steps)
+
+pub home_counts : (facts : Facts) (q d : ℕ) → entry_count facts q ≡ 1 → list_any (is_home q d) facts.entries ≡ (entry_count_in facts q d == 1)
 home_counts facts q d one =
-    one-home d (filter (names_file q) facts.entries) (sym (count-length (names_file q) facts.entries) ∙ one)
-    ∙ ap (λ n. n == 1) (sym (count-filter (names_file q) (λ (e : Fact Entry). e.id == d) facts.entries))
+    sym (any-counted (is_home q d) facts.entries) ∙ one-or-none (entry_count_in facts q d) (entry_count facts q) (part-count (names_file q) (λ (e : Fact Entry). e.id == d) facts.entries) one

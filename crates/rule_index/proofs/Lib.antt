@@ -1,3 +1,4 @@
+pub mod InOrder
 pub mod Counting
 pub mod KinLooks
 pub mod HomeLooks

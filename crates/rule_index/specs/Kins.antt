@@ -1,7 +1,6 @@
 -- The kind and the parent of each inode.
-use Rattle.std.specs.Prelude.{◌≡◌, ℕ, List, ◌==◌, Option, None, Some, option_map, if◌then◌else◌}
-use Rattle.std.specs.Ordering.{nat_cmp}
-use Rattle.std.specs.BTreeMap.{BTreeMap, get}
+use Rattle.std.specs.Prelude.{◌≡◌, ℕ, List, ◌==◌, Option, option_map}
+use Rattle.std.specs.List.{find}
 use Rattle.fs_record.specs.Inodes.{Inode, inode_kind}
 use Rattle.fs_record.specs.Facts.{Fact, first_for}
 use Rattle.rule_index.specs.declared.kin.Kin.{Kin}
@@ -10,15 +9,14 @@ use Rattle.rule_index.specs.declared.kin.Kin.{Kin}
 abbrev pub kin_of : Inode → Kin
 kin_of inode = record { kind = inode_kind inode; parent = inode.parent }
 
--- the first of two values
-abbrev pub first_of : {X : Type 0} → Option X → Option X → Option X
-first_of (Some x) o = Some x
-first_of None o = o
+-- those of an inode, after its id
+abbrev pub with_id : Fact Inode → ℕ × Kin
+with_id f = (f.id, kin_of f.what)
 
--- those of an inode, where it has an id
-abbrev pub kin_at : ℕ → Fact Inode → Option Kin
-kin_at q f = if f.id == q then Some (kin_of f.what) else None
+-- those that a list has after an id, the first where there are more
+abbrev pub kin_in : List (ℕ × Kin) → ℕ → Option Kin
+kin_in kins q = option_map (λ (k : ℕ × Kin). k.1) (find (λ (k : ℕ × Kin). k.0 == q) kins)
 
--- a map has those of the inode of each id, the first where there are more
-abbrev pub HasKins : List (Fact Inode) → BTreeMap ℕ Kin → Type 0
-HasKins inodes m = (q : ℕ) → get nat_cmp m q ≡ option_map kin_of (first_for q inodes)
+-- a list has those of the inode of each id, the first where there are more
+abbrev pub HasKins : List (Fact Inode) → List (ℕ × Kin) → Type 0
+HasKins inodes kins = (q : ℕ) → kin_in kins q ≡ option_map kin_of (first_for q inodes)

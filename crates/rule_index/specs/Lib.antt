@@ -2,3 +2,4 @@ pub mod Ids
 pub mod Kins
 pub mod Homes
 pub mod Keys
+pub mod Digests

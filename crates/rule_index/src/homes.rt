@@ -1,36 +1,125 @@
-// The directory of the last entry of each file.
-ghost use Rattle.std.specs.Prelude.{◌≡◌, ℕ, Some, IfOk, OnOk, if◌then◌else◌};
-ghost use Rattle.std.specs.Ordering.{nat_cmp};
-ghost use Rattle.std.specs.BTreeMap.{get};
-ghost use Rattle.view_rules.specs.Facts.{names_file};
-ghost use Rattle.rule_index.specs.Homes.{HasHomes};
+// The directories of each file's entries.
+ghost use Rattle.std.specs.Prelude.{◌≡◌, ◌≤◌, ◌+◌, ◌==◌, ◌&&◌, ℕ, Bool, true, false, length, nat_lt, nat_le, count_by, IfOk, OnOk, if◌then◌else◌};
+ghost use Rattle.std.specs.List.{list_any};
+ghost use Rattle.std.specs.Ordering.{is_lt};
+ghost use Rattle.std.specs.List.Sorted.{IsSortedBy, IsPartitionPoint};
+ghost use Rattle.view_rules.specs.Facts.{does_count};
+ghost use Rattle.rule_index.specs.Homes.{home_cmp, is_file, is_place, HasHomes};
 
 use crate::ids::does_count;
 use blk_source::NoMemory;
 use std::alloc::Global;
-use std::collections::BTreeMap;
+use std::marker::Model;
 use view_facts::EntryFact;
 
+/// The file and the directory of each entry that counts, in order, so that searches find those of a file.
+#[derive(Drop)]
+pub(crate) struct Homes {
+    pairs: Vec<(u64, u64)>,
+}
+
+impl Model for Homes {
+    ghost use Rattle.std.specs.Prelude.{List, ℕ};
+    ghost use Rattle.std.specs.Ordering.{is_lt};
+    ghost use Rattle.std.specs.List.Sorted.{IsSortedBy};
+    ghost use Rattle.rule_index.specs.Homes.{home_cmp};
+
+    ghost Value = { List (ℕ × ℕ) };
+
+    ghost view = { λ homes. homes.pairs.items };
+
+    ghost invariant = { λ homes. IsSortedBy (λ a b. is_lt (home_cmp a b)) homes.pairs.items };
+}
+
 // Adds one more entry.
-fn add(homes: &mut BTreeMap<u64, u64>, e: &EntryFact) -> Result<(), NoMemory>
-    ensures { OnOk result ((q : ℕ) → get nat_cmp homes.new q ≡ (if names_file q e.now then Some e.now.id else get nat_cmp homes.old q)) }
+fn add(pairs: &mut Vec<(u64, u64)>, e: &EntryFact) -> Result<(), NoMemory>
+    ensures { OnOk result ((test : ℕ × ℕ → Bool) → count_by test pairs.new.items ≡ count_by test pairs.old.items + (if does_count e.now && test (e.now.what.file_id, e.now.id) then 1 else 0)) }
 {
     if !does_count(e) {
         return Ok(());
     }
-    match homes.insert(e.file_id(), e.id()) {
-        Ok(_) => Ok(()),
+    match pairs.push((e.file_id(), e.id())) {
+        Ok(()) => Ok(()),
         Err(_) => Err(NoMemory),
     }
 }
 
-/// The directory of the last entry of each file, among those that count.
-pub(crate) fn homes(alloc: Global, entries: &[EntryFact]) -> Result<BTreeMap<u64, u64>, NoMemory>
-    ensures { IfOk result (HasHomes entries.now) }
+// The file and the directory of each entry that counts, in record order.
+fn listed(alloc: Global, entries: &[EntryFact]) -> Result<Vec<(u64, u64)>, NoMemory>
+    ensures { IfOk result (λ pairs. HasHomes entries.now pairs.items) }
 {
-    let mut homes = BTreeMap::new(alloc);
+    let mut pairs = Vec::new(alloc);
     for e in entries {
-        add(&mut homes, e)?;
+        add(&mut pairs, e)?;
     }
-    Ok(homes)
+    Ok(pairs)
+}
+
+// How many of some pairs are of files below one.
+fn below(pairs: &[(u64, u64)], file: u64) -> usize
+    requires { IsSortedBy (λ a b. is_lt (home_cmp a b)) pairs.now }
+    ensures bound { result ≤ length pairs.now }
+    ensures split { IsPartitionPoint (λ (p : ℕ × ℕ). nat_lt p.0 file ≡ true) (λ (p : ℕ × ℕ). nat_lt p.0 file ≡ false) pairs.now result }
+{
+    pairs.partition_point(
+        |p: &(u64, u64)| -> bool
+            ensures { result ≡ nat_lt p.now.0 file }
+        { p.0 < file },
+    )
+}
+
+// How many of some pairs aren't of files above one.
+fn up_to(pairs: &[(u64, u64)], file: u64) -> usize
+    requires { IsSortedBy (λ a b. is_lt (home_cmp a b)) pairs.now }
+    ensures bound { result ≤ length pairs.now }
+    ensures split { IsPartitionPoint (λ (p : ℕ × ℕ). nat_le p.0 file ≡ true) (λ (p : ℕ × ℕ). nat_le p.0 file ≡ false) pairs.now result }
+{
+    pairs.partition_point(
+        |p: &(u64, u64)| -> bool
+            ensures { result ≡ nat_le p.now.0 file }
+        { p.0 <= file },
+    )
+}
+
+// How many of some pairs are of a file.
+fn count_of(pairs: &[(u64, u64)], file: u64) -> usize
+    requires { IsSortedBy (λ a b. is_lt (home_cmp a b)) pairs.now }
+    ensures { result ≡ count_by (is_file file) pairs.now }
+{
+    let from = below(pairs, file);
+    let to = up_to(pairs, file);
+    to - from
+}
+
+// Whether one of some pairs is of a file and a directory.
+fn is_among(pairs: &[(u64, u64)], file: u64, directory: u64) -> bool
+    requires { IsSortedBy (λ a b. is_lt (home_cmp a b)) pairs.now }
+    ensures { result ≡ list_any (is_place file directory) pairs.now }
+{
+    pairs.binary_search(&(file, directory)).is_ok()
+}
+
+impl Homes {
+    /// The directories of each file's entries, among those that count.
+    pub(crate) fn of(alloc: Global, entries: &[EntryFact]) -> Result<Homes, NoMemory>
+        ensures { IfOk result (HasHomes entries.now) }
+    {
+        let mut pairs = listed(alloc, entries)?;
+        pairs.sort_unstable();
+        Ok(Homes { pairs })
+    }
+
+    /// How many entries a file has.
+    pub(crate) fn count(&self, file: u64) -> u64
+        ensures { result ≡ count_by (is_file file) self.now }
+    {
+        count_of(&self.pairs, file) as u64
+    }
+
+    /// Whether an entry of a file stands in a directory.
+    pub(crate) fn has(&self, file: u64, directory: u64) -> bool
+        ensures { result ≡ list_any (is_place file directory) self.now }
+    {
+        is_among(&self.pairs, file, directory)
+    }
 }

@@ -1,12 +1,12 @@
 // Counts of facts by a number.
-ghost use Rattle.std.specs.Prelude.{◌≡◌, ◌+◌, ◌-◌, ◌<◌, ◌^◌, ◌==◌, ℕ, Option, IfOk, OnOk, if◌then◌else◌};
+ghost use Rattle.std.specs.Prelude.{◌≡◌, ◌+◌, ◌==◌, ℕ, Option, IfOk, OnOk, if◌then◌else◌};
 ghost use Rattle.fs_record.specs.Facts as facts;
 ghost use Rattle.view_rules.specs.Facts as rules;
 ghost use Rattle.rule_index.specs.Ids as spec;
 
+use crate::counts::Counts;
 use blk_source::NoMemory;
 use std::alloc::Global;
-use std::collections::BTreeMap;
 use view_facts::{AttributeFact, EntryFact};
 
 /// By what items are counted.
@@ -18,36 +18,37 @@ pub trait IdOf<T> {
         ensures { result ≡ id item.now };
 }
 
-// Counts one more.
-fn add(counts: &mut BTreeMap<u64, u64>, id: u64) -> Result<(), NoMemory>
-    requires { (q : ℕ) → spec.count_in counts.old q < 2 ^ 64 - 1 }
-    ensures { OnOk result ((q : ℕ) → spec.count_in counts.new q ≡ spec.count_in counts.old q + (if id == q then 1 else 0)) }
+// Adds one more number.
+#[tactic(auto, unfolding(crate::specs::Ids::count_in))]
+fn add(ids: &mut Vec<u64>, id: u64) -> Result<(), NoMemory>
+    ensures { OnOk result ((q : ℕ) → spec.count_in ids.new.items q ≡ spec.count_in ids.old.items q + (if id == q then 1 else 0)) }
 {
-    let n: u64 = counts.get(&id).copied().unwrap_or(0);
-    match counts.insert(id, n + 1) {
-        Ok(_) => Ok(()),
+    match ids.push(id) {
+        Ok(()) => Ok(()),
         Err(_) => Err(NoMemory),
     }
 }
 
-/// Counts the items of each number.
-pub fn tally<T, B: IdOf<T>>(alloc: Global, items: &[T]) -> Result<BTreeMap<u64, u64>, NoMemory>
-    ensures { IfOk result (spec.CountsIds B.id items.now) }
+// The numbers of the items, in their order.
+#[tactic(auto, unfolding(crate::specs::Ids::count_in))]
+fn listed<T, B: IdOf<T>>(alloc: Global, items: &[T]) -> Result<Vec<u64>, NoMemory>
+    ensures { IfOk result (λ ids. spec.CountsIds B.id items.now ids.items) }
 {
-    let mut counts = BTreeMap::new(alloc);
+    let mut ids = Vec::new(alloc);
     for item in items {
         if let Some(id) = B::id(item) {
-            add(&mut counts, id)?;
+            add(&mut ids, id)?;
         }
     }
-    Ok(counts)
+    Ok(ids)
 }
 
-/// How often a number is counted.
-pub fn count(counts: &BTreeMap<u64, u64>, id: u64) -> u64
-    ensures { result ≡ spec.count_in counts.now id }
+/// Counts the items of each number.
+pub fn tally<T, B: IdOf<T>>(alloc: Global, items: &[T]) -> Result<Counts, NoMemory>
+    ensures { IfOk result (spec.CountsIds B.id items.now) }
 {
-    counts.get(&id).copied().unwrap_or(0)
+    let ids = listed::<T, B>(alloc, items)?;
+    Ok(Counts::of(ids))
 }
 
 // Whether an id is reserved.
@@ -69,21 +70,6 @@ pub fn does_count(e: &EntryFact) -> bool
     ensures { result ≡ rules.does_count e.now }
 {
     !is_reserved(e.id())
-}
-
-/// Entries that count, by file.
-pub(crate) struct ByFile;
-
-impl IdOf<EntryFact> for ByFile {
-    ghost id = { spec.counted_file };
-
-    fn id(e: &EntryFact) -> Option<u64> {
-        if does_count(e) {
-            Some(e.file_id())
-        } else {
-            None
-        }
-    }
 }
 
 /// All entries, by directory.

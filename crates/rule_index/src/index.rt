@@ -2,39 +2,35 @@
 ghost use Rattle.std.specs.Prelude.{◌≡◌, IfOk, Some};
 ghost use Rattle.rule_index.specs.Kins.{HasKins};
 ghost use Rattle.rule_index.specs.Homes.{HasHomes};
-ghost use Rattle.rule_index.specs.Ids.{CountsIds, counted_file, system_file, target_file};
+ghost use Rattle.rule_index.specs.Ids.{CountsIds, system_file, target_file};
 
-use crate::homes::homes;
-use crate::ids::{ByDirectory, ByFile, BySystemFile, ByTarget, count, tally};
-use crate::kin::{Kin, kins};
+use crate::counts::Counts;
+use crate::homes::Homes;
+use crate::ids::{ByDirectory, BySystemFile, ByTarget, tally};
+use crate::kin::Kins;
 use blk_source::NoMemory;
 use std::alloc::Global;
-use std::collections::BTreeMap;
 use view_facts::Facts;
 
 /// The facts of a view, with what is looked up in them by an id.
 #[derive(Drop)]
 pub struct Index<'a> {
     pub facts: &'a Facts,
-    kins: BTreeMap<u64, Kin>,
-    files: BTreeMap<u64, u64>,
-    directories: BTreeMap<u64, u64>,
-    system: BTreeMap<u64, u64>,
-    targets: BTreeMap<u64, u64>,
-    homes: BTreeMap<u64, u64>,
+    kins: Kins,
+    homes: Homes,
+    directories: Counts,
+    system: Counts,
+    targets: Counts,
     ghost kins_right: { HasKins facts.now.inodes kins },
-    ghost files_right: { CountsIds counted_file facts.now.entries files },
+    ghost homes_right: { HasHomes facts.now.entries homes },
     ghost directories_right: { CountsIds (λ e. Some e.id) facts.now.entries directories },
     ghost system_right: { CountsIds system_file facts.now.entries system },
     ghost targets_right: { CountsIds target_file facts.now.attributes targets },
-    ghost homes_right: { HasHomes facts.now.entries homes },
 }
 
 impl<'a> Index<'a> {
     ghost use Rattle.view_rules.specs.Facts as spec;
-    ghost use Rattle.apfs_model.specs.Lists.{passes};
-    ghost use Rattle.std.specs.Prelude.{◌==◌};
-    ghost use Rattle.rule_index.specs.Homes.{home_of};
+    ghost use Rattle.rule_index.specs.Homes.{is_home};
     ghost use Rattle.view_rules.specs.Directories.{parent_at};
     ghost use Rattle.fs_record.specs.Inodes.{inode_kind};
     ghost use Rattle.std.specs.Prelude.{option_map};
@@ -46,20 +42,18 @@ impl<'a> Index<'a> {
     pub fn new(alloc: Global, facts: &'a Facts) -> Result<Index<'a>, NoMemory>
         ensures { IfOk result (λ index. index.facts.now ≡ facts.now) }
     {
-        let kins = kins(alloc, &facts.inodes)?;
-        let files = tally::<_, ByFile>(alloc, &facts.entries)?;
+        let kins = Kins::of(alloc, &facts.inodes)?;
+        let homes = Homes::of(alloc, &facts.entries)?;
         let directories = tally::<_, ByDirectory>(alloc, &facts.entries)?;
         let system = tally::<_, BySystemFile>(alloc, &facts.entries)?;
         let targets = tally::<_, ByTarget>(alloc, &facts.attributes)?;
-        let homes = homes(alloc, &facts.entries)?;
         Ok(Index {
             facts,
             kins,
-            files,
+            homes,
             directories,
             system,
             targets,
-            homes,
         })
     }
 
@@ -67,14 +61,14 @@ impl<'a> Index<'a> {
     pub fn has_inode(&self, id: u64) -> bool
         ensures { result ≡ spec.has_inode self.now.facts.now id }
     {
-        self.kins.contains_key(&id)
+        self.kins.get(id).is_some()
     }
 
     /// Whether an id has an inode that is a directory.
     pub fn has_directory(&self, id: u64) -> bool
         ensures { result ≡ spec.has_directory self.now.facts.now id }
     {
-        match self.kins.get(&id) {
+        match self.kins.get(id) {
             Some(kin) => kin.kind == 4,
             None => false,
         }
@@ -84,7 +78,7 @@ impl<'a> Index<'a> {
     pub fn kind(&self, id: u64) -> Option<u16>
         ensures { result ≡ option_map inode_kind (spec.inode_at self.now.facts.now id) }
     {
-        match self.kins.get(&id) {
+        match self.kins.get(id) {
             Some(kin) => Some(kin.kind),
             None => None,
         }
@@ -94,7 +88,7 @@ impl<'a> Index<'a> {
     pub fn parent(&self, id: u64) -> Option<u64>
         ensures { result ≡ parent_at self.now.facts.now id }
     {
-        match self.kins.get(&id) {
+        match self.kins.get(id) {
             Some(kin) => Some(kin.parent),
             None => None,
         }
@@ -104,14 +98,14 @@ impl<'a> Index<'a> {
     pub fn entry_count(&self, id: u64) -> u64
         ensures { result ≡ spec.entry_count self.now.facts.now id }
     {
-        count(&self.files, id)
+        self.homes.count(id)
     }
 
     /// How many entries a directory has.
     pub fn child_count(&self, id: u64) -> u64
         ensures { result ≡ spec.child_count self.now.facts.now id }
     {
-        count(&self.directories, id)
+        self.directories.count(id)
     }
 
     /// Whether an entry of the private directory or of a reserved id names a file.
@@ -119,7 +113,7 @@ impl<'a> Index<'a> {
     pub fn has_system_name(&self, id: u64) -> bool
         ensures { result ≡ list_any (is_system_name id) self.now.facts.now.entries }
     {
-        count(&self.system, id) > 0
+        self.system.has(id)
     }
 
     /// Whether an attribute gives the target of a file.
@@ -127,16 +121,14 @@ impl<'a> Index<'a> {
     pub fn has_target(&self, id: u64) -> bool
         ensures { result ≡ list_any (gives_target id) self.now.facts.now.attributes }
     {
-        count(&self.targets, id) > 0
+        self.targets.has(id)
     }
 
-    /// Whether the last entry of a file, among those that count, stands in a directory.
+    /// Whether an entry of a file, among those that count, stands in a directory.
+    #[tactic(auto, using(crate::proofs::HomeLooks::home_any))]
     pub fn is_home(&self, id: u64, directory: u64) -> bool
-        ensures { result ≡ passes (home_of self.now.facts.now.entries id) (λ home. home == directory) }
+        ensures { result ≡ list_any (is_home id directory) self.now.facts.now.entries }
     {
-        match self.homes.get(&id) {
-            Some(home) => *home == directory,
-            None => false,
-        }
+        self.homes.has(id, directory)
     }
 }

@@ -1,6 +1,8 @@
 //! What the rules of a view look up in its facts: by an id, or by numbers and a name.
 #![tactic(auto)]
 
+pub mod counts;
+pub mod digests;
 mod homes;
 pub mod ids;
 mod index;

@@ -15,9 +15,9 @@ use apfs_model::Bytes;
 use blk_source::NoMemory;
 use fs_name::name_hash;
 use fs_record::{IdAt, NamedAt};
-use rule_index::ids::{ByAnyFile, count, tally};
+use rule_index::counts::Counts;
+use rule_index::ids::{ByAnyFile, tally};
 use std::alloc::Global;
-use std::collections::BTreeMap;
 use view_facts::{EntryFact, Facts, InodeFact};
 use vol_view::View;
 
@@ -108,11 +108,11 @@ fn hash_notes(alloc: Global, view: &View, facts: &Facts) -> Result<Vec<Note>, No
 
 // Whether a file has no entry.
 #[tactic(auto, using(rule_index::proofs::Counting::any_counts))]
-fn lacks_entries(facts: &Facts, files: &BTreeMap<u64, u64>, id: u64) -> bool
+fn lacks_entries(facts: &Facts, files: &Counts, id: u64) -> bool
     requires { CountsIds (λ e. Some e.what.file_id) facts.now.entries files.now }
     ensures { result ≡ not (list_any (λ (e : Fact Entry). e.what.file_id == id) facts.now.entries) }
 {
-    count(files, id) == 0
+    !files.has(id)
 }
 
 // Whether an inode is of 16 or more, and no directory.
@@ -124,7 +124,7 @@ fn is_user_file(f: &InodeFact) -> bool
 
 // Whether an inode of 16 or more, no directory, has no entry.
 #[tactic(auto, unfolding(crate::specs::Notes::is_unnamed))]
-fn is_unnamed(facts: &Facts, files: &BTreeMap<u64, u64>, f: &InodeFact) -> bool
+fn is_unnamed(facts: &Facts, files: &Counts, f: &InodeFact) -> bool
     requires { CountsIds (λ e. Some e.what.file_id) facts.now.entries files.now }
     ensures { result ≡ spec.is_unnamed facts.now f.now }
 {
@@ -132,12 +132,7 @@ fn is_unnamed(facts: &Facts, files: &BTreeMap<u64, u64>, f: &InodeFact) -> bool
 }
 
 // The note of an inode, where it has no entry.
-fn unnamed_note(
-    view: &View,
-    facts: &Facts,
-    files: &BTreeMap<u64, u64>,
-    f: &InodeFact,
-) -> Option<Note>
+fn unnamed_note(view: &View, facts: &Facts, files: &Counts, f: &InodeFact) -> Option<Note>
     requires { CountsIds (λ e. Some e.what.file_id) facts.now.entries files.now }
     ensures { result ≡ (if spec.is_unnamed facts.now f.now then Some (spec.unnamed_note view.now f.now) else None) }
 {
@@ -155,7 +150,7 @@ fn unnamed_note(
 fn unnamed_by(
     view: &View,
     facts: &Facts,
-    files: &BTreeMap<u64, u64>,
+    files: &Counts,
     before: Vec<Note>,
 ) -> Result<Vec<Note>, NoMemory>
     requires { CountsIds (λ e. Some e.what.file_id) facts.now.entries files.now }

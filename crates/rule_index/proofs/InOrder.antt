@@ -1,0 +1,160 @@
+-- Searches in lists that are in order.
+use Rattle.std.proofs.Common.{◌≡◌, ℕ, zero, suc, ◌+◌, ◌<◌, ◌≤◌, Bool, true, false, cond, List, [], ◌∷◌, length, get_or, Some, None, Result, Ok, Err, refl, ap, sym, ◌∙◌, inl, inr, arith}
+use Rattle.std.specs.Prelude.{◌-◌, count_by, find, slice_get, ◌==◌, nat_lt, nat_le, is_ok, MatchResult}
+use Rattle.std.specs.List.{position_or_len, AllPairs}
+use Rattle.std.specs.List.Sorted.{IsNonDecreasing, IsNonDecreasingBy, IsPartitionPoint}
+use Rattle.std.proofs.lemmas.Bool.{cases_lt, ltb-true, ltb-false}
+use Rattle.std.proofs.lemmas.Bool.Decides.{nat_tests}
+use Rattle.std.proofs.lemmas.List.{get_or_default}
+use Rattle.std.proofs.lemmas.List.Sums.{sum_by-cons, position_or_len_is}
+use Rattle.std.proofs.lemmas.List.Folds.{find_at}
+use Rattle.std.proofs.lemmas.List.Kept.{AllPairs-from_increasing}
+use Rattle.apfs_model.proofs.BoolTests.{never-true, equal-from, from-equal}
+
+one-more : {X : Type 0} (p : X → Bool) (x : X) (xs : List X) → count_by p (x ∷ xs) ≡ cond (p x) 1 0 + count_by p xs
+one-more p x xs = sum_by-cons (λ y. cond (p y) 1 0) x xs
+
+-- those that pass stand first, so they are counted by where they end
+pub point-count : {X : Type 0} (p : X → Bool) (xs : List X) (i : ℕ) → i ≤ length xs → IsPartitionPoint (λ x. p x ≡ true) (λ x. p x ≡ false) xs i → count_by p xs ≡ i
+point-count p [] i low point = omega arith
+point-count p (x ∷ xs) zero low point =
+    let fails : p x ≡ false = point.1 0 x (omega arith) (omega arith) in
+    let rest : count_by p xs ≡ 0 = point-count p xs zero (omega arith) ((λ k d a b. absurd (omega arith)), (λ k d a b. point.1 (suc k) d (omega arith) (omega arith))) in
+    one-more p x xs ∙ (λ j. cond (fails j) 1 0 + rest j)
+point-count p (x ∷ xs) (suc i) low point =
+    let passes : p x ≡ true = point.0 0 x (omega arith) (omega arith) in
+    let rest : count_by p xs ≡ i = point-count p xs i (omega arith) ((λ k d a b. point.0 (suc k) d (omega arith) (omega arith)), (λ k d a b. point.1 (suc k) d (omega arith) (omega arith))) in
+    let both : count_by p (x ∷ xs) ≡ 1 + i = one-more p x xs ∙ (λ j. cond (passes j) 1 0 + rest j) in
+    omega arith
+
+-- none is counted where none passes
+pub none-count : {X : Type 0} (p : X → Bool) (xs : List X) → ((k : ℕ) (d : X) → k < length xs → p (get_or xs k d) ≡ false) → count_by p xs ≡ 0
+none-count p xs fails = point-count p xs 0 (omega arith) ((λ k d a b. absurd (omega arith)), (λ k d a b. fails k d b))
+
+-- one that passes is counted
+pub some-count : {X : Type 0} (p : X → Bool) (xs : List X) (k : ℕ) (d : X) → k < length xs → p (get_or xs k d) ≡ true → 0 < count_by p xs
+some-count p [] k d low passes = absurd (omega arith)
+some-count p (x ∷ xs) zero d low passes =
+    let both : count_by p (x ∷ xs) ≡ 1 + count_by p xs = one-more p x xs ∙ ap (λ b. cond b 1 0 + count_by p xs) passes in
+    omega arith
+some-count p (x ∷ xs) (suc k) d low passes =
+    let rest : 0 < count_by p xs = some-count p xs k d (omega arith) passes in
+    let both = one-more p x xs in
+    omega arith
+
+-- two neighbours that pass are counted
+pub two-count : {X : Type 0} (p : X → Bool) (xs : List X) (k : ℕ) (d : X) → suc k < length xs → p (get_or xs k d) ≡ true → p (get_or xs (suc k) d) ≡ true → 1 < count_by p xs
+two-count p [] k d low first second = absurd (omega arith)
+two-count p (x ∷ xs) zero d low first second =
+    let rest : 0 < count_by p xs = some-count p xs 0 d (omega arith) second in
+    let both : count_by p (x ∷ xs) ≡ 1 + count_by p xs = one-more p x xs ∙ ap (λ b. cond b 1 0 + count_by p xs) first in
+    omega arith
+two-count p (x ∷ xs) (suc k) d low first second =
+    let rest : 1 < count_by p xs = two-count p xs k d (omega arith) first second in
+    let both = one-more p x xs in
+    omega arith
+
+-- a number that stands next to itself is counted twice
+pub repeated-count : (xs : List ℕ) (i : ℕ) → 1 ≤ i → i < length xs → get_or xs (i - 1) 0 ≡ get_or xs i 0 → 1 < count_by (λ n. n == get_or xs i 0) xs
+repeated-count xs zero above low same = absurd (omega arith)
+repeated-count xs (suc k) above low same =
+    let before : get_or xs k 0 ≡ get_or xs (suc k) 0 = ap (λ j. get_or xs j 0) (sub-one k) ∙ same in
+    two-count (λ n. n == get_or xs (suc k) 0) xs k 0 low (from-equal (get_or xs k 0) (get_or xs (suc k) 0) before) (from-equal (get_or xs (suc k) 0) (get_or xs (suc k) 0) refl)
+  where
+    sub-one : (k : ℕ) → k ≡ suc k - 1
+    sub-one k = omega arith
+
+-- those that pass one of two tests, of which none passes both
+pub both-count : {X : Type 0} (p r s : X → Bool) → ((x : X) → cond (s x) 1 0 ≡ cond (p x) 1 0 + cond (r x) 1 0) → (xs : List X) → count_by s xs ≡ count_by p xs + count_by r xs
+both-count p r s each [] = refl
+both-count p r s each (x ∷ xs) =
+    let a = one-more p x xs in
+    let b = one-more r x xs in
+    let c = one-more s x xs in
+    let here = each x in
+    let rest = both-count p r s each xs in
+    omega arith
+
+up-to-test : (n q : ℕ) → cond (nat_le n q) 1 0 ≡ cond (nat_lt n q) 1 0 + cond (n == q) 1 0
+up-to-test n q = grind (arith, nat_tests)
+
+-- those of a number stand between those below it and those above it
+pub between-count : {X : Type 0} (n : X → ℕ) (xs : List X) (q from to : ℕ) → from ≤ length xs → to ≤ length xs
+    → IsPartitionPoint (λ x. nat_lt (n x) q ≡ true) (λ x. nat_lt (n x) q ≡ false) xs from → IsPartitionPoint (λ x. nat_le (n x) q ≡ true) (λ x. nat_le (n x) q ≡ false) xs to
+    → to ≡ from + count_by (λ x. n x == q) xs
+between-count n xs q from to low high first last =
+    let a = point-count (λ x. nat_lt (n x) q) xs from low first in
+    let b = point-count (λ x. nat_le (n x) q) xs to high last in
+    let c = both-count (λ x. nat_lt (n x) q) (λ x. n x == q) (λ x. nat_le (n x) q) (λ x. up-to-test (n x) q) xs in
+    omega arith
+
+-- what a search among numbers in order answers
+pub among-count : (xs : List ℕ) (q : ℕ) (r : Result ℕ ℕ) → MatchResult r (λ i. (i < length xs) × (get_or xs i 0 ≡ q)) (λ i. (i ≤ length xs) × ((k : ℕ) → k < i → get_or xs k 0 < q) × ((k : ℕ) → i ≤ k → k < length xs → q < get_or xs k 0)) → is_ok r ≡ nat_lt 0 (count_by (λ n. n == q) xs)
+among-count xs q (Ok i) found =
+    let some : 0 < count_by (λ n. n == q) xs = some-count (λ n. n == q) xs i 0 found.0 (from-equal (get_or xs i 0) q found.1) in
+    grind (arith, nat_tests)
+among-count xs q (Err i) found =
+    let none : count_by (λ n. n == q) xs ≡ 0 = none-count (λ n. n == q) xs (λ k d low.
+    let same = get_or_default xs k d 0 low in
+    never-true (get_or xs k d == q) (λ e.
+    let is = equal-from (get_or xs k d) q e in
+    elim (cases_lt k i) as (λ _. ⊥) [
+      | inl before ↦ let less = found.1 k before in omega arith
+      | inr after ↦ let more = found.2 k after low in omega arith
+    ])) in
+    sym (ap (nat_lt 0) none)
+
+-- where neighbours differ no number is counted twice
+few-above : (q : ℕ) (xs : List ℕ) → AllPairs (λ x y. x < y) xs → count_by (λ n. n == q) xs ≤ 1
+few-above q [] up = omega arith
+few-above q (x ∷ xs) up =
+    let both = one-more (λ n. n == q) x xs in
+    let go : (b : Bool) → (x == q) ≡ b → cond b 1 0 + count_by (λ n. n == q) xs ≤ 1 =
+    λ b. elim b as (λ b. (x == q) ≡ b → cond b 1 0 + count_by (λ n. n == q) xs ≤ 1) [
+      | true ↦ λ e.
+          let is = equal-from x q e in
+          let none : count_by (λ n. n == q) xs ≡ 0 = none-count (λ n. n == q) xs (λ k d low.
+          let above : x < get_or xs k d = up 0 (suc k) d (omega arith) (omega arith) in
+          never-true (get_or xs k d == q) (λ f. let other = equal-from (get_or xs k d) q f in omega arith)) in
+          omega arith
+      | false ↦ λ e. let rest = few-above q xs (λ i j d a b. up (suc i) (suc j) d (omega arith) (omega arith)) in omega arith
+    ] in
+    let here = go (x == q) refl in
+    omega arith
+
+pub distinct-count : (xs : List ℕ) → IsNonDecreasing xs → ((k : ℕ) → k + 1 < length xs → get_or xs k 0 ≡ get_or xs (k + 1) 0 → ⊥) → (q : ℕ) → count_by (λ n. n == q) xs ≤ 1
+distinct-count xs up apart q = few-above q xs (AllPairs-from_increasing xs (λ k low. let le = up k (k + 1) 0 (omega arith) low in let ne = apart k low in omega arith))
+
+get-past : {X : Type 0} (xs : List X) → slice_get xs (length xs) ≡ None
+get-past [] = refl
+get-past (x ∷ xs) = get-past xs
+
+get-at : {X : Type 0} (xs : List X) (i : ℕ) (d : X) → i < length xs → slice_get xs i ≡ Some (get_or xs i d)
+get-at [] i d low = absurd (omega arith)
+get-at (x ∷ xs) zero d low = refl
+get-at (x ∷ xs) (suc i) d low = get-at xs i d (omega arith)
+
+-- the first of a number stands after those below it, where it is there
+pub first-is : {X : Type 0} (n : X → ℕ) (xs : List X) (q i : ℕ) (d : X) → i < length xs → IsPartitionPoint (λ x. nat_lt (n x) q ≡ true) (λ x. nat_lt (n x) q ≡ false) xs i → n (get_or xs i d) ≡ q → find (λ x. n x == q) xs ≡ Some (get_or xs i d)
+first-is {X} n xs q i d low point same =
+    let p : X → Bool = λ x. n x == q in
+    let here : position_or_len p xs ≡ i = position_or_len_is p xs i d (omega arith)
+    (λ k less. never-true (p (get_or xs k d)) (λ h. let e = equal-from (n (get_or xs k d)) q h in let b = ltb-true (n (get_or xs k d)) q (point.0 k d (omega arith) less) in omega arith))
+    (λ _. from-equal (n (get_or xs i d)) q same) in
+    find_at p xs ∙ (ap (slice_get xs) here ∙ get-at xs i d low)
+
+-- it isn't there
+pub first-none : {X : Type 0} (n : X → ℕ) (xs : List X) (q i : ℕ) (d : X) → i ≤ length xs → IsNonDecreasingBy n xs → IsPartitionPoint (λ x. nat_lt (n x) q ≡ true) (λ x. nat_lt (n x) q ≡ false) xs i → (i < length xs → n (get_or xs i d) ≡ q → ⊥) → find (λ x. n x == q) xs ≡ None
+first-none {X} n xs q i d low up point other =
+    let p : X → Bool = λ x. n x == q in
+    let differs : (k : ℕ) → k < length xs → n (get_or xs k d) ≡ q → ⊥ = λ k less e. elim (cases_lt k i) as (λ _. ⊥) [
+      | inl before ↦ let b = ltb-true (n (get_or xs k d)) q (point.0 k d (omega arith) before) in omega arith
+      | inr after ↦
+          let a = up i k d after less in
+          let b = ltb-false (n (get_or xs i d)) q (point.1 i d (omega arith) (omega arith)) in
+          other (omega arith) (omega arith)
+    ] in
+    let none : position_or_len p xs ≡ length xs = position_or_len_is p xs (length xs) d (omega arith)
+    (λ k less. never-true (p (get_or xs k d)) (λ h. differs k less (equal-from (n (get_or xs k d)) q h)))
+    (λ less. absurd (omega arith)) in
+    find_at p xs ∙ (ap (slice_get xs) none ∙ get-past xs)

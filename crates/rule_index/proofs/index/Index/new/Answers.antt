@@ -1,0 +1,25 @@
+use Rattle.std.proofs.Common.{◌∙◌, ap, subst, List, Some}
+use Rattle.fs_record.specs.Entries.{Entry}
+use Rattle.fs_record.specs.Attributes.{Attribute}
+use Rattle.fs_record.specs.Inodes.{Inode}
+use Rattle.fs_record.specs.Facts.{Fact}
+use Rattle.view_rules.specs.Facts.{Facts}
+use Rattle.rule_index.specs.Kins.{HasKins}
+use Rattle.rule_index.specs.Homes.{HasHomes}
+use Rattle.rule_index.specs.Ids.{CountsIds, system_file, target_file}
+use Rattle.rule_index.proofs.index.Index.new.Goals as goal
+
+pub invariant_of-result-clause-kins_right : goal.invariant_of-result-clause-kins_right
+invariant_of-result-clause-kins_right c = subst (λ (inodes : List (Fact Inode)). HasKins inodes c.in_ok-kins.kins) (c.deref.ensures.value ∙ ap (λ (f : Facts). f.inodes) c.facts.view_is) c.in_ok-kins.ensures
+
+pub invariant_of-result-clause-homes_right : goal.invariant_of-result-clause-homes_right
+invariant_of-result-clause-homes_right c = subst (λ (entries : List (Fact Entry)). HasHomes entries c.in_ok-homes.homes) (c.deref-2.ensures.value ∙ ap (λ (f : Facts). f.entries) c.facts.view_is) c.in_ok-homes.ensures
+
+pub invariant_of-result-clause-directories_right : goal.invariant_of-result-clause-directories_right
+invariant_of-result-clause-directories_right c = subst (λ (entries : List (Fact Entry)). CountsIds (λ (e : Fact Entry). Some e.id) entries c.in_ok-directories.directories) (c.deref-3.ensures.value ∙ ap (λ (f : Facts). f.entries) c.facts.view_is) c.in_ok-directories.ensures
+
+pub invariant_of-result-clause-system_right : goal.invariant_of-result-clause-system_right
+invariant_of-result-clause-system_right c = subst (λ (entries : List (Fact Entry)). CountsIds system_file entries c.in_ok-system.system) (c.deref-4.ensures.value ∙ ap (λ (f : Facts). f.entries) c.facts.view_is) c.in_ok-system.ensures
+
+pub invariant_of-result-clause-targets_right : goal.invariant_of-result-clause-targets_right
+invariant_of-result-clause-targets_right c = subst (λ (attributes : List (Fact Attribute)). CountsIds target_file attributes c.in_ok-targets.targets) (c.deref-5.ensures.value ∙ ap (λ (f : Facts). f.attributes) c.facts.view_is) c.in_ok-targets.ensures
