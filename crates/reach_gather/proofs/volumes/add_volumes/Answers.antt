@@ -10,6 +10,7 @@ use Rattle.reach_gather.specs.Adds.{Adds}
 use Rattle.reach_gather.specs.Views.{volume_views, slots_namings, loaded_views}
 use Rattle.reach_gather.proofs.Growing.{adds-none}
 use Rattle.reach_gather.proofs.Slots.{volumes-next, volume-in, slot-in}
+use Rattle.reach_gather.proofs.Growing.{adds-none}
 use Rattle.reach_gather.proofs.volumes.add_volumes.Goals as goal
 
 pub returns-in-Err-clause-present : goal.returns-in-Err-clause-present
@@ -44,3 +45,10 @@ loop-volume-preserved g c = record {
 pub returns-clause-clear : goal.returns-clause-clear
 returns-clause-clear g c = λ image namer told all parts.
     subst (λ (xs : List Loaded). Adds image c.args.cp.now (slots_namings xs) (loaded_views c.args.cp.now namer xs) c.args.out.now c.loop-volume.out) (take_all c.loop-volume.volume-index c.args.volumes.now c.loop-volume-test.false) (c.loop-volume.invariant.adds image namer told all parts)
+
+pub loop-volume-init : goal.loop-volume-init
+loop-volume-init g c = record {
+  kept = record { same_bytes = refl; same_size = refl; later = omega arith };
+  adds = λ image namer told all parts. adds-none image c.args.cp.now c.args.out.now;
+  reads = λ image told. omega arith;
+}
