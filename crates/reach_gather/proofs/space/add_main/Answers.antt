@@ -8,8 +8,15 @@ use Rattle.tree_namings.specs.Space.{manager_namer}
 use Rattle.reach_gather.specs.Adds.{Adds, AreLive}
 use Rattle.reach_gather.specs.Named.{naming_of}
 use Rattle.reach_gather.specs.declared.naming.Named.{Named}
-use Rattle.reach_gather.proofs.Fields.{adds-some, live-some, adds-zero}
+use Rattle.reach_gather.proofs.Fields.{adds-zero, adds-some, live-some}
 use Rattle.reach_gather.proofs.space.add_main.Goals as goal
+
+pub returns-then-oid-eq0-clause-clear : goal.returns-then-oid-eq0-clause-clear
+returns-then-oid-eq0-clause-clear g c = λ image told.
+    let seen : Seen = c.args.cp.now in
+    let me : Namer = manager_namer seen.nx in
+    subst (λ (oid : ℕ). Adds image seen (unless_zero me 248 (TreeRoot (FreeQueue Main)) ByMapping oid) [] c.args.out.now c.args.out.now) c.main_root-oid.ensures
+    (adds-zero image seen me 248 (TreeRoot (FreeQueue Main)) ByMapping c.main_root-oid.result c.args.out.now c.if-oid-eq0.true)
 
 pub returns-in-Ok-clause-clear : goal.returns-in-Ok-clause-clear
 returns-in-Ok-clause-clear g c = λ image told.
@@ -27,10 +34,3 @@ returns-in-Err-clause-present g c = λ image told live.
     (subst (λ (n : Named). IsLive image seen (naming_of n)) (sym c.root-root.ensures)
     (live-some image seen me 248 (TreeRoot (FreeQueue Main)) ByMapping c.main_root-oid.result c.if-oid-eq0.false
     (subst (λ (oid : ℕ). AreLive image seen (unless_zero me 248 (TreeRoot (FreeQueue Main)) ByMapping oid)) (sym c.main_root-oid.ensures) live)))
-
-pub returns-then-oid-eq0-clause-clear : goal.returns-then-oid-eq0-clause-clear
-returns-then-oid-eq0-clause-clear g c = λ image told.
-    let seen : Seen = c.args.cp.now in
-    let me : Namer = manager_namer seen.nx in
-    subst (λ (oid : ℕ). Adds image seen (unless_zero me 248 (TreeRoot (FreeQueue Main)) ByMapping oid) [] c.args.out.now c.args.out.now) c.main_root-oid.ensures
-    (adds-zero image seen me 248 (TreeRoot (FreeQueue Main)) ByMapping c.main_root-oid.result c.args.out.now c.if-oid-eq0.true)

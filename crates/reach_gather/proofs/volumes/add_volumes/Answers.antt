@@ -8,7 +8,6 @@ use Rattle.vol_parts.specs.Told.{head_naming}
 use Rattle.space_pool.proofs.Indexes.{kept-then}
 use Rattle.reach_gather.specs.Adds.{Adds}
 use Rattle.reach_gather.specs.Views.{volume_views, slots_namings, loaded_views}
-use Rattle.reach_gather.proofs.Growing.{adds-none}
 use Rattle.reach_gather.proofs.Slots.{volumes-next, volume-in, slot-in}
 use Rattle.reach_gather.proofs.Growing.{adds-none}
 use Rattle.reach_gather.proofs.volumes.add_volumes.Goals as goal
@@ -18,13 +17,6 @@ returns-in-Err-clause-present g c = λ image namer told all parts live.
     let x : Loaded = c.volume-item.result in
     let one : In x c.args.volumes.now = volume-in c.args.volumes.now c.loop-volume.volume-index x c.loop-volume-test.true (sym c.volume-item.is) in
     c.in-Err.ensures.present image (c.loop-volume.invariant.kept.same_bytes ∙ told) all (parts x one).0 (live (head_naming x.head) (slot-in c.args.volumes.now x one))
-
-pub loop-volume-init : goal.loop-volume-init
-loop-volume-init g c = record {
-  kept = record { same_bytes = refl; same_size = refl; later = omega arith };
-  adds = λ image namer told all parts. adds-none image c.args.cp.now c.args.out.now;
-  reads = λ image told. omega arith;
-}
 
 pub loop-volume-preserved : goal.loop-volume-preserved
 loop-volume-preserved g c = record {
