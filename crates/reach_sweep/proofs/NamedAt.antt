@@ -1,13 +1,12 @@
 -- Which live namings expect the volume of a slot or a block that tells of chunks: one of each. And in which maps ids are looked up.
-use Rattle.std.proofs.Common.{◌≡◌, ℕ, zero, suc, ◌+◌, ◌*◌, ◌/◌, ◌%◌, ◌<◌, Bool, true, false, ◌&&◌, ◌==◌, List, [], ◌∷◌, ◌++◌, map, Option, Some, None, inl, inr, refl, ap, sym, ◌∙◌, subst, if◌then◌else◌}
+use Rattle.std.proofs.Common.{◌≡◌, ℕ, zero, suc, ◌+◌, ◌*◌, ◌/◌, Bool, true, false, ◌==◌, List, [], ◌∷◌, ◌++◌, map, Option, Some, inl, refl, ap, sym, ◌∙◌, subst, if◌then◌else◌}
 use Rattle.std.specs.List.{flat_map, range_with_len}
 use Rattle.apfs_model.specs.Blocks.{block_of}
 use Rattle.apfs_model.specs.Lists.{In, through}
 use Rattle.apfs_model.proofs.BoolTests.{left-true, equal-from}
 use Rattle.apfs_model.proofs.Searches.{from-map, filter-test}
-use Rattle.bt_node.specs.Entries.{Pair}
 use Rattle.bt_node.specs.Node.{level_of}
-use Rattle.nx_block.specs.Super.{space_oid_of, omap_oid_of, reaper_oid_of, jumpstart_of, fs_oid_of, slots}
+use Rattle.nx_block.specs.Super.{space_oid_of, reaper_oid_of, jumpstart_of, fs_oid_of, slots}
 use Rattle.nx_block.specs.Reaper.{reaper_head_of, reap_next_of}
 use Rattle.nx_ring.specs.Checkpoint.{Seen, site_of}
 use Rattle.omap_map.specs.Fields as maps
@@ -17,11 +16,11 @@ use Rattle.space_map.specs.Geometry.{has_cib_place}
 use Rattle.space_map.specs.Blocks.{address_at}
 use Rattle.space_map.specs.Stops.{HasManager}
 use Rattle.space_pool.specs.declared.entry.Queue.TheVariants.{Pool, Main}
-use Rattle.reach_rules.specs.Naming.{ViewAt, LookUp, ByBlock, ByMapping, InContainer, InView, Newest, InBlock, OfId, Namer, Whole, Kept, TreeKind, MapSnapshots, ExtentRefs, SnapMetadata, FreeQueue, Expected, SpaceManager, ContainerMap, ReaperObject, ReapList, Jumpstart, VolumeIn, VolumeMap, ExtendedMetadata, SnapshotSuper, AddressBlock, InfoBlock, TreeRoot, TreeNode, Naming, naming}
+use Rattle.reach_rules.specs.Naming.{ViewAt, LookUp, ByBlock, ByMapping, InContainer, InView, Newest, InBlock, OfId, Namer, Whole, TreeKind, MapSnapshots, FreeQueue, Expected, SpaceManager, ContainerMap, ReaperObject, ReapList, Jumpstart, VolumeIn, VolumeMap, ExtendedMetadata, SnapshotSuper, AddressBlock, InfoBlock, TreeRoot, TreeNode, Naming, naming}
 use Rattle.reach_rules.specs.Resolved.{Found, resolved, standing}
-use Rattle.reach_rules.specs.Next.{roots, names, next, unless_zero, slot_namings, map_namings, live_view, past_view, view_namings, snapshots_namings, records_of_snapshots, address_naming, addresses_in, address_namings, manager_namings, is_cib_of, cib_naming, cibs_in, cab_namings, children_in, child_namings, node_namings, volume_namings}
+use Rattle.reach_rules.specs.Next.{roots, names, unless_zero, slot_namings, map_namings, live_view, view_namings, records_of_snapshots, address_naming, addresses_in, address_namings, manager_namings, is_cib_of, cib_naming, cibs_in, cab_namings, children_in, child_namings, node_namings, volume_namings}
 use Rattle.reach_rules.specs.Live.{rooted, led, IsLive, IsSoundFor}
-use Rattle.reach_rules.proofs.Nexts.{Each, each-in, each-append, each-if, each-map, each-flat, each-unless, Leads, from-next, in-next}
+use Rattle.reach_rules.proofs.Nexts.{Each, each-in, each-append, each-flat, each-unless, Leads, from-next, in-next}
 use Rattle.reach_rules.proofs.SpaceLifted.{there, manager-sound}
 use Rattle.tree_namings.specs.Container.{manager_naming}
 use Rattle.reach_sweep.proofs.NextApart.{each-snapshots, each-volume}

@@ -1,6 +1,5 @@
 -- The namings that were gathered, and the records that views use, are no more than the named objects.
-use Rattle.std.proofs.Common.{◌≡◌, ℕ, suc, ◌+◌, ◌≤◌, true, false, List, [], ◌∷◌, ◌++◌, map, length, Option, Some, None, inl, inr, refl, ap, sym, ◌∙◌, subst, arith}
-use Rattle.std.specs.Prelude.{◌-◌, ◌^◌, min}
+use Rattle.std.proofs.Common.{◌≡◌, ℕ, suc, ◌+◌, ◌≤◌, List, [], ◌∷◌, ◌++◌, map, length, Option, Some, inl, inr, refl, ap, sym, ◌∙◌, subst, arith}
 use Rattle.std.specs.List.{flat_map}
 use Rattle.std.proofs.lemmas.List.{length-append, length-map}
 use Rattle.apfs_model.specs.Apart.{Apart}
@@ -9,12 +8,12 @@ use Rattle.apfs_model.specs.Lists.{In, through}
 use Rattle.apfs_model.proofs.BoolTests.{clash}
 use Rattle.apfs_model.proofs.Finite.{apart-length}
 use Rattle.apfs_model.proofs.Searches.{in-left, in-right, in-append, from-map, in-flat_map, from-flat_map}
-use Rattle.nx_ring.specs.Checkpoint.{Seen, site_of}
+use Rattle.nx_ring.specs.Checkpoint.{Seen}
 use Rattle.omap_map.specs.declared.records.OmapRecord.{OmapRecord}
-use Rattle.reach_rules.specs.Naming.{InView, Object, Newest, OfRecord, Namer, Whole as By, Kept, VolumeIn, Naming}
+use Rattle.reach_rules.specs.Naming.{Object, Newest, OfRecord, Whole as By, Kept, VolumeIn, Naming}
 use Rattle.reach_rules.specs.Resolved.{Found, resolved}
 use Rattle.reach_rules.specs.Next.{roots, names, next}
-use Rattle.reach_rules.specs.Live.{Live, led, IsLive}
+use Rattle.reach_rules.specs.Live.{led, IsLive}
 use Rattle.reach_rules.specs.Reached.{Whole}
 use Rattle.reach_rules.specs.Tally.{IsNumberOf}
 use Rattle.reach_rules.proofs.Equal.{naming_eq}
@@ -40,7 +39,7 @@ use Rattle.reach_sweep.proofs.Counting.{is_it, times}
 use Rattle.reach_sweep.proofs.LedOnce.{AreLedOnce, led-apart}
 use Rattle.reach_sweep.proofs.Lives.{same-record}
 use Rattle.reach_sweep.proofs.NamedAt.{one-volume}
-use Rattle.reach_sweep.proofs.NextApart.{apart-map, next-apart, roots-apart, IsKeptBy, IsNamedBy, names-by, roots-by}
+use Rattle.reach_sweep.proofs.NextApart.{apart-map, next-apart, roots-apart, IsNamedBy, names-by, roots-by}
 use Rattle.reach_sweep.proofs.OneObject.{IsApart, isnt-newest, IsOutside, one-object, views-apart}
 use Rattle.reach_sweep.proofs.Swept.{apart-append}
 

@@ -1,5 +1,5 @@
 -- No two live namings resolve to one object, apart from those of views, where no block lies in two ranges of the owners.
-use Rattle.std.proofs.Common.{◌≡◌, ℕ, ◌+◌, ◌<◌, ◌≤◌, Bool, true, false, ◌&&◌, ◌==◌, nat_lt, List, [], ◌∷◌, ◌++◌, Option, Some, None, Ok, Err, is_ok, ◌⊎◌, inl, inr, refl, ap, sym, ◌∙◌, subst, arith, if◌then◌else◌}
+use Rattle.std.proofs.Common.{◌≡◌, ℕ, ◌+◌, Bool, true, false, ◌==◌, nat_lt, List, [], ◌∷◌, ◌++◌, Option, Some, None, Ok, Err, is_ok, ◌⊎◌, inl, inr, refl, ap, sym, ◌∙◌, subst, arith, if◌then◌else◌}
 use Rattle.std.specs.Prelude.{nat_le, option_map, option_and_then, is_some}
 use Rattle.apfs_model.specs.Blocks.{block_of, is_in, in_container}
 use Rattle.apfs_model.specs.Lists.{In, through}
@@ -9,7 +9,7 @@ use Rattle.apfs_model.proofs.Searches.{in-left, in-right}
 use Rattle.obj_base.specs.Sound.{expecting}
 use Rattle.obj_base.specs.declared.site.Site.{Site}
 use Rattle.obj_base.proofs.SoundLemmas.{sound_means}
-use Rattle.nx_block.specs.Super.{space_oid_of, omap_oid_of}
+use Rattle.nx_block.specs.Super.{omap_oid_of}
 use Rattle.nx_ring.specs.Checkpoint.{Seen, site_of}
 use Rattle.omap_map.specs.Maps.{map_records, is_whole_map, resolved_in}
 use Rattle.omap_map.specs.Resolve.{resolved as resolves}

@@ -1,9 +1,9 @@
 -- Whether two of some volumes have one slot.
-use Rattle.std.proofs.Common.{◌≡◌, ℕ, ◌+◌, ◌<◌, ◌≤◌, Bool, true, false, not, ◌==◌, List, [], ◌∷◌, length, get_or, drop, refl, ap, sym, ◌∙◌, subst}
+use Rattle.std.proofs.Common.{◌≡◌, ℕ, ◌+◌, ◌<◌, ◌≤◌, true, false, not, ◌==◌, List, [], ◌∷◌, length, get_or, drop, refl, ap, sym, ◌∙◌}
 use Rattle.std.specs.Prelude.{◌&&◌, ◌||◌}
 use Rattle.std.proofs.lemmas.List.{at_drop_more, at_drop_all}
 use Rattle.apfs_model.specs.Apart.{Apart}
-use Rattle.apfs_model.specs.Lists.{In, has, is_distinct}
+use Rattle.apfs_model.specs.Lists.{has, is_distinct}
 use Rattle.apfs_model.proofs.BoolTests.{clash, left-true, right-true, both-true, not-true, false-not, never-true, denied}
 use Rattle.apfs_model.proofs.Searches.{in-has, has-in}
 use Rattle.vol_view.specs.Volumes.{Loaded}

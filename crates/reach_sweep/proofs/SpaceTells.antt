@@ -1,5 +1,5 @@
 -- What is told of the space and of the pool's bits is there, said of what is reached.
-use Rattle.std.proofs.Common.{refl, ◌≡◌, ℕ, List, ◌∙◌, ap, sym, subst}
+use Rattle.std.proofs.Common.{refl, ◌≡◌, ℕ, List}
 use Rattle.obj_base.specs.Stops.{Tells, NoFeature, raised}
 use Rattle.obj_base.specs.declared.stop.Stop.{Stop}
 use Rattle.obj_base.specs.declared.stop.Stop.TheVariants.{Found, Unsupported, ReadFault, NoMemory}

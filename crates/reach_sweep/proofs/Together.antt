@@ -1,25 +1,21 @@
 -- What the calls say, put together: all is reached; and which records are used.
-use Rattle.std.proofs.Common.{◌≡◌, ℕ, List, [], ◌∷◌, ◌++◌, map, inl, inr, refl, ap, sym, ◌∙◌, subst}
+use Rattle.std.proofs.Common.{◌≡◌, ℕ, List, [], ◌++◌, inl, inr, sym, subst}
 use Rattle.std.proofs.lemmas.List.{map-append}
 use Rattle.apfs_model.specs.Lists.{In}
 use Rattle.apfs_model.proofs.Searches.{in-append, in-left, in-right, in-map}
-use Rattle.nx_block.specs.Super.{omap_oid_of}
-use Rattle.nx_ring.specs.Checkpoint.{Seen, site_of}
+use Rattle.nx_ring.specs.Checkpoint.{Seen}
 use Rattle.nx_ring.specs.Features.{container_features}
-use Rattle.omap_map.specs.Maps.{map_records}
 use Rattle.omap_map.specs.declared.records.OmapRecord.{OmapRecord}
 use Rattle.vol_view.specs.Volumes.{Loaded}
 use Rattle.vol_view.specs.Stops.{AreHeads}
 use Rattle.vol_view.specs.declared.head.VolHead.{VolHead}
 use Rattle.space_map.specs.Stops.{Known, IsSpaceOf}
 use Rattle.space_pool.specs.Stops.{ArePoolBits}
-use Rattle.reach_rules.specs.Naming.{ByMapping, InContainer, Namer, Naming}
+use Rattle.reach_rules.specs.Naming.{ByMapping, InContainer, Naming}
 use Rattle.reach_rules.specs.Next.{roots}
 use Rattle.reach_rules.specs.Live.{IsLive}
 use Rattle.reach_rules.specs.Accounted.{IsShaped}
 use Rattle.reach_rules.specs.Reached.{Whole, AreInPool, IsReached}
-use Rattle.tree_namings.specs.Joined.{HaveSame}
-use Rattle.tree_namings.specs.Container.{all_views}
 use Rattle.tree_namings.specs.Views.{AreOnceAs, AreJoined}
 use Rattle.vol_parts.specs.Laws.{HasParts}
 use Rattle.vol_parts.proofs.Law.{the-law}
@@ -34,7 +30,7 @@ use Rattle.reach_gather.specs.Pooled.{ArePooled}
 use Rattle.reach_sweep.specs.Account.{AreLoadedOf}
 use Rattle.reach_sweep.specs.Composed.{record_used, records_used, IsStart, AreListed, AreHeadRecords, AreCalled}
 use Rattle.reach_sweep.specs.Finished.{IsFinished}
-use Rattle.reach_sweep.specs.Views.{head_of, AreVolumes, namer_by, volumes_views, swept_heads, supers_of}
+use Rattle.reach_sweep.specs.Views.{AreVolumes, namer_by, volumes_views, swept_heads, supers_of}
 use Rattle.reach_sweep.proofs.Composed.{parts-compose}
 
 -- the volumes of a checkpoint's heads, loaded: what is told of them, and their parts

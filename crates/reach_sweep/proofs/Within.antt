@@ -37,7 +37,7 @@ gathered-few image seen heads volumes start parts used found maps space bits who
     } in
     let counted : IsNumberOf (IsObjectOf parts.namings (records_used used ++ records_used found)) whole.objects = subst (λ (ns : List Naming). IsNumberOf (IsObjectOf ns (records_used used ++ records_used found)) whole.objects) f.told.namings f.objects in
     let bound = named-bound image seen whole rest (swept_namings image seen volumes) used (records_used used ++ records_used found) start parts whole.objects added a.gathered.start_is a.reached
-        (law.views.swept heads volumes namer a.given.parts a.given.volumes_are) (records-of image seen heads volumes start parts used found a) counted in
+    (law.views.swept heads volumes namer a.given.parts a.given.volumes_are) (records-of image seen heads volumes start parts used found a) counted in
     let none : length start.namings ≡ 0 = ap length a.gathered.start_is.namings in
     let fits : length parts.namings ≤ length start.namings + length a.gathered.added.these = a.gathered.added.grew.fits in
     omega arith

@@ -1,4 +1,4 @@
-use Rattle.std.proofs.Common.{◌≡◌, List, ◌∙◌, ◌++◌, map, ap, subst}
+use Rattle.std.proofs.Common.{List, ◌∙◌, ◌++◌, map, ap}
 use Rattle.view_sweep.specs.declared.idle.MapRecords.{MapRecords}
 use Rattle.reach_sweep.specs.Used.{maps_of, told_by_map}
 use Rattle.reach_sweep.proofs.Maps.{used-told, tells-told}

@@ -1,4 +1,4 @@
-use Rattle.std.proofs.Common.{◌≡◌, ◌∙◌, List, map, ap, sym}
+use Rattle.std.proofs.Common.{◌∙◌, List, map, ap, sym}
 use Rattle.std.proofs.lemmas.List.{take_all}
 use Rattle.vol_view.specs.Volumes.{Loaded}
 use Rattle.view_sweep.specs.declared.idle.MapRecords.{MapRecords}

@@ -1,24 +1,18 @@
-use Rattle.std.proofs.Common.{◌≡◌, ◌∙◌, ◌++◌, ◌+◌, ◌<◌, ℕ, List, Some, length, ap, refl, sym, subst}
+use Rattle.std.proofs.Common.{◌≡◌, ◌∙◌, ◌++◌, ◌+◌, ◌<◌, List, length, refl, sym, subst}
 use Rattle.std.specs.Prelude.{◌^◌}
-use Rattle.obj_base.specs.Stops.{Tells}
 use Rattle.nx_block.specs.Super.{omap_oid_of}
 use Rattle.nx_ring.specs.Checkpoint.{Seen, site_of}
 use Rattle.omap_map.specs.Maps.{map_records}
 use Rattle.vol_view.specs.Volumes.{Loaded}
-use Rattle.vol_view.specs.declared.head.VolHead.{VolHead}
-use Rattle.space_map.specs.Stops.{IsSpaceOf}
 use Rattle.view_sweep.specs.declared.used.Used.{Used}
 use Rattle.view_sweep.specs.Unused.{AreAllUsed, AreUsedOnes}
-use Rattle.reach_gather.specs.Held.{Held}
-use Rattle.reach_rules.specs.Features.{HasFeature}
-use Rattle.reach_rules.specs.Reached.{IsReachedFault}
-use Rattle.reach_sweep.specs.Composed.{AreListed, AreHeadRecords, records_used}
+use Rattle.reach_sweep.specs.Composed.{records_used}
 use Rattle.reach_sweep.specs.Finished.{IsFinished}
 use Rattle.reach_sweep.specs.Used.{maps_of}
 use Rattle.reach_sweep.specs.Views.{namer_by}
 use Rattle.reach_sweep.proofs.Swept.{slots-are-apart}
 use Rattle.reach_sweep.proofs.Listed.{listed-by, of-maps}
-use Rattle.reach_sweep.proofs.Together.{AreGiven, given-of, AreParts, parts-live, swept-live, AreSwept, used-ones, AreKnown, all-reached}
+use Rattle.reach_sweep.proofs.Together.{given-of, AreParts, parts-live, swept-live, AreSwept, used-ones, AreKnown, all-reached}
 use Rattle.reach_sweep.proofs.Within.{reads-within}
 use Rattle.reach_sweep.proofs.reaching.reached.Goals as goal
 

@@ -1,5 +1,4 @@
 use Rattle.std.proofs.Common.{◌≡◌, ◌∙◌, List, length, sym, subst}
-use Rattle.obj_base.specs.Stops.{Tells}
 use Rattle.obj_base.specs.declared.site.Site.{Site}
 use Rattle.nx_ring.specs.Checkpoint.{Seen, site_of}
 use Rattle.vol_view.specs.Volumes.{Loaded}
