@@ -1,15 +1,16 @@
 -- Searches in lists that are in order.
 use Rattle.std.proofs.Common.{◌≡◌, ℕ, zero, suc, ◌+◌, ◌<◌, ◌≤◌, Bool, true, false, cond, List, [], ◌∷◌, length, get_or, Some, None, Result, Ok, Err, refl, ap, sym, ◌∙◌, inl, inr, arith}
-use Rattle.std.specs.Prelude.{◌-◌, count_by, find, slice_get, ◌==◌, nat_lt, nat_le, is_ok, MatchResult}
-use Rattle.std.specs.List.{position_or_len, AllPairs}
-use Rattle.std.specs.List.Sorted.{IsNonDecreasing, IsNonDecreasingBy, IsPartitionPoint}
+use Rattle.std.specs.Prelude.{◌-◌, count_by, find, slice_get, ◌==◌, nat_lt, nat_le, is_ok, MatchResult, filter, not, ◌&&◌}
+use Rattle.std.specs.List.{position_or_len, AllPairs, position}
+use Rattle.std.specs.List.Sorted.{IsNonDecreasing, IsNonDecreasingBy, IsPartitionPoint, IsStableByKey, ties}
+use Rattle.std.specs.Ordering.{nat_cmp, is_lt}
 use Rattle.std.proofs.lemmas.Bool.{cases_lt, ltb-true, ltb-false}
 use Rattle.std.proofs.lemmas.Bool.Decides.{nat_tests}
 use Rattle.std.proofs.lemmas.List.{get_or_default}
 use Rattle.std.proofs.lemmas.List.Sums.{sum_by-cons, position_or_len_is}
 use Rattle.std.proofs.lemmas.List.Folds.{find_at}
 use Rattle.std.proofs.lemmas.List.Kept.{AllPairs-from_increasing}
-use Rattle.apfs_model.proofs.BoolTests.{never-true, equal-from, from-equal}
+use Rattle.apfs_model.proofs.BoolTests.{never-true, equal-from, from-equal, below-from, from-below}
 
 one-more : {X : Type 0} (p : X → Bool) (x : X) (xs : List X) → count_by p (x ∷ xs) ≡ cond (p x) 1 0 + count_by p xs
 one-more p x xs = sum_by-cons (λ y. cond (p y) 1 0) x xs
@@ -125,27 +126,26 @@ few-above q (x ∷ xs) up =
 pub distinct-count : (xs : List ℕ) → IsNonDecreasing xs → ((k : ℕ) → k + 1 < length xs → get_or xs k 0 ≡ get_or xs (k + 1) 0 → ⊥) → (q : ℕ) → count_by (λ n. n == q) xs ≤ 1
 distinct-count xs up apart q = few-above q xs (AllPairs-from_increasing xs (λ k low. let le = up k (k + 1) 0 (omega arith) low in let ne = apart k low in omega arith))
 
-get-past : {X : Type 0} (xs : List X) → slice_get xs (length xs) ≡ None
+pub get-past : {X : Type 0} (xs : List X) → slice_get xs (length xs) ≡ None
 get-past [] = refl
 get-past (x ∷ xs) = get-past xs
 
-get-at : {X : Type 0} (xs : List X) (i : ℕ) (d : X) → i < length xs → slice_get xs i ≡ Some (get_or xs i d)
+pub get-at : {X : Type 0} (xs : List X) (i : ℕ) (d : X) → i < length xs → slice_get xs i ≡ Some (get_or xs i d)
 get-at [] i d low = absurd (omega arith)
 get-at (x ∷ xs) zero d low = refl
 get-at (x ∷ xs) (suc i) d low = get-at xs i d (omega arith)
 
 -- the first of a number stands after those below it, where it is there
-pub first-is : {X : Type 0} (n : X → ℕ) (xs : List X) (q i : ℕ) (d : X) → i < length xs → IsPartitionPoint (λ x. nat_lt (n x) q ≡ true) (λ x. nat_lt (n x) q ≡ false) xs i → n (get_or xs i d) ≡ q → find (λ x. n x == q) xs ≡ Some (get_or xs i d)
-first-is {X} n xs q i d low point same =
+first-place : {X : Type 0} (n : X → ℕ) (xs : List X) (q i : ℕ) (d : X) → i < length xs → IsPartitionPoint (λ x. nat_lt (n x) q ≡ true) (λ x. nat_lt (n x) q ≡ false) xs i → n (get_or xs i d) ≡ q → position_or_len (λ x. n x == q) xs ≡ i
+first-place {X} n xs q i d low point same =
     let p : X → Bool = λ x. n x == q in
-    let here : position_or_len p xs ≡ i = position_or_len_is p xs i d (omega arith)
+    position_or_len_is p xs i d (omega arith)
     (λ k less. never-true (p (get_or xs k d)) (λ h. let e = equal-from (n (get_or xs k d)) q h in let b = ltb-true (n (get_or xs k d)) q (point.0 k d (omega arith) less) in omega arith))
-    (λ _. from-equal (n (get_or xs i d)) q same) in
-    find_at p xs ∙ (ap (slice_get xs) here ∙ get-at xs i d low)
+    (λ _. from-equal (n (get_or xs i d)) q same)
 
 -- it isn't there
-pub first-none : {X : Type 0} (n : X → ℕ) (xs : List X) (q i : ℕ) (d : X) → i ≤ length xs → IsNonDecreasingBy n xs → IsPartitionPoint (λ x. nat_lt (n x) q ≡ true) (λ x. nat_lt (n x) q ≡ false) xs i → (i < length xs → n (get_or xs i d) ≡ q → ⊥) → find (λ x. n x == q) xs ≡ None
-first-none {X} n xs q i d low up point other =
+no-place : {X : Type 0} (n : X → ℕ) (xs : List X) (q i : ℕ) (d : X) → i ≤ length xs → IsNonDecreasingBy n xs → IsPartitionPoint (λ x. nat_lt (n x) q ≡ true) (λ x. nat_lt (n x) q ≡ false) xs i → (i < length xs → n (get_or xs i d) ≡ q → ⊥) → position_or_len (λ x. n x == q) xs ≡ length xs
+no-place {X} n xs q i d low up point other =
     let p : X → Bool = λ x. n x == q in
     let differs : (k : ℕ) → k < length xs → n (get_or xs k d) ≡ q → ⊥ = λ k less e. elim (cases_lt k i) as (λ _. ⊥) [
       | inl before ↦ let b = ltb-true (n (get_or xs k d)) q (point.0 k d (omega arith) before) in omega arith
@@ -154,7 +154,44 @@ first-none {X} n xs q i d low up point other =
           let b = ltb-false (n (get_or xs i d)) q (point.1 i d (omega arith) (omega arith)) in
           other (omega arith) (omega arith)
     ] in
-    let none : position_or_len p xs ≡ length xs = position_or_len_is p xs (length xs) d (omega arith)
+    position_or_len_is p xs (length xs) d (omega arith)
     (λ k less. never-true (p (get_or xs k d)) (λ h. differs k less (equal-from (n (get_or xs k d)) q h)))
-    (λ less. absurd (omega arith)) in
-    find_at p xs ∙ (ap (slice_get xs) none ∙ get-past xs)
+    (λ less. absurd (omega arith))
+
+-- the place of the first of a number
+pub position-is : {X : Type 0} (n : X → ℕ) (xs : List X) (q i : ℕ) (d : X) → i < length xs → IsPartitionPoint (λ x. nat_lt (n x) q ≡ true) (λ x. nat_lt (n x) q ≡ false) xs i → n (get_or xs i d) ≡ q → position (λ x. n x == q) xs ≡ Some i
+position-is n xs q i d low point same =
+    let e : position_or_len (λ x. n x == q) xs ≡ i = first-place n xs q i d low point same in
+    (λ j. cond (nat_lt (e j) (length xs)) (Some (e j)) None) ∙ ap (λ b. cond b (Some i) None) (from-below i (length xs) low)
+
+pub position-none : {X : Type 0} (n : X → ℕ) (xs : List X) (q i : ℕ) (d : X) → i ≤ length xs → IsNonDecreasingBy n xs → IsPartitionPoint (λ x. nat_lt (n x) q ≡ true) (λ x. nat_lt (n x) q ≡ false) xs i → (i < length xs → n (get_or xs i d) ≡ q → ⊥) → position (λ x. n x == q) xs ≡ None
+position-none n xs q i d low up point other =
+    let e : position_or_len (λ x. n x == q) xs ≡ length xs = no-place n xs q i d low up point other in
+    (λ j. cond (nat_lt (e j) (length xs)) (Some (e j)) None) ∙ ap (λ b. cond b (Some (length xs)) None) (never-true (nat_lt (length xs) (length xs)) (λ h. let b = below-from (length xs) (length xs) h in omega arith))
+
+-- the first of a number, itself
+pub first-is : {X : Type 0} (n : X → ℕ) (xs : List X) (q i : ℕ) (d : X) → i < length xs → IsPartitionPoint (λ x. nat_lt (n x) q ≡ true) (λ x. nat_lt (n x) q ≡ false) xs i → n (get_or xs i d) ≡ q → find (λ x. n x == q) xs ≡ Some (get_or xs i d)
+first-is n xs q i d low point same = find_at (λ x. n x == q) xs ∙ (ap (slice_get xs) (first-place n xs q i d low point same) ∙ get-at xs i d low)
+
+pub first-none : {X : Type 0} (n : X → ℕ) (xs : List X) (q i : ℕ) (d : X) → i ≤ length xs → IsNonDecreasingBy n xs → IsPartitionPoint (λ x. nat_lt (n x) q ≡ true) (λ x. nat_lt (n x) q ≡ false) xs i → (i < length xs → n (get_or xs i d) ≡ q → ⊥) → find (λ x. n x == q) xs ≡ None
+first-none n xs q i d low up point other = find_at (λ x. n x == q) xs ∙ (ap (slice_get xs) (no-place n xs q i d low up point other) ∙ get-past xs)
+
+find-filter : {X : Type 0} (p : X → Bool) (xs : List X) → find p xs ≡ find p (filter p xs)
+find-filter p [] = refl
+find-filter {X} p (x ∷ xs) =
+    let go : (b : Bool) → p x ≡ b → cond b (Some x) (find p xs) ≡ find p (cond b (x ∷ filter p xs) (filter p xs)) =
+    λ b. elim b as (λ b. p x ≡ b → cond b (Some x) (find p xs) ≡ find p (cond b (x ∷ filter p xs) (filter p xs))) [ true ↦ λ e. sym (ap (λ b. cond b (Some x) (find p (filter p xs))) e) | false ↦ λ e. find-filter p xs ] in
+    go (p x) refl
+
+-- two lists with the same of each number have the same first
+same-first : {X : Type 0} (p r : X → Bool) → ((x : X) → r x ≡ p x) → (xs ys : List X) → filter r ys ≡ filter r xs → find p ys ≡ find p xs
+same-first p r same xs ys kept =
+    find-filter p ys ∙ (ap (find p) ((λ i. filter (λ x. sym (same x) i) ys)) ∙ (ap (find p) (kept ∙ (λ i. filter (λ x. same x i) xs)) ∙ sym (find-filter p xs)))
+
+tied-by : (a b : ℕ) → (not (is_lt (nat_cmp a b)) && not (is_lt (nat_cmp b a))) ≡ (b == a)
+tied-by a b = grind (arith, nat_tests)
+
+-- a stable sort keeps the first of a number
+pub stable-first : {X : Type 0} (n : X → ℕ) (xs ys : List X) (q : ℕ) (x : X) → n x ≡ q → IsStableByKey n nat_cmp xs ys → find (λ y. n y == q) ys ≡ find (λ y. n y == q) xs
+stable-first {X} n xs ys q x same stable =
+    same-first (λ y. n y == q) (ties (λ (a b : X). is_lt (nat_cmp (n a) (n b))) x) (λ y. tied-by (n x) (n y) ∙ ap (λ m. n y == m) same) xs ys (stable x)

@@ -11,21 +11,7 @@ use Rattle.fs_record.specs.Facts.{Fact}
 use Rattle.view_rules.specs.Facts.{Facts, inode_at, has_inode, has_directory, is_directory}
 use Rattle.rule_index.specs.Kins.{kin_of, with_id, kin_in, HasKins}
 use Rattle.rule_index.specs.declared.kin.Kin.{Kin}
-
-find-filter : {X : Type 0} (p : X → Bool) (xs : List X) → find p xs ≡ find p (filter p xs)
-find-filter p [] = refl
-find-filter {X} p (x ∷ xs) =
-    let go : (b : Bool) → p x ≡ b → cond b (Some x) (find p xs) ≡ find p (cond b (x ∷ filter p xs) (filter p xs)) =
-    λ b. elim b as (λ b. p x ≡ b → cond b (Some x) (find p xs) ≡ find p (cond b (x ∷ filter p xs) (filter p xs))) [ true ↦ λ e. sym (ap (λ b. cond b (Some x) (find p (filter p xs))) e) | false ↦ λ e. find-filter p xs ] in
-    go (p x) refl
-
--- two lists with the same of each number have the same first
-same-first : {X : Type 0} (p r : X → Bool) → ((x : X) → r x ≡ p x) → (xs ys : List X) → filter r ys ≡ filter r xs → find p ys ≡ find p xs
-same-first p r same xs ys kept =
-    find-filter p ys ∙ (ap (find p) ((λ i. filter (λ x. sym (same x) i) ys)) ∙ (ap (find p) (kept ∙ (λ i. filter (λ x. same x i) xs)) ∙ sym (find-filter p xs)))
-
-tied : (q : ℕ) (o : Kin) (k : ℕ × Kin) → ties (λ (a b : ℕ × Kin). is_lt (nat_cmp a.0 b.0)) (q, o) k ≡ (k.0 == q)
-tied q o k = grind (arith, nat_tests)
+use Rattle.rule_index.proofs.InOrder.{stable-first}
 
 found-with : (q : ℕ) (inodes : List (Fact Inode)) → find (λ (k : ℕ × Kin). k.0 == q) (map with_id inodes) ≡ option_map with_id (find (λ (f : Fact Inode). f.id == q) inodes)
 found-with q [] = refl
@@ -38,8 +24,7 @@ found-with q (f ∷ fs) =
 pub kins-sorted : (inodes : List (Fact Inode)) (given sorted : List (ℕ × Kin)) → given ≡ map with_id inodes → IsStableByKey (λ (k : ℕ × Kin). k.0) nat_cmp given sorted → HasKins inodes sorted
 kins-sorted inodes given sorted all stable q =
     let p : ℕ × Kin → Bool = λ (k : ℕ × Kin). k.0 == q in
-    let none : Kin = record { kind = 0; parent = 0 } in
-    ap (option_map (λ (k : ℕ × Kin). k.1)) (same-first p (ties (λ (a b : ℕ × Kin). is_lt (nat_cmp a.0 b.0)) (q, none)) (tied q none) given sorted (stable (q, none)) ∙ (ap (find p) all ∙ found-with q inodes))
+    ap (option_map (λ (k : ℕ × Kin). k.1)) (stable-first (λ (k : ℕ × Kin). k.0) given sorted q (q, record { kind = 0; parent = 0 }) refl stable ∙ (ap (find p) all ∙ found-with q inodes))
     ∙ said (find (λ (f : Fact Inode). f.id == q) inodes)
   where
     said : (o : Option (Fact Inode)) → option_map (λ (k : ℕ × Kin). k.1) (option_map with_id o) ≡ option_map kin_of (option_map (λ (f : Fact Inode). f.what) o)

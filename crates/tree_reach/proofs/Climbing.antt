@@ -1,9 +1,7 @@
 -- What a climb knows of its ids.
-use Rattle.std.proofs.Common.{◌≡◌, ℕ, ◌+◌, ◌<◌, ◌≤◌, Bool, true, false, cond, Option, Some, None, ◌⊎◌, inl, inr, refl, ap, sym, ◌∙◌, subst, arith}
-use Rattle.std.specs.Prelude.{◌==◌, ◌&&◌, ◌||◌, is_some, nat_lt, nat_le}
-use Rattle.std.specs.Ordering.{nat_cmp}
-use Rattle.std.specs.BTreeMap.{BTreeMap, get}
-use Rattle.std.proofs.lemmas.Bool.{cases_lt, cases_eq, eqb-true, eq-eqb, leb-true, ltb-true, ltb-false}
+use Rattle.std.proofs.Common.{◌≡◌, ℕ, ◌+◌, ◌≤◌, Bool, true, false, cond, Option, Some, None, ◌⊎◌, inl, inr, refl, ap, sym, ◌∙◌, subst, arith}
+use Rattle.std.specs.Prelude.{◌==◌, nat_lt, nat_le}
+use Rattle.std.proofs.lemmas.Bool.{cases_lt, eqb-true, eq-eqb, leb-true, ltb-true, ltb-false}
 use Rattle.apfs_model.specs.Lists.{passes}
 use Rattle.fs_record.specs.Facts.{first_user_id}
 use Rattle.view_rules.specs.Directories.{Leads, low, up}
@@ -32,7 +30,7 @@ trapped parent Round high closed i h (low _ l) = let b : 16 ≤ i = high i h in 
 trapped parent Round high closed i h (up _ j e m) = trapped parent Round high closed j (closed i j h e) m
 
 -- a climb begins
-pub climb-begins : (parent : ℕ → Option ℕ) (left met : BTreeMap ℕ ℕ) (climb start : ℕ) → HasClimbed parent left met climb → IsClimbing parent left met climb start start
+pub climb-begins : (parent : ℕ → Option ℕ) (left met : ℕ → Option ℕ) (climb start : ℕ) → HasClimbed parent left met climb → IsClimbing parent left met climb start start
 climb-begins parent left met climb start had = record {
   rest = had.rest;
   before = λ id number h. let b = had.before id number h in omega arith;
@@ -45,44 +43,44 @@ climb-begins parent left met climb start had = record {
 }
 
 -- what is marked is the id itself, or was there
-marked : (met met2 : BTreeMap ℕ ℕ) (climb next : ℕ) → ((q : ℕ) → get nat_cmp met2 q ≡ cond (next == q) (Some climb) (get nat_cmp met q)) → (id number : ℕ) → IsMetIn met2 id number → ((id ≡ next) × (number ≡ climb)) ⊎ IsMetIn met id number
+marked : (met met2 : ℕ → Option ℕ) (climb next : ℕ) → ((q : ℕ) → met2 q ≡ cond (next == q) (Some climb) (met q)) → (id number : ℕ) → IsMetIn met2 id number → ((id ≡ next) × (number ≡ climb)) ⊎ IsMetIn met id number
 marked met met2 climb next marks id number h =
-    let go : (b : Bool) → (next == id) ≡ b → cond b (Some climb) (get nat_cmp met id) ≡ Some number → ((id ≡ next) × (number ≡ climb)) ⊎ IsMetIn met id number =
-    λ b. elim b as (λ b. (next == id) ≡ b → cond b (Some climb) (get nat_cmp met id) ≡ Some number → ((id ≡ next) × (number ≡ climb)) ⊎ IsMetIn met id number) [
+    let go : (b : Bool) → (next == id) ≡ b → cond b (Some climb) (met id) ≡ Some number → ((id ≡ next) × (number ≡ climb)) ⊎ IsMetIn met id number =
+    λ b. elim b as (λ b. (next == id) ≡ b → cond b (Some climb) (met id) ≡ Some number → ((id ≡ next) × (number ≡ climb)) ⊎ IsMetIn met id number) [
       | true ↦ λ e f. inl (sym (eqb-true next id e), same-of (Some climb) number climb f refl)
       | false ↦ λ e f. inr f
     ] in
     go (next == id) refl (sym (marks id) ∙ h)
 
 -- the id is marked, and each other stays
-mark-here : (met met2 : BTreeMap ℕ ℕ) (climb next : ℕ) → ((q : ℕ) → get nat_cmp met2 q ≡ cond (next == q) (Some climb) (get nat_cmp met q)) → IsMetIn met2 next climb
-mark-here met met2 climb next marks = marks next ∙ ap (λ b. cond b (Some climb) (get nat_cmp met next)) (eq-eqb next next refl)
+mark-here : (met met2 : ℕ → Option ℕ) (climb next : ℕ) → ((q : ℕ) → met2 q ≡ cond (next == q) (Some climb) (met q)) → IsMetIn met2 next climb
+mark-here met met2 climb next marks = marks next ∙ ap (λ b. cond b (Some climb) (met next)) (eq-eqb next next refl)
 
 -- what was marked in this climb still is
-mark-stays : (met met2 : BTreeMap ℕ ℕ) (climb next : ℕ) → ((q : ℕ) → get nat_cmp met2 q ≡ cond (next == q) (Some climb) (get nat_cmp met q)) → (id : ℕ) → IsMetIn met id climb → IsMetIn met2 id climb
+mark-stays : (met met2 : ℕ → Option ℕ) (climb next : ℕ) → ((q : ℕ) → met2 q ≡ cond (next == q) (Some climb) (met q)) → (id : ℕ) → IsMetIn met id climb → IsMetIn met2 id climb
 mark-stays met met2 climb next marks id h =
-    let go : (b : Bool) → cond b (Some climb) (get nat_cmp met id) ≡ Some climb =
-    λ b. elim b as (λ b. cond b (Some climb) (get nat_cmp met id) ≡ Some climb) [ true ↦ refl | false ↦ h ] in
+    let go : (b : Bool) → cond b (Some climb) (met id) ≡ Some climb =
+    λ b. elim b as (λ b. cond b (Some climb) (met id) ≡ Some climb) [ true ↦ refl | false ↦ h ] in
     marks id ∙ go (next == id)
 
 -- what was marked still has a mark
-mark-kept : (met met2 : BTreeMap ℕ ℕ) (climb next : ℕ) → ((q : ℕ) → get nat_cmp met2 q ≡ cond (next == q) (Some climb) (get nat_cmp met q)) → (id number : ℕ) → IsMetIn met id number → (n : ℕ) × IsMetIn met2 id n
+mark-kept : (met met2 : ℕ → Option ℕ) (climb next : ℕ) → ((q : ℕ) → met2 q ≡ cond (next == q) (Some climb) (met q)) → (id number : ℕ) → IsMetIn met id number → (n : ℕ) × IsMetIn met2 id n
 mark-kept met met2 climb next marks id number h =
-    let go : (b : Bool) → (n : ℕ) × (cond b (Some climb) (get nat_cmp met id) ≡ Some n) =
-    λ b. elim b as (λ b. (n : ℕ) × (cond b (Some climb) (get nat_cmp met id) ≡ Some n)) [ true ↦ (climb, refl) | false ↦ (number, h) ] in
+    let go : (b : Bool) → (n : ℕ) × (cond b (Some climb) (met id) ≡ Some n) =
+    λ b. elim b as (λ b. (n : ℕ) × (cond b (Some climb) (met id) ≡ Some n)) [ true ↦ (climb, refl) | false ↦ (number, h) ] in
     let t = go (next == id) in (t.0, marks id ∙ t.1)
 
 -- what is left, after the parent of an id was followed
-left-more : (parent : ℕ → Option ℕ) (left left2 met met2 : BTreeMap ℕ ℕ) (climb next : ℕ) → HasLeft parent left met
-    → ((q : ℕ) → get nat_cmp left2 q ≡ cond (next == q) None (get nat_cmp left q)) → ((q : ℕ) → get nat_cmp met2 q ≡ cond (next == q) (Some climb) (get nat_cmp met q)) → HasLeft parent left2 met2
+left-more : (parent : ℕ → Option ℕ) (left left2 met met2 : ℕ → Option ℕ) (climb next : ℕ) → HasLeft parent left met
+    → ((q : ℕ) → left2 q ≡ cond (next == q) None (left q)) → ((q : ℕ) → met2 q ≡ cond (next == q) (Some climb) (met q)) → HasLeft parent left2 met2
 left-more parent left left2 met met2 climb next rest lefts marks = record {
   right = λ id above h.
-      let go : (b : Bool) → cond b None (get nat_cmp left id) ≡ Some above → parent id ≡ Some above =
-      λ b. elim b as (λ b. cond b None (get nat_cmp left id) ≡ Some above → parent id ≡ Some above) [ true ↦ λ e. none-or None above refl e | false ↦ λ e. rest.right id above e ] in
+      let go : (b : Bool) → cond b None (left id) ≡ Some above → parent id ≡ Some above =
+      λ b. elim b as (λ b. cond b None (left id) ≡ Some above → parent id ≡ Some above) [ true ↦ λ e. none-or None above refl e | false ↦ λ e. rest.right id above e ] in
       go (next == id) (sym (lefts id) ∙ h);
   gone = λ id h.
-      let go : (b : Bool) → (next == id) ≡ b → cond b None (get nat_cmp left id) ≡ None → (parent id ≡ None) ⊎ ((n : ℕ) × IsMetIn met2 id n) =
-      λ b. elim b as (λ b. (next == id) ≡ b → cond b None (get nat_cmp left id) ≡ None → (parent id ≡ None) ⊎ ((n : ℕ) × IsMetIn met2 id n)) [
+      let go : (b : Bool) → (next == id) ≡ b → cond b None (left id) ≡ None → (parent id ≡ None) ⊎ ((n : ℕ) × IsMetIn met2 id n) =
+      λ b. elim b as (λ b. (next == id) ≡ b → cond b None (left id) ≡ None → (parent id ≡ None) ⊎ ((n : ℕ) × IsMetIn met2 id n)) [
         | true ↦ λ e f. inr (climb, subst (λ x. IsMetIn met2 x climb) (eqb-true next id e) (mark-here met met2 climb next marks))
         | false ↦ λ e f. elim (rest.gone id f) as (λ _. (parent id ≡ None) ⊎ ((n : ℕ) × IsMetIn met2 id n)) [
           | inl none ↦ inl none
@@ -93,8 +91,8 @@ left-more parent left left2 met met2 climb next rest lefts marks = record {
 }
 
 -- a climb goes on to a parent
-pub climb-on : (parent : ℕ → Option ℕ) (left left2 met met2 : BTreeMap ℕ ℕ) (climb start next above : ℕ) → IsClimbing parent left met climb start next → 16 ≤ next → get nat_cmp left next ≡ Some above
-    → ((q : ℕ) → get nat_cmp left2 q ≡ cond (next == q) None (get nat_cmp left q)) → ((q : ℕ) → get nat_cmp met2 q ≡ cond (next == q) (Some climb) (get nat_cmp met q)) → IsClimbing parent left2 met2 climb start above
+pub climb-on : (parent : ℕ → Option ℕ) (left left2 met met2 : ℕ → Option ℕ) (climb start next above : ℕ) → IsClimbing parent left met climb start next → 16 ≤ next → left next ≡ Some above
+    → ((q : ℕ) → left2 q ≡ cond (next == q) None (left q)) → ((q : ℕ) → met2 q ≡ cond (next == q) (Some climb) (met q)) → IsClimbing parent left2 met2 climb start above
 climb-on parent left left2 met met2 climb start next above had high there lefts marks =
     let named : parent next ≡ Some above = had.rest.right next above there in
     record {
@@ -117,7 +115,7 @@ climb-on parent left left2 met met2 climb start next above had high there lefts 
     }
 
 -- a climb ends at an id that leads below 16
-pub climb-leads : (parent : ℕ → Option ℕ) (left met : BTreeMap ℕ ℕ) (climb start top : ℕ) → IsClimbing parent left met climb start top → Leads parent top → Leads parent start × HasClimbed parent left met (climb + 1)
+pub climb-leads : (parent : ℕ → Option ℕ) (left met : ℕ → Option ℕ) (climb start top : ℕ) → IsClimbing parent left met climb start top → Leads parent top → Leads parent start × HasClimbed parent left met (climb + 1)
 climb-leads parent left met climb start top had l = (
   had.back l,
   record {
@@ -131,23 +129,23 @@ climb-leads parent left met climb start top had l = (
 )
 
 -- one that was met in this climb goes round
-round : (parent : ℕ → Option ℕ) (left met : BTreeMap ℕ ℕ) (climb start top : ℕ) → IsClimbing parent left met climb start top → IsMetIn met top climb → Leads parent top → ⊥
+round : (parent : ℕ → Option ℕ) (left met : ℕ → Option ℕ) (climb start top : ℕ) → IsClimbing parent left met climb start top → IsMetIn met top climb → Leads parent top → ⊥
 round parent left met climb start top had here =
     trapped parent (λ id. IsMetIn met id climb) had.high (λ j k h e. elim (had.onward j k h e) as (λ _. IsMetIn met k climb) [ inl m ↦ m | inr s ↦ subst (λ x. IsMetIn met x climb) (sym s) here ]) top here
 
 -- whether the top was met before
-pub top-leads : (parent : ℕ → Option ℕ) (left met : BTreeMap ℕ ℕ) (climb start top : ℕ) → IsClimbing parent left met climb start top → passes (get nat_cmp met top) (λ n. nat_lt n climb) ≡ true → Leads parent top
+pub top-leads : (parent : ℕ → Option ℕ) (left met : ℕ → Option ℕ) (climb start top : ℕ) → IsClimbing parent left met climb start top → passes (met top) (λ n. nat_lt n climb) ≡ true → Leads parent top
 top-leads parent left met climb start top had earlier =
-    let go : (o : Option ℕ) → get nat_cmp met top ≡ o → passes o (λ n. nat_lt n climb) ≡ true → Leads parent top =
-    λ o. elim o as (λ o. get nat_cmp met top ≡ o → passes o (λ n. nat_lt n climb) ≡ true → Leads parent top) [
+    let go : (o : Option ℕ) → met top ≡ o → passes o (λ n. nat_lt n climb) ≡ true → Leads parent top =
+    λ o. elim o as (λ o. met top ≡ o → passes o (λ n. nat_lt n climb) ≡ true → Leads parent top) [
       | None ↦ λ e f. absurd (let r : ⊥ = cc in r)
       | Some n ↦ λ e f. had.reached top n e (ltb-true n climb f)
     ] in
-    go (get nat_cmp met top) refl earlier
+    go (met top) refl earlier
 
 -- it wasn't, and no parent of it is left
-pub top-lost : (parent : ℕ → Option ℕ) (left met : BTreeMap ℕ ℕ) (climb start top : ℕ) → IsClimbing parent left met climb start top → 16 ≤ top → get nat_cmp left top ≡ None
-    → passes (get nat_cmp met top) (λ n. nat_lt n climb) ≡ false → Leads parent start → ⊥
+pub top-lost : (parent : ℕ → Option ℕ) (left met : ℕ → Option ℕ) (climb start top : ℕ) → IsClimbing parent left met climb start top → 16 ≤ top → left top ≡ None
+    → passes (met top) (λ n. nat_lt n climb) ≡ false → Leads parent start → ⊥
 top-lost parent left met climb start top had high none earlier l =
     elim (had.rest.gone top none) as (λ _. ⊥) [
       | inl e ↦ stuck parent top high e (had.forth l)

@@ -1,3 +1,3 @@
-pub mod ParentLooks
+pub mod WayLooks
 pub mod Climbing
 pub mod Reaching

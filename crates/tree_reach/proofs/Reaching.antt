@@ -1,7 +1,5 @@
 -- The first directory from which parents never lead below 16.
-use Rattle.std.proofs.Common.{◌≡◌, ℕ, ◌+◌, ◌<◌, ◌≤◌, Bool, true, false, cond, List, [], ◌∷◌, ◌++◌, length, take, drop, get_or, Option, Some, None, ◌⊎◌, inl, inr, refl, ap, sym, ◌∙◌, subst, arith, add-one}
-use Rattle.std.specs.Ordering.{nat_cmp}
-use Rattle.std.specs.BTreeMap.{BTreeMap, get, IsEmpty}
+use Rattle.std.proofs.Common.{◌≡◌, ℕ, ◌+◌, ◌<◌, true, List, [], ◌∷◌, ◌++◌, length, take, drop, get_or, Option, ◌⊎◌, inl, inr, refl, ap, sym, ◌∙◌, subst, arith, add-one}
 use Rattle.std.proofs.lemmas.List.{take_more, take-append-drop}
 use Rattle.std.proofs.Math.Seq.{drop-cons}
 use Rattle.apfs_model.specs.Lists.{In}
@@ -9,22 +7,22 @@ use Rattle.fs_record.specs.Inodes.{Inode}
 use Rattle.fs_record.specs.Facts.{Fact}
 use Rattle.view_rules.specs.Facts.{Facts}
 use Rattle.view_rules.specs.Directories.{Leads, is_user_directory, parent_at, IsUnreached}
-use Rattle.tree_reach.specs.Parents.{HasParents}
+use Rattle.tree_reach.specs.declared.ways.Way.{Way}
+use Rattle.tree_reach.specs.Ways.{left_at, met_at, HasWaysOf}
 use Rattle.tree_reach.specs.Climbs.{HasClimbed, HaveWays, IsFirstUnreached}
 use Rattle.tree_reach.proofs.Climbing.{none-or}
+use Rattle.tree_reach.proofs.WayLooks.{all-left, none-met}
 
 -- before the first climb
-pub none-climbed : (facts : Facts) (left met : BTreeMap ℕ ℕ) → HasParents facts.inodes left → IsEmpty met → HasClimbed (parent_at facts) left met 0
-none-climbed facts left met has empty =
-    let none : (q : ℕ) → get nat_cmp met q ≡ None = λ q. grind arith in
-    record {
-      rest = record { right = λ id above h. sym (has id) ∙ h; gone = λ id h. inl (sym (has id) ∙ h) };
-      before = λ id number h. none-or (get nat_cmp met id) number (none id) h;
-      reached = λ id number h. none-or (get nat_cmp met id) number (none id) h;
-    }
+pub none-climbed : (facts : Facts) (ways : List Way) → HasWaysOf facts.inodes ways → HasClimbed (parent_at facts) (left_at ways) (met_at ways) 0
+none-climbed facts ways has = record {
+  rest = record { right = λ id above h. sym (all-left facts ways has id) ∙ h; gone = λ id h. inl (sym (all-left facts ways has id) ∙ h) };
+  before = λ id number h. none-or (met_at ways id) number (none-met facts.inodes ways has id) h;
+  reached = λ id number h. none-or (met_at ways id) number (none-met facts.inodes ways has id) h;
+}
 
 -- a climb that isn't made
-pub none-climbs : (parent : ℕ → Option ℕ) (left met : BTreeMap ℕ ℕ) (climb : ℕ) → HasClimbed parent left met climb → HasClimbed parent left met (climb + 1)
+pub none-climbs : (parent : ℕ → Option ℕ) (left met : ℕ → Option ℕ) (climb : ℕ) → HasClimbed parent left met climb → HasClimbed parent left met (climb + 1)
 none-climbs parent left met climb had = record {
   rest = had.rest;
   before = λ id number h. let b = had.before id number h in omega arith;

@@ -1,8 +1,6 @@
 -- What is known while parents are followed from some ids, one climb after the other: of the parents that aren't followed yet, and
 -- of the ids that were met, each with the number of its climb.
-use Rattle.std.specs.Prelude.{◌≡◌, ◌⊎◌, ℕ, ◌<◌, ◌≤◌, ◌+◌, List, ◌++◌, ◌∷◌, Bool, true, Option, None, Some}
-use Rattle.std.specs.Ordering.{nat_cmp}
-use Rattle.std.specs.BTreeMap.{BTreeMap, get}
+use Rattle.std.specs.Prelude.{◌≡◌, ◌⊎◌, ℕ, ◌<◌, ◌≤◌, List, ◌++◌, ◌∷◌, true, Option, None, Some}
 use Rattle.apfs_model.specs.Lists.{In}
 use Rattle.fs_record.specs.Inodes.{Inode}
 use Rattle.fs_record.specs.Facts.{Fact, first_user_id}
@@ -10,22 +8,22 @@ use Rattle.view_rules.specs.Facts.{Facts}
 use Rattle.view_rules.specs.Directories.{Leads, is_user_directory, parent_at}
 
 -- an id was met in a climb
-abbrev pub IsMetIn : BTreeMap ℕ ℕ → ℕ → ℕ → Type 0
-IsMetIn met id climb = get nat_cmp met id ≡ Some climb
+abbrev pub IsMetIn : (ℕ → Option ℕ) → ℕ → ℕ → Type 0
+IsMetIn met id climb = met id ≡ Some climb
 
 -- the parents that are left are right, and of an id without one the parent was followed, or there is none
-pub record HasLeft (parent : ℕ → Option ℕ) (left met : BTreeMap ℕ ℕ) : Type 0 where
-  pub right : (id above : ℕ) → get nat_cmp left id ≡ Some above → parent id ≡ Some above
-  pub gone : (id : ℕ) → get nat_cmp left id ≡ None → (parent id ≡ None) ⊎ ((climb : ℕ) × IsMetIn met id climb)
+pub record HasLeft (parent : ℕ → Option ℕ) (left met : ℕ → Option ℕ) : Type 0 where
+  pub right : (id above : ℕ) → left id ≡ Some above → parent id ≡ Some above
+  pub gone : (id : ℕ) → left id ≡ None → (parent id ≡ None) ⊎ ((climb : ℕ) × IsMetIn met id climb)
 
 -- before a climb: from each id that was met parents lead below 16
-pub record HasClimbed (parent : ℕ → Option ℕ) (left met : BTreeMap ℕ ℕ) (climb : ℕ) : Type 0 where
+pub record HasClimbed (parent : ℕ → Option ℕ) (left met : ℕ → Option ℕ) (climb : ℕ) : Type 0 where
   pub rest : HasLeft parent left met
   pub before : (id number : ℕ) → IsMetIn met id number → number < climb
   pub reached : (id number : ℕ) → IsMetIn met id number → Leads parent id
 
 -- in a climb: its ids lead to one another or to the next, and the start leads below 16 exactly where the next does
-pub record IsClimbing (parent : ℕ → Option ℕ) (left met : BTreeMap ℕ ℕ) (climb start next : ℕ) : Type 0 where
+pub record IsClimbing (parent : ℕ → Option ℕ) (left met : ℕ → Option ℕ) (climb start next : ℕ) : Type 0 where
   pub rest : HasLeft parent left met
   pub before : (id number : ℕ) → IsMetIn met id number → number ≤ climb
   pub reached : (id number : ℕ) → IsMetIn met id number → number < climb → Leads parent id

@@ -1,2 +1,2 @@
-pub mod Parents
+pub mod Ways
 pub mod Climbs

@@ -2,7 +2,7 @@
 #![tactic(auto)]
 
 mod climbs;
-mod parents;
 mod unreached;
+mod ways;
 
 pub use unreached::first_unreached;
