@@ -9,8 +9,7 @@ ghost use Rattle.vol_view.specs.Views.{view_nodes, IsViewFeature};
 ghost use Rattle.view_rules.specs.Rules.{HasTreeRules, IsTreeFault};
 ghost use Rattle.tree_rules.specs.Tallies.{IsTally};
 
-use crate::faults::first_fault;
-use crate::remarks::notes;
+use crate::gathered::tally_of;
 use crate::{Profile, ViewTally};
 use blk_source::BlockSource;
 use ext_ref::NewRange;
@@ -50,18 +49,8 @@ pub fn check_view<S: BlockSource>(
         ranges,
         profile,
     };
-    let first = match first_fault(alloc, &asked, &gathered.facts) {
-        Ok(first) => first,
-        Err(_) => return Err(Stop::NoMemory),
-    };
-    if let Some(fault) = first {
-        return Err(Stop::Found(fault));
-    }
-    match notes(alloc, profile, view, &gathered.facts) {
-        Ok(notes) => Ok(ViewTally {
-            records: gathered.records,
-            notes,
-        }),
-        Err(_) => Err(Stop::NoMemory),
+    match tally_of(alloc, &asked, &gathered) {
+        Ok(tally) => Ok(tally),
+        Err(stop) => Err(stop),
     }
 }

@@ -3,13 +3,16 @@
 
 mod checking;
 mod faults;
+mod gathered;
 mod listing;
 mod notes;
 mod remarks;
 mod tallies;
+mod with_extents;
 
 pub use checking::check_view;
 pub use listing::view_extents;
 pub use notes::Note;
-pub use tallies::ViewTally;
+pub use tallies::{CheckedView, ViewTally};
 pub use view_rules::Profile;
+pub use with_extents::check_with_extents;

@@ -1,0 +1,47 @@
+// The rules of the facts that were gathered of a view.
+ghost use Rattle.std.specs.Prelude.{◌<◌, ℕ, List, IfOk, IfErr, IsErrOf, OnOk};
+ghost use Rattle.obj_base.specs.Stops.{Tells};
+ghost use Rattle.obj_base.specs.declared.stop.Stop.TheVariants.{ReadFault};
+ghost use Rattle.vol_view.specs.Views.{IsViewFeature};
+ghost use Rattle.vol_view.specs.Volumes.{Loaded};
+ghost use Rattle.view_rules.specs.Rules.{HasTreeRules, IsTreeFault};
+ghost use Rattle.view_facts.specs.Kept.{IsGatheredView};
+ghost use Rattle.tree_rules.specs.Tallies.{IsTally};
+
+use crate::ViewTally;
+use crate::faults::first_fault;
+use crate::remarks::notes;
+use fs_record::TreeFault;
+use obj_base::Stop;
+use rule_faults::faults::Asked;
+use std::alloc::Global;
+use view_facts::ViewFacts;
+
+/// The number of records and the notes of a view whose facts were gathered, where it meets its rules. A fault that is named is
+/// there.
+pub(crate) fn tally_of(
+    alloc: Global,
+    asked: &Asked<'_>,
+    gathered: &ViewFacts,
+) -> Result<ViewTally, Stop<TreeFault>>
+    requires { 0 < asked.now.site.now.block_size }
+    ensures clear { (image : List ℕ) (volume : Loaded) → IsGatheredView image asked.now.site.now volume asked.now.view.now gathered.now → OnOk result (HasTreeRules asked.now.profile image asked.now.site.now volume asked.now.view.now asked.now.ranges.now) }
+    ensures value { (image : List ℕ) (volume : Loaded) → IsGatheredView image asked.now.site.now volume asked.now.view.now gathered.now → IfOk result (IsTally asked.now.profile image asked.now.site.now volume asked.now.view.now) }
+    ensures present { (image : List ℕ) (volume : Loaded) → IsGatheredView image asked.now.site.now volume asked.now.view.now gathered.now → IfErr result (Tells (IsTreeFault asked.now.profile image asked.now.site.now volume asked.now.view.now asked.now.ranges.now) (IsViewFeature image asked.now.site.now volume asked.now.view.now)) }
+    ensures no_read { IsErrOf result ReadFault → ⊥ }
+{
+    let first = match first_fault(alloc, asked, &gathered.facts) {
+        Ok(first) => first,
+        Err(_) => return Err(Stop::NoMemory),
+    };
+    if let Some(fault) = first {
+        return Err(Stop::Found(fault));
+    }
+    match notes(alloc, asked.profile, asked.view, &gathered.facts) {
+        Ok(notes) => Ok(ViewTally {
+            records: gathered.records,
+            notes,
+        }),
+        Err(_) => Err(Stop::NoMemory),
+    }
+}

@@ -1,0 +1,63 @@
+// Whether a view meets its rules, and its extents, in one walk.
+ghost use Rattle.std.specs.Prelude.{◌≡◌, ◌+◌, ◌≤◌, ℕ, List, length, Some, IfOk, IfErr, IsErrOf, OnOk};
+ghost use Rattle.apfs_model.specs.Counts.{Rose};
+ghost use Rattle.apfs_model.specs.Source.{IsKept};
+ghost use Rattle.obj_base.specs.Site.{IsSiteFor};
+ghost use Rattle.obj_base.specs.Stops.{Tells};
+ghost use Rattle.obj_base.specs.declared.stop.Stop.TheVariants.{ReadFault};
+ghost use Rattle.vol_view.specs.Views.{view_nodes, IsViewFeature};
+ghost use Rattle.view_rules.specs.Extents.{extents_with_ids};
+ghost use Rattle.view_rules.specs.Rules as rules;
+ghost use Rattle.tree_rules.specs.Tallies.{IsTally};
+
+use crate::gathered::tally_of;
+use crate::{CheckedView, Profile};
+use blk_source::BlockSource;
+use ext_ref::NewRange;
+use fs_record::TreeFault;
+use obj_base::{Site, Stop};
+use rule_breaks::extents::extents_with_ids;
+use rule_faults::faults::Asked;
+use std::alloc::Global;
+use view_facts::view_facts;
+use vol_view::{View, Volume};
+
+/// What `check_view` and `view_extents` answer of a view that meets its rules under a profile, in one walk over its tree. `ranges`
+/// are the new ranges of the volume and of its snapshots. A fault or a feature that is named is there.
+pub fn check_with_extents<S: BlockSource>(
+    alloc: Global,
+    src: &mut S,
+    volume: &Volume,
+    view: &View,
+    ranges: &[NewRange],
+    site: &Site,
+    profile: Profile,
+) -> Result<CheckedView, Stop<TreeFault>>
+    requires site { IsSiteFor site.now (S.bytes_len src.old) }
+    ensures clear { (image : List ℕ) → S.bytes src.old ≡ Some image → OnOk result (rules.HasTreeRules profile image site.now volume.now view.now ranges.now) }
+    ensures value { (image : List ℕ) → S.bytes src.old ≡ Some image → IfOk result (λ checked. IsTally profile image site.now volume.now view.now checked.tally) }
+    ensures all { (image : List ℕ) → S.bytes src.old ≡ Some image → IfOk result (λ checked. checked.extents.items ≡ extents_with_ids (rules.view_facts image site.now volume.now view.now)) }
+    ensures present { (image : List ℕ) → S.bytes src.old ≡ Some image → IfErr result (Tells (rules.IsTreeFault profile image site.now volume.now view.now ranges.now) (IsViewFeature image site.now volume.now view.now)) }
+    ensures reads { (image : List ℕ) → S.bytes src.old ≡ Some image → OnOk result (S.reads src.new ≤ S.reads src.old + length (view_nodes image site.now volume.now view.now)) }
+    ensures cause { IsErrOf result ReadFault → Rose (S.faults src.old) (S.faults src.new) }
+    ensures kept { IsKept S.bytes S.bytes_len S.faults src.old src.new }
+{
+    let gathered = match view_facts(alloc, src, volume, view, site) {
+        Ok(gathered) => gathered,
+        Err(stop) => return Err(stop),
+    };
+    let asked = Asked {
+        view,
+        site,
+        ranges,
+        profile,
+    };
+    let tally = match tally_of(alloc, &asked, &gathered) {
+        Ok(tally) => tally,
+        Err(stop) => return Err(stop),
+    };
+    match extents_with_ids(alloc, &gathered.facts) {
+        Ok(extents) => Ok(CheckedView { tally, extents }),
+        Err(_) => Err(Stop::NoMemory),
+    }
+}
