@@ -1,10 +1,9 @@
 -- The kind and the parent of each inode.
-use Rattle.std.proofs.Common.{◌≡◌, ℕ, Bool, true, false, cond, List, [], ◌∷◌, Option, Some, None, refl, ap, sym, ◌∙◌, arith}
-use Rattle.std.specs.Prelude.{option_map, ◌==◌, is_some, not, filter, map}
+use Rattle.std.proofs.Common.{◌≡◌, ℕ, Bool, true, false, cond, List, [], ◌∷◌, Option, Some, None, refl, ap, sym, ◌∙◌}
+use Rattle.std.specs.Prelude.{option_map, ◌==◌, is_some, not, map}
 use Rattle.std.specs.List.{find}
-use Rattle.std.specs.Ordering.{nat_cmp, is_lt}
-use Rattle.std.specs.List.Sorted.{IsStableByKey, ties}
-use Rattle.std.proofs.lemmas.Bool.Decides.{nat_tests}
+use Rattle.std.specs.Ordering.{nat_cmp}
+use Rattle.std.specs.List.Sorted.{IsStableByKey}
 use Rattle.apfs_model.specs.Lists.{passes}
 use Rattle.fs_record.specs.Inodes.{Inode, inode_kind}
 use Rattle.fs_record.specs.Facts.{Fact}
