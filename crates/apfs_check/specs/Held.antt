@@ -3,7 +3,6 @@ use Rattle.std.specs.Prelude.{◌≡◌, ℕ, ◌+◌, List, [], ◌++◌, map, 
 use Rattle.apfs_model.specs.Counts.{given}
 use Rattle.apfs_model.specs.Lists.{In}
 use Rattle.nx_ring.specs.Checkpoint.{Seen}
-use Rattle.vol_view.specs.Volumes.{Loaded}
 use Rattle.vol_view.specs.Views.{views_of}
 use Rattle.vol_view.specs.declared.head.VolHead.{VolHead}
 use Rattle.vol_view.specs.declared.volume.View.{View}
@@ -55,10 +54,6 @@ pub record AddsViews (profile : Profile) (image : List ℕ) (seen : Seen) (head 
   pub views_same : new.views ≡ old.views
   pub unreached_same : new.unreached ≡ old.unreached
   pub counts_same : new.counts ≡ old.counts
-
--- all views of a loaded volume have their rules
-abbrev pub AreRightViews : Profile → List ℕ → Seen → Loaded → Type 0
-AreRightViews profile image seen volume = (view : View) → In view (views_of volume seen) → HasViewRules profile image seen volume.head view
 
 -- a volume's data is right under Strict, and the notes on it were added
 pub record AddsData (profile : Profile) (image : List ℕ) (seen : Seen) (head : VolHead) (old new : Held) : Type 0 where

@@ -13,7 +13,7 @@ use crate::Fault;
 use crate::data::add_data;
 use crate::gathered::Gathered;
 use crate::ranges::volume_ranges;
-use crate::views::{add_views, volume_extents};
+use crate::views::add_views;
 use blk_source::BlockSource;
 use nx_ring::Checkpoint;
 use obj_base::Stop;
@@ -40,11 +40,7 @@ fn add_volume<S: BlockSource>(
         Ok(ranges) => ranges,
         Err(stop) => return Err(stop),
     };
-    match add_views(alloc, src, cp, volume, &ranges, profile, out) {
-        Ok(()) => {}
-        Err(stop) => return Err(stop),
-    }
-    let extents = match volume_extents(alloc, src, cp, volume) {
+    let extents = match add_views(alloc, src, cp, volume, &ranges, profile, out) {
         Ok(extents) => extents,
         Err(stop) => return Err(stop),
     };

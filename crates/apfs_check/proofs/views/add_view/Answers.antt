@@ -4,10 +4,10 @@ use Rattle.apfs_check.proofs.Adding.{view-added}
 use Rattle.apfs_check.proofs.Stopped.{view-stops-at}
 use Rattle.apfs_check.proofs.views.add_view.Goals as goal
 
-pub returns-in_ok-put_view-in-Ok-clause-clear : goal.returns-in_ok-put_view-in-Ok-clause-clear
-returns-in_ok-put_view-in-Ok-clause-clear g c image told ready same =
-    let put = c.in_ok-put_view-in-Ok.ensures in
-    view-added c.args.profile image c.args.cp.now c.site-site.result c.args.volume.now c.args.view.now c.args.ranges.now c.in-Ok.tally c.args.out.now c.put_view.new.self ready c.site-site.ensures same
+pub returns-clause-clear : goal.returns-clause-clear
+returns-clause-clear g c image told ready same =
+    let put = c.in_ok-put_view.ensures in
+    view-added c.args.profile image c.args.cp.now c.site-site.result c.args.volume.now c.args.view.now c.args.ranges.now c.in-Ok.checked.tally c.args.out.now c.put_view.new.self ready c.site-site.ensures same
     (c.in-Ok.ensures.clear image told) (c.in-Ok.ensures.value image told)
     (record { records = put.records; hashes = put.hashes; unnamed = put.unnamed; views_same = put.views; unreached_same = put.unreached; counts_same = put.counts })
 

@@ -1,9 +1,17 @@
-use Rattle.std.proofs.Common.{◌∙◌, ◌∷◌, [], take, sym, subst, arith}
-use Rattle.vol_view.specs.Views.{views_of}
+use Rattle.std.proofs.Common.{◌≡◌, ◌∙◌, ◌<◌, ◌≤◌, ◌∷◌, [], ◌++◌, length, take, inl, refl, sym, ap, subst, arith}
+use Rattle.std.specs.Prelude.{◌^◌, flat_map}
+use Rattle.std.proofs.lemmas.List.{take_all}
 use Rattle.apfs_model.proofs.Searches.{get-in}
+use Rattle.obj_base.specs.declared.site.Site.{Site}
+use Rattle.nx_ring.specs.Checkpoint.{site_of}
+use Rattle.vol_view.specs.Volumes.{Loaded}
+use Rattle.vol_view.specs.Views.{views_of}
+use Rattle.ext_ref.specs.Left.{AreShortExtents}
+use Rattle.apfs_check.specs.Volumes.{view_extents}
+use Rattle.apfs_check.specs.DataSteps.{AreShortOrHoles}
 use Rattle.apfs_check.specs.Held.{AddsViews}
 use Rattle.apfs_check.proofs.Adding.{more-views}
-use Rattle.apfs_check.proofs.ViewSteps.{take-one}
+use Rattle.apfs_check.proofs.ViewSteps.{take-one, views-length, extents-same, extents-next, extents-short}
 use Rattle.apfs_check.proofs.views.add_views.Goals as goal
 
 pub returns-in-Err-clause-present : goal.returns-in-Err-clause-present
@@ -13,16 +21,37 @@ returns-in-Err-clause-present g c image told ready same =
 pub views-preserved : goal.views-preserved
 views-preserved g c =
     let seen = c.args.cp.now in
-    let views = views_of c.args.volume.now seen in
+    let site = site_of seen in
+    let volume = c.args.volume.now in
+    let views = views_of volume seen in
     let view = c.view_at-view.result in
     record {
       added = λ image told ready same.
-          subst (λ vs. AddsViews c.args.profile image seen c.args.volume.now.head vs c.args.out.now c.add_view.new.out) (sym (take-one views c.views.place view c.view_at-view.ensures))
-          (more-views c.args.profile image seen c.args.volume.now.head (take c.views.place views) (view ∷ []) c.args.out.now c.views.out c.add_view.new.out
+          subst (λ vs. AddsViews c.args.profile image seen volume.head vs c.args.out.now c.add_view.new.out) (sym (take-one views c.views.place view c.view_at-view.ensures))
+          (more-views c.args.profile image seen volume.head (take c.views.place views) (view ∷ []) c.args.out.now c.views.out c.add_view.new.out
           (c.views.invariant.added image told ready same) (c.in-Ok.ensures.clear image (c.views.invariant.kept.same_bytes ∙ told) ready same));
+      all = λ image told ready same.
+          let read = c.views.invariant.kept.same_bytes ∙ told in
+          let these : c.deref.result.now ≡ view_extents image site volume view = c.deref.ensures.value ∙ c.in-Ok.ensures.all image read in
+          let right = (c.in-Ok.ensures.clear image read ready same).right view (inl refl) in
+          let low : site.blocks < 2 ^ 64 = subst (λ (s : Site). s.blocks < 2 ^ 64) c.site-site.ensures (omega arith) in
+          let ends : AreShortOrHoles c.site-site.result.block_size c.deref.result.now =
+          subst (λ es. AreShortOrHoles c.site-site.result.block_size es) (sym these) (subst (λ (s : Site). AreShortOrHoles s.block_size (view_extents image site volume view)) (sym c.site-site.ensures) (extents-short c.args.profile image seen volume ready view right low)) in
+          extents-next image site volume views c.views.place view c.views.extents.items c.put_all_short.new.extents.items c.view_at-view.ensures (c.views.invariant.all image told ready same)
+          (c.in_ok-put_all_short-in-Ok.ensures.added ends ∙ ap (λ es. c.views.extents.items ++ es) these);
+      short = subst (λ (s : Site). AreShortExtents s.block_size c.put_all_short.new.extents.items) c.site-site.ensures
+          (c.in_ok-put_all_short-in-Ok.ensures.short (subst (λ (s : Site). AreShortExtents s.block_size c.views.extents.items) (sym c.site-site.ensures) c.views.invariant.short));
       kept = record {
         same_bytes = c.add_view.ensures.kept.same_bytes ∙ c.views.invariant.kept.same_bytes;
         same_size = c.add_view.ensures.kept.same_size ∙ c.views.invariant.kept.same_size;
         later = omega (arith, c.add_view.ensures.kept.later, c.views.invariant.kept.later);
       };
     }
+
+pub returns-clause-all : goal.returns-clause-all
+returns-clause-all g c image told ready same =
+    let seen = c.args.cp.now in
+    let volume = c.args.volume.now in
+    let views = views_of volume seen in
+    let end : length views ≤ c.views.place = omega (arith, views-length volume seen, c.views-test.false, ap (λ (v : Loaded). length v.snaps) c.volume.view_is) in
+    c.views.invariant.all image told ready same ∙ (ap (λ vs. flat_map (view_extents image (site_of seen) volume) vs) (take_all c.views.place views end) ∙ extents-same image seen volume ready)

@@ -11,10 +11,6 @@ use Rattle.apfs_check.proofs.volumes.add_volume.Goals as goal
 pub returns-in-Err-clause-present : goal.returns-in-Err-clause-present
 returns-in-Err-clause-present g c image told ready = c.in-Err.ensures.present c.args.profile image told ready
 
-pub returns-in-Err-volume_extents-clause-present : goal.returns-in-Err-volume_extents-clause-present
-returns-in-Err-volume_extents-clause-present g c image told ready =
-    c.in-Err-volume_extents.ensures.present c.args.profile image (c.add_views.ensures.kept.same_bytes ∙ (c.volume_ranges.ensures.kept.same_bytes ∙ told)) ready
-
 pub returns-in-Ok-add_data-clause-clear : goal.returns-in-Ok-add_data-clause-clear
 returns-in-Ok-add_data-clause-clear g c image told ready =
     let seen = c.args.cp.now in
@@ -23,7 +19,7 @@ returns-in-Ok-add_data-clause-clear g c image told ready =
     let ranges_are : c.deref.result.now ≡ volume_ranges image (site_of seen) volume.head = c.deref.ensures.value ∙ c.in-Ok.ensures.clear image told ready in
     let views = c.in-Ok-add_views.ensures.clear image after_ranges ready ranges_are in
     let ranges_too : c.deref-2.result.now ≡ volume_ranges image (site_of seen) volume.head = c.deref-2.ensures.value ∙ c.in-Ok.ensures.clear image told ready in
-    let extents_are : c.deref-3.result.now ≡ volume_extents image seen volume.head = c.deref-3.ensures.value ∙ c.in-Ok-volume_extents.ensures.clear c.args.profile image (c.add_views.ensures.kept.same_bytes ∙ after_ranges) ready views.right in
+    let extents_are : c.deref-3.result.now ≡ volume_extents image seen volume.head = c.deref-3.ensures.value ∙ c.in-Ok-add_views.ensures.all image after_ranges ready ranges_are in
     let held = c.add_views.new.out in
     let count : c.len.result + 1 ≡ length (views_of volume seen) = omega (arith, views-length volume seen, c.len.ensures, ap (λ (v : Loaded). length v.snaps) c.volume.view_is) in
     one-volume c.args.profile image seen volume c.args.out.now held c.count_views.new.self c.add_data.new.out ready.loaded.same views
@@ -35,7 +31,6 @@ returns-clause-present g c image told ready =
     let volume = c.args.volume.now in
     let after_ranges = c.volume_ranges.ensures.kept.same_bytes ∙ told in
     let ranges_are : c.deref.result.now ≡ volume_ranges image (site_of seen) volume.head = c.deref.ensures.value ∙ c.in-Ok.ensures.clear image told ready in
-    let views = c.in-Ok-add_views.ensures.clear image after_ranges ready ranges_are in
     let ranges_too : c.deref-2.result.now ≡ volume_ranges image (site_of seen) volume.head = c.deref-2.ensures.value ∙ c.in-Ok.ensures.clear image told ready in
-    let extents_are : c.deref-3.result.now ≡ volume_extents image seen volume.head = c.deref-3.ensures.value ∙ c.in-Ok-volume_extents.ensures.clear c.args.profile image (c.add_views.ensures.kept.same_bytes ∙ after_ranges) ready views.right in
+    let extents_are : c.deref-3.result.now ≡ volume_extents image seen volume.head = c.deref-3.ensures.value ∙ c.in-Ok-add_views.ensures.all image after_ranges ready ranges_are in
     c.in-Err-add_data.ensures.present image ready ranges_too extents_are
