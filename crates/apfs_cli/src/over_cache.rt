@@ -56,7 +56,22 @@ fn kept_size_of<S: BlockSource>(src: &mut S) -> Result<u32, ReadFailed>
     }
 }
 
-/// Runs a command on an image whose blocks are kept as they are read, and gives the image back.
+// Runs a command on an image of which no block is kept.
+fn on_source<S: BlockSource, W: Sink>(
+    alloc: Global,
+    command: Command<'_>,
+    mut src: S,
+    out: &mut W,
+) -> (Result<(), Stopped>, S)
+    ensures answer { HasEnded S.bytes S.faults (Some (said command.entry)) (Image src) (Image result.1) result.0 (sunk W.contents W.faults out.old out.new) }
+    ensures kept { IsKept S.bytes S.bytes_len S.faults src result.1 }
+{
+    let ended = on_image(alloc, command, &mut src, out);
+    (ended, src)
+}
+
+/// Runs a command on an image whose blocks are kept as they are read, and gives the image back. None is kept for `check`, which reads
+/// each block twice at most, the second time long after the first.
 pub fn on_cache<S: BlockSource, W: Sink>(
     alloc: Global,
     command: Command<'_>,
@@ -66,6 +81,9 @@ pub fn on_cache<S: BlockSource, W: Sink>(
     ensures answer { HasEnded S.bytes S.faults (Some (said command.entry)) (Image src) (Image result.1) result.0 (sunk W.contents W.faults out.old out.new) }
     ensures kept { IsKept S.bytes S.bytes_len S.faults src result.1 }
 {
+    if let Command::Check(_) = command {
+        return on_source(alloc, command, src, out);
+    }
     let size = match kept_size_of(&mut src) {
         Ok(size) => size,
         Err(_) => return (Err(Stopped::ReadFailed), src),

@@ -4,3 +4,4 @@ pub mod FellowLooks
 pub mod Rounded
 pub mod Orders
 pub mod NamesApart
+pub mod Wholes

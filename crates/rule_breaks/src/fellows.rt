@@ -163,6 +163,9 @@ fn lost_link_by<'a>(
 pub fn lost_link(alloc: Global, facts: &Facts) -> Result<Option<&LinkFact>, NoMemory>
     ensures { IfOk result (λ first. option_copied first ≡ find (spec.is_link_lost facts.now) facts.now.links) }
 {
+    if facts.links.is_empty() {
+        return Ok(None);
+    }
     let entries = tally::<_, ByFellow>(alloc, &facts.entries)?;
     let maps = tally::<_, ByMap>(alloc, &facts.siblings)?;
     Ok(lost_link_by(facts, &entries, &maps))
@@ -288,6 +291,9 @@ fn lost_map_by<'a>(
 pub fn lost_map(alloc: Global, facts: &Facts) -> Result<Option<&SiblingFact>, NoMemory>
     ensures { IfOk result (λ first. option_copied first ≡ find (spec.is_map_lost facts.now) facts.now.siblings) }
 {
+    if facts.siblings.is_empty() {
+        return Ok(None);
+    }
     let links = tally::<_, ByLink>(alloc, &facts.links)?;
     let linked = linked_by(alloc, facts, &links)?;
     let private = tally::<_, ByPrivate>(alloc, &facts.entries)?;

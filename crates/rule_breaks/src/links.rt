@@ -30,11 +30,12 @@ fn has_other_children(index: &Index<'_>, f: &InodeFact) -> bool
     is_counted_directory(f) && is_other(f.links(), index.child_count(f.id()))
 }
 
-// Whether the links of an inode are counted.
-fn is_linked_file(index: &Index<'_>, f: &InodeFact) -> bool
+// Whether the links of an inode that has so many entries are counted.
+fn is_linked_file(index: &Index<'_>, f: &InodeFact, count: u64) -> bool
+    requires { count ≡ rules.entry_count index.now.facts.now f.now.id }
     ensures { result ≡ spec.is_linked_file index.now.facts.now f.now }
 {
-    f.kind() == 8 && index.entry_count(f.id()) > 0 && !index.has_system_name(f.id())
+    f.kind() == 8 && count > 0 && !index.has_system_name(f.id())
 }
 
 // Whether a file has another number of links.
@@ -42,7 +43,8 @@ fn is_linked_file(index: &Index<'_>, f: &InodeFact) -> bool
 fn has_other_links(index: &Index<'_>, f: &InodeFact) -> bool
     ensures { result ≡ spec.has_other_links index.now.facts.now f.now }
 {
-    is_linked_file(index, f) && is_other(f.links(), index.entry_count(f.id()))
+    let count = index.entry_count(f.id());
+    is_linked_file(index, f, count) && is_other(f.links(), count)
 }
 
 /// The first directory with another number of children.

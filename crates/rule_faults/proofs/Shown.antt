@@ -43,6 +43,11 @@ first-of asked facts A B None None holds more = (holds, more)
 pub both : (asked : Asked) (facts : Facts) (A B : Type 0) (one other first : Option TreeFault) → first ≡ option_or one other → IsFirst asked facts A one → IsFirst asked facts B other → IsFirst asked facts (A × B) first
 both asked facts A B one other first is here there = subst (λ o. IsFirst asked facts (A × B) o) (sym is) (first-of asked facts A B one other here there)
 
+-- some rules hold, so it is about the one that is left
+pub rest-holds : (asked : Asked) (facts : Facts) (A B C D : Type 0) (first : Option TreeFault) → A → B → D → IsFirst asked facts C first → IsFirst asked facts (A × (B × (C × D))) first
+rest-holds asked facts A B C D (Some f) a b d there = there
+rest-holds asked facts A B C D None a b d holds = (a, (b, (holds, d)))
+
 pub entry_twice : (asked : Asked) (facts : Facts) (x : Fact Entry) (n : ℕ) (name : List ℕ) (at : NamedAt) → Some x ≡ find (is_entry_repeated facts) facts.entries → n ≡ x.id → name ≡ x.what.name → at ≡ named_at asked.view.now n name → IsShown asked facts (DupName at)
 entry_twice asked facts x n name at found called named is = subst (λ (y : NamedAt). IsShown asked facts (DupName y)) (sym (is ∙ (λ i. named_at asked.view.now (called i) (named i)))) ((refl, refl), inl (found-broken (is_entry_repeated facts) entry_place facts.entries x (sym found)))
 

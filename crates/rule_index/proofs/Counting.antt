@@ -63,7 +63,3 @@ target-test q a = if-counted (bytes_eq a.what.name target_name && holds_target a
 pub target_counts : (facts : Facts) (m : List ℕ) (q : ℕ) → CountsIds target_file facts.attributes m → nat_lt 0 (count_in m q) ≡ list_any (gives_target q) facts.attributes
 target_counts facts m q counts =
     ap (nat_lt 0) (counts q ∙ count-same (has_id target_file q) (gives_target q) (target-test q) facts.attributes) ∙ any-counted (gives_target q) facts.attributes
-
--- whether a file has an entry
-pub any_counts : (facts : Facts) (m : List ℕ) (q : ℕ) → CountsIds (λ (e : Fact Entry). Some e.what.file_id) facts.entries m → nat_lt 0 (count_in m q) ≡ list_any (λ (e : Fact Entry). e.what.file_id == q) facts.entries
-any_counts facts m q counts = ap (nat_lt 0) (counts q) ∙ any-counted (λ (e : Fact Entry). e.what.file_id == q) facts.entries

@@ -1,6 +1,6 @@
 -- The directories of each file's entries.
 use Rattle.std.proofs.Common.{◌≡◌, ℕ, ◌+◌, ◌<◌, ◌≤◌, Bool, true, false, List, [], ◌∷◌, length, get_or, Result, Ok, Err, refl, ap, sym, ◌∙◌, inl, inr, arith}
-use Rattle.std.specs.Prelude.{◌==◌, ◌&&◌, count_by, nat_lt, is_ok}
+use Rattle.std.specs.Prelude.{◌==◌, ◌&&◌, ◌||◌, not, count_by, nat_lt, is_ok}
 use Rattle.std.specs.List.{list_any}
 use Rattle.std.specs.Ordering.{is_lt}
 use Rattle.std.specs.declared.cmp.Ordering.{Ordering}
@@ -12,13 +12,15 @@ use Rattle.std.proofs.lemmas.Bool.Decides.{nat_tests}
 use Rattle.std.proofs.lemmas.Grind.{common_steps}
 use Rattle.std.proofs.lemmas.Cmp.{then_total, on_total, nat_cmp_total}
 use Rattle.std.proofs.lemmas.List.Sorted.{searchable_from_sorted, IsNonDecreasingBy-from_all_adjacent}
-use Rattle.apfs_model.proofs.BoolTests.{from-below}
+use Rattle.apfs_model.proofs.BoolTests.{from-below, below-from, never-true}
 use Rattle.fs_record.specs.Entries.{Entry}
-use Rattle.fs_record.specs.Facts.{Fact}
+use Rattle.fs_record.specs.Facts.{Fact, is_reserved, private_id}
 use Rattle.view_rules.specs.Facts.{Facts, does_count, names_file, entry_count, entry_count_in}
-use Rattle.rule_index.specs.Homes.{home_cmp, is_place, is_home, HasHomes}
-use Rattle.rule_index.proofs.InOrder.{some-count, none-count}
-use Rattle.rule_index.proofs.Counting.{any-counted, count-same}
+use Rattle.view_rules.specs.Counts.{is_system_name}
+use Rattle.rule_index.specs.Homes.{home_cmp, is_file, is_place, is_home, is_named, HasHomes}
+use Rattle.rule_index.specs.Ids.{count_in, CountsIds, system_file}
+use Rattle.id_lists.proofs.InOrder.{some-count, none-count}
+use Rattle.rule_index.proofs.Counting.{any-counted, count-same, system_counts}
 
 -- the order is total
 pub home_total : IsTotalOrder home_cmp
@@ -75,3 +77,45 @@ part-count p r (x ∷ xs) = let had = part-count p r xs in grind (arith, nat_tes
 pub home_counts : (facts : Facts) (q d : ℕ) → entry_count facts q ≡ 1 → list_any (is_home q d) facts.entries ≡ (entry_count_in facts q d == 1)
 home_counts facts q d one =
     sym (any-counted (is_home q d) facts.entries) ∙ one-or-none (entry_count_in facts q d) (entry_count facts q) (part-count (names_file q) (λ (e : Fact Entry). e.id == d) facts.entries) one
+
+any-either : {X : Type 0} (p r s : X → Bool) → ((x : X) → (p x || r x) ≡ s x) → (xs : List X) → (list_any p xs || list_any r xs) ≡ list_any s xs
+any-either p r s each [] = refl
+any-either p r s each (x ∷ xs) = shuffled (p x) (list_any p xs) (r x) (list_any r xs) ∙ (λ i. each x i || any-either p r s each xs i)
+  where
+    shuffled : (a b c d : Bool) → ((a || b) || (c || d)) ≡ ((a || c) || (b || d))
+    shuffled true b c d = refl
+    shuffled false true true d = refl
+    shuffled false true false d = refl
+    shuffled false false c d = refl
+
+counted-or-not : (r t x : Bool) → ((not r && x) || ((t || r) && x)) ≡ x
+counted-or-not true true true = refl
+counted-or-not true true false = refl
+counted-or-not true false true = refl
+counted-or-not true false false = refl
+counted-or-not false true true = refl
+counted-or-not false true false = refl
+counted-or-not false false true = refl
+counted-or-not false false false = refl
+
+-- an entry of a file counts, or stands in the private directory or one of a reserved id
+named_anywhere : (facts : Facts) (pairs : List (ℕ × ℕ)) (system : List ℕ) (q : ℕ) → HasHomes facts.entries pairs → CountsIds system_file facts.entries system
+    → (nat_lt 0 (count_by (is_file q) pairs) || nat_lt 0 (count_in system q)) ≡ list_any (is_named q) facts.entries
+named_anywhere facts pairs system q homes counts =
+    let counted : nat_lt 0 (count_by (is_file q) pairs) ≡ list_any (names_file q) facts.entries = ap (nat_lt 0) (homes (is_file q)) ∙ any-counted (names_file q) facts.entries in
+    (λ i. counted i || system_counts facts system q counts i)
+    ∙ any-either (names_file q) (is_system_name q) (is_named q) (λ e. counted-or-not (is_reserved e.id) (e.id == private_id) (e.what.file_id == q)) facts.entries
+
+-- by how many entries it has among those that count
+pub named_counted : (facts : Facts) (pairs : List (ℕ × ℕ)) (system : List ℕ) (q n : ℕ) → HasHomes facts.entries pairs → CountsIds system_file facts.entries system
+    → n ≡ count_by (is_file q) pairs → 0 < n → nat_lt 0 n ≡ list_any (is_named q) facts.entries
+named_counted facts pairs system q n homes counts is above =
+    let some : nat_lt 0 n ≡ true = from-below 0 n above in
+    some ∙ (sym (ap (λ b. b || nat_lt 0 (count_in system q)) (ap (nat_lt 0) (sym is) ∙ some)) ∙ named_anywhere facts pairs system q homes counts)
+
+-- and by whether it has others
+pub named_else : (facts : Facts) (pairs : List (ℕ × ℕ)) (system : List ℕ) (q n : ℕ) (r : Bool) → HasHomes facts.entries pairs → CountsIds system_file facts.entries system
+    → n ≡ count_by (is_file q) pairs → n ≤ 0 → r ≡ nat_lt 0 (count_in system q) → r ≡ list_any (is_named q) facts.entries
+named_else facts pairs system q n r homes counts is low has =
+    let none : nat_lt 0 n ≡ false = never-true (nat_lt 0 n) (λ h. let above = below-from 0 n h in omega arith) in
+    has ∙ (sym (ap (λ b. b || nat_lt 0 (count_in system q)) (ap (nat_lt 0) (sym is) ∙ none)) ∙ named_anywhere facts pairs system q homes counts)

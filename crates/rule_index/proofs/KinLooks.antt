@@ -10,7 +10,7 @@ use Rattle.fs_record.specs.Facts.{Fact}
 use Rattle.view_rules.specs.Facts.{Facts, inode_at, has_inode, has_directory, is_directory}
 use Rattle.rule_index.specs.Kins.{kin_of, with_id, kin_in, HasKins}
 use Rattle.rule_index.specs.declared.kin.Kin.{Kin}
-use Rattle.rule_index.proofs.InOrder.{stable-first}
+use Rattle.id_lists.proofs.InOrder.{stable-first}
 
 found-with : (q : ℕ) (inodes : List (Fact Inode)) → find (λ (k : ℕ × Kin). k.0 == q) (map with_id inodes) ≡ option_map with_id (find (λ (f : Fact Inode). f.id == q) inodes)
 found-with q [] = refl
@@ -19,16 +19,20 @@ found-with q (f ∷ fs) =
     λ b. elim b as (λ b. cond b (Some (with_id f)) (find (λ (k : ℕ × Kin). k.0 == q) (map with_id fs)) ≡ option_map with_id (cond b (Some f) (find (λ (f : Fact Inode). f.id == q) fs))) [ true ↦ refl | false ↦ found-with q fs ] in
     go (f.id == q)
 
--- a list of all inodes after their ids, sorted with those of an id in their order
-pub kins-sorted : (inodes : List (Fact Inode)) (given sorted : List (ℕ × Kin)) → given ≡ map with_id inodes → IsStableByKey (λ (k : ℕ × Kin). k.0) nat_cmp given sorted → HasKins inodes sorted
-kins-sorted inodes given sorted all stable q =
+-- a list of all inodes after their ids
+pub kins-given : (inodes : List (Fact Inode)) (given : List (ℕ × Kin)) → given ≡ map with_id inodes → HasKins inodes given
+kins-given inodes given all q =
     let p : ℕ × Kin → Bool = λ (k : ℕ × Kin). k.0 == q in
-    ap (option_map (λ (k : ℕ × Kin). k.1)) (stable-first (λ (k : ℕ × Kin). k.0) given sorted q (q, record { kind = 0; parent = 0 }) refl stable ∙ (ap (find p) all ∙ found-with q inodes))
-    ∙ said (find (λ (f : Fact Inode). f.id == q) inodes)
+    ap (option_map (λ (k : ℕ × Kin). k.1)) (ap (find p) all ∙ found-with q inodes) ∙ said (find (λ (f : Fact Inode). f.id == q) inodes)
   where
     said : (o : Option (Fact Inode)) → option_map (λ (k : ℕ × Kin). k.1) (option_map with_id o) ≡ option_map kin_of (option_map (λ (f : Fact Inode). f.what) o)
     said None = refl
     said (Some f) = refl
+
+-- sorted with those of an id in their order
+pub kins-sorted : (inodes : List (Fact Inode)) (given sorted : List (ℕ × Kin)) → given ≡ map with_id inodes → IsStableByKey (λ (k : ℕ × Kin). k.0) nat_cmp given sorted → HasKins inodes sorted
+kins-sorted inodes given sorted all stable q =
+    ap (option_map (λ (k : ℕ × Kin). k.1)) (stable-first (λ (k : ℕ × Kin). k.0) given sorted q (q, record { kind = 0; parent = 0 }) refl stable) ∙ kins-given inodes given all q
 
 -- whether there is one
 pub some_kin : (facts : Facts) (m : List (ℕ × Kin)) (q : ℕ) → HasKins facts.inodes m → is_some (kin_in m q) ≡ has_inode facts q
@@ -65,3 +69,8 @@ part_kin {Y} facts m q of_kin has = ap (option_map of_kin) (has q) ∙ still (in
 pub kind_passes : (o : Option Inode) (kind : ℕ) → passes (option_map inode_kind o) (λ k. not (k == kind)) ≡ passes o (λ (x : Inode). not (inode_kind x == kind))
 kind_passes None kind = refl
 kind_passes (Some x) kind = refl
+
+-- whether there is a kind, and it is this one
+pub kind_is : (o : Option Inode) (kind : ℕ) → passes (option_map inode_kind o) (λ k. k == kind) ≡ passes o (λ (x : Inode). inode_kind x == kind)
+kind_is None kind = refl
+kind_is (Some x) kind = refl

@@ -1,4 +1,3 @@
-pub mod InOrder
 pub mod Counting
 pub mod KinLooks
 pub mod HomeLooks

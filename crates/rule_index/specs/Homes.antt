@@ -18,6 +18,10 @@ is_file file p = p.0 == file
 abbrev pub is_place : ℕ → ℕ → ℕ × ℕ → Bool
 is_place file directory p = (p.0 == file) && (p.1 == directory)
 
+-- an entry names a file
+abbrev pub is_named : ℕ → Fact Entry → Bool
+is_named file e = e.what.file_id == file
+
 -- an entry of a file, among those that count, stands in a directory
 abbrev pub is_home : ℕ → ℕ → Fact Entry → Bool
 is_home file directory e = names_file file e && (e.id == directory)

@@ -3,7 +3,19 @@ ghost use Rattle.std.specs.Prelude.{◌≡◌, ◌≤◌, ◌<◌, ℕ, true, fa
 ghost use Rattle.std.specs.List.Sorted.{IsNonDecreasing, IsPartitionPoint};
 ghost use Rattle.rule_index.specs.Ids.{count_in};
 
+use id_lists::{NO_GUESS, OrderBy};
 use std::marker::Model;
+
+/// By the number itself.
+struct ByItself;
+
+impl OrderBy<u64> for ByItself {
+    ghost id = { λ n. n };
+
+    fn id(number: &u64) -> u64 {
+        *number
+    }
+}
 
 /// Numbers in order, so that a search tells whether one is among them, and two tell how often.
 #[derive(Drop)]
@@ -22,40 +34,13 @@ impl Model for Counts {
     ghost invariant = { λ counts. IsNonDecreasing counts.ids.items };
 }
 
-// How many of some numbers are below one.
-fn below(ids: &[u64], id: u64) -> usize
-    requires { IsNonDecreasing ids.now }
-    ensures bound { result ≤ length ids.now }
-    ensures split { IsPartitionPoint (λ n. nat_lt n id ≡ true) (λ n. nat_lt n id ≡ false) ids.now result }
-{
-    ids.partition_point(
-        |n: &u64| -> bool
-            ensures { result ≡ nat_lt n.now id }
-        { *n < id },
-    )
-}
-
-// How many of some numbers aren't above one.
-fn up_to(ids: &[u64], id: u64) -> usize
-    requires { IsNonDecreasing ids.now }
-    ensures bound { result ≤ length ids.now }
-    ensures split { IsPartitionPoint (λ n. nat_le n id ≡ true) (λ n. nat_le n id ≡ false) ids.now result }
-{
-    ids.partition_point(
-        |n: &u64| -> bool
-            ensures { result ≡ nat_le n.now id }
-        { *n <= id },
-    )
-}
-
 // How often a number stands among some.
+#[tactic(auto, unfolding(crate::specs::Ids::count_in))]
 fn count_among(ids: &[u64], id: u64) -> usize
     requires { IsNonDecreasing ids.now }
     ensures { result ≡ count_in ids.now id }
 {
-    let from = below(ids, id);
-    let to = up_to(ids, id);
-    to - from
+    id_lists::count::<_, ByItself>(ids, id, NO_GUESS)
 }
 
 // Whether a number stands among some.

@@ -8,14 +8,27 @@ ghost use Rattle.rule_index.specs.Homes.{home_cmp, is_file, is_place, HasHomes};
 
 use crate::ids::does_count;
 use blk_source::NoMemory;
+use id_lists::{Guesses, OrderBy, count};
 use std::alloc::Global;
 use std::marker::Model;
 use view_facts::EntryFact;
+
+/// By the file.
+struct ByFile;
+
+impl OrderBy<(u64, u64)> for ByFile {
+    ghost id = { λ (p : ℕ × ℕ). p.0 };
+
+    fn id(pair: &(u64, u64)) -> u64 {
+        pair.0
+    }
+}
 
 /// The file and the directory of each entry that counts, in order, so that searches find those of a file.
 #[derive(Drop)]
 pub(crate) struct Homes {
     pairs: Vec<(u64, u64)>,
+    guesses: Guesses,
 }
 
 impl Model for Homes {
@@ -55,40 +68,12 @@ fn listed(alloc: Global, entries: &[EntryFact]) -> Result<Vec<(u64, u64)>, NoMem
     Ok(pairs)
 }
 
-// How many of some pairs are of files below one.
-fn below(pairs: &[(u64, u64)], file: u64) -> usize
-    requires { IsSortedBy (λ a b. is_lt (home_cmp a b)) pairs.now }
-    ensures bound { result ≤ length pairs.now }
-    ensures split { IsPartitionPoint (λ (p : ℕ × ℕ). nat_lt p.0 file ≡ true) (λ (p : ℕ × ℕ). nat_lt p.0 file ≡ false) pairs.now result }
-{
-    pairs.partition_point(
-        |p: &(u64, u64)| -> bool
-            ensures { result ≡ nat_lt p.now.0 file }
-        { p.0 < file },
-    )
-}
-
-// How many of some pairs aren't of files above one.
-fn up_to(pairs: &[(u64, u64)], file: u64) -> usize
-    requires { IsSortedBy (λ a b. is_lt (home_cmp a b)) pairs.now }
-    ensures bound { result ≤ length pairs.now }
-    ensures split { IsPartitionPoint (λ (p : ℕ × ℕ). nat_le p.0 file ≡ true) (λ (p : ℕ × ℕ). nat_le p.0 file ≡ false) pairs.now result }
-{
-    pairs.partition_point(
-        |p: &(u64, u64)| -> bool
-            ensures { result ≡ nat_le p.now.0 file }
-        { p.0 <= file },
-    )
-}
-
 // How many of some pairs are of a file.
-fn count_of(pairs: &[(u64, u64)], file: u64) -> usize
+fn count_of(pairs: &[(u64, u64)], file: u64, guess: usize) -> usize
     requires { IsSortedBy (λ a b. is_lt (home_cmp a b)) pairs.now }
     ensures { result ≡ count_by (is_file file) pairs.now }
 {
-    let from = below(pairs, file);
-    let to = up_to(pairs, file);
-    to - from
+    count::<_, ByFile>(pairs, file, guess)
 }
 
 // Whether one of some pairs is of a file and a directory.
@@ -106,14 +91,15 @@ impl Homes {
     {
         let mut pairs = listed(alloc, entries)?;
         pairs.sort_unstable();
-        Ok(Homes { pairs })
+        let guesses = Guesses::of::<_, ByFile>(alloc, &pairs)?;
+        Ok(Homes { pairs, guesses })
     }
 
     /// How many entries a file has.
     pub(crate) fn count(&self, file: u64) -> u64
         ensures { result ≡ count_by (is_file file) self.now }
     {
-        count_of(&self.pairs, file) as u64
+        count_of(&self.pairs, file, self.guesses.near(file)) as u64
     }
 
     /// Whether an entry of a file stands in a directory.

@@ -100,19 +100,6 @@ impl IdOf<EntryFact> for BySystemFile {
     }
 }
 
-/// All entries, by file.
-pub struct ByAnyFile;
-
-impl IdOf<EntryFact> for ByAnyFile {
-    ghost use Rattle.std.specs.Prelude.{Some};
-
-    ghost id = { λ e. Some e.what.file_id };
-
-    fn id(e: &EntryFact) -> Option<u64> {
-        Some(e.file_id())
-    }
-}
-
 /// Attributes that are the targets of symbolic links, by file.
 pub(crate) struct ByTarget;
 

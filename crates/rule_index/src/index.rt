@@ -30,7 +30,7 @@ pub struct Index<'a> {
 
 impl<'a> Index<'a> {
     ghost use Rattle.view_rules.specs.Facts as spec;
-    ghost use Rattle.rule_index.specs.Homes.{is_home};
+    ghost use Rattle.rule_index.specs.Homes.{is_home, is_named};
     ghost use Rattle.view_rules.specs.Directories.{parent_at};
     ghost use Rattle.fs_record.specs.Inodes.{inode_kind};
     ghost use Rattle.std.specs.Prelude.{option_map};
@@ -99,6 +99,13 @@ impl<'a> Index<'a> {
         ensures { result ≡ spec.entry_count self.now.facts.now id }
     {
         self.homes.count(id)
+    }
+
+    /// Whether an entry names a file, be it one that counts or not.
+    pub fn is_named(&self, id: u64) -> bool
+        ensures { result ≡ list_any (is_named id) self.now.facts.now.entries }
+    {
+        self.homes.count(id) > 0 || self.system.has(id)
     }
 
     /// How many entries a directory has.

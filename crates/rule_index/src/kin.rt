@@ -1,10 +1,11 @@
 // The kind and the parent of each inode.
-ghost use Rattle.std.specs.Prelude.{◌≡◌, ◌≤◌, ℕ, true, false, length, nat_lt, map, IfOk};
-ghost use Rattle.std.specs.List.Sorted.{IsNonDecreasingBy, IsPartitionPoint};
+ghost use Rattle.std.specs.Prelude.{◌≡◌, ℕ, map, IfOk};
+ghost use Rattle.std.specs.List.Sorted.{IsNonDecreasingBy};
 ghost use Rattle.rule_index.specs.declared.kin.Kin as declared;
 ghost use Rattle.rule_index.specs.Kins.{with_id, kin_in, HasKins};
 
 use blk_source::NoMemory;
+use id_lists::{Guesses, OrderBy, are_in_order, place};
 use std::alloc::{AllocError, Global};
 use std::marker::Model;
 use view_facts::InodeFact;
@@ -16,10 +17,24 @@ pub(crate) struct Kin {
     pub(crate) parent: u64,
 }
 
+/// By the id of the inode.
+struct ByInode;
+
+impl OrderBy<(u64, Kin)> for ByInode {
+    ghost use Rattle.rule_index.specs.declared.kin.Kin.{Kin};
+
+    ghost id = { λ (k : ℕ × Kin). k.0 };
+
+    fn id(kin: &(u64, Kin)) -> u64 {
+        kin.0
+    }
+}
+
 /// Those of all inodes after their ids, in the order of these, so that a search finds those of an id.
 #[derive(Drop)]
 pub(crate) struct Kins {
     list: Vec<(u64, Kin)>,
+    guesses: Guesses,
 }
 
 impl Model for Kins {
@@ -52,43 +67,28 @@ fn listed(alloc: Global, inodes: &[InodeFact]) -> Result<Vec<(u64, Kin)>, AllocE
     inodes.iter().map(|f| with_id(f)).collect(alloc)
 }
 
-// Those of all inodes, in the order of their ids.
+// Those of all inodes, in the order of their ids, which is that of their records in a tree.
 fn sorted(alloc: Global, inodes: &[InodeFact]) -> Result<Vec<(u64, Kin)>, AllocError>
     ensures same { IfOk result (λ list. HasKins inodes.now list.items) }
     ensures ascending { IfOk result (λ list. IsNonDecreasingBy (λ (k : ℕ × declared.Kin). k.0) list.items) }
 {
     let mut list = listed(alloc, inodes)?;
+    if are_in_order::<_, ByInode>(&list) {
+        return Ok(list);
+    }
     list.sort_by_key(|k| k.0)?;
     Ok(list)
 }
 
-// How many are of ids below one.
-fn below(list: &[(u64, Kin)], id: u64) -> usize
-    requires { IsNonDecreasingBy (λ (k : ℕ × declared.Kin). k.0) list.now }
-    ensures bound { result ≤ length list.now }
-    ensures split { IsPartitionPoint (λ (k : ℕ × declared.Kin). nat_lt k.0 id ≡ true) (λ (k : ℕ × declared.Kin). nat_lt k.0 id ≡ false) list.now result }
-{
-    list.partition_point(
-        |k: &(u64, Kin)| -> bool
-            ensures { result ≡ nat_lt k.now.0 id }
-        { k.0 < id },
-    )
-}
-
 // Those of an id, the first where there are more.
-fn first_of(list: &[(u64, Kin)], id: u64) -> Option<Kin>
+fn first_of(list: &[(u64, Kin)], id: u64, guess: usize) -> Option<Kin>
     requires { IsNonDecreasingBy (λ (k : ℕ × declared.Kin). k.0) list.now }
     ensures { result ≡ kin_in list.now id }
 {
-    let from = below(list, id);
-    if from == list.len() {
+    let Some(at) = place::<_, ByInode>(list, id, guess) else {
         return None;
-    }
-    let first = list[from];
-    if first.0 != id {
-        return None;
-    }
-    Some(first.1)
+    };
+    Some(list[at].1)
 }
 
 impl Kins {
@@ -97,7 +97,10 @@ impl Kins {
         ensures { IfOk result (HasKins inodes.now) }
     {
         match sorted(alloc, inodes) {
-            Ok(list) => Ok(Kins { list }),
+            Ok(list) => {
+                let guesses = Guesses::of::<_, ByInode>(alloc, &list)?;
+                Ok(Kins { list, guesses })
+            }
             Err(_) => Err(NoMemory),
         }
     }
@@ -106,6 +109,6 @@ impl Kins {
     pub(crate) fn get(&self, id: u64) -> Option<Kin>
         ensures { result ≡ kin_in self.now id }
     {
-        first_of(&self.list, id)
+        first_of(&self.list, id, self.guesses.near(id))
     }
 }

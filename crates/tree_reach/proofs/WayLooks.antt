@@ -15,7 +15,7 @@ use Rattle.fs_record.specs.Inodes.{Inode}
 use Rattle.fs_record.specs.Facts.{Fact}
 use Rattle.view_rules.specs.Facts.{Facts}
 use Rattle.view_rules.specs.Directories.{parent_at}
-use Rattle.rule_index.proofs.InOrder.{stable-first, get-at, get-past}
+use Rattle.id_lists.proofs.InOrder.{stable-first, place-is, found-there, found-nowhere}
 use Rattle.tree_reach.specs.declared.ways.Way.{Way}
 use Rattle.tree_reach.specs.Ways.{way_of, is_of, way_at, met_at, left_of, left_at, left_count, HasWaysOf}
 
@@ -26,25 +26,16 @@ found-way id (f ∷ fs) =
     λ b. elim b as (λ b. cond b (Some (way_of f)) (find (is_of id) (map way_of fs)) ≡ option_map way_of (cond b (Some f) (find (λ (f : Fact Inode). f.id == id) fs))) [ true ↦ refl | false ↦ found-way id fs ] in
     go (f.id == id)
 
-placed : (b : Bool) (k i : ℕ) → cond b (Some k) None ≡ Some i → k ≡ i
-placed true k i e = cc
-placed false k i e = absurd (let r : ⊥ = cc in r)
+-- the ways of all inodes
+pub ways-given : (inodes : List (Fact Inode)) (given : List Way) → given ≡ map way_of inodes → HasWaysOf inodes given
+unfolding way_at
+ways-given inodes given all id = ap (find (is_of id)) all ∙ found-way id inodes
 
-unplaced : {X : Type 0} (p : X → Bool) (xs : List X) → position p xs ≡ None → position_or_len p xs ≡ length xs
-unplaced p xs e =
-    let most = prefix_len-le-length (λ x. not (p x)) xs in
-    let go : (b : Bool) → nat_lt (position_or_len p xs) (length xs) ≡ b → cond b (Some (position_or_len p xs)) None ≡ None → position_or_len p xs ≡ length xs =
-    λ b. elim b as (λ b. nat_lt (position_or_len p xs) (length xs) ≡ b → cond b (Some (position_or_len p xs)) None ≡ None → position_or_len p xs ≡ length xs) [
-      | true ↦ λ f g. absurd (let r : ⊥ = cc in r)
-      | false ↦ λ f g. let le = ltb-false (position_or_len p xs) (length xs) f in omega arith
-    ] in
-    go (nat_lt (position_or_len p xs) (length xs)) refl e
-
--- the ways of all inodes, sorted with those of an id in their order
+-- sorted with those of an id in their order
 pub ways-sorted : (inodes : List (Fact Inode)) (given sorted : List Way) → given ≡ map way_of inodes → IsStableByKey (λ (w : Way). w.id) nat_cmp given sorted → HasWaysOf inodes sorted
 unfolding way_at
 ways-sorted inodes given sorted all stable id =
-    stable-first (λ (w : Way). w.id) given sorted id (record { id = id; parent = 0; climb = None }) refl stable ∙ (ap (find (is_of id)) all ∙ found-way id inodes)
+    stable-first (λ (w : Way). w.id) given sorted id (record { id = id; parent = 0; climb = None }) refl stable ∙ ways-given inodes given all id
 
 -- before the first climb each parent is left
 pub all-left : (facts : Facts) (ways : List Way) → HasWaysOf facts.inodes ways → (id : ℕ) → left_at ways id ≡ parent_at facts id
@@ -67,16 +58,12 @@ none-met inodes ways has id = ap (λ (o : Option Way). option_and_then (λ (w : 
 -- the way of an id stands at its place
 pub way-here : (ways : List Way) (id i : ℕ) (d : Way) → Some i ≡ position (is_of id) ways → way_at ways id ≡ Some (get_or ways i d)
 unfolding way_at
-way-here ways id i d e =
-    let t = position-Some (is_of id) ways i d (sym e) in
-    find_at (is_of id) ways ∙ (ap (slice_get ways) (placed (nat_lt (position_or_len (is_of id) ways) (length ways)) (position_or_len (is_of id) ways) i (sym e)) ∙ get-at ways i d t.0)
+way-here ways id i d e = found-there (is_of id) ways i d e
 
 -- there is none without a place
 pub no-way : (ways : List Way) (id : ℕ) → None ≡ position (is_of id) ways → way_at ways id ≡ None
 unfolding way_at
-no-way ways id e =
-    let past : position_or_len (is_of id) ways ≡ length ways = unplaced (is_of id) ways (sym e) in
-    find_at (is_of id) ways ∙ (ap (slice_get ways) past ∙ get-past ways)
+no-way ways id e = found-nowhere (is_of id) ways e
 
 pub none-left : (ways : List Way) (id : ℕ) → None ≡ position (is_of id) ways → None ≡ left_at ways id
 unfolding left_at
@@ -124,7 +111,7 @@ way-set ways id i climb d e q =
     let t = position-Some (is_of id) ways i d (sym e) in
     let w = get_or ways i d in
     let same : w.id ≡ id = equal-from w.id id t.1 in
-    let at : i ≡ position_or_len (is_of id) ways = sym (placed (nat_lt (position_or_len (is_of id) ways) (length ways)) (position_or_len (is_of id) ways) i (sym e)) in
+    let at : i ≡ position_or_len (is_of id) ways = place-is (is_of id) ways i e in
     let go : (b : Bool) → (id == q) ≡ b → find (is_of q) (set ways i (met_now w climb)) ≡ cond b (Some (met_now w climb)) (find (is_of q) ways) =
     λ b. elim b as (λ b. (id == q) ≡ b → find (is_of q) (set ways i (met_now w climb)) ≡ cond b (Some (met_now w climb)) (find (is_of q) ways)) [
       | true ↦ λ f. ap (λ (n : ℕ). find (is_of n) (set ways i (met_now w climb))) (sym (equal-from id q f)) ∙ find-set (is_of id) ways i (met_now w climb) at t.0 t.1

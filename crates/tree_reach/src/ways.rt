@@ -1,12 +1,12 @@
 // The parent of each inode, and the climb that met it.
-ghost use Rattle.std.specs.Prelude.{◌≡◌, ◌≤◌, ◌+◌, ◌==◌, ◌&&◌, ℕ, None, Some, true, false, length, nat_lt, nat_le, map, is_some, if◌then◌else◌, IfOk};
-ghost use Rattle.std.specs.List.{position};
-ghost use Rattle.std.specs.List.Sorted.{IsNonDecreasingBy, IsPartitionPoint};
+ghost use Rattle.std.specs.Prelude.{◌≡◌, ◌+◌, ◌==◌, ◌&&◌, ℕ, None, Some, nat_le, map, is_some, if◌then◌else◌, IfOk};
+ghost use Rattle.std.specs.List.Sorted.{IsNonDecreasingBy};
 ghost use Rattle.fs_record.specs.Facts.{first_user_id};
 ghost use Rattle.tree_reach.specs.declared.ways.Way as declared;
 ghost use Rattle.tree_reach.specs.Ways as spec;
 
 use blk_source::NoMemory;
+use id_lists::{Guesses, OrderBy, are_in_order, place};
 use std::alloc::{AllocError, Global};
 use std::marker::Model;
 use view_facts::InodeFact;
@@ -19,10 +19,24 @@ pub(crate) struct Way {
     climb: Option<usize>,
 }
 
+/// By the id of the inode.
+struct ById;
+
+impl OrderBy<Way> for ById {
+    ghost use Rattle.tree_reach.specs.declared.ways.Way.{Way};
+
+    ghost id = { λ (w : Way). w.id };
+
+    fn id(way: &Way) -> u64 {
+        way.id
+    }
+}
+
 /// The ways of all inodes in the order of their ids, so that a search finds that of an id.
 #[derive(Drop)]
 pub(crate) struct Ways {
     list: Vec<Way>,
+    guesses: Guesses,
 }
 
 impl Model for Ways {
@@ -55,46 +69,21 @@ fn listed(alloc: Global, inodes: &[InodeFact]) -> Result<Vec<Way>, AllocError>
     inodes.iter().map(|f| way_of(f)).collect(alloc)
 }
 
-// Those of all inodes, in the order of their ids.
+// Those of all inodes, in the order of their ids, which is that of their records in a tree.
 fn sorted(alloc: Global, inodes: &[InodeFact]) -> Result<Vec<Way>, AllocError>
     ensures same { IfOk result (λ list. spec.HasWaysOf inodes.now list.items) }
     ensures ascending { IfOk result (λ list. IsNonDecreasingBy (λ (w : declared.Way). w.id) list.items) }
 {
     let mut list = listed(alloc, inodes)?;
+    if are_in_order::<_, ById>(&list) {
+        return Ok(list);
+    }
     list.sort_by_key(|w| w.id)?;
     Ok(list)
 }
 
-// How many ways are of ids below one.
-fn below(list: &[Way], id: u64) -> usize
-    requires { IsNonDecreasingBy (λ (w : declared.Way). w.id) list.now }
-    ensures bound { result ≤ length list.now }
-    ensures split { IsPartitionPoint (λ (w : declared.Way). nat_lt w.id id ≡ true) (λ (w : declared.Way). nat_lt w.id id ≡ false) list.now result }
-{
-    list.partition_point(
-        |w: &Way| -> bool
-            ensures { result ≡ nat_lt w.now.id id }
-        { w.id < id },
-    )
-}
-
-// The place of the way of an id, of the first where there are more.
-fn place(list: &[Way], id: u64) -> Option<usize>
-    requires { IsNonDecreasingBy (λ (w : declared.Way). w.id) list.now }
-    ensures { result ≡ position (spec.is_of id) list.now }
-{
-    let from = below(list, id);
-    if from == list.len() {
-        return None;
-    }
-    if list[from].id != id {
-        return None;
-    }
-    Some(from)
-}
-
 // The parent of an id that no climb met. Now this one has.
-fn take(list: &mut [Way], id: u64, climb: usize) -> Option<u64>
+fn take(list: &mut [Way], id: u64, guess: usize, climb: usize) -> Option<u64>
     requires { IsNonDecreasingBy (λ (w : declared.Way). w.id) list.old }
     ensures ascending { IsNonDecreasingBy (λ (w : declared.Way). w.id) list.new }
     ensures value { result ≡ spec.left_at list.old id }
@@ -102,7 +91,7 @@ fn take(list: &mut [Way], id: u64, climb: usize) -> Option<u64>
     ensures met { (q : ℕ) → spec.met_at list.new q ≡ (if is_some result && id == q then Some climb else spec.met_at list.old q) }
     ensures fuel { spec.left_count list.new + (if is_some result then 1 else 0) ≡ spec.left_count list.old }
 {
-    let Some(at) = place(list, id) else {
+    let Some(at) = place::<_, ById>(list, id, guess) else {
         return None;
     };
     let way = list[at];
@@ -118,11 +107,11 @@ fn take(list: &mut [Way], id: u64, climb: usize) -> Option<u64>
 }
 
 // The climb that met an id.
-fn climb_of(list: &[Way], id: u64) -> Option<usize>
+fn climb_of(list: &[Way], id: u64, guess: usize) -> Option<usize>
     requires { IsNonDecreasingBy (λ (w : declared.Way). w.id) list.now }
     ensures { result ≡ spec.met_at list.now id }
 {
-    let Some(at) = place(list, id) else {
+    let Some(at) = place::<_, ById>(list, id, guess) else {
         return None;
     };
     list[at].climb
@@ -134,7 +123,10 @@ impl Ways {
         ensures { IfOk result (spec.HasWaysOf inodes.now) }
     {
         match sorted(alloc, inodes) {
-            Ok(list) => Ok(Ways { list }),
+            Ok(list) => {
+                let guesses = Guesses::of::<_, ById>(alloc, &list)?;
+                Ok(Ways { list, guesses })
+            }
             Err(_) => Err(NoMemory),
         }
     }
@@ -149,13 +141,14 @@ impl Ways {
         if id < 16 {
             return None;
         }
-        take(&mut self.list, id, climb)
+        let guess = self.guesses.near(id);
+        take(&mut self.list, id, guess, climb)
     }
 
     /// The climb that met an id.
     pub(crate) fn climb_of(&self, id: u64) -> Option<usize>
         ensures { result ≡ spec.met_at self.now id }
     {
-        climb_of(&self.list, id)
+        climb_of(&self.list, id, self.guesses.near(id))
     }
 }

@@ -1,5 +1,5 @@
 -- The first fault of all groups of rules.
-use Rattle.std.proofs.Common.{◌≡◌, true, false, Option, Some, None, subst}
+use Rattle.std.proofs.Common.{◌≡◌, true, false, Option, Some, None}
 use Rattle.std.specs.Option.{option_or}
 use Rattle.fs_record.specs.declared.fault.TreeFault.{TreeFault}
 use Rattle.view_rules.specs.Facts.{Facts}
@@ -105,28 +105,23 @@ fact-rules asked facts rules =
       name_hashes = h;
     }
 
--- what is found of facts that are these is found of these
-seen-by : (asked : Asked) (rules : Facts → Type 0) (seen facts : Facts) (first : Option TreeFault) → seen ≡ facts → IsFirst asked seen (rules seen) first → IsFirst asked facts (rules facts) first
-seen-by asked rules seen facts first same told = subst (λ (f : Facts). IsFirst asked f (rules f) first) same told
-
 -- what follows from the rules holds, or the fault that is given is there
 first-so : (asked : Asked) (facts : Facts) (A B : Type 0) (first : Option TreeFault) → (A → B) → IsFirst asked facts A first → IsFirst asked facts B first
 first-so asked facts A B None so holds = so holds
 first-so asked facts A B (Some f) so there = there
 
--- the first fault of all groups, of which some look at the facts through an index
-pub first_of_all : (asked : Asked) (facts seen : Facts) (n e d w c s x i h to_i to_x to_s to_c to_w to_d to_e to_n : Option TreeFault) → seen ≡ facts
-    → to_i ≡ option_or i h → to_x ≡ option_or x to_i → to_s ≡ option_or s to_x → to_c ≡ option_or c to_s → to_w ≡ option_or w to_c → to_d ≡ option_or d to_w → to_e ≡ option_or e to_d → to_n ≡ option_or n to_e
-    → IsFirst asked facts (names_hold facts) n → IsFirst asked seen (entries_hold seen) e → IsFirst asked seen (directories_hold seen) d → IsFirst asked facts (HasWays facts) w → IsFirst asked seen (counts_hold seen) c
-    → IsFirst asked seen (siblings_hold seen) s → IsFirst asked facts (extents_hold asked facts) x → IsFirst asked seen (inodes_hold seen) i → IsFirst asked facts (hashes_hold asked facts) h
+-- the first fault of all groups
+pub first_of_all : (asked : Asked) (facts : Facts) (n e d w c s x i h to_i to_x to_s to_c to_w to_d to_e to_n : Option TreeFault) → to_i ≡ option_or i h → to_x ≡ option_or x to_i → to_s ≡ option_or s to_x → to_c ≡ option_or c to_s → to_w ≡ option_or w to_c → to_d ≡ option_or d to_w → to_e ≡ option_or e to_d → to_n ≡ option_or n to_e
+    → IsFirst asked facts (names_hold facts) n → IsFirst asked facts (entries_hold facts) e → IsFirst asked facts (directories_hold facts) d → IsFirst asked facts (HasWays facts) w → IsFirst asked facts (counts_hold facts) c
+    → IsFirst asked facts (siblings_hold facts) s → IsFirst asked facts (extents_hold asked facts) x → IsFirst asked facts (inodes_hold facts) i → IsFirst asked facts (hashes_hold asked facts) h
     → IsFirst asked facts (HasFactRules asked.profile asked.site.now asked.ranges.now facts) to_n
-first_of_all asked facts seen n e d w c s x i h to_i to_x to_s to_c to_w to_d to_e to_n same is_i is_x is_s is_c is_w is_d is_e is_n pn pe pd pw pc ps px pi ph =
-    let fi : IsFirst asked facts (from_inodes asked facts) to_i = both asked facts (inodes_hold facts) (hashes_hold asked facts) i h to_i is_i (seen-by asked inodes_hold seen facts i same pi) ph in
+first_of_all asked facts n e d w c s x i h to_i to_x to_s to_c to_w to_d to_e to_n is_i is_x is_s is_c is_w is_d is_e is_n pn pe pd pw pc ps px pi ph =
+    let fi : IsFirst asked facts (from_inodes asked facts) to_i = both asked facts (inodes_hold facts) (hashes_hold asked facts) i h to_i is_i pi ph in
     let fx : IsFirst asked facts (from_extents asked facts) to_x = both asked facts (extents_hold asked facts) (from_inodes asked facts) x to_i to_x is_x px fi in
-    let fs : IsFirst asked facts (from_siblings asked facts) to_s = both asked facts (siblings_hold facts) (from_extents asked facts) s to_x to_s is_s (seen-by asked siblings_hold seen facts s same ps) fx in
-    let fc : IsFirst asked facts (from_counts asked facts) to_c = both asked facts (counts_hold facts) (from_siblings asked facts) c to_s to_c is_c (seen-by asked counts_hold seen facts c same pc) fs in
+    let fs : IsFirst asked facts (from_siblings asked facts) to_s = both asked facts (siblings_hold facts) (from_extents asked facts) s to_x to_s is_s ps fx in
+    let fc : IsFirst asked facts (from_counts asked facts) to_c = both asked facts (counts_hold facts) (from_siblings asked facts) c to_s to_c is_c pc fs in
     let fw : IsFirst asked facts (from_ways asked facts) to_w = both asked facts (HasWays facts) (from_counts asked facts) w to_c to_w is_w pw fc in
-    let fd : IsFirst asked facts (from_directories asked facts) to_d = both asked facts (directories_hold facts) (from_ways asked facts) d to_w to_d is_d (seen-by asked directories_hold seen facts d same pd) fw in
-    let fe : IsFirst asked facts (from_entries asked facts) to_e = both asked facts (entries_hold facts) (from_directories asked facts) e to_d to_e is_e (seen-by asked entries_hold seen facts e same pe) fd in
+    let fd : IsFirst asked facts (from_directories asked facts) to_d = both asked facts (directories_hold facts) (from_ways asked facts) d to_w to_d is_d pd fw in
+    let fe : IsFirst asked facts (from_entries asked facts) to_e = both asked facts (entries_hold facts) (from_directories asked facts) e to_d to_e is_e pe fd in
     let fn : IsFirst asked facts (from_names asked facts) to_n = both asked facts (names_hold facts) (from_entries asked facts) n to_e to_n is_n pn fe in
     first-so asked facts (from_names asked facts) (HasFactRules asked.profile asked.site.now asked.ranges.now facts) to_n (fact-rules asked facts) fn

@@ -12,26 +12,25 @@ use rule_faults::faults::{
 };
 use rule_index::Index;
 use std::alloc::Global;
-use view_facts::Facts;
 
 /// A fault that the facts show, where one is there: of the first rule, in the order of the rules, that they break.
 pub(crate) fn first_fault(
     alloc: Global,
     asked: &Asked<'_>,
-    facts: &Facts,
+    index: &Index<'_>,
 ) -> Result<Option<TreeFault>, NoMemory>
     requires { 0 < asked.now.site.now.block_size }
-    ensures { IfOk result (spec.IsFirst asked.now facts.now (HasFactRules asked.now.profile asked.now.site.now asked.now.ranges.now facts.now)) }
+    ensures { IfOk result (spec.IsFirst asked.now index.now.facts.now (HasFactRules asked.now.profile asked.now.site.now asked.now.ranges.now index.now.facts.now)) }
 {
-    let index = Index::new(alloc, facts)?;
+    let facts = index.facts;
     let names = names::fault(alloc, asked, facts)?;
-    let entries = entries::fault(alloc, asked, &index)?;
-    let directories = directories::fault(asked, &index);
+    let entries = entries::fault(alloc, asked, index)?;
+    let directories = directories::fault(asked, index);
     let ways = ways::fault(alloc, asked, facts)?;
-    let counts = counts::fault(asked, &index);
-    let siblings = siblings::fault(alloc, asked, &index)?;
+    let counts = counts::fault(asked, index);
+    let siblings = siblings::fault(alloc, asked, index)?;
     let extents = extents::fault(alloc, asked, facts)?;
-    let inodes = inodes::fault(asked, &index);
+    let inodes = inodes::fault(asked, index);
     let hashes = hashes::fault(alloc, asked, facts)?;
     Ok(names.or(entries.or(directories.or(ways.or(counts.or(siblings.or(extents.or(inodes.or(
         hashes,

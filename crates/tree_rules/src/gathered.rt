@@ -14,6 +14,7 @@ use crate::remarks::notes;
 use fs_record::TreeFault;
 use obj_base::Stop;
 use rule_faults::faults::Asked;
+use rule_index::Index;
 use std::alloc::Global;
 use view_facts::ViewFacts;
 
@@ -30,14 +31,18 @@ pub(crate) fn tally_of(
     ensures present { (image : List ℕ) (volume : Loaded) → IsGatheredView image asked.now.site.now volume asked.now.view.now gathered.now → IfErr result (Tells (IsTreeFault asked.now.profile image asked.now.site.now volume asked.now.view.now asked.now.ranges.now) (IsViewFeature image asked.now.site.now volume asked.now.view.now)) }
     ensures no_read { IsErrOf result ReadFault → ⊥ }
 {
-    let first = match first_fault(alloc, asked, &gathered.facts) {
+    let index = match Index::new(alloc, &gathered.facts) {
+        Ok(index) => index,
+        Err(_) => return Err(Stop::NoMemory),
+    };
+    let first = match first_fault(alloc, asked, &index) {
         Ok(first) => first,
         Err(_) => return Err(Stop::NoMemory),
     };
     if let Some(fault) = first {
         return Err(Stop::Found(fault));
     }
-    match notes(alloc, asked.profile, asked.view, &gathered.facts) {
+    match notes(alloc, asked.profile, asked.view, &index) {
         Ok(notes) => Ok(ViewTally {
             records: gathered.records,
             notes,

@@ -7,7 +7,6 @@ ghost use Rattle.fs_record.specs.Facts.{Fact};
 ghost use Rattle.view_rules.specs.Facts.{is_directory};
 ghost use Rattle.view_rules.specs.Names as names;
 ghost use Rattle.rule_faults.specs.Faults as faults;
-ghost use Rattle.rule_index.specs.Ids.{CountsIds};
 ghost use Rattle.tree_rules.specs.Notes as spec;
 
 use crate::{Note, Profile};
@@ -15,8 +14,7 @@ use apfs_model::Bytes;
 use blk_source::NoMemory;
 use fs_name::name_hash;
 use fs_record::{IdAt, NamedAt};
-use rule_index::counts::Counts;
-use rule_index::ids::{ByAnyFile, tally};
+use rule_index::Index;
 use std::alloc::Global;
 use view_facts::{EntryFact, Facts, InodeFact};
 use vol_view::View;
@@ -106,15 +104,6 @@ fn hash_notes(alloc: Global, view: &View, facts: &Facts) -> Result<Vec<Note>, No
     Ok(notes)
 }
 
-// Whether a file has no entry.
-#[tactic(auto, using(rule_index::proofs::Counting::any_counts))]
-fn lacks_entries(facts: &Facts, files: &Counts, id: u64) -> bool
-    requires { CountsIds (λ e. Some e.what.file_id) facts.now.entries files.now }
-    ensures { result ≡ not (list_any (λ (e : Fact Entry). e.what.file_id == id) facts.now.entries) }
-{
-    !files.has(id)
-}
-
 // Whether an inode is of 16 or more, and no directory.
 fn is_user_file(f: &InodeFact) -> bool
     ensures { result ≡ (nat_le 16 f.now.id && not (is_directory f.now.what)) }
@@ -124,19 +113,17 @@ fn is_user_file(f: &InodeFact) -> bool
 
 // Whether an inode of 16 or more, no directory, has no entry.
 #[tactic(auto, unfolding(crate::specs::Notes::is_unnamed))]
-fn is_unnamed(facts: &Facts, files: &Counts, f: &InodeFact) -> bool
-    requires { CountsIds (λ e. Some e.what.file_id) facts.now.entries files.now }
-    ensures { result ≡ spec.is_unnamed facts.now f.now }
+fn is_unnamed(index: &Index<'_>, f: &InodeFact) -> bool
+    ensures { result ≡ spec.is_unnamed index.now.facts.now f.now }
 {
-    is_user_file(f) && lacks_entries(facts, files, f.id())
+    is_user_file(f) && !index.is_named(f.id())
 }
 
 // The note of an inode, where it has no entry.
-fn unnamed_note(view: &View, facts: &Facts, files: &Counts, f: &InodeFact) -> Option<Note>
-    requires { CountsIds (λ e. Some e.what.file_id) facts.now.entries files.now }
-    ensures { result ≡ (if spec.is_unnamed facts.now f.now then Some (spec.unnamed_note view.now f.now) else None) }
+fn unnamed_note(view: &View, index: &Index<'_>, f: &InodeFact) -> Option<Note>
+    ensures { result ≡ (if spec.is_unnamed index.now.facts.now f.now then Some (spec.unnamed_note view.now f.now) else None) }
 {
-    if !is_unnamed(facts, files, f) {
+    if !is_unnamed(index, f) {
         return None;
     }
     Some(Note::Unnamed(IdAt {
@@ -146,34 +133,20 @@ fn unnamed_note(view: &View, facts: &Facts, files: &Counts, f: &InodeFact) -> Op
     }))
 }
 
-// The notes of inodes after others, by how many entries each file has.
-fn unnamed_by(
-    view: &View,
-    facts: &Facts,
-    files: &Counts,
-    before: Vec<Note>,
-) -> Result<Vec<Note>, NoMemory>
-    requires { CountsIds (λ e. Some e.what.file_id) facts.now.entries files.now }
-    ensures { IfOk result (λ notes. notes.items ≡ before.items ++ spec.unnamed_notes view.now facts.now) }
-{
-    let mut notes = before;
-    for f in &facts.inodes {
-        put(&mut notes, unnamed_note(view, facts, files, f))?;
-    }
-    Ok(notes)
-}
-
 // The notes on inodes without entries, in record order, after others.
 fn unnamed_notes(
-    alloc: Global,
     view: &View,
-    facts: &Facts,
+    index: &Index<'_>,
     before: Vec<Note>,
 ) -> Result<Vec<Note>, NoMemory>
-    ensures { IfOk result (λ notes. notes.items ≡ before.items ++ spec.unnamed_notes view.now facts.now) }
+    ensures { IfOk result (λ notes. notes.items ≡ before.items ++ spec.unnamed_notes view.now index.now.facts.now) }
 {
-    let files = tally::<_, ByAnyFile>(alloc, &facts.entries)?;
-    unnamed_by(view, facts, &files, before)
+    let mut notes = before;
+    let facts = index.facts;
+    for f in &facts.inodes {
+        put(&mut notes, unnamed_note(view, index, f))?;
+    }
+    Ok(notes)
 }
 
 /// The notes of a view: those on hashes, which are faults under Strict, and then those on inodes without entries.
@@ -182,15 +155,15 @@ pub(crate) fn notes(
     alloc: Global,
     profile: Profile,
     view: &View,
-    facts: &Facts,
+    index: &Index<'_>,
 ) -> Result<Vec<Note>, NoMemory>
-    ensures { IfOk result (λ notes. notes.items ≡ spec.notes_of profile view.now facts.now) }
+    ensures { IfOk result (λ notes. notes.items ≡ spec.notes_of profile view.now index.now.facts.now) }
 {
     match profile {
         Profile::Plain => {
-            let hashes = hash_notes(alloc, view, facts)?;
-            unnamed_notes(alloc, view, facts, hashes)
+            let hashes = hash_notes(alloc, view, index.facts)?;
+            unnamed_notes(view, index, hashes)
         }
-        Profile::Strict => unnamed_notes(alloc, view, facts, Vec::new(alloc)),
+        Profile::Strict => unnamed_notes(view, index, Vec::new(alloc)),
     }
 }

@@ -93,6 +93,9 @@ pub fn fault(
 ) -> Result<Option<TreeFault>, NoMemory>
     ensures { IfOk result (spec.IsFirst asked.now index.now.facts.now (rules.HasParents index.now.facts.now × (rules.HasFiles index.now.facts.now × ((rules.has_root index.now.facts.now ≡ true) × rules.HasKinds index.now.facts.now)))) }
 {
+    if entries::are_whole(index) {
+        return Ok(no_root(asked, index));
+    }
     let parent = no_parent(alloc, asked, index)?;
     let inode = no_inode(alloc, asked, index)?;
     let root = no_root(asked, index);

@@ -1,6 +1,6 @@
 use Rattle.std.proofs.Common.{get_or, arith}
 use Rattle.rule_index.specs.Ids.{count_in}
-use Rattle.rule_index.proofs.InOrder.{repeated-count, distinct-count}
+use Rattle.id_lists.proofs.InOrder.{repeated-count, distinct-count}
 use Rattle.rule_index.proofs.counts.are_distinct.Goals as goal
 
 pub returns-then-ids-i-clause-repeated : goal.returns-then-ids-i-clause-repeated

@@ -1,7 +1,7 @@
 use Rattle.std.proofs.Common.{◌∙◌}
 use Rattle.std.proofs.lemmas.List.Sorted.{searched}
 use Rattle.rule_index.specs.Ids.{count_in}
-use Rattle.rule_index.proofs.InOrder.{among-count}
+use Rattle.id_lists.proofs.InOrder.{among-count}
 use Rattle.rule_index.proofs.counts.is_among.Goals as goal
 
 pub returns : goal.returns

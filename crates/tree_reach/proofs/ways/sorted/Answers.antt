@@ -1,7 +1,7 @@
 use Rattle.std.proofs.Common.{rules}
 use Rattle.std.proofs.lemmas.List.Sorted.{IsNonDecreasingBy-from_sort_by_key, answers_always}
 use Rattle.tree_reach.specs.declared.ways.Way.{Way}
-use Rattle.tree_reach.proofs.WayLooks.{ways-sorted}
+use Rattle.tree_reach.proofs.WayLooks.{ways-given, ways-sorted}
 use Rattle.tree_reach.proofs.ways.sorted.Goals as goal
 
 pub returns-clause-same : goal.returns-clause-same
@@ -10,3 +10,6 @@ returns-clause-same c =
 
 pub returns-clause-ascending : goal.returns-clause-ascending
 returns-clause-ascending c = IsNonDecreasingBy-from_sort_by_key (λ (w : Way). w.id) _ c.in_ok-sort_by_key.ensures.sorted (λ a r f k. search rules)
+
+pub returns-then-are_in_order-clause-same : goal.returns-then-are_in_order-clause-same
+returns-then-are_in_order-clause-same c = ways-given c.args.inodes.now c.in_ok-list.list.items c.in_ok-list.ensures

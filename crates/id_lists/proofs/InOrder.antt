@@ -7,7 +7,8 @@ use Rattle.std.specs.Ordering.{nat_cmp, is_lt}
 use Rattle.std.proofs.lemmas.Bool.{cases_lt, ltb-true, ltb-false}
 use Rattle.std.proofs.lemmas.Bool.Decides.{nat_tests}
 use Rattle.std.proofs.lemmas.List.{get_or_default}
-use Rattle.std.proofs.lemmas.List.Sums.{sum_by-cons, position_or_len_is}
+use Rattle.std.proofs.lemmas.List.Sums.{sum_by-cons, position_or_len_is, prefix_len-le-length}
+use Rattle.std.proofs.lemmas.List.Quantifiers.{position-Some}
 use Rattle.std.proofs.lemmas.List.Folds.{find_at}
 use Rattle.std.proofs.lemmas.List.Kept.{AllPairs-from_increasing}
 use Rattle.apfs_model.proofs.BoolTests.{never-true, equal-from, from-equal, below-from, from-below}
@@ -195,3 +196,52 @@ tied-by a b = grind (arith, nat_tests)
 pub stable-first : {X : Type 0} (n : X → ℕ) (xs ys : List X) (q : ℕ) (x : X) → n x ≡ q → IsStableByKey n nat_cmp xs ys → find (λ y. n y == q) ys ≡ find (λ y. n y == q) xs
 stable-first {X} n xs ys q x same stable =
     same-first (λ y. n y == q) (ties (λ (a b : X). is_lt (nat_cmp (n a) (n b))) x) (λ y. tied-by (n x) (n y) ∙ ap (λ m. n y == m) same) xs ys (stable x)
+
+-- a place before which an item is below a number, and at which one isn't
+pub point-here : {X : Type 0} (n : X → ℕ) (xs : List X) (q i : ℕ) → IsNonDecreasingBy n xs → i ≤ length xs → ((d : X) → i < length xs → q ≤ n (get_or xs i d)) → ((d : X) → 0 < i → n (get_or xs (i - 1) d) < q)
+    → IsPartitionPoint (λ x. nat_lt (n x) q ≡ true) (λ x. nat_lt (n x) q ≡ false) xs i
+point-here {X} n xs q i up low here before = (first, second)
+  where
+    first : (k : ℕ) (d : X) → 0 ≤ k → k < i → nat_lt (n (get_or xs k d)) q ≡ true
+    first k d a b =
+        let last = before d (omega arith) in
+        let le = up k (i - 1) d (omega arith) (omega arith) in
+        from-below (n (get_or xs k d)) q (omega arith)
+    second : (k : ℕ) (d : X) → i ≤ k → k < length xs → nat_lt (n (get_or xs k d)) q ≡ false
+    second k d a b =
+        let low = here d (omega arith) in
+        let le = up i k d a b in
+        never-true (nat_lt (n (get_or xs k d)) q) (λ h. let less = below-from (n (get_or xs k d)) q h in omega arith)
+
+-- where all are below a number, none is of it
+pub position-past : {X : Type 0} (n : X → ℕ) (xs : List X) (q i : ℕ) → i ≡ length xs → IsNonDecreasingBy n xs → IsPartitionPoint (λ x. nat_lt (n x) q ≡ true) (λ x. nat_lt (n x) q ≡ false) xs i → position (λ x. n x == q) xs ≡ None
+position-past n [] q i end up point = refl
+position-past n (x ∷ xs) q i end up point = position-none n (x ∷ xs) q i x (omega arith) up point (λ less e. omega arith)
+
+placed : (b : Bool) (k i : ℕ) → cond b (Some k) None ≡ Some i → k ≡ i
+placed true k i e = cc
+placed false k i e = absurd (let r : ⊥ = cc in r)
+
+unplaced : {X : Type 0} (p : X → Bool) (xs : List X) → position p xs ≡ None → position_or_len p xs ≡ length xs
+unplaced p xs e =
+    let most = prefix_len-le-length (λ x. not (p x)) xs in
+    let go : (b : Bool) → nat_lt (position_or_len p xs) (length xs) ≡ b → cond b (Some (position_or_len p xs)) None ≡ None → position_or_len p xs ≡ length xs =
+    λ b. elim b as (λ b. nat_lt (position_or_len p xs) (length xs) ≡ b → cond b (Some (position_or_len p xs)) None ≡ None → position_or_len p xs ≡ length xs) [
+      | true ↦ λ f g. absurd (let r : ⊥ = cc in r)
+      | false ↦ λ f g. let le = ltb-false (position_or_len p xs) (length xs) f in omega arith
+    ] in
+    go (nat_lt (position_or_len p xs) (length xs)) refl e
+
+-- the place of the first that passes is where those before it end
+pub place-is : {X : Type 0} (p : X → Bool) (xs : List X) (i : ℕ) → Some i ≡ position p xs → i ≡ position_or_len p xs
+place-is p xs i e = sym (placed (nat_lt (position_or_len p xs) (length xs)) (position_or_len p xs) i (sym e))
+
+-- the first that passes is at its place
+pub found-there : {X : Type 0} (p : X → Bool) (xs : List X) (i : ℕ) (d : X) → Some i ≡ position p xs → find p xs ≡ Some (get_or xs i d)
+found-there p xs i d e =
+    let t = position-Some p xs i d (sym e) in
+    find_at p xs ∙ (ap (slice_get xs) (sym (place-is p xs i e)) ∙ get-at xs i d t.0)
+
+-- none passes without a place
+pub found-nowhere : {X : Type 0} (p : X → Bool) (xs : List X) → None ≡ position p xs → find p xs ≡ None
+found-nowhere p xs e = find_at p xs ∙ (ap (slice_get xs) (unplaced p xs (sym e)) ∙ get-past xs)

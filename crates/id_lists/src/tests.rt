@@ -1,0 +1,62 @@
+// Lists in order with what is found in them, whatever the guess.
+use crate::{Guesses, NO_GUESS, OrderBy, are_in_order, below, count, place};
+use std::alloc::Global;
+use std::test::Fail;
+
+struct ByItself;
+
+impl OrderBy<u64> for ByItself {
+    ghost id = { λ n. n };
+
+    fn id(item: &u64) -> u64 {
+        *item
+    }
+}
+
+/// A list, an id, how many items are below it, its place, and how many items are of it.
+type Row = (&'static [u64], u64, usize, Option<usize>, usize);
+
+const SPARSE: &[u64] = &[2, 3, 16, 17, 17, 17, 20, 1_000_000, u64::MAX];
+
+const ROWS: [Row; 12] = [
+    (&[], 0, 0, None, 0),
+    (&[], u64::MAX, 0, None, 0),
+    (&[5], 4, 0, None, 0),
+    (&[5], 5, 0, Some(0), 1),
+    (&[5], 6, 1, None, 0),
+    (SPARSE, 2, 0, Some(0), 1),
+    (SPARSE, 4, 2, None, 0),
+    (SPARSE, 17, 3, Some(3), 3),
+    (SPARSE, 18, 6, None, 0),
+    (SPARSE, 1_000_000, 7, Some(7), 1),
+    (SPARSE, 1_000_001, 8, None, 0),
+    (SPARSE, u64::MAX, 8, Some(8), 1),
+];
+
+#[test]
+fn searches(rt: HostRuntime) -> Result<(), Fail> {
+    for (list, id, before, at, of_it) in ROWS {
+        let guesses = Guesses::of::<_, ByItself>(rt.alloc(), list)?;
+        for guess in [guesses.near(id), NO_GUESS, 0, 3, 8] {
+            assert_eq!(rt; below::<_, ByItself>(list, id, guess), before);
+            assert_eq!(rt; place::<_, ByItself>(list, id, guess), at);
+            assert_eq!(rt; count::<_, ByItself>(list, id, guess), of_it);
+        }
+    }
+    Ok(())
+}
+
+#[test]
+fn order(rt: HostRuntime) -> Result<(), Fail> {
+    let rows: [(&[u64], bool); 5] = [
+        (&[], true),
+        (&[7], true),
+        (SPARSE, true),
+        (&[1, 3, 2], false),
+        (&[2, 1], false),
+    ];
+    for (list, want) in rows {
+        assert_eq!(rt; are_in_order::<_, ByItself>(list), want);
+    }
+    Ok(())
+}
