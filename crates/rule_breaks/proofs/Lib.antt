@@ -5,3 +5,4 @@ pub mod Rounded
 pub mod Orders
 pub mod NamesApart
 pub mod Wholes
+pub mod Suspected

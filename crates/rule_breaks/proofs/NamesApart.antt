@@ -24,7 +24,8 @@ implied : (a b : Bool) → (a ≡ true → b ≡ true) → cond a 1 0 ≤ cond b
 implied true b h = let e = h refl in grind (arith, nat_tests)
 implied false b h = omega arith
 
-found-none : {X : Type 0} (p : X → Bool) → ((x : X) → p x ≡ false) → (xs : List X) → find p xs ≡ None
+-- nothing is found where none passes
+pub found-none : {X : Type 0} (p : X → Bool) → ((x : X) → p x ≡ false) → (xs : List X) → find p xs ≡ None
 found-none p fails [] = refl
 found-none p fails (x ∷ xs) = ap (λ b. cond b (Some x) (find p xs)) (fails x) ∙ found-none p fails xs
 

@@ -10,3 +10,4 @@ pub mod links;
 pub mod names;
 pub mod order;
 pub mod repeats;
+mod suspects;

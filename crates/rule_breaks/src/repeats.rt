@@ -4,7 +4,9 @@ ghost use Rattle.std.specs.Option.{option_copied};
 ghost use Rattle.view_rules.specs.Names as spec;
 ghost use Rattle.rule_index.specs.Keys as keys;
 
+use crate::suspects::{are_ranked, suspects};
 use blk_source::NoMemory;
+use rule_index::counts::Counts;
 use rule_index::digests::{ByAttributeDigest, ByEntryDigest};
 use rule_index::keys::{ByAttribute, ByEntry, count, place_ref, tally};
 use rule_index::{KeyRef, ids};
@@ -41,6 +43,18 @@ fn entry_counted_twice<'a>(
     None
 }
 
+// Whether it shows by the digests of the names that could be there twice that none is, where the hashes of ASCII names are right.
+fn are_suspects_apart(alloc: Global, facts: &Facts) -> Result<bool, NoMemory>
+    requires { spec.HasAsciiHashes facts.now }
+    ensures { IfOk result (λ apart. apart ≡ true → find (spec.is_entry_repeated facts.now) facts.now.entries ≡ None) }
+{
+    if !facts.names.are_hashed() || !are_ranked(&facts.entries) {
+        return Ok(false);
+    }
+    let digests = suspects(alloc, &facts.entries)?;
+    Ok(Counts::of(digests).are_distinct())
+}
+
 // Whether it shows by the digests of names that none is there twice in a directory.
 fn are_entries_apart(alloc: Global, facts: &Facts) -> Result<bool, NoMemory>
     ensures { IfOk result (λ apart. apart ≡ true → find (spec.is_entry_repeated facts.now) facts.now.entries ≡ None) }
@@ -49,10 +63,18 @@ fn are_entries_apart(alloc: Global, facts: &Facts) -> Result<bool, NoMemory>
     Ok(digests.are_distinct())
 }
 
-/// The first entry whose name is there again in its directory.
-pub fn repeated_entry(alloc: Global, facts: &Facts) -> Result<Option<&EntryFact>, NoMemory>
+/// The first entry whose name is there again in its directory. `hashed` tells whether the hashes of ASCII names are known to be right.
+pub fn repeated_entry(
+    alloc: Global,
+    facts: &Facts,
+    hashed: bool,
+) -> Result<Option<&EntryFact>, NoMemory>
+    requires { hashed ≡ true → spec.HasAsciiHashes facts.now }
     ensures { IfOk result (λ first. option_copied first ≡ find (spec.is_entry_repeated facts.now) facts.now.entries) }
 {
+    if hashed && are_suspects_apart(alloc, facts)? {
+        return Ok(None);
+    }
     if are_entries_apart(alloc, facts)? {
         return Ok(None);
     }

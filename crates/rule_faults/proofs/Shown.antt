@@ -1,6 +1,6 @@
 -- What a fact that breaks a rule shows.
 use Rattle.std.proofs.Common.{◌≡◌, ℕ, Bool, true, false, List, Option, Some, None, inl, inr, refl, ap, sym, ◌∙◌, subst}
-use Rattle.std.specs.Prelude.{option_map}
+use Rattle.std.specs.Prelude.{option_map, is_some, not}
 use Rattle.std.specs.Option.{option_or}
 use Rattle.std.specs.List.{find}
 use Rattle.fs_record.specs.Inodes.{Inode}
@@ -47,6 +47,12 @@ both asked facts A B one other first is here there = subst (λ o. IsFirst asked 
 pub rest-holds : (asked : Asked) (facts : Facts) (A B C D : Type 0) (first : Option TreeFault) → A → B → D → IsFirst asked facts C first → IsFirst asked facts (A × (B × (C × D))) first
 rest-holds asked facts A B C D (Some f) a b d there = there
 rest-holds asked facts A B C D None a b d holds = (a, (b, (holds, d)))
+
+-- no fault is given, so the rules hold
+pub none-given : (asked : Asked) (facts : Facts) (A : Type 0) (first : Option TreeFault) (none : Bool) → IsFirst asked facts A first → is_some first ≡ not none → none ≡ true → A
+none-given asked facts A None none holds is e = holds
+none-given asked facts A (Some f) true there is e = absurd (let r : ⊥ = cc in r)
+none-given asked facts A (Some f) false there is e = absurd (let r : ⊥ = cc in r)
 
 pub entry_twice : (asked : Asked) (facts : Facts) (x : Fact Entry) (n : ℕ) (name : List ℕ) (at : NamedAt) → Some x ≡ find (is_entry_repeated facts) facts.entries → n ≡ x.id → name ≡ x.what.name → at ≡ named_at asked.view.now n name → IsShown asked facts (DupName at)
 entry_twice asked facts x n name at found called named is = subst (λ (y : NamedAt). IsShown asked facts (DupName y)) (sym (is ∙ (λ i. named_at asked.view.now (called i) (named i)))) ((refl, refl), inl (found-broken (is_entry_repeated facts) entry_place facts.entries x (sym found)))

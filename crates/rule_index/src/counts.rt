@@ -67,7 +67,7 @@ fn are_distinct(ids: &[u64]) -> bool
 
 impl Counts {
     /// Counts the numbers of a list.
-    pub(crate) fn of(ids: Vec<u64>) -> Counts
+    pub fn of(ids: Vec<u64>) -> Counts
         ensures { (q : ℕ) → count_in result q ≡ count_in ids.items q }
     {
         let mut ids = ids;

@@ -8,9 +8,9 @@ use view_facts::{AttributeFact, EntryFact};
 /// What a digest is multiplied by before each byte: odd, with its ones spread out.
 const FACTOR: u64 = 0x9e37_79b9_7f4a_7c15;
 
-// The digest of a name in a directory, or among the attributes of a file.
+/// The digest of a name in a directory, or among the attributes of a file.
 #[tactic(auto, unfolding(crate::specs::Digests::digest_of))]
-fn digest(id: u64, name: &str) -> u64
+pub fn digest(id: u64, name: &str) -> u64
     ensures { result ≡ digest_of id name.now }
 {
     let mut digest = id;

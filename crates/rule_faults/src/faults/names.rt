@@ -1,5 +1,5 @@
 // Faults of names: those that are there twice, and hashes of ASCII ones.
-ghost use Rattle.std.specs.Prelude.{IfOk};
+ghost use Rattle.std.specs.Prelude.{◌≡◌, true, IfOk};
 ghost use Rattle.view_rules.specs.Names as rules;
 ghost use Rattle.rule_faults.specs.Faults as spec;
 
@@ -11,16 +11,18 @@ use rule_breaks::repeats::{repeated_attribute, repeated_entry};
 use std::alloc::Global;
 use view_facts::Facts;
 
-// A name that is twice in a directory.
+// A name that is twice in a directory. `hashed` tells whether the hashes of ASCII names are known to be right.
 #[tactic(auto, using(crate::proofs::Shown::entry_twice, crate::proofs::Shown::none_clear))]
 fn entry_twice(
     alloc: Global,
     asked: &Asked<'_>,
     facts: &Facts,
+    hashed: bool,
 ) -> Result<Option<TreeFault>, NoMemory>
+    requires { hashed ≡ true → rules.HasAsciiHashes facts.now }
     ensures { IfOk result (spec.IsFirst asked.now facts.now (rules.HasDistinctEntries facts.now)) }
 {
-    let first = repeated_entry(alloc, facts)?;
+    let first = repeated_entry(alloc, facts, hashed)?;
     match first {
         Some(e) => {
             let at = named_at(alloc, asked.view, e.id(), e.name())?;
@@ -71,8 +73,8 @@ fn other_hash(
 pub fn fault(alloc: Global, asked: &Asked<'_>, facts: &Facts) -> Result<Option<TreeFault>, NoMemory>
     ensures { IfOk result (spec.IsFirst asked.now facts.now (rules.HasDistinctEntries facts.now × (rules.HasDistinctAttributes facts.now × rules.HasAsciiHashes facts.now))) }
 {
-    let entry = entry_twice(alloc, asked, facts)?;
-    let attribute = attribute_twice(alloc, asked, facts)?;
     let hash = other_hash(alloc, asked, facts)?;
+    let entry = entry_twice(alloc, asked, facts, hash.is_none())?;
+    let attribute = attribute_twice(alloc, asked, facts)?;
     Ok(entry.or(attribute.or(hash)))
 }
