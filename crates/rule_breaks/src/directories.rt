@@ -23,11 +23,13 @@ pub fn is_root_named(index: &Index<'_>) -> bool
 }
 
 // Whether an inode has exactly one entry, in the directory of its parent.
-#[tactic(auto, using(rule_index::proofs::HomeLooks::home_counts))]
 fn is_at_home(index: &Index<'_>, f: &InodeFact) -> bool
     ensures { result ≡ ((entry_count index.now.facts.now f.now.id == 1) && (entry_count_in index.now.facts.now f.now.id f.now.what.parent == 1)) }
 {
-    index.entry_count(f.id()) == 1 && index.is_home(f.id(), f.parent())
+    match index.only_home(f.id()) {
+        Some(directory) => directory == f.parent(),
+        None => false,
+    }
 }
 
 // Whether a directory of 16 or more hasn't exactly one entry, in the directory of its parent.

@@ -2,3 +2,4 @@ pub mod Counting
 pub mod KinLooks
 pub mod HomeLooks
 pub mod KeyCounts
+pub mod HomeCounts

@@ -1,6 +1,6 @@
 -- The kind and the parent of each inode.
 use Rattle.std.specs.Prelude.{◌≡◌, ℕ, List, ◌==◌, Option, option_map}
-use Rattle.std.specs.List.{find}
+use Rattle.std.specs.List.{find, position}
 use Rattle.fs_record.specs.Inodes.{Inode, inode_kind}
 use Rattle.fs_record.specs.Facts.{Fact, first_for}
 use Rattle.rule_index.specs.declared.kin.Kin.{Kin}
@@ -16,6 +16,10 @@ with_id f = (f.id, kin_of f.what)
 -- those that a list has after an id, the first where there are more
 abbrev pub kin_in : List (ℕ × Kin) → ℕ → Option Kin
 kin_in kins q = option_map (λ (k : ℕ × Kin). k.1) (find (λ (k : ℕ × Kin). k.0 == q) kins)
+
+-- the place of those of an id in a list, the first where there are more
+abbrev pub kin_place : List (ℕ × Kin) → ℕ → Option ℕ
+kin_place kins q = position (λ (k : ℕ × Kin). k.0 == q) kins
 
 -- a list has those of the inode of each id, the first where there are more
 abbrev pub HasKins : List (Fact Inode) → List (ℕ × Kin) → Type 0

@@ -1,111 +1,141 @@
 // The directories of each file's entries.
-ghost use Rattle.std.specs.Prelude.{◌≡◌, ◌≤◌, ◌+◌, ◌==◌, ◌&&◌, ℕ, Bool, true, false, length, nat_lt, nat_le, count_by, IfOk, OnOk, if◌then◌else◌};
-ghost use Rattle.std.specs.List.{list_any};
-ghost use Rattle.std.specs.Ordering.{is_lt};
-ghost use Rattle.std.specs.List.Sorted.{IsSortedBy, IsPartitionPoint};
-ghost use Rattle.view_rules.specs.Facts.{does_count};
-ghost use Rattle.rule_index.specs.Homes.{home_cmp, is_file, is_place, HasHomes};
+ghost use Rattle.std.specs.Prelude.{◌≡◌, ◌<◌, ◌+◌, ◌-◌, ◌^◌, ◌++◌, ◌∷◌, [], ℕ, List, Some, length, replicate, slice_index_or, slice_set, count_by, IfOk, OnOk};
+ghost use Rattle.fs_record.specs.Entries.{Entry};
+ghost use Rattle.fs_record.specs.Facts.{Fact};
+ghost use Rattle.view_rules.specs.Facts.{names_file};
+ghost use Rattle.rule_index.specs.Kins.{kin_place};
+ghost use Rattle.rule_index.specs.Homes.{pair_of, no_home, one_more, IsHomeOf, IsOnlyHome, HasHomes};
 
 use crate::ids::does_count;
+use crate::kin::Kins;
+use crate::pairs::Pairs;
 use blk_source::NoMemory;
-use id_lists::{Guesses, OrderBy, count};
 use std::alloc::Global;
 use std::marker::Model;
 use view_facts::EntryFact;
 
-/// By the file.
-struct ByFile;
-
-impl OrderBy<(u64, u64)> for ByFile {
-    ghost id = { λ (p : ℕ × ℕ). p.0 };
-
-    fn id(pair: &(u64, u64)) -> u64 {
-        pair.0
-    }
+/// How many entries that count name a file, and the directory of one of them.
+#[derive(Clone, Copy, PartialEq, Eq, Debug)]
+pub(crate) struct Home {
+    pub(crate) entries: u64,
+    pub(crate) directory: u64,
 }
 
-/// The file and the directory of each entry that counts, in order, so that searches find those of a file.
+/// The home of each inode's file, at the place of the inode, and the file and the directory of each entry that counts and whose file has no inode.
 #[derive(Drop)]
 pub(crate) struct Homes {
-    pairs: Vec<(u64, u64)>,
-    guesses: Guesses,
+    places: Vec<Home>,
+    others: Pairs,
 }
 
 impl Model for Homes {
     ghost use Rattle.std.specs.Prelude.{List, ℕ};
-    ghost use Rattle.std.specs.Ordering.{is_lt};
-    ghost use Rattle.std.specs.List.Sorted.{IsSortedBy};
-    ghost use Rattle.rule_index.specs.Homes.{home_cmp};
+    ghost use Rattle.rule_index.specs.declared.homes.Home.{Home};
 
-    ghost Value = { List (ℕ × ℕ) };
+    ghost Value = { List Home × List (ℕ × ℕ) };
 
-    ghost view = { λ homes. homes.pairs.items };
-
-    ghost invariant = { λ homes. IsSortedBy (λ a b. is_lt (home_cmp a b)) homes.pairs.items };
+    ghost view = { λ homes. (homes.places.items, homes.others) };
 }
 
-// Adds one more entry.
-fn add(pairs: &mut Vec<(u64, u64)>, e: &EntryFact) -> Result<(), NoMemory>
-    ensures { OnOk result ((test : ℕ × ℕ → Bool) → count_by test pairs.new.items ≡ count_by test pairs.old.items + (if does_count e.now && test (e.now.what.file_id, e.now.id) then 1 else 0)) }
+// For each of some inodes, that its file has no entry.
+fn none_yet(alloc: Global, inodes: usize) -> Result<Vec<Home>, NoMemory>
+    ensures { IfOk result (λ places. places.items ≡ replicate inodes no_home) }
+{
+    let nothing = Home {
+        entries: 0,
+        directory: 0,
+    };
+    match vec![in alloc; nothing; inodes] {
+        Ok(places) => Ok(places),
+        Err(_) => Err(NoMemory),
+    }
+}
+
+// Counts one more entry at a place, which stands in a directory.
+fn count_at(places: &mut [Home], at: usize, directory: u64)
+    requires within { at < length places.old }
+    requires few { (slice_index_or places.old at no_home).entries < 2 ^ 64 - 1 }
+    ensures { places.new ≡ slice_set places.old at (one_more (slice_index_or places.old at no_home) directory) }
+{
+    let entries = places[at].entries + 1;
+    places[at] = Home { entries, directory };
+}
+
+// The file and the directory of an entry.
+fn pair_of(e: &EntryFact) -> (u64, u64)
+    ensures { result ≡ pair_of e.now }
+{
+    (e.file_id(), e.id())
+}
+
+// Adds one more entry: at the place of its file's inode, or to the others.
+fn add(
+    places: &mut [Home],
+    others: &mut Vec<(u64, u64)>,
+    kins: &Kins,
+    e: &EntryFact,
+) -> Result<(), NoMemory>
+    requires long { length places.old ≡ length kins.now }
+    requires few { (at : ℕ) → Some at ≡ kin_place kins.now e.now.what.file_id → (slice_index_or places.old at no_home).entries < 2 ^ 64 - 1 }
+    ensures { OnOk result ((entries : List (Fact Entry)) → HasHomes kins.now entries (places.old, others.old.items) → HasHomes kins.now (entries ++ e.now ∷ []) (places.new, others.new.items)) }
 {
     if !does_count(e) {
         return Ok(());
     }
-    match pairs.push((e.file_id(), e.id())) {
+    let pair = pair_of(e);
+    if let Some(at) = kins.place(pair.0) {
+        count_at(places, at, pair.1);
+        return Ok(());
+    }
+    match others.push(pair) {
         Ok(()) => Ok(()),
         Err(_) => Err(NoMemory),
     }
 }
 
-// The file and the directory of each entry that counts, in record order.
-fn listed(alloc: Global, entries: &[EntryFact]) -> Result<Vec<(u64, u64)>, NoMemory>
-    ensures { IfOk result (λ pairs. HasHomes entries.now pairs.items) }
-{
-    let mut pairs = Vec::new(alloc);
-    for e in entries {
-        add(&mut pairs, e)?;
-    }
-    Ok(pairs)
-}
-
-// How many of some pairs are of a file.
-fn count_of(pairs: &[(u64, u64)], file: u64, guess: usize) -> usize
-    requires { IsSortedBy (λ a b. is_lt (home_cmp a b)) pairs.now }
-    ensures { result ≡ count_by (is_file file) pairs.now }
-{
-    count::<_, ByFile>(pairs, file, guess)
-}
-
-// Whether one of some pairs is of a file and a directory.
-fn is_among(pairs: &[(u64, u64)], file: u64, directory: u64) -> bool
-    requires { IsSortedBy (λ a b. is_lt (home_cmp a b)) pairs.now }
-    ensures { result ≡ list_any (is_place file directory) pairs.now }
-{
-    pairs.binary_search(&(file, directory)).is_ok()
-}
-
 impl Homes {
     /// The directories of each file's entries, among those that count.
-    pub(crate) fn of(alloc: Global, entries: &[EntryFact]) -> Result<Homes, NoMemory>
-        ensures { IfOk result (HasHomes entries.now) }
+    pub(crate) fn of(alloc: Global, entries: &[EntryFact], kins: &Kins) -> Result<Homes, NoMemory>
+        ensures { IfOk result (HasHomes kins.now entries.now) }
     {
-        let mut pairs = listed(alloc, entries)?;
-        pairs.sort_unstable();
-        let guesses = Guesses::of::<_, ByFile>(alloc, &pairs)?;
-        Ok(Homes { pairs, guesses })
+        let mut places = none_yet(alloc, kins.len())?;
+        let mut pairs = Vec::new(alloc);
+        for e in entries {
+            add(&mut places, &mut pairs, kins, e)?;
+        }
+        let others = Pairs::of(alloc, pairs)?;
+        Ok(Homes { places, others })
+    }
+
+    // The entries of a file: how many, and the directory of one of them.
+    fn home(&self, kins: &Kins, file: u64) -> Home
+        requires { length self.now.0 ≡ length kins.now }
+        ensures { (entries : List (Fact Entry)) → HasHomes kins.now entries self.now → IsHomeOf entries file result }
+    {
+        match kins.place(file) {
+            Some(at) => self.places[at],
+            None => self.others.home(file),
+        }
     }
 
     /// How many entries a file has.
-    pub(crate) fn count(&self, file: u64) -> u64
-        ensures { result ≡ count_by (is_file file) self.now }
+    pub(crate) fn count(&self, kins: &Kins, file: u64) -> u64
+        requires { length self.now.0 ≡ length kins.now }
+        ensures { (entries : List (Fact Entry)) → HasHomes kins.now entries self.now → result ≡ count_by (names_file file) entries }
     {
-        count_of(&self.pairs, file, self.guesses.near(file)) as u64
+        self.home(kins, file).entries
     }
 
-    /// Whether an entry of a file stands in a directory.
-    pub(crate) fn has(&self, file: u64, directory: u64) -> bool
-        ensures { result ≡ list_any (is_place file directory) self.now }
+    /// The directory of a file's only entry, where it has exactly one.
+    pub(crate) fn only(&self, kins: &Kins, file: u64) -> Option<u64>
+        requires { length self.now.0 ≡ length kins.now }
+        ensures { (entries : List (Fact Entry)) → HasHomes kins.now entries self.now → IsOnlyHome entries file result }
     {
-        is_among(&self.pairs, file, directory)
+        let home = self.home(kins, file);
+        if home.entries == 1 {
+            Some(home.directory)
+        } else {
+            None
+        }
     }
 }

@@ -22,7 +22,7 @@ pub struct Index<'a> {
     system: Counts,
     targets: Counts,
     ghost kins_right: { HasKins facts.now.inodes kins },
-    ghost homes_right: { HasHomes facts.now.entries homes },
+    ghost homes_right: { HasHomes kins facts.now.entries homes },
     ghost directories_right: { CountsIds (λ e. Some e.id) facts.now.entries directories },
     ghost system_right: { CountsIds system_file facts.now.entries system },
     ghost targets_right: { CountsIds target_file facts.now.attributes targets },
@@ -30,7 +30,7 @@ pub struct Index<'a> {
 
 impl<'a> Index<'a> {
     ghost use Rattle.view_rules.specs.Facts as spec;
-    ghost use Rattle.rule_index.specs.Homes.{is_home, is_named};
+    ghost use Rattle.rule_index.specs.Homes.{is_named, IsOnlyHome};
     ghost use Rattle.view_rules.specs.Directories.{parent_at};
     ghost use Rattle.fs_record.specs.Inodes.{inode_kind};
     ghost use Rattle.std.specs.Prelude.{option_map};
@@ -43,7 +43,7 @@ impl<'a> Index<'a> {
         ensures { IfOk result (λ index. index.facts.now ≡ facts.now) }
     {
         let kins = Kins::of(alloc, &facts.inodes)?;
-        let homes = Homes::of(alloc, &facts.entries)?;
+        let homes = Homes::of(alloc, &facts.entries, &kins)?;
         let directories = tally::<_, ByDirectory>(alloc, &facts.entries)?;
         let system = tally::<_, BySystemFile>(alloc, &facts.entries)?;
         let targets = tally::<_, ByTarget>(alloc, &facts.attributes)?;
@@ -98,14 +98,14 @@ impl<'a> Index<'a> {
     pub fn entry_count(&self, id: u64) -> u64
         ensures { result ≡ spec.entry_count self.now.facts.now id }
     {
-        self.homes.count(id)
+        self.homes.count(&self.kins, id)
     }
 
     /// Whether an entry names a file, be it one that counts or not.
     pub fn is_named(&self, id: u64) -> bool
         ensures { result ≡ list_any (is_named id) self.now.facts.now.entries }
     {
-        self.homes.count(id) > 0 || self.system.has(id)
+        self.entry_count(id) > 0 || self.system.has(id)
     }
 
     /// How many entries a directory has.
@@ -131,11 +131,10 @@ impl<'a> Index<'a> {
         self.targets.has(id)
     }
 
-    /// Whether an entry of a file, among those that count, stands in a directory.
-    #[tactic(auto, using(crate::proofs::HomeLooks::home_any))]
-    pub fn is_home(&self, id: u64, directory: u64) -> bool
-        ensures { result ≡ list_any (is_home id directory) self.now.facts.now.entries }
+    /// The directory of a file's only entry among those that count, where it has exactly one.
+    pub fn only_home(&self, id: u64) -> Option<u64>
+        ensures { IsOnlyHome self.now.facts.now.entries id result }
     {
-        self.homes.has(id, directory)
+        self.homes.only(&self.kins, id)
     }
 }

@@ -1,8 +1,8 @@
 // The kind and the parent of each inode.
-ghost use Rattle.std.specs.Prelude.{◌≡◌, ℕ, map, IfOk};
+ghost use Rattle.std.specs.Prelude.{◌≡◌, ℕ, length, map, IfOk};
 ghost use Rattle.std.specs.List.Sorted.{IsNonDecreasingBy};
 ghost use Rattle.rule_index.specs.declared.kin.Kin as declared;
-ghost use Rattle.rule_index.specs.Kins.{with_id, kin_in, HasKins};
+ghost use Rattle.rule_index.specs.Kins.{with_id, kin_in, kin_place, HasKins};
 
 use blk_source::NoMemory;
 use id_lists::{Guesses, OrderBy, are_in_order, place};
@@ -103,6 +103,20 @@ impl Kins {
             }
             Err(_) => Err(NoMemory),
         }
+    }
+
+    /// Of how many inodes.
+    pub(crate) fn len(&self) -> usize
+        ensures { result ≡ length self.now }
+    {
+        self.list.len()
+    }
+
+    /// The place of those of an id.
+    pub(crate) fn place(&self, id: u64) -> Option<usize>
+        ensures { result ≡ kin_place self.now id }
+    {
+        place::<_, ByInode>(&self.list, id, self.guesses.near(id))
     }
 
     /// Those of an id.

@@ -9,6 +9,7 @@ mod index;
 mod key;
 pub mod keys;
 mod kin;
+mod pairs;
 
 pub use index::Index;
 pub use key::KeyRef;

@@ -1,19 +1,18 @@
-use Rattle.std.proofs.Common.{◌≡◌, ap, sym, ◌∙◌}
-use Rattle.std.specs.Prelude.{◌==◌, ◌&&◌}
-use Rattle.std.specs.List.{list_any}
-use Rattle.apfs_model.proofs.BoolTests.{from-equal}
-use Rattle.view_rules.specs.Facts.{entry_count, entry_count_in}
-use Rattle.rule_index.specs.Homes.{is_home}
-use Rattle.rule_index.proofs.HomeLooks.{home_counts}
+use Rattle.std.proofs.Common.{ℕ, Some, None, ap, subst, ◌∙◌}
+use Rattle.std.specs.Prelude.{◌==◌}
+use Rattle.rule_index.specs.Homes.{IsOnlyHome}
+use Rattle.rule_index.proofs.HomeLooks.{one_home, no_home_alone}
 use Rattle.rule_breaks.proofs.directories.is_at_home.Goals as goal
 
-pub returns-then-entry_count-eq1 : goal.returns-then-entry_count-eq1
-returns-then-entry_count-eq1 c =
+pub returns-in-Some : goal.returns-in-Some
+returns-in-Some c =
     let facts = c.args.index.now.facts.now in
     let id = c.args.f.now.id in
-    let parent = c.args.f.now.what.parent in
-    let one : entry_count facts id ≡ 1 = sym (c.entry_count.ensures ∙ ap (entry_count facts) c.id.ensures) ∙ c.if-entry_count-eq1.true in
-    c.is_home.ensures
-    ∙ ((λ i. list_any (is_home (c.id-then-entry_count-eq1.ensures i) (c.parent.ensures i)) facts.entries)
-    ∙ (home_counts facts id parent one
-    ∙ sym (ap (λ b. b && (entry_count_in facts id parent == 1)) (from-equal (entry_count facts id) 1 one))))
+    let directory = c.in-Some.directory in
+    let only : IsOnlyHome facts.entries id (Some directory) = subst (λ (n : ℕ). IsOnlyHome facts.entries n (Some directory)) c.id.ensures c.in-Some.ensures in
+    ap (λ n. directory == n) c.parent.ensures ∙ one_home facts id directory c.args.f.now.what.parent only.0 only.1
+
+pub returns-in-None : goal.returns-in-None
+returns-in-None c =
+    let facts = c.args.index.now.facts.now in
+    no_home_alone facts c.args.f.now.id c.args.f.now.what.parent (subst (λ (n : ℕ). IsOnlyHome facts.entries n None) c.id.ensures c.in-None.ensures)

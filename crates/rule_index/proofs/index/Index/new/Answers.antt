@@ -13,7 +13,7 @@ pub invariant_of-result-clause-kins_right : goal.invariant_of-result-clause-kins
 invariant_of-result-clause-kins_right c = subst (λ (inodes : List (Fact Inode)). HasKins inodes c.in_ok-kins.kins) (c.deref.ensures.value ∙ ap (λ (f : Facts). f.inodes) c.facts.view_is) c.in_ok-kins.ensures
 
 pub invariant_of-result-clause-homes_right : goal.invariant_of-result-clause-homes_right
-invariant_of-result-clause-homes_right c = subst (λ (entries : List (Fact Entry)). HasHomes entries c.in_ok-homes.homes) (c.deref-2.ensures.value ∙ ap (λ (f : Facts). f.entries) c.facts.view_is) c.in_ok-homes.ensures
+invariant_of-result-clause-homes_right c = subst (λ (entries : List (Fact Entry)). HasHomes c.in_ok-kins.kins entries c.in_ok-homes.homes) (c.deref-2.ensures.value ∙ ap (λ (f : Facts). f.entries) c.facts.view_is) c.in_ok-homes.ensures
 
 pub invariant_of-result-clause-directories_right : goal.invariant_of-result-clause-directories_right
 invariant_of-result-clause-directories_right c = subst (λ (entries : List (Fact Entry)). CountsIds (λ (e : Fact Entry). Some e.id) entries c.in_ok-directories.directories) (c.deref-3.ensures.value ∙ ap (λ (f : Facts). f.entries) c.facts.view_is) c.in_ok-directories.ensures

@@ -1,6 +1,0 @@
-use Rattle.std.proofs.Common.{take}
-use Rattle.rule_index.specs.Homes.{HasHomes}
-use Rattle.rule_index.proofs.homes.listed.Given as goal
-
-abbrev pub invariant-loop-e : goal.invariant-loop-e
-invariant-loop-e l = HasHomes (take l.e-index l.entries) l.pairs.items
