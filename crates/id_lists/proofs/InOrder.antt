@@ -207,6 +207,7 @@ point-here {X} n xs q i up low here before = (first, second)
         let last = before d (omega arith) in
         let le = up k (i - 1) d (omega arith) (omega arith) in
         from-below (n (get_or xs k d)) q (omega arith)
+
     second : (k : ℕ) (d : X) → i ≤ k → k < length xs → nat_lt (n (get_or xs k d)) q ≡ false
     second k d a b =
         let low = here d (omega arith) in

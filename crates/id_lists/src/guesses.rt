@@ -53,7 +53,10 @@ impl Guesses {
         if runs <= self.places.len() {
             return Ok(());
         }
-        match self.places.resize(runs, u32::try_from(place).unwrap_or(u32::MAX)) {
+        match self
+            .places
+            .resize(runs, u32::try_from(place).unwrap_or(u32::MAX))
+        {
             Ok(()) => Ok(()),
             Err(_) => Err(NoMemory),
         }

@@ -5,9 +5,7 @@ use Rattle.std.specs.List.{find}
 use Rattle.std.specs.Option.{option_copied}
 use Rattle.apfs_model.specs.Lists.{passes}
 use Rattle.fs_record.specs.Inodes.{Inode, inode_kind}
-use Rattle.fs_record.specs.Entries.{Entry}
-use Rattle.fs_record.specs.Facts.{Fact}
-use Rattle.view_rules.specs.Facts.{Facts, inode_at, has_inode, has_directory, does_count}
+use Rattle.view_rules.specs.Facts.{Facts, inode_at, has_directory, does_count}
 use Rattle.view_rules.specs.Entries.{lacks_parent, lacks_inode, has_other_kind, HasParents, HasFiles, HasKinds}
 use Rattle.rule_breaks.specs.Lost.{is_lost}
 use Rattle.rule_breaks.proofs.Finds.{none-clear}
@@ -40,7 +38,10 @@ none-copied (Some x) e = absurd (let r : ⊥ = cc in r)
 pub whole : (facts : Facts) → find (is_lost facts) facts.entries ≡ None → HasParents facts × (HasFiles facts × HasKinds facts)
 unfolding lacks_parent lacks_inode has_other_kind
 whole facts none =
-    let clear = none-clear (is_lost facts) facts.entries none in
-    ((λ e listed. has-parent (does_count e) (has_directory facts e.id) (passes (inode_at facts e.what.file_id) (λ (x : Inode). inode_kind x == e.what.kind)) (clear e listed)),
-    ((λ e listed. has-file (does_count e) (has_directory facts e.id) (inode_at facts e.what.file_id) e.what.kind (clear e listed)),
-    (λ e listed. same-kind (does_count e) (has_directory facts e.id) (inode_at facts e.what.file_id) e.what.kind (clear e listed))))
+    let clear = none-clear (is_lost facts) facts.entries none in (
+      (λ e listed. has-parent (does_count e) (has_directory facts e.id) (passes (inode_at facts e.what.file_id) (λ (x : Inode). inode_kind x == e.what.kind)) (clear e listed)),
+      (
+        (λ e listed. has-file (does_count e) (has_directory facts e.id) (inode_at facts e.what.file_id) e.what.kind (clear e listed)),
+        (λ e listed. same-kind (does_count e) (has_directory facts e.id) (inode_at facts e.what.file_id) e.what.kind (clear e listed)),
+      ),
+    )

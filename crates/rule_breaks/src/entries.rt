@@ -58,8 +58,7 @@ fn is_kind(kind: Option<u16>, wanted: u16) -> bool
 fn is_lost(index: &Index<'_>, e: &EntryFact) -> bool
     ensures { result ≡ is_lost index.now.facts.now e.now }
 {
-    does_count(e)
-        && !(index.has_directory(e.id()) && is_kind(index.kind(e.file_id()), e.kind()))
+    does_count(e) && !(index.has_directory(e.id()) && is_kind(index.kind(e.file_id()), e.kind()))
 }
 
 // The first entry that counts and lacks its directory, or its file with its kind.

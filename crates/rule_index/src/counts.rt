@@ -1,6 +1,6 @@
 // Numbers in order, among which each is counted by searches.
-ghost use Rattle.std.specs.Prelude.{◌≡◌, ◌≤◌, ◌<◌, ℕ, true, false, length, nat_lt, nat_le};
-ghost use Rattle.std.specs.List.Sorted.{IsNonDecreasing, IsPartitionPoint};
+ghost use Rattle.std.specs.Prelude.{◌≡◌, ◌≤◌, ◌<◌, ℕ, true, false, nat_lt};
+ghost use Rattle.std.specs.List.Sorted.{IsNonDecreasing};
 ghost use Rattle.rule_index.specs.Ids.{count_in};
 
 use id_lists::{NO_GUESS, OrderBy};

@@ -1,14 +1,14 @@
 -- The parent of each inode, and the climb that met it.
 use Rattle.std.proofs.Common.{◌≡◌, ℕ, ◌+◌, ◌<◌, Bool, true, false, cond, List, [], ◌∷◌, length, get_or, Option, Some, None, refl, ap, sym, ◌∙◌, inl, inr, arith}
-use Rattle.std.specs.Prelude.{option_map, option_and_then, is_none, is_some, map, count_by, slice_get, nat_lt, not, ◌==◌}
+use Rattle.std.specs.Prelude.{option_map, option_and_then, is_none, is_some, map, count_by, ◌==◌}
 use Rattle.std.specs.List.{find, position, position_or_len}
 use Rattle.std.specs.Ordering.{nat_cmp}
 use Rattle.std.specs.List.Sorted.{IsStableByKey, IsNonDecreasingBy}
 use Rattle.std.proofs.Math.ListN.{set}
-use Rattle.std.proofs.lemmas.Bool.{cases_eq, ltb-false}
+use Rattle.std.proofs.lemmas.Bool.{cases_eq}
 use Rattle.std.proofs.lemmas.List.{get_or-set_same, get_or-set_other, get_or_default, length-set}
-use Rattle.std.proofs.lemmas.List.Sums.{sum_by-set, prefix_len-le-length}
-use Rattle.std.proofs.lemmas.List.Folds.{find_at, find-set, find_past}
+use Rattle.std.proofs.lemmas.List.Sums.{sum_by-set}
+use Rattle.std.proofs.lemmas.List.Folds.{find-set, find_past}
 use Rattle.std.proofs.lemmas.List.Quantifiers.{position-Some}
 use Rattle.apfs_model.proofs.BoolTests.{equal-from}
 use Rattle.fs_record.specs.Inodes.{Inode}

@@ -1,9 +1,6 @@
 // The notes of a view: hashes of names that aren't ASCII, and inodes without entries.
-ghost use Rattle.std.specs.Prelude.{◌≡◌, ◌++◌, ◌==◌, ◌&&◌, not, nat_le, Some, None, option_to_list, find, IfOk, OnOk, if◌then◌else◌};
-ghost use Rattle.std.specs.List.{list_any};
+ghost use Rattle.std.specs.Prelude.{◌≡◌, ◌++◌, ◌&&◌, not, nat_le, Some, None, option_to_list, find, IfOk, OnOk, if◌then◌else◌};
 ghost use Rattle.std.specs.Option.{option_copied};
-ghost use Rattle.fs_record.specs.Entries.{Entry};
-ghost use Rattle.fs_record.specs.Facts.{Fact};
 ghost use Rattle.view_rules.specs.Facts.{is_directory};
 ghost use Rattle.view_rules.specs.Names as names;
 ghost use Rattle.rule_faults.specs.Faults as faults;
@@ -134,11 +131,7 @@ fn unnamed_note(view: &View, index: &Index<'_>, f: &InodeFact) -> Option<Note>
 }
 
 // The notes on inodes without entries, in record order, after others.
-fn unnamed_notes(
-    view: &View,
-    index: &Index<'_>,
-    before: Vec<Note>,
-) -> Result<Vec<Note>, NoMemory>
+fn unnamed_notes(view: &View, index: &Index<'_>, before: Vec<Note>) -> Result<Vec<Note>, NoMemory>
     ensures { IfOk result (λ notes. notes.items ≡ before.items ++ spec.unnamed_notes view.now index.now.facts.now) }
 {
     let mut notes = before;

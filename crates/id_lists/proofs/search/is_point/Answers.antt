@@ -1,4 +1,4 @@
-use Rattle.std.proofs.Common.{◌≡◌, ◌<◌, ◌≤◌, ◌-◌, ℕ, length, get_or, ap, sym, ◌∙◌, arith}
+use Rattle.std.proofs.Common.{◌≡◌, ◌<◌, ◌≤◌, ◌-◌, length, get_or, ap, sym, ◌∙◌, arith}
 use Rattle.std.proofs.lemmas.Bool.{ltb-true}
 use Rattle.std.proofs.lemmas.List.{get_or_default}
 use Rattle.id_lists.proofs.InOrder.{point-here}
@@ -18,6 +18,6 @@ returns-else-at-eq0-clause-split g c =
       | else-at-list-2-via-else-at-list-2 w ↦ λ d low. absurd (omega (arith, w.if-at-list-2.false))
     ])
     (λ d above.
-      let same : id (get_or list (c.args.at - 1) d) ≡ c.id-else-at-eq0.result = ap id (get_or_default list (c.args.at - 1) d c.index-list-at-else-at-eq0.result (omega arith) ∙ sym c.index-list-at-else-at-eq0.is) ∙ sym c.id-else-at-eq0.ensures in
-      let less = ltb-true c.id-else-at-eq0.result c.args.id yes in
-      omega arith)
+    let same : id (get_or list (c.args.at - 1) d) ≡ c.id-else-at-eq0.result = ap id (get_or_default list (c.args.at - 1) d c.index-list-at-else-at-eq0.result (omega arith) ∙ sym c.index-list-at-else-at-eq0.is) ∙ sym c.id-else-at-eq0.ensures in
+    let less = ltb-true c.id-else-at-eq0.result c.args.id yes in
+    omega arith)

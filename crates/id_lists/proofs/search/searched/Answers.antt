@@ -1,4 +1,4 @@
-use Rattle.std.proofs.Common.{ℕ, rules, of_calls}
+use Rattle.std.proofs.Common.{rules, of_calls}
 use Rattle.std.specs.Prelude.{nat_lt}
 use Rattle.std.proofs.lemmas.List.Sorted.{IsPartitionPoint-from_clause, IsPartitionedBy-ltb}
 use Rattle.id_lists.proofs.search.searched.Goals as goal

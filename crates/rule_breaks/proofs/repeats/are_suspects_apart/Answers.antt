@@ -1,4 +1,4 @@
-use Rattle.std.proofs.Common.{◌≡◌, ℕ, true, List, ap, sym, subst, ◌∙◌, arith}
+use Rattle.std.proofs.Common.{◌≡◌, true, List, ap, sym, subst, ◌∙◌, arith}
 use Rattle.std.specs.List.Sorted.{IsNonDecreasingBy}
 use Rattle.fs_name.specs.Normal.{are_hashed}
 use Rattle.fs_record.specs.Entries.{Entry}
@@ -19,6 +19,6 @@ returns c apart =
     (subst (λ (entries : List (Fact Entry)). IsNonDecreasingBy entry_rank entries) first (c.are_ranked.ensures c.if-not-are_ranked.false))
     (subst (λ (entries : List (Fact Entry)). HasSuspects entries digests) second c.in_ok-digests.ensures)
     (λ q.
-      let same = c.of.ensures q in
-      let once = c.are_distinct-2.ensures.distinct apart q in
-      omega arith)
+    let same = c.of.ensures q in
+    let once = c.are_distinct-2.ensures.distinct apart q in
+    omega arith)
