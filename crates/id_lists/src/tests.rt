@@ -36,6 +36,7 @@ const ROWS: [Row; 12] = [
 #[test]
 fn searches(rt: HostRuntime) -> Result<(), Fail> {
     for (list, id, before, at, of_it) in ROWS {
+        assert_eq!(rt; are_in_order::<_, ByItself>(list), true);
         let guesses = Guesses::of::<_, ByItself>(rt.alloc(), list)?;
         for guess in [guesses.near(id), NO_GUESS, 0, 3, 8] {
             assert_eq!(rt; below::<_, ByItself>(list, id, guess), before);
