@@ -120,7 +120,7 @@ fn fail_at_each_read(
     for (image, words, reads) in rows {
         let whole = end(alloc, *image, words, [&[], &[], &[]])?;
         assert!(rt;
-            whole.reads >= *reads && whole.reads < 40,
+            whole.reads >= *reads && whole.reads < 50,
             "{} reads",
             whole.reads
         );
