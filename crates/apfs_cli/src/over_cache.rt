@@ -70,8 +70,8 @@ fn on_source<S: BlockSource, W: Sink>(
     (ended, src)
 }
 
-/// Runs a command on an image whose blocks are kept as they are read, and gives the image back. None is kept for `check`, which reads
-/// each block twice at most, the second time long after the first.
+/// Runs a command on an image whose blocks are kept as they are read, and gives the image back. None is kept for `check`, each
+/// of whose walks reads a node once.
 pub fn on_cache<S: BlockSource, W: Sink>(
     alloc: Global,
     command: Command<'_>,
