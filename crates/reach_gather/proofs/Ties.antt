@@ -298,9 +298,9 @@ owned-is a b p q r = let k : owned_by a.who a.first a.blocks ≡ owned_by b.who 
 
 pub owned-one : CmpEqualImpliesEq owned_rank
 owned-one a b e =
-    let t1 = both-tie (who_rank a.who b.who) (ordering_then (nat_cmp a.first b.first) (nat_cmp a.blocks b.blocks)) e in
-    let t2 = both-tie (nat_cmp a.first b.first) (nat_cmp a.blocks b.blocks) t1.1 in
-    owned-is a b (who-one a.who b.who t1.0) (exact_unsigned a.first b.first t2.0) (exact_unsigned a.blocks b.blocks t2.1)
+    let t1 = both-tie (nat_cmp a.first b.first) (ordering_then (nat_cmp a.blocks b.blocks) (who_rank a.who b.who)) e in
+    let t2 = both-tie (nat_cmp a.blocks b.blocks) (who_rank a.who b.who) t1.1 in
+    owned-is a b (who-one a.who b.who t2.1) (exact_unsigned a.first b.first t1.0) (exact_unsigned a.blocks b.blocks t2.0)
 
 -- ---- and what is told as equal is one
 abbrev pub named_eq : Named → Named → Bool

@@ -22,10 +22,10 @@ pub enum OwnedBy {
     Bitmap(u64),
 }
 
-/// An owner, and its range.
+/// An owner's range, and the owner. The first block comes first, since most owners are told apart by it alone.
 #[derive(Clone, Copy, PartialEq, Eq, PartialOrd, Ord, Debug)]
 pub struct Owned {
-    pub who: OwnedBy,
     pub first: u64,
     pub blocks: u64,
+    pub who: OwnedBy,
 }

@@ -55,7 +55,7 @@ impl Ord for KeyRef<'_> {
             .cmp(&other.first)
             .then(self.second.cmp(&other.second))
             .then(self.third.cmp(&other.third))
-            .then(self.name.cmp(other.name))
+            .then_with(|| self.name.cmp(other.name))
     }
 }
 

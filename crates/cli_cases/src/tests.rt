@@ -6,8 +6,7 @@ mod checks;
 mod contents;
 mod images;
 
-use crate::put::{Line, put_lines};
-use crate::run::run;
+use apfs_cli::{Line, put_lines, run};
 use blk_source::{MemSink, Opened, StdSink};
 use cases::*;
 use checks::{CHECK, CHECK_CASES, FIRST_CASES, NINE_VIEWS};

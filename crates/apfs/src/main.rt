@@ -1,30 +1,12 @@
-//! `apfs`: checks and browses APFS containers. What it writes, and how it ends, is said by the contract of `run`.
+//! `apfs`: checks and browses APFS containers. What it writes, and how it ends, is said by the contract of `run` (apfs_cli).
 #![tactic(auto)]
 
-mod commands;
-mod fault_places;
-mod fault_text;
-mod fault_words;
-mod meant;
-mod meant_view;
-mod on_path;
-mod over_cache;
-mod put;
-mod run;
-mod say;
-mod shown;
-mod stopped;
-mod target_line;
-#[cfg(test)]
-mod tests;
-mod words;
-
+use apfs_cli::{asked, run};
 use blk_source::{FileSource, Opened, StdSink};
 use std::alloc::{AllocError, Global};
 use std::io::{self, ErrorKind};
 use std::process::ExitCode;
 use std::{env, fs};
-use words::asked;
 
 // The status of a run for which there was no memory.
 const OUT_OF_MEMORY: u8 = 5;
@@ -83,5 +65,5 @@ fn main(rt: HostRuntime) -> ExitCode {
     };
     let mut out = StdSink::new(rt.stdout());
     let mut err = StdSink::new(rt.stderr());
-    ExitCode::from(run::run(rt.alloc(), &words, &mut image, &mut out, &mut err))
+    ExitCode::from(run(rt.alloc(), &words, &mut image, &mut out, &mut err))
 }

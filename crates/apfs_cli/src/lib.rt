@@ -1,0 +1,23 @@
+//! The command line: what each command writes, and how a run ends, which the contract of `run` says.
+#![tactic(auto)]
+
+mod commands;
+mod fault_places;
+mod fault_text;
+mod fault_words;
+mod meant;
+mod meant_view;
+mod on_path;
+mod over_cache;
+mod put;
+mod run;
+mod say;
+mod shown;
+mod stopped;
+mod target_line;
+mod words;
+
+pub use put::{Line, put_lines};
+pub use run::run;
+pub use stopped::Stopped;
+pub use words::{Checks, Command, asked};
