@@ -1,14 +1,8 @@
 // What a walk over a Line has seen.
-ghost use Rattle.std.specs.Prelude.{◌≡◌, ◌<◌, Option};
-ghost use Rattle.bt_node.specs.Node.{level_of, count_of};
-ghost use Rattle.bt_node.specs.Entries.{pair_of};
-ghost use Rattle.bt_cursor.specs.Line.{item_at};
-ghost use Rattle.bt_cursor.specs.Stack.{IsStep};
+ghost use Rattle.std.specs.Prelude.{◌≡◌, Option};
 ghost use Rattle.bt_cursor.specs.Seen as spec;
 
-use crate::node::{lend, level};
-use crate::way::Step;
-use bt_node::{Rank, RootInfo, Site, TreeKey};
+use bt_node::{Rank, RootInfo, TreeKey};
 
 /// How many are still to come, and whether more came than were to come.
 #[derive(Clone, Copy, PartialEq, Eq, Debug)]
@@ -108,8 +102,8 @@ fn more(seen: Seen, level: u16, rank: Rank) -> Seen
     }
 }
 
-// What is seen after an item, or None where it is out of order.
-fn see<K: TreeKey>(seen: Seen, level: u16, key: &K) -> Option<Seen>
+/// What is seen after an item of a level, by its key, or None where it is out of order.
+pub(crate) fn see<K: TreeKey>(seen: Seen, level: u16, key: &K) -> Option<Seen>
     ensures { result ≡ spec.seen_key K.shape seen level key.now }
 {
     let rank = key.rank();
@@ -120,17 +114,6 @@ fn see<K: TreeKey>(seen: Seen, level: u16, key: &K) -> Option<Seen>
         return None;
     }
     Some(more(seen, level, rank))
-}
-
-/// What is seen after the next item of a step, or None where it is out of order.
-#[tactic(auto, using(crate::proofs::Steps::next_read))]
-pub(crate) fn see_next<K: TreeKey>(step: &Step, site: &Site, seen: Seen) -> Option<Seen>
-    requires step { IsStep K.shape site.now step.now }
-    requires inside { step.now.next < count_of step.now.block.items }
-    ensures { result ≡ spec.seen_next K.shape seen (item_at (level_of step.now.block.items) (pair_of K.shape step.now.block.items step.now.next)) }
-{
-    let entry = lend::<K>(step, site, step.next);
-    see::<K>(seen, level::<K>(step, site), &entry.key)
 }
 
 /// No key and no node is still to come, and none came that was not to come.
