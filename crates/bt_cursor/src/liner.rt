@@ -129,12 +129,11 @@ impl<K: TreeKey, N: Namer> Liner<K, N> {
         let next = self.way.last.next;
         let key = key_at::<K>(&self.way.last, &self.site, next);
         let high = level::<K>(&self.way.last, &self.site);
-        let Some(seen) = see::<K>(self.seen, high, &key) else {
+        if !see::<K>(&mut self.seen, high, &key) {
             return Err(Stop::Found(WalkFault::Order {
                 item: self.seen.number,
             }));
-        };
-        self.seen = seen;
+        }
         self.key = Some(key);
         self.way.last.next = next + 1;
         self.deep = 0 < high;
