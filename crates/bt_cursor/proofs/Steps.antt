@@ -46,10 +46,10 @@ line-step tree node i above false low upper =
     ∙ ap (λ k. item_at (level_of node) (pair_of tree.shape node k) ∷ (line_from tree node (i + 1) ++ rest tree above)) back
 
 -- a key that was read stands for its bytes
-pub next_read : {K : Type 0} (shape : Shape K) (seen : Seen) (level : ℕ) (pair : Pair) (key : K) → shape.read pair.key ≡ Some key → seen_key shape seen level key ≡ seen_next shape seen (item_at level pair)
-next_read {K = K} shape seen level pair key read =
+pub next_read : {K : Type 0} (shape : Shape K) (seen : Seen) (level high : ℕ) (pair : Pair) (key : K) → shape.read pair.key ≡ Some key → high ≡ level → seen_key shape seen high key ≡ seen_next shape seen (item_at level pair)
+next_read {K = K} shape seen level high pair key read same =
     let f : Option K → Option Seen = λ o. cond (falls_below (rank_or_least shape o) seen.before || ((is_leaf_item (item_at level pair) && passes o shape.strict) && is_again (rank_or_least shape o) seen.leaf)) None (Some (seen_more seen level (rank_or_least shape o))) in
-    ap f (sym read)
+    ap (λ n. seen_key shape seen n key) same ∙ ap f (sym read)
 
 -- an item that was seen was in order, and one that wasn't was out of order
 pub seen_some : {K : Type 0} (shape : Shape K) (seen new : Seen) (item : Item) → seen_next shape seen item ≡ Some new → (is_out shape seen item ≡ false) × (new ≡ seen_item shape seen item)

@@ -70,10 +70,6 @@ gapped_under tree level pair = or_gap (tree.look (child_place level pair)) (λ n
 abbrev pub places_ahead : {K : Type 0} → Tree K → Way → ℕ
 places_ahead tree way = length (places_in (all_met (gapped_ahead tree way)))
 
--- an entry was passed
-pub record HasPassedOne (way : Way) : Type 0 where
-  pub some : 0 < way.last.next
-
 -- an entry of level 0 was passed last
 pub record Stands (way : Way) : Type 0 where
   pub leaf : level_of way.last.block.items ≡ 0

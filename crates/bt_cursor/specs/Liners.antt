@@ -1,5 +1,5 @@
 -- What a liner is at.
-use Rattle.std.specs.Prelude.{◌≡◌, ℕ, nat_lt, Bool, true, false, List, [], ◌∷◌, ◌++◌, None}
+use Rattle.std.specs.Prelude.{◌≡◌, ℕ, ◌<◌, nat_lt, Bool, true, false, List, [], ◌∷◌, ◌++◌, None, IsSome}
 use Rattle.bt_node.specs.declared.key.TreeKey as keys
 use Rattle.obj_base.specs.declared.site.Site.{Site}
 use Rattle.bt_cursor.specs.declared.namer.Namer as namers
@@ -9,7 +9,7 @@ use Rattle.bt_cursor.specs.Tree.{Tree, tree_in}
 use Rattle.bt_cursor.specs.Line.{Item, line_of}
 use Rattle.bt_cursor.specs.Whole.{IsWhole}
 use Rattle.bt_cursor.specs.Stack.{IsIn}
-use Rattle.bt_cursor.specs.Ahead.{ahead_if, passed_item, passed_child, HasPassedOne}
+use Rattle.bt_cursor.specs.Ahead.{ahead_if, passed_pair, passed_item, passed_child}
 use Rattle.bt_cursor.specs.Advance.{HasGone}
 use Rattle.bt_cursor.specs.Fuel.{fuel_if}
 use Rattle.bt_cursor.specs.Seen.{is_out, seen_item}
@@ -41,12 +41,14 @@ is_deep liner = liner.deep
 abbrev pub fuel_of : {K N : Type 0} {k : keys.Ghosts K} {n : namers.Ghosts N} → Liner K N k n → ℕ
 fuel_of liner = fuel_if liner.deep liner.way
 
--- the last call of `next` moved onto an item
-abbrev pub HasItem : {K N : Type 0} {k : keys.Ghosts K} {n : namers.Ghosts N} → Liner K N k n → Type 0
-HasItem liner = HasPassedOne liner.way
+-- the last call of `next` moved onto an item, whose key it keeps
+pub record HasItem {K N : Type 0} {k : keys.Ghosts K} {n : namers.Ghosts N} (liner : Liner K N k n) : Type 0 where
+  pub some : 0 < liner.way.last.next
+  pub kept : IsSome liner.key
+  pub read : k.shape.read (passed_pair k.shape liner.way).key ≡ liner.key
 
 abbrev pub HasItemIf : {K N : Type 0} {k : keys.Ghosts K} {n : namers.Ghosts N} → Liner K N k n → Bool → Type 0
-HasItemIf liner true = HasPassedOne liner.way × (liner.deep ≡ nat_lt 0 (item_of liner).level)
+HasItemIf liner true = HasItem liner × (liner.deep ≡ nat_lt 0 (item_of liner).level)
 HasItemIf liner false = Unit {0}
 
 -- what it has seen, whether or not the image is told

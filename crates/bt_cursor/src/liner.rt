@@ -5,8 +5,8 @@ ghost use Rattle.bt_cursor.specs.Ahead.{IsDeep};
 
 use crate::fault::WalkFault;
 use crate::namer::Namer;
-use crate::node::{child, info, lend, level};
-use crate::seen::{Seen, fits, nothing_seen, see_next};
+use crate::node::{child, info, key_at, lend_with, level};
+use crate::seen::{Seen, fits, nothing_seen, see};
 use crate::start::start;
 use crate::walk::{climb, fall};
 use crate::way::Way;
@@ -14,7 +14,6 @@ use blk_source::BlockSource;
 use bt_node::{Entry, Site, TreeKey};
 use obj_base::Stop;
 use std::alloc::Global;
-use std::marker::PhantomData;
 
 /// A walk over the Line of a tree: each entry before those of its child. It tests the order of the items and at the
 /// end the root's numbers of keys and of nodes. It holds no source: each call that reads is handed the source from
@@ -27,7 +26,7 @@ pub struct Liner<K: TreeKey, N: Namer> {
     way: Way,
     deep: bool,
     seen: Seen,
-    kind: PhantomData<K>,
+    key: Option<K>,
     ghost sound: { IsWay K.shape site way.above.items way.last way.spare.items },
     ghost deep_in: { deep ≡ true → IsDeep way },
 }
@@ -92,7 +91,7 @@ impl<K: TreeKey, N: Namer> Liner<K, N> {
                     way,
                     deep: false,
                     seen,
-                    kind: PhantomData,
+                    key: None,
                 })
             }
             Err(stop) => Err(stop),
@@ -127,14 +126,16 @@ impl<K: TreeKey, N: Namer> Liner<K, N> {
             }
             return Err(Stop::Found(WalkFault::Counts));
         }
-        let Some(seen) = see_next::<K>(&self.way.last, &self.site, self.seen) else {
+        let next = self.way.last.next;
+        let key = key_at::<K>(&self.way.last, &self.site, next);
+        let high = level::<K>(&self.way.last, &self.site);
+        if !see::<K>(&mut self.seen, high, &key) {
             return Err(Stop::Found(WalkFault::Order {
                 item: self.seen.number,
             }));
-        };
-        let high = level::<K>(&self.way.last, &self.site);
-        self.seen = seen;
-        self.way.last.next += 1;
+        }
+        self.key = Some(key);
+        self.way.last.next = next + 1;
         self.deep = 0 < high;
         Ok(true)
     }
@@ -178,7 +179,7 @@ impl<K: TreeKey, N: Namer> Liner<K, N> {
         let level = level::<K>(&self.way.last, &self.site);
         LineItem {
             level,
-            pair: lend::<K>(&self.way.last, &self.site, last),
+            pair: lend_with::<K>(&self.way.last, &self.site, last, self.key.unwrap()),
             child: if level == 0 {
                 None
             } else {

@@ -122,6 +122,15 @@ pub(crate) fn load<K: TreeKey, S: BlockSource, N: Namer>(
     Ok(())
 }
 
+/// The key of an entry.
+pub(crate) fn key_at<K: TreeKey>(step: &Step, site: &Site, i: usize) -> K
+    requires step { IsStep K.shape site.now step.now }
+    requires inside { i < count_of step.now.block.items }
+    ensures { K.shape.read (pair_of K.shape step.now.block.items i).key ≡ Some result }
+{
+    view::<K>(step, site).key(i)
+}
+
 /// An entry, lent from the block.
 pub(crate) fn lend<'a, K: TreeKey>(step: &'a Step, site: &Site, i: usize) -> Entry<'a, K>
     requires step { IsStep K.shape site.now step.now }
@@ -131,6 +140,23 @@ pub(crate) fn lend<'a, K: TreeKey>(step: &'a Step, site: &Site, i: usize) -> Ent
     ensures key { K.shape.read result.key_bytes.now ≡ Some result.key }
 {
     view::<K>(step, site).entry(i)
+}
+
+/// An entry, lent from the block, with its key, which is handed in.
+pub(crate) fn lend_with<'a, K: TreeKey>(
+    step: &'a Step,
+    site: &Site,
+    i: usize,
+    key: K,
+) -> Entry<'a, K>
+    requires step { IsStep K.shape site.now step.now }
+    requires inside { i < count_of step.now.block.items }
+    requires key { K.shape.read (pair_of K.shape step.now.block.items i).key ≡ Some key }
+    ensures key_bytes { result.key_bytes.now ≡ (pair_of K.shape step.now.block.items i).key }
+    ensures value { option_map (λ value. value.now) result.value ≡ (pair_of K.shape step.now.block.items i).value }
+    ensures key { K.shape.read result.key_bytes.now ≡ Some result.key }
+{
+    view::<K>(step, site).entry_with(i, key)
 }
 
 /// What a root tells of its tree.

@@ -16,7 +16,7 @@ ghost use Rattle.bt_cursor.specs.Search.{IsCut, IsCutWay};
 
 use crate::fault::WalkFault;
 use crate::namer::Namer;
-use crate::node::{count, lend, level};
+use crate::node::{count, key_at, level};
 use crate::walk::{back, enter};
 use crate::way::{Step, Way};
 use blk_source::BlockSource;
@@ -30,8 +30,7 @@ fn rank_at<K: TreeKey>(step: &Step, site: &Site, i: usize) -> Rank
     requires inside { i < count_of step.now.block.items }
     ensures { result ≡ rank_of K.shape (pair_of K.shape step.now.block.items i) }
 {
-    let entry = lend::<K>(step, site, i);
-    entry.key.rank()
+    key_at::<K>(step, site, i).rank()
 }
 
 // A place of a rank among the entries of a node, by halves.

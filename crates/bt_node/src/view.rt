@@ -87,8 +87,17 @@ impl<'a, K: TreeKey> NodeView<'a, K> {
         node::level(self.bytes)
     }
 
+    /// The key of entry `i`.
+    #[tactic(auto, using(crate::proofs::Places::place_held))]
+    pub fn key(&self, i: usize) -> K
+        requires { i < fields.count_of self.now }
+        ensures { K.shape.read (spec.pair_of K.shape self.now i).key ≡ Some result }
+    {
+        let place = entries::place_at::<K>(self.bytes, i);
+        K::read(entries::key_in(self.bytes, place)).unwrap()
+    }
+
     /// Entry `i`, in the order of the table of contents.
-    #[tactic(auto, using(crate::proofs::Places::place_held, crate::proofs::Ranges::item_listed))]
     pub fn entry(&self, i: usize) -> Entry<'a, K>
         requires { i < fields.count_of self.now }
         ensures key_bytes { result.key_bytes.now ≡ (spec.pair_of K.shape self.now i).key }
@@ -96,11 +105,23 @@ impl<'a, K: TreeKey> NodeView<'a, K> {
         ensures key { K.shape.read result.key_bytes.now ≡ Some result.key }
         ensures listed { slice_get (spec.pairs_of K.shape self.now) i ≡ Some (spec.pair_of K.shape self.now i) }
     {
+        self.entry_with(i, self.key(i))
+    }
+
+    /// Entry `i`, with its key, which is handed in and isn't read again.
+    #[tactic(auto, using(crate::proofs::Places::place_held, crate::proofs::Ranges::item_listed))]
+    pub fn entry_with(&self, i: usize, key: K) -> Entry<'a, K>
+        requires inside { i < fields.count_of self.now }
+        requires key { K.shape.read (spec.pair_of K.shape self.now i).key ≡ Some key }
+        ensures key_bytes { result.key_bytes.now ≡ (spec.pair_of K.shape self.now i).key }
+        ensures value_bytes { option_map (λ value. value.now) result.value ≡ (spec.pair_of K.shape self.now i).value }
+        ensures key { K.shape.read result.key_bytes.now ≡ Some result.key }
+        ensures listed { slice_get (spec.pairs_of K.shape self.now) i ≡ Some (spec.pair_of K.shape self.now i) }
+    {
         let place = entries::place_at::<K>(self.bytes, i);
-        let key_bytes = entries::key_in(self.bytes, place);
         Entry {
-            key: K::read(key_bytes).unwrap(),
-            key_bytes,
+            key,
+            key_bytes: entries::key_in(self.bytes, place),
             value: entries::value_in(self.bytes, place),
         }
     }

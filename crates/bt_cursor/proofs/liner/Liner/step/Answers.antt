@@ -5,9 +5,10 @@ use Rattle.bt_cursor.specs.Tree.{tree_in, look_in}
 use Rattle.bt_cursor.specs.Line.{item_at}
 use Rattle.bt_cursor.specs.Seen.{is_out, seen_item}
 use Rattle.bt_cursor.specs.Advance.{IsBadNext}
+use Rattle.bt_cursor.specs.declared.seen.Seen.{Seen}
 use Rattle.bt_cursor.proofs.Fuels.{fuel-pass, pending-less}
 use Rattle.bt_cursor.proofs.Ways.{IsIn-moved}
-use Rattle.bt_cursor.proofs.Steps.{line-step, seen_some, seen_none}
+use Rattle.bt_cursor.proofs.Steps.{line-step, next_read, seen_some, seen_none}
 use Rattle.bt_cursor.proofs.liner.Liner.step.Goals as goal
 
 pub returns-clause-moved : goal.returns-clause-moved
@@ -20,9 +21,10 @@ returns-clause-moved g c image told =
     let node = last.block.items in
     let low : last.next < count_of node = search rules in
     let back : last.next + 1 - 1 ≡ last.next = omega arith in
-    let both = seen_some shape self.seen c.in-Some.seen (item_at (level_of node) (pair_of shape node last.next)) (sym c.in-Some.ensures) in (
+    let same = next_read shape self.seen (level_of node) c.level-high.result (pair_of shape node last.next) c.key_at-key.result c.key_at-key.ensures c.level-high.ensures in
+    let both = seen_some shape self.seen c.see.new.seen (item_at (level_of node) (pair_of shape node last.next)) (sym same ∙ c.see.ensures.seen (search rules)) in (
       sym (c.in_ok-fall.ensures.same image told) ∙ (sym (c.climb.ensures.same look) ∙ line-step tree node last.next c.climb.new.way.above.items (nat_lt 0 c.level-high.result) low (ap (nat_lt 0) c.level-high.ensures)),
-      subst (λ k. (is_out shape self.seen (item_at (level_of node) (pair_of shape node k)) ≡ false) × (c.in-Some.seen ≡ seen_item shape self.seen (item_at (level_of node) (pair_of shape node k)))) (sym back) both,
+      subst (λ k. (is_out shape self.seen (item_at (level_of node) (pair_of shape node k)) ≡ false) × (c.see.new.seen ≡ seen_item shape self.seen (item_at (level_of node) (pair_of shape node k)))) (sym back) both,
     )
 
 pub returns-clause-seen : goal.returns-clause-seen
@@ -32,11 +34,12 @@ returns-clause-seen g c =
     let last = c.climb.new.way.last in
     let node = last.block.items in
     let back : last.next + 1 - 1 ≡ last.next = omega arith in
-    let both = seen_some shape self.seen c.in-Some.seen (item_at (level_of node) (pair_of shape node last.next)) (sym c.in-Some.ensures) in
-    subst (λ k. (is_out shape self.seen (item_at (level_of node) (pair_of shape node k)) ≡ false) × (c.in-Some.seen ≡ seen_item shape self.seen (item_at (level_of node) (pair_of shape node k)))) (sym back) both
+    let same = next_read shape self.seen (level_of node) c.level-high.result (pair_of shape node last.next) c.key_at-key.result c.key_at-key.ensures c.level-high.ensures in
+    let both = seen_some shape self.seen c.see.new.seen (item_at (level_of node) (pair_of shape node last.next)) (sym same ∙ c.see.ensures.seen (search rules)) in
+    subst (λ k. (is_out shape self.seen (item_at (level_of node) (pair_of shape node k)) ≡ false) × (c.see.new.seen ≡ seen_item shape self.seen (item_at (level_of node) (pair_of shape node k)))) (sym back) both
 
-pub returns-in_default-clause-present : goal.returns-in_default-clause-present
-returns-in_default-clause-present g c image told within =
+pub returns-then-not-see-clause-present : goal.returns-then-not-see-clause-present
+returns-then-not-see-clause-present g c image told within =
     let shape = g.K.TreeKey.shape in
     let self = c.args.self.now in
     let look = look_in shape self.site (g.N.Namer.named self.namer) image in
@@ -45,9 +48,10 @@ returns-in_default-clause-present g c image told within =
     let node = last.block.items in
     let low : last.next < count_of node = search rules in
     let back : last.next + 1 - 1 ≡ last.next = omega arith in
-    let out = seen_none shape self.seen (item_at (level_of node) (pair_of shape node last.next)) (sym c.see_next.ensures ∙ search rules) in
+    let same = next_read shape self.seen (level_of node) c.level-high.result (pair_of shape node last.next) c.key_at-key.result c.key_at-key.ensures c.level-high.ensures in
+    let out = seen_none shape self.seen (item_at (level_of node) (pair_of shape node last.next)) (sym same ∙ c.see.ensures.out (search rules)) in
     let e = sym (c.in_ok-fall.ensures.same image told) ∙ (sym (c.climb.ensures.same look) ∙ line-step tree node last.next c.climb.new.way.above.items (nat_lt 0 (level_of node)) low refl) in
-    (refl, subst (IsBadNext shape self.seen) (sym e) (subst (λ k. is_out shape self.seen (item_at (level_of node) (pair_of shape node k)) ≡ true) (sym back) out))
+    (ap (λ (s : Seen). s.number) (c.see.ensures.same (search rules)), subst (IsBadNext shape self.seen) (sym e) (subst (λ k. is_out shape self.seen (item_at (level_of node) (pair_of shape node k)) ≡ true) (sym back) out))
 
 pub returns-clause-fuel : goal.returns-clause-fuel
 returns-clause-fuel g c moved =
