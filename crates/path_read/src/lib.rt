@@ -8,8 +8,6 @@ mod kept;
 mod search;
 mod stop;
 mod streams;
-#[cfg(test)]
-mod tests;
 
 pub use attribute::attr;
 pub use attributes::attrs;

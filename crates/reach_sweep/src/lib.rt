@@ -9,8 +9,6 @@ mod gathering;
 mod loading;
 mod reaching;
 mod sweeping;
-#[cfg(test)]
-mod tests;
 mod theorem;
 
 pub use accounting::{Tally, account};

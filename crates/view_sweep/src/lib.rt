@@ -10,8 +10,6 @@ mod order;
 mod reaching;
 mod reading;
 mod sweeping;
-#[cfg(test)]
-mod tests;
 mod used;
 mod wanted;
 

@@ -15,8 +15,6 @@ mod slots;
 mod snapshots;
 mod stop;
 mod superblock;
-#[cfg(test)]
-mod tests;
 mod views;
 mod volume;
 

@@ -1,0 +1,4 @@
+// Paths in made containers.
+
+mod reads;
+mod walks;

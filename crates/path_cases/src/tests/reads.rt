@@ -1,0 +1,152 @@
+// What no clause says: each call once on its happy path, in a container with a file and a symbolic link that has two attributes.
+ghost use Rattle.std.specs.Prelude.{IfOk, length};
+ghost use Rattle.obj_base.specs.Site.{IsSiteFor};
+
+use path_read::{WriteStop, attr, attrs, cat};
+use apfs_model::Bytes;
+use blk_source::{MemSink, MemSource};
+use fs_name::Names;
+use img_make::records::{InodePlan, LINK_MODE, attribute, stream_attribute};
+use img_make::{FileTree, Item, Sample, make, sample};
+use nx_ring::newest;
+use obj_base::{Site, Stop};
+use path_walk::{Answer, PathStop};
+use std::alloc::Global;
+use std::process::Abort;
+use std::test::Fail;
+use vol_view::{View, Volume, heads, live, load};
+
+// The root, the file and its stream, the link, and the stream of the link's second attribute.
+const ROOT: u64 = 2;
+
+const FILE: u64 = 16;
+
+const LINK: u64 = 17;
+
+const SECOND: u64 = 18;
+
+// The target's record comes first, and its name is the greater one.
+fn items(alloc: Global) -> Result<Vec<Item>, Fail> {
+    let mut tree = FileTree::new(alloc, Names::Folded)?;
+    let mut file = InodePlan::file(FILE, ROOT);
+    file.stream = Some(5);
+    tree.add(alloc, file, "hello.txt")?;
+    tree.stream(alloc, FILE, &[(0, 4096, 57)])?;
+    let mut link = InodePlan::file(LINK, ROOT);
+    link.mode = LINK_MODE;
+    tree.add(alloc, link, "l")?;
+    tree.record(attribute(alloc, LINK, b"com.apple.fs.symlink", b"hello\0")?)?;
+    tree.record(stream_attribute(alloc, LINK, b"b", SECOND, 3)?)?;
+    tree.stream(alloc, SECOND, &[(0, 4096, 57)])?;
+    Ok(tree.items(alloc)?)
+}
+
+fn made(alloc: Global) -> Result<MemSource, Fail> {
+    let mut plan = sample(alloc, Sample::H)?;
+    let items = items(alloc)?;
+    match plan.volumes.get_mut(0) {
+        Some(volume) => match volume.versions.get_mut(0) {
+            Some(version) => match version.leaves.get_mut(0) {
+                Some(leaf) => leaf.items = items,
+                None => return Err(Fail::from("no leaf")),
+            },
+            None => return Err(Fail::from("no version")),
+        },
+        None => return Err(Fail::from("no volume")),
+    }
+    if !plan.valid() {
+        return Err(Fail::from("the plan isn't valid"));
+    }
+    let image = make(alloc, &plan)?;
+    Ok(MemSource::new(image, Vec::new(alloc)))
+}
+
+// The volume, its live view and the site.
+fn open(alloc: Global, src: &mut MemSource) -> Result<(Volume, View, Site), Fail>
+    ensures { IfOk result (λ found. IsSiteFor found.2 (length src.new.bytes)) }
+{
+    let Ok(cp) = newest(alloc, src) else {
+        return Err(Fail::from("no checkpoint"));
+    };
+    let found = match heads(alloc, src, &cp) {
+        Ok(found) => found,
+        Err(_) => return Err(Fail::from("no heads")),
+    };
+    if found.is_empty() {
+        return Err(Fail::from("no volume"));
+    }
+    let volume = match load(alloc, src, &cp, &found[0]) {
+        Ok(volume) => volume,
+        Err(_) => return Err(Fail::from("no such volume")),
+    };
+    let view = live(&volume, &cp);
+    let site = cp.site();
+    Ok((volume, view, site))
+}
+
+#[test]
+fn a_file_is_written(rt: HostRuntime) -> Result<(), Fail> {
+    let alloc = rt.alloc();
+    let mut src = made(alloc)?;
+    let (volume, view, site) = open(alloc, &mut src)?;
+    let mut out = MemSink::new(alloc, 100, Vec::new(alloc))?;
+    let end = cat(
+        alloc,
+        &mut src,
+        &volume,
+        &view,
+        &site,
+        "/hello.txt",
+        &mut out,
+    );
+    assert_eq!(rt; end, Ok(()));
+    assert_eq!(rt; out.contents(), b"hello".as_slice());
+    let end = cat(alloc, &mut src, &volume, &view, &site, "/l", &mut out);
+    assert_eq!(rt;
+        end,
+        Err(WriteStop::Stopped(Stop::Found(PathStop::Answer(Answer::NotFile))))
+    );
+    Ok(())
+}
+
+#[test]
+fn attributes_are_listed_by_name(rt: HostRuntime) -> Result<(), Fail> {
+    let alloc = rt.alloc();
+    let mut src = made(alloc)?;
+    let (volume, view, site) = open(alloc, &mut src)?;
+    let Ok(listed) = attrs(alloc, &mut src, &volume, &view, &site, "/l") else {
+        panic!(rt; "there are no attributes");
+    };
+    let first = (Bytes::from_slice(alloc, b"b")?, 3);
+    let second = (Bytes::from_slice(alloc, b"com.apple.fs.symlink")?, 6);
+    assert_eq!(rt; listed, vec![in alloc; first, second]?);
+    Ok(())
+}
+
+// What is written of an attribute of the link, and how that ends.
+fn written(alloc: Global, name: &str) -> Result<(Result<(), WriteStop>, Vec<u8>), Fail> {
+    let mut src = made(alloc)?;
+    let (volume, view, site) = open(alloc, &mut src)?;
+    let mut out = MemSink::new(alloc, 100, Vec::new(alloc))?;
+    let end = attr(alloc, &mut src, &volume, &view, &site, "/l", name, &mut out);
+    let bytes = out.contents().to_vec(alloc)?;
+    Ok((end, bytes))
+}
+
+#[test]
+fn an_attribute_is_written(rt: HostRuntime) -> Result<(), Fail> {
+    let alloc = rt.alloc();
+    let (end, bytes) = written(alloc, "com.apple.fs.symlink")?;
+    assert_eq!(rt; end, Ok(()));
+    assert_eq!(rt; bytes.as_slice(), b"hello\0".as_slice());
+    let (end, bytes) = written(alloc, "b")?;
+    assert_eq!(rt; end, Ok(()));
+    assert_eq!(rt; bytes.as_slice(), b"hel".as_slice());
+    let (end, bytes) = written(alloc, "com.apple.fs.symlin")?;
+    assert_eq!(rt;
+        end,
+        Err(WriteStop::Stopped(Stop::Found(PathStop::Answer(Answer::NoAttribute))))
+    );
+    assert_eq!(rt; bytes.len(), 0);
+    Ok(())
+}

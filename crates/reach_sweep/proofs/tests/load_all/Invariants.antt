@@ -1,5 +1,0 @@
-use Rattle.apfs_model.specs.Source.{IsKept}
-use Rattle.reach_sweep.proofs.tests.load_all.Given as goal
-
-abbrev pub invariant-each : goal.invariant-each
-invariant-each g l = IsKept g.S.BlockSource.bytes g.S.BlockSource.bytes_len g.S.BlockSource.faults l.fn.src l.src

@@ -1,0 +1,4 @@
+// Sweeps of made containers.
+
+mod accounts;
+mod views;

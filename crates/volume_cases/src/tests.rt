@@ -1,0 +1,5 @@
+// Volumes of made containers.
+
+mod ranges;
+mod streams;
+mod volumes;

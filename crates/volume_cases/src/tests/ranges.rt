@@ -1,0 +1,162 @@
+// The extent reference tree of a made container, and ranges that meet, overlap or pass the greatest number.
+ghost use Rattle.std.specs.Prelude.{◌≤◌};
+
+use ext_ref::{Cover, ExtScan, ExtStop, NewRange, covered, new_ranges, references, scan};
+use blk_source::{BlockSource, MemSource};
+use bt_cursor::WalkFault;
+use fs_record::FileExt;
+use img_make::{Sample, make, sample};
+use obj_base::{Site, Stop};
+use std::alloc::Global;
+use std::test::Fail;
+
+const TOP: u64 = u64::MAX;
+
+const SITE: Site = Site {
+    block_size: 4096,
+    blocks: 256,
+    max_xid: 1,
+};
+
+// The container in which two files share block 57.
+fn shared(alloc: Global, fails: &[u64]) -> Result<MemSource, Fail> {
+    let plan = sample(alloc, Sample::C)?;
+    let src = MemSource::new(make(alloc, &plan)?, fails.to_vec(alloc)?);
+    if src.size() < 4096 * 256 {
+        return Err(Fail::from("the image is too short"));
+    }
+    Ok(src)
+}
+
+fn scanned(
+    alloc: Global,
+    root: u64,
+    fails: &[u64],
+) -> Result<Result<ExtScan, Stop<ExtStop>>, Fail> {
+    let mut src = shared(alloc, fails)?;
+    if src.size() < 4096 * 256 {
+        return Err(Fail::from("the image is too short"));
+    }
+    Ok(scan(alloc, &mut src, root, &SITE))
+}
+
+fn range(first: u64, length: u64) -> NewRange {
+    NewRange {
+        first,
+        length,
+        count: 1,
+    }
+}
+
+#[test]
+fn a_shared_block_is_one_range(rt: HostRuntime) -> Result<(), Fail> {
+    let alloc = rt.alloc();
+    let Ok(scan) = scanned(alloc, 55, &[])? else {
+        panic!(rt; "the tree isn't right");
+    };
+    let one = NewRange {
+        first: 57,
+        length: 1,
+        count: 2,
+    };
+    assert_eq!(rt; scan.nodes.as_slice(), [55].as_slice());
+    assert_eq!(rt; scan.ranges.as_slice(), [one].as_slice());
+    Ok(())
+}
+
+#[test]
+fn no_tree_has_no_ranges(rt: HostRuntime) -> Result<(), Fail> {
+    let alloc = rt.alloc();
+    let mut src = shared(alloc, &[1])?;
+    if src.size() < 4096 * 256 {
+        return Err(Fail::from("the image is too short"));
+    }
+    let ranges = new_ranges(alloc, &mut src, 0, &SITE);
+    assert!(rt; ranges.is_ok_and(|ranges| ranges.is_empty()));
+    Ok(())
+}
+
+#[test]
+fn what_stops_a_scan(rt: HostRuntime) -> Result<(), Fail> {
+    let alloc = rt.alloc();
+    let unnamed = ExtStop::Walk(WalkFault::Unnamed { oid: 256 });
+    assert_eq!(rt; scanned(alloc, 256, &[])?.err(), Some(Stop::Found(unnamed)));
+    assert_eq!(rt; scanned(alloc, 55, &[1])?.err(), Some(Stop::ReadFault));
+    Ok(())
+}
+
+#[test]
+fn which_ranges_are_covered(rt: HostRuntime) -> Result<(), Fail> {
+    let alloc = rt.alloc();
+    let ranges = [
+        range(60, 2),
+        range(57, 3),
+        range(58, 1),
+        range(70, 0),
+        range(80, 5),
+        range(82, 9),
+        range(TOP, 5),
+    ];
+    let cover = Cover::of(alloc, &ranges)?;
+    let cases = [
+        (57, 5, true),
+        (58, 4, true),
+        (56, 2, false),
+        (61, 2, false),
+        (60, 1, true),
+        (70, 1, false),
+        (70, 0, true),
+        (80, 11, true),
+        (81, 11, false),
+        (0, 1, false),
+        (TOP, 5, true),
+        (TOP, 6, false),
+        (TOP, TOP, false),
+    ];
+    for (first, length, expected) in cases {
+        assert_eq!(rt; cover.covers(first, length), expected, "{first} {length}");
+        assert_eq!(rt;
+            covered(&ranges, first, length),
+            expected,
+            "{first} {length}"
+        );
+    }
+    Ok(())
+}
+
+// An extent of so many blocks of 4,096 bytes, less one byte.
+fn extent(block: u64, blocks: u64) -> FileExt
+    requires some { 1 ≤ blocks }
+    requires few { blocks ≤ 1000 }
+{
+    FileExt {
+        logical: 0,
+        length: 4096 * blocks - 1,
+        block,
+    }
+}
+
+#[test]
+fn streams_are_counted_once_a_range(rt: HostRuntime) -> Result<(), Fail> {
+    let ranges = [
+        range(40, 1),
+        range(10, 5),
+        range(12, 8),
+        range(30, 0),
+        range(TOP, 5),
+        range(1, 1000),
+    ];
+    // streams 1 and 2 share block 14, stream 2 twice; a hole; an extent over two ranges; one about an empty range
+    let extents = [
+        (3, extent(39, 2)),
+        (2, extent(14, 1)),
+        (1, extent(10, 2)),
+        (2, extent(14, 2)),
+        (4, extent(0, 1000)),
+        (1, extent(14, 1)),
+        (5, extent(29, 3)),
+    ];
+    let counts = references(rt.alloc(), &ranges, &extents, 4096)?;
+    assert_eq!(rt; counts.as_slice(), [1, 2, 2, 0, 0, 4].as_slice());
+    Ok(())
+}

@@ -1,0 +1,138 @@
+// The stream of the sample container's file that begins with a hole: 5,000 bytes, of which the first 4,096 are a hole and
+// the others are `A`s in block 57.
+ghost use Rattle.std.specs.Prelude.{length, IfOk};
+ghost use Rattle.obj_base.specs.Site.{IsSiteFor};
+
+use file_extent::{CopyFault, Stream, StreamStop};
+use blk_source::{MemSink, MemSource};
+use img_make::{Sample, edit, make, sample};
+use nx_ring::newest;
+use obj_base::Stop;
+use std::alloc::Global;
+use std::process::Abort;
+use std::test::Fail;
+use vol_view::{heads, live, load};
+
+const FILE: u64 = 16;
+
+const SIZE: u64 = 5000;
+
+// The node of the view's records, and the start of the value of the second extent: a length of 4,096 and block 57.
+const LEAF: usize = 54;
+
+const EXTENT: [u8; 16] = [0, 16, 0, 0, 0, 0, 0, 0, 57, 0, 0, 0, 0, 0, 0, 0];
+
+fn made(alloc: Global) -> Result<Vec<u8>, Fail> {
+    let plan = sample(alloc, Sample::P)?;
+    if !plan.valid() {
+        return Err(Fail::from("the plan isn't valid"));
+    }
+    Ok(make(alloc, &plan)?)
+}
+
+// The container with one byte changed in the value of the second extent.
+fn edited(alloc: Global, at: usize, byte: u8) -> Result<MemSource, Fail> {
+    let mut image = made(alloc)?;
+    let Some(leaf) = image.get(LEAF * 4096..LEAF * 4096 + 4096) else {
+        return Err(Fail::from("no such node"));
+    };
+    let Some(place) = leaf
+        .windows(16)
+        .position(|bytes| bytes == EXTENT.as_slice())
+    else {
+        return Err(Fail::from("no such extent"));
+    };
+    if place > 4000 || at > 16 || !edit(&mut image, 4096, LEAF, place + at, &[byte]) {
+        return Err(Fail::from("no such place"));
+    }
+    Ok(MemSource::new(image, Vec::new(alloc)))
+}
+
+// The stream of an id in the live view; a fault of the layers below is no answer of these tests.
+fn open(alloc: Global, src: &mut MemSource, id: u64) -> Result<Stream, Stop<StreamStop>>
+    ensures { IfOk result (λ stream. IsSiteFor stream.site (length src.new.bytes)) }
+{
+    let Ok(cp) = newest(alloc, src) else {
+        return Err(Stop::NoMemory);
+    };
+    let found = match heads(alloc, src, &cp) {
+        Ok(found) => found,
+        Err(_) => return Err(Stop::NoMemory),
+    };
+    if found.is_empty() {
+        return Err(Stop::NoMemory);
+    }
+    let volume = match load(alloc, src, &cp, &found[0]) {
+        Ok(volume) => volume,
+        Err(_) => return Err(Stop::NoMemory),
+    };
+    Stream::start(
+        alloc,
+        src,
+        &volume,
+        &live(&volume, &cp),
+        id,
+        SIZE,
+        &cp.site(),
+    )
+}
+
+#[test]
+fn a_hole_is_zeros_and_the_size_is_the_end(rt: HostRuntime) -> Result<(), Fail> {
+    let alloc = rt.alloc();
+    let mut src = MemSource::new(made(alloc)?, Vec::new(alloc));
+    let Ok(stream) = open(alloc, &mut src, FILE) else {
+        panic!(rt; "there is no stream");
+    };
+    let mut into = [1u8; 20];
+    assert_eq!(rt; stream.read_into(&mut src, 4990, &mut into)?, 10);
+    assert_eq!(rt;
+        into,
+        *b"AAAAAAAAAA\x01\x01\x01\x01\x01\x01\x01\x01\x01\x01"
+    );
+    assert_eq!(rt; stream.read_into(&mut src, 5000, &mut into)?, 0);
+    assert_eq!(rt; stream.read_into(&mut src, 4086, &mut into)?, 20);
+    assert_eq!(rt; into, *b"\0\0\0\0\0\0\0\0\0\0AAAAAAAAAA");
+    Ok(())
+}
+
+// How a copy ends into a sink with room for the bytes that refuses the put of this number, and how many it then has.
+fn copied(alloc: Global, id: u64, put: u64) -> Result<(Result<(), CopyFault>, usize), Fail> {
+    let mut src = MemSource::new(made(alloc)?, Vec::new(alloc));
+    let Ok(stream) = open(alloc, &mut src, id) else {
+        return Err(Fail::from("there is no stream"));
+    };
+    let mut out = MemSink::new(alloc, 5000, vec![in alloc; put]?)?;
+    let end = stream.copy_to(&mut src, &mut out);
+    Ok((end, out.contents().len()))
+}
+
+#[test]
+fn a_copy_goes_in_pieces_up_to_a_refused_one(rt: HostRuntime) -> Result<(), Fail> {
+    let alloc = rt.alloc();
+    assert_eq!(rt; copied(alloc, FILE, 3)?, (Ok(()), 5000));
+    assert_eq!(rt; copied(alloc, FILE, 2)?, (Err(CopyFault::WriteFault), 4096));
+    // No extent is of this id, so each byte is a zero.
+    assert_eq!(rt; copied(alloc, 99, 1)?, (Err(CopyFault::WriteFault), 0));
+    Ok(())
+}
+
+#[test]
+fn extents_that_are_wrong(rt: HostRuntime) -> Result<(), Fail> {
+    let alloc = rt.alloc();
+    // A length of 4,097 and of 0; blocks 313 and 255, of which there are 256, and none.
+    let cases = [
+        (0, 1, Some(StreamStop::Order)),
+        (1, 0, Some(StreamStop::Order)),
+        (9, 1, Some(StreamStop::Outside)),
+        (8, 255, None),
+        (8, 0, None),
+    ];
+    for (at, byte, stop) in cases {
+        match open(alloc, &mut edited(alloc, at, byte)?, FILE) {
+            Ok(_) => assert!(rt; stop.is_none(), "{at}"),
+            Err(other) => assert_eq!(rt; Some(other), stop.map(Stop::Found), "{at}"),
+        }
+    }
+    Ok(())
+}

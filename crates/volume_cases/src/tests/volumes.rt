@@ -1,0 +1,212 @@
+// The volume of the small sample container, a second volume beside it, and small edits of both.
+
+mod loads;
+
+use vol_view::{VolHead, VolStop, heads};
+use blk_source::{Bytes, MemSource};
+use fs_name::Names;
+use img_make::{Plan, Sample, edit, make, make_with, sample, write};
+use nx_ring::{RingFault, newest};
+use obj_base::{Feature, HeadFault, Stop, Within};
+use omap_map::OmapFault;
+use std::alloc::Global;
+use std::process::Abort;
+use std::test::Fail;
+
+// An edit: a block, a place in it, and the byte that it gets.
+type Edit = (usize, usize, u8);
+
+// The newest superblock, the container's map, the node of its records, and the superblocks of two volumes.
+const NEWEST: usize = 2;
+
+const MAP: usize = 25;
+
+const RECORDS: usize = 26;
+
+const SUPER: usize = 51;
+
+const SECOND: usize = 57;
+
+const UUID: [u8; 16] = [
+    0xff, 0xee, 0xdd, 0xcc, 0xbb, 0xaa, 0x99, 0x88, 0x77, 0x66, 0x55, 0x44, 0x33, 0x22, 0x11, 0x00,
+];
+
+fn made(alloc: Global, plan: &Plan, edits: &[Edit], sealed: bool) -> Result<Vec<u8>, Fail> {
+    if !plan.valid() {
+        return Err(Fail::from("the plan isn't valid"));
+    }
+    let mut image = make(alloc, plan)?;
+    for (block, place, byte) in edits.iter() {
+        let done = if sealed {
+            edit(&mut image, 4096, *block, *place, &[*byte])
+        } else {
+            write(&mut image, 4096, *block, *place, &[*byte])
+        };
+        if !done {
+            return Err(Fail::from("no such place"));
+        }
+    }
+    Ok(image)
+}
+
+fn edited(alloc: Global, edits: &[Edit], sealed: bool) -> Result<Vec<u8>, Fail> {
+    let plan = sample(alloc, Sample::S)?;
+    made(alloc, &plan, edits, sealed)
+}
+
+// The small container with blocks of 65,536 bytes.
+fn large(alloc: Global) -> Result<Vec<u8>, Fail> {
+    let plan = sample(alloc, Sample::S)?;
+    if !plan.valid() || plan.blocks > 256 {
+        return Err(Fail::from("the plan isn't valid"));
+    }
+    Ok(make_with(alloc, &plan, 65536)?)
+}
+
+// A container of two volumes in the slots 0 and 3, with the roles 0x40 and 0x102. The second has no features and counts
+// five snapshots.
+fn with_a_gap(alloc: Global) -> Result<Vec<u8>, Fail> {
+    let mut plan = sample(alloc, Sample::S)?;
+    let mut other = sample(alloc, Sample::S)?;
+    let Some(mut volume) = other.volumes.pop() else {
+        return Err(Fail::from("the sample has no volume"));
+    };
+    volume.name = b"Second".to_vec(alloc)?;
+    plan.volumes.push(volume)?;
+    let edits = [
+        (NEWEST, 192, 0),
+        (NEWEST, 193, 0),
+        (NEWEST, 208, 0x07),
+        (NEWEST, 209, 0x04),
+        (SUPER, 964, 0x40),
+        (SECOND, 56, 0),
+        (SECOND, 216, 5),
+        (SECOND, 964, 0x02),
+        (SECOND, 965, 0x01),
+    ];
+    made(alloc, &plan, &edits, true)
+}
+
+// The heads of an image, by its newest checkpoint; a fault of the ring is no answer of these tests.
+fn volumes(alloc: Global, image: Vec<u8>, fails: Vec<u64>) -> Result<Vec<VolHead>, Stop<VolStop>> {
+    let mut src = MemSource::new(image, fails);
+    match newest(alloc, &mut src) {
+        Ok(cp) => heads(alloc, &mut src, &cp),
+        Err(Stop::<RingFault>::ReadFault) => Err(Stop::ReadFault),
+        Err(_) => Err(Stop::NoMemory),
+    }
+}
+
+fn assert_small(rt: &impl Abort, alloc: Global, image: Vec<u8>) -> Result<(), Fail> {
+    let Ok(heads) = volumes(alloc, image, Vec::new(alloc)) else {
+        panic!(rt; "there are no heads");
+    };
+    assert_eq!(rt; heads.len(), 1);
+    let head = &heads[0];
+    assert_eq!(rt; (head.slot, head.oid, head.block), (0, 1026, 51));
+    assert_eq!(rt; head.uuid, UUID);
+    assert_eq!(rt; (head.role, head.incompat, head.snapshots), (0, 1, 0));
+    assert!(rt; head.name == Bytes::from_slice(alloc, b"Small")?);
+    Ok(())
+}
+
+fn assert_stop(rt: &impl Abort, alloc: Global, image: Vec<u8>, stop: Stop<VolStop>) {
+    match volumes(alloc, image, Vec::new(alloc)) {
+        Ok(_) => panic!(rt; "there are heads"),
+        Err(other) => assert_eq!(rt; other, stop),
+    }
+}
+
+#[test]
+fn the_small_volume(rt: HostRuntime) -> Result<(), Fail> {
+    let alloc = rt.alloc();
+    assert_small(&rt, alloc, edited(alloc, &[], true)?)?;
+    assert_small(&rt, alloc, edited(alloc, &[(SUPER, 264, 0)], true)?)?;
+    assert_small(&rt, alloc, large(alloc)?)
+}
+
+#[test]
+fn two_volumes_with_an_empty_slot_between(rt: HostRuntime) -> Result<(), Fail> {
+    let alloc = rt.alloc();
+    let Ok(heads) = volumes(alloc, with_a_gap(alloc)?, Vec::new(alloc)) else {
+        panic!(rt; "there are no heads");
+    };
+    assert_eq!(rt; heads.len(), 2);
+    let first = &heads[0];
+    assert_eq!(rt; (first.slot, first.oid, first.block), (0, 1026, 51));
+    assert_eq!(rt; (first.role, first.incompat, first.snapshots), (0x40, 1, 0));
+    assert_eq!(rt; first.names(), Names::Folded);
+    let second = &heads[1];
+    assert_eq!(rt; (second.slot, second.oid, second.block), (3, 1031, 57));
+    assert_eq!(rt;
+        (second.role, second.incompat, second.snapshots),
+        (0x102, 0, 5)
+    );
+    assert_eq!(rt; second.names(), Names::Exact);
+    assert!(rt; second.name == Bytes::from_slice(alloc, b"Second")?);
+    Ok(())
+}
+
+#[test]
+fn a_failed_read_stops_them(rt: HostRuntime) -> Result<(), Fail> {
+    let alloc = rt.alloc();
+    for read in [1u64, 23, 24, 25] {
+        let image = edited(alloc, &[], true)?;
+        let fails = vec![in alloc; read]?;
+        match volumes(alloc, image, fails) {
+            Ok(_) => panic!(rt; "there are heads: {read}"),
+            Err(stop) => assert_eq!(rt; stop, Stop::ReadFault, "{read}"),
+        }
+    }
+    Ok(())
+}
+
+#[test]
+fn what_stops_the_volumes(rt: HostRuntime) -> Result<(), Fail> {
+    let alloc = rt.alloc();
+    let deleted = edited(alloc, &[(RECORDS, 4040, 1)], true)?;
+    let unnamed = VolStop::Unnamed {
+        within: Within::Container,
+        oid: 1026,
+    };
+    assert_stop(&rt, alloc, deleted, Stop::Found(unnamed));
+    let torn = edited(alloc, &[(SUPER, 4095, 1)], false)?;
+    let head = VolStop::Head {
+        block: 51,
+        why: HeadFault::BadSum,
+    };
+    assert_stop(&rt, alloc, torn, Stop::Found(head));
+    let magic = edited(alloc, &[(SUPER, 32, 0)], true)?;
+    assert_stop(&rt, alloc, magic, Stop::Found(VolStop::Magic { block: 51 }));
+    let map = edited(alloc, &[(MAP, 4095, 1)], false)?;
+    let fault = OmapFault::Head {
+        block: 25,
+        why: HeadFault::BadSum,
+    };
+    assert_stop(&rt, alloc, map, Stop::Found(VolStop::Omap(fault)));
+    Ok(())
+}
+
+#[test]
+fn features_of_the_map_and_of_its_record(rt: HostRuntime) -> Result<(), Fail> {
+    let alloc = rt.alloc();
+    let counted = edited(alloc, &[(MAP, 36, 1)], true)?;
+    let snapshots = Stop::Unsupported {
+        feature: Feature::ContainerSnapshots,
+        block: 25,
+    };
+    assert_stop(&rt, alloc, counted, snapshots);
+    let flagged = edited(alloc, &[(RECORDS, 4040, 8)], true)?;
+    let headless = Stop::Unsupported {
+        feature: Feature::NoHeader,
+        block: 51,
+    };
+    assert_stop(&rt, alloc, flagged, headless);
+    let large = edited(alloc, &[(RECORDS, 4045, 32)], true)?;
+    let size = Stop::Unsupported {
+        feature: Feature::Size,
+        block: 51,
+    };
+    assert_stop(&rt, alloc, large, size);
+    Ok(())
+}
