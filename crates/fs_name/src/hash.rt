@@ -5,7 +5,7 @@ ghost use Rattle.fs_name.specs.Hash.{after_char, hash_chars, name_hash_of};
 ghost use Rattle.fs_name.specs.Normal.{letter_of};
 
 use crate::Names;
-use crate::crc::{ONES, after_byte};
+use crate::crc::{ONES, after_word};
 use crate::normal::normal_text;
 use apfs_model::NoMemory;
 use std::alloc::Global;
@@ -52,35 +52,20 @@ fn after_text(text: &str) -> u32
     ensures { result ≡ fold after_char ones (chars text.now) }
 {
     text.chars()
-        .fold(ONES, |rest, c| after_number(rest, u32::from(c)))
+        .fold(ONES, |rest, c| after_word(rest, u32::from(c)))
 }
 
 // The remainder after the normal form of an ASCII name.
 fn after_letters(names: Names, name: &[u8]) -> u32
     ensures { result ≡ fold (λ rest b. after_char rest (letter_of names b)) ones name.now }
 {
-    name.iter().fold(
-        ONES,
-        |rest, b| after_number(rest, u32::from(letter(names, *b))),
-    )
-}
-
-// The normal form of an ASCII letter.
-fn letter(names: Names, b: u8) -> u8
-    ensures { result ≡ letter_of names b }
-{
     match names {
-        Names::Exact | Names::Normal => b,
-        Names::Folded => b.to_ascii_lowercase(),
+        Names::Exact | Names::Normal => name
+            .iter()
+            .fold(ONES, |rest, b| after_word(rest, u32::from(*b))),
+        Names::Folded => name.iter().fold(
+            ONES,
+            |rest, b| after_word(rest, u32::from(b.to_ascii_lowercase())),
+        ),
     }
-}
-
-// A remainder after a number of 32 bits, its lowest byte first.
-fn after_number(remainder: u32, number: u32) -> u32
-    ensures { result ≡ after_char remainder number }
-{
-    number
-        .to_le_bytes()
-        .iter()
-        .fold(remainder, |rest, byte| after_byte(rest, *byte))
 }
