@@ -2,7 +2,6 @@
 ghost use Rattle.std.specs.Prelude.{IfOk, length};
 ghost use Rattle.obj_base.specs.Site.{IsSiteFor};
 
-use path_read::{WriteStop, attr, attrs, cat};
 use apfs_model::Bytes;
 use blk_source::{MemSink, MemSource};
 use fs_name::Names;
@@ -10,6 +9,7 @@ use img_make::records::{InodePlan, LINK_MODE, attribute, stream_attribute};
 use img_make::{FileTree, Item, Sample, make, sample};
 use nx_ring::newest;
 use obj_base::{Site, Stop};
+use path_read::{WriteStop, attr, attrs, cat};
 use path_walk::{Answer, PathStop};
 use std::alloc::Global;
 use std::process::Abort;

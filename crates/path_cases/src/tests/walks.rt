@@ -2,11 +2,11 @@
 
 mod made;
 
-use path_walk::{Target, find, list, tree};
 use apfs_model::Bytes;
 use blk_source::MemSource;
 use img_make::Sample;
 use made::{Holds, open_view, source};
+use path_walk::{Target, find, list, tree};
 use std::alloc::Global;
 use std::process::Abort;
 use std::test::Fail;

@@ -11,13 +11,13 @@ mod features;
 mod objects;
 mod space;
 
-use reach_sweep::account;
 use blk_source::{BlockSource, MemSource};
 use img_changes::{Base, Change, grouped, image};
 use img_make::Sample;
 use nx_ring::{Checkpoint, newest};
 use obj_base::Stop;
 use reach_rules::ReachFault;
+use reach_sweep::account;
 use space_map::Space;
 use std::alloc::Global;
 use std::process::Abort;

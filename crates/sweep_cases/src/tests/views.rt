@@ -3,7 +3,6 @@ ghost use Rattle.std.specs.Prelude.{◌≡◌, length, IfOk};
 ghost use Rattle.obj_base.specs.Site.{IsSiteFor};
 ghost use Rattle.view_sweep.specs.Wanted.{AreToldHeads, AreBelowHeads};
 
-use view_sweep::{Head, MapRecords, SweptView, Used, reach_views, unused};
 use blk_source::MemSource;
 use bt_node::NodeFault;
 use img_make::{Sample, edit, make, sample};
@@ -13,6 +12,7 @@ use omap_map::OmapRecord;
 use reach_rules::{ReachFault, Why};
 use std::alloc::{AllocError, Global};
 use std::test::Fail;
+use view_sweep::{Head, MapRecords, SweptView, Used, reach_views, unused};
 use vol_view::{Volume, heads, load};
 
 // The block of the volume's object map.

@@ -1,9 +1,9 @@
 // The extent reference tree of a made container, and ranges that meet, overlap or pass the greatest number.
 ghost use Rattle.std.specs.Prelude.{◌≤◌};
 
-use ext_ref::{Cover, ExtScan, ExtStop, NewRange, covered, new_ranges, references, scan};
 use blk_source::{BlockSource, MemSource};
 use bt_cursor::WalkFault;
+use ext_ref::{Cover, ExtScan, ExtStop, NewRange, covered, new_ranges, references, scan};
 use fs_record::FileExt;
 use img_make::{Sample, make, sample};
 use obj_base::{Site, Stop};

@@ -3,8 +3,8 @@
 ghost use Rattle.std.specs.Prelude.{length, IfOk};
 ghost use Rattle.obj_base.specs.Site.{IsSiteFor};
 
-use file_extent::{CopyFault, Stream, StreamStop};
 use blk_source::{MemSink, MemSource};
+use file_extent::{CopyFault, Stream, StreamStop};
 use img_make::{Sample, edit, make, sample};
 use nx_ring::newest;
 use obj_base::Stop;

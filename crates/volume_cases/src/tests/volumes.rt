@@ -2,7 +2,6 @@
 
 mod loads;
 
-use vol_view::{VolHead, VolStop, heads};
 use blk_source::{Bytes, MemSource};
 use fs_name::Names;
 use img_make::{Plan, Sample, edit, make, make_with, sample, write};
@@ -12,6 +11,7 @@ use omap_map::OmapFault;
 use std::alloc::Global;
 use std::process::Abort;
 use std::test::Fail;
+use vol_view::{VolHead, VolStop, heads};
 
 // An edit: a block, a place in it, and the byte that it gets.
 type Edit = (usize, usize, u8);

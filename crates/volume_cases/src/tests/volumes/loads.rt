@@ -1,7 +1,6 @@
 // The volume of the sample container with two snapshots, and small edits of it.
 
 use super::{Edit, SUPER, made};
-use vol_view::{VolStop, Volume, by_name, heads, live, load, past};
 use blk_source::{Bytes, MemSource};
 use bt_cursor::WalkFault;
 use bt_node::NodeFault;
@@ -13,6 +12,7 @@ use omap_map::OmapFault;
 use std::alloc::Global;
 use std::process::Abort;
 use std::test::Fail;
+use vol_view::{VolStop, Volume, by_name, heads, live, load, past};
 
 // The volume's map, the root of its snapshot metadata tree, the superblock of its first snapshot, and the root of the
 // map's tree of snapshots.
