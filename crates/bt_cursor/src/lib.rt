@@ -10,8 +10,6 @@ mod node;
 mod seek;
 mod seen;
 mod start;
-#[cfg(test)]
-mod tests;
 mod walk;
 mod way;
 

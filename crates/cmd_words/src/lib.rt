@@ -5,8 +5,6 @@ mod commands;
 mod lines;
 mod parts;
 mod reading;
-#[cfg(test)]
-mod tests;
 
 pub use lines::{Flags, Line, Target};
 pub use reading::line_in;

@@ -9,6 +9,3 @@ mod whole;
 
 pub use settled::settle;
 pub use whole::Reached;
-
-#[cfg(test)]
-mod tests;

@@ -1,11 +1,11 @@
 // The pool and the queues of made containers.
 
-use crate::{PoolFault, Queue, QueueEntry, pool_bits, queue};
 use blk_source::MemSource;
 use img_make::{Plan, Sample, edit, make, sample};
 use nx_ring::newest;
 use obj_base::Stop;
 use space_map::Space;
+use space_pool::{PoolFault, Queue, QueueEntry, pool_bits, queue};
 use std::alloc::Global;
 use std::test::Fail;
 

@@ -1,10 +1,10 @@
 use Rattle.std.proofs.Common.{◌≡◌, ◌≤◌, length}
 use Rattle.bt_cursor.specs.declared.tests.TheConstants.{SITE}
-use Rattle.bt_cursor.specs.Liners.{site_of}
-use Rattle.bt_cursor.proofs.tests.line.Given as goal
+use Rattle.bt_cursor.specs.Cursors.{site_of}
+use Rattle.cursor_cases.proofs.tests.walks.flat.Given as goal
 
 abbrev pub invariant-walk : goal.invariant-walk
 invariant-walk g l = record {
-  site : site_of l.liner ≡ SITE;
+  site : site_of l.cursor ≡ SITE;
   size : 32768 ≤ length l.src.bytes;
 }

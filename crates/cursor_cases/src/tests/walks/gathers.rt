@@ -3,8 +3,8 @@
 use super::image::{Node, tree_image};
 use super::trees::{QUEUE, leaf, root, three_levels};
 use super::{PHYSICAL, SITE};
-use crate::{GatherFault, Keeper, LineItem, Physical, WalkFault, gather};
 use blk_source::{MemSource, NoMemory};
+use bt_cursor::{GatherFault, Keeper, LineItem, Physical, WalkFault, gather};
 use bt_keys::QueueKey;
 use obj_base::Stop;
 use std::alloc::Global;

@@ -1,7 +1,7 @@
 // Trees, written node by node.
 
-use crate::WalkFault;
-use crate::tests::image::{Form, Node};
+use crate::tests::walks::image::{Form, Node};
+use bt_cursor::WalkFault;
 use bt_node::NodeFault;
 use img_edit::node::Tree;
 use obj_base::HeadFault;

@@ -1,5 +1,5 @@
 //! Lines, right and wrong, worked out by hand. The words of a line are parted by `|`.
-use crate::{Flags, Line, Target, line_in};
+use cmd_words::{Flags, Line, Target, line_in};
 use std::alloc::{AllocError, Global};
 
 // Whether the words ask for this.

@@ -3,12 +3,12 @@
 ghost use Rattle.std.specs.Prelude.{IfOk};
 ghost use Rattle.obj_base.specs.Site.{IsSiteFor};
 
-use crate::{Reached, settle};
 use blk_source::{BlockSource, MemSource};
 use img_make::{Sample, edit, make, make_with, sample, write};
 use nx_ring::newest;
 use obj_base::Stop;
 use own_ledger::Ledger;
+use own_settle::{Reached, settle};
 use reach_rules::ReachFault;
 use space_map::Space;
 use std::alloc::Global;

@@ -2,11 +2,11 @@
 ghost use Rattle.std.specs.Prelude.{◌≡◌, ◌≤◌, IfOk, length};
 ghost use Rattle.obj_base.specs.Site.{IsSiteFor};
 
-use crate::{Chunk, Space, SpaceFault};
 use blk_source::{BlockSource, MemSource};
 use img_make::{Plan, Sample, edit, make, make_with, sample, write};
 use nx_ring::newest;
 use obj_base::{Feature, HeadFault, Stop, Within};
+use space_map::{Chunk, Space, SpaceFault};
 use std::alloc::Global;
 use std::process::Abort;
 use std::test::Fail;

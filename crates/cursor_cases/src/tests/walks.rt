@@ -4,8 +4,8 @@ mod gathers;
 mod image;
 mod trees;
 
-use crate::{Cursor, Liner, Physical, WalkFault};
 use blk_source::MemSource;
+use bt_cursor::{Cursor, Liner, Physical, WalkFault};
 use bt_keys::{FsKey, FsPlainKey, QueueKey};
 use bt_node::{Rank, Site, TreeKey};
 use image::{Form, Node, tree_image};

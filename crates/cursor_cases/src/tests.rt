@@ -1,0 +1,3 @@
+// Walks through made trees.
+
+mod walks;

@@ -1,0 +1,5 @@
+//! The space, the pool and the marks of made containers. For tests alone.
+#![tactic(auto)]
+
+#[cfg(test)]
+mod tests;

@@ -1,0 +1,5 @@
+// Space in made containers.
+
+mod pool;
+mod settled;
+mod space;

@@ -1,0 +1,5 @@
+//! Right and wrong lines of words. For tests alone.
+#![tactic(auto)]
+
+#[cfg(test)]
+mod tests;

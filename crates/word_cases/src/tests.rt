@@ -1,0 +1,3 @@
+// Lines of words.
+
+mod lines;
