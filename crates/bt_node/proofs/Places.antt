@@ -57,9 +57,6 @@ pub key_ends : {K : Type 0} (shape : Shape K) (node : List ℕ) (i : ℕ) → is
 unfolding is_key_inside
 key_ends shape node i e = Prim.grind (arith, nat_tests, common_steps)
 
-pub key_inside : {K : Type 0} (shape : Shape K) (node : List ℕ) (i : ℕ) → is_bounded shape node ≡ true → i < count_of node → keys_begin node + (place_of shape node i).key_offset + (place_of shape node i).key_len ≤ end_of node
-key_inside shape node i e low = key_ends shape node i (bounded_entry shape node i e low)
-
 -- above the leaves each entry has a value
 pub child_valued : {K : Type 0} (shape : Shape K) (node : List ℕ) (i : ℕ) → IsLegible shape node → i < count_of node → 0 < level_of node → is_ghost (place_of shape node i) ≡ false
 child_valued shape node i legible low upper =

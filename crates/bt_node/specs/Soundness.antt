@@ -1,5 +1,5 @@
 -- Which nodes are sound, and which test is the first that fails.
-use Rattle.std.specs.Prelude.{◌≡◌, ℕ, ◌+◌, ◌*◌, ◌≤◌, ◌<◌, Bool, true, false, not, ◌&&◌, ◌||◌, ◌==◌, nat_lt, nat_le, List, Option, Some, is_some, IsSome, Result, Ok, Err, if◌then◌else◌}
+use Rattle.std.specs.Prelude.{◌≡◌, ℕ, ◌+◌, ◌*◌, ◌≤◌, ◌<◌, Bool, true, false, not, ◌&&◌, ◌||◌, ◌==◌, nat_lt, nat_le, List, Option, Some, None, is_some, IsSome, Result, Ok, Err, if◌then◌else◌}
 use Rattle.std.specs.List.{range_with_len, list_all}
 use Rattle.apfs_model.specs.Object.{root_kind, node_kind}
 use Rattle.obj_base.specs.declared.header.Header.{Header}
@@ -89,6 +89,14 @@ has_key shape node i = is_some (shape.read (key_in node (place_of shape node i))
 -- Key: each key can be read
 unfoldable pub has_keys : {K : Type 0} → Shape K → List ℕ → Bool
 has_keys shape node = each_entry node (has_key shape node)
+
+-- Bounds, Ghost, Key: the first of the three that some entry fails
+abbrev pub entries_fault : {K : Type 0} → Shape K → List ℕ → Option NodeFault
+entries_fault shape node =
+    if not (each_entry node (is_entry_inside shape node)) then Some Bounds else
+    if not (has_values shape node) then Some Ghost else
+    if not (has_keys shape node) then Some Key else
+    None
 
 -- the ten tests that follow that of the header, in their order
 unfoldable pub after_head : {K : Type 0} → Shape K → NodeAt → Site → List ℕ → Result (List ℕ) (Bad NodeFault)

@@ -35,7 +35,7 @@ fn fixed_value_len<K: TreeKey>(bytes: &[u8]) -> usize
 }
 
 #[tactic(auto, unfolding(crate::specs::Entries::fixed_place))]
-fn fixed_place<K: TreeKey>(bytes: &[u8], at: usize) -> Place
+pub(crate) fn fixed_place<K: TreeKey>(bytes: &[u8], at: usize) -> Place
     requires long { 96 ≤ length bytes.now }
     requires inside { at + 4 ≤ length bytes.now }
     ensures { result ≡ spec.fixed_place K.shape bytes.now at }
@@ -49,7 +49,7 @@ fn fixed_place<K: TreeKey>(bytes: &[u8], at: usize) -> Place
 }
 
 #[tactic(auto, unfolding(crate::specs::Entries::variable_place))]
-fn variable_place(bytes: &[u8], at: usize) -> Place
+pub(crate) fn variable_place(bytes: &[u8], at: usize) -> Place
     requires { at + 8 ≤ length bytes.now }
     ensures { result ≡ spec.variable_place bytes.now at }
 {

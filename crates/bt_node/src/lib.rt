@@ -6,6 +6,7 @@ mod fault;
 mod key;
 mod node;
 mod soundness;
+mod table;
 mod view;
 
 pub use fault::NodeFault;

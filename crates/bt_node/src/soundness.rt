@@ -3,12 +3,12 @@
 // Tests: the header, the flags, the level, the size, the table of contents, and each entry's place, value and key.
 // Gives: the first test that fails.
 // Rests on: the bytes of one block alone, and what is expected of its node.
-ghost use Rattle.std.specs.Prelude.{◌≡◌, ◌≤◌, ◌<◌, ◌%◌, length, true, MatchResult};
+ghost use Rattle.std.specs.Prelude.{◌≡◌, ◌≤◌, ◌<◌, ◌%◌, ◌&&◌, ◌==◌, length, true, MatchResult};
 ghost use Rattle.bt_node.specs.Node as fields;
 ghost use Rattle.bt_node.specs.Soundness as spec;
 
-use crate::entries::{self, Place};
-use crate::{Layout, NodeAt, NodeFault, Site, TreeKey, node};
+use crate::table::Table;
+use crate::{Layout, NodeAt, NodeFault, Site, TreeKey, entries, node};
 use apfs_layout::{kind, node as layout};
 use obj_base::{Bad, Expect, Feature, HeadFault, sound};
 
@@ -91,30 +91,6 @@ fn is_empty(bytes: &[u8]) -> bool
     node::count(bytes) == 0 && !(node::is_root(bytes) && node::level(bytes) == 0)
 }
 
-// Whether a key lies between where the keys begin and where the values end.
-#[tactic(auto, unfolding(crate::specs::Soundness::is_key_inside))]
-fn is_key_inside(bytes: &[u8], place: Place) -> bool
-    requires { 96 ≤ length bytes.now }
-    ensures { result ≡ spec.is_key_inside bytes.now place }
-{
-    let start = node::keys_begin(bytes) + usize::from(place.key_offset);
-    let end = node::end(bytes);
-    start <= end && place.key_len <= end - start
-}
-
-// Whether a value does, and has room for a child's oid above level 0.
-#[tactic(auto, unfolding(crate::specs::Soundness::is_value_inside))]
-fn is_value_inside(bytes: &[u8], place: Place) -> bool
-    requires { 96 ≤ length bytes.now }
-    ensures { result ≡ spec.is_value_inside bytes.now place }
-{
-    let offset = usize::from(place.value_offset);
-    entries::is_ghost(place)
-        || (node::keys_begin(bytes) + offset <= node::end(bytes)
-            && place.value_len <= offset
-            && (node::level(bytes) == 0 || layout::CHILD_LEN <= place.value_len))
-}
-
 // Whether the table of contents holds its entries, and ends by where the values end.
 #[tactic(auto, unfolding(crate::specs::Soundness::is_table_inside))]
 fn is_table_inside(bytes: &[u8]) -> bool
@@ -125,99 +101,48 @@ fn is_table_inside(bytes: &[u8]) -> bool
         && node::keys_begin(bytes) <= node::end(bytes)
 }
 
-#[tactic(auto, using(crate::proofs::Places::place_inside))]
-fn is_entry_inside<K: TreeKey>(bytes: &[u8], i: usize) -> bool
-    requires long { 96 ≤ length bytes.now }
-    requires table { spec.is_table_inside bytes.now ≡ true }
-    requires inside { i < fields.count_of bytes.now }
-    ensures { result ≡ spec.is_entry_inside K.shape bytes.now i }
-{
-    let place = entries::place_at::<K>(bytes, i);
-    is_key_inside(bytes, place) && is_value_inside(bytes, place)
-}
-
-fn are_entries_inside<K: TreeKey>(bytes: &[u8]) -> bool
-    requires long { 96 ≤ length bytes.now }
-    requires table { spec.is_table_inside bytes.now ≡ true }
-    ensures { result ≡ spec.each_entry bytes.now (spec.is_entry_inside K.shape bytes.now) }
-{
-    for i in 0..node::count(bytes) {
-        if !is_entry_inside::<K>(bytes, i) {
-            return false;
-        }
-    }
-    true
-}
-
-#[tactic(auto, unfolding(crate::specs::Soundness::is_bounded))]
-fn is_bounded<K: TreeKey>(bytes: &[u8]) -> bool
+// Whether an entry may have no value.
+fn may_lack_values<K: TreeKey>(bytes: &[u8]) -> bool
     requires { 96 ≤ length bytes.now }
-    ensures { result ≡ spec.is_bounded K.shape bytes.now }
+    ensures { result ≡ (K.shape.ghosts && (fields.level_of bytes.now == 0)) }
 {
-    is_table_inside(bytes) && are_entries_inside::<K>(bytes)
+    has_ghosts::<K>() && node::level(bytes) == 0
 }
 
-// Whether entry `i` has a value.
-#[tactic(auto, using(crate::proofs::Places::place_inside))]
-fn has_value<K: TreeKey>(bytes: &[u8], i: usize) -> bool
+// The tests of the entries. Bounds comes before Ghost, and Ghost before Key, whichever entry fails it; so what lacks is
+// only noted until each entry is seen to lie inside.
+#[tactic(auto, unfolding(crate::specs::Soundness::has_values, crate::specs::Soundness::has_keys), using(crate::proofs::Places::place_inside))]
+fn test_entries<K: TreeKey>(bytes: &[u8]) -> Option<NodeFault>
     requires long { 96 ≤ length bytes.now }
     requires table { spec.is_table_inside bytes.now ≡ true }
-    requires inside { i < fields.count_of bytes.now }
-    ensures { result ≡ spec.has_value K.shape bytes.now i }
+    ensures { result ≡ spec.entries_fault K.shape bytes.now }
 {
-    !entries::is_ghost(entries::place_at::<K>(bytes, i))
-}
-
-fn have_values<K: TreeKey>(bytes: &[u8]) -> bool
-    requires long { 96 ≤ length bytes.now }
-    requires table { spec.is_table_inside bytes.now ≡ true }
-    ensures { result ≡ spec.each_entry bytes.now (spec.has_value K.shape bytes.now) }
-{
+    let table = Table::new(bytes);
+    let mut valued = true;
+    let mut keyed = true;
     for i in 0..node::count(bytes) {
-        if !has_value::<K>(bytes, i) {
-            return false;
+        let place = table.place::<K>(i);
+        if !table.is_inside(place) {
+            return Some(NodeFault::Bounds);
+        }
+        if entries::is_ghost(place) {
+            valued = false;
+        }
+        if !table.has_key::<K>(place) {
+            keyed = false;
         }
     }
-    true
-}
-
-#[tactic(auto, unfolding(crate::specs::Soundness::has_values))]
-fn has_values<K: TreeKey>(bytes: &[u8]) -> bool
-    requires long { 96 ≤ length bytes.now }
-    requires table { spec.is_table_inside bytes.now ≡ true }
-    ensures { result ≡ spec.has_values K.shape bytes.now }
-{
-    (has_ghosts::<K>() && node::level(bytes) == 0) || have_values::<K>(bytes)
-}
-
-// Whether the key of entry `i` can be read.
-#[tactic(auto, using(crate::proofs::Places::place_inside, crate::proofs::Places::bounded_table, crate::proofs::Places::key_inside))]
-fn has_key<K: TreeKey>(bytes: &[u8], i: usize) -> bool
-    requires long { 96 ≤ length bytes.now }
-    requires bounded { spec.is_bounded K.shape bytes.now ≡ true }
-    requires inside { i < fields.count_of bytes.now }
-    ensures { result ≡ spec.has_key K.shape bytes.now i }
-{
-    let place = entries::place_at::<K>(bytes, i);
-    K::read(entries::key_in(bytes, place)).is_some()
-}
-
-#[tactic(auto, unfolding(crate::specs::Soundness::has_keys))]
-fn has_keys<K: TreeKey>(bytes: &[u8]) -> bool
-    requires long { 96 ≤ length bytes.now }
-    requires bounded { spec.is_bounded K.shape bytes.now ≡ true }
-    ensures { result ≡ spec.has_keys K.shape bytes.now }
-{
-    for i in 0..node::count(bytes) {
-        if !has_key::<K>(bytes, i) {
-            return false;
-        }
+    if !valued && !may_lack_values::<K>(bytes) {
+        return Some(NodeFault::Ghost);
     }
-    true
+    if !keyed {
+        return Some(NodeFault::Key);
+    }
+    None
 }
 
 // The tests that follow that of the header.
-#[tactic(auto, unfolding(crate::specs::Soundness::after_head), using(crate::proofs::Places::bounded_table))]
+#[tactic(auto, unfolding(crate::specs::Soundness::after_head, crate::specs::Soundness::is_bounded))]
 fn test_node<K: TreeKey>(bytes: &[u8], at: &NodeAt, site: &Site) -> Result<(), Bad<NodeFault>>
     requires { 96 ≤ length bytes.now }
     ensures { MatchResult result (λ _. spec.after_head K.shape at.now site.now bytes.now ≡ Ok bytes.now) (λ bad. spec.after_head K.shape at.now site.now bytes.now ≡ Err bad) }
@@ -243,16 +168,13 @@ fn test_node<K: TreeKey>(bytes: &[u8], at: &NodeAt, site: &Site) -> Result<(), B
     if is_empty(bytes) {
         return Err(Bad::Found(NodeFault::Empty));
     }
-    if !is_bounded::<K>(bytes) {
+    if !is_table_inside(bytes) {
         return Err(Bad::Found(NodeFault::Bounds));
     }
-    if !has_values::<K>(bytes) {
-        return Err(Bad::Found(NodeFault::Ghost));
+    match test_entries::<K>(bytes) {
+        Some(fault) => Err(Bad::Found(fault)),
+        None => Ok(()),
     }
-    if !has_keys::<K>(bytes) {
-        return Err(Bad::Found(NodeFault::Key));
-    }
-    Ok(())
 }
 
 // A fault of the header as one of the node.
