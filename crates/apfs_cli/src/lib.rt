@@ -9,15 +9,15 @@ mod meant;
 mod meant_view;
 mod on_path;
 mod over_cache;
+mod program;
 mod put;
-mod run;
 mod say;
 mod shown;
 mod stopped;
 mod target_line;
 mod words;
 
+pub use program::run;
 pub use put::{Line, put_lines};
-pub use run::run;
 pub use stopped::Stopped;
 pub use words::{Checks, Command, asked};

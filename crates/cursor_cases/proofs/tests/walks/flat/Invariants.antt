@@ -1,5 +1,5 @@
 use Rattle.std.proofs.Common.{◌≡◌, ◌≤◌, length}
-use Rattle.bt_cursor.specs.declared.tests.TheConstants.{SITE}
+use Rattle.cursor_cases.specs.declared.tests.walks.TheConstants.{SITE}
 use Rattle.bt_cursor.specs.Cursors.{site_of}
 use Rattle.cursor_cases.proofs.tests.walks.flat.Given as goal
 

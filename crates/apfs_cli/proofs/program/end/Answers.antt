@@ -8,7 +8,7 @@ use Rattle.apfs_cli.specs.Words.{command_of}
 use Rattle.apfs_cli.specs.Written.{sunk}
 use Rattle.apfs_cli.proofs.Endings.{part_of}
 use Rattle.apfs_cli.proofs.Puts.{wrote_nothing}
-use Rattle.apfs_cli.proofs.run.end.Goals as goal
+use Rattle.apfs_cli.proofs.program.end.Goals as goal
 
 pub returns-in-Ok-clause-answer : goal.returns-in-Ok-clause-answer
 returns-in-Ok-clause-answer g c =

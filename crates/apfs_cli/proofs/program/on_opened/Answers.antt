@@ -4,7 +4,7 @@ use Rattle.std.specs.Prelude.{[]}
 use Rattle.blk_source.specs.declared.source.Opened.TheVariants.{Absent}
 use Rattle.apfs_cli.proofs.Endings.{each_lacks}
 use Rattle.apfs_cli.proofs.Puts.{wrote_nothing}
-use Rattle.apfs_cli.proofs.run.on_opened.Goals as goal
+use Rattle.apfs_cli.proofs.program.on_opened.Goals as goal
 
 pub returns-in-Absent-clause-answer : goal.returns-in-Absent-clause-answer
 returns-in-Absent-clause-answer g c =

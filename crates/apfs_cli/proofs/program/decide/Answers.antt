@@ -3,7 +3,7 @@ use Rattle.std.proofs.Common.{◌≡◌, ◌∙◌, ap, sym}
 use Rattle.std.specs.Prelude.{map, option_map, Some}
 use Rattle.std.specs.String.{string_bytes}
 use Rattle.apfs_cli.specs.Words.{command_of, said}
-use Rattle.apfs_cli.proofs.run.decide.Goals as goal
+use Rattle.apfs_cli.proofs.program.decide.Goals as goal
 
 pub returns-in-Some-clause-answer : goal.returns-in-Some-clause-answer
 returns-in-Some-clause-answer g c =
