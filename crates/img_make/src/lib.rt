@@ -17,6 +17,3 @@ pub use img_plan::{
     sample,
 };
 pub use making::{make, make_grouped, make_with};
-
-#[cfg(test)]
-mod tests;

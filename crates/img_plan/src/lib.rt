@@ -14,6 +14,3 @@ pub use plan::{Leaf, NewRange, Plan, QueueEntry, Version, VolPlan};
 pub use records::Item;
 pub use samples::sample;
 pub use which::Sample;
-
-#[cfg(test)]
-mod tests;

@@ -1,10 +1,10 @@
 // Made images, against what the format says of them.
-use crate::{
+use apfs_model::NoMemory;
+use fs_name::Names;
+use img_make::{
     Groups, Leaf, NewRange, Plan, QueueEntry, Sample, Version, VolPlan, free, make, make_grouped,
     make_with, mark, ring_of_four, sample, skipped_checkpoint,
 };
-use apfs_model::NoMemory;
-use fs_name::Names;
 use obj_base::{sum64, u64_at};
 use std::alloc::{AllocError, Global};
 use std::process::Abort;

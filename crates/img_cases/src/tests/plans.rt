@@ -1,6 +1,6 @@
 // Records that no sample has, against the format's tables.
-use crate::QueueEntry;
-use crate::records::{attribute, file_extent, queue_record, rank, stream_attribute};
+use img_plan::QueueEntry;
+use img_plan::records::{attribute, file_extent, queue_record, rank, stream_attribute};
 use obj_base::u64_at;
 use std::test::Fail;
 

@@ -1,0 +1,4 @@
+// Made images.
+
+mod images;
+mod plans;
