@@ -63,7 +63,7 @@ fn block(
 }
 
 /// The container of blocks of this size with these nodes in the blocks from 1 on.
-pub fn tree_image(
+pub(super) fn tree_image(
     alloc: Global,
     size: usize,
     form: Form,

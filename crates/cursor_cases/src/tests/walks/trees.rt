@@ -27,7 +27,7 @@ pub const PLAIN: Form = Form {
 /// An item: its level, and the id and the kind of its rank.
 pub type Item = (u16, u64, u64);
 
-pub fn inner(level: u16, entries: &'static [(u64, u64)]) -> Node {
+pub(super) fn inner(level: u16, entries: &'static [(u64, u64)]) -> Node {
     Node {
         level,
         root: None,
@@ -35,11 +35,11 @@ pub fn inner(level: u16, entries: &'static [(u64, u64)]) -> Node {
     }
 }
 
-pub fn leaf(entries: &'static [(u64, u64)]) -> Node {
+pub(super) fn leaf(entries: &'static [(u64, u64)]) -> Node {
     inner(0, entries)
 }
 
-pub fn root(level: u16, keys: u64, nodes: u64, entries: &'static [(u64, u64)]) -> Node {
+pub(super) fn root(level: u16, keys: u64, nodes: u64, entries: &'static [(u64, u64)]) -> Node {
     Node {
         level,
         root: Some((keys, nodes)),
@@ -48,7 +48,7 @@ pub fn root(level: u16, keys: u64, nodes: u64, entries: &'static [(u64, u64)]) -
 }
 
 /// A tree of three levels in the blocks 1 to 6, with the keys 1, 2, 3, 5 and 7.
-pub fn three_levels() -> [Node; 6] {
+pub(super) fn three_levels() -> [Node; 6] {
     [
         root(2, 5, 6, &[(1, 2), (5, 3)]),
         inner(1, &[(1, 4), (3, 5)]),
