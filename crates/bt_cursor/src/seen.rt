@@ -88,8 +88,8 @@ fn more(seen: &mut Seen, level: u16, rank: Rank)
     }
 }
 
-/// Sees an item of a level, by its key; false where it is out of order, and then nothing changes. It works in place, since
-/// copies of `Seen` took about a third of the time of a walk.
+/// Sees an item of a level, by its key; false where it is out of order, and then nothing changes. In place, since a walk does
+/// this for each item.
 pub(crate) fn see<K: TreeKey>(seen: &mut Seen, level: u16, key: &K) -> bool
     ensures seen { IsTrue result → spec.seen_key K.shape seen.old level key.now ≡ Some seen.new }
     ensures out { IsFalse result → spec.seen_key K.shape seen.old level key.now ≡ None }
