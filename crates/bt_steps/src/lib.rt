@@ -3,8 +3,6 @@
 
 mod noting;
 mod step;
-#[cfg(test)]
-mod tests;
 
 pub use noting::{Walked, gather_steps};
 pub use step::Step;

@@ -1,3 +1,4 @@
 // Walks through made trees.
 
+mod steps;
 mod walks;

@@ -9,8 +9,6 @@ mod features;
 mod line;
 mod mappings;
 mod objects;
-#[cfg(test)]
-mod tests;
 mod valid;
 mod view;
 mod zero;

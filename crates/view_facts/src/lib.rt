@@ -10,5 +10,3 @@ mod keep;
 pub use facts::{AttributeFact, EntryFact, ExtentFact, Facts, InodeFact, LinkFact, SiblingFact};
 pub use gathering::{ViewFacts, view_facts};
 
-#[cfg(test)]
-mod tests;

@@ -1,63 +1,26 @@
 // The facts of the sample containers, and of a small one with a symbolic link. What is wanted was worked out by hand.
-ghost use Rattle.std.specs.Prelude.{length, IfOk};
-ghost use Rattle.obj_base.specs.Site.{IsSiteFor};
-
-use crate::{ViewFacts, view_facts};
+use crate::tests::opened::open;
 use blk_source::MemSource;
 use fs_name::Names;
 use fs_record::{RecFault, TreeFault};
 use img_make::records::{InodePlan, Item, LINK_MODE, attribute};
 use img_make::{FileTree, Plan, Sample, make, sample};
-use nx_ring::newest;
-use obj_base::{Site, Stop};
+use obj_base::Stop;
 use std::alloc::{AllocError, Global};
 use std::process::Abort;
 use std::test::Fail;
-use vol_view::{View, Volume, heads, live, load};
+use view_facts::{ViewFacts, view_facts};
 
 const FILE: u64 = 16;
 
 const ROOT: u64 = 2;
-
-// The live view of the only volume, with its volume and its site.
-#[derive(Drop)]
-struct Live {
-    volume: Volume,
-    view: View,
-    site: Site,
-}
-
-fn open_live(alloc: Global, src: &mut MemSource) -> Result<Live, Fail>
-    ensures { IfOk result (λ at. IsSiteFor at.site (length src.new.bytes)) }
-{
-    let Ok(cp) = newest(alloc, src) else {
-        return Err(Fail::from("there is no checkpoint"));
-    };
-    let found = match heads(alloc, src, &cp) {
-        Ok(found) => found,
-        Err(_) => return Err(Fail::from("there are no heads")),
-    };
-    if found.is_empty() {
-        return Err(Fail::from("there is no volume"));
-    }
-    let volume = match load(alloc, src, &cp, &found[0]) {
-        Ok(volume) => volume,
-        Err(_) => return Err(Fail::from("the volume isn't loaded")),
-    };
-    let view = live(&volume, &cp);
-    Ok(Live {
-        volume,
-        view,
-        site: cp.site(),
-    })
-}
 
 fn facts_of(alloc: Global, plan: &Plan) -> Result<Result<ViewFacts, Stop<TreeFault>>, Fail> {
     if !plan.valid() {
         return Err(Fail::from("the plan isn't valid"));
     }
     let mut src = MemSource::new(make(alloc, plan)?, Vec::new(alloc));
-    let at = open_live(alloc, &mut src)?;
+    let at = open(alloc, &mut src, 0)?;
     Ok(view_facts(alloc, &mut src, &at.volume, &at.view, &at.site))
 }
 

@@ -1,7 +1,7 @@
 // Small rings of checkpoints at three block sizes. The container has 32 blocks: descriptors in blocks 1 to 8, data in
 // blocks 9 to 12.
-use crate::{Checkpoint, RingFault, RingLine, newest, ring};
 use blk_source::MemSource;
+use nx_ring::{Checkpoint, RingFault, RingLine, newest, ring};
 use obj_base::{Feature, Stop, sum64};
 use std::alloc::{AllocError, Global};
 use std::test::Fail;

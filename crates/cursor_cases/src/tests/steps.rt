@@ -1,9 +1,9 @@
 // The file-system tree of the sample with snapshots, whose root has two leaves.
 
-use crate::{Step, gather_steps};
 use blk_source::{MemSource, NoMemory};
 use bt_cursor::{Keeper, LineItem, Namer};
 use bt_keys::FsKey;
+use bt_steps::{Step, gather_steps};
 use img_make::{Sample, make, sample};
 use obj_base::Site;
 use std::process::Abort;
