@@ -17,6 +17,20 @@ pub struct FileExt {
     pub block: u64,
 }
 
+impl FileExt {
+    ghost use Rattle.std.specs.Prelude.{◌<◌};
+    ghost use Rattle.fs_record.specs.StreamExtents.{extent_blocks};
+
+    /// How many blocks it has, the last of which may be used in part.
+    #[tactic(auto, using(apfs_model::proofs::Rounding::rounding))]
+    pub fn blocks(self, block_size: u32) -> u64
+        requires { 0 < block_size }
+        ensures { result ≡ extent_blocks block_size self }
+    {
+        self.length.div_ceil(u64::from(block_size))
+    }
+}
+
 /// The extent of a record, whose key has its logical address. `Length` exactly where the value is shorter than 24 bytes.
 #[tactic(auto, unfolding(crate::specs::Extents::extent_of, bt_keys::specs::RecordKey::second_of))]
 pub fn file_ext(key: &[u8], value: &[u8]) -> Result<FileExt, RecFault>

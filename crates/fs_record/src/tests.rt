@@ -202,6 +202,25 @@ fn an_extent_is_read(rt: HostRuntime) {
     assert_eq!(rt; file_ext(SECOND_KEY, &value[..23]), Err(RecFault::Length));
 }
 
+#[test]
+fn an_extent_has_the_blocks_of_its_length(rt: HostRuntime) {
+    for (length, wanted) in [
+        (0u64, 0u64),
+        (1, 1),
+        (4095, 1),
+        (4096, 1),
+        (4097, 2),
+        (8192, 2),
+    ] {
+        let extent = FileExt {
+            logical: 0,
+            length,
+            block: 57,
+        };
+        assert_eq!(rt; extent.blocks(4096), wanted);
+    }
+}
+
 // Why a record of a tree with these keys is refused; `Flags` where its key isn't read.
 fn why<K: FsTreeKey>(names: Names, key_bytes: &[u8], value: &[u8]) -> Option<RecFault>
     requires { are_hashed names ≡ K.HASHED }

@@ -1,31 +1,12 @@
--- Shapes: what rounding up is, and what rooms say.
-use Rattle.std.specs.Prelude.{◌≡◌, ℕ, ◌+◌, ◌-◌, ◌*◌, ◌/◌, ◌%◌, ◌<◌, ◌≤◌, true, min, nat_le, ◌&&◌, List}
-use Rattle.std.proofs.Common.{arith, ap, sym, ◌∙◌, ◌⊎◌, inl, inr}
-use Rattle.std.proofs.lemmas.Bool.{cases_lt}
-use Rattle.std.proofs.Math.Nat.{mod-lt, div-mul-le_self, mul-le-mul_right, lt-div-mul-add}
+-- Shapes: what rooms say.
+use Rattle.std.specs.Prelude.{◌≡◌, ℕ, ◌+◌, ◌-◌, ◌*◌, ◌/◌, ◌%◌, ◌<◌, ◌≤◌, true, nat_le, ◌&&◌, List}
+use Rattle.std.proofs.Common.{arith, ap, sym, ◌∙◌}
+use Rattle.std.proofs.Math.Nat.{div-mul-le_self, mul-le-mul_right, lt-div-mul-add}
 use Rattle.std.proofs.lemmas.Nat.{div-mul-add}
 use Rattle.apfs_model.specs.Blocks.{rounded_up}
 use Rattle.apfs_model.proofs.BoolTests.{left-true, right-true, upto-from}
 use Rattle.space_map.specs.Fields.{cib_chunks_of, cab_cibs_of}
 use Rattle.space_map.specs.Geometry.{most_chunks, has_rooms}
-
-rounding-step : (n unit q r : ℕ) → 1 ≤ unit → q * unit + r ≡ n → r < unit → (r < 1) ⊎ (1 ≤ r) → q + min 1 r ≡ rounded_up n unit
-rounding-step n unit q r some e low (inl none) =
-    let top : q * unit + (unit - 1) ≡ n + (unit - 1) = omega arith in
-    let whole : (q * unit + (unit - 1)) / unit ≡ q = div-mul-add q unit (unit - 1) (omega arith) in
-    let here : q + min 1 r ≡ q = omega arith in
-    here ∙ (sym whole ∙ ap (λ m. m / unit) top)
-rounding-step n unit q r some e low (inr more) =
-    let top : (q + 1) * unit + (r - 1) ≡ n + (unit - 1) = omega arith in
-    let whole : ((q + 1) * unit + (r - 1)) / unit ≡ q + 1 = div-mul-add (q + 1) unit (r - 1) (omega arith) in
-    let here : q + min 1 r ≡ q + 1 = omega arith in
-    here ∙ (sym whole ∙ ap (λ m. m / unit) top)
-
--- units that hold so many things, by the quotient and the remainder
-pub rounding : (n unit : ℕ) → 1 ≤ unit → n / unit + min 1 (n % unit) ≡ rounded_up n unit
-rounding n unit some =
-    let pos : 0 < unit = omega arith in
-    rounding-step n unit (n / unit) (n % unit) some (omega arith) (mod-lt n pos) (cases_lt (n % unit) 1)
 
 -- rooms are of one thing or more
 pub rooms_some : (size : ℕ) (manager : List ℕ) → has_rooms size manager ≡ true → (1 ≤ cib_chunks_of manager) × (1 ≤ cab_cibs_of manager)

@@ -268,7 +268,7 @@ fn most(size: u32, len: u32) -> u32
 }
 
 // How many units hold so many things.
-#[tactic(auto, using(crate::proofs::Shapes::rounding))]
+#[tactic(auto, using(apfs_model::proofs::Rounding::rounding))]
 fn rounded_up(n: u64, unit: u64) -> u64
     requires { 1 ≤ unit }
     ensures { result ≡ blocks.rounded_up n unit }
