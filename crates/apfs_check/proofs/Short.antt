@@ -2,9 +2,6 @@
 use Rattle.std.proofs.Common.{◌≡◌, ℕ, zero, suc, ◌+◌, ◌-◌, ◌*◌, ◌/◌, ◌%◌, ◌<◌, ◌≤◌, Bool, true, false, List, [], ◌∷◌, length, Option, Some, None, inl, inr, refl, subst, arith}
 use Rattle.std.specs.Prelude.{◌^◌, ◌&&◌, ◌==◌, nat_lt, slice_index_or, option_and_then, if◌then◌else◌}
 use Rattle.std.specs.List.{All}
-use Rattle.std.proofs.lemmas.Bool.{cases_lt}
-use Rattle.std.proofs.Math.Nat.{mul-le-mul_left}
-use Rattle.apfs_model.specs.Blocks.{rounded_up}
 use Rattle.apfs_model.specs.Bytes.{u64_at, i32_at}
 use Rattle.apfs_model.specs.Lists.{In}
 use Rattle.bt_node.specs.Entries.{Pair, bytes_in}
@@ -67,18 +64,3 @@ pair-low pair r e =
 pub ranges-short : (image : List ℕ) (site : Site) (root : ℕ) → AreShort (ranges_of image site root)
 unfolding ranges_of
 ranges-short image site root = all-in-list (λ (r : NewRange). r.first + r.length < 2 ^ 64) (ranges_of image site root) (λ r h. let t = from-filter_map range_of r (ext_pairs image site root) h in pair-low t.0 r t.1.1)
-
--- ---- numbers of blocks
--- there are no more blocks than bytes
-rounded-le : (n u : ℕ) → 0 < u → rounded_up n u ≤ n
-rounded-le n u some = elim (cases_lt n ((n + (u - 1)) / u)) as (λ _. rounded_up n u ≤ n) [
-  | inl more ↦
-      let whole : u * ((n + (u - 1)) / u) ≤ n + (u - 1) = omega arith in
-      let more2 : n + 1 ≤ (n + (u - 1)) / u = omega arith in
-      let one : 1 ≤ u = omega arith in
-      absurd (omega (arith, mul-le-mul_left u more2, mul-le-mul_left n one))
-  | inr fine ↦ fine
-]
-
-pub rounded-fits : (n u : ℕ) → 0 < u → n < 2 ^ 64 → rounded_up n u < 2 ^ 64
-rounded-fits n u some fits = omega (arith, rounded-le n u some)

@@ -1,6 +1,5 @@
 // The views of a volume: their rules, what is told of them, and their extents.
 ghost use Rattle.std.specs.Prelude.{◌≡◌, ◌+◌, ◌≤◌, ◌<◌, ◌^◌, ◌∷◌, ◌++◌, [], ℕ, List, Some, false, length, slice_get, OnOk, IfOk, IfErr, IsErrOf};
-ghost use Rattle.apfs_model.specs.Blocks.{rounded_up};
 ghost use Rattle.apfs_model.specs.Counts.{Rose};
 ghost use Rattle.apfs_model.specs.Lists.{In};
 ghost use Rattle.apfs_model.specs.Source.{IsKept};
@@ -67,14 +66,13 @@ fn add_view<S: BlockSource>(
     Ok(extents)
 }
 
-// The block after the last one of an extent with this first block and this length.
-fn end_of(block: u64, length: u64, block_size: u32) -> u128
+// The block after the last one of an extent.
+fn end_of(extent: FileExt, block_size: u32) -> u128
     requires { 0 < block_size }
-    ensures value { result ≡ block + rounded_up length block_size }
-    ensures hole { block ≡ 0 → result < 2 ^ 64 }
+    ensures value { result ≡ extent.block + stream.extent_blocks block_size extent }
+    ensures hole { extent.block ≡ 0 → result < 2 ^ 64 }
 {
-    let blocks = (u128::from(length) + (u128::from(block_size) - 1)) / u128::from(block_size);
-    u128::from(block) + blocks
+    u128::from(extent.block) + u128::from(extent.blocks(block_size))
 }
 
 // Puts an extent after others, where its end is a number of 64 bits.
@@ -87,7 +85,7 @@ fn put_short(
     ensures added { (stream.is_hole extent.1 ≡ false → extent.1.block + stream.extent_blocks block_size extent.1 < 2 ^ 64) → OnOk result (extents.new.items ≡ extents.old.items ++ extent ∷ []) }
     ensures short { AreShortExtents block_size extents.old.items → OnOk result (AreShortExtents block_size extents.new.items) }
 {
-    if end_of(extent.1.block, extent.1.length, block_size) <= u128::from(u64::MAX) {
+    if end_of(extent.1, block_size) <= u128::from(u64::MAX) {
         extents.push(extent)?;
     }
     Ok(())

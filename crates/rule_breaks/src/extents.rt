@@ -15,14 +15,6 @@ use view_facts::{ExtentFact, Facts};
 /// A first block of 2^63 or more is a negative one (General-Purpose Types, `prange_t`).
 const NEGATIVE: u64 = 0x8000_0000_0000_0000;
 
-// How many blocks an extent has.
-fn extent_blocks(block_size: u32, extent: FileExt) -> u128
-    requires { 0 < block_size }
-    ensures { result ≡ stream.extent_blocks block_size extent }
-{
-    (u128::from(extent.length) + (u128::from(block_size) - 1)) / u128::from(block_size)
-}
-
 // Whether an extent is a hole, or lies in a container of so many blocks.
 #[tactic(auto, unfolding(fs_record::specs::StreamExtents::is_extent_placed))]
 fn is_placed(block_size: u32, blocks: u64, extent: FileExt) -> bool
@@ -35,7 +27,7 @@ fn is_placed(block_size: u32, blocks: u64, extent: FileExt) -> bool
     if extent.block >= NEGATIVE {
         return false;
     }
-    u128::from(extent.block) + extent_blocks(block_size, extent) <= u128::from(blocks)
+    u128::from(extent.block) + u128::from(extent.blocks(block_size)) <= u128::from(blocks)
 }
 
 // Whether an extent leaves the container.
@@ -58,17 +50,8 @@ pub fn misplaced(facts: &Facts, block_size: u32, blocks: u64) -> Option<&ExtentF
         .find(|f| is_misplaced(block_size, blocks, f))
 }
 
-// How many blocks an extent has, as a number of 64 bits.
-#[tactic(auto, using(crate::proofs::Rounded::rounded_fits))]
-fn short_blocks(block_size: u32, extent: FileExt) -> u64
-    requires { 0 < block_size }
-    ensures { result ≡ stream.extent_blocks block_size extent }
-{
-    extent_blocks(block_size, extent) as u64
-}
-
 // Whether some ranges cover a range of blocks.
-#[tactic(auto, using(crate::proofs::Rounded::covers_same))]
+#[tactic(auto, using(crate::proofs::Covered::covers_same))]
 fn covers(cover: &Cover, ranges: &[NewRange], first: u64, length: u64) -> bool
     requires { IsCoverOf ranges.now cover.now }
     ensures { result ≡ is_covered ranges.now first length }
@@ -84,13 +67,7 @@ fn is_uncovered(block_size: u32, cover: &Cover, ranges: &[NewRange], f: &ExtentF
     ensures { result ≡ spec.is_uncovered block_size ranges.now f.now }
 {
     let extent = f.extent();
-    extent.block != 0
-        && !covers(
-            cover,
-            ranges,
-            extent.block,
-            short_blocks(block_size, extent),
-        )
+    extent.block != 0 && !covers(cover, ranges, extent.block, extent.blocks(block_size))
 }
 
 // The first extent that isn't covered.
