@@ -60,7 +60,6 @@ fn raise(stop: Stop<WalkFault>) -> Stop<GatherFault>
 }
 
 // Starts a walk over the tree of a root.
-
 fn start<K: TreeKey, S: BlockSource, N: Namer>(
     alloc: Global,
     src: &mut S,

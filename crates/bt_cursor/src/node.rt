@@ -90,8 +90,8 @@ fn test<K: TreeKey>(
     }
 }
 
-#[tactic(auto, using(crate::proofs::Nodes::accepted_size))]
 /// Reads the node at a place, and stands before its first entry.
+#[tactic(auto, using(crate::proofs::Nodes::accepted_size))]
 pub(crate) fn load<K: TreeKey, S: BlockSource, N: Namer>(
     src: &mut S,
     namer: &N,

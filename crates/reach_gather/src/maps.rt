@@ -35,7 +35,6 @@ use reach_rules::ReachFault;
 use std::alloc::Global;
 
 // The bytes of a block of the container.
-
 fn read<S: BlockSource>(
     alloc: Global,
     src: &mut S,
