@@ -9,6 +9,7 @@ ghost use Rattle.fs_record.specs.StreamExtents as stream;
 ghost use Rattle.fs_record.specs.declared.extents.FileExt as declared;
 
 use crate::NewRange;
+use crate::blocks::blocks_of;
 use fs_record::FileExt;
 use std::alloc::{AllocError, Global};
 
@@ -17,9 +18,7 @@ fn end_of(extent: FileExt, block_size: u32) -> u128
     requires { 0 < block_size }
     ensures { result ≡ spec.end_of block_size extent }
 {
-    let blocks = (u128::from(extent.length) + (u128::from(block_size) - 1))
-        / u128::from(block_size);
-    u128::from(extent.block) + blocks
+    u128::from(extent.block) + u128::from(blocks_of(extent, block_size))
 }
 
 // The block after an extent's last one, and 0 for a hole.
@@ -137,6 +136,27 @@ fn ended_by(ends: &[u128], block: u64) -> usize
     )
 }
 
+// How many streams have one of these extents that touches a range.
+#[tactic(auto, unfolding(crate::specs::References::streams_of))]
+fn count_among(
+    alloc: Global,
+    range: NewRange,
+    extents: &[(u64, FileExt)],
+    block_size: u32,
+) -> Result<u64, AllocError>
+    requires { 0 < block_size }
+    ensures { IfOk result (λ count. count ≡ spec.streams_of block_size extents.now range) }
+{
+    match extents {
+        [] => Ok(0),
+        [only] => Ok(u64::from(touches(range, only.1, block_size))),
+        _ => {
+            let ids = ids_touching(alloc, range, extents, block_size)?;
+            count_distinct(ids)
+        }
+    }
+}
+
 // How many streams have one of these extents, in the order of their first blocks, that touches a range: of the extents
 // from the first on that is known to end after the range's begin, those that begin before its end.
 fn count_touching(
@@ -153,8 +173,7 @@ fn count_touching(
 {
     let high = begun_before(extents, u128::from(range.first) + u128::from(range.length));
     let low = ended_by(ends, range.first).min(high);
-    let ids = ids_touching(alloc, range, &extents[low..high], block_size)?;
-    count_distinct(ids)
+    count_among(alloc, range, &extents[low..high], block_size)
 }
 
 // The same for each range.

@@ -1,9 +1,9 @@
-use Rattle.std.proofs.Common.{◌≡◌, ℕ, ◌+◌, ◌<◌, ◌≤◌, Bool, false, List, IfOk, length, map, filter, get_or, ap, subst, ◌∙◌, arith}
+use Rattle.std.proofs.Common.{◌≡◌, ℕ, ◌+◌, ◌<◌, ◌≤◌, Bool, false, List, IfOk, length, map, filter, get_or, ap, subst, arith}
 use Rattle.std.specs.Prelude.{slice_range}
 use Rattle.std.proofs.lemmas.Bool.{leb-true, ltb-false}
 use Rattle.apfs_model.specs.Lists.{distinct}
 use Rattle.fs_record.specs.declared.extents.FileExt.{FileExt}
-use Rattle.ext_ref.specs.References.{touches, ids_touching, streams_of}
+use Rattle.ext_ref.specs.References.{touches, streams_of}
 use Rattle.ext_ref.proofs.Touched.{window, ended-apart, begun-apart}
 use Rattle.ext_ref.proofs.referring.count_touching.Goals as goal
 
@@ -25,5 +25,6 @@ returns c =
     (let past : c.from.result + c.from-2.result ≤ (get_or xs i d).1.block = ltb-false _ _ (c.begun_before-high.ensures.split.1 i d h l) in
     begun-apart c.args.block_size c.args.range (get_or xs i d).1 (omega (arith, past, c.from.ensures, c.from-2.ensures))) in
     let same : filter p (slice_range xs low high) ≡ filter p xs = window p xs low high fits inside before after in
-    let ids : c.in_ok-ids.ids.items ≡ ids_touching c.args.block_size xs c.args.range = c.in_ok-ids.ensures ∙ ap (map (λ (x : ℕ × FileExt). x.0)) same in
-    subst (λ (n : ℕ). IfOk c.count_distinct.result (λ count. count ≡ n)) (ap (λ (ns : List ℕ). length (distinct ns)) ids) c.count_distinct.ensures
+    let count : streams_of c.args.block_size (slice_range xs low high) c.args.range ≡ streams_of c.args.block_size xs c.args.range =
+    ap (λ (ys : List (ℕ × FileExt)). length (distinct (map (λ (x : ℕ × FileExt). x.0) ys))) same in
+    subst (λ (n : ℕ). IfOk c.count_among.result (λ count. count ≡ n)) count c.count_among.ensures
