@@ -76,8 +76,8 @@ fn add_between(spans: &mut Vec<Span>, first: u64, end: u128) -> Result<(), Alloc
     put(spans, Span { first, end })
 }
 
-// Puts what is left of a span after spans, those of the others that end by its begin being known. Answers how many of the
-// others end by its end, so that the next span goes on from there.
+// Puts what is left of a span without others after what is left of those before it. As many of the others as `from` says end
+// by its first block; the answer is how many of them end by its end, with which the next span goes on.
 fn add_left(
     spans: &mut Vec<Span>,
     span: Span,
