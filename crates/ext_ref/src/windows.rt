@@ -1,6 +1,6 @@
 // Where the extents that may touch a range stand, among extents in the order of their first blocks.
-ghost use Rattle.std.specs.Prelude.{◌≡◌, ◌<◌, ◌≤◌, ◌+◌, ℕ, length, slice_index_or, IfOk};
-ghost use Rattle.std.specs.List.Sorted.{IsNonDecreasingBy};
+ghost use Rattle.std.specs.Prelude.{◌≡◌, ◌<◌, ◌≤◌, ◌+◌, ◌^◌, ℕ, true, false, nat_lt, length, slice_index_or, IfOk};
+ghost use Rattle.std.specs.List.Sorted.{IsNonDecreasingBy, IsPartitionPoint};
 ghost use Rattle.ext_ref.specs.References as spec;
 ghost use Rattle.ext_ref.specs.References.{AreLasts, IsWindow};
 ghost use Rattle.fs_record.specs.declared.extents.FileExt as declared;
@@ -75,6 +75,7 @@ pub(crate) fn lasts_of(
 fn begun_before(extents: &[(u64, FileExt)], range: NewRange, guess: usize) -> usize
     requires { IsNonDecreasingBy (λ (x : ℕ × declared.FileExt). x.1.block) extents.now }
     ensures bound { result ≤ length extents.now }
+    ensures split { range.first + range.length < 2 ^ 64 → IsPartitionPoint (λ (x : ℕ × declared.FileExt). nat_lt x.1.block (range.first + range.length) ≡ true) (λ (x : ℕ × declared.FileExt). nat_lt x.1.block (range.first + range.length) ≡ false) extents.now result }
     ensures rest { (i : ℕ) (none : ℕ × declared.FileExt) → result ≤ i → i < length extents.now → range.first + range.length ≤ (slice_index_or extents.now i none).1.block }
 {
     match range.first.checked_add(range.length) {
