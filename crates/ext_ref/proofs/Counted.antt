@@ -16,7 +16,15 @@ use Rattle.apfs_model.specs.Apart.{Apart}
 use Rattle.apfs_model.proofs.BoolTests.{test_or, clash}
 use Rattle.apfs_model.proofs.Searches.{get-in, in-has, has-in}
 use Rattle.apfs_model.proofs.Finite.{apart-same}
-use Rattle.ext_ref.proofs.Bounds.{in-place}
+
+next-at : (m : ℕ) (ms : List ℕ) (j n : ℕ) → get_or ms j 0 ≡ n → get_or (m ∷ ms) (j + 1) 0 ≡ n
+next-at m ms j n e = rw add-one e
+
+-- a number of a list has a place there
+pub in-place : (ns : List ℕ) (n : ℕ) → In n ns → (j : ℕ) × ((j < length ns) × (get_or ns j 0 ≡ n))
+in-place [] n h = absurd h
+in-place (m ∷ ms) n (inl e) = (0, (omega arith, sym e))
+in-place (m ∷ ms) n (inr h) = let t = in-place ms n h in let low : t.0 < length ms = t.1.0 in (t.0 + 1, (omega arith, next-at m ms t.0 n t.1.1))
 
 -- a number of a list, by its place and by the fact
 contains-of : (ns : List ℕ) (n : ℕ) → In n ns → Contains ns n

@@ -1,6 +1,6 @@
 -- Which extents may touch a range, and in which order they are looked at.
 use Rattle.std.proofs.Common.{◌≡◌, ℕ, suc, ◌+◌, ◌-◌, ◌<◌, ◌≤◌, Bool, true, false, cond, not, ◌&&◌, ◌||◌, ◌==◌, nat_lt, min, max, List, [], ◌∷◌, ◌++◌, length, map, filter, take, drop, get_or, refl, ap, sym, subst, ◌∙◌, arith, length-drop}
-use Rattle.std.specs.Prelude.{slice_range, if◌then◌else◌}
+use Rattle.std.specs.Prelude.{◌^◌, slice_range, if◌then◌else◌}
 use Rattle.std.specs.List.{list_any}
 use Rattle.std.specs.List.Sorted.{IsPermutation}
 use Rattle.std.specs.List.Sorted.{IsNonDecreasingBy}
@@ -10,11 +10,12 @@ use Rattle.std.proofs.lemmas.List.Elements.{filter-append}
 use Rattle.std.proofs.lemmas.List.Sorted.{list_any-IsPermutation}
 use Rattle.apfs_model.specs.Lists.{In, has, distinct}
 use Rattle.apfs_model.proofs.Searches.{in-has, has-in}
+use Rattle.apfs_model.proofs.BoolTests.{unequal-from}
 use Rattle.apfs_model.proofs.Finite.{apart-same}
-use Rattle.fs_record.specs.StreamExtents.{is_hole}
+use Rattle.fs_record.specs.StreamExtents.{extent_blocks, is_hole}
 use Rattle.fs_record.specs.declared.extents.FileExt.{FileExt}
 use Rattle.ext_ref.specs.declared.range.NewRange.{NewRange}
-use Rattle.ext_ref.specs.References.{end_of, taken_end, touches, ids_touching, streams_of, references_of}
+use Rattle.ext_ref.specs.References.{end_of, last_of, touches, ids_touching, streams_of, references_of}
 use Rattle.ext_ref.proofs.Counted.{into-distinct, from-distinct, apart-distinct}
 
 -- where no item passes, none is left
@@ -55,17 +56,21 @@ and-false false = refl
 none-common : (first end block reach : ℕ) → min end reach ≤ max first block → nat_lt (max first block) (min end reach) ≡ false
 none-common first end block reach h = le-ltb (max first block) (min end reach) h
 
--- an extent that ends by a range's begin doesn't touch it, and neither does a hole
-pub ended-apart : (block_size : ℕ) (r : NewRange) (e : FileExt) (reach : ℕ) → taken_end block_size e ≤ reach → reach ≤ r.first → touches block_size r e ≡ false
-unfolding touches taken_end
-ended-apart block_size r e reach near by =
+-- an extent whose last block comes before a range doesn't touch it, and neither does a hole
+pub ended-apart : (block_size : ℕ) (r : NewRange) (e : FileExt) (last : ℕ) → last_of block_size e ≤ last → last < r.first → r.first < 2 ^ 64 → touches block_size r e ≡ false
+unfolding touches last_of
+ended-apart block_size r e last near by small =
     let end : ℕ = end_of block_size e in
-    let go : (b : Bool) → (if b then 0 else end) ≤ reach → (not b && nat_lt (max r.first e.block) (min (r.first + r.length) end)) ≡ false =
-    λ b. elim b as (λ b. (if b then 0 else end) ≤ reach → (not b && nat_lt (max r.first e.block) (min (r.first + r.length) end)) ≡ false) [
-      | true ↦ λ h. refl
-      | false ↦ λ h. none-common r.first (r.first + r.length) e.block end (omega (arith, h, by))
+    let stored : ℕ = min ((e.block - 1) + extent_blocks block_size e) (2 ^ 64 - 1) in
+    let go : (b : Bool) → (e.block == 0) ≡ b → (if b then 0 else stored) ≤ last → (not b && nat_lt (max r.first e.block) (min (r.first + r.length) end)) ≡ false =
+    λ b. elim b as (λ b. (e.block == 0) ≡ b → (if b then 0 else stored) ≤ last → (not b && nat_lt (max r.first e.block) (min (r.first + r.length) end)) ≡ false) [
+      | true ↦ λ is h. refl
+      | false ↦ λ is h.
+          let some : e.block ≡ 0 → ⊥ = unequal-from e.block 0 is in
+          let low : 0 < e.block = omega arith in
+          none-common r.first (r.first + r.length) e.block end (omega (arith, h, by, small, low))
     ] in
-    go (is_hole e) near
+    go (e.block == 0) refl near
 
 -- nor does one that begins at a range's end or after it
 pub begun-apart : (block_size : ℕ) (r : NewRange) (e : FileExt) → r.first + r.length ≤ e.block → touches block_size r e ≡ false
@@ -111,8 +116,8 @@ references-same block_size (r ∷ rs) xs ys moves =
     let rest : references_of block_size rs ys ≡ references_of block_size rs xs = references-same block_size rs xs ys moves in
     cc
 
--- the greatest ends of the first extents, and the greatest of them
-pub record SoFar (block_size : ℕ) (extents : List (ℕ × FileExt)) (ends : List ℕ) (greatest : ℕ) : Type 0 where
-  pub rising : IsNonDecreasingBy (λ (n : ℕ). n) ends
-  pub top : (i : ℕ) → i < length ends → get_or ends i 0 ≤ greatest
-  pub far : (i : ℕ) (none : ℕ × FileExt) → i < length ends → taken_end block_size (get_or extents i none).1 ≤ get_or ends i 0
+-- the greatest last blocks of the first extents, and the greatest of them
+pub record SoFar (block_size : ℕ) (extents : List (ℕ × FileExt)) (lasts : List ℕ) (greatest : ℕ) : Type 0 where
+  pub rising : IsNonDecreasingBy (λ (n : ℕ). n) lasts
+  pub top : (i : ℕ) → i < length lasts → get_or lasts i 0 ≤ greatest
+  pub far : (i : ℕ) (none : ℕ × FileExt) → i < length lasts → last_of block_size (get_or extents i none).1 ≤ get_or lasts i 0

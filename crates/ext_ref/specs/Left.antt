@@ -1,7 +1,6 @@
 -- What is left of the blocks of ranges without those of others.
-use Rattle.std.specs.Prelude.{◌≡◌, ◌⊎◌, ℕ, ◌+◌, ◌-◌, ◌^◌, ◌≤◌, ◌<◌, ◌&&◌, not, nat_lt, pos, Bool, List, [], ◌∷◌, flat_map}
+use Rattle.std.specs.Prelude.{◌≡◌, ℕ, ◌+◌, ◌-◌, ◌^◌, ◌≤◌, ◌<◌, ◌&&◌, not, pos, Bool, List, length, slice_index_or}
 use Rattle.std.specs.List.{All}
-use Rattle.apfs_model.specs.Lists.{In}
 use Rattle.fs_record.specs.StreamExtents.{extent_blocks}
 use Rattle.fs_record.specs.declared.extents.FileExt.{FileExt}
 use Rattle.ext_ref.specs.Spans.{is_spanned, AreApart, BeginBy}
@@ -20,24 +19,25 @@ run_of s = (s.first, s.end - s.first)
 abbrev pub is_left : List Span → List Span → ℕ → Bool
 is_left spans others block = is_spanned spans block && not (is_spanned others block)
 
--- the blocks at which ranges begin and end
-abbrev pub bounds_of : List NewRange → List ℕ
-bounds_of ranges = flat_map (λ (r : NewRange). r.first ∷ (r.first + r.length) ∷ []) ranges
+-- of some spans, those before a place end by a block
+abbrev pub EndBy : ℕ → ℕ → List Span → Type 0
+EndBy block place spans = (k : ℕ) (none : Span) → k < place → k < length spans → (slice_index_or spans k none).end ≤ block
 
--- no bound lies between two blocks
-abbrev pub IsClear : List ℕ → ℕ → ℕ → Type 0
-IsClear bounds p q = (b : ℕ) → In b bounds → (b ≤ p) ⊎ (q ≤ b)
-
--- a test changes at bounds alone
-abbrev pub IsSteady : (ℕ → Bool) → List ℕ → Type 0
-IsSteady test bounds = (p q k : ℕ) → IsClear bounds p q → p ≤ k → k < q → test k ≡ test p
-
--- spans have the blocks before a block of which a test holds
-pub record AreLeft (test : ℕ → Bool) (at : ℕ) (spans : List Span) : Type 0 where
+-- spans are apart and have a block each, and none begins after a block
+pub record AreUpTo (block : ℕ) (spans : List Span) : Type 0 where
   pub apart : AreApart spans
   pub full : AreFull spans
-  pub by : BeginBy at spans
-  pub blocks : (k : ℕ) → is_spanned spans k ≡ (nat_lt k at && test k)
+  pub by : BeginBy block spans
+
+-- where a span has a block, it ends by block 2^64 - 1
+abbrev pub AreLow : List Span → Type 0
+AreLow spans = All (λ (s : Span). s.first < s.end → s.end < 2 ^ 64) spans
+
+-- spans are apart, have a block each, and have exactly the blocks that are left of spans without others
+pub record AreLeft (cover others spans : List Span) : Type 0 where
+  pub apart : AreApart spans
+  pub full : AreFull spans
+  pub blocks : (k : ℕ) → is_spanned spans k ≡ is_left cover others k
 
 -- no range ends after block 2^64 - 1
 abbrev pub AreShort : List NewRange → Type 0
@@ -50,9 +50,3 @@ AreShortExtents block_size extents = All (λ (x : ℕ × FileExt). x.1.block + e
 -- the blocks of an extent as a range
 abbrev pub reach_of : ℕ → FileExt → NewRange
 reach_of block_size e = record { first = e.block; length = extent_blocks block_size e; count = pos 0 }
-
--- spans have exactly the blocks of which a test holds, of which none comes after all bounds
-pub record AreAllLeft (test : ℕ → Bool) (bounds : List ℕ) (spans : List Span) : Type 0 where
-  pub at : ℕ
-  pub top : (b : ℕ) → In b bounds → b ≤ at
-  pub left : AreLeft test at spans

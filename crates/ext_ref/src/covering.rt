@@ -159,6 +159,14 @@ impl Cover {
         Ok(Cover { spans })
     }
 
+    // Its spans, in ascending order.
+    pub(crate) fn as_spans(&self) -> &[Span]
+        ensures same { result.now ≡ self.now }
+        ensures apart { AreApart result.now }
+    {
+        &self.spans
+    }
+
     /// Whether each block of a range, by its first block and its length, is one of these. A search in the ranges, so
     /// that many questions take no time for each range.
     pub fn covers(&self, first: u64, length: u64) -> bool

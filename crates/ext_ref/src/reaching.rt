@@ -1,16 +1,16 @@
 // Which blocks of ranges no extent reaches.
-ghost use Rattle.std.specs.Prelude.{◌≡◌, ◌≤◌, ◌<◌, ◌+◌, ◌-◌, ◌^◌, ◌||◌, ◌++◌, ℕ, map, true, All, OnOk, IfOk};
+ghost use Rattle.std.specs.Prelude.{◌≡◌, ◌≤◌, ◌<◌, ◌+◌, ◌-◌, ◌^◌, ◌||◌, ◌&&◌, ℕ, true, not, nat_le, nat_lt, map, All, OnOk, IfOk};
 ghost use Rattle.std.specs.List.{list_any};
-ghost use Rattle.std.specs.List.Sorted.{IsNonDecreasing};
-ghost use Rattle.apfs_model.specs.Lists.{has};
 ghost use Rattle.obj_base.specs.BlockSize.{is_accepted};
 ghost use Rattle.fs_record.specs.StreamExtents as stream;
 ghost use Rattle.ext_ref.specs.declared.covering.Span as declared;
 ghost use Rattle.ext_ref.specs.Cover.{is_owned};
+ghost use Rattle.ext_ref.specs.Spans.{span_has, is_spanned, AreApart};
 ghost use Rattle.ext_ref.specs.Unreached.{reaches, unreached_runs};
 ghost use Rattle.ext_ref.specs.Left as spec;
-ghost use Rattle.ext_ref.specs.Left.{run_of, bounds_of, IsSteady, AreLeft, AreAllLeft, AreShort, AreShortExtents};
+ghost use Rattle.ext_ref.specs.Left.{run_of, EndBy, AreUpTo, AreLow, AreLeft, AreShort, AreShortExtents};
 
+use crate::blocks::blocks_of;
 use crate::covering::{Span, put};
 use crate::{Cover, NewRange};
 use fs_record::FileExt;
@@ -18,15 +18,12 @@ use std::alloc::{AllocError, Global};
 
 // The blocks of an extent as a range.
 fn reach_of(extent: FileExt, block_size: u32) -> NewRange
-    requires some { 0 < block_size }
-    requires short { extent.block + stream.extent_blocks block_size extent < 2 ^ 64 }
+    requires { 0 < block_size }
     ensures { result ≡ spec.reach_of block_size extent }
 {
-    let blocks = (u128::from(extent.length) + (u128::from(block_size) - 1))
-        / u128::from(block_size);
     NewRange {
         first: extent.block,
-        length: blocks as u64,
+        length: blocks_of(extent, block_size),
         count: 0,
     }
 }
@@ -67,86 +64,59 @@ fn reached(
     Ok(ranges)
 }
 
-// Puts the blocks at which ranges begin and end after others.
-fn add_bounds(bounds: &mut Vec<u64>, ranges: &[NewRange]) -> Result<(), AllocError>
-    requires { AreShort ranges.now }
-    ensures { OnOk result (bounds.new.items ≡ bounds.old.items ++ bounds_of ranges.now) }
+// Puts the blocks from one up to an end after spans, where there are any.
+fn add_between(spans: &mut Vec<Span>, first: u64, end: u128) -> Result<(), AllocError>
+    requires { AreUpTo first spans.old.items }
+    ensures up_to { OnOk result (AreUpTo first spans.new.items) }
+    ensures blocks { OnOk result ((k : ℕ) → is_spanned spans.new.items k ≡ (is_spanned spans.old.items k || (nat_le first k && nat_lt k end))) }
 {
-    for range in ranges {
-        bounds.push(range.first)?;
-        bounds.push(range.first + range.length)?;
+    if end <= u128::from(first) {
+        return Ok(());
     }
-    Ok(())
+    put(spans, Span { first, end })
 }
 
-// The blocks at which ranges begin and end, those of both lists, in order.
-fn all_bounds(
-    alloc: Global,
-    ranges: &[NewRange],
-    others: &[NewRange],
-) -> Result<Vec<u64>, AllocError>
-    requires short { AreShort ranges.now }
-    requires others { AreShort others.now }
-    ensures same { IfOk result (λ bounds. (n : ℕ) → has bounds.items n ≡ has (bounds_of ranges.now ++ bounds_of others.now) n) }
-    ensures ascending { IfOk result (λ bounds. IsNonDecreasing bounds.items) }
-{
-    let mut bounds = Vec::new(alloc);
-    add_bounds(&mut bounds, ranges)?;
-    add_bounds(&mut bounds, others)?;
-    bounds.sort()?;
-    Ok(bounds)
-}
-
-// Whether a block is one of the first cover and none of the second.
-fn is_left(cover: &Cover, reach: &Cover, block: u64) -> bool
-    ensures { result ≡ spec.is_left cover.now reach.now block }
-{
-    cover.covers(block, 1) && !reach.covers(block, 1)
-}
-
-// Adds what is left from a block to a bound, where it is all or nothing of it.
+// Puts what is left of a span without others after what is left of those before it. As many of the others as `from` says end
+// by its first block; the answer is how many of them end by its end, with which the next span goes on.
 fn add_left(
     spans: &mut Vec<Span>,
-    cover: &Cover,
-    reach: &Cover,
-    at: u64,
-    bound: u64,
-) -> Result<(), AllocError>
-    requires order { at ≤ bound }
-    requires left { AreLeft (spec.is_left cover.now reach.now) at spans.old.items }
-    requires steady { (k : ℕ) → at ≤ k → k < bound → spec.is_left cover.now reach.now k ≡ spec.is_left cover.now reach.now at }
-    ensures { OnOk result (AreLeft (spec.is_left cover.now reach.now) bound spans.new.items) }
+    span: Span,
+    others: &[Span],
+    from: usize,
+) -> Result<usize, AllocError>
+    requires proper { span.first ≤ span.end }
+    requires low { span.first < span.end → span.end < 2 ^ 64 }
+    requires apart { AreApart others.now }
+    requires from { EndBy span.first from others.now }
+    requires up_to { AreUpTo span.first spans.old.items }
+    ensures next { IfOk result (λ next. EndBy span.end next others.now) }
+    ensures up_to { OnOk result (AreUpTo span.end spans.new.items) }
+    ensures blocks { OnOk result ((k : ℕ) → is_spanned spans.new.items k ≡ (is_spanned spans.old.items k || (span_has k span && not (is_spanned others.now k)))) }
 {
-    if at == bound {
-        return Ok(());
+    let mut at = span.first;
+    for next in from..others.len() {
+        let other = others[next];
+        add_between(spans, at, span.end.min(u128::from(other.first)))?;
+        if span.end < other.end {
+            return Ok(next);
+        }
+        at = at.max(other.end as u64);
     }
-    if !is_left(cover, reach, at) {
-        return Ok(());
-    }
-    let span = Span {
-        first: at,
-        end: u128::from(bound),
-    };
-    put(spans, span)?;
-    Ok(())
+    add_between(spans, at, span.end)?;
+    Ok(others.len())
 }
 
-// What is left of a cover without another, which changes at bounds alone.
-fn left(
-    alloc: Global,
-    cover: &Cover,
-    reach: &Cover,
-    bounds: &[u64],
-) -> Result<Vec<Span>, AllocError>
-    requires ascending { IsNonDecreasing bounds.now }
-    requires steady { IsSteady (spec.is_left cover.now reach.now) bounds.now }
-    ensures { IfOk result (λ spans. AreAllLeft (spec.is_left cover.now reach.now) bounds.now spans.items) }
+// What is left of spans without others: both lists are gone through once, side by side.
+fn left(alloc: Global, cover: &[Span], others: &[Span]) -> Result<Vec<Span>, AllocError>
+    requires apart { AreApart cover.now }
+    requires low { AreLow cover.now }
+    requires others { AreApart others.now }
+    ensures { IfOk result (λ spans. AreLeft cover.now others.now spans.items) }
 {
     let mut spans = Vec::new(alloc);
-    let mut at = 0u64;
-    for bound in bounds {
-        add_left(&mut spans, cover, reach, at, *bound)?;
-        at = *bound;
+    let mut next = 0;
+    for span in cover {
+        next = add_left(&mut spans, *span, others, next)?;
     }
     Ok(spans)
 }
@@ -164,7 +134,8 @@ fn runs(alloc: Global, spans: &[Span]) -> Result<Vec<(u64, u64)>, AllocError>
 }
 
 /// The longest runs of blocks of ranges that no extent with a block other than 0 reaches, each by its first block and its
-/// length, in ascending order. An extent stands after its stream's id.
+/// length, in ascending order. An extent stands after its stream's id. Sorts the ranges, and what extents reach, and goes
+/// through both once.
 pub fn unreached(
     alloc: Global,
     ranges: &[NewRange],
@@ -177,9 +148,8 @@ pub fn unreached(
     ensures { IfOk result (λ runs. runs.items ≡ unreached_runs block_size ranges.now extents.now) }
 {
     let others = reached(alloc, extents, block_size)?;
-    let bounds = all_bounds(alloc, ranges, &others)?;
     let cover = Cover::of(alloc, ranges)?;
     let reach = Cover::of(alloc, &others)?;
-    let spans = left(alloc, &cover, &reach, &bounds)?;
+    let spans = left(alloc, cover.as_spans(), reach.as_spans())?;
     runs(alloc, &spans)
 }

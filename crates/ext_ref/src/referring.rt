@@ -1,14 +1,16 @@
 // How many streams refer to ranges.
-ghost use Rattle.std.specs.Prelude.{◌≡◌, ◌<◌, ◌≤◌, ◌+◌, ℕ, length, map, true, false, nat_le, nat_lt, slice_index, slice_index_or, vec_len, OnOk, IfOk};
-ghost use Rattle.std.specs.List.Sorted.{IsNonDecreasingBy, IsPartitionPoint, IsPermutation};
+ghost use Rattle.std.specs.Prelude.{◌≡◌, ◌<◌, ℕ, length, true, IfOk};
+ghost use Rattle.std.specs.List.Sorted.{IsNonDecreasingBy, IsPermutation};
 ghost use Rattle.apfs_model.specs.Lists.{distinct};
 ghost use Rattle.obj_base.specs.BlockSize.{is_accepted};
 ghost use Rattle.ext_ref.specs.References as spec;
-ghost use Rattle.ext_ref.specs.References.{references_of, AreEnds};
+ghost use Rattle.ext_ref.specs.References.{references_of, AreLasts, IsWindow};
 ghost use Rattle.fs_record.specs.StreamExtents as stream;
 ghost use Rattle.fs_record.specs.declared.extents.FileExt as declared;
 
 use crate::NewRange;
+use crate::blocks::blocks_of;
+use crate::windows::{Window, lasts_of, window_of};
 use fs_record::FileExt;
 use std::alloc::{AllocError, Global};
 
@@ -17,22 +19,7 @@ fn end_of(extent: FileExt, block_size: u32) -> u128
     requires { 0 < block_size }
     ensures { result ≡ spec.end_of block_size extent }
 {
-    let blocks = (u128::from(extent.length) + (u128::from(block_size) - 1))
-        / u128::from(block_size);
-    u128::from(extent.block) + blocks
-}
-
-// The block after an extent's last one, and 0 for a hole.
-#[tactic(auto, unfolding(crate::specs::References::taken_end))]
-fn taken_end(extent: FileExt, block_size: u32) -> u128
-    requires { 0 < block_size }
-    ensures { result ≡ spec.taken_end block_size extent }
-{
-    if extent.block == 0 {
-        0
-    } else {
-        end_of(extent, block_size)
-    }
+    u128::from(extent.block) + u128::from(blocks_of(extent, block_size))
 }
 
 // Whether an extent other than a hole has a block in common with a range.
@@ -93,93 +80,67 @@ fn by_block(alloc: Global, extents: &[(u64, FileExt)]) -> Result<Vec<(u64, FileE
     Ok(sorted)
 }
 
-// For each extent the greatest end of those up to it, holes left out.
-fn ends_of(
-    alloc: Global,
-    extents: &[(u64, FileExt)],
-    block_size: u32,
-) -> Result<Vec<u128>, AllocError>
-    requires { 0 < block_size }
-    ensures { IfOk result (λ ends. AreEnds block_size extents.now ends.items) }
-{
-    let mut ends = Vec::new(alloc);
-    let mut greatest = 0u128;
-    for extent in extents {
-        greatest = greatest.max(taken_end(extent.1, block_size));
-        ends.push(greatest)?;
-    }
-    Ok(ends)
-}
-
-// How many extents don't begin after the blocks before an end.
-fn begun_before(extents: &[(u64, FileExt)], end: u128) -> usize
-    requires { IsNonDecreasingBy (λ (x : ℕ × declared.FileExt). x.1.block) extents.now }
-    ensures bound { result ≤ length extents.now }
-    ensures split { IsPartitionPoint (λ (x : ℕ × declared.FileExt). nat_lt x.1.block end ≡ true) (λ (x : ℕ × declared.FileExt). nat_lt x.1.block end ≡ false) extents.now result }
-{
-    extents.partition_point(
-        |extent: &(u64, FileExt)| -> bool
-            ensures { result ≡ nat_lt extent.now.1.block end }
-        { u128::from(extent.1.block) < end },
-    )
-}
-
-// How many of the ends are by a block.
-fn ended_by(ends: &[u128], block: u64) -> usize
-    requires { IsNonDecreasingBy (λ (n : ℕ). n) ends.now }
-    ensures bound { result ≤ length ends.now }
-    ensures split { IsPartitionPoint (λ (n : ℕ). nat_le n block ≡ true) (λ (n : ℕ). nat_le n block ≡ false) ends.now result }
-{
-    ends.partition_point(
-        |end: &u128| -> bool
-            ensures { result ≡ nat_le end.now block }
-        { *end <= u128::from(block) },
-    )
-}
-
-// How many streams have one of these extents, in the order of their first blocks, that touches a range: of the extents
-// from the first on that is known to end after the range's begin, those that begin before its end.
-fn count_touching(
+// How many streams have one of these extents that touches a range.
+#[tactic(auto, unfolding(crate::specs::References::streams_of))]
+fn count_among(
     alloc: Global,
     range: NewRange,
     extents: &[(u64, FileExt)],
-    ends: &[u128],
+    block_size: u32,
+) -> Result<u64, AllocError>
+    requires { 0 < block_size }
+    ensures { IfOk result (λ count. count ≡ spec.streams_of block_size extents.now range) }
+{
+    match extents {
+        [] => Ok(0),
+        [only] => Ok(u64::from(touches(range, only.1, block_size))),
+        _ => {
+            let ids = ids_touching(alloc, range, extents, block_size)?;
+            count_distinct(ids)
+        }
+    }
+}
+
+// How many streams have an extent that touches a range, by the places between which those stand.
+fn count_within(
+    alloc: Global,
+    range: NewRange,
+    extents: &[(u64, FileExt)],
+    window: Window,
     block_size: u32,
 ) -> Result<u64, AllocError>
     requires some { 0 < block_size }
-    requires ascending { IsNonDecreasingBy (λ (x : ℕ × declared.FileExt). x.1.block) extents.now }
-    requires ends { AreEnds block_size extents.now ends.now }
+    requires window { IsWindow block_size extents.now range window.low window.high }
     ensures { IfOk result (λ count. count ≡ spec.streams_of block_size extents.now range) }
 {
-    let high = begun_before(extents, u128::from(range.first) + u128::from(range.length));
-    let low = ended_by(ends, range.first).min(high);
-    let ids = ids_touching(alloc, range, &extents[low..high], block_size)?;
-    count_distinct(ids)
+    count_among(alloc, range, &extents[window.low..window.high], block_size)
 }
 
-// The same for each range.
+// The same for each range. The places of one are tried first for the next one.
 fn counts_of(
     alloc: Global,
     ranges: &[NewRange],
     extents: &[(u64, FileExt)],
-    ends: &[u128],
+    lasts: &[u64],
     block_size: u32,
 ) -> Result<Vec<u64>, AllocError>
     requires some { 0 < block_size }
     requires ascending { IsNonDecreasingBy (λ (x : ℕ × declared.FileExt). x.1.block) extents.now }
-    requires ends { AreEnds block_size extents.now ends.now }
+    requires lasts { AreLasts block_size extents.now lasts.now }
     ensures { IfOk result (λ counts. counts.items ≡ references_of block_size ranges.now extents.now) }
 {
     let mut counts = Vec::new(alloc);
+    let mut window = Window { low: 0, high: 0 };
     for range in ranges {
-        counts.push(count_touching(alloc, *range, extents, ends, block_size)?)?;
+        window = window_of(*range, extents, lasts, window);
+        counts.push(count_within(alloc, *range, extents, window, block_size)?)?;
     }
     Ok(counts)
 }
 
 /// For each range, how many streams have an extent with a block other than 0 that has a block in common with it. An extent
-/// stands after its stream's id. Sorts the extents by their first blocks; then two searches for each range leave those
-/// that may touch it, which are looked at.
+/// stands after its stream's id. Sorts the extents by their first blocks; then two searches for each range, which start
+/// where those of the range before it ended, leave those that may touch it, which are looked at.
 pub fn references(
     alloc: Global,
     ranges: &[NewRange],
@@ -190,6 +151,6 @@ pub fn references(
     ensures { IfOk result (λ counts. counts.items ≡ references_of block_size ranges.now extents.now) }
 {
     let sorted = by_block(alloc, extents)?;
-    let ends = ends_of(alloc, &sorted, block_size)?;
-    counts_of(alloc, ranges, &sorted, &ends, block_size)
+    let lasts = lasts_of(alloc, &sorted, block_size)?;
+    counts_of(alloc, ranges, &sorted, &lasts, block_size)
 }

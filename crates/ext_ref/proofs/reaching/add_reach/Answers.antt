@@ -1,6 +1,6 @@
 use Rattle.std.proofs.Common.{◌∙◌, ◌++◌, ◌∷◌, [], ap}
 use Rattle.ext_ref.specs.declared.range.NewRange.{NewRange}
-use Rattle.ext_ref.proofs.Bounds.{owned-reach}
+use Rattle.ext_ref.proofs.Left.{owned-reach}
 use Rattle.ext_ref.proofs.reaching.add_reach.Goals as goal
 
 pub returns-clause-same : goal.returns-clause-same

@@ -1,15 +1,16 @@
-use Rattle.std.proofs.Common.{get_or}
-use Rattle.ext_ref.proofs.Bounds.{clear-at, top-at}
+use Rattle.ext_ref.specs.declared.covering.Span.{Span}
+use Rattle.ext_ref.proofs.Left.{begin-next, end-next, left-more}
 use Rattle.ext_ref.proofs.reaching.left.Goals as goal
 
-pub add_left-requires-clause-steady : goal.add_left-requires-clause-steady
-add_left-requires-clause-steady c k low high =
-    c.requires.steady c.loop-bound.at (get_or c.args.bounds.now c.loop-bound.bound-index 0) k
-    (clear-at c.args.bounds.now c.loop-bound.bound-index c.loop-bound.at c.loop-bound-test.true c.requires.ascending c.loop-bound.invariant.before) low high
-
-pub returns : goal.returns
-returns c = record {
-  at = c.loop-bound.at;
-  top = top-at c.args.bounds.now c.loop-bound.bound-index c.loop-bound.at c.loop-bound-test.false c.loop-bound.invariant.before;
-  left = c.loop-bound.invariant.left;
-}
+pub loop-span-preserved : goal.loop-span-preserved
+loop-span-preserved c =
+    let none : Span = record { first = 0; end = 0 } in
+    let cover = c.args.cover.now in
+    let i = c.loop-span.span-index in
+    record {
+      apart = c.in_ok-next.ensures.up_to.apart;
+      full = c.in_ok-next.ensures.up_to.full;
+      up_to = begin-next cover c.add_left.new.spans.items i none c.requires.apart c.loop-span-test.true c.in_ok-next.ensures.up_to;
+      before = end-next cover c.args.others.now i c.in_ok-next.next none c.requires.apart c.loop-span-test.true c.in_ok-next.ensures.next;
+      blocks = λ k. left-more cover c.args.others.now c.loop-span.spans.items c.add_left.new.spans.items i none k c.loop-span-test.true (c.loop-span.invariant.blocks k) (c.in_ok-next.ensures.blocks k);
+    }

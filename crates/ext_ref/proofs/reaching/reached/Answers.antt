@@ -4,7 +4,7 @@ use Rattle.std.specs.Prelude.{◌+◌, ◌<◌, ◌^◌}
 use Rattle.ext_ref.specs.Cover.{is_owned}
 use Rattle.ext_ref.specs.Left.{AreShort}
 use Rattle.ext_ref.specs.declared.range.NewRange.{NewRange}
-use Rattle.ext_ref.proofs.Bounds.{owned-none}
+use Rattle.ext_ref.proofs.Left.{owned-none}
 use Rattle.ext_ref.proofs.reaching.reached.Goals as goal
 
 pub loop-extent-init : goal.loop-extent-init
