@@ -10,7 +10,6 @@ ghost use Rattle.ext_ref.specs.Unreached.{reaches, unreached_runs};
 ghost use Rattle.ext_ref.specs.Left as spec;
 ghost use Rattle.ext_ref.specs.Left.{run_of, EndBy, AreUpTo, AreLow, AreLeft, AreShort, AreShortExtents};
 
-use crate::blocks::blocks_of;
 use crate::covering::{Span, put};
 use crate::{Cover, NewRange};
 use fs_record::FileExt;
@@ -23,7 +22,7 @@ fn reach_of(extent: FileExt, block_size: u32) -> NewRange
 {
     NewRange {
         first: extent.block,
-        length: blocks_of(extent, block_size),
+        length: extent.blocks(block_size),
         count: 0,
     }
 }

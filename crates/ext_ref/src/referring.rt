@@ -9,7 +9,6 @@ ghost use Rattle.fs_record.specs.StreamExtents as stream;
 ghost use Rattle.fs_record.specs.declared.extents.FileExt as declared;
 
 use crate::NewRange;
-use crate::blocks::blocks_of;
 use crate::windows::{Window, lasts_of, window_of};
 use fs_record::FileExt;
 use std::alloc::{AllocError, Global};
@@ -19,7 +18,7 @@ fn end_of(extent: FileExt, block_size: u32) -> u128
     requires { 0 < block_size }
     ensures { result ≡ spec.end_of block_size extent }
 {
-    u128::from(extent.block) + u128::from(blocks_of(extent, block_size))
+    u128::from(extent.block) + u128::from(extent.blocks(block_size))
 }
 
 // Whether an extent other than a hole has a block in common with a range.

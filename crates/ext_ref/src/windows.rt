@@ -6,7 +6,6 @@ ghost use Rattle.ext_ref.specs.References.{AreLasts, IsWindow};
 ghost use Rattle.fs_record.specs.declared.extents.FileExt as declared;
 
 use crate::NewRange;
-use crate::blocks::blocks_of;
 use fs_record::FileExt;
 use id_lists::{OrderBy, below};
 use std::alloc::{AllocError, Global};
@@ -49,7 +48,7 @@ fn last_of(extent: FileExt, block_size: u32) -> u64
     if extent.block == 0 {
         0
     } else {
-        (extent.block - 1).saturating_add(blocks_of(extent, block_size))
+        (extent.block - 1).saturating_add(extent.blocks(block_size))
     }
 }
 
