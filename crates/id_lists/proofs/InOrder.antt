@@ -1,12 +1,12 @@
 -- Searches in lists that are in order.
-use Rattle.std.proofs.Common.{◌≡◌, ℕ, zero, suc, ◌+◌, ◌<◌, ◌≤◌, Bool, true, false, cond, List, [], ◌∷◌, length, get_or, Some, None, Result, Ok, Err, refl, ap, sym, ◌∙◌, inl, inr, arith}
-use Rattle.std.specs.Prelude.{◌-◌, count_by, find, slice_get, ◌==◌, nat_lt, nat_le, is_ok, MatchResult, filter, not, ◌&&◌}
+use Rattle.std.proofs.Common.{◌≡◌, ℕ, zero, suc, ◌+◌, ◌<◌, ◌≤◌, Bool, true, false, cond, List, [], ◌∷◌, length, get_or, set, Some, None, Result, Ok, Err, refl, ap, sym, ◌∙◌, inl, inr, arith}
+use Rattle.std.specs.Prelude.{◌-◌, count_by, find, slice_get, ◌==◌, nat_lt, nat_le, is_ok, MatchResult, filter, not, ◌&&◌, option_map}
 use Rattle.std.specs.List.{position_or_len, AllPairs, position}
 use Rattle.std.specs.List.Sorted.{IsNonDecreasing, IsNonDecreasingBy, IsPartitionPoint, IsStableByKey, ties}
 use Rattle.std.specs.Ordering.{nat_cmp, is_lt}
-use Rattle.std.proofs.lemmas.Bool.{cases_lt, ltb-true, ltb-false}
+use Rattle.std.proofs.lemmas.Bool.{cases_eq, cases_lt, ltb-true, ltb-false}
 use Rattle.std.proofs.lemmas.Bool.Decides.{nat_tests}
-use Rattle.std.proofs.lemmas.List.{get_or_default}
+use Rattle.std.proofs.lemmas.List.{get_or-set_same, get_or-set_other, get_or_default, length-set}
 use Rattle.std.proofs.lemmas.List.Sums.{sum_by-cons, position_or_len_is, prefix_len-le-length}
 use Rattle.std.proofs.lemmas.List.Quantifiers.{position-Some}
 use Rattle.std.proofs.lemmas.List.Folds.{find_at}
@@ -246,3 +246,27 @@ found-there p xs i d e =
 -- none passes without a place
 pub found-nowhere : {X : Type 0} (p : X → Bool) (xs : List X) → None ≡ position p xs → find p xs ≡ None
 found-nowhere p xs e = find_at p xs ∙ (ap (slice_get xs) (unplaced p xs (sym e)) ∙ get-past xs)
+
+-- an item is of a number
+of-number : {X : Type 0} (n : X → ℕ) (xs : List X) (i q : ℕ) (d : X) → option_map n (slice_get xs i) ≡ Some q → n (get_or xs i d) ≡ q
+of-number n [] i q d e = absurd (let r : ⊥ = cc in r)
+of-number n (x ∷ xs) zero q d e = cc
+of-number n (x ∷ xs) (suc i) q d e = of-number n xs i q d e
+
+-- one of the same number in its place leaves the others where they are
+pub rises-set : {X : Type 0} (n : X → ℕ) (xs : List X) (i : ℕ) (y : X) → option_map n (slice_get xs i) ≡ Some (n y) → IsNonDecreasingBy n xs → IsNonDecreasingBy n (set xs i y)
+rises-set {X} n xs i y same up j k d le low =
+    let long : k < length xs = omega (arith, length-set xs i y) in
+    let a = kept j (omega arith) in
+    let b = kept k long in
+    let c = up j k d le long in
+    omega arith
+  where
+    kept : (m : ℕ) → m < length xs → n (get_or (set xs i y) m d) ≡ n (get_or xs m d)
+    kept m less =
+        elim (cases_eq m i) as (λ _. n (get_or (set xs i y) m d) ≡ n (get_or xs m d)) [
+          | inl here ↦
+              let inside : i < length xs = omega arith in
+              ap (λ k. n (get_or (set xs i y) k d)) here ∙ (ap n (get_or-set_same xs i y d inside) ∙ (sym (of-number n xs i (n y) d same) ∙ ap (λ k. n (get_or xs k d)) (sym here)))
+          | inr other ↦ ap n (get_or-set_other xs i m y d other)
+        ]

@@ -6,7 +6,7 @@ use std::alloc::Global;
 /// Places in a list from which searches start: one for each run of ids, of the first item that isn't of an id below the run. They tell nothing
 /// that a search doesn't test, so a wrong one costs time alone.
 #[derive(Debug, Drop)]
-pub struct Guesses {
+pub(crate) struct Guesses {
     first: u64,
     shift: u32,
     places: Vec<u32>,
@@ -21,9 +21,26 @@ fn shift_for(first: u64, last: u64, items: usize) -> u32 {
     }
 }
 
+// No place yet for as many runs.
+fn unplaced(alloc: Global, runs: usize) -> Result<Vec<u32>, NoMemory> {
+    match vec![in alloc; u32::MAX; runs] {
+        Ok(places) => Ok(places),
+        Err(_) => Err(NoMemory),
+    }
+}
+
+// Gives a place to some runs, and tells where they end.
+fn fill(places: &mut [u32], from: usize, to: usize, place: usize) -> usize {
+    let place = u32::try_from(place).unwrap_or(u32::MAX);
+    for run in from..to.min(places.len()) {
+        places[run] = place;
+    }
+    to
+}
+
 impl Guesses {
     /// The places for a list that is in the order of its ids.
-    pub fn of<T, B: OrderBy<T>>(alloc: Global, list: &[T]) -> Result<Guesses, NoMemory> {
+    pub(crate) fn of<T, B: OrderBy<T>>(alloc: Global, list: &[T]) -> Result<Guesses, NoMemory> {
         let mut guesses = Guesses {
             first: 0,
             shift: 0,
@@ -36,35 +53,31 @@ impl Guesses {
         let last = B::id(&list[list.len() - 1]);
         guesses.first = first;
         guesses.shift = shift_for(first, last, list.len());
-        for (place, item) in list.iter().enumerate() {
-            guesses.note(B::id(item), place)?;
-        }
+        let runs = guesses.run(last).saturating_add(1);
+        guesses.places = unplaced(alloc, runs)?;
+        guesses.note::<T, B>(list);
         Ok(guesses)
     }
 
     // The run of an id.
-    fn run(&self, id: u64) -> u64 {
-        id.saturating_sub(self.first).wrapping_shr(self.shift)
+    fn run(&self, id: u64) -> usize {
+        id.saturating_sub(self.first).wrapping_shr(self.shift) as usize
     }
 
-    // Gives a place to the run of an id and to those before it, where they have none.
-    fn note(&mut self, id: u64, place: usize) -> Result<(), NoMemory> {
-        let runs = (self.run(id) as usize).saturating_add(1);
-        if runs <= self.places.len() {
-            return Ok(());
-        }
-        match self
-            .places
-            .resize(runs, u32::try_from(place).unwrap_or(u32::MAX))
-        {
-            Ok(()) => Ok(()),
-            Err(_) => Err(NoMemory),
+    // Gives each run its place.
+    fn note<T, B: OrderBy<T>>(&mut self, list: &[T]) {
+        let mut placed = 0;
+        for (place, item) in list.iter().enumerate() {
+            let run = self.run(B::id(item));
+            if run >= placed {
+                placed = fill(&mut self.places, placed, run.saturating_add(1), place);
+            }
         }
     }
 
     /// Where a search for an id starts.
-    pub fn near(&self, id: u64) -> usize {
-        match self.places.get(self.run(id) as usize) {
+    pub(crate) fn near(&self, id: u64) -> usize {
+        match self.places.get(self.run(id)) {
             Some(place) => *place as usize,
             None => NO_GUESS,
         }

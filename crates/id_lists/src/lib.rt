@@ -1,11 +1,12 @@
-//! Searches by an id in lists that are in the order of their ids. Where a guess of the place is right, a search takes a step or two.
+//! Lists in the order of their ids, in which an id is searched for. Where a guess of the place is right, a search takes a step or two.
 #![tactic(auto)]
 
 mod guesses;
+mod id_list;
 mod search;
 
-pub use guesses::Guesses;
-pub use search::{NO_GUESS, OrderBy, are_in_order, below, count, place};
+pub use id_list::IdList;
+pub use search::{NO_GUESS, OrderBy, are_in_order, below, count};
 
 #[cfg(test)]
 mod tests;

@@ -1,5 +1,5 @@
 // Searches in a list that is in the order of its ids.
-ghost use Rattle.std.specs.Prelude.{◌≡◌, ◌≤◌, ◌==◌, ℕ, true, false, length, nat_lt, nat_le, count_by};
+ghost use Rattle.std.specs.Prelude.{◌≡◌, ◌≤◌, ◌==◌, ℕ, true, false, Some, length, nat_lt, nat_le, count_by};
 ghost use Rattle.std.specs.List.{position};
 ghost use Rattle.std.specs.List.Sorted.{IsNonDecreasingBy, IsPartitionPoint};
 
@@ -111,8 +111,22 @@ fn up_to<T, B: OrderBy<T>>(list: &[T], id: u64, guess: usize) -> usize
     }
 }
 
-/// The place of the first item of an id.
-pub fn place<T, B: OrderBy<T>>(list: &[T], id: u64, guess: usize) -> Option<usize>
+// Whether the first item of an id stands at a place.
+fn is_first<T, B: OrderBy<T>>(list: &[T], id: u64, at: usize) -> bool
+    requires { IsNonDecreasingBy B.id list.now }
+    ensures { result ≡ true → position (λ x. B.id x == id) list.now ≡ Some at }
+{
+    if at >= list.len() {
+        return false;
+    }
+    if B::id(&list[at]) != id {
+        return false;
+    }
+    at == 0 || B::id(&list[at - 1]) < id
+}
+
+// The place of the first item of an id, by a search from a guess on.
+fn place_from<T, B: OrderBy<T>>(list: &[T], id: u64, guess: usize) -> Option<usize>
     requires { IsNonDecreasingBy B.id list.now }
     ensures { result ≡ position (λ x. B.id x == id) list.now }
 {
@@ -124,6 +138,17 @@ pub fn place<T, B: OrderBy<T>>(list: &[T], id: u64, guess: usize) -> Option<usiz
         return None;
     }
     Some(at)
+}
+
+/// The place of the first item of an id: the guess itself, where it stands there, else by a search.
+pub(crate) fn place<T, B: OrderBy<T>>(list: &[T], id: u64, guess: usize) -> Option<usize>
+    requires { IsNonDecreasingBy B.id list.now }
+    ensures { result ≡ position (λ x. B.id x == id) list.now }
+{
+    if is_first::<T, B>(list, id, guess) {
+        return Some(guess);
+    }
+    place_from::<T, B>(list, id, guess)
 }
 
 /// How many items are of an id.

@@ -1,5 +1,7 @@
 // Lists in order with what is found in them, whatever the guess.
-use crate::{Guesses, NO_GUESS, OrderBy, are_in_order, below, count, place};
+use crate::guesses::Guesses;
+use crate::search::place;
+use crate::{IdList, NO_GUESS, OrderBy, are_in_order, below, count};
 use std::alloc::Global;
 use std::test::Fail;
 
@@ -43,6 +45,24 @@ fn searches(rt: HostRuntime) -> Result<(), Fail> {
             assert_eq!(rt; place::<_, ByItself>(list, id, guess), at);
             assert_eq!(rt; count::<_, ByItself>(list, id, guess), of_it);
         }
+    }
+    Ok(())
+}
+
+#[test]
+fn lists(rt: HostRuntime) -> Result<(), Fail> {
+    for (list, id, _, at, of_it) in ROWS {
+        let items = Vec::from_slice(rt.alloc(), list)?;
+        assert_eq!(rt; are_in_order::<_, ByItself>(&items), true);
+        let mut made: IdList<u64, ByItself> = IdList::of(rt.alloc(), items)?;
+        assert_eq!(rt; made.len(), list.len());
+        assert_eq!(rt; made.as_slice(), list);
+        assert_eq!(rt; made.place(id), at);
+        assert_eq!(rt; made.count(id), of_it);
+        if let Some(at) = made.place(id) {
+            made.set(at, id);
+        }
+        assert_eq!(rt; made.as_slice(), list);
     }
     Ok(())
 }

@@ -2,7 +2,8 @@
 use Rattle.std.proofs.Common.{◌≡◌, ℕ, ◌+◌, ◌<◌, ◌≤◌, Bool, true, false, cond, List, [], ◌∷◌, get_or, refl, ap, sym, ◌∙◌, arith}
 use Rattle.std.specs.Prelude.{◌==◌, ◌&&◌, ◌||◌, not, count_by, nat_lt}
 use Rattle.std.specs.List.{list_any}
-use Rattle.std.specs.Ordering.{is_lt}
+use Rattle.std.specs.declared.cmp.Ordering.{Ordering}
+use Rattle.std.specs.Ordering.{is_lt, nat_cmp, ordering_then}
 use Rattle.std.specs.List.Sorted.{IsSortedBy, IsNonDecreasingBy}
 use Rattle.std.proofs.lemmas.Bool.Decides.{nat_tests}
 use Rattle.std.proofs.lemmas.List.Sums.{sum_by-cons}
@@ -12,9 +13,13 @@ use Rattle.fs_record.specs.Entries.{Entry}
 use Rattle.fs_record.specs.Facts.{Fact, is_reserved, private_id}
 use Rattle.view_rules.specs.Facts.{Facts, names_file, entry_count, entry_count_in}
 use Rattle.view_rules.specs.Counts.{is_system_name}
-use Rattle.rule_index.specs.Homes.{home_cmp, is_named}
+use Rattle.rule_index.specs.Homes.{is_named}
 use Rattle.rule_index.specs.Ids.{count_in, CountsIds, system_file}
 use Rattle.rule_index.proofs.Counting.{any-counted, system_counts}
+
+-- the order of pairs of a file and a directory
+abbrev pub home_cmp : ℕ × ℕ → ℕ × ℕ → Ordering
+home_cmp a b = ordering_then (nat_cmp a.0 b.0) (nat_cmp a.1 b.1)
 
 lower-first : (a b : ℕ × ℕ) → is_lt (home_cmp b a) ≡ false → a.0 ≤ b.0
 lower-first a b e = grind (arith, nat_tests)

@@ -1,17 +1,11 @@
 -- The directories of each file's entries.
 use Rattle.std.specs.Prelude.{◌≡◌, ◌≢◌, ℕ, ◌+◌, ◌<◌, Bool, ◌==◌, ◌&&◌, List, length, slice_index_or, count_by, Option, Some, is_none, MatchOption}
-use Rattle.std.specs.declared.cmp.Ordering.{Ordering}
-use Rattle.std.specs.Ordering.{nat_cmp, ordering_then}
 use Rattle.fs_record.specs.Entries.{Entry}
 use Rattle.fs_record.specs.Facts.{Fact}
 use Rattle.view_rules.specs.Facts.{does_count, names_file}
 use Rattle.rule_index.specs.Kins.{kin_place}
 use Rattle.rule_index.specs.declared.kin.Kin.{Kin}
 use Rattle.rule_index.specs.declared.homes.Home.{Home}
-
--- the order of pairs of a file and a directory
-abbrev pub home_cmp : ℕ × ℕ → ℕ × ℕ → Ordering
-home_cmp a b = ordering_then (nat_cmp a.0 b.0) (nat_cmp a.1 b.1)
 
 -- a pair is of a file
 abbrev pub is_file : ℕ → ℕ × ℕ → Bool

@@ -5,7 +5,7 @@ ghost use Rattle.rule_index.specs.declared.kin.Kin as declared;
 ghost use Rattle.rule_index.specs.Kins.{with_id, kin_in, kin_place, HasKins};
 
 use blk_source::NoMemory;
-use id_lists::{Guesses, OrderBy, are_in_order, place};
+use id_lists::{IdList, OrderBy, are_in_order};
 use std::alloc::{AllocError, Global};
 use std::marker::Model;
 use view_facts::InodeFact;
@@ -33,20 +33,16 @@ impl OrderBy<(u64, Kin)> for ByInode {
 /// Those of all inodes after their ids, in the order of these, so that a search finds those of an id.
 #[derive(Drop)]
 pub(crate) struct Kins {
-    list: Vec<(u64, Kin)>,
-    guesses: Guesses,
+    list: IdList<(u64, Kin), ByInode>,
 }
 
 impl Model for Kins {
     ghost use Rattle.std.specs.Prelude.{List, ℕ};
-    ghost use Rattle.std.specs.List.Sorted.{IsNonDecreasingBy};
     ghost use Rattle.rule_index.specs.declared.kin.Kin.{Kin};
 
     ghost Value = { List (ℕ × Kin) };
 
-    ghost view = { λ kins. kins.list.items };
-
-    ghost invariant = { λ kins. IsNonDecreasingBy (λ (k : ℕ × Kin). k.0) kins.list.items };
+    ghost view = { λ kins. kins.list };
 }
 
 // Those of an inode, after its id.
@@ -80,17 +76,6 @@ fn sorted(alloc: Global, inodes: &[InodeFact]) -> Result<Vec<(u64, Kin)>, AllocE
     Ok(list)
 }
 
-// Those of an id, the first where there are more.
-fn first_of(list: &[(u64, Kin)], id: u64, guess: usize) -> Option<Kin>
-    requires { IsNonDecreasingBy (λ (k : ℕ × declared.Kin). k.0) list.now }
-    ensures { result ≡ kin_in list.now id }
-{
-    let Some(at) = place::<_, ByInode>(list, id, guess) else {
-        return None;
-    };
-    Some(list[at].1)
-}
-
 impl Kins {
     /// Those of each id, of its first inode.
     pub(crate) fn of(alloc: Global, inodes: &[InodeFact]) -> Result<Kins, NoMemory>
@@ -98,8 +83,8 @@ impl Kins {
     {
         match sorted(alloc, inodes) {
             Ok(list) => {
-                let guesses = Guesses::of::<_, ByInode>(alloc, &list)?;
-                Ok(Kins { list, guesses })
+                let list = IdList::of(alloc, list)?;
+                Ok(Kins { list })
             }
             Err(_) => Err(NoMemory),
         }
@@ -116,13 +101,16 @@ impl Kins {
     pub(crate) fn place(&self, id: u64) -> Option<usize>
         ensures { result ≡ kin_place self.now id }
     {
-        place::<_, ByInode>(&self.list, id, self.guesses.near(id))
+        self.list.place(id)
     }
 
-    /// Those of an id.
+    /// Those of an id, the first where there are more.
     pub(crate) fn get(&self, id: u64) -> Option<Kin>
         ensures { result ≡ kin_in self.now id }
     {
-        first_of(&self.list, id, self.guesses.near(id))
+        let Some(at) = self.list.place(id) else {
+            return None;
+        };
+        Some(self.list.as_slice()[at].1)
     }
 }

@@ -1,12 +1,10 @@
 -- The parent of each inode, and the climb that met it.
-use Rattle.std.proofs.Common.{◌≡◌, ℕ, ◌+◌, ◌<◌, Bool, true, false, cond, List, [], ◌∷◌, length, get_or, Option, Some, None, refl, ap, sym, ◌∙◌, inl, inr, arith}
-use Rattle.std.specs.Prelude.{option_map, option_and_then, is_none, is_some, map, count_by, ◌==◌}
+use Rattle.std.proofs.Common.{◌≡◌, ℕ, ◌+◌, Bool, true, false, cond, List, [], ◌∷◌, get_or, Option, Some, None, refl, ap, sym, ◌∙◌, arith}
+use Rattle.std.specs.Prelude.{option_map, option_and_then, is_none, is_some, map, count_by, slice_get, ◌==◌}
 use Rattle.std.specs.List.{find, position, position_or_len}
 use Rattle.std.specs.Ordering.{nat_cmp}
-use Rattle.std.specs.List.Sorted.{IsStableByKey, IsNonDecreasingBy}
+use Rattle.std.specs.List.Sorted.{IsStableByKey}
 use Rattle.std.proofs.Math.ListN.{set}
-use Rattle.std.proofs.lemmas.Bool.{cases_eq}
-use Rattle.std.proofs.lemmas.List.{get_or-set_same, get_or-set_other, get_or_default, length-set}
 use Rattle.std.proofs.lemmas.List.Sums.{sum_by-set}
 use Rattle.std.proofs.lemmas.List.Folds.{find-set, find_past}
 use Rattle.std.proofs.lemmas.List.Quantifiers.{position-Some}
@@ -15,7 +13,7 @@ use Rattle.fs_record.specs.Inodes.{Inode}
 use Rattle.fs_record.specs.Facts.{Fact}
 use Rattle.view_rules.specs.Facts.{Facts}
 use Rattle.view_rules.specs.Directories.{parent_at}
-use Rattle.id_lists.proofs.InOrder.{stable-first, place-is, found-there, found-nowhere}
+use Rattle.id_lists.proofs.InOrder.{stable-first, get-at, place-is, found-there, found-nowhere}
 use Rattle.tree_reach.specs.declared.ways.Way.{Way}
 use Rattle.tree_reach.specs.Ways.{way_of, is_of, way_at, met_at, left_of, left_at, left_count, HasWaysOf}
 
@@ -59,6 +57,10 @@ none-met inodes ways has id = ap (λ (o : Option Way). option_and_then (λ (w : 
 pub way-here : (ways : List Way) (id i : ℕ) (d : Way) → Some i ≡ position (is_of id) ways → way_at ways id ≡ Some (get_or ways i d)
 unfolding way_at
 way-here ways id i d e = found-there (is_of id) ways i d e
+
+-- and has the id
+pub id-here : (ways : List Way) (id i : ℕ) (d : Way) → Some i ≡ position (is_of id) ways → option_map (λ (w : Way). w.id) (slice_get ways i) ≡ Some (get_or ways i d).id
+id-here ways id i d e = let t = position-Some (is_of id) ways i d (sym e) in ap (option_map (λ (w : Way). w.id)) (get-at ways i d t.0)
 
 -- there is none without a place
 pub no-way : (ways : List Way) (id : ℕ) → None ≡ position (is_of id) ways → way_at ways id ≡ None
@@ -145,23 +147,3 @@ count-set ways id i climb d e none =
     let one : cond {A = ℕ} (is_none (get_or ways i d).climb) 1 0 ≡ 1 = ap (λ (o : Option ℕ). cond (is_none o) 1 0) none in
     let sums : count_by (λ (w : Way). is_none w.climb) (set ways i (met_now (get_or ways i d) climb)) + cond {A = ℕ} (is_none (get_or ways i d).climb) 1 0 ≡ count_by (λ (w : Way). is_none w.climb) ways + 0 = sum_by-set (λ (w : Way). cond (is_none w.climb) 1 0) ways i (met_now (get_or ways i d) climb) d t.0 in
     omega (arith, one, sums)
-
-same-id : (ways : List Way) (i climb k : ℕ) (d e : Way) → k < length ways → (get_or (set ways i (met_now (get_or ways i d) climb)) k e).id ≡ (get_or ways k e).id
-same-id ways i climb k d e low =
-    elim (cases_eq k i) as (λ _. (get_or (set ways i (met_now (get_or ways i d) climb)) k e).id ≡ (get_or ways k e).id) [
-      | inl same ↦
-          let here : i < length ways = omega arith in
-          ap (λ (n : ℕ). (get_or (set ways i (met_now (get_or ways i d) climb)) n e).id) same
-          ∙ (ap (λ (w : Way). w.id) (get_or-set_same ways i (met_now (get_or ways i d) climb) e here)
-          ∙ (ap (λ (w : Way). w.id) (get_or_default ways i d e here)
-          ∙ ap (λ (n : ℕ). (get_or ways n e).id) (sym same)))
-      | inr other ↦ ap (λ (w : Way). w.id) (get_or-set_other ways i k (met_now (get_or ways i d) climb) e other)
-    ]
-
-pub rises-set : (ways : List Way) (i climb : ℕ) (d : Way) → IsNonDecreasingBy (λ (w : Way). w.id) ways → IsNonDecreasingBy (λ (w : Way). w.id) (set ways i (met_now (get_or ways i d) climb))
-rises-set ways i climb d up j k e le low =
-    let long : k < length ways = omega (arith, length-set ways i (met_now (get_or ways i d) climb)) in
-    let a = same-id ways i climb j d e (omega arith) in
-    let b = same-id ways i climb k d e long in
-    let c = up j k e le long in
-    omega arith

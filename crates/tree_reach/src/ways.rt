@@ -6,7 +6,7 @@ ghost use Rattle.tree_reach.specs.declared.ways.Way as declared;
 ghost use Rattle.tree_reach.specs.Ways as spec;
 
 use blk_source::NoMemory;
-use id_lists::{Guesses, OrderBy, are_in_order, place};
+use id_lists::{IdList, OrderBy, are_in_order};
 use std::alloc::{AllocError, Global};
 use std::marker::Model;
 use view_facts::InodeFact;
@@ -35,20 +35,16 @@ impl OrderBy<Way> for ById {
 /// The ways of all inodes in the order of their ids, so that a search finds that of an id.
 #[derive(Drop)]
 pub(crate) struct Ways {
-    list: Vec<Way>,
-    guesses: Guesses,
+    list: IdList<Way, ById>,
 }
 
 impl Model for Ways {
     ghost use Rattle.std.specs.Prelude.{List};
-    ghost use Rattle.std.specs.List.Sorted.{IsNonDecreasingBy};
     ghost use Rattle.tree_reach.specs.declared.ways.Way.{Way};
 
     ghost Value = { List Way };
 
-    ghost view = { λ ways. ways.list.items };
-
-    ghost invariant = { λ ways. IsNonDecreasingBy (λ (w : Way). w.id) ways.list.items };
+    ghost view = { λ ways. ways.list };
 }
 
 // The way of an inode that no climb met.
@@ -83,38 +79,26 @@ fn sorted(alloc: Global, inodes: &[InodeFact]) -> Result<Vec<Way>, AllocError>
 }
 
 // The parent of an id that no climb met. Now this one has.
-fn take(list: &mut [Way], id: u64, guess: usize, climb: usize) -> Option<u64>
-    requires { IsNonDecreasingBy (λ (w : declared.Way). w.id) list.old }
-    ensures ascending { IsNonDecreasingBy (λ (w : declared.Way). w.id) list.new }
+fn take(list: &mut IdList<Way, ById>, id: u64, climb: usize) -> Option<u64>
     ensures value { result ≡ spec.left_at list.old id }
     ensures left { (q : ℕ) → spec.left_at list.new q ≡ (if is_some result && id == q then None else spec.left_at list.old q) }
     ensures met { (q : ℕ) → spec.met_at list.new q ≡ (if is_some result && id == q then Some climb else spec.met_at list.old q) }
     ensures fuel { spec.left_count list.new + (if is_some result then 1 else 0) ≡ spec.left_count list.old }
 {
-    let Some(at) = place::<_, ById>(list, id, guess) else {
+    let Some(at) = list.place(id) else {
         return None;
     };
-    let way = list[at];
+    let way = list.as_slice()[at];
     if way.climb.is_some() {
         return None;
     }
-    list[at] = Way {
+    let met = Way {
         id: way.id,
         parent: way.parent,
         climb: Some(climb),
     };
+    list.set(at, met);
     Some(way.parent)
-}
-
-// The climb that met an id.
-fn climb_of(list: &[Way], id: u64, guess: usize) -> Option<usize>
-    requires { IsNonDecreasingBy (λ (w : declared.Way). w.id) list.now }
-    ensures { result ≡ spec.met_at list.now id }
-{
-    let Some(at) = place::<_, ById>(list, id, guess) else {
-        return None;
-    };
-    list[at].climb
 }
 
 impl Ways {
@@ -124,8 +108,8 @@ impl Ways {
     {
         match sorted(alloc, inodes) {
             Ok(list) => {
-                let guesses = Guesses::of::<_, ById>(alloc, &list)?;
-                Ok(Ways { list, guesses })
+                let list = IdList::of(alloc, list)?;
+                Ok(Ways { list })
             }
             Err(_) => Err(NoMemory),
         }
@@ -141,14 +125,16 @@ impl Ways {
         if id < 16 {
             return None;
         }
-        let guess = self.guesses.near(id);
-        take(&mut self.list, id, guess, climb)
+        take(&mut self.list, id, climb)
     }
 
     /// The climb that met an id.
     pub(crate) fn climb_of(&self, id: u64) -> Option<usize>
         ensures { result ≡ spec.met_at self.now id }
     {
-        climb_of(&self.list, id, self.guesses.near(id))
+        let Some(at) = self.list.place(id) else {
+            return None;
+        };
+        self.list.as_slice()[at].climb
     }
 }

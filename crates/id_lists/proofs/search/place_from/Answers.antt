@@ -1,6 +1,6 @@
 use Rattle.std.proofs.Common.{ap, sym, ◌∙◌, arith}
 use Rattle.id_lists.proofs.InOrder.{position-is, position-none, position-past}
-use Rattle.id_lists.proofs.search.place.Goals as goal
+use Rattle.id_lists.proofs.search.place_from.Goals as goal
 
 pub returns-then-at-list : goal.returns-then-at-list
 returns-then-at-list g c = sym (position-past g.B.OrderBy.id c.args.list.now c.args.id c.below-at.result c.if-at-list.true c.requires c.below-at.ensures.split)
