@@ -7,7 +7,7 @@ ghost use Rattle.fs_record.specs.declared.extents.FileExt as declared;
 
 use crate::NewRange;
 use fs_record::FileExt;
-use id_lists::{OrderBy, below};
+use id_lists::{ByItself, OrderBy, below};
 use std::alloc::{AllocError, Global};
 
 // Extents by their first blocks.
@@ -18,17 +18,6 @@ impl OrderBy<(u64, FileExt)> for ByBlock {
 
     fn id(extent: &(u64, FileExt)) -> u64 {
         extent.1.block
-    }
-}
-
-// Numbers by themselves.
-struct ByItself;
-
-impl OrderBy<u64> for ByItself {
-    ghost id = { λ n. n };
-
-    fn id(number: &u64) -> u64 {
-        *number
     }
 }
 

@@ -6,7 +6,7 @@ mod id_list;
 mod search;
 
 pub use id_list::IdList;
-pub use search::{NO_GUESS, OrderBy, are_in_order, below, count};
+pub use search::{ByItself, NO_GUESS, OrderBy, are_in_order, below, count};
 
 #[cfg(test)]
 mod tests;

@@ -12,6 +12,17 @@ pub trait OrderBy<T> {
         ensures { result ≡ id item.now };
 }
 
+/// By the number itself.
+pub struct ByItself;
+
+impl OrderBy<u64> for ByItself {
+    ghost id = { λ n. n };
+
+    fn id(number: &u64) -> u64 {
+        *number
+    }
+}
+
 /// Where a search starts of whose place nothing is known.
 pub const NO_GUESS: usize = usize::MAX;
 

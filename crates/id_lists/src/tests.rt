@@ -1,19 +1,9 @@
 // Lists in order with what is found in them, whatever the guess.
 use crate::guesses::Guesses;
 use crate::search::place;
-use crate::{IdList, NO_GUESS, OrderBy, are_in_order, below, count};
+use crate::{ByItself, IdList, NO_GUESS, are_in_order, below, count};
 use std::alloc::Global;
 use std::test::Fail;
-
-struct ByItself;
-
-impl OrderBy<u64> for ByItself {
-    ghost id = { λ n. n };
-
-    fn id(item: &u64) -> u64 {
-        *item
-    }
-}
 
 /// A list, an id, how many items are below it, its place, and how many items are of it.
 type Row = (&'static [u64], u64, usize, Option<usize>, usize);

@@ -3,19 +3,8 @@ ghost use Rattle.std.specs.Prelude.{◌≡◌, ◌≤◌, ◌<◌, ℕ, true, fa
 ghost use Rattle.std.specs.List.Sorted.{IsNonDecreasing};
 ghost use Rattle.rule_index.specs.Ids.{count_in};
 
-use id_lists::{NO_GUESS, OrderBy};
+use id_lists::{ByItself, NO_GUESS};
 use std::marker::Model;
-
-/// By the number itself.
-struct ByItself;
-
-impl OrderBy<u64> for ByItself {
-    ghost id = { λ n. n };
-
-    fn id(number: &u64) -> u64 {
-        *number
-    }
-}
 
 /// Numbers in order, so that a search tells whether one is among them, and two tell how often.
 #[derive(Drop)]
