@@ -1,12 +1,12 @@
 -- What a tree adds that was walked.
-use Rattle.std.proofs.Common.{◌≡◌, ℕ, true, false, Option, None, Some, List, [], ◌∷◌, ◌++◌, map, inl, inr, refl, ap, sym, ◌∙◌, subst}
+use Rattle.std.proofs.Common.{◌≡◌, ℕ, false, Option, None, Some, List, [], ◌∷◌, ◌++◌, map, inl, inr, refl, ap, sym, ◌∙◌, subst}
 use Rattle.apfs_model.specs.Lists.{In}
 use Rattle.apfs_model.proofs.Searches.{from-map}
 use Rattle.bt_steps.specs.declared.step.Step.{Step}
 use Rattle.nx_ring.specs.Checkpoint.{Seen}
 use Rattle.reach_rules.specs.Naming.{ByBlock, ByMapping, Object, InBlock, OfId, TreeKind, Expected, SpaceManager, ContainerMap, ReaperObject, ReapList, Jumpstart, VolumeIn, VolumeMap, ExtendedMetadata, SnapshotSuper, AddressBlock, InfoBlock, TreeRoot, TreeNode, Naming}
 use Rattle.reach_rules.specs.Trees.{IsRightTree}
-use Rattle.reach_rules.specs.Owners.{Owner, owners_through, told_owners, tree_owners}
+use Rattle.reach_rules.specs.Owners.{owners_through, tree_owners}
 use Rattle.reach_rules.specs.PoolOwners.{pool_owners_through, pool_tree_owners}
 use Rattle.tree_namings.specs.Account.{AreRightTrees}
 use Rattle.tree_namings.specs.Namings.{level_below, step_naming, tree_namings, IsPlainNaming, AreNamingsOf}

@@ -1,5 +1,5 @@
 -- What the reaper with its lists adds.
-use Rattle.std.proofs.Common.{◌≡◌, ℕ, zero, suc, ◌+◌, ◌-◌, ◌<◌, ◌≤◌, Bool, true, false, List, [], ◌∷◌, ◌++◌, length, map, get_or, ◌⊎◌, inl, inr, refl, ap, sym, ◌∙◌, subst, arith, if◌then◌else◌}
+use Rattle.std.proofs.Common.{◌≡◌, ℕ, zero, suc, ◌+◌, ◌-◌, ◌<◌, ◌≤◌, Bool, true, false, List, [], ◌∷◌, ◌++◌, length, map, get_or, ◌⊎◌, inl, inr, refl, ap, sym, ◌∙◌, arith, if◌then◌else◌}
 use Rattle.std.specs.Prelude.{◌==◌, slice_index}
 use Rattle.std.specs.List.{range_with_len}
 use Rattle.std.proofs.lemmas.List.{length-append}
@@ -11,7 +11,6 @@ use Rattle.nx_ring.specs.Checkpoint.{Seen}
 use Rattle.reach_rules.specs.Naming.{ByMapping, Newest, OfId, Whole, TreeKind, TreeRoot, Expected, ReaperObject, ReapList, Naming, naming}
 use Rattle.reach_rules.specs.Owners.{owners_through}
 use Rattle.reach_rules.specs.PoolOwners.{pool_owners_through}
-use Rattle.reach_rules.specs.Trees.{IsRightTree}
 use Rattle.tree_namings.specs.Views.{is_in_view}
 use Rattle.tree_namings.specs.Container.{reaper_naming}
 use Rattle.tree_namings.proofs.Joined.{part-apart}

@@ -1,6 +1,6 @@
 -- The blocks that tell of chunks, and the bitmaps of chunks, are those of a right space.
-use Rattle.std.proofs.Common.{◌≡◌, ℕ, ◌+◌, ◌*◌, ◌/◌, ◌%◌, ◌<◌, ◌≤◌, Bool, true, false, ◌&&◌, ◌==◌, List, [], ◌∷◌, ◌++◌, length, map, Some, ◌⊎◌, inl, inr, refl, ap, sym, ◌∙◌, subst, arith, if◌then◌else◌}
-use Rattle.std.specs.Prelude.{max, not, slice_index}
+use Rattle.std.proofs.Common.{◌≡◌, ℕ, ◌+◌, ◌*◌, ◌/◌, ◌%◌, ◌<◌, ◌≤◌, Bool, true, false, ◌&&◌, ◌==◌, List, [], ◌∷◌, ◌++◌, length, map, ◌⊎◌, inl, inr, refl, ap, sym, ◌∙◌, subst, arith, if◌then◌else◌}
+use Rattle.std.specs.Prelude.{slice_index}
 use Rattle.std.specs.List.{range_with_len}
 use Rattle.std.proofs.lemmas.List.FromFn.{get_or-map-range_with_len}
 use Rattle.apfs_model.specs.Blocks.{block_of}
@@ -14,13 +14,12 @@ use Rattle.space_map.specs.Fields.{cabs_of, cibs_of, cab_cibs_of, cib_chunks_of,
 use Rattle.space_map.specs.Geometry.{has_address, has_cib_place, has_chunk_place}
 use Rattle.space_map.specs.Blocks.{manager_of, address_at, cab_address_at, cab_block_for, cab_blocks, cib_block, cib_blocks}
 use Rattle.space_map.specs.Chunks.{chunk_in, chunk_at, chunks_in}
-use Rattle.space_map.specs.Marks.{lacks_bitmap}
 use Rattle.space_map.specs.Stops.{HasManager, Known, known_of, IsSpaceOf}
 use Rattle.space_map.specs.declared.chunk.Chunk.{Chunk}
 use Rattle.space_map.proofs.Places.{Shape, shape-from, cab-address, cib-address, cib-place, cib-cab, chunk-place, chunk-cib}
-use Rattle.reach_rules.specs.Naming.{ByBlock, InBlock, OfId, Namer, Whole, TreeKind, Expected, AddressBlock, InfoBlock, TreeRoot, Naming, naming}
+use Rattle.reach_rules.specs.Naming.{ByBlock, InBlock, OfId, Whole, TreeKind, Expected, AddressBlock, InfoBlock, TreeRoot, Naming, naming}
 use Rattle.reach_rules.specs.Trees.{IsRightTree}
-use Rattle.reach_rules.specs.Resolved.{Found, standing}
+use Rattle.reach_rules.specs.Resolved.{Found}
 use Rattle.reach_rules.specs.Next.{next, address_naming, addresses_in, address_namings, is_cib_of, cibs_in, cib_naming, cab_namings}
 use Rattle.reach_rules.specs.Owners.{Owner, owner, Bitmap, tells_of_chunks, object_owners, told_owners, owners_through}
 use Rattle.reach_rules.specs.PoolOwners.{pool_object_owners, pool_told_owners, pool_owners_through, is_chunk_of, has_bitmap_in, bitmaps_in, bitmap_owner, bitmap_owners}

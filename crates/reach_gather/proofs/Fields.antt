@@ -15,11 +15,10 @@ use Rattle.omap_map.specs.Maps.{map_in, map_records, record_tree}
 use Rattle.omap_map.specs.Records.{records_of}
 use Rattle.omap_map.specs.declared.records.OmapRecord.{OmapRecord}
 use Rattle.reach_rules.specs.declared.fault.ReachFault.{ReachFault}
-use Rattle.reach_rules.specs.Naming.{LookUp, ByBlock, InBlock, Namer, Whole, MapRecords, MapSnapshots, Expected, ContainerMap, VolumeMap, TreeKind, TreeRoot, Naming, naming}
-use Rattle.reach_rules.specs.Next.{next, unless_zero, map_namings}
+use Rattle.reach_rules.specs.Naming.{LookUp, ByBlock, InBlock, Namer, Whole, MapRecords, MapSnapshots, Expected, ContainerMap, VolumeMap, TreeRoot, Naming, naming}
+use Rattle.reach_rules.specs.Next.{next, unless_zero}
 use Rattle.reach_rules.specs.Live.{IsLive, led}
-use Rattle.reach_rules.specs.Resolved.{Found, resolved, found_by, standing}
-use Rattle.reach_rules.specs.Trees.{IsRightTree}
+use Rattle.reach_rules.specs.Resolved.{resolved, found_by, standing}
 use Rattle.reach_rules.specs.Features.{HasFeature}
 use Rattle.reach_rules.specs.Reached.{IsReachedFault}
 use Rattle.apfs_model.specs.Blocks.{in_container}

@@ -1,7 +1,6 @@
 -- How what is gathered grows, part by part.
-use Rattle.std.proofs.Common.{◌≡◌, ◌+◌, ◌≤◌, ℕ, true, false, List, [], ◌∷◌, ◌++◌, length, map, ◌⊎◌, inl, inr, refl, ap, sym, ◌∙◌, subst, arith, length-append}
+use Rattle.std.proofs.Common.{◌≡◌, ◌+◌, ◌≤◌, ℕ, false, List, [], ◌∷◌, ◌++◌, length, ◌⊎◌, inl, inr, refl, ap, sym, ◌∙◌, subst, arith, length-append}
 use Rattle.std.specs.Prelude.{not, ◌==◌}
-use Rattle.std.specs.List.{filter}
 use Rattle.apfs_model.specs.Lists.{In}
 use Rattle.apfs_model.proofs.BoolTests.{not-true, false-not}
 use Rattle.apfs_model.proofs.Searches.{in-left, in-right, in-append, in-filter, from-filter, filter-test}
@@ -13,7 +12,6 @@ use Rattle.reach_rules.specs.Owners.{Owner, owners_through}
 use Rattle.reach_rules.specs.PoolOwners.{pool_owners_through}
 use Rattle.tree_namings.specs.Namings.{IsPlainNaming}
 use Rattle.tree_namings.specs.Account.{AreRightTrees}
-use Rattle.tree_namings.specs.Joined.{ArePart}
 use Rattle.tree_namings.specs.Views.{is_in_view, AreOutside}
 use Rattle.tree_namings.proofs.Joined.{part-none, part-left, part-join, part-step}
 use Rattle.reach_gather.specs.Held.{Held, Grew, IsOwnerThrough, GrewBy, some_owners}

@@ -18,5 +18,6 @@ pub mod Slots
 pub mod Backs
 pub mod Ties
 pub mod Finishes
+pub mod Rising
 pub mod Onces
 pub mod Counts

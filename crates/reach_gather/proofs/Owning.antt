@@ -4,8 +4,8 @@ use Rattle.std.specs.Prelude.{◌==◌}
 use Rattle.apfs_model.specs.Lists.{In, through}
 use Rattle.apfs_model.proofs.Searches.{in-map, from-map}
 use Rattle.nx_ring.specs.Checkpoint.{Seen, site_of}
-use Rattle.reach_rules.specs.Naming.{ByBlock, ByMapping, Object, InBlock, OfId, Expected, Naming}
-use Rattle.reach_rules.specs.Resolved.{Found, standing}
+use Rattle.reach_rules.specs.Naming.{ByBlock, ByMapping, Object, InBlock, Expected, Naming}
+use Rattle.reach_rules.specs.Resolved.{Found}
 use Rattle.reach_rules.specs.Tested.{Answer, tested}
 use Rattle.reach_rules.specs.Owners.{Owner, tells_of_chunks, object_owners, told_owners, told_if, owners_through}
 use Rattle.reach_rules.specs.PoolOwners.{pool_object_owners, pool_told_owners, pool_told_if, pool_owners_through}

@@ -1,13 +1,12 @@
 -- What the snapshots of a volume add.
-use Rattle.std.proofs.Common.{◌≡◌, ℕ, zero, suc, ◌+◌, ◌<◌, Bool, true, false, List, [], ◌∷◌, ◌++◌, length, take, get_or, inl, inr, refl, ap, sym, ◌∙◌, subst, arith}
+use Rattle.std.proofs.Common.{◌≡◌, ℕ, zero, suc, ◌+◌, ◌<◌, Bool, List, [], ◌∷◌, ◌++◌, length, take, get_or, refl, ap, sym, ◌∙◌, subst, arith}
 use Rattle.std.proofs.lemmas.List.{take_more}
 use Rattle.apfs_model.specs.Lists.{In}
 use Rattle.apfs_model.proofs.Searches.{in-left, in-right}
 use Rattle.nx_ring.specs.Checkpoint.{Seen}
 use Rattle.vol_view.specs.declared.volume.Snapshot.{Snapshot}
-use Rattle.reach_rules.specs.Naming.{ViewAt, ByBlock, Kept, ExtentRefs, SnapshotSuper, TreeKind, TreeRoot, Naming}
+use Rattle.reach_rules.specs.Naming.{ViewAt, ByBlock, Kept, ExtentRefs, SnapshotSuper, TreeRoot, Naming}
 use Rattle.reach_rules.specs.Next.{next, unless_zero}
-use Rattle.tree_namings.specs.Views.{is_in_view}
 use Rattle.vol_parts.specs.Told.{past_at, super_in_view, told_snapshot, told_snapshots}
 use Rattle.reach_gather.specs.Held.{Held}
 use Rattle.reach_gather.specs.Adds.{Adds}

@@ -11,16 +11,15 @@ use Rattle.omap_map.specs.Maps.{map_records, is_whole_map, resolved_in}
 use Rattle.omap_map.specs.Resolve as resolve
 use Rattle.omap_map.specs.declared.records.OmapRecord.{OmapRecord}
 use Rattle.vol_view.specs.Volumes.{Loaded}
-use Rattle.reach_rules.specs.Naming.{InContainer, OfRecord, Namer, Whole, VolumeIn, TreeKind, TreeRoot, Naming}
+use Rattle.reach_rules.specs.Naming.{OfRecord, Namer, Whole, VolumeIn, TreeRoot, Naming}
 use Rattle.reach_rules.specs.Next.{next}
 use Rattle.reach_rules.specs.Resolved.{Found, standing}
-use Rattle.reach_rules.specs.Owners.{Owner, owner, Recorded, object_owners, told_owners, owners_through}
+use Rattle.reach_rules.specs.Owners.{owner, Recorded, object_owners, told_owners, owners_through}
 use Rattle.reach_rules.specs.PoolOwners.{pool_object_owners, pool_told_owners, pool_owners_through}
-use Rattle.tree_namings.specs.Namings.{IsPlainNaming}
 use Rattle.vol_parts.specs.Parts.{IsVolumePart, volume_namer}
 use Rattle.vol_parts.specs.Told.{head_naming, told_volume}
-use Rattle.reach_gather.specs.Held.{Held, GrewBy, some_owners}
-use Rattle.reach_gather.specs.Adds.{Adds, AreLive}
+use Rattle.reach_gather.specs.Held.{Held, some_owners}
+use Rattle.reach_gather.specs.Adds.{Adds}
 use Rattle.reach_gather.specs.Named.{record_of, namer_of}
 use Rattle.reach_gather.specs.Views.{volume_views, slots_namings, loaded_views}
 use Rattle.reach_gather.specs.declared.naming.Mapping.{Mapping}

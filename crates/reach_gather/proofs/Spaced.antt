@@ -1,24 +1,23 @@
 -- What a space adds: its manager, its free queues, and the blocks that tell of chunks.
-use Rattle.std.proofs.Common.{◌≡◌, ℕ, Bool, true, false, cond, List, [], ◌∷◌, ◌++◌, map, Some, None, inl, inr, refl, ap, sym, ◌∙◌, subst}
+use Rattle.std.proofs.Common.{◌≡◌, ℕ, Bool, true, false, cond, List, [], ◌∷◌, ◌++◌, map, Some, inl, inr, refl, ap, sym, ◌∙◌, subst}
 use Rattle.std.specs.Prelude.{not, ◌==◌, if◌then◌else◌}
 use Rattle.std.specs.List.{list_all}
 use Rattle.apfs_model.specs.Lists.{In}
-use Rattle.apfs_model.proofs.BoolTests.{all-in, equal-from, from-equal}
+use Rattle.apfs_model.proofs.BoolTests.{all-in}
 use Rattle.apfs_model.proofs.Searches.{in-left, in-right}
 use Rattle.nx_block.specs.Super.{space_oid_of}
-use Rattle.nx_ring.specs.Checkpoint.{Seen, site_of}
-use Rattle.space_map.specs.Fields.{pool_base_of, pool_blocks_of, ring_base_of, ring_blocks_of, pool_queue_of, main_queue_of}
+use Rattle.nx_ring.specs.Checkpoint.{Seen}
+use Rattle.space_map.specs.Fields.{pool_base_of, pool_blocks_of, ring_base_of, ring_blocks_of, pool_queue_of}
 use Rattle.space_map.specs.Stops.{HasManager, Known, IsSpaceOf}
 use Rattle.space_pool.specs.Queues.{queue_of, is_queued_in_pool}
-use Rattle.space_pool.specs.declared.entry.Queue.TheVariants.{Pool, Main}
+use Rattle.space_pool.specs.declared.entry.Queue.TheVariants.{Pool}
 use Rattle.space_pool.specs.declared.entry.QueueEntry.{QueueEntry}
 use Rattle.space_pool.proofs.Gathered.{none_queued}
-use Rattle.reach_rules.specs.Naming.{ByMapping, TreeKind, TreeRoot, SpaceManager, Naming}
+use Rattle.reach_rules.specs.Naming.{TreeRoot, SpaceManager, Naming}
 use Rattle.reach_rules.specs.Resolved.{Found}
-use Rattle.reach_rules.specs.Next.{next, address_namings}
+use Rattle.reach_rules.specs.Next.{address_namings}
 use Rattle.reach_rules.specs.Live.{led, IsLive}
 use Rattle.reach_rules.specs.Owners.{Owner, owner, InternalPool, PoolRing, owners_through}
-use Rattle.reach_rules.specs.PoolOwners.{pool_owners_through}
 use Rattle.reach_rules.proofs.Sounds.{manager-live}
 use Rattle.reach_rules.proofs.SpaceLifted.{there, manager-sound}
 use Rattle.reach_rules.proofs.Nexts.{in-next}

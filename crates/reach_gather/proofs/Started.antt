@@ -7,15 +7,12 @@ use Rattle.apfs_model.proofs.BoolTests.{never-true, equal-from}
 use Rattle.nx_block.specs.Super.{jumpstart_of}
 use Rattle.nx_block.specs.Jump.{jump_extents_of}
 use Rattle.nx_ring.specs.Checkpoint.{Seen, site_of}
-use Rattle.reach_rules.specs.Naming.{ByBlock, Newest, Whole, TreeKind, TreeRoot, Jumpstart, Naming, naming}
+use Rattle.reach_rules.specs.Naming.{ByBlock, Newest, Whole, TreeRoot, Jumpstart, Naming, naming}
 use Rattle.reach_rules.specs.Resolved.{Found}
 use Rattle.reach_rules.specs.Next.{next}
 use Rattle.reach_rules.specs.Live.{Live}
-use Rattle.reach_rules.specs.Owners.{Owner, told_from, owners_through}
-use Rattle.reach_rules.specs.PoolOwners.{pool_owners_through}
-use Rattle.reach_rules.specs.Trees.{IsRightTree}
+use Rattle.reach_rules.specs.Owners.{told_from, owners_through}
 use Rattle.tree_namings.specs.Namings.{IsPlainNaming}
-use Rattle.tree_namings.specs.Joined.{ArePart}
 use Rattle.tree_namings.specs.Container.{jumpstart_naming}
 use Rattle.tree_namings.specs.Views.{is_in_view}
 use Rattle.tree_namings.proofs.Container.{plain-block}

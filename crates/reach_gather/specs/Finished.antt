@@ -26,6 +26,10 @@ pub record AreRangesOnce (owners : List Owner) (ranges : List (ℕ × ℕ)) : Ty
 abbrev pub range_as : Owned → ℕ × ℕ
 range_as o = (o.first, o.blocks)
 
+-- the first block of a range
+abbrev pub first_of : ℕ × ℕ → ℕ
+first_of r = r.0
+
 -- two look-ups are one
 abbrev pub is_look : By → By → Bool
 is_look looks.Block looks.Block = true

@@ -1,4 +1,4 @@
-use Rattle.std.proofs.Common.{◌≡◌, ◌∙◌}
+use Rattle.std.proofs.Common.{◌∙◌}
 use Rattle.reach_gather.specs.Infos.{known_cab}
 use Rattle.reach_gather.specs.Named.{naming_of}
 use Rattle.reach_gather.proofs.Numbered.{named-more, owned-more}

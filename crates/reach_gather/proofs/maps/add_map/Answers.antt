@@ -1,11 +1,8 @@
-use Rattle.std.proofs.Common.{◌≡◌, ◌∙◌, ℕ, List, [], ◌∷◌, ap, refl, sym, subst, inl, inr, ◌+◌, ◌≤◌, length, arith}
-use Rattle.nx_ring.specs.Checkpoint.{Seen, site_of}
-use Rattle.omap_map.specs.Fields as maps
-use Rattle.omap_map.specs.Maps.{map_in}
-use Rattle.reach_rules.specs.Naming.{ByBlock, InBlock, Namer, Whole, MapRecords, MapSnapshots, TreeRoot, Naming, naming}
+use Rattle.std.proofs.Common.{◌≡◌, ◌∙◌, [], ◌∷◌, ap, refl, sym, subst, inl, inr, ◌+◌, ◌≤◌, length, arith}
+use Rattle.nx_ring.specs.Checkpoint.{site_of}
+use Rattle.reach_rules.specs.Naming.{Naming}
 use Rattle.reach_rules.specs.Live.{IsLive}
-use Rattle.reach_rules.specs.Next.{unless_zero}
-use Rattle.reach_gather.specs.Adds.{Adds, AreLive}
+use Rattle.reach_gather.specs.Adds.{Adds}
 use Rattle.reach_gather.specs.Named.{naming_of, look_of}
 use Rattle.reach_gather.specs.declared.naming.Named.{Named}
 use Rattle.reach_gather.proofs.Fields.{map-adds, map-leads, led-to, lost-tells, tree-field, past-field, records-of-map}

@@ -1,6 +1,5 @@
-use Rattle.std.proofs.Common.{◌≡◌, ◌∙◌, ℕ, List, [], ◌∷◌, ap, refl, sym, subst}
-use Rattle.nx_ring.specs.Checkpoint.{Seen}
-use Rattle.reach_rules.specs.Naming.{ByBlock, InBlock, Namer, Whole, MapSnapshots, TreeRoot, Naming, naming}
+use Rattle.std.proofs.Common.{[], ◌∷◌, sym, subst}
+use Rattle.reach_rules.specs.Naming.{ByBlock, InBlock, Namer, Whole, MapSnapshots, TreeRoot}
 use Rattle.reach_rules.specs.Live.{IsLive}
 use Rattle.reach_gather.specs.Adds.{Adds}
 use Rattle.reach_gather.specs.Named.{naming_of}

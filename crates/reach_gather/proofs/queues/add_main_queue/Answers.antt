@@ -1,13 +1,12 @@
-use Rattle.std.proofs.Common.{◌≡◌, ◌∙◌, ◌++◌, map, ap, refl, sym, subst, List, ℕ}
-use Rattle.nx_ring.specs.Checkpoint.{Seen}
+use Rattle.std.proofs.Common.{◌≡◌, ◌∙◌, ◌++◌, map, ap, refl, List}
 use Rattle.bt_steps.specs.declared.step.Step.{Step}
-use Rattle.space_pool.specs.declared.entry.Queue.TheVariants.{Pool, Main}
+use Rattle.space_pool.specs.declared.entry.Queue.TheVariants.{Main}
 use Rattle.reach_rules.specs.Naming.{FreeQueue, Naming, ByMapping, OfId}
 use Rattle.reach_rules.specs.Owners.{told_from, queued_ranges_of}
 use Rattle.reach_gather.specs.Named.{naming_of, expected_of, look_of}
 use Rattle.reach_gather.specs.Steps.{id_steps}
 use Rattle.reach_gather.proofs.Branches.{queue-adds}
-use Rattle.reach_gather.proofs.Told.{range_of_entry, told-next, told-none, kept-entries, kept-ranges}
+use Rattle.reach_gather.proofs.Told.{range_of_entry, told-next, told-none, kept-ranges}
 use Rattle.tree_namings.specs.Namings.{step_naming}
 use Rattle.reach_gather.proofs.Noted.{tree-read}
 use Rattle.reach_gather.proofs.queues.add_main_queue.Goals as goal

@@ -1,7 +1,6 @@
-use Rattle.std.proofs.Common.{◌≡◌, ◌∙◌, ◌++◌, map, ap, refl, sym, subst, List, ℕ}
-use Rattle.nx_ring.specs.Checkpoint.{Seen}
+use Rattle.std.proofs.Common.{◌≡◌, ◌∙◌, ◌++◌, map, ap, refl, List}
 use Rattle.bt_steps.specs.declared.step.Step.{Step}
-use Rattle.space_pool.specs.declared.entry.Queue.TheVariants.{Pool, Main}
+use Rattle.space_pool.specs.declared.entry.Queue.TheVariants.{Pool}
 use Rattle.reach_rules.specs.Naming.{FreeQueue, Naming, ByMapping, OfId}
 use Rattle.reach_rules.specs.Owners.{told_from, queued_ranges_of}
 use Rattle.reach_gather.specs.Named.{naming_of, expected_of, look_of}

@@ -1,4 +1,4 @@
-use Rattle.std.proofs.Common.{◌≡◌, ◌∙◌, ap, sym, refl}
+use Rattle.std.proofs.Common.{◌∙◌, sym}
 use Rattle.reach_gather.specs.Named.{naming_of}
 use Rattle.reach_gather.proofs.Telling.{tell-more}
 use Rattle.reach_gather.proofs.ranges.tell_all_pool.Goals as goal

@@ -1,4 +1,4 @@
-use Rattle.std.proofs.Common.{◌≡◌, ◌∙◌, ◌++◌, ℕ, List, length, map, ap, sym}
+use Rattle.std.proofs.Common.{◌≡◌, ◌∙◌, ◌++◌, ℕ, List, length, map, ap}
 use Rattle.std.specs.List.{range_with_len}
 use Rattle.reach_gather.specs.Chain.{reap_at}
 use Rattle.reach_gather.proofs.Chain.{reaper-adds, longer}

@@ -1,4 +1,4 @@
-use Rattle.std.proofs.Common.{◌≡◌, ◌∙◌}
+use Rattle.std.proofs.Common.{◌∙◌}
 use Rattle.reach_gather.specs.Chain.{reap_at}
 use Rattle.reach_gather.specs.Named.{naming_of}
 use Rattle.reach_gather.proofs.Numbered.{named-more}

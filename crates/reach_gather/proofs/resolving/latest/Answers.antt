@@ -1,4 +1,4 @@
-use Rattle.std.proofs.Common.{◌≡◌, ◌-◌, ◌+◌, ◌<◌, ◌∙◌, ℕ, length, drop, get_or, ap, sym, refl, arith}
+use Rattle.std.proofs.Common.{◌≡◌, ◌-◌, ◌+◌, ◌<◌, ◌∙◌, ℕ, length, drop, get_or, ap, arith}
 use Rattle.omap_map.specs.Resolve.{latest}
 use Rattle.reach_gather.proofs.Latest.{no_record, get-self, latest-none, latest-more}
 use Rattle.reach_gather.proofs.resolving.latest.Goals as goal

@@ -1,5 +1,4 @@
-use Rattle.std.proofs.Common.{◌≡◌, ◌∙◌, ℕ, List, [], ◌∷◌, ap, refl, sym, subst}
-use Rattle.reach_rules.specs.Naming.{ByBlock, Namer, Kept, ExtentRefs, TreeRoot}
+use Rattle.reach_rules.specs.Naming.{ByBlock, Kept, ExtentRefs, TreeRoot}
 use Rattle.reach_gather.specs.Named.{view_of}
 use Rattle.reach_gather.proofs.Fields.{adds-zero, live-some}
 use Rattle.reach_gather.proofs.snapshots.add_kept_extents.Goals as goal

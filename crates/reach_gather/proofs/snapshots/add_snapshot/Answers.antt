@@ -1,4 +1,4 @@
-use Rattle.std.proofs.Common.{◌≡◌, ◌∙◌, ℕ, List, [], ◌∷◌, ap, refl, sym, subst, ◌+◌, ◌≤◌, length, arith}
+use Rattle.std.proofs.Common.{◌≡◌, ◌+◌, ◌≤◌, length, arith}
 use Rattle.reach_gather.specs.Named.{view_of}
 use Rattle.reach_gather.proofs.Pasts.{snapshot-adds}
 use Rattle.vol_parts.specs.Told.{super_in_view}

@@ -1,4 +1,4 @@
-use Rattle.std.proofs.Common.{◌≡◌, ◌∙◌, ℕ, ◌+◌, ◌<◌, ◌≤◌, List, [], ◌∷◌, length, take, get_or, Some, ap, refl, sym, subst, arith}
+use Rattle.std.proofs.Common.{◌≡◌, ◌∙◌, ℕ, ◌+◌, ◌<◌, ◌≤◌, List, length, get_or, Some, ap, refl, sym, subst, arith}
 use Rattle.std.proofs.lemmas.List.{take_all}
 use Rattle.std.proofs.lemmas.Option.{slice_get-get_or}
 use Rattle.apfs_model.specs.Lists.{In}
@@ -10,7 +10,7 @@ use Rattle.vol_parts.specs.Told.{past_at, told_snapshot, told_snapshots}
 use Rattle.space_pool.proofs.Indexes.{kept-then}
 use Rattle.reach_gather.specs.Adds.{Adds}
 use Rattle.reach_gather.specs.Named.{view_of}
-use Rattle.reach_gather.specs.Views.{IsSuperPart, past_view_namings, pasts_namings}
+use Rattle.reach_gather.specs.Views.{IsSuperPart, pasts_namings}
 use Rattle.reach_gather.proofs.Growing.{adds-none}
 use Rattle.reach_gather.proofs.Pasts.{pasts-next, told-at}
 use Rattle.reach_gather.proofs.snapshots.add_snapshots.Goals as goal

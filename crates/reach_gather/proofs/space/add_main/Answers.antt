@@ -1,6 +1,6 @@
-use Rattle.std.proofs.Common.{◌≡◌, ◌∙◌, ℕ, List, [], ◌∷◌, true, ap, refl, sym, subst}
+use Rattle.std.proofs.Common.{ℕ, [], ◌∷◌, sym, subst}
 use Rattle.nx_ring.specs.Checkpoint.{Seen}
-use Rattle.space_pool.specs.declared.entry.Queue.TheVariants.{Pool, Main}
+use Rattle.space_pool.specs.declared.entry.Queue.TheVariants.{Main}
 use Rattle.reach_rules.specs.Naming.{ByMapping, Namer, FreeQueue, TreeRoot}
 use Rattle.reach_rules.specs.Next.{unless_zero}
 use Rattle.reach_rules.specs.Live.{IsLive}

@@ -1,4 +1,4 @@
-use Rattle.std.proofs.Common.{◌≡◌, ◌∙◌, ◌++◌, ℕ, List, Some, map, ap, refl, sym, subst}
+use Rattle.std.proofs.Common.{◌≡◌, ◌∙◌, ◌++◌, ℕ, map, ap}
 use Rattle.nx_block.specs.Super.{space_oid_of}
 use Rattle.nx_ring.specs.Checkpoint.{Seen}
 use Rattle.space_map.specs.Stops.{Known}

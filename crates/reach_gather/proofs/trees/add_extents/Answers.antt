@@ -1,5 +1,4 @@
-use Rattle.std.proofs.Common.{◌≡◌, ◌∙◌, ◌++◌, map, ap, refl, sym, subst, List, ℕ}
-use Rattle.nx_ring.specs.Checkpoint.{Seen}
+use Rattle.std.proofs.Common.{◌≡◌, ◌∙◌, ◌++◌, map, ap, refl, List}
 use Rattle.bt_steps.specs.declared.step.Step.{Step}
 use Rattle.reach_rules.specs.Naming.{ExtentRefs, Naming, ByBlock, InBlock}
 use Rattle.reach_gather.specs.Named.{naming_of, expected_of, look_of}

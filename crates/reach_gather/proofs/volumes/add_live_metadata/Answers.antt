@@ -1,4 +1,4 @@
-use Rattle.std.proofs.Common.{◌≡◌, ◌∙◌, ℕ, List, [], ◌∷◌, ap, refl, sym, subst}
+use Rattle.std.proofs.Common.{[]}
 use Rattle.reach_rules.specs.Naming.{ByBlock, SnapMetadata, TreeRoot}
 use Rattle.reach_gather.specs.Named.{namer_of}
 use Rattle.reach_gather.proofs.Fields.{adds-zero, adds-some, live-some}

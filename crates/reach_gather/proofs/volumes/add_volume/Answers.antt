@@ -1,14 +1,12 @@
-use Rattle.std.proofs.Common.{◌≡◌, ◌∙◌, ℕ, List, [], ◌∷◌, Option, None, Some, ap, refl, sym, subst, inl, inr, ◌+◌, ◌≤◌, length, arith}
+use Rattle.std.proofs.Common.{◌≡◌, ◌∙◌, ap, sym, subst, ◌+◌, ◌≤◌, length, arith}
 use Rattle.nx_block.specs.Super.{omap_oid_of}
 use Rattle.nx_ring.specs.Checkpoint.{Seen}
-use Rattle.omap_map.specs.declared.records.OmapRecord.{OmapRecord}
 use Rattle.vol_view.specs.Volumes.{Loaded}
 use Rattle.reach_rules.specs.Naming.{Namer}
-use Rattle.vol_parts.specs.Parts.{IsVolumePart, IsMapPart, volume_namer}
+use Rattle.vol_parts.specs.Parts.{IsMapPart, volume_namer}
 use Rattle.vol_parts.specs.Told.{head_naming, map_of, map_in_volume, told_volume}
 use Rattle.reach_gather.specs.Adds.{AreLive}
 use Rattle.reach_gather.specs.Named.{namer_of, naming_of}
-use Rattle.reach_gather.specs.Views.{AreVolumeParts}
 use Rattle.reach_gather.specs.declared.naming.NamedBy.TheVariants as by
 use Rattle.reach_gather.proofs.Fields.{led-to}
 use Rattle.reach_gather.proofs.Slots.{record-found, never-lost, found-one, namer-is, volume-adds}
