@@ -270,3 +270,10 @@ rises-set {X} n xs i y same up j k d le low =
               ap (λ k. n (get_or (set xs i y) k d)) here ∙ (ap n (get_or-set_same xs i y d inside) ∙ (sym (of-number n xs i (n y) d same) ∙ ap (λ k. n (get_or xs k d)) (sym here)))
           | inr other ↦ ap n (get_or-set_other xs i m y d other)
         ]
+
+-- at the place of the first of a number stands an item of it
+pub placed_number : {X : Type 0} (n : X → ℕ) (xs : List X) (q i : ℕ) → Some i ≡ position (λ x. n x == q) xs → option_map n (slice_get xs i) ≡ Some q
+placed_number n [] q i e = absurd (let r : ⊥ = cc in r)
+placed_number n (x ∷ xs) q i e =
+    let t = position-Some (λ x. n x == q) (x ∷ xs) i x (sym e) in
+    ap (option_map n) (get-at (x ∷ xs) i x t.0) ∙ ap (λ k. Some k) (equal-from (n (get_or (x ∷ xs) i x)) q t.1)

@@ -29,13 +29,15 @@ fn unplaced(alloc: Global, runs: usize) -> Result<Vec<u32>, NoMemory> {
     }
 }
 
-// Gives a place to some runs, and tells where they end.
-fn fill(places: &mut [u32], from: usize, to: usize, place: usize) -> usize {
-    let place = u32::try_from(place).unwrap_or(u32::MAX);
-    for run in from..to.min(places.len()) {
-        places[run] = place;
+// Gives a run without an item the place of the next one.
+fn close(places: &mut [u32]) {
+    let mut next = u32::MAX;
+    for run in (0..places.len()).rev() {
+        if places[run] == u32::MAX {
+            places[run] = next;
+        }
+        next = places[run];
     }
-    to
 }
 
 impl Guesses {
@@ -56,6 +58,7 @@ impl Guesses {
         let runs = guesses.run(last).saturating_add(1);
         guesses.places = unplaced(alloc, runs)?;
         guesses.note::<T, B>(list);
+        close(&mut guesses.places);
         Ok(guesses)
     }
 
@@ -64,13 +67,12 @@ impl Guesses {
         id.saturating_sub(self.first).wrapping_shr(self.shift) as usize
     }
 
-    // Gives each run its place.
+    // Gives each run that has an item the place of its first one, which is the last that is noted.
     fn note<T, B: OrderBy<T>>(&mut self, list: &[T]) {
-        let mut placed = 0;
-        for (place, item) in list.iter().enumerate() {
-            let run = self.run(B::id(item));
-            if run >= placed {
-                placed = fill(&mut self.places, placed, run.saturating_add(1), place);
+        for place in (0..list.len()).rev() {
+            let run = self.run(B::id(&list[place]));
+            if let Some(first) = self.places.get_mut(run) {
+                *first = u32::try_from(place).unwrap_or(u32::MAX);
             }
         }
     }

@@ -39,6 +39,13 @@ fn searches(rt: HostRuntime) -> Result<(), Fail> {
     Ok(())
 }
 
+// Puts an id where it stands.
+fn put_back(list: &mut IdList<u64, ByItself>, id: u64) {
+    if let Some(at) = list.place(id) {
+        list.set(at, id);
+    }
+}
+
 #[test]
 fn lists(rt: HostRuntime) -> Result<(), Fail> {
     for (list, id, _, at, of_it) in ROWS {
@@ -49,9 +56,7 @@ fn lists(rt: HostRuntime) -> Result<(), Fail> {
         assert_eq!(rt; made.as_slice(), list);
         assert_eq!(rt; made.place(id), at);
         assert_eq!(rt; made.count(id), of_it);
-        if let Some(at) = made.place(id) {
-            made.set(at, id);
-        }
+        put_back(&mut made, id);
         assert_eq!(rt; made.as_slice(), list);
     }
     Ok(())
