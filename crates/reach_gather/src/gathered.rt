@@ -86,6 +86,18 @@ impl Gathered {
         }
     }
 
+    // Takes the memory for so many more owners at once.
+    pub(crate) fn make_room(&mut self, owners: usize) -> Result<(), NoMemory>
+        ensures namings { self.new.namings ≡ self.old.namings }
+        ensures owners { self.new.owners ≡ self.old.owners }
+        ensures pool_owners { self.new.pool_owners ≡ self.old.pool_owners }
+    {
+        match self.owners.reserve(owners) {
+            Ok(()) => Ok(()),
+            Err(_) => Err(NoMemory),
+        }
+    }
+
     /// A naming of an ephemeral object, which owns nothing.
     pub fn note_id(&mut self, naming: Named) -> Result<(), NoMemory>
         ensures namings { OnOk result (self.new.namings ≡ self.old.namings ++ naming_of naming ∷ []) }

@@ -60,6 +60,7 @@ pub(crate) fn tell_all<T: Ranged>(
     ensures owners { OnOk result (out.new.owners ≡ out.old.owners ++ some_owners (told_from (naming_of naming) 0 (map T.range ranges.now))) }
     ensures pool_owners { out.new.pool_owners ≡ out.old.pool_owners }
 {
+    out.make_room(ranges.len())?;
     for i in 0..ranges.len() {
         let (first, blocks) = ranges[i].range();
         out.tell(Owned {
