@@ -14,11 +14,10 @@ use view_facts::{EntryFact, Facts};
 fn has_other_ascii_hash(facts: &Facts, e: &EntryFact) -> bool
     ensures { result ≡ spec.has_other_ascii_hash facts.now e.now }
 {
-    let name = e.name();
-    if !name.is_ascii() {
+    if !e.is_ascii() {
         return false;
     }
-    facts.names.are_hashed() && ascii_hash(facts.names, name.as_bytes()) != e.hash()
+    facts.names.are_hashed() && ascii_hash(facts.names, e.name().as_bytes()) != e.hash()
 }
 
 /// The first entry whose name is ASCII and whose key has another hash.

@@ -53,7 +53,7 @@ fn is_suspect(entries: &[EntryFact], i: usize) -> bool
     requires { i < length entries.now }
     ensures { result ≡ false → IsAlone entries.now i }
 {
-    if !entries[i].name().is_ascii() {
+    if !entries[i].is_ascii() {
         return true;
     }
     let follows = follows_its_like(entries, i);

@@ -1,4 +1,5 @@
 pub mod Contents
+pub mod Texts
 pub mod Adding
 pub mod Refusals
 pub mod Kept

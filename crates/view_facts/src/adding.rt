@@ -1,6 +1,5 @@
 // What one more record adds to the facts of a view.
 ghost use Rattle.std.specs.Prelude.{◌≡◌, ◌≤◌, ◌++◌, [], ◌∷◌, ℕ, length, true, Some, option_map, IfOk, OnOk};
-ghost use Rattle.std.specs.String.{string_bytes};
 ghost use Rattle.bt_node.specs.Entries.{bytes_in};
 ghost use Rattle.bt_keys.specs.RecordKey.{is_fs_key, record_kind_of, id_of, has_plain_name};
 ghost use Rattle.fs_name.specs.Normal.{are_hashed};
@@ -14,6 +13,7 @@ ghost use Rattle.view_facts.specs.Contents.{body_of, brief_body};
 ghost use Rattle.view_facts.specs.Adding.{said_by, brief_said, facts_with};
 
 use crate::contents::{Contents, TARGET_NAME};
+use crate::text::{Text, copied};
 use crate::{AttributeFact, EntryFact, ExtentFact, Facts, InodeFact, LinkFact, SiblingFact};
 use apfs_layout::key as kinds;
 use blk_source::NoMemory;
@@ -27,16 +27,6 @@ fn put<T: Drop>(list: &mut Vec<T>, fact: T) -> Result<(), NoMemory>
 {
     match list.push(fact) {
         Ok(()) => Ok(()),
-        Err(_) => Err(NoMemory),
-    }
-}
-
-// A copy of a name.
-fn copied(alloc: Global, name: &str) -> Result<String, NoMemory>
-    ensures { IfOk result (λ copy. string_bytes copy ≡ name.now) }
-{
-    match String::from_str(alloc, name) {
-        Ok(copy) => Ok(copy),
         Err(_) => Err(NoMemory),
     }
 }
@@ -87,10 +77,11 @@ fn add_entry(
         Ok(entry) => entry,
         Err(why) => return Ok(Some(why)),
     };
-    let name = copied(alloc, entry.name())?;
+    let name = Text::of(alloc, entry.name())?;
     let fact = EntryFact {
         id,
         name,
+        ascii: entry.name().is_ascii(),
         hash: entry.hash(),
         file_id: entry.file_id(),
         kind: entry.kind(),

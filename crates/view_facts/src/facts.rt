@@ -1,9 +1,12 @@
 // What is kept of the records of a view, those of each kind in record order.
 ghost use Rattle.std.specs.Prelude.{◌≡◌, ◌&&◌, bytes_eq};
+ghost use Rattle.std.specs.Bool.{MatchBool};
+ghost use Rattle.std.specs.Str.{IsAscii, IsNotAscii};
 ghost use Rattle.view_rules.specs.Inodes as rules;
 ghost use Rattle.fs_record.specs.Inodes.{inode_kind};
 
 use crate::contents::{Contents, TARGET_NAME, holds_target, is_large};
+use crate::text::Text;
 use apfs_layout::record as layout;
 use fs_name::Names;
 use fs_record::{FileExt, StreamSize};
@@ -71,7 +74,9 @@ impl InodeFact {
 #[derive(Debug, Drop)]
 pub struct EntryFact {
     pub(crate) id: u64,
-    pub(crate) name: String,
+    pub(crate) name: Text,
+    // Whether the name is ASCII.
+    pub(crate) ascii: bool,
     pub(crate) hash: u32,
     pub(crate) file_id: u64,
     pub(crate) kind: u16,
@@ -79,13 +84,17 @@ pub struct EntryFact {
 }
 
 impl Model for EntryFact {
-    ghost use Rattle.std.specs.String.{string_bytes};
+    ghost use Rattle.std.specs.Bool.{MatchBool};
+    ghost use Rattle.std.specs.Str.{IsAscii, IsNotAscii};
     ghost use Rattle.fs_record.specs.Facts.{Fact};
     ghost use Rattle.fs_record.specs.Entries.{Entry};
+    ghost use Rattle.view_facts.specs.Texts.{bytes_of};
 
     ghost Value = { Fact Entry };
 
-    ghost view = { λ a. record { id = a.id; what = record { name = string_bytes a.name; hash = a.hash; file_id = a.file_id; kind = a.kind; sibling = a.sibling } } };
+    ghost view = { λ a. record { id = a.id; what = record { name = bytes_of a.name; hash = a.hash; file_id = a.file_id; kind = a.kind; sibling = a.sibling } } };
+
+    ghost invariant = { λ a. MatchBool a.ascii (IsAscii (bytes_of a.name)) (IsNotAscii (bytes_of a.name)) };
 }
 
 impl EntryFact {
@@ -101,6 +110,13 @@ impl EntryFact {
         ensures { result.now ≡ self.now.what.name }
     {
         self.name.as_str()
+    }
+
+    /// Whether the name is ASCII, which was noted once where the entry was added.
+    pub fn is_ascii(&self) -> bool
+        ensures { MatchBool result (IsAscii self.now.what.name) (IsNotAscii self.now.what.name) }
+    {
+        self.ascii
     }
 
     /// The stored hash of the name; 0 where names aren't hashed.

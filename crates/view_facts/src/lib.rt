@@ -6,7 +6,7 @@ mod contents;
 mod facts;
 mod gathering;
 mod keep;
+mod text;
 
 pub use facts::{AttributeFact, EntryFact, ExtentFact, Facts, InodeFact, LinkFact, SiblingFact};
 pub use gathering::{ViewFacts, view_facts};
-
