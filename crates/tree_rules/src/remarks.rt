@@ -21,14 +21,13 @@ use vol_view::View;
 fn has_other_hash(alloc: Global, facts: &Facts, e: &EntryFact) -> Result<bool, NoMemory>
     ensures { IfOk result (λ other. other ≡ names.has_other_name_hash facts.now e.now) }
 {
-    let name = e.name();
-    if name.is_ascii() {
+    if e.is_ascii() {
         return Ok(false);
     }
     if !facts.names.are_hashed() {
         return Ok(false);
     }
-    match name_hash(alloc, facts.names, name) {
+    match name_hash(alloc, facts.names, e.name()) {
         Ok(hash) => Ok(hash != e.hash()),
         Err(_) => Err(NoMemory),
     }
