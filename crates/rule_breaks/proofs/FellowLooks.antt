@@ -2,7 +2,6 @@
 use Rattle.std.proofs.Common.{◌≡◌, ℕ, Bool, true, false, cond, List, [], ◌∷◌, Option, Some, None, refl, ap, sym, ◌∙◌}
 use Rattle.std.specs.Prelude.{bytes_eq, ◌==◌, ◌&&◌, ◌||◌, nat_lt, not, option_map, is_some}
 use Rattle.std.specs.List.{list_any}
-use Rattle.std.specs.BTreeMap.{BTreeMap}
 use Rattle.std.proofs.lemmas.Cmp.{nat_eq_equiv, nat_list_eq_equiv}
 use Rattle.apfs_model.specs.Lists.{passes}
 use Rattle.fs_record.specs.Entries.{Entry}
@@ -32,7 +31,7 @@ link-same e s l is =
     ∙ (sym (assoc (e.what.file_id == l.what.file) (s == l.what.sibling) (e.id == l.what.parent) (bytes_eq e.what.name l.what.name))
     ∙ ap (λ o. ((e.what.file_id == l.what.file) && passes o (λ t. t == l.what.sibling)) && ((e.id == l.what.parent) && bytes_eq e.what.name l.what.name)) (sym is))
 
-pub has_link_some : (facts : Facts) (m : BTreeMap Key ℕ) (e : Fact Entry) (s : ℕ) → CountsKeys link_fellow facts.links m → e.what.sibling ≡ Some s → nat_lt 0 (key_count m (fellow_key e.what.file_id s e.id e.what.name)) ≡ has_link facts e
+pub has_link_some : (facts : Facts) (m : List Key) (e : Fact Entry) (s : ℕ) → CountsKeys link_fellow facts.links m → e.what.sibling ≡ Some s → nat_lt 0 (key_count m (fellow_key e.what.file_id s e.id e.what.name)) ≡ has_link facts e
 has_link_some facts m e s counts is =
     ap (nat_lt 0) (counts (fellow_key e.what.file_id s e.id e.what.name) ∙ count-same (has_key link_fellow (fellow_key e.what.file_id s e.id e.what.name)) (go_together e) (λ l. link-same e s l is) facts.links) ∙ any-counted (go_together e) facts.links
 
@@ -59,7 +58,7 @@ entry-same l e =
     ] in
     go e.what.sibling
 
-pub has_entry_counts : (facts : Facts) (m : BTreeMap Key ℕ) (l : Fact Link) → CountsKeys entry_fellow facts.entries m → nat_lt 0 (key_count m (fellow_key l.what.file l.what.sibling l.what.parent l.what.name)) ≡ has_entry facts l
+pub has_entry_counts : (facts : Facts) (m : List Key) (l : Fact Link) → CountsKeys entry_fellow facts.entries m → nat_lt 0 (key_count m (fellow_key l.what.file l.what.sibling l.what.parent l.what.name)) ≡ has_entry facts l
 has_entry_counts facts m l counts =
     ap (nat_lt 0) (counts (fellow_key l.what.file l.what.sibling l.what.parent l.what.name) ∙ count-same (has_key entry_fellow (fellow_key l.what.file l.what.sibling l.what.parent l.what.name)) (λ e. go_together e l) (entry-same l) facts.entries)
     ∙ any-counted (λ e. go_together e l) facts.entries
@@ -68,7 +67,7 @@ has_entry_counts facts m l counts =
 map-same : (file sibling : ℕ) (m : Fact ℕ) → has_key map_sibling (sibling_key file sibling) m ≡ is_map_of file sibling m
 map-same file sibling m = ap (λ b. (m.what == file) && b) (and-true (m.id == sibling))
 
-pub has_map_counts : (facts : Facts) (m : BTreeMap Key ℕ) (file sibling : ℕ) → CountsKeys map_sibling facts.siblings m → nat_lt 0 (key_count m (sibling_key file sibling)) ≡ has_map facts file sibling
+pub has_map_counts : (facts : Facts) (m : List Key) (file sibling : ℕ) → CountsKeys map_sibling facts.siblings m → nat_lt 0 (key_count m (sibling_key file sibling)) ≡ has_map facts file sibling
 has_map_counts facts m file sibling counts =
     ap (nat_lt 0) (counts (sibling_key file sibling) ∙ count-same (has_key map_sibling (sibling_key file sibling)) (is_map_of file sibling) (map-same file sibling) facts.siblings) ∙ any-counted (is_map_of file sibling) facts.siblings
 
@@ -91,19 +90,19 @@ guarded false o f file sibling = sym (and-false ((f == file) && passes o (λ s. 
     and-false false = refl
 
 -- an entry of the private directory has the key of its sibling
-pub private_counts : (facts : Facts) (m : BTreeMap Key ℕ) (file sibling : ℕ) → CountsKeys private_sibling facts.entries m → nat_lt 0 (key_count m (sibling_key file sibling)) ≡ list_any (is_private_entry file sibling) facts.entries
+pub private_counts : (facts : Facts) (m : List Key) (file sibling : ℕ) → CountsKeys private_sibling facts.entries m → nat_lt 0 (key_count m (sibling_key file sibling)) ≡ list_any (is_private_entry file sibling) facts.entries
 private_counts facts m file sibling counts =
     ap (nat_lt 0) (counts (sibling_key file sibling) ∙ count-same (has_key private_sibling (sibling_key file sibling)) (is_private_entry file sibling) (λ e. guarded (e.id == private_id) e.what.sibling e.what.file_id file sibling) facts.entries)
     ∙ any-counted (is_private_entry file sibling) facts.entries
 
 -- a link of the private directory or of a reserved id has the key of its sibling
-pub system_counts : (facts : Facts) (m : BTreeMap Key ℕ) (file sibling : ℕ) → CountsKeys system_sibling facts.links m → nat_lt 0 (key_count m (sibling_key file sibling)) ≡ list_any (is_system_link file sibling) facts.links
+pub system_counts : (facts : Facts) (m : List Key) (file sibling : ℕ) → CountsKeys system_sibling facts.links m → nat_lt 0 (key_count m (sibling_key file sibling)) ≡ list_any (is_system_link file sibling) facts.links
 system_counts facts m file sibling counts =
     ap (nat_lt 0) (counts (sibling_key file sibling) ∙ count-same (has_key system_sibling (sibling_key file sibling)) (is_system_link file sibling) (λ l. guarded (is_system_id l.what.parent) (Some l.what.sibling) l.what.file file sibling) facts.links)
     ∙ any-counted (is_system_link file sibling) facts.links
 
 -- an entry that needs its fellows and has its link has the key of its sibling
-pub linked_counts : (facts : Facts) (m : BTreeMap Key ℕ) (file sibling : ℕ) → CountsKeys (linked_sibling facts) facts.entries m → nat_lt 0 (key_count m (sibling_key file sibling)) ≡ list_any (is_linked_entry facts file sibling) facts.entries
+pub linked_counts : (facts : Facts) (m : List Key) (file sibling : ℕ) → CountsKeys (linked_sibling facts) facts.entries m → nat_lt 0 (key_count m (sibling_key file sibling)) ≡ list_any (is_linked_entry facts file sibling) facts.entries
 linked_counts facts m file sibling counts =
     ap (nat_lt 0) (counts (sibling_key file sibling) ∙ count-same (has_key (linked_sibling facts) (sibling_key file sibling)) (is_linked_entry facts file sibling) (λ e. guarded (is_twin e && has_link facts e) e.what.sibling e.what.file_id file sibling) facts.entries)
     ∙ any-counted (is_linked_entry facts file sibling) facts.entries

@@ -7,25 +7,24 @@ ghost use Rattle.view_rules.specs.Siblings as spec;
 ghost use Rattle.rule_index.specs.Keys as keys;
 
 use blk_source::NoMemory;
-use rule_index::KeyRef;
 use rule_index::ids::is_system_id;
 use rule_index::keys::{
-    ByFellow, ByLink, ByMap, ByPrivate, BySystemLink, add, count, fellow_ref, sibling_ref, tally,
+    ByFellow, ByLink, ByMap, ByPrivate, BySystemLink, add, fellow_ref, sibling_ref, tally,
 };
+use rule_index::{KeyCounts, KeyRef};
 use std::alloc::Global;
-use std::collections::BTreeMap;
 use view_facts::{EntryFact, Facts, LinkFact, SiblingFact};
 
 // Whether an entry has its link.
 #[tactic(auto, using(crate::proofs::FellowLooks::has_link_some, crate::proofs::FellowLooks::has_link_none))]
-fn has_link<'a>(facts: &'a Facts, links: &BTreeMap<KeyRef<'a>, u64>, e: &'a EntryFact) -> bool
+fn has_link<'a>(facts: &'a Facts, links: &KeyCounts<'a>, e: &'a EntryFact) -> bool
     requires { keys.CountsKeys keys.link_fellow facts.now.links links.now }
     ensures { result ≡ spec.has_link facts.now e.now }
 {
     match e.sibling() {
         Some(sibling) => {
             let key = fellow_ref(e.file_id(), sibling, e.id(), e.name());
-            count(links, key) > 0
+            links.has(key)
         }
         None => false,
     }
@@ -33,28 +32,28 @@ fn has_link<'a>(facts: &'a Facts, links: &BTreeMap<KeyRef<'a>, u64>, e: &'a Entr
 
 // Whether a link has its entry.
 #[tactic(auto, using(crate::proofs::FellowLooks::has_entry_counts))]
-fn has_entry<'a>(facts: &'a Facts, entries: &BTreeMap<KeyRef<'a>, u64>, l: &'a LinkFact) -> bool
+fn has_entry<'a>(facts: &'a Facts, entries: &KeyCounts<'a>, l: &'a LinkFact) -> bool
     requires { keys.CountsKeys keys.entry_fellow facts.now.entries entries.now }
     ensures { result ≡ spec.has_entry facts.now l.now }
 {
     let key = fellow_ref(l.file(), l.sibling(), l.parent(), l.name());
-    count(entries, key) > 0
+    entries.has(key)
 }
 
 // Whether a sibling of a file has its map.
 #[tactic(auto, using(crate::proofs::FellowLooks::has_map_counts))]
-fn has_map<'a>(facts: &'a Facts, maps: &BTreeMap<KeyRef<'a>, u64>, file: u64, sibling: u64) -> bool
+fn has_map<'a>(facts: &'a Facts, maps: &KeyCounts<'a>, file: u64, sibling: u64) -> bool
     requires { keys.CountsKeys keys.map_sibling facts.now.siblings maps.now }
     ensures { result ≡ spec.has_map facts.now file sibling }
 {
-    count(maps, sibling_ref(file, sibling)) > 0
+    maps.has(sibling_ref(file, sibling))
 }
 
 // Whether an entry of a sibling has its link and its map.
 fn has_both<'a>(
     facts: &'a Facts,
-    links: &BTreeMap<KeyRef<'a>, u64>,
-    maps: &BTreeMap<KeyRef<'a>, u64>,
+    links: &KeyCounts<'a>,
+    maps: &KeyCounts<'a>,
     e: &'a EntryFact,
     sibling: u64,
 ) -> bool
@@ -68,8 +67,8 @@ fn has_both<'a>(
 // Whether an entry of a sibling needs its link and its map, and lacks one of them.
 fn is_twin_lost<'a>(
     facts: &'a Facts,
-    links: &BTreeMap<KeyRef<'a>, u64>,
-    maps: &BTreeMap<KeyRef<'a>, u64>,
+    links: &KeyCounts<'a>,
+    maps: &KeyCounts<'a>,
     e: &'a EntryFact,
     sibling: u64,
 ) -> bool
@@ -84,8 +83,8 @@ fn is_twin_lost<'a>(
 #[tactic(auto, using(crate::proofs::FellowLooks::lost_some, crate::proofs::FellowLooks::lost_none))]
 fn is_entry_lost<'a>(
     facts: &'a Facts,
-    links: &BTreeMap<KeyRef<'a>, u64>,
-    maps: &BTreeMap<KeyRef<'a>, u64>,
+    links: &KeyCounts<'a>,
+    maps: &KeyCounts<'a>,
     e: &'a EntryFact,
 ) -> bool
     requires links { keys.CountsKeys keys.link_fellow facts.now.links links.now }
@@ -102,8 +101,8 @@ fn is_entry_lost<'a>(
 #[tactic(auto, unfolding(view_rules::specs::Siblings::is_link_lost))]
 fn is_link_lost<'a>(
     facts: &'a Facts,
-    entries: &BTreeMap<KeyRef<'a>, u64>,
-    maps: &BTreeMap<KeyRef<'a>, u64>,
+    entries: &KeyCounts<'a>,
+    maps: &KeyCounts<'a>,
     l: &'a LinkFact,
 ) -> bool
     requires entries { keys.CountsKeys keys.entry_fellow facts.now.entries entries.now }
@@ -117,8 +116,8 @@ fn is_link_lost<'a>(
 // The first entry that lacks its link or its map.
 fn lost_entry_by<'a>(
     facts: &'a Facts,
-    links: &BTreeMap<KeyRef<'a>, u64>,
-    maps: &BTreeMap<KeyRef<'a>, u64>,
+    links: &KeyCounts<'a>,
+    maps: &KeyCounts<'a>,
 ) -> Option<&'a EntryFact>
     requires links { keys.CountsKeys keys.link_fellow facts.now.links links.now }
     requires maps { keys.CountsKeys keys.map_sibling facts.now.siblings maps.now }
@@ -144,8 +143,8 @@ pub fn lost_entry(alloc: Global, facts: &Facts) -> Result<Option<&EntryFact>, No
 // The first link that lacks its entry or its map.
 fn lost_link_by<'a>(
     facts: &'a Facts,
-    entries: &BTreeMap<KeyRef<'a>, u64>,
-    maps: &BTreeMap<KeyRef<'a>, u64>,
+    entries: &KeyCounts<'a>,
+    maps: &KeyCounts<'a>,
 ) -> Option<&'a LinkFact>
     requires entries { keys.CountsKeys keys.entry_fellow facts.now.entries entries.now }
     requires maps { keys.CountsKeys keys.map_sibling facts.now.siblings maps.now }
@@ -173,11 +172,7 @@ pub fn lost_link(alloc: Global, facts: &Facts) -> Result<Option<&LinkFact>, NoMe
 
 // The sibling of an entry that needs its fellows and has its link.
 #[tactic(auto, using(crate::proofs::FellowLooks::linked_some, crate::proofs::FellowLooks::linked_none))]
-fn linked_key<'a>(
-    facts: &'a Facts,
-    links: &BTreeMap<KeyRef<'a>, u64>,
-    e: &'a EntryFact,
-) -> Option<KeyRef<'a>>
+fn linked_key<'a>(facts: &'a Facts, links: &KeyCounts<'a>, e: &'a EntryFact) -> Option<KeyRef<'a>>
     requires { keys.CountsKeys keys.link_fellow facts.now.links links.now }
     ensures { result ≡ keys.linked_sibling facts.now e.now }
 {
@@ -188,73 +183,71 @@ fn linked_key<'a>(
     Some(sibling_ref(e.file_id(), sibling))
 }
 
+// The siblings of the entries that need their fellows and have their links.
+fn linked_keys<'a>(
+    alloc: Global,
+    facts: &'a Facts,
+    links: &KeyCounts<'a>,
+) -> Result<Vec<KeyRef<'a>>, NoMemory>
+    requires { keys.CountsKeys keys.link_fellow facts.now.links links.now }
+    ensures { IfOk result (λ linked. keys.CountsKeys (keys.linked_sibling facts.now) facts.now.entries linked.items) }
+{
+    let mut linked = Vec::new(alloc);
+    for e in &facts.entries {
+        if let Some(key) = linked_key(facts, links, e) {
+            add(&mut linked, key)?;
+        }
+    }
+    Ok(linked)
+}
+
 // Counts the entries that need their fellows and have their links, by their siblings.
 fn linked_by<'a>(
     alloc: Global,
     facts: &'a Facts,
-    links: &BTreeMap<KeyRef<'a>, u64>,
-) -> Result<BTreeMap<KeyRef<'a>, u64>, NoMemory>
+    links: &KeyCounts<'a>,
+) -> Result<KeyCounts<'a>, NoMemory>
     requires { keys.CountsKeys keys.link_fellow facts.now.links links.now }
     ensures { IfOk result (keys.CountsKeys (keys.linked_sibling facts.now) facts.now.entries) }
 {
-    let mut counts = BTreeMap::new(alloc);
-    for e in &facts.entries {
-        if let Some(key) = linked_key(facts, links, e) {
-            add(&mut counts, key)?;
-        }
-    }
-    Ok(counts)
+    let linked = linked_keys(alloc, facts, links)?;
+    Ok(KeyCounts::of(linked))
 }
 
 // Whether a sibling of a file has an entry that needs its fellows and has its link.
 #[tactic(auto, using(crate::proofs::FellowLooks::linked_counts))]
-fn has_linked<'a>(
-    facts: &'a Facts,
-    linked: &BTreeMap<KeyRef<'a>, u64>,
-    file: u64,
-    sibling: u64,
-) -> bool
+fn has_linked<'a>(facts: &'a Facts, linked: &KeyCounts<'a>, file: u64, sibling: u64) -> bool
     requires { keys.CountsKeys (keys.linked_sibling facts.now) facts.now.entries linked.now }
     ensures { result ≡ list_any (spec.is_linked_entry facts.now file sibling) facts.now.entries }
 {
-    count(linked, sibling_ref(file, sibling)) > 0
+    linked.has(sibling_ref(file, sibling))
 }
 
 // Whether a sibling of a file has an entry in the private directory.
 #[tactic(auto, using(crate::proofs::FellowLooks::private_counts))]
-fn has_private<'a>(
-    facts: &'a Facts,
-    private: &BTreeMap<KeyRef<'a>, u64>,
-    file: u64,
-    sibling: u64,
-) -> bool
+fn has_private<'a>(facts: &'a Facts, private: &KeyCounts<'a>, file: u64, sibling: u64) -> bool
     requires { keys.CountsKeys keys.private_sibling facts.now.entries private.now }
     ensures { result ≡ list_any (spec.is_private_entry file sibling) facts.now.entries }
 {
-    count(private, sibling_ref(file, sibling)) > 0
+    private.has(sibling_ref(file, sibling))
 }
 
 // Whether a sibling of a file has a link whose parent is the private directory or reserved.
 #[tactic(auto, using(crate::proofs::FellowLooks::system_counts))]
-fn has_system<'a>(
-    facts: &'a Facts,
-    system: &BTreeMap<KeyRef<'a>, u64>,
-    file: u64,
-    sibling: u64,
-) -> bool
+fn has_system<'a>(facts: &'a Facts, system: &KeyCounts<'a>, file: u64, sibling: u64) -> bool
     requires { keys.CountsKeys keys.system_sibling facts.now.links system.now }
     ensures { result ≡ list_any (spec.is_system_link file sibling) facts.now.links }
 {
-    count(system, sibling_ref(file, sibling)) > 0
+    system.has(sibling_ref(file, sibling))
 }
 
 // Whether a map lacks its entry or its link.
 #[tactic(auto, unfolding(view_rules::specs::Siblings::is_map_lost))]
 fn is_map_lost<'a>(
     facts: &'a Facts,
-    linked: &BTreeMap<KeyRef<'a>, u64>,
-    private: &BTreeMap<KeyRef<'a>, u64>,
-    system: &BTreeMap<KeyRef<'a>, u64>,
+    linked: &KeyCounts<'a>,
+    private: &KeyCounts<'a>,
+    system: &KeyCounts<'a>,
     m: &SiblingFact,
 ) -> bool
     requires linked { keys.CountsKeys (keys.linked_sibling facts.now) facts.now.entries linked.now }
@@ -270,9 +263,9 @@ fn is_map_lost<'a>(
 // The first map that lacks its entry or its link.
 fn lost_map_by<'a>(
     facts: &'a Facts,
-    linked: &BTreeMap<KeyRef<'a>, u64>,
-    private: &BTreeMap<KeyRef<'a>, u64>,
-    system: &BTreeMap<KeyRef<'a>, u64>,
+    linked: &KeyCounts<'a>,
+    private: &KeyCounts<'a>,
+    system: &KeyCounts<'a>,
 ) -> Option<&'a SiblingFact>
     requires linked { keys.CountsKeys (keys.linked_sibling facts.now) facts.now.entries linked.now }
     requires private { keys.CountsKeys keys.private_sibling facts.now.entries private.now }

@@ -8,30 +8,22 @@ use crate::suspects::{are_ranked, suspects};
 use blk_source::NoMemory;
 use rule_index::counts::Counts;
 use rule_index::digests::{ByAttributeDigest, ByEntryDigest};
-use rule_index::keys::{ByAttribute, ByEntry, count, place_ref, tally};
-use rule_index::{KeyRef, ids};
+use rule_index::keys::{ByAttribute, ByEntry, place_ref, tally};
+use rule_index::{KeyCounts, ids};
 use std::alloc::Global;
-use std::collections::BTreeMap;
 use view_facts::{AttributeFact, EntryFact, Facts};
 
 // Whether an entry's name is there again in its directory.
 #[tactic(auto, unfolding(view_rules::specs::Names::is_entry_repeated))]
-fn is_entry_repeated<'a>(
-    facts: &'a Facts,
-    counts: &BTreeMap<KeyRef<'a>, u64>,
-    e: &'a EntryFact,
-) -> bool
+fn is_entry_repeated<'a>(facts: &'a Facts, counts: &KeyCounts<'a>, e: &'a EntryFact) -> bool
     requires { keys.CountsKeys keys.entry_key facts.now.entries counts.now }
     ensures { result ≡ spec.is_entry_repeated facts.now e.now }
 {
-    count(counts, place_ref(e.id(), e.name())) > 1
+    counts.count(place_ref(e.id(), e.name())) > 1
 }
 
 // The first entry whose name is counted twice.
-fn entry_counted_twice<'a>(
-    facts: &'a Facts,
-    counts: &BTreeMap<KeyRef<'a>, u64>,
-) -> Option<&'a EntryFact>
+fn entry_counted_twice<'a>(facts: &'a Facts, counts: &KeyCounts<'a>) -> Option<&'a EntryFact>
     requires { keys.CountsKeys keys.entry_key facts.now.entries counts.now }
     ensures { option_copied result ≡ find (spec.is_entry_repeated facts.now) facts.now.entries }
 {
@@ -84,21 +76,17 @@ pub fn repeated_entry(
 
 // Whether an attribute's name is there again among those of its file.
 #[tactic(auto, unfolding(view_rules::specs::Names::is_attribute_repeated))]
-fn is_attribute_repeated<'a>(
-    facts: &'a Facts,
-    counts: &BTreeMap<KeyRef<'a>, u64>,
-    a: &'a AttributeFact,
-) -> bool
+fn is_attribute_repeated<'a>(facts: &'a Facts, counts: &KeyCounts<'a>, a: &'a AttributeFact) -> bool
     requires { keys.CountsKeys keys.attribute_key facts.now.attributes counts.now }
     ensures { result ≡ spec.is_attribute_repeated facts.now a.now }
 {
-    count(counts, place_ref(a.id(), a.name())) > 1
+    counts.count(place_ref(a.id(), a.name())) > 1
 }
 
 // The first attribute whose name is counted twice.
 fn attribute_counted_twice<'a>(
     facts: &'a Facts,
-    counts: &BTreeMap<KeyRef<'a>, u64>,
+    counts: &KeyCounts<'a>,
 ) -> Option<&'a AttributeFact>
     requires { keys.CountsKeys keys.attribute_key facts.now.attributes counts.now }
     ensures { option_copied result ≡ find (spec.is_attribute_repeated facts.now) facts.now.attributes }

@@ -1,5 +1,5 @@
 pub mod Counting
 pub mod KinLooks
 pub mod HomeLooks
-pub mod KeyCounts
+pub mod CountingKeys
 pub mod HomeCounts

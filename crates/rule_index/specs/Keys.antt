@@ -1,11 +1,10 @@
 -- Counts of facts by numbers and a name.
-use Rattle.std.specs.Prelude.{◌≡◌, ℕ, Bool, List, count_by, unwrap_or, ◌==◌, ◌&&◌, bytes_eq, Option, None, Some, option_map, [], if◌then◌else◌}
+use Rattle.std.specs.Prelude.{◌≡◌, ℕ, Bool, List, count_by, ◌==◌, ◌&&◌, bytes_eq, Option, None, Some, option_map, [], if◌then◌else◌}
 use Rattle.std.specs.declared.cmp.Ordering.{Ordering}
 use Rattle.std.specs.Ordering.{nat_cmp, on, then_cmp, is_eq, as_partial_cmp}
 use Rattle.std.specs.Cmp.{IsTotalOrder, IsPartialOrder, partial_order_from_own_ties, partial_order_from_total}
 use Rattle.std.specs.Cmp.Lexicographic.{slice_cmp}
 use Rattle.std.specs.Cmp.Rules.{comparing}
-use Rattle.std.specs.BTreeMap.{BTreeMap, get}
 use Rattle.std.proofs.Common.{rules}
 use Rattle.std.proofs.lemmas.Cmp.{then_total, on_total, nat_cmp_total, nat_list_cmp_total}
 use Rattle.apfs_model.specs.Lists.{passes}
@@ -47,13 +46,13 @@ key_partial = partial_order_from_own_ties {E = is_same_key} {C = as_partial_cmp 
 abbrev pub has_key : {T : Type 0} → (T → Option Key) → Key → T → Bool
 has_key key q x = passes (key x) (λ k. is_same_key k q)
 
--- how often a map counts a key
-abbrev pub key_count : BTreeMap Key ℕ → Key → ℕ
-key_count m q = unwrap_or (get key_cmp m q) 0
+-- how often a key stands in a list
+unfoldable pub key_count : List Key → Key → ℕ
+key_count keys q = count_by (λ k. is_same_key k q) keys
 
--- a map counts some items by their keys
-abbrev pub CountsKeys : {T : Type 0} → (T → Option Key) → List T → BTreeMap Key ℕ → Type 0
-CountsKeys key items m = (q : Key) → key_count m q ≡ count_by (has_key key q) items
+-- a list has each key as often as some items have it
+abbrev pub CountsKeys : {T : Type 0} → (T → Option Key) → List T → List Key → Type 0
+CountsKeys key items keys = (q : Key) → key_count keys q ≡ count_by (has_key key q) items
 
 -- a directory or a file, and a name in it
 abbrev pub place_key : ℕ → List ℕ → Key

@@ -1,12 +1,12 @@
 // Counts of facts by numbers and a name.
-ghost use Rattle.std.specs.Prelude.{◌≡◌, ◌+◌, ◌-◌, ◌<◌, ◌^◌, Option, IfOk, OnOk, if◌then◌else◌};
+ghost use Rattle.std.specs.Prelude.{◌≡◌, ◌+◌, Option, IfOk, OnOk, if◌then◌else◌};
 ghost use Rattle.rule_index.specs.Keys as spec;
 
 use crate::ids::is_system_id;
 use crate::key::KeyRef;
+use crate::key_counts::KeyCounts;
 use blk_source::NoMemory;
 use std::alloc::Global;
-use std::collections::BTreeMap;
 use view_facts::{AttributeFact, EntryFact, LinkFact, SiblingFact};
 
 /// By what items are counted.
@@ -18,39 +18,36 @@ pub trait KeyOf<T> {
         ensures { result ≡ key item.now };
 }
 
-/// Counts one more.
-pub fn add<'a>(counts: &mut BTreeMap<KeyRef<'a>, u64>, key: KeyRef<'a>) -> Result<(), NoMemory>
-    requires { (q : spec.Key) → spec.key_count counts.old q < 2 ^ 64 - 1 }
-    ensures { OnOk result ((q : spec.Key) → spec.key_count counts.new q ≡ spec.key_count counts.old q + (if spec.is_same_key key.entry q then 1 else 0)) }
+/// Adds one more key.
+#[tactic(auto, unfolding(crate::specs::Keys::key_count))]
+pub fn add<'a>(keys: &mut Vec<KeyRef<'a>>, key: KeyRef<'a>) -> Result<(), NoMemory>
+    ensures { OnOk result ((q : spec.Key) → spec.key_count keys.new.items q ≡ spec.key_count keys.old.items q + (if spec.is_same_key key.entry q then 1 else 0)) }
 {
-    let n: u64 = counts.get(&key).copied().unwrap_or(0);
-    match counts.insert(key, n + 1) {
-        Ok(_) => Ok(()),
+    match keys.push(key) {
+        Ok(()) => Ok(()),
         Err(_) => Err(NoMemory),
     }
 }
 
-/// Counts the items of each key.
-pub fn tally<'a, T, B: KeyOf<T>>(
-    alloc: Global,
-    items: &'a [T],
-) -> Result<BTreeMap<KeyRef<'a>, u64>, NoMemory>
-    ensures { IfOk result (spec.CountsKeys B.key items.now) }
+// The keys of the items, in their order.
+fn listed<'a, T, B: KeyOf<T>>(alloc: Global, items: &'a [T]) -> Result<Vec<KeyRef<'a>>, NoMemory>
+    ensures { IfOk result (λ keys. spec.CountsKeys B.key items.now keys.items) }
 {
-    let mut counts = BTreeMap::new(alloc);
+    let mut keys = Vec::new(alloc);
     for item in items {
         if let Some(key) = B::key(item) {
-            add(&mut counts, key)?;
+            add(&mut keys, key)?;
         }
     }
-    Ok(counts)
+    Ok(keys)
 }
 
-/// How often a key is counted.
-pub fn count<'a>(counts: &BTreeMap<KeyRef<'a>, u64>, key: KeyRef<'a>) -> u64
-    ensures { result ≡ spec.key_count counts.now key.entry }
+/// Counts the items of each key.
+pub fn tally<'a, T, B: KeyOf<T>>(alloc: Global, items: &'a [T]) -> Result<KeyCounts<'a>, NoMemory>
+    ensures { IfOk result (spec.CountsKeys B.key items.now) }
 {
-    counts.get(&key).copied().unwrap_or(0)
+    let keys = listed::<T, B>(alloc, items)?;
+    Ok(KeyCounts::of(keys))
 }
 
 /// The key of a name in a directory, or among the attributes of a file.

@@ -7,9 +7,11 @@ mod homes;
 pub mod ids;
 mod index;
 mod key;
+mod key_counts;
 pub mod keys;
 mod kin;
 mod pairs;
 
 pub use index::Index;
 pub use key::KeyRef;
+pub use key_counts::KeyCounts;
