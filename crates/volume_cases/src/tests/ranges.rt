@@ -1,13 +1,16 @@
 // The extent reference tree of a made container, and ranges that meet, overlap or pass the greatest number.
-ghost use Rattle.std.specs.Prelude.{◌≤◌};
+ghost use Rattle.std.specs.Prelude.{◌≡◌, ◌≤◌, ◌-◌, ◌*◌, OnOk, pos};
+ghost use Rattle.ext_ref.specs.Left.{AreShort, AreShortExtents};
 
 use blk_source::{BlockSource, MemSource};
 use bt_cursor::WalkFault;
-use ext_ref::{Cover, ExtScan, ExtStop, NewRange, covered, new_ranges, references, scan};
+use ext_ref::{
+    Cover, ExtScan, ExtStop, NewRange, covered, new_ranges, references, scan, unreached,
+};
 use fs_record::FileExt;
 use img_make::{Sample, make, sample};
 use obj_base::{Site, Stop};
-use std::alloc::Global;
+use std::alloc::{AllocError, Global};
 use std::test::Fail;
 
 const TOP: u64 = u64::MAX;
@@ -40,7 +43,9 @@ fn scanned(
     Ok(scan(alloc, &mut src, root, &SITE))
 }
 
-fn range(first: u64, length: u64) -> NewRange {
+fn range(first: u64, length: u64) -> NewRange
+    ensures { result ≡ record { first = first; length = length; count = pos 1 } }
+{
     NewRange {
         first,
         length,
@@ -128,6 +133,7 @@ fn which_ranges_are_covered(rt: HostRuntime) -> Result<(), Fail> {
 fn extent(block: u64, blocks: u64) -> FileExt
     requires some { 1 ≤ blocks }
     requires few { blocks ≤ 1000 }
+    ensures { result ≡ record { logical = 0; length = 4096 * blocks - 1; block = block } }
 {
     FileExt {
         logical: 0,
@@ -158,5 +164,53 @@ fn streams_are_counted_once_a_range(rt: HostRuntime) -> Result<(), Fail> {
     ];
     let counts = references(rt.alloc(), &ranges, &extents, 4096)?;
     assert_eq!(rt; counts.as_slice(), [1, 2, 2, 0, 0, 4].as_slice());
+    Ok(())
+}
+
+// Puts a range after others.
+fn put_range(ranges: &mut Vec<NewRange>, first: u16, length: u16) -> Result<(), AllocError>
+    requires { AreShort ranges.old.items }
+    ensures { OnOk result (AreShort ranges.new.items) }
+{
+    ranges.push(range(u64::from(first), u64::from(length)))?;
+    Ok(())
+}
+
+// Puts an extent of so many blocks, less one byte, after others.
+fn put_extent(
+    extents: &mut Vec<(u64, FileExt)>,
+    stream: u64,
+    block: u16,
+    blocks: u64,
+) -> Result<(), AllocError>
+    requires some { 1 ≤ blocks }
+    requires few { blocks ≤ 1000 }
+    requires short { AreShortExtents 4096 extents.old.items }
+    ensures { OnOk result (AreShortExtents 4096 extents.new.items) }
+{
+    extents.push((stream, extent(u64::from(block), blocks)))?;
+    Ok(())
+}
+
+#[test]
+fn runs_that_no_extent_reaches(rt: HostRuntime) -> Result<(), Fail> {
+    let alloc = rt.alloc();
+    // Blocks 10 to 17, 30 and 31, and 50, of which a range ends where the next one begins.
+    let mut ranges = Vec::new(alloc);
+    put_range(&mut ranges, 30, 2)?;
+    put_range(&mut ranges, 10, 5)?;
+    put_range(&mut ranges, 50, 1)?;
+    put_range(&mut ranges, 15, 3)?;
+    // Blocks 11 and 12, 16, and 31 to 70; and a hole.
+    let mut extents = Vec::new(alloc);
+    put_extent(&mut extents, 3, 31, 40)?;
+    put_extent(&mut extents, 1, 11, 2)?;
+    put_extent(&mut extents, 2, 0, 1000)?;
+    put_extent(&mut extents, 1, 16, 1)?;
+    let runs = unreached(alloc, &ranges, &extents, 4096)?;
+    assert_eq!(rt;
+        runs.as_slice(),
+        [(10, 1), (13, 3), (17, 1), (30, 1)].as_slice()
+    );
     Ok(())
 }
