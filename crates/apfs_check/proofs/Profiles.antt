@@ -3,7 +3,6 @@ use Rattle.std.proofs.Common.{◌≡◌, ℕ, ℤ, Bool, false, cond, List, [], 
 use Rattle.std.specs.Prelude.{◌↔◌}
 use Rattle.apfs_model.specs.Lists.{In}
 use Rattle.obj_base.specs.declared.site.Site.{Site}
-use Rattle.fs_record.specs.declared.fault.NamedAt.{NamedAt}
 use Rattle.nx_ring.specs.Checkpoint.{site_of}
 use Rattle.vol_view.specs.Heads.{heads_of}
 use Rattle.vol_view.specs.Views.{views_of}
@@ -11,6 +10,7 @@ use Rattle.vol_view.specs.Volumes.{Loaded}
 use Rattle.vol_view.specs.declared.head.VolHead.{VolHead}
 use Rattle.vol_view.specs.declared.volume.View.{View}
 use Rattle.ext_ref.specs.declared.range.NewRange.{NewRange}
+use Rattle.view_rules.specs.declared.fault.NamedAt.{NamedAt}
 use Rattle.apfs_check.specs.Laws.{HasNoStrictNotes}
 use Rattle.apfs_model.proofs.BoolTests.{test_or}
 use Rattle.apfs_model.proofs.Searches.{in-filter}

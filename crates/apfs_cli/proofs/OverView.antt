@@ -7,8 +7,8 @@ use Rattle.obj_base.specs.declared.stop.Feature.{Feature}
 use Rattle.obj_base.specs.declared.stop.Stop.{Stop}
 use Rattle.obj_base.specs.declared.stop.Stop.TheVariants as layer
 use Rattle.blk_source.specs.declared.source.Opened.{Opened}
+use Rattle.view_rules.specs.declared.fault.TreeFault.{TreeFault}
 use Rattle.cmd_words.specs.Asked.{AskedTarget}
-use Rattle.fs_record.specs.declared.fault.TreeFault.{TreeFault}
 use Rattle.nx_ring.specs.Checkpoint.{Seen, site_of}
 use Rattle.vol_view.specs.Volumes.{Loaded}
 use Rattle.vol_view.specs.declared.volume.View.{View}

@@ -8,10 +8,11 @@ ghost use Rattle.apfs_cli.specs.ReportText as notes;
 use crate::fault_words::{record_word, why_word, within_text};
 use crate::shown::push_name;
 use apfs_model::Bytes;
-use fs_record::{IdAt, NamedAt, RecFault};
+use fs_record::RecFault;
 use obj_base::Within;
 use reach_rules::Why;
 use std::alloc::{AllocError, Global};
+use view_rules::{IdAt, NamedAt};
 
 /// A word alone.
 pub fn plain(alloc: Global, word: &str) -> Result<Vec<u8>, AllocError>

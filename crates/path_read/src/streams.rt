@@ -11,10 +11,10 @@ ghost use Rattle.path_read.specs.Streamed.{id_at, stream_raised};
 
 use blk_source::BlockSource;
 use file_extent::{Stream, StreamStop};
-use fs_record::{IdAt, TreeFault};
 use obj_base::{Site, Stop};
 use path_walk::{PathStop, fault_of, refusal};
 use std::alloc::Global;
+use view_rules::{IdAt, TreeFault};
 use vol_view::{View, Volume};
 
 // The place of a fault of an id.

@@ -14,12 +14,12 @@ use Rattle.fs_name.specs.declared.naming.Names.{Names}
 use Rattle.fs_record.specs.Inodes.{Inode}
 use Rattle.fs_record.specs.Entries.{Entry}
 use Rattle.fs_record.specs.Facts.{Fact, is_reserved, first_user_id}
-use Rattle.fs_record.specs.declared.fault.TreeFault.{TreeFault}
-use Rattle.fs_record.specs.declared.fault.TreeFault.TheVariants.{DirNames}
 use Rattle.vol_view.specs.Volumes.{Loaded}
 use Rattle.vol_view.specs.declared.volume.View.{View}
 use Rattle.view_rules.specs.Facts.{Facts, is_directory, has_directory}
 use Rattle.view_rules.specs.Rules.{view_facts, IsTreeFault}
+use Rattle.view_rules.specs.declared.fault.TreeFault.{TreeFault}
+use Rattle.view_rules.specs.declared.fault.TreeFault.TheVariants.{DirNames}
 use Rattle.view_rules.proofs.Law.{refutes}
 use Rattle.path_walk.specs.Paths.{slash, is_component}
 use Rattle.path_walk.specs.Places.{Place, root_of, target_of}

@@ -24,14 +24,14 @@ use Rattle.fs_record.specs.Inodes.{Inode}
 use Rattle.fs_record.specs.Entries.{Entry}
 use Rattle.fs_record.specs.Facts.{Fact, read_inode, read_entry, inodes_of, entries_of, root_id, is_reserved, directory_kind, first_user_id}
 use Rattle.fs_record.specs.declared.fault.RecFault.{RecFault}
-use Rattle.fs_record.specs.declared.fault.TreeFault.{TreeFault}
-use Rattle.fs_record.specs.declared.fault.TreeFault.TheVariants.{NoInode, DirNames}
 use Rattle.vol_view.specs.Volumes.{Loaded}
 use Rattle.vol_view.specs.Views.{view_line}
 use Rattle.vol_view.specs.declared.volume.View.{View}
 use Rattle.view_rules.specs.Facts.{Facts, inode_at, is_directory}
 use Rattle.view_rules.specs.Entries.{IsNoInode, has_root}
 use Rattle.view_rules.specs.Rules.{HasRecords, IsRecord, view_facts}
+use Rattle.view_rules.specs.declared.fault.TreeFault.{TreeFault}
+use Rattle.view_rules.specs.declared.fault.TreeFault.TheVariants.{NoInode, DirNames}
 use Rattle.path_walk.specs.Paths.{slash, is_component}
 use Rattle.path_walk.specs.Places.{Place, root_of, target_of}
 use Rattle.path_walk.specs.Found.{entries_in, place_by, step, walk, found}

@@ -5,8 +5,6 @@ use Rattle.obj_base.specs.declared.stop.Stop.{Stop}
 use Rattle.obj_base.specs.declared.stop.Stop.TheVariants.{Found, Unsupported, ReadFault, NoMemory}
 use Rattle.obj_base.specs.declared.site.Site.{Site}
 use Rattle.bt_cursor.specs.declared.fault.WalkFault.{WalkFault}
-use Rattle.fs_record.specs.declared.fault.TreeFault.{TreeFault}
-use Rattle.fs_record.specs.declared.fault.TreeFault.TheVariants.{Unsound, Unnamed, Order, Counts, Record, DupName, Hash, NoParent, NoInode, KindMismatch, DirNames, Unreached, Children, Links, SiblingLost, ExtentOrder, ExtentPlace, ExtentUncovered, LinkTarget, Stream, AttrOwner, NameHash}
 use Rattle.vol_view.specs.Volumes.{Loaded}
 use Rattle.vol_view.specs.Views.{IsViewFeature}
 use Rattle.vol_view.specs.declared.volume.View.{View}
@@ -14,6 +12,8 @@ use Rattle.ext_ref.specs.declared.range.NewRange.{NewRange}
 use Rattle.view_rules.specs.Facts.{Facts}
 use Rattle.view_rules.specs.Rules as rules
 use Rattle.view_rules.specs.Rules.{HasTreeRules, IsTreeFault}
+use Rattle.view_rules.specs.declared.fault.TreeFault.{TreeFault}
+use Rattle.view_rules.specs.declared.fault.TreeFault.TheVariants.{Unsound, Unnamed, Order, Counts, Record, DupName, Hash, NoParent, NoInode, KindMismatch, DirNames, Unreached, Children, Links, SiblingLost, ExtentOrder, ExtentPlace, ExtentUncovered, LinkTarget, Stream, AttrOwner, NameHash}
 use Rattle.view_rules.specs.declared.profile.Profile.{Profile}
 use Rattle.path_walk.specs.Met.{IsMetTwice}
 use Rattle.path_walk.specs.declared.answer.Answer.{Answer}

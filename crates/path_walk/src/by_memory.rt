@@ -15,9 +15,9 @@ use crate::order::{alone, by_name};
 use crate::{Answer, PathStop, Target};
 use apfs_model::{Bytes, NoMemory};
 use fs_name::Names;
-use fs_record::TreeFault;
 use obj_base::Stop;
 use std::alloc::Global;
+use view_rules::TreeFault;
 use vol_view::View;
 
 /// The fault of an entry whose file has no inode.

@@ -23,10 +23,10 @@ use crate::shown::push_name;
 use crate::{PathStop, Target};
 use apfs_model::{Bytes, NoMemory};
 use fs_name::Names;
-use fs_record::{IdAt, TreeFault};
 use obj_base::Stop;
 use std::alloc::{AllocError, Global};
 use std::collections::BTreeMap;
+use view_rules::{IdAt, TreeFault};
 use vol_view::View;
 
 // The kind of a directory (File System Constants, File Modes).

@@ -17,9 +17,10 @@ use crate::survey::{Survey, gather_all};
 use blk_source::BlockSource;
 use bt_cursor::WalkFault;
 use bt_keys::{FsKey, FsPlainKey};
-use fs_record::{RecFault, TreeFault};
+use fs_record::RecFault;
 use obj_base::{Site, Stop};
 use std::alloc::Global;
+use view_rules::TreeFault;
 use vol_view::{View, Volume};
 
 /// What a walk names, said of the view.

@@ -19,13 +19,13 @@ use Rattle.bt_cursor.specs.declared.fault.WalkFault.TheVariants as walks
 use Rattle.bt_cursor.proofs.Flats.{line-pairs}
 use Rattle.fs_name.specs.declared.naming.Names.{Names}
 use Rattle.fs_name.specs.Normal.{are_hashed}
-use Rattle.fs_record.specs.declared.fault.TreeFault.{TreeFault}
 use Rattle.ext_ref.specs.declared.range.NewRange.{NewRange}
 use Rattle.vol_view.specs.Volumes.{Loaded}
 use Rattle.vol_view.specs.Views.{hashed_tree, plain_tree, view_flat, view_line, view_nodes, is_view_walkable, is_view_counted, FactBy, IsViewFeature, IsViewFault}
 use Rattle.vol_view.specs.declared.volume.View.{View}
 use Rattle.view_rules.specs.Facts.{Facts, facts_in}
 use Rattle.view_rules.specs.Rules.{raised, IsTreeFault}
+use Rattle.view_rules.specs.declared.fault.TreeFault.{TreeFault}
 use Rattle.view_rules.specs.declared.profile.Profile.{Profile}
 use Rattle.view_facts.specs.Contents.{brief_facts}
 use Rattle.view_facts.specs.Refusals.{IsRefusal}

@@ -4,13 +4,13 @@ use apfs_check::Fault;
 use apfs_layout::key::LEN_AND_HASH;
 use blk_source::Bytes;
 use fs_name::Names;
-use fs_record::NamedAt;
 use img_make::records::InodePlan;
 use img_make::{FileTree, Item, Leaf, Plan, Sample, Version, make, put_u32, sample};
 use obj_base::Stop;
 use std::alloc::{AllocError, Global};
 use std::test::Fail;
 use tree_rules::{Note, Profile};
+use view_rules::NamedAt;
 
 // The oid of the root of the volume's file-system tree.
 const ROOT_OID: u64 = 1028;

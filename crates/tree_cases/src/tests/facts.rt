@@ -2,7 +2,7 @@
 use crate::tests::opened::open;
 use blk_source::MemSource;
 use fs_name::Names;
-use fs_record::{RecFault, TreeFault};
+use fs_record::RecFault;
 use img_make::records::{InodePlan, Item, LINK_MODE, attribute};
 use img_make::{FileTree, Plan, Sample, make, sample};
 use obj_base::Stop;
@@ -10,6 +10,7 @@ use std::alloc::{AllocError, Global};
 use std::process::Abort;
 use std::test::Fail;
 use view_facts::{ViewFacts, view_facts};
+use view_rules::TreeFault;
 
 const FILE: u64 = 16;
 
