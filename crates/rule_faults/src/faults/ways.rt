@@ -5,8 +5,8 @@ ghost use Rattle.rule_faults.specs.Faults as spec;
 
 use super::{Asked, id_at};
 use blk_source::NoMemory;
+use parent_chain::first_unreached;
 use std::alloc::Global;
-use tree_reach::first_unreached;
 use view_facts::Facts;
 use view_rules::TreeFault;
 
