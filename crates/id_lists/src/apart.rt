@@ -1,6 +1,4 @@
-//! Lists in which nothing stands twice.
-#![tactic(auto)]
-
+// Lists in which nothing stands twice.
 ghost use Rattle.std.specs.Prelude.{◌≡◌, ◌↔◌};
 ghost use Rattle.std.specs.declared.cmp.Ordering.TheVariants.{Equal};
 ghost use Rattle.apfs_model.specs.Apart.{Apart};
@@ -15,6 +13,3 @@ pub fn distinct<T: Ord + Copy>(items: &mut Vec<T>)
     items.sort_unstable();
     items.dedup();
 }
-
-#[cfg(test)]
-mod tests;

@@ -2,8 +2,8 @@ use Rattle.std.proofs.Common.{sym, ◌∙◌}
 use Rattle.std.proofs.lemmas.List.Filters.{dedup_is}
 use Rattle.std.proofs.lemmas.List.Kept.{Contains-dedup, Contains-from_dedup, IsStrictlySortedBy-dedup}
 use Rattle.std.proofs.lemmas.List.Sorted.{Contains-permutation, IsPermutation-sym}
-use Rattle.apart_lists.proofs.Lists.{contained, listed, sorted_apart, ties}
-use Rattle.apart_lists.proofs.distinct.Goals as goal
+use Rattle.id_lists.proofs.Repeats.{contained, listed, sorted_apart, ties}
+use Rattle.id_lists.proofs.apart.distinct.Goals as goal
 
 pub returns-clause-same : goal.returns-clause-same
 returns-clause-same g c =
