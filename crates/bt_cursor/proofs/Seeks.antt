@@ -18,7 +18,7 @@ use Rattle.bt_cursor.specs.Line.{Item, line_of, leaf_pairs}
 use Rattle.bt_cursor.specs.Gaps.{Gapped, gapped_of, met_in, all_met, all_flat}
 use Rattle.bt_cursor.specs.Order.{rank_of, ranks_below, is_ordered}
 use Rattle.bt_cursor.specs.From.{is_below_rank, from_rank, after_last, is_low, is_high, gapped_from_rank}
-use Rattle.bt_cursor.specs.Search.{StandsBetween, IsPlaceOf, IsGapAt, IsInOrder}
+use Rattle.bt_cursor.specs.Search.{IsPlaceOf, IsGapAt, IsInOrder}
 use Rattle.bt_cursor.proofs.Lines.{leaf_pairs-append}
 use Rattle.bt_cursor.proofs.Flats.{flat-met, line-pairs, gapped-line}
 use Rattle.bt_cursor.proofs.Suffixes.{last-after}
