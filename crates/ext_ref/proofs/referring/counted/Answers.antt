@@ -2,7 +2,7 @@ use Rattle.std.proofs.Common.{◌≡◌, ℕ, List, IfOk, ap, subst, ◌∙◌}
 use Rattle.fs_record.specs.declared.extents.FileExt.{FileExt}
 use Rattle.ext_ref.specs.References.{references_of}
 use Rattle.ext_ref.proofs.Touched.{references-same}
-use Rattle.ext_ref.proofs.referring.references.Goals as goal
+use Rattle.ext_ref.proofs.referring.counted.Goals as goal
 
 pub returns : goal.returns
 returns c =

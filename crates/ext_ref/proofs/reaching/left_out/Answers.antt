@@ -8,7 +8,7 @@ use Rattle.ext_ref.specs.Left.{run_of, AreLow}
 use Rattle.ext_ref.specs.declared.range.NewRange.{NewRange}
 use Rattle.ext_ref.specs.declared.covering.Span.{Span}
 use Rattle.ext_ref.proofs.Left.{low-spans, left-short, runs-unreached, ok-then}
-use Rattle.ext_ref.proofs.reaching.unreached.Goals as goal
+use Rattle.ext_ref.proofs.reaching.left_out.Goals as goal
 
 pub left-requires-clause-low : goal.left-requires-clause-low
 left-requires-clause-low c = subst (λ (spans : List Span). AreLow spans) (sym c.as_spans.ensures.same) (low-spans c.args.ranges.now c.in_ok-cover.cover c.requires.short c.in_ok-cover.ensures)
