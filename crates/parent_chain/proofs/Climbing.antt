@@ -1,7 +1,7 @@
 -- What a climb knows of its ids.
 use Rattle.std.proofs.Common.{◌≡◌, ℕ, ◌+◌, ◌≤◌, Bool, true, false, cond, Option, Some, None, ◌⊎◌, inl, inr, refl, ap, sym, ◌∙◌, subst, arith}
 use Rattle.std.specs.Prelude.{◌==◌, nat_lt, nat_le}
-use Rattle.std.proofs.lemmas.Bool.{cases_lt, eqb-true, eq-eqb, leb-true, ltb-true, ltb-false}
+use Rattle.std.proofs.lemmas.Bool.{cases_lt, eqb-true, eq-eqb, leb-true, ltb-false}
 use Rattle.apfs_model.specs.Lists.{passes}
 use Rattle.fs_record.specs.Facts.{first_user_id}
 use Rattle.view_rules.specs.Directories.{Leads, low, up}
@@ -28,19 +28,6 @@ stuck parent id high e (up _ j f m) = none-or (parent id) j e f
 trapped : (parent : ℕ → Option ℕ) (Round : ℕ → Type 0) → ((j : ℕ) → Round j → 16 ≤ j) → ((j k : ℕ) → Round j → parent j ≡ Some k → Round k) → (i : ℕ) → Round i → Leads parent i → ⊥
 trapped parent Round high closed i h (low _ l) = let b : 16 ≤ i = high i h in absurd (omega arith)
 trapped parent Round high closed i h (up _ j e m) = trapped parent Round high closed j (closed i j h e) m
-
--- a climb begins
-pub climb-begins : (parent : ℕ → Option ℕ) (left met : ℕ → Option ℕ) (climb start : ℕ) → HasClimbed parent left met climb → IsClimbing parent left met climb start start
-climb-begins parent left met climb start had = record {
-  rest = had.rest;
-  before = λ id number h. let b = had.before id number h in omega arith;
-  leads = λ id number h l. had.leads id number h;
-  high = λ id h. let b = had.before id climb h in absurd (omega arith);
-  onward = λ id above h e. let b = had.before id climb h in absurd (omega arith);
-  all = λ l id h. let b = had.before id climb h in absurd (omega arith);
-  forth = λ l. l;
-  back = λ l. l;
-}
 
 -- what is marked is the id itself, or was there
 marked : (met met2 : ℕ → Option ℕ) (climb next : ℕ) → ((q : ℕ) → met2 q ≡ cond (next == q) (Some climb) (met q)) → (id number : ℕ) → IsMetIn met2 id number → ((id ≡ next) × (number ≡ climb)) ⊎ IsMetIn met id number
@@ -132,16 +119,6 @@ climb-leads parent left met climb start top had l = (
 round : (parent : ℕ → Option ℕ) (left met : ℕ → Option ℕ) (climb start top : ℕ) → IsClimbing parent left met climb start top → IsMetIn met top climb → Leads parent top → ⊥
 round parent left met climb start top had here =
     trapped parent (λ id. IsMetIn met id climb) had.high (λ j k h e. elim (had.onward j k h e) as (λ _. IsMetIn met k climb) [ inl m ↦ m | inr s ↦ subst (λ x. IsMetIn met x climb) (sym s) here ]) top here
-
--- whether the top was met before
-pub top-leads : (parent : ℕ → Option ℕ) (left met : ℕ → Option ℕ) (climb start top : ℕ) → IsClimbing parent left met climb start top → passes (met top) (λ n. nat_lt n climb) ≡ true → Leads parent top
-top-leads parent left met climb start top had earlier =
-    let go : (o : Option ℕ) → met top ≡ o → passes o (λ n. nat_lt n climb) ≡ true → Leads parent top =
-    λ o. elim o as (λ o. met top ≡ o → passes o (λ n. nat_lt n climb) ≡ true → Leads parent top) [
-      | None ↦ λ e f. absurd (let r : ⊥ = cc in r)
-      | Some n ↦ λ e f. had.leads top n e (ltb-true n climb f)
-    ] in
-    go (met top) refl earlier
 
 -- it wasn't, and no parent of it is left
 pub top-lost : (parent : ℕ → Option ℕ) (left met : ℕ → Option ℕ) (climb start top : ℕ) → IsClimbing parent left met climb start top → 16 ≤ top → left top ≡ None

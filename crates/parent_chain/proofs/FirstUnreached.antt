@@ -1,5 +1,5 @@
 -- The first directory from which parents never lead below 16.
-use Rattle.std.proofs.Common.{◌≡◌, ℕ, ◌+◌, ◌<◌, true, List, [], ◌∷◌, ◌++◌, length, take, drop, get_or, Option, ◌⊎◌, inl, inr, refl, ap, sym, ◌∙◌, subst, arith, add-one}
+use Rattle.std.proofs.Common.{◌≡◌, ℕ, ◌+◌, ◌<◌, true, List, [], ◌∷◌, ◌++◌, length, take, drop, get_or, ◌⊎◌, inl, inr, refl, ap, sym, ◌∙◌, subst, add-one}
 use Rattle.std.proofs.lemmas.List.{take_more, take-append-drop}
 use Rattle.std.proofs.Math.Seq.{drop-cons}
 use Rattle.apfs_model.specs.Lists.{In}
@@ -19,14 +19,6 @@ none-climbed facts ways has = record {
   rest = record { right = λ id above h. sym (all-left facts ways has id) ∙ h; gone = λ id h. inl (sym (all-left facts ways has id) ∙ h) };
   before = λ id number h. none-or (met_at ways id) number (none-met facts.inodes ways has id) h;
   leads = λ id number h. none-or (met_at ways id) number (none-met facts.inodes ways has id) h;
-}
-
--- a climb that isn't made
-pub none-climbs : (parent : ℕ → Option ℕ) (left met : ℕ → Option ℕ) (climb : ℕ) → HasClimbed parent left met climb → HasClimbed parent left met (climb + 1)
-none-climbs parent left met climb had = record {
-  rest = had.rest;
-  before = λ id number h. let b = had.before id number h in omega arith;
-  leads = had.leads;
 }
 
 in-push : {X : Type 0} (x y : X) (xs : List X) → In x (xs ++ y ∷ []) → In x xs ⊎ (x ≡ y)

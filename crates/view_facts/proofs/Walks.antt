@@ -43,14 +43,6 @@ says_tells view tree root (Unsupported feature block) other says told = subst (T
 says_tells view tree root ReadFault other says told = subst (Tells (IsRaised view tree root) (HasFeature tree root)) (sym says) tt
 says_tells view tree root NoMemory other says told = subst (Tells (IsRaised view tree root) (HasFeature tree root)) (sym says) tt
 
--- a failed read is one of the walk
-pub says_read : (view : View) (stop : Stop GatherFault) (other : Stop TreeFault) → SaysOfView view stop other → other ≡ ReadFault → stop ≡ ReadFault
-says_read view (Found (gathers.Tree why)) other says e = absurd (cc)
-says_read view (Found (gathers.Refused item)) other says e = absurd says
-says_read view (Unsupported feature block) other says e = absurd (cc)
-says_read view ReadFault other says e = refl
-says_read view NoMemory other says e = absurd (cc)
-
 refusal-alike : (a b : Names) (line : List Item) (refusal : Option Refusal) → are_hashed a ≡ are_hashed b → IsRefusal a line refusal → IsRefusal b line refusal
 refusal-alike a b line None e had = records-alike a b line e had
 refusal-alike a b line (Some r) e had = record-alike a b line r.item r.why e had
