@@ -79,10 +79,12 @@ fn a_file_is_read_far_out(rt: HostRuntime) -> Result<(), Fail> {
     let mut source = FileSource::new(fs::open(&rt, &path)?)?;
     assert_eq!(rt; source.size(), FAR + 4);
     let mut into = [0u8; 4];
-    for (at, want) in [(FAR, b"far!"), (3, b"near"), (FAR - 4, &[0; 4])] {
-        source.read_at(at, &mut into)?;
-        assert_eq!(rt; into, *want);
-    }
+    source.read_at(FAR, &mut into)?;
+    assert_eq!(rt; into, *b"far!");
+    source.read_at(3, &mut into)?;
+    assert_eq!(rt; into, *b"near");
+    source.read_at(FAR - 4, &mut into)?;
+    assert_eq!(rt; into, [0; 4]);
     fs::remove_file(&rt, &path)?;
     Ok(())
 }
