@@ -13,9 +13,9 @@ use Rattle.vol_view.specs.declared.volume.Snapshot.{Snapshot}
 use Rattle.reach_rules.specs.Naming.{ViewAt, Newest, InBlock, Namer, Whole, Naming}
 use Rattle.tree_namings.specs.Joined.{HaveSame}
 use Rattle.tree_namings.specs.Container.{all_views}
-use Rattle.vol_parts.specs.Told.{map_of, live_at, past_at}
-use Rattle.vol_parts.specs.Parts.{volume_namer}
-use Rattle.vol_parts.specs.Laws.{HasParts}
+use Rattle.tree_namings.specs.Volumes.Told.{map_of, live_at, past_at}
+use Rattle.tree_namings.specs.Volumes.Parts.{volume_namer}
+use Rattle.tree_namings.specs.Volumes.Laws.{HasParts}
 use Rattle.view_sweep.specs.declared.wanted.SweptView.{SweptView}
 use Rattle.view_sweep.specs.declared.wanted.Head.{Head}
 use Rattle.view_sweep.specs.Wanted.{AreToldHeads, AreBelowHeads}
