@@ -34,6 +34,17 @@ slot_of volume = volume.head.slot
 abbrev pub slots_of : List Loaded → List ℕ
 slots_of volumes = map slot_of volumes
 
+-- two of some volumes have one slot, and this is the id of one of the two
+pub record HasSlotTwice (volumes : List Loaded) (oid : ℕ) : Type 0 where
+  pub before : List Loaded
+  pub one : Loaded
+  pub after : List Loaded
+  pub other : Loaded
+  pub split : volumes ≡ before ++ one ∷ after
+  pub follows : In other after
+  pub same_slot : other.head.slot ≡ one.head.slot
+  pub id : oid ≡ one.head.oid
+
 -- the volumes of some heads were loaded, in their order; and of each the object of its superblock is known, by the record of the
 -- container's map
 pub record AreVolumes (image : List ℕ) (seen : Seen) (heads : List VolHead) (volumes : List Loaded) (namer : Loaded → Namer) : Type 0 where
