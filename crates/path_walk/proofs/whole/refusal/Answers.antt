@@ -9,6 +9,6 @@ pub returns-in-Some-clause-present : goal.returns-in-Some-clause-present
 returns-in-Some-clause-present g c image told =
     record_there image c.args.site.now c.args.volume.now c.args.view.now c.in-Ok.kept.refusal c.in-Ok.kept.entries.items c.in-Ok.kept.inodes.items c.in-Some.item c.in-Some.why (c.in-Ok.ensures.clear image told) c.in-Some.is
 
-pub returns-in-None-clause-clear : goal.returns-in-None-clause-clear
-returns-in-None-clause-clear g c image told none =
+pub returns-in-Ok-clause-clear : goal.returns-in-Ok-clause-clear
+returns-in-Ok-clause-clear g c image told none =
     subst (λ (r : Option (ℕ × RecFault)). IsRefusal c.args.volume.now.names (view_line image c.args.site.now c.args.volume.now c.args.view.now) r) c.in-None.is (c.in-Ok.ensures.clear image told).refused
