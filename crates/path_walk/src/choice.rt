@@ -44,7 +44,7 @@ pub fn choose_number(
     entries: &[KeptEntry],
 ) -> Result<Option<usize>, NoMemory>
     ensures named { IfOk result (λ number. number ≡ number_named names name.now (whats entries.now)) }
-    ensures inside { IfOk result (λ number. IfSome number (λ n. n < length entries.now)) }
+    ensures numbered { IfOk result (λ number. IfSome number (λ n. n < length entries.now)) }
 {
     match first_same(name, entries) {
         Some(number) => Ok(Some(number)),

@@ -66,7 +66,7 @@ impl Files {
     /// The entries of a directory that are followed and listed.
     #[tactic(auto, unfolding(crate::specs::Found::entries_in))]
     pub fn directory(&self, id: u64) -> &[KeptEntry]
-        ensures each { (facts : Facts) → Remembers facts self.now.entries.items self.now.inodes.items → HasEntries facts result.now }
+        ensures counted { (facts : Facts) → Remembers facts self.now.entries.items self.now.inodes.items → HasEntries facts result.now }
         ensures all { (facts : Facts) → Remembers facts self.now.entries.items self.now.inodes.items → whats result.now ≡ entries_in facts id }
     {
         if is_reserved(id) {

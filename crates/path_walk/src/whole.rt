@@ -74,7 +74,7 @@ pub(crate) fn survey_view<S: BlockSource>(
     ensures clear { (image : List ℕ) → S.bytes src.old ≡ Some image → IfOk result (λ kept. IsSurveyed image site.now volume.now view.now kept.refusal kept.entries.items kept.inodes.items) }
     ensures present { (image : List ℕ) → S.bytes src.old ≡ Some image → IfErr result (IsStopThere image site.now volume.now view.now) }
     ensures unanswered { IfErr result IsNoAnswer }
-    ensures records { (fault : TreeFault) → IsErrOf result (Found (stops.Fault fault)) → IsOfRecords view.now fault }
+    ensures walked { (fault : TreeFault) → IsErrOf result (Found (stops.Fault fault)) → IsOfRecords view.now fault }
     ensures cause { IsErrOf result ReadFault → Rose (S.faults src.old) (S.faults src.new) }
     ensures kept { IsKept S.bytes S.bytes_len S.faults src.old src.new }
 {
@@ -133,7 +133,7 @@ pub fn gather_view<S: BlockSource>(
     ensures clear { (image : List ℕ) → S.bytes src.old ≡ Some image → IfOk result (λ files. Remembers (view_facts image site.now volume.now view.now) files.entries.items files.inodes.items) }
     ensures present { (image : List ℕ) → S.bytes src.old ≡ Some image → IfErr result (IsStopThere image site.now volume.now view.now) }
     ensures unanswered { IfErr result IsNoAnswer }
-    ensures records { (fault : TreeFault) → IsErrOf result (Found (stops.Fault fault)) → IsOfRecords view.now fault }
+    ensures walked { (fault : TreeFault) → IsErrOf result (Found (stops.Fault fault)) → IsOfRecords view.now fault }
     ensures cause { IsErrOf result ReadFault → Rose (S.faults src.old) (S.faults src.new) }
     ensures kept { IsKept S.bytes S.bytes_len S.faults src.old src.new }
 {

@@ -15,7 +15,7 @@ returns-in-Err-clause-exact g c image told lawful =
 
 pub returns-in-Err-clause-told : goal.returns-in-Err-clause-told
 returns-in-Err-clause-told g c image told fault e =
-    records_told c.args.view.now (view_facts image c.args.site.now c.args.volume.now c.args.view.now) c.args.path.now fault (c.in-Err.ensures.records fault e)
+    records_told c.args.view.now (view_facts image c.args.site.now c.args.volume.now c.args.view.now) c.args.path.now fault (c.in-Err.ensures.walked fault e)
 
 pub returns-clause-exact : goal.returns-clause-exact
 returns-clause-exact g c image told lawful =
