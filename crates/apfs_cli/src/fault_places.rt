@@ -6,8 +6,8 @@ ghost use Rattle.apfs_cli.specs.FaultTexts as texts;
 ghost use Rattle.apfs_cli.specs.ReportText as notes;
 
 use crate::fault_words::{record_word, why_word, within_text};
-use crate::shown::push_name;
 use apfs_model::Bytes;
+use fs_name::push_shown;
 use fs_record::{IdAt, NamedAt, RecFault};
 use obj_base::Within;
 use reach_rules::Why;
@@ -147,7 +147,7 @@ fn named(
 {
     let mut text = object(alloc, word, slot, xid, id)?;
     text.extend_from_slice(b" name ")?;
-    push_name(&mut text, name)?;
+    push_shown(&mut text, name)?;
     Ok(text)
 }
 
