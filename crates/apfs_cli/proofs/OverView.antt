@@ -153,9 +153,6 @@ given_stop view wanted text (layer.Unsupported feature block) e = e
 given_stop view wanted text layer.ReadFault e = tt
 given_stop view wanted text layer.NoMemory e = tt
 
-pub given_text : {T U : Type 0} (view : T → U) (wanted : Result U Answer) (text : U → List ℕ) (x : T) → IsGivenBy view wanted (Ok x) → and_then wanted (λ x. Ok (text x)) ≡ Ok (text (view x))
-given_text {T} {U} view wanted text x e = ap (λ (r : Result U Answer). and_then r (λ x. Ok (text x))) e
-
 -- the same answer is wanted
 only_wanted : (wanted : Wanted) (target : AskedTarget) (image : List ℕ) (other answer : Answer) → IsAnswerOn wanted target image other → IsWantedOf wanted target image (Err answer) → other ≡ answer
 only_wanted wanted target image other answer is has =

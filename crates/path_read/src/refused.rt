@@ -13,6 +13,7 @@ use fs_record::RecFault;
 use obj_base::{Site, Stop};
 use path_walk::{PathStop, refusal};
 use std::alloc::Global;
+use view_rules::TreeFault;
 use vol_view::{View, Volume};
 
 /// Why not all records of a view can be read, after one was refused: the whole tree is gone through, for the number of its item.

@@ -90,7 +90,7 @@ fn note_hash(rt: HostRuntime) -> Result<(), Fail> {
         panic!(rt; "the container isn't well-formed");
     };
     assert_eq!(rt; numbers(&report), [1, 1, 1, 14, 8, 58, 198]);
-    assert!(rt; report.notes() == notes.as_slice());
+    assert!(rt; report.notes.as_slice() == notes.as_slice());
     Ok(())
 }
 

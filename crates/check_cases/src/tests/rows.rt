@@ -81,13 +81,13 @@ pub(super) fn told(alloc: Global, image: Vec<u8>, profile: Profile) -> Result<Re
 // The numbers of a report.
 pub(super) fn numbers(report: &Report) -> Numbers {
     [
-        report.xid(),
-        u64::from(report.volumes()),
-        report.views(),
+        report.xid,
+        u64::from(report.volumes),
+        report.views,
         report.objects(),
-        report.records(),
+        report.records,
         report.used(),
-        report.free(),
+        report.free,
     ]
 }
 
@@ -169,7 +169,7 @@ fn is_as_said(answer: &Result<Report, Stop<Fault>>, said: Said) -> bool {
     match answer {
         Ok(report) => match said {
             Said::Clean(want, notes) => {
-                numbers(report) == want && are_notes(report.notes(), notes)
+                numbers(report) == want && are_notes(&report.notes, notes)
             }
             _ => false,
         },
