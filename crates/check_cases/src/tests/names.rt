@@ -98,7 +98,7 @@ fn note_hash(rt: HostRuntime) -> Result<(), Fail> {
             ..SMALL_NUMBERS
         }
     );
-    assert!(rt; report.notes == notes.as_slice());
+    assert!(rt; report.notes.as_slice() == notes.as_slice());
     Ok(())
 }
 
