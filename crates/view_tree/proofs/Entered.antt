@@ -18,7 +18,6 @@ use Rattle.vol_view.specs.declared.volume.View.{View}
 use Rattle.view_rules.specs.Facts.{Facts, is_directory, has_directory}
 use Rattle.view_rules.specs.Rules.{view_facts, IsTreeFault}
 use Rattle.view_rules.specs.declared.fault.TreeFault.{TreeFault}
-use Rattle.view_rules.specs.declared.fault.TreeFault.TheVariants.{DirNames}
 use Rattle.view_rules.proofs.Law.{refutes}
 use Rattle.path_walk.specs.Paths.{slash, is_component}
 use Rattle.path_walk.specs.Places.{Place, root_of, target_of}

@@ -5,6 +5,7 @@ ghost use Rattle.apfs_model.specs.Source.{IsKept};
 ghost use Rattle.obj_base.specs.declared.stop.Stop.TheVariants.{Found, ReadFault};
 ghost use Rattle.obj_base.specs.Site.{IsSiteFor};
 ghost use Rattle.view_rules.specs.Rules.{view_facts};
+ghost use Rattle.view_rules.specs.declared.fault.TreeFault.{TreeFault};
 ghost use Rattle.view_tree.specs.Met.{IsShownTwice};
 ghost use Rattle.view_tree.specs.Tree as spec;
 ghost use Rattle.path_walk.specs.Stops.{IsLawful, IsGiven, IsStopThere};

@@ -1,9 +1,11 @@
-use Rattle.std.proofs.Common.{◌≡◌, ℕ, List, ap, sym, Vec, Global}
+use Rattle.std.proofs.Common.{◌≡◌, ℕ, List, Err, ap, sym, Vec, Global}
+use Rattle.obj_base.specs.declared.stop.Stop.TheVariants.{Found}
 use Rattle.vol_view.specs.Volumes.{Loaded}
 use Rattle.view_rules.specs.Facts.{Facts}
 use Rattle.view_rules.specs.Rules.{view_facts}
 use Rattle.view_tree.specs.Tree.{tree}
 use Rattle.path_walk.specs.declared.target.Target.{Target}
+use Rattle.path_walk.specs.declared.stop.PathStop.TheVariants as stops
 use Rattle.path_walk.proofs.Known.{unanswered_given}
 use Rattle.view_tree.proofs.Told.{records_told}
 use Rattle.view_tree.proofs.Entered.{tree_given, tree_there, tree_told}
@@ -15,7 +17,8 @@ returns-in-Err-clause-exact g c image told lawful =
 
 pub returns-in-Err-clause-told : goal.returns-in-Err-clause-told
 returns-in-Err-clause-told g c image told fault e =
-    records_told c.args.view.now (view_facts image c.args.site.now c.args.volume.now c.args.view.now) c.args.path.now fault (c.in-Err.ensures.walked fault e)
+    let same : c.in-Err.stop ≡ Found (stops.Fault fault) = cc in
+    records_told c.args.view.now (view_facts image c.args.site.now c.args.volume.now c.args.view.now) c.args.path.now fault (c.in-Err.ensures.walked fault (ap Err same))
 
 pub returns-clause-exact : goal.returns-clause-exact
 returns-clause-exact g c image told lawful =

@@ -1,4 +1,4 @@
-use Rattle.std.proofs.Common.{◌≡◌, ◌∙◌, ℕ, List, Some, Result, Ok, map, ap, sym, subst, Bor}
+use Rattle.std.proofs.Common.{◌≡◌, ◌∙◌, ℕ, List, Some, Ok, map, ap, sym, subst, Bor}
 use Rattle.path_walk.specs.Paths.{parts_of}
 use Rattle.path_walk.specs.Places.{Place, root_of}
 use Rattle.path_walk.specs.Found.{found}
