@@ -1,0 +1,10 @@
+pub mod Heads
+pub mod Laid
+pub mod Parts
+pub mod Says
+pub mod Roots
+pub mod Records
+pub mod Superblocks
+pub mod Bitmaps
+pub mod Image
+pub mod Fresh

@@ -1,0 +1,17 @@
+pub mod Leaves
+pub mod Counted
+pub mod Tiles
+pub mod Sites
+pub mod Roots
+pub mod Newest
+pub mod Features
+pub mod Rows
+pub mod Named
+pub mod Owned
+pub mod Bits
+pub mod Space
+pub mod Maps
+pub mod Trees
+pub mod Volumes
+pub mod Files
+pub mod Law

@@ -1,0 +1,6 @@
+pub mod Names
+pub mod Valid
+pub mod Tables
+pub mod Nodes
+pub mod Blocks
+pub mod Fresh
