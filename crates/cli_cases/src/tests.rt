@@ -136,7 +136,7 @@ fn reports_end_as_said(rt: HostRuntime) -> Result<(), Fail> {
 fn a_check_of_nine_views_takes_few_reads(rt: HostRuntime) -> Result<(), Fail> {
     let ended = end(rt.alloc(), NINE_VIEWS, CHECK, NOTHING)?;
     assert!(rt;
-        ended.status == 0 && ended.reads <= 300,
+        ended.status == 0 && ended.reads <= 100,
         "{} reads",
         ended.reads
     );

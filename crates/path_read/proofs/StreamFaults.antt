@@ -34,6 +34,8 @@ use Rattle.view_rules.specs.Words.{IsClear, IsBroken}
 use Rattle.view_rules.specs.Facts.{Facts, facts_in, id_of_fact}
 use Rattle.view_rules.specs.Extents.{is_disordered, is_misplaced, IsExtentOrder, IsExtentPlace}
 use Rattle.view_rules.specs.Rules.{view_facts, refusal_of, HasRecords, raised}
+use Rattle.view_rules.specs.declared.fault.TreeFault.TheVariants.{ExtentOrder, ExtentPlace}
+use Rattle.view_rules.specs.declared.fault.TreeFault.TheVariants.{ExtentOrder, ExtentPlace}
 use Rattle.path_walk.specs.Stops.{IsPathFault, IsStopThere, IsNoAnswer}
 use Rattle.path_read.specs.Parts.{HasRefused as HasAttributeRefused}
 use Rattle.path_read.specs.Streamed.{id_at, stream_raised}

@@ -1,5 +1,5 @@
 // Names that aren't ASCII, and their hashes.
-use crate::tests::rows::{BOTH, Numbers, SMALL_NUMBERS, Said, assert_row, numbers, told};
+use crate::tests::rows::{BOTH, Numbers, SMALL_NUMBERS, Said, assert_row, numbers_of, told};
 use apfs_check::Fault;
 use apfs_layout::key::LEN_AND_HASH;
 use blk_source::Bytes;
@@ -90,7 +90,7 @@ fn note_hash(rt: HostRuntime) -> Result<(), Fail> {
         panic!(rt; "the container isn't well-formed");
     };
     assert_eq!(rt;
-        numbers(&report),
+        numbers_of(&report),
         Numbers {
             records: 8,
             used: 58,

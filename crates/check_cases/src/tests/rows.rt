@@ -100,7 +100,7 @@ pub(super) fn told(alloc: Global, image: Vec<u8>, profile: Profile) -> Result<Re
 }
 
 // The numbers of a report.
-pub(super) fn numbers(report: &Report) -> Numbers {
+pub(super) fn numbers_of(report: &Report) -> Numbers {
     Numbers {
         xid: report.xid,
         volumes: u64::from(report.volumes),
@@ -190,7 +190,7 @@ fn is_as_said(answer: &Result<Report, Stop<Fault>>, said: Said) -> bool {
     match answer {
         Ok(report) => match said {
             Said::Clean(want, notes) => {
-                numbers(report) == want && are_notes(&report.notes, notes)
+                numbers_of(report) == want && are_notes(&report.notes, notes)
             }
             _ => false,
         },
