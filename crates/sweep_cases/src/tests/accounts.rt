@@ -164,7 +164,7 @@ fn plain(alloc: Global, which: Sample) -> Result<Vec<u8>, Fail> {
 }
 
 #[test]
-fn numbers(rt: HostRuntime) -> Result<(), Fail> {
+fn numbers_of_samples(rt: HostRuntime) -> Result<(), Fail> {
     let alloc = rt.alloc();
     for (which, objects, owned) in [
         (Sample::S, 14, 57),
