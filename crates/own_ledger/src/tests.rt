@@ -2,11 +2,12 @@
 ghost use Rattle.std.specs.Prelude.{◌≡◌, IfOk};
 
 use super::*;
-use std::alloc::{AllocError, Global};
+use apfs_model::NoMemory;
+use std::alloc::Global;
 use std::test::Fail;
 
 // A ledger of the blocks from 0 to 99, of which it holds those from 10 to 19.
-fn ten_of_a_hundred(alloc: Global) -> Result<Ledger, AllocError>
+fn ten_of_a_hundred(alloc: Global) -> Result<Ledger, NoMemory>
     ensures { IfOk result (λ ledger. (ledger.first ≡ 0) × (ledger.blocks ≡ 100)) }
 {
     let mut ledger = Ledger::new(alloc, 0, 100)?;

@@ -65,7 +65,7 @@ struct Counted {
     extents: usize,
 }
 
-fn counted(found: &ViewFacts) -> Counted {
+fn counts_of(found: &ViewFacts) -> Counted {
     let facts = &found.facts;
     Counted {
         records: found.records,
@@ -149,7 +149,7 @@ fn each_kind_of_record_is_counted(rt: HostRuntime) -> Result<(), Fail> {
         let Ok(found) = facts_of(alloc, &sample(alloc, which)?)? else {
             panic!(rt; "{which:?}: there are no facts");
         };
-        assert_eq!(rt; counted(&found), wanted, "{which:?}");
+        assert_eq!(rt; counts_of(&found), wanted, "{which:?}");
     }
     Ok(())
 }
