@@ -8,5 +8,5 @@ use Rattle.apfs_cli.proofs.program.end.Goals as goal
 
 pub returns-clause-answer : goal.returns-clause-answer
 returns-clause-answer g c =
-    came_to g.S.BlockSource.bytes g.S.BlockSource.faults (command_of (map string_bytes c.args.words.now)) c.args.image.now c.decide.new.image c.decide.result c.close.result
-    (sunk g.W.Sink.contents g.W.Sink.faults c.args.out.now c.decide.new.out) (sunk g.E.Sink.contents g.E.Sink.faults c.args.err.now c.close.new.err) c.decide.ensures.answer c.close.ensures
+    came_to g.S.BlockSource.bytes g.S.BlockSource.faults (command_of (map string_bytes c.args.words.now)) c.args.image.now c.decide-ended.new.image c.decide-ended.result c.close.result
+    (sunk g.W.Sink.contents g.W.Sink.faults c.args.out.now c.decide-ended.new.out) (sunk g.E.Sink.contents g.E.Sink.faults c.args.err.now c.close.new.err) c.decide-ended.ensures.answer c.close.ensures

@@ -8,5 +8,5 @@ use Rattle.apfs_cli.proofs.program.end_check.Goals as goal
 
 pub returns-clause-answer : goal.returns-clause-answer
 returns-clause-answer g c =
-    came_to g.S.BlockSource.bytes g.S.BlockSource.faults (Some (Check c.args.profile)) (Image c.args.src.now) (Image c.write.new.src) c.write.result c.close.result
-    (sunk g.W.Sink.contents g.W.Sink.faults c.args.out.now c.write.new.out) (sunk g.E.Sink.contents g.E.Sink.faults c.args.err.now c.close.new.err) c.write.ensures.answer c.close.ensures
+    came_to g.S.BlockSource.bytes g.S.BlockSource.faults (Some (Check c.args.profile)) (Image c.args.src.now) (Image c.write-ended.new.src) c.write-ended.result c.close.result
+    (sunk g.W.Sink.contents g.W.Sink.faults c.args.out.now c.write-ended.new.out) (sunk g.E.Sink.contents g.E.Sink.faults c.args.err.now c.close.new.err) c.write-ended.ensures.answer c.close.ensures
