@@ -1,0 +1,68 @@
+-- Fields that are laid out one by one.
+use Rattle.std.proofs.Common.{arith, ◌≡◌, ℕ, ◌+◌, ◌-◌, ◌<◌, ◌≤◌, true, ◌&&◌, nat_le, List, [], ◌∷◌, ◌++◌, length, drop, refl, ap, sym, subst, ◌∙◌, append_assoc}
+use Rattle.std.specs.Prelude.{get_or, replicate}
+use Rattle.std.proofs.lemmas.List.{length-append, length-replicate, drop_more, drop_all}
+use Rattle.apfs_model.proofs.BoolTests.{left-true, right-true, upto-from}
+use Rattle.img_format.specs.Tables.{Field, laid, is_laid}
+use Rattle.img_format.specs.Steps.{value_bytes, field_of, fields_of}
+use Rattle.img_format.specs.declared.field.Value.{Value}
+use Rattle.img_format.specs.declared.field.Value.TheVariants.{U16}
+
+-- what a block has once one more field stands in it
+abbrev pub with_field : List ℕ → Field → List ℕ
+with_field items field = (items ++ replicate (field.0 - length items) 0) ++ field.1
+
+pub with-field-long : (items : List ℕ) (end : ℕ) (field : Field) (fields : List Field) → is_laid end (length items) (field ∷ fields) ≡ true → length (with_field items field) ≡ field.0 + length field.1
+with-field-long items end field fields e =
+    let low = upto-from (length items) field.0 (left-true (nat_le (length items) field.0) (is_laid end (field.0 + length field.1) fields) e) in
+    let zeros : List ℕ = replicate (field.0 - length items) 0 in
+    let z : length zeros ≡ field.0 - length items = length-replicate (field.0 - length items) 0 in
+    let a : length (items ++ zeros) ≡ length items + length zeros = length-append items zeros in
+    let b : length ((items ++ zeros) ++ field.1) ≡ length (items ++ zeros) + length field.1 = length-append (items ++ zeros) field.1 in
+    omega (arith, low, z, a, b)
+
+-- the rest is laid out after it as before
+pub laid-more : (items : List ℕ) (end : ℕ) (field : Field) (fields : List Field) → is_laid end (length items) (field ∷ fields) ≡ true →
+    with_field items field ++ laid end (length (with_field items field)) fields ≡ items ++ laid end (length items) (field ∷ fields)
+unfolding laid
+laid-more items end field fields e =
+    let zeros : List ℕ = replicate (field.0 - length items) 0 in
+    let rest : List ℕ = laid end (field.0 + length field.1) fields in
+    ap (λ at. with_field items field ++ laid end at fields) (with-field-long items end field fields e)
+    ∙ append_assoc (items ++ zeros) field.1 rest
+    ∙ append_assoc items zeros (field.1 ++ rest)
+
+pub more-laid : (items : List ℕ) (end : ℕ) (field : Field) (fields : List Field) → is_laid end (length items) (field ∷ fields) ≡ true → is_laid end (length (with_field items field)) fields ≡ true
+more-laid items end field fields e =
+    ap (λ at. is_laid end at fields) (with-field-long items end field fields e) ∙ right-true (nat_le (length items) field.0) (is_laid end (field.0 + length field.1) fields) e
+
+-- where the next field begins, and the end
+pub next-begins : (items : List ℕ) (end : ℕ) (field : Field) (fields : List Field) → is_laid end (length items) (field ∷ fields) ≡ true → length items ≤ field.0
+next-begins items end field fields e = upto-from (length items) field.0 (left-true (nat_le (length items) field.0) (is_laid end (field.0 + length field.1) fields) e)
+
+-- ---- the steps of the loop
+-- what is laid out so far, and what follows, is the same after one more field
+pub record IsStep (end : ℕ) (old new : List ℕ) (before after : List Field) : Type 0 where
+  pub same : new ++ laid end (length new) after ≡ old ++ laid end (length old) before
+  pub room : is_laid end (length new) after ≡ true
+
+field-step : (end : ℕ) (old : List ℕ) (field : Field) (fields : List Field) → is_laid end (length old) (field ∷ fields) ≡ true → IsStep end old (with_field old field) (field ∷ fields) fields
+field-step end old field fields e = record { same = laid-more old end field fields e; room = more-laid old end field fields e }
+
+pub step : (end : ℕ) (fields : List (ℕ × Value)) (i len : ℕ) (old mid new : List ℕ) → i < length fields → len ≡ length old → is_laid end (length old) (fields_of (drop i fields)) ≡ true →
+    mid ≡ old ++ replicate ((get_or fields i (0, U16 0)).0 - len) 0 → new ≡ mid ++ value_bytes (get_or fields i (0, U16 0)).1 →
+    IsStep end old new (fields_of (drop i fields)) (fields_of (drop (i + 1) fields))
+step end fields i len old mid new h l e m n =
+    let field : ℕ × Value = get_or fields i (0, U16 0) in
+    let rest : List Field = fields_of (drop (i + 1) fields) in
+    let split : fields_of (drop i fields) ≡ field_of field ∷ rest = ap fields_of (drop_more fields i (0, U16 0) h) in
+    let is : new ≡ with_field old (field_of field) = n ∙ ap (λ (bs : List ℕ). bs ++ value_bytes field.1) (m ∙ ap (λ k. old ++ replicate (field.0 - k) 0) l) in
+    let room : is_laid end (length old) (field_of field ∷ rest) ≡ true = subst (λ (fs : List Field). is_laid end (length old) fs ≡ true) split e in
+    subst (λ (bs : List ℕ). IsStep end old bs (fields_of (drop i fields)) rest) (sym is)
+    (subst (λ (fs : List Field). IsStep end old (with_field old (field_of field)) fs rest) (sym split) (field-step end old (field_of field) rest room))
+
+-- after the last field zeros follow
+pub last-step : (end : ℕ) (fields : List (ℕ × Value)) (i len : ℕ) (old new : List ℕ) → length fields ≤ i → len ≡ length old → new ≡ old ++ replicate (end - len) 0 → new ≡ old ++ laid end (length old) (fields_of (drop i fields))
+unfolding laid
+last-step end fields i len old new h l n =
+    n ∙ ap (λ k. old ++ replicate (end - k) 0) l ∙ ap (λ (fs : List (ℕ × Value)). old ++ laid end (length old) (fields_of fs)) (sym (drop_all i fields h))
