@@ -1,5 +1,5 @@
 -- What the blocks of a new container say.
-use Rattle.std.proofs.Common.{arith, ◌≡◌, ℕ, zero, suc, ◌+◌, ◌*◌, ◌<◌, true, false, ◌==◌, List, [], ◌∷◌, length, Err, refl, ap, sym, ◌∙◌, subst}
+use Rattle.std.proofs.Common.{arith, ◌≡◌, ℕ, zero, suc, ◌+◌, ◌*◌, ◌<◌, true, false, ◌==◌, List, [], ◌∷◌, length, Err, refl, sym, subst}
 use Rattle.std.specs.Prelude.{replicate}
 use Rattle.apfs_model.specs.Bytes.{u32_at}
 use Rattle.bt_keys.specs.Shapes.{omap_shape, queue_shape, ext_shape, snap_shape, fs_shape}
@@ -12,7 +12,7 @@ use Rattle.img_format.specs.Tables.{size}
 use Rattle.img_format.specs.Blocks.{checkpoint_map, map_entry, file_entries}
 use Rattle.img_format.specs.Fresh.{block, fresh}
 use Rattle.fresh_blocks.specs.Site.{block_at}
-use Rattle.fresh_blocks.specs.Facts.{HasHeader, IsRootLeaf, IsSuper, IsMap, IsManager, IsReaper, IsObjectMap, IsInfo, IsVolume, HasBits, IsFresh}
+use Rattle.fresh_blocks.specs.Facts.{HasHeader, IsRootLeaf, IsSuper, IsMap, IsManager, IsReaper, IsObjectMap, IsInfo, IsVolume, HasBits}
 use Rattle.fresh_blocks.specs.Says.{FreshSays}
 use Rattle.fresh_blocks.proofs.Says.{reaper-says, container_map-says, volume_map-says, manager-says, chunk_info-says}
 use Rattle.fresh_blocks.proofs.Roots.{pool_queue-says, pool_queue-head, main_queue-says, main_queue-head, extents-says, snapshots-says}

@@ -1,10 +1,10 @@
 -- The roots that have records: those of the two object maps' trees, and that of the volume's files.
-use Rattle.std.proofs.Common.{arith, ◌≡◌, ℕ, ◌+◌, ◌-◌, ◌*◌, ◌<◌, ◌≤◌, ◌^◌, Bool, true, false, ◌==◌, ◌&&◌, nat_le, List, [], ◌∷◌, ◌++◌, length, map, Option, Some, Result, Ok, refl, ap, sym, ◌∙◌}
+use Rattle.std.proofs.Common.{arith, ◌≡◌, ℕ, ◌+◌, ◌-◌, ◌*◌, ◌≤◌, true, false, ◌==◌, nat_le, List, [], ◌∷◌, length, map, Option, Some, Ok, refl, ap, ◌∙◌}
 use Rattle.std.specs.Prelude.{codes}
 use Rattle.std.specs.List.{range_with_len}
-use Rattle.apfs_model.specs.Bytes.{number_at, u16_at, u32_at, u64_at, has_flag, part_at}
+use Rattle.apfs_model.specs.Bytes.{number_at, u16_at, u32_at, u64_at, part_at}
 use Rattle.bt_node.specs.Shape.{Shape}
-use Rattle.bt_node.specs.Node.{flags_of, level_of, count_of, keys_begin, end_of, table_begin}
+use Rattle.bt_node.specs.Node.{count_of}
 use Rattle.bt_node.specs.Entries.{Pair, pairs_of, place_of, fixed_place, variable_place, key_in, value_in}
 use Rattle.bt_node.specs.Entries as entries
 use Rattle.bt_node.specs.Soundness.{after_head, has_right_flags, is_empty, is_bounded, is_table_inside, is_key_inside, is_value_inside, has_value, has_values, has_keys}
@@ -12,14 +12,14 @@ use Rattle.bt_cursor.specs.Tree.{root_place}
 use Rattle.bt_keys.specs.RecordKey.{is_fs_key, record_kind_of, len_and_hash_of, id_of, sub_of, second_of}
 use Rattle.bt_keys.specs.Shapes.{omap_shape, fs_shape}
 use Rattle.img_format.specs.declared.spec.Spec.{Spec}
-use Rattle.img_format.specs.Tables.{size, Field, num, laid, is_laid, object}
+use Rattle.img_format.specs.Tables.{size, Field, num, laid, object}
 use Rattle.img_format.specs.Nodes.{Entry, root_fields, root}
 use Rattle.img_format.specs.Blocks.{map_entry, map_tree, dir_entry, directory, private_hash, root_hash, file_entries, files}
 use Rattle.fresh_blocks.specs.Site.{site}
 use Rattle.fresh_blocks.specs.Facts.{HasHeader, pair_of, IsRootLeaf}
 use Rattle.fresh_blocks.proofs.Laid.{byte_in, number_from, all_fields, object-number, object-length}
 use Rattle.fresh_blocks.proofs.Parts.{bytes_from, object-part}
-use Rattle.fresh_blocks.proofs.Roots.{HasFields, Tells, told-fields, begins, keys-begin, ends, root-node}
+use Rattle.fresh_blocks.proofs.Roots.{HasFields, told-fields, begins, keys-begin, ends, root-node}
 use Rattle.fresh_blocks.proofs.Says.{object-head}
 
 -- an entry lies inside its root, has a value, and its key and its value are these
@@ -81,7 +81,7 @@ container_tree-says spec =
     let f : HasFields true 1 bytes = told-fields 26 0x40000002 0xb 1 true fields refl (record { flagged = refl; level = refl; counted = refl; offset = refl; table = refl; sized = refl; keys = refl; nodes = refl }) in
     one-leaf spec 26 bytes (map_entry 1026 51) (object-head 26 0x40000002 0xb fields refl refl refl refl refl) f
     (fixed-at bytes (map_entry 1026 51) f (object-length 26 0x40000002 0xb fields refl) (object-number 2 26 0x40000002 0xb 56 fields refl (omega arith) (omega arith)) (object-number 2 26 0x40000002 0xb 58 fields refl (omega arith) (omega arith))
-      (object-part 16 26 0x40000002 0xb 60 fields refl (omega arith) (omega arith)) (object-part 16 26 0x40000002 0xb 4040 fields refl (omega arith) (omega arith)))
+    (object-part 16 26 0x40000002 0xb 60 fields refl (omega arith) (omega arith)) (object-part 16 26 0x40000002 0xb 4040 fields refl (omega arith) (omega arith)))
     refl
 
 pub volume_tree-says : (spec : Spec) → IsRootLeaf omap_shape spec 53 (map_entry 1028 54 ∷ []) (map_tree 53 1028 54)
@@ -92,7 +92,7 @@ volume_tree-says spec =
     let f : HasFields true 1 bytes = told-fields 53 0x40000002 0xb 1 true fields refl (record { flagged = refl; level = refl; counted = refl; offset = refl; table = refl; sized = refl; keys = refl; nodes = refl }) in
     one-leaf spec 53 bytes (map_entry 1028 54) (object-head 53 0x40000002 0xb fields refl refl refl refl refl) f
     (fixed-at bytes (map_entry 1028 54) f (object-length 53 0x40000002 0xb fields refl) (object-number 2 53 0x40000002 0xb 56 fields refl (omega arith) (omega arith)) (object-number 2 53 0x40000002 0xb 58 fields refl (omega arith) (omega arith))
-      (object-part 16 53 0x40000002 0xb 60 fields refl (omega arith) (omega arith)) (object-part 16 53 0x40000002 0xb 4040 fields refl (omega arith) (omega arith)))
+    (object-part 16 53 0x40000002 0xb 60 fields refl (omega arith) (omega arith)) (object-part 16 53 0x40000002 0xb 4040 fields refl (omega arith) (omega arith)))
     refl
 
 -- ---- the root of the volume's files
@@ -137,8 +137,31 @@ four-pairs bytes counted a =
 four-after : (spec : Spec) (bytes : List ℕ) → HasFields false 4 bytes → length bytes ≡ size → HasFour bytes → after_head fs_shape (root_place 1028) (site spec) bytes ≡ Ok bytes
 unfolding after_head has_right_flags is_empty is_bounded is_table_inside has_values has_keys
 four-after spec bytes f long a =
-    rw (f.counted, a.first.key_inside, a.second.key_inside, a.third.key_inside, a.fourth.key_inside, a.first.value_inside, a.second.value_inside, a.third.value_inside, a.fourth.value_inside,
-    a.first.valued, a.second.valued, a.third.valued, a.fourth.valued, a.first.key, a.second.key, a.third.key, a.fourth.key, keys-begin false 4 bytes f, ends false 4 bytes f long, f.flagged, f.level, f.table, f.sized)
+    rw (
+      f.counted,
+      a.first.key_inside,
+      a.second.key_inside,
+      a.third.key_inside,
+      a.fourth.key_inside,
+      a.first.value_inside,
+      a.second.value_inside,
+      a.third.value_inside,
+      a.fourth.value_inside,
+      a.first.valued,
+      a.second.valued,
+      a.third.valued,
+      a.fourth.valued,
+      a.first.key,
+      a.second.key,
+      a.third.key,
+      a.fourth.key,
+      keys-begin false 4 bytes f,
+      ends false 4 bytes f long,
+      f.flagged,
+      f.level,
+      f.table,
+      f.sized,
+    )
     (unfold is_fs_key record_kind_of len_and_hash_of id_of sub_of second_of u16_at u32_at u64_at num in refl)
 
 pub files-says : (spec : Spec) → IsRootLeaf fs_shape spec 1028 file_entries files

@@ -1,12 +1,12 @@
 -- Roots that are leaves are sound, and have the entries that they were made of.
-use Rattle.std.proofs.Common.{arith, ◌≡◌, ℕ, zero, suc, ◌+◌, ◌-◌, ◌*◌, ◌<◌, ◌≤◌, ◌^◌, Bool, true, false, ◌==◌, ◌&&◌, List, [], ◌∷◌, ◌++◌, length, map, Option, Some, Result, Ok, Err, is_ok, refl, ap, sym, ◌∙◌, subst}
+use Rattle.std.proofs.Common.{arith, ◌≡◌, ℕ, ◌+◌, ◌-◌, ◌*◌, Bool, true, false, ◌==◌, ◌&&◌, List, [], length, map, Result, Ok, Err, is_ok, refl, ap, ◌∙◌}
 use Rattle.std.proofs.lemmas.Grind.{common_steps}
 use Rattle.std.specs.Prelude.{not}
 use Rattle.std.specs.List.{range_with_len, list_all}
 use Rattle.apfs_model.proofs.BoolTests.{right-or}
-use Rattle.apfs_model.specs.Bytes.{number_at, u16_at, u32_at, u64_at, has_flag, part_at}
+use Rattle.apfs_model.specs.Bytes.{number_at, u16_at, u32_at, u64_at, has_flag}
 use Rattle.apfs_model.specs.Object.{kind_in, flags_in, encrypted_flag, no_header_flag, root_kind}
-use Rattle.obj_base.specs.Sound.{sound_of, agrees, IsSound}
+use Rattle.obj_base.specs.Sound.{sound_of}
 use Rattle.obj_base.specs.declared.header.Header.{Header}
 use Rattle.obj_base.specs.declared.header.HeadFault.{HeadFault}
 use Rattle.obj_base.specs.declared.stop.Bad.{Bad}

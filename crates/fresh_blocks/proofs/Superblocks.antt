@@ -1,5 +1,5 @@
 -- What the superblock of the container, the checkpoint map and the superblock of the volume say.
-use Rattle.std.proofs.Common.{arith, ◌≡◌, ℕ, zero, suc, ◌+◌, ◌-◌, ◌*◌, ◌<◌, ◌≤◌, ◌^◌, Bool, true, false, ◌==◌, ◌||◌, nat_le, List, [], ◌∷◌, ◌++◌, length, take, drop, inl, inr, refl, ap, sym, ◌∙◌, subst}
+use Rattle.std.proofs.Common.{arith, ◌≡◌, ℕ, suc, ◌+◌, ◌-◌, ◌*◌, ◌<◌, ◌≤◌, Bool, true, false, ◌==◌, ◌||◌, List, [], ◌∷◌, ◌++◌, length, take, drop, inl, inr, refl, ap, sym, ◌∙◌, subst}
 use Rattle.std.specs.Prelude.{get_or, replicate, slice_index}
 use Rattle.std.specs.List.{position_or_len, before_first}
 use Rattle.std.proofs.lemmas.Bool.{cases_lt}
@@ -13,10 +13,10 @@ use Rattle.nx_ring.specs.declared.mappings.Mapping.{Mapping}
 use Rattle.vol_view.specs.Fields as volumes
 use Rattle.img_format.specs.declared.spec.Spec.{Spec}
 use Rattle.img_format.specs.Valid.{IsValid}
-use Rattle.img_format.specs.Tables.{size, Field, num, laid, is_laid, object}
+use Rattle.img_format.specs.Tables.{size, Field, num, is_laid, object}
 use Rattle.img_format.specs.Blocks.{super, checkpoint_map, volume}
 use Rattle.img_format.specs.Blocks as blocks
-use Rattle.fresh_blocks.specs.Facts.{HasHeader, IsSuper, mapping, IsMap, IsVolume}
+use Rattle.fresh_blocks.specs.Facts.{IsSuper, IsMap, IsVolume}
 use Rattle.fresh_blocks.proofs.Laid.{byte_in, number_from, all_fields, object-byte, object-number, object-length, byte-here, byte-after, byte-past, byte-skip, number-zero}
 use Rattle.fresh_blocks.proofs.Parts.{bytes_from, object-part, told-bytes}
 use Rattle.fresh_blocks.proofs.Says.{object-head, reads}
@@ -174,16 +174,16 @@ name-part uuid name u short e =
     let right : length (name ++ zeros) ≡ 256 = length-append name zeros ∙ omega (arith, short, z) in
     same_lists (take 256 (drop 704 bytes)) (name ++ zeros) (left ∙ sym right)
     (λ k d h.
-        let low : k < 256 = omega (arith, h, left) in
-        let here : get_or (take 256 (drop 704 bytes)) k 0 ≡ byte_in ((704, name) ∷ []) (704 + k) =
-        get_or-take 256 (drop 704 bytes) k 0 low
-        ∙ get_or-drop 704 bytes k 0
-        ∙ object-byte 1026 0xd 0 (704 + k) (volume_fields uuid name) e (omega arith) (omega (arith, low))
-        ∙ name-byte uuid name (704 + k) u (omega arith) in
-        let there : byte_in ((704, name) ∷ []) (704 + k) ≡ get_or (name ++ zeros) k 0 = named name (256 - length name) k (omega (arith, low)) in
-        get_or_default (take 256 (drop 704 bytes)) k d 0 h
-        ∙ (here ∙ there)
-        ∙ sym (get_or_default (name ++ zeros) k d 0 (omega (arith, right, low))))
+    let low : k < 256 = omega (arith, h, left) in
+    let here : get_or (take 256 (drop 704 bytes)) k 0 ≡ byte_in ((704, name) ∷ []) (704 + k) =
+    get_or-take 256 (drop 704 bytes) k 0 low
+    ∙ get_or-drop 704 bytes k 0
+    ∙ object-byte 1026 0xd 0 (704 + k) (volume_fields uuid name) e (omega arith) (omega (arith, low))
+    ∙ name-byte uuid name (704 + k) u (omega arith) in
+    let there : byte_in ((704, name) ∷ []) (704 + k) ≡ get_or (name ++ zeros) k 0 = named name (256 - length name) k (omega (arith, low)) in
+    get_or_default (take 256 (drop 704 bytes)) k d 0 h
+    ∙ (here ∙ there)
+    ∙ sym (get_or_default (name ++ zeros) k d 0 (omega (arith, right, low))))
   where
     named : (name : List ℕ) (n k : ℕ) → k < length name + n → byte_in ((704, name) ∷ []) (704 + k) ≡ get_or (name ++ replicate n 0) k 0
     named name n k h =

@@ -7,5 +7,4 @@ ghost use Rattle.fresh_blocks.specs.Says.{FreshSays};
 /// right. It does nothing.
 pub fn blocks_say()
     ensures { FreshSays }
-{
-}
+{}

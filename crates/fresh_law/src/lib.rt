@@ -7,5 +7,4 @@ ghost use Rattle.fresh_law.specs.Law.{FreshHolds};
 /// identifier that were given, no snapshots, and nothing in its root. It does nothing.
 pub fn new_container_holds()
     ensures { FreshHolds }
-{
-}
+{}
