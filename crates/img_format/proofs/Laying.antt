@@ -3,8 +3,9 @@ use Rattle.std.proofs.Common.{arith, ◌≡◌, ℕ, ◌+◌, ◌-◌, ◌<◌, 
 use Rattle.std.specs.Prelude.{get_or, replicate}
 use Rattle.std.proofs.lemmas.List.{length-append, length-replicate, drop_more, drop_all}
 use Rattle.apfs_model.proofs.BoolTests.{left-true, right-true, upto-from}
-use Rattle.img_format.specs.Tables.{Field, laid, is_laid}
-use Rattle.img_format.specs.Steps.{value_bytes, field_of, fields_of}
+use Rattle.img_format.specs.Tables.{Field, num, laid, is_laid}
+use Rattle.img_format.specs.Steps.{value_bytes, field_of, fields_of, header_bytes}
+use Rattle.img_format.specs.declared.object.Head.{Head}
 use Rattle.img_format.specs.declared.field.Value.{Value}
 use Rattle.img_format.specs.declared.field.Value.TheVariants.{U16}
 
@@ -66,3 +67,23 @@ pub last-step : (end : ℕ) (fields : List (ℕ × Value)) (i len : ℕ) (old ne
 unfolding laid
 last-step end fields i len old new h l n =
     n ∙ ap (λ k. old ++ replicate (end - k) 0) l ∙ ap (λ (fs : List (ℕ × Value)). old ++ laid end (length old) (fields_of fs)) (sym (drop_all i fields h))
+
+-- ---- headers
+-- the bytes of a header, with its sum before them, take 32 bytes
+pub head-long : (head : Head) → length (replicate {A = ℕ} 8 0 ++ header_bytes head) ≡ 32
+unfolding num
+head-long head = refl
+
+-- after a header in an empty block there is room for what has room from byte 32 on
+pub after-head : (old items : List ℕ) (head : Head) → old ≡ [] → items ≡ old ++ (replicate 8 0 ++ header_bytes head) → items ≡ replicate 8 0 ++ header_bytes head
+after-head old items head e i = i ∙ ap (λ (bs : List ℕ). bs ++ (replicate 8 0 ++ header_bytes head)) e
+
+pub head-room : (items : List ℕ) (head : Head) (fields : List Field) → items ≡ replicate 8 0 ++ header_bytes head → is_laid 4096 32 fields ≡ true → is_laid 4096 (length items) fields ≡ true
+head-room items head fields i e = ap (λ n. is_laid 4096 n fields) (ap length i ∙ head-long head) ∙ e
+
+pub head-laid : (items new : List ℕ) (head : Head) (fields : List Field) → items ≡ replicate 8 0 ++ header_bytes head → new ≡ items ++ laid 4096 (length items) fields → new ≡ replicate 8 0 ++ (header_bytes head ++ laid 4096 32 fields)
+head-laid items new head fields i n =
+    n
+    ∙ ap (λ (bs : List ℕ). bs ++ laid 4096 (length bs) fields) i
+    ∙ ap (λ k. (replicate 8 0 ++ header_bytes head) ++ laid 4096 k fields) (head-long head)
+    ∙ append_assoc (replicate 8 0) (header_bytes head) (laid 4096 32 fields)
