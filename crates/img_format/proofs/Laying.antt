@@ -1,9 +1,11 @@
 -- Fields that are laid out one by one.
-use Rattle.std.proofs.Common.{arith, ◌≡◌, ℕ, ◌+◌, ◌-◌, ◌<◌, ◌≤◌, true, ◌&&◌, nat_le, List, [], ◌∷◌, ◌++◌, length, drop, refl, ap, sym, subst, ◌∙◌, append_assoc}
-use Rattle.std.specs.Prelude.{get_or, replicate}
+use Rattle.std.proofs.Common.{arith, ◌≡◌, ℕ, ◌+◌, ◌-◌, ◌<◌, ◌≤◌, true, ◌&&◌, nat_le, List, [], ◌∷◌, ◌++◌, length, drop, refl, ap, sym, subst, ◌∙◌, append_assoc, Result, Ok, Err, if◌then◌else◌}
+use Rattle.std.specs.Result.{is_ok, OnOk}
+use Rattle.std.specs.Prelude.{bit_or, get_or, replicate}
 use Rattle.std.proofs.lemmas.List.{length-append, length-replicate, drop_more, drop_all}
 use Rattle.apfs_model.proofs.BoolTests.{left-true, right-true, upto-from}
-use Rattle.img_format.specs.Tables.{Field, num, laid, is_laid}
+use Rattle.apfs_model.specs.Sum.{sum_of}
+use Rattle.img_format.specs.Tables.{size, Field, num, laid, is_laid, sealed, header, object, plain}
 use Rattle.img_format.specs.Steps.{value_bytes, field_of, fields_of, header_bytes}
 use Rattle.img_format.specs.declared.object.Head.{Head}
 use Rattle.img_format.specs.declared.field.Value.{Value}
@@ -87,3 +89,59 @@ head-laid items new head fields i n =
     ∙ ap (λ (bs : List ℕ). bs ++ laid 4096 (length bs) fields) i
     ∙ ap (λ k. (replicate 8 0 ++ header_bytes head) ++ laid 4096 k fields) (head-long head)
     ∙ append_assoc (replicate 8 0) (header_bytes head) (laid 4096 32 fields)
+
+-- ---- lengths
+pub laid-end : (fs : List Field) (end at : ℕ) → is_laid end at fs ≡ true → at ≤ end
+laid-end [] end at e = upto-from at end e
+laid-end (f ∷ fs) end at e =
+    let a = upto-from at f.0 (left-true (nat_le at f.0) _ e) in
+    let b = laid-end fs end (f.0 + length f.1) (right-true (nat_le at f.0) _ e) in
+    omega arith
+
+pub laid-length : (fs : List Field) (end at : ℕ) → is_laid end at fs ≡ true → length (laid end at fs) ≡ end - at
+unfolding laid
+laid-length [] end at e = length-replicate (end - at) 0
+laid-length (f ∷ fs) end at e =
+    let a = upto-from at f.0 (left-true (nat_le at f.0) _ e) in
+    let r = right-true (nat_le at f.0) (is_laid end (f.0 + length f.1) fs) e in
+    let b = laid-end fs end (f.0 + length f.1) r in
+    let l = laid-length fs end (f.0 + length f.1) r in
+    let z : length {A = ℕ} (replicate (f.0 - at) 0) ≡ f.0 - at = length-replicate (f.0 - at) 0 in
+    let s : length (f.1 ++ laid end (f.0 + length f.1) fs) ≡ length f.1 + length (laid end (f.0 + length f.1) fs) = length-append f.1 (laid end (f.0 + length f.1) fs) in
+    let t : length {A = ℕ} (replicate (f.0 - at) 0 ++ (f.1 ++ laid end (f.0 + length f.1) fs)) ≡ length {A = ℕ} (replicate (f.0 - at) 0) + length (f.1 ++ laid end (f.0 + length f.1) fs) = length-append (replicate (f.0 - at) 0) (f.1 ++ laid end (f.0 + length f.1) fs) in
+    omega (arith, a, b, l, z, s, t)
+
+-- ---- objects
+-- what an object has after its sum
+abbrev pub body_of : Head → List Field → List ℕ
+body_of head fields = header_bytes head ++ laid 4096 32 fields
+
+pub body-laid : (head : Head) (fields : List Field) → body_of head fields ≡ laid size 8 (header head.oid (bit_or head.storage head.kind) head.subtype ++ fields)
+unfolding laid num
+body-laid head fields = refl
+
+-- a block with zeros for its sum is whole
+pub unsealed-long : (items : List ℕ) (head : Head) (fields : List Field) → is_laid 4096 32 fields ≡ true → items ≡ replicate 8 0 ++ body_of head fields → length items ≡ 4096
+unsealed-long items head fields e i =
+    let l : length (laid 4096 32 fields) ≡ 4064 = laid-length fields 4096 32 e in
+    ap length i
+    ∙ ap length (sym (append_assoc (replicate 8 0) (header_bytes head) (laid 4096 32 fields)))
+    ∙ length-append (replicate 8 0 ++ header_bytes head) (laid 4096 32 fields)
+    ∙ omega (arith, l, head-long head)
+
+-- the bytes after the sum of an object
+pub sealed-by : (front block mid new : List ℕ) (head : Head) (fields : List Field) → block ≡ replicate 8 0 ++ body_of head fields →
+    mid ≡ front ++ num 8 (sum_of block) → new ≡ mid ++ drop 8 block →
+    new ≡ front ++ object head.oid (bit_or head.storage head.kind) head.subtype fields
+unfolding object sealed
+sealed-by front block mid new head fields b m n =
+    n
+    ∙ ap (λ (bs : List ℕ). bs ++ drop 8 block) m
+    ∙ ap (λ (bs : List ℕ). (front ++ num 8 (sum_of bs)) ++ drop 8 bs) b
+    ∙ append_assoc front (num 8 (sum_of (replicate 8 0 ++ body_of head fields))) (body_of head fields)
+    ∙ ap (λ (bs : List ℕ). front ++ (num 8 (sum_of (replicate 8 0 ++ bs)) ++ bs)) (body-laid head fields)
+
+-- what was added where all went well
+pub where-ok : {T E : Type 0} (r : Result T E) (new grown old : List ℕ) → new ≡ (if is_ok r then grown else old) → OnOk r (new ≡ grown)
+where-ok (Ok x) new grown old e = e
+where-ok (Err x) new grown old e = tt

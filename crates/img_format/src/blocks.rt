@@ -276,8 +276,9 @@ pub(crate) fn add_block(
     ensures { OnOk result (front.new.items ≡ front.old.items ++ block spec.now k) }
 {
     match k {
-        FIRST_COPY | SUPERBLOCK => add_superblock(front, alloc, spec),
+        FIRST_COPY => add_superblock(front, alloc, spec),
         CHECKPOINT_MAP => add_checkpoint_map(front, alloc),
+        SUPERBLOCK => add_superblock(front, alloc, spec),
         SPACE_MANAGER => add_space_manager(front, alloc, spec),
         REAPER => add_reaper(front, alloc),
         POOL_QUEUE => add_pool_queue(front, alloc),

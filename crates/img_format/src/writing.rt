@@ -27,7 +27,7 @@ fn used_blocks(alloc: Global, spec: &Spec) -> Result<Vec<u8>, AllocError>
     ensures { IfOk result (λ used. used.items ≡ blocks_from spec.now 0 USED) }
 {
     let mut used = Vec::new(alloc);
-    for k in 0..USED {
+    'each: for k in 0..USED {
         add_block(&mut used, alloc, spec, k)?;
     }
     Ok(used)
@@ -42,7 +42,7 @@ fn put_zeros<W: Sink>(out: &mut W, count: u64) -> Result<(), FormatStop>
     ensures later { W.faults out.old ≤ W.faults out.new }
 {
     let zeros = [0u8; BLOCK];
-    for _ in 0..count {
+    'each: for _ in 0..count {
         if out.put(&zeros).is_err() {
             return Err(FormatStop::WriteFault);
         }
