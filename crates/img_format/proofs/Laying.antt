@@ -1,11 +1,11 @@
 -- Fields that are laid out one by one.
-use Rattle.std.proofs.Common.{arith, ◌≡◌, ℕ, ◌+◌, ◌-◌, ◌<◌, ◌≤◌, true, ◌&&◌, nat_le, List, [], ◌∷◌, ◌++◌, length, drop, refl, ap, sym, subst, ◌∙◌, append_assoc, Result, Ok, Err, if◌then◌else◌}
+use Rattle.std.proofs.Common.{arith, ◌≡◌, ℕ, ◌+◌, ◌-◌, ◌<◌, ◌≤◌, true, nat_le, List, [], ◌∷◌, ◌++◌, length, drop, refl, ap, sym, subst, ◌∙◌, append_assoc, Result, Ok, Err, if◌then◌else◌}
 use Rattle.std.specs.Result.{is_ok, OnOk}
 use Rattle.std.specs.Prelude.{bit_or, get_or, replicate}
 use Rattle.std.proofs.lemmas.List.{length-append, length-replicate, drop_more, drop_all}
 use Rattle.apfs_model.proofs.BoolTests.{left-true, right-true, upto-from}
 use Rattle.apfs_model.specs.Sum.{sum_of}
-use Rattle.img_format.specs.Tables.{size, Field, num, laid, is_laid, sealed, header, object, plain}
+use Rattle.img_format.specs.Tables.{size, Field, num, laid, is_laid, sealed, header, object}
 use Rattle.img_format.specs.Steps.{value_bytes, field_of, fields_of, header_bytes}
 use Rattle.img_format.specs.declared.object.Head.{Head}
 use Rattle.img_format.specs.declared.field.Value.{Value}

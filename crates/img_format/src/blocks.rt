@@ -10,9 +10,9 @@ use crate::files::add_files;
 use crate::object::{EPHEMERAL, Head, PHYSICAL, VIRTUAL, add_object, add_plain};
 use crate::places::{
     CHECKPOINT_MAP, CHUNK_BITMAP, CHUNK_INFO, CONTAINER_MAP, CONTAINER_TREE, EXTENTS, FILES,
-    FILES_ID, FIRST_COPY, MAIN_QUEUE, MAIN_QUEUE_ID, MANAGER_ID, NEXT_ID, POOL_QUEUE, POOL_QUEUE_ID,
-    REAPER, REAPER_ID, RING, SNAPSHOTS, SPACE_MANAGER, SUPERBLOCK, USED, VOLUME, VOLUME_ID,
-    VOLUME_MAP, VOLUME_TREE, XID,
+    FILES_ID, FIRST_COPY, MAIN_QUEUE, MAIN_QUEUE_ID, MANAGER_ID, NEXT_ID, POOL_QUEUE,
+    POOL_QUEUE_ID, REAPER, REAPER_ID, RING, SNAPSHOTS, SPACE_MANAGER, SUPERBLOCK, USED, VOLUME,
+    VOLUME_ID, VOLUME_MAP, VOLUME_TREE, XID,
 };
 use crate::roots::{add_extents, add_main_queue, add_map_tree, add_pool_queue, add_snapshots};
 use crate::spec::Spec;
@@ -83,22 +83,34 @@ fn add_checkpoint_map(front: &mut Vec<u8>, alloc: Global) -> Result<(), AllocErr
 {
     let fields = [
         (map::COUNT, U32(4)),
-        (FIRST + map::MAPPING_TYPE, U32(EPHEMERAL + kind::SPACE_MANAGER as u32)),
+        (
+            FIRST + map::MAPPING_TYPE,
+            U32(EPHEMERAL + kind::SPACE_MANAGER as u32),
+        ),
         (FIRST + map::MAPPING_SUBTYPE, U32(0)),
         (FIRST + map::MAPPING_SIZE, U32(BLOCK as u32)),
         (FIRST + map::MAPPING_OID, U64(MANAGER_ID)),
         (FIRST + map::MAPPING_PADDR, U64(SPACE_MANAGER)),
-        (SECOND + map::MAPPING_TYPE, U32(EPHEMERAL + kind::REAPER as u32)),
+        (
+            SECOND + map::MAPPING_TYPE,
+            U32(EPHEMERAL + kind::REAPER as u32),
+        ),
         (SECOND + map::MAPPING_SUBTYPE, U32(0)),
         (SECOND + map::MAPPING_SIZE, U32(BLOCK as u32)),
         (SECOND + map::MAPPING_OID, U64(REAPER_ID)),
         (SECOND + map::MAPPING_PADDR, U64(REAPER)),
-        (THIRD + map::MAPPING_TYPE, U32(EPHEMERAL + kind::TREE_ROOT as u32)),
+        (
+            THIRD + map::MAPPING_TYPE,
+            U32(EPHEMERAL + kind::TREE_ROOT as u32),
+        ),
         (THIRD + map::MAPPING_SUBTYPE, U32(kind::FREE_QUEUE as u32)),
         (THIRD + map::MAPPING_SIZE, U32(BLOCK as u32)),
         (THIRD + map::MAPPING_OID, U64(POOL_QUEUE_ID)),
         (THIRD + map::MAPPING_PADDR, U64(POOL_QUEUE)),
-        (FOURTH + map::MAPPING_TYPE, U32(EPHEMERAL + kind::TREE_ROOT as u32)),
+        (
+            FOURTH + map::MAPPING_TYPE,
+            U32(EPHEMERAL + kind::TREE_ROOT as u32),
+        ),
         (FOURTH + map::MAPPING_SUBTYPE, U32(kind::FREE_QUEUE as u32)),
         (FOURTH + map::MAPPING_SIZE, U32(BLOCK as u32)),
         (FOURTH + map::MAPPING_OID, U64(MAIN_QUEUE_ID)),
@@ -188,8 +200,14 @@ fn add_object_map(
     ensures { OnOk result (front.new.items ≡ front.old.items ++ is.object_map block tree) }
 {
     let fields = [
-        (object_map::TREE_TYPE, U32(PHYSICAL + kind::TREE_ROOT as u32)),
-        (object_map::SNAP_TREE_TYPE, U32(PHYSICAL + kind::TREE_ROOT as u32)),
+        (
+            object_map::TREE_TYPE,
+            U32(PHYSICAL + kind::TREE_ROOT as u32),
+        ),
+        (
+            object_map::SNAP_TREE_TYPE,
+            U32(PHYSICAL + kind::TREE_ROOT as u32),
+        ),
         (object_map::TREE, U64(tree)),
     ];
     let head = Head {
@@ -217,8 +235,14 @@ fn add_chunk_info(front: &mut Vec<u8>, alloc: Global, spec: &Spec) -> Result<(),
         (info::CIB_INDEX, U32(0)),
         (info::CIB_COUNT, U32(1)),
         (info::CIB_ENTRIES + info::CHUNK_ADDRESS, U64(0)),
-        (info::CIB_ENTRIES + info::CHUNK_BLOCKS, U32(spec.blocks as u32)),
-        (info::CIB_ENTRIES + info::CHUNK_FREE, U32((spec.blocks - USED) as u32)),
+        (
+            info::CIB_ENTRIES + info::CHUNK_BLOCKS,
+            U32(spec.blocks as u32),
+        ),
+        (
+            info::CIB_ENTRIES + info::CHUNK_FREE,
+            U32((spec.blocks - USED) as u32),
+        ),
         (info::CIB_ENTRIES + info::CHUNK_BITMAP, U64(CHUNK_BITMAP)),
     ];
     let head = Head {
@@ -234,7 +258,11 @@ fn add_chunk_info(front: &mut Vec<u8>, alloc: Global, spec: &Spec) -> Result<(),
 fn add_chunk_bitmap(front: &mut Vec<u8>, alloc: Global) -> Result<(), AllocError>
     ensures { OnOk result (front.new.items ≡ front.old.items ++ is.chunk_bitmap) }
 {
-    add_plain(front, alloc, &[(0, Bytes(&[0xff, 0xff, 0xff, 0xff, 0xff, 0xff, 0xff, 0x01]))])
+    add_plain(
+        front,
+        alloc,
+        &[(0, Bytes(&[0xff, 0xff, 0xff, 0xff, 0xff, 0xff, 0xff, 0x01]))],
+    )
 }
 
 // The superblock of the volume.

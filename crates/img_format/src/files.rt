@@ -95,7 +95,10 @@ pub(crate) fn add_files(front: &mut Vec<u8>, alloc: Global) -> Result<(), AllocE
         (TABLE + 30, U16(INODE_LEN as u16)),
         // The keys.
         (PRIVATE_KEY, U64(ENTRY_KEY)),
-        (PRIVATE_KEY + LEN_AND_HASH, U32(12 + PRIVATE_HASH * HASH_UNIT)),
+        (
+            PRIVATE_KEY + LEN_AND_HASH,
+            U32(12 + PRIVATE_HASH * HASH_UNIT),
+        ),
         (PRIVATE_KEY + HASHED_NAME, Bytes(PRIVATE_NAME)),
         (ROOT_KEY, U64(ENTRY_KEY)),
         (ROOT_KEY + LEN_AND_HASH, U32(5 + ROOT_HASH * HASH_UNIT)),

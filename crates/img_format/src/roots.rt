@@ -8,9 +8,7 @@ use crate::field::BLOCK;
 use crate::field::Value::{U16, U32, U64};
 use crate::object::{EPHEMERAL, Head, PHYSICAL, add_object};
 use crate::places::{EXTENTS, MAIN_QUEUE_ID, POOL_QUEUE_ID, SNAPSHOTS, XID};
-use apfs_layout::kind::{
-    EXTENT_REFERENCES, FREE_QUEUE, OBJECT_MAP, SNAPSHOT_METADATA, TREE_ROOT,
-};
+use apfs_layout::kind::{EXTENT_REFERENCES, FREE_QUEUE, OBJECT_MAP, SNAPSHOT_METADATA, TREE_ROOT};
 use apfs_layout::node::{
     COUNT, FIXED, FIXED_ENTRY_LEN, FLAGS, INFO_LEN, KEY_COUNT, LEAF, LEVEL, NODE_COUNT, NODE_SIZE,
     ROOT, TABLE, TABLE_LENGTH, TABLE_OFFSET,
@@ -28,12 +26,7 @@ const FIXED_ROOT: u16 = ROOT + LEAF + FIXED;
 pub(crate) const VARIABLE_ROOT: u16 = ROOT + LEAF;
 
 // Adds the root of a tree without entries.
-fn add_empty(
-    front: &mut Vec<u8>,
-    alloc: Global,
-    head: &Head,
-    flags: u16,
-) -> Result<(), AllocError>
+fn add_empty(front: &mut Vec<u8>, alloc: Global, head: &Head, flags: u16) -> Result<(), AllocError>
     ensures { OnOk result (front.new.items ≡ front.old.items ++ object head.now.oid (bit_or head.now.storage head.now.kind) head.now.subtype (empty_fields flags)) }
 {
     let fields = [

@@ -4,7 +4,7 @@ use blk_source::{Bytes, MemSink};
 use std::alloc::Global;
 use std::test::Fail;
 
-// A container, and the Adler-32 sum of the used blocks that `tests/cli/format_by_hand.py` writes for it.
+// A container, and the Adler-32 sum of the bytes that `tests/cli/format_by_hand.py` writes for it.
 struct Case {
     blocks: u64,
     name: &'static str,
@@ -13,11 +13,9 @@ struct Case {
     adler: u32,
 }
 
-// The bytes of the used blocks.
-const USED: usize = 57 * 4096;
-
 // A name of 255 bytes.
-const LONG_NAME: &str = "Käse — ßßßßßßßßßßßßßßßßßßßßßßßßßßßßßßßßßßßßßßßßßßßßßßßßßßßßßßßßßßßßßßßßßßßßßßßßßßßßßßßßßßßßßßßßßßßßßßßßßßßßßßßßßßßßßßßßßßßßßßßßßßx";
+const LONG_NAME: &str =
+    "Käse — ßßßßßßßßßßßßßßßßßßßßßßßßßßßßßßßßßßßßßßßßßßßßßßßßßßßßßßßßßßßßßßßßßßßßßßßßßßßßßßßßßßßßßßßßßßßßßßßßßßßßßßßßßßßßßßßßßßßßßßßßßßx";
 
 const CASES: [Case; 2] = [
     Case {
@@ -25,14 +23,14 @@ const CASES: [Case; 2] = [
         name: "Small",
         container: *b"\x00\x11\x22\x33\x44\x55\x66\x77\x88\x99\xaa\xbb\xcc\xdd\xee\xff",
         volume: *b"\xff\xee\xdd\xcc\xbb\xaa\x99\x88\x77\x66\x55\x44\x33\x22\x11\x00",
-        adler: 0xb853_8b79,
+        adler: 0x52ac_8b79,
     },
     Case {
         blocks: 300,
         name: LONG_NAME,
         container: *b"\x0f\x0e\x0d\x0c\x0b\x0a\x09\x08\x07\x06\x05\x04\x03\x02\x01\x00",
         volume: *b"\x10\x11\x12\x13\x14\x15\x16\x17\x18\x19\x1a\x1b\x1c\x1d\x1e\x1f",
-        adler: 0x2baf_24ee,
+        adler: 0xaaa0_24ee,
     },
 ];
 
@@ -62,12 +60,11 @@ fn another_program_writes_the_same(rt: HostRuntime) -> Result<(), Fail> {
     for case in &CASES {
         let spec = spec_of(alloc, case)?;
         assert!(rt; spec.valid(), "{}", case.name);
-        let mut sink = MemSink::new(alloc, 300 * 4096, vec![in alloc; ]?)?;
+        let mut sink = MemSink::new(alloc, 300 * 4096, vec![in alloc;]?)?;
         format(alloc, &spec, &mut sink)?;
         let contents = sink.contents();
-        assert!(rt; contents.len() >= USED);
-        assert_eq!(rt; adler(&contents[..USED]), case.adler, "{}", case.name);
         assert_eq!(rt; contents.len() as u64, case.blocks * 4096);
+        assert_eq!(rt; adler(contents), case.adler, "{}", case.name);
     }
     Ok(())
 }
@@ -80,7 +77,10 @@ fn a_refused_put_stops_it(rt: HostRuntime) -> Result<(), Fail> {
     // The used blocks are put at once, and then each block of zeros.
     for (put, kept) in [(1, 0), (2, 57), (200, 255)] {
         let mut sink = MemSink::new(alloc, 256 * 4096, vec![in alloc; put]?)?;
-        assert_eq!(rt; format(alloc, &spec, &mut sink), Err(FormatStop::WriteFault));
+        assert_eq!(rt;
+            format(alloc, &spec, &mut sink),
+            Err(FormatStop::WriteFault)
+        );
         assert_eq!(rt; sink.contents().len(), kept * 4096);
     }
     Ok(())

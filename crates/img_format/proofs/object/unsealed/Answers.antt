@@ -1,6 +1,6 @@
-use Rattle.std.proofs.Common.{◌≡◌, ◌++◌, replicate, rules}
-use Rattle.img_format.specs.Steps.{header_bytes, fields_of}
-use Rattle.img_format.proofs.Laying.{after-head, head-room, head-laid}
+use Rattle.std.proofs.Common.{rules}
+use Rattle.img_format.specs.Steps.{fields_of}
+use Rattle.img_format.proofs.Laying.{head-room, head-laid}
 use Rattle.img_format.proofs.object.unsealed.Goals as goal
 
 pub lay-requires : goal.lay-requires
