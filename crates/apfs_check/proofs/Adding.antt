@@ -79,18 +79,6 @@ mapped-more f m xs i x a b c low e p q =
     appended-more f (map m (take i xs)) (m x ∷ []) a b c p (q ∙ ap (λ ys. b ++ ys) (sym (append-none (f (m x)))))
     ∙ ap (λ ys. a ++ flat_map f ys) (sym (map-append m (take i xs) (x ∷ [])) ∙ ap (map m) (sym (one-taken xs i x low e)))
 
--- ---- views
-pub no-views : (profile : Profile) (image : List ℕ) (seen : Seen) (head : VolHead) (held : Held) → AddsViews profile image seen head [] held held
-no-views profile image seen head held = record {
-  right = λ view h. absurd h;
-  records = omega arith;
-  hashes = sym (append-none held.hashes);
-  unnamed = sym (append-none held.unnamed);
-  views_same = refl;
-  unreached_same = refl;
-  counts_same = refl;
-}
-
 pub more-views : (profile : Profile) (image : List ℕ) (seen : Seen) (head : VolHead) (xs ys : List View) (a b c : Held) → AddsViews profile image seen head xs a b → AddsViews profile image seen head ys b c → AddsViews profile image seen head (xs ++ ys) a c
 more-views profile image seen head xs ys a b c p q = record {
   right = λ view h. in-either view xs ys (HasViewRules profile image seen head) p.right q.right h;
@@ -100,19 +88,6 @@ more-views profile image seen head xs ys a b c p q = record {
   views_same = q.views_same ∙ p.views_same;
   unreached_same = q.unreached_same ∙ p.unreached_same;
   counts_same = q.counts_same ∙ p.counts_same;
-}
-
--- ---- volumes
-pub no-volumes : (profile : Profile) (image : List ℕ) (seen : Seen) (held : Held) → AddsVolumes profile image seen [] held held
-no-volumes profile image seen held = record {
-  right = λ head h. absurd h;
-  data_right = λ head h. absurd h;
-  views = omega arith;
-  records = omega arith;
-  hashes = sym (append-none held.hashes);
-  unreached = sym (append-none held.unreached);
-  unnamed = sym (append-none held.unnamed);
-  counts = sym (append-none held.counts);
 }
 
 pub more-volumes : (profile : Profile) (image : List ℕ) (seen : Seen) (xs ys : List VolHead) (a b c : Held) → AddsVolumes profile image seen xs a b → AddsVolumes profile image seen ys b c → AddsVolumes profile image seen (xs ++ ys) a c

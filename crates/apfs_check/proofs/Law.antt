@@ -11,8 +11,6 @@ use Rattle.nx_ring.specs.Checkpoint.{Seen, site_of}
 use Rattle.nx_ring.specs.Newest.{newest_of}
 use Rattle.nx_ring.specs.declared.fault.RingFault.{RingFault}
 use Rattle.nx_ring.proofs.Chosen as chosen
-use Rattle.fs_record.specs.declared.fault.TreeFault.{TreeFault}
-use Rattle.fs_record.specs.declared.fault.TreeFault.TheVariants as trees
 use Rattle.vol_view.specs.Heads.{heads_of}
 use Rattle.vol_view.specs.Views.{views_of, rooted_views}
 use Rattle.vol_view.specs.Volumes.{metadata_of}
@@ -34,6 +32,8 @@ use Rattle.reach_rules.proofs.NamesDecided.{then_or, each_or}
 use Rattle.reach_rules.proofs.Refutes as reached
 use Rattle.reach_rules.proofs.Decided as accounts
 use Rattle.view_rules.specs.Rules.{IsTreeFault}
+use Rattle.view_rules.specs.declared.fault.TreeFault.{TreeFault}
+use Rattle.view_rules.specs.declared.fault.TreeFault.TheVariants as trees
 use Rattle.view_rules.specs.declared.profile.Profile.{Profile}
 use Rattle.view_rules.specs.declared.profile.Profile.TheVariants.{Plain, Strict}
 use Rattle.view_rules.proofs.Law as rules

@@ -1,9 +1,8 @@
 -- Under Strict three kinds of note are faults, and all else is as under Plain.
-use Rattle.std.proofs.Common.{◌≡◌, ℕ, ℤ, Bool, false, cond, List, [], ◌∷◌, map, filter, inl, inr, refl, ap, ◌∙◌, subst}
+use Rattle.std.proofs.Common.{◌≡◌, ℕ, Bool, false, cond, List, [], ◌∷◌, map, filter, inl, inr, refl, ap, ◌∙◌, subst}
 use Rattle.std.specs.Prelude.{◌↔◌}
 use Rattle.apfs_model.specs.Lists.{In}
 use Rattle.obj_base.specs.declared.site.Site.{Site}
-use Rattle.fs_record.specs.declared.fault.NamedAt.{NamedAt}
 use Rattle.nx_ring.specs.Checkpoint.{site_of}
 use Rattle.vol_view.specs.Heads.{heads_of}
 use Rattle.vol_view.specs.Views.{views_of}
@@ -11,6 +10,7 @@ use Rattle.vol_view.specs.Volumes.{Loaded}
 use Rattle.vol_view.specs.declared.head.VolHead.{VolHead}
 use Rattle.vol_view.specs.declared.volume.View.{View}
 use Rattle.ext_ref.specs.declared.range.NewRange.{NewRange}
+use Rattle.view_rules.specs.declared.fault.NamedAt.{NamedAt}
 use Rattle.apfs_check.specs.Laws.{HasNoStrictNotes}
 use Rattle.apfs_model.proofs.BoolTests.{test_or}
 use Rattle.apfs_model.proofs.Searches.{in-filter}
@@ -21,12 +21,9 @@ use Rattle.tree_rules.specs.Notes.{hash_note, hash_notes}
 use Rattle.view_rules.specs.Rules.{view_facts, HasTreeRules}
 use Rattle.view_rules.specs.declared.profile.Profile.{Profile}
 use Rattle.view_rules.specs.declared.profile.Profile.TheVariants.{Plain, Strict}
-use Rattle.apfs_check.specs.declared.fault.Fault.{Fault}
-use Rattle.apfs_check.specs.declared.fault.Fault.TheVariants.{BlockZero, Truncated, NoCheckpoint, Unsound, Unnamed, NamedTwice, OwnedTwice, Outside, UnusedMapping, Leaked, Missing, PoolLeaked, PoolMissing, SpaceGeometry, SpaceCab, SpaceCib, SpaceIndex, SpacePlace, SpaceFreeCount, SpaceFreeTotal, PoolCount, PoolIndex, PoolPlace, SnapRecord, SnapCount, SnapName, OmapSnaps, TreeOrder, TreeCounts, Order, Counts, TreeRecord, Record, DupName, Hash, NoParent, NoInode, KindMismatch, DirNames, Unreached, Children, Links, SiblingLost, ExtentOrder, ExtentPlace, ExtentUncovered, LinkTarget, Stream, AttrOwner, NameHash, DataUnreached, DataCount}
 use Rattle.apfs_check.specs.Volumes.{volume_of, volume_ranges}
 use Rattle.apfs_check.specs.Data.{unreached_in, miscounted_in, HasRightData}
 use Rattle.apfs_check.specs.Notes.{of_views, view_hash_notes, unreached_note, unreached_notes, count_note, count_notes}
-use Rattle.apfs_check.specs.Present.{IsPresent}
 use Rattle.apfs_check.specs.WellFormed.{IsWellFormed}
 use Rattle.apfs_model.proofs.Empty.{map-none, flat-none, none-flat}
 
@@ -130,69 +127,3 @@ noteless-strict image w n = under Plain Strict image w
 pub strict_plain : (image : List ℕ) → IsWellFormed Strict image ↔ ((w : IsWellFormed Plain image) × HasNoStrictNotes image w.seen)
 unfolding strict-plain
 strict_plain image = ((λ w. (strict-plain image w, strict-noteless image w)), (λ t. noteless-strict image t.0 t.1))
-
--- ---- faults that count under Strict alone
-plain-hashes : (image : List ℕ) (at : NamedAt) → IsPresent Plain image (NameHash at) → ⊥
-plain-hashes image at p = let z : Plain ≡ Strict = p.fact.fact.1 in cc
-
-plain-runs : (image : List ℕ) (slot block length : ℕ) → IsPresent Plain image (DataUnreached slot block length) → ⊥
-plain-runs image slot block length p = let z : Plain ≡ Strict = p.fact.strict in cc
-
-plain-counts : (image : List ℕ) (slot block : ℕ) (stored : ℤ) (streams : ℕ) → IsPresent Plain image (DataCount slot block stored streams) → ⊥
-plain-counts image slot block stored streams p = let z : Plain ≡ Strict = p.fact.strict in cc
-
--- ---- faults
--- what is present under Plain is so under Strict
-pub present-strict : (image : List ℕ) (fault : Fault) → IsPresent Plain image fault → IsPresent Strict image fault
-present-strict image BlockZero p = p
-present-strict image (Truncated have need) p = p
-present-strict image NoCheckpoint p = p
-present-strict image (Unsound block why) p = p
-present-strict image (Unnamed within oid xid) p = p
-present-strict image (NamedTwice within oid xid) p = p
-present-strict image (OwnedTwice block) p = p
-present-strict image (Outside block) p = p
-present-strict image (UnusedMapping within oid xid) p = p
-present-strict image (Leaked block) p = p
-present-strict image (Missing block) p = p
-present-strict image (PoolLeaked block) p = p
-present-strict image (PoolMissing block) p = p
-present-strict image SpaceGeometry p = p
-present-strict image (SpaceCab i) p = p
-present-strict image (SpaceCib i) p = p
-present-strict image (SpaceIndex k) p = p
-present-strict image (SpacePlace block) p = p
-present-strict image (SpaceFreeCount k) p = p
-present-strict image SpaceFreeTotal p = p
-present-strict image PoolCount p = p
-present-strict image (PoolIndex i) p = p
-present-strict image (PoolPlace block) p = p
-present-strict image (SnapRecord slot) p = p
-present-strict image (SnapCount slot) p = p
-present-strict image (SnapName slot) p = p
-present-strict image (OmapSnaps slot) p = p
-present-strict image (TreeOrder root item) p = p
-present-strict image (TreeCounts root) p = p
-present-strict image (TreeRecord root item) p = p
-present-strict image (Order slot xid item) p = p
-present-strict image (Counts slot xid) p = p
-present-strict image (Record slot xid item why) p = p
-present-strict image (DupName at) p = p
-present-strict image (Hash at) p = p
-present-strict image (NoParent at) p = p
-present-strict image (NoInode slot xid id name) p = p
-present-strict image (KindMismatch at) p = p
-present-strict image (DirNames at) p = p
-present-strict image (Unreached at) p = p
-present-strict image (Children at) p = p
-present-strict image (Links at) p = p
-present-strict image (SiblingLost at) p = p
-present-strict image (ExtentOrder at) p = p
-present-strict image (ExtentPlace at) p = p
-present-strict image (ExtentUncovered at) p = p
-present-strict image (LinkTarget at) p = p
-present-strict image (Stream at) p = p
-present-strict image (AttrOwner at) p = p
-present-strict image (NameHash at) p = absurd (plain-hashes image at p)
-present-strict image (DataUnreached slot block length) p = absurd (plain-runs image slot block length p)
-present-strict image (DataCount slot block stored streams) p = absurd (plain-counts image slot block stored streams p)

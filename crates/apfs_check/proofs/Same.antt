@@ -6,7 +6,7 @@ use Rattle.apfs_model.specs.Lists.{In}
 use Rattle.bt_node.specs.Entries.{Pair, bytes_in}
 use Rattle.obj_base.specs.declared.site.Site.{Site}
 use Rattle.nx_ring.specs.Checkpoint.{Seen, site_of}
-use Rattle.vol_view.specs.Heads.{is_super, heads_of}
+use Rattle.vol_view.specs.Heads.{is_super}
 use Rattle.vol_view.specs.SnapRecords.{snapshot_pairs, snap_super_of, is_snapshot_long}
 use Rattle.vol_view.specs.Volumes.{metadata_of, snapshot_in, has_super, snapshots_in, sound_snapshots, loaded_of}
 use Rattle.vol_view.specs.Views.{live_of, past_of, views_of, rooted_views}
@@ -14,9 +14,9 @@ use Rattle.vol_view.specs.LoadStops.{IsRightSnapshot, IsLoadable}
 use Rattle.vol_view.specs.declared.head.VolHead.{VolHead}
 use Rattle.ext_ref.specs.Ranges.{ranges_of}
 use Rattle.apfs_model.proofs.BoolTests.{both-true}
-use Rattle.apfs_check.specs.Volumes.{has_sound_super, sound_heads, volume_of, record_extents_root, past_extents_roots, volume_ranges}
+use Rattle.apfs_check.specs.Volumes.{volume_of, record_extents_root, past_extents_roots, volume_ranges}
 use Rattle.apfs_check.specs.Steps.{snapshot_root}
-use Rattle.apfs_check.proofs.Loaded.{AllSound, sound-super, readable-long}
+use Rattle.apfs_check.proofs.Loaded.{readable-long}
 
 -- a list of which all pass
 filter-all : {X : Type 0} (p : X → Bool) (xs : List X) → ((x : X) → In x xs → p x ≡ true) → filter p xs ≡ xs
@@ -26,11 +26,6 @@ filter-all p (x ∷ xs) h = ap (λ b. cond b (x ∷ filter p xs) (filter p xs)) 
 map-map : {X Y Z : Type 0} (f : Y → Z) (g : X → Y) (h : X → Z) (xs : List X) → ((x : X) → f (g x) ≡ h x) → map f (map g xs) ≡ map h xs
 map-map f g h [] e = refl
 map-map f g h (x ∷ xs) e = ap (λ z. z ∷ map f (map g xs)) (e x) ∙ ap (λ zs. h x ∷ zs) (map-map f g h xs e)
-
--- all volumes have sound superblocks
-pub heads-same : (image : List ℕ) (seen : Seen) → AllSound image seen → sound_heads image seen ≡ heads_of image seen
-unfolding sound_heads
-heads-same image seen all = filter-all (has_sound_super image (site_of seen)) (heads_of image seen) (λ head one. sound-super image seen all head one)
 
 right-super : (image : List ℕ) (site : Site) (pair : Pair) → is_snapshot_long pair ≡ true → IsRightSnapshot image site pair → has_super image site pair ≡ true
 unfolding has_super

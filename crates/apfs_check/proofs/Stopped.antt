@@ -10,7 +10,6 @@ use Rattle.nx_ring.specs.Ring.{IsRingFault, IsRingFeature}
 use Rattle.nx_ring.specs.Checkpoint.{Seen, site_of}
 use Rattle.nx_ring.specs.Newest.{newest_of}
 use Rattle.nx_ring.specs.declared.fault.RingFault.{RingFault}
-use Rattle.fs_record.specs.declared.fault.TreeFault.{TreeFault}
 use Rattle.vol_view.specs.Stops.{IsHeadsStop, IsHeadsFeature, AreHeads}
 use Rattle.vol_view.specs.LoadStops.{IsLoadStop, IsLoadFeature}
 use Rattle.vol_view.specs.Volumes.{Loaded}
@@ -27,6 +26,7 @@ use Rattle.reach_rules.specs.Features.{HasFeature}
 use Rattle.reach_rules.specs.declared.fault.ReachFault.{ReachFault}
 use Rattle.reach_sweep.specs.Views.{head_of}
 use Rattle.view_rules.specs.Rules.{IsTreeFault}
+use Rattle.view_rules.specs.declared.fault.TreeFault.{TreeFault}
 use Rattle.view_rules.specs.declared.profile.Profile.{Profile}
 use Rattle.apfs_model.proofs.Searches.{in-map}
 use Rattle.apfs_check.specs.Volumes.{sound_heads, volume_of, volume_ranges}

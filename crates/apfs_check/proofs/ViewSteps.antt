@@ -12,7 +12,7 @@ use Rattle.fs_record.specs.Facts.{Fact}
 use Rattle.fs_record.specs.StreamExtents.{extent_blocks, is_hole, is_extent_placed}
 use Rattle.fs_record.specs.declared.extents.FileExt.{FileExt}
 use Rattle.vol_view.specs.Volumes.{Loaded}
-use Rattle.vol_view.specs.Views.{live_of, past_of, views_of}
+use Rattle.vol_view.specs.Views.{past_of, views_of}
 use Rattle.vol_view.specs.declared.volume.View.{View}
 use Rattle.ext_ref.specs.Ranges.{ranges_of}
 use Rattle.view_rules.specs.Facts.{Facts}
@@ -35,9 +35,6 @@ take-one (y ∷ ys) (suc i) x e =
     ap (λ n. take n (y ∷ ys)) next ∙ ap (λ zs. y ∷ zs) (take-one ys i x e)
 
 -- ---- a view by its place
-pub live-place : (volume : Loaded) (seen : Seen) (view : View) → view ≡ live_of volume seen → slice_get (views_of volume seen) 0 ≡ Some view
-live-place volume seen view e = ap (λ v. Some v) (sym e)
-
 pub past-place : (volume : Loaded) (seen : Seen) (place : ℕ) (view : View) → 0 < place → option_map (past_of volume) (slice_get volume.snaps (place - 1)) ≡ Some view → slice_get (views_of volume seen) place ≡ Some view
 past-place volume seen zero view some e = absurd (omega arith)
 past-place volume seen (suc k) view some e =

@@ -6,8 +6,6 @@ use Rattle.obj_base.specs.declared.stop.Feature.{Feature}
 use Rattle.nx_ring.specs.Zero.{IsWrongZero, IsTruncated, IsNonContiguous}
 use Rattle.nx_ring.specs.Checkpoint.{Seen, site_of}
 use Rattle.nx_ring.specs.Newest.{newest_of, HasNoCheckpoint}
-use Rattle.fs_record.specs.declared.fault.TreeFault.{TreeFault}
-use Rattle.fs_record.specs.declared.fault.TreeFault.TheVariants as trees
 use Rattle.vol_view.specs.Views.{rooted_views}
 use Rattle.vol_view.specs.LoadStops.{IsLoadStop}
 use Rattle.vol_view.specs.declared.head.VolHead.{VolHead}
@@ -22,6 +20,8 @@ use Rattle.reach_rules.specs.Features.{HasFeature}
 use Rattle.reach_rules.specs.declared.fault.ReachFault.{ReachFault}
 use Rattle.reach_rules.specs.declared.fault.ReachFault.TheVariants as sweeps
 use Rattle.view_rules.specs.Rules.{IsTreeFault}
+use Rattle.view_rules.specs.declared.fault.TreeFault.{TreeFault}
+use Rattle.view_rules.specs.declared.fault.TreeFault.TheVariants as trees
 use Rattle.view_rules.specs.declared.profile.Profile.{Profile}
 use Rattle.view_rules.specs.declared.profile.Profile.TheVariants.{Strict}
 use Rattle.apfs_check.specs.declared.fault.Fault.{Fault}

@@ -79,17 +79,17 @@ fn report(
 ) -> Result<Report, AllocError>
     ensures { IfOk result (λ report. report ≡ record { xid = cp.now.line.xid; volumes = min (length volumes.now) slots; views = given gathered.views; objects = tally.objects; records = given gathered.records; used = tally.owned; free = (site_of cp.now).blocks - tally.owned; notes = skipped_notes cp.now ++ (gathered.hashes ++ (gathered.unreached ++ (gathered.unnamed ++ gathered.counts))) }) }
 {
-    let view_count = gathered.views();
-    let record_count = gathered.records();
-    let all_notes = gathered.into_notes(skipped(alloc, cp)?)?;
+    let views = gathered.views();
+    let records = gathered.records();
+    let notes = gathered.into_notes(skipped(alloc, cp)?)?;
     Ok(Report {
-        newest_xid: cp.xid(),
-        volume_count: volumes.len().min(container::SLOTS) as u32,
-        view_count,
+        xid: cp.xid(),
+        volumes: volumes.len().min(container::SLOTS) as u32,
+        views,
         tally,
-        record_count,
-        free_blocks: cp.site().blocks.saturating_sub(tally.owned()),
-        all_notes,
+        records,
+        free: cp.site().blocks.saturating_sub(tally.owned()),
+        notes,
     })
 }
 

@@ -19,6 +19,7 @@ ghost use Rattle.apfs_check.specs.DataSteps.{IsRunFault, IsCountFault, with_stre
 
 use crate::Fault;
 use crate::gathered::Gathered;
+use apfs_model::NoMemory;
 use ext_ref::{NewRange, references, unreached};
 use fs_record::FileExt;
 use nx_ring::Checkpoint;
@@ -165,7 +166,7 @@ fn wrong_of(
     ranges: &[NewRange],
     extents: &[(u64, FileExt)],
     block_size: u32,
-) -> Result<Vec<(NewRange, u64)>, AllocError>
+) -> Result<Vec<(NewRange, u64)>, NoMemory>
     requires { is_accepted block_size ≡ true }
     ensures { IfOk result (λ wrong. wrong.items ≡ wrong_in volume.now block_size ranges.now extents.now) }
 {
@@ -173,7 +174,10 @@ fn wrong_of(
         return Ok(Vec::new(alloc));
     }
     let counts = references(alloc, ranges, extents, block_size)?;
-    miscounts(alloc, ranges, &counts)
+    match miscounts(alloc, ranges, &counts) {
+        Ok(wrong) => Ok(wrong),
+        Err(_) => Err(NoMemory),
+    }
 }
 
 /// Tells of a volume's data, by its new ranges and the extents of its views.

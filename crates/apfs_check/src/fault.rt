@@ -1,9 +1,10 @@
 // What is wrong with a container, by the texts of the table of faults.
 
 use apfs_model::Bytes;
-use fs_record::{IdAt, NamedAt, RecFault};
+use fs_record::RecFault;
 use obj_base::Within;
 use reach_rules::Why;
+use view_rules::{IdAt, NamedAt};
 
 /// What is wrong with a container.
 #[derive(PartialEq, Debug, Drop)]

@@ -7,13 +7,13 @@ use crate::Fault;
 use bt_cursor::WalkFault;
 use bt_node::NodeFault;
 use ext_ref::ExtStop;
-use fs_record::TreeFault;
 use nx_ring::RingFault;
 use obj_base::{Stop, Within};
 use omap_map::OmapFault;
 use reach_rules::{ReachFault, Why};
 use space_map::SpaceFault;
 use space_pool::PoolFault;
+use view_rules::TreeFault;
 use vol_view::VolStop;
 
 /// What a part finds wrong at a place `P`, which is what a fault of the container shows beside it.

@@ -5,11 +5,11 @@ use Rattle.apfs_model.specs.Counts.{Rose}
 use Rattle.apfs_model.specs.Lists.{and_then}
 use Rattle.apfs_model.specs.Sink.{Wrote}
 use Rattle.blk_source.specs.declared.source.Opened.TheVariants.{Image}
+use Rattle.view_rules.specs.declared.fault.TreeFault.{TreeFault}
 use Rattle.cmd_words.specs.Asked.{AskedTarget}
 use Rattle.obj_base.specs.declared.site.Site.{Site}
 use Rattle.obj_base.specs.declared.stop.Stop.{Stop}
 use Rattle.obj_base.specs.declared.stop.Stop.TheVariants as layer
-use Rattle.fs_record.specs.declared.fault.TreeFault.{TreeFault}
 use Rattle.nx_ring.specs.Checkpoint.{Seen, site_of}
 use Rattle.vol_view.specs.Volumes.{Loaded}
 use Rattle.vol_view.specs.declared.volume.View.{View}

@@ -36,7 +36,7 @@ each_lacks S (commands.Cat checks target) = tt
 each_lacks S (commands.Xattr checks target name) = tt
 
 -- a fact of the command and the image that another follows from
-of_run : {S : Type 0} (bytes : S → Option (List ℕ)) (command : Option Asked) (opened : Opened S) (P Q : Asked → List ℕ → Type 0) →
+pub of_run : {S : Type 0} (bytes : S → Option (List ℕ)) (command : Option Asked) (opened : Opened S) (P Q : Asked → List ℕ → Type 0) →
     ((c : Asked) (image : List ℕ) → P c image → Q c image) → OfRun bytes command opened P → OfRun bytes command opened Q
 of_run bytes None opened P Q follows fact = absurd fact
 of_run bytes (Some command) opened P Q follows fact = (fact.0, λ image given. follows command image (fact.1 image given))

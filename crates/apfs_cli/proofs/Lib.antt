@@ -14,5 +14,6 @@ pub mod AtView
 pub mod Browsable
 pub mod Checked
 pub mod Contents
+pub mod Present
 pub mod Statuses
 mod Examples

@@ -7,8 +7,8 @@ use Rattle.obj_base.specs.declared.stop.Feature.{Feature}
 use Rattle.obj_base.specs.declared.stop.Stop.{Stop}
 use Rattle.obj_base.specs.declared.stop.Stop.TheVariants as layer
 use Rattle.blk_source.specs.declared.source.Opened.{Opened}
+use Rattle.view_rules.specs.declared.fault.TreeFault.{TreeFault}
 use Rattle.cmd_words.specs.Asked.{AskedTarget}
-use Rattle.fs_record.specs.declared.fault.TreeFault.{TreeFault}
 use Rattle.nx_ring.specs.Checkpoint.{Seen, site_of}
 use Rattle.vol_view.specs.Volumes.{Loaded}
 use Rattle.vol_view.specs.declared.volume.View.{View}
@@ -152,9 +152,6 @@ given_stop view wanted text (layer.Found (paths.Fault fault)) e = e
 given_stop view wanted text (layer.Unsupported feature block) e = e
 given_stop view wanted text layer.ReadFault e = tt
 given_stop view wanted text layer.NoMemory e = tt
-
-pub given_text : {T U : Type 0} (view : T → U) (wanted : Result U Answer) (text : U → List ℕ) (x : T) → IsGivenBy view wanted (Ok x) → and_then wanted (λ x. Ok (text x)) ≡ Ok (text (view x))
-given_text {T} {U} view wanted text x e = ap (λ (r : Result U Answer). and_then r (λ x. Ok (text x))) e
 
 -- the same answer is wanted
 only_wanted : (wanted : Wanted) (target : AskedTarget) (image : List ℕ) (other answer : Answer) → IsAnswerOn wanted target image other → IsWantedOf wanted target image (Err answer) → other ≡ answer

@@ -1,5 +1,5 @@
 -- What each status says, from the outcome that a run has come to.
-use Rattle.std.specs.Prelude.{◌≡◌, ◌⊎◌, ℕ, Bool, true, false, List, Option, Some, None, refl}
+use Rattle.std.specs.Prelude.{◌≡◌, ◌⊎◌, ℕ, Bool, true, false, List, Option, Some, None, Result, refl}
 use Rattle.std.proofs.Common.{inl, inr, sym, ◌∙◌, subst, arith}
 use Rattle.blk_source.specs.declared.source.Opened.{Opened}
 use Rattle.blk_source.specs.declared.source.Opened.TheVariants.{Absent, Image}
@@ -8,20 +8,31 @@ use Rattle.view_rules.specs.declared.profile.Profile.{Profile}
 use Rattle.apfs_check.specs.WellFormed.{IsWellFormed}
 use Rattle.apfs_check.specs.declared.fault.Fault.{Fault}
 use Rattle.path_walk.specs.declared.answer.Answer.{Answer}
-use Rattle.apfs_cli.specs.ByCommand.{takes_image, IsText, IsAnswer, RestsOn, HasResult, profile_of}
+use Rattle.apfs_cli.specs.ByCommand.{takes_image, IsText, IsFault, IsFeature, IsAnswer, RestsOn, HasResult, profile_of}
 use Rattle.apfs_cli.specs.Outcome.{Outcome, status_of, text_of, Written, Faulty, Usage, ReadFailed, WriteFailed, OutOfMemory, Refused, Answered, NoImage}
-use Rattle.apfs_cli.specs.Says.{LacksImage, IsGiven, SourceFailed, HasFailed, Says, HasNoImage}
-use Rattle.apfs_cli.specs.Words.{Asked}
-use Rattle.apfs_cli.specs.Written.{Sunk, Failed, Ends}
-use Rattle.apfs_cli.specs.Rows.{BothWrote, HasText, NamesFault, NamesFeature, NamesAnswer, SaysReadFailed, SaysOutOfMemory, HasFailedPut, HasDefinedText, HasDefinedAnswer, IsExactly, IsWholeOrFree, IsAnsweredOrFree, HasSound, IsCleanOrFree, HasUnsound, IsFoundOrFree, IsUndisturbed, IsCompleted}
+use Rattle.apfs_cli.specs.Says.{LacksImage, IsGiven, SourceFailed, HasFailed, StopsAt, Says, HasNoImage, HasEnded, CameTo}
+use Rattle.apfs_cli.specs.Seen.{outcome_of}
+use Rattle.apfs_cli.specs.Words.{Asked, Check}
+use Rattle.apfs_cli.specs.ReportText.{report_text}
+use Rattle.apfs_check.proofs.Numbers.{reported}
+use Rattle.apfs_cli.specs.Written.{Sunk, Failed, IsClosed, Ends}
+use Rattle.apfs_cli.specs.declared.stopped.Stopped.{Stopped}
+use Rattle.apfs_cli.specs.Rows.{BothWrote, HasText, IsNamed, IsRefused, NamesFault, NamesFeature, NamesAnswer, SaysReadFailed, SaysOutOfMemory, HasFailedPut, HasDefinedText, HasDefinedAnswer, IsExactly, IsWholeOrFree, IsAnsweredOrFree, HasSound, IsCleanOrFree, HasUnsound, IsFoundOrFree, IsUndisturbed, IsCompleted}
 use Rattle.apfs_cli.proofs.Answered.{text_or_answer, text_rests, answer_rests, of_sound}
 use Rattle.apfs_cli.proofs.ByAnswers.{for_answer}
 use Rattle.apfs_cli.proofs.Checked.{sound_result}
-use Rattle.apfs_cli.proofs.Endings.{part_of}
+use Rattle.apfs_cli.proofs.Endings.{of_run, part_of}
+use Rattle.apfs_cli.proofs.Present.{fault_there, feature_there}
 
--- what a run has come to, and how it ended
-abbrev pub CameTo : {S : Type 0} → (S → Option (List ℕ)) → (S → ℕ) → Option Asked → Opened S → Opened S → ℕ → Sunk → Sunk → Type 0
-CameTo bytes faults command old new result out err = (o : Outcome) × Says bytes faults command old new out o × Ends result o out err
+-- a run has come to the outcome of what was decided, or memory ran out where there was none for its line
+pub came_to : {S : Type 0} (bytes : S → Option (List ℕ)) (faults : S → ℕ) (command : Option Asked) (old new : Opened S) (ended : Result Unit Stopped) (result : ℕ) (out err : Sunk) →
+    HasEnded bytes faults command old new ended out → ((part : List ℕ) → IsClosed result (outcome_of ended part) err) → CameTo bytes faults command old new result out err
+came_to bytes faults command old new ended result out err (part, says, wrote) closed =
+    let o = outcome_of ended part in
+    elim (closed part) [
+      | inl said ↦ (o, says, record { text = wrote; said = said })
+      | inr none ↦ (OutOfMemory (text_of o), part_of bytes faults command old new out o says, record { text = wrote; said = none })
+    ]
 
 -- an outcome is told by its status
 written_at : (o : Outcome) → status_of o ≡ 0 → (text : List ℕ) × (o ≡ Written text)
@@ -82,6 +93,14 @@ text_row {S} bytes faults command old new result out err a e =
     let both = subst P o.1 (at.2, at.3) in
     (o.0, both.0, both.1)
 
+-- a fault that is named is present
+named_at : (command : Asked) (image lead : List ℕ) (fault : Fault) → StopsAt command image lead (IsFault command image fault) → StopsAt command image lead (IsNamed command image fault)
+named_at command image lead fault at = record { lead_is = at.lead_is; none = at.none; there_is = (at.there_is, fault_there command image fault at.there_is) }
+
+-- a feature that is refused is present
+refused_as : (command : Asked) (image lead : List ℕ) (feature : Feature) (block : ℕ) → StopsAt command image lead (IsFeature command image feature block) → StopsAt command image lead (IsRefused command image feature block)
+refused_as command image lead feature block at = record { lead_is = at.lead_is; none = at.none; there_is = (at.there_is, feature_there command image feature block at.there_is) }
+
 pub fault_row : {S : Type 0} (bytes : S → Option (List ℕ)) (faults : S → ℕ) (command : Option Asked) (old new : Opened S) (result : ℕ) (out err : Sunk) →
     CameTo bytes faults command old new result out err → result ≡ 1 → NamesFault bytes command old out err
 fault_row {S} bytes faults command old new result out err a e =
@@ -89,7 +108,8 @@ fault_row {S} bytes faults command old new result out err a e =
     let o = faulty_at at.0 at.1 in
     let P : Outcome → Type 0 = λ x. SaysAndWrote bytes faults command old new out err x in
     let both = subst P o.2 (at.2, at.3) in
-    (o.0, o.1, both.0, both.1)
+    let told = of_run bytes command old (λ c image. StopsAt c image o.0 (IsFault c image o.1)) (λ c image. StopsAt c image o.0 (IsNamed c image o.1)) (λ c image. named_at c image o.0 o.1) both.0 in
+    (o.0, o.1, told, both.1)
 
 pub usage_row : {S : Type 0} (bytes : S → Option (List ℕ)) (faults : S → ℕ) (command : Option Asked) (old new : Opened S) (result : ℕ) (out err : Sunk) →
     CameTo bytes faults command old new result out err → result ≡ 2 → (command ≡ None) × BothWrote out err Usage
@@ -123,7 +143,8 @@ feature_row {S} bytes faults command old new result out err a e =
     let o = refused_at at.0 at.1 in
     let P : Outcome → Type 0 = λ x. SaysAndWrote bytes faults command old new out err x in
     let both = subst P o.3 (at.2, at.3) in
-    (o.0, o.1, o.2, both.0, both.1)
+    let told = of_run bytes command old (λ c image. StopsAt c image o.0 (IsFeature c image o.1 o.2)) (λ c image. StopsAt c image o.0 (IsRefused c image o.1 o.2)) (λ c image. refused_as c image o.0 o.1 o.2) both.0 in
+    (o.0, o.1, o.2, told, both.1)
 
 pub answered_row : {S : Type 0} (bytes : S → Option (List ℕ)) (faults : S → ℕ) (command : Option Asked) (old new : Opened S) (result : ℕ) (out err : Sunk) →
     CameTo bytes faults command old new result out err → result ≡ 7 → NamesAnswer bytes command old out err
@@ -354,3 +375,20 @@ completed_row {S} bytes faults command old new result out err (o, says, ends) is
     let Q : Option Asked → Type 0 = λ c. HasFailed faults c old new → ⊥ in
     let R : ℕ → Type 0 = λ n. IsCompleted n in
     subst R (sym (ended_whole result o out err is.line ends)) (undisturbed_status bytes faults is.command old new out o is.image is.given (subst Q is.words is.source) is.text (subst P is.words says))
+
+-- ---- what `check` comes to of a source that is there
+
+-- a well-formed container has a report
+pub checked_whole : {S : Type 0} (bytes : S → Option (List ℕ)) (faults : S → ℕ) (profile : Profile) (old new : S) (result : ℕ) (out err : Sunk) →
+    CameTo bytes faults (Some (Check profile)) (Image old) (Image new) result out err → (image : List ℕ) → bytes old ≡ Some image → IsWellFormed profile image → IsWholeOrFree result
+checked_whole bytes faults profile old new result out err a image told right =
+    let has = reported profile image right in
+    whole_row bytes faults (Some (Check profile)) (Image old) (Image new) result out err a
+    (record { command = Check profile; image = image; text = report_text has.0; words = refl; given = told; defined = (has.0, record { right = right; report = has.1 }, refl) })
+
+-- of another a fault or a feature is named
+pub checked_flawed : {S : Type 0} (bytes : S → Option (List ℕ)) (faults : S → ℕ) (profile : Profile) (old new : S) (result : ℕ) (out err : Sunk) →
+    CameTo bytes faults (Some (Check profile)) (Image old) (Image new) result out err → (image : List ℕ) → bytes old ≡ Some image → (IsWellFormed profile image → ⊥) → IsFoundOrFree result
+checked_flawed bytes faults profile old new result out err a image told unsound =
+    flawed_row bytes faults (Some (Check profile)) (Image old) (Image new) result out err a
+    (record { command = Check profile; image = image; profile = profile; words = refl; given = told; checks = refl; unsound = unsound })

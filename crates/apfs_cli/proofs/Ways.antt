@@ -6,23 +6,19 @@ use Rattle.apfs_model.proofs.Searches.{found-in}
 use Rattle.obj_base.specs.declared.stop.Stop.{Stop}
 use Rattle.obj_base.specs.declared.stop.Stop.TheVariants.{Found, Unsupported, ReadFault, NoMemory}
 use Rattle.obj_base.specs.Stops.{Tells, IsFree}
-use Rattle.nx_ring.specs.declared.fault.RingFault.{RingFault}
 use Rattle.nx_ring.specs.Checkpoint.{Seen, site_of}
-use Rattle.nx_ring.specs.Newest.{IsFault as IsNewestFault, IsFeature as IsNewestFeature}
-use Rattle.nx_ring.specs.Ring.{IsRingFault, IsRingFeature}
 use Rattle.vol_view.specs.declared.head.VolHead.{VolHead}
 use Rattle.vol_view.specs.declared.stop.VolStop.{VolStop}
 use Rattle.vol_view.specs.Heads.{heads_of}
 use Rattle.vol_view.specs.Stops.{IsHeadsStop, IsHeadsFeature, AreRight, AreHeads}
 use Rattle.vol_view.specs.LoadStops.{IsLoadStop, IsLoadFeature, IsLoadable}
-use Rattle.apfs_check.specs.Raised.{of_ring, of_volume}
-use Rattle.apfs_check.specs.declared.fault.Fault.{Fault}
+use Rattle.apfs_check.specs.Raised.{of_volume}
 use Rattle.apfs_cli.specs.declared.stopped.Stopped.TheVariants as stops
 use Rattle.apfs_cli.specs.Checkpoints.{IsNewest}
 use Rattle.apfs_cli.specs.Meant.{meant_slot, meant_head, IsMeant, HasVolume, HasNoVolume}
-use Rattle.apfs_cli.specs.Reached.{IsClear, TellsWay, IsWhileLooking}
+use Rattle.apfs_cli.specs.Reached.{IsClear, TellsWay}
 use Rattle.apfs_cli.specs.Seen.{stopped_at}
-use Rattle.apfs_cli.proofs.Stops.{one_newest, no_newest_fault, no_newest_feature}
+use Rattle.apfs_cli.proofs.Stops.{one_newest}
 
 -- the slot that is meant holds one thing
 pub one_held : (image : List ℕ) (named : Option ℕ) (a b : Seen) (x y : Option VolHead) → IsMeant image named a x → IsMeant image named b y → x ≡ y
@@ -50,16 +46,6 @@ right_at : (image : List ℕ) (seen : Seen) → IsNewest image seen → HasRight
 right_at image seen newest has =
     let P : Seen → Type 0 = λ s. AreRight image s in
     subst P (one_newest image has.seen seen has.newest.newest newest.newest) has.right
-
--- what stops the search for the newest checkpoint
-pub newest_way : (image : List ℕ) (named : Option ℕ) (stop : Stop RingFault) →
-    Tells (IsNewestFault image) (IsNewestFeature image) stop → Tells (IsRingFault image) (IsRingFeature image) stop → TellsWay image named (stopped_at of_ring stop)
-newest_way image named (Found why) first there =
-    (λ clear. let has = has_right image named clear in no_newest_fault image why has.seen first has.newest, inl (why, first, there, refl))
-newest_way image named (Unsupported feature block) first there =
-    (λ clear. let has = has_right image named clear in no_newest_feature image feature block has.seen first has.newest, inl (first, there))
-newest_way image named ReadFault first there = tt
-newest_way image named NoMemory first there = tt
 
 -- what stops the heads of the volumes
 pub heads_way : (image : List ℕ) (named : Option ℕ) (seen : Seen) (stop : Stop VolStop) → IsNewest image seen →
@@ -91,20 +77,6 @@ load_way image named seen head (Unsupported feature block) meant there exact =
     (λ clear. exact (loadable_at image named seen head meant clear), inr (inr (record { seen = seen; head = head; meant = meant; there = there })))
 load_way image named seen head ReadFault meant there exact = tt
 load_way image named seen head NoMemory meant there exact = tt
-
--- a stop of a layer comes while an image is looked at
-pub looking_at : {F : Type 0} (fault : F → Fault) (stop : Stop F) → IsWhileLooking (stopped_at fault stop)
-looking_at fault (Found why) = tt
-looking_at fault (Unsupported feature block) = tt
-looking_at fault ReadFault = tt
-looking_at fault NoMemory = tt
-
--- a run stops for a failed read where the layer does
-pub read_fault_at : {F : Type 0} (fault : F → Fault) (stop : Stop F) → stopped_at fault stop ≡ stops.ReadFailed → stop ≡ ReadFault
-read_fault_at fault (Found why) e = Prim.cc
-read_fault_at fault (Unsupported feature block) e = Prim.cc
-read_fault_at fault ReadFault e = refl
-read_fault_at fault NoMemory e = Prim.cc
 
 -- what the slot that is meant holds, by the heads that were told
 pub held_at : (image : List ℕ) (named : Option ℕ) (seen : Seen) (heads list : List VolHead) (held : Option VolHead) → IsNewest image seen → AreHeads image seen heads → list ≡ heads →

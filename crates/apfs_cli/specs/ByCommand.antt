@@ -72,7 +72,7 @@ IsFault (Tree checks target) image fault = FaultBy checks image fault (tree.IsFa
 IsFault (Cat checks target) image fault = FaultBy checks image fault (cat.IsFault target image fault)
 IsFault (Xattr checks target name) image fault = FaultBy checks image fault (xattr.IsFault target image fault)
 
--- a feature, with its block, that a command may refuse of an image: one that is there, and where the container isn't checked no fault comes first
+-- a feature, with its block, that a command may refuse of an image: one that is there
 abbrev pub IsFeature : Asked → List ℕ → Feature → ℕ → Type 0
 IsFeature Ring image feature block = ring.IsFeature image feature block
 IsFeature Info image feature block = info.IsFeature image feature block

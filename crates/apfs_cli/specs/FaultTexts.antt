@@ -8,12 +8,12 @@ use Rattle.obj_base.specs.declared.stop.Within.TheVariants.{Physical, Ephemeral,
 use Rattle.bt_node.specs.declared.fault.NodeFault.{NodeFault}
 use Rattle.bt_node.specs.declared.fault.NodeFault.TheVariants.{Head, Level, Flags as WrongFlags, Bounds, Key, Empty, Ghost}
 use Rattle.fs_name.specs.Shown.{shown_name}
-use Rattle.fs_record.specs.declared.fault.IdAt.{IdAt}
-use Rattle.fs_record.specs.declared.fault.NamedAt.{NamedAt}
 use Rattle.fs_record.specs.declared.fault.RecFault.{RecFault}
 use Rattle.fs_record.specs.declared.fault.RecFault.TheVariants.{Length, Name, Fields, Flags}
 use Rattle.reach_rules.specs.declared.fault.Why.{Why}
 use Rattle.reach_rules.specs.declared.fault.Why.TheVariants.{Node, Magic}
+use Rattle.view_rules.specs.declared.fault.IdAt.{IdAt}
+use Rattle.view_rules.specs.declared.fault.NamedAt.{NamedAt}
 use Rattle.apfs_check.specs.declared.fault.Fault.{Fault}
 use Rattle.apfs_check.specs.declared.fault.Fault.TheVariants.{BlockZero, Truncated, NoCheckpoint, Unsound, Unnamed, NamedTwice, OwnedTwice, Outside, UnusedMapping, Leaked, Missing, PoolLeaked, PoolMissing, SpaceGeometry, SpaceCab, SpaceCib, SpaceIndex, SpacePlace, SpaceFreeCount, SpaceFreeTotal, PoolCount, PoolIndex, PoolPlace, SnapRecord, SnapCount, SnapName, OmapSnaps, TreeOrder, TreeCounts, Order, Counts, TreeRecord, Record, DupName, Hash, NoParent, NoInode, KindMismatch, DirNames, Unreached, Children, Links, SiblingLost, ExtentOrder, ExtentPlace, ExtentUncovered, LinkTarget, Stream, AttrOwner, NameHash, DataUnreached, DataCount}
 use Rattle.apfs_cli.specs.Texts.{◌▹◌}

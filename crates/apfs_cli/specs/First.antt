@@ -1,9 +1,10 @@
 -- What is said of a command that checks the container first, by what is said of it without a check.
-use Rattle.std.specs.Prelude.{ℕ, List}
+use Rattle.std.specs.Prelude.{ℕ, List, Option, None, Some}
 use Rattle.obj_base.specs.declared.stop.Feature.{Feature}
 use Rattle.apfs_check.specs.Present.{IsPresent, IsFeature}
 use Rattle.apfs_check.specs.WellFormed.{IsWellFormed}
 use Rattle.apfs_check.specs.declared.fault.Fault.{Fault}
+use Rattle.view_rules.specs.declared.profile.Profile.{Profile}
 use Rattle.apfs_cli.specs.declared.words.Checks.{Checks}
 use Rattle.apfs_cli.specs.declared.words.Checks.TheVariants.{Quick, First}
 
@@ -26,3 +27,8 @@ FeatureBy (First profile) image feature block is = IsFeature image feature block
 abbrev pub RestsBy : Checks → Type 0 → Type 0
 RestsBy Quick rests = rests
 RestsBy (First profile) rests = Unit {0}
+
+-- a fault is present in a container: under the profile of a check, and without one under each
+abbrev pub PresentBy : Option Profile → List ℕ → Fault → Type 0
+PresentBy None image fault = (profile : Profile) → IsPresent profile image fault
+PresentBy (Some profile) image fault = IsPresent profile image fault

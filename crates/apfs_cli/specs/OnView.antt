@@ -1,8 +1,8 @@
 -- What a command on a view writes, answers and names, by what is wanted of the view.
 use Rattle.std.specs.Prelude.{◌≡◌, ◌⊎◌, ℕ, List, Result, Ok, Err}
+use Rattle.view_rules.specs.declared.fault.TreeFault.{TreeFault}
 use Rattle.cmd_words.specs.Asked.{AskedTarget}
 use Rattle.obj_base.specs.declared.stop.Feature.{Feature}
-use Rattle.fs_record.specs.declared.fault.TreeFault.{TreeFault}
 use Rattle.nx_ring.specs.Checkpoint.{Seen, site_of}
 use Rattle.vol_view.specs.Volumes.{Loaded}
 use Rattle.vol_view.specs.Views.{IsViewFeature}

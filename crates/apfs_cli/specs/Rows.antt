@@ -4,10 +4,12 @@ use Rattle.apfs_model.specs.Sink.{Wrote}
 use Rattle.blk_source.specs.declared.source.Opened.{Opened}
 use Rattle.obj_base.specs.declared.stop.Feature.{Feature}
 use Rattle.view_rules.specs.declared.profile.Profile.{Profile}
+use Rattle.apfs_check.specs.Present as container
 use Rattle.apfs_check.specs.WellFormed.{IsWellFormed}
 use Rattle.apfs_check.specs.declared.fault.Fault.{Fault}
 use Rattle.path_walk.specs.declared.answer.Answer.{Answer}
 use Rattle.apfs_cli.specs.ByCommand.{takes_image, IsText, IsFault, IsFeature, IsAnswer, profile_of}
+use Rattle.apfs_cli.specs.First.{PresentBy}
 use Rattle.apfs_cli.specs.Outcome.{Outcome, text_of, line_of, Written, Faulty, ReadFailed, OutOfMemory, Refused, Answered}
 use Rattle.apfs_cli.specs.Says.{IsGiven, OfRun, HasFailed, IsPart, IsTextIf, StopsAt, AnswersAt}
 use Rattle.apfs_cli.specs.Words.{Asked}
@@ -21,15 +23,23 @@ BothWrote out err outcome = Wrote out.old out.new (text_of outcome) × Wrote err
 abbrev pub HasText : {S : Type 0} → (S → Option (List ℕ)) → Option Asked → Opened S → Sunk → Sunk → Type 0
 HasText bytes command image out err = (text : List ℕ) × OfRun bytes command image (λ c bs. IsTextIf c bs text) × BothWrote out err (Written text)
 
--- the second sink has the line of a fault that is there more, the first what the command writes before it looks
+-- a fault that the command may name, and that is present by the definition of the check
+abbrev pub IsNamed : Asked → List ℕ → Fault → Type 0
+IsNamed command image fault = IsFault command image fault × PresentBy (profile_of command) image fault
+
+-- a feature that the command may refuse, and that is present by the definition of the check
+abbrev pub IsRefused : Asked → List ℕ → Feature → ℕ → Type 0
+IsRefused command image feature block = IsFeature command image feature block × container.IsFeature image feature block
+
+-- the second sink has the line of a fault that is present more, the first what the command writes before it looks
 abbrev pub NamesFault : {S : Type 0} → (S → Option (List ℕ)) → Option Asked → Opened S → Sunk → Sunk → Type 0
 NamesFault bytes command image out err =
-    (lead : List ℕ) × (fault : Fault) × OfRun bytes command image (λ c bs. StopsAt c bs lead (IsFault c bs fault)) × BothWrote out err (Faulty lead fault)
+    (lead : List ℕ) × (fault : Fault) × OfRun bytes command image (λ c bs. StopsAt c bs lead (IsNamed c bs fault)) × BothWrote out err (Faulty lead fault)
 
--- the second sink has the line of a feature that is there more, the first what the command writes before it looks
+-- the second sink has the line of a feature that is present more, the first what the command writes before it looks
 abbrev pub NamesFeature : {S : Type 0} → (S → Option (List ℕ)) → Option Asked → Opened S → Sunk → Sunk → Type 0
 NamesFeature bytes command image out err =
-    (lead : List ℕ) × (feature : Feature) × (block : ℕ) × OfRun bytes command image (λ c bs. StopsAt c bs lead (IsFeature c bs feature block)) × BothWrote out err (Refused lead feature block)
+    (lead : List ℕ) × (feature : Feature) × (block : ℕ) × OfRun bytes command image (λ c bs. StopsAt c bs lead (IsRefused c bs feature block)) × BothWrote out err (Refused lead feature block)
 
 -- the second sink has the line of an answer more, which is the command's only one, and the first what the command writes before it looks
 abbrev pub NamesAnswer : {S : Type 0} → (S → Option (List ℕ)) → Option Asked → Opened S → Sunk → Sunk → Type 0

@@ -12,7 +12,7 @@ use Rattle.apfs_cli.specs.Texts.{IsPrefix}
 use Rattle.apfs_cli.specs.ByCommand.{takes_image, lead_of, IsText, IsFault, IsFeature, IsAnswer, RestsOn, HasResult}
 use Rattle.apfs_cli.specs.Outcome.{Outcome, text_of, Written, Faulty, Usage, ReadFailed, WriteFailed, OutOfMemory, Refused, Answered, NoImage}
 use Rattle.apfs_cli.specs.Seen.{outcome_of}
-use Rattle.apfs_cli.specs.Written.{Sunk, Failed}
+use Rattle.apfs_cli.specs.Written.{Sunk, Failed, Ends}
 
 -- an image is wanted, and none was handed in
 abbrev pub LacksImage : {S : Type 0} → Bool → Opened S → Type 0
@@ -92,6 +92,10 @@ Says bytes faults command old new out NoImage = HasNoImage command old
 abbrev pub HasEnded : {S : Type 0} → (S → Option (List ℕ)) → (S → ℕ) → Option Asked → Opened S → Opened S → Result Unit Stopped → Sunk → Type 0
 HasEnded bytes faults command old new ended out =
     (part : List ℕ) × Says bytes faults command old new out (outcome_of ended part) × Wrote out.old out.new (text_of (outcome_of ended part))
+
+-- a run comes to an outcome that words and image allow, has written its text, and has said its line and given its status
+abbrev pub CameTo : {S : Type 0} → (S → Option (List ℕ)) → (S → ℕ) → Option Asked → Opened S → Opened S → ℕ → Sunk → Sunk → Type 0
+CameTo bytes faults command old new result out err = (outcome : Outcome) × Says bytes faults command old new out outcome × Ends result outcome out err
 
 -- what was handed in for the image stays what it was: absent, or a source of the same size and bytes
 abbrev pub IsOpenedKept : {S : Type 0} → (S → Option (List ℕ)) → (S → ℕ) → Opened S → Opened S → Type 0

@@ -5,6 +5,7 @@ use Rattle.apfs_model.specs.Sink.{Wrote, WrotePart}
 use Rattle.apfs_cli.specs.declared.stopped.Stopped.{Stopped}
 use Rattle.apfs_cli.specs.declared.stopped.Stopped.TheVariants.{Faulty, Usage, ReadFailed, WriteFailed, OutOfMemory, Refused, Answered, NoImage}
 use Rattle.apfs_cli.specs.Outcome.{Outcome, status_of, text_of, line_of}
+use Rattle.apfs_cli.specs.Texts.{out_of_memory_line}
 
 -- a sink before and after the run: its contents where it tells them, and how often it failed
 pub record Sunk : Type 0 where
@@ -55,6 +56,10 @@ pub record LacksLine (result : ℕ) (line : List ℕ) (err : Sunk) : Type 0 wher
 -- what the second sink and the status say
 abbrev pub IsSaid : ℕ → ℕ → List ℕ → Sunk → Type 0
 IsSaid result status line err = HasLine result status line err ⊎ LacksLine result line err
+
+-- the line of an outcome was said, or that there was no memory for it
+abbrev pub IsClosed : ℕ → Outcome → Sunk → Type 0
+IsClosed result outcome err = IsSaid result (status_of outcome) (line_of outcome) err ⊎ IsSaid result 5 out_of_memory_line err
 
 -- a run ends so with an outcome
 pub record Ends (result : ℕ) (outcome : Outcome) (out err : Sunk) : Type 0 where

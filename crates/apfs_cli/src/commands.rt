@@ -8,7 +8,7 @@ ghost use Rattle.apfs_cli.specs.ByCommand.{quick};
 ghost use Rattle.apfs_cli.specs.Written.{sunk};
 
 mod cat;
-mod check;
+pub mod check;
 mod checked;
 mod info;
 mod ls;

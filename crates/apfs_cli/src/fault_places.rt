@@ -6,12 +6,13 @@ ghost use Rattle.apfs_cli.specs.FaultTexts as texts;
 ghost use Rattle.apfs_cli.specs.ReportText as notes;
 
 use crate::fault_words::{record_word, why_word, within_text};
-use crate::shown::push_name;
 use apfs_model::Bytes;
-use fs_record::{IdAt, NamedAt, RecFault};
+use fs_name::push_shown;
+use fs_record::RecFault;
 use obj_base::Within;
 use reach_rules::Why;
 use std::alloc::{AllocError, Global};
+use view_rules::{IdAt, NamedAt};
 
 /// A word alone.
 pub fn plain(alloc: Global, word: &str) -> Result<Vec<u8>, AllocError>
@@ -147,7 +148,7 @@ fn named(
 {
     let mut text = object(alloc, word, slot, xid, id)?;
     text.extend_from_slice(b" name ")?;
-    push_name(&mut text, name)?;
+    push_shown(&mut text, name)?;
     Ok(text)
 }
 

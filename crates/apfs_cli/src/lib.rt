@@ -17,7 +17,7 @@ mod stopped;
 mod target_line;
 mod words;
 
-pub use program::run;
+pub use program::{report, run};
 pub use put::{Line, put_lines};
 pub use stopped::Stopped;
 pub use words::{Checks, Command, asked};

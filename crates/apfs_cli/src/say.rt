@@ -1,11 +1,10 @@
 // The line that says why there is no text, and the status.
 ghost use Rattle.std.specs.Prelude.{◌⊎◌, ◌≡◌, List, ℕ, IfOk};
 ghost use Rattle.apfs_cli.specs.FaultTexts as texts;
-ghost use Rattle.apfs_cli.specs.Outcome.{status_of, line_of};
 ghost use Rattle.apfs_cli.specs.Seen.{outcome_of};
 ghost use Rattle.apfs_cli.specs.Texts.{out_of_memory_line};
 ghost use Rattle.apfs_cli.specs.Texts as lines;
-ghost use Rattle.apfs_cli.specs.Written.{sunk, IsSaid};
+ghost use Rattle.apfs_cli.specs.Written.{sunk, IsSaid, IsClosed};
 
 use crate::fault_text::fault_text;
 use crate::stopped::Stopped;
@@ -79,9 +78,7 @@ fn put_built<E: Sink>(status: u8, line: Result<Vec<u8>, AllocError>, err: &mut E
 
 /// Says on the second sink why the run stopped, or that there was no memory for its line, and gives the status.
 pub fn say<E: Sink>(alloc: Global, stopped: Stopped, err: &mut E) -> u8
-    ensures { (part : List ℕ) →
-        IsSaid result (status_of (outcome_of (Err stopped) part)) (line_of (outcome_of (Err stopped) part)) (sunk E.contents E.faults err.old err.new)
-        ⊎ IsSaid result 5 out_of_memory_line (sunk E.contents E.faults err.old err.new) }
+    ensures { (part : List ℕ) → IsClosed result (outcome_of (Err stopped) part) (sunk E.contents E.faults err.old err.new) }
 {
     match stopped {
         Stopped::Faulty(fault) => put_built(1, fault_line(alloc, &fault), err),

@@ -5,7 +5,7 @@ ghost use Rattle.std.specs.String.{string_bytes};
 ghost use Rattle.path_walk.specs.Shown.{shown_at};
 ghost use Rattle.path_walk.specs.Texts as texts;
 
-use crate::shown::push_name;
+use fs_name::push_shown;
 use path_walk::Target;
 use std::alloc::{AllocError, Global};
 
@@ -58,7 +58,7 @@ fn shown_name(alloc: Global, id: u64, name: &[u8]) -> Result<Vec<u8>, AllocError
     if id == ROOT {
         shown.extend_from_slice(name)?;
     } else {
-        push_name(&mut shown, name)?;
+        push_shown(&mut shown, name)?;
     }
     Ok(shown)
 }

@@ -1,20 +1,17 @@
 -- What a cache keeps after a call.
-use Rattle.std.proofs.Common.{◌≡◌, ◌⊎◌, inl, inr, ℕ, ◌+◌, ◌-◌, ◌*◌, ◌≤◌, ◌<◌, ◌^◌, Bool, true, false, min, List, [], ◌∷◌, length, take, Option, Some, None, is_some, Contains, nat_eq, Vec, refl, sym, ap, subst, ◌∙◌, arith}
+use Rattle.std.proofs.Common.{◌≡◌, inl, inr, ℕ, ◌+◌, ◌-◌, ◌*◌, ◌≤◌, ◌<◌, true, min, List, length, Option, Some, None, is_some, Contains, nat_eq, Vec, refl, sym, ap, subst, ◌∙◌, arith}
 use Rattle.std.proofs.lemmas.Grind.{common_steps}
 use Rattle.std.proofs.lemmas.Bool.Decides.{nat_tests}
-use Rattle.std.specs.Option.{option_map_or}
-use Rattle.std.specs.Map.{lookup, lookup_entry, remove_entry}
-use Rattle.std.specs.Cmp.{nat_eq_equiv}
+use Rattle.std.specs.Map.{lookup}
 use Rattle.std.specs.declared.alloc.Global.{Global}
-use Rattle.lru.specs.LruCache.{LruCache, lru_cache, promoted, put_entries}
-use Rattle.lru.proofs.CallerLemmas.{Contains-lookup, Contains-promoted, Contains-put_entries, lookup-put_entries}
-use Rattle.apfs_model.specs.Counts.{one_more, Rose}
+use Rattle.lru.specs.LruCache.{LruCache, lru_cache, promoted}
+use Rattle.lru.proofs.CallerLemmas.{Contains-lookup, Contains-promoted}
 use Rattle.apfs_model.specs.Source.{IsKept}
 use Rattle.apfs_model.specs.Blocks.{block_of}
 use Rattle.obj_base.specs.BlockSize.{is_accepted}
-use Rattle.blk_cache.specs.Keeping.{keeps, Touches, IsFull, IsCopy, IsCache, Grows, IsSame}
+use Rattle.blk_cache.specs.Keeping.{keeps, Touches, IsCopy, IsCache, Grows, IsSame}
 use Rattle.blk_cache.specs.declared.store.Store.{Store}
-use Rattle.std.specs.Prelude.{IfSome, slice_range, ◌%◌, ◌/◌}
+use Rattle.std.specs.Prelude.{IfSome, slice_range, ◌/◌}
 use Rattle.blk_cache.proofs.Fronts.{promoted-found, promoted-length}
 use Rattle.apfs_model.specs.Source.{Copies}
 use Rattle.blk_cache.proofs.Ranges.{range-range, range-clip}
@@ -91,6 +88,14 @@ module _ {S : Type 0} (bytes : S → Option (List ℕ)) (bytes_len : S → ℕ) 
       let (k, there, same) = Contains-lookup (nat_eq block) store.blocks.entries v e in
       subst (λ (n : ℕ). IsCopy bytes bytes_len inner store.size (n, v)) (same-number block k same) (cache.copies (k, v) there)
 
+  kept-case : (inner : S) (store : Store) (block : ℕ) (o : Option (Vec ℕ Global)) → IsCache bytes bytes_len inner store → lookup (nat_eq block) store.blocks.entries ≡ o → is_some o ≡ true → store.size * block < bytes_len inner
+  kept-case inner store block None cache e some = absurd (cc)
+  kept-case inner store block (Some v) cache e some = (found_copy inner store block v cache e).inside
+
+  -- a block that is kept lies before the source's end
+  pub kept_inside : (inner : S) (store : Store) (block : ℕ) → IsCache bytes bytes_len inner store → keeps store block ≡ true → store.size * block < bytes_len inner
+  kept_inside inner store block cache = kept-case inner store block (lookup (nat_eq block) store.blocks.entries) cache refl
+
   served-case : (inner : S) (store : Store) (block from n : ℕ) (part : List ℕ) (o : Option (Vec ℕ Global)) → IsCache bytes bytes_len inner store → lookup (nat_eq block) store.blocks.entries ≡ o → is_some o ≡ true → IfSome o (λ v. part ≡ slice_range v.items from (from + n)) → from + n ≤ store.size → (image : List ℕ) → bytes inner ≡ Some image → part ≡ slice_range image (store.size * block + from) (store.size * block + from + n)
   unfolding block_of
   served-case inner store block from n part None cache e some shown within image told = cc
@@ -130,15 +135,17 @@ module _ {S : Type 0} (bytes : S → Option (List ℕ)) (bytes_len : S → ℕ) 
     room = cache.room;
     fits = cache.fits;
     copies = λ entry there. record {
+      inside = omega (arith, (cache.copies entry there).inside, kept.same_size);
       long = (cache.copies entry there).long ∙ ap (λ (n : ℕ). min store.size (n - store.size * entry.0)) (sym kept.same_size);
       same = λ image told. (cache.copies entry there).same image (sym kept.same_bytes ∙ told);
     };
   }
 
   -- a block that was read to its end is a copy
-  pub read_copy : (inner : S) (size block : ℕ) (v : Vec ℕ Global) → ((s : S) (image : List ℕ) → bytes s ≡ Some image → length image ≡ bytes_len s) → length v.items ≡ min size (bytes_len inner - size * block) → ((image : List ℕ) → bytes inner ≡ Some image → Copies image (size * block) v.items) → IsCopy bytes bytes_len inner size (block, v)
+  pub read_copy : (inner : S) (size block : ℕ) (v : Vec ℕ Global) → ((s : S) (image : List ℕ) → bytes s ≡ Some image → length image ≡ bytes_len s) → size * block < bytes_len inner → length v.items ≡ min size (bytes_len inner - size * block) → ((image : List ℕ) → bytes inner ≡ Some image → Copies image (size * block) v.items) → IsCopy bytes bytes_len inner size (block, v)
   unfolding block_of
-  read_copy inner size block v whole long read = record {
+  read_copy inner size block v whole inside long read = record {
+    inside = inside;
     long = long;
     same = λ image told.
         read image told

@@ -1,19 +1,18 @@
 -- What a cache keeps after a block that wasn't kept was put.
-use Rattle.std.proofs.Common.{◌≡◌, ◌⊎◌, inl, inr, ℕ, ◌+◌, ◌-◌, ◌≤◌, ◌<◌, ◌^◌, Bool, true, false, List, ◌∷◌, length, take, Option, Some, None, is_some, Contains, nat_eq, Vec, refl, sym, ap, subst, ◌∙◌, arith, length-take, take_all}
+use Rattle.std.proofs.Common.{◌≡◌, ◌⊎◌, inl, inr, ℕ, ◌+◌, ◌-◌, ◌<◌, true, false, List, ◌∷◌, length, take, Option, is_some, Contains, nat_eq, Vec, sym, ap, subst, ◌∙◌, arith, length-take, take_all}
 use Rattle.std.proofs.lemmas.Bool.{cases_lt}
-use Rattle.std.specs.Prelude.{cond}
 use Rattle.std.specs.Option.{option_map_or}
-use Rattle.std.specs.Map.{lookup, lookup_entry, remove_entry}
+use Rattle.std.specs.Map.{lookup, remove_entry}
 use Rattle.std.specs.Cmp.{nat_eq_equiv}
 use Rattle.std.specs.declared.alloc.Global.{Global}
-use Rattle.lru.specs.LruCache.{LruCache, lru_cache, put_entries}
-use Rattle.lru.proofs.CallerLemmas.{Contains-put_entries, lookup-put_entries, IsPut}
-use Rattle.apfs_model.specs.Counts.{one_more, Rose}
+use Rattle.lru.specs.LruCache.{lru_cache, put_entries}
+use Rattle.lru.proofs.CallerLemmas.{Contains-put_entries, lookup-put_entries}
+use Rattle.apfs_model.specs.Counts.{one_more}
 use Rattle.obj_base.specs.BlockSize.{is_accepted}
 use Rattle.blk_cache.specs.Keeping.{keeps, IsFull, IsCopy, IsCache, Grows}
 use Rattle.blk_cache.specs.declared.store.Store.{Store}
 use Rattle.blk_cache.proofs.Fronts.{no-entry, more}
-use Rattle.blk_cache.proofs.Keeps.{Blocks, Entry, same-number, lost_grows, lost_cache}
+use Rattle.blk_cache.proofs.Keeps.{Blocks, Entry, same-number}
 
 -- a block was put
 pub record IsPutIn (old new : Store) (block : ℕ) (v : Vec ℕ Global) : Type 0 where

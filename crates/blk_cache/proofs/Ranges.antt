@@ -1,7 +1,8 @@
 -- Ranges of ranges.
-use Rattle.std.proofs.Common.{◌≡◌, ℕ, ◌+◌, ◌-◌, ◌≤◌, min, List, ◌++◌, length, take, drop, slice_range, refl, sym, ap, ◌∙◌, arith, length-append}
+use Rattle.std.proofs.Common.{◌≡◌, ℕ, ◌+◌, ◌-◌, ◌/◌, ◌%◌, ◌≤◌, min, List, ◌++◌, length, take, drop, slice_range, sym, ap, ◌∙◌, arith, length-append}
 use Rattle.apfs_model.specs.Source.{Copies}
 use Rattle.std.proofs.lemmas.Grind.{common_steps}
+use Rattle.std.proofs.lemmas.Nat.{div-add-mod', div-mul-add, le-div}
 use Rattle.std.proofs.lemmas.List.{take-append-drop, take-take, drop-drop, drop-take}
 
 -- a range that is cut at the end
@@ -51,3 +52,13 @@ copies-append image front rest at from first second follows =
     ∙ ap (λ l. slice_range image at (at + length front) ++ l) (second ∙ ap (λ (k : ℕ). slice_range image k (k + length rest)) follows)
     ∙ range-append image at (length front) (length rest)
     ∙ ap (λ (k : ℕ). slice_range image at (at + k)) (sym (length-append front rest))
+
+-- the place after the rest of a block lies in the next one
+pub rest_onward : (at n size : ℕ) → 1 ≤ size → at % size + n ≡ size → (at + n) / size ≡ at / size + 1
+rest_onward at n size some e =
+    let whole = div-add-mod' at size in
+    ap (λ (k : ℕ). k / size) (omega (arith, whole, e)) ∙ div-mul-add (at / size + 1) size 0 (omega arith)
+
+-- a place further on lies in no block before
+pub block_later : (at later size : ℕ) → 1 ≤ size → at ≤ later → at / size ≤ later / size
+block_later at later size some low = le-div (at / size) later size some (omega (arith, div-add-mod' at size))

@@ -22,8 +22,13 @@ Touches size at len block = (at < size * block + size) × (size * block < at + l
 abbrev pub last_touched : ℕ → ℕ → ℕ → ℕ
 last_touched size at len = (at + len - 1) / size
 
--- a block that is kept has the bytes of the source, as far as it goes on, where they are told
+-- how many blocks such a read touches, where it has a byte or more
+abbrev pub touched_count : ℕ → ℕ → ℕ → ℕ
+touched_count size at len = last_touched size at len - at / size + 1
+
+-- a block that is kept lies before the source's end, and has the bytes of the source, as far as it goes on, where they are told
 pub record IsCopy {S : Type 0} (bytes : S → Option (List ℕ)) (bytes_len : S → ℕ) (inner : S) (size : ℕ) (entry : ℕ × Vec ℕ Global) : Type 0 where
+  pub inside : size * entry.0 < bytes_len inner
   pub long : length entry.1.items ≡ min size (bytes_len inner - size * entry.0)
   pub same : (image : List ℕ) → bytes inner ≡ Some image → entry.1.items ≡ block_of size image entry.0
 

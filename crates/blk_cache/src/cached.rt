@@ -1,9 +1,9 @@
 // A source over another one, of which it keeps blocks.
-ghost use Rattle.std.specs.Prelude.{◌≡◌, ◌⊎◌, ◌+◌, ◌≤◌, ◌<◌, ℕ, List, Some, true, false, length, OnOk, OnErr, IfOk, IfErr};
+ghost use Rattle.std.specs.Prelude.{◌≡◌, ◌⊎◌, ◌+◌, ◌*◌, ◌≤◌, ◌<◌, ℕ, List, Some, true, false, length, OnOk, OnErr, IfOk, IfErr};
 ghost use Rattle.apfs_model.specs.Counts.{one_more, Rose};
 ghost use Rattle.apfs_model.specs.Source.{Copies};
 ghost use Rattle.obj_base.specs.BlockSize.{is_accepted};
-ghost use Rattle.blk_cache.specs.Keeping.{keeps, IsFull, Touches, last_touched, IsCache};
+ghost use Rattle.blk_cache.specs.Keeping.{keeps, IsFull, Touches, last_touched, touched_count, IsCache};
 
 use crate::part::parts;
 use crate::store::Store;
@@ -55,7 +55,10 @@ impl<S: BlockSource> Cached<S> {
 
     /// Whether the cache has kept block `block`.
     pub fn kept(&self, block: u64) -> bool
-        ensures { result ≡ keeps self.now.store block }
+        ensures value { result ≡ keeps self.now.store block }
+
+        // A block that is kept lies before the end of the source.
+        ensures before_end { result ≡ true → self.now.store.size * block < S.bytes_len self.now.inner }
     {
         self.store.blocks.contains(&block)
     }
@@ -115,6 +118,9 @@ impl<S: BlockSource> BlockSource for Cached<S> {
         ensures later { S.faults self.old.inner ≤ S.faults self.new.inner }
         ensures reads { self.new.reads ≡ one_more self.old.reads }
 
+        // The source is read at most once for each block that the read touches, by its own count.
+        ensures once_each { S.reads self.new.inner ≤ S.reads self.old.inner + touched_count self.old.store.size at (length into.old) }
+
         // Where each block that it touches is kept, the source isn't read, and no block is lost.
         ensures served { ((k : ℕ) → Touches self.old.store.size at (length into.old) k → keeps self.old.store k ≡ true) → (S.reads self.new.inner ≡ S.reads self.old.inner) × (self.new.store.lost ≡ self.old.store.lost) }
 
@@ -123,6 +129,7 @@ impl<S: BlockSource> BlockSource for Cached<S> {
 
         // The last block that it touches is kept, or one was lost.
         ensures last { OnOk result ((keeps self.new.store (last_touched self.old.store.size at (length into.old)) ≡ true) ⊎ Rose self.old.store.lost self.new.store.lost) }
+        ensures lost { self.old.store.lost ≤ self.new.store.lost }
         ensures block { self.new.store.size ≡ self.old.store.size }
         ensures capacity { self.new.store.blocks.cap ≡ self.old.store.blocks.cap }
     {

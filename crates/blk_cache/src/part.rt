@@ -2,7 +2,7 @@
 ghost use Rattle.std.specs.Prelude.{◌≡◌, ◌⊎◌, ◌+◌, ◌-◌, ◌*◌, ◌/◌, ◌%◌, ◌≤◌, ◌<◌, ℕ, List, Some, None, true, false, length, min, take, OnOk, OnErr, IfOk};
 ghost use Rattle.apfs_model.specs.Counts.{one_more, Rose};
 ghost use Rattle.apfs_model.specs.Source.{Copies, IsKept};
-ghost use Rattle.blk_cache.specs.Keeping.{keeps, Touches, last_touched, IsCache, Grows, IsSame};
+ghost use Rattle.blk_cache.specs.Keeping.{keeps, Touches, last_touched, touched_count, IsCache, Grows, IsSame};
 
 use crate::store::Store;
 use blk_source::{BlockSource, ReadFailed};
@@ -103,6 +103,7 @@ fn part_len(size: u32, at: u64, left: usize) -> usize
     ensures some { 1 ≤ result }
     ensures few { result ≤ left }
     ensures within { at % size + result ≤ size }
+    ensures rest { (result ≡ left) ⊎ (at % size + result ≡ size) }
 {
     let rest = size as u64 - at % size as u64;
     left.min(rest as usize)
@@ -128,6 +129,8 @@ fn next<S: BlockSource>(
     ensures grows { Grows store.old store.new }
     ensures last { IfOk result (λ n. (keeps store.new (last_touched store.old.size at n) ≡ true) ⊎ Rose store.old.lost store.new.lost) }
     ensures served { keeps store.old ((at + done) / store.old.size) ≡ true → (S.reads inner.new ≡ S.reads inner.old) × IsSame store.old store.new }
+    ensures reads { S.reads inner.new ≤ S.reads inner.old + 1 }
+    ensures onward { IfOk result (λ n. n < length into.old → (at + n) / store.old.size ≡ (at + done) / store.old.size + 1) }
 {
     let _size = inner.size();
     let from = at + done as u64;
@@ -154,6 +157,7 @@ pub(crate) fn parts<S: BlockSource>(
     ensures grows { Grows store.old store.new }
     ensures last { OnOk result ((keeps store.new (last_touched store.old.size at (length into.old)) ≡ true) ⊎ Rose store.old.lost store.new.lost) }
     ensures served { ((block : ℕ) → Touches store.old.size at (length into.old) block → keeps store.old block ≡ true) → (S.reads inner.new ≡ S.reads inner.old) × IsSame store.old store.new }
+    ensures once_each { S.reads inner.new ≤ S.reads inner.old + touched_count store.old.size at (length into.old) }
 {
     let mut done = 0;
     while done < into.len() {

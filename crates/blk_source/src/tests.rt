@@ -2,6 +2,7 @@
 use crate::{BlockSource, FileSource, MemSink, MemSource, Opened, Sink, StdSink, SureSource};
 use std::fs::OpenFile;
 use std::io::{self, ErrorKind, Write};
+use std::os::unix::fs::FileExt;
 use std::test::Fail;
 use std::{env, fs, process};
 
@@ -59,6 +60,45 @@ fn a_file_is_read_and_its_end_is_a_failure(rt: HostRuntime) -> Result<(), Fail> 
     assert!(rt; source.read_at(8, &mut into[..2]).is_err());
     source.read_at(6, &mut into[..2])?;
     assert_eq!(rt; into, *b"6756");
+    // Of these four bytes the file has two.
+    assert!(rt; source.read_at(6, &mut into).is_err());
+    fs::remove_file(&rt, &path)?;
+    Ok(())
+}
+
+// More than 2^40 bytes, of which the file keeps the few that are written.
+const FAR: u64 = (1 << 40) + 3;
+
+#[test]
+fn a_file_is_read_far_out(rt: HostRuntime) -> Result<(), Fail> {
+    let name = format!(in rt.alloc(); "blk_source_far.{}", process::id(rt.process()))?;
+    let path = env::temp_dir(&rt)?.join(rt.alloc(), name.as_str())?;
+    let file = fs::create(&rt, &path)?;
+    file.write_all_at(b"near", 3)?;
+    file.write_all_at(b"far!", FAR)?;
+    let mut source = FileSource::new(fs::open(&rt, &path)?)?;
+    assert_eq!(rt; source.size(), FAR + 4);
+    let mut into = [0u8; 4];
+    source.read_at(FAR, &mut into)?;
+    assert_eq!(rt; into, *b"far!");
+    source.read_at(3, &mut into)?;
+    assert_eq!(rt; into, *b"near");
+    source.read_at(FAR - 4, &mut into)?;
+    assert_eq!(rt; into, [0; 4]);
+    fs::remove_file(&rt, &path)?;
+    Ok(())
+}
+
+#[test]
+fn a_file_that_may_not_be_read_fails(rt: HostRuntime) -> Result<(), Fail> {
+    let name = format!(in rt.alloc(); "blk_source_out.{}", process::id(rt.process()))?;
+    let path = env::temp_dir(&rt)?.join(rt.alloc(), name.as_str())?;
+    // A file that was opened to be written: the system refuses to read by its descriptor.
+    let file = fs::create(&rt, &path)?;
+    file.write_all_at(b"0123", 0)?;
+    let mut source = FileSource::new(file)?;
+    assert_eq!(rt; source.size(), 4);
+    assert!(rt; source.read_at(0, &mut [0u8; 4]).is_err());
     fs::remove_file(&rt, &path)?;
     Ok(())
 }
@@ -98,6 +138,41 @@ fn a_writer_that_takes_nothing_fails(rt: HostRuntime) -> Result<(), Fail> {
     sink.put(b"")?;
     assert!(rt; sink.put(b"cd").is_err());
     Ok(())
+}
+
+// A writer that refuses to write, or to hand on what it took.
+#[derive(Drop)]
+struct Refusing {
+    writes: bool,
+    flushes: bool,
+}
+
+impl Write for Refusing {
+    fn write(&mut self, piece: &[u8]) -> io::Result<usize> {
+        if self.writes {
+            return Err(io::Error::from(ErrorKind::BrokenPipe));
+        }
+        Ok(piece.len())
+    }
+
+    fn flush(&mut self) -> io::Result<()> {
+        if self.flushes {
+            return Err(io::Error::from(ErrorKind::StorageFull));
+        }
+        Ok(())
+    }
+}
+
+#[test]
+fn a_write_or_a_flush_that_fails_is_told(rt: HostRuntime) {
+    for (writes, flushes, fails) in [
+        (false, false, false),
+        (true, false, true),
+        (false, true, true),
+    ] {
+        let mut sink = StdSink::new(Refusing { writes, flushes });
+        assert_eq!(rt; sink.put(b"abc").is_err(), fails);
+    }
 }
 
 #[test]

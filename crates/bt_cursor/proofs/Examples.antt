@@ -15,7 +15,7 @@ use Rattle.bt_cursor.specs.Met.{nodes_of, is_walkable}
 use Rattle.bt_cursor.specs.Order.{is_misplaced_at, out_of_order}
 use Rattle.bt_cursor.specs.Counts.{is_counted}
 use Rattle.bt_cursor.specs.Whole.{is_whole}
-use Rattle.bt_cursor.specs.From.{from_rank}
+use Rattle.bt_cursor.specs.From.{from_rank, gapped_from_rank}
 
 -- a number in so many bytes
 abbrev little : ℕ → ℕ → List ℕ
@@ -103,6 +103,15 @@ gapped = refl
 pub flat_gapped : all_flat (gapped_of (tree (root 7 9 2 4 2 3) 7 9) 1) ≡ Ok (pair 7 7) ∷ Err (Found (Unnamed 4)) ∷ []
 unfolding fixed_place variable_place place_of key_in value_in flags_of level_of count_of table_offset_of table_length_of end_of table_begin keys_begin key_count_of node_count_of u16_at u32_at u64_at
 flat_gapped = refl
+
+-- where the first child isn't there, the gap stays ahead of a rank below the next entry's, and not of one above it
+pub sought_gap : gapped_from_rank shape (record { id = 8; kind = 0; sub = 0 }) (gapped_of (tree (root 7 9 4 3 2 3) 7 9) 1) ≡ Err (Found (Unnamed 4)) ∷ Ok (item_at 1 (pair 9 3)) ∷ Ok (item_at 0 (pair 9 7)) ∷ []
+unfolding fixed_place variable_place place_of key_in value_in flags_of level_of count_of table_offset_of table_length_of end_of table_begin keys_begin key_count_of node_count_of u16_at u32_at u64_at
+sought_gap = refl
+
+pub sought_past : gapped_from_rank shape (record { id = 9; kind = 0; sub = 0 }) (gapped_of (tree (root 7 8 4 3 2 3) 7 9) 1) ≡ Ok (item_at 0 (pair 9 7)) ∷ []
+unfolding fixed_place variable_place place_of key_in value_in flags_of level_of count_of table_offset_of table_length_of end_of table_begin keys_begin key_count_of node_count_of u16_at u32_at u64_at
+sought_past = refl
 
 pub unwalkable : is_walkable (tree (root 7 9 2 4 2 3) 7 9) 1 ≡ false
 unfolding fixed_place variable_place place_of key_in value_in flags_of level_of count_of table_offset_of table_length_of end_of table_begin keys_begin key_count_of node_count_of u16_at u32_at u64_at

@@ -1,5 +1,5 @@
 -- Entries that are met are in the flat list, and those of a run of ranks come one after another.
-use Rattle.std.proofs.Common.{◌≡◌, ◌==◌, ◌&&◌, ℕ, Bool, true, false, cond, List, [], ◌∷◌, ◌++◌, map, refl, ap, sym, ◌∙◌, subst, arith, All, inl}
+use Rattle.std.proofs.Common.{◌≡◌, ◌==◌, ◌&&◌, ℕ, Bool, true, false, cond, List, [], ◌∷◌, ◌++◌, map, Ok, refl, ap, sym, ◌∙◌, subst, arith, All, inl}
 use Rattle.std.specs.List.{filter, take_while}
 use Rattle.std.proofs.lemmas.Bool.{false≢true}
 use Rattle.std.proofs.lemmas.Bool.Decides.{nat_tests}
@@ -16,14 +16,15 @@ use Rattle.bt_cursor.specs.declared.namer.Namer as namers
 use Rattle.bt_cursor.specs.Tree.{Tree}
 use Rattle.bt_cursor.specs.Flat.{flat_of}
 use Rattle.bt_cursor.specs.Line.{Item, is_leaf_item, line_of, leaf_pairs}
-use Rattle.bt_cursor.specs.Gaps.{Gapped, gapped_of, met_in, all_met, flat_in, all_flat, IsSuffix}
+use Rattle.bt_cursor.specs.Gaps.{Gapped, gapped_of, met_in, all_met, flat_in, all_flat, is_gapless, IsSuffix}
 use Rattle.bt_cursor.specs.Order.{rank_of, is_ordered}
-use Rattle.bt_cursor.specs.From.{is_below_rank, from_rank, IsRun, run_in}
+use Rattle.bt_cursor.specs.From.{is_below_rank, from_rank, IsRun, run_in, gapped_from_rank, run_or_gap, starts_whole, is_run_whole}
 use Rattle.bt_cursor.specs.Search.{IsInOrder}
-use Rattle.bt_cursor.specs.Cursors.{root_of, tree_of, ahead_of, left_of, passed_of, IsOn, Moves}
+use Rattle.bt_cursor.specs.Cursors.{root_of, tree_of, ahead_of, gapped_left_of, left_of, passed_of, IsOn, Moves}
 use Rattle.bt_cursor.proofs.Flats.{flat-gapped, line-pairs}
 use Rattle.bt_cursor.proofs.Places.{in-right}
 use Rattle.bt_cursor.proofs.Ranks.{rank-above, ordered-means, leaf-each}
+use Rattle.bt_cursor.proofs.Seeks.{from-flat}
 use Rattle.bt_cursor.proofs.Suffixes.{way-suffix}
 
 -- what is left of a cursor's way is the end of its tree's Line with its gaps
@@ -123,6 +124,40 @@ run-taken test (t ∷ ts) others all ends =
     take_while-cons test t (ts ++ others)
     ∙ (ap (λ (b : Bool). cond b (t ∷ take_while test (ts ++ others)) []) (All-head (λ p. test p ≡ true) t ts all)
     ∙ ap (λ ps. t ∷ ps) (run-taken test ts others (All-tail (λ p. test p ≡ true) t ts all) ends))
+
+-- no gap stands at the start of a run: where it is empty, where its first entry isn't of it, and where what follows an entry of it starts whole
+pub whole-end : {K : Type 0} (shape : Shape K) (test : Rank → Bool) → starts_whole shape test [] ≡ true
+whole-end shape test = refl
+
+pub whole-over : {K : Type 0} (shape : Shape K) (test : Rank → Bool) (pair : Pair) (others : List (Gapped Pair)) → run_in shape test pair ≡ false → starts_whole shape test (Ok pair ∷ others) ≡ true
+whole-over shape test pair others over =
+    let first : Gapped Pair = Ok pair in
+    ap is_gapless (take_while-cons (run_or_gap shape test) first others ∙ ap (λ (b : Bool). cond b (first ∷ take_while (run_or_gap shape test) others) []) over)
+
+pub whole-on : {K : Type 0} (shape : Shape K) (test : Rank → Bool) (pair : Pair) (others : List (Gapped Pair)) → run_in shape test pair ≡ true → starts_whole shape test (Ok pair ∷ others) ≡ starts_whole shape test others
+whole-on shape test pair others on =
+    let first : Gapped Pair = Ok pair in
+    ap is_gapless (take_while-cons (run_or_gap shape test) first others ∙ ap (λ (b : Bool). cond b (first ∷ take_while (run_or_gap shape test) others) []) on)
+
+-- what is left of a cursor that moved on, and of one that stood at the end
+pub moved-whole : {K N : Type 0} {k : keys.Ghosts K} {n : namers.Ghosts N} (image : List ℕ) (old new : Cursor K N k n) (test : Rank → Bool) → Moves image old new true → run_in k.shape test (passed_of new) ≡ true →
+    starts_whole k.shape test (gapped_left_of old image) ≡ starts_whole k.shape test (gapped_left_of new image)
+moved-whole {k = k} image old new test moved on = ap (starts_whole k.shape test) moved ∙ whole-on k.shape test (passed_of new) (gapped_left_of new image) on
+
+pub moved-over : {K N : Type 0} {k : keys.Ghosts K} {n : namers.Ghosts N} (image : List ℕ) (old new : Cursor K N k n) (test : Rank → Bool) → Moves image old new true → run_in k.shape test (passed_of new) ≡ false → starts_whole k.shape test (gapped_left_of old image) ≡ true
+moved-over {k = k} image old new test moved over = ap (starts_whole k.shape test) moved ∙ whole-over k.shape test (passed_of new) (gapped_left_of new image) over
+
+pub moved-none : {K N : Type 0} {k : keys.Ghosts K} {n : namers.Ghosts N} (image : List ℕ) (old new : Cursor K N k n) (test : Rank → Bool) → Moves image old new false → starts_whole k.shape test (gapped_left_of old image) ≡ true
+moved-none {k = k} image old new test moved = ap (starts_whole k.shape test) moved
+
+-- from a rank on, on an ordered Line: what is left of the flat list, and that none is missing of a run where none is from there on
+pub left-from : {K N : Type 0} {k : keys.Ghosts K} {n : namers.Ghosts N} (image : List ℕ) (old new : Cursor K N k n) (rank : Rank) → is_ordered k.shape (line_of (tree_of old image) (root_of old)) ≡ true →
+    ahead_of new image ≡ gapped_from_rank k.shape rank (gapped_of (tree_of old image) (root_of old)) → left_of new image ≡ from_rank k.shape rank (flat_of (tree_of old image) (root_of old))
+left-from image old new rank ordered left = ap (λ xs. all_met (all_flat xs)) left ∙ from-flat (tree_of old image) (root_of old) rank ordered
+
+pub whole-from : {K N : Type 0} {k : keys.Ghosts K} {n : namers.Ghosts N} (image : List ℕ) (old new : Cursor K N k n) (rank : Rank) (test : Rank → Bool) → ahead_of new image ≡ gapped_from_rank k.shape rank (gapped_of (tree_of old image) (root_of old)) →
+    starts_whole k.shape test (gapped_left_of new image) ≡ true → is_run_whole (tree_of old image) (root_of old) rank test ≡ true
+whole-from {k = k} image old new rank test left whole = ap (λ xs. starts_whole k.shape test (all_flat xs)) (sym left) ∙ whole
 
 -- all keys of an id are a run, all of an id and a kind, and all of a rank
 pub run-id : (id : ℕ) → IsRun (record { id = id; kind = 0; sub = 0 }) (λ r. r.id == id)

@@ -1,17 +1,27 @@
--- On an ordered Line a place of a rank is where the entries from that rank on start.
-use Rattle.std.proofs.Common.{◌≡◌, true, false, List, [], ◌∷◌, ◌++◌, Some, refl, ap, sym, ◌∙◌, subst, arith, All}
+-- On an ordered Line a place of a rank is where the items from that rank on start.
+use Rattle.std.proofs.Common.{◌≡◌, ℕ, Bool, true, false, cond, not, ◌||◌, List, [], ◌∷◌, ◌++◌, Some, Ok, Err, refl, ap, sym, ◌∙◌, subst, arith, All}
+use Rattle.std.specs.List.{list_any}
+use Rattle.std.proofs.lemmas.Bool.{false≢true}
 use Rattle.std.proofs.lemmas.Bool.Decides.{nat_tests}
+use Rattle.std.proofs.lemmas.Grind.{flat_map-append}
 use Rattle.std.proofs.lemmas.List.Elements.{All-head, All-tail, All-cons, All-nil, All-weaker}
 use Rattle.apfs_model.specs.Lists.{last_or, last}
+use Rattle.obj_base.specs.declared.stop.Stop.{Stop}
 use Rattle.bt_node.specs.Entries.{Pair}
 use Rattle.bt_node.specs.Rank.{is_below}
 use Rattle.bt_node.specs.Shape.{Shape}
 use Rattle.bt_node.specs.declared.key.Rank.{Rank}
-use Rattle.bt_cursor.specs.Line.{Item, leaf_pairs}
+use Rattle.bt_cursor.specs.declared.fault.WalkFault.{WalkFault}
+use Rattle.bt_cursor.specs.Tree.{Tree}
+use Rattle.bt_cursor.specs.Flat.{flat_of}
+use Rattle.bt_cursor.specs.Line.{Item, line_of, leaf_pairs}
+use Rattle.bt_cursor.specs.Gaps.{Gapped, gapped_of, met_in, all_met, all_flat}
 use Rattle.bt_cursor.specs.Order.{rank_of, ranks_below, is_ordered}
-use Rattle.bt_cursor.specs.From.{is_below_rank, from_rank}
-use Rattle.bt_cursor.specs.Search.{IsPlaceOf, IsInOrder}
+use Rattle.bt_cursor.specs.From.{is_below_rank, from_rank, after_last, is_low, is_high, gapped_from_rank}
+use Rattle.bt_cursor.specs.Search.{IsPlaceOf, IsGapAt, IsInOrder}
 use Rattle.bt_cursor.proofs.Lines.{leaf_pairs-append}
+use Rattle.bt_cursor.proofs.Flats.{flat-met, line-pairs, gapped-line}
+use Rattle.bt_cursor.proofs.Suffixes.{last-after}
 use Rattle.bt_cursor.proofs.Ranks.{rank-below, rank-above, ordered-means, order-left, order-right, from_rank-below, from_rank-all, leaf-each}
 
 last-holds : (P : Item → Type 0) (item : Item) (items : List Item) (other : Item) → All P (item ∷ items) → last (item ∷ items) ≡ Some other → P other
@@ -48,13 +58,151 @@ above-all shape rank (item ∷ items) ordered starts =
     (All-weaker (λ (x : Item). ranks_below shape x item ≡ false) (λ (x : Item). is_below_rank shape rank x.pair ≡ false)
     (λ x h. rank-above (rank_of shape x.pair) (rank_of shape item.pair) rank h high) items ordered.0)
 
-pub place-ordered : {K : Type 0} (shape : Shape K) (rank : Rank) (line left : List Item) → is_ordered shape line ≡ true → IsPlaceOf shape rank line left → leaf_pairs left ≡ from_rank shape rank (leaf_pairs line)
-place-ordered shape rank line left ordered place =
-    let before = place.before in
-    let order : IsInOrder shape (before ++ left) = subst (IsInOrder shape) place.split (ordered-means shape line ordered) in
-    let below = leaf-each (λ (p : Pair). is_below_rank shape rank p ≡ true) before (below-all shape rank before (order-left shape before left order) place.low) in
-    let above = leaf-each (λ (p : Pair). is_below_rank shape rank p ≡ false) left (above-all shape rank left (order-right shape before left order) place.high) in
-    sym (ap (λ xs. from_rank shape rank (leaf_pairs xs)) place.split
-    ∙ (ap (from_rank shape rank) (leaf_pairs-append before left)
-    ∙ (from_rank-below shape rank (leaf_pairs before) (leaf_pairs left) below
-    ∙ from_rank-all shape rank (leaf_pairs left) above)))
+-- ---- what comes after the last item that passes a test
+or-true : (a b : Bool) → b ≡ true → (a || b) ≡ true
+or-true true b e = refl
+or-true false b e = e
+
+or-first : (a b : Bool) → (a || b) ≡ false → a ≡ false
+or-first true b e = absurd (false≢true (sym e))
+or-first false b e = refl
+
+or-second : (a b : Bool) → (a || b) ≡ false → b ≡ false
+or-second true b e = absurd (false≢true (sym e))
+or-second false b e = e
+
+or-left-true : (a b : Bool) → (a || b) ≡ true → b ≡ false → a ≡ true
+or-left-true true b e other = refl
+or-left-true false b e other = absurd (false≢true (sym other ∙ e))
+
+none-after : {X : Type 0} (test : X → Bool) (xs : List X) → list_any test xs ≡ false → after_last test xs ≡ xs
+none-after test [] none = refl
+none-after test (x ∷ xs) none = ap (λ (b : Bool). cond b (after_last test xs) (x ∷ xs)) none
+
+any-last : {X : Type 0} (test : X → Bool) (x : X) (xs ys : List X) → test (last_or x xs) ≡ true → list_any test ((x ∷ xs) ++ ys) ≡ true
+any-last test x [] ys e = ap (λ (b : Bool). b || list_any test ys) e
+any-last test x (z ∷ zs) ys e = or-true (test x) (list_any test ((z ∷ zs) ++ ys)) (any-last test z zs ys e)
+
+after-last : {X : Type 0} (test : X → Bool) (xs ys : List X) → ((x : X) → last xs ≡ Some x → test x ≡ true) → list_any test ys ≡ false → after_last test (xs ++ ys) ≡ ys
+after-last test [] ys ends none = none-after test ys none
+after-last test (x ∷ []) ys ends none = ap (λ (b : Bool). cond b (after_last test ys) (x ∷ ys)) (any-last test x [] ys (ends x refl)) ∙ none-after test ys none
+after-last test (x ∷ (z ∷ zs)) ys ends none =
+    ap (λ (b : Bool). cond b (after_last test ((z ∷ zs) ++ ys)) (x ∷ ((z ∷ zs) ++ ys))) (any-last test x (z ∷ zs) ys (ends (last_or z zs) refl)) ∙ after-last test (z ∷ zs) ys ends none
+
+-- a list split there
+record IsSplit {X : Type 0} (test : X → Bool) (xs after : List X) : Type 0 where
+  before : List X
+  split : xs ≡ before ++ after
+  ends : (x : X) → last before ≡ Some x → test x ≡ true
+  none : list_any test after ≡ false
+
+ends-more : {X : Type 0} (test : X → Bool) (x : X) (xs before after : List X) → xs ≡ before ++ after → list_any test (x ∷ xs) ≡ true → list_any test after ≡ false → ((y : X) → last before ≡ Some y → test y ≡ true) → (y : X) → last (x ∷ before) ≡ Some y → test y ≡ true
+ends-more test x xs [] after split some none ends y e =
+    let here : x ≡ y = cc in
+    subst (λ z. test z ≡ true) here (or-left-true (test x) (list_any test xs) some (ap (list_any test) split ∙ none))
+ends-more test x xs (z ∷ zs) after split some none ends y e = ends y e
+
+split-if : {X : Type 0} (test : X → Bool) (x : X) (xs : List X) (b : Bool) → list_any test (x ∷ xs) ≡ b → IsSplit test xs (after_last test xs) → IsSplit test (x ∷ xs) (cond b (after_last test xs) (x ∷ xs))
+split-if test x xs false any rest = record { before = []; split = refl; ends = λ y e. absurd (cc); none = any }
+split-if test x xs true any rest = record {
+  before = x ∷ rest.before;
+  split = ap (λ ys. x ∷ ys) rest.split;
+  ends = ends-more test x xs rest.before (after_last test xs) rest.split any rest.none rest.ends;
+  none = rest.none;
+}
+
+split-last : {X : Type 0} (test : X → Bool) (xs : List X) → IsSplit test xs (after_last test xs)
+split-last test [] = record { before = []; split = refl; ends = λ y e. absurd (cc); none = refl }
+split-last test (x ∷ xs) = split-if test x xs (list_any test (x ∷ xs)) refl (split-last test xs)
+
+-- ---- of a Line with its gaps
+met-append : (xs ys : List (Gapped Item)) → all_met (xs ++ ys) ≡ all_met xs ++ all_met ys
+met-append xs ys = flat_map-append met_in xs ys
+
+-- all of some items and gaps but the last
+front : {X : Type 0} → X → List X → List X
+front x [] = []
+front x (y ∷ ys) = x ∷ front y ys
+
+front-last : {X : Type 0} (x : X) (xs : List X) → x ∷ xs ≡ front x xs ++ last_or x xs ∷ []
+unfolding front
+front-last x [] = refl
+front-last x (y ∷ ys) = ap (λ zs. x ∷ zs) (front-last y ys)
+
+ends-at : {K : Type 0} (shape : Shape K) (rank : Rank) (xs others : List (Gapped Item)) (x : Gapped Item) → xs ≡ others ++ x ∷ [] → is_low shape rank x ≡ true → (item : Item) → last (all_met xs) ≡ Some item → is_below_rank shape rank item.pair ≡ true
+ends-at shape rank xs others (Ok i) split low item e =
+    let same : Some i ≡ Some item = sym (ap (λ ys. last (all_met ys)) split ∙ (ap last (met-append others (Ok i ∷ [])) ∙ last-after (all_met others) i [])) ∙ e in
+    let here : i ≡ item = cc in
+    subst (λ (j : Item). is_below_rank shape rank j.pair ≡ true) here low
+ends-at shape rank xs others (Err why) split low item e = absurd (false≢true low)
+
+-- where a list ends with an item that ranks below, so do its items
+ends-met : {K : Type 0} (shape : Shape K) (rank : Rank) (xs : List (Gapped Item)) → ((x : Gapped Item) → last xs ≡ Some x → is_low shape rank x ≡ true) → (item : Item) → last (all_met xs) ≡ Some item → is_below_rank shape rank item.pair ≡ true
+ends-met shape rank [] ends item e = absurd (cc)
+ends-met shape rank (x ∷ xs) ends item e = ends-at shape rank (x ∷ xs) (front x xs) (last_or x xs) (front-last x xs) (ends (last_or x xs) refl) item e
+
+abbrev NotBelow : {K : Type 0} → Shape K → Rank → Item → Type 0
+NotBelow shape rank item = is_below_rank shape rank item.pair ≡ false
+
+-- no item ranks below, as a test and as a fact
+none-low : {K : Type 0} (shape : Shape K) (rank : Rank) (xs : List (Gapped Item)) → All (NotBelow shape rank) (all_met xs) → list_any (is_low shape rank) xs ≡ false
+none-low shape rank [] above = refl
+none-low shape rank (Ok item ∷ xs) above =
+    ap (λ (b : Bool). b || list_any (is_low shape rank) xs) (All-head (NotBelow shape rank) item (all_met xs) above) ∙ none-low shape rank xs (All-tail (NotBelow shape rank) item (all_met xs) above)
+none-low shape rank (Err why ∷ xs) above = none-low shape rank xs above
+
+low-none : {K : Type 0} (shape : Shape K) (rank : Rank) (xs : List (Gapped Item)) → list_any (is_low shape rank) xs ≡ false → All (NotBelow shape rank) (all_met xs)
+low-none shape rank [] none = All-nil (NotBelow shape rank)
+low-none shape rank (Ok item ∷ xs) none =
+    All-cons (NotBelow shape rank) item (all_met xs) (or-first (is_below_rank shape rank item.pair) (list_any (is_low shape rank) xs) none)
+    (low-none shape rank xs (or-second (is_below_rank shape rank item.pair) (list_any (is_low shape rank) xs) none))
+low-none shape rank (Err why ∷ xs) none = low-none shape rank xs none
+
+not-false : (b : Bool) → not b ≡ true → b ≡ false
+not-false true e = absurd (false≢true e)
+not-false false e = refl
+
+-- items in order of which the first doesn't rank below
+starts-met : {K : Type 0} (shape : Shape K) (rank : Rank) (xs : List (Gapped Item)) → IsInOrder shape (all_met xs) → ((x : Gapped Item) (ys : List (Gapped Item)) → xs ≡ x ∷ ys → is_high shape rank x ≡ true) → All (NotBelow shape rank) (all_met xs)
+starts-met shape rank [] ordered starts = All-nil (NotBelow shape rank)
+starts-met shape rank (Ok item ∷ xs) ordered starts =
+    above-all shape rank (item ∷ all_met xs) ordered (λ other others e.
+    let here : item ≡ other = cc in
+    subst (λ (j : Item). is_below_rank shape rank j.pair ≡ false) here (not-false (is_below_rank shape rank item.pair) (starts (Ok item) xs refl)))
+starts-met shape rank (Err why ∷ xs) ordered starts = absurd (false≢true (starts (Err why) xs refl))
+
+-- the items of an ordered Line with its gaps are in order
+order-met : {K : Type 0} (tree : Tree K) (root : ℕ) (before after : List (Gapped Item)) → is_ordered tree.shape (line_of tree root) ≡ true → gapped_of tree root ≡ before ++ after → IsInOrder tree.shape (all_met before ++ all_met after)
+order-met tree root before after ordered split =
+    subst (IsInOrder tree.shape) (sym (gapped-line tree root) ∙ (ap all_met split ∙ met-append before after)) (ordered-means tree.shape (line_of tree root) ordered)
+
+-- on an ordered Line what is left from a place of a rank on is the Line with its gaps from that rank on
+pub place-from : {K : Type 0} (tree : Tree K) (root : ℕ) (rank : Rank) (left : List (Gapped Item)) → is_ordered tree.shape (line_of tree root) ≡ true → IsPlaceOf tree.shape rank (gapped_of tree root) left → left ≡ gapped_from_rank tree.shape rank (gapped_of tree root)
+place-from tree root rank left ordered place =
+    let order = order-right tree.shape (all_met place.before) (all_met left) (order-met tree root place.before left ordered place.split) in
+    sym (ap (after_last (is_low tree.shape rank)) place.split
+    ∙ after-last (is_low tree.shape rank) place.before left place.sides.low (none-low tree.shape rank left (starts-met tree.shape rank left order place.sides.high)))
+
+-- and a gap at a place of a rank comes first from that rank on
+pub gap-from : {K : Type 0} (tree : Tree K) (root : ℕ) (rank : Rank) (why : Stop WalkFault) → is_ordered tree.shape (line_of tree root) ≡ true → (gap : IsGapAt tree.shape rank (gapped_of tree root) why) → gapped_from_rank tree.shape rank (gapped_of tree root) ≡ Err why ∷ gap.after
+gap-from tree root rank why ordered gap =
+    let order = order-right tree.shape (all_met gap.before) (all_met gap.after) (order-met tree root gap.before (Err why ∷ gap.after) ordered gap.split) in
+    ap (after_last (is_low tree.shape rank)) gap.split
+    ∙ after-last (is_low tree.shape rank) gap.before (Err why ∷ gap.after) gap.sides.low (none-low tree.shape rank gap.after (starts-met tree.shape rank gap.after order gap.sides.high))
+
+-- on an ordered Line the entries of the flat list from a rank on are those of the Line with its gaps from that rank on
+pub from-flat : {K : Type 0} (tree : Tree K) (root : ℕ) (rank : Rank) → is_ordered tree.shape (line_of tree root) ≡ true → all_met (all_flat (gapped_from_rank tree.shape rank (gapped_of tree root))) ≡ from_rank tree.shape rank (flat_of tree root)
+from-flat tree root rank ordered =
+    let shape = tree.shape in
+    let after = gapped_from_rank shape rank (gapped_of tree root) in
+    let cut = split-last (is_low shape rank) (gapped_of tree root) in
+    let before = cut.before in
+    let order = order-met tree root before after ordered cut.split in
+    let below = leaf-each (λ (p : Pair). is_below_rank shape rank p ≡ true) (all_met before) (below-all shape rank (all_met before) (order-left shape (all_met before) (all_met after) order) (ends-met shape rank before cut.ends)) in
+    let above = leaf-each (λ (p : Pair). is_below_rank shape rank p ≡ false) (all_met after) (low-none shape rank after cut.none) in
+    let parts : flat_of tree root ≡ leaf_pairs (all_met before) ++ leaf_pairs (all_met after) =
+    sym (line-pairs tree root) ∙ (ap leaf_pairs (sym (gapped-line tree root) ∙ (ap all_met cut.split ∙ met-append before after)) ∙ leaf_pairs-append (all_met before) (all_met after)) in
+    flat-met after
+    ∙ sym (ap (from_rank shape rank) parts
+    ∙ (from_rank-below shape rank (leaf_pairs (all_met before)) (leaf_pairs (all_met after)) below
+    ∙ from_rank-all shape rank (leaf_pairs (all_met after)) above))

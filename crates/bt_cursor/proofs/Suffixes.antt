@@ -1,25 +1,28 @@
 -- What is left of a way is the end of its tree's Line, and where a rank's way stands in it.
-use Rattle.std.proofs.Common.{◌≡◌, ℕ, zero, suc, ◌+◌, ◌<◌, ◌≤◌, true, false, List, [], ◌∷◌, ◌++◌, take, drop, Some, Ok, refl, ap, sym, ◌∙◌, subst, arith, All, inl, inr, append_assoc, append-nil}
+use Rattle.std.proofs.Common.{◌≡◌, ℕ, zero, suc, ◌+◌, ◌<◌, ◌≤◌, Bool, true, not, List, [], ◌∷◌, ◌++◌, take, drop, Some, Ok, Err, refl, ap, sym, ◌∙◌, subst, arith, All, inl, inr, append_assoc, append-nil}
 use Rattle.std.specs.List.{flat_map}
 use Rattle.std.proofs.lemmas.Bool.{cases_lt}
 use Rattle.std.proofs.lemmas.Grind.{flat_map-append}
 use Rattle.std.proofs.lemmas.List.{take-append-drop}
 use Rattle.std.proofs.lemmas.List.Elements.{All-head, All-tail}
 use Rattle.apfs_model.specs.Lists.{last_or, last}
+use Rattle.obj_base.specs.Stops.{Tells}
+use Rattle.obj_base.specs.declared.stop.Stop.{Stop}
+use Rattle.obj_base.specs.declared.stop.Stop.TheVariants.{Found, Unsupported, ReadFault, NoMemory}
 use Rattle.bt_node.specs.Node.{level_of, count_of}
 use Rattle.bt_node.specs.Entries.{Pair, pair_of, pairs_of}
 use Rattle.bt_node.specs.Shape.{Shape}
 use Rattle.bt_node.specs.declared.key.Rank.{Rank}
+use Rattle.bt_cursor.specs.declared.fault.WalkFault.{WalkFault}
 use Rattle.bt_cursor.specs.declared.way.Step.{Step}
 use Rattle.bt_cursor.specs.Tree.{Tree, root_place, child_place}
-use Rattle.bt_cursor.specs.Line.{Item, item_at, line_of}
-use Rattle.bt_cursor.specs.Gaps.{Gapped, or_gap, gapped_part, gapped_of, met_in, all_met, IsSuffix}
+use Rattle.bt_cursor.specs.Line.{Item, item_at}
+use Rattle.bt_cursor.specs.Gaps.{Gapped, or_gap, gapped_part, gapped_of, IsSuffix}
 use Rattle.bt_cursor.specs.Stack.{IsMetStep, IsUnder, IsLinked, IsIn, bottom}
 use Rattle.bt_cursor.specs.Ahead.{gapped_from, gapped_rest, gapped_under}
-use Rattle.bt_cursor.specs.From.{is_below_rank}
-use Rattle.bt_cursor.specs.Search.{IsCut, IsCutStep, IsCutWay, IsPlaceOf}
+use Rattle.bt_cursor.specs.From.{is_low, is_high}
+use Rattle.bt_cursor.specs.Search.{IsCut, IsCutStep, IsCutWay, IsPlaceOf, IsGapAt, StopsSearch}
 use Rattle.bt_cursor.proofs.Gaps.{gapped_end, gapped-cons, gapped-leaf, gapped-inner, gapped_under-node}
-use Rattle.bt_cursor.proofs.Flats.{gapped-line}
 
 -- the items of the entries before an index
 front_of : {K : Type 0} → Tree K → List ℕ → ℕ → List (Gapped Item)
@@ -96,34 +99,31 @@ way-start tree root above last none next found =
     ∙ (ap (gapped_from tree last.block.items) next
     ∙ sym (root-items tree root last.block.items found)))
 
-met-append : (xs ys : List (Gapped Item)) → all_met (xs ++ ys) ≡ all_met xs ++ all_met ys
-met-append xs ys = flat_map-append met_in xs ys
-
 -- the last of some items ranks below
-abbrev EndsBelow : {K : Type 0} → Shape K → Rank → List Item → Type 0
-EndsBelow shape rank items = (item : Item) → last items ≡ Some item → is_below_rank shape rank item.pair ≡ true
+abbrev EndsBelow : {K : Type 0} → Shape K → Rank → List (Gapped Item) → Type 0
+EndsBelow shape rank items = (x : Gapped Item) → last items ≡ Some x → is_low shape rank x ≡ true
 
 -- the first of some items doesn't
-abbrev StartsAbove : {K : Type 0} → Shape K → Rank → List Item → Type 0
-StartsAbove shape rank items = (item : Item) (others : List Item) → items ≡ item ∷ others → is_below_rank shape rank item.pair ≡ false
+abbrev StartsAbove : {K : Type 0} → Shape K → Rank → List (Gapped Item) → Type 0
+StartsAbove shape rank items = (x : Gapped Item) (xs : List (Gapped Item)) → items ≡ x ∷ xs → is_high shape rank x ≡ true
 
-last-after : {X : Type 0} (xs : List X) (y : X) (ys : List X) → last (xs ++ (y ∷ ys)) ≡ Some (last_or y ys)
+pub last-after : {X : Type 0} (xs : List X) (y : X) (ys : List X) → last (xs ++ (y ∷ ys)) ≡ Some (last_or y ys)
 last-after [] y ys = refl
 last-after (x ∷ []) y ys = refl
 last-after (x ∷ (z ∷ xs)) y ys = last-after (z ∷ xs) y ys
 
-ends-one : {K : Type 0} (shape : Shape K) (rank : Rank) (xs : List Item) (y : Item) (ys : List Item) → is_below_rank shape rank y.pair ≡ true → EndsBelow shape rank ys → EndsBelow shape rank (xs ++ (y ∷ ys))
-ends-one shape rank xs y [] low ends item e =
-    let same : Some y ≡ Some item = sym (last-after xs y []) ∙ e in
-    let here : y ≡ item = cc in
-    subst (λ (i : Item). is_below_rank shape rank i.pair ≡ true) here low
-ends-one shape rank xs y (z ∷ zs) low ends item e = ends item (sym (last-after xs y (z ∷ zs)) ∙ e)
+ends-one : {K : Type 0} (shape : Shape K) (rank : Rank) (xs : List (Gapped Item)) (y : Gapped Item) (ys : List (Gapped Item)) → is_low shape rank y ≡ true → EndsBelow shape rank ys → EndsBelow shape rank (xs ++ (y ∷ ys))
+ends-one shape rank xs y [] low ends x e =
+    let same : Some y ≡ Some x = sym (last-after xs y []) ∙ e in
+    let here : y ≡ x = cc in
+    subst (λ (i : Gapped Item). is_low shape rank i ≡ true) here low
+ends-one shape rank xs y (z ∷ zs) low ends x e = ends x (sym (last-after xs y (z ∷ zs)) ∙ e)
 
-starts-append : {K : Type 0} (shape : Shape K) (rank : Rank) (xs ys : List Item) → StartsAbove shape rank xs → StartsAbove shape rank ys → StartsAbove shape rank (xs ++ ys)
-starts-append shape rank [] ys left right item others e = right item others e
-starts-append shape rank (x ∷ xs) ys left right item others e =
-    let here : x ≡ item = cc in
-    subst (λ (i : Item). is_below_rank shape rank i.pair ≡ false) here (left x xs refl)
+starts-append : {K : Type 0} (shape : Shape K) (rank : Rank) (xs ys : List (Gapped Item)) → StartsAbove shape rank xs → StartsAbove shape rank ys → StartsAbove shape rank (xs ++ ys)
+starts-append shape rank [] ys left right x others e = right x others e
+starts-append shape rank (y ∷ xs) ys left right x others e =
+    let here : y ≡ x = cc in
+    subst (λ (i : Gapped Item). is_high shape rank i ≡ true) here (left y xs refl)
 
 -- what is left of a node from a cut on
 part-head : {K : Type 0} (tree : Tree K) (level : ℕ) (pair : Pair) → (xs : List (Gapped Item)) × (gapped_part tree level pair ≡ Ok (item_at level pair) ∷ xs)
@@ -135,78 +135,131 @@ from-head tree node i low =
     let head = part-head tree (level_of node) (pair_of tree.shape node i) in
     (head.0 ++ gapped_from tree node (i + 1), gapped-cons tree node i low ∙ ap (λ xs. xs ++ gapped_from tree node (i + 1)) head.1)
 
-starts-node : {K : Type 0} (tree : Tree K) (rank : Rank) (node : List ℕ) (i : ℕ) → IsCut tree.shape rank node i → StartsAbove tree.shape rank (all_met (gapped_from tree node i))
-starts-node tree rank node i cut item others e =
+starts-node : {K : Type 0} (tree : Tree K) (rank : Rank) (node : List ℕ) (i : ℕ) → IsCut tree.shape rank node i → StartsAbove tree.shape rank (gapped_from tree node i)
+starts-node tree rank node i cut x others e =
     elim (cases_lt i (count_of node)) [
       | inl low ↦
           let head = from-head tree node i low in
-          let same : item_at (level_of node) (pair_of tree.shape node i) ∷ all_met head.0 ≡ item ∷ others = sym (ap all_met head.1) ∙ e in
-          let here : item_at (level_of node) (pair_of tree.shape node i) ≡ item = cc in
-          subst (λ (x : Item). is_below_rank tree.shape rank x.pair ≡ false) here (cut.after low)
-      | inr past ↦ let none : [] ≡ item ∷ others = sym (ap all_met (gapped_end tree node i past)) ∙ e in absurd (cc)
+          let same : Ok (item_at (level_of node) (pair_of tree.shape node i)) ∷ head.0 ≡ x ∷ others = sym head.1 ∙ e in
+          let here : Ok (item_at (level_of node) (pair_of tree.shape node i)) ≡ x = cc in
+          subst (λ (y : Gapped Item). is_high tree.shape rank y ≡ true) here (ap (λ (b : Bool). not b) (cut.after low))
+      | inr past ↦ let none : [] ≡ x ∷ others = sym (gapped_end tree node i past) ∙ e in absurd (cc)
     ]
 
-starts-rest : {K : Type 0} (tree : Tree K) (rank : Rank) (above : List Step) → All (IsCutStep tree.shape rank) above → StartsAbove tree.shape rank (all_met (gapped_rest tree above))
-starts-rest tree rank [] cuts item others e = absurd (cc)
-starts-rest tree rank (s ∷ ss) cuts item others e =
-    let lower = all_met (gapped_rest tree ss) in
-    let here = all_met (gapped_from tree s.block.items s.next) in
-    starts-append tree.shape rank lower here (starts-rest tree rank ss (All-tail (IsCutStep tree.shape rank) s ss cuts)) (starts-node tree rank s.block.items s.next (All-head (IsCutStep tree.shape rank) s ss cuts)) item others
-    (sym (met-append (gapped_rest tree ss) (gapped_from tree s.block.items s.next)) ∙ e)
+starts-rest : {K : Type 0} (tree : Tree K) (rank : Rank) (above : List Step) → All (IsCutStep tree.shape rank) above → StartsAbove tree.shape rank (gapped_rest tree above)
+starts-rest tree rank [] cuts x others e = absurd (cc)
+starts-rest tree rank (s ∷ ss) cuts x others e =
+    starts-append tree.shape rank (gapped_rest tree ss) (gapped_from tree s.block.items s.next) (starts-rest tree rank ss (All-tail (IsCutStep tree.shape rank) s ss cuts)) (starts-node tree rank s.block.items s.next (All-head (IsCutStep tree.shape rank) s ss cuts)) x others e
 
--- the items before a cut
-record CutsBefore {K : Type 0} (tree : Tree K) (rank : Rank) (above : List Step) (last : Step) : Type 0 where
+-- what is left of a way at cuts
+starts-way : {K : Type 0} (tree : Tree K) (rank : Rank) (above : List Step) (last : Step) → All (IsCutStep tree.shape rank) above → IsCutStep tree.shape rank last → StartsAbove tree.shape rank (gapped_from tree last.block.items last.next ++ gapped_rest tree above)
+starts-way tree rank above last cuts here = starts-append tree.shape rank (gapped_from tree last.block.items last.next) (gapped_rest tree above) (starts-node tree rank last.block.items last.next here) (starts-rest tree rank above cuts)
+
+-- the items before a cut, of which the last ranks below, and a gap that may come after them
+record CutsBefore {K : Type 0} (tree : Tree K) (rank : Rank) (gap : List (Gapped Item)) (above : List Step) (last : Step) : Type 0 where
   before : List (Gapped Item)
-  split : Before tree above last before
-  ends : EndsBelow tree.shape rank (all_met before)
+  whole : List (Gapped Item)
+  parts : whole ≡ before ++ gap
+  split : Before tree above last whole
+  ends : EndsBelow tree.shape rank before
 
-cuts-last : {K : Type 0} (tree : Tree K) (rank : Rank) (last : Step) (next : ℕ) → last.next ≡ next → next ≤ count_of last.block.items → IsCutStep tree.shape rank last → (0 < next → level_of last.block.items ≡ 0) → CutsBefore tree rank [] last
+cuts-last : {K : Type 0} (tree : Tree K) (rank : Rank) (last : Step) (next : ℕ) → last.next ≡ next → next ≤ count_of last.block.items → IsCutStep tree.shape rank last → (0 < next → level_of last.block.items ≡ 0) → CutsBefore tree rank [] [] last
 cuts-last tree rank last zero at inside cut leaf = record {
   before = [];
+  whole = [];
+  parts = refl;
   split = before-last tree last [] (ap (gapped_from tree last.block.items) (sym at));
-  ends = λ item e. absurd (cc);
+  ends = λ x e. absurd (cc);
 }
 cuts-last tree rank last (suc j) at inside cut leaf =
     let node = last.block.items in
     let front = front_of tree node j in
-    let item = item_at (level_of node) (pair_of tree.shape node j) in
+    let item : Gapped Item = Ok (item_at (level_of node) (pair_of tree.shape node j)) in
     let next : j + 1 ≡ last.next = omega (arith, at) in
-    let split : gapped_from tree node 0 ≡ (front ++ Ok item ∷ []) ++ gapped_from tree node last.next =
+    let split : gapped_from tree node 0 ≡ (front ++ item ∷ []) ++ gapped_from tree node last.next =
     front-split tree node j
     ∙ (ap (λ xs. front ++ xs) (gapped-leaf tree node j (omega arith) (leaf (omega arith)))
-    ∙ (ap (λ k. front ++ (Ok item ∷ gapped_from tree node k)) next
-    ∙ sym (append_assoc front (Ok item ∷ []) (gapped_from tree node last.next)))) in
+    ∙ (ap (λ k. front ++ (item ∷ gapped_from tree node k)) next
+    ∙ sym (append_assoc front (item ∷ []) (gapped_from tree node last.next)))) in
     record {
-      before = front ++ Ok item ∷ [];
-      split = before-last tree last (front ++ Ok item ∷ []) split;
-      ends = subst (EndsBelow tree.shape rank) (sym (met-append front (Ok item ∷ []))) (ends-one tree.shape rank (all_met front) item [] (cut.before j next) (λ other e. absurd (cc)));
+      before = front ++ item ∷ [];
+      whole = front ++ item ∷ [];
+      parts = sym (append-nil (front ++ item ∷ []));
+      split = before-last tree last (front ++ item ∷ []) split;
+      ends = ends-one tree.shape rank front item [] (cut.before j next) (λ x e. absurd (cc));
     }
 
-cuts-way : {K : Type 0} (tree : Tree K) (root : ℕ) (rank : Rank) (above : List Step) (last : Step) → All (IsMetStep tree root) above → IsMetStep tree root last → IsLinked tree above last → All (IsCutStep tree.shape rank) above → CutsBefore tree rank [] last → CutsBefore tree rank above last
-cuts-way tree root rank [] last held met linked cuts here = here
-cuts-way tree root rank (s ∷ ss) last held met linked cuts here =
+-- a node's cut after an entry above level 0 whose child isn't there
+cuts-gap : {K : Type 0} (tree : Tree K) (rank : Rank) (last : Step) (level j : ℕ) (why : Stop WalkFault) → last.next ≡ j + 1 → j < count_of last.block.items → level_of last.block.items ≡ suc level → IsCutStep tree.shape rank last →
+    tree.look (child_place level (pair_of tree.shape last.block.items j)) ≡ Err why → CutsBefore tree rank (Err why ∷ []) [] last
+cuts-gap tree rank last level j why at low high cut missing =
+    let node = last.block.items in
+    let front = front_of tree node j in
+    let item : Gapped Item = Ok (item_at (level_of node) (pair_of tree.shape node j)) in
+    let gap : Gapped Item = Err why in
+    let split : gapped_from tree node 0 ≡ (front ++ (item ∷ (gap ∷ []))) ++ gapped_from tree node last.next =
+    front-split tree node j
+    ∙ (ap (λ xs. front ++ xs) (gapped-inner tree node j level low high)
+    ∙ (ap (λ o. front ++ (item ∷ (or_gap o (λ below. flat_map (gapped_part tree level) (pairs_of tree.shape below)) ++ gapped_from tree node (j + 1)))) missing
+    ∙ (ap (λ k. front ++ (item ∷ (gap ∷ gapped_from tree node k))) (sym at)
+    ∙ sym (append_assoc front (item ∷ (gap ∷ [])) (gapped_from tree node last.next))))) in
+    record {
+      before = front ++ item ∷ [];
+      whole = front ++ (item ∷ (gap ∷ []));
+      parts = sym (append_assoc front (item ∷ []) (gap ∷ []));
+      split = before-last tree last (front ++ (item ∷ (gap ∷ []))) split;
+      ends = ends-one tree.shape rank front item [] (cut.before j (sym at)) (λ x e. absurd (cc));
+    }
+
+cuts-way : {K : Type 0} (tree : Tree K) (root : ℕ) (rank : Rank) (gap : List (Gapped Item)) (above : List Step) (last : Step) → All (IsMetStep tree root) above → IsMetStep tree root last → IsLinked tree above last → All (IsCutStep tree.shape rank) above → CutsBefore tree rank gap [] last →
+    CutsBefore tree rank gap above last
+cuts-way tree root rank gap [] last held met linked cuts here = here
+cuts-way tree root rank gap (s ∷ ss) last held met linked cuts here =
     let others = All-tail (IsMetStep tree root) s ss held in
-    let below = cuts-way tree root rank ss last others met linked.1 (All-tail (IsCutStep tree.shape rank) s ss cuts) here in
+    let below = cuts-way tree root rank gap ss last others met linked.1 (All-tail (IsCutStep tree.shape rank) s ss cuts) here in
     let under = linked.0 in
     let node = s.block.items in
     let front = front_of tree node under.index in
-    let item = item_at (level_of node) (pair_of tree.shape node under.index) in
+    let item : Gapped Item = Ok (item_at (level_of node) (pair_of tree.shape node under.index)) in
     let low = (All-head (IsCutStep tree.shape rank) s ss cuts).before under.index (sym under.next) in
     record {
-      before = front ++ (Ok item ∷ below.before);
-      split = before-more tree root s ss last below.before under (bottom-node tree root ss last others met) below.split;
-      ends = subst (EndsBelow tree.shape rank) (sym (met-append front (Ok item ∷ below.before))) (ends-one tree.shape rank (all_met front) item (all_met below.before) low below.ends);
+      before = front ++ (item ∷ below.before);
+      whole = front ++ (item ∷ below.whole);
+      parts = ap (λ xs. front ++ (item ∷ xs)) below.parts ∙ sym (append_assoc front (item ∷ below.before) gap);
+      split = before-more tree root s ss last below.whole under (bottom-node tree root ss last others met) below.split;
+      ends = ends-one tree.shape rank front item below.before low below.ends;
     }
 
--- a way that stands at a rank's cuts stands at a place of the rank in the Line
-pub cut-place : {K : Type 0} (tree : Tree K) (root : ℕ) (rank : Rank) (above : List Step) (last : Step) → IsIn tree root above last → IsCutWay tree.shape rank above last → last.next ≤ count_of last.block.items → IsPlaceOf tree.shape rank (line_of tree root) (all_met (gapped_from tree last.block.items last.next ++ gapped_rest tree above))
+-- a way that stands at a rank's cuts stands at a place of the rank in the Line with its gaps
+pub cut-place : {K : Type 0} (tree : Tree K) (root : ℕ) (rank : Rank) (above : List Step) (last : Step) → IsIn tree root above last → IsCutWay tree.shape rank above last → last.next ≤ count_of last.block.items →
+    IsPlaceOf tree.shape rank (gapped_of tree root) (gapped_from tree last.block.items last.next ++ gapped_rest tree above)
 cut-place tree root rank above last within cuts inside =
-    let here = gapped_from tree last.block.items last.next in
-    let others = gapped_rest tree above in
-    let split = cuts-way tree root rank above last within.hold within.hold_last within.linked cuts.each (cuts-last tree rank last last.next refl inside cuts.here cuts.leaf) in
+    let left = gapped_from tree last.block.items last.next ++ gapped_rest tree above in
+    let cut = cuts-way tree root rank [] above last within.hold within.hold_last within.linked cuts.each (cuts-last tree rank last last.next refl inside cuts.here cuts.leaf) in
     record {
-      before = all_met split.before;
-      split = sym (gapped-line tree root) ∙ (ap all_met (root-items tree root (bottom above last).block.items within.base ∙ split.split) ∙ met-append split.before (here ++ others));
-      low = split.ends;
-      high = subst (StartsAbove tree.shape rank) (sym (met-append here others)) (starts-append tree.shape rank (all_met here) (all_met others) (starts-node tree rank last.block.items last.next cuts.here) (starts-rest tree rank above cuts.each));
+      before = cut.before;
+      split = root-items tree root (bottom above last).block.items within.base ∙ (cut.split ∙ ap (λ xs. xs ++ left) (cut.parts ∙ append-nil cut.before));
+      sides = record { low = cut.ends; high = starts-way tree rank above last cuts.each cuts.here };
     }
+
+-- where the child of the entry before the last cut isn't there, a gap stands at the place of the rank
+pub cut-gap : {K : Type 0} (tree : Tree K) (root : ℕ) (rank : Rank) (above : List Step) (last : Step) (level j : ℕ) (why : Stop WalkFault) → IsIn tree root above last → All (IsCutStep tree.shape rank) above → IsCutStep tree.shape rank last →
+    last.next ≡ j + 1 → j < count_of last.block.items → level_of last.block.items ≡ suc level → tree.look (child_place level (pair_of tree.shape last.block.items j)) ≡ Err why → IsGapAt tree.shape rank (gapped_of tree root) why
+cut-gap tree root rank above last level j why within cuts here at low high missing =
+    let left = gapped_from tree last.block.items last.next ++ gapped_rest tree above in
+    let cut = cuts-way tree root rank (Err why ∷ []) above last within.hold within.hold_last within.linked cuts (cuts-gap tree rank last level j why at low high here missing) in
+    record {
+      before = cut.before;
+      after = left;
+      split = root-items tree root (bottom above last).block.items within.base ∙ (cut.split ∙ (ap (λ xs. xs ++ left) cut.parts ∙ append_assoc cut.before (Err why ∷ []) left));
+      sides = record { low = cut.ends; high = starts-way tree rank above last cuts here };
+    }
+
+-- and a search stops there
+pub cut-stop : {K : Type 0} (tree : Tree K) (root : ℕ) (rank : Rank) (above : List Step) (last : Step) (level j : ℕ) (stop : Stop WalkFault) → IsIn tree root above last → All (IsCutStep tree.shape rank) above → IsCutStep tree.shape rank last →
+    last.next ≡ j + 1 → j < count_of last.block.items → level_of last.block.items ≡ suc level →
+    Tells (λ fault. tree.look (child_place level (pair_of tree.shape last.block.items j)) ≡ Err (Found fault)) (λ feature block. tree.look (child_place level (pair_of tree.shape last.block.items j)) ≡ Err (Unsupported feature block)) stop → StopsSearch tree.shape rank (gapped_of tree root) stop
+cut-stop tree root rank above last level j (Found fault) within cuts here at low high told = cut-gap tree root rank above last level j (Found fault) within cuts here at low high told
+cut-stop tree root rank above last level j (Unsupported feature block) within cuts here at low high told = cut-gap tree root rank above last level j (Unsupported feature block) within cuts here at low high told
+cut-stop tree root rank above last level j ReadFault within cuts here at low high told = tt
+cut-stop tree root rank above last level j NoMemory within cuts here at low high told = tt

@@ -34,15 +34,14 @@ impl<K: TreeKey, N: Namer> Cursor<K, N> {
     ghost use Rattle.obj_base.specs.Stops.{Tells, IsFree};
     ghost use Rattle.obj_base.specs.Site.{IsSiteFor};
     ghost use Rattle.bt_cursor.specs.Tree.{tree_in};
-    ghost use Rattle.bt_cursor.specs.Flat.{flat_of};
     ghost use Rattle.bt_cursor.specs.Line.{line_of};
     ghost use Rattle.bt_cursor.specs.Gaps.{gapped_of, all_flat, StopsAt};
-    ghost use Rattle.bt_cursor.specs.Search.{IsPlaceOf};
+    ghost use Rattle.bt_cursor.specs.Search.{IsPlaceOf, StopsSearch};
     ghost use Rattle.bt_cursor.specs.Met.{is_walkable};
     ghost use Rattle.bt_cursor.specs.Order.{is_ordered};
-    ghost use Rattle.bt_cursor.specs.From.{from_rank};
+    ghost use Rattle.bt_cursor.specs.From.{gapped_from_rank};
     ghost use Rattle.bt_cursor.specs.Faults.{IsOfNodes, IsNodeFault, HasFeature};
-    ghost use Rattle.bt_cursor.specs.Cursors.{site_of, root_of, tree_of, ahead_of, line_left_of, gapped_left_of, left_of, unread_of, passed_of, fuel_of, depth_of, HasDepth, IsOn, HasEntry, Moves};
+    ghost use Rattle.bt_cursor.specs.Cursors.{site_of, root_of, tree_of, ahead_of, gapped_left_of, unread_of, passed_of, fuel_of, depth_of, HasDepth, IsOn, HasEntry, Moves};
 
     /// Reads the root, whose id is `root`, and stands before the first entry. Takes all its buffers here.
     pub fn new<S: BlockSource>(
@@ -96,16 +95,17 @@ impl<K: TreeKey, N: Namer> Cursor<K, N> {
     }
 
     /// Stands at a place of `rank`, by a search in each node on the way down from the root: where the Line is ordered,
-    /// before the first entry whose rank isn't below it. Takes no memory. After an error it stands at some place in the
-    /// tree.
+    /// before the first entry whose rank isn't below it. Where a child isn't there that may have that entry, it says why.
+    /// Takes no memory. After an error it stands at some place in the tree.
     pub fn seek<S: BlockSource>(&mut self, src: &mut S, rank: &Rank) -> Result<(), Stop<WalkFault>>
         requires site { IsSiteFor (site_of self.old) (S.bytes_len src.old) }
         ensures site { site_of self.new ≡ site_of self.old }
         ensures root { root_of self.new ≡ root_of self.old }
         ensures tree { tree_of self.new ≡ tree_of self.old }
         ensures depth { depth_of self.new ≡ depth_of self.old }
-        ensures place { (image : List ℕ) → S.bytes src.old ≡ Some image → IsOn image self.old → OnOk result (IsPlaceOf K.shape rank.now (line_of (tree_of self.old image) (root_of self.old)) (line_left_of self.new image)) }
-        ensures left { (image : List ℕ) → S.bytes src.old ≡ Some image → IsOn image self.old → is_ordered K.shape (line_of (tree_of self.old image) (root_of self.old)) ≡ true → OnOk result (left_of self.new image ≡ from_rank K.shape rank.now (flat_of (tree_of self.old image) (root_of self.old))) }
+        ensures place { (image : List ℕ) → S.bytes src.old ≡ Some image → IsOn image self.old → OnOk result (IsPlaceOf K.shape rank.now (gapped_of (tree_of self.old image) (root_of self.old)) (ahead_of self.new image)) }
+        ensures left { (image : List ℕ) → S.bytes src.old ≡ Some image → IsOn image self.old → is_ordered K.shape (line_of (tree_of self.old image) (root_of self.old)) ≡ true → OnOk result (ahead_of self.new image ≡ gapped_from_rank K.shape rank.now (gapped_of (tree_of self.old image) (root_of self.old))) }
+        ensures stops { (image : List ℕ) → S.bytes src.old ≡ Some image → IsOn image self.old → IfErr result (StopsSearch K.shape rank.now (gapped_of (tree_of self.old image) (root_of self.old))) }
         ensures within { (image : List ℕ) → S.bytes src.old ≡ Some image → IsOn image self.old → IsOn image self.new }
         ensures present { (image : List ℕ) → S.bytes src.old ≡ Some image → IsOn image self.old → IfErr result (Tells (IsNodeFault (tree_of self.old image) (root_of self.old)) (HasFeature (tree_of self.old image) (root_of self.old))) }
         ensures exact { (image : List ℕ) → S.bytes src.old ≡ Some image → IsOn image self.old → is_walkable (tree_of self.old image) (root_of self.old) ≡ true → IfErr result IsFree }

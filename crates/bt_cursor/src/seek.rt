@@ -11,8 +11,9 @@ ghost use Rattle.bt_cursor.specs.Tree.{tree_in};
 ghost use Rattle.bt_cursor.specs.Order.{rank_of};
 ghost use Rattle.bt_cursor.specs.Faults.{IsOfNodes, IsNodeFault, HasFeature};
 ghost use Rattle.bt_cursor.specs.Stack.{IsStep, IsWay, IsIn};
+ghost use Rattle.bt_cursor.specs.Gaps.{gapped_of};
 ghost use Rattle.bt_cursor.specs.Ahead.{depth_way};
-ghost use Rattle.bt_cursor.specs.Search.{IsCut, IsCutWay};
+ghost use Rattle.bt_cursor.specs.Search.{IsCut, IsCutWay, StopsSearch};
 
 use crate::fault::WalkFault;
 use crate::namer::Namer;
@@ -67,6 +68,7 @@ pub(crate) fn find<K: TreeKey, S: BlockSource, N: Namer>(
     ensures depth { depth_way way.new ≡ depth_way way.old }
     ensures within { (image : List ℕ) → S.bytes src.old ≡ Some image → (root : ℕ) → IsIn (tree_in K.shape site.now (N.named namer.now) image) root way.old.above.items way.old.last → IsIn (tree_in K.shape site.now (N.named namer.now) image) root way.new.above.items way.new.last }
     ensures present { (image : List ℕ) → S.bytes src.old ≡ Some image → (root : ℕ) → IsIn (tree_in K.shape site.now (N.named namer.now) image) root way.old.above.items way.old.last → IfErr result (Tells (IsNodeFault (tree_in K.shape site.now (N.named namer.now) image) root) (HasFeature (tree_in K.shape site.now (N.named namer.now) image) root)) }
+    ensures stops { (image : List ℕ) → S.bytes src.old ≡ Some image → (root : ℕ) → IsIn (tree_in K.shape site.now (N.named namer.now) image) root way.old.above.items way.old.last → IfErr result (StopsSearch K.shape rank.now (gapped_of (tree_in K.shape site.now (N.named namer.now) image) root)) }
     ensures of_nodes { IfErr result IsOfNodes }
     ensures reads { S.reads src.new ≤ S.reads src.old + depth_way way.old }
     ensures cause { IsErrOf result ReadFault → Rose (S.faults src.old) (S.faults src.new) }

@@ -6,3 +6,4 @@ mod owners;
 mod reports;
 mod rows;
 mod space;
+mod twice;

@@ -6,10 +6,10 @@ mod checks;
 mod contents;
 mod images;
 
-use apfs_cli::{Line, put_lines, run};
-use blk_source::{MemSink, Opened, StdSink};
+use apfs_cli::{Line, put_lines, report, run};
+use blk_source::{MemSink, MemSource, Opened, StdSink};
 use cases::*;
-use checks::{CHECK, CHECK_CASES, FIRST_CASES, NINE_VIEWS};
+use checks::{CHECK, CHECK_CASES, FIRST_CASES, LEAKED, MARKED, NINE_VIEWS, SMALL_REPORT};
 use contents::*;
 use images::{Image, handed};
 use std::alloc::{AllocError, Global};
@@ -17,6 +17,7 @@ use std::cell::Cell;
 use std::io::{self, Write};
 use std::process::Abort;
 use std::test::Fail;
+use tree_rules::Profile;
 
 const ROOM: usize = 8192;
 
@@ -29,15 +30,29 @@ struct Ended {
     reads: u64,
 }
 
-// Runs the words, with the numbers of the reads of the image and of the puts on both sinks that are refused.
-fn end(alloc: Global, image: Image, words: &[&str], fails: [&[u64]; 3]) -> Result<Ended, Fail> {
+// The number of the read of the image, and of the put on each sink, that is refused; none where it is 0.
+#[derive(Clone, Copy)]
+struct Refused {
+    read: u64,
+    put: u64,
+    line: u64,
+}
+
+const NOTHING: Refused = Refused {
+    read: 0,
+    put: 0,
+    line: 0,
+};
+
+// Runs the words, with what is refused.
+fn end(alloc: Global, image: Image, words: &[&str], refused: Refused) -> Result<Ended, Fail> {
     let words: Vec<String> = words
         .iter()
         .map(|word| String::from_str(alloc, word))
         .try_collect(alloc)?;
-    let mut image = handed(alloc, image, fails[0].to_vec(alloc)?)?;
-    let mut out = MemSink::new(alloc, ROOM, fails[1].to_vec(alloc)?)?;
-    let mut err = MemSink::new(alloc, ROOM, fails[2].to_vec(alloc)?)?;
+    let mut image = handed(alloc, image, [refused.read].to_vec(alloc)?)?;
+    let mut out = MemSink::new(alloc, ROOM, [refused.put].to_vec(alloc)?)?;
+    let mut err = MemSink::new(alloc, ROOM, [refused.line].to_vec(alloc)?)?;
     let status = run(alloc, &words, &mut image, &mut out, &mut err);
     let reads = match &image {
         Opened::Absent => 0,
@@ -51,19 +66,20 @@ fn end(alloc: Global, image: Image, words: &[&str], fails: [&[u64]; 3]) -> Resul
     })
 }
 
-// Whether a run ended with this status and these texts.
-fn ended_with(ended: &Ended, status: u8, out: &str, err: &str) -> bool {
+// Whether a run ended with this status, this text and this line.
+fn ended_with(ended: &Ended, status: u8, text: &str, line: &str) -> bool {
     ended.status == status
-        && ended.out.contents() == out.as_bytes()
-        && ended.err.contents() == err.as_bytes()
+        && ended.out.contents() == text.as_bytes()
+        && ended.err.contents() == line.as_bytes()
 }
 
 // Whether each case ends as is said.
 fn end_as_said(rt: &impl Abort, alloc: Global, cases: &[Case]) -> Result<(), Fail> {
-    for (name, image, words, status, out, err) in cases {
-        let ended = end(alloc, *image, words, [&[], &[], &[]])?;
-        let as_said = ended_with(&ended, *status, out, err);
-        assert!(rt; as_said, "{name}: status {}", ended.status);
+    for case in cases {
+        let ended = end(alloc, case.image, case.words, NOTHING)?;
+        let ends = case.ends;
+        let as_said = ended_with(&ended, ends.status(), ends.text(), ends.line());
+        assert!(rt; as_said, "{}: status {}", case.name, ended.status);
     }
     Ok(())
 }
@@ -93,12 +109,34 @@ fn check_cases_end_as_said(rt: HostRuntime) -> Result<(), Fail> {
     end_as_said(&rt, rt.alloc(), CHECK_CASES)
 }
 
+// `report` is what `check` does once its words are read.
+#[test]
+fn reports_end_as_said(rt: HostRuntime) -> Result<(), Fail> {
+    let alloc = rt.alloc();
+    for (image, ends) in [
+        (Image::Small, Ends::Wrote(SMALL_REPORT)),
+        (MARKED, Ends::Faulty(LEAKED)),
+    ] {
+        let mut source = match handed(alloc, image, Vec::new(alloc))? {
+            Opened::Image(source) => source,
+            Opened::Absent => MemSource::new(Vec::new(alloc), Vec::new(alloc)),
+        };
+        let mut out = MemSink::new(alloc, ROOM, Vec::new(alloc))?;
+        let mut err = MemSink::new(alloc, ROOM, Vec::new(alloc))?;
+        let status = report(alloc, &mut source, Profile::Plain, &mut out, &mut err);
+        assert_eq!(rt; status, ends.status());
+        assert!(rt; out.contents() == ends.text().as_bytes());
+        assert!(rt; err.contents() == ends.line().as_bytes());
+    }
+    Ok(())
+}
+
 // However many views a container has, what they share is read once.
 #[test]
 fn a_check_of_nine_views_takes_few_reads(rt: HostRuntime) -> Result<(), Fail> {
-    let ended = end(rt.alloc(), NINE_VIEWS, CHECK, [&[], &[], &[]])?;
+    let ended = end(rt.alloc(), NINE_VIEWS, CHECK, NOTHING)?;
     assert!(rt;
-        ended.status == 0 && ended.reads <= 300,
+        ended.status == 0 && ended.reads <= 100,
         "{} reads",
         ended.reads
     );
@@ -110,21 +148,31 @@ fn cases_that_check_first_end_as_said(rt: HostRuntime) -> Result<(), Fail> {
     end_as_said(&rt, rt.alloc(), FIRST_CASES)
 }
 
-// Whether a run ends with 3 and writes nothing, for each of its reads that is refused, which are so many at least and at most.
-fn fail_at_each_read(
-    rt: &impl Abort,
-    alloc: Global,
-    rows: &[(Image, &[&str], u64, u64)],
-) -> Result<(), Fail> {
-    for (image, words, least, most) in rows {
-        let whole = end(alloc, *image, words, [&[], &[], &[]])?;
+// A run with at least and at most so many reads.
+#[derive(Clone, Copy)]
+struct Reads {
+    image: Image,
+    words: &'static [&'static str],
+    least: u64,
+    most: u64,
+}
+
+// Whether a run ends with 3 and writes nothing, for each of its reads that is refused.
+fn fail_at_each_read(rt: &impl Abort, alloc: Global, rows: &[Reads]) -> Result<(), Fail> {
+    for row in rows {
+        let whole = end(alloc, row.image, row.words, NOTHING)?;
         assert!(rt;
-            whole.reads >= *least && whole.reads <= *most,
+            whole.reads >= row.least && whole.reads <= row.most,
             "{} reads",
             whole.reads
         );
         for number in 1..=whole.reads {
-            let ended = end(alloc, *image, words, [&[number], &[], &[]])?;
+            let refused = Refused {
+                read: number,
+                put: 0,
+                line: 0,
+            };
+            let ended = end(alloc, row.image, row.words, refused)?;
             let as_said = ended_with(&ended, 3, "", "apfs: read failed\n");
             assert!(rt; as_said, "read {number}: status {}", ended.status);
         }
@@ -135,12 +183,42 @@ fn fail_at_each_read(
 #[test]
 fn failure_of_each_read(rt: HostRuntime) -> Result<(), Fail> {
     let rows = [
-        (Image::Ring, RING, 9, 39),
-        (Image::Empty, INFO, 14, 39),
-        (Image::Small, VOLUMES, 17, 39),
-        (Image::Views, SNAPSHOTS, 20, 39),
-        (Image::Small, SPACE, 15, 39),
-        (Image::Small, CHECK, 20, 43),
+        Reads {
+            image: Image::Ring,
+            words: RING,
+            least: 9,
+            most: 39,
+        },
+        Reads {
+            image: Image::Empty,
+            words: INFO,
+            least: 14,
+            most: 39,
+        },
+        Reads {
+            image: Image::Small,
+            words: VOLUMES,
+            least: 17,
+            most: 39,
+        },
+        Reads {
+            image: Image::Views,
+            words: SNAPSHOTS,
+            least: 20,
+            most: 39,
+        },
+        Reads {
+            image: Image::Small,
+            words: SPACE,
+            least: 15,
+            most: 39,
+        },
+        Reads {
+            image: Image::Small,
+            words: CHECK,
+            least: 20,
+            most: 43,
+        },
     ];
     fail_at_each_read(&rt, rt.alloc(), &rows)
 }
@@ -148,8 +226,18 @@ fn failure_of_each_read(rt: HostRuntime) -> Result<(), Fail> {
 #[test]
 fn failure_of_each_read_of_a_view(rt: HostRuntime) -> Result<(), Fail> {
     let rows = [
-        (Image::Views, LS_OLD, 21, 39),
-        (Image::Views, TREE_OLD, 21, 39),
+        Reads {
+            image: Image::Views,
+            words: LS_OLD,
+            least: 21,
+            most: 39,
+        },
+        Reads {
+            image: Image::Views,
+            words: TREE_OLD,
+            least: 21,
+            most: 39,
+        },
     ];
     fail_at_each_read(&rt, rt.alloc(), &rows)
 }
@@ -161,7 +249,20 @@ fn content_cases_end_as_said(rt: HostRuntime) -> Result<(), Fail> {
 
 #[test]
 fn failure_of_each_read_of_contents(rt: HostRuntime) -> Result<(), Fail> {
-    let rows = [(Image::Link, XATTR, 20, 39), (Image::Link, TARGET, 20, 39)];
+    let rows = [
+        Reads {
+            image: Image::Link,
+            words: XATTR,
+            least: 20,
+            most: 39,
+        },
+        Reads {
+            image: Image::Link,
+            words: TARGET,
+            least: 20,
+            most: 39,
+        },
+    ];
     fail_at_each_read(&rt, rt.alloc(), &rows)
 }
 
@@ -181,7 +282,7 @@ fn hole_then(alloc: Global, byte: u8) -> Result<Vec<u8>, AllocError> {
 fn a_hole_is_written_as_zeros(rt: HostRuntime) -> Result<(), Fail> {
     let alloc = rt.alloc();
     for (image, byte) in [(HOLE, b'A'), (HOLE_ALONE, 0)] {
-        let ended = end(alloc, image, CAT_HOLE, [&[], &[], &[]])?;
+        let ended = end(alloc, image, CAT_HOLE, NOTHING)?;
         let contents = hole_then(alloc, byte)?;
         assert_eq!(rt; (ended.status, ended.err.contents().len()), (0, 0));
         assert!(rt; ended.out.contents() == contents.as_slice());
@@ -206,14 +307,19 @@ fn ended_within(
 #[test]
 fn failure_of_each_read_of_a_file(rt: HostRuntime) -> Result<(), Fail> {
     let alloc = rt.alloc();
-    let whole = end(alloc, HOLE, CAT_HOLE, [&[], &[], &[]])?;
+    let whole = end(alloc, HOLE, CAT_HOLE, NOTHING)?;
     assert!(rt;
         whole.reads > 20 && whole.reads < 40,
         "{} reads",
         whole.reads
     );
     for number in 1..=whole.reads {
-        let ended = end(alloc, HOLE, CAT_HOLE, [&[number], &[], &[]])?;
+        let refused = Refused {
+            read: number,
+            put: 0,
+            line: 0,
+        };
+        let ended = end(alloc, HOLE, CAT_HOLE, refused)?;
         // The last read is of the block after the hole.
         let bytes = if number == whole.reads { 4096 } else { 0 };
         let as_said = ended_within(alloc, &ended, 3, "apfs: read failed\n", bytes)?;
@@ -226,7 +332,12 @@ fn failure_of_each_read_of_a_file(rt: HostRuntime) -> Result<(), Fail> {
 fn failure_of_each_put_of_a_file(rt: HostRuntime) -> Result<(), Fail> {
     let alloc = rt.alloc();
     for (number, status, bytes) in [(1, 4, 0), (2, 4, 4096), (3, 0, 5000)] {
-        let ended = end(alloc, HOLE, CAT_HOLE, [&[], &[number], &[]])?;
+        let refused = Refused {
+            read: 0,
+            put: number,
+            line: 0,
+        };
+        let ended = end(alloc, HOLE, CAT_HOLE, refused)?;
         let as_said = ended_within(alloc, &ended, status, "", bytes)?;
         assert!(rt; as_said, "put {number}: status {}", ended.status);
     }
@@ -315,16 +426,18 @@ fn what_is_written_is_flushed(rt: HostRuntime) -> Result<(), Fail> {
 
 // Whether each case ends with 4 and writes nothing, where the first put on each sink is refused.
 fn fail_at_the_first_put(rt: &impl Abort, alloc: Global, cases: &[Case]) -> Result<(), Fail> {
-    for (name, image, words, _, out, err) in cases {
+    let refused = Refused {
+        read: 0,
+        put: 1,
+        line: 1,
+    };
+    for case in cases {
         // Nothing is put where there is nothing to write.
-        let status = if out.is_empty() && err.is_empty() {
-            0
-        } else {
-            4
-        };
-        let ended = end(alloc, *image, words, [&[], &[1], &[1]])?;
+        let is_silent = case.ends.text().is_empty() && case.ends.line().is_empty();
+        let status = if is_silent { 0 } else { 4 };
+        let ended = end(alloc, case.image, case.words, refused)?;
         let as_said = ended_with(&ended, status, "", "");
-        assert!(rt; as_said, "{name}: status {}", ended.status);
+        assert!(rt; as_said, "{}: status {}", case.name, ended.status);
     }
     Ok(())
 }

@@ -5,7 +5,7 @@ use Rattle.std.proofs.lemmas.Bool.Decides.{nat_tests}
 use Rattle.std.specs.Option.{option_map_or}
 use Rattle.std.specs.Str.{bytes_eq, chars}
 use Rattle.clap.specs.Lexer.{long_of, name_and_value, short_of, usize_max}
-use Rattle.clap.specs.Walk.{Held, default_rows, reading_by, to_positional, used_by_id, Step, Row, Rule, Waiting, Walk, after_step, arg_by_index, arg_by_long, finished, has_row, idle, is_empty, is_pending, long_or_other, option, positional, pushed, settled, settled_rows, short_or_plain, subcommand_met, trailing, walked, with_default}
+use Rattle.clap.specs.Walk.{Held, default_rows, reading_by, to_positional, used_by_id, Step, Row, Rule, Waiting, Walk, after_step, arg_by_index, arg_by_long, finished, has_row, idle, is_empty, is_pending, long_or_other, option, pushed, settled, settled_rows, short_or_plain, trailing, walked, with_default}
 use Rattle.clap.specs.Kinds.{Kinds, or_else}
 use Rattle.clap.specs.Faults.{given_default_fault, bundle_fault, bundle_step_fault, check_fault, defaults_fault, flag_word_fault, flags_fault, long_fault, positional_fault, short_fault, settle_fault, step_fault, stray_fault, turn_fault, use_fault}
 use Rattle.cmd_words.specs.Said.{Grammar, Said, Text, all_by_place, first_said, is_among, is_once, is_value, says}
@@ -60,11 +60,6 @@ looks (c ∷ d ∷ rest) = ⊎_elim hyphen other (bool_cases (c == 45))
         (λ (f : (d == 45) ≡ false). a_short (d ∷ rest) (rw e refl) (rw (e, f) refl) (rw (e, f) refl) (rw (e, f) refl)) (bool_cases (d == 45))
 
 -- ---- one step
-
-nothing_met : (waiting : Waiting) (x : Text) → subcommand_met [] waiting x ≡ None
-nothing_met idle x = refl
-nothing_met (option id) x = refl
-nothing_met positional x = refl
 
 abbrev pub met_by : List Rule → Held → Waiting → ℕ → Text → Bool → Option (Text × Option Text) → Held × Step
 met_by c h waiting k x b long = if b then (h, trailing k) else long_or_other c waiting x long h

@@ -12,6 +12,7 @@ ghost use Rattle.ext_ref.specs.Left.{run_of, EndBy, AreUpTo, AreLow, AreLeft, Ar
 
 use crate::covering::{Span, put};
 use crate::{Cover, NewRange};
+use apfs_model::NoMemory;
 use fs_record::FileExt;
 use std::alloc::{AllocError, Global};
 
@@ -132,10 +133,8 @@ fn runs(alloc: Global, spans: &[Span]) -> Result<Vec<(u64, u64)>, AllocError>
     Ok(runs)
 }
 
-/// The longest runs of blocks of ranges that no extent with a block other than 0 reaches, each by its first block and its
-/// length, in ascending order. An extent stands after its stream's id. Sorts the ranges, and what extents reach, and goes
-/// through both once.
-pub fn unreached(
+// The longest runs of blocks of ranges that no extent with a block other than 0 reaches.
+fn left_out(
     alloc: Global,
     ranges: &[NewRange],
     extents: &[(u64, FileExt)],
@@ -151,4 +150,28 @@ pub fn unreached(
     let reach = Cover::of(alloc, &others)?;
     let spans = left(alloc, cover.as_spans(), reach.as_spans())?;
     runs(alloc, &spans)
+}
+
+/// The longest runs of blocks of ranges that no extent with a block other than 0 reaches, each by its first block and its
+/// length, in ascending order. An extent stands after its stream's id. Sorts the ranges, and what extents reach, and goes
+/// through both once.
+///
+/// # Errors
+///
+/// `NoMemory`: an allocation failed.
+pub fn unreached(
+    alloc: Global,
+    ranges: &[NewRange],
+    extents: &[(u64, FileExt)],
+    block_size: u32,
+) -> Result<Vec<(u64, u64)>, NoMemory>
+    requires short { AreShort ranges.now }
+    requires extents { AreShortExtents block_size extents.now }
+    requires accepted { is_accepted block_size ≡ true }
+    ensures { IfOk result (λ runs. runs.items ≡ unreached_runs block_size ranges.now extents.now) }
+{
+    match left_out(alloc, ranges, extents, block_size) {
+        Ok(runs) => Ok(runs),
+        Err(_) => Err(NoMemory),
+    }
 }

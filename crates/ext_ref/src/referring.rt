@@ -10,6 +10,7 @@ ghost use Rattle.fs_record.specs.declared.extents.FileExt as declared;
 
 use crate::NewRange;
 use crate::windows::{Window, lasts_of, window_of};
+use apfs_model::NoMemory;
 use fs_record::FileExt;
 use std::alloc::{AllocError, Global};
 
@@ -137,10 +138,8 @@ fn counts_of(
     Ok(counts)
 }
 
-/// For each range, how many streams have an extent with a block other than 0 that has a block in common with it. An extent
-/// stands after its stream's id. Sorts the extents by their first blocks; then two searches for each range, which start
-/// where those of the range before it ended, leave those that may touch it, which are looked at.
-pub fn references(
+// The same for each range, of extents in any order.
+fn counted(
     alloc: Global,
     ranges: &[NewRange],
     extents: &[(u64, FileExt)],
@@ -152,4 +151,26 @@ pub fn references(
     let sorted = by_block(alloc, extents)?;
     let lasts = lasts_of(alloc, &sorted, block_size)?;
     counts_of(alloc, ranges, &sorted, &lasts, block_size)
+}
+
+/// For each range, how many streams have an extent with a block other than 0 that has a block in common with it. An extent
+/// stands after its stream's id. Sorts the extents by their first blocks; then two searches for each range, which start
+/// where those of the range before it ended, leave those that may touch it, which are looked at.
+///
+/// # Errors
+///
+/// `NoMemory`: an allocation failed.
+pub fn references(
+    alloc: Global,
+    ranges: &[NewRange],
+    extents: &[(u64, FileExt)],
+    block_size: u32,
+) -> Result<Vec<u64>, NoMemory>
+    requires { is_accepted block_size ≡ true }
+    ensures { IfOk result (λ counts. counts.items ≡ references_of block_size ranges.now extents.now) }
+{
+    match counted(alloc, ranges, extents, block_size) {
+        Ok(counts) => Ok(counts),
+        Err(_) => Err(NoMemory),
+    }
 }

@@ -16,8 +16,9 @@ use Rattle.bt_keys.specs.FsTree.{IsFsKey, IsFsShape}
 use Rattle.bt_cursor.specs.Tree.{Tree}
 use Rattle.bt_cursor.specs.Flat.{flat_of}
 use Rattle.bt_cursor.specs.Order.{rank_of, rank_or_least}
-use Rattle.bt_cursor.specs.From.{from_rank, run_in}
-use Rattle.bt_cursor.proofs.Runs.{run-flat, run-taken, run-kind}
+use Rattle.bt_cursor.specs.Gaps.{Gapped, all_met}
+use Rattle.bt_cursor.specs.From.{from_rank, run_in, starts_whole}
+use Rattle.bt_cursor.proofs.Runs.{run-flat, run-taken, run-kind, whole-on}
 use Rattle.fs_record.specs.Facts.{Fact, told_by, fact_of, facts_of, all_for, read_extent, extents_of}
 use Rattle.fs_record.specs.Extents.{extent_of}
 use Rattle.fs_record.specs.declared.fault.RecFault.{RecFault}
@@ -103,17 +104,22 @@ each-of shape id (p ∷ ps) (e ∷ es) same =
     All-cons (λ (q : Pair). run_in shape (is_run id) q ≡ true) p ps (ap (is_run id) here ∙ stands) (each-of shape id ps es rest)
 
 -- the extents that were collected are some of the stream's
-pub collected-within : {K : Type 0} (tree : Tree K) (root id : ℕ) (left : List Pair) (es : List FileExt) → IsCollected tree root id left es → (before after : List FileExt) × (extents_for id (flat_of tree root) ≡ before ++ (es ++ after))
+pub collected-within : {K : Type 0} (tree : Tree K) (root id : ℕ) (left : List (Gapped Pair)) (es : List FileExt) → IsCollected tree root id left es → (before after : List FileExt) × (extents_for id (flat_of tree root) ≡ before ++ (es ++ after))
 collected-within tree root id left es c = (
   extents_for id c.before,
-  extents_for id left,
+  extents_for id (all_met left),
   ap (extents_for id) c.split
-      ∙ extents-append id c.before (c.taken ++ left)
-      ∙ ap (λ (l : List FileExt). extents_for id c.before ++ l) (extents-append id c.taken left ∙ ap (λ (l : List FileExt). l ++ extents_for id left) c.same),
+      ∙ extents-append id c.before (c.taken ++ all_met left)
+      ∙ ap (λ (l : List FileExt). extents_for id c.before ++ l) (extents-append id c.taken (all_met left) ∙ ap (λ (l : List FileExt). l ++ extents_for id (all_met left)) c.same),
 )
 
+-- the walk goes on with no record of a stream, and no gap stands there
+pub record Ends {K : Type 0} (shape : Shape K) (id : ℕ) (left : List (Gapped Pair)) : Type 0 where
+  pub next : (p : Pair) (ps : List Pair) → all_met left ≡ p ∷ ps → run_in shape (is_run id) p ≡ false
+  pub whole : starts_whole shape (is_run id) left ≡ true
+
 -- and all of them where the walk goes on with none
-pub collected-all : {K : Type 0} (hashed : Bool) (tree : Tree K) (root id : ℕ) (left : List Pair) (es : List FileExt) → IsFsShape hashed tree.shape → IsCollected tree root id left es → ((p : Pair) (ps : List Pair) → left ≡ p ∷ ps → run_in tree.shape (is_run id) p ≡ false) → AreCollected tree root id es
+pub collected-all : {K : Type 0} (hashed : Bool) (tree : Tree K) (root id : ℕ) (left : List (Gapped Pair)) (es : List FileExt) → IsFsShape hashed tree.shape → IsCollected tree root id left es → Ends tree.shape id left → AreCollected tree root id es
 collected-all hashed tree root id left es law c ends =
     let w = collected-within tree root id left es c in
     record {
@@ -122,10 +128,11 @@ collected-all hashed tree root id left es law c ends =
       within = w.2;
       all = λ ordered.
           let test = run_in tree.shape (is_run id) in
-          let taken : take_while test (c.taken ++ left) ≡ c.taken = run-taken test c.taken left (each-of tree.shape id c.taken es c.ranks) ends in
+          let taken : take_while test (c.taken ++ all_met left) ≡ c.taken = run-taken test c.taken (all_met left) (each-of tree.shape id c.taken es c.ranks) ends.next in
           let run : take_while test (from_rank tree.shape (stream_rank id 0) (flat_of tree root)) ≡ filter test (flat_of tree root) = run-flat tree root (stream_rank id 0) (is_run id) (run-kind id file_extent_record) ordered in
           let same : filter test (flat_of tree root) ≡ c.taken = sym run ∙ (ap (take_while test) (c.from ordered) ∙ taken) in
           extents-run hashed tree.shape id (flat_of tree root) law c.readable ∙ (ap (extents_for id) same ∙ c.same);
+      whole = λ ordered. c.whole ordered ∙ ends.whole;
     }
 
 -- where an extent's record stands is its logical address
@@ -150,13 +157,15 @@ rank-of r id kind sub a b c =
     ∙ ap (λ (n : ℕ). record { id = id; kind = kind; sub = n }) c
 
 -- one more extent
-pub collected-more : {K : Type 0} (hashed : Bool) (tree : Tree K) (root id : ℕ) (left rest : List Pair) (es : List FileExt) (pair : Pair) (key : K) (e : FileExt) → IsFsShape hashed tree.shape → IsCollected tree root id left es → left ≡ pair ∷ rest → tree.shape.read pair.key ≡ Some key → id_of pair.key ≡ id → record_kind_of pair.key ≡ file_extent_record → read_extent pair ≡ Ok e → IsCollected tree root id rest (es ++ e ∷ [])
+pub collected-more : {K : Type 0} (hashed : Bool) (tree : Tree K) (root id : ℕ) (left rest : List (Gapped Pair)) (es : List FileExt) (pair : Pair) (key : K) (e : FileExt) → IsFsShape hashed tree.shape → IsCollected tree root id left es → left ≡ Ok pair ∷ rest → tree.shape.read pair.key ≡ Some key → id_of pair.key ≡ id → record_kind_of pair.key ≡ file_extent_record → read_extent pair ≡ Ok e → IsCollected tree root id rest (es ++ e ∷ [])
 collected-more {K} hashed tree root id left rest es pair key e law c next read same kind told =
     let known : IsFsKey hashed pair.key (tree.shape.rank key) = law.reads pair.key key read in
     let rank : rank_of tree.shape pair ≡ extent_rank id e =
     ap (rank_or_least tree.shape) read
     ∙ rank-of (tree.shape.rank key) id file_extent_record e.logical (known.id ∙ same) (known.kind ∙ kind) (known.sub ∙ (sub-second hashed pair.key kind ∙ sym (logical-read pair e told))) in
-    let after : c.taken ++ left ≡ (c.taken ++ pair ∷ []) ++ rest = ap (λ (l : List Pair). c.taken ++ l) next ∙ sym (append_assoc c.taken (pair ∷ []) rest) in
+    let after : c.taken ++ all_met left ≡ (c.taken ++ pair ∷ []) ++ all_met rest = ap (λ (l : List (Gapped Pair)). c.taken ++ all_met l) next ∙ sym (append_assoc c.taken (pair ∷ []) (all_met rest)) in
+    let mine : run_in tree.shape (is_run id) pair ≡ true =
+    run-read hashed tree.shape id pair key law read ∙ ap₂ (λ (a b : Bool). a && b) (from-equal (id_of pair.key) id same) (from-equal (record_kind_of pair.key) file_extent_record kind) in
     record {
       before = c.before;
       taken = c.taken ++ pair ∷ [];
@@ -164,5 +173,6 @@ collected-more {K} hashed tree root id left rest es pair key e law c next read s
       ranks = map-append (rank_of tree.shape) c.taken (pair ∷ []) ∙ (ap₂ (λ (l : List Rank) (r : Rank). l ++ r ∷ []) c.ranks rank ∙ sym (map-append (extent_rank id) es (e ∷ [])));
       same = extents-append id c.taken (pair ∷ []) ∙ ap₂ (λ (a b : List FileExt). a ++ b) c.same (one-read id pair e same kind told);
       from = λ ordered. c.from ordered ∙ after;
+      whole = λ ordered. c.whole ordered ∙ (ap (starts_whole tree.shape (is_run id)) next ∙ whole-on tree.shape (is_run id) pair rest mine);
       readable = c.readable;
     }

@@ -19,6 +19,7 @@ use Rattle.bt_node.specs.Rank.{is_below}
 use Rattle.bt_node.specs.declared.key.Rank.{Rank}
 use Rattle.bt_cursor.specs.Tree.{Tree}
 use Rattle.bt_cursor.specs.Flat.{flat_of}
+use Rattle.bt_cursor.specs.Gaps.{Gapped, all_met}
 use Rattle.bt_cursor.specs.Line.{Item, is_leaf_item, line_of, leaf_pairs}
 use Rattle.bt_cursor.specs.Order.{rank_of, is_ordered}
 use Rattle.bt_cursor.specs.Search.{IsInOrder}
@@ -69,17 +70,17 @@ rise-last f (y ∷ es) x e after rise (inl same) = subst (λ (z : FileExt). is_b
 rise-last f (y ∷ es) x e after rise (inr one) = rise-last f es x e after rise.1 one
 
 -- extents of a tree in order are in order
-pub misordered : {K : Type 0} (tree : Tree K) (root id : ℕ) (left : List Pair) (es : List FileExt) (e : FileExt) → IsCollected tree root id left (es ++ e ∷ []) → IsMisordered es e → is_ordered tree.shape (line_of tree root) ≡ true → ⊥
+pub misordered : {K : Type 0} (tree : Tree K) (root id : ℕ) (left : List (Gapped Pair)) (es : List FileExt) (e : FileExt) → IsCollected tree root id left (es ++ e ∷ []) → IsMisordered es e → is_ordered tree.shape (line_of tree root) ≡ true → ⊥
 misordered tree root id left es e c wrong ordered =
     let rank = rank_of tree.shape in
     let all : RanksRise (map rank (flat_of tree root)) =
     subst (λ (ps : List Pair). RanksRise (map rank ps)) (line-pairs tree root) (rise-line tree.shape (line_of tree root) (ordered-means tree.shape (line_of tree root) ordered)) in
-    let split : map rank (flat_of tree root) ≡ map rank c.before ++ (map (extent_rank id) (es ++ e ∷ []) ++ map rank left) =
+    let split : map rank (flat_of tree root) ≡ map rank c.before ++ (map (extent_rank id) (es ++ e ∷ []) ++ map rank (all_met left)) =
     ap (map rank) c.split
-    ∙ map-append rank c.before (c.taken ++ left)
-    ∙ ap (λ (l : List Rank). map rank c.before ++ l) (map-append rank c.taken left ∙ ap (λ (l : List Rank). l ++ map rank left) c.ranks) in
-    let these = rise-right (map rank c.before) (map (extent_rank id) (es ++ e ∷ []) ++ map rank left) (subst RanksRise split all) in
-    let above : is_below (extent_rank id e) (extent_rank id wrong.other) ≡ false = rise-last (extent_rank id) es wrong.other e (map rank left) these wrong.one in
+    ∙ map-append rank c.before (c.taken ++ all_met left)
+    ∙ ap (λ (l : List Rank). map rank c.before ++ l) (map-append rank c.taken (all_met left) ∙ ap (λ (l : List Rank). l ++ map rank (all_met left)) c.ranks) in
+    let these = rise-right (map rank c.before) (map (extent_rank id) (es ++ e ∷ []) ++ map rank (all_met left)) (subst RanksRise split all) in
+    let above : is_below (extent_rank id e) (extent_rank id wrong.other) ≡ false = rise-last (extent_rank id) es wrong.other e (map rank (all_met left)) these wrong.one in
     let later : e.logical < wrong.other.logical = wrong.later in
     let below : is_below (extent_rank id e) (extent_rank id wrong.other) ≡ true = grind (arith, nat_tests, later) in
     clash (is_below (extent_rank id e) (extent_rank id wrong.other)) below above
@@ -124,7 +125,7 @@ fails-whole true part leads fails = clash part (leads refl) fails
 fails-whole false part leads fails = refl
 
 -- why an extent can't be laid after those before it is there
-pub add_tells : {K : Type 0} (site : Site) (tree : Tree K) (root id : ℕ) (left : List Pair) (es : List FileExt) (stop : Stop _) → IsCollected tree root id left es → IsAddStop site es stop → Tells (IsCollectStop site tree root id) (HasFeature tree root) stop
+pub add_tells : {K : Type 0} (site : Site) (tree : Tree K) (root id : ℕ) (left : List (Gapped Pair)) (es : List FileExt) (stop : Stop _) → IsCollected tree root id left es → IsAddStop site es stop → Tells (IsCollectStop site tree root id) (HasFeature tree root) stop
 add_tells site tree root id left es (Found (Walk top why)) c h = absurd h
 add_tells site tree root id left es (Found (Extent why)) c h = absurd h
 add_tells site tree root id left es (Found Order) c h =

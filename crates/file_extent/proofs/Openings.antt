@@ -6,10 +6,12 @@ use Rattle.obj_base.specs.declared.stop.Stop.{Stop}
 use Rattle.obj_base.specs.declared.stop.Stop.TheVariants.{Found, Unsupported, ReadFault, NoMemory}
 use Rattle.obj_base.specs.declared.site.Site.{Site}
 use Rattle.bt_node.specs.Entries.{Pair}
+use Rattle.bt_keys.specs.RecordKey.{file_extent_record}
 use Rattle.bt_keys.specs.Shapes.{fs_shape, fs_plain_shape}
 use Rattle.bt_cursor.specs.Flat.{flat_of}
 use Rattle.bt_cursor.specs.Line.{line_of}
 use Rattle.bt_cursor.specs.Order.{is_ordered}
+use Rattle.bt_cursor.specs.From.{is_kind_whole}
 use Rattle.bt_cursor.specs.Whole.{is_whole}
 use Rattle.bt_cursor.specs.Faults.{IsWalkFault, HasFeature}
 use Rattle.bt_cursor.proofs.Places.{tree-levelled, whole-world}
@@ -18,7 +20,7 @@ use Rattle.fs_name.specs.Normal.{are_hashed}
 use Rattle.fs_record.specs.StreamExtents.{are_extents_ordered}
 use Rattle.fs_record.specs.declared.extents.FileExt.{FileExt}
 use Rattle.vol_view.specs.Volumes.{Loaded}
-use Rattle.vol_view.specs.Views.{view_named, hashed_tree, plain_tree, view_flat, view_line, is_view_ordered, is_view_whole, FactBy, IsViewFault, IsViewFeature}
+use Rattle.vol_view.specs.Views.{view_named, hashed_tree, plain_tree, view_flat, view_line, is_view_ordered, has_all_records, is_view_whole, FactBy, IsViewFault, IsViewFeature}
 use Rattle.vol_view.specs.declared.volume.View.{View}
 use Rattle.file_extent.specs.Streams.{extents_for, are_extents_placed}
 use Rattle.file_extent.specs.Stops.{HasRefused, IsStreamStop, IsStreamFeature, IsStreamSound, IsOpened}
@@ -68,6 +70,16 @@ hashed_all image site volume view id es test c ordered = ap (extents_for id) (ha
 pub plain_all : (image : List ℕ) (site : Site) (volume : Loaded) (view : View) (id : ℕ) (es : List FileExt) → are_hashed volume.names ≡ false → AreCollected (plain_tree image site volume view) view.root_oid id es → is_view_ordered image site volume view ≡ true → extents_for id (view_flat image site volume view) ≡ es
 plain_all image site volume view id es test c ordered = ap (extents_for id) (plain-flat image site volume view test) ∙ c.all (plain-order image site volume view test ordered)
 
+pub hashed_whole : (image : List ℕ) (site : Site) (volume : Loaded) (view : View) (id : ℕ) (es : List FileExt) → are_hashed volume.names ≡ true → AreCollected (hashed_tree image site volume view) view.root_oid id es → is_view_ordered image site volume view ≡ true → has_all_records image site volume view id file_extent_record ≡ true
+unfolding has_all_records
+hashed_whole image site volume view id es test c ordered =
+    ap (λ b. cond b (is_kind_whole (hashed_tree image site volume view) view.root_oid id file_extent_record) (is_kind_whole (plain_tree image site volume view) view.root_oid id file_extent_record)) test ∙ c.whole (hashed-order image site volume view test ordered)
+
+pub plain_whole : (image : List ℕ) (site : Site) (volume : Loaded) (view : View) (id : ℕ) (es : List FileExt) → are_hashed volume.names ≡ false → AreCollected (plain_tree image site volume view) view.root_oid id es → is_view_ordered image site volume view ≡ true → has_all_records image site volume view id file_extent_record ≡ true
+unfolding has_all_records
+plain_whole image site volume view id es test c ordered =
+    ap (λ b. cond b (is_kind_whole (hashed_tree image site volume view) view.root_oid id file_extent_record) (is_kind_whole (plain_tree image site volume view) view.root_oid id file_extent_record)) test ∙ c.whole (plain-order image site volume view test ordered)
+
 -- ---- what is named of the tree is there in the view
 pub hashed_tells : (image : List ℕ) (site : Site) (volume : Loaded) (view : View) (id : ℕ) (stop : Stop StreamStop) → are_hashed volume.names ≡ true → Tells (IsCollectStop site (hashed_tree image site volume view) view.root_oid id) (HasFeature (hashed_tree image site volume view) view.root_oid) stop →
     Tells (IsStreamStop image site volume view id) (IsStreamFeature image site volume view) stop
@@ -90,11 +102,12 @@ plain_tells image site volume view id ReadFault test h = tt
 plain_tells image site volume view id NoMemory test h = tt
 
 -- ---- what is known of an opened stream
-pub opened : (image : List ℕ) (site : Site) (volume : Loaded) (view : View) (id size : ℕ) (es : List FileExt) → AreLaid site es → extents_for id (view_flat image site volume view) ≡ es → IsOpened image site volume view id size (record { site = site; extents = es; size = size })
-opened image site volume view id size es laid all = record {
+pub opened : (image : List ℕ) (site : Site) (volume : Loaded) (view : View) (id size : ℕ) (es : List FileExt) → AreLaid site es → extents_for id (view_flat image site volume view) ≡ es → has_all_records image site volume view id file_extent_record ≡ true → IsOpened image site volume view id size (record { site = site; extents = es; size = size })
+opened image site volume view id size es laid all whole = record {
   same = ap (λ (l : List FileExt). record { site = site; extents = l; size = size }) (sym all);
   ordered = laid-ordered site es laid;
   placed = laid.placed;
+  whole = whole;
 }
 
 -- ---- where all is in order nothing of it is named

@@ -6,7 +6,9 @@ use Rattle.bt_node.specs.Entries.{Pair}
 use Rattle.bt_keys.specs.RecordKey.{id_of, record_kind_of, file_extent_record}
 use Rattle.bt_keys.specs.FsTree.{IsFsShape}
 use Rattle.bt_cursor.specs.Tree.{Tree}
-use Rattle.bt_cursor.specs.From.{run_in}
+use Rattle.bt_cursor.specs.Gaps.{Gapped, all_met}
+use Rattle.bt_cursor.specs.From.{run_in, starts_whole}
+use Rattle.bt_cursor.proofs.Runs.{whole-over}
 use Rattle.fs_record.specs.Facts.{read_extent}
 use Rattle.fs_record.specs.declared.fault.RecFault.{RecFault}
 use Rattle.fs_record.specs.declared.extents.FileExt.{FileExt}
@@ -61,22 +63,30 @@ refused_there pairs id pair why one told =
     record { pair = pair; one = one; kind = t.kind; of_stream = t.same; refusal = t.read }
 
 -- a walk that has moved onto a record goes on with its extent, or ends before it
-pub goes_on : {K : Type 0} (hashed : Bool) (tree : Tree K) (root id : ℕ) (left rest : List Pair) (es : List FileExt) (pair : Pair) (key : K) (o : Option FileExt) → IsFsShape hashed tree.shape → IsCollected tree root id left es → left ≡ pair ∷ rest → tree.shape.read pair.key ≡ Some key → extent_in id pair ≡ Ok o → GoesOn tree root id rest es o
+pub goes_on : {K : Type 0} (hashed : Bool) (tree : Tree K) (root id : ℕ) (left rest : List (Gapped Pair)) (es : List FileExt) (pair : Pair) (key : K) (o : Option FileExt) → IsFsShape hashed tree.shape → IsCollected tree root id left es → left ≡ Ok pair ∷ rest → tree.shape.read pair.key ≡ Some key → extent_in id pair ≡ Ok o → GoesOn tree root id rest es o
 goes_on hashed tree root id left rest es pair key None law c next read told =
-    collected-all hashed tree root id left es law c (λ p ps at.
-    let same : p ≡ pair = cc in
-    ap (run_in tree.shape (is_run id)) same ∙ (run-read hashed tree.shape id pair key law read ∙ none-told id pair told))
+    let over : run_in tree.shape (is_run id) pair ≡ false = run-read hashed tree.shape id pair key law read ∙ none-told id pair told in
+    collected-all hashed tree root id left es law c (record {
+      next = λ p ps at.
+          let first : pair ∷ all_met rest ≡ p ∷ ps = sym (ap all_met next) ∙ at in
+          let same : p ≡ pair = cc in
+          ap (run_in tree.shape (is_run id)) same ∙ over;
+      whole = ap (starts_whole tree.shape (is_run id)) next ∙ whole-over tree.shape (is_run id) pair rest over;
+    })
 goes_on hashed tree root id left rest es pair key (Some e) law c next read told =
     let t = some-told id pair e told in
     collected-more hashed tree root id left rest es pair key e law c next read t.same t.kind t.read
 
 -- a walk that has come to the end of the tree has passed all extents
-pub goes_on_none : {K : Type 0} (hashed : Bool) (tree : Tree K) (root id : ℕ) (left : List Pair) (es : List FileExt) → IsFsShape hashed tree.shape → IsCollected tree root id left es → left ≡ [] → AreCollected tree root id es
+pub goes_on_none : {K : Type 0} (hashed : Bool) (tree : Tree K) (root id : ℕ) (left : List (Gapped Pair)) (es : List FileExt) → IsFsShape hashed tree.shape → IsCollected tree root id left es → left ≡ [] → AreCollected tree root id es
 goes_on_none hashed tree root id left es law c end =
-    collected-all hashed tree root id left es law c (λ p ps at. let bad : [] ≡ p ∷ ps = sym end ∙ at in absurd (let q : ⊥ = cc in q))
+    collected-all hashed tree root id left es law c (record {
+      next = λ p ps at. let bad : [] ≡ p ∷ ps = sym (ap all_met end) ∙ at in absurd (let q : ⊥ = cc in q);
+      whole = ap (starts_whole tree.shape (is_run id)) end;
+    })
 
 -- the same for another name of the tree and of the answer
-pub went_on : {K : Type 0} (old new : Tree K) (root id : ℕ) (left rest : List Pair) (es : List FileExt) (o p : Option FileExt) → old ≡ new → o ≡ p → (IsCollected old root id left es → GoesOn old root id rest es o) → IsCollected new root id left es → GoesOn new root id rest es p
+pub went_on : {K : Type 0} (old new : Tree K) (root id : ℕ) (left rest : List (Gapped Pair)) (es : List FileExt) (o p : Option FileExt) → old ≡ new → o ≡ p → (IsCollected old root id left es → GoesOn old root id rest es o) → IsCollected new root id left es → GoesOn new root id rest es p
 went_on {K} old new root id left rest es o p same_tree same goes collected =
     subst (λ (t : Tree K). GoesOn t root id rest es p) same_tree
     (subst (λ (q : Option FileExt). GoesOn old root id rest es q) same

@@ -23,14 +23,15 @@ use Rattle.bt_keys.specs.FsTree.{IsFsShape}
 use Rattle.bt_keys.proofs.FsKeys.{extent_long}
 use Rattle.bt_cursor.specs.Tree.{Tree, root_place, child_place, judged, node_named, block_named, tree_in}
 use Rattle.bt_cursor.specs.Flat.{flat_part, flat_of}
-use Rattle.bt_cursor.specs.Gaps.{IsSuffix}
+use Rattle.bt_cursor.specs.Gaps.{Gapped, gapped_of, all_met, all_flat, IsSuffix}
 use Rattle.bt_cursor.specs.Line.{line_of}
 use Rattle.bt_cursor.specs.Order.{is_ordered}
-use Rattle.bt_cursor.specs.From.{from_rank}
+use Rattle.bt_cursor.specs.From.{gapped_from_rank, starts_whole, is_of_kind}
 use Rattle.bt_cursor.specs.Faults.{IsNodeFault, HasFeature}
 use Rattle.bt_cursor.specs.declared.fault.WalkFault.{WalkFault}
 use Rattle.bt_cursor.specs.declared.fault.WalkFault.TheVariants.{Unsound, Unnamed, Order, Counts}
 use Rattle.bt_cursor.proofs.Nodes.{node_same}
+use Rattle.bt_cursor.proofs.Seeks.{from-flat}
 use Rattle.file_extent.specs.declared.stop.StreamStop.TheVariants as stops
 use Rattle.file_extent.specs.Collected.{stream_rank, IsReadable, IsCollected, IsCollectStop}
 use Rattle.file_extent.proofs.Collecting.{extents-none}
@@ -95,13 +96,15 @@ walk_tells site tree root id ReadFault h = tt
 walk_tells site tree root id NoMemory h = tt
 
 -- ---- a walk that stands before the first extent
-pub collected_none : {K : Type 0} (tree : Tree K) (root id : ℕ) (left : List Pair) → IsReadable tree root → IsSuffix left (flat_of tree root) → (is_ordered tree.shape (line_of tree root) ≡ true → left ≡ from_rank tree.shape (stream_rank id 0) (flat_of tree root)) → IsCollected tree root id left []
+pub collected_none : {K : Type 0} (tree : Tree K) (root id : ℕ) (left : List (Gapped Pair)) → IsReadable tree root → IsSuffix (all_met left) (flat_of tree root) →
+    (is_ordered tree.shape (line_of tree root) ≡ true → left ≡ all_flat (gapped_from_rank tree.shape (stream_rank id 0) (gapped_of tree root))) → IsCollected tree root id left []
 collected_none tree root id left readable suffix first = record {
   before = suffix.before;
   taken = [];
   split = suffix.split;
   ranks = refl;
   same = extents-none id;
-  from = λ ordered. sym (first ordered);
+  from = λ ordered. sym (ap all_met (first ordered) ∙ from-flat tree root (stream_rank id 0) ordered);
+  whole = λ ordered. ap (starts_whole tree.shape (is_of_kind id file_extent_record)) (sym (first ordered));
   readable = readable;
 }

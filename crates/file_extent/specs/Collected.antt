@@ -11,7 +11,8 @@ use Rattle.bt_cursor.specs.Tree.{Tree}
 use Rattle.bt_cursor.specs.Flat.{flat_of}
 use Rattle.bt_cursor.specs.Line.{line_of}
 use Rattle.bt_cursor.specs.Order.{rank_of, is_ordered}
-use Rattle.bt_cursor.specs.From.{from_rank}
+use Rattle.bt_cursor.specs.Gaps.{Gapped, all_met}
+use Rattle.bt_cursor.specs.From.{from_rank, starts_whole, is_of_kind, is_kind_whole}
 use Rattle.bt_cursor.specs.Faults.{IsWalkFault}
 use Rattle.bt_cursor.specs.declared.gathering.GatherFault.{GatherFault}
 use Rattle.bt_cursor.specs.declared.gathering.GatherFault.TheVariants.{Tree as TreeFault, Refused}
@@ -50,25 +51,29 @@ extent_rank id e = stream_rank id e.logical
 abbrev pub IsReadable : {K : Type 0} → Tree K → ℕ → Type 0
 IsReadable tree root = All (λ (p : Pair). IsSome (tree.shape.read p.key)) (flat_of tree root)
 
--- these extents are those of the records that were passed from the first of the stream on, and the walk stands after them
-pub record IsCollected {K : Type 0} (tree : Tree K) (root id : ℕ) (left : List Pair) (es : List FileExt) : Type 0 where
+-- these extents are those of the records that were passed from the first of the stream on, and the walk stands after them;
+-- a record of the stream is missing where one is missing from there on
+pub record IsCollected {K : Type 0} (tree : Tree K) (root id : ℕ) (left : List (Gapped Pair)) (es : List FileExt) : Type 0 where
   pub before : List Pair
   pub taken : List Pair
-  pub split : flat_of tree root ≡ before ++ (taken ++ left)
+  pub split : flat_of tree root ≡ before ++ (taken ++ all_met left)
   pub ranks : map (rank_of tree.shape) taken ≡ map (extent_rank id) es
   pub same : extents_for id taken ≡ es
-  pub from : is_ordered tree.shape (line_of tree root) ≡ true → from_rank tree.shape (stream_rank id 0) (flat_of tree root) ≡ taken ++ left
+  pub from : is_ordered tree.shape (line_of tree root) ≡ true → from_rank tree.shape (stream_rank id 0) (flat_of tree root) ≡ taken ++ all_met left
+  pub whole : is_ordered tree.shape (line_of tree root) ≡ true → is_kind_whole tree root id file_extent_record ≡ starts_whole tree.shape (is_of_kind id file_extent_record) left
   pub readable : IsReadable tree root
 
--- these extents are some of the stream's, one after another; all of them where the tree is ordered
+-- these extents are some of the stream's, one after another; all of them where the tree is ordered, and then no record of
+-- the stream is missing
 pub record AreCollected {K : Type 0} (tree : Tree K) (root id : ℕ) (es : List FileExt) : Type 0 where
   pub before : List FileExt
   pub after : List FileExt
   pub within : extents_for id (flat_of tree root) ≡ before ++ (es ++ after)
   pub all : is_ordered tree.shape (line_of tree root) ≡ true → extents_for id (flat_of tree root) ≡ es
+  pub whole : is_ordered tree.shape (line_of tree root) ≡ true → is_kind_whole tree root id file_extent_record ≡ true
 
 -- the next extent, where there is one, goes on with them; otherwise they are the stream's
-abbrev pub GoesOn : {K : Type 0} → Tree K → ℕ → ℕ → List Pair → List FileExt → Option FileExt → Type 0
+abbrev pub GoesOn : {K : Type 0} → Tree K → ℕ → ℕ → List (Gapped Pair) → List FileExt → Option FileExt → Type 0
 GoesOn tree root id left es None = AreCollected tree root id es
 GoesOn tree root id left es (Some e) = IsCollected tree root id left (es ++ e ∷ [])
 

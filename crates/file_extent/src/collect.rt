@@ -11,7 +11,7 @@ ghost use Rattle.bt_cursor.specs.Tree.{tree_in};
 ghost use Rattle.bt_cursor.specs.Line.{line_of};
 ghost use Rattle.bt_cursor.specs.Order.{is_ordered};
 ghost use Rattle.bt_cursor.specs.Faults.{IsNodeFault, HasFeature};
-ghost use Rattle.bt_cursor.specs.Cursors.{site_of, root_of, tree_of, left_of, fuel_of, IsOn};
+ghost use Rattle.bt_cursor.specs.Cursors.{site_of, root_of, tree_of, gapped_left_of, fuel_of, IsOn};
 ghost use Rattle.file_extent.specs.Laid.{AreLaid};
 ghost use Rattle.file_extent.specs.Collected.{extent_in, IsCollected, AreCollected, GoesOn, IsCollectStop};
 ghost use Rattle.fs_record.specs.declared.extents.FileExt.{FileExt};
@@ -92,7 +92,7 @@ fn open<K: FsTreeKey, S: BlockSource, N: Namer>(
     ensures root { IfOk result (λ cursor. root_of cursor ≡ root) }
     ensures tree { IfOk result (λ cursor. tree_of cursor ≡ tree_in K.shape site.now (N.named namer)) }
     ensures within { (image : List ℕ) → S.bytes src.old ≡ Some image → IfOk result (IsOn image) }
-    ensures opened { (image : List ℕ) → S.bytes src.old ≡ Some image → IfOk result (λ cursor. IsCollected (tree_in K.shape site.now (N.named namer) image) root id (left_of cursor image) []) }
+    ensures opened { (image : List ℕ) → S.bytes src.old ≡ Some image → IfOk result (λ cursor. IsCollected (tree_in K.shape site.now (N.named namer) image) root id (gapped_left_of cursor image) []) }
     ensures present { (image : List ℕ) → S.bytes src.old ≡ Some image → IfErr result (Tells (IsCollectStop site.now (tree_in K.shape site.now (N.named namer) image) root id) (HasFeature (tree_in K.shape site.now (N.named namer) image) root)) }
     ensures cause { IsErrOf result ReadFault → Rose (S.faults src.old) (S.faults src.new) }
     ensures kept { IsKept S.bytes S.bytes_len S.faults src.old src.new }
@@ -126,7 +126,7 @@ fn step<K: FsTreeKey, S: BlockSource, N: Namer>(
     ensures root { root_of cursor.new ≡ root_of cursor.old }
     ensures tree { tree_of cursor.new ≡ tree_of cursor.old }
     ensures within { (image : List ℕ) → S.bytes src.old ≡ Some image → IsOn image cursor.old → IsOn image cursor.new }
-    ensures goes_on { (image : List ℕ) → S.bytes src.old ≡ Some image → (es : List FileExt) → IsCollected (tree_of cursor.old image) root id (left_of cursor.old image) es → IfOk result (GoesOn (tree_of cursor.old image) root id (left_of cursor.new image) es) }
+    ensures goes_on { (image : List ℕ) → S.bytes src.old ≡ Some image → (es : List FileExt) → IsCollected (tree_of cursor.old image) root id (gapped_left_of cursor.old image) es → IfOk result (GoesOn (tree_of cursor.old image) root id (gapped_left_of cursor.new image) es) }
     ensures present { (image : List ℕ) → S.bytes src.old ≡ Some image → IsOn image cursor.old → IfErr result (Tells (IsCollectStop site.now (tree_of cursor.old image) root id) (HasFeature (tree_of cursor.old image) root)) }
     ensures fuel { IfOk result (λ more. IsSome more → fuel_of cursor.new < fuel_of cursor.old) }
     ensures cause { IsErrOf result ReadFault → Rose (S.faults src.old) (S.faults src.new) }

@@ -6,7 +6,8 @@ ghost use Rattle.obj_base.specs.Stops.{Tells, IsFree};
 ghost use Rattle.obj_base.specs.declared.stop.Stop.TheVariants.{ReadFault};
 ghost use Rattle.obj_base.specs.Site.{IsSiteFor};
 ghost use Rattle.bt_cursor.specs.Faults.{HasFeature};
-ghost use Rattle.vol_view.specs.Views.{view_tree, view_flat, is_view_ordered};
+ghost use Rattle.bt_keys.specs.RecordKey.{file_extent_record};
+ghost use Rattle.vol_view.specs.Views.{view_tree, view_flat, is_view_ordered, has_all_records};
 ghost use Rattle.file_extent.specs.Streams.{extents_for};
 ghost use Rattle.file_extent.specs.Stops.{IsStreamStop, IsStreamFeature};
 ghost use Rattle.file_extent.specs.Laid.{AreLaid};
@@ -71,6 +72,7 @@ pub(crate) fn extents_in<S: BlockSource>(
     requires site { IsSiteFor site.now (S.bytes_len src.old) }
     ensures laid { IfOk result (λ extents. AreLaid site.now extents.items) }
     ensures all { (image : List ℕ) → S.bytes src.old ≡ Some image → is_view_ordered image site.now volume.now view.now ≡ true → IfOk result (λ extents. extents_for id (view_flat image site.now volume.now view.now) ≡ extents.items) }
+    ensures whole { (image : List ℕ) → S.bytes src.old ≡ Some image → is_view_ordered image site.now volume.now view.now ≡ true → IfOk result (λ extents. has_all_records image site.now volume.now view.now id file_extent_record ≡ true) }
     ensures present { (image : List ℕ) → S.bytes src.old ≡ Some image → IfErr result (Tells (IsStreamStop image site.now volume.now view.now id) (IsStreamFeature image site.now volume.now view.now)) }
     ensures cause { IsErrOf result ReadFault → Rose (S.faults src.old) (S.faults src.new) }
     ensures kept { IsKept S.bytes S.bytes_len S.faults src.old src.new }

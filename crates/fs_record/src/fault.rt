@@ -1,7 +1,5 @@
-// What is wrong in a record, and in a file-system tree.
+// What is wrong in a record.
 
-use apfs_model::Bytes;
-use bt_node::NodeFault;
 use thiserror::Error;
 
 /// The first part of a record that is wrong. The texts are for developers; no printed line rests on them.
@@ -19,76 +17,4 @@ pub enum RecFault {
     /// Of an attribute's two flags, for a stream and for embedded contents, not exactly one is set.
     #[error("of the flags for a stream and for embedded contents not exactly one is set")]
     Flags,
-}
-
-/// An object in a view.
-#[derive(Clone, Copy, PartialEq, Eq, Debug)]
-pub struct IdAt {
-    /// The volume's slot.
-    pub slot: u32,
-    /// The view's transaction.
-    pub xid: u64,
-    pub id: u64,
-}
-
-/// A name of an object in a view.
-#[derive(PartialEq, Debug, Drop)]
-pub struct NamedAt {
-    /// The volume's slot.
-    pub slot: u32,
-    /// The view's transaction.
-    pub xid: u64,
-    pub id: u64,
-    pub name: Bytes,
-}
-
-/// What is wrong in the file-system tree of a view, by its row in the table of faults.
-#[derive(PartialEq, Debug, Drop)]
-pub enum TreeFault {
-    Unsound {
-        block: u64,
-        why: NodeFault,
-    },
-    Unnamed {
-        slot: u32,
-        oid: u64,
-        xid: u64,
-    },
-    Order {
-        slot: u32,
-        xid: u64,
-        item: u64,
-    },
-    Counts {
-        slot: u32,
-        xid: u64,
-    },
-    Record {
-        slot: u32,
-        xid: u64,
-        item: u64,
-        why: RecFault,
-    },
-    DupName(NamedAt),
-    Hash(NamedAt),
-    NoParent(NamedAt),
-    NoInode {
-        slot: u32,
-        xid: u64,
-        id: u64,
-        name: Option<Bytes>,
-    },
-    KindMismatch(NamedAt),
-    DirNames(IdAt),
-    Unreached(IdAt),
-    Children(IdAt),
-    Links(IdAt),
-    SiblingLost(IdAt),
-    ExtentOrder(IdAt),
-    ExtentPlace(IdAt),
-    ExtentUncovered(IdAt),
-    LinkTarget(IdAt),
-    Stream(IdAt),
-    AttrOwner(IdAt),
-    NameHash(NamedAt),
 }

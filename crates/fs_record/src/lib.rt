@@ -18,7 +18,7 @@ pub use attribute::{Attr, AttrBody};
 pub use attributes::attr;
 pub use entries::{DirEntry, entry};
 pub use extents::{FileExt, file_ext};
-pub use fault::{IdAt, NamedAt, RecFault, TreeFault};
+pub use fault::RecFault;
 pub use inode_view::{Inode, StreamSize};
 pub use inodes::inode;
 pub use refusals::refused;

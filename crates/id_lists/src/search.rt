@@ -1,5 +1,5 @@
 // Searches in a list that is in the order of its ids.
-ghost use Rattle.std.specs.Prelude.{◌≡◌, ◌≤◌, ◌==◌, ℕ, true, false, Some, length, nat_lt, nat_le, count_by};
+ghost use Rattle.std.specs.Prelude.{◌≡◌, ◌↔◌, ◌≤◌, ◌==◌, ℕ, true, false, Some, length, nat_lt, nat_le, count_by};
 ghost use Rattle.std.specs.List.{position};
 ghost use Rattle.std.specs.List.Sorted.{IsNonDecreasingBy, IsPartitionPoint};
 
@@ -31,7 +31,7 @@ const STEPS: usize = 8;
 
 /// Whether a list is in the order of its ids.
 pub fn are_in_order<T, B: OrderBy<T>>(list: &[T]) -> bool
-    ensures { result ≡ true → IsNonDecreasingBy B.id list.now }
+    ensures { (result ≡ true) ↔ IsNonDecreasingBy B.id list.now }
 {
     for i in 1..list.len() {
         if B::id(&list[i]) < B::id(&list[i - 1]) {

@@ -1,7 +1,7 @@
 // Lists in order with what is found in them, whatever the guess.
 use crate::guesses::Guesses;
 use crate::search::place;
-use crate::{ByItself, IdList, NO_GUESS, are_in_order, below, count};
+use crate::{ByItself, IdList, NO_GUESS, are_in_order, below, count, distinct};
 use std::alloc::Global;
 use std::test::Fail;
 
@@ -63,16 +63,17 @@ fn lists(rt: HostRuntime) -> Result<(), Fail> {
 }
 
 #[test]
-fn order(rt: HostRuntime) -> Result<(), Fail> {
-    let rows: [(&[u64], bool); 5] = [
-        (&[], true),
-        (&[7], true),
-        (SPARSE, true),
-        (&[1, 3, 2], false),
-        (&[2, 1], false),
+fn numbers_once(rt: HostRuntime) -> Result<(), Fail> {
+    let rows: [(&[u64], &[u64]); 4] = [
+        (&[], &[]),
+        (&[7], &[7]),
+        (&[3, 1, 3, 2, 1], &[1, 2, 3]),
+        (&[u64::MAX, 0, u64::MAX], &[0, u64::MAX]),
     ];
-    for (list, want) in rows {
-        assert_eq!(rt; are_in_order::<_, ByItself>(list), want);
+    for (given, want) in rows {
+        let mut items = Vec::from_slice(rt.alloc(), given)?;
+        distinct(&mut items);
+        assert_eq!(rt; items.as_slice(), want);
     }
     Ok(())
 }

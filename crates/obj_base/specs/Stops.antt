@@ -43,21 +43,3 @@ raised say (Found fault) = Found (say fault)
 raised say (Unsupported feature block) = Unsupported feature block
 raised say ReadFault = ReadFault
 raised say NoMemory = NoMemory
-
--- a fact of a stop's fault, where it tells of one
-abbrev pub ForFound : {F : Type 0} → Stop F → (F → Type 0) → Type 0
-ForFound {F} stop fact = (fault : F) → stop ≡ Found fault → fact fault
-
--- a stop tells of a fault, of which a fact holds
-abbrev pub IsFoundAnd : {F : Type 0} → Stop F → (F → Type 0) → Type 0
-IsFoundAnd (Found fault) fact = fact fault
-IsFoundAnd (Unsupported feature block) fact = ⊥
-IsFoundAnd ReadFault fact = ⊥
-IsFoundAnd NoMemory fact = ⊥
-
--- a stop is another one, its fault told in words that a relation allows; the rest is the same
-abbrev pub IsRaised : {F G : Type 0} → (F → G → Type 0) → Stop F → Stop G → Type 0
-IsRaised says (Found fault) stop = IsFoundAnd stop (says fault)
-IsRaised says (Unsupported feature block) stop = stop ≡ Unsupported feature block
-IsRaised says ReadFault stop = stop ≡ ReadFault
-IsRaised says NoMemory stop = stop ≡ NoMemory

@@ -79,7 +79,6 @@ fn causes_are_carried(rt: HostRuntime) {
             why: HeadFault::BadSum
         })
     );
-    assert!(rt; sum.map(|unsound| unsound.block) == Stop::Found(7));
     let sealed = Bad::<HeadFault>::Unsupported(Feature::Sealed).in_block(7);
     assert!(rt;
         sealed

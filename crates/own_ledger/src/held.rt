@@ -1,9 +1,10 @@
 // The blocks of a range that are held.
 ghost use Rattle.std.specs.Prelude.{◌≡◌, ℕ, ◌+◌, ◌-◌, ◌*◌, ◌%◌, ◌^◌, ◌<◌, ◌≤◌, true, false, length, OnOk, OnErr, IfOk, IfErr, IsNone, IfSome};
 
-use crate::runs::{is_set, least_set, set_range};
-use bit_lanes::{count_ones, first_difference};
-use std::alloc::{AllocError, Global};
+use crate::runs::{least_set, set_range};
+use apfs_model::NoMemory;
+use bit_lanes::{count_ones, first_difference, is_set};
+use std::alloc::Global;
 use std::marker::Model;
 
 /// Why a range can't be claimed.
@@ -48,16 +49,22 @@ impl Ledger {
 
     /// A ledger of so many blocks from the first on, of which it holds none. It takes one bit a block, and no other call takes
     /// memory.
-    pub fn new(alloc: Global, first: u64, blocks: u64) -> Result<Ledger, AllocError>
+    ///
+    /// # Errors
+    ///
+    /// `NoMemory`: an allocation failed.
+    pub fn new(alloc: Global, first: u64, blocks: u64) -> Result<Ledger, NoMemory>
         requires { first + blocks < 2 ^ 64 }
         ensures { IfOk result (λ ledger. IsEmpty ledger first blocks) }
     {
-        let bits = vec![in alloc; 0u8; blocks.div_ceil(8) as usize]?;
-        Ok(Ledger {
-            first,
-            blocks,
-            bits,
-        })
+        match vec![in alloc; 0u8; blocks.div_ceil(8) as usize] {
+            Ok(bits) => Ok(Ledger {
+                first,
+                blocks,
+                bits,
+            }),
+            Err(_) => Err(NoMemory),
+        }
     }
 
     // Whether a range lies wholly in that of the ledger.

@@ -3,19 +3,10 @@ ghost use Rattle.std.specs.Prelude.{◌≡◌, ℕ, ◌+◌, ◌*◌, ◌%◌, �
 ghost use Rattle.apfs_model.specs.Bytes.{bit_at};
 ghost use Rattle.own_ledger.specs.Places.{is_from, IsSearched};
 
-use bit_lanes::first_difference;
+use bit_lanes::{first_difference, is_set};
 
 // The bytes that are looked at together.
 const PART: usize = 64;
-
-// Whether a bit is set.
-#[tactic(auto, unfolding(apfs_model::specs::Bytes::bit_at))]
-pub(crate) fn is_set(bits: &[u8], place: usize) -> bool
-    requires { place < 8 * length bits.now }
-    ensures { result ≡ bit_at bits.now place }
-{
-    (bits[place / 8] >> (place % 8)) % 2 == 1
-}
 
 // Sets a bit.
 fn set_bit(bits: &mut [u8], place: usize)

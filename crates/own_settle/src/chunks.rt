@@ -18,21 +18,12 @@ ghost use Rattle.space_map.specs.Stops.{known_of};
 ghost use Rattle.own_ledger.specs.Held.{lies_in};
 ghost use Rattle.own_settle.specs.Agreed.{IsAgreed, IsAgreeFault, told_of, IsChunkAgreed, IsChunkFault, IsOfChunk};
 
-use bit_lanes::count_ones;
+use bit_lanes::{count_ones, is_set};
 use blk_source::BlockSource;
 use obj_base::{Site, Stop};
 use own_ledger::{Difference, Ledger};
 use reach_rules::ReachFault;
 use space_map::Space;
-
-// Whether a bit is set.
-#[tactic(auto, unfolding(apfs_model::specs::Bytes::bit_at))]
-fn is_set(bits: &[u8], place: usize) -> bool
-    requires { place < 8 * length bits.now }
-    ensures { result ≡ bit_at bits.now place }
-{
-    (bits[place / 8] >> (place % 8)) % 2 == 1
-}
 
 // How many of the first so many bits are set.
 fn ones_in(bits: &[u8], count: usize) -> usize

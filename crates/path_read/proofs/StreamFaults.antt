@@ -30,12 +30,13 @@ use Rattle.file_extent.specs.Streams.{extents_for, are_extents_placed}
 use Rattle.file_extent.specs.Stops.{HasRefused, IsStreamStop, IsStreamFeature}
 use Rattle.file_extent.specs.declared.stop.StreamStop.{StreamStop}
 use Rattle.file_extent.specs.declared.stop.StreamStop.TheVariants as streams
-use Rattle.fs_record.specs.declared.fault.TreeFault.TheVariants.{ExtentOrder, ExtentPlace}
 use Rattle.view_rules.specs.Words.{IsClear, IsBroken}
 use Rattle.view_rules.specs.Facts.{Facts, facts_in, id_of_fact}
 use Rattle.view_rules.specs.Extents.{is_disordered, is_misplaced, IsExtentOrder, IsExtentPlace}
 use Rattle.view_rules.specs.Rules.{view_facts, refusal_of, HasRecords, raised}
-use Rattle.path_walk.specs.Stops.{IsPathFault, IsStopThere, IsTold, IsNoAnswer}
+use Rattle.view_rules.specs.declared.fault.TreeFault.TheVariants.{ExtentOrder, ExtentPlace}
+use Rattle.view_rules.specs.declared.fault.TreeFault.TheVariants.{ExtentOrder, ExtentPlace}
+use Rattle.path_walk.specs.Stops.{IsPathFault, IsStopThere, IsNoAnswer}
 use Rattle.path_read.specs.Parts.{HasRefused as HasAttributeRefused}
 use Rattle.path_read.specs.Streamed.{id_at, stream_raised}
 use Rattle.path_walk.specs.declared.stop.PathStop.{PathStop}
@@ -188,19 +189,12 @@ stream_refused image site volume view id (Unsupported feature block) e h records
 stream_refused image site volume view id ReadFault e h records = let q : ⊥ = cc in q
 stream_refused image site volume view id NoMemory e h records = let q : ⊥ = cc in q
 
--- what a walk tells is no fault of a directory's entries
-walk_told : (view : View) (why : WalkFault) (facts : Facts) (path : List ℕ) → IsTold facts path (raised view why)
-walk_told view (Unsound block why) facts path = tt
-walk_told view (Unnamed oid) facts path = tt
-walk_told view (Order item) facts path = tt
-walk_told view Counts facts path = tt
-
--- and it is no answer
+-- what stops it is no answer
 pub stream_unanswered : (view : View) (id : ℕ) (stop : Stop StreamStop) (p : Stop PathStop) → stream_raised view id stop ≡ Some p → IsNoAnswer p
-stream_unanswered view id (Found (streams.Walk root why)) p e = subst IsNoAnswer (same_Some (Found (paths.Fault (raised view why))) p e) (walk_told view why)
+stream_unanswered view id (Found (streams.Walk root why)) p e = subst IsNoAnswer (same_Some (Found (paths.Fault (raised view why))) p e) tt
 stream_unanswered view id (Found (streams.Extent why)) p e = absurd (none-some p e)
-stream_unanswered view id (Found streams.Order) p e = subst IsNoAnswer (same_Some (Found (paths.Fault (ExtentOrder (id_at view id)))) p e) (λ facts path. tt)
-stream_unanswered view id (Found streams.Outside) p e = subst IsNoAnswer (same_Some (Found (paths.Fault (ExtentPlace (id_at view id)))) p e) (λ facts path. tt)
+stream_unanswered view id (Found streams.Order) p e = subst IsNoAnswer (same_Some (Found (paths.Fault (ExtentOrder (id_at view id)))) p e) tt
+stream_unanswered view id (Found streams.Outside) p e = subst IsNoAnswer (same_Some (Found (paths.Fault (ExtentPlace (id_at view id)))) p e) tt
 stream_unanswered view id (Unsupported feature block) p e = subst IsNoAnswer (same_Some (Unsupported feature block) p e) tt
 stream_unanswered view id ReadFault p e = subst IsNoAnswer (same_Some ReadFault p e) tt
 stream_unanswered view id NoMemory p e = subst IsNoAnswer (same_Some NoMemory p e) tt

@@ -2,12 +2,12 @@
 use Rattle.std.specs.Prelude.{ℕ, Option, None, Some}
 use Rattle.obj_base.specs.declared.stop.Stop.{Stop}
 use Rattle.obj_base.specs.declared.stop.Stop.TheVariants.{Found, Unsupported, ReadFault, NoMemory}
-use Rattle.fs_record.specs.declared.fault.IdAt.{IdAt}
-use Rattle.fs_record.specs.declared.fault.TreeFault.TheVariants.{ExtentOrder, ExtentPlace}
 use Rattle.vol_view.specs.declared.volume.View.{View}
 use Rattle.file_extent.specs.declared.stop.StreamStop.{StreamStop}
 use Rattle.file_extent.specs.declared.stop.StreamStop.TheVariants as streams
 use Rattle.view_rules.specs.Rules as rules
+use Rattle.view_rules.specs.declared.fault.IdAt.{IdAt}
+use Rattle.view_rules.specs.declared.fault.TreeFault.TheVariants.{ExtentOrder, ExtentPlace}
 use Rattle.path_walk.specs.declared.stop.PathStop.{PathStop}
 use Rattle.path_walk.specs.declared.stop.PathStop.TheVariants as stops
 

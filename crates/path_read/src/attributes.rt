@@ -20,13 +20,14 @@ ghost use Rattle.path_read.specs.Attributes.{attribute_told, is_called};
 ghost use Rattle.path_read.specs.Parts.{HasRefused, attributes_at};
 
 use crate::kept::KeptAttribute;
+use crate::refused::refused;
 use crate::search::find_attributes;
 use apfs_model::{Bytes, NoMemory};
 use blk_source::BlockSource;
 use bt_cursor::WalkFault;
 use bt_keys::{FsKey, FsPlainKey, FsTreeKey};
 use obj_base::{Site, Stop};
-use path_walk::{PathStop, locate, open_view, raise, refusal};
+use path_walk::{PathStop, locate, open_view, raise};
 use std::alloc::{AllocError, Global};
 use vol_view::{View, Volume};
 
@@ -108,7 +109,7 @@ fn attributes_for<S: BlockSource>(
     };
     match run {
         Some(attributes) => Ok(attributes),
-        None => Err(refusal(alloc, src, volume, view, site)),
+        None => Err(refused(alloc, src, volume, view, site)),
     }
 }
 

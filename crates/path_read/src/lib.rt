@@ -5,6 +5,7 @@ mod attribute;
 mod attributes;
 mod contents;
 mod kept;
+mod refused;
 mod search;
 mod stop;
 mod streams;

@@ -9,12 +9,13 @@ ghost use Rattle.file_extent.specs.Stops.{IsOpened};
 ghost use Rattle.path_walk.specs.Stops.{IsStopThere, IsNoAnswer};
 ghost use Rattle.path_read.specs.Streamed.{id_at, stream_raised};
 
+use crate::refused::refused;
 use blk_source::BlockSource;
 use file_extent::{Stream, StreamStop};
-use fs_record::{IdAt, TreeFault};
 use obj_base::{Site, Stop};
-use path_walk::{PathStop, fault_of, refusal};
+use path_walk::{PathStop, fault_of};
 use std::alloc::Global;
+use view_rules::{IdAt, TreeFault};
 use vol_view::{View, Volume};
 
 // The place of a fault of an id.
@@ -74,6 +75,6 @@ pub(crate) fn open_stream<S: BlockSource>(
     };
     match raise(view, id, stop) {
         Some(stop) => Err(stop),
-        None => Err(refusal(alloc, src, volume, view, site)),
+        None => Err(refused(alloc, src, volume, view, site)),
     }
 }

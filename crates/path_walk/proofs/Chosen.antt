@@ -8,8 +8,7 @@ use Rattle.std.proofs.lemmas.List.Sums.{position_or_len_is}
 use Rattle.fs_name.specs.declared.naming.Names.{Names}
 use Rattle.fs_record.specs.Entries.{Entry}
 use Rattle.fs_record.specs.Facts.{Fact}
-use Rattle.path_walk.specs.Found.{has_name, has_form, entry_named}
-use Rattle.path_walk.specs.Met.{number_named}
+use Rattle.path_walk.specs.Found.{has_name, has_form, entry_named, number_named}
 use Rattle.path_walk.specs.Parts.{whats}
 use Rattle.path_walk.proofs.Laws.{placed-as-found, number_of_the_entry}
 

@@ -19,8 +19,6 @@ use Rattle.fs_record.specs.Inodes.{Inode}
 use Rattle.fs_record.specs.Entries.{Entry}
 use Rattle.fs_record.specs.Facts.{Fact, is_reserved, root_id}
 use Rattle.fs_record.specs.declared.fault.RecFault.{RecFault}
-use Rattle.fs_record.specs.declared.fault.TreeFault.{TreeFault}
-use Rattle.fs_record.specs.declared.fault.TreeFault.TheVariants.{Record, NoInode}
 use Rattle.vol_view.specs.Volumes.{Loaded}
 use Rattle.vol_view.specs.Views.{hashed_tree, plain_tree, view_line, FactBy, IsViewFault, IsViewFeature}
 use Rattle.vol_view.specs.declared.volume.View.{View}
@@ -28,11 +26,13 @@ use Rattle.view_rules.specs.Facts.{Facts, inode_at, has_inode, has_directory, is
 use Rattle.view_rules.specs.Entries.{lacks_inode, has_root, IsNoInode}
 use Rattle.view_rules.specs.Rules as rules
 use Rattle.view_rules.specs.Rules.{view_facts, IsRecord, IsTreeFault}
+use Rattle.view_rules.specs.declared.fault.TreeFault.{TreeFault}
+use Rattle.view_rules.specs.declared.fault.TreeFault.TheVariants.{Record, NoInode}
 use Rattle.view_rules.proofs.Law.{refutes, featureless_rules}
 use Rattle.path_walk.specs.Paths.{is_component, parts_of, components}
 use Rattle.path_walk.specs.Places.{Place, placed, place_of, root_of, root_name, target_of}
 use Rattle.path_walk.specs.Found.{entries_in, entry_named, place_by, followed, step, walk, found, target_found}
-use Rattle.path_walk.specs.Stops.{IsTold, IsLawful, IsPathFault, IsGiven, IsPathStop, IsStopThere, of_walk, IsNoAnswer}
+use Rattle.path_walk.specs.Stops.{IsLawful, IsPathFault, IsGiven, IsPathStop, IsStopThere, of_walk, IsOfRecords, IsNoAnswer}
 use Rattle.path_walk.specs.Parts.{by_part, along, rooted, IsLack, IsKnown, IsPlaceKnown, IsRefusal, IsSurveyed, HasEntries, lacking_entry, target_by, targets_by}
 use Rattle.path_walk.specs.declared.answer.Answer.{Answer}
 use Rattle.path_walk.specs.declared.answer.Answer.TheVariants.{NotFound, NotDirectory}
@@ -226,13 +226,20 @@ found_lost facts path a e = found_along facts path ∙ ap (λ (r : Result Place 
 
 -- a walk stops with no answer
 pub raised_unanswered : (view : View) (stop : Stop WalkFault) → IsNoAnswer (raised (of_walk view) stop)
-raised_unanswered view (Found (walks.Unsound block why)) = λ facts path. tt
-raised_unanswered view (Found (walks.Unnamed oid)) = λ facts path. tt
-raised_unanswered view (Found (walks.Order item)) = λ facts path. tt
-raised_unanswered view (Found walks.Counts) = λ facts path. tt
+raised_unanswered view (Found why) = tt
 raised_unanswered view (Unsupported name block) = tt
 raised_unanswered view ReadFault = tt
 raised_unanswered view NoMemory = tt
+
+same-fault : (a b : TreeFault) → ◌≡◌ {A = Stop PathStop} (Found (stops.Fault a)) (Found (stops.Fault b)) → a ≡ b
+same-fault a b e = cc
+
+-- a fault that a walk names is one of the walk
+pub raised_records : (view : View) (stop : Stop WalkFault) (fault : TreeFault) → raised (of_walk view) stop ≡ Found (stops.Fault fault) → IsOfRecords view fault
+raised_records view (Found why) fault e = inl (why, sym (same-fault (rules.raised view why) fault e))
+raised_records view (Unsupported name block) fault e = absurd cc
+raised_records view ReadFault fault e = absurd cc
+raised_records view NoMemory fault e = absurd cc
 
 pub unanswered_given : {T U : Type 0} (image : List ℕ) (site : Site) (volume : Loaded) (view : View) (shows : T → U) (wanted : Result U Answer) (stop : Stop PathStop) → IsLawful image site volume view → IsStopThere image site volume view stop → IsNoAnswer stop → IsGiven shows wanted (Err stop)
 unanswered_given image site volume view shows wanted stop lawful there unanswered = lawful_stop image site volume view shows wanted stop lawful there (λ a e. absurd (subst (λ (s : Stop PathStop). IsNoAnswer s) e unanswered))
@@ -247,7 +254,3 @@ given_on shows wanted sees whole NoMemory goes given = tt
 
 pub target_lost : (facts : Facts) (path : List ℕ) (a : Answer) → found facts path ≡ Err a → target_found facts path ≡ Err a
 target_lost facts path a e = ap (λ (r : Result Place Answer). and_then {T = Place} {U = Target} r (λ (p : Place). Ok (target_of p))) e
-
--- a call that stops with no answer names no directory that a tree meets twice
-pub unanswered_told : (facts : Facts) (path : List ℕ) (stop : Stop PathStop) (fault : TreeFault) → IsNoAnswer stop → stop ≡ Found (stops.Fault fault) → IsTold facts path fault
-unanswered_told facts path stop fault unanswered e = subst (λ (s : Stop PathStop). IsNoAnswer s) e unanswered facts path

@@ -1,42 +1,36 @@
 -- What the definitions promise of a view that meets its rules, and of every view.
-use Rattle.std.proofs.Common.{◌≡◌, ℕ, zero, suc, ◌+◌, ◌≤◌, ◌<◌, Bool, true, false, cond, List, [], ◌∷◌, length, map, Option, Some, None, Result, Ok, Err, ◌⊎◌, inl, inr, refl, ap, ap₂, sym, ◌∙◌, subst, arith}
-use Rattle.std.specs.Prelude.{filter_map, is_some, option_map, count_by, not, ◌&&◌, ◌==◌, nat_le, nat_lt, bytes_eq, slice_get}
+use Rattle.std.proofs.Common.{◌≡◌, ℕ, zero, suc, ◌+◌, ◌≤◌, ◌<◌, Bool, true, false, cond, List, [], ◌∷◌, length, map, Option, Some, None, Result, Ok, Err, ◌⊎◌, inl, inr, refl, ap, sym, ◌∙◌, subst, arith}
+use Rattle.std.specs.Prelude.{filter_map, is_some, option_map, count_by, not, ◌&&◌, ◌==◌, nat_lt, bytes_eq, slice_get}
 use Rattle.std.specs.List.{find, cons_option, position, position_or_len}
 use Rattle.std.specs.Option.{option_or, ok_or}
 use Rattle.std.specs.Cmp.Lexicographic.{bytes_decides}
 use Rattle.std.proofs.lemmas.Bool.{cases_eq, cases_lt, lt-ltb, le-ltb}
 use Rattle.std.proofs.lemmas.Bool.Decides.{Decides-eqb}
 use Rattle.apfs_model.specs.Lists.{In, and_then, passes}
-use Rattle.bt_node.specs.Entries.{Pair}
 use Rattle.fs_name.specs.declared.naming.Names.{Names}
-use Rattle.fs_record.specs.Inodes.{Inode, inode_kind}
 use Rattle.fs_record.specs.Entries.{Entry}
-use Rattle.fs_record.specs.Facts.{Fact, is_reserved, root_id, first_user_id, regular_kind}
-use Rattle.view_rules.specs.Facts.{Facts, facts_in, inode_at, has_inode, is_directory, has_directory, does_count, names_file, entry_count, entry_count_in}
+use Rattle.fs_record.specs.Facts.{Fact, is_reserved, root_id}
+use Rattle.view_rules.specs.Facts.{Facts, inode_at, has_inode, is_directory, does_count}
 use Rattle.view_rules.specs.Names.{is_entry_at, is_entry_repeated, HasDistinctEntries}
 use Rattle.view_rules.specs.Entries.{lacks_inode, HasFiles, has_root}
-use Rattle.view_rules.specs.Directories.{is_user_directory, is_misnamed, is_root_named, HasDirNames, IsDirNames}
 use Rattle.apfs_model.proofs.Searches.{get-in}
-use Rattle.view_rules.proofs.Searches.{broken-clear}
 use Rattle.path_walk.specs.Paths.{components}
 use Rattle.path_walk.specs.Places.{Place, placed, root_of, root_name, target_of}
-use Rattle.path_walk.specs.Found.{entries_in, has_name, has_form, entry_named, place_by, followed, step, walk, found}
+use Rattle.path_walk.specs.Found.{entries_in, has_name, has_form, entry_named, place_by, followed, step, walk, found, number_named}
 use Rattle.path_walk.specs.Listing.{children, listed, listing}
-use Rattle.path_walk.specs.Tree.{tree}
-use Rattle.path_walk.specs.Met.{Spot, spot_in, number_named, IsMetTwice}
 use Rattle.path_walk.specs.declared.answer.Answer.{Answer}
 use Rattle.path_walk.specs.declared.answer.Answer.TheVariants.{NotFound, NotDirectory}
 use Rattle.path_walk.specs.declared.target.Target.{Target}
-use Rattle.apfs_model.proofs.BoolTests.{both-true, left-true, right-true, false-not, not-false, clash, never-true}
-use Rattle.path_walk.proofs.Tallies.{tally, tally-is, tally-cons, tally-in, tally-all, tally-apart, tally-by}
-use Rattle.path_walk.proofs.Rows.{in-entries, kept-entries, inode-fact}
+use Rattle.apfs_model.proofs.BoolTests.{both-true, false-not, not-false, clash}
+use Rattle.path_walk.proofs.Tallies.{tally, tally-is, tally-cons, tally-in, tally-all, tally-by}
+use Rattle.path_walk.proofs.Entries.{in-entries, kept-entries}
 
 -- ---- inodes
 some-value : {X : Type 0} (o : Option X) → is_some o ≡ true → (x : X) × (o ≡ Some x)
 some-value None e = absurd cc
 some-value (Some x) e = (x, refl)
 
-passing : {X : Type 0} (o : Option X) (test : X → Bool) → passes o test ≡ true → (x : X) × ((o ≡ Some x) × (test x ≡ true))
+pub passing : {X : Type 0} (o : Option X) (test : X → Bool) → passes o test ≡ true → (x : X) × ((o ≡ Some x) × (test x ≡ true))
 passing None test e = absurd cc
 passing (Some x) test e = (x, (refl, e))
 
@@ -120,12 +114,9 @@ pub found_answers : (facts : Facts) (path : List ℕ) (a : Answer) → found fac
 unfolding found
 found_answers facts path a e = answers_then IsPathAnswer (ok_or (root_of facts) NotFound) (λ root. walk facts (components path) root) (λ b h. lacking (root_of facts) b h) (λ root b h. walk-answers facts (components path) root b h) a e
 
--- what is answered of a listing and of a tree is answered of the path
+-- what is answered of a listing is answered of the path
 pub listing_answers : (facts : Facts) (path : List ℕ) (a : Answer) → listing facts path ≡ Err a → IsPathAnswer a
 listing_answers facts path a e = answers_then IsPathAnswer (found facts path) _ (found_answers facts path) (λ place b h. absurd (ok-err _ b h)) a e
-
-pub tree_answers : (facts : Facts) (path : List ℕ) (a : Answer) → tree facts path ≡ Err a → IsPathAnswer a
-tree_answers facts path a e = answers_then IsPathAnswer (found facts path) _ (found_answers facts path) (λ place b h. absurd (ok-err _ b h)) a e
 
 -- ---- listings
 -- what is listed of a path that leads to no directory is the one target
@@ -141,7 +132,7 @@ some-equal a b e = cc
 some-none : (a : ℕ) → ◌≡◌ {A = Option ℕ} (Some a) None → ⊥
 some-none a e = absurd cc
 
-two-in : {X : Type 0} (p : X → Bool) (xs : List X) (i j : ℕ) (x y : X) → slice_get xs i ≡ Some x → slice_get xs j ≡ Some y → p x ≡ true → p y ≡ true → (i ≡ j → ⊥) → 2 ≤ tally p xs
+pub two-in : {X : Type 0} (p : X → Bool) (xs : List X) (i j : ℕ) (x y : X) → slice_get xs i ≡ Some x → slice_get xs j ≡ Some y → p x ≡ true → p y ≡ true → (i ≡ j → ⊥) → 2 ≤ tally p xs
 two-in p [] i j x y e f px py n = absurd cc
 two-in p (z ∷ zs) zero zero x y e f px py n = absurd (n refl)
 two-in {X} p (z ∷ zs) zero (suc j) x y e f px py n =
@@ -222,54 +213,3 @@ number_of_the_entry names name es i e =
           subst (λ n. slice_get es n ≡ Some x) same here ∙ sym (ap (λ (o : Option Entry). option_or o (find (has_form names name) es)) there)
       | inr (at_none, gone) ↦ second gone (sym (ap (λ (o : Option ℕ). option_or o (position (has_form names name) es)) at_none) ∙ e)
     ]
-
--- ---- DirNames
--- where a tree names DirNames, the fault is there
-pub met_twice_is_there : (facts : Facts) (path : List ℕ) (id : ℕ) → IsMetTwice facts path id → IsDirNames facts id
-unfolding is_misnamed
-met_twice_is_there facts path id m =
-    let p : Entry → Bool = λ (e : Entry). e.file_id == id in
-    let a : Spot = m.one in
-    let b : Spot = m.other in
-    let kept : (k : ℕ) (f : Fact Entry) → f.id ≡ k → is_reserved k ≡ false → p f.what ≡ true → names_file id f ≡ true = λ k f s r h. both-true (does_count f) (f.what.file_id == id) (false-not (is_reserved f.id) (ap is_reserved s ∙ r)) h in
-    let pa : p m.one_names.entry ≡ true = (Decides-eqb m.one_names.entry.file_id id).1 m.one_names.names in
-    let pb : p m.other_names.entry ≡ true = (Decides-eqb m.other_names.entry.file_id id).1 m.other_names.names in
-    let two : 2 ≤ tally (names_file id) facts.entries = elim (cases_eq a.id b.id) as (λ _. 2 ≤ tally (names_file id) facts.entries) [
-      | inl s ↦
-          let there : slice_get (entries_in facts a.id) b.number ≡ Some m.other_names.entry = ap (λ k. slice_get (entries_in facts k) b.number) s ∙ m.other_names.there in
-          let n : a.number ≡ b.number → ⊥ = λ e. m.different (ap₂ spot_in s e) in
-          let x = two-in p (entries_in facts a.id) a.number b.number m.one_names.entry m.other_names.entry m.one_names.there there pa pb n in
-          let y = kept-entries facts a.id p (names_file id) (kept a.id) in
-          omega arith
-      | inr n ↦
-          let here : ℕ → Fact Entry → Bool = λ k (f : Fact Entry). names_file id f && (f.id == k) in
-          let into : (k : ℕ) (f : Fact Entry) → f.id ≡ k → is_reserved k ≡ false → p f.what ≡ true → here k f ≡ true = λ k f s r h. both-true (names_file id f) (f.id == k) (kept k f s r h) ((Decides-eqb f.id k).1 s) in
-          let x = kept-entries facts a.id p (here a.id) (into a.id) in
-          let y = kept-entries facts b.id p (here b.id) (into b.id) in
-          let u = tally-in p (entries_in facts a.id) m.one_names.entry (get-in (entries_in facts a.id) a.number m.one_names.entry m.one_names.there) pa in
-          let v = tally-in p (entries_in facts b.id) m.other_names.entry (get-in (entries_in facts b.id) b.number m.other_names.entry m.other_names.there) pb in
-          let w = tally-apart (here a.id) (here b.id) (names_file id)
-          (λ f h. left-true (names_file id f) (f.id == a.id) h)
-          (λ f h. left-true (names_file id f) (f.id == b.id) h)
-          (λ f h k. n (sym ((Decides-eqb f.id a.id).0 (right-true (names_file id f) (f.id == a.id) h)) ∙ (Decides-eqb f.id b.id).0 (right-true (names_file id f) (f.id == b.id) k)))
-          facts.entries in
-          omega arith
-    ] in
-    let t = passing (inode_at facts id) is_directory (left-true (has_directory facts id) (nat_le first_user_id id) m.directory) in
-    let g = inode-fact facts (placed id [] t.0) t.1.0 in
-    let f : Fact Inode = g.0 in
-    let user : is_user_directory f ≡ true = both-true (is_directory f.what) (nat_le first_user_id f.id) (ap is_directory g.1.2 ∙ t.1.1) (ap (nat_le first_user_id) g.1.1 ∙ right-true (has_directory facts id) (nat_le first_user_id id) m.directory) in
-    let once : Bool = (entry_count facts f.id == 1) && (entry_count_in facts f.id f.what.parent == 1) in
-    let never : once ≡ false = never-true once (λ h.
-    let one : entry_count facts f.id ≡ 1 = (Decides-eqb (entry_count facts f.id) 1).0 (left-true (entry_count facts f.id == 1) (entry_count_in facts f.id f.what.parent == 1) h) in
-    let same : entry_count facts f.id ≡ entry_count facts id = ap (entry_count facts) g.1.1 in
-    let z = tally-is (names_file id) facts.entries in
-    omega arith) in
-    inl (record { item = f; listed = g.1.0; same = g.1.1; breach = both-true (is_user_directory f) (not once) user (false-not once never) })
-
--- so no tree of a view that meets its rules meets two entries of one directory
-pub never_twice : (facts : Facts) → HasDirNames facts → is_root_named facts ≡ false → (path : List ℕ) (id : ℕ) → IsMetTwice facts path id → ⊥
-never_twice facts clear unnamed path id m = elim (met_twice_is_there facts path id m) as (λ _. ⊥) [
-  | inl b ↦ broken-clear b clear
-  | inr t ↦ clash (is_root_named facts) t.1 unnamed
-]

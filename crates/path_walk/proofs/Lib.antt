@@ -1,8 +1,7 @@
 pub mod Tallies
 pub mod Orders
 pub mod Runs
-pub mod Rows
-pub mod Trees
+pub mod Entries
 pub mod Laws
 pub mod Answers
 pub mod Examples
@@ -13,7 +12,3 @@ pub mod Rising
 pub mod Known
 pub mod Viewed
 pub mod Listed
-pub mod Told
-pub mod Memos
-pub mod Entered
-pub mod Staying

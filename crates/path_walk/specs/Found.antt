@@ -1,6 +1,6 @@
 -- Where a path leads: from the root on, each component takes an entry of the directory that was reached.
 use Rattle.std.specs.Prelude.{ℕ, Bool, not, List, [], ◌∷◌, bytes_eq, Option, None, Some, Result, Ok, Err, if◌then◌else◌}
-use Rattle.std.specs.List.{find}
+use Rattle.std.specs.List.{find, position}
 use Rattle.std.specs.Option.{option_or, ok_or}
 use Rattle.apfs_model.specs.Lists.{and_then}
 use Rattle.fs_name.specs.Normal.{is_same_name}
@@ -29,6 +29,10 @@ has_form names name e = is_same_name names e.name name
 -- the entry that a name takes: the one of the same bytes, otherwise the first of the same normal form
 unfoldable pub entry_named : Names → List ℕ → List Entry → Option Entry
 entry_named names name es = option_or (find (has_name name) es) (find (has_form names name) es)
+
+-- the number of the entry that a name takes
+unfoldable pub number_named : Names → List ℕ → List Entry → Option ℕ
+number_named names name es = option_or (position (has_name name) es) (position (has_form names name) es)
 
 -- the place of an entry's file
 abbrev pub place_by : Facts → Entry → Option Place

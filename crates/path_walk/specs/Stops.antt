@@ -1,21 +1,20 @@
 -- What is there where a call on a path stops.
-use Rattle.std.specs.Prelude.{◌≡◌, ℕ, List, Result, Ok, Err}
+use Rattle.std.specs.Prelude.{◌≡◌, ◌⊎◌, ℕ, List, Result, Ok, Err}
 use Rattle.obj_base.specs.Stops.{Tells}
 use Rattle.obj_base.specs.declared.stop.Stop.{Stop}
 use Rattle.obj_base.specs.declared.stop.Stop.TheVariants.{Found, Unsupported, ReadFault, NoMemory}
 use Rattle.obj_base.specs.declared.site.Site.{Site}
 use Rattle.bt_cursor.specs.declared.fault.WalkFault.{WalkFault}
-use Rattle.fs_record.specs.declared.fault.TreeFault.{TreeFault}
-use Rattle.fs_record.specs.declared.fault.TreeFault.TheVariants.{Unsound, Unnamed, Order, Counts, Record, DupName, Hash, NoParent, NoInode, KindMismatch, DirNames, Unreached, Children, Links, SiblingLost, ExtentOrder, ExtentPlace, ExtentUncovered, LinkTarget, Stream, AttrOwner, NameHash}
+use Rattle.fs_record.specs.declared.fault.RecFault.{RecFault}
+use Rattle.view_rules.specs.declared.fault.TreeFault.{TreeFault}
+use Rattle.view_rules.specs.declared.fault.TreeFault.TheVariants.{Record}
 use Rattle.vol_view.specs.Volumes.{Loaded}
 use Rattle.vol_view.specs.Views.{IsViewFeature}
 use Rattle.vol_view.specs.declared.volume.View.{View}
 use Rattle.ext_ref.specs.declared.range.NewRange.{NewRange}
-use Rattle.view_rules.specs.Facts.{Facts}
 use Rattle.view_rules.specs.Rules as rules
 use Rattle.view_rules.specs.Rules.{HasTreeRules, IsTreeFault}
 use Rattle.view_rules.specs.declared.profile.Profile.{Profile}
-use Rattle.path_walk.specs.Met.{IsMetTwice}
 use Rattle.path_walk.specs.declared.answer.Answer.{Answer}
 use Rattle.path_walk.specs.declared.stop.PathStop.{PathStop}
 use Rattle.path_walk.specs.declared.stop.PathStop.TheVariants as stops
@@ -29,31 +28,6 @@ pub record IsLawful (image : List ℕ) (site : Site) (volume : Loaded) (view : V
 -- a fault that is named is there, whatever the profile and the new ranges
 abbrev pub IsPathFault : List ℕ → Site → Loaded → View → TreeFault → Type 0
 IsPathFault image site volume view fault = (profile : Profile) (ranges : List NewRange) → IsTreeFault profile image site volume view ranges fault
-
--- what a fault that a tree names says of the tree: DirNames, that it met two entries of one directory; the others nothing
-abbrev pub IsTold : Facts → List ℕ → TreeFault → Type 0
-IsTold facts path (Unsound block why) = Unit {0}
-IsTold facts path (Unnamed slot oid xid) = Unit {0}
-IsTold facts path (Order slot xid item) = Unit {0}
-IsTold facts path (Counts slot xid) = Unit {0}
-IsTold facts path (Record slot xid item why) = Unit {0}
-IsTold facts path (DupName at) = Unit {0}
-IsTold facts path (Hash at) = Unit {0}
-IsTold facts path (NoParent at) = Unit {0}
-IsTold facts path (NoInode slot xid id name) = Unit {0}
-IsTold facts path (KindMismatch at) = Unit {0}
-IsTold facts path (DirNames at) = IsMetTwice facts path at.id
-IsTold facts path (Unreached at) = Unit {0}
-IsTold facts path (Children at) = Unit {0}
-IsTold facts path (Links at) = Unit {0}
-IsTold facts path (SiblingLost at) = Unit {0}
-IsTold facts path (ExtentOrder at) = Unit {0}
-IsTold facts path (ExtentPlace at) = Unit {0}
-IsTold facts path (ExtentUncovered at) = Unit {0}
-IsTold facts path (LinkTarget at) = Unit {0}
-IsTold facts path (Stream at) = Unit {0}
-IsTold facts path (AttrOwner at) = Unit {0}
-IsTold facts path (NameHash at) = Unit {0}
 
 -- what a call has answered of a view that meets its rules: the value, as view shows it, or the answer, and neither a fault nor a feature; nothing is told where reading failed or memory ran out
 abbrev pub IsGiven : {T U : Type 0} → (T → U) → Result U Answer → Result T (Stop PathStop) → Type 0
@@ -77,10 +51,16 @@ IsStopThere image site volume view stop = Tells (IsPathStop image site volume vi
 abbrev pub of_walk : View → WalkFault → PathStop
 of_walk view why = stops.Fault (rules.raised view why)
 
--- a call stops with no answer, and tells nothing of a tree
+-- a fault that a walk over all records of a view names: one of the walk, or Record
+abbrev pub IsOfRecords : View → TreeFault → Type 0
+IsOfRecords view fault =
+    ((why : WalkFault) × (fault ≡ rules.raised view why))
+    ⊎ ((item : ℕ) × (why : RecFault) × (fault ≡ Record view.slot view.xid item why))
+
+-- a call stops with no answer
 abbrev pub IsNoAnswer : Stop PathStop → Type 0
 IsNoAnswer (Found (stops.Answer a)) = ⊥
-IsNoAnswer (Found (stops.Fault fault)) = (facts : Facts) (path : List ℕ) → IsTold facts path fault
+IsNoAnswer (Found (stops.Fault fault)) = Unit {0}
 IsNoAnswer (Unsupported feature block) = Unit {0}
 IsNoAnswer ReadFault = Unit {0}
 IsNoAnswer NoMemory = Unit {0}

@@ -1,4 +1,4 @@
--- What the commands `ls` and `tree` write.
+-- What the command `ls` writes, and the lines of targets.
 use Rattle.std.specs.Prelude.{ℕ, ◌++◌, ◌==◌, List, codes, if◌then◌else◌}
 use Rattle.std.specs.Fmt.{decimal}
 use Rattle.std.specs.List.{flat_map}
@@ -28,11 +28,3 @@ target_text target = line_text target (shown_at target.id target.name)
 -- `ls`: a line for each target
 abbrev pub ls_text : List Target → List ℕ
 ls_text targets = flat_map target_text targets
-
--- the line of a row: the shown path in the name's place
-abbrev pub row_text : List ℕ × Target → List ℕ
-row_text row = line_text row.1 row.0
-
--- `tree`: a line for each row
-abbrev pub tree_text : List (List ℕ × Target) → List ℕ
-tree_text rows = flat_map row_text rows

@@ -15,9 +15,9 @@ use crate::order::{alone, by_name};
 use crate::{Answer, PathStop, Target};
 use apfs_model::{Bytes, NoMemory};
 use fs_name::Names;
-use fs_record::TreeFault;
 use obj_base::Stop;
 use std::alloc::Global;
+use view_rules::TreeFault;
 use vol_view::View;
 
 /// The fault of an entry whose file has no inode.
@@ -34,7 +34,7 @@ pub(crate) fn lacking(alloc: Global, view: &View, entry: &KeptEntry) -> Result<T
 }
 
 /// The place of an entry's file.
-pub(crate) fn place_in(
+pub fn place_in(
     alloc: Global,
     files: &Files,
     view: &View,
@@ -81,7 +81,7 @@ fn go_on(
 }
 
 /// One part of a path on from a place; an empty part stays there.
-pub(crate) fn go_by(
+pub fn go_by(
     alloc: Global,
     files: &Files,
     names: Names,
@@ -124,7 +124,7 @@ fn go_along(
 }
 
 /// The root.
-pub(crate) fn root(alloc: Global, files: &Files, view: &View) -> Result<Place, Stop<PathStop>>
+pub fn root(alloc: Global, files: &Files, view: &View) -> Result<Place, Stop<PathStop>>
     ensures no_read { IsErrOf result ReadFault → ⊥ }
     ensures known { (facts : Facts) → Remembers facts files.now.entries.items files.now.inodes.items → IsKnown facts view.now (λ p. p) (rooted facts) result }
 {

@@ -37,7 +37,7 @@ use std::alloc::Global;
 use vol_view::{View, Volume};
 
 /// The id of the root (File-System Objects, `ROOT_DIR_INO_NUM`).
-pub(crate) const ROOT: u64 = 2;
+pub const ROOT: u64 = 2;
 
 // The most entries of a directory whose inodes are searched for one by one; where there are more, one walk over the whole
 // tree finds all of them.

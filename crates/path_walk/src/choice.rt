@@ -2,9 +2,8 @@
 ghost use Rattle.std.specs.Prelude.{◌≡◌, ◌<◌, IfOk, IfSome, map, length, option_map, position};
 ghost use Rattle.apfs_model.specs.Lists.{In};
 ghost use Rattle.path_walk.specs.Paths as paths;
-ghost use Rattle.path_walk.specs.Found.{entry_named, has_name, has_form};
+ghost use Rattle.path_walk.specs.Found.{entry_named, has_name, has_form, number_named};
 ghost use Rattle.path_walk.specs.Parts.{whats};
-ghost use Rattle.path_walk.specs.Met.{number_named};
 
 use crate::kept::KeptEntry;
 use apfs_model::NoMemory;
@@ -12,7 +11,7 @@ use fs_name::{Names, same_name};
 use std::alloc::{AllocError, Global};
 
 /// The parts of a path between its slashes, the empty ones too.
-pub(crate) fn parts(alloc: Global, path: &str) -> Result<Vec<&str>, AllocError>
+pub fn parts(alloc: Global, path: &str) -> Result<Vec<&str>, AllocError>
     ensures { IfOk result (λ parts. map (λ part. part.now) parts.items ≡ paths.parts_of path.now) }
 {
     path.split('/').collect(alloc)
@@ -37,15 +36,15 @@ pub(crate) fn choose<'a>(
 }
 
 /// The number of the entry that a name takes: the first of the same bytes, otherwise the first of the same normal form.
-#[tactic(auto, unfolding(crate::specs::Met::number_named))]
-pub(crate) fn choose_number(
+#[tactic(auto, unfolding(crate::specs::Found::number_named))]
+pub fn choose_number(
     alloc: Global,
     names: Names,
     name: &str,
     entries: &[KeptEntry],
 ) -> Result<Option<usize>, NoMemory>
     ensures named { IfOk result (λ number. number ≡ number_named names name.now (whats entries.now)) }
-    ensures inside { IfOk result (λ number. IfSome number (λ n. n < length entries.now)) }
+    ensures numbered { IfOk result (λ number. IfSome number (λ n. n < length entries.now)) }
 {
     match first_same(name, entries) {
         Some(number) => Ok(Some(number)),

@@ -11,9 +11,9 @@ use crate::kept::{InodeAt, KeptEntry, KeptInode};
 
 /// The entries of a view, by the ids of their directories, and its inodes by their ids, each in record order.
 #[derive(Drop)]
-pub(crate) struct Files {
-    pub(crate) entries: Vec<KeptEntry>,
-    pub(crate) inodes: Vec<InodeAt>,
+pub struct Files {
+    pub entries: Vec<KeptEntry>,
+    pub inodes: Vec<InodeAt>,
 }
 
 // How many entries are of directories below an id.
@@ -65,8 +65,8 @@ fn run_of(entries: &[KeptEntry], id: u64) -> &[KeptEntry]
 impl Files {
     /// The entries of a directory that are followed and listed.
     #[tactic(auto, unfolding(crate::specs::Found::entries_in))]
-    pub(crate) fn directory(&self, id: u64) -> &[KeptEntry]
-        ensures each { (facts : Facts) → Remembers facts self.now.entries.items self.now.inodes.items → HasEntries facts result.now }
+    pub fn directory(&self, id: u64) -> &[KeptEntry]
+        ensures counted { (facts : Facts) → Remembers facts self.now.entries.items self.now.inodes.items → HasEntries facts result.now }
         ensures all { (facts : Facts) → Remembers facts self.now.entries.items self.now.inodes.items → whats result.now ≡ entries_in facts id }
     {
         if is_reserved(id) {

@@ -15,7 +15,7 @@ const DIRECTORY: u16 = 4;
 
 /// An entry of a directory, by the directory's id.
 #[derive(Debug, Drop)]
-pub(crate) struct KeptEntry {
+pub struct KeptEntry {
     id: u64,
     name: String,
     hash: u32,
@@ -162,7 +162,7 @@ impl KeptInode {
 
 /// An inode, by its id.
 #[derive(Debug, Drop)]
-pub(crate) struct InodeAt {
+pub struct InodeAt {
     id: u64,
     inode: KeptInode,
 }
@@ -241,7 +241,7 @@ impl Place {
     }
 
     /// The place as it is told.
-    pub(crate) fn target(self) -> Target
+    pub fn target(self) -> Target
         ensures { result ≡ spec.target_of self }
     {
         let kind = self.inode.kind();
@@ -255,7 +255,7 @@ impl Place {
     }
 
     /// Whether it is a directory.
-    pub(crate) fn is_directory(&self) -> bool
+    pub fn is_directory(&self) -> bool
         ensures { result ≡ is_directory self.now.inode }
     {
         self.inode.is_directory()

@@ -8,7 +8,7 @@ use crate::kept::Place;
 use std::alloc::{AllocError, Global};
 
 /// Some targets by the bytes of their names, those of one name in their order.
-pub(crate) fn by_name(mut targets: Vec<Target>) -> Result<Vec<Target>, AllocError>
+pub fn by_name(mut targets: Vec<Target>) -> Result<Vec<Target>, AllocError>
     ensures { IfOk result (λ sorted. sorted.items ≡ order.by_name (λ target. target.name) targets.items) }
 {
     targets.sort_by(|a, b| a.name.as_slice().cmp(b.name.as_slice()))?;

@@ -14,7 +14,7 @@ use Rattle.reach_rules.specs.PoolOwners.{pool_owners_through}
 use Rattle.tree_namings.specs.Views.{is_in_view}
 use Rattle.tree_namings.specs.Container.{reaper_naming}
 use Rattle.tree_namings.proofs.Joined.{part-apart}
-use Rattle.space_parts.specs.Reaped.{list_namings, reaper_namings, IsReaped}
+use Rattle.reaper_jumpstart.specs.Reaped.{list_namings, reaper_namings, IsReaped}
 use Rattle.reach_gather.specs.Held.{Held}
 use Rattle.reach_gather.specs.Adds.{Adds}
 use Rattle.reach_gather.specs.Chain.{reap_at}

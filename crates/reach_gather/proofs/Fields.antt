@@ -27,7 +27,7 @@ use Rattle.reach_rules.specs.PoolOwners.{pool_owners_through}
 use Rattle.tree_namings.specs.Namings.{IsPlainNaming}
 use Rattle.tree_namings.specs.Parts.{ExpectsMap}
 use Rattle.tree_namings.specs.Views.{is_in_view}
-use Rattle.vol_parts.specs.Parts.{IsMapPart}
+use Rattle.tree_namings.specs.Volumes.Parts.{IsMapPart}
 use Rattle.reach_gather.specs.Held.{Held, GrewBy}
 use Rattle.reach_gather.specs.Adds.{Adds, AreLive}
 use Rattle.reach_gather.specs.Reading.{IsLostBlock}

@@ -5,7 +5,7 @@ use Rattle.std.proofs.lemmas.List.Sorted.{Contains-permutation, IsPermutation-sy
 use Rattle.std.proofs.lemmas.Bool.{cases_lt}
 use Rattle.apfs_model.specs.Lists.{In}
 use Rattle.apfs_model.proofs.Searches.{from-map}
-use Rattle.apart_lists.proofs.Lists.{contained, listed}
+use Rattle.id_lists.proofs.Repeats.{contained, listed}
 use Rattle.nx_ring.specs.Checkpoint.{Seen}
 use Rattle.obj_base.specs.declared.stop.Within.{Within}
 use Rattle.reach_rules.specs.Naming.{Naming}

@@ -11,7 +11,7 @@ use Rattle.std.proofs.Math.ListN.{set, get_or-map as get_or-under}
 use Rattle.apfs_model.specs.Apart.{Apart}
 use Rattle.apfs_model.specs.Lists.{In}
 use Rattle.apfs_model.proofs.Searches.{in-map}
-use Rattle.apart_lists.proofs.Lists.{contained, listed, sorted_apart}
+use Rattle.id_lists.proofs.Repeats.{contained, listed, sorted_apart}
 use Rattle.reach_gather.specs.declared.owner.Owned.{Owned}
 use Rattle.reach_gather.specs.Owned.{owner_as}
 use Rattle.reach_gather.specs.Finished.{AreRangesOnce, first_of, range_as}

@@ -17,7 +17,7 @@ use Rattle.tree_namings.specs.Container.{jumpstart_naming}
 use Rattle.tree_namings.specs.Views.{is_in_view}
 use Rattle.tree_namings.proofs.Container.{plain-block}
 use Rattle.tree_namings.proofs.Joined.{part-apart}
-use Rattle.space_parts.specs.Jumped.{IsJumped}
+use Rattle.reaper_jumpstart.specs.Jumped.{IsJumped}
 use Rattle.reach_gather.specs.Held.{Held, some_owners}
 use Rattle.reach_gather.specs.Adds.{Adds}
 use Rattle.reach_gather.specs.Steps.{block_owner}

@@ -4,7 +4,7 @@ use Rattle.std.specs.declared.cmp.Ordering.{Ordering}
 use Rattle.std.specs.declared.cmp.Ordering.TheVariants.{Less, Equal, Greater}
 use Rattle.std.specs.Ordering.{nat_cmp, bool_cmp, ordering_then}
 use Rattle.std.proofs.lemmas.Map.Lookups.{CmpEqualImpliesEq, exact_unsigned}
-use Rattle.apart_lists.proofs.Lists.{ties}
+use Rattle.id_lists.proofs.Repeats.{ties}
 use denote.Struct.Field.{Field}
 use denote.Enum.Declared.{Choice, intoss}
 use denote.Enum.Compared.{Each, by}

@@ -8,8 +8,8 @@ use Rattle.vol_view.specs.declared.volume.Snapshot.{Snapshot}
 use Rattle.reach_rules.specs.Naming.{ViewAt, InBlock, Namer, Whole, Naming}
 use Rattle.reach_rules.specs.Next.{next}
 use Rattle.tree_namings.specs.Namings.{IsPlainNaming}
-use Rattle.vol_parts.specs.Parts.{IsMapPart, IsVolumePart, volume_namer}
-use Rattle.vol_parts.specs.Told.{head_naming, past_at, live_at, map_of, map_in_volume, super_in_view, told_view}
+use Rattle.tree_namings.specs.Volumes.Parts.{IsMapPart, IsVolumePart, volume_namer}
+use Rattle.tree_namings.specs.Volumes.Told.{head_naming, past_at, live_at, map_of, map_in_volume, super_in_view, told_view}
 
 -- what the superblock of a snapshot names in its view
 abbrev pub past_view_namings : ViewAt → Snapshot → List Naming

@@ -12,7 +12,7 @@ ghost use Rattle.reach_gather.specs.Finished.{is_look, id_of, IsIdOf, mapping_as
 use crate::gathered::Gathered;
 use crate::naming::{By, Mapping, Named};
 use crate::once::is_look;
-use apart_lists::distinct;
+use id_lists::distinct;
 use std::alloc::{AllocError, Global};
 
 // The ids of the namings that are looked up so.

@@ -10,7 +10,7 @@ ghost use Rattle.reach_gather.specs.Finished.{AreRangesOnce, first_of, range_as}
 
 use crate::gathered::Gathered;
 use crate::owner::Owned;
-use apart_lists::distinct;
+use id_lists::distinct;
 use std::alloc::{AllocError, Global};
 
 // The ranges of some owners, in their order.

@@ -18,7 +18,7 @@ use blk_source::BlockSource;
 use nx_ring::Checkpoint;
 use obj_base::Stop;
 use reach_rules::ReachFault;
-use space_parts::jumpstart;
+use reaper_jumpstart::jumpstart;
 use std::alloc::Global;
 
 /// Adds the EFI jumpstart, where the superblock names one, with the extents of its driver.

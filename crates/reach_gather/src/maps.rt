@@ -14,7 +14,7 @@ ghost use Rattle.reach_rules.specs.Naming.{ByBlock, InBlock, Whole, MapSnapshots
 ghost use Rattle.reach_rules.specs.Next.{unless_zero};
 ghost use Rattle.reach_rules.specs.Reached.{IsReachedFault};
 ghost use Rattle.tree_namings.specs.Parts.{ExpectsMap};
-ghost use Rattle.vol_parts.specs.Parts.{IsMapPart};
+ghost use Rattle.tree_namings.specs.Volumes.Parts.{IsMapPart};
 ghost use Rattle.reach_gather.specs.Adds.{Adds, AreLive};
 ghost use Rattle.reach_gather.specs.Named.{naming_of};
 ghost use Rattle.reach_gather.specs.Reading.{IsLostBlock};

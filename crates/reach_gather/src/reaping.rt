@@ -16,7 +16,7 @@ use blk_source::NoMemory;
 use nx_ring::Checkpoint;
 use obj_base::Stop;
 use reach_rules::ReachFault;
-use space_parts::reap;
+use reaper_jumpstart::reap;
 use std::alloc::Global;
 
 // The naming of the reaper, or of a list.

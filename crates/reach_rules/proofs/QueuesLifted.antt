@@ -78,7 +78,7 @@ queue-live image seen manager b h which some =
     led (manager_naming seen) (queue_naming seen manager which) s.names.live (in-next image seen (manager_naming seen) (queue_naming seen manager which) (record { object = there seen manager b; found = s.names.found; sound = s.sound; names = in-queues (Whole (OfId (space_oid_of seen.nx))) manager which some }))
 
 -- it is that of a root
-queue-root : (image : List ℕ) (seen : Seen) (manager : List ℕ) (b : ℕ) → HasManager seen manager b → (which : Queue) → HasTree manager which → IsRootNaming image seen (FreeQueue which) ByMapping (queue_root which manager)
+pub queue-root : (image : List ℕ) (seen : Seen) (manager : List ℕ) (b : ℕ) → HasManager seen manager b → (which : Queue) → HasTree manager which → IsRootNaming image seen (FreeQueue which) ByMapping (queue_root which manager)
 queue-root image seen manager b h which some = record { naming = queue_naming seen manager which; live = queue-live image seen manager b h which some; expected_is = refl; how_is = refl; oid_is = refl }
 
 queue-rooted : (image : List ℕ) (seen : Seen) (manager : List ℕ) (b : ℕ) → HasManager seen manager b → (which : Queue) (block : ℕ) → HasRoot seen manager which block → NamesRoot image seen (FreeQueue which) (queue_naming seen manager which) block

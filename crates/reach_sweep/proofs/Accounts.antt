@@ -14,7 +14,7 @@ use Rattle.reach_rules.specs.Features.{HasFeature}
 use Rattle.reach_rules.specs.Reached.{Whole, IsReached, IsReachedFault}
 use Rattle.reach_rules.specs.Settled.{IsSettleFault}
 use Rattle.reach_rules.proofs.Composed.{settle-present}
-use Rattle.reach_rules.proofs.Refutes.{refutes, refutes-feature}
+use Rattle.reach_rules.proofs.Refutes.{refutes, refutes-feature, reached-refutes, reached-plain}
 
 -- what is named on the way is present
 pub reached-present : (image : List ℕ) (seen : Seen) (fault : ReachFault) → IsReachedFault image seen fault → Present image seen fault
@@ -48,6 +48,11 @@ settle-told image seen whole stop r t =
 pub accounted-free : (image : List ℕ) (seen : Seen) (stop : Stop ReachFault) → IsAccounted image seen → Tells (Present image seen) (HasFeature image seen) stop → IsFree stop
 accounted-free image seen stop w t =
     tells_more (Present image seen) (λ fault. ⊥) (HasFeature image seen) NoFeature stop (λ fault p. refutes image seen fault p w) (λ feature block p. refutes-feature image seen feature block p w) t
+
+-- nor what is named on the way where all is reached
+pub reached-free : (image : List ℕ) (seen : Seen) (whole : Whole) (stop : Stop ReachFault) → IsReached image seen whole → Tells (IsReachedFault image seen) (HasFeature image seen) stop → IsFree stop
+reached-free image seen whole stop r t =
+    tells_more (IsReachedFault image seen) (λ fault. ⊥) (HasFeature image seen) NoFeature stop (λ fault p. reached-refutes image seen whole fault p r) (λ feature block p. reached-plain image seen whole feature block p r) t
 
 -- a site that is another one is right for a source of the same size
 pub same-site : (one other : Site) (size size' : ℕ) → one ≡ other → size' ≡ size → IsSiteFor other size → IsSiteFor one size'

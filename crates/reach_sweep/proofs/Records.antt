@@ -15,9 +15,9 @@ use Rattle.reach_rules.specs.Live.{IsLive, rooted}
 use Rattle.tree_namings.specs.Container.{reaper_naming, jumpstart_naming}
 use Rattle.tree_namings.specs.Views.{record_object, ResolvesTo}
 use Rattle.tree_namings.proofs.Views.{view-live}
-use Rattle.vol_parts.specs.Told.{head_naming}
-use Rattle.vol_parts.specs.Parts.{IsVolumePart}
-use Rattle.vol_parts.specs.Laws.{HasParts}
+use Rattle.tree_namings.specs.Volumes.Told.{head_naming}
+use Rattle.tree_namings.specs.Volumes.Parts.{IsVolumePart}
+use Rattle.tree_namings.specs.Volumes.Laws.{HasParts}
 use Rattle.reach_sweep.specs.Views.{head_of, AreVolumes}
 use Rattle.reach_sweep.specs.Composed.{IsHeadRecord, AreRecordsBy}
 

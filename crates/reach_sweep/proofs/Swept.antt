@@ -20,9 +20,9 @@ use Rattle.reach_rules.specs.Naming.{Newest, InContainer, InView, InBlock, Namer
 use Rattle.reach_rules.specs.Next.{slot_namings}
 use Rattle.tree_namings.specs.Joined.{HaveSame}
 use Rattle.tree_namings.specs.Container.{all_views}
-use Rattle.vol_parts.specs.Told.{head_naming, map_of, live_at, past_at, told_view}
-use Rattle.vol_parts.specs.Laws.{HasParts}
-use Rattle.vol_parts.proofs.Tellings.{map-is}
+use Rattle.tree_namings.specs.Volumes.Told.{head_naming, map_of, live_at, past_at, told_view}
+use Rattle.tree_namings.specs.Volumes.Laws.{HasParts}
+use Rattle.tree_namings.proofs.VolumeLemmas.Tellings.{map-is}
 use Rattle.view_sweep.specs.declared.wanted.SweptView.{SweptView}
 use Rattle.view_sweep.specs.declared.wanted.Head.{Head}
 use Rattle.view_sweep.specs.Wanted.{view_at, head_wants, heads_want, naming_of, AreToldHeads, AreBelowHeads}

@@ -19,10 +19,10 @@ use Rattle.reach_rules.specs.Next.{slot_namings, past_view}
 use Rattle.tree_namings.specs.Joined.{HaveSame}
 use Rattle.tree_namings.specs.Container.{views_namings, slot_views, all_views}
 use Rattle.tree_namings.specs.Container as rules
-use Rattle.vol_parts.specs.Told.{head_naming, live_at, told_view}
-use Rattle.vol_parts.specs.Parts.{volume_namer, IsVolumePart}
-use Rattle.vol_parts.specs.Laws.{HasParts}
-use Rattle.vol_parts.proofs.Tellings.{long-snapshots, map-is}
+use Rattle.tree_namings.specs.Volumes.Told.{head_naming, live_at, told_view}
+use Rattle.tree_namings.specs.Volumes.Parts.{volume_namer, IsVolumePart}
+use Rattle.tree_namings.specs.Volumes.Laws.{HasParts}
+use Rattle.tree_namings.proofs.VolumeLemmas.Tellings.{long-snapshots, map-is}
 use Rattle.reach_gather.specs.Views.{pasts_namings, volume_views}
 use Rattle.reach_sweep.specs.Views.{head_of, AreVolumes, volumes_views}
 

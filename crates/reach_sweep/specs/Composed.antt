@@ -31,8 +31,8 @@ use Rattle.tree_namings.specs.Views.{record_owner, AreOnceAs, AreJoined}
 use Rattle.tree_namings.specs.Account.{AreCovered}
 use Rattle.tree_namings.specs.Ranges.{joined_owners, joined_objects}
 use Rattle.tree_namings.specs.Gathered.{AreOnceOf, AreOwnersOf}
-use Rattle.vol_parts.specs.Told.{head_naming, map_of}
-use Rattle.vol_parts.specs.Laws.{HasParts}
+use Rattle.tree_namings.specs.Volumes.Told.{head_naming, map_of}
+use Rattle.tree_namings.specs.Volumes.Laws.{HasParts}
 use Rattle.view_sweep.specs.declared.used.Used.{Used}
 use Rattle.view_sweep.specs.declared.idle.MapRecords.{MapRecords}
 use Rattle.view_sweep.specs.Named.{AreLive, AreReached}

@@ -13,9 +13,9 @@ use Rattle.vol_view.specs.declared.volume.Snapshot.{Snapshot}
 use Rattle.reach_rules.specs.Naming.{ViewAt, Newest, InBlock, Namer, Whole, Naming}
 use Rattle.tree_namings.specs.Joined.{HaveSame}
 use Rattle.tree_namings.specs.Container.{all_views}
-use Rattle.vol_parts.specs.Told.{map_of, live_at, past_at}
-use Rattle.vol_parts.specs.Parts.{volume_namer}
-use Rattle.vol_parts.specs.Laws.{HasParts}
+use Rattle.tree_namings.specs.Volumes.Told.{map_of, live_at, past_at}
+use Rattle.tree_namings.specs.Volumes.Parts.{volume_namer}
+use Rattle.tree_namings.specs.Volumes.Laws.{HasParts}
 use Rattle.view_sweep.specs.declared.wanted.SweptView.{SweptView}
 use Rattle.view_sweep.specs.declared.wanted.Head.{Head}
 use Rattle.view_sweep.specs.Wanted.{AreToldHeads, AreBelowHeads}
@@ -33,6 +33,17 @@ slot_of volume = volume.head.slot
 -- the slots of some
 abbrev pub slots_of : List Loaded → List ℕ
 slots_of volumes = map slot_of volumes
+
+-- two of some volumes have one slot, and this is the id of one of the two
+pub record HasSlotTwice (volumes : List Loaded) (oid : ℕ) : Type 0 where
+  pub before : List Loaded
+  pub one : Loaded
+  pub after : List Loaded
+  pub other : Loaded
+  pub split : volumes ≡ before ++ one ∷ after
+  pub follows : In other after
+  pub same_slot : other.head.slot ≡ one.head.slot
+  pub id : oid ≡ one.head.oid
 
 -- the volumes of some heads were loaded, in their order; and of each the object of its superblock is known, by the record of the
 -- container's map

@@ -4,7 +4,7 @@ ghost use Rattle.obj_base.specs.Stops.{Tells, NoFeature};
 ghost use Rattle.obj_base.specs.declared.stop.Stop.TheVariants.{ReadFault, NoMemory};
 ghost use Rattle.reach_rules.specs.Features.{HasFeature};
 ghost use Rattle.reach_rules.specs.Reached.{IsReachedFault};
-ghost use Rattle.vol_parts.specs.Told as told;
+ghost use Rattle.tree_namings.specs.Volumes.Told as told;
 ghost use Rattle.view_sweep.specs.Unused.{AreAllUsed, IsUnusedHere, AreMapsOf, AreUsedOnes};
 ghost use Rattle.reach_sweep.specs.Used.{maps_of, told_by_map, volume_map};
 

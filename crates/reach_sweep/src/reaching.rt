@@ -3,7 +3,7 @@ ghost use Rattle.std.specs.Prelude.{◌≡◌, ℕ, List, [], Some, IfOk, IfErr,
 ghost use Rattle.apfs_model.specs.Counts.{Rose};
 ghost use Rattle.apfs_model.specs.Source.{IsKept};
 ghost use Rattle.obj_base.specs.Site.{IsSiteFor};
-ghost use Rattle.obj_base.specs.Stops.{Tells};
+ghost use Rattle.obj_base.specs.Stops.{Tells, IsFree};
 ghost use Rattle.obj_base.specs.declared.stop.Stop.TheVariants.{Found, ReadFault};
 ghost use Rattle.obj_base.specs.declared.stop.Within.TheVariants.{Container};
 ghost use Rattle.nx_ring.specs.Checkpoint.{site_of};
@@ -13,7 +13,7 @@ ghost use Rattle.vol_view.specs.declared.head.VolHead.{VolHead};
 ghost use Rattle.reach_rules.specs.declared.fault.ReachFault.TheVariants.{NamedTwice};
 ghost use Rattle.reach_rules.specs.Bound.{ReachedWithin};
 ghost use Rattle.reach_rules.specs.Features.{HasFeature};
-ghost use Rattle.reach_rules.specs.Reached.{IsReached, IsReachedFault};
+ghost use Rattle.reach_rules.specs.Reached.{Whole, IsReached, IsReachedFault};
 ghost use Rattle.reach_sweep.specs.Account.{AreLoadedOf};
 
 use crate::checking::check_used;
@@ -55,6 +55,7 @@ pub fn reached<S: BlockSource>(
     ensures site { IfOk result (λ whole. whole.space.site ≡ site_of cp.now) }
     ensures reads { (image : List ℕ) (heads : List VolHead) → S.bytes src.old ≡ Some image → AreHeads image cp.now heads → AreLoadedOf image cp.now heads volumes.now → IfOk result (λ whole. ReachedWithin whole (S.reads src.old) (S.reads src.new)) }
     ensures present { (image : List ℕ) (heads : List VolHead) → S.bytes src.old ≡ Some image → AreHeads image cp.now heads → AreLoadedOf image cp.now heads volumes.now → IfErr result (Tells (IsReachedFault image cp.now) (HasFeature image cp.now)) }
+    ensures exact { (image : List ℕ) (heads : List VolHead) → S.bytes src.old ≡ Some image → AreHeads image cp.now heads → AreLoadedOf image cp.now heads volumes.now → (whole : Whole) → IsReached image cp.now whole → IfErr result IsFree }
     ensures cause { IsErrOf result ReadFault → Rose (S.faults src.old) (S.faults src.new) }
     ensures kept { IsKept S.bytes S.bytes_len S.faults src.old src.new }
 {

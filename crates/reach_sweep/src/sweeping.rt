@@ -1,5 +1,5 @@
 // The views of the volumes that were loaded, as they are swept.
-ghost use Rattle.std.specs.Prelude.{◌≡◌, ◌<◌, ◌≤◌, ◌+◌, ◌^◌, ◌++◌, ℕ, false, List, length, Some, OnOk, IfOk, IfErr, IsErrOf, IsNone, IsSome};
+ghost use Rattle.std.specs.Prelude.{◌≡◌, ◌<◌, ◌≤◌, ◌+◌, ◌^◌, ◌++◌, ℕ, false, List, length, Some, OnOk, IfOk, IfErr, IsErrOf, IsNone, IfSome};
 ghost use Rattle.apfs_model.specs.Apart.{Apart};
 ghost use Rattle.apfs_model.specs.Counts.{Rose};
 ghost use Rattle.apfs_model.specs.Lists.{has};
@@ -13,11 +13,11 @@ ghost use Rattle.vol_view.specs.declared.head.VolHead.{VolHead};
 ghost use Rattle.reach_rules.specs.Naming.{Namer};
 ghost use Rattle.reach_rules.specs.Features.{HasFeature};
 ghost use Rattle.reach_rules.specs.Reached.{IsReachedFault};
-ghost use Rattle.vol_parts.specs.Told as told;
-ghost use Rattle.vol_parts.specs.Laws.{HasParts};
+ghost use Rattle.tree_namings.specs.Volumes.Told as told;
+ghost use Rattle.tree_namings.specs.Volumes.Laws.{HasParts};
 ghost use Rattle.view_sweep.specs.Named.{head_namings, AreLive, AreReached};
 ghost use Rattle.reach_sweep.specs.Views as swept;
-ghost use Rattle.reach_sweep.specs.Views.{slots_of, AreVolumes, past_heads, volume_heads, swept_heads, supers_of};
+ghost use Rattle.reach_sweep.specs.Views.{slots_of, HasSlotTwice, AreVolumes, past_heads, volume_heads, swept_heads, supers_of};
 
 use blk_source::BlockSource;
 use nx_ring::Checkpoint;
@@ -135,7 +135,7 @@ fn stands(volumes: &[Volume], slot: u32) -> bool
 /// The id of a volume whose slot another one has, where there is one.
 pub(crate) fn slot_twice(volumes: &[Volume]) -> Option<u64>
     ensures apart { IsNone result → Apart (slots_of volumes.now) }
-    ensures twice { IsSome result → Apart (slots_of volumes.now) → ⊥ }
+    ensures twice { IfSome result (HasSlotTwice volumes.now) }
 {
     for i in 0..volumes.len() {
         let volume = &volumes[i];

@@ -127,10 +127,6 @@ suspects_apart facts digests hashed right up suspects apart =
         let names : x.what.name ≡ name = (bytes_eq-Decides x.what.name name).0 (right-true (x.id == id) (bytes_eq x.what.name name) at) in
         λ i. digest_of (ids i) (names i)
 
--- none so far
-pub no-suspects : (entries : List (Fact Entry)) (test : Fact Entry → Bool) (q : ℕ) → count_by test (take 0 entries) ≤ count_in [] q
-no-suspects entries test q = omega arith
-
 -- the next one is alone, so no test is passed by it
 pub alone-next : (entries : List (Fact Entry)) (i : ℕ) (d : Fact Entry) (ids : List ℕ) (test : Fact Entry → Bool) (q : ℕ) → i < length entries → IsAlone entries i → NoneAlone entries (i + 1) test → count_by test (take i entries) ≤ count_in ids q → count_by test (take (i + 1) entries) ≤ count_in ids q
 alone-next entries i d ids test q low alone none so_far =

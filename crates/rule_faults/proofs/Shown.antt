@@ -9,10 +9,6 @@ use Rattle.fs_record.specs.Attributes.{Attribute}
 use Rattle.fs_record.specs.Siblings.{Link}
 use Rattle.fs_record.specs.Facts.{Fact}
 use Rattle.fs_record.specs.declared.extents.FileExt.{FileExt}
-use Rattle.fs_record.specs.declared.fault.IdAt.{IdAt}
-use Rattle.fs_record.specs.declared.fault.NamedAt.{NamedAt}
-use Rattle.fs_record.specs.declared.fault.TreeFault.{TreeFault}
-use Rattle.fs_record.specs.declared.fault.TreeFault.TheVariants.{DupName, Hash, NoParent, NoInode, KindMismatch, DirNames, Unreached, Children, Links, SiblingLost, ExtentOrder, ExtentPlace, ExtentUncovered, LinkTarget, Stream, AttrOwner, NameHash}
 use Rattle.view_rules.specs.Words.{IsClear, IsBroken}
 use Rattle.view_rules.specs.Facts.{Facts, id_of_fact}
 use Rattle.view_rules.specs.Names.{entry_place, attribute_place, is_entry_repeated, is_attribute_repeated, has_other_ascii_hash, has_other_name_hash}
@@ -22,6 +18,10 @@ use Rattle.view_rules.specs.Counts.{has_other_children, has_other_links}
 use Rattle.view_rules.specs.Siblings.{HasEntryFellows, is_entry_lost, is_link_lost, is_map_lost, is_unmarked, sibling_place, link_place, file_place}
 use Rattle.view_rules.specs.Extents.{IsExtentOrder, is_misplaced, is_uncovered}
 use Rattle.view_rules.specs.Inodes.{lacks_target, has_large_stream, has_large_body, lacks_owner}
+use Rattle.view_rules.specs.declared.fault.IdAt.{IdAt}
+use Rattle.view_rules.specs.declared.fault.NamedAt.{NamedAt}
+use Rattle.view_rules.specs.declared.fault.TreeFault.{TreeFault}
+use Rattle.view_rules.specs.declared.fault.TreeFault.TheVariants.{DupName, Hash, NoParent, NoInode, KindMismatch, DirNames, Unreached, Children, Links, SiblingLost, ExtentOrder, ExtentPlace, ExtentUncovered, LinkTarget, Stream, AttrOwner, NameHash}
 use Rattle.view_rules.specs.declared.profile.Profile.TheVariants.{Strict}
 use Rattle.apfs_model.proofs.BoolTests.{clash}
 use Rattle.apfs_model.proofs.Searches.{found-in}

@@ -1,9 +1,5 @@
 -- The faults that the facts of a view show.
 use Rattle.std.specs.Prelude.{◌≡◌, ℕ, List, Option, None, Some, MatchOption}
-use Rattle.fs_record.specs.declared.fault.IdAt.{IdAt}
-use Rattle.fs_record.specs.declared.fault.NamedAt.{NamedAt}
-use Rattle.fs_record.specs.declared.fault.TreeFault.{TreeFault}
-use Rattle.fs_record.specs.declared.fault.TreeFault.TheVariants.{Unsound, Unnamed, Order, Counts, Record, DupName, Hash, NoParent, NoInode, KindMismatch, DirNames, Unreached, Children, Links, SiblingLost, ExtentOrder, ExtentPlace, ExtentUncovered, LinkTarget, Stream, AttrOwner, NameHash}
 use Rattle.vol_view.specs.declared.volume.View.{View}
 use Rattle.view_rules.specs.Facts.{Facts}
 use Rattle.view_rules.specs.Names.{IsDupName, IsHash, IsNameHash}
@@ -14,6 +10,10 @@ use Rattle.view_rules.specs.Siblings.{IsSiblingLost}
 use Rattle.view_rules.specs.Extents.{IsExtentOrder, IsExtentPlace, IsExtentUncovered}
 use Rattle.view_rules.specs.Inodes.{IsLinkTarget, IsStream, IsAttrOwner}
 use Rattle.view_rules.specs.Rules.{IsOf}
+use Rattle.view_rules.specs.declared.fault.IdAt.{IdAt}
+use Rattle.view_rules.specs.declared.fault.NamedAt.{NamedAt}
+use Rattle.view_rules.specs.declared.fault.TreeFault.{TreeFault}
+use Rattle.view_rules.specs.declared.fault.TreeFault.TheVariants.{Unsound, Unnamed, Order, Counts, Record, DupName, Hash, NoParent, NoInode, KindMismatch, DirNames, Unreached, Children, Links, SiblingLost, ExtentOrder, ExtentPlace, ExtentUncovered, LinkTarget, Stream, AttrOwner, NameHash}
 use Rattle.view_rules.specs.declared.profile.Profile.TheVariants.{Strict}
 use Rattle.rule_faults.specs.declared.faults.Asked.{Asked}
 

@@ -14,10 +14,9 @@ pub mod ways;
 use apfs_model::Bytes;
 use blk_source::NoMemory;
 use ext_ref::NewRange;
-use fs_record::{IdAt, NamedAt};
 use obj_base::Site;
 use std::alloc::Global;
-use view_rules::Profile;
+use view_rules::{IdAt, NamedAt, Profile};
 use vol_view::View;
 
 /// Of which view the facts are, and what they are tested against.

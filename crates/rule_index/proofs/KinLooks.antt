@@ -1,14 +1,13 @@
 -- The kind and the parent of each inode.
-use Rattle.std.proofs.Common.{◌≡◌, ℕ, Bool, true, false, cond, List, [], ◌∷◌, Option, Some, None, refl, ap, sym, ◌∙◌}
-use Rattle.std.specs.Prelude.{option_map, ◌==◌, is_some, not, map}
+use Rattle.std.proofs.Common.{◌≡◌, ℕ, Bool, true, false, cond, List, [], ◌∷◌, Option, Some, None, refl, ap, ◌∙◌}
+use Rattle.std.specs.Prelude.{option_map, ◌==◌, not, map}
 use Rattle.std.specs.List.{find}
 use Rattle.std.specs.Ordering.{nat_cmp}
 use Rattle.std.specs.List.Sorted.{IsStableByKey}
 use Rattle.apfs_model.specs.Lists.{passes}
 use Rattle.fs_record.specs.Inodes.{Inode, inode_kind}
 use Rattle.fs_record.specs.Facts.{Fact}
-use Rattle.view_rules.specs.Facts.{Facts, inode_at, has_inode, has_directory, is_directory}
-use Rattle.rule_index.specs.Kins.{kin_of, with_id, kin_in, HasKins}
+use Rattle.rule_index.specs.Kins.{kin_of, with_id, HasKins}
 use Rattle.rule_index.specs.declared.kin.Kin.{Kin}
 use Rattle.id_lists.proofs.InOrder.{stable-first}
 
@@ -33,37 +32,6 @@ kins-given inodes given all q =
 pub kins-sorted : (inodes : List (Fact Inode)) (given sorted : List (ℕ × Kin)) → given ≡ map with_id inodes → IsStableByKey (λ (k : ℕ × Kin). k.0) nat_cmp given sorted → HasKins inodes sorted
 kins-sorted inodes given sorted all stable q =
     ap (option_map (λ (k : ℕ × Kin). k.1)) (stable-first (λ (k : ℕ × Kin). k.0) given sorted q (q, record { kind = 0; parent = 0 }) refl stable) ∙ kins-given inodes given all q
-
--- whether there is one
-pub some_kin : (facts : Facts) (m : List (ℕ × Kin)) (q : ℕ) → HasKins facts.inodes m → is_some (kin_in m q) ≡ has_inode facts q
-some_kin facts m q has = ap is_some (has q) ∙ still (inode_at facts q)
-  where
-    still : (o : Option Inode) → is_some (option_map kin_of o) ≡ is_some o
-    still None = refl
-    still (Some x) = refl
-
--- whether it is a directory's
-pub directory_kin : (facts : Facts) (m : List (ℕ × Kin)) (q : ℕ) (k : Kin) → HasKins facts.inodes m → kin_in m q ≡ Some k → (k.kind == 4) ≡ has_directory facts q
-directory_kin facts m q k has e = ap (λ o. passes o (λ (k : Kin). k.kind == 4)) (sym e ∙ has q) ∙ still (inode_at facts q)
-  where
-    still : (o : Option Inode) → passes (option_map kin_of o) (λ (k : Kin). k.kind == 4) ≡ passes o is_directory
-    still None = refl
-    still (Some x) = refl
-
-pub no_directory_kin : (facts : Facts) (m : List (ℕ × Kin)) (q : ℕ) → HasKins facts.inodes m → kin_in m q ≡ None → false ≡ has_directory facts q
-no_directory_kin facts m q has e = ap (λ o. passes o (λ (k : Kin). k.kind == 4)) (sym e ∙ has q) ∙ still (inode_at facts q)
-  where
-    still : (o : Option Inode) → passes (option_map kin_of o) (λ (k : Kin). k.kind == 4) ≡ passes o is_directory
-    still None = refl
-    still (Some x) = refl
-
--- a part of it
-pub part_kin : {Y : Type 0} (facts : Facts) (m : List (ℕ × Kin)) (q : ℕ) (of_kin : Kin → Y) → HasKins facts.inodes m → option_map of_kin (kin_in m q) ≡ option_map (λ (x : Inode). of_kin (kin_of x)) (inode_at facts q)
-part_kin {Y} facts m q of_kin has = ap (option_map of_kin) (has q) ∙ still (inode_at facts q)
-  where
-    still : (o : Option Inode) → option_map of_kin (option_map kin_of o) ≡ option_map (λ (x : Inode). of_kin (kin_of x)) o
-    still None = refl
-    still (Some x) = refl
 
 -- whether there is a kind, and it is another
 pub kind_passes : (o : Option Inode) (kind : ℕ) → passes (option_map inode_kind o) (λ k. not (k == kind)) ≡ passes o (λ (x : Inode). not (inode_kind x == kind))

@@ -14,3 +14,4 @@ pub mod Account
 pub mod Ranges
 pub mod Gathered
 pub mod Owned
+pub mod VolumeLemmas

@@ -11,3 +11,4 @@ pub mod Account
 pub mod Ranges
 pub mod Gathered
 pub mod Owned
+pub mod Volumes

@@ -8,8 +8,6 @@ use Rattle.ext_ref.specs.declared.range.NewRange.{NewRange}
 use Rattle.fs_record.specs.Attributes.{Body, Embedded, Streamed, Attribute}
 use Rattle.fs_record.specs.Facts.{Fact, link_kind}
 use Rattle.fs_record.specs.Inodes.{Inode, inode_kind}
-use Rattle.fs_record.specs.declared.fault.TreeFault.{TreeFault}
-use Rattle.fs_record.specs.declared.fault.TreeFault.TheVariants.{Unsound, Unnamed, Order, Counts, Record, DupName, Hash, NoParent, NoInode, KindMismatch, DirNames, Unreached, Children, Links, SiblingLost, ExtentOrder, ExtentPlace, ExtentUncovered, LinkTarget, Stream, AttrOwner, NameHash}
 use Rattle.vol_view.specs.declared.volume.View.{View}
 use Rattle.view_rules.specs.Words.{IsClear, IsBroken}
 use Rattle.view_rules.specs.Facts.{Facts, id_of_fact}
@@ -21,6 +19,8 @@ use Rattle.view_rules.specs.Siblings.{is_entry_lost, is_link_lost, is_map_lost, 
 use Rattle.view_rules.specs.Extents.{is_disordered}
 use Rattle.view_rules.specs.Inodes.{target_name, holds_target, is_large_body, gives_target, lacks_target, has_large_body, lacks_owner, IsStream}
 use Rattle.view_rules.specs.Rules.{HasFactRules}
+use Rattle.view_rules.specs.declared.fault.TreeFault.{TreeFault}
+use Rattle.view_rules.specs.declared.fault.TreeFault.TheVariants.{Unsound, Unnamed, Order, Counts, Record, DupName, Hash, NoParent, NoInode, KindMismatch, DirNames, Unreached, Children, Links, SiblingLost, ExtentOrder, ExtentPlace, ExtentUncovered, LinkTarget, Stream, AttrOwner, NameHash}
 use Rattle.view_rules.specs.declared.profile.Profile.{Profile}
 use Rattle.view_rules.specs.declared.profile.Profile.TheVariants.{Plain, Strict}
 use Rattle.view_facts.specs.Contents.{brief_body, brief, brief_facts}

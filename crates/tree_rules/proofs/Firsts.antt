@@ -1,7 +1,6 @@
 -- The first fault of all groups of rules.
 use Rattle.std.proofs.Common.{◌≡◌, true, false, Option, Some, None}
 use Rattle.std.specs.Option.{option_or}
-use Rattle.fs_record.specs.declared.fault.TreeFault.{TreeFault}
 use Rattle.view_rules.specs.Facts.{Facts}
 use Rattle.view_rules.specs.Names.{HasDistinctEntries, HasDistinctAttributes, HasAsciiHashes, HasNameHashes}
 use Rattle.view_rules.specs.Entries.{HasParents, HasFiles, HasKinds, has_root}
@@ -11,6 +10,7 @@ use Rattle.view_rules.specs.Siblings.{HasEntryFellows, HasLinkFellows, HasMapFel
 use Rattle.view_rules.specs.Extents.{HasExtentOrder, HasExtentPlaces, HasCover}
 use Rattle.view_rules.specs.Inodes.{HasTargets, HasStreamSizes, HasBodySizes, HasOwners}
 use Rattle.view_rules.specs.Rules.{HasFactRules}
+use Rattle.view_rules.specs.declared.fault.TreeFault.{TreeFault}
 use Rattle.view_rules.specs.declared.profile.Profile.TheVariants.{Strict}
 use Rattle.rule_faults.specs.declared.faults.Asked.{Asked}
 use Rattle.rule_faults.specs.Faults.{IsFirst}

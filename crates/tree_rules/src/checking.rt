@@ -13,11 +13,11 @@ use crate::gathered::tally_of;
 use crate::{Profile, ViewTally};
 use blk_source::BlockSource;
 use ext_ref::NewRange;
-use fs_record::TreeFault;
 use obj_base::{Site, Stop};
 use rule_faults::faults::Asked;
 use std::alloc::Global;
 use view_facts::view_facts;
+use view_rules::TreeFault;
 use vol_view::{View, Volume};
 
 /// The number of records and the notes of a view that meets its rules under a profile. `ranges` are the new ranges of the

@@ -6,12 +6,12 @@ ghost use Rattle.view_rules.specs.Rules.{HasFactRules};
 mod hashes;
 
 use blk_source::NoMemory;
-use fs_record::TreeFault;
 use rule_faults::faults::{
     Asked, counts, directories, entries, extents, inodes, names, siblings, ways,
 };
 use rule_index::Index;
 use std::alloc::Global;
+use view_rules::TreeFault;
 
 /// A fault that the facts show, where one is there: of the first rule, in the order of the rules, that they break.
 pub(crate) fn first_fault(

@@ -11,12 +11,12 @@ ghost use Rattle.tree_rules.specs.Tallies.{IsTally};
 use crate::ViewTally;
 use crate::faults::first_fault;
 use crate::remarks::notes;
-use fs_record::TreeFault;
 use obj_base::Stop;
 use rule_faults::faults::Asked;
 use rule_index::Index;
 use std::alloc::Global;
 use view_facts::ViewFacts;
+use view_rules::TreeFault;
 
 /// The number of records and the notes of a view whose facts were gathered, where it meets its rules. A fault that is named is
 /// there.

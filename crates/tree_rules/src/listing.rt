@@ -12,11 +12,12 @@ ghost use Rattle.view_rules.specs.Rules as rules;
 ghost use Rattle.view_rules.specs.declared.profile.Profile.{Profile};
 
 use blk_source::BlockSource;
-use fs_record::{FileExt, TreeFault};
+use fs_record::FileExt;
 use obj_base::{Site, Stop};
 use rule_breaks::extents::extents_with_ids;
 use std::alloc::Global;
 use view_facts::view_facts;
+use view_rules::TreeFault;
 use vol_view::{View, Volume};
 
 /// The extents of a view in record order, each after the id of its stream, where its tree is whole and each record can be

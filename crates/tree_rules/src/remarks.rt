@@ -10,10 +10,10 @@ use crate::{Note, Profile};
 use apfs_model::Bytes;
 use blk_source::NoMemory;
 use fs_name::name_hash;
-use fs_record::{IdAt, NamedAt};
 use rule_index::Index;
 use std::alloc::Global;
 use view_facts::{EntryFact, Facts, InodeFact};
+use view_rules::{IdAt, NamedAt};
 use vol_view::View;
 
 // Whether an entry's name isn't ASCII, and its key has another hash.

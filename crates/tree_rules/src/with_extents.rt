@@ -14,12 +14,12 @@ use crate::gathered::tally_of;
 use crate::{CheckedView, Profile};
 use blk_source::BlockSource;
 use ext_ref::NewRange;
-use fs_record::TreeFault;
 use obj_base::{Site, Stop};
 use rule_breaks::extents::extents_with_ids;
 use rule_faults::faults::Asked;
 use std::alloc::Global;
 use view_facts::view_facts;
+use view_rules::TreeFault;
 use vol_view::{View, Volume};
 
 /// What `check_view` and `view_extents` answer of a view that meets its rules under a profile, in one walk over its tree. `ranges`

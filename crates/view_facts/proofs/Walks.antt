@@ -19,13 +19,13 @@ use Rattle.bt_cursor.specs.declared.fault.WalkFault.TheVariants as walks
 use Rattle.bt_cursor.proofs.Flats.{line-pairs}
 use Rattle.fs_name.specs.declared.naming.Names.{Names}
 use Rattle.fs_name.specs.Normal.{are_hashed}
-use Rattle.fs_record.specs.declared.fault.TreeFault.{TreeFault}
 use Rattle.ext_ref.specs.declared.range.NewRange.{NewRange}
 use Rattle.vol_view.specs.Volumes.{Loaded}
 use Rattle.vol_view.specs.Views.{hashed_tree, plain_tree, view_flat, view_line, view_nodes, is_view_walkable, is_view_counted, FactBy, IsViewFeature, IsViewFault}
 use Rattle.vol_view.specs.declared.volume.View.{View}
 use Rattle.view_rules.specs.Facts.{Facts, facts_in}
 use Rattle.view_rules.specs.Rules.{raised, IsTreeFault}
+use Rattle.view_rules.specs.declared.fault.TreeFault.{TreeFault}
 use Rattle.view_rules.specs.declared.profile.Profile.{Profile}
 use Rattle.view_facts.specs.Contents.{brief_facts}
 use Rattle.view_facts.specs.Refusals.{IsRefusal}
@@ -42,14 +42,6 @@ says_tells view tree root (Found (gathers.Refused item)) other says told = absur
 says_tells view tree root (Unsupported feature block) other says told = subst (Tells (IsRaised view tree root) (HasFeature tree root)) (sym says) told
 says_tells view tree root ReadFault other says told = subst (Tells (IsRaised view tree root) (HasFeature tree root)) (sym says) tt
 says_tells view tree root NoMemory other says told = subst (Tells (IsRaised view tree root) (HasFeature tree root)) (sym says) tt
-
--- a failed read is one of the walk
-pub says_read : (view : View) (stop : Stop GatherFault) (other : Stop TreeFault) → SaysOfView view stop other → other ≡ ReadFault → stop ≡ ReadFault
-says_read view (Found (gathers.Tree why)) other says e = absurd (cc)
-says_read view (Found (gathers.Refused item)) other says e = absurd says
-says_read view (Unsupported feature block) other says e = absurd (cc)
-says_read view ReadFault other says e = refl
-says_read view NoMemory other says e = absurd (cc)
 
 refusal-alike : (a b : Names) (line : List Item) (refusal : Option Refusal) → are_hashed a ≡ are_hashed b → IsRefusal a line refusal → IsRefusal b line refusal
 refusal-alike a b line None e had = records-alike a b line e had

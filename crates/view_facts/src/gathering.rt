@@ -22,10 +22,10 @@ use blk_source::BlockSource;
 use bt_cursor::{GatherFault, WalkFault, gather};
 use bt_keys::{FsKey, FsPlainKey, FsTreeKey};
 use fs_name::Names;
-use fs_record::TreeFault;
 use obj_base::{Site, Stop};
 use omap_map::At;
 use std::alloc::Global;
+use view_rules::TreeFault;
 use vol_view::{View, Volume};
 
 /// The facts of a view, and how many records it has.

@@ -6,10 +6,6 @@ use Rattle.obj_base.specs.declared.site.Site.{Site}
 use Rattle.bt_cursor.specs.declared.fault.WalkFault.{WalkFault}
 use Rattle.bt_cursor.specs.declared.fault.WalkFault.TheVariants as walks
 use Rattle.fs_record.specs.Facts.{root_id}
-use Rattle.fs_record.specs.declared.fault.IdAt.{IdAt}
-use Rattle.fs_record.specs.declared.fault.NamedAt.{NamedAt}
-use Rattle.fs_record.specs.declared.fault.TreeFault.{TreeFault}
-use Rattle.fs_record.specs.declared.fault.TreeFault.TheVariants.{Unsound, Unnamed, Order, Counts, Record, DupName, Hash, NoParent, NoInode, KindMismatch, DirNames, Unreached, Children, Links, SiblingLost, ExtentOrder, ExtentPlace, ExtentUncovered, LinkTarget, Stream, AttrOwner, NameHash}
 use Rattle.vol_view.specs.Volumes.{Loaded}
 use Rattle.vol_view.specs.Views.{view_line, IsViewFault, IsViewFeature}
 use Rattle.vol_view.specs.declared.volume.View.{View}
@@ -24,6 +20,10 @@ use Rattle.view_rules.specs.Extents.{is_disordered, is_misplaced, is_uncovered}
 use Rattle.view_rules.specs.Inodes.{lacks_target, has_large_stream, has_large_body, lacks_owner}
 use Rattle.view_rules.specs.Rules.{view_facts, HasTreeRules, raised, IsTreeFault}
 use Rattle.view_rules.specs.Laws.{IsFlawed}
+use Rattle.view_rules.specs.declared.fault.IdAt.{IdAt}
+use Rattle.view_rules.specs.declared.fault.NamedAt.{NamedAt}
+use Rattle.view_rules.specs.declared.fault.TreeFault.{TreeFault}
+use Rattle.view_rules.specs.declared.fault.TreeFault.TheVariants.{Unsound, Unnamed, Order, Counts, Record, DupName, Hash, NoParent, NoInode, KindMismatch, DirNames, Unreached, Children, Links, SiblingLost, ExtentOrder, ExtentPlace, ExtentUncovered, LinkTarget, Stream, AttrOwner, NameHash}
 use Rattle.view_rules.specs.declared.profile.Profile.{Profile}
 use Rattle.view_rules.specs.declared.profile.Profile.TheVariants.{Plain, Strict}
 use Rattle.view_rules.proofs.Searches.{clear_or, broken-clear}

@@ -12,7 +12,7 @@ use Rattle.view_rules.specs.Names.{entry_place}
 unfoldable pub lacks_parent : Facts → Fact Entry → Bool
 lacks_parent facts e = does_count e && not (has_directory facts e.id)
 
--- each entry stands in a directory
+-- each entry that counts stands in a directory
 abbrev pub HasParents : Facts → Type 0
 HasParents facts = IsClear (lacks_parent facts) facts.entries
 
@@ -24,11 +24,11 @@ IsNoParent facts id name = IsBroken (lacks_parent facts) entry_place facts.entri
 unfoldable pub lacks_inode : Facts → Fact Entry → Bool
 lacks_inode facts e = does_count e && not (has_inode facts e.what.file_id)
 
--- the file of each entry has an inode
+-- the file of each entry that counts has an inode
 abbrev pub HasFiles : Facts → Type 0
 HasFiles facts = IsClear (lacks_inode facts) facts.entries
 
--- NoInode: an entry's file has no inode
+-- NoInode: an entry's id isn't reserved, and its file has no inode
 abbrev pub IsNoInode : Facts → ℕ → List ℕ → Type 0
 IsNoInode facts id name = IsBroken (lacks_inode facts) entry_place facts.entries (id, name)
 
@@ -44,10 +44,10 @@ IsNoRoot facts id = (id ≡ root_id) × (has_root facts ≡ false)
 unfoldable pub has_other_kind : Facts → Fact Entry → Bool
 has_other_kind facts e = does_count e && passes (inode_at facts e.what.file_id) (λ (inode : Inode). not (inode_kind inode == e.what.kind))
 
--- each entry has the kind of the inode of its file
+-- each entry that counts has the kind of the inode of its file
 abbrev pub HasKinds : Facts → Type 0
 HasKinds facts = IsClear (has_other_kind facts) facts.entries
 
--- KindMismatch: an entry has another kind than the inode of its file
+-- KindMismatch: an entry's id isn't reserved, and its kind isn't that of the inode of its file
 abbrev pub IsKindMismatch : Facts → ℕ → List ℕ → Type 0
 IsKindMismatch facts id name = IsBroken (has_other_kind facts) entry_place facts.entries (id, name)

@@ -9,8 +9,6 @@ use Rattle.bt_cursor.specs.declared.fault.WalkFault.TheVariants as walks
 use Rattle.fs_name.specs.declared.naming.Names.{Names}
 use Rattle.fs_record.specs.Facts.{refused}
 use Rattle.fs_record.specs.declared.fault.RecFault.{RecFault}
-use Rattle.fs_record.specs.declared.fault.TreeFault.{TreeFault}
-use Rattle.fs_record.specs.declared.fault.TreeFault.TheVariants.{Unsound, Unnamed, Order, Counts, Record, DupName, Hash, NoParent, NoInode, KindMismatch, DirNames, Unreached, Children, Links, SiblingLost, ExtentOrder, ExtentPlace, ExtentUncovered, LinkTarget, Stream, AttrOwner, NameHash}
 use Rattle.vol_view.specs.Volumes.{Loaded}
 use Rattle.vol_view.specs.Views.{view_flat, view_line, is_view_walkable, is_view_ordered, is_view_counted, IsViewFault}
 use Rattle.vol_view.specs.declared.volume.View.{View}
@@ -23,6 +21,8 @@ use Rattle.view_rules.specs.Counts.{HasChildren, IsChildren, HasLinks, IsLinks}
 use Rattle.view_rules.specs.Siblings.{HasEntryFellows, HasLinkFellows, HasMapFellows, HasMarks, IsSiblingLost}
 use Rattle.view_rules.specs.Extents.{HasExtentOrder, IsExtentOrder, HasExtentPlaces, IsExtentPlace, HasCover, IsExtentUncovered}
 use Rattle.view_rules.specs.Inodes.{HasTargets, IsLinkTarget, HasStreamSizes, HasBodySizes, IsStream, HasOwners, IsAttrOwner}
+use Rattle.view_rules.specs.declared.fault.TreeFault.{TreeFault}
+use Rattle.view_rules.specs.declared.fault.TreeFault.TheVariants.{Unsound, Unnamed, Order, Counts, Record, DupName, Hash, NoParent, NoInode, KindMismatch, DirNames, Unreached, Children, Links, SiblingLost, ExtentOrder, ExtentPlace, ExtentUncovered, LinkTarget, Stream, AttrOwner, NameHash}
 use Rattle.view_rules.specs.declared.profile.Profile.{Profile}
 use Rattle.view_rules.specs.declared.profile.Profile.TheVariants.{Strict}
 

@@ -1,8 +1,10 @@
 //! The rules of a view: what its file-system tree must be, and what the records of that tree must say of one another.
 #![tactic(auto)]
 
+mod fault;
 mod profile;
 mod theorem;
 
+pub use fault::{IdAt, NamedAt, TreeFault};
 pub use profile::Profile;
 pub use theorem::rules_or_flaw;

@@ -13,6 +13,7 @@ use Rattle.bt_cursor.specs.Flat.{flat_of}
 use Rattle.bt_cursor.specs.Line.{Item, line_of}
 use Rattle.bt_cursor.specs.Met.{nodes_of, is_walkable}
 use Rattle.bt_cursor.specs.Order.{is_ordered, out_of_order}
+use Rattle.bt_cursor.specs.From.{is_kind_whole}
 use Rattle.bt_cursor.specs.Counts.{is_counted}
 use Rattle.bt_cursor.specs.Whole.{is_whole}
 use Rattle.bt_cursor.specs.Faults.{IsWalkFault, HasFeature}
@@ -80,6 +81,12 @@ unfoldable pub view_nodes : List ℕ → Site → Loaded → View → List NodeA
 view_nodes image site volume view =
     if are_hashed volume.names then nodes_of (hashed_tree image site volume view) view.root_oid
     else nodes_of (plain_tree image site volume view) view.root_oid
+
+-- no record of an id and a kind is missing in a view: no gap stands in its tree where one may be
+unfoldable pub has_all_records : List ℕ → Site → Loaded → View → ℕ → ℕ → Bool
+has_all_records image site volume view id kind =
+    if are_hashed volume.names then is_kind_whole (hashed_tree image site volume view) view.root_oid id kind
+    else is_kind_whole (plain_tree image site volume view) view.root_oid id kind
 
 -- a view whose tree is walkable
 unfoldable pub is_view_walkable : List ℕ → Site → Loaded → View → Bool

@@ -1,8 +1,8 @@
 -- The command `cat`: the contents of a file in the view that is meant.
 use Rattle.std.specs.Prelude.{ℕ, List, Result}
+use Rattle.view_rules.specs.declared.fault.TreeFault.{TreeFault}
 use Rattle.cmd_words.specs.Asked.{AskedTarget}
 use Rattle.obj_base.specs.declared.stop.Feature.{Feature}
-use Rattle.fs_record.specs.declared.fault.TreeFault.{TreeFault}
 use Rattle.view_rules.specs.Facts.{Facts}
 use Rattle.apfs_check.specs.declared.fault.Fault.{Fault}
 use Rattle.path_read.specs.Contents.{contents}

@@ -1,9 +1,9 @@
 -- The command `ls`: what a path lists in the view that is meant.
 use Rattle.std.specs.Prelude.{ℕ, List, Result, Ok}
+use Rattle.view_rules.specs.declared.fault.TreeFault.{TreeFault}
 use Rattle.cmd_words.specs.Asked.{AskedTarget}
 use Rattle.apfs_model.specs.Lists.{and_then}
 use Rattle.obj_base.specs.declared.stop.Feature.{Feature}
-use Rattle.fs_record.specs.declared.fault.TreeFault.{TreeFault}
 use Rattle.view_rules.specs.Facts.{Facts}
 use Rattle.apfs_check.specs.declared.fault.Fault.{Fault}
 use Rattle.path_walk.specs.Listing.{listing}

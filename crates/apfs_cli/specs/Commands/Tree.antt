@@ -1,14 +1,14 @@
 -- The command `tree`: what is under a path in the view that is meant.
 use Rattle.std.specs.Prelude.{ℕ, List, Result, Ok}
+use Rattle.view_rules.specs.declared.fault.TreeFault.{TreeFault}
 use Rattle.cmd_words.specs.Asked.{AskedTarget}
 use Rattle.apfs_model.specs.Lists.{and_then}
 use Rattle.obj_base.specs.declared.stop.Feature.{Feature}
-use Rattle.fs_record.specs.declared.fault.TreeFault.{TreeFault}
 use Rattle.view_rules.specs.Facts.{Facts}
 use Rattle.apfs_check.specs.declared.fault.Fault.{Fault}
-use Rattle.path_walk.specs.Stops.{IsTold}
-use Rattle.path_walk.specs.Texts.{tree_text}
-use Rattle.path_walk.specs.Tree.{tree}
+use Rattle.view_tree.specs.Told.{IsTold}
+use Rattle.view_tree.specs.Texts.{tree_text}
+use Rattle.view_tree.specs.Tree.{tree}
 use Rattle.path_walk.specs.declared.answer.Answer.{Answer}
 use Rattle.apfs_cli.specs.OnView.{IsTextOn, IsAnswerOn, IsFaultOn, IsFeatureOn}
 

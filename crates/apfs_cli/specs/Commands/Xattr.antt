@@ -1,9 +1,9 @@
 -- The command `xattr`: the attributes of what a path leads to in the view that is meant, or what the one of a name holds.
 use Rattle.std.specs.Prelude.{ℕ, List, Option, None, Some, Result, Ok}
+use Rattle.view_rules.specs.declared.fault.TreeFault.{TreeFault}
 use Rattle.cmd_words.specs.Asked.{AskedTarget}
 use Rattle.apfs_model.specs.Lists.{and_then}
 use Rattle.obj_base.specs.declared.stop.Feature.{Feature}
-use Rattle.fs_record.specs.declared.fault.TreeFault.{TreeFault}
 use Rattle.view_rules.specs.Facts.{Facts}
 use Rattle.apfs_check.specs.declared.fault.Fault.{Fault}
 use Rattle.path_read.specs.Attributes.{attributes, attribute}

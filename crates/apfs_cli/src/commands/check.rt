@@ -53,11 +53,11 @@ impl Line for Note {
 fn things_lines(alloc: Global, report: &Report) -> Result<String, AllocError>
     ensures { IfOk result (λ text. string_bytes text ≡ things_text report.now) }
 {
-    let xid = report.xid();
-    let volumes = report.volumes();
-    let views = report.views();
+    let xid = report.xid;
+    let volumes = report.volumes;
+    let views = report.views;
     let objects = report.objects();
-    let records = report.records();
+    let records = report.records;
     format!(in alloc;
         "xid {xid}\nvolumes {volumes}\nviews {views}\nobjects {objects}\nrecords {records}\n"
     )
@@ -68,7 +68,7 @@ fn blocks_lines(alloc: Global, report: &Report) -> Result<String, AllocError>
     ensures { IfOk result (λ text. string_bytes text ≡ blocks_text report.now) }
 {
     let used = report.used();
-    let free = report.free();
+    let free = report.free;
     format!(in alloc; "used {used}\nfree {free}\n")
 }
 
@@ -76,7 +76,7 @@ fn blocks_lines(alloc: Global, report: &Report) -> Result<String, AllocError>
 fn head(alloc: Global, report: &Report) -> Result<Vec<u8>, AllocError>
     ensures { IfOk result (λ text. text.items ≡ head_text report.now) }
 {
-    let notes = report.notes().len();
+    let notes = report.notes.len();
     let mut text = String::from_str(alloc, "clean\n")?.into_bytes();
     text.extend_from_slice(things_lines(alloc, report)?.as_bytes())?;
     text.extend_from_slice(blocks_lines(alloc, report)?.as_bytes())?;
@@ -97,7 +97,7 @@ fn put_report<W: Sink>(alloc: Global, report: &Report, out: &mut W) -> Result<()
     ensures { IsPut (report_text report.now) result (sunk W.contents W.faults out.old out.new) }
 {
     match put_head(alloc, report, out) {
-        Ok(()) => put_lines(alloc, report.notes(), out),
+        Ok(()) => put_lines(alloc, &report.notes, out),
         Err(stopped) => Err(stopped),
     }
 }

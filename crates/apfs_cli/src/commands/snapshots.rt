@@ -9,9 +9,9 @@ ghost use Rattle.blk_source.specs.declared.source.Opened.TheVariants.{Image};
 
 use crate::meant::reach;
 use crate::put::{Line, put_lines};
-use crate::shown::push_name;
 use crate::stopped::Stopped;
 use blk_source::{BlockSource, Sink};
+use fs_name::push_shown;
 use std::alloc::{AllocError, Global};
 use vol_view::{Snapshot, Volume};
 
@@ -23,7 +23,7 @@ impl Line for Snapshot {
         let xid = self.xid;
         let created = self.created;
         let mut line = format!(in alloc; "{xid} {created} ")?.into_bytes();
-        push_name(&mut line, self.name.as_slice())?;
+        push_shown(&mut line, self.name.as_slice())?;
         line.push(b'\n')?;
         Ok(line)
     }

@@ -2,7 +2,7 @@
 ghost use Rattle.std.specs.Prelude.{◌≡◌, Some};
 ghost use Rattle.apfs_model.specs.Source.{IsKept};
 ghost use Rattle.cmd_words.specs.Asked.{target_asked};
-ghost use Rattle.path_walk.specs.Texts.{row_text};
+ghost use Rattle.view_tree.specs.Texts.{row_text};
 ghost use Rattle.apfs_cli.specs.Says.{HasEnded};
 ghost use Rattle.apfs_cli.specs.Words.{Tree};
 ghost use Rattle.apfs_cli.specs.declared.words.Checks.TheVariants.{Quick};
@@ -17,8 +17,8 @@ use crate::target_line::line_with;
 use apfs_model::Bytes;
 use blk_source::{BlockSource, Sink};
 use cmd_words::Target;
-use path_walk::tree;
 use std::alloc::{AllocError, Global};
+use view_tree::tree;
 
 /// The kind, id and size of a row's target, and the names that lead to it.
 impl Line for (Bytes, path_walk::Target) {

@@ -15,10 +15,10 @@ ghost use Rattle.apfs_cli.specs.Written.{sunk};
 ghost use Rattle.blk_source.specs.declared.source.Opened.TheVariants.{Image};
 
 use crate::put::{Line, put_lines};
-use crate::shown::{identifier, push_name};
+use crate::shown::identifier;
 use crate::stopped::{Stopped, stopped_by};
 use blk_source::{BlockSource, Sink};
-use fs_name::Names;
+use fs_name::{Names, push_shown};
 use nx_ring::{Checkpoint, newest};
 use std::alloc::{AllocError, Global};
 use vol_view::{VolHead, heads};
@@ -53,7 +53,7 @@ impl Line for VolHead {
     fn line(&self, alloc: Global) -> Result<Vec<u8>, AllocError> {
         let uuid = identifier(alloc, self.uuid)?;
         let mut line = before_name(alloc, self, uuid.as_str())?.into_bytes();
-        push_name(&mut line, self.name.as_slice())?;
+        push_shown(&mut line, self.name.as_slice())?;
         line.push(b'\n')?;
         Ok(line)
     }

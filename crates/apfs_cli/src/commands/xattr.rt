@@ -12,11 +12,11 @@ ghost use Rattle.blk_source.specs.declared.source.Opened.TheVariants.{Image};
 use crate::meant_view::reach_view;
 use crate::on_path::{stopped_on_path, stopped_on_write};
 use crate::put::{Line, put_lines};
-use crate::shown::push_name;
 use crate::stopped::Stopped;
 use apfs_model::Bytes;
 use blk_source::{BlockSource, Sink};
 use cmd_words::Target;
+use fs_name::push_shown;
 use path_read::{attr, attrs};
 use std::alloc::{AllocError, Global};
 
@@ -27,7 +27,7 @@ impl Line for (Bytes, u64) {
     fn line(&self, alloc: Global) -> Result<Vec<u8>, AllocError> {
         let length = self.1;
         let mut line = format!(in alloc; "{length} ")?.into_bytes();
-        push_name(&mut line, self.0.as_slice())?;
+        push_shown(&mut line, self.0.as_slice())?;
         line.push(b'\n')?;
         Ok(line)
     }

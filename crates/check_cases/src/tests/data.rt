@@ -1,5 +1,7 @@
 // The data of volumes, and candidates that are passed over.
-use crate::tests::rows::{BOTH, Noted, PLAIN, Row, STRICT, Said, Wrong, assert_row, assert_rows};
+use crate::tests::rows::{
+    BOTH, Noted, Numbers, PLAIN, Row, SMALL_NUMBERS, STRICT, Said, Wrong, assert_row, assert_rows,
+};
 use img_changes::{Base, SMALL, image};
 use img_make::{Sample, skipped_checkpoint};
 use std::test::Fail;
@@ -11,34 +13,50 @@ const LONGER: Base = (Sample::H, &[(57, 2)], &[]);
 const ONE_COUNTED: Base = (Sample::C, &[(57, 1)], &[]);
 
 const DATA: &[Row] = &[
-    (
-        "note_unreached",
-        LONGER,
-        &[],
-        PLAIN,
-        Said::Clean([1, 1, 1, 14, 8, 59, 197], &[Noted::Unreached(58, 1)]),
-    ),
-    (
-        "fault_data_unreached",
-        LONGER,
-        &[],
-        STRICT,
-        Said::Fault(Wrong::DataUnreached(58, 1)),
-    ),
-    (
-        "note_count",
-        ONE_COUNTED,
-        &[],
-        PLAIN,
-        Said::Clean([1, 1, 1, 14, 12, 58, 198], &[Noted::Count(57, 1, 2)]),
-    ),
-    (
-        "fault_data_count",
-        ONE_COUNTED,
-        &[],
-        STRICT,
-        Said::Fault(Wrong::DataCount(57, 1, 2)),
-    ),
+    Row {
+        name: "note_unreached",
+        base: LONGER,
+        changes: &[],
+        profiles: PLAIN,
+        said: Said::Clean(
+            Numbers {
+                records: 8,
+                used: 59,
+                free: 197,
+                ..SMALL_NUMBERS
+            },
+            &[Noted::Unreached(58, 1)],
+        ),
+    },
+    Row {
+        name: "fault_data_unreached",
+        base: LONGER,
+        changes: &[],
+        profiles: STRICT,
+        said: Said::Fault(Wrong::DataUnreached(58, 1)),
+    },
+    Row {
+        name: "note_count",
+        base: ONE_COUNTED,
+        changes: &[],
+        profiles: PLAIN,
+        said: Said::Clean(
+            Numbers {
+                records: 12,
+                used: 58,
+                free: 198,
+                ..SMALL_NUMBERS
+            },
+            &[Noted::Count(57, 1, 2)],
+        ),
+    },
+    Row {
+        name: "fault_data_count",
+        base: ONE_COUNTED,
+        changes: &[],
+        profiles: STRICT,
+        said: Said::Fault(Wrong::DataCount(57, 1, 2)),
+    },
 ];
 
 #[test]
@@ -49,7 +67,7 @@ fn data_are_as_said(rt: HostRuntime) -> Result<(), Fail> {
 // A second checkpoint, whose space manager has a wrong sum, has its superblock in block 4, which has the index 3.
 const SKIPPED: (&str, Said) = (
     "note_skipped",
-    Said::Clean([1, 1, 1, 14, 4, 57, 199], &[Noted::Skipped(3, 2)]),
+    Said::Clean(SMALL_NUMBERS, &[Noted::Skipped(3, 2)]),
 );
 
 #[test]

@@ -1,16 +1,16 @@
 // Names that aren't ASCII, and their hashes.
-use crate::tests::rows::{BOTH, Said, assert_row, numbers, told};
+use crate::tests::rows::{BOTH, Numbers, SMALL_NUMBERS, Said, assert_row, numbers_of, told};
 use apfs_check::Fault;
 use apfs_layout::key::LEN_AND_HASH;
 use blk_source::Bytes;
 use fs_name::Names;
-use fs_record::NamedAt;
 use img_make::records::InodePlan;
 use img_make::{FileTree, Item, Leaf, Plan, Sample, Version, make, put_u32, sample};
 use obj_base::Stop;
 use std::alloc::{AllocError, Global};
 use std::test::Fail;
 use tree_rules::{Note, Profile};
+use view_rules::NamedAt;
 
 // The oid of the root of the volume's file-system tree.
 const ROOT_OID: u64 = 1028;
@@ -89,8 +89,16 @@ fn note_hash(rt: HostRuntime) -> Result<(), Fail> {
     let Ok(report) = told(alloc, other_hash(alloc)?, Profile::Plain) else {
         panic!(rt; "the container isn't well-formed");
     };
-    assert_eq!(rt; numbers(&report), [1, 1, 1, 14, 8, 58, 198]);
-    assert!(rt; report.notes() == notes.as_slice());
+    assert_eq!(rt;
+        numbers_of(&report),
+        Numbers {
+            records: 8,
+            used: 58,
+            free: 198,
+            ..SMALL_NUMBERS
+        }
+    );
+    assert!(rt; report.notes.as_slice() == notes.as_slice());
     Ok(())
 }
 
@@ -107,6 +115,14 @@ fn fault_name_hash(rt: HostRuntime) -> Result<(), Fail> {
 fn clean_name_of_other_letters(rt: HostRuntime) -> Result<(), Fail> {
     let alloc = rt.alloc();
     let image = image_with(alloc, items_of(alloc)?)?;
-    let said = Said::Clean([1, 1, 1, 14, 8, 58, 198], &[]);
+    let said = Said::Clean(
+        Numbers {
+            records: 8,
+            used: 58,
+            free: 198,
+            ..SMALL_NUMBERS
+        },
+        &[],
+    );
     assert_row(&rt, alloc, NAME, &image, BOTH, said)
 }

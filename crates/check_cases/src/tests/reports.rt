@@ -1,73 +1,145 @@
 // The reports of the samples. How many objects and used blocks each has, another program counted; how many records each has, the table
 // of samples says: four of the two directories, and those of its files, in each view.
-use crate::tests::rows::{BOTH, Row, Said, assert_rows};
+use crate::tests::rows::{BOTH, Numbers, Row, SMALL_NUMBERS, Said, assert_rows};
+use img_changes::SMALL;
 use img_make::Sample;
 use std::test::Fail;
 
 const REPORTS: &[Row] = &[
-    (
-        "clean_report_small",
-        (Sample::S, &[], &[]),
-        &[],
-        BOTH,
-        Said::Clean([1, 1, 1, 14, 4, 57, 199], &[]),
-    ),
-    (
-        "clean_report_hello",
-        (Sample::H, &[], &[]),
-        &[],
-        BOTH,
-        Said::Clean([1, 1, 1, 14, 8, 58, 198], &[]),
-    ),
-    (
-        "clean_report_links",
-        (Sample::L, &[], &[]),
-        &[],
-        BOTH,
-        Said::Clean([1, 1, 1, 14, 11, 57, 199], &[]),
-    ),
-    (
-        "clean_report_hole",
-        (Sample::P, &[], &[]),
-        &[],
-        BOTH,
-        Said::Clean([1, 1, 1, 14, 9, 58, 198], &[]),
-    ),
-    (
-        "clean_report_shared",
-        (Sample::C, &[], &[]),
-        &[],
-        BOTH,
-        Said::Clean([1, 1, 1, 14, 12, 58, 198], &[]),
-    ),
-    (
-        "clean_report_jumpstart",
-        (Sample::J, &[], &[]),
-        &[],
-        BOTH,
-        Said::Clean([1, 1, 1, 15, 4, 60, 196], &[]),
-    ),
-    (
-        "clean_report_two_volumes",
-        (Sample::T, &[], &[]),
-        &[],
-        BOTH,
-        Said::Clean([1, 2, 2, 20, 12, 64, 192], &[]),
-    ),
-    (
-        "clean_report_snapshots",
-        (Sample::V, &[], &[]),
-        &[],
-        BOTH,
-        Said::Clean([5, 1, 3, 22, 18, 65, 191], &[]),
-    ),
-    (
-        "clean_report_eight_snapshots",
-        (Sample::V2, &[], &[]),
-        &[],
-        BOTH,
-        Said::Clean([9, 1, 9, 34, 54, 77, 179], &[]),
-    ),
+    Row {
+        name: "clean_report_small",
+        base: SMALL,
+        changes: &[],
+        profiles: BOTH,
+        said: Said::Clean(SMALL_NUMBERS, &[]),
+    },
+    Row {
+        name: "clean_report_hello",
+        base: (Sample::H, &[], &[]),
+        changes: &[],
+        profiles: BOTH,
+        said: Said::Clean(
+            Numbers {
+                records: 8,
+                used: 58,
+                free: 198,
+                ..SMALL_NUMBERS
+            },
+            &[],
+        ),
+    },
+    Row {
+        name: "clean_report_links",
+        base: (Sample::L, &[], &[]),
+        changes: &[],
+        profiles: BOTH,
+        said: Said::Clean(
+            Numbers {
+                records: 11,
+                ..SMALL_NUMBERS
+            },
+            &[],
+        ),
+    },
+    Row {
+        name: "clean_report_hole",
+        base: (Sample::P, &[], &[]),
+        changes: &[],
+        profiles: BOTH,
+        said: Said::Clean(
+            Numbers {
+                records: 9,
+                used: 58,
+                free: 198,
+                ..SMALL_NUMBERS
+            },
+            &[],
+        ),
+    },
+    Row {
+        name: "clean_report_shared",
+        base: (Sample::C, &[], &[]),
+        changes: &[],
+        profiles: BOTH,
+        said: Said::Clean(
+            Numbers {
+                records: 12,
+                used: 58,
+                free: 198,
+                ..SMALL_NUMBERS
+            },
+            &[],
+        ),
+    },
+    Row {
+        name: "clean_report_jumpstart",
+        base: (Sample::J, &[], &[]),
+        changes: &[],
+        profiles: BOTH,
+        said: Said::Clean(
+            Numbers {
+                objects: 15,
+                used: 60,
+                free: 196,
+                ..SMALL_NUMBERS
+            },
+            &[],
+        ),
+    },
+    Row {
+        name: "clean_report_two_volumes",
+        base: (Sample::T, &[], &[]),
+        changes: &[],
+        profiles: BOTH,
+        said: Said::Clean(
+            Numbers {
+                volumes: 2,
+                views: 2,
+                objects: 20,
+                records: 12,
+                used: 64,
+                free: 192,
+                ..SMALL_NUMBERS
+            },
+            &[],
+        ),
+    },
+    Row {
+        name: "clean_report_snapshots",
+        base: (Sample::V, &[], &[]),
+        changes: &[],
+        profiles: BOTH,
+        said: Said::Clean(
+            Numbers {
+                xid: 5,
+                views: 3,
+                objects: 22,
+                records: 18,
+                used: 65,
+                free: 191,
+                ..SMALL_NUMBERS
+            },
+            &[],
+        ),
+    },
+    Row {
+        name: "clean_report_eight_snapshots",
+        base: (Sample::V2, &[], &[]),
+        changes: &[],
+        profiles: BOTH,
+        said: Said::Clean(
+            Numbers {
+                xid: 9,
+                views: 9,
+                objects: 34,
+                records: 54,
+                used: 77,
+                free: 179,
+                ..SMALL_NUMBERS
+            },
+            &[],
+        ),
+    },
 ];
 
 #[test]

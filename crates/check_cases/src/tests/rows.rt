@@ -11,8 +11,28 @@ use std::process::Abort;
 use std::test::Fail;
 use tree_rules::{Note, Profile};
 
-// The numbers of a report: its transaction, its volumes, its views, its objects, its records, and its used and its free blocks.
-pub type Numbers = [u64; 7];
+// The numbers of a report.
+#[derive(Clone, Copy, PartialEq, Eq, Debug)]
+pub struct Numbers {
+    pub xid: u64,
+    pub volumes: u64,
+    pub views: u64,
+    pub objects: u64,
+    pub records: u64,
+    pub used: u64,
+    pub free: u64,
+}
+
+// Those of the small container.
+pub const SMALL_NUMBERS: Numbers = Numbers {
+    xid: 1,
+    volumes: 1,
+    views: 1,
+    objects: 14,
+    records: 4,
+    used: 57,
+    free: 199,
+};
 
 // What is wrong with a container, with the numbers that tell of it; a volume is that of slot 0, and a view that of transaction 1.
 #[derive(Clone, Copy, PartialEq, Eq, Debug)]
@@ -57,14 +77,15 @@ pub enum Said {
     Feature(Feature, u64),
 }
 
-// A name, what an image is made of, its changes, the profiles, and what is said of it.
-pub type Row = (
-    &'static str,
-    Base,
-    &'static [Change],
-    &'static [Profile],
-    Said,
-);
+// A case: what an image is made of, its changes, the profiles under which it is checked, and what is said of it.
+#[derive(Clone, Copy, Debug)]
+pub struct Row {
+    pub name: &'static str,
+    pub base: Base,
+    pub changes: &'static [Change],
+    pub profiles: &'static [Profile],
+    pub said: Said,
+}
 
 pub const PLAIN: &[Profile] = &[Profile::Plain];
 
@@ -79,16 +100,16 @@ pub(super) fn told(alloc: Global, image: Vec<u8>, profile: Profile) -> Result<Re
 }
 
 // The numbers of a report.
-pub(super) fn numbers(report: &Report) -> Numbers {
-    [
-        report.xid(),
-        u64::from(report.volumes()),
-        report.views(),
-        report.objects(),
-        report.records(),
-        report.used(),
-        report.free(),
-    ]
+pub(super) fn numbers_of(report: &Report) -> Numbers {
+    Numbers {
+        xid: report.xid,
+        volumes: u64::from(report.volumes),
+        views: report.views,
+        objects: report.objects(),
+        records: report.records,
+        used: report.used(),
+        free: report.free,
+    }
 }
 
 // The fault that is meant.
@@ -169,7 +190,7 @@ fn is_as_said(answer: &Result<Report, Stop<Fault>>, said: Said) -> bool {
     match answer {
         Ok(report) => match said {
             Said::Clean(want, notes) => {
-                numbers(report) == want && are_notes(report.notes(), notes)
+                numbers_of(report) == want && are_notes(&report.notes, notes)
             }
             _ => false,
         },
@@ -204,9 +225,9 @@ pub(super) fn assert_row(
 
 // Whether each image of a table is as said.
 pub(super) fn assert_rows(rt: &impl Abort, alloc: Global, rows: &[Row]) -> Result<(), Fail> {
-    for (name, base, changes, profiles, said) in rows.iter() {
-        let image = image(alloc, base, changes)?;
-        assert_row(rt, alloc, name, &image, profiles, *said)?;
+    for row in rows.iter() {
+        let image = image(alloc, &row.base, row.changes)?;
+        assert_row(rt, alloc, row.name, &image, row.profiles, row.said)?;
     }
     Ok(())
 }

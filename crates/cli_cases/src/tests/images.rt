@@ -61,6 +61,23 @@ pub const SECOND_FLAGS: usize = BLOCK - INFO_LEN - 2 * (SNAPSHOT_NAME + 3) + SNA
 // The oid of the root of the file-system tree of a made volume.
 const ROOT_OID: u64 = 1028;
 
+// A file of this kind, whose parent is the directory in which it has its entry.
+#[derive(Clone, Copy, Debug)]
+pub struct Entry {
+    pub directory: u64,
+    pub file: u64,
+    pub kind: u16,
+    pub name: &'static str,
+}
+
+// A further name of a file, in a directory.
+#[derive(Clone, Copy, Debug)]
+pub struct Name {
+    pub directory: u64,
+    pub file: u64,
+    pub name: &'static str,
+}
+
 // What a case is run on.
 #[derive(Clone, Copy, Debug)]
 pub enum Image {
@@ -111,10 +128,10 @@ pub enum Image {
     Link,
     /// The record of its target doesn't say where the target's bytes are.
     LinkUnsaid,
-    /// A container whose volume has these files, each as its id, its parent, its kind and its name.
-    Files(&'static [(u64, u64, u16, &'static str)]),
-    /// A container whose volume has these files, and these further entries, each as its directory, its file and its name.
-    Named(&'static [(u64, u64, u16, &'static str)], &'static [(u64, u64, &'static str)]),
+    /// A container whose volume has these files.
+    Files(&'static [Entry]),
+    /// A container whose volume has these files, and these further names.
+    Named(&'static [Entry], &'static [Name]),
     /// The small container, and the records of its volume's files stand in the opposite order.
     Backwards,
     /// The small container, whose volume has one more inode (16), with a value of 8 bytes.
@@ -153,30 +170,26 @@ fn two(alloc: Global) -> Result<Vec<u8>, Fail> {
     made(alloc, &plan)
 }
 
-// The files of a volume, each as its id, its parent, its kind and its name.
-fn file_tree(
-    alloc: Global,
-    files: &[(u64, u64, u16, &str)],
-    names: &[(u64, u64, &str)],
-) -> Result<FileTree, AllocError> {
+// The files of a volume, and further names of them.
+fn file_tree(alloc: Global, files: &[Entry], names: &[Name]) -> Result<FileTree, AllocError> {
     let mut tree = FileTree::new(alloc, Names::Folded)?;
-    for (id, parent, kind, name) in files {
-        let mut plan = InodePlan::file(*id, *parent);
-        if *kind == 4 {
-            plan = InodePlan::directory(*id, *parent);
+    for file in files {
+        let mut plan = InodePlan::file(file.file, file.directory);
+        if file.kind == 4 {
+            plan = InodePlan::directory(file.file, file.directory);
         } else {
-            plan.mode = kind.saturating_mul(0x1000);
+            plan.mode = file.kind.saturating_mul(0x1000);
         }
-        tree.add(alloc, plan, name)?;
+        tree.add(alloc, plan, file.name)?;
     }
-    for (directory, file, name) in names {
+    for name in names {
         let plan = EntryPlan {
-            directory: *directory,
-            file: *file,
+            directory: name.directory,
+            file: name.file,
             kind: 4,
             sibling: None,
         };
-        tree.name(alloc, &plan, name)?;
+        tree.name(alloc, &plan, name.name)?;
     }
     Ok(tree)
 }

@@ -3,9 +3,9 @@ ghost use Rattle.view_rules.specs.Counts as rules;
 ghost use Rattle.rule_faults.specs.Faults as spec;
 
 use super::{Asked, id_at};
-use fs_record::TreeFault;
 use rule_breaks::links::{other_children, other_links};
 use rule_index::Index;
+use view_rules::TreeFault;
 
 // A directory with another number of children.
 #[tactic(auto, using(crate::proofs::Shown::children, crate::proofs::Shown::none_clear))]

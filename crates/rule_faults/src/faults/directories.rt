@@ -4,9 +4,9 @@ ghost use Rattle.view_rules.specs.Directories as rules;
 ghost use Rattle.rule_faults.specs.Faults as spec;
 
 use super::{Asked, id_at};
-use fs_record::TreeFault;
 use rule_breaks::directories;
 use rule_index::Index;
+use view_rules::TreeFault;
 
 // A directory that hasn't exactly one entry, in the directory of its parent.
 #[tactic(auto, using(crate::proofs::Shown::misnamed, crate::proofs::Shown::none_clear))]

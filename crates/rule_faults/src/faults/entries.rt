@@ -5,10 +5,10 @@ ghost use Rattle.rule_faults.specs.Faults as spec;
 
 use super::{Asked, named_at};
 use blk_source::NoMemory;
-use fs_record::TreeFault;
 use rule_breaks::entries;
 use rule_index::Index;
 use std::alloc::Global;
+use view_rules::TreeFault;
 
 // An entry in what is no directory.
 #[tactic(auto, using(crate::proofs::Shown::no_parent, crate::proofs::Shown::none_clear))]

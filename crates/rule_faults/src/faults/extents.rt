@@ -5,11 +5,11 @@ ghost use Rattle.rule_faults.specs.Faults as spec;
 
 use super::{Asked, id_at};
 use blk_source::NoMemory;
-use fs_record::TreeFault;
 use rule_breaks::extents::{misplaced, uncovered};
 use rule_breaks::order::disordered;
 use std::alloc::Global;
 use view_facts::Facts;
+use view_rules::TreeFault;
 
 // A stream whose extents aren't in order.
 #[tactic(auto, using(crate::proofs::Shown::order))]

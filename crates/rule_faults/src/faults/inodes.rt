@@ -3,9 +3,9 @@ ghost use Rattle.view_rules.specs.Inodes as rules;
 ghost use Rattle.rule_faults.specs.Faults as spec;
 
 use super::{Asked, id_at};
-use fs_record::TreeFault;
 use rule_breaks::inodes;
 use rule_index::Index;
+use view_rules::TreeFault;
 
 /// A symbolic link without its target.
 #[tactic(auto, using(crate::proofs::Shown::target, crate::proofs::Shown::none_clear))]

@@ -5,11 +5,11 @@ ghost use Rattle.rule_faults.specs.Faults as spec;
 
 use super::{Asked, named_at};
 use blk_source::NoMemory;
-use fs_record::TreeFault;
 use rule_breaks::names::other_ascii_hash;
 use rule_breaks::repeats::{repeated_attribute, repeated_entry};
 use std::alloc::Global;
 use view_facts::Facts;
+use view_rules::TreeFault;
 
 // A name that is twice in a directory. `hashed` tells whether the hashes of ASCII names are known to be right.
 #[tactic(auto, using(crate::proofs::Shown::entry_twice, crate::proofs::Shown::none_clear))]

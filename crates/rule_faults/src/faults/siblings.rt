@@ -1,16 +1,16 @@
 // Faults of siblings: entries, links and maps that lack their fellows.
 ghost use Rattle.std.specs.Prelude.{◌≡◌, option_map, IfOk};
-ghost use Rattle.fs_record.specs.declared.fault.TreeFault.TheVariants.{SiblingLost};
 ghost use Rattle.view_rules.specs.Siblings as rules;
+ghost use Rattle.view_rules.specs.declared.fault.TreeFault.TheVariants.{SiblingLost};
 ghost use Rattle.rule_faults.specs.Faults as spec;
 
 use super::{Asked, id_at};
 use blk_source::NoMemory;
-use fs_record::TreeFault;
 use rule_breaks::{fellows, names};
 use rule_index::Index;
 use std::alloc::Global;
 use view_facts::{EntryFact, Facts};
+use view_rules::TreeFault;
 
 // The fault of an entry of a sibling that lacks its fellows; none of an entry without a sibling's id.
 fn lost_twin(asked: &Asked<'_>, e: &EntryFact) -> Option<TreeFault>

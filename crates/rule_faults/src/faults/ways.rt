@@ -5,10 +5,10 @@ ghost use Rattle.rule_faults.specs.Faults as spec;
 
 use super::{Asked, id_at};
 use blk_source::NoMemory;
-use fs_record::TreeFault;
+use parent_chain::first_unreached;
 use std::alloc::Global;
-use tree_reach::first_unreached;
 use view_facts::Facts;
+use view_rules::TreeFault;
 
 /// A directory from which parents never lead to an id below 16, where one is there.
 #[tactic(auto, using(crate::proofs::Shown::way))]

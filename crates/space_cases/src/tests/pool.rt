@@ -1,5 +1,6 @@
 // The pool and the queues of made containers.
 
+use apfs_layout::space_manager::{MAIN_QUEUE_TREE, POOL_BITMAP_SIZE};
 use blk_source::MemSource;
 use img_make::{Plan, Sample, edit, make, sample};
 use nx_ring::newest;
@@ -12,12 +13,7 @@ use std::test::Fail;
 // The space manager of the small container, and where its indexes of the pool's bitmap begin.
 const MANAGER: usize = 9;
 
-const INDEXES: usize = 0x9d8;
-
-// The number of the pool's bitmap blocks, and the root of the main queue, in the manager.
-const BITMAP_BLOCKS: usize = 160;
-
-const MAIN_ROOT: usize = 248;
+const INDEXES: usize = 2520;
 
 // An edit of the manager: a place and its new bytes.
 type Edit<'a> = (usize, &'a [u8]);
@@ -83,10 +79,10 @@ fn what_is_wrong_with_the_bitmap(rt: HostRuntime) -> Result<(), Fail> {
     let cases: [(&[Edit<'_>], PoolFault); 3] = [
         (&[(INDEXES, &[16])], PoolFault::Index { at: 0 }),
         (
-            &[(BITMAP_BLOCKS, &[2]), (INDEXES, &[1, 0, 1, 0])],
+            &[(POOL_BITMAP_SIZE, &[2]), (INDEXES, &[1, 0, 1, 0])],
             PoolFault::Index { at: 1 },
         ),
-        (&[(BITMAP_BLOCKS, &[0])], PoolFault::Count),
+        (&[(POOL_BITMAP_SIZE, &[0])], PoolFault::Count),
     ];
     for (edits, fault) in cases {
         assert_eq!(rt;
@@ -125,13 +121,13 @@ fn a_queue_without_a_tree(rt: HostRuntime) -> Result<(), Fail> {
     let plan = sample(alloc, Sample::S)?;
     let none = entries(
         alloc,
-        image(alloc, &plan, &[(MAIN_ROOT, &[0, 0])])?,
+        image(alloc, &plan, &[(MAIN_QUEUE_TREE, &[0, 0])])?,
         Queue::Main,
     );
     assert!(rt; none.is_ok_and(|entries| entries.is_empty()));
     let unnamed = entries(
         alloc,
-        image(alloc, &plan, &[(MAIN_ROOT, &[0x88, 0x13])])?,
+        image(alloc, &plan, &[(MAIN_QUEUE_TREE, &[0x88, 0x13])])?,
         Queue::Main,
     );
     assert_eq!(rt;

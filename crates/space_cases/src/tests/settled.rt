@@ -3,6 +3,8 @@
 ghost use Rattle.std.specs.Prelude.{IfOk};
 ghost use Rattle.obj_base.specs.Site.{IsSiteFor};
 
+use apfs_layout::chunk_info::{CHUNK_FREE, CIB_ENTRIES};
+use apfs_layout::space_manager::MAIN_FREE;
 use blk_source::{BlockSource, MemSource};
 use img_make::{Sample, edit, make, make_with, sample, write};
 use nx_ring::newest;
@@ -88,8 +90,15 @@ fn settled(
     Ok(settle(alloc, &mut src, &reached, &mut ledger))
 }
 
-// A case: the container's ranges, the pool's, the pool's bits, edits, and what they come to.
-type Case = (Ranges, Ranges, u8, &'static [Edit], Result<u64, ReachFault>);
+// A case: the ranges of the container and of the pool, the first byte of the pool's bits, edits, and what they come to.
+#[derive(Clone, Copy, Debug)]
+struct Case {
+    owners: Ranges,
+    pool_owners: Ranges,
+    pool_bits: u8,
+    edits: &'static [Edit],
+    want: Result<u64, ReachFault>,
+}
 
 // The ranges that settle with the container as it is made.
 const USED: Ranges = &[(0, 57)];
@@ -97,110 +106,125 @@ const USED: Ranges = &[(0, 57)];
 const POOL_USED: Ranges = &[(43, 2)];
 
 const CASES: &[Case] = &[
-    (USED, POOL_USED, 0x03, &[], Ok(57)),
-    (&[(43, 14), (0, 43)], &[(44, 1), (43, 1)], 0x03, &[], Ok(57)),
+    Case {
+        owners: USED,
+        pool_owners: POOL_USED,
+        pool_bits: 0x03,
+        edits: &[],
+        want: Ok(57),
+    },
+    Case {
+        owners: &[(43, 14), (0, 43)],
+        pool_owners: &[(44, 1), (43, 1)],
+        pool_bits: 0x03,
+        edits: &[],
+        want: Ok(57),
+    },
     // A bit past the container's 256 blocks, in the last byte of which it has some and after it.
-    (
-        USED,
-        POOL_USED,
-        0x03,
-        &[(BITMAP, 32, &[0x01]), (BITMAP, 4095, &[0x80])],
-        Ok(57),
-    ),
+    Case {
+        owners: USED,
+        pool_owners: POOL_USED,
+        pool_bits: 0x03,
+        edits: &[(BITMAP, 32, &[0x01]), (BITMAP, 4095, &[0x80])],
+        want: Ok(57),
+    },
     // Block 60 is marked, and the free counts of its chunk and of the device say so.
-    (
-        &[(0, 57), (60, 1)],
-        POOL_USED,
-        0x03,
-        &[
+    Case {
+        owners: &[(0, 57), (60, 1)],
+        pool_owners: POOL_USED,
+        pool_bits: 0x03,
+        edits: &[
             (BITMAP, 7, &[0x11]),
-            (CIB, 60, &[198]),
-            (MANAGER, 72, &[198]),
+            (CIB, CIB_ENTRIES + CHUNK_FREE, &[198]),
+            (MANAGER, MAIN_FREE, &[198]),
         ],
-        Ok(58),
-    ),
-    (
-        USED,
-        POOL_USED,
-        0x03,
-        &[(CIB, 60, &[198]), (MANAGER, 72, &[198])],
-        Err(ReachFault::FreeCount { chunk: 0 }),
-    ),
-    (
-        &[(0, 57), (56, 1)],
-        POOL_USED,
-        0x03,
-        &[],
-        Err(ReachFault::OwnedTwice { block: 56 }),
-    ),
-    (
-        &[(0, 57), (255, 2)],
-        POOL_USED,
-        0x03,
-        &[],
-        Err(ReachFault::Outside { block: 255 }),
-    ),
-    (
-        &[(0, 56)],
-        POOL_USED,
-        0x03,
-        &[],
-        Err(ReachFault::Leaked { block: 56 }),
-    ),
-    (
-        &[(0, 57), (200, 1)],
-        POOL_USED,
-        0x03,
-        &[],
-        Err(ReachFault::Missing { block: 200 }),
-    ),
-    (
-        &[(0, 57), (255, 1)],
-        POOL_USED,
-        0x03,
-        &[],
-        Err(ReachFault::Missing { block: 255 }),
-    ),
-    (
-        USED,
-        POOL_USED,
-        0x43,
-        &[],
-        Err(ReachFault::PoolLeaked { block: 49 }),
-    ),
-    (
-        USED,
-        &[(43, 3)],
-        0x03,
-        &[],
-        Err(ReachFault::PoolMissing { block: 45 }),
-    ),
-    (
-        USED,
-        &[(43, 2), (44, 1)],
-        0x03,
-        &[],
-        Err(ReachFault::OwnedTwice { block: 44 }),
-    ),
+        want: Ok(58),
+    },
+    Case {
+        owners: USED,
+        pool_owners: POOL_USED,
+        pool_bits: 0x03,
+        edits: &[
+            (CIB, CIB_ENTRIES + CHUNK_FREE, &[198]),
+            (MANAGER, MAIN_FREE, &[198]),
+        ],
+        want: Err(ReachFault::FreeCount { chunk: 0 }),
+    },
+    Case {
+        owners: &[(0, 57), (56, 1)],
+        pool_owners: POOL_USED,
+        pool_bits: 0x03,
+        edits: &[],
+        want: Err(ReachFault::OwnedTwice { block: 56 }),
+    },
+    Case {
+        owners: &[(0, 57), (255, 2)],
+        pool_owners: POOL_USED,
+        pool_bits: 0x03,
+        edits: &[],
+        want: Err(ReachFault::Outside { block: 255 }),
+    },
+    Case {
+        owners: &[(0, 56)],
+        pool_owners: POOL_USED,
+        pool_bits: 0x03,
+        edits: &[],
+        want: Err(ReachFault::Leaked { block: 56 }),
+    },
+    Case {
+        owners: &[(0, 57), (200, 1)],
+        pool_owners: POOL_USED,
+        pool_bits: 0x03,
+        edits: &[],
+        want: Err(ReachFault::Missing { block: 200 }),
+    },
+    Case {
+        owners: &[(0, 57), (255, 1)],
+        pool_owners: POOL_USED,
+        pool_bits: 0x03,
+        edits: &[],
+        want: Err(ReachFault::Missing { block: 255 }),
+    },
+    Case {
+        owners: USED,
+        pool_owners: POOL_USED,
+        pool_bits: 0x43,
+        edits: &[],
+        want: Err(ReachFault::PoolLeaked { block: 49 }),
+    },
+    Case {
+        owners: USED,
+        pool_owners: &[(43, 3)],
+        pool_bits: 0x03,
+        edits: &[],
+        want: Err(ReachFault::PoolMissing { block: 45 }),
+    },
+    Case {
+        owners: USED,
+        pool_owners: &[(43, 2), (44, 1)],
+        pool_bits: 0x03,
+        edits: &[],
+        want: Err(ReachFault::OwnedTwice { block: 44 }),
+    },
 ];
 
 #[test]
 fn blocks_settle(rt: HostRuntime) -> Result<(), Fail> {
     let alloc = rt.alloc();
-    for (owners, pool_owners, pool, edits, want) in CASES {
-        let want = match want {
-            Ok(number) => Ok(*number),
-            Err(fault) => Err(Stop::Found(*fault)),
+    for case in CASES {
+        let want = match case.want {
+            Ok(number) => Ok(number),
+            Err(fault) => Err(Stop::Found(fault)),
         };
         let found = settled(
             alloc,
-            image(alloc, 4096, edits)?,
+            image(alloc, 4096, case.edits)?,
             Vec::new(alloc),
-            owners,
-            pool_owners,
-            *pool,
+            case.owners,
+            case.pool_owners,
+            case.pool_bits,
         )?;
-        assert_eq!(rt; found, want, "{owners:?} {pool_owners:?} {pool}");
+        assert_eq!(rt; found, want, "{case:?}");
     }
     Ok(())
 }

@@ -2,6 +2,15 @@
 ghost use Rattle.std.specs.Prelude.{◌≡◌, ◌≤◌, IfOk, length};
 ghost use Rattle.obj_base.specs.Site.{IsSiteFor};
 
+use apfs_layout::chunk_info::{
+    CAB_ADDRESSES, CAB_COUNT, CAB_INDEX, CHUNK_ADDRESS, CHUNK_BITMAP, CHUNK_BLOCKS, CHUNK_FREE,
+    CIB_COUNT, CIB_ENTRIES, CIB_INDEX,
+};
+use apfs_layout::container::SPACE_OID;
+use apfs_layout::object::{OID, TYPE, XID};
+use apfs_layout::space_manager::{
+    BLOCKS_PER_CHUNK, MAIN_CABS, MAIN_CHUNKS, MAIN_FREE, SECOND_BLOCKS, SECOND_QUEUE_TREE,
+};
 use blk_source::{BlockSource, MemSource};
 use img_make::{Plan, Sample, edit, make, make_with, sample, write};
 use nx_ring::newest;
@@ -29,13 +38,13 @@ const ADDRESS: usize = 2528;
 // The container with a chunk-info address block in the spare block: the manager's count and address, and the block's
 // oid, transaction, kind, count and address.
 const WITH_CAB: &[Edit] = &[
-    (MANAGER, 68, &[1]),
+    (MANAGER, MAIN_CABS, &[1]),
     (MANAGER, ADDRESS, &[45]),
-    (SPARE, 8, &[45]),
-    (SPARE, 16, &[1]),
-    (SPARE, 24, &[6, 0, 0, 0x40]),
-    (SPARE, 36, &[1]),
-    (SPARE, 40, &[43]),
+    (SPARE, OID, &[45]),
+    (SPARE, XID, &[1]),
+    (SPARE, TYPE, &[6, 0, 0, 0x40]),
+    (SPARE, CAB_COUNT, &[1]),
+    (SPARE, CAB_ADDRESSES, &[43]),
 ];
 
 fn put(image: &mut [u8], edits: &[Edit], sealed: bool) -> Result<(), Fail> {
@@ -128,7 +137,10 @@ fn assert_small(rt: &impl Abort, alloc: Global, image: Vec<u8>, cabs: &[u64]) {
         bitmap: 44,
     };
     assert_eq!(rt; space.chunks(), [chunk].as_slice());
-    assert_eq!(rt; &space.manager()[24..28], [5, 0, 0, 0x80].as_slice());
+    assert_eq!(rt;
+        &space.manager()[TYPE..TYPE + 4],
+        [5, 0, 0, 0x80].as_slice()
+    );
 }
 
 #[test]
@@ -137,7 +149,7 @@ fn the_small_container(rt: HostRuntime) -> Result<(), Fail> {
     assert_small(&rt, alloc, edited(alloc, &[], &[], true)?, &[]);
     assert_small(&rt, alloc, edited(alloc, WITH_CAB, &[], true)?, &[45]);
     // Of a chunk's number of blocks the low 20 bits count.
-    let bits: &[Edit] = &[(CIB, 59, &[0xf0])];
+    let bits: &[Edit] = &[(CIB, CIB_ENTRIES + CHUNK_BLOCKS + 3, &[0xf0])];
     assert_small(&rt, alloc, edited(alloc, bits, &[], true)?, &[]);
     assert_small(&rt, alloc, large(alloc)?, &[]);
     Ok(())
@@ -152,7 +164,7 @@ fn marks(rt: HostRuntime) -> Result<(), Fail> {
         assert_eq!(rt; answer, Some(mark), "{block}");
     }
     assert_eq!(rt; ones(alloc, edited(alloc, &[], &[], true)?, 0), Some(57));
-    let none: &[Edit] = &[(CIB, 64, &[0])];
+    let none: &[Edit] = &[(CIB, CIB_ENTRIES + CHUNK_BITMAP, &[0])];
     assert_eq!(rt; ones(alloc, edited(alloc, none, &[], true)?, 0), Some(0));
     let image = edited(alloc, none, &[], true)?;
     assert_eq!(rt; marked(alloc, image, Vec::new(alloc), 0), Some(false));
@@ -165,13 +177,21 @@ fn near_misses(rt: HostRuntime) -> Result<(), Fail> {
     let alloc = rt.alloc();
     let counted = edited(
         alloc,
-        &[(MANAGER, 72, &[198]), (CIB, 60, &[198])],
+        &[
+            (MANAGER, MAIN_FREE, &[198]),
+            (CIB, CIB_ENTRIES + CHUNK_FREE, &[198]),
+        ],
         &[],
         true,
     )?;
     let mut src = MemSource::new(counted, Vec::new(alloc));
     assert!(rt; load(alloc, &mut src).is_ok_and(|space| space.free() == 198));
-    let moved = edited(alloc, &[(CIB, 64, &[50])], &[], true)?;
+    let moved = edited(
+        alloc,
+        &[(CIB, CIB_ENTRIES + CHUNK_BITMAP, &[50])],
+        &[],
+        true,
+    )?;
     assert_eq!(rt; marked(alloc, moved, Vec::new(alloc), 56), Some(false));
     Ok(())
 }
@@ -189,31 +209,43 @@ fn what_stops_it(rt: HostRuntime) -> Result<(), Fail> {
     let alloc = rt.alloc();
     let unnamed = |within: Within, oid: u64| SpaceFault::Unnamed { within, oid };
     let cases: [(Edit, SpaceFault); 13] = [
-        ((NEWEST, 152, &[77]), unnamed(Within::Ephemeral, 1101)),
+        ((NEWEST, SPACE_OID, &[77]), unnamed(Within::Ephemeral, 1101)),
         ((MANAGER, ADDRESS, &[0]), unnamed(Within::Physical, 0)),
         (
-            (NEWEST, 152, &[1]),
+            (NEWEST, SPACE_OID, &[1]),
             SpaceFault::Unsound {
                 block: 10,
                 why: HeadFault::BadKind,
             },
         ),
         (
-            (CIB, 24, &[8]),
+            (CIB, TYPE, &[8]),
             SpaceFault::Unsound {
                 block: 43,
                 why: HeadFault::BadKind,
             },
         ),
-        ((MANAGER, 36, &[0xf8, 0x7f]), SpaceFault::Geometry),
-        ((MANAGER, 56, &[2]), SpaceFault::Geometry),
-        ((CIB, 32, &[1]), SpaceFault::Cib { index: 0 }),
-        ((CIB, 36, &[2]), SpaceFault::Cib { index: 0 }),
-        ((CIB, 48, &[1]), SpaceFault::Index { chunk: 0 }),
-        ((CIB, 56, &[255, 0]), SpaceFault::Index { chunk: 0 }),
-        ((CIB, 64, &[200]), SpaceFault::Place { block: 200 }),
+        (
+            (MANAGER, BLOCKS_PER_CHUNK, &[0xf8, 0x7f]),
+            SpaceFault::Geometry,
+        ),
+        ((MANAGER, MAIN_CHUNKS, &[2]), SpaceFault::Geometry),
+        ((CIB, CIB_INDEX, &[1]), SpaceFault::Cib { index: 0 }),
+        ((CIB, CIB_COUNT, &[2]), SpaceFault::Cib { index: 0 }),
+        (
+            (CIB, CIB_ENTRIES + CHUNK_ADDRESS, &[1]),
+            SpaceFault::Index { chunk: 0 },
+        ),
+        (
+            (CIB, CIB_ENTRIES + CHUNK_BLOCKS, &[255, 0]),
+            SpaceFault::Index { chunk: 0 },
+        ),
+        (
+            (CIB, CIB_ENTRIES + CHUNK_BITMAP, &[200]),
+            SpaceFault::Place { block: 200 },
+        ),
         ((MANAGER, ADDRESS, &[51]), SpaceFault::Place { block: 51 }),
-        ((MANAGER, 72, &[198]), SpaceFault::FreeTotal),
+        ((MANAGER, MAIN_FREE, &[198]), SpaceFault::FreeTotal),
     ];
     for (change, fault) in cases {
         let image = edited(alloc, &[change], &[], true)?;
@@ -227,7 +259,7 @@ fn what_stops_it(rt: HostRuntime) -> Result<(), Fail> {
         torn,
         Stop::Found(SpaceFault::Unsound { block: 43, why }),
     );
-    let numbered = edited(alloc, WITH_CAB, &[(SPARE, 32, &[1])], true)?;
+    let numbered = edited(alloc, WITH_CAB, &[(SPARE, CAB_INDEX, &[1])], true)?;
     assert_stop(
         &rt,
         alloc,
@@ -240,7 +272,7 @@ fn what_stops_it(rt: HostRuntime) -> Result<(), Fail> {
 #[test]
 fn a_second_device_is_refused(rt: HostRuntime) -> Result<(), Fail> {
     let alloc = rt.alloc();
-    for place in [96, 288] {
+    for place in [SECOND_BLOCKS, SECOND_QUEUE_TREE] {
         let image = edited(alloc, &[(MANAGER, place, &[1])], &[], true)?;
         let fusion = Stop::Unsupported {
             feature: Feature::Fusion,

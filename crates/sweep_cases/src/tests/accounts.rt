@@ -1,13 +1,15 @@
 // The accounts of made containers: how many objects are named and how many blocks are owned, or what is wrong.
-ghost use Rattle.std.specs.Prelude.{◌≡◌};
+ghost use Rattle.std.specs.Prelude.{◌≡◌, [], IfOk};
 ghost use Rattle.apfs_model.specs.Lists.{In};
 ghost use Rattle.obj_base.specs.Site.{IsSiteFor};
 ghost use Rattle.nx_ring.specs.Checkpoint.{site_of};
+ghost use Rattle.nx_ring.specs.Features.{container_features};
 ghost use Rattle.vol_view.specs.Heads.{IsHead};
 ghost use Rattle.vol_view.specs.declared.head.VolHead.{VolHead};
 
 mod blocks;
 mod features;
+mod ledger;
 mod objects;
 mod space;
 
@@ -24,11 +26,37 @@ use std::process::Abort;
 use std::test::Fail;
 use vol_view::{VolHead, Volume, heads, load};
 
-// The numbers of named objects and of owned blocks, or why there are none.
-type Told = Result<(u64, u64), Stop<ReachFault>>;
+// How many objects are named, and how many blocks are owned.
+#[derive(Clone, Copy, PartialEq, Eq, Debug)]
+struct Numbers {
+    objects: u64,
+    owned: u64,
+}
+
+// Those of the small container.
+const SMALL_NUMBERS: Numbers = Numbers {
+    objects: 14,
+    owned: 57,
+};
+
+// What an account comes to.
+type Told = Result<Numbers, Stop<ReachFault>>;
 
 // A case: what an image is made of, its changes, and what its account comes to.
-type Case = (Base, &'static [Change], Result<(u64, u64), ReachFault>);
+#[derive(Clone, Copy, Debug)]
+struct Case {
+    base: Base,
+    changes: &'static [Change],
+    want: Result<Numbers, ReachFault>,
+}
+
+// An account that was made, and how often the source was read before it and after it.
+#[derive(Drop)]
+struct Account {
+    told: Told,
+    before: u64,
+    after: u64,
+}
 
 // The volumes of a container, in the order of its heads.
 fn load_all<S: BlockSource>(
@@ -51,39 +79,69 @@ fn load_all<S: BlockSource>(
     Ok(volumes)
 }
 
-// The account of an image whose reads of some numbers fail, and the numbers of reads before it and after it.
-fn told(alloc: Global, image: Vec<u8>, fails: Vec<u64>) -> Result<(Told, u64, u64), Fail> {
-    let mut src = MemSource::new(image, fails);
-    let Ok(cp) = newest(alloc, &mut src) else {
+// The newest checkpoint of a container, with its volumes.
+#[derive(Drop)]
+struct Opened {
+    cp: Checkpoint,
+    volumes: Vec<Volume>,
+}
+
+fn open<S: BlockSource>(alloc: Global, src: &mut S) -> Result<Opened, Fail>
+    ensures site { IfOk result (λ at. IsSiteFor (site_of at.cp) (S.bytes_len src.new)) }
+    ensures plain { IfOk result (λ at. container_features at.cp.nx ≡ []) }
+{
+    let Ok(cp) = newest(alloc, src) else {
         return Err(Fail::from("no checkpoint"));
     };
-    let Ok(found) = heads(alloc, &mut src, &cp) else {
+    let Ok(found) = heads(alloc, src, &cp) else {
         return Err(Fail::from("no heads"));
     };
-    let volumes = load_all(alloc, &mut src, &cp, &found)?;
-    let before = src.read_count();
-    let told = match account(alloc, &mut src, &cp, &volumes) {
-        Ok(tally) => Ok((tally.objects(), tally.owned())),
+    let volumes = load_all(alloc, src, &cp, &found)?;
+    Ok(Opened { cp, volumes })
+}
+
+// The account of a container that was opened.
+fn account_of<S: BlockSource>(alloc: Global, src: &mut S, at: &Opened) -> Told
+    requires site { IsSiteFor (site_of at.now.cp) (S.bytes_len src.old) }
+    requires plain { container_features at.now.cp.nx ≡ [] }
+{
+    match account(alloc, src, &at.cp, &at.volumes) {
+        Ok(tally) => Ok(Numbers {
+            objects: tally.objects(),
+            owned: tally.owned(),
+        }),
         Err(stop) => Err(stop),
-    };
-    Ok((told, before, src.read_count()))
+    }
+}
+
+// The account of an image whose reads of some numbers fail.
+fn told(alloc: Global, image: Vec<u8>, fails: Vec<u64>) -> Result<Account, Fail> {
+    let mut src = MemSource::new(image, fails);
+    let at = open(alloc, &mut src)?;
+    let before = src.read_count();
+    let told = account_of(alloc, &mut src, &at);
+    Ok(Account {
+        told,
+        before,
+        after: src.read_count(),
+    })
 }
 
 // The account of an image.
 fn sum(alloc: Global, image: Vec<u8>) -> Result<Told, Fail> {
-    let (told, _, _) = told(alloc, image, Vec::new(alloc))?;
-    Ok(told)
+    let account = told(alloc, image, Vec::new(alloc))?;
+    Ok(account.told)
 }
 
 // Whether each image of a table comes to what is said of it.
 fn assert_cases(rt: &impl Abort, alloc: Global, cases: &[Case]) -> Result<(), Fail> {
-    for (base, changes, want) in cases.iter() {
-        let want = match want {
-            Ok(numbers) => Ok(*numbers),
-            Err(fault) => Err(Stop::Found(*fault)),
+    for case in cases.iter() {
+        let want = match case.want {
+            Ok(numbers) => Ok(numbers),
+            Err(fault) => Err(Stop::Found(fault)),
         };
-        let found = sum(alloc, image(alloc, base, changes)?)?;
-        assert_eq!(rt; found, want, "{base:?} {changes:?}");
+        let found = sum(alloc, image(alloc, &case.base, case.changes)?)?;
+        assert_eq!(rt; found, want, "{case:?}");
     }
     Ok(())
 }
@@ -106,21 +164,21 @@ fn plain(alloc: Global, which: Sample) -> Result<Vec<u8>, Fail> {
 }
 
 #[test]
-fn numbers(rt: HostRuntime) -> Result<(), Fail> {
+fn numbers_of_samples(rt: HostRuntime) -> Result<(), Fail> {
     let alloc = rt.alloc();
-    for (which, want) in [
-        (Sample::S, (14, 57)),
-        (Sample::H, (14, 58)),
-        (Sample::L, (14, 57)),
-        (Sample::P, (14, 58)),
-        (Sample::C, (14, 58)),
-        (Sample::V, (22, 65)),
-        (Sample::V2, (34, 77)),
-        (Sample::J, (15, 60)),
-        (Sample::T, (20, 64)),
+    for (which, objects, owned) in [
+        (Sample::S, 14, 57),
+        (Sample::H, 14, 58),
+        (Sample::L, 14, 57),
+        (Sample::P, 14, 58),
+        (Sample::C, 14, 58),
+        (Sample::V, 22, 65),
+        (Sample::V2, 34, 77),
+        (Sample::J, 15, 60),
+        (Sample::T, 20, 64),
     ] {
         let found = sum(alloc, plain(alloc, which)?)?;
-        assert_eq!(rt; found, Ok(want), "{which:?}");
+        assert_eq!(rt; found, Ok(Numbers { objects, owned }), "{which:?}");
     }
     Ok(())
 }
@@ -129,11 +187,11 @@ fn numbers(rt: HostRuntime) -> Result<(), Fail> {
 fn owned_and_free_are_all_blocks(rt: HostRuntime) -> Result<(), Fail> {
     let alloc = rt.alloc();
     for which in [Sample::L, Sample::P, Sample::J, Sample::T] {
-        let Ok((_, owned)) = sum(alloc, plain(alloc, which)?)? else {
+        let Ok(numbers) = sum(alloc, plain(alloc, which)?)? else {
             panic!(rt; "no account: {which:?}");
         };
         let (blocks, free) = space_of(alloc, plain(alloc, which)?)?;
-        assert_eq!(rt; owned.saturating_add(free), blocks, "{which:?}");
+        assert_eq!(rt; numbers.owned.saturating_add(free), blocks, "{which:?}");
     }
     Ok(())
 }
@@ -141,11 +199,11 @@ fn owned_and_free_are_all_blocks(rt: HostRuntime) -> Result<(), Fail> {
 #[test]
 fn owned_and_free_with_address_blocks(rt: HostRuntime) -> Result<(), Fail> {
     let alloc = rt.alloc();
-    let Ok((_, owned)) = sum(alloc, grouped(alloc, &[])?)? else {
+    let Ok(numbers) = sum(alloc, grouped(alloc, &[])?)? else {
         panic!(rt; "no account");
     };
     let (blocks, free) = space_of(alloc, grouped(alloc, &[])?)?;
-    assert_eq!(rt; owned.saturating_add(free), blocks);
+    assert_eq!(rt; numbers.owned.saturating_add(free), blocks);
     Ok(())
 }
 
@@ -153,9 +211,10 @@ fn owned_and_free_with_address_blocks(rt: HostRuntime) -> Result<(), Fail> {
 fn reads(rt: HostRuntime) -> Result<(), Fail> {
     let alloc = rt.alloc();
     for (which, most) in [(Sample::V, 24), (Sample::V2, 36)] {
-        let (found, before, after) = told(alloc, plain(alloc, which)?, Vec::new(alloc))?;
-        assert!(rt; found.is_ok(), "{which:?}");
-        assert!(rt; after.saturating_sub(before) <= most, "{which:?} {after}");
+        let account = told(alloc, plain(alloc, which)?, Vec::new(alloc))?;
+        assert!(rt; account.told.is_ok(), "{which:?}");
+        let reads = account.after.saturating_sub(account.before);
+        assert!(rt; reads <= most, "{which:?} {reads}");
     }
     Ok(())
 }
@@ -163,12 +222,12 @@ fn reads(rt: HostRuntime) -> Result<(), Fail> {
 #[test]
 fn each_read_that_fails_is_told(rt: HostRuntime) -> Result<(), Fail> {
     let alloc = rt.alloc();
-    let (_, before, after) = told(alloc, plain(alloc, Sample::S)?, Vec::new(alloc))?;
-    assert!(rt; before < after);
-    for number in before..after {
+    let whole = told(alloc, plain(alloc, Sample::S)?, Vec::new(alloc))?;
+    assert!(rt; whole.before < whole.after);
+    for number in whole.before..whole.after {
         let fails = vec![in alloc; number + 1]?;
-        let (found, _, _) = told(alloc, plain(alloc, Sample::S)?, fails)?;
-        assert_eq!(rt; found, Err(Stop::ReadFault), "{number}");
+        let stopped = told(alloc, plain(alloc, Sample::S)?, fails)?;
+        assert_eq!(rt; stopped.told, Err(Stop::ReadFault), "{number}");
     }
     Ok(())
 }

@@ -2,7 +2,7 @@
 use crate::tests::opened::open;
 use blk_source::MemSource;
 use fs_name::Names;
-use fs_record::{RecFault, TreeFault};
+use fs_record::RecFault;
 use img_make::records::{InodePlan, Item, LINK_MODE, attribute};
 use img_make::{FileTree, Plan, Sample, make, sample};
 use obj_base::Stop;
@@ -10,6 +10,7 @@ use std::alloc::{AllocError, Global};
 use std::process::Abort;
 use std::test::Fail;
 use view_facts::{ViewFacts, view_facts};
+use view_rules::TreeFault;
 
 const FILE: u64 = 16;
 
@@ -52,18 +53,29 @@ fn with_items(alloc: Global, items: Vec<Item>) -> Result<Plan, Fail> {
     Ok(plan)
 }
 
-// How many records, inodes, entries, attributes, sibling links, sibling maps and extents there are.
-fn counts(found: &ViewFacts) -> [u64; 7] {
+// How many records there are, and how many facts of each kind.
+#[derive(Clone, Copy, PartialEq, Eq, Debug)]
+struct Counted {
+    records: u64,
+    inodes: usize,
+    entries: usize,
+    attributes: usize,
+    links: usize,
+    siblings: usize,
+    extents: usize,
+}
+
+fn counted(found: &ViewFacts) -> Counted {
     let facts = &found.facts;
-    [
-        found.records,
-        facts.inodes.len() as u64,
-        facts.entries.len() as u64,
-        facts.attributes.len() as u64,
-        facts.links.len() as u64,
-        facts.siblings.len() as u64,
-        facts.extents.len() as u64,
-    ]
+    Counted {
+        records: found.records,
+        inodes: facts.inodes.len(),
+        entries: facts.entries.len(),
+        attributes: facts.attributes.len(),
+        links: facts.links.len(),
+        siblings: facts.siblings.len(),
+        extents: facts.extents.len(),
+    }
 }
 
 #[test]
@@ -72,17 +84,72 @@ fn each_kind_of_record_is_counted(rt: HostRuntime) -> Result<(), Fail> {
     // The bare volume has 4 records. A file has an inode and an entry, one with a stream also the record of its id and its
     // extents, and each of two names an entry, a link and a map.
     let cases = [
-        (Sample::S, [4, 2, 2, 0, 0, 0, 0]),
-        (Sample::H, [8, 3, 3, 0, 0, 0, 1]),
-        (Sample::L, [11, 3, 4, 0, 2, 2, 0]),
-        (Sample::P, [9, 3, 3, 0, 0, 0, 2]),
-        (Sample::V, [6, 3, 3, 0, 0, 0, 0]),
+        (
+            Sample::S,
+            Counted {
+                records: 4,
+                inodes: 2,
+                entries: 2,
+                attributes: 0,
+                links: 0,
+                siblings: 0,
+                extents: 0,
+            },
+        ),
+        (
+            Sample::H,
+            Counted {
+                records: 8,
+                inodes: 3,
+                entries: 3,
+                attributes: 0,
+                links: 0,
+                siblings: 0,
+                extents: 1,
+            },
+        ),
+        (
+            Sample::L,
+            Counted {
+                records: 11,
+                inodes: 3,
+                entries: 4,
+                attributes: 0,
+                links: 2,
+                siblings: 2,
+                extents: 0,
+            },
+        ),
+        (
+            Sample::P,
+            Counted {
+                records: 9,
+                inodes: 3,
+                entries: 3,
+                attributes: 0,
+                links: 0,
+                siblings: 0,
+                extents: 2,
+            },
+        ),
+        (
+            Sample::V,
+            Counted {
+                records: 6,
+                inodes: 3,
+                entries: 3,
+                attributes: 0,
+                links: 0,
+                siblings: 0,
+                extents: 0,
+            },
+        ),
     ];
     for (which, wanted) in cases {
         let Ok(found) = facts_of(alloc, &sample(alloc, which)?)? else {
             panic!(rt; "{which:?}: there are no facts");
         };
-        assert_eq!(rt; counts(&found), wanted, "{which:?}");
+        assert_eq!(rt; counted(&found), wanted, "{which:?}");
     }
     Ok(())
 }

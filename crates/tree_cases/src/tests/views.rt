@@ -7,13 +7,14 @@ use crate::tests::opened::open;
 use crate::tests::trees::{Rec, Top, image_of, image_of_two};
 use blk_source::{Bytes, MemSource};
 use ext_ref::NewRange;
-use fs_record::{IdAt, NamedAt, RecFault, TreeFault};
+use fs_record::RecFault;
 use img_make::{Sample, make, sample};
 use obj_base::Stop;
 use std::alloc::Global;
 use std::process::Abort;
 use std::test::Fail;
 use tree_rules::{Note, Profile, ViewTally, check_view};
+use view_rules::{IdAt, NamedAt, TreeFault};
 
 // The ranges that cover the blocks of extents.
 const RANGES: [NewRange; 2] = [

@@ -2,9 +2,9 @@
 use crate::tests::opened::open;
 use crate::tests::trees::{Rec, Top, image_of};
 use blk_source::MemSource;
+use parent_chain::first_unreached;
 use std::alloc::{AllocError, Global};
 use std::test::Fail;
-use tree_reach::first_unreached;
 use view_facts::view_facts;
 
 // A name, the records beside those of the root and the private directory, and the directory that is found.

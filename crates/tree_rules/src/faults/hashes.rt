@@ -7,10 +7,10 @@ ghost use Rattle.view_rules.specs.declared.profile.Profile.TheVariants.{Strict};
 use crate::Profile;
 use crate::remarks::{named_at, other_name_hash};
 use blk_source::NoMemory;
-use fs_record::TreeFault;
 use rule_faults::faults::Asked;
 use std::alloc::Global;
 use view_facts::Facts;
+use view_rules::TreeFault;
 
 /// A name that isn't ASCII whose key has another hash, under Strict.
 #[tactic(auto, using(rule_faults::proofs::Shown::name_hash, rule_faults::proofs::Shown::none_clear))]

@@ -1,10 +1,9 @@
-use Rattle.std.proofs.Common.{◌≡◌, ◌*◌, ◌+◌, ◌/◌, ◌%◌, ◌-◌, ◌≤◌, min, inl, inr, refl, sym, ap, subst, ◌∙◌, arith, length, ℕ, List, slice_range}
+use Rattle.std.proofs.Common.{◌≡◌, ◌*◌, ◌+◌, ◌-◌, ◌≤◌, min, inl, inr, refl, ap, ◌∙◌, arith, length, ℕ, List, slice_range}
 use Rattle.std.proofs.lemmas.Grind.{common_steps}
-use Rattle.apfs_model.specs.Source.{Copies}
-use Rattle.blk_cache.specs.Keeping.{IsCopy, IsCache}
+use Rattle.blk_cache.specs.Keeping.{IsCopy}
 use Rattle.blk_cache.proofs.Ranges.{range-range, range_copies}
 use Rattle.blk_cache.proofs.Keeps.{lost_grows, lost_cache, moved_cache, read_copy}
-use Rattle.blk_cache.proofs.Puts.{IsPutIn, put_kept, put_grows, put_cache}
+use Rattle.blk_cache.proofs.Puts.{put_kept, put_grows, put_cache}
 use Rattle.blk_cache.proofs.part.fill.Goals as goal
 
 long : (g : _) (c : goal.After-keep g) → length c.in_ok-bytes-in-Ok.bytes.items ≡ min c.args.store.now.size (g.S.BlockSource.bytes_len c.args.inner.now - c.args.store.now.size * c.args.block)
@@ -22,7 +21,7 @@ returns-in_ok-bytes-in-Ok-clause-found g c = λ image told.
     refl c.copy_from_slice.ensures.len
 
 copy : (g : _) (c : goal.After-keep g) → IsCopy g.S.BlockSource.bytes g.S.BlockSource.bytes_len c.args.inner.now c.args.store.now.size (c.args.block, c.in_ok-bytes-in-Ok.bytes)
-copy g c = read_copy g.S.BlockSource.bytes g.S.BlockSource.bytes_len c.args.inner.now c.args.store.now.size c.args.block c.in_ok-bytes-in-Ok.bytes g.met.S.BlockSource.whole (long g c) c.in_ok-bytes-in-Ok.ensures.found
+copy g c = read_copy g.S.BlockSource.bytes g.S.BlockSource.bytes_len c.args.inner.now c.args.store.now.size c.args.block c.in_ok-bytes-in-Ok.bytes g.met.S.BlockSource.whole (omega (arith, c.requires.inside, c.requires.some)) (long g c) c.in_ok-bytes-in-Ok.ensures.found
 
 pub returns-in_ok-bytes-in-Ok-clause-cache : goal.returns-in_ok-bytes-in-Ok-clause-cache
 returns-in_ok-bytes-in-Ok-clause-cache g c =

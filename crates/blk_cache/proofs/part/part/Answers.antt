@@ -1,5 +1,4 @@
-use Rattle.std.proofs.Common.{◌≡◌, ◌*◌, ◌+◌, ◌/◌, ◌%◌, inl, refl, sym, ap, subst, ◌∙◌, arith, length, ℕ, slice_range}
-use Rattle.apfs_model.specs.Source.{Copies}
+use Rattle.std.proofs.Common.{◌*◌, ◌+◌, ◌/◌, ◌%◌, inl, refl, sym, ◌∙◌, arith, length}
 use Rattle.blk_cache.proofs.Keeps.{size_fits, grows_on, served_same, served_grows, found_copy, served_found, served_cache}
 use Rattle.blk_cache.proofs.Ranges.{range_copies}
 use Rattle.blk_cache.proofs.part.part.Goals as goal

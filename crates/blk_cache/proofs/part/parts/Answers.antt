@@ -1,12 +1,19 @@
-use Rattle.std.proofs.Common.{◌≡◌, ◌⊎◌, inl, inr, ℕ, ◌+◌, ◌*◌, ◌/◌, ◌≤◌, ◌<◌, true, List, length, subst, sym, ap, ◌∙◌, arith}
-use Rattle.apfs_model.specs.Counts.{one_more, Rose}
-use Rattle.apfs_model.specs.Source.{IsKept}
-use Rattle.blk_cache.specs.Keeping.{keeps, Touches, last_touched, IsSame}
+use Rattle.std.proofs.Common.{◌≡◌, inl, inr, ℕ, ◌+◌, ◌-◌, ◌/◌, ◌≤◌, ◌<◌, true, length, subst, ap, ◌∙◌, arith}
+use Rattle.apfs_model.specs.Counts.{Rose}
+use Rattle.blk_cache.specs.Keeping.{keeps, Touches, last_touched, touched_count}
 use Rattle.blk_cache.proofs.Keeps.{size_fits, grows_on, same_on, touches}
+use Rattle.blk_cache.proofs.Ranges.{block_later}
 use Rattle.blk_cache.proofs.part.parts.Goals as goal
 
 later-rose : (old mid new : ℕ) → old ≤ mid → Rose mid new → Rose old new
 later-rose old mid new later rose = omega arith
+
+-- a step reads at most once, in a block that the read touches
+once-at : (size at done len before mid after : ℕ) → 1 ≤ size → done < len → mid + at / size ≤ before + (at + done) / size → after ≤ mid + 1 → after ≤ before + touched_count size at len
+once-at size at done len before mid after some low reads step =
+    let first = block_later at (at + len - 1) size some (omega arith) in
+    let last = block_later (at + done) (at + len - 1) size some (omega arith) in
+    omega (arith, first, last, reads, step)
 
 pub loop-done-preserved : goal.loop-done-preserved
 loop-done-preserved g c =
@@ -34,4 +41,14 @@ loop-done-preserved g c =
           let touched : Touches size c.args.at (length c.next.new.into) block = subst (λ (n : ℕ). Touches n c.args.at (length c.next.new.into) block) before.grows.same_size at_mid in
           let step = after.served (same.same_blocks block ∙ all block touched) in
           (step.0 ∙ reads, same_on c.args.store.now c.loop-done.store c.next.new.store same step.1);
+      onward = λ low.
+          let moved = subst (λ (n : ℕ). (c.args.at + c.in_ok-done.done) / n ≡ (c.args.at + c.loop-done.done) / n + 1) before.grows.same_size (after.onward (omega (arith, low, c.next.auto.into))) in
+          omega (arith, moved, after.reads, before.onward (omega (arith, c.loop-done-test.true)));
+      at_end = λ high. once-at size c.args.at c.loop-done.done (length c.next.new.into) (g.S.BlockSource.reads c.args.inner.now) (g.S.BlockSource.reads c.loop-done.inner) (g.S.BlockSource.reads c.next.new.inner)
+          (size_fits size c.requires.cache.accepted).0 (omega (arith, c.loop-done-test.true, c.next.auto.into)) (before.onward (omega (arith, c.loop-done-test.true))) after.reads;
     }
+
+pub returns-clause-once_each : goal.returns-clause-once_each
+returns-clause-once_each g c =
+    let same = ap (λ (n : ℕ). touched_count c.args.store.now.size c.args.at n) c.loop-done.auto.into in
+    omega (arith, same, c.loop-done.invariant.at_end (omega (arith, c.loop-done-test.false)))

@@ -3,7 +3,7 @@ use Rattle.std.specs.Bool.{MatchBool}
 use Rattle.obj_base.specs.Stops.{Tells}
 use Rattle.bt_cursor.specs.Tree.{Tree, tree_in}
 use Rattle.bt_cursor.specs.Faults.{HasFeature}
-use Rattle.bt_cursor.specs.Cursors.{tree_of, left_of}
+use Rattle.bt_cursor.specs.Cursors.{tree_of, gapped_left_of}
 use Rattle.file_extent.specs.Laid.{AreLaid}
 use Rattle.file_extent.specs.Collected.{IsCollected, IsCollectStop, IsMisordered}
 use Rattle.file_extent.proofs.Lays.{laid-none}
@@ -20,14 +20,14 @@ walk-init g c = record {
   laid = subst (AreLaid c.args.site.now) (sym c.new-extents.ensures.items) (laid-none c.args.site.now);
   within = c.in-Ok.ensures.within;
   collected = λ image told.
-      subst (IsCollected (tree_in g.K.TreeKey.shape c.args.site.now (g.N.Namer.named c.args.namer) image) c.args.root c.args.id (left_of c.in-Ok.cursor image)) (sym c.new-extents.ensures.items) (c.in-Ok.ensures.opened image told);
+      subst (IsCollected (tree_in g.K.TreeKey.shape c.args.site.now (g.N.Namer.named c.args.namer) image) c.args.root c.args.id (gapped_left_of c.in-Ok.cursor image)) (sym c.new-extents.ensures.items) (c.in-Ok.ensures.opened image told);
 }
 
 pub returns-in-Ok-None-clause-all : goal.returns-in-Ok-None-clause-all
 returns-in-Ok-None-clause-all g c = λ image told.
     let tree = tree_in g.K.TreeKey.shape c.args.site.now (g.N.Namer.named c.args.namer) image in
     let before = c.walk.invariant in
-    went_on (tree_of c.walk.cursor image) tree c.args.root c.args.id (left_of c.walk.cursor image) (left_of c.step.new.cursor image) c.walk.extents.items c.in-Ok-None.field-0 None
+    went_on (tree_of c.walk.cursor image) tree c.args.root c.args.id (gapped_left_of c.walk.cursor image) (gapped_left_of c.step.new.cursor image) c.walk.extents.items c.in-Ok-None.field-0 None
     (ap (λ (t : List ℕ → Tree _). t image) before.same_tree) c.in-Ok-None.field-0-is
     (c.in-Ok-None.ensures.goes_on image (before.kept.same_bytes ∙ told) c.walk.extents.items) (before.collected image told)
 
@@ -56,8 +56,8 @@ walk-preserved g c =
       within = λ image told. after.within image (before.kept.same_bytes ∙ told) (before.within image told);
       collected = λ image told.
           let tree = tree_in g.K.TreeKey.shape c.args.site.now (g.N.Namer.named c.args.namer) image in
-          subst (IsCollected tree c.args.root c.args.id (left_of c.step.new.cursor image)) (sym put)
-          (went_on (tree_of c.walk.cursor image) tree c.args.root c.args.id (left_of c.walk.cursor image) (left_of c.step.new.cursor image) c.walk.extents.items c.in-Ok-Some.field-0 (Some c.in-Ok-Some.extent)
+          subst (IsCollected tree c.args.root c.args.id (gapped_left_of c.step.new.cursor image)) (sym put)
+          (went_on (tree_of c.walk.cursor image) tree c.args.root c.args.id (gapped_left_of c.walk.cursor image) (gapped_left_of c.step.new.cursor image) c.walk.extents.items c.in-Ok-Some.field-0 (Some c.in-Ok-Some.extent)
           (ap (λ (t : List ℕ → Tree _). t image) before.same_tree) c.in-Ok-Some.field-0-is
           (after.goes_on image (before.kept.same_bytes ∙ told) c.walk.extents.items) (before.collected image told));
     }
@@ -67,8 +67,8 @@ returns-in-Ok-false-clause-all g c = λ image told.
     let tree = tree_in g.K.TreeKey.shape c.args.site.now (g.N.Namer.named c.args.namer) image in
     let before = c.walk.invariant in
     let wrong = subst (λ b. MatchBool b (c.lay.new.extents.items ≡ c.walk.extents.items ++ c.in-Ok-Some.extent ∷ []) (IsMisordered c.walk.extents.items c.in-Ok-Some.extent)) c.in-Ok-false.field-0-test c.in-Ok-false.ensures.put in
-    misordered tree c.args.root c.args.id (left_of c.step.new.cursor image) c.walk.extents.items c.in-Ok-Some.extent
-    (went_on (tree_of c.walk.cursor image) tree c.args.root c.args.id (left_of c.walk.cursor image) (left_of c.step.new.cursor image) c.walk.extents.items c.in-Ok-Some.field-0 (Some c.in-Ok-Some.extent)
+    misordered tree c.args.root c.args.id (gapped_left_of c.step.new.cursor image) c.walk.extents.items c.in-Ok-Some.extent
+    (went_on (tree_of c.walk.cursor image) tree c.args.root c.args.id (gapped_left_of c.walk.cursor image) (gapped_left_of c.step.new.cursor image) c.walk.extents.items c.in-Ok-Some.field-0 (Some c.in-Ok-Some.extent)
     (ap (λ (t : List ℕ → Tree _). t image) before.same_tree) c.in-Ok-Some.field-0-is
     (c.in-Ok-Some.ensures.goes_on image (before.kept.same_bytes ∙ told) c.walk.extents.items) (before.collected image told))
     wrong
@@ -77,8 +77,8 @@ pub returns-in-Err-lay-clause-present : goal.returns-in-Err-lay-clause-present
 returns-in-Err-lay-clause-present g c = λ image told.
     let tree = tree_in g.K.TreeKey.shape c.args.site.now (g.N.Namer.named c.args.namer) image in
     let before = c.walk.invariant in
-    add_tells c.args.site.now tree c.args.root c.args.id (left_of c.step.new.cursor image) (c.walk.extents.items ++ c.in-Ok-Some.extent ∷ []) c.in-Err-lay.stop
-    (went_on (tree_of c.walk.cursor image) tree c.args.root c.args.id (left_of c.walk.cursor image) (left_of c.step.new.cursor image) c.walk.extents.items c.in-Ok-Some.field-0 (Some c.in-Ok-Some.extent)
+    add_tells c.args.site.now tree c.args.root c.args.id (gapped_left_of c.step.new.cursor image) (c.walk.extents.items ++ c.in-Ok-Some.extent ∷ []) c.in-Err-lay.stop
+    (went_on (tree_of c.walk.cursor image) tree c.args.root c.args.id (gapped_left_of c.walk.cursor image) (gapped_left_of c.step.new.cursor image) c.walk.extents.items c.in-Ok-Some.field-0 (Some c.in-Ok-Some.extent)
     (ap (λ (t : List ℕ → Tree _). t image) before.same_tree) c.in-Ok-Some.field-0-is
     (c.in-Ok-Some.ensures.goes_on image (before.kept.same_bytes ∙ told) c.walk.extents.items) (before.collected image told))
     c.in-Err-lay.ensures.present

@@ -2,7 +2,7 @@
 use Rattle.std.proofs.Common.{◌≡◌, ℕ, List, Some}
 use Rattle.apfs_model.specs.Source.{IsKept}
 use Rattle.bt_cursor.specs.Tree.{tree_in}
-use Rattle.bt_cursor.specs.Cursors.{site_of, root_of, tree_of, left_of, fuel_of, IsOn}
+use Rattle.bt_cursor.specs.Cursors.{site_of, root_of, tree_of, gapped_left_of, fuel_of, IsOn}
 use Rattle.file_extent.specs.Laid.{AreLaid}
 use Rattle.file_extent.specs.Collected.{IsCollected}
 use Rattle.file_extent.proofs.collect.collect.Given as goal
@@ -15,7 +15,7 @@ invariant-walk g l = record {
   kept : IsKept g.S.BlockSource.bytes g.S.BlockSource.bytes_len g.S.BlockSource.faults l.fn.src l.src;
   laid : AreLaid l.site l.extents.items;
   within : (image : List ℕ) → g.S.BlockSource.bytes l.fn.src ≡ Some image → IsOn image l.cursor;
-  collected : (image : List ℕ) → g.S.BlockSource.bytes l.fn.src ≡ Some image → IsCollected (tree_in g.K.TreeKey.shape l.site (g.N.Namer.named l.fn.namer) image) l.root l.id (left_of l.cursor image) l.extents.items;
+  collected : (image : List ℕ) → g.S.BlockSource.bytes l.fn.src ≡ Some image → IsCollected (tree_in g.K.TreeKey.shape l.site (g.N.Namer.named l.fn.namer) image) l.root l.id (gapped_left_of l.cursor image) l.extents.items;
 }
 
 abbrev pub decreases-walk : goal.decreases-walk

@@ -4,11 +4,11 @@ use Rattle.bt_node.specs.Entries.{Pair}
 use Rattle.bt_cursor.specs.Tree.{Tree, tree_in}
 use Rattle.bt_cursor.specs.Flat.{flat_of}
 use Rattle.bt_cursor.specs.Line.{line_of}
-use Rattle.bt_cursor.specs.Gaps.{IsSuffix}
+use Rattle.bt_cursor.specs.Gaps.{gapped_of, all_flat, IsSuffix}
 use Rattle.bt_cursor.specs.Order.{is_ordered}
-use Rattle.bt_cursor.specs.From.{from_rank}
+use Rattle.bt_cursor.specs.From.{gapped_from_rank}
 use Rattle.bt_cursor.specs.Faults.{IsNodeFault, HasFeature}
-use Rattle.bt_cursor.specs.Cursors.{root_of, tree_of, left_of}
+use Rattle.bt_cursor.specs.Cursors.{root_of, tree_of, left_of, gapped_left_of}
 use Rattle.bt_cursor.proofs.Runs.{flat-suffix}
 use Rattle.file_extent.specs.Collected.{stream_rank, IsCollectStop}
 use Rattle.file_extent.proofs.Walks.{tree-readable, walk_tells, collected_none}
@@ -36,15 +36,15 @@ returns-in-Ok-seek-clause-opened g c = λ image told.
     subst (λ (ps : List Pair). IsSuffix (left_of c.seek.new.self image) ps)
     (ap (λ (t : List ℕ → Tree _). flat_of (t image) (root_of c.seek.new.self)) (c.in-Ok-seek.ensures.tree ∙ c.in-Ok.ensures.tree) ∙ ap (flat_of tree) (c.in-Ok-seek.ensures.root ∙ same_root))
     (flat-suffix image c.seek.new.self within) in
-    collected_none tree c.args.root c.args.id (left_of c.seek.new.self image)
+    collected_none tree c.args.root c.args.id (gapped_left_of c.seek.new.self image)
     (tree-readable g.K.TreeKey.shape c.args.site.now (g.N.Namer.named c.args.namer) image c.args.root)
     end
     (λ ordered.
     let at : is_ordered g.K.TreeKey.shape (line_of (tree_of c.in-Ok.cursor image) (root_of c.in-Ok.cursor)) ≡ true =
     ap (λ (t : Tree _). is_ordered g.K.TreeKey.shape (line_of t (root_of c.in-Ok.cursor))) same_tree ∙ (ap (λ (r : ℕ). is_ordered g.K.TreeKey.shape (line_of tree r)) same_root ∙ ordered) in
-    c.in-Ok-seek.ensures.left image then on at
-    ∙ (ap (λ (t : Tree _). from_rank g.K.TreeKey.shape (stream_rank c.args.id 0) (flat_of t (root_of c.in-Ok.cursor))) same_tree
-    ∙ ap (λ (r : ℕ). from_rank g.K.TreeKey.shape (stream_rank c.args.id 0) (flat_of tree r)) same_root))
+    ap all_flat (c.in-Ok-seek.ensures.left image then on at)
+    ∙ (ap (λ (t : Tree _). all_flat (gapped_from_rank g.K.TreeKey.shape (stream_rank c.args.id 0) (gapped_of t (root_of c.in-Ok.cursor)))) same_tree
+    ∙ ap (λ (r : ℕ). all_flat (gapped_from_rank g.K.TreeKey.shape (stream_rank c.args.id 0) (gapped_of tree r))) same_root))
 
 pub returns-in-Err-seek-clause-present : goal.returns-in-Err-seek-clause-present
 returns-in-Err-seek-clause-present g c = λ image told.

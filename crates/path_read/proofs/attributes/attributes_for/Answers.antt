@@ -12,5 +12,5 @@ returns-in-Some-clause-found g c image told ordered =
 
 pub returns-in-None-clause-present : goal.returns-in-None-clause-present
 returns-in-None-clause-present g c image told =
-    c.refusal.ensures.present image (c.in-Ok.ensures.kept.same_bytes ∙ told)
+    c.refused.ensures.present image (c.in-Ok.ensures.kept.same_bytes ∙ told)
     (attributes_unrefused image c.args.site.now c.args.volume.now c.args.view.now (c.in-Ok.ensures.refused image told c.in-None.is))

@@ -1,9 +1,11 @@
 use Rattle.std.proofs.Common.{◌≡◌, ◌∙◌, sym, subst, None, Some, Option, List}
 use Rattle.std.specs.Prelude.{option_map}
+use Rattle.bt_keys.specs.RecordKey.{attribute_record}
 use Rattle.bt_cursor.specs.Cursors.{root_of, tree_of, left_of}
 use Rattle.fs_record.specs.Attributes.{Attribute}
 use Rattle.fs_record.specs.Facts.{all_for, attributes_of}
 use Rattle.bt_cursor.specs.Flat.{flat_of}
+use Rattle.bt_cursor.proofs.Runs.{left-from}
 use Rattle.path_walk.proofs.Searched.{tells_same, flat_same}
 use Rattle.path_read.specs.Parts.{HasRefused}
 use Rattle.path_read.proofs.Searched.{attributes_found, refused_found, if_seen, none_seen}
@@ -13,7 +15,7 @@ pub returns-in-Ok-take_run-clause-found : goal.returns-in-Ok-take_run-clause-fou
 returns-in-Ok-take_run-clause-found g c image told on ordered =
     if_seen (λ v. v.items) c.in-Ok-take_run.run' (all_for c.args.id (attributes_of (flat_of (tree_of c.args.cursor.now image) (root_of c.args.cursor.now))))
     (attributes_found g.K.FsTreeKey.HASHED image c.args.cursor.now (root_of c.args.cursor.now) c.args.id (left_of c.seek.new.self image) (option_map (λ v. v.items) c.in-Ok-take_run.run') g.met.K.FsTreeKey.of_tree ordered
-    (c.in-Ok.ensures.left image told on ordered) (c.in-Ok-take_run.ensures.taken image (c.in-Ok.ensures.kept.same_bytes ∙ told)))
+    (left-from image c.args.cursor.now c.seek.new.self (record { id = c.args.id; kind = attribute_record; sub = 0 }) ordered (c.in-Ok.ensures.left image told on ordered)) (c.in-Ok-take_run.ensures.taken image (c.in-Ok.ensures.kept.same_bytes ∙ told)))
 
 pub returns-in-Ok-take_run-clause-refused : goal.returns-in-Ok-take_run-clause-refused
 returns-in-Ok-take_run-clause-refused g c image told on none =

@@ -8,5 +8,5 @@ returns-in-Some-clause-present g c = λ image told.
 
 pub returns-in-None-clause-present : goal.returns-in-None-clause-present
 returns-in-None-clause-present g c = λ image told.
-    c.refusal.ensures.present image (c.in-Err.ensures.kept.same_bytes ∙ told)
+    c.refused.ensures.present image (c.in-Err.ensures.kept.same_bytes ∙ told)
     (stream_refused image c.args.site.now c.args.volume.now c.args.view.now c.args.id c.in-Err.stop (sym c.in-None.ensures) (c.in-Err.ensures.present image told))

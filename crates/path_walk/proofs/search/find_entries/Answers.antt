@@ -1,8 +1,10 @@
 use Rattle.std.proofs.Common.{◌∙◌}
 use Rattle.std.specs.Prelude.{option_map}
+use Rattle.bt_keys.specs.RecordKey.{entry_record}
 use Rattle.bt_cursor.specs.Cursors.{root_of, tree_of, left_of}
 use Rattle.fs_record.specs.Facts.{all_for, entries_of}
 use Rattle.bt_cursor.specs.Flat.{flat_of}
+use Rattle.bt_cursor.proofs.Runs.{left-from}
 use Rattle.path_walk.specs.Parts.{whats}
 use Rattle.path_walk.proofs.Searched.{entries_at, if_seen, tells_same}
 use Rattle.path_walk.proofs.search.find_entries.Goals as goal
@@ -11,7 +13,7 @@ pub returns-in-Ok-take_run-clause-found : goal.returns-in-Ok-take_run-clause-fou
 returns-in-Ok-take_run-clause-found g c image told on ordered =
     if_seen (λ v. whats v.items) c.in-Ok-take_run.run' (all_for c.args.id (entries_of c.args.names (flat_of (tree_of c.args.cursor.now image) (root_of c.args.cursor.now))))
     (entries_at g.K.FsTreeKey.HASHED image c.args.cursor.now (root_of c.args.cursor.now) c.args.id c.args.names (left_of c.seek.new.self image) (option_map (λ v. whats v.items) c.in-Ok-take_run.run') g.met.K.FsTreeKey.of_tree ordered
-    (c.in-Ok.ensures.left image told on ordered) (c.in-Ok-take_run.ensures.taken image (c.in-Ok.ensures.kept.same_bytes ∙ told)))
+    (left-from image c.args.cursor.now c.seek.new.self (record { id = c.args.id; kind = entry_record; sub = 0 }) ordered (c.in-Ok.ensures.left image told on ordered)) (c.in-Ok-take_run.ensures.taken image (c.in-Ok.ensures.kept.same_bytes ∙ told)))
 
 pub returns-in-Err-take_run-clause-present : goal.returns-in-Err-take_run-clause-present
 returns-in-Err-take_run-clause-present g c image told on =

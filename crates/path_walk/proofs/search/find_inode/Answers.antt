@@ -1,12 +1,14 @@
 use Rattle.std.proofs.Common.{◌∙◌}
+use Rattle.bt_keys.specs.RecordKey.{inode_record}
 use Rattle.bt_cursor.specs.Cursors.{root_of, tree_of, left_of}
+use Rattle.bt_cursor.proofs.Runs.{left-from}
 use Rattle.path_walk.proofs.Searched.{inode_from, tells_same}
 use Rattle.path_walk.proofs.search.find_inode.Goals as goal
 
 pub returns-in-Ok-next_inode-clause-found : goal.returns-in-Ok-next_inode-clause-found
 returns-in-Ok-next_inode-clause-found g c image told on ordered =
     inode_from g.K.FsTreeKey.HASHED image c.args.cursor.now (root_of c.args.cursor.now) c.args.id (left_of c.seek.new.self image) c.in-Ok-next_inode.inode g.met.K.FsTreeKey.of_tree ordered
-    (c.in-Ok.ensures.left image told on ordered) (c.in-Ok-next_inode.ensures.found image (c.in-Ok.ensures.kept.same_bytes ∙ told))
+    (left-from image c.args.cursor.now c.seek.new.self (record { id = c.args.id; kind = inode_record; sub = 0 }) ordered (c.in-Ok.ensures.left image told on ordered)) (c.in-Ok-next_inode.ensures.found image (c.in-Ok.ensures.kept.same_bytes ∙ told))
 
 pub returns-in-Err-next_inode-clause-present : goal.returns-in-Err-next_inode-clause-present
 returns-in-Err-next_inode-clause-present g c image told on =

@@ -2,7 +2,7 @@ use Rattle.std.proofs.Common.{ℕ, List, ap, ◌∙◌}
 use Rattle.obj_base.specs.declared.stop.Within.TheVariants.{Volume}
 use Rattle.omap_map.specs.declared.records.OmapRecord.{OmapRecord}
 use Rattle.vol_view.specs.Volumes.{Loaded}
-use Rattle.vol_parts.specs.Told as told
+use Rattle.tree_namings.specs.Volumes.Told as told
 use Rattle.reach_sweep.proofs.checking.volume_map.Goals as goal
 
 pub returns : goal.returns

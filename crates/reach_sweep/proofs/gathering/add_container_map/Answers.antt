@@ -3,7 +3,7 @@ use Rattle.nx_block.specs.Super.{omap_oid_of}
 use Rattle.nx_ring.specs.Checkpoint.{Seen}
 use Rattle.reach_rules.specs.Naming.{ByBlock, Newest, Whole, ContainerMap, naming}
 use Rattle.reach_rules.specs.Live.{IsLive}
-use Rattle.vol_parts.specs.Parts.{IsMapPart}
+use Rattle.tree_namings.specs.Volumes.Parts.{IsMapPart}
 use Rattle.reach_gather.specs.Adds.{Adds}
 use Rattle.reach_sweep.proofs.Gathers.{map-live}
 use Rattle.reach_sweep.proofs.gathering.add_container_map.Goals as goal

@@ -1,4 +1,4 @@
-use Rattle.std.proofs.Common.{◌≡◌, ◌∙◌, ◌++◌, ◌+◌, ◌<◌, List, length, refl, sym, subst}
+use Rattle.std.proofs.Common.{◌≡◌, ◌∙◌, ◌++◌, ◌+◌, ◌<◌, List, length, sym, subst}
 use Rattle.std.specs.Prelude.{◌^◌}
 use Rattle.nx_block.specs.Super.{omap_oid_of}
 use Rattle.nx_ring.specs.Checkpoint.{Seen, site_of}
@@ -10,20 +10,33 @@ use Rattle.reach_sweep.specs.Composed.{records_used}
 use Rattle.reach_sweep.specs.Finished.{IsFinished}
 use Rattle.reach_sweep.specs.Used.{maps_of}
 use Rattle.reach_sweep.specs.Views.{namer_by}
+use Rattle.reach_sweep.proofs.Accounts.{reached-free}
+use Rattle.reach_sweep.proofs.Slots.{twice-apart}
 use Rattle.reach_sweep.proofs.Swept.{slots-are-apart}
 use Rattle.reach_sweep.proofs.Listed.{listed-by, of-maps}
 use Rattle.reach_sweep.proofs.Together.{given-of, AreParts, parts-live, swept-live, AreSwept, used-ones, AreKnown, all-reached}
 use Rattle.reach_sweep.proofs.Within.{reads-within}
 use Rattle.reach_sweep.proofs.reaching.reached.Goals as goal
 
+pub returns-in-Err-clause-exact : goal.returns-in-Err-clause-exact
+returns-in-Err-clause-exact g c = λ image heads told h l whole r. reached-free image c.args.cp.now whole c.in-Err.stop r (c.in-Err.ensures.present image told)
+
 pub returns-in-Err-load_pool-clause-present : goal.returns-in-Err-load_pool-clause-present
 returns-in-Err-load_pool-clause-present g c = λ image heads told h l.
     c.in-Err-load_pool.ensures.present image (c.load_space.ensures.kept.same_bytes ∙ told) (c.in-Ok.ensures.clear image told)
+
+pub returns-in-Err-load_pool-clause-exact : goal.returns-in-Err-load_pool-clause-exact
+returns-in-Err-load_pool-clause-exact g c = λ image heads told h l whole r.
+    reached-free image c.args.cp.now whole c.in-Err-load_pool.stop r (returns-in-Err-load_pool-clause-present g c image heads told h l)
 
 pub returns-in-Err-add_parts-clause-present : goal.returns-in-Err-add_parts-clause-present
 returns-in-Err-add_parts-clause-present g c = λ image heads told h l.
     let v = given-of image c.args.cp.now heads c.args.volumes.now h l in
     c.in-Err-add_parts.ensures.present image heads (namer_by image c.args.cp.now) (c.load_pool.ensures.kept.same_bytes ∙ (c.load_space.ensures.kept.same_bytes ∙ told)) v.parts v.volumes_are (c.in-Ok.ensures.clear image told)
+
+pub returns-in-Err-add_parts-clause-exact : goal.returns-in-Err-add_parts-clause-exact
+returns-in-Err-add_parts-clause-exact g c = λ image heads told h l whole r.
+    reached-free image c.args.cp.now whole c.in-Err-add_parts.stop r (returns-in-Err-add_parts-clause-present g c image heads told h l)
 
 pub returns-in-Err-once-clause-present : goal.returns-in-Err-once-clause-present
 returns-in-Err-once-clause-present g c = λ image heads told h l.
@@ -34,10 +47,19 @@ returns-in-Err-once-clause-present g c = λ image heads told h l.
     } in
     c.in-Err-once.ensures.present image (parts-live image c.args.cp.now c.args.volumes.now c.in_ok-parts.parts c.add_parts.new.out parts)
 
+pub returns-in-Err-once-clause-exact : goal.returns-in-Err-once-clause-exact
+returns-in-Err-once-clause-exact g c = λ image heads told h l whole r.
+    reached-free image c.args.cp.now whole c.in-Err-once.stop r (returns-in-Err-once-clause-present g c image heads told h l)
+
 pub returns-in-Some-clause-present : goal.returns-in-Some-clause-present
 returns-in-Some-clause-present g c = λ image heads told h l.
     let v = given-of image c.args.cp.now heads c.args.volumes.now h l in
-    absurd (c.in-Some.ensures.twice refl (slots-are-apart image c.args.cp.now heads c.args.volumes.now (namer_by image c.args.cp.now) v.parts v.volumes_are))
+    absurd (twice-apart c.args.volumes.now c.in-Some.oid c.in-Some.ensures.twice (slots-are-apart image c.args.cp.now heads c.args.volumes.now (namer_by image c.args.cp.now) v.parts v.volumes_are))
+
+pub returns-in-Some-clause-exact : goal.returns-in-Some-clause-exact
+returns-in-Some-clause-exact g c = λ image heads told h l whole r.
+    let v = given-of image c.args.cp.now heads c.args.volumes.now h l in
+    absurd (twice-apart c.args.volumes.now c.in-Some.oid c.in-Some.ensures.twice (slots-are-apart image c.args.cp.now heads c.args.volumes.now (namer_by image c.args.cp.now) v.parts v.volumes_are))
 
 pub returns-in-Err-sweep_views-clause-present : goal.returns-in-Err-sweep_views-clause-present
 returns-in-Err-sweep_views-clause-present g c = λ image heads told h l.
@@ -49,6 +71,10 @@ returns-in-Err-sweep_views-clause-present g c = λ image heads told h l.
     } in
     c.in-Err-sweep_views.ensures.present image heads (namer_by image c.args.cp.now) (c.add_parts.ensures.kept.same_bytes ∙ before) v.parts v.volumes_are
     (swept-live image c.args.cp.now heads c.args.volumes.now c.in_ok-parts.parts c.add_parts.new.out v parts)
+
+pub returns-in-Err-sweep_views-clause-exact : goal.returns-in-Err-sweep_views-clause-exact
+returns-in-Err-sweep_views-clause-exact g c = λ image heads told h l whole r.
+    reached-free image c.args.cp.now whole c.in-Err-sweep_views.stop r (returns-in-Err-sweep_views-clause-present g c image heads told h l)
 
 pub returns-in-Err-check_used-clause-present : goal.returns-in-Err-check_used-clause-present
 returns-in-Err-check_used-clause-present g c = λ image heads told h l.
@@ -74,6 +100,10 @@ returns-in-Err-check_used-clause-present g c = λ image heads told h l.
     c.in-Err-check_used.ensures.present image
     (subst (λ (us : List Used). AreUsedOnes image seen (us ++ c.deref-4.result.now)) (sym c.deref-3.ensures.value) (subst (λ (us : List Used). AreUsedOnes image seen (found ++ us)) (sym c.deref-4.ensures.value) ones))
     (of-maps image seen heads volumes namer c.deref-2.result.now v.parts v.volumes_are (c.deref-2.ensures.value ∙ records))
+
+pub returns-in-Err-check_used-clause-exact : goal.returns-in-Err-check_used-clause-exact
+returns-in-Err-check_used-clause-exact g c = λ image heads told h l whole r.
+    reached-free image c.args.cp.now whole c.in-Err-check_used.stop r (returns-in-Err-check_used-clause-present g c image heads told h l)
 
 pub returns-in-Ok-finish-clause-clear : goal.returns-in-Ok-finish-clause-clear
 returns-in-Ok-finish-clause-clear g c = λ image heads told h l.

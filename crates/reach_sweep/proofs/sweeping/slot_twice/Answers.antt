@@ -7,7 +7,7 @@ use Rattle.reach_sweep.proofs.Slots.{twice-found, none-found}
 use Rattle.reach_sweep.proofs.sweeping.slot_twice.Goals as goal
 
 pub returns-then-stands-clause-twice : goal.returns-then-stands-clause-twice
-returns-then-stands-clause-twice c = λ e apart.
+returns-then-stands-clause-twice c =
     let volumes : List Loaded = c.args.volumes.now in
     let i : ℕ = c.loop-i.i in
     let volume : Loaded = c.index-volumes-i.result in
@@ -15,7 +15,8 @@ returns-then-stands-clause-twice c = λ e apart.
     let all : length (drop (i + 1) volumes) ≤ n = omega (arith, length-drop (i + 1) volumes) in
     let rest : take n (drop (i + 1) volumes) ≡ drop (i + 1) volumes = take_all n (drop (i + 1) volumes) all in
     let slot : c.volume.inside.head.slot ≡ volume.head.slot = ap (λ (v : Loaded). v.head.slot) c.volume.view_is in
-    twice-found volumes i volume c.loop-i-test.true c.index-volumes-i.is c.loop-i.invariant (sym (ap (λ (vs : List Loaded). has (slots_of vs) volume.head.slot) rest) ∙ (ap (λ x. has (slots_of (take n (drop (i + 1) volumes))) x) (sym slot) ∙ (sym c.stands.ensures ∙ c.if-stands.true))) apart
+    let id : c.volume.inside.head.oid ≡ volume.head.oid = ap (λ (v : Loaded). v.head.oid) c.volume.view_is in
+    twice-found volumes i volume c.volume.inside.head.oid c.loop-i-test.true c.index-volumes-i.is id (sym (ap (λ (vs : List Loaded). has (slots_of vs) volume.head.slot) rest) ∙ (ap (λ x. has (slots_of (take n (drop (i + 1) volumes))) x) (sym slot) ∙ (sym c.stands.ensures ∙ c.if-stands.true)))
 
 pub returns-clause-apart : goal.returns-clause-apart
 returns-clause-apart c = λ t. none-found c.args.volumes.now c.loop-i.i c.loop-i-test.false c.loop-i.invariant

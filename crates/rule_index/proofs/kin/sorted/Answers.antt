@@ -16,4 +16,4 @@ pub returns-then-are_in_order-clause-same : goal.returns-then-are_in_order-claus
 returns-then-are_in_order-clause-same c = kins-given c.args.inodes.now c.in_ok-list.list.items c.in_ok-list.ensures
 
 pub returns-then-are_in_order-clause-ascending : goal.returns-then-are_in_order-clause-ascending
-returns-then-are_in_order-clause-ascending c = subst (λ (list : List (ℕ × Kin)). IsNonDecreasingBy (λ (k : ℕ × Kin). k.0) list) c.deref.ensures.value (c.are_in_order.ensures c.if-are_in_order.true)
+returns-then-are_in_order-clause-ascending c = subst (λ (list : List (ℕ × Kin)). IsNonDecreasingBy (λ (k : ℕ × Kin). k.0) list) c.deref.ensures.value (c.are_in_order.ensures.0 c.if-are_in_order.true)

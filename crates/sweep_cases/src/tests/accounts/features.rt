@@ -1,10 +1,11 @@
 // Features of objects, and of the records by which they are found.
 
-use super::sum;
-use apfs_layout::node::{FLAGS, INFO_LEN, NODE_SIZE};
+use super::{Numbers, SMALL_NUMBERS, sum};
+use apfs_layout::node::{FLAGS, NODE_SIZE};
 use apfs_layout::object::TYPE;
 use apfs_layout::reaping::REAPER_FLAGS;
 use apfs_layout::space_manager::SECOND_BLOCKS;
+use img_changes::cases::{END, EXTENTS, MAP_ROOT};
 use img_changes::{Change, SMALL, image};
 use img_make::places::{POOL_BASE, REAPER, SPACE_MANAGER};
 use obj_base::{Feature, Stop};
@@ -12,54 +13,54 @@ use std::alloc::Global;
 use std::process::Abort;
 use std::test::Fail;
 
-// Of the small container's volume: the root of its map and of its extent references.
-const MAP_ROOT: usize = 53;
-
-const EXTENTS: usize = 55;
-
-// Where the values of a root end, the last of which is here the only record of a map: its flags, its size, and block 54.
-const END: usize = 4096 - INFO_LEN;
-
+// Where the map's root has the value of its only record: the flags, the size, and block 54.
 const VALUE: usize = END - 16;
 
 // A case: changes of the small container, and what its account comes to, or a feature with the block that is named for it.
-type Case = (&'static [Change], Result<(u64, u64), (Feature, u64)>);
+#[derive(Clone, Copy, Debug)]
+struct Case {
+    changes: &'static [Change],
+    want: Result<Numbers, (Feature, u64)>,
+}
 
 // Whether each image of a table comes to what is said of it.
 fn assert_features(rt: &impl Abort, alloc: Global, cases: &[Case]) -> Result<(), Fail> {
-    for (changes, want) in cases.iter() {
-        let want = match *want {
+    for case in cases.iter() {
+        let want = match case.want {
             Ok(numbers) => Ok(numbers),
             Err((feature, block)) => Err(Stop::Unsupported { feature, block }),
         };
-        let found = sum(alloc, image(alloc, &SMALL, changes)?)?;
-        assert_eq!(rt; found, want, "{changes:?}");
+        let found = sum(alloc, image(alloc, &SMALL, case.changes)?)?;
+        assert_eq!(rt; found, want, "{case:?}");
     }
     Ok(())
 }
 
 const OBJECTS: &[Case] = &[
-    (
-        &[Change::Put(REAPER, REAPER_FLAGS, &[3])],
-        Err((Feature::Reaper, 10)),
-    ),
-    (&[Change::Put(REAPER, REAPER_FLAGS, &[5])], Ok((14, 57))),
-    (
-        &[Change::Put(SPACE_MANAGER, SECOND_BLOCKS, &[1])],
-        Err((Feature::Fusion, 9)),
-    ),
-    (
-        &[Change::Put(POOL_BASE, TYPE + 3, &[0x50])],
-        Err((Feature::Encrypted, 43)),
-    ),
-    (
-        &[Change::Put(EXTENTS, TYPE + 3, &[0x50])],
-        Err((Feature::Encrypted, 55)),
-    ),
-    (
-        &[Change::Put(EXTENTS, TYPE + 3, &[0x60])],
-        Err((Feature::NoHeader, 55)),
-    ),
+    Case {
+        changes: &[Change::Put(REAPER, REAPER_FLAGS, &[3])],
+        want: Err((Feature::Reaper, 10)),
+    },
+    Case {
+        changes: &[Change::Put(REAPER, REAPER_FLAGS, &[5])],
+        want: Ok(SMALL_NUMBERS),
+    },
+    Case {
+        changes: &[Change::Put(SPACE_MANAGER, SECOND_BLOCKS, &[1])],
+        want: Err((Feature::Fusion, 9)),
+    },
+    Case {
+        changes: &[Change::Put(POOL_BASE, TYPE + 3, &[0x50])],
+        want: Err((Feature::Encrypted, 43)),
+    },
+    Case {
+        changes: &[Change::Put(EXTENTS, TYPE + 3, &[0x50])],
+        want: Err((Feature::Encrypted, 55)),
+    },
+    Case {
+        changes: &[Change::Put(EXTENTS, TYPE + 3, &[0x60])],
+        want: Err((Feature::NoHeader, 55)),
+    },
 ];
 
 #[test]
@@ -69,35 +70,38 @@ fn of_objects(rt: HostRuntime) -> Result<(), Fail> {
 
 // A node is hashed, has no header, or stands above level 15.
 const NODES: &[Case] = &[
-    (
-        &[Change::Put(EXTENTS, FLAGS, &[0x0b])],
-        Err((Feature::Sealed, 55)),
-    ),
-    (
-        &[Change::Put(EXTENTS, FLAGS, &[0x13])],
-        Err((Feature::NoHeader, 55)),
-    ),
-    (
-        &[Change::Put(EXTENTS, FLAGS, &[1, 0, 16])],
-        Err((Feature::Deep, 55)),
-    ),
-    (
-        &[Change::Put(EXTENTS, END + NODE_SIZE + 1, &[0x20])],
-        Err((Feature::Size, 55)),
-    ),
-    (
-        &[Change::Put(MAP_ROOT, VALUE, &[4])],
-        Err((Feature::Encrypted, 54)),
-    ),
-    (
-        &[Change::Put(MAP_ROOT, VALUE, &[8])],
-        Err((Feature::NoHeader, 54)),
-    ),
-    (
-        &[Change::Put(MAP_ROOT, VALUE + 5, &[0x20])],
-        Err((Feature::Size, 54)),
-    ),
-    (&[Change::Put(MAP_ROOT, VALUE, &[2])], Ok((14, 57))),
+    Case {
+        changes: &[Change::Put(EXTENTS, FLAGS, &[0x0b])],
+        want: Err((Feature::Sealed, 55)),
+    },
+    Case {
+        changes: &[Change::Put(EXTENTS, FLAGS, &[0x13])],
+        want: Err((Feature::NoHeader, 55)),
+    },
+    Case {
+        changes: &[Change::Put(EXTENTS, FLAGS, &[1, 0, 16])],
+        want: Err((Feature::Deep, 55)),
+    },
+    Case {
+        changes: &[Change::Put(EXTENTS, END + NODE_SIZE + 1, &[0x20])],
+        want: Err((Feature::Size, 55)),
+    },
+    Case {
+        changes: &[Change::Put(MAP_ROOT, VALUE, &[4])],
+        want: Err((Feature::Encrypted, 54)),
+    },
+    Case {
+        changes: &[Change::Put(MAP_ROOT, VALUE, &[8])],
+        want: Err((Feature::NoHeader, 54)),
+    },
+    Case {
+        changes: &[Change::Put(MAP_ROOT, VALUE + 5, &[0x20])],
+        want: Err((Feature::Size, 54)),
+    },
+    Case {
+        changes: &[Change::Put(MAP_ROOT, VALUE, &[2])],
+        want: Ok(SMALL_NUMBERS),
+    },
 ];
 
 #[test]

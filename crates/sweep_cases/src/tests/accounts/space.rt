@@ -3,6 +3,7 @@
 use super::{Case, assert_cases, sum};
 use apfs_layout::chunk_info::{CAB_INDEX, CHUNK_ADDRESS, CHUNK_BITMAP, CIB_ENTRIES, CIB_INDEX};
 use apfs_layout::space_manager::{BLOCKS_PER_CHUNK, MAIN_FREE, POOL_BITMAP_SIZE};
+use img_changes::cases::RING_INDEX;
 use img_changes::{Change, SMALL, grouped};
 use img_make::places::{POOL_BASE, POOL_QUEUE, SPACE_MANAGER};
 use obj_base::Stop;
@@ -11,35 +12,32 @@ use space_map::SpaceFault;
 use space_pool::PoolFault;
 use std::test::Fail;
 
-// Where the manager has the index of the pool's current bitmap.
-const RING_INDEX: usize = 2520;
-
 const SPACE: &[Case] = &[
-    (
-        SMALL,
-        &[Change::Put(SPACE_MANAGER, BLOCKS_PER_CHUNK, &[0xf8, 0x7f])],
-        Err(ReachFault::Space(SpaceFault::Geometry)),
-    ),
-    (
-        SMALL,
-        &[Change::Put(POOL_BASE, CIB_INDEX, &[1])],
-        Err(ReachFault::Space(SpaceFault::Cib { index: 0 })),
-    ),
-    (
-        SMALL,
-        &[Change::Put(POOL_BASE, CIB_ENTRIES + CHUNK_ADDRESS, &[1])],
-        Err(ReachFault::Space(SpaceFault::Index { chunk: 0 })),
-    ),
-    (
-        SMALL,
-        &[Change::Put(POOL_BASE, CIB_ENTRIES + CHUNK_BITMAP, &[200])],
-        Err(ReachFault::Space(SpaceFault::Place { block: 200 })),
-    ),
-    (
-        SMALL,
-        &[Change::Put(SPACE_MANAGER, MAIN_FREE, &[198])],
-        Err(ReachFault::Space(SpaceFault::FreeTotal)),
-    ),
+    Case {
+        base: SMALL,
+        changes: &[Change::Put(SPACE_MANAGER, BLOCKS_PER_CHUNK, &[0xf8, 0x7f])],
+        want: Err(ReachFault::Space(SpaceFault::Geometry)),
+    },
+    Case {
+        base: SMALL,
+        changes: &[Change::Put(POOL_BASE, CIB_INDEX, &[1])],
+        want: Err(ReachFault::Space(SpaceFault::Cib { index: 0 })),
+    },
+    Case {
+        base: SMALL,
+        changes: &[Change::Put(POOL_BASE, CIB_ENTRIES + CHUNK_ADDRESS, &[1])],
+        want: Err(ReachFault::Space(SpaceFault::Index { chunk: 0 })),
+    },
+    Case {
+        base: SMALL,
+        changes: &[Change::Put(POOL_BASE, CIB_ENTRIES + CHUNK_BITMAP, &[200])],
+        want: Err(ReachFault::Space(SpaceFault::Place { block: 200 })),
+    },
+    Case {
+        base: SMALL,
+        changes: &[Change::Put(SPACE_MANAGER, MAIN_FREE, &[198])],
+        want: Err(ReachFault::Space(SpaceFault::FreeTotal)),
+    },
 ];
 
 #[test]
@@ -59,31 +57,31 @@ fn an_address_block_of_another_index(rt: HostRuntime) -> Result<(), Fail> {
 
 // Block 60 isn't of the pool, and 50 is its last one.
 const POOL: &[Case] = &[
-    (
-        SMALL,
-        &[Change::Put(SPACE_MANAGER, RING_INDEX, &[16])],
-        Err(ReachFault::Pool(PoolFault::Index { at: 0 })),
-    ),
-    (
-        SMALL,
-        &[Change::Put(SPACE_MANAGER, POOL_BITMAP_SIZE, &[0])],
-        Err(ReachFault::Pool(PoolFault::Count)),
-    ),
-    (
-        SMALL,
-        &[Change::Records(POOL_QUEUE, &[([1, 60], &[1])])],
-        Err(ReachFault::Pool(PoolFault::Place { block: 60 })),
-    ),
-    (
-        SMALL,
-        &[Change::Records(POOL_QUEUE, &[([1, 50], &[2])])],
-        Err(ReachFault::Pool(PoolFault::Place { block: 50 })),
-    ),
-    (
-        SMALL,
-        &[Change::Records(POOL_QUEUE, &[([1, 50], &[1])])],
-        Err(ReachFault::PoolMissing { block: 50 }),
-    ),
+    Case {
+        base: SMALL,
+        changes: &[Change::Put(SPACE_MANAGER, RING_INDEX, &[16])],
+        want: Err(ReachFault::Pool(PoolFault::Index { at: 0 })),
+    },
+    Case {
+        base: SMALL,
+        changes: &[Change::Put(SPACE_MANAGER, POOL_BITMAP_SIZE, &[0])],
+        want: Err(ReachFault::Pool(PoolFault::Count)),
+    },
+    Case {
+        base: SMALL,
+        changes: &[Change::Records(POOL_QUEUE, &[([1, 60], &[1])])],
+        want: Err(ReachFault::Pool(PoolFault::Place { block: 60 })),
+    },
+    Case {
+        base: SMALL,
+        changes: &[Change::Records(POOL_QUEUE, &[([1, 50], &[2])])],
+        want: Err(ReachFault::Pool(PoolFault::Place { block: 50 })),
+    },
+    Case {
+        base: SMALL,
+        changes: &[Change::Records(POOL_QUEUE, &[([1, 50], &[1])])],
+        want: Err(ReachFault::PoolMissing { block: 50 }),
+    },
 ];
 
 #[test]

@@ -1,7 +1,8 @@
 -- The nine lines are put, and after them those of the notes.
-use Rattle.std.proofs.Common.{List, subst}
+use Rattle.std.proofs.Common.{List, ◌∙◌, ap, subst}
 use Rattle.std.specs.List.{flat_map}
 use Rattle.tree_rules.specs.declared.notes.Note.{Note}
+use Rattle.apfs_check.specs.Report.{Told}
 use Rattle.apfs_cli.specs.ReportText.{head_text, note_line}
 use Rattle.apfs_cli.specs.Written.{sunk, IsPut}
 use Rattle.apfs_cli.proofs.Puts.{put_after, put_cut}
@@ -14,7 +15,7 @@ returns-in-Ok g c =
     put_after (head_text told) (flat_map note_line told.notes) c.put_lines.result
     (g.W.Sink.contents c.args.out.now) (g.W.Sink.contents c.put_head.new.out) (g.W.Sink.contents c.put_lines.new.out)
     (g.W.Sink.faults c.args.out.now) (g.W.Sink.faults c.put_head.new.out) (g.W.Sink.faults c.put_lines.new.out)
-    c.in-Ok.ensures (subst P c.notes.ensures c.put_lines.ensures)
+    c.in-Ok.ensures (subst P (c.deref.ensures.value ∙ ap (λ (t : Told). t.notes) c.report.view_is) c.put_lines.ensures)
 
 pub returns-in-Err : goal.returns-in-Err
 returns-in-Err g c =

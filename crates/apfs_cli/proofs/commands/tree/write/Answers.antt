@@ -6,8 +6,8 @@ use Rattle.obj_base.specs.declared.stop.Stop.{Stop}
 use Rattle.nx_ring.specs.Checkpoint.{Seen}
 use Rattle.vol_view.specs.Volumes.{Loaded}
 use Rattle.vol_view.specs.declared.volume.View.{View}
-use Rattle.path_walk.specs.Tree.{tree}
-use Rattle.path_walk.specs.Texts.{tree_text}
+use Rattle.view_tree.specs.Tree.{tree}
+use Rattle.view_tree.specs.Texts.{tree_text}
 use Rattle.path_walk.specs.declared.stop.PathStop.{PathStop}
 use Rattle.path_walk.specs.declared.target.Target.{Target}
 use Rattle.apfs_cli.specs.Commands.Tree as command

@@ -1,13 +1,8 @@
-use Rattle.std.proofs.Common.{ap, ◌∙◌}
 use Rattle.bt_cursor.specs.Tree.{tree_in}
-use Rattle.bt_cursor.specs.Line.{line_of}
-use Rattle.bt_cursor.specs.From.{from_rank}
 use Rattle.bt_cursor.specs.Ahead.{gapped_ahead}
-use Rattle.bt_cursor.specs.Gaps.{all_met}
 use Rattle.bt_cursor.proofs.Places.{tree-levelled, node-world}
 use Rattle.bt_cursor.proofs.Suffixes.{cut-place}
-use Rattle.bt_cursor.proofs.Seeks.{place-ordered}
-use Rattle.bt_cursor.proofs.Flats.{flat-met, line-pairs}
+use Rattle.bt_cursor.proofs.Seeks.{place-from}
 use Rattle.bt_cursor.proofs.cursor.Cursor.seek.Goals as goal
 
 pub returns-in-Err-clause-exact : goal.returns-in-Err-clause-exact
@@ -28,7 +23,5 @@ returns-in-Ok-clause-left g c image told on ordered =
     let self = c.args.self.now in
     let way = c.find.new.way in
     let tree = tree_in g.K.TreeKey.shape self.site (g.N.Namer.named self.namer) image in
-    let place = cut-place tree self.root c.args.rank.now way.above.items way.last (c.in-Ok.ensures.within image told self.root on) c.in-Ok.ensures.cut c.in-Ok.ensures.way.hold_last.inside in
-    flat-met (gapped_ahead tree way)
-    ∙ (place-ordered tree.shape c.args.rank.now (line_of tree self.root) (all_met (gapped_ahead tree way)) ordered place
-    ∙ ap (from_rank tree.shape c.args.rank.now) (line-pairs tree self.root))
+    place-from tree self.root c.args.rank.now (gapped_ahead tree way) ordered
+    (cut-place tree self.root c.args.rank.now way.above.items way.last (c.in-Ok.ensures.within image told self.root on) c.in-Ok.ensures.cut c.in-Ok.ensures.way.hold_last.inside)

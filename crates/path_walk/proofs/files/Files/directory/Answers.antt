@@ -8,8 +8,8 @@ use Rattle.fs_record.specs.Facts.{Fact, is_reserved}
 use Rattle.path_walk.specs.Parts.{Rises}
 use Rattle.path_walk.proofs.files.Files.directory.Goals as goal
 
-pub returns-clause-each : goal.returns-clause-each
-returns-clause-each c facts r e h =
+pub returns-clause-counted : goal.returns-clause-counted
+returns-clause-counted c facts r e h =
     let items : List (Fact Entry) = c.args.self.now.entries.items in
     let test = λ (f : Fact Entry). f.id == c.args.id in
     let same : c.run_of.result.now ≡ filter test items = c.run_of.ensures (subst (λ (l : List (Fact Entry)). Rises l) (sym c.deref.ensures.value) r.entries_rise) ∙ ap (filter test) c.deref.ensures.value in

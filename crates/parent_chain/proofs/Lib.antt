@@ -1,0 +1,3 @@
+pub mod WayLooks
+pub mod Climbing
+pub mod FirstUnreached

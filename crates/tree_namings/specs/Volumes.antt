@@ -1,0 +1,4 @@
+-- The loaded volumes: what they tell of their namings.
+pub mod Told
+pub mod Parts
+pub mod Laws

@@ -1,3 +1,0 @@
-pub mod WayLooks
-pub mod Climbing
-pub mod Reaching

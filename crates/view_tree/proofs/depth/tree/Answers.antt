@@ -1,0 +1,41 @@
+use Rattle.std.proofs.Common.{◌≡◌, ℕ, List, Err, ap, sym, Vec, Global}
+use Rattle.obj_base.specs.declared.stop.Stop.TheVariants.{Found}
+use Rattle.vol_view.specs.Volumes.{Loaded}
+use Rattle.view_rules.specs.Facts.{Facts}
+use Rattle.view_rules.specs.Rules.{view_facts}
+use Rattle.view_tree.specs.Tree.{tree}
+use Rattle.path_walk.specs.declared.target.Target.{Target}
+use Rattle.path_walk.specs.declared.stop.PathStop.TheVariants as stops
+use Rattle.path_walk.proofs.Known.{unanswered_given}
+use Rattle.view_tree.proofs.Told.{records_told}
+use Rattle.view_tree.proofs.Entered.{tree_given, tree_there, tree_told}
+use Rattle.view_tree.proofs.depth.tree.Goals as goal
+
+pub returns-in-Err-clause-exact : goal.returns-in-Err-clause-exact
+returns-in-Err-clause-exact g c image told lawful =
+    unanswered_given image c.args.site.now c.args.volume.now c.args.view.now (λ (v : Vec (List ℕ × Target) Global). v.items) (tree (view_facts image c.args.site.now c.args.volume.now c.args.view.now) c.args.path.now) c.in-Err.stop lawful (c.in-Err.ensures.present image told) c.in-Err.ensures.unanswered
+
+pub returns-in-Err-clause-told : goal.returns-in-Err-clause-told
+returns-in-Err-clause-told g c image told fault e =
+    let same : c.in-Err.stop ≡ Found (stops.Fault fault) = cc in
+    records_told c.args.view.now (view_facts image c.args.site.now c.args.volume.now c.args.view.now) c.args.path.now fault (c.in-Err.ensures.walked fault (ap Err same))
+
+pub returns-clause-exact : goal.returns-clause-exact
+returns-clause-exact g c image told lawful =
+    let facts : Facts = view_facts image c.args.site.now c.args.volume.now c.args.view.now in
+    tree_given image c.args.site.now c.args.volume.now c.args.view.now c.args.path.now (λ (v : Vec (List ℕ × Target) Global). v.items) (tree facts c.args.path.now) c.in-Err-tree_in.stop lawful (c.in-Err-tree_in.ensures.known facts (sym (ap (λ (v : Loaded). v.names) c.volume.view_is)) (c.in-Ok.ensures.clear image told))
+
+pub returns-clause-present : goal.returns-clause-present
+returns-clause-present g c image told =
+    let facts : Facts = view_facts image c.args.site.now c.args.volume.now c.args.view.now in
+    tree_there image c.args.site.now c.args.volume.now c.args.view.now c.args.path.now (λ (v : Vec (List ℕ × Target) Global). v.items) (tree facts c.args.path.now) c.in-Err-tree_in.stop (c.in-Err-tree_in.ensures.known facts (sym (ap (λ (v : Loaded). v.names) c.volume.view_is)) (c.in-Ok.ensures.clear image told))
+
+pub returns-clause-told : goal.returns-clause-told
+returns-clause-told g c image told fault e =
+    let facts : Facts = view_facts image c.args.site.now c.args.volume.now c.args.view.now in
+    tree_told facts c.args.view.now c.args.path.now (λ (v : Vec (List ℕ × Target) Global). v.items) (tree facts c.args.path.now) c.in-Err-tree_in.stop fault (c.in-Err-tree_in.ensures.known facts (sym (ap (λ (v : Loaded). v.names) c.volume.view_is)) (c.in-Ok.ensures.clear image told)) e
+
+pub returns-in-Ok-tree_in-clause-clear : goal.returns-in-Ok-tree_in-clause-clear
+returns-in-Ok-tree_in-clause-clear g c image told =
+    let facts : Facts = view_facts image c.args.site.now c.args.volume.now c.args.view.now in
+    c.in-Ok-tree_in.ensures.clear facts (sym (ap (λ (v : Loaded). v.names) c.volume.view_is)) (c.in-Ok.ensures.clear image told)

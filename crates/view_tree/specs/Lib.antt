@@ -1,0 +1,5 @@
+pub mod Tree
+pub mod Texts
+pub mod Met
+pub mod Told
+pub mod Parts

@@ -1,0 +1,425 @@
+// What is under a directory, depth first, by the entries and the inodes of a view in memory.
+ghost use Rattle.std.specs.Prelude.{◌≡◌, ◌++◌, ℕ, IsErrOf, true, false, List, [], ◌∷◌, map, reverse, length, Some, IfOk, IfErr, OnOk, Ok};
+ghost use Rattle.std.specs.BTreeMap.{get};
+ghost use Rattle.std.specs.Ordering.{nat_cmp};
+ghost use Rattle.obj_base.specs.declared.stop.Stop.TheVariants as stops;
+ghost use Rattle.obj_base.specs.declared.stop.Stop.TheVariants.{ReadFault};
+ghost use Rattle.view_rules.specs.Facts.{Facts};
+ghost use Rattle.path_walk.specs.Paths.{slash};
+ghost use Rattle.path_walk.specs.Places.{target_of};
+ghost use Rattle.path_walk.specs.Found.{found};
+ghost use Rattle.path_walk.specs.Listing.{children};
+ghost use Rattle.view_tree.specs.Tree as spec;
+ghost use Rattle.view_tree.specs.Met.{spot_in, is_user_id, IsEntryOf, IsEntered, IsMet, IsMetTwice, IsShownTwice};
+ghost use Rattle.path_walk.specs.Parts.{whats, by_part, along, targets_by, Remembers};
+ghost use Rattle.view_tree.specs.Parts.{is_opened_target, told_after, told_of, told_under, told_from, IsMemo, IsTaken, TakesFrom, HasAll, IsUnderway, IsTreeStop, IsTreeKnown, StaysKept, AreKeptIn, AreRowsKept, KeepsTaken, KeepsFrom, KeepsPath};
+
+use apfs_model::{Bytes, NoMemory};
+use fs_name::{Names, push_shown};
+use obj_base::Stop;
+use path_walk::by_memory::{go_by, place_in, root};
+use path_walk::choice::{choose_number, parts};
+use path_walk::order::by_name;
+use path_walk::{Files, KeptEntry, PathStop, Place, ROOT, Target};
+use std::alloc::{AllocError, Global};
+use std::collections::BTreeMap;
+use view_rules::{IdAt, TreeFault};
+use vol_view::View;
+
+// The kind of a directory (File System Constants, File Modes).
+const DIRECTORY: u16 = 4;
+
+// The first id of those that aren't kept for the format's own use (`MIN_USER_INO_NUM`).
+const FIRST_USER: u64 = 16;
+
+// Whether a target is a directory that is entered where it is met on the way.
+fn is_opened(target: &Target) -> bool
+    ensures { result ≡ is_opened_target target.now }
+{
+    target.kind == DIRECTORY && FIRST_USER <= target.id
+}
+
+// Whether a place is a directory that is entered where it is met on the way.
+fn is_opened_place(place: &Place) -> bool
+    ensures { result ≡ spec.is_opened place.now }
+{
+    place.is_directory() && FIRST_USER <= place.id()
+}
+
+// Keeps the spot of an entry that names a directory; false where another spot was kept of it.
+fn keep_spot(
+    memo: &mut BTreeMap<u64, (u64, usize)>,
+    id: u64,
+    spot: (u64, usize),
+) -> Result<bool, NoMemory>
+    ensures kept { (facts : Facts) (path : List ℕ) → IsMemo facts path memo.old → IsMet facts path (spot_in spot.0 spot.1) → IsEntryOf facts (spot_in spot.0 spot.1) id → OnOk result (IsMemo facts path memo.new) }
+    ensures twice { (facts : Facts) (path : List ℕ) → IsMemo facts path memo.old → IsMet facts path (spot_in spot.0 spot.1) → IsEntryOf facts (spot_in spot.0 spot.1) id → is_user_id facts id ≡ true → IfOk result (λ same. same ≡ false → IsMetTwice facts path id) }
+    ensures stays { OnOk result (StaysKept memo.old memo.new) }
+    ensures holds { IfOk result (λ same. same ≡ true → get nat_cmp memo.new id ≡ Some spot) }
+{
+    let before = memo.get(&id).copied();
+    match before {
+        Some(other) => Ok(other.0 == spot.0 && other.1 == spot.1),
+        None => match memo.insert(id, spot) {
+            Ok(_) => Ok(true),
+            Err(_) => Err(NoMemory),
+        },
+    }
+}
+
+// Meets an entry that leads to an id: where that is a directory which is entered where it is met, DirNames comes where another
+// entry led to it.
+fn meet(
+    view: &View,
+    memo: &mut BTreeMap<u64, (u64, usize)>,
+    spot: (u64, usize),
+    id: u64,
+    opened: bool,
+) -> Result<(), Stop<PathStop>>
+    ensures no_read { IsErrOf result ReadFault → ⊥ }
+    ensures kept { (facts : Facts) (path : List ℕ) → IsMemo facts path memo.old → IsMet facts path (spot_in spot.0 spot.1) → IsEntryOf facts (spot_in spot.0 spot.1) id → OnOk result (IsMemo facts path memo.new) }
+    ensures stops { (facts : Facts) (path : List ℕ) → IsMemo facts path memo.old → IsMet facts path (spot_in spot.0 spot.1) → IsEntryOf facts (spot_in spot.0 spot.1) id → (opened ≡ true → is_user_id facts id ≡ true) → IfErr result (IsTreeStop facts view.now path) }
+    ensures stays { OnOk result (StaysKept memo.old memo.new) }
+    ensures holds { opened ≡ true → OnOk result (get nat_cmp memo.new id ≡ Some spot) }
+{
+    if !opened {
+        return Ok(());
+    }
+    let same = keep_spot(memo, id, spot)?;
+    if same {
+        Ok(())
+    } else {
+        Err(Stop::Found(PathStop::Fault(TreeFault::DirNames(IdAt {
+            slot: view.slot,
+            xid: view.xid,
+            id,
+        }))))
+    }
+}
+
+// Meets the entries of a directory, each with its number there, and gives what they lead to, in their order.
+fn meet_entries(
+    alloc: Global,
+    files: &Files,
+    view: &View,
+    memo: &mut BTreeMap<u64, (u64, usize)>,
+    id: u64,
+    entries: &[KeptEntry],
+) -> Result<Vec<Target>, Stop<PathStop>>
+    ensures no_read { IsErrOf result ReadFault → ⊥ }
+    ensures gives { (facts : Facts) (path : List ℕ) (first : ℕ) → IsUnderway facts path first files.now.entries.items files.now.inodes.items → IsEntered facts first id → HasAll facts id entries.now → IsMemo facts path memo.old → IfOk result (λ targets. targets.items ≡ targets_by facts (whats entries.now)) }
+    ensures kept { (facts : Facts) (path : List ℕ) (first : ℕ) → IsUnderway facts path first files.now.entries.items files.now.inodes.items → IsEntered facts first id → HasAll facts id entries.now → IsMemo facts path memo.old → OnOk result (IsMemo facts path memo.new) }
+    ensures stops { (facts : Facts) (path : List ℕ) (first : ℕ) → IsUnderway facts path first files.now.entries.items files.now.inodes.items → IsEntered facts first id → HasAll facts id entries.now → IsMemo facts path memo.old → IfErr result (IsTreeStop facts view.now path) }
+    ensures all { (facts : Facts) (path : List ℕ) (first : ℕ) → IsUnderway facts path first files.now.entries.items files.now.inodes.items → IsEntered facts first id → HasAll facts id entries.now → IsMemo facts path memo.old → OnOk result (StaysKept memo.old memo.new × AreKeptIn facts memo.new id) }
+{
+    let mut targets = Vec::new(alloc);
+    for (number, entry) in entries.iter().enumerate() {
+        let place = match place_in(alloc, files, view, entry) {
+            Ok(place) => place,
+            Err(stop) => return Err(stop),
+        };
+        let target = place.target();
+        match meet(view, memo, (id, number), target.id, is_opened(&target)) {
+            Ok(()) => {}
+            Err(stop) => return Err(stop),
+        }
+        targets.push(target)?;
+    }
+    Ok(targets)
+}
+
+// What a directory that is entered has, by name.
+fn enter(
+    alloc: Global,
+    files: &Files,
+    view: &View,
+    memo: &mut BTreeMap<u64, (u64, usize)>,
+    id: u64,
+) -> Result<Vec<Target>, Stop<PathStop>>
+    ensures no_read { IsErrOf result ReadFault → ⊥ }
+    ensures gives { (facts : Facts) (path : List ℕ) (first : ℕ) → IsUnderway facts path first files.now.entries.items files.now.inodes.items → IsEntered facts first id → IsMemo facts path memo.old → IfOk result (λ targets. targets.items ≡ map target_of (children facts id)) }
+    ensures kept { (facts : Facts) (path : List ℕ) (first : ℕ) → IsUnderway facts path first files.now.entries.items files.now.inodes.items → IsEntered facts first id → IsMemo facts path memo.old → OnOk result (IsMemo facts path memo.new) }
+    ensures stops { (facts : Facts) (path : List ℕ) (first : ℕ) → IsUnderway facts path first files.now.entries.items files.now.inodes.items → IsEntered facts first id → IsMemo facts path memo.old → IfErr result (IsTreeStop facts view.now path) }
+    ensures all { (facts : Facts) (path : List ℕ) (first : ℕ) → IsUnderway facts path first files.now.entries.items files.now.inodes.items → IsEntered facts first id → IsMemo facts path memo.old → OnOk result (StaysKept memo.old memo.new × AreKeptIn facts memo.new id) }
+{
+    let targets = match meet_entries(alloc, files, view, memo, id, files.directory(id)) {
+        Ok(targets) => targets,
+        Err(stop) => return Err(stop),
+    };
+    let sorted = by_name(targets)?;
+    Ok(sorted)
+}
+
+// The row of a target, after what leads to it.
+fn row_after(
+    alloc: Global,
+    before: &[u8],
+    target: Target,
+) -> Result<(Bytes, Target), Stop<PathStop>>
+    ensures no_read { IsErrOf result ReadFault → ⊥ }
+    ensures row { IfOk result (λ row. row ≡ told_after before.now target) }
+    ensures memory { IfErr result (λ stop. stop ≡ stops.NoMemory) }
+{
+    let mut path = before.to_vec(alloc)?;
+    push_shown(&mut path, target.name.as_slice())?;
+    let path = Bytes::from_slice(alloc, &path)?;
+    Ok((path, target))
+}
+
+// Puts the rows of some targets on those that are left, the first of them on top.
+fn put_on(
+    alloc: Global,
+    before: &[u8],
+    targets: Vec<Target>,
+    left: &mut Vec<(Bytes, Target)>,
+) -> Result<(), Stop<PathStop>>
+    ensures no_read { IsErrOf result ReadFault → ⊥ }
+    ensures put { OnOk result (reverse left.new.items ≡ map (told_after before.now) targets.items ++ reverse left.old.items) }
+    ensures memory { IfErr result (λ stop. stop ≡ stops.NoMemory) }
+{
+    let mut targets = targets;
+    'put: while let Some(target) = targets.pop() {
+        let row = match row_after(alloc, before, target) {
+            Ok(row) => row,
+            Err(stop) => return Err(stop),
+        };
+        left.push(row)?;
+    }
+    Ok(())
+}
+
+// The row of a place that is no directory.
+fn lone_row(alloc: Global, place: Place) -> Result<(Bytes, Target), Stop<PathStop>>
+    ensures no_read { IsErrOf result ReadFault → ⊥ }
+    ensures row { IfOk result (λ row. row ≡ spec.row_told (spec.lone_row place)) }
+    ensures memory { IfErr result (λ stop. stop ≡ stops.NoMemory) }
+{
+    let target = place.target();
+    if target.id != ROOT {
+        return match row_after(alloc, b"", target) {
+            Ok(row) => Ok(row),
+            Err(stop) => Err(stop),
+        };
+    }
+    let path = Bytes::from_slice(alloc, target.name.as_slice())?;
+    Ok((path, target))
+}
+
+// What leads to the rows under a row: its path and a slash.
+fn before_under(alloc: Global, path: &Bytes) -> Result<Vec<u8>, AllocError>
+    ensures { IfOk result (λ before. before.items ≡ path.now ++ slash ∷ []) }
+{
+    let mut before = path.as_slice().to_vec(alloc)?;
+    before.push(b'/')?;
+    Ok(before)
+}
+
+// Puts the rows right under a row on those that are left.
+fn go_under(
+    alloc: Global,
+    files: &Files,
+    view: &View,
+    memo: &mut BTreeMap<u64, (u64, usize)>,
+    row: &(Bytes, Target),
+    left: &mut Vec<(Bytes, Target)>,
+) -> Result<(), Stop<PathStop>>
+    ensures no_read { IsErrOf result ReadFault → ⊥ }
+    ensures gives { (facts : Facts) (path : List ℕ) (first : ℕ) → IsUnderway facts path first files.now.entries.items files.now.inodes.items → (is_opened_target row.now.1 ≡ true → IsEntered facts first row.now.1.id) → IsMemo facts path memo.old → OnOk result (reverse left.new.items ≡ told_under facts row.now ++ reverse left.old.items) }
+    ensures kept { (facts : Facts) (path : List ℕ) (first : ℕ) → IsUnderway facts path first files.now.entries.items files.now.inodes.items → (is_opened_target row.now.1 ≡ true → IsEntered facts first row.now.1.id) → IsMemo facts path memo.old → OnOk result (IsMemo facts path memo.new) }
+    ensures stops { (facts : Facts) (path : List ℕ) (first : ℕ) → IsUnderway facts path first files.now.entries.items files.now.inodes.items → (is_opened_target row.now.1 ≡ true → IsEntered facts first row.now.1.id) → IsMemo facts path memo.old → IfErr result (IsTreeStop facts view.now path) }
+    ensures all { (facts : Facts) (path : List ℕ) (first : ℕ) → IsUnderway facts path first files.now.entries.items files.now.inodes.items → (is_opened_target row.now.1 ≡ true → IsEntered facts first row.now.1.id) → IsMemo facts path memo.old → OnOk result (StaysKept memo.old memo.new × (is_opened_target row.now.1 ≡ true → AreKeptIn facts memo.new row.now.1.id)) }
+{
+    if !is_opened(&row.1) {
+        return Ok(());
+    }
+    let targets = match enter(alloc, files, view, memo, row.1.id) {
+        Ok(targets) => targets,
+        Err(stop) => return Err(stop),
+    };
+    let before = before_under(alloc, &row.0)?;
+    match put_on(alloc, &before, targets, left) {
+        Ok(()) => Ok(()),
+        Err(stop) => Err(stop),
+    }
+}
+
+// The rows under a directory, as many as the view has entries at most.
+fn rows_below(
+    alloc: Global,
+    files: &Files,
+    view: &View,
+    memo: &mut BTreeMap<u64, (u64, usize)>,
+    id: u64,
+) -> Result<Vec<(Bytes, Target)>, Stop<PathStop>>
+    ensures no_read { IsErrOf result ReadFault → ⊥ }
+    ensures gives { (facts : Facts) (path : List ℕ) → IsUnderway facts path id files.now.entries.items files.now.inodes.items → IsMemo facts path memo.old → IfOk result (λ rows. rows.items ≡ told_from facts (length facts.entries) (told_of facts [] id)) }
+    ensures stops { (facts : Facts) (path : List ℕ) → IsUnderway facts path id files.now.entries.items files.now.inodes.items → IsMemo facts path memo.old → IfErr result (IsTreeStop facts view.now path) }
+    ensures all { (facts : Facts) (path : List ℕ) → IsUnderway facts path id files.now.entries.items files.now.inodes.items → IsMemo facts path memo.old → IfOk result (λ rows. StaysKept memo.old memo.new × (AreKeptIn facts memo.new id × AreRowsKept facts memo.new rows.items)) }
+{
+    let targets = match enter(alloc, files, view, memo, id) {
+        Ok(targets) => targets,
+        Err(stop) => return Err(stop),
+    };
+    let mut left = Vec::new(alloc);
+    match put_on(alloc, b"", targets, &mut left) {
+        Ok(()) => {}
+        Err(stop) => return Err(stop),
+    }
+    let mut rows = Vec::new(alloc);
+    'rows: while rows.len() < files.entries.len() {
+        let Some(row) = left.pop() else {
+            return Ok(rows);
+        };
+        match go_under(alloc, files, view, memo, &row, &mut left) {
+            Ok(()) => {}
+            Err(stop) => return Err(stop),
+        }
+        rows.push(row)?;
+    }
+    Ok(rows)
+}
+
+// Keeps the spot of the entry that a part of a path took at a place, where it led to a directory which is entered where it is
+// met.
+fn keep_part(
+    alloc: Global,
+    files: &Files,
+    names: Names,
+    view: &View,
+    memo: &mut BTreeMap<u64, (u64, usize)>,
+    place: u64,
+    part: &str,
+    next: &Place,
+) -> Result<(), Stop<PathStop>>
+    ensures no_read { IsErrOf result ReadFault → ⊥ }
+    ensures kept { (facts : Facts) (path : List ℕ) → facts.names ≡ names → Remembers facts files.now.entries.items files.now.inodes.items → IsMemo facts path memo.old → IsTaken facts path place part.now next.now → OnOk result (IsMemo facts path memo.new) }
+    ensures stops { (facts : Facts) (path : List ℕ) → facts.names ≡ names → Remembers facts files.now.entries.items files.now.inodes.items → IsMemo facts path memo.old → IsTaken facts path place part.now next.now → IfErr result (IsTreeStop facts view.now path) }
+    ensures all { (facts : Facts) (path : List ℕ) → facts.names ≡ names → Remembers facts files.now.entries.items files.now.inodes.items → IsMemo facts path memo.old → IsTaken facts path place part.now next.now → OnOk result (StaysKept memo.old memo.new × KeepsTaken facts memo.new place part.now) }
+{
+    if part.is_empty() {
+        return Ok(());
+    }
+    let number = choose_number(alloc, names, part, files.directory(place))?;
+    let Some(number) = number else {
+        return Ok(());
+    };
+    match meet(
+        view,
+        memo,
+        (place, number),
+        next.id(),
+        is_opened_place(next),
+    ) {
+        Ok(()) => Ok(()),
+        Err(stop) => Err(stop),
+    }
+}
+
+// One part of a path on from a place, whose entry is met.
+fn trace_part(
+    alloc: Global,
+    files: &Files,
+    names: Names,
+    view: &View,
+    memo: &mut BTreeMap<u64, (u64, usize)>,
+    place: Place,
+    part: &str,
+) -> Result<Place, Stop<PathStop>>
+    ensures no_read { IsErrOf result ReadFault → ⊥ }
+    ensures known { (facts : Facts) (path : List ℕ) (rest : List (List ℕ)) → facts.names ≡ names → Remembers facts files.now.entries.items files.now.inodes.items → IsMemo facts path memo.old → TakesFrom facts path (part.now ∷ rest) place → IsTreeKnown facts view.now path (λ place. place) (by_part facts place part.now) result }
+    ensures kept { (facts : Facts) (path : List ℕ) (rest : List (List ℕ)) → facts.names ≡ names → Remembers facts files.now.entries.items files.now.inodes.items → IsMemo facts path memo.old → TakesFrom facts path (part.now ∷ rest) place → OnOk result (IsMemo facts path memo.new) }
+    ensures taken { (facts : Facts) (path : List ℕ) (rest : List (List ℕ)) → facts.names ≡ names → Remembers facts files.now.entries.items files.now.inodes.items → IsMemo facts path memo.old → TakesFrom facts path (part.now ∷ rest) place → IfOk result (TakesFrom facts path rest) }
+    ensures all { (facts : Facts) (path : List ℕ) (rest : List (List ℕ)) → facts.names ≡ names → Remembers facts files.now.entries.items files.now.inodes.items → IsMemo facts path memo.old → TakesFrom facts path (part.now ∷ rest) place → IfOk result (λ next. StaysKept memo.old memo.new × KeepsFrom facts memo.new (part.now ∷ rest) place rest next) }
+{
+    let id = place.id();
+    let next = match go_by(alloc, files, names, view, place, part) {
+        Ok(next) => next,
+        Err(stop) => return Err(stop),
+    };
+    match keep_part(alloc, files, names, view, memo, id, part, &next) {
+        Ok(()) => Ok(next),
+        Err(stop) => Err(stop),
+    }
+}
+
+// All parts of a path on from a place, whose entries are met.
+fn trace_along(
+    alloc: Global,
+    files: &Files,
+    names: Names,
+    view: &View,
+    memo: &mut BTreeMap<u64, (u64, usize)>,
+    start: Place,
+    parts: &[&str],
+) -> Result<Place, Stop<PathStop>>
+    ensures no_read { IsErrOf result ReadFault → ⊥ }
+    ensures known { (facts : Facts) (path : List ℕ) → facts.names ≡ names → Remembers facts files.now.entries.items files.now.inodes.items → IsMemo facts path memo.old → TakesFrom facts path (map (λ part. part.now) parts.now) start → IsTreeKnown facts view.now path (λ place. place) (along facts (map (λ part. part.now) parts.now) start) result }
+    ensures kept { (facts : Facts) (path : List ℕ) → facts.names ≡ names → Remembers facts files.now.entries.items files.now.inodes.items → IsMemo facts path memo.old → TakesFrom facts path (map (λ part. part.now) parts.now) start → OnOk result (IsMemo facts path memo.new) }
+    ensures all { (facts : Facts) (path : List ℕ) → facts.names ≡ names → Remembers facts files.now.entries.items files.now.inodes.items → IsMemo facts path memo.old → TakesFrom facts path (map (λ part. part.now) parts.now) start → IfOk result (KeepsFrom facts memo.new (map (λ part. part.now) parts.now) start []) }
+{
+    let mut place = start;
+    for part in parts {
+        place = match trace_part(alloc, files, names, view, memo, place, part) {
+            Ok(next) => next,
+            Err(stop) => return Err(stop),
+        };
+    }
+    Ok(place)
+}
+
+// Where a path leads, and the spots of the entries that it takes.
+fn trace(
+    alloc: Global,
+    files: &Files,
+    names: Names,
+    view: &View,
+    memo: &mut BTreeMap<u64, (u64, usize)>,
+    path: &str,
+) -> Result<Place, Stop<PathStop>>
+    ensures no_read { IsErrOf result ReadFault → ⊥ }
+    ensures known { (facts : Facts) → facts.names ≡ names → Remembers facts files.now.entries.items files.now.inodes.items → IsMemo facts path.now memo.old → IsTreeKnown facts view.now path.now (λ place. place) (found facts path.now) result }
+    ensures kept { (facts : Facts) → facts.names ≡ names → Remembers facts files.now.entries.items files.now.inodes.items → IsMemo facts path.now memo.old → OnOk result (IsMemo facts path.now memo.new) }
+    ensures all { (facts : Facts) → facts.names ≡ names → Remembers facts files.now.entries.items files.now.inodes.items → IsMemo facts path.now memo.old → OnOk result (KeepsPath facts memo.new path.now) }
+{
+    let parts = parts(alloc, path)?;
+    let root = match root(alloc, files, view) {
+        Ok(root) => root,
+        Err(stop) => return Err(stop),
+    };
+    match trace_along(alloc, files, names, view, memo, root, &parts) {
+        Ok(place) => Ok(place),
+        Err(stop) => Err(stop),
+    }
+}
+
+/// The rows of a path's tree.
+pub(crate) fn tree_in(
+    alloc: Global,
+    files: &Files,
+    names: Names,
+    view: &View,
+    path: &str,
+) -> Result<Vec<(Bytes, Target)>, Stop<PathStop>>
+    ensures no_read { IsErrOf result ReadFault → ⊥ }
+    ensures known { (facts : Facts) → facts.names ≡ names → Remembers facts files.now.entries.items files.now.inodes.items → IsTreeKnown facts view.now path.now (λ rows. rows.items) (spec.tree facts path.now) result }
+    ensures clear { (facts : Facts) → facts.names ≡ names → Remembers facts files.now.entries.items files.now.inodes.items → IfOk result (λ rows. (id : ℕ) → IsShownTwice facts path.now rows.items id → ⊥) }
+{
+    let mut memo = BTreeMap::new(alloc);
+    let place = match trace(alloc, files, names, view, &mut memo, path) {
+        Ok(place) => place,
+        Err(stop) => return Err(stop),
+    };
+    if !place.is_directory() {
+        let row = match lone_row(alloc, place) {
+            Ok(row) => row,
+            Err(stop) => return Err(stop),
+        };
+        let mut rows = Vec::new(alloc);
+        rows.push(row)?;
+        return Ok(rows);
+    }
+    match rows_below(alloc, files, view, &mut memo, place.id()) {
+        Ok(rows) => Ok(rows),
+        Err(stop) => Err(stop),
+    }
+}

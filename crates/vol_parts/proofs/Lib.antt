@@ -1,9 +1,0 @@
-pub mod Leads
-pub mod Trees
-pub mod MapParts
-pub mod Heads
-pub mod Slots
-pub mod Tellings
-pub mod Others
-pub mod Volumes
-pub mod Law
