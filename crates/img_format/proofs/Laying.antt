@@ -39,10 +39,6 @@ pub more-laid : (items : List ℕ) (end : ℕ) (field : Field) (fields : List Fi
 more-laid items end field fields e =
     ap (λ at. is_laid end at fields) (with-field-long items end field fields e) ∙ right-true (nat_le (length items) field.0) (is_laid end (field.0 + length field.1) fields) e
 
--- where the next field begins, and the end
-pub next-begins : (items : List ℕ) (end : ℕ) (field : Field) (fields : List Field) → is_laid end (length items) (field ∷ fields) ≡ true → length items ≤ field.0
-next-begins items end field fields e = upto-from (length items) field.0 (left-true (nat_le (length items) field.0) (is_laid end (field.0 + length field.1) fields) e)
-
 -- ---- the steps of the loop
 -- what is laid out so far, and what follows, is the same after one more field
 pub record IsStep (end : ℕ) (old new : List ℕ) (before after : List Field) : Type 0 where
@@ -76,10 +72,7 @@ pub head-long : (head : Head) → length (replicate {A = ℕ} 8 0 ++ header_byte
 unfolding num
 head-long head = refl
 
--- after a header in an empty block there is room for what has room from byte 32 on
-pub after-head : (old items : List ℕ) (head : Head) → old ≡ [] → items ≡ old ++ (replicate 8 0 ++ header_bytes head) → items ≡ replicate 8 0 ++ header_bytes head
-after-head old items head e i = i ∙ ap (λ (bs : List ℕ). bs ++ (replicate 8 0 ++ header_bytes head)) e
-
+-- after a header there is room for what has room from byte 32 on
 pub head-room : (items : List ℕ) (head : Head) (fields : List Field) → items ≡ replicate 8 0 ++ header_bytes head → is_laid 4096 32 fields ≡ true → is_laid 4096 (length items) fields ≡ true
 head-room items head fields i e = ap (λ n. is_laid 4096 n fields) (ap length i ∙ head-long head) ∙ e
 
