@@ -4,3 +4,4 @@ pub mod Tables
 pub mod Nodes
 pub mod Blocks
 pub mod Fresh
+pub mod Steps

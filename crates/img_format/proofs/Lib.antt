@@ -1,0 +1,4 @@
+pub mod Laying
+pub mod Leaves
+pub mod Numbered
+pub mod Putting
