@@ -63,6 +63,21 @@ fn lists(rt: HostRuntime) -> Result<(), Fail> {
 }
 
 #[test]
+fn order(rt: HostRuntime) -> Result<(), Fail> {
+    let rows: [(&[u64], bool); 5] = [
+        (&[], true),
+        (&[7], true),
+        (SPARSE, true),
+        (&[1, 3, 2], false),
+        (&[2, 1], false),
+    ];
+    for (list, want) in rows {
+        assert_eq!(rt; are_in_order::<_, ByItself>(list), want);
+    }
+    Ok(())
+}
+
+#[test]
 fn numbers_once(rt: HostRuntime) -> Result<(), Fail> {
     let rows: [(&[u64], &[u64]); 4] = [
         (&[], &[]),
