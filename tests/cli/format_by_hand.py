@@ -1,5 +1,5 @@
 #!/usr/bin/env python3
-"""format_by_hand.py BLOCKS NAME CONTAINER VOLUME: writes a new container to standard output. It was written from docs/FORMAT.md and shares nothing with img_format."""
+"""format_by_hand.py BLOCKS NAME CONTAINER VOLUME: writes a new container to standard output. It shares no code with img_format."""
 import struct, sys, uuid
 B = 4096
 M = 2**32 - 1
