@@ -1,0 +1,268 @@
+#!/usr/bin/env python3
+"""Makes containers whose shapes are hard for a checker, and tells how time and memory grow with them.
+
+    hostile.py --list                   the shapes, a line each
+    hostile.py --make SHAPE N IMAGE     writes one of them, and tells the bytes that are used
+    hostile.py [SHAPE..]                makes each shape at n, 2n, 4n and 8n in a temporary folder, runs the commands on it, and tells time and memory
+
+`APFS=PROGRAM` is the program; without it the one that is built in this repository. `SIZES=2` takes the first two sizes alone. `LIMIT=SECONDS` ends a run, 120 without it.
+Told are the processor time and the greatest memory of the process by the kernel's count, how they grew from the size before, and both for each MiB of
+the image that is used. The containers are written by container.py, which shares no code with the program.
+"""
+import os
+import random
+import resource
+import struct
+import subprocess
+import sys
+import tempfile
+
+sys.dont_write_bytecode = True
+from container import BLOCK, EPHEMERAL, FILE, FOLDER, PHYSICAL, Container, Volume, entry, extent, folders, inode, laid, links, node, sealed, stream_id
+
+
+def plain_files(count, folder=2, first=16):
+    """The records of empty files in one folder."""
+    for i in range(count):
+        yield entry(folder, f"file-{i:07}", first + i, FILE)
+        yield inode(first + i, folder, FILE, 1)
+
+
+def one_volume(path, records, references=(), container=None):
+    container = container or Container()
+    volume = Volume(container)
+    volume.finish(volume.files(records), references)
+    return container.finish(path)
+
+
+def shared_tree(count, path):
+    """Snapshots that share one tree, of 20 files for each snapshot"""
+    container = Container(xid=count + 1)
+    volume = Volume(container)
+    root = volume.files([*folders(20 * count), *plain_files(20 * count)])
+    for xid in range(1, count + 1):
+        volume.snapshot(xid, root)
+    volume.finish(root)
+    return container.finish(path)
+
+
+def other_roots(count, path):
+    """Snapshots of which every second one has another root, over an empty tree"""
+    container = Container(xid=count + 1)
+    volume = Volume(container)
+    root = volume.files([*folders(20 * count), *plain_files(20 * count)])
+    other = volume.files(folders())
+    for xid in range(1, count + 1):
+        volume.snapshot(xid, other if xid % 2 else root)
+    volume.finish(root)
+    return container.finish(path)
+
+
+def own_leaf(count, path):
+    """Snapshots between which one leaf of the tree changes"""
+    container = Container(xid=count + 1)
+    volume = Volume(container)
+    kept = volume.files([*folders(2 * count), *plain_files(2 * count)])
+    made = {oid: container.blocks[at] for (oid, _), at in volume.map.items()}
+    leaves = sorted(oid for oid, data in made.items() if data[34:36] == b"\0\0")
+    for xid in range(1, count + 1):
+        volume.snapshot(xid, kept)
+        oid = leaves[len(leaves) // 2]
+        data = made[oid]
+        volume.put(lambda oid, data=data, xid=xid: sealed(oid, xid + 1, *struct.unpack_from("<II", data, 24), data[32:]), xid + 1, oid)
+    volume.finish(kept)
+    return container.finish(path)
+
+
+def extents_in_snapshots(count, path):
+    """One file of 80 extents for each snapshot, in a tree that they share"""
+    container = Container(xid=count + 1)
+    volume = Volume(container)
+    parts = 80 * count
+    data = container.take(2 * parts)
+    records = [*folders(1), entry(2, "file", 16, FILE), inode(16, 2, FILE, 1, parts * BLOCK), stream_id(16)]
+    records += [extent(16, i * BLOCK, BLOCK, data + 2 * i) for i in range(parts)]
+    root = volume.files(records)
+    for xid in range(1, count + 1):
+        volume.snapshot(xid, root)
+    volume.finish(root, [(data, 2 * parts, 16, 1)])
+    return container.finish(path)
+
+
+def files_over(count, spans, ranges, container):
+    """A volume of files with one extent each, `spans` their first blocks and lengths, and its new ranges."""
+    volume = Volume(container)
+    records = folders(count)
+    for i, (at, length) in enumerate(spans):
+        records += [entry(2, f"file-{i:07}", 16 + i, FILE), inode(16 + i, 2, FILE, 1, length * BLOCK), stream_id(16 + i), extent(16 + i, 0, length * BLOCK, at)]
+    volume.finish(volume.files(records), ranges)
+
+
+def ranges_under_all(count, path):
+    """New ranges of a block each, under as many extents that each cover all of them"""
+    container = Container()
+    data = container.take(count)
+    files_over(count, [(data, count)] * count, [(data + i, 1, 16, count) for i in range(count)], container)
+    return container.finish(path)
+
+
+def one_long(count, path):
+    """One long extent, and short ones under it, each with a new range of its own"""
+    container = Container()
+    data = container.take(count)
+    spans = [(data, count), *((data + i, 1) for i in range(1, count))]
+    files_over(count, spans, [(data + i, 1, 16, 1 if i == 0 else 2) for i in range(count)], container)
+    return container.finish(path)
+
+
+def random_ids(count, path):
+    """New ranges of a block each, under as many extents that begin one after the other in another order than their ids"""
+    container = Container()
+    data = container.take(2 * count)
+    order = list(range(count))
+    random.Random(1).shuffle(order)
+    ranges = [(data, count, 16, count), *((data + count + i, 1, 16, count) for i in range(count))]
+    files_over(count, [(data + i, 2 * count - i) for i in order], ranges, container)
+    return container.finish(path)
+
+
+def candidates(count, path):
+    """Candidates for the newest checkpoint, which all map the same twice as many blocks, in a hundred objects of which the last is unsound; the oldest is valid"""
+    objects = min(100, 2 * count)
+    size = 2 * count // objects
+    container = Container(xid=1, descriptors=2 + 2 * count, data=4 + objects * size)
+    one_volume(path, folders(), container=container)
+    first = 1 + container.descriptors + 4
+    rows = []
+    for i in range(objects):
+        at = first + i * size
+        data = sealed(5000 + i, 1, EPHEMERAL | 0x12, 0, bytes(size * BLOCK - 32))
+        for part in range(size):
+            container.blocks[at + part] = data[part * BLOCK : (part + 1) * BLOCK]
+        rows.append(struct.pack("<IIIIQQQ", EPHEMERAL | 0x12, 0, size * BLOCK, 0, 0, 5000 + i, at))
+    container.blocks[first + objects * size - 1] = b"unsound".ljust(BLOCK, b"\0")
+    for i in range(count):
+        at = 3 + 2 * i
+        container.blocks[at] = sealed(at, 2 + i, PHYSICAL | 0xC, 0, struct.pack("<II", 1, objects) + b"".join(rows))
+        fields = container.superblock(container.size, desc_index=(136, "I", at - 1))
+        container.blocks[at + 1] = sealed(1, 2 + i, EPHEMERAL | 1, 0, laid(BLOCK, fields))
+    return container.write(path)
+
+
+def huge_mapping(count, path):
+    """A container of many free blocks, and a newer candidate with one object that has nearly all of them"""
+    data = 4096 * count
+    container = Container(xid=1, descriptors=8, data=data)
+    one_volume(path, folders(), container=container)
+    at = 1 + container.descriptors + 4
+    row = struct.pack("<IIIIQQQ", EPHEMERAL | 5, 0, (data - 5) * BLOCK & 0xFFFFFFFF, 0, 0, 1024, at)
+    container.blocks[3] = sealed(3, 2, PHYSICAL | 0xC, 0, struct.pack("<II", 1, 1) + row)
+    container.blocks[4] = sealed(1, 2, EPHEMERAL | 1, 0, laid(BLOCK, container.superblock(container.size, desc_index=(136, "I", 2))))
+    container.blocks[at] = struct.pack("<QQQII", 0, 1024, 1, EPHEMERAL | 5, 0) + bytes(BLOCK - 32)
+    return container.write(path)
+
+
+def folder_chain(count, path):
+    """A chain of folders, each in the one before"""
+    records = folders(1)
+    for i in range(count):
+        inside = 1 if i + 1 < count else 0
+        records += [entry(15 + i if i else 2, f"d{i}", 16 + i, FOLDER), inode(16 + i, 15 + i if i else 2, FOLDER, inside)]
+    return one_volume(path, records)
+
+
+def one_folder(count, path):
+    """Empty files in one folder"""
+    return one_volume(path, [*folders(count), *plain_files(count)])
+
+
+def hard_links(count, path):
+    """Names of one file in one folder"""
+    records = [*folders(count), inode(16, 2, FILE, count)]
+    for i in range(count):
+        name = f"name-{i:07}"
+        records += [entry(2, name, 16, FILE, 1000 + i), *links(16, 1000 + i, 2, name)]
+    return one_volume(path, records)
+
+
+def many_volumes(count, path):
+    """Volumes of a thousand empty files each, a hundred of them at most"""
+    container = Container()
+    for _ in range(min(count, 100)):
+        volume = Volume(container)
+        volume.finish(volume.files([*folders(1000), *plain_files(1000)]))
+    return container.finish(path)
+
+
+# The function, its least n, and the commands that are run.
+CHECK, TREE = ["check"], ["tree", "/"]
+SHAPES = {
+    "shared-tree": (shared_tree, 250, [CHECK]),
+    "other-roots": (other_roots, 250, [CHECK]),
+    "own-leaf": (own_leaf, 125, [CHECK]),
+    "extents-in-snapshots": (extents_in_snapshots, 125, [CHECK]),
+    "ranges-under-all": (ranges_under_all, 4000, [CHECK]),
+    "one-long": (one_long, 4000, [CHECK]),
+    "random-ids": (random_ids, 2000, [CHECK]),
+    "candidates": (candidates, 250, [["info"], CHECK]),
+    "huge-mapping": (huge_mapping, 32, [["info"], CHECK]),
+    "folder-chain": (folder_chain, 5000, [CHECK, TREE]),
+    "one-folder": (one_folder, 62500, [CHECK, TREE]),
+    "hard-links": (hard_links, 10000, [CHECK, TREE]),
+    "many-volumes": (many_volumes, 12, [CHECK]),
+}
+
+
+def measured(words, limit):
+    """Runs a command with its output thrown away. Answers its status, its processor time in seconds, and its greatest memory in MiB."""
+    with open(os.devnull, "w") as nothing:
+        process = subprocess.Popen(words, stdin=subprocess.DEVNULL, stdout=nothing, stderr=nothing, preexec_fn=lambda: resource.setrlimit(resource.RLIMIT_CPU, (limit, limit)))
+        _, status, used = os.wait4(process.pid, 0)
+        process.returncode = os.waitstatus_to_exitcode(status)
+    return process.returncode, used.ru_utime + used.ru_stime, used.ru_maxrss / 1024
+
+
+def growth(now, before):
+    return f"{now / before:5.1f}x" if before else "      "
+
+
+def measure(name, program, room, sizes, limit):
+    make, least, runs = SHAPES[name]
+    print(f"{name}: {make.__doc__}")
+    before = {}
+    for double in range(sizes):
+        count = least << double
+        image = os.path.join(room, "image")
+        # (a process of its own makes it: the kernel counts the memory of this one to that of the processes that it starts)
+        used = int(subprocess.run([sys.executable, __file__, "--make", name, str(count), image], check=True, capture_output=True).stdout) / 2**20
+        for words in runs:
+            status, took, held = measured([program, words[0], image, *words[1:]], limit)
+            then = before.get(words[0], (0, 0))
+            print(
+                f"  {words[0]:6} n {count:7}, {used:7.1f} MiB used: status {status}, {took:7.2f} s {growth(took, then[0])}, {held:7.1f} MiB {growth(held, then[1])}, "
+                f"{took / used:6.3f} s and {held / used:5.1f} MiB for each",
+                flush=True,
+            )
+            before[words[0]] = took, held
+        os.remove(image)
+
+
+def main():
+    words = sys.argv[1:]
+    if words[:1] == ["--list"]:
+        for name, (make, least, _) in SHAPES.items():
+            print(f"{name:22} from {least:6}: {make.__doc__}")
+    elif words[:1] == ["--make"] and len(words) == 4 and words[1] in SHAPES:
+        print(SHAPES[words[1]][0](int(words[2]), words[3]))
+    elif all(word in SHAPES for word in words):
+        top = os.path.dirname(os.path.dirname(os.path.dirname(os.path.abspath(__file__))))
+        program = os.environ.get("APFS", f"{top}/crates/apfs/out/apfs")
+        with tempfile.TemporaryDirectory() as room:
+            for name in words or SHAPES:
+                measure(name, program, room, int(os.environ.get("SIZES", "4")), int(os.environ.get("LIMIT", "120")))
+    else:
+        sys.exit(__doc__)
+
+
+if __name__ == "__main__":
+    main()
