@@ -1,6 +1,6 @@
 -- Blocks of a container.
-use Rattle.std.proofs.Common.{◌≡◌, ℕ, Bool, true, false, ◌&&◌, nat_lt, Option, Some, None, ◌⊎◌, inl, inr, refl, ap, if◌then◌else◌}
-use Rattle.std.specs.Prelude.{is_some, option_and_then}
+use Rattle.std.proofs.Common.{◌≡◌, ℕ, Bool, true, false, ◌&&◌, nat_lt, Option, Some, None, refl, if◌then◌else◌}
+use Rattle.std.specs.Prelude.{is_some}
 use Rattle.apfs_model.specs.Blocks.{in_container}
 
 -- a block that is found is the one that was asked for
@@ -20,18 +20,3 @@ inside-itself blocks block h =
       | false ↦ λ e. absurd (let z : false ≡ true = e in let q : ⊥ = cc in q)
     ] in
     go (nat_lt 0 block && nat_lt block blocks) h
-
--- it is found again
-pub inside-twice : (blocks block : ℕ) → option_and_then (in_container blocks) (in_container blocks block) ≡ in_container blocks block
-inside-twice blocks block =
-    let go : (t : Bool) → (nat_lt 0 block && nat_lt block blocks) ≡ t → option_and_then (in_container blocks) (if t then Some block else None) ≡ (if t then Some block else None) = λ t. elim t as (λ t. (nat_lt 0 block && nat_lt block blocks) ≡ t → option_and_then (in_container blocks) (if t then Some block else None) ≡ (if t then Some block else None)) [
-      | true ↦ λ e. ap (λ (x : Bool). if x then Some block else None) e
-      | false ↦ λ e. refl
-    ] in
-    go (nat_lt 0 block && nat_lt block blocks) refl
-
--- a block is one of the container, or it isn't
-pub inside_or : (blocks block : ℕ) → (in_container blocks block ≡ Some block) ⊎ (in_container blocks block ≡ None)
-inside_or blocks block =
-    let go : (t : Bool) → ((if t then Some block else None) ≡ Some block) ⊎ ((if t then Some block else None) ≡ None) = λ t. elim t as (λ t. ((if t then Some block else None) ≡ Some block) ⊎ ((if t then Some block else None) ≡ None)) [ true ↦ inl refl | false ↦ inr refl ] in
-    go (nat_lt 0 block && nat_lt block blocks)

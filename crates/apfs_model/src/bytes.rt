@@ -22,10 +22,8 @@ impl Bytes {
     pub fn from_slice(alloc: Global, bytes: &[u8]) -> Result<Bytes, NoMemory>
         ensures { IfOk result (λ copy. copy ≡ bytes.now) }
     {
-        match bytes.to_vec(alloc) {
-            Ok(bytes) => Ok(Bytes { bytes }),
-            Err(_) => Err(NoMemory),
-        }
+        let bytes = bytes.to_vec(alloc)?;
+        Ok(Bytes { bytes })
     }
 
     /// The bytes.

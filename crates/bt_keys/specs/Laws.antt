@@ -6,14 +6,13 @@ use Rattle.std.proofs.lemmas.Option.{none-some, same_Some}
 use Rattle.bt_node.specs.declared.key.Rank.{Rank}
 use Rattle.bt_node.specs.Shape.{IsLawful}
 use Rattle.bt_keys.specs.RecordKey.{id_of, record_kind_of, sub_of, is_ext_key, is_fs_key}
-use Rattle.bt_keys.specs.Shapes.{omap_shape, omap_snap_shape, queue_shape, ext_shape, snap_shape, fs_shape, fs_plain_shape}
+use Rattle.bt_keys.specs.Shapes.{omap_shape, omap_snap_shape, queue_shape, ext_shape, snap_shape, fs_record_shape}
 use Rattle.bt_keys.specs.FsTree.{IsFsKey, IsFsShape}
 use Rattle.bt_keys.specs.declared.number_key.OmapKey.{OmapKey}
 use Rattle.bt_keys.specs.declared.number_key.OmapSnapKey.{OmapSnapKey}
 use Rattle.bt_keys.specs.declared.number_key.QueueKey.{QueueKey}
 use Rattle.bt_keys.specs.declared.record_key.ExtKey.{ExtKey}
-use Rattle.bt_keys.specs.declared.record_key.FsKey.{FsKey}
-use Rattle.bt_keys.specs.declared.record_key.FsPlainKey.{FsPlainKey}
+use Rattle.bt_keys.specs.declared.record_key.FsRecordKey.{FsRecordKey}
 
 -- what is read where a test fails is read only then
 read-fails : {X : Type 0} (test : Bool) (x y : X) → (if test then None else Some x) ≡ Some y → test ≡ false
@@ -76,49 +75,26 @@ snap_lawful = record {
   long = λ key k other e. absurd (other refl);
 }
 
-pub fs_lawful : IsLawful fs_shape
-fs_lawful = record {
-  one = λ a b s t e. ap (λ (r : Rank). record { id = r.id; kind = r.kind; sub = r.sub }) e;
-  long = λ key k other e. absurd (other refl);
-}
-
-pub fs_plain_lawful : IsLawful fs_plain_shape
-fs_plain_lawful = record {
+pub fs_record_lawful : {n : ℕ} (hashed : Bool) → IsLawful (fs_record_shape {n = n} hashed)
+fs_record_lawful hashed = record {
   one = λ a b s t e. ap (λ (r : Rank). record { id = r.id; kind = r.kind; sub = r.sub }) e;
   long = λ key k other e. absurd (other refl);
 }
 
 -- the key that is read from a record's bytes
-fs_key : List ℕ → FsKey
-fs_key key = record { id = id_of key; kind = record_kind_of key; sub = sub_of true key }
+fs_key : {n : ℕ} → Bool → List ℕ → FsRecordKey n
+fs_key hashed key = record { id = id_of key; kind = record_kind_of key; sub = sub_of hashed key }
 
-fs_read : (key : List ℕ) (k : FsKey) → fs_shape.read key ≡ Some k → IsFsKey true key (fs_shape.rank k)
+fs_read : {n : ℕ} (hashed : Bool) (key : List ℕ) (k : FsRecordKey n) → (fs_record_shape hashed).read key ≡ Some k → IsFsKey hashed key ((fs_record_shape hashed).rank k)
 unfolding fs_key
-fs_read key k e =
-    let same : k ≡ fs_key key = read-is (is_fs_key true key) (fs_key key) k e in
+fs_read {n} hashed key k e =
+    let same : k ≡ fs_key hashed key = read-is (is_fs_key hashed key) (fs_key hashed key) k e in
     record {
-      whole = read-passes (is_fs_key true key) (fs_key key) k e;
-      id = ap (λ (f : FsKey). f.id) same;
-      kind = ap (λ (f : FsKey). f.kind) same;
-      sub = ap (λ (f : FsKey). f.sub) same;
+      whole = read-passes (is_fs_key hashed key) (fs_key {n = n} hashed key) k e;
+      id = ap (λ (f : FsRecordKey n). f.id) same;
+      kind = ap (λ (f : FsRecordKey n). f.kind) same;
+      sub = ap (λ (f : FsRecordKey n). f.sub) same;
     }
 
-pub fs_of_tree : IsFsShape true fs_shape
-fs_of_tree = record { reads = fs_read; strict = λ k. refl }
-
-fs_plain_key : List ℕ → FsPlainKey
-fs_plain_key key = record { id = id_of key; kind = record_kind_of key; sub = sub_of false key }
-
-fs_plain_read : (key : List ℕ) (k : FsPlainKey) → fs_plain_shape.read key ≡ Some k → IsFsKey false key (fs_plain_shape.rank k)
-unfolding fs_plain_key
-fs_plain_read key k e =
-    let same : k ≡ fs_plain_key key = read-is (is_fs_key false key) (fs_plain_key key) k e in
-    record {
-      whole = read-passes (is_fs_key false key) (fs_plain_key key) k e;
-      id = ap (λ (f : FsPlainKey). f.id) same;
-      kind = ap (λ (f : FsPlainKey). f.kind) same;
-      sub = ap (λ (f : FsPlainKey). f.sub) same;
-    }
-
-pub fs_plain_of_tree : IsFsShape false fs_plain_shape
-fs_plain_of_tree = record { reads = fs_plain_read; strict = λ k. refl }
+pub fs_of_tree : {n : ℕ} (hashed : Bool) → IsFsShape hashed (fs_record_shape {n = n} hashed)
+fs_of_tree hashed = record { reads = fs_read hashed; strict = λ k. refl }

@@ -1,5 +1,5 @@
 -- The keys of the seven kinds of trees.
-use Rattle.std.specs.Prelude.{ℕ, true, false, ◌==◌, nat_lt, length, None, Some, if◌then◌else◌}
+use Rattle.std.specs.Prelude.{ℕ, Bool, true, false, ◌==◌, nat_lt, length, None, Some, if◌then◌else◌}
 use Rattle.apfs_model.specs.Bytes.{u64_at}
 use Rattle.apfs_model.specs.Object.{map_kind, map_snapshots_kind, queue_kind, extents_kind, snapshots_kind, fs_tree_kind}
 use Rattle.bt_node.specs.Shape.{Shape}
@@ -11,8 +11,7 @@ use Rattle.bt_keys.specs.declared.number_key.OmapSnapKey.{OmapSnapKey}
 use Rattle.bt_keys.specs.declared.number_key.QueueKey.{QueueKey}
 use Rattle.bt_keys.specs.declared.record_key.ExtKey.{ExtKey}
 use Rattle.bt_keys.specs.declared.record_key.SnapKey.{SnapKey}
-use Rattle.bt_keys.specs.declared.record_key.FsKey.{FsKey}
-use Rattle.bt_keys.specs.declared.record_key.FsPlainKey.{FsPlainKey}
+use Rattle.bt_keys.specs.declared.record_key.FsRecordKey.{FsRecordKey}
 
 -- the three numbers of a rank
 abbrev pub rank3 : ℕ → ℕ → ℕ → Rank
@@ -83,28 +82,29 @@ snap_shape = record {
   strict = λ k. k.kind == snapshot_record;
 }
 
--- the keys of a file-system tree with hashed names (File-System Objects, j_key_t and j_drec_hashed_key_t)
-abbrev pub fs_shape : Shape FsKey
-fs_shape = record {
+-- the keys of a file-system tree, whose entries have hashed names or not (File-System Objects, j_key_t, and j_drec_hashed_key_t or j_drec_key_t)
+abbrev pub fs_record_shape : {n : ℕ} → Bool → Shape (FsRecordKey n)
+fs_record_shape hashed = record {
   subtype = fs_tree_kind;
   layout = Variable;
   key_len = 0;
   value_len = 0;
   ghosts = false;
-  read = λ key. if is_fs_key true key then Some (record { id = id_of key; kind = record_kind_of key; sub = sub_of true key }) else None;
+  read = λ key. if is_fs_key hashed key then Some (record { id = id_of key; kind = record_kind_of key; sub = sub_of hashed key }) else None;
   rank = λ k. rank3 k.id k.kind k.sub;
   strict = λ k. is_strict_kind k.kind;
 }
 
--- the keys of a file-system tree whose names aren't hashed (File-System Objects, j_key_t and j_drec_key_t)
+-- the keys of a file-system tree with hashed names; the parameter of the type is 1 for true and 0 for false
+abbrev pub FsKey : Type 0
+FsKey = FsRecordKey 1
+
+abbrev pub fs_shape : Shape FsKey
+fs_shape = fs_record_shape true
+
+-- the keys of a file-system tree whose names aren't hashed
+abbrev pub FsPlainKey : Type 0
+FsPlainKey = FsRecordKey 0
+
 abbrev pub fs_plain_shape : Shape FsPlainKey
-fs_plain_shape = record {
-  subtype = fs_tree_kind;
-  layout = Variable;
-  key_len = 0;
-  value_len = 0;
-  ghosts = false;
-  read = λ key. if is_fs_key false key then Some (record { id = id_of key; kind = record_kind_of key; sub = sub_of false key }) else None;
-  rank = λ k. rank3 k.id k.kind k.sub;
-  strict = λ k. is_strict_kind k.kind;
-}
+fs_plain_shape = fs_record_shape false

@@ -2,7 +2,7 @@
 ghost use Rattle.std.specs.Prelude.{◌≡◌, Bool};
 ghost use Rattle.bt_keys.specs.FsTree.{IsFsShape};
 
-use crate::{FsKey, FsPlainKey};
+use crate::FsRecordKey;
 use bt_node::TreeKey;
 
 /// The keys of a file-system tree. What a key's kind adds lies inside each key that is read: the name of an entry or of
@@ -24,34 +24,14 @@ pub trait FsTreeKey: TreeKey {
     ghost of_tree: { IsFsShape HASHED Self.shape };
 }
 
-impl FsTreeKey for FsKey {
-    ghost use Rattle.std.specs.Prelude.{true};
+impl<const HASHED: bool> FsTreeKey for FsRecordKey<HASHED> {
     ghost use Rattle.bt_keys.specs.Laws.{fs_of_tree};
 
-    const HASHED: bool = true;
+    const HASHED: bool = HASHED;
 
-    ghost HASHED = { true };
+    ghost HASHED = { HASHED };
 
-    ghost of_tree = { fs_of_tree };
-
-    fn id(&self) -> u64 {
-        self.id
-    }
-
-    fn kind(&self) -> u8 {
-        self.kind
-    }
-}
-
-impl FsTreeKey for FsPlainKey {
-    ghost use Rattle.std.specs.Prelude.{false};
-    ghost use Rattle.bt_keys.specs.Laws.{fs_plain_of_tree};
-
-    const HASHED: bool = false;
-
-    ghost HASHED = { false };
-
-    ghost of_tree = { fs_plain_of_tree };
+    ghost of_tree = { fs_of_tree HASHED };
 
     fn id(&self) -> u64 {
         self.id

@@ -18,23 +18,21 @@ pub struct SnapKey {
     pub kind: u8,
 }
 
-/// A key of a file-system tree whose names are hashed (File-System Objects, `j_key_t` and `j_drec_hashed_key_t`).
+/// A key of a file-system tree, whose entries have hashed names or not (File-System Objects, `j_key_t`, and
+/// `j_drec_hashed_key_t` or `j_drec_key_t`).
 #[derive(Clone, Copy, PartialEq, Eq, Debug)]
-pub struct FsKey {
+pub struct FsRecordKey<const HASHED: bool> {
     pub id: u64,
     pub kind: u8,
-    /// A sibling's id, a logical address or a name's hash; 0 at another kind.
+    /// A sibling's id, a logical address or a hashed name's hash; 0 at another kind.
     pub sub: u64,
 }
 
-/// A key of a file-system tree whose names aren't hashed (File-System Objects, `j_key_t` and `j_drec_key_t`).
-#[derive(Clone, Copy, PartialEq, Eq, Debug)]
-pub struct FsPlainKey {
-    pub id: u64,
-    pub kind: u8,
-    /// A sibling's id or a logical address; 0 at another kind.
-    pub sub: u64,
-}
+/// A key of a file-system tree whose names are hashed.
+pub type FsKey = FsRecordKey<true>;
+
+/// A key of a file-system tree whose names aren't hashed.
+pub type FsPlainKey = FsRecordKey<false>;
 
 impl TreeKey for ExtKey {
     ghost use Rattle.std.specs.Prelude.{refl, false};
@@ -163,11 +161,11 @@ impl TreeKey for SnapKey {
     }
 }
 
-impl TreeKey for FsKey {
+impl<const HASHED: bool> TreeKey for FsRecordKey<HASHED> {
     ghost use Rattle.std.specs.Prelude.{refl, false};
     ghost use Rattle.bt_node.specs.declared.key.Layout.TheVariants.{Variable};
-    ghost use Rattle.bt_keys.specs.Shapes.{fs_shape};
-    ghost use Rattle.bt_keys.specs.Laws.{fs_lawful};
+    ghost use Rattle.bt_keys.specs.Shapes.{fs_record_shape};
+    ghost use Rattle.bt_keys.specs.Laws.{fs_record_lawful};
 
     const SUBTYPE: u32 = kind::FILE_SYSTEM as u32;
 
@@ -189,7 +187,7 @@ impl TreeKey for FsKey {
 
     ghost GHOSTS = { false };
 
-    ghost shape = { fs_shape };
+    ghost shape = { fs_record_shape HASHED };
 
     ghost same_subtype = { refl };
 
@@ -201,82 +199,17 @@ impl TreeKey for FsKey {
 
     ghost same_ghosts = { refl };
 
-    ghost lawful = { fs_lawful };
+    ghost lawful = { fs_record_lawful HASHED };
 
     #[tactic(auto, unfolding(crate::specs::RecordKey::is_ext_key, crate::specs::RecordKey::is_snap_key, crate::specs::RecordKey::is_fs_key))]
     fn read(key: &[u8]) -> Option<Self> {
-        if !record::is_fs_key(true, key) {
+        if !record::is_fs_key(HASHED, key) {
             return None;
         }
-        Some(FsKey {
+        Some(FsRecordKey {
             id: record::id(key),
             kind: record::kind(key),
-            sub: record::sub(true, key),
-        })
-    }
-
-    fn rank(&self) -> Rank {
-        Rank {
-            id: self.id,
-            kind: u64::from(self.kind),
-            sub: self.sub,
-        }
-    }
-
-    fn strict(&self) -> bool {
-        record::is_strict(self.kind)
-    }
-}
-
-impl TreeKey for FsPlainKey {
-    ghost use Rattle.std.specs.Prelude.{refl, false};
-    ghost use Rattle.bt_node.specs.declared.key.Layout.TheVariants.{Variable};
-    ghost use Rattle.bt_keys.specs.Shapes.{fs_plain_shape};
-    ghost use Rattle.bt_keys.specs.Laws.{fs_plain_lawful};
-
-    const SUBTYPE: u32 = kind::FILE_SYSTEM as u32;
-
-    const LAYOUT: Layout = Layout::Variable;
-
-    const KEY_LEN: usize = 0;
-
-    const VALUE_LEN: usize = 0;
-
-    const GHOSTS: bool = false;
-
-    ghost SUBTYPE = { 0xe };
-
-    ghost LAYOUT = { Variable };
-
-    ghost KEY_LEN = { 0 };
-
-    ghost VALUE_LEN = { 0 };
-
-    ghost GHOSTS = { false };
-
-    ghost shape = { fs_plain_shape };
-
-    ghost same_subtype = { refl };
-
-    ghost same_layout = { refl };
-
-    ghost same_key_len = { refl };
-
-    ghost same_value_len = { refl };
-
-    ghost same_ghosts = { refl };
-
-    ghost lawful = { fs_plain_lawful };
-
-    #[tactic(auto, unfolding(crate::specs::RecordKey::is_ext_key, crate::specs::RecordKey::is_snap_key, crate::specs::RecordKey::is_fs_key))]
-    fn read(key: &[u8]) -> Option<Self> {
-        if !record::is_fs_key(false, key) {
-            return None;
-        }
-        Some(FsPlainKey {
-            id: record::id(key),
-            kind: record::kind(key),
-            sub: record::sub(false, key),
+            sub: record::sub(HASHED, key),
         })
     }
 

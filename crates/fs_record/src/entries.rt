@@ -130,15 +130,12 @@ pub fn entry<'a>(names: Names, key: &'a [u8], value: &'a [u8]) -> Result<DirEntr
     if value.len() < layout::ENTRY_LEN {
         return Err(RecFault::Length);
     }
-    let place = match find(
+    let place = find(
         value,
         layout::ENTRY_LEN,
         layout::FIELD_SIBLING,
         layout::FIELD_SIBLING_LEN,
-    ) {
-        Ok(place) => place,
-        Err(why) => return Err(why),
-    };
+    )?;
     let Some(name) = stored_name(name_bytes(names, key)) else {
         return Err(RecFault::Name);
     };

@@ -170,13 +170,6 @@ position-none n xs q i d low up point other =
     let e : position_or_len (λ x. n x == q) xs ≡ length xs = no-place n xs q i d low up point other in
     (λ j. cond (nat_lt (e j) (length xs)) (Some (e j)) None) ∙ ap (λ b. cond b (Some (length xs)) None) (never-true (nat_lt (length xs) (length xs)) (λ h. let b = below-from (length xs) (length xs) h in omega arith))
 
--- the first of a number, itself
-pub first-is : {X : Type 0} (n : X → ℕ) (xs : List X) (q i : ℕ) (d : X) → i < length xs → IsPartitionPoint (λ x. nat_lt (n x) q ≡ true) (λ x. nat_lt (n x) q ≡ false) xs i → n (get_or xs i d) ≡ q → find (λ x. n x == q) xs ≡ Some (get_or xs i d)
-first-is n xs q i d low point same = find_at (λ x. n x == q) xs ∙ (ap (slice_get xs) (first-place n xs q i d low point same) ∙ get-at xs i d low)
-
-pub first-none : {X : Type 0} (n : X → ℕ) (xs : List X) (q i : ℕ) (d : X) → i ≤ length xs → IsNonDecreasingBy n xs → IsPartitionPoint (λ x. nat_lt (n x) q ≡ true) (λ x. nat_lt (n x) q ≡ false) xs i → (i < length xs → n (get_or xs i d) ≡ q → ⊥) → find (λ x. n x == q) xs ≡ None
-first-none n xs q i d low up point other = find_at (λ x. n x == q) xs ∙ (ap (slice_get xs) (no-place n xs q i d low up point other) ∙ get-past xs)
-
 find-filter : {X : Type 0} (p : X → Bool) (xs : List X) → find p xs ≡ find p (filter p xs)
 find-filter p [] = refl
 find-filter {X} p (x ∷ xs) =

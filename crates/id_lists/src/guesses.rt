@@ -23,10 +23,7 @@ fn shift_for(first: u64, last: u64, items: usize) -> u32 {
 
 // No place yet for as many runs.
 fn unplaced(alloc: Global, runs: usize) -> Result<Vec<u32>, NoMemory> {
-    match vec![in alloc; u32::MAX; runs] {
-        Ok(places) => Ok(places),
-        Err(_) => Err(NoMemory),
-    }
+    Ok(vec![in alloc; u32::MAX; runs]?)
 }
 
 // Gives a run without an item the place of the next one.

@@ -22,9 +22,9 @@ use Rattle.bt_cursor.proofs.Wholes.{whole_means}
 use Rattle.bt_keys.specs.Shapes.{omap_shape, omap_snap_shape}
 use Rattle.omap_map.specs.Fields.{snap_count_of, tree_of, snap_tree_of}
 use Rattle.omap_map.specs.Records.{records_of, snapshots_of}
-use Rattle.omap_map.specs.Resolve.{resolved, named_by}
+use Rattle.omap_map.specs.Resolve.{resolved}
 use Rattle.omap_map.specs.Features.{is_reverting}
-use Rattle.omap_map.specs.Maps.{Contents, map_in, head_of, is_map_object, record_tree, snapshot_tree, map_records, map_snapshots, map_blocks, contents_of, has_no_snapshots, has_whole_snapshots, is_whole_map, map_nodes, resolved_in, named_in, after_header, object_of, IsTreeFault, IsMapFault, IsMapFeature, IsLoaded}
+use Rattle.omap_map.specs.Maps.{Contents, map_in, head_of, is_map_object, record_tree, snapshot_tree, map_records, map_snapshots, map_blocks, contents_of, has_no_snapshots, has_whole_snapshots, is_whole_map, map_nodes, resolved_in, after_header, object_of, IsTreeFault, IsMapFault, IsMapFeature, IsLoaded}
 use Rattle.omap_map.specs.Gathered.{IsTree, HasSnapshots, IsSnapshotsFault, IsSnapshotsFeature}
 use Rattle.omap_map.specs.declared.records.OmapRecord.{OmapRecord}
 use Rattle.omap_map.specs.declared.fault.OmapFault.{OmapFault}
@@ -257,8 +257,3 @@ pub resolved-loaded : (image : List ℕ) (site : Site) (block : ℕ) (contents :
 unfolding resolved_in
 resolved-loaded image site block contents loaded oid x =
     ap (λ (c : Contents). resolved c.records oid x) loaded.same ∙ ap (λ (b : Bool). if b then resolved (map_records image site block) oid x else None) (sym loaded.whole)
-
-pub named-loaded : (image : List ℕ) (site : Site) (block : ℕ) (contents : Contents) → IsLoaded image site block contents → (x oid : ℕ) → named_by contents.records x site.blocks oid ≡ named_in image site block x oid
-unfolding named_in
-named-loaded image site block contents loaded x oid =
-    ap (λ (c : Contents). named_by c.records x site.blocks oid) loaded.same ∙ ap (λ (b : Bool). if b then named_by (map_records image site block) x site.blocks oid else None) (sym loaded.whole)

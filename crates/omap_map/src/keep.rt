@@ -33,10 +33,8 @@ fn add<T: Drop>(gathered: &mut Vec<T>, given: Option<T>) -> Result<(), NoMemory>
     let Some(item) = given else {
         return Ok(());
     };
-    match gathered.push(item) {
-        Ok(()) => Ok(()),
-        Err(_) => Err(NoMemory),
-    }
+    gathered.push(item)?;
+    Ok(())
 }
 
 // The record of an item; None above the leaves.

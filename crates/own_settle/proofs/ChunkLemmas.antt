@@ -1,17 +1,14 @@
 -- The bits of chunks against what a ledger holds.
-use Rattle.std.proofs.Common.{◌≡◌, ℕ, ◌+◌, ◌-◌, ◌*◌, ◌/◌, ◌<◌, ◌≤◌, Bool, true, false, not, ◌==◌, List, length, length-take-le, take, get_or, map, cond, if◌then◌else◌, refl, ap, sym, ◌∙◌, subst, arith, inl, inr}
+use Rattle.std.proofs.Common.{◌≡◌, ℕ, ◌+◌, ◌-◌, ◌*◌, ◌<◌, ◌≤◌, Bool, true, false, not, ◌==◌, List, length, length-take-le, take, get_or, map, cond, refl, ap, sym, ◌∙◌, subst, arith, inl, inr}
 use Rattle.std.specs.List.{range_with_len}
-use Rattle.std.proofs.Math.Nat.{le-div_iff_mul-le}
 use Rattle.std.proofs.lemmas.List.Sums.{length-filter}
 use Rattle.std.proofs.lemmas.List.Filters.{length-filter_both}
 use Rattle.std.proofs.lemmas.List.FromFn.{length-range_with_len, length-map-range_with_len, get_or-map-range_with_len}
 use Rattle.apfs_model.specs.Bytes.{bit_at}
-use Rattle.apfs_model.specs.Blocks.{rounded_up}
 use Rattle.apfs_model.proofs.BoolTests.{equal-from, either-from}
 use Rattle.bit_lanes.specs.Bits.{ones_below, ones_of}
 use Rattle.obj_base.specs.BlockSize.{is_accepted}
-use Rattle.own_ledger.specs.Held.{HeldBlocks, Agrees, IsLeastDifference}
-use Rattle.own_ledger.specs.declared.held.Difference.{Difference}
+use Rattle.own_ledger.specs.Held.{HeldBlocks, Agrees}
 use Rattle.own_ledger.proofs.MarkLemmas.{count_same, count_more, bit_in_front}
 use Rattle.space_map.specs.Fields.{chunks_of}
 use Rattle.space_map.specs.Chunks.{chunk_at, chunks_in}
@@ -21,7 +18,7 @@ use Rattle.space_map.specs.declared.chunk.Chunk.{Chunk}
 use Rattle.space_map.proofs.Marked.{bits_are_marks}
 use Rattle.reach_rules.specs.declared.fault.ReachFault.{ReachFault}
 use Rattle.reach_rules.specs.declared.fault.ReachFault.TheVariants.{Unsound, Unnamed, NamedTwice, OwnedTwice, Outside, UnusedMapping, Leaked, Missing, PoolLeaked, PoolMissing, FreeCount, Space, Pool, Tree, Value}
-use Rattle.own_settle.specs.Agreed.{unmarked, IsAgreed, HasMarkAt, HasWrongCount, IsAgreeFault, told_of, marks_in, first_of, count_of, free_at, IsChunkAgreed, IsChunkFault}
+use Rattle.own_settle.specs.Agreed.{unmarked, IsAgreed, HasMarkAt, HasWrongCount, IsAgreeFault, marks_in, first_of, count_of, free_at, IsChunkAgreed, IsChunkFault}
 
 -- ---- numbers
 
@@ -47,14 +44,6 @@ accepted-size size e = elim (either-from (size == 4096) _ e) as (λ _. IsSize si
     ]
   ]
 ]
-
--- one of as many units as so many things need begins before their end
-pub begins-inside : (n things unit : ℕ) → 1 ≤ unit → n < rounded_up things unit → n * unit < things
-begins-inside n things unit some low =
-    let pos : 0 < unit = omega arith in
-    let next : n + 1 ≤ (things + (unit - 1)) / unit = omega arith in
-    let below : (n + 1) * unit ≤ things + (unit - 1) = (le-div_iff_mul-le pos).0 next in
-    omega arith
 
 -- ---- counts
 
@@ -100,16 +89,6 @@ pub wrong-count : (bits : List ℕ) (number blocks free : ℕ) → (free + ones_
 wrong-count bits number blocks free differs =
     let all = unmarked-ones bits blocks in
     record { same = refl; wrong = λ e. differs (omega (arith, all, e)) }
-
-pub difference-is : (bits : List ℕ) (ledger : HeldBlocks) (number first blocks free : ℕ) (difference : Difference) → IsLeastDifference ledger first blocks bits difference →
-    IsAgreeFault (bit_at bits) ledger number first blocks free (told_of difference)
-difference-is bits ledger number first blocks free difference least =
-    let go : (held : Bool) → difference.held ≡ held → IsAgreeFault (bit_at bits) ledger number first blocks free (if held then Missing difference.block else Leaked difference.block) =
-    λ held. elim held as (λ held. difference.held ≡ held → IsAgreeFault (bit_at bits) ledger number first blocks free (if held then Missing difference.block else Leaked difference.block)) [
-      | true ↦ λ e. record { place = least.place; low = least.low; at = least.at; mark_is = least.bit ∙ ap not e; held_is = least.held ∙ e }
-      | false ↦ λ e. record { place = least.place; low = least.low; at = least.at; mark_is = least.bit ∙ ap not e; held_is = least.held ∙ e }
-    ] in
-    go difference.held refl
 
 -- the same of other marks that are those
 pub agreed-same : (mark other : ℕ → Bool) (ledger : HeldBlocks) (first blocks free : ℕ) → ((place : ℕ) → place < blocks → mark place ≡ other place) → IsAgreed mark ledger first blocks free → IsAgreed other ledger first blocks free

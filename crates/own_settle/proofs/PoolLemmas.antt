@@ -1,26 +1,22 @@
 -- The ranges of the pool's owners against its bits.
-use Rattle.std.proofs.Common.{◌≡◌, ℕ, ◌+◌, ◌-◌, Bool, true, false, not, List, refl, ap, ap₂, sym, ◌∙◌, subst, arith, inr, if◌then◌else◌, ◌*◌, ◌^◌, ◌&&◌, nat_lt, length}
-use Rattle.apfs_model.specs.Bytes.{bit_at}
-use Rattle.apfs_model.specs.Blocks.{is_in, is_inside, is_within}
+use Rattle.std.proofs.Common.{◌≡◌, ℕ, ◌+◌, ◌-◌, true, List, ap, sym, ◌∙◌, subst, arith, inr, ◌*◌, ◌^◌, ◌&&◌, nat_lt, length}
+use Rattle.apfs_model.specs.Blocks.{is_inside}
 use Rattle.apfs_model.proofs.BoolTests.{clash, left-true, right-true, upto-from}
 use Rattle.obj_base.specs.declared.site.Site.{Site}
 use Rattle.space_map.specs.Fields.{pool_base_of, pool_blocks_of, pool_bitmap_blocks_of}
 use Rattle.space_map.specs.Geometry.{chunk_len}
 use Rattle.space_pool.specs.Bits.{has_pool_bits, has_indexes, is_pool_count, is_pool_shaped}
 use Rattle.space_pool.specs.declared.fault.PoolFault.TheVariants as pools
-use Rattle.own_ledger.specs.Held.{HeldBlocks, holds, IsEmpty, Agrees, IsLeastDifference}
-use Rattle.own_ledger.specs.declared.held.ClaimFault.{ClaimFault}
+use Rattle.own_ledger.specs.Held.{HeldBlocks, holds, Agrees}
 use Rattle.own_ledger.specs.declared.held.ClaimFault.TheVariants as claims
-use Rattle.own_ledger.specs.declared.held.Difference.{Difference}
-use Rattle.own_ledger.proofs.MarkLemmas.{in-above, in-below, in-from}
+use Rattle.own_ledger.proofs.MarkLemmas.{in-above, in-below}
 use Rattle.reach_rules.specs.declared.fault.ReachFault.{ReachFault}
 use Rattle.reach_rules.specs.declared.fault.ReachFault.TheVariants.{Unsound, Unnamed, NamedTwice, OwnedTwice, Outside, UnusedMapping, Leaked, Missing, PoolLeaked, PoolMissing, FreeCount, Space, Pool, Tree, Value}
-use Rattle.reach_rules.specs.Faults.{is_of_pool}
 use Rattle.reach_rules.specs.Reached.{Whole, AreInPool}
-use Rattle.reach_rules.specs.Settled.{is_held, pool_mark_of, ArePoolSettled, IsSettleFault}
-use Rattle.own_settle.specs.Claimed.{AreClaimed, IsRangeFault}
+use Rattle.reach_rules.specs.Settled.{ArePoolSettled, IsSettleFault}
+use Rattle.own_settle.specs.Claimed.{AreClaimed}
 use Rattle.own_settle.specs.Kept.{HasPool}
-use Rattle.own_settle.specs.Pooled.{pool_fault, pool_told_of, IsPoolSideFault}
+use Rattle.own_settle.specs.Pooled.{IsPoolSideFault}
 
 -- the pool's ranges settle with its bits
 pub pool-settled : (whole : Whole) (old new : HeldBlocks) → AreInPool whole.space.manager whole.pool_owners → AreClaimed old new whole.pool_owners →
@@ -45,38 +41,6 @@ pub pool-settled-by : (whole : Whole) (old new : HeldBlocks) (owners : List (ℕ
 pool-settled-by whole old new owners range bits owners_are range_is bits_are placed claimed agrees =
     pool-settled whole old new placed (subst (λ rs. AreClaimed old new rs) owners_are claimed)
     (subst (λ (x : ℕ × ℕ). Agrees new x.0 whole.pool x.1) range_is (subst (λ xs. Agrees new range.0 xs range.1) bits_are agrees))
-
--- a claim that is refused
-pub pool-refused : (whole : Whole) (ledger : HeldBlocks) (fault : ClaimFault) → IsEmpty ledger (pool_base_of whole.space.manager) (pool_blocks_of whole.space.manager) →
-    IsRangeFault ledger whole.pool_owners fault → IsPoolSideFault whole (pool_fault fault)
-pool-refused whole ledger (claims.Outside block) empty leaving = record {
-  range = leaving.range;
-  one = leaving.one;
-  leaves = sym (ap₂ (λ a b. is_within leaving.range.0 leaving.range.1 a b) empty.first_is empty.blocks_is) ∙ leaving.leaves;
-}
-pool-refused whole ledger (claims.Twice block) empty twice = record {
-  inside = sym (ap₂ (λ a b. is_in block a b) empty.first_is empty.blocks_is) ∙ twice.low;
-  twice = twice.twice;
-}
-
--- a difference
-pub pool-differs : (whole : Whole) (old new : HeldBlocks) (difference : Difference) → AreClaimed old new whole.pool_owners →
-    IsLeastDifference new (pool_base_of whole.space.manager) (pool_blocks_of whole.space.manager) whole.pool difference → IsPoolSideFault whole (pool_told_of difference)
-pool-differs whole old new difference claimed least =
-    let base = pool_base_of whole.space.manager in
-    let blocks = pool_blocks_of whole.space.manager in
-    let low = least.low in
-    let at = least.at in
-    let place : least.place ≡ difference.block - base = omega arith in
-    let one : is_of_pool whole.space.manager difference.block ≡ true = in-from difference.block base blocks (omega arith) (omega arith) in
-    let held : is_held whole.pool_owners difference.block ≡ difference.held = sym (claimed.held difference.block) ∙ ap (holds new) at ∙ least.held in
-    let mark : pool_mark_of whole difference.block ≡ not difference.held = ap (bit_at whole.pool) (sym place) ∙ least.bit in
-    let go : (held : Bool) → difference.held ≡ held → IsPoolSideFault whole (if held then PoolMissing difference.block else PoolLeaked difference.block) =
-    λ b. elim b as (λ b. difference.held ≡ b → IsPoolSideFault whole (if b then PoolMissing difference.block else PoolLeaked difference.block)) [
-      | true ↦ λ e. record { inside = one; mark_is = mark ∙ ap not e; held_is = held ∙ e }
-      | false ↦ λ e. record { inside = one; mark_is = mark ∙ ap not e; held_is = held ∙ e }
-    ] in
-    go difference.held refl
 
 -- what is named of the pool is named of all, where the ranges lie in the pool
 pub pool-side : (image : List ℕ) (whole : Whole) (fault : ReachFault) → AreInPool whole.space.manager whole.pool_owners → IsPoolSideFault whole fault → IsSettleFault image whole fault

@@ -106,13 +106,9 @@ impl Ways {
     pub(crate) fn of(alloc: Global, inodes: &[InodeFact]) -> Result<Ways, NoMemory>
         ensures { IfOk result (spec.HasWaysOf inodes.now) }
     {
-        match sorted(alloc, inodes) {
-            Ok(list) => {
-                let list = IdList::of(alloc, list)?;
-                Ok(Ways { list })
-            }
-            Err(_) => Err(NoMemory),
-        }
+        let list = sorted(alloc, inodes)?;
+        let list = IdList::of(alloc, list)?;
+        Ok(Ways { list })
     }
 
     /// The parent of an id of 16 or more that no climb met. Now this one has.

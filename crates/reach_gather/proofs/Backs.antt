@@ -180,8 +180,5 @@ pub apart_map : {X Y : Type 0} (f : X → Y) → ((a b : X) → f a ≡ f b → 
 apart_map f one [] h = tt
 apart_map f one (x ∷ xs) h = ((λ k. let t = from-map f xs (f x) k in h.0 (subst (λ y. In y xs) (sym (one x t.0 t.1.1)) t.1.0)), apart_map f one xs h.1)
 
-pub namings_apart : (xs : List kept.Named) → Apart xs → Apart (map naming_of xs)
-namings_apart = apart_map naming_of naming_one
-
 pub owners_apart : (xs : List Owned) → Apart xs → Apart (map owner_as xs)
 owners_apart = apart_map owner_as owner_one

@@ -1,6 +1,6 @@
 -- The objects that are counted, and the owners whose ranges are given, are those that are gathered.
 use Rattle.std.proofs.Common.{◌≡◌, ℕ, Bool, true, false, List, [], ◌∷◌, map, Option, Some, None, inl, inr, refl, ap, sym, ◌∙◌, subst, if◌then◌else◌}
-use Rattle.std.specs.Prelude.{◌==◌, flat_map, option_map, option_and_then}
+use Rattle.std.specs.Prelude.{flat_map, option_map, option_and_then}
 use Rattle.apfs_model.specs.Blocks.{in_container}
 use Rattle.apfs_model.specs.Lists.{In, through}
 use Rattle.apfs_model.proofs.Searches.{in-left, in-right, in-append, in-map, from-map, in-flat_map, from-flat_map}
@@ -12,15 +12,14 @@ use Rattle.omap_map.specs.declared.records.OmapRecord.{OmapRecord}
 use Rattle.space_pool.specs.Queues.{one_block}
 use Rattle.reach_rules.specs.Naming.{LookUp, ByBlock, ByMapping, InContainer, InView, Object, Newest, InBlock, OfId, OfRecord, Expected, Naming}
 use Rattle.reach_rules.specs.Resolved.{Found, resolved, found_by, found_virtual, recorded, standing, mapped, mapped_node, is_node}
-use Rattle.reach_rules.specs.Owners.{Owner}
 use Rattle.reach_rules.specs.Tally.{IsNumberOf}
 use Rattle.reach_rules.proofs.Looks.{standing-by}
 use Rattle.tree_namings.specs.Tells.{objects_through}
-use Rattle.tree_namings.specs.Views.{is_in_view, record_object, ResolvesTo, AreOutside, AreOnceAs}
+use Rattle.tree_namings.specs.Views.{is_in_view, record_object, ResolvesTo, AreOutside}
 use Rattle.tree_namings.specs.Joined.{HaveSame}
 use Rattle.tree_namings.specs.Ranges.{joined_objects}
-use Rattle.tree_namings.specs.Gathered.{AreOnceOf, AreOwnersOf}
-use Rattle.reach_gather.specs.Finished.{AreRangesOnce, IsIdOf, IsObjectOf, AreRecordsWith}
+use Rattle.tree_namings.specs.Gathered.{AreOnceOf}
+use Rattle.reach_gather.specs.Finished.{IsIdOf, IsObjectOf, AreRecordsWith}
 
 -- what is found through a test, and in another form
 found-through : {X Y : Type 0} (g : X → Option Y) (y : Y) (o : Option X) → option_and_then g o ≡ Some y → (x : X) × ((o ≡ Some x) × (g x ≡ Some y))
@@ -129,9 +128,6 @@ objects-same ns ms records into (InBlock block) h = ids-same ByBlock ns ms into 
 objects-same ns ms records into (OfId oid) h = ids-same ByMapping ns ms into oid h
 objects-same ns ms records into (OfRecord block r) h = h
 
-pub once-same : (how : LookUp) (ns ms : List Naming) → ((n : Naming) → In n ms → In n ns) → AreOnceAs how ns → AreOnceAs how ms
-once-same how ns ms into once m n hm hn = once m n (into m hm) (into n hn)
-
 -- ---- all that was gathered
 -- namings that resolve, none of them in a view, and the records with those that views use: the objects that are counted are theirs, each once
 pub objects-once : (image : List ℕ) (seen : Seen) (namings ns : List Naming) (used records : List (ℕ × OmapRecord)) → HaveSame namings ns → AreOutside ns → DoResolve image seen ns → AreRecordsWith image seen ns used records →
@@ -140,13 +136,4 @@ objects-once image seen namings ns used records same outside found recs number n
   apart = n.apart;
   there = λ x h. told-object image seen ns used records found recs x (objects-same namings ns records same.there x (n.lists.0 x h));
   all = λ x h. n.lists.1 x (objects-same ns namings records same.back x (object-told image seen ns used records outside recs x h));
-}
-
--- owners with a block: those whose ranges are given are these, each once
-pub owners-once : (held those : List Owner) (ranges : List (ℕ × ℕ)) → ((a : Owner) → In a held → In a those × ((a.blocks == 0) ≡ false)) → ((a : Owner) → In a those → (a.blocks == 0) ≡ false → In a held) → (r : AreRangesOnce held ranges) → AreOwnersOf r.each those
-owners-once held those ranges into back r = record {
-  apart = r.apart;
-  there = λ a h. (into a (r.lists.0 a h)).0;
-  some = λ a h. (into a (r.lists.0 a h)).1;
-  all = λ a h some. r.lists.1 a (back a h some);
 }

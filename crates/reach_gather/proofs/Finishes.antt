@@ -10,7 +10,7 @@ use Rattle.apfs_model.proofs.Searches.{in-left, in-right, in-append, in-map, fro
 use Rattle.omap_map.specs.declared.records.OmapRecord.{OmapRecord}
 use Rattle.reach_rules.specs.Naming.{ByBlock, ByMapping, Object, Newest, InBlock, OfId, OfRecord, Naming}
 use Rattle.reach_rules.specs.Owners.{Owner}
-use Rattle.reach_rules.specs.Reached.{HasBlocks, range_of, AreRangesOf}
+use Rattle.reach_rules.specs.Reached.{range_of}
 use Rattle.reach_rules.specs.Tally.{IsNumberOf}
 use Rattle.reach_gather.specs.declared.naming.Mapping.{Mapping}
 use Rattle.reach_gather.specs.declared.naming.By.{By}
@@ -43,15 +43,6 @@ ranges-once owners old new from same apart ranges e = record {
   );
   apart = owners_apart new apart;
   same = e ∙ ranges-as new;
-}
-
--- the ranges of all that own are those of some owners that are these
-pub ranges-of : (IsOne : Owner → Type 0) (owners : List Owner) (ranges : List (ℕ × ℕ)) → Lists owners (HasBlocks IsOne) → AreRangesOnce owners ranges → AreRangesOf IsOne ranges
-ranges-of IsOne owners ranges l r = record {
-  owners = r.each;
-  lists = ((λ a h. l.0 a (r.lists.0 a h)), (λ a h. r.lists.1 a (l.1 a h)));
-  apart = r.apart;
-  same = r.same;
 }
 
 -- ---- ids

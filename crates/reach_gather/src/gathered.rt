@@ -50,10 +50,8 @@ impl Gathered {
         ensures owners { self.new.owners ≡ self.old.owners }
         ensures pool_owners { self.new.pool_owners ≡ self.old.pool_owners }
     {
-        match self.namings.push(naming) {
-            Ok(()) => Ok(()),
-            Err(_) => Err(NoMemory),
-        }
+        self.namings.push(naming)?;
+        Ok(())
     }
 
     // One more owner; one without blocks isn't kept.
@@ -65,10 +63,8 @@ impl Gathered {
         if owner.blocks == 0 {
             return Ok(());
         }
-        match self.owners.push(owner) {
-            Ok(()) => Ok(()),
-            Err(_) => Err(NoMemory),
-        }
+        self.owners.push(owner)?;
+        Ok(())
     }
 
     // One more owner of the pool; one without blocks isn't kept.
@@ -80,10 +76,8 @@ impl Gathered {
         if owner.blocks == 0 {
             return Ok(());
         }
-        match self.pool_owners.push(owner) {
-            Ok(()) => Ok(()),
-            Err(_) => Err(NoMemory),
-        }
+        self.pool_owners.push(owner)?;
+        Ok(())
     }
 
     // Takes the memory for so many more owners at once.
@@ -92,10 +86,8 @@ impl Gathered {
         ensures owners { self.new.owners ≡ self.old.owners }
         ensures pool_owners { self.new.pool_owners ≡ self.old.pool_owners }
     {
-        match self.owners.reserve(owners) {
-            Ok(()) => Ok(()),
-            Err(_) => Err(NoMemory),
-        }
+        self.owners.reserve(owners)?;
+        Ok(())
     }
 
     /// A naming of an ephemeral object, which owns nothing.

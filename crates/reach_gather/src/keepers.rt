@@ -15,8 +15,6 @@ fn add<T: Drop>(gathered: &mut Vec<T>, given: Option<T>) -> Result<(), NoMemory>
     let Some(item) = given else {
         return Ok(());
     };
-    match gathered.push(item) {
-        Ok(()) => Ok(()),
-        Err(_) => Err(NoMemory),
-    }
+    gathered.push(item)?;
+    Ok(())
 }

@@ -117,10 +117,7 @@ fn once_as(
     ensures present { (image : List ℕ) → ((n : Naming) → In n (map naming_of namings.now) → IsLive image cp.now n) → IfErr result (Tells (IsReachedFault image cp.now) (HasFeature image cp.now)) }
     ensures no_read { IsErrOf result ReadFault → ⊥ }
 {
-    let mut kept = match those(alloc, namings, how) {
-        Ok(kept) => kept,
-        Err(_) => return Err(Stop::NoMemory),
-    };
+    let mut kept = those(alloc, namings, how)?;
     by_id(&mut kept);
     beside(&kept, how, cp)
 }

@@ -1,7 +1,5 @@
 // The space of a container: its manager, the two free queues, and the blocks that tell of chunks.
-ghost use Rattle.std.specs.Prelude.{◌≡◌, ◌∷◌, ◌++◌, ◌||◌, ◌==◌, ◌+◌, ◌≤◌, ℕ, List, [], length, Some, true, OnOk, IfErr, IfNone, IfSome, IsErrOf, if◌then◌else◌};
-ghost use Rattle.std.specs.List.{list_all};
-ghost use Rattle.apfs_model.specs.Blocks.{is_within};
+ghost use Rattle.std.specs.Prelude.{◌≡◌, ◌∷◌, ◌++◌, ◌==◌, ◌+◌, ◌≤◌, ℕ, List, [], length, Some, OnOk, IfErr, IsErrOf, if◌then◌else◌};
 ghost use Rattle.apfs_model.specs.Counts.{Rose};
 ghost use Rattle.apfs_model.specs.Source.{IsKept};
 ghost use Rattle.obj_base.specs.Site.{IsSiteFor};
@@ -11,8 +9,6 @@ ghost use Rattle.nx_block.specs.Super.{space_oid_of};
 ghost use Rattle.nx_ring.specs.Checkpoint.{site_of};
 ghost use Rattle.space_map.specs.Fields.{pool_base_of, pool_blocks_of, ring_base_of, ring_blocks_of, pool_queue_of, main_queue_of};
 ghost use Rattle.space_map.specs.Stops.{IsSpaceOf};
-ghost use Rattle.space_pool.specs.Gathered.{IsOutside};
-ghost use Rattle.space_pool.specs.Queues.{is_queued_in_pool};
 ghost use Rattle.reach_rules.specs.Features.{HasFeature};
 ghost use Rattle.reach_rules.specs.Owners.{owner, InternalPool, PoolRing};
 ghost use Rattle.reach_rules.specs.Reached.{IsReachedFault};
@@ -35,7 +31,7 @@ use nx_ring::Checkpoint;
 use obj_base::{Stop, u64_at};
 use reach_rules::ReachFault;
 use space_map::Space;
-use space_pool::{PoolFault, QueueEntry};
+use space_pool::{PoolFault, outside};
 use std::alloc::Global;
 
 // The manager, with the pool and the ring of the pool's bitmaps.
@@ -93,30 +89,6 @@ fn root(cp: &Checkpoint, at: u64, tree: Tree, oid: u64) -> Named
         how: By::Mapping,
         oid,
     }
-}
-
-// Whether an entry lies in the pool, which has so many blocks from a first one on.
-fn is_in(entry: QueueEntry, first: u64, blocks: u64) -> bool
-    ensures { result ≡ ((entry.length == 0) || is_within entry.paddr entry.length first blocks) }
-{
-    let end = u128::from(first) + u128::from(blocks);
-    entry.length == 0
-        || (first <= entry.paddr && u128::from(entry.paddr) + u128::from(entry.length) <= end)
-}
-
-// The first block of an entry that leaves the pool.
-#[tactic(auto, unfolding(space_pool::specs::Queues::is_queued_in_pool))]
-fn outside(space: &Space, entries: &[QueueEntry]) -> Option<u64>
-    ensures none { IfNone result (list_all (is_queued_in_pool space.now.manager) entries.now ≡ true) }
-    ensures some { IfSome result (IsOutside space.now.manager entries.now) }
-{
-    let (first, blocks) = space.pool();
-    for entry in entries {
-        if !is_in(*entry, first, blocks) {
-            return Some(entry.paddr);
-        }
-    }
-    None
 }
 
 // Adds the pool's queue, where it has one, whose entries lie in the pool.

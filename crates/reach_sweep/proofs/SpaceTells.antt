@@ -1,5 +1,5 @@
 -- What is told of the space and of the pool's bits is there, said of what is reached.
-use Rattle.std.proofs.Common.{refl, ◌≡◌, ℕ, List}
+use Rattle.std.proofs.Common.{ℕ, List}
 use Rattle.obj_base.specs.Stops.{Tells, NoFeature, raised}
 use Rattle.obj_base.specs.declared.stop.Stop.{Stop}
 use Rattle.obj_base.specs.declared.stop.Stop.TheVariants.{Found, Unsupported, ReadFault, NoMemory}
@@ -33,12 +33,6 @@ space-tells image seen (Unsupported feature block) t = space-feature image seen 
 space-tells image seen ReadFault t = t
 space-tells image seen NoMemory t = t
 
-pub space-read : (seen : Seen) (stop : Stop SpaceFault) → raised (of_space seen) stop ≡ ReadFault → stop ≡ ReadFault
-space-read seen (Found fault) e = absurd (let q : ⊥ = cc in q)
-space-read seen (Unsupported feature block) e = absurd (let q : ⊥ = cc in q)
-space-read seen ReadFault e = refl
-space-read seen NoMemory e = absurd (let q : ⊥ = cc in q)
-
 -- of the pool's bits a fault of their shape is told
 pool-reached : (image : List ℕ) (seen : Seen) (manager : List ℕ) (fault : PoolFault) → IsPoolFault seen manager fault → Present image seen (of_pool seen fault) → IsReachedFault image seen (of_pool seen fault)
 pool-reached image seen manager (pools.Index i) f p = p
@@ -53,9 +47,3 @@ pool-tells image seen manager block h (Found fault) t = pool-reached image seen 
 pool-tells image seen manager block h (Unsupported feature at) t = absurd t
 pool-tells image seen manager block h ReadFault t = t
 pool-tells image seen manager block h NoMemory t = t
-
-pub pool-read : (seen : Seen) (stop : Stop PoolFault) → raised (of_pool seen) stop ≡ ReadFault → stop ≡ ReadFault
-pool-read seen (Found fault) e = absurd (let q : ⊥ = cc in q)
-pool-read seen (Unsupported feature block) e = absurd (let q : ⊥ = cc in q)
-pool-read seen ReadFault e = refl
-pool-read seen NoMemory e = absurd (let q : ⊥ = cc in q)

@@ -186,10 +186,7 @@ beside-collide a b sorted la lb crosses =
     let ends : b.1.logical < extent_end a.1 = grind (arith, nat_tests) in
     both-true (a.0 == a.0) ((b.0 == a.0) && overlap a.1 b.1) (from-equal a.0 a.0 refl) (both-true (b.0 == a.0) (overlap a.1 b.1) (from-equal b.0 a.0 same) (from-below (max a.1.logical b.1.logical) (min (extent_end a.1) (extent_end b.1)) (omega arith)))
 
--- a piece is that of a fact
-Told : List (Fact FileExt) → ℕ × FileExt → Type 0
-Told fs p = (f : Fact FileExt) × (In f fs × (p ≡ piece f))
-
+-- each piece is that of a fact
 abbrev told-all : (fs : List (Fact FileExt)) → All (λ p. (f : Fact FileExt) × (In f fs × (p ≡ piece f))) (map piece fs)
 told-all fs k d low = told-at fs k d low
   where

@@ -97,23 +97,18 @@ pub fn uncovered<'a>(
     requires { 0 < block_size }
     ensures { IfOk result (λ first. option_copied first ≡ find (spec.is_uncovered block_size ranges.now) facts.now.extents) }
 {
-    match Cover::of(alloc, ranges) {
-        Ok(cover) => Ok(uncovered_by(facts, block_size, &cover, ranges)),
-        Err(_) => Err(NoMemory),
-    }
+    let cover = Cover::of(alloc, ranges)?;
+    Ok(uncovered_by(facts, block_size, &cover, ranges))
 }
 
 /// The extents among some facts, each after its stream's id.
 pub fn extents_with_ids(alloc: Global, facts: &Facts) -> Result<Vec<(u64, FileExt)>, NoMemory>
     ensures { IfOk result (λ extents. extents.items ≡ spec.extents_with_ids facts.now) }
 {
-    match facts
+    let extents = facts
         .extents
         .iter()
         .map(|f| (f.id(), f.extent()))
-        .collect(alloc)
-    {
-        Ok(extents) => Ok(extents),
-        Err(_) => Err(NoMemory),
-    }
+        .collect(alloc)?;
+    Ok(extents)
 }

@@ -15,6 +15,27 @@ use rule_index::{KeyCounts, KeyRef};
 use std::alloc::Global;
 use view_facts::{EntryFact, Facts, LinkFact, SiblingFact};
 
+/// The facts of a view whose links and maps of siblings are counted by what they share with their fellows.
+#[derive(Drop)]
+pub struct Fellows<'a> {
+    pub facts: &'a Facts,
+    links: KeyCounts<'a>,
+    maps: KeyCounts<'a>,
+    ghost links_right: { keys.CountsKeys keys.link_fellow facts.now.links links },
+    ghost maps_right: { keys.CountsKeys keys.map_sibling facts.now.siblings maps },
+}
+
+impl<'a> Fellows<'a> {
+    /// Counts the links and the maps of some facts.
+    pub fn of(alloc: Global, facts: &'a Facts) -> Result<Fellows<'a>, NoMemory>
+        ensures { IfOk result (λ fellows. fellows.facts.now ≡ facts.now) }
+    {
+        let links = tally::<_, ByLink>(alloc, &facts.links)?;
+        let maps = tally::<_, ByMap>(alloc, &facts.siblings)?;
+        Ok(Fellows { facts, links, maps })
+    }
+}
+
 // Whether an entry has its link.
 #[tactic(auto, using(crate::proofs::FellowLooks::has_link_some, crate::proofs::FellowLooks::has_link_none))]
 fn has_link<'a>(facts: &'a Facts, links: &KeyCounts<'a>, e: &'a EntryFact) -> bool
@@ -132,12 +153,10 @@ fn lost_entry_by<'a>(
 }
 
 /// The first entry that lacks its link or its map.
-pub fn lost_entry(alloc: Global, facts: &Facts) -> Result<Option<&EntryFact>, NoMemory>
-    ensures { IfOk result (λ first. option_copied first ≡ find (spec.is_entry_lost facts.now) facts.now.entries) }
+pub fn lost_entry<'a>(fellows: &Fellows<'a>) -> Option<&'a EntryFact>
+    ensures { option_copied result ≡ find (spec.is_entry_lost fellows.now.facts.now) fellows.now.facts.now.entries }
 {
-    let links = tally::<_, ByLink>(alloc, &facts.links)?;
-    let maps = tally::<_, ByMap>(alloc, &facts.siblings)?;
-    Ok(lost_entry_by(facts, &links, &maps))
+    lost_entry_by(fellows.facts, &fellows.links, &fellows.maps)
 }
 
 // The first link that lacks its entry or its map.
@@ -159,15 +178,15 @@ fn lost_link_by<'a>(
 }
 
 /// The first link that lacks its entry or its map.
-pub fn lost_link(alloc: Global, facts: &Facts) -> Result<Option<&LinkFact>, NoMemory>
-    ensures { IfOk result (λ first. option_copied first ≡ find (spec.is_link_lost facts.now) facts.now.links) }
+pub fn lost_link<'a>(alloc: Global, fellows: &Fellows<'a>) -> Result<Option<&'a LinkFact>, NoMemory>
+    ensures { IfOk result (λ first. option_copied first ≡ find (spec.is_link_lost fellows.now.facts.now) fellows.now.facts.now.links) }
 {
+    let facts = fellows.facts;
     if facts.links.is_empty() {
         return Ok(None);
     }
     let entries = tally::<_, ByFellow>(alloc, &facts.entries)?;
-    let maps = tally::<_, ByMap>(alloc, &facts.siblings)?;
-    Ok(lost_link_by(facts, &entries, &maps))
+    Ok(lost_link_by(facts, &entries, &fellows.maps))
 }
 
 // The sibling of an entry that needs its fellows and has its link.
@@ -281,14 +300,17 @@ fn lost_map_by<'a>(
 }
 
 /// The first map that lacks its entry or its link.
-pub fn lost_map(alloc: Global, facts: &Facts) -> Result<Option<&SiblingFact>, NoMemory>
-    ensures { IfOk result (λ first. option_copied first ≡ find (spec.is_map_lost facts.now) facts.now.siblings) }
+pub fn lost_map<'a>(
+    alloc: Global,
+    fellows: &Fellows<'a>,
+) -> Result<Option<&'a SiblingFact>, NoMemory>
+    ensures { IfOk result (λ first. option_copied first ≡ find (spec.is_map_lost fellows.now.facts.now) fellows.now.facts.now.siblings) }
 {
+    let facts = fellows.facts;
     if facts.siblings.is_empty() {
         return Ok(None);
     }
-    let links = tally::<_, ByLink>(alloc, &facts.links)?;
-    let linked = linked_by(alloc, facts, &links)?;
+    let linked = linked_by(alloc, facts, &fellows.links)?;
     let private = tally::<_, ByPrivate>(alloc, &facts.entries)?;
     let system = tally::<_, BySystemLink>(alloc, &facts.links)?;
     Ok(lost_map_by(facts, &linked, &private, &system))

@@ -70,10 +70,8 @@ fn add(digests: &mut Vec<u64>, entries: &[EntryFact], i: usize) -> Result<(), No
         return Ok(());
     }
     let e = &entries[i];
-    match digests.push(digest(e.id(), e.name())) {
-        Ok(()) => Ok(()),
-        Err(_) => Err(NoMemory),
-    }
+    digests.push(digest(e.id(), e.name()))?;
+    Ok(())
 }
 
 /// The digests of the names that another entry may have.

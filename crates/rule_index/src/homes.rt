@@ -45,10 +45,7 @@ fn none_yet(alloc: Global, inodes: usize) -> Result<Vec<Home>, NoMemory>
         entries: 0,
         directory: 0,
     };
-    match vec![in alloc; nothing; inodes] {
-        Ok(places) => Ok(places),
-        Err(_) => Err(NoMemory),
-    }
+    Ok(vec![in alloc; nothing; inodes]?)
 }
 
 // Counts one more entry at a place, which stands in a directory.
@@ -87,10 +84,8 @@ fn add(
         count_at(places, at, pair.1);
         return Ok(());
     }
-    match others.push(pair) {
-        Ok(()) => Ok(()),
-        Err(_) => Err(NoMemory),
-    }
+    others.push(pair)?;
+    Ok(())
 }
 
 impl Homes {

@@ -23,10 +23,8 @@ pub trait IdOf<T> {
 fn add(ids: &mut Vec<u64>, id: u64) -> Result<(), NoMemory>
     ensures { OnOk result ((q : ℕ) → spec.count_in ids.new.items q ≡ spec.count_in ids.old.items q + (if id == q then 1 else 0)) }
 {
-    match ids.push(id) {
-        Ok(()) => Ok(()),
-        Err(_) => Err(NoMemory),
-    }
+    ids.push(id)?;
+    Ok(())
 }
 
 // The numbers of the items, in their order.

@@ -23,10 +23,8 @@ pub trait KeyOf<T> {
 pub fn add<'a>(keys: &mut Vec<KeyRef<'a>>, key: KeyRef<'a>) -> Result<(), NoMemory>
     ensures { OnOk result ((q : spec.Key) → spec.key_count keys.new.items q ≡ spec.key_count keys.old.items q + (if spec.is_same_key key.entry q then 1 else 0)) }
 {
-    match keys.push(key) {
-        Ok(()) => Ok(()),
-        Err(_) => Err(NoMemory),
-    }
+    keys.push(key)?;
+    Ok(())
 }
 
 // The keys of the items, in their order.

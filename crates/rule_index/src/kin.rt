@@ -81,13 +81,9 @@ impl Kins {
     pub(crate) fn of(alloc: Global, inodes: &[InodeFact]) -> Result<Kins, NoMemory>
         ensures { IfOk result (HasKins inodes.now) }
     {
-        match sorted(alloc, inodes) {
-            Ok(list) => {
-                let list = IdList::of(alloc, list)?;
-                Ok(Kins { list })
-            }
-            Err(_) => Err(NoMemory),
-        }
+        let list = sorted(alloc, inodes)?;
+        let list = IdList::of(alloc, list)?;
+        Ok(Kins { list })
     }
 
     /// Of how many inodes.

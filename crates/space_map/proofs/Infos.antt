@@ -36,9 +36,6 @@ use Rattle.std.proofs.lemmas.Nat.{div-mul-add}
 pub container-inside : (blocks block : ℕ) → (nat_lt 0 block && nat_lt block blocks) ≡ true → in_container blocks block ≡ Some block
 container-inside blocks block e = ap (λ (b : Bool). if b then Some block else None) e
 
-pub container-outside : (blocks block : ℕ) → (nat_lt 0 block && nat_lt block blocks) ≡ false → in_container blocks block ≡ None
-container-outside blocks block e = ap (λ (b : Bool). if b then Some block else None) e
-
 -- the object of a kind in a block
 abbrev info_object : List ℕ → Site → ℕ → ℕ → Result (List ℕ) (Stop (Unsound HeadFault))
 info_object image site kind block = sound_object image site block (expecting kind (Some block) site.max_xid)

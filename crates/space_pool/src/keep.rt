@@ -24,10 +24,8 @@ fn add(entries: &mut Vec<QueueEntry>, given: Option<QueueEntry>) -> Result<(), N
     let Some(entry) = given else {
         return Ok(());
     };
-    match entries.push(entry) {
-        Ok(()) => Ok(()),
-        Err(_) => Err(NoMemory),
-    }
+    entries.push(entry)?;
+    Ok(())
 }
 
 // The entry of an item, if it is one of a leaf; None where its value is too short.

@@ -109,11 +109,11 @@ fn is_in(entry: QueueEntry, first: u64, blocks: u64) -> bool
         || (first <= entry.paddr && u128::from(entry.paddr) + u128::from(entry.length) <= end)
 }
 
-// The first block of an entry that leaves the pool.
+/// The first block of an entry that leaves the pool of the manager that `space` has; None where all lie in it.
 #[tactic(auto, unfolding(crate::specs::Queues::is_queued_in_pool))]
-fn outside(space: &Space, entries: &[QueueEntry]) -> Option<u64>
-    ensures none { IfNone result (list_all (is_queued_in_pool space.now.manager) entries.now ≡ true) }
-    ensures some { IfSome result (IsOutside space.now.manager entries.now) }
+pub fn outside(space: &Space, entries: &[QueueEntry]) -> Option<u64>
+    ensures clear { IfNone result (list_all (is_queued_in_pool space.now.manager) entries.now ≡ true) }
+    ensures present { IfSome result (IsOutside space.now.manager entries.now) }
 {
     let (first, blocks) = space.pool();
     for entry in entries {

@@ -15,3 +15,4 @@ pub mod Ranges
 pub mod Gathered
 pub mod Owned
 pub mod VolumeLemmas
+pub mod Physical

@@ -9,7 +9,7 @@ use Rattle.reach_rules.specs.Naming.{ByBlock, Namer, Whole, MapRecords, MapSnaps
 use Rattle.reach_rules.specs.Resolved.{Found, resolved}
 use Rattle.reach_rules.specs.Tested.{Answer, tested}
 use Rattle.reach_rules.specs.Next.{names, next, unless_zero, map_namings, cab_namings, cib_naming, cibs_in}
-use Rattle.reach_rules.specs.Live.{Live, rooted, led, IsSoundFor}
+use Rattle.reach_rules.specs.Live.{Live, IsSoundFor}
 use Rattle.reach_rules.proofs.Nexts.{Each, each-in, each-unless, each-map, each-through, from-next}
 use Rattle.tree_namings.specs.Parts.{physical_namings, records_naming, ExpectsMap, AreOfMap, IsAlone, NamingsOfParts}
 use Rattle.tree_namings.proofs.Lists.{lists-none, lists-both, lists-by}
@@ -21,15 +21,6 @@ use Rattle.tree_namings.proofs.OfKinds.{of-steps}
 pub lists-flat : {N : Type 0} (next : N → List N) (f : N → List N) (ns : List N) → ((n : N) → In n ns → Lists (f n) (Live (n ∷ []) next)) → Lists (flat_map f ns) (Live ns next)
 lists-flat next f [] h = lists-none next
 lists-flat next f (n ∷ ns) h = lists-both next n ns (f n) (flat_map f ns) (h n (inl refl)) (lists-flat next f ns (λ m k. h m (inr k)))
-
--- what is live from some roots is live from one of them, and the other way
-pub live-one : {N : Type 0} (next : N → List N) (ns : List N) (x : N) → Live ns next x → (n : N) × (In n ns × Live (n ∷ []) next x)
-live-one next ns x (rooted _ h) = (x, (h, rooted x (inl refl)))
-live-one next ns x (led m _ live h) = let t = live-one next ns m live in (t.0, (t.1.0, led m x t.1.1 h))
-
-pub live-any : {N : Type 0} (next : N → List N) (ns : List N) (n x : N) → In n ns → Live (n ∷ []) next x → Live ns next x
-live-any next ns n x listed (rooted _ h) = elim h as (λ _. Live ns next x) [ inl e ↦ rooted x (subst (λ y. In y ns) (sym e) listed) | inr k ↦ absurd k ]
-live-any next ns n x listed (led m _ live h) = led m x (live-any next ns n m listed live) h
 
 -- ---- what names nothing
 nothing-in : {X : Type 0} (xs : List X) → ((x : X) → In x xs → ⊥) → xs ≡ []

@@ -1,6 +1,12 @@
 -- Walks over the trees of named roots.
 use Rattle.std.specs.Prelude.{◌≡◌, ℕ, true, Bool, List}
+use Rattle.apfs_model.specs.Blocks.{in_container}
+use Rattle.obj_base.specs.Stops.{raised}
+use Rattle.obj_base.specs.declared.stop.Stop.{Stop}
 use Rattle.obj_base.specs.declared.stop.Within.{Within}
+use Rattle.obj_base.specs.declared.stop.Within.TheVariants.{Physical}
+use Rattle.bt_node.specs.Shape.{Shape}
+use Rattle.bt_cursor.specs.Tree.{Tree, tree_in}
 use Rattle.bt_cursor.specs.declared.gathering.GatherFault.{GatherFault}
 use Rattle.bt_cursor.specs.declared.gathering.GatherFault.TheVariants as gathers
 use Rattle.bt_cursor.specs.Line.{Item}
@@ -13,9 +19,10 @@ use Rattle.ext_ref.specs.Ranges.{ext_tree}
 use Rattle.space_pool.specs.Queues.{queue_tree}
 use Rattle.reach_rules.specs.declared.fault.ReachFault.{ReachFault}
 use Rattle.reach_rules.specs.declared.fault.ReachFault.TheVariants.{Value}
-use Rattle.reach_rules.specs.Naming.{LookUp, Object, TreeKind, MapRecords, MapSnapshots, ExtentRefs, SnapMetadata, FreeQueue, Files, TreeRoot, Naming}
+use Rattle.reach_rules.specs.Naming.{LookUp, ByBlock, Object, TreeKind, MapRecords, MapSnapshots, ExtentRefs, SnapMetadata, FreeQueue, Files, TreeRoot, Naming}
 use Rattle.reach_rules.specs.Live.{IsLive}
 use Rattle.reach_rules.specs.Trees.{tree_line, IsRightTree}
+use Rattle.reach_rules.specs.Faults.{xid_of}
 use Rattle.reach_rules.specs.Raised.{of_walk}
 use Rattle.tree_namings.specs.Namings.{tree_steps, tree_namings, AreNamingsOf}
 
@@ -52,3 +59,11 @@ pub record IsNamedRoot (image : List ℕ) (seen : Seen) (how : LookUp) (kind : T
 abbrev pub of_gather : Within → ℕ → ℕ → GatherFault → ReachFault
 of_gather within xid root (gathers.Tree why) = of_walk within xid root why
 of_gather within xid root (gathers.Refused item) = Value root item
+
+-- a tree of physical nodes whose keys have a shape
+abbrev pub physical_tree : {K : Type 0} → Shape K → List ℕ → Seen → Tree K
+physical_tree shape image seen = tree_in shape (site_of seen) (in_container (site_of seen).blocks) image
+
+-- a stop tells, of the block of a root, of a stop of a walk for which a fact holds
+abbrev pub IsToldOf : Seen → ℕ → (Stop GatherFault → Type 0) → Stop ReachFault → Type 0
+IsToldOf seen root P stop = (inner : Stop GatherFault) × ((stop ≡ raised (of_gather Physical (xid_of seen ByBlock) root) inner) × P inner)

@@ -31,22 +31,14 @@ pub(crate) fn tally_of(
     ensures present { (image : List ℕ) (volume : Loaded) → IsGatheredView image asked.now.site.now volume asked.now.view.now gathered.now → IfErr result (Tells (IsTreeFault asked.now.profile image asked.now.site.now volume asked.now.view.now asked.now.ranges.now) (IsViewFeature image asked.now.site.now volume asked.now.view.now)) }
     ensures no_read { IsErrOf result ReadFault → ⊥ }
 {
-    let index = match Index::new(alloc, &gathered.facts) {
-        Ok(index) => index,
-        Err(_) => return Err(Stop::NoMemory),
-    };
-    let first = match first_fault(alloc, asked, &index) {
-        Ok(first) => first,
-        Err(_) => return Err(Stop::NoMemory),
-    };
+    let index = Index::new(alloc, &gathered.facts)?;
+    let first = first_fault(alloc, asked, &index)?;
     if let Some(fault) = first {
         return Err(Stop::Found(fault));
     }
-    match notes(alloc, asked.profile, asked.view, &index) {
-        Ok(notes) => Ok(ViewTally {
-            records: gathered.records,
-            notes,
-        }),
-        Err(_) => Err(Stop::NoMemory),
-    }
+    let notes = notes(alloc, asked.profile, asked.view, &index)?;
+    Ok(ViewTally {
+        records: gathered.records,
+        notes,
+    })
 }

@@ -40,8 +40,5 @@ pub fn view_extents<S: BlockSource>(
         Ok(gathered) => gathered,
         Err(stop) => return Err(stop),
     };
-    match extents_with_ids(alloc, &gathered.facts) {
-        Ok(extents) => Ok(extents),
-        Err(_) => Err(Stop::NoMemory),
-    }
+    Ok(extents_with_ids(alloc, &gathered.facts)?)
 }

@@ -27,10 +27,8 @@ fn has_other_hash(alloc: Global, facts: &Facts, e: &EntryFact) -> Result<bool, N
     if !facts.names.are_hashed() {
         return Ok(false);
     }
-    match name_hash(alloc, facts.names, e.name()) {
-        Ok(hash) => Ok(hash != e.hash()),
-        Err(_) => Err(NoMemory),
-    }
+    let hash = name_hash(alloc, facts.names, e.name())?;
+    Ok(hash != e.hash())
 }
 
 /// The first entry whose name isn't ASCII and whose key has another hash.
@@ -82,10 +80,8 @@ fn put(notes: &mut Vec<Note>, note: Option<Note>) -> Result<(), NoMemory>
     let Some(note) = note else {
         return Ok(());
     };
-    match notes.push(note) {
-        Ok(()) => Ok(()),
-        Err(_) => Err(NoMemory),
-    }
+    notes.push(note)?;
+    Ok(())
 }
 
 // The notes on hashes, in record order.

@@ -56,8 +56,6 @@ pub fn check_with_extents<S: BlockSource>(
         Ok(tally) => tally,
         Err(stop) => return Err(stop),
     };
-    match extents_with_ids(alloc, &gathered.facts) {
-        Ok(extents) => Ok(CheckedView { tally, extents }),
-        Err(_) => Err(Stop::NoMemory),
-    }
+    let extents = extents_with_ids(alloc, &gathered.facts)?;
+    Ok(CheckedView { tally, extents })
 }

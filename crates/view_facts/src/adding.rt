@@ -25,10 +25,8 @@ use std::alloc::Global;
 fn put<T: Drop>(list: &mut Vec<T>, fact: T) -> Result<(), NoMemory>
     ensures { OnOk result (list.new.items ≡ list.old.items ++ fact ∷ []) }
 {
-    match list.push(fact) {
-        Ok(()) => Ok(()),
-        Err(_) => Err(NoMemory),
-    }
+    list.push(fact)?;
+    Ok(())
 }
 
 // The bytes of a value, none where there is no value.
@@ -103,10 +101,10 @@ fn contents(alloc: Global, name: &str, body: AttrBody<'_>) -> Result<Contents, N
     ensures { IfOk result (λ contents. body_of contents ≡ brief_body name.now (body_seen body.entry)) }
 {
     match body {
-        AttrBody::Embedded(bytes) => match kept(name, bytes).to_vec(alloc) {
-            Ok(bytes) => Ok(Contents::Embedded(bytes)),
-            Err(_) => Err(NoMemory),
-        },
+        AttrBody::Embedded(bytes) => {
+            let bytes = kept(name, bytes).to_vec(alloc)?;
+            Ok(Contents::Embedded(bytes))
+        }
         AttrBody::Stream { id, size } => Ok(Contents::Stream { id, size }),
     }
 }

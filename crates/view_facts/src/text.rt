@@ -21,10 +21,7 @@ pub(crate) enum Text {
 pub(crate) fn copied(alloc: Global, name: &str) -> Result<String, NoMemory>
     ensures { IfOk result (λ copy. string_bytes copy ≡ name.now) }
 {
-    match String::from_str(alloc, name) {
-        Ok(copy) => Ok(copy),
-        Err(_) => Err(NoMemory),
-    }
+    Ok(String::from_str(alloc, name)?)
 }
 
 impl Text {

@@ -28,9 +28,7 @@ use Rattle.bt_cursor.proofs.Places.{tree-levelled, places-met, no-gap}
 use Rattle.fs_name.specs.declared.naming.Names.{Names}
 use Rattle.fs_name.specs.Normal.{are_hashed}
 use Rattle.fs_record.specs.declared.fault.RecFault.{RecFault}
-use Rattle.bt_keys.specs.Shapes.{fs_shape, fs_plain_shape}
-use Rattle.bt_keys.specs.declared.record_key.FsKey.{FsKey}
-use Rattle.bt_keys.specs.declared.record_key.FsPlainKey.{FsPlainKey}
+use Rattle.bt_keys.specs.Shapes.{FsKey, fs_shape, FsPlainKey, fs_plain_shape}
 use Rattle.vol_view.specs.Volumes.{Loaded}
 use Rattle.vol_view.specs.Views.{view_named, hashed_tree, plain_tree, view_line, is_view_walkable, is_view_ordered, is_view_counted, FactBy, IsViewFault, IsViewFeature}
 use Rattle.vol_view.specs.declared.volume.View.{View}

@@ -5,9 +5,7 @@ use Rattle.bt_node.specs.Shape.{Shape}
 use Rattle.bt_node.specs.Entries.{Pair}
 use Rattle.bt_node.specs.declared.node.NodeAt.{NodeAt}
 use Rattle.obj_base.specs.declared.site.Site.{Site}
-use Rattle.bt_keys.specs.declared.record_key.FsKey.{FsKey}
-use Rattle.bt_keys.specs.declared.record_key.FsPlainKey.{FsPlainKey}
-use Rattle.bt_keys.specs.Shapes.{fs_shape, fs_plain_shape}
+use Rattle.bt_keys.specs.Shapes.{FsKey, fs_shape, FsPlainKey, fs_plain_shape}
 use Rattle.bt_cursor.specs.Tree.{Tree, tree_in}
 use Rattle.bt_cursor.specs.Flat.{flat_of}
 use Rattle.bt_cursor.specs.Line.{Item, line_of}

@@ -6,10 +6,11 @@ ghost use Rattle.rule_faults.specs.Faults as spec;
 
 use super::{Asked, id_at};
 use blk_source::NoMemory;
+use rule_breaks::fellows::Fellows;
 use rule_breaks::{fellows, names};
 use rule_index::Index;
 use std::alloc::Global;
-use view_facts::{EntryFact, Facts};
+use view_facts::EntryFact;
 use view_rules::TreeFault;
 
 // The fault of an entry of a sibling that lacks its fellows; none of an entry without a sibling's id.
@@ -24,26 +25,25 @@ fn lost_twin(asked: &Asked<'_>, e: &EntryFact) -> Option<TreeFault>
 
 // An entry that lacks its link or its map.
 #[tactic(auto, using(crate::proofs::Shown::lost_entry, crate::proofs::Shown::none_clear))]
-fn lost_entry(
-    alloc: Global,
-    asked: &Asked<'_>,
-    facts: &Facts,
-) -> Result<Option<TreeFault>, NoMemory>
-    ensures { IfOk result (spec.IsFirst asked.now facts.now (rules.HasEntryFellows facts.now)) }
+fn lost_entry(asked: &Asked<'_>, fellows: &Fellows<'_>) -> Option<TreeFault>
+    ensures { spec.IsFirst asked.now fellows.now.facts.now (rules.HasEntryFellows fellows.now.facts.now) result }
 {
-    let first = fellows::lost_entry(alloc, facts)?;
-    match first {
-        Some(e) => Ok(lost_twin(asked, e)),
-        None => Ok(None),
+    match fellows::lost_entry(fellows) {
+        Some(e) => lost_twin(asked, e),
+        None => None,
     }
 }
 
 // A link that lacks its entry or its map.
 #[tactic(auto, using(crate::proofs::Shown::lost_link, crate::proofs::Shown::none_clear))]
-fn lost_link(alloc: Global, asked: &Asked<'_>, facts: &Facts) -> Result<Option<TreeFault>, NoMemory>
-    ensures { IfOk result (spec.IsFirst asked.now facts.now (rules.HasLinkFellows facts.now)) }
+fn lost_link(
+    alloc: Global,
+    asked: &Asked<'_>,
+    fellows: &Fellows<'_>,
+) -> Result<Option<TreeFault>, NoMemory>
+    ensures { IfOk result (spec.IsFirst asked.now fellows.now.facts.now (rules.HasLinkFellows fellows.now.facts.now)) }
 {
-    let first = fellows::lost_link(alloc, facts)?;
+    let first = fellows::lost_link(alloc, fellows)?;
     match first {
         Some(l) => Ok(Some(TreeFault::SiblingLost(id_at(asked.view, l.sibling())))),
         None => Ok(None),
@@ -52,10 +52,14 @@ fn lost_link(alloc: Global, asked: &Asked<'_>, facts: &Facts) -> Result<Option<T
 
 // A map that lacks its entry or its link.
 #[tactic(auto, using(crate::proofs::Shown::lost_map, crate::proofs::Shown::none_clear))]
-fn lost_map(alloc: Global, asked: &Asked<'_>, facts: &Facts) -> Result<Option<TreeFault>, NoMemory>
-    ensures { IfOk result (spec.IsFirst asked.now facts.now (rules.HasMapFellows facts.now)) }
+fn lost_map(
+    alloc: Global,
+    asked: &Asked<'_>,
+    fellows: &Fellows<'_>,
+) -> Result<Option<TreeFault>, NoMemory>
+    ensures { IfOk result (spec.IsFirst asked.now fellows.now.facts.now (rules.HasMapFellows fellows.now.facts.now)) }
 {
-    let first = fellows::lost_map(alloc, facts)?;
+    let first = fellows::lost_map(alloc, fellows)?;
     match first {
         Some(m) => Ok(Some(TreeFault::SiblingLost(id_at(asked.view, m.id())))),
         None => Ok(None),
@@ -81,9 +85,10 @@ pub fn fault(
 ) -> Result<Option<TreeFault>, NoMemory>
     ensures { IfOk result (spec.IsFirst asked.now index.now.facts.now (rules.HasEntryFellows index.now.facts.now × (rules.HasLinkFellows index.now.facts.now × (rules.HasMapFellows index.now.facts.now × rules.HasMarks index.now.facts.now)))) }
 {
-    let entry = lost_entry(alloc, asked, index.facts)?;
-    let link = lost_link(alloc, asked, index.facts)?;
-    let map = lost_map(alloc, asked, index.facts)?;
+    let fellows = Fellows::of(alloc, index.facts)?;
+    let entry = lost_entry(asked, &fellows);
+    let link = lost_link(alloc, asked, &fellows)?;
+    let map = lost_map(alloc, asked, &fellows)?;
     let mark = unmarked(asked, index);
     Ok(entry.or(link.or(map.or(mark))))
 }

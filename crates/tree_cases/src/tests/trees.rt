@@ -31,31 +31,68 @@ pub enum Top {
     Private(u32),
 }
 
+/// The id of an object, of which a record is.
+#[derive(Clone, Copy, Debug)]
+pub struct Id(pub u64);
+
+/// The id of the directory in which something stands.
+#[derive(Clone, Copy, Debug)]
+pub struct In(pub u64);
+
+/// The id of a sibling.
+#[derive(Clone, Copy, Debug)]
+pub struct Sibling(pub u64);
+
+/// A number of children or of links.
+#[derive(Clone, Copy, Debug)]
+pub struct Count(pub u32);
+
+/// A number of bytes.
+#[derive(Clone, Copy, Debug)]
+pub struct Size(pub u64);
+
+/// A logical address in bytes.
+#[derive(Clone, Copy, Debug)]
+pub struct At(pub u64);
+
+/// A block of the container.
+#[derive(Clone, Copy, Debug)]
+pub struct Block(pub u64);
+
+/// The kind that an entry gives of a folder.
+pub const FOLDER: u16 = 4;
+
+/// The kind that an entry gives of a regular file.
+pub const FILE: u16 = 8;
+
+/// The kind that an entry gives of a symbolic link.
+pub const LINK: u16 = 10;
+
 // A record of a tree.
 #[derive(Clone, Copy, Debug)]
 pub enum Rec {
-    /// An inode: its id, its parent, its mode, and the number of its children or links.
-    Inode(u64, u64, u16, u32),
-    /// A regular file in the root with one link: its id, and the size of its stream.
-    Streamed(u64, u64),
-    /// An inode whose value lacks its last byte: its id, and its parent.
-    Cut(u64, u64),
-    /// An entry: its directory, its file, the kind that it gives, and its name.
-    Entry(u64, u64, u16, &'static str),
+    /// An inode, its mode, and the number of its children or links.
+    Inode(Id, In, u16, Count),
+    /// A regular file in the root with one link, and the size of its stream.
+    Streamed(Id, Size),
+    /// An inode whose value lacks its last byte.
+    Cut(Id, In),
+    /// An entry, the kind that it gives, and its name.
+    Entry(In, Id, u16, &'static str),
     /// The same, with a hash that is greater by one.
-    Hashed(u64, u64, u16, &'static str),
+    Hashed(In, Id, u16, &'static str),
     /// An entry with a sibling's id before its name.
-    Twin(u64, u64, u16, u64, &'static str),
-    /// A sibling link: its file, the sibling, its directory, and its name.
-    Link(u64, u64, u64, &'static str),
-    /// A sibling map: the sibling, and the file.
-    Map(u64, u64),
-    /// An attribute that stands in its record: its file, its name, and its bytes.
-    Attr(u64, &'static str, &'static [u8]),
-    /// An attribute that is a stream: its file, its name, and the size.
-    StreamAttr(u64, &'static str, u64),
-    /// An extent: its stream, its logical address, its length in bytes, and its first block.
-    Extent(u64, u64, u64, u64),
+    Twin(In, Id, u16, Sibling, &'static str),
+    /// A sibling link, and its name.
+    Link(Id, Sibling, In, &'static str),
+    /// A sibling map.
+    Map(Sibling, Id),
+    /// An attribute that stands in its record: its name, and its bytes.
+    Attr(Id, &'static str, &'static [u8]),
+    /// An attribute that is a stream, and its name.
+    StreamAttr(Id, &'static str, Size),
+    /// An extent of a stream.
+    Extent(Id, At, Size, Block),
 }
 
 fn inode_of(
@@ -130,31 +167,33 @@ fn large_of(alloc: Global, file: u64, name: &str, size: u64) -> Result<Item, All
 
 fn item_of(alloc: Global, record: Rec) -> Result<Item, AllocError> {
     match record {
-        Rec::Inode(id, parent, mode, number) => inode_of(alloc, id, parent, mode, number, None),
-        Rec::Streamed(id, size) => inode_of(alloc, id, 2, 0x81a4, 1, Some(size)),
-        Rec::Cut(id, parent) => {
+        Rec::Inode(Id(id), In(parent), mode, Count(number)) => inode_of(
+            alloc, id, parent, mode, number, None,
+        ),
+        Rec::Streamed(Id(id), Size(size)) => inode_of(alloc, id, 2, 0x81a4, 1, Some(size)),
+        Rec::Cut(Id(id), In(parent)) => {
             let mut item = inode_of(alloc, id, parent, 0x81a4, 1, None)?;
             item.1.pop();
             Ok(item)
         }
-        Rec::Entry(directory, file, kind, name) => {
+        Rec::Entry(In(directory), Id(file), kind, name) => {
             entry_of(alloc, directory, file, kind, None, name)
         }
-        Rec::Hashed(directory, file, kind, name) => {
+        Rec::Hashed(In(directory), Id(file), kind, name) => {
             let mut item = entry_of(alloc, directory, file, kind, None, name)?;
             raise_hash(&mut item);
             Ok(item)
         }
-        Rec::Twin(directory, file, kind, sibling, name) => {
+        Rec::Twin(In(directory), Id(file), kind, Sibling(sibling), name) => {
             entry_of(alloc, directory, file, kind, Some(sibling), name)
         }
-        Rec::Link(file, sibling, directory, name) => {
+        Rec::Link(Id(file), Sibling(sibling), In(directory), name) => {
             link_of(alloc, file, sibling, directory, name)
         }
-        Rec::Map(sibling, file) => sibling_map(alloc, sibling, file),
-        Rec::Attr(file, name, bytes) => attribute_of(alloc, file, name, bytes),
-        Rec::StreamAttr(file, name, size) => large_of(alloc, file, name, size),
-        Rec::Extent(stream, address, length, block) => {
+        Rec::Map(Sibling(sibling), Id(file)) => sibling_map(alloc, sibling, file),
+        Rec::Attr(Id(file), name, bytes) => attribute_of(alloc, file, name, bytes),
+        Rec::StreamAttr(Id(file), name, Size(size)) => large_of(alloc, file, name, size),
+        Rec::Extent(Id(stream), At(address), Size(length), Block(block)) => {
             file_extent(alloc, stream, address, length, block)
         }
     }
@@ -168,8 +207,8 @@ fn top_items(alloc: Global, top: Top) -> Result<Vec<Item>, AllocError> {
         Top::File | Top::None => (0, 0),
     };
     let mut items = vec![in alloc;
-        entry_of(alloc, 1, 2, 4, None, "root")?,
-        entry_of(alloc, 1, 3, 4, None, "private-dir")?,
+        entry_of(alloc, 1, 2, FOLDER, None, "root")?,
+        entry_of(alloc, 1, 3, FOLDER, None, "private-dir")?,
         inode_of(alloc, 3, 1, DIRECTORY_MODE, private, None)?,
     ]?;
     match top {

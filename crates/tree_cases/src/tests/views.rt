@@ -4,7 +4,7 @@ use crate::tests::cases::{
     Word,
 };
 use crate::tests::opened::open;
-use crate::tests::trees::{Rec, Top, image_of, image_of_two};
+use crate::tests::trees::{Count, FILE, FOLDER, Id, In, Rec, Top, image_of, image_of_two};
 use blk_source::{Bytes, MemSource};
 use ext_ref::NewRange;
 use fs_record::RecFault;
@@ -220,7 +220,10 @@ fn cases_of_two_leaves_end_as_said(rt: HostRuntime) -> Result<(), Fail> {
 }
 
 // A name that isn't ASCII, with another hash in its entry.
-const OTHER_HASH: &[Rec] = &[Rec::Hashed(2, 16, 8, "é"), Rec::Inode(16, 2, 0x81a4, 1)];
+const OTHER_HASH: &[Rec] = &[
+    Rec::Hashed(In(2), Id(16), FILE, "é"),
+    Rec::Inode(Id(16), In(2), 0x81a4, Count(1)),
+];
 
 #[test]
 fn another_hash_is_a_fault_under_strict(rt: HostRuntime) -> Result<(), Fail> {
@@ -234,14 +237,14 @@ fn another_hash_is_a_fault_under_strict(rt: HostRuntime) -> Result<(), Fail> {
 
 // Two such names, and two files without an entry, whose ids stand between those of the directories.
 const NOTED: &[Rec] = &[
-    Rec::Hashed(2, 18, 8, "é"),
-    Rec::Entry(2, 20, 4, "d"),
-    Rec::Hashed(20, 17, 8, "ü"),
-    Rec::Inode(16, 2, 0x81a4, 1),
-    Rec::Inode(17, 20, 0x81a4, 1),
-    Rec::Inode(18, 2, 0x81a4, 1),
-    Rec::Inode(19, 2, 0x81a4, 3),
-    Rec::Inode(20, 2, 0x41ed, 1),
+    Rec::Hashed(In(2), Id(18), FILE, "é"),
+    Rec::Entry(In(2), Id(20), FOLDER, "d"),
+    Rec::Hashed(In(20), Id(17), FILE, "ü"),
+    Rec::Inode(Id(16), In(2), 0x81a4, Count(1)),
+    Rec::Inode(Id(17), In(20), 0x81a4, Count(1)),
+    Rec::Inode(Id(18), In(2), 0x81a4, Count(1)),
+    Rec::Inode(Id(19), In(2), 0x81a4, Count(3)),
+    Rec::Inode(Id(20), In(2), 0x41ed, Count(1)),
 ];
 
 #[test]

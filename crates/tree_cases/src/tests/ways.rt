@@ -1,6 +1,6 @@
 // From which directory parents never lead to the root.
 use crate::tests::opened::open;
-use crate::tests::trees::{Rec, Top, image_of};
+use crate::tests::trees::{Count, Id, In, Rec, Top, image_of};
 use blk_source::MemSource;
 use parent_chain::first_unreached;
 use std::alloc::{AllocError, Global};
@@ -16,72 +16,100 @@ const F: u16 = 0x81a4;
 
 const WAYS: &[Way] = &[
     ("no_directory", &[], None),
-    ("a_file_in_itself", &[Rec::Inode(16, 16, F, 1)], None),
-    ("in_the_root", &[Rec::Inode(16, 2, D, 0)], None),
+    (
+        "a_file_in_itself",
+        &[Rec::Inode(Id(16), In(16), F, Count(1))],
+        None,
+    ),
+    (
+        "in_the_root",
+        &[Rec::Inode(Id(16), In(2), D, Count(0))],
+        None,
+    ),
     (
         "below_16_without_an_inode",
-        &[Rec::Inode(16, 9, D, 0)],
+        &[Rec::Inode(Id(16), In(9), D, Count(0))],
         None,
     ),
     (
         "two_below_the_root",
-        &[Rec::Inode(16, 17, D, 0), Rec::Inode(17, 2, D, 0)],
+        &[
+            Rec::Inode(Id(16), In(17), D, Count(0)),
+            Rec::Inode(Id(17), In(2), D, Count(0)),
+        ],
         None,
     ),
     (
         "through_a_file",
-        &[Rec::Inode(16, 17, D, 0), Rec::Inode(17, 2, F, 1)],
+        &[
+            Rec::Inode(Id(16), In(17), D, Count(0)),
+            Rec::Inode(Id(17), In(2), F, Count(1)),
+        ],
         None,
     ),
     (
         "two_ways_that_join",
         &[
-            Rec::Inode(16, 18, D, 0),
-            Rec::Inode(17, 18, D, 0),
-            Rec::Inode(18, 19, D, 0),
-            Rec::Inode(19, 2, D, 0),
+            Rec::Inode(Id(16), In(18), D, Count(0)),
+            Rec::Inode(Id(17), In(18), D, Count(0)),
+            Rec::Inode(Id(18), In(19), D, Count(0)),
+            Rec::Inode(Id(19), In(2), D, Count(0)),
         ],
         None,
     ),
-    ("in_itself", &[Rec::Inode(16, 16, D, 0)], Some(16)),
-    ("in_no_inode", &[Rec::Inode(16, 99, D, 0)], Some(16)),
+    (
+        "in_itself",
+        &[Rec::Inode(Id(16), In(16), D, Count(0))],
+        Some(16),
+    ),
+    (
+        "in_no_inode",
+        &[Rec::Inode(Id(16), In(99), D, Count(0))],
+        Some(16),
+    ),
     (
         "ring_of_two",
-        &[Rec::Inode(16, 17, D, 0), Rec::Inode(17, 16, D, 0)],
+        &[
+            Rec::Inode(Id(16), In(17), D, Count(0)),
+            Rec::Inode(Id(17), In(16), D, Count(0)),
+        ],
         Some(16),
     ),
     (
         "into_a_ring",
         &[
-            Rec::Inode(16, 2, D, 0),
-            Rec::Inode(17, 18, D, 0),
-            Rec::Inode(18, 19, D, 0),
-            Rec::Inode(19, 18, D, 0),
+            Rec::Inode(Id(16), In(2), D, Count(0)),
+            Rec::Inode(Id(17), In(18), D, Count(0)),
+            Rec::Inode(Id(18), In(19), D, Count(0)),
+            Rec::Inode(Id(19), In(18), D, Count(0)),
         ],
         Some(17),
     ),
     (
         "ring_of_files",
         &[
-            Rec::Inode(16, 17, D, 0),
-            Rec::Inode(17, 18, F, 1),
-            Rec::Inode(18, 17, F, 1),
+            Rec::Inode(Id(16), In(17), D, Count(0)),
+            Rec::Inode(Id(17), In(18), F, Count(1)),
+            Rec::Inode(Id(18), In(17), F, Count(1)),
         ],
         Some(16),
     ),
     (
         "through_a_file_to_no_inode",
-        &[Rec::Inode(16, 17, D, 0), Rec::Inode(17, 99, F, 1)],
+        &[
+            Rec::Inode(Id(16), In(17), D, Count(0)),
+            Rec::Inode(Id(17), In(99), F, Count(1)),
+        ],
         Some(16),
     ),
     (
         "after_some_that_lead",
         &[
-            Rec::Inode(16, 17, D, 0),
-            Rec::Inode(17, 2, D, 0),
-            Rec::Inode(18, 16, D, 0),
-            Rec::Inode(19, 20, D, 0),
-            Rec::Inode(20, 19, F, 1),
+            Rec::Inode(Id(16), In(17), D, Count(0)),
+            Rec::Inode(Id(17), In(2), D, Count(0)),
+            Rec::Inode(Id(18), In(16), D, Count(0)),
+            Rec::Inode(Id(19), In(20), D, Count(0)),
+            Rec::Inode(Id(20), In(19), F, Count(1)),
         ],
         Some(19),
     ),
@@ -111,9 +139,9 @@ fn ways_lead_as_said(rt: HostRuntime) -> Result<(), Fail> {
 fn chain(alloc: Global, last: u64) -> Result<Vec<Rec>, AllocError> {
     let mut records = Vec::new(alloc);
     for id in 16..45 {
-        records.push(Rec::Inode(id, id + 1, D, 0))?;
+        records.push(Rec::Inode(Id(id), In(id + 1), D, Count(0)))?;
     }
-    records.push(Rec::Inode(45, last, D, 0))?;
+    records.push(Rec::Inode(Id(45), In(last), D, Count(0)))?;
     Ok(records)
 }
 

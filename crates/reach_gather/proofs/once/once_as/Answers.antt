@@ -11,16 +11,16 @@ use Rattle.reach_gather.proofs.once.once_as.Goals as goal
 pub beside-requires-clause-alike : goal.beside-requires-clause-alike
 beside-requires-clause-alike c = λ n h.
     those-look c.args.namings.now c.args.how n
-    (sorted-in c.args.namings.now c.in-Ok.kept.items c.by_id.new.namings.items c.deref.result.now c.args.how c.in-Ok.ensures c.by_id.ensures.order c.deref.ensures.value n h)
+    (sorted-in c.args.namings.now c.in_ok-kept.kept.items c.by_id.new.namings.items c.deref.result.now c.args.how c.in_ok-kept.ensures c.by_id.ensures.order c.deref.ensures.value n h)
 
 pub returns-clause-once : goal.returns-clause-once
 returns-clause-once c =
     IfOk-weaker c.beside.result (λ _. AreOnceHere c.deref.result.now) (λ _. AreOnceAs (look_of c.args.how) (map naming_of c.args.namings.now))
     (λ _ once. once-as c.args.namings.now c.deref.result.now c.args.how
-    (in-sorted c.args.namings.now c.in-Ok.kept.items c.by_id.new.namings.items c.deref.result.now c.args.how c.in-Ok.ensures c.by_id.ensures.order c.deref.ensures.value) once)
+    (in-sorted c.args.namings.now c.in_ok-kept.kept.items c.by_id.new.namings.items c.deref.result.now c.args.how c.in_ok-kept.ensures c.by_id.ensures.order c.deref.ensures.value) once)
     c.beside.ensures.once
 
 pub returns-clause-present : goal.returns-clause-present
 returns-clause-present c = λ image live.
     c.beside.ensures.present image (λ n h. live (naming_of n) (in-map naming_of c.args.namings.now n (those-in c.args.namings.now c.args.how n
-    (sorted-in c.args.namings.now c.in-Ok.kept.items c.by_id.new.namings.items c.deref.result.now c.args.how c.in-Ok.ensures c.by_id.ensures.order c.deref.ensures.value n h))))
+    (sorted-in c.args.namings.now c.in_ok-kept.kept.items c.by_id.new.namings.items c.deref.result.now c.args.how c.in_ok-kept.ensures c.by_id.ensures.order c.deref.ensures.value n h))))

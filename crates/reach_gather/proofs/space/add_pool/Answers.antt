@@ -49,4 +49,4 @@ returns-clause-queued g c = λ image told.
     let entries : c.deref.result.now ≡ c.in-Ok.entries.items = c.deref.ensures.value in
     all-pooled image seen manager c.in-Ok.entries.items
     (c.in-Ok.ensures.entries image told ∙ (ap (λ (n : Named). queue_entries image seen n.oid) c.root-root.ensures ∙ ap (queue_entries image seen) c.pool_root-oid.ensures))
-    (subst (λ (es : List QueueEntry). list_all (is_queued_in_pool manager) es ≡ true) entries c.in-None.ensures.none)
+    (subst (λ (es : List QueueEntry). list_all (is_queued_in_pool manager) es ≡ true) entries c.in-None.ensures.clear)

@@ -1,11 +1,14 @@
-use Rattle.std.proofs.Common.{◌≡◌, ◌∙◌, ◌++◌, ◌+◌, ◌<◌, List, length, sym, subst}
+use Rattle.std.proofs.Common.{◌≡◌, ◌∙◌, ◌++◌, ◌+◌, ◌<◌, ℕ, List, Some, length, sym, subst}
 use Rattle.std.specs.Prelude.{◌^◌}
 use Rattle.nx_block.specs.Super.{omap_oid_of}
 use Rattle.nx_ring.specs.Checkpoint.{Seen, site_of}
 use Rattle.omap_map.specs.Maps.{map_records}
 use Rattle.vol_view.specs.Volumes.{Loaded}
+use Rattle.vol_view.specs.Stops.{AreHeads}
+use Rattle.vol_view.specs.declared.head.VolHead.{VolHead}
 use Rattle.view_sweep.specs.declared.used.Used.{Used}
 use Rattle.view_sweep.specs.Unused.{AreAllUsed, AreUsedOnes}
+use Rattle.reach_sweep.specs.Account.{AreLoadedOf}
 use Rattle.reach_sweep.specs.Composed.{records_used}
 use Rattle.reach_sweep.specs.Finished.{IsFinished}
 use Rattle.reach_sweep.specs.Used.{maps_of}
@@ -105,17 +108,15 @@ pub returns-in-Err-check_used-clause-exact : goal.returns-in-Err-check_used-clau
 returns-in-Err-check_used-clause-exact g c = λ image heads told h l whole r.
     reached-free image c.args.cp.now whole c.in-Err-check_used.stop r (returns-in-Err-check_used-clause-present g c image heads told h l)
 
-pub returns-in-Ok-finish-clause-clear : goal.returns-in-Ok-finish-clause-clear
-returns-in-Ok-finish-clause-clear g c = λ image heads told h l.
+-- all that was swept, known and finished where all is put together
+swept-at : (g : _) (c : goal.After-drop-parts-inside-in-Ok-finish-3 g) (image : List ℕ) (heads : List VolHead) → g.S.BlockSource.bytes c.args.src.now ≡ Some image → AreHeads image c.args.cp.now heads → AreLoadedOf image c.args.cp.now heads c.args.volumes.now →
+    AreSwept image c.args.cp.now heads c.args.volumes.now c.in_ok-parts.parts c.add_parts.new.out c.in-Ok-sweep_views.used.items c.in-Ok-head_records.found.items
+swept-at g c image heads told h l =
     let seen : Seen = c.args.cp.now in
-    let volumes : List Loaded = c.args.volumes.now in
     let namer = namer_by image seen in
-    let found : List Used = c.in-Ok-head_records.found.items in
-    let used : List Used = c.in-Ok-sweep_views.used.items in
-    let v = given-of image seen heads volumes h l in
+    let v = given-of image seen heads c.args.volumes.now h l in
     let before = c.load_pool.ensures.kept.same_bytes ∙ (c.load_space.ensures.kept.same_bytes ∙ told) in
-    let records : c.in-Ok-add_parts.records.items ≡ map_records image (site_of seen) (omap_oid_of seen.nx) = c.in-Ok-add_parts.ensures.records image before in
-    let swept : AreSwept image seen heads volumes c.in_ok-parts.parts c.add_parts.new.out used found = record {
+    record {
       given = v;
       gathered = record {
         start_is = c.in_ok-parts.ensures.start;
@@ -123,56 +124,42 @@ returns-in-Ok-finish-clause-clear g c = λ image heads told h l.
       };
       once = c.in-Ok-once.ensures.clear;
       reached = c.in-Ok-sweep_views.ensures.clear image heads namer (c.add_parts.ensures.kept.same_bytes ∙ before) v.parts v.volumes_are;
-      heads_found = c.in-Ok-head_records.ensures.found image heads namer v.parts (c.deref.ensures.value ∙ records) v.volumes_are;
-    } in
-    let known : AreKnown image seen heads (maps_of seen volumes c.deref-2.result.now) (found ++ used) c.in-Ok.space c.in-Ok-load_pool.pool.items = record {
+      heads_found = c.in-Ok-head_records.ensures.found image heads namer v.parts (c.deref.ensures.value ∙ c.in-Ok-add_parts.ensures.records image before) v.volumes_are;
+    }
+
+known-at : (g : _) (c : goal.After-drop-parts-inside-in-Ok-finish-3 g) (image : List ℕ) (heads : List VolHead) → g.S.BlockSource.bytes c.args.src.now ≡ Some image → AreHeads image c.args.cp.now heads → AreLoadedOf image c.args.cp.now heads c.args.volumes.now →
+    AreKnown image c.args.cp.now heads (maps_of c.args.cp.now c.args.volumes.now c.deref-2.result.now) (c.in-Ok-head_records.found.items ++ c.in-Ok-sweep_views.used.items) c.in-Ok.space c.in-Ok-load_pool.pool.items
+known-at g c image heads told h l =
+    let seen : Seen = c.args.cp.now in
+    let volumes : List Loaded = c.args.volumes.now in
+    let v = given-of image seen heads volumes h l in
+    let before = c.load_pool.ensures.kept.same_bytes ∙ (c.load_space.ensures.kept.same_bytes ∙ told) in
+    record {
       plain = c.requires.plain;
-      listed = listed-by image seen heads volumes namer c.deref-2.result.now v.parts v.volumes_are (c.deref-2.ensures.value ∙ records);
-      all_are_used = subst (λ (us : List Used). AreAllUsed (maps_of seen volumes c.deref-2.result.now) (us ++ used)) c.deref-3.ensures.value
+      listed = listed-by image seen heads volumes (namer_by image seen) c.deref-2.result.now v.parts v.volumes_are (c.deref-2.ensures.value ∙ c.in-Ok-add_parts.ensures.records image before);
+      all_are_used = subst (λ (us : List Used). AreAllUsed (maps_of seen volumes c.deref-2.result.now) (us ++ c.in-Ok-sweep_views.used.items)) c.deref-3.ensures.value
           (subst (λ (us : List Used). AreAllUsed (maps_of seen volumes c.deref-2.result.now) (c.deref-3.result.now ++ us)) c.deref-4.ensures.value c.in-Ok-check_used.ensures.clear);
       space_is = c.in-Ok.ensures.clear image told;
       pool_is = c.in-Ok-load_pool.ensures.clear image (c.load_space.ensures.kept.same_bytes ∙ told);
       queued = c.in-Ok-add_parts.ensures.queued image before;
-    } in
-    let finished : IsFinished (records_used used) (records_used found) c.add_parts.new.out c.in-Ok.space c.in-Ok-load_pool.pool.items c.in-Ok-finish.reached =
-    subst (λ (us : List Used). IsFinished (records_used us) (records_used found) c.add_parts.new.out c.in-Ok.space c.in-Ok-load_pool.pool.items c.in-Ok-finish.reached) c.deref-5.ensures.value
-    (subst (λ (us : List Used). IsFinished (records_used c.deref-5.result.now) (records_used us) c.add_parts.new.out c.in-Ok.space c.in-Ok-load_pool.pool.items c.in-Ok-finish.reached) c.deref-6.ensures.value c.in-Ok-finish.ensures.done) in
-    all-reached image seen heads volumes c.in_ok-parts.parts c.add_parts.new.out used found (maps_of seen volumes c.deref-2.result.now) c.in-Ok.space c.in-Ok-load_pool.pool.items c.in-Ok-finish.reached swept known finished
+    }
+
+finished-at : (g : _) (c : goal.After-drop-parts-inside-in-Ok-finish-3 g) → IsFinished (records_used c.in-Ok-sweep_views.used.items) (records_used c.in-Ok-head_records.found.items) c.add_parts.new.out c.in-Ok.space c.in-Ok-load_pool.pool.items c.in-Ok-finish.reached
+finished-at g c =
+    subst (λ (us : List Used). IsFinished (records_used us) (records_used c.in-Ok-head_records.found.items) c.add_parts.new.out c.in-Ok.space c.in-Ok-load_pool.pool.items c.in-Ok-finish.reached) c.deref-5.ensures.value
+    (subst (λ (us : List Used). IsFinished (records_used c.deref-5.result.now) (records_used us) c.add_parts.new.out c.in-Ok.space c.in-Ok-load_pool.pool.items c.in-Ok-finish.reached) c.deref-6.ensures.value c.in-Ok-finish.ensures.done)
+
+pub returns-in-Ok-finish-clause-clear : goal.returns-in-Ok-finish-clause-clear
+returns-in-Ok-finish-clause-clear g c = λ image heads told h l.
+    all-reached image c.args.cp.now heads c.args.volumes.now c.in_ok-parts.parts c.add_parts.new.out c.in-Ok-sweep_views.used.items c.in-Ok-head_records.found.items (maps_of c.args.cp.now c.args.volumes.now c.deref-2.result.now) c.in-Ok.space c.in-Ok-load_pool.pool.items c.in-Ok-finish.reached
+    (swept-at g c image heads told h l) (known-at g c image heads told h l) (finished-at g c)
 
 pub returns-in-Ok-finish-clause-reads : goal.returns-in-Ok-finish-clause-reads
 returns-in-Ok-finish-clause-reads g c = λ image heads told h l.
-    let seen : Seen = c.args.cp.now in
-    let volumes : List Loaded = c.args.volumes.now in
-    let namer = namer_by image seen in
-    let found : List Used = c.in-Ok-head_records.found.items in
-    let used : List Used = c.in-Ok-sweep_views.used.items in
-    let v = given-of image seen heads volumes h l in
     let before = c.load_pool.ensures.kept.same_bytes ∙ (c.load_space.ensures.kept.same_bytes ∙ told) in
-    let records : c.in-Ok-add_parts.records.items ≡ map_records image (site_of seen) (omap_oid_of seen.nx) = c.in-Ok-add_parts.ensures.records image before in
-    let swept : AreSwept image seen heads volumes c.in_ok-parts.parts c.add_parts.new.out used found = record {
-      given = v;
-      gathered = record {
-        start_is = c.in_ok-parts.ensures.start;
-        added = c.in-Ok-add_parts.ensures.clear image heads namer before v.parts v.volumes_are (c.in-Ok.ensures.clear image told);
-      };
-      once = c.in-Ok-once.ensures.clear;
-      reached = c.in-Ok-sweep_views.ensures.clear image heads namer (c.add_parts.ensures.kept.same_bytes ∙ before) v.parts v.volumes_are;
-      heads_found = c.in-Ok-head_records.ensures.found image heads namer v.parts (c.deref.ensures.value ∙ records) v.volumes_are;
-    } in
-    let known : AreKnown image seen heads (maps_of seen volumes c.deref-2.result.now) (found ++ used) c.in-Ok.space c.in-Ok-load_pool.pool.items = record {
-      plain = c.requires.plain;
-      listed = listed-by image seen heads volumes namer c.deref-2.result.now v.parts v.volumes_are (c.deref-2.ensures.value ∙ records);
-      all_are_used = subst (λ (us : List Used). AreAllUsed (maps_of seen volumes c.deref-2.result.now) (us ++ used)) c.deref-3.ensures.value
-          (subst (λ (us : List Used). AreAllUsed (maps_of seen volumes c.deref-2.result.now) (c.deref-3.result.now ++ us)) c.deref-4.ensures.value c.in-Ok-check_used.ensures.clear);
-      space_is = c.in-Ok.ensures.clear image told;
-      pool_is = c.in-Ok-load_pool.ensures.clear image (c.load_space.ensures.kept.same_bytes ∙ told);
-      queued = c.in-Ok-add_parts.ensures.queued image before;
-    } in
-    let finished : IsFinished (records_used used) (records_used found) c.add_parts.new.out c.in-Ok.space c.in-Ok-load_pool.pool.items c.in-Ok-finish.reached =
-    subst (λ (us : List Used). IsFinished (records_used us) (records_used found) c.add_parts.new.out c.in-Ok.space c.in-Ok-load_pool.pool.items c.in-Ok-finish.reached) c.deref-5.ensures.value
-    (subst (λ (us : List Used). IsFinished (records_used c.deref-5.result.now) (records_used us) c.add_parts.new.out c.in-Ok.space c.in-Ok-load_pool.pool.items c.in-Ok-finish.reached) c.deref-6.ensures.value c.in-Ok-finish.ensures.done) in
-    let few : length c.add_parts.new.out.namings + length used < 2 ^ 64 = subst (λ (us : List Used). length c.add_parts.new.out.namings + length us < 2 ^ 64) c.deref-5.ensures.value c.in-Ok-finish.ensures.few in
-    reads-within image seen heads volumes c.in_ok-parts.parts c.add_parts.new.out used found (maps_of seen volumes c.deref-2.result.now) c.in-Ok.space c.in-Ok-load_pool.pool.items c.in-Ok-finish.reached swept known finished few _ _ _ _ _ (record {
+    let few : length c.add_parts.new.out.namings + length c.in-Ok-sweep_views.used.items < 2 ^ 64 = subst (λ (us : List Used). length c.add_parts.new.out.namings + length us < 2 ^ 64) c.deref-5.ensures.value c.in-Ok-finish.ensures.few in
+    reads-within image c.args.cp.now heads c.args.volumes.now c.in_ok-parts.parts c.add_parts.new.out c.in-Ok-sweep_views.used.items c.in-Ok-head_records.found.items (maps_of c.args.cp.now c.args.volumes.now c.deref-2.result.now) c.in-Ok.space c.in-Ok-load_pool.pool.items c.in-Ok-finish.reached
+    (swept-at g c image heads told h l) (known-at g c image heads told h l) (finished-at g c) few _ _ _ _ _ (record {
       of_space = c.in-Ok.ensures.reads;
       of_pool = c.in-Ok-load_pool.ensures.reads;
       of_parts = c.in-Ok-add_parts.ensures.reads image before (c.in-Ok.ensures.clear image told);

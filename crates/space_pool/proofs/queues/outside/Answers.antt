@@ -6,9 +6,9 @@ use Rattle.space_pool.specs.declared.entry.QueueEntry.{QueueEntry}
 use Rattle.space_pool.proofs.Gathered.{outside-at}
 use Rattle.space_pool.proofs.queues.outside.Goals as goal
 
-pub returns-then-not-is_in-clause-some : goal.returns-then-not-is_in-clause-some
+pub returns-then-not-is_in-clause-present : goal.returns-then-not-is_in-clause-present
 unfolding is_queued_in_pool
-returns-then-not-is_in-clause-some c =
+returns-then-not-is_in-clause-present c =
     let none : QueueEntry = record { xid = 0; paddr = 0; length = 0 } in
     let e = get_or c.args.entries.now c.loop-entry.entry-index none in
     outside-at c.args.space.now.manager c.args.entries.now c.loop-entry.entry-index none e.paddr

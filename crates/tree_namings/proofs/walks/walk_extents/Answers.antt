@@ -1,43 +1,19 @@
-use Rattle.std.proofs.Common.{◌≡◌, ℕ, ◌+◌, ◌≤◌, false, length, sym, ap, ◌∙◌, subst}
-use Rattle.std.specs.List.{list_any}
-use Rattle.obj_base.specs.declared.site.Site.{Site}
-use Rattle.obj_base.specs.declared.stop.Within.TheVariants.{Physical}
-use Rattle.obj_base.specs.Stops.{Tells, IsFree, raised}
-use Rattle.bt_keys.specs.Shapes.{ext_shape}
-use Rattle.bt_cursor.specs.Tree.{tree_in}
-use Rattle.bt_cursor.specs.Line.{line_of}
-use Rattle.bt_cursor.specs.Met.{nodes_of}
-use Rattle.bt_cursor.specs.Whole.{IsWhole}
-use Rattle.bt_cursor.specs.Faults as faults
-use Rattle.bt_cursor.specs.Gathered.{IsGatherFault}
-use Rattle.bt_steps.specs.Noted.{IsWalked}
-use Rattle.apfs_model.specs.Blocks.{in_container}
-use Rattle.reach_rules.specs.Naming.{ExtentRefs}
-use Rattle.reach_rules.specs.Features.{HasFeature}
-use Rattle.reach_rules.specs.Reached.{IsReachedFault}
-use Rattle.tree_namings.specs.Walked.{of_gather}
-use Rattle.tree_namings.proofs.OfKinds.{extents-kind, block-at}
-use Rattle.tree_namings.proofs.Walking.{walked-tree, walked-reads, gather-present, raised-free, whole-free}
+use Rattle.tree_namings.proofs.OfKinds.{extents-kind}
+use Rattle.tree_namings.proofs.Physical.{kind-clear, kind-reads, kind-present, kind-exact}
 use Rattle.tree_namings.proofs.walks.walk_extents.Goals as goal
 
-pub returns-in-Ok-clause-clear : goal.returns-in-Ok-clause-clear
-returns-in-Ok-clause-clear g c image told =
-    walked-tree (extents-kind image c.args.cp.now) c.args.root (g.P.Keeper.holds c.in-Ok.walked.kept) g.P.Keeper.refuses c.in-Ok.walked.steps.items c.requires.short
-    (subst (λ (s : Site). IsWalked (tree_in ext_shape s (in_container s.blocks) image) c.args.root (g.P.Keeper.holds c.in-Ok.walked.kept) g.P.Keeper.refuses c.in-Ok.walked.steps.items) c.site-site.ensures (c.in-Ok.ensures.clear image told))
+pub returns-clause-clear : goal.returns-clause-clear
+returns-clause-clear g c image told =
+    kind-clear (extents-kind image c.args.cp.now) c.args.root g.P.Keeper.refuses c.requires.short c.walk_physical.result (λ w. g.P.Keeper.holds w.kept) (λ w. w.steps.items) (c.walk_physical.ensures.clear image told)
 
-pub returns-in-Ok-clause-reads : goal.returns-in-Ok-clause-reads
-returns-in-Ok-clause-reads g c image told =
-    walked-reads (extents-kind image c.args.cp.now) c.args.root (g.P.Keeper.holds c.in-Ok.walked.kept) g.P.Keeper.refuses c.in-Ok.walked.steps.items (g.S.BlockSource.reads c.args.src.now) (g.S.BlockSource.reads c.gather_steps.new.src)
-    (subst (λ (s : Site). IsWalked (tree_in ext_shape s (in_container s.blocks) image) c.args.root (g.P.Keeper.holds c.in-Ok.walked.kept) g.P.Keeper.refuses c.in-Ok.walked.steps.items) c.site-site.ensures (c.in-Ok.ensures.clear image told))
-    (subst (λ (s : Site). g.S.BlockSource.reads c.gather_steps.new.src ≤ g.S.BlockSource.reads c.args.src.now + length (nodes_of (tree_in ext_shape s (in_container s.blocks) image) c.args.root)) c.site-site.ensures (c.in-Ok.ensures.reads image told))
+pub returns-clause-reads : goal.returns-clause-reads
+returns-clause-reads g c image told =
+    kind-reads (extents-kind image c.args.cp.now) c.args.root g.P.Keeper.refuses (g.S.BlockSource.reads c.args.src.now) (g.S.BlockSource.reads c.walk_physical.new.src) c.walk_physical.result (λ w. g.P.Keeper.holds w.kept) (λ w. w.steps.items) (c.walk_physical.ensures.clear image told) (c.walk_physical.ensures.reads image told)
 
-pub returns-in-Err-clause-present : goal.returns-in-Err-clause-present
-returns-in-Err-clause-present g c image told root =
-    subst (Tells (IsReachedFault image c.args.cp.now) (HasFeature image c.args.cp.now)) (sym (c.raise.ensures ∙ ap (λ (x : ℕ). raised (of_gather Physical x c.args.root) c.in-Err.stop) c.xid.ensures))
-    (gather-present (extents-kind image c.args.cp.now) c.args.root c.args.root root (block-at image c.args.cp.now ExtentRefs c.args.root) g.P.Keeper.refuses c.requires.short c.in-Err.stop
-    (subst (λ (s : Site). Tells (IsGatherFault (tree_in ext_shape s (in_container s.blocks) image) c.args.root g.P.Keeper.refuses) (faults.HasFeature (tree_in ext_shape s (in_container s.blocks) image) c.args.root) c.in-Err.stop) c.site-site.ensures (c.in-Err.ensures.present image told)))
+pub returns-clause-present : goal.returns-clause-present
+returns-clause-present g c image told root =
+    kind-present (extents-kind image c.args.cp.now) c.args.root g.P.Keeper.refuses c.requires.short root c.walk_physical.result (c.walk_physical.ensures.present image told)
 
-pub returns-in-Err-clause-exact : goal.returns-in-Err-clause-exact
-returns-in-Err-clause-exact g c image told whole =
-    subst IsFree (sym c.raise.ensures) (raised-free (of_gather Physical c.xid.result c.args.root) c.in-Err.stop (whole-free (extents-kind image c.args.cp.now) c.args.root g.P.Keeper.refuses c.requires.short c.in-Err.stop whole
-    (subst (λ (s : Site). IsWhole (tree_in ext_shape s (in_container s.blocks) image) c.args.root → list_any g.P.Keeper.refuses (line_of (tree_in ext_shape s (in_container s.blocks) image) c.args.root) ≡ false → IsFree c.in-Err.stop) c.site-site.ensures (c.in-Err.ensures.exact image told))))
+pub returns-clause-exact : goal.returns-clause-exact
+returns-clause-exact g c image told whole =
+    kind-exact (extents-kind image c.args.cp.now) c.args.root g.P.Keeper.refuses c.requires.short whole c.walk_physical.result (c.walk_physical.ensures.exact image told)

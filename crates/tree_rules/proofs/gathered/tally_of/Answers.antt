@@ -9,21 +9,21 @@ use Rattle.tree_rules.proofs.gathered.tally_of.Goals as goal
 pub returns-in-Some-clause-present : goal.returns-in-Some-clause-present
 returns-in-Some-clause-present c image volume gathered =
     let asked = c.args.asked.now in
-    let seen = c.in-Ok.index.facts.now in
+    let seen = c.in_ok-index.index.facts.now in
     facts_fault asked image volume c.args.gathered.now c.in-Some.fault gathered
-    (subst (λ (facts : Facts). IsShown asked facts c.in-Some.fault) c.in-Ok.ensures
-    (first-there asked seen (HasFactRules asked.profile asked.site.now asked.ranges.now seen) c.in-Ok-first_fault.first c.in-Some.fault c.in-Ok-first_fault.ensures c.in-Some.is))
+    (subst (λ (facts : Facts). IsShown asked facts c.in-Some.fault) c.in_ok-index.ensures
+    (first-there asked seen (HasFactRules asked.profile asked.site.now asked.ranges.now seen) c.in_ok-first.first c.in-Some.fault c.in_ok-first.ensures c.in-Some.is))
 
-pub returns-in-Ok-notes-clause-clear : goal.returns-in-Ok-notes-clause-clear
-returns-in-Ok-notes-clause-clear c image volume gathered =
+pub returns-clause-clear : goal.returns-clause-clear
+returns-clause-clear c image volume gathered =
     let asked = c.args.asked.now in
-    let seen = c.in-Ok.index.facts.now in
+    let seen = c.in_ok-index.index.facts.now in
     facts_clear asked.profile image asked.site.now volume asked.view.now asked.ranges.now c.args.gathered.now gathered
-    (subst (λ (facts : Facts). HasFactRules asked.profile asked.site.now asked.ranges.now facts) c.in-Ok.ensures
-    (first-clear asked seen (HasFactRules asked.profile asked.site.now asked.ranges.now seen) c.in-Ok-first_fault.first c.in-Ok-first_fault.ensures c.in_default.is))
+    (subst (λ (facts : Facts). HasFactRules asked.profile asked.site.now asked.ranges.now facts) c.in_ok-index.ensures
+    (first-clear asked seen (HasFactRules asked.profile asked.site.now asked.ranges.now seen) c.in_ok-first.first c.in_ok-first.ensures c.in_default.is))
 
-pub returns-in-Ok-notes-clause-value : goal.returns-in-Ok-notes-clause-value
-returns-in-Ok-notes-clause-value c image volume gathered =
+pub returns-clause-value : goal.returns-clause-value
+returns-clause-value c image volume gathered =
     let asked = c.args.asked.now in
-    facts_tally asked.profile image asked.site.now volume asked.view.now c.args.gathered.now (record { records = c.args.gathered.now.records; notes = c.in-Ok-notes.notes }) gathered refl
-    (c.in-Ok-notes.ensures ∙ ap (λ (facts : Facts). notes_of asked.profile asked.view.now facts) c.in-Ok.ensures)
+    facts_tally asked.profile image asked.site.now volume asked.view.now c.args.gathered.now (record { records = c.args.gathered.now.records; notes = c.in_ok-notes.notes }) gathered refl
+    (c.in_ok-notes.ensures ∙ ap (λ (facts : Facts). notes_of asked.profile asked.view.now facts) c.in_ok-index.ensures)
