@@ -1,6 +1,5 @@
 -- What the newest checkpoint is, and what the tests before it name.
 use Rattle.std.proofs.Common.{inl, inr, IfOk, ◌≡◌, ℕ, List, [], Option, Some, None, option_map, Result, Ok, Err, IfErr, refl, ap, sym, subst, ◌∙◌, arith}
-use Rattle.std.specs.List.{range_with_len}
 use Rattle.std.proofs.lemmas.Grind.{common_steps}
 use Rattle.obj_base.specs.declared.stop.Feature.{Feature}
 use Rattle.obj_base.specs.declared.stop.Stop.{Stop}
@@ -14,7 +13,7 @@ use Rattle.nx_ring.specs.declared.fault.RingFault.TheVariants.{BlockZero, Trunca
 use Rattle.nx_ring.specs.Zero.{zero_of, areas_of, after_zero, where_whole, is_short, IsWrongZero, IsTruncated, IsNonContiguous}
 use Rattle.nx_ring.specs.Candidates.{all_candidates}
 use Rattle.nx_ring.specs.Checkpoint.{Seen}
-use Rattle.nx_ring.specs.Newest.{newest_line, best_of, seen_of, checkpoint_of, checkpoint_or, newest_of, passing, skipped_of, IsFault, IsFeature}
+use Rattle.nx_ring.specs.Newest.{newest_line, seen_of, checkpoint_of, checkpoint_or, newest_of, passing, skipped_of, IsFault, IsFeature}
 use Rattle.nx_ring.specs.Ring.{IsRingFault, IsRingFeature}
 
 -- the best of all candidates, with those before which it stands, is the newest checkpoint
@@ -54,27 +53,23 @@ given_by answer value (Err ReadFault) e f g = tt
 given_by answer value (Err (Found fault)) e f g = absurd (Prim.cc)
 given_by answer value (Err (Unsupported name block)) e f g = absurd (Prim.cc)
 
-best_is_line : (image : List ℕ) (areas : Areas) → best_of image areas (range_with_len 0 areas.desc_blocks) ≡ option_map (seen_of image areas []) (newest_line image areas)
-unfolding best_of newest_line all_candidates
-best_is_line image areas = refl
-
 -- what was found is the newest checkpoint
-pub found_is : (image : List ℕ) (areas : Areas) (checkpoint : Seen) → after_zero image (Ok (areas_of (zero_of image))) ≡ Ok areas → Some checkpoint ≡ best_of image areas (range_with_len 0 areas.desc_blocks) → newest_of image ≡ Ok (passing checkpoint (skipped_of (all_candidates image areas) checkpoint.line.xid))
+pub found_is : (image : List ℕ) (areas : Areas) (checkpoint : Seen) → after_zero image (Ok (areas_of (zero_of image))) ≡ Ok areas → Some checkpoint ≡ option_map (seen_of image areas []) (newest_line image areas) → newest_of image ≡ Ok (passing checkpoint (skipped_of (all_candidates image areas) checkpoint.line.xid))
 unfolding newest_of
 found_is image areas checkpoint e f =
     let same = areas_are image areas e in
     let answer = checkpoint_or (option_map (checkpoint_of image (areas_of (zero_of image))) (newest_line image (areas_of (zero_of image)))) in
     let P : Areas → Type 0 = λ a. checkpoint_or (option_map (checkpoint_of image a) (newest_line image a)) ≡ Ok (passing checkpoint (skipped_of (all_candidates image areas) checkpoint.line.xid)) in
-    passed image areas answer e ∙ subst P (sym same) (chosen image areas (newest_line image areas) checkpoint (sym (best_is_line image areas) ∙ sym f))
+    passed image areas answer e ∙ subst P (sym same) (chosen image areas (newest_line image areas) checkpoint (sym f))
 
 -- where nothing was found there is no checkpoint
-pub nothing_is : (image : List ℕ) (areas : Areas) → after_zero image (Ok (areas_of (zero_of image))) ≡ Ok areas → None ≡ best_of image areas (range_with_len 0 areas.desc_blocks) → newest_of image ≡ Err (Found NoCheckpoint)
+pub nothing_is : (image : List ℕ) (areas : Areas) → after_zero image (Ok (areas_of (zero_of image))) ≡ Ok areas → None ≡ option_map (seen_of image areas []) (newest_line image areas) → newest_of image ≡ Err (Found NoCheckpoint)
 unfolding newest_of
 nothing_is image areas e f =
     let same = areas_are image areas e in
     let answer = checkpoint_or (option_map (checkpoint_of image (areas_of (zero_of image))) (newest_line image (areas_of (zero_of image)))) in
     let P : Areas → Type 0 = λ a. checkpoint_or (option_map (checkpoint_of image a) (newest_line image a)) ≡ Err (Found NoCheckpoint) in
-    passed image areas answer e ∙ subst P (sym same) (unchosen image areas (newest_line image areas) (sym (best_is_line image areas) ∙ sym f))
+    passed image areas answer e ∙ subst P (sym same) (unchosen image areas (newest_line image areas) (sym f))
 
 -- a test of block 0 that fails is the one that both answers name
 pub early : {T : Type 0} (image : List ℕ) (x : T) (stop : Stop RingFault) → after_zero image (Ok x) ≡ Err stop → newest_of image ≡ Err stop

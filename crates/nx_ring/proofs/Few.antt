@@ -1,6 +1,6 @@
 -- Blocks in which no two mappings meet are no more than the data area has.
 use Rattle.std.proofs.Common.{◌≡◌, ℕ, zero, suc, ◌+◌, ◌≤◌, ◌<◌, Bool, true, false, ◌||◌, ◌==◌, List, [], ◌∷◌, length, map, refl, sym, ◌∙◌, arith}
-use Rattle.std.specs.List.{range_with_len, IsDistinct, AllByRecursion}
+use Rattle.std.specs.List.{range_with_len}
 use Rattle.std.specs.Set.{is_member}
 use Rattle.std.specs.Prelude.{nat_eq, nat_le}
 use Rattle.std.proofs.lemmas.Grind.{common_steps}
@@ -13,15 +13,7 @@ use Rattle.nx_ring.specs.declared.mappings.Mapping.{Mapping}
 use Rattle.nx_ring.specs.Objects.{data_block, mapped_blocks, object_blocks}
 use Rattle.nx_ring.specs.Valid.{blocks_of, are_placed, have_blocks_once, are_apart}
 use Rattle.nx_ring.proofs.Apart.{has_joined}
-
-absent : (xs : List ℕ) (x : ℕ) → has xs x ≡ false → AllByRecursion (λ y. nat_eq x y ≡ false) xs
-absent [] x e = tt
-absent (y ∷ ys) x e = (Prim.grind (arith, common_steps, e), absent ys x (Prim.grind (arith, common_steps, e)))
-
-apart : (xs : List ℕ) → is_distinct xs ≡ true → IsDistinct nat_eq xs
-unfolding IsDistinct
-apart [] e = tt
-apart (x ∷ xs) e = (absent xs x (Prim.grind (arith, common_steps, e)), apart xs (Prim.grind (arith, common_steps, e)))
+use Rattle.nx_ring.proofs.Sorted.{apart}
 
 has_member : (xs : List ℕ) (q : ℕ) → is_member nat_eq xs q ≡ true → has xs q ≡ true
 has_member [] q e = e

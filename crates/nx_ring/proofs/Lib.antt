@@ -3,9 +3,15 @@ pub mod More
 pub mod Fitting
 pub mod Present
 pub mod Apart
+pub mod Sorted
 pub mod Few
 pub mod Some
-pub mod Best
+pub mod Tried
+pub mod Room
+pub mod Read
+pub mod Parts
+pub mod Heads
+pub mod Kept
 pub mod Chosen
 pub mod Sites
 pub mod Zeros

@@ -2,8 +2,12 @@ pub mod Zero
 pub mod Candidates
 pub mod Mappings
 pub mod Objects
+pub mod Sums
+pub mod Known
+pub mod Rising
 pub mod Valid
 pub mod Features
 pub mod Checkpoint
+pub mod Order
 pub mod Newest
 pub mod Ring

@@ -1,6 +1,5 @@
 -- The newest checkpoint.
-use Rattle.std.specs.Prelude.{◌≡◌, ◌⊎◌, ℕ, ◌*◌, ◌≤◌, Bool, false, nat_lt, List, [], map, filter, Option, None, Some, option_map, Result, Ok, Err}
-use Rattle.std.specs.List.{filter_map}
+use Rattle.std.specs.Prelude.{◌≡◌, ◌⊎◌, ℕ, ◌*◌, ◌≤◌, nat_lt, List, length, map, filter, Option, None, Some, option_map, Result, Ok, Err, if◌then◌else◌}
 use Rattle.apfs_model.specs.Lists.{greatest, In}
 use Rattle.obj_base.specs.declared.stop.Feature.{Feature}
 use Rattle.obj_base.specs.declared.stop.Stop.{Stop}
@@ -11,9 +10,9 @@ use Rattle.nx_ring.specs.declared.line.RingLine.{RingLine}
 use Rattle.nx_ring.specs.declared.fault.RingFault.{RingFault}
 use Rattle.nx_ring.specs.declared.fault.RingFault.TheVariants.{NoCheckpoint}
 use Rattle.nx_ring.specs.Zero.{zero_of, areas_of, after_zero}
-use Rattle.nx_ring.specs.Candidates.{candidate, all_candidates, ring_block}
+use Rattle.nx_ring.specs.Candidates.{all_candidates, ring_block}
 use Rattle.nx_ring.specs.Objects.{place_at}
-use Rattle.nx_ring.specs.Valid.{is_valid, mappings_of}
+use Rattle.nx_ring.specs.Valid.{is_valid, mappings_of, blocks_of}
 use Rattle.nx_ring.specs.Checkpoint.{Seen}
 use Rattle.nx_ring.specs.Features.{container_features}
 
@@ -42,14 +41,9 @@ seen_of image areas skipped line = record {
 unfoldable pub checkpoint_of : List ℕ → Areas → RingLine → Seen
 checkpoint_of image areas line = seen_of image areas (skipped_of (all_candidates image areas) line.xid) line
 
--- the best checkpoint of the candidates at some indices, before it is known which it stands before
-unfoldable pub best_of : List ℕ → Areas → List ℕ → Option Seen
-best_of image areas indices = option_map (seen_of image areas []) (newest_among image areas (filter_map (candidate image areas) indices))
-
--- there is a checkpoint of a greater transaction
-unfoldable pub is_beaten : Option Seen → ℕ → Bool
-is_beaten None xid = false
-is_beaten (Some seen) xid = nat_lt xid seen.line.xid
+-- how many blocks of objects are loaded for a line: all where it is valid, otherwise none
+abbrev pub loaded : List ℕ → Areas → RingLine → ℕ
+loaded image areas line = if is_valid image areas line then length (blocks_of areas (mappings_of image areas line)) else 0
 
 -- a checkpoint, with the candidates before which it stands
 abbrev pub passing : Seen → List (ℕ × ℕ) → Seen

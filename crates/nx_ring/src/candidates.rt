@@ -2,7 +2,7 @@
 //
 // Tests: a block of the area is a sound superblock, agrees with block 0, and its container lies in the image. Gives:
 // the list of candidates. Rests on: the areas of a right block 0.
-ghost use Rattle.std.specs.Prelude.{◌≡◌, ◌+◌, ◌*◌, ◌%◌, ◌≤◌, ◌<◌, ◌^◌, ◌++◌, List, ℕ, Some, Ok, Err, length, IfOk, IfErr, IfSome, IsErrOf, OnOk, true};
+ghost use Rattle.std.specs.Prelude.{◌≡◌, ◌+◌, ◌*◌, ◌%◌, ◌≤◌, ◌<◌, ◌^◌, ◌++◌, List, ℕ, All, Some, Ok, Err, length, IfOk, IfErr, IfSome, IsErrOf, OnOk, true};
 ghost use Rattle.std.specs.Option.{option_to_list};
 ghost use Rattle.apfs_model.specs.Counts.{Rose};
 ghost use Rattle.apfs_model.specs.Source.{IsKept};
@@ -31,6 +31,7 @@ pub(crate) fn line_in(areas: &Areas, index: u32, len: u64, bytes: &[u8]) -> Opti
     requires whole { sizes.is_accepted (length bytes.now) ≡ true }
     requires small { areas.now.desc_base + index < 2 ^ 64 }
     ensures found { result ≡ candidate_in len areas.now index bytes.now }
+    ensures here { IfSome result (λ line. line.index ≡ index) }
     ensures read { IfSome result (λ line. read_of bytes.now ≡ Ok bytes.now) }
     ensures held { IfSome result (λ line. IsHeld bytes.now len) }
 {
@@ -61,6 +62,7 @@ fn candidate_at<S: BlockSource>(
     requires fits { Fits areas.now (S.bytes_len src.old) }
     requires inside { index < areas.now.desc_blocks }
     ensures found { (image : List ℕ) → S.bytes src.old ≡ Some image → Gives (λ line. line) result (Ok (candidate image areas.now index)) }
+    ensures here { IfOk result (λ found. IfSome found (λ line. line.index ≡ index)) }
     ensures cause { IsErrOf result ReadFault → Rose (S.faults src.old) (S.faults src.new) }
     ensures kept { IsKept S.bytes S.bytes_len S.faults src.old src.new }
     ensures reads { S.reads src.new ≤ S.reads src.old + 1 }
@@ -90,6 +92,7 @@ pub(crate) fn lines<S: BlockSource>(
 ) -> Result<Vec<RingLine>, Stop<RingFault>>
     requires { Fits areas.now (S.bytes_len src.old) }
     ensures found { (image : List ℕ) → S.bytes src.old ≡ Some image → Gives (λ lines. lines.items) result (Ok (all_candidates image areas.now)) }
+    ensures inside { IfOk result (λ lines. All (λ line. line.index < areas.now.desc_blocks) lines.items) }
     ensures cause { IsErrOf result ReadFault → Rose (S.faults src.old) (S.faults src.new) }
     ensures kept { IsKept S.bytes S.bytes_len S.faults src.old src.new }
     ensures reads { S.reads src.new ≤ S.reads src.old + areas.now.desc_blocks }

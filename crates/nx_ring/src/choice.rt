@@ -2,14 +2,16 @@
 //
 // Tests: block 0, some candidate is valid, the container has no feature that is refused. Gives: the valid candidate of
 // the greatest transaction, and of the least index on a tie. Rests on: the candidates, and which are valid.
-ghost use Rattle.std.specs.Prelude.{◌≡◌, ◌+◌, ◌*◌, ◌≤◌, ◌<◌, ◌++◌, List, ℕ, Some, None, Ok, true, [], ◌∷◌, IfOk, IfErr, OnOk, IfSome, IsErrOf};
-ghost use Rattle.std.specs.List.{range_with_len};
+ghost use Rattle.std.specs.Prelude.{◌≡◌, ◌+◌, ◌*◌, ◌≤◌, ◌<◌, ◌++◌, List, ℕ, All, length, option_map, find, if◌then◌else◌, Some, None, Ok, true, [], ◌∷◌, IfOk, IfErr, OnOk, IfSome, IsErrOf};
 ghost use Rattle.apfs_model.specs.Counts.{Rose};
 ghost use Rattle.apfs_model.specs.Source.{IsKept};
 ghost use Rattle.obj_base.specs.Stops.{Gives, Tells, IsFree};
 ghost use Rattle.obj_base.specs.declared.stop.Stop.TheVariants.{ReadFault, NoMemory};
 ghost use Rattle.nx_block.specs.Super.{block_size_of, block_count_of, desc_blocks_of, data_blocks_of};
 ghost use Rattle.nx_ring.specs.Zero.{zero_of, zero_reads, areas_of, Fits};
+ghost use Rattle.nx_ring.specs.Candidates.{candidate, all_candidates, AreCandidates};
+ghost use Rattle.nx_ring.specs.Known.{AreKnown};
+ghost use Rattle.nx_ring.specs.Valid as valid;
 ghost use Rattle.nx_ring.specs.Newest as found;
 ghost use Rattle.nx_ring.specs.Newest.{newest_of};
 ghost use Rattle.nx_ring.specs.Features.{container_features};
@@ -21,79 +23,103 @@ ghost use Rattle.obj_base.specs.Site.{IsSiteFor};
 use crate::areas::Areas;
 use crate::candidates::{line_in, lines};
 use crate::features::feature_of;
-use crate::valid::read_checkpoint;
+use crate::known::Known;
+use crate::mappings::Mapping;
+use crate::order::by_transaction;
+use crate::valid::{read_objects, valid_mappings};
 use crate::zero::areas;
 use crate::{Checkpoint, RingFault, RingLine};
 use blk_read::read_new;
 use blk_source::BlockSource;
 use obj_base::Stop;
 use std::alloc::Global;
+use std::collections::BTreeMap;
 
-// Whether a checkpoint of a greater transaction was found.
-#[tactic(auto, unfolding(crate::specs::Newest::is_beaten))]
-fn is_beaten(best: &Option<Checkpoint>, xid: u64) -> bool
-    ensures { result ≡ found.is_beaten best.now xid }
-{
-    match best {
-        Some(checkpoint) => xid < checkpoint.xid(),
-        None => false,
-    }
-}
-
-// The best of the candidate at an index and the best so far, which is of the indices after it.
+// The checkpoint of a candidate that was found valid, with its mappings, by reading its objects.
 #[tactic(auto, using(crate::proofs::Fitting::block_fits), unfolding(crate::specs::Candidates::candidate_in, crate::specs::Candidates::is_candidate, crate::specs::Candidates::ring_block))]
-fn better<S: BlockSource>(
+fn load<S: BlockSource>(
     alloc: Global,
     src: &mut S,
     areas: &Areas,
-    index: u32,
-    best: Option<Checkpoint>,
+    line: &RingLine,
+    mappings: &[Mapping],
 ) -> Result<Option<Checkpoint>, Stop<RingFault>>
     requires fits { Fits areas.now (S.bytes_len src.old) }
-    requires inside { index < areas.now.desc_blocks }
-    requires held { IfSome best (λ seen. found.IsHeld seen.nx (S.bytes_len src.old)) }
-    ensures found { (image : List ℕ) → S.bytes src.old ≡ Some image → (after : List ℕ) → best ≡ found.best_of image areas.now after → IfOk result (λ new. new ≡ found.best_of image areas.now (index ∷ after)) }
+    requires inside { line.now.index < areas.now.desc_blocks }
+    requires some { 1 ≤ line.now.desc_len }
+    requires placed { valid.are_placed areas.now mappings.now ≡ true }
+    ensures found { (image : List ℕ) → S.bytes src.old ≡ Some image → candidate image areas.now line.now.index ≡ Some line.now → valid.is_valid image areas.now line.now ≡ true → mappings.now ≡ valid.mappings_of image areas.now line.now → IfOk result (λ new. new ≡ Some (found.seen_of image areas.now [] line.now)) }
     ensures holds { IfOk result (λ new. IfSome new (λ seen. found.IsHeld seen.nx (S.bytes_len src.old))) }
     ensures free { IfErr result IsFree }
     ensures cause { IsErrOf result ReadFault → Rose (S.faults src.old) (S.faults src.new) }
     ensures kept { IsKept S.bytes S.bytes_len S.faults src.old src.new }
-    ensures reads { S.reads src.new ≤ S.reads src.old + (areas.now.desc_blocks + areas.now.data_blocks) }
+    ensures reads { S.reads src.new ≤ S.reads src.old + (1 + length (valid.blocks_of areas.now mappings.now)) }
 {
     let len = src.size();
-    let superblock = read_new(alloc, src, areas.desc_base + u64::from(index), areas.size)?;
-    let Some(entry) = line_in(areas, index, len, superblock.as_slice()) else {
-        return Ok(best);
+    let superblock = read_new(
+        alloc,
+        src,
+        areas.desc_base + u64::from(line.index),
+        areas.size,
+    )?;
+    let Some(_entry) = line_in(areas, line.index, len, superblock.as_slice()) else {
+        return Ok(None);
     };
-    if is_beaten(&best, entry.xid) {
-        return Ok(best);
-    }
-    let Some(objects) = read_checkpoint(alloc, src, areas, &entry)? else {
-        return Ok(best);
+    let Some(objects) = read_objects(alloc, src, areas, line.xid, mappings)? else {
+        return Ok(None);
     };
-    Ok(Some(Checkpoint::of(alloc, entry, superblock, objects)))
+    Ok(Some(Checkpoint::of(alloc, *line, superblock, objects)))
 }
 
-// The valid candidate of the greatest transaction, and of the least index on a tie.
-fn best<S: BlockSource>(
+// The checkpoint of a candidate, where it is valid.
+#[tactic(auto)]
+fn checkpoint_at<S: BlockSource>(
     alloc: Global,
     src: &mut S,
     areas: &Areas,
+    line: &RingLine,
+    known: &mut Known,
 ) -> Result<Option<Checkpoint>, Stop<RingFault>>
-    requires { Fits areas.now (S.bytes_len src.old) }
-    ensures found { (image : List ℕ) → S.bytes src.old ≡ Some image → IfOk result (λ new. new ≡ found.best_of image areas.now (range_with_len 0 areas.now.desc_blocks)) }
+    requires fits { Fits areas.now (S.bytes_len src.old) }
+    requires inside { line.now.index < areas.now.desc_blocks }
+    ensures found { (image : List ℕ) → S.bytes src.old ≡ Some image → AreKnown image areas.now known.old → candidate image areas.now line.now.index ≡ Some line.now → IfOk result (λ new. new ≡ (if valid.is_valid image areas.now line.now then Some (found.seen_of image areas.now [] line.now) else None)) }
+    ensures known { (image : List ℕ) → S.bytes src.old ≡ Some image → AreKnown image areas.now known.old → OnOk result (AreKnown image areas.now known.new) }
     ensures holds { IfOk result (λ new. IfSome new (λ seen. found.IsHeld seen.nx (S.bytes_len src.old))) }
     ensures free { IfErr result IsFree }
     ensures cause { IsErrOf result ReadFault → Rose (S.faults src.old) (S.faults src.new) }
     ensures kept { IsKept S.bytes S.bytes_len S.faults src.old src.new }
-    ensures reads { S.reads src.new ≤ S.reads src.old + areas.now.desc_blocks * (areas.now.desc_blocks + areas.now.data_blocks) }
+    ensures reads { (image : List ℕ) → S.bytes src.old ≡ Some image → AreKnown image areas.now known.old → S.reads src.new ≤ S.reads src.old + (areas.now.desc_blocks + areas.now.data_blocks + found.loaded image areas.now line.now) }
 {
-    let mut best = None;
-    let mut index = areas.desc_blocks;
-    'indices: while index > 0 {
-        index -= 1;
-        best = better(alloc, src, areas, index, best)?;
+    let Some(mappings) = valid_mappings(alloc, src, areas, line, known)? else {
+        return Ok(None);
+    };
+    load(alloc, src, areas, line, mappings.as_slice())
+}
+
+// The checkpoint of the first of some candidates that is valid.
+fn first_valid<S: BlockSource>(
+    alloc: Global,
+    src: &mut S,
+    areas: &Areas,
+    lines: &[RingLine],
+) -> Result<Option<Checkpoint>, Stop<RingFault>>
+    requires fits { Fits areas.now (S.bytes_len src.old) }
+    requires inside { All (λ line. line.index < areas.now.desc_blocks) lines.now }
+    ensures found { (image : List ℕ) → S.bytes src.old ≡ Some image → AreCandidates image areas.now lines.now → IfOk result (λ new. new ≡ option_map (found.seen_of image areas.now []) (find (valid.is_valid image areas.now) lines.now)) }
+    ensures holds { IfOk result (λ new. IfSome new (λ seen. found.IsHeld seen.nx (S.bytes_len src.old))) }
+    ensures free { IfErr result IsFree }
+    ensures cause { IsErrOf result ReadFault → Rose (S.faults src.old) (S.faults src.new) }
+    ensures kept { IsKept S.bytes S.bytes_len S.faults src.old src.new }
+    ensures reads { (image : List ℕ) → S.bytes src.old ≡ Some image → AreCandidates image areas.now lines.now → length lines.now ≡ length (all_candidates image areas.now) → S.reads src.new ≤ S.reads src.old + areas.now.desc_blocks * (areas.now.desc_blocks + areas.now.data_blocks) }
+{
+    let mut known = BTreeMap::new(alloc);
+    'each: for line in lines {
+        let found = checkpoint_at(alloc, src, areas, line, &mut known)?;
+        if found.is_some() {
+            return Ok(found);
+        }
     }
-    Ok(best)
+    Ok(None)
 }
 
 // Adds a candidate, where its transaction is greater.
@@ -109,7 +135,7 @@ fn add_skipped(line: &RingLine, xid: u64, into: &mut Vec<(u32, u64)>) -> Result<
 }
 
 // The checkpoint, with the candidates before which it stands.
-#[tactic(auto, using(crate::proofs::Best::skipped_more))]
+#[tactic(auto, using(crate::proofs::Read::skipped_more))]
 fn with_skipped(
     alloc: Global,
     mut checkpoint: Checkpoint,
@@ -138,8 +164,10 @@ fn find<S: BlockSource>(alloc: Global, src: &mut S) -> Result<Checkpoint, Stop<R
 {
     let areas = areas(alloc, src)?;
     let lines = lines(alloc, src, &areas)?;
-    match best(alloc, src, &areas)? {
-        Some(checkpoint) => with_skipped(alloc, checkpoint, lines.as_slice()),
+    let listed = lines.as_slice();
+    let tried = by_transaction(alloc, listed)?;
+    match first_valid(alloc, src, &areas, tried.as_slice())? {
+        Some(checkpoint) => with_skipped(alloc, checkpoint, listed),
         None => Err(Stop::Found(RingFault::NoCheckpoint)),
     }
 }
@@ -168,8 +196,9 @@ fn without_features(checkpoint: Checkpoint) -> Result<Checkpoint, Stop<RingFault
 /// which any that is there may be named.
 ///
 /// One read for the first 4,096 bytes, one more for block 0 where it is larger, and one for each block of the descriptor
-/// area; then, for each of these blocks, no more reads than both areas have blocks, for the superblock, its maps and the
-/// blocks of its objects. Two checkpoints are held at a time at most, each of which has no more bytes than both areas.
+/// area. Then candidates are tried by falling transaction: each takes no more reads than both areas have blocks, for its
+/// maps and the blocks of its objects, and ends at its first flaw. An object that was read to its end isn't read again.
+/// At last the superblock and the objects of the newest are read once more, and these bytes alone are kept.
 #[tactic(auto, using(crate::proofs::Sites::site_right))]
 pub fn newest<S: BlockSource>(alloc: Global, src: &mut S) -> Result<Checkpoint, Stop<RingFault>>
     ensures clear { (image : List ℕ) → S.bytes src.old ≡ Some image → IfOk result (λ seen. newest_of image ≡ Ok seen) }

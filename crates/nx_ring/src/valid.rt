@@ -1,21 +1,24 @@
 // Which candidates are valid.
 //
 // Tests: the checkpoint ends at its superblock, its maps are sound, its mappings are placed and apart, its objects are
-// sound. Gives: the objects. Rests on: the areas of a right block 0.
-ghost use Rattle.std.specs.Prelude.{◌≡◌, ◌+◌, ◌-◌, ◌≤◌, ◌<◌, ◌^◌, ◌++◌, List, ℕ, Some, None, true, length, map, nat_le, IfOk, OnOk, IfErr, IfSome, IsErrOf};
+// sound. Gives: its mappings, and by these its objects. Rests on: the areas of a right block 0.
+ghost use Rattle.std.specs.Prelude.{◌≡◌, ◌+◌, ◌-◌, ◌≤◌, ◌<◌, ◌^◌, ◌++◌, List, ℕ, Some, None, true, false, length, map, nat_le, IfOk, OnOk, IfErr, IfSome, IsErrOf};
 ghost use Rattle.std.specs.Option.{is_some};
 ghost use Rattle.apfs_model.specs.Counts.{Rose};
 ghost use Rattle.apfs_model.specs.Source.{IsKept};
 ghost use Rattle.apfs_model.specs.Lists.{is_distinct};
 ghost use Rattle.obj_base.specs.Stops.{IsFree};
 ghost use Rattle.obj_base.specs.declared.stop.Stop.TheVariants.{ReadFault, NoMemory};
+ghost use Rattle.nx_ring.specs.Rising.{Rises, Halts};
 ghost use Rattle.nx_ring.specs.Zero.{Fits};
 ghost use Rattle.nx_ring.specs.Mappings.{mappings_in};
 ghost use Rattle.nx_ring.specs.Objects.{mapped_blocks, place_at};
 ghost use Rattle.nx_ring.specs.Objects as objects;
+ghost use Rattle.nx_ring.specs.Known.{AreKnown};
 ghost use Rattle.nx_ring.specs.Valid as valid;
 
 use crate::areas::Areas;
+use crate::known::{Known, has_object};
 use crate::mappings::{Mapping, add_mappings, is_map};
 use crate::objects::{Object, data_block, is_placed, read_mapped};
 use crate::{RingFault, RingLine};
@@ -23,7 +26,6 @@ use blk_read::read_new;
 use blk_source::BlockSource;
 use obj_base::Stop;
 use std::alloc::Global;
-use std::collections::BTreeSet;
 
 // The index of the descriptor area that is so many after the checkpoint's start, with wrap.
 #[tactic(auto, unfolding(crate::specs::Valid::index_after))]
@@ -180,18 +182,25 @@ fn are_few(areas: &Areas, mappings: &[Mapping]) -> bool
     true
 }
 
-// Whether no number stands twice.
-fn are_distinct(alloc: Global, numbers: &[u64]) -> Result<bool, Stop<RingFault>>
-    ensures found { IfOk result (λ apart. apart ≡ is_distinct numbers.now) }
-    ensures memory_only { IfErr result (λ stop. stop ≡ NoMemory) }
+// Whether each number is below the next.
+fn is_rising(numbers: &[u64]) -> bool
+    ensures yes { result ≡ true → Rises numbers.now }
+    ensures otherwise { result ≡ false → Halts numbers.now }
 {
-    let mut seen = BTreeSet::new(alloc);
-    'each: for n in numbers {
-        if !seen.insert(*n)? {
-            return Ok(false);
+    'pairs: for i in 1..numbers.len() {
+        if numbers[i] <= numbers[i - 1] {
+            return false;
         }
     }
-    Ok(true)
+    true
+}
+
+// Whether no number stands twice. Takes no memory.
+fn are_distinct(mut numbers: Vec<u64>) -> bool
+    ensures { result ≡ is_distinct numbers.items }
+{
+    numbers.sort_unstable();
+    is_rising(numbers.as_slice())
 }
 
 // Whether no oid is mapped twice.
@@ -201,7 +210,7 @@ fn have_ids_once(alloc: Global, mappings: &[Mapping]) -> Result<bool, Stop<RingF
     ensures memory_only { IfErr result (λ stop. stop ≡ NoMemory) }
 {
     let ids = ids_of(alloc, mappings)?;
-    are_distinct(alloc, ids.as_slice())
+    Ok(are_distinct(ids))
 }
 
 // Whether no data block is in two mappings. Memory is taken only where they have at most as many blocks as the data
@@ -223,7 +232,7 @@ fn have_blocks_once(
         return Ok(false);
     }
     let blocks = blocks_of(alloc, areas, mappings)?;
-    are_distinct(alloc, blocks.as_slice())
+    Ok(are_distinct(blocks))
 }
 
 // Whether mappings are placed, each in blocks of its own, and of different oids.
@@ -243,34 +252,6 @@ fn are_apart(alloc: Global, areas: &Areas, mappings: &[Mapping]) -> Result<bool,
         return Ok(false);
     }
     have_blocks_once(alloc, areas, mappings)
-}
-
-// Reads the objects of mappings, and gives them where each is sound.
-#[tactic(auto, using(crate::proofs::More::blocks_length, crate::proofs::More::blocks_part), unfolding(crate::specs::Valid::have_objects, crate::specs::Valid::are_placed))]
-fn read_objects<S: BlockSource>(
-    alloc: Global,
-    src: &mut S,
-    areas: &Areas,
-    xid: u64,
-    mappings: &[Mapping],
-) -> Result<Option<Vec<Object>>, Stop<RingFault>>
-    requires fits { Fits areas.now (S.bytes_len src.old) }
-    requires placed { valid.are_placed areas.now mappings.now ≡ true }
-    ensures found { (image : List ℕ) → S.bytes src.old ≡ Some image → IfOk result (λ all. is_some all ≡ valid.have_objects image areas.now xid mappings.now) }
-    ensures listed { (image : List ℕ) → S.bytes src.old ≡ Some image → IfOk result (λ all. IfSome all (λ objects. objects.items ≡ map (place_at image areas.now) mappings.now)) }
-    ensures free { IfErr result IsFree }
-    ensures cause { IsErrOf result ReadFault → Rose (S.faults src.old) (S.faults src.new) }
-    ensures kept { IsKept S.bytes S.bytes_len S.faults src.old src.new }
-    ensures reads { S.reads src.new ≤ S.reads src.old + length (valid.blocks_of areas.now mappings.now) }
-{
-    let mut all = Vec::new(alloc);
-    'each: for m in mappings {
-        let Some(object) = read_mapped(alloc, src, areas, xid, m)? else {
-            return Ok(None);
-        };
-        all.push(object)?;
-    }
-    Ok(Some(all))
 }
 
 // Reads the maps of a candidate, and gives its mappings where it ends at its superblock, its maps are sound, and its
@@ -305,18 +286,48 @@ fn read_mappings<S: BlockSource>(
     Ok(Some(mappings))
 }
 
-// Reads the maps and the objects of a candidate, and gives the objects where it is valid.
+// Whether each mapping finds a sound object. No object is kept, and the first that isn't sound ends it.
+#[tactic(auto, using(crate::proofs::More::blocks_length, crate::proofs::More::blocks_part), unfolding(crate::specs::Valid::have_objects, crate::specs::Valid::are_placed))]
+fn have_objects<S: BlockSource>(
+    alloc: Global,
+    src: &mut S,
+    areas: &Areas,
+    xid: u64,
+    mappings: &[Mapping],
+    known: &mut Known,
+) -> Result<bool, Stop<RingFault>>
+    requires fits { Fits areas.now (S.bytes_len src.old) }
+    requires placed { valid.are_placed areas.now mappings.now ≡ true }
+    ensures found { (image : List ℕ) → S.bytes src.old ≡ Some image → AreKnown image areas.now known.old → IfOk result (λ sound. sound ≡ valid.have_objects image areas.now xid mappings.now) }
+    ensures known { (image : List ℕ) → S.bytes src.old ≡ Some image → AreKnown image areas.now known.old → OnOk result (AreKnown image areas.now known.new) }
+    ensures free { IfErr result IsFree }
+    ensures cause { IsErrOf result ReadFault → Rose (S.faults src.old) (S.faults src.new) }
+    ensures kept { IsKept S.bytes S.bytes_len S.faults src.old src.new }
+    ensures reads { S.reads src.new ≤ S.reads src.old + length (valid.blocks_of areas.now mappings.now) }
+{
+    'each: for m in mappings {
+        if !has_object(alloc, src, areas, xid, m, known)? {
+            return Ok(false);
+        }
+    }
+    Ok(true)
+}
+
+// Gives the mappings of a candidate where it is valid.
 #[tactic(auto, using(crate::proofs::Few::few_blocks, crate::proofs::Few::apart_placed), unfolding(crate::specs::Valid::is_valid))]
-pub(crate) fn read_checkpoint<S: BlockSource>(
+pub(crate) fn valid_mappings<S: BlockSource>(
     alloc: Global,
     src: &mut S,
     areas: &Areas,
     line: &RingLine,
-) -> Result<Option<Vec<Object>>, Stop<RingFault>>
+    known: &mut Known,
+) -> Result<Option<Vec<Mapping>>, Stop<RingFault>>
     requires { Fits areas.now (S.bytes_len src.old) }
-    ensures found { (image : List ℕ) → S.bytes src.old ≡ Some image → IfOk result (λ all. is_some all ≡ valid.is_valid image areas.now line.now) }
-    ensures listed { (image : List ℕ) → S.bytes src.old ≡ Some image → IfOk result (λ all. IfSome all (λ objects. objects.items ≡ map (place_at image areas.now) (valid.mappings_of image areas.now line.now))) }
-    ensures ends { IfOk result (λ all. IfSome all (λ objects. 1 ≤ line.now.desc_len)) }
+    ensures found { (image : List ℕ) → S.bytes src.old ≡ Some image → AreKnown image areas.now known.old → IfOk result (λ all. is_some all ≡ valid.is_valid image areas.now line.now) }
+    ensures known { (image : List ℕ) → S.bytes src.old ≡ Some image → AreKnown image areas.now known.old → OnOk result (AreKnown image areas.now known.new) }
+    ensures listed { (image : List ℕ) → S.bytes src.old ≡ Some image → IfOk result (λ all. IfSome all (λ mappings. mappings.items ≡ valid.mappings_of image areas.now line.now)) }
+    ensures ends { IfOk result (λ all. IfSome all (λ mappings. 1 ≤ line.now.desc_len)) }
+    ensures placed { IfOk result (λ all. IfSome all (λ mappings. valid.are_placed areas.now mappings.items ≡ true)) }
     ensures free { IfErr result IsFree }
     ensures cause { IsErrOf result ReadFault → Rose (S.faults src.old) (S.faults src.new) }
     ensures kept { IsKept S.bytes S.bytes_len S.faults src.old src.new }
@@ -325,5 +336,36 @@ pub(crate) fn read_checkpoint<S: BlockSource>(
     let Some(mappings) = read_mappings(alloc, src, areas, line)? else {
         return Ok(None);
     };
-    read_objects(alloc, src, areas, line.xid, mappings.as_slice())
+    if !have_objects(alloc, src, areas, line.xid, mappings.as_slice(), known)? {
+        return Ok(None);
+    }
+    Ok(Some(mappings))
+}
+
+// Reads the objects of mappings, and gives them where each is sound.
+#[tactic(auto, using(crate::proofs::More::blocks_length, crate::proofs::More::blocks_part), unfolding(crate::specs::Valid::have_objects, crate::specs::Valid::are_placed))]
+pub(crate) fn read_objects<S: BlockSource>(
+    alloc: Global,
+    src: &mut S,
+    areas: &Areas,
+    xid: u64,
+    mappings: &[Mapping],
+) -> Result<Option<Vec<Object>>, Stop<RingFault>>
+    requires fits { Fits areas.now (S.bytes_len src.old) }
+    requires placed { valid.are_placed areas.now mappings.now ≡ true }
+    ensures found { (image : List ℕ) → S.bytes src.old ≡ Some image → IfOk result (λ all. is_some all ≡ valid.have_objects image areas.now xid mappings.now) }
+    ensures listed { (image : List ℕ) → S.bytes src.old ≡ Some image → IfOk result (λ all. IfSome all (λ objects. objects.items ≡ map (place_at image areas.now) mappings.now)) }
+    ensures free { IfErr result IsFree }
+    ensures cause { IsErrOf result ReadFault → Rose (S.faults src.old) (S.faults src.new) }
+    ensures kept { IsKept S.bytes S.bytes_len S.faults src.old src.new }
+    ensures reads { S.reads src.new ≤ S.reads src.old + length (valid.blocks_of areas.now mappings.now) }
+{
+    let mut all = Vec::new(alloc);
+    'each: for m in mappings {
+        let Some(object) = read_mapped(alloc, src, areas, xid, m)? else {
+            return Ok(None);
+        };
+        all.push(object)?;
+    }
+    Ok(Some(all))
 }

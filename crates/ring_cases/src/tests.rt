@@ -334,7 +334,7 @@ fn the_first_test_that_fails_is_answered(rt: HostRuntime) -> Result<(), Fail> {
 #[test]
 fn a_failed_read_stops_it(rt: HostRuntime) -> Result<(), Fail> {
     let alloc = rt.alloc();
-    for read in [1u64, 2, 3, 12, 20] {
+    for read in [1u64, 2, 3, 12, 15, 16, 19] {
         let image = rings(alloc, 16384, Broken::Nothing)?;
         let mut source = MemSource::new(image.bytes, vec![in alloc; read]?);
         assert!(rt;
@@ -342,5 +342,102 @@ fn a_failed_read_stops_it(rt: HostRuntime) -> Result<(), Fail> {
             "{read}"
         );
     }
+    Ok(())
+}
+
+#[test]
+fn the_newest_is_read_twice_and_the_older_not_at_all(rt: HostRuntime) -> Result<(), Fail> {
+    let alloc = rt.alloc();
+    // Block 0, the 8 descriptors, 2 maps and 3 blocks of objects; then the superblock and these 3 blocks again.
+    for (size, reads) in [(4096u32, 18u64), (16384, 19), (65536, 19)] {
+        let image = rings(alloc, size, Broken::Nothing)?;
+        let mut source = MemSource::new(image.bytes, Vec::new(alloc));
+        let checkpoint = newest(alloc, &mut source).map_err(|_| "stopped")?;
+        assert_eq!(rt; checkpoint.xid(), 2, "{size}");
+        assert_eq!(rt; source.read_count(), reads, "{size}");
+    }
+    Ok(())
+}
+
+// A ring of eight candidates without maps, of these transactions; those of `broken` don't end at their superblocks.
+fn bare_ring(alloc: Global, xids: [u64; 8], broken: u64) -> Result<Image, AllocError> {
+    let bytes = vec![in alloc; 0u8; 4096 * 32]?;
+    let mut image = Image { bytes, size: 4096 };
+    image.put(0, &zero(alloc, 4096, 4096, 0)?.bytes);
+    for index in 0u32..8 {
+        let xid = xids.get(index as usize).copied().unwrap_or(0);
+        let (start, blocks) = if xid == broken { (8, 0) } else { (index, 1) };
+        let candidate = superblock(alloc, 4096, 4096, 0, (xid, start, blocks))?;
+        image.put((index as usize).saturating_add(1), &candidate.bytes);
+    }
+    Ok(image)
+}
+
+// Transactions, the one that is broken, and what is the newest: its index, its transaction, those skipped.
+type Bare = ([u64; 8], u64, u32, u64, &'static [(u32, u64)]);
+
+#[test]
+fn the_greatest_transaction_comes_first_and_then_the_least_index(
+    rt: HostRuntime,
+) -> Result<(), Fail> {
+    let alloc = rt.alloc();
+    let cases: [Bare; 4] = [
+        ([3, 5, 5, 2, 5, 1, 4, 2], 9, 1, 5, &[]),
+        ([3, 5, 5, 2, 5, 1, 4, 2], 5, 6, 4, &[(1, 5), (2, 5), (4, 5)]),
+        ([7, 7, 7, 7, 7, 7, 7, 7], 9, 0, 7, &[]),
+        ([1, 2, 3, 9, 8, 8, 3, 9], 9, 4, 8, &[(3, 9), (7, 9)]),
+    ];
+    for (xids, broken, index, xid, skipped) in cases {
+        let image = bare_ring(alloc, xids, broken)?;
+        let mut source = MemSource::new(image.bytes, Vec::new(alloc));
+        let checkpoint = newest(alloc, &mut source).map_err(|_| "stopped")?;
+        assert_eq!(rt; (checkpoint.index(), checkpoint.xid()), (index, xid));
+        assert_eq!(rt; checkpoint.skipped(), skipped);
+        // Block 0, the 8 descriptors, and the superblock again.
+        assert_eq!(rt; source.read_count(), 10);
+    }
+    Ok(())
+}
+
+// Four candidates, each behind its map. All map the one object of four blocks that fills the data area, of which the oid
+// or the last byte is wrong.
+fn crowd(alloc: Global, oid: u64, last: u8) -> Result<Image, AllocError> {
+    let bytes = vec![in alloc; 0u8; 4096 * 32]?;
+    let mut image = Image { bytes, size: 4096 };
+    image.put(0, &zero(alloc, 4096, 4096, 0)?.bytes);
+    for i in 0u32..4 {
+        let at = (i as usize).saturating_mul(2).saturating_add(1);
+        let xid = u64::from(i).saturating_add(2);
+        let mapped = map(alloc, 4096, at as u64, xid, (16384, 1024, 9))?;
+        image.put(at, &mapped.bytes);
+        let candidate = superblock(alloc, 4096, 4096, 0, (xid, i.saturating_mul(2), 2))?;
+        image.put(at.saturating_add(1), &candidate.bytes);
+    }
+    let mut object = object(alloc, 16384, oid, 2)?;
+    put(&mut object.bytes, 16383, &[last]);
+    image.put(9, &object.bytes);
+    Ok(image)
+}
+
+#[test]
+fn a_flawed_object_is_read_to_its_first_flaw_and_once(rt: HostRuntime) -> Result<(), Fail> {
+    let alloc = rt.alloc();
+    // Block 0, the 8 descriptors, 4 maps; the first block for each candidate, or the four blocks for the first.
+    for (oid, last, reads) in [(7u64, 0u8, 17u64), (1024, 1, 17)] {
+        let image = crowd(alloc, oid, last)?;
+        let mut source = MemSource::new(image.bytes, Vec::new(alloc));
+        let stop = Stop::Found(RingFault::NoCheckpoint);
+        assert!(rt;
+            newest(alloc, &mut source).is_err_and(|other| other == stop),
+            "{oid}"
+        );
+        assert_eq!(rt; source.read_count(), reads, "{oid}");
+    }
+    // The object is sound: one map, its four blocks, then the superblock and the four blocks again.
+    let image = crowd(alloc, 1024, 0)?;
+    let mut source = MemSource::new(image.bytes, Vec::new(alloc));
+    let checkpoint = newest(alloc, &mut source).map_err(|_| "stopped")?;
+    assert_eq!(rt; (checkpoint.xid(), checkpoint.index()), (5, 7));
+    assert_eq!(rt; source.read_count(), 19);
     Ok(())
 }

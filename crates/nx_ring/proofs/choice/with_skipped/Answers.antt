@@ -1,7 +1,7 @@
 use Rattle.std.proofs.Common.{ℕ, List, [], ◌∷◌, ◌++◌, ap, sym, get_or, ◌∙◌}
 use Rattle.nx_ring.specs.declared.line.RingLine.{RingLine}
 use Rattle.nx_ring.specs.Newest.{skipped_of}
-use Rattle.nx_ring.proofs.Best.{skipped_more}
+use Rattle.nx_ring.proofs.Read.{skipped_more}
 use Rattle.nx_ring.proofs.choice.with_skipped.Goals as goal
 
 pub each-init : goal.each-init

@@ -1,4 +1,4 @@
-use Rattle.std.proofs.Common.{◌≡◌, ℕ, ◌≤◌, List, length, sym, subst}
+use Rattle.std.proofs.Common.{ℕ, ◌≤◌, List, length, sym, subst}
 use Rattle.nx_ring.proofs.Fitting.{read_long}
 use Rattle.nx_ring.proofs.view.Checkpoint.of.Goals as goal
 

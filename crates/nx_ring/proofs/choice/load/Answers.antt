@@ -1,0 +1,22 @@
+use Rattle.std.proofs.Common.{◌≡◌, ◌∙◌, [], Some, map, refl, ap, arith}
+use Rattle.std.proofs.lemmas.Grind.{common_steps}
+use Rattle.std.specs.Option.{is_some}
+use Rattle.nx_ring.specs.Candidates.{ring_block}
+use Rattle.nx_ring.specs.Objects.{place_at}
+use Rattle.nx_ring.proofs.Some.{some_at}
+use Rattle.nx_ring.proofs.Read.{seen_is, objects_there}
+use Rattle.nx_ring.proofs.choice.load.Goals as goal
+
+pub returns-in_default-2-clause-found : goal.returns-in_default-2-clause-found
+returns-in_default-2-clause-found g c image told at valid same =
+    let there = objects_there image c.args.areas.now c.args.line.now c.args.mappings.now valid same in
+    let found = c.in_ok-objects.ensures.found image (c.in_ok-superblock.ensures.kept.same_bytes ∙ told) in
+    let none = ap is_some c.in_default-2.is in
+    absurd (Prim.cc)
+
+pub returns-clause-found : goal.returns-clause-found
+unfolding ring_block
+returns-clause-found g c image told at valid same =
+    let read : c.in_ok-superblock.superblock.items ≡ ring_block image c.args.areas.now c.args.line.now.index = Prim.grind (arith, common_steps, c.in_ok-superblock.ensures.found image told) in
+    let mapped = some_at _ c.in-Some-2.is (c.in_ok-objects.ensures.listed image (c.in_ok-superblock.ensures.kept.same_bytes ∙ told)) in
+    ap Some (c.of.ensures ∙ seen_is image c.args.areas.now c.args.line.now.index c.args.line.now c.in_ok-superblock.superblock.items c.in-Some-2.objects.items [] refl read (mapped ∙ ap (map (place_at image c.args.areas.now)) same) refl)

@@ -1,0 +1,55 @@
+use Rattle.std.proofs.Common.{◌≡◌, ◌∙◌, ◌&&◌, ◌≤◌, true, false, length, ap, sym, arith}
+use Rattle.std.proofs.lemmas.Grind.{common_steps}
+use Rattle.apfs_model.specs.Blocks.{block_of}
+use Rattle.nx_ring.specs.Objects.{mapped_part, mapped_bytes}
+use Rattle.nx_ring.specs.Known.{head_of, is_plain, is_expected}
+use Rattle.nx_ring.proofs.Parts.{first_part, header_fits}
+use Rattle.nx_ring.proofs.Heads.{first_head, flawed, summed}
+use Rattle.nx_ring.proofs.known.judge.Goals as goal
+
+pub returns-then-not-is_plain-clause-found : goal.returns-then-not-is_plain-clause-found
+returns-then-not-is_plain-clause-found g c image told =
+    let areas = c.args.areas.now in
+    let m = c.args.m.now in
+    let bytes = c.as_slice-bytes.result.now in
+    let part : bytes ≡ mapped_part image areas m 1 = c.as_slice-bytes.ensures.value ∙ (c.in_ok-first.ensures.found image told ∙ (ap (block_of areas.size image) c.data_block.ensures.here ∙ sym (first_part image areas m))) in
+    let long : 36 ≤ length bytes = Prim.omega (arith, header_fits areas.size c.requires.fits.accepted, ap length c.as_slice-bytes.ensures.value, c.in_ok-first.ensures.long) in
+    let h = first_head image areas m bytes c.requires.placed long part in
+    let plain : is_plain (mapped_bytes image areas m) ≡ false = h.1 ∙ (sym c.is_plain.ensures ∙ c.if-not-is_plain.true) in
+    sym (flawed c.args.xid m (mapped_bytes image areas m) (ap (λ b. b && is_expected c.args.xid m (head_of (mapped_bytes image areas m))) plain))
+
+pub returns-then-not-is_expected-clause-found : goal.returns-then-not-is_expected-clause-found
+returns-then-not-is_expected-clause-found g c image told =
+    let areas = c.args.areas.now in
+    let m = c.args.m.now in
+    let bytes = c.as_slice-bytes.result.now in
+    let part : bytes ≡ mapped_part image areas m 1 = c.as_slice-bytes.ensures.value ∙ (c.in_ok-first.ensures.found image told ∙ (ap (block_of areas.size image) c.data_block.ensures.here ∙ sym (first_part image areas m))) in
+    let long : 36 ≤ length bytes = Prim.omega (arith, header_fits areas.size c.requires.fits.accepted, ap length c.as_slice-bytes.ensures.value, c.in_ok-first.ensures.long) in
+    let h = first_head image areas m bytes c.requires.placed long part in
+    let plain : is_plain (mapped_bytes image areas m) ≡ true = h.1 ∙ (sym c.is_plain.ensures ∙ c.if-not-is_plain.false) in
+    let other : is_expected c.args.xid m (head_of (mapped_bytes image areas m)) ≡ false = ap (is_expected c.args.xid m) (h.0 ∙ sym c.head_in-head.ensures) ∙ (sym c.is_expected.ensures ∙ c.if-not-is_expected.true) in
+    sym (flawed c.args.xid m (mapped_bytes image areas m) (ap (λ b. b && is_expected c.args.xid m (head_of (mapped_bytes image areas m))) plain ∙ other))
+
+pub returns-clause-found : goal.returns-clause-found
+returns-clause-found g c image told =
+    let areas = c.args.areas.now in
+    let m = c.args.m.now in
+    let bytes = c.as_slice-bytes.result.now in
+    let part : bytes ≡ mapped_part image areas m 1 = c.as_slice-bytes.ensures.value ∙ (c.in_ok-first.ensures.found image told ∙ (ap (block_of areas.size image) c.data_block.ensures.here ∙ sym (first_part image areas m))) in
+    let long : 36 ≤ length bytes = Prim.omega (arith, header_fits areas.size c.requires.fits.accepted, ap length c.as_slice-bytes.ensures.value, c.in_ok-first.ensures.long) in
+    let h = first_head image areas m bytes c.requires.placed long part in
+    let plain : is_plain (mapped_bytes image areas m) ≡ true = h.1 ∙ (sym c.is_plain.ensures ∙ c.if-not-is_plain.false) in
+    let same : is_expected c.args.xid m (head_of (mapped_bytes image areas m)) ≡ true = ap (is_expected c.args.xid m) (h.0 ∙ sym c.head_in-head.ensures) ∙ (sym c.is_expected.ensures ∙ c.if-not-is_expected.false) in
+    c.in_ok-summed.ensures.found image (c.in_ok-first.ensures.kept.same_bytes ∙ told) part ∙ sym (summed c.args.xid m (mapped_bytes image areas m) plain same)
+
+pub returns-clause-known : goal.returns-clause-known
+returns-clause-known g c image told was =
+    let areas = c.args.areas.now in
+    let m = c.args.m.now in
+    let bytes = c.as_slice-bytes.result.now in
+    let part : bytes ≡ mapped_part image areas m 1 = c.as_slice-bytes.ensures.value ∙ (c.in_ok-first.ensures.found image told ∙ (ap (block_of areas.size image) c.data_block.ensures.here ∙ sym (first_part image areas m))) in
+    let long : 36 ≤ length bytes = Prim.omega (arith, header_fits areas.size c.requires.fits.accepted, ap length c.as_slice-bytes.ensures.value, c.in_ok-first.ensures.long) in
+    let h = first_head image areas m bytes c.requires.placed long part in
+    let plain : is_plain (mapped_bytes image areas m) ≡ true = h.1 ∙ (sym c.is_plain.ensures ∙ c.if-not-is_plain.false) in
+    let right = c.in_ok-summed.ensures.found image (c.in_ok-first.ensures.kept.same_bytes ∙ told) part in
+    c.in_ok-keep.ensures.known image areas was (Prim.grind (arith, common_steps, c.then_some.ensures, right, plain, h.0, c.head_in-head.ensures))
