@@ -2,6 +2,7 @@
 use Rattle.std.proofs.Common.{◌≡◌, ◌∙◌, ℕ, zero, suc, ◌+◌, ◌<◌, pos, Bool, true, false, List, [], ◌∷◌, ◌++◌, length, get_or, take, map, arith, refl, sym, ap, subst}
 use Rattle.std.specs.Prelude.{◌^◌, not, filter, if◌then◌else◌}
 use Rattle.std.specs.Ordering.{int_eq}
+use Rattle.std.proofs.Math.Path.{fun_ext}
 use Rattle.std.proofs.lemmas.List.{map-append, take_more}
 use Rattle.std.proofs.lemmas.List.Elements.{filter-append}
 use Rattle.apfs_model.specs.Counts.{given}
@@ -15,6 +16,7 @@ use Rattle.fs_record.specs.declared.extents.FileExt.{FileExt}
 use Rattle.vol_view.specs.Volumes.{Loaded}
 use Rattle.vol_view.specs.declared.head.VolHead.{VolHead}
 use Rattle.ext_ref.specs.References.{streams_of, references_of}
+use Rattle.ext_ref.specs.Same.{HaveSame}
 use Rattle.ext_ref.specs.Unreached.{unreached_runs}
 use Rattle.ext_ref.specs.declared.range.NewRange.{NewRange}
 use Rattle.view_rules.specs.declared.profile.Profile.{Profile}
@@ -28,12 +30,13 @@ use Rattle.apfs_check.specs.DataSteps.{IsRunFault, IsCountFault, with_streams, w
 use Rattle.apfs_check.specs.Steps.{IsThere, IsReady}
 use Rattle.apfs_check.specs.declared.fault.Fault.{Fault}
 use Rattle.apfs_check.specs.declared.fault.Fault.TheVariants.{DataUnreached, DataCount}
+use Rattle.ext_ref.proofs.Members.{streams-same, unreached-same}
 use Rattle.apfs_check.proofs.There.{run-there, count-there}
 
 -- ---- the parts
-pub runs-same : (image : List ℕ) (seen : Seen) (head : VolHead) (ranges : List NewRange) (extents : List (ℕ × FileExt)) → ranges ≡ volume_ranges image (site_of seen) head → extents ≡ volume_extents image seen head → unreached_runs (site_of seen).block_size ranges extents ≡ unreached_in image seen head
+pub runs-same : (image : List ℕ) (seen : Seen) (head : VolHead) (ranges : List NewRange) (extents : List (ℕ × FileExt)) → ranges ≡ volume_ranges image (site_of seen) head → HaveSame extents (volume_extents image seen head) → unreached_runs (site_of seen).block_size ranges extents ≡ unreached_in image seen head
 unfolding unreached_in
-runs-same image seen head ranges extents p q = ap (λ rs. unreached_runs (site_of seen).block_size rs extents) p ∙ ap (λ es. unreached_runs (site_of seen).block_size (volume_ranges image (site_of seen) head) es) q
+runs-same image seen head ranges extents p q = ap (λ rs. unreached_runs (site_of seen).block_size rs extents) p ∙ sym (unreached-same (site_of seen).block_size (volume_ranges image (site_of seen) head) extents (volume_extents image seen head) q)
 
 -- a range before the number of its streams, in a volume
 abbrev pub counted_in : List ℕ → Seen → VolHead → NewRange → NewRange × ℕ
@@ -43,14 +46,21 @@ chosen-map : {X Y : Type 0} (f : X → Y) (b : Bool) (xs : List X) → (if b the
 chosen-map f true xs = refl
 chosen-map f false xs = refl
 
-pub wrong-same : (image : List ℕ) (seen : Seen) (volume : Loaded) (ranges : List NewRange) (extents : List (ℕ × FileExt)) → IsReady image seen volume → ranges ≡ volume_ranges image (site_of seen) volume.head → extents ≡ volume_extents image seen volume.head →
+-- which extents there are matters alone
+wrong-alike : (volume : Loaded) (size : ℕ) (ranges : List NewRange) (xs ys : List (ℕ × FileExt)) → HaveSame xs ys → wrong_in volume size ranges xs ≡ wrong_in volume size ranges ys
+unfolding is_miscounted
+wrong-alike volume size ranges xs ys same =
+    ap (λ (streams : NewRange → ℕ). if has_no_snapshots volume then map (λ (r : NewRange). (r, given (streams r))) (filter (λ (r : NewRange). not (int_eq r.count (pos (streams r)))) ranges) else [])
+    (fun_ext (λ r. sym (streams-same size xs ys r same)))
+
+pub wrong-same : (image : List ℕ) (seen : Seen) (volume : Loaded) (ranges : List NewRange) (extents : List (ℕ × FileExt)) → IsReady image seen volume → ranges ≡ volume_ranges image (site_of seen) volume.head → HaveSame extents (volume_extents image seen volume.head) →
     wrong_in volume (site_of seen).block_size ranges extents ≡ map (counted_in image seen volume.head) (miscounted_in image seen volume.head)
 unfolding miscounted_in
 wrong-same image seen volume ranges extents r p q =
     let head = volume.head in
     let size : ℕ = (site_of seen).block_size in
     ap (λ rs. wrong_in volume size rs extents) p
-    ∙ (ap (λ es. wrong_in volume size (volume_ranges image (site_of seen) head) es) q
+    ∙ (wrong-alike volume size (volume_ranges image (site_of seen) head) extents (volume_extents image seen head) q
     ∙ (ap (λ (v : Loaded). wrong_in v size (volume_ranges image (site_of seen) head) (volume_extents image seen head)) r.loaded.same
     ∙ chosen-map (counted_in image seen head) (has_no_snapshots (volume_of image seen head)) (filter (is_miscounted size (volume_extents image seen head)) (volume_ranges image (site_of seen) head))))
 

@@ -8,9 +8,7 @@ use Rattle.obj_base.specs.declared.stop.Stop.TheVariants.{Found as Fails, Unsupp
 use Rattle.obj_base.specs.declared.stop.Within.TheVariants.{Volume}
 use Rattle.bt_node.specs.declared.fault.NodeFault.{NodeFault}
 use Rattle.obj_base.specs.declared.site.Site.{Site}
-use Rattle.bt_keys.specs.Shapes.{fs_shape, fs_plain_shape}
-use Rattle.bt_keys.specs.declared.record_key.FsKey.{FsKey}
-use Rattle.bt_keys.specs.declared.record_key.FsPlainKey.{FsPlainKey}
+use Rattle.bt_keys.specs.Shapes.{FsKey, fs_shape, FsPlainKey, fs_plain_shape}
 use Rattle.bt_cursor.specs.declared.fault.WalkFault.{WalkFault}
 use Rattle.bt_cursor.specs.declared.fault.WalkFault.TheVariants as walks
 use Rattle.bt_cursor.specs.Tree.{Tree, block_named}

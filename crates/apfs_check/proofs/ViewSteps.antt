@@ -1,11 +1,14 @@
 -- Going through the views of a volume that was loaded.
-use Rattle.std.proofs.Common.{◌≡◌, ◌∙◌, ℕ, zero, suc, ◌+◌, ◌-◌, ◌<◌, ◌≤◌, true, false, List, [], ◌∷◌, ◌++◌, length, Some, map, take, sym, ap, subst, arith}
+use Rattle.std.proofs.Common.{◌≡◌, ◌∙◌, ℕ, zero, suc, ◌+◌, ◌-◌, ◌<◌, ◌≤◌, true, false, List, [], ◌∷◌, ◌++◌, length, Some, map, take, inl, inr, sym, ap, subst, arith}
 use Rattle.std.specs.Prelude.{◌^◌, nat_lt, flat_map, slice_get, option_map}
+use Rattle.std.specs.List.{All}
+use Rattle.std.proofs.lemmas.Grind.{flat_map-append}
 use Rattle.std.proofs.lemmas.List.{length-map}
+use Rattle.std.proofs.lemmas.List.Elements.{All-head, All-tail}
 use Rattle.std.proofs.lemmas.Option.{slice_get-map}
 use Rattle.apfs_model.specs.Lists.{In}
 use Rattle.apfs_model.proofs.BoolTests.{not-false, other-true, right-true, upto-from}
-use Rattle.apfs_model.proofs.Searches.{from-map}
+use Rattle.apfs_model.proofs.Searches.{from-map, in-left, in-right, in-append}
 use Rattle.obj_base.specs.declared.site.Site.{Site}
 use Rattle.nx_ring.specs.Checkpoint.{Seen, site_of}
 use Rattle.fs_record.specs.Facts.{Fact}
@@ -14,7 +17,9 @@ use Rattle.fs_record.specs.declared.extents.FileExt.{FileExt}
 use Rattle.vol_view.specs.Volumes.{Loaded}
 use Rattle.vol_view.specs.Views.{past_of, views_of}
 use Rattle.vol_view.specs.declared.volume.View.{View}
+use Rattle.ext_ref.specs.Left.{AreShortExtents}
 use Rattle.ext_ref.specs.Ranges.{ranges_of}
+use Rattle.ext_ref.specs.Same.{HaveSame}
 use Rattle.view_rules.specs.Facts.{Facts}
 use Rattle.view_rules.specs.Extents.{is_misplaced}
 use Rattle.view_rules.specs.Rules.{view_facts}
@@ -24,7 +29,8 @@ use Rattle.apfs_check.specs.WellFormed.{HasViewRules}
 use Rattle.apfs_check.specs.DataSteps.{AreShortOrHoles}
 use Rattle.apfs_check.specs.Steps.{IsReady, snapshot_root}
 use Rattle.apfs_check.proofs.Same.{views-same, ranges-same}
-use Rattle.apfs_check.proofs.Adding.{append-none, appended-more}
+use Rattle.apfs_check.proofs.Adding.{append-none}
+use Rattle.apfs_check.proofs.Short.{all-in-list}
 
 -- ---- one item more of a list
 pub take-one : {X : Type 0} (xs : List X) (i : ℕ) (x : X) → slice_get xs i ≡ Some x → take (i + 1) xs ≡ take i xs ++ x ∷ []
@@ -59,12 +65,35 @@ extents-same image seen volume r =
     ∙ ap (λ vs. flat_map (view_extents image (site_of seen) (volume_of image seen head)) vs) (sym (views-same image seen head r.loaded.right))
 
 -- those of one view more
-pub extents-more : (image : List ℕ) (site : Site) (volume : Loaded) (views : List View) (view : View) (a b c : List (ℕ × FileExt)) → b ≡ a ++ flat_map (view_extents image site volume) views → c ≡ b ++ view_extents image site volume view → c ≡ a ++ flat_map (view_extents image site volume) (views ++ view ∷ [])
-extents-more image site volume views view a b c p q = appended-more (view_extents image site volume) views (view ∷ []) a b c p (q ∙ ap (λ es. b ++ es) (sym (append-none (view_extents image site volume view))))
+one-more : {X Y : Type 0} (f : X → List Y) (xs : List X) (x : X) (a : List Y) → HaveSame a (flat_map f xs) → HaveSame (a ++ f x) (flat_map f (xs ++ x ∷ []))
+one-more f xs x a same = λ y. (
+  (λ h. elim (in-append y a (f x) h) as (λ _. In y (flat_map f (xs ++ x ∷ []))) [
+    | inl k ↦ subst (In y) (sym (flat_map-append f xs (x ∷ []))) (in-left y (flat_map f xs) (f x ++ []) ((same y).0 k))
+    | inr k ↦ subst (In y) (sym (flat_map-append f xs (x ∷ []))) (in-right y (flat_map f xs) (f x ++ []) (in-left y (f x) [] k))
+  ]),
+  (λ h. elim (in-append y (flat_map f xs) (f x ++ []) (subst (In y) (flat_map-append f xs (x ∷ [])) h)) as (λ _. In y (a ++ f x)) [
+    | inl k ↦ in-left y a (f x) ((same y).1 k)
+    | inr k ↦ in-right y a (f x) (subst (In y) (append-none (f x)) k)
+  ]),
+)
 
-pub extents-next : (image : List ℕ) (site : Site) (volume : Loaded) (views : List View) (i : ℕ) (view : View) (b c : List (ℕ × FileExt)) → slice_get views i ≡ Some view → b ≡ flat_map (view_extents image site volume) (take i views) → c ≡ b ++ view_extents image site volume view → c ≡ flat_map (view_extents image site volume) (take (i + 1) views)
-extents-next image site volume views i view b c at p q =
-    extents-more image site volume (take i views) view [] b c p q ∙ ap (λ vs. flat_map (view_extents image site volume) vs) (sym (take-one views i view at))
+pub extents-next : (image : List ℕ) (site : Site) (volume : Loaded) (views : List View) (i : ℕ) (view : View) (b c d : List (ℕ × FileExt)) → slice_get views i ≡ Some view → HaveSame b (flat_map (view_extents image site volume) (take i views)) → c ≡ b ++ view_extents image site volume view → HaveSame c d
+    → HaveSame d (flat_map (view_extents image site volume) (take (i + 1) views))
+extents-next image site volume views i view b c d at p q r =
+    let f : View → List (ℕ × FileExt) = view_extents image site volume in
+    let more : HaveSame c (flat_map f (take (i + 1) views)) =
+    subst (λ vs. HaveSame c (flat_map f vs)) (sym (take-one views i view at)) (subst (λ es. HaveSame es (flat_map f (take i views ++ view ∷ []))) (sym q) (one-more f (take i views) view b p)) in
+    λ x. ((λ h. (more x).0 ((r x).1 h)), (λ h. (r x).0 ((more x).1 h)))
+
+-- extents that are short, thinned
+pub short-same : (block_size : ℕ) (xs ys : List (ℕ × FileExt)) → HaveSame xs ys → AreShortExtents block_size xs → AreShortExtents block_size ys
+short-same block_size xs ys same short =
+    all-in-list (λ (x : ℕ × FileExt). x.1.block + extent_blocks block_size x.1 < 2 ^ 64) ys (λ x h. in-all (λ (y : ℕ × FileExt). y.1.block + extent_blocks block_size y.1 < 2 ^ 64) xs short x ((same x).1 h))
+  where
+    in-all : {X : Type 0} (P : X → Type 0) (xs : List X) → All P xs → (x : X) → In x xs → P x
+    in-all P [] all x h = absurd h
+    in-all P (y ∷ ys) all x (inl e) = subst P (sym e) (All-head P y ys all)
+    in-all P (y ∷ ys) all x (inr h) = in-all P ys (All-tail P y ys all) x h
 
 -- the extents of a view that has its rules are holes, or end within the container
 placed-short : (block_size blocks : ℕ) (e : FileExt) → is_extent_placed block_size blocks e ≡ true → is_hole e ≡ false → e.block + extent_blocks block_size e ≤ blocks

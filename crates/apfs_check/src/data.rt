@@ -8,6 +8,7 @@ ghost use Rattle.nx_ring.specs.Checkpoint.{site_of};
 ghost use Rattle.fs_record.specs.declared.extents.FileExt as declared;
 ghost use Rattle.ext_ref.specs.Left.{AreShort, AreShortExtents};
 ghost use Rattle.ext_ref.specs.References.{references_of};
+ghost use Rattle.ext_ref.specs.Same.{HaveSame};
 ghost use Rattle.ext_ref.specs.Unreached.{unreached_runs};
 ghost use Rattle.view_rules.specs.declared.profile.Profile.TheVariants as profiles;
 ghost use Rattle.apfs_check.specs.Volumes as spec;
@@ -193,8 +194,8 @@ pub(crate) fn add_data(
     requires accepted { is_accepted (site_of cp.now).block_size ≡ true }
     requires short { AreShort ranges.now }
     requires extents { AreShortExtents (site_of cp.now).block_size extents.now }
-    ensures clear { (image : List ℕ) → IsReady image cp.now volume.now → ranges.now ≡ spec.volume_ranges image (site_of cp.now) volume.now.head → extents.now ≡ spec.volume_extents image cp.now volume.now.head → OnOk result (AddsData profile image cp.now volume.now.head out.old out.new) }
-    ensures present { (image : List ℕ) → IsReady image cp.now volume.now → ranges.now ≡ spec.volume_ranges image (site_of cp.now) volume.now.head → extents.now ≡ spec.volume_extents image cp.now volume.now.head → IfErr result (IsThere profile image) }
+    ensures clear { (image : List ℕ) → IsReady image cp.now volume.now → ranges.now ≡ spec.volume_ranges image (site_of cp.now) volume.now.head → HaveSame extents.now (spec.volume_extents image cp.now volume.now.head) → OnOk result (AddsData profile image cp.now volume.now.head out.old out.new) }
+    ensures present { (image : List ℕ) → IsReady image cp.now volume.now → ranges.now ≡ spec.volume_ranges image (site_of cp.now) volume.now.head → HaveSame extents.now (spec.volume_extents image cp.now volume.now.head) → IfErr result (IsThere profile image) }
     ensures no_read { IsErrOf result ReadFault → ⊥ }
 {
     let site = cp.site();

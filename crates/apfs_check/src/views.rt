@@ -9,6 +9,7 @@ ghost use Rattle.nx_ring.specs.Checkpoint.{site_of};
 ghost use Rattle.fs_record.specs.StreamExtents as stream;
 ghost use Rattle.vol_view.specs.Views.{views_of};
 ghost use Rattle.ext_ref.specs.Left.{AreShortExtents};
+ghost use Rattle.ext_ref.specs.Same.{HaveSame};
 ghost use Rattle.apfs_check.specs.Volumes as spec;
 ghost use Rattle.apfs_check.specs.Held.{AddsViews};
 ghost use Rattle.apfs_check.specs.DataSteps.{AreShortOrHoles};
@@ -18,7 +19,7 @@ use crate::Fault;
 use crate::gathered::Gathered;
 use crate::raising::stop_of;
 use blk_source::BlockSource;
-use ext_ref::NewRange;
+use ext_ref::{NewRange, thin};
 use fs_record::FileExt;
 use nx_ring::Checkpoint;
 use obj_base::Stop;
@@ -107,8 +108,24 @@ fn put_all_short(
     Ok(())
 }
 
-/// Adds what is told of all views of a volume, each of which has its rules, and gives their extents, each after its stream's id.
-/// None ends after block 2^64 - 1: those of a view that has its rules all end within the container.
+// How many extents are kept before they are thinned.
+const FIRST_LIMIT: usize = 1024;
+
+// Leaves each extent once where there are more than a limit, and answers the next limit: twice as many as are left then, so that each is
+// sorted a few times alone.
+fn thin_past(extents: &mut Vec<(u64, FileExt)>, limit: usize) -> usize
+    ensures { HaveSame extents.old.items extents.new.items }
+{
+    if extents.len() <= limit {
+        return limit;
+    }
+    thin(extents);
+    extents.len().saturating_mul(2).max(FIRST_LIMIT)
+}
+
+/// Adds what is told of all views of a volume, each of which has its rules, and gives their extents, each after its stream's id, in whatever
+/// order: of an extent that many views have, few are kept. None ends after block 2^64 - 1: those of a view that has its rules all end within
+/// the container.
 pub(crate) fn add_views<S: BlockSource>(
     alloc: Global,
     src: &mut S,
@@ -120,7 +137,7 @@ pub(crate) fn add_views<S: BlockSource>(
 ) -> Result<Vec<(u64, FileExt)>, Stop<Fault>>
     requires site { IsSiteFor (site_of cp.now) (S.bytes_len src.old) }
     ensures clear { (image : List ℕ) → S.bytes src.old ≡ Some image → IsReady image cp.now volume.now → ranges.now ≡ spec.volume_ranges image (site_of cp.now) volume.now.head → OnOk result (AddsViews profile image cp.now volume.now.head (views_of volume.now cp.now) out.old out.new) }
-    ensures all { (image : List ℕ) → S.bytes src.old ≡ Some image → IsReady image cp.now volume.now → ranges.now ≡ spec.volume_ranges image (site_of cp.now) volume.now.head → IfOk result (λ extents. extents.items ≡ spec.volume_extents image cp.now volume.now.head) }
+    ensures all { (image : List ℕ) → S.bytes src.old ≡ Some image → IsReady image cp.now volume.now → ranges.now ≡ spec.volume_ranges image (site_of cp.now) volume.now.head → IfOk result (λ extents. HaveSame extents.items (spec.volume_extents image cp.now volume.now.head)) }
     ensures short { IfOk result (λ extents. AreShortExtents (site_of cp.now).block_size extents.items) }
     ensures present { (image : List ℕ) → S.bytes src.old ≡ Some image → IsReady image cp.now volume.now → ranges.now ≡ spec.volume_ranges image (site_of cp.now) volume.now.head → IfErr result (IsThere profile image) }
     ensures cause { IsErrOf result ReadFault → Rose (S.faults src.old) (S.faults src.new) }
@@ -128,11 +145,15 @@ pub(crate) fn add_views<S: BlockSource>(
 {
     let site = cp.site();
     let mut extents = Vec::new(alloc);
+    let mut limit = FIRST_LIMIT;
     let count = volume.snaps.len() + 1;
     'views: for place in 0..count {
         let view = view_at(volume, cp, place);
         match add_view(alloc, src, cp, volume, &view, ranges, profile, out) {
-            Ok(more) => put_all_short(&mut extents, &more, site.block_size)?,
+            Ok(more) => {
+                put_all_short(&mut extents, &more, site.block_size)?;
+                limit = thin_past(&mut extents, limit);
+            }
             Err(stop) => return Err(stop),
         }
     }

@@ -23,11 +23,11 @@ pub owned-none : (k : ℕ) → is_owned [] k ≡ false
 unfolding is_owned
 owned-none k = refl
 
-owned-push : (ranges : List NewRange) (r : NewRange) (k : ℕ) → is_owned (ranges ++ r ∷ []) k ≡ (is_owned ranges k || (range_has k r || false))
+pub owned-push : (ranges : List NewRange) (r : NewRange) (k : ℕ) → is_owned (ranges ++ r ∷ []) k ≡ (is_owned ranges k || (range_has k r || false))
 unfolding is_owned
 owned-push ranges r k = list_any-append (range_has k) ranges (r ∷ [])
 
-or-none : (b : Bool) → (b || false) ≡ b
+pub or-none : (b : Bool) → (b || false) ≡ b
 or-none true = refl
 or-none false = refl
 

@@ -1,6 +1,5 @@
 -- How many streams refer to a range.
-use Rattle.std.specs.Prelude.{◌≡◌, ◌<◌, ◌≤◌, ℕ, ◌+◌, ◌-◌, ◌^◌, Bool, false, not, ◌&&◌, nat_lt, min, max, List, length, map, filter, slice_index, slice_index_or, if◌then◌else◌}
-use Rattle.std.specs.List.Sorted.{IsNonDecreasingBy}
+use Rattle.std.specs.Prelude.{ℕ, ◌+◌, Bool, not, ◌&&◌, nat_lt, min, max, List, length, map, filter}
 use Rattle.apfs_model.specs.Lists.{distinct}
 use Rattle.fs_record.specs.StreamExtents.{extent_blocks, is_hole}
 use Rattle.fs_record.specs.declared.extents.FileExt.{FileExt}
@@ -25,20 +24,3 @@ streams_of block_size extents r = length (distinct (ids_touching block_size exte
 -- that number for each range
 abbrev pub references_of : ℕ → List NewRange → List (ℕ × FileExt) → List ℕ
 references_of block_size ranges extents = map (streams_of block_size extents) ranges
-
--- the last block of an extent, or 2^64 - 1 where that is less; 0 for a hole
-unfoldable pub last_of : ℕ → FileExt → ℕ
-last_of block_size e = if is_hole e then 0 else min ((e.block - 1) + extent_blocks block_size e) (2 ^ 64 - 1)
-
--- numbers beside extents that never fall, of which none is less than the last block of its extent or of one before it
-pub record AreLasts (block_size : ℕ) (extents : List (ℕ × FileExt)) (lasts : List ℕ) : Type 0 where
-  pub long : length lasts ≡ length extents
-  pub rising : IsNonDecreasingBy (λ (n : ℕ). n) lasts
-  pub far : (i : ℕ) (none : ℕ × FileExt) → i < length extents → last_of block_size (slice_index_or extents i none).1 ≤ slice_index lasts i
-
--- the extents before one place and from another on don't touch a range
-pub record IsWindow (block_size : ℕ) (extents : List (ℕ × FileExt)) (r : NewRange) (low high : ℕ) : Type 0 where
-  pub order : low ≤ high
-  pub inside : high ≤ length extents
-  pub before : (i : ℕ) (none : ℕ × FileExt) → i < low → touches block_size r (slice_index_or extents i none).1 ≡ false
-  pub after : (i : ℕ) (none : ℕ × FileExt) → high ≤ i → i < length extents → touches block_size r (slice_index_or extents i none).1 ≡ false

@@ -38,7 +38,7 @@ impl Model for Cover {
     ghost invariant = { λ cover. AreApart cover.spans.items };
 }
 
-fn span_of(range: NewRange) -> Span
+pub(crate) fn span_of(range: NewRange) -> Span
     ensures { result ≡ spec.span_of range }
 {
     Span {
@@ -54,7 +54,7 @@ fn spans_of(alloc: Global, ranges: &[NewRange]) -> Result<Vec<Span>, AllocError>
 }
 
 // The spans of ranges, in the order of their first blocks.
-fn sorted_spans(alloc: Global, ranges: &[NewRange]) -> Result<Vec<Span>, AllocError>
+pub(crate) fn sorted_spans(alloc: Global, ranges: &[NewRange]) -> Result<Vec<Span>, AllocError>
     ensures same { IfOk result (λ spans. (block : ℕ) → is_spanned spans.items block ≡ is_owned ranges.now block) }
     ensures proper { IfOk result (λ spans. AreProper spans.items) }
     ensures ascending { IfOk result (λ spans. IsNonDecreasingBy (λ (s : declared.Span). s.first) spans.items) }

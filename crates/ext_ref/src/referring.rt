@@ -1,21 +1,19 @@
 // How many streams refer to ranges.
-ghost use Rattle.std.specs.Prelude.{◌≡◌, ◌<◌, ℕ, length, true, IfOk};
-ghost use Rattle.std.specs.List.Sorted.{IsNonDecreasingBy, IsPermutation};
+ghost use Rattle.std.specs.Prelude.{◌≡◌, ◌<◌, length, true, IfOk};
 ghost use Rattle.apfs_model.specs.Lists.{distinct};
 ghost use Rattle.obj_base.specs.BlockSize.{is_accepted};
 ghost use Rattle.ext_ref.specs.References as spec;
-ghost use Rattle.ext_ref.specs.References.{references_of, AreLasts, IsWindow};
-ghost use Rattle.fs_record.specs.StreamExtents as stream;
-ghost use Rattle.fs_record.specs.declared.extents.FileExt as declared;
+ghost use Rattle.ext_ref.specs.References.{references_of};
+ghost use Rattle.ext_ref.specs.Sweep.{AreRising, AreCounts};
 
 use crate::NewRange;
-use crate::windows::{Window, lasts_of, window_of};
+use crate::sweeping::Sweep;
 use apfs_model::NoMemory;
 use fs_record::FileExt;
 use std::alloc::{AllocError, Global};
 
 // The block after an extent's last one.
-fn end_of(extent: FileExt, block_size: u32) -> u128
+pub(crate) fn end_of(extent: FileExt, block_size: u32) -> u128
     requires { 0 < block_size }
     ensures { result ≡ spec.end_of block_size extent }
 {
@@ -59,30 +57,9 @@ fn count_distinct(mut numbers: Vec<u64>) -> Result<u64, AllocError>
     Ok(numbers.as_slice().len() as u64)
 }
 
-// A copy of the extents.
-fn copy_of(alloc: Global, extents: &[(u64, FileExt)]) -> Result<Vec<(u64, FileExt)>, AllocError>
-    ensures { IfOk result (λ copy. copy.items ≡ extents.now) }
-{
-    let mut copy = Vec::new(alloc);
-    for extent in extents {
-        copy.push(*extent)?;
-    }
-    Ok(copy)
-}
-
-// The extents in the order of their first blocks.
-fn by_block(alloc: Global, extents: &[(u64, FileExt)]) -> Result<Vec<(u64, FileExt)>, AllocError>
-    ensures same { IfOk result (λ sorted. IsPermutation extents.now sorted.items) }
-    ensures ascending { IfOk result (λ sorted. IsNonDecreasingBy (λ (x : ℕ × declared.FileExt). x.1.block) sorted.items) }
-{
-    let mut sorted = copy_of(alloc, extents)?;
-    sorted.sort_by_key(|extent| extent.1.block)?;
-    Ok(sorted)
-}
-
-// How many streams have one of these extents that touches a range.
+// How many streams touch a range, by all extents.
 #[tactic(auto, unfolding(crate::specs::References::streams_of))]
-fn count_among(
+fn count_alone(
     alloc: Global,
     range: NewRange,
     extents: &[(u64, FileExt)],
@@ -91,54 +68,30 @@ fn count_among(
     requires { 0 < block_size }
     ensures { IfOk result (λ count. count ≡ spec.streams_of block_size extents.now range) }
 {
-    match extents {
-        [] => Ok(0),
-        [only] => Ok(u64::from(touches(range, only.1, block_size))),
-        _ => {
-            let ids = ids_touching(alloc, range, extents, block_size)?;
-            count_distinct(ids)
-        }
-    }
+    let ids = ids_touching(alloc, range, extents, block_size)?;
+    count_distinct(ids)
 }
 
-// How many streams have an extent that touches a range, by the places between which those stand.
-fn count_within(
+// How many streams touch a range, by a sweep, or by all extents where the sweep left the range out.
+fn count_of(
     alloc: Global,
+    sweep: &Sweep,
     range: NewRange,
     extents: &[(u64, FileExt)],
-    window: Window,
     block_size: u32,
 ) -> Result<u64, AllocError>
     requires some { 0 < block_size }
-    requires window { IsWindow block_size extents.now range window.low window.high }
+    requires rising { AreRising sweep.now.spans.items }
+    requires counts { AreCounts block_size extents.now sweep.now.spans.items sweep.now.counts.items }
     ensures { IfOk result (λ count. count ≡ spec.streams_of block_size extents.now range) }
 {
-    count_among(alloc, range, &extents[window.low..window.high], block_size)
-}
-
-// The same for each range. The places of one are tried first for the next one.
-fn counts_of(
-    alloc: Global,
-    ranges: &[NewRange],
-    extents: &[(u64, FileExt)],
-    lasts: &[u64],
-    block_size: u32,
-) -> Result<Vec<u64>, AllocError>
-    requires some { 0 < block_size }
-    requires ascending { IsNonDecreasingBy (λ (x : ℕ × declared.FileExt). x.1.block) extents.now }
-    requires lasts { AreLasts block_size extents.now lasts.now }
-    ensures { IfOk result (λ counts. counts.items ≡ references_of block_size ranges.now extents.now) }
-{
-    let mut counts = Vec::new(alloc);
-    let mut window = Window { low: 0, high: 0 };
-    for range in ranges {
-        window = window_of(*range, extents, lasts, window);
-        counts.push(count_within(alloc, *range, extents, window, block_size)?)?;
+    match sweep.find(range) {
+        Some(count) => Ok(count),
+        None => count_alone(alloc, range, extents, block_size),
     }
-    Ok(counts)
 }
 
-// The same for each range, of extents in any order.
+// The same for each range.
 fn counted(
     alloc: Global,
     ranges: &[NewRange],
@@ -148,14 +101,17 @@ fn counted(
     requires { is_accepted block_size ≡ true }
     ensures { IfOk result (λ counts. counts.items ≡ references_of block_size ranges.now extents.now) }
 {
-    let sorted = by_block(alloc, extents)?;
-    let lasts = lasts_of(alloc, &sorted, block_size)?;
-    counts_of(alloc, ranges, &sorted, &lasts, block_size)
+    let sweep = Sweep::of(alloc, ranges, extents, block_size)?;
+    let mut counts = Vec::new(alloc);
+    for range in ranges {
+        counts.push(count_of(alloc, &sweep, *range, extents, block_size)?)?;
+    }
+    Ok(counts)
 }
 
 /// For each range, how many streams have an extent with a block other than 0 that has a block in common with it. An extent
-/// stands after its stream's id. Sorts the extents by their first blocks; then two searches for each range, which start
-/// where those of the range before it ended, leave those that may touch it, which are looked at.
+/// stands after its stream's id. Sorts the ranges, and the extents by their streams; then searches for each of both. Only a range that has no
+/// block, or shares one with another range and ends before it or begins with it, is looked for among all extents.
 ///
 /// # Errors
 ///

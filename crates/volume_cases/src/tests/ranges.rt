@@ -5,7 +5,7 @@ ghost use Rattle.ext_ref.specs.Left.{AreShort, AreShortExtents};
 use blk_source::{BlockSource, MemSource};
 use bt_cursor::WalkFault;
 use ext_ref::{
-    Cover, ExtScan, ExtStop, NewRange, covered, new_ranges, references, scan, unreached,
+    Cover, ExtScan, ExtStop, NewRange, covered, new_ranges, references, scan, thin, unreached,
 };
 use fs_record::FileExt;
 use img_make::{Sample, make, sample};
@@ -164,6 +164,142 @@ fn streams_are_counted_once_a_range(rt: HostRuntime) -> Result<(), Fail> {
     ];
     let counts = references(rt.alloc(), &ranges, &extents, 4096)?;
     assert_eq!(rt; counts.as_slice(), [1, 2, 2, 0, 0, 4].as_slice());
+    Ok(())
+}
+
+// Of stream 1 two extents touch: it has blocks 10 to 14. Of stream 2 two leave block 13 out: it has 11, 12 and 14. Of stream 3 one covers
+// another and a third goes on past it: it has 20 to 30. Stream 4 has block 29, an extent without a block and a hole. Stream 5 has
+// blocks 40 and 44, and stream 6 has 39 to 45.
+const FILES: [(u64, u64, u64); 13] = [
+    (3, 25, 6),
+    (1, 12, 3),
+    (4, 12, 0),
+    (5, 44, 1),
+    (3, 20, 10),
+    (2, 14, 1),
+    (4, 29, 1),
+    (6, 39, 7),
+    (1, 10, 2),
+    (4, 0, 1000),
+    (2, 11, 2),
+    (5, 40, 1),
+    (3, 22, 2),
+];
+
+// An extent of so many blocks of 4,096 bytes.
+fn at(block: u64, blocks: u64) -> FileExt {
+    FileExt {
+        logical: 0,
+        length: blocks.saturating_mul(4096),
+        block,
+    }
+}
+
+// How many streams touch each of some ranges.
+fn touching(alloc: Global, ranges: &[NewRange]) -> Result<Vec<u64>, Fail> {
+    let mut extents = Vec::new(alloc);
+    for (stream, block, blocks) in FILES {
+        extents.push((stream, at(block, blocks)))?;
+    }
+    Ok(references(alloc, ranges, &extents, 4096)?)
+}
+
+#[test]
+fn streams_of_ranges_that_lie_apart(rt: HostRuntime) -> Result<(), Fail> {
+    let ranges = [
+        range(44, 1),
+        range(10, 1),
+        range(15, 5),
+        range(12, 1),
+        range(31, 8),
+        range(13, 1),
+        range(42, 1),
+        range(11, 1),
+        range(20, 4),
+        range(30, 1),
+        range(14, 1),
+        range(40, 1),
+        range(9, 1),
+        range(24, 4),
+        range(28, 2),
+        range(46, 1),
+        range(TOP, 1),
+    ];
+    let counts = touching(rt.alloc(), &ranges)?;
+    assert_eq!(rt;
+        counts.as_slice(),
+        [2, 1, 0, 2, 0, 1, 1, 2, 1, 1, 2, 2, 0, 1, 2, 0, 0].as_slice()
+    );
+    Ok(())
+}
+
+#[test]
+fn streams_of_ranges_that_overlap(rt: HostRuntime) -> Result<(), Fail> {
+    // the third ends before the first, which begins no later; two are one; two begin together; two meet two others; one has no block
+    let ranges = [
+        range(10, 5),
+        range(13, 3),
+        range(12, 2),
+        range(10, 5),
+        range(10, 1),
+        range(21, 9),
+        range(29, 2),
+        range(13, 0),
+        range(43, 100),
+        range(41, 3),
+    ];
+    let counts = touching(rt.alloc(), &ranges)?;
+    assert_eq!(rt;
+        counts.as_slice(),
+        [2, 2, 2, 2, 1, 2, 2, 0, 2, 1].as_slice()
+    );
+    // one range about all others
+    let ranges = [range(1, 1000), range(41, 3), range(13, 1), range(0, 10)];
+    let counts = touching(rt.alloc(), &ranges)?;
+    assert_eq!(rt; counts.as_slice(), [6, 1, 1, 0].as_slice());
+    Ok(())
+}
+
+#[test]
+fn no_ranges_and_no_extents(rt: HostRuntime) -> Result<(), Fail> {
+    let alloc = rt.alloc();
+    assert!(rt; touching(alloc, &[])?.is_empty());
+    let counts = references(alloc, &[range(1, 5), range(3, 1)], &[], 4096)?;
+    assert_eq!(rt; counts.as_slice(), [0, 0].as_slice());
+    Ok(())
+}
+
+#[test]
+fn each_extent_is_left_once(rt: HostRuntime) -> Result<(), Fail> {
+    // two streams that share an extent, and extents that differ in one number alone
+    let odd = FileExt {
+        logical: 4096,
+        length: 8192,
+        block: 10,
+    };
+    let mut extents = [
+        (1, at(10, 2)),
+        (2, at(10, 2)),
+        (1, at(10, 2)),
+        (1, at(10, 3)),
+        (1, odd),
+        (2, at(10, 2)),
+        (1, at(11, 2)),
+        (1, odd),
+    ]
+    .to_vec(rt.alloc())?;
+    thin(&mut extents);
+    let left = [
+        (1, at(10, 2)),
+        (2, at(10, 2)),
+        (1, at(10, 3)),
+        (1, odd),
+        (1, at(11, 2)),
+    ];
+    assert_eq!(rt; extents.len(), left.len());
+    for one in left {
+        assert!(rt; extents.contains(&one), "{one:?}");
+    }
     Ok(())
 }
 

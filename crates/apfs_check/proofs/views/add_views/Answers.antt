@@ -7,11 +7,12 @@ use Rattle.nx_ring.specs.Checkpoint.{site_of}
 use Rattle.vol_view.specs.Volumes.{Loaded}
 use Rattle.vol_view.specs.Views.{views_of}
 use Rattle.ext_ref.specs.Left.{AreShortExtents}
+use Rattle.ext_ref.specs.Same.{HaveSame}
 use Rattle.apfs_check.specs.Volumes.{view_extents}
 use Rattle.apfs_check.specs.DataSteps.{AreShortOrHoles}
 use Rattle.apfs_check.specs.Held.{AddsViews}
 use Rattle.apfs_check.proofs.Adding.{more-views}
-use Rattle.apfs_check.proofs.ViewSteps.{take-one, views-length, extents-same, extents-next, extents-short}
+use Rattle.apfs_check.proofs.ViewSteps.{take-one, views-length, extents-same, extents-next, extents-short, short-same}
 use Rattle.apfs_check.proofs.views.add_views.Goals as goal
 
 pub returns-in-Err-clause-present : goal.returns-in-Err-clause-present
@@ -37,10 +38,11 @@ views-preserved g c =
           let low : site.blocks < 2 ^ 64 = subst (λ (s : Site). s.blocks < 2 ^ 64) c.site-site.ensures (omega arith) in
           let ends : AreShortOrHoles c.site-site.result.block_size c.deref.result.now =
           subst (λ es. AreShortOrHoles c.site-site.result.block_size es) (sym these) (subst (λ (s : Site). AreShortOrHoles s.block_size (view_extents image site volume view)) (sym c.site-site.ensures) (extents-short c.args.profile image seen volume ready view right low)) in
-          extents-next image site volume views c.views.place view c.views.extents.items c.put_all_short.new.extents.items c.view_at-view.ensures (c.views.invariant.all image told ready same)
-          (c.in_ok-put_all_short-in-Ok.ensures.added ends ∙ ap (λ es. c.views.extents.items ++ es) these);
-      short = subst (λ (s : Site). AreShortExtents s.block_size c.put_all_short.new.extents.items) c.site-site.ensures
-          (c.in_ok-put_all_short-in-Ok.ensures.short (subst (λ (s : Site). AreShortExtents s.block_size c.views.extents.items) (sym c.site-site.ensures) c.views.invariant.short));
+          extents-next image site volume views c.views.place view c.views.extents.items c.put_all_short.new.extents.items c.thin_past-limit.new.extents.items c.view_at-view.ensures (c.views.invariant.all image told ready same)
+          (c.in_ok-put_all_short-in-Ok.ensures.added ends ∙ ap (λ es. c.views.extents.items ++ es) these) c.thin_past-limit.ensures;
+      short = short-same (site_of seen).block_size c.put_all_short.new.extents.items c.thin_past-limit.new.extents.items c.thin_past-limit.ensures
+          (subst (λ (s : Site). AreShortExtents s.block_size c.put_all_short.new.extents.items) c.site-site.ensures
+          (c.in_ok-put_all_short-in-Ok.ensures.short (subst (λ (s : Site). AreShortExtents s.block_size c.views.extents.items) (sym c.site-site.ensures) c.views.invariant.short)));
       kept = record {
         same_bytes = c.add_view.ensures.kept.same_bytes ∙ c.views.invariant.kept.same_bytes;
         same_size = c.add_view.ensures.kept.same_size ∙ c.views.invariant.kept.same_size;
@@ -54,4 +56,6 @@ returns-clause-all g c image told ready same =
     let volume = c.args.volume.now in
     let views = views_of volume seen in
     let end : length views ≤ c.views.place = omega (arith, views-length volume seen, c.views-test.false, ap (λ (v : Loaded). length v.snaps) c.volume.view_is) in
-    c.views.invariant.all image told ready same ∙ (ap (λ vs. flat_map (view_extents image (site_of seen) volume) vs) (take_all c.views.place views end) ∙ extents-same image seen volume ready)
+    subst (λ es. HaveSame c.views.extents.items es)
+    (ap (λ vs. flat_map (view_extents image (site_of seen) volume) vs) (take_all c.views.place views end) ∙ extents-same image seen volume ready)
+    (c.views.invariant.all image told ready same)
