@@ -1,5 +1,7 @@
 -- The contents that a path leads to, by what was found.
-use Rattle.std.proofs.Common.{◌≡◌, ℕ, List, [], ◌++◌, Option, Some, None, Result, Ok, Err, refl, ap, sym, ◌∙◌, subst, append-nil}
+use Rattle.std.proofs.Common.{◌≡◌, ℕ, true, List, [], Option, Some, None, Result, Ok, Err, refl, ap, sym, ◌∙◌, subst, append-nil}
+use Rattle.std.specs.Prelude.{IsSome}
+use Rattle.std.proofs.lemmas.Bool.{false≢true}
 use Rattle.apfs_model.specs.Lists.{and_then}
 use Rattle.apfs_model.specs.Sink.{WrotePart}
 use Rattle.obj_base.specs.declared.site.Site.{Site}
@@ -8,7 +10,7 @@ use Rattle.obj_base.specs.declared.stop.Stop.TheVariants.{Found, Unsupported, Re
 use Rattle.fs_record.specs.Inodes.{Inode}
 use Rattle.fs_record.specs.declared.inode_view.StreamSize.{StreamSize}
 use Rattle.vol_view.specs.Volumes.{Loaded}
-use Rattle.vol_view.specs.Views.{view_flat}
+use Rattle.vol_view.specs.Views.{view_flat, has_all_records}
 use Rattle.vol_view.specs.declared.volume.View.{View}
 use Rattle.file_extent.specs.Streams.{Opened, stream_bytes}
 use Rattle.file_extent.specs.Stops.{IsOpened}
@@ -24,6 +26,11 @@ use Rattle.path_read.proofs.Laws.{same_stream}
 use Rattle.path_walk.specs.declared.answer.Answer.{Answer}
 use Rattle.path_walk.specs.declared.stop.PathStop.{PathStop}
 use Rattle.path_walk.specs.declared.stop.PathStop.TheVariants as stops
+use Rattle.path_read.specs.Needs.{WhereWritten, ContentsNeed}
+use Rattle.path_walk.specs.Needs.{RestsOn, PathNeeds, HasEntriesOf}
+use Rattle.path_walk.specs.Parts.{WhereTold}
+use Rattle.path_walk.proofs.Listed.{ok_same}
+use Rattle.bt_keys.specs.RecordKey.{file_extent_record}
 use Rattle.path_read.specs.declared.stop.WriteStop.TheVariants as writes
 
 pub contents_lost : (block_size : ℕ) (image : List ℕ) (facts : Facts) (path : List ℕ) (a : Answer) → found facts path ≡ Err a → contents block_size image facts path ≡ Err a
@@ -63,3 +70,46 @@ stream_opened image site volume view id size stream opened =
 -- what was written of some contents was written of the same contents
 pub written_same : (old new : Option (List ℕ)) (a b : Result (List ℕ) Answer) (r : Result (Unit {0}) WriteStop) → a ≡ b → IsWritten old new a r → IsWritten old new b r
 written_same old new a b r e h = subst (λ (w : Result (List ℕ) Answer). IsWritten old new w r) e h
+
+-- what holds where an answer was given holds where it is given by a call that writes
+pub rests_written : {T U : Type 0} (shows : T → U) (wanted : Result U Answer) (needs : Type 0) (stop : Stop PathStop) → RestsOn {T = T} shows wanted needs (Err stop) → WhereWritten needs (Err (writes.Stopped stop))
+rests_written shows wanted needs (Found (stops.Answer a)) h = h.1
+rests_written shows wanted needs (Found (stops.Fault fault)) h = tt
+rests_written shows wanted needs (Unsupported feature block) h = tt
+rests_written shows wanted needs ReadFault h = tt
+rests_written shows wanted needs NoMemory h = tt
+
+pub told_written : (T : Type 0) (needs : Type 0) (stop : Stop PathStop) → WhereTold {T = T} needs (Err stop) → WhereWritten needs (Err (writes.Stopped stop))
+told_written T needs (Found (stops.Answer a)) h = h
+told_written T needs (Found (stops.Fault fault)) h = tt
+told_written T needs (Unsupported feature block) h = tt
+told_written T needs ReadFault h = tt
+told_written T needs NoMemory h = tt
+
+pub written_where : (needs : Type 0) (result : Result (Unit {0}) WriteStop) → needs → WhereWritten needs result
+written_where needs (Ok _) h = h
+written_where needs (Err (writes.Stopped (Found (stops.Answer a)))) h = h
+written_where needs (Err (writes.Stopped (Found (stops.Fault fault)))) h = tt
+written_where needs (Err (writes.Stopped (Unsupported feature block))) h = tt
+written_where needs (Err (writes.Stopped ReadFault)) h = tt
+written_where needs (Err (writes.Stopped NoMemory)) h = tt
+written_where needs (Err writes.WriteFault) h = tt
+
+-- what the contents of a file need is there, by what its path leads to
+pub open_refused : (image : List ℕ) (site : Site) (volume : Loaded) (view : View) (path : List ℕ) (place : Place) (a : Answer) → PathNeeds (view_facts image site volume view) (HasEntriesOf image site volume view) path → found (view_facts image site volume view) path ≡ Ok place → readable place.inode ≡ Err a → ContentsNeed image site volume view path
+open_refused image site volume view path place a needs there refused = record {
+  led = needs;
+  extents = λ p e read some. absurd (let same : place ≡ p = sym (ok_same place p (sym there ∙ e)) in let both : Err a ≡ Ok p.inode = sym (subst (λ (q : Place). readable q.inode ≡ Err a) same refused) ∙ read in let q : ⊥ = cc in q);
+}
+
+pub open_none : (image : List ℕ) (site : Site) (volume : Loaded) (view : View) (path : List ℕ) (place : Place) → PathNeeds (view_facts image site volume view) (HasEntriesOf image site volume view) path → found (view_facts image site volume view) path ≡ Ok place → place.inode.stream ≡ None → ContentsNeed image site volume view path
+open_none image site volume view path place needs there none = record {
+  led = needs;
+  extents = λ p e read some. absurd (false≢true (subst (λ (o : Option StreamSize). IsSome o) (subst (λ (q : Place). q.inode.stream ≡ None) (sym (ok_same place p (sym there ∙ e))) none) some));
+}
+
+pub open_whole : (image : List ℕ) (site : Site) (volume : Loaded) (view : View) (path : List ℕ) (place : Place) (id : ℕ) → PathNeeds (view_facts image site volume view) (HasEntriesOf image site volume view) path → found (view_facts image site volume view) path ≡ Ok place → id ≡ place.inode.private_id → has_all_records image site volume view id file_extent_record ≡ true → ContentsNeed image site volume view path
+open_whole image site volume view path place id needs there same whole = record {
+  led = needs;
+  extents = λ p e read some. subst (λ (n : ℕ). has_all_records image site volume view n file_extent_record ≡ true) (same ∙ ap (λ (q : Place). q.inode.private_id) (sym (ok_same place p (sym there ∙ e)))) whole;
+}

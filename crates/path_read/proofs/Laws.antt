@@ -1,20 +1,18 @@
 -- What the definitions promise of every view.
-use Rattle.std.proofs.Common.{◌≡◌, ℕ, Bool, true, false, cond, List, [], ◌++◌, Option, Some, None, Result, Ok, Err, ◌⊎◌, inl, inr, refl, sym}
+use Rattle.std.proofs.Common.{◌≡◌, ℕ, Bool, true, false, cond, List, Option, Some, None, Result, Ok, Err, ◌⊎◌, inl, inr, refl, sym}
 use Rattle.std.specs.Prelude.{not, ◌==◌}
 use Rattle.apfs_model.specs.Bytes.{has_flag}
 use Rattle.bt_node.specs.Entries.{Pair}
-use Rattle.bt_keys.specs.RecordKey.{attribute_record}
 use Rattle.fs_name.specs.declared.naming.Names.{Names}
 use Rattle.fs_record.specs.Inodes.{Inode, inode_kind}
 use Rattle.fs_record.specs.Attributes.{Attribute}
-use Rattle.fs_record.specs.Facts.{regular_kind, all_for, read_attribute, attributes_of}
+use Rattle.fs_record.specs.Facts.{regular_kind}
 use Rattle.file_extent.specs.Streams.{extents_for, stream_bytes}
 use Rattle.view_rules.specs.Facts.{Facts, facts_in}
 use Rattle.path_walk.specs.Found.{found}
 use Rattle.path_walk.specs.declared.answer.Answer.{Answer}
 use Rattle.path_walk.specs.declared.answer.Answer.TheVariants.{NotFile, Compressed, Dataless, NoAttribute}
 use Rattle.path_walk.proofs.Laws.{err-same, ok-err, answers_then, IsPathAnswer, found_answers}
-use Rattle.path_walk.proofs.Runs.{HasNo, all_run}
 use Rattle.path_read.specs.Contents.{stream_in, readable, contents, compressed_flag, dataless_flag}
 use Rattle.path_read.specs.Attributes.{attributes, held_by, attribute_named, attribute}
 
@@ -63,13 +61,6 @@ pub attribute_answers : (block_size : ℕ) (image : List ℕ) (facts : Facts) (p
 attribute_answers block_size image facts path name a e =
     answers_then IsAttributeAnswer (found facts path) _ (λ b h. inl (found_answers facts path b h))
     (λ place b h. held-answers block_size image facts (attribute_named facts place.id name) b h) a e
-
--- ---- records
--- the attributes of a file are those of a run of records, where all of them stand in it
-pub attributes_in_a_run : (id : ℕ) (before run after : List Pair) → HasNo attribute_record id before → HasNo attribute_record id after →
-    all_for id (attributes_of (before ++ (run ++ after))) ≡ all_for id (attributes_of run)
-unfolding attributes_of
-attributes_in_a_run id before run after m n = all_run attribute_record id read_attribute before run after m n
 
 -- ---- contents
 -- a stream by the facts of some records is the one by the records

@@ -1,5 +1,5 @@
 -- The part that was put, by what was put.
-use Rattle.std.proofs.Common.{◌≡◌, ◌⊎◌, inl, inr, ℕ, List, [], ◌++◌, Option, Some, None, Result, Ok, Err, refl, ap, sym, ◌∙◌, append-nil}
+use Rattle.std.proofs.Common.{◌≡◌, inl, inr, ℕ, List, [], ◌++◌, Option, Some, None, Result, Ok, Err, refl, ap, sym, ◌∙◌, append-nil}
 use Rattle.apfs_model.specs.Sink.{Wrote, WrotePart}
 use Rattle.file_extent.specs.Copied.{CopiedWhole, CopiedFront}
 use Rattle.path_walk.specs.declared.answer.Answer.{Answer}

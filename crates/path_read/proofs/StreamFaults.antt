@@ -1,17 +1,17 @@
 -- What is there where a stream can't be opened.
-use Rattle.std.proofs.Common.{◌≡◌, ℕ, Bool, true, false, cond, not, ◌&&◌, ◌==◌, List, [], ◌∷◌, map, Option, Some, None, Result, Ok, Err, inl, inr, refl, ap, sym, ◌∙◌, subst, arith}
+use Rattle.std.proofs.Common.{◌≡◌, ℕ, Bool, true, false, cond, not, ◌&&◌, ◌==◌, List, [], ◌∷◌, map, Some, None, Err, inl, inr, refl, ap, sym, ◌∙◌, subst, arith}
 use Rattle.std.specs.List.{filter, list_all}
 use Rattle.std.proofs.lemmas.Bool.Decides.{nat_tests}
 use Rattle.std.proofs.lemmas.Grind.{common_steps}
 use Rattle.std.proofs.lemmas.Option.{none-some, same_Some}
 use Rattle.apfs_model.specs.Lists.{In}
-use Rattle.apfs_model.proofs.BoolTests.{test_or, clash, left-true, right-true, both-true, not-true, not-false, false-not, equal-from, from-equal}
+use Rattle.apfs_model.proofs.BoolTests.{test_or, false-not, equal-from, from-equal}
 use Rattle.obj_base.specs.Stops.{Tells}
 use Rattle.obj_base.specs.declared.stop.Stop.{Stop}
 use Rattle.obj_base.specs.declared.stop.Stop.TheVariants.{Found, Unsupported, ReadFault, NoMemory}
 use Rattle.obj_base.specs.declared.site.Site.{Site}
 use Rattle.bt_node.specs.Entries.{Pair}
-use Rattle.bt_keys.specs.RecordKey.{id_of, record_kind_of, inode_record, attribute_record, sibling_link_record, file_extent_record}
+use Rattle.bt_keys.specs.RecordKey.{record_kind_of, inode_record, attribute_record, sibling_link_record, file_extent_record}
 use Rattle.bt_cursor.specs.Line.{Item, is_leaf_item, line_of, leaf_pairs}
 use Rattle.bt_cursor.specs.Flat.{flat_of}
 use Rattle.bt_cursor.specs.declared.fault.WalkFault.{WalkFault}
@@ -19,7 +19,7 @@ use Rattle.bt_cursor.specs.declared.fault.WalkFault.TheVariants.{Unsound, Unname
 use Rattle.bt_cursor.proofs.Flats.{line-pairs}
 use Rattle.fs_name.specs.declared.naming.Names.{Names}
 use Rattle.fs_name.specs.Normal.{are_hashed}
-use Rattle.fs_record.specs.Facts.{Fact, all_for, fault_of, read_extent, read_attribute, extents_of, refused}
+use Rattle.fs_record.specs.Facts.{Fact, all_for, read_extent, read_attribute, extents_of, refused}
 use Rattle.fs_record.specs.StreamExtents.{are_extents_ordered, is_extent_placed}
 use Rattle.fs_record.specs.declared.fault.RecFault.{RecFault}
 use Rattle.fs_record.specs.declared.extents.FileExt.{FileExt}
@@ -30,8 +30,7 @@ use Rattle.file_extent.specs.Streams.{extents_for, are_extents_placed}
 use Rattle.file_extent.specs.Stops.{HasRefused, IsStreamStop, IsStreamFeature}
 use Rattle.file_extent.specs.declared.stop.StreamStop.{StreamStop}
 use Rattle.file_extent.specs.declared.stop.StreamStop.TheVariants as streams
-use Rattle.view_rules.specs.Words.{IsClear, IsBroken}
-use Rattle.view_rules.specs.Facts.{Facts, facts_in, id_of_fact}
+use Rattle.view_rules.specs.Facts.{Facts}
 use Rattle.view_rules.specs.Extents.{is_disordered, is_misplaced, IsExtentOrder, IsExtentPlace}
 use Rattle.view_rules.specs.Rules.{view_facts, refusal_of, HasRecords, raised}
 use Rattle.view_rules.specs.declared.fault.TreeFault.TheVariants.{ExtentOrder, ExtentPlace}

@@ -2,14 +2,12 @@
 use Rattle.std.specs.Prelude.{◌≡◌, ◌++◌, ◌⊎◌, ℕ, List, [], Option, None, Some, Result, Ok, Err}
 use Rattle.apfs_model.specs.Sink.{Wrote, WrotePart}
 use Rattle.obj_base.specs.declared.site.Site.{Site}
-use Rattle.obj_base.specs.declared.stop.Stop.{Stop}
 use Rattle.obj_base.specs.declared.stop.Stop.TheVariants.{Found, Unsupported, ReadFault, NoMemory}
 use Rattle.vol_view.specs.Volumes.{Loaded}
 use Rattle.vol_view.specs.declared.volume.View.{View}
 use Rattle.file_extent.specs.Streams.{Opened, stream_bytes}
 use Rattle.path_walk.specs.Stops.{IsStopThere}
 use Rattle.path_walk.specs.declared.answer.Answer.{Answer}
-use Rattle.path_walk.specs.declared.stop.PathStop.{PathStop}
 use Rattle.path_walk.specs.declared.stop.PathStop.TheVariants as stops
 use Rattle.path_read.specs.declared.stop.WriteStop.{WriteStop}
 use Rattle.path_read.specs.declared.stop.WriteStop.TheVariants as writes

@@ -1,5 +1,5 @@
 // What an attribute of a name holds.
-ghost use Rattle.std.specs.Prelude.{◌≡◌, ◌≤◌, ℕ, List, Some, Err, Ok, option_map, IfErr};
+ghost use Rattle.std.specs.Prelude.{◌≡◌, ◌≤◌, ℕ, List, Some, Err, Ok, true, option_map, IfErr};
 ghost use Rattle.std.specs.List.{find};
 ghost use Rattle.apfs_model.specs.Counts.{Rose};
 ghost use Rattle.apfs_model.specs.Source.{IsKept};
@@ -7,6 +7,8 @@ ghost use Rattle.obj_base.specs.declared.stop.Stop.TheVariants.{ReadFault};
 ghost use Rattle.obj_base.specs.Site.{IsSiteFor};
 ghost use Rattle.view_rules.specs.Rules.{view_facts};
 ghost use Rattle.path_walk.specs.Stops.{IsLawful};
+ghost use Rattle.vol_view.specs.Views.{is_view_ordered};
+ghost use Rattle.path_read.specs.Needs.{AttributesNeed, WhereWritten};
 ghost use Rattle.path_read.specs.Attributes as spec;
 ghost use Rattle.path_read.specs.Attributes.{is_called};
 ghost use Rattle.path_read.specs.Contents.{stream_in, body_in};
@@ -115,6 +117,7 @@ pub fn attr<S: BlockSource, W: Sink>(
 ) -> Result<(), WriteStop>
     requires site { IsSiteFor site.now (S.bytes_len src.old) }
     ensures exact { (image : List ℕ) → S.bytes src.old ≡ Some image → IsLawful image site.now volume.now view.now → IsWritten (W.contents out.old) (W.contents out.new) (spec.attribute site.now.block_size image (view_facts image site.now volume.now view.now) path.now name.now) result }
+    ensures rests { (image : List ℕ) → S.bytes src.old ≡ Some image → is_view_ordered image site.now volume.now view.now ≡ true → WhereWritten (AttributesNeed image site.now volume.now view.now path.now) result }
     ensures text { HasPart (W.contents out.old) (W.contents out.new) (S.bytes src.old) (λ image. IsLawful image site.now volume.now view.now) (λ image. spec.attribute site.now.block_size image (view_facts image site.now volume.now view.now) path.now name.now) result }
     ensures untouched { IfErr result (IsUntouched (W.contents out.old) (W.contents out.new)) }
     ensures present { (image : List ℕ) → S.bytes src.old ≡ Some image → IfErr result (IsWriteStopThere image site.now volume.now view.now) }

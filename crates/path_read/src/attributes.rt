@@ -15,6 +15,10 @@ ghost use Rattle.vol_view.specs.Views.{view_tree, view_flat, is_view_ordered};
 ghost use Rattle.view_rules.specs.Rules.{view_facts};
 ghost use Rattle.path_walk.specs.Order as order;
 ghost use Rattle.path_walk.specs.Stops.{IsLawful, IsGiven, IsStopThere, IsNoAnswer};
+ghost use Rattle.bt_keys.specs.RecordKey.{attribute_record};
+ghost use Rattle.path_walk.specs.Needs.{HasKind, RestsOn};
+ghost use Rattle.path_walk.specs.Parts.{HasKindIn};
+ghost use Rattle.path_read.specs.Needs.{AttributesNeed};
 ghost use Rattle.path_read.specs.Attributes as spec;
 ghost use Rattle.path_read.specs.Attributes.{attribute_told, is_called};
 ghost use Rattle.path_read.specs.Parts.{HasRefused, attributes_at};
@@ -42,6 +46,7 @@ fn search_by<K: FsTreeKey, S: BlockSource>(
 ) -> Result<Option<Vec<KeptAttribute>>, Stop<WalkFault>>
     requires site { IsSiteFor site.now (S.bytes_len src.old) }
     ensures found { (image : List ℕ) → S.bytes src.old ≡ Some image → is_ordered K.shape (line_of (view_tree K.shape image site.now volume.now view.now) view.now.root_oid) ≡ true → IfOk result (λ run. IfSome run (λ v. v.items ≡ all_for id (attributes_of (flat_of (view_tree K.shape image site.now volume.now view.now) view.now.root_oid)))) }
+    ensures all { (image : List ℕ) → S.bytes src.old ≡ Some image → is_ordered K.shape (line_of (view_tree K.shape image site.now volume.now view.now) view.now.root_oid) ≡ true → IfOk result (λ run. IfSome run (λ v. HasKindIn volume.now.names (view_tree K.shape image site.now volume.now view.now) view.now.root_oid id attribute_record)) }
     ensures refused { (image : List ℕ) → S.bytes src.old ≡ Some image → IfOk result (λ run. run ≡ None → HasRefused (flat_of (view_tree K.shape image site.now volume.now view.now) view.now.root_oid)) }
     ensures present { (image : List ℕ) → S.bytes src.old ≡ Some image → IfErr result (Tells (IsNodeFault (view_tree K.shape image site.now volume.now view.now) view.now.root_oid) (HasFeature (view_tree K.shape image site.now volume.now view.now) view.now.root_oid)) }
     ensures cause { IsErrOf result ReadFault → Rose (S.faults src.old) (S.faults src.new) }
@@ -68,6 +73,7 @@ fn search<S: BlockSource>(
 ) -> Result<Option<Vec<KeptAttribute>>, Stop<PathStop>>
     requires site { IsSiteFor site.now (S.bytes_len src.old) }
     ensures found { (image : List ℕ) → S.bytes src.old ≡ Some image → is_view_ordered image site.now volume.now view.now ≡ true → IfOk result (λ run. IfSome run (λ v. v.items ≡ all_for id (attributes_of (view_flat image site.now volume.now view.now)))) }
+    ensures all { (image : List ℕ) → S.bytes src.old ≡ Some image → is_view_ordered image site.now volume.now view.now ≡ true → IfOk result (λ run. IfSome run (λ v. HasKind image site.now volume.now view.now id attribute_record)) }
     ensures refused { (image : List ℕ) → S.bytes src.old ≡ Some image → IfOk result (λ run. run ≡ None → HasRefused (view_flat image site.now volume.now view.now)) }
     ensures present { (image : List ℕ) → S.bytes src.old ≡ Some image → IfErr result (IsStopThere image site.now volume.now view.now) }
     ensures unanswered { IfErr result IsNoAnswer }
@@ -98,6 +104,7 @@ fn attributes_for<S: BlockSource>(
 ) -> Result<Vec<KeptAttribute>, Stop<PathStop>>
     requires site { IsSiteFor site.now (S.bytes_len src.old) }
     ensures found { (image : List ℕ) → S.bytes src.old ≡ Some image → is_view_ordered image site.now volume.now view.now ≡ true → IfOk result (λ v. v.items ≡ all_for id (view_facts image site.now volume.now view.now).attributes) }
+    ensures all { (image : List ℕ) → S.bytes src.old ≡ Some image → is_view_ordered image site.now volume.now view.now ≡ true → IfOk result (λ v. HasKind image site.now volume.now view.now id attribute_record) }
     ensures present { (image : List ℕ) → S.bytes src.old ≡ Some image → IfErr result (IsStopThere image site.now volume.now view.now) }
     ensures unanswered { IfErr result IsNoAnswer }
     ensures cause { IsErrOf result ReadFault → Rose (S.faults src.old) (S.faults src.new) }
@@ -124,6 +131,7 @@ pub(crate) fn gathered<S: BlockSource>(
 ) -> Result<Vec<KeptAttribute>, Stop<PathStop>>
     requires site { IsSiteFor site.now (S.bytes_len src.old) }
     ensures exact { (image : List ℕ) → S.bytes src.old ≡ Some image → IsLawful image site.now volume.now view.now → IsGiven (λ v. v.items) (attributes_at (view_facts image site.now volume.now view.now) path.now) result }
+    ensures rests { (image : List ℕ) → S.bytes src.old ≡ Some image → is_view_ordered image site.now volume.now view.now ≡ true → RestsOn (λ v. v.items) (attributes_at (view_facts image site.now volume.now view.now) path.now) (AttributesNeed image site.now volume.now view.now path.now) result }
     ensures present { (image : List ℕ) → S.bytes src.old ≡ Some image → IfErr result (IsStopThere image site.now volume.now view.now) }
     ensures cause { IsErrOf result ReadFault → Rose (S.faults src.old) (S.faults src.new) }
     ensures kept { IsKept S.bytes S.bytes_len S.faults src.old src.new }
@@ -185,6 +193,7 @@ pub fn attrs<S: BlockSource>(
 ) -> Result<Vec<(Bytes, u64)>, Stop<PathStop>>
     requires site { IsSiteFor site.now (S.bytes_len src.old) }
     ensures exact { (image : List ℕ) → S.bytes src.old ≡ Some image → IsLawful image site.now volume.now view.now → IsGiven (λ v. v.items) (spec.attributes (view_facts image site.now volume.now view.now) path.now) result }
+    ensures rests { (image : List ℕ) → S.bytes src.old ≡ Some image → is_view_ordered image site.now volume.now view.now ≡ true → RestsOn (λ v. v.items) (spec.attributes (view_facts image site.now volume.now view.now) path.now) (AttributesNeed image site.now volume.now view.now path.now) result }
     ensures present { (image : List ℕ) → S.bytes src.old ≡ Some image → IfErr result (IsStopThere image site.now volume.now view.now) }
     ensures cause { IsErrOf result ReadFault → Rose (S.faults src.old) (S.faults src.new) }
     ensures kept { IsKept S.bytes S.bytes_len S.faults src.old src.new }

@@ -5,6 +5,9 @@ ghost use Rattle.apfs_model.specs.Source.{IsKept};
 ghost use Rattle.obj_base.specs.declared.stop.Stop.TheVariants.{ReadFault};
 ghost use Rattle.obj_base.specs.Site.{IsSiteFor};
 ghost use Rattle.view_rules.specs.Rules.{view_facts};
+ghost use Rattle.vol_view.specs.Views.{is_view_ordered};
+ghost use Rattle.path_walk.specs.Parts.{WhereTold};
+ghost use Rattle.path_read.specs.Needs.{ContentsNeed, WhereWritten};
 ghost use Rattle.path_read.specs.Contents as spec;
 ghost use Rattle.path_walk.specs.Stops.{IsLawful, IsGiven, IsStopThere};
 ghost use Rattle.path_read.specs.Written.{HasPart, IsWritten, IsUntouched, IsWriteStopThere, opened_bytes};
@@ -56,6 +59,7 @@ fn open<S: BlockSource>(
 ) -> Result<Option<Stream>, Stop<PathStop>>
     requires site { IsSiteFor site.now (S.bytes_len src.old) }
     ensures exact { (image : List ℕ) → S.bytes src.old ≡ Some image → IsLawful image site.now volume.now view.now → IsGiven (opened_bytes image) (spec.contents site.now.block_size image (view_facts image site.now volume.now view.now) path.now) result }
+    ensures needs { (image : List ℕ) → S.bytes src.old ≡ Some image → is_view_ordered image site.now volume.now view.now ≡ true → WhereTold (ContentsNeed image site.now volume.now view.now path.now) result }
     ensures same { IfOk result (λ file. IfSome file (λ stream. stream.site ≡ site.now)) }
     ensures present { (image : List ℕ) → S.bytes src.old ≡ Some image → IfErr result (IsStopThere image site.now volume.now view.now) }
     ensures cause { IsErrOf result ReadFault → Rose (S.faults src.old) (S.faults src.new) }
@@ -95,6 +99,7 @@ pub fn cat<S: BlockSource, W: Sink>(
 ) -> Result<(), WriteStop>
     requires site { IsSiteFor site.now (S.bytes_len src.old) }
     ensures exact { (image : List ℕ) → S.bytes src.old ≡ Some image → IsLawful image site.now volume.now view.now → IsWritten (W.contents out.old) (W.contents out.new) (spec.contents site.now.block_size image (view_facts image site.now volume.now view.now) path.now) result }
+    ensures rests { (image : List ℕ) → S.bytes src.old ≡ Some image → is_view_ordered image site.now volume.now view.now ≡ true → WhereWritten (ContentsNeed image site.now volume.now view.now path.now) result }
     ensures text { HasPart (W.contents out.old) (W.contents out.new) (S.bytes src.old) (λ image. IsLawful image site.now volume.now view.now) (λ image. spec.contents site.now.block_size image (view_facts image site.now volume.now view.now) path.now) result }
     ensures untouched { IfErr result (IsUntouched (W.contents out.old) (W.contents out.new)) }
     ensures present { (image : List ℕ) → S.bytes src.old ≡ Some image → IfErr result (IsWriteStopThere image site.now volume.now view.now) }

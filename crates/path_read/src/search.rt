@@ -10,14 +10,15 @@ ghost use Rattle.bt_keys.specs.RecordKey.{attribute_record};
 ghost use Rattle.bt_cursor.specs.Flat.{flat_of};
 ghost use Rattle.bt_cursor.specs.Line.{line_of};
 ghost use Rattle.bt_cursor.specs.Order.{is_ordered};
-ghost use Rattle.bt_cursor.specs.From.{run_in};
+ghost use Rattle.bt_cursor.specs.From.{run_in, is_of_kind};
 ghost use Rattle.bt_cursor.specs.Faults.{IsNodeFault, HasFeature};
-ghost use Rattle.bt_cursor.specs.Cursors.{site_of, root_of, tree_of, left_of, fuel_of, IsOn};
+ghost use Rattle.bt_cursor.specs.Cursors.{site_of, root_of, tree_of, left_of, gapped_left_of, fuel_of, IsOn};
 ghost use Rattle.fs_record.specs.Facts as facts;
 ghost use Rattle.fs_record.specs.Facts.{all_for, attributes_of};
-ghost use Rattle.path_walk.specs.Parts.{is_of};
 ghost use Rattle.path_walk.specs.Pairs.{pair_by};
-ghost use Rattle.path_read.specs.Parts.{run_attributes, Takes, TakesNext, HasRefused};
+ghost use Rattle.fs_name.specs.declared.naming.Names.{Names};
+ghost use Rattle.path_walk.specs.Parts.{HasKindIn};
+ghost use Rattle.path_read.specs.Parts.{run_attributes, Takes, TakesNext, IsOfRun, are_whole, GoesWhole, HasRefused};
 ghost use Rattle.path_read.specs.declared.search.Took.TheVariants.{One};
 
 use crate::kept::KeptAttribute;
@@ -53,7 +54,7 @@ fn bytes(value: Option<&[u8]>) -> &[u8]
 #[tactic(auto, using(bt_cursor::proofs::Steps::rank_read))]
 fn is_in_run<K: FsTreeKey>(pair: &Entry<'_, K>, id: u64, kind: u8) -> bool
     requires { K.shape.read pair.now.key_bytes.now ≡ Some pair.now.key }
-    ensures run { result ≡ run_in K.shape (is_of id kind) (pair_by pair.now.key_bytes.now (option_map (λ v. v.now) pair.now.value)) }
+    ensures run { result ≡ run_in K.shape (is_of_kind id kind) (pair_by pair.now.key_bytes.now (option_map (λ v. v.now) pair.now.value)) }
     ensures kind { result ≡ true → (K.shape.rank pair.now.key).kind ≡ kind }
 {
     pair.key.id() == id && pair.key.kind() == kind
@@ -77,7 +78,8 @@ fn take<K: FsTreeKey>(
     taken: &mut Vec<KeptAttribute>,
 ) -> Result<Took, NoMemory>
     requires read { K.shape.read pair.now.key_bytes.now ≡ Some pair.now.key }
-    ensures { IfOk result (Takes K.shape id (pair_by pair.now.key_bytes.now (option_map (λ v. v.now) pair.now.value)) taken.old.items taken.new.items) }
+    ensures run { IfOk result (IsOfRun K.shape id (pair_by pair.now.key_bytes.now (option_map (λ v. v.now) pair.now.value))) }
+    ensures takes { IfOk result (Takes K.shape id (pair_by pair.now.key_bytes.now (option_map (λ v. v.now) pair.now.value)) taken.old.items taken.new.items) }
 {
     if !is_in_run::<K>(pair, id, kinds::ATTRIBUTE) {
         return Ok(Took::End);
@@ -107,6 +109,7 @@ fn take_next<K: FsTreeKey, S: BlockSource, N: Namer>(
     ensures root { root_of cursor.new ≡ root_of cursor.old }
     ensures tree { tree_of cursor.new ≡ tree_of cursor.old }
     ensures within { (image : List ℕ) → S.bytes src.old ≡ Some image → IsOn image cursor.old → IsOn image cursor.new }
+    ensures whole { (image : List ℕ) → S.bytes src.old ≡ Some image → IfOk result (GoesWhole K.shape id (gapped_left_of cursor.old image) (gapped_left_of cursor.new image)) }
     ensures taken { (image : List ℕ) → S.bytes src.old ≡ Some image → IfOk result (TakesNext K.shape id (left_of cursor.old image) (left_of cursor.new image) taken.old.items taken.new.items) }
     ensures present { (image : List ℕ) → S.bytes src.old ≡ Some image → IsOn image cursor.old → IfErr result (Tells (IsNodeFault (tree_of cursor.old image) (root_of cursor.old)) (HasFeature (tree_of cursor.old image) (root_of cursor.old))) }
     ensures fuel { IfOk result (λ took. took ≡ One → fuel_of cursor.new < fuel_of cursor.old) }
@@ -136,6 +139,7 @@ fn take_run<K: FsTreeKey, S: BlockSource, N: Namer>(
     ensures root { root_of cursor.new ≡ root_of cursor.old }
     ensures tree { tree_of cursor.new ≡ tree_of cursor.old }
     ensures within { (image : List ℕ) → S.bytes src.old ≡ Some image → IsOn image cursor.old → IsOn image cursor.new }
+    ensures whole { (image : List ℕ) → S.bytes src.old ≡ Some image → IfOk result (λ run. IfSome run (λ v. are_whole K.shape id (gapped_left_of cursor.old image) ≡ true)) }
     ensures taken { (image : List ℕ) → S.bytes src.old ≡ Some image → IfOk result (λ run. run_attributes K.shape id [] (left_of cursor.old image) ≡ option_map (λ v. v.items) run) }
     ensures present { (image : List ℕ) → S.bytes src.old ≡ Some image → IsOn image cursor.old → IfErr result (Tells (IsNodeFault (tree_of cursor.old image) (root_of cursor.old)) (HasFeature (tree_of cursor.old image) (root_of cursor.old))) }
     ensures cause { IsErrOf result ReadFault → Rose (S.faults src.old) (S.faults src.new) }
@@ -169,6 +173,7 @@ pub(crate) fn find_attributes<K: FsTreeKey, S: BlockSource, N: Namer>(
     ensures tree { tree_of cursor.new ≡ tree_of cursor.old }
     ensures within { (image : List ℕ) → S.bytes src.old ≡ Some image → IsOn image cursor.old → IsOn image cursor.new }
     ensures found { (image : List ℕ) → S.bytes src.old ≡ Some image → IsOn image cursor.old → is_ordered K.shape (line_of (tree_of cursor.old image) (root_of cursor.old)) ≡ true → IfOk result (λ run. IfSome run (λ v. v.items ≡ all_for id (attributes_of (flat_of (tree_of cursor.old image) (root_of cursor.old))))) }
+    ensures all { (image : List ℕ) → S.bytes src.old ≡ Some image → IsOn image cursor.old → is_ordered K.shape (line_of (tree_of cursor.old image) (root_of cursor.old)) ≡ true → IfOk result (λ run. IfSome run (λ v. (names : Names) → HasKindIn names (tree_of cursor.old image) (root_of cursor.old) id attribute_record)) }
     ensures refused { (image : List ℕ) → S.bytes src.old ≡ Some image → IsOn image cursor.old → IfOk result (λ run. run ≡ None → HasRefused (flat_of (tree_of cursor.old image) (root_of cursor.old))) }
     ensures present { (image : List ℕ) → S.bytes src.old ≡ Some image → IsOn image cursor.old → IfErr result (Tells (IsNodeFault (tree_of cursor.old image) (root_of cursor.old)) (HasFeature (tree_of cursor.old image) (root_of cursor.old))) }
     ensures cause { IsErrOf result ReadFault → Rose (S.faults src.old) (S.faults src.new) }

@@ -1,7 +1,6 @@
 -- Steps of a path, and what stops it.
-use Rattle.std.proofs.Common.{◌≡◌, ◌==◌, ℕ, zero, suc, ◌+◌, ◌<◌, Bool, true, false, cond, List, [], ◌∷◌, ◌++◌, length, map, Option, Some, None, Result, Ok, Err, ◌⊎◌, inl, inr, refl, ap, sym, ◌∙◌, subst, arith}
-use Rattle.std.specs.Prelude.{filter, filter_map, option_map, is_some, not, ◌&&◌, nat_lt}
-use Rattle.std.specs.List.{cons_option}
+use Rattle.std.proofs.Common.{◌≡◌, ◌==◌, ℕ, Bool, true, false, cond, List, [], ◌∷◌, length, Option, Some, None, Result, Ok, Err, inl, inr, refl, ap, sym, ◌∙◌, subst, arith}
+use Rattle.std.specs.Prelude.{filter, option_map, is_some, not}
 use Rattle.std.specs.Option.{ok_or}
 use Rattle.apfs_model.specs.Lists.{In, and_then, passes}
 use Rattle.apfs_model.proofs.BoolTests.{both-true, false-not, equal-from, from-below}
@@ -22,18 +21,18 @@ use Rattle.fs_record.specs.declared.fault.RecFault.{RecFault}
 use Rattle.vol_view.specs.Volumes.{Loaded}
 use Rattle.vol_view.specs.Views.{hashed_tree, plain_tree, view_line, FactBy, IsViewFault, IsViewFeature}
 use Rattle.vol_view.specs.declared.volume.View.{View}
-use Rattle.view_rules.specs.Facts.{Facts, inode_at, has_inode, has_directory, is_directory, does_count}
-use Rattle.view_rules.specs.Entries.{lacks_inode, has_root, IsNoInode}
+use Rattle.view_rules.specs.Facts.{Facts, inode_at, has_inode, is_directory, does_count}
+use Rattle.view_rules.specs.Entries.{lacks_inode, has_root}
 use Rattle.view_rules.specs.Rules as rules
 use Rattle.view_rules.specs.Rules.{view_facts, IsRecord, IsTreeFault}
 use Rattle.view_rules.specs.declared.fault.TreeFault.{TreeFault}
 use Rattle.view_rules.specs.declared.fault.TreeFault.TheVariants.{Record, NoInode}
 use Rattle.view_rules.proofs.Law.{refutes, featureless_rules}
 use Rattle.path_walk.specs.Paths.{is_component, parts_of, components}
-use Rattle.path_walk.specs.Places.{Place, placed, place_of, root_of, root_name, target_of}
+use Rattle.path_walk.specs.Places.{Place, placed, root_of, root_name, target_of}
 use Rattle.path_walk.specs.Found.{entries_in, entry_named, place_by, followed, step, walk, found, target_found}
-use Rattle.path_walk.specs.Stops.{IsLawful, IsPathFault, IsGiven, IsPathStop, IsStopThere, of_walk, IsOfRecords, IsNoAnswer}
-use Rattle.path_walk.specs.Parts.{by_part, along, rooted, IsLack, IsKnown, IsPlaceKnown, IsRefusal, IsSurveyed, HasEntries, lacking_entry, target_by, targets_by}
+use Rattle.path_walk.specs.Stops.{IsLawful, IsPathFault, IsGiven, IsStopThere, of_walk, IsOfRecords, IsNoAnswer}
+use Rattle.path_walk.specs.Parts.{by_part, along, rooted, IsLack, IsKnown, IsPlaceKnown, IsRefusal, IsSurveyed, lacking_entry}
 use Rattle.path_walk.specs.declared.answer.Answer.{Answer}
 use Rattle.path_walk.specs.declared.answer.Answer.TheVariants.{NotFound, NotDirectory}
 use Rattle.path_walk.specs.declared.stop.PathStop.{PathStop}
@@ -84,9 +83,6 @@ along_stops facts parts place part a e = along_part facts parts place part ∙ a
 pub found_along : (facts : Facts) (path : List ℕ) → found facts path ≡ and_then (rooted facts) (λ root. along facts (parts_of path) root)
 unfolding found components
 found_along facts path = refl
-
-pub found_from : (facts : Facts) (path : List ℕ) (root : Place) → root_of facts ≡ Some root → found facts path ≡ along facts (parts_of path) root
-found_from facts path root e = found_along facts path ∙ ap (λ (o : Option Place). and_then {T = Place} {U = Place} (ok_or o NotFound) (λ r. along facts (parts_of path) r)) e
 
 pub root_there : (facts : Facts) (inode : Inode) (root : Place) → inode_at facts root_id ≡ Some inode → root ≡ placed root_id root_name inode → root_of facts ≡ Some root
 root_there facts inode root e same = ap (option_map (placed root_id root_name)) e ∙ ap Some (sym same)

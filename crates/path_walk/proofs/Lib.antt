@@ -1,6 +1,5 @@
 pub mod Tallies
 pub mod Orders
-pub mod Runs
 pub mod Entries
 pub mod Laws
 pub mod Answers
@@ -12,3 +11,5 @@ pub mod Rising
 pub mod Known
 pub mod Viewed
 pub mod Listed
+pub mod Gapless
+pub mod Needed

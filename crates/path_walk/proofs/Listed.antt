@@ -1,5 +1,5 @@
 -- Listings, as they are told, and the steps of a path one after the other.
-use Rattle.std.proofs.Common.{◌≡◌, ℕ, zero, suc, ◌+◌, ◌<◌, ◌≤◌, Bool, true, false, cond, List, [], ◌∷◌, ◌++◌, length, map, take, drop, get_or, Option, Some, None, Result, Ok, Err, refl, ap, sym, ◌∙◌, arith}
+use Rattle.std.proofs.Common.{◌≡◌, ℕ, ◌+◌, ◌<◌, Bool, true, false, cond, List, [], ◌∷◌, ◌++◌, length, map, take, drop, get_or, Option, Some, None, Result, Ok, Err, refl, ap, sym, ◌∙◌, arith}
 use Rattle.std.specs.Prelude.{filter_map, option_map}
 use Rattle.std.specs.List.{cons_option}
 use Rattle.std.proofs.lemmas.List.{drop_more, take_more, take_all}
@@ -38,7 +38,7 @@ pub along_done : {P : Type 0} (now : P → List ℕ) (facts : Facts) (parts : Li
 along_done now facts parts i place whole end so_far = sym so_far ∙ ap (λ ps. along facts (map now ps) place) (ap (λ k. drop k parts) end ∙ drop-all parts)
 
 -- ---- one entry after another
-whats-join : (es fs : List (Fact Entry)) → whats (es ++ fs) ≡ whats es ++ whats fs
+pub whats-join : (es fs : List (Fact Entry)) → whats (es ++ fs) ≡ whats es ++ whats fs
 whats-join [] fs = refl
 whats-join (e ∷ es) fs = ap (λ l. e.what ∷ l) (whats-join es fs)
 

@@ -1,16 +1,16 @@
 -- Facts by ids that don't fall, and searches in them.
-use Rattle.std.proofs.Common.{◌≡◌, ◌==◌, ℕ, zero, suc, ◌+◌, ◌-◌, ◌≤◌, ◌<◌, Bool, true, false, cond, List, [], ◌∷◌, ◌++◌, length, map, Option, Some, None, ◌⊎◌, inl, inr, refl, ap, sym, ◌∙◌, subst, arith, take, drop, get_or, append-nil}
+use Rattle.std.proofs.Common.{◌≡◌, ◌==◌, ℕ, zero, suc, ◌+◌, ◌≤◌, ◌<◌, Bool, true, false, cond, List, [], ◌∷◌, ◌++◌, length, Some, None, inl, inr, refl, ap, sym, ◌∙◌, subst, arith, take, drop, get_or, append-nil}
 use Rattle.std.specs.Prelude.{filter, option_map, slice_get, nat_lt}
-use Rattle.std.specs.List.{find, position_or_len}
+use Rattle.std.specs.List.{position_or_len}
 use Rattle.std.specs.List.Sorted.{IsPartitionPoint, IsPartitionedBy}
-use Rattle.std.proofs.lemmas.Bool.{cases_lt, ltb-true, ltb-false, lt-ltb, le-ltb}
-use Rattle.std.proofs.lemmas.Bool.Decides.{Decides-eqb, nat_tests}
+use Rattle.std.proofs.lemmas.Bool.{cases_lt, ltb-true, ltb-false, lt-ltb}
+use Rattle.std.proofs.lemmas.Bool.Decides.{Decides-eqb}
 use Rattle.std.proofs.lemmas.List.{take-append-drop, length-take, length-drop, get_or-take, get_or-drop}
 use Rattle.std.proofs.lemmas.List.Elements.{filter-append}
 use Rattle.std.proofs.lemmas.List.Sums.{position_or_len_is}
 use Rattle.std.proofs.lemmas.List.Folds.{find_at}
 use Rattle.apfs_model.specs.Lists.{In}
-use Rattle.apfs_model.proofs.BoolTests.{never-true, clash}
+use Rattle.apfs_model.proofs.BoolTests.{never-true}
 use Rattle.fs_record.specs.Facts.{Fact, first_for}
 use Rattle.omap_map.proofs.Lists.{all-in, filter-none}
 use Rattle.path_walk.specs.Parts.{Rises, IsFirst}

@@ -7,7 +7,7 @@ use Rattle.std.proofs.lemmas.List.Sums.{take_while-cons}
 use Rattle.apfs_model.specs.Blocks.{block_of}
 use Rattle.apfs_model.specs.Lists.{In, value_of, through}
 use Rattle.apfs_model.proofs.BoolTests.{from-range}
-use Rattle.apfs_model.proofs.Searches.{from-map, from-flat_map, from-filter}
+use Rattle.apfs_model.proofs.Searches.{from-map, from-flat_map}
 use Rattle.obj_base.specs.declared.site.Site.{Site}
 use Rattle.obj_base.specs.declared.stop.Bad.{Bad}
 use Rattle.obj_base.specs.declared.stop.Bad.TheVariants as bads
@@ -30,20 +30,20 @@ use Rattle.bt_cursor.specs.Cursors.{site_of, tree_of, left_of, passed_of, Moves}
 use Rattle.bt_cursor.specs.Gaps.{all_met}
 use Rattle.bt_cursor.specs.Faults.{IsNodeFault, HasFeature}
 use Rattle.obj_base.specs.Stops.{Tells}
-use Rattle.bt_cursor.specs.Tree.{Tree, root_place, child_place, node_at, judged, node_named, block_named, tree_in}
+use Rattle.bt_cursor.specs.Tree.{Tree, root_place, child_place, judged, node_named, block_named, tree_in}
 use Rattle.bt_cursor.specs.Flat.{flat_part, flat_of}
 use Rattle.bt_cursor.specs.Line.{line_of}
-use Rattle.bt_cursor.specs.Order.{rank_of, rank_or_least, is_ordered}
-use Rattle.bt_cursor.specs.From.{from_rank, run_in}
+use Rattle.bt_cursor.specs.Order.{rank_or_least, is_ordered}
+use Rattle.bt_cursor.specs.From.{from_rank, run_in, is_of_kind}
 use Rattle.bt_cursor.proofs.Nodes.{node_same}
 use Rattle.bt_cursor.proofs.Runs.{run-flat, run-kind}
 use Rattle.fs_name.specs.declared.naming.Names.{Names}
 use Rattle.fs_record.specs.Inodes.{Inode}
 use Rattle.fs_record.specs.Entries.{Entry}
-use Rattle.fs_record.specs.Facts.{Fact, told_by, fact_of, facts_of, all_for, first_for, read_inode, read_entry, inodes_of, entries_of}
+use Rattle.fs_record.specs.Facts.{Fact, told_by, facts_of, all_for, first_for, read_inode, read_entry, inodes_of, entries_of}
 use Rattle.fs_record.specs.declared.fault.RecFault.{RecFault}
 use Rattle.path_walk.specs.Pairs.{pair_by}
-use Rattle.path_walk.specs.Parts.{is_of, whats, with_read, run_entries, first_inode}
+use Rattle.path_walk.specs.Parts.{with_read, run_entries, first_inode}
 
 -- ---- the keys of a tree's records can be read
 -- each key of some records can be read
@@ -102,13 +102,13 @@ flat_keys shape site named image root =
 
 -- ---- facts of a run
 -- a record's rank is that of its key
-ranked : {K : Type 0} (hashed : Bool) (shape : Shape K) → IsFsShape hashed shape → (id kind : ℕ) (pair : Pair) (o : Option K) → shape.read pair.key ≡ o → IsSome o → is_of id kind (rank_or_least shape o) ≡ ((id_of pair.key == id) && (record_kind_of pair.key == kind))
+ranked : {K : Type 0} (hashed : Bool) (shape : Shape K) → IsFsShape hashed shape → (id kind : ℕ) (pair : Pair) (o : Option K) → shape.read pair.key ≡ o → IsSome o → is_of_kind id kind (rank_or_least shape o) ≡ ((id_of pair.key == id) && (record_kind_of pair.key == kind))
 ranked hashed shape law id kind pair None e some = absurd (false≢true some)
 ranked hashed shape law id kind pair (Some key) e some =
     let is : IsFsKey hashed pair.key (shape.rank key) = law.reads pair.key key e in
     ap (λ n. (n == id) && ((shape.rank key).kind == kind)) is.id ∙ ap (λ n. (id_of pair.key == id) && (n == kind)) is.kind
 
-pub run_is : {K : Type 0} (hashed : Bool) (shape : Shape K) → IsFsShape hashed shape → (id kind : ℕ) (pair : Pair) → IsSome (shape.read pair.key) → run_in shape (is_of id kind) pair ≡ ((id_of pair.key == id) && (record_kind_of pair.key == kind))
+pub run_is : {K : Type 0} (hashed : Bool) (shape : Shape K) → IsFsShape hashed shape → (id kind : ℕ) (pair : Pair) → IsSome (shape.read pair.key) → run_in shape (is_of_kind id kind) pair ≡ ((id_of pair.key == id) && (record_kind_of pair.key == kind))
 run_is hashed shape law id kind pair some = ranked hashed shape law id kind pair (shape.read pair.key) refl some
 
 -- one more fact of an id
@@ -129,14 +129,14 @@ kept-more f false x xs = refl
 
 -- the facts of an id and a kind are read from the records of that id and kind
 pub run_facts : {K X : Type 0} (hashed : Bool) (shape : Shape K) → IsFsShape hashed shape → (id kind : ℕ) (read : Pair → Result X RecFault) (pairs : List Pair) → HasKeys shape pairs →
-    filter_map (λ (p : Pair). value_of (read p)) (filter (run_in shape (is_of id kind)) pairs) ≡ all_for id (facts_of kind read pairs)
+    filter_map (λ (p : Pair). value_of (read p)) (filter (run_in shape (is_of_kind id kind)) pairs) ≡ all_for id (facts_of kind read pairs)
 run_facts hashed shape law id kind read [] keys = refl
 run_facts {K} {X} hashed shape law id kind read (pair ∷ pairs) keys =
     let rest = run_facts hashed shape law id kind read pairs (λ p h. keys p (inr h)) in
     let a : Bool = record_kind_of pair.key == kind in
     let b : Bool = id_of pair.key == id in
-    kept-more (λ (p : Pair). value_of (read p)) (run_in shape (is_of id kind) pair) pair (filter (run_in shape (is_of id kind)) pairs)
-    ∙ (ap (λ t. cons_option (cond t (value_of (read pair)) None) (filter_map (λ (p : Pair). value_of (read p)) (filter (run_in shape (is_of id kind)) pairs))) (run_is hashed shape law id kind pair (keys pair (inl refl)))
+    kept-more (λ (p : Pair). value_of (read p)) (run_in shape (is_of_kind id kind) pair) pair (filter (run_in shape (is_of_kind id kind)) pairs)
+    ∙ (ap (λ t. cons_option (cond t (value_of (read pair)) None) (filter_map (λ (p : Pair). value_of (read p)) (filter (run_in shape (is_of_kind id kind)) pairs))) (run_is hashed shape law id kind pair (keys pair (inl refl)))
     ∙ (ap (λ (l : List X). cons_option (cond (b && a) (value_of (read pair)) None) l) rest
     ∙ sym (one-more kind id pair (value_of (read pair)) (facts_of kind read pairs) a b refl refl)))
 
@@ -152,21 +152,21 @@ first_of_all id (f ∷ fs) x xs e = first-step id f fs (f.id == id) x xs refl (f
 
 -- ---- what is taken of a run
 taken-step : {K : Type 0} (shape : Shape K) (names : Names) (id : ℕ) (before : List Entry) (pair : Pair) (pairs : List Pair) (es : List Entry) (t : Bool) (r : Result Entry RecFault) →
-    ((e : Entry) → run_entries shape names id (before ++ e ∷ []) pairs ≡ Some es → es ≡ (before ++ e ∷ []) ++ filter_map (λ (p : Pair). value_of (read_entry names p)) (take_while (run_in shape (is_of id entry_record)) pairs)) →
+    ((e : Entry) → run_entries shape names id (before ++ e ∷ []) pairs ≡ Some es → es ≡ (before ++ e ∷ []) ++ filter_map (λ (p : Pair). value_of (read_entry names p)) (take_while (run_in shape (is_of_kind id entry_record)) pairs)) →
     read_entry names pair ≡ r →
     cond t (with_read r (λ (e : Entry). run_entries shape names id (before ++ e ∷ []) pairs)) (Some before) ≡ Some es →
-    es ≡ before ++ filter_map (λ (p : Pair). value_of (read_entry names p)) (cond t (pair ∷ take_while (run_in shape (is_of id entry_record)) pairs) [])
+    es ≡ before ++ filter_map (λ (p : Pair). value_of (read_entry names p)) (cond t (pair ∷ take_while (run_in shape (is_of_kind id entry_record)) pairs) [])
 taken-step shape names id before pair pairs es false r rest read e = let s : before ≡ es = cc in sym s ∙ sym (append-nil before)
 taken-step shape names id before pair pairs es true (Err why) rest read e = absurd (cc)
 taken-step shape names id before pair pairs es true (Ok x) rest read e =
-    let others : List Entry = filter_map (λ (p : Pair). value_of (read_entry names p)) (take_while (run_in shape (is_of id entry_record)) pairs) in
+    let others : List Entry = filter_map (λ (p : Pair). value_of (read_entry names p)) (take_while (run_in shape (is_of_kind id entry_record)) pairs) in
     rest x e ∙ (append_assoc before (x ∷ []) others ∙ ap (λ (r : Result Entry RecFault). before ++ cons_option (value_of r) others) (sym read))
 
 pub run_taken : {K : Type 0} (shape : Shape K) (names : Names) (id : ℕ) (before : List Entry) (pairs : List Pair) (es : List Entry) → run_entries shape names id before pairs ≡ Some es →
-    es ≡ before ++ filter_map (λ (p : Pair). value_of (read_entry names p)) (take_while (run_in shape (is_of id entry_record)) pairs)
+    es ≡ before ++ filter_map (λ (p : Pair). value_of (read_entry names p)) (take_while (run_in shape (is_of_kind id entry_record)) pairs)
 run_taken shape names id before [] es e = let s : before ≡ es = cc in sym s ∙ sym (append-nil before)
 run_taken shape names id before (pair ∷ pairs) es e =
-    let test = run_in shape (is_of id entry_record) in
+    let test = run_in shape (is_of_kind id entry_record) in
     taken-step shape names id before pair pairs es (test pair) (read_entry names pair) (λ x. run_taken shape names id (before ++ x ∷ []) pairs es) refl e
     ∙ ap (λ (ps : List Pair). before ++ filter_map (λ (p : Pair). value_of (read_entry names p)) ps) (sym (take_while-cons test pair pairs))
 
@@ -184,16 +184,16 @@ entries_found hashed shape site named image root id names left (Some es) law ord
     let rank : Rank = record { id = id; kind = entry_record; sub = 0 } in
     let read = λ (p : Pair). value_of (read_entry names p) in
     run_taken shape names id [] left es e
-    ∙ (ap (λ (ps : List Pair). filter_map read (take_while (run_in shape (is_of id entry_record)) ps)) at
-    ∙ (ap (filter_map read) (run-flat tree root rank (is_of id entry_record) (run-kind id entry_record) ordered)
+    ∙ (ap (λ (ps : List Pair). filter_map read (take_while (run_in shape (is_of_kind id entry_record)) ps)) at
+    ∙ (ap (filter_map read) (run-flat tree root rank (is_of_kind id entry_record) (run-kind id entry_record) ordered)
     ∙ run_facts hashed shape law id entry_record (read_entry names) (flat_of tree root) (flat_keys shape site named image root)))
 
 first-found : {K : Type 0} (hashed : Bool) (shape : Shape K) → IsFsShape hashed shape → (id : ℕ) (flat left : List Pair) (x : Inode) → HasKeys shape flat →
-    take_while (run_in shape (is_of id inode_record)) left ≡ filter (run_in shape (is_of id inode_record)) flat → first_inode shape id left ≡ Some x → first_for id (inodes_of flat) ≡ Some x
+    take_while (run_in shape (is_of_kind id inode_record)) left ≡ filter (run_in shape (is_of_kind id inode_record)) flat → first_inode shape id left ≡ Some x → first_for id (inodes_of flat) ≡ Some x
 unfolding inodes_of
 first-found hashed shape law id flat [] x keys same e = absurd (cc)
 first-found hashed shape law id flat (pair ∷ pairs) x keys same e =
-    let test = run_in shape (is_of id inode_record) in
+    let test = run_in shape (is_of_kind id inode_record) in
     let read = λ (p : Pair). value_of (read_inode p) in
     let go : (t : Bool) → test pair ≡ t → cond t (read pair) None ≡ Some x → first_for id (facts_of inode_record read_inode flat) ≡ Some x = λ t. elim t as (λ t. test pair ≡ t → cond t (read pair) None ≡ Some x → first_for id (facts_of inode_record read_inode flat) ≡ Some x) [
       | false ↦ λ i h. absurd (cc)
@@ -213,7 +213,7 @@ found-some hashed shape site named image root id left x law ordered at e =
     let tree = tree_in shape site named image in
     let rank : Rank = record { id = id; kind = inode_record; sub = 0 } in
     first-found hashed shape law id (flat_of tree root) left x (flat_keys shape site named image root)
-    (ap (take_while (run_in shape (is_of id inode_record))) at ∙ run-flat tree root rank (is_of id inode_record) (run-kind id inode_record) ordered) e
+    (ap (take_while (run_in shape (is_of_kind id inode_record))) at ∙ run-flat tree root rank (is_of_kind id inode_record) (run-kind id inode_record) ordered) e
 
 -- and the first inode from its rank on is the inode of the id
 pub inode_found : {K : Type 0} (hashed : Bool) (shape : Shape K) (site : Site) (named : ℕ → Option ℕ) (image : List ℕ) (root id : ℕ) (left : List Pair) (inode : Option Inode) → IsFsShape hashed shape →

@@ -1,6 +1,6 @@
 -- What is gathered of a view's items.
-use Rattle.std.proofs.Common.{◌≡◌, ◌==◌, ℕ, zero, suc, ◌+◌, ◌-◌, ◌^◌, ◌≤◌, ◌<◌, Bool, true, false, cond, List, [], ◌∷◌, ◌++◌, length, map, Option, Some, None, Result, Ok, Err, inl, inr, refl, ap, sym, ◌∙◌, subst, arith, length-append, append-nil, All}
-use Rattle.std.specs.Prelude.{filter, filter_map, option_map, slice_get, IsSome, min}
+use Rattle.std.proofs.Common.{◌≡◌, ◌==◌, ℕ, zero, suc, ◌+◌, ◌≤◌, ◌<◌, Bool, true, false, cond, List, [], ◌∷◌, ◌++◌, length, map, Option, Some, None, Result, Ok, Err, inl, inr, refl, ap, sym, ◌∙◌, subst, arith, length-append, append-nil, All}
+use Rattle.std.specs.Prelude.{filter, option_map, slice_get, IsSome}
 use Rattle.std.specs.List.{cons_option}
 use Rattle.std.proofs.lemmas.Bool.{false≢true}
 use Rattle.std.proofs.lemmas.Bool.Decides.{Decides-eqb, nat_tests}
@@ -13,7 +13,7 @@ use Rattle.bt_node.specs.Shape.{Shape}
 use Rattle.bt_node.specs.Rank.{is_below}
 use Rattle.bt_node.specs.Entries.{Pair}
 use Rattle.bt_node.specs.declared.key.Rank.{Rank}
-use Rattle.bt_keys.specs.FsTree.{IsFsShape, IsFsKey}
+use Rattle.bt_keys.specs.FsTree.{IsFsShape}
 use Rattle.bt_keys.specs.RecordKey.{id_of, record_kind_of, entry_record, inode_record}
 use Rattle.bt_cursor.specs.Line.{Item, is_leaf_item, leaf_pairs}
 use Rattle.bt_cursor.specs.Order.{rank_of, rank_or_least, ranks_below, is_ordered}
@@ -25,7 +25,7 @@ use Rattle.fs_record.specs.Inodes.{Inode}
 use Rattle.fs_record.specs.Entries.{Entry}
 use Rattle.fs_record.specs.Facts.{Fact, told_by, fact_of, facts_of, read_inode, read_entry, inodes_of, entries_of}
 use Rattle.fs_record.specs.declared.fault.RecFault.{RecFault}
-use Rattle.view_rules.specs.Rules.{refusal_of, HasRecords, IsRecord}
+use Rattle.view_rules.specs.Rules.{refusal_of}
 use Rattle.omap_map.proofs.Lists.{all-in}
 use Rattle.path_walk.specs.Parts.{first_refusal, IsRefusal, HasGathered, Rises}
 use Rattle.path_walk.proofs.Searched.{HasKeys}

@@ -1,5 +1,5 @@
 -- What the parts of the calls on paths give. These are for the contracts of this crate's own functions; what the calls promise is said elsewhere.
-use Rattle.std.specs.Prelude.{◌≡◌, ◌⊎◌, ℕ, ◌≤◌, Bool, true, false, ◌&&◌, ◌==◌, List, [], ◌∷◌, ◌++◌, Option, None, Some, Result, Ok, Err, filter, filter_map, option_map, map, length, if◌then◌else◌}
+use Rattle.std.specs.Prelude.{◌≡◌, ◌⊎◌, ℕ, ◌≤◌, Bool, true, false, List, [], ◌∷◌, ◌++◌, Option, None, Some, Result, Ok, Err, filter, filter_map, option_map, map, length, if◌then◌else◌}
 use Rattle.std.specs.Option.{ok_or}
 use Rattle.apfs_model.specs.Counts.{given}
 use Rattle.apfs_model.specs.Lists.{In, value_of}
@@ -8,10 +8,12 @@ use Rattle.obj_base.specs.declared.stop.Stop.{Stop}
 use Rattle.obj_base.specs.declared.stop.Stop.TheVariants.{Found, Unsupported, ReadFault, NoMemory}
 use Rattle.bt_node.specs.Shape.{Shape}
 use Rattle.bt_node.specs.Entries.{Pair}
-use Rattle.bt_node.specs.declared.key.Rank.{Rank}
 use Rattle.bt_keys.specs.RecordKey.{inode_record, entry_record}
 use Rattle.bt_cursor.specs.Line.{Item, leaf_pairs}
-use Rattle.bt_cursor.specs.From.{run_in}
+use Rattle.bt_cursor.specs.Tree.{Tree}
+use Rattle.bt_cursor.specs.Flat.{flat_of}
+use Rattle.bt_cursor.specs.Gaps.{Gapped}
+use Rattle.bt_cursor.specs.From.{run_in, is_of_kind, starts_whole, is_kind_whole}
 use Rattle.bt_cursor.specs.declared.fault.WalkFault.{WalkFault}
 use Rattle.bt_cursor.specs.declared.gathering.GatherFault.{GatherFault}
 use Rattle.bt_cursor.specs.declared.gathering.GatherFault.TheVariants as gathers
@@ -24,14 +26,15 @@ use Rattle.fs_record.specs.declared.fault.RecFault.{RecFault}
 use Rattle.view_rules.specs.declared.fault.TreeFault.{TreeFault}
 use Rattle.view_rules.specs.declared.fault.TreeFault.TheVariants.{NoInode}
 use Rattle.vol_view.specs.Volumes.{Loaded}
-use Rattle.vol_view.specs.Views.{view_line}
+use Rattle.vol_view.specs.Views.{view_line, is_view_whole}
 use Rattle.vol_view.specs.declared.volume.View.{View}
-use Rattle.view_rules.specs.Facts.{Facts}
+use Rattle.view_rules.specs.Facts.{Facts, facts_in}
 use Rattle.view_rules.specs.Entries.{IsNoInode, has_root}
 use Rattle.view_rules.specs.Rules.{HasRecords, IsRecord, view_facts}
 use Rattle.path_walk.specs.Paths.{is_component}
 use Rattle.path_walk.specs.Places.{Place, root_of, target_of}
 use Rattle.path_walk.specs.Found.{place_by, step, walk}
+use Rattle.path_walk.specs.Needs.{AreRead, StepNeeds, WalkNeeds}
 use Rattle.path_walk.specs.declared.answer.Answer.{Answer}
 use Rattle.path_walk.specs.declared.answer.Answer.TheVariants.{NotFound}
 use Rattle.path_walk.specs.declared.stop.PathStop.{PathStop}
@@ -46,10 +49,6 @@ use Rattle.path_walk.specs.declared.onward.Onward.TheVariants.{To, Answered, Los
 abbrev pub whats : List (Fact Entry) → List Entry
 whats entries = map (λ (f : Fact Entry). f.what) entries
 
--- the rank of a record of an id and a kind
-abbrev pub is_of : ℕ → ℕ → Rank → Bool
-is_of id kind r = (r.id == id) && (r.kind == kind)
-
 -- what is read, through f, and nothing where it is refused
 abbrev pub with_read : {X Y : Type 0} → Result X RecFault → (X → Option Y) → Option Y
 with_read (Ok x) f = f x
@@ -59,14 +58,14 @@ with_read (Err why) f = None
 abbrev pub run_entries : {K : Type 0} → Shape K → Names → ℕ → List Entry → List Pair → Option (List Entry)
 run_entries shape names id before [] = Some before
 run_entries shape names id before (pair ∷ pairs) =
-    if run_in shape (is_of id entry_record) pair
+    if run_in shape (is_of_kind id entry_record) pair
     then with_read (read_entry names pair) (λ (e : Entry). run_entries shape names id (before ++ e ∷ []) pairs)
     else Some before
 
 -- the inode of an id at the start of some records; nothing where it is refused
 abbrev pub first_inode : {K : Type 0} → Shape K → ℕ → List Pair → Option Inode
 first_inode shape id [] = None
-first_inode shape id (pair ∷ pairs) = if run_in shape (is_of id inode_record) pair then value_of (read_inode pair) else None
+first_inode shape id (pair ∷ pairs) = if run_in shape (is_of_kind id inode_record) pair then value_of (read_inode pair) else None
 
 -- what is taken of one more record, whatever comes after it
 abbrev pub Takes : {K : Type 0} → Shape K → Names → ℕ → Pair → List Entry → List Entry → Took → Type 0
@@ -80,6 +79,35 @@ TakesNext shape names id left left_then old new One = run_entries shape names id
 TakesNext shape names id left left_then old new End = run_entries shape names id old left ≡ Some new
 TakesNext shape names id left left_then old new Refused = run_entries shape names id old left ≡ None
 
+-- whether a record that isn't refused is an entry of a directory
+abbrev pub IsOfRun : {K : Type 0} → Shape K → ℕ → Pair → Took → Type 0
+IsOfRun shape id pair One = run_in shape (is_of_kind id entry_record) pair ≡ true
+IsOfRun shape id pair End = run_in shape (is_of_kind id entry_record) pair ≡ false
+IsOfRun shape id pair Refused = Unit {0}
+
+-- no gap stands among the entries of a directory that are left
+abbrev pub are_whole : {K : Type 0} → Shape K → ℕ → List (Gapped Pair) → Bool
+are_whole shape id left = starts_whole shape (is_of_kind id entry_record) left
+
+-- whether one does, where one more of them was taken
+abbrev pub GoesWhole : {K : Type 0} → Shape K → ℕ → List (Gapped Pair) → List (Gapped Pair) → Took → Type 0
+GoesWhole shape id left left_then One = are_whole shape id left ≡ are_whole shape id left_then
+GoesWhole shape id left left_then End = are_whole shape id left ≡ true
+GoesWhole shape id left left_then Refused = Unit {0}
+
+-- the records of an id and a kind are all there in a tree: none is missing, and each can be read
+pub record HasKindIn {K : Type 0} (names : Names) (tree : Tree K) (root id kind : ℕ) : Type 0 where
+  pub whole : is_kind_whole tree root id kind ≡ true
+  pub read : AreRead names (flat_of tree root) id kind
+
+-- the entries of a directory are; those of a reserved one are neither followed nor listed
+abbrev pub HasEntriesIn : {K : Type 0} → Names → Tree K → ℕ → ℕ → Type 0
+HasEntriesIn names tree root id = is_reserved id ≡ false → HasKindIn names tree root id entry_record
+
+-- what is needed of facts and of entries is there in a tree
+abbrev pub NeedsIn : {K : Type 0} → (Facts → (ℕ → Type 0) → Type 0) → Names → Tree K → ℕ → Type 0
+NeedsIn needs names tree root = needs (facts_in names (flat_of tree root)) (HasEntriesIn names tree root)
+
 -- one part of a path on from a place; an empty one is no component
 abbrev pub by_part : Facts → Place → List ℕ → Result Place Answer
 by_part facts place part = if is_component part then step facts place part else Ok place
@@ -87,6 +115,32 @@ by_part facts place part = if is_component part then step facts place part else 
 -- all parts of a path on from a place
 abbrev pub along : Facts → List (List ℕ) → Place → Result Place Answer
 along facts parts place = walk facts (filter is_component parts) place
+
+-- what one part of a path needs, and what all parts do
+abbrev pub PartNeeds : Facts → (ℕ → Type 0) → Place → List ℕ → Type 0
+PartNeeds facts has_all place part = is_component part ≡ true → StepNeeds facts has_all place part
+
+abbrev pub AlongNeeds : Facts → (ℕ → Type 0) → List (List ℕ) → Place → Type 0
+AlongNeeds facts has_all parts place = WalkNeeds facts has_all (filter is_component parts) place
+
+-- nothing is asked of any directory
+abbrev pub of_any : ℕ → Type 0
+of_any id = Unit {0}
+
+-- what holds where a value or an answer was given by searches; nothing is said of what was lost
+abbrev pub WhereLed : {T : Type 0} → Type 0 → Onward T → Type 0
+WhereLed P (To x) = P
+WhereLed P (Answered a) = P
+WhereLed P Lost = Unit {0}
+
+-- what holds where a value or an answer was given by the facts of a view
+abbrev pub WhereTold : {T : Type 0} → Type 0 → Result T (Stop PathStop) → Type 0
+WhereTold P (Ok x) = P
+WhereTold P (Err (Found (stops.Answer a))) = P
+WhereTold P (Err (Found (stops.Fault fault))) = Unit {0}
+WhereTold P (Err (Unsupported feature block)) = Unit {0}
+WhereTold P (Err ReadFault) = Unit {0}
+WhereTold P (Err NoMemory) = Unit {0}
 
 -- what was answered by searches: the value, as view shows it, or the answer; nothing is said of what was lost
 abbrev pub Leads : {T U : Type 0} → (T → U) → Result U Answer → Onward T → Type 0
@@ -183,6 +237,7 @@ IsPlaceKnown facts view e (Err NoMemory) = Unit {0}
 
 -- what is gathered of a view: the first of its records that is refused, its entries and its inodes
 pub record IsSurveyed (image : List ℕ) (site : Site) (volume : Loaded) (view : View) (refusal : Option (ℕ × RecFault)) (entries : List (Fact Entry)) (inodes : List (Fact Inode)) : Type 0 where
+  pub whole : is_view_whole image site volume view ≡ true
   pub refused : IsRefusal volume.names (view_line image site volume view) refusal
   pub remembers : Remembers (view_facts image site volume view) entries inodes
 

@@ -1,11 +1,13 @@
 // Paths by the entries and the inodes of a view in memory.
-ghost use Rattle.std.specs.Prelude.{◌≡◌, map, IfOk, IsErrOf};
+ghost use Rattle.std.specs.Prelude.{◌≡◌, map, IfOk, IfErr, IsErrOf};
 ghost use Rattle.obj_base.specs.declared.stop.Stop.TheVariants.{ReadFault};
 ghost use Rattle.view_rules.specs.Facts.{Facts};
 ghost use Rattle.path_walk.specs.Places.{target_of};
 ghost use Rattle.path_walk.specs.Found.{step, found};
 ghost use Rattle.path_walk.specs.Listing.{children, listing};
-ghost use Rattle.path_walk.specs.Parts.{whats, by_part, along, rooted, lacking_entry, targets_by, HasEntries, Remembers, IsKnown, IsPlaceKnown};
+ghost use Rattle.path_walk.specs.Needs.{StepNeeds, PathNeeds, HaveFiles, ChildrenNeed, ListingNeeds};
+ghost use Rattle.path_walk.specs.Stops.{IsNoAnswer};
+ghost use Rattle.path_walk.specs.Parts.{whats, by_part, along, rooted, lacking_entry, targets_by, HasEntries, Remembers, IsKnown, IsPlaceKnown, PartNeeds, AlongNeeds, WhereTold, of_any};
 
 use crate::by_search::{ROOT, place_of, root_of_inode};
 use crate::choice::{choose, parts};
@@ -66,6 +68,7 @@ fn go_on(
 ) -> Result<Place, Stop<PathStop>>
     ensures no_read { IsErrOf result ReadFault → ⊥ }
     ensures known { (facts : Facts) → facts.names ≡ names → Remembers facts files.now.entries.items files.now.inodes.items → IsKnown facts view.now (λ p. p) (step facts place.now name.now) result }
+    ensures needs { (facts : Facts) → facts.names ≡ names → Remembers facts files.now.entries.items files.now.inodes.items → WhereTold (StepNeeds facts of_any place.now name.now) result }
 {
     if !place.is_directory() {
         return Err(Stop::Found(PathStop::Answer(Answer::NotDirectory)));
@@ -91,6 +94,7 @@ pub fn go_by(
 ) -> Result<Place, Stop<PathStop>>
     ensures no_read { IsErrOf result ReadFault → ⊥ }
     ensures known { (facts : Facts) → facts.names ≡ names → Remembers facts files.now.entries.items files.now.inodes.items → IsKnown facts view.now (λ p. p) (by_part facts place part.now) result }
+    ensures needs { (facts : Facts) → facts.names ≡ names → Remembers facts files.now.entries.items files.now.inodes.items → WhereTold (PartNeeds facts of_any place part.now) result }
 {
     if part.is_empty() {
         return Ok(place);
@@ -112,6 +116,7 @@ fn go_along(
 ) -> Result<Place, Stop<PathStop>>
     ensures no_read { IsErrOf result ReadFault → ⊥ }
     ensures known { (facts : Facts) → facts.names ≡ names → Remembers facts files.now.entries.items files.now.inodes.items → IsKnown facts view.now (λ p. p) (along facts (map (λ part. part.now) parts.now) start) result }
+    ensures needs { (facts : Facts) → facts.names ≡ names → Remembers facts files.now.entries.items files.now.inodes.items → WhereTold (AlongNeeds facts of_any (map (λ part. part.now) parts.now) start) result }
 {
     let mut place = start;
     for part in parts {
@@ -126,6 +131,7 @@ fn go_along(
 /// The root.
 pub fn root(alloc: Global, files: &Files, view: &View) -> Result<Place, Stop<PathStop>>
     ensures no_read { IsErrOf result ReadFault → ⊥ }
+    ensures unanswered { IfErr result IsNoAnswer }
     ensures known { (facts : Facts) → Remembers facts files.now.entries.items files.now.inodes.items → IsKnown facts view.now (λ p. p) (rooted facts) result }
 {
     match files.inode(ROOT) {
@@ -152,6 +158,7 @@ pub(crate) fn locate(
 ) -> Result<Place, Stop<PathStop>>
     ensures no_read { IsErrOf result ReadFault → ⊥ }
     ensures known { (facts : Facts) → facts.names ≡ names → Remembers facts files.now.entries.items files.now.inodes.items → IsKnown facts view.now (λ p. p) (found facts path.now) result }
+    ensures needs { (facts : Facts) → facts.names ≡ names → Remembers facts files.now.entries.items files.now.inodes.items → WhereTold (PathNeeds facts of_any path.now) result }
 {
     let parts = parts(alloc, path)?;
     let root = match root(alloc, files, view) {
@@ -173,6 +180,7 @@ fn targets_in(
 ) -> Result<Vec<Target>, Stop<PathStop>>
     ensures no_read { IsErrOf result ReadFault → ⊥ }
     ensures known { (facts : Facts) → Remembers facts files.now.entries.items files.now.inodes.items → HasEntries facts entries.now → IsKnown facts view.now (λ targets. targets.items) (Ok (targets_by facts (whats entries.now))) result }
+    ensures needs { (facts : Facts) → Remembers facts files.now.entries.items files.now.inodes.items → HasEntries facts entries.now → WhereTold (HaveFiles facts (whats entries.now)) result }
 {
     let mut targets = Vec::new(alloc);
     for entry in entries {
@@ -194,6 +202,7 @@ pub(crate) fn children(
 ) -> Result<Vec<Target>, Stop<PathStop>>
     ensures no_read { IsErrOf result ReadFault → ⊥ }
     ensures known { (facts : Facts) → Remembers facts files.now.entries.items files.now.inodes.items → IsKnown facts view.now (λ targets. targets.items) (Ok (map target_of (children facts id))) result }
+    ensures needs { (facts : Facts) → Remembers facts files.now.entries.items files.now.inodes.items → WhereTold (ChildrenNeed facts of_any id) result }
 {
     let targets = match targets_in(alloc, files, view, files.directory(id)) {
         Ok(targets) => targets,
@@ -213,6 +222,7 @@ pub(crate) fn list(
 ) -> Result<Vec<Target>, Stop<PathStop>>
     ensures no_read { IsErrOf result ReadFault → ⊥ }
     ensures known { (facts : Facts) → facts.names ≡ names → Remembers facts files.now.entries.items files.now.inodes.items → IsKnown facts view.now (λ targets. targets.items) (listing facts path.now) result }
+    ensures needs { (facts : Facts) → facts.names ≡ names → Remembers facts files.now.entries.items files.now.inodes.items → WhereTold (ListingNeeds facts of_any path.now) result }
 {
     let place = match locate(alloc, files, names, view, path) {
         Ok(place) => place,

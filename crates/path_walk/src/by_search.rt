@@ -13,12 +13,13 @@ ghost use Rattle.bt_cursor.specs.Cursors.{site_of, root_of, tree_of, IsOn};
 ghost use Rattle.fs_name.specs.Normal.{are_hashed};
 ghost use Rattle.fs_record.specs.Facts as facts;
 ghost use Rattle.vol_view.specs.Views.{view_tree};
-ghost use Rattle.view_rules.specs.Facts.{facts_in};
+ghost use Rattle.view_rules.specs.Facts.{facts_in, is_directory};
 ghost use Rattle.path_walk.specs.Places.{placed, target_of};
 ghost use Rattle.path_walk.specs.Listing.{children, listed, listing};
 ghost use Rattle.path_walk.specs.Found.{entries_in, step, walk, found};
+ghost use Rattle.path_walk.specs.Needs.{StepNeeds, PathNeeds, ChildrenNeed, ListingNeeds, HaveFiles};
 ghost use Rattle.path_walk.specs.Paths.{is_component, components};
-ghost use Rattle.path_walk.specs.Parts.{whats, by_part, along, target_by, targets_by, Leads};
+ghost use Rattle.path_walk.specs.Parts.{whats, by_part, along, target_by, targets_by, Leads, HasEntriesIn, NeedsIn, PartNeeds, AlongNeeds, WhereLed};
 
 use crate::choice::{choose, parts};
 use crate::kept::{KeptEntry, KeptInode, Place};
@@ -94,6 +95,7 @@ pub(crate) fn directory<K: FsTreeKey, S: BlockSource, N: Namer>(
     ensures tree { tree_of cursor.new ≡ tree_of cursor.old }
     ensures within { (image : List ℕ) → S.bytes src.old ≡ Some image → IsOn image cursor.old → IsOn image cursor.new }
     ensures found { (image : List ℕ) → S.bytes src.old ≡ Some image → IsOn image cursor.old → is_ordered K.shape (line_of (tree_of cursor.old image) (root_of cursor.old)) ≡ true → IfOk result (λ run. IfSome run (λ v. whats v.items ≡ entries_in (facts_in names (flat_of (tree_of cursor.old image) (root_of cursor.old))) id)) }
+    ensures all { (image : List ℕ) → S.bytes src.old ≡ Some image → IsOn image cursor.old → is_ordered K.shape (line_of (tree_of cursor.old image) (root_of cursor.old)) ≡ true → IfOk result (λ run. IfSome run (λ v. HasEntriesIn names (tree_of cursor.old image) (root_of cursor.old) id)) }
     ensures present { (image : List ℕ) → S.bytes src.old ≡ Some image → IsOn image cursor.old → IfErr result (Tells (IsNodeFault (tree_of cursor.old image) (root_of cursor.old)) (HasFeature (tree_of cursor.old image) (root_of cursor.old))) }
     ensures cause { IsErrOf result ReadFault → Rose (S.faults src.old) (S.faults src.new) }
     ensures kept { IsKept S.bytes S.bytes_len S.faults src.old src.new }
@@ -101,10 +103,7 @@ pub(crate) fn directory<K: FsTreeKey, S: BlockSource, N: Namer>(
     if is_reserved(id) {
         return Ok(Some(Vec::new(alloc)));
     }
-    match find_entries(alloc, src, cursor, names, id) {
-        Ok(run) => Ok(run),
-        Err(stop) => Err(stop),
-    }
+    find_entries(alloc, src, cursor, names, id)
 }
 
 // One name on from a place.
@@ -123,6 +122,7 @@ fn go_on<K: FsTreeKey, S: BlockSource, N: Namer>(
     ensures tree { tree_of cursor.new ≡ tree_of cursor.old }
     ensures within { (image : List ℕ) → S.bytes src.old ≡ Some image → IsOn image cursor.old → IsOn image cursor.new }
     ensures leads { (image : List ℕ) → S.bytes src.old ≡ Some image → IsOn image cursor.old → is_ordered K.shape (line_of (tree_of cursor.old image) (root_of cursor.old)) ≡ true → IfOk result (Leads (λ place. place) (step (facts_in names (flat_of (tree_of cursor.old image) (root_of cursor.old))) place.now name.now)) }
+    ensures needs { (image : List ℕ) → S.bytes src.old ≡ Some image → IsOn image cursor.old → is_ordered K.shape (line_of (tree_of cursor.old image) (root_of cursor.old)) ≡ true → IfOk result (WhereLed (NeedsIn (λ facts has_all. StepNeeds facts has_all place.now name.now) names (tree_of cursor.old image) (root_of cursor.old))) }
     ensures present { (image : List ℕ) → S.bytes src.old ≡ Some image → IsOn image cursor.old → IfErr result (Tells (IsNodeFault (tree_of cursor.old image) (root_of cursor.old)) (HasFeature (tree_of cursor.old image) (root_of cursor.old))) }
     ensures cause { IsErrOf result ReadFault → Rose (S.faults src.old) (S.faults src.new) }
     ensures kept { IsKept S.bytes S.bytes_len S.faults src.old src.new }
@@ -167,6 +167,7 @@ fn go_by<K: FsTreeKey, S: BlockSource, N: Namer>(
     ensures tree { tree_of cursor.new ≡ tree_of cursor.old }
     ensures within { (image : List ℕ) → S.bytes src.old ≡ Some image → IsOn image cursor.old → IsOn image cursor.new }
     ensures leads { (image : List ℕ) → S.bytes src.old ≡ Some image → IsOn image cursor.old → is_ordered K.shape (line_of (tree_of cursor.old image) (root_of cursor.old)) ≡ true → IfOk result (Leads (λ place. place) (by_part (facts_in names (flat_of (tree_of cursor.old image) (root_of cursor.old))) place part.now)) }
+    ensures needs { (image : List ℕ) → S.bytes src.old ≡ Some image → IsOn image cursor.old → is_ordered K.shape (line_of (tree_of cursor.old image) (root_of cursor.old)) ≡ true → IfOk result (WhereLed (NeedsIn (λ facts has_all. PartNeeds facts has_all place part.now) names (tree_of cursor.old image) (root_of cursor.old))) }
     ensures present { (image : List ℕ) → S.bytes src.old ≡ Some image → IsOn image cursor.old → IfErr result (Tells (IsNodeFault (tree_of cursor.old image) (root_of cursor.old)) (HasFeature (tree_of cursor.old image) (root_of cursor.old))) }
     ensures cause { IsErrOf result ReadFault → Rose (S.faults src.old) (S.faults src.new) }
     ensures kept { IsKept S.bytes S.bytes_len S.faults src.old src.new }
@@ -174,10 +175,7 @@ fn go_by<K: FsTreeKey, S: BlockSource, N: Namer>(
     if part.is_empty() {
         return Ok(Onward::To(place));
     }
-    match go_on(alloc, src, cursor, names, &place, part) {
-        Ok(onward) => Ok(onward),
-        Err(stop) => Err(stop),
-    }
+    go_on(alloc, src, cursor, names, &place, part)
 }
 
 // All parts of a path on from a place.
@@ -196,6 +194,7 @@ fn go_along<K: FsTreeKey, S: BlockSource, N: Namer>(
     ensures tree { tree_of cursor.new ≡ tree_of cursor.old }
     ensures within { (image : List ℕ) → S.bytes src.old ≡ Some image → IsOn image cursor.old → IsOn image cursor.new }
     ensures leads { (image : List ℕ) → S.bytes src.old ≡ Some image → IsOn image cursor.old → is_ordered K.shape (line_of (tree_of cursor.old image) (root_of cursor.old)) ≡ true → IfOk result (Leads (λ place. place) (along (facts_in names (flat_of (tree_of cursor.old image) (root_of cursor.old))) (map (λ part. part.now) parts.now) start)) }
+    ensures needs { (image : List ℕ) → S.bytes src.old ≡ Some image → IsOn image cursor.old → is_ordered K.shape (line_of (tree_of cursor.old image) (root_of cursor.old)) ≡ true → IfOk result (WhereLed (NeedsIn (λ facts has_all. AlongNeeds facts has_all (map (λ part. part.now) parts.now) start) names (tree_of cursor.old image) (root_of cursor.old))) }
     ensures present { (image : List ℕ) → S.bytes src.old ≡ Some image → IsOn image cursor.old → IfErr result (Tells (IsNodeFault (tree_of cursor.old image) (root_of cursor.old)) (HasFeature (tree_of cursor.old image) (root_of cursor.old))) }
     ensures cause { IsErrOf result ReadFault → Rose (S.faults src.old) (S.faults src.new) }
     ensures kept { IsKept S.bytes S.bytes_len S.faults src.old src.new }
@@ -230,6 +229,7 @@ pub(crate) fn locate<K: FsTreeKey, S: BlockSource, N: Namer>(
     ensures tree { tree_of cursor.new ≡ tree_of cursor.old }
     ensures within { (image : List ℕ) → S.bytes src.old ≡ Some image → IsOn image cursor.old → IsOn image cursor.new }
     ensures leads { (image : List ℕ) → S.bytes src.old ≡ Some image → IsOn image cursor.old → is_ordered K.shape (line_of (tree_of cursor.old image) (root_of cursor.old)) ≡ true → IfOk result (Leads (λ place. place) (found (facts_in names (flat_of (tree_of cursor.old image) (root_of cursor.old))) path.now)) }
+    ensures needs { (image : List ℕ) → S.bytes src.old ≡ Some image → IsOn image cursor.old → is_ordered K.shape (line_of (tree_of cursor.old image) (root_of cursor.old)) ≡ true → IfOk result (WhereLed (NeedsIn (λ facts has_all. PathNeeds facts has_all path.now) names (tree_of cursor.old image) (root_of cursor.old))) }
     ensures present { (image : List ℕ) → S.bytes src.old ≡ Some image → IsOn image cursor.old → IfErr result (Tells (IsNodeFault (tree_of cursor.old image) (root_of cursor.old)) (HasFeature (tree_of cursor.old image) (root_of cursor.old))) }
     ensures cause { IsErrOf result ReadFault → Rose (S.faults src.old) (S.faults src.new) }
     ensures kept { IsKept S.bytes S.bytes_len S.faults src.old src.new }
@@ -268,11 +268,7 @@ fn target_at<K: FsTreeKey, S: BlockSource, N: Namer>(
     ensures cause { IsErrOf result ReadFault → Rose (S.faults src.old) (S.faults src.new) }
     ensures kept { IsKept S.bytes S.bytes_len S.faults src.old src.new }
 {
-    let found = match find_inode(src, cursor, entry.file_id()) {
-        Ok(found) => found,
-        Err(stop) => return Err(stop),
-    };
-    let Some(inode) = found else {
+    let Some(inode) = find_inode(src, cursor, entry.file_id())? else {
         return Ok(None);
     };
     let place = place_of(alloc, entry, inode)?;
@@ -294,6 +290,7 @@ fn targets_at<K: FsTreeKey, S: BlockSource, N: Namer>(
     ensures tree { tree_of cursor.new ≡ tree_of cursor.old }
     ensures within { (image : List ℕ) → S.bytes src.old ≡ Some image → IsOn image cursor.old → IsOn image cursor.new }
     ensures found { (image : List ℕ) → S.bytes src.old ≡ Some image → IsOn image cursor.old → is_ordered K.shape (line_of (tree_of cursor.old image) (root_of cursor.old)) ≡ true → IfOk result (λ found. IfSome found (λ targets. targets.items ≡ targets_by (facts_in names (flat_of (tree_of cursor.old image) (root_of cursor.old))) (whats entries.now))) }
+    ensures needs { (image : List ℕ) → S.bytes src.old ≡ Some image → IsOn image cursor.old → is_ordered K.shape (line_of (tree_of cursor.old image) (root_of cursor.old)) ≡ true → IfOk result (λ found. IfSome found (λ targets. NeedsIn (λ facts has_all. HaveFiles facts (whats entries.now)) names (tree_of cursor.old image) (root_of cursor.old))) }
     ensures present { (image : List ℕ) → S.bytes src.old ≡ Some image → IsOn image cursor.old → IfErr result (Tells (IsNodeFault (tree_of cursor.old image) (root_of cursor.old)) (HasFeature (tree_of cursor.old image) (root_of cursor.old))) }
     ensures cause { IsErrOf result ReadFault → Rose (S.faults src.old) (S.faults src.new) }
     ensures kept { IsKept S.bytes S.bytes_len S.faults src.old src.new }
@@ -327,6 +324,7 @@ fn children<K: FsTreeKey, S: BlockSource, N: Namer>(
     ensures tree { tree_of cursor.new ≡ tree_of cursor.old }
     ensures within { (image : List ℕ) → S.bytes src.old ≡ Some image → IsOn image cursor.old → IsOn image cursor.new }
     ensures found { (image : List ℕ) → S.bytes src.old ≡ Some image → IsOn image cursor.old → is_ordered K.shape (line_of (tree_of cursor.old image) (root_of cursor.old)) ≡ true → IfOk result (λ found. IfSome found (λ targets. targets.items ≡ map target_of (children (facts_in names (flat_of (tree_of cursor.old image) (root_of cursor.old))) id))) }
+    ensures needs { (image : List ℕ) → S.bytes src.old ≡ Some image → IsOn image cursor.old → is_ordered K.shape (line_of (tree_of cursor.old image) (root_of cursor.old)) ≡ true → IfOk result (λ found. IfSome found (λ targets. NeedsIn (λ facts has_all. ChildrenNeed facts has_all id) names (tree_of cursor.old image) (root_of cursor.old))) }
     ensures present { (image : List ℕ) → S.bytes src.old ≡ Some image → IsOn image cursor.old → IfErr result (Tells (IsNodeFault (tree_of cursor.old image) (root_of cursor.old)) (HasFeature (tree_of cursor.old image) (root_of cursor.old))) }
     ensures cause { IsErrOf result ReadFault → Rose (S.faults src.old) (S.faults src.new) }
     ensures kept { IsKept S.bytes S.bytes_len S.faults src.old src.new }
@@ -368,15 +366,13 @@ fn listed<K: FsTreeKey, S: BlockSource, N: Namer>(
     ensures tree { tree_of cursor.new ≡ tree_of cursor.old }
     ensures within { (image : List ℕ) → S.bytes src.old ≡ Some image → IsOn image cursor.old → IsOn image cursor.new }
     ensures found { (image : List ℕ) → S.bytes src.old ≡ Some image → IsOn image cursor.old → is_ordered K.shape (line_of (tree_of cursor.old image) (root_of cursor.old)) ≡ true → IfOk result (λ found. IfSome found (λ targets. targets.items ≡ map target_of (listed (facts_in names (flat_of (tree_of cursor.old image) (root_of cursor.old))) place))) }
+    ensures needs { (image : List ℕ) → S.bytes src.old ≡ Some image → IsOn image cursor.old → is_ordered K.shape (line_of (tree_of cursor.old image) (root_of cursor.old)) ≡ true → IfOk result (λ found. IfSome found (λ targets. NeedsIn (λ facts has_all. is_directory place.inode ≡ true → ChildrenNeed facts has_all place.id) names (tree_of cursor.old image) (root_of cursor.old))) }
     ensures present { (image : List ℕ) → S.bytes src.old ≡ Some image → IsOn image cursor.old → IfErr result (Tells (IsNodeFault (tree_of cursor.old image) (root_of cursor.old)) (HasFeature (tree_of cursor.old image) (root_of cursor.old))) }
     ensures cause { IsErrOf result ReadFault → Rose (S.faults src.old) (S.faults src.new) }
     ensures kept { IsKept S.bytes S.bytes_len S.faults src.old src.new }
 {
     if place.is_directory() {
-        return match children(alloc, src, cursor, names, place.id) {
-            Ok(found) => Ok(found),
-            Err(stop) => Err(stop),
-        };
+        return children(alloc, src, cursor, names, place.id);
     }
     let targets = alone(alloc, place)?;
     Ok(Some(targets))
@@ -397,6 +393,7 @@ pub(crate) fn list<K: FsTreeKey, S: BlockSource, N: Namer>(
     ensures tree { tree_of cursor.new ≡ tree_of cursor.old }
     ensures within { (image : List ℕ) → S.bytes src.old ≡ Some image → IsOn image cursor.old → IsOn image cursor.new }
     ensures leads { (image : List ℕ) → S.bytes src.old ≡ Some image → IsOn image cursor.old → is_ordered K.shape (line_of (tree_of cursor.old image) (root_of cursor.old)) ≡ true → IfOk result (Leads (λ targets. targets.items) (listing (facts_in names (flat_of (tree_of cursor.old image) (root_of cursor.old))) path.now)) }
+    ensures needs { (image : List ℕ) → S.bytes src.old ≡ Some image → IsOn image cursor.old → is_ordered K.shape (line_of (tree_of cursor.old image) (root_of cursor.old)) ≡ true → IfOk result (WhereLed (NeedsIn (λ facts has_all. ListingNeeds facts has_all path.now) names (tree_of cursor.old image) (root_of cursor.old))) }
     ensures present { (image : List ℕ) → S.bytes src.old ≡ Some image → IsOn image cursor.old → IfErr result (Tells (IsNodeFault (tree_of cursor.old image) (root_of cursor.old)) (HasFeature (tree_of cursor.old image) (root_of cursor.old))) }
     ensures cause { IsErrOf result ReadFault → Rose (S.faults src.old) (S.faults src.new) }
     ensures kept { IsKept S.bytes S.bytes_len S.faults src.old src.new }

@@ -15,7 +15,8 @@ ghost use Rattle.view_rules.specs.Facts.{facts_in};
 ghost use Rattle.view_rules.specs.Rules.{view_facts};
 ghost use Rattle.path_walk.specs.Listing.{listing};
 ghost use Rattle.path_walk.specs.Stops.{IsLawful, IsGiven, IsStopThere, IsNoAnswer};
-ghost use Rattle.path_walk.specs.Parts.{Leads};
+ghost use Rattle.path_walk.specs.Needs.{HasEntriesOf, ListingNeeds, RestsOn};
+ghost use Rattle.path_walk.specs.Parts.{Leads, NeedsIn, WhereLed};
 
 use crate::onward::Onward;
 use crate::whole::{gather_view, raise};
@@ -39,6 +40,7 @@ fn search_by<K: FsTreeKey, S: BlockSource>(
     requires site { IsSiteFor site.now (S.bytes_len src.old) }
     requires hashed { are_hashed volume.now.names ≡ K.HASHED }
     ensures leads { (image : List ℕ) → S.bytes src.old ≡ Some image → is_ordered K.shape (line_of (view_tree K.shape image site.now volume.now view.now) view.now.root_oid) ≡ true → IfOk result (Leads (λ targets. targets.items) (listing (facts_in volume.now.names (flat_of (view_tree K.shape image site.now volume.now view.now) view.now.root_oid)) path.now)) }
+    ensures needs { (image : List ℕ) → S.bytes src.old ≡ Some image → is_ordered K.shape (line_of (view_tree K.shape image site.now volume.now view.now) view.now.root_oid) ≡ true → IfOk result (WhereLed (NeedsIn (λ facts has_all. ListingNeeds facts has_all path.now) volume.now.names (view_tree K.shape image site.now volume.now view.now) view.now.root_oid)) }
     ensures present { (image : List ℕ) → S.bytes src.old ≡ Some image → IfErr result (Tells (IsNodeFault (view_tree K.shape image site.now volume.now view.now) view.now.root_oid) (HasFeature (view_tree K.shape image site.now volume.now view.now) view.now.root_oid)) }
     ensures cause { IsErrOf result ReadFault → Rose (S.faults src.old) (S.faults src.new) }
     ensures kept { IsKept S.bytes S.bytes_len S.faults src.old src.new }
@@ -64,6 +66,7 @@ fn search<S: BlockSource>(
 ) -> Result<Onward<Vec<Target>>, Stop<PathStop>>
     requires site { IsSiteFor site.now (S.bytes_len src.old) }
     ensures leads { (image : List ℕ) → S.bytes src.old ≡ Some image → is_view_ordered image site.now volume.now view.now ≡ true → IfOk result (Leads (λ targets. targets.items) (listing (view_facts image site.now volume.now view.now) path.now)) }
+    ensures needs { (image : List ℕ) → S.bytes src.old ≡ Some image → is_view_ordered image site.now volume.now view.now ≡ true → IfOk result (WhereLed (ListingNeeds (view_facts image site.now volume.now view.now) (HasEntriesOf image site.now volume.now view.now) path.now)) }
     ensures present { (image : List ℕ) → S.bytes src.old ≡ Some image → IfErr result (IsStopThere image site.now volume.now view.now) }
     ensures unanswered { IfErr result IsNoAnswer }
     ensures cause { IsErrOf result ReadFault → Rose (S.faults src.old) (S.faults src.new) }
@@ -93,6 +96,7 @@ fn list_whole<S: BlockSource>(
 ) -> Result<Vec<Target>, Stop<PathStop>>
     requires site { IsSiteFor site.now (S.bytes_len src.old) }
     ensures exact { (image : List ℕ) → S.bytes src.old ≡ Some image → IsLawful image site.now volume.now view.now → IsGiven (λ targets. targets.items) (listing (view_facts image site.now volume.now view.now) path.now) result }
+    ensures rests { (image : List ℕ) → S.bytes src.old ≡ Some image → RestsOn (λ targets. targets.items) (listing (view_facts image site.now volume.now view.now) path.now) (ListingNeeds (view_facts image site.now volume.now view.now) (HasEntriesOf image site.now volume.now view.now) path.now) result }
     ensures present { (image : List ℕ) → S.bytes src.old ≡ Some image → IfErr result (IsStopThere image site.now volume.now view.now) }
     ensures cause { IsErrOf result ReadFault → Rose (S.faults src.old) (S.faults src.new) }
     ensures kept { IsKept S.bytes S.bytes_len S.faults src.old src.new }
@@ -120,6 +124,7 @@ pub fn list<S: BlockSource>(
 ) -> Result<Vec<Target>, Stop<PathStop>>
     requires site { IsSiteFor site.now (S.bytes_len src.old) }
     ensures exact { (image : List ℕ) → S.bytes src.old ≡ Some image → IsLawful image site.now volume.now view.now → IsGiven (λ targets. targets.items) (listing (view_facts image site.now volume.now view.now) path.now) result }
+    ensures rests { (image : List ℕ) → S.bytes src.old ≡ Some image → is_view_ordered image site.now volume.now view.now ≡ true → RestsOn (λ targets. targets.items) (listing (view_facts image site.now volume.now view.now) path.now) (ListingNeeds (view_facts image site.now volume.now view.now) (HasEntriesOf image site.now volume.now view.now) path.now) result }
     ensures present { (image : List ℕ) → S.bytes src.old ≡ Some image → IfErr result (IsStopThere image site.now volume.now view.now) }
     ensures cause { IsErrOf result ReadFault → Rose (S.faults src.old) (S.faults src.new) }
     ensures kept { IsKept S.bytes S.bytes_len S.faults src.old src.new }

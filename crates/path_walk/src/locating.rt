@@ -15,7 +15,8 @@ ghost use Rattle.view_rules.specs.Facts.{facts_in};
 ghost use Rattle.view_rules.specs.Rules.{view_facts};
 ghost use Rattle.path_walk.specs.Found.{found, target_found};
 ghost use Rattle.path_walk.specs.Stops.{IsLawful, IsGiven, IsStopThere, IsNoAnswer};
-ghost use Rattle.path_walk.specs.Parts.{Leads};
+ghost use Rattle.path_walk.specs.Needs.{HasEntriesOf, PathNeeds, RestsOn};
+ghost use Rattle.path_walk.specs.Parts.{Leads, NeedsIn, WhereLed};
 
 use crate::kept::Place;
 use crate::onward::Onward;
@@ -40,6 +41,7 @@ fn search_by<K: FsTreeKey, S: BlockSource>(
     requires site { IsSiteFor site.now (S.bytes_len src.old) }
     requires hashed { are_hashed volume.now.names ≡ K.HASHED }
     ensures leads { (image : List ℕ) → S.bytes src.old ≡ Some image → is_ordered K.shape (line_of (view_tree K.shape image site.now volume.now view.now) view.now.root_oid) ≡ true → IfOk result (Leads (λ place. place) (found (facts_in volume.now.names (flat_of (view_tree K.shape image site.now volume.now view.now) view.now.root_oid)) path.now)) }
+    ensures needs { (image : List ℕ) → S.bytes src.old ≡ Some image → is_ordered K.shape (line_of (view_tree K.shape image site.now volume.now view.now) view.now.root_oid) ≡ true → IfOk result (WhereLed (NeedsIn (λ facts has_all. PathNeeds facts has_all path.now) volume.now.names (view_tree K.shape image site.now volume.now view.now) view.now.root_oid)) }
     ensures present { (image : List ℕ) → S.bytes src.old ≡ Some image → IfErr result (Tells (IsNodeFault (view_tree K.shape image site.now volume.now view.now) view.now.root_oid) (HasFeature (view_tree K.shape image site.now volume.now view.now) view.now.root_oid)) }
     ensures cause { IsErrOf result ReadFault → Rose (S.faults src.old) (S.faults src.new) }
     ensures kept { IsKept S.bytes S.bytes_len S.faults src.old src.new }
@@ -65,6 +67,7 @@ fn search<S: BlockSource>(
 ) -> Result<Onward<Place>, Stop<PathStop>>
     requires site { IsSiteFor site.now (S.bytes_len src.old) }
     ensures leads { (image : List ℕ) → S.bytes src.old ≡ Some image → is_view_ordered image site.now volume.now view.now ≡ true → IfOk result (Leads (λ place. place) (found (view_facts image site.now volume.now view.now) path.now)) }
+    ensures needs { (image : List ℕ) → S.bytes src.old ≡ Some image → is_view_ordered image site.now volume.now view.now ≡ true → IfOk result (WhereLed (PathNeeds (view_facts image site.now volume.now view.now) (HasEntriesOf image site.now volume.now view.now) path.now)) }
     ensures present { (image : List ℕ) → S.bytes src.old ≡ Some image → IfErr result (IsStopThere image site.now volume.now view.now) }
     ensures unanswered { IfErr result IsNoAnswer }
     ensures cause { IsErrOf result ReadFault → Rose (S.faults src.old) (S.faults src.new) }
@@ -94,6 +97,7 @@ fn locate_whole<S: BlockSource>(
 ) -> Result<Place, Stop<PathStop>>
     requires site { IsSiteFor site.now (S.bytes_len src.old) }
     ensures exact { (image : List ℕ) → S.bytes src.old ≡ Some image → IsLawful image site.now volume.now view.now → IsGiven (λ place. place) (found (view_facts image site.now volume.now view.now) path.now) result }
+    ensures rests { (image : List ℕ) → S.bytes src.old ≡ Some image → RestsOn (λ place. place) (found (view_facts image site.now volume.now view.now) path.now) (PathNeeds (view_facts image site.now volume.now view.now) (HasEntriesOf image site.now volume.now view.now) path.now) result }
     ensures present { (image : List ℕ) → S.bytes src.old ≡ Some image → IfErr result (IsStopThere image site.now volume.now view.now) }
     ensures cause { IsErrOf result ReadFault → Rose (S.faults src.old) (S.faults src.new) }
     ensures kept { IsKept S.bytes S.bytes_len S.faults src.old src.new }
@@ -119,6 +123,7 @@ pub fn locate<S: BlockSource>(
 ) -> Result<Place, Stop<PathStop>>
     requires site { IsSiteFor site.now (S.bytes_len src.old) }
     ensures exact { (image : List ℕ) → S.bytes src.old ≡ Some image → IsLawful image site.now volume.now view.now → IsGiven (λ place. place) (found (view_facts image site.now volume.now view.now) path.now) result }
+    ensures rests { (image : List ℕ) → S.bytes src.old ≡ Some image → is_view_ordered image site.now volume.now view.now ≡ true → RestsOn (λ place. place) (found (view_facts image site.now volume.now view.now) path.now) (PathNeeds (view_facts image site.now volume.now view.now) (HasEntriesOf image site.now volume.now view.now) path.now) result }
     ensures present { (image : List ℕ) → S.bytes src.old ≡ Some image → IfErr result (IsStopThere image site.now volume.now view.now) }
     ensures cause { IsErrOf result ReadFault → Rose (S.faults src.old) (S.faults src.new) }
     ensures kept { IsKept S.bytes S.bytes_len S.faults src.old src.new }
@@ -153,6 +158,7 @@ pub fn find<S: BlockSource>(
 ) -> Result<Target, Stop<PathStop>>
     requires site { IsSiteFor site.now (S.bytes_len src.old) }
     ensures exact { (image : List ℕ) → S.bytes src.old ≡ Some image → IsLawful image site.now volume.now view.now → IsGiven (λ target. target) (target_found (view_facts image site.now volume.now view.now) path.now) result }
+    ensures rests { (image : List ℕ) → S.bytes src.old ≡ Some image → is_view_ordered image site.now volume.now view.now ≡ true → RestsOn (λ target. target) (target_found (view_facts image site.now volume.now view.now) path.now) (PathNeeds (view_facts image site.now volume.now view.now) (HasEntriesOf image site.now volume.now view.now) path.now) result }
     ensures present { (image : List ℕ) → S.bytes src.old ≡ Some image → IfErr result (IsStopThere image site.now volume.now view.now) }
     ensures cause { IsErrOf result ReadFault → Rose (S.faults src.old) (S.faults src.new) }
     ensures kept { IsKept S.bytes S.bytes_len S.faults src.old src.new }

@@ -11,14 +11,14 @@ ghost use Rattle.bt_keys.specs.RecordKey.{is_fs_key, record_kind_of, entry_recor
 ghost use Rattle.bt_cursor.specs.Flat.{flat_of};
 ghost use Rattle.bt_cursor.specs.Line.{line_of};
 ghost use Rattle.bt_cursor.specs.Order.{is_ordered};
-ghost use Rattle.bt_cursor.specs.From.{run_in};
+ghost use Rattle.bt_cursor.specs.From.{run_in, is_of_kind};
 ghost use Rattle.bt_cursor.specs.Faults.{IsNodeFault, HasFeature};
-ghost use Rattle.bt_cursor.specs.Cursors.{site_of, root_of, tree_of, left_of, fuel_of, IsOn};
+ghost use Rattle.bt_cursor.specs.Cursors.{site_of, root_of, tree_of, left_of, gapped_left_of, fuel_of, IsOn};
 ghost use Rattle.fs_name.specs.Normal.{are_hashed};
 ghost use Rattle.fs_record.specs.Inodes.{inode_of};
 ghost use Rattle.fs_record.specs.Facts as facts;
 ghost use Rattle.fs_record.specs.Facts.{all_for, first_for, entries_of, inodes_of};
-ghost use Rattle.path_walk.specs.Parts.{is_of, whats, run_entries, first_inode, Takes, TakesNext};
+ghost use Rattle.path_walk.specs.Parts.{whats, run_entries, first_inode, Takes, TakesNext, IsOfRun, are_whole, GoesWhole, HasKindIn};
 ghost use Rattle.path_walk.specs.Pairs.{pair_by};
 ghost use Rattle.path_walk.specs.declared.search.Took.TheVariants.{One};
 
@@ -58,7 +58,7 @@ fn bytes(value: Option<&[u8]>) -> &[u8]
 #[tactic(auto, using(bt_cursor::proofs::Steps::rank_read))]
 fn is_in_run<K: FsTreeKey>(pair: &Entry<'_, K>, id: u64, kind: u8) -> bool
     requires { K.shape.read pair.now.key_bytes.now ≡ Some pair.now.key }
-    ensures run { result ≡ run_in K.shape (is_of id kind) (pair_by pair.now.key_bytes.now (option_map (λ v. v.now) pair.now.value)) }
+    ensures run { result ≡ run_in K.shape (is_of_kind id kind) (pair_by pair.now.key_bytes.now (option_map (λ v. v.now) pair.now.value)) }
     ensures kind { result ≡ true → (K.shape.rank pair.now.key).kind ≡ kind }
 {
     pair.key.id() == id && pair.key.kind() == kind
@@ -112,7 +112,8 @@ fn take<K: FsTreeKey>(
 ) -> Result<Took, NoMemory>
     requires hashed { are_hashed names ≡ K.HASHED }
     requires read { K.shape.read pair.now.key_bytes.now ≡ Some pair.now.key }
-    ensures { IfOk result (Takes K.shape names id (pair_by pair.now.key_bytes.now (option_map (λ v. v.now) pair.now.value)) (whats taken.old.items) (whats taken.new.items)) }
+    ensures run { IfOk result (IsOfRun K.shape id (pair_by pair.now.key_bytes.now (option_map (λ v. v.now) pair.now.value))) }
+    ensures takes { IfOk result (Takes K.shape names id (pair_by pair.now.key_bytes.now (option_map (λ v. v.now) pair.now.value)) (whats taken.old.items) (whats taken.new.items)) }
 {
     if !is_in_run::<K>(pair, id, kinds::ENTRY) {
         return Ok(Took::End);
@@ -144,6 +145,7 @@ fn take_next<K: FsTreeKey, S: BlockSource, N: Namer>(
     ensures root { root_of cursor.new ≡ root_of cursor.old }
     ensures tree { tree_of cursor.new ≡ tree_of cursor.old }
     ensures within { (image : List ℕ) → S.bytes src.old ≡ Some image → IsOn image cursor.old → IsOn image cursor.new }
+    ensures whole { (image : List ℕ) → S.bytes src.old ≡ Some image → IfOk result (GoesWhole K.shape id (gapped_left_of cursor.old image) (gapped_left_of cursor.new image)) }
     ensures taken { (image : List ℕ) → S.bytes src.old ≡ Some image → IfOk result (TakesNext K.shape names id (left_of cursor.old image) (left_of cursor.new image) (whats taken.old.items) (whats taken.new.items)) }
     ensures present { (image : List ℕ) → S.bytes src.old ≡ Some image → IsOn image cursor.old → IfErr result (Tells (IsNodeFault (tree_of cursor.old image) (root_of cursor.old)) (HasFeature (tree_of cursor.old image) (root_of cursor.old))) }
     ensures fuel { IfOk result (λ took. took ≡ One → fuel_of cursor.new < fuel_of cursor.old) }
@@ -175,6 +177,7 @@ fn take_run<K: FsTreeKey, S: BlockSource, N: Namer>(
     ensures root { root_of cursor.new ≡ root_of cursor.old }
     ensures tree { tree_of cursor.new ≡ tree_of cursor.old }
     ensures within { (image : List ℕ) → S.bytes src.old ≡ Some image → IsOn image cursor.old → IsOn image cursor.new }
+    ensures whole { (image : List ℕ) → S.bytes src.old ≡ Some image → IfOk result (λ run. IfSome run (λ v. are_whole K.shape id (gapped_left_of cursor.old image) ≡ true)) }
     ensures taken { (image : List ℕ) → S.bytes src.old ≡ Some image → IfOk result (λ run. run_entries K.shape names id [] (left_of cursor.old image) ≡ option_map (λ v. whats v.items) run) }
     ensures present { (image : List ℕ) → S.bytes src.old ≡ Some image → IsOn image cursor.old → IfErr result (Tells (IsNodeFault (tree_of cursor.old image) (root_of cursor.old)) (HasFeature (tree_of cursor.old image) (root_of cursor.old))) }
     ensures cause { IsErrOf result ReadFault → Rose (S.faults src.old) (S.faults src.new) }
@@ -210,6 +213,7 @@ pub(crate) fn find_entries<K: FsTreeKey, S: BlockSource, N: Namer>(
     ensures tree { tree_of cursor.new ≡ tree_of cursor.old }
     ensures within { (image : List ℕ) → S.bytes src.old ≡ Some image → IsOn image cursor.old → IsOn image cursor.new }
     ensures found { (image : List ℕ) → S.bytes src.old ≡ Some image → IsOn image cursor.old → is_ordered K.shape (line_of (tree_of cursor.old image) (root_of cursor.old)) ≡ true → IfOk result (λ run. IfSome run (λ v. whats v.items ≡ all_for id (entries_of names (flat_of (tree_of cursor.old image) (root_of cursor.old))))) }
+    ensures all { (image : List ℕ) → S.bytes src.old ≡ Some image → IsOn image cursor.old → is_ordered K.shape (line_of (tree_of cursor.old image) (root_of cursor.old)) ≡ true → IfOk result (λ run. IfSome run (λ v. HasKindIn names (tree_of cursor.old image) (root_of cursor.old) id entry_record)) }
     ensures present { (image : List ℕ) → S.bytes src.old ≡ Some image → IsOn image cursor.old → IfErr result (Tells (IsNodeFault (tree_of cursor.old image) (root_of cursor.old)) (HasFeature (tree_of cursor.old image) (root_of cursor.old))) }
     ensures cause { IsErrOf result ReadFault → Rose (S.faults src.old) (S.faults src.new) }
     ensures kept { IsKept S.bytes S.bytes_len S.faults src.old src.new }

@@ -9,6 +9,7 @@ ghost use Rattle.view_rules.specs.Rules as rules;
 ghost use Rattle.vol_view.specs.Views.{view_line};
 ghost use Rattle.view_rules.specs.Rules.{view_facts, HasRecords};
 ghost use Rattle.path_walk.specs.Stops.{IsStopThere, of_walk, IsNoAnswer, IsOfRecords};
+ghost use Rattle.path_walk.specs.Needs.{HasAll};
 ghost use Rattle.path_walk.specs.Parts.{Remembers, IsSurveyed};
 ghost use Rattle.path_walk.specs.declared.stop.PathStop.TheVariants as stops;
 ghost use Rattle.view_rules.specs.declared.fault.TreeFault.{TreeFault};
@@ -132,6 +133,7 @@ pub fn gather_view<S: BlockSource>(
 ) -> Result<Files, Stop<PathStop>>
     requires site { IsSiteFor site.now (S.bytes_len src.old) }
     ensures clear { (image : List ℕ) → S.bytes src.old ≡ Some image → IfOk result (λ files. Remembers (view_facts image site.now volume.now view.now) files.entries.items files.inodes.items) }
+    ensures rests { (image : List ℕ) → S.bytes src.old ≡ Some image → IfOk result (λ files. HasAll image site.now volume.now view.now) }
     ensures present { (image : List ℕ) → S.bytes src.old ≡ Some image → IfErr result (IsStopThere image site.now volume.now view.now) }
     ensures unanswered { IfErr result IsNoAnswer }
     ensures walked { (fault : TreeFault) → IsErrOf result (Found (stops.Fault fault)) → IsOfRecords view.now fault }

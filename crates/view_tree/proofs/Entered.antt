@@ -1,7 +1,6 @@
 -- Directories that a tree enters, its rows one by one, and what stops it.
-use Rattle.std.proofs.Common.{◌≡◌, ◌==◌, ◌&&◌, get_or, ℕ, suc, ◌+◌, ◌-◌, ◌<◌, ◌≤◌, Bool, true, false, cond, List, [], ◌∷◌, ◌++◌, length, map, reverse, Option, Some, None, Result, Ok, Err, ◌⊎◌, inl, inr, refl, ap, sym, ◌∙◌, subst, arith, append_assoc, append-nil, length-append}
+use Rattle.std.proofs.Common.{◌≡◌, ◌==◌, ◌&&◌, get_or, ℕ, suc, ◌+◌, ◌-◌, ◌<◌, ◌≤◌, Bool, true, false, cond, List, [], ◌∷◌, ◌++◌, length, map, reverse, Option, Some, Result, Ok, Err, ◌⊎◌, inl, inr, refl, ap, sym, ◌∙◌, subst, arith, append_assoc, append-nil, length-append}
 use Rattle.std.specs.Prelude.{filter_map, slice_get, nat_le}
-use Rattle.std.specs.Option.{ok_or}
 use Rattle.std.proofs.lemmas.List.{reverse-append, map-append}
 use Rattle.apfs_model.specs.Lists.{In, and_then, passes}
 use Rattle.apfs_model.proofs.BoolTests.{both-true, left-true, right-true, from-below}
@@ -20,26 +19,25 @@ use Rattle.view_rules.specs.Rules.{view_facts, IsTreeFault}
 use Rattle.view_rules.specs.declared.fault.TreeFault.{TreeFault}
 use Rattle.view_rules.proofs.Law.{refutes}
 use Rattle.path_walk.specs.Paths.{slash, is_component}
-use Rattle.path_walk.specs.Places.{Place, root_of, target_of}
+use Rattle.path_walk.specs.Places.{Place, target_of}
 use Rattle.path_walk.specs.Found.{entries_in, place_by, found, number_named}
 use Rattle.path_walk.specs.Listing.{children}
 use Rattle.view_tree.specs.Met.{spot_in, is_user_id, IsEntered, own, below, IsEntryOf, IsMet}
 use Rattle.path_walk.specs.Stops.{IsLawful, IsPathFault, IsGiven, IsStopThere}
 use Rattle.view_tree.specs.Told.{IsTold}
 use Rattle.view_tree.specs.Tree.{rows_below, rows_at, lone_row, row_told, tree}
-use Rattle.path_walk.specs.Parts.{whats, rooted, IsLack, IsKnown, IsPlaceKnown}
+use Rattle.path_walk.specs.Parts.{whats, IsLack, IsKnown, IsPlaceKnown, WhereTold}
 use Rattle.view_tree.specs.Parts.{IsUnderway, HasAll, IsTaken, is_opened_target, told_after, told_of, told_under, told_from, IsRepeat, IsTreeKnown, IsTreeStop, RowsEntered}
 use Rattle.path_walk.specs.declared.answer.Answer.{Answer}
-use Rattle.path_walk.specs.declared.answer.Answer.TheVariants.{NotFound}
 use Rattle.path_walk.specs.declared.stop.PathStop.{PathStop}
 use Rattle.path_walk.specs.declared.stop.PathStop.TheVariants as stops
 use Rattle.path_walk.specs.declared.target.Target.{Target}
 use Rattle.path_walk.proofs.Tallies.{in-given, in-by}
 use Rattle.path_walk.proofs.Entries.{place-file}
 use Rattle.view_tree.proofs.Laws.{met_twice_is_there}
-use Rattle.path_walk.proofs.Laws.{ok-err}
 use Rattle.path_walk.proofs.Known.{lack_entry, known_there}
 use Rattle.view_tree.proofs.Told.{rows_told, told_none}
+use Rattle.path_walk.specs.Needs.{RestsOn}
 use Rattle.view_tree.proofs.Memos.{entry_of, met_under, user_of}
 
 -- ---- directories that are entered
@@ -153,6 +151,24 @@ tree_ends facts view path shows wanted sees whole (Unsupported feature block) go
 tree_ends facts view path shows wanted sees whole ReadFault goes known = absurd known
 tree_ends facts view path shows wanted sees whole NoMemory goes known = tt
 
+pub tree_err : {T U : Type 0} (facts : Facts) (view : View) (path : List ℕ) (shows : T → U) (wanted : Result U Answer) (stop : Stop PathStop) (a : Answer) → IsTreeKnown {T = T} facts view path shows wanted (Err stop) → stop ≡ Found (stops.Answer a) → wanted ≡ Err a
+tree_err {T} facts view path shows wanted stop a known e = subst (λ (s : Stop PathStop). IsTreeKnown {T = T} facts view path shows wanted (Err s)) e known
+
+pub stop_untold : (T : Type 0) (facts : Facts) (view : View) (path : List ℕ) (P : Type 0) (stop : Stop PathStop) → IsTreeStop facts view path stop → WhereTold {T = T} P (Err stop)
+stop_untold T facts view path P (Found (stops.Answer a)) known = absurd known
+stop_untold T facts view path P (Found (stops.Fault fault)) known = tt
+stop_untold T facts view path P (Unsupported feature block) known = tt
+stop_untold T facts view path P ReadFault known = tt
+stop_untold T facts view path P NoMemory known = tt
+
+pub tree_rests : {T U : Type 0} (facts : Facts) (view : View) (path : List ℕ) (shows : T → U) (wanted : Result U Answer) (needs : Type 0) (result : Result T (Stop PathStop)) → IsTreeKnown facts view path shows wanted result → WhereTold needs result → RestsOn shows wanted needs result
+tree_rests facts view path shows wanted needs (Ok x) known h = (known, h)
+tree_rests facts view path shows wanted needs (Err (Found (stops.Answer a))) known h = (known, h)
+tree_rests facts view path shows wanted needs (Err (Found (stops.Fault fault))) known h = tt
+tree_rests facts view path shows wanted needs (Err (Unsupported feature block)) known h = tt
+tree_rests facts view path shows wanted needs (Err ReadFault) known h = tt
+tree_rests facts view path shows wanted needs (Err NoMemory) known h = tt
+
 -- ---- the tree of a path
 pub tree_answered : (facts : Facts) (path : List ℕ) (a : Answer) → found facts path ≡ Err a → tree facts path ≡ Err a
 tree_answered facts path a e = ap (λ (r : Result Place Answer). and_then {T = Place} {U = List (List ℕ × Target)} r (λ (p : Place). Ok (map row_told (rows_at facts p)))) e
@@ -236,13 +252,6 @@ met_part facts path names id part next es taken number opened named gives some s
     component-some : (p : List ℕ) → (length p == 0) ≡ false → is_component p ≡ true
     component-some [] e = absurd cc
     component-some (b ∷ bs) e = from-below 0 (length (b ∷ bs)) (omega arith)
-
-pub rooted_some : (facts : Facts) (root : Place) → rooted facts ≡ Ok root → root_of facts ≡ Some root
-rooted_some facts root e = some-placed (root_of facts) root e
-  where
-    some-placed : (o : Option Place) (p : Place) → ok_or o NotFound ≡ Ok p → o ≡ Some p
-    some-placed None p e = absurd (ok-err p NotFound (sym e))
-    some-placed (Some q) p e = let s : q ≡ p = cc in ap Some s
 
 -- ---- rows that are put on others
 pub put_step : {X Y : Type 0} (f : X → Y) (ts rest : List X) (t : X) (left next : List Y) (row : Y) (whole : List Y) → ts ≡ rest ++ t ∷ [] → row ≡ f t → next ≡ left ++ row ∷ [] → map f ts ++ reverse left ≡ whole → map f rest ++ reverse next ≡ whole

@@ -1,5 +1,5 @@
 -- Spots that stay kept, and what a tree that was told can't have met twice.
-use Rattle.std.proofs.Common.{◌≡◌, ◌==◌, ◌&&◌, ℕ, zero, suc, ◌+◌, ◌<◌, Bool, true, false, cond, List, [], ◌∷◌, ◌++◌, length, get_or, Option, Some, None, Result, Ok, ◌⊎◌, inl, inr, refl, ap, ap₂, sym, ◌∙◌, subst, arith}
+use Rattle.std.proofs.Common.{◌≡◌, ◌==◌, ◌&&◌, ℕ, zero, suc, ◌<◌, Bool, true, false, cond, List, [], ◌∷◌, ◌++◌, length, get_or, Option, Some, None, Result, Ok, ◌⊎◌, inl, inr, refl, ap, ap₂, sym, ◌∙◌, subst, arith}
 use Rattle.std.specs.Prelude.{filter, option_map, slice_get, nat_le}
 use Rattle.std.specs.List.{cons_option}
 use Rattle.std.specs.Ordering.{nat_cmp}
@@ -11,17 +11,18 @@ use Rattle.fs_name.specs.declared.naming.Names.{Names}
 use Rattle.fs_record.specs.Inodes.{Inode}
 use Rattle.fs_record.specs.Entries.{Entry}
 use Rattle.fs_record.specs.Facts.{Fact, first_user_id}
-use Rattle.view_rules.specs.Facts.{Facts, inode_at, is_directory, has_directory}
+use Rattle.view_rules.specs.Facts.{Facts, inode_at, has_inode, is_directory, has_directory}
 use Rattle.path_walk.specs.Paths.{is_component, parts_of, components}
 use Rattle.path_walk.specs.Places.{Place, root_of, target_of}
 use Rattle.path_walk.specs.Found.{entries_in, place_by, step, found, number_named}
 use Rattle.view_tree.specs.Tree.{lone_row, row_told}
-use Rattle.view_tree.specs.Met.{Spot, spot_in, spot_named, taken_from, taken, is_user_id, IsEntryOf, IsShown, IsShownAt, IsShownTwice}
+use Rattle.view_tree.specs.Met.{Spot, spot_in, spot_named, taken_from, taken, is_user_id, IsEntryOf, IsShown, IsShownAt, IsShownTwice, HaveMetFiles}
 use Rattle.path_walk.specs.Parts.{whats, by_part}
 use Rattle.view_tree.specs.Parts.{is_opened_target, HasAll, IsTaken, IsKeptAt, AreKeptIn, AreRowsKept, StaysKept, KeepsTaken, KeepsFrom, KeepsPath}
 use Rattle.path_walk.specs.declared.answer.Answer.{Answer}
 use Rattle.path_walk.specs.declared.target.Target.{Target}
 use Rattle.path_walk.proofs.Entries.{place-file}
+use Rattle.path_walk.proofs.Needed.{has_file}
 use Rattle.view_tree.proofs.Memos.{same_number, entry_of, step_directory}
 
 -- ---- what stays
@@ -42,7 +43,7 @@ pub stays_on : (a b c : BTreeMap ℕ (ℕ × ℕ)) → StaysKept a b → StaysKe
 stays_on a b c first second id s there = second id s (first id s there)
 
 pub at_stays : (facts : Facts) (old new : BTreeMap ℕ (ℕ × ℕ)) (spot : Spot) → StaysKept old new → IsKeptAt facts old spot → IsKeptAt facts new spot
-at_stays facts old new spot stays kept id entry user = stays id (spot.id, spot.number) (kept id entry user)
+at_stays facts old new spot stays kept id entry = let k = kept id entry in (k.0, λ user. stays id (spot.id, spot.number) (k.1 user))
 
 pub in_stays : (facts : Facts) (old new : BTreeMap ℕ (ℕ × ℕ)) (id : ℕ) → StaysKept old new → AreKeptIn facts old id → AreKeptIn facts new id
 in_stays facts old new id stays kept number = at_stays facts old new (spot_in id number) stays (kept number)
@@ -82,12 +83,12 @@ opened-of facts place at user =
 -- an entry of a directory that is entered, once it is met
 pub entry_kept : (facts : Facts) (memo : BTreeMap ℕ (ℕ × ℕ)) (id number : ℕ) (es : List (Fact Entry)) (e : Fact Entry) (place : Place) (target : Target) (opened : Bool) →
     HasAll facts id es → number < length es → e ≡ get_or es number e → place_by facts e.what ≡ Some place → target ≡ target_of place → opened ≡ is_opened_target target → (opened ≡ true → get nat_cmp memo target.id ≡ Some (id, number)) → IsKeptAt facts memo (spot_in id number)
-entry_kept facts memo id number es e place target opened all low at there same test holds f entry user =
+entry_kept facts memo id number es e place target opened all low at there same test holds f entry =
     let file = place-file facts e.what place there in
     let is : target.id ≡ place.id = ap (λ (t : Target). t.id) same in
     let names : place.id ≡ f = file.0 ∙ same-file facts (spot_in id number) e.what.file_id f (entry_of facts id number es e all low at) entry in
-    let opens : is_opened_target (target_of place) ≡ true = opened-of facts place file.1 (ap (is_user_id facts) names ∙ user) in
-    subst (λ i. get nat_cmp memo i ≡ Some (id, number)) (is ∙ names) (holds (test ∙ (ap is_opened_target same ∙ opens)))
+    let opens : is_user_id facts f ≡ true → is_opened_target (target_of place) ≡ true = λ user. opened-of facts place file.1 (ap (is_user_id facts) names ∙ user) in
+    (ap (has_inode facts) (sym names) ∙ has_file facts place.id place.inode file.1, λ user. subst (λ i. get nat_cmp memo i ≡ Some (id, number)) (is ∙ names) (holds (test ∙ (ap is_opened_target same ∙ opens user))))
 
 what-low : (fs : List (Fact Entry)) (i : ℕ) (x : Entry) → slice_get (whats fs) i ≡ Some x → i < length fs
 what-low [] i x e = absurd cc
@@ -96,9 +97,9 @@ what-low (f ∷ fs) (suc i) x e = omega (arith, what-low fs i x e)
 
 -- all of them
 pub all_kept : (facts : Facts) (memo : BTreeMap ℕ (ℕ × ℕ)) (id n : ℕ) (es : List (Fact Entry)) → HasAll facts id es → n ≡ length es → ((k : ℕ) → k < n → IsKeptAt facts memo (spot_in id k)) → AreKeptIn facts memo id
-all_kept facts memo id n es all end each k f entry user =
+all_kept facts memo id n es all end each k f entry =
     let low : k < length es = what-low es k entry.entry (ap (λ (l : List Entry). slice_get l k) all.all ∙ entry.there) in
-    each k (omega (arith, low)) f entry user
+    each k (omega (arith, low)) f entry
 
 -- ---- the entries that a path takes
 none-taken : (n : ℕ) (o : Option ℕ) → o ≡ None → o ≡ Some n → ⊥
@@ -127,14 +128,14 @@ part_empty facts memo id part none component n there = absurd (none-component pa
 pub part_kept : (facts : Facts) (memo : BTreeMap ℕ (ℕ × ℕ)) (path : List ℕ) (names : Names) (id : ℕ) (part : List ℕ) (next : Place) (es : List (Fact Entry)) (taken_number : Option ℕ) (number : ℕ) (opened : Bool) →
     facts.names ≡ names → IsTaken facts path id part next → whats es ≡ entries_in facts id → taken_number ≡ number_named names part (whats es) → taken_number ≡ Some number → opened ≡ (is_directory next.inode && nat_le first_user_id next.id) →
     (opened ≡ true → get nat_cmp memo next.id ≡ Some (id, number)) → KeepsTaken facts memo id part
-part_kept facts memo path names id part next es taken_number number opened named gives same chosen is test holds component n there f entry user =
+part_kept facts memo path names id part next es taken_number number opened named gives same chosen is test holds component n there f entry =
     let t = gives component n there in
     let other : taken_number ≡ Some n = number-taken facts names id part es taken_number n named same chosen there in
     let both : Some number ≡ Some n = sym is ∙ other in
     let one : number ≡ n = cc in
     let file : next.id ≡ f = same-file facts (spot_in id n) next.id f t.2 entry in
-    let opens : opened ≡ true = test ∙ opened-of facts next t.1 (ap (is_user_id facts) file ∙ user) in
-    subst (λ i. get nat_cmp memo i ≡ Some (id, n)) file (holds opens ∙ ap (λ (m : ℕ). Some (id, m)) one)
+    let opens : is_user_id facts f ≡ true → opened ≡ true = λ user. test ∙ opened-of facts next t.1 (ap (is_user_id facts) file ∙ user) in
+    (ap (has_inode facts) (sym file) ∙ has_file facts next.id next.inode t.1, λ user. subst (λ i. get nat_cmp memo i ≡ Some (id, n)) file (holds (opens user) ∙ ap (λ (m : ℕ). Some (id, m)) one))
 
 in-cons-or : (o : Option Spot) (s : Spot) (xs : List Spot) → In s (cons_option o xs) → (o ≡ Some s) ⊎ In s xs
 in-cons-or None s xs h = inr h
@@ -187,10 +188,10 @@ keeps_path facts memo path parts root place there same keeps s m =
     ]
 
 -- ---- what was met twice
-twice-kept : (facts : Facts) (memo : BTreeMap ℕ (ℕ × ℕ)) (path : List ℕ) (rows : List (List ℕ × Target)) → ((spot : Spot) → IsShownAt facts path rows spot → IsKeptAt facts memo spot) → (id : ℕ) → IsShownTwice facts path rows id → ⊥
-twice-kept facts memo path rows kept id twice =
-    let one : get nat_cmp memo id ≡ Some (twice.one.id, twice.one.number) = kept twice.one twice.one_met id twice.one_names twice.directory in
-    let other : get nat_cmp memo id ≡ Some (twice.other.id, twice.other.number) = kept twice.other twice.other_met id twice.other_names twice.directory in
+pub kept_clear : (facts : Facts) (memo : BTreeMap ℕ (ℕ × ℕ)) (path : List ℕ) (rows : List (List ℕ × Target)) → ((spot : Spot) → IsShownAt facts path rows spot → IsKeptAt facts memo spot) → (id : ℕ) → IsShownTwice facts path rows id → ⊥
+kept_clear facts memo path rows kept id twice =
+    let one : get nat_cmp memo id ≡ Some (twice.one.id, twice.one.number) = (kept twice.one twice.one_met id twice.one_names).1 twice.directory in
+    let other : get nat_cmp memo id ≡ Some (twice.other.id, twice.other.number) = (kept twice.other twice.other_met id twice.other_names).1 twice.directory in
     let both : ◌≡◌ {A = Option (ℕ × ℕ)} (Some (twice.one.id, twice.one.number)) (Some (twice.other.id, twice.other.number)) = sym one ∙ other in
     let pair : ◌≡◌ {A = ℕ × ℕ} (twice.one.id, twice.one.number) (twice.other.id, twice.other.number) = cc in
     twice.different (ap (λ (t : ℕ × ℕ). spot_in t.0 t.1) pair)
@@ -199,20 +200,20 @@ place-same : (facts : Facts) (path : List ℕ) (a b : Place) → found facts pat
 place-same facts path a b e f = let both : ◌≡◌ {A = Result Place Answer} (Ok a) (Ok b) = sym e ∙ f in cc
 
 -- of a directory
-pub rows_clear : (facts : Facts) (memo : BTreeMap ℕ (ℕ × ℕ)) (path : List ℕ) (place : Place) (rows : List (List ℕ × Target)) → found facts path ≡ Ok place → KeepsPath facts memo path → AreKeptIn facts memo place.id → AreRowsKept facts memo rows → (id : ℕ) → IsShownTwice facts path rows id → ⊥
-rows_clear facts memo path place rows there taken_kept first_kept rows_kept = twice-kept facts memo path rows at
+pub rows_kept : (facts : Facts) (memo : BTreeMap ℕ (ℕ × ℕ)) (path : List ℕ) (place : Place) (rows : List (List ℕ × Target)) → found facts path ≡ Ok place → KeepsPath facts memo path → AreKeptIn facts memo place.id → AreRowsKept facts memo rows → (spot : Spot) → IsShownAt facts path rows spot → IsKeptAt facts memo spot
+rows_kept facts memo path place rows there taken_kept first_kept kept_rows = at
   where
     shown : (d : ℕ) → IsShown facts path rows d → AreKeptIn facts memo d
     shown d (inl own) = subst (λ i. AreKeptIn facts memo i) (ap (λ (p : Place). p.id) (place-same facts path place own.0 there own.1) ∙ own.3) first_kept
-    shown d (inr row) = subst (λ i. AreKeptIn facts memo i) row.3 (rows_kept row.0 row.1 row.2)
+    shown d (inr row) = subst (λ i. AreKeptIn facts memo i) row.3 (kept_rows row.0 row.1 row.2)
 
     at : (spot : Spot) → IsShownAt facts path rows spot → IsKeptAt facts memo spot
     at spot (inl on) = taken_kept spot on
     at spot (inr in_it) = shown spot.id in_it spot.number
 
 -- of what is no directory
-pub lone_clear : (facts : Facts) (memo : BTreeMap ℕ (ℕ × ℕ)) (path : List ℕ) (place : Place) (rows : List (List ℕ × Target)) (row : List ℕ × Target) → found facts path ≡ Ok place → is_directory place.inode ≡ false → rows ≡ row ∷ [] → row ≡ row_told (lone_row place) → KeepsPath facts memo path → (id : ℕ) → IsShownTwice facts path rows id → ⊥
-lone_clear facts memo path place rows row there closed only is taken_kept = twice-kept facts memo path rows at
+pub lone_kept : (facts : Facts) (memo : BTreeMap ℕ (ℕ × ℕ)) (path : List ℕ) (place : Place) (rows : List (List ℕ × Target)) (row : List ℕ × Target) → found facts path ≡ Ok place → is_directory place.inode ≡ false → rows ≡ row ∷ [] → row ≡ row_told (lone_row place) → KeepsPath facts memo path → (spot : Spot) → IsShownAt facts path rows spot → IsKeptAt facts memo spot
+lone_kept facts memo path place rows row there closed only is taken_kept = at
   where
     none-opened : (r : List ℕ × Target) → In r (row ∷ []) → is_opened_target r.1 ≡ true → ⊥
     none-opened r (inl e) opened =
@@ -223,3 +224,7 @@ lone_clear facts memo path place rows row there closed only is taken_kept = twic
     at spot (inl on) = taken_kept spot on
     at spot (inr (inl own)) = absurd (clash (is_directory place.inode) (subst (λ (p : Place). is_directory p.inode ≡ true) (place-same facts path own.0 place own.1 there) own.2) closed)
     at spot (inr (inr r)) = absurd (none-opened r.0 (subst (λ (l : List (List ℕ × Target)). In r.0 l) only r.1) r.2)
+
+-- each has its file's inode
+pub kept_files : (facts : Facts) (memo : BTreeMap ℕ (ℕ × ℕ)) (path : List ℕ) (rows : List (List ℕ × Target)) → ((spot : Spot) → IsShownAt facts path rows spot → IsKeptAt facts memo spot) → HaveMetFiles facts path rows
+kept_files facts memo path rows kept spot file shown entry = (kept spot shown file entry).0

@@ -1,5 +1,5 @@
 -- Trees, of rows as they are told, and what a fault says of them.
-use Rattle.std.proofs.Common.{◌≡◌, ℕ, zero, suc, ◌+◌, ◌-◌, Bool, true, false, cond, List, [], ◌∷◌, ◌++◌, length, map, inl, inr, refl, ap, sym, ◌∙◌, subst}
+use Rattle.std.proofs.Common.{◌≡◌, ℕ, zero, suc, Bool, true, false, cond, List, [], ◌∷◌, ◌++◌, length, map, inl, inr, refl, ap, sym, ◌∙◌, subst}
 use Rattle.view_rules.specs.Facts.{Facts}
 use Rattle.path_walk.specs.Paths.{slash}
 use Rattle.path_walk.specs.Places.{Place, target_of}

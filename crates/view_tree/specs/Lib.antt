@@ -2,4 +2,5 @@ pub mod Tree
 pub mod Texts
 pub mod Met
 pub mod Told
+pub mod Needs
 pub mod Parts

@@ -4,7 +4,7 @@ use Rattle.std.specs.List.{cons_option}
 use Rattle.apfs_model.specs.Lists.{In, through, value_of}
 use Rattle.fs_record.specs.Entries.{Entry}
 use Rattle.fs_record.specs.Facts.{directory_kind, first_user_id}
-use Rattle.view_rules.specs.Facts.{Facts, is_directory, has_directory}
+use Rattle.view_rules.specs.Facts.{Facts, has_inode, is_directory, has_directory}
 use Rattle.path_walk.specs.Paths.{components}
 use Rattle.path_walk.specs.Places.{Place, root_of}
 use Rattle.path_walk.specs.Found.{entries_in, step, found, number_named}
@@ -95,3 +95,7 @@ pub record IsShownTwice (facts : Facts) (path : List ℕ) (rows : List (List ℕ
   pub one_names : IsEntryOf facts one id
   pub other_names : IsEntryOf facts other id
   pub directory : is_user_id facts id ≡ true
+
+-- the file of each entry that a tree with these rows met has an inode
+abbrev pub HaveMetFiles : Facts → List ℕ → List (List ℕ × Target) → Type 0
+HaveMetFiles facts path rows = (spot : Spot) (file : ℕ) → IsShownAt facts path rows spot → IsEntryOf facts spot file → has_inode facts file ≡ true

@@ -12,7 +12,7 @@ use Rattle.fs_record.specs.Facts.{Fact, directory_kind, first_user_id}
 use Rattle.view_rules.specs.declared.fault.TreeFault.{TreeFault}
 use Rattle.view_rules.specs.declared.fault.TreeFault.TheVariants.{DirNames}
 use Rattle.vol_view.specs.declared.volume.View.{View}
-use Rattle.view_rules.specs.Facts.{Facts, inode_at, is_directory}
+use Rattle.view_rules.specs.Facts.{Facts, inode_at, has_inode, is_directory}
 use Rattle.path_walk.specs.Paths.{slash, is_component}
 use Rattle.path_walk.specs.Places.{Place, target_of}
 use Rattle.path_walk.specs.Found.{entries_in, found, number_named}
@@ -51,9 +51,9 @@ told_from facts (suc n) (row ∷ rows) = row ∷ told_from facts n (told_under f
 abbrev pub IsMemo : Facts → List ℕ → BTreeMap ℕ (ℕ × ℕ) → Type 0
 IsMemo facts path memo = (id : ℕ) → IfSome (get nat_cmp memo id) (λ s. IsMet facts path (spot_in s.0 s.1) × IsEntryOf facts (spot_in s.0 s.1) id)
 
--- the spot of an entry that names a directory of 16 or more is the one that is kept of it
+-- the file of the entry at a spot has an inode, and where that is a directory of 16 or more the spot is the one that is kept of it
 abbrev pub IsKeptAt : Facts → BTreeMap ℕ (ℕ × ℕ) → Spot → Type 0
-IsKeptAt facts memo spot = (id : ℕ) → IsEntryOf facts spot id → is_user_id facts id ≡ true → get nat_cmp memo id ≡ Some (spot.id, spot.number)
+IsKeptAt facts memo spot = (id : ℕ) → IsEntryOf facts spot id → (has_inode facts id ≡ true) × (is_user_id facts id ≡ true → get nat_cmp memo id ≡ Some (spot.id, spot.number))
 
 -- the spots of all entries of a directory are kept so
 abbrev pub AreKeptIn : Facts → BTreeMap ℕ (ℕ × ℕ) → ℕ → Type 0

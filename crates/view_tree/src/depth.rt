@@ -6,7 +6,9 @@ ghost use Rattle.obj_base.specs.declared.stop.Stop.TheVariants.{Found, ReadFault
 ghost use Rattle.obj_base.specs.Site.{IsSiteFor};
 ghost use Rattle.view_rules.specs.Rules.{view_facts};
 ghost use Rattle.view_rules.specs.declared.fault.TreeFault.{TreeFault};
-ghost use Rattle.view_tree.specs.Met.{IsShownTwice};
+ghost use Rattle.view_tree.specs.Met.{IsShownTwice, HaveMetFiles};
+ghost use Rattle.path_walk.specs.Needs.{RestsOn};
+ghost use Rattle.view_tree.specs.Needs.{TreeNeeds};
 ghost use Rattle.view_tree.specs.Tree as spec;
 ghost use Rattle.path_walk.specs.Stops.{IsLawful, IsGiven, IsStopThere};
 ghost use Rattle.view_tree.specs.Told.{IsTold};
@@ -38,6 +40,8 @@ pub fn tree<S: BlockSource>(
     ensures present { (image : List ℕ) → S.bytes src.old ≡ Some image → IfErr result (IsStopThere image site.now volume.now view.now) }
     ensures told { (image : List ℕ) → S.bytes src.old ≡ Some image → (fault : TreeFault) → IsErrOf result (Found (stops.Fault fault)) → IsTold (view_facts image site.now volume.now view.now) path.now fault }
     ensures clear { (image : List ℕ) → S.bytes src.old ≡ Some image → IfOk result (λ rows. (id : ℕ) → IsShownTwice (view_facts image site.now volume.now view.now) path.now rows.items id → ⊥) }
+    ensures files { (image : List ℕ) → S.bytes src.old ≡ Some image → IfOk result (λ rows. HaveMetFiles (view_facts image site.now volume.now view.now) path.now rows.items) }
+    ensures rests { (image : List ℕ) → S.bytes src.old ≡ Some image → RestsOn (λ rows. rows.items) (spec.tree (view_facts image site.now volume.now view.now) path.now) (TreeNeeds image site.now volume.now view.now path.now) result }
     ensures cause { IsErrOf result ReadFault → Rose (S.faults src.old) (S.faults src.new) }
     ensures kept { IsKept S.bytes S.bytes_len S.faults src.old src.new }
 {

@@ -10,8 +10,10 @@ ghost use Rattle.path_walk.specs.Places.{target_of};
 ghost use Rattle.path_walk.specs.Found.{found};
 ghost use Rattle.path_walk.specs.Listing.{children};
 ghost use Rattle.view_tree.specs.Tree as spec;
-ghost use Rattle.view_tree.specs.Met.{spot_in, is_user_id, IsEntryOf, IsEntered, IsMet, IsMetTwice, IsShownTwice};
-ghost use Rattle.path_walk.specs.Parts.{whats, by_part, along, targets_by, Remembers};
+ghost use Rattle.view_tree.specs.Met.{spot_in, is_user_id, IsEntryOf, IsEntered, IsMet, IsMetTwice, IsShownTwice, HaveMetFiles};
+ghost use Rattle.path_walk.specs.Needs.{PathNeeds};
+ghost use Rattle.path_walk.specs.Stops.{IsNoAnswer};
+ghost use Rattle.path_walk.specs.Parts.{whats, by_part, along, targets_by, Remembers, PartNeeds, AlongNeeds, WhereTold, of_any};
 ghost use Rattle.view_tree.specs.Parts.{is_opened_target, told_after, told_of, told_under, told_from, IsMemo, IsTaken, TakesFrom, HasAll, IsUnderway, IsTreeStop, IsTreeKnown, StaysKept, AreKeptIn, AreRowsKept, KeepsTaken, KeepsFrom, KeepsPath};
 
 use apfs_model::{Bytes, NoMemory};
@@ -77,6 +79,7 @@ fn meet(
     opened: bool,
 ) -> Result<(), Stop<PathStop>>
     ensures no_read { IsErrOf result ReadFault → ⊥ }
+    ensures unanswered { IfErr result IsNoAnswer }
     ensures kept { (facts : Facts) (path : List ℕ) → IsMemo facts path memo.old → IsMet facts path (spot_in spot.0 spot.1) → IsEntryOf facts (spot_in spot.0 spot.1) id → OnOk result (IsMemo facts path memo.new) }
     ensures stops { (facts : Facts) (path : List ℕ) → IsMemo facts path memo.old → IsMet facts path (spot_in spot.0 spot.1) → IsEntryOf facts (spot_in spot.0 spot.1) id → (opened ≡ true → is_user_id facts id ≡ true) → IfErr result (IsTreeStop facts view.now path) }
     ensures stays { OnOk result (StaysKept memo.old memo.new) }
@@ -179,11 +182,7 @@ fn put_on(
 {
     let mut targets = targets;
     'put: while let Some(target) = targets.pop() {
-        let row = match row_after(alloc, before, target) {
-            Ok(row) => row,
-            Err(stop) => return Err(stop),
-        };
-        left.push(row)?;
+        left.push(row_after(alloc, before, target)?)?;
     }
     Ok(())
 }
@@ -196,10 +195,7 @@ fn lone_row(alloc: Global, place: Place) -> Result<(Bytes, Target), Stop<PathSto
 {
     let target = place.target();
     if target.id != ROOT {
-        return match row_after(alloc, b"", target) {
-            Ok(row) => Ok(row),
-            Err(stop) => Err(stop),
-        };
+        return row_after(alloc, b"", target);
     }
     let path = Bytes::from_slice(alloc, target.name.as_slice())?;
     Ok((path, target))
@@ -292,6 +288,7 @@ fn keep_part(
     next: &Place,
 ) -> Result<(), Stop<PathStop>>
     ensures no_read { IsErrOf result ReadFault → ⊥ }
+    ensures unanswered { IfErr result IsNoAnswer }
     ensures kept { (facts : Facts) (path : List ℕ) → facts.names ≡ names → Remembers facts files.now.entries.items files.now.inodes.items → IsMemo facts path memo.old → IsTaken facts path place part.now next.now → OnOk result (IsMemo facts path memo.new) }
     ensures stops { (facts : Facts) (path : List ℕ) → facts.names ≡ names → Remembers facts files.now.entries.items files.now.inodes.items → IsMemo facts path memo.old → IsTaken facts path place part.now next.now → IfErr result (IsTreeStop facts view.now path) }
     ensures all { (facts : Facts) (path : List ℕ) → facts.names ≡ names → Remembers facts files.now.entries.items files.now.inodes.items → IsMemo facts path memo.old → IsTaken facts path place part.now next.now → OnOk result (StaysKept memo.old memo.new × KeepsTaken facts memo.new place part.now) }
@@ -327,6 +324,7 @@ fn trace_part(
 ) -> Result<Place, Stop<PathStop>>
     ensures no_read { IsErrOf result ReadFault → ⊥ }
     ensures known { (facts : Facts) (path : List ℕ) (rest : List (List ℕ)) → facts.names ≡ names → Remembers facts files.now.entries.items files.now.inodes.items → IsMemo facts path memo.old → TakesFrom facts path (part.now ∷ rest) place → IsTreeKnown facts view.now path (λ place. place) (by_part facts place part.now) result }
+    ensures needs { (facts : Facts) → facts.names ≡ names → Remembers facts files.now.entries.items files.now.inodes.items → WhereTold (PartNeeds facts of_any place part.now) result }
     ensures kept { (facts : Facts) (path : List ℕ) (rest : List (List ℕ)) → facts.names ≡ names → Remembers facts files.now.entries.items files.now.inodes.items → IsMemo facts path memo.old → TakesFrom facts path (part.now ∷ rest) place → OnOk result (IsMemo facts path memo.new) }
     ensures taken { (facts : Facts) (path : List ℕ) (rest : List (List ℕ)) → facts.names ≡ names → Remembers facts files.now.entries.items files.now.inodes.items → IsMemo facts path memo.old → TakesFrom facts path (part.now ∷ rest) place → IfOk result (TakesFrom facts path rest) }
     ensures all { (facts : Facts) (path : List ℕ) (rest : List (List ℕ)) → facts.names ≡ names → Remembers facts files.now.entries.items files.now.inodes.items → IsMemo facts path memo.old → TakesFrom facts path (part.now ∷ rest) place → IfOk result (λ next. StaysKept memo.old memo.new × KeepsFrom facts memo.new (part.now ∷ rest) place rest next) }
@@ -354,6 +352,7 @@ fn trace_along(
 ) -> Result<Place, Stop<PathStop>>
     ensures no_read { IsErrOf result ReadFault → ⊥ }
     ensures known { (facts : Facts) (path : List ℕ) → facts.names ≡ names → Remembers facts files.now.entries.items files.now.inodes.items → IsMemo facts path memo.old → TakesFrom facts path (map (λ part. part.now) parts.now) start → IsTreeKnown facts view.now path (λ place. place) (along facts (map (λ part. part.now) parts.now) start) result }
+    ensures needs { (facts : Facts) (path : List ℕ) → facts.names ≡ names → Remembers facts files.now.entries.items files.now.inodes.items → IsMemo facts path memo.old → TakesFrom facts path (map (λ part. part.now) parts.now) start → WhereTold (AlongNeeds facts of_any (map (λ part. part.now) parts.now) start) result }
     ensures kept { (facts : Facts) (path : List ℕ) → facts.names ≡ names → Remembers facts files.now.entries.items files.now.inodes.items → IsMemo facts path memo.old → TakesFrom facts path (map (λ part. part.now) parts.now) start → OnOk result (IsMemo facts path memo.new) }
     ensures all { (facts : Facts) (path : List ℕ) → facts.names ≡ names → Remembers facts files.now.entries.items files.now.inodes.items → IsMemo facts path memo.old → TakesFrom facts path (map (λ part. part.now) parts.now) start → IfOk result (KeepsFrom facts memo.new (map (λ part. part.now) parts.now) start []) }
 {
@@ -378,6 +377,7 @@ fn trace(
 ) -> Result<Place, Stop<PathStop>>
     ensures no_read { IsErrOf result ReadFault → ⊥ }
     ensures known { (facts : Facts) → facts.names ≡ names → Remembers facts files.now.entries.items files.now.inodes.items → IsMemo facts path.now memo.old → IsTreeKnown facts view.now path.now (λ place. place) (found facts path.now) result }
+    ensures needs { (facts : Facts) → facts.names ≡ names → Remembers facts files.now.entries.items files.now.inodes.items → IsMemo facts path.now memo.old → WhereTold (PathNeeds facts of_any path.now) result }
     ensures kept { (facts : Facts) → facts.names ≡ names → Remembers facts files.now.entries.items files.now.inodes.items → IsMemo facts path.now memo.old → OnOk result (IsMemo facts path.now memo.new) }
     ensures all { (facts : Facts) → facts.names ≡ names → Remembers facts files.now.entries.items files.now.inodes.items → IsMemo facts path.now memo.old → OnOk result (KeepsPath facts memo.new path.now) }
 {
@@ -402,6 +402,8 @@ pub(crate) fn tree_in(
 ) -> Result<Vec<(Bytes, Target)>, Stop<PathStop>>
     ensures no_read { IsErrOf result ReadFault → ⊥ }
     ensures known { (facts : Facts) → facts.names ≡ names → Remembers facts files.now.entries.items files.now.inodes.items → IsTreeKnown facts view.now path.now (λ rows. rows.items) (spec.tree facts path.now) result }
+    ensures needs { (facts : Facts) → facts.names ≡ names → Remembers facts files.now.entries.items files.now.inodes.items → WhereTold (PathNeeds facts of_any path.now) result }
+    ensures files { (facts : Facts) → facts.names ≡ names → Remembers facts files.now.entries.items files.now.inodes.items → IfOk result (λ rows. HaveMetFiles facts path.now rows.items) }
     ensures clear { (facts : Facts) → facts.names ≡ names → Remembers facts files.now.entries.items files.now.inodes.items → IfOk result (λ rows. (id : ℕ) → IsShownTwice facts path.now rows.items id → ⊥) }
 {
     let mut memo = BTreeMap::new(alloc);

@@ -14,8 +14,9 @@ use Rattle.path_walk.specs.Stops.{IsLawful}
 use Rattle.path_walk.specs.declared.stop.PathStop.TheVariants as stops
 use Rattle.path_walk.specs.declared.answer.Answer.TheVariants.{NoAttribute}
 use Rattle.path_read.specs.declared.stop.WriteStop.TheVariants.{Stopped}
-use Rattle.path_read.proofs.Givens.{stopped_written, written_same}
+use Rattle.path_read.proofs.Givens.{stopped_written, written_same, rests_written, written_where}
 use Rattle.path_read.proofs.Parted.{none_parted, parted_same}
+use Rattle.path_read.specs.Needs.{AttributesNeed}
 use Rattle.path_read.proofs.attribute.attr.Goals as goal
 
 pub returns-in-Err-clause-exact : goal.returns-in-Err-clause-exact
@@ -94,3 +95,16 @@ returns-clause-text g c =
     attribute_given c.args.site.now.block_size image facts c.args.path.now c.args.name.now c.in-Ok.attributes.items (Some a) (c.in-Ok.ensures.exact image told lawful) (ap (find (is_called c.args.name.now)) (sym c.deref.ensures.value) ∙ sym c.in-Some.ensures)
     ∙ ap (λ (b : Body). Ok (body_in c.args.site.now.block_size image facts b)) (sym same))
     c.in-Err-write_body.ensures.text
+
+pub returns-in-Err-clause-rests : goal.returns-in-Err-clause-rests
+returns-in-Err-clause-rests g c image told ordered =
+    rests_written (λ (v : Vec Attribute Global). v.items) (attributes_at (view_facts image c.args.site.now c.args.volume.now c.args.view.now) c.args.path.now) (AttributesNeed image c.args.site.now c.args.volume.now c.args.view.now c.args.path.now) c.in-Err.stop (c.in-Err.ensures.rests image told ordered)
+
+pub returns-in-None-clause-rests : goal.returns-in-None-clause-rests
+returns-in-None-clause-rests g c image told ordered = (c.in-Ok.ensures.rests image told ordered).1
+
+pub returns-in-Ok-write_body-clause-rests : goal.returns-in-Ok-write_body-clause-rests
+returns-in-Ok-write_body-clause-rests g c image told ordered = (c.in-Ok.ensures.rests image told ordered).1
+
+pub returns-clause-rests : goal.returns-clause-rests
+returns-clause-rests g c image told ordered = written_where (AttributesNeed image c.args.site.now c.args.volume.now c.args.view.now c.args.path.now) (Err c.in-Err-write_body.stop) (c.in-Ok.ensures.rests image told ordered).1

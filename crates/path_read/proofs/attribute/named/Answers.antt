@@ -1,5 +1,4 @@
-use Rattle.std.proofs.Common.{rules, ◌≡◌, ◌<◌, ◌∙◌, ℕ, List, Some, true, length, ap, sym, arith}
-use Rattle.fs_record.specs.Attributes.{Attribute}
+use Rattle.std.proofs.Common.{rules, ◌≡◌, ◌<◌, ◌∙◌, Some, true, length, ap, sym, arith}
 use Rattle.path_read.specs.Attributes.{is_called}
 use Rattle.path_read.proofs.Named.{find_first, find_none}
 use Rattle.path_read.proofs.attribute.named.Goals as goal

@@ -1,4 +1,4 @@
-use Rattle.std.proofs.Common.{◌≡◌, ◌∙◌, List, ℕ, Ok, Err, refl, ap, sym, subst}
+use Rattle.std.proofs.Common.{◌∙◌, List, ℕ, Ok, refl, ap, sym, subst}
 use Rattle.view_rules.specs.Rules.{view_facts}
 use Rattle.path_read.specs.Contents.{body_in}
 use Rattle.path_read.specs.Parts.{body_of}

@@ -1,4 +1,4 @@
-use Rattle.std.proofs.Common.{◌≡◌, ◌∙◌, ℕ, List, Ok, ap, sym, subst}
+use Rattle.std.proofs.Common.{◌∙◌, ℕ, List, Ok, ap, subst}
 use Rattle.apfs_model.specs.Sink.{WrotePart}
 use Rattle.file_extent.specs.Streams.{Opened, stream_bytes}
 use Rattle.view_rules.specs.Rules.{view_facts}

@@ -1,5 +1,4 @@
 use Rattle.std.proofs.Common.{◌∙◌, ap, ℕ, List}
-use Rattle.fs_record.specs.Attributes.{Attribute}
 use Rattle.path_walk.specs.Order.{by_name}
 use Rattle.path_walk.proofs.Listed.{name_map}
 use Rattle.path_read.specs.Attributes.{attribute_told}

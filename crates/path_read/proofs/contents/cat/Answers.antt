@@ -1,14 +1,15 @@
-use Rattle.std.proofs.Common.{◌≡◌, ℕ, List, Option, Some, Ok, Err, ap, sym, ◌∙◌, subst}
+use Rattle.std.proofs.Common.{◌≡◌, ℕ, List, Option, Some, Ok, ap, ◌∙◌, subst}
 use Rattle.apfs_model.specs.Sink.{WrotePart}
-use Rattle.file_extent.specs.Streams.{Opened, stream_bytes}
+use Rattle.file_extent.specs.Streams.{Opened}
 use Rattle.view_rules.specs.Rules.{view_facts}
 use Rattle.path_read.specs.Contents.{contents}
 use Rattle.path_read.specs.Written.{opened_bytes}
 use Rattle.path_walk.specs.Stops.{IsLawful}
-use Rattle.path_read.proofs.Givens.{stopped_written, ok-same}
+use Rattle.path_read.proofs.Givens.{stopped_written, ok-same, told_written}
 use Rattle.path_read.proofs.Parted.{none_parted, empty_parted, whole_parted, front_parted}
 use Rattle.path_read.specs.declared.stop.WriteStop.TheVariants.{Stopped, WriteFault}
 use Rattle.obj_base.specs.declared.stop.Stop.TheVariants.{ReadFault}
+use Rattle.path_read.specs.Needs.{ContentsNeed}
 use Rattle.path_read.proofs.contents.cat.Goals as goal
 
 pub returns-in-Err-clause-exact : goal.returns-in-Err-clause-exact
@@ -68,3 +69,6 @@ returns-clause-text g c =
     (λ (image : List ℕ). contents c.args.site.now.block_size image (view_facts image c.args.site.now c.args.volume.now c.args.view.now) c.args.path.now)
     (λ (image : List ℕ). opened_bytes image (Some c.in-Ok-Some.stream)) WriteFault c.in-Ok-Some.ensures.kept.same_bytes
     (λ image told lawful. c.in-Ok-Some.ensures.exact image told lawful ∙ ap (λ (o : Option Opened). Ok (opened_bytes image o)) c.in-Ok-Some.field-0-is) c.in-Err-WriteFault.ensures.text
+
+pub returns-in-Err-clause-rests : goal.returns-in-Err-clause-rests
+returns-in-Err-clause-rests g c image told ordered = told_written (Option Opened) (ContentsNeed image c.args.site.now c.args.volume.now c.args.view.now c.args.path.now) c.in-Err.stop (c.in-Err.ensures.needs image told ordered)

@@ -1,6 +1,6 @@
-use Rattle.std.proofs.Common.{◌≡◌, ℕ, List, Option, Some, Ok, Err, ap, sym, ◌∙◌, subst}
+use Rattle.std.proofs.Common.{◌≡◌, ℕ, List, Option, Ok, Err, ap, sym, ◌∙◌, subst}
 use Rattle.fs_record.specs.Inodes.{Inode}
-use Rattle.file_extent.specs.Streams.{Opened, stream_bytes, extents_for}
+use Rattle.file_extent.specs.Streams.{Opened, stream_bytes}
 use Rattle.vol_view.specs.Views.{view_flat}
 use Rattle.view_rules.specs.Facts.{Facts}
 use Rattle.view_rules.specs.Rules.{view_facts}
@@ -10,7 +10,11 @@ use Rattle.path_read.specs.Contents.{stream_in, contents, readable}
 use Rattle.path_read.specs.Written.{opened_bytes}
 use Rattle.path_read.proofs.Laws.{same_stream}
 use Rattle.path_walk.proofs.Known.{given_on, unanswered_given}
-use Rattle.path_read.proofs.Givens.{contents_lost, contents_stream}
+use Rattle.path_read.proofs.Givens.{contents_lost, contents_stream, open_none, open_refused, open_whole}
+use Rattle.path_walk.specs.Needs.{HasEntriesOf, PathNeeds}
+use Rattle.path_read.specs.Needs.{ContentsNeed}
+use Rattle.path_walk.proofs.Needed.{rests_told, untold}
+use Rattle.path_walk.proofs.Laws.{ok-err}
 use Rattle.path_read.proofs.contents.open.Goals as goal
 
 pub returns-in-Err-clause-exact : goal.returns-in-Err-clause-exact
@@ -39,3 +43,28 @@ pub returns-clause-exact : goal.returns-clause-exact
 returns-clause-exact g c = λ image told lawful.
     unanswered_given image c.args.site.now c.args.volume.now c.args.view.now (opened_bytes image) (contents c.args.site.now.block_size image (view_facts image c.args.site.now c.args.volume.now c.args.view.now) c.args.path.now) c.in-Err-open_stream.stop lawful
     (c.in-Err-open_stream.ensures.present image (c.in-Ok.ensures.kept.same_bytes ∙ told)) c.in-Err-open_stream.ensures.unanswered
+
+pub returns-in-Err-clause-needs : goal.returns-in-Err-clause-needs
+returns-in-Err-clause-needs g c image told ordered =
+    let facts : Facts = view_facts image c.args.site.now c.args.volume.now c.args.view.now in
+    rests_told (Option Opened) (λ (p : Place). p) (found facts c.args.path.now) (PathNeeds facts (HasEntriesOf image c.args.site.now c.args.volume.now c.args.view.now) c.args.path.now) (ContentsNeed image c.args.site.now c.args.volume.now c.args.view.now c.args.path.now) c.in-Err.stop
+    (λ a e needs. record { led = needs; extents = λ p there. absurd (ok-err p a (sym there ∙ e)) }) (c.in-Err.ensures.rests image told ordered)
+
+pub returns-in-Some-clause-needs : goal.returns-in-Some-clause-needs
+returns-in-Some-clause-needs g c image told ordered =
+    let rests = c.in-Ok.ensures.rests image told ordered in
+    open_refused image c.args.site.now c.args.volume.now c.args.view.now c.args.path.now c.in-Ok.place c.in-Some.answer rests.1 rests.0 (subst (λ (i : Inode). readable i ≡ Err c.in-Some.answer) c.inode-inode.ensures c.in-Some.ensures)
+
+pub returns-in-None-stream-clause-needs : goal.returns-in-None-stream-clause-needs
+returns-in-None-stream-clause-needs g c image told ordered =
+    let rests = c.in-Ok.ensures.rests image told ordered in
+    open_none image c.args.site.now c.args.volume.now c.args.view.now c.args.path.now c.in-Ok.place rests.1 rests.0 (ap (λ (i : Inode). i.stream) (sym c.inode-inode.ensures) ∙ sym c.in-None-stream.ensures)
+
+pub returns-in-Ok-open_stream-clause-needs : goal.returns-in-Ok-open_stream-clause-needs
+returns-in-Ok-open_stream-clause-needs g c image told ordered =
+    let rests = c.in-Ok.ensures.rests image told ordered in
+    let opened = c.in-Ok-open_stream.ensures.opened image (c.in-Ok.ensures.kept.same_bytes ∙ told) ordered in
+    open_whole image c.args.site.now c.args.volume.now c.args.view.now c.args.path.now c.in-Ok.place c.private_id.result rests.1 rests.0 (c.private_id.ensures ∙ ap (λ (i : Inode). i.private_id) c.inode-inode.ensures) opened.whole
+
+pub returns-clause-needs : goal.returns-clause-needs
+returns-clause-needs g c image told ordered = untold (Option Opened) (ContentsNeed image c.args.site.now c.args.volume.now c.args.view.now c.args.path.now) c.in-Err-open_stream.stop c.in-Err-open_stream.ensures.unanswered

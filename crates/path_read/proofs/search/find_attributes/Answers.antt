@@ -1,14 +1,16 @@
-use Rattle.std.proofs.Common.{◌≡◌, ◌∙◌, sym, subst, None, Some, Option, List}
+use Rattle.std.proofs.Common.{◌≡◌, ◌∙◌, subst, true}
 use Rattle.std.specs.Prelude.{option_map}
 use Rattle.bt_keys.specs.RecordKey.{attribute_record}
-use Rattle.bt_cursor.specs.Cursors.{root_of, tree_of, left_of}
-use Rattle.fs_record.specs.Attributes.{Attribute}
+use Rattle.bt_cursor.specs.Cursors.{root_of, tree_of, left_of, gapped_left_of}
 use Rattle.fs_record.specs.Facts.{all_for, attributes_of}
 use Rattle.bt_cursor.specs.Flat.{flat_of}
-use Rattle.bt_cursor.proofs.Runs.{left-from}
+use Rattle.bt_cursor.proofs.Runs.{left-from, whole-from}
 use Rattle.path_walk.proofs.Searched.{tells_same, flat_same}
-use Rattle.path_read.specs.Parts.{HasRefused}
-use Rattle.path_read.proofs.Searched.{attributes_found, refused_found, if_seen, none_seen}
+use Rattle.path_read.specs.Parts.{HasRefused, are_whole}
+use Rattle.path_read.proofs.Searched.{attributes_found, refused_found, if_seen, none_seen, attributes_there}
+use Rattle.bt_node.specs.declared.key.Rank.{Rank}
+use Rattle.bt_cursor.specs.From.{is_of_kind, is_kind_whole}
+use Rattle.path_walk.proofs.Needed.{if_as}
 use Rattle.path_read.proofs.search.find_attributes.Goals as goal
 
 pub returns-in-Ok-take_run-clause-found : goal.returns-in-Ok-take_run-clause-found
@@ -16,6 +18,16 @@ returns-in-Ok-take_run-clause-found g c image told on ordered =
     if_seen (λ v. v.items) c.in-Ok-take_run.run' (all_for c.args.id (attributes_of (flat_of (tree_of c.args.cursor.now image) (root_of c.args.cursor.now))))
     (attributes_found g.K.FsTreeKey.HASHED image c.args.cursor.now (root_of c.args.cursor.now) c.args.id (left_of c.seek.new.self image) (option_map (λ v. v.items) c.in-Ok-take_run.run') g.met.K.FsTreeKey.of_tree ordered
     (left-from image c.args.cursor.now c.seek.new.self (record { id = c.args.id; kind = attribute_record; sub = 0 }) ordered (c.in-Ok.ensures.left image told on ordered)) (c.in-Ok-take_run.ensures.taken image (c.in-Ok.ensures.kept.same_bytes ∙ told)))
+
+pub returns-in-Ok-take_run-clause-all : goal.returns-in-Ok-take_run-clause-all
+returns-in-Ok-take_run-clause-all g c image told on ordered =
+    let rank : Rank = record { id = c.args.id; kind = attribute_record; sub = 0 } in
+    let left = c.in-Ok.ensures.left image told on ordered in
+    let later = c.in-Ok.ensures.kept.same_bytes ∙ told in
+    attributes_there g.K.FsTreeKey.HASHED image c.args.cursor.now (root_of c.args.cursor.now) c.args.id (left_of c.seek.new.self image) (λ v. v.items) c.in-Ok-take_run.run' g.met.K.FsTreeKey.of_tree ordered
+    (left-from image c.args.cursor.now c.seek.new.self rank ordered left) (c.in-Ok-take_run.ensures.taken image later)
+    (if_as (λ v. are_whole g.K.TreeKey.shape c.args.id (gapped_left_of c.seek.new.self image) ≡ true) (λ v. is_kind_whole (tree_of c.args.cursor.now image) (root_of c.args.cursor.now) c.args.id attribute_record ≡ true) c.in-Ok-take_run.run'
+    (λ v whole. whole-from image c.args.cursor.now c.seek.new.self rank (is_of_kind c.args.id attribute_record) left whole) (c.in-Ok-take_run.ensures.whole image later))
 
 pub returns-in-Ok-take_run-clause-refused : goal.returns-in-Ok-take_run-clause-refused
 returns-in-Ok-take_run-clause-refused g c image told on none =

@@ -1,5 +1,5 @@
-use Rattle.std.proofs.Common.{◌≡◌, sym, ◌∙◌}
-use Rattle.path_read.proofs.StreamFaults.{stream_there, stream_refused, stream_unanswered}
+use Rattle.std.proofs.Common.{sym, ◌∙◌}
+use Rattle.path_read.proofs.StreamFaults.{stream_there, stream_refused}
 use Rattle.path_read.proofs.streams.open_stream.Goals as goal
 
 pub returns-in-Some-clause-present : goal.returns-in-Some-clause-present

@@ -1,11 +1,12 @@
-use Rattle.std.proofs.Common.{◌≡◌, ℕ, List, Some, true, map, take, drop}
+use Rattle.std.proofs.Common.{◌≡◌, ℕ, List, Some, true, take}
 use Rattle.apfs_model.specs.Source.{IsKept}
 use Rattle.bt_cursor.specs.Flat.{flat_of}
 use Rattle.bt_cursor.specs.Line.{line_of}
 use Rattle.bt_cursor.specs.Order.{is_ordered}
 use Rattle.bt_cursor.specs.Cursors.{site_of, root_of, tree_of, IsOn}
 use Rattle.view_rules.specs.Facts.{facts_in}
-use Rattle.path_walk.specs.Parts.{whats, along, targets_by}
+use Rattle.path_walk.specs.Parts.{whats, targets_by}
+use Rattle.path_walk.specs.Needs.{HaveFiles}
 use Rattle.path_walk.proofs.by_search.targets_at.Given as goal
 
 abbrev pub invariant-loop-entry : goal.invariant-loop-entry
@@ -16,4 +17,5 @@ invariant-loop-entry g l = record {
   within : (image : List ℕ) → g.S.BlockSource.bytes l.fn.src ≡ Some image → IsOn image l.fn.cursor → IsOn image l.cursor;
   kept : IsKept g.S.BlockSource.bytes g.S.BlockSource.bytes_len g.S.BlockSource.faults l.fn.src l.src;
   found : (image : List ℕ) → g.S.BlockSource.bytes l.fn.src ≡ Some image → IsOn image l.fn.cursor → is_ordered g.K.TreeKey.shape (line_of (tree_of l.fn.cursor image) (root_of l.fn.cursor)) ≡ true → l.targets.items ≡ targets_by (facts_in l.names (flat_of (tree_of l.fn.cursor image) (root_of l.fn.cursor))) (whats (take l.entry-index l.entries));
+  files : (image : List ℕ) → g.S.BlockSource.bytes l.fn.src ≡ Some image → IsOn image l.fn.cursor → is_ordered g.K.TreeKey.shape (line_of (tree_of l.fn.cursor image) (root_of l.fn.cursor)) ≡ true → HaveFiles (facts_in l.names (flat_of (tree_of l.fn.cursor image) (root_of l.fn.cursor))) (whats (take l.entry-index l.entries));
 }

@@ -1,6 +1,5 @@
 use Rattle.std.proofs.Common.{rules, ◌≡◌, ◌<◌, ◌∙◌, ℕ, List, true, length, ap, sym, arith}
 use Rattle.std.specs.Prelude.{bytes_eq}
-use Rattle.fs_name.specs.Normal.{is_same_name}
 use Rattle.fs_record.specs.Entries.{Entry}
 use Rattle.fs_record.specs.Facts.{Fact}
 use Rattle.path_walk.specs.Found.{has_name}

@@ -4,6 +4,8 @@ use Rattle.view_rules.specs.Facts.{Facts}
 use Rattle.path_walk.specs.Places.{Place}
 use Rattle.path_walk.specs.Found.{found}
 use Rattle.path_walk.proofs.Viewed.{leads_hashed, leads_plain}
+use Rattle.path_walk.specs.Needs.{PathNeeds}
+use Rattle.path_walk.proofs.Needed.{path_mono, needs_hashed, needs_plain}
 use Rattle.path_walk.proofs.locating.search.Goals as goal
 
 pub returns-in-Ok-clause-leads : goal.returns-in-Ok-clause-leads
@@ -15,3 +17,13 @@ pub returns-in-Ok-search_by-clause-leads : goal.returns-in-Ok-search_by-clause-l
 returns-in-Ok-search_by-clause-leads g c image told =
     let e : are_hashed c.args.volume.now.names ≡ false = search rules in
     leads_plain image c.args.site.now c.args.volume.now c.args.view.now (λ (p : Place). p) (λ (facts : Facts). found facts c.args.path.now) c.in-Ok-search_by.onward e (c.in-Ok-search_by.ensures.leads image told)
+
+pub returns-in-Ok-clause-needs : goal.returns-in-Ok-clause-needs
+returns-in-Ok-clause-needs g c image told =
+    let e : are_hashed c.args.volume.now.names ≡ true = search rules in
+    needs_hashed image c.args.site.now c.args.volume.now c.args.view.now (λ facts has_all. PathNeeds facts has_all c.args.path.now) c.in-Ok.onward (λ facts one other f h. path_mono facts c.args.path.now one other f h) e (c.in-Ok.ensures.needs image told)
+
+pub returns-in-Ok-search_by-clause-needs : goal.returns-in-Ok-search_by-clause-needs
+returns-in-Ok-search_by-clause-needs g c image told =
+    let e : are_hashed c.args.volume.now.names ≡ false = search rules in
+    needs_plain image c.args.site.now c.args.volume.now c.args.view.now (λ facts has_all. PathNeeds facts has_all c.args.path.now) c.in-Ok-search_by.onward (λ facts one other f h. path_mono facts c.args.path.now one other f h) e (c.in-Ok-search_by.ensures.needs image told)

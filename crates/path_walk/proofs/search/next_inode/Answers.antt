@@ -1,4 +1,4 @@
-use Rattle.std.proofs.Common.{rules, ◌≡◌, ◌∙◌, ◌∷◌, List, true, ap, sym}
+use Rattle.std.proofs.Common.{rules, ◌≡◌, ◌∙◌, ◌∷◌, true, ap, sym}
 use Rattle.bt_node.specs.Entries.{Pair}
 use Rattle.bt_cursor.specs.Cursors.{left_of, passed_of}
 use Rattle.path_walk.specs.Parts.{first_inode}

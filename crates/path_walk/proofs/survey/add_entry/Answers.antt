@@ -1,12 +1,10 @@
-use Rattle.std.proofs.Common.{◌≡◌, ◌∙◌, ◌≤◌, ℕ, List, Option, Result, Ok, Err, ap, sym, arith, Bor}
+use Rattle.std.proofs.Common.{◌≡◌, ◌∙◌, ℕ, List, Ok, Err, ap, sym, arith, Bor}
 use Rattle.std.specs.Prelude.{option_map}
-use Rattle.bt_keys.specs.RecordKey.{id_of, record_kind_of, entry_record}
+use Rattle.bt_keys.specs.RecordKey.{record_kind_of, entry_record}
 use Rattle.bt_cursor.specs.Line.{Item}
 use Rattle.bt_cursor.specs.Gathered.{shown}
 use Rattle.fs_name.specs.declared.naming.Names.{Names}
-use Rattle.fs_record.specs.Entries.{Entry}
 use Rattle.fs_record.specs.Facts.{read_entry}
-use Rattle.fs_record.specs.declared.fault.RecFault.{RecFault}
 use Rattle.path_walk.specs.Parts.{names_by}
 use Rattle.path_walk.proofs.Surveyed.{entries_upper, entries_other, entries_refused, entries_one}
 use Rattle.path_walk.proofs.survey.add_entry.Goals as goal

@@ -1,7 +1,7 @@
-use Rattle.std.proofs.Common.{◌≡◌, ◌∙◌, ◌≤◌, ℕ, List, Option, Some, None, ap, sym, arith, Bor}
+use Rattle.std.proofs.Common.{◌≡◌, ◌∙◌, ℕ, List, Some, None, sym, arith, Bor}
 use Rattle.std.specs.Prelude.{option_map}
 use Rattle.apfs_model.specs.Lists.{value_of}
-use Rattle.bt_keys.specs.RecordKey.{id_of, record_kind_of, inode_record}
+use Rattle.bt_keys.specs.RecordKey.{record_kind_of, inode_record}
 use Rattle.bt_cursor.specs.Line.{Item}
 use Rattle.bt_cursor.specs.Gathered.{shown}
 use Rattle.fs_record.specs.Facts.{read_inode}

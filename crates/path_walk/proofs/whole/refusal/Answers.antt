@@ -1,4 +1,4 @@
-use Rattle.std.proofs.Common.{◌≡◌, ℕ, Option, subst}
+use Rattle.std.proofs.Common.{ℕ, Option, subst}
 use Rattle.fs_record.specs.declared.fault.RecFault.{RecFault}
 use Rattle.vol_view.specs.Views.{view_line}
 use Rattle.path_walk.specs.Parts.{IsRefusal}

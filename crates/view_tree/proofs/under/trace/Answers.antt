@@ -2,12 +2,14 @@ use Rattle.std.proofs.Common.{◌≡◌, ◌∙◌, ℕ, List, Some, Ok, map, ap
 use Rattle.path_walk.specs.Paths.{parts_of}
 use Rattle.path_walk.specs.Places.{Place, root_of}
 use Rattle.path_walk.specs.Found.{found}
-use Rattle.path_walk.specs.Parts.{along, rooted}
+use Rattle.path_walk.specs.Parts.{along, rooted, AlongNeeds, of_any}
 use Rattle.view_tree.specs.Parts.{TakesFrom}
 use Rattle.path_walk.proofs.Known.{found_by, found_lost}
 use Rattle.view_tree.proofs.Memos.{taken_root}
-use Rattle.view_tree.proofs.Entered.{path_known, tree_ends, rooted_some}
+use Rattle.view_tree.proofs.Entered.{path_known, tree_ends}
 use Rattle.view_tree.proofs.Staying.{keeps_path}
+use Rattle.path_walk.proofs.Needed.{rooted_some, told_as, untold, path_needs}
+use Rattle.path_walk.specs.Needs.{PathNeeds}
 use Rattle.view_tree.proofs.under.trace.Goals as goal
 
 pub returns-in-Err-clause-known : goal.returns-in-Err-clause-known
@@ -46,3 +48,23 @@ returns-in-Ok-trace_along-clause-all c facts named r memo =
     let root : root_of facts ≡ Some c.in-Ok.root = rooted_some facts c.in-Ok.root (c.in-Ok.ensures.known facts r) in
     let takes : TakesFrom facts c.args.path.now parts c.in-Ok.root = subst (λ (ps : List (List ℕ)). TakesFrom facts c.args.path.now ps c.in-Ok.root) (sym same) (taken_root facts c.args.path.now c.in-Ok.root root) in
     keeps_path facts c.trace_along.new.memo c.args.path.now parts c.in-Ok.root c.in-Ok-trace_along.place root same (c.in-Ok-trace_along.ensures.all facts c.args.path.now named r memo takes)
+
+pub returns-in-Err-clause-needs : goal.returns-in-Err-clause-needs
+returns-in-Err-clause-needs c facts named r memo = untold Place (PathNeeds facts of_any c.args.path.now) c.in-Err.stop c.in-Err.ensures.unanswered
+
+pub returns-in-Ok-trace_along-clause-needs : goal.returns-in-Ok-trace_along-clause-needs
+returns-in-Ok-trace_along-clause-needs c facts named r memo =
+    let parts : List (List ℕ) = map (λ (p : Bor (List ℕ)). p.now) c.deref.result.now in
+    let same : parts ≡ parts_of c.args.path.now = ap (map (λ (p : Bor (List ℕ)). p.now)) c.deref.ensures.value ∙ c.in_ok-parts.ensures in
+    let root : root_of facts ≡ Some c.in-Ok.root = rooted_some facts c.in-Ok.root (c.in-Ok.ensures.known facts r) in
+    let takes : TakesFrom facts c.args.path.now parts c.in-Ok.root = subst (λ (ps : List (List ℕ)). TakesFrom facts c.args.path.now ps c.in-Ok.root) (sym same) (taken_root facts c.args.path.now c.in-Ok.root root) in
+    path_needs facts of_any c.args.path.now c.in-Ok.root root (subst (λ ps. AlongNeeds facts of_any ps c.in-Ok.root) same (c.in-Ok-trace_along.ensures.needs facts c.args.path.now named r memo takes))
+
+pub returns-clause-needs : goal.returns-clause-needs
+returns-clause-needs c facts named r memo =
+    let parts : List (List ℕ) = map (λ (p : Bor (List ℕ)). p.now) c.deref.result.now in
+    let same : parts ≡ parts_of c.args.path.now = ap (map (λ (p : Bor (List ℕ)). p.now)) c.deref.ensures.value ∙ c.in_ok-parts.ensures in
+    let root : root_of facts ≡ Some c.in-Ok.root = rooted_some facts c.in-Ok.root (c.in-Ok.ensures.known facts r) in
+    let takes : TakesFrom facts c.args.path.now parts c.in-Ok.root = subst (λ (ps : List (List ℕ)). TakesFrom facts c.args.path.now ps c.in-Ok.root) (sym same) (taken_root facts c.args.path.now c.in-Ok.root root) in
+    told_as Place Place (AlongNeeds facts of_any parts c.in-Ok.root) (PathNeeds facts of_any c.args.path.now) c.in-Err-trace_along.stop
+    (λ a e h. path_needs facts of_any c.args.path.now c.in-Ok.root root (subst (λ ps. AlongNeeds facts of_any ps c.in-Ok.root) same h)) (c.in-Err-trace_along.ensures.needs facts c.args.path.now named r memo takes)

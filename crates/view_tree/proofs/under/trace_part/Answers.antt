@@ -1,10 +1,11 @@
 use Rattle.std.proofs.Common.{ℕ, sym, subst}
 use Rattle.path_walk.specs.Places.{Place}
-use Rattle.path_walk.specs.Parts.{by_part}
+use Rattle.path_walk.specs.Parts.{by_part, PartNeeds, of_any}
 use Rattle.view_tree.specs.Parts.{IsTaken, KeepsTaken}
 use Rattle.view_tree.proofs.Memos.{taken_part}
 use Rattle.view_tree.proofs.Entered.{path_known, stop_known}
 use Rattle.view_tree.proofs.Staying.{keeps_part}
+use Rattle.path_walk.proofs.Needed.{untold}
 use Rattle.view_tree.proofs.under.trace_part.Goals as goal
 
 pub returns-in-Err-clause-known : goal.returns-in-Err-clause-known
@@ -34,3 +35,12 @@ returns-in-Ok-keep_part-clause-all c facts path rest named r memo takes =
       keeps_part facts c.keep_part.new.memo rest c.args.place c.in-Ok.next c.args.part.now (c.in-Ok.ensures.known facts named r)
           (subst (λ (i : ℕ). KeepsTaken facts c.keep_part.new.memo i c.args.part.now) c.id-id.ensures k.1),
     )
+
+pub returns-in-Ok-keep_part-clause-needs : goal.returns-in-Ok-keep_part-clause-needs
+returns-in-Ok-keep_part-clause-needs c facts named r = c.in-Ok.ensures.needs facts named r
+
+pub returns-in-Err-clause-needs : goal.returns-in-Err-clause-needs
+returns-in-Err-clause-needs c facts named r = c.in-Err.ensures.needs facts named r
+
+pub returns-in-Err-keep_part-clause-needs : goal.returns-in-Err-keep_part-clause-needs
+returns-in-Err-keep_part-clause-needs c facts named r = untold Place (PartNeeds facts of_any c.args.place c.args.part.now) c.in-Err-keep_part.stop c.in-Err-keep_part.ensures.unanswered

@@ -6,8 +6,11 @@ use Rattle.view_tree.specs.Tree.{tree}
 use Rattle.view_tree.specs.Parts.{told_of, told_from, IsMemo, IsUnderway, AreKeptIn}
 use Rattle.path_walk.specs.declared.target.Target.{Target}
 use Rattle.view_tree.proofs.Memos.{memo_none}
-use Rattle.view_tree.proofs.Entered.{stop_known, tree_ends, tree_answered, tree_directory}
-use Rattle.view_tree.proofs.Staying.{rows_clear, lone_clear, path_stays}
+use Rattle.view_tree.proofs.Entered.{stop_known, tree_ends, tree_answered, tree_directory, stop_untold}
+use Rattle.view_tree.proofs.Staying.{rows_kept, lone_kept, kept_clear, kept_files, path_stays}
+use Rattle.path_walk.proofs.Needed.{told_as}
+use Rattle.path_walk.specs.Parts.{of_any}
+use Rattle.path_walk.specs.Needs.{PathNeeds}
 use Rattle.view_tree.proofs.under.tree_in.Goals as goal
 
 pub returns-in-Err-clause-known : goal.returns-in-Err-clause-known
@@ -37,7 +40,16 @@ returns-then-not-is_directory-clause-clear c facts named r id twice =
     let empty : IsMemo facts c.args.path.now c.new-memo.result = memo_none facts c.args.path.now c.new-memo.result c.new-memo.ensures.empty in
     let closed : is_directory c.in-Ok.place.inode ≡ false = search rules in
     let only : c.push.new.self.items ≡ c.in-Ok-lone_row.row ∷ [] = c.in_ok-push.ensures.items ∙ ap (λ (l : List (List ℕ × Target)). l ++ c.in-Ok-lone_row.row ∷ []) c.new-rows.ensures.items in
-    lone_clear facts c.trace.new.memo c.args.path.now c.in-Ok.place c.push.new.self.items c.in-Ok-lone_row.row (c.in-Ok.ensures.known facts named r empty) closed only c.in-Ok-lone_row.ensures.row (c.in-Ok.ensures.all facts named r empty) id twice
+    let kept = lone_kept facts c.trace.new.memo c.args.path.now c.in-Ok.place c.push.new.self.items c.in-Ok-lone_row.row (c.in-Ok.ensures.known facts named r empty) closed only c.in-Ok-lone_row.ensures.row (c.in-Ok.ensures.all facts named r empty) in
+    kept_clear facts c.trace.new.memo c.args.path.now c.push.new.self.items kept id twice
+
+pub returns-then-not-is_directory-clause-files : goal.returns-then-not-is_directory-clause-files
+returns-then-not-is_directory-clause-files c facts named r =
+    let empty : IsMemo facts c.args.path.now c.new-memo.result = memo_none facts c.args.path.now c.new-memo.result c.new-memo.ensures.empty in
+    let closed : is_directory c.in-Ok.place.inode ≡ false = search rules in
+    let only : c.push.new.self.items ≡ c.in-Ok-lone_row.row ∷ [] = c.in_ok-push.ensures.items ∙ ap (λ (l : List (List ℕ × Target)). l ++ c.in-Ok-lone_row.row ∷ []) c.new-rows.ensures.items in
+    let kept = lone_kept facts c.trace.new.memo c.args.path.now c.in-Ok.place c.push.new.self.items c.in-Ok-lone_row.row (c.in-Ok.ensures.known facts named r empty) closed only c.in-Ok-lone_row.ensures.row (c.in-Ok.ensures.all facts named r empty) in
+    kept_files facts c.trace.new.memo c.args.path.now c.push.new.self.items kept
 
 pub returns-in-Ok-rows_below-clause-clear : goal.returns-in-Ok-rows_below-clause-clear
 returns-in-Ok-rows_below-clause-clear c facts named r id twice =
@@ -46,6 +58,42 @@ returns-in-Ok-rows_below-clause-clear c facts named r id twice =
     let there : found facts c.args.path.now ≡ Ok c.in-Ok.place = c.in-Ok.ensures.known facts named r empty in
     let way : IsUnderway facts c.args.path.now c.id.result c.args.files.now.entries.items c.args.files.now.inodes.items = record { remembers = r; place = c.in-Ok.place; there = there; same = sym c.id.ensures; directory = directory } in
     let k = c.in-Ok-rows_below.ensures.all facts c.args.path.now way (c.in-Ok.ensures.kept facts named r empty) in
-    rows_clear facts c.rows_below.new.memo c.args.path.now c.in-Ok.place c.in-Ok-rows_below.rows.items there
+    let kept = rows_kept facts c.rows_below.new.memo c.args.path.now c.in-Ok.place c.in-Ok-rows_below.rows.items there
     (path_stays facts c.trace.new.memo c.rows_below.new.memo c.args.path.now k.0 (c.in-Ok.ensures.all facts named r empty))
-    (subst (λ (i : ℕ). AreKeptIn facts c.rows_below.new.memo i) c.id.ensures k.1.0) k.1.1 id twice
+    (subst (λ (i : ℕ). AreKeptIn facts c.rows_below.new.memo i) c.id.ensures k.1.0) k.1.1 in
+    kept_clear facts c.rows_below.new.memo c.args.path.now c.in-Ok-rows_below.rows.items kept id twice
+
+pub returns-in-Ok-rows_below-clause-files : goal.returns-in-Ok-rows_below-clause-files
+returns-in-Ok-rows_below-clause-files c facts named r =
+    let empty : IsMemo facts c.args.path.now c.new-memo.result = memo_none facts c.args.path.now c.new-memo.result c.new-memo.ensures.empty in
+    let directory : is_directory c.in-Ok.place.inode ≡ true = search rules in
+    let there : found facts c.args.path.now ≡ Ok c.in-Ok.place = c.in-Ok.ensures.known facts named r empty in
+    let way : IsUnderway facts c.args.path.now c.id.result c.args.files.now.entries.items c.args.files.now.inodes.items = record { remembers = r; place = c.in-Ok.place; there = there; same = sym c.id.ensures; directory = directory } in
+    let k = c.in-Ok-rows_below.ensures.all facts c.args.path.now way (c.in-Ok.ensures.kept facts named r empty) in
+    let kept = rows_kept facts c.rows_below.new.memo c.args.path.now c.in-Ok.place c.in-Ok-rows_below.rows.items there
+    (path_stays facts c.trace.new.memo c.rows_below.new.memo c.args.path.now k.0 (c.in-Ok.ensures.all facts named r empty))
+    (subst (λ (i : ℕ). AreKeptIn facts c.rows_below.new.memo i) c.id.ensures k.1.0) k.1.1 in
+    kept_files facts c.rows_below.new.memo c.args.path.now c.in-Ok-rows_below.rows.items kept
+
+pub returns-in-Err-clause-needs : goal.returns-in-Err-clause-needs
+returns-in-Err-clause-needs c facts named r =
+    let empty : IsMemo facts c.args.path.now c.new-memo.result = memo_none facts c.args.path.now c.new-memo.result c.new-memo.ensures.empty in
+    told_as Place (Vec (List ℕ × Target) Global) (PathNeeds facts of_any c.args.path.now) (PathNeeds facts of_any c.args.path.now) c.in-Err.stop (λ a e h. h) (c.in-Err.ensures.needs facts named r empty)
+
+pub returns-then-not-is_directory-clause-needs : goal.returns-then-not-is_directory-clause-needs
+returns-then-not-is_directory-clause-needs c facts named r =
+    let empty : IsMemo facts c.args.path.now c.new-memo.result = memo_none facts c.args.path.now c.new-memo.result c.new-memo.ensures.empty in
+    c.in-Ok.ensures.needs facts named r empty
+
+pub returns-in-Ok-rows_below-clause-needs : goal.returns-in-Ok-rows_below-clause-needs
+returns-in-Ok-rows_below-clause-needs c facts named r =
+    let empty : IsMemo facts c.args.path.now c.new-memo.result = memo_none facts c.args.path.now c.new-memo.result c.new-memo.ensures.empty in
+    c.in-Ok.ensures.needs facts named r empty
+
+pub returns-clause-needs : goal.returns-clause-needs
+returns-clause-needs c facts named r =
+    let empty : IsMemo facts c.args.path.now c.new-memo.result = memo_none facts c.args.path.now c.new-memo.result c.new-memo.ensures.empty in
+    let directory : is_directory c.in-Ok.place.inode ≡ true = search rules in
+    let there : found facts c.args.path.now ≡ Ok c.in-Ok.place = c.in-Ok.ensures.known facts named r empty in
+    let way : IsUnderway facts c.args.path.now c.id.result c.args.files.now.entries.items c.args.files.now.inodes.items = record { remembers = r; place = c.in-Ok.place; there = there; same = sym c.id.ensures; directory = directory } in
+    stop_untold (Vec (List ℕ × Target) Global) facts c.args.view.now c.args.path.now (PathNeeds facts of_any c.args.path.now) c.in-Err-rows_below.stop (c.in-Err-rows_below.ensures.stops facts c.args.path.now way (c.in-Ok.ensures.kept facts named r empty))

@@ -4,7 +4,7 @@ use Rattle.std.specs.List.Sorted.{IsPartitionPoint}
 use Rattle.std.proofs.lemmas.List.{get_or_read}
 use Rattle.fs_record.specs.Inodes.{Inode}
 use Rattle.fs_record.specs.Facts.{Fact, first_for}
-use Rattle.path_walk.specs.Parts.{Rises, Remembers}
+use Rattle.path_walk.specs.Parts.{Rises}
 use Rattle.path_walk.proofs.Rising.{inode_is, no_inode}
 use Rattle.path_walk.proofs.files.Files.inode.Goals as goal
 

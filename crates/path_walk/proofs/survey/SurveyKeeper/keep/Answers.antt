@@ -1,6 +1,5 @@
-use Rattle.std.proofs.Common.{◌≡◌, ◌∙◌, ◌+◌, ℕ, List, Option, ap, sym, arith, Bor}
+use Rattle.std.proofs.Common.{◌∙◌, ℕ, List, Option, ap, arith, Bor}
 use Rattle.std.specs.Prelude.{option_map}
-use Rattle.apfs_model.specs.Counts.{given}
 use Rattle.bt_cursor.specs.Line.{Item}
 use Rattle.bt_cursor.specs.Gathered.{shown}
 use Rattle.fs_record.specs.declared.fault.RecFault.{RecFault}
