@@ -13,7 +13,7 @@ pub use img_edit::{
     edit, free, mark, places, put_bytes, put_u16, put_u32, put_u64, reseal, reseal_block, write,
 };
 pub use img_plan::{
-    FileTree, Item, Leaf, NewRange, Plan, QueueEntry, Sample, Version, VolPlan, pack, records,
-    sample,
+    FileTree, Item, Leaf, NewRange, Plan, QueueEntry, Sample, Version, VolPlan, gen_plan, pack,
+    records, sample,
 };
 pub use making::{make, make_grouped, make_with};

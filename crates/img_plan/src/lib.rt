@@ -1,7 +1,9 @@
 //! What a container holds that is made for a test: plans, their records, and the samples that tests start from.
 #![tactic(auto)]
 
+mod checked;
 mod files;
+mod generated;
 mod packing;
 mod plan;
 pub mod records;
@@ -9,6 +11,7 @@ mod samples;
 mod which;
 
 pub use files::FileTree;
+pub use generated::gen_plan;
 pub use packing::pack;
 pub use plan::{Leaf, NewRange, Plan, QueueEntry, Version, VolPlan};
 pub use records::Item;

@@ -14,22 +14,11 @@ mod small;
 mod snapshots;
 mod two;
 
+use crate::checked::checked;
 use crate::plan::Plan;
 use crate::which::Sample;
 use apfs_model::NoMemory;
 use std::alloc::{AllocError, Global};
-
-// A plan that is valid, as each sample's is.
-fn checked(plan: Plan) -> Result<Plan, AllocError>
-    ensures valid { IfOk result IsValid }
-    ensures same { IfOk result (λ answer. answer ≡ plan) }
-{
-    if plan.valid() {
-        Ok(plan)
-    } else {
-        Err(AllocError)
-    }
-}
 
 // The plan of two volumes.
 fn two_volumes(alloc: Global) -> Result<Plan, AllocError>

@@ -1,0 +1,4 @@
+pub mod Exactly
+pub mod Numbers
+pub mod Sliced
+pub mod Tables

@@ -1,0 +1,5 @@
+pub mod Slices
+pub mod Whole
+pub mod Table
+pub mod Partition
+pub mod Reads

@@ -1,0 +1,255 @@
+// Disks written field by field by the numbers of the UEFI specification, and each call once.
+ghost use Rattle.std.specs.Prelude.{◌≡◌, ◌≤◌, Some, length};
+
+use crate::{GptStop, Origin, Part, Slice, find_part, part_or_fault};
+use blk_source::{BlockSource, MemSource, SureSource};
+use std::alloc::Global;
+use std::marker::Brand;
+use std::test::Fail;
+
+// The type of a partition with a container, 7C3457EF-0000-11AA-AA11-00306543ECAC, its first three parts with the lowest byte first.
+const CONTAINER: [u8; 16] = [
+    0xef, 0x57, 0x34, 0x7c, 0x00, 0x00, 0xaa, 0x11, 0xaa, 0x11, 0x00, 0x30, 0x65, 0x43, 0xec, 0xac,
+];
+
+// Another type: an EFI system partition.
+const SYSTEM: [u8; 16] = [
+    0x28, 0x73, 0x2a, 0xc1, 0x1f, 0xf8, 0xd2, 0x11, 0xba, 0x4b, 0x00, 0xa0, 0xc9, 0x3e, 0xc9, 0x3b,
+];
+
+// A disk with a table: its sectors, its entries, and those of them that are no zeros.
+#[derive(Clone, Copy)]
+struct Disk {
+    sector: usize,
+    sectors: usize,
+    entries: u64,
+    count: u32,
+    size: u32,
+    used: [(u32, [u8; 16], u64, u64); 2],
+}
+
+// 2,088 sectors of 512 bytes, with 128 entries of 128 bytes from sector 2, the first of which is a container's partition from
+// sector 40 to the last.
+const PLAIN: Disk = Disk {
+    sector: 512,
+    sectors: 2088,
+    entries: 2,
+    count: 128,
+    size: 128,
+    used: [(0, CONTAINER, 40, 2087), (3, SYSTEM, 34, 39)],
+};
+
+// Writes bytes where the disk has them.
+fn put(bytes: &mut Vec<u8>, at: usize, part: &[u8]) {
+    if at <= bytes.len() && part.len() <= bytes.len() - at {
+        bytes[at..at + part.len()].copy_from_slice(part);
+    }
+}
+
+// Writes an entry.
+fn put_entry(bytes: &mut Vec<u8>, at: usize, kind: [u8; 16], first: u64, last: u64) {
+    put(bytes, at, &kind);
+    put(bytes, at.saturating_add(32), &first.to_le_bytes());
+    put(bytes, at.saturating_add(40), &last.to_le_bytes());
+}
+
+fn bytes_of(alloc: Global, disk: &Disk) -> Result<Vec<u8>, Fail> {
+    let mut bytes = vec![in alloc; 0u8; disk.sector.saturating_mul(disk.sectors)]?;
+    let header = disk.sector;
+    put(&mut bytes, header, b"EFI PART");
+    put(
+        &mut bytes,
+        header.saturating_add(72),
+        &disk.entries.to_le_bytes(),
+    );
+    put(
+        &mut bytes,
+        header.saturating_add(80),
+        &disk.count.to_le_bytes(),
+    );
+    put(
+        &mut bytes,
+        header.saturating_add(84),
+        &disk.size.to_le_bytes(),
+    );
+    for (number, kind, first, last) in disk.used {
+        let offset = u64::from(number).saturating_mul(u64::from(disk.size));
+        let start = disk.entries.saturating_mul(disk.sector as u64);
+        let at = start.saturating_add(offset) as usize;
+        put_entry(&mut bytes, at, kind, first, last);
+    }
+    Ok(bytes)
+}
+
+// What is found on a disk.
+fn found(alloc: Global, disk: &Disk) -> Result<Result<Part, GptStop>, Fail> {
+    Ok(find_part(&mut SureSource::new(bytes_of(alloc, disk)?)))
+}
+
+const PLAIN_PART: Part = Part {
+    start: 20_480,
+    length: 1_048_576,
+};
+
+#[test]
+fn a_partition_is_found(rt: HostRuntime) -> Result<(), Fail> {
+    let alloc = rt.alloc();
+    let large = Disk {
+        sector: 4096,
+        sectors: 300,
+        used: [(127, CONTAINER, 7, 262), (0, SYSTEM, 6, 6)],
+        ..PLAIN
+    };
+    // 1,024 entries of 4,096 bytes, of which the last is a container's.
+    let many = Disk {
+        sectors: 9000,
+        entries: 3,
+        count: 1024,
+        size: 4096,
+        used: [(1023, CONTAINER, 8201, 8201), (0, SYSTEM, 8200, 8200)],
+        ..PLAIN
+    };
+    // The first of two.
+    let two = Disk {
+        used: [(5, CONTAINER, 41, 50), (6, CONTAINER, 60, 70)],
+        ..PLAIN
+    };
+    for (disk, start, length) in [
+        (PLAIN, 20_480, 1_048_576),
+        (large, 28_672, 1_048_576),
+        (many, 4_198_912, 512),
+        (two, 20_992, 5_120),
+    ] {
+        assert!(rt; found(alloc, &disk)? == Ok(Part { start, length }));
+    }
+    Ok(())
+}
+
+#[test]
+fn faults_are_told_in_their_order(rt: HostRuntime) -> Result<(), Fail> {
+    let alloc = rt.alloc();
+    let one = |first, last| Disk {
+        used: [(2, CONTAINER, first, last), (0, SYSTEM, 34, 39)],
+        ..PLAIN
+    };
+    let none = Disk {
+        used: [(0, SYSTEM, 40, 2087), (127, SYSTEM, 34, 39)],
+        ..PLAIN
+    };
+    for (disk, stop) in [
+        (
+            Disk {
+                sectors: 1,
+                ..PLAIN
+            },
+            GptStop::NoTable,
+        ),
+        (Disk { size: 127, ..PLAIN }, GptStop::BadTable),
+        (Disk { size: 132, ..PLAIN }, GptStop::BadTable),
+        (
+            Disk {
+                size: 4104,
+                ..PLAIN
+            },
+            GptStop::BadTable,
+        ),
+        (Disk { count: 0, ..PLAIN }, GptStop::BadTable),
+        (
+            Disk {
+                count: 1025,
+                ..PLAIN
+            },
+            GptStop::BadTable,
+        ),
+        (
+            Disk {
+                entries: u64::MAX,
+                ..PLAIN
+            },
+            GptStop::BadTable,
+        ),
+        (
+            Disk {
+                entries: 2057,
+                ..PLAIN
+            },
+            GptStop::BadTable,
+        ),
+        (none, GptStop::NoPartition),
+        (
+            Disk {
+                sectors: 2087,
+                ..PLAIN
+            },
+            GptStop::PartOutside { at: 0 },
+        ),
+        (one(41, 40), GptStop::PartOutside { at: 2 }),
+        (one(0, u64::MAX), GptStop::PartOutside { at: 2 }),
+        (one(u64::MAX, u64::MAX), GptStop::PartOutside { at: 2 }),
+        (one(1 << 55, 1 << 55), GptStop::PartOutside { at: 2 }),
+    ] {
+        assert!(rt; found(alloc, &disk)? == Err(stop));
+    }
+    let mut bytes = bytes_of(alloc, &PLAIN)?;
+    put(&mut bytes, 1024, &[0]);
+    assert!(rt; find_part(&mut SureSource::new(bytes)) == Err(GptStop::NoPartition));
+    Ok(())
+}
+
+// A header at 4,096 that is cut off is none; one of 92 bytes is one.
+#[test]
+fn a_header_lies_in_the_disk(rt: HostRuntime) -> Result<(), Fail> {
+    let alloc = rt.alloc();
+    for (len, stop) in [(4187, GptStop::NoTable), (4188, GptStop::BadTable)] {
+        let mut bytes = vec![in alloc; 0u8; len]?;
+        put(&mut bytes, 4096, b"EFI PART");
+        assert!(rt; find_part(&mut SureSource::new(bytes)) == Err(stop));
+    }
+    Ok(())
+}
+
+// The search reads the header, and the entry that is a container's.
+#[test]
+fn a_failed_read_is_told(rt: HostRuntime) -> Result<(), Fail> {
+    let alloc = rt.alloc();
+    for number in 1..=3u64 {
+        let fails = vec![in alloc; number]?;
+        let mut source = MemSource::new(bytes_of(alloc, &PLAIN)?, fails);
+        let answer = find_part(&mut source);
+        if number <= 2 {
+            assert!(rt; answer == Err(GptStop::ReadFault));
+            assert_eq!(rt; (source.read_count(), source.fault_count()), (number, 1));
+        } else {
+            assert!(rt; answer == Ok(PLAIN_PART));
+        }
+    }
+    Ok(())
+}
+
+// What is read through a slice, whether a read that is refused fails, its length, and the source that it gives back.
+fn through<O: Origin>(source: MemSource) -> Result<([u8; 2], bool, u64, MemSource), Fail>
+    requires inside { 4 ≤ length source.bytes }
+    requires size { length source.bytes ≡ O.size }
+    requires bytes { Some source.bytes ≡ O.bytes }
+{
+    let mut slice = Slice::<MemSource, O>::new(source, 1, 3);
+    let mut into = [0u8; 2];
+    slice.read_at(1, &mut into)?;
+    let refused = slice.read_at(0, &mut [0u8; 2]).is_err();
+    let length = slice.size();
+    Ok((into, refused, length, slice.into_inner()))
+}
+
+#[test]
+fn a_slice_reads_its_part(rt: HostRuntime) -> Result<(), Fail> {
+    let alloc = rt.alloc();
+    let source = MemSource::new(vec![in alloc; 1, 2, 3, 4, 5]?, vec![in alloc; 2]?);
+    let (read, refused, length, source) = through::<Brand>(source)?;
+    assert_eq!(rt; (read, refused, length), ([3, 4], true, 3));
+    assert_eq!(rt;
+        (source.size(), source.read_count(), source.fault_count()),
+        (5, 2, 1)
+    );
+    part_or_fault();
+    Ok(())
+}
