@@ -1,7 +1,8 @@
 //! `apfs`: checks and browses APFS containers. What it writes, and how it ends, is said by the contract of `run` (apfs_cli).
 #![tactic(auto)]
 
-use apfs_cli::{asked, run};
+use apfs_cli::{Order, asked, run};
+use blk_folder::{DirFolder, Given};
 use blk_source::{FileSource, Opened, StdSink};
 use std::alloc::{AllocError, Global};
 use std::io::{self, ErrorKind};
@@ -26,11 +27,12 @@ fn read_words(rt: &HostRuntime) -> io::Result<Vec<String>> {
     Ok(words)
 }
 
-// Whether the words ask for a command that takes no image.
-fn wants_none(alloc: Global, words: &[String]) -> Result<bool, AllocError> {
+// The place among the words of the one that names the image; none where the words are no line, or ask for a command that
+// takes no image. `--gpt` stands before the command.
+fn image_at(alloc: Global, words: &[String]) -> Result<Option<usize>, AllocError> {
     match asked(alloc, words)? {
-        Some(command) => Ok(!command.takes_image()),
-        None => Ok(false),
+        Some(Order::On { in_partition, .. }) => Ok(Some(if in_partition { 2 } else { 1 })),
+        Some(Order::Gen(_)) | None => Ok(None),
     }
 }
 
@@ -45,12 +47,12 @@ fn open(rt: &HostRuntime, path: &str) -> Opened<FileSource> {
     }
 }
 
-// The image that the second word names, unless the command takes none.
+// The image that the words name; absent where they name none.
 fn image_of(rt: &HostRuntime, words: &[String]) -> Result<Opened<FileSource>, AllocError> {
-    if wants_none(rt.alloc(), words)? {
+    let Some(at) = image_at(rt.alloc(), words)? else {
         return Ok(Opened::Absent);
-    }
-    match words.get(1) {
+    };
+    match words.get(at) {
         Some(path) => Ok(open(rt, path.as_str())),
         None => Ok(Opened::Absent),
     }
@@ -65,5 +67,14 @@ fn main(rt: HostRuntime) -> ExitCode {
     };
     let mut out = StdSink::new(rt.stdout());
     let mut err = StdSink::new(rt.stderr());
-    ExitCode::from(run(rt.alloc(), &words, &mut image, &mut out, &mut err))
+    let mut folder: Given<DirFolder<'_, HostRuntime>> = Given::Nothing;
+    let status = run(
+        rt.alloc(),
+        &words,
+        &mut image,
+        &mut out,
+        &mut err,
+        &mut folder,
+    );
+    ExitCode::from(status)
 }

@@ -2,6 +2,7 @@
 use Rattle.std.specs.Prelude.{◌≡◌, ℕ, List, Ok, Some}
 use Rattle.std.proofs.Common.{subst}
 use Rattle.view_rules.specs.declared.profile.Profile.{Profile}
+use Rattle.view_rules.specs.declared.profile.Profile.TheVariants.{Plain}
 use Rattle.apfs_check.specs.WellFormed.{IsWellFormed}
 use Rattle.path_walk.specs.declared.answer.Answer.{Answer}
 use Rattle.apfs_cli.specs.declared.words.Checks.{Checks}
@@ -13,7 +14,7 @@ use Rattle.apfs_cli.specs.Commands.Tree as tree
 use Rattle.apfs_cli.specs.Commands.Cat as cat
 use Rattle.apfs_cli.specs.Commands.Xattr as xattr
 use Rattle.apfs_cli.specs.First.{ResultBy, RestsBy}
-use Rattle.apfs_cli.specs.Words.{Asked, Ring, Info, Volumes, Space, Check, Snapshots, Ls, Tree, Cat, Xattr}
+use Rattle.apfs_cli.specs.Words.{Asked, Ring, Info, Volumes, Space, Check, Snapshots, Ls, Tree, Cat, Xattr, Gen}
 use Rattle.apfs_cli.proofs.Views.{text_no_answer, wanted_lawful, answer_lawful}
 use Rattle.apfs_cli.proofs.Ways.{volume_or_none}
 
@@ -39,6 +40,7 @@ text_or_answer (Ls checks target) image text answer has is = not_both checks ima
 text_or_answer (Tree checks target) image text answer has is = not_both checks image (tree.IsText target image text) (tree.IsAnswer target image answer) (text_no_answer (tree.wanted target.path) target image text answer) has is
 text_or_answer (Cat checks target) image text answer has is = not_both checks image (cat.IsText target image text) (cat.IsAnswer target image answer) (text_no_answer (cat.wanted target.path) target image text answer) has is
 text_or_answer (Xattr checks target name) image text answer has is = not_both checks image (xattr.IsText target name image text) (xattr.IsAnswer target name image answer) (text_no_answer (xattr.wanted target.path name) target image text answer) has is
+text_or_answer (Gen n) image text answer has is = is
 
 -- where a command has a text, what it rests on holds
 pub text_rests : (command : Asked) (image text : List ℕ) → IsText command image text → RestsOn command image
@@ -52,6 +54,7 @@ text_rests (Ls checks target) image text has = rests_by checks image (ls.IsText 
 text_rests (Tree checks target) image text has = rests_by checks image (tree.IsText target image text) (IsLawfulView image target) (wanted_lawful (tree.wanted target.path) target image (Ok text)) has
 text_rests (Cat checks target) image text has = rests_by checks image (cat.IsText target image text) (IsLawfulView image target) (wanted_lawful (cat.wanted target.path) target image (Ok text)) has
 text_rests (Xattr checks target name) image text has = rests_by checks image (xattr.IsText target name image text) (IsLawfulView image target) (wanted_lawful (xattr.wanted target.path name) target image (Ok text)) has
+text_rests (Gen n) image text has = tt
 
 -- so does it where a command has an answer
 pub answer_rests : (command : Asked) (image : List ℕ) (answer : Answer) → IsAnswer command image answer → RestsOn command image
@@ -65,6 +68,7 @@ answer_rests (Ls checks target) image answer is = rests_by checks image (ls.IsAn
 answer_rests (Tree checks target) image answer is = rests_by checks image (tree.IsAnswer target image answer) (IsLawfulView image target) (answer_lawful (tree.wanted target.path) target image answer) is
 answer_rests (Cat checks target) image answer is = rests_by checks image (cat.IsAnswer target image answer) (IsLawfulView image target) (answer_lawful (cat.wanted target.path) target image answer) is
 answer_rests (Xattr checks target name) image answer is = rests_by checks image (xattr.IsAnswer target name image answer) (IsLawfulView image target) (answer_lawful (xattr.wanted target.path name) target image answer) is
+answer_rests (Gen n) image answer is = tt
 
 -- what a command that checks the container says rests on nothing, and is of a well-formed container
 pub record OfSound (command : Asked) (profile : Profile) : Type 0 where
@@ -93,6 +97,14 @@ of_sound (Check other) profile e = record {
   rests = λ image. tt;
   text = λ image text is.
       let same : other ≡ profile = Prim.cc in
+      let P : Profile → Type 0 = λ p. IsWellFormed p image in
+      subst P same is.1.right;
+  answer = λ image answer is. absurd is;
+}
+of_sound (Gen n) profile e = record {
+  rests = λ image. tt;
+  text = λ image text is.
+      let same : Plain ≡ profile = Prim.cc in
       let P : Profile → Type 0 = λ p. IsWellFormed p image in
       subst P same is.1.right;
   answer = λ image answer is. absurd is;

@@ -1,14 +1,14 @@
 -- What a run of a command that checks the container first has come to: from the check where that stops it, and from the command without a check where the container is well-formed.
-use Rattle.std.specs.Prelude.{◌≡◌, ℕ, Bool, true, false, List, [], Option, Some, Result, Err, refl}
+use Rattle.std.specs.Prelude.{◌≡◌, ◌++◌, ℕ, List, [], Option, Some, Result, Err, refl}
 use Rattle.std.proofs.Common.{inl, inr, sym, ◌∙◌, subst}
 use Rattle.apfs_model.specs.Counts.{Rose}
-use Rattle.blk_source.specs.declared.source.Opened.TheVariants.{Image}
 use Rattle.cmd_words.specs.Asked.{AskedTarget}
 use Rattle.obj_base.specs.declared.stop.Feature.{Feature}
 use Rattle.obj_base.specs.declared.stop.Stop.{Stop}
 use Rattle.obj_base.specs.declared.stop.Stop.TheVariants as layer
 use Rattle.obj_base.specs.Stops.{Tells}
 use Rattle.view_rules.specs.declared.profile.Profile.{Profile}
+use Rattle.view_rules.specs.declared.profile.Profile.TheVariants.{Plain}
 use Rattle.apfs_check.specs.Present as container
 use Rattle.apfs_check.specs.WellFormed.{IsWellFormed}
 use Rattle.apfs_check.specs.declared.fault.Fault.{Fault}
@@ -20,23 +20,26 @@ use Rattle.apfs_cli.specs.declared.stopped.Stopped.TheVariants as stops
 use Rattle.apfs_cli.specs.declared.words.Checks.{Checks}
 use Rattle.apfs_cli.specs.declared.words.Checks.TheVariants.{Quick, First}
 use Rattle.apfs_cli.specs.First.{ResultBy, FaultBy, FeatureBy}
-use Rattle.apfs_cli.specs.ByCommand.{takes_image, lead_of, IsText, IsFault, IsFeature, IsAnswer, RestsOn, HasResult, checks_of, quick, profile_of}
+use Rattle.apfs_cli.specs.ByCommand.{HandedIn, from_of, lead_of, streams, IsText, IsFault, IsNamed, IsFeature, IsAnswer, RestsOn, HasResult, checks_of, quick, profile_of}
 use Rattle.apfs_cli.specs.Commands.Ls as ls
 use Rattle.apfs_cli.specs.Commands.Tree as tree
 use Rattle.apfs_cli.specs.Commands.Cat as cat
 use Rattle.apfs_cli.specs.Commands.Xattr as xattr
-use Rattle.apfs_cli.specs.Outcome.{Outcome, Written, Faulty, Usage, ReadFailed, WriteFailed, OutOfMemory, Refused, Answered, NoImage}
+use Rattle.apfs_cli.specs.Commands.Gen as gen
+use Rattle.apfs_cli.specs.Formed.{IsFormed}
+use Rattle.apfs_cli.specs.Handed.{Looked, OfImage, looked}
+use Rattle.apfs_cli.specs.Outcome.{Outcome, Written, Faulty, WrongWords, ReadFailed, WriteFailed, OutOfMemory, Refused, Answered, NoImage, NoFolder}
 use Rattle.apfs_cli.specs.Reached.{IsClean, IsWhileLooking, TellsFlaw}
 use Rattle.apfs_cli.specs.ReportText.{report_text}
-use Rattle.apfs_cli.specs.Says.{IsGiven, OfRun, BeginsText, IsPart, IsTextIf, StopsAt, AnswersAt, Says, HasEnded}
+use Rattle.apfs_cli.specs.Says.{BeginsText, BeginsForm, IsPart, IsReadPart, IsTextIf, StopsAt, AnswersAt, SaysOn, HasEnded}
 use Rattle.apfs_cli.specs.Seen.{outcome_of, stopped_at}
 use Rattle.apfs_cli.specs.Texts.{IsPrefix}
-use Rattle.apfs_cli.specs.Words.{Asked, Ring, Info, Volumes, Space, Check, Snapshots, Ls, Tree, Cat, Xattr}
-use Rattle.apfs_cli.specs.Written.{Sunk}
-use Rattle.apfs_cli.proofs.AtView.{given_bytes}
+use Rattle.apfs_cli.specs.Words.{Asked, Ring, Info, Volumes, Space, Check, Snapshots, Ls, Tree, Cat, Xattr, Gen}
+use Rattle.apfs_cli.specs.Written.{Sunk, Failed}
 use Rattle.apfs_cli.proofs.Browsable.{well_lawful, well_wanted}
 use Rattle.apfs_cli.proofs.ByAnswers.{for_answer}
-use Rattle.apfs_cli.proofs.Endings.{no_result, lacks_none}
+use Rattle.apfs_cli.proofs.Endings.{no_result, read_ended, no_memory_ended}
+use Rattle.apfs_cli.proofs.OverVolume.{named_of}
 use Rattle.apfs_cli.proofs.OverViews.{ls_over, tree_over, cat_over, xattr_over}
 use Rattle.apfs_cli.proofs.Puts.{wrote_nothing}
 
@@ -44,9 +47,9 @@ use Rattle.apfs_cli.proofs.Puts.{wrote_nothing}
 
 -- a command after a check, by the command without one
 pub record IsAfter (profile : Profile) (plain after : Asked) : Type 0 where
-  pub plain_takes : takes_image plain ≡ true
-  pub after_takes : takes_image after ≡ true
   pub lead_is : lead_of plain ≡ lead_of after
+  pub streams_is : streams plain ≡ streams after
+  pub formed : (text : List ℕ) → IsFormed plain text → IsFormed after text
   pub text : (image text : List ℕ) → IsText after image text → IsText plain image text
   pub text_is : (image text : List ℕ) → IsWellFormed profile image → IsText plain image text → IsText after image text
   pub answer : (image : List ℕ) (answer : Answer) → IsAnswer after image answer → IsAnswer plain image answer
@@ -54,24 +57,9 @@ pub record IsAfter (profile : Profile) (plain after : Asked) : Type 0 where
   pub rests : (image : List ℕ) → IsWellFormed profile image → RestsOn plain image
   pub has : (image : List ℕ) → IsWellFormed profile image → HasResult plain image
 
--- the bytes of a source are those that are given, where an image is wanted
-bytes_given : {S : Type 0} (bytes : S → Option (List ℕ)) (wanted : Bool) (source : S) (image : List ℕ) → wanted ≡ true → bytes source ≡ Some image → IsGiven bytes wanted (Image source) image
-bytes_given bytes true source image wants told = told
-bytes_given bytes false source image wants told = absurd Prim.cc
-
 -- the bytes of a source, where it tells them, are those of a well-formed container
-abbrev pub IsWell : {S : Type 0} → (S → Option (List ℕ)) → Profile → S → Type 0
-IsWell bytes profile source = (image : List ℕ) → bytes source ≡ Some image → IsWellFormed profile image
-
--- a fact of a command after a check that follows from one of the command without
-run_after : {S : Type 0} (bytes : S → Option (List ℕ)) (profile : Profile) (plain after : Asked) (source : S) (P Q : Asked → List ℕ → Type 0) → IsAfter profile plain after → IsWell bytes profile source →
-    ((image : List ℕ) → IsWellFormed profile image → P plain image → Q after image) → OfRun bytes (Some plain) (Image source) P → OfRun bytes (Some after) (Image source) Q
-run_after bytes profile plain after source P Q a well follows fact = (
-  lacks_none (takes_image after) source,
-  λ image given.
-      let told : bytes source ≡ Some image = given_bytes bytes (takes_image after) source image a.after_takes given in
-      follows image (well image told) (fact.1 image (bytes_given bytes (takes_image plain) source image a.plain_takes told)),
-)
+abbrev pub IsWell : Profile → Looked → Type 0
+IsWell profile source = OfImage source (λ image. IsWellFormed profile image)
 
 text_after : (profile : Profile) (plain after : Asked) (image text : List ℕ) → IsAfter profile plain after → IsWellFormed profile image → IsTextIf plain image text → IsTextIf after image text
 text_after profile plain after image text a w is rests = a.text_is image text w (is (a.rests image w))
@@ -80,58 +68,59 @@ begins_after : (profile : Profile) (plain after : Asked) (image part : List ℕ)
 begins_after profile plain after image part a w (inl lead) = let P : List ℕ → Type 0 = λ l. IsPrefix part l in inl (subst P a.lead_is lead)
 begins_after profile plain after image part a w (inr (text, is, prefix)) = inr (text, text_after profile plain after image text a w is, prefix)
 
-answers_after : (profile : Profile) (plain after : Asked) (image lead : List ℕ) (answer : Answer) → IsAfter profile plain after → IsWellFormed profile image → AnswersAt plain image lead answer → AnswersAt after image lead answer
-answers_after profile plain after image lead answer a w at =
-    let only = at.only_is (for_answer answer (Unit {0}) (Unit {0}) (RestsOn plain image) tt tt (a.rests image w)) in
+form_after : (profile : Profile) (plain after : Asked) (part : List ℕ) → IsAfter profile plain after → BeginsForm plain part → BeginsForm after part
+form_after profile plain after part a (inl lead) = let P : List ℕ → Type 0 = λ l. IsPrefix part l in inl (subst P a.lead_is lead)
+form_after profile plain after part a (inr (text, is, prefix)) = inr (text, a.formed text is, prefix)
+
+answers_after : (profile : Profile) (plain after : Asked) (image : List ℕ) (answer : Answer) → IsAfter profile plain after → IsWellFormed profile image → AnswersAt plain image answer → AnswersAt after image answer
+answers_after profile plain after image answer a w at rests =
+    let only = at (for_answer answer (Unit {0}) (Unit {0}) (RestsOn plain image) tt tt (a.rests image w)) in
     record {
-      lead_is = at.lead_is ∙ a.lead_is;
-      only_is = λ rests. record {
-        none = λ text has. only.none text (a.text image text has);
-        only = λ other has. only.only other (a.answer image other has);
-        answer_is = a.answer_is image answer w only.answer_is;
-      };
+      none = λ text has. only.none text (a.text image text has);
+      only = λ other has. only.only other (a.answer image other has);
+      answer_is = a.answer_is image answer w only.answer_is;
     }
 
 -- without a check nothing is found of a well-formed container, since the command has a result
-stops_after : (profile : Profile) (plain after : Asked) (image lead : List ℕ) (P Q : Type 0) → IsAfter profile plain after → IsWellFormed profile image → StopsAt plain image lead P → StopsAt after image lead Q
-stops_after profile plain after image lead P Q a w at = absurd (at.none (a.has image w))
+stops_after : (profile : Profile) (plain after : Asked) (image : List ℕ) (P Q : Type 0) → IsAfter profile plain after → IsWellFormed profile image → StopsAt plain image P → StopsAt after image Q
+stops_after profile plain after image P Q a w at = absurd (at.none (a.has image w))
 
-part_after : {S : Type 0} (bytes : S → Option (List ℕ)) (profile : Profile) (plain after : Asked) (source : S) (part : List ℕ) → IsAfter profile plain after → IsWell bytes profile source →
-    IsPart bytes (Some plain) (Image source) part → IsPart bytes (Some after) (Image source) part
-part_after bytes profile plain after source part a well (inl none) = inl none
-part_after bytes profile plain after source part a well (inr some) =
-    inr (run_after bytes profile plain after source (λ c image. BeginsText c image part) (λ c image. BeginsText c image part) a well (λ image w is. begins_after profile plain after image part a w is) some)
+part_after : (profile : Profile) (plain after : Asked) (source : Looked) (part : List ℕ) → IsAfter profile plain after → IsWell profile source → IsPart plain source part → IsPart after source part
+part_after profile plain after source part a well is = record {
+  formed = form_after profile plain after part a is.formed;
+  begins = λ image told. begins_after profile plain after image part a (well image told) (is.begins image told);
+}
 
-says_after : {S : Type 0} (bytes : S → Option (List ℕ)) (faults : S → ℕ) (profile : Profile) (plain after : Asked) (old new : S) (out : Sunk) (o : Outcome) → IsAfter profile plain after → IsWell bytes profile old →
-    Says bytes faults (Some plain) (Image old) (Image new) out o → Says bytes faults (Some after) (Image old) (Image new) out o
-says_after bytes faults profile plain after old new out (Written text) a well says =
-    run_after bytes profile plain after old (λ c image. IsTextIf c image text) (λ c image. IsTextIf c image text) a well (λ image w is. text_after profile plain after image text a w is) says
-says_after bytes faults profile plain after old new out (Faulty lead fault) a well says =
-    run_after bytes profile plain after old (λ c image. StopsAt c image lead (IsFault c image fault)) (λ c image. StopsAt c image lead (IsFault c image fault)) a well
-    (λ image w is. stops_after profile plain after image lead (IsFault plain image fault) (IsFault after image fault) a w is) says
-says_after bytes faults profile plain after old new out Usage a well says = absurd Prim.cc
-says_after bytes faults profile plain after old new out (ReadFailed part) a well says = (says.0, part_after bytes profile plain after old part a well says.1)
-says_after bytes faults profile plain after old new out (WriteFailed part) a well says = (says.0, part_after bytes profile plain after old part a well says.1)
-says_after bytes faults profile plain after old new out (OutOfMemory part) a well says = part_after bytes profile plain after old part a well says
-says_after bytes faults profile plain after old new out (Refused lead feature block) a well says =
-    run_after bytes profile plain after old (λ c image. StopsAt c image lead (IsFeature c image feature block)) (λ c image. StopsAt c image lead (IsFeature c image feature block)) a well
-    (λ image w is. stops_after profile plain after image lead (IsFeature plain image feature block) (IsFeature after image feature block) a w is) says
-says_after bytes faults profile plain after old new out (Answered lead answer) a well says =
-    run_after bytes profile plain after old (λ c image. AnswersAt c image lead answer) (λ c image. AnswersAt c image lead answer) a well
-    (λ image w is. answers_after profile plain after image lead answer a w is) says
-says_after bytes faults profile plain after old new out NoImage a well says = absurd (lacks_none (takes_image plain) old says)
+read_after : (profile : Profile) (plain after : Asked) (source : Looked) (part : List ℕ) → IsAfter profile plain after → IsWell profile source → IsReadPart plain source part → IsReadPart after source part
+read_after profile plain after source part a well is = record {
+  is = part_after profile plain after source part a well is.is;
+  before = λ none. let P : List ℕ → Type 0 = λ l. IsPrefix part l in subst P a.lead_is (is.before (a.streams_is ∙ none));
+}
 
-ended_after : {S : Type 0} (bytes : S → Option (List ℕ)) (faults : S → ℕ) (profile : Profile) (plain after : Asked) (old new : S) (ended : Result Unit Stopped) (out : Sunk) → IsAfter profile plain after → IsWell bytes profile old →
-    HasEnded bytes faults (Some plain) (Image old) (Image new) ended out → HasEnded bytes faults (Some after) (Image old) (Image new) ended out
-ended_after bytes faults profile plain after old new ended out a well (part, says, wrote) =
-    (part, says_after bytes faults profile plain after old new out (outcome_of ended part) a well says, wrote)
+says_after : (profile : Profile) (plain after : Asked) (source : Looked) (failed : Type 0) (o : Outcome) → IsAfter profile plain after → IsWell profile source → SaysOn plain source failed o → SaysOn after source failed o
+says_after profile plain after source failed (Written text) a well says =
+    record { formed = a.formed text says.formed; is = λ image told. text_after profile plain after image text a (well image told) (says.is image told) }
+says_after profile plain after source failed (Faulty lead named) a well says =
+    (says.0 ∙ a.lead_is, λ image told. stops_after profile plain after image (IsNamed plain image named) (IsNamed after image named) a (well image told) (says.1 image told))
+says_after profile plain after source failed WrongWords a well says = says
+says_after profile plain after source failed (ReadFailed part) a well says = (says.0, read_after profile plain after source part a well says.1)
+says_after profile plain after source failed (WriteFailed part) a well says = (says.0, part_after profile plain after source part a well says.1)
+says_after profile plain after source failed (OutOfMemory part) a well says = part_after profile plain after source part a well says
+says_after profile plain after source failed (Refused lead feature block) a well says =
+    (says.0 ∙ a.lead_is, λ image told. stops_after profile plain after image (IsFeature plain image feature block) (IsFeature after image feature block) a (well image told) (says.1 image told))
+says_after profile plain after source failed (Answered lead answer) a well says = (says.0 ∙ a.lead_is, λ image told. answers_after profile plain after image answer a (well image told) (says.1 image told))
+says_after profile plain after source failed NoImage a well says = says
+says_after profile plain after source failed NoFolder a well says = says
+
+ended_after : (profile : Profile) (plain after : Asked) (source : Looked) (ended : Result Unit Stopped) (out : Sunk) → IsAfter profile plain after → IsWell profile source → HasEnded plain source ended out → HasEnded after source ended out
+ended_after profile plain after source ended out a well (part, says, wrote) = (part, says_after profile plain after source (Failed out) (outcome_of ended part) a well says, wrote)
 
 -- the commands on a view
 ls_after : (profile : Profile) (target : AskedTarget) → IsAfter profile (Ls Quick target) (Ls (First profile) target)
 ls_after profile target = record {
-  plain_takes = refl;
-  after_takes = refl;
   lead_is = refl;
+  streams_is = refl;
+  formed = λ text is. is;
   text = λ image text is. is.1;
   text_is = λ image text w is. (w, is);
   answer = λ image answer is. is.1;
@@ -142,9 +131,9 @@ ls_after profile target = record {
 
 tree_after : (profile : Profile) (target : AskedTarget) → IsAfter profile (Tree Quick target) (Tree (First profile) target)
 tree_after profile target = record {
-  plain_takes = refl;
-  after_takes = refl;
   lead_is = refl;
+  streams_is = refl;
+  formed = λ text is. is;
   text = λ image text is. is.1;
   text_is = λ image text w is. (w, is);
   answer = λ image answer is. is.1;
@@ -155,9 +144,9 @@ tree_after profile target = record {
 
 cat_after : (profile : Profile) (target : AskedTarget) → IsAfter profile (Cat Quick target) (Cat (First profile) target)
 cat_after profile target = record {
-  plain_takes = refl;
-  after_takes = refl;
   lead_is = refl;
+  streams_is = refl;
+  formed = λ text is. is;
   text = λ image text is. is.1;
   text_is = λ image text w is. (w, is);
   answer = λ image answer is. is.1;
@@ -168,9 +157,9 @@ cat_after profile target = record {
 
 xattr_after : (profile : Profile) (target : AskedTarget) (name : Option (List ℕ)) → IsAfter profile (Xattr Quick target name) (Xattr (First profile) target name)
 xattr_after profile target name = record {
-  plain_takes = refl;
-  after_takes = refl;
   lead_is = refl;
+  streams_is = refl;
+  formed = λ text is. is;
   text = λ image text is. is.1;
   text_is = λ image text w is. (w, is);
   answer = λ image answer is. is.1;
@@ -202,6 +191,10 @@ sound_result (Check asked) profile image e w =
     let right : IsWellFormed asked image = at_profile asked profile image e w in
     let told = reported asked image right in
     inl (report_text told.0, (told.0, record { right = right; report = told.1 }, refl))
+sound_result (Gen n) profile image e w =
+    let right : IsWellFormed Plain image = at_profile Plain profile image e w in
+    let told = reported Plain image right in
+    inl (gen.lead n ++ report_text told.0, (told.0, record { right = right; report = told.1 }, refl))
 sound_result (Ls Quick target) profile image e w = absurd Prim.cc
 sound_result (Ls (First asked) target) profile image e w = result_after asked (Ls Quick target) (Ls (First asked) target) image (ls_after asked target) (at_profile asked profile image e w)
 sound_result (Tree Quick target) profile image e w = absurd Prim.cc
@@ -212,26 +205,27 @@ sound_result (Xattr Quick target name) profile image e w = absurd Prim.cc
 sound_result (Xattr (First asked) target name) profile image e w = result_after asked (Xattr Quick target name) (Xattr (First asked) target name) image (xattr_after asked target name) (at_profile asked profile image e w)
 
 -- a check that was asked for found nothing, and the command came to something without one
-pub clean_ended : {S : Type 0} (bytes : S → Option (List ℕ)) (faults : S → ℕ) (command : Asked) (old new : S) (ended : Result Unit Stopped) (out : Sunk) → ((image : List ℕ) → bytes old ≡ Some image → IsClean (checks_of command) image) →
-    HasEnded bytes faults (Some (quick command)) (Image old) (Image new) ended out → HasEnded bytes faults (Some command) (Image old) (Image new) ended out
-clean_ended bytes faults Ring old new ended out clean has = has
-clean_ended bytes faults Info old new ended out clean has = has
-clean_ended bytes faults Volumes old new ended out clean has = has
-clean_ended bytes faults Space old new ended out clean has = has
-clean_ended bytes faults (Check profile) old new ended out clean has = has
-clean_ended bytes faults (Snapshots volume) old new ended out clean has = has
-clean_ended bytes faults (Ls Quick target) old new ended out clean has = has
-clean_ended bytes faults (Ls (First profile) target) old new ended out clean has =
-    ended_after bytes faults profile (Ls Quick target) (Ls (First profile) target) old new ended out (ls_after profile target) clean has
-clean_ended bytes faults (Tree Quick target) old new ended out clean has = has
-clean_ended bytes faults (Tree (First profile) target) old new ended out clean has =
-    ended_after bytes faults profile (Tree Quick target) (Tree (First profile) target) old new ended out (tree_after profile target) clean has
-clean_ended bytes faults (Cat Quick target) old new ended out clean has = has
-clean_ended bytes faults (Cat (First profile) target) old new ended out clean has =
-    ended_after bytes faults profile (Cat Quick target) (Cat (First profile) target) old new ended out (cat_after profile target) clean has
-clean_ended bytes faults (Xattr Quick target name) old new ended out clean has = has
-clean_ended bytes faults (Xattr (First profile) target name) old new ended out clean has =
-    ended_after bytes faults profile (Xattr Quick target name) (Xattr (First profile) target name) old new ended out (xattr_after profile target name) clean has
+pub clean_ended : (command : Asked) (source : Looked) (ended : Result Unit Stopped) (out : Sunk) → OfImage source (λ image. IsClean (checks_of command) image) →
+    HasEnded (quick command) source ended out → HasEnded command source ended out
+clean_ended Ring source ended out clean has = has
+clean_ended Info source ended out clean has = has
+clean_ended Volumes source ended out clean has = has
+clean_ended Space source ended out clean has = has
+clean_ended (Check profile) source ended out clean has = has
+clean_ended (Snapshots volume) source ended out clean has = has
+clean_ended (Gen n) source ended out clean has = has
+clean_ended (Ls Quick target) source ended out clean has = has
+clean_ended (Ls (First profile) target) source ended out clean has =
+    ended_after profile (Ls Quick target) (Ls (First profile) target) source ended out (ls_after profile target) clean has
+clean_ended (Tree Quick target) source ended out clean has = has
+clean_ended (Tree (First profile) target) source ended out clean has =
+    ended_after profile (Tree Quick target) (Tree (First profile) target) source ended out (tree_after profile target) clean has
+clean_ended (Cat Quick target) source ended out clean has = has
+clean_ended (Cat (First profile) target) source ended out clean has =
+    ended_after profile (Cat Quick target) (Cat (First profile) target) source ended out (cat_after profile target) clean has
+clean_ended (Xattr Quick target name) source ended out clean has = has
+clean_ended (Xattr (First profile) target name) source ended out clean has =
+    ended_after profile (Xattr Quick target name) (Xattr (First profile) target name) source ended out (xattr_after profile target name) clean has
 
 -- ---- the container isn't well-formed
 
@@ -254,70 +248,63 @@ feature_by (First profile) image feature block X flaw = flaw
 
 -- what a check names stops the command
 pub record IsStoppedBy (checks : Checks) (command : Asked) : Type 0 where
-  pub takes : takes_image command ≡ true
-  pub fault : (image : List ℕ) (fault : Fault) → FaultBy checks image fault ⊥ → StopsAt command image [] (IsFault command image fault)
-  pub feature : (image : List ℕ) (feature : Feature) (block : ℕ) → FeatureBy checks image feature block ⊥ → StopsAt command image [] (IsFeature command image feature block)
+  pub lead_is : [] ≡ lead_of command
+  pub fault : (image : List ℕ) (fault : Fault) → FaultBy checks image fault ⊥ → StopsAt command image (IsFault command image fault)
+  pub feature : (image : List ℕ) (feature : Feature) (block : ℕ) → FeatureBy checks image feature block ⊥ → StopsAt command image (IsFeature command image feature block)
 
 -- nothing stops a command for which no check is asked
-no_check : (command : Asked) → takes_image command ≡ true → IsStoppedBy Quick command
-no_check command takes = record { takes = takes; fault = λ image fault flaw. absurd flaw; feature = λ image feature block flaw. absurd flaw }
+no_check : (command : Asked) → [] ≡ lead_of command → IsStoppedBy Quick command
+no_check command lead = record { lead_is = lead; fault = λ image fault flaw. absurd flaw; feature = λ image feature block flaw. absurd flaw }
 
--- the check before a command
-pub first_stops : (command : Asked) → IsStoppedBy (checks_of command) command
-first_stops Ring = no_check Ring refl
-first_stops Info = no_check Info refl
-first_stops Volumes = no_check Volumes refl
-first_stops Space = no_check Space refl
-first_stops (Check profile) = no_check (Check profile) refl
-first_stops (Snapshots volume) = no_check (Snapshots volume) refl
-first_stops (Ls checks target) = record {
-  takes = refl;
+-- the check before a command on what is handed in
+pub first_stops : (command : Asked) → from_of command ≡ HandedIn → IsStoppedBy (checks_of command) command
+first_stops Ring e = no_check Ring refl
+first_stops Info e = no_check Info refl
+first_stops Volumes e = no_check Volumes refl
+first_stops Space e = no_check Space refl
+first_stops (Check profile) e = no_check (Check profile) refl
+first_stops (Snapshots volume) e = no_check (Snapshots volume) refl
+first_stops (Gen n) e = absurd Prim.cc
+first_stops (Ls checks target) e = record {
+  lead_is = refl;
   fault = λ image fault flaw. record {
-    lead_is = refl;
     none = no_result (Ls checks target) image (λ text. clash_fault checks image fault (ls.IsText target image text) flaw) (λ answer. clash_fault checks image fault (ls.IsAnswer target image answer) flaw);
     there_is = fault_by checks image fault (ls.IsFault target image fault) flaw;
   };
   feature = λ image feature block flaw. record {
-    lead_is = refl;
     none = no_result (Ls checks target) image (λ text. clash_feature checks image feature block (ls.IsText target image text) flaw) (λ answer. clash_feature checks image feature block (ls.IsAnswer target image answer) flaw);
     there_is = feature_by checks image feature block (ls.IsFeature target image feature block) flaw;
   };
 }
-first_stops (Tree checks target) = record {
-  takes = refl;
+first_stops (Tree checks target) e = record {
+  lead_is = refl;
   fault = λ image fault flaw. record {
-    lead_is = refl;
     none = no_result (Tree checks target) image (λ text. clash_fault checks image fault (tree.IsText target image text) flaw) (λ answer. clash_fault checks image fault (tree.IsAnswer target image answer) flaw);
     there_is = fault_by checks image fault (tree.IsFault target image fault) flaw;
   };
   feature = λ image feature block flaw. record {
-    lead_is = refl;
     none = no_result (Tree checks target) image (λ text. clash_feature checks image feature block (tree.IsText target image text) flaw) (λ answer. clash_feature checks image feature block (tree.IsAnswer target image answer) flaw);
     there_is = feature_by checks image feature block (tree.IsFeature target image feature block) flaw;
   };
 }
-first_stops (Cat checks target) = record {
-  takes = refl;
+first_stops (Cat checks target) e = record {
+  lead_is = refl;
   fault = λ image fault flaw. record {
-    lead_is = refl;
     none = no_result (Cat checks target) image (λ text. clash_fault checks image fault (cat.IsText target image text) flaw) (λ answer. clash_fault checks image fault (cat.IsAnswer target image answer) flaw);
     there_is = fault_by checks image fault (cat.IsFault target image fault) flaw;
   };
   feature = λ image feature block flaw. record {
-    lead_is = refl;
     none = no_result (Cat checks target) image (λ text. clash_feature checks image feature block (cat.IsText target image text) flaw) (λ answer. clash_feature checks image feature block (cat.IsAnswer target image answer) flaw);
     there_is = feature_by checks image feature block (cat.IsFeature target image feature block) flaw;
   };
 }
-first_stops (Xattr checks target name) = record {
-  takes = refl;
+first_stops (Xattr checks target name) e = record {
+  lead_is = refl;
   fault = λ image fault flaw. record {
-    lead_is = refl;
     none = no_result (Xattr checks target name) image (λ text. clash_fault checks image fault (xattr.IsText target name image text) flaw) (λ answer. clash_fault checks image fault (xattr.IsAnswer target name image answer) flaw);
     there_is = fault_by checks image fault (xattr.IsFault target image fault) flaw;
   };
   feature = λ image feature block flaw. record {
-    lead_is = refl;
     none = no_result (Xattr checks target name) image (λ text. clash_feature checks image feature block (xattr.IsText target name image text) flaw) (λ answer. clash_feature checks image feature block (xattr.IsAnswer target name image answer) flaw);
     there_is = feature_by checks image feature block (xattr.IsFeature target image feature block) flaw;
   };
@@ -326,14 +313,12 @@ first_stops (Xattr checks target name) = record {
 -- the check that a command is
 pub check_stops : (profile : Profile) → IsStoppedBy (First profile) (Check profile)
 check_stops profile = record {
-  takes = refl;
+  lead_is = refl;
   fault = λ image fault flaw. record {
-    lead_is = refl;
     none = no_result (Check profile) image (λ text is. flawed_refutes profile image (inl (fault, flaw)) is.1.right) (λ answer is. is);
     there_is = flaw;
   };
   feature = λ image feature block flaw. record {
-    lead_is = refl;
     none = no_result (Check profile) image (λ text is. flawed_refutes profile image (inr (feature, (block, flaw))) is.1.right) (λ answer is. is);
     there_is = flaw;
   };
@@ -342,18 +327,18 @@ check_stops profile = record {
 -- a check stopped the command, and nothing was written
 pub flaw_ended : {S T : Type 0} (bytes : S → Option (List ℕ)) (faults : S → ℕ) (checks : Checks) (command : Asked) (old new : S) (stopped : Stopped) (contents : Option (List ℕ)) (count : ℕ) → IsStoppedBy checks command →
     ((image : List ℕ) → bytes old ≡ Some image → TellsFlaw checks image stopped) → IsWhileLooking stopped → (◌≡◌ {A = Result T Stopped} (Err stopped) (Err stops.ReadFailed) → Rose (faults old) (faults new)) →
-    HasEnded bytes faults (Some command) (Image old) (Image new) (Err stopped) (record { old = contents; new = contents; old_faults = count; new_faults = count })
-flaw_ended bytes faults checks command old new (stops.Faulty fault) contents count is tells looking cause =
-    ([], (lacks_none (takes_image command) old, λ image given. is.fault image fault (tells image (given_bytes bytes (takes_image command) old image is.takes given))), wrote_nothing contents)
+    HasEnded command (looked bytes faults old new) (Err stopped) (record { old = contents; new = contents; old_faults = count; new_faults = count })
+flaw_ended bytes faults checks command old new (stops.Faulty why) contents count is tells looking cause =
+    ([], (is.lead_is, λ image told. named_of command image why (λ fault. FaultBy checks image fault ⊥) (is.fault image) (tells image told)), wrote_nothing contents)
 flaw_ended bytes faults checks command old new (stops.Refused feature block) contents count is tells looking cause =
-    ([], (lacks_none (takes_image command) old, λ image given. is.feature image feature block (tells image (given_bytes bytes (takes_image command) old image is.takes given))), wrote_nothing contents)
-flaw_ended bytes faults checks command old new (stops.Answered answer) contents count is tells looking cause =
-    ([], (lacks_none (takes_image command) old, λ image given. absurd (tells image (given_bytes bytes (takes_image command) old image is.takes given))), wrote_nothing contents)
-flaw_ended bytes faults checks command old new stops.ReadFailed contents count is tells looking cause = ([], (cause refl, inl refl), wrote_nothing contents)
-flaw_ended bytes faults checks command old new stops.OutOfMemory contents count is tells looking cause = ([], inl refl, wrote_nothing contents)
-flaw_ended bytes faults checks command old new stops.Usage contents count is tells looking cause = absurd looking
+    ([], (is.lead_is, λ image told. is.feature image feature block (tells image told)), wrote_nothing contents)
+flaw_ended bytes faults checks command old new (stops.Answered answer) contents count is tells looking cause = ([], (is.lead_is, λ image told. absurd (tells image told)), wrote_nothing contents)
+flaw_ended bytes faults checks command old new stops.ReadFailed contents count is tells looking cause = read_ended command (looked bytes faults old new) contents count (cause refl)
+flaw_ended bytes faults checks command old new stops.OutOfMemory contents count is tells looking cause = no_memory_ended command (looked bytes faults old new) contents count
+flaw_ended bytes faults checks command old new stops.WrongWords contents count is tells looking cause = absurd looking
 flaw_ended bytes faults checks command old new stops.WriteFailed contents count is tells looking cause = absurd looking
 flaw_ended bytes faults checks command old new stops.NoImage contents count is tells looking cause = absurd looking
+flaw_ended bytes faults checks command old new stops.NoFolder contents count is tells looking cause = absurd looking
 
 -- what a stop of the check says of the container
 pub tells_flaw : (profile : Profile) (image : List ℕ) (stop : Stop Fault) → Tells (container.IsPresent profile image) (container.IsFeature image) stop → TellsFlaw (First profile) image (stopped_at (λ (fault : Fault). fault) stop)

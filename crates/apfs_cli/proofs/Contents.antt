@@ -1,9 +1,9 @@
 -- What a run of a command that writes contents has come to at the view that is meant.
-use Rattle.std.specs.Prelude.{◌≡◌, ℕ, ◌++◌, List, [], Option, Some, Result, Ok, Err, refl}
+use Rattle.std.specs.Prelude.{◌≡◌, ℕ, ◌++◌, true, false, List, [], Option, Some, Result, Ok, Err, refl}
 use Rattle.std.proofs.Common.{inl, inr, sym, ◌∙◌, subst}
+use Rattle.std.proofs.lemmas.List.{append-nil}
 use Rattle.apfs_model.specs.Counts.{Rose}
 use Rattle.apfs_model.specs.Sink.{Wrote}
-use Rattle.blk_source.specs.declared.source.Opened.TheVariants.{Image}
 use Rattle.view_rules.specs.declared.fault.TreeFault.{TreeFault}
 use Rattle.cmd_words.specs.Asked.{AskedTarget}
 use Rattle.obj_base.specs.declared.site.Site.{Site}
@@ -21,13 +21,15 @@ use Rattle.path_read.specs.declared.stop.WriteStop.{WriteStop}
 use Rattle.path_read.specs.declared.stop.WriteStop.TheVariants as writes
 use Rattle.apfs_cli.specs.MeantView.{IsMeantView}
 use Rattle.apfs_cli.specs.OnView.{Wanted}
-use Rattle.apfs_cli.specs.Says.{IsPart, IsTextIf, HasEnded}
+use Rattle.apfs_cli.specs.Says.{IsPart, IsReadPart, IsTextIf, HasEnded}
 use Rattle.apfs_cli.specs.Seen.{stopped_writing}
 use Rattle.apfs_cli.specs.Words.{Asked}
 use Rattle.apfs_cli.specs.Written.{Sunk}
-use Rattle.apfs_cli.specs.ByCommand.{takes_image}
-use Rattle.apfs_cli.proofs.AtView.{given_bytes, IsAtView, path_stopped}
-use Rattle.apfs_cli.proofs.Endings.{lacks_none}
+use Rattle.apfs_cli.specs.ByCommand.{streams}
+use Rattle.apfs_cli.specs.Formed.{IsFormed}
+use Rattle.apfs_cli.specs.Handed.{looked}
+use Rattle.apfs_cli.proofs.AtView.{IsAtView, path_stopped}
+use Rattle.apfs_cli.proofs.Endings.{nothing_part}
 use Rattle.apfs_cli.proofs.OverView.{IsOverView}
 use Rattle.apfs_cli.proofs.Puts.{wrote_nothing, rose_later}
 
@@ -42,39 +44,52 @@ text_at command wanted told target image seen volume view text is meant exact re
     let lawful : IsLawful image (site_of seen) volume view = is.rests image rests seen volume view meant in
     is.text_is image text (record { seen = seen; volume = volume; view = view; is = meant; lawful = lawful; same = exact lawful })
 
+-- a command puts contents as they are read: its text is any bytes
+pub record IsStreaming (command : Asked) : Type 0 where
+  pub streams_is : streams command ≡ true
+  pub formed : (text : List ℕ) → IsFormed command text
+
 -- the contents that are wanted of the view were written
 pub contents_written : {S : Type 0} (bytes : S → Option (List ℕ)) (faults : S → ℕ) (command : Asked) (wanted : Wanted) (told : Facts → TreeFault → Type 0) (target : AskedTarget) (old mid new : S)
-    (seen : Seen) (volume : Loaded) (view : View) (site : Site) (out : Sunk) → IsOverView command wanted told target → IsAtView bytes faults target old mid seen volume view site →
+    (seen : Seen) (volume : Loaded) (view : View) (site : Site) (out : Sunk) → IsOverView command wanted told target → IsStreaming command → IsAtView bytes faults target old mid seen volume view site →
     HasPart out.old out.new (bytes mid) (λ image. IsLawful image site volume view) (wanted_at wanted volume view site) (Ok tt) →
-    HasEnded bytes faults (Some command) (Image old) (Image new) (Ok tt) out
-contents_written bytes faults command wanted told target old mid new seen volume view site out is at has =
+    HasEnded command (looked bytes faults old new) (Ok tt) out
+contents_written bytes faults command wanted told target old mid new seen volume view site out is stream at has =
     let P : Site → Type 0 = λ s. HasWhole (bytes mid) (λ image. IsLawful image s volume view) (wanted_at wanted volume view s) has.0 in
     let whole = subst P at.site_is has.2 in (
       has.0,
-      (
-        lacks_none (takes_image command) old,
-        λ image given.
-            let told_old : bytes old ≡ Some image = given_bytes bytes (takes_image command) old image is.takes given in
-            text_at command wanted told target image seen volume view has.0 is (at.meant image told_old) (whole image (at.same_bytes ∙ told_old)),
-      ),
+      record {
+        formed = stream.formed has.0;
+        is = λ image given. text_at command wanted told target image seen volume view has.0 is (at.meant image given) (whole image (at.same_bytes ∙ given));
+      },
       has.1,
     )
 
 -- a front of the contents that are wanted of the view is a part of what the command writes
-front_part : {S : Type 0} (bytes : S → Option (List ℕ)) (faults : S → ℕ) (command : Asked) (wanted : Wanted) (told : Facts → TreeFault → Type 0) (target : AskedTarget) (old mid : S)
-    (seen : Seen) (volume : Loaded) (view : View) (site : Site) (part : List ℕ) → IsOverView command wanted told target → IsAtView bytes faults target old mid seen volume view site →
-    HasFront (bytes mid) (λ image. IsLawful image site volume view) (wanted_at wanted volume view site) part → IsPart bytes (Some command) (Image old) part
-front_part bytes faults command wanted told target old mid seen volume view site part is at (inl none) = inl none
-front_part bytes faults command wanted told target old mid seen volume view site part is at (inr some) =
+front_part : {S : Type 0} (bytes : S → Option (List ℕ)) (faults : S → ℕ) (command : Asked) (wanted : Wanted) (told : Facts → TreeFault → Type 0) (target : AskedTarget) (old mid new : S)
+    (seen : Seen) (volume : Loaded) (view : View) (site : Site) (part : List ℕ) → IsOverView command wanted told target → IsStreaming command → IsAtView bytes faults target old mid seen volume view site →
+    HasFront (bytes mid) (λ image. IsLawful image site volume view) (wanted_at wanted volume view site) part → IsPart command (looked bytes faults old new) part
+front_part bytes faults command wanted told target old mid new seen volume view site part is stream at (inl none) =
+    let P : List ℕ → Type 0 = λ p. IsPart command (looked bytes faults old new) p in
+    subst P (sym none) (nothing_part command (looked bytes faults old new))
+front_part bytes faults command wanted told target old mid new seen volume view site part is stream at (inr some) =
     let P : Site → Type 0 = λ s. (image : List ℕ) → bytes mid ≡ Some image → (text : List ℕ) × (rest : List ℕ) × (text ≡ part ++ rest) × (IsLawful image s volume view → wanted_at wanted volume view s image ≡ Ok text) in
     let front = subst P at.site_is some in
-    inr (
-      lacks_none (takes_image command) old,
-      λ image given.
-          let told_old : bytes old ≡ Some image = given_bytes bytes (takes_image command) old image is.takes given in
-          let there = front image (at.same_bytes ∙ told_old) in
-          inr (there.0, text_at command wanted told target image seen volume view there.0 is (at.meant image told_old) there.3, (there.1, there.2)),
-    )
+    record {
+      formed = inr (part, stream.formed part, ([], sym (append-nil part)));
+      begins = λ image given.
+          let there = front image (at.same_bytes ∙ given) in
+          inr (there.0, text_at command wanted told target image seen volume view there.0 is (at.meant image given) there.3, (there.1, there.2));
+    }
+
+-- so is one before a read failed
+front_read : {S : Type 0} (bytes : S → Option (List ℕ)) (faults : S → ℕ) (command : Asked) (wanted : Wanted) (told : Facts → TreeFault → Type 0) (target : AskedTarget) (old mid new : S)
+    (seen : Seen) (volume : Loaded) (view : View) (site : Site) (part : List ℕ) → IsOverView command wanted told target → IsStreaming command → IsAtView bytes faults target old mid seen volume view site →
+    HasFront (bytes mid) (λ image. IsLawful image site volume view) (wanted_at wanted volume view site) part → IsReadPart command (looked bytes faults old new) part
+front_read bytes faults command wanted told target old mid new seen volume view site part is stream at has = record {
+  is = front_part bytes faults command wanted told target old mid new seen volume view site part is stream at has;
+  before = λ none. let clash : true ≡ false = sym stream.streams_is ∙ none in absurd Prim.cc;
+}
 
 -- a sink that has what it had has nothing more
 untouched_wrote : (old new : Option (List ℕ)) → new ≡ old → Wrote old new []
@@ -82,7 +97,7 @@ untouched_wrote old new same = let P : Option (List ℕ) → Type 0 = λ c. Wrot
 
 -- a call on a path of the view that writes stopped, after a front of the contents where a read or a put failed, and otherwise before it wrote
 pub writing_stopped : {S : Type 0} (bytes : S → Option (List ℕ)) (faults : S → ℕ) (command : Asked) (wanted : Wanted) (told : Facts → TreeFault → Type 0) (target : AskedTarget) (old mid new : S)
-    (seen : Seen) (volume : Loaded) (view : View) (site : Site) (stop : WriteStop) (out : Sunk) → IsOverView command wanted told target → IsAtView bytes faults target old mid seen volume view site →
+    (seen : Seen) (volume : Loaded) (view : View) (site : Site) (stop : WriteStop) (out : Sunk) → IsOverView command wanted told target → IsStreaming command → IsAtView bytes faults target old mid seen volume view site →
     HasPart out.old out.new (bytes mid) (λ image. IsLawful image site volume view) (wanted_at wanted volume view site) (Err stop) →
     IsUntouched out.old out.new stop →
     ((image : List ℕ) → bytes mid ≡ Some image → IsLawful image site volume view → IsWritten out.old out.new (wanted_at wanted volume view site image) (Err stop)) →
@@ -90,16 +105,16 @@ pub writing_stopped : {S : Type 0} (bytes : S → Option (List ℕ)) (faults : S
     ((facts : Facts) (fault : TreeFault) → told facts fault) →
     (◌≡◌ {A = Result Unit WriteStop} (Err stop) (Err (writes.Stopped layer.ReadFault)) → Rose (faults mid) (faults new)) →
     (◌≡◌ {A = Result Unit WriteStop} (Err stop) (Err writes.WriteFault) → Rose out.old_faults out.new_faults) →
-    HasEnded bytes faults (Some command) (Image old) (Image new) (Err (stopped_writing stop)) out
-writing_stopped bytes faults command wanted told target old mid new seen volume view site (writes.Stopped (layer.Found (paths.Answer answer))) out is at has untouched exact present told_is read write =
+    HasEnded command (looked bytes faults old new) (Err (stopped_writing stop)) out
+writing_stopped bytes faults command wanted told target old mid new seen volume view site (writes.Stopped (layer.Found (paths.Answer answer))) out is stream at has untouched exact present told_is read write =
     path_stopped bytes faults command wanted told target old mid new seen volume view site (layer.Found (paths.Answer answer)) out is at exact present (λ image given fault e. told_is _ fault) (λ e. Prim.cc) (untouched_wrote out.old out.new untouched)
-writing_stopped bytes faults command wanted told target old mid new seen volume view site (writes.Stopped (layer.Found (paths.Fault why))) out is at has untouched exact present told_is read write =
+writing_stopped bytes faults command wanted told target old mid new seen volume view site (writes.Stopped (layer.Found (paths.Fault why))) out is stream at has untouched exact present told_is read write =
     path_stopped bytes faults command wanted told target old mid new seen volume view site (layer.Found (paths.Fault why)) out is at exact present (λ image given fault e. told_is _ fault) (λ e. Prim.cc) (untouched_wrote out.old out.new untouched)
-writing_stopped bytes faults command wanted told target old mid new seen volume view site (writes.Stopped (layer.Unsupported feature block)) out is at has untouched exact present told_is read write =
+writing_stopped bytes faults command wanted told target old mid new seen volume view site (writes.Stopped (layer.Unsupported feature block)) out is stream at has untouched exact present told_is read write =
     path_stopped bytes faults command wanted told target old mid new seen volume view site (layer.Unsupported feature block) out is at exact present (λ image given fault e. told_is _ fault) (λ e. Prim.cc) (untouched_wrote out.old out.new untouched)
-writing_stopped bytes faults command wanted told target old mid new seen volume view site (writes.Stopped layer.NoMemory) out is at has untouched exact present told_is read write =
+writing_stopped bytes faults command wanted told target old mid new seen volume view site (writes.Stopped layer.NoMemory) out is stream at has untouched exact present told_is read write =
     path_stopped bytes faults command wanted told target old mid new seen volume view site layer.NoMemory out is at exact present (λ image given fault e. told_is _ fault) (λ e. Prim.cc) (untouched_wrote out.old out.new untouched)
-writing_stopped bytes faults command wanted told target old mid new seen volume view site (writes.Stopped layer.ReadFault) out is at has untouched exact present told_is read write =
-    (has.0, (rose_later (faults old) (faults mid) (faults new) at.later (read refl), front_part bytes faults command wanted told target old mid seen volume view site has.0 is at has.2), has.1)
-writing_stopped bytes faults command wanted told target old mid new seen volume view site writes.WriteFault out is at has untouched exact present told_is read write =
-    (has.0, (write refl, front_part bytes faults command wanted told target old mid seen volume view site has.0 is at has.2), has.1)
+writing_stopped bytes faults command wanted told target old mid new seen volume view site (writes.Stopped layer.ReadFault) out is stream at has untouched exact present told_is read write =
+    (has.0, (rose_later (faults old) (faults mid) (faults new) at.later (read refl), front_read bytes faults command wanted told target old mid new seen volume view site has.0 is stream at has.2), has.1)
+writing_stopped bytes faults command wanted told target old mid new seen volume view site writes.WriteFault out is stream at has untouched exact present told_is read write =
+    (has.0, (write refl, front_part bytes faults command wanted told target old mid new seen volume view site has.0 is stream at has.2), has.1)

@@ -15,5 +15,9 @@ pub mod Browsable
 pub mod Checked
 pub mod Contents
 pub mod Present
+pub mod Owed
 pub mod Statuses
+pub mod Plugs
+pub mod Led
+pub mod Orders
 mod Examples

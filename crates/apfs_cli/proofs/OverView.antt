@@ -1,12 +1,11 @@
 -- What a run of a command on the view that is meant has come to.
-use Rattle.std.specs.Prelude.{◌≡◌, ◌⊎◌, ℕ, true, List, [], Option, Some, Result, Ok, Err, refl}
+use Rattle.std.specs.Prelude.{◌≡◌, ◌⊎◌, ℕ, List, [], Option, Result, Ok, Err, refl}
 use Rattle.std.proofs.Common.{inl, inr, sym, ◌∙◌, ap, subst}
 use Rattle.apfs_model.specs.Lists.{and_then}
 use Rattle.apfs_model.specs.Sink.{Wrote}
 use Rattle.obj_base.specs.declared.stop.Feature.{Feature}
 use Rattle.obj_base.specs.declared.stop.Stop.{Stop}
 use Rattle.obj_base.specs.declared.stop.Stop.TheVariants as layer
-use Rattle.blk_source.specs.declared.source.Opened.{Opened}
 use Rattle.view_rules.specs.declared.fault.TreeFault.{TreeFault}
 use Rattle.cmd_words.specs.Asked.{AskedTarget}
 use Rattle.nx_ring.specs.Checkpoint.{Seen, site_of}
@@ -23,17 +22,19 @@ use Rattle.path_walk.specs.declared.stop.PathStop.{PathStop}
 use Rattle.path_walk.specs.declared.stop.PathStop.TheVariants as paths
 use Rattle.apfs_cli.specs.declared.stopped.Stopped.{Stopped}
 use Rattle.apfs_cli.specs.declared.stopped.Stopped.TheVariants as stops
-use Rattle.apfs_cli.specs.ByCommand.{takes_image, lead_of, IsText, IsFault, IsFeature, IsAnswer, RestsOn, HasResult}
+use Rattle.apfs_cli.specs.ByCommand.{lead_of, IsText, IsFault, IsFeature, IsAnswer, RestsOn, HasResult}
+use Rattle.apfs_cli.specs.Formed.{IsFormed}
+use Rattle.apfs_cli.specs.Handed.{Looked, LookFailed, OfImage}
 use Rattle.apfs_cli.specs.Meant.{HasVolume, HasNoVolume}
 use Rattle.apfs_cli.specs.MeantView.{IsMeantView, HasNoSnapshot, IsLawfulView}
 use Rattle.apfs_cli.specs.OnView.{ByAnswer, Wanted, IsWantedOf, IsTextOn, IsAnswerOn, IsFaultOn, IsFeatureOn}
 use Rattle.apfs_cli.specs.Reached.{TellsWay, TellsViewWay, IsWhileLooking}
-use Rattle.apfs_cli.specs.Says.{LacksImage, IsGiven, SourceFailed, StopsAt, IsOnlyAnswer, AnswersAt, HasEnded}
+use Rattle.apfs_cli.specs.Says.{StopsAt, IsOnlyAnswer, AnswersAt, HasEnded}
 use Rattle.apfs_cli.specs.Seen.{answered_of, stopped_on}
 use Rattle.apfs_cli.specs.Words.{Asked}
 use Rattle.apfs_cli.specs.Written.{Sunk, IsPut}
 use Rattle.apfs_cli.proofs.ByAnswers.{IsOfPath, which_answer, answered_same, answered_third, of_path}
-use Rattle.apfs_cli.proofs.Endings.{put_ended_if}
+use Rattle.apfs_cli.proofs.Endings.{put_ended_if, nothing_part, nothing_read, read_ended, no_memory_ended}
 use Rattle.apfs_cli.proofs.OverVolume.{IsOverVolume, way_ended, no_volume_answers}
 use Rattle.apfs_cli.proofs.Puts.{wrote_nothing}
 use Rattle.apfs_cli.proofs.Views.{view_volume, view_or_none, no_volume_no_view, wanted_view, wanted_lawful, answer_lawful, one_wanted}
@@ -42,7 +43,6 @@ use Rattle.apfs_cli.proofs.Ways.{volume_or_none}
 -- a command is one on the view that is meant, of which something is wanted
 pub record IsOverView (command : Asked) (wanted : Wanted) (told : Facts → TreeFault → Type 0) (target : AskedTarget) : Type 0 where
   pub lead_is : [] ≡ lead_of command
-  pub takes : takes_image command ≡ true
   pub rests : (image : List ℕ) → RestsOn command image → IsLawfulView image target
   pub text : (image text : List ℕ) → IsText command image text → IsTextOn wanted target image text
   pub text_is : (image text : List ℕ) → IsTextOn wanted target image text → IsText command image text
@@ -87,14 +87,11 @@ only_no_snapshot wanted target image answer is lacks =
 
 -- where no snapshot has the name, that is the only answer
 no_snapshot_answers : (command : Asked) (wanted : Wanted) (told : Facts → TreeFault → Type 0) (target : AskedTarget) (image : List ℕ) (answer : Answer) → IsOverView command wanted told target →
-    answer ≡ NoSnapshot → HasNoSnapshot image target → AnswersAt command image [] answer
-no_snapshot_answers command wanted told target image answer is same lacks = record {
-  lead_is = is.lead_is;
-  only_is = λ rests. record {
-    none = λ text has. view_or_none image target (wanted_view wanted target image (Ok text) (is.text image text has)) lacks;
-    only = λ other has. only_no_snapshot wanted target image other (is.answer image other has) lacks ∙ sym same;
-    answer_is = let P : Answer → Type 0 = λ a. IsAnswer command image a in subst P (sym same) (is.answer_is image NoSnapshot lacks);
-  };
+    answer ≡ NoSnapshot → HasNoSnapshot image target → AnswersAt command image answer
+no_snapshot_answers command wanted told target image answer is same lacks rests = record {
+  none = λ text has. view_or_none image target (wanted_view wanted target image (Ok text) (is.text image text has)) lacks;
+  only = λ other has. only_no_snapshot wanted target image other (is.answer image other has) lacks ∙ sym same;
+  answer_is = let P : Answer → Type 0 = λ a. IsAnswer command image a in subst P (sym same) (is.answer_is image NoSnapshot lacks);
 }
 
 -- what stands in the way to the volume stands in the way to the view
@@ -102,17 +99,18 @@ pub view_way : (image : List ℕ) (target : AskedTarget) (stopped : Stopped) →
 view_way image target (stops.Answered answer) tells =
     let P : Answer → Type 0 = λ a. ByAnswer a (HasNoVolume image target.volume) (HasNoSnapshot image target) ⊥ in
     subst P (sym tells.0) tells.1
-view_way image target (stops.Faulty fault) tells = tells
+view_way image target (stops.Faulty why) tells = tells
 view_way image target (stops.Refused feature block) tells = tells
 view_way image target stops.ReadFailed tells = tt
 view_way image target stops.OutOfMemory tells = tt
-view_way image target stops.Usage tells = tt
+view_way image target stops.WrongWords tells = tt
 view_way image target stops.WriteFailed tells = tt
 view_way image target stops.NoImage tells = tt
+view_way image target stops.NoFolder tells = tt
 
 -- what is answered on the way to the view
 way_answers : (command : Asked) (wanted : Wanted) (told : Facts → TreeFault → Type 0) (target : AskedTarget) (image : List ℕ) (answer : Answer) → IsOverView command wanted told target →
-    ByAnswer answer (HasNoVolume image target.volume) (HasNoSnapshot image target) ⊥ → AnswersAt command image [] answer
+    ByAnswer answer (HasNoVolume image target.volume) (HasNoSnapshot image target) ⊥ → AnswersAt command image answer
 way_answers command wanted told target image answer is tells =
     elim (which_answer answer (HasNoVolume image target.volume) (HasNoSnapshot image target) ⊥ tells) [
       | inl volume ↦ no_volume_answers command target.volume image answer (over_volume command wanted told target is) volume.0 volume.1
@@ -120,22 +118,22 @@ way_answers command wanted told target image answer is tells =
     ]
 
 -- a command on the view that is meant stopped on its way to it, and nothing was written
-pub view_way_ended : {S : Type 0} (bytes : S → Option (List ℕ)) (faults : S → ℕ) (command : Asked) (wanted : Wanted) (told : Facts → TreeFault → Type 0) (target : AskedTarget) (old new : Opened S) (stopped : Stopped)
-    (contents : Option (List ℕ)) (count : ℕ) → IsOverView command wanted told target → (LacksImage (takes_image command) old → ⊥) →
-    ((image : List ℕ) → IsGiven bytes (takes_image command) old image → TellsViewWay image target stopped) → IsWhileLooking stopped →
-    (stopped ≡ stops.ReadFailed → SourceFailed faults old new) →
-    HasEnded bytes faults (Some command) old new (Err stopped) (record { old = contents; new = contents; old_faults = count; new_faults = count })
-view_way_ended bytes faults command wanted told target old new (stops.Answered answer) contents count is has tells looking cause =
-    ([], (has, λ image given. way_answers command wanted told target image answer is (tells image given)), wrote_nothing contents)
-view_way_ended bytes faults command wanted told target old new (stops.Faulty fault) contents count is has tells looking cause =
-    way_ended bytes faults command target.volume old new (stops.Faulty fault) contents count (over_volume command wanted told target is) has tells looking cause
-view_way_ended bytes faults command wanted told target old new (stops.Refused feature block) contents count is has tells looking cause =
-    way_ended bytes faults command target.volume old new (stops.Refused feature block) contents count (over_volume command wanted told target is) has tells looking cause
-view_way_ended bytes faults command wanted told target old new stops.ReadFailed contents count is has tells looking cause = ([], (cause refl, inl refl), wrote_nothing contents)
-view_way_ended bytes faults command wanted told target old new stops.OutOfMemory contents count is has tells looking cause = ([], inl refl, wrote_nothing contents)
-view_way_ended bytes faults command wanted told target old new stops.Usage contents count is has tells looking cause = absurd looking
-view_way_ended bytes faults command wanted told target old new stops.WriteFailed contents count is has tells looking cause = absurd looking
-view_way_ended bytes faults command wanted told target old new stops.NoImage contents count is has tells looking cause = absurd looking
+pub view_way_ended : (command : Asked) (wanted : Wanted) (told : Facts → TreeFault → Type 0) (target : AskedTarget) (source : Looked) (stopped : Stopped)
+    (contents : Option (List ℕ)) (count : ℕ) → IsOverView command wanted told target →
+    OfImage source (λ image. TellsViewWay image target stopped) → IsWhileLooking stopped → (stopped ≡ stops.ReadFailed → LookFailed source) →
+    HasEnded command source (Err stopped) (record { old = contents; new = contents; old_faults = count; new_faults = count })
+view_way_ended command wanted told target source (stops.Answered answer) contents count is tells looking cause =
+    ([], (is.lead_is, λ image given. way_answers command wanted told target image answer is (tells image given)), wrote_nothing contents)
+view_way_ended command wanted told target source (stops.Faulty why) contents count is tells looking cause =
+    way_ended command target.volume source (stops.Faulty why) contents count (over_volume command wanted told target is) tells looking cause
+view_way_ended command wanted told target source (stops.Refused feature block) contents count is tells looking cause =
+    way_ended command target.volume source (stops.Refused feature block) contents count (over_volume command wanted told target is) tells looking cause
+view_way_ended command wanted told target source stops.ReadFailed contents count is tells looking cause = read_ended command source contents count (cause refl)
+view_way_ended command wanted told target source stops.OutOfMemory contents count is tells looking cause = no_memory_ended command source contents count
+view_way_ended command wanted told target source stops.WrongWords contents count is tells looking cause = absurd looking
+view_way_ended command wanted told target source stops.WriteFailed contents count is tells looking cause = absurd looking
+view_way_ended command wanted told target source stops.NoImage contents count is tells looking cause = absurd looking
+view_way_ended command wanted told target source stops.NoFolder contents count is tells looking cause = absurd looking
 
 -- what a stop of a call on a path says of what is wanted: it is the answer, and neither a fault nor a feature comes
 abbrev pub StopGiven : Result (List ℕ) Answer → Stop PathStop → Type 0
@@ -194,24 +192,20 @@ pub record IsOnPath (wanted : Wanted) (told : Facts → TreeFault → Type 0) (t
 
 -- what was answered of a path
 answer_on : (command : Asked) (wanted : Wanted) (told : Facts → TreeFault → Type 0) (target : AskedTarget) (image : List ℕ) (seen : Seen) (volume : Loaded) (view : View) (answer : Answer) → IsOverView command wanted told target →
-    IsOnPath wanted told target image seen volume view (layer.Found (paths.Answer answer)) → AnswersAt command image [] (answered_of answer)
-answer_on command wanted told target image seen volume view answer is on = record {
-  lead_is = is.lead_is;
-  only_is = λ rests.
-      let third : RestsOn command image = answered_third answer (Unit {0}) (Unit {0}) (RestsOn command image) rests in
-      let lawful : IsLawful image (site_of seen) volume view = is.rests image third seen volume view on.meant in
-      let e = on.exact lawful in
-      let path : IsOfPath answer = is.of_path (site_of seen).block_size image (view_facts image (site_of seen) volume view) answer e in
-      let P : Answer → Type 0 = λ a. IsOnlyAnswer command image a in
-      subst P (sym (answered_same answer path))
-      (path_answers command wanted told target image answer is path (record { seen = seen; volume = volume; view = view; is = on.meant; lawful = lawful; same = e }));
-}
+    IsOnPath wanted told target image seen volume view (layer.Found (paths.Answer answer)) → AnswersAt command image (answered_of answer)
+answer_on command wanted told target image seen volume view answer is on rests =
+    let third : RestsOn command image = answered_third answer (Unit {0}) (Unit {0}) (RestsOn command image) rests in
+    let lawful : IsLawful image (site_of seen) volume view = is.rests image third seen volume view on.meant in
+    let e = on.exact lawful in
+    let path : IsOfPath answer = is.of_path (site_of seen).block_size image (view_facts image (site_of seen) volume view) answer e in
+    let P : Answer → Type 0 = λ a. IsOnlyAnswer command image a in
+    subst P (sym (answered_same answer path))
+    (path_answers command wanted told target image answer is path (record { seen = seen; volume = volume; view = view; is = on.meant; lawful = lawful; same = e }))
 
 -- a fault of the view that was named
 fault_on : (command : Asked) (wanted : Wanted) (told : Facts → TreeFault → Type 0) (target : AskedTarget) (image : List ℕ) (seen : Seen) (volume : Loaded) (view : View) (fault : TreeFault) → IsOverView command wanted told target →
-    IsOnPath wanted told target image seen volume view (layer.Found (paths.Fault fault)) → StopsAt command image [] (IsFault command image (of_view fault))
+    IsOnPath wanted told target image seen volume view (layer.Found (paths.Fault fault)) → StopsAt command image (IsFault command image (of_view fault))
 fault_on command wanted told target image seen volume view fault is on = record {
-  lead_is = is.lead_is;
   none = λ result. on.exact (result_lawful command wanted told target image is result seen volume view on.meant);
   there_is =
       is.fault_is image (of_view fault)
@@ -220,39 +214,35 @@ fault_on command wanted told target image seen volume view fault is on = record 
 
 -- a feature of the view that was named
 feature_on : (command : Asked) (wanted : Wanted) (told : Facts → TreeFault → Type 0) (target : AskedTarget) (image : List ℕ) (seen : Seen) (volume : Loaded) (view : View) (feature : Feature) (block : ℕ) → IsOverView command wanted told target →
-    IsOnPath wanted told target image seen volume view (layer.Unsupported feature block) → StopsAt command image [] (IsFeature command image feature block)
+    IsOnPath wanted told target image seen volume view (layer.Unsupported feature block) → StopsAt command image (IsFeature command image feature block)
 feature_on command wanted told target image seen volume view feature block is on = record {
-  lead_is = is.lead_is;
   none = λ result. on.exact (result_lawful command wanted told target image is result seen volume view on.meant);
   there_is = is.feature_is image feature block (inr (record { seen = seen; volume = volume; view = view; is = on.meant; there = on.present }));
 }
 
 -- a call on a path of the view that is meant stopped, and nothing was written
-pub view_stop_ended : {S : Type 0} (bytes : S → Option (List ℕ)) (faults : S → ℕ) (command : Asked) (wanted : Wanted) (told : Facts → TreeFault → Type 0) (target : AskedTarget) (old new : Opened S)
-    (seen : Seen) (volume : Loaded) (view : View) (stop : Stop PathStop) (out : Sunk) → IsOverView command wanted told target → (LacksImage (takes_image command) old → ⊥) →
-    ((image : List ℕ) → IsGiven bytes (takes_image command) old image → IsOnPath wanted told target image seen volume view stop) →
-    (stop ≡ layer.ReadFault → SourceFailed faults old new) → Wrote out.old out.new [] →
-    HasEnded bytes faults (Some command) old new (Err (stopped_on stop)) out
-view_stop_ended bytes faults command wanted told target old new seen volume view (layer.Found (paths.Answer answer)) out is has on cause nothing =
-    ([], (has, λ image given. answer_on command wanted told target image seen volume view answer is (on image given)), nothing)
-view_stop_ended bytes faults command wanted told target old new seen volume view (layer.Found (paths.Fault fault)) out is has on cause nothing =
-    ([], (has, λ image given. fault_on command wanted told target image seen volume view fault is (on image given)), nothing)
-view_stop_ended bytes faults command wanted told target old new seen volume view (layer.Unsupported feature block) out is has on cause nothing =
-    ([], (has, λ image given. feature_on command wanted told target image seen volume view feature block is (on image given)), nothing)
-view_stop_ended bytes faults command wanted told target old new seen volume view layer.ReadFault out is has on cause nothing = ([], (cause refl, inl refl), nothing)
-view_stop_ended bytes faults command wanted told target old new seen volume view layer.NoMemory out is has on cause nothing = ([], inl refl, nothing)
+pub view_stop_ended : (command : Asked) (wanted : Wanted) (told : Facts → TreeFault → Type 0) (target : AskedTarget) (source : Looked)
+    (seen : Seen) (volume : Loaded) (view : View) (stop : Stop PathStop) (out : Sunk) → IsOverView command wanted told target →
+    OfImage source (λ image. IsOnPath wanted told target image seen volume view stop) → (stop ≡ layer.ReadFault → LookFailed source) → Wrote out.old out.new [] →
+    HasEnded command source (Err (stopped_on stop)) out
+view_stop_ended command wanted told target source seen volume view (layer.Found (paths.Answer answer)) out is on cause nothing =
+    ([], (is.lead_is, λ image given. answer_on command wanted told target image seen volume view answer is (on image given)), nothing)
+view_stop_ended command wanted told target source seen volume view (layer.Found (paths.Fault fault)) out is on cause nothing =
+    ([], (is.lead_is, λ image given. fault_on command wanted told target image seen volume view fault is (on image given)), nothing)
+view_stop_ended command wanted told target source seen volume view (layer.Unsupported feature block) out is on cause nothing =
+    ([], (is.lead_is, λ image given. feature_on command wanted told target image seen volume view feature block is (on image given)), nothing)
+view_stop_ended command wanted told target source seen volume view layer.ReadFault out is on cause nothing = ([], (cause refl, nothing_read command source), nothing)
+view_stop_ended command wanted told target source seen volume view layer.NoMemory out is on cause nothing = ([], nothing_part command source, nothing)
 
 -- the text that is wanted of the view that is meant was put
-pub view_put_ended : {S : Type 0} (bytes : S → Option (List ℕ)) (faults : S → ℕ) (command : Asked) (wanted : Wanted) (told : Facts → TreeFault → Type 0) (target : AskedTarget) (old new : Opened S)
-    (seen : Seen) (volume : Loaded) (view : View) (text : List ℕ) (ended : Result Unit Stopped) (out : Sunk) → IsOverView command wanted told target → (LacksImage (takes_image command) old → ⊥) →
-    ((image : List ℕ) → IsGiven bytes (takes_image command) old image → IsMeantView image target seen volume view) →
-    ((image : List ℕ) → IsGiven bytes (takes_image command) old image → IsLawful image (site_of seen) volume view → wanted (site_of seen).block_size image (view_facts image (site_of seen) volume view) ≡ Ok text) →
-    IsPut text ended out → HasEnded bytes faults (Some command) old new ended out
-view_put_ended bytes faults command wanted told target old new seen volume view text ended out is has meant exact put =
-    put_ended_if bytes faults (Some command) old new text ended out (
-      has,
-      λ image given rests.
-          let lawful : IsLawful image (site_of seen) volume view = is.rests image rests seen volume view (meant image given) in
-          is.text_is image text (record { seen = seen; volume = volume; view = view; is = meant image given; lawful = lawful; same = exact image given lawful }),
-    )
+pub view_put_ended : (command : Asked) (wanted : Wanted) (told : Facts → TreeFault → Type 0) (target : AskedTarget) (source : Looked)
+    (seen : Seen) (volume : Loaded) (view : View) (text : List ℕ) (ended : Result Unit Stopped) (out : Sunk) → IsOverView command wanted told target → IsFormed command text →
+    OfImage source (λ image. IsMeantView image target seen volume view) →
+    OfImage source (λ image. IsLawful image (site_of seen) volume view → wanted (site_of seen).block_size image (view_facts image (site_of seen) volume view) ≡ Ok text) →
+    IsPut text ended out → HasEnded command source ended out
+view_put_ended command wanted told target source seen volume view text ended out is formed meant exact put =
+    put_ended_if command source text ended out formed
+    (λ image given rests.
+    let lawful : IsLawful image (site_of seen) volume view = is.rests image rests seen volume view (meant image given) in
+    is.text_is image text (record { seen = seen; volume = volume; view = view; is = meant image given; lawful = lawful; same = exact image given lawful }))
     put

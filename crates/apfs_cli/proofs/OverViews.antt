@@ -41,7 +41,6 @@ text_answers {U} (Err a) text answer answers e =
 pub ls_over : (target : AskedTarget) → IsOverView (Ls Quick target) (ls.wanted target.path) (ls.told target.path) target
 ls_over target = record {
   lead_is = refl;
-  takes = refl;
   rests = λ image rests. rests;
   text = λ image text is. is;
   text_is = λ image text is. is;
@@ -56,7 +55,6 @@ ls_over target = record {
 pub tree_over : (target : AskedTarget) → IsOverView (Tree Quick target) (tree.wanted target.path) (tree.told target.path) target
 tree_over target = record {
   lead_is = refl;
-  takes = refl;
   rests = λ image rests. rests;
   text = λ image text is. is;
   text_is = λ image text is. is;
@@ -83,7 +81,6 @@ attribute_is_of answer (inr same) = let P : Answer → Type 0 = λ a. IsOfPath a
 pub cat_over : (target : AskedTarget) → IsOverView (Cat Quick target) (cat.wanted target.path) (cat.told target.path) target
 cat_over target = record {
   lead_is = refl;
-  takes = refl;
   rests = λ image rests. rests;
   text = λ image text is. is;
   text_is = λ image text is. is;
@@ -103,7 +100,6 @@ xattr_answers path (Some name) size image facts answer e = attribute_is_of answe
 pub xattr_over : (target : AskedTarget) (name : Option (List ℕ)) → IsOverView (Xattr Quick target name) (xattr.wanted target.path name) (xattr.told target.path) target
 xattr_over target name = record {
   lead_is = refl;
-  takes = refl;
   rests = λ image rests. rests;
   text = λ image text is. is;
   text_is = λ image text is. is;

@@ -1,18 +1,21 @@
 -- What a run of a command on the volume that is meant has come to, where it doesn't get to that volume.
-use Rattle.std.specs.Prelude.{◌≡◌, ◌⊎◌, ℕ, List, [], Option, Some, Err, refl}
+use Rattle.std.specs.Prelude.{◌≡◌, ◌⊎◌, ℕ, List, [], Option, Err, refl}
 use Rattle.std.proofs.Common.{inl, inr, sym, ◌∙◌, subst}
 use Rattle.obj_base.specs.declared.stop.Feature.{Feature}
 use Rattle.apfs_check.specs.declared.fault.Fault.{Fault}
-use Rattle.blk_source.specs.declared.source.Opened.{Opened}
 use Rattle.path_walk.specs.declared.answer.Answer.{Answer}
 use Rattle.path_walk.specs.declared.answer.Answer.TheVariants.{NoVolume}
+use Rattle.apfs_cli.specs.declared.named.Named.{Named}
+use Rattle.apfs_cli.specs.declared.named.Named.TheVariants.{InContainer, NoTable, BadTable, NoPartition, PartOutside}
 use Rattle.apfs_cli.specs.declared.stopped.Stopped.{Stopped}
 use Rattle.apfs_cli.specs.declared.stopped.Stopped.TheVariants as stops
-use Rattle.apfs_cli.specs.ByCommand.{takes_image, lead_of, IsText, IsFault, IsFeature, IsAnswer, HasResult}
+use Rattle.apfs_cli.specs.ByCommand.{lead_of, IsText, IsFault, IsNamed, IsFeature, IsAnswer, HasResult}
+use Rattle.apfs_cli.specs.Handed.{Looked, LookFailed, OfImage}
 use Rattle.apfs_cli.specs.Meant.{HasVolume, HasNoVolume, IsMeantFault, IsMeantFeature}
-use Rattle.apfs_cli.specs.Reached.{IsClear, TellsWay, IsWhileLooking}
-use Rattle.apfs_cli.specs.Says.{LacksImage, IsGiven, SourceFailed, AnswersAt, HasEnded}
+use Rattle.apfs_cli.specs.Reached.{IsClear, OfContainer, TellsWay, IsWhileLooking}
+use Rattle.apfs_cli.specs.Says.{StopsAt, AnswersAt, HasEnded}
 use Rattle.apfs_cli.specs.Words.{Asked, Snapshots}
+use Rattle.apfs_cli.proofs.Endings.{read_ended, no_memory_ended}
 use Rattle.apfs_cli.proofs.Puts.{wrote_nothing}
 use Rattle.apfs_cli.proofs.Ways.{volume_or_none}
 
@@ -31,56 +34,58 @@ result_clear command named image is (inl has) = inl (is.text image has.0 has.1)
 result_clear command named image is (inr has) = elim (is.answer image has.0 has.1) [ inl lacks ↦ inr lacks.1 | inr volume ↦ inl volume ]
 
 -- where the slot that is meant holds none, that is the only answer
-pub no_volume_answers : (command : Asked) (named : Option ℕ) (image : List ℕ) (answer : Answer) → IsOverVolume command named → answer ≡ NoVolume → HasNoVolume image named → AnswersAt command image [] answer
-no_volume_answers command named image answer is same lacks = record {
-  lead_is = is.lead_is;
-  only_is = λ rests. record {
-    none = λ text has. volume_or_none image named (is.text image text has) lacks;
-    only = λ other has. elim (is.answer image other has) [ inl which ↦ which.0 ∙ sym same | inr volume ↦ absurd (volume_or_none image named volume lacks) ];
-    answer_is = let P : Answer → Type 0 = λ a. IsAnswer command image a in subst P (sym same) (is.none image lacks);
-  };
+pub no_volume_answers : (command : Asked) (named : Option ℕ) (image : List ℕ) (answer : Answer) → IsOverVolume command named → answer ≡ NoVolume → HasNoVolume image named → AnswersAt command image answer
+no_volume_answers command named image answer is same lacks rests = record {
+  none = λ text has. volume_or_none image named (is.text image text has) lacks;
+  only = λ other has. elim (is.answer image other has) [ inl which ↦ which.0 ∙ sym same | inr volume ↦ absurd (volume_or_none image named volume lacks) ];
+  answer_is = let P : Answer → Type 0 = λ a. IsAnswer command image a in subst P (sym same) (is.none image lacks);
 }
 
+-- what is told of a fault of the container is told of the fault that is named
+pub named_of : (command : Asked) (image : List ℕ) (why : Named) (P : Fault → Type 0) → ((fault : Fault) → P fault → StopsAt command image (IsFault command image fault)) → OfContainer why P → StopsAt command image (IsNamed command image why)
+named_of command image (InContainer fault) P follows told = follows fault told
+named_of command image NoTable P follows told = absurd told
+named_of command image BadTable P follows told = absurd told
+named_of command image NoPartition P follows told = absurd told
+named_of command image (PartOutside at) P follows told = absurd told
+
 -- a command on the volume that is meant stopped on its way to it, and nothing was written
-pub way_ended : {S : Type 0} (bytes : S → Option (List ℕ)) (faults : S → ℕ) (command : Asked) (named : Option ℕ) (old new : Opened S) (stopped : Stopped)
-    (contents : Option (List ℕ)) (count : ℕ) → IsOverVolume command named → (LacksImage (takes_image command) old → ⊥) →
-    ((image : List ℕ) → IsGiven bytes (takes_image command) old image → TellsWay image named stopped) → IsWhileLooking stopped →
-    (stopped ≡ stops.ReadFailed → SourceFailed faults old new) →
-    HasEnded bytes faults (Some command) old new (Err stopped) (record { old = contents; new = contents; old_faults = count; new_faults = count })
-way_ended bytes faults command named old new (stops.Faulty fault) contents count is has tells looking cause = (
+pub way_ended : (command : Asked) (named : Option ℕ) (source : Looked) (stopped : Stopped) (contents : Option (List ℕ)) (count : ℕ) → IsOverVolume command named →
+    OfImage source (λ image. TellsWay image named stopped) → IsWhileLooking stopped → (stopped ≡ stops.ReadFailed → LookFailed source) →
+    HasEnded command source (Err stopped) (record { old = contents; new = contents; old_faults = count; new_faults = count })
+way_ended command named source (stops.Faulty why) contents count is tells looking cause = (
   [],
   (
-    has,
-    λ image given. record {
-      lead_is = is.lead_is;
-      none = λ result. (tells image given).0 (result_clear command named image is result);
-      there_is = is.fault image fault (tells image given).1;
+    is.lead_is,
+    λ image told.
+        named_of command image why (λ fault. (IsClear image named → ⊥) × IsMeantFault image named fault)
+        (λ fault both. record { none = λ result. both.0 (result_clear command named image is result); there_is = is.fault image fault both.1 })
+        (tells image told),
+  ),
+  wrote_nothing contents,
+)
+way_ended command named source (stops.Refused feature block) contents count is tells looking cause = (
+  [],
+  (
+    is.lead_is,
+    λ image told. record {
+      none = λ result. (tells image told).0 (result_clear command named image is result);
+      there_is = is.feature image feature block (tells image told).1;
     },
   ),
   wrote_nothing contents,
 )
-way_ended bytes faults command named old new (stops.Refused feature block) contents count is has tells looking cause = (
+way_ended command named source (stops.Answered answer) contents count is tells looking cause = (
   [],
-  (
-    has,
-    λ image given. record {
-      lead_is = is.lead_is;
-      none = λ result. (tells image given).0 (result_clear command named image is result);
-      there_is = is.feature image feature block (tells image given).1;
-    },
-  ),
+  (is.lead_is, λ image told. no_volume_answers command named image answer is (tells image told).0 (tells image told).1),
   wrote_nothing contents,
 )
-way_ended bytes faults command named old new (stops.Answered answer) contents count is has tells looking cause = (
-  [],
-  (has, λ image given. no_volume_answers command named image answer is (tells image given).0 (tells image given).1),
-  wrote_nothing contents,
-)
-way_ended bytes faults command named old new stops.ReadFailed contents count is has tells looking cause = ([], (cause refl, inl refl), wrote_nothing contents)
-way_ended bytes faults command named old new stops.OutOfMemory contents count is has tells looking cause = ([], inl refl, wrote_nothing contents)
-way_ended bytes faults command named old new stops.Usage contents count is has tells looking cause = absurd looking
-way_ended bytes faults command named old new stops.WriteFailed contents count is has tells looking cause = absurd looking
-way_ended bytes faults command named old new stops.NoImage contents count is has tells looking cause = absurd looking
+way_ended command named source stops.ReadFailed contents count is tells looking cause = read_ended command source contents count (cause refl)
+way_ended command named source stops.OutOfMemory contents count is tells looking cause = no_memory_ended command source contents count
+way_ended command named source stops.WrongWords contents count is tells looking cause = absurd looking
+way_ended command named source stops.WriteFailed contents count is tells looking cause = absurd looking
+way_ended command named source stops.NoImage contents count is tells looking cause = absurd looking
+way_ended command named source stops.NoFolder contents count is tells looking cause = absurd looking
 
 -- `snapshots` is one
 pub snapshots_over : (named : Option ℕ) → IsOverVolume (Snapshots named) named

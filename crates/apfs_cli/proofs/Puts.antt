@@ -6,14 +6,14 @@ use Rattle.std.specs.List.{flat_map}
 use Rattle.apfs_model.specs.Counts.{Rose}
 use Rattle.apfs_model.specs.Sink.{Wrote, WrotePart}
 use Rattle.apfs_cli.specs.declared.stopped.Stopped.{Stopped}
-use Rattle.apfs_cli.specs.declared.stopped.Stopped.TheVariants.{Faulty, Usage, ReadFailed, WriteFailed, OutOfMemory, Refused, Answered, NoImage}
+use Rattle.apfs_cli.specs.declared.stopped.Stopped.TheVariants.{Faulty, WrongWords, ReadFailed, WriteFailed, OutOfMemory, Refused, Answered, NoImage, NoFolder}
 use Rattle.apfs_cli.specs.Texts.{IsPrefix}
 use Rattle.apfs_cli.specs.Written.{Sunk, CutsText, IsPut, Passes}
 
 pub wrote_nothing : (contents : Option (List ℕ)) → Wrote contents contents []
 wrote_nothing contents held told = told ∙ ap (λ (l : List ℕ). Some l) (sym (append-nil held))
 
-wrote_more : (a b c : Option (List ℕ)) (xs ys : List ℕ) → Wrote a b xs → Wrote b c ys → Wrote a c (xs ++ ys)
+pub wrote_more : (a b c : Option (List ℕ)) (xs ys : List ℕ) → Wrote a b xs → Wrote b c ys → Wrote a c (xs ++ ys)
 wrote_more a b c xs ys first second held told = second (held ++ xs) (first held told) ∙ ap (λ (l : List ℕ). Some l) (append_assoc held xs ys)
 
 part_more : (a b c : Option (List ℕ)) (xs ys : List ℕ) → Wrote a b xs → WrotePart b c ys → WrotePart a c (xs ++ ys)
@@ -40,14 +40,15 @@ rose_later a b c le rose = omega (arith, le, rose)
 -- what cuts a text short cuts a longer one short
 cut_later : (stopped : Stopped) (old mid new : Option (List ℕ)) (a b c : ℕ) → a ≤ b →
     CutsText stopped (record { old = mid; new = new; old_faults = b; new_faults = c }) → CutsText stopped (record { old = old; new = new; old_faults = a; new_faults = c })
-cut_later (Faulty fault) old mid new a b c le cut = absurd cut
-cut_later Usage old mid new a b c le cut = absurd cut
+cut_later (Faulty named) old mid new a b c le cut = absurd cut
+cut_later WrongWords old mid new a b c le cut = absurd cut
 cut_later ReadFailed old mid new a b c le cut = absurd cut
 cut_later WriteFailed old mid new a b c le cut = rose_later a b c le cut
 cut_later OutOfMemory old mid new a b c le cut = tt
 cut_later (Refused feature block) old mid new a b c le cut = absurd cut
 cut_later (Answered answer) old mid new a b c le cut = absurd cut
 cut_later NoImage old mid new a b c le cut = absurd cut
+cut_later NoFolder old mid new a b c le cut = absurd cut
 
 -- a text is put after another
 pub put_after : (first second : List ℕ) (result : Result Unit Stopped) (old mid new : Option (List ℕ)) (a b c : ℕ) →

@@ -70,12 +70,10 @@ told_at image a b x y P first second one two fact =
 pub newest_stops : (image : List ℕ) (stop : Stop RingFault) →
     Tells (IsNewestFault image) (IsNewestFeature image) stop → Tells (IsRingFault image) (IsRingFeature image) stop → StopTells Space image of_ring stop
 newest_stops image (Found why) first there = record {
-  lead_is = refl;
   none = no_result Space image (λ text is. no_newest_fault image why is.0 first is.5.newest) (λ answer is. is);
   there_is = inl (why, first, there, refl);
 }
 newest_stops image (Unsupported feature block) first there = record {
-  lead_is = refl;
   none = no_result Space image (λ text is. no_newest_feature image feature block is.0 first is.5.newest) (λ answer is. is);
   there_is = inl (first, there);
 }
@@ -92,12 +90,10 @@ space_at image seen text newest is =
 pub space_stops : (image : List ℕ) (seen : Seen) (stop : Stop SpaceFault) → IsNewest image seen →
     Tells (IsSpaceFault image seen) (IsSpaceFeature image seen) stop → ((space : Known) → IsSpaceOf image seen space → IsFree stop) → StopTells Space image (λ why. of_sweep seen.line.xid (sweeps.Space why)) stop
 space_stops image seen (Found why) newest there exact = record {
-  lead_is = refl;
   none = no_result Space image (λ text is. let at = space_at image seen text newest is in exact at.0 at.1) (λ answer is. is);
   there_is = inr (inl (seen, why, newest, there, refl));
 }
 space_stops image seen (Unsupported feature block) newest there exact = record {
-  lead_is = refl;
   none = no_result Space image (λ text is. let at = space_at image seen text newest is in exact at.0 at.1) (λ answer is. is);
   there_is = inr (inl (seen, newest, there));
 }
@@ -108,7 +104,6 @@ space_stops image seen NoMemory newest there exact = tt
 pub pool_stops : (image : List ℕ) (seen : Seen) (space : Known) (stop : Stop PoolFault) → IsNewest image seen → IsSpaceOf image seen space →
     Tells (IsPoolFault seen space.manager) NoFeature stop → (is_pool_shaped (site_of seen) space.manager ≡ true → IsFree stop) → StopTells Space image (λ why. of_sweep seen.line.xid (sweeps.Pool why)) stop
 pool_stops image seen space (Found why) newest is there exact = record {
-  lead_is = refl;
   none = no_result Space image
       (λ text told. exact (told_at image seen told.0 space told.1 (λ s m. is_pool_shaped (site_of s) m ≡ true) newest told.5.newest is told.5.space_is told.5.bits_are.right)) (λ answer a. a);
   there_is = inr (inr (seen, space, newest, is, (why, inl there, refl)));
@@ -130,13 +125,11 @@ pub queue_stops : (image : List ℕ) (seen : Seen) (space : Known) (which : Queu
     Tells (IsQueueFault image seen space.manager which) (IsQueueFeature image seen space.manager which) stop →
     (AreQueued image seen space.manager which (queue_of image seen space.manager which) → IsFree stop) → StopTells Space image (λ why. of_sweep seen.line.xid (sweeps.Pool why)) stop
 queue_stops image seen space which (Found why) newest is there exact = record {
-  lead_is = refl;
   none = no_result Space image
       (λ text told. exact (told_at image seen told.0 space told.1 (λ s m. AreQueued image s m which (queue_of image s m which)) newest told.5.newest is told.5.space_is (queue_told image text which told))) (λ answer a. a);
   there_is = inr (inr (seen, space, newest, is, (why, inr (which, there), refl)));
 }
 queue_stops image seen space which (Unsupported feature block) newest is there exact = record {
-  lead_is = refl;
   none = no_result Space image
       (λ text told. exact (told_at image seen told.0 space told.1 (λ s m. AreQueued image s m which (queue_of image s m which)) newest told.5.newest is told.5.space_is (queue_told image text which told))) (λ answer a. a);
   there_is = inr (inr (seen, space, newest, is, (which, there)));

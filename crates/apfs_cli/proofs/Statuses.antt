@@ -1,71 +1,36 @@
--- What each status says, from the outcome that a run has come to.
-use Rattle.std.specs.Prelude.{◌≡◌, ◌⊎◌, ℕ, Bool, true, false, List, Option, Some, None, Result, refl}
-use Rattle.std.proofs.Common.{inl, inr, sym, ◌∙◌, subst, arith}
-use Rattle.blk_source.specs.declared.source.Opened.{Opened}
-use Rattle.blk_source.specs.declared.source.Opened.TheVariants.{Absent, Image}
+-- What each status says and when it comes, from the outcome that a run has come to and from what each command owes.
+use Rattle.std.specs.Prelude.{◌≡◌, ◌⊎◌, ℕ, Bool, true, false, List, [], Option, Some, None, Ok, refl}
+use Rattle.std.proofs.Common.{inl, inr, sym, ◌∙◌, ap, subst, arith}
+use Rattle.std.proofs.lemmas.List.{append-nil}
+use Rattle.apfs_model.specs.Sink.{Wrote}
 use Rattle.obj_base.specs.declared.stop.Feature.{Feature}
+use Rattle.blk_folder.specs.Items.{Item, IsFront}
+use Rattle.blk_folder.specs.Put.{Filled}
+use Rattle.img_gpt.specs.Slices.{sliced}
+use Rattle.img_gpt.specs.Partition.{found_part, bytes_in}
+use Rattle.img_gpt.specs.declared.part.Part.{Part}
+use Rattle.img_gpt.specs.declared.part.GptStop.TheVariants as gpt
+use Rattle.img_gpt.proofs.Exactly.{found_not_faulty}
 use Rattle.view_rules.specs.declared.profile.Profile.{Profile}
 use Rattle.apfs_check.specs.WellFormed.{IsWellFormed}
-use Rattle.apfs_check.specs.declared.fault.Fault.{Fault}
 use Rattle.path_walk.specs.declared.answer.Answer.{Answer}
-use Rattle.apfs_cli.specs.ByCommand.{takes_image, IsText, IsFault, IsFeature, IsAnswer, RestsOn, HasResult, profile_of}
-use Rattle.apfs_cli.specs.Outcome.{Outcome, status_of, text_of, Written, Faulty, Usage, ReadFailed, WriteFailed, OutOfMemory, Refused, Answered, NoImage}
-use Rattle.apfs_cli.specs.Says.{LacksImage, IsGiven, SourceFailed, HasFailed, StopsAt, Says, HasNoImage, HasEnded, CameTo}
-use Rattle.apfs_cli.specs.Seen.{outcome_of}
-use Rattle.apfs_cli.specs.Words.{Asked, Check}
-use Rattle.apfs_cli.specs.ReportText.{report_text}
-use Rattle.apfs_check.proofs.Numbers.{reported}
-use Rattle.apfs_cli.specs.Written.{Sunk, Failed, IsClosed, Ends}
-use Rattle.apfs_cli.specs.declared.stopped.Stopped.{Stopped}
-use Rattle.apfs_cli.specs.Rows.{BothWrote, HasText, IsNamed, IsRefused, NamesFault, NamesFeature, NamesAnswer, SaysReadFailed, SaysOutOfMemory, HasFailedPut, HasDefinedText, HasDefinedAnswer, IsExactly, IsWholeOrFree, IsAnsweredOrFree, HasSound, IsCleanOrFree, HasUnsound, IsFoundOrFree, IsUndisturbed, IsCompleted}
-use Rattle.apfs_cli.proofs.Answered.{text_or_answer, text_rests, answer_rests, of_sound}
 use Rattle.apfs_cli.proofs.ByAnswers.{for_answer}
-use Rattle.apfs_cli.proofs.Checked.{sound_result}
-use Rattle.apfs_cli.proofs.Endings.{of_run, part_of}
+use Rattle.apfs_cli.specs.Texts.{IsPrefix}
+use Rattle.apfs_cli.specs.Written.{Sunk, Failed, Ends}
+use Rattle.apfs_check.proofs.Numbers.{reported}
+use Rattle.apfs_cli.specs.ReportText.{report_text}
+use Rattle.apfs_cli.specs.Words.{Asked, Line, plain_line, Ring, Info, Volumes, Space, Check, Snapshots, Ls, Tree, Cat, Xattr, Gen}
+use Rattle.apfs_cli.specs.Handed.{Looked, LookFailed, OfImage, made, Stored, StoreFailed}
+use Rattle.apfs_cli.specs.Outcome.{Outcome, Written, Faulty, WrongWords, ReadFailed, WriteFailed, OutOfMemory, Refused, Answered, NoImage, NoFolder, status_of, text_of}
+use Rattle.apfs_cli.specs.ByCommand.{From, HandedIn, Made, Nowhere, from_of, takes_folder, lead_of, IsText, IsNamed, IsAnswer, RestsOn, HasResult, profile_of}
+use Rattle.apfs_cli.specs.Says.{IsPart, SaysOn, Fills, FillsBy, FillsOn, AreItemsIf, AreFrontIf, IsSame, IsUntouched, LacksImage, LacksFolder, IsSourceFrom, IsSource, IsTableFault, StopsTable, PutFailed, Ran, HasNoImage, HasNoFolder, HasNoPart, Says, CameTo, wrong_words, no_image, no_folder, no_part, ran, no_memory}
+use Rattle.apfs_cli.specs.Rows.{BothWrote, HasText, RanOrNoPart, IsPresentIn, RanNaming, RanRefusing, NamesFault, NamesFeature, NamesAnswer, SaysReadFailed, IsSomePart, SaysOutOfMemory, HasFailedPut, IsGivenFrom, IsGiven, IsAsked, HasDefinedText, HasDefinedAnswer, HasSound, HasUnsound, HasTableFault, IsExactly, IsOrFree, IsCleanOrFree, IsFoundOrFree, HandedFailed, IsUndisturbed, IsCompleted, lead_in, IsRefusal, IsTurnedAway, AsksFolder, IsUntold, MayFill}
+use Rattle.apfs_cli.specs.declared.named.Named.{Named}
+use Rattle.apfs_cli.specs.declared.named.Named.TheVariants.{InContainer, NoTable, BadTable, NoPartition, PartOutside}
+use Rattle.apfs_cli.proofs.Owed.{IsOwed, owed}
 use Rattle.apfs_cli.proofs.Present.{fault_there, feature_there}
 
--- a run has come to the outcome of what was decided, or memory ran out where there was none for its line
-pub came_to : {S : Type 0} (bytes : S → Option (List ℕ)) (faults : S → ℕ) (command : Option Asked) (old new : Opened S) (ended : Result Unit Stopped) (result : ℕ) (out err : Sunk) →
-    HasEnded bytes faults command old new ended out → ((part : List ℕ) → IsClosed result (outcome_of ended part) err) → CameTo bytes faults command old new result out err
-came_to bytes faults command old new ended result out err (part, says, wrote) closed =
-    let o = outcome_of ended part in
-    elim (closed part) [
-      | inl said ↦ (o, says, record { text = wrote; said = said })
-      | inr none ↦ (OutOfMemory (text_of o), part_of bytes faults command old new out o says, record { text = wrote; said = none })
-    ]
-
--- an outcome is told by its status
-written_at : (o : Outcome) → status_of o ≡ 0 → (text : List ℕ) × (o ≡ Written text)
-written_at (Written text) e = (text, refl)
-written_at _ e = absurd (omega arith)
-
-faulty_at : (o : Outcome) → status_of o ≡ 1 → (lead : List ℕ) × (fault : Fault) × (o ≡ Faulty lead fault)
-faulty_at (Faulty lead fault) e = (lead, fault, refl)
-faulty_at _ e = absurd (omega arith)
-
-usage_at : (o : Outcome) → status_of o ≡ 2 → o ≡ Usage
-usage_at Usage e = refl
-usage_at _ e = absurd (omega arith)
-
-read_failed_at : (o : Outcome) → status_of o ≡ 3 → (part : List ℕ) × (o ≡ ReadFailed part)
-read_failed_at (ReadFailed part) e = (part, refl)
-read_failed_at _ e = absurd (omega arith)
-
-out_of_memory_at : (o : Outcome) → status_of o ≡ 5 → (part : List ℕ) × (o ≡ OutOfMemory part)
-out_of_memory_at (OutOfMemory part) e = (part, refl)
-out_of_memory_at _ e = absurd (omega arith)
-
-refused_at : (o : Outcome) → status_of o ≡ 6 → (lead : List ℕ) × (feature : Feature) × (block : ℕ) × (o ≡ Refused lead feature block)
-refused_at (Refused lead feature block) e = (lead, feature, block, refl)
-refused_at _ e = absurd (omega arith)
-
-answered_at : (o : Outcome) → status_of o ≡ 7 → (lead : List ℕ) × (answer : Answer) × (o ≡ Answered lead answer)
-answered_at (Answered lead answer) e = (lead, answer, refl)
-answered_at _ e = absurd (omega arith)
-
-no_image_at : (o : Outcome) → status_of o ≡ 8 → o ≡ NoImage
-no_image_at NoImage e = refl
-no_image_at _ e = absurd (omega arith)
+-- ---- the outcome of a status
 
 -- a run that ended with another status than 4 has that of its outcome, whose text and line were written
 whole_at : (result status : ℕ) (o : Outcome) (out err : Sunk) → Ends result o out err → result ≡ status → (status ≡ 4 → ⊥) → (status_of o ≡ status) × BothWrote out err o
@@ -73,322 +38,826 @@ whole_at result status o out err ends e other =
     elim ends.said [ inl has ↦ (sym has.status_is ∙ e, (ends.text, has.put)) | inr lacks ↦ absurd (other (sym e ∙ lacks.status_is)) ]
 
 -- the outcome of a run, by its status
-row : {S : Type 0} (bytes : S → Option (List ℕ)) (faults : S → ℕ) (command : Option Asked) (old new : Opened S) (result status : ℕ) (out err : Sunk) →
-    (status ≡ 4 → ⊥) → CameTo bytes faults command old new result out err → result ≡ status →
-    (o : Outcome) × (status_of o ≡ status) × Says bytes faults command old new out o × BothWrote out err o
-row bytes faults command old new result status out err other (o, says, ends) e =
+row : (asked : Option Line) (image : Option Looked) (folder : Option Stored) (result status : ℕ) (out err : Sunk) → (status ≡ 4 → ⊥) → CameTo asked image folder result out err → result ≡ status →
+    (o : Outcome) × (status_of o ≡ status) × Says asked image folder out o × BothWrote out err o
+row asked image folder result status out err other (o, says, ends) e =
     let whole = whole_at result status o out err ends e other in
     (o, whole.0, says, whole.1)
 
--- what an outcome says and has written
-abbrev pub SaysAndWrote : {S : Type 0} → (S → Option (List ℕ)) → (S → ℕ) → Option Asked → Opened S → Opened S → Sunk → Sunk → Outcome → Type 0
-SaysAndWrote bytes faults command old new out err o = Says bytes faults command old new out o × BothWrote out err o
+-- an outcome that only a command comes to
+abbrev pub IsOfCommand : Outcome → Type 0
+IsOfCommand (Written text) = Unit {0}
+IsOfCommand (WriteFailed part) = Unit {0}
+IsOfCommand (Refused lead feature block) = Unit {0}
+IsOfCommand (Answered lead answer) = Unit {0}
+IsOfCommand (Faulty lead named) = ⊥
+IsOfCommand WrongWords = ⊥
+IsOfCommand (ReadFailed part) = ⊥
+IsOfCommand (OutOfMemory part) = ⊥
+IsOfCommand NoImage = ⊥
+IsOfCommand NoFolder = ⊥
 
-pub text_row : {S : Type 0} (bytes : S → Option (List ℕ)) (faults : S → ℕ) (command : Option Asked) (old new : Opened S) (result : ℕ) (out err : Sunk) →
-    CameTo bytes faults command old new result out err → result ≡ 0 → HasText bytes command old out err
-text_row {S} bytes faults command old new result out err a e =
-    let at = row bytes faults command old new result 0 out err (λ h. omega arith) a e in
-    let o = written_at at.0 at.1 in
-    let P : Outcome → Type 0 = λ x. SaysAndWrote bytes faults command old new out err x in
-    let both = subst P o.1 (at.2, at.3) in
-    (o.0, both.0, both.1)
+-- an outcome to which a command comes, or the table of partitions
+abbrev pub IsOfTable : Outcome → Type 0
+IsOfTable (Faulty lead named) = Unit {0}
+IsOfTable (ReadFailed part) = Unit {0}
+IsOfTable (Written text) = ⊥
+IsOfTable (WriteFailed part) = ⊥
+IsOfTable (Refused lead feature block) = ⊥
+IsOfTable (Answered lead answer) = ⊥
+IsOfTable WrongWords = ⊥
+IsOfTable (OutOfMemory part) = ⊥
+IsOfTable NoImage = ⊥
+IsOfTable NoFolder = ⊥
 
--- a fault that is named is present
-named_at : (command : Asked) (image lead : List ℕ) (fault : Fault) → StopsAt command image lead (IsFault command image fault) → StopsAt command image lead (IsNamed command image fault)
-named_at command image lead fault at = record { lead_is = at.lead_is; none = at.none; there_is = (at.there_is, fault_there command image fault at.there_is) }
+-- another outcome than one that has a fact
+not_this : (P : Outcome → Type 0) (o other : Outcome) → o ≡ other → P o → (P other → ⊥) → ⊥
+not_this P o other is fact none = none (subst P is fact)
 
--- a feature that is refused is present
-refused_as : (command : Asked) (image lead : List ℕ) (feature : Feature) (block : ℕ) → StopsAt command image lead (IsFeature command image feature block) → StopsAt command image lead (IsRefused command image feature block)
-refused_as command image lead feature block at = record { lead_is = at.lead_is; none = at.none; there_is = (at.there_is, feature_there command image feature block at.there_is) }
+table_not : (P : Outcome → Type 0) (disk : Looked) (o : Outcome) → P o → ((named : Named) → P (Faulty [] named) → ⊥) → (P (ReadFailed []) → ⊥) → StopsTable disk o → ⊥
+table_not P disk o fact fault read (inl stops) = not_this P o (Faulty [] stops.0) stops.1 fact (fault stops.0)
+table_not P disk o fact fault read (inr stops) = not_this P o (ReadFailed []) stops.0 fact read
 
-pub fault_row : {S : Type 0} (bytes : S → Option (List ℕ)) (faults : S → ℕ) (command : Option Asked) (old new : Opened S) (result : ℕ) (out err : Sunk) →
-    CameTo bytes faults command old new result out err → result ≡ 1 → NamesFault bytes command old out err
-fault_row {S} bytes faults command old new result out err a e =
-    let at = row bytes faults command old new result 1 out err (λ h. omega arith) a e in
-    let o = faulty_at at.0 at.1 in
-    let P : Outcome → Type 0 = λ x. SaysAndWrote bytes faults command old new out err x in
-    let both = subst P o.2 (at.2, at.3) in
-    let told = of_run bytes command old (λ c image. StopsAt c image o.0 (IsFault c image o.1)) (λ c image. StopsAt c image o.0 (IsNamed c image o.1)) (λ c image. named_at c image o.0 o.1) both.0 in
-    (o.0, o.1, told, both.1)
+command_ran : (asked : Option Line) (image : Option Looked) (folder : Option Stored) (out : Sunk) (o : Outcome) → IsOfCommand o → Says asked image folder out o → Ran asked image folder out o
+command_ran asked image folder out o of (wrong_words none is same) = absurd (not_this (λ x. IsOfCommand x) o WrongWords is of (λ a. a))
+command_ran asked image folder out o of (no_image lacks is same) = absurd (not_this (λ x. IsOfCommand x) o NoImage is of (λ a. a))
+command_ran asked image folder out o of (no_folder lacks is same) = absurd (not_this (λ x. IsOfCommand x) o NoFolder is of (λ a. a))
+command_ran asked image folder out o of (no_part has same) = absurd (table_not (λ x. IsOfCommand x) has.disk o of (λ named a. a) (λ a. a) has.stops)
+command_ran asked image folder out o of (ran has) = has
+command_ran asked image folder out o of (no_memory is same) = absurd (not_this (λ x. IsOfCommand x) o (OutOfMemory []) is of (λ a. a))
 
-pub usage_row : {S : Type 0} (bytes : S → Option (List ℕ)) (faults : S → ℕ) (command : Option Asked) (old new : Opened S) (result : ℕ) (out err : Sunk) →
-    CameTo bytes faults command old new result out err → result ≡ 2 → (command ≡ None) × BothWrote out err Usage
-usage_row {S} bytes faults command old new result out err a e =
-    let at = row bytes faults command old new result 2 out err (λ h. omega arith) a e in
-    let P : Outcome → Type 0 = λ x. SaysAndWrote bytes faults command old new out err x in
-    subst P (usage_at at.0 at.1) (at.2, at.3)
+table_ran : (asked : Option Line) (image : Option Looked) (folder : Option Stored) (out : Sunk) (o : Outcome) → IsOfTable o → Says asked image folder out o → RanOrNoPart asked image folder out o
+table_ran asked image folder out o of (wrong_words none is same) = absurd (not_this (λ x. IsOfTable x) o WrongWords is of (λ a. a))
+table_ran asked image folder out o of (no_image lacks is same) = absurd (not_this (λ x. IsOfTable x) o NoImage is of (λ a. a))
+table_ran asked image folder out o of (no_folder lacks is same) = absurd (not_this (λ x. IsOfTable x) o NoFolder is of (λ a. a))
+table_ran asked image folder out o of (no_part has same) = inr has
+table_ran asked image folder out o of (ran has) = inl has
+table_ran asked image folder out o of (no_memory is same) = absurd (not_this (λ x. IsOfTable x) o (OutOfMemory []) is of (λ a. a))
 
-pub read_failed_row : {S : Type 0} (bytes : S → Option (List ℕ)) (faults : S → ℕ) (command : Option Asked) (old new : Opened S) (result : ℕ) (out err : Sunk) →
-    CameTo bytes faults command old new result out err → result ≡ 3 → SaysReadFailed bytes faults command old new out err
-read_failed_row {S} bytes faults command old new result out err a e =
-    let at = row bytes faults command old new result 3 out err (λ h. omega arith) a e in
-    let o = read_failed_at at.0 at.1 in
-    let P : Outcome → Type 0 = λ x. SaysAndWrote bytes faults command old new out err x in
-    let both = subst P o.1 (at.2, at.3) in
-    (o.0, both.0.0, both.0.1, both.1)
+pub text_row : (asked : Option Line) (image : Option Looked) (folder : Option Stored) (result : ℕ) (out err : Sunk) → CameTo asked image folder result out err → result ≡ 0 → HasText asked image folder out err
+text_row asked image folder result out err a e = go (row asked image folder result 0 out err (λ h. omega arith) a e)
+  where
+    go : ((o : Outcome) × (status_of o ≡ 0) × Says asked image folder out o × BothWrote out err o) → HasText asked image folder out err
+    go (Written text, at, says, wrote) = (text, command_ran asked image folder out (Written text) tt says, wrote)
+    go (Faulty lead named, at, says, wrote) = absurd (omega arith)
+    go (WrongWords, at, says, wrote) = absurd (omega arith)
+    go (ReadFailed part, at, says, wrote) = absurd (omega arith)
+    go (WriteFailed part, at, says, wrote) = absurd (omega arith)
+    go (OutOfMemory part, at, says, wrote) = absurd (omega arith)
+    go (Refused lead feature block, at, says, wrote) = absurd (omega arith)
+    go (Answered lead answer, at, says, wrote) = absurd (omega arith)
+    go (NoImage, at, says, wrote) = absurd (omega arith)
+    go (NoFolder, at, says, wrote) = absurd (omega arith)
 
-pub out_of_memory_row : {S : Type 0} (bytes : S → Option (List ℕ)) (faults : S → ℕ) (command : Option Asked) (old new : Opened S) (result : ℕ) (out err : Sunk) →
-    CameTo bytes faults command old new result out err → result ≡ 5 → SaysOutOfMemory bytes command old out err
-out_of_memory_row {S} bytes faults command old new result out err a e =
-    let at = row bytes faults command old new result 5 out err (λ h. omega arith) a e in
-    let o = out_of_memory_at at.0 at.1 in
-    let P : Outcome → Type 0 = λ x. SaysAndWrote bytes faults command old new out err x in
-    let both = subst P o.1 (at.2, at.3) in
-    (o.0, both.0, both.1)
+-- wrong words, want of an image and want of a folder come by themselves
+words_wrong : (asked : Option Line) (image : Option Looked) (folder : Option Stored) (out : Sunk) → Says asked image folder out WrongWords → asked ≡ None
+words_wrong asked image folder out (wrong_words none is same) = none
+words_wrong asked image folder out (no_image lacks is same) = absurd (not_this (λ x. status_of x ≡ status_of WrongWords) WrongWords NoImage is refl (λ a. omega arith))
+words_wrong asked image folder out (no_folder lacks is same) = absurd (not_this (λ x. status_of x ≡ status_of WrongWords) WrongWords NoFolder is refl (λ a. omega arith))
+words_wrong asked image folder out (no_part has same) = absurd (table_not (λ x. status_of x ≡ status_of WrongWords) has.disk WrongWords refl (λ named a. omega arith) (λ a. omega arith) has.stops)
+words_wrong asked image folder out (ran has) = absurd has.says
+words_wrong asked image folder out (no_memory is same) = absurd (not_this (λ x. status_of x ≡ status_of WrongWords) WrongWords (OutOfMemory []) is refl (λ a. omega arith))
 
-pub feature_row : {S : Type 0} (bytes : S → Option (List ℕ)) (faults : S → ℕ) (command : Option Asked) (old new : Opened S) (result : ℕ) (out err : Sunk) →
-    CameTo bytes faults command old new result out err → result ≡ 6 → NamesFeature bytes command old out err
-feature_row {S} bytes faults command old new result out err a e =
-    let at = row bytes faults command old new result 6 out err (λ h. omega arith) a e in
-    let o = refused_at at.0 at.1 in
-    let P : Outcome → Type 0 = λ x. SaysAndWrote bytes faults command old new out err x in
-    let both = subst P o.3 (at.2, at.3) in
-    let told = of_run bytes command old (λ c image. StopsAt c image o.0 (IsFeature c image o.1 o.2)) (λ c image. StopsAt c image o.0 (IsRefused c image o.1 o.2)) (λ c image. refused_as c image o.0 o.1 o.2) both.0 in
-    (o.0, o.1, o.2, told, both.1)
+image_lacks : (asked : Option Line) (image : Option Looked) (folder : Option Stored) (out : Sunk) → Says asked image folder out NoImage → HasNoImage asked image
+image_lacks asked image folder out (wrong_words none is same) = absurd (not_this (λ x. status_of x ≡ status_of NoImage) NoImage WrongWords is refl (λ a. omega arith))
+image_lacks asked image folder out (no_image lacks is same) = lacks
+image_lacks asked image folder out (no_folder lacks is same) = absurd (not_this (λ x. status_of x ≡ status_of NoImage) NoImage NoFolder is refl (λ a. omega arith))
+image_lacks asked image folder out (no_part has same) = absurd (table_not (λ x. status_of x ≡ status_of NoImage) has.disk NoImage refl (λ named a. omega arith) (λ a. omega arith) has.stops)
+image_lacks asked image folder out (ran has) = absurd has.says
+image_lacks asked image folder out (no_memory is same) = absurd (not_this (λ x. status_of x ≡ status_of NoImage) NoImage (OutOfMemory []) is refl (λ a. omega arith))
 
-pub answered_row : {S : Type 0} (bytes : S → Option (List ℕ)) (faults : S → ℕ) (command : Option Asked) (old new : Opened S) (result : ℕ) (out err : Sunk) →
-    CameTo bytes faults command old new result out err → result ≡ 7 → NamesAnswer bytes command old out err
-answered_row {S} bytes faults command old new result out err a e =
-    let at = row bytes faults command old new result 7 out err (λ h. omega arith) a e in
-    let o = answered_at at.0 at.1 in
-    let P : Outcome → Type 0 = λ x. SaysAndWrote bytes faults command old new out err x in
-    let both = subst P o.2 (at.2, at.3) in
-    (o.0, o.1, both.0, both.1)
+folder_lacks : (asked : Option Line) (image : Option Looked) (folder : Option Stored) (out : Sunk) → Says asked image folder out NoFolder → HasNoFolder asked image folder
+folder_lacks asked image folder out (wrong_words none is same) = absurd (not_this (λ x. status_of x ≡ status_of NoFolder) NoFolder WrongWords is refl (λ a. omega arith))
+folder_lacks asked image folder out (no_image lacks is same) = absurd (not_this (λ x. status_of x ≡ status_of NoFolder) NoFolder NoImage is refl (λ a. omega arith))
+folder_lacks asked image folder out (no_folder lacks is same) = lacks
+folder_lacks asked image folder out (no_part has same) = absurd (table_not (λ x. status_of x ≡ status_of NoFolder) has.disk NoFolder refl (λ named a. omega arith) (λ a. omega arith) has.stops)
+folder_lacks asked image folder out (ran has) = absurd has.says
+folder_lacks asked image folder out (no_memory is same) = absurd (not_this (λ x. status_of x ≡ status_of NoFolder) NoFolder (OutOfMemory []) is refl (λ a. omega arith))
 
-pub absent_row : {S : Type 0} (bytes : S → Option (List ℕ)) (faults : S → ℕ) (command : Option Asked) (old new : Opened S) (result : ℕ) (out err : Sunk) →
-    CameTo bytes faults command old new result out err → result ≡ 8 → HasNoImage command old × BothWrote out err NoImage
-absent_row {S} bytes faults command old new result out err a e =
-    let at = row bytes faults command old new result 8 out err (λ h. omega arith) a e in
-    let P : Outcome → Type 0 = λ x. SaysAndWrote bytes faults command old new out err x in
-    subst P (no_image_at at.0 at.1) (at.2, at.3)
+-- ---- a part of what the command writes
 
--- an outcome of status 4 is that of a failed put on the first sink
-first_failed : {S : Type 0} (bytes : S → Option (List ℕ)) (faults : S → ℕ) (command : Option Asked) (old new : Opened S) (out : Sunk) (o : Outcome) →
-    status_of o ≡ 4 → Says bytes faults command old new out o → Failed out
-first_failed bytes faults command old new out (WriteFailed part) e says = says.0
-first_failed bytes faults command old new out _ e says = absurd (omega arith)
+-- a text is a prefix of itself
+whole_prefix : (text : List ℕ) → IsPrefix text text
+whole_prefix text = ([], sym (append-nil text))
 
-pub write_failed_row : {S : Type 0} (bytes : S → Option (List ℕ)) (faults : S → ℕ) (command : Option Asked) (old new : Opened S) (result : ℕ) (out err : Sunk) →
-    CameTo bytes faults command old new result out err → result ≡ 4 → HasFailedPut bytes command old out err
-write_failed_row bytes faults command old new result out err (o, says, ends) e = (
+-- a front of what was written at the end
+lead_part : (command : Asked) (source : Looked) (lead : List ℕ) → lead ≡ lead_of command → IsPart command source lead
+lead_part command source lead e =
+    let P : List ℕ → Type 0 = λ l. IsPart command source l in
+    subst P (sym e) (record { formed = inl (whole_prefix (lead_of command)); begins = λ image told. inl (whole_prefix (lead_of command)) })
+
+pub part_on : (command : Asked) (source : Looked) (failed : Type 0) (o : Outcome) → SaysOn command source failed o → IsPart command source (text_of o)
+part_on command source failed (Written text) says = record { formed = inr (text, says.formed, whole_prefix text); begins = λ image told. inr (text, says.is image told, whole_prefix text) }
+part_on command source failed (Faulty lead named) says = lead_part command source lead says.0
+part_on command source failed WrongWords says = absurd says
+part_on command source failed (ReadFailed part) says = says.1.is
+part_on command source failed (WriteFailed part) says = says.1
+part_on command source failed (OutOfMemory part) says = says
+part_on command source failed (Refused lead feature block) says = lead_part command source lead says.0
+part_on command source failed (Answered lead answer) says = lead_part command source lead says.0
+part_on command source failed NoImage says = absurd says
+part_on command source failed NoFolder says = absurd says
+
+-- all items are a front of themselves
+whole_front : (items : List Item) → IsFront items items
+whole_front items = record { whole = items; rest = []; split = sym (append-nil items); end = inl refl }
+
+-- the folder where nothing was added
+same_fills : (command : Asked) (source : Looked) (folder : Stored) → IsSame folder → Fills command source folder (AreFrontIf command)
+same_fills command source folder same = record { added = []; none = λ e. refl; are = λ image told. inl refl; put = same }
+
+none_fills : (command : Asked) (source : Looked) (folder : Stored) → Fills command source folder (λ image added. added ≡ []) → Fills command source folder (AreFrontIf command)
+none_fills command source folder f = record { added = f.added; none = f.none; are = λ image told. inl (f.are image told); put = f.put }
+
+front_fills : (command : Asked) (source : Looked) (folder : Stored) (o : Outcome) → FillsBy command source folder o → Fills command source folder (AreFrontIf command)
+front_fills command source folder (Written text) f = record { added = f.added; none = f.none; are = λ image told. inr (f.added, f.are image told, whole_front f.added); put = f.put }
+front_fills command source folder (Faulty lead named) f = none_fills command source folder f
+front_fills command source folder WrongWords f = same_fills command source folder f
+front_fills command source folder (ReadFailed part) f = f
+front_fills command source folder (WriteFailed part) f = f
+front_fills command source folder (OutOfMemory part) f = f
+front_fills command source folder (Refused lead feature block) f = none_fills command source folder f
+front_fills command source folder (Answered lead answer) f = same_fills command source folder f
+front_fills command source folder NoImage f = same_fills command source folder f
+front_fills command source folder NoFolder f = same_fills command source folder f
+
+front_on : (command : Asked) (source : Looked) (folder : Option Stored) (o : Outcome) (part : List ℕ) → FillsOn command source folder o → FillsOn command source folder (OutOfMemory part)
+front_on command source None o part f = tt
+front_on command source (Some folder) o part f = front_fills command source folder o f
+
+-- whatever the outcome, a part of what the command writes was written, or nothing
+pub some_part : (asked : Option Line) (image : Option Looked) (folder : Option Stored) (out : Sunk) (o : Outcome) → Says asked image folder out o → IsSomePart asked image folder out (text_of o)
+some_part asked image folder out o (wrong_words none is same) = inr (ap text_of is, same)
+some_part asked image folder out o (no_image lacks is same) = inr (ap text_of is, same)
+some_part asked image folder out o (no_folder lacks is same) = inr (ap text_of is, same)
+some_part asked image folder out o (no_part has same) = inr (elim has.stops as (λ _. text_of o ≡ []) [ inl stops ↦ ap text_of stops.1 | inr stops ↦ ap text_of stops.0 ], same)
+some_part asked image folder out o (ran has) = inl (record {
+  line = has.line;
+  words = has.words;
+  all = has.all;
+  source = has.source;
+  source_is = has.source_is;
+  says = part_on has.line.command has.source (PutFailed out folder) o has.says;
+  fills = front_on has.line.command has.source folder o (text_of o) has.fills;
+})
+some_part asked image folder out o (no_memory is same) = inr (ap text_of is, same)
+
+-- ---- the rows
+
+-- a fault that a command names is present
+present_in : (command : Asked) (image : List ℕ) (named : Named) → IsNamed command image named → IsPresentIn command image named
+present_in command image (InContainer fault) is = fault_there command image fault is
+present_in command image NoTable is = absurd is
+present_in command image BadTable is = absurd is
+present_in command image NoPartition is = absurd is
+present_in command image (PartOutside at) is = absurd is
+
+ran_naming : (asked : Option Line) (image : Option Looked) (folder : Option Stored) (out : Sunk) (lead : List ℕ) (named : Named) → RanOrNoPart asked image folder out (Faulty lead named) →
+    RanNaming asked image folder out lead named ⊎ HasNoPart asked image folder (Faulty lead named)
+ran_naming asked image folder out lead named (inl has) = inl (has, λ bytes told. present_in has.line.command bytes named (has.says.1 bytes told).there_is)
+ran_naming asked image folder out lead named (inr has) = inr has
+
+ran_refusing : (asked : Option Line) (image : Option Looked) (folder : Option Stored) (out : Sunk) (lead : List ℕ) (feature : Feature) (block : ℕ) → Ran asked image folder out (Refused lead feature block) →
+    RanRefusing asked image folder out lead feature block
+ran_refusing asked image folder out lead feature block has = (has, λ bytes told. feature_there has.line.command bytes feature block (has.says.1 bytes told).there_is)
+
+pub fault_row : (asked : Option Line) (image : Option Looked) (folder : Option Stored) (result : ℕ) (out err : Sunk) → CameTo asked image folder result out err → result ≡ 1 → NamesFault asked image folder out err
+fault_row asked image folder result out err a e = go (row asked image folder result 1 out err (λ h. omega arith) a e)
+  where
+    go : ((o : Outcome) × (status_of o ≡ 1) × Says asked image folder out o × BothWrote out err o) → NamesFault asked image folder out err
+    go (Written text, at, says, wrote) = absurd (omega arith)
+    go (Faulty lead named, at, says, wrote) = (lead, named, ran_naming asked image folder out lead named (table_ran asked image folder out (Faulty lead named) tt says), wrote)
+    go (WrongWords, at, says, wrote) = absurd (omega arith)
+    go (ReadFailed part, at, says, wrote) = absurd (omega arith)
+    go (WriteFailed part, at, says, wrote) = absurd (omega arith)
+    go (OutOfMemory part, at, says, wrote) = absurd (omega arith)
+    go (Refused lead feature block, at, says, wrote) = absurd (omega arith)
+    go (Answered lead answer, at, says, wrote) = absurd (omega arith)
+    go (NoImage, at, says, wrote) = absurd (omega arith)
+    go (NoFolder, at, says, wrote) = absurd (omega arith)
+
+pub usage_row : (asked : Option Line) (image : Option Looked) (folder : Option Stored) (result : ℕ) (out err : Sunk) → CameTo asked image folder result out err → result ≡ 2 → (asked ≡ None) × BothWrote out err WrongWords
+usage_row asked image folder result out err a e = go (row asked image folder result 2 out err (λ h. omega arith) a e)
+  where
+    go : ((o : Outcome) × (status_of o ≡ 2) × Says asked image folder out o × BothWrote out err o) → (asked ≡ None) × BothWrote out err WrongWords
+    go (Written text, at, says, wrote) = absurd (omega arith)
+    go (Faulty lead named, at, says, wrote) = absurd (omega arith)
+    go (WrongWords, at, says, wrote) = (words_wrong asked image folder out says, wrote)
+    go (ReadFailed part, at, says, wrote) = absurd (omega arith)
+    go (WriteFailed part, at, says, wrote) = absurd (omega arith)
+    go (OutOfMemory part, at, says, wrote) = absurd (omega arith)
+    go (Refused lead feature block, at, says, wrote) = absurd (omega arith)
+    go (Answered lead answer, at, says, wrote) = absurd (omega arith)
+    go (NoImage, at, says, wrote) = absurd (omega arith)
+    go (NoFolder, at, says, wrote) = absurd (omega arith)
+
+pub read_failed_row : (asked : Option Line) (image : Option Looked) (folder : Option Stored) (result : ℕ) (out err : Sunk) → CameTo asked image folder result out err → result ≡ 3 → SaysReadFailed asked image folder out err
+read_failed_row asked image folder result out err a e = go (row asked image folder result 3 out err (λ h. omega arith) a e)
+  where
+    go : ((o : Outcome) × (status_of o ≡ 3) × Says asked image folder out o × BothWrote out err o) → SaysReadFailed asked image folder out err
+    go (Written text, at, says, wrote) = absurd (omega arith)
+    go (Faulty lead named, at, says, wrote) = absurd (omega arith)
+    go (WrongWords, at, says, wrote) = absurd (omega arith)
+    go (ReadFailed part, at, says, wrote) = (part, table_ran asked image folder out (ReadFailed part) tt says, wrote)
+    go (WriteFailed part, at, says, wrote) = absurd (omega arith)
+    go (OutOfMemory part, at, says, wrote) = absurd (omega arith)
+    go (Refused lead feature block, at, says, wrote) = absurd (omega arith)
+    go (Answered lead answer, at, says, wrote) = absurd (omega arith)
+    go (NoImage, at, says, wrote) = absurd (omega arith)
+    go (NoFolder, at, says, wrote) = absurd (omega arith)
+
+pub out_of_memory_row : (asked : Option Line) (image : Option Looked) (folder : Option Stored) (result : ℕ) (out err : Sunk) → CameTo asked image folder result out err → result ≡ 5 → SaysOutOfMemory asked image folder out err
+out_of_memory_row asked image folder result out err a e = go (row asked image folder result 5 out err (λ h. omega arith) a e)
+  where
+    go : ((o : Outcome) × (status_of o ≡ 5) × Says asked image folder out o × BothWrote out err o) → SaysOutOfMemory asked image folder out err
+    go (Written text, at, says, wrote) = absurd (omega arith)
+    go (Faulty lead named, at, says, wrote) = absurd (omega arith)
+    go (WrongWords, at, says, wrote) = absurd (omega arith)
+    go (ReadFailed part, at, says, wrote) = absurd (omega arith)
+    go (WriteFailed part, at, says, wrote) = absurd (omega arith)
+    go (OutOfMemory part, at, says, wrote) = (part, some_part asked image folder out (OutOfMemory part) says, wrote)
+    go (Refused lead feature block, at, says, wrote) = absurd (omega arith)
+    go (Answered lead answer, at, says, wrote) = absurd (omega arith)
+    go (NoImage, at, says, wrote) = absurd (omega arith)
+    go (NoFolder, at, says, wrote) = absurd (omega arith)
+
+pub feature_row : (asked : Option Line) (image : Option Looked) (folder : Option Stored) (result : ℕ) (out err : Sunk) → CameTo asked image folder result out err → result ≡ 6 → NamesFeature asked image folder out err
+feature_row asked image folder result out err a e = go (row asked image folder result 6 out err (λ h. omega arith) a e)
+  where
+    go : ((o : Outcome) × (status_of o ≡ 6) × Says asked image folder out o × BothWrote out err o) → NamesFeature asked image folder out err
+    go (Written text, at, says, wrote) = absurd (omega arith)
+    go (Faulty lead named, at, says, wrote) = absurd (omega arith)
+    go (WrongWords, at, says, wrote) = absurd (omega arith)
+    go (ReadFailed part, at, says, wrote) = absurd (omega arith)
+    go (WriteFailed part, at, says, wrote) = absurd (omega arith)
+    go (OutOfMemory part, at, says, wrote) = absurd (omega arith)
+    go (Refused lead feature block, at, says, wrote) = (lead, feature, block, ran_refusing asked image folder out lead feature block (command_ran asked image folder out (Refused lead feature block) tt says), wrote)
+    go (Answered lead answer, at, says, wrote) = absurd (omega arith)
+    go (NoImage, at, says, wrote) = absurd (omega arith)
+    go (NoFolder, at, says, wrote) = absurd (omega arith)
+
+pub answered_row : (asked : Option Line) (image : Option Looked) (folder : Option Stored) (result : ℕ) (out err : Sunk) → CameTo asked image folder result out err → result ≡ 7 → NamesAnswer asked image folder out err
+answered_row asked image folder result out err a e = go (row asked image folder result 7 out err (λ h. omega arith) a e)
+  where
+    go : ((o : Outcome) × (status_of o ≡ 7) × Says asked image folder out o × BothWrote out err o) → NamesAnswer asked image folder out err
+    go (Written text, at, says, wrote) = absurd (omega arith)
+    go (Faulty lead named, at, says, wrote) = absurd (omega arith)
+    go (WrongWords, at, says, wrote) = absurd (omega arith)
+    go (ReadFailed part, at, says, wrote) = absurd (omega arith)
+    go (WriteFailed part, at, says, wrote) = absurd (omega arith)
+    go (OutOfMemory part, at, says, wrote) = absurd (omega arith)
+    go (Refused lead feature block, at, says, wrote) = absurd (omega arith)
+    go (Answered lead answer, at, says, wrote) = (lead, answer, command_ran asked image folder out (Answered lead answer) tt says, wrote)
+    go (NoImage, at, says, wrote) = absurd (omega arith)
+    go (NoFolder, at, says, wrote) = absurd (omega arith)
+
+pub absent_row : (asked : Option Line) (image : Option Looked) (folder : Option Stored) (result : ℕ) (out err : Sunk) → CameTo asked image folder result out err → result ≡ 8 → HasNoImage asked image × BothWrote out err NoImage
+absent_row asked image folder result out err a e = go (row asked image folder result 8 out err (λ h. omega arith) a e)
+  where
+    go : ((o : Outcome) × (status_of o ≡ 8) × Says asked image folder out o × BothWrote out err o) → HasNoImage asked image × BothWrote out err NoImage
+    go (Written text, at, says, wrote) = absurd (omega arith)
+    go (Faulty lead named, at, says, wrote) = absurd (omega arith)
+    go (WrongWords, at, says, wrote) = absurd (omega arith)
+    go (ReadFailed part, at, says, wrote) = absurd (omega arith)
+    go (WriteFailed part, at, says, wrote) = absurd (omega arith)
+    go (OutOfMemory part, at, says, wrote) = absurd (omega arith)
+    go (Refused lead feature block, at, says, wrote) = absurd (omega arith)
+    go (Answered lead answer, at, says, wrote) = absurd (omega arith)
+    go (NoImage, at, says, wrote) = (image_lacks asked image folder out says, wrote)
+    go (NoFolder, at, says, wrote) = absurd (omega arith)
+
+pub nowhere_row : (asked : Option Line) (image : Option Looked) (folder : Option Stored) (result : ℕ) (out err : Sunk) → CameTo asked image folder result out err → result ≡ 9 → HasNoFolder asked image folder × BothWrote out err NoFolder
+nowhere_row asked image folder result out err a e = go (row asked image folder result 9 out err (λ h. omega arith) a e)
+  where
+    go : ((o : Outcome) × (status_of o ≡ 9) × Says asked image folder out o × BothWrote out err o) → HasNoFolder asked image folder × BothWrote out err NoFolder
+    go (Written text, at, says, wrote) = absurd (omega arith)
+    go (Faulty lead named, at, says, wrote) = absurd (omega arith)
+    go (WrongWords, at, says, wrote) = absurd (omega arith)
+    go (ReadFailed part, at, says, wrote) = absurd (omega arith)
+    go (WriteFailed part, at, says, wrote) = absurd (omega arith)
+    go (OutOfMemory part, at, says, wrote) = absurd (omega arith)
+    go (Refused lead feature block, at, says, wrote) = absurd (omega arith)
+    go (Answered lead answer, at, says, wrote) = absurd (omega arith)
+    go (NoImage, at, says, wrote) = absurd (omega arith)
+    go (NoFolder, at, says, wrote) = (folder_lacks asked image folder out says, wrote)
+
+-- an outcome of status 4 is that of a failed put on the first sink or into the folder
+put_failed : (asked : Option Line) (image : Option Looked) (folder : Option Stored) (out : Sunk) (o : Outcome) → status_of o ≡ 4 → Says asked image folder out o → PutFailed out folder
+put_failed asked image folder out (Written text) e says = absurd (omega arith)
+put_failed asked image folder out (Faulty lead named) e says = absurd (omega arith)
+put_failed asked image folder out WrongWords e says = absurd (omega arith)
+put_failed asked image folder out (ReadFailed part) e says = absurd (omega arith)
+put_failed asked image folder out (WriteFailed part) e says = (command_ran asked image folder out (WriteFailed part) tt says).says.0
+put_failed asked image folder out (OutOfMemory part) e says = absurd (omega arith)
+put_failed asked image folder out (Refused lead feature block) e says = absurd (omega arith)
+put_failed asked image folder out (Answered lead answer) e says = absurd (omega arith)
+put_failed asked image folder out NoImage e says = absurd (omega arith)
+put_failed asked image folder out NoFolder e says = absurd (omega arith)
+
+pub write_failed_row : (asked : Option Line) (image : Option Looked) (folder : Option Stored) (result : ℕ) (out err : Sunk) → CameTo asked image folder result out err → result ≡ 4 → HasFailedPut asked image folder out err
+write_failed_row asked image folder result out err (o, says, ends) e = (
   text_of o,
-  part_of bytes faults command old new out o says,
+  some_part asked image folder out o says,
   ends.text,
-  elim ends.said [ inl has ↦ inl (first_failed bytes faults command old new out o (sym has.status_is ∙ e) says) | inr lacks ↦ inr lacks.failed ],
+  elim ends.said [ inl has ↦ inl (put_failed asked image folder out o (sym has.status_is ∙ e) says) | inr lacks ↦ inr lacks.failed ],
 )
 
--- a run ends with the status of its outcome, or a put on the second sink failed
+-- ---- when each status comes
+
+-- a run ends with the status of its outcome, or a put of the line failed
 ended_as : (result : ℕ) (o : Outcome) (out err : Sunk) → Ends result o out err → (result ≡ status_of o) ⊎ (result ≡ 4)
 ended_as result o out err ends = elim ends.said [ inl has ↦ inl has.status_is | inr lacks ↦ inr lacks.status_is ]
 
--- the outcomes of wrong words
-wrong_words_status : {S : Type 0} (bytes : S → Option (List ℕ)) (faults : S → ℕ) (old new : Opened S) (out : Sunk) (o : Outcome) → Says bytes faults None old new out o →
-    (status_of o ≡ 2) ⊎ ((status_of o ≡ 4) ⊎ (status_of o ≡ 5))
-wrong_words_status bytes faults old new out (Written text) says = absurd says
-wrong_words_status bytes faults old new out (Faulty lead fault) says = absurd says
-wrong_words_status bytes faults old new out Usage says = inl refl
-wrong_words_status bytes faults old new out (ReadFailed part) says = absurd says.0
-wrong_words_status bytes faults old new out (WriteFailed part) says = inr (inl refl)
-wrong_words_status bytes faults old new out (OutOfMemory part) says = inr (inr refl)
-wrong_words_status bytes faults old new out (Refused lead feature block) says = absurd says
-wrong_words_status bytes faults old new out (Answered lead answer) says = absurd says
-wrong_words_status bytes faults old new out NoImage says = absurd says
+-- the words ask for one line
+one_line : (asked : Option Line) (a b : Line) → asked ≡ Some a → asked ≡ Some b → a ≡ b
+one_line asked a b first second = Prim.cc
 
--- a source that isn't there doesn't fail
-lacking_not_failed : {S : Type 0} (faults : S → ℕ) (wanted : Bool) (old new : Opened S) → LacksImage wanted old → SourceFailed faults old new → ⊥
-lacking_not_failed faults true Absent new lacks failed = absurd failed
-lacking_not_failed faults true (Image source) new lacks failed = absurd lacks
-lacking_not_failed faults false old new lacks failed = absurd lacks
+no_line : (asked : Option Line) (line : Line) → asked ≡ None → asked ≡ Some line → ⊥
+no_line asked line none some = Prim.cc
 
--- the outcomes where no image was handed in
-no_image_status : {S : Type 0} (bytes : S → Option (List ℕ)) (faults : S → ℕ) (command : Asked) (old new : Opened S) (out : Sunk) (o : Outcome) → LacksImage (takes_image command) old →
-    Says bytes faults (Some command) old new out o → (status_of o ≡ 8) ⊎ ((status_of o ≡ 4) ⊎ (status_of o ≡ 5))
-no_image_status bytes faults command old new out (Written text) has says = absurd (says.0 has)
-no_image_status bytes faults command old new out (Faulty lead fault) has says = absurd (says.0 has)
-no_image_status bytes faults command old new out Usage has says = Prim.cc
-no_image_status bytes faults command old new out (ReadFailed part) has says = absurd (lacking_not_failed faults (takes_image command) old new has says.0)
-no_image_status bytes faults command old new out (WriteFailed part) has says = inr (inl refl)
-no_image_status bytes faults command old new out (OutOfMemory part) has says = inr (inr refl)
-no_image_status bytes faults command old new out (Refused lead feature block) has says = absurd (says.0 has)
-no_image_status bytes faults command old new out (Answered lead answer) has says = absurd (says.0 has)
-no_image_status bytes faults command old new out NoImage has says = inl refl
+-- what is lacking for one line is lacking for the other
+lacks_image : (asked : Option Line) (image : Option Looked) (a b : Line) → asked ≡ Some a → asked ≡ Some b → LacksImage a image → LacksImage b image
+lacks_image asked image a b first second lacks =
+    let P : Line → Type 0 = λ l. LacksImage l image in
+    subst P (one_line asked a b first second) lacks
 
--- an image that is given isn't lacking
-given_not_lacking : {S : Type 0} (bytes : S → Option (List ℕ)) (wanted : Bool) (opened : Opened S) (image : List ℕ) → IsGiven bytes wanted opened image → LacksImage wanted opened → ⊥
-given_not_lacking bytes true Absent image given lacks = absurd given
-given_not_lacking bytes true (Image source) image given lacks = absurd lacks
-given_not_lacking bytes false opened image given lacks = absurd lacks
+lacks_folder : (asked : Option Line) (folder : Option Stored) (a b : Line) → asked ≡ Some a → asked ≡ Some b → LacksFolder a folder → LacksFolder b folder
+lacks_folder asked folder a b first second lacks =
+    let P : Line → Type 0 = λ l. LacksFolder l folder in
+    subst P (one_line asked a b first second) lacks
 
--- the outcomes where the command has a text of the image
-text_status : {S : Type 0} (bytes : S → Option (List ℕ)) (faults : S → ℕ) (command : Asked) (old new : Opened S) (out : Sunk) (o : Outcome) (image text : List ℕ) →
-    IsGiven bytes (takes_image command) old image → IsText command image text → Says bytes faults (Some command) old new out o → IsWholeOrFree (status_of o)
-text_status bytes faults command old new out (Written whole) image text given defined says = inl refl
-text_status bytes faults command old new out (Faulty lead fault) image text given defined says = absurd ((says.1 image given).none (inl (text, defined)))
-text_status bytes faults command old new out Usage image text given defined says = Prim.cc
-text_status bytes faults command old new out (ReadFailed part) image text given defined says = inr (inl refl)
-text_status bytes faults command old new out (WriteFailed part) image text given defined says = inr (inr (inl refl))
-text_status bytes faults command old new out (OutOfMemory part) image text given defined says = inr (inr (inr refl))
-text_status bytes faults command old new out (Refused lead feature block) image text given defined says = absurd ((says.1 image given).none (inl (text, defined)))
-text_status bytes faults command old new out (Answered lead answer) image text given defined says =
-    absurd (((says.1 image given).only_is (for_answer answer (Unit {0}) (Unit {0}) (RestsOn command image) tt tt (text_rests command image text defined))).none text defined)
-text_status bytes faults command old new out NoImage image text given defined says = absurd (given_not_lacking bytes (takes_image command) old image given says)
-
--- a status, or 4, or 5
-one_of : (result status at : ℕ) → (at ≡ status) ⊎ ((at ≡ 4) ⊎ (at ≡ 5)) → (result ≡ at) ⊎ (result ≡ 4) → (result ≡ status) ⊎ ((result ≡ 4) ⊎ (result ≡ 5))
+-- a status, or want of memory; or a put of the line failed
+one_of : (result status at : ℕ) → (at ≡ status) ⊎ (at ≡ 5) → (result ≡ at) ⊎ (result ≡ 4) → (result ≡ status) ⊎ ((result ≡ 4) ⊎ (result ≡ 5))
 one_of result status at which (inr failed) = inr (inl failed)
 one_of result status at (inl s) (inl e) = inl (e ∙ s)
-one_of result status at (inr (inl w)) (inl e) = inr (inl (e ∙ w))
-one_of result status at (inr (inr m)) (inl e) = inr (inr (e ∙ m))
+one_of result status at (inr m) (inl e) = inr (inr (e ∙ m))
 
-pub wrong_words_row : {S : Type 0} (bytes : S → Option (List ℕ)) (faults : S → ℕ) (command : Option Asked) (old new : Opened S) (result : ℕ) (out err : Sunk) →
-    CameTo bytes faults command old new result out err → IsExactly result 2 (command ≡ None)
-wrong_words_row {S} bytes faults command old new result out err a = record {
-  only = λ e. (usage_row bytes faults command old new result out err a e).0;
-  always = λ none.
-      let P : Option Asked → Type 0 = λ c. Says bytes faults c old new out a.0 in
-      one_of result 2 (status_of a.0) (wrong_words_status bytes faults old new out a.0 (subst P none a.1)) (ended_as result a.0 out err a.2);
+wrong_status : (asked : Option Line) (image : Option Looked) (folder : Option Stored) (out : Sunk) (o : Outcome) → asked ≡ None → Says asked image folder out o → (status_of o ≡ 2) ⊎ (status_of o ≡ 5)
+wrong_status asked image folder out o none (wrong_words e is same) = inl (ap status_of is)
+wrong_status asked image folder out o none (no_image lacks is same) = absurd (no_line asked lacks.line none lacks.words)
+wrong_status asked image folder out o none (no_folder lacks is same) = absurd (no_line asked lacks.line none lacks.words)
+wrong_status asked image folder out o none (no_part has same) = absurd (no_line asked has.line none has.words)
+wrong_status asked image folder out o none (ran has) = absurd (no_line asked has.line none has.words)
+wrong_status asked image folder out o none (no_memory is same) = inr (ap status_of is)
+
+pub wrong_words_row : (asked : Option Line) (image : Option Looked) (folder : Option Stored) (result : ℕ) (out err : Sunk) → CameTo asked image folder result out err → IsExactly result 2 (asked ≡ None)
+wrong_words_row asked image folder result out err a = record {
+  only = λ e. (usage_row asked image folder result out err a e).0;
+  always = λ none. one_of result 2 (status_of a.0) (wrong_status asked image folder out a.0 none a.1) (ended_as result a.0 out err a.2);
 }
 
-no_image_always : {S : Type 0} (bytes : S → Option (List ℕ)) (faults : S → ℕ) (command : Option Asked) (old new : Opened S) (result : ℕ) (out err : Sunk) →
-    CameTo bytes faults command old new result out err → HasNoImage command old → (result ≡ 8) ⊎ ((result ≡ 4) ⊎ (result ≡ 5))
-no_image_always bytes faults None old new result out err a has = absurd has
-no_image_always bytes faults (Some command) old new result out err (o, says, ends) has =
-    one_of result 8 (status_of o) (no_image_status bytes faults command old new out o has says) (ended_as result o out err ends)
+absent_status : (asked : Option Line) (image : Option Looked) (folder : Option Stored) (out : Sunk) (o : Outcome) → HasNoImage asked image → Says asked image folder out o → (status_of o ≡ 8) ⊎ (status_of o ≡ 5)
+absent_status asked image folder out o l (wrong_words none is same) = absurd (no_line asked l.line none l.words)
+absent_status asked image folder out o l (no_image lacks is same) = inl (ap status_of is)
+absent_status asked image folder out o l (no_folder lacks is same) = absurd (lacks.has (lacks_image asked image l.line lacks.line l.words lacks.words l.lacks))
+absent_status asked image folder out o l (no_part has same) = absurd (has.all.image_there (lacks_image asked image l.line has.line l.words has.words l.lacks))
+absent_status asked image folder out o l (ran has) = absurd (has.all.image_there (lacks_image asked image l.line has.line l.words has.words l.lacks))
+absent_status asked image folder out o l (no_memory is same) = inr (ap status_of is)
 
-pub no_image_row : {S : Type 0} (bytes : S → Option (List ℕ)) (faults : S → ℕ) (command : Option Asked) (old new : Opened S) (result : ℕ) (out err : Sunk) →
-    CameTo bytes faults command old new result out err → IsExactly result 8 (HasNoImage command old)
-no_image_row bytes faults command old new result out err a = record {
-  only = λ e. (absent_row bytes faults command old new result out err a e).0;
-  always = no_image_always bytes faults command old new result out err a;
+pub no_image_row : (asked : Option Line) (image : Option Looked) (folder : Option Stored) (result : ℕ) (out err : Sunk) → CameTo asked image folder result out err → IsExactly result 8 (HasNoImage asked image)
+no_image_row asked image folder result out err a = record {
+  only = λ e. (absent_row asked image folder result out err a e).0;
+  always = λ l. one_of result 8 (status_of a.0) (absent_status asked image folder out a.0 l a.1) (ended_as result a.0 out err a.2);
 }
 
--- the status of an outcome, or 4
-whole_or_free : (result at : ℕ) → IsWholeOrFree at → (result ≡ at) ⊎ (result ≡ 4) → IsWholeOrFree result
-whole_or_free result at which (inl e) = let P : ℕ → Type 0 = λ n. IsWholeOrFree n in subst P (sym e) which
-whole_or_free result at which (inr failed) = inr (inr (inl failed))
+nowhere_status : (asked : Option Line) (image : Option Looked) (folder : Option Stored) (out : Sunk) (o : Outcome) → HasNoFolder asked image folder → Says asked image folder out o → (status_of o ≡ 9) ⊎ (status_of o ≡ 5)
+nowhere_status asked image folder out o l (wrong_words none is same) = absurd (no_line asked l.line none l.words)
+nowhere_status asked image folder out o l (no_image lacks is same) = absurd (l.has (lacks_image asked image lacks.line l.line lacks.words l.words lacks.lacks))
+nowhere_status asked image folder out o l (no_folder lacks is same) = inl (ap status_of is)
+nowhere_status asked image folder out o l (no_part has same) = absurd (has.all.folder_there (lacks_folder asked folder l.line has.line l.words has.words l.lacks))
+nowhere_status asked image folder out o l (ran has) = absurd (has.all.folder_there (lacks_folder asked folder l.line has.line l.words has.words l.lacks))
+nowhere_status asked image folder out o l (no_memory is same) = inr (ap status_of is)
 
-pub whole_row : {S : Type 0} (bytes : S → Option (List ℕ)) (faults : S → ℕ) (command : Option Asked) (old new : Opened S) (result : ℕ) (out err : Sunk) →
-    CameTo bytes faults command old new result out err → HasDefinedText bytes command old → IsWholeOrFree result
-whole_row {S} bytes faults command old new result out err (o, says, ends) has =
-    let P : Option Asked → Type 0 = λ c. Says bytes faults c old new out o in
-    whole_or_free result (status_of o) (text_status bytes faults has.command old new out o has.image has.text has.given has.defined (subst P has.words says)) (ended_as result o out err ends)
+pub no_folder_row : (asked : Option Line) (image : Option Looked) (folder : Option Stored) (result : ℕ) (out err : Sunk) → CameTo asked image folder result out err → IsExactly result 9 (HasNoFolder asked image folder)
+no_folder_row asked image folder result out err a = record {
+  only = λ e. (nowhere_row asked image folder result out err a e).0;
+  always = λ l. one_of result 9 (status_of a.0) (nowhere_status asked image folder out a.0 l a.1) (ended_as result a.0 out err a.2);
+}
 
--- the outcomes where the command has an answer of the image
-answer_status : {S : Type 0} (bytes : S → Option (List ℕ)) (faults : S → ℕ) (command : Asked) (old new : Opened S) (out : Sunk) (o : Outcome) (image : List ℕ) (answer : Answer) →
-    IsGiven bytes (takes_image command) old image → IsAnswer command image answer → Says bytes faults (Some command) old new out o → IsAnsweredOrFree (status_of o)
-answer_status bytes faults command old new out (Written text) image answer given defined says = absurd (text_or_answer command image text answer (says.1 image given (answer_rests command image answer defined)) defined)
-answer_status bytes faults command old new out (Faulty lead fault) image answer given defined says = absurd ((says.1 image given).none (inr (answer, defined)))
-answer_status bytes faults command old new out Usage image answer given defined says = Prim.cc
-answer_status bytes faults command old new out (ReadFailed part) image answer given defined says = inr (inl refl)
-answer_status bytes faults command old new out (WriteFailed part) image answer given defined says = inr (inr (inl refl))
-answer_status bytes faults command old new out (OutOfMemory part) image answer given defined says = inr (inr (inr refl))
-answer_status bytes faults command old new out (Refused lead feature block) image answer given defined says = absurd ((says.1 image given).none (inr (answer, defined)))
-answer_status bytes faults command old new out (Answered lead other) image answer given defined says = inl refl
-answer_status bytes faults command old new out NoImage image answer given defined says = absurd (given_not_lacking bytes (takes_image command) old image given says)
+-- ---- the bytes on which a command works
 
--- the status of an outcome, or 4
-answered_or_free : (result at : ℕ) → IsAnsweredOrFree at → (result ≡ at) ⊎ (result ≡ 4) → IsAnsweredOrFree result
-answered_or_free result at which (inl e) = let P : ℕ → Type 0 = λ n. IsAnsweredOrFree n in subst P (sym e) which
-answered_or_free result at which (inr failed) = inr (inr (inl failed))
+-- a source that a command gets from what is handed in tells the bytes that are given
+given_in : (p : Bool) (handed source : Looked) (bytes : List ℕ) → IsGivenFrom HandedIn p (Some handed) bytes → IsSourceFrom HandedIn p (Some handed) source → source.bytes ≡ Some bytes
+given_in false handed source bytes given is =
+    let same : handed ≡ source = Prim.cc in
+    let P : Looked → Type 0 = λ s. s.bytes ≡ Some bytes in
+    subst P same given
+given_in true handed source bytes (disk, told, partition) (other, part, handed_is, found, same) =
+    let one : handed ≡ other = Prim.cc in
+    let P : Looked → Type 0 = λ s. s.bytes ≡ Some disk in
+    let at : other.bytes ≡ Some disk = subst P one told in
+    let first : found_part disk ≡ Ok part = found disk at in
+    let second : found_part disk ≡ Ok partition.part = partition.found in
+    let part_is : part ≡ partition.part = Prim.cc in
+    let Q : Looked → Type 0 = λ s. s.bytes ≡ Some bytes in
+    let R : Part → Type 0 = λ p. Some (bytes_in disk p) ≡ Some bytes in
+    let S : Option (List ℕ) → Type 0 = λ b. sliced part.start part.length b ≡ Some bytes in
+    subst Q (sym same) (subst S (sym at) (subst R (sym part_is) (ap (λ (l : List ℕ). Some l) (sym partition.same))))
 
-pub always_answered_row : {S : Type 0} (bytes : S → Option (List ℕ)) (faults : S → ℕ) (command : Option Asked) (old new : Opened S) (result : ℕ) (out err : Sunk) →
-    CameTo bytes faults command old new result out err → HasDefinedAnswer bytes command old → IsAnsweredOrFree result
-always_answered_row {S} bytes faults command old new result out err (o, says, ends) has =
-    let P : Option Asked → Type 0 = λ c. Says bytes faults c old new out o in
-    answered_or_free result (status_of o) (answer_status bytes faults has.command old new out o has.image has.answer has.given has.defined (subst P has.words says)) (ended_as result o out err ends)
+given_source : (f : From) (p : Bool) (image : Option Looked) (source : Looked) (bytes : List ℕ) → IsGivenFrom f p image bytes → IsSourceFrom f p image source → source.bytes ≡ Some bytes
+given_source HandedIn p None source bytes given is = absurd given
+given_source HandedIn p (Some handed) source bytes given is = given_in p handed source bytes given is
+given_source Made p image source bytes given is = absurd given
+given_source Nowhere p image source bytes given is =
+    let P : Looked → Type 0 = λ s. s.bytes ≡ Some bytes in
+    subst P (sym is) (ap (λ (l : List ℕ). Some l) (sym given))
 
--- the outcomes where the command has a text or an answer of the image
-result_status : {S : Type 0} (bytes : S → Option (List ℕ)) (faults : S → ℕ) (command : Asked) (old new : Opened S) (out : Sunk) (o : Outcome) (image : List ℕ) →
-    IsGiven bytes (takes_image command) old image → HasResult command image → Says bytes faults (Some command) old new out o → IsCleanOrFree (status_of o)
-result_status bytes faults command old new out (Written text) image given has says = inl refl
-result_status bytes faults command old new out (Faulty lead fault) image given has says = absurd ((says.1 image given).none has)
-result_status bytes faults command old new out Usage image given has says = Prim.cc
-result_status bytes faults command old new out (ReadFailed part) image given has says = inr (inr (inl refl))
-result_status bytes faults command old new out (WriteFailed part) image given has says = inr (inr (inr (inl refl)))
-result_status bytes faults command old new out (OutOfMemory part) image given has says = inr (inr (inr (inr refl)))
-result_status bytes faults command old new out (Refused lead feature block) image given has says = absurd ((says.1 image given).none has)
-result_status bytes faults command old new out (Answered lead answer) image given has says = inr (inl refl)
-result_status bytes faults command old new out NoImage image given has says = absurd (given_not_lacking bytes (takes_image command) old image given says)
+-- no fault of a table is there where bytes are given
+no_fault : (disk : List ℕ) (part : Part) (named : Named) → found_part disk ≡ Ok part → IsTableFault disk named → ⊥
+no_fault disk part NoTable found there = found_not_faulty disk part gpt.NoTable found there
+no_fault disk part BadTable found there = found_not_faulty disk part gpt.BadTable found there
+no_fault disk part NoPartition found there = found_not_faulty disk part gpt.NoPartition found there
+no_fault disk part (PartOutside at) found there = found_not_faulty disk part (gpt.PartOutside at) found there
+no_fault disk part (InContainer fault) found there = absurd there
 
--- the status of an outcome, or 4
+given_no_fault : (f : From) (p : Bool) (image : Option Looked) (disk : Looked) (bytes : List ℕ) (named : Named) → f ≡ HandedIn → p ≡ true → image ≡ Some disk → IsGivenFrom f p image bytes →
+    OfImage disk (λ b. IsTableFault b named) → ⊥
+given_no_fault HandedIn true None disk bytes named from wanted is given fault = absurd given
+given_no_fault HandedIn true (Some handed) disk bytes named from wanted is (b, told, partition) fault =
+    let one : handed ≡ disk = Prim.cc in
+    let P : Looked → Type 0 = λ s. s.bytes ≡ Some b in
+    no_fault b partition.part named partition.found (fault b (subst P one told))
+given_no_fault HandedIn false image disk bytes named from wanted is given fault = absurd Prim.cc
+given_no_fault Made p image disk bytes named from wanted is given fault = absurd given
+given_no_fault Nowhere p image disk bytes named from wanted is given fault = absurd Prim.cc
+
+-- a command came to an outcome over a source that tells the bytes that are given
+pub record RanOver (command : Asked) (bytes : List ℕ) (failed : Type 0) (o : Outcome) : Type 0 where
+  pub source : Looked
+  pub told : source.bytes ≡ Some bytes
+  pub says : SaysOn command source failed o
+
+ran_over : (image : Option Looked) (folder : Option Stored) (out : Sunk) (o : Outcome) (line other : Line) (command : Asked) (bytes : List ℕ) (source : Looked) → line ≡ other → other.command ≡ command → IsGiven other image bytes →
+    IsSource line image source → SaysOn line.command source (PutFailed out folder) o → RanOver command bytes (PutFailed out folder) o
+ran_over image folder out o line other command bytes source same is given source_is says =
+    let P : Line → Type 0 = λ l. IsSource l image source in
+    let Q : Line → Type 0 = λ l. SaysOn l.command source (PutFailed out folder) o in
+    let R : Asked → Type 0 = λ c. SaysOn c source (PutFailed out folder) o in
+    record {
+      source = source;
+      told = given_source (from_of other.command) other.in_partition image source bytes given (subst P same source_is);
+      says = subst R is (subst Q same says);
+    }
+
+-- where the bytes are given, the command comes to the outcome over them, or a read fails or memory runs out before it
+asked_ran : (asked : Option Line) (image : Option Looked) (folder : Option Stored) (out : Sunk) (o : Outcome) (command : Asked) (bytes : List ℕ) → IsAsked asked image folder command bytes → Says asked image folder out o →
+    RanOver command bytes (PutFailed out folder) o ⊎ ((status_of o ≡ 3) ⊎ (status_of o ≡ 5))
+asked_ran asked image folder out o command bytes is (wrong_words none e same) = absurd (no_line asked is.line none is.words)
+asked_ran asked image folder out o command bytes is (no_image lacks e same) = absurd (is.all.image_there (lacks_image asked image lacks.line is.line lacks.words is.words lacks.lacks))
+asked_ran asked image folder out o command bytes is (no_folder lacks e same) = absurd (is.all.folder_there (lacks_folder asked folder lacks.line is.line lacks.words is.words lacks.lacks))
+asked_ran asked image folder out o command bytes is (no_part has same) =
+    let one : has.line ≡ is.line = one_line asked has.line is.line has.words is.words in
+    let P : Line → Type 0 = λ l. l.in_partition ≡ true in
+    let Q : Line → Type 0 = λ l. from_of l.command ≡ HandedIn in
+    elim has.stops as (λ _. RanOver command bytes (PutFailed out folder) o ⊎ ((status_of o ≡ 3) ⊎ (status_of o ≡ 5))) [
+      | inl stops ↦ absurd (given_no_fault (from_of is.line.command) is.line.in_partition image has.disk bytes stops.0 (subst Q one has.image_from) (subst P one has.wanted) has.disk_is is.given stops.2)
+      | inr stops ↦ inr (inl (ap status_of stops.0))
+    ]
+asked_ran asked image folder out o command bytes is (ran has) =
+    inl (ran_over image folder out o has.line is.line command bytes has.source (one_line asked has.line is.line has.words is.words) is.same is.given has.source_is has.says)
+asked_ran asked image folder out o command bytes is (no_memory e same) = inr (inr (ap status_of e))
+
+-- a failed read, a failed put or want of memory
+free_of : (result status at : ℕ) → (at ≡ 3) ⊎ (at ≡ 5) → (result ≡ at) ⊎ (result ≡ 4) → IsOrFree result status
+free_of result status at which (inr failed) = inr (inr (inl failed))
+free_of result status at (inl r) (inl e) = inr (inl (e ∙ r))
+free_of result status at (inr m) (inl e) = inr (inr (inr (e ∙ m)))
+
+-- a status of an outcome, or a put of the line failed
+or_free : (result status at : ℕ) → IsOrFree at status → (result ≡ at) ⊎ (result ≡ 4) → IsOrFree result status
+or_free result status at which (inl e) = let P : ℕ → Type 0 = λ n. IsOrFree n status in subst P (sym e) which
+or_free result status at which (inr failed) = inr (inr (inl failed))
+
+-- where the command has a text
+text_status : (command : Asked) (source : Looked) (failed : Type 0) (o : Outcome) (bytes wanted : List ℕ) → IsOwed command → source.bytes ≡ Some bytes → IsText command bytes wanted → SaysOn command source failed o → IsOrFree (status_of o) 0
+text_status command source failed (Written whole) bytes text owes told defined says = inl refl
+text_status command source failed (Faulty lead named) bytes text owes told defined says = absurd ((says.1 bytes told).none (inl (text, defined)))
+text_status command source failed WrongWords bytes text owes told defined says = absurd says
+text_status command source failed (ReadFailed part) bytes text owes told defined says = inr (inl refl)
+text_status command source failed (WriteFailed part) bytes text owes told defined says = inr (inr (inl refl))
+text_status command source failed (OutOfMemory part) bytes text owes told defined says = inr (inr (inr refl))
+text_status command source failed (Refused lead feature block) bytes text owes told defined says = absurd ((says.1 bytes told).none (inl (text, defined)))
+text_status command source failed (Answered lead answer) bytes text owes told defined says = absurd ((says.1 bytes told (for_answer answer (Unit {0}) (Unit {0}) (RestsOn command bytes) tt tt (owes.text_rests bytes text defined))).none text defined)
+text_status command source failed NoImage bytes text owes told defined says = absurd says
+text_status command source failed NoFolder bytes text owes told defined says = absurd says
+
+pub whole_row : (asked : Option Line) (image : Option Looked) (folder : Option Stored) (result : ℕ) (out err : Sunk) → CameTo asked image folder result out err → HasDefinedText asked image folder → IsOrFree result 0
+whole_row asked image folder result out err (o, says, ends) has =
+    elim (asked_ran asked image folder out o has.command has.bytes has.is says) as (λ _. IsOrFree result 0) [
+      | inl over ↦ or_free result 0 (status_of o) (text_status has.command over.source (PutFailed out folder) o has.bytes has.text (owed has.command) over.told has.defined over.says) (ended_as result o out err ends)
+      | inr free ↦ free_of result 0 (status_of o) free (ended_as result o out err ends)
+    ]
+
+-- where it has an answer
+answer_status : (command : Asked) (source : Looked) (failed : Type 0) (o : Outcome) (bytes : List ℕ) (wanted : Answer) → IsOwed command → source.bytes ≡ Some bytes → IsAnswer command bytes wanted → SaysOn command source failed o → IsOrFree (status_of o) 7
+answer_status command source failed (Written text) bytes wanted owes told defined says = absurd (owes.apart bytes text wanted (says.is bytes told (owes.answer_rests bytes wanted defined)) defined)
+answer_status command source failed (Faulty lead named) bytes wanted owes told defined says = absurd ((says.1 bytes told).none (inr (wanted, defined)))
+answer_status command source failed WrongWords bytes wanted owes told defined says = absurd says
+answer_status command source failed (ReadFailed part) bytes wanted owes told defined says = inr (inl refl)
+answer_status command source failed (WriteFailed part) bytes wanted owes told defined says = inr (inr (inl refl))
+answer_status command source failed (OutOfMemory part) bytes wanted owes told defined says = inr (inr (inr refl))
+answer_status command source failed (Refused lead feature block) bytes wanted owes told defined says = absurd ((says.1 bytes told).none (inr (wanted, defined)))
+answer_status command source failed (Answered lead answer) bytes wanted owes told defined says = inl refl
+answer_status command source failed NoImage bytes wanted owes told defined says = absurd says
+answer_status command source failed NoFolder bytes wanted owes told defined says = absurd says
+
+pub always_answered_row : (asked : Option Line) (image : Option Looked) (folder : Option Stored) (result : ℕ) (out err : Sunk) → CameTo asked image folder result out err → HasDefinedAnswer asked image folder → IsOrFree result 7
+always_answered_row asked image folder result out err (o, says, ends) has =
+    elim (asked_ran asked image folder out o has.command has.bytes has.is says) as (λ _. IsOrFree result 7) [
+      | inl over ↦ or_free result 7 (status_of o) (answer_status has.command over.source (PutFailed out folder) o has.bytes has.answer (owed has.command) over.told has.defined over.says) (ended_as result o out err ends)
+      | inr free ↦ free_of result 7 (status_of o) free (ended_as result o out err ends)
+    ]
+
+-- where it has one of both
+result_status : (command : Asked) (source : Looked) (failed : Type 0) (o : Outcome) (bytes : List ℕ) → source.bytes ≡ Some bytes → HasResult command bytes → SaysOn command source failed o → IsCleanOrFree (status_of o)
+result_status command source failed (Written text) bytes told has says = inl refl
+result_status command source failed (Faulty lead named) bytes told has says = absurd ((says.1 bytes told).none has)
+result_status command source failed WrongWords bytes told has says = absurd says
+result_status command source failed (ReadFailed part) bytes told has says = inr (inr (inl refl))
+result_status command source failed (WriteFailed part) bytes told has says = inr (inr (inr (inl refl)))
+result_status command source failed (OutOfMemory part) bytes told has says = inr (inr (inr (inr refl)))
+result_status command source failed (Refused lead feature block) bytes told has says = absurd ((says.1 bytes told).none has)
+result_status command source failed (Answered lead answer) bytes told has says = inr (inl refl)
+result_status command source failed NoImage bytes told has says = absurd says
+result_status command source failed NoFolder bytes told has says = absurd says
+
+-- a status of an outcome, or a put of the line failed
 clean_or_free : (result at : ℕ) → IsCleanOrFree at → (result ≡ at) ⊎ (result ≡ 4) → IsCleanOrFree result
 clean_or_free result at which (inl e) = let P : ℕ → Type 0 = λ n. IsCleanOrFree n in subst P (sym e) which
 clean_or_free result at which (inr failed) = inr (inr (inr (inl failed)))
 
-pub clean_row : {S : Type 0} (bytes : S → Option (List ℕ)) (faults : S → ℕ) (command : Option Asked) (old new : Opened S) (result : ℕ) (out err : Sunk) →
-    CameTo bytes faults command old new result out err → HasSound bytes command old → IsCleanOrFree result
-clean_row {S} bytes faults command old new result out err (o, says, ends) has =
-    let P : Option Asked → Type 0 = λ c. Says bytes faults c old new out o in
-    clean_or_free result (status_of o)
-    (result_status bytes faults has.command old new out o has.image has.given (sound_result has.command has.profile has.image has.checks has.sound) (subst P has.words says))
-    (ended_as result o out err ends)
+pub clean_row : (asked : Option Line) (image : Option Looked) (folder : Option Stored) (result : ℕ) (out err : Sunk) → CameTo asked image folder result out err → HasSound asked image folder → IsCleanOrFree result
+clean_row asked image folder result out err (o, says, ends) has =
+    elim (asked_ran asked image folder out o has.command has.bytes has.is says) as (λ _. IsCleanOrFree result) [
+      | inl over ↦ clean_or_free result (status_of o)
+          (result_status has.command over.source (PutFailed out folder) o has.bytes over.told ((owed has.command).result has.profile has.checks has.bytes has.sound) over.says) (ended_as result o out err ends)
+      | inr free ↦ inr (free_of result 7 (status_of o) free (ended_as result o out err ends))
+    ]
 
--- the outcomes where the command checks the container, which isn't well-formed
-unsound_status : {S : Type 0} (bytes : S → Option (List ℕ)) (faults : S → ℕ) (command : Asked) (old new : Opened S) (out : Sunk) (o : Outcome) (image : List ℕ) (profile : Profile) →
-    IsGiven bytes (takes_image command) old image → profile_of command ≡ Some profile → (IsWellFormed profile image → ⊥) → Says bytes faults (Some command) old new out o → IsFoundOrFree (status_of o)
-unsound_status bytes faults command old new out (Written text) image profile given checks unsound says =
-    let of = of_sound command profile checks in
-    absurd (unsound (of.text image text (says.1 image given (of.rests image))))
-unsound_status bytes faults command old new out (Faulty lead fault) image profile given checks unsound says = inl refl
-unsound_status bytes faults command old new out Usage image profile given checks unsound says = Prim.cc
-unsound_status bytes faults command old new out (ReadFailed part) image profile given checks unsound says = inr (inr (inl refl))
-unsound_status bytes faults command old new out (WriteFailed part) image profile given checks unsound says = inr (inr (inr (inl refl)))
-unsound_status bytes faults command old new out (OutOfMemory part) image profile given checks unsound says = inr (inr (inr (inr refl)))
-unsound_status bytes faults command old new out (Refused lead feature block) image profile given checks unsound says = inr (inl refl)
-unsound_status bytes faults command old new out (Answered lead answer) image profile given checks unsound says =
-    let of = of_sound command profile checks in
-    absurd (unsound (of.answer image answer ((says.1 image given).only_is (for_answer answer (Unit {0}) (Unit {0}) (RestsOn command image) tt tt (of.rests image))).answer_is))
-unsound_status bytes faults command old new out NoImage image profile given checks unsound says = absurd (given_not_lacking bytes (takes_image command) old image given says)
+-- where it checks the container, which isn't well-formed
+unsound_status : (command : Asked) (source : Looked) (failed : Type 0) (o : Outcome) (bytes : List ℕ) (profile : Profile) → IsOwed command → source.bytes ≡ Some bytes → profile_of command ≡ Some profile → (IsWellFormed profile bytes → ⊥) → SaysOn command source failed o → IsFoundOrFree (status_of o)
+unsound_status command source failed (Written text) bytes profile owes told checks unsound says = absurd (unsound (owes.text_sound profile checks bytes text (says.is bytes told (owes.rests profile checks bytes))))
+unsound_status command source failed (Faulty lead named) bytes profile owes told checks unsound says = inl refl
+unsound_status command source failed WrongWords bytes profile owes told checks unsound says = absurd says
+unsound_status command source failed (ReadFailed part) bytes profile owes told checks unsound says = inr (inr (inl refl))
+unsound_status command source failed (WriteFailed part) bytes profile owes told checks unsound says = inr (inr (inr (inl refl)))
+unsound_status command source failed (OutOfMemory part) bytes profile owes told checks unsound says = inr (inr (inr (inr refl)))
+unsound_status command source failed (Refused lead feature block) bytes profile owes told checks unsound says = inr (inl refl)
+unsound_status command source failed (Answered lead answer) bytes profile owes told checks unsound says = absurd (unsound (owes.answer_sound profile checks bytes answer (says.1 bytes told (for_answer answer (Unit {0}) (Unit {0}) (RestsOn command bytes) tt tt (owes.rests profile checks bytes))).answer_is))
+unsound_status command source failed NoImage bytes profile owes told checks unsound says = absurd says
+unsound_status command source failed NoFolder bytes profile owes told checks unsound says = absurd says
 
--- the status of an outcome, or 4
 found_or_free : (result at : ℕ) → IsFoundOrFree at → (result ≡ at) ⊎ (result ≡ 4) → IsFoundOrFree result
 found_or_free result at which (inl e) = let P : ℕ → Type 0 = λ n. IsFoundOrFree n in subst P (sym e) which
 found_or_free result at which (inr failed) = inr (inr (inr (inl failed)))
 
-pub flawed_row : {S : Type 0} (bytes : S → Option (List ℕ)) (faults : S → ℕ) (command : Option Asked) (old new : Opened S) (result : ℕ) (out err : Sunk) →
-    CameTo bytes faults command old new result out err → HasUnsound bytes command old → IsFoundOrFree result
-flawed_row {S} bytes faults command old new result out err (o, says, ends) has =
-    let P : Option Asked → Type 0 = λ c. Says bytes faults c old new out o in
-    found_or_free result (status_of o) (unsound_status bytes faults has.command old new out o has.image has.profile has.given has.checks has.unsound (subst P has.words says)) (ended_as result o out err ends)
+pub flawed_row : (asked : Option Line) (image : Option Looked) (folder : Option Stored) (result : ℕ) (out err : Sunk) → CameTo asked image folder result out err → HasUnsound asked image folder → IsFoundOrFree result
+flawed_row asked image folder result out err (o, says, ends) has =
+    elim (asked_ran asked image folder out o has.command has.bytes has.is says) as (λ _. IsFoundOrFree result) [
+      | inl over ↦ found_or_free result (status_of o)
+          (unsound_status has.command over.source (PutFailed out folder) o has.bytes has.profile (owed has.command) over.told has.checks has.unsound over.says) (ended_as result o out err ends)
+      | inr free ↦ inr (free_of result 6 (status_of o) free (ended_as result o out err ends))
+    ]
 
--- the outcomes where neither the source nor the first sink failed
-undisturbed_status : {S : Type 0} (bytes : S → Option (List ℕ)) (faults : S → ℕ) (command : Asked) (old new : Opened S) (out : Sunk) (o : Outcome) (image : List ℕ) →
-    IsGiven bytes (takes_image command) old image → (HasFailed faults (Some command) old new → ⊥) → (Failed out → ⊥) → Says bytes faults (Some command) old new out o → IsCompleted (status_of o)
-undisturbed_status bytes faults command old new out (Written text) image given source sink says = inl refl
-undisturbed_status bytes faults command old new out (Faulty lead fault) image given source sink says = inr (inr (inl refl))
-undisturbed_status bytes faults command old new out Usage image given source sink says = Prim.cc
-undisturbed_status bytes faults command old new out (ReadFailed part) image given source sink says = absurd (source says.0)
-undisturbed_status bytes faults command old new out (WriteFailed part) image given source sink says = absurd (sink says.0)
-undisturbed_status bytes faults command old new out (OutOfMemory part) image given source sink says = inr (inr (inr (inr refl)))
-undisturbed_status bytes faults command old new out (Refused lead feature block) image given source sink says = inr (inr (inr (inl refl)))
-undisturbed_status bytes faults command old new out (Answered lead answer) image given source sink says = inr (inl refl)
-undisturbed_status bytes faults command old new out NoImage image given source sink says = absurd (given_not_lacking bytes (takes_image command) old image given says)
+-- ---- a fault of the table
+
+-- a partition that is found, where a fault of the table is there
+found_faulty : (f : From) (p : Bool) (image : Option Looked) (handed source : Looked) (disk : List ℕ) (named : Named) → f ≡ HandedIn → p ≡ true → image ≡ Some handed → handed.bytes ≡ Some disk → IsTableFault disk named → IsSourceFrom f p image source → ⊥
+found_faulty HandedIn true image handed source disk named from wanted is told there (other, part, handed_is, found, same) =
+    let one : handed ≡ other = Prim.cc in
+    let P : Looked → Type 0 = λ s. s.bytes ≡ Some disk in
+    no_fault disk part named (found disk (subst P one told)) there
+found_faulty HandedIn false image handed source disk named from wanted is told there source_is = absurd Prim.cc
+found_faulty Made p image handed source disk named from wanted is told there source_is = absurd Prim.cc
+found_faulty Nowhere p image handed source disk named from wanted is told there source_is = absurd Prim.cc
+
+faulty_status : (asked : Option Line) (image : Option Looked) (folder : Option Stored) (out : Sunk) (o : Outcome) (named : Named) → HasTableFault asked image folder named → Says asked image folder out o → IsOrFree (status_of o) 1
+faulty_status asked image folder out o named f (wrong_words none e same) = absurd (no_line asked f.line none f.words)
+faulty_status asked image folder out o named f (no_image lacks e same) = absurd (f.all.image_there (lacks_image asked image lacks.line f.line lacks.words f.words lacks.lacks))
+faulty_status asked image folder out o named f (no_folder lacks e same) = absurd (f.all.folder_there (lacks_folder asked folder lacks.line f.line lacks.words f.words lacks.lacks))
+faulty_status asked image folder out o named f (no_part has same) = elim has.stops as (λ _. IsOrFree (status_of o) 1) [ inl stops ↦ inl (ap status_of stops.1) | inr stops ↦ inr (inl (ap status_of stops.0)) ]
+faulty_status asked image folder out o named f (ran has) =
+    let one : has.line ≡ f.line = one_line asked has.line f.line has.words f.words in
+    let P : Line → Type 0 = λ l. IsSource l image has.source in
+    absurd (found_faulty (from_of f.line.command) f.line.in_partition image f.source has.source f.disk named f.image_from f.wanted f.source_is f.told f.there (subst P one has.source_is))
+faulty_status asked image folder out o named f (no_memory e same) = inr (inr (inr (ap status_of e)))
+
+pub no_part_row : (asked : Option Line) (image : Option Looked) (folder : Option Stored) (result : ℕ) (out err : Sunk) (named : Named) → CameTo asked image folder result out err → HasTableFault asked image folder named → IsOrFree result 1
+no_part_row asked image folder result out err named (o, says, ends) has = or_free result 1 (status_of o) (faulty_status asked image folder out o named has says) (ended_as result o out err ends)
+
+-- ---- nothing failed
+
+-- no read of an image that was made fails
+pub made_sure : (bytes : List ℕ) → LookFailed (made bytes) → ⊥
+made_sure bytes rose = omega (arith, rose)
+
+source_sure : (f : From) (p : Bool) (image : Option Looked) (source : Looked) → (HandedFailed image → ⊥) → IsSourceFrom f p image source → LookFailed source → ⊥
+source_sure HandedIn false image source sure is failed = let P : Option Looked → Type 0 = λ i. HandedFailed i in sure (subst P (sym is) failed)
+source_sure HandedIn true image source sure (disk, part, is, found, same) failed =
+    let P : Option Looked → Type 0 = λ i. HandedFailed i in
+    let Q : Looked → Type 0 = λ s. LookFailed s in
+    sure (subst P (sym is) (subst Q same failed))
+source_sure Made p image source sure is failed = let Q : Looked → Type 0 = λ s. LookFailed s in made_sure is.0 (subst Q is.1 failed)
+source_sure Nowhere p image source sure is failed = let Q : Looked → Type 0 = λ s. LookFailed s in made_sure [] (subst Q is failed)
+
+undisturbed_on : (command : Asked) (source : Looked) (failed : Type 0) (o : Outcome) → (LookFailed source → ⊥) → (failed → ⊥) → SaysOn command source failed o → IsCompleted (status_of o)
+undisturbed_on command source failed (Written text) sure put says = inl refl
+undisturbed_on command source failed (Faulty lead named) sure put says = inr (inr (inl refl))
+undisturbed_on command source failed WrongWords sure put says = absurd says
+undisturbed_on command source failed (ReadFailed part) sure put says = absurd (sure says.0)
+undisturbed_on command source failed (WriteFailed part) sure put says = absurd (put says.0)
+undisturbed_on command source failed (OutOfMemory part) sure put says = inr (inr (inr (inr refl)))
+undisturbed_on command source failed (Refused lead feature block) sure put says = inr (inr (inr (inl refl)))
+undisturbed_on command source failed (Answered lead answer) sure put says = inr (inl refl)
+undisturbed_on command source failed NoImage sure put says = absurd says
+undisturbed_on command source failed NoFolder sure put says = absurd says
+
+put_sure : (out : Sunk) (folder : Option Stored) → (Failed out → ⊥) → (StoreFailed folder → ⊥) → PutFailed out folder → ⊥
+put_sure out folder text store (inl failed) = text failed
+put_sure out folder text store (inr failed) = store failed
+
+undisturbed_status : (asked : Option Line) (image : Option Looked) (folder : Option Stored) (out err : Sunk) (o : Outcome) → IsUndisturbed asked image folder out err → Says asked image folder out o → IsCompleted (status_of o)
+undisturbed_status asked image folder out err o u (wrong_words none e same) = absurd (no_line asked u.line none u.words)
+undisturbed_status asked image folder out err o u (no_image lacks e same) = absurd (u.all.image_there (lacks_image asked image lacks.line u.line lacks.words u.words lacks.lacks))
+undisturbed_status asked image folder out err o u (no_folder lacks e same) = absurd (u.all.folder_there (lacks_folder asked folder lacks.line u.line lacks.words u.words lacks.lacks))
+undisturbed_status asked image folder out err o u (no_part has same) =
+    let P : Option Looked → Type 0 = λ i. HandedFailed i in
+    elim has.stops as (λ _. IsCompleted (status_of o)) [ inl stops ↦ inr (inr (inl (ap status_of stops.1))) | inr stops ↦ absurd (u.source (subst P (sym has.disk_is) stops.1)) ]
+undisturbed_status asked image folder out err o u (ran has) =
+    undisturbed_on has.line.command has.source (PutFailed out folder) o (source_sure (from_of has.line.command) has.line.in_partition image has.source u.source has.source_is) (put_sure out folder u.text u.store) has.says
+undisturbed_status asked image folder out err o u (no_memory e same) = inr (inr (inr (inr (ap status_of e))))
 
 -- where the second sink didn't fail, a run ends with the status of its outcome
 ended_whole : (result : ℕ) (o : Outcome) (out err : Sunk) → (Failed err → ⊥) → Ends result o out err → result ≡ status_of o
 ended_whole result o out err sink ends = elim ends.said [ inl has ↦ has.status_is | inr lacks ↦ absurd (sink lacks.failed) ]
 
-pub completed_row : {S : Type 0} (bytes : S → Option (List ℕ)) (faults : S → ℕ) (command : Option Asked) (old new : Opened S) (result : ℕ) (out err : Sunk) →
-    CameTo bytes faults command old new result out err → IsUndisturbed bytes faults command old new out err → IsCompleted result
-completed_row {S} bytes faults command old new result out err (o, says, ends) is =
-    let P : Option Asked → Type 0 = λ c. Says bytes faults c old new out o in
-    let Q : Option Asked → Type 0 = λ c. HasFailed faults c old new → ⊥ in
-    let R : ℕ → Type 0 = λ n. IsCompleted n in
-    subst R (sym (ended_whole result o out err is.line ends)) (undisturbed_status bytes faults is.command old new out o is.image is.given (subst Q is.words is.source) is.text (subst P is.words says))
+pub completed_row : (asked : Option Line) (image : Option Looked) (folder : Option Stored) (result : ℕ) (out err : Sunk) → CameTo asked image folder result out err → IsUndisturbed asked image folder out err → IsCompleted result
+completed_row asked image folder result out err (o, says, ends) u =
+    let P : ℕ → Type 0 = λ n. IsCompleted n in
+    subst P (sym (ended_whole result o out err u.line_put ends)) (undisturbed_status asked image folder out err o u says)
+
+-- ---- what a stop leaves
+
+-- a command that takes its image from what is handed in writes nothing before it looks
+lead_none : (command : Asked) → from_of command ≡ HandedIn → lead_of command ≡ []
+lead_none Ring e = refl
+lead_none Info e = refl
+lead_none Volumes e = refl
+lead_none Space e = refl
+lead_none (Check profile) e = refl
+lead_none (Snapshots volume) e = refl
+lead_none (Ls checks target) e = refl
+lead_none (Tree checks target) e = refl
+lead_none (Cat checks target) e = refl
+lead_none (Xattr checks target name) e = refl
+lead_none (Gen n) e = absurd Prim.cc
+
+lead_of_line : (asked : Option Line) (line : Line) → asked ≡ Some line → lead_in asked ≡ lead_of line.command
+lead_of_line asked line words = ap lead_in words
+
+part_lead : (asked : Option Line) (image : Option Looked) (folder : Option Stored) (lead : List ℕ) (named : Named) → HasNoPart asked image folder (Faulty lead named) → lead ≡ lead_in asked
+part_lead asked image folder lead named has = go has.stops
+  where
+    go : StopsTable has.disk (Faulty lead named) → lead ≡ lead_in asked
+    go (inl stops) =
+        let same : Faulty lead named ≡ Faulty [] stops.0 = stops.1 in
+        let none : lead ≡ [] = Prim.cc in
+        none ∙ sym (lead_none has.line.command has.image_from) ∙ sym (lead_of_line asked has.line has.words)
+    go (inr stops) = let same : Faulty lead named ≡ ReadFailed [] = stops.0 in absurd Prim.cc
+
+wrote_lead : (asked : Option Line) (out : Sunk) (lead : List ℕ) → lead ≡ lead_in asked → Wrote out.old out.new lead → Wrote out.old out.new (lead_in asked)
+wrote_lead asked out lead same wrote = let P : List ℕ → Type 0 = λ l. Wrote out.old out.new l in subst P same wrote
+
+fault_lead : (asked : Option Line) (image : Option Looked) (folder : Option Stored) (out err : Sunk) → NamesFault asked image folder out err → Wrote out.old out.new (lead_in asked)
+fault_lead asked image folder out err (lead, named, inl (has, present), wrote) = wrote_lead asked out lead (has.says.0 ∙ sym (lead_of_line asked has.line has.words)) wrote.0
+fault_lead asked image folder out err (lead, named, inr has, wrote) = wrote_lead asked out lead (part_lead asked image folder lead named has) wrote.0
+
+feature_lead : (asked : Option Line) (image : Option Looked) (folder : Option Stored) (out err : Sunk) → NamesFeature asked image folder out err → Wrote out.old out.new (lead_in asked)
+feature_lead asked image folder out err (lead, feature, block, (has, present), wrote) = wrote_lead asked out lead (has.says.0 ∙ sym (lead_of_line asked has.line has.words)) wrote.0
+
+answer_lead : (asked : Option Line) (image : Option Looked) (folder : Option Stored) (out err : Sunk) → NamesAnswer asked image folder out err → Wrote out.old out.new (lead_in asked)
+answer_lead asked image folder out err (lead, answer, has, wrote) = wrote_lead asked out lead (has.says.0 ∙ sym (lead_of_line asked has.line has.words)) wrote.0
+
+pub lead_row : (asked : Option Line) (image : Option Looked) (folder : Option Stored) (result : ℕ) (out err : Sunk) → CameTo asked image folder result out err → IsRefusal result → Wrote out.old out.new (lead_in asked)
+lead_row asked image folder result out err a (inl e) = fault_lead asked image folder out err (fault_row asked image folder result out err a e)
+lead_row asked image folder result out err a (inr (inl e)) = feature_lead asked image folder out err (feature_row asked image folder result out err a e)
+lead_row asked image folder result out err a (inr (inr e)) = answer_lead asked image folder out err (answered_row asked image folder result out err a e)
+
+pub turned_away_row : (asked : Option Line) (image : Option Looked) (folder : Option Stored) (result : ℕ) (out err : Sunk) → CameTo asked image folder result out err → IsTurnedAway result → Wrote out.old out.new []
+turned_away_row asked image folder result out err a (inl e) = (usage_row asked image folder result out err a e).1.0
+turned_away_row asked image folder result out err a (inr (inl e)) = (absent_row asked image folder result out err a e).1.0
+turned_away_row asked image folder result out err a (inr (inr e)) = (nowhere_row asked image folder result out err a e).1.0
+
+-- nothing was added to a folder
+nothing_added : (folder : Stored) (added : List Item) → added ≡ [] → Filled folder.old folder.new added → IsSame folder
+nothing_added folder added none put = let P : List Item → Type 0 = λ items. Filled folder.old folder.new items in subst P none put
+
+none_filled : (command : Asked) (source : Looked) (folder : Stored) (P : List ℕ → List Item → Type 0) → takes_folder command ≡ false → Fills command source folder P → IsSame folder
+none_filled command source folder P e f = nothing_added folder f.added (f.none e) f.put
+
+fills_none : (command : Asked) (source : Looked) (folder : Stored) (o : Outcome) → takes_folder command ≡ false → FillsBy command source folder o → IsSame folder
+fills_none command source folder (Written text) e f = none_filled command source folder (AreItemsIf command) e f
+fills_none command source folder (Faulty lead named) e f = none_filled command source folder (λ image added. added ≡ []) e f
+fills_none command source folder WrongWords e f = f
+fills_none command source folder (ReadFailed part) e f = none_filled command source folder (AreFrontIf command) e f
+fills_none command source folder (WriteFailed part) e f = none_filled command source folder (AreFrontIf command) e f
+fills_none command source folder (OutOfMemory part) e f = none_filled command source folder (AreFrontIf command) e f
+fills_none command source folder (Refused lead feature block) e f = none_filled command source folder (λ image added. added ≡ []) e f
+fills_none command source folder (Answered lead answer) e f = f
+fills_none command source folder NoImage e f = f
+fills_none command source folder NoFolder e f = f
+
+sliced_none : (start length : ℕ) (b : Option (List ℕ)) → sliced start length b ≡ None → b ≡ None
+sliced_none start length None e = refl
+sliced_none start length (Some bytes) e = absurd Prim.cc
+
+-- a source that doesn't tell its bytes comes from one that doesn't
+untold_in : (p : Bool) (handed source : Looked) → IsSourceFrom HandedIn p (Some handed) source → source.bytes ≡ None → handed.bytes ≡ None
+untold_in false handed source is none =
+    let same : handed ≡ source = Prim.cc in
+    ap (λ (s : Looked). s.bytes) same ∙ none
+untold_in true handed source (other, part, handed_is, found, same) none =
+    let one : handed ≡ other = Prim.cc in
+    let at : sliced part.start part.length other.bytes ≡ None = ap (λ (s : Looked). s.bytes) (sym same) ∙ none in
+    ap (λ (s : Looked). s.bytes) one ∙ sliced_none part.start part.length other.bytes at
+
+-- no source is had of what isn't handed in
+from_none : (p : Bool) (source : Looked) → IsSourceFrom HandedIn p None source → ⊥
+from_none false source is = absurd Prim.cc
+from_none true source (disk, part, is, found, same) = absurd Prim.cc
+
+untold_source : (f : From) (p : Bool) (image : Option Looked) (source : Looked) → IsSourceFrom f p image source → source.bytes ≡ None → IsUntold image
+untold_source HandedIn p None source is none = absurd (from_none p source is)
+untold_source HandedIn p (Some handed) source is none = untold_in p handed source is none
+untold_source Made p image source is none = let e : (made is.0).bytes ≡ None = ap (λ (s : Looked). s.bytes) (sym is.1) ∙ none in absurd Prim.cc
+untold_source Nowhere p image source is none = let e : (made []).bytes ≡ None = ap (λ (s : Looked). s.bytes) (sym is) ∙ none in absurd Prim.cc
+
+-- a folder where a fault or a feature stopped the run: as before, or the source doesn't tell its bytes
+stopped_fills : (command : Asked) (source : Looked) (folder : Stored) → Fills command source folder (λ image added. added ≡ []) → IsSame folder ⊎ (source.bytes ≡ None)
+stopped_fills command source folder f = go source.bytes refl
+  where
+    go : (b : Option (List ℕ)) → source.bytes ≡ b → IsSame folder ⊎ (source.bytes ≡ None)
+    go None e = inr e
+    go (Some bytes) e = inl (nothing_added folder f.added (f.are bytes e) f.put)
+
+-- what may be added, by the outcome
+filled_by : (asked : Option Line) (image : Option Looked) (result : ℕ) (command : Asked) (source : Looked) (folder : Stored) (o : Outcome) → AsksFolder asked → (source.bytes ≡ None → IsUntold image) → result ≡ status_of o →
+    (MayFill asked image result → ⊥) → FillsBy command source folder o → IsSame folder
+filled_by asked image result command source folder (Written text) asks untold e kept f = absurd (kept (asks, inl (inl e)))
+filled_by asked image result command source folder (Faulty lead named) asks untold e kept f =
+    elim (stopped_fills command source folder f) as (λ _. IsSame folder) [ inl same ↦ same | inr none ↦ absurd (kept (asks, inr (untold none, inl e))) ]
+filled_by asked image result command source folder WrongWords asks untold e kept f = f
+filled_by asked image result command source folder (ReadFailed part) asks untold e kept f = absurd (kept (asks, inl (inr (inl e))))
+filled_by asked image result command source folder (WriteFailed part) asks untold e kept f = absurd (kept (asks, inl (inr (inr (inl e)))))
+filled_by asked image result command source folder (OutOfMemory part) asks untold e kept f = absurd (kept (asks, inl (inr (inr (inr e)))))
+filled_by asked image result command source folder (Refused lead feature block) asks untold e kept f =
+    elim (stopped_fills command source folder f) as (λ _. IsSame folder) [ inl same ↦ same | inr none ↦ absurd (kept (asks, inr (untold none, inr e))) ]
+filled_by asked image result command source folder (Answered lead answer) asks untold e kept f = f
+filled_by asked image result command source folder NoImage asks untold e kept f = f
+filled_by asked image result command source folder NoFolder asks untold e kept f = f
+
+asks_by : (asked : Option Line) (line : Line) → asked ≡ Some line → takes_folder line.command ≡ true → AsksFolder asked
+asks_by asked line words takes = let P : Option Line → Type 0 = λ a. AsksFolder a in subst P (sym words) takes
+
+ran_kept : (asked : Option Line) (image : Option Looked) (folder : Option Stored) (result : ℕ) (out : Sunk) (o : Outcome) → Ran asked image folder out o → (result ≡ status_of o) ⊎ (result ≡ 4) → (MayFill asked image result → ⊥) → IsUntouched folder
+ran_kept asked image None result out o has ended kept = tt
+ran_kept asked image (Some stored) result out o has ended kept = go (takes_folder has.line.command) refl ended
+  where
+    go : (b : Bool) → takes_folder has.line.command ≡ b → (result ≡ status_of o) ⊎ (result ≡ 4) → IsSame stored
+    go false e end = fills_none has.line.command has.source stored o e has.fills
+    go true e (inr failed) = absurd (kept (asks_by asked has.line has.words e, inl (inr (inr (inl failed)))))
+    go true e (inl is) =
+        filled_by asked image result has.line.command has.source stored o (asks_by asked has.line has.words e)
+        (untold_source (from_of has.line.command) has.line.in_partition image has.source has.source_is) is kept has.fills
+
+pub folder_row : (asked : Option Line) (image : Option Looked) (folder : Option Stored) (result : ℕ) (out err : Sunk) → CameTo asked image folder result out err → (MayFill asked image result → ⊥) → IsUntouched folder
+folder_row asked image folder result out err (o, says, ends) kept = go says
+  where
+    go : Says asked image folder out o → IsUntouched folder
+    go (wrong_words none e same) = same
+    go (no_image lacks e same) = same
+    go (no_folder lacks e same) = same
+    go (no_part has same) = same
+    go (ran has) = ran_kept asked image folder result out o has (ended_as result o out err ends) kept
+    go (no_memory e same) = same
 
 -- ---- what `check` comes to of a source that is there
 
+-- the words of `check`, and what is asked of the source
+check_asked : (profile : Profile) (source : Looked) (bytes : List ℕ) → source.bytes ≡ Some bytes → IsAsked (Some (plain_line (Check profile))) (Some source) None (Check profile) bytes
+check_asked profile source bytes told = record { line = plain_line (Check profile); words = refl; same = refl; all = record { image_there = λ lacks. lacks; folder_there = λ lacks. lacks }; given = told }
+
 -- a well-formed container has a report
-pub checked_whole : {S : Type 0} (bytes : S → Option (List ℕ)) (faults : S → ℕ) (profile : Profile) (old new : S) (result : ℕ) (out err : Sunk) →
-    CameTo bytes faults (Some (Check profile)) (Image old) (Image new) result out err → (image : List ℕ) → bytes old ≡ Some image → IsWellFormed profile image → IsWholeOrFree result
-checked_whole bytes faults profile old new result out err a image told right =
+pub checked_whole : (profile : Profile) (source : Looked) (result : ℕ) (out err : Sunk) → CameTo (Some (plain_line (Check profile))) (Some source) None result out err →
+    (image : List ℕ) → source.bytes ≡ Some image → IsWellFormed profile image → IsOrFree result 0
+checked_whole profile source result out err a image told right =
     let has = reported profile image right in
-    whole_row bytes faults (Some (Check profile)) (Image old) (Image new) result out err a
-    (record { command = Check profile; image = image; text = report_text has.0; words = refl; given = told; defined = (has.0, record { right = right; report = has.1 }, refl) })
+    whole_row (Some (plain_line (Check profile))) (Some source) None result out err a
+    (record { command = Check profile; bytes = image; text = report_text has.0; is = check_asked profile source image told; defined = (has.0, record { right = right; report = has.1 }, refl) })
 
 -- of another a fault or a feature is named
-pub checked_flawed : {S : Type 0} (bytes : S → Option (List ℕ)) (faults : S → ℕ) (profile : Profile) (old new : S) (result : ℕ) (out err : Sunk) →
-    CameTo bytes faults (Some (Check profile)) (Image old) (Image new) result out err → (image : List ℕ) → bytes old ≡ Some image → (IsWellFormed profile image → ⊥) → IsFoundOrFree result
-checked_flawed bytes faults profile old new result out err a image told unsound =
-    flawed_row bytes faults (Some (Check profile)) (Image old) (Image new) result out err a
-    (record { command = Check profile; image = image; profile = profile; words = refl; given = told; checks = refl; unsound = unsound })
+pub checked_flawed : (profile : Profile) (source : Looked) (result : ℕ) (out err : Sunk) → CameTo (Some (plain_line (Check profile))) (Some source) None result out err →
+    (image : List ℕ) → source.bytes ≡ Some image → (IsWellFormed profile image → ⊥) → IsFoundOrFree result
+checked_flawed profile source result out err a image told unsound =
+    flawed_row (Some (plain_line (Check profile))) (Some source) None result out err a
+    (record { command = Check profile; bytes = image; profile = profile; is = check_asked profile source image told; checks = refl; unsound = unsound })

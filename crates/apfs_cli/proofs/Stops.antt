@@ -23,12 +23,10 @@ use Rattle.apfs_cli.proofs.Endings.{StopTells, no_result}
 pub ring_stops : (image : List ℕ) (stop : Stop RingFault) →
     Tells (λ why. ring_of image ≡ Err (Found why)) (λ feature block. ring_of image ≡ Err (Unsupported feature block)) stop → Tells (IsRingFault image) (IsNonContiguous image) stop → StopTells Ring image of_ring stop
 ring_stops image (Found why) first there = record {
-  lead_is = refl;
   none = no_result Ring image (λ text is. let ok : ring_of image ≡ Ok is.0 = is.1 in Prim.cc) (λ answer is. is);
   there_is = (why, first, there, refl);
 }
 ring_stops image (Unsupported feature block) first there = record {
-  lead_is = refl;
   none = no_result Ring image (λ text is. let ok : ring_of image ≡ Ok is.0 = is.1 in Prim.cc) (λ answer is. is);
   there_is = (first, there);
 }
@@ -54,12 +52,10 @@ no_newest_feature image feature block seen (inr has) is =
 pub info_stops : (image : List ℕ) (stop : Stop RingFault) →
     Tells (IsNewestFault image) (IsNewestFeature image) stop → Tells (IsRingFault image) (IsRingFeature image) stop → StopTells Info image of_ring stop
 info_stops image (Found why) first there = record {
-  lead_is = refl;
   none = no_result Info image (λ text is. no_newest_fault image why is.0 first is.1) (λ answer is. is);
   there_is = (why, first, there, refl);
 }
 info_stops image (Unsupported feature block) first there = record {
-  lead_is = refl;
   none = no_result Info image (λ text is. no_newest_feature image feature block is.0 first is.1) (λ answer is. is);
   there_is = (first, there);
 }
@@ -70,12 +66,10 @@ info_stops image NoMemory first there = tt
 pub volumes_stops : (image : List ℕ) (stop : Stop RingFault) →
     Tells (IsNewestFault image) (IsNewestFeature image) stop → Tells (IsRingFault image) (IsRingFeature image) stop → StopTells Volumes image of_ring stop
 volumes_stops image (Found why) first there = record {
-  lead_is = refl;
   none = no_result Volumes image (λ text is. no_newest_fault image why is.0 first is.2) (λ answer is. is);
   there_is = inl (why, first, there, refl);
 }
 volumes_stops image (Unsupported feature block) first there = record {
-  lead_is = refl;
   none = no_result Volumes image (λ text is. no_newest_feature image feature block is.0 first is.2) (λ answer is. is);
   there_is = inl (first, there);
 }
@@ -92,12 +86,10 @@ no_heads image seen other one two right exact =
 pub heads_stops : (image : List ℕ) (seen : Seen) (stop : Stop VolStop) → IsNewest image seen →
     Tells (IsHeadsStop image seen) (IsHeadsFeature image seen) stop → (AreRight image seen → IsFree stop) → StopTells Volumes image (of_volume seen.line.xid) stop
 heads_stops image seen (Found why) newest there exact = record {
-  lead_is = refl;
   none = no_result Volumes image (λ text is. no_heads image seen is.0 newest is.2 is.3.right exact) (λ answer is. is);
   there_is = inr (seen, why, newest, there, refl);
 }
 heads_stops image seen (Unsupported feature block) newest there exact = record {
-  lead_is = refl;
   none = no_result Volumes image (λ text is. no_heads image seen is.0 newest is.2 is.3.right exact) (λ answer is. is);
   there_is = inr (seen, newest, there);
 }

@@ -13,7 +13,6 @@ use Rattle.vol_view.specs.Heads.{heads_of}
 use Rattle.vol_view.specs.Stops.{IsHeadsStop, IsHeadsFeature, AreRight, AreHeads}
 use Rattle.vol_view.specs.LoadStops.{IsLoadStop, IsLoadFeature, IsLoadable}
 use Rattle.apfs_check.specs.Raised.{of_volume}
-use Rattle.apfs_cli.specs.declared.stopped.Stopped.TheVariants as stops
 use Rattle.apfs_cli.specs.Checkpoints.{IsNewest}
 use Rattle.apfs_cli.specs.Meant.{meant_slot, meant_head, IsMeant, HasVolume, HasNoVolume}
 use Rattle.apfs_cli.specs.Reached.{IsClear, TellsWay}

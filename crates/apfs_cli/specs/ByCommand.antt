@@ -1,14 +1,15 @@
 -- What each command takes, writes and names.
-use Rattle.std.specs.Prelude.{◌⊎◌, ℕ, Bool, true, List, [], Option, None, Some}
+use Rattle.std.specs.Prelude.{◌≡◌, ◌⊎◌, ℕ, Bool, true, false, List, [], Option, None, Some}
 use Rattle.obj_base.specs.declared.stop.Feature.{Feature}
+use Rattle.blk_folder.specs.Items.{Item}
 use Rattle.apfs_check.specs.declared.fault.Fault.{Fault}
+use Rattle.view_rules.specs.declared.profile.Profile.TheVariants.{Plain}
 use Rattle.view_rules.specs.declared.profile.Profile.{Profile}
 use Rattle.path_walk.specs.declared.answer.Answer.{Answer}
 use Rattle.apfs_cli.specs.declared.words.Checks.{Checks}
 use Rattle.apfs_cli.specs.declared.words.Checks.TheVariants.{Quick, First}
 use Rattle.apfs_cli.specs.MeantView.{IsLawfulView}
 use Rattle.apfs_cli.specs.First.{ResultBy, FaultBy, FeatureBy, RestsBy}
-use Rattle.apfs_cli.specs.Words.{Asked, Ring, Info, Volumes, Space, Check, Snapshots, Ls, Tree, Cat, Xattr}
 use Rattle.apfs_cli.specs.Commands.Ring as ring
 use Rattle.apfs_cli.specs.Commands.Info as info
 use Rattle.apfs_cli.specs.Commands.Volumes as volumes
@@ -19,19 +20,71 @@ use Rattle.apfs_cli.specs.Commands.Ls as ls
 use Rattle.apfs_cli.specs.Commands.Tree as tree
 use Rattle.apfs_cli.specs.Commands.Cat as cat
 use Rattle.apfs_cli.specs.Commands.Xattr as xattr
+use Rattle.apfs_cli.specs.Commands.Gen as gen
+use Rattle.apfs_cli.specs.Words.{Asked, Ring, Info, Volumes, Space, Check, Snapshots, Ls, Tree, Cat, Xattr, Gen}
+use Rattle.apfs_cli.specs.declared.named.Named.{Named}
+use Rattle.apfs_cli.specs.declared.named.Named.TheVariants.{InContainer, NoTable, BadTable, NoPartition, PartOutside}
+
+-- where a command has its image from: it is handed in, it is made, or there is none
+pub data From : Type 0 where
+  HandedIn : From
+  Made : From
+  Nowhere : From
+
+abbrev pub from_of : Asked → From
+from_of Ring = HandedIn
+from_of Info = HandedIn
+from_of Volumes = HandedIn
+from_of Space = HandedIn
+from_of (Check profile) = HandedIn
+from_of (Snapshots volume) = HandedIn
+from_of (Ls checks target) = HandedIn
+from_of (Tree checks target) = HandedIn
+from_of (Cat checks target) = HandedIn
+from_of (Xattr checks target name) = HandedIn
+from_of (Gen n) = Made
+
+abbrev pub is_handed_in : From → Bool
+is_handed_in HandedIn = true
+is_handed_in Made = false
+is_handed_in Nowhere = false
 
 -- whether a command takes an image
 abbrev pub takes_image : Asked → Bool
-takes_image Ring = true
-takes_image Info = true
-takes_image Volumes = true
-takes_image Space = true
-takes_image (Check profile) = true
-takes_image (Snapshots volume) = true
-takes_image (Ls checks target) = true
-takes_image (Tree checks target) = true
-takes_image (Cat checks target) = true
-takes_image (Xattr checks target name) = true
+takes_image command = is_handed_in (from_of command)
+
+-- whether a command takes a folder
+abbrev pub takes_folder : Asked → Bool
+takes_folder Ring = false
+takes_folder Info = false
+takes_folder Volumes = false
+takes_folder Space = false
+takes_folder (Check profile) = false
+takes_folder (Snapshots volume) = false
+takes_folder (Ls checks target) = false
+takes_folder (Tree checks target) = false
+takes_folder (Cat checks target) = false
+takes_folder (Xattr checks target name) = false
+takes_folder (Gen n) = false
+
+-- an attribute is named
+abbrev pub is_named : Option (List ℕ) → Bool
+is_named None = false
+is_named (Some name) = true
+
+-- whether a command may read the image while it writes its text
+abbrev pub streams : Asked → Bool
+streams Ring = false
+streams Info = false
+streams Volumes = false
+streams Space = false
+streams (Check profile) = false
+streams (Snapshots volume) = false
+streams (Ls checks target) = false
+streams (Tree checks target) = false
+streams (Cat checks target) = true
+streams (Xattr checks target name) = is_named name
+streams (Gen n) = false
 
 -- the text that a command writes of an image
 abbrev pub IsText : Asked → List ℕ → List ℕ → Type 0
@@ -45,6 +98,7 @@ IsText (Ls checks target) image text = ResultBy checks image (ls.IsText target i
 IsText (Tree checks target) image text = ResultBy checks image (tree.IsText target image text)
 IsText (Cat checks target) image text = ResultBy checks image (cat.IsText target image text)
 IsText (Xattr checks target name) image text = ResultBy checks image (xattr.IsText target name image text)
+IsText (Gen n) image text = gen.IsText n image text
 
 -- what a command writes before it looks at an image
 abbrev pub lead_of : Asked → List ℕ
@@ -58,8 +112,9 @@ lead_of (Ls checks target) = []
 lead_of (Tree checks target) = []
 lead_of (Cat checks target) = []
 lead_of (Xattr checks target name) = []
+lead_of (Gen n) = gen.lead n
 
--- a fault that a command may name of an image: one that is there
+-- a fault of the container that a command may name of an image: one that is there
 abbrev pub IsFault : Asked → List ℕ → Fault → Type 0
 IsFault Ring image fault = ring.IsFault image fault
 IsFault Info image fault = info.IsFault image fault
@@ -71,8 +126,17 @@ IsFault (Ls checks target) image fault = FaultBy checks image fault (ls.IsFault 
 IsFault (Tree checks target) image fault = FaultBy checks image fault (tree.IsFault target image fault)
 IsFault (Cat checks target) image fault = FaultBy checks image fault (cat.IsFault target image fault)
 IsFault (Xattr checks target name) image fault = FaultBy checks image fault (xattr.IsFault target image fault)
+IsFault (Gen n) image fault = check.IsFault Plain image fault
 
--- a feature, with its block, that a command may refuse of an image: one that is there
+-- a fault that a command may name of an image; those of a table of partitions are named before there is one
+abbrev pub IsNamed : Asked → List ℕ → Named → Type 0
+IsNamed command image (InContainer fault) = IsFault command image fault
+IsNamed command image NoTable = ⊥
+IsNamed command image BadTable = ⊥
+IsNamed command image NoPartition = ⊥
+IsNamed command image (PartOutside at) = ⊥
+
+-- a feature, with its block, that a command may refuse of an image: one that is there, and where the container isn't checked no fault comes first
 abbrev pub IsFeature : Asked → List ℕ → Feature → ℕ → Type 0
 IsFeature Ring image feature block = ring.IsFeature image feature block
 IsFeature Info image feature block = info.IsFeature image feature block
@@ -84,6 +148,7 @@ IsFeature (Ls checks target) image feature block = FeatureBy checks image featur
 IsFeature (Tree checks target) image feature block = FeatureBy checks image feature block (tree.IsFeature target image feature block)
 IsFeature (Cat checks target) image feature block = FeatureBy checks image feature block (cat.IsFeature target image feature block)
 IsFeature (Xattr checks target name) image feature block = FeatureBy checks image feature block (xattr.IsFeature target image feature block)
+IsFeature (Gen n) image feature block = check.IsFeature image feature block
 
 -- an answer that a command gives of an image in place of a text: by its cause
 abbrev pub IsAnswer : Asked → List ℕ → Answer → Type 0
@@ -97,6 +162,21 @@ IsAnswer (Ls checks target) image answer = ResultBy checks image (ls.IsAnswer ta
 IsAnswer (Tree checks target) image answer = ResultBy checks image (tree.IsAnswer target image answer)
 IsAnswer (Cat checks target) image answer = ResultBy checks image (cat.IsAnswer target image answer)
 IsAnswer (Xattr checks target name) image answer = ResultBy checks image (xattr.IsAnswer target name image answer)
+IsAnswer (Gen n) image answer = ⊥
+
+-- the items that a command puts into a folder
+abbrev pub AreItems : Asked → List ℕ → List Item → Type 0
+AreItems Ring image items = items ≡ []
+AreItems Info image items = items ≡ []
+AreItems Volumes image items = items ≡ []
+AreItems Space image items = items ≡ []
+AreItems (Check profile) image items = items ≡ []
+AreItems (Snapshots volume) image items = items ≡ []
+AreItems (Ls checks target) image items = items ≡ []
+AreItems (Tree checks target) image items = items ≡ []
+AreItems (Cat checks target) image items = items ≡ []
+AreItems (Xattr checks target name) image items = items ≡ []
+AreItems (Gen n) image items = items ≡ []
 
 -- what is promised of a command's text, and of its answers on a path, rests on this: for a command on a view that checks nothing first, that the view that is meant meets its rules
 abbrev pub RestsOn : Asked → List ℕ → Type 0
@@ -110,6 +190,7 @@ RestsOn (Ls checks target) image = RestsBy checks (IsLawfulView image target)
 RestsOn (Tree checks target) image = RestsBy checks (IsLawfulView image target)
 RestsOn (Cat checks target) image = RestsBy checks (IsLawfulView image target)
 RestsOn (Xattr checks target name) image = RestsBy checks (IsLawfulView image target)
+RestsOn (Gen n) image = Unit {0}
 
 -- whether a command checks the container before it looks at it
 abbrev pub checks_of : Asked → Checks
@@ -123,6 +204,7 @@ checks_of (Ls checks target) = checks
 checks_of (Tree checks target) = checks
 checks_of (Cat checks target) = checks
 checks_of (Xattr checks target name) = checks
+checks_of (Gen n) = Quick
 
 -- a command without a check before it
 abbrev pub quick : Asked → Asked
@@ -136,6 +218,7 @@ quick (Ls checks target) = Ls Quick target
 quick (Tree checks target) = Tree Quick target
 quick (Cat checks target) = Cat Quick target
 quick (Xattr checks target name) = Xattr Quick target name
+quick (Gen n) = Gen n
 
 -- the profile of a check before a command, where there is one
 abbrev pub profile_in : Checks → Option Profile
@@ -154,6 +237,7 @@ profile_of (Ls checks target) = profile_in checks
 profile_of (Tree checks target) = profile_in checks
 profile_of (Cat checks target) = profile_in checks
 profile_of (Xattr checks target name) = profile_in checks
+profile_of (Gen n) = Some Plain
 
 -- a command is defined to write a text of an image, or to answer
 abbrev pub HasResult : Asked → List ℕ → Type 0

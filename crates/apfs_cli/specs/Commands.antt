@@ -9,3 +9,4 @@ pub mod Ls
 pub mod Tree
 pub mod Cat
 pub mod Xattr
+pub mod Gen

@@ -11,6 +11,8 @@ pub mod ReportText
 pub mod Commands
 pub mod First
 pub mod ByCommand
+pub mod Formed
+pub mod Handed
 pub mod Outcome
 pub mod Written
 pub mod Seen

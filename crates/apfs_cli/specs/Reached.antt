@@ -1,8 +1,11 @@
 -- What is said of a call that checks a container, or that looks for the volume that is meant. No public clause speaks of it.
 use Rattle.std.specs.Prelude.{◌≡◌, ◌⊎◌, ℕ, List, Option}
 use Rattle.path_walk.specs.declared.answer.Answer.TheVariants.{NoVolume}
+use Rattle.apfs_check.specs.declared.fault.Fault.{Fault}
+use Rattle.apfs_cli.specs.declared.named.Named.{Named}
+use Rattle.apfs_cli.specs.declared.named.Named.TheVariants.{InContainer, NoTable, BadTable, NoPartition, PartOutside}
 use Rattle.apfs_cli.specs.declared.stopped.Stopped.{Stopped}
-use Rattle.apfs_cli.specs.declared.stopped.Stopped.TheVariants.{Faulty, Usage, ReadFailed, WriteFailed, OutOfMemory, Refused, Answered, NoImage}
+use Rattle.apfs_cli.specs.declared.stopped.Stopped.TheVariants.{Faulty, WrongWords, ReadFailed, WriteFailed, OutOfMemory, Refused, Answered, NoImage, NoFolder}
 use Rattle.cmd_words.specs.Asked.{AskedTarget}
 use Rattle.apfs_check.specs.WellFormed.{IsWellFormed}
 use Rattle.apfs_cli.specs.declared.words.Checks.{Checks}
@@ -16,34 +19,45 @@ use Rattle.apfs_cli.specs.OnView.{ByAnswer}
 abbrev pub IsClear : List ℕ → Option ℕ → Type 0
 IsClear image named = HasVolume image named ⊎ HasNoVolume image named
 
+-- the fault is one of the container, of which a fact holds
+abbrev pub OfContainer : Named → (Fault → Type 0) → Type 0
+OfContainer (InContainer fault) P = P fault
+OfContainer NoTable P = ⊥
+OfContainer BadTable P = ⊥
+OfContainer NoPartition P = ⊥
+OfContainer (PartOutside at) P = ⊥
+
 -- what a stop on the way to the volume that is meant says
 abbrev pub TellsWay : List ℕ → Option ℕ → Stopped → Type 0
-TellsWay image named (Faulty fault) = (IsClear image named → ⊥) × IsMeantFault image named fault
+TellsWay image named (Faulty why) = OfContainer why (λ fault. (IsClear image named → ⊥) × IsMeantFault image named fault)
 TellsWay image named (Refused feature block) = (IsClear image named → ⊥) × IsMeantFeature image named feature block
 TellsWay image named (Answered answer) = (answer ≡ NoVolume) × HasNoVolume image named
 TellsWay image named ReadFailed = Unit {0}
 TellsWay image named OutOfMemory = Unit {0}
-TellsWay image named Usage = Unit {0}
+TellsWay image named WrongWords = Unit {0}
 TellsWay image named WriteFailed = Unit {0}
 TellsWay image named NoImage = Unit {0}
+TellsWay image named NoFolder = Unit {0}
 
 -- what a stop on the way to the view that is meant says
 abbrev pub TellsViewWay : List ℕ → AskedTarget → Stopped → Type 0
-TellsViewWay image target (Faulty fault) = TellsWay image target.volume (Faulty fault)
+TellsViewWay image target (Faulty why) = TellsWay image target.volume (Faulty why)
 TellsViewWay image target (Refused feature block) = TellsWay image target.volume (Refused feature block)
 TellsViewWay image target (Answered answer) = ByAnswer answer (HasNoVolume image target.volume) (HasNoSnapshot image target) ⊥
 TellsViewWay image target ReadFailed = Unit {0}
 TellsViewWay image target OutOfMemory = Unit {0}
-TellsViewWay image target Usage = Unit {0}
+TellsViewWay image target WrongWords = Unit {0}
 TellsViewWay image target WriteFailed = Unit {0}
 TellsViewWay image target NoImage = Unit {0}
+TellsViewWay image target NoFolder = Unit {0}
 
--- a run stops while it looks at an image: neither for its words, nor for want of an image, nor since a put failed
+-- a run stops while it looks at an image: neither for its words, nor for want of an image or a folder, nor since a put failed
 abbrev pub IsWhileLooking : Stopped → Type 0
-IsWhileLooking Usage = ⊥
+IsWhileLooking WrongWords = ⊥
 IsWhileLooking WriteFailed = ⊥
 IsWhileLooking NoImage = ⊥
-IsWhileLooking (Faulty fault) = Unit {0}
+IsWhileLooking NoFolder = ⊥
+IsWhileLooking (Faulty why) = Unit {0}
 IsWhileLooking (Refused feature block) = Unit {0}
 IsWhileLooking (Answered answer) = Unit {0}
 IsWhileLooking ReadFailed = Unit {0}
@@ -56,11 +70,12 @@ IsClean (First profile) image = IsWellFormed profile image
 
 -- what a stop of a check says; where none was asked for, nothing stops
 abbrev pub TellsFlaw : Checks → List ℕ → Stopped → Type 0
-TellsFlaw checks image (Faulty fault) = FaultBy checks image fault ⊥
+TellsFlaw checks image (Faulty why) = OfContainer why (λ fault. FaultBy checks image fault ⊥)
 TellsFlaw checks image (Refused feature block) = FeatureBy checks image feature block ⊥
 TellsFlaw checks image (Answered answer) = ⊥
 TellsFlaw checks image ReadFailed = Unit {0}
 TellsFlaw checks image OutOfMemory = Unit {0}
-TellsFlaw checks image Usage = Unit {0}
+TellsFlaw checks image WrongWords = Unit {0}
 TellsFlaw checks image WriteFailed = Unit {0}
 TellsFlaw checks image NoImage = Unit {0}
+TellsFlaw checks image NoFolder = Unit {0}

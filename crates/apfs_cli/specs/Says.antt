@@ -1,51 +1,28 @@
--- When each outcome may be: by the words first, then by whether there is an image, then by the command and the image's bytes.
-use Rattle.std.specs.Prelude.{◌≡◌, ◌⊎◌, ℕ, Bool, true, false, List, [], Option, Some, None, Result}
-use Rattle.apfs_model.specs.Counts.{Rose}
-use Rattle.apfs_model.specs.Sink.{Wrote}
+-- When each outcome may be: by the words first, then by whether what the command takes was handed in, then by the table of a disk's partitions where one is asked for, then by the command and the bytes of its image.
+use Rattle.std.specs.Prelude.{◌≡◌, ◌⊎◌, ℕ, Bool, true, false, List, [], Option, Some, None, Result, Ok, Err}
 use Rattle.blk_source.specs.declared.source.Opened.{Opened}
 use Rattle.blk_source.specs.declared.source.Opened.TheVariants.{Absent, Image}
+use Rattle.blk_folder.specs.Items.{Item, IsFront}
+use Rattle.blk_folder.specs.Put.{Filled}
+use Rattle.img_gpt.specs.Partition.{found_part, HasNoTable, HasBadTable, HasNoPartition, HasPartOutside}
+use Rattle.img_gpt.specs.declared.part.Part.{Part}
 use Rattle.path_walk.specs.declared.answer.Answer.{Answer}
-use Rattle.apfs_cli.specs.declared.stopped.Stopped.{Stopped}
 use Rattle.apfs_cli.specs.OnView.{ByAnswer}
-use Rattle.apfs_cli.specs.Words.{Asked}
 use Rattle.apfs_cli.specs.Texts.{IsPrefix}
-use Rattle.apfs_cli.specs.ByCommand.{takes_image, lead_of, IsText, IsFault, IsFeature, IsAnswer, RestsOn, HasResult}
-use Rattle.apfs_cli.specs.Outcome.{Outcome, text_of, Written, Faulty, Usage, ReadFailed, WriteFailed, OutOfMemory, Refused, Answered, NoImage}
-use Rattle.apfs_cli.specs.Seen.{outcome_of}
+use Rattle.apfs_model.specs.Sink.{Wrote}
 use Rattle.apfs_cli.specs.Written.{Sunk, Failed, Ends}
+use Rattle.apfs_cli.specs.declared.stopped.Stopped.{Stopped}
+use Rattle.apfs_cli.specs.declared.stopped.Stopped.TheVariants as stops
+use Rattle.apfs_cli.specs.Seen.{outcome_of}
+use Rattle.apfs_cli.specs.Words.{Asked, Line}
+use Rattle.apfs_cli.specs.Handed.{Looked, LookFailed, OfImage, part_looked, made, Stored, StoreFailed}
+use Rattle.apfs_cli.specs.Outcome.{Outcome, text_of, Written, Faulty, WrongWords, ReadFailed, WriteFailed, OutOfMemory, Refused, Answered, NoImage, NoFolder}
+use Rattle.apfs_cli.specs.ByCommand.{From, HandedIn, Made, Nowhere, from_of, takes_folder, streams, lead_of, IsText, IsNamed, IsFeature, IsAnswer, AreItems, RestsOn, HasResult}
+use Rattle.apfs_cli.specs.Formed.{IsFormed}
+use Rattle.apfs_cli.specs.declared.named.Named.{Named}
+use Rattle.apfs_cli.specs.declared.named.Named.TheVariants.{InContainer, NoTable, BadTable, NoPartition, PartOutside}
 
--- an image is wanted, and none was handed in
-abbrev pub LacksImage : {S : Type 0} → Bool → Opened S → Type 0
-LacksImage true Absent = Unit {0}
-LacksImage true (Image source) = ⊥
-LacksImage false opened = ⊥
-
--- these are the bytes of what was handed in, where they are told; no bytes where no image is wanted
-abbrev pub IsGiven : {S : Type 0} → (S → Option (List ℕ)) → Bool → Opened S → List ℕ → Type 0
-IsGiven bytes true Absent image = ⊥
-IsGiven bytes true (Image source) image = bytes source ≡ Some image
-IsGiven bytes false opened image = image ≡ []
-
--- a fact of the command and the image's bytes, where the words are right and an image was handed in if one is wanted
-abbrev pub OfRun : {S : Type 0} → (S → Option (List ℕ)) → Option Asked → Opened S → (Asked → List ℕ → Type 0) → Type 0
-OfRun bytes None opened P = ⊥
-OfRun bytes (Some command) opened P =
-    (LacksImage (takes_image command) opened → ⊥) × ((image : List ℕ) → IsGiven bytes (takes_image command) opened image → P command image)
-
--- the words are right, and no image was handed in although the command takes one
-abbrev pub HasNoImage : {S : Type 0} → Option Asked → Opened S → Type 0
-HasNoImage None opened = ⊥
-HasNoImage (Some command) opened = LacksImage (takes_image command) opened
-
--- the source that was handed in failed in the call
-abbrev pub SourceFailed : {S : Type 0} → (S → ℕ) → Opened S → Opened S → Type 0
-SourceFailed faults (Image old) (Image new) = Rose (faults old) (faults new)
-SourceFailed faults old new = ⊥
-
--- the words are right, and the source that was handed in failed in the call
-abbrev pub HasFailed : {S : Type 0} → (S → ℕ) → Option Asked → Opened S → Opened S → Type 0
-HasFailed faults None old new = ⊥
-HasFailed faults (Some command) old new = SourceFailed faults old new
+-- ---- a command over a source
 
 -- a text is the command's, where what it rests on holds
 abbrev pub IsTextIf : Asked → List ℕ → List ℕ → Type 0
@@ -55,13 +32,27 @@ IsTextIf command image text = RestsOn command image → IsText command image tex
 abbrev pub BeginsText : Asked → List ℕ → List ℕ → Type 0
 BeginsText command image part = IsPrefix part (lead_of command) ⊎ ((text : List ℕ) × IsTextIf command image text × IsPrefix part text)
 
--- what may have been written before a run stops: nothing, or a part of what the command writes
-abbrev pub IsPart : {S : Type 0} → (S → Option (List ℕ)) → Option Asked → Opened S → List ℕ → Type 0
-IsPart bytes command opened part = (part ≡ []) ⊎ OfRun bytes command opened (λ c image. BeginsText c image part)
+-- a part of its lead, or of a text that is made as the command's texts are
+abbrev pub BeginsForm : Asked → List ℕ → Type 0
+BeginsForm command part = IsPrefix part (lead_of command) ⊎ ((text : List ℕ) × IsFormed command text × IsPrefix part text)
 
--- a command stops at what is there in an image: it has neither a text nor an answer of it, and has written its lead
-pub record StopsAt (command : Asked) (image lead : List ℕ) (there : Type 0) : Type 0 where
-  pub lead_is : lead ≡ lead_of command
+-- what may have been written before a run stops
+pub record IsPart (command : Asked) (source : Looked) (part : List ℕ) : Type 0 where
+  pub formed : BeginsForm command part
+  pub begins : OfImage source (λ image. BeginsText command image part)
+
+-- what may have been written before a read fails; a command that reads all before it writes has written no more than its lead
+pub record IsReadPart (command : Asked) (source : Looked) (part : List ℕ) : Type 0 where
+  pub is : IsPart command source part
+  pub before : streams command ≡ false → IsPrefix part (lead_of command)
+
+-- the whole text was written
+pub record IsWhole (command : Asked) (source : Looked) (text : List ℕ) : Type 0 where
+  pub formed : IsFormed command text
+  pub is : OfImage source (λ image. IsTextIf command image text)
+
+-- a command stops at what is there in an image: it has neither a text nor an answer of it
+pub record StopsAt (command : Asked) (image : List ℕ) (there : Type 0) : Type 0 where
   pub none : HasResult command image → ⊥
   pub there_is : there
 
@@ -71,31 +62,198 @@ pub record IsOnlyAnswer (command : Asked) (image : List ℕ) (answer : Answer) :
   pub only : (other : Answer) → IsAnswer command image other → other ≡ answer
   pub answer_is : IsAnswer command image answer
 
--- a command answers of an image, and has written its lead; NoVolume and NoSnapshot rest on nothing
-pub record AnswersAt (command : Asked) (image lead : List ℕ) (answer : Answer) : Type 0 where
-  pub lead_is : lead ≡ lead_of command
-  pub only_is : ByAnswer answer (Unit {0}) (Unit {0}) (RestsOn command image) → IsOnlyAnswer command image answer
+-- a command answers of an image; NoVolume and NoSnapshot rest on nothing
+abbrev pub AnswersAt : Asked → List ℕ → Answer → Type 0
+AnswersAt command image answer = ByAnswer answer (Unit {0}) (Unit {0}) (RestsOn command image) → IsOnlyAnswer command image answer
 
--- what an outcome says of the words, of what was handed in and of its bytes, and of the first sink
-abbrev pub Says : {S : Type 0} → (S → Option (List ℕ)) → (S → ℕ) → Option Asked → Opened S → Opened S → Sunk → Outcome → Type 0
-Says bytes faults command old new out (Written text) = OfRun bytes command old (λ c image. IsTextIf c image text)
-Says bytes faults command old new out (Faulty lead fault) = OfRun bytes command old (λ c image. StopsAt c image lead (IsFault c image fault))
-Says bytes faults command old new out Usage = command ≡ None
-Says bytes faults command old new out (ReadFailed part) = HasFailed faults command old new × IsPart bytes command old part
-Says bytes faults command old new out (WriteFailed part) = Failed out × IsPart bytes command old part
-Says bytes faults command old new out (OutOfMemory part) = IsPart bytes command old part
-Says bytes faults command old new out (Refused lead feature block) = OfRun bytes command old (λ c image. StopsAt c image lead (IsFeature c image feature block))
-Says bytes faults command old new out (Answered lead answer) = OfRun bytes command old (λ c image. AnswersAt c image lead answer)
-Says bytes faults command old new out NoImage = HasNoImage command old
+-- what an outcome says of a command and a source; that its lead was written, and no more, is said over each source
+abbrev pub SaysOn : Asked → Looked → Type 0 → Outcome → Type 0
+SaysOn command source failed (Written text) = IsWhole command source text
+SaysOn command source failed (Faulty lead named) = (lead ≡ lead_of command) × OfImage source (λ image. StopsAt command image (IsNamed command image named))
+SaysOn command source failed WrongWords = ⊥
+SaysOn command source failed (ReadFailed part) = LookFailed source × IsReadPart command source part
+SaysOn command source failed (WriteFailed part) = failed × IsPart command source part
+SaysOn command source failed (OutOfMemory part) = IsPart command source part
+SaysOn command source failed (Refused lead feature block) = (lead ≡ lead_of command) × OfImage source (λ image. StopsAt command image (IsFeature command image feature block))
+SaysOn command source failed (Answered lead answer) = (lead ≡ lead_of command) × OfImage source (λ image. AnswersAt command image answer)
+SaysOn command source failed NoImage = ⊥
+SaysOn command source failed NoFolder = ⊥
 
--- a run has come to an outcome that words and image allow, and has written its text
-abbrev pub HasEnded : {S : Type 0} → (S → Option (List ℕ)) → (S → ℕ) → Option Asked → Opened S → Opened S → Result Unit Stopped → Sunk → Type 0
-HasEnded bytes faults command old new ended out =
-    (part : List ℕ) × Says bytes faults command old new out (outcome_of ended part) × Wrote out.old out.new (text_of (outcome_of ended part))
+-- a command has come to an outcome over a source, and has written its text
+abbrev pub HasEnded : Asked → Looked → Result Unit Stopped → Sunk → Type 0
+HasEnded command source ended out =
+    (part : List ℕ) × SaysOn command source (Failed out) (outcome_of ended part) × Wrote out.old out.new (text_of (outcome_of ended part))
 
--- a run comes to an outcome that words and image allow, has written its text, and has said its line and given its status
-abbrev pub CameTo : {S : Type 0} → (S → Option (List ℕ)) → (S → ℕ) → Option Asked → Opened S → Opened S → ℕ → Sunk → Sunk → Type 0
-CameTo bytes faults command old new result out err = (outcome : Outcome) × Says bytes faults command old new out outcome × Ends result outcome out err
+-- ---- a command over the image that it makes
+
+-- it has come to an outcome over the image that was made, and has written its text; without one memory ran out, and nothing was written
+abbrev pub HasMade : Asked → Option (List ℕ) → Result Unit Stopped → Sunk → Type 0
+HasMade command None ended out = (ended ≡ Err stops.OutOfMemory) × Wrote out.old out.new []
+HasMade command (Some image) ended out = HasEnded command (made image) ended out
+
+-- it came to an outcome over the image that was made, has written its text, and has said its line and given its status
+abbrev pub CameOver : Asked → Option (List ℕ) → ℕ → Sunk → Sunk → Type 0
+CameOver command None result out err = Ends result (OutOfMemory []) out err
+CameOver command (Some image) result out err = (outcome : Outcome) × SaysOn command (made image) (Failed out) outcome × Ends result outcome out err
+
+-- ---- the folder
+
+-- the folder has some items more, of which a fact holds for each image that is told; a command that takes no folder adds none
+pub record Fills (command : Asked) (source : Looked) (folder : Stored) (P : List ℕ → List Item → Type 0) : Type 0 where
+  pub added : List Item
+  pub none : takes_folder command ≡ false → added ≡ []
+  pub are : OfImage source (λ image. P image added)
+  pub put : Filled folder.old folder.new added
+
+-- the items of a command, where what they rest on holds
+abbrev pub AreItemsIf : Asked → List ℕ → List Item → Type 0
+AreItemsIf command image items = RestsOn command image → AreItems command image items
+
+-- a front of the items of a command, where what they rest on holds
+abbrev pub AreFrontIf : Asked → List ℕ → List Item → Type 0
+AreFrontIf command image front = (front ≡ []) ⊎ ((items : List Item) × AreItemsIf command image items × IsFront front items)
+
+-- nothing was added
+abbrev pub IsSame : Stored → Type 0
+IsSame folder = Filled folder.old folder.new []
+
+-- what an outcome says of a command, a source and a folder: all items were added, or a front of them where something failed; where a fault or a feature stopped it none, but over a source that doesn't tell its bytes
+abbrev pub FillsBy : Asked → Looked → Stored → Outcome → Type 0
+FillsBy command source folder (Written text) = Fills command source folder (AreItemsIf command)
+FillsBy command source folder (Faulty lead named) = Fills command source folder (λ image added. added ≡ [])
+FillsBy command source folder WrongWords = IsSame folder
+FillsBy command source folder (ReadFailed part) = Fills command source folder (AreFrontIf command)
+FillsBy command source folder (WriteFailed part) = Fills command source folder (AreFrontIf command)
+FillsBy command source folder (OutOfMemory part) = Fills command source folder (AreFrontIf command)
+FillsBy command source folder (Refused lead feature block) = Fills command source folder (λ image added. added ≡ [])
+FillsBy command source folder (Answered lead answer) = IsSame folder
+FillsBy command source folder NoImage = IsSame folder
+FillsBy command source folder NoFolder = IsSame folder
+
+-- where there is a folder
+abbrev pub FillsOn : Asked → Looked → Option Stored → Outcome → Type 0
+FillsOn command source None o = Unit {0}
+FillsOn command source (Some folder) o = FillsBy command source folder o
+
+abbrev pub IsUntouched : Option Stored → Type 0
+IsUntouched None = Unit {0}
+IsUntouched (Some folder) = IsSame folder
+
+-- ---- what is handed in
+
+-- an image is wanted by this origin, and none was handed in
+abbrev pub LacksFrom : From → Option Looked → Type 0
+LacksFrom HandedIn None = Unit {0}
+LacksFrom HandedIn (Some source) = ⊥
+LacksFrom Made image = ⊥
+LacksFrom Nowhere image = ⊥
+
+-- the command takes an image, and none was handed in
+abbrev pub LacksImage : Line → Option Looked → Type 0
+LacksImage line image = LacksFrom (from_of line.command) image
+
+-- a folder is wanted, and none was handed in
+abbrev pub LacksStore : Bool → Option Stored → Type 0
+LacksStore true None = Unit {0}
+LacksStore true (Some folder) = ⊥
+LacksStore false folder = ⊥
+
+-- the command takes a folder, and none was handed in
+abbrev pub LacksFolder : Line → Option Stored → Type 0
+LacksFolder line folder = LacksStore (takes_folder line.command) folder
+
+-- what the command takes was handed in
+pub record HasAll (line : Line) (image : Option Looked) (folder : Option Stored) : Type 0 where
+  pub image_there : LacksImage line image → ⊥
+  pub folder_there : LacksFolder line folder → ⊥
+
+-- the source on which a command works that takes its image from what is handed in: that, or its partition, where the table is told the one that is found
+abbrev pub IsSourceIn : Bool → Option Looked → Looked → Type 0
+IsSourceIn false image source = image ≡ Some source
+IsSourceIn true image source =
+    (disk : Looked) × (part : Part) × (image ≡ Some disk) × OfImage disk (λ bytes. found_part bytes ≡ Ok part) × (source ≡ part_looked part disk)
+
+-- the source on which a command works: what is handed in or its partition, an image that was made, or no bytes
+abbrev pub IsSourceFrom : From → Bool → Option Looked → Looked → Type 0
+IsSourceFrom HandedIn in_partition image source = IsSourceIn in_partition image source
+IsSourceFrom Made in_partition image source = (bytes : List ℕ) × (source ≡ made bytes)
+IsSourceFrom Nowhere in_partition image source = source ≡ made []
+
+abbrev pub IsSource : Line → Option Looked → Looked → Type 0
+IsSource line image source = IsSourceFrom (from_of line.command) line.in_partition image source
+
+-- ---- the table of partitions
+
+-- a fault of the table is there in a disk, and none before it
+abbrev pub IsTableFault : List ℕ → Named → Type 0
+IsTableFault disk NoTable = HasNoTable disk
+IsTableFault disk BadTable = HasBadTable disk
+IsTableFault disk NoPartition = HasNoPartition disk
+IsTableFault disk (PartOutside at) = HasPartOutside disk at
+IsTableFault disk (InContainer fault) = ⊥
+
+-- what stops a run before there is a partition: a fault of the table, where the disk is told one that is there, or a read that failed
+abbrev pub StopsTable : Looked → Outcome → Type 0
+StopsTable disk o =
+    ((named : Named) × (o ≡ Faulty [] named) × OfImage disk (λ bytes. IsTableFault bytes named)) ⊎ ((o ≡ ReadFailed []) × LookFailed disk)
+
+-- ---- the run
+
+-- a put failed: on the first sink, or into the folder
+abbrev pub PutFailed : Sunk → Option Stored → Type 0
+PutFailed out folder = Failed out ⊎ StoreFailed folder
+
+-- the words are right and what the command takes was handed in, and it came to an outcome over its source
+pub record Ran (asked : Option Line) (image : Option Looked) (folder : Option Stored) (out : Sunk) (o : Outcome) : Type 0 where
+  pub line : Line
+  pub words : asked ≡ Some line
+  pub all : HasAll line image folder
+  pub source : Looked
+  pub source_is : IsSource line image source
+  pub says : SaysOn line.command source (PutFailed out folder) o
+  pub fills : FillsOn line.command source folder o
+
+-- the words are right, no image was handed in although the command takes one
+pub record HasNoImage (asked : Option Line) (image : Option Looked) : Type 0 where
+  pub line : Line
+  pub words : asked ≡ Some line
+  pub lacks : LacksImage line image
+
+-- the words are right, what the command takes for an image was handed in, and no folder although the command takes one
+pub record HasNoFolder (asked : Option Line) (image : Option Looked) (folder : Option Stored) : Type 0 where
+  pub line : Line
+  pub words : asked ≡ Some line
+  pub has : LacksImage line image → ⊥
+  pub lacks : LacksFolder line folder
+
+-- the words are right and ask for a partition, what the command takes was handed in, and the table of the disk stopped the run
+pub record HasNoPart (asked : Option Line) (image : Option Looked) (folder : Option Stored) (o : Outcome) : Type 0 where
+  pub line : Line
+  pub words : asked ≡ Some line
+  pub wanted : line.in_partition ≡ true
+  pub image_from : from_of line.command ≡ HandedIn
+  pub all : HasAll line image folder
+  pub disk : Looked
+  pub disk_is : image ≡ Some disk
+  pub stops : StopsTable disk o
+
+-- the six ways in which a run may come to an outcome, in their order; want of memory may come at any time
+pub data Says (asked : Option Line) (image : Option Looked) (folder : Option Stored) (out : Sunk) (o : Outcome) : Type 0 where
+  wrong_words : asked ≡ None → o ≡ WrongWords → IsUntouched folder → Says asked image folder out o
+  no_image : HasNoImage asked image → o ≡ NoImage → IsUntouched folder → Says asked image folder out o
+  no_folder : HasNoFolder asked image folder → o ≡ NoFolder → IsUntouched folder → Says asked image folder out o
+  no_part : HasNoPart asked image folder o → IsUntouched folder → Says asked image folder out o
+  ran : Ran asked image folder out o → Says asked image folder out o
+  no_memory : o ≡ OutOfMemory [] → IsUntouched folder → Says asked image folder out o
+
+-- a run has come to an outcome that the words and what was handed in allow, and has written its text
+abbrev pub HasCome : Option Line → Option Looked → Option Stored → Result Unit Stopped → Sunk → Type 0
+HasCome asked image folder ended out =
+    (part : List ℕ) × Says asked image folder out (outcome_of ended part) × Wrote out.old out.new (text_of (outcome_of ended part))
+
+-- a run comes to an outcome that the words and what was handed in allow, has written its text, and has said its line and given its status
+abbrev pub CameTo : Option Line → Option Looked → Option Stored → ℕ → Sunk → Sunk → Type 0
+CameTo asked image folder result out err = (outcome : Outcome) × Says asked image folder out outcome × Ends result outcome out err
 
 -- what was handed in for the image stays what it was: absent, or a source of the same size and bytes
 abbrev pub IsOpenedKept : {S : Type 0} → (S → Option (List ℕ)) → (S → ℕ) → Opened S → Opened S → Type 0

@@ -53,3 +53,7 @@ answer_line answer = codes "apfs: answer: " ▹ answer_name answer ▹ codes "\n
 -- no image was handed in
 abbrev pub no_image_line : List ℕ
 no_image_line = codes "apfs: no image\n"
+
+-- no folder was handed in
+abbrev pub no_folder_line : List ℕ
+no_folder_line = codes "apfs: no folder\n"

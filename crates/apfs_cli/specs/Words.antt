@@ -1,14 +1,16 @@
 -- Which words are a line of the program, and what they ask for.
-use Rattle.std.specs.Prelude.{ℕ, Bool, List, Option, option_map, if◌then◌else◌}
+use Rattle.std.specs.Prelude.{ℕ, Bool, true, false, List, [], ◌∷◌, Option, None, Some, option_map, option_and_then, bytes_eq, codes, if◌then◌else◌, nat_le, ◌&&◌, ◌==◌, ◌+◌, ◌-◌, ◌*◌}
 use Rattle.cmd_words.specs.Asked as lines
 use Rattle.cmd_words.specs.Asked.{AskedFlags, AskedTarget, target_asked}
-use Rattle.cmd_words.specs.Lines.{line_of}
+use Rattle.cmd_words.specs.Lines.{is_digit, line_of}
 use Rattle.view_rules.specs.declared.profile.Profile.{Profile}
 use Rattle.view_rules.specs.declared.profile.Profile.TheVariants.{Plain, Strict}
 use Rattle.apfs_cli.specs.declared.words.Checks.{Checks}
 use Rattle.apfs_cli.specs.declared.words.Checks.TheVariants.{Quick, First}
 use Rattle.apfs_cli.specs.declared.words.Command.{Command}
 use Rattle.apfs_cli.specs.declared.words.Command.TheVariants as commands
+use Rattle.apfs_cli.specs.declared.words.Order.{Order}
+use Rattle.apfs_cli.specs.declared.words.Order.TheVariants as orders
 
 -- what the program is asked for, with the parts of the line beside the image
 pub data Asked : Type 0 where
@@ -32,6 +34,13 @@ pub data Asked : Type 0 where
   Cat : Checks → AskedTarget → Asked
   -- the attributes of what a path leads to in a view, or what the one of a name holds
   Xattr : Checks → AskedTarget → Option (List ℕ) → Asked
+  -- an image of so many files, and whether its container is well-formed
+  Gen : ℕ → Asked
+
+-- what a line asks for: a command, and whether its image is a partition of what is handed in
+pub record Line : Type 0 where
+  pub in_partition : Bool
+  pub command : Asked
 
 -- the profile that a flag chooses
 abbrev pub profile_by : Bool → Profile
@@ -54,9 +63,79 @@ built (lines.Tree flags target) = Tree (checks_by flags) target
 built (lines.Cat flags target) = Cat (checks_by flags) target
 built (lines.Xattr flags target name) = Xattr (checks_by flags) target name
 
--- what the words ask for; None where they are no line of the program
+-- what words ask for that ask for a command on an image
 unfoldable pub command_of : List (List ℕ) → Option Asked
 command_of words = option_map built (line_of words)
+
+-- a command on what is handed in, or on a partition of it
+abbrev pub line_in : Bool → Asked → Line
+line_in in_partition command = record { in_partition = in_partition; command = command }
+
+abbrev pub plain_line : Asked → Line
+plain_line command = line_in false command
+
+abbrev pub partition_line : Asked → Line
+partition_line command = line_in true command
+
+-- `1` to `9`
+abbrev pub leading : ℕ → Option ℕ
+leading byte = if nat_le 49 byte && nat_le byte 57 then Some (byte - 48) else None
+
+-- a number of four digits at most, and one digit more
+abbrev pub joined : Option ℕ → ℕ → Option ℕ
+joined None byte = None
+joined (Some number) byte = if nat_le number 9999 && is_digit byte then Some (10 * number + (byte - 48)) else None
+
+-- one to five decimal digits without a leading zero, or `0`
+abbrev pub count_said : List ℕ → Option ℕ
+count_said (a ∷ []) = if a == 48 then Some 0 else leading a
+count_said (a ∷ b ∷ []) = joined (leading a) b
+count_said (a ∷ b ∷ c ∷ []) = joined (joined (leading a) b) c
+count_said (a ∷ b ∷ c ∷ d ∷ []) = joined (joined (joined (leading a) b) c) d
+count_said (a ∷ b ∷ c ∷ d ∷ e ∷ []) = joined (joined (joined (joined (leading a) b) c) d) e
+count_said _ = None
+
+-- at most 20,000 files
+abbrev pub few : ℕ → Option ℕ
+few files = if nat_le files 20000 then Some files else None
+
+-- a number of files that can be made
+abbrev pub files_said : List ℕ → Option ℕ
+files_said word = option_and_then few (count_said word)
+
+-- how many files are asked for, where the command is `gen`
+abbrev pub files_named : List ℕ → List ℕ → Option ℕ
+files_named command count = if bytes_eq command (codes "gen") then files_said count else None
+
+-- `gen N`: how many files are asked for
+abbrev pub gen_files : List (List ℕ) → Option ℕ
+gen_files (command ∷ count ∷ []) = files_named command count
+gen_files _ = None
+
+abbrev pub plain_by : List (List ℕ) → Option ℕ → Option Line
+plain_by words None = option_map (line_in false) (command_of words)
+plain_by words (Some files) = Some (plain_line (Gen files))
+
+-- what words ask for that don't ask for a partition
+unfoldable pub plain_of : List (List ℕ) → Option Line
+plain_of words = plain_by words (gen_files words)
+
+-- `--gpt` asks for a partition, and stands before the command, which is one on an image
+abbrev pub is_gpt : List ℕ → Bool
+is_gpt word = bytes_eq word (codes "--gpt")
+
+-- the words after `--gpt`, where they begin so
+abbrev pub after_gpt : List (List ℕ) → Option (List (List ℕ))
+after_gpt [] = None
+after_gpt (word ∷ words) = if is_gpt word then Some words else None
+
+abbrev pub asked_by : List (List ℕ) → Option (List (List ℕ)) → Option Line
+asked_by words None = plain_of words
+asked_by words (Some rest) = option_map (line_in true) (command_of rest)
+
+-- what the words ask for; None where they are no line of the program
+unfoldable pub asked_of : List (List ℕ) → Option Line
+asked_of words = asked_by words (after_gpt words)
 
 -- a command without where its words lie
 abbrev pub said : Command → Asked
@@ -70,3 +149,8 @@ said (commands.Ls checks target) = Ls checks (target_asked target)
 said (commands.Tree checks target) = Tree checks (target_asked target)
 said (commands.Cat checks target) = Cat checks (target_asked target)
 said (commands.Xattr checks target name) = Xattr checks (target_asked target) (option_map (λ text. text.now) name)
+
+-- a line without where its words lie
+abbrev pub line_said : Order → Line
+line_said (orders.On in_partition command) = line_in in_partition (said command)
+line_said (orders.Gen files) = plain_line (Gen files)

@@ -1,7 +1,6 @@
 //! The commands: each writes its text on a sink, and stops where there is none.
-ghost use Rattle.std.specs.Prelude.{◌≡◌, Some};
 ghost use Rattle.apfs_model.specs.Source.{IsKept};
-ghost use Rattle.blk_source.specs.declared.source.Opened.TheVariants.{Image};
+ghost use Rattle.apfs_cli.specs.Handed.{looked};
 ghost use Rattle.apfs_cli.specs.Says.{HasEnded};
 ghost use Rattle.apfs_cli.specs.Words.{said};
 ghost use Rattle.apfs_cli.specs.ByCommand.{quick};
@@ -10,6 +9,7 @@ ghost use Rattle.apfs_cli.specs.Written.{sunk};
 mod cat;
 pub mod check;
 mod checked;
+pub mod generated;
 mod info;
 mod ls;
 mod ring;
@@ -32,7 +32,7 @@ fn on_unchecked<S: BlockSource, W: Sink>(
     src: &mut S,
     out: &mut W,
 ) -> Result<(), Stopped>
-    ensures answer { HasEnded S.bytes S.faults (Some (quick (said command.entry))) (Image src.old) (Image src.new) result (sunk W.contents W.faults out.old out.new) }
+    ensures answer { HasEnded (quick (said command.entry)) (looked S.bytes S.faults src.old src.new) result (sunk W.contents W.faults out.old out.new) }
     ensures kept { IsKept S.bytes S.bytes_len S.faults src.old src.new }
 {
     match command {
@@ -56,7 +56,7 @@ pub fn on_image<S: BlockSource, W: Sink>(
     src: &mut S,
     out: &mut W,
 ) -> Result<(), Stopped>
-    ensures answer { HasEnded S.bytes S.faults (Some (said command.entry)) (Image src.old) (Image src.new) result (sunk W.contents W.faults out.old out.new) }
+    ensures answer { HasEnded (said command.entry) (looked S.bytes S.faults src.old src.new) result (sunk W.contents W.faults out.old out.new) }
     ensures kept { IsKept S.bytes S.bytes_len S.faults src.old src.new }
 {
     match check_first(alloc, command.checks(), src) {

@@ -3,11 +3,12 @@ ghost use Rattle.std.specs.Prelude.{◌≡◌, IfOk};
 ghost use Rattle.apfs_cli.specs.FaultTexts as texts;
 
 use crate::fault_places as places;
+use crate::named::Named;
 use apfs_check::Fault;
 use std::alloc::{AllocError, Global};
 
-/// The text of a fault, as its bytes: names in it are shown by bytes.
-pub fn fault_text(alloc: Global, fault: &Fault) -> Result<Vec<u8>, AllocError>
+// The text of a fault of the container, as its bytes: names in it are shown by bytes.
+fn fault_text(alloc: Global, fault: &Fault) -> Result<Vec<u8>, AllocError>
     ensures { IfOk result (λ text. text.items ≡ texts.fault_text fault.now) }
 {
     match fault {
@@ -98,5 +99,20 @@ pub fn fault_text(alloc: Global, fault: &Fault) -> Result<Vec<u8>, AllocError>
             stored,
             streams,
         } => places::of_count(alloc, "DataCount", *slot, *block, *stored, *streams),
+    }
+}
+
+/// The text of a fault that is named.
+pub fn named_fault_text(alloc: Global, named: &Named) -> Result<Vec<u8>, AllocError>
+    ensures { IfOk result (λ text. text.items ≡ texts.named_fault_text named.now) }
+{
+    match named {
+        Named::InContainer(fault) => fault_text(alloc, fault),
+        Named::NoTable => places::plain(alloc, "Gpt NoTable"),
+        Named::BadTable => places::plain(alloc, "Gpt BadTable"),
+        Named::NoPartition => places::plain(alloc, "Gpt NoPartition"),
+        Named::PartOutside { at } => {
+            places::of_number(alloc, "Gpt PartOutside entry", u64::from(*at))
+        }
     }
 }

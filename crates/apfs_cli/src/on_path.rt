@@ -2,6 +2,7 @@
 ghost use Rattle.std.specs.Prelude.{◌≡◌};
 ghost use Rattle.apfs_cli.specs.Seen.{answered_of, stopped_on, stopped_writing};
 
+use crate::named::Named;
 use crate::stopped::Stopped;
 use apfs_check::Raise;
 use obj_base::Stop;
@@ -25,7 +26,7 @@ pub fn stopped_on_path(stop: Stop<PathStop>) -> Stopped
 {
     match stop {
         Stop::Found(PathStop::Answer(answer)) => Stopped::Answered(of_path(answer)),
-        Stop::Found(PathStop::Fault(fault)) => Stopped::Faulty(fault.raise(())),
+        Stop::Found(PathStop::Fault(fault)) => Stopped::Faulty(Named::InContainer(fault.raise(()))),
         Stop::Unsupported { feature, block } => Stopped::Refused { feature, block },
         Stop::ReadFault => Stopped::ReadFailed,
         Stop::NoMemory => Stopped::OutOfMemory,

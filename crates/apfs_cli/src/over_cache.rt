@@ -2,10 +2,10 @@
 ghost use Rattle.std.specs.Prelude.{◌≡◌, ℕ, List, Some, true, length, unwrap_or, IfOk, OnErr};
 ghost use Rattle.apfs_model.specs.Counts.{Rose};
 ghost use Rattle.apfs_model.specs.Source.{IsKept};
-ghost use Rattle.blk_source.specs.declared.source.Opened.TheVariants.{Image};
 ghost use Rattle.obj_base.specs.BlockSize.{is_accepted};
 ghost use Rattle.nx_block.specs.Read.{size_of};
 ghost use Rattle.apfs_cli.specs.Cache.{kept_size};
+ghost use Rattle.apfs_cli.specs.Handed.{looked};
 ghost use Rattle.apfs_cli.specs.Says.{HasEnded};
 ghost use Rattle.apfs_cli.specs.Words.{said};
 ghost use Rattle.apfs_cli.specs.Written.{sunk};
@@ -63,7 +63,7 @@ fn on_source<S: BlockSource, W: Sink>(
     mut src: S,
     out: &mut W,
 ) -> (Result<(), Stopped>, S)
-    ensures answer { HasEnded S.bytes S.faults (Some (said command.entry)) (Image src) (Image result.1) result.0 (sunk W.contents W.faults out.old out.new) }
+    ensures answer { HasEnded (said command.entry) (looked S.bytes S.faults src result.1) result.0 (sunk W.contents W.faults out.old out.new) }
     ensures kept { IsKept S.bytes S.bytes_len S.faults src result.1 }
 {
     let ended = on_image(alloc, command, &mut src, out);
@@ -78,7 +78,7 @@ pub fn on_cache<S: BlockSource, W: Sink>(
     mut src: S,
     out: &mut W,
 ) -> (Result<(), Stopped>, S)
-    ensures answer { HasEnded S.bytes S.faults (Some (said command.entry)) (Image src) (Image result.1) result.0 (sunk W.contents W.faults out.old out.new) }
+    ensures answer { HasEnded (said command.entry) (looked S.bytes S.faults src result.1) result.0 (sunk W.contents W.faults out.old out.new) }
     ensures kept { IsKept S.bytes S.bytes_len S.faults src result.1 }
 {
     if let Command::Check(_) = command {

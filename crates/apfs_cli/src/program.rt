@@ -1,22 +1,25 @@
 // The program, over what it is handed.
-ghost use Rattle.std.specs.Prelude.{◌≡◌, map, List, ℕ, None, Some};
+ghost use Rattle.std.specs.Prelude.{◌≡◌, ◌≤◌, [], map, option_map, List, ℕ, None, Some};
 ghost use Rattle.std.specs.String.{string_bytes};
+ghost use Rattle.apfs_model.specs.Sink.{Wrote};
 ghost use Rattle.apfs_model.specs.Source.{IsKept};
 ghost use Rattle.apfs_check.specs.WellFormed.{IsWellFormed};
+ghost use Rattle.apfs_cli.specs.Handed.{looked, looked_at, stored_in, IsGivenKept};
 ghost use Rattle.apfs_cli.specs.Outcome as outcomes;
-ghost use Rattle.apfs_cli.specs.Rows.{BothWrote, HasText, NamesFault, NamesFeature, NamesAnswer, SaysReadFailed, SaysOutOfMemory, HasFailedPut, HasDefinedText, HasDefinedAnswer, HasSound, HasUnsound, IsExactly, IsWholeOrFree, IsAnsweredOrFree, IsCleanOrFree, IsFoundOrFree, IsUndisturbed, IsCompleted};
-ghost use Rattle.apfs_cli.specs.Says.{HasEnded, HasNoImage, IsOpenedKept, CameTo};
+ghost use Rattle.apfs_cli.specs.Rows.{BothWrote, HasText, NamesFault, NamesFeature, NamesAnswer, SaysReadFailed, SaysOutOfMemory, HasFailedPut, HasDefinedText, HasDefinedAnswer, HasSound, HasUnsound, HasTableFault, IsExactly, IsOrFree, IsCleanOrFree, IsFoundOrFree, IsUndisturbed, IsCompleted, IsOfMade, IsRefusal, IsTurnedAway, lead_in, MayFill};
+ghost use Rattle.apfs_cli.specs.Says.{HasEnded, HasCome, HasNoImage, HasNoFolder, IsOpenedKept, IsUntouched, CameTo, CameOver};
 ghost use Rattle.apfs_cli.specs.Seen.{outcome_of};
-ghost use Rattle.apfs_cli.specs.Words.{Check, command_of, said};
+ghost use Rattle.apfs_cli.specs.Words.{Check, Gen, asked_of, line_in, plain_line, said};
 ghost use Rattle.apfs_cli.specs.Written.{sunk, IsClosed};
-ghost use Rattle.blk_source.specs.declared.source.Opened.TheVariants.{Image};
+ghost use Rattle.apfs_cli.specs.declared.named.Named.{Named};
 
-use crate::commands::check;
-use crate::over_cache::on_cache;
+use crate::commands::{check, generated};
+use crate::in_partition::on_order;
 use crate::say::say;
 use crate::stopped::Stopped;
-use crate::words::{Command, asked};
-use blk_source::{BlockSource, Opened, Sink};
+use crate::words::{Command, Order, asked};
+use blk_folder::{Folder, Given};
+use blk_source::{BlockSource, Opened, Sink, SureSource};
 use std::alloc::Global;
 use std::mem;
 use tree_rules::Profile;
@@ -24,17 +27,18 @@ use tree_rules::Profile;
 // Runs a command on what was handed in.
 fn on_opened<S: BlockSource, W: Sink>(
     alloc: Global,
+    in_partition: bool,
     command: Command<'_>,
     image: &mut Opened<S>,
     out: &mut W,
 ) -> Result<(), Stopped>
-    ensures answer { HasEnded S.bytes S.faults (Some (said command.entry)) image.old image.new result (sunk W.contents W.faults out.old out.new) }
+    ensures answer { HasCome (Some (line_in in_partition (said command.entry))) (looked_at S.bytes S.faults image.old image.new) None result (sunk W.contents W.faults out.old out.new) }
     ensures kept { IsOpenedKept S.bytes S.bytes_len image.old image.new }
 {
     match mem::replace(image, Opened::Absent) {
         Opened::Absent => Err(Stopped::NoImage),
         Opened::Image(src) => {
-            let (ended, src) = on_cache(alloc, command, src, out);
+            let (ended, src) = on_order(alloc, in_partition, command, src, out);
             *image = Opened::Image(src);
             ended
         }
@@ -48,12 +52,22 @@ fn decide<S: BlockSource, W: Sink>(
     image: &mut Opened<S>,
     out: &mut W,
 ) -> Result<(), Stopped>
-    ensures answer { HasEnded S.bytes S.faults (command_of (map string_bytes words.now)) image.old image.new result (sunk W.contents W.faults out.old out.new) }
+    ensures answer { HasCome (asked_of (map string_bytes words.now)) (looked_at S.bytes S.faults image.old image.new) None result (sunk W.contents W.faults out.old out.new) }
     ensures kept { IsOpenedKept S.bytes S.bytes_len image.old image.new }
 {
-    match asked(alloc, words)? {
-        Some(command) => on_opened(alloc, command, image, out),
-        None => Err(Stopped::Usage),
+    let found = match asked(alloc, words) {
+        Ok(found) => found,
+        Err(_) => return Err(Stopped::OutOfMemory),
+    };
+    match found {
+        Some(order) => match order {
+            Order::On {
+                in_partition,
+                command,
+            } => on_opened(alloc, in_partition, command, image, out),
+            Order::Gen(files) => generated::write(alloc, files, out, &mut None),
+        },
+        None => Err(Stopped::WrongWords),
     }
 }
 
@@ -67,53 +81,67 @@ fn close<E: Sink>(alloc: Global, ended: Result<(), Stopped>, err: &mut E) -> u8
     }
 }
 
-// Runs what the words ask for, and says why where there is no text.
-fn end<S: BlockSource, W: Sink, E: Sink>(
+// Runs what the words ask for, and says why where there is no text. No command takes a folder.
+fn end<S: BlockSource, W: Sink, E: Sink, F: Folder>(
     alloc: Global,
     words: &[String],
     image: &mut Opened<S>,
     out: &mut W,
     err: &mut E,
+    _folder: &mut Given<F>,
 ) -> u8
-    ensures answer { CameTo S.bytes S.faults (command_of (map string_bytes words.now)) image.old image.new result (sunk W.contents W.faults out.old out.new) (sunk E.contents E.faults err.old err.new) }
+    ensures answer { CameTo (asked_of (map string_bytes words.now)) (looked_at S.bytes S.faults image.old image.new) (stored_in F.contents F.faults _folder.old _folder.new) result (sunk W.contents W.faults out.old out.new) (sunk E.contents E.faults err.old err.new) }
     ensures kept { IsOpenedKept S.bytes S.bytes_len image.old image.new }
+    ensures given { IsGivenKept _folder.old _folder.new }
 {
     let ended = decide(alloc, words, image, out);
     close(alloc, ended, err)
 }
 
 /// The program once the words are read and the image is opened: writes the text of the command on `out` and nothing on
-/// `err`, or a line on `err` that says why not, and gives the status to end with.
-pub fn run<S: BlockSource, W: Sink, E: Sink>(
+/// `err`, or a line on `err` that says why not, and gives the status to end with. The folder stays what it was: no command takes one.
+pub fn run<S: BlockSource, W: Sink, E: Sink, F: Folder>(
     alloc: Global,
     words: &[String],
     image: &mut Opened<S>,
     out: &mut W,
     err: &mut E,
+    folder: &mut Given<F>,
 ) -> u8
-    // It comes to an outcome that words and image allow, has written its text, and says its line or a put of it fails.
-    ensures answer { CameTo S.bytes S.faults (command_of (map string_bytes words.now)) image.old image.new result (sunk W.contents W.faults out.old out.new) (sunk E.contents E.faults err.old err.new) }
+    // It comes to an outcome that the words and what is handed in allow, has written its text, and says its line or a put of it fails.
+    ensures answer { CameTo (asked_of (map string_bytes words.now)) (looked_at S.bytes S.faults image.old image.new) (stored_in F.contents F.faults folder.old folder.new) result (sunk W.contents W.faults out.old out.new) (sunk E.contents E.faults err.old err.new) }
     ensures kept { IsOpenedKept S.bytes S.bytes_len image.old image.new }
+    ensures given { IsGivenKept folder.old folder.new }
 
     // What each status says.
-    ensures text { result ≡ 0 → HasText S.bytes (command_of (map string_bytes words.now)) image.old (sunk W.contents W.faults out.old out.new) (sunk E.contents E.faults err.old err.new) }
-    ensures whole { HasDefinedText S.bytes (command_of (map string_bytes words.now)) image.old → IsWholeOrFree result }
-    ensures fault { result ≡ 1 → NamesFault S.bytes (command_of (map string_bytes words.now)) image.old (sunk W.contents W.faults out.old out.new) (sunk E.contents E.faults err.old err.new) }
-    ensures wrong_words { IsExactly result 2 (command_of (map string_bytes words.now) ≡ None) }
-    ensures usage { result ≡ 2 → BothWrote (sunk W.contents W.faults out.old out.new) (sunk E.contents E.faults err.old err.new) outcomes.Usage }
-    ensures read_failed { result ≡ 3 → SaysReadFailed S.bytes S.faults (command_of (map string_bytes words.now)) image.old image.new (sunk W.contents W.faults out.old out.new) (sunk E.contents E.faults err.old err.new) }
-    ensures write_failed { result ≡ 4 → HasFailedPut S.bytes (command_of (map string_bytes words.now)) image.old (sunk W.contents W.faults out.old out.new) (sunk E.contents E.faults err.old err.new) }
-    ensures out_of_memory { result ≡ 5 → SaysOutOfMemory S.bytes (command_of (map string_bytes words.now)) image.old (sunk W.contents W.faults out.old out.new) (sunk E.contents E.faults err.old err.new) }
-    ensures feature { result ≡ 6 → NamesFeature S.bytes (command_of (map string_bytes words.now)) image.old (sunk W.contents W.faults out.old out.new) (sunk E.contents E.faults err.old err.new) }
-    ensures answered { result ≡ 7 → NamesAnswer S.bytes (command_of (map string_bytes words.now)) image.old (sunk W.contents W.faults out.old out.new) (sunk E.contents E.faults err.old err.new) }
-    ensures always_answered { HasDefinedAnswer S.bytes (command_of (map string_bytes words.now)) image.old → IsAnsweredOrFree result }
-    ensures clean { HasSound S.bytes (command_of (map string_bytes words.now)) image.old → IsCleanOrFree result }
-    ensures flawed { HasUnsound S.bytes (command_of (map string_bytes words.now)) image.old → IsFoundOrFree result }
-    ensures completed { IsUndisturbed S.bytes S.faults (command_of (map string_bytes words.now)) image.old image.new (sunk W.contents W.faults out.old out.new) (sunk E.contents E.faults err.old err.new) → IsCompleted result }
-    ensures no_image { IsExactly result 8 (HasNoImage (command_of (map string_bytes words.now)) image.old) }
+    ensures text { result ≡ 0 → HasText (asked_of (map string_bytes words.now)) (looked_at S.bytes S.faults image.old image.new) (stored_in F.contents F.faults folder.old folder.new) (sunk W.contents W.faults out.old out.new) (sunk E.contents E.faults err.old err.new) }
+    ensures fault { result ≡ 1 → NamesFault (asked_of (map string_bytes words.now)) (looked_at S.bytes S.faults image.old image.new) (stored_in F.contents F.faults folder.old folder.new) (sunk W.contents W.faults out.old out.new) (sunk E.contents E.faults err.old err.new) }
+    ensures usage { result ≡ 2 → BothWrote (sunk W.contents W.faults out.old out.new) (sunk E.contents E.faults err.old err.new) outcomes.WrongWords }
+    ensures read_failed { result ≡ 3 → SaysReadFailed (asked_of (map string_bytes words.now)) (looked_at S.bytes S.faults image.old image.new) (stored_in F.contents F.faults folder.old folder.new) (sunk W.contents W.faults out.old out.new) (sunk E.contents E.faults err.old err.new) }
+    ensures write_failed { result ≡ 4 → HasFailedPut (asked_of (map string_bytes words.now)) (looked_at S.bytes S.faults image.old image.new) (stored_in F.contents F.faults folder.old folder.new) (sunk W.contents W.faults out.old out.new) (sunk E.contents E.faults err.old err.new) }
+    ensures out_of_memory { result ≡ 5 → SaysOutOfMemory (asked_of (map string_bytes words.now)) (looked_at S.bytes S.faults image.old image.new) (stored_in F.contents F.faults folder.old folder.new) (sunk W.contents W.faults out.old out.new) (sunk E.contents E.faults err.old err.new) }
+    ensures feature { result ≡ 6 → NamesFeature (asked_of (map string_bytes words.now)) (looked_at S.bytes S.faults image.old image.new) (stored_in F.contents F.faults folder.old folder.new) (sunk W.contents W.faults out.old out.new) (sunk E.contents E.faults err.old err.new) }
+    ensures answered { result ≡ 7 → NamesAnswer (asked_of (map string_bytes words.now)) (looked_at S.bytes S.faults image.old image.new) (stored_in F.contents F.faults folder.old folder.new) (sunk W.contents W.faults out.old out.new) (sunk E.contents E.faults err.old err.new) }
     ensures absent { result ≡ 8 → BothWrote (sunk W.contents W.faults out.old out.new) (sunk E.contents E.faults err.old err.new) outcomes.NoImage }
+    ensures nowhere { result ≡ 9 → BothWrote (sunk W.contents W.faults out.old out.new) (sunk E.contents E.faults err.old err.new) outcomes.NoFolder }
+
+    // When each status comes.
+    ensures wrong_words { IsExactly result 2 (asked_of (map string_bytes words.now) ≡ None) }
+    ensures no_image { IsExactly result 8 (HasNoImage (asked_of (map string_bytes words.now)) (looked_at S.bytes S.faults image.old image.new)) }
+    ensures no_folder { IsExactly result 9 (HasNoFolder (asked_of (map string_bytes words.now)) (looked_at S.bytes S.faults image.old image.new) (stored_in F.contents F.faults folder.old folder.new)) }
+    ensures no_part { (named : Named) → HasTableFault (asked_of (map string_bytes words.now)) (looked_at S.bytes S.faults image.old image.new) (stored_in F.contents F.faults folder.old folder.new) named → IsOrFree result 1 }
+    ensures whole { HasDefinedText (asked_of (map string_bytes words.now)) (looked_at S.bytes S.faults image.old image.new) (stored_in F.contents F.faults folder.old folder.new) → IsOrFree result 0 }
+    ensures always_answered { HasDefinedAnswer (asked_of (map string_bytes words.now)) (looked_at S.bytes S.faults image.old image.new) (stored_in F.contents F.faults folder.old folder.new) → IsOrFree result 7 }
+    ensures clean { HasSound (asked_of (map string_bytes words.now)) (looked_at S.bytes S.faults image.old image.new) (stored_in F.contents F.faults folder.old folder.new) → IsCleanOrFree result }
+    ensures flawed { HasUnsound (asked_of (map string_bytes words.now)) (looked_at S.bytes S.faults image.old image.new) (stored_in F.contents F.faults folder.old folder.new) → IsFoundOrFree result }
+    ensures completed { IsUndisturbed (asked_of (map string_bytes words.now)) (looked_at S.bytes S.faults image.old image.new) (stored_in F.contents F.faults folder.old folder.new) (sunk W.contents W.faults out.old out.new) (sunk E.contents E.faults err.old err.new) → IsCompleted result }
+
+    // What a stop leaves.
+    ensures lead { IsRefusal result → Wrote (W.contents out.old) (W.contents out.new) (lead_in (asked_of (map string_bytes words.now))) }
+    ensures turned_away { IsTurnedAway result → Wrote (W.contents out.old) (W.contents out.new) [] }
+    ensures folder_kept { (MayFill (asked_of (map string_bytes words.now)) (looked_at S.bytes S.faults image.old image.new) result → ⊥) → IsUntouched (stored_in F.contents F.faults folder.old folder.new) }
 {
-    end(alloc, words, image, out, err)
+    end(alloc, words, image, out, err, folder)
 }
 
 // Checks a container, and says why where there is no report.
@@ -124,7 +152,7 @@ fn end_check<S: BlockSource, W: Sink, E: Sink>(
     out: &mut W,
     err: &mut E,
 ) -> u8
-    ensures answer { CameTo S.bytes S.faults (Some (Check profile)) (Image src.old) (Image src.new) result (sunk W.contents W.faults out.old out.new) (sunk E.contents E.faults err.old err.new) }
+    ensures answer { CameTo (Some (plain_line (Check profile))) (Some (looked S.bytes S.faults src.old src.new)) None result (sunk W.contents W.faults out.old out.new) (sunk E.contents E.faults err.old err.new) }
     ensures kept { IsKept S.bytes S.bytes_len S.faults src.old src.new }
 {
     let ended = check::write(alloc, profile, src, out);
@@ -141,19 +169,41 @@ pub fn report<S: BlockSource, W: Sink, E: Sink>(
     err: &mut E,
 ) -> u8
     // It comes to an outcome of `check` that the image allows, has written its text, and says its line or a put of it fails.
-    ensures answer { CameTo S.bytes S.faults (Some (Check profile)) (Image src.old) (Image src.new) result (sunk W.contents W.faults out.old out.new) (sunk E.contents E.faults err.old err.new) }
+    ensures answer { CameTo (Some (plain_line (Check profile))) (Some (looked S.bytes S.faults src.old src.new)) None result (sunk W.contents W.faults out.old out.new) (sunk E.contents E.faults err.old err.new) }
     ensures kept { IsKept S.bytes S.bytes_len S.faults src.old src.new }
 
     // What each status says.
-    ensures text { result ≡ 0 → HasText S.bytes (Some (Check profile)) (Image src.old) (sunk W.contents W.faults out.old out.new) (sunk E.contents E.faults err.old err.new) }
-    ensures fault { result ≡ 1 → NamesFault S.bytes (Some (Check profile)) (Image src.old) (sunk W.contents W.faults out.old out.new) (sunk E.contents E.faults err.old err.new) }
-    ensures read_failed { result ≡ 3 → SaysReadFailed S.bytes S.faults (Some (Check profile)) (Image src.old) (Image src.new) (sunk W.contents W.faults out.old out.new) (sunk E.contents E.faults err.old err.new) }
-    ensures write_failed { result ≡ 4 → HasFailedPut S.bytes (Some (Check profile)) (Image src.old) (sunk W.contents W.faults out.old out.new) (sunk E.contents E.faults err.old err.new) }
-    ensures out_of_memory { result ≡ 5 → SaysOutOfMemory S.bytes (Some (Check profile)) (Image src.old) (sunk W.contents W.faults out.old out.new) (sunk E.contents E.faults err.old err.new) }
-    ensures feature { result ≡ 6 → NamesFeature S.bytes (Some (Check profile)) (Image src.old) (sunk W.contents W.faults out.old out.new) (sunk E.contents E.faults err.old err.new) }
-    ensures clean { (image : List ℕ) → S.bytes src.old ≡ Some image → IsWellFormed profile image → IsWholeOrFree result }
+    ensures text { result ≡ 0 → HasText (Some (plain_line (Check profile))) (Some (looked S.bytes S.faults src.old src.new)) None (sunk W.contents W.faults out.old out.new) (sunk E.contents E.faults err.old err.new) }
+    ensures fault { result ≡ 1 → NamesFault (Some (plain_line (Check profile))) (Some (looked S.bytes S.faults src.old src.new)) None (sunk W.contents W.faults out.old out.new) (sunk E.contents E.faults err.old err.new) }
+    ensures read_failed { result ≡ 3 → SaysReadFailed (Some (plain_line (Check profile))) (Some (looked S.bytes S.faults src.old src.new)) None (sunk W.contents W.faults out.old out.new) (sunk E.contents E.faults err.old err.new) }
+    ensures write_failed { result ≡ 4 → HasFailedPut (Some (plain_line (Check profile))) (Some (looked S.bytes S.faults src.old src.new)) None (sunk W.contents W.faults out.old out.new) (sunk E.contents E.faults err.old err.new) }
+    ensures out_of_memory { result ≡ 5 → SaysOutOfMemory (Some (plain_line (Check profile))) (Some (looked S.bytes S.faults src.old src.new)) None (sunk W.contents W.faults out.old out.new) (sunk E.contents E.faults err.old err.new) }
+    ensures feature { result ≡ 6 → NamesFeature (Some (plain_line (Check profile))) (Some (looked S.bytes S.faults src.old src.new)) None (sunk W.contents W.faults out.old out.new) (sunk E.contents E.faults err.old err.new) }
+    ensures clean { (image : List ℕ) → S.bytes src.old ≡ Some image → IsWellFormed profile image → IsOrFree result 0 }
     ensures flawed { (image : List ℕ) → S.bytes src.old ≡ Some image → (IsWellFormed profile image → ⊥) → IsFoundOrFree result }
-    ensures completed { IsUndisturbed S.bytes S.faults (Some (Check profile)) (Image src.old) (Image src.new) (sunk W.contents W.faults out.old out.new) (sunk E.contents E.faults err.old err.new) → IsCompleted result }
+    ensures completed { IsUndisturbed (Some (plain_line (Check profile))) (Some (looked S.bytes S.faults src.old src.new)) None (sunk W.contents W.faults out.old out.new) (sunk E.contents E.faults err.old err.new) → IsCompleted result }
+
+    // What a stop leaves.
+    ensures lead { IsRefusal result → Wrote (W.contents out.old) (W.contents out.new) [] }
 {
     end_check(alloc, src, profile, out, err)
+}
+
+/// What `gen` does: makes an image of so many files and leaves it in `made`, or None where memory ran out for it; writes how
+/// many there are and the report of the image on `out` and nothing on `err`, or a line on `err` that says why not, and gives the
+/// status to end with.
+pub fn gen_report<W: Sink, E: Sink>(
+    alloc: Global,
+    files: u32,
+    out: &mut W,
+    err: &mut E,
+    made: &mut Option<SureSource>,
+) -> u8
+    requires { files ≤ 20000 }
+    // It comes to an outcome over the image that is made, as `check` does, after the line that says how many files there are.
+    ensures answer { CameOver (Gen files) (option_map (λ source. source.bytes) made.new) result (sunk W.contents W.faults out.old out.new) (sunk E.contents E.faults err.old err.new) }
+    ensures statuses { IsOfMade result }
+{
+    let ended = generated::write(alloc, files, out, made);
+    close(alloc, ended, err)
 }

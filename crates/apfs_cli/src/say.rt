@@ -6,9 +6,9 @@ ghost use Rattle.apfs_cli.specs.Texts.{out_of_memory_line};
 ghost use Rattle.apfs_cli.specs.Texts as lines;
 ghost use Rattle.apfs_cli.specs.Written.{sunk, IsSaid, IsClosed};
 
-use crate::fault_text::fault_text;
+use crate::fault_text::named_fault_text;
+use crate::named::Named;
 use crate::stopped::Stopped;
-use apfs_check::Fault;
 use blk_source::Sink;
 use obj_base::Feature;
 use path_walk::Answer;
@@ -22,11 +22,11 @@ const OUT_OF_MEMORY: u8 = 5;
 
 const OUT_OF_MEMORY_LINE: &[u8] = b"apfs: out of memory\n";
 
-fn fault_line(alloc: Global, fault: &Fault) -> Result<Vec<u8>, AllocError>
-    ensures { IfOk result (λ line. line.items ≡ lines.fault_line (texts.fault_text fault.now)) }
+fn fault_line(alloc: Global, named: &Named) -> Result<Vec<u8>, AllocError>
+    ensures { IfOk result (λ line. line.items ≡ lines.fault_line (texts.named_fault_text named.now)) }
 {
     let mut line = String::from_str(alloc, "apfs: fault: ")?.into_bytes();
-    let text = fault_text(alloc, fault)?;
+    let text = named_fault_text(alloc, named)?;
     line.extend_from_slice(text.as_slice())?;
     line.push(b'\n')?;
     Ok(line)
@@ -81,8 +81,8 @@ pub fn say<E: Sink>(alloc: Global, stopped: Stopped, err: &mut E) -> u8
     ensures { (part : List ℕ) → IsClosed result (outcome_of (Err stopped) part) (sunk E.contents E.faults err.old err.new) }
 {
     match stopped {
-        Stopped::Faulty(fault) => put_built(1, fault_line(alloc, &fault), err),
-        Stopped::Usage => put_line(2, b"apfs: usage: apfs COMMAND IMAGE [WORDS]\n", err),
+        Stopped::Faulty(named) => put_built(1, fault_line(alloc, &named), err),
+        Stopped::WrongWords => put_line(2, b"apfs: usage: apfs COMMAND IMAGE [WORDS]\n", err),
         Stopped::ReadFailed => put_line(3, b"apfs: read failed\n", err),
         Stopped::WriteFailed => WRITE_FAILED,
         Stopped::OutOfMemory => put_line(OUT_OF_MEMORY, OUT_OF_MEMORY_LINE, err),
@@ -91,5 +91,6 @@ pub fn say<E: Sink>(alloc: Global, stopped: Stopped, err: &mut E) -> u8
         }
         Stopped::Answered(answer) => put_line(7, answer_line(answer), err),
         Stopped::NoImage => put_line(8, b"apfs: no image\n", err),
+        Stopped::NoFolder => put_line(9, b"apfs: no folder\n", err),
     }
 }

@@ -3,7 +3,8 @@ ghost use Rattle.std.specs.Prelude.{◌≡◌};
 ghost use Rattle.apfs_cli.specs.Seen.{stopped_at};
 ghost use Rattle.apfs_cli.specs.declared.stopped.Stopped.TheVariants as stops;
 
-use apfs_check::{Fault, Raise};
+use crate::named::Named;
+use apfs_check::Raise;
 use obj_base::{Feature, Stop};
 use path_walk::Answer;
 use std::alloc::AllocError;
@@ -12,12 +13,12 @@ use std::alloc::AllocError;
 #[derive(Debug, Drop)]
 pub enum Stopped {
     /// A fault. Status 1.
-    Faulty(Fault),
+    Faulty(Named),
     /// The words are no line of the program. Status 2.
-    Usage,
+    WrongWords,
     /// A read of the image failed. Status 3.
     ReadFailed,
-    /// A put of the text failed. Status 4.
+    /// A put of the text failed, or one into the folder. Status 4.
     WriteFailed,
     /// Memory ran out. Status 5.
     OutOfMemory,
@@ -27,6 +28,8 @@ pub enum Stopped {
     Answered(Answer),
     /// No image was handed in. Status 8.
     NoImage,
+    /// No folder was handed in. Status 9.
+    NoFolder,
 }
 
 impl From<AllocError> for Stopped {
@@ -42,7 +45,7 @@ pub fn stopped_by<P: Copy, F: Raise<P> + Drop>(stop: Stop<F>, place: P) -> Stopp
     ensures { result ≡ stopped_at (F.raises place) stop }
 {
     match stop {
-        Stop::Found(fault) => Stopped::Faulty(fault.raise(place)),
+        Stop::Found(fault) => Stopped::Faulty(Named::InContainer(fault.raise(place))),
         Stop::Unsupported { feature, block } => Stopped::Refused { feature, block },
         Stop::ReadFault => Stopped::ReadFailed,
         Stop::NoMemory => Stopped::OutOfMemory,

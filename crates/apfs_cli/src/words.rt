@@ -3,12 +3,15 @@ ghost use Rattle.std.specs.Prelude.{◌≡◌, map, option_map, IfOk};
 ghost use Rattle.std.specs.String.{string_bytes};
 ghost use Rattle.cmd_words.specs.Asked.{asked_by, flags_asked};
 ghost use Rattle.apfs_cli.specs.ByCommand as by_command;
-ghost use Rattle.apfs_cli.specs.Words.{command_of, said};
+ghost use Rattle.apfs_cli.specs.Words.{command_of, plain_of, asked_of, said, line_in, line_said, count_said, files_said, gen_files};
 ghost use Rattle.apfs_cli.specs.Words as lines;
 
 use cmd_words::{Flags, Line, Target, line_in};
 use std::alloc::{AllocError, Global};
 use tree_rules::Profile;
+
+// The most files of an image that is made.
+const MOST_FILES: u32 = 20_000;
 
 /// Whether the container is checked before a command looks at it.
 #[derive(Clone, Copy, PartialEq, Eq, Debug)]
@@ -44,6 +47,20 @@ pub enum Command<'a> {
     Xattr(Checks, Target<'a>, Option<&'a str>),
 }
 
+/// What a line asks for.
+#[derive(Clone, Copy, PartialEq, Eq, Debug)]
+pub enum Order<'a> {
+    /// A command on an image.
+    On {
+        /// Whether the image is the partition of a disk that holds a container.
+        in_partition: bool,
+        /// The command.
+        command: Command<'a>,
+    },
+    /// An image of so many files, 20,000 at most, and whether its container is well-formed.
+    Gen(u32),
+}
+
 impl Command<'_> {
     /// Whether the container is checked first.
     pub fn checks(self) -> Checks
@@ -54,18 +71,6 @@ impl Command<'_> {
             Command::Space | Command::Check(_) | Command::Snapshots(_) => Checks::Quick,
             Command::Ls(checks, _) | Command::Tree(checks, _) => checks,
             Command::Cat(checks, _) | Command::Xattr(checks, ..) => checks,
-        }
-    }
-
-    /// Whether it takes an image.
-    pub fn takes_image(self) -> bool
-        ensures { result ≡ by_command.takes_image (said self.entry) }
-    {
-        match self {
-            Command::Ring | Command::Info | Command::Volumes => true,
-            Command::Space | Command::Check(_) | Command::Snapshots(_) => true,
-            Command::Ls(..) | Command::Tree(..) => true,
-            Command::Cat(..) | Command::Xattr(..) => true,
         }
     }
 }
@@ -110,13 +115,128 @@ fn built<'a>(line: Line<'a>) -> Command<'a>
     }
 }
 
-/// What the words ask for; None where they are no line of the program.
+// What words ask for that ask for a command on an image.
 #[tactic(auto, unfolding(crate::specs::Words::command_of))]
-pub fn asked<'a>(alloc: Global, words: &'a [String]) -> Result<Option<Command<'a>>, AllocError>
+fn command_in<'a>(alloc: Global, words: &'a [String]) -> Result<Option<Command<'a>>, AllocError>
     ensures { IfOk result (λ command. option_map said command ≡ command_of (map string_bytes words.entry.now)) }
 {
     match line_in(alloc, words)? {
         Some(line) => Ok(Some(built(line))),
         None => Ok(None),
+    }
+}
+
+// What a command asks for, on what is handed in or on a partition of it.
+fn order_in<'a>(
+    alloc: Global,
+    words: &'a [String],
+    in_partition: bool,
+) -> Result<Option<Order<'a>>, AllocError>
+    ensures { IfOk result (λ order. option_map line_said order ≡ option_map (line_in in_partition) (command_of (map string_bytes words.entry.now))) }
+{
+    match command_in(alloc, words)? {
+        Some(command) => Ok(Some(Order::On {
+            in_partition,
+            command,
+        })),
+        None => Ok(None),
+    }
+}
+
+// The number of a digit other than `0`.
+fn leading(byte: u8) -> Option<u32>
+    ensures { result ≡ lines.leading byte }
+{
+    match byte {
+        b'1'..=b'9' => Some(u32::from(byte - b'0')),
+        _ => None,
+    }
+}
+
+// A number of four digits at most, and one digit more.
+fn joined(before: Option<u32>, byte: u8) -> Option<u32>
+    ensures { result ≡ lines.joined before byte }
+{
+    match (before, byte) {
+        (Some(number), b'0'..=b'9') if number <= 9999 => Some(10 * number + u32::from(byte - b'0')),
+        _ => None,
+    }
+}
+
+// One to five decimal digits without a leading zero, or `0`.
+fn count_of(text: &str) -> Option<u32>
+    ensures { result ≡ count_said text.now }
+{
+    match text.as_bytes() {
+        [b'0'] => Some(0),
+        [a] => leading(*a),
+        [a, b] => joined(leading(*a), *b),
+        [a, b, c] => joined(joined(leading(*a), *b), *c),
+        [a, b, c, d] => joined(joined(joined(leading(*a), *b), *c), *d),
+        [a, b, c, d, e] => joined(joined(joined(joined(leading(*a), *b), *c), *d), *e),
+        _ => None,
+    }
+}
+
+// A number of files that can be made.
+fn files_of(text: &str) -> Option<u32>
+    ensures { result ≡ files_said text.now }
+{
+    match count_of(text) {
+        Some(files) if files <= MOST_FILES => Some(files),
+        _ => None,
+    }
+}
+
+// How many files are asked for, where the command is `gen`.
+fn files_named(command: &str, count: &str) -> Option<u32>
+    ensures { result ≡ lines.files_named command.now count.now }
+{
+    match command {
+        "gen" => files_of(count),
+        _ => None,
+    }
+}
+
+// How many files `gen` is asked for.
+fn files_in(words: &[String]) -> Option<u32>
+    ensures { result ≡ gen_files (map string_bytes words.entry.now) }
+{
+    match words {
+        [command, count] => files_named(command.as_str(), count.as_str()),
+        _ => None,
+    }
+}
+
+// What words ask for that don't ask for a partition.
+fn plain_in<'a>(alloc: Global, words: &'a [String]) -> Result<Option<Order<'a>>, AllocError>
+    ensures { IfOk result (λ order. option_map line_said order ≡ plain_of (map string_bytes words.entry.now)) }
+{
+    match files_in(words) {
+        Some(files) => Ok(Some(Order::Gen(files))),
+        None => order_in(alloc, words, false),
+    }
+}
+
+// The words after `--gpt`, where they begin so.
+fn after_gpt(words: &[String]) -> Option<&[String]>
+    ensures { option_map (λ rest. map string_bytes rest.now) result ≡ lines.after_gpt (map string_bytes words.entry.now) }
+{
+    let [first, rest @ ..] = words else {
+        return None;
+    };
+    match first.as_str() {
+        "--gpt" => Some(rest),
+        _ => None,
+    }
+}
+
+/// What the words ask for; None where they are no line of the program.
+pub fn asked<'a>(alloc: Global, words: &'a [String]) -> Result<Option<Order<'a>>, AllocError>
+    ensures { IfOk result (λ order. option_map line_said order ≡ asked_of (map string_bytes words.entry.now)) }
+{
+    match after_gpt(words) {
+        Some(rest) => order_in(alloc, rest, true),
+        None => plain_in(alloc, words),
     }
 }

@@ -4,13 +4,18 @@ ghost use Rattle.std.specs.Prelude.{replicate};
 mod cases;
 mod checks;
 mod contents;
+mod disks;
+mod generated;
 mod images;
 
-use apfs_cli::{Line, put_lines, report, run};
-use blk_source::{MemSink, MemSource, Opened, StdSink};
+use apfs_cli::{Line, gen_report, put_lines, report, run};
+use blk_folder::{Given, MemFolder};
+use blk_source::{BlockSource, MemSink, MemSource, Opened, StdSink};
 use cases::*;
 use checks::{CHECK, CHECK_CASES, FIRST_CASES, LEAKED, MARKED, NINE_VIEWS, SMALL_REPORT};
 use contents::*;
+use disks::{DISK, DISK_CASES, GPT_RING};
+use generated::{GEN, GEN_CASES, GEN_TEXT};
 use images::{Image, handed};
 use std::alloc::{AllocError, Global};
 use std::cell::Cell;
@@ -28,6 +33,7 @@ struct Ended {
     out: MemSink,
     err: MemSink,
     reads: u64,
+    items: usize,
 }
 
 // The number of the read of the image, and of the put on each sink, that is refused; none where it is 0.
@@ -53,7 +59,12 @@ fn end(alloc: Global, image: Image, words: &[&str], refused: Refused) -> Result<
     let mut image = handed(alloc, image, [refused.read].to_vec(alloc)?)?;
     let mut out = MemSink::new(alloc, ROOM, [refused.put].to_vec(alloc)?)?;
     let mut err = MemSink::new(alloc, ROOM, [refused.line].to_vec(alloc)?)?;
-    let status = run(alloc, &words, &mut image, &mut out, &mut err);
+    let mut folder = Given::Into(MemFolder::new(alloc, 1, 1, Vec::new(alloc))?);
+    let status = run(alloc, &words, &mut image, &mut out, &mut err, &mut folder);
+    let items = match &folder {
+        Given::Nothing => 0,
+        Given::Into(folder) => folder.len(),
+    };
     let reads = match &image {
         Opened::Absent => 0,
         Opened::Image(source) => source.read_count(),
@@ -63,12 +74,14 @@ fn end(alloc: Global, image: Image, words: &[&str], refused: Refused) -> Result<
         out,
         err,
         reads,
+        items,
     })
 }
 
-// Whether a run ended with this status, this text and this line.
+// Whether a run ended with this status, this text and this line, and put nothing into the folder.
 fn ended_with(ended: &Ended, status: u8, text: &str, line: &str) -> bool {
     ended.status == status
+        && ended.items == 0
         && ended.out.contents() == text.as_bytes()
         && ended.err.contents() == line.as_bytes()
 }
@@ -105,6 +118,11 @@ fn view_cases_end_as_said(rt: HostRuntime) -> Result<(), Fail> {
 }
 
 #[test]
+fn disk_cases_end_as_said(rt: HostRuntime) -> Result<(), Fail> {
+    end_as_said(&rt, rt.alloc(), DISK_CASES)
+}
+
+#[test]
 fn check_cases_end_as_said(rt: HostRuntime) -> Result<(), Fail> {
     end_as_said(&rt, rt.alloc(), CHECK_CASES)
 }
@@ -128,6 +146,42 @@ fn reports_end_as_said(rt: HostRuntime) -> Result<(), Fail> {
         assert!(rt; out.contents() == ends.text().as_bytes());
         assert!(rt; err.contents() == ends.line().as_bytes());
     }
+    Ok(())
+}
+
+#[test]
+fn gen_cases_end_as_said(rt: HostRuntime) -> Result<(), Fail> {
+    end_as_said(&rt, rt.alloc(), GEN_CASES)
+}
+
+#[test]
+fn failure_of_each_put_of_gen(rt: HostRuntime) -> Result<(), Fail> {
+    let alloc = rt.alloc();
+    for (number, status, text) in [(1, 4, ""), (2, 4, "generated 1\n"), (3, 0, GEN_TEXT)] {
+        let refused = Refused {
+            read: 0,
+            put: number,
+            line: 0,
+        };
+        let ended = end(alloc, Image::Absent, GEN, refused)?;
+        let as_said = ended_with(&ended, status, text, "");
+        assert!(rt; as_said, "put {number}: status {}", ended.status);
+    }
+    Ok(())
+}
+
+// `gen_report` is what `gen` does, and leaves the image of 1,028 blocks.
+#[test]
+fn a_generated_report_leaves_its_image(rt: HostRuntime) -> Result<(), Fail> {
+    let alloc = rt.alloc();
+    let mut out = MemSink::new(alloc, ROOM, Vec::new(alloc))?;
+    let mut err = MemSink::new(alloc, ROOM, Vec::new(alloc))?;
+    let mut made = None;
+    let status = gen_report(alloc, 1, &mut out, &mut err, &mut made);
+    let size = made.map_or(0, |source| source.size());
+    assert_eq!(rt; (status, size), (0, 1028 * 4096));
+    assert!(rt; out.contents() == GEN_TEXT.as_bytes());
+    assert!(rt; err.contents().is_empty());
     Ok(())
 }
 
@@ -220,6 +274,17 @@ fn failure_of_each_read(rt: HostRuntime) -> Result<(), Fail> {
             most: 43,
         },
     ];
+    fail_at_each_read(&rt, rt.alloc(), &rows)
+}
+
+#[test]
+fn failure_of_each_read_of_a_disk(rt: HostRuntime) -> Result<(), Fail> {
+    let rows = [Reads {
+        image: Image::Disk(DISK),
+        words: GPT_RING,
+        least: 11,
+        most: 39,
+    }];
     fail_at_each_read(&rt, rt.alloc(), &rows)
 }
 
@@ -415,7 +480,8 @@ fn what_is_written_is_flushed(rt: HostRuntime) -> Result<(), Fail> {
             shown: &said,
         });
         let mut image = handed(alloc, image, Vec::new(alloc))?;
-        let _status = run(alloc, &words, &mut image, &mut out, &mut err);
+        let mut folder: Given<MemFolder> = Given::Nothing;
+        let _status = run(alloc, &words, &mut image, &mut out, &mut err, &mut folder);
         assert_eq!(rt;
             (shown.get(), said.get()),
             (on_out.len() as u64, on_err.len() as u64)
@@ -450,6 +516,11 @@ fn failure_of_each_put(rt: HostRuntime) -> Result<(), Fail> {
 #[test]
 fn failure_of_each_put_of_features(rt: HostRuntime) -> Result<(), Fail> {
     fail_at_the_first_put(&rt, rt.alloc(), FEATURE_CASES)
+}
+
+#[test]
+fn failure_of_each_put_of_disks(rt: HostRuntime) -> Result<(), Fail> {
+    fail_at_the_first_put(&rt, rt.alloc(), DISK_CASES)
 }
 
 #[test]

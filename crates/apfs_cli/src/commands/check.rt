@@ -1,12 +1,12 @@
 // The command `check`.
-ghost use Rattle.std.specs.Prelude.{◌≡◌, Some, IfOk};
+ghost use Rattle.std.specs.Prelude.{◌≡◌, IfOk};
 ghost use Rattle.std.specs.String.{string_bytes};
 ghost use Rattle.apfs_model.specs.Source.{IsKept};
 ghost use Rattle.apfs_cli.specs.ReportText.{note_text, note_line, things_text, blocks_text, head_text, report_text};
+ghost use Rattle.apfs_cli.specs.Handed.{looked};
 ghost use Rattle.apfs_cli.specs.Says.{HasEnded};
 ghost use Rattle.apfs_cli.specs.Words.{Check};
 ghost use Rattle.apfs_cli.specs.Written.{sunk, IsPut};
-ghost use Rattle.blk_source.specs.declared.source.Opened.TheVariants.{Image};
 
 use crate::commands::checked::checked;
 use crate::fault_places as places;
@@ -109,7 +109,7 @@ pub fn write<S: BlockSource, W: Sink>(
     src: &mut S,
     out: &mut W,
 ) -> Result<(), Stopped>
-    ensures answer { HasEnded S.bytes S.faults (Some (Check profile)) (Image src.old) (Image src.new) result (sunk W.contents W.faults out.old out.new) }
+    ensures answer { HasEnded (Check profile) (looked S.bytes S.faults src.old src.new) result (sunk W.contents W.faults out.old out.new) }
     ensures kept { IsKept S.bytes S.bytes_len S.faults src.old src.new }
 {
     match checked(alloc, profile, src) {

@@ -1,14 +1,14 @@
 // The command `info`.
-ghost use Rattle.std.specs.Prelude.{◌≡◌, IfOk, Some};
+ghost use Rattle.std.specs.Prelude.{◌≡◌, IfOk};
 ghost use Rattle.std.specs.String.{string_bytes};
 ghost use Rattle.apfs_model.specs.Source.{IsKept};
 ghost use Rattle.nx_block.specs.Super.{uuid_of};
 ghost use Rattle.apfs_cli.specs.Commands.Info.{container_text, checkpoint_text, info_text};
 ghost use Rattle.apfs_cli.specs.Names.{uuid_text};
+ghost use Rattle.apfs_cli.specs.Handed.{looked};
 ghost use Rattle.apfs_cli.specs.Says.{HasEnded};
 ghost use Rattle.apfs_cli.specs.Words.{Info};
 ghost use Rattle.apfs_cli.specs.Written.{sunk, IsPut};
-ghost use Rattle.blk_source.specs.declared.source.Opened.TheVariants.{Image};
 
 use crate::put::put;
 use crate::shown::identifier;
@@ -68,7 +68,7 @@ pub fn write<S: BlockSource, W: Sink>(
     src: &mut S,
     out: &mut W,
 ) -> Result<(), Stopped>
-    ensures answer { HasEnded S.bytes S.faults (Some Info) (Image src.old) (Image src.new) result (sunk W.contents W.faults out.old out.new) }
+    ensures answer { HasEnded Info (looked S.bytes S.faults src.old src.new) result (sunk W.contents W.faults out.old out.new) }
     ensures kept { IsKept S.bytes S.bytes_len S.faults src.old src.new }
 {
     match newest(alloc, src) {

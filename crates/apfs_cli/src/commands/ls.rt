@@ -1,13 +1,12 @@
 // The command `ls`.
-ghost use Rattle.std.specs.Prelude.{◌≡◌, Some};
 ghost use Rattle.apfs_model.specs.Source.{IsKept};
 ghost use Rattle.cmd_words.specs.Asked.{target_asked};
 ghost use Rattle.path_walk.specs.Texts.{target_text};
+ghost use Rattle.apfs_cli.specs.Handed.{looked};
 ghost use Rattle.apfs_cli.specs.Says.{HasEnded};
 ghost use Rattle.apfs_cli.specs.Words.{Ls};
 ghost use Rattle.apfs_cli.specs.declared.words.Checks.TheVariants.{Quick};
 ghost use Rattle.apfs_cli.specs.Written.{sunk};
-ghost use Rattle.blk_source.specs.declared.source.Opened.TheVariants.{Image};
 
 use crate::meant_view::reach_view;
 use crate::on_path::stopped_on_path;
@@ -35,7 +34,7 @@ pub fn write<S: BlockSource, W: Sink>(
     src: &mut S,
     out: &mut W,
 ) -> Result<(), Stopped>
-    ensures answer { HasEnded S.bytes S.faults (Some (Ls Quick (target_asked target.entry))) (Image src.old) (Image src.new) result (sunk W.contents W.faults out.old out.new) }
+    ensures answer { HasEnded (Ls Quick (target_asked target.entry)) (looked S.bytes S.faults src.old src.new) result (sunk W.contents W.faults out.old out.new) }
     ensures kept { IsKept S.bytes S.bytes_len S.faults src.old src.new }
 {
     let viewed = match reach_view(alloc, src, target) {

@@ -1,11 +1,10 @@
 // The command `snapshots`.
-ghost use Rattle.std.specs.Prelude.{◌≡◌, Some};
 ghost use Rattle.apfs_model.specs.Source.{IsKept};
 ghost use Rattle.apfs_cli.specs.Commands.Snapshots.{snapshot_text, snapshots_text};
+ghost use Rattle.apfs_cli.specs.Handed.{looked};
 ghost use Rattle.apfs_cli.specs.Says.{HasEnded};
 ghost use Rattle.apfs_cli.specs.Words.{Snapshots};
 ghost use Rattle.apfs_cli.specs.Written.{sunk, IsPut};
-ghost use Rattle.blk_source.specs.declared.source.Opened.TheVariants.{Image};
 
 use crate::meant::reach;
 use crate::put::{Line, put_lines};
@@ -43,7 +42,7 @@ pub fn write<S: BlockSource, W: Sink>(
     src: &mut S,
     out: &mut W,
 ) -> Result<(), Stopped>
-    ensures answer { HasEnded S.bytes S.faults (Some (Snapshots volume)) (Image src.old) (Image src.new) result (sunk W.contents W.faults out.old out.new) }
+    ensures answer { HasEnded (Snapshots volume) (looked S.bytes S.faults src.old src.new) result (sunk W.contents W.faults out.old out.new) }
     ensures kept { IsKept S.bytes S.bytes_len S.faults src.old src.new }
 {
     match reach(alloc, src, volume) {

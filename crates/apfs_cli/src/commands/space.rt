@@ -12,10 +12,10 @@ ghost use Rattle.space_pool.specs.declared.entry.Queue.TheVariants.{Pool};
 ghost use Rattle.space_pool.specs.Stops.{ArePoolBits, AreQueued};
 ghost use Rattle.apfs_cli.specs.Commands.Space.{head_text, chunk_text, chunks_text, pool_text, queue_text, space_text};
 ghost use Rattle.apfs_cli.specs.Commands.Space as texts;
+ghost use Rattle.apfs_cli.specs.Handed.{looked};
 ghost use Rattle.apfs_cli.specs.Says.{HasEnded};
 ghost use Rattle.apfs_cli.specs.Words as asked;
 ghost use Rattle.apfs_cli.specs.Written.{sunk, IsPut};
-ghost use Rattle.blk_source.specs.declared.source.Opened.TheVariants.{Image};
 
 use crate::put::put;
 use crate::stopped::{Stopped, stopped_by};
@@ -176,7 +176,7 @@ fn write_main<S: BlockSource, W: Sink>(
     requires space { (image : List ℕ) → S.bytes src.old ≡ Some image → IsSpaceOf image checkpoint.now space.now }
     requires bits { (image : List ℕ) → S.bytes src.old ≡ Some image → ArePoolBits image checkpoint.now space.now.manager bits.now }
     requires pool { (image : List ℕ) → S.bytes src.old ≡ Some image → AreQueued image checkpoint.now space.now.manager Pool pool.now }
-    ensures answer { HasEnded S.bytes S.faults (Some asked.Space) (Image src.old) (Image src.new) result (sunk W.contents W.faults out.old out.new) }
+    ensures answer { HasEnded asked.Space (looked S.bytes S.faults src.old src.new) result (sunk W.contents W.faults out.old out.new) }
     ensures kept { IsKept S.bytes S.bytes_len S.faults src.old src.new }
 {
     match queue(alloc, src, checkpoint, space, Queue::Main) {
@@ -199,7 +199,7 @@ fn write_pool<S: BlockSource, W: Sink>(
     requires found { (image : List ℕ) → S.bytes src.old ≡ Some image → newest_of image ≡ Ok checkpoint.now }
     requires space { (image : List ℕ) → S.bytes src.old ≡ Some image → IsSpaceOf image checkpoint.now space.now }
     requires bits { (image : List ℕ) → S.bytes src.old ≡ Some image → ArePoolBits image checkpoint.now space.now.manager bits.now }
-    ensures answer { HasEnded S.bytes S.faults (Some asked.Space) (Image src.old) (Image src.new) result (sunk W.contents W.faults out.old out.new) }
+    ensures answer { HasEnded asked.Space (looked S.bytes S.faults src.old src.new) result (sunk W.contents W.faults out.old out.new) }
     ensures kept { IsKept S.bytes S.bytes_len S.faults src.old src.new }
 {
     match queue(alloc, src, checkpoint, space, Queue::Pool) {
@@ -220,7 +220,7 @@ fn write_of<S: BlockSource, W: Sink>(
     requires plain { container_features checkpoint.now.nx ≡ [] }
     requires found { (image : List ℕ) → S.bytes src.old ≡ Some image → newest_of image ≡ Ok checkpoint.now }
     requires space { (image : List ℕ) → S.bytes src.old ≡ Some image → IsSpaceOf image checkpoint.now space.now }
-    ensures answer { HasEnded S.bytes S.faults (Some asked.Space) (Image src.old) (Image src.new) result (sunk W.contents W.faults out.old out.new) }
+    ensures answer { HasEnded asked.Space (looked S.bytes S.faults src.old src.new) result (sunk W.contents W.faults out.old out.new) }
     ensures kept { IsKept S.bytes S.bytes_len S.faults src.old src.new }
 {
     match pool_bits(alloc, src, checkpoint, space) {
@@ -239,7 +239,7 @@ fn write_at<S: BlockSource, W: Sink>(
     requires site { IsSiteFor (site_of checkpoint.now) (S.bytes_len src.old) }
     requires plain { container_features checkpoint.now.nx ≡ [] }
     requires found { (image : List ℕ) → S.bytes src.old ≡ Some image → newest_of image ≡ Ok checkpoint.now }
-    ensures answer { HasEnded S.bytes S.faults (Some asked.Space) (Image src.old) (Image src.new) result (sunk W.contents W.faults out.old out.new) }
+    ensures answer { HasEnded asked.Space (looked S.bytes S.faults src.old src.new) result (sunk W.contents W.faults out.old out.new) }
     ensures kept { IsKept S.bytes S.bytes_len S.faults src.old src.new }
 {
     match Space::load(alloc, src, checkpoint) {
@@ -254,7 +254,7 @@ pub fn write<S: BlockSource, W: Sink>(
     src: &mut S,
     out: &mut W,
 ) -> Result<(), Stopped>
-    ensures answer { HasEnded S.bytes S.faults (Some asked.Space) (Image src.old) (Image src.new) result (sunk W.contents W.faults out.old out.new) }
+    ensures answer { HasEnded asked.Space (looked S.bytes S.faults src.old src.new) result (sunk W.contents W.faults out.old out.new) }
     ensures kept { IsKept S.bytes S.bytes_len S.faults src.old src.new }
 {
     match newest(alloc, src) {

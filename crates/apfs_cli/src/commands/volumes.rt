@@ -9,10 +9,10 @@ ghost use Rattle.nx_ring.specs.Newest.{newest_of};
 ghost use Rattle.apfs_cli.specs.Commands.Volumes.{prefix_text, volume_text};
 ghost use Rattle.apfs_cli.specs.Commands.Volumes as texts;
 ghost use Rattle.apfs_cli.specs.Names.{uuid_text};
+ghost use Rattle.apfs_cli.specs.Handed.{looked};
 ghost use Rattle.apfs_cli.specs.Says.{HasEnded};
 ghost use Rattle.apfs_cli.specs.Words.{Volumes};
 ghost use Rattle.apfs_cli.specs.Written.{sunk};
-ghost use Rattle.blk_source.specs.declared.source.Opened.TheVariants.{Image};
 
 use crate::put::{Line, put_lines};
 use crate::shown::identifier;
@@ -69,7 +69,7 @@ fn write_at<S: BlockSource, W: Sink>(
     requires site { IsSiteFor (site_of checkpoint.now) (S.bytes_len src.old) }
     requires plain { container_features checkpoint.now.nx ≡ [] }
     requires found { (image : List ℕ) → S.bytes src.old ≡ Some image → newest_of image ≡ Ok checkpoint.now }
-    ensures answer { HasEnded S.bytes S.faults (Some Volumes) (Image src.old) (Image src.new) result (sunk W.contents W.faults out.old out.new) }
+    ensures answer { HasEnded Volumes (looked S.bytes S.faults src.old src.new) result (sunk W.contents W.faults out.old out.new) }
     ensures kept { IsKept S.bytes S.bytes_len S.faults src.old src.new }
 {
     match heads(alloc, src, checkpoint) {
@@ -84,7 +84,7 @@ pub fn write<S: BlockSource, W: Sink>(
     src: &mut S,
     out: &mut W,
 ) -> Result<(), Stopped>
-    ensures answer { HasEnded S.bytes S.faults (Some Volumes) (Image src.old) (Image src.new) result (sunk W.contents W.faults out.old out.new) }
+    ensures answer { HasEnded Volumes (looked S.bytes S.faults src.old src.new) result (sunk W.contents W.faults out.old out.new) }
     ensures kept { IsKept S.bytes S.bytes_len S.faults src.old src.new }
 {
     match newest(alloc, src) {

@@ -1,13 +1,13 @@
 // The command `xattr`.
-ghost use Rattle.std.specs.Prelude.{◌≡◌, None, Some, option_map};
+ghost use Rattle.std.specs.Prelude.{None, Some, option_map};
 ghost use Rattle.apfs_model.specs.Source.{IsKept};
 ghost use Rattle.cmd_words.specs.Asked.{target_asked};
 ghost use Rattle.path_read.specs.Texts.{attribute_text};
+ghost use Rattle.apfs_cli.specs.Handed.{looked};
 ghost use Rattle.apfs_cli.specs.Says.{HasEnded};
 ghost use Rattle.apfs_cli.specs.Words.{Xattr};
 ghost use Rattle.apfs_cli.specs.declared.words.Checks.TheVariants.{Quick};
 ghost use Rattle.apfs_cli.specs.Written.{sunk};
-ghost use Rattle.blk_source.specs.declared.source.Opened.TheVariants.{Image};
 
 use crate::meant_view::reach_view;
 use crate::on_path::{stopped_on_path, stopped_on_write};
@@ -40,7 +40,7 @@ fn write_all<S: BlockSource, W: Sink>(
     src: &mut S,
     out: &mut W,
 ) -> Result<(), Stopped>
-    ensures answer { HasEnded S.bytes S.faults (Some (Xattr Quick (target_asked target.entry) None)) (Image src.old) (Image src.new) result (sunk W.contents W.faults out.old out.new) }
+    ensures answer { HasEnded (Xattr Quick (target_asked target.entry) None) (looked S.bytes S.faults src.old src.new) result (sunk W.contents W.faults out.old out.new) }
     ensures kept { IsKept S.bytes S.bytes_len S.faults src.old src.new }
 {
     let viewed = match reach_view(alloc, src, target) {
@@ -62,7 +62,7 @@ fn write_one<S: BlockSource, W: Sink>(
     src: &mut S,
     out: &mut W,
 ) -> Result<(), Stopped>
-    ensures answer { HasEnded S.bytes S.faults (Some (Xattr Quick (target_asked target.entry) (Some name.now))) (Image src.old) (Image src.new) result (sunk W.contents W.faults out.old out.new) }
+    ensures answer { HasEnded (Xattr Quick (target_asked target.entry) (Some name.now)) (looked S.bytes S.faults src.old src.new) result (sunk W.contents W.faults out.old out.new) }
     ensures kept { IsKept S.bytes S.bytes_len S.faults src.old src.new }
 {
     let viewed = match reach_view(alloc, src, target) {
@@ -93,7 +93,7 @@ pub fn write<S: BlockSource, W: Sink>(
     src: &mut S,
     out: &mut W,
 ) -> Result<(), Stopped>
-    ensures answer { HasEnded S.bytes S.faults (Some (Xattr Quick (target_asked target.entry) (option_map (λ text. text.now) name.entry))) (Image src.old) (Image src.new) result (sunk W.contents W.faults out.old out.new) }
+    ensures answer { HasEnded (Xattr Quick (target_asked target.entry) (option_map (λ text. text.now) name.entry)) (looked S.bytes S.faults src.old src.new) result (sunk W.contents W.faults out.old out.new) }
     ensures kept { IsKept S.bytes S.bytes_len S.faults src.old src.new }
 {
     match name {

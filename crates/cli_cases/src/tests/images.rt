@@ -1,4 +1,5 @@
 // The images that the cases are run on, each one fact away from a good one.
+use crate::tests::disks::{Disk, sectors, write_table};
 use apfs_layout::container::{BLOCKED, DESC_BLOCKS, FS_OID, INCOMPAT};
 use apfs_layout::key::LEN_AND_HASH;
 use apfs_layout::node::{INFO_LEN, KEY_COUNT, TABLE};
@@ -144,6 +145,8 @@ pub enum Image {
     Unhashed,
     /// A sample, changed.
     Made(Base, &'static [Change]),
+    /// A disk whose partition is the small container.
+    Disk(Disk),
 }
 
 fn made(alloc: Global, plan: &Plan) -> Result<Vec<u8>, Fail> {
@@ -344,6 +347,11 @@ fn bytes(alloc: Global, image: Image) -> Result<Vec<u8>, Fail> {
         Image::Queued => queued(alloc),
         Image::Unhashed => unhashed(alloc),
         Image::Made(base, changes) => img_changes::image(alloc, &base, changes),
+        Image::Disk(disk) => {
+            let mut bytes = sectors(alloc, disk)?;
+            bytes.extend_from_slice(&made(alloc, &sample(alloc, Sample::S)?)?)?;
+            Ok(bytes)
+        }
         _ => made(alloc, &sample(alloc, Sample::S)?),
     }
 }
@@ -369,6 +377,7 @@ fn change(image: Image, bytes: &mut [u8]) -> bool {
         Image::SmallSplit | Image::SmallCutSplit => split(bytes),
         Image::SmallUnsummed => write(bytes, BLOCK, VOLUME, SUM, &[0, 0]),
         Image::TwoExchanged => exchange_keys(bytes, MAP_TREE),
+        Image::Disk(disk) => write_table(bytes, disk),
         Image::Absent | Image::Empty | Image::Small | Image::Views | Image::Hello => true,
         Image::Files(_) | Image::Named(..) | Image::Queued => true,
         Image::Backwards | Image::ShortInode => true,
@@ -381,6 +390,7 @@ fn change(image: Image, bytes: &mut [u8]) -> bool {
 fn length(image: Image) -> usize {
     match image {
         Image::RingShort => 4095,
+        Image::Disk(disk) => disk.length,
         Image::RingCut | Image::SmallCutSplit => 255 * BLOCK,
         _ => 256 * BLOCK,
     }

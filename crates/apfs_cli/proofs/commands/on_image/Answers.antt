@@ -1,10 +1,11 @@
 -- The check stops the run, or what the command comes to without one is what it comes to.
-use Rattle.std.specs.Prelude.{Some}
 use Rattle.apfs_cli.specs.ByCommand.{quick}
+use Rattle.apfs_cli.specs.Handed.{looked}
 use Rattle.apfs_cli.specs.Words.{Asked, said}
 use Rattle.apfs_cli.specs.Written.{sunk}
 use Rattle.apfs_cli.proofs.Checked.{clean_ended, first_stops, flaw_ended}
 use Rattle.apfs_cli.proofs.Endings.{ended_same}
+use Rattle.apfs_cli.proofs.Plugs.{handed_in}
 use Rattle.apfs_cli.proofs.Puts.{rose_later}
 use Rattle.apfs_cli.proofs.commands.on_image.Goals as goal
 
@@ -14,9 +15,9 @@ returns-in-Ok-clause-answer g c =
     let faults = g.S.BlockSource.faults in
     let command : Asked = said c.args.command in
     let out = sunk g.W.Sink.contents g.W.Sink.faults c.args.out.now c.on_unchecked.new.out in
-    clean_ended bytes faults command c.args.src.now c.on_unchecked.new.src c.on_unchecked.result out
+    clean_ended command (looked bytes faults c.args.src.now c.on_unchecked.new.src) c.on_unchecked.result out
     (rw c.checks.ensures at c.in-Ok.ensures.clear)
-    (ended_same bytes faults bytes faults (Some (quick command)) c.check_first.new.src c.on_unchecked.new.src c.args.src.now c.on_unchecked.new.src c.on_unchecked.result out
+    (ended_same (quick command) (looked bytes faults c.check_first.new.src c.on_unchecked.new.src) (looked bytes faults c.args.src.now c.on_unchecked.new.src) c.on_unchecked.result out
     c.in-Ok.ensures.kept.same_bytes
     (rose_later (faults c.args.src.now) (faults c.check_first.new.src) (faults c.on_unchecked.new.src) c.in-Ok.ensures.kept.later)
     c.on_unchecked.ensures.answer)
@@ -25,4 +26,4 @@ pub returns-in-Err-clause-answer : goal.returns-in-Err-clause-answer
 returns-in-Err-clause-answer g c =
     let command : Asked = said c.args.command in
     flaw_ended {T = Unit} g.S.BlockSource.bytes g.S.BlockSource.faults c.checks.result command c.args.src.now c.check_first.new.src c.in-Err.stopped
-    (g.W.Sink.contents c.args.out.now) (g.W.Sink.faults c.args.out.now) (rw c.checks.ensures (first_stops command)) c.in-Err.ensures.flaw c.in-Err.ensures.looking c.in-Err.ensures.cause
+    (g.W.Sink.contents c.args.out.now) (g.W.Sink.faults c.args.out.now) (rw c.checks.ensures (first_stops command (handed_in c.args.command))) c.in-Err.ensures.flaw c.in-Err.ensures.looking c.in-Err.ensures.cause

@@ -1,12 +1,12 @@
 -- What is said of the cache is said of the source in it.
-use Rattle.std.proofs.Common.{◌≡◌, ◌∙◌, ◌≤◌, [], ap, inl, refl}
-use Rattle.std.specs.Prelude.{Some}
+use Rattle.std.proofs.Common.{◌≡◌, ◌∙◌, ◌≤◌, ap}
 use Rattle.apfs_model.specs.Counts.{Rose}
 use Rattle.blk_cache.specs.declared.cached.Cached.{Cached}
+use Rattle.apfs_cli.specs.Handed.{looked}
 use Rattle.apfs_cli.specs.Words.{said}
 use Rattle.apfs_cli.specs.Written.{sunk}
-use Rattle.apfs_cli.proofs.Endings.{ended_same}
-use Rattle.apfs_cli.proofs.Puts.{rose_later, wrote_nothing}
+use Rattle.apfs_cli.proofs.Endings.{ended_same, read_ended, no_memory_ended}
+use Rattle.apfs_cli.proofs.Puts.{rose_later}
 use Rattle.apfs_cli.proofs.over_cache.on_cache.Goals as goal
 
 pub returns-in-Ok-new-clause-answer : goal.returns-in-Ok-new-clause-answer
@@ -17,8 +17,9 @@ returns-in-Ok-new-clause-answer g c =
     let back : c.into_inner.result ≡ c.on_image-ended.new.src.inner = c.into_inner.ensures in
     let later : faults c.args.src ≤ faults c.kept_size_of.new.src = c.in-Ok.ensures.kept.later in
     let earlier : faults c.args.src ≤ faults c.in-Ok-new.cache.inner = rw inner later in
-    ended_same (λ (s : Cached g.row.S.Denot g.S.BlockSource). bytes s.inner) (λ (s : Cached g.row.S.Denot g.S.BlockSource). faults s.inner) bytes faults (Some (said c.args.command))
-    c.in-Ok-new.cache c.on_image-ended.new.src c.args.src c.into_inner.result c.on_image-ended.result
+    ended_same (said c.args.command)
+    (looked (λ (s : Cached g.row.S.Denot g.S.BlockSource). bytes s.inner) (λ (s : Cached g.row.S.Denot g.S.BlockSource). faults s.inner) c.in-Ok-new.cache c.on_image-ended.new.src)
+    (looked bytes faults c.args.src c.into_inner.result) c.on_image-ended.result
     (sunk g.W.Sink.contents g.W.Sink.faults c.args.out.now c.on_image-ended.new.out)
     (ap bytes inner ∙ c.in-Ok.ensures.kept.same_bytes)
     (λ (rose : Rose (faults c.in-Ok-new.cache.inner) (faults c.on_image-ended.new.src.inner)).
@@ -26,4 +27,7 @@ returns-in-Ok-new-clause-answer g c =
     c.on_image-ended.ensures.answer
 
 pub returns-in-Err-clause-answer : goal.returns-in-Err-clause-answer
-returns-in-Err-clause-answer g c = ([], (c.in-Err.ensures.cause, inl refl), wrote_nothing (g.W.Sink.contents c.args.out.now))
+returns-in-Err-clause-answer g c = read_ended (said c.args.command) (looked g.S.BlockSource.bytes g.S.BlockSource.faults c.args.src c.kept_size_of.new.src) (g.W.Sink.contents c.args.out.now) (g.W.Sink.faults c.args.out.now) c.in-Err.ensures.cause
+
+pub returns-in-Err-new-clause-answer : goal.returns-in-Err-new-clause-answer
+returns-in-Err-new-clause-answer g c = no_memory_ended (said c.args.command) (looked g.S.BlockSource.bytes g.S.BlockSource.faults c.args.src c.in-Err-new.src) (g.W.Sink.contents c.args.out.now) (g.W.Sink.faults c.args.out.now)

@@ -1,12 +1,32 @@
--- The words are those of the command, or no line.
+-- The words are those of the order, or no line.
 use Rattle.std.proofs.Common.{◌≡◌, ◌∙◌, ap, sym}
 use Rattle.std.specs.Prelude.{map, option_map, Some}
 use Rattle.std.specs.String.{string_bytes}
-use Rattle.apfs_cli.specs.Words.{command_of, said}
+use Rattle.apfs_cli.specs.Handed.{looked_at}
+use Rattle.apfs_cli.specs.Words.{Gen, asked_of, line_in, line_said, plain_line, said}
+use Rattle.apfs_cli.specs.Written.{sunk}
+use Rattle.apfs_cli.proofs.Orders.{gen_few}
+use Rattle.apfs_cli.proofs.Plugs.{come_no_memory, come_made}
 use Rattle.apfs_cli.proofs.program.decide.Goals as goal
 
-pub returns-in-Some-clause-answer : goal.returns-in-Some-clause-answer
-returns-in-Some-clause-answer g c =
-    let same : Some (said c.in-Some.command) ≡ command_of (map string_bytes c.args.words.now) =
-    sym (ap (λ command. option_map said command) c.in-Some.is) ∙ c.in_ok-command.ensures in
+pub returns-in-Err-clause-answer : goal.returns-in-Err-clause-answer
+returns-in-Err-clause-answer g c =
+    come_no_memory (asked_of (map string_bytes c.args.words.now)) (looked_at g.S.BlockSource.bytes g.S.BlockSource.faults c.args.image.now c.args.image.now) (g.W.Sink.contents c.args.out.now) (g.W.Sink.faults c.args.out.now)
+
+pub returns-in-On-clause-answer : goal.returns-in-On-clause-answer
+returns-in-On-clause-answer g c =
+    let same : Some (line_in c.in-On.in_partition (said c.in-On.command)) ≡ asked_of (map string_bytes c.args.words.now) =
+    ap (λ order. Some (line_said order)) (sym c.in-On.is) ∙ sym (ap (λ order. option_map line_said order) c.in-Some.is) ∙ c.in-Ok.ensures in
     rw (← same) c.on_opened.ensures.answer
+
+pub write-requires : goal.write-requires
+write-requires g c =
+    let same : Some (plain_line (Gen c.in-Gen.files)) ≡ asked_of (map string_bytes c.args.words.now) =
+    ap (λ order. Some (line_said order)) (sym c.in-Gen.is) ∙ sym (ap (λ order. option_map line_said order) c.in-Some.is) ∙ c.in-Ok.ensures in
+    gen_few (map string_bytes c.args.words.now) c.in-Gen.files same
+
+pub returns-in-Gen-clause-answer : goal.returns-in-Gen-clause-answer
+returns-in-Gen-clause-answer g c =
+    let same : Some (plain_line (Gen c.in-Gen.files)) ≡ asked_of (map string_bytes c.args.words.now) =
+    ap (λ order. Some (line_said order)) (sym c.in-Gen.is) ∙ sym (ap (λ order. option_map line_said order) c.in-Some.is) ∙ c.in-Ok.ensures in
+    rw (← same) (come_made c.in-Gen.files _ (looked_at g.S.BlockSource.bytes g.S.BlockSource.faults c.args.image.now c.args.image.now) c.write.result (sunk g.W.Sink.contents g.W.Sink.faults c.args.out.now c.write.new.out) c.write.ensures)

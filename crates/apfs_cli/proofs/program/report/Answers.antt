@@ -1,52 +1,57 @@
 -- Each status says what the outcome of that status says of the check.
-use Rattle.std.specs.Prelude.{Some}
-use Rattle.blk_source.specs.declared.source.Opened.TheVariants.{Image}
-use Rattle.apfs_cli.specs.Words.{Check}
+use Rattle.std.specs.Prelude.{Some, None}
+use Rattle.apfs_cli.specs.Handed.{looked}
+use Rattle.apfs_cli.specs.Words.{Check, plain_line}
 use Rattle.apfs_cli.specs.Written.{sunk}
-use Rattle.apfs_cli.proofs.Statuses.{text_row, fault_row, read_failed_row, write_failed_row, out_of_memory_row, feature_row, completed_row, checked_whole, checked_flawed}
+use Rattle.apfs_cli.proofs.Statuses.{text_row, fault_row, read_failed_row, write_failed_row, out_of_memory_row, feature_row, completed_row, lead_row, checked_whole, checked_flawed}
 use Rattle.apfs_cli.proofs.program.report.Goals as goal
 
 pub returns-clause-text : goal.returns-clause-text
 returns-clause-text g c =
-    text_row g.S.BlockSource.bytes g.S.BlockSource.faults (Some (Check c.args.profile)) (Image c.args.src.now) (Image c.end_check.new.src) c.end_check.result
+    text_row (Some (plain_line (Check c.args.profile))) (Some (looked g.S.BlockSource.bytes g.S.BlockSource.faults c.args.src.now c.end_check.new.src)) None c.end_check.result
     (sunk g.W.Sink.contents g.W.Sink.faults c.args.out.now c.end_check.new.out) (sunk g.E.Sink.contents g.E.Sink.faults c.args.err.now c.end_check.new.err) c.end_check.ensures.answer
 
 pub returns-clause-fault : goal.returns-clause-fault
 returns-clause-fault g c =
-    fault_row g.S.BlockSource.bytes g.S.BlockSource.faults (Some (Check c.args.profile)) (Image c.args.src.now) (Image c.end_check.new.src) c.end_check.result
+    fault_row (Some (plain_line (Check c.args.profile))) (Some (looked g.S.BlockSource.bytes g.S.BlockSource.faults c.args.src.now c.end_check.new.src)) None c.end_check.result
     (sunk g.W.Sink.contents g.W.Sink.faults c.args.out.now c.end_check.new.out) (sunk g.E.Sink.contents g.E.Sink.faults c.args.err.now c.end_check.new.err) c.end_check.ensures.answer
 
 pub returns-clause-read_failed : goal.returns-clause-read_failed
 returns-clause-read_failed g c =
-    read_failed_row g.S.BlockSource.bytes g.S.BlockSource.faults (Some (Check c.args.profile)) (Image c.args.src.now) (Image c.end_check.new.src) c.end_check.result
+    read_failed_row (Some (plain_line (Check c.args.profile))) (Some (looked g.S.BlockSource.bytes g.S.BlockSource.faults c.args.src.now c.end_check.new.src)) None c.end_check.result
     (sunk g.W.Sink.contents g.W.Sink.faults c.args.out.now c.end_check.new.out) (sunk g.E.Sink.contents g.E.Sink.faults c.args.err.now c.end_check.new.err) c.end_check.ensures.answer
 
 pub returns-clause-write_failed : goal.returns-clause-write_failed
 returns-clause-write_failed g c =
-    write_failed_row g.S.BlockSource.bytes g.S.BlockSource.faults (Some (Check c.args.profile)) (Image c.args.src.now) (Image c.end_check.new.src) c.end_check.result
+    write_failed_row (Some (plain_line (Check c.args.profile))) (Some (looked g.S.BlockSource.bytes g.S.BlockSource.faults c.args.src.now c.end_check.new.src)) None c.end_check.result
     (sunk g.W.Sink.contents g.W.Sink.faults c.args.out.now c.end_check.new.out) (sunk g.E.Sink.contents g.E.Sink.faults c.args.err.now c.end_check.new.err) c.end_check.ensures.answer
 
 pub returns-clause-out_of_memory : goal.returns-clause-out_of_memory
 returns-clause-out_of_memory g c =
-    out_of_memory_row g.S.BlockSource.bytes g.S.BlockSource.faults (Some (Check c.args.profile)) (Image c.args.src.now) (Image c.end_check.new.src) c.end_check.result
+    out_of_memory_row (Some (plain_line (Check c.args.profile))) (Some (looked g.S.BlockSource.bytes g.S.BlockSource.faults c.args.src.now c.end_check.new.src)) None c.end_check.result
     (sunk g.W.Sink.contents g.W.Sink.faults c.args.out.now c.end_check.new.out) (sunk g.E.Sink.contents g.E.Sink.faults c.args.err.now c.end_check.new.err) c.end_check.ensures.answer
 
 pub returns-clause-feature : goal.returns-clause-feature
 returns-clause-feature g c =
-    feature_row g.S.BlockSource.bytes g.S.BlockSource.faults (Some (Check c.args.profile)) (Image c.args.src.now) (Image c.end_check.new.src) c.end_check.result
+    feature_row (Some (plain_line (Check c.args.profile))) (Some (looked g.S.BlockSource.bytes g.S.BlockSource.faults c.args.src.now c.end_check.new.src)) None c.end_check.result
     (sunk g.W.Sink.contents g.W.Sink.faults c.args.out.now c.end_check.new.out) (sunk g.E.Sink.contents g.E.Sink.faults c.args.err.now c.end_check.new.err) c.end_check.ensures.answer
 
 pub returns-clause-completed : goal.returns-clause-completed
 returns-clause-completed g c =
-    completed_row g.S.BlockSource.bytes g.S.BlockSource.faults (Some (Check c.args.profile)) (Image c.args.src.now) (Image c.end_check.new.src) c.end_check.result
+    completed_row (Some (plain_line (Check c.args.profile))) (Some (looked g.S.BlockSource.bytes g.S.BlockSource.faults c.args.src.now c.end_check.new.src)) None c.end_check.result
+    (sunk g.W.Sink.contents g.W.Sink.faults c.args.out.now c.end_check.new.out) (sunk g.E.Sink.contents g.E.Sink.faults c.args.err.now c.end_check.new.err) c.end_check.ensures.answer
+
+pub returns-clause-lead : goal.returns-clause-lead
+returns-clause-lead g c =
+    lead_row (Some (plain_line (Check c.args.profile))) (Some (looked g.S.BlockSource.bytes g.S.BlockSource.faults c.args.src.now c.end_check.new.src)) None c.end_check.result
     (sunk g.W.Sink.contents g.W.Sink.faults c.args.out.now c.end_check.new.out) (sunk g.E.Sink.contents g.E.Sink.faults c.args.err.now c.end_check.new.err) c.end_check.ensures.answer
 
 pub returns-clause-clean : goal.returns-clause-clean
 returns-clause-clean g c =
-    checked_whole g.S.BlockSource.bytes g.S.BlockSource.faults c.args.profile c.args.src.now c.end_check.new.src c.end_check.result
+    checked_whole c.args.profile (looked g.S.BlockSource.bytes g.S.BlockSource.faults c.args.src.now c.end_check.new.src) c.end_check.result
     (sunk g.W.Sink.contents g.W.Sink.faults c.args.out.now c.end_check.new.out) (sunk g.E.Sink.contents g.E.Sink.faults c.args.err.now c.end_check.new.err) c.end_check.ensures.answer
 
 pub returns-clause-flawed : goal.returns-clause-flawed
 returns-clause-flawed g c =
-    checked_flawed g.S.BlockSource.bytes g.S.BlockSource.faults c.args.profile c.args.src.now c.end_check.new.src c.end_check.result
+    checked_flawed c.args.profile (looked g.S.BlockSource.bytes g.S.BlockSource.faults c.args.src.now c.end_check.new.src) c.end_check.result
     (sunk g.W.Sink.contents g.W.Sink.faults c.args.out.now c.end_check.new.out) (sunk g.E.Sink.contents g.E.Sink.faults c.args.err.now c.end_check.new.err) c.end_check.ensures.answer

@@ -1,4 +1,5 @@
 -- The contents are written, or what stands in the way to the view, or in it, is told.
+use Rattle.std.proofs.Common.{refl}
 use Rattle.cmd_words.specs.Asked.{AskedTarget, target_asked}
 use Rattle.obj_base.specs.declared.site.Site.{Site}
 use Rattle.nx_ring.specs.Checkpoint.{Seen}
@@ -29,7 +30,7 @@ returns-in-Ok-cat-clause-answer g c =
     let at : IsAtView g.S.BlockSource.bytes g.S.BlockSource.faults target c.args.src.now c.reach_view.new.src seen volume view site =
     record { site_is = c.site-site.ensures; meant = c.in-Ok.ensures.clear; same_bytes = c.in-Ok.ensures.kept.same_bytes; later = c.in-Ok.ensures.kept.later } in
     contents_written g.S.BlockSource.bytes g.S.BlockSource.faults (Cat Quick target) (command.wanted target.path) (command.told target.path) target c.args.src.now c.reach_view.new.src c.cat.new.src
-    seen volume view site (sunk g.W.Sink.contents g.W.Sink.faults c.args.out.now c.cat.new.out) (cat_over target) at c.in-Ok-cat.ensures.text
+    seen volume view site (sunk g.W.Sink.contents g.W.Sink.faults c.args.out.now c.cat.new.out) (cat_over target) (record { streams_is = refl; formed = λ text. tt }) at c.in-Ok-cat.ensures.text
 
 pub returns-clause-answer : goal.returns-clause-answer
 returns-clause-answer g c =
@@ -42,5 +43,5 @@ returns-clause-answer g c =
     record { site_is = c.site-site.ensures; meant = c.in-Ok.ensures.clear; same_bytes = c.in-Ok.ensures.kept.same_bytes; later = c.in-Ok.ensures.kept.later } in
     rw c.stopped_on_write.ensures
     (writing_stopped g.S.BlockSource.bytes g.S.BlockSource.faults (Cat Quick target) (command.wanted target.path) (command.told target.path) target c.args.src.now c.reach_view.new.src c.cat.new.src
-    seen volume view site c.in-Err-cat.stop (sunk g.W.Sink.contents g.W.Sink.faults c.args.out.now c.cat.new.out) (cat_over target) at
+    seen volume view site c.in-Err-cat.stop (sunk g.W.Sink.contents g.W.Sink.faults c.args.out.now c.cat.new.out) (cat_over target) (record { streams_is = refl; formed = λ text. tt }) at
     c.in-Err-cat.ensures.text c.in-Err-cat.ensures.untouched c.in-Err-cat.ensures.exact c.in-Err-cat.ensures.present (λ facts fault. tt) c.in-Err-cat.ensures.read_cause c.in-Err-cat.ensures.write_cause)

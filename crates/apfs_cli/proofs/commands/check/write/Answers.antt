@@ -1,11 +1,10 @@
 -- The report is put, or what stops the check is told.
 use Rattle.std.proofs.Common.{refl}
-use Rattle.std.specs.Prelude.{Some}
 use Rattle.apfs_check.specs.declared.report.Report.{Report}
-use Rattle.blk_source.specs.declared.source.Opened.TheVariants.{Image}
 use Rattle.apfs_cli.specs.declared.words.Checks.TheVariants.{First}
 use Rattle.apfs_cli.specs.ReportText.{report_text}
 use Rattle.apfs_cli.specs.Words.{Check}
+use Rattle.apfs_cli.specs.Handed.{looked}
 use Rattle.apfs_cli.specs.Written.{sunk}
 use Rattle.apfs_cli.proofs.Checked.{check_stops, flaw_ended}
 use Rattle.apfs_cli.proofs.Endings.{put_ended}
@@ -13,9 +12,9 @@ use Rattle.apfs_cli.proofs.commands.check.write.Goals as goal
 
 pub returns-in-Ok-clause-answer : goal.returns-in-Ok-clause-answer
 returns-in-Ok-clause-answer g c =
-    put_ended g.S.BlockSource.bytes g.S.BlockSource.faults (Some (Check c.args.profile)) (Image c.args.src.now) (Image c.checked.new.src) (report_text c.in-Ok.report) c.put_report.result
+    put_ended (Check c.args.profile) (looked g.S.BlockSource.bytes g.S.BlockSource.faults c.args.src.now c.checked.new.src) (report_text c.in-Ok.report) c.put_report.result
     (sunk g.W.Sink.contents g.W.Sink.faults c.args.out.now c.put_report.new.out)
-    (λ lacks. lacks, λ image given. (c.in-Ok.report, c.in-Ok.ensures.clear image given, refl))
+    (c.in-Ok.report, refl) (λ image given. (c.in-Ok.report, c.in-Ok.ensures.clear image given, refl))
     c.put_report.ensures
 
 pub returns-in-Err-clause-answer : goal.returns-in-Err-clause-answer

@@ -1,5 +1,5 @@
 -- The lines are put, or what stands in the way to the view, or in it, is told.
-use Rattle.std.proofs.Common.{Vec, Global}
+use Rattle.std.proofs.Common.{Vec, Global, refl}
 use Rattle.cmd_words.specs.Asked.{AskedTarget, target_asked}
 use Rattle.obj_base.specs.declared.site.Site.{Site}
 use Rattle.nx_ring.specs.Checkpoint.{Seen}
@@ -32,7 +32,7 @@ returns-in-Ok-list-clause-answer g c =
     let at : IsAtView g.S.BlockSource.bytes g.S.BlockSource.faults target c.args.src.now c.reach_view.new.src seen volume view site =
     record { site_is = c.site-site.ensures; meant = c.in-Ok.ensures.clear; same_bytes = c.in-Ok.ensures.kept.same_bytes; later = c.in-Ok.ensures.kept.later } in
     list_put g.S.BlockSource.bytes g.S.BlockSource.faults (Ls Quick target) (λ facts. listing facts target.path) ls_text (command.told target.path) target c.args.src.now c.reach_view.new.src c.list.new.src
-    seen volume view site c.in-Ok-list.items.items c.put_lines.result (sunk g.W.Sink.contents g.W.Sink.faults c.args.out.now c.put_lines.new.out) (ls_over target) at c.in-Ok-list.ensures.exact
+    seen volume view site c.in-Ok-list.items.items c.put_lines.result (sunk g.W.Sink.contents g.W.Sink.faults c.args.out.now c.put_lines.new.out) (ls_over target) (c.in-Ok-list.items.items, refl) at c.in-Ok-list.ensures.exact
     (rw c.as_slice.ensures.value at c.put_lines.ensures)
 
 pub returns-clause-answer : goal.returns-clause-answer

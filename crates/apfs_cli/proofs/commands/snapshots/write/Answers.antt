@@ -1,11 +1,11 @@
 -- The snapshots are put, or what stands in the way to their volume is told.
 use Rattle.std.proofs.Common.{◌≡◌, ap, refl}
-use Rattle.std.specs.Prelude.{Some, Err}
-use Rattle.blk_source.specs.declared.source.Opened.TheVariants.{Image}
+use Rattle.std.specs.Prelude.{Err}
 use Rattle.apfs_cli.specs.declared.stopped.Stopped.{Stopped}
 use Rattle.apfs_cli.specs.declared.stopped.Stopped.TheVariants.{ReadFailed}
 use Rattle.apfs_cli.specs.Commands.Snapshots.{snapshots_text}
 use Rattle.apfs_cli.specs.Words.{Snapshots}
+use Rattle.apfs_cli.specs.Handed.{looked}
 use Rattle.apfs_cli.specs.Written.{sunk}
 use Rattle.apfs_cli.proofs.Endings.{put_ended}
 use Rattle.apfs_cli.proofs.OverVolume.{way_ended, snapshots_over}
@@ -14,14 +14,13 @@ use Rattle.apfs_cli.proofs.commands.snapshots.write.Goals as goal
 pub returns-in-Ok-clause-answer : goal.returns-in-Ok-clause-answer
 returns-in-Ok-clause-answer g c =
     let reached = c.in-Ok.reached in
-    put_ended g.S.BlockSource.bytes g.S.BlockSource.faults (Some (Snapshots c.args.volume)) (Image c.args.src.now) (Image c.reach.new.src) (snapshots_text reached.volume.snaps) c.put_snapshots.result
+    put_ended (Snapshots c.args.volume) (looked g.S.BlockSource.bytes g.S.BlockSource.faults c.args.src.now c.reach.new.src) (snapshots_text reached.volume.snaps) c.put_snapshots.result
     (sunk g.W.Sink.contents g.W.Sink.faults c.args.out.now c.put_snapshots.new.out)
-    (λ lacks. lacks, λ image given. (reached.checkpoint, reached.volume.head, reached.volume, c.in-Ok.ensures.clear image given, refl))
+    (reached.volume.snaps, refl) (λ image given. (reached.checkpoint, reached.volume.head, reached.volume, c.in-Ok.ensures.clear image given, refl))
     c.put_snapshots.ensures
 
 pub returns-in-Err-clause-answer : goal.returns-in-Err-clause-answer
 returns-in-Err-clause-answer g c =
-    way_ended g.S.BlockSource.bytes g.S.BlockSource.faults (Snapshots c.args.volume) c.args.volume (Image c.args.src.now) (Image c.reach.new.src) c.in-Err.stopped
-    (g.W.Sink.contents c.args.out.now) (g.W.Sink.faults c.args.out.now) (snapshots_over c.args.volume) (λ lacks. lacks)
-    (λ image given. c.in-Err.ensures.way image given) c.in-Err.ensures.looking
+    way_ended (Snapshots c.args.volume) c.args.volume (looked g.S.BlockSource.bytes g.S.BlockSource.faults c.args.src.now c.reach.new.src) c.in-Err.stopped
+    (g.W.Sink.contents c.args.out.now) (g.W.Sink.faults c.args.out.now) (snapshots_over c.args.volume) c.in-Err.ensures.way c.in-Err.ensures.looking
     (λ (e : c.in-Err.stopped ≡ ReadFailed). c.in-Err.ensures.cause (ap (λ (s : Stopped). Err s) e))

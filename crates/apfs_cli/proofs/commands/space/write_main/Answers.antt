@@ -1,7 +1,6 @@
 -- All lines are put, or what stops the main queue is told.
 use Rattle.std.proofs.Common.{◌≡◌, ◌∙◌, ap, refl}
-use Rattle.std.specs.Prelude.{Some, Err}
-use Rattle.blk_source.specs.declared.source.Opened.TheVariants.{Image}
+use Rattle.std.specs.Prelude.{Err}
 use Rattle.obj_base.specs.declared.stop.Stop.{Stop}
 use Rattle.obj_base.specs.declared.stop.Stop.TheVariants.{ReadFault}
 use Rattle.space_pool.specs.declared.entry.Queue.TheVariants.{Main}
@@ -12,6 +11,7 @@ use Rattle.apfs_cli.specs.Checkpoints.{IsNewest}
 use Rattle.apfs_cli.specs.Commands.Space.{space_text}
 use Rattle.apfs_cli.specs.Seen.{stopped_at}
 use Rattle.apfs_cli.specs.Words.{Space}
+use Rattle.apfs_cli.specs.Handed.{looked}
 use Rattle.apfs_cli.specs.Written.{sunk}
 use Rattle.apfs_cli.proofs.Endings.{put_ended, stop_ended}
 use Rattle.apfs_cli.proofs.Spaces.{queue_stops}
@@ -21,24 +21,25 @@ pub returns-in-Ok-clause-answer : goal.returns-in-Ok-clause-answer
 returns-in-Ok-clause-answer g c =
     let seen = c.args.checkpoint.now in
     let space = c.args.space.now in
-    put_ended g.S.BlockSource.bytes g.S.BlockSource.faults (Some Space) (Image c.args.src.now) (Image c.queue.new.src) (space_text space c.args.bits.now c.args.pool.now c.in-Ok.main.items) c.put_text.result
-    (sunk g.W.Sink.contents g.W.Sink.faults c.args.out.now c.put_text.new.out) (
-      λ lacks. lacks,
-      λ image given. (
-        seen,
-        space,
-        c.args.bits.now,
-        c.args.pool.now,
-        c.in-Ok.main.items,
-        record {
-          newest = record { newest = c.requires.found image given; plain = c.requires.plain };
-          space_is = c.requires.space image given;
-          bits_are = c.requires.bits image given;
-          pool_is = c.requires.pool image given;
-          main_is = c.in-Ok.ensures.clear image given;
-        },
-        refl,
-      ),
+    put_ended Space (looked g.S.BlockSource.bytes g.S.BlockSource.faults c.args.src.now c.queue.new.src) (space_text space c.args.bits.now c.args.pool.now c.in-Ok.main.items) c.put_text.result
+    (sunk g.W.Sink.contents g.W.Sink.faults c.args.out.now c.put_text.new.out)
+    (space, c.args.bits.now, c.args.pool.now, c.in-Ok.main.items, refl)
+    (
+    λ image given. (
+      seen,
+      space,
+      c.args.bits.now,
+      c.args.pool.now,
+      c.in-Ok.main.items,
+      record {
+        newest = record { newest = c.requires.found image given; plain = c.requires.plain };
+        space_is = c.requires.space image given;
+        bits_are = c.requires.bits image given;
+        pool_is = c.requires.pool image given;
+        main_is = c.in-Ok.ensures.clear image given;
+      },
+      refl,
+    )
     )
     (rw c.deref.ensures.value at c.put_text.ensures)
 
@@ -48,8 +49,8 @@ returns-in-Err-clause-answer g c =
     let seen = c.args.checkpoint.now in
     let same : c.stopped_by.result ≡ stopped_at (λ why. of_sweep seen.line.xid (sweeps.Pool why)) stop = c.stopped_by.ensures ∙ ap (λ n. stopped_at (λ why. of_sweep n (sweeps.Pool why)) stop) c.xid.ensures in
     rw same
-    (stop_ended g.S.BlockSource.bytes g.S.BlockSource.faults Space (Image c.args.src.now) (Image c.queue.new.src) (λ why. of_sweep seen.line.xid (sweeps.Pool why)) stop
-    (g.W.Sink.contents c.args.out.now) (g.W.Sink.faults c.args.out.now) (λ lacks. lacks)
+    (stop_ended Space (looked g.S.BlockSource.bytes g.S.BlockSource.faults c.args.src.now c.queue.new.src) (λ why. of_sweep seen.line.xid (sweeps.Pool why)) stop
+    (g.W.Sink.contents c.args.out.now) (g.W.Sink.faults c.args.out.now) refl
     (λ image given.
     let newest : IsNewest image seen = record { newest = c.requires.found image given; plain = c.requires.plain } in
     queue_stops image seen c.args.space.now Main stop newest (c.requires.space image given) (c.in-Err.ensures.present image given) (c.in-Err.ensures.exact image given))

@@ -1,5 +1,5 @@
 -- The lines are put, or what stands in the way to the view, or in it, is told.
-use Rattle.std.proofs.Common.{ap, List, ℕ, Err, Vec, Global}
+use Rattle.std.proofs.Common.{ap, List, ℕ, Err, Vec, Global, refl}
 use Rattle.cmd_words.specs.Asked.{AskedTarget, target_asked}
 use Rattle.obj_base.specs.declared.site.Site.{Site}
 use Rattle.obj_base.specs.declared.stop.Stop.{Stop}
@@ -34,7 +34,7 @@ returns-in-Ok-tree-clause-answer g c =
     let at : IsAtView g.S.BlockSource.bytes g.S.BlockSource.faults target c.args.src.now c.reach_view.new.src seen volume view site =
     record { site_is = c.site-site.ensures; meant = c.in-Ok.ensures.clear; same_bytes = c.in-Ok.ensures.kept.same_bytes; later = c.in-Ok.ensures.kept.later } in
     list_put g.S.BlockSource.bytes g.S.BlockSource.faults (Tree Quick target) (λ facts. tree facts target.path) tree_text (command.told target.path) target c.args.src.now c.reach_view.new.src c.tree.new.src
-    seen volume view site c.in-Ok-tree.items.items c.put_lines.result (sunk g.W.Sink.contents g.W.Sink.faults c.args.out.now c.put_lines.new.out) (tree_over target) at c.in-Ok-tree.ensures.exact
+    seen volume view site c.in-Ok-tree.items.items c.put_lines.result (sunk g.W.Sink.contents g.W.Sink.faults c.args.out.now c.put_lines.new.out) (tree_over target) (c.in-Ok-tree.items.items, refl) at c.in-Ok-tree.ensures.exact
     (rw c.as_slice.ensures.value at c.put_lines.ensures)
 
 pub returns-clause-answer : goal.returns-clause-answer

@@ -1,7 +1,6 @@
 -- The volumes are put, or what stops their heads is told.
 use Rattle.std.proofs.Common.{◌≡◌, ◌∙◌, ap, refl}
-use Rattle.std.specs.Prelude.{Some, Err}
-use Rattle.blk_source.specs.declared.source.Opened.TheVariants.{Image}
+use Rattle.std.specs.Prelude.{Err}
 use Rattle.obj_base.specs.declared.stop.Stop.{Stop}
 use Rattle.obj_base.specs.declared.stop.Stop.TheVariants.{ReadFault}
 use Rattle.vol_view.specs.declared.stop.VolStop.{VolStop}
@@ -10,6 +9,7 @@ use Rattle.apfs_cli.specs.Commands.Volumes.{volumes_text}
 use Rattle.apfs_check.specs.Raised.{of_volume}
 use Rattle.apfs_cli.specs.Seen.{stopped_at}
 use Rattle.apfs_cli.specs.Words.{Volumes}
+use Rattle.apfs_cli.specs.Handed.{looked}
 use Rattle.apfs_cli.specs.Written.{sunk}
 use Rattle.apfs_cli.proofs.Endings.{put_ended, stop_ended}
 use Rattle.apfs_cli.proofs.Stops.{heads_stops}
@@ -18,9 +18,9 @@ use Rattle.apfs_cli.proofs.commands.volumes.write_at.Goals as goal
 pub returns-in-Ok-clause-answer : goal.returns-in-Ok-clause-answer
 returns-in-Ok-clause-answer g c =
     let seen = c.args.checkpoint.now in
-    put_ended g.S.BlockSource.bytes g.S.BlockSource.faults (Some Volumes) (Image c.args.src.now) (Image c.heads.new.src) (volumes_text c.in-Ok.heads.items) c.put_lines.result
+    put_ended Volumes (looked g.S.BlockSource.bytes g.S.BlockSource.faults c.args.src.now c.heads.new.src) (volumes_text c.in-Ok.heads.items) c.put_lines.result
     (sunk g.W.Sink.contents g.W.Sink.faults c.args.out.now c.put_lines.new.out)
-    (λ lacks. lacks, λ image given. (seen, c.in-Ok.heads.items, record { newest = c.requires.found image given; plain = c.requires.plain }, c.in-Ok.ensures.clear image given, refl))
+    (c.in-Ok.heads.items, refl) (λ image given. (seen, c.in-Ok.heads.items, record { newest = c.requires.found image given; plain = c.requires.plain }, c.in-Ok.ensures.clear image given, refl))
     (rw c.as_slice.ensures.value at c.put_lines.ensures)
 
 pub returns-in-Err-clause-answer : goal.returns-in-Err-clause-answer
@@ -29,8 +29,8 @@ returns-in-Err-clause-answer g c =
     let seen = c.args.checkpoint.now in
     let same : c.stopped_by.result ≡ stopped_at (of_volume seen.line.xid) stop = c.stopped_by.ensures ∙ ap (λ n. stopped_at (of_volume n) stop) c.xid.ensures in
     rw same
-    (stop_ended g.S.BlockSource.bytes g.S.BlockSource.faults Volumes (Image c.args.src.now) (Image c.heads.new.src) (of_volume seen.line.xid) stop
-    (g.W.Sink.contents c.args.out.now) (g.W.Sink.faults c.args.out.now) (λ lacks. lacks)
+    (stop_ended Volumes (looked g.S.BlockSource.bytes g.S.BlockSource.faults c.args.src.now c.heads.new.src) (of_volume seen.line.xid) stop
+    (g.W.Sink.contents c.args.out.now) (g.W.Sink.faults c.args.out.now) refl
     (λ image given.
     let newest : IsNewest image seen = record { newest = c.requires.found image given; plain = c.requires.plain } in
     heads_stops image seen stop newest (c.in-Err.ensures.present image given) (c.in-Err.ensures.exact image given))

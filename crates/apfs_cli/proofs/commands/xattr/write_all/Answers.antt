@@ -1,5 +1,5 @@
 -- The lines are put, or what stands in the way to the view, or in it, is told.
-use Rattle.std.proofs.Common.{List, ℕ, None, Vec, Global}
+use Rattle.std.proofs.Common.{List, ℕ, None, Vec, Global, refl}
 use Rattle.cmd_words.specs.Asked.{AskedTarget, target_asked}
 use Rattle.obj_base.specs.declared.site.Site.{Site}
 use Rattle.nx_ring.specs.Checkpoint.{Seen}
@@ -31,7 +31,7 @@ returns-in-Ok-attrs-clause-answer g c =
     let at : IsAtView g.S.BlockSource.bytes g.S.BlockSource.faults target c.args.src.now c.reach_view.new.src seen volume view site =
     record { site_is = c.site-site.ensures; meant = c.in-Ok.ensures.clear; same_bytes = c.in-Ok.ensures.kept.same_bytes; later = c.in-Ok.ensures.kept.later } in
     list_put g.S.BlockSource.bytes g.S.BlockSource.faults (Xattr Quick target None) (λ facts. attributes facts target.path) xattr_text (command.told target.path) target c.args.src.now c.reach_view.new.src c.attrs.new.src
-    seen volume view site c.in-Ok-attrs.items.items c.put_lines.result (sunk g.W.Sink.contents g.W.Sink.faults c.args.out.now c.put_lines.new.out) (xattr_over target None) at c.in-Ok-attrs.ensures.exact
+    seen volume view site c.in-Ok-attrs.items.items c.put_lines.result (sunk g.W.Sink.contents g.W.Sink.faults c.args.out.now c.put_lines.new.out) (xattr_over target None) (c.in-Ok-attrs.items.items, refl) at c.in-Ok-attrs.ensures.exact
     (rw c.as_slice.ensures.value at c.put_lines.ensures)
 
 pub returns-clause-answer : goal.returns-clause-answer

@@ -1,5 +1,5 @@
 -- The contents are written, or what stands in the way to the view, or in it, is told.
-use Rattle.std.proofs.Common.{List, ℕ, Some}
+use Rattle.std.proofs.Common.{List, ℕ, Some, refl}
 use Rattle.cmd_words.specs.Asked.{AskedTarget, target_asked}
 use Rattle.obj_base.specs.declared.site.Site.{Site}
 use Rattle.nx_ring.specs.Checkpoint.{Seen}
@@ -32,7 +32,7 @@ returns-in-Ok-attr-clause-answer g c =
     let at : IsAtView g.S.BlockSource.bytes g.S.BlockSource.faults target c.args.src.now c.reach_view.new.src seen volume view site =
     record { site_is = c.site-site.ensures; meant = c.in-Ok.ensures.clear; same_bytes = c.in-Ok.ensures.kept.same_bytes; later = c.in-Ok.ensures.kept.later } in
     contents_written g.S.BlockSource.bytes g.S.BlockSource.faults (Xattr Quick target (Some name)) (command.wanted target.path (Some name)) (command.told target.path) target c.args.src.now c.reach_view.new.src c.attr.new.src
-    seen volume view site (sunk g.W.Sink.contents g.W.Sink.faults c.args.out.now c.attr.new.out) (xattr_over target (Some name)) at c.in-Ok-attr.ensures.text
+    seen volume view site (sunk g.W.Sink.contents g.W.Sink.faults c.args.out.now c.attr.new.out) (xattr_over target (Some name)) (record { streams_is = refl; formed = λ text. tt }) at c.in-Ok-attr.ensures.text
 
 pub returns-clause-answer : goal.returns-clause-answer
 returns-clause-answer g c =
@@ -46,5 +46,5 @@ returns-clause-answer g c =
     record { site_is = c.site-site.ensures; meant = c.in-Ok.ensures.clear; same_bytes = c.in-Ok.ensures.kept.same_bytes; later = c.in-Ok.ensures.kept.later } in
     rw c.stopped_on_write.ensures
     (writing_stopped g.S.BlockSource.bytes g.S.BlockSource.faults (Xattr Quick target (Some name)) (command.wanted target.path (Some name)) (command.told target.path) target c.args.src.now c.reach_view.new.src c.attr.new.src
-    seen volume view site c.in-Err-attr.stop (sunk g.W.Sink.contents g.W.Sink.faults c.args.out.now c.attr.new.out) (xattr_over target (Some name)) at
+    seen volume view site c.in-Err-attr.stop (sunk g.W.Sink.contents g.W.Sink.faults c.args.out.now c.attr.new.out) (xattr_over target (Some name)) (record { streams_is = refl; formed = λ text. tt }) at
     c.in-Err-attr.ensures.text c.in-Err-attr.ensures.untouched c.in-Err-attr.ensures.exact c.in-Err-attr.ensures.present (λ facts fault. tt) c.in-Err-attr.ensures.read_cause c.in-Err-attr.ensures.write_cause)

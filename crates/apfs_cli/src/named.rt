@@ -1,0 +1,17 @@
+// What is told of a fault.
+use apfs_check::Fault;
+
+/// A fault that is named: of the container, or of the table of a disk's partitions.
+#[derive(PartialEq, Debug, Drop)]
+pub enum Named {
+    /// One of the container.
+    InContainer(Fault),
+    /// No header of a table stands on the disk.
+    NoTable,
+    /// The table isn't right.
+    BadTable,
+    /// No partition holds a container.
+    NoPartition,
+    /// The partition of entry `at` doesn't lie in the disk.
+    PartOutside { at: u32 },
+}

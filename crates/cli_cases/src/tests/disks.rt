@@ -1,0 +1,152 @@
+// Disks whose partition is the small container, and the cases of `--gpt` on them.
+use crate::tests::cases::{Case, Ends};
+use crate::tests::checks::SMALL_REPORT;
+use crate::tests::images::Image;
+use img_make::write;
+use std::alloc::{AllocError, Global};
+
+// The partition's first sector.
+const FIRST: usize = 40;
+
+// The type of a partition that holds a container, as it is stored.
+const CONTAINER_TYPE: &[u8] = &[
+    0xef, 0x57, 0x34, 0x7c, 0x00, 0x00, 0xaa, 0x11, 0xaa, 0x11, 0x00, 0x30, 0x65, 0x43, 0xec, 0xac,
+];
+
+/// A disk with a table of 128 entries of 128 bytes, from the third sector on, whose first entry is the container's.
+#[derive(Clone, Copy, Debug)]
+pub struct Disk {
+    /// How many bytes a sector has.
+    pub sector: usize,
+    /// The partition's last sector.
+    pub last: u16,
+    /// What is written then: a sector, a byte in it, and bytes from there on.
+    pub other: (usize, usize, &'static [u8]),
+    /// How many bytes are handed in.
+    pub length: usize,
+}
+
+// 2,088 sectors of 512 bytes.
+pub const DISK: Disk = Disk {
+    sector: 512,
+    last: 2087,
+    other: (0, 0, &[]),
+    length: 2088 * 512,
+};
+
+// 296 sectors of 4,096 bytes.
+const LARGE: Disk = Disk {
+    sector: 4096,
+    last: 295,
+    other: (0, 0, &[]),
+    length: 296 * 4096,
+};
+
+// Without its last sector.
+const CUT: Disk = Disk {
+    length: 2087 * 512,
+    ..DISK
+};
+
+// The partition's type begins with another byte.
+const OTHER_TYPE: Disk = Disk {
+    other: (2, 0, &[0]),
+    ..DISK
+};
+
+// An entry has 127 bytes.
+const ODD_ENTRIES: Disk = Disk {
+    other: (1, 84, &[127]),
+    ..DISK
+};
+
+/// The sectors before the partition, without a table.
+pub fn sectors(alloc: Global, disk: Disk) -> Result<Vec<u8>, AllocError> {
+    vec![in alloc; 0u8; disk.sector.saturating_mul(FIRST)]
+}
+
+/// Writes the table. Answers whether the disk has room for it.
+pub fn write_table(bytes: &mut [u8], disk: Disk) -> bool {
+    let (block, at, other) = disk.other;
+    write(bytes, disk.sector, 1, 0, b"EFI PART")
+        && write(bytes, disk.sector, 1, 72, &[2])
+        && write(bytes, disk.sector, 1, 80, &[128])
+        && write(bytes, disk.sector, 1, 84, &[128])
+        && write(bytes, disk.sector, 2, 0, CONTAINER_TYPE)
+        && write(bytes, disk.sector, 2, 32, &[40])
+        && write(bytes, disk.sector, 2, 40, &disk.last.to_le_bytes())
+        && write(bytes, disk.sector, block, at, other)
+}
+
+const GPT_CHECK: &[&str] = &["--gpt", "check", "x"];
+
+pub const GPT_RING: &[&str] = &["--gpt", "ring", "x"];
+
+pub const DISK_CASES: &[Case] = &[
+    Case {
+        name: "clean_gpt_check",
+        image: Image::Disk(DISK),
+        words: GPT_CHECK,
+        ends: Ends::Wrote(SMALL_REPORT),
+    },
+    Case {
+        name: "clean_gpt_check_large_sectors",
+        image: Image::Disk(LARGE),
+        words: GPT_CHECK,
+        ends: Ends::Wrote(SMALL_REPORT),
+    },
+    Case {
+        name: "fault_block_zero_disk",
+        image: Image::Disk(DISK),
+        words: &["check", "x"],
+        ends: Ends::Faulty("apfs: fault: BlockZero\n"),
+    },
+    Case {
+        name: "fault_gpt_no_table",
+        image: Image::Ring,
+        words: GPT_RING,
+        ends: Ends::Faulty("apfs: fault: Gpt NoTable\n"),
+    },
+    Case {
+        name: "fault_gpt_bad_table",
+        image: Image::Disk(ODD_ENTRIES),
+        words: GPT_CHECK,
+        ends: Ends::Faulty("apfs: fault: Gpt BadTable\n"),
+    },
+    Case {
+        name: "fault_gpt_no_partition",
+        image: Image::Disk(OTHER_TYPE),
+        words: GPT_CHECK,
+        ends: Ends::Faulty("apfs: fault: Gpt NoPartition\n"),
+    },
+    Case {
+        name: "fault_gpt_part_outside",
+        image: Image::Disk(CUT),
+        words: GPT_CHECK,
+        ends: Ends::Faulty("apfs: fault: Gpt PartOutside entry 0\n"),
+    },
+    Case {
+        name: "answer_no_image_gpt",
+        image: Image::Absent,
+        words: GPT_RING,
+        ends: Ends::NoImage,
+    },
+    Case {
+        name: "words_gpt_alone",
+        image: Image::Disk(DISK),
+        words: &["--gpt"],
+        ends: Ends::Usage,
+    },
+    Case {
+        name: "words_gpt_twice",
+        image: Image::Disk(DISK),
+        words: &["--gpt", "--gpt", "ring", "x"],
+        ends: Ends::Usage,
+    },
+    Case {
+        name: "words_gpt_after_the_command",
+        image: Image::Disk(DISK),
+        words: &["ring", "--gpt", "x"],
+        ends: Ends::Usage,
+    },
+];
