@@ -189,3 +189,20 @@ joined_part old from now new part so_far here before after j =
                 after j above ∙ stays ∙ sym (cond-false (ltb j (64 * (part + 1))) _ _ (le-ltb j (64 * (part + 1)) (Prim.omega arith)))
           ]
     ]
+
+-- the bits of a run whose bytes are those of two runs, met
+pub met_bits : (old from new : List ℕ) → ((j : ℕ) → get_or new j 0 ≡ bit_and (get_or old j 0) (get_or from j 0)) → (k : ℕ) → bit_at new k ≡ (bit_at old k && bit_at from k)
+unfolding bit_at
+met_bits old from new met k =
+    ap (λ n. has_bit n (k % 8)) (met (k / 8)) ∙ has_bit_and (get_or old (k / 8) 0) (get_or from (k / 8) 0) (k % 8)
+
+-- beyond their ends two runs have zeros, which meet in 0
+pub met_at : (old from : List ℕ) (n j : ℕ) → length old ≤ n → length from ≤ n → cond (ltb j n) (bit_and (get_or old j 0) (get_or from j 0)) (get_or old j 0) ≡ bit_and (get_or old j 0) (get_or from j 0)
+met_at old from n j in_old in_from =
+    elim (cases_lt j n) [
+      | inl inside ↦ cond-true (ltb j n) _ _ (lt-ltb j n inside)
+      | inr past ↦
+          cond-false (ltb j n) _ _ (le-ltb j n past)
+          ∙ get_or_past old j 0 (Prim.omega arith)
+          ∙ ap₂ bit_and (sym (get_or_past old j 0 (Prim.omega arith))) (sym (get_or_past from j 0 (Prim.omega arith)))
+    ]

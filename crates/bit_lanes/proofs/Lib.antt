@@ -1,4 +1,5 @@
 pub mod ByteLemmas
+pub mod RunLemmas
 pub mod CountLemmas
 pub mod WordLemmas
 pub mod LaneLemmas

@@ -1,5 +1,5 @@
 // Bits of two runs of one length.
-ghost use Rattle.std.specs.Prelude.{◌≡◌, ℕ, ◌+◌, ◌<◌, ◌≤◌, ◌||◌, ◌↔◌, length, slice_index, bit_and, bit_or, false, IsTrue};
+ghost use Rattle.std.specs.Prelude.{◌≡◌, ℕ, ◌+◌, ◌<◌, ◌≤◌, ◌||◌, ◌&&◌, ◌↔◌, length, slice_index, bit_and, bit_or, false, IsTrue};
 ghost use Rattle.apfs_model.specs.Bytes.{bit_at};
 ghost use Rattle.bit_lanes.specs.Bits.{ShareBit};
 
@@ -30,6 +30,16 @@ fn or_at(into: &mut [u8], from: &[u8], at: usize)
 {
     let joined = u8x64::from_slice(&into[at..]) | u8x64::from_slice(&from[at..]);
     joined.copy_to_slice(&mut into[at..]);
+}
+
+/// Leaves the bits that are set in the other run too.
+pub fn and_into(into: &mut [u8], from: &[u8])
+    requires { length into.old ≡ length from.now }
+    ensures { (k : ℕ) → bit_at into.new k ≡ (bit_at into.old k && bit_at from.now k) }
+{
+    'bytes: for i in 0..from.len() {
+        into[i] &= from[i];
+    }
 }
 
 /// Whether some bit is set in both runs.

@@ -5,12 +5,14 @@ mod bit;
 mod count;
 mod differ;
 mod join;
+mod ranges;
 mod words;
 
 pub use bit::is_set;
 pub use count::count_ones;
 pub use differ::first_difference;
-pub use join::{and_any, or_into};
+pub use join::{and_any, and_into, or_into};
+pub use ranges::{least_set, set_range};
 
 #[cfg(test)]
 mod tests;

@@ -65,3 +65,32 @@ fn shared_bits(rt: HostRuntime) {
         assert_eq!(rt; and_any(a, b), want, "{a:?} {b:?}");
     }
 }
+
+#[test]
+fn a_bit_of_both_is_left(rt: HostRuntime) {
+    let mut few = [0x11, 0x80, 0x0f];
+    and_into(&mut few, &[0x10, 0x7f, 0x3c]);
+    assert_eq!(rt; few, [0x10, 0x00, 0x0c]);
+}
+
+#[test]
+fn bits_from_a_place_up_to_another(rt: HostRuntime) {
+    let mut bits = [0; 80];
+    set_range(&mut bits, 5, 5);
+    assert!(rt; bits.iter().all(|byte| *byte == 0x00));
+    set_range(&mut bits, 5, 19);
+    assert_eq!(rt; &bits[..4], [0xe0, 0xff, 0x07, 0x00].as_slice());
+    set_range(&mut bits, 630, 633);
+    assert_eq!(rt; &bits[77..], [0x00, 0xc0, 0x01].as_slice());
+    for (from, to, want) in [
+        (0, 5, None),
+        (0, 6, Some(5)),
+        (7, 640, Some(7)),
+        (19, 630, None),
+        (19, 640, Some(630)),
+        (633, 640, None),
+    ] {
+        assert!(rt; from <= to && to <= 640);
+        assert_eq!(rt; least_set(&bits, from, to), want, "{from} {to}");
+    }
+}

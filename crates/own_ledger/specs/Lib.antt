@@ -1,3 +1,2 @@
 pub mod Held
 pub mod Inside
-pub mod Places

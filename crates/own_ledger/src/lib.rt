@@ -2,7 +2,6 @@
 #![tactic(auto)]
 
 mod held;
-mod runs;
 
 pub use held::{ClaimFault, Difference, Ledger};
 

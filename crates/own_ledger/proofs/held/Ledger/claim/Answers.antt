@@ -2,7 +2,7 @@ use Rattle.std.proofs.Common.{◌≡◌, ℕ, ◌+◌, ◌-◌, ◌||◌, true, 
 use Rattle.std.proofs.lemmas.List.{with_items_is}
 use Rattle.apfs_model.specs.Bytes.{bit_at}
 use Rattle.own_ledger.specs.Held.{lies_in, CanClaim, AddsRange, IsTwice}
-use Rattle.own_ledger.specs.Places.{is_from, AreClear, IsLeastSet}
+use Rattle.bit_lanes.specs.Places.{is_from, AreClear, IsLeastSet}
 use Rattle.own_ledger.proofs.MarkLemmas.{ledger_of, claim-twice, claim-clear, claim-adds}
 use Rattle.own_ledger.proofs.held.Ledger.claim.Goals as goal
 
