@@ -1,10 +1,9 @@
 -- One more hit is taken.
-use Rattle.std.proofs.Common.{◌≡◌, ℕ, zero, suc, ◌+◌, ◌<◌, List, [], ◌∷◌, ◌++◌, length, get_or, take, true, ◌⊎◌, inl, inr, ap, sym, ◌∙◌, subst, append_assoc, append-nil, Option, Some, IfSome}
+use Rattle.std.proofs.Common.{◌≡◌, ℕ, zero, suc, ◌+◌, ◌<◌, List, [], ◌∷◌, ◌++◌, length, get_or, take, true, inl, inr, ap, sym, ◌∙◌, subst, append_assoc, append-nil, Option, Some, IfSome}
 use Rattle.std.specs.List.{flat_map}
 use Rattle.std.proofs.lemmas.List.{take_more}
 use Rattle.std.proofs.lemmas.Grind.{flat_map-append}
 use Rattle.apfs_model.specs.Lists.{In}
-use Rattle.apfs_model.proofs.Searches.{in-append}
 use Rattle.obj_base.specs.declared.site.Site.{Site}
 use Rattle.obj_base.specs.declared.stop.Feature.{Feature}
 use Rattle.obj_base.specs.declared.stop.Stop.{Stop}
@@ -18,9 +17,9 @@ use Rattle.view_sweep.specs.declared.wanted.Want.TheVariants.{Root, Metadata, No
 use Rattle.view_sweep.specs.declared.wanted.Wanted.{Wanted}
 use Rattle.view_sweep.specs.declared.used.Used.{Used}
 use Rattle.view_sweep.specs.declared.used.Hit.{Hit}
-use Rattle.view_sweep.specs.Found.{tested_as, is_sound, kids_from, kids_by, wants_by, wants_of}
+use Rattle.view_sweep.specs.Found.{tested_as, is_sound, kids_from, kids_by, wants_by}
 use Rattle.view_sweep.specs.Here.{IsBadHit, IsRefusedHit}
-use Rattle.view_sweep.specs.Swept.{AreOfHits, AreSound}
+use Rattle.view_sweep.specs.Swept.{AreSound}
 use Rattle.view_sweep.specs.Tests.{IsFaultOf, IsFeatureOf}
 use Rattle.view_sweep.proofs.Losts.{nobody}
 use Rattle.view_sweep.proofs.Ranked.{every-push}
@@ -30,9 +29,9 @@ abbrev pub norecord : OmapRecord
 norecord = record { oid = 0; xid = 0; flags = 0; size = 0; paddr = 0 }
 
 abbrev pub nohit : Hit
-nohit = record { wanted = nobody; mapping = norecord }
+nohit = record { wanted = nobody; mapping = norecord; set = 0 }
 
-pub flat-more : {X : Type 0} (f : X → List Wanted) (hits : List X) (i : ℕ) (d : X) (front out new : List Wanted) → i < length hits → out ≡ front ++ flat_map f (take i hits) → new ≡ out ++ f (get_or hits i d) → new ≡ front ++ flat_map f (take (i + 1) hits)
+pub flat-more : {X Y : Type 0} (f : X → List Y) (hits : List X) (i : ℕ) (d : X) (front out new : List Y) → i < length hits → out ≡ front ++ flat_map f (take i hits) → new ≡ out ++ f (get_or hits i d) → new ≡ front ++ flat_map f (take (i + 1) hits)
 flat-more f hits i d front out new low done step =
     step ∙ (ap (λ xs. xs ++ f (get_or hits i d)) done
     ∙ (append_assoc front (flat_map f (take i hits)) (f (get_or hits i d))
@@ -52,13 +51,6 @@ pub wants-view : (v : SweptView) (want : Want) (r : OmapRecord) (bytes : List �
 wants-view v Root r bytes w h = kids-view v r _ _ w h
 wants-view v Metadata r bytes w h = absurd h
 wants-view v (Node level namer entry) r bytes w h = kids-view v r _ _ w h
-
-pub views-more : (hits : List Hit) (old out new : List Wanted) (h : Hit) (bytes : List ℕ) → AreOfHits hits old out → In h hits → new ≡ out ++ wants_of h.wanted h.mapping bytes → AreOfHits hits old new
-views-more hits old out new h bytes done one e = λ w k.
-    elim (in-append w out (wants_of h.wanted h.mapping bytes) (subst (λ ws. In w ws) e k)) as (λ _. In w old ⊎ ((x : Hit) × (In x hits × (w.view ≡ x.wanted.view)))) [
-      | inl a ↦ done w a
-      | inr b ↦ inr (h, (one, wants-view h.wanted.view h.wanted.want h.mapping bytes w b))
-    ]
 
 pub sound-more : (site : Site) (bytes : OmapRecord → List ℕ) (hits : List Hit) (i : ℕ) (d : Hit) → i < length hits → AreSound site bytes (take i hits) → is_sound site (get_or hits i d).wanted (bytes (get_or hits i d).mapping) ≡ true → AreSound site bytes (take (i + 1) hits)
 sound-more site bytes hits i d low done one = every-push (λ (h : Hit). is_sound site h.wanted (bytes h.mapping) ≡ true) (take i hits) (take (i + 1) hits) (get_or hits i d) (take_more hits i d low) done one

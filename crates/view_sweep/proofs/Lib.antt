@@ -1,12 +1,10 @@
 pub mod Records
 pub mod Ranked
 pub mod Readings
-pub mod Onces
 pub mod Orders
 pub mod Kids
 pub mod Sounds
 pub mod Losts
-pub mod Clashes
 pub mod Sizes
 pub mod Hits
 pub mod Steps
@@ -17,3 +15,14 @@ pub mod Named
 pub mod Reached
 pub mod Idles
 pub mod Placed
+pub mod Members
+pub mod Likes
+pub mod Gaps
+pub mod Since
+pub mod Onces
+pub mod Joins
+pub mod Splits
+pub mod Fors
+pub mod Cuts
+pub mod Waits
+pub mod Tops

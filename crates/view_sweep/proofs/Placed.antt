@@ -1,5 +1,5 @@
 -- Views that are told by their places.
-use Rattle.std.proofs.Common.{◌≡◌, ℕ, true, ◌<◌, List, ◌∷◌, [], ◌++◌, inl, inr, ap, sym, ◌∙◌, subst}
+use Rattle.std.proofs.Common.{◌≡◌, ℕ, true, ◌<◌, ◌%◌, List, ◌∷◌, [], ◌++◌, inl, inr, ap, sym, ◌∙◌, subst}
 use Rattle.apfs_model.specs.Lists.{In}
 use Rattle.apfs_model.proofs.Searches.{in-append}
 use Rattle.view_sweep.specs.declared.wanted.SweptView.{SweptView}
@@ -25,6 +25,6 @@ told-placed f heads all = λ a b i j s p. all a i ∙ (ap f p ∙ sym (all b j))
 pub below-placed : (f : ℕ → SweptView) (n : ℕ) (heads : List Head) → ((place : ℕ) → (f place).volume < n) → ArePlacedBy f heads → AreBelowHeads n heads
 below-placed f n heads low all = λ h i. subst (λ (v : SweptView). v.volume < n) (sym (all h i)) (low h.view.place)
 
--- the view of a snapshot of the first volume
-abbrev pub first_view : ℕ → SweptView
-first_view place = record { slot = 0; place = place; xid = place; map = 52; hashed = true; volume = 0 }
+-- the view of a snapshot, of so many volumes in turn
+abbrev pub view_among : ℕ → ℕ → SweptView
+view_among volumes place = record { slot = place % volumes; place = place; xid = place; map = 52; hashed = true; volume = place % volumes }

@@ -17,9 +17,9 @@ use Rattle.obj_base.specs.declared.site.Site.{Site}
 use Rattle.omap_map.specs.Resolve.{resolved as resolves}
 use Rattle.vol_view.specs.Volumes.{Loaded}
 use Rattle.view_sweep.specs.declared.wanted.SweptView.{SweptView}
-use Rattle.view_sweep.specs.Wanted.{head_wants, heads_want, AreTold, AreBelow, AreToldHeads, AreBelowHeads, AreOfHeads}
+use Rattle.view_sweep.specs.Wanted.{head_wants, heads_want, AreTold, AreToldHeads, AreOfHeads}
 use Rattle.view_sweep.specs.Found.{World, world, looked, placed, records_at, used_by, is_sound, next_of}
-use Rattle.view_sweep.specs.Swept.{IsClear, IsUsedBy, IsStep, IsLive, IsSwept, AreKids, AreOfThese, level_of}
+use Rattle.view_sweep.specs.Swept.{IsClear, IsUsedBy, IsStep, IsLive, IsSwept, AreKids, level_of}
 use Rattle.view_sweep.proofs.Levels.{Falls, next-falls, one-level}
 
 -- what is wanted at a level
@@ -208,10 +208,7 @@ told-of heads ws told of = λ a b h i s p.
     let place : x.0.view.place ≡ y.0.view.place = sym (ap (λ (v : SweptView). v.place) x.1.1) ∙ (p ∙ ap (λ (v : SweptView). v.place) y.1.1) in
     x.1.1 ∙ (told x.0 y.0 x.1.0 y.1.0 slot place ∙ sym y.1.1)
 
-pub below-of : (n : ℕ) (heads : List Head) (ws : List Wanted) → AreBelowHeads n heads → AreOfHeads heads ws → AreBelow n ws
-below-of n heads ws low of = λ a h. let x = of a h in subst (λ (v : SweptView). v.volume < n) (sym x.1.1) (low x.0 x.1.0)
-
-head-view : (h : Head) (w : Wanted) → In w (head_wants h) → w.view ≡ h.view
+pub head-view : (h : Head) (w : Wanted) → In w (head_wants h) → w.view ≡ h.view
 head-view h w (inl e) = ap (λ (x : Wanted). x.view) e
 head-view h w (inr k) =
     let go : (b : Bool) → In w (if b then [] else record { view = h.view; oid = h.meta_ext; want = Metadata } ∷ []) → w.view ≡ h.view =
@@ -223,12 +220,3 @@ head-view h w (inr k) =
 
 pub heads-views : (heads : List Head) → AreOfHeads heads (heads_want heads)
 heads-views heads = λ w h. let t = from-flat_map head_wants w heads h in (t.0, (t.1.0, head-view t.0 w t.1.1))
-
-pub these-views : (heads : List Head) (these old new : List Wanted) → AreOfHeads heads these → AreOfHeads heads old → AreOfThese these old new → AreOfHeads heads new
-these-views heads these old new a b c = λ w h. elim (c w h) as (λ _. (x : Head) × (In x heads × (w.view ≡ x.view))) [ inl i ↦ b w i | inr t ↦ let x = a t.0 t.1.0 in (x.0, (x.1.0, t.1.1 ∙ x.1.1)) ]
-
-pub level-views : (heads : List Head) (current kids after : List Wanted) (level : ℕ) → AreOfHeads heads current → AreOfHeads heads kids → after ≡ current ++ filter (at_level level) kids → AreOfHeads heads after
-level-views heads current kids after level a b e = λ w h. elim (in-append w current (filter (at_level level) kids) (subst (λ ws. In w ws) e h)) as (λ _. (x : Head) × (In x heads × (w.view ≡ x.view))) [
-  | inl i ↦ a w i
-  | inr i ↦ b w (from-filter (at_level level) w kids i)
-]

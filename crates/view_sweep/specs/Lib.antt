@@ -6,3 +6,7 @@ pub mod Order
 pub mod Swept
 pub mod Named
 pub mod Unused
+pub mod Sets
+pub mod Next
+pub mod Asked
+pub mod Hits

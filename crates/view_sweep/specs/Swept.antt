@@ -1,5 +1,5 @@
 -- What is swept: a level, and all that is live.
-use Rattle.std.specs.Prelude.{◌≡◌, ◌⊎◌, ℕ, ◌≤◌, true, List, ◌∷◌, [], ◌++◌, flat_map, Option, Some}
+use Rattle.std.specs.Prelude.{◌≡◌, ◌⊎◌, ℕ, ◌≤◌, true, List, ◌∷◌, [], ◌++◌, map, flat_map, Option, Some}
 use Rattle.apfs_model.specs.Blocks.{in_container}
 use Rattle.apfs_model.specs.Lists.{In}
 use Rattle.apfs_model.specs.Apart.{Apart}
@@ -11,38 +11,28 @@ use Rattle.view_sweep.specs.declared.wanted.Want.{Want}
 use Rattle.view_sweep.specs.declared.wanted.Want.TheVariants.{Root, Metadata, Node}
 use Rattle.view_sweep.specs.declared.wanted.Head.{Head}
 use Rattle.view_sweep.specs.declared.wanted.Wanted.{Wanted}
+use Rattle.view_sweep.specs.declared.wanted.Asked.{Asked}
 use Rattle.view_sweep.specs.declared.used.Used.{Used}
 use Rattle.view_sweep.specs.declared.used.Hit.{Hit}
 use Rattle.view_sweep.specs.Wanted.{heads_want}
+use Rattle.view_sweep.specs.Sets.{asked_with}
 use Rattle.view_sweep.specs.Found.{World, used_by, is_sound, wants_of, next_of}
-
--- each hit has the record by which what is wanted is found
-abbrev pub AreHits : (Wanted → Option OmapRecord) → List Hit → Type 0
-AreHits look hits = (h : Hit) → In h hits → look h.wanted ≡ Some h.mapping
 
 -- each hit's record gives a block of a container of so many blocks
 abbrev pub ArePlaced : ℕ → List Hit → Type 0
 ArePlaced blocks hits = (h : Hit) → In h hits → in_container blocks h.mapping.paddr ≡ Some h.mapping.paddr
 
--- no mapping of the hits has a feature
-abbrev pub ArePlain : ℕ → List Hit → Type 0
-ArePlain block_size hits = (h : Hit) → In h hits → mapping_features block_size h.mapping.flags h.mapping.size ≡ []
-
 -- what a hit wants in turn, by the bytes to which records lead
 abbrev pub hit_wants : (OmapRecord → List ℕ) → Hit → List Wanted
 hit_wants bytes h = wants_of h.wanted h.mapping (bytes h.mapping)
 
+-- what is asked of the views of its set then
+abbrev pub hit_asks : (OmapRecord → List ℕ) → Hit → List Asked
+hit_asks bytes h = map (asked_with h.set) (hit_wants bytes h)
+
 -- each hit is sound as it is wanted
 abbrev pub AreSound : Site → (OmapRecord → List ℕ) → List Hit → Type 0
 AreSound site bytes hits = (h : Hit) → In h hits → is_sound site h.wanted (bytes h.mapping) ≡ true
-
--- what is new is wanted of the views of hits
-abbrev pub AreOfHits : List Hit → List Wanted → List Wanted → Type 0
-AreOfHits hits old new = (w : Wanted) → In w new → In w old ⊎ ((h : Hit) × (In h hits × (w.view ≡ h.wanted.view)))
-
--- what is new is wanted of the views of these
-abbrev pub AreOfThese : List Wanted → List Wanted → List Wanted → Type 0
-AreOfThese these old new = (w : Wanted) → In w new → In w old ⊎ ((a : Wanted) × (In a these × (w.view ≡ a.view)))
 
 -- the records read so far, and one more where it isn't the one that is held
 abbrev pub IsTurned : Option Used → Used → List Used → List Used → Type 0
@@ -57,17 +47,6 @@ pub record AreRead (records read : List Used) : Type 0 where
 -- no id of a view is wanted in two ways
 abbrev pub IsOnce : List Wanted → Type 0
 IsOnce ws = (a b : Wanted) → In a ws → In b ws → a.view ≡ b.view → a.oid ≡ b.oid → a ≡ b
-
--- two are wanted under one id of a view, in two ways
-pub record AreClashing (a b : Wanted) : Type 0 where
-  pub slot : a.view.slot ≡ b.view.slot
-  pub place : a.view.place ≡ b.view.place
-  pub oid : a.oid ≡ b.oid
-  pub apart : a.want ≡ b.want → ⊥
-
--- under one id of a view two are wanted in one way
-abbrev pub AreAlike : Wanted → Wanted → Type 0
-AreAlike a b = a.view.slot ≡ b.view.slot → a.view.place ≡ b.view.place → a.oid ≡ b.oid → a.want ≡ b.want
 
 -- an object that is wanted is found by a record, by which it is sound, and whose mapping has no feature
 pub record IsClear (k : World) (w : Wanted) : Type 0 where

@@ -1,5 +1,5 @@
 -- What is wanted of views, as namings.
-use Rattle.std.specs.Prelude.{◌≡◌, ℕ, ◌<◌, ◌==◌, List, [], ◌∷◌, flat_map, if◌then◌else◌}
+use Rattle.std.specs.Prelude.{◌≡◌, ℕ, ◌+◌, ◌<◌, ◌==◌, List, [], ◌∷◌, flat_map, if◌then◌else◌}
 use Rattle.apfs_model.specs.Lists.{In}
 use Rattle.reach_rules.specs.Naming.{ViewAt, InView, OfRecord, Namer, Whole, Files, Expected, ExtendedMetadata, TreeRoot, TreeNode, Naming, naming}
 use Rattle.view_sweep.specs.declared.wanted.SweptView.{SweptView}
@@ -23,6 +23,12 @@ head_wants h = wanted h.view h.root_oid Root ∷ (if h.meta_ext == 0 then [] els
 -- what the superblocks of some views want
 abbrev pub heads_want : List Head → List Wanted
 heads_want heads = flat_map head_wants heads
+
+-- the number of what is expected, whoever names it
+abbrev pub number_by : Want → ℕ
+number_by Root = 0
+number_by Metadata = 1
+number_by (Node level namer entry) = level + 2
 
 -- what is expected, as namings have it
 abbrev pub expected_by : SweptView → Want → Expected
@@ -52,10 +58,6 @@ naming_of supers w = naming (namer_by supers w.view w.want) (position_of w.want)
 -- a view is told by its slot and its place
 abbrev pub AreTold : List Wanted → Type 0
 AreTold ws = (a b : Wanted) → In a ws → In b ws → a.view.slot ≡ b.view.slot → a.view.place ≡ b.view.place → a.view ≡ b.view
-
--- each volume is one of so many
-abbrev pub AreBelow : ℕ → List Wanted → Type 0
-AreBelow volumes ws = (a : Wanted) → In a ws → a.view.volume < volumes
 
 -- a view is told by its slot and its place, of some that are handed in
 abbrev pub AreToldHeads : List Head → Type 0

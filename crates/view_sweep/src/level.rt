@@ -4,51 +4,61 @@ ghost use Rattle.apfs_model.specs.Counts.{Rose};
 ghost use Rattle.apfs_model.specs.Source.{IsKept};
 ghost use Rattle.obj_base.specs.Site.{IsSiteFor};
 ghost use Rattle.obj_base.specs.declared.stop.Stop.TheVariants.{ReadFault};
-ghost use Rattle.view_sweep.specs.Wanted.{AreTold, AreBelow};
 ghost use Rattle.view_sweep.specs.Found.{world};
 ghost use Rattle.view_sweep.specs.Here.{TellsHere, Among};
-ghost use Rattle.view_sweep.specs.Swept.{IsStep, AreOfThese};
+ghost use Rattle.view_sweep.specs.Hits.{AreBelowViews};
+ghost use Rattle.view_sweep.specs.Sets.{AreSets, AreKept, AreNumbered, all_asked};
+ghost use Rattle.view_sweep.specs.Swept.{IsStep};
 
+use crate::joining::joined;
 use crate::looking::hits;
 use crate::once::once;
 use crate::order::{by_id, by_record};
 use crate::reading::read_hits;
+use crate::sets::ViewSet;
 use crate::used::Used;
-use crate::wanted::Wanted;
+use crate::wanted::{Asked, SweptView};
 use blk_source::BlockSource;
 use obj_base::{Site, Stop};
 use reach_rules::ReachFault;
 use std::alloc::Global;
 use vol_view::Volume;
 
-/// Takes a level: each record is read once, however many views want it, and what its object wants in turn is added.
+/// Takes a level: each record is read once, however many views want it, and what its object wants in turn is asked for.
 pub(crate) fn take_level<S: BlockSource>(
     alloc: Global,
     src: &mut S,
     volumes: &[Volume],
+    views: &[SweptView],
     site: &Site,
-    current: &mut Vec<Wanted>,
+    sets: &mut Vec<ViewSet>,
+    current: &mut Vec<Asked>,
     block: &mut Vec<u8>,
-    below: &mut Vec<Wanted>,
+    below: &mut Vec<Asked>,
 ) -> Result<Vec<Used>, Stop<ReachFault>>
     requires site { IsSiteFor site.now (S.bytes_len src.old) }
     requires long { length block.old.items ≡ site.now.block_size }
-    requires told { AreTold current.old.items }
-    requires below { AreBelow (length volumes.now) current.old.items }
-    ensures step { (image : List ℕ) → S.bytes src.old ≡ Some image → IfOk result (λ read. IsStep (world volumes.now site.now image) current.old.items below.old.items below.new.items read.items) }
-    ensures stops { (image : List ℕ) → S.bytes src.old ≡ Some image → IfErr result (TellsHere (world volumes.now site.now image) (Among current.old.items)) }
-    ensures views { OnOk result (AreOfThese current.old.items below.old.items below.new.items) }
+    requires below { AreBelowViews (length volumes.now) views.now }
+    requires sets { AreSets views.now sets.old.items }
+    requires numbers { AreNumbered (length sets.old.items) current.old.items }
+    requires waiting { AreNumbered (length sets.old.items) below.old.items }
+    ensures step { (image : List ℕ) → S.bytes src.old ≡ Some image → IfOk result (λ read. IsStep (world volumes.now site.now image) (all_asked views.now sets.old.items current.old.items) (all_asked views.now sets.new.items below.old.items) (all_asked views.now sets.new.items below.new.items) read.items) }
+    ensures stops { (image : List ℕ) → S.bytes src.old ≡ Some image → IfErr result (TellsHere (world volumes.now site.now image) (Among (all_asked views.now sets.old.items current.old.items))) }
+    ensures sets { OnOk result (AreSets views.now sets.new.items) }
+    ensures numbers { OnOk result (AreNumbered (length sets.new.items) below.new.items) }
+    ensures same { OnOk result (AreKept sets.old.items sets.new.items) }
     ensures reads { IfOk result (λ read. S.reads src.new ≤ S.reads src.old + length read.items) }
     ensures long { length block.new.items ≡ site.now.block_size }
     ensures cause { IsErrOf result ReadFault → Rose (S.faults src.old) (S.faults src.new) }
     ensures kept { IsKept S.bytes S.bytes_len S.faults src.old src.new }
 {
     by_id(current);
-    match once(current) {
+    match once(alloc, views, sets, current) {
         Ok(()) => {}
         Err(stop) => return Err(stop),
     }
-    let mut found = match hits(alloc, volumes, site, current) {
+    let all = joined(alloc, views, sets, current)?;
+    let mut found = match hits(alloc, volumes, site, views, &all, sets) {
         Ok(found) => found,
         Err(stop) => return Err(stop),
     };

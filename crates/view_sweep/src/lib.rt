@@ -2,13 +2,16 @@
 #![tactic(auto)]
 
 mod idle;
+mod joining;
 mod level;
 mod looking;
+mod next;
 mod nodes;
 mod once;
 mod order;
 mod reaching;
 mod reading;
+mod sets;
 mod sweeping;
 mod used;
 mod wanted;

@@ -1,19 +1,24 @@
 // The records by which what is wanted is found.
-ghost use Rattle.std.specs.Prelude.{◌≡◌, ◌<◌, ℕ, [], map, length, Some, IfOk, IfErr, IfSome, IsErrOf, MatchOption, IsNone};
+ghost use Rattle.std.specs.Prelude.{◌≡◌, ◌<◌, ℕ, [], length, Some, OnOk, IfOk, IfErr, IfSome, IsErrOf, IsNone};
 ghost use Rattle.apfs_model.specs.Blocks.{in_container};
 ghost use Rattle.apfs_model.specs.Lists.{In};
 ghost use Rattle.obj_base.specs.Stops.{Tells};
 ghost use Rattle.obj_base.specs.declared.stop.Stop.TheVariants.{ReadFault};
 ghost use Rattle.omap_map.specs.Features.{mapping_features};
 ghost use Rattle.omap_map.specs.Resolve.{resolved};
-ghost use Rattle.view_sweep.specs.Wanted.{AreBelow};
 ghost use Rattle.view_sweep.specs.Found.{looked, records_at};
-ghost use Rattle.view_sweep.specs.Here.{IsLostHere, IsMappedBy, Among};
-ghost use Rattle.view_sweep.specs.Swept.{AreHits, ArePlaced, ArePlain};
+ghost use Rattle.view_sweep.specs.Here.{IsLostHere, IsMappedBy};
+ghost use Rattle.view_sweep.specs.Sets.{IsSetOf, AreSets, AreKept};
+ghost use Rattle.view_sweep.specs.Asked.{AreOfSets, IsOfSet, IsOfSought};
+ghost use Rattle.view_sweep.specs.Hits.{AreBelowViews, AreSplit, AreHitsOf};
 
+use crate::joining::Sought;
+use crate::next::until;
+use crate::sets::{ViewSet, keep, part_of};
 use crate::used::Hit;
-use crate::wanted::Wanted;
+use crate::wanted::{SweptView, Wanted};
 use apfs_layout::object_map;
+use bit_lanes::least_set;
 use obj_base::{Feature, Site, Stop, Within};
 use omap_map::{Omap, OmapRecord};
 use reach_rules::ReachFault;
@@ -68,13 +73,12 @@ fn feature(mapping: &OmapRecord, site: &Site) -> Option<Feature>
     None
 }
 
-// What is found of one object that is wanted.
-fn hit(volumes: &[Volume], site: &Site, wanted: &Wanted) -> Result<Hit, Stop<ReachFault>>
+// The record by which one object that is wanted is found.
+fn found(volumes: &[Volume], site: &Site, wanted: &Wanted) -> Result<OmapRecord, Stop<ReachFault>>
     requires below { wanted.now.view.volume < length volumes.now }
-    ensures same { IfOk result (λ hit. hit.wanted ≡ wanted.now) }
-    ensures found { IfOk result (λ hit. looked volumes.now site.now wanted.now ≡ Some hit.mapping) }
-    ensures inside { IfOk result (λ hit. in_container site.now.blocks hit.mapping.paddr ≡ Some hit.mapping.paddr) }
-    ensures plain { IfOk result (λ hit. mapping_features site.now.block_size hit.mapping.flags hit.mapping.size ≡ []) }
+    ensures found { IfOk result (λ mapping. looked volumes.now site.now wanted.now ≡ Some mapping) }
+    ensures inside { IfOk result (λ mapping. in_container site.now.blocks mapping.paddr ≡ Some mapping.paddr) }
+    ensures plain { IfOk result (λ mapping. mapping_features site.now.block_size mapping.flags mapping.size ≡ []) }
     ensures stops { IfErr result (Tells (IsLostHere (looked volumes.now site.now) (λ w. w ≡ wanted.now)) (IsMappedBy (looked volumes.now site.now) site.now.block_size (λ w. w ≡ wanted.now))) }
     ensures no_read { IsErrOf result ReadFault → ⊥ }
 {
@@ -91,34 +95,76 @@ fn hit(volumes: &[Volume], site: &Site, wanted: &Wanted) -> Result<Hit, Stop<Rea
             block: mapping.paddr,
         });
     }
-    Ok(Hit {
-        wanted: *wanted,
-        mapping,
-    })
+    Ok(mapping)
 }
 
-/// The records by which all that is wanted is found.
+// Adds what is found of one that is sought: a hit for each record, with the views that find it.
+fn add_hits(
+    alloc: Global,
+    volumes: &[Volume],
+    site: &Site,
+    views: &[SweptView],
+    sought: &Sought,
+    sets: &mut Vec<ViewSet>,
+    out: &mut Vec<Hit>,
+) -> Result<(), Stop<ReachFault>>
+    requires below { AreBelowViews (length volumes.now) views.now }
+    requires set { IsSetOf views.now sought.now.set.items }
+    requires sets { AreSets views.now sets.old.items }
+    ensures hits { OnOk result (AreSplit (looked volumes.now site.now) site.now views.now sets.new.items sought.now.wanted sought.now.set.items (length views.now) out.old.items out.new.items) }
+    ensures sets { OnOk result (AreSets views.now sets.new.items) }
+    ensures kept { OnOk result (AreKept sets.old.items sets.new.items) }
+    ensures stops { IfErr result (Tells (IsLostHere (looked volumes.now site.now) (IsOfSet views.now sought.now.wanted sought.now.set.items)) (IsMappedBy (looked volumes.now site.now) site.now.block_size (IsOfSet views.now sought.now.wanted sought.now.set.items))) }
+    ensures no_read { IsErrOf result ReadFault → ⊥ }
+{
+    let mut from = 0;
+    while let Some(low) = least_set(&sought.set, from, views.len()) {
+        let wanted = Wanted {
+            view: views[low],
+            oid: sought.wanted.oid,
+            want: sought.wanted.want,
+        };
+        let mapping = match found(volumes, site, &wanted) {
+            Ok(mapping) => mapping,
+            Err(stop) => return Err(stop),
+        };
+        let high = until(volumes, site, views, low, &wanted, &mapping);
+        let part = part_of(alloc, &sought.set, low, high)?;
+        let set = keep(sets, part)?;
+        out.push(Hit {
+            wanted,
+            mapping,
+            set,
+        })?;
+        from = high;
+    }
+    Ok(())
+}
+
+/// The records by which all that is sought is found.
 pub(crate) fn hits(
     alloc: Global,
     volumes: &[Volume],
     site: &Site,
-    wants: &[Wanted],
+    views: &[SweptView],
+    all: &[Sought],
+    sets: &mut Vec<ViewSet>,
 ) -> Result<Vec<Hit>, Stop<ReachFault>>
-    requires below { AreBelow (length volumes.now) wants.now }
-    ensures same { IfOk result (λ hits. map (λ h. h.wanted) hits.items ≡ wants.now) }
-    ensures found { IfOk result (λ hits. AreHits (looked volumes.now site.now) hits.items) }
-    ensures inside { IfOk result (λ hits. ArePlaced site.now.blocks hits.items) }
-    ensures plain { IfOk result (λ hits. ArePlain site.now.block_size hits.items) }
-    ensures stops { IfErr result (Tells (IsLostHere (looked volumes.now site.now) (Among wants.now)) (IsMappedBy (looked volumes.now site.now) site.now.block_size (Among wants.now))) }
+    requires below { AreBelowViews (length volumes.now) views.now }
+    requires all { AreOfSets views.now all.now }
+    requires sets { AreSets views.now sets.old.items }
+    ensures hits { IfOk result (λ hits. AreHitsOf (looked volumes.now site.now) site.now views.now sets.new.items all.now hits.items) }
+    ensures sets { OnOk result (AreSets views.now sets.new.items) }
+    ensures kept { OnOk result (AreKept sets.old.items sets.new.items) }
+    ensures stops { IfErr result (Tells (IsLostHere (looked volumes.now site.now) (IsOfSought views.now all.now)) (IsMappedBy (looked volumes.now site.now) site.now.block_size (IsOfSought views.now all.now))) }
     ensures no_read { IsErrOf result ReadFault → ⊥ }
 {
     let mut hits = Vec::new(alloc);
-    for wanted in wants {
-        let found = match hit(volumes, site, wanted) {
-            Ok(found) => found,
+    for sought in all {
+        match add_hits(alloc, volumes, site, views, sought, sets, &mut hits) {
+            Ok(()) => {}
             Err(stop) => return Err(stop),
-        };
-        hits.push(found)?;
+        }
     }
     Ok(hits)
 }

@@ -1,23 +1,28 @@
-// Sorting: what is wanted by view and id, what is found and what is used by record.
+// Sorting: what is asked by id, what is found and what is used by record.
 ghost use Rattle.std.specs.List.Sorted.{IsPermutation, IsSortedBy};
 ghost use Rattle.std.specs.Prelude.{◌≡◌};
-ghost use Rattle.view_sweep.specs.Order.{used_rank, is_id_below, is_hit_below, is_used_below};
+ghost use Rattle.view_sweep.specs.Order.{asked_rank, AreById, used_rank, is_hit_below, is_used_below};
 
 use crate::used::{Hit, Used};
-use crate::wanted::Wanted;
+use crate::wanted::Asked;
 use std::cmp::Ordering;
 
-/// Puts what is wanted under one id of a view side by side.
-pub(crate) fn by_id(wants: &mut Vec<Wanted>)
-    ensures order { IsPermutation wants.old.items wants.new.items }
-    ensures sorted { IsSortedBy is_id_below wants.new.items }
+// How one that is asked for stands to another: by the id, then by what is expected.
+fn asked_rank(a: &Asked, b: &Asked) -> Ordering
+    ensures { result ≡ asked_rank a.now b.now }
 {
-    wants.sort_unstable_by(|a, b| {
-        a.view
-            .slot
-            .cmp(&b.view.slot)
-            .then(a.view.place.cmp(&b.view.place).then(a.oid.cmp(&b.oid)))
-    });
+    a.wanted
+        .oid
+        .cmp(&b.wanted.oid)
+        .then(a.wanted.number().cmp(&b.wanted.number()))
+}
+
+/// Puts what is asked under one id side by side, and of this what is expected alike.
+pub(crate) fn by_id(asked: &mut Vec<Asked>)
+    ensures order { IsPermutation asked.old.items asked.new.items }
+    ensures sorted { AreById asked.new.items }
+{
+    asked.sort_unstable_by(|a, b| asked_rank(a, b));
 }
 
 /// Puts what is found by one record side by side.

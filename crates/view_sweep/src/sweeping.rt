@@ -1,64 +1,106 @@
 // The sweep: all that is wanted of all views, level by level.
-ghost use Rattle.std.specs.Prelude.{◌≡◌, ◌==◌, ◌+◌, ◌≤◌, ◌++◌, ℕ, List, Some, length, IfOk, IfErr, OnOk, IsErrOf};
+ghost use Rattle.std.specs.Prelude.{◌≡◌, ◌==◌, ◌+◌, ◌≤◌, ◌<◌, ◌++◌, ℕ, List, Some, length, map, IfOk, IfErr, OnOk, IsErrOf};
 ghost use Rattle.std.specs.List.{filter};
 ghost use Rattle.apfs_model.specs.Counts.{Rose};
 ghost use Rattle.apfs_model.specs.Source.{IsKept};
 ghost use Rattle.obj_base.specs.Site.{IsSiteFor};
-ghost use Rattle.obj_base.specs.declared.stop.Stop.TheVariants.{ReadFault, NoMemory};
-ghost use Rattle.view_sweep.specs.Wanted.{head_wants, heads_want, AreToldHeads, AreBelowHeads, AreOfHeads};
+ghost use Rattle.obj_base.specs.declared.stop.Stop.TheVariants.{ReadFault};
+ghost use Rattle.view_sweep.specs.Wanted.{head_wants, heads_want, AreBelowHeads};
 ghost use Rattle.view_sweep.specs.Found.{world};
 ghost use Rattle.view_sweep.specs.Here.{TellsHere};
+ghost use Rattle.apfs_model.specs.Lists.{In};
+ghost use Rattle.view_sweep.specs.Hits.{AreBelowViews};
+ghost use Rattle.view_sweep.specs.Sets.{AreSets, AreKept, AreNumbered, HaveSame, IsSetOfOne, all_asked, asked_with, set_at};
 ghost use Rattle.view_sweep.specs.Swept.{AreKids, IsLive, IsSwept, level_of};
 
 use crate::level::take_level;
+use crate::sets::{ViewSet, keep, one_of, place_of};
 use crate::used::Used;
-use crate::wanted::{Head, Want, Wanted};
+use crate::wanted::{Asked, Head, SweptView, Want, Wanted};
 use blk_source::BlockSource;
 use obj_base::{Site, Stop};
 use reach_rules::ReachFault;
-use std::alloc::Global;
+use std::alloc::{AllocError, Global};
 use vol_view::Volume;
 
-// What the superblock of a view wants.
-fn add_head(head: &Head, out: &mut Vec<Wanted>) -> Result<(), Stop<ReachFault>>
-    ensures added { OnOk result (out.new.items ≡ out.old.items ++ head_wants head.now) }
-    ensures memory_only { IfErr result (λ stop. stop ≡ NoMemory) }
+// What the superblock of a view wants, of the set of the view.
+fn add_head(head: &Head, set: usize, out: &mut Vec<Asked>) -> Result<(), AllocError>
+    ensures { OnOk result (out.new.items ≡ out.old.items ++ map (asked_with set) (head_wants head.now)) }
 {
-    out.push(Wanted {
-        view: head.view,
-        oid: head.root_oid,
-        want: Want::Root,
+    let view = head.view;
+    out.push(Asked {
+        wanted: Wanted {
+            view,
+            oid: head.root_oid,
+            want: Want::Root,
+        },
+        set,
     })?;
     if head.meta_ext == 0 {
         return Ok(());
     }
-    out.push(Wanted {
-        view: head.view,
-        oid: head.meta_ext,
-        want: Want::Metadata,
+    out.push(Asked {
+        wanted: Wanted {
+            view,
+            oid: head.meta_ext,
+            want: Want::Metadata,
+        },
+        set,
     })?;
     Ok(())
 }
 
+// The views, in the order of their heads.
+fn views_of(alloc: Global, heads: &[Head]) -> Result<Vec<SweptView>, AllocError>
+    ensures { IfOk result (λ views. views.items ≡ map (λ h. h.view) heads.now) }
+{
+    heads.iter().map(|head| head.view).collect(alloc)
+}
+
+// Keeps the set of one view.
+fn keep_one(
+    alloc: Global,
+    views: &[SweptView],
+    view: &SweptView,
+    sets: &mut Vec<ViewSet>,
+) -> Result<usize, AllocError>
+    requires { In view.now views.now }
+    ensures kept { IfOk result (λ n. AreKept sets.old.items sets.new.items) }
+    ensures inside { IfOk result (λ n. n < length sets.new.items) }
+    ensures one { IfOk result (λ n. IsSetOfOne views.now (set_at sets.new.items n) view.now) }
+    ensures sets { OnOk result (AreSets views.now sets.old.items → AreSets views.now sets.new.items) }
+{
+    let set = one_of(alloc, views, place_of(views, view))?;
+    keep(sets, set)
+}
+
 // What the superblocks of some views want.
-fn wants(alloc: Global, heads: &[Head]) -> Result<Vec<Wanted>, Stop<ReachFault>>
-    ensures all { IfOk result (λ wants. wants.items ≡ heads_want heads.now) }
-    ensures memory_only { IfErr result (λ stop. stop ≡ NoMemory) }
+fn wants(
+    alloc: Global,
+    views: &[SweptView],
+    heads: &[Head],
+    sets: &mut Vec<ViewSet>,
+) -> Result<Vec<Asked>, AllocError>
+    requires views { views.now ≡ map (λ h. h.view) heads.now }
+    requires sets { AreSets views.now sets.old.items }
+    ensures all { IfOk result (λ wants. HaveSame (all_asked views.now sets.new.items wants.items) (heads_want heads.now)) }
+    ensures numbers { IfOk result (λ wants. AreNumbered (length sets.new.items) wants.items) }
+    ensures sets { OnOk result (AreSets views.now sets.new.items) }
 {
     let mut wants = Vec::new(alloc);
     for head in heads {
-        add_head(head, &mut wants)?;
+        let set = keep_one(alloc, views, &head.view, sets)?;
+        add_head(head, set, &mut wants)?;
     }
     Ok(wants)
 }
 
-// Adds what is wanted at a level.
-fn add_level(kids: &[Wanted], level: u16, out: &mut Vec<Wanted>) -> Result<(), Stop<ReachFault>>
-    ensures added { OnOk result (out.new.items ≡ out.old.items ++ filter (λ w. level_of w == level) kids.now) }
-    ensures memory_only { IfErr result (λ stop. stop ≡ NoMemory) }
+// Adds what is asked for at a level.
+fn add_level(kids: &[Asked], level: u16, out: &mut Vec<Asked>) -> Result<(), AllocError>
+    ensures { OnOk result (out.new.items ≡ out.old.items ++ filter (λ a. level_of a.wanted == level) kids.now) }
 {
     for kid in kids {
-        if kid.level() == level {
+        if kid.wanted.level() == level {
             out.push(*kid)?;
         }
     }
@@ -72,16 +114,18 @@ fn levels<S: BlockSource>(
     site: &Site,
     volumes: &[Volume],
     heads: &[Head],
-    kids: &[Wanted],
+    views: &[SweptView],
+    sets: &mut Vec<ViewSet>,
+    kids: &[Asked],
     block: &mut Vec<u8>,
     all: &mut Vec<Used>,
 ) -> Result<(), Stop<ReachFault>>
     requires site { IsSiteFor site.now (S.bytes_len src.old) }
     requires long { length block.old.items ≡ site.now.block_size }
-    requires told { AreToldHeads heads.now }
-    requires below { AreBelowHeads (length volumes.now) heads.now }
-    requires views { AreOfHeads heads.now kids.now }
-    requires kids { (image : List ℕ) → S.bytes src.old ≡ Some image → AreKids (world volumes.now site.now image) heads.now kids.now }
+    requires below { AreBelowViews (length volumes.now) views.now }
+    requires sets { AreSets views.now sets.old.items }
+    requires numbers { AreNumbered (length sets.old.items) kids.now }
+    requires kids { (image : List ℕ) → S.bytes src.old ≡ Some image → AreKids (world volumes.now site.now image) heads.now (all_asked views.now sets.old.items kids.now) }
     requires top { (image : List ℕ) → S.bytes src.old ≡ Some image → IsSwept (world volumes.now site.now image) heads.now 16 all.old.items }
     ensures clear { (image : List ℕ) → S.bytes src.old ≡ Some image → OnOk result (IsSwept (world volumes.now site.now image) heads.now 0 all.new.items) }
     ensures present { (image : List ℕ) → S.bytes src.old ≡ Some image → IfErr result (TellsHere (world volumes.now site.now image) (IsLive (world volumes.now site.now image) heads.now)) }
@@ -95,7 +139,17 @@ fn levels<S: BlockSource>(
         level -= 1;
         add_level(kids, level, &mut current)?;
         let mut below = Vec::new(alloc);
-        let read = match take_level(alloc, src, volumes, site, &mut current, block, &mut below) {
+        let read = match take_level(
+            alloc,
+            src,
+            volumes,
+            views,
+            site,
+            sets,
+            &mut current,
+            block,
+            &mut below,
+        ) {
             Ok(read) => read,
             Err(stop) => return Err(stop),
         };
@@ -115,7 +169,6 @@ pub(crate) fn sweep<S: BlockSource>(
     heads: &[Head],
 ) -> Result<Vec<Used>, Stop<ReachFault>>
     requires site { IsSiteFor site.now (S.bytes_len src.old) }
-    requires told { AreToldHeads heads.now }
     requires below { AreBelowHeads (length volumes.now) heads.now }
     ensures clear { (image : List ℕ) → S.bytes src.old ≡ Some image → IfOk result (λ used. IsSwept (world volumes.now site.now image) heads.now 0 used.items) }
     ensures present { (image : List ℕ) → S.bytes src.old ≡ Some image → IfErr result (TellsHere (world volumes.now site.now image) (IsLive (world volumes.now site.now image) heads.now)) }
@@ -124,14 +177,18 @@ pub(crate) fn sweep<S: BlockSource>(
     ensures kept { IsKept S.bytes S.bytes_len S.faults src.old src.new }
 {
     let mut block = vec![in alloc; 0u8; site.block_size as usize]?;
-    let mut first = wants(alloc, heads)?;
+    let views = views_of(alloc, heads)?;
+    let mut sets = Vec::new(alloc);
+    let mut first = wants(alloc, &views, heads, &mut sets)?;
     let mut kids = Vec::new(alloc);
-    let mut all = match take_level(alloc, src, volumes, site, &mut first, &mut block, &mut kids) {
+    let mut all = match take_level(
+        alloc, src, volumes, &views, site, &mut sets, &mut first, &mut block, &mut kids,
+    ) {
         Ok(read) => read,
         Err(stop) => return Err(stop),
     };
     match levels(
-        alloc, src, site, volumes, heads, &kids, &mut block, &mut all,
+        alloc, src, site, volumes, heads, &views, &mut sets, &kids, &mut block, &mut all,
     ) {
         Ok(()) => Ok(all),
         Err(stop) => Err(stop),

@@ -11,11 +11,13 @@ pub struct Used {
     pub mapping: OmapRecord,
 }
 
-/// What is wanted, and the record by which it is found.
+/// What is wanted of each view of a set, as it is wanted of one of them, and the record by which it is found in all of them.
 #[derive(Clone, Copy, PartialEq, Eq, Debug)]
 pub(crate) struct Hit {
     pub wanted: Wanted,
     pub mapping: OmapRecord,
+    /// The number of the set, of those that are kept.
+    pub set: usize,
 }
 
 impl Hit {

@@ -53,6 +53,7 @@ pub(crate) struct Wanted {
 impl Wanted {
     ghost use Rattle.std.specs.Prelude.{◌≡◌};
     ghost use Rattle.view_sweep.specs.Swept.{level_of};
+    ghost use Rattle.view_sweep.specs.Wanted.{number_by};
 
     /// How far above the leaves it is wanted; what a superblock names is wanted above all levels.
     pub(crate) fn level(&self) -> u16
@@ -64,4 +65,23 @@ impl Wanted {
             Want::Node { level, .. } => level,
         }
     }
+
+    /// The number of what is expected, whoever names it.
+    pub(crate) fn number(&self) -> u32
+        ensures { result ≡ number_by self.now.want }
+    {
+        match self.want {
+            Want::Root => 0,
+            Want::Metadata => 1,
+            Want::Node { level, .. } => u32::from(level) + 2,
+        }
+    }
+}
+
+/// A virtual object that is wanted of each view of a set, as it is wanted of one of them.
+#[derive(Clone, Copy, PartialEq, Eq, Debug)]
+pub(crate) struct Asked {
+    pub wanted: Wanted,
+    /// The number of the set, of those that are kept.
+    pub set: usize,
 }

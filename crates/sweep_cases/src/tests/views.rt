@@ -1,7 +1,9 @@
 // The sweep of eight snapshots of a volume. What is wanted was worked out by hand.
-ghost use Rattle.std.specs.Prelude.{◌≡◌, length, IfOk};
+ghost use Rattle.std.specs.Prelude.{◌≡◌, ◌<◌, ◌≤◌, length, IfOk};
 ghost use Rattle.obj_base.specs.Site.{IsSiteFor};
 ghost use Rattle.view_sweep.specs.Wanted.{AreToldHeads, AreBelowHeads};
+
+mod shares;
 
 use blk_source::MemSource;
 use bt_node::NodeFault;
@@ -48,24 +50,28 @@ fn open(alloc: Global, src: &mut MemSource) -> Result<Opened, Fail>
     })
 }
 
-// The views of the eight snapshots, whose transactions are 1 to 8.
-fn eight(alloc: Global, root_oid: u64) -> Result<Vec<Head>, AllocError>
+// The views of the eight snapshots, whose transactions are 1 to 8: of some volumes in turn, and with the one root or the
+// other in turn.
+fn eight(alloc: Global, volumes: u64, roots: [u64; 2]) -> Result<Vec<Head>, AllocError>
+    requires some { 0 < volumes }
+    requires few { volumes ≤ 2 }
     ensures told { IfOk result (λ heads. AreToldHeads heads.items) }
-    ensures below { IfOk result (λ heads. AreBelowHeads 1 heads.items) }
+    ensures below { IfOk result (λ heads. AreBelowHeads volumes heads.items) }
 {
     let mut heads = Vec::new(alloc);
     for place in 1u64..9 {
+        let volume = place % volumes;
         let view = SweptView {
-            slot: 0,
+            slot: volume as u32,
             place,
             xid: place,
             map: MAP,
             hashed: true,
-            volume: 0,
+            volume: volume as usize,
         };
         heads.push(Head {
             view,
-            root_oid,
+            root_oid: roots[(place % 2) as usize],
             meta_ext: 0,
         })?;
     }
@@ -87,7 +93,7 @@ fn swept(
     }
     let mut src = MemSource::new(image, Vec::new(alloc));
     let at = open(alloc, &mut src)?;
-    let heads = eight(alloc, root_oid)?;
+    let heads = eight(alloc, 1, [root_oid; 2])?;
     let volumes = [at.volume];
     Ok(reach_views(alloc, &mut src, &at.site, &volumes, &heads))
 }

@@ -1,65 +1,119 @@
-use Rattle.std.proofs.Common.{◌≡◌, List, [], ◌++◌, length, map, sym, ◌∙◌, subst}
+use Rattle.std.proofs.Common.{◌≡◌, List, ◌++◌, length, map, sym, subst}
 use Rattle.std.specs.List.{flat_map}
 use Rattle.std.proofs.lemmas.List.Sorted.{IsPermutation-sym}
+use Rattle.apfs_model.specs.Lists.{In}
 use Rattle.obj_base.specs.Stops.{Tells, NoFeature}
-use Rattle.view_sweep.specs.declared.wanted.Wanted.{Wanted}
+use Rattle.view_sweep.specs.declared.sets.ViewSet.{ViewSet}
+use Rattle.view_sweep.specs.declared.joining.Sought.{Sought}
+use Rattle.view_sweep.specs.declared.wanted.SweptView.{SweptView}
+use Rattle.view_sweep.specs.declared.wanted.Asked.{Asked}
 use Rattle.view_sweep.specs.declared.used.Hit.{Hit}
-use Rattle.view_sweep.specs.Wanted.{AreTold, AreBelow}
-use Rattle.view_sweep.specs.Found.{World, world, looked, used_of, bytes_at}
+use Rattle.view_sweep.specs.Found.{World, world, looked, used_of}
 use Rattle.view_sweep.specs.Here.{Among, IsTwiceHere, IsLostHere, IsMappedBy, IsBadHit, IsRefusedHit}
-use Rattle.view_sweep.specs.Swept.{IsOnce, ArePlaced, AreSound, AreRead, AreOfHits, hit_wants}
-use Rattle.view_sweep.proofs.Steps.{in-permuted, told-permuted, below-permuted, placed-permuted, here-more, twice-tells, lost-tells, bad-tells, wanted_of, step_from, views_from}
+use Rattle.view_sweep.specs.Sets.{all_asked, hit_by, AreNumbered}
+use Rattle.view_sweep.specs.Swept.{IsOnce, ArePlaced, AreSound, AreRead, hit_asks}
+use Rattle.view_sweep.specs.Asked.{AreSought, IsOfSought}
+use Rattle.view_sweep.specs.Hits.{AreHitsOf}
+use Rattle.view_sweep.proofs.Fors.{sought-like, lost-here, asked-permuted, numbered-permuted, once-permuted, level-for, hits-placed, hits-numbered, after-to, after-from}
+use Rattle.view_sweep.proofs.Members.{numbered-more}
+use Rattle.view_sweep.proofs.Steps.{AreFor, placed-permuted, here-more, twice-tells, bad-tells, step_from}
+use Rattle.view_sweep.proofs.Wholes.{looked-named}
 use Rattle.view_sweep.proofs.level.take_level.Goals as goal
 
-pub once-requires-clause-told : goal.once-requires-clause-told
-once-requires-clause-told g c = subst (λ (ws : List Wanted). AreTold ws) (sym c.deref.ensures.value) (told-permuted c.args.current.now.items c.by_id.new.wants.items c.by_id.ensures.order c.requires.told)
+pub once-requires-clause-numbers : goal.once-requires-clause-numbers
+once-requires-clause-numbers g c =
+    let sets : List ViewSet = c.args.sets.now.items in
+    let sorted : List Asked = c.by_id.new.asked.items in
+    subst (λ (ss : List ViewSet). AreNumbered (length ss) c.deref-2.result.now) (sym c.deref.ensures.value)
+    (subst (λ (xs : List Asked). AreNumbered (length sets) xs) (sym c.deref-2.ensures.value) (numbered-permuted (length sets) c.args.current.now.items sorted c.by_id.ensures.order c.requires.numbers))
+
+pub joined-requires-clause-numbers : goal.joined-requires-clause-numbers
+joined-requires-clause-numbers g c =
+    let sets : List ViewSet = c.args.sets.now.items in
+    let sorted : List Asked = c.by_id.new.asked.items in
+    subst (λ (ss : List ViewSet). AreNumbered (length ss) c.deref-4.result.now) (sym c.deref-3.ensures.value)
+    (subst (λ (xs : List Asked). AreNumbered (length sets) xs) (sym c.deref-4.ensures.value) (numbered-permuted (length sets) c.args.current.now.items sorted c.by_id.ensures.order c.requires.numbers))
 
 pub returns-in-Err-clause-stops : goal.returns-in-Err-clause-stops
 returns-in-Err-clause-stops g c = λ image told.
     let k : World = world c.args.volumes.now c.args.site.now image in
-    let ws : List Wanted = c.by_id.new.wants.items in
-    here-more k (Among ws) (Among c.args.current.now.items) (in-permuted ws c.args.current.now.items (IsPermutation-sym c.args.current.now.items ws c.by_id.ensures.order)) c.in-Err.stop
-    (twice-tells k (Among ws) c.in-Err.stop (subst (λ (vs : List Wanted). Tells (IsTwiceHere (Among vs)) NoFeature c.in-Err.stop) c.deref.ensures.value c.in-Err.ensures.stops))
-
-pub hits-requires : goal.hits-requires
-hits-requires g c = record { below = subst (λ (ws : List Wanted). AreBelow (length c.args.volumes.now) ws) (sym c.deref-2.ensures.value) (below-permuted (length c.args.volumes.now) c.args.current.now.items c.by_id.new.wants.items c.by_id.ensures.order c.requires.below) }
+    let views : List SweptView = c.args.views.now in
+    let sets : List ViewSet = c.args.sets.now.items in
+    let current : List Asked = c.args.current.now.items in
+    let sorted : List Asked = c.by_id.new.asked.items in
+    here-more k (Among (all_asked views sets sorted)) (Among (all_asked views sets current)) (asked-permuted views sets sorted current (IsPermutation-sym current sorted c.by_id.ensures.order)) c.in-Err.stop
+    (twice-tells k (Among (all_asked views sets sorted)) c.in-Err.stop
+    (subst (λ (ss : List ViewSet). Tells (IsTwiceHere (Among (all_asked views ss sorted))) NoFeature c.in-Err.stop) c.deref.ensures.value
+    (subst (λ (xs : List Asked). Tells (IsTwiceHere (Among (all_asked views c.deref.result.now xs))) NoFeature c.in-Err.stop) c.deref-2.ensures.value c.in-Err.ensures.stops)))
 
 pub returns-in-Err-hits-clause-stops : goal.returns-in-Err-hits-clause-stops
 returns-in-Err-hits-clause-stops g c = λ image told.
     let k : World = world c.args.volumes.now c.args.site.now image in
-    let ws : List Wanted = c.by_id.new.wants.items in
-    here-more k (Among ws) (Among c.args.current.now.items) (in-permuted ws c.args.current.now.items (IsPermutation-sym c.args.current.now.items ws c.by_id.ensures.order)) c.in-Err-hits.stop
-    (lost-tells k (Among ws) c.in-Err-hits.stop (subst (λ (vs : List Wanted). Tells (IsLostHere (looked c.args.volumes.now c.args.site.now) (Among vs)) (IsMappedBy (looked c.args.volumes.now c.args.site.now) c.args.site.now.block_size (Among vs)) c.in-Err-hits.stop) c.deref-2.ensures.value c.in-Err-hits.ensures.stops))
+    let views : List SweptView = c.args.views.now in
+    let sets : List ViewSet = c.args.sets.now.items in
+    let current : List Asked = c.args.current.now.items in
+    let sorted : List Asked = c.by_id.new.asked.items in
+    let all : List Sought = c.in_ok-all.all.items in
+    let so : AreSought sets sorted all =
+    subst (λ (ss : List ViewSet). AreSought ss sorted all) c.deref-3.ensures.value (subst (λ (xs : List Asked). AreSought c.deref-3.result.now xs all) c.deref-4.ensures.value c.in_ok-all.ensures.all) in
+    here-more k (Among (all_asked views sets sorted)) (Among (all_asked views sets current)) (asked-permuted views sets sorted current (IsPermutation-sym current sorted c.by_id.ensures.order)) c.in-Err-hits.stop
+    (lost-here k (looked-named c.args.volumes.now c.args.site.now image) (IsOfSought views all) (Among (all_asked views sets sorted)) (sought-like views sets sorted all so) c.in-Err-hits.stop
+    (subst (λ (xs : List Sought). Tells (IsLostHere (looked c.args.volumes.now c.args.site.now) (IsOfSought views xs)) (IsMappedBy (looked c.args.volumes.now c.args.site.now) c.args.site.now.block_size (IsOfSought views xs)) c.in-Err-hits.stop) c.deref-5.ensures.value c.in-Err-hits.ensures.stops))
 
 pub read_hits-requires-clause-inside : goal.read_hits-requires-clause-inside
-read_hits-requires-clause-inside g c = subst (λ (hs : List Hit). ArePlaced c.args.site.now.blocks hs) (sym c.deref-3.ensures.value) (placed-permuted c.args.site.now.blocks c.in-Ok-hits.found.items c.by_record.new.hits.items c.by_record.ensures.order c.in-Ok-hits.ensures.inside)
+read_hits-requires-clause-inside g c =
+    subst (λ (hs : List Hit). ArePlaced c.args.site.now.blocks hs) (sym c.deref-6.ensures.value)
+    (placed-permuted c.args.site.now.blocks c.in-Ok-hits.found.items c.by_record.new.hits.items c.by_record.ensures.order
+    (hits-placed (looked c.args.volumes.now c.args.site.now) c.args.site.now c.args.views.now c.hits.new.sets.items c.deref-5.result.now c.in-Ok-hits.found.items c.in-Ok-hits.ensures.hits))
 
 pub returns-in-Ok-read_hits-clause-step : goal.returns-in-Ok-read_hits-clause-step
 returns-in-Ok-read_hits-clause-step g c = λ image told.
     let k : World = world c.args.volumes.now c.args.site.now image in
-    let old : List Wanted = c.args.below.now.items in
-    let new : List Wanted = c.read_hits.new.out.items in
-    step_from k c.args.current.now.items c.by_id.new.wants.items old new c.in-Ok-hits.found.items c.by_record.new.hits.items c.in-Ok-read_hits.read.items
-    c.by_id.ensures.order (c.in-Ok-hits.ensures.same ∙ c.deref-2.ensures.value) c.in-Ok-hits.ensures.found c.by_record.ensures.order c.in-Ok-hits.ensures.plain
-    (subst (λ (ws : List Wanted). IsOnce ws) c.deref.ensures.value c.in-Ok.ensures.once)
-    (subst (λ (hs : List Hit). new ≡ old ++ flat_map (hit_wants (bytes_at image c.args.site.now)) hs) c.deref-3.ensures.value (c.in-Ok-read_hits.ensures.wants image told))
-    (subst (λ (hs : List Hit). AreSound c.args.site.now (bytes_at image c.args.site.now) hs) c.deref-3.ensures.value (c.in-Ok-read_hits.ensures.sound image told))
-    (subst (λ (hs : List Hit). AreRead (map used_of hs) c.in-Ok-read_hits.read.items) c.deref-3.ensures.value c.in-Ok-read_hits.ensures.read)
+    let views : List SweptView = c.args.views.now in
+    let old : List ViewSet = c.args.sets.now.items in
+    let new : List ViewSet = c.hits.new.sets.items in
+    let current : List Asked = c.args.current.now.items in
+    let sorted : List Asked = c.by_id.new.asked.items in
+    let all : List Sought = c.in_ok-all.all.items in
+    let found : List Hit = c.in-Ok-hits.found.items in
+    let hits : List Hit = c.by_record.new.hits.items in
+    let before : List Asked = c.args.below.now.items in
+    let after : List Asked = c.read_hits.new.out.items in
+    let so : AreSought old sorted all =
+    subst (λ (ss : List ViewSet). AreSought ss sorted all) c.deref-3.ensures.value (subst (λ (xs : List Asked). AreSought c.deref-3.result.now xs all) c.deref-4.ensures.value c.in_ok-all.ensures.all) in
+    let of : AreHitsOf k.look k.site views new all found = subst (λ (xs : List Sought). AreHitsOf k.look k.site views new xs found) c.deref-5.ensures.value c.in-Ok-hits.ensures.hits in
+    let for : AreFor k (all_asked views old current) hits (hit_by views new) = level-for k views old new current sorted all found hits c.by_id.ensures.order so of c.by_record.ensures.order in
+    let once : IsOnce (all_asked views old current) = once-permuted views old current sorted c.by_id.ensures.order
+    (subst (λ (ss : List ViewSet). IsOnce (all_asked views ss sorted)) c.deref.ensures.value (subst (λ (xs : List Asked). IsOnce (all_asked views c.deref.result.now xs)) c.deref-2.ensures.value c.in-Ok.ensures.once)) in
+    let e : after ≡ before ++ flat_map (hit_asks k.bytes) hits = subst (λ (hs : List Hit). after ≡ before ++ flat_map (hit_asks k.bytes) hs) c.deref-6.ensures.value (c.in-Ok-read_hits.ensures.wants image told) in
+    step_from k (looked-named c.args.volumes.now c.args.site.now image) (all_asked views old current) hits (hit_by views new) for (all_asked views new before) (all_asked views new after) c.in-Ok-read_hits.read.items once
+    (after-to k views new (all_asked views old current) hits for before after e)
+    (after-from k views new (all_asked views old current) hits for before after e)
+    (subst (λ (hs : List Hit). AreSound k.site k.bytes hs) c.deref-6.ensures.value (c.in-Ok-read_hits.ensures.sound image told))
+    (subst (λ (hs : List Hit). AreRead (map used_of hs) c.in-Ok-read_hits.read.items) c.deref-6.ensures.value c.in-Ok-read_hits.ensures.read)
 
-pub returns-in-Ok-read_hits-clause-views : goal.returns-in-Ok-read_hits-clause-views
-returns-in-Ok-read_hits-clause-views g c =
-    let k : World = world c.args.volumes.now c.args.site.now [] in
-    views_from k c.args.current.now.items c.by_id.new.wants.items c.args.below.now.items c.read_hits.new.out.items c.in-Ok-hits.found.items c.by_record.new.hits.items c.in-Ok-read_hits.read.items
-    c.by_id.ensures.order (c.in-Ok-hits.ensures.same ∙ c.deref-2.ensures.value) c.in-Ok-hits.ensures.found c.by_record.ensures.order
-    (subst (λ (hs : List Hit). AreOfHits hs c.args.below.now.items c.read_hits.new.out.items) c.deref-3.ensures.value c.in-Ok-read_hits.ensures.views)
+pub returns-in-Ok-read_hits-clause-numbers : goal.returns-in-Ok-read_hits-clause-numbers
+returns-in-Ok-read_hits-clause-numbers g c =
+    let new : List ViewSet = c.hits.new.sets.items in
+    let hits : List Hit = c.by_record.new.hits.items in
+    c.in-Ok-read_hits.ensures.numbers (length new)
+    (λ h i. hits-numbered (looked c.args.volumes.now c.args.site.now) c.args.site.now c.args.views.now new c.deref-5.result.now c.in-Ok-hits.found.items hits c.in-Ok-hits.ensures.hits c.by_record.ensures.order h (subst (In h) c.deref-6.ensures.value i))
+    (numbered-more (length c.args.sets.now.items) (length new) c.args.below.now.items c.in-Ok-hits.ensures.kept.more c.requires.waiting)
 
 pub returns-clause-stops : goal.returns-clause-stops
 returns-clause-stops g c = λ image told.
     let k : World = world c.args.volumes.now c.args.site.now image in
-    let hits0 : List Hit = c.in-Ok-hits.found.items in
+    let views : List SweptView = c.args.views.now in
+    let old : List ViewSet = c.args.sets.now.items in
+    let new : List ViewSet = c.hits.new.sets.items in
+    let current : List Asked = c.args.current.now.items in
+    let sorted : List Asked = c.by_id.new.asked.items in
+    let all : List Sought = c.in_ok-all.all.items in
+    let found : List Hit = c.in-Ok-hits.found.items in
     let hits : List Hit = c.by_record.new.hits.items in
-    bad-tells k c.args.current.now.items hits
-    (λ h i. c.in-Ok-hits.ensures.found h (in-permuted hits hits0 (IsPermutation-sym hits0 hits c.by_record.ensures.order) h i))
-    (λ h i. (wanted_of k c.args.current.now.items c.by_id.new.wants.items c.args.below.now.items c.read_hits.new.out.items hits0 hits [] c.by_id.ensures.order (c.in-Ok-hits.ensures.same ∙ c.deref-2.ensures.value) c.in-Ok-hits.ensures.found c.by_record.ensures.order h i).0)
-    c.in-Err-read_hits.stop
-    (subst (λ (hs : List Hit). Tells (IsBadHit c.args.site.now (bytes_at image c.args.site.now) hs) (IsRefusedHit c.args.site.now (bytes_at image c.args.site.now) hs) c.in-Err-read_hits.stop) c.deref-3.ensures.value (c.in-Err-read_hits.ensures.stops image told))
+    let so : AreSought old sorted all =
+    subst (λ (ss : List ViewSet). AreSought ss sorted all) c.deref-3.ensures.value (subst (λ (xs : List Asked). AreSought c.deref-3.result.now xs all) c.deref-4.ensures.value c.in_ok-all.ensures.all) in
+    let of : AreHitsOf k.look k.site views new all found = subst (λ (xs : List Sought). AreHitsOf k.look k.site views new xs found) c.deref-5.ensures.value c.in-Ok-hits.ensures.hits in
+    let for : AreFor k (all_asked views old current) hits (hit_by views new) = level-for k views old new current sorted all found hits c.by_id.ensures.order so of c.by_record.ensures.order in
+    bad-tells k (looked-named c.args.volumes.now c.args.site.now image) (all_asked views old current) hits (hit_by views new) for c.in-Err-read_hits.stop
+    (subst (λ (hs : List Hit). Tells (IsBadHit k.site k.bytes hs) (IsRefusedHit k.site k.bytes hs) c.in-Err-read_hits.stop) c.deref-6.ensures.value (c.in-Err-read_hits.ensures.stops image told))

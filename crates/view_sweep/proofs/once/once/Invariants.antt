@@ -1,7 +1,5 @@
-use Rattle.std.proofs.Common.{take}
-use Rattle.view_sweep.specs.Order.{id_rank}
-use Rattle.view_sweep.proofs.Onces.{AreOne}
+use Rattle.view_sweep.specs.Asked.{IsRun}
 use Rattle.view_sweep.proofs.once.once.Given as goal
 
 abbrev pub invariant-loop-i : goal.invariant-loop-i
-invariant-loop-i l = AreOne id_rank (take l.i l.wants)
+invariant-loop-i l = IsRun l.views l.sets l.asked l.seen.items l.from l.i

@@ -1,9 +1,11 @@
 use Rattle.std.proofs.Common.{rules, ap}
 use Rattle.std.specs.Ordering.{is_lt}
 use Rattle.std.proofs.lemmas.List.Sorted.{answers_always}
-use Rattle.view_sweep.specs.Order.{is_id_below}
-use Rattle.view_sweep.proofs.Orders.{id_order}
+use Rattle.view_sweep.specs.declared.wanted.Asked.{Asked}
+use Rattle.view_sweep.specs.Order.{asked_rank}
+use Rattle.view_sweep.proofs.Orders.{asked_order, rising}
 use Rattle.view_sweep.proofs.order.by_id.Goals as goal
 
 pub returns-clause-sorted : goal.returns-clause-sorted
-returns-clause-sorted c = c.sort_unstable_by.ensures.sorted is_id_below id_order (answers_always _ _ _ (λ f a r g k. ap is_lt (search rules)))
+returns-clause-sorted c =
+    rising c.sort_unstable_by.new.self.items (c.sort_unstable_by.ensures.sorted (λ (a b : Asked). is_lt (asked_rank a b)) asked_order (answers_always _ _ _ (λ f a r g k. ap is_lt (search rules))))

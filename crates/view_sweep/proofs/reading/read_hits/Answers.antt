@@ -1,15 +1,17 @@
-use Rattle.std.proofs.Common.{◌≡◌, ℕ, ◌+◌, ◌≤◌, List, ◌++◌, length, get_or, Some, true, ap, sym, ◌∙◌, subst, arith}
+use Rattle.std.proofs.Common.{◌≡◌, ℕ, ◌+◌, ◌≤◌, List, ◌++◌, length, map, get_or, Some, true, ap, sym, ◌∙◌, subst, arith}
 use Rattle.std.specs.List.{flat_map}
 use Rattle.std.proofs.lemmas.List.{take_all}
 use Rattle.apfs_model.specs.Blocks.{in_container}
 use Rattle.view_sweep.specs.declared.used.Used.{Used}
 use Rattle.view_sweep.specs.declared.used.Hit.{Hit}
 use Rattle.view_sweep.specs.Found.{used_of, bytes_at, is_sound, wants_of}
-use Rattle.view_sweep.specs.Swept.{IsTurned, hit_wants}
+use Rattle.view_sweep.specs.Sets.{asked_with}
+use Rattle.view_sweep.specs.Swept.{IsTurned, hit_asks}
 use Rattle.view_sweep.proofs.Ranked.{place-in}
 use Rattle.view_sweep.proofs.Readings.{reading-more, reading-all}
+use Rattle.view_sweep.proofs.Waits.{asked-more}
 use Rattle.view_sweep.proofs.Orders.{used_total, used-one}
-use Rattle.view_sweep.proofs.Hits.{nohit, flat-more, views-more, sound-more, bad-hit, held-block}
+use Rattle.view_sweep.proofs.Hits.{nohit, flat-more, sound-more, bad-hit, held-block}
 use Rattle.view_sweep.proofs.reading.read_hits.Goals as goal
 
 pub turn-requires-clause-inside : goal.turn-requires-clause-inside
@@ -40,11 +42,11 @@ loop-hit-preserved g c =
       };
       long = c.turn.ensures.long;
       held = λ image told. held-block (bytes_at image c.args.site.now) c.turn.new.block.items (used_of h) c.turn.new.held (c.in_ok-turn.ensures.held ∙ ap (λ (u : Used). Some u) c.used.ensures) (block image told);
-      wants = λ image told. flat-more (hit_wants (bytes_at image c.args.site.now)) c.args.hits.now c.loop-hit.hit-index nohit c.args.out.now.items c.loop-hit.out.items c.take.new.out.items c.loop-hit-test.true (c.loop-hit.invariant.wants image told)
-          (c.in-Ok.ensures.added ∙ ap (λ (b : List ℕ). c.loop-hit.out.items ++ wants_of h.wanted h.mapping b) (c.deref.ensures.value ∙ block image told));
+      wants = λ image told. flat-more (hit_asks (bytes_at image c.args.site.now)) c.args.hits.now c.loop-hit.hit-index nohit c.args.out.now.items c.loop-hit.out.items c.take_hit.new.out.items c.loop-hit-test.true (c.loop-hit.invariant.wants image told)
+          (c.in-Ok.ensures.added ∙ ap (λ (b : List ℕ). c.loop-hit.out.items ++ map (asked_with h.set) (wants_of h.wanted h.mapping b)) (c.deref.ensures.value ∙ block image told));
       sound = λ image told. sound-more c.args.site.now (bytes_at image c.args.site.now) c.args.hits.now c.loop-hit.hit-index nohit c.loop-hit-test.true (c.loop-hit.invariant.sound image told)
           (subst (λ (b : List ℕ). is_sound c.args.site.now h.wanted b ≡ true) (c.deref.ensures.value ∙ block image told) c.in-Ok.ensures.sound);
-      views = views-more c.args.hits.now c.args.out.now.items c.loop-hit.out.items c.take.new.out.items h c.deref.result.now c.loop-hit.invariant.views (place-in c.args.hits.now c.loop-hit.hit-index nohit c.loop-hit-test.true) c.in-Ok.ensures.added;
+      numbers = λ n low first. asked-more n c.loop-hit.out.items c.take_hit.new.out.items (wants_of h.wanted h.mapping c.deref.result.now) h.set (low h (place-in c.args.hits.now c.loop-hit.hit-index nohit c.loop-hit-test.true)) c.in-Ok.ensures.added (c.loop-hit.invariant.numbers n low first);
       reading = reading-more used_of used_total used-one c.args.hits.now c.requires.sorted c.loop-hit.hit-index nohit c.loop-hit.held c.turn.new.held c.loop-hit.read.items c.turn.new.read.items c.loop-hit-test.true c.loop-hit.invariant.reading
           (c.in_ok-turn.ensures.held ∙ ap (λ (u : Used). Some u) c.used.ensures) (subst (λ (u : Used). IsTurned c.loop-hit.held u c.loop-hit.read.items c.turn.new.read.items) c.used.ensures c.in_ok-turn.ensures.turned);
       reads = let a : g.S.BlockSource.reads c.turn.new.src + length c.loop-hit.read.items ≤ g.S.BlockSource.reads c.loop-hit.src + length c.turn.new.read.items = c.in_ok-turn.ensures.reads in
@@ -55,7 +57,7 @@ loop-hit-preserved g c =
 pub returns-clause-wants : goal.returns-clause-wants
 returns-clause-wants g c = λ image told.
     c.loop-hit.invariant.wants image told
-    ∙ ap (λ (hs : List Hit). c.args.out.now.items ++ flat_map (hit_wants (bytes_at image c.args.site.now)) hs) (take_all c.loop-hit.hit-index c.args.hits.now c.loop-hit-test.false)
+    ∙ ap (λ (hs : List Hit). c.args.out.now.items ++ flat_map (hit_asks (bytes_at image c.args.site.now)) hs) (take_all c.loop-hit.hit-index c.args.hits.now c.loop-hit-test.false)
 
 pub returns-clause-read : goal.returns-clause-read
 returns-clause-read g c =

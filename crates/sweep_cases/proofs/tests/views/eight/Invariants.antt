@@ -1,5 +1,5 @@
-use Rattle.view_sweep.proofs.Placed.{ArePlacedBy, first_view}
+use Rattle.view_sweep.proofs.Placed.{ArePlacedBy, view_among}
 use Rattle.sweep_cases.proofs.tests.views.eight.Given as goal
 
 abbrev pub invariant-loop-place : goal.invariant-loop-place
-invariant-loop-place l = ArePlacedBy first_view l.heads.items
+invariant-loop-place l = ArePlacedBy (view_among l.volumes) l.heads.items

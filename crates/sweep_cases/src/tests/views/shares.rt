@@ -1,0 +1,277 @@
+// Views that share objects: sets of views that split and meet again. Nodes of three levels stand in free blocks of the
+// sample, and the map has other records. What is wanted was worked out by hand.
+use super::{MAP, eight, open};
+use blk_source::{BlockSource, MemSource};
+use img_changes::cases::{DELETED, KEPT, MAP_ROOT};
+use img_changes::{Change, Record, image};
+use img_edit::node::{Item, NodeHead, Totals, Tree, node};
+use img_make::{Sample, write};
+use obj_base::{Stop, Within};
+use omap_map::OmapRecord;
+use reach_rules::ReachFault;
+use std::alloc::{AllocError, Global};
+use std::test::Fail;
+use view_sweep::{Used, reach_views};
+
+// A node of a tree of files: its block, its id, its level, and the ids of its children, or one item at level 0. At level 2 it is
+// a root.
+type Made = (usize, u64, u16, &'static [u64]);
+
+const NODES: [Made; 12] = [
+    (100, 2000, 2, &[2001]),
+    (101, 2000, 2, &[2001, 2002]),
+    (102, 2000, 2, &[2001]),
+    (103, 2010, 2, &[2001]),
+    (104, 2011, 2, &[2002]),
+    (105, 2001, 1, &[2003, 2004]),
+    (106, 2001, 1, &[2003]),
+    (107, 2001, 1, &[2003, 2004]),
+    (108, 2002, 1, &[2003]),
+    (109, 2003, 0, &[0]),
+    (110, 2004, 0, &[0]),
+    (111, 2004, 0, &[0]),
+];
+
+// The kind of an inode's key, above its id.
+const INODE: u64 = 3 << 60;
+
+// The items of a node.
+fn items_of(alloc: Global, children: &[u64]) -> Result<Vec<Item>, AllocError> {
+    let mut items = Vec::new(alloc);
+    for child in children.iter() {
+        let key = (INODE | *child).to_le_bytes().to_vec(alloc)?;
+        items.push((key, child.to_le_bytes().to_vec(alloc)?))?;
+    }
+    Ok(items)
+}
+
+// Writes a node in its block.
+fn put(alloc: Global, image: &mut [u8], made: &Made) -> Result<(), Fail> {
+    let (block, oid, level, children) = *made;
+    let items = items_of(alloc, children)?;
+    let totals = Totals {
+        keys: 1,
+        nodes: 1,
+        longest_key: 8,
+        longest_value: 8,
+    };
+    let head = NodeHead {
+        oid,
+        xid: 1,
+        level,
+        totals: (level == 2).then_some(totals),
+    };
+    let Some(bytes) = node(alloc, 4096, &Tree::FILE_SYSTEM, &head, &items)? else {
+        return Err(Fail::from("the items have no room"));
+    };
+    if !write(image, 4096, block, 0, &bytes) {
+        return Err(Fail::from("no such block"));
+    }
+    Ok(())
+}
+
+// A record that is used: its id, its transaction and its block.
+type One = (u64, u64, u64);
+
+// A case: the records of the map, the roots of the views of even transactions and of odd ones, how many volumes have the map in
+// turn, and the records that are used, or what is wrong.
+#[derive(Clone, Copy, Debug)]
+struct Case {
+    records: &'static [Record],
+    roots: [u64; 2],
+    volumes: u64,
+    want: Result<&'static [One], ReachFault>,
+}
+
+// What a sweep answers, and how many reads it takes.
+#[derive(Drop)]
+struct Swept {
+    told: Result<Vec<Used>, Stop<ReachFault>>,
+    reads: u64,
+}
+
+// The sweep of the eight views of a case.
+fn sweep(alloc: Global, case: &Case) -> Result<Swept, Fail> {
+    let base = (Sample::V2, [].as_slice(), [].as_slice());
+    let mut bytes = image(alloc, &base, &[Change::Records(MAP_ROOT, case.records)])?;
+    for made in NODES.iter() {
+        put(alloc, &mut bytes, made)?;
+    }
+    let mut src = MemSource::new(bytes, Vec::new(alloc));
+    let first = open(alloc, &mut src)?;
+    let second = open(alloc, &mut src)?;
+    let heads = eight(alloc, case.volumes, case.roots)?;
+    let volumes = [first.volume, second.volume];
+    let before = src.read_count();
+    let told = reach_views(alloc, &mut src, &second.site, &volumes, &heads);
+    Ok(Swept {
+        told,
+        reads: src.read_count().saturating_sub(before),
+    })
+}
+
+// Whether these are the records of some, each once.
+fn are_used(used: &[Used], want: &[One]) -> bool {
+    used.len() == want.len()
+        && want.iter().all(|one| {
+            used.contains(&Used {
+                map: MAP,
+                mapping: OmapRecord {
+                    oid: one.0,
+                    xid: one.1,
+                    flags: 0,
+                    size: 4096,
+                    paddr: one.2,
+                },
+            })
+        })
+}
+
+// A child that differs in a middle snapshot alone.
+const MIDDLE: &[Record] = &[
+    ([2000, 1], &[KEPT, 100]),
+    ([2001, 1], &[KEPT, 105]),
+    ([2001, 4], &[KEPT, 106]),
+    ([2001, 5], &[KEPT, 107]),
+    ([2003, 1], &[KEPT, 109]),
+    ([2004, 1], &[KEPT, 110]),
+];
+
+const OF_MIDDLE: &[One] = &[
+    (2000, 1, 100),
+    (2001, 1, 105),
+    (2001, 4, 106),
+    (2001, 5, 107),
+    (2003, 1, 109),
+    (2004, 1, 110),
+];
+
+const CASES: [Case; 7] = [
+    Case {
+        records: MIDDLE,
+        roots: [2000, 2000],
+        volumes: 1,
+        want: Ok(OF_MIDDLE),
+    },
+    // two volumes that share a map
+    Case {
+        records: MIDDLE,
+        roots: [2000, 2000],
+        volumes: 2,
+        want: Ok(OF_MIDDLE),
+    },
+    // every second snapshot has another root over the same nodes
+    Case {
+        records: &[
+            ([2000, 1], &[KEPT, 100]),
+            ([2001, 1], &[KEPT, 105]),
+            ([2003, 1], &[KEPT, 109]),
+            ([2004, 1], &[KEPT, 110]),
+            ([2010, 1], &[KEPT, 103]),
+        ],
+        roots: [2000, 2010],
+        volumes: 1,
+        want: Ok(&[
+            (2000, 1, 100),
+            (2001, 1, 105),
+            (2003, 1, 109),
+            (2004, 1, 110),
+            (2010, 1, 103),
+        ]),
+    },
+    // a leaf's record is marked deleted between two snapshots, where no node names it
+    Case {
+        records: &[
+            ([2000, 1], &[KEPT, 100]),
+            ([2001, 1], &[KEPT, 105]),
+            ([2001, 3], &[KEPT, 106]),
+            ([2001, 5], &[KEPT, 107]),
+            ([2003, 1], &[KEPT, 109]),
+            ([2004, 1], &[KEPT, 110]),
+            ([2004, 3], &[DELETED, 0]),
+            ([2004, 5], &[KEPT, 111]),
+        ],
+        roots: [2000, 2000],
+        volumes: 1,
+        want: Ok(&[
+            (2000, 1, 100),
+            (2001, 1, 105),
+            (2001, 3, 106),
+            (2001, 5, 107),
+            (2003, 1, 109),
+            (2004, 1, 110),
+            (2004, 5, 111),
+        ]),
+    },
+    // the last snapshot still names it
+    Case {
+        records: &[
+            ([2000, 1], &[KEPT, 100]),
+            ([2001, 1], &[KEPT, 105]),
+            ([2003, 1], &[KEPT, 109]),
+            ([2004, 1], &[KEPT, 110]),
+            ([2004, 8], &[DELETED, 0]),
+        ],
+        roots: [2000, 2000],
+        volumes: 1,
+        want: Err(ReachFault::Unnamed {
+            within: Within::Volume(0),
+            oid: 2004,
+            xid: 8,
+        }),
+    },
+    // two parents name a leaf, each in the views of one root
+    Case {
+        records: &[
+            ([2000, 1], &[KEPT, 100]),
+            ([2001, 1], &[KEPT, 106]),
+            ([2002, 1], &[KEPT, 108]),
+            ([2003, 1], &[KEPT, 109]),
+            ([2011, 1], &[KEPT, 104]),
+        ],
+        roots: [2000, 2011],
+        volumes: 1,
+        want: Ok(&[
+            (2000, 1, 100),
+            (2001, 1, 106),
+            (2002, 1, 108),
+            (2003, 1, 109),
+            (2011, 1, 104),
+        ]),
+    },
+    // both name it in one view alone, whose root names both
+    Case {
+        records: &[
+            ([2000, 1], &[KEPT, 100]),
+            ([2000, 5], &[KEPT, 101]),
+            ([2000, 6], &[KEPT, 102]),
+            ([2001, 1], &[KEPT, 106]),
+            ([2002, 1], &[KEPT, 108]),
+            ([2003, 1], &[KEPT, 109]),
+        ],
+        roots: [2000, 2000],
+        volumes: 1,
+        want: Err(ReachFault::NamedTwice {
+            within: Within::Volume(0),
+            oid: 2003,
+            xid: 5,
+        }),
+    },
+];
+
+#[test]
+fn sets_of_views_split_and_meet(rt: HostRuntime) -> Result<(), Fail> {
+    let alloc = rt.alloc();
+    for case in CASES.iter() {
+        let swept = sweep(alloc, case)?;
+        match (&swept.told, case.want) {
+            (Ok(used), Ok(want)) => {
+                assert!(rt; are_used(used, want), "{used:?} {case:?}");
+                assert_eq!(rt; swept.reads, want.len() as u64, "{case:?}");
+            }
+            (Err(stop), Err(fault)) => assert_eq!(rt; *stop, Stop::Found(fault), "{case:?}"),
+            (told, _) => panic!(rt; "{told:?} {case:?}"),
+        }
+    }
+    Ok(())
+}
