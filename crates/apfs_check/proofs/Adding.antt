@@ -10,15 +10,14 @@ use Rattle.obj_base.specs.declared.site.Site.{Site}
 use Rattle.nx_ring.specs.Checkpoint.{Seen, site_of}
 use Rattle.vol_view.specs.Volumes.{Loaded}
 use Rattle.vol_view.specs.LoadStops.{IsVolumeOf}
-use Rattle.vol_view.specs.Views.{views_of}
+use Rattle.vol_view.specs.Views.{views_of, view_flat}
 use Rattle.vol_view.specs.declared.head.VolHead.{VolHead}
 use Rattle.vol_view.specs.declared.volume.View.{View}
 use Rattle.ext_ref.specs.declared.range.NewRange.{NewRange}
 use Rattle.reach_sweep.specs.Account.{AreLoadedOf}
 use Rattle.reach_sweep.specs.Views.{head_of}
-use Rattle.tree_rules.specs.declared.tallies.ViewTally.{ViewTally}
+use Rattle.tree_rules.specs.declared.notes.Note.{Note}
 use Rattle.tree_rules.specs.Notes as tree_notes
-use Rattle.tree_rules.specs.Tallies.{IsTally}
 use Rattle.view_rules.specs.Rules.{view_facts, HasTreeRules}
 use Rattle.view_rules.specs.declared.profile.Profile.{Profile}
 use Rattle.view_rules.specs.declared.profile.Profile.TheVariants.{Plain, Strict}
@@ -30,6 +29,9 @@ use Rattle.apfs_check.specs.Held.{Held, view_hashes, unreached_under, counts_und
 use Rattle.apfs_check.specs.Report.{view_count, record_count, records_of_volume}
 use Rattle.apfs_check.specs.Steps.{IsReady}
 use Rattle.omap_map.proofs.Lists.{contains-in}
+use Rattle.apfs_check.specs.Again.{HaveOneTree, IsPassed}
+use Rattle.apfs_check.specs.declared.views.Passed.{Passed}
+use Rattle.apfs_check.proofs.Again.{passed-again}
 use Rattle.apfs_check.proofs.NoteKinds.{view-unnamed, view-hash, hash-kind}
 
 -- ---- counts that stand at the greatest number
@@ -138,21 +140,22 @@ hashes-of : (profile : Profile) (image : List ℕ) (seen : Seen) (head : VolHead
 hashes-of Plain image seen head view = view-hash image seen head view
 hashes-of Strict image seen head view = hash-kind Strict view (view_facts image (site_of seen) (volume_of image seen head) view)
 
--- what a tally of a view adds
-pub record PutsView (tally : ViewTally) (old new : Held) : Type 0 where
-  pub records : new.records ≡ given (old.records + tally.records)
-  pub hashes : new.hashes ≡ old.hashes ++ filter notes.is_hash_note tally.notes.items
-  pub unnamed : new.unnamed ≡ old.unnamed ++ filter notes.is_unnamed_note tally.notes.items
+-- so many records and these notes of a view are added
+pub record PutsView (records : ℕ) (noted : List Note) (old new : Held) : Type 0 where
+  pub records_added : new.records ≡ given (old.records + records)
+  pub hashes : new.hashes ≡ old.hashes ++ filter notes.is_hash_note noted
+  pub unnamed : new.unnamed ≡ old.unnamed ++ filter notes.is_unnamed_note noted
   pub views_same : new.views ≡ old.views
   pub unreached_same : new.unreached ≡ old.unreached
   pub counts_same : new.counts ≡ old.counts
 
-pub one-view : (profile : Profile) (image : List ℕ) (seen : Seen) (head : VolHead) (view : View) (tally : ViewTally) (a b : Held) → HasViewRules profile image seen head view → IsTally profile image (site_of seen) (volume_of image seen head) view tally → PutsView tally a b → AddsViews profile image seen head (view ∷ []) a b
-one-view profile image seen head view tally a b rules told put = record {
+pub one-view : (profile : Profile) (image : List ℕ) (seen : Seen) (head : VolHead) (view : View) (records : ℕ) (noted : List Note) (a b : Held) → HasViewRules profile image seen head view → records ≡ given (record_count image seen head view) → noted ≡ tree_notes.notes_of profile view (view_facts image (site_of seen) (volume_of image seen head) view) →
+    PutsView records noted a b → AddsViews profile image seen head (view ∷ []) a b
+one-view profile image seen head view records noted a b rules counted told put = record {
   right = λ other one. in-single other view (HasViewRules profile image seen head) rules one;
-  records = ap given (put.records ∙ ap (λ n. given (a.records + n)) told.records) ∙ given-one a.records (record_count image seen head view);
-  hashes = put.hashes ∙ ap (λ ns. a.hashes ++ ns) (ap (filter notes.is_hash_note) told.notes ∙ (hashes-of profile image seen head view ∙ sym (append-none _)));
-  unnamed = put.unnamed ∙ ap (λ ns. a.unnamed ++ ns) (ap (filter notes.is_unnamed_note) told.notes ∙ (view-unnamed profile image seen head view ∙ sym (append-none _)));
+  records = ap given (put.records_added ∙ ap (λ n. given (a.records + n)) counted) ∙ given-one a.records (record_count image seen head view);
+  hashes = put.hashes ∙ ap (λ ns. a.hashes ++ ns) (ap (filter notes.is_hash_note) told ∙ (hashes-of profile image seen head view ∙ sym (append-none _)));
+  unnamed = put.unnamed ∙ ap (λ ns. a.unnamed ++ ns) (ap (filter notes.is_unnamed_note) told ∙ (view-unnamed profile image seen head view ∙ sym (append-none _)));
   views_same = put.views_same;
   unreached_same = put.unreached_same;
   counts_same = put.counts_same;
@@ -166,14 +169,31 @@ one-view profile image seen head view tally a b rules told put = record {
     given-one a n = omega arith
 
 -- a view of a volume that was loaded, by what its check tells
-pub view-added : (profile : Profile) (image : List ℕ) (seen : Seen) (site : Site) (volume : Loaded) (view : View) (ranges : List NewRange) (tally : ViewTally) (a b : Held) → IsReady image seen volume → site ≡ site_of seen → ranges ≡ volume_ranges image (site_of seen) volume.head →
-    HasTreeRules profile image site volume view ranges → IsTally profile image site volume view tally → PutsView tally a b → AddsViews profile image seen volume.head (view ∷ []) a b
-view-added profile image seen site volume view ranges tally a b ready here same rules told put =
+pub view-added : (profile : Profile) (image : List ℕ) (seen : Seen) (site : Site) (volume : Loaded) (view : View) (ranges : List NewRange) (records : ℕ) (noted : List Note) (a b : Held) → IsReady image seen volume → site ≡ site_of seen → ranges ≡ volume_ranges image (site_of seen) volume.head →
+    HasTreeRules profile image site volume view ranges → records ≡ given (length (view_flat image site volume view)) → noted ≡ tree_notes.notes_of profile view (view_facts image site volume view) → PutsView records noted a b → AddsViews profile image seen volume.head (view ∷ []) a b
+view-added profile image seen site volume view ranges records noted a b ready here same rules counted told put =
     let head = volume.head in
     let has : HasViewRules profile image seen head view = subst (λ (v : Loaded). HasTreeRules profile image (site_of seen) v view (volume_ranges image (site_of seen) head)) ready.loaded.same
     (subst (λ (s : Site). HasTreeRules profile image s volume view (volume_ranges image (site_of seen) head)) here (subst (λ rs. HasTreeRules profile image site volume view rs) same rules)) in
-    let counted : IsTally profile image (site_of seen) (volume_of image seen head) view tally = subst (λ (v : Loaded). IsTally profile image (site_of seen) v view tally) ready.loaded.same (subst (λ (s : Site). IsTally profile image s volume view tally) here told) in
-    one-view profile image seen head view tally a b has counted put
+    let counts : records ≡ given (record_count image seen head view) = subst (λ (v : Loaded). records ≡ given (length (view_flat image (site_of seen) v view))) ready.loaded.same (subst (λ (s : Site). records ≡ given (length (view_flat image s volume view))) here counted) in
+    let tells : noted ≡ tree_notes.notes_of profile view (view_facts image (site_of seen) (volume_of image seen head) view) =
+    subst (λ (v : Loaded). noted ≡ tree_notes.notes_of profile view (view_facts image (site_of seen) v view)) ready.loaded.same (subst (λ (s : Site). noted ≡ tree_notes.notes_of profile view (view_facts image s volume view)) here told) in
+    one-view profile image seen head view records noted a b has counts tells put
+
+-- a view that has the tree of one that passed, by the number of its records
+pub again-added : (profile : Profile) (image : List ℕ) (seen : Seen) (volume : Loaded) (ranges : List NewRange) (views : List View) (passed : Passed) (view : View) (a b : Held) → IsReady image seen volume → ranges ≡ volume_ranges image (site_of seen) volume.head →
+    IsPassed profile image (site_of seen) volume ranges views passed → HaveOneTree volume passed.view view → b ≡ record a { records = given (a.records + passed.records) } → AddsViews profile image seen volume.head (view ∷ []) a b
+again-added profile image seen volume ranges views passed view a b ready same is one e =
+    let now = passed-again profile image (site_of seen) volume ranges views passed view is one in
+    view-added profile image seen (site_of seen) volume view ranges passed.records [] a b ready refl same now.rules now.records (sym now.notes)
+    (record {
+      records_added = ap (λ (h : Held). h.records) e;
+      hashes = ap (λ (h : Held). h.hashes) e ∙ sym (append-none a.hashes);
+      unnamed = ap (λ (h : Held). h.unnamed) e ∙ sym (append-none a.unnamed);
+      views_same = ap (λ (h : Held). h.views) e;
+      unreached_same = ap (λ (h : Held). h.unreached) e;
+      counts_same = ap (λ (h : Held). h.counts) e;
+    })
 
 -- ---- the volumes that were loaded
 pub loaded-more : (image : List ℕ) (seen : Seen) (heads : List VolHead) (volumes : List Loaded) (head : VolHead) (volume : Loaded) → AreLoadedOf image seen heads volumes → IsVolumeOf image (site_of seen) head volume → volume.head ≡ head → AreLoadedOf image seen (heads ++ head ∷ []) (volumes ++ volume ∷ [])

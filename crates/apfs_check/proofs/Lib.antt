@@ -18,3 +18,4 @@ pub mod Short
 pub mod ViewSteps
 pub mod DataTold
 pub mod Checked
+pub mod Again

@@ -10,7 +10,6 @@ use Rattle.vol_view.specs.Volumes.{Loaded}
 use Rattle.vol_view.specs.declared.head.VolHead.{VolHead}
 use Rattle.vol_view.specs.declared.volume.View.{View}
 use Rattle.ext_ref.specs.declared.range.NewRange.{NewRange}
-use Rattle.view_rules.specs.declared.fault.NamedAt.{NamedAt}
 use Rattle.apfs_check.specs.Laws.{HasNoStrictNotes}
 use Rattle.apfs_model.proofs.BoolTests.{test_or}
 use Rattle.apfs_model.proofs.Searches.{in-filter}

@@ -1,5 +1,5 @@
 -- Ranges and extents whose ends are numbers of 64 bits.
-use Rattle.std.proofs.Common.{◌≡◌, ℕ, zero, suc, ◌+◌, ◌-◌, ◌*◌, ◌/◌, ◌%◌, ◌<◌, ◌≤◌, Bool, true, false, List, [], ◌∷◌, length, Option, Some, None, inl, inr, refl, subst, arith}
+use Rattle.std.proofs.Common.{◌≡◌, ℕ, zero, suc, ◌+◌, ◌/◌, ◌%◌, ◌<◌, Bool, true, false, List, [], ◌∷◌, length, Option, Some, None, inl, inr, refl, subst, arith}
 use Rattle.std.specs.Prelude.{◌^◌, ◌&&◌, ◌==◌, nat_lt, slice_index_or, option_and_then, if◌then◌else◌}
 use Rattle.std.specs.List.{All}
 use Rattle.apfs_model.specs.Bytes.{u64_at, i32_at}

@@ -1,6 +1,6 @@
 -- Going through the views of a volume that was loaded.
-use Rattle.std.proofs.Common.{◌≡◌, ◌∙◌, ℕ, zero, suc, ◌+◌, ◌-◌, ◌<◌, ◌≤◌, true, false, List, [], ◌∷◌, ◌++◌, length, Some, map, take, inl, inr, sym, ap, subst, arith}
-use Rattle.std.specs.Prelude.{◌^◌, nat_lt, flat_map, slice_get, option_map}
+use Rattle.std.proofs.Common.{◌≡◌, ◌∙◌, ℕ, zero, suc, ◌+◌, ◌-◌, ◌<◌, ◌≤◌, true, false, List, [], ◌∷◌, ◌++◌, length, None, Some, Option, map, take, inl, inr, sym, ap, subst, arith}
+use Rattle.std.specs.Prelude.{◌^◌, IfSome, nat_lt, flat_map, slice_get, option_map}
 use Rattle.std.specs.List.{All}
 use Rattle.std.proofs.lemmas.Grind.{flat_map-append}
 use Rattle.std.proofs.lemmas.List.{length-map}
@@ -8,7 +8,7 @@ use Rattle.std.proofs.lemmas.List.Elements.{All-head, All-tail}
 use Rattle.std.proofs.lemmas.Option.{slice_get-map}
 use Rattle.apfs_model.specs.Lists.{In}
 use Rattle.apfs_model.proofs.BoolTests.{not-false, other-true, right-true, upto-from}
-use Rattle.apfs_model.proofs.Searches.{from-map, in-left, in-right, in-append}
+use Rattle.apfs_model.proofs.Searches.{from-map, in-flat_map, in-left, in-right, in-append}
 use Rattle.obj_base.specs.declared.site.Site.{Site}
 use Rattle.nx_ring.specs.Checkpoint.{Seen, site_of}
 use Rattle.fs_record.specs.Facts.{Fact}
@@ -20,10 +20,13 @@ use Rattle.vol_view.specs.declared.volume.View.{View}
 use Rattle.ext_ref.specs.Left.{AreShortExtents}
 use Rattle.ext_ref.specs.Ranges.{ranges_of}
 use Rattle.ext_ref.specs.Same.{HaveSame}
+use Rattle.ext_ref.specs.declared.range.NewRange.{NewRange}
 use Rattle.view_rules.specs.Facts.{Facts}
 use Rattle.view_rules.specs.Extents.{is_misplaced}
 use Rattle.view_rules.specs.Rules.{view_facts}
 use Rattle.view_rules.specs.declared.profile.Profile.{Profile}
+use Rattle.apfs_check.specs.Again.{IsPassed}
+use Rattle.apfs_check.specs.declared.views.Passed.{Passed}
 use Rattle.apfs_check.specs.Volumes.{volume_of, volume_ranges, extent_of, view_extents, volume_extents}
 use Rattle.apfs_check.specs.WellFormed.{HasViewRules}
 use Rattle.apfs_check.specs.DataSteps.{AreShortOrHoles}
@@ -84,6 +87,40 @@ extents-next image site volume views i view b c d at p q r =
     let more : HaveSame c (flat_map f (take (i + 1) views)) =
     subst (λ vs. HaveSame c (flat_map f vs)) (sym (take-one views i view at)) (subst (λ es. HaveSame es (flat_map f (take i views ++ view ∷ []))) (sym q) (one-more f (take i views) view b p)) in
     λ x. ((λ h. (more x).0 ((r x).1 h)), (λ h. (r x).0 ((more x).1 h)))
+
+-- a view whose extents an earlier one has
+pub extents-kept : (image : List ℕ) (site : Site) (volume : Loaded) (views : List View) (i : ℕ) (before view : View) (b : List (ℕ × FileExt)) → slice_get views i ≡ Some view → In before (take i views) → view_extents image site volume before ≡ view_extents image site volume view
+    → HaveSame b (flat_map (view_extents image site volume) (take i views)) → HaveSame b (flat_map (view_extents image site volume) (take (i + 1) views))
+extents-kept image site volume views i before view b at one same had = λ x. (
+  (λ h. subst (λ vs. In x (flat_map (view_extents image site volume) vs)) (sym (take-one views i view at))
+      (subst (In x) (sym (flat_map-append (view_extents image site volume) (take i views) (view ∷ []))) (in-left x (flat_map (view_extents image site volume) (take i views)) (view_extents image site volume view ++ []) ((had x).0 h)))),
+  (λ h. elim (in-append x (flat_map (view_extents image site volume) (take i views)) (view_extents image site volume view ++ [])
+      (subst (In x) (flat_map-append (view_extents image site volume) (take i views) (view ∷ [])) (subst (λ vs. In x (flat_map (view_extents image site volume) vs)) (take-one views i view at) h))) as (λ _. In x b) [
+        | inl k ↦ (had x).1 k
+        | inr k ↦ (had x).1 (in-flat_map (view_extents image site volume) before x (take i views) one (subst (In x) (sym same) (subst (In x) (append-none (view_extents image site volume view)) k)))
+      ]),
+)
+
+-- the view that passed is one of those up to the next place
+pub passed-next : (profile : Profile) (image : List ℕ) (site : Site) (volume : Loaded) (ranges : List NewRange) (views : List View) (i : ℕ) (view : View) (passed : Option Passed) → slice_get views i ≡ Some view → IfSome passed (IsPassed profile image site volume ranges (view ∷ []))
+    → IfSome passed (IsPassed profile image site volume ranges (take (i + 1) views))
+passed-next profile image site volume ranges views i view None at is = tt
+passed-next profile image site volume ranges views i view (Some p) at is = record {
+  one = subst (In p.view) (sym (take-one views i view at)) (in-right p.view (take i views) (view ∷ []) is.one);
+  rules = is.rules;
+  records = is.records;
+  notes = is.notes;
+}
+
+pub passed-kept : (profile : Profile) (image : List ℕ) (site : Site) (volume : Loaded) (ranges : List NewRange) (views : List View) (i : ℕ) (view : View) (passed : Option Passed) → slice_get views i ≡ Some view → IfSome passed (IsPassed profile image site volume ranges (take i views))
+    → IfSome passed (IsPassed profile image site volume ranges (take (i + 1) views))
+passed-kept profile image site volume ranges views i view None at is = tt
+passed-kept profile image site volume ranges views i view (Some p) at is = record {
+  one = subst (In p.view) (sym (take-one views i view at)) (in-left p.view (take i views) (view ∷ []) is.one);
+  rules = is.rules;
+  records = is.records;
+  notes = is.notes;
+}
 
 -- extents that are short, thinned
 pub short-same : (block_size : ℕ) (xs ys : List (ℕ × FileExt)) → HaveSame xs ys → AreShortExtents block_size xs → AreShortExtents block_size ys

@@ -9,3 +9,4 @@ pub mod Laws
 pub mod Held
 pub mod Steps
 pub mod DataSteps
+pub mod Again

@@ -52,8 +52,8 @@ impl Gathered {
         self.view_count = self.view_count.saturating_add(views);
     }
 
-    // Counts records.
-    fn count_records(&mut self, records: u64)
+    /// Counts records.
+    pub(crate) fn count_records(&mut self, records: u64)
         ensures { self.new ≡ record self.old { records = given (self.old.records + records) } }
     {
         self.record_count = self.record_count.saturating_add(records);

@@ -1,5 +1,5 @@
 // The views of a volume: their rules, what is told of them, and their extents.
-ghost use Rattle.std.specs.Prelude.{◌≡◌, ◌+◌, ◌≤◌, ◌<◌, ◌^◌, ◌∷◌, ◌++◌, [], ℕ, List, Some, false, length, slice_get, OnOk, IfOk, IfErr, IsErrOf};
+ghost use Rattle.std.specs.Prelude.{◌≡◌, ◌+◌, ◌≤◌, ◌<◌, ◌^◌, ◌∷◌, ◌++◌, [], ℕ, List, Some, false, length, slice_get, OnOk, IfOk, IfErr, IfSome, IsErrOf, IsTrue};
 ghost use Rattle.apfs_model.specs.Counts.{Rose};
 ghost use Rattle.apfs_model.specs.Lists.{In};
 ghost use Rattle.apfs_model.specs.Source.{IsKept};
@@ -11,6 +11,7 @@ ghost use Rattle.vol_view.specs.Views.{views_of};
 ghost use Rattle.ext_ref.specs.Left.{AreShortExtents};
 ghost use Rattle.ext_ref.specs.Same.{HaveSame};
 ghost use Rattle.apfs_check.specs.Volumes as spec;
+ghost use Rattle.apfs_check.specs.Again.{are_seen_alike, HaveOneTree, IsPassed};
 ghost use Rattle.apfs_check.specs.Held.{AddsViews};
 ghost use Rattle.apfs_check.specs.DataSteps.{AreShortOrHoles};
 ghost use Rattle.apfs_check.specs.Steps.{IsThere, IsReady};
@@ -23,8 +24,9 @@ use ext_ref::{NewRange, thin};
 use fs_record::FileExt;
 use nx_ring::Checkpoint;
 use obj_base::Stop;
+use omap_map::OmapRecord;
 use std::alloc::{AllocError, Global};
-use tree_rules::{CheckedView, Profile, check_with_extents};
+use tree_rules::{CheckedView, Profile, ViewTally, check_with_extents};
 use vol_view::{View, Volume, live, past};
 
 // A view of a volume by its place: the live one, then those of the snapshots by transaction.
@@ -39,7 +41,65 @@ fn view_at(volume: &Volume, cp: &Checkpoint, place: usize) -> View
     }
 }
 
-// Adds what is told of a view that has its rules, and gives its extents, each after its stream's id.
+// A view that has its rules, of which nothing is noted, and the number of its records.
+#[derive(Clone, Copy)]
+struct Passed {
+    view: View,
+    records: u64,
+}
+
+// A view that was added, where nothing is noted of it, and its extents, each after its stream's id.
+#[derive(Drop)]
+struct Added {
+    passed: Option<Passed>,
+    extents: Vec<(u64, FileExt)>,
+}
+
+// A view as one that passed, where nothing is noted of it.
+fn passed_of(view: &View, tally: &ViewTally) -> Option<Passed>
+    ensures same { IfSome result (λ passed. passed ≡ record { view = view.now; records = tally.now.records }) }
+    ensures none { IfSome result (λ passed. tally.now.notes.items ≡ []) }
+{
+    if tally.notes.is_empty() {
+        Some(Passed {
+            view: *view,
+            records: tally.records,
+        })
+    } else {
+        None
+    }
+}
+
+// Whether each record of a map is of a transaction that two views both see, or that neither does.
+fn is_seen_alike(records: &[OmapRecord], one: u64, other: u64) -> bool
+    ensures { result ≡ are_seen_alike records.now one other }
+{
+    records.iter().all(|record| {
+        (record.xid <= one && record.xid <= other) || (one < record.xid && other < record.xid)
+    })
+}
+
+// Whether two views of a volume have one root, and no record of its map is of a transaction that one of them sees and the other doesn't.
+fn have_one_tree(volume: &Volume, one: &View, other: &View) -> bool
+    ensures { IsTrue result → HaveOneTree volume.now one.now other.now }
+{
+    one.root_oid == other.root_oid && is_seen_alike(volume.omap.records(), one.xid, other.xid)
+}
+
+// The view that passed, where it has the tree of another one.
+fn again(volume: &Volume, passed: Option<Passed>, view: &View) -> Option<Passed>
+    ensures same { IfSome result (λ before. passed ≡ Some before) }
+    ensures one { IfSome result (λ before. HaveOneTree volume.now before.view view.now) }
+{
+    let before = passed?;
+    if have_one_tree(volume, &before.view, view) {
+        Some(before)
+    } else {
+        None
+    }
+}
+
+// Adds what is told of a view that has its rules.
 fn add_view<S: BlockSource>(
     alloc: Global,
     src: &mut S,
@@ -49,10 +109,11 @@ fn add_view<S: BlockSource>(
     ranges: &[NewRange],
     profile: Profile,
     out: &mut Gathered,
-) -> Result<Vec<(u64, FileExt)>, Stop<Fault>>
+) -> Result<Added, Stop<Fault>>
     requires site { IsSiteFor (site_of cp.now) (S.bytes_len src.old) }
     ensures clear { (image : List ℕ) → S.bytes src.old ≡ Some image → IsReady image cp.now volume.now → ranges.now ≡ spec.volume_ranges image (site_of cp.now) volume.now.head → OnOk result (AddsViews profile image cp.now volume.now.head (view.now ∷ []) out.old out.new) }
-    ensures all { (image : List ℕ) → S.bytes src.old ≡ Some image → IfOk result (λ extents. extents.items ≡ spec.view_extents image (site_of cp.now) volume.now view.now) }
+    ensures all { (image : List ℕ) → S.bytes src.old ≡ Some image → IfOk result (λ added. added.extents.items ≡ spec.view_extents image (site_of cp.now) volume.now view.now) }
+    ensures passed { (image : List ℕ) → S.bytes src.old ≡ Some image → IfOk result (λ added. IfSome added.passed (IsPassed profile image (site_of cp.now) volume.now ranges.now (view.now ∷ []))) }
     ensures present { (image : List ℕ) → S.bytes src.old ≡ Some image → IsReady image cp.now volume.now → ranges.now ≡ spec.volume_ranges image (site_of cp.now) volume.now.head → In view.now (views_of volume.now cp.now) → IfErr result (IsThere profile image) }
     ensures cause { IsErrOf result ReadFault → Rose (S.faults src.old) (S.faults src.new) }
     ensures kept { IsKept S.bytes S.bytes_len S.faults src.old src.new }
@@ -63,8 +124,9 @@ fn add_view<S: BlockSource>(
         Err(stop) => return Err(stop_of(stop, ())),
     };
     let CheckedView { tally, extents } = checked;
+    let passed = passed_of(view, &tally);
     out.put_view(tally)?;
-    Ok(extents)
+    Ok(Added { passed, extents })
 }
 
 // The block after the last one of an extent.
@@ -124,7 +186,8 @@ fn thin_past(extents: &mut Vec<(u64, FileExt)>, limit: usize) -> usize
 }
 
 /// Adds what is told of all views of a volume, each of which has its rules, and gives their extents, each after its stream's id, in whatever
-/// order: of an extent that many views have, few are kept. None ends after block 2^64 - 1: those of a view that has its rules all end within
+/// order: of an extent that many views have, few are kept. A view that has the tree of the one that was tested before it isn't walked again
+/// where that one passed and nothing was noted of it. None ends after block 2^64 - 1: those of a view that has its rules all end within
 /// the container.
 pub(crate) fn add_views<S: BlockSource>(
     alloc: Global,
@@ -146,13 +209,19 @@ pub(crate) fn add_views<S: BlockSource>(
     let site = cp.site();
     let mut extents = Vec::new(alloc);
     let mut limit = FIRST_LIMIT;
+    let mut passed = None;
     let count = volume.snaps.len() + 1;
     'views: for place in 0..count {
         let view = view_at(volume, cp, place);
+        if let Some(before) = again(volume, passed, &view) {
+            out.count_records(before.records);
+            continue;
+        }
         match add_view(alloc, src, cp, volume, &view, ranges, profile, out) {
-            Ok(more) => {
-                put_all_short(&mut extents, &more, site.block_size)?;
+            Ok(added) => {
+                put_all_short(&mut extents, &added.extents, site.block_size)?;
                 limit = thin_past(&mut extents, limit);
+                passed = added.passed;
             }
             Err(stop) => return Err(stop),
         }

@@ -1,4 +1,5 @@
 // The cases, in tables, and what a check answers.
+mod again;
 mod data;
 mod names;
 mod nodes;

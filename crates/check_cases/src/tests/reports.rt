@@ -1,9 +1,12 @@
 // The reports of the samples. How many objects and used blocks each has, another program counted; how many records each has, the table
 // of samples says: four of the two directories, and those of its files, in each view.
 use crate::tests::rows::{BOTH, Numbers, Row, SMALL_NUMBERS, Said, assert_rows};
-use img_changes::SMALL;
+use apfs_check::check;
+use blk_source::{BlockSource, MemSource};
+use img_changes::{SMALL, image};
 use img_make::Sample;
 use std::test::Fail;
+use tree_rules::Profile;
 
 const REPORTS: &[Row] = &[
     Row {
@@ -145,4 +148,15 @@ const REPORTS: &[Row] = &[
 #[test]
 fn reports_are_as_said(rt: HostRuntime) -> Result<(), Fail> {
     assert_rows(&rt, rt.alloc(), REPORTS)
+}
+
+// As many reads at most as a check took that kept what is wanted for each of the nine views.
+#[test]
+fn nine_views_take_no_more_reads(rt: HostRuntime) -> Result<(), Fail> {
+    let alloc = rt.alloc();
+    let eight_snapshots = image(alloc, &(Sample::V2, &[], &[]), &[])?;
+    let mut src = MemSource::new(eight_snapshots, Vec::new(alloc));
+    assert!(rt; check(alloc, &mut src, Profile::Plain).is_ok());
+    assert!(rt; src.read_count() <= 98);
+    Ok(())
 }
