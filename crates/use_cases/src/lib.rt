@@ -1,0 +1,5 @@
+//! What the views of made containers hold. For tests alone.
+#![tactic(auto)]
+
+#[cfg(test)]
+mod tests;

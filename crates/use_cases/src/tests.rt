@@ -1,0 +1,231 @@
+// What the views of small containers hold, worked out by hand.
+use blk_source::MemSource;
+use bt_cursor::WalkFault;
+use bt_node::NodeFault;
+use img_make::{Plan, Sample, make, sample, write};
+use nx_ring::newest;
+use obj_base::{HeadFault, Stop};
+use std::alloc::Global;
+use std::test::Fail;
+use use_report::{Usage, UseFault, ViewUse, usage};
+use vol_view::{heads, load};
+
+// An edit: a block, a place in it, and the byte that it gets. Sums stay as they are.
+type Edit = (usize, usize, u8);
+
+fn made(alloc: Global, plan: &Plan, edits: &[Edit]) -> Result<Vec<u8>, Fail> {
+    if !plan.valid() {
+        return Err(Fail::from("the plan isn't valid"));
+    }
+    let mut image = make(alloc, plan)?;
+    for (block, place, byte) in edits.iter() {
+        if !write(&mut image, 4096, *block, *place, &[*byte]) {
+            return Err(Fail::from("no such place"));
+        }
+    }
+    Ok(image)
+}
+
+// The container whose file begins with a hole, and a snapshot of before, when the file was the block after the hole alone.
+fn with_an_earlier_file(alloc: Global) -> Result<Plan, Fail> {
+    let mut plan = sample(alloc, Sample::P)?;
+    let mut earlier = sample(alloc, Sample::H)?;
+    let Some(mut volume) = earlier.volumes.pop() else {
+        return Err(Fail::from("no volume"));
+    };
+    let Some(mut first) = volume.versions.pop() else {
+        return Err(Fail::from("no version"));
+    };
+    first.snapshot = Some(b"s1".to_vec(alloc)?);
+    let Some(volume) = plan.volumes.first_mut() else {
+        return Err(Fail::from("no volume"));
+    };
+    let Some(last) = volume.versions.first_mut() else {
+        return Err(Fail::from("no version"));
+    };
+    last.xid = 2;
+    volume.versions.insert(0, first)?;
+    plan.xid = 2;
+    Ok(plan)
+}
+
+// The container with a file of one extent, the value of whose record is another. It is the last record.
+fn with_extent(alloc: Global, value: &[u8]) -> Result<Plan, Fail> {
+    let mut plan = sample(alloc, Sample::H)?;
+    let Some(volume) = plan.volumes.first_mut() else {
+        return Err(Fail::from("no volume"));
+    };
+    let Some(version) = volume.versions.first_mut() else {
+        return Err(Fail::from("no version"));
+    };
+    let Some(leaf) = version.leaves.first_mut() else {
+        return Err(Fail::from("no leaf"));
+    };
+    let Some(item) = leaf.items.last_mut() else {
+        return Err(Fail::from("no record"));
+    };
+    item.1 = value.to_vec(alloc)?;
+    Ok(plan)
+}
+
+// What is told of the volume in a place among those of an image, when reads of these numbers fail.
+fn told(
+    alloc: Global,
+    image: Vec<u8>,
+    place: usize,
+    fails: Vec<u64>,
+) -> Result<Usage, Stop<UseFault>> {
+    let mut src = MemSource::new(image, fails);
+    let cp = match newest(alloc, &mut src) {
+        Ok(cp) => cp,
+        Err(Stop::ReadFault) => return Err(Stop::ReadFault),
+        Err(_) => return Err(Stop::NoMemory),
+    };
+    let found = match heads(alloc, &mut src, &cp) {
+        Ok(found) => found,
+        Err(Stop::ReadFault) => return Err(Stop::ReadFault),
+        Err(_) => return Err(Stop::NoMemory),
+    };
+    if place >= found.len() {
+        return Err(Stop::NoMemory);
+    }
+    let volume = match load(alloc, &mut src, &cp, &found[place]) {
+        Ok(volume) => volume,
+        Err(Stop::ReadFault) => return Err(Stop::ReadFault),
+        Err(_) => return Err(Stop::NoMemory),
+    };
+    usage(alloc, &mut src, &cp, &volume)
+}
+
+fn of(xid: u64, held: u64, only: u64) -> ViewUse {
+    ViewUse { xid, held, only }
+}
+
+#[test]
+fn what_views_hold(rt: HostRuntime) -> Result<(), Fail> {
+    let alloc = rt.alloc();
+    for (which, place, want, all) in [
+        (
+            Sample::V,
+            0,
+            [of(5, 4, 1), of(2, 5, 3), of(4, 5, 2)].as_slice(),
+            9,
+        ),
+        (
+            Sample::V2,
+            0,
+            [
+                of(9, 4, 1),
+                of(1, 5, 2),
+                of(2, 5, 2),
+                of(3, 5, 2),
+                of(4, 5, 2),
+                of(5, 5, 2),
+                of(6, 5, 2),
+                of(7, 5, 2),
+                of(8, 5, 2),
+            ]
+            .as_slice(),
+            21,
+        ),
+        (Sample::S, 0, [of(1, 2, 2)].as_slice(), 2),
+        (Sample::H, 0, [of(1, 3, 3)].as_slice(), 3),
+        (Sample::P, 0, [of(1, 3, 3)].as_slice(), 3),
+        (Sample::L, 0, [of(1, 2, 2)].as_slice(), 2),
+        (Sample::C, 0, [of(1, 3, 3)].as_slice(), 3),
+        (Sample::J, 0, [of(1, 2, 2)].as_slice(), 2),
+        (Sample::T, 0, [of(1, 2, 2)].as_slice(), 2),
+        (Sample::T, 1, [of(1, 3, 3)].as_slice(), 3),
+    ] {
+        let image = made(alloc, &sample(alloc, which)?, &[])?;
+        let Ok(usage) = told(alloc, image, place, Vec::new(alloc)) else {
+            panic!(rt; "nothing is told");
+        };
+        assert_eq!(rt; usage.views.as_slice(), want);
+        assert_eq!(rt; usage.all, all);
+    }
+    Ok(())
+}
+
+#[test]
+fn two_views_share_an_extent(rt: HostRuntime) -> Result<(), Fail> {
+    let alloc = rt.alloc();
+    // Each view has a root and extent references of its own, and the snapshot a superblock. Both have the file's block.
+    let image = made(alloc, &with_an_earlier_file(alloc)?, &[])?;
+    let Ok(usage) = told(alloc, image, 0, Vec::new(alloc)) else {
+        panic!(rt; "nothing is told");
+    };
+    assert_eq!(rt;
+        usage.views.as_slice(),
+        [of(2, 3, 2), of(1, 4, 3)].as_slice()
+    );
+    assert_eq!(rt; usage.all, 6);
+    Ok(())
+}
+
+#[test]
+fn which_node_is_wrong(rt: HostRuntime) -> Result<(), Fail> {
+    let alloc = rt.alloc();
+    // A byte of the root of the live view's files, of that of its extent references, of the leaf that the first snapshot keeps,
+    // and of the root of the second one's extent references is another, and so the sums are wrong.
+    for (which, block, xid) in [
+        (Sample::S, 54, 1),
+        (Sample::S, 55, 1),
+        (Sample::V, 57, 2),
+        (Sample::V, 63, 4),
+    ] {
+        let image = made(alloc, &sample(alloc, which)?, &[(block, 2000, 0x55)])?;
+        let why = WalkFault::Unsound {
+            block: block as u64,
+            why: NodeFault::Head(HeadFault::BadSum),
+        };
+        let got = told(alloc, image, 0, Vec::new(alloc)).err();
+        assert_eq!(rt; got, Some(Stop::Found(UseFault::Walk { xid, why })));
+    }
+    Ok(())
+}
+
+#[test]
+fn which_extent_is_wrong(rt: HostRuntime) -> Result<(), Fail> {
+    let alloc = rt.alloc();
+    // A length of one block or of two, and the last block of the container, that after it, or a negative one; and a value that is
+    // a byte too short.
+    let outside = Some(UseFault::Outside { xid: 1 });
+    let short = Some(UseFault::Value { xid: 1, item: 7 });
+    for (length, block, bytes, want) in [
+        (4096u64, 255u64, 24, None),
+        (4096, 256, 24, outside),
+        (8192, 254, 24, None),
+        (8192, 255, 24, outside),
+        (4096, 1 << 63, 24, outside),
+        (4096, 57, 23, short),
+    ] {
+        let mut value = length.to_le_bytes().to_vec(alloc)?;
+        value.extend_from_slice(&block.to_le_bytes())?;
+        value.extend_from_slice(&[0; 8])?;
+        value.truncate(bytes);
+        let image = made(alloc, &with_extent(alloc, &value)?, &[])?;
+        let got = told(alloc, image, 0, Vec::new(alloc)).err();
+        assert_eq!(rt; got, want.map(Stop::Found));
+    }
+    Ok(())
+}
+
+#[test]
+fn each_read_fails_in_turn(rt: HostRuntime) -> Result<(), Fail> {
+    let alloc = rt.alloc();
+    let image = made(alloc, &sample(alloc, Sample::V)?, &[])?;
+    for number in 1..200u64 {
+        let mut fails = Vec::new(alloc);
+        fails.push(number)?;
+        match told(alloc, image.to_vec(alloc)?, 0, fails) {
+            Ok(usage) => {
+                assert_eq!(rt; usage.all, 9);
+                assert!(rt; number > 9);
+                return Ok(());
+            }
+            Err(stop) => assert_eq!(rt; stop, Stop::ReadFault),
+        }
+    }
+    panic!(rt; "there are no 200 reads")
+}

@@ -1,0 +1,16 @@
+pub mod Lists
+pub mod Gathered
+pub mod Through
+pub mod Pasts
+pub mod Origins
+pub mod Viewed
+pub mod Walked
+pub mod Sets
+pub mod Adding
+pub mod Unions
+pub mod Filled
+pub mod Holds
+pub mod Told
+pub mod Stopped
+pub mod Right
+pub mod Numbered

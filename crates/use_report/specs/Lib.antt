@@ -1,0 +1,10 @@
+pub mod Views
+pub mod Held
+pub mod Numbers
+pub mod Faults
+pub mod Gathered
+pub mod Files
+pub mod Counted
+pub mod Holding
+pub mod Given
+pub mod Sets

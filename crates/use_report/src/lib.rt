@@ -1,0 +1,15 @@
+//! What each view of a volume keeps from being freed: how many blocks it holds, and how many it alone.
+#![tactic(auto)]
+
+mod counting;
+mod files;
+mod holding;
+mod keep;
+mod kept;
+mod numbers;
+mod stop;
+mod volumes;
+
+pub use numbers::{Usage, ViewUse};
+pub use stop::UseFault;
+pub use volumes::usage;
