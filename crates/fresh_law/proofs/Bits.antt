@@ -45,7 +45,7 @@ in-chunk : (spec : Spec) (image : List ℕ) → IsValid spec → IsFresh spec im
 unfolding is_marked_in
 in-chunk spec image v f i low = f.bits i (omega (arith, low, v.most))
 
-marked-is : (spec : Spec) (image : List ℕ) → IsValid spec → IsFresh spec image → (block : ℕ) → block < spec.blocks → is_marked 4096 image (block_at image 9) block ≡ nat_lt block 57
+pub marked-is : (spec : Spec) (image : List ℕ) → IsValid spec → IsFresh spec image → (block : ℕ) → block < spec.blocks → is_marked 4096 image (block_at image 9) block ≡ nat_lt block 57
 unfolding is_marked
 marked-is spec image v f block low =
     let first : block / 32768 ≡ 0 = omega (arith, low, v.most) in
@@ -82,7 +82,7 @@ all-inside spec image v f a o some = elim (owner-in spec image v f a o) as (λ _
   | inr k ↦ clash (a.blocks == 0) (idle-empty a k) some
 ]
 
-all-marked : (spec : Spec) (image : List ℕ) → IsValid spec → IsFresh spec image → (block : ℕ) → block < spec.blocks → (is_marked 4096 image (block_at image 9) block ≡ true) ↔ IsOwned image (seen image) block
+pub all-marked : (spec : Spec) (image : List ℕ) → IsValid spec → IsFresh spec image → (block : ℕ) → block < spec.blocks → (is_marked 4096 image (block_at image 9) block ≡ true) ↔ IsOwned image (seen image) block
 all-marked spec image v f block low = (
   λ m.
       let below : block < 57 = below-from block 57 (sym (marked-is spec image v f block low) ∙ m) in

@@ -15,3 +15,4 @@ pub mod Trees
 pub mod Volumes
 pub mod Files
 pub mod Law
+pub mod Report

@@ -167,7 +167,7 @@ files-named spec image v f =
 files-leaf : (spec : Spec) (image : List ℕ) → IsValid spec → IsFresh spec image → IsLeaf (hashed_tree image (site spec) (loaded spec image) live) 1028 pairs
 files-leaf spec image v f = leaf-in fs_shape spec image (view_named (site spec) (loaded spec image) live) 1028 54 file_entries f.files (files-named spec image v f) (inside spec v 54 (omega arith) (omega arith))
 
-flat-is : (spec : Spec) (image : List ℕ) → IsValid spec → IsFresh spec image → view_flat image (site spec) (loaded spec image) live ≡ pairs
+pub flat-is : (spec : Spec) (image : List ℕ) → IsValid spec → IsFresh spec image → view_flat image (site spec) (loaded spec image) live ≡ pairs
 unfolding view_flat
 flat-is spec image v f = leaf-flat (hashed_tree image (site spec) (loaded spec image) live) 1028 pairs (files-leaf spec image v f)
 
@@ -175,7 +175,7 @@ line-is : (spec : Spec) (image : List ℕ) → IsValid spec → IsFresh spec ima
 unfolding view_line
 line-is spec image v f = leaf-line (hashed_tree image (site spec) (loaded spec image) live) 1028 pairs (files-leaf spec image v f)
 
-facts-told : (spec : Spec) (image : List ℕ) → IsValid spec → IsFresh spec image → view_facts image (site spec) (loaded spec image) live ≡ told
+pub facts-told : (spec : Spec) (image : List ℕ) → IsValid spec → IsFresh spec image → view_facts image (site spec) (loaded spec image) live ≡ told
 facts-told spec image v f = ap (facts_in Folded) (flat-is spec image v f) ∙ facts-are
 
 walkable : (spec : Spec) (image : List ℕ) → IsValid spec → IsFresh spec image → is_view_walkable image (site spec) (loaded spec image) live ≡ true

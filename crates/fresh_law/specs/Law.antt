@@ -6,14 +6,17 @@ use Rattle.vol_view.specs.Heads.{heads_of}
 use Rattle.vol_view.specs.Views.{live_of}
 use Rattle.vol_view.specs.declared.head.VolHead.{VolHead}
 use Rattle.view_rules.specs.Rules.{view_facts}
+use Rattle.view_rules.specs.declared.profile.Profile.{Profile}
 use Rattle.view_rules.specs.declared.profile.Profile.TheVariants.{Plain, Strict}
 use Rattle.path_walk.specs.Listing.{listing}
 use Rattle.apfs_check.specs.Volumes.{volume_of}
+use Rattle.apfs_check.specs.Report.{IsReport}
 use Rattle.apfs_check.specs.WellFormed.{IsWellFormed}
 use Rattle.img_format.specs.declared.spec.Spec.{Spec}
 use Rattle.img_format.specs.Valid.{IsValid}
 use Rattle.img_format.specs.Fresh.{fresh}
 use Rattle.fresh_blocks.specs.Facts.{IsFresh}
+use Rattle.fresh_law.specs.Report.{fresh_report}
 
 -- the listing of the root of a volume as it is has nothing
 abbrev pub HasEmptyRoot : List ℕ → Seen → VolHead → Type 0
@@ -41,3 +44,7 @@ SaidHolds = (spec : Spec) (image : List ℕ) → IsValid spec → IsFresh spec i
 -- the law of a new container
 abbrev pub FreshHolds : Type 0
 FreshHolds = (spec : Spec) → IsValid spec → HoldsEmptyVolume (fresh spec) spec.name spec.volume
+
+-- its report, under each profile
+abbrev pub FreshReported : Type 0
+FreshReported = (spec : Spec) → IsValid spec → (profile : Profile) → IsReport profile (fresh spec) (fresh_report spec.blocks)

@@ -1,2 +1,3 @@
 pub mod Checkpoint
+pub mod Report
 pub mod Law

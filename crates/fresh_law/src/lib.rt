@@ -1,10 +1,12 @@
 //! Why a new container is well-formed.
 #![tactic(auto)]
 
-ghost use Rattle.fresh_law.specs.Law.{FreshHolds};
+ghost use Rattle.fresh_law.specs.Law.{FreshHolds, FreshReported};
 
 /// A new container is well-formed under both profiles. Its newest checkpoint is of transaction 1, and its one volume has the name and the
-/// identifier that were given, no snapshots, and nothing in its root. It does nothing.
+/// identifier that were given, no snapshots, and nothing in its root. Its report is known, but for the number of free blocks, before
+/// it is checked. It does nothing.
 pub fn new_container_holds()
-    ensures { FreshHolds }
+    ensures holds { FreshHolds }
+    ensures reported { FreshReported }
 {}
