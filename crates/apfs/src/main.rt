@@ -6,6 +6,7 @@ use blk_folder::{DirFolder, Given};
 use blk_source::{FileSource, Opened, StdSink};
 use std::alloc::{AllocError, Global};
 use std::io::{self, ErrorKind};
+use std::os::unix::fs::FileTypeExt;
 use std::process::ExitCode;
 use std::{env, fs};
 
@@ -32,12 +33,24 @@ fn read_words(rt: &HostRuntime) -> io::Result<Vec<String>> {
 fn image_at(alloc: Global, words: &[String]) -> Result<Option<usize>, AllocError> {
     match asked(alloc, words)? {
         Some(Order::On { in_partition, .. }) => Ok(Some(if in_partition { 2 } else { 1 })),
-        Some(Order::Gen(_)) | None => Ok(None),
+        Some(Order::Gen(_) | Order::Format(_)) | None => Ok(None),
+    }
+}
+
+// Whether a path leads to a file or a block device. What else it leads to is never opened: a pipe would be waited for, and
+// a directory has a length.
+fn holds_bytes(rt: &HostRuntime, path: &str) -> bool {
+    match fs::metadata(rt, path) {
+        Ok(found) => found.is_file() || found.file_type().is_block_device(),
+        Err(_) => false,
     }
 }
 
 // The image that a word names.
 fn open(rt: &HostRuntime, path: &str) -> Opened<FileSource> {
+    if !holds_bytes(rt, path) {
+        return Opened::Absent;
+    }
     let Ok(file) = fs::open(rt, path) else {
         return Opened::Absent;
     };

@@ -14,7 +14,7 @@ use Rattle.apfs_cli.specs.Commands.Tree as tree
 use Rattle.apfs_cli.specs.Commands.Cat as cat
 use Rattle.apfs_cli.specs.Commands.Xattr as xattr
 use Rattle.apfs_cli.specs.First.{ResultBy, RestsBy}
-use Rattle.apfs_cli.specs.Words.{Asked, Ring, Info, Volumes, Space, Check, Snapshots, Ls, Tree, Cat, Xattr, Gen}
+use Rattle.apfs_cli.specs.Words.{Asked, Ring, Info, Volumes, Space, Check, Snapshots, Usage, Ls, Tree, Cat, Xattr, Gen, Format}
 use Rattle.apfs_cli.proofs.Views.{text_no_answer, wanted_lawful, answer_lawful}
 use Rattle.apfs_cli.proofs.Ways.{volume_or_none}
 
@@ -36,11 +36,13 @@ text_or_answer Volumes image text answer has is = is
 text_or_answer Space image text answer has is = is
 text_or_answer (Check profile) image text answer has is = is
 text_or_answer (Snapshots volume) image text answer has is = volume_or_none image volume (record { seen = has.0; head = has.1; volume = has.2; is = has.3 }) is.1
+text_or_answer (Usage volume) image text answer has is = volume_or_none image volume (record { seen = has.1.seen; head = has.1.volume.head; volume = has.1.volume; is = has.1.meant }) is.1.1
 text_or_answer (Ls checks target) image text answer has is = not_both checks image (ls.IsText target image text) (ls.IsAnswer target image answer) (text_no_answer (ls.wanted target.path) target image text answer) has is
 text_or_answer (Tree checks target) image text answer has is = not_both checks image (tree.IsText target image text) (tree.IsAnswer target image answer) (text_no_answer (tree.wanted target.path) target image text answer) has is
 text_or_answer (Cat checks target) image text answer has is = not_both checks image (cat.IsText target image text) (cat.IsAnswer target image answer) (text_no_answer (cat.wanted target.path) target image text answer) has is
 text_or_answer (Xattr checks target name) image text answer has is = not_both checks image (xattr.IsText target name image text) (xattr.IsAnswer target name image answer) (text_no_answer (xattr.wanted target.path name) target image text answer) has is
 text_or_answer (Gen n) image text answer has is = is
+text_or_answer (Format spec) image text answer has is = is
 
 -- where a command has a text, what it rests on holds
 pub text_rests : (command : Asked) (image text : List ℕ) → IsText command image text → RestsOn command image
@@ -50,11 +52,13 @@ text_rests Volumes image text has = tt
 text_rests Space image text has = tt
 text_rests (Check profile) image text has = tt
 text_rests (Snapshots volume) image text has = tt
+text_rests (Usage volume) image text has = tt
 text_rests (Ls checks target) image text has = rests_by checks image (ls.IsText target image text) (IsLawfulView image target) (wanted_lawful (ls.wanted target.path) target image (Ok text)) has
 text_rests (Tree checks target) image text has = rests_by checks image (tree.IsText target image text) (IsLawfulView image target) (wanted_lawful (tree.wanted target.path) target image (Ok text)) has
 text_rests (Cat checks target) image text has = rests_by checks image (cat.IsText target image text) (IsLawfulView image target) (wanted_lawful (cat.wanted target.path) target image (Ok text)) has
 text_rests (Xattr checks target name) image text has = rests_by checks image (xattr.IsText target name image text) (IsLawfulView image target) (wanted_lawful (xattr.wanted target.path name) target image (Ok text)) has
 text_rests (Gen n) image text has = tt
+text_rests (Format spec) image text has = tt
 
 -- so does it where a command has an answer
 pub answer_rests : (command : Asked) (image : List ℕ) (answer : Answer) → IsAnswer command image answer → RestsOn command image
@@ -64,11 +68,13 @@ answer_rests Volumes image answer is = tt
 answer_rests Space image answer is = tt
 answer_rests (Check profile) image answer is = tt
 answer_rests (Snapshots volume) image answer is = tt
+answer_rests (Usage volume) image answer is = tt
 answer_rests (Ls checks target) image answer is = rests_by checks image (ls.IsAnswer target image answer) (IsLawfulView image target) (answer_lawful (ls.wanted target.path) target image answer) is
 answer_rests (Tree checks target) image answer is = rests_by checks image (tree.IsAnswer target image answer) (IsLawfulView image target) (answer_lawful (tree.wanted target.path) target image answer) is
 answer_rests (Cat checks target) image answer is = rests_by checks image (cat.IsAnswer target image answer) (IsLawfulView image target) (answer_lawful (cat.wanted target.path) target image answer) is
 answer_rests (Xattr checks target name) image answer is = rests_by checks image (xattr.IsAnswer target name image answer) (IsLawfulView image target) (answer_lawful (xattr.wanted target.path name) target image answer) is
 answer_rests (Gen n) image answer is = tt
+answer_rests (Format spec) image answer is = tt
 
 -- what a command that checks the container says rests on nothing, and is of a well-formed container
 pub record OfSound (command : Asked) (profile : Profile) : Type 0 where
@@ -93,6 +99,7 @@ of_sound Info profile e = absurd Prim.cc
 of_sound Volumes profile e = absurd Prim.cc
 of_sound Space profile e = absurd Prim.cc
 of_sound (Snapshots volume) profile e = absurd Prim.cc
+of_sound (Format spec) profile e = absurd Prim.cc
 of_sound (Check other) profile e = record {
   rests = λ image. tt;
   text = λ image text is.
@@ -100,6 +107,17 @@ of_sound (Check other) profile e = record {
       let P : Profile → Type 0 = λ p. IsWellFormed p image in
       subst P same is.1.right;
   answer = λ image answer is. absurd is;
+}
+of_sound (Usage volume) profile e = record {
+  rests = λ image. tt;
+  text = λ image text is.
+      let same : Plain ≡ profile = Prim.cc in
+      let P : Profile → Type 0 = λ p. IsWellFormed p image in
+      subst P same is.0;
+  answer = λ image answer is.
+      let same : Plain ≡ profile = Prim.cc in
+      let P : Profile → Type 0 = λ p. IsWellFormed p image in
+      subst P same is.0;
 }
 of_sound (Gen n) profile e = record {
   rests = λ image. tt;

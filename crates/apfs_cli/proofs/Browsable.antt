@@ -1,6 +1,6 @@
 -- Where a container is well-formed, the view that is meant meets its rules, and what is wanted of it is a text or an answer.
 use Rattle.std.specs.Prelude.{◌≡◌, ◌⊎◌, ℕ, List, Option, Some, None, Result, Ok, Err, refl, map, option_map, option_and_then, slice_get}
-use Rattle.std.proofs.Common.{inl, inr, sym, subst}
+use Rattle.std.proofs.Common.{inl, inr, sym, ap, ◌∙◌, subst}
 use Rattle.apfs_model.specs.Lists.{In}
 use Rattle.apfs_model.proofs.Searches.{in-map, get-in}
 use Rattle.cmd_words.specs.Asked.{AskedTarget}
@@ -25,6 +25,7 @@ use Rattle.path_walk.specs.declared.answer.Answer.{Answer}
 use Rattle.path_walk.specs.declared.answer.Answer.TheVariants.{NoVolume, NoSnapshot}
 use Rattle.apfs_cli.specs.Meant.{meant_head, IsMeant, IsMeantVolume, HasNoVolume}
 use Rattle.apfs_cli.specs.MeantView.{view_of, IsMeantView, HasNoSnapshot, IsLawfulView}
+use Rattle.apfs_cli.specs.Reached.{IsClear}
 use Rattle.apfs_cli.specs.OnView.{Wanted, IsWantedOf, IsTextOn, IsAnswerOn}
 use Rattle.apfs_cli.proofs.ByAnswers.{IsOfPath, of_path}
 use Rattle.apfs_cli.proofs.Stops.{one_newest}
@@ -53,19 +54,24 @@ browsable_at profile image seen w newest =
     let P : Seen → Type 0 = λ s. IsBrowsable profile image s in
     subst P (one_newest image w.seen seen w.newest newest) (browsed profile image w).0
 
--- in a well-formed container the view that is meant meets its rules
-pub well_lawful : (profile : Profile) (image : List ℕ) (target : AskedTarget) → IsWellFormed profile image → IsLawfulView image target
-well_lawful profile image target w seen volume view is =
-    let can = browsable_at profile image seen w is.volume_is.meant.newest.newest in
-    let one : In volume.head (heads_of image seen) = in_heads target.volume (heads_of image seen) (heads_of image seen) volume.head refl is.volume_is.meant.same in
-    let same : volume ≡ volume_of image seen volume.head = is.volume_is.loaded.same in
+-- in a well-formed container each view of the volume that is meant meets its rules
+pub well_views : (profile : Profile) (image : List ℕ) (named : Option ℕ) (seen : Seen) (volume : Loaded) → IsWellFormed profile image → IsMeantVolume image named seen volume.head volume → (view : View) → In view (views_of volume seen) →
+    HasTreeRules profile image (site_of seen) volume view (volume_ranges image (site_of seen) volume.head)
+well_views profile image named seen volume w is view among =
+    let can = browsable_at profile image seen w is.meant.newest.newest in
+    let one : In volume.head (heads_of image seen) = in_heads named (heads_of image seen) (heads_of image seen) volume.head refl is.meant.same in
+    let same : volume ≡ volume_of image seen volume.head = is.loaded.same in
     let P : Loaded → Type 0 = λ l. In view (views_of l seen) in
     let Q : Loaded → Type 0 = λ l. HasTreeRules profile image (site_of seen) l view (volume_ranges image (site_of seen) volume.head) in
-    record {
-      profile = profile;
-      ranges = volume_ranges image (site_of seen) volume.head;
-      rules = subst Q (sym same) (can.views volume.head one view (subst P same (view_in volume seen target.snapshot view is.same)));
-    }
+    subst Q (sym same) (can.views volume.head one view (subst P same among))
+
+-- so does the view that is meant
+pub well_lawful : (profile : Profile) (image : List ℕ) (target : AskedTarget) → IsWellFormed profile image → IsLawfulView image target
+well_lawful profile image target w seen volume view is = record {
+  profile = profile;
+  ranges = volume_ranges image (site_of seen) volume.head;
+  rules = well_views profile image target.volume seen volume w is.volume_is view (view_in volume seen target.snapshot view is.same);
+}
 
 -- the head of a volume is the one that it was loaded of
 head_is : (image : List ℕ) (site : Site) (head : VolHead) → (loaded_of image site head).head ≡ head
@@ -104,21 +110,32 @@ of_volume profile wanted target image seen volume paths w meant = go (view_of vo
         let is : IsMeantView image target seen volume view = record { volume_is = meant; same = same } in
         of_view wanted target image seen volume view paths is (well_lawful profile image target w seen volume view is)
 
--- in a well-formed container what is wanted is a text or an answer
-pub well_wanted : (profile : Profile) (wanted : Wanted) (target : AskedTarget) (image : List ℕ) → AnswersPaths wanted → IsWellFormed profile image → HasWanted wanted target image
-well_wanted profile wanted target image paths w = go (meant_head target.volume (heads_of image w.seen)) refl
+-- a volume that is meant, by its own head
+pub meant_own : (image : List ℕ) (named : Option ℕ) (seen : Seen) (head : VolHead) (volume : Loaded) → IsMeantVolume image named seen head volume → IsMeantVolume image named seen volume.head volume
+meant_own image named seen head volume is =
+    let same : volume.head ≡ head = ap (λ (l : Loaded). l.head) is.loaded.same ∙ head_is image (site_of seen) head in
+    let P : VolHead → Type 0 = λ h. IsMeantVolume image named seen h volume in
+    subst P (sym same) is
+
+-- in a well-formed container nothing stands in the way to the volume that is meant
+pub well_clear : (profile : Profile) (named : Option ℕ) (image : List ℕ) → IsWellFormed profile image → IsClear image named
+well_clear profile named image w = go (meant_head named (heads_of image w.seen)) refl
   where
     can : IsBrowsable profile image w.seen
     can = (browsed profile image w).0
 
-    meant : (held : Option VolHead) → held ≡ meant_head target.volume (heads_of image w.seen) → IsMeant image target.volume w.seen held
+    meant : (held : Option VolHead) → held ≡ meant_head named (heads_of image w.seen) → IsMeant image named w.seen held
     meant held same = record { newest = record { newest = can.newest; plain = can.plain }; right = can.heads.right; same = same }
 
-    go : (held : Option VolHead) → meant_head target.volume (heads_of image w.seen) ≡ held → HasWanted wanted target image
-    go None same = inr (NoVolume, record { seen = w.seen; is = meant None (sym same) })
+    go : (held : Option VolHead) → meant_head named (heads_of image w.seen) ≡ held → IsClear image named
+    go None same = inr (record { seen = w.seen; is = meant None (sym same) })
     go (Some head) same =
-        let volume : Loaded = volume_of image w.seen head in
-        let one : In head (heads_of image w.seen) = in_heads target.volume (heads_of image w.seen) (heads_of image w.seen) head refl (sym same) in
-        let P : VolHead → Type 0 = λ h. IsMeantVolume image target.volume w.seen h volume in
-        of_volume profile wanted target image w.seen volume paths w
-        (subst P (sym (head_is image (site_of w.seen) head)) (record { meant = meant (Some head) (sym same); loaded = can.volumes head one }))
+        let one : In head (heads_of image w.seen) = in_heads named (heads_of image w.seen) (heads_of image w.seen) head refl (sym same) in
+        inl (record { seen = w.seen; head = head; volume = volume_of image w.seen head; is = record { meant = meant (Some head) (sym same); loaded = can.volumes head one } })
+
+-- in a well-formed container what is wanted is a text or an answer
+pub well_wanted : (profile : Profile) (wanted : Wanted) (target : AskedTarget) (image : List ℕ) → AnswersPaths wanted → IsWellFormed profile image → HasWanted wanted target image
+well_wanted profile wanted target image paths w = elim (well_clear profile target.volume image w) as (λ _. HasWanted wanted target image) [
+  | inl has ↦ of_volume profile wanted target image has.seen has.volume paths w (meant_own image target.volume has.seen has.head has.volume has.is)
+  | inr none ↦ inr (NoVolume, none)
+]

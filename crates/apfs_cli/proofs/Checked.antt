@@ -34,7 +34,7 @@ use Rattle.apfs_cli.specs.ReportText.{report_text}
 use Rattle.apfs_cli.specs.Says.{BeginsText, BeginsForm, IsPart, IsReadPart, IsTextIf, StopsAt, AnswersAt, SaysOn, HasEnded}
 use Rattle.apfs_cli.specs.Seen.{outcome_of, stopped_at}
 use Rattle.apfs_cli.specs.Texts.{IsPrefix}
-use Rattle.apfs_cli.specs.Words.{Asked, Ring, Info, Volumes, Space, Check, Snapshots, Ls, Tree, Cat, Xattr, Gen}
+use Rattle.apfs_cli.specs.Words.{Asked, Ring, Info, Volumes, Space, Check, Snapshots, Usage, Ls, Tree, Cat, Xattr, Gen, Format}
 use Rattle.apfs_cli.specs.Written.{Sunk, Failed}
 use Rattle.apfs_cli.proofs.Browsable.{well_lawful, well_wanted}
 use Rattle.apfs_cli.proofs.ByAnswers.{for_answer}
@@ -42,6 +42,7 @@ use Rattle.apfs_cli.proofs.Endings.{no_result, read_ended, no_memory_ended}
 use Rattle.apfs_cli.proofs.OverVolume.{named_of}
 use Rattle.apfs_cli.proofs.OverViews.{ls_over, tree_over, cat_over, xattr_over}
 use Rattle.apfs_cli.proofs.Puts.{wrote_nothing}
+use Rattle.apfs_cli.proofs.Usages.{usage_result}
 
 -- ---- the container is well-formed
 
@@ -187,10 +188,12 @@ sound_result Info profile image e w = absurd Prim.cc
 sound_result Volumes profile image e w = absurd Prim.cc
 sound_result Space profile image e w = absurd Prim.cc
 sound_result (Snapshots volume) profile image e w = absurd Prim.cc
+sound_result (Format spec) profile image e w = absurd Prim.cc
 sound_result (Check asked) profile image e w =
     let right : IsWellFormed asked image = at_profile asked profile image e w in
     let told = reported asked image right in
     inl (report_text told.0, (told.0, record { right = right; report = told.1 }, refl))
+sound_result (Usage volume) profile image e w = usage_result volume image (at_profile Plain profile image e w)
 sound_result (Gen n) profile image e w =
     let right : IsWellFormed Plain image = at_profile Plain profile image e w in
     let told = reported Plain image right in
@@ -213,7 +216,9 @@ clean_ended Volumes source ended out clean has = has
 clean_ended Space source ended out clean has = has
 clean_ended (Check profile) source ended out clean has = has
 clean_ended (Snapshots volume) source ended out clean has = has
+clean_ended (Usage volume) source ended out clean has = has
 clean_ended (Gen n) source ended out clean has = has
+clean_ended (Format spec) source ended out clean has = has
 clean_ended (Ls Quick target) source ended out clean has = has
 clean_ended (Ls (First profile) target) source ended out clean has =
     ended_after profile (Ls Quick target) (Ls (First profile) target) source ended out (ls_after profile target) clean has
@@ -264,7 +269,19 @@ first_stops Volumes e = no_check Volumes refl
 first_stops Space e = no_check Space refl
 first_stops (Check profile) e = no_check (Check profile) refl
 first_stops (Snapshots volume) e = no_check (Snapshots volume) refl
+first_stops (Usage volume) e = record {
+  lead_is = refl;
+  fault = λ image fault flaw. record {
+    none = no_result (Usage volume) image (λ text is. flawed_refutes Plain image (inl (fault, flaw)) is.0) (λ answer is. flawed_refutes Plain image (inl (fault, flaw)) is.0);
+    there_is = flaw;
+  };
+  feature = λ image feature block flaw. record {
+    none = no_result (Usage volume) image (λ text is. flawed_refutes Plain image (inr (feature, (block, flaw))) is.0) (λ answer is. flawed_refutes Plain image (inr (feature, (block, flaw))) is.0);
+    there_is = flaw;
+  };
+}
 first_stops (Gen n) e = absurd Prim.cc
+first_stops (Format spec) e = absurd Prim.cc
 first_stops (Ls checks target) e = record {
   lead_is = refl;
   fault = λ image fault flaw. record {

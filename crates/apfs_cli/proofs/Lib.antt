@@ -12,11 +12,13 @@ pub mod OverView
 pub mod OverViews
 pub mod AtView
 pub mod Browsable
+pub mod Usages
 pub mod Checked
 pub mod Contents
 pub mod Present
 pub mod Owed
 pub mod Statuses
+pub mod NewRow
 pub mod Plugs
 pub mod Led
 pub mod Orders

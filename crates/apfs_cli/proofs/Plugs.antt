@@ -5,6 +5,7 @@ use Rattle.std.proofs.lemmas.List.{append-nil}
 use Rattle.blk_folder.specs.Items.{Item}
 use Rattle.blk_folder.specs.declared.folder.Given.{Given}
 use Rattle.blk_folder.specs.declared.folder.Given.TheVariants.{Nothing, Into}
+use Rattle.img_format.specs.declared.spec.Spec.{Spec}
 use Rattle.img_gpt.specs.Partition.{found_part, IsTableStop}
 use Rattle.img_gpt.specs.declared.part.GptStop.{GptStop}
 use Rattle.img_gpt.specs.declared.part.GptStop.TheVariants as gpt
@@ -19,7 +20,7 @@ use Rattle.apfs_cli.specs.Handed.{Looked, LookFailed, OfImage, part_looked, made
 use Rattle.apfs_cli.specs.Outcome.{Outcome, Written, Faulty, WrongWords, ReadFailed, WriteFailed, OutOfMemory, Refused, Answered, NoImage, NoFolder, text_of}
 use Rattle.apfs_cli.specs.Says.{SaysOn, HasEnded, HasMade, HasCome, FillsBy, FillsOn, IsSame, IsUntouched, LacksFrom, LacksStore, IsSourceFrom, IsSource, StopsTable, PutFailed, HasAll, Says, CameTo, wrong_words, no_image, no_folder, no_part, ran, no_memory}
 use Rattle.apfs_cli.specs.Seen.{outcome_of, stopped_at_table}
-use Rattle.apfs_cli.specs.Words.{Asked, Line, plain_line, partition_line, said, Ring, Info, Volumes, Space, Check, Snapshots, Ls, Tree, Cat, Xattr, Gen}
+use Rattle.apfs_cli.specs.Words.{Asked, Line, plain_line, partition_line, said, Ring, Info, Volumes, Space, Check, Snapshots, Usage, Ls, Tree, Cat, Xattr, Gen, Format}
 use Rattle.apfs_cli.specs.Written.{Sunk, Failed, IsClosed}
 use Rattle.apfs_cli.proofs.Puts.{wrote_nothing}
 use Rattle.apfs_cli.proofs.Statuses.{some_part}
@@ -33,11 +34,13 @@ no_folder_taken Volumes = refl
 no_folder_taken Space = refl
 no_folder_taken (Check profile) = refl
 no_folder_taken (Snapshots volume) = refl
+no_folder_taken (Usage volume) = refl
 no_folder_taken (Ls checks target) = refl
 no_folder_taken (Tree checks target) = refl
 no_folder_taken (Cat checks target) = refl
 no_folder_taken (Xattr checks target name) = refl
 no_folder_taken (Gen n) = refl
+no_folder_taken (Format spec) = refl
 
 no_items : (command : Asked) (image : List ℕ) → AreItems command image []
 no_items Ring image = refl
@@ -46,11 +49,13 @@ no_items Volumes image = refl
 no_items Space image = refl
 no_items (Check profile) image = refl
 no_items (Snapshots volume) image = refl
+no_items (Usage volume) image = refl
 no_items (Ls checks target) image = refl
 no_items (Tree checks target) image = refl
 no_items (Cat checks target) image = refl
 no_items (Xattr checks target name) image = refl
 no_items (Gen n) image = refl
+no_items (Format spec) image = refl
 
 same_by : (command : Asked) (source : Looked) (folder : Stored) (o : Outcome) → IsSame folder → FillsBy command source folder o
 same_by command source folder (Written text) same = record { added = []; none = λ n. refl; are = λ image told rests. no_items command image; put = same }
@@ -139,6 +144,7 @@ handed_in commands.Volumes = refl
 handed_in commands.Space = refl
 handed_in (commands.Check profile) = refl
 handed_in (commands.Snapshots volume) = refl
+handed_in (commands.Usage volume) = refl
 handed_in (commands.Ls checks target) = refl
 handed_in (commands.Tree checks target) = refl
 handed_in (commands.Cat checks target) = refl
@@ -239,6 +245,24 @@ come_made n (Some bytes) image ended out (part, says, wrote) = (
     source = made bytes;
     source_is = (bytes, refl);
     says = says_more (Gen n) (made bytes) (Failed out) (PutFailed out None) (outcome_of ended part) (λ failed. inl failed) says;
+    fills = tt;
+  }),
+  wrote,
+)
+
+-- ---- a command without an image
+
+-- what `format` came to over no bytes
+pub come_new : (spec : Spec) (image : Option Looked) (ended : Result Unit Stopped) (out : Sunk) → HasEnded (Format spec) (made []) ended out → HasCome (Some (plain_line (Format spec))) image None ended out
+come_new spec image ended out (part, says, wrote) = (
+  part,
+  ran (record {
+    line = plain_line (Format spec);
+    words = refl;
+    all = record { image_there = λ lacks. lacks; folder_there = λ lacks. lacks };
+    source = made [];
+    source_is = refl;
+    says = says_more (Format spec) (made []) (Failed out) (PutFailed out None) (outcome_of ended part) (λ failed. inl failed) says;
     fills = tt;
   }),
   wrote,

@@ -57,7 +57,7 @@ use Rattle.apfs_cli.specs.First.{FaultBy, FeatureBy, PresentBy}
 use Rattle.apfs_cli.specs.Meant.{IsMeant, IsVolumeFault, IsVolumeFeature, IsMeantFault, IsMeantFeature}
 use Rattle.apfs_cli.specs.MeantView.{view_of, IsMeantView}
 use Rattle.apfs_cli.specs.OnView.{IsViewFault, IsNodeFeature, IsFaultOn, IsFeatureOn}
-use Rattle.apfs_cli.specs.Words.{Asked, Ring, Info, Volumes, Space, Check, Snapshots, Ls, Tree, Cat, Xattr, Gen}
+use Rattle.apfs_cli.specs.Words.{Asked, Ring, Info, Volumes, Space, Check, Snapshots, Usage, Ls, Tree, Cat, Xattr, Gen, Format}
 use Rattle.apfs_cli.specs.declared.words.Checks.{Checks}
 use Rattle.apfs_cli.specs.declared.words.Checks.TheVariants.{Quick, First}
 use Rattle.apfs_cli.proofs.Ways.{in_heads}
@@ -231,11 +231,13 @@ fault_there Volumes image fault f = λ profile. volumes_fault_there profile imag
 fault_there Space image fault f = λ profile. space_fault_there profile image fault f
 fault_there (Check profile) image fault f = f
 fault_there (Snapshots volume) image fault f = λ profile. meant_fault_there profile image volume fault f
+fault_there (Usage volume) image fault f = f
 fault_there (Ls checks target) image fault f = fault_by checks image fault (ls.IsFault target image fault) (on_view_fault_there image (ls.told target.path) target fault) f
 fault_there (Tree checks target) image fault f = fault_by checks image fault (tree.IsFault target image fault) (on_view_fault_there image (tree.told target.path) target fault) f
 fault_there (Cat checks target) image fault f = fault_by checks image fault (cat.IsFault target image fault) (on_view_fault_there image (cat.told target.path) target fault) f
 fault_there (Xattr checks target name) image fault f = fault_by checks image fault (xattr.IsFault target image fault) (on_view_fault_there image (xattr.told target.path) target fault) f
 fault_there (Gen n) image fault f = f
+fault_there (Format spec) image fault f = absurd f
 
 feature_by : (checks : Checks) (image : List ℕ) (feature : Feature) (block : ℕ) (is : Type 0) → (is → container.IsFeature image feature block) → FeatureBy checks image feature block is → container.IsFeature image feature block
 feature_by Quick image feature block is there f = there f
@@ -249,8 +251,10 @@ feature_there Volumes image feature block f = volumes_feature_there image featur
 feature_there Space image feature block f = space_feature_there image feature block f
 feature_there (Check profile) image feature block f = f
 feature_there (Snapshots volume) image feature block f = meant_feature_there image volume feature block f
+feature_there (Usage volume) image feature block f = f
 feature_there (Ls checks target) image feature block f = feature_by checks image feature block (ls.IsFeature target image feature block) (on_view_feature_there image target feature block) f
 feature_there (Tree checks target) image feature block f = feature_by checks image feature block (tree.IsFeature target image feature block) (on_view_feature_there image target feature block) f
 feature_there (Cat checks target) image feature block f = feature_by checks image feature block (cat.IsFeature target image feature block) (on_view_feature_there image target feature block) f
 feature_there (Xattr checks target name) image feature block f = feature_by checks image feature block (xattr.IsFeature target image feature block) (on_view_feature_there image target feature block) f
 feature_there (Gen n) image feature block f = f
+feature_there (Format spec) image feature block f = absurd f

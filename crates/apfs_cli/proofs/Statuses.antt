@@ -19,14 +19,14 @@ use Rattle.apfs_cli.specs.Texts.{IsPrefix}
 use Rattle.apfs_cli.specs.Written.{Sunk, Failed, Ends}
 use Rattle.apfs_check.proofs.Numbers.{reported}
 use Rattle.apfs_cli.specs.ReportText.{report_text}
-use Rattle.apfs_cli.specs.Words.{Asked, Line, plain_line, Ring, Info, Volumes, Space, Check, Snapshots, Ls, Tree, Cat, Xattr, Gen}
+use Rattle.apfs_cli.specs.Words.{Asked, Line, plain_line, Ring, Info, Volumes, Space, Check, Snapshots, Usage, Ls, Tree, Cat, Xattr, Gen, Format}
 use Rattle.apfs_cli.specs.Handed.{Looked, LookFailed, OfImage, made, Stored, StoreFailed}
 use Rattle.apfs_cli.specs.Outcome.{Outcome, Written, Faulty, WrongWords, ReadFailed, WriteFailed, OutOfMemory, Refused, Answered, NoImage, NoFolder, status_of, text_of}
 use Rattle.apfs_cli.specs.ByCommand.{From, HandedIn, Made, Nowhere, from_of, takes_folder, lead_of, IsText, IsNamed, IsAnswer, RestsOn, HasResult, profile_of}
 use Rattle.apfs_cli.specs.Says.{IsPart, SaysOn, Fills, FillsBy, FillsOn, AreItemsIf, AreFrontIf, IsSame, IsUntouched, LacksImage, LacksFolder, IsSourceFrom, IsSource, IsTableFault, StopsTable, PutFailed, Ran, HasNoImage, HasNoFolder, HasNoPart, Says, CameTo, wrong_words, no_image, no_folder, no_part, ran, no_memory}
 use Rattle.apfs_cli.specs.Rows.{BothWrote, HasText, RanOrNoPart, IsPresentIn, RanNaming, RanRefusing, NamesFault, NamesFeature, NamesAnswer, SaysReadFailed, IsSomePart, SaysOutOfMemory, HasFailedPut, IsGivenFrom, IsGiven, IsAsked, HasDefinedText, HasDefinedAnswer, HasSound, HasUnsound, HasTableFault, IsExactly, IsOrFree, IsCleanOrFree, IsFoundOrFree, HandedFailed, IsUndisturbed, IsCompleted, lead_in, IsRefusal, IsTurnedAway, AsksFolder, IsUntold, MayFill}
 use Rattle.apfs_cli.specs.declared.named.Named.{Named}
-use Rattle.apfs_cli.specs.declared.named.Named.TheVariants.{InContainer, NoTable, BadTable, NoPartition, PartOutside}
+use Rattle.apfs_cli.specs.declared.named.Named.TheVariants.{InContainer, InUsage, NoTable, BadTable, NoPartition, PartOutside}
 use Rattle.apfs_cli.proofs.Owed.{IsOwed, owed}
 use Rattle.apfs_cli.proofs.Present.{fault_there, feature_there}
 
@@ -207,6 +207,7 @@ some_part asked image folder out o (no_memory is same) = inr (ap text_of is, sam
 -- a fault that a command names is present
 present_in : (command : Asked) (image : List ℕ) (named : Named) → IsNamed command image named → IsPresentIn command image named
 present_in command image (InContainer fault) is = fault_there command image fault is
+present_in command image (InUsage slot xid) is = is
 present_in command image NoTable is = absurd is
 present_in command image BadTable is = absurd is
 present_in command image NoPartition is = absurd is
@@ -369,10 +370,10 @@ ended_as : (result : ℕ) (o : Outcome) (out err : Sunk) → Ends result o out e
 ended_as result o out err ends = elim ends.said [ inl has ↦ inl has.status_is | inr lacks ↦ inr lacks.status_is ]
 
 -- the words ask for one line
-one_line : (asked : Option Line) (a b : Line) → asked ≡ Some a → asked ≡ Some b → a ≡ b
+pub one_line : (asked : Option Line) (a b : Line) → asked ≡ Some a → asked ≡ Some b → a ≡ b
 one_line asked a b first second = Prim.cc
 
-no_line : (asked : Option Line) (line : Line) → asked ≡ None → asked ≡ Some line → ⊥
+pub no_line : (asked : Option Line) (line : Line) → asked ≡ None → asked ≡ Some line → ⊥
 no_line asked line none some = Prim.cc
 
 -- what is lacking for one line is lacking for the other
@@ -464,6 +465,7 @@ given_source Nowhere p image source bytes given is =
 
 -- no fault of a table is there where bytes are given
 no_fault : (disk : List ℕ) (part : Part) (named : Named) → found_part disk ≡ Ok part → IsTableFault disk named → ⊥
+no_fault disk part (InUsage slot xid) found there = absurd there
 no_fault disk part NoTable found there = found_not_faulty disk part gpt.NoTable found there
 no_fault disk part BadTable found there = found_not_faulty disk part gpt.BadTable found there
 no_fault disk part NoPartition found there = found_not_faulty disk part gpt.NoPartition found there
@@ -706,11 +708,13 @@ lead_none Volumes e = refl
 lead_none Space e = refl
 lead_none (Check profile) e = refl
 lead_none (Snapshots volume) e = refl
+lead_none (Usage volume) e = refl
 lead_none (Ls checks target) e = refl
 lead_none (Tree checks target) e = refl
 lead_none (Cat checks target) e = refl
 lead_none (Xattr checks target name) e = refl
 lead_none (Gen n) e = absurd Prim.cc
+lead_none (Format spec) e = refl
 
 lead_of_line : (asked : Option Line) (line : Line) → asked ≡ Some line → lead_in asked ≡ lead_of line.command
 lead_of_line asked line words = ap lead_in words

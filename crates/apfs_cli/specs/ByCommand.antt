@@ -16,14 +16,16 @@ use Rattle.apfs_cli.specs.Commands.Volumes as volumes
 use Rattle.apfs_cli.specs.Commands.Space as space
 use Rattle.apfs_cli.specs.Commands.Check as check
 use Rattle.apfs_cli.specs.Commands.Snapshots as snapshots
+use Rattle.apfs_cli.specs.Commands.Usage as usage
 use Rattle.apfs_cli.specs.Commands.Ls as ls
 use Rattle.apfs_cli.specs.Commands.Tree as tree
 use Rattle.apfs_cli.specs.Commands.Cat as cat
 use Rattle.apfs_cli.specs.Commands.Xattr as xattr
 use Rattle.apfs_cli.specs.Commands.Gen as gen
-use Rattle.apfs_cli.specs.Words.{Asked, Ring, Info, Volumes, Space, Check, Snapshots, Ls, Tree, Cat, Xattr, Gen}
+use Rattle.apfs_cli.specs.Commands.Format as format
+use Rattle.apfs_cli.specs.Words.{Asked, Ring, Info, Volumes, Space, Check, Snapshots, Usage, Ls, Tree, Cat, Xattr, Gen, Format}
 use Rattle.apfs_cli.specs.declared.named.Named.{Named}
-use Rattle.apfs_cli.specs.declared.named.Named.TheVariants.{InContainer, NoTable, BadTable, NoPartition, PartOutside}
+use Rattle.apfs_cli.specs.declared.named.Named.TheVariants.{InContainer, InUsage, NoTable, BadTable, NoPartition, PartOutside}
 
 -- where a command has its image from: it is handed in, it is made, or there is none
 pub data From : Type 0 where
@@ -38,11 +40,13 @@ from_of Volumes = HandedIn
 from_of Space = HandedIn
 from_of (Check profile) = HandedIn
 from_of (Snapshots volume) = HandedIn
+from_of (Usage volume) = HandedIn
 from_of (Ls checks target) = HandedIn
 from_of (Tree checks target) = HandedIn
 from_of (Cat checks target) = HandedIn
 from_of (Xattr checks target name) = HandedIn
 from_of (Gen n) = Made
+from_of (Format spec) = Nowhere
 
 abbrev pub is_handed_in : From → Bool
 is_handed_in HandedIn = true
@@ -61,11 +65,13 @@ takes_folder Volumes = false
 takes_folder Space = false
 takes_folder (Check profile) = false
 takes_folder (Snapshots volume) = false
+takes_folder (Usage volume) = false
 takes_folder (Ls checks target) = false
 takes_folder (Tree checks target) = false
 takes_folder (Cat checks target) = false
 takes_folder (Xattr checks target name) = false
 takes_folder (Gen n) = false
+takes_folder (Format spec) = false
 
 -- an attribute is named
 abbrev pub is_named : Option (List ℕ) → Bool
@@ -80,11 +86,13 @@ streams Volumes = false
 streams Space = false
 streams (Check profile) = false
 streams (Snapshots volume) = false
+streams (Usage volume) = false
 streams (Ls checks target) = false
 streams (Tree checks target) = false
 streams (Cat checks target) = true
 streams (Xattr checks target name) = is_named name
 streams (Gen n) = false
+streams (Format spec) = false
 
 -- the text that a command writes of an image
 abbrev pub IsText : Asked → List ℕ → List ℕ → Type 0
@@ -94,11 +102,13 @@ IsText Volumes image text = volumes.IsText image text
 IsText Space image text = space.IsText image text
 IsText (Check profile) image text = check.IsText profile image text
 IsText (Snapshots volume) image text = snapshots.IsText volume image text
+IsText (Usage volume) image text = ResultBy (First Plain) image (usage.IsText volume image text)
 IsText (Ls checks target) image text = ResultBy checks image (ls.IsText target image text)
 IsText (Tree checks target) image text = ResultBy checks image (tree.IsText target image text)
 IsText (Cat checks target) image text = ResultBy checks image (cat.IsText target image text)
 IsText (Xattr checks target name) image text = ResultBy checks image (xattr.IsText target name image text)
 IsText (Gen n) image text = gen.IsText n image text
+IsText (Format spec) image text = format.IsText spec text
 
 -- what a command writes before it looks at an image
 abbrev pub lead_of : Asked → List ℕ
@@ -108,11 +118,13 @@ lead_of Volumes = []
 lead_of Space = []
 lead_of (Check profile) = []
 lead_of (Snapshots volume) = []
+lead_of (Usage volume) = []
 lead_of (Ls checks target) = []
 lead_of (Tree checks target) = []
 lead_of (Cat checks target) = []
 lead_of (Xattr checks target name) = []
 lead_of (Gen n) = gen.lead n
+lead_of (Format spec) = []
 
 -- a fault of the container that a command may name of an image: one that is there
 abbrev pub IsFault : Asked → List ℕ → Fault → Type 0
@@ -122,15 +134,34 @@ IsFault Volumes image fault = volumes.IsFault image fault
 IsFault Space image fault = space.IsFault image fault
 IsFault (Check profile) image fault = check.IsFault profile image fault
 IsFault (Snapshots volume) image fault = snapshots.IsFault volume image fault
+IsFault (Usage volume) image fault = check.IsFault Plain image fault
 IsFault (Ls checks target) image fault = FaultBy checks image fault (ls.IsFault target image fault)
 IsFault (Tree checks target) image fault = FaultBy checks image fault (tree.IsFault target image fault)
 IsFault (Cat checks target) image fault = FaultBy checks image fault (cat.IsFault target image fault)
 IsFault (Xattr checks target name) image fault = FaultBy checks image fault (xattr.IsFault target image fault)
 IsFault (Gen n) image fault = check.IsFault Plain image fault
+IsFault (Format spec) image fault = ⊥
+
+-- a fault of a view whose blocks can't be counted, which a command may name of an image: `usage`, after a check that found nothing
+abbrev pub IsUncounted : Asked → List ℕ → ℕ → ℕ → Type 0
+IsUncounted Ring image slot xid = ⊥
+IsUncounted Info image slot xid = ⊥
+IsUncounted Volumes image slot xid = ⊥
+IsUncounted Space image slot xid = ⊥
+IsUncounted (Check profile) image slot xid = ⊥
+IsUncounted (Snapshots volume) image slot xid = ⊥
+IsUncounted (Usage volume) image slot xid = ResultBy (First Plain) image (usage.IsViewFault volume image slot xid)
+IsUncounted (Ls checks target) image slot xid = ⊥
+IsUncounted (Tree checks target) image slot xid = ⊥
+IsUncounted (Cat checks target) image slot xid = ⊥
+IsUncounted (Xattr checks target name) image slot xid = ⊥
+IsUncounted (Gen n) image slot xid = ⊥
+IsUncounted (Format spec) image slot xid = ⊥
 
 -- a fault that a command may name of an image; those of a table of partitions are named before there is one
 abbrev pub IsNamed : Asked → List ℕ → Named → Type 0
 IsNamed command image (InContainer fault) = IsFault command image fault
+IsNamed command image (InUsage slot xid) = IsUncounted command image slot xid
 IsNamed command image NoTable = ⊥
 IsNamed command image BadTable = ⊥
 IsNamed command image NoPartition = ⊥
@@ -144,11 +175,13 @@ IsFeature Volumes image feature block = volumes.IsFeature image feature block
 IsFeature Space image feature block = space.IsFeature image feature block
 IsFeature (Check profile) image feature block = check.IsFeature image feature block
 IsFeature (Snapshots volume) image feature block = snapshots.IsFeature volume image feature block
+IsFeature (Usage volume) image feature block = check.IsFeature image feature block
 IsFeature (Ls checks target) image feature block = FeatureBy checks image feature block (ls.IsFeature target image feature block)
 IsFeature (Tree checks target) image feature block = FeatureBy checks image feature block (tree.IsFeature target image feature block)
 IsFeature (Cat checks target) image feature block = FeatureBy checks image feature block (cat.IsFeature target image feature block)
 IsFeature (Xattr checks target name) image feature block = FeatureBy checks image feature block (xattr.IsFeature target image feature block)
 IsFeature (Gen n) image feature block = check.IsFeature image feature block
+IsFeature (Format spec) image feature block = ⊥
 
 -- an answer that a command gives of an image in place of a text: by its cause
 abbrev pub IsAnswer : Asked → List ℕ → Answer → Type 0
@@ -158,11 +191,13 @@ IsAnswer Volumes image answer = ⊥
 IsAnswer Space image answer = ⊥
 IsAnswer (Check profile) image answer = ⊥
 IsAnswer (Snapshots volume) image answer = snapshots.IsAnswer volume image answer
+IsAnswer (Usage volume) image answer = ResultBy (First Plain) image (usage.IsAnswer volume image answer)
 IsAnswer (Ls checks target) image answer = ResultBy checks image (ls.IsAnswer target image answer)
 IsAnswer (Tree checks target) image answer = ResultBy checks image (tree.IsAnswer target image answer)
 IsAnswer (Cat checks target) image answer = ResultBy checks image (cat.IsAnswer target image answer)
 IsAnswer (Xattr checks target name) image answer = ResultBy checks image (xattr.IsAnswer target name image answer)
 IsAnswer (Gen n) image answer = ⊥
+IsAnswer (Format spec) image answer = ⊥
 
 -- the items that a command puts into a folder
 abbrev pub AreItems : Asked → List ℕ → List Item → Type 0
@@ -172,11 +207,13 @@ AreItems Volumes image items = items ≡ []
 AreItems Space image items = items ≡ []
 AreItems (Check profile) image items = items ≡ []
 AreItems (Snapshots volume) image items = items ≡ []
+AreItems (Usage volume) image items = items ≡ []
 AreItems (Ls checks target) image items = items ≡ []
 AreItems (Tree checks target) image items = items ≡ []
 AreItems (Cat checks target) image items = items ≡ []
 AreItems (Xattr checks target name) image items = items ≡ []
 AreItems (Gen n) image items = items ≡ []
+AreItems (Format spec) image items = items ≡ []
 
 -- what is promised of a command's text, and of its answers on a path, rests on this: for a command on a view that checks nothing first, that the view that is meant meets its rules
 abbrev pub RestsOn : Asked → List ℕ → Type 0
@@ -186,11 +223,13 @@ RestsOn Volumes image = Unit {0}
 RestsOn Space image = Unit {0}
 RestsOn (Check profile) image = Unit {0}
 RestsOn (Snapshots volume) image = Unit {0}
+RestsOn (Usage volume) image = Unit {0}
 RestsOn (Ls checks target) image = RestsBy checks (IsLawfulView image target)
 RestsOn (Tree checks target) image = RestsBy checks (IsLawfulView image target)
 RestsOn (Cat checks target) image = RestsBy checks (IsLawfulView image target)
 RestsOn (Xattr checks target name) image = RestsBy checks (IsLawfulView image target)
 RestsOn (Gen n) image = Unit {0}
+RestsOn (Format spec) image = Unit {0}
 
 -- whether a command checks the container before it looks at it
 abbrev pub checks_of : Asked → Checks
@@ -200,13 +239,15 @@ checks_of Volumes = Quick
 checks_of Space = Quick
 checks_of (Check profile) = Quick
 checks_of (Snapshots volume) = Quick
+checks_of (Usage volume) = First Plain
 checks_of (Ls checks target) = checks
 checks_of (Tree checks target) = checks
 checks_of (Cat checks target) = checks
 checks_of (Xattr checks target name) = checks
 checks_of (Gen n) = Quick
+checks_of (Format spec) = Quick
 
--- a command without a check before it
+-- a command without a check before it; `usage` isn't there without one
 abbrev pub quick : Asked → Asked
 quick Ring = Ring
 quick Info = Info
@@ -214,11 +255,13 @@ quick Volumes = Volumes
 quick Space = Space
 quick (Check profile) = Check profile
 quick (Snapshots volume) = Snapshots volume
+quick (Usage volume) = Usage volume
 quick (Ls checks target) = Ls Quick target
 quick (Tree checks target) = Tree Quick target
 quick (Cat checks target) = Cat Quick target
 quick (Xattr checks target name) = Xattr Quick target name
 quick (Gen n) = Gen n
+quick (Format spec) = Format spec
 
 -- the profile of a check before a command, where there is one
 abbrev pub profile_in : Checks → Option Profile
@@ -233,11 +276,13 @@ profile_of Volumes = None
 profile_of Space = None
 profile_of (Check profile) = Some profile
 profile_of (Snapshots volume) = None
+profile_of (Usage volume) = Some Plain
 profile_of (Ls checks target) = profile_in checks
 profile_of (Tree checks target) = profile_in checks
 profile_of (Cat checks target) = profile_in checks
 profile_of (Xattr checks target name) = profile_in checks
 profile_of (Gen n) = Some Plain
+profile_of (Format spec) = None
 
 -- a command is defined to write a text of an image, or to answer
 abbrev pub HasResult : Asked → List ℕ → Type 0

@@ -5,8 +5,10 @@ pub mod Volumes
 pub mod Space
 pub mod Check
 pub mod Snapshots
+pub mod Usage
 pub mod Ls
 pub mod Tree
 pub mod Cat
 pub mod Xattr
 pub mod Gen
+pub mod Format

@@ -7,6 +7,7 @@ use Rattle.vol_view.specs.declared.volume.Snapshot.{Snapshot}
 use Rattle.space_map.specs.Stops.{Known}
 use Rattle.space_pool.specs.declared.entry.QueueEntry.{QueueEntry}
 use Rattle.apfs_check.specs.Report.{Told}
+use Rattle.use_report.specs.Numbers as uses
 use Rattle.path_walk.specs.Texts.{ls_text}
 use Rattle.view_tree.specs.Texts.{tree_text}
 use Rattle.path_walk.specs.declared.target.Target.{Target}
@@ -17,8 +18,10 @@ use Rattle.apfs_cli.specs.Commands.Info.{info_text}
 use Rattle.apfs_cli.specs.Commands.Volumes.{volumes_text}
 use Rattle.apfs_cli.specs.Commands.Space.{space_text}
 use Rattle.apfs_cli.specs.Commands.Snapshots.{snapshots_text}
+use Rattle.apfs_cli.specs.Commands.Usage.{usage_text}
 use Rattle.apfs_cli.specs.Commands.Gen as gen
-use Rattle.apfs_cli.specs.Words.{Asked, Ring, Info, Volumes, Space, Check, Snapshots, Ls, Tree, Cat, Xattr, Gen}
+use Rattle.apfs_cli.specs.Commands.Format as format
+use Rattle.apfs_cli.specs.Words.{Asked, Ring, Info, Volumes, Space, Check, Snapshots, Usage, Ls, Tree, Cat, Xattr, Gen, Format}
 
 -- without a name a line for each attribute; the contents of one are any bytes
 abbrev pub IsXattrForm : Option (List ℕ) → List ℕ → Type 0
@@ -33,8 +36,10 @@ IsFormed Volumes text = (heads : List VolHead) × (text ≡ volumes_text heads)
 IsFormed Space text = (space : Known) × (bits : List ℕ) × (pool : List QueueEntry) × (main : List QueueEntry) × (text ≡ space_text space bits pool main)
 IsFormed (Check profile) text = (told : Told) × (text ≡ report_text told)
 IsFormed (Snapshots volume) text = (snapshots : List Snapshot) × (text ≡ snapshots_text snapshots)
+IsFormed (Usage volume) text = (snapshots : List Snapshot) × (told : uses.Told) × (text ≡ usage_text snapshots told)
 IsFormed (Ls checks target) text = (targets : List Target) × (text ≡ ls_text targets)
 IsFormed (Tree checks target) text = (rows : List (List ℕ × Target)) × (text ≡ tree_text rows)
 IsFormed (Cat checks target) text = Unit {0}
 IsFormed (Xattr checks target name) text = IsXattrForm name text
 IsFormed (Gen n) text = (told : Told) × (text ≡ gen.lead n ++ report_text told)
+IsFormed (Format spec) text = format.IsText spec text

@@ -3,7 +3,7 @@ use Rattle.std.specs.Prelude.{◌≡◌, ◌⊎◌, ℕ, List, Option}
 use Rattle.path_walk.specs.declared.answer.Answer.TheVariants.{NoVolume}
 use Rattle.apfs_check.specs.declared.fault.Fault.{Fault}
 use Rattle.apfs_cli.specs.declared.named.Named.{Named}
-use Rattle.apfs_cli.specs.declared.named.Named.TheVariants.{InContainer, NoTable, BadTable, NoPartition, PartOutside}
+use Rattle.apfs_cli.specs.declared.named.Named.TheVariants.{InContainer, InUsage, NoTable, BadTable, NoPartition, PartOutside}
 use Rattle.apfs_cli.specs.declared.stopped.Stopped.{Stopped}
 use Rattle.apfs_cli.specs.declared.stopped.Stopped.TheVariants.{Faulty, WrongWords, ReadFailed, WriteFailed, OutOfMemory, Refused, Answered, NoImage, NoFolder}
 use Rattle.cmd_words.specs.Asked.{AskedTarget}
@@ -22,6 +22,7 @@ IsClear image named = HasVolume image named ⊎ HasNoVolume image named
 -- the fault is one of the container, of which a fact holds
 abbrev pub OfContainer : Named → (Fault → Type 0) → Type 0
 OfContainer (InContainer fault) P = P fault
+OfContainer (InUsage slot xid) P = ⊥
 OfContainer NoTable P = ⊥
 OfContainer BadTable P = ⊥
 OfContainer NoPartition P = ⊥

@@ -1,8 +1,10 @@
 -- What each status says: one fact for each row of the table of statuses, and what holds of all of them.
 use Rattle.std.specs.Prelude.{◌≡◌, ◌⊎◌, ℕ, Bool, true, false, List, [], Option, Some, None}
-use Rattle.apfs_model.specs.Sink.{Wrote}
+use Rattle.apfs_model.specs.Sink.{Wrote, WrotePart}
 use Rattle.obj_base.specs.declared.stop.Feature.{Feature}
 use Rattle.view_rules.specs.declared.profile.Profile.{Profile}
+use Rattle.img_format.specs.declared.spec.Spec.{Spec}
+use Rattle.img_format.specs.Fresh.{fresh}
 use Rattle.img_gpt.specs.Partition.{IsPartition}
 use Rattle.apfs_check.specs.Present as container
 use Rattle.apfs_check.specs.WellFormed.{IsWellFormed}
@@ -12,10 +14,10 @@ use Rattle.apfs_cli.specs.Written.{Sunk, Failed}
 use Rattle.apfs_cli.specs.Words.{Asked, Line}
 use Rattle.apfs_cli.specs.Handed.{Looked, LookFailed, OfImage, Stored, StoreFailed}
 use Rattle.apfs_cli.specs.Outcome.{Outcome, text_of, line_of, Written, Faulty, ReadFailed, OutOfMemory, Refused, Answered}
-use Rattle.apfs_cli.specs.ByCommand.{From, HandedIn, Made, Nowhere, from_of, takes_folder, lead_of, IsText, IsAnswer, profile_of}
+use Rattle.apfs_cli.specs.ByCommand.{From, HandedIn, Made, Nowhere, from_of, takes_folder, lead_of, IsText, IsAnswer, IsUncounted, profile_of}
 use Rattle.apfs_cli.specs.Says.{HasAll, IsTableFault, IsUntouched, PutFailed, Ran, HasNoPart}
 use Rattle.apfs_cli.specs.declared.named.Named.{Named}
-use Rattle.apfs_cli.specs.declared.named.Named.TheVariants.{InContainer, NoTable, BadTable, NoPartition, PartOutside}
+use Rattle.apfs_cli.specs.declared.named.Named.TheVariants.{InContainer, InUsage, NoTable, BadTable, NoPartition, PartOutside}
 
 -- both sinks have all of an outcome more than before
 abbrev pub BothWrote : Sunk → Sunk → Outcome → Type 0
@@ -29,15 +31,16 @@ HasText asked image folder out err = (text : List ℕ) × Ran asked image folder
 abbrev pub RanOrNoPart : Option Line → Option Looked → Option Stored → Sunk → Outcome → Type 0
 RanOrNoPart asked image folder out o = Ran asked image folder out o ⊎ HasNoPart asked image folder o
 
--- a fault that a command names is present by the definition of the check
+-- a fault that a command names is present: one of the container by the definition of the check, one of a view that can't be counted where its cause is there
 abbrev pub IsPresentIn : Asked → List ℕ → Named → Type 0
 IsPresentIn command image (InContainer fault) = PresentBy (profile_of command) image fault
+IsPresentIn command image (InUsage slot xid) = IsUncounted command image slot xid
 IsPresentIn command image NoTable = ⊥
 IsPresentIn command image BadTable = ⊥
 IsPresentIn command image NoPartition = ⊥
 IsPresentIn command image (PartOutside at) = ⊥
 
--- a command came to name a fault, which is present by the definition of the check where the bytes of its source are told
+-- a command came to name a fault, which is present where the bytes of its source are told
 abbrev pub RanNaming : Option Line → Option Looked → Option Stored → Sunk → List ℕ → Named → Type 0
 RanNaming asked image folder out lead named =
     (run : Ran asked image folder out (Faulty lead named)) × OfImage run.source (λ bytes. IsPresentIn run.line.command bytes named)
@@ -186,6 +189,10 @@ IsCompleted result = (result ≡ 0) ⊎ ((result ≡ 7) ⊎ ((result ≡ 1) ⊎ 
 -- the statuses with which an image that was made may end
 abbrev pub IsOfMade : ℕ → Type 0
 IsOfMade result = (result ≡ 0) ⊎ ((result ≡ 1) ⊎ ((result ≡ 4) ⊎ ((result ≡ 5) ⊎ (result ≡ 6))))
+
+-- a new container was written; or a put failed or memory ran out, and a part of it was
+abbrev pub IsNewOrFree : Spec → ℕ → Sunk → Type 0
+IsNewOrFree spec result out = ((result ≡ 0) × Wrote out.old out.new (fresh spec)) ⊎ (((result ≡ 4) ⊎ (result ≡ 5)) × WrotePart out.old out.new (fresh spec))
 
 -- ---- what a stop leaves
 

@@ -20,7 +20,7 @@ use Rattle.apfs_cli.specs.Outcome.{Outcome, text_of, Written, Faulty, WrongWords
 use Rattle.apfs_cli.specs.ByCommand.{From, HandedIn, Made, Nowhere, from_of, takes_folder, streams, lead_of, IsText, IsNamed, IsFeature, IsAnswer, AreItems, RestsOn, HasResult}
 use Rattle.apfs_cli.specs.Formed.{IsFormed}
 use Rattle.apfs_cli.specs.declared.named.Named.{Named}
-use Rattle.apfs_cli.specs.declared.named.Named.TheVariants.{InContainer, NoTable, BadTable, NoPartition, PartOutside}
+use Rattle.apfs_cli.specs.declared.named.Named.TheVariants.{InContainer, InUsage, NoTable, BadTable, NoPartition, PartOutside}
 
 -- ---- a command over a source
 
@@ -191,6 +191,7 @@ IsTableFault disk BadTable = HasBadTable disk
 IsTableFault disk NoPartition = HasNoPartition disk
 IsTableFault disk (PartOutside at) = HasPartOutside disk at
 IsTableFault disk (InContainer fault) = ⊥
+IsTableFault disk (InUsage slot xid) = ⊥
 
 -- what stops a run before there is a partition: a fault of the table, where the disk is told one that is there, or a read that failed
 abbrev pub StopsTable : Looked → Outcome → Type 0

@@ -1,14 +1,21 @@
 -- Which words are a line of the program, and what they ask for.
-use Rattle.std.specs.Prelude.{ℕ, Bool, true, false, List, [], ◌∷◌, Option, None, Some, option_map, option_and_then, bytes_eq, codes, if◌then◌else◌, nat_le, ◌&&◌, ◌==◌, ◌+◌, ◌-◌, ◌*◌}
+use Rattle.std.specs.Prelude.{ℕ, Bool, true, false, not, List, [], ◌∷◌, length, Option, None, Some, option_map, option_and_then, bytes_eq, codes, if◌then◌else◌, nat_le, ◌&&◌, ◌==◌, ◌+◌, ◌-◌, ◌*◌}
+use Rattle.std.specs.Str.{is_utf8}
+use Rattle.uuid.specs.Text.{parsed}
+use Rattle.apfs_model.specs.Lists.{has}
 use Rattle.cmd_words.specs.Asked as lines
 use Rattle.cmd_words.specs.Asked.{AskedFlags, AskedTarget, target_asked}
 use Rattle.cmd_words.specs.Lines.{is_digit, line_of}
 use Rattle.view_rules.specs.declared.profile.Profile.{Profile}
 use Rattle.view_rules.specs.declared.profile.Profile.TheVariants.{Plain, Strict}
+use Rattle.img_format.specs.declared.spec.Spec.{Spec}
+use Rattle.img_format.specs.Names.{most_name}
+use Rattle.img_format.specs.Valid.{least_blocks, most_blocks}
 use Rattle.apfs_cli.specs.declared.words.Checks.{Checks}
 use Rattle.apfs_cli.specs.declared.words.Checks.TheVariants.{Quick, First}
 use Rattle.apfs_cli.specs.declared.words.Command.{Command}
 use Rattle.apfs_cli.specs.declared.words.Command.TheVariants as commands
+use Rattle.apfs_cli.specs.declared.words.NewContainer.{NewContainer}
 use Rattle.apfs_cli.specs.declared.words.Order.{Order}
 use Rattle.apfs_cli.specs.declared.words.Order.TheVariants as orders
 
@@ -26,6 +33,8 @@ pub data Asked : Type 0 where
   Check : Profile → Asked
   -- the snapshots of the volume in a slot, or of the first volume
   Snapshots : Option ℕ → Asked
+  -- how many blocks each view of the volume in a slot, or of the first volume, keeps from being freed
+  Usage : Option ℕ → Asked
   -- what a path lists in a view
   Ls : Checks → AskedTarget → Asked
   -- what is under a path in a view
@@ -36,6 +45,8 @@ pub data Asked : Type 0 where
   Xattr : Checks → AskedTarget → Option (List ℕ) → Asked
   -- an image of so many files, and whether its container is well-formed
   Gen : ℕ → Asked
+  -- a new container
+  Format : Spec → Asked
 
 -- what a line asks for: a command, and whether its image is a partition of what is handed in
 pub record Line : Type 0 where
@@ -58,6 +69,7 @@ built lines.Volumes = Volumes
 built lines.Space = Space
 built (lines.Check strict) = Check (profile_by strict)
 built (lines.Snapshots volume) = Snapshots volume
+built (lines.Usage volume) = Usage volume
 built (lines.Ls flags target) = Ls (checks_by flags) target
 built (lines.Tree flags target) = Tree (checks_by flags) target
 built (lines.Cat flags target) = Cat (checks_by flags) target
@@ -112,8 +124,50 @@ abbrev pub gen_files : List (List ℕ) → Option ℕ
 gen_files (command ∷ count ∷ []) = files_named command count
 gen_files _ = None
 
+-- as many blocks as a new container can have
+abbrev pub holdable : ℕ → Option ℕ
+holdable blocks = if nat_le least_blocks blocks && nat_le blocks most_blocks then Some blocks else None
+
+-- the number of blocks of a new container
+abbrev pub blocks_said : List ℕ → Option ℕ
+blocks_said word = option_and_then holdable (count_said word)
+
+-- a name that a volume can have: 1 to 255 bytes of UTF-8, none of which is zero
+abbrev pub is_name : List ℕ → Bool
+is_name word = nat_le 1 (length word) && nat_le (length word) most_name && not (has word 0) && is_utf8 word
+
+-- the name of its volume
+abbrev pub name_said : List ℕ → Option (List ℕ)
+name_said word = if is_name word then Some word else None
+
+-- a new container, by what is said of each of its parts
+abbrev pub spec_by : Option ℕ → Option (List ℕ) → Option (List ℕ) → Option (List ℕ) → Option Spec
+spec_by (Some blocks) (Some name) (Some container) (Some volume) = Some (record { blocks = blocks; name = name; container = container; volume = volume })
+spec_by _ _ _ _ = None
+
+-- `N NAME CONTAINER VOLUME`: the new container that they say; the two identifiers are in any form that `uuid` parses
+abbrev pub spec_said : List ℕ → List ℕ → List ℕ → List ℕ → Option Spec
+spec_said blocks name container volume = spec_by (blocks_said blocks) (name_said name) (parsed container) (parsed volume)
+
+-- which new container is asked for, where the command is `format`
+abbrev pub spec_named : List ℕ → Option Spec → Option Spec
+spec_named command spec = if bytes_eq command (codes "format") then spec else None
+
+-- `format N NAME CONTAINER VOLUME`: which new container is asked for
+abbrev pub new_spec : List (List ℕ) → Option Spec
+new_spec (command ∷ blocks ∷ name ∷ container ∷ volume ∷ []) = spec_named command (spec_said blocks name container volume)
+new_spec _ = None
+
+abbrev pub new_by : List (List ℕ) → Option Spec → Option Line
+new_by words None = option_map (line_in false) (command_of words)
+new_by words (Some spec) = Some (plain_line (Format spec))
+
+-- what words ask for that ask neither for a partition nor for an image that is made
+unfoldable pub new_of : List (List ℕ) → Option Line
+new_of words = new_by words (new_spec words)
+
 abbrev pub plain_by : List (List ℕ) → Option ℕ → Option Line
-plain_by words None = option_map (line_in false) (command_of words)
+plain_by words None = new_of words
 plain_by words (Some files) = Some (plain_line (Gen files))
 
 -- what words ask for that don't ask for a partition
@@ -145,12 +199,18 @@ said commands.Volumes = Volumes
 said commands.Space = Space
 said (commands.Check profile) = Check profile
 said (commands.Snapshots volume) = Snapshots volume
+said (commands.Usage volume) = Usage volume
 said (commands.Ls checks target) = Ls checks (target_asked target)
 said (commands.Tree checks target) = Tree checks (target_asked target)
 said (commands.Cat checks target) = Cat checks (target_asked target)
 said (commands.Xattr checks target name) = Xattr checks (target_asked target) (option_map (λ text. text.now) name)
 
+-- a new container without where the word of its name lies
+abbrev pub spec_of : NewContainer → Spec
+spec_of wanted = record { blocks = wanted.blocks; name = wanted.name.now; container = wanted.container; volume = wanted.volume }
+
 -- a line without where its words lie
 abbrev pub line_said : Order → Line
 line_said (orders.On in_partition command) = line_in in_partition (said command)
 line_said (orders.Gen files) = plain_line (Gen files)
+line_said (orders.Format wanted) = plain_line (Format (spec_of wanted))

@@ -1,9 +1,11 @@
 //! The commands: each writes its text on a sink, and stops where there is none.
 ghost use Rattle.apfs_model.specs.Source.{IsKept};
+ghost use Rattle.std.specs.Prelude.{◌≡◌, ℕ, List, Some};
 ghost use Rattle.apfs_cli.specs.Handed.{looked};
 ghost use Rattle.apfs_cli.specs.Says.{HasEnded};
+ghost use Rattle.apfs_cli.specs.Reached.{IsClean};
 ghost use Rattle.apfs_cli.specs.Words.{said};
-ghost use Rattle.apfs_cli.specs.ByCommand.{quick};
+ghost use Rattle.apfs_cli.specs.ByCommand.{checks_of, quick};
 ghost use Rattle.apfs_cli.specs.Written.{sunk};
 
 mod cat;
@@ -12,10 +14,12 @@ mod checked;
 pub mod generated;
 mod info;
 mod ls;
+pub mod new_container;
 mod ring;
 mod snapshots;
 mod space;
 mod tree;
+mod usage;
 mod volumes;
 mod xattr;
 
@@ -25,13 +29,14 @@ use crate::words::Command;
 use blk_source::{BlockSource, Sink};
 use std::alloc::Global;
 
-// Runs a command that takes an image, and checks nothing first.
+// Runs a command that takes an image, once it was checked where the command wants that.
 fn on_unchecked<S: BlockSource, W: Sink>(
     alloc: Global,
     command: Command<'_>,
     src: &mut S,
     out: &mut W,
 ) -> Result<(), Stopped>
+    requires clean { (image : List ℕ) → S.bytes src.old ≡ Some image → IsClean (checks_of (said command)) image }
     ensures answer { HasEnded (quick (said command.entry)) (looked S.bytes S.faults src.old src.new) result (sunk W.contents W.faults out.old out.new) }
     ensures kept { IsKept S.bytes S.bytes_len S.faults src.old src.new }
 {
@@ -42,6 +47,7 @@ fn on_unchecked<S: BlockSource, W: Sink>(
         Command::Space => space::write(alloc, src, out),
         Command::Check(profile) => check::write(alloc, profile, src, out),
         Command::Snapshots(volume) => snapshots::write(alloc, volume, src, out),
+        Command::Usage(volume) => usage::write(alloc, volume, src, out),
         Command::Ls(_, target) => ls::write(alloc, target, src, out),
         Command::Tree(_, target) => tree::write(alloc, target, src, out),
         Command::Cat(_, target) => cat::write(alloc, target, src, out),

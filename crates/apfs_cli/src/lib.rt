@@ -23,4 +23,4 @@ pub use named::Named;
 pub use program::{gen_report, report, run};
 pub use put::{Line, put_lines};
 pub use stopped::Stopped;
-pub use words::{Checks, Command, Order, asked};
+pub use words::{Checks, Command, NewContainer, Order, asked};

@@ -1,11 +1,13 @@
 // What is told of a fault.
 use apfs_check::Fault;
 
-/// A fault that is named: of the container, or of the table of a disk's partitions.
+/// A fault that is named: of the container, of a view whose blocks can't be counted, or of the table of a disk's partitions.
 #[derive(PartialEq, Debug, Drop)]
 pub enum Named {
     /// One of the container.
     InContainer(Fault),
+    /// One of the view of a transaction, of the volume in a slot, whose blocks can't be counted.
+    InUsage { slot: u32, xid: u64 },
     /// No header of a table stands on the disk.
     NoTable,
     /// The table isn't right.

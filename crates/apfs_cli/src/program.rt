@@ -4,16 +4,17 @@ ghost use Rattle.std.specs.String.{string_bytes};
 ghost use Rattle.apfs_model.specs.Sink.{Wrote};
 ghost use Rattle.apfs_model.specs.Source.{IsKept};
 ghost use Rattle.apfs_check.specs.WellFormed.{IsWellFormed};
+ghost use Rattle.img_format.specs.declared.spec.Spec.{Spec};
 ghost use Rattle.apfs_cli.specs.Handed.{looked, looked_at, stored_in, IsGivenKept};
 ghost use Rattle.apfs_cli.specs.Outcome as outcomes;
-ghost use Rattle.apfs_cli.specs.Rows.{BothWrote, HasText, NamesFault, NamesFeature, NamesAnswer, SaysReadFailed, SaysOutOfMemory, HasFailedPut, HasDefinedText, HasDefinedAnswer, HasSound, HasUnsound, HasTableFault, IsExactly, IsOrFree, IsCleanOrFree, IsFoundOrFree, IsUndisturbed, IsCompleted, IsOfMade, IsRefusal, IsTurnedAway, lead_in, MayFill};
+ghost use Rattle.apfs_cli.specs.Rows.{BothWrote, HasText, NamesFault, NamesFeature, NamesAnswer, SaysReadFailed, SaysOutOfMemory, HasFailedPut, HasDefinedText, HasDefinedAnswer, HasSound, HasUnsound, HasTableFault, IsExactly, IsOrFree, IsCleanOrFree, IsFoundOrFree, IsUndisturbed, IsCompleted, IsNewOrFree, IsOfMade, IsRefusal, IsTurnedAway, lead_in, MayFill};
 ghost use Rattle.apfs_cli.specs.Says.{HasEnded, HasCome, HasNoImage, HasNoFolder, IsOpenedKept, IsUntouched, CameTo, CameOver};
 ghost use Rattle.apfs_cli.specs.Seen.{outcome_of};
-ghost use Rattle.apfs_cli.specs.Words.{Check, Gen, asked_of, line_in, plain_line, said};
+ghost use Rattle.apfs_cli.specs.Words.{Check, Format, Gen, asked_of, line_in, plain_line, said};
 ghost use Rattle.apfs_cli.specs.Written.{sunk, IsClosed};
 ghost use Rattle.apfs_cli.specs.declared.named.Named.{Named};
 
-use crate::commands::{check, generated};
+use crate::commands::{check, generated, new_container};
 use crate::in_partition::on_order;
 use crate::say::say;
 use crate::stopped::Stopped;
@@ -66,6 +67,7 @@ fn decide<S: BlockSource, W: Sink>(
                 command,
             } => on_opened(alloc, in_partition, command, image, out),
             Order::Gen(files) => generated::write(alloc, files, out, &mut None),
+            Order::Format(wanted) => new_container::write(alloc, wanted, out),
         },
         None => Err(Stopped::WrongWords),
     }
@@ -135,6 +137,9 @@ pub fn run<S: BlockSource, W: Sink, E: Sink, F: Folder>(
     ensures clean { HasSound (asked_of (map string_bytes words.now)) (looked_at S.bytes S.faults image.old image.new) (stored_in F.contents F.faults folder.old folder.new) → IsCleanOrFree result }
     ensures flawed { HasUnsound (asked_of (map string_bytes words.now)) (looked_at S.bytes S.faults image.old image.new) (stored_in F.contents F.faults folder.old folder.new) → IsFoundOrFree result }
     ensures completed { IsUndisturbed (asked_of (map string_bytes words.now)) (looked_at S.bytes S.faults image.old image.new) (stored_in F.contents F.faults folder.old folder.new) (sunk W.contents W.faults out.old out.new) (sunk E.contents E.faults err.old err.new) → IsCompleted result }
+
+    // How `format` ends.
+    ensures new { (spec : Spec) → asked_of (map string_bytes words.now) ≡ Some (plain_line (Format spec)) → IsNewOrFree spec result (sunk W.contents W.faults out.old out.new) }
 
     // What a stop leaves.
     ensures lead { IsRefusal result → Wrote (W.contents out.old) (W.contents out.new) (lead_in (asked_of (map string_bytes words.now))) }

@@ -3,15 +3,24 @@ ghost use Rattle.std.specs.Prelude.{◌≡◌, map, option_map, IfOk};
 ghost use Rattle.std.specs.String.{string_bytes};
 ghost use Rattle.cmd_words.specs.Asked.{asked_by, flags_asked};
 ghost use Rattle.apfs_cli.specs.ByCommand as by_command;
-ghost use Rattle.apfs_cli.specs.Words.{command_of, plain_of, asked_of, said, line_in, line_said, count_said, files_said, gen_files};
+ghost use Rattle.apfs_cli.specs.Words.{command_of, new_of, plain_of, asked_of, said, line_in, line_said, spec_of, count_said, files_said, gen_files, spec_said, new_spec};
 ghost use Rattle.apfs_cli.specs.Words as lines;
+ghost use Rattle.uuid.specs.Text.{parsed};
 
 use cmd_words::{Flags, Line, Target, line_in};
 use std::alloc::{AllocError, Global};
 use tree_rules::Profile;
+use uuid::Uuid;
 
 // The most files of an image that is made.
 const MOST_FILES: u32 = 20_000;
+
+// The least number of blocks of a new container, the greatest, and the longest name of its volume.
+const LEAST_BLOCKS: u32 = 256;
+
+const MOST_BLOCKS: u32 = 32_768;
+
+const MOST_OF_A_NAME: usize = 255;
 
 /// Whether the container is checked before a command looks at it.
 #[derive(Clone, Copy, PartialEq, Eq, Debug)]
@@ -37,6 +46,8 @@ pub enum Command<'a> {
     Check(Profile),
     /// The snapshots of the volume in the slot that is named, or of the first volume.
     Snapshots(Option<u8>),
+    /// How many blocks each view of the volume in the slot that is named, or of the first volume, keeps from being freed.
+    Usage(Option<u8>),
     /// What a path lists in a view.
     Ls(Checks, Target<'a>),
     /// What is under a path in a view.
@@ -45,6 +56,19 @@ pub enum Command<'a> {
     Cat(Checks, Target<'a>),
     /// The attributes of what a path leads to in a view, or what the one of a name holds.
     Xattr(Checks, Target<'a>, Option<&'a str>),
+}
+
+/// A new container, with its volume's name among the words.
+#[derive(Clone, Copy, PartialEq, Eq, Debug)]
+pub struct NewContainer<'a> {
+    /// How many blocks it has.
+    pub blocks: u64,
+    /// The volume's name.
+    pub name: &'a str,
+    /// The container's identifier.
+    pub container: [u8; 16],
+    /// The volume's identifier.
+    pub volume: [u8; 16],
 }
 
 /// What a line asks for.
@@ -59,6 +83,8 @@ pub enum Order<'a> {
     },
     /// An image of so many files, 20,000 at most, and whether its container is well-formed.
     Gen(u32),
+    /// A new container.
+    Format(NewContainer<'a>),
 }
 
 impl Command<'_> {
@@ -69,6 +95,7 @@ impl Command<'_> {
         match self {
             Command::Ring | Command::Info | Command::Volumes => Checks::Quick,
             Command::Space | Command::Check(_) | Command::Snapshots(_) => Checks::Quick,
+            Command::Usage(_) => Checks::First(Profile::Plain),
             Command::Ls(checks, _) | Command::Tree(checks, _) => checks,
             Command::Cat(checks, _) | Command::Xattr(checks, ..) => checks,
         }
@@ -106,6 +133,7 @@ fn built<'a>(line: Line<'a>) -> Command<'a>
         Line::Info => Command::Info,
         Line::Volumes => Command::Volumes,
         Line::Snapshots(volume) => Command::Snapshots(volume),
+        Line::Usage(volume) => Command::Usage(volume),
         Line::Space => Command::Space,
         Line::Check(strict) => Command::Check(profile_by(strict)),
         Line::Ls(flags, target) => Command::Ls(checks_by(flags), target),
@@ -208,13 +236,120 @@ fn files_in(words: &[String]) -> Option<u32>
     }
 }
 
+// The number of blocks of a new container.
+fn blocks_of(text: &str) -> Option<u64>
+    ensures { result ≡ lines.blocks_said text.now }
+{
+    match count_of(text) {
+        Some(blocks) if blocks >= LEAST_BLOCKS && blocks <= MOST_BLOCKS => Some(u64::from(blocks)),
+        _ => None,
+    }
+}
+
+// Whether a volume can have such a name.
+fn is_name(text: &str) -> bool
+    ensures { result ≡ lines.is_name text.now }
+{
+    match text.len() {
+        1..=MOST_OF_A_NAME => !text.as_bytes().contains(&0),
+        _ => false,
+    }
+}
+
+// The name of a volume.
+fn name_of(text: &str) -> Option<&str>
+    ensures { option_map (λ name. name.now) result ≡ lines.name_said text.entry.now }
+{
+    if is_name(text) { Some(text) } else { None }
+}
+
+// The identifier that a word is.
+fn identifier_of(text: &str) -> Option<[u8; 16]>
+    ensures { result ≡ parsed text.now }
+{
+    match Uuid::try_parse(text) {
+        Ok(identifier) => Some(identifier.into_bytes()),
+        Err(_) => None,
+    }
+}
+
+// The new container that its parts say.
+fn new_by<'a>(
+    blocks: &str,
+    name: &'a str,
+    container: &str,
+    volume: &str,
+) -> Option<NewContainer<'a>>
+    ensures { option_map spec_of result ≡ spec_said blocks.now name.entry.now container.now volume.now }
+{
+    let Some(blocks) = blocks_of(blocks) else {
+        return None;
+    };
+    let Some(name) = name_of(name) else {
+        return None;
+    };
+    let Some(container) = identifier_of(container) else {
+        return None;
+    };
+    let Some(volume) = identifier_of(volume) else {
+        return None;
+    };
+    Some(NewContainer {
+        blocks,
+        name,
+        container,
+        volume,
+    })
+}
+
+// Which new container is asked for, where the command is `format`.
+fn new_named<'a>(command: &str, wanted: Option<NewContainer<'a>>) -> Option<NewContainer<'a>>
+    ensures { option_map spec_of result ≡ lines.spec_named command.now (option_map spec_of wanted.entry) }
+{
+    match command {
+        "format" => wanted,
+        _ => None,
+    }
+}
+
+// Which new container `format` is asked for.
+fn new_in(words: &[String]) -> Option<NewContainer<'_>>
+    ensures { option_map spec_of result ≡ new_spec (map string_bytes words.entry.now) }
+{
+    match words {
+        [command, blocks, name, container, volume] => new_named(
+            command.as_str(),
+            new_by(
+                blocks.as_str(),
+                name.as_str(),
+                container.as_str(),
+                volume.as_str(),
+            ),
+        ),
+        _ => None,
+    }
+}
+
+// What words ask for that ask neither for a partition nor for an image that is made.
+fn new_or_command_in<'a>(
+    alloc: Global,
+    words: &'a [String],
+) -> Result<Option<Order<'a>>, AllocError>
+    ensures { IfOk result (λ order. option_map line_said order ≡ new_of (map string_bytes words.entry.now)) }
+{
+    match new_in(words) {
+        Some(wanted) => Ok(Some(Order::Format(wanted))),
+        None => order_in(alloc, words, false),
+    }
+}
+
 // What words ask for that don't ask for a partition.
 fn plain_in<'a>(alloc: Global, words: &'a [String]) -> Result<Option<Order<'a>>, AllocError>
     ensures { IfOk result (λ order. option_map line_said order ≡ plain_of (map string_bytes words.entry.now)) }
 {
     match files_in(words) {
         Some(files) => Ok(Some(Order::Gen(files))),
-        None => order_in(alloc, words, false),
+        None => new_or_command_in(alloc, words),
     }
 }
 

@@ -5,8 +5,10 @@ mod cases;
 mod checks;
 mod contents;
 mod disks;
+mod formatted;
 mod generated;
 mod images;
+mod uses;
 
 use apfs_cli::{Line, gen_report, put_lines, report, run};
 use blk_folder::{Given, MemFolder};
@@ -15,6 +17,7 @@ use cases::*;
 use checks::{CHECK, CHECK_CASES, FIRST_CASES, LEAKED, MARKED, NINE_VIEWS, SMALL_REPORT};
 use contents::*;
 use disks::{DISK, DISK_CASES, GPT_RING};
+use formatted::{FORMAT, FORMAT_CASES, FORMATS, FORMATTED, READ_CASES};
 use generated::{GEN, GEN_CASES, GEN_TEXT};
 use images::{Image, handed};
 use std::alloc::{AllocError, Global};
@@ -23,6 +26,7 @@ use std::io::{self, Write};
 use std::process::Abort;
 use std::test::Fail;
 use tree_rules::Profile;
+use uses::{USAGE, USAGE_CASES};
 
 const ROOM: usize = 8192;
 
@@ -52,12 +56,23 @@ const NOTHING: Refused = Refused {
 
 // Runs the words, with what is refused.
 fn end(alloc: Global, image: Image, words: &[&str], refused: Refused) -> Result<Ended, Fail> {
+    let image = handed(alloc, image, [refused.read].to_vec(alloc)?)?;
+    end_on(alloc, image, words, ROOM, refused)
+}
+
+// Runs the words on what is handed in, with room for so many bytes of text, and with the puts that are refused.
+fn end_on(
+    alloc: Global,
+    mut image: Opened<MemSource>,
+    words: &[&str],
+    room: usize,
+    refused: Refused,
+) -> Result<Ended, Fail> {
     let words: Vec<String> = words
         .iter()
         .map(|word| String::from_str(alloc, word))
         .try_collect(alloc)?;
-    let mut image = handed(alloc, image, [refused.read].to_vec(alloc)?)?;
-    let mut out = MemSink::new(alloc, ROOM, [refused.put].to_vec(alloc)?)?;
+    let mut out = MemSink::new(alloc, room, [refused.put].to_vec(alloc)?)?;
     let mut err = MemSink::new(alloc, ROOM, [refused.line].to_vec(alloc)?)?;
     let mut folder = Given::Into(MemFolder::new(alloc, 1, 1, Vec::new(alloc))?);
     let status = run(alloc, &words, &mut image, &mut out, &mut err, &mut folder);
@@ -185,6 +200,48 @@ fn a_generated_report_leaves_its_image(rt: HostRuntime) -> Result<(), Fail> {
     Ok(())
 }
 
+#[test]
+fn format_cases_end_as_said(rt: HostRuntime) -> Result<(), Fail> {
+    end_as_said(&rt, rt.alloc(), FORMAT_CASES)
+}
+
+// Each form of the identifiers asks for the same container, and what was written is read by other commands.
+#[test]
+fn a_new_container_is_read(rt: HostRuntime) -> Result<(), Fail> {
+    let alloc = rt.alloc();
+    for format in FORMATS {
+        let written = end_on(alloc, Opened::Absent, format, FORMATTED, NOTHING)?;
+        assert_eq!(rt; (written.status, written.items), (0, 0));
+        assert!(rt; written.err.contents().is_empty());
+        for (words, text) in READ_CASES {
+            let image = written.out.contents().to_vec(alloc)?;
+            let image = Opened::Image(MemSource::new(image, Vec::new(alloc)));
+            let ended = end_on(alloc, image, words, ROOM, NOTHING)?;
+            let as_said = ended_with(&ended, 0, text, "");
+            assert!(rt; as_said, "{text}: status {}", ended.status);
+        }
+    }
+    Ok(())
+}
+
+// The 57 used blocks are put at once, and then each block of zeros.
+#[test]
+fn failure_of_each_put_of_format(rt: HostRuntime) -> Result<(), Fail> {
+    let alloc = rt.alloc();
+    for (number, status, blocks) in [(1, 4, 0), (2, 4, 57), (200, 4, 255), (201, 0, 256)] {
+        let refused = Refused {
+            read: 0,
+            put: number,
+            line: 0,
+        };
+        let ended = end_on(alloc, Opened::Absent, FORMAT, FORMATTED, refused)?;
+        assert_eq!(rt; (ended.status, ended.items), (status, 0), "put {number}");
+        assert_eq!(rt; ended.out.contents().len(), blocks * 4096, "put {number}");
+        assert!(rt; ended.err.contents().is_empty());
+    }
+    Ok(())
+}
+
 // However many views a container has, what they share is read once.
 #[test]
 fn a_check_of_nine_views_takes_few_reads(rt: HostRuntime) -> Result<(), Fail> {
@@ -200,6 +257,11 @@ fn a_check_of_nine_views_takes_few_reads(rt: HostRuntime) -> Result<(), Fail> {
 #[test]
 fn cases_that_check_first_end_as_said(rt: HostRuntime) -> Result<(), Fail> {
     end_as_said(&rt, rt.alloc(), FIRST_CASES)
+}
+
+#[test]
+fn usage_cases_end_as_said(rt: HostRuntime) -> Result<(), Fail> {
+    end_as_said(&rt, rt.alloc(), USAGE_CASES)
 }
 
 // A run with at least and at most so many reads.
@@ -304,6 +366,18 @@ fn failure_of_each_read_of_a_view(rt: HostRuntime) -> Result<(), Fail> {
             most: 39,
         },
     ];
+    fail_at_each_read(&rt, rt.alloc(), &rows)
+}
+
+// Each node is read once, in the check.
+#[test]
+fn failure_of_each_read_of_usage(rt: HostRuntime) -> Result<(), Fail> {
+    let rows = [Reads {
+        image: Image::Views,
+        words: USAGE,
+        least: 24,
+        most: 66,
+    }];
     fail_at_each_read(&rt, rt.alloc(), &rows)
 }
 
@@ -526,6 +600,11 @@ fn failure_of_each_put_of_disks(rt: HostRuntime) -> Result<(), Fail> {
 #[test]
 fn failure_of_each_put_of_views(rt: HostRuntime) -> Result<(), Fail> {
     fail_at_the_first_put(&rt, rt.alloc(), VIEW_CASES)
+}
+
+#[test]
+fn failure_of_each_put_of_usage(rt: HostRuntime) -> Result<(), Fail> {
+    fail_at_the_first_put(&rt, rt.alloc(), USAGE_CASES)
 }
 
 #[test]

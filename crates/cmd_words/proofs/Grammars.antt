@@ -1,9 +1,9 @@
 -- The commands of this crate, with their grammars.
 use Rattle.std.proofs.Common.{◌≡◌, ◌∙◌, ◌&&◌, ◌||◌, ⊎_elim, ℕ, Bool, true, false, not, List, [], ◌∷◌, Some, None, refl, sym, ap, ap₂, subst, codes, true≢false}
 use Rattle.std.specs.Str.{bytes_eq}
-use Rattle.cmd_words.specs.Lines.{check_words, snapshots_words, target_words, xattr_words}
+use Rattle.cmd_words.specs.Lines.{check_words, target_words, volume_words, xattr_words}
 use Rattle.clap.specs.Walk.{Rule, arg_by_long, arg_by_short}
-use Rattle.cmd_words.specs.Commands.{check_app, target_app, snapshots_app, xattr_app}
+use Rattle.cmd_words.specs.Commands.{check_app, target_app, volume_app, xattr_app}
 use Rattle.cmd_words.specs.Said.{Text, is_among, says}
 use Rattle.cmd_words.proofs.Shapes.{HasNames, HasRule, set_rule, flag_rule}
 use Rattle.cmd_words.proofs.Rows.{bool_cases, text_same}
@@ -75,8 +75,8 @@ xattr_rules = place_set true (codes "path") 1 ∷ place_set false (codes "name")
 abbrev check_rules : List Rule
 check_rules = flag_rule (codes "strict") ∷ []
 
-abbrev snapshots_rules : List Rule
-snapshots_rules = option_set (codes "volume") ∷ []
+abbrev volume_rules : List Rule
+volume_rules = option_set (codes "volume") ∷ []
 
 pub target_is : IsCommand target_app target_words
 target_is = record {
@@ -127,13 +127,13 @@ check_is = record {
   required_are = λ all. refl;
 }
 
-pub snapshots_is : IsCommand snapshots_app snapshots_words
-snapshots_is = record {
-  rules_are = snapshots_rules;
+pub volume_is : IsCommand volume_app volume_words
+volume_is = record {
+  rules_are = volume_rules;
   is = refl;
   words = λ xs. refl;
   none = (refl, tt);
-  names_are = one_option snapshots_rules (codes "volume") (λ x. refl)
+  names_are = one_option volume_rules (codes "volume") (λ x. refl)
       (record { long = Some (codes "volume"); index = None; required = false; is = refl; by_id = refl }) (λ name e. rw e refl);
   places_are = refl;
   required_are = λ all. refl;

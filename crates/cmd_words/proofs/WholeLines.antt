@@ -6,15 +6,15 @@ use Rattle.std.specs.String.{string_bytes}
 use Rattle.std.proofs.lemmas.Str.{IsUtf8-string_bytes}
 use Rattle.std.specs.declared.string.String.{String}
 use Rattle.cmd_words.specs.ByClap.{line_by_clap, read_by_clap}
-use Rattle.cmd_words.specs.Lines.{alone, browse_by, check_by, check_words, line_named, line_of, read, snapshots_by, snapshots_words, target_words, xattr_by, xattr_words}
+use Rattle.cmd_words.specs.Lines.{alone, browse_by, check_by, check_words, line_named, line_of, read, target_words, volume_alone, volume_words, xattr_by, xattr_words}
 use Rattle.clap.specs.Walk.{Row, first_of}
 use Rattle.clap.specs.Simple.{App}
-use Rattle.cmd_words.specs.Commands.{check_app, target_app, snapshots_app, xattr_app}
+use Rattle.cmd_words.specs.Commands.{check_app, target_app, volume_app, xattr_app}
 use Rattle.cmd_words.specs.Said.{Grammar, Said, Text, said_by_words, value_said}
 use Rattle.cmd_words.proofs.Shapes.{row_for, rows_for}
 use Rattle.cmd_words.proofs.Walks.{AllOpen}
 use Rattle.cmd_words.proofs.Found.{IsCommand, found-said, text_opens}
-use Rattle.cmd_words.proofs.Grammars.{check_is, snapshots_is, target_is, xattr_is}
+use Rattle.cmd_words.proofs.Grammars.{check_is, target_is, volume_is, xattr_is}
 
 pub texts_open : {Z : Type 0} (words : List (String Z)) → AllOpen (map string_bytes words)
 texts_open [] = tt
@@ -46,6 +46,6 @@ line-same [] opens = refl
 line-same (command ∷ []) opens = refl
 line-same (command ∷ image ∷ rest) opens = λ i. line_named command (λ asked. alone asked rest)
     (read_same check_app check_words check_is check_by rest opens.1.1 i)
-    (read_same snapshots_app snapshots_words snapshots_is snapshots_by rest opens.1.1 i)
+    (read_same volume_app volume_words volume_is volume_alone rest opens.1.1 i)
     (read_same target_app target_words target_is browse_by rest opens.1.1 i)
     (read_same xattr_app xattr_words xattr_is xattr_by rest opens.1.1 i)

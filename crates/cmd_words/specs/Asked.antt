@@ -33,6 +33,8 @@ pub data Asked : Type 0 where
   Check : Bool → Asked
   -- the snapshots of a volume
   Snapshots : Option ℕ → Asked
+  -- how many blocks each view of a volume keeps from being freed
+  Usage : Option ℕ → Asked
   -- what a directory has
   Ls : AskedFlags → AskedTarget → Asked
   -- what is under a directory
@@ -66,6 +68,7 @@ asked_by lines.Volumes = Volumes
 asked_by lines.Space = Space
 asked_by (lines.Check strict) = Check strict
 asked_by (lines.Snapshots volume) = Snapshots volume
+asked_by (lines.Usage volume) = Usage volume
 asked_by (lines.Ls flags target) = Ls (flags_asked flags) (target_asked target)
 asked_by (lines.Tree flags target) = Tree (flags_asked flags) (target_asked target)
 asked_by (lines.Cat flags target) = Cat (flags_asked flags) (target_asked target)

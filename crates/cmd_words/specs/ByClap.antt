@@ -3,8 +3,8 @@ use Rattle.std.specs.Prelude.{List, ◌∷◌, Option, None, option_and_then}
 use Rattle.clap.specs.Walk.{Text, first_of}
 use Rattle.clap.specs.Simple.{App}
 use Rattle.cmd_words.specs.Asked.{Asked}
-use Rattle.cmd_words.specs.Commands.{check_app, found_in, snapshots_app, target_app, xattr_app}
-use Rattle.cmd_words.specs.Lines.{alone, browse_by, check_by, line_named, snapshots_by, xattr_by}
+use Rattle.cmd_words.specs.Commands.{check_app, found_in, target_app, volume_app, xattr_app}
+use Rattle.cmd_words.specs.Lines.{alone, browse_by, check_by, line_named, volume_alone, xattr_by}
 
 -- what the words ask for, by what clap finds for each name
 abbrev pub read_by_clap : {X : Type 0} → App → ((Text → Option Text) → Option X) → List Text → Option X
@@ -14,6 +14,6 @@ read_by_clap app parts words =
 -- what a line of words asks for, by what clap finds
 abbrev pub line_by_clap : List Text → Option Asked
 line_by_clap (command ∷ image ∷ rest) = line_named command (λ asked. alone asked rest)
-    (read_by_clap check_app check_by rest) (read_by_clap snapshots_app snapshots_by rest)
+    (read_by_clap check_app check_by rest) (read_by_clap volume_app volume_alone rest)
     (read_by_clap target_app browse_by rest) (read_by_clap xattr_app xattr_by rest)
 line_by_clap words = None

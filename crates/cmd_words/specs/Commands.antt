@@ -48,8 +48,8 @@ abbrev pub check_app : App
 check_app = with_rule bare_app (flag_rule (codes "strict"))
 
 -- `[--volume N]`
-abbrev pub snapshots_app : App
-snapshots_app = with_rule bare_app (option_rule (codes "volume"))
+abbrev pub volume_app : App
+volume_app = with_rule bare_app (option_rule (codes "volume"))
 
 -- what clap finds in the words, where it takes them
 abbrev pub found_in : App → List Text → Option (List Row)

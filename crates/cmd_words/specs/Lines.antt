@@ -3,7 +3,7 @@ use Rattle.std.specs.Prelude.{nat_le, Bool, ◌+◌, ◌-◌, ◌*◌, ◌==◌,
 use Rattle.std.specs.Prelude.{Option, Some, None, is_some, option_map, option_and_then, if◌then◌else◌, codes}
 use Rattle.std.specs.Str.{bytes_eq}
 use Rattle.cmd_words.specs.Said.{Grammar, Text, said_by_words, value_said}
-use Rattle.cmd_words.specs.Asked.{Asked, AskedFlags, AskedTarget, Cat, Check, Info, Ls, Ring, Snapshots, Space, Tree, Volumes, Xattr}
+use Rattle.cmd_words.specs.Asked.{Asked, AskedFlags, AskedTarget, Cat, Check, Info, Ls, Ring, Snapshots, Space, Tree, Usage, Volumes, Xattr}
 
 -- ---- the parts of a line
 
@@ -47,9 +47,9 @@ xattr_by value = option_map (λ target. Xattr (flags_by value) target (value (co
 abbrev pub check_by : (Text → Option Text) → Option Asked
 check_by value = Some (Check (is_some (value (codes "strict"))))
 
--- snapshots, where `value` gives what was said for a name
-abbrev pub snapshots_by : (Text → Option Text) → Option Asked
-snapshots_by value = option_map Snapshots (volume_by (value (codes "volume")))
+-- a volume alone, where `value` gives what was said for a name
+abbrev pub volume_alone : (Text → Option Text) → Option (Option ℕ)
+volume_alone value = volume_by (value (codes "volume"))
 
 -- ---- the words after the image
 
@@ -76,8 +76,8 @@ abbrev pub check_words : Grammar
 check_words = record { options = []; flags = codes "strict" ∷ []; places = []; required = [] }
 
 -- `[--volume N]`
-abbrev pub snapshots_words : Grammar
-snapshots_words = record { options = codes "volume" ∷ []; flags = []; places = []; required = [] }
+abbrev pub volume_words : Grammar
+volume_words = record { options = codes "volume" ∷ []; flags = []; places = []; required = [] }
 
 -- what words of a grammar ask for, by what they say for each name
 abbrev pub read : {X : Type 0} → Grammar → ((Text → Option Text) → Option X) → List Text → Option X
@@ -92,14 +92,15 @@ alone asked (word ∷ rest) = None
 -- ---- the line
 
 -- the line of a command, where the others are the lines of each kind of words after the image
-abbrev pub line_named : Text → (Asked → Option Asked) → Option Asked → Option Asked → Option (AskedFlags × AskedTarget) → Option Asked → Option Asked
-line_named command by_image check snapshots browse xattr =
+abbrev pub line_named : Text → (Asked → Option Asked) → Option Asked → Option (Option ℕ) → Option (AskedFlags × AskedTarget) → Option Asked → Option Asked
+line_named command by_image check volume browse xattr =
     if bytes_eq command (codes "ring") then by_image Ring else
     if bytes_eq command (codes "info") then by_image Info else
     if bytes_eq command (codes "volumes") then by_image Volumes else
     if bytes_eq command (codes "space") then by_image Space else
     if bytes_eq command (codes "check") then check else
-    if bytes_eq command (codes "snapshots") then snapshots else
+    if bytes_eq command (codes "snapshots") then option_map Snapshots volume else
+    if bytes_eq command (codes "usage") then option_map Usage volume else
     if bytes_eq command (codes "ls") then option_map (λ b. Ls b.0 b.1) browse else
     if bytes_eq command (codes "tree") then option_map (λ b. Tree b.0 b.1) browse else
     if bytes_eq command (codes "cat") then option_map (λ b. Cat b.0 b.1) browse else
@@ -109,6 +110,6 @@ line_named command by_image check snapshots browse xattr =
 -- what a line of words asks for; None where the words are no line of the program
 abbrev pub line_of : List Text → Option Asked
 line_of (command ∷ image ∷ rest) = line_named command (λ asked. alone asked rest)
-    (read check_words check_by rest) (read snapshots_words snapshots_by rest)
+    (read check_words check_by rest) (read volume_words volume_alone rest)
     (read target_words browse_by rest) (read xattr_words xattr_by rest)
 line_of words = None

@@ -1,7 +1,7 @@
 //! The clap commands that read the words after the image.
 ghost use Rattle.std.specs.Prelude.{◌≡◌, IfOk, false};
 ghost use Rattle.clap.specs.Words.{app_of, rule_of};
-ghost use Rattle.cmd_words.specs.Commands.{bare_app, check_app, flag_rule, option_rule, place_rule, snapshots_app, target_app, with_flags, with_view, xattr_app};
+ghost use Rattle.cmd_words.specs.Commands.{bare_app, check_app, flag_rule, option_rule, place_rule, target_app, volume_app, with_flags, with_view, xattr_app};
 
 use clap::{Arg, ArgAction, Command};
 use std::alloc::{AllocError, Global};
@@ -89,8 +89,8 @@ pub fn check_command<'a>(alloc: Global) -> Result<Command<'a>, AllocError>
 }
 
 /// `[--volume N]`.
-pub fn snapshots_command<'a>(alloc: Global) -> Result<Command<'a>, AllocError>
-    ensures { IfOk result (λ command. app_of command ≡ snapshots_app) }
+pub fn volume_command<'a>(alloc: Global) -> Result<Command<'a>, AllocError>
+    ensures { IfOk result (λ command. app_of command ≡ volume_app) }
 {
     bare_command(alloc).arg(option(alloc, "volume"))
 }

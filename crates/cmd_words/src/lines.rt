@@ -35,6 +35,8 @@ pub enum Line<'a> {
     Check(bool),
     /// The snapshots of the volume in a slot, from 0 to 99, where one is named.
     Snapshots(Option<u8>),
+    /// How many blocks each view of the volume in a slot, from 0 to 99, keeps from being freed, where one is named.
+    Usage(Option<u8>),
     /// What a directory has.
     Ls(Flags, Target<'a>),
     /// What is under a directory.

@@ -1,7 +1,7 @@
 //! The parts of a line, from what clap found in its words.
 ghost use Rattle.std.specs.Prelude.{◌≡◌, is_some, option_map};
 ghost use Rattle.clap.specs.Words.{first_of, found_of, rows_of};
-ghost use Rattle.cmd_words.specs.Lines.{browse_by, check_by, flags_by, small_number, snapshots_by, target_by, volume_by, xattr_by};
+ghost use Rattle.cmd_words.specs.Lines.{browse_by, check_by, flags_by, small_number, target_by, volume_alone, volume_by, xattr_by};
 ghost use Rattle.cmd_words.specs.Asked.{asked_by, browse_asked, flags_asked, target_asked};
 
 use crate::lines::{Flags, Line, Target};
@@ -99,12 +99,9 @@ pub fn check_in<'a>(matches: &ArgMatches<'a>) -> Option<Line<'a>>
     Some(Line::Check(is_said(matches, "strict")))
 }
 
-/// The line that asks for snapshots.
-pub fn snapshots_in<'a>(matches: &ArgMatches<'a>) -> Option<Line<'a>>
-    ensures { option_map asked_by result ≡ snapshots_by (λ name. first_of name (rows_of (found_of matches.now))) }
+/// The volume, where one is named; None where what names it is no number of a volume.
+pub fn volume_in(matches: &ArgMatches<'_>) -> Option<Option<u8>>
+    ensures { result ≡ volume_alone (λ name. first_of name (rows_of (found_of matches.now))) }
 {
-    let Some(volume) = volume_of(text_in(matches, "volume")) else {
-        return None;
-    };
-    Some(Line::Snapshots(volume))
+    volume_of(text_in(matches, "volume"))
 }

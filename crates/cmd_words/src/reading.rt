@@ -2,14 +2,14 @@
 ghost use Rattle.std.specs.Prelude.{◌≡◌, IfOk, map, option_map, true};
 ghost use Rattle.std.specs.String.{string_bytes};
 ghost use Rattle.clap.specs.Words.{app_of, found_of, is_simple_and_free, rows_of};
-ghost use Rattle.cmd_words.specs.Asked.{asked_by, browse_asked};
+ghost use Rattle.cmd_words.specs.Asked.{Snapshots, Usage, asked_by, browse_asked};
 ghost use Rattle.cmd_words.specs.ByClap.{line_by_clap, read_by_clap};
-ghost use Rattle.cmd_words.specs.Commands.{check_app, found_in, snapshots_app, target_app, xattr_app};
-ghost use Rattle.cmd_words.specs.Lines.{alone, browse_by, check_by, line_of, snapshots_by, xattr_by};
+ghost use Rattle.cmd_words.specs.Commands.{check_app, found_in, target_app, volume_app, xattr_app};
+ghost use Rattle.cmd_words.specs.Lines.{alone, browse_by, check_by, line_of, volume_alone, xattr_by};
 
-use crate::commands::{check_command, snapshots_command, target_command, xattr_command};
+use crate::commands::{check_command, target_command, volume_command, xattr_command};
 use crate::lines::{Flags, Line, Target};
-use crate::parts::{browse_in, check_in, snapshots_in, xattr_in};
+use crate::parts::{browse_in, check_in, volume_in, xattr_in};
 use clap::error::ErrorKind;
 use clap::{ArgMatches, Command};
 use std::alloc::{AllocError, Global};
@@ -78,15 +78,36 @@ fn xattr_line<'a>(alloc: Global, rest: &'a [String]) -> Result<Option<Line<'a>>,
     Ok(xattr_in(&matches))
 }
 
+// The volume, where one is named.
+fn volume_said(alloc: Global, rest: &[String]) -> Result<Option<Option<u8>>, AllocError>
+    ensures { IfOk result (λ volume. volume ≡ read_by_clap volume_app volume_alone (map string_bytes rest.now)) }
+{
+    let Some(matches) = found(volume_command(alloc)?, rest)? else {
+        return Ok(None);
+    };
+    Ok(volume_in(&matches))
+}
+
 // The line that asks for snapshots.
 fn snapshots_line<'a>(alloc: Global, rest: &'a [String]) -> Result<Option<Line<'a>>, AllocError>
     ensures { IfOk result (λ line. option_map asked_by line
-        ≡ read_by_clap snapshots_app snapshots_by (map string_bytes rest.entry.now)) }
+        ≡ option_map Snapshots (read_by_clap volume_app volume_alone (map string_bytes rest.entry.now))) }
 {
-    let Some(matches) = found(snapshots_command(alloc)?, rest)? else {
-        return Ok(None);
-    };
-    Ok(snapshots_in(&matches))
+    match volume_said(alloc, rest)? {
+        Some(volume) => Ok(Some(Line::Snapshots(volume))),
+        None => Ok(None),
+    }
+}
+
+// The line that asks how many blocks views keep from being freed.
+fn usage_line<'a>(alloc: Global, rest: &'a [String]) -> Result<Option<Line<'a>>, AllocError>
+    ensures { IfOk result (λ line. option_map asked_by line
+        ≡ option_map Usage (read_by_clap volume_app volume_alone (map string_bytes rest.entry.now))) }
+{
+    match volume_said(alloc, rest)? {
+        Some(volume) => Ok(Some(Line::Usage(volume))),
+        None => Ok(None),
+    }
 }
 
 // The line that the words are, by clap's definitions.
@@ -103,6 +124,7 @@ fn line_by_clap<'a>(alloc: Global, words: &'a [String]) -> Result<Option<Line<'a
         "space" => Ok(alone(Line::Space, rest)),
         "check" => check_line(alloc, rest),
         "snapshots" => snapshots_line(alloc, rest),
+        "usage" => usage_line(alloc, rest),
         "ls" => Ok(browse_said(alloc, rest)?.map(|(flags, target)| Line::Ls(flags, target))),
         "tree" => Ok(browse_said(alloc, rest)?.map(|(flags, target)| Line::Tree(flags, target))),
         "cat" => Ok(browse_said(alloc, rest)?.map(|(flags, target)| Line::Cat(flags, target))),

@@ -117,6 +117,8 @@ pub enum Image {
     Views,
     /// Its superblock names the volume in slot 3.
     ViewsLater,
+    /// Its first snapshot has this name.
+    ViewsNamed(&'static str),
     /// The block of this number has other bytes from a place on, and a right sum.
     ViewsChanged(usize, usize, &'static [u8]),
     /// A container whose volume has one file with five bytes.
@@ -169,6 +171,19 @@ fn two(alloc: Global) -> Result<Vec<u8>, Fail> {
     let mut other = sample(alloc, Sample::S)?;
     if let Some(volume) = other.volumes.pop() {
         plan.volumes.push(volume)?;
+    }
+    made(alloc, &plan)
+}
+
+// A container whose volume has two snapshots, the first of them of this name.
+fn views_named(alloc: Global, name: &str) -> Result<Vec<u8>, Fail> {
+    let mut plan = sample(alloc, Sample::V)?;
+    for volume in plan.volumes.iter_mut() {
+        for version in volume.versions.iter_mut() {
+            if version.xid == 2 {
+                version.snapshot = Some(name.as_bytes().to_vec(alloc)?);
+            }
+        }
     }
     made(alloc, &plan)
 }
@@ -331,6 +346,7 @@ fn bytes(alloc: Global, image: Image) -> Result<Vec<u8>, Fail> {
         Image::Views | Image::ViewsLater | Image::ViewsChanged(..) => {
             made(alloc, &sample(alloc, Sample::V)?)
         }
+        Image::ViewsNamed(name) => views_named(alloc, name),
         Image::Hello => made(alloc, &sample(alloc, Sample::H)?),
         Image::Flagged(flags) => {
             with_file(alloc, Sample::H, "hello.txt", flags, 5, &[(0, 4096, 57)])
@@ -379,7 +395,7 @@ fn change(image: Image, bytes: &mut [u8]) -> bool {
         Image::TwoExchanged => exchange_keys(bytes, MAP_TREE),
         Image::Disk(disk) => write_table(bytes, disk),
         Image::Absent | Image::Empty | Image::Small | Image::Views | Image::Hello => true,
-        Image::Files(_) | Image::Named(..) | Image::Queued => true,
+        Image::Files(_) | Image::Named(..) | Image::Queued | Image::ViewsNamed(_) => true,
         Image::Backwards | Image::ShortInode => true,
         Image::Unhashed | Image::Made(..) => true,
         Image::Flagged(_) | Image::Streamed(..) | Image::Link | Image::LinkUnsaid => true,

@@ -42,6 +42,8 @@ fn right_lines_say_their_parts(rt: HostRuntime) -> Result<(), AllocError> {
         ("snapshots|img", Line::Snapshots(None)),
         ("snapshots|img|--volume=2", Line::Snapshots(Some(2))),
         ("snapshots|img|--", Line::Snapshots(None)),
+        ("usage|img", Line::Usage(None)),
+        ("usage|--|--volume|41", Line::Usage(Some(41))),
         ("ls|img|/", Line::Ls(plain(), at("/", None, None))),
         (
             "ls|img|a|--quick",
@@ -187,6 +189,12 @@ fn wrong_words_are_no_line(rt: HostRuntime) -> Result<(), AllocError> {
         "snapshots|img|a",
         "snapshots|img|--strict",
         "snapshots|img|--snapshot=a",
+        "usage",
+        "usage|img|1",
+        "usage|img|--volume=100",
+        "usage|img|--snapshot=a",
+        "usage|img|--strict",
+        "usage|img|--quick",
     ];
     for text in rows {
         let as_said = asks_for(rt.alloc(), text, None)?;

@@ -1,4 +1,4 @@
--- The words ask for an image that is made, or for a command on one.
+-- The words ask for an image that is made, or for something else.
 use Rattle.std.proofs.Common.{◌≡◌, ◌∙◌, sym, map}
 use Rattle.std.specs.Prelude.{Some, None}
 use Rattle.std.specs.String.{string_bytes}
@@ -15,4 +15,4 @@ returns-in-Some c =
 pub returns-in-None : goal.returns-in-None
 returns-in-None c =
     let same : None ≡ gen_files (map string_bytes c.args.words.now) = sym c.in-None.is ∙ c.files_in.ensures in
-    IfOk-weaker c.order_in.result _ _ (λ r h. h ∙ plain_without (map string_bytes c.args.words.now) same) c.order_in.ensures
+    IfOk-weaker c.new_or_command_in.result _ _ (λ r h. h ∙ plain_without (map string_bytes c.args.words.now) same) c.new_or_command_in.ensures

@@ -1,0 +1,18 @@
+-- The blocks are put, or there is no memory for the name.
+use Rattle.std.proofs.Common.{[], subst, refl}
+use Rattle.img_format.specs.declared.spec.Spec.{Spec}
+use Rattle.img_format.specs.Fresh.{fresh}
+use Rattle.apfs_cli.specs.Handed.{made}
+use Rattle.apfs_cli.specs.Words.{Format, spec_of}
+use Rattle.apfs_cli.specs.Written.{sunk, IsPut}
+use Rattle.apfs_cli.proofs.Endings.{put_ended, no_memory_ended}
+use Rattle.apfs_cli.proofs.commands.new_container.write.Goals as goal
+
+pub returns-in-Ok : goal.returns-in-Ok
+returns-in-Ok g c =
+    let out = sunk g.W.Sink.contents g.W.Sink.faults c.args.out.now c.put_blocks.new.out in
+    let P : Spec → Type 0 = λ spec. IsPut (fresh spec) c.put_blocks.result out in
+    put_ended (Format (spec_of c.args.wanted)) (made []) (fresh (spec_of c.args.wanted)) c.put_blocks.result out refl (λ image given. refl) (subst P c.in-Ok.ensures c.put_blocks.ensures)
+
+pub returns-in-Err : goal.returns-in-Err
+returns-in-Err g c = no_memory_ended (Format (spec_of c.args.wanted)) (made []) (g.W.Sink.contents c.args.out.now) (g.W.Sink.faults c.args.out.now)
