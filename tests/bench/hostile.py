@@ -18,7 +18,7 @@ import sys
 import tempfile
 
 sys.dont_write_bytecode = True
-from container import BLOCK, EPHEMERAL, FILE, FOLDER, PHYSICAL, Container, Volume, entry, extent, folders, inode, laid, links, node, sealed, stream_id
+from container import BLOCK, EPHEMERAL, FILE, FOLDER, IS_LEAF, IS_ROOT, PHYSICAL, Container, Volume, entry, extent, folders, inode, laid, links, node, sealed, stream_id
 
 
 def plain_files(count, folder=2, first=16):
@@ -194,22 +194,46 @@ def many_volumes(count, path):
     return container.finish(path)
 
 
+def free_blocks(count, path):
+    """Blocks that nothing has"""
+    container = Container()
+    volume = Volume(container)
+    volume.finish(volume.files(folders()))
+    return container.finish(path, count)
+
+
+def repeated_child(count, path):
+    """Sixteen nodes, of which each but the last names the next one so often: as many leaves as n to the power of 15, for a walk that doesn't see that they are one"""
+    container = Container()
+    volume = Volume(container)
+    key, value = entry(1, "root", 2, FOLDER)
+    child = volume.put(lambda oid: node((oid, 1, 3, 0xE), IS_LEAF, 0, [(key, value)]))
+    for level in range(1, 15):
+        held = [(key, struct.pack("<Q", child))] * count
+        child = volume.put(lambda oid, held=held, level=level: node((oid, 1, 3, 0xE), 0, level, held))
+    info = struct.pack("<IIIIIIQQ", 0, BLOCK, 0, 0, 0, 0, 1, 16)
+    volume.finish(volume.put(lambda oid: node((oid, 1, 2, 0xE), IS_ROOT, 15, [(key, struct.pack("<Q", child))] * count, info)))
+    return container.finish(path)
+
+
 # The function, its least n, and the commands that are run.
-CHECK, TREE = ["check"], ["tree", "/"]
+CHECK, LS, TREE, CAT, SPACE, SNAPSHOTS = ["check"], ["ls", "/"], ["tree", "/"], ["cat", "/file", "--quick"], ["space"], ["snapshots"]
 SHAPES = {
-    "shared-tree": (shared_tree, 250, [CHECK]),
+    "shared-tree": (shared_tree, 250, [CHECK, SNAPSHOTS]),
     "other-roots": (other_roots, 250, [CHECK]),
     "own-leaf": (own_leaf, 125, [CHECK]),
-    "extents-in-snapshots": (extents_in_snapshots, 125, [CHECK]),
+    "extents-in-snapshots": (extents_in_snapshots, 125, [CHECK, CAT]),
     "ranges-under-all": (ranges_under_all, 4000, [CHECK]),
     "one-long": (one_long, 4000, [CHECK]),
     "random-ids": (random_ids, 2000, [CHECK]),
     "candidates": (candidates, 250, [["info"], CHECK]),
     "huge-mapping": (huge_mapping, 32, [["info"], CHECK]),
     "folder-chain": (folder_chain, 5000, [CHECK, TREE]),
-    "one-folder": (one_folder, 62500, [CHECK, TREE]),
+    "one-folder": (one_folder, 62500, [CHECK, LS, TREE]),
     "hard-links": (hard_links, 10000, [CHECK, TREE]),
     "many-volumes": (many_volumes, 12, [CHECK]),
+    "free-blocks": (free_blocks, 64000000, [CHECK, SPACE]),
+    "repeated-child": (repeated_child, 12, [CHECK]),
 }
 
 

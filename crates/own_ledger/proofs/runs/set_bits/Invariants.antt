@@ -1,7 +1,0 @@
-use Rattle.std.proofs.Common.{◌≡◌, ℕ, ◌||◌}
-use Rattle.apfs_model.specs.Bytes.{bit_at}
-use Rattle.own_ledger.specs.Places.{is_from}
-use Rattle.own_ledger.proofs.runs.set_bits.Given as goal
-
-abbrev pub invariant-bits : goal.invariant-bits
-invariant-bits l = (k : ℕ) → bit_at l.bits k ≡ (bit_at l.fn.bits k || is_from l.from l.place k)
