@@ -85,14 +85,6 @@ next_entered facts first row rest next entered e r h opened =
       | inr m ↦ entered r (inr m) opened
     ]
 
-pub under_opened : (facts : Facts) (row : List ℕ × Target) (before : List ℕ) → is_opened_target row.1 ≡ true → before ≡ row.0 ++ slash ∷ [] → map (told_after before) (map target_of (children facts row.1.id)) ≡ told_under facts row
-unfolding told_under
-under_opened facts row before e same = ap (λ b. told_of facts b row.1.id) same ∙ sym (ap (λ b. cond b (told_of facts (row.0 ++ slash ∷ []) row.1.id) []) e)
-
-pub under_closed : (facts : Facts) (row : List ℕ × Target) (left next : List (List ℕ × Target)) → is_opened_target row.1 ≡ false → next ≡ left → next ≡ told_under facts row ++ left
-unfolding told_under
-under_closed facts row left next e same = same ∙ sym (ap (λ b. cond b (told_of facts (row.0 ++ slash ∷ []) row.1.id) [] ++ left) e)
-
 -- ---- rows one by one
 pub popped : {X : Type 0} (old new : List X) (x : X) → old ≡ new ++ x ∷ [] → reverse old ≡ x ∷ reverse new
 popped old new x e = ap reverse e ∙ reverse-append new (x ∷ [])

@@ -6,3 +6,5 @@ pub mod Told
 pub mod Memos
 pub mod Entered
 pub mod Staying
+pub mod RowsKept
+pub mod RowsPut

@@ -1,5 +1,5 @@
 -- What the parts of a tree give. These are for the contracts of this crate's own functions; what `tree` promises is said elsewhere.
-use Rattle.std.specs.Prelude.{◌≡◌, ◌⊎◌, ℕ, zero, suc, nat_le, IfSome, Bool, true, ◌&&◌, ◌==◌, List, [], ◌∷◌, ◌++◌, Some, Result, Ok, Err, filter, map, if◌then◌else◌}
+use Rattle.std.specs.Prelude.{◌≡◌, ◌⊎◌, ◌≤◌, ℕ, zero, suc, length, take, nat_le, IfSome, Bool, true, ◌&&◌, ◌==◌, List, [], ◌∷◌, ◌++◌, Some, Result, Ok, Err, filter, map, if◌then◌else◌}
 use Rattle.std.specs.BTreeMap.{BTreeMap, get}
 use Rattle.std.specs.Ordering.{nat_cmp}
 use Rattle.apfs_model.specs.Lists.{In}
@@ -23,6 +23,8 @@ use Rattle.path_walk.specs.declared.stop.PathStop.{PathStop}
 use Rattle.path_walk.specs.declared.target.Target.{Target}
 use Rattle.path_walk.specs.declared.stop.PathStop.TheVariants as stops
 use Rattle.path_walk.specs.Parts.{whats, Remembers, HasEntries, IsLack}
+use Rattle.view_tree.specs.Kept.{path_after}
+use Rattle.view_tree.specs.declared.kept.Row.{Row}
 
 -- ---- trees, of rows as they are told
 -- a directory that is entered where it is met on the way
@@ -40,6 +42,24 @@ told_of facts before id = map (told_after before) (map target_of (children facts
 -- the rows right under a row
 unfoldable pub told_under : Facts → List ℕ × Target → List (List ℕ × Target)
 told_under facts row = if is_opened_target row.1 then told_of facts (row.0 ++ slash ∷ []) row.1.id else []
+
+-- a target as a row that shares so many bytes of its path
+abbrev pub row_at : ℕ → Target → Row
+row_at shared target = record { shared = shared; target = target }
+
+-- the rows right under a target, as they are kept
+unfoldable pub kept_under : Facts → ℕ → Target → List Row
+kept_under facts shared target = if is_opened_target target then map (row_at shared) (map target_of (children facts target.id)) else []
+
+-- rows that are left, as they are told: each after a front of what the one above it was told after
+abbrev pub left_told : List ℕ → List Row → List (List ℕ × Target)
+left_told before [] = []
+left_told before (row ∷ rows) = (path_after before row, row.target) ∷ left_told (take row.shared before) rows
+
+-- what they share is there
+abbrev pub Fits : List ℕ → List Row → Type 0
+Fits before [] = Unit {0}
+Fits before (row ∷ rows) = (row.shared ≤ length before) × Fits (take row.shared before) rows
 
 -- n rows of a tree, or all
 abbrev pub told_from : Facts → ℕ → List (List ℕ × Target) → List (List ℕ × Target)

@@ -2,6 +2,10 @@
 #![tactic(auto)]
 
 mod depth;
+mod kept;
+mod lines;
 mod under;
 
-pub use depth::tree;
+pub use depth::{tree, tree_rows};
+pub use kept::{KeptRows, PutStop};
+pub use lines::push_line;

@@ -5,17 +5,18 @@ ghost use Rattle.std.specs.Ordering.{nat_cmp};
 ghost use Rattle.obj_base.specs.declared.stop.Stop.TheVariants as stops;
 ghost use Rattle.obj_base.specs.declared.stop.Stop.TheVariants.{ReadFault};
 ghost use Rattle.view_rules.specs.Facts.{Facts};
-ghost use Rattle.path_walk.specs.Paths.{slash};
 ghost use Rattle.path_walk.specs.Places.{target_of};
 ghost use Rattle.path_walk.specs.Found.{found};
 ghost use Rattle.path_walk.specs.Listing.{children};
 ghost use Rattle.view_tree.specs.Tree as spec;
+ghost use Rattle.view_tree.specs.Kept.{told_rows};
 ghost use Rattle.view_tree.specs.Met.{spot_in, is_user_id, IsEntryOf, IsEntered, IsMet, IsMetTwice, IsShownTwice, HaveMetFiles};
 ghost use Rattle.path_walk.specs.Needs.{PathNeeds};
 ghost use Rattle.path_walk.specs.Stops.{IsNoAnswer};
 ghost use Rattle.path_walk.specs.Parts.{whats, by_part, along, targets_by, Remembers, PartNeeds, AlongNeeds, WhereTold, of_any};
-ghost use Rattle.view_tree.specs.Parts.{is_opened_target, told_after, told_of, told_under, told_from, IsMemo, IsTaken, TakesFrom, HasAll, IsUnderway, IsTreeStop, IsTreeKnown, StaysKept, AreKeptIn, AreRowsKept, KeepsTaken, KeepsFrom, KeepsPath};
+ghost use Rattle.view_tree.specs.Parts.{is_opened_target, told_of, told_from, row_at, kept_under, IsMemo, IsTaken, TakesFrom, HasAll, IsUnderway, IsTreeStop, IsTreeKnown, StaysKept, AreKeptIn, AreRowsKept, KeepsTaken, KeepsFrom, KeepsPath};
 
+use crate::kept::{KeptRows, Row};
 use apfs_model::{Bytes, NoMemory};
 use fs_name::{Names, push_shown};
 use obj_base::Stop;
@@ -23,7 +24,7 @@ use path_walk::by_memory::{go_by, place_in, root};
 use path_walk::choice::{choose_number, parts};
 use path_walk::order::by_name;
 use path_walk::{Files, KeptEntry, PathStop, Place, ROOT, Target};
-use std::alloc::{AllocError, Global};
+use std::alloc::Global;
 use std::collections::BTreeMap;
 use view_rules::{IdAt, TreeFault};
 use vol_view::View;
@@ -153,61 +154,34 @@ fn enter(
     Ok(sorted)
 }
 
-// The row of a target, after what leads to it.
-fn row_after(
-    alloc: Global,
-    before: &[u8],
-    target: Target,
-) -> Result<(Bytes, Target), Stop<PathStop>>
+// Puts targets on the rows that are left, the first of them on top.
+fn put_on(shared: usize, targets: Vec<Target>, left: &mut Vec<Row>) -> Result<(), Stop<PathStop>>
     ensures no_read { IsErrOf result ReadFault → ⊥ }
-    ensures row { IfOk result (λ row. row ≡ told_after before.now target) }
-    ensures memory { IfErr result (λ stop. stop ≡ stops.NoMemory) }
-{
-    let mut path = before.to_vec(alloc)?;
-    push_shown(&mut path, target.name.as_slice())?;
-    let path = Bytes::from_slice(alloc, &path)?;
-    Ok((path, target))
-}
-
-// Puts the rows of some targets on those that are left, the first of them on top.
-fn put_on(
-    alloc: Global,
-    before: &[u8],
-    targets: Vec<Target>,
-    left: &mut Vec<(Bytes, Target)>,
-) -> Result<(), Stop<PathStop>>
-    ensures no_read { IsErrOf result ReadFault → ⊥ }
-    ensures put { OnOk result (reverse left.new.items ≡ map (told_after before.now) targets.items ++ reverse left.old.items) }
+    ensures put { OnOk result (reverse left.new.items ≡ map (row_at shared) targets.items ++ reverse left.old.items) }
     ensures memory { IfErr result (λ stop. stop ≡ stops.NoMemory) }
 {
     let mut targets = targets;
     'put: while let Some(target) = targets.pop() {
-        left.push(row_after(alloc, before, target)?)?;
+        left.push(Row { shared, target })?;
     }
     Ok(())
 }
 
-// The row of a place that is no directory.
-fn lone_row(alloc: Global, place: Place) -> Result<(Bytes, Target), Stop<PathStop>>
+// The row of a place that is no directory: the path of the root is its name, and that of another one is its name as it is shown.
+fn lone_row(alloc: Global, place: Place) -> Result<KeptRows, Stop<PathStop>>
     ensures no_read { IsErrOf result ReadFault → ⊥ }
-    ensures row { IfOk result (λ row. row ≡ spec.row_told (spec.lone_row place)) }
+    ensures row { IfOk result (λ rows. rows ≡ spec.row_told (spec.lone_row place) ∷ []) }
     ensures memory { IfErr result (λ stop. stop ≡ stops.NoMemory) }
 {
     let target = place.target();
-    if target.id != ROOT {
-        return row_after(alloc, b"", target);
+    let mut path = Vec::new(alloc);
+    if target.id == ROOT {
+        path.extend_from_slice(target.name.as_slice())?;
+    } else {
+        push_shown(&mut path, target.name.as_slice())?;
     }
-    let path = Bytes::from_slice(alloc, target.name.as_slice())?;
-    Ok((path, target))
-}
-
-// What leads to the rows under a row: its path and a slash.
-fn before_under(alloc: Global, path: &Bytes) -> Result<Vec<u8>, AllocError>
-    ensures { IfOk result (λ before. before.items ≡ path.now ++ slash ∷ []) }
-{
-    let mut before = path.as_slice().to_vec(alloc)?;
-    before.push(b'/')?;
-    Ok(before)
+    let path = Bytes::from_slice(alloc, path.as_slice())?;
+    Ok(KeptRows::lone(path, target))
 }
 
 // Puts the rows right under a row on those that are left.
@@ -216,24 +190,24 @@ fn go_under(
     files: &Files,
     view: &View,
     memo: &mut BTreeMap<u64, (u64, usize)>,
-    row: &(Bytes, Target),
-    left: &mut Vec<(Bytes, Target)>,
+    target: &Target,
+    shared: usize,
+    left: &mut Vec<Row>,
 ) -> Result<(), Stop<PathStop>>
     ensures no_read { IsErrOf result ReadFault → ⊥ }
-    ensures gives { (facts : Facts) (path : List ℕ) (first : ℕ) → IsUnderway facts path first files.now.entries.items files.now.inodes.items → (is_opened_target row.now.1 ≡ true → IsEntered facts first row.now.1.id) → IsMemo facts path memo.old → OnOk result (reverse left.new.items ≡ told_under facts row.now ++ reverse left.old.items) }
-    ensures kept { (facts : Facts) (path : List ℕ) (first : ℕ) → IsUnderway facts path first files.now.entries.items files.now.inodes.items → (is_opened_target row.now.1 ≡ true → IsEntered facts first row.now.1.id) → IsMemo facts path memo.old → OnOk result (IsMemo facts path memo.new) }
-    ensures stops { (facts : Facts) (path : List ℕ) (first : ℕ) → IsUnderway facts path first files.now.entries.items files.now.inodes.items → (is_opened_target row.now.1 ≡ true → IsEntered facts first row.now.1.id) → IsMemo facts path memo.old → IfErr result (IsTreeStop facts view.now path) }
-    ensures all { (facts : Facts) (path : List ℕ) (first : ℕ) → IsUnderway facts path first files.now.entries.items files.now.inodes.items → (is_opened_target row.now.1 ≡ true → IsEntered facts first row.now.1.id) → IsMemo facts path memo.old → OnOk result (StaysKept memo.old memo.new × (is_opened_target row.now.1 ≡ true → AreKeptIn facts memo.new row.now.1.id)) }
+    ensures gives { (facts : Facts) (path : List ℕ) (first : ℕ) → IsUnderway facts path first files.now.entries.items files.now.inodes.items → (is_opened_target target.now ≡ true → IsEntered facts first target.now.id) → IsMemo facts path memo.old → OnOk result (reverse left.new.items ≡ kept_under facts shared target.now ++ reverse left.old.items) }
+    ensures kept { (facts : Facts) (path : List ℕ) (first : ℕ) → IsUnderway facts path first files.now.entries.items files.now.inodes.items → (is_opened_target target.now ≡ true → IsEntered facts first target.now.id) → IsMemo facts path memo.old → OnOk result (IsMemo facts path memo.new) }
+    ensures stops { (facts : Facts) (path : List ℕ) (first : ℕ) → IsUnderway facts path first files.now.entries.items files.now.inodes.items → (is_opened_target target.now ≡ true → IsEntered facts first target.now.id) → IsMemo facts path memo.old → IfErr result (IsTreeStop facts view.now path) }
+    ensures all { (facts : Facts) (path : List ℕ) (first : ℕ) → IsUnderway facts path first files.now.entries.items files.now.inodes.items → (is_opened_target target.now ≡ true → IsEntered facts first target.now.id) → IsMemo facts path memo.old → OnOk result (StaysKept memo.old memo.new × (is_opened_target target.now ≡ true → AreKeptIn facts memo.new target.now.id)) }
 {
-    if !is_opened(&row.1) {
+    if !is_opened(target) {
         return Ok(());
     }
-    let targets = match enter(alloc, files, view, memo, row.1.id) {
+    let targets = match enter(alloc, files, view, memo, target.id) {
         Ok(targets) => targets,
         Err(stop) => return Err(stop),
     };
-    let before = before_under(alloc, &row.0)?;
-    match put_on(alloc, &before, targets, left) {
+    match put_on(shared, targets, left) {
         Ok(()) => Ok(()),
         Err(stop) => Err(stop),
     }
@@ -246,27 +220,31 @@ fn rows_below(
     view: &View,
     memo: &mut BTreeMap<u64, (u64, usize)>,
     id: u64,
-) -> Result<Vec<(Bytes, Target)>, Stop<PathStop>>
+) -> Result<Vec<Row>, Stop<PathStop>>
     ensures no_read { IsErrOf result ReadFault → ⊥ }
-    ensures gives { (facts : Facts) (path : List ℕ) → IsUnderway facts path id files.now.entries.items files.now.inodes.items → IsMemo facts path memo.old → IfOk result (λ rows. rows.items ≡ told_from facts (length facts.entries) (told_of facts [] id)) }
+    ensures gives { (facts : Facts) (path : List ℕ) → IsUnderway facts path id files.now.entries.items files.now.inodes.items → IsMemo facts path memo.old → IfOk result (λ rows. told_rows [] rows.items ≡ told_from facts (length facts.entries) (told_of facts [] id)) }
     ensures stops { (facts : Facts) (path : List ℕ) → IsUnderway facts path id files.now.entries.items files.now.inodes.items → IsMemo facts path memo.old → IfErr result (IsTreeStop facts view.now path) }
-    ensures all { (facts : Facts) (path : List ℕ) → IsUnderway facts path id files.now.entries.items files.now.inodes.items → IsMemo facts path memo.old → IfOk result (λ rows. StaysKept memo.old memo.new × (AreKeptIn facts memo.new id × AreRowsKept facts memo.new rows.items)) }
+    ensures all { (facts : Facts) (path : List ℕ) → IsUnderway facts path id files.now.entries.items files.now.inodes.items → IsMemo facts path memo.old → IfOk result (λ rows. StaysKept memo.old memo.new × (AreKeptIn facts memo.new id × AreRowsKept facts memo.new (told_rows [] rows.items))) }
 {
     let targets = match enter(alloc, files, view, memo, id) {
         Ok(targets) => targets,
         Err(stop) => return Err(stop),
     };
     let mut left = Vec::new(alloc);
-    match put_on(alloc, b"", targets, &mut left) {
+    match put_on(0, targets, &mut left) {
         Ok(()) => {}
         Err(stop) => return Err(stop),
     }
+    let mut path = Vec::new(alloc);
     let mut rows = Vec::new(alloc);
     'rows: while rows.len() < files.entries.len() {
         let Some(row) = left.pop() else {
             return Ok(rows);
         };
-        match go_under(alloc, files, view, memo, &row, &mut left) {
+        row.lead(&mut path)?;
+        path.push(b'/')?;
+        let shared = path.len();
+        match go_under(alloc, files, view, memo, &row.target, shared, &mut left) {
             Ok(()) => {}
             Err(stop) => return Err(stop),
         }
@@ -399,12 +377,12 @@ pub(crate) fn tree_in(
     names: Names,
     view: &View,
     path: &str,
-) -> Result<Vec<(Bytes, Target)>, Stop<PathStop>>
+) -> Result<KeptRows, Stop<PathStop>>
     ensures no_read { IsErrOf result ReadFault → ⊥ }
-    ensures known { (facts : Facts) → facts.names ≡ names → Remembers facts files.now.entries.items files.now.inodes.items → IsTreeKnown facts view.now path.now (λ rows. rows.items) (spec.tree facts path.now) result }
+    ensures known { (facts : Facts) → facts.names ≡ names → Remembers facts files.now.entries.items files.now.inodes.items → IsTreeKnown facts view.now path.now (λ rows. rows) (spec.tree facts path.now) result }
     ensures needs { (facts : Facts) → facts.names ≡ names → Remembers facts files.now.entries.items files.now.inodes.items → WhereTold (PathNeeds facts of_any path.now) result }
-    ensures files { (facts : Facts) → facts.names ≡ names → Remembers facts files.now.entries.items files.now.inodes.items → IfOk result (λ rows. HaveMetFiles facts path.now rows.items) }
-    ensures clear { (facts : Facts) → facts.names ≡ names → Remembers facts files.now.entries.items files.now.inodes.items → IfOk result (λ rows. (id : ℕ) → IsShownTwice facts path.now rows.items id → ⊥) }
+    ensures files { (facts : Facts) → facts.names ≡ names → Remembers facts files.now.entries.items files.now.inodes.items → IfOk result (λ rows. HaveMetFiles facts path.now rows) }
+    ensures clear { (facts : Facts) → facts.names ≡ names → Remembers facts files.now.entries.items files.now.inodes.items → IfOk result (λ rows. (id : ℕ) → IsShownTwice facts path.now rows id → ⊥) }
 {
     let mut memo = BTreeMap::new(alloc);
     let place = match trace(alloc, files, names, view, &mut memo, path) {
@@ -412,16 +390,14 @@ pub(crate) fn tree_in(
         Err(stop) => return Err(stop),
     };
     if !place.is_directory() {
-        let row = match lone_row(alloc, place) {
-            Ok(row) => row,
+        let rows = match lone_row(alloc, place) {
+            Ok(rows) => rows,
             Err(stop) => return Err(stop),
         };
-        let mut rows = Vec::new(alloc);
-        rows.push(row)?;
         return Ok(rows);
     }
     match rows_below(alloc, files, view, &mut memo, place.id()) {
-        Ok(rows) => Ok(rows),
+        Ok(rows) => Ok(KeptRows::below(rows)),
         Err(stop) => Err(stop),
     }
 }

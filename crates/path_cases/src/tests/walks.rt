@@ -3,14 +3,14 @@
 mod made;
 
 use apfs_model::Bytes;
-use blk_source::MemSource;
+use blk_source::{MemSink, MemSource};
 use img_make::Sample;
 use made::{Holds, open_view, source};
 use path_walk::{Target, find, list};
 use std::alloc::Global;
 use std::process::Abort;
 use std::test::Fail;
-use view_tree::tree;
+use view_tree::{PutStop, tree, tree_rows};
 
 // A path in the live view of an image, or in that of the snapshot of a number, and what is told of it.
 #[derive(Clone, Copy, Debug)]
@@ -189,6 +189,45 @@ fn trees_enter_each_directory_once(rt: HostRuntime) -> Result<(), Fail> {
         let told = grown(rt.alloc(), &mut src, case)?;
         assert_eq!(rt; told.as_str(), case.told, "{case:?}");
     }
+    Ok(())
+}
+
+// How the rows of a tree are put on a sink with room for so many bytes, and what the sink has then.
+fn put(
+    alloc: Global,
+    holds: Holds,
+    path: &str,
+    room: usize,
+) -> Result<(Result<(), PutStop>, Vec<u8>), Fail> {
+    let mut src = source(alloc, holds)?;
+    let at = open_view(alloc, &mut src, None)?;
+    let Ok(rows) = tree_rows(alloc, &mut src, &at.volume, &at.view, &at.site, path) else {
+        return Err(Fail::from("there are no rows"));
+    };
+    let mut out = MemSink::new(alloc, room, Vec::new(alloc))?;
+    let end = rows.put(alloc, &mut out);
+    let bytes = out.contents().to_vec(alloc)?;
+    Ok((end, bytes))
+}
+
+const LINES_OF_THE_ROOT: &str =
+    "- 21 0 Ab\n- 22 0 ReadMe\n- 20 0 aB\nd 16 0 d\n- 17 0 d/f\n- 23 0 no directory\nd 3 0 private\nd 7 0 reserved\n";
+
+#[test]
+fn rows_are_put_as_lines(rt: HostRuntime) -> Result<(), Fail> {
+    let alloc = rt.alloc();
+    for (holds, path, lines) in [
+        (Holds::Of(Sample::S), "/", ""),
+        (HELLO, "/hello.txt", "- 16 5 hello.txt\n"),
+        (Holds::Names, "/", LINES_OF_THE_ROOT),
+    ] {
+        let (end, bytes) = put(alloc, holds, path, 1000)?;
+        assert_eq!(rt; end, Ok(()));
+        assert_eq!(rt; bytes.as_slice(), lines.as_bytes(), "{path}");
+    }
+    let (end, bytes) = put(alloc, Holds::Names, "/", 10)?;
+    assert_eq!(rt; end, Err(PutStop::WriteFault));
+    assert_eq!(rt; bytes.as_slice(), b"- 21 0 Ab\n".as_slice());
     Ok(())
 }
 

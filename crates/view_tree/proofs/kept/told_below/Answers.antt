@@ -1,0 +1,14 @@
+use Rattle.std.proofs.Common.{◌≡◌, [], ap, sym, ◌∙◌}
+use Rattle.std.proofs.lemmas.Iterator.Adapters.{YieldsList-from_vec}
+use Rattle.std.proofs.lemmas.Iterator.Consumers.{YieldsList-end}
+use Rattle.std.proofs.lemmas.List.{map-id}
+use Rattle.view_tree.specs.Kept.{told_rows}
+use Rattle.view_tree.proofs.kept.told_below.Goals as goal
+
+pub returns-clause-told : goal.returns-clause-told
+returns-clause-told c =
+    let items = c.args.rows.items in
+    let given = c.into_iter-row-iterator.ensures.into_iter_gives in
+    let all = YieldsList-end (YieldsList-from_vec {s = c.into_iter-row-iterator.result} items given.0 (given.1 ∙ c.args.rows.ok.0)) c.rows.yielded c.rows.row-iterator c.rows.yielded_by _ c.next.new.self c.in-None.is c.next.ensures.steps in
+    let same : c.rows.yielded ≡ items = sym (map-id c.rows.yielded) ∙ all.0 in
+    c.rows.invariant.told ∙ ap (told_rows []) same

@@ -1,0 +1,242 @@
+// The rows of a tree, as they are kept, told and put.
+ghost use Rattle.std.specs.Prelude.{◌≡◌, ◌++◌, ◌≤◌, ℕ, List, [], ◌∷◌, Ok, Err, IfOk, IfErr, OnOk, IsErrOf};
+ghost use Rattle.apfs_model.specs.Counts.{Rose};
+ghost use Rattle.apfs_model.specs.Sink.{Wrote, WrotePart};
+ghost use Rattle.obj_base.specs.declared.stop.Stop.TheVariants as stops;
+ghost use Rattle.obj_base.specs.declared.stop.Stop.TheVariants.{ReadFault};
+ghost use Rattle.path_walk.specs.Paths.{slash};
+ghost use Rattle.path_walk.specs.declared.target.Target.{Target};
+ghost use Rattle.view_tree.specs.Kept.{path_after, told_rows, held_told};
+ghost use Rattle.view_tree.specs.Puts.{IsPut, Passes};
+ghost use Rattle.view_tree.specs.Texts.{row_text, tree_text};
+ghost use Rattle.view_tree.specs.declared.kept.PutStop.TheVariants as puts;
+
+use crate::lines::push_line;
+use apfs_model::Bytes;
+use blk_source::Sink;
+use fs_name::push_shown;
+use obj_base::Stop;
+use path_walk::{PathStop, Target};
+use std::alloc::{AllocError, Global};
+use std::marker::Model;
+
+// How many bytes of lines wait before they are put.
+const PIECE: usize = 65536;
+
+/// Why rows weren't all put.
+#[derive(Clone, Copy, PartialEq, Eq, Debug)]
+pub enum PutStop {
+    WriteFault,
+    NoMemory,
+}
+
+impl From<AllocError> for PutStop {
+    ghost from_gives = { λ _ e. e ≡ puts.NoMemory };
+
+    fn from(_: AllocError) -> Self {
+        PutStop::NoMemory
+    }
+}
+
+/// A row: how many bytes its path shares with that of the row before it and a slash, and its target.
+#[derive(Drop)]
+pub(crate) struct Row {
+    pub(crate) shared: usize,
+    pub(crate) target: Target,
+}
+
+impl Row {
+    /// Makes the path of the row out of that of the row before it and a slash.
+    pub(crate) fn lead(&self, path: &mut Vec<u8>) -> Result<(), AllocError>
+        ensures { OnOk result (path.new.items ≡ path_after path.old.items self.now) }
+    {
+        path.truncate(self.shared);
+        push_shown(path, self.target.name.as_slice())
+    }
+}
+
+// The rows of a tree: that of what is no directory, or those below a directory.
+#[derive(Drop)]
+enum Held {
+    Lone(Bytes, Target),
+    Below(Vec<Row>),
+}
+
+/// The rows of a tree. A path is kept but once: each row has its name, and how much of its path is that of the row before it.
+#[derive(Drop)]
+pub struct KeptRows {
+    held: Held,
+}
+
+impl Model for KeptRows {
+    ghost use Rattle.std.specs.Prelude.{ℕ, List};
+    ghost use Rattle.path_walk.specs.declared.target.Target.{Target};
+    ghost use Rattle.view_tree.specs.Kept.{held_told};
+
+    ghost Value = { List (List ℕ × Target) };
+
+    ghost view = { λ a. held_told a.held };
+}
+
+// Puts what waits, if anything does.
+#[tactic(auto, using(crate::proofs::RowsPut::put_none))]
+fn put_waiting<W: Sink>(waiting: &mut Vec<u8>, out: &mut W) -> Result<(), PutStop>
+    ensures put { IsPut waiting.old.items result (W.contents out.old) (W.contents out.new) (W.faults out.old) (W.faults out.new) }
+    ensures none { OnOk result (waiting.new.items ≡ []) }
+{
+    if waiting.is_empty() {
+        return Ok(());
+    }
+    match out.put(waiting.as_slice()) {
+        Ok(()) => {
+            waiting.clear();
+            Ok(())
+        }
+        Err(_) => Err(PutStop::WriteFault),
+    }
+}
+
+// Adds the line of a row to those that wait, and makes of its path what the next one is told after.
+fn add_line(
+    alloc: Global,
+    row: &Row,
+    path: &mut Vec<u8>,
+    waiting: &mut Vec<u8>,
+) -> Result<(), AllocError>
+    ensures path { OnOk result (path.new.items ≡ path_after path.old.items row.now ++ slash ∷ []) }
+    ensures line { OnOk result (waiting.new.items ≡ waiting.old.items ++ row_text (path_after path.old.items row.now, row.now.target)) }
+{
+    row.lead(path)?;
+    push_line(alloc, waiting, &row.target, path.as_slice())?;
+    path.push(b'/')?;
+    Ok(())
+}
+
+// Adds the line of a row to those that wait, and puts them once they are many.
+#[tactic(auto, using(crate::proofs::RowsPut::none_cut, crate::proofs::RowsPut::passes_waits, crate::proofs::RowsPut::passes_put, crate::proofs::RowsPut::passes_cut))]
+fn pass<W: Sink>(
+    alloc: Global,
+    row: &Row,
+    path: &mut Vec<u8>,
+    waiting: &mut Vec<u8>,
+    out: &mut W,
+) -> Result<(), PutStop>
+    ensures path { OnOk result (path.new.items ≡ path_after path.old.items row.now ++ slash ∷ []) }
+    ensures passes { Passes waiting.old.items (row_text (path_after path.old.items row.now, row.now.target)) waiting.new.items result (W.contents out.old) (W.contents out.new) (W.faults out.old) (W.faults out.new) }
+{
+    add_line(alloc, row, path, waiting)?;
+    if waiting.len() < PIECE {
+        return Ok(());
+    }
+    match put_waiting(waiting, out) {
+        Ok(()) => Ok(()),
+        Err(stop) => Err(stop),
+    }
+}
+
+// Puts the line of each row below a directory, many at a time.
+fn put_below<W: Sink>(alloc: Global, rows: &[Row], out: &mut W) -> Result<(), PutStop>
+    ensures { IsPut (tree_text (told_rows [] rows.now)) result (W.contents out.old) (W.contents out.new) (W.faults out.old) (W.faults out.new) }
+{
+    let mut waiting = Vec::new(alloc);
+    let mut path = Vec::new(alloc);
+    'rows: for row in rows {
+        match pass(alloc, row, &mut path, &mut waiting, out) {
+            Ok(()) => {}
+            Err(stop) => return Err(stop),
+        }
+    }
+    put_waiting(&mut waiting, out)
+}
+
+// Puts the line of a row alone.
+#[tactic(auto, using(crate::proofs::RowsPut::none_cut, crate::proofs::RowsPut::put_alone))]
+fn put_lone<W: Sink>(
+    alloc: Global,
+    path: &[u8],
+    target: &Target,
+    out: &mut W,
+) -> Result<(), PutStop>
+    ensures { IsPut (tree_text ((path.now, target.now) ∷ [])) result (W.contents out.old) (W.contents out.new) (W.faults out.old) (W.faults out.new) }
+{
+    let mut line = Vec::new(alloc);
+    push_line(alloc, &mut line, target, path)?;
+    put_waiting(&mut line, out)
+}
+
+// Puts the line of each row.
+fn put_held<W: Sink>(alloc: Global, held: &Held, out: &mut W) -> Result<(), PutStop>
+    ensures { IsPut (tree_text (held_told held.now)) result (W.contents out.old) (W.contents out.new) (W.faults out.old) (W.faults out.new) }
+{
+    match held {
+        Held::Lone(path, target) => put_lone(alloc, path.as_slice(), target, out),
+        Held::Below(rows) => put_below(alloc, rows, out),
+    }
+}
+
+// The rows below a directory, each with its path.
+#[tactic(auto, using(crate::proofs::RowsKept::told_more, crate::proofs::RowsKept::path_more))]
+fn told_below(alloc: Global, rows: Vec<Row>) -> Result<Vec<(Bytes, Target)>, Stop<PathStop>>
+    ensures no_read { IsErrOf result ReadFault → ⊥ }
+    ensures memory { IfErr result (λ stop. stop ≡ stops.NoMemory) }
+    ensures told { IfOk result (λ told. told.items ≡ told_rows [] rows.items) }
+{
+    let mut told = Vec::new(alloc);
+    let mut path = Vec::new(alloc);
+    'rows: for row in rows {
+        row.lead(&mut path)?;
+        let shown = Bytes::from_slice(alloc, path.as_slice())?;
+        told.push((shown, row.target))?;
+        path.push(b'/')?;
+    }
+    Ok(told)
+}
+
+impl KeptRows {
+    /// The row of what is no directory.
+    pub(crate) fn lone(path: Bytes, target: Target) -> KeptRows
+        ensures { result ≡ (path, target) ∷ [] }
+    {
+        KeptRows {
+            held: Held::Lone(path, target),
+        }
+    }
+
+    /// The rows below a directory.
+    pub(crate) fn below(rows: Vec<Row>) -> KeptRows
+        ensures { result ≡ told_rows [] rows.items }
+    {
+        KeptRows {
+            held: Held::Below(rows),
+        }
+    }
+
+    /// Each row with its path.
+    pub(crate) fn told(self, alloc: Global) -> Result<Vec<(Bytes, Target)>, Stop<PathStop>>
+        ensures no_read { IsErrOf result ReadFault → ⊥ }
+        ensures memory { IfErr result (λ stop. stop ≡ stops.NoMemory) }
+        ensures told { IfOk result (λ rows. rows.items ≡ self) }
+    {
+        match self.held {
+            Held::Lone(path, target) => {
+                let mut told = Vec::new(alloc);
+                told.push((path, target))?;
+                Ok(told)
+            }
+            Held::Below(rows) => match told_below(alloc, rows) {
+                Ok(told) => Ok(told),
+                Err(stop) => Err(stop),
+            },
+        }
+    }
+
+    /// Puts the line of each row, as the command `tree` writes it. Its paths are made one by one, in one place.
+    pub fn put<W: Sink>(&self, alloc: Global, out: &mut W) -> Result<(), PutStop>
+        ensures put { OnOk result (Wrote (W.contents out.old) (W.contents out.new) (tree_text self.now)) }
+        ensures part { WrotePart (W.contents out.old) (W.contents out.new) (tree_text self.now) }
+        ensures cause { result ≡ Err puts.WriteFault → Rose (W.faults out.old) (W.faults out.new) }
+        ensures later { W.faults out.old ≤ W.faults out.new }
+    {
+        put_held(alloc, &self.held, out)
+    }
+}
