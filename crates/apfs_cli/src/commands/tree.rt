@@ -1,30 +1,29 @@
 // The command `tree`.
 ghost use Rattle.apfs_model.specs.Source.{IsKept};
 ghost use Rattle.cmd_words.specs.Asked.{target_asked};
-ghost use Rattle.view_tree.specs.Texts.{row_text};
+ghost use Rattle.view_tree.specs.Texts.{tree_text};
 ghost use Rattle.apfs_cli.specs.Handed.{looked};
 ghost use Rattle.apfs_cli.specs.Says.{HasEnded};
 ghost use Rattle.apfs_cli.specs.Words.{Tree};
 ghost use Rattle.apfs_cli.specs.declared.words.Checks.TheVariants.{Quick};
-ghost use Rattle.apfs_cli.specs.Written.{sunk};
+ghost use Rattle.apfs_cli.specs.Written.{sunk, IsPut};
 
 use crate::meant_view::reach_view;
 use crate::on_path::stopped_on_path;
-use crate::put::{Line, put_lines};
 use crate::stopped::Stopped;
-use crate::target_line::line_with;
-use apfs_model::Bytes;
 use blk_source::{BlockSource, Sink};
 use cmd_words::Target;
-use std::alloc::{AllocError, Global};
-use view_tree::tree;
+use std::alloc::Global;
+use view_tree::{KeptRows, PutStop, tree_rows};
 
-/// The kind, id and size of a row's target, and the names that lead to it.
-impl Line for (Bytes, path_walk::Target) {
-    ghost text = { λ row. row_text row };
-
-    fn line(&self, alloc: Global) -> Result<Vec<u8>, AllocError> {
-        line_with(alloc, &self.1, self.0.as_slice())
+// Puts the line of each row: the kind, id and size of its target, and the names that lead to it.
+fn put_rows<W: Sink>(alloc: Global, rows: &KeptRows, out: &mut W) -> Result<(), Stopped>
+    ensures { IsPut (tree_text rows.now) result (sunk W.contents W.faults out.old out.new) }
+{
+    match rows.put(alloc, out) {
+        Ok(()) => Ok(()),
+        Err(PutStop::WriteFault) => Err(Stopped::WriteFailed),
+        Err(PutStop::NoMemory) => Err(Stopped::OutOfMemory),
     }
 }
 
@@ -43,8 +42,8 @@ pub fn write<S: BlockSource, W: Sink>(
         Err(stopped) => return Err(stopped),
     };
     let site = viewed.checkpoint.site();
-    match tree(alloc, src, &viewed.volume, &viewed.view, &site, target.path) {
-        Ok(items) => put_lines(alloc, items.as_slice(), out),
+    match tree_rows(alloc, src, &viewed.volume, &viewed.view, &site, target.path) {
+        Ok(rows) => put_rows(alloc, &rows, out),
         Err(stop) => Err(stopped_on_path(stop)),
     }
 }
