@@ -57,6 +57,7 @@ fn eight(alloc: Global, volumes: u64, roots: [u64; 2]) -> Result<Vec<Head>, Allo
     requires few { volumes ≤ 2 }
     ensures told { IfOk result (λ heads. AreToldHeads heads.items) }
     ensures below { IfOk result (λ heads. AreBelowHeads volumes heads.items) }
+    ensures within { IfOk result (λ heads. AreBelowHeads 2 heads.items) }
 {
     let mut heads = Vec::new(alloc);
     for place in 1u64..9 {

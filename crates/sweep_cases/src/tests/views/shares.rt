@@ -73,13 +73,13 @@ fn put(alloc: Global, image: &mut [u8], made: &Made) -> Result<(), Fail> {
 // A record that is used: its id, its transaction and its block.
 type One = (u64, u64, u64);
 
-// A case: the records of the map, the roots of the views of even transactions and of odd ones, how many volumes have the map in
-// turn, and the records that are used, or what is wrong.
+// A case: the records of the map, the roots of the views of even transactions and of odd ones, whether two volumes have the map
+// and the views in turn, and the records that are used, or what is wrong.
 #[derive(Clone, Copy, Debug)]
 struct Case {
     records: &'static [Record],
     roots: [u64; 2],
-    volumes: u64,
+    in_turn: bool,
     want: Result<&'static [One], ReachFault>,
 }
 
@@ -100,7 +100,7 @@ fn sweep(alloc: Global, case: &Case) -> Result<Swept, Fail> {
     let mut src = MemSource::new(bytes, Vec::new(alloc));
     let first = open(alloc, &mut src)?;
     let second = open(alloc, &mut src)?;
-    let heads = eight(alloc, case.volumes, case.roots)?;
+    let heads = eight(alloc, if case.in_turn { 2 } else { 1 }, case.roots)?;
     let volumes = [first.volume, second.volume];
     let before = src.read_count();
     let told = reach_views(alloc, &mut src, &second.site, &volumes, &heads);
@@ -150,14 +150,14 @@ const CASES: [Case; 7] = [
     Case {
         records: MIDDLE,
         roots: [2000, 2000],
-        volumes: 1,
+        in_turn: false,
         want: Ok(OF_MIDDLE),
     },
     // two volumes that share a map
     Case {
         records: MIDDLE,
         roots: [2000, 2000],
-        volumes: 2,
+        in_turn: true,
         want: Ok(OF_MIDDLE),
     },
     // every second snapshot has another root over the same nodes
@@ -170,7 +170,7 @@ const CASES: [Case; 7] = [
             ([2010, 1], &[KEPT, 103]),
         ],
         roots: [2000, 2010],
-        volumes: 1,
+        in_turn: false,
         want: Ok(&[
             (2000, 1, 100),
             (2001, 1, 105),
@@ -192,7 +192,7 @@ const CASES: [Case; 7] = [
             ([2004, 5], &[KEPT, 111]),
         ],
         roots: [2000, 2000],
-        volumes: 1,
+        in_turn: false,
         want: Ok(&[
             (2000, 1, 100),
             (2001, 1, 105),
@@ -213,7 +213,7 @@ const CASES: [Case; 7] = [
             ([2004, 8], &[DELETED, 0]),
         ],
         roots: [2000, 2000],
-        volumes: 1,
+        in_turn: false,
         want: Err(ReachFault::Unnamed {
             within: Within::Volume(0),
             oid: 2004,
@@ -230,7 +230,7 @@ const CASES: [Case; 7] = [
             ([2011, 1], &[KEPT, 104]),
         ],
         roots: [2000, 2011],
-        volumes: 1,
+        in_turn: false,
         want: Ok(&[
             (2000, 1, 100),
             (2001, 1, 106),
@@ -250,7 +250,7 @@ const CASES: [Case; 7] = [
             ([2003, 1], &[KEPT, 109]),
         ],
         roots: [2000, 2000],
-        volumes: 1,
+        in_turn: false,
         want: Err(ReachFault::NamedTwice {
             within: Within::Volume(0),
             oid: 2003,

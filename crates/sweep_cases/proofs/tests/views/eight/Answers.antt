@@ -13,3 +13,6 @@ returns-clause-told c = told-placed (view_among c.args.volumes) c.loop-place.hea
 
 pub returns-clause-below : goal.returns-clause-below
 returns-clause-below c = below-placed (view_among c.args.volumes) c.args.volumes c.loop-place.heads.items (λ place. omega (arith, c.requires.some)) c.loop-place.invariant
+
+pub returns-clause-within : goal.returns-clause-within
+returns-clause-within c = below-placed (view_among c.args.volumes) 2 c.loop-place.heads.items (λ place. omega (arith, c.requires.some, c.requires.few)) c.loop-place.invariant
