@@ -227,7 +227,8 @@ fn rows_are_put_as_lines(rt: HostRuntime) -> Result<(), Fail> {
     }
     let (end, bytes) = put(alloc, Holds::Names, "/", 10)?;
     assert_eq!(rt; end, Err(PutStop::WriteFault));
-    assert_eq!(rt; bytes.as_slice(), b"- 21 0 Ab\n".as_slice());
+    // the lines of a small tree are put at once
+    assert!(rt; bytes.is_empty());
     Ok(())
 }
 
