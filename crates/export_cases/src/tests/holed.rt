@@ -1,0 +1,86 @@
+// A large hole is put piece by piece and not read.
+ghost use Rattle.blk_folder.specs.Edge.{untold};
+
+use super::made::{HOLE, Holds, items_of, open_view, source};
+use apfs_model::WriteFailed;
+use blk_folder::Folder;
+use std::process::Abort;
+use std::test::Fail;
+use tree_export::export;
+
+// The most bytes that are put at once.
+const MOST: usize = 65_536;
+
+// A folder that keeps no more than how many bytes were put, the longest piece, and of how many pieces the first byte isn't 0.
+#[derive(Drop)]
+struct Tally {
+    bytes: u64,
+    longest: usize,
+    other: u64,
+    writing: bool,
+}
+
+impl Folder for Tally {
+    ghost contents = { λ _. untold };
+
+    ghost faults = { λ _. 0 };
+
+    ghost writing = { λ s. s.writing };
+
+    fn make_dir(&mut self, path: &str) -> Result<(), WriteFailed> {
+        let _ = path;
+        self.writing = false;
+        Ok(())
+    }
+
+    fn start_file(&mut self, path: &str) -> Result<(), WriteFailed> {
+        let _ = path;
+        self.writing = true;
+        Ok(())
+    }
+
+    fn append(&mut self, piece: &[u8]) -> Result<(), WriteFailed> {
+        self.bytes = self.bytes.saturating_add(piece.len() as u64);
+        self.longest = self.longest.max(piece.len());
+        if piece.first() != Some(&0) {
+            self.other = self.other.saturating_add(1);
+        }
+        Ok(())
+    }
+}
+
+#[test]
+fn a_hole_is_put_piece_by_piece(rt: HostRuntime) -> Result<(), Fail> {
+    let alloc = rt.alloc();
+    // No more than a few blocks are read: all reads from the 200th on are refused.
+    let mut fails = Vec::new(alloc);
+    for number in 200..1000u64 {
+        fails.push(number)?;
+    }
+    let mut src = source(alloc, Holds::Hole, fails)?;
+    let seen = open_view(alloc, &mut src)?;
+    let items = items_of(alloc, &mut src, &seen)?;
+    let mut folder = Tally {
+        bytes: 0,
+        longest: 0,
+        other: 0,
+        writing: false,
+    };
+    match export(
+        alloc,
+        &mut src,
+        &seen.volume,
+        &seen.view,
+        &seen.site,
+        &items,
+        &mut folder,
+    ) {
+        Ok(done) => assert_eq!(rt; (done.files, done.bytes), (1, HOLE + 5)),
+        Err(stop) => panic!(rt; "{stop:?}"),
+    }
+    assert_eq!(rt; folder.bytes, HOLE + 5);
+    assert!(rt; folder.longest <= MOST);
+    // `hello` is in the last piece.
+    assert_eq!(rt; folder.other, 1);
+    Ok(())
+}

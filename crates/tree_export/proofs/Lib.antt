@@ -1,0 +1,10 @@
+pub mod Safes
+pub mod Appends
+pub mod Fills
+pub mod Contents
+pub mod Searches
+pub mod Lookups
+pub mod Counts
+pub mod Rows
+pub mod Taken
+pub mod Stops

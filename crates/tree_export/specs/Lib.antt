@@ -1,0 +1,7 @@
+pub mod Safe
+pub mod Exported
+pub mod Filled
+pub mod Done
+pub mod Faults
+pub mod Texts
+pub mod Parts
