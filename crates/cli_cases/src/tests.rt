@@ -7,6 +7,7 @@ mod contents;
 mod disks;
 mod formatted;
 mod generated;
+mod hostile;
 mod images;
 mod uses;
 
@@ -16,9 +17,10 @@ use blk_source::{BlockSource, MemSink, MemSource, Opened, StdSink};
 use cases::*;
 use checks::{CHECK, CHECK_CASES, FIRST_CASES, LEAKED, MARKED, NINE_VIEWS, SMALL_REPORT};
 use contents::*;
-use disks::{DISK, DISK_CASES, GPT_RING};
+use disks::DISK_CASES;
 use formatted::{FORMAT, FORMAT_CASES, FORMATS, FORMATTED, READ_CASES};
-use generated::{GEN, GEN_CASES, GEN_TEXT};
+use generated::{GEN_CASES, GEN_TEXT};
+use hostile::hole_then;
 use images::{Image, handed};
 use std::alloc::{AllocError, Global};
 use std::cell::Cell;
@@ -26,7 +28,7 @@ use std::io::{self, Write};
 use std::process::Abort;
 use std::test::Fail;
 use tree_rules::Profile;
-use uses::{USAGE, USAGE_CASES};
+use uses::USAGE_CASES;
 
 const ROOM: usize = 8192;
 
@@ -169,22 +171,6 @@ fn gen_cases_end_as_said(rt: HostRuntime) -> Result<(), Fail> {
     end_as_said(&rt, rt.alloc(), GEN_CASES)
 }
 
-#[test]
-fn failure_of_each_put_of_gen(rt: HostRuntime) -> Result<(), Fail> {
-    let alloc = rt.alloc();
-    for (number, status, text) in [(1, 4, ""), (2, 4, "generated 1\n"), (3, 0, GEN_TEXT)] {
-        let refused = Refused {
-            read: 0,
-            put: number,
-            line: 0,
-        };
-        let ended = end(alloc, Image::Absent, GEN, refused)?;
-        let as_said = ended_with(&ended, status, text, "");
-        assert!(rt; as_said, "put {number}: status {}", ended.status);
-    }
-    Ok(())
-}
-
 // `gen_report` is what `gen` does, and leaves the image of 1,028 blocks.
 #[test]
 fn a_generated_report_leaves_its_image(rt: HostRuntime) -> Result<(), Fail> {
@@ -264,158 +250,15 @@ fn usage_cases_end_as_said(rt: HostRuntime) -> Result<(), Fail> {
     end_as_said(&rt, rt.alloc(), USAGE_CASES)
 }
 
-// A run with at least and at most so many reads.
-#[derive(Clone, Copy)]
-struct Reads {
-    image: Image,
-    words: &'static [&'static str],
-    least: u64,
-    most: u64,
-}
-
-// Whether a run ends with 3 and writes nothing, for each of its reads that is refused.
-fn fail_at_each_read(rt: &impl Abort, alloc: Global, rows: &[Reads]) -> Result<(), Fail> {
-    for row in rows {
-        let whole = end(alloc, row.image, row.words, NOTHING)?;
-        assert!(rt;
-            whole.reads >= row.least && whole.reads <= row.most,
-            "{} reads",
-            whole.reads
-        );
-        for number in 1..=whole.reads {
-            let refused = Refused {
-                read: number,
-                put: 0,
-                line: 0,
-            };
-            let ended = end(alloc, row.image, row.words, refused)?;
-            let as_said = ended_with(&ended, 3, "", "apfs: read failed\n");
-            assert!(rt; as_said, "read {number}: status {}", ended.status);
-        }
-    }
-    Ok(())
-}
-
-#[test]
-fn failure_of_each_read(rt: HostRuntime) -> Result<(), Fail> {
-    let rows = [
-        Reads {
-            image: Image::Ring,
-            words: RING,
-            least: 9,
-            most: 39,
-        },
-        Reads {
-            image: Image::Empty,
-            words: INFO,
-            least: 14,
-            most: 39,
-        },
-        Reads {
-            image: Image::Small,
-            words: VOLUMES,
-            least: 17,
-            most: 39,
-        },
-        Reads {
-            image: Image::Views,
-            words: SNAPSHOTS,
-            least: 20,
-            most: 39,
-        },
-        Reads {
-            image: Image::Small,
-            words: SPACE,
-            least: 15,
-            most: 39,
-        },
-        Reads {
-            image: Image::Small,
-            words: CHECK,
-            least: 20,
-            most: 43,
-        },
-    ];
-    fail_at_each_read(&rt, rt.alloc(), &rows)
-}
-
-#[test]
-fn failure_of_each_read_of_a_disk(rt: HostRuntime) -> Result<(), Fail> {
-    let rows = [Reads {
-        image: Image::Disk(DISK),
-        words: GPT_RING,
-        least: 11,
-        most: 39,
-    }];
-    fail_at_each_read(&rt, rt.alloc(), &rows)
-}
-
-#[test]
-fn failure_of_each_read_of_a_view(rt: HostRuntime) -> Result<(), Fail> {
-    let rows = [
-        Reads {
-            image: Image::Views,
-            words: LS_OLD,
-            least: 21,
-            most: 39,
-        },
-        Reads {
-            image: Image::Views,
-            words: TREE_OLD,
-            least: 21,
-            most: 39,
-        },
-    ];
-    fail_at_each_read(&rt, rt.alloc(), &rows)
-}
-
-// Each node is read once, in the check.
-#[test]
-fn failure_of_each_read_of_usage(rt: HostRuntime) -> Result<(), Fail> {
-    let rows = [Reads {
-        image: Image::Views,
-        words: USAGE,
-        least: 24,
-        most: 66,
-    }];
-    fail_at_each_read(&rt, rt.alloc(), &rows)
-}
-
 #[test]
 fn content_cases_end_as_said(rt: HostRuntime) -> Result<(), Fail> {
     end_as_said(&rt, rt.alloc(), CONTENT_CASES)
-}
-
-#[test]
-fn failure_of_each_read_of_contents(rt: HostRuntime) -> Result<(), Fail> {
-    let rows = [
-        Reads {
-            image: Image::Link,
-            words: XATTR,
-            least: 20,
-            most: 39,
-        },
-        Reads {
-            image: Image::Link,
-            words: TARGET,
-            least: 20,
-            most: 39,
-        },
-    ];
-    fail_at_each_read(&rt, rt.alloc(), &rows)
 }
 
 // A file that starts with a hole, and the same where what follows has no extent.
 const HOLE: Image = Image::Streamed(5000, &[(0, 4096, 0), (4096, 4096, 57)]);
 
 const HOLE_ALONE: Image = Image::Streamed(5000, &[(0, 4096, 0)]);
-
-// 4,096 zeros, and 904 times a byte.
-fn hole_then(alloc: Global, byte: u8) -> Result<Vec<u8>, AllocError> {
-    let mut contents = vec![in alloc; 0u8; 4096]?;
-    contents.extend_from_slice(&[byte; 904])?;
-    Ok(contents)
-}
 
 #[test]
 fn a_hole_is_written_as_zeros(rt: HostRuntime) -> Result<(), Fail> {
@@ -425,60 +268,6 @@ fn a_hole_is_written_as_zeros(rt: HostRuntime) -> Result<(), Fail> {
         let contents = hole_then(alloc, byte)?;
         assert_eq!(rt; (ended.status, ended.err.contents().len()), (0, 0));
         assert!(rt; ended.out.contents() == contents.as_slice());
-    }
-    Ok(())
-}
-
-// Whether a run has this status and this line, and has written so many bytes of the contents of the file with a hole.
-fn ended_within(
-    alloc: Global,
-    ended: &Ended,
-    status: u8,
-    line: &str,
-    bytes: usize,
-) -> Result<bool, AllocError> {
-    let contents = hole_then(alloc, b'A')?;
-    let out = ended.out.contents();
-    let as_said = ended.status == status && ended.err.contents() == line.as_bytes();
-    Ok(as_said && out.len() == bytes && contents.starts_with(out))
-}
-
-#[test]
-fn failure_of_each_read_of_a_file(rt: HostRuntime) -> Result<(), Fail> {
-    let alloc = rt.alloc();
-    let whole = end(alloc, HOLE, CAT_HOLE, NOTHING)?;
-    assert!(rt;
-        whole.reads > 20 && whole.reads < 40,
-        "{} reads",
-        whole.reads
-    );
-    for number in 1..=whole.reads {
-        let refused = Refused {
-            read: number,
-            put: 0,
-            line: 0,
-        };
-        let ended = end(alloc, HOLE, CAT_HOLE, refused)?;
-        // The last read is of the block after the hole.
-        let bytes = if number == whole.reads { 4096 } else { 0 };
-        let as_said = ended_within(alloc, &ended, 3, "apfs: read failed\n", bytes)?;
-        assert!(rt; as_said, "read {number}: status {}", ended.status);
-    }
-    Ok(())
-}
-
-#[test]
-fn failure_of_each_put_of_a_file(rt: HostRuntime) -> Result<(), Fail> {
-    let alloc = rt.alloc();
-    for (number, status, bytes) in [(1, 4, 0), (2, 4, 4096), (3, 0, 5000)] {
-        let refused = Refused {
-            read: 0,
-            put: number,
-            line: 0,
-        };
-        let ended = end(alloc, HOLE, CAT_HOLE, refused)?;
-        let as_said = ended_within(alloc, &ended, status, "", bytes)?;
-        assert!(rt; as_said, "put {number}: status {}", ended.status);
     }
     Ok(())
 }
@@ -562,52 +351,4 @@ fn what_is_written_is_flushed(rt: HostRuntime) -> Result<(), Fail> {
         );
     }
     Ok(())
-}
-
-// Whether each case ends with 4 and writes nothing, where the first put on each sink is refused.
-fn fail_at_the_first_put(rt: &impl Abort, alloc: Global, cases: &[Case]) -> Result<(), Fail> {
-    let refused = Refused {
-        read: 0,
-        put: 1,
-        line: 1,
-    };
-    for case in cases {
-        // Nothing is put where there is nothing to write.
-        let is_silent = case.ends.text().is_empty() && case.ends.line().is_empty();
-        let status = if is_silent { 0 } else { 4 };
-        let ended = end(alloc, case.image, case.words, refused)?;
-        let as_said = ended_with(&ended, status, "", "");
-        assert!(rt; as_said, "{}: status {}", case.name, ended.status);
-    }
-    Ok(())
-}
-
-#[test]
-fn failure_of_each_put(rt: HostRuntime) -> Result<(), Fail> {
-    fail_at_the_first_put(&rt, rt.alloc(), CASES)
-}
-
-#[test]
-fn failure_of_each_put_of_features(rt: HostRuntime) -> Result<(), Fail> {
-    fail_at_the_first_put(&rt, rt.alloc(), FEATURE_CASES)
-}
-
-#[test]
-fn failure_of_each_put_of_disks(rt: HostRuntime) -> Result<(), Fail> {
-    fail_at_the_first_put(&rt, rt.alloc(), DISK_CASES)
-}
-
-#[test]
-fn failure_of_each_put_of_views(rt: HostRuntime) -> Result<(), Fail> {
-    fail_at_the_first_put(&rt, rt.alloc(), VIEW_CASES)
-}
-
-#[test]
-fn failure_of_each_put_of_usage(rt: HostRuntime) -> Result<(), Fail> {
-    fail_at_the_first_put(&rt, rt.alloc(), USAGE_CASES)
-}
-
-#[test]
-fn failure_of_each_put_of_contents(rt: HostRuntime) -> Result<(), Fail> {
-    fail_at_the_first_put(&rt, rt.alloc(), CONTENT_CASES)
 }

@@ -8,7 +8,7 @@ pub const CHECK: &[&str] = &["check", "x"];
 
 const STRICT: &[&str] = &["check", "x", "--strict"];
 
-const LS_CHECKED: &[&str] = &["ls", "x", "/"];
+pub const LS_CHECKED: &[&str] = &["ls", "x", "/"];
 
 const LS_STRICT: &[&str] = &["ls", "x", "/", "--strict"];
 
@@ -32,6 +32,9 @@ const NAME_HASH: &str = "apfs: fault: NameHash volume 0 view 1 id 2 name é\n";
 
 pub const SMALL_REPORT: &str =
     "clean\nxid 1\nvolumes 1\nviews 1\nobjects 14\nrecords 4\nused 57\nfree 199\nnotes 0\n";
+
+pub const VIEWS_REPORT: &str =
+    "clean\nxid 5\nvolumes 1\nviews 3\nobjects 22\nrecords 18\nused 65\nfree 191\nnotes 0\n";
 
 pub const CHECK_CASES: &[Case] = &[
     Case {
@@ -58,9 +61,7 @@ pub const CHECK_CASES: &[Case] = &[
         name: "clean_check_views",
         image: Image::Views,
         words: CHECK,
-        ends: Ends::Wrote(
-            "clean\nxid 5\nvolumes 1\nviews 3\nobjects 22\nrecords 18\nused 65\nfree 191\nnotes 0\n",
-        ),
+        ends: Ends::Wrote(VIEWS_REPORT),
     },
     Case {
         name: "clean_check_nine_views",

@@ -78,7 +78,7 @@ pub fn write_table(bytes: &mut [u8], disk: Disk) -> bool {
         && write(bytes, disk.sector, block, at, other)
 }
 
-const GPT_CHECK: &[&str] = &["--gpt", "check", "x"];
+pub const GPT_CHECK: &[&str] = &["--gpt", "check", "x"];
 
 pub const GPT_RING: &[&str] = &["--gpt", "ring", "x"];
 

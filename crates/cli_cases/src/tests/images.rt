@@ -141,6 +141,8 @@ pub enum Image {
     ShortInode,
     /// The small container, and block 60 waits in the main queue.
     Queued,
+    /// The first so many bytes of the small container.
+    SmallShort(usize),
     /// The small container, and a second checkpoint follows, whose space manager has a wrong sum.
     SmallSkipped,
     /// A container whose volume has the file `é` with five bytes, in whose key the hash is 0.
@@ -395,6 +397,7 @@ fn change(image: Image, bytes: &mut [u8]) -> bool {
         Image::TwoExchanged => exchange_keys(bytes, MAP_TREE),
         Image::Disk(disk) => write_table(bytes, disk),
         Image::Absent | Image::Empty | Image::Small | Image::Views | Image::Hello => true,
+        Image::SmallShort(_) => true,
         Image::Files(_) | Image::Named(..) | Image::Queued | Image::ViewsNamed(_) => true,
         Image::Backwards | Image::ShortInode => true,
         Image::Unhashed | Image::Made(..) => true,
@@ -406,21 +409,32 @@ fn change(image: Image, bytes: &mut [u8]) -> bool {
 fn length(image: Image) -> usize {
     match image {
         Image::RingShort => 4095,
+        Image::SmallShort(length) => length,
         Image::Disk(disk) => disk.length,
         Image::RingCut | Image::SmallCutSplit => 255 * BLOCK,
         _ => 256 * BLOCK,
     }
 }
 
-// What a case is handed, with the numbers of the reads that are refused.
-pub fn handed(alloc: Global, image: Image, fails: Vec<u64>) -> Result<Opened<MemSource>, Fail> {
-    if matches!(image, Image::Absent) {
-        return Ok(Opened::Absent);
-    }
+// The bytes of an image that is handed in, none of what is absent.
+pub fn image_bytes(alloc: Global, image: Image) -> Result<Vec<u8>, Fail> {
     let mut bytes = bytes(alloc, image)?;
     if !change(image, &mut bytes) {
         bytes.clear();
     }
     bytes.truncate(length(image));
-    Ok(Opened::Image(MemSource::new(bytes, fails)))
+    Ok(bytes)
+}
+
+// What is handed in for an image with these bytes, with the numbers of the reads that are refused.
+pub fn opened(image: Image, bytes: Vec<u8>, fails: Vec<u64>) -> Opened<MemSource> {
+    match image {
+        Image::Absent => Opened::Absent,
+        _ => Opened::Image(MemSource::new(bytes, fails)),
+    }
+}
+
+// What a case is handed, with the numbers of the reads that are refused.
+pub fn handed(alloc: Global, image: Image, fails: Vec<u64>) -> Result<Opened<MemSource>, Fail> {
+    Ok(opened(image, image_bytes(alloc, image)?, fails))
 }

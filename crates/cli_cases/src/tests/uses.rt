@@ -11,7 +11,7 @@ pub const USAGE: &[&str] = &["usage", "x"];
 const OF_SECOND: &[&str] = &["usage", "x", "--volume", "1"];
 
 // A file, each of whose two snapshots kept the leaf that is changed since and has its own superblock and extent references.
-const VIEWS_USED: &str = "live held 4 only 1\n2 s2 held 5 only 3\n4 s4 held 5 only 2\nall 9\n";
+pub const VIEWS_USED: &str = "live held 4 only 1\n2 s2 held 5 only 3\n4 s4 held 5 only 2\nall 9\n";
 
 // Two files share the one block of their contents.
 const SHARED: Image = Image::Made((Sample::C, &[], &[]), &[]);
