@@ -1,0 +1,64 @@
+-- The items at the places that are told, and the text of what is told.
+use Rattle.std.proofs.Common.{◌≡◌, ℕ, zero, suc, ◌+◌, Bool, true, false, cond, List, [], ◌∷◌, ◌++◌, length, Option, Some, refl, ap, ap₂, sym, ◌∙◌, subst, append_assoc, arith}
+use Rattle.std.specs.Prelude.{filter, filter_map, slice_get}
+use Rattle.std.specs.List.{cons_option, flat_map}
+use Rattle.view_rules.specs.Facts.{Facts}
+use Rattle.blk_folder.specs.Items as folders
+use Rattle.tree_export.specs.Exported.{Wanted, put_all, items_in, exported, skipped, is_left_out}
+use Rattle.tree_export.specs.Done.{left_out_from, left_out, directory_count, file_count, byte_sum, IsDoneFor}
+use Rattle.tree_export.specs.Texts.{skipped_text, done_text, export_text}
+use Rattle.tree_export.specs.declared.told.Done.{Done}
+
+-- what stands after the items before a place
+get-at : (before items : List Wanted) (item : Wanted) → slice_get (before ++ item ∷ items) (length before) ≡ Some item
+get-at [] items item = refl
+get-at (first ∷ before) items item = get-at before items item
+
+length-more : (before : List Wanted) (item : Wanted) → length (before ++ item ∷ []) ≡ suc (length before)
+length-more [] item = refl
+length-more (first ∷ before) item = ap suc (length-more before item)
+
+-- the items at the places from a number on
+from-place : (facts : Facts) (before items : List Wanted) → filter_map (slice_get (before ++ items)) (left_out_from facts (length before) items) ≡ filter (is_left_out facts) items
+from-place facts before [] = refl
+from-place facts before (item ∷ items) = go (is_left_out facts item) next
+  where
+    all : List Wanted
+    all = before ++ item ∷ items
+
+    later : List ℕ
+    later = left_out_from facts (suc (length before)) items
+
+    next : filter_map (slice_get all) later ≡ filter (is_left_out facts) items
+    next =
+        ap₂ (λ (l : List Wanted) (n : ℕ). filter_map (slice_get l) (left_out_from facts n items)) (sym (append_assoc before (item ∷ []) items)) (sym (length-more before item))
+        ∙ from-place facts (before ++ item ∷ []) items
+
+    go : (b : Bool) → filter_map (slice_get all) later ≡ filter (is_left_out facts) items →
+        filter_map (slice_get all) (cond b (length before ∷ later) later) ≡ cond b (item ∷ filter (is_left_out facts) items) (filter (is_left_out facts) items)
+    go true e = ap (λ (o : Option Wanted). cons_option o (filter_map (slice_get all) later)) (get-at before items item) ∙ ap (λ (l : List Wanted). item ∷ l) e
+    go false e = e
+
+-- the items at the places of those for which nothing is put
+pub left_items : (facts : Facts) (items : List Wanted) → filter_map (slice_get items) (left_out facts items) ≡ filter (is_left_out facts) items
+left_items facts items = from-place facts [] items
+
+-- of a view these are the skipped ones
+skipped-items : (facts : Facts) (items : List Wanted) → items ≡ items_in facts → filter_map (slice_get items) (left_out facts items) ≡ skipped facts
+unfolding skipped
+skipped-items facts items same = left_items facts items ∙ ap (filter (is_left_out facts)) same
+
+exported-items : (block_size : ℕ) (image : List ℕ) (facts : Facts) (items : List Wanted) → items ≡ items_in facts → put_all block_size image facts items ≡ exported block_size image facts
+unfolding exported
+exported-items block_size image facts items same = ap (put_all block_size image facts) same
+
+-- the text of what is told of a view
+pub told_text : (block_size : ℕ) (image : List ℕ) (facts : Facts) (items : List Wanted) (done : Done) → items ≡ items_in facts → IsDoneFor block_size image facts items done →
+    flat_map skipped_text (filter_map (slice_get items) done.skipped.items) ++ done_text done.directories done.files done.bytes ≡ export_text (exported block_size image facts) (skipped facts)
+told_text block_size image facts items done same is =
+    let put = exported-items block_size image facts items same in
+    ap (λ (l : List ℕ). flat_map skipped_text (filter_map (slice_get items) l) ++ done_text done.directories done.files done.bytes) is.skipped
+    ∙ (ap (λ (l : List Wanted). flat_map skipped_text l ++ done_text done.directories done.files done.bytes) (skipped-items facts items same)
+    ∙ (ap (λ n. flat_map skipped_text (skipped facts) ++ done_text n done.files done.bytes) (is.directories ∙ ap directory_count put)
+    ∙ (ap (λ n. flat_map skipped_text (skipped facts) ++ done_text (directory_count (exported block_size image facts)) n done.bytes) (is.files ∙ ap file_count put)
+    ∙ ap (λ n. flat_map skipped_text (skipped facts) ++ done_text (directory_count (exported block_size image facts)) (file_count (exported block_size image facts)) n) (is.bytes ∙ ap byte_sum put))))
