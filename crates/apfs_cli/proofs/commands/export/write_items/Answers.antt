@@ -6,7 +6,7 @@ use Rattle.cmd_words.specs.Asked.{target_asked}
 use Rattle.view_rules.specs.Rules.{view_facts}
 use Rattle.tree_export.specs.Exported.{wanted_of}
 use Rattle.tree_export.specs.Texts.{skipped_text, done_text}
-use Rattle.tree_export.proofs.Told.{told_text}
+use Rattle.tree_export.proofs.Tellings.{told_text}
 use Rattle.apfs_cli.specs.Handed.{looked, stored}
 use Rattle.apfs_cli.specs.Written.{sunk}
 use Rattle.apfs_cli.proofs.Exports.{IsAtItems, lawful_at, export_put_ended, export_stop_ended}
