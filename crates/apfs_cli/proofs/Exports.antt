@@ -1,19 +1,28 @@
 -- What the command `export` comes to. It runs over the image of a well-formed container, so nothing stands in its way: its view is there or one of the two answers is given, and all that the view has can be put.
-use Rattle.std.specs.Prelude.{◌≡◌, ◌⊎◌, ◌++◌, ℕ, true, List, [], Option, Some, Result, Ok, Err, refl}
-use Rattle.std.specs.List.{flat_map}
-use Rattle.std.proofs.Common.{inl, inr, sym, ◌∙◌, ap, subst}
-use Rattle.std.proofs.lemmas.List.{append-nil}
+use Rattle.std.specs.Prelude.{◌≡◌, ◌⊎◌, ◌++◌, ◌+◌, ◌<◌, ℕ, true, List, [], ◌∷◌, length, take, Option, Some, Result, Ok, Err, filter_map, slice_get, refl}
+use Rattle.std.specs.List.{cons_option, flat_map}
+use Rattle.std.proofs.Common.{inl, inr, sym, ◌∙◌, ap, subst, get_or}
+use Rattle.std.proofs.lemmas.Grind.{flat_map-append}
+use Rattle.std.proofs.lemmas.List.Elements.{filter_map-append}
+use Rattle.std.proofs.lemmas.List.{append-nil, take_more}
 use Rattle.cmd_words.specs.Asked.{AskedTarget}
 use Rattle.obj_base.specs.declared.site.Site.{Site}
+use Rattle.obj_base.specs.declared.stop.Stop.{Stop}
 use Rattle.obj_base.specs.declared.stop.Stop.TheVariants as layer
 use Rattle.nx_ring.specs.Checkpoint.{Seen, site_of}
 use Rattle.vol_view.specs.Volumes.{Loaded}
 use Rattle.vol_view.specs.Views.{is_view_ordered}
 use Rattle.vol_view.specs.declared.volume.View.{View}
+use Rattle.view_rules.specs.Facts.{Facts}
 use Rattle.view_rules.specs.Rules.{view_facts}
 use Rattle.view_rules.specs.declared.profile.Profile.TheVariants.{Plain}
 use Rattle.apfs_check.specs.WellFormed.{IsWellFormed}
-use Rattle.path_walk.specs.Stops.{IsLawful}
+use Rattle.path_walk.specs.Places.{root_name}
+use Rattle.path_walk.specs.Stops.{IsGiven, IsLawful, IsNoAnswer}
+use Rattle.path_walk.specs.declared.stop.PathStop.{PathStop}
+use Rattle.path_walk.specs.declared.stop.PathStop.TheVariants as paths
+use Rattle.path_walk.specs.declared.target.Target.{Target}
+use Rattle.view_tree.specs.Tree.{tree}
 use Rattle.path_walk.specs.declared.answer.Answer.{Answer}
 use Rattle.path_walk.specs.declared.answer.Answer.TheVariants.{NoVolume, NoSnapshot}
 use Rattle.blk_folder.specs.Items.{Item, IsFront}
@@ -23,6 +32,7 @@ use Rattle.tree_export.specs.Filled.{FilledWhole, FilledFront}
 use Rattle.tree_export.specs.Texts.{skipped_text, done_text, export_text}
 use Rattle.tree_export.specs.declared.stop.ExportStop.{ExportStop}
 use Rattle.tree_export.specs.declared.stop.ExportStop.TheVariants as exports
+use Rattle.tree_export.proofs.Tellings.{no_items}
 use Rattle.apfs_cli.specs.declared.stopped.Stopped.{Stopped}
 use Rattle.apfs_cli.specs.declared.stopped.Stopped.TheVariants as stops
 use Rattle.apfs_cli.specs.ByCommand.{HasResult}
@@ -34,7 +44,7 @@ use Rattle.apfs_cli.specs.MeantView.{IsMeantView, HasNoSnapshot}
 use Rattle.apfs_cli.specs.OnView.{ByAnswer, IsWantedOf, IsAnswerOn}
 use Rattle.apfs_cli.specs.Reached.{IsClear, IsFree, IsWhileLooking, TellsViewWay}
 use Rattle.apfs_cli.specs.Says.{AreFrontIf, AnswersAt, Fills, HasEnded, HasEndedInto, IsTextIf}
-use Rattle.apfs_cli.specs.Seen.{stopped_exporting}
+use Rattle.apfs_cli.specs.Seen.{stopped_exporting, stopped_on}
 use Rattle.apfs_cli.specs.Words.{Export}
 use Rattle.apfs_cli.specs.Written.{Sunk, IsPut}
 use Rattle.apfs_cli.proofs.Browsable.{well_clear, well_lawful, well_wanted}
@@ -132,6 +142,46 @@ export_items_ended target source stops.WrongWords contents count free looking ca
 export_items_ended target source stops.WriteFailed contents count free looking cause = absurd looking
 export_items_ended target source stops.NoImage contents count free looking cause = absurd looking
 export_items_ended target source stops.NoFolder contents count free looking cause = absurd looking
+
+-- what a stop of the tree says of a view that meets its rules, where it is no answer
+pub free_stop : {T : Type 0} (view : T → List (List ℕ × Target)) (wanted : Result (List (List ℕ × Target)) Answer) (stop : Stop PathStop) → IsGiven view wanted (Err stop) → IsNoAnswer stop → IsFree (stopped_on stop)
+free_stop view wanted (layer.Found (paths.Answer answer)) given none = absurd none
+free_stop view wanted (layer.Found (paths.Fault fault)) given none = absurd given
+free_stop view wanted (layer.Unsupported feature block) given none = absurd given
+free_stop view wanted layer.ReadFault given none = tt
+free_stop view wanted layer.NoMemory given none = tt
+
+-- where it is one there are no items
+pub no_root_items : {T : Type 0} (view : T → List (List ℕ × Target)) (facts : Facts) (stop : Stop PathStop) → IsGiven view (tree facts root_name) (Err stop) → export.IsOfNoRoot stop → [] ≡ items_in facts
+no_root_items view facts (layer.Found (paths.Answer answer)) given root = no_items facts answer given
+no_root_items view facts (layer.Found (paths.Fault fault)) given root = absurd root
+no_root_items view facts (layer.Unsupported feature block) given root = absurd root
+no_root_items view facts layer.ReadFault given root = absurd root
+no_root_items view facts layer.NoMemory given root = absurd root
+
+pub looking_stop : (stop : Stop PathStop) → IsNoAnswer stop → IsWhileLooking (stopped_on stop)
+looking_stop (layer.Found (paths.Answer answer)) none = absurd none
+looking_stop (layer.Found (paths.Fault fault)) none = tt
+looking_stop (layer.Unsupported feature block) none = tt
+looking_stop layer.ReadFault none = tt
+looking_stop layer.NoMemory none = tt
+
+pub read_stop : (stop : Stop PathStop) → stopped_on stop ≡ stops.ReadFailed → stop ≡ layer.ReadFault
+read_stop (layer.Found (paths.Answer answer)) e = absurd Prim.cc
+read_stop (layer.Found (paths.Fault fault)) e = absurd Prim.cc
+read_stop (layer.Unsupported feature block) e = absurd Prim.cc
+read_stop layer.ReadFault e = refl
+read_stop layer.NoMemory e = absurd Prim.cc
+
+-- ---- the lines
+
+-- the lines of the places up to one, that of the place there among them
+pub skipped_more : (items : List Wanted) (places : List ℕ) (i place : ℕ) → i < length places → place ≡ get_or places i place →
+    flat_map skipped_text (filter_map (slice_get items) (take (i + 1) places)) ≡ flat_map skipped_text (filter_map (slice_get items) (take i places)) ++ flat_map skipped_text (cons_option (slice_get items place) [])
+skipped_more items places i place low at =
+    ap (λ l. flat_map skipped_text (filter_map (slice_get items) l)) (take_more places i place low ∙ ap (λ p. take i places ++ p ∷ []) (sym at))
+    ∙ (ap (flat_map skipped_text) (filter_map-append (slice_get items) (take i places) (place ∷ []))
+    ∙ flat_map-append skipped_text (filter_map (slice_get items) (take i places)) (cons_option (slice_get items place) []))
 
 -- ---- the view that is meant
 

@@ -1,10 +1,15 @@
 -- The items at the places that are told, and the text of what is told.
 use Rattle.std.proofs.Common.{◌≡◌, ℕ, zero, suc, ◌+◌, Bool, true, false, cond, List, [], ◌∷◌, ◌++◌, length, Option, Some, refl, ap, ap₂, sym, ◌∙◌, subst, append_assoc, arith}
-use Rattle.std.specs.Prelude.{filter, filter_map, slice_get}
+use Rattle.std.specs.Prelude.{filter, filter_map, slice_get, map, Result, Ok, Err}
 use Rattle.std.specs.List.{cons_option, flat_map}
+use Rattle.apfs_model.specs.Lists.{through, value_of}
 use Rattle.view_rules.specs.Facts.{Facts}
+use Rattle.path_walk.specs.Places.{root_name}
+use Rattle.path_walk.specs.declared.answer.Answer.{Answer}
+use Rattle.path_walk.specs.declared.target.Target.{Target}
+use Rattle.view_tree.specs.Tree.{tree}
 use Rattle.blk_folder.specs.Items as folders
-use Rattle.tree_export.specs.Exported.{Wanted, put_all, items_in, exported, skipped, is_left_out}
+use Rattle.tree_export.specs.Exported.{Wanted, item_of, put_all, items_in, exported, skipped, is_left_out}
 use Rattle.tree_export.specs.Done.{left_out_from, left_out, directory_count, file_count, byte_sum, IsDoneFor}
 use Rattle.tree_export.specs.Texts.{skipped_text, done_text, export_text}
 use Rattle.tree_export.specs.declared.told.Done.{Done}
@@ -62,3 +67,15 @@ told_text block_size image facts items done same is =
     ∙ (ap (λ n. flat_map skipped_text (skipped facts) ++ done_text n done.files done.bytes) (is.directories ∙ ap directory_count put)
     ∙ (ap (λ n. flat_map skipped_text (skipped facts) ++ done_text (directory_count (exported block_size image facts)) n done.bytes) (is.files ∙ ap file_count put)
     ∙ ap (λ n. flat_map skipped_text (skipped facts) ++ done_text (directory_count (exported block_size image facts)) (file_count (exported block_size image facts)) n) (is.bytes ∙ ap byte_sum put))))
+
+-- the items of a view are those of the rows of its root's tree, where there is one
+tree-items : (facts : Facts) (result : Result (List (List ℕ × Target)) Answer) → tree facts root_name ≡ result → map item_of (through (value_of result) (λ rows. rows)) ≡ items_in facts
+unfolding items_in
+tree-items facts result e = sym (ap (λ (r : Result (List (List ℕ × Target)) Answer). map item_of (through (value_of r) (λ rows. rows))) e)
+
+pub rows_items : (facts : Facts) (rows : List (List ℕ × Target)) → tree facts root_name ≡ Ok rows → map item_of rows ≡ items_in facts
+rows_items facts rows e = tree-items facts (Ok rows) e
+
+-- and otherwise there are none
+pub no_items : (facts : Facts) (answer : Answer) → tree facts root_name ≡ Err answer → [] ≡ items_in facts
+no_items facts answer e = tree-items facts (Err answer) e

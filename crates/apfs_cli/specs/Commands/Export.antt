@@ -2,6 +2,8 @@
 use Rattle.std.specs.Prelude.{◌≡◌, ◌++◌, ℕ, List, Result, Ok}
 use Rattle.std.specs.List.{flat_map}
 use Rattle.cmd_words.specs.Asked.{AskedTarget}
+use Rattle.obj_base.specs.declared.stop.Stop.{Stop}
+use Rattle.obj_base.specs.declared.stop.Stop.TheVariants.{Found, Unsupported, ReadFault, NoMemory}
 use Rattle.nx_ring.specs.Checkpoint.{Seen, site_of}
 use Rattle.vol_view.specs.Volumes.{Loaded}
 use Rattle.vol_view.specs.declared.volume.View.{View}
@@ -9,6 +11,8 @@ use Rattle.view_rules.specs.Facts.{Facts}
 use Rattle.view_rules.specs.Rules.{view_facts}
 use Rattle.path_walk.specs.Stops.{IsLawful}
 use Rattle.path_walk.specs.declared.answer.Answer.{Answer}
+use Rattle.path_walk.specs.declared.stop.PathStop.{PathStop}
+use Rattle.path_walk.specs.declared.stop.PathStop.TheVariants as paths
 use Rattle.blk_folder.specs.Items.{Item}
 use Rattle.tree_export.specs.Exported.{Wanted, wanted_of, exported, skipped}
 use Rattle.tree_export.specs.Faults.{IsExportFault, fault_id}
@@ -23,6 +27,14 @@ use Rattle.apfs_cli.specs.declared.commands.export.Told.TheVariants.{Skipped, Do
 abbrev pub told_text : Told → List ℕ
 told_text (Skipped item) = skipped_text (wanted_of item.now)
 told_text (Done directories files bytes) = done_text directories files bytes
+
+-- a call on the root's path stops with an answer: there is no root
+abbrev pub IsOfNoRoot : Stop PathStop → Type 0
+IsOfNoRoot (Found (paths.Answer answer)) = Unit {0}
+IsOfNoRoot (Found (paths.Fault fault)) = ⊥
+IsOfNoRoot (Unsupported feature block) = ⊥
+IsOfNoRoot ReadFault = ⊥
+IsOfNoRoot NoMemory = ⊥
 
 -- the text of a view, which always has one: of its items those for which nothing is put, and how much was
 abbrev pub wanted : ℕ → List ℕ → Facts → Result (List ℕ) Answer

@@ -9,19 +9,18 @@ ghost use Rattle.nx_ring.specs.Checkpoint.{site_of};
 ghost use Rattle.cmd_words.specs.Asked.{target_asked};
 ghost use Rattle.view_rules.specs.Rules.{view_facts};
 ghost use Rattle.view_rules.specs.declared.profile.Profile.TheVariants.{Plain};
-ghost use Rattle.path_walk.specs.Stops.{IsLawful};
+ghost use Rattle.path_walk.specs.Stops.{IsLawful, IsNoAnswer};
 ghost use Rattle.path_walk.specs.Texts as lines;
-ghost use Rattle.path_walk.specs.declared.target.Target as targets;
 ghost use Rattle.apfs_check.specs.WellFormed.{IsWellFormed};
 ghost use Rattle.tree_export.specs.Exported.{wanted_of, items_in};
 ghost use Rattle.tree_export.specs.Exported as items;
 ghost use Rattle.tree_export.specs.Texts.{skipped_text, done_text};
-ghost use Rattle.apfs_cli.specs.Commands.Export.{told_text};
+ghost use Rattle.apfs_cli.specs.Commands.Export.{told_text, IsOfNoRoot};
 ghost use Rattle.apfs_cli.specs.Handed.{looked, stored};
 ghost use Rattle.apfs_cli.specs.MeantView.{IsMeantView};
 ghost use Rattle.apfs_cli.specs.Reached.{IsWhileLooking, IsFree};
 ghost use Rattle.apfs_cli.specs.Says.{HasEndedInto};
-ghost use Rattle.apfs_cli.specs.Seen.{stopped_exporting};
+ghost use Rattle.apfs_cli.specs.Seen.{stopped_exporting, stopped_on};
 ghost use Rattle.apfs_cli.specs.Words as asked;
 ghost use Rattle.apfs_cli.specs.Written.{sunk, IsPut};
 ghost use Rattle.apfs_cli.specs.declared.stopped.Stopped.TheVariants.{ReadFailed};
@@ -38,8 +37,7 @@ use blk_folder::Folder;
 use blk_source::{BlockSource, Sink};
 use cmd_words::Target;
 use obj_base::{Site, Stop};
-use path_walk::PathStop;
-use path_walk::Target as Found;
+use path_walk::{PathStop, Target as Found};
 use std::alloc::{AllocError, Global};
 use tree_export::{Done, ExportFault, ExportStop, Item, export, safe_path};
 use tree_rules::Profile;
@@ -85,12 +83,7 @@ fn skipped_line(alloc: Global, item: &Item) -> Result<String, AllocError>
 }
 
 // The line of how much was put.
-fn done_line(
-    alloc: Global,
-    directories: u64,
-    files: u64,
-    bytes: u64,
-) -> Result<String, AllocError>
+fn done_line(alloc: Global, directories: u64, files: u64, bytes: u64) -> Result<String, AllocError>
     ensures { IfOk result (λ line. string_bytes line ≡ done_text directories files bytes) }
 {
     format!(in alloc; "exported {directories} directories {files} files {bytes} bytes\n")
@@ -131,11 +124,7 @@ fn skipped_in<'a>(
 }
 
 // A line for each item for which nothing was put, and one of how much was.
-fn told_of<'a>(
-    alloc: Global,
-    items: &'a [Item],
-    done: &Done,
-) -> Result<Vec<Told<'a>>, AllocError>
+fn told_of<'a>(alloc: Global, items: &'a [Item], done: &Done) -> Result<Vec<Told<'a>>, AllocError>
     ensures { IfOk result (λ told. flat_map told_text told.items ≡ flat_map skipped_text (filter_map (slice_get (map wanted_of items.entry.now)) done.now.skipped.items) ++ done_text done.now.directories done.now.files done.now.bytes) }
 {
     let mut told = skipped_in(alloc, items, done.skipped.as_slice())?;
@@ -148,12 +137,7 @@ fn told_of<'a>(
 }
 
 // Puts all lines.
-fn put_done<W: Sink>(
-    alloc: Global,
-    items: &[Item],
-    done: &Done,
-    out: &mut W,
-) -> Result<(), Stopped>
+fn put_done<W: Sink>(alloc: Global, items: &[Item], done: &Done, out: &mut W) -> Result<(), Stopped>
     ensures { IsPut (flat_map skipped_text (filter_map (slice_get (map wanted_of items.now)) done.now.skipped.items) ++ done_text done.now.directories done.now.files done.now.bytes) result (sunk W.contents W.faults out.old out.new) }
 {
     let told = told_of(alloc, items, done)?;
@@ -186,7 +170,23 @@ fn items_of(alloc: Global, rows: Vec<(Bytes, Found)>) -> Result<Vec<Item>, Alloc
     Ok(items)
 }
 
-// The items of a view: those of the tree of its root. A view without a root has none.
+// The items where there is no tree: none where the view has no root, otherwise why the run stops.
+fn items_without(alloc: Global, stop: Stop<PathStop>) -> Result<Vec<Item>, Stopped>
+    ensures none { IfOk result (λ items. (items.items ≡ []) × IsOfNoRoot stop) }
+    ensures stopped { IfErr result (λ stopped. (stopped ≡ stopped_on stop) × IsNoAnswer stop) }
+{
+    match stop {
+        Stop::Found(PathStop::Answer(_)) => Ok(Vec::new(alloc)),
+        Stop::Found(PathStop::Fault(fault)) => {
+            Err(stopped_on_path(Stop::Found(PathStop::Fault(fault))))
+        }
+        Stop::Unsupported { feature, block } => Err(Stopped::Refused { feature, block }),
+        Stop::ReadFault => Err(Stopped::ReadFailed),
+        Stop::NoMemory => Err(Stopped::OutOfMemory),
+    }
+}
+
+// The items of a view: those of the tree of its root.
 fn items_at<S: BlockSource>(
     alloc: Global,
     src: &mut S,
@@ -205,8 +205,7 @@ fn items_at<S: BlockSource>(
             Ok(items) => Ok(items),
             Err(_) => Err(Stopped::OutOfMemory),
         },
-        Err(Stop::Found(PathStop::Answer(_))) => Ok(Vec::new(alloc)),
-        Err(stop) => Err(stopped_on_path(stop)),
+        Err(stop) => items_without(alloc, stop),
     }
 }
 
@@ -217,12 +216,14 @@ fn stopped_in(view: &View, stop: ExportStop) -> Stopped
     let slot = view.slot;
     let xid = view.xid;
     match stop {
-        ExportStop::Stopped(Stop::Found(
-            ExportFault::Stream { id, .. }
-            | ExportFault::Walk { id, .. }
-            | ExportFault::Value { id, .. }
-            | ExportFault::NoInode { id },
-        )) => Stopped::Faulty(Named::InExport { slot, xid, id }),
+        ExportStop::Stopped(
+            Stop::Found(
+                ExportFault::Stream { id, .. }
+                | ExportFault::Walk { id, .. }
+                | ExportFault::Value { id, .. }
+                | ExportFault::NoInode { id },
+            ),
+        ) => Stopped::Faulty(Named::InExport { slot, xid, id }),
         ExportStop::Stopped(Stop::Unsupported { feature, block }) => {
             Stopped::Refused { feature, block }
         }
