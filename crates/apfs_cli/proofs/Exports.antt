@@ -1,5 +1,5 @@
 -- What the command `export` comes to. It runs over the image of a well-formed container, so nothing stands in its way: its view is there or one of the two answers is given, and all that the view has can be put.
-use Rattle.std.specs.Prelude.{◌≡◌, ◌⊎◌, ◌++◌, ◌+◌, ◌<◌, ℕ, true, List, [], ◌∷◌, length, take, Option, Some, Result, Ok, Err, filter_map, slice_get, refl}
+use Rattle.std.specs.Prelude.{◌≡◌, ◌⊎◌, ◌++◌, ◌+◌, ◌<◌, ℕ, true, List, [], ◌∷◌, length, take, map, zero, suc, Option, Some, option_map, Result, Ok, Err, filter_map, slice_get, refl}
 use Rattle.std.specs.List.{cons_option, flat_map}
 use Rattle.std.proofs.Common.{inl, inr, sym, ◌∙◌, ap, subst, get_or}
 use Rattle.std.proofs.lemmas.Grind.{flat_map-append}
@@ -26,10 +26,11 @@ use Rattle.view_tree.specs.Tree.{tree}
 use Rattle.path_walk.specs.declared.answer.Answer.{Answer}
 use Rattle.path_walk.specs.declared.answer.Answer.TheVariants.{NoVolume, NoSnapshot}
 use Rattle.blk_folder.specs.Items.{Item, IsFront}
-use Rattle.tree_export.specs.Exported.{Wanted, put_all, items_in, exported, skipped}
+use Rattle.tree_export.specs.Exported.{Wanted, wanted_of, put_all, items_in, exported, skipped}
 use Rattle.tree_export.specs.Faults.{IsFailure}
 use Rattle.tree_export.specs.Filled.{FilledWhole, FilledFront}
 use Rattle.tree_export.specs.Texts.{skipped_text, done_text, export_text}
+use Rattle.tree_export.specs.declared.told.Item.{Item as Asked}
 use Rattle.tree_export.specs.declared.stop.ExportStop.{ExportStop}
 use Rattle.tree_export.specs.declared.stop.ExportStop.TheVariants as exports
 use Rattle.tree_export.proofs.Tellings.{no_items}
@@ -47,8 +48,8 @@ use Rattle.apfs_cli.specs.Says.{AreFrontIf, AnswersAt, Fills, HasEnded, HasEnded
 use Rattle.apfs_cli.specs.Seen.{stopped_exporting, stopped_on}
 use Rattle.apfs_cli.specs.Words.{Export}
 use Rattle.apfs_cli.specs.Written.{Sunk, IsPut}
-use Rattle.apfs_cli.proofs.Browsable.{well_clear, well_lawful, well_wanted}
-use Rattle.apfs_cli.proofs.ByAnswers.{IsOfPath, which_answer}
+use Rattle.apfs_cli.proofs.Browsable.{AnswersPaths, well_clear, well_lawful, well_wanted}
+use Rattle.apfs_cli.proofs.ByAnswers.{which_answer}
 use Rattle.apfs_cli.proofs.Endings.{nothing_part, nothing_read, part_of_text, read_ended, no_memory_ended}
 use Rattle.apfs_cli.proofs.OverVolume.{named_of}
 use Rattle.apfs_cli.proofs.Puts.{part_taken, wrote_nothing}
@@ -57,8 +58,11 @@ use Rattle.apfs_cli.proofs.Ways.{volume_or_none}
 
 -- ---- of a well-formed container there is a text or an answer
 
+export_paths : AnswersPaths export.wanted
+export_paths size image facts answer e = absurd Prim.cc
+
 pub export_result : (target : AskedTarget) (image : List ℕ) → IsWellFormed Plain image → HasResult (Export target) image
-export_result target image w = elim (well_wanted Plain export.wanted target image (λ size image facts answer e. absurd Prim.cc) w) as (λ _. HasResult (Export target) image) [
+export_result target image w = elim (well_wanted Plain export.wanted target image export_paths w) as (λ _. HasResult (Export target) image) [
   | inl has ↦ inl (has.0, (w, has.1))
   | inr has ↦ inr (has.0, (w, has.1))
 ]
@@ -175,13 +179,19 @@ read_stop layer.NoMemory e = absurd Prim.cc
 
 -- ---- the lines
 
+-- what stands at a place of some items
+pub get_wanted : (items : List Asked) (i : ℕ) → slice_get (map wanted_of items) i ≡ option_map wanted_of (slice_get items i)
+get_wanted [] i = refl
+get_wanted (item ∷ items) zero = refl
+get_wanted (item ∷ items) (suc i) = get_wanted items i
+
 -- the lines of the places up to one, that of the place there among them
-pub skipped_more : (items : List Wanted) (places : List ℕ) (i place : ℕ) → i < length places → place ≡ get_or places i place →
-    flat_map skipped_text (filter_map (slice_get items) (take (i + 1) places)) ≡ flat_map skipped_text (filter_map (slice_get items) (take i places)) ++ flat_map skipped_text (cons_option (slice_get items place) [])
-skipped_more items places i place low at =
-    ap (λ l. flat_map skipped_text (filter_map (slice_get items) l)) (take_more places i place low ∙ ap (λ p. take i places ++ p ∷ []) (sym at))
-    ∙ (ap (flat_map skipped_text) (filter_map-append (slice_get items) (take i places) (place ∷ []))
-    ∙ flat_map-append skipped_text (filter_map (slice_get items) (take i places)) (cons_option (slice_get items place) []))
+pub skipped_more : (items : List Wanted) (places : List ℕ) (i other : ℕ) → i < length places →
+    flat_map skipped_text (filter_map (slice_get items) (take (i + 1) places)) ≡ flat_map skipped_text (filter_map (slice_get items) (take i places)) ++ flat_map skipped_text (cons_option (slice_get items (get_or places i other)) [])
+skipped_more items places i other low =
+    ap (λ l. flat_map skipped_text (filter_map (slice_get items) l)) (take_more places i other low)
+    ∙ (ap (flat_map skipped_text) (filter_map-append (slice_get items) (take i places) (get_or places i other ∷ []))
+    ∙ flat_map-append skipped_text (filter_map (slice_get items) (take i places)) (cons_option (slice_get items (get_or places i other)) []))
 
 -- ---- the view that is meant
 

@@ -87,14 +87,15 @@ front_part command image source folder o items told are f = go (takes_folder com
   where
     go : (b : Bool) → takes_folder command ≡ b → FilledPart folder.old folder.new items
     go false e = same_front folder items (fills_none command source folder o e f)
-    go true e held before =
+    go true e =
         let front = front_fills command source folder o f in
         let P : List Item → Type 0 = λ l. IsFront front.added l in
+        let Q : List Item → Type 0 = λ l. IsFront l items in
         let is : IsFront front.added items = elim (front.are image told) as (λ _. IsFront front.added items) [
-          | inl none ↦ let Q : List Item → Type 0 = λ l. IsFront l items in subst Q (sym none) (none_front items)
+          | inl none ↦ subst Q (sym none) (none_front items)
           | inr some ↦ subst P (one_items command image some.0 items e some.1 are) some.2
         ] in
-        (front.added, is, front.put held before)
+        λ held before. (front.added, is, front.put held before)
 
 -- ---- the run
 

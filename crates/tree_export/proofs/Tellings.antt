@@ -23,26 +23,20 @@ length-more : (before : List Wanted) (item : Wanted) → length (before ++ item 
 length-more [] item = refl
 length-more (first ∷ before) item = ap suc (length-more before item)
 
+-- the item at a place, where it is one of them, and those at later ones
+place-if : (facts : Facts) (before items : List Wanted) (item : Wanted) (b : Bool) (later : List ℕ) → filter_map (slice_get (before ++ item ∷ items)) later ≡ filter (is_left_out facts) items →
+    filter_map (slice_get (before ++ item ∷ items)) (cond b (length before ∷ later) later) ≡ cond b (item ∷ filter (is_left_out facts) items) (filter (is_left_out facts) items)
+place-if facts before items item true later e =
+    ap (λ (o : Option Wanted). cons_option o (filter_map (slice_get (before ++ item ∷ items)) later)) (get-at before items item) ∙ ap (λ (l : List Wanted). item ∷ l) e
+place-if facts before items item false later e = e
+
 -- the items at the places from a number on
 from-place : (facts : Facts) (before items : List Wanted) → filter_map (slice_get (before ++ items)) (left_out_from facts (length before) items) ≡ filter (is_left_out facts) items
 from-place facts before [] = refl
-from-place facts before (item ∷ items) = go (is_left_out facts item) next
-  where
-    all : List Wanted
-    all = before ++ item ∷ items
-
-    later : List ℕ
-    later = left_out_from facts (suc (length before)) items
-
-    next : filter_map (slice_get all) later ≡ filter (is_left_out facts) items
-    next =
-        ap₂ (λ (l : List Wanted) (n : ℕ). filter_map (slice_get l) (left_out_from facts n items)) (sym (append_assoc before (item ∷ []) items)) (sym (length-more before item))
-        ∙ from-place facts (before ++ item ∷ []) items
-
-    go : (b : Bool) → filter_map (slice_get all) later ≡ filter (is_left_out facts) items →
-        filter_map (slice_get all) (cond b (length before ∷ later) later) ≡ cond b (item ∷ filter (is_left_out facts) items) (filter (is_left_out facts) items)
-    go true e = ap (λ (o : Option Wanted). cons_option o (filter_map (slice_get all) later)) (get-at before items item) ∙ ap (λ (l : List Wanted). item ∷ l) e
-    go false e = e
+from-place facts before (item ∷ items) =
+    place-if facts before items item (is_left_out facts item) (left_out_from facts (suc (length before)) items)
+    (ap₂ (λ (l : List Wanted) (n : ℕ). filter_map (slice_get l) (left_out_from facts n items)) (sym (append_assoc before (item ∷ []) items)) (sym (length-more before item))
+    ∙ from-place facts (before ++ item ∷ []) items)
 
 -- the items at the places of those for which nothing is put
 pub left_items : (facts : Facts) (items : List Wanted) → filter_map (slice_get items) (left_out facts items) ≡ filter (is_left_out facts) items

@@ -1,6 +1,6 @@
 // The command `export`.
-ghost use Rattle.std.specs.Prelude.{◌≡◌, ◌++◌, [], ◌∷◌, ℕ, List, Some, map, filter_map, slice_get, IfOk, IfErr, IsErrOf};
-ghost use Rattle.std.specs.List.{flat_map};
+ghost use Rattle.std.specs.Prelude.{◌≡◌, ◌++◌, [], ◌∷◌, ℕ, List, Some, map, option_map, filter_map, slice_get, IfOk, IfErr, IsErrOf, OnOk};
+ghost use Rattle.std.specs.List.{cons_option, flat_map};
 ghost use Rattle.std.specs.String.{string_bytes};
 ghost use Rattle.apfs_model.specs.Counts.{Rose};
 ghost use Rattle.apfs_model.specs.Source.{IsKept};
@@ -13,7 +13,7 @@ ghost use Rattle.path_walk.specs.Stops.{IsLawful, IsNoAnswer};
 ghost use Rattle.path_walk.specs.Texts as lines;
 ghost use Rattle.apfs_check.specs.WellFormed.{IsWellFormed};
 ghost use Rattle.tree_export.specs.Exported.{wanted_of, items_in};
-ghost use Rattle.tree_export.specs.Exported as items;
+ghost use Rattle.tree_export.specs.Exported as view_items;
 ghost use Rattle.tree_export.specs.Texts.{skipped_text, done_text};
 ghost use Rattle.apfs_cli.specs.Commands.Export.{told_text, IsOfNoRoot};
 ghost use Rattle.apfs_cli.specs.Handed.{looked, stored};
@@ -106,6 +106,29 @@ impl Line for Told<'_> {
     }
 }
 
+// The item at a place, where there is one.
+#[tactic(auto, using(crate::proofs::Exports::get_wanted))]
+fn item_at(items: &[Item], place: usize) -> Option<&Item>
+    ensures { option_map (λ item. wanted_of item.now) result ≡ slice_get (map wanted_of items.entry.now) place }
+{
+    items.get(place)
+}
+
+// Adds the line of the item at a place, where there is one.
+fn push_skipped<'a>(
+    items: &'a [Item],
+    place: usize,
+    told: &mut Vec<Told<'a>>,
+) -> Result<(), AllocError>
+    ensures { OnOk result (flat_map told_text told.new.items ≡ flat_map told_text told.old.items ++ flat_map skipped_text (cons_option (slice_get (map wanted_of items.entry.now) place) [])) }
+{
+    let Some(item) = item_at(items, place) else {
+        return Ok(());
+    };
+    told.push(Told::Skipped(item))?;
+    Ok(())
+}
+
 // The items at some places, each as a line.
 fn skipped_in<'a>(
     alloc: Global,
@@ -116,9 +139,7 @@ fn skipped_in<'a>(
 {
     let mut told = Vec::new(alloc);
     'places: for place in places {
-        if let Some(item) = items.get(*place) {
-            told.push(Told::Skipped(item))?;
-        }
+        push_skipped(items, *place, &mut told)?;
     }
     Ok(told)
 }
@@ -146,7 +167,7 @@ fn put_done<W: Sink>(alloc: Global, items: &[Item], done: &Done, out: &mut W) ->
 
 // The item of a row of a tree. Its path is text, since names are; one that isn't is told as if there were no memory for it.
 fn item_of(alloc: Global, path: &[u8], found: &Found) -> Result<Item, AllocError>
-    ensures { IfOk result (λ item. wanted_of item ≡ items.item_of (path.now, found.now)) }
+    ensures { IfOk result (λ item. wanted_of item ≡ view_items.item_of (path.now, found.now)) }
 {
     let Ok(path) = str::from_utf8(path) else {
         return Err(AllocError);
@@ -161,7 +182,7 @@ fn item_of(alloc: Global, path: &[u8], found: &Found) -> Result<Item, AllocError
 
 // The items of the rows of a tree.
 fn items_of(alloc: Global, rows: Vec<(Bytes, Found)>) -> Result<Vec<Item>, AllocError>
-    ensures { IfOk result (λ items. map wanted_of items.items ≡ map items.item_of rows.items) }
+    ensures { IfOk result (λ items. map wanted_of items.items ≡ map view_items.item_of rows.items) }
 {
     let mut items = Vec::new(alloc);
     'rows: for (path, found) in rows {

@@ -12,7 +12,7 @@ use Rattle.apfs_cli.proofs.Puts.{rose_later}
 use Rattle.apfs_cli.proofs.commands.export.write.Goals as goal
 
 pub write_checked-requires : goal.write_checked-requires
-write_checked-requires g c image given = c.in-Ok.ensures.clear image (sym c.in-Ok.ensures.kept.same_bytes ∙ given)
+write_checked-requires g c = record { clean = λ image given. c.in-Ok.ensures.clear image (sym c.in-Ok.ensures.kept.same_bytes ∙ given) }
 
 pub returns-in-Ok-clause-answer : goal.returns-in-Ok-clause-answer
 returns-in-Ok-clause-answer g c =

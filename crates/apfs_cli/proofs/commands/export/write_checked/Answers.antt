@@ -13,7 +13,7 @@ use Rattle.apfs_cli.proofs.Puts.{rose_later}
 use Rattle.apfs_cli.proofs.commands.export.write_checked.Goals as goal
 
 pub write_view-requires-clause-clean : goal.write_view-requires-clause-clean
-write_view-requires-clause-clean g c image given = c.requires image (sym c.in-Ok.ensures.kept.same_bytes ∙ given)
+write_view-requires-clause-clean g c image given = c.requires.clean image (sym c.in-Ok.ensures.kept.same_bytes ∙ given)
 
 pub write_view-requires-clause-meant : goal.write_view-requires-clause-meant
 write_view-requires-clause-meant g c image given = c.in-Ok.ensures.clear image (sym c.in-Ok.ensures.kept.same_bytes ∙ given)

@@ -13,7 +13,7 @@ use Rattle.apfs_cli.proofs.Puts.{rose_later}
 use Rattle.apfs_cli.proofs.commands.export.write_view.Goals as goal
 
 pub items_at-requires : goal.items_at-requires
-items_at-requires g c = rw c.site-site.ensures c.requires.site
+items_at-requires g c = rw c.site-site.ensures (record { site = c.requires.site })
 
 pub write_items-requires-clause-site : goal.write_items-requires-clause-site
 write_items-requires-clause-site g c = rw (c.site-site.ensures, c.in-Ok.ensures.kept.same_size) c.requires.site
@@ -27,12 +27,13 @@ write_items-requires-clause-meant g c image given = c.requires.meant image (sym 
 pub write_items-requires-clause-items : goal.write_items-requires-clause-items
 write_items-requires-clause-items g c image given =
     let told = sym c.in-Ok.ensures.kept.same_bytes ∙ given in
-    c.in-Ok.ensures.found image told
+    rw c.as_slice.ensures.value
+    (c.in-Ok.ensures.found image told
     (lawful_at (target_asked c.args.target) (looked g.S.BlockSource.bytes g.S.BlockSource.faults c.args.src.now c.args.src.now) c.args.viewed.now.checkpoint c.args.viewed.now.volume c.args.viewed.now.view c.site-site.result c.site-site.ensures
-    c.requires.clean c.requires.meant image told)
+    c.requires.clean c.requires.meant image told))
 
-pub returns-in-Ok-clause-answer : goal.returns-in-Ok-clause-answer
-returns-in-Ok-clause-answer g c =
+pub returns-clause-answer : goal.returns-clause-answer
+returns-clause-answer g c =
     let bytes = g.S.BlockSource.bytes in
     let faults = g.S.BlockSource.faults in
     into_same (Export (target_asked c.args.target)) (looked bytes faults c.items_at.new.src c.write_items.new.src) (looked bytes faults c.args.src.now c.write_items.new.src)
