@@ -28,13 +28,29 @@ fn read_words(rt: &HostRuntime) -> io::Result<Vec<String>> {
     Ok(words)
 }
 
-// The place among the words of the one that names the image; none where the words are no line, or ask for a command that
-// takes no image. `--gpt` stands before the command.
-fn image_at(alloc: Global, words: &[String]) -> Result<Option<usize>, AllocError> {
-    match asked(alloc, words)? {
-        Some(Order::On { in_partition, .. }) => Ok(Some(if in_partition { 2 } else { 1 })),
-        Some(Order::Gen(_) | Order::Format(_)) | None => Ok(None),
-    }
+// The places among the words of the one that names the image and of the one that names the directory to put files into; none
+// where the words are no line, or ask for a command that takes none. `--gpt` stands before the command.
+#[derive(Drop)]
+struct Places {
+    image: Option<usize>,
+    folder: Option<usize>,
+}
+
+// The place of the word that names the image, after the command.
+fn image_at(in_partition: bool) -> usize {
+    if in_partition { 2 } else { 1 }
+}
+
+fn places_in(alloc: Global, words: &[String]) -> Result<Places, AllocError> {
+    let (image, folder) = match asked(alloc, words)? {
+        Some(Order::On { in_partition, .. }) => (Some(image_at(in_partition)), None),
+        Some(Order::Export { in_partition, .. }) => {
+            let image = image_at(in_partition);
+            (Some(image), Some(image + 1))
+        }
+        Some(Order::Gen(_) | Order::Format(_)) | None => (None, None),
+    };
+    Ok(Places { image, folder })
 }
 
 // Whether a path leads to a file or a block device. What else it leads to is never opened: a pipe would be waited for, and
@@ -60,14 +76,40 @@ fn open(rt: &HostRuntime, path: &str) -> Opened<FileSource> {
     }
 }
 
-// The image that the words name; absent where they name none.
-fn image_of(rt: &HostRuntime, words: &[String]) -> Result<Opened<FileSource>, AllocError> {
-    let Some(at) = image_at(rt.alloc(), words)? else {
-        return Ok(Opened::Absent);
-    };
-    match words.get(at) {
-        Some(path) => Ok(open(rt, path.as_str())),
-        None => Ok(Opened::Absent),
+// The word at a place, where it is named.
+fn word_at(words: &[String], at: Option<usize>) -> Option<&String> {
+    match at {
+        Some(at) => words.get(at),
+        None => None,
+    }
+}
+
+// The image that a word names; absent where none does.
+fn image_of(rt: &HostRuntime, word: Option<&String>) -> Opened<FileSource> {
+    match word {
+        Some(path) => open(rt, path.as_str()),
+        None => Opened::Absent,
+    }
+}
+
+// Whether a path leads to a directory.
+fn is_directory(rt: &HostRuntime, path: &str) -> bool {
+    match fs::metadata(rt, path) {
+        Ok(found) => found.is_dir(),
+        Err(_) => false,
+    }
+}
+
+// The folder that a word names; nothing where none does, or where it leads to no directory. An error where memory ran out.
+fn folder_of<'a>(
+    rt: &'a HostRuntime,
+    word: Option<&String>,
+) -> Result<Given<DirFolder<'a, HostRuntime>>, AllocError> {
+    match word {
+        Some(path) if is_directory(rt, path.as_str()) => {
+            Ok(Given::Into(DirFolder::new(rt, path.clone()?)))
+        }
+        _ => Ok(Given::Nothing),
     }
 }
 
@@ -75,12 +117,15 @@ fn main(rt: HostRuntime) -> ExitCode {
     let Ok(words) = read_words(&rt) else {
         return ExitCode::from(OUT_OF_MEMORY);
     };
-    let Ok(mut image) = image_of(&rt, &words) else {
+    let Ok(places) = places_in(rt.alloc(), &words) else {
+        return ExitCode::from(OUT_OF_MEMORY);
+    };
+    let mut image = image_of(&rt, word_at(&words, places.image));
+    let Ok(mut folder) = folder_of(&rt, word_at(&words, places.folder)) else {
         return ExitCode::from(OUT_OF_MEMORY);
     };
     let mut out = StdSink::new(rt.stdout());
     let mut err = StdSink::new(rt.stderr());
-    let mut folder: Given<DirFolder<'_, HostRuntime>> = Given::Nothing;
     let status = run(
         rt.alloc(),
         &words,

@@ -13,8 +13,9 @@ use Rattle.apfs_cli.specs.Commands.Ls as ls
 use Rattle.apfs_cli.specs.Commands.Tree as tree
 use Rattle.apfs_cli.specs.Commands.Cat as cat
 use Rattle.apfs_cli.specs.Commands.Xattr as xattr
+use Rattle.apfs_cli.specs.Commands.Export as export
 use Rattle.apfs_cli.specs.First.{ResultBy, RestsBy}
-use Rattle.apfs_cli.specs.Words.{Asked, Ring, Info, Volumes, Space, Check, Snapshots, Usage, Ls, Tree, Cat, Xattr, Gen, Format}
+use Rattle.apfs_cli.specs.Words.{Asked, Ring, Info, Volumes, Space, Check, Snapshots, Usage, Ls, Tree, Cat, Xattr, Export, Gen, Format}
 use Rattle.apfs_cli.proofs.Views.{text_no_answer, wanted_lawful, answer_lawful}
 use Rattle.apfs_cli.proofs.Ways.{volume_or_none}
 
@@ -41,6 +42,7 @@ text_or_answer (Ls checks target) image text answer has is = not_both checks ima
 text_or_answer (Tree checks target) image text answer has is = not_both checks image (tree.IsText target image text) (tree.IsAnswer target image answer) (text_no_answer (tree.wanted target.path) target image text answer) has is
 text_or_answer (Cat checks target) image text answer has is = not_both checks image (cat.IsText target image text) (cat.IsAnswer target image answer) (text_no_answer (cat.wanted target.path) target image text answer) has is
 text_or_answer (Xattr checks target name) image text answer has is = not_both checks image (xattr.IsText target name image text) (xattr.IsAnswer target name image answer) (text_no_answer (xattr.wanted target.path name) target image text answer) has is
+text_or_answer (Export target) image text answer has is = text_no_answer export.wanted target image text answer has.1 is.1
 text_or_answer (Gen n) image text answer has is = is
 text_or_answer (Format spec) image text answer has is = is
 
@@ -57,6 +59,7 @@ text_rests (Ls checks target) image text has = rests_by checks image (ls.IsText 
 text_rests (Tree checks target) image text has = rests_by checks image (tree.IsText target image text) (IsLawfulView image target) (wanted_lawful (tree.wanted target.path) target image (Ok text)) has
 text_rests (Cat checks target) image text has = rests_by checks image (cat.IsText target image text) (IsLawfulView image target) (wanted_lawful (cat.wanted target.path) target image (Ok text)) has
 text_rests (Xattr checks target name) image text has = rests_by checks image (xattr.IsText target name image text) (IsLawfulView image target) (wanted_lawful (xattr.wanted target.path name) target image (Ok text)) has
+text_rests (Export target) image text has = tt
 text_rests (Gen n) image text has = tt
 text_rests (Format spec) image text has = tt
 
@@ -73,6 +76,7 @@ answer_rests (Ls checks target) image answer is = rests_by checks image (ls.IsAn
 answer_rests (Tree checks target) image answer is = rests_by checks image (tree.IsAnswer target image answer) (IsLawfulView image target) (answer_lawful (tree.wanted target.path) target image answer) is
 answer_rests (Cat checks target) image answer is = rests_by checks image (cat.IsAnswer target image answer) (IsLawfulView image target) (answer_lawful (cat.wanted target.path) target image answer) is
 answer_rests (Xattr checks target name) image answer is = rests_by checks image (xattr.IsAnswer target name image answer) (IsLawfulView image target) (answer_lawful (xattr.wanted target.path name) target image answer) is
+answer_rests (Export target) image answer is = tt
 answer_rests (Gen n) image answer is = tt
 answer_rests (Format spec) image answer is = tt
 
@@ -109,6 +113,17 @@ of_sound (Check other) profile e = record {
   answer = λ image answer is. absurd is;
 }
 of_sound (Usage volume) profile e = record {
+  rests = λ image. tt;
+  text = λ image text is.
+      let same : Plain ≡ profile = Prim.cc in
+      let P : Profile → Type 0 = λ p. IsWellFormed p image in
+      subst P same is.0;
+  answer = λ image answer is.
+      let same : Plain ≡ profile = Prim.cc in
+      let P : Profile → Type 0 = λ p. IsWellFormed p image in
+      subst P same is.0;
+}
+of_sound (Export target) profile e = record {
   rests = λ image. tt;
   text = λ image text is.
       let same : Plain ≡ profile = Prim.cc in

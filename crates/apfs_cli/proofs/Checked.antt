@@ -34,7 +34,7 @@ use Rattle.apfs_cli.specs.ReportText.{report_text}
 use Rattle.apfs_cli.specs.Says.{BeginsText, BeginsForm, IsPart, IsReadPart, IsTextIf, StopsAt, AnswersAt, SaysOn, HasEnded}
 use Rattle.apfs_cli.specs.Seen.{outcome_of, stopped_at}
 use Rattle.apfs_cli.specs.Texts.{IsPrefix}
-use Rattle.apfs_cli.specs.Words.{Asked, Ring, Info, Volumes, Space, Check, Snapshots, Usage, Ls, Tree, Cat, Xattr, Gen, Format}
+use Rattle.apfs_cli.specs.Words.{Asked, Ring, Info, Volumes, Space, Check, Snapshots, Usage, Ls, Tree, Cat, Xattr, Export, Gen, Format}
 use Rattle.apfs_cli.specs.Written.{Sunk, Failed}
 use Rattle.apfs_cli.proofs.Browsable.{well_lawful, well_wanted}
 use Rattle.apfs_cli.proofs.ByAnswers.{for_answer}
@@ -43,6 +43,7 @@ use Rattle.apfs_cli.proofs.OverVolume.{named_of}
 use Rattle.apfs_cli.proofs.OverViews.{ls_over, tree_over, cat_over, xattr_over}
 use Rattle.apfs_cli.proofs.Puts.{wrote_nothing}
 use Rattle.apfs_cli.proofs.Usages.{usage_result}
+use Rattle.apfs_cli.proofs.Exports.{export_result}
 
 -- ---- the container is well-formed
 
@@ -194,6 +195,7 @@ sound_result (Check asked) profile image e w =
     let told = reported asked image right in
     inl (report_text told.0, (told.0, record { right = right; report = told.1 }, refl))
 sound_result (Usage volume) profile image e w = usage_result volume image (at_profile Plain profile image e w)
+sound_result (Export target) profile image e w = export_result target image (at_profile Plain profile image e w)
 sound_result (Gen n) profile image e w =
     let right : IsWellFormed Plain image = at_profile Plain profile image e w in
     let told = reported Plain image right in
@@ -217,6 +219,7 @@ clean_ended Space source ended out clean has = has
 clean_ended (Check profile) source ended out clean has = has
 clean_ended (Snapshots volume) source ended out clean has = has
 clean_ended (Usage volume) source ended out clean has = has
+clean_ended (Export target) source ended out clean has = has
 clean_ended (Gen n) source ended out clean has = has
 clean_ended (Format spec) source ended out clean has = has
 clean_ended (Ls Quick target) source ended out clean has = has
@@ -277,6 +280,17 @@ first_stops (Usage volume) e = record {
   };
   feature = λ image feature block flaw. record {
     none = no_result (Usage volume) image (λ text is. flawed_refutes Plain image (inr (feature, (block, flaw))) is.0) (λ answer is. flawed_refutes Plain image (inr (feature, (block, flaw))) is.0);
+    there_is = flaw;
+  };
+}
+first_stops (Export target) e = record {
+  lead_is = refl;
+  fault = λ image fault flaw. record {
+    none = no_result (Export target) image (λ text is. flawed_refutes Plain image (inl (fault, flaw)) is.0) (λ answer is. flawed_refutes Plain image (inl (fault, flaw)) is.0);
+    there_is = flaw;
+  };
+  feature = λ image feature block flaw. record {
+    none = no_result (Export target) image (λ text is. flawed_refutes Plain image (inr (feature, (block, flaw))) is.0) (λ answer is. flawed_refutes Plain image (inr (feature, (block, flaw))) is.0);
     there_is = flaw;
   };
 }

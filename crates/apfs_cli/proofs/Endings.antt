@@ -82,7 +82,7 @@ no_result command image text answer (inr has) = answer has.0 has.1
 
 -- ---- a source that tells the same bytes and fails where the other does
 
-of_same : (source other : Looked) (P : List ℕ → Type 0) → source.bytes ≡ other.bytes → OfImage source P → OfImage other P
+pub of_same : (source other : Looked) (P : List ℕ → Type 0) → source.bytes ≡ other.bytes → OfImage source P → OfImage other P
 of_same source other P same fact image told = fact image (same ∙ told)
 
 part_same : (command : Asked) (source other : Looked) (part : List ℕ) → source.bytes ≡ other.bytes → IsPart command source part → IsPart command other part

@@ -4,7 +4,7 @@ use Rattle.std.proofs.Common.{inl, inr, sym, ◌∙◌, ap, subst, append_assoc,
 use Rattle.std.proofs.lemmas.List.{append-nil}
 use Rattle.view_rules.specs.declared.profile.Profile.TheVariants.{Plain}
 use Rattle.apfs_cli.specs.declared.named.Named.{Named}
-use Rattle.apfs_cli.specs.declared.named.Named.TheVariants.{InContainer, InUsage, NoTable, BadTable, NoPartition, PartOutside}
+use Rattle.apfs_cli.specs.declared.named.Named.TheVariants.{InContainer, InUsage, InExport, NoTable, BadTable, NoPartition, PartOutside}
 use Rattle.apfs_cli.specs.declared.stopped.Stopped.{Stopped}
 use Rattle.apfs_cli.specs.declared.stopped.Stopped.TheVariants as stops
 use Rattle.apfs_cli.specs.ByCommand.{IsNamed, HasResult}
@@ -56,6 +56,7 @@ led_none n image (inr answer) = absurd answer.1
 led_named : (n : ℕ) (image : List ℕ) (named : Named) → IsNamed (Check Plain) image named → IsNamed (Gen n) image named
 led_named n image (InContainer fault) is = is
 led_named n image (InUsage slot xid) is = is
+led_named n image (InExport slot xid id) is = is
 led_named n image NoTable is = is
 led_named n image BadTable is = is
 led_named n image NoPartition is = is

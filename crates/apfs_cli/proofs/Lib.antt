@@ -1,6 +1,7 @@
 pub mod Puts
 pub mod Kept
 pub mod Endings
+pub mod Fillings
 pub mod Stops
 pub mod Ways
 pub mod ByAnswers
@@ -13,12 +14,14 @@ pub mod OverViews
 pub mod AtView
 pub mod Browsable
 pub mod Usages
+pub mod Exports
 pub mod Checked
 pub mod Contents
 pub mod Present
 pub mod Owed
 pub mod Statuses
 pub mod NewRow
+pub mod FilledRow
 pub mod Plugs
 pub mod Led
 pub mod Orders

@@ -6,7 +6,7 @@ use Rattle.apfs_model.specs.Sink.{Wrote, WrotePart}
 use Rattle.img_format.specs.declared.spec.Spec.{Spec}
 use Rattle.img_format.specs.Fresh.{fresh}
 use Rattle.apfs_cli.specs.declared.named.Named.{Named}
-use Rattle.apfs_cli.specs.declared.named.Named.TheVariants.{InContainer, InUsage, NoTable, BadTable, NoPartition, PartOutside}
+use Rattle.apfs_cli.specs.declared.named.Named.TheVariants.{InContainer, InUsage, InExport, NoTable, BadTable, NoPartition, PartOutside}
 use Rattle.apfs_cli.specs.ByCommand.{IsNamed}
 use Rattle.apfs_cli.specs.Handed.{Looked, made, Stored}
 use Rattle.apfs_cli.specs.Outcome.{Outcome, Written, Faulty, WrongWords, ReadFailed, WriteFailed, OutOfMemory, Refused, Answered, NoImage, NoFolder, status_of, text_of}
@@ -38,6 +38,7 @@ new_part spec source part is =
 none_named : (spec : Spec) (named : Named) → IsNamed (Format spec) [] named → ⊥
 none_named spec (InContainer fault) is = is
 none_named spec (InUsage slot xid) is = is
+none_named spec (InExport slot xid id) is = is
 none_named spec NoTable is = is
 none_named spec BadTable is = is
 none_named spec NoPartition is = is

@@ -14,7 +14,7 @@ use Rattle.cmd_words.specs.Lines.{line_of}
 use Rattle.img_format.specs.declared.spec.Spec.{Spec}
 use Rattle.img_format.specs.Names.{most_name, IsName}
 use Rattle.img_format.specs.Valid.{least_blocks, most_blocks, IsValid}
-use Rattle.apfs_cli.specs.Words.{Asked, Line, built, line_in, plain_line, command_of, after_gpt, asked_by, asked_of, plain_by, plain_of, new_by, new_of, few, count_said, files_said, gen_files, holdable, blocks_said, is_name, name_said, spec_by, spec_said, new_spec, Ring, Info, Volumes, Space, Check, Snapshots, Usage, Ls, Tree, Cat, Xattr, Gen, Format}
+use Rattle.apfs_cli.specs.Words.{Asked, Line, built, line_in, plain_line, command_of, after_gpt, asked_by, asked_of, plain_by, plain_of, new_by, new_of, few, count_said, files_said, gen_files, holdable, blocks_said, is_name, name_said, spec_by, spec_said, new_spec, Ring, Info, Volumes, Space, Check, Snapshots, Usage, Ls, Tree, Cat, Xattr, Export, Gen, Format}
 
 pub asked_with : (words rest : List (List ℕ)) → Some rest ≡ after_gpt words → option_map (line_in true) (command_of rest) ≡ asked_of words
 unfolding asked_of
@@ -101,6 +101,7 @@ IsMakeable (Ls checks target) = Unit {0}
 IsMakeable (Tree checks target) = Unit {0}
 IsMakeable (Cat checks target) = Unit {0}
 IsMakeable (Xattr checks target name) = Unit {0}
+IsMakeable (Export target) = Unit {0}
 IsMakeable (Gen n) = n ≤ 20000
 IsMakeable (Format spec) = IsValid spec
 
@@ -120,6 +121,7 @@ built_makeable (lines.Ls flags target) = tt
 built_makeable (lines.Tree flags target) = tt
 built_makeable (lines.Cat flags target) = tt
 built_makeable (lines.Xattr flags target name) = tt
+built_makeable (lines.Export target) = tt
 
 line_makeable : (p : Bool) (line : Option lines.Asked) → AsksMakeable (option_map (line_in p) (option_map built line))
 line_makeable p None = tt

@@ -6,7 +6,7 @@ use Rattle.apfs_check.specs.declared.fault.Fault.{Fault}
 use Rattle.path_walk.specs.declared.answer.Answer.{Answer}
 use Rattle.path_walk.specs.declared.answer.Answer.TheVariants.{NoVolume}
 use Rattle.apfs_cli.specs.declared.named.Named.{Named}
-use Rattle.apfs_cli.specs.declared.named.Named.TheVariants.{InContainer, InUsage, NoTable, BadTable, NoPartition, PartOutside}
+use Rattle.apfs_cli.specs.declared.named.Named.TheVariants.{InContainer, InUsage, InExport, NoTable, BadTable, NoPartition, PartOutside}
 use Rattle.apfs_cli.specs.declared.stopped.Stopped.{Stopped}
 use Rattle.apfs_cli.specs.declared.stopped.Stopped.TheVariants as stops
 use Rattle.apfs_cli.specs.ByCommand.{lead_of, IsText, IsFault, IsNamed, IsFeature, IsAnswer, HasResult}
@@ -45,6 +45,7 @@ no_volume_answers command named image answer is same lacks rests = record {
 pub named_of : (command : Asked) (image : List ℕ) (why : Named) (P : Fault → Type 0) → ((fault : Fault) → P fault → StopsAt command image (IsFault command image fault)) → OfContainer why P → StopsAt command image (IsNamed command image why)
 named_of command image (InContainer fault) P follows told = follows fault told
 named_of command image (InUsage slot xid) P follows told = absurd told
+named_of command image (InExport slot xid id) P follows told = absurd told
 named_of command image NoTable P follows told = absurd told
 named_of command image BadTable P follows told = absurd told
 named_of command image NoPartition P follows told = absurd told

@@ -18,109 +18,101 @@ use Rattle.apfs_cli.specs.declared.words.Command.TheVariants as commands
 use Rattle.apfs_cli.specs.ByCommand.{From, HandedIn, Made, Nowhere, from_of, takes_folder, AreItems}
 use Rattle.apfs_cli.specs.Handed.{Looked, LookFailed, OfImage, part_looked, made, Stored, stored_in, IsGivenKept}
 use Rattle.apfs_cli.specs.Outcome.{Outcome, Written, Faulty, WrongWords, ReadFailed, WriteFailed, OutOfMemory, Refused, Answered, NoImage, NoFolder, text_of}
-use Rattle.apfs_cli.specs.Says.{SaysOn, HasEnded, HasMade, HasCome, FillsBy, FillsOn, IsSame, IsUntouched, LacksFrom, LacksStore, IsSourceFrom, IsSource, StopsTable, PutFailed, HasAll, Says, CameTo, wrong_words, no_image, no_folder, no_part, ran, no_memory}
+use Rattle.apfs_cli.specs.Says.{SaysOn, HasEnded, HasEndedInto, HasMade, HasCome, FillsBy, FillsOn, IsSame, IsUntouched, LacksFrom, LacksStore, IsSourceFrom, IsSource, StopsTable, PutFailed, HasAll, Says, CameTo, wrong_words, no_image, no_folder, no_part, ran, no_memory}
 use Rattle.apfs_cli.specs.Seen.{outcome_of, stopped_at_table}
-use Rattle.apfs_cli.specs.Words.{Asked, Line, plain_line, partition_line, said, Ring, Info, Volumes, Space, Check, Snapshots, Usage, Ls, Tree, Cat, Xattr, Gen, Format}
+use Rattle.apfs_cli.specs.Words.{Asked, Line, plain_line, partition_line, said, Ring, Info, Volumes, Space, Check, Snapshots, Usage, Ls, Tree, Cat, Xattr, Export, Gen, Format}
 use Rattle.apfs_cli.specs.Written.{Sunk, Failed, IsClosed}
+use Rattle.apfs_cli.proofs.Fillings.{says_more}
 use Rattle.apfs_cli.proofs.Puts.{wrote_nothing}
 use Rattle.apfs_cli.proofs.Statuses.{some_part}
 
--- ---- no command takes a folder
+-- ---- a command that takes no folder
 
-no_folder_taken : (command : Asked) → takes_folder command ≡ false
-no_folder_taken Ring = refl
-no_folder_taken Info = refl
-no_folder_taken Volumes = refl
-no_folder_taken Space = refl
-no_folder_taken (Check profile) = refl
-no_folder_taken (Snapshots volume) = refl
-no_folder_taken (Usage volume) = refl
-no_folder_taken (Ls checks target) = refl
-no_folder_taken (Tree checks target) = refl
-no_folder_taken (Cat checks target) = refl
-no_folder_taken (Xattr checks target name) = refl
-no_folder_taken (Gen n) = refl
-no_folder_taken (Format spec) = refl
+pub none_taken : (command : Command) → takes_folder (said command) ≡ false
+none_taken commands.Ring = refl
+none_taken commands.Info = refl
+none_taken commands.Volumes = refl
+none_taken commands.Space = refl
+none_taken (commands.Check profile) = refl
+none_taken (commands.Snapshots volume) = refl
+none_taken (commands.Usage volume) = refl
+none_taken (commands.Ls checks target) = refl
+none_taken (commands.Tree checks target) = refl
+none_taken (commands.Cat checks target) = refl
+none_taken (commands.Xattr checks target name) = refl
 
-no_items : (command : Asked) (image : List ℕ) → AreItems command image []
-no_items Ring image = refl
-no_items Info image = refl
-no_items Volumes image = refl
-no_items Space image = refl
-no_items (Check profile) image = refl
-no_items (Snapshots volume) image = refl
-no_items (Usage volume) image = refl
-no_items (Ls checks target) image = refl
-no_items (Tree checks target) image = refl
-no_items (Cat checks target) image = refl
-no_items (Xattr checks target name) image = refl
-no_items (Gen n) image = refl
-no_items (Format spec) image = refl
+no_items : (command : Asked) (image : List ℕ) → takes_folder command ≡ false → AreItems command image []
+no_items Ring image none = refl
+no_items Info image none = refl
+no_items Volumes image none = refl
+no_items Space image none = refl
+no_items (Check profile) image none = refl
+no_items (Snapshots volume) image none = refl
+no_items (Usage volume) image none = refl
+no_items (Ls checks target) image none = refl
+no_items (Tree checks target) image none = refl
+no_items (Cat checks target) image none = refl
+no_items (Xattr checks target name) image none = refl
+no_items (Export target) image none = absurd Prim.cc
+no_items (Gen n) image none = refl
+no_items (Format spec) image none = refl
 
-same_by : (command : Asked) (source : Looked) (folder : Stored) (o : Outcome) → IsSame folder → FillsBy command source folder o
-same_by command source folder (Written text) same = record { added = []; none = λ n. refl; are = λ image told rests. no_items command image; put = same }
-same_by command source folder (Faulty lead named) same = record { added = []; none = λ n. refl; are = λ image told. refl; put = same }
-same_by command source folder WrongWords same = same
-same_by command source folder (ReadFailed part) same = record { added = []; none = λ n. refl; are = λ image told. inl refl; put = same }
-same_by command source folder (WriteFailed part) same = record { added = []; none = λ n. refl; are = λ image told. inl refl; put = same }
-same_by command source folder (OutOfMemory part) same = record { added = []; none = λ n. refl; are = λ image told. inl refl; put = same }
-same_by command source folder (Refused lead feature block) same = record { added = []; none = λ n. refl; are = λ image told. refl; put = same }
-same_by command source folder (Answered lead answer) same = same
-same_by command source folder NoImage same = same
-same_by command source folder NoFolder same = same
+same_by : (command : Asked) (source : Looked) (folder : Stored) (o : Outcome) → takes_folder command ≡ false → IsSame folder → FillsBy command source folder o
+same_by command source folder (Written text) plain same = record { added = []; none = λ n. refl; are = λ image told rests. no_items command image plain; put = same }
+same_by command source folder (Faulty lead named) plain same = record { added = []; none = λ n. refl; are = λ image told. refl; put = same }
+same_by command source folder WrongWords plain same = same
+same_by command source folder (ReadFailed part) plain same = record { added = []; none = λ n. refl; are = λ image told. inl refl; put = same }
+same_by command source folder (WriteFailed part) plain same = record { added = []; none = λ n. refl; are = λ image told. inl refl; put = same }
+same_by command source folder (OutOfMemory part) plain same = record { added = []; none = λ n. refl; are = λ image told. inl refl; put = same }
+same_by command source folder (Refused lead feature block) plain same = record { added = []; none = λ n. refl; are = λ image told. refl; put = same }
+same_by command source folder (Answered lead answer) plain same = same
+same_by command source folder NoImage plain same = same
+same_by command source folder NoFolder plain same = same
 
-fills_same : (command : Asked) (source : Looked) (folder : Option Stored) (o : Outcome) → IsUntouched folder → FillsOn command source folder o
-fills_same command source None o same = tt
-fills_same command source (Some folder) o same = same_by command source folder o same
+fills_same : (command : Asked) (source : Looked) (folder : Option Stored) (o : Outcome) → takes_folder command ≡ false → IsUntouched folder → FillsOn command source folder o
+fills_same command source None o plain same = tt
+fills_same command source (Some folder) o plain same = same_by command source folder o plain same
 
 no_store : (b : Bool) (folder : Option Stored) → b ≡ false → LacksStore b folder → ⊥
 no_store false folder e lacks = lacks
 no_store true folder e lacks = absurd Prim.cc
 
 -- so what was handed in for it, which is as before, counts for nothing
-all_with : (line : Line) (image : Option Looked) (folder : Option Stored) → HasAll line image None → HasAll line image folder
-all_with line image folder all = record { image_there = all.image_there; folder_there = no_store (takes_folder line.command) folder (no_folder_taken line.command) }
+all_with : (line : Line) (image : Option Looked) (folder : Option Stored) → takes_folder line.command ≡ false → HasAll line image None → HasAll line image folder
+all_with line image folder plain all = record { image_there = all.image_there; folder_there = no_store (takes_folder line.command) folder plain }
 
 put_with : (out : Sunk) (folder : Option Stored) → PutFailed out None → PutFailed out folder
 put_with out folder (inl failed) = inl failed
 put_with out folder (inr none) = absurd none
 
-says_more : (command : Asked) (source : Looked) (A B : Type 0) (o : Outcome) → (A → B) → SaysOn command source A o → SaysOn command source B o
-says_more command source A B (Written text) follows says = says
-says_more command source A B (Faulty lead named) follows says = says
-says_more command source A B WrongWords follows says = says
-says_more command source A B (ReadFailed part) follows says = says
-says_more command source A B (WriteFailed part) follows says = (follows says.0, says.1)
-says_more command source A B (OutOfMemory part) follows says = says
-says_more command source A B (Refused lead feature block) follows says = says
-says_more command source A B (Answered lead answer) follows says = says
-says_more command source A B NoImage follows says = says
-says_more command source A B NoFolder follows says = says
+-- the words ask for none that takes one
+abbrev AsksNone : Option Line → Type 0
+AsksNone asked = (line : Line) → asked ≡ Some line → takes_folder line.command ≡ false
 
-says_with : (asked : Option Line) (image : Option Looked) (folder : Option Stored) (out : Sunk) (o : Outcome) → IsUntouched folder → Says asked image None out o → Says asked image folder out o
-says_with asked image folder out o same (wrong_words none is before) = wrong_words none is same
-says_with asked image folder out o same (no_image lacks is before) = no_image lacks is same
-says_with asked image folder out o same (no_folder lacks is before) = absurd (no_store (takes_folder lacks.line.command) None (no_folder_taken lacks.line.command) lacks.lacks)
-says_with asked image folder out o same (no_part has before) = no_part (record {
+says_with : (asked : Option Line) (image : Option Looked) (folder : Option Stored) (out : Sunk) (o : Outcome) → AsksNone asked → IsUntouched folder → Says asked image None out o → Says asked image folder out o
+says_with asked image folder out o plain same (wrong_words none is before) = wrong_words none is same
+says_with asked image folder out o plain same (no_image lacks is before) = no_image lacks is same
+says_with asked image folder out o plain same (no_folder lacks is before) = absurd (no_store (takes_folder lacks.line.command) None (plain lacks.line lacks.words) lacks.lacks)
+says_with asked image folder out o plain same (no_part has before) = no_part (record {
   line = has.line;
   words = has.words;
   wanted = has.wanted;
   image_from = has.image_from;
-  all = all_with has.line image folder has.all;
+  all = all_with has.line image folder (plain has.line has.words) has.all;
   disk = has.disk;
   disk_is = has.disk_is;
   stops = has.stops;
 }) same
-says_with asked image folder out o same (ran has) = ran (record {
+says_with asked image folder out o plain same (ran has) = ran (record {
   line = has.line;
   words = has.words;
-  all = all_with has.line image folder has.all;
+  all = all_with has.line image folder (plain has.line has.words) has.all;
   source = has.source;
   source_is = has.source_is;
   says = says_more has.line.command has.source (PutFailed out None) (PutFailed out folder) o (put_with out folder) has.says;
-  fills = fills_same has.line.command has.source folder o same;
+  fills = fills_same has.line.command has.source folder o (plain has.line has.words) same;
 })
-says_with asked image folder out o same (no_memory is before) = no_memory is same
+says_with asked image folder out o plain same (no_memory is before) = no_memory is same
 
 -- a folder that is as before is the one that was handed in
 pub kept_folder : {F : Type 0} (contents : F → Option (List Item)) (faults : F → ℕ) (given : Given F) → IsUntouched (stored_in contents faults given given)
@@ -131,8 +123,16 @@ pub kept_given : {F : Type 0} (given : Given F) → IsGivenKept given given
 kept_given Nothing = tt
 kept_given (Into folder) = tt
 
-pub came_with : (asked : Option Line) (image : Option Looked) (folder : Option Stored) (result : ℕ) (out err : Sunk) → IsUntouched folder → CameTo asked image None result out err → CameTo asked image folder result out err
-came_with asked image folder result out err same (o, says, ends) = (o, says_with asked image folder out o same says, ends)
+-- one line is asked for, and it takes no folder
+asks_none : (line : Line) → takes_folder line.command ≡ false → AsksNone (Some line)
+asks_none line plain other words =
+    let same : line ≡ other = Prim.cc in
+    let P : Line → Type 0 = λ l. takes_folder l.command ≡ false in
+    subst P same plain
+
+-- a run that took none has come to what it has, whatever was handed in for it
+pub come_with : (line : Line) (image : Option Looked) (folder : Option Stored) (ended : Result Unit Stopped) (out : Sunk) → takes_folder line.command ≡ false → IsUntouched folder → HasCome (Some line) image None ended out → HasCome (Some line) image folder ended out
+come_with line image folder ended out plain same (part, says, wrote) = (part, says_with (Some line) image folder out (outcome_of ended part) (asks_none line plain) same says, wrote)
 
 -- ---- a command over what is handed in
 
@@ -155,8 +155,16 @@ image_there HandedIn source lacks = lacks
 image_there Made source lacks = lacks
 image_there Nowhere source lacks = lacks
 
-all_there : (line : Line) (source : Looked) → HasAll line (Some source) None
-all_there line source = record { image_there = image_there (from_of line.command) source; folder_there = no_store (takes_folder line.command) None (no_folder_taken line.command) }
+all_there : (line : Line) (source : Looked) → takes_folder line.command ≡ false → HasAll line (Some source) None
+all_there line source plain = record { image_there = image_there (from_of line.command) source; folder_there = no_store (takes_folder line.command) None plain }
+
+-- and a folder is taken where one is
+folder_there : (b : Bool) (folder : Stored) → LacksStore b (Some folder) → ⊥
+folder_there true folder lacks = lacks
+folder_there false folder lacks = lacks
+
+all_given : (line : Line) (source : Looked) (folder : Stored) → HasAll line (Some source) (Some folder)
+all_given line source folder = record { image_there = image_there (from_of line.command) source; folder_there = folder_there (takes_folder line.command) folder }
 
 -- what is handed in is the source
 source_plain : (command : Asked) → from_of command ≡ HandedIn → (source : Looked) → IsSource (plain_line command) (Some source) source
@@ -166,13 +174,13 @@ source_plain command from source = let P : From → Type 0 = λ f. IsSourceFrom 
 source_part : (command : Asked) → from_of command ≡ HandedIn → (disk : Looked) (part : Part) → OfImage disk (λ bytes. found_part bytes ≡ Ok part) → IsSource (partition_line command) (Some disk) (part_looked part disk)
 source_part command from disk part found = let P : From → Type 0 = λ f. IsSourceFrom f true (Some disk) (part_looked part disk) in subst P (sym from) (disk, part, refl, found, refl)
 
-pub come_plain : (command : Asked) → from_of command ≡ HandedIn → (source : Looked) (ended : Result Unit Stopped) (out : Sunk) → HasEnded command source ended out → HasCome (Some (plain_line command)) (Some source) None ended out
-come_plain command from source ended out (part, says, wrote) = (
+pub come_plain : (command : Asked) → from_of command ≡ HandedIn → takes_folder command ≡ false → (source : Looked) (ended : Result Unit Stopped) (out : Sunk) → HasEnded command source ended out → HasCome (Some (plain_line command)) (Some source) None ended out
+come_plain command from plain source ended out (part, says, wrote) = (
   part,
   ran (record {
     line = plain_line command;
     words = refl;
-    all = all_there (plain_line command) source;
+    all = all_there (plain_line command) source plain;
     source = source;
     source_is = source_plain command from source;
     says = says_more command source (Failed out) (PutFailed out None) (outcome_of ended part) (λ failed. inl failed) says;
@@ -181,14 +189,14 @@ come_plain command from source ended out (part, says, wrote) = (
   wrote,
 )
 
-pub come_part : (command : Asked) → from_of command ≡ HandedIn → (disk : Looked) (part : Part) (ended : Result Unit Stopped) (out : Sunk) → OfImage disk (λ bytes. found_part bytes ≡ Ok part) → HasEnded command (part_looked part disk) ended out →
+pub come_part : (command : Asked) → from_of command ≡ HandedIn → takes_folder command ≡ false → (disk : Looked) (part : Part) (ended : Result Unit Stopped) (out : Sunk) → OfImage disk (λ bytes. found_part bytes ≡ Ok part) → HasEnded command (part_looked part disk) ended out →
     HasCome (Some (partition_line command)) (Some disk) None ended out
-come_part command from disk part ended out found (text, says, wrote) = (
+come_part command from plain disk part ended out found (text, says, wrote) = (
   text,
   ran (record {
     line = partition_line command;
     words = refl;
-    all = all_there (partition_line command) disk;
+    all = all_there (partition_line command) disk plain;
     source = part_looked part disk;
     source_is = source_part command from disk part found;
     says = says_more command (part_looked part disk) (Failed out) (PutFailed out None) (outcome_of ended text) (λ failed. inl failed) says;
@@ -197,38 +205,92 @@ come_part command from disk part ended out found (text, says, wrote) = (
   wrote,
 )
 
+-- so is what a command came to that fills a folder
+pub come_into : (command : Asked) → from_of command ≡ HandedIn → (source : Looked) (folder : Stored) (ended : Result Unit Stopped) (out : Sunk) → HasEndedInto command source folder ended out →
+    HasCome (Some (plain_line command)) (Some source) (Some folder) ended out
+come_into command from source folder ended out (part, says, fills, wrote) = (
+  part,
+  ran (record {
+    line = plain_line command;
+    words = refl;
+    all = all_given (plain_line command) source folder;
+    source = source;
+    source_is = source_plain command from source;
+    says = says;
+    fills = fills;
+  }),
+  wrote,
+)
+
+pub come_part_into : (command : Asked) → from_of command ≡ HandedIn → (disk : Looked) (part : Part) (folder : Stored) (ended : Result Unit Stopped) (out : Sunk) → OfImage disk (λ bytes. found_part bytes ≡ Ok part) →
+    HasEndedInto command (part_looked part disk) folder ended out → HasCome (Some (partition_line command)) (Some disk) (Some folder) ended out
+come_part_into command from disk part folder ended out found (text, says, fills, wrote) = (
+  text,
+  ran (record {
+    line = partition_line command;
+    words = refl;
+    all = all_given (partition_line command) disk folder;
+    source = part_looked part disk;
+    source_is = source_part command from disk part found;
+    says = says;
+    fills = fills;
+  }),
+  wrote,
+)
+
 -- the table stopped the run, and nothing was written
-come_table : (command : Asked) → from_of command ≡ HandedIn → (disk : Looked) (o : Outcome) → StopsTable disk o → (out : Sunk) → Says (Some (partition_line command)) (Some disk) None out o
-come_table command from disk o stops out = no_part (record {
+come_table : (command : Asked) → from_of command ≡ HandedIn → (disk : Looked) (folder : Option Stored) → HasAll (partition_line command) (Some disk) folder → IsUntouched folder → (o : Outcome) → StopsTable disk o → (out : Sunk) →
+    Says (Some (partition_line command)) (Some disk) folder out o
+come_table command from disk folder all same o stops out = no_part (record {
   line = partition_line command;
   words = refl;
   wanted = refl;
   image_from = from;
-  all = all_there (partition_line command) disk;
+  all = all;
   disk = disk;
   disk_is = refl;
   stops = stops;
-}) tt
+}) same
 
-pub come_without : (command : Asked) → from_of command ≡ HandedIn → (disk : Looked) (stop : GptStop) (contents : Option (List ℕ)) (count : ℕ) → OfImage disk (λ bytes. IsTableStop bytes stop) → (stop ≡ gpt.ReadFault → LookFailed disk) →
+stopped_without : (command : Asked) → from_of command ≡ HandedIn → (disk : Looked) (folder : Option Stored) → HasAll (partition_line command) (Some disk) folder → IsUntouched folder → (stop : GptStop) (contents : Option (List ℕ)) (count : ℕ) →
+    OfImage disk (λ bytes. IsTableStop bytes stop) → (stop ≡ gpt.ReadFault → LookFailed disk) →
+    HasCome (Some (partition_line command)) (Some disk) folder (Err (stopped_at_table stop)) (record { old = contents; new = contents; old_faults = count; new_faults = count })
+stopped_without command from disk folder all same gpt.NoTable contents count told cause =
+    ([], come_table command from disk folder all same (Faulty [] NoTable) (inl (NoTable, refl, told)) (record { old = contents; new = contents; old_faults = count; new_faults = count }), wrote_nothing contents)
+stopped_without command from disk folder all same gpt.BadTable contents count told cause =
+    ([], come_table command from disk folder all same (Faulty [] BadTable) (inl (BadTable, refl, told)) (record { old = contents; new = contents; old_faults = count; new_faults = count }), wrote_nothing contents)
+stopped_without command from disk folder all same gpt.NoPartition contents count told cause =
+    ([], come_table command from disk folder all same (Faulty [] NoPartition) (inl (NoPartition, refl, told)) (record { old = contents; new = contents; old_faults = count; new_faults = count }), wrote_nothing contents)
+stopped_without command from disk folder all same (gpt.PartOutside at) contents count told cause =
+    ([], come_table command from disk folder all same (Faulty [] (PartOutside at)) (inl (PartOutside at, refl, told)) (record { old = contents; new = contents; old_faults = count; new_faults = count }), wrote_nothing contents)
+stopped_without command from disk folder all same gpt.ReadFault contents count told cause =
+    ([], come_table command from disk folder all same (ReadFailed []) (inr (refl, cause refl)) (record { old = contents; new = contents; old_faults = count; new_faults = count }), wrote_nothing contents)
+
+pub come_without : (command : Asked) → from_of command ≡ HandedIn → takes_folder command ≡ false → (disk : Looked) (stop : GptStop) (contents : Option (List ℕ)) (count : ℕ) → OfImage disk (λ bytes. IsTableStop bytes stop) →
+    (stop ≡ gpt.ReadFault → LookFailed disk) →
     HasCome (Some (partition_line command)) (Some disk) None (Err (stopped_at_table stop)) (record { old = contents; new = contents; old_faults = count; new_faults = count })
-come_without command from disk gpt.NoTable contents count told cause =
-    ([], come_table command from disk (Faulty [] NoTable) (inl (NoTable, refl, told)) (record { old = contents; new = contents; old_faults = count; new_faults = count }), wrote_nothing contents)
-come_without command from disk gpt.BadTable contents count told cause =
-    ([], come_table command from disk (Faulty [] BadTable) (inl (BadTable, refl, told)) (record { old = contents; new = contents; old_faults = count; new_faults = count }), wrote_nothing contents)
-come_without command from disk gpt.NoPartition contents count told cause =
-    ([], come_table command from disk (Faulty [] NoPartition) (inl (NoPartition, refl, told)) (record { old = contents; new = contents; old_faults = count; new_faults = count }), wrote_nothing contents)
-come_without command from disk (gpt.PartOutside at) contents count told cause =
-    ([], come_table command from disk (Faulty [] (PartOutside at)) (inl (PartOutside at, refl, told)) (record { old = contents; new = contents; old_faults = count; new_faults = count }), wrote_nothing contents)
-come_without command from disk gpt.ReadFault contents count told cause =
-    ([], come_table command from disk (ReadFailed []) (inr (refl, cause refl)) (record { old = contents; new = contents; old_faults = count; new_faults = count }), wrote_nothing contents)
+come_without command from plain disk stop contents count told cause =
+    stopped_without command from disk None (all_there (partition_line command) disk plain) tt stop contents count told cause
+
+pub come_without_into : (command : Asked) → from_of command ≡ HandedIn → (disk : Looked) (folder : Stored) → IsSame folder → (stop : GptStop) (contents : Option (List ℕ)) (count : ℕ) → OfImage disk (λ bytes. IsTableStop bytes stop) →
+    (stop ≡ gpt.ReadFault → LookFailed disk) →
+    HasCome (Some (partition_line command)) (Some disk) (Some folder) (Err (stopped_at_table stop)) (record { old = contents; new = contents; old_faults = count; new_faults = count })
+come_without_into command from disk folder same stop contents count told cause =
+    stopped_without command from disk (Some folder) (all_given (partition_line command) disk folder) same stop contents count told cause
 
 -- no image was handed in
-pub come_absent : (line : Line) → from_of line.command ≡ HandedIn → (contents : Option (List ℕ)) (count : ℕ) →
-    HasCome (Some line) None None (Err stops.NoImage) (record { old = contents; new = contents; old_faults = count; new_faults = count })
-come_absent line from contents count =
+pub come_absent : (line : Line) → from_of line.command ≡ HandedIn → (folder : Option Stored) → IsUntouched folder → (contents : Option (List ℕ)) (count : ℕ) →
+    HasCome (Some line) None folder (Err stops.NoImage) (record { old = contents; new = contents; old_faults = count; new_faults = count })
+come_absent line from folder same contents count =
     let P : From → Type 0 = λ f. LacksFrom f None in
-    ([], no_image (record { line = line; words = refl; lacks = subst P (sym from) tt }) refl tt, wrote_nothing contents)
+    ([], no_image (record { line = line; words = refl; lacks = subst P (sym from) tt }) refl same, wrote_nothing contents)
+
+-- no folder was handed in for a command that takes one
+pub come_nowhere : (line : Line) → takes_folder line.command ≡ true → (source : Looked) (contents : Option (List ℕ)) (count : ℕ) →
+    HasCome (Some line) (Some source) None (Err stops.NoFolder) (record { old = contents; new = contents; old_faults = count; new_faults = count })
+come_nowhere line takes source contents count =
+    let P : Bool → Type 0 = λ b. LacksStore b None in
+    ([], no_folder (record { line = line; words = refl; has = image_there (from_of line.command) source; lacks = subst P (sym takes) tt }) refl tt, wrote_nothing contents)
 
 -- ---- a command over the image that it makes
 
@@ -271,14 +333,14 @@ come_new spec image ended out (part, says, wrote) = (
 -- ---- the words
 
 -- the words are wrong
-pub come_wrong : (asked : Option Line) (image : Option Looked) (contents : Option (List ℕ)) (count : ℕ) → asked ≡ None →
-    HasCome asked image None (Err stops.WrongWords) (record { old = contents; new = contents; old_faults = count; new_faults = count })
-come_wrong asked image contents count none = ([], wrong_words none refl tt, wrote_nothing contents)
+pub come_wrong : (asked : Option Line) (image : Option Looked) (folder : Option Stored) → IsUntouched folder → (contents : Option (List ℕ)) (count : ℕ) → asked ≡ None →
+    HasCome asked image folder (Err stops.WrongWords) (record { old = contents; new = contents; old_faults = count; new_faults = count })
+come_wrong asked image folder same contents count none = ([], wrong_words none refl same, wrote_nothing contents)
 
 -- memory ran out for the words
-pub come_no_memory : (asked : Option Line) (image : Option Looked) (contents : Option (List ℕ)) (count : ℕ) →
-    HasCome asked image None (Err stops.OutOfMemory) (record { old = contents; new = contents; old_faults = count; new_faults = count })
-come_no_memory asked image contents count = ([], no_memory refl tt, wrote_nothing contents)
+pub come_no_memory : (asked : Option Line) (image : Option Looked) (folder : Option Stored) → IsUntouched folder → (contents : Option (List ℕ)) (count : ℕ) →
+    HasCome asked image folder (Err stops.OutOfMemory) (record { old = contents; new = contents; old_faults = count; new_faults = count })
+come_no_memory asked image folder same contents count = ([], no_memory refl same, wrote_nothing contents)
 
 -- ---- the line of an outcome
 

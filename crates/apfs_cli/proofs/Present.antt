@@ -57,7 +57,7 @@ use Rattle.apfs_cli.specs.First.{FaultBy, FeatureBy, PresentBy}
 use Rattle.apfs_cli.specs.Meant.{IsMeant, IsVolumeFault, IsVolumeFeature, IsMeantFault, IsMeantFeature}
 use Rattle.apfs_cli.specs.MeantView.{view_of, IsMeantView}
 use Rattle.apfs_cli.specs.OnView.{IsViewFault, IsNodeFeature, IsFaultOn, IsFeatureOn}
-use Rattle.apfs_cli.specs.Words.{Asked, Ring, Info, Volumes, Space, Check, Snapshots, Usage, Ls, Tree, Cat, Xattr, Gen, Format}
+use Rattle.apfs_cli.specs.Words.{Asked, Ring, Info, Volumes, Space, Check, Snapshots, Usage, Ls, Tree, Cat, Xattr, Export, Gen, Format}
 use Rattle.apfs_cli.specs.declared.words.Checks.{Checks}
 use Rattle.apfs_cli.specs.declared.words.Checks.TheVariants.{Quick, First}
 use Rattle.apfs_cli.proofs.Ways.{in_heads}
@@ -236,6 +236,7 @@ fault_there (Ls checks target) image fault f = fault_by checks image fault (ls.I
 fault_there (Tree checks target) image fault f = fault_by checks image fault (tree.IsFault target image fault) (on_view_fault_there image (tree.told target.path) target fault) f
 fault_there (Cat checks target) image fault f = fault_by checks image fault (cat.IsFault target image fault) (on_view_fault_there image (cat.told target.path) target fault) f
 fault_there (Xattr checks target name) image fault f = fault_by checks image fault (xattr.IsFault target image fault) (on_view_fault_there image (xattr.told target.path) target fault) f
+fault_there (Export target) image fault f = f
 fault_there (Gen n) image fault f = f
 fault_there (Format spec) image fault f = absurd f
 
@@ -256,5 +257,6 @@ feature_there (Ls checks target) image feature block f = feature_by checks image
 feature_there (Tree checks target) image feature block f = feature_by checks image feature block (tree.IsFeature target image feature block) (on_view_feature_there image target feature block) f
 feature_there (Cat checks target) image feature block f = feature_by checks image feature block (cat.IsFeature target image feature block) (on_view_feature_there image target feature block) f
 feature_there (Xattr checks target name) image feature block f = feature_by checks image feature block (xattr.IsFeature target image feature block) (on_view_feature_there image target feature block) f
+feature_there (Export target) image feature block f = f
 feature_there (Gen n) image feature block f = f
 feature_there (Format spec) image feature block f = absurd f

@@ -19,14 +19,14 @@ use Rattle.apfs_cli.specs.Texts.{IsPrefix}
 use Rattle.apfs_cli.specs.Written.{Sunk, Failed, Ends}
 use Rattle.apfs_check.proofs.Numbers.{reported}
 use Rattle.apfs_cli.specs.ReportText.{report_text}
-use Rattle.apfs_cli.specs.Words.{Asked, Line, plain_line, Ring, Info, Volumes, Space, Check, Snapshots, Usage, Ls, Tree, Cat, Xattr, Gen, Format}
+use Rattle.apfs_cli.specs.Words.{Asked, Line, plain_line, Ring, Info, Volumes, Space, Check, Snapshots, Usage, Ls, Tree, Cat, Xattr, Export, Gen, Format}
 use Rattle.apfs_cli.specs.Handed.{Looked, LookFailed, OfImage, made, Stored, StoreFailed}
 use Rattle.apfs_cli.specs.Outcome.{Outcome, Written, Faulty, WrongWords, ReadFailed, WriteFailed, OutOfMemory, Refused, Answered, NoImage, NoFolder, status_of, text_of}
 use Rattle.apfs_cli.specs.ByCommand.{From, HandedIn, Made, Nowhere, from_of, takes_folder, lead_of, IsText, IsNamed, IsAnswer, RestsOn, HasResult, profile_of}
 use Rattle.apfs_cli.specs.Says.{IsPart, SaysOn, Fills, FillsBy, FillsOn, AreItemsIf, AreFrontIf, IsSame, IsUntouched, LacksImage, LacksFolder, IsSourceFrom, IsSource, IsTableFault, StopsTable, PutFailed, Ran, HasNoImage, HasNoFolder, HasNoPart, Says, CameTo, wrong_words, no_image, no_folder, no_part, ran, no_memory}
 use Rattle.apfs_cli.specs.Rows.{BothWrote, HasText, RanOrNoPart, IsPresentIn, RanNaming, RanRefusing, NamesFault, NamesFeature, NamesAnswer, SaysReadFailed, IsSomePart, SaysOutOfMemory, HasFailedPut, IsGivenFrom, IsGiven, IsAsked, HasDefinedText, HasDefinedAnswer, HasSound, HasUnsound, HasTableFault, IsExactly, IsOrFree, IsCleanOrFree, IsFoundOrFree, HandedFailed, IsUndisturbed, IsCompleted, lead_in, IsRefusal, IsTurnedAway, AsksFolder, IsUntold, MayFill}
 use Rattle.apfs_cli.specs.declared.named.Named.{Named}
-use Rattle.apfs_cli.specs.declared.named.Named.TheVariants.{InContainer, InUsage, NoTable, BadTable, NoPartition, PartOutside}
+use Rattle.apfs_cli.specs.declared.named.Named.TheVariants.{InContainer, InUsage, InExport, NoTable, BadTable, NoPartition, PartOutside}
 use Rattle.apfs_cli.proofs.Owed.{IsOwed, owed}
 use Rattle.apfs_cli.proofs.Present.{fault_there, feature_there}
 
@@ -38,7 +38,7 @@ whole_at result status o out err ends e other =
     elim ends.said [ inl has ↦ (sym has.status_is ∙ e, (ends.text, has.put)) | inr lacks ↦ absurd (other (sym e ∙ lacks.status_is)) ]
 
 -- the outcome of a run, by its status
-row : (asked : Option Line) (image : Option Looked) (folder : Option Stored) (result status : ℕ) (out err : Sunk) → (status ≡ 4 → ⊥) → CameTo asked image folder result out err → result ≡ status →
+pub row : (asked : Option Line) (image : Option Looked) (folder : Option Stored) (result status : ℕ) (out err : Sunk) → (status ≡ 4 → ⊥) → CameTo asked image folder result out err → result ≡ status →
     (o : Outcome) × (status_of o ≡ status) × Says asked image folder out o × BothWrote out err o
 row asked image folder result status out err other (o, says, ends) e =
     let whole = whole_at result status o out err ends e other in
@@ -78,7 +78,7 @@ table_not : (P : Outcome → Type 0) (disk : Looked) (o : Outcome) → P o → (
 table_not P disk o fact fault read (inl stops) = not_this P o (Faulty [] stops.0) stops.1 fact (fault stops.0)
 table_not P disk o fact fault read (inr stops) = not_this P o (ReadFailed []) stops.0 fact read
 
-command_ran : (asked : Option Line) (image : Option Looked) (folder : Option Stored) (out : Sunk) (o : Outcome) → IsOfCommand o → Says asked image folder out o → Ran asked image folder out o
+pub command_ran : (asked : Option Line) (image : Option Looked) (folder : Option Stored) (out : Sunk) (o : Outcome) → IsOfCommand o → Says asked image folder out o → Ran asked image folder out o
 command_ran asked image folder out o of (wrong_words none is same) = absurd (not_this (λ x. IsOfCommand x) o WrongWords is of (λ a. a))
 command_ran asked image folder out o of (no_image lacks is same) = absurd (not_this (λ x. IsOfCommand x) o NoImage is of (λ a. a))
 command_ran asked image folder out o of (no_folder lacks is same) = absurd (not_this (λ x. IsOfCommand x) o NoFolder is of (λ a. a))
@@ -159,7 +159,7 @@ part_on command source failed NoImage says = absurd says
 part_on command source failed NoFolder says = absurd says
 
 -- all items are a front of themselves
-whole_front : (items : List Item) → IsFront items items
+pub whole_front : (items : List Item) → IsFront items items
 whole_front items = record { whole = items; rest = []; split = sym (append-nil items); end = inl refl }
 
 -- the folder where nothing was added
@@ -169,7 +169,7 @@ same_fills command source folder same = record { added = []; none = λ e. refl; 
 none_fills : (command : Asked) (source : Looked) (folder : Stored) → Fills command source folder (λ image added. added ≡ []) → Fills command source folder (AreFrontIf command)
 none_fills command source folder f = record { added = f.added; none = f.none; are = λ image told. inl (f.are image told); put = f.put }
 
-front_fills : (command : Asked) (source : Looked) (folder : Stored) (o : Outcome) → FillsBy command source folder o → Fills command source folder (AreFrontIf command)
+pub front_fills : (command : Asked) (source : Looked) (folder : Stored) (o : Outcome) → FillsBy command source folder o → Fills command source folder (AreFrontIf command)
 front_fills command source folder (Written text) f = record { added = f.added; none = f.none; are = λ image told. inr (f.added, f.are image told, whole_front f.added); put = f.put }
 front_fills command source folder (Faulty lead named) f = none_fills command source folder f
 front_fills command source folder WrongWords f = same_fills command source folder f
@@ -208,6 +208,7 @@ some_part asked image folder out o (no_memory is same) = inr (ap text_of is, sam
 present_in : (command : Asked) (image : List ℕ) (named : Named) → IsNamed command image named → IsPresentIn command image named
 present_in command image (InContainer fault) is = fault_there command image fault is
 present_in command image (InUsage slot xid) is = is
+present_in command image (InExport slot xid id) is = is
 present_in command image NoTable is = absurd is
 present_in command image BadTable is = absurd is
 present_in command image NoPartition is = absurd is
@@ -366,7 +367,7 @@ write_failed_row asked image folder result out err (o, says, ends) e = (
 -- ---- when each status comes
 
 -- a run ends with the status of its outcome, or a put of the line failed
-ended_as : (result : ℕ) (o : Outcome) (out err : Sunk) → Ends result o out err → (result ≡ status_of o) ⊎ (result ≡ 4)
+pub ended_as : (result : ℕ) (o : Outcome) (out err : Sunk) → Ends result o out err → (result ≡ status_of o) ⊎ (result ≡ 4)
 ended_as result o out err ends = elim ends.said [ inl has ↦ inl has.status_is | inr lacks ↦ inr lacks.status_is ]
 
 -- the words ask for one line
@@ -455,7 +456,7 @@ given_in true handed source bytes (disk, told, partition) (other, part, handed_i
     let S : Option (List ℕ) → Type 0 = λ b. sliced part.start part.length b ≡ Some bytes in
     subst Q (sym same) (subst S (sym at) (subst R (sym part_is) (ap (λ (l : List ℕ). Some l) (sym partition.same))))
 
-given_source : (f : From) (p : Bool) (image : Option Looked) (source : Looked) (bytes : List ℕ) → IsGivenFrom f p image bytes → IsSourceFrom f p image source → source.bytes ≡ Some bytes
+pub given_source : (f : From) (p : Bool) (image : Option Looked) (source : Looked) (bytes : List ℕ) → IsGivenFrom f p image bytes → IsSourceFrom f p image source → source.bytes ≡ Some bytes
 given_source HandedIn p None source bytes given is = absurd given
 given_source HandedIn p (Some handed) source bytes given is = given_in p handed source bytes given is
 given_source Made p image source bytes given is = absurd given
@@ -466,6 +467,7 @@ given_source Nowhere p image source bytes given is =
 -- no fault of a table is there where bytes are given
 no_fault : (disk : List ℕ) (part : Part) (named : Named) → found_part disk ≡ Ok part → IsTableFault disk named → ⊥
 no_fault disk part (InUsage slot xid) found there = absurd there
+no_fault disk part (InExport slot xid id) found there = absurd there
 no_fault disk part NoTable found there = found_not_faulty disk part gpt.NoTable found there
 no_fault disk part BadTable found there = found_not_faulty disk part gpt.BadTable found there
 no_fault disk part NoPartition found there = found_not_faulty disk part gpt.NoPartition found there
@@ -713,6 +715,7 @@ lead_none (Ls checks target) e = refl
 lead_none (Tree checks target) e = refl
 lead_none (Cat checks target) e = refl
 lead_none (Xattr checks target name) e = refl
+lead_none (Export target) e = refl
 lead_none (Gen n) e = absurd Prim.cc
 lead_none (Format spec) e = refl
 
@@ -759,7 +762,7 @@ nothing_added folder added none put = let P : List Item → Type 0 = λ items. F
 none_filled : (command : Asked) (source : Looked) (folder : Stored) (P : List ℕ → List Item → Type 0) → takes_folder command ≡ false → Fills command source folder P → IsSame folder
 none_filled command source folder P e f = nothing_added folder f.added (f.none e) f.put
 
-fills_none : (command : Asked) (source : Looked) (folder : Stored) (o : Outcome) → takes_folder command ≡ false → FillsBy command source folder o → IsSame folder
+pub fills_none : (command : Asked) (source : Looked) (folder : Stored) (o : Outcome) → takes_folder command ≡ false → FillsBy command source folder o → IsSame folder
 fills_none command source folder (Written text) e f = none_filled command source folder (AreItemsIf command) e f
 fills_none command source folder (Faulty lead named) e f = none_filled command source folder (λ image added. added ≡ []) e f
 fills_none command source folder WrongWords e f = f

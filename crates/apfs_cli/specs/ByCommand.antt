@@ -21,11 +21,12 @@ use Rattle.apfs_cli.specs.Commands.Ls as ls
 use Rattle.apfs_cli.specs.Commands.Tree as tree
 use Rattle.apfs_cli.specs.Commands.Cat as cat
 use Rattle.apfs_cli.specs.Commands.Xattr as xattr
+use Rattle.apfs_cli.specs.Commands.Export as export
 use Rattle.apfs_cli.specs.Commands.Gen as gen
 use Rattle.apfs_cli.specs.Commands.Format as format
-use Rattle.apfs_cli.specs.Words.{Asked, Ring, Info, Volumes, Space, Check, Snapshots, Usage, Ls, Tree, Cat, Xattr, Gen, Format}
+use Rattle.apfs_cli.specs.Words.{Asked, Ring, Info, Volumes, Space, Check, Snapshots, Usage, Ls, Tree, Cat, Xattr, Export, Gen, Format}
 use Rattle.apfs_cli.specs.declared.named.Named.{Named}
-use Rattle.apfs_cli.specs.declared.named.Named.TheVariants.{InContainer, InUsage, NoTable, BadTable, NoPartition, PartOutside}
+use Rattle.apfs_cli.specs.declared.named.Named.TheVariants.{InContainer, InUsage, InExport, NoTable, BadTable, NoPartition, PartOutside}
 
 -- where a command has its image from: it is handed in, it is made, or there is none
 pub data From : Type 0 where
@@ -45,6 +46,7 @@ from_of (Ls checks target) = HandedIn
 from_of (Tree checks target) = HandedIn
 from_of (Cat checks target) = HandedIn
 from_of (Xattr checks target name) = HandedIn
+from_of (Export target) = HandedIn
 from_of (Gen n) = Made
 from_of (Format spec) = Nowhere
 
@@ -70,6 +72,7 @@ takes_folder (Ls checks target) = false
 takes_folder (Tree checks target) = false
 takes_folder (Cat checks target) = false
 takes_folder (Xattr checks target name) = false
+takes_folder (Export target) = true
 takes_folder (Gen n) = false
 takes_folder (Format spec) = false
 
@@ -91,6 +94,7 @@ streams (Ls checks target) = false
 streams (Tree checks target) = false
 streams (Cat checks target) = true
 streams (Xattr checks target name) = is_named name
+streams (Export target) = false
 streams (Gen n) = false
 streams (Format spec) = false
 
@@ -107,6 +111,7 @@ IsText (Ls checks target) image text = ResultBy checks image (ls.IsText target i
 IsText (Tree checks target) image text = ResultBy checks image (tree.IsText target image text)
 IsText (Cat checks target) image text = ResultBy checks image (cat.IsText target image text)
 IsText (Xattr checks target name) image text = ResultBy checks image (xattr.IsText target name image text)
+IsText (Export target) image text = ResultBy (First Plain) image (export.IsText target image text)
 IsText (Gen n) image text = gen.IsText n image text
 IsText (Format spec) image text = format.IsText spec text
 
@@ -123,6 +128,7 @@ lead_of (Ls checks target) = []
 lead_of (Tree checks target) = []
 lead_of (Cat checks target) = []
 lead_of (Xattr checks target name) = []
+lead_of (Export target) = []
 lead_of (Gen n) = gen.lead n
 lead_of (Format spec) = []
 
@@ -139,6 +145,7 @@ IsFault (Ls checks target) image fault = FaultBy checks image fault (ls.IsFault 
 IsFault (Tree checks target) image fault = FaultBy checks image fault (tree.IsFault target image fault)
 IsFault (Cat checks target) image fault = FaultBy checks image fault (cat.IsFault target image fault)
 IsFault (Xattr checks target name) image fault = FaultBy checks image fault (xattr.IsFault target image fault)
+IsFault (Export target) image fault = check.IsFault Plain image fault
 IsFault (Gen n) image fault = check.IsFault Plain image fault
 IsFault (Format spec) image fault = ⊥
 
@@ -155,13 +162,32 @@ IsUncounted (Ls checks target) image slot xid = ⊥
 IsUncounted (Tree checks target) image slot xid = ⊥
 IsUncounted (Cat checks target) image slot xid = ⊥
 IsUncounted (Xattr checks target name) image slot xid = ⊥
+IsUncounted (Export target) image slot xid = ⊥
 IsUncounted (Gen n) image slot xid = ⊥
 IsUncounted (Format spec) image slot xid = ⊥
+
+-- a fault of what has an id in a view, so that it can't be put, which a command may name of an image: `export`, after a check that found nothing
+abbrev pub IsUnexported : Asked → List ℕ → ℕ → ℕ → ℕ → Type 0
+IsUnexported Ring image slot xid id = ⊥
+IsUnexported Info image slot xid id = ⊥
+IsUnexported Volumes image slot xid id = ⊥
+IsUnexported Space image slot xid id = ⊥
+IsUnexported (Check profile) image slot xid id = ⊥
+IsUnexported (Snapshots volume) image slot xid id = ⊥
+IsUnexported (Usage volume) image slot xid id = ⊥
+IsUnexported (Ls checks target) image slot xid id = ⊥
+IsUnexported (Tree checks target) image slot xid id = ⊥
+IsUnexported (Cat checks target) image slot xid id = ⊥
+IsUnexported (Xattr checks target name) image slot xid id = ⊥
+IsUnexported (Export target) image slot xid id = ResultBy (First Plain) image (export.IsViewFault target image slot xid id)
+IsUnexported (Gen n) image slot xid id = ⊥
+IsUnexported (Format spec) image slot xid id = ⊥
 
 -- a fault that a command may name of an image; those of a table of partitions are named before there is one
 abbrev pub IsNamed : Asked → List ℕ → Named → Type 0
 IsNamed command image (InContainer fault) = IsFault command image fault
 IsNamed command image (InUsage slot xid) = IsUncounted command image slot xid
+IsNamed command image (InExport slot xid id) = IsUnexported command image slot xid id
 IsNamed command image NoTable = ⊥
 IsNamed command image BadTable = ⊥
 IsNamed command image NoPartition = ⊥
@@ -180,6 +206,7 @@ IsFeature (Ls checks target) image feature block = FeatureBy checks image featur
 IsFeature (Tree checks target) image feature block = FeatureBy checks image feature block (tree.IsFeature target image feature block)
 IsFeature (Cat checks target) image feature block = FeatureBy checks image feature block (cat.IsFeature target image feature block)
 IsFeature (Xattr checks target name) image feature block = FeatureBy checks image feature block (xattr.IsFeature target image feature block)
+IsFeature (Export target) image feature block = check.IsFeature image feature block
 IsFeature (Gen n) image feature block = check.IsFeature image feature block
 IsFeature (Format spec) image feature block = ⊥
 
@@ -196,6 +223,7 @@ IsAnswer (Ls checks target) image answer = ResultBy checks image (ls.IsAnswer ta
 IsAnswer (Tree checks target) image answer = ResultBy checks image (tree.IsAnswer target image answer)
 IsAnswer (Cat checks target) image answer = ResultBy checks image (cat.IsAnswer target image answer)
 IsAnswer (Xattr checks target name) image answer = ResultBy checks image (xattr.IsAnswer target name image answer)
+IsAnswer (Export target) image answer = ResultBy (First Plain) image (export.IsAnswer target image answer)
 IsAnswer (Gen n) image answer = ⊥
 IsAnswer (Format spec) image answer = ⊥
 
@@ -212,6 +240,7 @@ AreItems (Ls checks target) image items = items ≡ []
 AreItems (Tree checks target) image items = items ≡ []
 AreItems (Cat checks target) image items = items ≡ []
 AreItems (Xattr checks target name) image items = items ≡ []
+AreItems (Export target) image items = ResultBy (First Plain) image (export.AreItems target image items)
 AreItems (Gen n) image items = items ≡ []
 AreItems (Format spec) image items = items ≡ []
 
@@ -228,6 +257,7 @@ RestsOn (Ls checks target) image = RestsBy checks (IsLawfulView image target)
 RestsOn (Tree checks target) image = RestsBy checks (IsLawfulView image target)
 RestsOn (Cat checks target) image = RestsBy checks (IsLawfulView image target)
 RestsOn (Xattr checks target name) image = RestsBy checks (IsLawfulView image target)
+RestsOn (Export target) image = Unit {0}
 RestsOn (Gen n) image = Unit {0}
 RestsOn (Format spec) image = Unit {0}
 
@@ -244,10 +274,11 @@ checks_of (Ls checks target) = checks
 checks_of (Tree checks target) = checks
 checks_of (Cat checks target) = checks
 checks_of (Xattr checks target name) = checks
+checks_of (Export target) = First Plain
 checks_of (Gen n) = Quick
 checks_of (Format spec) = Quick
 
--- a command without a check before it; `usage` isn't there without one
+-- a command without a check before it; `usage` and `export` aren't there without one
 abbrev pub quick : Asked → Asked
 quick Ring = Ring
 quick Info = Info
@@ -260,6 +291,7 @@ quick (Ls checks target) = Ls Quick target
 quick (Tree checks target) = Tree Quick target
 quick (Cat checks target) = Cat Quick target
 quick (Xattr checks target name) = Xattr Quick target name
+quick (Export target) = Export target
 quick (Gen n) = Gen n
 quick (Format spec) = Format spec
 
@@ -281,6 +313,7 @@ profile_of (Ls checks target) = profile_in checks
 profile_of (Tree checks target) = profile_in checks
 profile_of (Cat checks target) = profile_in checks
 profile_of (Xattr checks target name) = profile_in checks
+profile_of (Export target) = Some Plain
 profile_of (Gen n) = Some Plain
 profile_of (Format spec) = None
 

@@ -6,6 +6,7 @@ pub mod Space
 pub mod Check
 pub mod Snapshots
 pub mod Usage
+pub mod Export
 pub mod Ls
 pub mod Tree
 pub mod Cat

@@ -18,7 +18,7 @@ use Rattle.apfs_check.specs.declared.fault.Fault.{Fault}
 use Rattle.apfs_check.specs.declared.fault.Fault.TheVariants.{BlockZero, Truncated, NoCheckpoint, Unsound, Unnamed, NamedTwice, OwnedTwice, Outside, UnusedMapping, Leaked, Missing, PoolLeaked, PoolMissing, SpaceGeometry, SpaceCab, SpaceCib, SpaceIndex, SpacePlace, SpaceFreeCount, SpaceFreeTotal, PoolCount, PoolIndex, PoolPlace, SnapRecord, SnapCount, SnapName, OmapSnaps, TreeOrder, TreeCounts, Order, Counts, TreeRecord, Record, DupName, Hash, NoParent, NoInode, KindMismatch, DirNames, Unreached, Children, Links, SiblingLost, ExtentOrder, ExtentPlace, ExtentUncovered, LinkTarget, Stream, AttrOwner, NameHash, DataUnreached, DataCount}
 use Rattle.apfs_cli.specs.Texts.{◌▹◌}
 use Rattle.apfs_cli.specs.declared.named.Named.{Named}
-use Rattle.apfs_cli.specs.declared.named.Named.TheVariants.{InContainer, InUsage, NoTable, BadTable, NoPartition, PartOutside}
+use Rattle.apfs_cli.specs.declared.named.Named.TheVariants.{InContainer, InUsage, InExport, NoTable, BadTable, NoPartition, PartOutside}
 
 -- the test of a header that fails
 abbrev pub head_word : HeadFault → List ℕ
@@ -181,10 +181,11 @@ fault_text (NameHash at) = name_text (codes "NameHash") at
 fault_text (DataUnreached slot block length) = run_text (codes "DataUnreached") slot block length
 fault_text (DataCount slot block stored streams) = count_text (codes "DataCount") slot block (signed_decimal stored) streams
 
--- the text of a fault that is named: of the container, of a view whose blocks can't be counted, or of the table of a disk's partitions
+-- the text of a fault that is named: of the container, of a view whose blocks can't be counted, of what can't be put into a folder, or of the table of a disk's partitions
 abbrev pub named_fault_text : Named → List ℕ
 named_fault_text (InContainer fault) = fault_text fault
 named_fault_text (InUsage slot xid) = view_text (codes "Usage") slot xid
+named_fault_text (InExport slot xid id) = object_text (codes "Export") slot xid id
 named_fault_text NoTable = codes "Gpt NoTable"
 named_fault_text BadTable = codes "Gpt BadTable"
 named_fault_text NoPartition = codes "Gpt NoPartition"

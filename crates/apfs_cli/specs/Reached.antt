@@ -3,7 +3,7 @@ use Rattle.std.specs.Prelude.{◌≡◌, ◌⊎◌, ℕ, List, Option}
 use Rattle.path_walk.specs.declared.answer.Answer.TheVariants.{NoVolume}
 use Rattle.apfs_check.specs.declared.fault.Fault.{Fault}
 use Rattle.apfs_cli.specs.declared.named.Named.{Named}
-use Rattle.apfs_cli.specs.declared.named.Named.TheVariants.{InContainer, InUsage, NoTable, BadTable, NoPartition, PartOutside}
+use Rattle.apfs_cli.specs.declared.named.Named.TheVariants.{InContainer, InUsage, InExport, NoTable, BadTable, NoPartition, PartOutside}
 use Rattle.apfs_cli.specs.declared.stopped.Stopped.{Stopped}
 use Rattle.apfs_cli.specs.declared.stopped.Stopped.TheVariants.{Faulty, WrongWords, ReadFailed, WriteFailed, OutOfMemory, Refused, Answered, NoImage, NoFolder}
 use Rattle.cmd_words.specs.Asked.{AskedTarget}
@@ -23,6 +23,7 @@ IsClear image named = HasVolume image named ⊎ HasNoVolume image named
 abbrev pub OfContainer : Named → (Fault → Type 0) → Type 0
 OfContainer (InContainer fault) P = P fault
 OfContainer (InUsage slot xid) P = ⊥
+OfContainer (InExport slot xid id) P = ⊥
 OfContainer NoTable P = ⊥
 OfContainer BadTable P = ⊥
 OfContainer NoPartition P = ⊥
@@ -63,6 +64,18 @@ IsWhileLooking (Refused feature block) = Unit {0}
 IsWhileLooking (Answered answer) = Unit {0}
 IsWhileLooking ReadFailed = Unit {0}
 IsWhileLooking OutOfMemory = Unit {0}
+
+-- a read failed, or memory ran out
+abbrev pub IsFree : Stopped → Type 0
+IsFree ReadFailed = Unit {0}
+IsFree OutOfMemory = Unit {0}
+IsFree (Faulty why) = ⊥
+IsFree (Refused feature block) = ⊥
+IsFree (Answered answer) = ⊥
+IsFree WrongWords = ⊥
+IsFree WriteFailed = ⊥
+IsFree NoImage = ⊥
+IsFree NoFolder = ⊥
 
 -- a check that was asked for found the container well-formed
 abbrev pub IsClean : Checks → List ℕ → Type 0

@@ -6,6 +6,8 @@ use Rattle.view_rules.specs.declared.profile.Profile.{Profile}
 use Rattle.img_format.specs.declared.spec.Spec.{Spec}
 use Rattle.img_format.specs.Fresh.{fresh}
 use Rattle.img_gpt.specs.Partition.{IsPartition}
+use Rattle.blk_folder.specs.Items.{Item}
+use Rattle.blk_folder.specs.Put.{Filled, FilledPart}
 use Rattle.apfs_check.specs.Present as container
 use Rattle.apfs_check.specs.WellFormed.{IsWellFormed}
 use Rattle.apfs_cli.specs.First.{PresentBy}
@@ -14,10 +16,10 @@ use Rattle.apfs_cli.specs.Written.{Sunk, Failed}
 use Rattle.apfs_cli.specs.Words.{Asked, Line}
 use Rattle.apfs_cli.specs.Handed.{Looked, LookFailed, OfImage, Stored, StoreFailed}
 use Rattle.apfs_cli.specs.Outcome.{Outcome, text_of, line_of, Written, Faulty, ReadFailed, OutOfMemory, Refused, Answered}
-use Rattle.apfs_cli.specs.ByCommand.{From, HandedIn, Made, Nowhere, from_of, takes_folder, lead_of, IsText, IsAnswer, IsUncounted, profile_of}
+use Rattle.apfs_cli.specs.ByCommand.{From, HandedIn, Made, Nowhere, from_of, takes_folder, lead_of, IsText, IsAnswer, AreItems, IsUncounted, IsUnexported, profile_of}
 use Rattle.apfs_cli.specs.Says.{HasAll, IsTableFault, IsUntouched, PutFailed, Ran, HasNoPart}
 use Rattle.apfs_cli.specs.declared.named.Named.{Named}
-use Rattle.apfs_cli.specs.declared.named.Named.TheVariants.{InContainer, InUsage, NoTable, BadTable, NoPartition, PartOutside}
+use Rattle.apfs_cli.specs.declared.named.Named.TheVariants.{InContainer, InUsage, InExport, NoTable, BadTable, NoPartition, PartOutside}
 
 -- both sinks have all of an outcome more than before
 abbrev pub BothWrote : Sunk → Sunk → Outcome → Type 0
@@ -31,10 +33,11 @@ HasText asked image folder out err = (text : List ℕ) × Ran asked image folder
 abbrev pub RanOrNoPart : Option Line → Option Looked → Option Stored → Sunk → Outcome → Type 0
 RanOrNoPart asked image folder out o = Ran asked image folder out o ⊎ HasNoPart asked image folder o
 
--- a fault that a command names is present: one of the container by the definition of the check, one of a view that can't be counted where its cause is there
+-- a fault that a command names is present: one of the container by the definition of the check, one of a view that can't be counted, or of what can't be put into a folder, where its cause is there
 abbrev pub IsPresentIn : Asked → List ℕ → Named → Type 0
 IsPresentIn command image (InContainer fault) = PresentBy (profile_of command) image fault
 IsPresentIn command image (InUsage slot xid) = IsUncounted command image slot xid
+IsPresentIn command image (InExport slot xid id) = IsUnexported command image slot xid id
 IsPresentIn command image NoTable = ⊥
 IsPresentIn command image BadTable = ⊥
 IsPresentIn command image NoPartition = ⊥
@@ -110,6 +113,13 @@ pub record HasDefinedText (asked : Option Line) (image : Option Looked) (folder 
   pub text : List ℕ
   pub is : IsAsked asked image folder command bytes
   pub defined : IsText command bytes text
+
+-- these are the items that the command puts into a folder
+pub record HasDefinedItems (asked : Option Line) (image : Option Looked) (folder : Option Stored) (items : List Item) : Type 0 where
+  pub command : Asked
+  pub bytes : List ℕ
+  pub is : IsAsked asked image folder command bytes
+  pub defined : AreItems command bytes items
 
 -- an answer of the command exists
 pub record HasDefinedAnswer (asked : Option Line) (image : Option Looked) (folder : Option Stored) : Type 0 where
@@ -193,6 +203,23 @@ IsOfMade result = (result ≡ 0) ⊎ ((result ≡ 1) ⊎ ((result ≡ 4) ⊎ ((r
 -- a new container was written; or a put failed or memory ran out, and a part of it was
 abbrev pub IsNewOrFree : Spec → ℕ → Sunk → Type 0
 IsNewOrFree spec result out = ((result ≡ 0) × Wrote out.old out.new (fresh spec)) ⊎ (((result ≡ 4) ⊎ (result ≡ 5)) × WrotePart out.old out.new (fresh spec))
+
+-- ---- what a folder gets
+
+-- the folder has all of some items more
+abbrev pub HasMore : Option Stored → List Item → Type 0
+HasMore None items = Unit {0}
+HasMore (Some folder) items = Filled folder.old folder.new items
+
+-- it has a front of them more, of whose last, a file, a front of the bytes may be there
+abbrev pub HasFrontMore : Option Stored → List Item → Type 0
+HasFrontMore None items = Unit {0}
+HasFrontMore (Some folder) items = FilledPart folder.old folder.new items
+
+-- the folder has the items more with status 0, and with each other one a front of them
+pub record IsFilledWith (result : ℕ) (folder : Option Stored) (items : List Item) : Type 0 where
+  pub whole : result ≡ 0 → HasMore folder items
+  pub front : HasFrontMore folder items
 
 -- ---- what a stop leaves
 

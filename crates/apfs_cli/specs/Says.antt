@@ -20,7 +20,7 @@ use Rattle.apfs_cli.specs.Outcome.{Outcome, text_of, Written, Faulty, WrongWords
 use Rattle.apfs_cli.specs.ByCommand.{From, HandedIn, Made, Nowhere, from_of, takes_folder, streams, lead_of, IsText, IsNamed, IsFeature, IsAnswer, AreItems, RestsOn, HasResult}
 use Rattle.apfs_cli.specs.Formed.{IsFormed}
 use Rattle.apfs_cli.specs.declared.named.Named.{Named}
-use Rattle.apfs_cli.specs.declared.named.Named.TheVariants.{InContainer, InUsage, NoTable, BadTable, NoPartition, PartOutside}
+use Rattle.apfs_cli.specs.declared.named.Named.TheVariants.{InContainer, InUsage, InExport, NoTable, BadTable, NoPartition, PartOutside}
 
 -- ---- a command over a source
 
@@ -192,6 +192,7 @@ IsTableFault disk NoPartition = HasNoPartition disk
 IsTableFault disk (PartOutside at) = HasPartOutside disk at
 IsTableFault disk (InContainer fault) = ⊥
 IsTableFault disk (InUsage slot xid) = ⊥
+IsTableFault disk (InExport slot xid id) = ⊥
 
 -- what stops a run before there is a partition: a fault of the table, where the disk is told one that is there, or a read that failed
 abbrev pub StopsTable : Looked → Outcome → Type 0
@@ -203,6 +204,12 @@ StopsTable disk o =
 -- a put failed: on the first sink, or into the folder
 abbrev pub PutFailed : Sunk → Option Stored → Type 0
 PutFailed out folder = Failed out ⊎ StoreFailed folder
+
+-- a command that takes a folder has come to an outcome over a source, has put so much into the folder, and has written its text
+abbrev pub HasEndedInto : Asked → Looked → Stored → Result Unit Stopped → Sunk → Type 0
+HasEndedInto command source folder ended out =
+    (part : List ℕ) × SaysOn command source (PutFailed out (Some folder)) (outcome_of ended part) × FillsBy command source folder (outcome_of ended part)
+    × Wrote out.old out.new (text_of (outcome_of ended part))
 
 -- the words are right and what the command takes was handed in, and it came to an outcome over its source
 pub record Ran (asked : Option Line) (image : Option Looked) (folder : Option Stored) (out : Sunk) (o : Outcome) : Type 0 where

@@ -43,6 +43,8 @@ pub data Asked : Type 0 where
   Cat : Checks → AskedTarget → Asked
   -- the attributes of what a path leads to in a view, or what the one of a name holds
   Xattr : Checks → AskedTarget → Option (List ℕ) → Asked
+  -- what a view has, put into a folder
+  Export : AskedTarget → Asked
   -- an image of so many files, and whether its container is well-formed
   Gen : ℕ → Asked
   -- a new container
@@ -74,6 +76,7 @@ built (lines.Ls flags target) = Ls (checks_by flags) target
 built (lines.Tree flags target) = Tree (checks_by flags) target
 built (lines.Cat flags target) = Cat (checks_by flags) target
 built (lines.Xattr flags target name) = Xattr (checks_by flags) target name
+built (lines.Export target) = Export target
 
 -- what words ask for that ask for a command on an image
 unfoldable pub command_of : List (List ℕ) → Option Asked
@@ -191,7 +194,7 @@ asked_by words (Some rest) = option_map (line_in true) (command_of rest)
 unfoldable pub asked_of : List (List ℕ) → Option Line
 asked_of words = asked_by words (after_gpt words)
 
--- a command without where its words lie
+-- a command that takes no folder, without where its words lie
 abbrev pub said : Command → Asked
 said commands.Ring = Ring
 said commands.Info = Info
@@ -212,5 +215,6 @@ spec_of wanted = record { blocks = wanted.blocks; name = wanted.name.now; contai
 -- a line without where its words lie
 abbrev pub line_said : Order → Line
 line_said (orders.On in_partition command) = line_in in_partition (said command)
+line_said (orders.Export in_partition target) = line_in in_partition (Export (target_asked target))
 line_said (orders.Gen files) = plain_line (Gen files)
 line_said (orders.Format wanted) = plain_line (Format (spec_of wanted))

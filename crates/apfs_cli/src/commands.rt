@@ -11,6 +11,7 @@ ghost use Rattle.apfs_cli.specs.Written.{sunk};
 mod cat;
 pub mod check;
 mod checked;
+pub mod export;
 pub mod generated;
 mod info;
 mod ls;
@@ -29,7 +30,7 @@ use crate::words::Command;
 use blk_source::{BlockSource, Sink};
 use std::alloc::Global;
 
-// Runs a command that takes an image, once it was checked where the command wants that.
+// Runs a command that takes an image and no folder, once it was checked where the command wants that.
 fn on_unchecked<S: BlockSource, W: Sink>(
     alloc: Global,
     command: Command<'_>,
@@ -55,7 +56,7 @@ fn on_unchecked<S: BlockSource, W: Sink>(
     }
 }
 
-/// Runs a command that takes an image.
+/// Runs a command that takes an image and no folder.
 pub fn on_image<S: BlockSource, W: Sink>(
     alloc: Global,
     command: Command<'_>,

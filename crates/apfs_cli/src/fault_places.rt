@@ -129,7 +129,13 @@ pub fn of_record(
 }
 
 // An object of a view by its id.
-fn object(alloc: Global, word: &str, slot: u32, xid: u64, id: u64) -> Result<Vec<u8>, AllocError>
+pub fn object(
+    alloc: Global,
+    word: &str,
+    slot: u32,
+    xid: u64,
+    id: u64,
+) -> Result<Vec<u8>, AllocError>
     ensures { IfOk result (λ text. text.items ≡ texts.object_text word.now slot xid id) }
 {
     Ok(format!(in alloc; "{word} volume {slot} view {xid} id {id}")?.into_bytes())

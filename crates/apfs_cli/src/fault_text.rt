@@ -109,6 +109,7 @@ pub fn named_fault_text(alloc: Global, named: &Named) -> Result<Vec<u8>, AllocEr
     match named {
         Named::InContainer(fault) => fault_text(alloc, fault),
         Named::InUsage { slot, xid } => places::of_view(alloc, "Usage", *slot, *xid),
+        Named::InExport { slot, xid, id } => places::object(alloc, "Export", *slot, *xid, *id),
         Named::NoTable => places::plain(alloc, "Gpt NoTable"),
         Named::BadTable => places::plain(alloc, "Gpt BadTable"),
         Named::NoPartition => places::plain(alloc, "Gpt NoPartition"),

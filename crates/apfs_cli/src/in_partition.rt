@@ -1,17 +1,20 @@
 // Commands over a partition of a disk.
 ghost use Rattle.std.specs.Prelude.{◌≡◌, ◌+◌, ◌≤◌, None, Some};
 ghost use Rattle.apfs_model.specs.Source.{IsKept};
-ghost use Rattle.apfs_cli.specs.Handed.{looked, part_looked};
-ghost use Rattle.apfs_cli.specs.Says.{HasEnded, HasCome};
+ghost use Rattle.cmd_words.specs.Asked.{target_asked};
+ghost use Rattle.apfs_cli.specs.Handed.{looked, part_looked, stored};
+ghost use Rattle.apfs_cli.specs.Says.{HasEnded, HasEndedInto, HasCome};
 ghost use Rattle.apfs_cli.specs.Seen.{stopped_at_table};
-ghost use Rattle.apfs_cli.specs.Words.{line_in, partition_line, said};
+ghost use Rattle.apfs_cli.specs.Words.{Export, line_in, partition_line, said};
 ghost use Rattle.apfs_cli.specs.Written.{sunk};
 
 use crate::named::Named;
-use crate::over_cache::on_cache;
+use crate::over_cache::{fill_cached, on_cache};
 use crate::stopped::Stopped;
 use crate::words::Command;
+use blk_folder::Folder;
 use blk_source::{BlockSource, Sink};
+use cmd_words::Target;
 use img_gpt::{GptStop, Origin, Part, Slice, find_part};
 use std::alloc::Global;
 use std::marker::Brand;
@@ -81,5 +84,63 @@ pub fn on_order<S: BlockSource, W: Sink>(
         on_partition(alloc, command, src, out)
     } else {
         on_cache(alloc, command, src, out)
+    }
+}
+
+// Fills a folder from a part of a disk, and gives the disk back with the size and the bytes that it had.
+fn fill_slice<S: BlockSource, W: Sink, F: Folder, O: Origin>(
+    alloc: Global,
+    target: Target<'_>,
+    src: S,
+    part: Part,
+    out: &mut W,
+    folder: &mut F,
+) -> (Result<(), Stopped>, S)
+    requires inside { part.start + part.length ≤ S.bytes_len src }
+    requires size { S.bytes_len src ≡ O.size }
+    requires bytes { S.bytes src ≡ O.bytes }
+    ensures answer { HasEndedInto (Export (target_asked target.entry)) (part_looked part (looked S.bytes S.faults src result.1)) (stored F.contents F.faults folder.old folder.new) result.0 (sunk W.contents W.faults out.old out.new) }
+    ensures size { S.bytes_len result.1 ≡ O.size }
+    ensures bytes { S.bytes result.1 ≡ O.bytes }
+    ensures later { S.faults src ≤ S.faults result.1 }
+{
+    let slice = Slice::<S, O>::new(src, part.start, part.length);
+    let (ended, slice) = fill_cached(alloc, target, slice, out, folder);
+    (ended, slice.into_inner())
+}
+
+// Fills a folder from the partition that holds a container, and gives the disk back.
+fn fill_partition<S: BlockSource, W: Sink, F: Folder>(
+    alloc: Global,
+    target: Target<'_>,
+    mut src: S,
+    out: &mut W,
+    folder: &mut F,
+) -> (Result<(), Stopped>, S)
+    ensures answer { HasCome (Some (partition_line (Export (target_asked target.entry)))) (Some (looked S.bytes S.faults src result.1)) (Some (stored F.contents F.faults folder.old folder.new)) result.0 (sunk W.contents W.faults out.old out.new) }
+    ensures kept { IsKept S.bytes S.bytes_len S.faults src result.1 }
+{
+    match find_part(&mut src) {
+        Ok(part) => fill_slice::<S, W, F, Brand>(alloc, target, src, part, out, folder),
+        Err(stop) => (Err(stopped_without(stop)), src),
+    }
+}
+
+/// Fills a folder from an image or from a partition of it, and gives the image back.
+pub fn fill<S: BlockSource, W: Sink, F: Folder>(
+    alloc: Global,
+    in_partition: bool,
+    target: Target<'_>,
+    src: S,
+    out: &mut W,
+    folder: &mut F,
+) -> (Result<(), Stopped>, S)
+    ensures answer { HasCome (Some (line_in in_partition (Export (target_asked target.entry)))) (Some (looked S.bytes S.faults src result.1)) (Some (stored F.contents F.faults folder.old folder.new)) result.0 (sunk W.contents W.faults out.old out.new) }
+    ensures kept { IsKept S.bytes S.bytes_len S.faults src result.1 }
+{
+    if in_partition {
+        fill_partition(alloc, target, src, out, folder)
+    } else {
+        fill_cached(alloc, target, src, out, folder)
     }
 }

@@ -5,16 +5,19 @@ ghost use Rattle.apfs_model.specs.Source.{IsKept};
 ghost use Rattle.obj_base.specs.BlockSize.{is_accepted};
 ghost use Rattle.nx_block.specs.Read.{size_of};
 ghost use Rattle.apfs_cli.specs.Cache.{kept_size};
-ghost use Rattle.apfs_cli.specs.Handed.{looked};
-ghost use Rattle.apfs_cli.specs.Says.{HasEnded};
-ghost use Rattle.apfs_cli.specs.Words.{said};
+ghost use Rattle.cmd_words.specs.Asked.{target_asked};
+ghost use Rattle.apfs_cli.specs.Handed.{looked, stored};
+ghost use Rattle.apfs_cli.specs.Says.{HasEnded, HasEndedInto};
+ghost use Rattle.apfs_cli.specs.Words.{Export, said};
 ghost use Rattle.apfs_cli.specs.Written.{sunk};
 
-use crate::commands::on_image;
+use crate::commands::{export, on_image};
 use crate::stopped::Stopped;
 use crate::words::Command;
 use blk_cache::Cached;
+use blk_folder::Folder;
 use blk_source::{BlockSource, ReadFailed, Sink};
+use cmd_words::Target;
 use nx_block::nx_size;
 use std::alloc::Global;
 
@@ -91,6 +94,30 @@ pub fn on_cache<S: BlockSource, W: Sink>(
     match Cached::new(alloc, src, size, BLOCKS) {
         Ok(mut cache) => {
             let ended = on_image(alloc, command, &mut cache, out);
+            (ended, cache.into_inner())
+        }
+        Err(src) => (Err(Stopped::OutOfMemory), src),
+    }
+}
+
+/// Fills a folder from an image whose blocks are kept as they are read, and gives the image back.
+pub fn fill_cached<S: BlockSource, W: Sink, F: Folder>(
+    alloc: Global,
+    target: Target<'_>,
+    mut src: S,
+    out: &mut W,
+    folder: &mut F,
+) -> (Result<(), Stopped>, S)
+    ensures answer { HasEndedInto (Export (target_asked target.entry)) (looked S.bytes S.faults src result.1) (stored F.contents F.faults folder.old folder.new) result.0 (sunk W.contents W.faults out.old out.new) }
+    ensures kept { IsKept S.bytes S.bytes_len S.faults src result.1 }
+{
+    let size = match kept_size_of(&mut src) {
+        Ok(size) => size,
+        Err(_) => return (Err(Stopped::ReadFailed), src),
+    };
+    match Cached::new(alloc, src, size, BLOCKS) {
+        Ok(mut cache) => {
+            let ended = export::write(alloc, target, &mut cache, out, folder);
             (ended, cache.into_inner())
         }
         Err(src) => (Err(Stopped::OutOfMemory), src),

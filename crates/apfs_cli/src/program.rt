@@ -4,28 +4,31 @@ ghost use Rattle.std.specs.String.{string_bytes};
 ghost use Rattle.apfs_model.specs.Sink.{Wrote};
 ghost use Rattle.apfs_model.specs.Source.{IsKept};
 ghost use Rattle.apfs_check.specs.WellFormed.{IsWellFormed};
+ghost use Rattle.blk_folder.specs.Items.{Item};
+ghost use Rattle.cmd_words.specs.Asked.{target_asked};
 ghost use Rattle.img_format.specs.declared.spec.Spec.{Spec};
 ghost use Rattle.apfs_cli.specs.Handed.{looked, looked_at, stored_in, IsGivenKept};
 ghost use Rattle.apfs_cli.specs.Outcome as outcomes;
-ghost use Rattle.apfs_cli.specs.Rows.{BothWrote, HasText, NamesFault, NamesFeature, NamesAnswer, SaysReadFailed, SaysOutOfMemory, HasFailedPut, HasDefinedText, HasDefinedAnswer, HasSound, HasUnsound, HasTableFault, IsExactly, IsOrFree, IsCleanOrFree, IsFoundOrFree, IsUndisturbed, IsCompleted, IsNewOrFree, IsOfMade, IsRefusal, IsTurnedAway, lead_in, MayFill};
+ghost use Rattle.apfs_cli.specs.Rows.{BothWrote, HasText, NamesFault, NamesFeature, NamesAnswer, SaysReadFailed, SaysOutOfMemory, HasFailedPut, HasDefinedText, HasDefinedItems, HasDefinedAnswer, HasSound, HasUnsound, HasTableFault, IsExactly, IsOrFree, IsCleanOrFree, IsFoundOrFree, IsUndisturbed, IsCompleted, IsFilledWith, IsNewOrFree, IsOfMade, IsRefusal, IsTurnedAway, lead_in, MayFill};
 ghost use Rattle.apfs_cli.specs.Says.{HasEnded, HasCome, HasNoImage, HasNoFolder, IsOpenedKept, IsUntouched, CameTo, CameOver};
 ghost use Rattle.apfs_cli.specs.Seen.{outcome_of};
-ghost use Rattle.apfs_cli.specs.Words.{Check, Format, Gen, asked_of, line_in, plain_line, said};
+ghost use Rattle.apfs_cli.specs.Words.{Check, Export, Format, Gen, asked_of, line_in, plain_line, said};
 ghost use Rattle.apfs_cli.specs.Written.{sunk, IsClosed};
 ghost use Rattle.apfs_cli.specs.declared.named.Named.{Named};
 
 use crate::commands::{check, generated, new_container};
-use crate::in_partition::on_order;
+use crate::in_partition::{fill, on_order};
 use crate::say::say;
 use crate::stopped::Stopped;
 use crate::words::{Command, Order, asked};
 use blk_folder::{Folder, Given};
 use blk_source::{BlockSource, Opened, Sink, SureSource};
+use cmd_words::Target;
 use std::alloc::Global;
 use std::mem;
 use tree_rules::Profile;
 
-// Runs a command on what was handed in.
+// Runs a command that takes no folder on what was handed in.
 fn on_opened<S: BlockSource, W: Sink>(
     alloc: Global,
     in_partition: bool,
@@ -46,15 +49,59 @@ fn on_opened<S: BlockSource, W: Sink>(
     }
 }
 
+// Fills the folder that was handed in, and gives the image back.
+fn fill_given<S: BlockSource, W: Sink, F: Folder>(
+    alloc: Global,
+    in_partition: bool,
+    target: Target<'_>,
+    src: S,
+    out: &mut W,
+    folder: &mut Given<F>,
+) -> (Result<(), Stopped>, S)
+    ensures answer { HasCome (Some (line_in in_partition (Export (target_asked target.entry)))) (Some (looked S.bytes S.faults src result.1)) (stored_in F.contents F.faults folder.old folder.new) result.0 (sunk W.contents W.faults out.old out.new) }
+    ensures kept { IsKept S.bytes S.bytes_len S.faults src result.1 }
+    ensures given { IsGivenKept folder.old folder.new }
+{
+    match folder {
+        Given::Nothing => (Err(Stopped::NoFolder), src),
+        Given::Into(folder) => fill(alloc, in_partition, target, src, out, folder),
+    }
+}
+
+// Fills the folder that was handed in from the image that was.
+fn fill_opened<S: BlockSource, W: Sink, F: Folder>(
+    alloc: Global,
+    in_partition: bool,
+    target: Target<'_>,
+    image: &mut Opened<S>,
+    out: &mut W,
+    folder: &mut Given<F>,
+) -> Result<(), Stopped>
+    ensures answer { HasCome (Some (line_in in_partition (Export (target_asked target.entry)))) (looked_at S.bytes S.faults image.old image.new) (stored_in F.contents F.faults folder.old folder.new) result (sunk W.contents W.faults out.old out.new) }
+    ensures kept { IsOpenedKept S.bytes S.bytes_len image.old image.new }
+    ensures given { IsGivenKept folder.old folder.new }
+{
+    match mem::replace(image, Opened::Absent) {
+        Opened::Absent => Err(Stopped::NoImage),
+        Opened::Image(src) => {
+            let (ended, src) = fill_given(alloc, in_partition, target, src, out, folder);
+            *image = Opened::Image(src);
+            ended
+        }
+    }
+}
+
 // Runs what the words ask for.
-fn decide<S: BlockSource, W: Sink>(
+fn decide<S: BlockSource, W: Sink, F: Folder>(
     alloc: Global,
     words: &[String],
     image: &mut Opened<S>,
     out: &mut W,
+    folder: &mut Given<F>,
 ) -> Result<(), Stopped>
-    ensures answer { HasCome (asked_of (map string_bytes words.now)) (looked_at S.bytes S.faults image.old image.new) None result (sunk W.contents W.faults out.old out.new) }
+    ensures answer { HasCome (asked_of (map string_bytes words.now)) (looked_at S.bytes S.faults image.old image.new) (stored_in F.contents F.faults folder.old folder.new) result (sunk W.contents W.faults out.old out.new) }
     ensures kept { IsOpenedKept S.bytes S.bytes_len image.old image.new }
+    ensures given { IsGivenKept folder.old folder.new }
 {
     let found = match asked(alloc, words) {
         Ok(found) => found,
@@ -66,6 +113,10 @@ fn decide<S: BlockSource, W: Sink>(
                 in_partition,
                 command,
             } => on_opened(alloc, in_partition, command, image, out),
+            Order::Export {
+                in_partition,
+                target,
+            } => fill_opened(alloc, in_partition, target, image, out, folder),
             Order::Gen(files) => generated::write(alloc, files, out, &mut None),
             Order::Format(wanted) => new_container::write(alloc, wanted, out),
         },
@@ -83,25 +134,27 @@ fn close<E: Sink>(alloc: Global, ended: Result<(), Stopped>, err: &mut E) -> u8
     }
 }
 
-// Runs what the words ask for, and says why where there is no text. No command takes a folder.
+// Runs what the words ask for, and says why where there is no text.
 fn end<S: BlockSource, W: Sink, E: Sink, F: Folder>(
     alloc: Global,
     words: &[String],
     image: &mut Opened<S>,
     out: &mut W,
     err: &mut E,
-    _folder: &mut Given<F>,
+    folder: &mut Given<F>,
 ) -> u8
-    ensures answer { CameTo (asked_of (map string_bytes words.now)) (looked_at S.bytes S.faults image.old image.new) (stored_in F.contents F.faults _folder.old _folder.new) result (sunk W.contents W.faults out.old out.new) (sunk E.contents E.faults err.old err.new) }
+    ensures answer { CameTo (asked_of (map string_bytes words.now)) (looked_at S.bytes S.faults image.old image.new) (stored_in F.contents F.faults folder.old folder.new) result (sunk W.contents W.faults out.old out.new) (sunk E.contents E.faults err.old err.new) }
     ensures kept { IsOpenedKept S.bytes S.bytes_len image.old image.new }
-    ensures given { IsGivenKept _folder.old _folder.new }
+    ensures given { IsGivenKept folder.old folder.new }
 {
-    let ended = decide(alloc, words, image, out);
+    let ended = decide(alloc, words, image, out, folder);
     close(alloc, ended, err)
 }
 
 /// The program once the words are read and the image is opened: writes the text of the command on `out` and nothing on
-/// `err`, or a line on `err` that says why not, and gives the status to end with. The folder stays what it was: no command takes one.
+/// `err`, or a line on `err` that says why not, and gives the status to end with. `export` alone takes the folder: it puts
+/// directories and files into it, one after the other, and leaves there what was put where it stops. To every other command it
+/// makes no difference what is handed in for it.
 pub fn run<S: BlockSource, W: Sink, E: Sink, F: Folder>(
     alloc: Global,
     words: &[String],
@@ -137,6 +190,9 @@ pub fn run<S: BlockSource, W: Sink, E: Sink, F: Folder>(
     ensures clean { HasSound (asked_of (map string_bytes words.now)) (looked_at S.bytes S.faults image.old image.new) (stored_in F.contents F.faults folder.old folder.new) → IsCleanOrFree result }
     ensures flawed { HasUnsound (asked_of (map string_bytes words.now)) (looked_at S.bytes S.faults image.old image.new) (stored_in F.contents F.faults folder.old folder.new) → IsFoundOrFree result }
     ensures completed { IsUndisturbed (asked_of (map string_bytes words.now)) (looked_at S.bytes S.faults image.old image.new) (stored_in F.contents F.faults folder.old folder.new) (sunk W.contents W.faults out.old out.new) (sunk E.contents E.faults err.old err.new) → IsCompleted result }
+
+    // What a folder gets.
+    ensures filled { (items : List Item) → HasDefinedItems (asked_of (map string_bytes words.now)) (looked_at S.bytes S.faults image.old image.new) (stored_in F.contents F.faults folder.old folder.new) items → IsFilledWith result (stored_in F.contents F.faults folder.old folder.new) items }
 
     // How `format` ends.
     ensures new { (spec : Spec) → asked_of (map string_bytes words.now) ≡ Some (plain_line (Format spec)) → IsNewOrFree spec result (sunk W.contents W.faults out.old out.new) }

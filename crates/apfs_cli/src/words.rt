@@ -3,7 +3,7 @@ ghost use Rattle.std.specs.Prelude.{◌≡◌, map, option_map, IfOk};
 ghost use Rattle.std.specs.String.{string_bytes};
 ghost use Rattle.cmd_words.specs.Asked.{asked_by, flags_asked};
 ghost use Rattle.apfs_cli.specs.ByCommand as by_command;
-ghost use Rattle.apfs_cli.specs.Words.{command_of, new_of, plain_of, asked_of, said, line_in, line_said, spec_of, count_said, files_said, gen_files, spec_said, new_spec};
+ghost use Rattle.apfs_cli.specs.Words.{command_of, new_of, plain_of, asked_of, said, line_said, spec_of, count_said, files_said, gen_files, spec_said, new_spec};
 ghost use Rattle.apfs_cli.specs.Words as lines;
 ghost use Rattle.uuid.specs.Text.{parsed};
 
@@ -31,7 +31,7 @@ pub enum Checks {
     First(Profile),
 }
 
-/// What a line of words asks for, with its words beside the image.
+/// What a line of words asks for of an image, with its words beside it, where no folder is taken.
 #[derive(Clone, Copy, PartialEq, Eq, Debug)]
 pub enum Command<'a> {
     /// The candidates of the descriptor ring.
@@ -74,12 +74,19 @@ pub struct NewContainer<'a> {
 /// What a line asks for.
 #[derive(Clone, Copy, PartialEq, Eq, Debug)]
 pub enum Order<'a> {
-    /// A command on an image.
+    /// A command on an image that takes no folder.
     On {
         /// Whether the image is the partition of a disk that holds a container.
         in_partition: bool,
         /// The command.
         command: Command<'a>,
+    },
+    /// What a view has, put into a folder. The container is checked first.
+    Export {
+        /// Whether the image is the partition of a disk that holds a container.
+        in_partition: bool,
+        /// The root of the view.
+        target: Target<'a>,
     },
     /// An image of so many files, 20,000 at most, and whether its container is well-formed.
     Gen(u32),
@@ -124,11 +131,17 @@ fn checks_by(flags: Flags) -> Checks
     }
 }
 
-// The command of a line.
-fn built<'a>(line: Line<'a>) -> Command<'a>
-    ensures { said result ≡ lines.built (asked_by line.entry) }
+// The order of a line, on what is handed in or on a partition of it.
+fn built<'a>(in_partition: bool, line: Line<'a>) -> Order<'a>
+    ensures { line_said result ≡ lines.line_in in_partition (lines.built (asked_by line.entry)) }
 {
-    match line {
+    let command = match line {
+        Line::Export(target) => {
+            return Order::Export {
+                in_partition,
+                target,
+            };
+        }
         Line::Ring => Command::Ring,
         Line::Info => Command::Info,
         Line::Volumes => Command::Volumes,
@@ -140,33 +153,24 @@ fn built<'a>(line: Line<'a>) -> Command<'a>
         Line::Tree(flags, target) => Command::Tree(checks_by(flags), target),
         Line::Cat(flags, target) => Command::Cat(checks_by(flags), target),
         Line::Xattr(flags, target, name) => Command::Xattr(checks_by(flags), target, name),
-    }
-}
-
-// What words ask for that ask for a command on an image.
-#[tactic(auto, unfolding(crate::specs::Words::command_of))]
-fn command_in<'a>(alloc: Global, words: &'a [String]) -> Result<Option<Command<'a>>, AllocError>
-    ensures { IfOk result (λ command. option_map said command ≡ command_of (map string_bytes words.entry.now)) }
-{
-    match line_in(alloc, words)? {
-        Some(line) => Ok(Some(built(line))),
-        None => Ok(None),
+    };
+    Order::On {
+        in_partition,
+        command,
     }
 }
 
 // What a command asks for, on what is handed in or on a partition of it.
+#[tactic(auto, unfolding(crate::specs::Words::command_of))]
 fn order_in<'a>(
     alloc: Global,
     words: &'a [String],
     in_partition: bool,
 ) -> Result<Option<Order<'a>>, AllocError>
-    ensures { IfOk result (λ order. option_map line_said order ≡ option_map (line_in in_partition) (command_of (map string_bytes words.entry.now))) }
+    ensures { IfOk result (λ order. option_map line_said order ≡ option_map (lines.line_in in_partition) (command_of (map string_bytes words.entry.now))) }
 {
-    match command_in(alloc, words)? {
-        Some(command) => Ok(Some(Order::On {
-            in_partition,
-            command,
-        })),
+    match line_in(alloc, words)? {
+        Some(line) => Ok(Some(built(in_partition, line))),
         None => Ok(None),
     }
 }

@@ -1,9 +1,9 @@
 -- The commands of this crate, with their grammars.
 use Rattle.std.proofs.Common.{◌≡◌, ◌∙◌, ◌&&◌, ◌||◌, ⊎_elim, ℕ, Bool, true, false, not, List, [], ◌∷◌, Some, None, refl, sym, ap, ap₂, subst, codes, true≢false}
 use Rattle.std.specs.Str.{bytes_eq}
-use Rattle.cmd_words.specs.Lines.{check_words, target_words, volume_words, xattr_words}
+use Rattle.cmd_words.specs.Lines.{check_words, target_words, view_words, volume_words, xattr_words}
 use Rattle.clap.specs.Walk.{Rule, arg_by_long, arg_by_short}
-use Rattle.cmd_words.specs.Commands.{check_app, target_app, volume_app, xattr_app}
+use Rattle.cmd_words.specs.Commands.{check_app, target_app, view_app, volume_app, xattr_app}
 use Rattle.cmd_words.specs.Said.{Text, is_among, says}
 use Rattle.cmd_words.proofs.Shapes.{HasNames, HasRule, set_rule, flag_rule}
 use Rattle.cmd_words.proofs.Rows.{bool_cases, text_same}
@@ -78,6 +78,9 @@ check_rules = flag_rule (codes "strict") ∷ []
 abbrev volume_rules : List Rule
 volume_rules = option_set (codes "volume") ∷ []
 
+abbrev root_rules : List Rule
+root_rules = option_set (codes "volume") ∷ option_set (codes "snapshot") ∷ []
+
 pub target_is : IsCommand target_app target_words
 target_is = record {
   rules_are = target_rules;
@@ -135,6 +138,21 @@ volume_is = record {
   none = (refl, tt);
   names_are = one_option volume_rules (codes "volume") (λ x. refl)
       (record { long = Some (codes "volume"); index = None; required = false; is = refl; by_id = refl }) (λ name e. rw e refl);
+  places_are = refl;
+  required_are = λ all. refl;
+}
+
+pub view_is : IsCommand view_app view_words
+view_is = record {
+  rules_are = root_rules;
+  is = refl;
+  words = λ xs. refl;
+  none = (refl, (refl, tt));
+  names_are = two_options root_rules (codes "volume") (codes "snapshot") [] [] [] (λ x. refl)
+      (record { long = Some (codes "volume"); index = None; required = false; is = refl; by_id = refl })
+      (record { long = Some (codes "snapshot"); index = None; required = false; is = refl; by_id = refl })
+      (λ name e f g. absurd (true≢false (sym g)))
+      (λ name e f g. rw (e, f) refl);
   places_are = refl;
   required_are = λ all. refl;
 }

@@ -5,16 +5,16 @@ use Rattle.std.specs.Str.{bytes_eq}
 use Rattle.std.specs.String.{string_bytes}
 use Rattle.std.proofs.lemmas.Str.{IsUtf8-string_bytes}
 use Rattle.std.specs.declared.string.String.{String}
-use Rattle.cmd_words.specs.ByClap.{line_by_clap, read_by_clap}
-use Rattle.cmd_words.specs.Lines.{alone, browse_by, check_by, check_words, line_named, line_of, read, target_words, volume_alone, volume_words, xattr_by, xattr_words}
+use Rattle.cmd_words.specs.ByClap.{export_by_clap, line_by_clap, read_by_clap}
+use Rattle.cmd_words.specs.Lines.{alone, browse_by, check_by, check_words, export_words, line_named, line_of, read, root_by, target_words, view_words, volume_alone, volume_words, xattr_by, xattr_words}
 use Rattle.clap.specs.Walk.{Row, first_of}
 use Rattle.clap.specs.Simple.{App}
-use Rattle.cmd_words.specs.Commands.{check_app, target_app, volume_app, xattr_app}
+use Rattle.cmd_words.specs.Commands.{check_app, target_app, view_app, volume_app, xattr_app}
 use Rattle.cmd_words.specs.Said.{Grammar, Said, Text, said_by_words, value_said}
 use Rattle.cmd_words.proofs.Shapes.{row_for, rows_for}
 use Rattle.cmd_words.proofs.Walks.{AllOpen}
 use Rattle.cmd_words.proofs.Found.{IsCommand, found-said, text_opens}
-use Rattle.cmd_words.proofs.Grammars.{check_is, target_is, volume_is, xattr_is}
+use Rattle.cmd_words.proofs.Grammars.{check_is, target_is, view_is, volume_is, xattr_is}
 
 pub texts_open : {Z : Type 0} (words : List (String Z)) → AllOpen (map string_bytes words)
 texts_open [] = tt
@@ -40,6 +40,11 @@ read_same : {X : Type 0} (app : App) (grammar : Grammar) → IsCommand app gramm
 read_same app grammar cmd parts words opens =
     ap (option_and_then (λ rows. parts (λ name. first_of name rows))) (found-said app grammar cmd words opens) ∙ parts_same parts (said_by_words grammar words)
 
+-- the words of `export`, of which the first is the directory
+export-same : (words : List Text) → AllOpen words → export_by_clap words ≡ export_words words
+export-same [] opens = refl
+export-same (dir ∷ rest) opens = read_same view_app view_words view_is root_by rest opens.1
+
 -- the theorem on whole lines
 pub line-same : (words : List Text) → AllOpen words → line_by_clap words ≡ line_of words
 line-same [] opens = refl
@@ -49,3 +54,4 @@ line-same (command ∷ image ∷ rest) opens = λ i. line_named command (λ aske
     (read_same volume_app volume_words volume_is volume_alone rest opens.1.1 i)
     (read_same target_app target_words target_is browse_by rest opens.1.1 i)
     (read_same xattr_app xattr_words xattr_is xattr_by rest opens.1.1 i)
+    (export-same rest opens.1.1 i)

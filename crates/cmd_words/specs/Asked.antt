@@ -43,6 +43,8 @@ pub data Asked : Type 0 where
   Cat : AskedFlags → AskedTarget → Asked
   -- the extended attributes, or the bytes of the one that is named
   Xattr : AskedFlags → AskedTarget → Option Text → Asked
+  -- what a view has, put into a directory
+  Export : AskedTarget → Asked
 
 -- a target without where its words lie
 abbrev pub target_asked : Target → AskedTarget
@@ -73,3 +75,4 @@ asked_by (lines.Ls flags target) = Ls (flags_asked flags) (target_asked target)
 asked_by (lines.Tree flags target) = Tree (flags_asked flags) (target_asked target)
 asked_by (lines.Cat flags target) = Cat (flags_asked flags) (target_asked target)
 asked_by (lines.Xattr flags target name) = Xattr (flags_asked flags) (target_asked target) (option_map (λ text. text.now) name)
+asked_by (lines.Export target) = Export (target_asked target)

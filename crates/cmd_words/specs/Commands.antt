@@ -51,6 +51,10 @@ check_app = with_rule bare_app (flag_rule (codes "strict"))
 abbrev pub volume_app : App
 volume_app = with_rule bare_app (option_rule (codes "volume"))
 
+-- `[--volume N] [--snapshot NAME]`
+abbrev pub view_app : App
+view_app = with_view bare_app
+
 -- what clap finds in the words, where it takes them
 abbrev pub found_in : App → List Text → Option (List Row)
 found_in app words = if is_empty (fault_of app words) then Some (matches_of app words) else None

@@ -3,7 +3,7 @@ use Rattle.std.specs.Prelude.{nat_le, Bool, ◌+◌, ◌-◌, ◌*◌, ◌==◌,
 use Rattle.std.specs.Prelude.{Option, Some, None, is_some, option_map, option_and_then, if◌then◌else◌, codes}
 use Rattle.std.specs.Str.{bytes_eq}
 use Rattle.cmd_words.specs.Said.{Grammar, Text, said_by_words, value_said}
-use Rattle.cmd_words.specs.Asked.{Asked, AskedFlags, AskedTarget, Cat, Check, Info, Ls, Ring, Snapshots, Space, Tree, Usage, Volumes, Xattr}
+use Rattle.cmd_words.specs.Asked.{Asked, AskedFlags, AskedTarget, Cat, Check, Export, Info, Ls, Ring, Snapshots, Space, Tree, Usage, Volumes, Xattr}
 
 -- ---- the parts of a line
 
@@ -51,6 +51,14 @@ check_by value = Some (Check (is_some (value (codes "strict"))))
 abbrev pub volume_alone : (Text → Option Text) → Option (Option ℕ)
 volume_alone value = volume_by (value (codes "volume"))
 
+-- the root of a view, where `value` gives what was said for a name
+abbrev pub root_by : (Text → Option Text) → Option AskedTarget
+root_by value = option_map (λ volume. record {
+  path = codes "/";
+  volume = volume;
+  snapshot = value (codes "snapshot");
+}) (volume_by (value (codes "volume")))
+
 -- ---- the words after the image
 
 -- `PATH [--volume N] [--snapshot NAME] [--quick] [--strict]`
@@ -79,10 +87,19 @@ check_words = record { options = []; flags = codes "strict" ∷ []; places = [];
 abbrev pub volume_words : Grammar
 volume_words = record { options = codes "volume" ∷ []; flags = []; places = []; required = [] }
 
+-- `[--volume N] [--snapshot NAME]`
+abbrev pub view_words : Grammar
+view_words = record { options = codes "volume" ∷ codes "snapshot" ∷ []; flags = []; places = []; required = [] }
+
 -- what words of a grammar ask for, by what they say for each name
 abbrev pub read : {X : Type 0} → Grammar → ((Text → Option Text) → Option X) → List Text → Option X
 read grammar parts words =
     option_and_then (λ all. parts (λ name. value_said name all)) (said_by_words grammar words)
+
+-- `DIR [--volume N] [--snapshot NAME]`: the root of a view, after a directory that is taken as it stands
+abbrev pub export_words : List Text → Option AskedTarget
+export_words [] = None
+export_words (dir ∷ rest) = read view_words root_by rest
 
 -- a line that has no word after the image
 abbrev pub alone : Asked → List Text → Option Asked
@@ -92,8 +109,8 @@ alone asked (word ∷ rest) = None
 -- ---- the line
 
 -- the line of a command, where the others are the lines of each kind of words after the image
-abbrev pub line_named : Text → (Asked → Option Asked) → Option Asked → Option (Option ℕ) → Option (AskedFlags × AskedTarget) → Option Asked → Option Asked
-line_named command by_image check volume browse xattr =
+abbrev pub line_named : Text → (Asked → Option Asked) → Option Asked → Option (Option ℕ) → Option (AskedFlags × AskedTarget) → Option Asked → Option AskedTarget → Option Asked
+line_named command by_image check volume browse xattr export =
     if bytes_eq command (codes "ring") then by_image Ring else
     if bytes_eq command (codes "info") then by_image Info else
     if bytes_eq command (codes "volumes") then by_image Volumes else
@@ -105,11 +122,12 @@ line_named command by_image check volume browse xattr =
     if bytes_eq command (codes "tree") then option_map (λ b. Tree b.0 b.1) browse else
     if bytes_eq command (codes "cat") then option_map (λ b. Cat b.0 b.1) browse else
     if bytes_eq command (codes "xattr") then xattr else
+    if bytes_eq command (codes "export") then option_map Export export else
     None
 
 -- what a line of words asks for; None where the words are no line of the program
 abbrev pub line_of : List Text → Option Asked
 line_of (command ∷ image ∷ rest) = line_named command (λ asked. alone asked rest)
     (read check_words check_by rest) (read volume_words volume_alone rest)
-    (read target_words browse_by rest) (read xattr_words xattr_by rest)
+    (read target_words browse_by rest) (read xattr_words xattr_by rest) (export_words rest)
 line_of words = None

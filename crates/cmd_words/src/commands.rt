@@ -1,7 +1,7 @@
 //! The clap commands that read the words after the image.
 ghost use Rattle.std.specs.Prelude.{◌≡◌, IfOk, false};
 ghost use Rattle.clap.specs.Words.{app_of, rule_of};
-ghost use Rattle.cmd_words.specs.Commands.{bare_app, check_app, flag_rule, option_rule, place_rule, target_app, volume_app, with_flags, with_view, xattr_app};
+ghost use Rattle.cmd_words.specs.Commands.{bare_app, check_app, flag_rule, option_rule, place_rule, target_app, view_app, volume_app, with_flags, with_view, xattr_app};
 
 use clap::{Arg, ArgAction, Command};
 use std::alloc::{AllocError, Global};
@@ -93,4 +93,11 @@ pub fn volume_command<'a>(alloc: Global) -> Result<Command<'a>, AllocError>
     ensures { IfOk result (λ command. app_of command ≡ volume_app) }
 {
     bare_command(alloc).arg(option(alloc, "volume"))
+}
+
+/// `[--volume N] [--snapshot NAME]`.
+pub fn view_command<'a>(alloc: Global) -> Result<Command<'a>, AllocError>
+    ensures { IfOk result (λ command. app_of command ≡ view_app) }
+{
+    with_view(alloc, bare_command(alloc))
 }

@@ -45,4 +45,6 @@ pub enum Line<'a> {
     Cat(Flags, Target<'a>),
     /// The extended attributes, or the bytes of the one that is named.
     Xattr(Flags, Target<'a>, Option<&'a str>),
+    /// What a view has, put into a directory; the target's path is that of the root.
+    Export(Target<'a>),
 }

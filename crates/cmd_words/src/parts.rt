@@ -1,7 +1,7 @@
 //! The parts of a line, from what clap found in its words.
 ghost use Rattle.std.specs.Prelude.{◌≡◌, is_some, option_map};
 ghost use Rattle.clap.specs.Words.{first_of, found_of, rows_of};
-ghost use Rattle.cmd_words.specs.Lines.{browse_by, check_by, flags_by, small_number, target_by, volume_alone, volume_by, xattr_by};
+ghost use Rattle.cmd_words.specs.Lines.{browse_by, check_by, flags_by, root_by, small_number, target_by, volume_alone, volume_by, xattr_by};
 ghost use Rattle.cmd_words.specs.Asked.{asked_by, browse_asked, flags_asked, target_asked};
 
 use crate::lines::{Flags, Line, Target};
@@ -104,4 +104,18 @@ pub fn volume_in(matches: &ArgMatches<'_>) -> Option<Option<u8>>
     ensures { result ≡ volume_alone (λ name. first_of name (rows_of (found_of matches.now))) }
 {
     volume_of(text_in(matches, "volume"))
+}
+
+/// The root of a view; None where what names the volume is no number of one.
+pub fn root_in<'a>(matches: &ArgMatches<'a>) -> Option<Target<'a>>
+    ensures { option_map target_asked result ≡ root_by (λ name. first_of name (rows_of (found_of matches.now))) }
+{
+    let Some(volume) = volume_of(text_in(matches, "volume")) else {
+        return None;
+    };
+    Some(Target {
+        path: "/",
+        volume,
+        snapshot: text_in(matches, "snapshot"),
+    })
 }

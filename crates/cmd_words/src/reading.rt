@@ -2,14 +2,14 @@
 ghost use Rattle.std.specs.Prelude.{◌≡◌, IfOk, map, option_map, true};
 ghost use Rattle.std.specs.String.{string_bytes};
 ghost use Rattle.clap.specs.Words.{app_of, found_of, is_simple_and_free, rows_of};
-ghost use Rattle.cmd_words.specs.Asked.{Snapshots, Usage, asked_by, browse_asked};
-ghost use Rattle.cmd_words.specs.ByClap.{line_by_clap, read_by_clap};
-ghost use Rattle.cmd_words.specs.Commands.{check_app, found_in, target_app, volume_app, xattr_app};
-ghost use Rattle.cmd_words.specs.Lines.{alone, browse_by, check_by, line_of, volume_alone, xattr_by};
+ghost use Rattle.cmd_words.specs.Asked.{Export, Snapshots, Usage, asked_by, browse_asked, target_asked};
+ghost use Rattle.cmd_words.specs.ByClap.{export_by_clap, line_by_clap, read_by_clap};
+ghost use Rattle.cmd_words.specs.Commands.{check_app, found_in, target_app, view_app, volume_app, xattr_app};
+ghost use Rattle.cmd_words.specs.Lines.{alone, browse_by, check_by, line_of, root_by, volume_alone, xattr_by};
 
-use crate::commands::{check_command, target_command, volume_command, xattr_command};
+use crate::commands::{check_command, target_command, view_command, volume_command, xattr_command};
 use crate::lines::{Flags, Line, Target};
-use crate::parts::{browse_in, check_in, volume_in, xattr_in};
+use crate::parts::{browse_in, check_in, root_in, volume_in, xattr_in};
 use clap::error::ErrorKind;
 use clap::{ArgMatches, Command};
 use std::alloc::{AllocError, Global};
@@ -110,6 +110,38 @@ fn usage_line<'a>(alloc: Global, rest: &'a [String]) -> Result<Option<Line<'a>>,
     }
 }
 
+// The root of the view that is named.
+fn root_said<'a>(alloc: Global, rest: &'a [String]) -> Result<Option<Target<'a>>, AllocError>
+    ensures { IfOk result (λ target. option_map target_asked target
+        ≡ read_by_clap view_app root_by (map string_bytes rest.entry.now)) }
+{
+    let Some(matches) = found(view_command(alloc)?, rest)? else {
+        return Ok(None);
+    };
+    Ok(root_in(&matches))
+}
+
+// The root of the view that is named, after the directory, which is taken as it stands.
+fn export_said<'a>(alloc: Global, rest: &'a [String]) -> Result<Option<Target<'a>>, AllocError>
+    ensures { IfOk result (λ target. option_map target_asked target ≡ export_by_clap (map string_bytes rest.entry.now)) }
+{
+    let [_dir, rest @ ..] = rest else {
+        return Ok(None);
+    };
+    root_said(alloc, rest)
+}
+
+// The line that asks for what a view has.
+fn export_line<'a>(alloc: Global, rest: &'a [String]) -> Result<Option<Line<'a>>, AllocError>
+    ensures { IfOk result (λ line. option_map asked_by line
+        ≡ option_map Export (export_by_clap (map string_bytes rest.entry.now))) }
+{
+    match export_said(alloc, rest)? {
+        Some(target) => Ok(Some(Line::Export(target))),
+        None => Ok(None),
+    }
+}
+
 // The line that the words are, by clap's definitions.
 fn line_by_clap<'a>(alloc: Global, words: &'a [String]) -> Result<Option<Line<'a>>, AllocError>
     ensures { IfOk result (λ line. option_map asked_by line ≡ line_by_clap (map string_bytes words.entry.now)) }
@@ -129,12 +161,13 @@ fn line_by_clap<'a>(alloc: Global, words: &'a [String]) -> Result<Option<Line<'a
         "tree" => Ok(browse_said(alloc, rest)?.map(|(flags, target)| Line::Tree(flags, target))),
         "cat" => Ok(browse_said(alloc, rest)?.map(|(flags, target)| Line::Cat(flags, target))),
         "xattr" => xattr_line(alloc, rest),
+        "export" => export_line(alloc, rest),
         _ => Ok(None),
     }
 }
 
-/// The line that the words are, if they are one. The first word is the command and the second the image, which is
-/// taken as it stands; a request for help is no line.
+/// The line that the words are, if they are one. The first word is the command and the second the image, and of `export` the
+/// third is the directory; these are taken as they stand. A request for help is no line.
 pub fn line_in<'a>(alloc: Global, words: &'a [String]) -> Result<Option<Line<'a>>, AllocError>
     ensures { IfOk result (λ line. option_map asked_by line ≡ line_of (map string_bytes words.entry.now)) }
 {

@@ -5,6 +5,7 @@ pub mod Contents
 pub mod Searches
 pub mod Lookups
 pub mod Counts
+pub mod Tellings
 pub mod Rows
 pub mod Taken
 pub mod Stops

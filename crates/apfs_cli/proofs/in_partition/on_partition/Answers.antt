@@ -7,7 +7,7 @@ use Rattle.apfs_cli.specs.Handed.{looked, part_looked}
 use Rattle.apfs_cli.specs.Words.{said}
 use Rattle.apfs_cli.specs.Written.{sunk}
 use Rattle.apfs_cli.proofs.Endings.{ended_same}
-use Rattle.apfs_cli.proofs.Plugs.{come_part, come_without, handed_in}
+use Rattle.apfs_cli.proofs.Plugs.{come_part, come_without, handed_in, none_taken}
 use Rattle.apfs_cli.proofs.Puts.{rose_later}
 use Rattle.apfs_cli.proofs.in_partition.on_partition.Goals as goal
 
@@ -20,7 +20,7 @@ returns-in-Ok-clause-answer g c =
     let new = c.on_slice.result.1 in
     let later : faults c.args.src ≤ faults mid = c.in-Ok.ensures.kept.later in
     let out = sunk g.W.Sink.contents g.W.Sink.faults c.args.out.now c.on_slice.new.out in
-    come_part (said c.args.command) (handed_in c.args.command) (looked bytes faults c.args.src new) part c.on_slice.result.0 out c.in-Ok.ensures.found
+    come_part (said c.args.command) (handed_in c.args.command) (none_taken c.args.command) (looked bytes faults c.args.src new) part c.on_slice.result.0 out c.in-Ok.ensures.found
     (ended_same (said c.args.command) (part_looked part (looked bytes faults mid new)) (part_looked part (looked bytes faults c.args.src new)) c.on_slice.result.0 out
     (ap (λ told. (part_looked part (record { bytes = told; old_faults = 0; new_faults = 0 })).bytes) c.in-Ok.ensures.kept.same_bytes)
     (rose_later (faults c.args.src) (faults mid) (faults new) later)
@@ -30,6 +30,6 @@ pub returns-in-Err-clause-answer : goal.returns-in-Err-clause-answer
 returns-in-Err-clause-answer g c =
     let stop = c.in-Err.stop in
     rw c.stopped_without.ensures
-    (come_without (said c.args.command) (handed_in c.args.command) (looked g.S.BlockSource.bytes g.S.BlockSource.faults c.args.src c.find_part.new.src) stop (g.W.Sink.contents c.args.out.now) (g.W.Sink.faults c.args.out.now)
+    (come_without (said c.args.command) (handed_in c.args.command) (none_taken c.args.command) (looked g.S.BlockSource.bytes g.S.BlockSource.faults c.args.src c.find_part.new.src) stop (g.W.Sink.contents c.args.out.now) (g.W.Sink.faults c.args.out.now)
     c.in-Err.ensures.fault
     (λ (e : stop ≡ ReadFault). c.in-Err.ensures.cause (ap (λ (s : GptStop). Err s) e)))

@@ -12,4 +12,4 @@ returns-clause-answer g c =
     let source = looked g.S.BlockSource.bytes g.S.BlockSource.faults c.args.src.now c.write-ended.new.src in
     let out = sunk g.W.Sink.contents g.W.Sink.faults c.args.out.now c.write-ended.new.out in
     came_to (Some (plain_line command)) (Some source) None c.write-ended.result c.close.result out (sunk g.E.Sink.contents g.E.Sink.faults c.args.err.now c.close.new.err)
-    (come_plain command refl source c.write-ended.result out c.write-ended.ensures.answer) c.close.ensures
+    (come_plain command refl refl source c.write-ended.result out c.write-ended.ensures.answer) c.close.ensures

@@ -6,119 +6,125 @@ use Rattle.apfs_cli.specs.Words.{asked_of}
 use Rattle.apfs_cli.specs.Written.{sunk}
 use Rattle.apfs_cli.proofs.Statuses.{text_row, whole_row, fault_row, wrong_words_row, usage_row, read_failed_row, write_failed_row, out_of_memory_row, feature_row, answered_row, always_answered_row, clean_row, flawed_row, completed_row, no_image_row, absent_row, no_folder_row, nowhere_row, no_part_row, lead_row, turned_away_row, folder_row}
 use Rattle.apfs_cli.proofs.NewRow.{new_row}
+use Rattle.apfs_cli.proofs.FilledRow.{filled_row}
 use Rattle.apfs_cli.proofs.program.run.Goals as goal
 
 pub returns-clause-text : goal.returns-clause-text
 returns-clause-text g c =
-    text_row (asked_of (map string_bytes c.args.words.now)) (looked_at g.S.BlockSource.bytes g.S.BlockSource.faults c.args.image.now c.end.new.image) (stored_in g.F.Folder.contents g.F.Folder.faults c.args.folder.now c.end.new._folder) c.end.result
+    text_row (asked_of (map string_bytes c.args.words.now)) (looked_at g.S.BlockSource.bytes g.S.BlockSource.faults c.args.image.now c.end.new.image) (stored_in g.F.Folder.contents g.F.Folder.faults c.args.folder.now c.end.new.folder) c.end.result
     (sunk g.W.Sink.contents g.W.Sink.faults c.args.out.now c.end.new.out) (sunk g.E.Sink.contents g.E.Sink.faults c.args.err.now c.end.new.err) c.end.ensures.answer
 
 pub returns-clause-whole : goal.returns-clause-whole
 returns-clause-whole g c =
-    whole_row (asked_of (map string_bytes c.args.words.now)) (looked_at g.S.BlockSource.bytes g.S.BlockSource.faults c.args.image.now c.end.new.image) (stored_in g.F.Folder.contents g.F.Folder.faults c.args.folder.now c.end.new._folder) c.end.result
+    whole_row (asked_of (map string_bytes c.args.words.now)) (looked_at g.S.BlockSource.bytes g.S.BlockSource.faults c.args.image.now c.end.new.image) (stored_in g.F.Folder.contents g.F.Folder.faults c.args.folder.now c.end.new.folder) c.end.result
     (sunk g.W.Sink.contents g.W.Sink.faults c.args.out.now c.end.new.out) (sunk g.E.Sink.contents g.E.Sink.faults c.args.err.now c.end.new.err) c.end.ensures.answer
 
 pub returns-clause-fault : goal.returns-clause-fault
 returns-clause-fault g c =
-    fault_row (asked_of (map string_bytes c.args.words.now)) (looked_at g.S.BlockSource.bytes g.S.BlockSource.faults c.args.image.now c.end.new.image) (stored_in g.F.Folder.contents g.F.Folder.faults c.args.folder.now c.end.new._folder) c.end.result
+    fault_row (asked_of (map string_bytes c.args.words.now)) (looked_at g.S.BlockSource.bytes g.S.BlockSource.faults c.args.image.now c.end.new.image) (stored_in g.F.Folder.contents g.F.Folder.faults c.args.folder.now c.end.new.folder) c.end.result
     (sunk g.W.Sink.contents g.W.Sink.faults c.args.out.now c.end.new.out) (sunk g.E.Sink.contents g.E.Sink.faults c.args.err.now c.end.new.err) c.end.ensures.answer
 
 pub returns-clause-wrong_words : goal.returns-clause-wrong_words
 returns-clause-wrong_words g c =
-    wrong_words_row (asked_of (map string_bytes c.args.words.now)) (looked_at g.S.BlockSource.bytes g.S.BlockSource.faults c.args.image.now c.end.new.image) (stored_in g.F.Folder.contents g.F.Folder.faults c.args.folder.now c.end.new._folder) c.end.result
+    wrong_words_row (asked_of (map string_bytes c.args.words.now)) (looked_at g.S.BlockSource.bytes g.S.BlockSource.faults c.args.image.now c.end.new.image) (stored_in g.F.Folder.contents g.F.Folder.faults c.args.folder.now c.end.new.folder) c.end.result
     (sunk g.W.Sink.contents g.W.Sink.faults c.args.out.now c.end.new.out) (sunk g.E.Sink.contents g.E.Sink.faults c.args.err.now c.end.new.err) c.end.ensures.answer
 
 pub returns-clause-usage : goal.returns-clause-usage
 returns-clause-usage g c e =
-    (usage_row (asked_of (map string_bytes c.args.words.now)) (looked_at g.S.BlockSource.bytes g.S.BlockSource.faults c.args.image.now c.end.new.image) (stored_in g.F.Folder.contents g.F.Folder.faults c.args.folder.now c.end.new._folder) c.end.result
+    (usage_row (asked_of (map string_bytes c.args.words.now)) (looked_at g.S.BlockSource.bytes g.S.BlockSource.faults c.args.image.now c.end.new.image) (stored_in g.F.Folder.contents g.F.Folder.faults c.args.folder.now c.end.new.folder) c.end.result
     (sunk g.W.Sink.contents g.W.Sink.faults c.args.out.now c.end.new.out) (sunk g.E.Sink.contents g.E.Sink.faults c.args.err.now c.end.new.err) c.end.ensures.answer e).1
 
 pub returns-clause-read_failed : goal.returns-clause-read_failed
 returns-clause-read_failed g c =
-    read_failed_row (asked_of (map string_bytes c.args.words.now)) (looked_at g.S.BlockSource.bytes g.S.BlockSource.faults c.args.image.now c.end.new.image) (stored_in g.F.Folder.contents g.F.Folder.faults c.args.folder.now c.end.new._folder) c.end.result
+    read_failed_row (asked_of (map string_bytes c.args.words.now)) (looked_at g.S.BlockSource.bytes g.S.BlockSource.faults c.args.image.now c.end.new.image) (stored_in g.F.Folder.contents g.F.Folder.faults c.args.folder.now c.end.new.folder) c.end.result
     (sunk g.W.Sink.contents g.W.Sink.faults c.args.out.now c.end.new.out) (sunk g.E.Sink.contents g.E.Sink.faults c.args.err.now c.end.new.err) c.end.ensures.answer
 
 pub returns-clause-write_failed : goal.returns-clause-write_failed
 returns-clause-write_failed g c =
-    write_failed_row (asked_of (map string_bytes c.args.words.now)) (looked_at g.S.BlockSource.bytes g.S.BlockSource.faults c.args.image.now c.end.new.image) (stored_in g.F.Folder.contents g.F.Folder.faults c.args.folder.now c.end.new._folder) c.end.result
+    write_failed_row (asked_of (map string_bytes c.args.words.now)) (looked_at g.S.BlockSource.bytes g.S.BlockSource.faults c.args.image.now c.end.new.image) (stored_in g.F.Folder.contents g.F.Folder.faults c.args.folder.now c.end.new.folder) c.end.result
     (sunk g.W.Sink.contents g.W.Sink.faults c.args.out.now c.end.new.out) (sunk g.E.Sink.contents g.E.Sink.faults c.args.err.now c.end.new.err) c.end.ensures.answer
 
 pub returns-clause-out_of_memory : goal.returns-clause-out_of_memory
 returns-clause-out_of_memory g c =
-    out_of_memory_row (asked_of (map string_bytes c.args.words.now)) (looked_at g.S.BlockSource.bytes g.S.BlockSource.faults c.args.image.now c.end.new.image) (stored_in g.F.Folder.contents g.F.Folder.faults c.args.folder.now c.end.new._folder) c.end.result
+    out_of_memory_row (asked_of (map string_bytes c.args.words.now)) (looked_at g.S.BlockSource.bytes g.S.BlockSource.faults c.args.image.now c.end.new.image) (stored_in g.F.Folder.contents g.F.Folder.faults c.args.folder.now c.end.new.folder) c.end.result
     (sunk g.W.Sink.contents g.W.Sink.faults c.args.out.now c.end.new.out) (sunk g.E.Sink.contents g.E.Sink.faults c.args.err.now c.end.new.err) c.end.ensures.answer
 
 pub returns-clause-feature : goal.returns-clause-feature
 returns-clause-feature g c =
-    feature_row (asked_of (map string_bytes c.args.words.now)) (looked_at g.S.BlockSource.bytes g.S.BlockSource.faults c.args.image.now c.end.new.image) (stored_in g.F.Folder.contents g.F.Folder.faults c.args.folder.now c.end.new._folder) c.end.result
+    feature_row (asked_of (map string_bytes c.args.words.now)) (looked_at g.S.BlockSource.bytes g.S.BlockSource.faults c.args.image.now c.end.new.image) (stored_in g.F.Folder.contents g.F.Folder.faults c.args.folder.now c.end.new.folder) c.end.result
     (sunk g.W.Sink.contents g.W.Sink.faults c.args.out.now c.end.new.out) (sunk g.E.Sink.contents g.E.Sink.faults c.args.err.now c.end.new.err) c.end.ensures.answer
 
 pub returns-clause-answered : goal.returns-clause-answered
 returns-clause-answered g c =
-    answered_row (asked_of (map string_bytes c.args.words.now)) (looked_at g.S.BlockSource.bytes g.S.BlockSource.faults c.args.image.now c.end.new.image) (stored_in g.F.Folder.contents g.F.Folder.faults c.args.folder.now c.end.new._folder) c.end.result
+    answered_row (asked_of (map string_bytes c.args.words.now)) (looked_at g.S.BlockSource.bytes g.S.BlockSource.faults c.args.image.now c.end.new.image) (stored_in g.F.Folder.contents g.F.Folder.faults c.args.folder.now c.end.new.folder) c.end.result
     (sunk g.W.Sink.contents g.W.Sink.faults c.args.out.now c.end.new.out) (sunk g.E.Sink.contents g.E.Sink.faults c.args.err.now c.end.new.err) c.end.ensures.answer
 
 pub returns-clause-always_answered : goal.returns-clause-always_answered
 returns-clause-always_answered g c =
-    always_answered_row (asked_of (map string_bytes c.args.words.now)) (looked_at g.S.BlockSource.bytes g.S.BlockSource.faults c.args.image.now c.end.new.image) (stored_in g.F.Folder.contents g.F.Folder.faults c.args.folder.now c.end.new._folder) c.end.result
+    always_answered_row (asked_of (map string_bytes c.args.words.now)) (looked_at g.S.BlockSource.bytes g.S.BlockSource.faults c.args.image.now c.end.new.image) (stored_in g.F.Folder.contents g.F.Folder.faults c.args.folder.now c.end.new.folder) c.end.result
     (sunk g.W.Sink.contents g.W.Sink.faults c.args.out.now c.end.new.out) (sunk g.E.Sink.contents g.E.Sink.faults c.args.err.now c.end.new.err) c.end.ensures.answer
 
 pub returns-clause-clean : goal.returns-clause-clean
 returns-clause-clean g c =
-    clean_row (asked_of (map string_bytes c.args.words.now)) (looked_at g.S.BlockSource.bytes g.S.BlockSource.faults c.args.image.now c.end.new.image) (stored_in g.F.Folder.contents g.F.Folder.faults c.args.folder.now c.end.new._folder) c.end.result
+    clean_row (asked_of (map string_bytes c.args.words.now)) (looked_at g.S.BlockSource.bytes g.S.BlockSource.faults c.args.image.now c.end.new.image) (stored_in g.F.Folder.contents g.F.Folder.faults c.args.folder.now c.end.new.folder) c.end.result
     (sunk g.W.Sink.contents g.W.Sink.faults c.args.out.now c.end.new.out) (sunk g.E.Sink.contents g.E.Sink.faults c.args.err.now c.end.new.err) c.end.ensures.answer
 
 pub returns-clause-flawed : goal.returns-clause-flawed
 returns-clause-flawed g c =
-    flawed_row (asked_of (map string_bytes c.args.words.now)) (looked_at g.S.BlockSource.bytes g.S.BlockSource.faults c.args.image.now c.end.new.image) (stored_in g.F.Folder.contents g.F.Folder.faults c.args.folder.now c.end.new._folder) c.end.result
+    flawed_row (asked_of (map string_bytes c.args.words.now)) (looked_at g.S.BlockSource.bytes g.S.BlockSource.faults c.args.image.now c.end.new.image) (stored_in g.F.Folder.contents g.F.Folder.faults c.args.folder.now c.end.new.folder) c.end.result
     (sunk g.W.Sink.contents g.W.Sink.faults c.args.out.now c.end.new.out) (sunk g.E.Sink.contents g.E.Sink.faults c.args.err.now c.end.new.err) c.end.ensures.answer
 
 pub returns-clause-completed : goal.returns-clause-completed
 returns-clause-completed g c =
-    completed_row (asked_of (map string_bytes c.args.words.now)) (looked_at g.S.BlockSource.bytes g.S.BlockSource.faults c.args.image.now c.end.new.image) (stored_in g.F.Folder.contents g.F.Folder.faults c.args.folder.now c.end.new._folder) c.end.result
+    completed_row (asked_of (map string_bytes c.args.words.now)) (looked_at g.S.BlockSource.bytes g.S.BlockSource.faults c.args.image.now c.end.new.image) (stored_in g.F.Folder.contents g.F.Folder.faults c.args.folder.now c.end.new.folder) c.end.result
     (sunk g.W.Sink.contents g.W.Sink.faults c.args.out.now c.end.new.out) (sunk g.E.Sink.contents g.E.Sink.faults c.args.err.now c.end.new.err) c.end.ensures.answer
 
 pub returns-clause-no_image : goal.returns-clause-no_image
 returns-clause-no_image g c =
-    no_image_row (asked_of (map string_bytes c.args.words.now)) (looked_at g.S.BlockSource.bytes g.S.BlockSource.faults c.args.image.now c.end.new.image) (stored_in g.F.Folder.contents g.F.Folder.faults c.args.folder.now c.end.new._folder) c.end.result
+    no_image_row (asked_of (map string_bytes c.args.words.now)) (looked_at g.S.BlockSource.bytes g.S.BlockSource.faults c.args.image.now c.end.new.image) (stored_in g.F.Folder.contents g.F.Folder.faults c.args.folder.now c.end.new.folder) c.end.result
     (sunk g.W.Sink.contents g.W.Sink.faults c.args.out.now c.end.new.out) (sunk g.E.Sink.contents g.E.Sink.faults c.args.err.now c.end.new.err) c.end.ensures.answer
 
 pub returns-clause-absent : goal.returns-clause-absent
 returns-clause-absent g c e =
-    (absent_row (asked_of (map string_bytes c.args.words.now)) (looked_at g.S.BlockSource.bytes g.S.BlockSource.faults c.args.image.now c.end.new.image) (stored_in g.F.Folder.contents g.F.Folder.faults c.args.folder.now c.end.new._folder) c.end.result
+    (absent_row (asked_of (map string_bytes c.args.words.now)) (looked_at g.S.BlockSource.bytes g.S.BlockSource.faults c.args.image.now c.end.new.image) (stored_in g.F.Folder.contents g.F.Folder.faults c.args.folder.now c.end.new.folder) c.end.result
     (sunk g.W.Sink.contents g.W.Sink.faults c.args.out.now c.end.new.out) (sunk g.E.Sink.contents g.E.Sink.faults c.args.err.now c.end.new.err) c.end.ensures.answer e).1
 
 pub returns-clause-no_folder : goal.returns-clause-no_folder
 returns-clause-no_folder g c =
-    no_folder_row (asked_of (map string_bytes c.args.words.now)) (looked_at g.S.BlockSource.bytes g.S.BlockSource.faults c.args.image.now c.end.new.image) (stored_in g.F.Folder.contents g.F.Folder.faults c.args.folder.now c.end.new._folder) c.end.result
+    no_folder_row (asked_of (map string_bytes c.args.words.now)) (looked_at g.S.BlockSource.bytes g.S.BlockSource.faults c.args.image.now c.end.new.image) (stored_in g.F.Folder.contents g.F.Folder.faults c.args.folder.now c.end.new.folder) c.end.result
     (sunk g.W.Sink.contents g.W.Sink.faults c.args.out.now c.end.new.out) (sunk g.E.Sink.contents g.E.Sink.faults c.args.err.now c.end.new.err) c.end.ensures.answer
 
 pub returns-clause-nowhere : goal.returns-clause-nowhere
 returns-clause-nowhere g c e =
-    (nowhere_row (asked_of (map string_bytes c.args.words.now)) (looked_at g.S.BlockSource.bytes g.S.BlockSource.faults c.args.image.now c.end.new.image) (stored_in g.F.Folder.contents g.F.Folder.faults c.args.folder.now c.end.new._folder) c.end.result
+    (nowhere_row (asked_of (map string_bytes c.args.words.now)) (looked_at g.S.BlockSource.bytes g.S.BlockSource.faults c.args.image.now c.end.new.image) (stored_in g.F.Folder.contents g.F.Folder.faults c.args.folder.now c.end.new.folder) c.end.result
     (sunk g.W.Sink.contents g.W.Sink.faults c.args.out.now c.end.new.out) (sunk g.E.Sink.contents g.E.Sink.faults c.args.err.now c.end.new.err) c.end.ensures.answer e).1
 
 pub returns-clause-no_part : goal.returns-clause-no_part
 returns-clause-no_part g c named =
-    no_part_row (asked_of (map string_bytes c.args.words.now)) (looked_at g.S.BlockSource.bytes g.S.BlockSource.faults c.args.image.now c.end.new.image) (stored_in g.F.Folder.contents g.F.Folder.faults c.args.folder.now c.end.new._folder) c.end.result
+    no_part_row (asked_of (map string_bytes c.args.words.now)) (looked_at g.S.BlockSource.bytes g.S.BlockSource.faults c.args.image.now c.end.new.image) (stored_in g.F.Folder.contents g.F.Folder.faults c.args.folder.now c.end.new.folder) c.end.result
     (sunk g.W.Sink.contents g.W.Sink.faults c.args.out.now c.end.new.out) (sunk g.E.Sink.contents g.E.Sink.faults c.args.err.now c.end.new.err) named c.end.ensures.answer
 
 pub returns-clause-lead : goal.returns-clause-lead
 returns-clause-lead g c =
-    lead_row (asked_of (map string_bytes c.args.words.now)) (looked_at g.S.BlockSource.bytes g.S.BlockSource.faults c.args.image.now c.end.new.image) (stored_in g.F.Folder.contents g.F.Folder.faults c.args.folder.now c.end.new._folder) c.end.result
+    lead_row (asked_of (map string_bytes c.args.words.now)) (looked_at g.S.BlockSource.bytes g.S.BlockSource.faults c.args.image.now c.end.new.image) (stored_in g.F.Folder.contents g.F.Folder.faults c.args.folder.now c.end.new.folder) c.end.result
     (sunk g.W.Sink.contents g.W.Sink.faults c.args.out.now c.end.new.out) (sunk g.E.Sink.contents g.E.Sink.faults c.args.err.now c.end.new.err) c.end.ensures.answer
 
 pub returns-clause-turned_away : goal.returns-clause-turned_away
 returns-clause-turned_away g c =
-    turned_away_row (asked_of (map string_bytes c.args.words.now)) (looked_at g.S.BlockSource.bytes g.S.BlockSource.faults c.args.image.now c.end.new.image) (stored_in g.F.Folder.contents g.F.Folder.faults c.args.folder.now c.end.new._folder) c.end.result
+    turned_away_row (asked_of (map string_bytes c.args.words.now)) (looked_at g.S.BlockSource.bytes g.S.BlockSource.faults c.args.image.now c.end.new.image) (stored_in g.F.Folder.contents g.F.Folder.faults c.args.folder.now c.end.new.folder) c.end.result
     (sunk g.W.Sink.contents g.W.Sink.faults c.args.out.now c.end.new.out) (sunk g.E.Sink.contents g.E.Sink.faults c.args.err.now c.end.new.err) c.end.ensures.answer
 
 pub returns-clause-folder_kept : goal.returns-clause-folder_kept
 returns-clause-folder_kept g c =
-    folder_row (asked_of (map string_bytes c.args.words.now)) (looked_at g.S.BlockSource.bytes g.S.BlockSource.faults c.args.image.now c.end.new.image) (stored_in g.F.Folder.contents g.F.Folder.faults c.args.folder.now c.end.new._folder) c.end.result
+    folder_row (asked_of (map string_bytes c.args.words.now)) (looked_at g.S.BlockSource.bytes g.S.BlockSource.faults c.args.image.now c.end.new.image) (stored_in g.F.Folder.contents g.F.Folder.faults c.args.folder.now c.end.new.folder) c.end.result
     (sunk g.W.Sink.contents g.W.Sink.faults c.args.out.now c.end.new.out) (sunk g.E.Sink.contents g.E.Sink.faults c.args.err.now c.end.new.err) c.end.ensures.answer
 
 pub returns-clause-new : goal.returns-clause-new
 returns-clause-new g c =
-    new_row (asked_of (map string_bytes c.args.words.now)) (looked_at g.S.BlockSource.bytes g.S.BlockSource.faults c.args.image.now c.end.new.image) (stored_in g.F.Folder.contents g.F.Folder.faults c.args.folder.now c.end.new._folder) c.end.result
+    new_row (asked_of (map string_bytes c.args.words.now)) (looked_at g.S.BlockSource.bytes g.S.BlockSource.faults c.args.image.now c.end.new.image) (stored_in g.F.Folder.contents g.F.Folder.faults c.args.folder.now c.end.new.folder) c.end.result
+    (sunk g.W.Sink.contents g.W.Sink.faults c.args.out.now c.end.new.out) (sunk g.E.Sink.contents g.E.Sink.faults c.args.err.now c.end.new.err) c.end.ensures.answer
+
+pub returns-clause-filled : goal.returns-clause-filled
+returns-clause-filled g c =
+    filled_row (asked_of (map string_bytes c.args.words.now)) (looked_at g.S.BlockSource.bytes g.S.BlockSource.faults c.args.image.now c.end.new.image) (stored_in g.F.Folder.contents g.F.Folder.faults c.args.folder.now c.end.new.folder) c.end.result
     (sunk g.W.Sink.contents g.W.Sink.faults c.args.out.now c.end.new.out) (sunk g.E.Sink.contents g.E.Sink.faults c.args.err.now c.end.new.err) c.end.ensures.answer

@@ -1,0 +1,163 @@
+-- What a folder has after a run, by the items of the command.
+use Rattle.std.specs.Prelude.{◌≡◌, ◌⊎◌, ℕ, Bool, true, false, List, [], Option, Some, None, refl}
+use Rattle.std.proofs.Common.{inl, inr, sym, ◌∙◌, ap, subst, arith}
+use Rattle.std.proofs.lemmas.List.{append-nil}
+use Rattle.blk_folder.specs.Items.{Item, IsFront}
+use Rattle.blk_folder.specs.Put.{FilledPart}
+use Rattle.cmd_words.specs.Asked.{AskedTarget}
+use Rattle.nx_ring.specs.Checkpoint.{Seen, site_of}
+use Rattle.vol_view.specs.Volumes.{Loaded}
+use Rattle.vol_view.specs.declared.volume.View.{View}
+use Rattle.view_rules.specs.Rules.{view_facts}
+use Rattle.tree_export.specs.Exported.{exported}
+use Rattle.apfs_cli.specs.ByCommand.{from_of, takes_folder, AreItems, RestsOn}
+use Rattle.apfs_cli.specs.Commands.Export as export
+use Rattle.apfs_cli.specs.Handed.{Looked, Stored}
+use Rattle.apfs_cli.specs.Outcome.{Outcome, Written, Faulty, WrongWords, ReadFailed, WriteFailed, OutOfMemory, Refused, Answered, NoImage, NoFolder, status_of}
+use Rattle.apfs_cli.specs.Rows.{IsAsked, HasDefinedItems, HasMore, HasFrontMore, IsFilledWith, BothWrote}
+use Rattle.apfs_cli.specs.Says.{FillsBy, FillsOn, IsSame, IsSource, IsUntouched, Ran, Says, CameTo, wrong_words, no_image, no_folder, no_part, ran, no_memory}
+use Rattle.apfs_cli.specs.Words.{Asked, Line, Ring, Info, Volumes, Space, Check, Snapshots, Usage, Ls, Tree, Cat, Xattr, Export, Gen, Format}
+use Rattle.apfs_cli.specs.Written.{Sunk}
+use Rattle.apfs_cli.proofs.Statuses.{row, command_ran, front_fills, fills_none, given_source, one_line}
+use Rattle.apfs_cli.proofs.Views.{same_view}
+
+-- ---- the items of a command
+
+-- a command that takes no folder has none
+none_there : (command : Asked) (image : List ℕ) (items : List Item) → takes_folder command ≡ false → AreItems command image items → items ≡ []
+none_there Ring image items e are = are
+none_there Info image items e are = are
+none_there Volumes image items e are = are
+none_there Space image items e are = are
+none_there (Check profile) image items e are = are
+none_there (Snapshots volume) image items e are = are
+none_there (Usage volume) image items e are = are
+none_there (Ls checks target) image items e are = are
+none_there (Tree checks target) image items e are = are
+none_there (Cat checks target) image items e are = are
+none_there (Xattr checks target name) image items e are = are
+none_there (Export target) image items e are = absurd Prim.cc
+none_there (Gen n) image items e are = are
+none_there (Format spec) image items e are = are
+
+-- the items of a view are the ones
+one_export : (target : AskedTarget) (image : List ℕ) (a b : List Item) → export.AreItems target image a → export.AreItems target image b → a ≡ b
+one_export target image a b first second =
+    let P : Seen → Loaded → View → Type 0 = λ s l v. a ≡ exported (site_of s).block_size image (view_facts image (site_of s) l v) in
+    same_view image target first.seen second.seen first.volume second.volume first.view second.view P first.is second.is first.same ∙ sym second.same
+
+-- so are those of a command that takes a folder; it rests on nothing
+one_items : (command : Asked) (image : List ℕ) (a b : List Item) → takes_folder command ≡ true → (RestsOn command image → AreItems command image a) → AreItems command image b → a ≡ b
+one_items Ring image a b e first second = absurd Prim.cc
+one_items Info image a b e first second = absurd Prim.cc
+one_items Volumes image a b e first second = absurd Prim.cc
+one_items Space image a b e first second = absurd Prim.cc
+one_items (Check profile) image a b e first second = absurd Prim.cc
+one_items (Snapshots volume) image a b e first second = absurd Prim.cc
+one_items (Usage volume) image a b e first second = absurd Prim.cc
+one_items (Ls checks target) image a b e first second = absurd Prim.cc
+one_items (Tree checks target) image a b e first second = absurd Prim.cc
+one_items (Cat checks target) image a b e first second = absurd Prim.cc
+one_items (Xattr checks target name) image a b e first second = absurd Prim.cc
+one_items (Export target) image a b e first second = one_export target image a b (first tt).1 second.1
+one_items (Gen n) image a b e first second = absurd Prim.cc
+one_items (Format spec) image a b e first second = absurd Prim.cc
+
+-- ---- the folder
+
+-- nothing is a front of all items
+none_front : (items : List Item) → IsFront [] items
+none_front items = record { whole = []; rest = items; split = refl; end = inl refl }
+
+same_front : (folder : Stored) (items : List Item) → IsSame folder → FilledPart folder.old folder.new items
+same_front folder items same held told = ([], none_front items, same held told)
+
+-- where a command came to write its text the folder has its items more
+whole_fills : (command : Asked) (image : List ℕ) (source : Looked) (folder : Stored) (text : List ℕ) (items : List Item) → source.bytes ≡ Some image → AreItems command image items → FillsBy command source folder (Written text) →
+    HasMore (Some folder) items
+whole_fills command image source folder text items told are f = go (takes_folder command) refl
+  where
+    go : (b : Bool) → takes_folder command ≡ b → HasMore (Some folder) items
+    go true e = let P : List Item → Type 0 = λ l. HasMore (Some folder) l in subst P (one_items command image f.added items e (f.are image told) are) f.put
+    go false e = let P : List Item → Type 0 = λ l. HasMore (Some folder) l in subst P (sym (none_there command image items e are)) (fills_none command source folder (Written text) e f)
+
+-- whatever it came to, it has a front of them more
+front_part : (command : Asked) (image : List ℕ) (source : Looked) (folder : Stored) (o : Outcome) (items : List Item) → source.bytes ≡ Some image → AreItems command image items → FillsBy command source folder o → FilledPart folder.old folder.new items
+front_part command image source folder o items told are f = go (takes_folder command) refl
+  where
+    go : (b : Bool) → takes_folder command ≡ b → FilledPart folder.old folder.new items
+    go false e = same_front folder items (fills_none command source folder o e f)
+    go true e =
+        let front = front_fills command source folder o f in
+        let P : List Item → Type 0 = λ l. IsFront front.added l in
+        let Q : List Item → Type 0 = λ l. IsFront l items in
+        let is : IsFront front.added items = elim (front.are image told) as (λ _. IsFront front.added items) [
+          | inl none ↦ subst Q (sym none) (none_front items)
+          | inr some ↦ subst P (one_items command image some.0 items e some.1 are) some.2
+        ] in
+        λ held before. (front.added, is, front.put held before)
+
+-- ---- the run
+
+-- the command of a run, and the bytes of its source, are those that are asked for
+record IsRunOf (asked : Option Line) (image : Option Looked) (folder : Option Stored) (out : Sunk) (o : Outcome) (command : Asked) (bytes : List ℕ) : Type 0 where
+  source : Looked
+  told : source.bytes ≡ Some bytes
+  fills : FillsOn command source folder o
+
+run_of : (asked : Option Line) (image : Option Looked) (folder : Option Stored) (out : Sunk) (o : Outcome) (command : Asked) (bytes : List ℕ) → IsAsked asked image folder command bytes → Ran asked image folder out o → IsRunOf asked image folder out o command bytes
+run_of asked image folder out o command bytes is has =
+    let one : has.line ≡ is.line = one_line asked has.line is.line has.words is.words in
+    let P : Line → Type 0 = λ l. IsSource l image has.source in
+    let Q : Line → Type 0 = λ l. FillsOn l.command has.source folder o in
+    let R : Asked → Type 0 = λ c. FillsOn c has.source folder o in
+    record {
+      source = has.source;
+      told = given_source (from_of is.line.command) is.line.in_partition image has.source bytes is.given (subst P one has.source_is);
+      fills = subst R is.same (subst Q one has.fills);
+    }
+
+whole_on : (asked : Option Line) (image : Option Looked) (folder : Option Stored) (out : Sunk) (text : List ℕ) (command : Asked) (bytes : List ℕ) (items : List Item) → AreItems command bytes items → IsRunOf asked image folder out (Written text) command bytes → HasMore folder items
+whole_on asked image None out text command bytes items are run = tt
+whole_on asked image (Some folder) out text command bytes items are run = whole_fills command bytes run.source folder text items run.told are run.fills
+
+front_on : (asked : Option Line) (image : Option Looked) (folder : Option Stored) (out : Sunk) (o : Outcome) (command : Asked) (bytes : List ℕ) (items : List Item) → AreItems command bytes items → IsRunOf asked image folder out o command bytes → HasFrontMore folder items
+front_on asked image None out o command bytes items are run = tt
+front_on asked image (Some folder) out o command bytes items are run = front_part command bytes run.source folder o items run.told are run.fills
+
+untouched_front : (folder : Option Stored) (items : List Item) → IsUntouched folder → HasFrontMore folder items
+untouched_front None items same = tt
+untouched_front (Some folder) items same = same_front folder items same
+
+whole_row : (asked : Option Line) (image : Option Looked) (folder : Option Stored) (items : List Item) (result : ℕ) (out err : Sunk) → CameTo asked image folder result out err → HasDefinedItems asked image folder items → result ≡ 0 → HasMore folder items
+whole_row asked image folder items result out err a has e = go (row asked image folder result 0 out err (λ h. omega arith) a e)
+  where
+    go : ((o : Outcome) × (status_of o ≡ 0) × Says asked image folder out o × BothWrote out err o) → HasMore folder items
+    go (Written text, at, says, wrote) = whole_on asked image folder out text has.command has.bytes items has.defined (run_of asked image folder out (Written text) has.command has.bytes has.is (command_ran asked image folder out (Written text) tt says))
+    go (Faulty lead named, at, says, wrote) = absurd (omega arith)
+    go (WrongWords, at, says, wrote) = absurd (omega arith)
+    go (ReadFailed part, at, says, wrote) = absurd (omega arith)
+    go (WriteFailed part, at, says, wrote) = absurd (omega arith)
+    go (OutOfMemory part, at, says, wrote) = absurd (omega arith)
+    go (Refused lead feature block, at, says, wrote) = absurd (omega arith)
+    go (Answered lead answer, at, says, wrote) = absurd (omega arith)
+    go (NoImage, at, says, wrote) = absurd (omega arith)
+    go (NoFolder, at, says, wrote) = absurd (omega arith)
+
+front_row : (asked : Option Line) (image : Option Looked) (folder : Option Stored) (items : List Item) (result : ℕ) (out err : Sunk) → CameTo asked image folder result out err → HasDefinedItems asked image folder items → HasFrontMore folder items
+front_row asked image folder items result out err (o, says, ends) has = go says
+  where
+    go : Says asked image folder out o → HasFrontMore folder items
+    go (wrong_words none e same) = untouched_front folder items same
+    go (no_image lacks e same) = untouched_front folder items same
+    go (no_folder lacks e same) = untouched_front folder items same
+    go (no_part lacks same) = untouched_front folder items same
+    go (ran run) = front_on asked image folder out o has.command has.bytes items has.defined (run_of asked image folder out o has.command has.bytes has.is run)
+    go (no_memory e same) = untouched_front folder items same
+
+-- the folder has the items more with status 0, and a front of them with each other one
+pub filled_row : (asked : Option Line) (image : Option Looked) (folder : Option Stored) (result : ℕ) (out err : Sunk) → CameTo asked image folder result out err → (items : List Item) → HasDefinedItems asked image folder items → IsFilledWith result folder items
+filled_row asked image folder result out err a items has = record {
+  whole = λ e. whole_row asked image folder items result out err a has e;
+  front = front_row asked image folder items result out err a has;
+}

@@ -1,0 +1,38 @@
+-- What the command came to over the partition, or what stops the search for one.
+use Rattle.std.proofs.Common.{◌≡◌, ◌≤◌, ap, refl}
+use Rattle.std.specs.Prelude.{Err}
+use Rattle.cmd_words.specs.Asked.{target_asked}
+use Rattle.img_gpt.specs.declared.part.GptStop.{GptStop}
+use Rattle.img_gpt.specs.declared.part.GptStop.TheVariants.{ReadFault}
+use Rattle.apfs_cli.specs.Handed.{looked, part_looked, stored}
+use Rattle.apfs_cli.specs.Words.{Export}
+use Rattle.apfs_cli.specs.Written.{sunk}
+use Rattle.apfs_cli.proofs.Fillings.{into_same, kept_store}
+use Rattle.apfs_cli.proofs.Plugs.{come_part_into, come_without_into}
+use Rattle.apfs_cli.proofs.Puts.{rose_later}
+use Rattle.apfs_cli.proofs.in_partition.fill_partition.Goals as goal
+
+pub returns-in-Ok-clause-answer : goal.returns-in-Ok-clause-answer
+returns-in-Ok-clause-answer g c =
+    let bytes = g.S.BlockSource.bytes in
+    let faults = g.S.BlockSource.faults in
+    let command = Export (target_asked c.args.target) in
+    let part = c.in-Ok.part in
+    let mid = c.find_part.new.src in
+    let new = c.fill_slice.result.1 in
+    let later : faults c.args.src ≤ faults mid = c.in-Ok.ensures.kept.later in
+    let folder = stored g.F.Folder.contents g.F.Folder.faults c.args.folder.now c.fill_slice.new.folder in
+    let out = sunk g.W.Sink.contents g.W.Sink.faults c.args.out.now c.fill_slice.new.out in
+    come_part_into command refl (looked bytes faults c.args.src new) part folder c.fill_slice.result.0 out c.in-Ok.ensures.found
+    (into_same command (part_looked part (looked bytes faults mid new)) (part_looked part (looked bytes faults c.args.src new)) folder c.fill_slice.result.0 out
+    (ap (λ told. (part_looked part (record { bytes = told; old_faults = 0; new_faults = 0 })).bytes) c.in-Ok.ensures.kept.same_bytes)
+    (rose_later (faults c.args.src) (faults mid) (faults new) later)
+    c.fill_slice.ensures.answer)
+
+pub returns-in-Err-clause-answer : goal.returns-in-Err-clause-answer
+returns-in-Err-clause-answer g c =
+    let stop = c.in-Err.stop in
+    rw c.stopped_without.ensures
+    (come_without_into (Export (target_asked c.args.target)) refl (looked g.S.BlockSource.bytes g.S.BlockSource.faults c.args.src c.find_part.new.src) (stored g.F.Folder.contents g.F.Folder.faults c.args.folder.now c.args.folder.now)
+    (kept_store g.F.Folder.contents g.F.Folder.faults c.args.folder.now) stop (g.W.Sink.contents c.args.out.now) (g.W.Sink.faults c.args.out.now) c.in-Err.ensures.fault
+    (λ (e : stop ≡ ReadFault). c.in-Err.ensures.cause (ap (λ (s : GptStop). Err s) e)))
