@@ -21,8 +21,9 @@ use Rattle.bt_keys.specs.Shapes.{fs_shape, fs_plain_shape}
 use Rattle.bt_keys.specs.RecordKey.{id_of, record_kind_of, inode_record, attribute_record, sibling_link_record, file_extent_record, entry_record, sibling_map_record}
 use Rattle.bt_cursor.specs.declared.namer.Namer as namers
 use Rattle.bt_cursor.specs.declared.cursor.Cursor.{Cursor}
-use Rattle.bt_cursor.specs.Cursors.{tree_of, gapped_left_of, passed_of, Moves}
+use Rattle.bt_cursor.specs.Cursors.{tree_of, left_of, gapped_left_of, passed_of, Moves}
 use Rattle.bt_cursor.specs.Tree.{Tree}
+use Rattle.bt_cursor.specs.Gaps.{all_met}
 use Rattle.bt_cursor.specs.Flat.{flat_of}
 use Rattle.bt_cursor.specs.Line.{Item, is_leaf_item, leaf_pairs, line_of}
 use Rattle.bt_cursor.specs.Order.{is_ordered}
@@ -47,7 +48,7 @@ use Rattle.path_walk.specs.Places.{Place, placed, root_name, root_of, target_of}
 use Rattle.path_walk.specs.Found.{entries_in, entry_named, place_by, step, found}
 use Rattle.path_walk.specs.Needs.{AreRead, HasKind, HasAll, HasEntriesOf, StepNeeds, WalkNeeds, PathNeeds, HaveFiles, ChildrenNeed, ListingNeeds, RestsOn}
 use Rattle.path_walk.specs.Stops.{IsNoAnswer}
-use Rattle.path_walk.specs.Parts.{whats, rooted, by_part, target_by, Leads, IsKnown, IsPlaceKnown, with_read, run_entries, IsOfRun, GoesWhole, HasKindIn, HasEntriesIn, NeedsIn, PartNeeds, AlongNeeds, WhereLed, WhereTold}
+use Rattle.path_walk.specs.Parts.{whats, rooted, by_part, target_by, Leads, IsKnown, IsPlaceKnown, with_read, with_kept, run_entries, Takes, TakesNext, IsOfRun, GoesWhole, HasKindIn, HasEntriesIn, NeedsIn, PartNeeds, AlongNeeds, WhereLed, WhereTold}
 use Rattle.path_walk.specs.declared.answer.Answer.{Answer}
 use Rattle.path_walk.specs.declared.answer.Answer.TheVariants.{NotFound}
 use Rattle.path_walk.specs.declared.onward.Onward.{Onward}
@@ -290,22 +291,22 @@ kind_read hashed shape law id kind names flat run keys same each pair one i k =
     (in-filter (run_in shape (is_of_kind id kind)) pair flat one
     (run_is hashed shape law id kind pair (keys pair one) ∙ both-true (id_of pair.key == id) (record_kind_of pair.key == kind) (from-equal (id_of pair.key) id i) (from-equal (record_kind_of pair.key) kind k)))) k
 
-read-step : {K : Type 0} (shape : Shape K) (names : Names) (id : ℕ) (before : List Entry) (pair : Pair) (pairs : List Pair) (es : List Entry) (t : Bool) (r : Result Entry RecFault) →
-    ((e : Entry) → run_entries shape names id (before ++ e ∷ []) pairs ≡ Some es → (p : Pair) → In p (take_while (run_in shape (is_of_kind id entry_record)) pairs) → fault_of (read_entry names p) ≡ None) →
-    read_entry names pair ≡ r → cond t (with_read r (λ (e : Entry). run_entries shape names id (before ++ e ∷ []) pairs)) (Some before) ≡ Some es →
+read-step : {K : Type 0} (shape : Shape K) (names : Names) (keep : Entry → Bool) (id : ℕ) (before : List Entry) (pair : Pair) (pairs : List Pair) (es : List Entry) (t : Bool) (r : Result Entry RecFault) →
+    ((e : Entry) → run_entries shape names keep id (with_kept (keep e) e before) pairs ≡ Some es → (p : Pair) → In p (take_while (run_in shape (is_of_kind id entry_record)) pairs) → fault_of (read_entry names p) ≡ None) →
+    read_entry names pair ≡ r → cond t (with_read r (λ (e : Entry). run_entries shape names keep id (with_kept (keep e) e before) pairs)) (Some before) ≡ Some es →
     (p : Pair) → In p (cond t (pair ∷ take_while (run_in shape (is_of_kind id entry_record)) pairs) []) → fault_of (read_entry names p) ≡ None
-read-step shape names id before pair pairs es false r rest read e p h = absurd h
-read-step shape names id before pair pairs es true (Err why) rest read e p h = absurd (cc)
-read-step shape names id before pair pairs es true (Ok x) rest read e p (inl same) = ap (λ (q : Pair). fault_of (read_entry names q)) same ∙ ap fault_of read
-read-step shape names id before pair pairs es true (Ok x) rest read e p (inr h) = rest x e p h
+read-step shape names keep id before pair pairs es false r rest read e p h = absurd h
+read-step shape names keep id before pair pairs es true (Err why) rest read e p h = absurd (cc)
+read-step shape names keep id before pair pairs es true (Ok x) rest read e p (inl same) = ap (λ (q : Pair). fault_of (read_entry names q)) same ∙ ap fault_of read
+read-step shape names keep id before pair pairs es true (Ok x) rest read e p (inr h) = rest x e p h
 
 -- each entry of a run that was taken was read
-run-read : {K : Type 0} (shape : Shape K) (names : Names) (id : ℕ) (before : List Entry) (pairs : List Pair) (es : List Entry) → run_entries shape names id before pairs ≡ Some es →
+run-read : {K : Type 0} (shape : Shape K) (names : Names) (keep : Entry → Bool) (id : ℕ) (before : List Entry) (pairs : List Pair) (es : List Entry) → run_entries shape names keep id before pairs ≡ Some es →
     (p : Pair) → In p (take_while (run_in shape (is_of_kind id entry_record)) pairs) → fault_of (read_entry names p) ≡ None
-run-read shape names id before [] es e p h = absurd h
-run-read shape names id before (pair ∷ pairs) es e p h =
+run-read shape names keep id before [] es e p h = absurd h
+run-read shape names keep id before (pair ∷ pairs) es e p h =
     let test = run_in shape (is_of_kind id entry_record) in
-    read-step shape names id before pair pairs es (test pair) (read_entry names pair) (λ x. run-read shape names id (before ++ x ∷ []) pairs es) refl e p (subst (In p) (take_while-cons test pair pairs) h)
+    read-step shape names keep id before pair pairs es (test pair) (read_entry names pair) (λ x. run-read shape names keep id (with_kept (keep x) x before) pairs es) refl e p (subst (In p) (take_while-cons test pair pairs) h)
 
 -- what holds where there is a value
 pub if_as : {V : Type 0} (P Q : V → Type 0) (o : Option V) → ((v : V) → P v → Q v) → IfSome o P → IfSome o Q
@@ -313,13 +314,13 @@ if_as P Q None f h = tt
 if_as P Q (Some v) f h = f v h
 
 -- the entries of a directory are all there, where a run of them was taken from their first rank on and no gap stands in it
-pub entries_there : {K N V : Type 0} {k : keys.Ghosts K} {n : namers.Ghosts N} (hashed : Bool) (image : List ℕ) (cursor : Cursor K N k n) (root id : ℕ) (names : Names) (left : List Pair) (sees : V → List Entry) (run : Option V) → IsFsShape hashed k.shape →
+pub entries_there : {K N V : Type 0} {k : keys.Ghosts K} {n : namers.Ghosts N} (hashed : Bool) (image : List ℕ) (cursor : Cursor K N k n) (root id : ℕ) (names : Names) (keep : Entry → Bool) (left : List Pair) (sees : V → List Entry) (run : Option V) → IsFsShape hashed k.shape →
     is_ordered k.shape (line_of (tree_of cursor image) root) ≡ true →
     left ≡ from_rank k.shape (record { id = id; kind = entry_record; sub = 0 }) (flat_of (tree_of cursor image) root) →
-    run_entries k.shape names id [] left ≡ option_map sees run →
+    run_entries k.shape names keep id [] left ≡ option_map sees run →
     IfSome run (λ v. is_kind_whole (tree_of cursor image) root id entry_record ≡ true) → IfSome run (λ v. HasKindIn names (tree_of cursor image) root id entry_record)
-entries_there hashed image cursor root id names left sees None law ordered at e whole = tt
-entries_there {k = k} hashed image cursor root id names left sees (Some v) law ordered at e whole =
+entries_there hashed image cursor root id names keep left sees None law ordered at e whole = tt
+entries_there {k = k} hashed image cursor root id names keep left sees (Some v) law ordered at e whole =
     let tree = tree_of cursor image in
     let rank : Rank = record { id = id; kind = entry_record; sub = 0 } in
     let test = run_in k.shape (is_of_kind id entry_record) in
@@ -327,7 +328,7 @@ entries_there {k = k} hashed image cursor root id names left sees (Some v) law o
       whole = whole;
       read = kind_read hashed k.shape law id entry_record names (flat_of tree root) (take_while test left) (cursor_keys image cursor root)
           (ap (take_while test) at ∙ run-flat tree root rank (is_of_kind id entry_record) (run-kind id entry_record) ordered)
-          (λ pair h kind. refused-entry names pair kind ∙ run-read k.shape names id [] left (sees v) e pair h);
+          (λ pair h kind. refused-entry names pair kind ∙ run-read k.shape names keep id [] left (sees v) e pair h);
     }
 
 -- ---- what is taken of a run
@@ -336,6 +337,20 @@ goes_whole image old new id pair false took moved e same run = absurd (false≢t
 goes_whole {k = k} image old new id pair true One moved e same run = moved-whole image old new (is_of_kind id entry_record) moved (ap (run_in k.shape (is_of_kind id entry_record)) (sym same) ∙ run)
 goes_whole {k = k} image old new id pair true End moved e same run = moved-over image old new (is_of_kind id entry_record) moved (ap (run_in k.shape (is_of_kind id entry_record)) (sym same) ∙ run)
 goes_whole image old new id pair true Refused moved e same run = tt
+
+left-moved : {K N : Type 0} {k : keys.Ghosts K} {n : namers.Ghosts N} (image : List ℕ) (old new : Cursor K N k n) (pair : Pair) → Moves image old new true → pair ≡ passed_of new → left_of old image ≡ pair ∷ left_of new image
+left-moved image old new pair moved same = ap all_met moved ∙ ap (λ (p : Pair). p ∷ left_of new image) (sym same)
+
+-- what is taken of the record that a cursor moved onto is taken of those that were left
+pub takes_next : {K N : Type 0} {k : keys.Ghosts K} {n : namers.Ghosts N} (image : List ℕ) (old new : Cursor K N k n) (names : Names) (keep : Entry → Bool) (id : ℕ) (pair : Pair) (more : Bool) (took : Took) (before after : List Entry) →
+    Moves image old new more → more ≡ true → pair ≡ passed_of new → Takes k.shape names keep id pair before after took → TakesNext k.shape names keep id (left_of old image) (left_of new image) before after took
+takes_next image old new names keep id pair false took before after moved e same takes = absurd (false≢true e)
+takes_next {k = k} image old new names keep id pair true One before after moved e same takes =
+    ap (run_entries k.shape names keep id before) (left-moved image old new pair moved same) ∙ takes (left_of new image)
+takes_next {k = k} image old new names keep id pair true End before after moved e same takes =
+    ap (run_entries k.shape names keep id before) (left-moved image old new pair moved same) ∙ takes (left_of new image)
+takes_next {k = k} image old new names keep id pair true Refused before after moved e same takes =
+    ap (run_entries k.shape names keep id before) (left-moved image old new pair moved same) ∙ takes (left_of new image)
 
 -- ---- a view by its kind of keys
 pub hashed_kind : (image : List ℕ) (site : Site) (volume : Loaded) (view : View) (id kind : ℕ) → are_hashed volume.names ≡ true → HasKindIn volume.names (hashed_tree image site volume view) view.root_oid id kind → HasKind image site volume view id kind

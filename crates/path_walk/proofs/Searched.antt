@@ -43,7 +43,7 @@ use Rattle.fs_record.specs.Entries.{Entry}
 use Rattle.fs_record.specs.Facts.{Fact, told_by, facts_of, all_for, first_for, read_inode, read_entry, inodes_of, entries_of}
 use Rattle.fs_record.specs.declared.fault.RecFault.{RecFault}
 use Rattle.path_walk.specs.Pairs.{pair_by}
-use Rattle.path_walk.specs.Parts.{with_read, run_entries, first_inode}
+use Rattle.path_walk.specs.Parts.{with_read, with_kept, run_entries, first_inode}
 
 -- ---- the keys of a tree's records can be read
 -- each key of some records can be read
@@ -151,40 +151,45 @@ first_of_all id [] x xs e = absurd (cc)
 first_of_all id (f ∷ fs) x xs e = first-step id f fs (f.id == id) x xs refl (first_of_all id fs x xs) e
 
 -- ---- what is taken of a run
-taken-step : {K : Type 0} (shape : Shape K) (names : Names) (id : ℕ) (before : List Entry) (pair : Pair) (pairs : List Pair) (es : List Entry) (t : Bool) (r : Result Entry RecFault) →
-    ((e : Entry) → run_entries shape names id (before ++ e ∷ []) pairs ≡ Some es → es ≡ (before ++ e ∷ []) ++ filter_map (λ (p : Pair). value_of (read_entry names p)) (take_while (run_in shape (is_of_kind id entry_record)) pairs)) →
-    read_entry names pair ≡ r →
-    cond t (with_read r (λ (e : Entry). run_entries shape names id (before ++ e ∷ []) pairs)) (Some before) ≡ Some es →
-    es ≡ before ++ filter_map (λ (p : Pair). value_of (read_entry names p)) (cond t (pair ∷ take_while (run_in shape (is_of_kind id entry_record)) pairs) [])
-taken-step shape names id before pair pairs es false r rest read e = let s : before ≡ es = cc in sym s ∙ sym (append-nil before)
-taken-step shape names id before pair pairs es true (Err why) rest read e = absurd (cc)
-taken-step shape names id before pair pairs es true (Ok x) rest read e =
-    let others : List Entry = filter_map (λ (p : Pair). value_of (read_entry names p)) (take_while (run_in shape (is_of_kind id entry_record)) pairs) in
-    rest x e ∙ (append_assoc before (x ∷ []) others ∙ ap (λ (r : Result Entry RecFault). before ++ cons_option (value_of r) others) (sym read))
+-- one more entry, where it is kept, and others after it
+one-kept : (t : Bool) (x : Entry) (before others : List Entry) → with_kept t x before ++ others ≡ before ++ cond t (x ∷ others) others
+one-kept true x before others = append_assoc before (x ∷ []) others
+one-kept false x before others = refl
 
-pub run_taken : {K : Type 0} (shape : Shape K) (names : Names) (id : ℕ) (before : List Entry) (pairs : List Pair) (es : List Entry) → run_entries shape names id before pairs ≡ Some es →
-    es ≡ before ++ filter_map (λ (p : Pair). value_of (read_entry names p)) (take_while (run_in shape (is_of_kind id entry_record)) pairs)
-run_taken shape names id before [] es e = let s : before ≡ es = cc in sym s ∙ sym (append-nil before)
-run_taken shape names id before (pair ∷ pairs) es e =
+taken-step : {K : Type 0} (shape : Shape K) (names : Names) (keep : Entry → Bool) (id : ℕ) (before : List Entry) (pair : Pair) (pairs : List Pair) (es : List Entry) (t : Bool) (r : Result Entry RecFault) →
+    ((e : Entry) → run_entries shape names keep id (with_kept (keep e) e before) pairs ≡ Some es → es ≡ with_kept (keep e) e before ++ filter keep (filter_map (λ (p : Pair). value_of (read_entry names p)) (take_while (run_in shape (is_of_kind id entry_record)) pairs))) →
+    read_entry names pair ≡ r →
+    cond t (with_read r (λ (e : Entry). run_entries shape names keep id (with_kept (keep e) e before) pairs)) (Some before) ≡ Some es →
+    es ≡ before ++ filter keep (filter_map (λ (p : Pair). value_of (read_entry names p)) (cond t (pair ∷ take_while (run_in shape (is_of_kind id entry_record)) pairs) []))
+taken-step shape names keep id before pair pairs es false r rest read e = let s : before ≡ es = cc in sym s ∙ sym (append-nil before)
+taken-step shape names keep id before pair pairs es true (Err why) rest read e = absurd (cc)
+taken-step shape names keep id before pair pairs es true (Ok x) rest read e =
+    let others : List Entry = filter_map (λ (p : Pair). value_of (read_entry names p)) (take_while (run_in shape (is_of_kind id entry_record)) pairs) in
+    rest x e ∙ (one-kept (keep x) x before (filter keep others) ∙ ap (λ (r : Result Entry RecFault). before ++ filter keep (cons_option (value_of r) others)) (sym read))
+
+pub run_taken : {K : Type 0} (shape : Shape K) (names : Names) (keep : Entry → Bool) (id : ℕ) (before : List Entry) (pairs : List Pair) (es : List Entry) → run_entries shape names keep id before pairs ≡ Some es →
+    es ≡ before ++ filter keep (filter_map (λ (p : Pair). value_of (read_entry names p)) (take_while (run_in shape (is_of_kind id entry_record)) pairs))
+run_taken shape names keep id before [] es e = let s : before ≡ es = cc in sym s ∙ sym (append-nil before)
+run_taken shape names keep id before (pair ∷ pairs) es e =
     let test = run_in shape (is_of_kind id entry_record) in
-    taken-step shape names id before pair pairs es (test pair) (read_entry names pair) (λ x. run_taken shape names id (before ++ x ∷ []) pairs es) refl e
-    ∙ ap (λ (ps : List Pair). before ++ filter_map (λ (p : Pair). value_of (read_entry names p)) ps) (sym (take_while-cons test pair pairs))
+    taken-step shape names keep id before pair pairs es (test pair) (read_entry names pair) (λ x. run_taken shape names keep id (with_kept (keep x) x before) pairs es) refl e
+    ∙ ap (λ (ps : List Pair). before ++ filter keep (filter_map (λ (p : Pair). value_of (read_entry names p)) ps)) (sym (take_while-cons test pair pairs))
 
 -- ---- what is found
 -- on an ordered Line the entries of a run from their first rank on are the entries of the directory
-pub entries_found : {K : Type 0} (hashed : Bool) (shape : Shape K) (site : Site) (named : ℕ → Option ℕ) (image : List ℕ) (root id : ℕ) (names : Names) (left : List Pair) (run : Option (List Entry)) → IsFsShape hashed shape →
+pub entries_found : {K : Type 0} (hashed : Bool) (shape : Shape K) (site : Site) (named : ℕ → Option ℕ) (image : List ℕ) (root id : ℕ) (names : Names) (keep : Entry → Bool) (left : List Pair) (run : Option (List Entry)) → IsFsShape hashed shape →
     is_ordered shape (line_of (tree_in shape site named image) root) ≡ true →
     left ≡ from_rank shape (record { id = id; kind = entry_record; sub = 0 }) (flat_of (tree_in shape site named image) root) →
-    run_entries shape names id [] left ≡ run →
-    IfSome run (λ es. es ≡ all_for id (entries_of names (flat_of (tree_in shape site named image) root)))
+    run_entries shape names keep id [] left ≡ run →
+    IfSome run (λ es. es ≡ filter keep (all_for id (entries_of names (flat_of (tree_in shape site named image) root))))
 unfolding entries_of
-entries_found hashed shape site named image root id names left None law ordered at e = tt
-entries_found hashed shape site named image root id names left (Some es) law ordered at e =
+entries_found hashed shape site named image root id names keep left None law ordered at e = tt
+entries_found hashed shape site named image root id names keep left (Some es) law ordered at e =
     let tree = tree_in shape site named image in
     let rank : Rank = record { id = id; kind = entry_record; sub = 0 } in
     let read = λ (p : Pair). value_of (read_entry names p) in
-    run_taken shape names id [] left es e
-    ∙ (ap (λ (ps : List Pair). filter_map read (take_while (run_in shape (is_of_kind id entry_record)) ps)) at
+    run_taken shape names keep id [] left es e
+    ∙ ap (filter keep) (ap (λ (ps : List Pair). filter_map read (take_while (run_in shape (is_of_kind id entry_record)) ps)) at
     ∙ (ap (filter_map read) (run-flat tree root rank (is_of_kind id entry_record) (run-kind id entry_record) ordered)
     ∙ run_facts hashed shape law id entry_record (read_entry names) (flat_of tree root) (flat_keys shape site named image root)))
 
@@ -244,12 +249,12 @@ tells_same {K} tree other root same image stop e f told =
     subst (λ (t : List ℕ → Tree K). Tells (IsNodeFault (t image) root) (HasFeature (t image) root) stop) e (subst (λ r. Tells (IsNodeFault (other image) r) (HasFeature (other image) r) stop) f told)
 
 -- what is found from a rank on, where the cursor stands there
-pub entries_at : {K N : Type 0} {k : keys.Ghosts K} {n : namers.Ghosts N} (hashed : Bool) (image : List ℕ) (cursor : Cursor K N k n) (root id : ℕ) (names : Names) (left : List Pair) (run : Option (List Entry)) → IsFsShape hashed k.shape →
+pub entries_at : {K N : Type 0} {k : keys.Ghosts K} {n : namers.Ghosts N} (hashed : Bool) (image : List ℕ) (cursor : Cursor K N k n) (root id : ℕ) (names : Names) (keep : Entry → Bool) (left : List Pair) (run : Option (List Entry)) → IsFsShape hashed k.shape →
     is_ordered k.shape (line_of (tree_of cursor image) root) ≡ true →
     left ≡ from_rank k.shape (record { id = id; kind = entry_record; sub = 0 }) (flat_of (tree_of cursor image) root) →
-    run_entries k.shape names id [] left ≡ run →
-    IfSome run (λ es. es ≡ all_for id (entries_of names (flat_of (tree_of cursor image) root)))
-entries_at {k = k} {n = n} hashed image cursor root id names left run law ordered at e = entries_found hashed k.shape (site_of cursor) (n.named cursor.namer) image root id names left run law ordered at e
+    run_entries k.shape names keep id [] left ≡ run →
+    IfSome run (λ es. es ≡ filter keep (all_for id (entries_of names (flat_of (tree_of cursor image) root))))
+entries_at {k = k} {n = n} hashed image cursor root id names keep left run law ordered at e = entries_found hashed k.shape (site_of cursor) (n.named cursor.namer) image root id names keep left run law ordered at e
 
 pub inode_from : {K N : Type 0} {k : keys.Ghosts K} {n : namers.Ghosts N} (hashed : Bool) (image : List ℕ) (cursor : Cursor K N k n) (root id : ℕ) (left : List Pair) (inode : Option Inode) → IsFsShape hashed k.shape →
     is_ordered k.shape (line_of (tree_of cursor image) root) ≡ true →

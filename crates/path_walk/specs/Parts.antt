@@ -33,7 +33,7 @@ use Rattle.view_rules.specs.Entries.{IsNoInode, has_root}
 use Rattle.view_rules.specs.Rules.{HasRecords, IsRecord, view_facts}
 use Rattle.path_walk.specs.Paths.{is_component}
 use Rattle.path_walk.specs.Places.{Place, root_of, target_of}
-use Rattle.path_walk.specs.Found.{place_by, step, walk}
+use Rattle.path_walk.specs.Found.{has_name, has_form, place_by, step, walk}
 use Rattle.path_walk.specs.Needs.{AreRead, StepNeeds, WalkNeeds}
 use Rattle.path_walk.specs.declared.answer.Answer.{Answer}
 use Rattle.path_walk.specs.declared.answer.Answer.TheVariants.{NotFound}
@@ -42,6 +42,8 @@ use Rattle.path_walk.specs.declared.target.Target.{Target}
 use Rattle.path_walk.specs.declared.stop.PathStop.TheVariants as stops
 use Rattle.path_walk.specs.declared.search.Took.{Took}
 use Rattle.path_walk.specs.declared.search.Took.TheVariants.{One, End, Refused}
+use Rattle.path_walk.specs.declared.search.Wanted.{Wanted}
+use Rattle.path_walk.specs.declared.search.Wanted.TheVariants.{All, Same, Alike}
 use Rattle.path_walk.specs.declared.onward.Onward.{Onward}
 use Rattle.path_walk.specs.declared.onward.Onward.TheVariants.{To, Answered, Lost}
 
@@ -54,12 +56,23 @@ abbrev pub with_read : {X Y : Type 0} → Result X RecFault → (X → Option Y)
 with_read (Ok x) f = f x
 with_read (Err why) f = None
 
--- the entries of a directory at the start of some records, after others; nothing where one of them is refused
-abbrev pub run_entries : {K : Type 0} → Shape K → Names → ℕ → List Entry → List Pair → Option (List Entry)
-run_entries shape names id before [] = Some before
-run_entries shape names id before (pair ∷ pairs) =
+-- whether an entry is wanted: each, those of the bytes of a name, or those of its normal form
+abbrev pub is_wanted : Names → Wanted → Entry → Bool
+is_wanted names All e = true
+is_wanted names (Same name) e = has_name name.now e
+is_wanted names (Alike name) e = has_form names name.now e
+
+-- an entry after others, where it is kept
+abbrev pub with_kept : Bool → Entry → List Entry → List Entry
+with_kept true e before = before ++ e ∷ []
+with_kept false e before = before
+
+-- the entries of a directory at the start of some records that are kept, after others; nothing where one of the directory's is refused
+abbrev pub run_entries : {K : Type 0} → Shape K → Names → (Entry → Bool) → ℕ → List Entry → List Pair → Option (List Entry)
+run_entries shape names keep id before [] = Some before
+run_entries shape names keep id before (pair ∷ pairs) =
     if run_in shape (is_of_kind id entry_record) pair
-    then with_read (read_entry names pair) (λ (e : Entry). run_entries shape names id (before ++ e ∷ []) pairs)
+    then with_read (read_entry names pair) (λ (e : Entry). run_entries shape names keep id (with_kept (keep e) e before) pairs)
     else Some before
 
 -- the inode of an id at the start of some records; nothing where it is refused
@@ -68,16 +81,16 @@ first_inode shape id [] = None
 first_inode shape id (pair ∷ pairs) = if run_in shape (is_of_kind id inode_record) pair then value_of (read_inode pair) else None
 
 -- what is taken of one more record, whatever comes after it
-abbrev pub Takes : {K : Type 0} → Shape K → Names → ℕ → Pair → List Entry → List Entry → Took → Type 0
-Takes shape names id pair old new One = (pairs : List Pair) → run_entries shape names id old (pair ∷ pairs) ≡ run_entries shape names id new pairs
-Takes shape names id pair old new End = (pairs : List Pair) → run_entries shape names id old (pair ∷ pairs) ≡ Some new
-Takes shape names id pair old new Refused = (pairs : List Pair) → run_entries shape names id old (pair ∷ pairs) ≡ None
+abbrev pub Takes : {K : Type 0} → Shape K → Names → (Entry → Bool) → ℕ → Pair → List Entry → List Entry → Took → Type 0
+Takes shape names keep id pair old new One = (pairs : List Pair) → run_entries shape names keep id old (pair ∷ pairs) ≡ run_entries shape names keep id new pairs
+Takes shape names keep id pair old new End = (pairs : List Pair) → run_entries shape names keep id old (pair ∷ pairs) ≡ Some new
+Takes shape names keep id pair old new Refused = (pairs : List Pair) → run_entries shape names keep id old (pair ∷ pairs) ≡ None
 
 -- what is taken of the records that are left
-abbrev pub TakesNext : {K : Type 0} → Shape K → Names → ℕ → List Pair → List Pair → List Entry → List Entry → Took → Type 0
-TakesNext shape names id left left_then old new One = run_entries shape names id old left ≡ run_entries shape names id new left_then
-TakesNext shape names id left left_then old new End = run_entries shape names id old left ≡ Some new
-TakesNext shape names id left left_then old new Refused = run_entries shape names id old left ≡ None
+abbrev pub TakesNext : {K : Type 0} → Shape K → Names → (Entry → Bool) → ℕ → List Pair → List Pair → List Entry → List Entry → Took → Type 0
+TakesNext shape names keep id left left_then old new One = run_entries shape names keep id old left ≡ run_entries shape names keep id new left_then
+TakesNext shape names keep id left left_then old new End = run_entries shape names keep id old left ≡ Some new
+TakesNext shape names keep id left left_then old new Refused = run_entries shape names keep id old left ≡ None
 
 -- whether a record that isn't refused is an entry of a directory
 abbrev pub IsOfRun : {K : Type 0} → Shape K → ℕ → Pair → Took → Type 0

@@ -16,7 +16,7 @@ ghost use Rattle.vol_view.specs.Views.{view_tree};
 ghost use Rattle.view_rules.specs.Facts.{facts_in, is_directory};
 ghost use Rattle.path_walk.specs.Places.{placed, target_of};
 ghost use Rattle.path_walk.specs.Listing.{children, listed, listing};
-ghost use Rattle.path_walk.specs.Found.{entries_in, step, walk, found};
+ghost use Rattle.path_walk.specs.Found.{entries_in, entry_named, step, walk, found};
 ghost use Rattle.path_walk.specs.Needs.{StepNeeds, PathNeeds, ChildrenNeed, ListingNeeds, HaveFiles};
 ghost use Rattle.path_walk.specs.Paths.{is_component, components};
 ghost use Rattle.path_walk.specs.Parts.{whats, by_part, along, target_by, targets_by, Leads, HasEntriesIn, NeedsIn, PartNeeds, AlongNeeds, WhereLed};
@@ -25,7 +25,7 @@ use crate::choice::{choose, parts};
 use crate::kept::{KeptEntry, KeptInode, Place};
 use crate::onward::Onward;
 use crate::order::{alone, by_name};
-use crate::search::{find_entries, find_inode};
+use crate::search::{Wanted, find_entries, find_inode};
 use crate::{Answer, Target};
 use apfs_model::{Bytes, NoMemory};
 use blk_source::BlockSource;
@@ -103,7 +103,52 @@ pub(crate) fn directory<K: FsTreeKey, S: BlockSource, N: Namer>(
     if is_reserved(id) {
         return Ok(Some(Vec::new(alloc)));
     }
-    find_entries(alloc, src, cursor, names, id)
+    match find_entries(alloc, src, cursor, names, id, Wanted::All) {
+        Ok(run) => Ok(run),
+        Err(stop) => Err(stop),
+    }
+}
+
+// Entries of a directory among which a name takes the one that it takes among all that are followed: those of its bytes, and
+// where there are none those of its normal form. None where one of the directory's can't be read.
+#[tactic(auto, unfolding(crate::specs::Found::entries_in))]
+fn candidates<K: FsTreeKey, S: BlockSource, N: Namer>(
+    alloc: Global,
+    src: &mut S,
+    cursor: &mut Cursor<K, N>,
+    names: Names,
+    id: u64,
+    name: &str,
+) -> Result<Option<Vec<KeptEntry>>, Stop<WalkFault>>
+    requires site { IsSiteFor (site_of cursor.old) (S.bytes_len src.old) }
+    requires hashed { are_hashed names ≡ K.HASHED }
+    ensures site { site_of cursor.new ≡ site_of cursor.old }
+    ensures root { root_of cursor.new ≡ root_of cursor.old }
+    ensures tree { tree_of cursor.new ≡ tree_of cursor.old }
+    ensures within { (image : List ℕ) → S.bytes src.old ≡ Some image → IsOn image cursor.old → IsOn image cursor.new }
+    ensures found { (image : List ℕ) → S.bytes src.old ≡ Some image → IsOn image cursor.old → is_ordered K.shape (line_of (tree_of cursor.old image) (root_of cursor.old)) ≡ true → IfOk result (λ run. IfSome run (λ v. entry_named names name.now (whats v.items) ≡ entry_named names name.now (entries_in (facts_in names (flat_of (tree_of cursor.old image) (root_of cursor.old))) id))) }
+    ensures all { (image : List ℕ) → S.bytes src.old ≡ Some image → IsOn image cursor.old → is_ordered K.shape (line_of (tree_of cursor.old image) (root_of cursor.old)) ≡ true → IfOk result (λ run. IfSome run (λ v. HasEntriesIn names (tree_of cursor.old image) (root_of cursor.old) id)) }
+    ensures present { (image : List ℕ) → S.bytes src.old ≡ Some image → IsOn image cursor.old → IfErr result (Tells (IsNodeFault (tree_of cursor.old image) (root_of cursor.old)) (HasFeature (tree_of cursor.old image) (root_of cursor.old))) }
+    ensures cause { IsErrOf result ReadFault → Rose (S.faults src.old) (S.faults src.new) }
+    ensures kept { IsKept S.bytes S.bytes_len S.faults src.old src.new }
+{
+    if is_reserved(id) {
+        return Ok(Some(Vec::new(alloc)));
+    }
+    let run = match find_entries(alloc, src, cursor, names, id, Wanted::Same(name)) {
+        Ok(run) => run,
+        Err(stop) => return Err(stop),
+    };
+    let Some(same) = run else {
+        return Ok(None);
+    };
+    if !same.is_empty() {
+        return Ok(Some(same));
+    }
+    match find_entries(alloc, src, cursor, names, id, Wanted::Alike(name)) {
+        Ok(run) => Ok(run),
+        Err(stop) => Err(stop),
+    }
 }
 
 // One name on from a place.
@@ -130,7 +175,7 @@ fn go_on<K: FsTreeKey, S: BlockSource, N: Namer>(
     if !place.is_directory() {
         return Ok(Onward::Answered(Answer::NotDirectory));
     }
-    let run = match directory(alloc, src, cursor, names, place.id) {
+    let run = match candidates(alloc, src, cursor, names, place.id, name) {
         Ok(run) => run,
         Err(stop) => return Err(stop),
     };

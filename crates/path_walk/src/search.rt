@@ -1,5 +1,5 @@
 // Look-ups of the records of an id by a search in a view's tree.
-ghost use Rattle.std.specs.Prelude.{◌≡◌, ◌<◌, ℕ, true, List, [], ◌∷◌, Some, option_map, IfOk, IfErr, IfSome, IsErrOf};
+ghost use Rattle.std.specs.Prelude.{◌≡◌, ◌<◌, ℕ, true, List, [], ◌∷◌, Some, filter, option_map, IfOk, IfErr, IfSome, IsErrOf, OnOk};
 ghost use Rattle.apfs_model.specs.Counts.{Rose};
 ghost use Rattle.apfs_model.specs.Source.{IsKept};
 ghost use Rattle.apfs_model.specs.Lists.{value_of};
@@ -18,7 +18,7 @@ ghost use Rattle.fs_name.specs.Normal.{are_hashed};
 ghost use Rattle.fs_record.specs.Inodes.{inode_of};
 ghost use Rattle.fs_record.specs.Facts as facts;
 ghost use Rattle.fs_record.specs.Facts.{all_for, first_for, entries_of, inodes_of};
-ghost use Rattle.path_walk.specs.Parts.{whats, run_entries, first_inode, Takes, TakesNext, IsOfRun, are_whole, GoesWhole, HasKindIn};
+ghost use Rattle.path_walk.specs.Parts.{whats, is_wanted, with_kept, run_entries, first_inode, Takes, TakesNext, IsOfRun, are_whole, GoesWhole, HasKindIn};
 ghost use Rattle.path_walk.specs.Pairs.{pair_by};
 ghost use Rattle.path_walk.specs.declared.search.Took.TheVariants.{One};
 
@@ -29,7 +29,7 @@ use blk_source::BlockSource;
 use bt_cursor::{Cursor, Namer, WalkFault};
 use bt_keys::FsTreeKey;
 use bt_node::{Entry, Rank};
-use fs_name::Names;
+use fs_name::{Names, same_name};
 use fs_record::{DirEntry, RecFault, entry, inode};
 use obj_base::Stop;
 use std::alloc::Global;
@@ -45,6 +45,17 @@ pub(crate) enum Took {
     One,
     End,
     Refused,
+}
+
+/// Which entries of a directory are kept.
+#[derive(Clone, Copy, PartialEq, Eq, Debug)]
+pub(crate) enum Wanted<'a> {
+    /// Each.
+    All,
+    /// Those of the bytes of a name.
+    Same(&'a str),
+    /// Those of the normal form of a name.
+    Alike(&'a str),
 }
 
 // The bytes of a value, none where there is no value.
@@ -102,29 +113,64 @@ pub(crate) fn read_inode(value: Option<&[u8]>) -> Option<KeptInode>
     }
 }
 
+// Whether an entry is kept.
+fn is_kept(
+    alloc: Global,
+    names: Names,
+    wanted: Wanted<'_>,
+    entry: &DirEntry<'_>,
+) -> Result<bool, NoMemory>
+    ensures { IfOk result (λ is. is ≡ is_wanted names wanted.entry entry.now) }
+{
+    match wanted {
+        Wanted::All => Ok(true),
+        Wanted::Same(name) => Ok(entry.name() == name),
+        Wanted::Alike(name) => same_name(alloc, names, entry.name(), name),
+    }
+}
+
+// Keeps an entry of a directory, where it is wanted.
+fn keep(
+    alloc: Global,
+    names: Names,
+    id: u64,
+    wanted: Wanted<'_>,
+    entry: &DirEntry<'_>,
+    taken: &mut Vec<KeptEntry>,
+) -> Result<(), NoMemory>
+    ensures { OnOk result (whats taken.new.items ≡ with_kept (is_wanted names wanted.entry entry.now) entry.now (whats taken.old.items)) }
+{
+    if !is_kept(alloc, names, wanted, entry)? {
+        return Ok(());
+    }
+    let kept = KeptEntry::of(alloc, id, entry)?;
+    match taken.push(kept) {
+        Ok(()) => Ok(()),
+        Err(_) => Err(NoMemory),
+    }
+}
+
 // Takes the entry of one more record, where it is one of the directory.
 fn take<K: FsTreeKey>(
     alloc: Global,
     names: Names,
     id: u64,
+    wanted: Wanted<'_>,
     pair: &Entry<'_, K>,
     taken: &mut Vec<KeptEntry>,
 ) -> Result<Took, NoMemory>
     requires hashed { are_hashed names ≡ K.HASHED }
     requires read { K.shape.read pair.now.key_bytes.now ≡ Some pair.now.key }
     ensures run { IfOk result (IsOfRun K.shape id (pair_by pair.now.key_bytes.now (option_map (λ v. v.now) pair.now.value))) }
-    ensures takes { IfOk result (Takes K.shape names id (pair_by pair.now.key_bytes.now (option_map (λ v. v.now) pair.now.value)) (whats taken.old.items) (whats taken.new.items)) }
+    ensures takes { IfOk result (Takes K.shape names (is_wanted names wanted.entry) id (pair_by pair.now.key_bytes.now (option_map (λ v. v.now) pair.now.value)) (whats taken.old.items) (whats taken.new.items)) }
 {
     if !is_in_run::<K>(pair, id, kinds::ENTRY) {
         return Ok(Took::End);
     }
     match read_entry::<K>(names, pair) {
         Ok(entry) => {
-            let kept = KeptEntry::of(alloc, id, &entry)?;
-            match taken.push(kept) {
-                Ok(()) => Ok(Took::One),
-                Err(_) => Err(NoMemory),
-            }
+            keep(alloc, names, id, wanted, &entry, taken)?;
+            Ok(Took::One)
         }
         Err(_) => Ok(Took::Refused),
     }
@@ -137,6 +183,7 @@ fn take_next<K: FsTreeKey, S: BlockSource, N: Namer>(
     cursor: &mut Cursor<K, N>,
     names: Names,
     id: u64,
+    wanted: Wanted<'_>,
     taken: &mut Vec<KeptEntry>,
 ) -> Result<Took, Stop<WalkFault>>
     requires site { IsSiteFor (site_of cursor.old) (S.bytes_len src.old) }
@@ -146,7 +193,7 @@ fn take_next<K: FsTreeKey, S: BlockSource, N: Namer>(
     ensures tree { tree_of cursor.new ≡ tree_of cursor.old }
     ensures within { (image : List ℕ) → S.bytes src.old ≡ Some image → IsOn image cursor.old → IsOn image cursor.new }
     ensures whole { (image : List ℕ) → S.bytes src.old ≡ Some image → IfOk result (GoesWhole K.shape id (gapped_left_of cursor.old image) (gapped_left_of cursor.new image)) }
-    ensures taken { (image : List ℕ) → S.bytes src.old ≡ Some image → IfOk result (TakesNext K.shape names id (left_of cursor.old image) (left_of cursor.new image) (whats taken.old.items) (whats taken.new.items)) }
+    ensures taken { (image : List ℕ) → S.bytes src.old ≡ Some image → IfOk result (TakesNext K.shape names (is_wanted names wanted.entry) id (left_of cursor.old image) (left_of cursor.new image) (whats taken.old.items) (whats taken.new.items)) }
     ensures present { (image : List ℕ) → S.bytes src.old ≡ Some image → IsOn image cursor.old → IfErr result (Tells (IsNodeFault (tree_of cursor.old image) (root_of cursor.old)) (HasFeature (tree_of cursor.old image) (root_of cursor.old))) }
     ensures fuel { IfOk result (λ took. took ≡ One → fuel_of cursor.new < fuel_of cursor.old) }
     ensures cause { IsErrOf result ReadFault → Rose (S.faults src.old) (S.faults src.new) }
@@ -159,17 +206,18 @@ fn take_next<K: FsTreeKey, S: BlockSource, N: Namer>(
     if !more {
         return Ok(Took::End);
     }
-    let took = take::<K>(alloc, names, id, &cursor.item(), taken)?;
+    let took = take::<K>(alloc, names, id, wanted, &cursor.item(), taken)?;
     Ok(took)
 }
 
-// The entries of a directory from the cursor's place on; None where one of them can't be read.
+// The entries of a directory from the cursor's place on that are wanted; None where one of the directory's can't be read.
 fn take_run<K: FsTreeKey, S: BlockSource, N: Namer>(
     alloc: Global,
     src: &mut S,
     cursor: &mut Cursor<K, N>,
     names: Names,
     id: u64,
+    wanted: Wanted<'_>,
 ) -> Result<Option<Vec<KeptEntry>>, Stop<WalkFault>>
     requires site { IsSiteFor (site_of cursor.old) (S.bytes_len src.old) }
     requires hashed { are_hashed names ≡ K.HASHED }
@@ -178,14 +226,14 @@ fn take_run<K: FsTreeKey, S: BlockSource, N: Namer>(
     ensures tree { tree_of cursor.new ≡ tree_of cursor.old }
     ensures within { (image : List ℕ) → S.bytes src.old ≡ Some image → IsOn image cursor.old → IsOn image cursor.new }
     ensures whole { (image : List ℕ) → S.bytes src.old ≡ Some image → IfOk result (λ run. IfSome run (λ v. are_whole K.shape id (gapped_left_of cursor.old image) ≡ true)) }
-    ensures taken { (image : List ℕ) → S.bytes src.old ≡ Some image → IfOk result (λ run. run_entries K.shape names id [] (left_of cursor.old image) ≡ option_map (λ v. whats v.items) run) }
+    ensures taken { (image : List ℕ) → S.bytes src.old ≡ Some image → IfOk result (λ run. run_entries K.shape names (is_wanted names wanted.entry) id [] (left_of cursor.old image) ≡ option_map (λ v. whats v.items) run) }
     ensures present { (image : List ℕ) → S.bytes src.old ≡ Some image → IsOn image cursor.old → IfErr result (Tells (IsNodeFault (tree_of cursor.old image) (root_of cursor.old)) (HasFeature (tree_of cursor.old image) (root_of cursor.old))) }
     ensures cause { IsErrOf result ReadFault → Rose (S.faults src.old) (S.faults src.new) }
     ensures kept { IsKept S.bytes S.bytes_len S.faults src.old src.new }
 {
     let mut taken = Vec::new(alloc);
     'run: loop {
-        let took = match take_next(alloc, src, cursor, names, id, &mut taken) {
+        let took = match take_next(alloc, src, cursor, names, id, wanted, &mut taken) {
             Ok(took) => took,
             Err(stop) => return Err(stop),
         };
@@ -197,7 +245,7 @@ fn take_run<K: FsTreeKey, S: BlockSource, N: Namer>(
     }
 }
 
-/// The entries of a directory, by a search for the first of them; None where one of them can't be read.
+/// The entries of a directory that are wanted, by a search for its first; None where one of the directory's can't be read.
 #[tactic(auto, using(crate::proofs::Searched::entries_found))]
 pub(crate) fn find_entries<K: FsTreeKey, S: BlockSource, N: Namer>(
     alloc: Global,
@@ -205,6 +253,7 @@ pub(crate) fn find_entries<K: FsTreeKey, S: BlockSource, N: Namer>(
     cursor: &mut Cursor<K, N>,
     names: Names,
     id: u64,
+    wanted: Wanted<'_>,
 ) -> Result<Option<Vec<KeptEntry>>, Stop<WalkFault>>
     requires site { IsSiteFor (site_of cursor.old) (S.bytes_len src.old) }
     requires hashed { are_hashed names ≡ K.HASHED }
@@ -212,7 +261,7 @@ pub(crate) fn find_entries<K: FsTreeKey, S: BlockSource, N: Namer>(
     ensures root { root_of cursor.new ≡ root_of cursor.old }
     ensures tree { tree_of cursor.new ≡ tree_of cursor.old }
     ensures within { (image : List ℕ) → S.bytes src.old ≡ Some image → IsOn image cursor.old → IsOn image cursor.new }
-    ensures found { (image : List ℕ) → S.bytes src.old ≡ Some image → IsOn image cursor.old → is_ordered K.shape (line_of (tree_of cursor.old image) (root_of cursor.old)) ≡ true → IfOk result (λ run. IfSome run (λ v. whats v.items ≡ all_for id (entries_of names (flat_of (tree_of cursor.old image) (root_of cursor.old))))) }
+    ensures found { (image : List ℕ) → S.bytes src.old ≡ Some image → IsOn image cursor.old → is_ordered K.shape (line_of (tree_of cursor.old image) (root_of cursor.old)) ≡ true → IfOk result (λ run. IfSome run (λ v. whats v.items ≡ filter (is_wanted names wanted.entry) (all_for id (entries_of names (flat_of (tree_of cursor.old image) (root_of cursor.old)))))) }
     ensures all { (image : List ℕ) → S.bytes src.old ≡ Some image → IsOn image cursor.old → is_ordered K.shape (line_of (tree_of cursor.old image) (root_of cursor.old)) ≡ true → IfOk result (λ run. IfSome run (λ v. HasKindIn names (tree_of cursor.old image) (root_of cursor.old) id entry_record)) }
     ensures present { (image : List ℕ) → S.bytes src.old ≡ Some image → IsOn image cursor.old → IfErr result (Tells (IsNodeFault (tree_of cursor.old image) (root_of cursor.old)) (HasFeature (tree_of cursor.old image) (root_of cursor.old))) }
     ensures cause { IsErrOf result ReadFault → Rose (S.faults src.old) (S.faults src.new) }
@@ -227,7 +276,7 @@ pub(crate) fn find_entries<K: FsTreeKey, S: BlockSource, N: Namer>(
         Ok(()) => {}
         Err(stop) => return Err(stop),
     }
-    match take_run(alloc, src, cursor, names, id) {
+    match take_run(alloc, src, cursor, names, id, wanted) {
         Ok(run) => Ok(run),
         Err(stop) => Err(stop),
     }
