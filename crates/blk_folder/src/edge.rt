@@ -50,8 +50,12 @@ impl<'a, R: Files> DirFolder<'a, R> {
     }
 
     // The path of what is to be put, in the real directory. An error where it leads out of the directory, where one of its
-    // parents isn't a directory, and where memory is refused.
+    // parents isn't a directory, and where memory is refused. No directory has an empty path, and with a slash after it that
+    // would be the system's own root.
     fn below(&self, path: &str) -> Result<String, WriteFailed> {
+        if self.dir.is_empty() {
+            return Err(WriteFailed);
+        }
         let Ok(mut whole) = self.dir.clone() else {
             return Err(WriteFailed);
         };

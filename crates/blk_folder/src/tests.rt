@@ -1,5 +1,6 @@
 // What no clause says: that calls succeed, and what a real directory gets.
 use crate::{DirFolder, Folder, Given, MemFolder};
+use std::alloc::{AllocError, Global};
 use std::os::unix::fs::{PermissionsExt, symlink};
 use std::test::Fail;
 use std::{env, fs, process};
@@ -86,16 +87,161 @@ fn a_real_directory_gets_what_is_put(rt: HostRuntime) -> Result<(), Fail> {
     fill(&mut folder)?;
     let file = format!(in alloc; "{}/d/f", dirs.dir)?;
     assert_eq!(rt; fs::read(&rt, &file)?.as_slice(), b"hello".as_slice());
-    assert_eq!(rt; rights(&rt, &file)? & !0o644, 0);
-    let directory = format!(in alloc; "{}/d", dirs.dir)?;
-    assert_eq!(rt; rights(&rt, &directory)? & !0o755, 0);
     let empty = format!(in alloc; "{}/e", dirs.dir)?;
     assert_eq!(rt; fs::read(&rt, &empty)?.len(), 0);
-    // What is there stays as it is, and nothing is made without its parent.
-    for path in ["d", "d/f", "e", "x/y", "e/y"] {
+    // The mask takes the same away from all rights: what is left of them to a file and to a directory says what it lets through.
+    let plain = format!(in alloc; "{}/plain", dirs.beside)?;
+    fs::write(&rt, &plain, b"")?;
+    assert_eq!(rt; rights(&rt, &file)?, rights(&rt, &plain)? & 0o644);
+    let directory = format!(in alloc; "{}/d", dirs.dir)?;
+    assert_eq!(rt;
+        rights(&rt, &directory)?,
+        rights(&rt, &dirs.beside)? & 0o755
+    );
+    fs::remove_dir_all(&rt, &dirs.top)?;
+    Ok(())
+}
+
+// Where something stands in a real directory, or leads elsewhere from there, or stands below what is no directory.
+const STANDING: &[&str] = &[
+    "file",
+    "file/x",
+    "directory",
+    "directory/file",
+    "directory/file/x",
+    "to_file",
+    "to_file/x",
+    "to_directory",
+    "to_directory/x",
+    "to_directory/file",
+    "to_directory/../x",
+    "directory/up",
+    "directory/up/x",
+    "directory/up/file",
+    "to_itself",
+    "to_itself/x",
+    "missing/x",
+];
+
+// Fills a real directory with files, a directory, and links to these, to the directory above and to itself.
+fn stand(rt: &HostRuntime, dir: &str) -> Result<(), Fail> {
+    let alloc = rt.alloc();
+    fs::write(rt, format!(in alloc; "{dir}/file")?, b"old")?;
+    fs::create_dir(rt, format!(in alloc; "{dir}/directory")?)?;
+    fs::write(rt, format!(in alloc; "{dir}/directory/file")?, b"old")?;
+    symlink(rt, "file", format!(in alloc; "{dir}/to_file")?)?;
+    symlink(rt, "directory", format!(in alloc; "{dir}/to_directory")?)?;
+    symlink(rt, "..", format!(in alloc; "{dir}/directory/up")?)?;
+    symlink(rt, "to_itself", format!(in alloc; "{dir}/to_itself")?)?;
+    Ok(())
+}
+
+// How many entries a real directory has.
+fn entries(rt: &HostRuntime, dir: &str) -> Result<usize, Fail> {
+    Ok(fs::read_dir(rt, dir)?.count())
+}
+
+#[test]
+fn what_stands_in_a_real_directory_stays(rt: HostRuntime) -> Result<(), Fail> {
+    let alloc = rt.alloc();
+    let dirs = make_dirs(&rt, "blk_folder_standing")?;
+    stand(&rt, &dirs.dir)?;
+    let below = format!(in alloc; "{}/directory", dirs.dir)?;
+    let mut folder = DirFolder::new(&rt, dirs.dir.clone()?);
+    for path in STANDING {
         assert!(rt; is_refused(&mut folder, path), "{path}");
+        let found = (entries(&rt, &dirs.dir)?, entries(&rt, &below)?);
+        assert_eq!(rt; found, (5, 2), "{path}");
     }
-    assert_eq!(rt; fs::read(&rt, &file)?.as_slice(), b"hello".as_slice());
+    for file in [&dirs.dir, &below] {
+        let file = format!(in alloc; "{file}/file")?;
+        assert_eq!(rt; fs::read(&rt, &file)?.as_slice(), b"old".as_slice());
+    }
+    // A refusal refuses nothing else.
+    fill(&mut folder)?;
+    assert_eq!(rt; entries(&rt, &dirs.dir)?, 7);
+    fs::remove_dir_all(&rt, &dirs.top)?;
+    Ok(())
+}
+
+// A name of so many letters.
+fn long_name(alloc: Global, length: usize) -> Result<String, AllocError> {
+    String::from_utf8_lossy(alloc, &vec![in alloc; b'n'; length]?)
+}
+
+#[test]
+fn long_names_are_put_or_refused(rt: HostRuntime) -> Result<(), Fail> {
+    let alloc = rt.alloc();
+    let dirs = make_dirs(&rt, "blk_folder_long")?;
+    let mut folder = DirFolder::new(&rt, dirs.dir.clone()?);
+    let longest = long_name(alloc, 255)?;
+    folder.start_file(&longest)?;
+    let longer = long_name(alloc, 256)?;
+    assert!(rt; is_refused(&mut folder, &longer));
+    // The system takes no path of 4,096 bytes or more, however short its names are.
+    let mut path = String::from_str(alloc, "d")?;
+    folder.make_dir(&path)?;
+    for _ in 0..15 {
+        path.push('/')?;
+        path.push_str(&longest)?;
+        folder.make_dir(&path)?;
+    }
+    path.push('/')?;
+    path.push_str(&longest)?;
+    assert!(rt; is_refused(&mut folder, &path));
+    assert_eq!(rt; entries(&rt, &dirs.dir)?, 2);
+    fs::remove_dir_all(&rt, &dirs.top)?;
+    Ok(())
+}
+
+#[test]
+fn the_directory_itself_is_one_or_nothing_is_put(rt: HostRuntime) -> Result<(), Fail> {
+    let alloc = rt.alloc();
+    let dirs = make_dirs(&rt, "blk_folder_dir")?;
+    let (file, link, slash) = (
+        format!(in alloc; "{}/file", dirs.beside)?,
+        format!(in alloc; "{}/link", dirs.beside)?,
+        format!(in alloc; "{}/dir/", dirs.top)?,
+    );
+    fs::write(&rt, &file, b"old")?;
+    symlink(&rt, "missing", &link)?;
+    let missing = format!(in alloc; "{}/missing", dirs.beside)?;
+    // With an empty path the name would stand at the system's root.
+    for dir in ["", file.as_str(), link.as_str(), missing.as_str()] {
+        let mut folder = DirFolder::new(&rt, String::from_str(alloc, dir)?);
+        assert!(rt; is_refused(&mut folder, "apfs-blk-folder-test"), "{dir}");
+    }
+    assert_eq!(rt; fs::read(&rt, &file)?.as_slice(), b"old".as_slice());
+    assert_eq!(rt; entries(&rt, &dirs.beside)?, 2);
+    // One that is reached over a link, and one whose path ends with a slash.
+    let to_dir = format!(in alloc; "{}/to_dir", dirs.beside)?;
+    symlink(&rt, &dirs.dir, &to_dir)?;
+    DirFolder::new(&rt, to_dir).make_dir("over a link")?;
+    DirFolder::new(&rt, slash).make_dir("before a slash")?;
+    assert_eq!(rt; entries(&rt, &dirs.dir)?, 2);
+    fs::remove_dir_all(&rt, &dirs.top)?;
+    Ok(())
+}
+
+// Linux lists what a process has open.
+const OPEN: &str = "/proc/self/fd";
+
+#[test]
+fn each_file_is_closed(rt: HostRuntime) -> Result<(), Fail> {
+    let dirs = make_dirs(&rt, "blk_folder_closed")?;
+    let before = entries(&rt, OPEN)?;
+    let mut folder = DirFolder::new(&rt, dirs.dir.clone()?);
+    folder.start_file("a")?;
+    folder.start_file("b")?;
+    assert_eq!(rt; entries(&rt, OPEN)?, before.saturating_add(1));
+    assert!(rt; folder.start_file("b").is_err());
+    assert_eq!(rt; entries(&rt, OPEN)?, before);
+    folder.start_file("c")?;
+    folder.make_dir("d")?;
+    assert_eq!(rt; entries(&rt, OPEN)?, before);
+    folder.start_file("e")?;
+    drop(folder);
+    assert_eq!(rt; entries(&rt, OPEN)?, before);
     fs::remove_dir_all(&rt, &dirs.top)?;
     Ok(())
 }
