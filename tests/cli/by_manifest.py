@@ -1,17 +1,24 @@
 #!/usr/bin/env python3
-"""What `ls`, `tree`, `cat` and `xattr` have to say of an image, by the listing that the kernel's driver gave of it when it was made.
+"""What `ls`, `tree`, `cat` and `xattr` have to say of an image, and what `export` has to make of it, by the listing that the kernel's driver gave of it when
+it was made.
 
     by_manifest.py MANIFESTS WORDS..             what a line of words has to say, as tests/cli/run prints it
     by_manifest.py --all PROGRAM IMAGE MANIFESTS [COMMAND..]
                                                  runs the program for every path of every view, and names what differs
+    by_manifest.py --export PROGRAM IMAGE MANIFESTS
+                                                 exports every view into new folders, and names what differs in text, names, contents or rights
+    by_manifest.py --start FOLDER WHOLE MANIFESTS
+                                                 whether a folder holds a start of what the live view gives, which the folder WHOLE has, and how many entries
 
 MANIFESTS is a folder of tests/images/manifests. It knows nothing of the program under test, and reads no image.
 """
 import glob
 import hashlib
 import os
+import stat
 import subprocess
 import sys
+import tempfile
 import unicodedata
 from urllib.parse import unquote_to_bytes
 
@@ -177,6 +184,95 @@ def compare(program, image, folder, commands):
     return wrong == 0 and runs > 0
 
 
+def entries_of(files):
+    """What `tree` has of a view, in its order: paths as they are written, with the files."""
+
+    def under(file, before):
+        for child in file.listed():
+            yield before + shown(child.name), child
+            if child.is_directory():
+                yield from under(child, before + shown(child.name) + b"/")
+
+    return list(under(files[b"/"], b""))
+
+
+def said_of_export(files):
+    """The text of `export`: what is left out, and how much was put."""
+    rows = entries_of(files)
+    left = b"".join(b"skipped %s %s\n" % (file.kind.encode(), path) for path, file in rows if file.kind not in "d-")
+    put = [file for _, file in rows if file.kind == "-"]
+    folders = sum(file.is_directory() for _, file in rows)
+    return left + b"exported %d directories %d files %d bytes\n" % (folders, len(put), sum(file.size for file in put))
+
+
+def found_in(folder):
+    """What stands below a folder, by paths: the rights, and of a file the bytes. Links aren't followed."""
+    found = {}
+    for at, names, others in os.walk(folder):
+        for name in names + others:
+            path = os.path.join(at, name)
+            status = os.lstat(path)
+            kind = "d" if stat.S_ISDIR(status.st_mode) else "-" if stat.S_ISREG(status.st_mode) else "?"
+            data = open(path, "rb").read() if kind == "-" else None
+            found[os.path.relpath(path, folder)] = kind, stat.S_IMODE(status.st_mode), data
+    return found
+
+
+def wrongs_of_export(program, image, files, options, mask):
+    """Exports a view into a new folder, and answers what is wrong."""
+    with tempfile.TemporaryDirectory() as room:
+        folder = os.path.join(room, "folder").encode()
+        os.mkdir(folder)
+        ended = subprocess.run([program, "export", image, folder, *options], capture_output=True, check=False, preexec_fn=lambda: os.umask(mask))
+        wrongs = []
+        if (ended.returncode, ended.stdout, ended.stderr) != (0, said_of_export(files), b""):
+            wrongs.append(f"status {ended.returncode}, {ended.stderr!r}, wanted {said_of_export(files)!r}, found {ended.stdout!r}")
+        wanted = {path: file for path, file in entries_of(files) if file.kind in "d-"}
+        found = found_in(folder)
+        wrongs += [f"{path!r} is missing" for path in wanted if path not in found] + [f"{path!r} is too much" for path in found if path not in wanted]
+        for path, file in wanted.items():
+            kind, rights, data = found.get(path, (None, None, None))
+            if kind is not None and (kind, rights) != (file.kind, (0o755 if file.is_directory() else 0o644) & ~mask):
+                wrongs.append(f"{path!r}: {kind} with the rights {rights:o}")
+            if kind == "-" and (len(data), hash_of(data)) != (file.size, file.sum):
+                wrongs.append(f"{path!r}: {len(data)} bytes, which differ from the {file.size} wanted")
+        if os.listdir(room) != ["folder"]:
+            wrongs.append("something was made beside the folder")
+        return wrongs
+
+
+def compare_exports(program, image, folder):
+    """Exports every view with two masks, and names what differs."""
+    runs, wrong = 0, 0
+    for snapshot, files in views_of(folder).items():
+        for mask in (0o022, 0o077):
+            runs += 1
+            for it in wrongs_of_export(program, image, files, ["--snapshot", snapshot] if snapshot else [], mask):
+                wrong += 1
+                print(f"export {snapshot or 'live'}, mask {mask:03o}: {it}")
+    print(f"{os.path.basename(folder)}: {runs} exports, {wrong} wrong")
+    return wrong == 0
+
+
+def tell_start(folder, whole, manifests):
+    """Tells whether a folder holds a start of what the live view gives, which stands in the folder `whole`: whole entries in order, and a start of the last one's bytes. Answers
+    `whole` or `part` and how many entries are there, or `wrong`."""
+    found, full = found_in(folder.encode()), found_in(whole.encode())
+    wanted = [path for path, file in entries_of(read_view(f"{manifests}/live.txt")) if file.kind in "d-"]
+    first = wanted[: len(found)]
+    if sorted(first) != sorted(found) or any(found[path] != full[path] for path in first[:-1]):
+        return f"wrong: {sorted(found)}"
+    if not first or found[first[-1]] == full[first[-1]]:
+        return f"{'whole' if len(first) == len(wanted) else 'part'} {len(first)}"
+    (kind, rights, data), all_of_it = found[first[-1]], full[first[-1]]
+    return f"part {len(first)}" if (kind, rights) == all_of_it[:2] and kind == "-" and all_of_it[2].startswith(data) else f"wrong: {first[-1]}"
+
+
+if sys.argv[1] == "--export":
+    sys.exit(0 if compare_exports(*sys.argv[2:5]) else 1)
+if sys.argv[1] == "--start":
+    print(tell_start(*sys.argv[2:5]))
+    sys.exit(0)
 if sys.argv[1] == "--all":
     program, image, folder = sys.argv[2:5]
     sys.exit(0 if compare(program, image, folder, sys.argv[5:] or ["ls", "tree", "cat", "xattr"]) else 1)

@@ -5,6 +5,7 @@ mod cases;
 mod checks;
 mod contents;
 mod disks;
+mod exports;
 mod formatted;
 mod generated;
 mod hostile;
@@ -18,6 +19,7 @@ use cases::*;
 use checks::{CHECK, CHECK_CASES, FIRST_CASES, LEAKED, MARKED, NINE_VIEWS, SMALL_REPORT};
 use contents::*;
 use disks::DISK_CASES;
+use exports::{EXPORT_CASES, told};
 use formatted::{FORMAT, FORMAT_CASES, FORMATS, FORMATTED, READ_CASES};
 use generated::{GEN_CASES, GEN_TEXT};
 use hostile::hole_then;
@@ -39,21 +41,24 @@ struct Ended {
     out: MemSink,
     err: MemSink,
     reads: u64,
-    items: usize,
+    /// What the folder has.
+    held: String,
 }
 
-// The number of the read of the image, and of the put on each sink, that is refused; none where it is 0.
+// The number of the read of the image, of the put on each sink, and of the call of the folder, that is refused; none where it is 0.
 #[derive(Clone, Copy)]
 struct Refused {
     read: u64,
     put: u64,
     line: u64,
+    call: u64,
 }
 
 const NOTHING: Refused = Refused {
     read: 0,
     put: 0,
     line: 0,
+    call: 0,
 };
 
 // Runs the words, with what is refused.
@@ -62,13 +67,32 @@ fn end(alloc: Global, image: Image, words: &[&str], refused: Refused) -> Result<
     end_on(alloc, image, words, ROOM, refused)
 }
 
-// Runs the words on what is handed in, with room for so many bytes of text, and with the puts that are refused.
+// A folder with room for a few items.
+fn folder_in(alloc: Global, refused: Refused) -> Result<Given<MemFolder>, Fail> {
+    let fails = [refused.call].to_vec(alloc)?;
+    Ok(Given::Into(MemFolder::new(alloc, 10, 100, fails)?))
+}
+
+// Runs the words on what is handed in, with room for so many bytes of text, and with what is refused.
 fn end_on(
+    alloc: Global,
+    image: Opened<MemSource>,
+    words: &[&str],
+    room: usize,
+    refused: Refused,
+) -> Result<Ended, Fail> {
+    let folder = folder_in(alloc, refused)?;
+    end_into(alloc, image, words, room, refused, folder)
+}
+
+// The same, with the folder that is handed in.
+fn end_into(
     alloc: Global,
     mut image: Opened<MemSource>,
     words: &[&str],
     room: usize,
     refused: Refused,
+    mut folder: Given<MemFolder>,
 ) -> Result<Ended, Fail> {
     let words: Vec<String> = words
         .iter()
@@ -76,12 +100,7 @@ fn end_on(
         .try_collect(alloc)?;
     let mut out = MemSink::new(alloc, room, [refused.put].to_vec(alloc)?)?;
     let mut err = MemSink::new(alloc, ROOM, [refused.line].to_vec(alloc)?)?;
-    let mut folder = Given::Into(MemFolder::new(alloc, 1, 1, Vec::new(alloc))?);
     let status = run(alloc, &words, &mut image, &mut out, &mut err, &mut folder);
-    let items = match &folder {
-        Given::Nothing => 0,
-        Given::Into(folder) => folder.len(),
-    };
     let reads = match &image {
         Opened::Absent => 0,
         Opened::Image(source) => source.read_count(),
@@ -91,16 +110,21 @@ fn end_on(
         out,
         err,
         reads,
-        items,
+        held: told(alloc, &folder)?,
     })
+}
+
+// Whether a run ended with this status, this text and this line, and left a folder that has this.
+fn ended_so(ended: &Ended, status: u8, text: &str, line: &str, held: &str) -> bool {
+    ended.status == status
+        && ended.held.as_str() == held
+        && ended.out.contents() == text.as_bytes()
+        && ended.err.contents() == line.as_bytes()
 }
 
 // Whether a run ended with this status, this text and this line, and put nothing into the folder.
 fn ended_with(ended: &Ended, status: u8, text: &str, line: &str) -> bool {
-    ended.status == status
-        && ended.items == 0
-        && ended.out.contents() == text.as_bytes()
-        && ended.err.contents() == line.as_bytes()
+    ended_so(ended, status, text, line, "")
 }
 
 // Whether each case ends as is said.
@@ -197,8 +221,8 @@ fn a_new_container_is_read(rt: HostRuntime) -> Result<(), Fail> {
     let alloc = rt.alloc();
     for format in FORMATS {
         let written = end_on(alloc, Opened::Absent, format, FORMATTED, NOTHING)?;
-        assert_eq!(rt; (written.status, written.items), (0, 0));
-        assert!(rt; written.err.contents().is_empty());
+        assert_eq!(rt; written.status, 0);
+        assert!(rt; written.held.is_empty() && written.err.contents().is_empty());
         for (words, text) in READ_CASES {
             let image = written.out.contents().to_vec(alloc)?;
             let image = Opened::Image(MemSource::new(image, Vec::new(alloc)));
@@ -216,14 +240,13 @@ fn failure_of_each_put_of_format(rt: HostRuntime) -> Result<(), Fail> {
     let alloc = rt.alloc();
     for (number, status, blocks) in [(1, 4, 0), (2, 4, 57), (200, 4, 255), (201, 0, 256)] {
         let refused = Refused {
-            read: 0,
             put: number,
-            line: 0,
+            ..NOTHING
         };
         let ended = end_on(alloc, Opened::Absent, FORMAT, FORMATTED, refused)?;
-        assert_eq!(rt; (ended.status, ended.items), (status, 0), "put {number}");
+        assert_eq!(rt; ended.status, status, "put {number}");
         assert_eq!(rt; ended.out.contents().len(), blocks * 4096, "put {number}");
-        assert!(rt; ended.err.contents().is_empty());
+        assert!(rt; ended.held.is_empty() && ended.err.contents().is_empty());
     }
     Ok(())
 }
@@ -248,6 +271,39 @@ fn cases_that_check_first_end_as_said(rt: HostRuntime) -> Result<(), Fail> {
 #[test]
 fn usage_cases_end_as_said(rt: HostRuntime) -> Result<(), Fail> {
     end_as_said(&rt, rt.alloc(), USAGE_CASES)
+}
+
+// Ends a case of `export`, with nothing handed in for the folder where there is nothing that it has.
+fn end_export(
+    alloc: Global,
+    case: &Case,
+    held: Option<&str>,
+    refused: Refused,
+) -> Result<Ended, Fail> {
+    let image = handed(alloc, case.image, Vec::new(alloc))?;
+    let folder = if held.is_some() {
+        folder_in(alloc, refused)?
+    } else {
+        Given::Nothing
+    };
+    end_into(alloc, image, case.words, ROOM, refused, folder)
+}
+
+#[test]
+fn export_cases_end_as_said(rt: HostRuntime) -> Result<(), Fail> {
+    let alloc = rt.alloc();
+    for (case, held) in EXPORT_CASES {
+        let ended = end_export(alloc, case, *held, NOTHING)?;
+        let ends = case.ends;
+        let held = held.unwrap_or("");
+        let as_said = ended_so(&ended, ends.status(), ends.text(), ends.line(), held);
+        assert!(rt;
+            as_said,
+            "{}: status {}, {}",
+            case.name, ended.status, ended.held
+        );
+    }
+    Ok(())
 }
 
 #[test]

@@ -21,6 +21,7 @@ pub enum Ends {
     Refused(&'static str),
     Answered(&'static str),
     NoImage,
+    NoFolder,
 }
 
 impl Ends {
@@ -33,6 +34,7 @@ impl Ends {
             Ends::Refused(_) => 6,
             Ends::Answered(_) => 7,
             Ends::NoImage => 8,
+            Ends::NoFolder => 9,
         }
     }
 
@@ -41,7 +43,7 @@ impl Ends {
         match self {
             Ends::Wrote(text) => text,
             Ends::Faulty(_) | Ends::Refused(_) | Ends::Answered(_) => "",
-            Ends::Usage | Ends::NoImage => "",
+            Ends::Usage | Ends::NoImage | Ends::NoFolder => "",
         }
     }
 
@@ -52,6 +54,7 @@ impl Ends {
             Ends::Faulty(line) | Ends::Refused(line) | Ends::Answered(line) => line,
             Ends::Usage => "apfs: usage: apfs COMMAND IMAGE [WORDS]\n",
             Ends::NoImage => NO_IMAGE,
+            Ends::NoFolder => "apfs: no folder\n",
         }
     }
 }

@@ -4,11 +4,12 @@ use crate::tests::cases::*;
 use crate::tests::checks::*;
 use crate::tests::contents::*;
 use crate::tests::disks::{DISK, DISK_CASES, GPT_CHECK, GPT_RING};
+use crate::tests::exports::{EXPORT, EXPORT_CASES, EXPORTED, FILLED, FILLED_TEXT};
 use crate::tests::formatted::FORMAT_CASES;
 use crate::tests::generated::{GEN, GEN_CASES, GEN_TEXT};
 use crate::tests::images::{Image, image_bytes, opened};
 use crate::tests::uses::{USAGE, USAGE_CASES, VIEWS_USED};
-use crate::tests::{Ended, NOTHING, ROOM, Refused, end, end_on, ended_with};
+use crate::tests::{Ended, NOTHING, ROOM, Refused, end, end_export, end_on, ended_so, ended_with};
 use apfs_layout::container::{DESC_INDEX, FS_OID};
 use apfs_layout::node::COUNT;
 use img_changes::cases::{END, FILES, HELLO, MAP_ROOT, SNAPSHOTS as TWO_SNAPSHOTS};
@@ -241,7 +242,7 @@ impl Text {
     }
 }
 
-// A run of which each read and each put is refused in turn.
+// A run of which each read, each put and each call of its folder is refused in turn.
 #[derive(Clone, Copy)]
 struct Stopped {
     name: &'static str,
@@ -255,9 +256,13 @@ struct Stopped {
     put_before_the_last_read: usize,
     /// How many were put before each put.
     put_before: &'static [usize],
+    /// What the folder has before each call of it, and at the end.
+    held: &'static [&'static str],
+    /// How many calls of it came before its last read.
+    calls_before_the_last_read: usize,
 }
 
-// A run that puts its text at once, after its last read.
+// A run that puts its text at once, after its last read, and nothing into its folder.
 const AT_ONCE: Stopped = Stopped {
     name: "",
     image: Image::Absent,
@@ -266,6 +271,8 @@ const AT_ONCE: Stopped = Stopped {
     reads: (0, 0),
     put_before_the_last_read: 0,
     put_before: &[0],
+    held: &[""],
+    calls_before_the_last_read: 0,
 };
 
 // Every command but `format`, whose tests are in `formatted`. A new one has its row at the end.
@@ -294,6 +301,7 @@ const STOPPED_RUNS: &[Stopped] = &[
         reads: (16, 90),
         put_before_the_last_read: 4096,
         put_before: &[0, 4096],
+        ..AT_ONCE
     },
     Stopped {
         name: "cat --quick",
@@ -303,6 +311,7 @@ const STOPPED_RUNS: &[Stopped] = &[
         reads: (20, 39),
         put_before_the_last_read: 4096,
         put_before: &[0, 4096],
+        ..AT_ONCE
     },
     Stopped {
         name: "ring",
@@ -400,6 +409,17 @@ const STOPPED_RUNS: &[Stopped] = &[
         reads: (24, 66),
         ..AT_ONCE
     },
+    // Its last read is that of the file's bytes, after the directory was put and the file begun.
+    Stopped {
+        name: "export",
+        image: FILLED,
+        words: EXPORT,
+        text: Text::Lines(FILLED_TEXT),
+        reads: (15, 90),
+        held: EXPORTED,
+        calls_before_the_last_read: 2,
+        ..AT_ONCE
+    },
     Stopped {
         name: "gen",
         image: Image::Absent,
@@ -410,28 +430,42 @@ const STOPPED_RUNS: &[Stopped] = &[
     },
 ];
 
-// Whether a run ended with this status and this line, put nothing into the folder, and wrote the first so many bytes of a text.
-fn ended_after(ended: &Ended, status: u8, line: &str, text: &[u8], bytes: usize) -> bool {
+// Whether a run ended with this status and this line, left a folder that has this, and wrote the first so many bytes of a text.
+fn ended_after(
+    ended: &Ended,
+    status: u8,
+    line: &str,
+    held: &str,
+    text: &[u8],
+    bytes: usize,
+) -> bool {
     let out = ended.out.contents();
     ended.status == status
-        && ended.items == 0
+        && ended.held.as_str() == held
         && ended.err.contents() == line.as_bytes()
         && out.len() == bytes
         && text.starts_with(out)
 }
 
-// What a run is made on, and what it writes.
+// What a run is made on, what it writes, and what its folder has at the end.
 #[derive(Drop)]
 struct Prepared {
     image: Vec<u8>,
     text: Vec<u8>,
+    held: &'static str,
 }
 
 fn prepare(alloc: Global, run: &Stopped) -> Result<Prepared, Fail> {
     Ok(Prepared {
         image: image_bytes(alloc, run.image)?,
         text: run.text.bytes(alloc)?,
+        held: held_after(run, run.held.len().saturating_sub(1)),
     })
+}
+
+// What the folder of a run has after so many calls of it.
+fn held_after(run: &Stopped, calls: usize) -> &'static str {
+    run.held.get(calls).copied().unwrap_or("")
 }
 
 // Ends a run, with what is refused.
@@ -444,7 +478,7 @@ fn end_run(alloc: Global, run: &Stopped, on: &Prepared, refused: Refused) -> Res
 fn refuse_each_read(rt: &impl Abort, alloc: Global, run: &Stopped) -> Result<(), Fail> {
     let on = prepare(alloc, run)?;
     let whole = end_run(alloc, run, &on, NOTHING)?;
-    let is_whole = ended_after(&whole, 0, "", &on.text, on.text.len());
+    let is_whole = ended_after(&whole, 0, "", on.held, &on.text, on.text.len());
     let (least, most) = run.reads;
     assert!(rt;
         is_whole && whole.reads >= least && whole.reads <= most,
@@ -459,12 +493,13 @@ fn refuse_each_read(rt: &impl Abort, alloc: Global, run: &Stopped) -> Result<(),
             ..NOTHING
         };
         let ended = end_run(alloc, run, &on, refused)?;
-        let bytes = if number == whole.reads {
-            run.put_before_the_last_read
+        let (bytes, calls) = if number == whole.reads {
+            (run.put_before_the_last_read, run.calls_before_the_last_read)
         } else {
-            0
+            (0, 0)
         };
-        let as_said = ended_after(&ended, 3, "apfs: read failed\n", &on.text, bytes);
+        let held = held_after(run, calls);
+        let as_said = ended_after(&ended, 3, "apfs: read failed\n", held, &on.text, bytes);
         assert!(rt;
             as_said,
             "{}: read {number}, status {}",
@@ -492,12 +527,44 @@ fn refuse_each_put(rt: &impl Abort, alloc: Global, run: &Stopped) -> Result<(), 
         };
         let ended = end_run(alloc, run, &on, refused)?;
         let status = if i < run.put_before.len() { 4 } else { 0 };
-        let as_said = ended_after(&ended, status, "", &on.text, *bytes);
+        let as_said = ended_after(&ended, status, "", on.held, &on.text, *bytes);
         assert!(rt;
             as_said,
             "{}: after {i} puts, status {}",
             run.name, ended.status
         );
+    }
+    Ok(())
+}
+
+// Refuses each call of the folder of a run in turn, and says whether it ends with 4 and writes nothing; with 0 after its last call.
+fn refuse_each_call(rt: &impl Abort, alloc: Global, run: &Stopped) -> Result<(), Fail> {
+    let on = prepare(alloc, run)?;
+    for (i, held) in run.held.iter().enumerate() {
+        let refused = Refused {
+            call: (i as u64).saturating_add(1),
+            ..NOTHING
+        };
+        let ended = end_run(alloc, run, &on, refused)?;
+        let (status, bytes) = if i.saturating_add(1) < run.held.len() {
+            (4, 0)
+        } else {
+            (0, on.text.len())
+        };
+        let as_said = ended_after(&ended, status, "", held, &on.text, bytes);
+        assert!(rt;
+            as_said,
+            "{}: after {i} calls, status {}",
+            run.name, ended.status
+        );
+    }
+    Ok(())
+}
+
+#[test]
+fn failure_of_each_call(rt: HostRuntime) -> Result<(), Fail> {
+    for run in STOPPED_RUNS {
+        refuse_each_call(&rt, rt.alloc(), run)?;
     }
     Ok(())
 }
@@ -513,9 +580,9 @@ fn failure_of_each_put(rt: HostRuntime) -> Result<(), Fail> {
 // Whether each case ends with 4 and writes nothing, where the first put on each sink is refused.
 fn refuse_the_first_put(rt: &impl Abort, alloc: Global, cases: &[Case]) -> Result<(), Fail> {
     let refused = Refused {
-        read: 0,
         put: 1,
         line: 1,
+        ..NOTHING
     };
     for case in cases {
         // Nothing is put where there is nothing to write.
@@ -577,6 +644,23 @@ fn failure_of_the_first_put_of_gen(rt: HostRuntime) -> Result<(), Fail> {
 #[test]
 fn failure_of_the_first_put_of_usage(rt: HostRuntime) -> Result<(), Fail> {
     refuse_the_first_put(&rt, rt.alloc(), USAGE_CASES)
+}
+
+// The text of `export` is put when its folder is done.
+#[test]
+fn failure_of_the_first_put_of_export(rt: HostRuntime) -> Result<(), Fail> {
+    let alloc = rt.alloc();
+    let refused = Refused {
+        put: 1,
+        line: 1,
+        ..NOTHING
+    };
+    for (case, held) in EXPORT_CASES {
+        let ended = end_export(alloc, case, *held, refused)?;
+        let as_said = ended_so(&ended, 4, "", "", held.unwrap_or(""));
+        assert!(rt; as_said, "{}: status {}", case.name, ended.status);
+    }
+    Ok(())
 }
 
 #[test]

@@ -135,6 +135,10 @@ pub enum Image {
     Files(&'static [Entry]),
     /// A container whose volume has these files, and these further names.
     Named(&'static [Entry], &'static [Name]),
+    /// A container whose volume tells names apart by each byte, and has these empty files.
+    Exact(&'static [Entry]),
+    /// A container whose volume has these files, and the file `hello` (17) with these five bytes in the directory of this id.
+    WithBytes(&'static [Entry], u64),
     /// The small container, and the records of its volume's files stand in the opposite order.
     Backwards,
     /// The small container, whose volume has one more inode (16), with a value of 8 bytes.
@@ -190,9 +194,8 @@ fn views_named(alloc: Global, name: &str) -> Result<Vec<u8>, Fail> {
     made(alloc, &plan)
 }
 
-// The files of a volume, and further names of them.
-fn file_tree(alloc: Global, files: &[Entry], names: &[Name]) -> Result<FileTree, AllocError> {
-    let mut tree = FileTree::new(alloc, Names::Folded)?;
+// Adds empty files and directories to those of a volume.
+fn add_files(alloc: Global, tree: &mut FileTree, files: &[Entry]) -> Result<(), AllocError> {
     for file in files {
         let mut plan = InodePlan::file(file.file, file.directory);
         if file.kind == 4 {
@@ -202,6 +205,13 @@ fn file_tree(alloc: Global, files: &[Entry], names: &[Name]) -> Result<FileTree,
         }
         tree.add(alloc, plan, file.name)?;
     }
+    Ok(())
+}
+
+// The files of a volume, and further names of them.
+fn file_tree(alloc: Global, files: &[Entry], names: &[Name]) -> Result<FileTree, AllocError> {
+    let mut tree = FileTree::new(alloc, Names::Folded)?;
+    add_files(alloc, &mut tree, files)?;
     for name in names {
         let plan = EntryPlan {
             directory: name.directory,
@@ -214,12 +224,18 @@ fn file_tree(alloc: Global, files: &[Entry], names: &[Name]) -> Result<FileTree,
     Ok(tree)
 }
 
-// A sample whose volume has these records of files in place of its own.
-fn with_items(alloc: Global, which: Sample, items: Vec<Item>) -> Result<Vec<u8>, Fail> {
+// A sample whose volume compares names so, and has these records of files in place of its own.
+fn with_names(
+    alloc: Global,
+    which: Sample,
+    names: Names,
+    items: Vec<Item>,
+) -> Result<Vec<u8>, Fail> {
     let mut plan = sample(alloc, which)?;
     let Some(mut volume) = plan.volumes.pop() else {
         return Ok(Vec::new(alloc));
     };
+    volume.names = names;
     let leaf = Leaf {
         oid: ROOT_OID,
         items,
@@ -232,6 +248,11 @@ fn with_items(alloc: Global, which: Sample, items: Vec<Item>) -> Result<Vec<u8>,
     volume.versions = vec![in alloc; version]?;
     plan.volumes.push(volume)?;
     made(alloc, &plan)
+}
+
+// A sample whose volume has these records of files in place of its own.
+fn with_items(alloc: Global, which: Sample, items: Vec<Item>) -> Result<Vec<u8>, Fail> {
+    with_names(alloc, which, Names::Folded, items)
 }
 
 // A container whose volume has these records of files.
@@ -255,6 +276,23 @@ fn with_file(
     tree.add(alloc, file, name)?;
     tree.stream(alloc, 16, extents)?;
     with_items(alloc, which, tree.items(alloc)?)
+}
+
+// A container whose volume tells names apart by each byte, and has these empty files.
+fn exact(alloc: Global, files: &[Entry]) -> Result<Vec<u8>, Fail> {
+    let mut tree = FileTree::new(alloc, Names::Exact)?;
+    add_files(alloc, &mut tree, files)?;
+    with_names(alloc, Sample::S, Names::Exact, tree.items(alloc)?)
+}
+
+// A container whose volume has these files and directories, and the file 17 of five bytes in one of them.
+fn with_bytes(alloc: Global, files: &[Entry], directory: u64) -> Result<Vec<u8>, Fail> {
+    let mut tree = file_tree(alloc, files, &[])?;
+    let mut file = InodePlan::file(17, directory);
+    file.stream = Some(5);
+    tree.add(alloc, file, "hello")?;
+    tree.stream(alloc, 17, &[(0, 4096, 57)])?;
+    with_items(alloc, Sample::H, tree.items(alloc)?)
 }
 
 // A container whose volume has the symbolic link 16 to `hello`, whose target has these flags where some are given.
@@ -360,6 +398,8 @@ fn bytes(alloc: Global, image: Image) -> Result<Vec<u8>, Fail> {
         Image::Named(files, names) => {
             with_records(alloc, file_tree(alloc, files, names)?.items(alloc)?)
         }
+        Image::Exact(files) => exact(alloc, files),
+        Image::WithBytes(files, directory) => with_bytes(alloc, files, directory),
         Image::Backwards => backwards(alloc),
         Image::ShortInode => with_short_inode(alloc),
         Image::Queued => queued(alloc),
@@ -400,6 +440,7 @@ fn change(image: Image, bytes: &mut [u8]) -> bool {
         Image::SmallShort(_) => true,
         Image::Files(_) | Image::Named(..) | Image::Queued | Image::ViewsNamed(_) => true,
         Image::Backwards | Image::ShortInode => true,
+        Image::Exact(_) | Image::WithBytes(..) => true,
         Image::Unhashed | Image::Made(..) => true,
         Image::Flagged(_) | Image::Streamed(..) | Image::Link | Image::LinkUnsaid => true,
     }
