@@ -76,6 +76,13 @@ fn open(rt: &HostRuntime, path: &str) -> Opened<FileSource> {
     }
 }
 
+// Opens what a word names for reading, once for each stream that a process is started with. What is opened takes the number of a
+// stream that is closed. One of these takes it, to which nothing can be written, and no file of the folder does, into which the
+// text or the line would be written then.
+fn stand_ins(rt: &HostRuntime, word: Option<&String>) -> [Opened<FileSource>; 3] {
+    [image_of(rt, word), image_of(rt, word), image_of(rt, word)]
+}
+
 // The word at a place, where it is named.
 fn word_at(words: &[String], at: Option<usize>) -> Option<&String> {
     match at {
@@ -120,6 +127,7 @@ fn main(rt: HostRuntime) -> ExitCode {
     let Ok(places) = places_in(rt.alloc(), &words) else {
         return ExitCode::from(OUT_OF_MEMORY);
     };
+    let _stand_ins = stand_ins(&rt, word_at(&words, places.folder.and(places.image)));
     let mut image = image_of(&rt, word_at(&words, places.image));
     let Ok(mut folder) = folder_of(&rt, word_at(&words, places.folder)) else {
         return ExitCode::from(OUT_OF_MEMORY);
