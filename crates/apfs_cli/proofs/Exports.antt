@@ -29,7 +29,7 @@ use Rattle.blk_folder.specs.Items.{Item, IsFront}
 use Rattle.tree_export.specs.Exported.{Wanted, wanted_of, put_all, items_in, exported, skipped}
 use Rattle.tree_export.specs.Faults.{IsFailure}
 use Rattle.tree_export.specs.Filled.{FilledWhole, FilledFront}
-use Rattle.tree_export.specs.Texts.{skipped_text, done_text, export_text}
+use Rattle.tree_export.specs.Texts.{skipped_text, export_text}
 use Rattle.tree_export.specs.declared.told.Item.{Item as Asked}
 use Rattle.tree_export.specs.declared.stop.ExportStop.{ExportStop}
 use Rattle.tree_export.specs.declared.stop.ExportStop.TheVariants as exports
@@ -40,7 +40,7 @@ use Rattle.apfs_cli.specs.ByCommand.{HasResult}
 use Rattle.apfs_cli.specs.Commands.Export as export
 use Rattle.apfs_cli.specs.Formed.{IsFormed}
 use Rattle.apfs_cli.specs.Handed.{Looked, LookFailed, OfImage, Stored, StoreFailed}
-use Rattle.apfs_cli.specs.Meant.{HasVolume, HasNoVolume, IsMeantFault}
+use Rattle.apfs_cli.specs.Meant.{HasNoVolume, IsMeantFault}
 use Rattle.apfs_cli.specs.MeantView.{IsMeantView, HasNoSnapshot}
 use Rattle.apfs_cli.specs.OnView.{ByAnswer, IsWantedOf, IsAnswerOn}
 use Rattle.apfs_cli.specs.Reached.{IsClear, IsFree, IsWhileLooking, TellsViewWay}

@@ -1,7 +1,6 @@
 -- What a folder has after a run, by the items of the command.
-use Rattle.std.specs.Prelude.{◌≡◌, ◌⊎◌, ℕ, Bool, true, false, List, [], Option, Some, None, refl}
-use Rattle.std.proofs.Common.{inl, inr, sym, ◌∙◌, ap, subst, arith}
-use Rattle.std.proofs.lemmas.List.{append-nil}
+use Rattle.std.specs.Prelude.{◌≡◌, ℕ, Bool, true, false, List, [], Option, Some, None, refl}
+use Rattle.std.proofs.Common.{inl, inr, sym, ◌∙◌, subst, arith}
 use Rattle.blk_folder.specs.Items.{Item, IsFront}
 use Rattle.blk_folder.specs.Put.{FilledPart}
 use Rattle.cmd_words.specs.Asked.{AskedTarget}

@@ -1,6 +1,5 @@
 -- The command `export`: the directories and files of the view that is meant, put into a folder.
-use Rattle.std.specs.Prelude.{◌≡◌, ◌++◌, ℕ, List, Result, Ok}
-use Rattle.std.specs.List.{flat_map}
+use Rattle.std.specs.Prelude.{◌≡◌, ℕ, List, Result, Ok}
 use Rattle.cmd_words.specs.Asked.{AskedTarget}
 use Rattle.obj_base.specs.declared.stop.Stop.{Stop}
 use Rattle.obj_base.specs.declared.stop.Stop.TheVariants.{Found, Unsupported, ReadFault, NoMemory}
@@ -14,7 +13,7 @@ use Rattle.path_walk.specs.declared.answer.Answer.{Answer}
 use Rattle.path_walk.specs.declared.stop.PathStop.{PathStop}
 use Rattle.path_walk.specs.declared.stop.PathStop.TheVariants as paths
 use Rattle.blk_folder.specs.Items.{Item}
-use Rattle.tree_export.specs.Exported.{Wanted, wanted_of, exported, skipped}
+use Rattle.tree_export.specs.Exported.{wanted_of, exported, skipped}
 use Rattle.tree_export.specs.Faults.{IsExportFault, fault_id}
 use Rattle.tree_export.specs.Texts.{skipped_text, done_text, export_text}
 use Rattle.tree_export.specs.declared.stop.ExportFault.{ExportFault}

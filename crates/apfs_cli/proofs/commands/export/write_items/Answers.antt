@@ -1,5 +1,5 @@
 -- The lines are put. In a container that is well-formed nothing stops the folder's filling but a read that fails, a put into it that does, and want of memory.
-use Rattle.std.proofs.Common.{◌≡◌, ap, map, refl}
+use Rattle.std.proofs.Common.{ap, map, refl}
 use Rattle.std.specs.Prelude.{◌++◌, Err, filter_map, slice_get}
 use Rattle.std.specs.List.{flat_map}
 use Rattle.cmd_words.specs.Asked.{target_asked}
