@@ -1,5 +1,5 @@
 -- Facts by ids that don't fall, and searches in them.
-use Rattle.std.proofs.Common.{◌≡◌, ◌==◌, ℕ, zero, suc, ◌+◌, ◌≤◌, ◌<◌, Bool, true, false, cond, List, [], ◌∷◌, ◌++◌, length, Some, None, inl, inr, refl, ap, sym, ◌∙◌, subst, arith, take, drop, get_or, append-nil}
+use Rattle.std.proofs.Common.{◌≡◌, ◌==◌, ℕ, zero, suc, ◌+◌, ◌-◌, ◌≤◌, ◌<◌, Bool, true, false, cond, List, [], ◌∷◌, ◌++◌, length, Some, None, inl, inr, refl, ap, sym, ◌∙◌, subst, arith, take, drop, get_or, append-nil}
 use Rattle.std.specs.Prelude.{filter, option_map, slice_get, nat_lt}
 use Rattle.std.specs.List.{position_or_len}
 use Rattle.std.specs.List.Sorted.{IsPartitionPoint, IsPartitionedBy}
@@ -11,6 +11,7 @@ use Rattle.std.proofs.lemmas.List.Sums.{position_or_len_is}
 use Rattle.std.proofs.lemmas.List.Folds.{find_at}
 use Rattle.apfs_model.specs.Lists.{In}
 use Rattle.apfs_model.proofs.BoolTests.{never-true}
+use Rattle.id_lists.proofs.InOrder.{point-here}
 use Rattle.fs_record.specs.Facts.{Fact, first_for}
 use Rattle.omap_map.proofs.Lists.{all-in, filter-none}
 use Rattle.path_walk.specs.Parts.{Rises, IsFirst}
@@ -34,6 +35,11 @@ below_partitioned id fs rise i j d low inside by =
     let a = rises_at fs i j d rise low inside in
     let b = ltb-true (get_or fs j d).id id by in
     lt-ltb (get_or fs i d).id id (omega arith)
+
+-- a place before which a fact is of an id below one, and at which one isn't
+pub point_here : {X : Type 0} (id n : ℕ) (fs : List (Fact X)) → Rises fs → n ≤ length fs → ((d : Fact X) → n < length fs → id ≤ (get_or fs n d).id) → ((d : Fact X) → 0 < n → (get_or fs (n - 1) d).id < id) →
+    IsPartitionPoint (λ (f : Fact X). nat_lt f.id id ≡ true) (λ (f : Fact X). nat_lt f.id id ≡ false) fs n
+point_here id n fs rise inside here before = point-here (λ f. f.id) fs id n (λ i j d le low. rises_at fs i j d rise le low) inside here before
 
 -- where none is below an id, those of the id stand first
 pub same_partitioned : {X : Type 0} (id : ℕ) (fs : List (Fact X)) → IsFirst id fs → IsPartitionedBy (λ (f : Fact X). f.id == id) fs

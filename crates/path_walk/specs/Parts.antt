@@ -248,6 +248,11 @@ IsPlaceKnown facts view e (Err (Unsupported feature block)) = ⊥
 IsPlaceKnown facts view e (Err ReadFault) = ⊥
 IsPlaceKnown facts view e (Err NoMemory) = Unit {0}
 
+-- what was answered of an entry's file as it is told: its target, or that it has no inode; or memory ran out
+abbrev pub IsTargetKnown : Facts → View → Fact Entry → Result Target (Stop PathStop) → Type 0
+IsTargetKnown facts view e (Ok target) = option_map target_of (place_by facts e.what) ≡ Some target
+IsTargetKnown facts view e (Err stop) = IsPlaceKnown facts view e (Err stop)
+
 -- what is gathered of a view: the first of its records that is refused, its entries and its inodes
 pub record IsSurveyed (image : List ℕ) (site : Site) (volume : Loaded) (view : View) (refusal : Option (ℕ × RecFault)) (entries : List (Fact Entry)) (inodes : List (Fact Inode)) : Type 0 where
   pub whole : is_view_whole image site volume view ≡ true

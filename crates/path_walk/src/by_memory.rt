@@ -7,12 +7,12 @@ ghost use Rattle.path_walk.specs.Found.{step, found};
 ghost use Rattle.path_walk.specs.Listing.{children, listing};
 ghost use Rattle.path_walk.specs.Needs.{StepNeeds, PathNeeds, HaveFiles, ChildrenNeed, ListingNeeds};
 ghost use Rattle.path_walk.specs.Stops.{IsNoAnswer};
-ghost use Rattle.path_walk.specs.Parts.{whats, by_part, along, rooted, lacking_entry, targets_by, HasEntries, Remembers, IsKnown, IsPlaceKnown, PartNeeds, AlongNeeds, WhereTold, of_any};
+ghost use Rattle.path_walk.specs.Parts.{whats, by_part, along, rooted, lacking_entry, targets_by, HasEntries, Remembers, IsKnown, IsPlaceKnown, IsTargetKnown, PartNeeds, AlongNeeds, WhereTold, of_any};
 
 use crate::by_search::{ROOT, place_of, root_of_inode};
 use crate::choice::{choose, parts};
 use crate::files::Files;
-use crate::kept::{KeptEntry, Place};
+use crate::kept::{KeptEntry, KeptTarget, Place};
 use crate::order::{alone, by_name};
 use crate::{Answer, PathStop, Target};
 use apfs_model::{Bytes, NoMemory};
@@ -49,6 +49,28 @@ pub fn place_in(
         Some(inode) => {
             let place = place_of(alloc, entry, inode.copied())?;
             Ok(place)
+        }
+        None => {
+            let fault = lacking(alloc, view, entry)?;
+            Err(Stop::Found(PathStop::Fault(fault)))
+        }
+    }
+}
+
+/// What an entry's file is, as it is told.
+pub fn target_in(
+    alloc: Global,
+    files: &Files,
+    view: &View,
+    entry: &KeptEntry,
+) -> Result<KeptTarget, Stop<PathStop>>
+    ensures no_read { IsErrOf result ReadFault → ⊥ }
+    ensures known { (facts : Facts) → Remembers facts files.now.entries.items files.now.inodes.items → IsTargetKnown facts view.now entry.now result }
+{
+    match files.inode(entry.file_id()) {
+        Some(inode) => {
+            let target = KeptTarget::of(alloc, entry, inode)?;
+            Ok(target)
         }
         None => {
             let fault = lacking(alloc, view, entry)?;

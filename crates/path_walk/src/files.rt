@@ -40,8 +40,62 @@ fn entries_of(entries: &[KeptEntry], id: u64) -> usize
     )
 }
 
-// How many inodes are of ids below an id.
-fn inodes_below(inodes: &[InodeAt], id: u64) -> usize
+// Where an inode of an id would stand, if ids lay as far apart everywhere.
+fn between(inodes: &[InodeAt], id: u64) -> usize {
+    let (Some(first), Some(last)) = (inodes.first(), inodes.last()) else {
+        return 0;
+    };
+    let past = id.saturating_sub(first.id());
+    let span = last.id().saturating_sub(first.id());
+    match past.checked_mul(inodes.len() as u64) {
+        Some(product) => match product.checked_div(span.saturating_add(1)) {
+            Some(place) => place as usize,
+            None => 0,
+        },
+        None => 0,
+    }
+}
+
+// How many inodes are of ids below an id, as far as those between a place and the id's are looked at: ids that rise are as far apart as their places, or further.
+fn near(inodes: &[InodeAt], id: u64, at: usize) -> usize {
+    let Some(item) = inodes.get(at) else {
+        return at;
+    };
+    let before = item.id().saturating_sub(id) as usize;
+    let after = id.saturating_sub(item.id()) as usize;
+    let from = at.saturating_sub(before);
+    let to = at.saturating_add(after).min(inodes.len());
+    match inodes.get(from..to) {
+        Some(few) => from.saturating_add(few.partition_point(|at: &InodeAt| -> bool {
+            at.id() < id
+        })),
+        None => at,
+    }
+}
+
+// Whether as many inodes are of ids below one as stand before a place.
+fn is_point(inodes: &[InodeAt], id: u64, at: usize) -> bool
+    ensures bound { result ≡ true → at ≤ length inodes.now }
+    ensures split { Rises inodes.now → result ≡ true → IsPartitionPoint (λ f. nat_lt f.id id ≡ true) (λ f. nat_lt f.id id ≡ false) inodes.now at }
+{
+    if at > inodes.len() {
+        return false;
+    }
+    if at < inodes.len() {
+        let next = &inodes[at];
+        if next.id() < id {
+            return false;
+        }
+    }
+    if at == 0 {
+        return true;
+    }
+    let last = &inodes[at - 1];
+    last.id() < id
+}
+
+// How many inodes are of ids below an id, by a search among all.
+fn searched(inodes: &[InodeAt], id: u64) -> usize
     ensures bound { result ≤ length inodes.now }
     ensures split { Rises inodes.now → IsPartitionPoint (λ f. nat_lt f.id id ≡ true) (λ f. nat_lt f.id id ≡ false) inodes.now result }
 {
@@ -50,6 +104,18 @@ fn inodes_below(inodes: &[InodeAt], id: u64) -> usize
             ensures { result ≡ nat_lt at.now.id id }
         { at.id() < id },
     )
+}
+
+// How many inodes are of ids below an id. A guess is tested, and never believed.
+fn inodes_below(inodes: &[InodeAt], id: u64) -> usize
+    ensures bound { result ≤ length inodes.now }
+    ensures split { Rises inodes.now → IsPartitionPoint (λ f. nat_lt f.id id ≡ true) (λ f. nat_lt f.id id ≡ false) inodes.now result }
+{
+    let guess = near(inodes, id, between(inodes, id));
+    if is_point(inodes, id, guess) {
+        return guess;
+    }
+    searched(inodes, id)
 }
 
 // The entries of the directory of an id.

@@ -7,6 +7,7 @@ use crate::Target;
 use apfs_layout::record as layout;
 use apfs_model::{Bytes, NoMemory};
 use fs_record::{DirEntry, Inode, StreamSize};
+use kept_name::KeptName;
 use std::alloc::Global;
 use std::marker::Model;
 
@@ -17,7 +18,7 @@ const DIRECTORY: u16 = 4;
 #[derive(Debug, Drop)]
 pub struct KeptEntry {
     id: u64,
-    name: String,
+    name: KeptName,
     hash: u32,
     file_id: u64,
     kind: u16,
@@ -25,13 +26,12 @@ pub struct KeptEntry {
 }
 
 impl Model for KeptEntry {
-    ghost use Rattle.std.specs.Prelude.{string_bytes};
     ghost use Rattle.fs_record.specs.Entries.{Entry};
     ghost use Rattle.fs_record.specs.Facts.{Fact};
 
     ghost Value = { Fact Entry };
 
-    ghost view = { λ a. record { id = a.id; what = record { name = string_bytes a.name; hash = a.hash; file_id = a.file_id; kind = a.kind; sibling = a.sibling } } };
+    ghost view = { λ a. record { id = a.id; what = record { name = a.name; hash = a.hash; file_id = a.file_id; kind = a.kind; sibling = a.sibling } } };
 }
 
 impl KeptEntry {
@@ -39,17 +39,15 @@ impl KeptEntry {
     pub(crate) fn of(alloc: Global, id: u64, entry: &DirEntry<'_>) -> Result<KeptEntry, NoMemory>
         ensures { IfOk result (λ kept. kept ≡ record { id = id; what = entry.now }) }
     {
-        match String::from_str(alloc, entry.name()) {
-            Ok(name) => Ok(KeptEntry {
-                id,
-                name,
-                hash: entry.hash(),
-                file_id: entry.file_id(),
-                kind: entry.kind(),
-                sibling: entry.sibling(),
-            }),
-            Err(_) => Err(NoMemory),
-        }
+        let name = KeptName::of(alloc, entry.name())?;
+        Ok(KeptEntry {
+            id,
+            name,
+            hash: entry.hash(),
+            file_id: entry.file_id(),
+            kind: entry.kind(),
+            sibling: entry.sibling(),
+        })
     }
 
     /// The id of its directory.
@@ -259,5 +257,82 @@ impl Place {
         ensures { result ≡ is_directory self.now.inode }
     {
         self.inode.is_directory()
+    }
+}
+
+/// A target whose name is kept in place where it is short. Contracts see it as the target.
+#[derive(Debug, Drop)]
+pub struct KeptTarget {
+    id: u64,
+    name: KeptName,
+    kind: u16,
+    size: u64,
+}
+
+impl Model for KeptTarget {
+    ghost use Rattle.path_walk.specs.declared.target.Target as targets;
+
+    ghost Value = { targets.Target };
+
+    ghost view = { λ a. record { id = a.id; name = a.name; kind = a.kind; size = a.size } };
+}
+
+impl KeptTarget {
+    /// What an entry's file is, which has this inode.
+    pub(crate) fn of(
+        alloc: Global,
+        entry: &KeptEntry,
+        inode: &KeptInode,
+    ) -> Result<KeptTarget, NoMemory>
+        ensures { IfOk result (λ target. target ≡ spec.target_of (spec.placed entry.now.what.file_id entry.now.what.name inode.now)) }
+    {
+        let name = KeptName::of(alloc, entry.name())?;
+        Ok(KeptTarget {
+            id: entry.file_id(),
+            name,
+            kind: inode.kind(),
+            size: size(inode.stream()),
+        })
+    }
+
+    /// The id.
+    pub fn id(&self) -> u64
+        ensures { result ≡ self.now.id }
+    {
+        self.id
+    }
+
+    /// The name.
+    pub fn name(&self) -> &str
+        ensures { result.now ≡ self.now.name }
+    {
+        self.name.as_str()
+    }
+
+    /// The kind of its inode.
+    pub fn kind(&self) -> u16
+        ensures { result ≡ self.now.kind }
+    {
+        self.kind
+    }
+
+    /// The size of its stream, 0 without one.
+    pub fn size(&self) -> u64
+        ensures { result ≡ self.now.size }
+    {
+        self.size
+    }
+
+    /// A copy as a target.
+    pub fn target(&self, alloc: Global) -> Result<Target, NoMemory>
+        ensures { IfOk result (λ target. target ≡ self.now) }
+    {
+        let name = Bytes::from_slice(alloc, self.name.as_str().as_bytes())?;
+        Ok(Target {
+            id: self.id,
+            name,
+            kind: self.kind,
+            size: self.size,
+        })
     }
 }

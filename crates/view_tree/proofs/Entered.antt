@@ -1,6 +1,6 @@
 -- Directories that a tree enters, its rows one by one, and what stops it.
-use Rattle.std.proofs.Common.{◌≡◌, ◌==◌, ◌&&◌, get_or, ℕ, suc, ◌+◌, ◌-◌, ◌<◌, ◌≤◌, Bool, true, false, cond, List, [], ◌∷◌, ◌++◌, length, map, reverse, Option, Some, Result, Ok, Err, ◌⊎◌, inl, inr, refl, ap, sym, ◌∙◌, subst, arith, append_assoc, append-nil, length-append}
-use Rattle.std.specs.Prelude.{filter_map, slice_get, nat_le}
+use Rattle.std.proofs.Common.{◌≡◌, ◌==◌, ◌&&◌, get_or, ℕ, suc, ◌+◌, ◌-◌, ◌<◌, ◌≤◌, Bool, true, false, cond, List, [], ◌∷◌, ◌++◌, length, map, reverse, Option, None, Some, Result, Ok, Err, ◌⊎◌, inl, inr, refl, ap, sym, ◌∙◌, subst, arith, append_assoc, append-nil, length-append}
+use Rattle.std.specs.Prelude.{filter_map, option_map, slice_get, nat_le}
 use Rattle.std.proofs.lemmas.List.{reverse-append, map-append}
 use Rattle.apfs_model.specs.Lists.{In, and_then, passes}
 use Rattle.apfs_model.proofs.BoolTests.{both-true, left-true, right-true, from-below}
@@ -22,7 +22,7 @@ use Rattle.path_walk.specs.Paths.{slash, is_component}
 use Rattle.path_walk.specs.Places.{Place, target_of}
 use Rattle.path_walk.specs.Found.{entries_in, place_by, found, number_named}
 use Rattle.path_walk.specs.Listing.{children}
-use Rattle.view_tree.specs.Met.{spot_in, is_user_id, IsEntered, own, below, IsEntryOf, IsMet}
+use Rattle.view_tree.specs.Met.{Spot, spot_in, is_user_id, IsEntered, own, below, IsEntryOf, IsMet}
 use Rattle.path_walk.specs.Stops.{IsLawful, IsPathFault, IsGiven, IsStopThere}
 use Rattle.view_tree.specs.Told.{IsTold}
 use Rattle.view_tree.specs.Tree.{rows_below, rows_at, lone_row, row_told, tree}
@@ -210,6 +210,23 @@ tree_told {T} {U} facts view path shows wanted stop fault known e =
     fault-told facts view path fault (subst (λ (s : Stop PathStop). IsTreeKnown facts view path shows wanted (Err s)) same known)
 
 -- ---- entries that are met
+-- what is told of an entry's file is its place as it is told
+pub place_told : (facts : Facts) (e : Entry) (target : Target) → option_map target_of (place_by facts e) ≡ Some target → (place : Place) × ((place_by facts e ≡ Some place) × (target ≡ target_of place))
+place_told facts e target told =
+    let go : (o : Option Place) → place_by facts e ≡ o → option_map target_of o ≡ Some target → (place : Place) × ((place_by facts e ≡ Some place) × (target ≡ target_of place)) =
+    λ o. elim o as (λ o. place_by facts e ≡ o → option_map target_of o ≡ Some target → (place : Place) × ((place_by facts e ≡ Some place) × (target ≡ target_of place))) [
+      | None ↦ λ is h. absurd cc
+      | Some place ↦ λ is h. (place, (is, (let same : target_of place ≡ target = cc in sym same)))
+    ] in
+    go (place_by facts e) refl told
+
+-- of ids that are the same
+pub entry_by : (facts : Facts) (spot : Spot) (id other : ℕ) → id ≡ other → IsEntryOf facts spot other → IsEntryOf facts spot id
+entry_by facts spot id other same is = subst (λ i. IsEntryOf facts spot i) (sym same) is
+
+pub entered_by : (facts : Facts) (first id other : ℕ) → id ≡ other → IsEntered facts first other → IsEntered facts first id
+entered_by facts first id other same is = subst (λ i. IsEntered facts first i) (sym same) is
+
 -- an entry of a directory that is entered, and what it leads to
 pub met_entry : (facts : Facts) (path : List ℕ) (first id number : ℕ) (entries : List (Fact Entry)) (inodes : List (Fact Inode)) (es : List (Fact Entry)) (e : Fact Entry) (place : Place) (target : Target) (opened : Bool) →
     IsUnderway facts path first entries inodes → IsEntered facts first id → HasAll facts id es → number < length es → e ≡ get_or es number e → place_by facts e.what ≡ Some place → target ≡ target_of place → opened ≡ is_opened_target target →

@@ -26,6 +26,10 @@ use Rattle.path_walk.proofs.Needed.{has_file}
 use Rattle.view_tree.proofs.Memos.{same_number, entry_of, step_directory}
 
 -- ---- what stays
+-- of ids that are the same
+pub kept_by : (facts : Facts) (memo : BTreeMap ℕ (ℕ × ℕ)) (id other : ℕ) → id ≡ other → AreKeptIn facts memo id → AreKeptIn facts memo other
+kept_by facts memo id other same kept = subst (λ i. AreKeptIn facts memo i) same kept
+
 -- one more directory is kept
 pub put_stays : (old new : BTreeMap ℕ (ℕ × ℕ)) (id : ℕ) (s : ℕ × ℕ) → get nat_cmp old id ≡ None → Updates nat_cmp old new id (Some s) → StaysKept old new
 put_stays old new id s none updates q t there = elim (test_or (is_at (nat_cmp id) q)) as (λ _. get nat_cmp new q ≡ Some t) [

@@ -1,9 +1,10 @@
 // The rows of a tree, as they are kept, told and put.
-ghost use Rattle.std.specs.Prelude.{◌≡◌, ◌++◌, ◌≤◌, ℕ, List, [], ◌∷◌, Ok, Err, IfOk, IfErr, OnOk, IsErrOf};
+ghost use Rattle.std.specs.Prelude.{◌≡◌, ◌++◌, ◌≤◌, ℕ, true, List, [], ◌∷◌, Ok, Err, IfOk, IfErr, OnOk, IsErrOf};
 ghost use Rattle.apfs_model.specs.Counts.{Rose};
 ghost use Rattle.apfs_model.specs.Sink.{Wrote, WrotePart};
 ghost use Rattle.obj_base.specs.declared.stop.Stop.TheVariants as stops;
 ghost use Rattle.obj_base.specs.declared.stop.Stop.TheVariants.{ReadFault};
+ghost use Rattle.fs_name.specs.Shown.{shown_name};
 ghost use Rattle.path_walk.specs.Paths.{slash};
 ghost use Rattle.path_walk.specs.declared.target.Target.{Target};
 ghost use Rattle.view_tree.specs.Kept.{path_after, told_rows, held_told};
@@ -11,12 +12,12 @@ ghost use Rattle.view_tree.specs.Puts.{IsPut, Passes};
 ghost use Rattle.view_tree.specs.Texts.{row_text, tree_text};
 ghost use Rattle.view_tree.specs.declared.kept.PutStop.TheVariants as puts;
 
-use crate::lines::push_line;
+use crate::lines::{push_kept, push_line};
 use apfs_model::Bytes;
 use blk_source::Sink;
 use fs_name::push_shown;
 use obj_base::Stop;
-use path_walk::{PathStop, Target};
+use path_walk::{KeptTarget, PathStop, Target};
 use std::alloc::{AllocError, Global};
 use std::marker::Model;
 
@@ -38,11 +39,34 @@ impl From<AllocError> for PutStop {
     }
 }
 
+// Whether each byte of a name is shown as it is.
+fn is_plain(name: &[u8]) -> bool
+    ensures { result ≡ true → shown_name name.now ≡ name.now }
+{
+    'bytes: for byte in name {
+        if *byte < 0x20 || *byte == 0x7f || *byte == b'/' || *byte == b'\\' {
+            return false;
+        }
+    }
+    true
+}
+
+// Adds a name as it is shown. Most names are, and are copied at once.
+fn push_name(path: &mut Vec<u8>, name: &[u8]) -> Result<(), AllocError>
+    ensures { OnOk result (path.new.items ≡ path.old.items ++ shown_name name.now) }
+{
+    if is_plain(name) {
+        path.extend_from_slice(name)
+    } else {
+        push_shown(path, name)
+    }
+}
+
 /// A row: how many bytes its path shares with that of the row before it and a slash, and its target.
 #[derive(Drop)]
 pub(crate) struct Row {
     pub(crate) shared: usize,
-    pub(crate) target: Target,
+    pub(crate) target: KeptTarget,
 }
 
 impl Row {
@@ -51,7 +75,7 @@ impl Row {
         ensures { OnOk result (path.new.items ≡ path_after path.old.items self.now) }
     {
         path.truncate(self.shared);
-        push_shown(path, self.target.name.as_slice())
+        push_name(path, self.target.name().as_bytes())
     }
 }
 
@@ -97,17 +121,12 @@ fn put_waiting<W: Sink>(waiting: &mut Vec<u8>, out: &mut W) -> Result<(), PutSto
 }
 
 // Adds the line of a row to those that wait, and makes of its path what the next one is told after.
-fn add_line(
-    alloc: Global,
-    row: &Row,
-    path: &mut Vec<u8>,
-    waiting: &mut Vec<u8>,
-) -> Result<(), AllocError>
+fn add_line(row: &Row, path: &mut Vec<u8>, waiting: &mut Vec<u8>) -> Result<(), AllocError>
     ensures path { OnOk result (path.new.items ≡ path_after path.old.items row.now ++ slash ∷ []) }
     ensures line { OnOk result (waiting.new.items ≡ waiting.old.items ++ row_text (path_after path.old.items row.now, row.now.target)) }
 {
     row.lead(path)?;
-    push_line(alloc, waiting, &row.target, path.as_slice())?;
+    push_kept(waiting, &row.target, path.as_slice())?;
     path.push(b'/')?;
     Ok(())
 }
@@ -115,7 +134,6 @@ fn add_line(
 // Adds the line of a row to those that wait, and puts them once they are many.
 #[tactic(auto, using(crate::proofs::RowsPut::none_cut, crate::proofs::RowsPut::passes_waits, crate::proofs::RowsPut::passes_put, crate::proofs::RowsPut::passes_cut))]
 fn pass<W: Sink>(
-    alloc: Global,
     row: &Row,
     path: &mut Vec<u8>,
     waiting: &mut Vec<u8>,
@@ -124,7 +142,7 @@ fn pass<W: Sink>(
     ensures path { OnOk result (path.new.items ≡ path_after path.old.items row.now ++ slash ∷ []) }
     ensures passes { Passes waiting.old.items (row_text (path_after path.old.items row.now, row.now.target)) waiting.new.items result (W.contents out.old) (W.contents out.new) (W.faults out.old) (W.faults out.new) }
 {
-    add_line(alloc, row, path, waiting)?;
+    add_line(row, path, waiting)?;
     if waiting.len() < PIECE {
         return Ok(());
     }
@@ -141,7 +159,7 @@ fn put_below<W: Sink>(alloc: Global, rows: &[Row], out: &mut W) -> Result<(), Pu
     let mut waiting = Vec::new(alloc);
     let mut path = Vec::new(alloc);
     'rows: for row in rows {
-        match pass(alloc, row, &mut path, &mut waiting, out) {
+        match pass(row, &mut path, &mut waiting, out) {
             Ok(()) => {}
             Err(stop) => return Err(stop),
         }
@@ -186,7 +204,8 @@ fn told_below(alloc: Global, rows: Vec<Row>) -> Result<Vec<(Bytes, Target)>, Sto
     'rows: for row in rows {
         row.lead(&mut path)?;
         let shown = Bytes::from_slice(alloc, path.as_slice())?;
-        told.push((shown, row.target))?;
+        let target = row.target.target(alloc)?;
+        told.push((shown, target))?;
         path.push(b'/')?;
     }
     Ok(told)

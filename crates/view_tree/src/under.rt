@@ -20,10 +20,10 @@ use crate::kept::{KeptRows, Row};
 use apfs_model::{Bytes, NoMemory};
 use fs_name::{Names, push_shown};
 use obj_base::Stop;
-use path_walk::by_memory::{go_by, place_in, root};
+use path_walk::by_memory::{go_by, root, target_in};
 use path_walk::choice::{choose_number, parts};
-use path_walk::order::by_name;
-use path_walk::{Files, KeptEntry, PathStop, Place, ROOT, Target};
+use path_walk::order::kept_by_name;
+use path_walk::{Files, KeptEntry, KeptTarget, PathStop, Place, ROOT};
 use std::alloc::Global;
 use std::collections::BTreeMap;
 use view_rules::{IdAt, TreeFault};
@@ -36,10 +36,10 @@ const DIRECTORY: u16 = 4;
 const FIRST_USER: u64 = 16;
 
 // Whether a target is a directory that is entered where it is met on the way.
-fn is_opened(target: &Target) -> bool
+fn is_opened(target: &KeptTarget) -> bool
     ensures { result ≡ is_opened_target target.now }
 {
-    target.kind == DIRECTORY && FIRST_USER <= target.id
+    target.kind() == DIRECTORY && FIRST_USER <= target.id()
 }
 
 // Whether a place is a directory that is entered where it is met on the way.
@@ -109,7 +109,7 @@ fn meet_entries(
     memo: &mut BTreeMap<u64, (u64, usize)>,
     id: u64,
     entries: &[KeptEntry],
-) -> Result<Vec<Target>, Stop<PathStop>>
+) -> Result<Vec<KeptTarget>, Stop<PathStop>>
     ensures no_read { IsErrOf result ReadFault → ⊥ }
     ensures gives { (facts : Facts) (path : List ℕ) (first : ℕ) → IsUnderway facts path first files.now.entries.items files.now.inodes.items → IsEntered facts first id → HasAll facts id entries.now → IsMemo facts path memo.old → IfOk result (λ targets. targets.items ≡ targets_by facts (whats entries.now)) }
     ensures kept { (facts : Facts) (path : List ℕ) (first : ℕ) → IsUnderway facts path first files.now.entries.items files.now.inodes.items → IsEntered facts first id → HasAll facts id entries.now → IsMemo facts path memo.old → OnOk result (IsMemo facts path memo.new) }
@@ -118,12 +118,11 @@ fn meet_entries(
 {
     let mut targets = Vec::new(alloc);
     for (number, entry) in entries.iter().enumerate() {
-        let place = match place_in(alloc, files, view, entry) {
-            Ok(place) => place,
+        let target = match target_in(alloc, files, view, entry) {
+            Ok(target) => target,
             Err(stop) => return Err(stop),
         };
-        let target = place.target();
-        match meet(view, memo, (id, number), target.id, is_opened(&target)) {
+        match meet(view, memo, (id, number), target.id(), is_opened(&target)) {
             Ok(()) => {}
             Err(stop) => return Err(stop),
         }
@@ -139,7 +138,7 @@ fn enter(
     view: &View,
     memo: &mut BTreeMap<u64, (u64, usize)>,
     id: u64,
-) -> Result<Vec<Target>, Stop<PathStop>>
+) -> Result<Vec<KeptTarget>, Stop<PathStop>>
     ensures no_read { IsErrOf result ReadFault → ⊥ }
     ensures gives { (facts : Facts) (path : List ℕ) (first : ℕ) → IsUnderway facts path first files.now.entries.items files.now.inodes.items → IsEntered facts first id → IsMemo facts path memo.old → IfOk result (λ targets. targets.items ≡ map target_of (children facts id)) }
     ensures kept { (facts : Facts) (path : List ℕ) (first : ℕ) → IsUnderway facts path first files.now.entries.items files.now.inodes.items → IsEntered facts first id → IsMemo facts path memo.old → OnOk result (IsMemo facts path memo.new) }
@@ -150,12 +149,16 @@ fn enter(
         Ok(targets) => targets,
         Err(stop) => return Err(stop),
     };
-    let sorted = by_name(targets)?;
+    let sorted = kept_by_name(targets)?;
     Ok(sorted)
 }
 
 // Puts targets on the rows that are left, the first of them on top.
-fn put_on(shared: usize, targets: Vec<Target>, left: &mut Vec<Row>) -> Result<(), Stop<PathStop>>
+fn put_on(
+    shared: usize,
+    targets: Vec<KeptTarget>,
+    left: &mut Vec<Row>,
+) -> Result<(), Stop<PathStop>>
     ensures no_read { IsErrOf result ReadFault → ⊥ }
     ensures put { OnOk result (reverse left.new.items ≡ map (row_at shared) targets.items ++ reverse left.old.items) }
     ensures memory { IfErr result (λ stop. stop ≡ stops.NoMemory) }
@@ -190,7 +193,7 @@ fn go_under(
     files: &Files,
     view: &View,
     memo: &mut BTreeMap<u64, (u64, usize)>,
-    target: &Target,
+    target: &KeptTarget,
     shared: usize,
     left: &mut Vec<Row>,
 ) -> Result<(), Stop<PathStop>>
@@ -203,7 +206,7 @@ fn go_under(
     if !is_opened(target) {
         return Ok(());
     }
-    let targets = match enter(alloc, files, view, memo, target.id) {
+    let targets = match enter(alloc, files, view, memo, target.id()) {
         Ok(targets) => targets,
         Err(stop) => return Err(stop),
     };

@@ -2,7 +2,7 @@ use Rattle.std.proofs.Common.{rules, of_calls}
 use Rattle.std.specs.Prelude.{nat_lt}
 use Rattle.std.proofs.lemmas.List.Sorted.{IsPartitionPoint-from_clause}
 use Rattle.path_walk.proofs.Rising.{below_partitioned}
-use Rattle.path_walk.proofs.files.inodes_below.Goals as goal
+use Rattle.path_walk.proofs.files.searched.Goals as goal
 
 pub returns-clause-split : goal.returns-clause-split
 returns-clause-split c rises =
