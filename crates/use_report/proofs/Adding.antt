@@ -1,4 +1,4 @@
--- Sets to which blocks are added: one, those of a hole or of an extent, and those of each of some items.
+-- Pieces to which blocks are added: one, those of a hole or of an extent, and those of each of some items.
 use Rattle.std.proofs.Common.{◌≡◌, ℕ, ◌+◌, ◌<◌, ◌≤◌, true, false, ◌==◌, List, length, take, get_or, Option, Some, None, ◌⊎◌, inl, inr, refl, ap, sym, ◌∙◌, subst, arith}
 use Rattle.std.specs.Prelude.{◌↔◌}
 use Rattle.std.proofs.lemmas.List.{take_all}
@@ -8,12 +8,11 @@ use Rattle.apfs_model.proofs.BoolTests.{clash}
 use Rattle.obj_base.specs.declared.site.Site.{Site}
 use Rattle.fs_record.specs.StreamExtents.{extent_blocks, is_hole}
 use Rattle.fs_record.specs.declared.extents.FileExt.{FileExt}
-use Rattle.own_ledger.specs.Held.{HeldBlocks, AddsWithin}
-use Rattle.own_ledger.proofs.MarkLemmas.{in-above, in-below, in-from}
 use Rattle.use_report.specs.Counted.{Grows}
 use Rattle.use_report.specs.Files.{IsOfExtent}
+use Rattle.use_report.specs.declared.pieces.Pieces.{Pieces}
 use Rattle.use_report.proofs.Lists.{one-some, no-some, none-taken, taken-more}
-use Rattle.use_report.proofs.Sets.{grows-none, grows-range, grows-then, grows-same}
+use Rattle.use_report.proofs.Sets.{in-above, in-below, in-from, grows-none, grows-then, grows-same}
 
 -- ---- one block
 block-is : (block b : ℕ) → (is_in b block 1 ≡ true) ↔ (b ≡ block)
@@ -23,33 +22,33 @@ block-is block b = (
 )
 
 -- a block was added
-pub grows-one : (old new : HeldBlocks) (block : ℕ) → AddsWithin old new block 1 → Grows old new (λ b. b ≡ block)
-grows-one old new block a = grows-same old new (λ b. is_in b block 1 ≡ true) (λ b. b ≡ block) (block-is block) (grows-range old new block 1 a)
+pub grows-one : (old new : Pieces) (block : ℕ) → Grows old new (λ b. is_in b block 1 ≡ true) → Grows old new (λ b. b ≡ block)
+grows-one old new block a = grows-same old new (λ b. is_in b block 1 ≡ true) (λ b. b ≡ block) (block-is block) a
 
 -- the block of a look-up was added, where it gave one
-pub grows-some : (old new : HeldBlocks) (o : Option ℕ) (block : ℕ) → o ≡ Some block → AddsWithin old new block 1 → Grows old new (λ b. o ≡ Some b)
+pub grows-some : (old new : Pieces) (o : Option ℕ) (block : ℕ) → o ≡ Some block → Grows old new (λ b. is_in b block 1 ≡ true) → Grows old new (λ b. o ≡ Some b)
 grows-some old new o block e a =
     grows-same old new (λ b. b ≡ block) (λ b. o ≡ Some b) (λ b. ((λ s. e ∙ ap Some (sym s)), (λ s. one-some b block (sym s ∙ e)))) (grows-one old new block a)
 
-pub grows-missing : (set : HeldBlocks) (o : Option ℕ) → o ≡ None → Grows set set (λ b. o ≡ Some b)
+pub grows-missing : (set : Pieces) (o : Option ℕ) → o ≡ None → Grows set set (λ b. o ≡ Some b)
 grows-missing set o e = grows-none set (λ b. o ≡ Some b) (λ b s. no-some b (sym e ∙ s))
 
 -- what an id names was added, where the id isn't 0
-pub grows-if : (old new : HeldBlocks) (id : ℕ) (P : ℕ → Type 0) → (id == 0) ≡ false → Grows old new P → Grows old new (λ b. ((id == 0) ≡ false) × P b)
+pub grows-if : (old new : Pieces) (id : ℕ) (P : ℕ → Type 0) → (id == 0) ≡ false → Grows old new P → Grows old new (λ b. ((id == 0) ≡ false) × P b)
 grows-if old new id P some g = grows-same old new P (λ b. ((id == 0) ≡ false) × P b) (λ b. ((λ p. (some, p)), (λ t. t.1))) g
 
-pub grows-unless : (set : HeldBlocks) (id : ℕ) (P : ℕ → Type 0) → (id == 0) ≡ true → Grows set set (λ b. ((id == 0) ≡ false) × P b)
+pub grows-unless : (set : Pieces) (id : ℕ) (P : ℕ → Type 0) → (id == 0) ≡ true → Grows set set (λ b. ((id == 0) ≡ false) × P b)
 grows-unless set id P none = grows-none set (λ b. ((id == 0) ≡ false) × P b) (λ b t. clash (id == 0) none t.0)
 
 -- ---- an extent
-pub grows-extent : (site : Site) (e : FileExt) (old new : HeldBlocks) (n : ℕ) → is_hole e ≡ false → n ≡ extent_blocks site.block_size e → AddsWithin old new e.block n → Grows old new (IsOfExtent site e)
+pub grows-extent : (site : Site) (e : FileExt) (old new : Pieces) (n : ℕ) → is_hole e ≡ false → n ≡ extent_blocks site.block_size e → Grows old new (λ b. is_in b e.block n ≡ true) → Grows old new (IsOfExtent site e)
 grows-extent site e old new n some many a =
     grows-same old new (λ b. is_in b e.block n ≡ true) (IsOfExtent site e) (λ b. (
       (λ h. (some, subst (λ k. is_in b e.block k ≡ true) many h)),
       (λ t. subst (λ k. is_in b e.block k ≡ true) (sym many) t.1),
-    )) (grows-range old new e.block n a)
+    )) a
 
-pub grows-hole : (site : Site) (e : FileExt) (set : HeldBlocks) → is_hole e ≡ true → Grows set set (IsOfExtent site e)
+pub grows-hole : (site : Site) (e : FileExt) (set : Pieces) → is_hole e ≡ true → Grows set set (IsOfExtent site e)
 grows-hole site e set none = grows-none set (IsOfExtent site e) (λ b t. clash (is_hole e) none t.0)
 
 -- ---- the blocks of each of some items
@@ -57,7 +56,7 @@ grows-hole site e set none = grows-none set (IsOfExtent site e) (λ b t. clash (
 abbrev pub IsOfOne : {X : Type 0} → (X → ℕ → Type 0) → List X → ℕ → Type 0
 IsOfOne {X} P items block = (x : X) × In x items × P x block
 
-pub grows-first : {X : Type 0} (P : X → ℕ → Type 0) (xs : List X) (set : HeldBlocks) → Grows set set (IsOfOne P (take 0 xs))
+pub grows-first : {X : Type 0} (P : X → ℕ → Type 0) (xs : List X) (set : Pieces) → Grows set set (IsOfOne P (take 0 xs))
 grows-first P xs set = grows-none set (IsOfOne P (take 0 xs)) (λ block o. none-taken xs o.0 o.1)
 
 one-more : {X : Type 0} (P : X → ℕ → Type 0) (xs : List X) (i : ℕ) (d : X) (block : ℕ) → i < length xs → (IsOfOne P (take i xs) block ⊎ P (get_or xs i d) block) ↔ IsOfOne P (take (i + 1) xs) block
@@ -73,16 +72,16 @@ one-more P xs i d block low =
       ]),
     )
 
-pub grows-next : {X : Type 0} (P : X → ℕ → Type 0) (xs : List X) (i : ℕ) (d : X) (a b c : HeldBlocks) → i < length xs → Grows a b (IsOfOne P (take i xs)) → Grows b c (P (get_or xs i d)) → Grows a c (IsOfOne P (take (i + 1) xs))
+pub grows-next : {X : Type 0} (P : X → ℕ → Type 0) (xs : List X) (i : ℕ) (d : X) (a b c : Pieces) → i < length xs → Grows a b (IsOfOne P (take i xs)) → Grows b c (P (get_or xs i d)) → Grows a c (IsOfOne P (take (i + 1) xs))
 grows-next P xs i d a b c low g h =
     grows-same a c (λ block. IsOfOne P (take i xs) block ⊎ P (get_or xs i d) block) (IsOfOne P (take (i + 1) xs)) (λ block. one-more P xs i d block low)
     (grows-then a b c (IsOfOne P (take i xs)) (P (get_or xs i d)) g h)
 
-pub grows-last : {X : Type 0} (P : X → ℕ → Type 0) (xs : List X) (i : ℕ) (a b : HeldBlocks) → length xs ≤ i → Grows a b (IsOfOne P (take i xs)) → Grows a b (IsOfOne P xs)
+pub grows-last : {X : Type 0} (P : X → ℕ → Type 0) (xs : List X) (i : ℕ) (a b : Pieces) → length xs ≤ i → Grows a b (IsOfOne P (take i xs)) → Grows a b (IsOfOne P xs)
 grows-last {X} P xs i a b high g = subst (λ (ys : List X). Grows a b (IsOfOne P ys)) (take_all i xs high) g
 
 -- the blocks of a list
-pub grows-listed : (blocks : List ℕ) (a b : HeldBlocks) → Grows a b (IsOfOne (λ (block : ℕ) (x : ℕ). x ≡ block) blocks) → Grows a b (λ x. In x blocks)
+pub grows-listed : (blocks : List ℕ) (a b : Pieces) → Grows a b (IsOfOne (λ (block : ℕ) (x : ℕ). x ≡ block) blocks) → Grows a b (λ x. In x blocks)
 grows-listed blocks a b g = grows-same a b (IsOfOne (λ (block : ℕ) (x : ℕ). x ≡ block) blocks) (λ x. In x blocks) (λ x. (
   (λ o. subst (λ y. In y blocks) (sym o.2) o.1),
   (λ h. (x, h, refl)),

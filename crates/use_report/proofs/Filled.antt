@@ -1,4 +1,4 @@
--- What was added to the set of a view's blocks, call by call.
+-- What was added to the pieces of a view's blocks, call by call.
 use Rattle.std.proofs.Common.{◌≡◌, ℕ, true, List, ◌∷◌, Some, ◌⊎◌, inl, inr, refl, sym, subst}
 use Rattle.std.specs.Prelude.{◌↔◌}
 use Rattle.apfs_model.specs.Lists.{In}
@@ -9,13 +9,13 @@ use Rattle.vol_view.specs.Volumes.{Loaded}
 use Rattle.vol_view.specs.Views.{view_named}
 use Rattle.vol_view.specs.declared.volume.View.{View}
 use Rattle.ext_ref.specs.Ranges.{node_blocks_of}
-use Rattle.own_ledger.specs.Held.{HeldBlocks, IsEmpty}
 use Rattle.use_report.specs.Counted.{Grows}
 use Rattle.use_report.specs.Files.{AreOfView, IsNamedBlock, IsCoveredBlock, IsMetadataBlock}
-use Rattle.use_report.specs.Holding.{IsFilesBlock, AddsFiles, AddsReferences, IsWalked, IsHoldingOf}
+use Rattle.use_report.specs.Holding.{IsFilesBlock, AddsFiles, AddsReferences, IsHoldingOf}
 use Rattle.use_report.specs.declared.files.Files.{Files}
 use Rattle.use_report.specs.declared.kept.KeptView.{KeptView}
-use Rattle.use_report.proofs.Sets.{grows-then, grows-same, grows-empty}
+use Rattle.use_report.specs.declared.pieces.Pieces.{Pieces}
+use Rattle.use_report.proofs.Sets.{grows-then, grows-same}
 
 -- the block of the root, or of a node below it
 root-or : (site : Site) (volume : Loaded) (view : View) (root : ℕ) (below : List ℕ) (block : ℕ) → ((view_named site volume view root ≡ Some block) ⊎ IsNamedBlock site volume view below block) ↔ IsNamedBlock site volume view (root ∷ below) block
@@ -29,7 +29,7 @@ root-or site volume view root below block =
     )
 
 -- the root's block, those of the nodes below, and those of the extents
-pub files-added : (image : List ℕ) (site : Site) (volume : Loaded) (view : View) (files : Files) (below : List ℕ) (extents : List FileExt) (a b c d : HeldBlocks) → AreOfView image site volume view files →
+pub files-added : (image : List ℕ) (site : Site) (volume : Loaded) (view : View) (files : Files) (below : List ℕ) (extents : List FileExt) (a b c d : Pieces) → AreOfView image site volume view files →
     Grows a b (λ block. view_named site volume view view.root_oid ≡ Some block) → Grows b c (IsNamedBlock site volume view below) → Grows c d (IsCoveredBlock site extents) → ((e : FileExt) → In e extents → is_extent_placed site.block_size site.blocks e ≡ true) →
     below ≡ files.below.items → extents ≡ files.extents.items → AddsFiles image site volume view a d
 files-added image site volume view files below extents a b c d those root nodes covered inside s t =
@@ -45,9 +45,9 @@ files-added image site volume view files below extents a b c d those root nodes 
     }
 
 -- the blocks of the files, of the extent references, of the extended metadata, and of a snapshot's superblock
-pub view-held : (image : List ℕ) (site : Site) (volume : Loaded) (kept : KeptView) (e a b c d : HeldBlocks) → IsEmpty e 0 site.blocks → AddsFiles image site volume kept.view e a → AddsReferences image site kept a b →
-    Grows b c (IsMetadataBlock site volume kept) → Grows c d (λ block. kept.super_block ≡ Some block) → IsHoldingOf image site volume kept d
-view-held image site volume kept e a b c d empty files references metadata superblock =
+pub view-held : (image : List ℕ) (site : Site) (volume : Loaded) (kept : KeptView) (e a b c d : Pieces) → AddsFiles image site volume kept.view e a → AddsReferences image site kept a b →
+    Grows b c (IsMetadataBlock site volume kept) → Grows c d (λ block. kept.super_block ≡ Some block) → IsHoldingOf image site volume kept e d
+view-held image site volume kept e a b c d files references metadata superblock =
     let Super : ℕ → Type 0 = λ block. kept.super_block ≡ Some block in
     let Metadata : ℕ → Type 0 = IsMetadataBlock site volume kept in
     let Nodes : ℕ → Type 0 = λ block. In block (node_blocks_of image site kept.extents_root) in
@@ -57,8 +57,7 @@ view-held image site volume kept e a b c d empty files references metadata super
       those = files.those;
       right = references.0;
       placed = files.placed;
-      has = grows-empty site.blocks e d (IsWalked image site volume kept files.files) empty
-          (grows-then e a d OfFiles (λ block. Nodes block ⊎ (Metadata block ⊎ Super block)) files.grows
+      grows = grows-then e a d OfFiles (λ block. Nodes block ⊎ (Metadata block ⊎ Super block)) files.grows
           (grows-then a b d Nodes (λ block. Metadata block ⊎ Super block) references.1
-          (grows-then b c d Metadata Super metadata superblock)));
+          (grows-then b c d Metadata Super metadata superblock));
     }

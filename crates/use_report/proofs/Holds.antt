@@ -1,5 +1,5 @@
--- The set of the blocks that a walk over a view finds is that of the blocks that the view holds.
-use Rattle.std.proofs.Common.{◌≡◌, ℕ, ◌+◌, ◌<◌, Bool, true, false, ◌&&◌, ◌==◌, nat_lt, nat_le, List, [], ◌∷◌, map, Option, Some, None, is_ok, inl, inr, refl, ap, sym, ◌∙◌, subst, arith, if◌then◌else◌}
+-- The blocks that a walk over a view finds are those that the view holds.
+use Rattle.std.proofs.Common.{◌≡◌, ℕ, ◌+◌, ◌^◌, ◌<◌, Bool, true, false, ◌&&◌, ◌==◌, nat_lt, nat_le, List, [], ◌∷◌, map, Option, Some, None, is_ok, inl, inr, refl, ap, sym, ◌∙◌, subst, arith, if◌then◌else◌}
 use Rattle.std.specs.Prelude.{◌↔◌, option_and_then}
 use Rattle.apfs_model.specs.Blocks.{in_container, is_in, is_inside}
 use Rattle.apfs_model.specs.Lists.{In}
@@ -19,17 +19,15 @@ use Rattle.vol_view.specs.SnapRecords.{snapshot_pairs, snap_super_of}
 use Rattle.vol_view.specs.Volumes.{Loaded, metadata_of, snapshot_in, loaded_of}
 use Rattle.vol_view.specs.declared.volume.Snapshot.{Snapshot}
 use Rattle.ext_ref.specs.Ranges.{ext_tree, node_blocks_of}
-use Rattle.own_ledger.specs.Held.{HeldBlocks}
-use Rattle.own_ledger.proofs.MarkLemmas.{in-below}
 use Rattle.view_rules.specs.Rules.{view_facts}
 use Rattle.use_report.specs.Counted.{HasExactly}
 use Rattle.use_report.specs.Files.{IsOfExtent, IsCoveredBlock}
 use Rattle.use_report.specs.Given.{IsGiven}
 use Rattle.use_report.specs.Held.{IsExtentHeld, IsHeld}
-use Rattle.use_report.specs.Holding.{IsWalked, IsHoldingOf}
+use Rattle.use_report.specs.Holding.{IsWalked, IsWalkedSet}
 use Rattle.use_report.specs.Views.{views_kept}
 use Rattle.use_report.specs.declared.kept.KeptView.{KeptView}
-use Rattle.use_report.proofs.Sets.{has-exactly}
+use Rattle.use_report.proofs.Sets.{in-below}
 use Rattle.use_report.proofs.Viewed.{past-at}
 use Rattle.use_report.proofs.Walked.{and-inside, named-inside, record-walked}
 
@@ -109,9 +107,9 @@ covered-held image seen volume kept extents block same =
       (λ h. (h.extent.what, subst (λ (xs : List FileExt). In h.extent.what xs) (sym same) (in-map what facts h.extent h.one), (h.no_hole, h.covers))),
     )
 
-pub walked-held : (image : List ℕ) (seen : Seen) (volume : Loaded) → IsGiven image seen volume → (kept : KeptView) → In kept (views_kept volume seen) → (set : HeldBlocks) → (h : IsHoldingOf image (site_of seen) volume kept set) → (block : ℕ) →
+pub walked-held : (image : List ℕ) (seen : Seen) (volume : Loaded) → IsGiven image seen volume → (kept : KeptView) → In kept (views_kept volume seen) → (test : ℕ → Bool) → (h : IsWalkedSet image (site_of seen) volume kept test) → (block : ℕ) →
     IsWalked image (site_of seen) volume kept h.files block ↔ IsHeld image seen volume kept block
-walked-held image seen volume given kept one set h block =
+walked-held image seen volume given kept one test h block =
     let site : Site = site_of seen in
     let oids : List ℕ = kept.view.root_oid ∷ h.files.below.items in
     let r = record-walked image seen volume kept oids block given one h.those.walkable h.those.nodes in
@@ -134,9 +132,9 @@ walked-held image seen volume given kept one set h block =
       ]),
     )
 
-walked-in : (image : List ℕ) (seen : Seen) (volume : Loaded) → IsGiven image seen volume → (kept : KeptView) → In kept (views_kept volume seen) → (set : HeldBlocks) → (h : IsHoldingOf image (site_of seen) volume kept set) → (block : ℕ) →
+walked-in : (image : List ℕ) (seen : Seen) (volume : Loaded) → IsGiven image seen volume → (kept : KeptView) → In kept (views_kept volume seen) → (test : ℕ → Bool) → (h : IsWalkedSet image (site_of seen) volume kept test) → (block : ℕ) →
     IsWalked image (site_of seen) volume kept h.files block → is_in block 0 (site_of seen).blocks ≡ true
-walked-in image seen volume given kept one set h block w =
+walked-in image seen volume given kept one test h block w =
     let site : Site = site_of seen in
     let In_it : Type 0 = is_in block 0 site.blocks ≡ true in
     elim w as (λ _. In_it) [
@@ -153,13 +151,15 @@ walked-in image seen volume given kept one set h block w =
       ]
     ]
 
--- the set that is made of a view has exactly the blocks that the view holds
-pub holding-exact : (image : List ℕ) (seen : Seen) (volume : Loaded) → IsGiven image seen volume → (kept : KeptView) → In kept (views_kept volume seen) → (set : HeldBlocks) → IsHoldingOf image (site_of seen) volume kept set → HasExactly (site_of seen).blocks (IsHeld image seen volume kept) set
-holding-exact image seen volume given kept one set h =
-    let x = has-exactly (site_of seen).blocks (IsWalked image (site_of seen) volume kept h.files) set (walked-in image seen volume given kept one set h) h.has in
-    record {
-      of = x.of;
-      held = λ block.
-          let s = walked-held image seen volume given kept one set h block in
-          ((λ e. s.0 ((x.held block).0 e)), (λ p. (x.held block).1 (s.1 p)));
-    }
+-- the blocks that are found in a walk over a view are exactly those that the view holds
+pub holding-exact : (image : List ℕ) (seen : Seen) (volume : Loaded) → IsGiven image seen volume → (site_of seen).blocks < 2 ^ 64 → (kept : KeptView) → In kept (views_kept volume seen) → (test : ℕ → Bool) → IsWalkedSet image (site_of seen) volume kept test → HasExactly (site_of seen).blocks (IsHeld image seen volume kept) test
+holding-exact image seen volume given few kept one test h = record {
+  inside = λ block held.
+      let s = walked-held image seen volume given kept one test h block in
+      let low = in-below block 0 (site_of seen).blocks (walked-in image seen volume given kept one test h block (s.1 held)) in
+      omega (arith, low);
+  held = λ block low.
+      let s = walked-held image seen volume given kept one test h block in
+      let x = h.has block (omega (arith, low, few)) in
+      ((λ e. s.0 (x.0 e)), (λ p. x.1 (s.1 p)));
+}

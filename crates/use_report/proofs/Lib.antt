@@ -7,7 +7,6 @@ pub mod Viewed
 pub mod Walked
 pub mod Sets
 pub mod Adding
-pub mod Unions
 pub mod Filled
 pub mod Holds
 pub mod Told

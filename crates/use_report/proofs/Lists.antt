@@ -12,25 +12,17 @@ one-some a b e = cc
 pub no-some : {X T : Type 0} (a : X) → ◌≡◌ {A = Option X} None (Some a) → T
 no-some a e = absurd (let q : ⊥ = cc in q)
 
--- two lists of one length have items in the same places
-pub other-at : {X Y : Type 0} (xs : List X) (ys : List Y) (i : ℕ) (x : X) → length ys ≡ length xs → slice_get xs i ≡ Some x → (y : Y) × (slice_get ys i ≡ Some y)
-other-at [] ys i x long e = no-some x e
-other-at (a ∷ xs) [] i x long e = absurd (let q : ⊥ = omega (arith, long) in q)
-other-at (a ∷ xs) (b ∷ ys) zero x long e = (b, refl)
-other-at (a ∷ xs) (b ∷ ys) (suc i) x long e = other-at xs ys i x (omega (arith, long)) e
+-- a place below its length has an item
+pub get-there : {X : Type 0} (xs : List X) (i : ℕ) → i < length xs → (x : X) × (slice_get xs i ≡ Some x)
+get-there [] i low = absurd (let q : ⊥ = omega (arith, low) in q)
+get-there (x ∷ xs) zero low = (x, refl)
+get-there (x ∷ xs) (suc i) low = get-there xs i (omega (arith, low))
 
 -- a place of a list lies below its length
 pub below-length : {X : Type 0} (xs : List X) (i : ℕ) (x : X) → slice_get xs i ≡ Some x → i < length xs
 below-length [] i x e = no-some x e
 below-length (a ∷ xs) zero x e = omega arith
 below-length (a ∷ xs) (suc i) x e = let low = below-length xs i x e in omega (arith, low)
-
--- what stands in a place of a list with one more item stood there before, or is the new item
-pub pushed : {X : Type 0} (xs : List X) (x : X) (i : ℕ) (y : X) → slice_get (xs ++ x ∷ []) i ≡ Some y → (slice_get xs i ≡ Some y) ⊎ ((i ≡ length xs) × (y ≡ x))
-pushed [] x zero y e = inr (refl, sym (one-some x y e))
-pushed [] x (suc i) y e = no-some y e
-pushed (z ∷ zs) x zero y e = inl e
-pushed (z ∷ zs) x (suc i) y e = elim (pushed zs x i y e) as (λ _. (slice_get (z ∷ zs) (suc i) ≡ Some y) ⊎ ((suc i ≡ length (z ∷ zs)) × (y ≡ x))) [ inl s ↦ inl s | inr t ↦ inr (ap suc t.0, t.1) ]
 
 -- what stood there still does, and the new item stands behind
 pub push-before : {X : Type 0} (xs : List X) (x : X) (i : ℕ) (y : X) → slice_get xs i ≡ Some y → slice_get (xs ++ x ∷ []) i ≡ Some y

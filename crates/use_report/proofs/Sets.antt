@@ -1,112 +1,123 @@
--- Sets of blocks: how they grow, and how many blocks they have.
-use Rattle.std.proofs.Common.{◌≡◌, ℕ, ◌+◌, ◌-◌, ◌^◌, ◌<◌, ◌≤◌, Bool, true, false, not, cond, ◌&&◌, ◌||◌, List, [], ◌∷◌, length, ◌⊎◌, inl, inr, refl, ap, ap₂, sym, ◌∙◌, subst, arith}
-use Rattle.std.specs.Prelude.{◌↔◌, filter, count_by, slice_index_or}
+-- Pieces of blocks: how they grow, and how many blocks pass a test.
+use Rattle.std.proofs.Common.{◌≡◌, ℕ, ◌+◌, ◌-◌, ◌^◌, ◌<◌, ◌≤◌, Bool, true, false, ◌||◌, nat_le, nat_lt, min, List, [], ◌∷◌, ◌++◌, length, ◌⊎◌, inl, inr, refl, ap, ap₂, sym, ◌∙◌, subst, arith}
+use Rattle.std.specs.Prelude.{◌↔◌, filter, count_by}
 use Rattle.std.specs.List.{range_with_len}
-use Rattle.std.proofs.lemmas.List.Sums.{length-filter, sum_by-cons}
+use Rattle.std.proofs.lemmas.List.Sums.{length-filter}
+use Rattle.std.proofs.lemmas.List.Folds.{list_any-append}
 use Rattle.apfs_model.specs.Blocks.{is_in}
-use Rattle.apfs_model.proofs.BoolTests.{left-true, left-or, right-or, either-from, in-range, clash}
-use Rattle.apfs_model.proofs.Searches.{in-filter, filter-test}
+use Rattle.apfs_model.proofs.BoolTests.{left-true, right-true, both-true, left-or, right-or, either-from, in-range, from-range, upto-from, below-from, from-upto, from-below}
+use Rattle.apfs_model.proofs.Searches.{in-filter, filter-test, from-filter}
 use Rattle.apfs_model.proofs.Finite.{apart-range, apart-filter}
-use Rattle.own_ledger.specs.Held.{HeldBlocks, holds, held_count, IsEmpty, AddsWithin}
-use Rattle.own_ledger.proofs.MarkLemmas.{count_bound, in-below}
+use Rattle.piece_count.specs.Covered.{is_from, covers, is_covered, count_below}
+use Rattle.piece_count.specs.declared.piece.Piece.{Piece}
+use Rattle.piece_count.proofs.Numbers.{count-bound, from-low, from-high, from-is}
 use Rattle.reach_rules.specs.Tally.{IsNumberOf}
-use Rattle.use_report.specs.Counted.{Grows, HasExactly, HasWithin, IsWithin, only_count}
+use Rattle.use_report.specs.Counted.{Grows, HasExactly}
+use Rattle.use_report.specs.declared.pieces.Pieces.{Pieces}
 
--- ---- how sets grow
+-- ---- blocks of ranges
+pub in-above : (block first length : ℕ) → is_in block first length ≡ true → first ≤ block
+in-above block first length e = upto-from first block (left-true (nat_le first block) (nat_lt block (first + length)) e)
+
+pub in-below : (block first length : ℕ) → is_in block first length ≡ true → block < first + length
+in-below block first length e = below-from block (first + length) (right-true (nat_le first block) (nat_lt block (first + length)) e)
+
+pub in-from : (block first length : ℕ) → first ≤ block → block < first + length → is_in block first length ≡ true
+in-from block first length above below = both-true (nat_le first block) (nat_lt block (first + length)) (from-upto first block above) (from-below block (first + length) below)
+
+-- ---- how pieces grow
 -- nothing is added where nothing is to be
-pub grows-none : (set : HeldBlocks) (P : ℕ → Type 0) → ((block : ℕ) → P block → ⊥) → Grows set set P
+pub grows-none : (set : Pieces) (P : ℕ → Type 0) → ((block : ℕ) → P block → ⊥) → Grows set set P
 grows-none set P none = record {
-  same_first = refl;
-  same_blocks = refl;
-  held = λ block one. ((λ e. inl e), (λ t. elim t as (λ _. holds set block ≡ true) [ inl e ↦ e | inr p ↦ absurd (none block p) ]));
+  same_from = refl;
+  same_to = refl;
+  held = λ view block low. ((λ e. inl e), (λ t. elim t as (λ _. is_covered set.all.items view block ≡ true) [ inl e ↦ e | inr p ↦ absurd (none block p.1) ]));
 }
 
--- a range was added
-pub grows-range : (old new : HeldBlocks) (first length : ℕ) → AddsWithin old new first length → Grows old new (λ block. is_in block first length ≡ true)
-grows-range old new first length a = record {
-  same_first = a.same_first;
-  same_blocks = a.same_blocks;
-  held = λ block one. (
-    (λ e. either-from (holds old block) (is_in block first length) (sym (a.held block one) ∙ e)),
-    (λ t. a.held block one ∙ elim t as (λ _. (holds old block || is_in block first length) ≡ true) [ inl e ↦ left-or (holds old block) (is_in block first length) e | inr e ↦ right-or (holds old block) (is_in block first length) e ]),
-  );
-}
+-- one piece more
+pub covered-more : (pieces : List Piece) (piece : Piece) (view block : ℕ) → is_covered (pieces ++ piece ∷ []) view block ≡ (is_covered pieces view block || covers piece view block)
+unfolding is_covered
+covered-more pieces piece view block =
+    let last : (b : Bool) → (b || false) ≡ b = λ b. elim b as (λ b. (b || false) ≡ b) [ true ↦ refl | false ↦ refl ] in
+    list_any-append (λ (p : Piece). covers p view block) pieces (piece ∷ []) ∙ ap (λ b. is_covered pieces view block || b) (last (covers piece view block))
+
+pub grows-range : (old new : Pieces) (first length end : ℕ) → end ≡ min (first + length) (2 ^ 64 - 1) → new.from ≡ old.from → new.to ≡ old.to → new.all.items ≡ old.all.items ++ record { first = first; end = end; from = old.from; to = old.to } ∷ [] →
+    Grows old new (λ block. is_in block first length ≡ true)
+grows-range old new first length end end_is from to items =
+    let piece : Piece = record { first = first; end = end; from = old.from; to = old.to } in
+    record {
+      same_from = from;
+      same_to = to;
+      held = λ view block low.
+          let is : is_covered new.all.items view block ≡ (is_covered old.all.items view block || covers piece view block) = ap (λ (ps : List Piece). is_covered ps view block) items ∙ covered-more old.all.items piece view block in
+          let Now : Type 0 = (is_covered old.all.items view block ≡ true) ⊎ ((is_from old.from old.to view ≡ true) × (is_in block first length ≡ true)) in (
+            (λ e. elim (either-from (is_covered old.all.items view block) (covers piece view block) (sym is ∙ e)) as (λ _. Now) [
+              | inl o ↦ inl o
+              | inr n ↦
+                  let there = right-true (is_from old.from old.to view) (is_from first end block) n in
+                  let above = from-low first end block there in
+                  let below = from-high first end block there in
+                  inr (left-true (is_from old.from old.to view) (is_from first end block) n, in-from block first length above (omega (arith, below, end_is)))
+            ]),
+            (λ t. is ∙ elim t as (λ _. (is_covered old.all.items view block || covers piece view block) ≡ true) [
+              | inl o ↦ left-or (is_covered old.all.items view block) (covers piece view block) o
+              | inr n ↦
+                  let above = in-above block first length n.1 in
+                  let below = in-below block first length n.1 in
+                  right-or (is_covered old.all.items view block) (covers piece view block) (both-true (is_from old.from old.to view) (is_from first end block) n.0 (from-is first end block above (omega (arith, below, end_is, low))))
+            ]),
+          );
+    }
 
 -- one after the other
-pub grows-then : (a b c : HeldBlocks) (P Q : ℕ → Type 0) → Grows a b P → Grows b c Q → Grows a c (λ block. P block ⊎ Q block)
+pub grows-then : (a b c : Pieces) (P Q : ℕ → Type 0) → Grows a b P → Grows b c Q → Grows a c (λ block. P block ⊎ Q block)
 grows-then a b c P Q g h = record {
-  same_first = h.same_first ∙ g.same_first;
-  same_blocks = h.same_blocks ∙ g.same_blocks;
-  held = λ block one.
-      let there : is_in block b.first b.blocks ≡ true = ap₂ (is_in block) g.same_first g.same_blocks ∙ one in
-      let x = g.held block one in
-      let y = h.held block there in
-      let Goal : Type 0 = (holds a block ≡ true) ⊎ (P block ⊎ Q block) in (
+  same_from = h.same_from ∙ g.same_from;
+  same_to = h.same_to ∙ g.same_to;
+  held = λ view block low.
+      let range : is_from b.from b.to view ≡ is_from a.from a.to view = ap₂ (λ (k m : ℕ). is_from k m view) g.same_from g.same_to in
+      let x = g.held view block low in
+      let y = h.held view block low in
+      let Goal : Type 0 = (is_covered a.all.items view block ≡ true) ⊎ ((is_from a.from a.to view ≡ true) × (P block ⊎ Q block)) in (
         (λ e. elim (y.0 e) as (λ _. Goal) [
-          | inl k ↦ elim (x.0 k) as (λ _. Goal) [ inl l ↦ inl l | inr p ↦ inr (inl p) ]
-          | inr q ↦ inr (inr q)
+          | inl k ↦ elim (x.0 k) as (λ _. Goal) [ inl l ↦ inl l | inr p ↦ inr (p.0, inl p.1) ]
+          | inr q ↦ inr (sym range ∙ q.0, inr q.1)
         ]),
-        (λ t. elim t as (λ _. holds c block ≡ true) [
+        (λ t. elim t as (λ _. is_covered c.all.items view block ≡ true) [
           | inl l ↦ y.1 (inl (x.1 (inl l)))
-          | inr pq ↦ elim pq as (λ _. holds c block ≡ true) [ inl p ↦ y.1 (inl (x.1 (inr p))) | inr q ↦ y.1 (inr q) ]
+          | inr pq ↦ elim pq.1 as (λ _. is_covered c.all.items view block ≡ true) [ inl p ↦ y.1 (inl (x.1 (inr (pq.0, p)))) | inr q ↦ y.1 (inr (range ∙ pq.0, q)) ]
         ]),
       );
 }
 
 -- the same blocks by another fact
-pub grows-same : (old new : HeldBlocks) (P Q : ℕ → Type 0) → ((block : ℕ) → P block ↔ Q block) → Grows old new P → Grows old new Q
+pub grows-same : (old new : Pieces) (P Q : ℕ → Type 0) → ((block : ℕ) → P block ↔ Q block) → Grows old new P → Grows old new Q
 grows-same old new P Q s g = record {
-  same_first = g.same_first;
-  same_blocks = g.same_blocks;
-  held = λ block one.
-      let x = g.held block one in (
-        (λ e. elim (x.0 e) as (λ _. (holds old block ≡ true) ⊎ Q block) [ inl l ↦ inl l | inr p ↦ inr ((s block).0 p) ]),
-        (λ t. elim t as (λ _. holds new block ≡ true) [ inl l ↦ x.1 (inl l) | inr q ↦ x.1 (inr ((s block).1 q)) ]),
+  same_from = g.same_from;
+  same_to = g.same_to;
+  held = λ view block low.
+      let x = g.held view block low in (
+        (λ e. elim (x.0 e) as (λ _. (is_covered old.all.items view block ≡ true) ⊎ ((is_from old.from old.to view ≡ true) × Q block)) [ inl l ↦ inl l | inr p ↦ inr (p.0, (s block).0 p.1) ]),
+        (λ t. elim t as (λ _. is_covered new.all.items view block ≡ true) [ inl l ↦ x.1 (inl l) | inr q ↦ x.1 (inr (q.0, (s block).1 q.1)) ]),
       );
 }
 
--- what was added to the set of no block
-pub grows-empty : (blocks : ℕ) (old new : HeldBlocks) (P : ℕ → Type 0) → IsEmpty old 0 blocks → Grows old new P → HasWithin blocks P new
-grows-empty blocks old new P empty g = record {
-  of = record { first_is = g.same_first ∙ empty.first_is; blocks_is = g.same_blocks ∙ empty.blocks_is };
-  held = λ block one.
-      let there : is_in block old.first old.blocks ≡ true = ap₂ (is_in block) empty.first_is empty.blocks_is ∙ one in
-      let x = g.held block there in (
-        (λ e. elim (x.0 e) as (λ _. P block) [ inl l ↦ clash (holds old block) l (empty.free block) | inr p ↦ p ]),
-        (λ p. x.1 (inr p)),
-      );
-}
-
--- ---- how many blocks a set has
--- a block of a set is one of its range
-pub held-in : (set : HeldBlocks) (block : ℕ) → holds set block ≡ true → is_in block set.first set.blocks ≡ true
-unfolding holds
-held-in set block e = left-true (is_in block set.first set.blocks) (slice_index_or set.marks (block - set.first) false) e
-
--- where a fact is of blocks of the container alone, a set that has those of them has exactly these
-pub has-exactly : (blocks : ℕ) (P : ℕ → Type 0) (set : HeldBlocks) → ((block : ℕ) → P block → is_in block 0 blocks ≡ true) → HasWithin blocks P set → HasExactly blocks P set
-has-exactly blocks P set inside h = record {
-  of = h.of;
-  held = λ block. (
-    (λ e. (h.held block (sym (ap₂ (is_in block) h.of.first_is h.of.blocks_is) ∙ held-in set block e)).0 e),
-    (λ p. (h.held block (inside block p)).1 p),
-  );
-}
-
+-- ---- how many blocks pass a test
 -- the blocks of a container that pass a test, as a number
 abbrev passing : (ℕ → Bool) → ℕ → List ℕ
 passing test blocks = filter test (range_with_len 0 blocks)
 
-pub number-by : (blocks : ℕ) (P : ℕ → Type 0) (test : ℕ → Bool) → blocks < 2 ^ 64 → ((block : ℕ) → test block ≡ true → P block) → ((block : ℕ) → P block → (test block ≡ true) × (block < blocks)) → IsNumberOf P (count_by test (range_with_len 0 blocks))
+pub number-by : (blocks : ℕ) (P : ℕ → Type 0) (test : ℕ → Bool) → blocks < 2 ^ 64 → ((block : ℕ) → block < blocks → test block ≡ true → P block) → ((block : ℕ) → P block → (test block ≡ true) × (block < blocks)) → IsNumberOf P (count_below test blocks)
+unfolding count_below
 number-by blocks P test few to from =
     let all : List ℕ = passing test blocks in
     let count : count_by test (range_with_len 0 blocks) ≡ length all = sym (length-filter test (range_with_len 0 blocks)) in
-    let bound : count_by test (range_with_len 0 blocks) ≤ blocks = count_bound test 0 blocks in
+    let bound : count_by test (range_with_len 0 blocks) ≤ blocks = count-bound test blocks in
     let short : length all ≤ blocks = subst (λ n. n ≤ blocks) count bound in
     record {
       all = all;
       lists = (
-        (λ block h. to block (filter-test test block (range_with_len 0 blocks) h)),
+        (λ block h. let low = from-range 0 blocks block (from-filter test block (range_with_len 0 blocks) h) in to block (omega (arith, low)) (filter-test test block (range_with_len 0 blocks) h)),
         (λ block p.
             let t = from block p in
             let low = t.1 in
@@ -116,39 +127,5 @@ number-by blocks P test few to from =
       same = count ∙ omega (arith, short, few);
     }
 
-pub number-is : (blocks : ℕ) (P : ℕ → Type 0) (set : HeldBlocks) → blocks < 2 ^ 64 → HasExactly blocks P set → IsNumberOf P (held_count set)
-unfolding held_count
-number-is blocks P set few h =
-    let range : range_with_len set.first set.blocks ≡ range_with_len 0 blocks = ap₂ range_with_len h.of.first_is h.of.blocks_is in
-    subst (λ (xs : List ℕ). IsNumberOf P (count_by (holds set) xs)) (sym range)
-    (number-by blocks P (holds set) few (λ block e. (h.held block).0 e) (λ block p.
-    let e = (h.held block).1 p in
-    let one : is_in block 0 blocks ≡ true = sym (ap₂ (is_in block) h.of.first_is h.of.blocks_is) ∙ held-in set block e in
-    let low = in-below block 0 blocks one in
-    (e, omega (arith, low))))
-
--- ---- what one of two sets has beyond the other
--- a test that is the sum of two that never both pass
-count-parts : (p q r : ℕ → Bool) (xs : List ℕ) → ((block : ℕ) → cond (p block) 1 0 ≡ cond (q block) 1 0 + cond (r block) 1 0) → count_by p xs ≡ count_by q xs + count_by r xs
-count-parts p q r [] same = refl
-count-parts p q r (x ∷ xs) same =
-    let rest = count-parts p q r xs same in
-    let here = same x in
-    let a = sum_by-cons (λ i. cond (p i) 1 0) x xs in
-    let b = sum_by-cons (λ i. cond (q i) 1 0) x xs in
-    let c = sum_by-cons (λ i. cond (r i) 1 0) x xs in
-    omega (arith, rest, here, a, b, c)
-
-bit-parts : (a o : Bool) → (o ≡ true → a ≡ true) → cond a 1 0 ≡ cond o 1 0 + cond (a && not o) 1 0
-bit-parts true true h = refl
-bit-parts true false h = refl
-bit-parts false true h = clash false (h refl) refl
-bit-parts false false h = refl
-
--- the count of a set is that of another which lies in it, and of what it has beyond
-pub count-split : (all others : HeldBlocks) → IsWithin others all → held_count all ≡ held_count others + only_count all others
-unfolding held_count only_count
-count-split all others w =
-    let range : range_with_len others.first others.blocks ≡ range_with_len all.first all.blocks = ap₂ range_with_len w.same_first w.same_blocks in
-    count-parts (holds all) (holds others) (λ block. holds all block && not (holds others block)) (range_with_len all.first all.blocks) (λ block. bit-parts (holds all block) (holds others block) (w.all block))
-    ∙ ap (λ (xs : List ℕ). count_by (holds others) xs + count_by (λ block. holds all block && not (holds others block)) (range_with_len all.first all.blocks)) (sym range)
+pub number-is : (blocks : ℕ) (P : ℕ → Type 0) (test : ℕ → Bool) → blocks < 2 ^ 64 → HasExactly blocks P test → IsNumberOf P (count_below test blocks)
+number-is blocks P test few h = number-by blocks P test few (λ block low e. (h.held block low).0 e) (λ block p. let low = h.inside block p in ((h.held block low).1 p, low))

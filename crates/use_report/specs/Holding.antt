@@ -1,5 +1,5 @@
--- What is added to the set of a view's blocks, and what stops that.
-use Rattle.std.specs.Prelude.{◌≡◌, ◌⊎◌, ℕ, true, List, ◌∷◌, Some}
+-- What is added to the pieces of a view's blocks, and what stops that.
+use Rattle.std.specs.Prelude.{◌≡◌, ◌⊎◌, ◌↔◌, ℕ, ◌-◌, ◌^◌, ◌<◌, Bool, true, List, ◌∷◌, Some}
 use Rattle.apfs_model.specs.Lists.{In}
 use Rattle.obj_base.specs.declared.site.Site.{Site}
 use Rattle.bt_cursor.specs.declared.gathering.GatherFault.{GatherFault}
@@ -16,12 +16,12 @@ use Rattle.ext_ref.specs.Stops.{IsExtStop, is_right_tree}
 use Rattle.ext_ref.specs.declared.stop.ExtStop.{ExtStop}
 use Rattle.ext_ref.specs.declared.stop.ExtStop.TheVariants as extents
 use Rattle.view_rules.specs.Rules.{view_facts, IsRecord}
-use Rattle.own_ledger.specs.Held.{HeldBlocks}
-use Rattle.use_report.specs.Counted.{Grows, HasWithin}
+use Rattle.use_report.specs.Counted.{Grows}
 use Rattle.use_report.specs.Faults.{HasOutsideExtent}
 use Rattle.use_report.specs.Files.{AreOfView, AreWholeFiles, IsNamedBlock, IsCoveredBlock, IsMetadataBlock}
 use Rattle.use_report.specs.declared.files.Files.{Files}
 use Rattle.use_report.specs.declared.kept.KeptView.{KeptView}
+use Rattle.use_report.specs.declared.pieces.Pieces.{Pieces}
 use Rattle.use_report.specs.declared.stop.UseFault.{UseFault}
 use Rattle.use_report.specs.declared.stop.UseFault.TheVariants.{Walk, Value, Outside}
 
@@ -40,7 +40,7 @@ abbrev pub IsFilesBlock : Site → Loaded → View → Files → ℕ → Type 0
 IsFilesBlock site volume view files block = IsNamedBlock site volume view (view.root_oid ∷ files.below.items) block ⊎ IsCoveredBlock site files.extents.items block
 
 -- the blocks of a view's files were added, and its extents lie in the container
-pub record AddsFiles (image : List ℕ) (site : Site) (volume : Loaded) (view : View) (old new : HeldBlocks) : Type 0 where
+pub record AddsFiles (image : List ℕ) (site : Site) (volume : Loaded) (view : View) (old new : Pieces) : Type 0 where
   pub files : Files
   pub those : AreOfView image site volume view files
   pub grows : Grows old new (IsFilesBlock site volume view files)
@@ -58,7 +58,7 @@ pub record AreRightFiles (image : List ℕ) (site : Site) (volume : Loaded) (vie
   pub placed : (f : Fact FileExt) → In f (view_facts image site volume view).extents → is_extent_placed site.block_size site.blocks f.what ≡ true
 
 -- the nodes of a view's extent reference tree were added
-abbrev pub AddsReferences : List ℕ → Site → KeptView → HeldBlocks → HeldBlocks → Type 0
+abbrev pub AddsReferences : List ℕ → Site → KeptView → Pieces → Pieces → Type 0
 AddsReferences image site kept old new = (is_right_tree image site kept.extents_root ≡ true) × Grows old new (λ block. In block (node_blocks_of image site kept.extents_root))
 
 -- a fault of a view's extent references is there
@@ -75,13 +75,21 @@ IsWalked image site volume kept files block =
     ⊎ (IsMetadataBlock site volume kept block
     ⊎ (kept.super_block ≡ Some block)))
 
--- a set has the blocks that are found in a walk over what a view has
-pub record IsHoldingOf (image : List ℕ) (site : Site) (volume : Loaded) (kept : KeptView) (set : HeldBlocks) : Type 0 where
+-- the blocks that are found in a walk over what a view has were added
+pub record IsHoldingOf (image : List ℕ) (site : Site) (volume : Loaded) (kept : KeptView) (old new : Pieces) : Type 0 where
   pub files : Files
   pub those : AreOfView image site volume kept.view files
   pub right : is_right_tree image site kept.extents_root ≡ true
   pub placed : (e : FileExt) → In e files.extents.items → is_extent_placed site.block_size site.blocks e ≡ true
-  pub has : HasWithin site.blocks (IsWalked image site volume kept files) set
+  pub grows : Grows old new (IsWalked image site volume kept files)
+
+-- a test passes for the blocks that are found in such a walk
+pub record IsWalkedSet (image : List ℕ) (site : Site) (volume : Loaded) (kept : KeptView) (test : ℕ → Bool) : Type 0 where
+  pub files : Files
+  pub those : AreOfView image site volume kept.view files
+  pub right : is_right_tree image site kept.extents_root ≡ true
+  pub placed : (e : FileExt) → In e files.extents.items → is_extent_placed site.block_size site.blocks e ≡ true
+  pub has : (block : ℕ) → block < 2 ^ 64 - 1 → (test block ≡ true) ↔ IsWalked image site volume kept files block
 
 -- what a view has can be gone through
 pub record IsRightView (image : List ℕ) (site : Site) (volume : Loaded) (kept : KeptView) : Type 0 where

@@ -1,4 +1,4 @@
-// The blocks that a view holds.
+// The pieces of the blocks that a view holds.
 ghost use Rattle.std.specs.Prelude.{◌≡◌, ◌<◌, ◌==◌, ℕ, List, Some, false, true, OnOk, IfOk, IfErr, IsErrOf, IsTrue};
 ghost use Rattle.apfs_model.specs.Counts.{Rose};
 ghost use Rattle.apfs_model.specs.Lists.{In};
@@ -10,8 +10,7 @@ ghost use Rattle.fs_record.specs.StreamExtents.{is_extent_placed};
 ghost use Rattle.fs_record.specs.declared.extents.FileExt as stored;
 ghost use Rattle.vol_view.specs.Views.{view_named, IsViewFeature};
 ghost use Rattle.ext_ref.specs.Stops.{IsExtFeature, is_right_tree};
-ghost use Rattle.own_ledger.specs.Held.{IsEmpty};
-ghost use Rattle.use_report.specs.Counted.{IsSet, HasRangeOf, Grows};
+ghost use Rattle.use_report.specs.Counted.{Grows};
 ghost use Rattle.use_report.specs.Faults.{IsUseFaultIn, IsUseFeatureIn};
 ghost use Rattle.use_report.specs.Files.{IsNamedBlock, IsOfExtent, IsCoveredBlock, IsMetadataBlock, LeavesOne};
 ghost use Rattle.use_report.specs.Holding.{of_gather, of_extents, AddsFiles, IsFilesFault, AreRightFiles, AddsReferences, IsReferencesFault, IsHoldingOf, IsRightView};
@@ -19,6 +18,7 @@ ghost use Rattle.use_report.specs.Holding.{of_gather, of_extents, AddsFiles, IsF
 use crate::UseFault;
 use crate::files::walk_files;
 use crate::kept::KeptView;
+use crate::pieces::Pieces;
 use apfs_model::NoMemory;
 use blk_source::BlockSource;
 use bt_cursor::{GatherFault, Namer};
@@ -26,7 +26,6 @@ use ext_ref::{ExtScan, ExtStop, scan};
 use fs_record::FileExt;
 use obj_base::{Site, Stop};
 use omap_map::At;
-use own_ledger::Ledger;
 use std::alloc::Global;
 use vol_view::{View, Volume};
 
@@ -34,44 +33,65 @@ use vol_view::{View, Volume};
 const NEGATIVE: u64 = 1 << 63;
 
 // Adds the block that an id names in a view, where it names one.
-fn add_named(held: &mut Ledger, volume: &Volume, view: &View, site: &Site, oid: u64)
-    ensures { Grows held.old held.new (λ block. view_named site.now volume.now view.now oid ≡ Some block) }
+fn add_named(
+    held: &mut Pieces,
+    volume: &Volume,
+    view: &View,
+    site: &Site,
+    oid: u64,
+) -> Result<(), NoMemory>
+    ensures { OnOk result (Grows held.old held.new (λ block. view_named site.now volume.now view.now oid ≡ Some block)) }
 {
     let namer = At {
         omap: &volume.omap,
         xid: view.xid,
         blocks: site.blocks,
     };
-    if let Some(block) = namer.block(oid) {
-        held.add(block, 1);
+    match namer.block(oid) {
+        Some(block) => held.add(block, 1),
+        None => Ok(()),
     }
 }
 
 // The same for each of some ids.
-fn add_nodes(held: &mut Ledger, volume: &Volume, view: &View, site: &Site, oids: &[u64])
-    ensures { Grows held.old held.new (IsNamedBlock site.now volume.now view.now oids.now) }
+fn add_nodes(
+    held: &mut Pieces,
+    volume: &Volume,
+    view: &View,
+    site: &Site,
+    oids: &[u64],
+) -> Result<(), NoMemory>
+    ensures { OnOk result (Grows held.old held.new (IsNamedBlock site.now volume.now view.now oids.now)) }
 {
     'oids: for oid in oids {
-        add_named(held, volume, view, site, *oid);
+        add_named(held, volume, view, site, *oid)?;
     }
+    Ok(())
 }
 
 // Adds the block of a view's extended metadata, where there are some.
-fn add_metadata(held: &mut Ledger, volume: &Volume, kept: &KeptView, site: &Site)
-    ensures { Grows held.old held.new (IsMetadataBlock site.now volume.now kept.now) }
+fn add_metadata(
+    held: &mut Pieces,
+    volume: &Volume,
+    kept: &KeptView,
+    site: &Site,
+) -> Result<(), NoMemory>
+    ensures { OnOk result (Grows held.old held.new (IsMetadataBlock site.now volume.now kept.now)) }
 {
-    if kept.meta_ext != 0 {
-        add_named(held, volume, &kept.view, site, kept.meta_ext);
+    if kept.meta_ext == 0 {
+        return Ok(());
     }
+    add_named(held, volume, &kept.view, site, kept.meta_ext)
 }
 
 // Adds some blocks.
-fn add_blocks(held: &mut Ledger, blocks: &[u64])
-    ensures { Grows held.old held.new (λ block. In block blocks.now) }
+fn add_blocks(held: &mut Pieces, blocks: &[u64]) -> Result<(), NoMemory>
+    ensures { OnOk result (Grows held.old held.new (λ block. In block blocks.now)) }
 {
     'each: for block in blocks {
-        held.add(*block, 1);
+        held.add(*block, 1)?;
     }
+    Ok(())
 }
 
 // Whether an extent that is no hole lies in the container.
@@ -88,34 +108,35 @@ fn is_placed(site: &Site, extent: FileExt) -> bool
 }
 
 // Adds the blocks of an extent, unless it is a hole; false where it leaves the container.
-fn add_extent(held: &mut Ledger, site: &Site, extent: FileExt) -> bool
+fn add_extent(held: &mut Pieces, site: &Site, extent: FileExt) -> Result<bool, NoMemory>
     requires { 0 < site.now.block_size }
-    ensures placed { result ≡ is_extent_placed site.now.block_size site.now.blocks extent }
-    ensures added { IsTrue result → Grows held.old held.new (IsOfExtent site.now extent) }
+    ensures placed { IfOk result (λ placed. placed ≡ is_extent_placed site.now.block_size site.now.blocks extent) }
+    ensures added { IfOk result (λ placed. IsTrue placed → Grows held.old held.new (IsOfExtent site.now extent)) }
 {
     if extent.block == 0 {
-        return true;
+        return Ok(true);
     }
     if !is_placed(site, extent) {
-        return false;
+        return Ok(false);
     }
-    held.add(extent.block, extent.blocks(site.block_size));
-    true
+    held.add(extent.block, extent.blocks(site.block_size))?;
+    Ok(true)
 }
 
 // The same for each of some extents; false where one of them leaves the container.
-fn add_extents(held: &mut Ledger, site: &Site, extents: &[FileExt]) -> bool
+fn add_extents(held: &mut Pieces, site: &Site, extents: &[FileExt]) -> Result<bool, NoMemory>
     requires { 0 < site.now.block_size }
-    ensures leaves { result ≡ false → LeavesOne site.now extents.now }
-    ensures added { IsTrue result → Grows held.old held.new (IsCoveredBlock site.now extents.now) }
-    ensures inside { IsTrue result → (e : stored.FileExt) → In e extents.now → is_extent_placed site.now.block_size site.now.blocks e ≡ true }
+    ensures leaves { IfOk result (λ placed. placed ≡ false → LeavesOne site.now extents.now) }
+    ensures added { IfOk result (λ placed. IsTrue placed → Grows held.old held.new (IsCoveredBlock site.now extents.now)) }
+    ensures inside { IfOk result (λ placed. IsTrue placed → (e : stored.FileExt) → In e extents.now → is_extent_placed site.now.block_size site.now.blocks e ≡ true) }
 {
     'extents: for extent in extents {
-        if !add_extent(held, site, *extent) {
-            return false;
+        let placed = add_extent(held, site, *extent)?;
+        if !placed {
+            return Ok(false);
         }
     }
-    true
+    Ok(true)
 }
 
 // Why a view's files can't be gone through, said of the view.
@@ -151,11 +172,10 @@ fn add_files<S: BlockSource>(
     volume: &Volume,
     view: &View,
     site: &Site,
-    held: &mut Ledger,
+    held: &mut Pieces,
 ) -> Result<(), Stop<UseFault>>
     requires site { IsSiteFor site.now (S.bytes_len src.old) }
     ensures added { (image : List ℕ) → S.bytes src.old ≡ Some image → OnOk result (AddsFiles image site.now volume.now view.now held.old held.new) }
-    ensures range { OnOk result (HasRangeOf held.old held.new) }
     ensures present { (image : List ℕ) → S.bytes src.old ≡ Some image → IfErr result (Tells (IsFilesFault image site.now volume.now view.now) (IsViewFeature image site.now volume.now view.now)) }
     ensures exact { (image : List ℕ) → S.bytes src.old ≡ Some image → AreRightFiles image site.now volume.now view.now → IfErr result IsFree }
     ensures cause { IsErrOf result ReadFault → Rose (S.faults src.old) (S.faults src.new) }
@@ -165,9 +185,10 @@ fn add_files<S: BlockSource>(
         Ok(files) => files,
         Err(stop) => return Err(of_files(view.xid, stop)),
     };
-    add_named(held, volume, view, site, view.root_oid);
-    add_nodes(held, volume, view, site, &files.below);
-    if !add_extents(held, site, &files.extents) {
+    add_named(held, volume, view, site, view.root_oid)?;
+    add_nodes(held, volume, view, site, &files.below)?;
+    let placed = add_extents(held, site, &files.extents)?;
+    if !placed {
         return Err(Stop::Found(UseFault::Outside { xid: view.xid }));
     }
     Ok(())
@@ -179,11 +200,10 @@ fn add_references<S: BlockSource>(
     src: &mut S,
     kept: &KeptView,
     site: &Site,
-    held: &mut Ledger,
+    held: &mut Pieces,
 ) -> Result<(), Stop<UseFault>>
     requires site { IsSiteFor site.now (S.bytes_len src.old) }
     ensures added { (image : List ℕ) → S.bytes src.old ≡ Some image → OnOk result (AddsReferences image site.now kept.now held.old held.new) }
-    ensures range { OnOk result (HasRangeOf held.old held.new) }
     ensures present { (image : List ℕ) → S.bytes src.old ≡ Some image → IfErr result (Tells (IsReferencesFault image site.now kept.now) (IsExtFeature image site.now kept.now.extents_root)) }
     ensures exact { (image : List ℕ) → S.bytes src.old ≡ Some image → is_right_tree image site.now kept.now.extents_root ≡ true → IfErr result IsFree }
     ensures cause { IsErrOf result ReadFault → Rose (S.faults src.old) (S.faults src.new) }
@@ -191,7 +211,7 @@ fn add_references<S: BlockSource>(
 {
     match scan(alloc, src, kept.extents_root, site) {
         Ok(ExtScan { nodes, ranges: _ }) => {
-            add_blocks(held, &nodes);
+            add_blocks(held, &nodes)?;
             Ok(())
         }
         Err(stop) => Err(of_references(kept.view.xid, stop)),
@@ -199,47 +219,40 @@ fn add_references<S: BlockSource>(
 }
 
 // Adds the block of a snapshot's superblock, where the view is a snapshot's.
-fn add_super(held: &mut Ledger, kept: &KeptView)
-    ensures { Grows held.old held.new (λ block. kept.now.super_block ≡ Some block) }
+fn add_super(held: &mut Pieces, kept: &KeptView) -> Result<(), NoMemory>
+    ensures { OnOk result (Grows held.old held.new (λ block. kept.now.super_block ≡ Some block)) }
 {
-    if let Some(block) = kept.super_block {
-        held.add(block, 1);
+    match kept.super_block {
+        Some(block) => held.add(block, 1),
+        None => Ok(()),
     }
 }
 
-// The set of no block of a container.
-fn no_blocks(alloc: Global, site: &Site) -> Result<Ledger, NoMemory>
-    ensures { IfOk result (λ set. IsEmpty set 0 site.now.blocks) }
-{
-    Ledger::new(alloc, 0, site.blocks)
-}
-
-/// The set of the blocks that a view of a volume holds.
-pub(crate) fn held_by<S: BlockSource>(
+/// Adds the blocks that a view of a volume holds.
+pub(crate) fn hold<S: BlockSource>(
     alloc: Global,
     src: &mut S,
     volume: &Volume,
     kept: &KeptView,
     site: &Site,
-) -> Result<Ledger, Stop<UseFault>>
+    held: &mut Pieces,
+) -> Result<(), Stop<UseFault>>
     requires site { IsSiteFor site.now (S.bytes_len src.old) }
-    ensures held { (image : List ℕ) → S.bytes src.old ≡ Some image → IfOk result (IsHoldingOf image site.now volume.now kept.now) }
-    ensures range { IfOk result (IsSet site.now.blocks) }
+    ensures held { (image : List ℕ) → S.bytes src.old ≡ Some image → OnOk result (IsHoldingOf image site.now volume.now kept.now held.old held.new) }
     ensures present { (image : List ℕ) → S.bytes src.old ≡ Some image → IfErr result (Tells (IsUseFaultIn image site.now volume.now kept.now) (IsUseFeatureIn image site.now volume.now kept.now)) }
     ensures exact { (image : List ℕ) → S.bytes src.old ≡ Some image → IsRightView image site.now volume.now kept.now → IfErr result IsFree }
     ensures cause { IsErrOf result ReadFault → Rose (S.faults src.old) (S.faults src.new) }
     ensures kept { IsKept S.bytes S.bytes_len S.faults src.old src.new }
 {
-    let mut held = no_blocks(alloc, site)?;
-    match add_files(alloc, src, volume, &kept.view, site, &mut held) {
+    match add_files(alloc, src, volume, &kept.view, site, held) {
         Ok(()) => {}
         Err(stop) => return Err(stop),
     }
-    match add_references(alloc, src, kept, site, &mut held) {
+    match add_references(alloc, src, kept, site, held) {
         Ok(()) => {}
         Err(stop) => return Err(stop),
     }
-    add_metadata(&mut held, volume, kept, site);
-    add_super(&mut held, kept);
-    Ok(held)
+    add_metadata(held, volume, kept, site)?;
+    add_super(held, kept)?;
+    Ok(())
 }

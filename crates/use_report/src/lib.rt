@@ -1,12 +1,12 @@
 //! What each view of a volume keeps from being freed: how many blocks it holds, and how many it alone.
 #![tactic(auto)]
 
-mod counting;
 mod files;
 mod holding;
 mod keep;
 mod kept;
 mod numbers;
+mod pieces;
 mod stop;
 mod volumes;
 

@@ -6,116 +6,98 @@ ghost use Rattle.nx_ring.specs.Checkpoint.{site_of};
 ghost use Rattle.obj_base.specs.Site.{IsSiteFor};
 ghost use Rattle.obj_base.specs.Stops.{Tells, IsFree};
 ghost use Rattle.obj_base.specs.declared.stop.Stop.TheVariants.{ReadFault, NoMemory};
-ghost use Rattle.use_report.specs.Counted.{AreSets, IsUnionBut};
 ghost use Rattle.use_report.specs.Faults.{IsUseFault, IsUseFeature};
 ghost use Rattle.use_report.specs.Given.{IsGiven, IsRight};
 ghost use Rattle.use_report.specs.Numbers.{IsUsage, told_of};
-ghost use Rattle.use_report.specs.Sets.{AreHoldings, AreRightViews, AreFaultsOf, AreFeaturesOf, AreUsesOf, AreNumbersOf, IsUseOf};
+ghost use Rattle.use_report.specs.Sets.{AreHoldings, AreRightViews, AreFaultsOf, AreFeaturesOf, AreUsesOf, AreNumbersOf};
 
 use crate::UseFault;
-use crate::counting::{only_in, union_but};
-use crate::holding::held_by;
+use crate::holding::hold;
 use crate::kept::{KeptView, kept_views};
 use crate::numbers::{Usage, ViewUse};
+use crate::pieces::Pieces;
 use blk_source::BlockSource;
 use nx_ring::Checkpoint;
 use obj_base::{Site, Stop};
-use own_ledger::Ledger;
+use piece_count::{Piece, ViewCount, count};
 use std::alloc::Global;
 use vol_view::Volume;
 
-// The sets of the blocks that some views hold.
+// The pieces of the blocks that some views hold, each view by its place.
 fn held_by_all<S: BlockSource>(
     alloc: Global,
     src: &mut S,
     volume: &Volume,
     views: &[KeptView],
     site: &Site,
-) -> Result<Vec<Ledger>, Stop<UseFault>>
+) -> Result<Vec<Piece>, Stop<UseFault>>
     requires site { IsSiteFor site.now (S.bytes_len src.old) }
-    ensures sets { IfOk result (λ sets. AreSets site.now.blocks sets.items) }
-    ensures many { IfOk result (λ sets. length sets.items ≡ length views.now) }
-    ensures held { (image : List ℕ) → S.bytes src.old ≡ Some image → IfOk result (λ sets. AreHoldings image site.now volume.now views.now sets.items) }
+    ensures held { (image : List ℕ) → S.bytes src.old ≡ Some image → IfOk result (λ pieces. AreHoldings image site.now volume.now views.now (length views.now) pieces.items) }
     ensures present { (image : List ℕ) → S.bytes src.old ≡ Some image → IfErr result (Tells (AreFaultsOf image site.now volume.now views.now) (AreFeaturesOf image site.now volume.now views.now)) }
     ensures exact { (image : List ℕ) → S.bytes src.old ≡ Some image → AreRightViews image site.now volume.now views.now → IfErr result IsFree }
     ensures cause { IsErrOf result ReadFault → Rose (S.faults src.old) (S.faults src.new) }
     ensures kept { IsKept S.bytes S.bytes_len S.faults src.old src.new }
 {
-    let mut sets = Vec::new(alloc);
-    'views: for view in views {
-        let held = match held_by(alloc, src, volume, view, site) {
-            Ok(held) => held,
+    let mut held = Pieces::new(alloc);
+    'views: for i in 0..views.len() {
+        held.turn(i);
+        match hold(alloc, src, volume, &views[i], site, &mut held) {
+            Ok(()) => {}
             Err(stop) => return Err(stop),
-        };
-        sets.push(held)?;
+        }
     }
-    Ok(sets)
+    Ok(held.all)
 }
 
-// The numbers of the view of a transaction, whose set stands in a place.
-fn numbers(
-    alloc: Global,
-    xid: u64,
-    sets: &[Ledger],
-    i: usize,
-    all: &Ledger,
-    blocks: u64,
-) -> Result<ViewUse, Stop<UseFault>>
-    requires sets { AreSets blocks sets.now }
-    requires place { i < length sets.now }
-    requires all { IsUnionBut blocks sets.now (length sets.now) all.now }
-    ensures numbers { IfOk result (IsUseOf blocks sets.now all.now i xid) }
-    ensures memory_only { IfErr result (λ stop. stop ≡ NoMemory) }
+// The numbers of a view of a transaction.
+fn numbers(xid: u64, count: ViewCount) -> ViewUse
+    ensures xid { result.xid ≡ xid }
+    ensures held { result.held ≡ count.held }
+    ensures only { result.only ≡ count.only }
 {
-    let others = union_but(alloc, sets, i, blocks)?;
-    Ok(ViewUse {
+    ViewUse {
         xid,
-        held: sets[i].held(),
-        only: only_in(all, &others),
-    })
+        held: count.held,
+        only: count.only,
+    }
 }
 
-// The numbers of some views, by their sets and the set of all their blocks.
+// The numbers of some views, by what is counted of each.
 fn uses(
     alloc: Global,
     views: &[KeptView],
-    sets: &[Ledger],
-    all: &Ledger,
-    blocks: u64,
+    counts: &[ViewCount],
 ) -> Result<Vec<ViewUse>, Stop<UseFault>>
-    requires sets { AreSets blocks sets.now }
-    requires many { length sets.now ≡ length views.now }
-    requires all { IsUnionBut blocks sets.now (length sets.now) all.now }
-    ensures uses { IfOk result (λ uses. AreUsesOf blocks views.now sets.now all.now uses.items) }
+    requires many { length counts.now ≡ length views.now }
+    ensures uses { IfOk result (λ uses. AreUsesOf views.now counts.now uses.items) }
     ensures memory_only { IfErr result (λ stop. stop ≡ NoMemory) }
 {
     let mut uses = Vec::new(alloc);
     'views: for i in 0..views.len() {
-        uses.push(numbers(alloc, views[i].view.xid, sets, i, all, blocks)?)?;
+        uses.push(numbers(views[i].view.xid, counts[i]))?;
     }
     Ok(uses)
 }
 
-// The same, and how many blocks all of them have.
-fn count(
+// The numbers of some views by pieces, and how many blocks some view has.
+fn tally(
     alloc: Global,
     views: &[KeptView],
-    sets: &[Ledger],
+    pieces: Vec<Piece>,
     blocks: u64,
 ) -> Result<Usage, Stop<UseFault>>
-    requires sets { AreSets blocks sets.now }
-    requires many { length sets.now ≡ length views.now }
-    ensures numbers { IfOk result (λ usage. AreNumbersOf blocks views.now sets.now usage.views.items usage.all) }
+    requires { 0 < length views.now }
+    ensures numbers { IfOk result (λ usage. AreNumbersOf blocks views.now pieces.items usage.views.items usage.all) }
     ensures memory_only { IfErr result (λ stop. stop ≡ NoMemory) }
 {
-    let all = union_but(alloc, sets, sets.len(), blocks)?;
-    let told = match uses(alloc, views, sets, &all, blocks) {
+    let counts = count(alloc, pieces, views.len(), blocks)?;
+    let told = match uses(alloc, views, &counts.views) {
         Ok(told) => told,
         Err(stop) => return Err(stop),
     };
     Ok(Usage {
         views: told,
-        all: all.held(),
+        all: counts.all,
     })
 }
 
@@ -146,11 +128,11 @@ pub fn usage<S: BlockSource>(
         Ok(views) => views,
         Err(stop) => return Err(stop),
     };
-    let sets = match held_by_all(alloc, src, volume, &views, &site) {
-        Ok(sets) => sets,
+    let pieces = match held_by_all(alloc, src, volume, &views, &site) {
+        Ok(pieces) => pieces,
         Err(stop) => return Err(stop),
     };
-    match count(alloc, &views, &sets, site.blocks) {
+    match tally(alloc, &views, pieces, site.blocks) {
         Ok(usage) => Ok(usage),
         Err(stop) => Err(stop),
     }

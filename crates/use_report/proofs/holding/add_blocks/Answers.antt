@@ -10,7 +10,7 @@ pub each-preserved : goal.each-preserved
 each-preserved c =
     let xs = c.args.blocks.now in
     let i = c.each.block-index in
-    grows-next Is xs i 0 c.args.held.now c.each.held c.add.new.self c.each-test.true c.each.invariant (grows-one c.each.held c.add.new.self (get_or xs i 0) c.add.ensures)
+    grows-next Is xs i 0 c.args.held.now c.each.held c.add.new.self c.each-test.true c.each.invariant (grows-one c.each.held c.add.new.self (get_or xs i 0) c.in_ok-add.ensures)
 
 pub returns : goal.returns
 returns c = grows-listed c.args.blocks.now c.args.held.now c.each.held (grows-last Is c.args.blocks.now c.each.block-index c.args.held.now c.each.held c.each-test.false c.each.invariant)

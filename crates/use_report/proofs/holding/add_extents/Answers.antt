@@ -9,12 +9,12 @@ use Rattle.use_report.proofs.holding.add_extents.Goals as goal
 no_extent : FileExt
 no_extent = record { logical = 0; length = 0; block = 0 }
 
-pub returns-then-not-add_extent-clause-leaves : goal.returns-then-not-add_extent-clause-leaves
+pub returns-then-not-placed-clause-leaves : goal.returns-then-not-placed-clause-leaves
 unfolding no_extent
-returns-then-not-add_extent-clause-leaves c = λ _.
+returns-then-not-placed-clause-leaves c = λ _.
     let xs = c.args.extents.now in
     let i = c.extents.extent-index in
-    (get_or xs i no_extent, got-in xs i no_extent c.extents-test.true, sym c.add_extent.ensures.placed ∙ c.if-not-add_extent.true)
+    (get_or xs i no_extent, got-in xs i no_extent c.extents-test.true, sym c.in_ok-placed.ensures.placed ∙ c.if-not-placed.true)
 
 pub extents-preserved : goal.extents-preserved
 unfolding no_extent
@@ -24,9 +24,9 @@ extents-preserved c =
     let i = c.extents.extent-index in
     let low = c.extents-test.true in
     record {
-      grows = grows-next (IsOfExtent site) xs i no_extent c.args.held.now c.extents.held c.add_extent.new.held low c.extents.invariant.grows (c.add_extent.ensures.added c.if-not-add_extent.false);
+      grows = grows-next (IsOfExtent site) xs i no_extent c.args.held.now c.extents.held c.add_extent.new.held low c.extents.invariant.grows (c.in_ok-placed.ensures.added c.if-not-placed.false);
       inside = λ e h. elim ((taken-more xs i no_extent e low).0 h) as (λ _. is_extent_placed site.block_size site.blocks e ≡ true) [
         | inl k ↦ c.extents.invariant.inside e k
-        | inr s ↦ subst (λ x. is_extent_placed site.block_size site.blocks x ≡ true) (sym s) (sym c.add_extent.ensures.placed ∙ c.if-not-add_extent.false)
+        | inr s ↦ subst (λ x. is_extent_placed site.block_size site.blocks x ≡ true) (sym s) (sym c.in_ok-placed.ensures.placed ∙ c.if-not-placed.false)
       ];
     }

@@ -13,16 +13,16 @@ returns-in-Err-clause-present g c image told =
     let view = c.args.view.now in
     subst (Tells (IsFilesFault image site volume view) (IsViewFeature image site volume view)) (sym c.of_files.ensures) (files-told image site volume view c.in-Err.stop (c.in-Err.ensures.present image told))
 
-pub returns-then-not-add_extents-clause-present : goal.returns-then-not-add_extents-clause-present
-returns-then-not-add_extents-clause-present g c image told =
-    (refl, outside-extent image c.args.site.now c.args.volume.now c.args.view.now _ (c.add_extents.ensures.leaves c.if-not-add_extents.true) (cc ((c.in-Ok.ensures.clear image told).extents)))
+pub returns-then-not-placed-clause-present : goal.returns-then-not-placed-clause-present
+returns-then-not-placed-clause-present g c image told =
+    (refl, outside-extent image c.args.site.now c.args.volume.now c.args.view.now _ (c.in_ok-placed.ensures.leaves c.if-not-placed.true) (cc ((c.in-Ok.ensures.clear image told).extents)))
 
-pub returns-then-not-add_extents-clause-exact : goal.returns-then-not-add_extents-clause-exact
-returns-then-not-add_extents-clause-exact g c image told right =
+pub returns-then-not-placed-clause-exact : goal.returns-then-not-placed-clause-exact
+returns-then-not-placed-clause-exact g c image told right =
     absurd (never-outside image c.args.site.now c.args.volume.now c.args.view.now right
-    (outside-extent image c.args.site.now c.args.volume.now c.args.view.now _ (c.add_extents.ensures.leaves c.if-not-add_extents.true) (cc ((c.in-Ok.ensures.clear image told).extents))))
+    (outside-extent image c.args.site.now c.args.volume.now c.args.view.now _ (c.in_ok-placed.ensures.leaves c.if-not-placed.true) (cc ((c.in-Ok.ensures.clear image told).extents))))
 
 pub returns-clause-added : goal.returns-clause-added
 returns-clause-added g c image told =
     files-added image c.args.site.now c.args.volume.now c.args.view.now c.in-Ok.files _ _ c.args.held.now c.add_named.new.held c.add_nodes.new.held c.add_extents.new.held (c.in-Ok.ensures.clear image told)
-    c.add_named.ensures c.add_nodes.ensures (c.add_extents.ensures.added c.if-not-add_extents.false) (c.add_extents.ensures.inside c.if-not-add_extents.false) (cc) (cc)
+    c.in_ok-add_named.ensures c.in_ok-add_nodes.ensures (c.in_ok-placed.ensures.added c.if-not-placed.false) (c.in_ok-placed.ensures.inside c.if-not-placed.false) (cc) (cc)

@@ -1,13 +1,10 @@
-use Rattle.std.proofs.Common.{◌≡◌, ℕ, List, Some, length}
+use Rattle.std.proofs.Common.{◌≡◌, ℕ, List, Some}
 use Rattle.apfs_model.specs.Source.{IsKept}
-use Rattle.use_report.specs.Counted.{AreSets}
 use Rattle.use_report.specs.Sets.{AreHoldings}
 use Rattle.use_report.proofs.volumes.held_by_all.Given as goal
 
 abbrev pub invariant-views : goal.invariant-views
 invariant-views g l = record {
-  sets : AreSets l.site.blocks l.sets.items;
-  many : length l.sets.items ≡ l.view-index;
-  held : (image : List ℕ) → g.S.BlockSource.bytes l.fn.src ≡ Some image → AreHoldings image l.site l.volume l.views l.sets.items;
+  held : (image : List ℕ) → g.S.BlockSource.bytes l.fn.src ≡ Some image → AreHoldings image l.site l.volume l.views l.i l.held.all.items;
   kept : IsKept g.S.BlockSource.bytes g.S.BlockSource.bytes_len g.S.BlockSource.faults l.fn.src l.src;
 }

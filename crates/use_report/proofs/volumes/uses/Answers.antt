@@ -14,14 +14,13 @@ views-init c = record {
 pub views-preserved : goal.views-preserved
 views-preserved c =
     let views = c.args.views.now in
-    let sets = c.args.sets.now in
-    let all = c.args.all.now in
     let i = c.views.i in
     let before : List ViewUse = c.views.uses.items in
     let items = c.in_ok-push.ensures.items in
     record {
-      many = omega (arith, one-longer before c.push.new.self.items c.in_ok-numbers.field-0 items, c.views.invariant.many);
-      each = uses-more c.args.blocks views sets all before c.push.new.self.items i (get_or views i no_view) c.in_ok-numbers.field-0 items c.views.invariant.many (slice_get-get_or views i no_view c.views-test.true) c.in_ok-numbers.ensures.numbers c.views.invariant.each;
+      many = omega (arith, one-longer before c.push.new.self.items c.numbers.result items, c.views.invariant.many);
+      each = uses-more views c.args.counts.now before c.push.new.self.items i (get_or views i no_view) c.numbers.result items c.views.invariant.many (slice_get-get_or views i no_view c.views-test.true)
+          (record { xid_is = c.numbers.ensures.xid; held = c.numbers.ensures.held; only = c.numbers.ensures.only }) c.views.invariant.each;
     }
 
 pub returns-clause-uses : goal.returns-clause-uses

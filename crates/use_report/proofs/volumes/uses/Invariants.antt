@@ -7,5 +7,5 @@ use Rattle.use_report.proofs.volumes.uses.Given as goal
 abbrev pub invariant-views : goal.invariant-views
 invariant-views l = record {
   many : length l.uses.items ≡ l.i;
-  each : (k : ℕ) (view : KeptView) → k < l.i → slice_get l.views k ≡ Some view → IsTold l.blocks l.sets l.all l.uses.items k view;
+  each : (k : ℕ) (view : KeptView) → k < l.i → slice_get l.views k ≡ Some view → IsTold l.counts l.uses.items k view;
 }

@@ -1,0 +1,13 @@
+//! How many blocks views have by pieces, how many each alone, and how many some view has.
+#![tactic(auto)]
+
+mod counting;
+mod piece;
+mod tally;
+
+pub use counting::count;
+pub use piece::Piece;
+pub use tally::{Counts, ViewCount};
+
+#[cfg(test)]
+mod tests;
