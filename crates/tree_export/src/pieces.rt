@@ -12,7 +12,7 @@ use blk_source::BlockSource;
 use file_extent::{CopyFault, Stream};
 
 // The bytes that are put at once.
-const PIECE: usize = 4096;
+const PIECE: usize = 16384;
 
 // Puts a piece of a stream at the end of the file that is written, from byte `at` on: where the next one starts.
 fn put_piece<S: BlockSource, F: Folder>(
