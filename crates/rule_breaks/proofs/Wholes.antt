@@ -1,14 +1,15 @@
--- Where no entry is lost, each has its directory, its file and its kind.
-use Rattle.std.proofs.Common.{◌≡◌, ℕ, Bool, true, false, Option, Some, None, Bor, refl}
-use Rattle.std.specs.Prelude.{not, ◌&&◌, ◌==◌, is_some}
-use Rattle.std.specs.List.{find}
-use Rattle.std.specs.Option.{option_copied}
-use Rattle.apfs_model.specs.Lists.{passes}
+-- Where no entry is lost, each has its directory, its file and its kind; where no file has two entries, each has its mark.
+use Rattle.std.proofs.Common.{◌≡◌, ◌≤◌, ℕ, Bool, true, false, cond, List, [], ◌∷◌, Option, Some, None, inl, inr, refl, ap, ◌∙◌, arith}
+use Rattle.std.specs.Prelude.{not, ◌&&◌, ◌||◌, ◌==◌, nat_lt, is_some, is_none}
+use Rattle.std.specs.List.{find, list_any}
+use Rattle.apfs_model.proofs.BoolTests.{never-true, below-from}
+use Rattle.apfs_model.specs.Lists.{In, passes}
 use Rattle.fs_record.specs.Inodes.{Inode, inode_kind}
-use Rattle.view_rules.specs.Facts.{Facts, inode_at, has_directory, does_count}
+use Rattle.view_rules.specs.Words.{IsClear}
+use Rattle.view_rules.specs.Facts.{Facts, inode_at, has_directory, does_count, entry_count}
 use Rattle.view_rules.specs.Entries.{lacks_parent, lacks_inode, has_other_kind, HasParents, HasFiles, HasKinds}
-use Rattle.rule_breaks.specs.Lost.{is_lost}
-use Rattle.rule_breaks.proofs.Finds.{none-clear}
+use Rattle.view_rules.specs.Siblings.{is_unmarked}
+use Rattle.rule_index.specs.Lost.{is_lost}
 
 has-parent : (c d t : Bool) → (c && not (d && t)) ≡ false → (c && not d) ≡ false
 has-parent true true t e = refl
@@ -29,19 +30,42 @@ same-kind true false None k e = refl
 same-kind true false (Some x) k e = absurd (let r : ⊥ = cc in r)
 same-kind false d o k e = refl
 
--- nothing is found where no reference is
-pub none-copied : {X : Type 0} (o : Option (Bor X)) → is_some o ≡ false → option_copied o ≡ None
-none-copied None e = refl
-none-copied (Some x) e = absurd (let r : ⊥ = cc in r)
+none-passes : {X : Type 0} (test : X → Bool) (xs : List X) → list_any test xs ≡ false → IsClear test xs
+none-passes test [] none x listed = absurd listed
+none-passes test (y ∷ ys) none x listed =
+    let rest : list_any test ys ≡ false → In x ys → test x ≡ false = λ e more. none-passes test ys e x more in
+    let go : (b : Bool) → test y ≡ b → (b || list_any test ys) ≡ false → test x ≡ false =
+    λ b. elim b as (λ b. test y ≡ b → (b || list_any test ys) ≡ false → test x ≡ false) [
+      | true ↦ λ t e. absurd (let r : ⊥ = cc in r)
+      | false ↦ λ t e. elim listed as (λ _. test x ≡ false) [ inl same ↦ ap test same ∙ t | inr more ↦ rest e more ]
+    ] in
+    go (test y) refl none
 
 -- each entry has them
-pub whole : (facts : Facts) → find (is_lost facts) facts.entries ≡ None → HasParents facts × (HasFiles facts × HasKinds facts)
+pub whole : (facts : Facts) → list_any (is_lost facts) facts.entries ≡ false → HasParents facts × (HasFiles facts × HasKinds facts)
 unfolding lacks_parent lacks_inode has_other_kind
 whole facts none =
-    let clear = none-clear (is_lost facts) facts.entries none in (
+    let clear = none-passes (is_lost facts) facts.entries none in (
       (λ e listed. has-parent (does_count e) (has_directory facts e.id) (passes (inode_at facts e.what.file_id) (λ (x : Inode). inode_kind x == e.what.kind)) (clear e listed)),
       (
         (λ e listed. has-file (does_count e) (has_directory facts e.id) (inode_at facts e.what.file_id) e.what.kind (clear e listed)),
         (λ e listed. same-kind (does_count e) (has_directory facts e.id) (inode_at facts e.what.file_id) e.what.kind (clear e listed)),
       ),
     )
+
+find-none : {X : Type 0} (test : X → Bool) → ((x : X) → test x ≡ false) → (xs : List X) → find test xs ≡ None
+find-none test fails [] = refl
+find-none {X} test fails (x ∷ xs) = ap (λ b. cond b (Some x) (find test xs)) (fails x) ∙ find-none test fails xs
+
+-- where no file has two entries each has its mark
+pub none-unmarked : (facts : Facts) → ((id : ℕ) → entry_count facts id ≤ 1) → find (is_unmarked facts) facts.entries ≡ None
+unfolding is_unmarked
+none-unmarked facts single =
+    find-none (is_unmarked facts) (λ e.
+    let few : nat_lt 1 (entry_count facts e.what.file_id) ≡ false = never-true (nat_lt 1 (entry_count facts e.what.file_id)) (λ h. let above = below-from 1 (entry_count facts e.what.file_id) h in let most = single e.what.file_id in omega (arith, above, most)) in
+    ap (λ b. does_count e && (is_none e.what.sibling && b)) few ∙ nothing (does_count e) (is_none e.what.sibling)) facts.entries
+  where
+    nothing : (a b : Bool) → (a && (b && false)) ≡ false
+    nothing true true = refl
+    nothing true false = refl
+    nothing false b = refl

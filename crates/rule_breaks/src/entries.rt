@@ -3,7 +3,6 @@ ghost use Rattle.std.specs.Prelude.{◌≡◌, ◌==◌, not, find, true};
 ghost use Rattle.std.specs.Option.{option_copied};
 ghost use Rattle.apfs_model.specs.Lists.{passes};
 ghost use Rattle.view_rules.specs.Entries as spec;
-ghost use Rattle.rule_breaks.specs.Lost.{is_lost};
 
 use rule_index::Index;
 use rule_index::ids::does_count;
@@ -43,37 +42,11 @@ fn has_other_kind(index: &Index<'_>, e: &EntryFact) -> bool
     does_count(e) && is_other(index.kind(e.file_id()), e.kind())
 }
 
-// Whether there is a kind, and it is this one.
-fn is_kind(kind: Option<u16>, wanted: u16) -> bool
-    ensures { result ≡ passes kind (λ k. k == wanted) }
-{
-    match kind {
-        Some(kind) => kind == wanted,
-        None => false,
-    }
-}
-
-// Whether an entry that counts lacks its directory, or its file with its kind.
-#[tactic(auto, using(rule_index::proofs::KinLooks::kind_is))]
-fn is_lost(index: &Index<'_>, e: &EntryFact) -> bool
-    ensures { result ≡ is_lost index.now.facts.now e.now }
-{
-    does_count(e) && !(index.has_directory(e.id()) && is_kind(index.kind(e.file_id()), e.kind()))
-}
-
-// The first entry that counts and lacks its directory, or its file with its kind.
-fn first_lost<'a>(index: &Index<'a>) -> Option<&'a EntryFact>
-    ensures { option_copied result ≡ find (is_lost index.now.facts.now) index.now.facts.now.entries }
-{
-    let facts = index.facts;
-    facts.entries.iter().find(|e| is_lost(index, e))
-}
-
-/// Whether each entry that counts has its directory, and its file with its kind, in one pass.
+/// Whether each entry that counts has its directory, and its file with its kind, as the index knows.
 pub fn are_whole(index: &Index<'_>) -> bool
     ensures { result ≡ true → spec.HasParents index.now.facts.now × (spec.HasFiles index.now.facts.now × spec.HasKinds index.now.facts.now) }
 {
-    first_lost(index).is_none()
+    index.has_whole_entries()
 }
 
 /// The first entry that counts in what is no directory.

@@ -42,6 +42,9 @@ fn is_unmarked(index: &Index<'_>, e: &EntryFact) -> bool
 pub fn unmarked<'a>(index: &Index<'a>) -> Option<&'a EntryFact>
     ensures { option_copied result ≡ find (siblings.is_unmarked index.now.facts.now) index.now.facts.now.entries }
 {
+    if index.has_single_entries() {
+        return None;
+    }
     let facts = index.facts;
     facts.entries.iter().find(|e| is_unmarked(index, e))
 }

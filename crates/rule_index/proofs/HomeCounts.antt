@@ -1,5 +1,5 @@
 -- Entries counted at the places of their files' inodes.
-use Rattle.std.proofs.Common.{◌≡◌, ℕ, ◌+◌, ◌<◌, ◌≤◌, Bool, true, false, cond, List, [], ◌∷◌, ◌++◌, length, take, get_or, Some, None, refl, ap, sym, subst, ◌∙◌, inl, inr, arith}
+use Rattle.std.proofs.Common.{◌≡◌, ℕ, ◌+◌, ◌<◌, ◌≤◌, Bool, true, false, cond, List, [], ◌∷◌, ◌++◌, length, take, get_or, Option, Some, None, refl, ap, sym, subst, ◌∙◌, inl, inr, arith}
 use Rattle.std.specs.Prelude.{◌==◌, ◌&&◌, count_by, is_none}
 use Rattle.std.specs.List.{find, position}
 use Rattle.std.proofs.Math.ListN.{set}
@@ -43,14 +43,14 @@ count-more p xs x e =
 -- files with one place are the same
 same-file : (kins : List (ℕ × Kin)) (a b i j : ℕ) → Some i ≡ kin_place kins a → Some j ≡ kin_place kins b → i ≡ j → a ≡ b
 same-file kins a b i j e f same =
-    let d : ℕ × Kin = (0, record { kind = 0; parent = 0 }) in
+    let d : ℕ × Kin = (0, record { kind = 0 }) in
     let s = position-Some (λ (k : ℕ × Kin). k.0 == a) kins i d (sym e) in
     let t = position-Some (λ (k : ℕ × Kin). k.0 == b) kins j d (sym f) in
     sym (equal-from (get_or kins i d).0 a s.1) ∙ (ap (λ (n : ℕ). (get_or kins n d).0) same ∙ equal-from (get_or kins j d).0 b t.1)
 
 -- a place is in the list
 within : (kins : List (ℕ × Kin)) (file at : ℕ) → Some at ≡ kin_place kins file → at < length kins
-within kins file at e = (position-Some (λ (k : ℕ × Kin). k.0 == file) kins at (0, record { kind = 0; parent = 0 }) (sym e)).0
+within kins file at e = (position-Some (λ (k : ℕ × Kin). k.0 == file) kins at (0, record { kind = 0 }) (sym e)).0
 
 -- an entry that isn't a file's leaves its home as it is
 home-stays : (entries : List (Fact Entry)) (e : Fact Entry) (file : ℕ) (home : Home) → names_file file e ≡ false → IsHomeOf entries file home → IsHomeOf (entries ++ e ∷ []) file home
@@ -175,3 +175,22 @@ only-home entries file home one is =
 -- and another that there isn't one alone
 pub no-only-home : (entries : List (Fact Entry)) (file : ℕ) (home : Home) → (home.entries ≡ 1 → ⊥) → IsHomeOf entries file home → IsOnlyHome entries file None
 no-only-home entries file home other is = λ one. other (is.0 ∙ one)
+
+-- no file has two entries where no place has two and all are at places
+pub single-entries : (kins : List (ℕ × Kin)) (entries : List (Fact Entry)) (homes : List Home × List (ℕ × ℕ)) → homes.1 ≡ [] → ((at : ℕ) → at < length homes.0 → (get_or homes.0 at no_home).entries ≤ 1) → HasHomes kins entries homes
+    → (file : ℕ) → count_by (names_file file) entries ≤ 1
+single-entries kins entries homes none few had file =
+    let go : (o : Option ℕ) → o ≡ kin_place kins file → count_by (names_file file) entries ≤ 1 =
+    λ o. elim o as (λ o. o ≡ kin_place kins file → count_by (names_file file) entries ≤ 1) [
+      | None ↦ λ e.
+          let nothing : IsHomeIn homes.1 file no_home = subst (λ (pairs : List (ℕ × ℕ)). IsHomeIn pairs file no_home) (sym none) (pairs-none [] file refl) in
+          let counted = (home-among kins entries homes file no_home e nothing had).0 in
+          omega (arith, counted)
+      | Some at ↦ λ e.
+          let low = within kins file at e in
+          let long = had.long in
+          let one = few at (omega (arith, low, long)) in
+          let counted = (had.placed file at e).0 in
+          omega (arith, one, counted)
+    ] in
+    go (kin_place kins file) refl

@@ -1,4 +1,4 @@
--- The kind and the parent of each inode.
+-- The kind of each inode.
 use Rattle.std.proofs.Common.{◌≡◌, ℕ, Bool, true, false, cond, List, [], ◌∷◌, Option, Some, None, refl, ap, ◌∙◌}
 use Rattle.std.specs.Prelude.{option_map, ◌==◌, not, map}
 use Rattle.std.specs.List.{find}
@@ -31,7 +31,7 @@ kins-given inodes given all q =
 -- sorted with those of an id in their order
 pub kins-sorted : (inodes : List (Fact Inode)) (given sorted : List (ℕ × Kin)) → given ≡ map with_id inodes → IsStableByKey (λ (k : ℕ × Kin). k.0) nat_cmp given sorted → HasKins inodes sorted
 kins-sorted inodes given sorted all stable q =
-    ap (option_map (λ (k : ℕ × Kin). k.1)) (stable-first (λ (k : ℕ × Kin). k.0) given sorted q (q, record { kind = 0; parent = 0 }) refl stable) ∙ kins-given inodes given all q
+    ap (option_map (λ (k : ℕ × Kin). k.1)) (stable-first (λ (k : ℕ × Kin). k.0) given sorted q (q, record { kind = 0 }) refl stable) ∙ kins-given inodes given all q
 
 -- whether there is a kind, and it is another
 pub kind_passes : (o : Option Inode) (kind : ℕ) → passes (option_map inode_kind o) (λ k. not (k == kind)) ≡ passes o (λ (x : Inode). not (inode_kind x == kind))

@@ -2,4 +2,5 @@ pub mod Counting
 pub mod KinLooks
 pub mod HomeLooks
 pub mod CountingKeys
+pub mod Wholes
 pub mod HomeCounts

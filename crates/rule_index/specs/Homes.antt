@@ -1,9 +1,9 @@
 -- The directories of each file's entries.
-use Rattle.std.specs.Prelude.{◌≡◌, ◌≢◌, ℕ, ◌+◌, ◌<◌, Bool, ◌==◌, ◌&&◌, List, length, slice_index_or, count_by, Option, Some, is_none, MatchOption}
+use Rattle.std.specs.Prelude.{◌≡◌, ◌≢◌, ℕ, ◌+◌, ◌<◌, Bool, ◌==◌, ◌&&◌, not, List, length, slice_index_or, count_by, Option, Some, is_none, MatchOption}
 use Rattle.fs_record.specs.Entries.{Entry}
-use Rattle.fs_record.specs.Facts.{Fact}
+use Rattle.fs_record.specs.Facts.{Fact, directory_kind}
 use Rattle.view_rules.specs.Facts.{does_count, names_file}
-use Rattle.rule_index.specs.Kins.{kin_place}
+use Rattle.rule_index.specs.Kins.{kin_place, has_kind}
 use Rattle.rule_index.specs.declared.kin.Kin.{Kin}
 use Rattle.rule_index.specs.declared.homes.Home.{Home}
 
@@ -30,6 +30,10 @@ is_home file directory e = names_file file e && (e.id == directory)
 -- an entry counts, and its file has no inode
 abbrev pub is_homeless : List (ℕ × Kin) → Fact Entry → Bool
 is_homeless kins e = does_count e && is_none (kin_place kins e.what.file_id)
+
+-- an entry that counts lacks its directory, or its file with its kind, by the kinds of inodes
+abbrev pub is_astray : List (ℕ × Kin) → Fact Entry → Bool
+is_astray kins e = does_count e && not (has_kind kins e.id directory_kind && has_kind kins e.what.file_id e.what.kind)
 
 -- the home of a file that has no entry
 abbrev pub no_home : Home

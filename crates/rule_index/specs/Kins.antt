@@ -1,13 +1,14 @@
--- The kind and the parent of each inode.
-use Rattle.std.specs.Prelude.{◌≡◌, ℕ, List, ◌==◌, Option, option_map}
+-- The kind of each inode.
+use Rattle.std.specs.Prelude.{◌≡◌, ℕ, Bool, List, ◌==◌, Option, option_map}
 use Rattle.std.specs.List.{find, position}
+use Rattle.apfs_model.specs.Lists.{passes}
 use Rattle.fs_record.specs.Inodes.{Inode, inode_kind}
 use Rattle.fs_record.specs.Facts.{Fact, first_for}
 use Rattle.rule_index.specs.declared.kin.Kin.{Kin}
 
--- the kind and the parent of an inode
+-- the kind of an inode
 abbrev pub kin_of : Inode → Kin
-kin_of inode = record { kind = inode_kind inode; parent = inode.parent }
+kin_of inode = record { kind = inode_kind inode }
 
 -- those of an inode, after its id
 abbrev pub with_id : Fact Inode → ℕ × Kin
@@ -20,6 +21,10 @@ kin_in kins q = option_map (λ (k : ℕ × Kin). k.1) (find (λ (k : ℕ × Kin)
 -- the place of those of an id in a list, the first where there are more
 abbrev pub kin_place : List (ℕ × Kin) → ℕ → Option ℕ
 kin_place kins q = position (λ (k : ℕ × Kin). k.0 == q) kins
+
+-- a list has an inode of an id that is of a kind
+abbrev pub has_kind : List (ℕ × Kin) → ℕ → ℕ → Bool
+has_kind kins q kind = passes (kin_in kins q) (λ (k : Kin). k.kind == kind)
 
 -- a list has those of the inode of each id, the first where there are more
 abbrev pub HasKins : List (Fact Inode) → List (ℕ × Kin) → Type 0

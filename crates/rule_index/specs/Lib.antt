@@ -1,5 +1,6 @@
 pub mod Ids
 pub mod Kins
 pub mod Homes
+pub mod Lost
 pub mod Keys
 pub mod Digests

@@ -1,10 +1,12 @@
 // The directories of each file's entries.
-ghost use Rattle.std.specs.Prelude.{◌≡◌, ◌<◌, ◌+◌, ◌-◌, ◌^◌, ◌++◌, ◌∷◌, [], ℕ, List, Some, length, replicate, slice_index_or, slice_set, count_by, IfOk, OnOk};
+ghost use Rattle.std.specs.Prelude.{◌≡◌, ◌<◌, ◌≤◌, ◌+◌, ◌-◌, ◌^◌, ◌++◌, ◌∷◌, [], ◌&&◌, not, ℕ, List, Some, true, false, length, replicate, slice_index_or, slice_set, count_by, IfOk, OnOk};
+ghost use Rattle.std.specs.List.{list_any};
 ghost use Rattle.fs_record.specs.Entries.{Entry};
-ghost use Rattle.fs_record.specs.Facts.{Fact};
+ghost use Rattle.fs_record.specs.Facts.{Fact, directory_kind};
 ghost use Rattle.view_rules.specs.Facts.{names_file};
-ghost use Rattle.rule_index.specs.Kins.{kin_place};
-ghost use Rattle.rule_index.specs.Homes.{pair_of, no_home, one_more, IsHomeOf, IsOnlyHome, HasHomes};
+ghost use Rattle.rule_index.specs.declared.kin.Kin.{Kin};
+ghost use Rattle.rule_index.specs.Kins.{kin_place, has_kind};
+ghost use Rattle.rule_index.specs.Homes.{pair_of, no_home, one_more, is_astray, IsHomeOf, IsOnlyHome, HasHomes};
 
 use crate::ids::does_count;
 use crate::kin::Kins;
@@ -65,41 +67,88 @@ fn pair_of(e: &EntryFact) -> (u64, u64)
     (e.file_id(), e.id())
 }
 
-// Adds one more entry: at the place of its file's inode, or to the others.
+// Whether an entry has its directory, and its file, whose inode stands at a place, with its kind.
+fn has_both(kins: &Kins, at: usize, e: &EntryFact) -> bool
+    requires { Some at ≡ kin_place kins.now e.now.what.file_id }
+    ensures { result ≡ (has_kind kins.now e.now.id directory_kind && has_kind kins.now e.now.what.file_id e.now.what.kind) }
+{
+    kins.has_kind(e.id(), 4) && kins.has_kind_at(at, e.kind())
+}
+
+// Adds one more entry: at the place of its file's inode, or to the others. Tells whether it is whole: it doesn't count, or it has its directory, and its
+// file with its kind.
 fn add(
     places: &mut [Home],
     others: &mut Vec<(u64, u64)>,
     kins: &Kins,
     e: &EntryFact,
-) -> Result<(), NoMemory>
+) -> Result<bool, NoMemory>
     requires long { length places.old ≡ length kins.now }
     requires few { (at : ℕ) → Some at ≡ kin_place kins.now e.now.what.file_id → (slice_index_or places.old at no_home).entries < 2 ^ 64 - 1 }
-    ensures { OnOk result ((entries : List (Fact Entry)) → HasHomes kins.now entries (places.old, others.old.items) → HasHomes kins.now (entries ++ e.now ∷ []) (places.new, others.new.items)) }
+    ensures homes { OnOk result ((entries : List (Fact Entry)) → HasHomes kins.now entries (places.old, others.old.items) → HasHomes kins.now (entries ++ e.now ∷ []) (places.new, others.new.items)) }
+    ensures whole { IfOk result (λ whole. whole ≡ not (is_astray kins.now e.now)) }
 {
     if !does_count(e) {
-        return Ok(());
+        return Ok(true);
     }
     let pair = pair_of(e);
     if let Some(at) = kins.place(pair.0) {
         count_at(places, at, pair.1);
-        return Ok(());
+        return Ok(has_both(kins, at, e));
     }
     others.push(pair)?;
-    Ok(())
+    Ok(false)
+}
+
+// Whether entries are whole with one more.
+fn are_still_whole(whole: bool, fits: bool) -> bool
+    ensures { result ≡ (whole && fits) }
+{
+    whole && fits
+}
+
+// Whether no place has two entries.
+fn are_single(places: &[Home]) -> bool
+    ensures { result ≡ true → (at : ℕ) → at < length places.now → (slice_index_or places.now at no_home).entries ≤ 1 }
+{
+    for home in places {
+        if home.entries > 1 {
+            return false;
+        }
+    }
+    true
 }
 
 impl Homes {
-    /// The directories of each file's entries, among those that count.
-    pub(crate) fn of(alloc: Global, entries: &[EntryFact], kins: &Kins) -> Result<Homes, NoMemory>
-        ensures { IfOk result (HasHomes kins.now entries.now) }
+    /// The directories of each file's entries, among those that count, and whether each of these is whole: it has its directory, and
+    /// its file with its kind.
+    pub(crate) fn of(
+        alloc: Global,
+        entries: &[EntryFact],
+        kins: &Kins,
+    ) -> Result<(Homes, bool), NoMemory>
+        ensures homes { IfOk result (λ made. HasHomes kins.now entries.now made.0) }
+        ensures whole { IfOk result (λ made. made.1 ≡ true → list_any (is_astray kins.now) entries.now ≡ false) }
     {
         let mut places = none_yet(alloc, kins.len())?;
         let mut pairs = Vec::new(alloc);
+        let mut whole = true;
         for e in entries {
-            add(&mut places, &mut pairs, kins, e)?;
+            let fits = add(&mut places, &mut pairs, kins, e)?;
+            whole = are_still_whole(whole, fits);
         }
         let others = Pairs::of(alloc, pairs)?;
-        Ok(Homes { places, others })
+        Ok((Homes { places, others }, whole))
+    }
+
+    /// Whether it shows at once that no file has two entries: each that has one has an inode.
+    pub(crate) fn are_single(&self) -> bool
+        ensures { result ≡ true → (kins : List (ℕ × Kin)) (entries : List (Fact Entry)) → HasHomes kins entries self.now → (file : ℕ) → count_by (names_file file) entries ≤ 1 }
+    {
+        if !self.others.is_empty() {
+            return false;
+        }
+        are_single(&self.places)
     }
 
     // The entries of a file: how many, and the directory of one of them.

@@ -1,7 +1,8 @@
 // What the rules look up in the facts of a view.
-ghost use Rattle.std.specs.Prelude.{◌≡◌, IfOk, Some};
+ghost use Rattle.std.specs.Prelude.{◌≡◌, IfOk, Some, true, false};
+ghost use Rattle.std.specs.List.{list_any};
 ghost use Rattle.rule_index.specs.Kins.{HasKins};
-ghost use Rattle.rule_index.specs.Homes.{HasHomes};
+ghost use Rattle.rule_index.specs.Homes.{HasHomes, is_astray};
 ghost use Rattle.rule_index.specs.Ids.{CountsIds, system_file, target_file};
 
 use crate::counts::Counts;
@@ -18,11 +19,14 @@ pub struct Index<'a> {
     pub facts: &'a Facts,
     kins: Kins,
     homes: Homes,
+    // Whether each entry that counts has its directory, and its file with its kind.
+    whole: bool,
     directories: Counts,
     system: Counts,
     targets: Counts,
     ghost kins_right: { HasKins facts.now.inodes kins },
     ghost homes_right: { HasHomes kins facts.now.entries homes },
+    ghost whole_right: { whole ≡ true → list_any (is_astray kins) facts.now.entries ≡ false },
     ghost directories_right: { CountsIds (λ e. Some e.id) facts.now.entries directories },
     ghost system_right: { CountsIds system_file facts.now.entries system },
     ghost targets_right: { CountsIds target_file facts.now.attributes targets },
@@ -31,10 +35,9 @@ pub struct Index<'a> {
 impl<'a> Index<'a> {
     ghost use Rattle.view_rules.specs.Facts as spec;
     ghost use Rattle.rule_index.specs.Homes.{is_named, IsOnlyHome};
-    ghost use Rattle.view_rules.specs.Directories.{parent_at};
     ghost use Rattle.fs_record.specs.Inodes.{inode_kind};
-    ghost use Rattle.std.specs.Prelude.{option_map};
-    ghost use Rattle.std.specs.List.{list_any};
+    ghost use Rattle.std.specs.Prelude.{◌≤◌, ℕ, option_map};
+    ghost use Rattle.rule_index.specs.Lost.{is_lost};
     ghost use Rattle.view_rules.specs.Counts.{is_system_name};
     ghost use Rattle.view_rules.specs.Inodes.{gives_target};
 
@@ -43,14 +46,15 @@ impl<'a> Index<'a> {
         ensures { IfOk result (λ index. index.facts.now ≡ facts.now) }
     {
         let kins = Kins::of(alloc, &facts.inodes)?;
-        let homes = Homes::of(alloc, &facts.entries, &kins)?;
+        let counted = Homes::of(alloc, &facts.entries, &kins)?;
         let directories = tally::<_, ByDirectory>(alloc, &facts.entries)?;
         let system = tally::<_, BySystemFile>(alloc, &facts.entries)?;
         let targets = tally::<_, ByTarget>(alloc, &facts.attributes)?;
         Ok(Index {
             facts,
             kins,
-            homes,
+            homes: counted.0,
+            whole: counted.1,
             directories,
             system,
             targets,
@@ -84,14 +88,18 @@ impl<'a> Index<'a> {
         }
     }
 
-    /// The parent id of the inode of an id.
-    pub fn parent(&self, id: u64) -> Option<u64>
-        ensures { result ≡ parent_at self.now.facts.now id }
+    /// Whether each entry that counts has its directory, and its file with its kind.
+    pub fn has_whole_entries(&self) -> bool
+        ensures { result ≡ true → list_any (is_lost self.now.facts.now) self.now.facts.now.entries ≡ false }
     {
-        match self.kins.get(id) {
-            Some(kin) => Some(kin.parent),
-            None => None,
-        }
+        self.whole
+    }
+
+    /// Whether it shows at once that no file has two entries: each that has one has an inode.
+    pub fn has_single_entries(&self) -> bool
+        ensures { result ≡ true → (id : ℕ) → spec.entry_count self.now.facts.now id ≤ 1 }
+    {
+        self.homes.are_single()
     }
 
     /// How many entries a file has.

@@ -1,8 +1,8 @@
-// The kind and the parent of each inode.
-ghost use Rattle.std.specs.Prelude.{◌≡◌, ℕ, length, map, IfOk};
+// The kind of each inode.
+ghost use Rattle.std.specs.Prelude.{◌≡◌, ◌<◌, ℕ, Some, length, map, IfOk};
 ghost use Rattle.std.specs.List.Sorted.{IsNonDecreasingBy};
 ghost use Rattle.rule_index.specs.declared.kin.Kin as declared;
-ghost use Rattle.rule_index.specs.Kins.{with_id, kin_in, kin_place, HasKins};
+ghost use Rattle.rule_index.specs.Kins.{with_id, kin_in, kin_place, has_kind, HasKins};
 
 use blk_source::NoMemory;
 use id_lists::{IdList, OrderBy, are_in_order};
@@ -10,11 +10,10 @@ use std::alloc::{AllocError, Global};
 use std::marker::Model;
 use view_facts::InodeFact;
 
-/// The kind of an inode, and the id of its parent.
+/// The kind of an inode.
 #[derive(Clone, Copy, PartialEq, Eq, Debug)]
 pub(crate) struct Kin {
     pub(crate) kind: u16,
-    pub(crate) parent: u64,
 }
 
 /// By the id of the inode.
@@ -49,10 +48,7 @@ impl Model for Kins {
 fn with_id(f: &InodeFact) -> (u64, Kin)
     ensures { result ≡ with_id f.now }
 {
-    let kin = Kin {
-        kind: f.kind(),
-        parent: f.parent(),
-    };
+    let kin = Kin { kind: f.kind() };
     (f.id(), kin)
 }
 
@@ -108,5 +104,23 @@ impl Kins {
             return None;
         };
         Some(self.list.as_slice()[at].1)
+    }
+
+    /// Whether the inode at the place of an id is of a kind.
+    pub(crate) fn has_kind_at(&self, at: usize, kind: u16) -> bool
+        requires { at < length self.now }
+        ensures { (id : ℕ) → Some at ≡ kin_place self.now id → result ≡ has_kind self.now id kind }
+    {
+        self.list.as_slice()[at].1.kind == kind
+    }
+
+    /// Whether an id has an inode of a kind.
+    pub(crate) fn has_kind(&self, id: u64, kind: u16) -> bool
+        ensures { result ≡ has_kind self.now id kind }
+    {
+        match self.get(id) {
+            Some(kin) => kin.kind == kind,
+            None => false,
+        }
     }
 }

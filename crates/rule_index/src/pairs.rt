@@ -1,5 +1,5 @@
 // Pairs of a file and a directory, in order.
-ghost use Rattle.std.specs.Prelude.{◌≡◌, ℕ, Bool, count_by, IfOk};
+ghost use Rattle.std.specs.Prelude.{◌≡◌, [], true, ℕ, Bool, count_by, IfOk};
 ghost use Rattle.rule_index.specs.Homes.{IsHomeIn};
 
 use crate::homes::Home;
@@ -42,6 +42,13 @@ impl Pairs {
         list.sort_unstable();
         let list = IdList::of(alloc, list)?;
         Ok(Pairs { list })
+    }
+
+    /// Whether there are none.
+    pub(crate) fn is_empty(&self) -> bool
+        ensures { result ≡ true → self.now ≡ [] }
+    {
+        self.list.as_slice().is_empty()
     }
 
     /// The pairs of a file: how many, and the directory of the first.

@@ -1,10 +1,12 @@
-use Rattle.std.proofs.Common.{◌≡◌, ◌+◌, List, ◌∷◌, [], ◌++◌, length, take, drop, ap, sym, subst, ◌∙◌, arith}
+use Rattle.std.proofs.Common.{◌≡◌, ◌+◌, false, List, ◌∷◌, [], ◌++◌, length, take, drop, ap, sym, subst, ◌∙◌, arith}
+use Rattle.std.specs.List.{list_any}
 use Rattle.std.proofs.lemmas.List.{take_more, take_all}
 use Rattle.fs_record.specs.Entries.{Entry}
 use Rattle.fs_record.specs.Facts.{Fact}
 use Rattle.rule_index.specs.declared.homes.Home.{Home}
-use Rattle.rule_index.specs.Homes.{HasHomes}
+use Rattle.rule_index.specs.Homes.{is_astray, HasHomes}
 use Rattle.rule_index.proofs.HomeCounts.{homes-sorted, written-back}
+use Rattle.rule_index.proofs.Wholes.{none-more, still-whole}
 use Rattle.rule_index.proofs.homes.Homes.of.Goals as goal
 
 pub loop-e-preserved : goal.loop-e-preserved
@@ -13,17 +15,27 @@ loop-e-preserved c =
     let entries = c.args.entries.now in
     let i = c.loop-e.e-index in
     let e = c.e-item.result in
-    let before : HasHomes kins (take i entries) (c.deref_mut.result.now, c.loop-e.pairs.items) = subst (λ (list : List Home). HasHomes kins (take i entries) (list, c.loop-e.pairs.items)) (sym c.deref_mut.ensures.value) c.loop-e.invariant in
-    let after = c.in_ok-add.ensures (take i entries) before in
+    let before : HasHomes kins (take i entries) (c.deref_mut.result.now, c.loop-e.pairs.items) = subst (λ (list : List Home). HasHomes kins (take i entries) (list, c.loop-e.pairs.items)) (sym c.deref_mut.ensures.value) c.loop-e.invariant.homes in
+    let after = c.in_ok-fits.ensures.homes (take i entries) before in
     let more : take (i + 1) entries ≡ take i entries ++ e ∷ [] = take_more entries i e c.loop-e-test.true ∙ ap (λ x. take i entries ++ x ∷ []) (sym c.e-item.is) in
     let back : take c.loop-e.places.len (c.add.new.places ++ drop (length c.add.new.places) c.loop-e.places.items) ≡ c.add.new.places =
     written-back c.add.new.places (drop (length c.add.new.places) c.loop-e.places.items) c.loop-e.places.len (omega arith) in
-    subst (λ (es : List (Fact Entry)). HasHomes kins es (take c.loop-e.places.len (c.add.new.places ++ drop (length c.add.new.places) c.loop-e.places.items), c.add.new.others.items)) (sym more)
-    (subst (λ (list : List Home). HasHomes kins (take i entries ++ e ∷ []) (list, c.add.new.others.items)) (sym back) after)
+    record {
+      homes =
+          subst (λ (es : List (Fact Entry)). HasHomes kins es (take c.loop-e.places.len (c.add.new.places ++ drop (length c.add.new.places) c.loop-e.places.items), c.add.new.others.items)) (sym more)
+          (subst (λ (list : List Home). HasHomes kins (take i entries ++ e ∷ []) (list, c.add.new.others.items)) (sym back) after);
+      whole = λ so.
+          let t = still-whole c.loop-e.whole c.in_ok-fits.fits (is_astray kins e) c.are_still_whole-whole.result c.are_still_whole-whole.ensures c.in_ok-fits.ensures.whole so in
+          ap (list_any (is_astray kins)) more ∙ none-more (is_astray kins) (take i entries) e (c.loop-e.invariant.whole t.0) t.1;
+    }
 
-pub returns : goal.returns
-returns c =
+pub returns-clause-homes : goal.returns-clause-homes
+returns-clause-homes c =
     let kins = c.args.kins.now in
     let entries = c.args.entries.now in
     homes-sorted kins entries c.loop-e.places.items c.loop-e.pairs.items c.in_ok-others.others c.in_ok-others.ensures
-    (subst (λ (es : List (Fact Entry)). HasHomes kins es (c.loop-e.places.items, c.loop-e.pairs.items)) (take_all c.loop-e.e-index entries c.loop-e-test.false) c.loop-e.invariant)
+    (subst (λ (es : List (Fact Entry)). HasHomes kins es (c.loop-e.places.items, c.loop-e.pairs.items)) (take_all c.loop-e.e-index entries c.loop-e-test.false) c.loop-e.invariant.homes)
+
+pub returns-clause-whole : goal.returns-clause-whole
+returns-clause-whole c so =
+    subst (λ (es : List (Fact Entry)). list_any (is_astray c.args.kins.now) es ≡ false) (take_all c.loop-e.e-index c.args.entries.now c.loop-e-test.false) (c.loop-e.invariant.whole so)

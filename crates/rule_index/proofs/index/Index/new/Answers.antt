@@ -1,11 +1,12 @@
-use Rattle.std.proofs.Common.{◌∙◌, ap, subst, List, Some}
+use Rattle.std.proofs.Common.{◌≡◌, ◌∙◌, ap, subst, false, List, Some}
+use Rattle.std.specs.List.{list_any}
 use Rattle.fs_record.specs.Entries.{Entry}
 use Rattle.fs_record.specs.Attributes.{Attribute}
 use Rattle.fs_record.specs.Inodes.{Inode}
 use Rattle.fs_record.specs.Facts.{Fact}
 use Rattle.view_rules.specs.Facts.{Facts}
 use Rattle.rule_index.specs.Kins.{HasKins}
-use Rattle.rule_index.specs.Homes.{HasHomes}
+use Rattle.rule_index.specs.Homes.{HasHomes, is_astray}
 use Rattle.rule_index.specs.Ids.{CountsIds, system_file, target_file}
 use Rattle.rule_index.proofs.index.Index.new.Goals as goal
 
@@ -13,7 +14,10 @@ pub invariant_of-result-clause-kins_right : goal.invariant_of-result-clause-kins
 invariant_of-result-clause-kins_right c = subst (λ (inodes : List (Fact Inode)). HasKins inodes c.in_ok-kins.kins) (c.deref.ensures.value ∙ ap (λ (f : Facts). f.inodes) c.facts.view_is) c.in_ok-kins.ensures
 
 pub invariant_of-result-clause-homes_right : goal.invariant_of-result-clause-homes_right
-invariant_of-result-clause-homes_right c = subst (λ (entries : List (Fact Entry)). HasHomes c.in_ok-kins.kins entries c.in_ok-homes.homes) (c.deref-2.ensures.value ∙ ap (λ (f : Facts). f.entries) c.facts.view_is) c.in_ok-homes.ensures
+invariant_of-result-clause-homes_right c = subst (λ (entries : List (Fact Entry)). HasHomes c.in_ok-kins.kins entries c.in_ok-counted.counted.0) (c.deref-2.ensures.value ∙ ap (λ (f : Facts). f.entries) c.facts.view_is) c.in_ok-counted.ensures.homes
+
+pub invariant_of-result-clause-whole_right : goal.invariant_of-result-clause-whole_right
+invariant_of-result-clause-whole_right c so = subst (λ (entries : List (Fact Entry)). list_any (is_astray c.in_ok-kins.kins) entries ≡ false) (c.deref-2.ensures.value ∙ ap (λ (f : Facts). f.entries) c.facts.view_is) (c.in_ok-counted.ensures.whole so)
 
 pub invariant_of-result-clause-directories_right : goal.invariant_of-result-clause-directories_right
 invariant_of-result-clause-directories_right c = subst (λ (entries : List (Fact Entry)). CountsIds (λ (e : Fact Entry). Some e.id) entries c.in_ok-directories.directories) (c.deref-3.ensures.value ∙ ap (λ (f : Facts). f.entries) c.facts.view_is) c.in_ok-directories.ensures

@@ -6,7 +6,7 @@ use Rattle.id_lists.proofs.InOrder.{found-there, found-nowhere}
 use Rattle.rule_index.proofs.kin.Kins.get.Goals as goal
 
 abbrev nothing : ℕ × Kin
-nothing = (0, record { kind = 0; parent = 0 })
+nothing = (0, record { kind = 0 })
 
 pub returns-in_default : goal.returns-in_default
 returns-in_default c =
