@@ -1,5 +1,5 @@
 -- The marks of a ledger, by its bits.
-use Rattle.std.proofs.Common.{◌≡◌, ℕ, zero, suc, ◌+◌, ◌-◌, ◌*◌, ◌/◌, ◌%◌, ◌^◌, ◌<◌, ◌≤◌, Bool, true, false, not, ◌&&◌, ◌||◌, nat_le, List, length, take, replicate, min, max, slice_range, refl, ap, ap₂, sym, ◌∙◌, arith, inl, inr, cond, zero-add}
+use Rattle.std.proofs.Common.{◌≡◌, ℕ, zero, suc, ◌+◌, ◌-◌, ◌*◌, ◌/◌, ◌%◌, ◌^◌, ◌<◌, ◌≤◌, Bool, true, false, not, ◌&&◌, ◌||◌, nat_le, List, length, take, replicate, min, slice_range, refl, ap, ap₂, sym, ◌∙◌, arith, inl, inr, cond, zero-add}
 use Rattle.std.specs.Prelude.{count_by}
 use Rattle.std.specs.List.{range_with_len}
 use Rattle.std.proofs.lemmas.Bool.{cases_Bool}
@@ -13,7 +13,7 @@ use Rattle.apfs_model.specs.Blocks.{is_in, is_within}
 use Rattle.apfs_model.specs.Counts.{given}
 use Rattle.apfs_model.proofs.BoolTests.{left-true, right-true, both-true, below-from, upto-from, from-below, from-upto, clash}
 use Rattle.bit_lanes.specs.Bits.{IsFirstDifference, ones_below, ones_of}
-use Rattle.own_ledger.specs.Held.{HeldBlocks, holds, held_count, lies_in, IsEmpty, CanClaim, AddsRange, AddsWithin, Joins, IsTwice, Agrees, IsLeastDifference}
+use Rattle.own_ledger.specs.Held.{HeldBlocks, holds, held_count, lies_in, IsEmpty, CanClaim, AddsRange, IsTwice, Agrees, IsLeastDifference}
 use Rattle.bit_lanes.specs.Places.{is_from, AreClear, IsLeastSet}
 use Rattle.own_ledger.specs.Inside.{marks_of, IsSound}
 
@@ -157,35 +157,6 @@ claim-adds l_first blocks old new first length inside set =
             holds-out l_first blocks new block out ∙ sym (ap₂ (λ a b. a || b) (holds-out l_first blocks old block out) none)
       ];
     }
-
--- ---- what is added, held or not
-
-pub add-within : (l_first blocks : ℕ) (old new : List ℕ) (first length from to : ℕ) → from ≡ max first l_first → to ≡ min (first + length) (l_first + blocks) →
-    ((k : ℕ) → bit_at new k ≡ (bit_at old k || is_from (from - l_first) (to - l_first) k)) → AddsWithin (ledger_of l_first blocks old) (ledger_of l_first blocks new) first length
-add-within l_first blocks old new first length from to above below set = record {
-  same_first = refl;
-  same_blocks = refl;
-  held = λ block one.
-      let block_above = in-above block l_first blocks one in
-      let block_below = in-below block l_first blocks one in
-      let same : is_from (from - l_first) (to - l_first) (block - l_first) ≡ is_in block first length = grind (arith, nat_tests) in
-      holds-at l_first blocks new block one ∙ set (block - l_first)
-      ∙ ap₂ (λ a b. a || b) (sym (holds-at l_first blocks old block one)) same;
-}
-
-pub joins : (l_first blocks : ℕ) (old other new : List ℕ) → ((k : ℕ) → bit_at new k ≡ (bit_at old k || bit_at other k)) → Joins (ledger_of l_first blocks old) (ledger_of l_first blocks other) (ledger_of l_first blocks new)
-joins l_first blocks old other new set = record {
-  same_first = refl;
-  same_blocks = refl;
-  held = λ block. elim (cases_Bool (is_in block l_first blocks)) [
-    | inl one ↦
-        holds-at l_first blocks new block one ∙ set (block - l_first)
-        ∙ sym (ap₂ (λ a b. a || b) (holds-at l_first blocks old block one) (holds-at l_first blocks other block one))
-    | inr out ↦
-        holds-out l_first blocks new block out
-        ∙ sym (ap₂ (λ a b. a || b) (holds-out l_first blocks old block out) (holds-out l_first blocks other block out))
-  ];
-}
 
 -- ---- comparisons
 

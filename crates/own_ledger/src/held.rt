@@ -2,7 +2,7 @@
 ghost use Rattle.std.specs.Prelude.{◌≡◌, ℕ, ◌+◌, ◌-◌, ◌*◌, ◌%◌, ◌^◌, ◌<◌, ◌≤◌, true, false, length, OnOk, OnErr, IfOk, IfErr, IsNone, IfSome};
 
 use apfs_model::NoMemory;
-use bit_lanes::{count_ones, first_difference, is_set, least_set, or_into, set_range};
+use bit_lanes::{count_ones, first_difference, is_set, least_set, set_range};
 use std::alloc::Global;
 use std::marker::Model;
 
@@ -44,7 +44,7 @@ impl Model for Ledger {
 }
 
 impl Ledger {
-    ghost use Rattle.own_ledger.specs.Held.{holds, held_count, lies_in, IsEmpty, CanClaim, AddsRange, IsClaimFault, AddsWithin, Joins, Agrees, IsLeastDifference};
+    ghost use Rattle.own_ledger.specs.Held.{holds, held_count, lies_in, IsEmpty, CanClaim, AddsRange, IsClaimFault, Agrees, IsLeastDifference};
 
     /// A ledger of so many blocks from the first on, of which it holds none. It takes one bit a block, and no other call takes
     /// memory.
@@ -115,30 +115,6 @@ impl Ledger {
         }
         set_range(&mut self.bits, from, to);
         Ok(())
-    }
-
-    /// Adds the blocks of a range that lie in that of the ledger, whether or not they are held.
-    pub fn add(&mut self, first: u64, length: u64)
-        ensures { AddsWithin self.old self.new first length }
-    {
-        let from = first.max(self.first);
-        let to = first.saturating_add(length).min(self.first + self.blocks);
-        if from < to {
-            set_range(
-                &mut self.bits,
-                (from - self.first) as usize,
-                (to - self.first) as usize,
-            );
-        }
-    }
-
-    /// Adds the blocks that another ledger of the same range holds.
-    pub fn join(&mut self, other: &Ledger)
-        requires first { self.old.first ≡ other.now.first }
-        requires blocks { self.old.blocks ≡ other.now.blocks }
-        ensures { Joins self.old other.now self.new }
-    {
-        or_into(&mut self.bits, &other.bits);
     }
 
     /// The least of so many blocks from a first on that is held where its bit isn't set, or isn't held where it is; `None` where

@@ -101,32 +101,3 @@ fn differences(rt: HostRuntime) -> Result<(), Fail> {
     }
     Ok(())
 }
-
-#[test]
-fn adds_held_or_not(rt: HostRuntime) -> Result<(), Fail> {
-    for (first, length, held) in [
-        (5, 8, 15),
-        (12, 3, 10),
-        (99, 2, 11),
-        (100, 7, 10),
-        (u64::MAX, 2, 10),
-        (0, u64::MAX, 100),
-        (50, 0, 10),
-    ] {
-        let mut ledger = ten_of_a_hundred(rt.alloc())?;
-        ledger.add(first, length);
-        assert_eq!(rt; ledger.held(), held, "{first} {length}");
-    }
-    Ok(())
-}
-
-#[test]
-fn joins_what_another_holds(rt: HostRuntime) -> Result<(), Fail> {
-    let mut ledger = ten_of_a_hundred(rt.alloc())?;
-    let mut other = ten_of_a_hundred(rt.alloc())?;
-    other.add(15, 10);
-    ledger.join(&other);
-    assert_eq!(rt; ledger.held(), 15);
-    assert!(rt; ledger.holds(24) && !ledger.holds(25));
-    Ok(())
-}
