@@ -41,13 +41,18 @@ fn image_at(in_partition: bool) -> usize {
     if in_partition { 2 } else { 1 }
 }
 
+// The place of the word that names the directory, after that of the image.
+fn folder_at(in_partition: bool) -> usize {
+    if in_partition { 3 } else { 2 }
+}
+
 fn places_in(alloc: Global, words: &[String]) -> Result<Places, AllocError> {
     let (image, folder) = match asked(alloc, words)? {
         Some(Order::On { in_partition, .. }) => (Some(image_at(in_partition)), None),
-        Some(Order::Export { in_partition, .. }) => {
-            let image = image_at(in_partition);
-            (Some(image), Some(image + 1))
-        }
+        Some(Order::Export { in_partition, .. }) => (
+            Some(image_at(in_partition)),
+            Some(folder_at(in_partition)),
+        ),
         Some(Order::Gen(_) | Order::Format(_)) | None => (None, None),
     };
     Ok(Places { image, folder })
