@@ -1,0 +1,5 @@
+//! What real directories get. For tests alone.
+#![tactic(auto)]
+
+#[cfg(test)]
+mod tests;
