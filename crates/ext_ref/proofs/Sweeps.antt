@@ -1,8 +1,8 @@
 -- How many streams touch spans, by the places between which the spans stand that a stream touches.
-use Rattle.std.specs.Prelude.{◌≡◌, ◌↔◌, ℕ, zero, suc, ◌+◌, ◌-◌, ◌≤◌, ◌<◌, ◌==◌, ◌||◌, ◌&&◌, not, pos, min, max, Bool, true, false, cond, nat_le, nat_lt, List, [], ◌∷◌, ◌++◌, length, map, filter, count_by, slice_range, refl}
-use Rattle.std.specs.List.{list_any, All, AllPairs}
+use Rattle.std.specs.Prelude.{◌≡◌, ◌↔◌, ℕ, suc, ◌+◌, ◌-◌, ◌≤◌, ◌<◌, ◌==◌, ◌||◌, ◌&&◌, not, min, max, Bool, true, false, cond, nat_le, nat_lt, List, [], ◌∷◌, ◌++◌, length, map, filter, count_by, slice_range, refl}
+use Rattle.std.specs.List.{list_any, All}
 use Rattle.std.specs.List.Sorted.{IsPermutation, IsPartitionPoint}
-use Rattle.std.proofs.Common.{arith, ap, sym, subst, ◌∙◌, inl, inr, get_or, take, drop, length-drop}
+use Rattle.std.proofs.Common.{arith, ap, sym, subst, ◌∙◌, inl, inr, get_or, take, drop}
 use Rattle.std.proofs.lemmas.Bool.{cases_lt, le-ltb}
 use Rattle.std.proofs.lemmas.List.{get_or-take, get_or-drop, length-take, get_or_append_left, get_or_default, length-append}
 use Rattle.std.proofs.Math.Seq.{get_or-append_seam}
@@ -12,10 +12,9 @@ use Rattle.std.proofs.lemmas.List.Sorted.{list_any-IsPermutation, sum_by-IsPermu
 use Rattle.std.proofs.lemmas.List.Sums.{sum_by-cons, sum_by-append, length-filter, count_by_more_yes, count_by_more_no}
 use Rattle.apfs_model.specs.Apart.{Apart}
 use Rattle.apfs_model.specs.Lists.{In, has, distinct}
-use Rattle.apfs_model.proofs.BoolTests.{test_or, never-true, clash, equal-from, from-equal, left-true, right-true, below-from, from-below, upto-from, from-upto}
+use Rattle.apfs_model.proofs.BoolTests.{test_or, never-true, clash, equal-from, from-equal, right-true, below-from, from-below, upto-from, from-upto}
 use Rattle.apfs_model.proofs.Finite.{apart-same, apart-filter}
-use Rattle.apfs_model.proofs.Searches.{in-has, has-in, from-filter, filter-test, in-filter}
-use Rattle.id_lists.proofs.InOrder.{point-count}
+use Rattle.apfs_model.proofs.Searches.{in-has, has-in, filter-test, in-filter}
 use Rattle.fs_record.specs.StreamExtents.{is_hole}
 use Rattle.fs_record.specs.declared.extents.FileExt.{FileExt}
 use Rattle.ext_ref.specs.Cover.{range_has, is_owned}

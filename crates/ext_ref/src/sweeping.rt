@@ -15,7 +15,7 @@ use crate::places::places;
 use crate::rising::rising;
 use crate::{Cover, NewRange};
 use fs_record::FileExt;
-use id_lists::{ByItself, NO_GUESS, OrderBy, below, distinct};
+use id_lists::{ByItself, NO_GUESS, OrderBy, below, distinct, up_to};
 use std::alloc::{AllocError, Global};
 
 // Extents by their streams.
@@ -68,26 +68,13 @@ fn ids_of(alloc: Global, extents: &[(u64, FileExt)]) -> Result<Vec<u64>, AllocEr
     Ok(ids)
 }
 
-// How many extents are of streams whose ids aren't above one.
-fn up_to(extents: &[(u64, FileExt)], id: u64) -> usize
-    requires { IsNonDecreasingBy (λ (x : ℕ × file.FileExt). x.0) extents.now }
-    ensures bound { result ≤ length extents.now }
-    ensures split { IsPartitionPoint (λ (x : ℕ × file.FileExt). nat_le x.0 id ≡ true) (λ (x : ℕ × file.FileExt). nat_le x.0 id ≡ false) extents.now result }
-{
-    extents.partition_point(
-        |extent: &(u64, FileExt)| -> bool
-            ensures { result ≡ nat_le extent.now.0 id }
-        { extent.0 <= id },
-    )
-}
-
-// The extents of a stream, of extents in the order of their streams.
-fn of_stream(extents: &[(u64, FileExt)], id: u64) -> &[(u64, FileExt)]
+// The extents of a stream, of extents in the order of their streams. `guess` is where the search starts.
+fn of_stream(extents: &[(u64, FileExt)], id: u64, guess: usize) -> &[(u64, FileExt)]
     requires { IsNonDecreasingBy (λ (x : ℕ × file.FileExt). x.0) extents.now }
     ensures { result.now ≡ filter (is_of id) extents.now }
 {
-    let low = below::<(u64, FileExt), ByStream>(extents, id, NO_GUESS);
-    let high = up_to(extents, id);
+    let low = below::<(u64, FileExt), ByStream>(extents, id, guess);
+    let high = up_to::<(u64, FileExt), ByStream>(extents, id, low);
     &extents[low.min(high)..high]
 }
 
@@ -125,8 +112,11 @@ fn touched_by(
     ensures counts { IfOk result (λ out. (i : ℕ) (none : declared.Span) → i < length spans.now → count_by (span_has i) out.items ≡ count_by (λ (id : ℕ). list_any (meets block_size (slice_index_or spans.now i none)) (filter (is_of id) extents.now)) ids.now) }
 {
     let mut out = Vec::new(alloc);
+    let mut next: usize = 0;
     for id in ids {
-        add_stream(alloc, &mut out, spans, of_stream(extents, *id), block_size)?;
+        let own = of_stream(extents, *id, next);
+        next = next.saturating_add(own.len());
+        add_stream(alloc, &mut out, spans, own, block_size)?;
     }
     Ok(out)
 }
@@ -168,16 +158,12 @@ fn ends_of(alloc: Global, spans: &[Span]) -> Result<Vec<u128>, AllocError>
     Ok(ends)
 }
 
-// How many first blocks aren't above a number.
-fn begun_by(firsts: &[u64], place: u64) -> usize
+// How many first blocks aren't above a number. `guess` is where the search starts.
+fn begun_by(firsts: &[u64], place: u64, guess: usize) -> usize
     requires { IsNonDecreasingBy (λ (n : ℕ). n) firsts.now }
     ensures { result ≡ count_by (λ (n : ℕ). nat_le n place) firsts.now }
 {
-    firsts.partition_point(
-        |first: &u64| -> bool
-            ensures { result ≡ nat_le first.now place }
-        { *first <= place },
-    )
+    up_to::<u64, ByItself>(firsts, place, guess)
 }
 
 // How many ends aren't above a number.
@@ -206,8 +192,10 @@ fn differences(
     ensures each { IfOk result (λ counts. (i : ℕ) → i < until → slice_index counts.items i ≡ count_by (λ (n : ℕ). nat_le n i) firsts.now - count_by (λ (n : ℕ). nat_le n i) ends.now) }
 {
     let mut counts = Vec::new(alloc);
+    let mut guess: usize = 0;
     for place in 0..until {
-        let begun = begun_by(firsts, place as u64);
+        let begun = begun_by(firsts, place as u64, guess);
+        guess = begun;
         let ended = ended_by(ends, place as u64);
         counts.push((begun - ended) as u64)?;
     }

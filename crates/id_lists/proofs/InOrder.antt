@@ -1,7 +1,7 @@
 -- Searches in lists that are in order.
 use Rattle.std.proofs.Common.{◌≡◌, ℕ, zero, suc, ◌+◌, ◌<◌, ◌≤◌, Bool, true, false, cond, List, [], ◌∷◌, length, get_or, set, Some, None, Result, Ok, Err, refl, ap, sym, ◌∙◌, inl, inr, arith}
 use Rattle.std.specs.Prelude.{◌-◌, count_by, find, slice_get, ◌==◌, nat_lt, nat_le, is_ok, MatchResult, filter, not, ◌&&◌, option_map}
-use Rattle.std.specs.List.{position_or_len, AllPairs, position}
+use Rattle.std.specs.List.{position_or_len, AllPairs, AllAdjacentBelow, position}
 use Rattle.std.specs.List.Sorted.{IsNonDecreasing, IsNonDecreasingBy, IsPartitionPoint, IsStableByKey, ties}
 use Rattle.std.specs.Ordering.{nat_cmp, is_lt}
 use Rattle.std.proofs.lemmas.Bool.{cases_eq, cases_lt, ltb-true, ltb-false}
@@ -9,6 +9,7 @@ use Rattle.std.proofs.lemmas.Bool.Decides.{nat_tests}
 use Rattle.std.proofs.lemmas.List.{get_or-set_same, get_or-set_other, get_or_default, length-set}
 use Rattle.std.proofs.lemmas.List.Sums.{sum_by-cons, position_or_len_is, prefix_len-le-length}
 use Rattle.std.proofs.lemmas.List.Quantifiers.{position-Some}
+use Rattle.std.proofs.lemmas.List.Sorted.{IsNonDecreasingBy-from_all_adjacent}
 use Rattle.std.proofs.lemmas.List.Folds.{find_at}
 use Rattle.std.proofs.lemmas.List.Kept.{AllPairs-from_increasing}
 use Rattle.apfs_model.proofs.BoolTests.{never-true, equal-from, from-equal, below-from, from-below}
@@ -206,6 +207,29 @@ point-here {X} n xs q i up low here before = (first, second)
         let low = here d (omega arith) in
         let le = up i k d a b in
         never-true (nat_lt (n (get_or xs k d)) q) (λ h. let less = below-from (n (get_or xs k d)) q h in omega arith)
+
+rises-before : {X : Type 0} (n : X → ℕ) (xs : List X) (q i : ℕ) → AllAdjacentBelow (λ x y. n x < n y) xs (length xs) → i < length xs → ((d : X) → n (get_or xs i d) ≡ q) → (d : X) → 0 < i → n (get_or xs (i - 1) d) < q
+rises-before n xs q zero up low same d above = absurd (omega arith)
+rises-before n xs q (suc k) up low same d above =
+    let less = up k d (omega arith) in
+    let here = same d in
+    let next = ap (λ j. n (get_or xs j d)) (add-one k) in
+    let before = ap (λ j. n (get_or xs j d)) (sub-one k) in
+    omega (arith, less, here, next, before)
+  where
+    add-one : (k : ℕ) → k + 1 ≡ suc k
+    add-one k = omega arith
+
+    sub-one : (k : ℕ) → suc k - 1 ≡ k
+    sub-one k = omega arith
+
+-- where numbers rise, one of a number is the only one
+pub only-place : {X : Type 0} (n : X → ℕ) (xs : List X) (q i : ℕ) (d : X) → AllAdjacentBelow (λ x y. n x < n y) xs (length xs) → i < length xs → n (get_or xs i d) ≡ q → position (λ x. n x == q) xs ≡ Some i
+only-place {X} n xs q i d up low same =
+    let order : IsNonDecreasingBy n xs = IsNonDecreasingBy-from_all_adjacent n xs (λ k e less. let here = up k e less in omega arith) in
+    let each : (e : X) → n (get_or xs i e) ≡ q = λ e. ap n (get_or_default xs i e d low) ∙ same in
+    let point = point-here n xs q i order (omega arith) (λ e inside. let one = each e in omega arith) (rises-before n xs q i up low each) in
+    position-is n xs q i d low point same
 
 -- where all are below a number, none is of it
 pub position-past : {X : Type 0} (n : X → ℕ) (xs : List X) (q i : ℕ) → i ≡ length xs → IsNonDecreasingBy n xs → IsPartitionPoint (λ x. nat_lt (n x) q ≡ true) (λ x. nat_lt (n x) q ≡ false) xs i → position (λ x. n x == q) xs ≡ None

@@ -12,11 +12,11 @@ pub(crate) struct Guesses {
     places: Vec<u32>,
 }
 
-// By how many bits ids are cut, so that about as many runs as items come out.
+// By how many bits ids are cut, so that as many runs as items come out, or twice as many: where ids lie side by side each has a run of its own.
 fn shift_for(first: u64, last: u64, items: usize) -> u32 {
     let span = last.saturating_sub(first);
     match span.checked_div(items as u64) {
-        Some(ids) => 64 - ids.leading_zeros(),
+        Some(ids) => 63_u32.saturating_sub(ids.leading_zeros()),
         None => 0,
     }
 }
@@ -38,13 +38,18 @@ fn close(places: &mut [u32]) {
 }
 
 impl Guesses {
-    /// The places for a list that is in the order of its ids.
-    pub(crate) fn of<T, B: OrderBy<T>>(alloc: Global, list: &[T]) -> Result<Guesses, NoMemory> {
-        let mut guesses = Guesses {
+    /// No guess for any id.
+    pub(crate) fn none(alloc: Global) -> Guesses {
+        Guesses {
             first: 0,
             shift: 0,
             places: Vec::new(alloc),
-        };
+        }
+    }
+
+    /// The places for a list that is in the order of its ids.
+    pub(crate) fn of<T, B: OrderBy<T>>(alloc: Global, list: &[T]) -> Result<Guesses, NoMemory> {
+        let mut guesses = Guesses::none(alloc);
         if list.is_empty() {
             return Ok(guesses);
         }

@@ -4,11 +4,13 @@
 mod apart;
 mod guesses;
 mod id_list;
+mod id_slice;
 mod search;
 
 pub use apart::distinct;
 pub use id_list::IdList;
-pub use search::{ByItself, NO_GUESS, OrderBy, are_in_order, below, count};
+pub use id_slice::IdSlice;
+pub use search::{ByItself, NO_GUESS, OrderBy, are_in_order, below, count, up_to};
 
 #[cfg(test)]
 mod tests;

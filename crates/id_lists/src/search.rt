@@ -110,8 +110,8 @@ fn searched_up_to<T, B: OrderBy<T>>(list: &[T], id: u64) -> usize
     )
 }
 
-// How many items aren't of ids above one.
-fn up_to<T, B: OrderBy<T>>(list: &[T], id: u64, guess: usize) -> usize
+/// How many items aren't of ids above one. `guess` is where the search starts: a wrong one costs time alone.
+pub fn up_to<T, B: OrderBy<T>>(list: &[T], id: u64, guess: usize) -> usize
     requires { IsNonDecreasingBy B.id list.now }
     ensures bound { result ≤ length list.now }
     ensures split { IsPartitionPoint (λ x. nat_le (B.id x) id ≡ true) (λ x. nat_le (B.id x) id ≡ false) list.now result }

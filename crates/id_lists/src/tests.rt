@@ -1,7 +1,7 @@
 // Lists in order with what is found in them, whatever the guess.
 use crate::guesses::Guesses;
 use crate::search::place;
-use crate::{ByItself, IdList, NO_GUESS, are_in_order, below, count, distinct};
+use crate::{ByItself, IdList, IdSlice, NO_GUESS, are_in_order, below, count, distinct};
 use std::alloc::Global;
 use std::test::Fail;
 
@@ -9,6 +9,24 @@ use std::test::Fail;
 type Row = (&'static [u64], u64, usize, Option<usize>, usize);
 
 const SPARSE: &[u64] = &[2, 3, 16, 17, 17, 17, 20, 1_000_000, u64::MAX];
+
+const RISING: &[u64] = &[2, 3, 16, 18, 20, 1_000_000];
+
+// In no order.
+const LOOSE: &[u64] = &[3, 1, 3, 2];
+
+/// A list, an id, its place, and how many items are of it.
+type Lent = (&'static [u64], u64, Option<usize>, usize);
+
+const LENT: [Lent; 7] = [
+    (RISING, 2, Some(0), 1),
+    (RISING, 18, Some(3), 1),
+    (RISING, 19, None, 0),
+    (RISING, 1_000_000, Some(5), 1),
+    (LOOSE, 3, Some(0), 2),
+    (LOOSE, 2, Some(3), 1),
+    (LOOSE, 4, None, 0),
+];
 
 const ROWS: [Row; 12] = [
     (&[], 0, 0, None, 0),
@@ -58,6 +76,31 @@ fn lists(rt: HostRuntime) -> Result<(), Fail> {
         assert_eq!(rt; made.count(id), of_it);
         put_back(&mut made, id);
         assert_eq!(rt; made.as_slice(), list);
+    }
+    Ok(())
+}
+
+// Whether an id is found in a lent list, with guesses and without, as a row says.
+fn is_found(alloc: Global, row: Lent) -> Result<bool, Fail> {
+    let (list, id, at, of_it) = row;
+    let lent: IdSlice<'_, u64, ByItself> = IdSlice::of(alloc, list)?;
+    let plain: IdSlice<'_, u64, ByItself> = IdSlice::without_guesses(alloc, list);
+    Ok(
+        lent.place(id) == at
+            && lent.count(id) == of_it
+            && plain.place(id) == at
+            && plain.count(id) == of_it
+            && lent.len() == list.len(),
+    )
+}
+
+#[test]
+fn lent_lists(rt: HostRuntime) -> Result<(), Fail> {
+    for (list, id, _, at, of_it) in ROWS {
+        assert!(rt; is_found(rt.alloc(), (list, id, at, of_it))?);
+    }
+    for row in LENT {
+        assert!(rt; is_found(rt.alloc(), row)?);
     }
     Ok(())
 }

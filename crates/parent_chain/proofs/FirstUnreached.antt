@@ -21,7 +21,7 @@ none-climbed facts ways has = record {
   leads = λ id number h. none-or (met_at ways id) number (none-met facts.inodes ways has id) h;
 }
 
-in-push : {X : Type 0} (x y : X) (xs : List X) → In x (xs ++ y ∷ []) → In x xs ⊎ (x ≡ y)
+pub in-push : {X : Type 0} (x y : X) (xs : List X) → In x (xs ++ y ∷ []) → In x xs ⊎ (x ≡ y)
 in-push x y [] (inl e) = inr e
 in-push x y [] (inr h) = absurd h
 in-push x y (z ∷ xs) (inl e) = inl (inl e)

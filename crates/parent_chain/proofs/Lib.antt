@@ -1,3 +1,4 @@
 pub mod WayLooks
 pub mod Climbing
 pub mod FirstUnreached
+pub mod ByDirectories

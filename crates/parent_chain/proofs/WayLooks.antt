@@ -30,10 +30,9 @@ unfolding way_at
 ways-given inodes given all id = ap (find (is_of id)) all ∙ found-way id inodes
 
 -- sorted with those of an id in their order
-pub ways-sorted : (inodes : List (Fact Inode)) (given sorted : List Way) → given ≡ map way_of inodes → IsStableByKey (λ (w : Way). w.id) nat_cmp given sorted → HasWaysOf inodes sorted
+pub ways-sorted : (given sorted : List Way) → IsStableByKey (λ (w : Way). w.id) nat_cmp given sorted → (id : ℕ) → way_at sorted id ≡ way_at given id
 unfolding way_at
-ways-sorted inodes given sorted all stable id =
-    stable-first (λ (w : Way). w.id) given sorted id (record { id = id; parent = 0; climb = None }) refl stable ∙ ways-given inodes given all id
+ways-sorted given sorted stable id = stable-first (λ (w : Way). w.id) given sorted id (record { id = id; parent = 0; climb = None }) refl stable
 
 -- before the first climb each parent is left
 pub all-left : (facts : Facts) (ways : List Way) → HasWaysOf facts.inodes ways → (id : ℕ) → left_at ways id ≡ parent_at facts id

@@ -1,10 +1,12 @@
 // The parent of each inode, and the climb that met it.
-ghost use Rattle.std.specs.Prelude.{◌≡◌, ◌+◌, ◌==◌, ◌&&◌, ℕ, None, Some, nat_le, map, is_some, if◌then◌else◌, IfOk};
+ghost use Rattle.std.specs.Prelude.{◌≡◌, ◌+◌, ◌==◌, ◌&&◌, ℕ, None, Some, nat_le, map, filter, is_some, if◌then◌else◌, IfOk};
 ghost use Rattle.std.specs.List.Sorted.{IsNonDecreasingBy};
 ghost use Rattle.fs_record.specs.Facts.{first_user_id};
+ghost use Rattle.view_rules.specs.Directories as rules;
 ghost use Rattle.parent_chain.specs.declared.ways.Way as declared;
 ghost use Rattle.parent_chain.specs.Ways as spec;
 
+use crate::unreached::is_user_directory;
 use blk_source::NoMemory;
 use id_lists::{IdList, OrderBy, are_in_order};
 use std::alloc::{AllocError, Global};
@@ -65,12 +67,23 @@ fn listed(alloc: Global, inodes: &[InodeFact]) -> Result<Vec<Way>, AllocError>
     inodes.iter().map(|f| way_of(f)).collect(alloc)
 }
 
-// Those of all inodes, in the order of their ids, which is that of their records in a tree.
-fn sorted(alloc: Global, inodes: &[InodeFact]) -> Result<Vec<Way>, AllocError>
-    ensures same { IfOk result (λ list. spec.HasWaysOf inodes.now list.items) }
-    ensures ascending { IfOk result (λ list. IsNonDecreasingBy (λ (w : declared.Way). w.id) list.items) }
+// Those of the directories of 16 or more, in record order.
+fn listed_directories(alloc: Global, inodes: &[InodeFact]) -> Result<Vec<Way>, AllocError>
+    ensures { IfOk result (λ list. list.items ≡ map spec.way_of (filter rules.is_user_directory inodes.now)) }
 {
-    let mut list = listed(alloc, inodes)?;
+    inodes
+        .iter()
+        .filter(|f| is_user_directory(f))
+        .map(|f| way_of(f))
+        .collect(alloc)
+}
+
+// The same ways in the order of their ids, which is that of the records in a tree; those of an id stay in their order.
+fn in_order(list: Vec<Way>) -> Result<Vec<Way>, AllocError>
+    ensures same { IfOk result (λ sorted. (id : ℕ) → spec.way_at sorted.items id ≡ spec.way_at list.items id) }
+    ensures ascending { IfOk result (λ sorted. IsNonDecreasingBy (λ (w : declared.Way). w.id) sorted.items) }
+{
+    let mut list = list;
     if are_in_order::<_, ById>(&list) {
         return Ok(list);
     }
@@ -102,13 +115,29 @@ fn take(list: &mut IdList<Way, ById>, id: u64, climb: usize) -> Option<u64>
 }
 
 impl Ways {
+    // Some ways, of which no climb met one.
+    fn made(alloc: Global, list: Vec<Way>) -> Result<Ways, NoMemory>
+        ensures { IfOk result (λ ways. (id : ℕ) → spec.way_at ways id ≡ spec.way_at list.items id) }
+    {
+        let list = in_order(list)?;
+        let list = IdList::of(alloc, list)?;
+        Ok(Ways { list })
+    }
+
     /// The ways of all inodes. No climb met one yet.
     pub(crate) fn of(alloc: Global, inodes: &[InodeFact]) -> Result<Ways, NoMemory>
         ensures { IfOk result (spec.HasWaysOf inodes.now) }
     {
-        let list = sorted(alloc, inodes)?;
-        let list = IdList::of(alloc, list)?;
-        Ok(Ways { list })
+        let list = listed(alloc, inodes)?;
+        Ways::made(alloc, list)
+    }
+
+    /// The ways of the directories of 16 or more. No climb met one yet.
+    pub(crate) fn of_directories(alloc: Global, inodes: &[InodeFact]) -> Result<Ways, NoMemory>
+        ensures { IfOk result (spec.HasWaysOf (filter rules.is_user_directory inodes.now)) }
+    {
+        let list = listed_directories(alloc, inodes)?;
+        Ways::made(alloc, list)
     }
 
     /// The parent of an id of 16 or more that no climb met. Now this one has.

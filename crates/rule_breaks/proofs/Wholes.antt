@@ -41,6 +41,11 @@ none-passes test (y ∷ ys) none x listed =
     ] in
     go (test y) refl none
 
+-- what isn't so is false
+pub not-so : (b : Bool) → not b ≡ true → b ≡ false
+not-so true e = absurd (let r : ⊥ = cc in r)
+not-so false e = refl
+
 -- each entry has them
 pub whole : (facts : Facts) → list_any (is_lost facts) facts.entries ≡ false → HasParents facts × (HasFiles facts × HasKinds facts)
 unfolding lacks_parent lacks_inode has_other_kind

@@ -67,22 +67,45 @@ fn pair_of(e: &EntryFact) -> (u64, u64)
     (e.file_id(), e.id())
 }
 
-// Whether an entry has its directory, and its file, whose inode stands at a place, with its kind.
-fn has_both(kins: &Kins, at: usize, e: &EntryFact) -> bool
-    requires { Some at ≡ kin_place kins.now e.now.what.file_id }
-    ensures { result ≡ (has_kind kins.now e.now.id directory_kind && has_kind kins.now e.now.what.file_id e.now.what.kind) }
-{
-    kins.has_kind(e.id(), 4) && kins.has_kind_at(at, e.kind())
+/// Whether an id has an inode that is a directory.
+#[derive(Clone, Copy)]
+pub(crate) struct Seen {
+    pub(crate) id: u64,
+    pub(crate) directory: bool,
 }
 
-// Adds one more entry: at the place of its file's inode, or to the others. Tells whether it is whole: it doesn't count, or it has its directory, and its
-// file with its kind.
+// The same of another id. The entries of a directory stand side by side, so for most it is that of the entry before.
+fn seen_of(kins: &Kins<'_>, last: Seen, id: u64) -> Seen
+    requires { last.directory ≡ has_kind kins.now last.id directory_kind }
+    ensures same { result.id ≡ id }
+    ensures right { result.directory ≡ has_kind kins.now id directory_kind }
+{
+    if last.id == id {
+        return last;
+    }
+    let directory = kins.has_kind(id, 4);
+    Seen { id, directory }
+}
+
+// Whether an entry has its directory, and its file, whose inode stands at a place, with its kind.
+fn has_both(kins: &Kins<'_>, at: usize, directory: bool, e: &EntryFact) -> bool
+    requires place { Some at ≡ kin_place kins.now e.now.what.file_id }
+    requires directory { directory ≡ has_kind kins.now e.now.id directory_kind }
+    ensures { result ≡ (has_kind kins.now e.now.id directory_kind && has_kind kins.now e.now.what.file_id e.now.what.kind) }
+{
+    directory && kins.has_kind_at(at, e.kind())
+}
+
+// Adds one more entry, of which it is known whether it has its directory: at the place of its file's inode, or to the others. Tells whether it is whole: it
+// doesn't count, or it has its directory, and its file with its kind.
 fn add(
     places: &mut [Home],
     others: &mut Vec<(u64, u64)>,
-    kins: &Kins,
+    kins: &Kins<'_>,
+    directory: bool,
     e: &EntryFact,
 ) -> Result<bool, NoMemory>
+    requires directory { directory ≡ has_kind kins.now e.now.id directory_kind }
     requires long { length places.old ≡ length kins.now }
     requires few { (at : ℕ) → Some at ≡ kin_place kins.now e.now.what.file_id → (slice_index_or places.old at no_home).entries < 2 ^ 64 - 1 }
     ensures homes { OnOk result ((entries : List (Fact Entry)) → HasHomes kins.now entries (places.old, others.old.items) → HasHomes kins.now (entries ++ e.now ∷ []) (places.new, others.new.items)) }
@@ -94,7 +117,7 @@ fn add(
     let pair = pair_of(e);
     if let Some(at) = kins.place(pair.0) {
         count_at(places, at, pair.1);
-        return Ok(has_both(kins, at, e));
+        return Ok(has_both(kins, at, directory, e));
     }
     others.push(pair)?;
     Ok(false)
@@ -120,21 +143,26 @@ fn are_single(places: &[Home]) -> bool
 }
 
 impl Homes {
-    /// The directories of each file's entries, among those that count, and whether each of these is whole: it has its directory, and
+    /// The directories of each file's entries, among those that count, and whether all of these are whole: each has its directory, and
     /// its file with its kind.
     pub(crate) fn of(
         alloc: Global,
         entries: &[EntryFact],
-        kins: &Kins,
+        kins: &Kins<'_>,
     ) -> Result<(Homes, bool), NoMemory>
         ensures homes { IfOk result (λ made. HasHomes kins.now entries.now made.0) }
-        ensures whole { IfOk result (λ made. made.1 ≡ true → list_any (is_astray kins.now) entries.now ≡ false) }
+        ensures whole { IfOk result (λ made. made.1 ≡ not (list_any (is_astray kins.now) entries.now)) }
     {
         let mut places = none_yet(alloc, kins.len())?;
         let mut pairs = Vec::new(alloc);
         let mut whole = true;
+        let mut seen = Seen {
+            id: 0,
+            directory: kins.has_kind(0, 4),
+        };
         for e in entries {
-            let fits = add(&mut places, &mut pairs, kins, e)?;
+            seen = seen_of(kins, seen, e.id());
+            let fits = add(&mut places, &mut pairs, kins, seen.directory, e)?;
             whole = are_still_whole(whole, fits);
         }
         let others = Pairs::of(alloc, pairs)?;
@@ -152,7 +180,7 @@ impl Homes {
     }
 
     // The entries of a file: how many, and the directory of one of them.
-    fn home(&self, kins: &Kins, file: u64) -> Home
+    fn home(&self, kins: &Kins<'_>, file: u64) -> Home
         requires { length self.now.0 ≡ length kins.now }
         ensures { (entries : List (Fact Entry)) → HasHomes kins.now entries self.now → IsHomeOf entries file result }
     {
@@ -163,7 +191,7 @@ impl Homes {
     }
 
     /// How many entries a file has.
-    pub(crate) fn count(&self, kins: &Kins, file: u64) -> u64
+    pub(crate) fn count(&self, kins: &Kins<'_>, file: u64) -> u64
         requires { length self.now.0 ≡ length kins.now }
         ensures { (entries : List (Fact Entry)) → HasHomes kins.now entries self.now → result ≡ count_by (names_file file) entries }
     {
@@ -171,7 +199,7 @@ impl Homes {
     }
 
     /// The directory of a file's only entry, where it has exactly one.
-    pub(crate) fn only(&self, kins: &Kins, file: u64) -> Option<u64>
+    pub(crate) fn only(&self, kins: &Kins<'_>, file: u64) -> Option<u64>
         requires { length self.now.0 ≡ length kins.now }
         ensures { (entries : List (Fact Entry)) → HasHomes kins.now entries self.now → IsOnlyHome entries file result }
     {

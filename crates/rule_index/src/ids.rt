@@ -6,6 +6,7 @@ ghost use Rattle.rule_index.specs.Ids as spec;
 
 use crate::counts::Counts;
 use blk_source::NoMemory;
+use id_lists::OrderBy;
 use std::alloc::Global;
 use view_facts::{AttributeFact, EntryFact};
 
@@ -70,16 +71,16 @@ pub fn does_count(e: &EntryFact) -> bool
     !is_reserved(e.id())
 }
 
-/// All entries, by directory.
+/// By the directory of the entry.
 pub(crate) struct ByDirectory;
 
-impl IdOf<EntryFact> for ByDirectory {
-    ghost use Rattle.std.specs.Prelude.{Some};
+impl OrderBy<EntryFact> for ByDirectory {
+    ghost use Rattle.fs_record.specs.Entries.{Entry};
 
-    ghost id = { λ e. Some e.id };
+    ghost id = { λ (e : facts.Fact Entry). e.id };
 
-    fn id(e: &EntryFact) -> Option<u64> {
-        Some(e.id())
+    fn id(e: &EntryFact) -> u64 {
+        e.id()
     }
 }
 

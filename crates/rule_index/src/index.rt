@@ -1,5 +1,5 @@
 // What the rules look up in the facts of a view.
-ghost use Rattle.std.specs.Prelude.{◌≡◌, IfOk, Some, true, false};
+ghost use Rattle.std.specs.Prelude.{◌≡◌, IfOk, not};
 ghost use Rattle.std.specs.List.{list_any};
 ghost use Rattle.rule_index.specs.Kins.{HasKins};
 ghost use Rattle.rule_index.specs.Homes.{HasHomes, is_astray};
@@ -10,24 +10,25 @@ use crate::homes::Homes;
 use crate::ids::{ByDirectory, BySystemFile, ByTarget, tally};
 use crate::kin::Kins;
 use blk_source::NoMemory;
+use id_lists::IdSlice;
 use std::alloc::Global;
-use view_facts::Facts;
+use view_facts::{EntryFact, Facts};
 
 /// The facts of a view, with what is looked up in them by an id.
 #[derive(Drop)]
 pub struct Index<'a> {
     pub facts: &'a Facts,
-    kins: Kins,
+    kins: Kins<'a>,
     homes: Homes,
     // Whether each entry that counts has its directory, and its file with its kind.
     whole: bool,
-    directories: Counts,
+    directories: IdSlice<'a, EntryFact, ByDirectory>,
     system: Counts,
     targets: Counts,
     ghost kins_right: { HasKins facts.now.inodes kins },
     ghost homes_right: { HasHomes kins facts.now.entries homes },
-    ghost whole_right: { whole ≡ true → list_any (is_astray kins) facts.now.entries ≡ false },
-    ghost directories_right: { CountsIds (λ e. Some e.id) facts.now.entries directories },
+    ghost whole_right: { whole ≡ not (list_any (is_astray kins) facts.now.entries) },
+    ghost directories_right: { directories ≡ facts.now.entries },
     ghost system_right: { CountsIds system_file facts.now.entries system },
     ghost targets_right: { CountsIds target_file facts.now.attributes targets },
 }
@@ -36,7 +37,7 @@ impl<'a> Index<'a> {
     ghost use Rattle.view_rules.specs.Facts as spec;
     ghost use Rattle.rule_index.specs.Homes.{is_named, IsOnlyHome};
     ghost use Rattle.fs_record.specs.Inodes.{inode_kind};
-    ghost use Rattle.std.specs.Prelude.{◌≤◌, ℕ, option_map};
+    ghost use Rattle.std.specs.Prelude.{◌≤◌, ℕ, true, option_map};
     ghost use Rattle.rule_index.specs.Lost.{is_lost};
     ghost use Rattle.view_rules.specs.Counts.{is_system_name};
     ghost use Rattle.view_rules.specs.Inodes.{gives_target};
@@ -47,7 +48,7 @@ impl<'a> Index<'a> {
     {
         let kins = Kins::of(alloc, &facts.inodes)?;
         let counted = Homes::of(alloc, &facts.entries, &kins)?;
-        let directories = tally::<_, ByDirectory>(alloc, &facts.entries)?;
+        let directories = IdSlice::without_guesses(alloc, &facts.entries);
         let system = tally::<_, BySystemFile>(alloc, &facts.entries)?;
         let targets = tally::<_, ByTarget>(alloc, &facts.attributes)?;
         Ok(Index {
@@ -90,7 +91,7 @@ impl<'a> Index<'a> {
 
     /// Whether each entry that counts has its directory, and its file with its kind.
     pub fn has_whole_entries(&self) -> bool
-        ensures { result ≡ true → list_any (is_lost self.now.facts.now) self.now.facts.now.entries ≡ false }
+        ensures { result ≡ not (list_any (is_lost self.now.facts.now) self.now.facts.now.entries) }
     {
         self.whole
     }
@@ -120,7 +121,7 @@ impl<'a> Index<'a> {
     pub fn child_count(&self, id: u64) -> u64
         ensures { result ≡ spec.child_count self.now.facts.now id }
     {
-        self.directories.count(id)
+        self.directories.count(id) as u64
     }
 
     /// Whether an entry of the private directory or of a reserved id names a file.

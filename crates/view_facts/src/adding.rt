@@ -10,6 +10,7 @@ ghost use Rattle.fs_record.specs.Siblings.{link_of, sibling_file_of};
 ghost use Rattle.fs_record.specs.Extents.{extent_of};
 ghost use Rattle.fs_record.specs.Facts as spec;
 ghost use Rattle.view_facts.specs.Contents.{body_of, brief_body};
+ghost use Rattle.view_facts.specs.Options.{stream_of};
 ghost use Rattle.view_facts.specs.Adding.{said_by, brief_said, facts_with};
 
 use crate::contents::{Contents, TARGET_NAME};
@@ -18,7 +19,9 @@ use crate::{AttributeFact, EntryFact, ExtentFact, Facts, InodeFact, LinkFact, Si
 use apfs_layout::key as kinds;
 use blk_source::NoMemory;
 use fs_name::Names;
-use fs_record::{AttrBody, RecFault, attr, entry, file_ext, inode, sibling_link, sibling_map};
+use fs_record::{
+    AttrBody, RecFault, StreamSize, attr, entry, file_ext, inode, sibling_link, sibling_map,
+};
 use std::alloc::Global;
 
 // Puts a fact after those that are kept.
@@ -36,6 +39,22 @@ fn bytes(value: Option<&[u8]>) -> &[u8]
     value.unwrap_or(&[])
 }
 
+// Whether there is a stream, and its sizes.
+fn stream_parts(stream: Option<StreamSize>) -> (bool, StreamSize)
+    ensures { stream_of result.0 result.1 ≡ stream }
+{
+    match stream {
+        Some(size) => (true, size),
+        None => (
+            false,
+            StreamSize {
+                size: 0,
+                allocated: 0,
+            },
+        ),
+    }
+}
+
 // Adds the inode of a record, or tells why its reader refuses it.
 fn add_inode(list: &mut Vec<InodeFact>, id: u64, value: &[u8]) -> Result<Option<RecFault>, NoMemory>
     ensures facts { OnOk result (list.new.items ≡ list.old.items ++ said_by id (inode_of value.now)) }
@@ -45,14 +64,16 @@ fn add_inode(list: &mut Vec<InodeFact>, id: u64, value: &[u8]) -> Result<Option<
         Ok(inode) => inode,
         Err(why) => return Ok(Some(why)),
     };
+    let (has_stream, stream) = stream_parts(inode.stream());
     let fact = InodeFact {
         id,
         parent: inode.parent(),
         private_id: inode.private_id(),
+        stream,
         links: inode.links(),
         bsd_flags: inode.bsd_flags(),
         mode: inode.mode(),
-        stream: inode.stream(),
+        has_stream,
     };
     put(list, fact)?;
     Ok(None)
@@ -75,15 +96,14 @@ fn add_entry(
         Ok(entry) => entry,
         Err(why) => return Ok(Some(why)),
     };
-    let name = Text::of(alloc, entry.name())?;
+    let name = Text::with(alloc, entry.name(), entry.sibling())?;
     let fact = EntryFact {
         id,
-        name,
-        ascii: entry.name().is_ascii(),
-        hash: entry.hash(),
         file_id: entry.file_id(),
+        name,
+        hash: entry.hash(),
         kind: entry.kind(),
-        sibling: entry.sibling(),
+        ascii: entry.name().is_ascii(),
     };
     put(list, fact)?;
     Ok(None)

@@ -18,19 +18,22 @@ pub struct InodeFact {
     pub(crate) id: u64,
     pub(crate) parent: u64,
     pub(crate) private_id: u64,
+    // The sizes of its stream, where it has one; no option, which would take eight bytes more for each inode.
+    pub(crate) stream: StreamSize,
     pub(crate) links: i32,
     pub(crate) bsd_flags: u32,
     pub(crate) mode: u16,
-    pub(crate) stream: Option<StreamSize>,
+    pub(crate) has_stream: bool,
 }
 
 impl Model for InodeFact {
     ghost use Rattle.fs_record.specs.Facts.{Fact};
     ghost use Rattle.fs_record.specs.Inodes.{Inode};
+    ghost use Rattle.view_facts.specs.Options.{stream_of};
 
     ghost Value = { Fact Inode };
 
-    ghost view = { λ a. record { id = a.id; what = record { parent = a.parent; private_id = a.private_id; links = a.links; bsd_flags = a.bsd_flags; mode = a.mode; stream = a.stream } } };
+    ghost view = { λ a. record { id = a.id; what = record { parent = a.parent; private_id = a.private_id; links = a.links; bsd_flags = a.bsd_flags; mode = a.mode; stream = stream_of a.has_stream a.stream } } };
 }
 
 impl InodeFact {
@@ -66,7 +69,11 @@ impl InodeFact {
     pub fn stream(&self) -> Option<StreamSize>
         ensures { result ≡ self.now.what.stream }
     {
-        self.stream
+        if self.has_stream {
+            Some(self.stream)
+        } else {
+            None
+        }
     }
 }
 
@@ -74,13 +81,13 @@ impl InodeFact {
 #[derive(Debug, Drop)]
 pub struct EntryFact {
     pub(crate) id: u64,
+    pub(crate) file_id: u64,
+    // The name and the sibling's id. Fields lie as they stand here, the small ones side by side, so that an entry takes 64 bytes.
     pub(crate) name: Text,
+    pub(crate) hash: u32,
+    pub(crate) kind: u16,
     // Whether the name is ASCII.
     pub(crate) ascii: bool,
-    pub(crate) hash: u32,
-    pub(crate) file_id: u64,
-    pub(crate) kind: u16,
-    pub(crate) sibling: Option<u64>,
 }
 
 impl Model for EntryFact {
@@ -88,11 +95,11 @@ impl Model for EntryFact {
     ghost use Rattle.std.specs.Str.{IsAscii, IsNotAscii};
     ghost use Rattle.fs_record.specs.Facts.{Fact};
     ghost use Rattle.fs_record.specs.Entries.{Entry};
-    ghost use Rattle.view_facts.specs.Texts.{bytes_of};
+    ghost use Rattle.view_facts.specs.Texts.{bytes_of, sibling_of};
 
     ghost Value = { Fact Entry };
 
-    ghost view = { λ a. record { id = a.id; what = record { name = bytes_of a.name; hash = a.hash; file_id = a.file_id; kind = a.kind; sibling = a.sibling } } };
+    ghost view = { λ a. record { id = a.id; what = record { name = bytes_of a.name; hash = a.hash; file_id = a.file_id; kind = a.kind; sibling = sibling_of a.name } } };
 
     ghost invariant = { λ a. MatchBool a.ascii (IsAscii (bytes_of a.name)) (IsNotAscii (bytes_of a.name)) };
 }
@@ -144,7 +151,7 @@ impl EntryFact {
     pub fn sibling(&self) -> Option<u64>
         ensures { result ≡ self.now.what.sibling }
     {
-        self.sibling
+        self.name.sibling()
     }
 }
 

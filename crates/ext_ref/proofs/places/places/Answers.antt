@@ -1,4 +1,4 @@
-use Rattle.std.proofs.Common.{ℕ, length, get_or, ap, ◌∙◌, List}
+use Rattle.std.proofs.Common.{ℕ, get_or, ap, ◌∙◌, List}
 use Rattle.ext_ref.specs.Cover.{is_owned}
 use Rattle.fs_record.specs.declared.extents.FileExt.{FileExt}
 use Rattle.ext_ref.specs.declared.range.NewRange.{NewRange}

@@ -1,4 +1,4 @@
-use Rattle.std.proofs.Common.{List, length, get_or, ap, sym, subst, ◌∙◌, ◌++◌}
+use Rattle.std.proofs.Common.{List, get_or, ap, ◌∙◌}
 use Rattle.std.specs.List.{list_any}
 use Rattle.ext_ref.specs.Cover.{is_owned}
 use Rattle.ext_ref.specs.Spans.{is_spanned}

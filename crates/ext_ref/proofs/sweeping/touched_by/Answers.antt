@@ -1,4 +1,4 @@
-use Rattle.std.proofs.Common.{◌≡◌, ◌∙◌, ◌+◌, ◌≤◌, ℕ, Bool, List, get_or, length, take, cond, ap, sym, arith}
+use Rattle.std.proofs.Common.{◌∙◌, ◌+◌, ◌≤◌, ℕ, Bool, List, get_or, length, take, cond, ap, sym, arith}
 use Rattle.std.specs.Prelude.{filter, count_by}
 use Rattle.std.specs.List.{list_any}
 use Rattle.std.proofs.lemmas.List.{take_all}
@@ -15,8 +15,8 @@ loop-id-preserved c = record {
       let p : ℕ → Bool = λ id. list_any m (filter (is_of id) c.args.extents.now) in
       let k : ℕ = c.loop-id.id-index in
       c.in_ok-add_stream.ensures.counts i none low
-      ∙ (ap (λ (n : ℕ). n + cond (list_any m c.of_stream.result.now) 1 0) (c.loop-id.invariant.counts i none low)
-      ∙ (ap (λ (xs : List (ℕ × FileExt)). count_by p (take k c.args.ids.now) + cond (list_any m xs) 1 0) c.of_stream.ensures
+      ∙ (ap (λ (n : ℕ). n + cond (list_any m c.of_stream-own.result.now) 1 0) (c.loop-id.invariant.counts i none low)
+      ∙ (ap (λ (xs : List (ℕ × FileExt)). count_by p (take k c.args.ids.now) + cond (list_any m xs) 1 0) c.of_stream-own.ensures
       ∙ sym (count-next p c.args.ids.now k 0 c.loop-id-test.true)));
 }
 

@@ -1,4 +1,4 @@
-use Rattle.std.proofs.Common.{◌≡◌, ◌<◌, ◌+◌, ℕ, List, length, ap, arith}
+use Rattle.std.proofs.Common.{◌≡◌, ◌<◌, ◌+◌, List, length, ap, arith}
 use Rattle.ext_ref.specs.declared.covering.Span.{Span}
 use Rattle.ext_ref.proofs.Sweeps.{found}
 use Rattle.ext_ref.proofs.sweeping.Sweep.find.Goals as goal

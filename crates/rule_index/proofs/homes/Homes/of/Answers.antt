@@ -1,12 +1,14 @@
-use Rattle.std.proofs.Common.{◌≡◌, ◌+◌, false, List, ◌∷◌, [], ◌++◌, length, take, drop, ap, sym, subst, ◌∙◌, arith}
+use Rattle.std.proofs.Common.{◌≡◌, ◌+◌, ℕ, List, ◌∷◌, [], ◌++◌, length, take, drop, ap, sym, subst, ◌∙◌, arith}
+use Rattle.std.specs.Prelude.{not}
 use Rattle.std.specs.List.{list_any}
 use Rattle.std.proofs.lemmas.List.{take_more, take_all}
 use Rattle.fs_record.specs.Entries.{Entry}
-use Rattle.fs_record.specs.Facts.{Fact}
+use Rattle.fs_record.specs.Facts.{Fact, directory_kind}
 use Rattle.rule_index.specs.declared.homes.Home.{Home}
+use Rattle.rule_index.specs.Kins.{has_kind}
 use Rattle.rule_index.specs.Homes.{is_astray, HasHomes}
 use Rattle.rule_index.proofs.HomeCounts.{homes-sorted, written-back}
-use Rattle.rule_index.proofs.Wholes.{none-more, still-whole}
+use Rattle.rule_index.proofs.Wholes.{still-whole}
 use Rattle.rule_index.proofs.homes.Homes.of.Goals as goal
 
 pub loop-e-preserved : goal.loop-e-preserved
@@ -24,9 +26,10 @@ loop-e-preserved c =
       homes =
           subst (λ (es : List (Fact Entry)). HasHomes kins es (take c.loop-e.places.len (c.add.new.places ++ drop (length c.add.new.places) c.loop-e.places.items), c.add.new.others.items)) (sym more)
           (subst (λ (list : List Home). HasHomes kins (take i entries ++ e ∷ []) (list, c.add.new.others.items)) (sym back) after);
-      whole = λ so.
-          let t = still-whole c.loop-e.whole c.in_ok-fits.fits (is_astray kins e) c.are_still_whole-whole.result c.are_still_whole-whole.ensures c.in_ok-fits.ensures.whole so in
-          ap (list_any (is_astray kins)) more ∙ none-more (is_astray kins) (take i entries) e (c.loop-e.invariant.whole t.0) t.1;
+      whole =
+          still-whole (is_astray kins) (take i entries) e c.loop-e.whole c.in_ok-fits.fits c.are_still_whole-whole.result c.are_still_whole-whole.ensures c.loop-e.invariant.whole c.in_ok-fits.ensures.whole
+          ∙ ap (λ (es : List (Fact Entry)). not (list_any (is_astray kins) es)) (sym more);
+      seen = c.seen_of-seen.ensures.right ∙ ap (λ (n : ℕ). has_kind kins n directory_kind) (sym c.seen_of-seen.ensures.same);
     }
 
 pub returns-clause-homes : goal.returns-clause-homes
@@ -37,5 +40,4 @@ returns-clause-homes c =
     (subst (λ (es : List (Fact Entry)). HasHomes kins es (c.loop-e.places.items, c.loop-e.pairs.items)) (take_all c.loop-e.e-index entries c.loop-e-test.false) c.loop-e.invariant.homes)
 
 pub returns-clause-whole : goal.returns-clause-whole
-returns-clause-whole c so =
-    subst (λ (es : List (Fact Entry)). list_any (is_astray c.args.kins.now) es ≡ false) (take_all c.loop-e.e-index c.args.entries.now c.loop-e-test.false) (c.loop-e.invariant.whole so)
+returns-clause-whole c = c.loop-e.invariant.whole ∙ ap (λ (es : List (Fact Entry)). not (list_any (is_astray c.args.kins.now) es)) (take_all c.loop-e.e-index c.args.entries.now c.loop-e-test.false)

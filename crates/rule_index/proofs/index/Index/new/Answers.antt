@@ -1,4 +1,5 @@
-use Rattle.std.proofs.Common.{◌≡◌, ◌∙◌, ap, subst, false, List, Some}
+use Rattle.std.proofs.Common.{◌∙◌, ap, subst, List}
+use Rattle.std.specs.Prelude.{not}
 use Rattle.std.specs.List.{list_any}
 use Rattle.fs_record.specs.Entries.{Entry}
 use Rattle.fs_record.specs.Attributes.{Attribute}
@@ -17,10 +18,10 @@ pub invariant_of-result-clause-homes_right : goal.invariant_of-result-clause-hom
 invariant_of-result-clause-homes_right c = subst (λ (entries : List (Fact Entry)). HasHomes c.in_ok-kins.kins entries c.in_ok-counted.counted.0) (c.deref-2.ensures.value ∙ ap (λ (f : Facts). f.entries) c.facts.view_is) c.in_ok-counted.ensures.homes
 
 pub invariant_of-result-clause-whole_right : goal.invariant_of-result-clause-whole_right
-invariant_of-result-clause-whole_right c so = subst (λ (entries : List (Fact Entry)). list_any (is_astray c.in_ok-kins.kins) entries ≡ false) (c.deref-2.ensures.value ∙ ap (λ (f : Facts). f.entries) c.facts.view_is) (c.in_ok-counted.ensures.whole so)
+invariant_of-result-clause-whole_right c = c.in_ok-counted.ensures.whole ∙ ap (λ (entries : List (Fact Entry)). not (list_any (is_astray c.in_ok-kins.kins) entries)) (c.deref-2.ensures.value ∙ ap (λ (f : Facts). f.entries) c.facts.view_is)
 
 pub invariant_of-result-clause-directories_right : goal.invariant_of-result-clause-directories_right
-invariant_of-result-clause-directories_right c = subst (λ (entries : List (Fact Entry)). CountsIds (λ (e : Fact Entry). Some e.id) entries c.in_ok-directories.directories) (c.deref-3.ensures.value ∙ ap (λ (f : Facts). f.entries) c.facts.view_is) c.in_ok-directories.ensures
+invariant_of-result-clause-directories_right c = c.without_guesses-directories.ensures ∙ (c.deref-3.ensures.value ∙ ap (λ (f : Facts). f.entries) c.facts.view_is)
 
 pub invariant_of-result-clause-system_right : goal.invariant_of-result-clause-system_right
 invariant_of-result-clause-system_right c = subst (λ (entries : List (Fact Entry)). CountsIds system_file entries c.in_ok-system.system) (c.deref-4.ensures.value ∙ ap (λ (f : Facts). f.entries) c.facts.view_is) c.in_ok-system.ensures

@@ -5,7 +5,7 @@ use Rattle.view_rules.specs.Facts.{Facts}
 use Rattle.view_rules.specs.Directories.{parent_at}
 use Rattle.parent_chain.specs.Ways.{HasWaysOf}
 use Rattle.parent_chain.proofs.FirstUnreached.{none-climbed, ways-more, first-here, first-broken}
-use Rattle.parent_chain.proofs.unreached.first_unreached.Goals as goal
+use Rattle.parent_chain.proofs.unreached.first_among_all.Goals as goal
 
 pub loop-number-init : goal.loop-number-init
 loop-number-init c = record {
