@@ -139,7 +139,93 @@ fn next<S: BlockSource>(
     Ok(done + len)
 }
 
-/// Reads a piece part by part, each within one block, which is kept afterwards where there is memory.
+// The first block of those from one on that is kept, or the last of them where none before it is.
+fn first_kept(store: &Store, first: u64, last: u64) -> u64
+    requires { first ≤ last }
+    ensures inside { (first ≤ result) × (result ≤ last) }
+    ensures lacks { (k : ℕ) → first ≤ k → k < result → keeps store.now k ≡ false }
+{
+    for block in first..last {
+        if store.has(block) {
+            return block;
+        }
+    }
+    last
+}
+
+// How many of the bytes that are left are read past the cache: those of the blocks before the first one that is kept, and
+// none of the last block.
+fn past_len(store: &Store, at: u64, left: usize) -> usize
+    requires size { 1 ≤ store.now.size }
+    requires left { 1 ≤ left }
+    requires fits { at + left < 18446744073709551616 }
+    ensures few { result < left }
+    ensures lacks { 0 < result → keeps store.now (at / store.now.size) ≡ false }
+    ensures onward { 0 < result → at / store.now.size + 1 ≤ (at + result) / store.now.size }
+{
+    let size = store.size as u64;
+    let last = (at + (left as u64 - 1)) / size;
+    let stop = first_kept(store, at / size, last);
+    (stop * size).saturating_sub(at) as usize
+}
+
+// Reads so many bytes of a piece past the cache, after the bytes that are there, with one read: how many are there then.
+fn pass<S: BlockSource>(
+    inner: &mut S,
+    at: u64,
+    done: usize,
+    len: usize,
+    into: &mut [u8],
+) -> Result<usize, ReadFailed>
+    requires some { 1 ≤ len }
+    requires within { done + len ≤ length into.old }
+    requires short { length into.old ≤ 65536 }
+    requires inside { at + length into.old ≤ S.bytes_len inner.old }
+    ensures done { IfOk result (λ n. n ≡ done + len) }
+    ensures found { (image : List ℕ) → S.bytes inner.old ≡ Some image → Copies image at (take done into.old) → IfOk result (λ n. Copies image at (take n into.new)) }
+    ensures cause { OnErr result (Rose (S.faults inner.old) (S.faults inner.new)) }
+    ensures kept { IsKept S.bytes S.bytes_len S.faults inner.old inner.new }
+    ensures reads { S.reads inner.new ≤ S.reads inner.old + 1 }
+{
+    let _size = inner.size();
+    inner.read_at(at + done as u64, &mut into[done..done + len])?;
+    Ok(done + len)
+}
+
+// Reads more of a piece: a run of blocks that aren't kept past the cache, or a part of one block through it.
+fn step<S: BlockSource>(
+    alloc: Global,
+    inner: &mut S,
+    store: &mut Store,
+    at: u64,
+    done: usize,
+    into: &mut [u8],
+) -> Result<usize, ReadFailed>
+    requires cache { IsCache S.bytes S.bytes_len inner.old store.old }
+    requires some { done < length into.old }
+    requires short { length into.old ≤ 65536 }
+    requires inside { at + length into.old ≤ S.bytes_len inner.old }
+    ensures done { IfOk result (λ n. (done < n) × (n ≤ length into.old)) }
+    ensures found { (image : List ℕ) → S.bytes inner.old ≡ Some image → Copies image at (take done into.old) → IfOk result (λ n. Copies image at (take n into.new)) }
+    ensures cause { OnErr result (Rose (S.faults inner.old) (S.faults inner.new)) }
+    ensures kept { IsKept S.bytes S.bytes_len S.faults inner.old inner.new }
+    ensures cache { IsCache S.bytes S.bytes_len inner.new store.new }
+    ensures grows { Grows store.old store.new }
+    ensures last { IfOk result (λ n. length into.old ≤ n → (keeps store.new (last_touched store.old.size at n) ≡ true) ⊎ Rose store.old.lost store.new.lost) }
+    ensures served { keeps store.old ((at + done) / store.old.size) ≡ true → (S.reads inner.new ≡ S.reads inner.old) × IsSame store.old store.new }
+    ensures reads { S.reads inner.new ≤ S.reads inner.old + 1 }
+    ensures onward { IfOk result (λ n. n < length into.old → (at + done) / store.old.size + 1 ≤ (at + n) / store.old.size) }
+{
+    let _size = inner.size();
+    let past = past_len(store, at + done as u64, into.len() - done);
+    if past == 0 {
+        return next(alloc, inner, store, at, done, into);
+    }
+    pass(inner, at, done, past, into)
+}
+
+/// Reads a piece. The last block that it touches is kept afterwards where there is memory. The others are read past the cache
+/// where they aren't kept, as many as stand side by side with one read.
 pub(crate) fn parts<S: BlockSource>(
     alloc: Global,
     inner: &mut S,
@@ -149,6 +235,7 @@ pub(crate) fn parts<S: BlockSource>(
 ) -> Result<(), ReadFailed>
     requires cache { IsCache S.bytes S.bytes_len inner.old store.old }
     requires some { 1 ≤ length into.old }
+    requires short { length into.old ≤ 65536 }
     requires inside { at + length into.old ≤ S.bytes_len inner.old }
     ensures found { (image : List ℕ) → S.bytes inner.old ≡ Some image → OnOk result (Copies image at into.new) }
     ensures cause { OnErr result (Rose (S.faults inner.old) (S.faults inner.new)) }
@@ -161,7 +248,7 @@ pub(crate) fn parts<S: BlockSource>(
 {
     let mut done = 0;
     while done < into.len() {
-        done = next(alloc, inner, store, at, done, into)?;
+        done = step(alloc, inner, store, at, done, into)?;
     }
     Ok(())
 }

@@ -20,6 +20,13 @@ pub struct Store {
 }
 
 impl Store {
+    /// Whether a block is kept.
+    pub(crate) fn has(&self, block: u64) -> bool
+        ensures { result ≡ keeps self.now block }
+    {
+        self.blocks.contains(&block)
+    }
+
     /// Copies a part of a block that is kept, and makes the block the one used last: whether it is kept.
     pub(crate) fn serve(&mut self, block: u64, from: usize, into: &mut [u8]) -> bool
         requires { (v : Vec ℕ Global) → lookup (nat_eq block) self.old.blocks.entries ≡ Some v → from + length into.old ≤ length v.items }

@@ -21,31 +21,31 @@ loop-done-preserved g c =
     let after = c.in_ok-done.ensures in
     let size = c.args.store.now.size in
     record {
-      bound = omega (arith, after.done, c.next.auto.into);
+      bound = omega (arith, after.done, c.step.auto.into);
       cache = after.cache;
       kept = record {
         same_bytes = after.kept.same_bytes ∙ before.kept.same_bytes;
         same_size = after.kept.same_size ∙ before.kept.same_size;
         later = omega (arith, after.kept.later, before.kept.later);
       };
-      grows = grows_on c.args.store.now c.loop-done.store c.next.new.store after.cache.fits before.grows after.grows;
+      grows = grows_on c.args.store.now c.loop-done.store c.step.new.store after.cache.fits before.grows after.grows;
       found = λ image told. after.found image (before.kept.same_bytes ∙ told) (before.found image told);
-      last = λ some. elim after.last [
-        | inl kept ↦ inl (subst (λ (n : ℕ). keeps c.next.new.store (last_touched n c.args.at c.in_ok-done.done) ≡ true) before.grows.same_size kept)
-        | inr lost ↦ inr (later-rose c.args.store.now.lost c.loop-done.store.lost c.next.new.store.lost before.grows.lost_later lost)
+      last = λ all. elim (after.last (omega (arith, all, c.step.auto.into))) [
+        | inl kept ↦ inl (subst (λ (n : ℕ). keeps c.step.new.store (last_touched n c.args.at c.in_ok-done.done) ≡ true) before.grows.same_size kept)
+        | inr lost ↦ inr (later-rose c.args.store.now.lost c.loop-done.store.lost c.step.new.store.lost before.grows.lost_later lost)
       ];
       served = λ all.
-          let (reads, same) = before.served (λ block touched. all block (touched.0, omega (arith, touched.1, c.next.auto.into))) in
+          let (reads, same) = before.served (λ block touched. all block (touched.0, omega (arith, touched.1, c.step.auto.into))) in
           let block = (c.args.at + c.loop-done.done) / c.loop-done.store.size in
-          let at_mid = touches c.loop-done.store.size c.args.at c.loop-done.done (length c.next.new.into) (size_fits c.loop-done.store.size before.cache.accepted).0 (omega (arith, c.loop-done-test.true, c.next.auto.into)) in
-          let touched : Touches size c.args.at (length c.next.new.into) block = subst (λ (n : ℕ). Touches n c.args.at (length c.next.new.into) block) before.grows.same_size at_mid in
+          let at_mid = touches c.loop-done.store.size c.args.at c.loop-done.done (length c.step.new.into) (size_fits c.loop-done.store.size before.cache.accepted).0 (omega (arith, c.loop-done-test.true, c.step.auto.into)) in
+          let touched : Touches size c.args.at (length c.step.new.into) block = subst (λ (n : ℕ). Touches n c.args.at (length c.step.new.into) block) before.grows.same_size at_mid in
           let step = after.served (same.same_blocks block ∙ all block touched) in
-          (step.0 ∙ reads, same_on c.args.store.now c.loop-done.store c.next.new.store same step.1);
+          (step.0 ∙ reads, same_on c.args.store.now c.loop-done.store c.step.new.store same step.1);
       onward = λ low.
-          let moved = subst (λ (n : ℕ). (c.args.at + c.in_ok-done.done) / n ≡ (c.args.at + c.loop-done.done) / n + 1) before.grows.same_size (after.onward (omega (arith, low, c.next.auto.into))) in
+          let moved = subst (λ (n : ℕ). (c.args.at + c.loop-done.done) / n + 1 ≤ (c.args.at + c.in_ok-done.done) / n) before.grows.same_size (after.onward (omega (arith, low, c.step.auto.into))) in
           omega (arith, moved, after.reads, before.onward (omega (arith, c.loop-done-test.true)));
-      at_end = λ high. once-at size c.args.at c.loop-done.done (length c.next.new.into) (g.S.BlockSource.reads c.args.inner.now) (g.S.BlockSource.reads c.loop-done.inner) (g.S.BlockSource.reads c.next.new.inner)
-          (size_fits size c.requires.cache.accepted).0 (omega (arith, c.loop-done-test.true, c.next.auto.into)) (before.onward (omega (arith, c.loop-done-test.true))) after.reads;
+      at_end = λ high. once-at size c.args.at c.loop-done.done (length c.step.new.into) (g.S.BlockSource.reads c.args.inner.now) (g.S.BlockSource.reads c.loop-done.inner) (g.S.BlockSource.reads c.step.new.inner)
+          (size_fits size c.requires.cache.accepted).0 (omega (arith, c.loop-done-test.true, c.step.auto.into)) (before.onward (omega (arith, c.loop-done-test.true))) after.reads;
     }
 
 pub returns-clause-once_each : goal.returns-clause-once_each

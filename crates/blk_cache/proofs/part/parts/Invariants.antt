@@ -12,7 +12,7 @@ invariant-loop-done g l = record {
   kept : IsKept g.S.BlockSource.bytes g.S.BlockSource.bytes_len g.S.BlockSource.faults l.initial.inner l.inner;
   grows : Grows l.initial.store l.store;
   found : (image : List ℕ) → g.S.BlockSource.bytes l.initial.inner ≡ Some image → Copies image l.at (take l.done l.into);
-  last : 0 < l.done → (keeps l.store (last_touched l.initial.store.size l.at l.done) ≡ true) ⊎ Rose l.initial.store.lost l.store.lost;
+  last : length l.into ≤ l.done → (keeps l.store (last_touched l.initial.store.size l.at l.done) ≡ true) ⊎ Rose l.initial.store.lost l.store.lost;
   served : ((block : ℕ) → Touches l.initial.store.size l.at (length l.into) block → keeps l.initial.store block ≡ true) → (g.S.BlockSource.reads l.inner ≡ g.S.BlockSource.reads l.initial.inner) × IsSame l.initial.store l.store;
   onward : l.done < length l.into → g.S.BlockSource.reads l.inner + l.at / l.initial.store.size ≤ g.S.BlockSource.reads l.initial.inner + (l.at + l.done) / l.initial.store.size;
   at_end : length l.into ≤ l.done → g.S.BlockSource.reads l.inner ≤ g.S.BlockSource.reads l.initial.inner + touched_count l.initial.store.size l.at (length l.into);
