@@ -58,11 +58,11 @@ def other_roots(count, path):
     return container.finish(path)
 
 
-def own_leaf(count, path):
-    """Snapshots between which one leaf of the tree changes"""
+def changing_leaf(count, files, path):
+    """Writes snapshots between which one leaf of a tree of so many files changes."""
     container = Container(xid=count + 1)
     volume = Volume(container)
-    kept = volume.files([*folders(2 * count), *plain_files(2 * count)])
+    kept = volume.files([*folders(files), *plain_files(files)])
     made = {oid: container.blocks[at] for (oid, _), at in volume.map.items()}
     leaves = sorted(oid for oid, data in made.items() if data[34:36] == b"\0\0")
     for xid in range(1, count + 1):
@@ -72,6 +72,16 @@ def own_leaf(count, path):
         volume.put(lambda oid, data=data, xid=xid: sealed(oid, xid + 1, *struct.unpack_from("<II", data, 24), data[32:]), xid + 1, oid)
     volume.finish(kept)
     return container.finish(path)
+
+
+def own_leaf(count, path):
+    """Snapshots between which one leaf of the tree changes"""
+    return changing_leaf(count, 2 * count, path)
+
+
+def leaf_of_many(count, path):
+    """Snapshots between which one leaf of a tree of 10,000 files changes"""
+    return changing_leaf(count, 10000, path)
 
 
 def extents_in_snapshots(count, path):
@@ -222,6 +232,7 @@ SHAPES = {
     "shared-tree": (shared_tree, 250, [CHECK, SNAPSHOTS]),
     "other-roots": (other_roots, 250, [CHECK]),
     "own-leaf": (own_leaf, 125, [CHECK]),
+    "leaf-of-many": (leaf_of_many, 8, [CHECK]),
     "extents-in-snapshots": (extents_in_snapshots, 125, [CHECK, CAT]),
     "ranges-under-all": (ranges_under_all, 4000, [CHECK]),
     "one-long": (one_long, 4000, [CHECK]),

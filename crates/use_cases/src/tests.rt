@@ -68,13 +68,35 @@ fn with_extent(alloc: Global, value: &[u8]) -> Result<Plan, Fail> {
     Ok(plan)
 }
 
-// What is told of the volume in a place among those of an image, when reads of these numbers fail.
-fn told(
+// The container with eight snapshots, each of which has a first leaf of its own: the last one's is that of the live view too.
+fn with_own_leaves(alloc: Global) -> Result<Plan, Fail> {
+    let mut plan = sample(alloc, Sample::V2)?;
+    let Some(volume) = plan.volumes.first_mut() else {
+        return Err(Fail::from("no volume"));
+    };
+    for version in volume.versions.iter_mut() {
+        let Some(leaf) = version.leaves.first_mut() else {
+            return Err(Fail::from("no leaf"));
+        };
+        let Some(item) = leaf.items.first_mut() else {
+            return Err(Fail::from("no record"));
+        };
+        let Some(byte) = item.1.first_mut() else {
+            return Err(Fail::from("no value"));
+        };
+        *byte = version.xid.to_le_bytes()[0];
+    }
+    Ok(plan)
+}
+
+// What is told of the volume in a place among those of an image, when reads of these numbers fail, and how many reads that takes
+// once the volume is loaded.
+fn told_in(
     alloc: Global,
     image: Vec<u8>,
     place: usize,
     fails: Vec<u64>,
-) -> Result<Usage, Stop<UseFault>> {
+) -> Result<(Usage, u64), Stop<UseFault>> {
     let mut src = MemSource::new(image, fails);
     let cp = match newest(alloc, &mut src) {
         Ok(cp) => cp,
@@ -94,7 +116,20 @@ fn told(
         Err(Stop::ReadFault) => return Err(Stop::ReadFault),
         Err(_) => return Err(Stop::NoMemory),
     };
-    usage(alloc, &mut src, &cp, &volume)
+    let before = src.read_count();
+    let usage = usage(alloc, &mut src, &cp, &volume)?;
+    Ok((usage, src.read_count().saturating_sub(before)))
+}
+
+// The same without the reads.
+fn told(
+    alloc: Global,
+    image: Vec<u8>,
+    place: usize,
+    fails: Vec<u64>,
+) -> Result<Usage, Stop<UseFault>> {
+    let (usage, _) = told_in(alloc, image, place, fails)?;
+    Ok(usage)
 }
 
 fn of(xid: u64, held: u64, only: u64) -> ViewUse {
@@ -160,6 +195,35 @@ fn two_views_share_an_extent(rt: HostRuntime) -> Result<(), Fail> {
         [of(2, 3, 2), of(1, 4, 3)].as_slice()
     );
     assert_eq!(rt; usage.all, 6);
+    Ok(())
+}
+
+// A root and a leaf that all nine views share, eight leaves, nine roots of extent references, and eight superblocks. Each node of
+// the files is read by the sweep, and the root and the leaves once more; a walk of each view would take 36 reads.
+#[test]
+fn a_node_that_views_share_is_read_once(rt: HostRuntime) -> Result<(), Fail> {
+    let alloc = rt.alloc();
+    let image = made(alloc, &with_own_leaves(alloc)?, &[])?;
+    let Ok((usage, reads)) = told_in(alloc, image, 0, Vec::new(alloc)) else {
+        panic!(rt; "nothing is told");
+    };
+    assert!(rt; reads <= 29);
+    assert_eq!(rt;
+        usage.views.as_slice(),
+        [
+            of(9, 4, 1),
+            of(1, 5, 3),
+            of(2, 5, 3),
+            of(3, 5, 3),
+            of(4, 5, 3),
+            of(5, 5, 3),
+            of(6, 5, 3),
+            of(7, 5, 3),
+            of(8, 5, 2),
+        ]
+        .as_slice()
+    );
+    assert_eq!(rt; usage.all, 27);
     Ok(())
 }
 

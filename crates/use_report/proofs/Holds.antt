@@ -35,7 +35,7 @@ use Rattle.use_report.proofs.Walked.{and-inside, named-inside, record-walked}
 low-in : (block blocks : ℕ) → block < blocks → is_in block 0 blocks ≡ true
 low-in block blocks low = both-true (nat_le 0 block) (nat_lt block (0 + blocks)) (from-upto 0 block (omega arith)) (from-below block (0 + blocks) (omega (arith, low)))
 
-container-in : (blocks block b : ℕ) → in_container blocks block ≡ Some b → is_in block 0 blocks ≡ true
+pub container-in : (blocks block b : ℕ) → in_container blocks block ≡ Some b → is_in block 0 blocks ≡ true
 container-in blocks block b e =
     let go : (t : Bool) → (nat_lt 0 block && nat_lt block blocks) ≡ t → (if t then Some block else None) ≡ Some b → is_in block 0 blocks ≡ true =
     λ t. elim t as (λ t. (nat_lt 0 block && nat_lt block blocks) ≡ t → (if t then Some block else None) ≡ Some b → is_in block 0 blocks ≡ true) [
@@ -48,7 +48,7 @@ named-in : (image : List ℕ) (site : Site) (at : NodeAt) (o : Option ℕ) → i
 named-in image site at None e = absurd (let z : false ≡ true = e in let q : ⊥ = cc in q)
 named-in image site at (Some b) e = (b, refl)
 
-node-in : (image : List ℕ) (site : Site) (root block : ℕ) → In block (node_blocks_of image site root) → is_in block 0 site.blocks ≡ true
+pub node-in : (image : List ℕ) (site : Site) (root block : ℕ) → In block (node_blocks_of image site root) → is_in block 0 site.blocks ≡ true
 unfolding node_blocks_of
 node-in image site root block h =
     let tree = ext_tree image site in
@@ -64,7 +64,7 @@ node-in image site root block h =
     ] in
     go (root == 0) h
 
-covered-in : (site : Site) (e : FileExt) (block : ℕ) → is_extent_placed site.block_size site.blocks e ≡ true → IsOfExtent site e block → is_in block 0 site.blocks ≡ true
+pub covered-in : (site : Site) (e : FileExt) (block : ℕ) → is_extent_placed site.block_size site.blocks e ≡ true → IsOfExtent site e block → is_in block 0 site.blocks ≡ true
 unfolding is_extent_placed
 covered-in site e block placed o =
     let n : ℕ = extent_blocks site.block_size e in
@@ -81,7 +81,7 @@ loaded-snaps : (image : List ℕ) (seen : Seen) (volume : Loaded) → IsGiven im
 unfolding loaded_of
 loaded-snaps image seen volume given = ap (λ (v : Loaded). v.snaps) given.loaded.same
 
-super-in : (image : List ℕ) (seen : Seen) (volume : Loaded) → IsGiven image seen volume → (kept : KeptView) → In kept (views_kept volume seen) → (block : ℕ) → kept.super_block ≡ Some block → is_in block 0 (site_of seen).blocks ≡ true
+pub super-in : (image : List ℕ) (seen : Seen) (volume : Loaded) → IsGiven image seen volume → (kept : KeptView) → In kept (views_kept volume seen) → (block : ℕ) → kept.super_block ≡ Some block → is_in block 0 (site_of seen).blocks ≡ true
 super-in image seen volume given kept (inl e) block s = absurd (let z : ◌≡◌ {A = Option ℕ} None (Some block) = sym (ap (λ (k : KeptView). k.super_block) e) ∙ s in let q : ⊥ = cc in q)
 super-in image seen volume given kept (inr h) block s =
     let site : Site = site_of seen in

@@ -5,11 +5,16 @@ pub mod Pasts
 pub mod Origins
 pub mod Viewed
 pub mod Walked
+pub mod Extended
 pub mod Sets
 pub mod Adding
 pub mod Filled
 pub mod Holds
 pub mod Told
+pub mod Spread
+pub mod Flats
+pub mod Headed
+pub mod Shared
 pub mod Stopped
 pub mod Right
 pub mod Numbered

@@ -1,7 +1,7 @@
 -- Pieces of blocks: how they grow, and how many blocks pass a test.
-use Rattle.std.proofs.Common.{◌≡◌, ℕ, ◌+◌, ◌-◌, ◌^◌, ◌<◌, ◌≤◌, Bool, true, false, ◌||◌, nat_le, nat_lt, min, List, [], ◌∷◌, ◌++◌, length, ◌⊎◌, inl, inr, refl, ap, ap₂, sym, ◌∙◌, subst, arith}
+use Rattle.std.proofs.Common.{◌≡◌, ℕ, ◌+◌, ◌-◌, ◌^◌, ◌<◌, ◌≤◌, Bool, true, false, ◌&&◌, ◌||◌, nat_le, nat_lt, min, List, [], ◌∷◌, ◌++◌, length, map, ◌⊎◌, inl, inr, refl, ap, sym, ◌∙◌, subst, arith}
 use Rattle.std.specs.Prelude.{◌↔◌, filter, count_by}
-use Rattle.std.specs.List.{range_with_len}
+use Rattle.std.specs.List.{range_with_len, list_any}
 use Rattle.std.proofs.lemmas.List.Sums.{length-filter}
 use Rattle.std.proofs.lemmas.List.Folds.{list_any-append}
 use Rattle.apfs_model.specs.Blocks.{is_in}
@@ -12,8 +12,10 @@ use Rattle.piece_count.specs.Covered.{is_from, covers, is_covered, count_below}
 use Rattle.piece_count.specs.declared.piece.Piece.{Piece}
 use Rattle.piece_count.proofs.Numbers.{count-bound, from-low, from-high, from-is}
 use Rattle.reach_rules.specs.Tally.{IsNumberOf}
-use Rattle.use_report.specs.Counted.{Grows, HasExactly}
+use Rattle.use_report.specs.Counted.{piece_of, Grows, HasExactly}
+use Rattle.use_report.specs.Runs.{has_view}
 use Rattle.use_report.specs.declared.pieces.Pieces.{Pieces}
+use Rattle.use_report.specs.declared.runs.Run.{Run}
 
 -- ---- blocks of ranges
 pub in-above : (block first length : ℕ) → is_in block first length ≡ true → first ≤ block
@@ -29,56 +31,62 @@ in-from block first length above below = both-true (nat_le first block) (nat_lt 
 -- nothing is added where nothing is to be
 pub grows-none : (set : Pieces) (P : ℕ → Type 0) → ((block : ℕ) → P block → ⊥) → Grows set set P
 grows-none set P none = record {
-  same_from = refl;
-  same_to = refl;
+  same_runs = refl;
   held = λ view block low. ((λ e. inl e), (λ t. elim t as (λ _. is_covered set.all.items view block ≡ true) [ inl e ↦ e | inr p ↦ absurd (none block p.1) ]));
 }
 
--- one piece more
-pub covered-more : (pieces : List Piece) (piece : Piece) (view block : ℕ) → is_covered (pieces ++ piece ∷ []) view block ≡ (is_covered pieces view block || covers piece view block)
+-- pieces of some, and of others
+pub covered-both : (pieces more : List Piece) (view block : ℕ) → is_covered (pieces ++ more) view block ≡ (is_covered pieces view block || is_covered more view block)
 unfolding is_covered
-covered-more pieces piece view block =
-    let last : (b : Bool) → (b || false) ≡ b = λ b. elim b as (λ b. (b || false) ≡ b) [ true ↦ refl | false ↦ refl ] in
-    list_any-append (λ (p : Piece). covers p view block) pieces (piece ∷ []) ∙ ap (λ b. is_covered pieces view block || b) (last (covers piece view block))
+covered-both pieces more view block = list_any-append (λ (p : Piece). covers p view block) pieces more
 
-pub grows-range : (old new : Pieces) (first length end : ℕ) → end ≡ min (first + length) (2 ^ 64 - 1) → new.from ≡ old.from → new.to ≡ old.to → new.all.items ≡ old.all.items ++ record { first = first; end = end; from = old.from; to = old.to } ∷ [] →
+-- the pieces of some runs have the blocks of the range in the views of the runs
+runs-covered : (first end : ℕ) (runs : List Run) (view block : ℕ) → is_covered (map (piece_of first end) runs) view block ≡ (has_view runs view && is_from first end block)
+unfolding is_covered has_view
+runs-covered first end [] view block = refl
+runs-covered first end (run ∷ runs) view block =
+    let both : (a b x : Bool) → ((a && x) || (b && x)) ≡ ((a || b) && x) = λ a b x. elim a as (λ a. ((a && x) || (b && x)) ≡ ((a || b) && x)) [
+      | true ↦ elim x as (λ x. (x || (b && x)) ≡ x) [ true ↦ refl | false ↦ elim b as (λ b. (b && false) ≡ false) [ true ↦ refl | false ↦ refl ] ]
+      | false ↦ refl
+    ] in
+    ap (λ b. (is_from run.from run.to view && is_from first end block) || b) (runs-covered first end runs view block) ∙ both (is_from run.from run.to view) (list_any (λ (r : Run). is_from r.from r.to view) runs) (is_from first end block)
+
+pub grows-range : (old new : Pieces) (first length end : ℕ) → end ≡ min (first + length) (2 ^ 64 - 1) → new.runs.items ≡ old.runs.items → new.all.items ≡ old.all.items ++ map (piece_of first end) old.runs.items →
     Grows old new (λ block. is_in block first length ≡ true)
-grows-range old new first length end end_is from to items =
-    let piece : Piece = record { first = first; end = end; from = old.from; to = old.to } in
-    record {
-      same_from = from;
-      same_to = to;
-      held = λ view block low.
-          let is : is_covered new.all.items view block ≡ (is_covered old.all.items view block || covers piece view block) = ap (λ (ps : List Piece). is_covered ps view block) items ∙ covered-more old.all.items piece view block in
-          let Now : Type 0 = (is_covered old.all.items view block ≡ true) ⊎ ((is_from old.from old.to view ≡ true) × (is_in block first length ≡ true)) in (
-            (λ e. elim (either-from (is_covered old.all.items view block) (covers piece view block) (sym is ∙ e)) as (λ _. Now) [
-              | inl o ↦ inl o
-              | inr n ↦
-                  let there = right-true (is_from old.from old.to view) (is_from first end block) n in
-                  let above = from-low first end block there in
-                  let below = from-high first end block there in
-                  inr (left-true (is_from old.from old.to view) (is_from first end block) n, in-from block first length above (omega (arith, below, end_is)))
-            ]),
-            (λ t. is ∙ elim t as (λ _. (is_covered old.all.items view block || covers piece view block) ≡ true) [
-              | inl o ↦ left-or (is_covered old.all.items view block) (covers piece view block) o
-              | inr n ↦
-                  let above = in-above block first length n.1 in
-                  let below = in-below block first length n.1 in
-                  right-or (is_covered old.all.items view block) (covers piece view block) (both-true (is_from old.from old.to view) (is_from first end block) n.0 (from-is first end block above (omega (arith, below, end_is, low))))
-            ]),
-          );
-    }
+grows-range old new first length end end_is runs items = record {
+  same_runs = runs;
+  held = λ view block low.
+      let here : Bool = has_view old.runs.items view in
+      let is : is_covered new.all.items view block ≡ (is_covered old.all.items view block || (here && is_from first end block)) =
+      ap (λ (ps : List Piece). is_covered ps view block) items ∙ (covered-both old.all.items (map (piece_of first end) old.runs.items) view block ∙ ap (λ b. is_covered old.all.items view block || b) (runs-covered first end old.runs.items view block)) in
+      let Now : Type 0 = (is_covered old.all.items view block ≡ true) ⊎ ((here ≡ true) × (is_in block first length ≡ true)) in (
+        (λ e. elim (either-from (is_covered old.all.items view block) (here && is_from first end block) (sym is ∙ e)) as (λ _. Now) [
+          | inl o ↦ inl o
+          | inr n ↦
+              let there = right-true here (is_from first end block) n in
+              let above = from-low first end block there in
+              let below = from-high first end block there in
+              inr (left-true here (is_from first end block) n, in-from block first length above (omega (arith, below, end_is)))
+        ]),
+        (λ t. is ∙ elim t as (λ _. (is_covered old.all.items view block || (here && is_from first end block)) ≡ true) [
+          | inl o ↦ left-or (is_covered old.all.items view block) (here && is_from first end block) o
+          | inr n ↦
+              let above = in-above block first length n.1 in
+              let below = in-below block first length n.1 in
+              right-or (is_covered old.all.items view block) (here && is_from first end block) (both-true here (is_from first end block) n.0 (from-is first end block above (omega (arith, below, end_is, low))))
+        ]),
+      );
+}
 
 -- one after the other
 pub grows-then : (a b c : Pieces) (P Q : ℕ → Type 0) → Grows a b P → Grows b c Q → Grows a c (λ block. P block ⊎ Q block)
 grows-then a b c P Q g h = record {
-  same_from = h.same_from ∙ g.same_from;
-  same_to = h.same_to ∙ g.same_to;
+  same_runs = h.same_runs ∙ g.same_runs;
   held = λ view block low.
-      let range : is_from b.from b.to view ≡ is_from a.from a.to view = ap₂ (λ (k m : ℕ). is_from k m view) g.same_from g.same_to in
+      let range : has_view b.runs.items view ≡ has_view a.runs.items view = ap (λ (runs : List Run). has_view runs view) g.same_runs in
       let x = g.held view block low in
       let y = h.held view block low in
-      let Goal : Type 0 = (is_covered a.all.items view block ≡ true) ⊎ ((is_from a.from a.to view ≡ true) × (P block ⊎ Q block)) in (
+      let Goal : Type 0 = (is_covered a.all.items view block ≡ true) ⊎ ((has_view a.runs.items view ≡ true) × (P block ⊎ Q block)) in (
         (λ e. elim (y.0 e) as (λ _. Goal) [
           | inl k ↦ elim (x.0 k) as (λ _. Goal) [ inl l ↦ inl l | inr p ↦ inr (p.0, inl p.1) ]
           | inr q ↦ inr (sym range ∙ q.0, inr q.1)
@@ -93,11 +101,10 @@ grows-then a b c P Q g h = record {
 -- the same blocks by another fact
 pub grows-same : (old new : Pieces) (P Q : ℕ → Type 0) → ((block : ℕ) → P block ↔ Q block) → Grows old new P → Grows old new Q
 grows-same old new P Q s g = record {
-  same_from = g.same_from;
-  same_to = g.same_to;
+  same_runs = g.same_runs;
   held = λ view block low.
       let x = g.held view block low in (
-        (λ e. elim (x.0 e) as (λ _. (is_covered old.all.items view block ≡ true) ⊎ ((is_from old.from old.to view ≡ true) × Q block)) [ inl l ↦ inl l | inr p ↦ inr (p.0, (s block).0 p.1) ]),
+        (λ e. elim (x.0 e) as (λ _. (is_covered old.all.items view block ≡ true) ⊎ ((has_view old.runs.items view ≡ true) × Q block)) [ inl l ↦ inl l | inr p ↦ inr (p.0, (s block).0 p.1) ]),
         (λ t. elim t as (λ _. is_covered new.all.items view block ≡ true) [ inl l ↦ x.1 (inl l) | inr q ↦ x.1 (inr (q.0, (s block).1 q.1)) ]),
       );
 }

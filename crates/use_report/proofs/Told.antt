@@ -1,5 +1,5 @@
 -- What is told of a volume are the numbers of the blocks that its views hold.
-use Rattle.std.proofs.Common.{◌≡◌, ℕ, zero, suc, ◌+◌, ◌-◌, ◌^◌, ◌<◌, Bool, true, false, not, ◌&&◌, ◌==◌, List, [], ◌∷◌, ◌++◌, Vec, Global, length, Some, None, inl, inr, refl, ap, ap₂, sym, ◌∙◌, subst, arith}
+use Rattle.std.proofs.Common.{◌≡◌, ℕ, zero, suc, ◌+◌, ◌-◌, ◌^◌, ◌<◌, Bool, true, false, not, ◌&&◌, ◌||◌, ◌==◌, List, [], ◌∷◌, ◌++◌, Vec, Global, length, Some, inl, inr, refl, ap, sym, ◌∙◌, subst, arith}
 use Rattle.std.specs.Prelude.{◌↔◌, slice_get}
 use Rattle.std.specs.List.{AllZip, range_with_len, list_any}
 use Rattle.apfs_model.proofs.BoolTests.{left-true, right-true, both-true, equal-from, unequal-from, test_or, clash, not-true, false-not, never-true}
@@ -14,16 +14,18 @@ use Rattle.piece_count.specs.declared.tally.Counts.{Counts}
 use Rattle.piece_count.specs.declared.tally.ViewCount.{ViewCount}
 use Rattle.piece_count.proofs.Numbers.{any-below, below-any, from-low, from-high, from-is}
 use Rattle.reach_rules.specs.Tally.{IsNumberOf}
-use Rattle.use_report.specs.Counted.{HasExactly}
 use Rattle.use_report.specs.Given.{IsGiven}
 use Rattle.use_report.specs.Held.{IsHeld, IsOnlyHeld, IsHeldByAny}
 use Rattle.use_report.specs.Holding.{IsWalked, IsHoldingOf, IsWalkedSet}
 use Rattle.use_report.specs.Numbers.{IsUse, IsUsage}
+use Rattle.use_report.specs.Runs.{has_view}
 use Rattle.use_report.specs.Sets.{AreHoldings, IsUseOf, AreNumbersOf}
+use Rattle.use_report.specs.Sharing.{AreHeldBy}
 use Rattle.use_report.specs.Views.{past_kept, pasts_kept, live_kept, views_kept}
 use Rattle.use_report.specs.declared.kept.KeptView.{KeptView}
 use Rattle.use_report.specs.declared.numbers.ViewUse.{ViewUse}
 use Rattle.use_report.specs.declared.pieces.Pieces.{Pieces}
+use Rattle.use_report.specs.declared.runs.Run.{Run}
 use Rattle.use_report.proofs.Holds.{holding-exact}
 use Rattle.use_report.proofs.Lists.{one-some, no-some, get-there, below-length, push-before, push-last}
 use Rattle.use_report.proofs.Sets.{number-by, number-is}
@@ -48,7 +50,7 @@ pasts-place volume i (suc j) (s ∷ ss) kept e =
     let more : suc (suc i + j) ≡ suc (i + suc j) = omega arith in
     pasts-place volume (suc i) j ss kept e ∙ more
 
-view-place : (volume : Loaded) (seen : Seen) (i : ℕ) (kept : KeptView) → slice_get (views_kept volume seen) i ≡ Some kept → kept.place ≡ i
+pub view-place : (volume : Loaded) (seen : Seen) (i : ℕ) (kept : KeptView) → slice_get (views_kept volume seen) i ≡ Some kept → kept.place ≡ i
 view-place volume seen zero kept e = ap (λ (k : KeptView). k.place) (sym (one-some (live_kept volume seen) kept e))
 view-place volume seen (suc j) kept e =
     let none : suc (0 + j) ≡ suc j = omega arith in
@@ -59,9 +61,16 @@ number-same : {X : Type 0} (P Q : X → Type 0) (n : ℕ) → ((x : X) → P x �
 number-same P Q n s m = record { all = m.all; lists = ((λ x h. (s x).0 (m.lists.0 x h)), (λ x q. m.lists.1 x ((s x).1 q))); apart = m.apart; same = m.same }
 
 -- ---- one view more
--- what stands for a view where a list has none in a place
-abbrev pub no_view : KeptView
-no_view = record { place = 0; view = record { slot = 0; xid = 0; root_oid = 0 }; extents_root = 0; meta_ext = 0; super_block = None }
+-- a run of one view has that view
+one-run : (i view : ℕ) → has_view (record { from = i; to = i + 1 } ∷ []) view ≡ is_from i (i + 1) view
+unfolding has_view
+one-run i view =
+    let last : (b : Bool) → (b || false) ≡ b = λ b. elim b as (λ b. (b || false) ≡ b) [ true ↦ refl | false ↦ refl ] in
+    last (is_from i (i + 1) view)
+
+-- what one view turned to is added to that view alone
+pub turned-view : (turned : Pieces) (i view : ℕ) → turned.runs.items ≡ record { from = i; to = i + 1 } ∷ [] → has_view turned.runs.items view ≡ is_from i (i + 1) view
+turned-view turned i view runs = ap (λ (rs : List Run). has_view rs view) runs ∙ one-run i view
 
 -- no view yet
 pub holdings-none : (image : List ℕ) (site : Site) (volume : Loaded) (views : List KeptView) (pieces : List Piece) → pieces ≡ [] → AreHoldings image site volume views 0 pieces
@@ -83,11 +92,11 @@ set-same image site volume view test also s h = record {
       ((λ e. x.0 (y.0 e)), (λ p. y.1 (x.1 p)));
 }
 
-pub holdings-more : (image : List ℕ) (site : Site) (volume : Loaded) (views : List KeptView) (i : ℕ) (view : KeptView) (before turned after : Pieces) → slice_get views i ≡ Some view → turned.all ≡ before.all → turned.from ≡ i → turned.to ≡ i + 1 → AreHoldings image site volume views i before.all.items →
+pub holdings-more : (image : List ℕ) (site : Site) (volume : Loaded) (views : List KeptView) (i : ℕ) (view : KeptView) (before turned after : Pieces) → slice_get views i ≡ Some view → turned.all ≡ before.all → turned.runs.items ≡ record { from = i; to = i + 1 } ∷ [] → AreHoldings image site volume views i before.all.items →
     IsHoldingOf image site volume view turned after → AreHoldings image site volume views (i + 1) after.all.items
-holdings-more image site volume views i view before turned after at same from to had one =
+holdings-more image site volume views i view before turned after at same runs had one =
     let old : (v block : ℕ) → is_covered turned.all.items v block ≡ is_covered before.all.items v block = λ v block. ap (λ (ps : Vec Piece Global). is_covered ps.items v block) same in
-    let turn : (v : ℕ) → is_from turned.from turned.to v ≡ is_from i (i + 1) v = λ v. ap₂ (λ (k m : ℕ). is_from k m v) from to in
+    let turn : (v : ℕ) → has_view turned.runs.items v ≡ is_from i (i + 1) v = λ v. turned-view turned i v runs in
     let others : (v block : ℕ) → (v ≡ i → ⊥) → block < 2 ^ 64 - 1 → (is_covered after.all.items v block ≡ true) ↔ (is_covered before.all.items v block ≡ true) = λ v block apart low.
     let g = one.grows.held v block low in (
       (λ e. elim (g.0 e) as (λ _. is_covered before.all.items v block ≡ true) [
@@ -151,17 +160,12 @@ uses-more views counts told new i view numbers e many at one had k v low here =
     ]
 
 -- ---- the numbers
-module _ (image : List ℕ) (seen : Seen) (volume : Loaded) (pieces : List Piece) (given : IsGiven image seen volume) (few : (site_of seen).blocks < 2 ^ 64)
-    (held : AreHoldings image (site_of seen) volume (views_kept volume seen) (length (views_kept volume seen)) pieces) where
+module _ (image : List ℕ) (seen : Seen) (volume : Loaded) (pieces : List Piece) (few : (site_of seen).blocks < 2 ^ 64) (exact-at : AreHeldBy image seen volume (views_kept volume seen) pieces) where
   abbrev blocks : ℕ
   blocks = (site_of seen).blocks
 
   abbrev many : ℕ
   many = length (views_kept volume seen)
-
-  -- the pieces of the view in a place are what that view holds
-  exact-at : (i : ℕ) (kept : KeptView) → slice_get (views_kept volume seen) i ≡ Some kept → HasExactly blocks (IsHeld image seen volume kept) (is_covered pieces i)
-  exact-at i kept v = holding-exact image seen volume given few kept (get-in (views_kept volume seen) i kept v) (is_covered pieces i) (held.each i kept (below-length (views_kept volume seen) i kept v) v)
 
   any-held : (block : ℕ) → block < blocks → is_any (is_covered pieces) many block ≡ true → IsHeldByAny image seen volume block
   unfolding is_any
@@ -227,12 +231,18 @@ module _ (image : List ℕ) (seen : Seen) (volume : Loaded) (pieces : List Piece
     all = subst (IsNumberOf (IsHeldByAny image seen volume)) (sym (n.number_is ∙ n.counted.all)) (number-by blocks (IsHeldByAny image seen volume) (is_any (is_covered pieces) many) few any-held held-any);
   }
 
+-- where each view is walked, its pieces are what it holds
+pub holdings-held : (image : List ℕ) (seen : Seen) (volume : Loaded) (site : Site) (views : List KeptView) (pieces : List Piece) → site ≡ site_of seen → views ≡ views_kept volume seen → IsGiven image seen volume → site.blocks < 2 ^ 64 → AreHoldings image site volume views (length views) pieces → AreHeldBy image seen volume views pieces
+holdings-held image seen volume site views pieces s v given few held = λ i kept at.
+    let here : slice_get (views_kept volume seen) i ≡ Some kept = ap (λ (xs : List KeptView). slice_get xs i) (sym v) ∙ at in
+    let walked : IsWalkedSet image (site_of seen) volume kept (is_covered pieces i) = subst (λ (x : Site). IsWalkedSet image x volume kept (is_covered pieces i)) s (held.each i kept (below-length views i kept at) at) in
+    holding-exact image seen volume given (subst (λ (x : Site). x.blocks < 2 ^ 64) s few) kept (get-in (views_kept volume seen) i kept here) (is_covered pieces i) walked
+
 -- the same of a site and of views that are those of the checkpoint and the volume
-pub usage-told : (image : List ℕ) (seen : Seen) (volume : Loaded) (site : Site) (views named : List KeptView) (pieces : List Piece) (told : List ViewUse) (number : ℕ) → site ≡ site_of seen → views ≡ views_kept volume seen → named ≡ views → IsGiven image seen volume →
-    site.blocks < 2 ^ 64 → AreHoldings image site volume views (length views) pieces → AreNumbersOf site.blocks named pieces told number → IsUsage image seen volume (record { views = told; all = number })
-usage-told image seen volume site views named pieces told number s v p given few held n =
+pub usage-told : (image : List ℕ) (seen : Seen) (volume : Loaded) (site : Site) (views named : List KeptView) (pieces : List Piece) (told : List ViewUse) (number : ℕ) → site ≡ site_of seen → views ≡ views_kept volume seen → named ≡ views →
+    site.blocks < 2 ^ 64 → AreHeldBy image seen volume views pieces → AreNumbersOf site.blocks named pieces told number → IsUsage image seen volume (record { views = told; all = number })
+usage-told image seen volume site views named pieces told number s v p few held n =
     let all : List KeptView = views_kept volume seen in
-    let these : AreHoldings image site volume all (length all) pieces = subst (λ (xs : List KeptView). AreHoldings image site volume xs (length xs) pieces) v held in
     let of_all : AreNumbersOf site.blocks all pieces told number = subst (λ (xs : List KeptView). AreNumbersOf site.blocks xs pieces told number) (p ∙ v) n in
-    usage-is image seen volume pieces given (subst (λ (x : Site). x.blocks < 2 ^ 64) s few) (subst (λ (x : Site). AreHoldings image x volume all (length all) pieces) s these) told number
+    usage-is image seen volume pieces (subst (λ (x : Site). x.blocks < 2 ^ 64) s few) (subst (λ (xs : List KeptView). AreHeldBy image seen volume xs pieces) v held) told number
     (subst (λ (x : Site). AreNumbersOf x.blocks all pieces told number) s of_all)

@@ -53,6 +53,11 @@ IsRootIn kept hashed n =
     ((n.expected ≡ TreeRoot (Files hashed)) × (n.oid ≡ kept.view.root_oid))
     ⊎ ((n.expected ≡ ExtendedMetadata) × ((n.oid ≡ kept.meta_ext) × ((kept.meta_ext == 0) ≡ false)))
 
+-- the superblock of a view: that of a snapshot stands in a block
+abbrev pub namer_of : Namer → Option ℕ → Namer
+namer_of me None = me
+namer_of me (Some block) = Whole (InBlock block)
+
 -- what a field other than 0 names
 from-unless : (namer : Namer) (at : ℕ) (e : Expected) (how : LookUp) (oid : ℕ) (n : Naming) → In n (unless_zero namer at e how oid) → (n ≡ naming namer at e how oid) × ((oid == 0) ≡ false)
 from-unless namer at e how oid n h =
@@ -218,13 +223,17 @@ module _ (image : List ℕ) (seen : Seen) (volume : Loaded) (given : IsGiven ima
       let of : k.expected ≡ VolumeIn volume.head.slot = from.kept at e ∙ ap VolumeIn s in
       told-super at m e (led-told k m live of h)
 
+  -- what the superblock of a view names
+  abbrev pub names_of : KeptView → List Naming
+  names_of kept = told_view (namer_of (volume_namer seen part.mapping) kept.super_block) (at_of volume kept) kept.view.root_oid kept.meta_ext
+
   -- what a volume's superblock names in its live view
-  told-live : (at : ViewAt) (n : Naming) → n.how ≡ InView at → In n (told_volume seen (volume_namer seen part.mapping) volume) → (at ≡ live_at seen volume.head.slot (map_of volume) (are_hashed volume.names)) × IsRootIn (live_kept volume seen) (are_hashed volume.names) n
+  told-live : (at : ViewAt) (n : Naming) → n.how ≡ InView at → In n (told_volume seen (volume_namer seen part.mapping) volume) → (at ≡ live_at seen volume.head.slot (map_of volume) (are_hashed volume.names)) × In n (names_of (live_kept volume seen))
   told-live at n e h =
       let me : Namer = volume_namer seen part.mapping in
       let view : ViewAt = live_at seen volume.head.slot (map_of volume) (are_hashed volume.names) in
-      let Goal : Type 0 = (at ≡ view) × IsRootIn (live_kept volume seen) (are_hashed volume.names) n in
       let lives : List Naming = told_view me view volume.root_oid volume.meta_ext in
+      let Goal : Type 0 = (at ≡ view) × In n lives in
       let extents : List Naming = unless_zero me 144 (TreeRoot ExtentRefs) ByBlock volume.extents_root in
       let metadata : List Naming = unless_zero me 152 (TreeRoot SnapMetadata) ByBlock volume.snaps_root in
       let snaps : List Naming = told_snapshots volume.head.slot (map_of volume) (are_hashed volume.names) 0 volume.snaps in
@@ -233,7 +242,7 @@ module _ (image : List ℕ) (seen : Seen) (volume : Loaded) (given : IsGiven ima
       elim h as (λ _. Goal) [
         | inl s ↦ never ByBlock (ap (λ (x : Naming). x.how) s) refl
         | inr k ↦ elim (in-append n lives (extents ++ (metadata ++ snaps)) k) as (λ _. Goal) [
-          | inl l ↦ let t = told-root (live_kept volume seen) me view volume.root_oid volume.meta_ext n refl refl l in (one-view at view (sym e ∙ t.0), t.1)
+          | inl l ↦ let t = told-root (live_kept volume seen) me view volume.root_oid volume.meta_ext n refl refl l in (one-view at view (sym e ∙ t.0), l)
           | inr l ↦ elim (in-append n extents (metadata ++ snaps) l) as (λ _. Goal) [
             | inl u ↦ never ByBlock (ap (λ (x : Naming). x.how) (from-unless me 144 (TreeRoot ExtentRefs) ByBlock volume.extents_root n u).0) refl
             | inr o ↦ elim (in-append n metadata snaps o) as (λ _. Goal) [
@@ -244,37 +253,42 @@ module _ (image : List ℕ) (seen : Seen) (volume : Loaded) (given : IsGiven ima
         ]
       ]
 
-  -- a naming that a superblock names in a view of this volume is of the view's root, or of its extended metadata
-  root-live : (kept : KeptView) → In kept (views_kept volume seen) → (m n : Naming) → IsLive image seen m → In n (next image seen m) → n.how ≡ InView (at_of volume kept) → m.expected ≡ VolumeIn volume.head.slot → IsRootIn kept (are_hashed volume.names) n
-  root-live kept one m n live h how e =
+  -- a naming that the volume's superblock names in a view of this volume is named by the superblock of the view
+  pub named-live : (kept : KeptView) → In kept (views_kept volume seen) → (m n : Naming) → IsLive image seen m → In n (next image seen m) → n.how ≡ InView (at_of volume kept) → m.expected ≡ VolumeIn volume.head.slot → In n (names_of kept)
+  named-live kept one m n live h how e =
       let t = told-live (at_of volume kept) n how (led-told m n live e h) in
-      elim one as (λ _. IsRootIn kept (are_hashed volume.names) n) [
-        | inl s ↦ subst (λ k. IsRootIn k (are_hashed volume.names) n) (sym s) t.1
+      elim one as (λ _. In n (names_of kept)) [
+        | inl s ↦ subst (λ k. In n (names_of k)) (sym s) t.1
         | inr p ↦
             let q = past-at volume 0 volume.snaps kept p in
             let zero_place : kept.place ≡ 0 = ap (λ (v : ViewAt). v.place) t.0 in
             no-zero (0 + q.k) (sym zero_place ∙ ap (λ (k : KeptView). k.place) q.same)
       ]
 
-  root-past : (kept : KeptView) → In kept (views_kept volume seen) → (m n : Naming) → IsLive image seen m → In n (next image seen m) → m.expected ≡ SnapshotSuper (at_of volume kept) → IsRootIn kept (are_hashed volume.names) n
-  root-past kept one m n live h e =
+  -- and so is one that a snapshot's superblock names
+  pub named-past : (kept : KeptView) → In kept (views_kept volume seen) → (m n : Naming) → IsLive image seen m → In n (next image seen m) → m.expected ≡ SnapshotSuper (at_of volume kept) → In n (names_of kept)
+  named-past kept one m n live h e =
       let s = live-super (at_of volume kept) m refl live e in
       let snapshot : Snapshot = s.snapshot in
       let from_super : In n (next image seen (super_naming volume s.k snapshot)) = subst (λ (x : Naming). In n (next image seen x)) s.same h in
       let listed : In n (told_view (Whole (InBlock snapshot.super_block)) (past_view_of volume s.k snapshot) snapshot.root_oid snapshot.meta_ext) =
       subst (λ (ns : List Naming). In n ns) (part.snapshots s.k snapshot s.found).leads from_super in
       let place : kept.place ≡ suc s.k = ap (λ (v : ViewAt). v.place) s.at_is in
-      elim one as (λ _. IsRootIn kept (are_hashed volume.names) n) [
+      elim one as (λ _. In n (names_of kept)) [
         | inl z ↦ no-zero s.k (sym (ap (λ (k : KeptView). k.place) z) ∙ place)
         | inr p ↦
             let q = past-at volume 0 volume.snaps kept p in
             let same_place : suc (0 + q.k) ≡ suc s.k = sym (ap (λ (k : KeptView). k.place) q.same) ∙ place in
             let same_k : q.k ≡ s.k = omega (arith, same_place) in
             let same_snapshot : q.snapshot ≡ snapshot = one-some q.snapshot snapshot (sym q.found ∙ (ap (slice_get volume.snaps) same_k ∙ s.found)) in
-            let root : snapshot.root_oid ≡ kept.view.root_oid = ap (λ (x : Snapshot). x.root_oid) (sym same_snapshot) ∙ sym (ap (λ (k : KeptView). k.view.root_oid) q.same) in
-            let meta : snapshot.meta_ext ≡ kept.meta_ext = ap (λ (x : Snapshot). x.meta_ext) (sym same_snapshot) ∙ sym (ap (λ (k : KeptView). k.meta_ext) q.same) in
-            (told-root kept (Whole (InBlock snapshot.super_block)) (past_view_of volume s.k snapshot) snapshot.root_oid snapshot.meta_ext n root meta listed).1
+            let counted : 0 + q.k ≡ s.k = omega (arith, same_place) in
+            let kept_is : kept ≡ past_kept volume s.k snapshot = q.same ∙ (ap (λ j. past_kept volume j q.snapshot) counted ∙ ap (λ (x : Snapshot). past_kept volume s.k x) same_snapshot) in
+            subst (λ k. In n (names_of k)) (sym kept_is) listed
       ]
+
+  -- such a naming is of the view's root, or of its extended metadata
+  named-root : (kept : KeptView) (n : Naming) → In n (names_of kept) → IsRootIn kept (are_hashed volume.names) n
+  named-root kept n h = (told-root kept (namer_of (volume_namer seen part.mapping) kept.super_block) (at_of volume kept) kept.view.root_oid kept.meta_ext n refl refl h).1
 
 -- ---- nodes
 -- the tests of a naming are those of the place
@@ -302,7 +316,7 @@ matched image site f None m = absurd m
 matched image site f (Some b) m = (ap Some (sym m.0), m.1 ∙ ap (block_of site.block_size image) (sym m.0))
 
 -- a walk finds the node that a naming of its place resolves to
-node-look : {K : Type 0} (image : List ℕ) (seen : Seen) (kind : TreeKind) (how : LookUp) (shape : Shape K) (named : ℕ → Option ℕ) → IsWalkOf image seen kind how shape named → (at : NodeAt) (m : Naming) (f : Found) → m.how ≡ how → m.oid ≡ at.oid → Expects kind at m.expected →
+pub node-look : {K : Type 0} (image : List ℕ) (seen : Seen) (kind : TreeKind) (how : LookUp) (shape : Shape K) (named : ℕ → Option ℕ) → IsWalkOf image seen kind how shape named → (at : NodeAt) (m : Naming) (f : Found) → m.how ≡ how → m.oid ≡ at.oid → Expects kind at m.expected →
     resolved image seen m ≡ Some f → is_ok (tested (site_of seen) m.expected m.oid f.bytes) ≡ true → ((tree_in shape (site_of seen) named image).look at ≡ Ok f.bytes) × (node_of shape at (site_of seen) f.bytes ≡ Ok f.bytes)
 unfolding resolved
 node-look image seen kind how shape named walk at m f how_is oid_is as_is found sound =
@@ -376,9 +390,9 @@ viewed image seen volume given kept one shape named walk n (led m _ live h) how 
     let me : Namer = Whole l.object.object in
     let from : IsFrom m.how m.expected n = each-in (IsFrom m.how m.expected) (names image seen m.how m.expected me l.object.bytes) n (names-from image seen m.how m.expected me l.object.bytes) l.names in
     elim (from.viewed (at_of volume kept) how) as (λ _. IsViewed image seen hashed shape named kept n) [
-      | inl e ↦ root-viewed image seen hashed shape named kept n (root-live image seen volume given kept one m n live h how e)
+      | inl e ↦ root-viewed image seen hashed shape named kept n (named-root image seen volume given kept n (named-live image seen volume given kept one m n live h how e))
       | inr t ↦ elim t as (λ _. IsViewed image seen hashed shape named kept n) [
-        | inl e ↦ root-viewed image seen hashed shape named kept n (root-past image seen volume given kept one m n live h e)
+        | inl e ↦ root-viewed image seen hashed shape named kept n (named-root image seen volume given kept n (named-past image seen volume given kept one m n live h e))
         | inr u ↦ elim (viewed image seen volume given kept one shape named walk m live u.0) as (λ _. IsViewed image seen hashed shape named kept n) [
           | inl p ↦ inl (place-child image seen (Files hashed) (InView (at_of volume kept)) shape named kept.view.root_oid walk m n u.0 p h)
           | inr s ↦ metadata-names image seen m.how m.expected me l.object.bytes n s.0 l.names

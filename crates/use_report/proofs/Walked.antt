@@ -22,7 +22,7 @@ use Rattle.vol_view.specs.Heads.{heads_of}
 use Rattle.vol_view.specs.Volumes.{Loaded}
 use Rattle.vol_view.specs.Views.{view_named, view_tree, hashed_tree, plain_tree, view_nodes, is_view_walkable}
 use Rattle.vol_view.specs.declared.volume.Snapshot.{Snapshot}
-use Rattle.reach_rules.specs.Naming.{ViewAt, ByBlock, InView, InBlock, Namer, Whole, ExtentRefs, SnapMetadata, Files, ExtendedMetadata, TreeRoot, Naming, naming}
+use Rattle.reach_rules.specs.Naming.{ViewAt, ByBlock, InView, Namer, ExtentRefs, SnapMetadata, Files, ExtendedMetadata, TreeRoot, Naming, naming}
 use Rattle.reach_rules.specs.Resolved.{Found, resolved, found_by, found_virtual}
 use Rattle.reach_rules.specs.Next.{unless_zero}
 use Rattle.reach_rules.specs.Live.{IsLive, led}
@@ -37,7 +37,7 @@ use Rattle.use_report.specs.Given.{IsGiven}
 use Rattle.use_report.specs.Held.{IsRecordHeld}
 use Rattle.use_report.specs.Views.{live_kept, past_kept, views_kept, at_of}
 use Rattle.use_report.specs.declared.kept.KeptView.{KeptView}
-use Rattle.use_report.proofs.Viewed.{part, past-at, matched, viewed}
+use Rattle.use_report.proofs.Viewed.{namer_of, part, names_of, past-at, matched, viewed}
 
 -- ---- look-ups
 -- through a whole map an id names what its records say
@@ -69,14 +69,14 @@ view-match image seen volume given kept oid =
     let site : Site = site_of seen in
     subst (λ o. Matches image site (found_virtual image site (map_of volume) kept.view.xid oid) (option_and_then (in_container site.blocks) o)) (sym (named-view image seen volume given kept oid)) (virtual-match image site (map_of volume) kept.view.xid oid)
 
-hashed-walk : (image : List ℕ) (seen : Seen) (volume : Loaded) → IsGiven image seen volume → (kept : KeptView) → IsWalkOf image seen (Files true) (InView (at_of volume kept)) fs_shape (view_named (site_of seen) volume kept.view)
+pub hashed-walk : (image : List ℕ) (seen : Seen) (volume : Loaded) → IsGiven image seen volume → (kept : KeptView) → IsWalkOf image seen (Files true) (InView (at_of volume kept)) fs_shape (view_named (site_of seen) volume kept.view)
 hashed-walk image seen volume given kept = record { answer = λ at bytes. refl; kids = λ bytes. refl; found = λ e oid s. view-match image seen volume given kept oid }
 
-plain-walk : (image : List ℕ) (seen : Seen) (volume : Loaded) → IsGiven image seen volume → (kept : KeptView) → IsWalkOf image seen (Files false) (InView (at_of volume kept)) fs_plain_shape (view_named (site_of seen) volume kept.view)
+pub plain-walk : (image : List ℕ) (seen : Seen) (volume : Loaded) → IsGiven image seen volume → (kept : KeptView) → IsWalkOf image seen (Files false) (InView (at_of volume kept)) fs_plain_shape (view_named (site_of seen) volume kept.view)
 plain-walk image seen volume given kept = record { answer = λ at bytes. refl; kids = λ bytes. refl; found = λ e oid s. view-match image seen volume given kept oid }
 
 -- what a naming of a view resolves to stands in the block that its id names
-resolved-block : (image : List ℕ) (seen : Seen) (volume : Loaded) → IsGiven image seen volume → (kept : KeptView) (n : Naming) (f : Found) → n.how ≡ InView (at_of volume kept) → resolved image seen n ≡ Some f → view_named (site_of seen) volume kept.view n.oid ≡ Some f.block
+pub resolved-block : (image : List ℕ) (seen : Seen) (volume : Loaded) → IsGiven image seen volume → (kept : KeptView) (n : Naming) (f : Found) → n.how ≡ InView (at_of volume kept) → resolved image seen n ≡ Some f → view_named (site_of seen) volume kept.view n.oid ≡ Some f.block
 unfolding resolved
 resolved-block image seen volume given kept n f how found =
     let site : Site = site_of seen in
@@ -131,33 +131,33 @@ snapshot-live image seen volume given k snapshot found n h =
     let there : In n snaps = in-snapshots volume.head.slot map hashed 0 k volume.snaps snapshot found n (subst (λ j. In n (told_snapshot (past_at volume.head.slot map hashed j snapshot) snapshot)) none h) in
     volume-live image seen volume given n (inr (in-right n lives (extents ++ (metadata ++ snaps)) (in-right n extents (metadata ++ snaps) (in-right n metadata snaps there))))
 
--- a superblock whose namings in a view are live
-record HasRoots (image : List ℕ) (seen : Seen) (volume : Loaded) (kept : KeptView) : Type 0 where
-  namer : Namer
-  each : (n : Naming) → In n (told_view namer (at_of volume kept) kept.view.root_oid kept.meta_ext) → IsLive image seen n
-
-live-roots : (image : List ℕ) (seen : Seen) (volume : Loaded) → IsGiven image seen volume → HasRoots image seen volume (live_kept volume seen)
-live-roots image seen volume given =
+-- what the superblock of a view names is live
+live-roots : (image : List ℕ) (seen : Seen) (volume : Loaded) (given : IsGiven image seen volume) (n : Naming) → In n (names_of image seen volume given (live_kept volume seen)) → IsLive image seen n
+live-roots image seen volume given n h =
     let me : Namer = volume_namer seen (part image seen volume given).mapping in
     let view : ViewAt = at_of volume (live_kept volume seen) in
     let rest : List Naming = unless_zero me 144 (TreeRoot ExtentRefs) ByBlock volume.extents_root ++ (unless_zero me 152 (TreeRoot SnapMetadata) ByBlock volume.snaps_root ++ told_snapshots volume.head.slot (map_of volume) (are_hashed volume.names) 0 volume.snaps) in
-    record { namer = me; each = λ n h. volume-live image seen volume given n (inr (in-left n (told_view me view volume.root_oid volume.meta_ext) rest h)) }
+    volume-live image seen volume given n (inr (in-left n (told_view me view volume.root_oid volume.meta_ext) rest h))
 
-past-roots : (image : List ℕ) (seen : Seen) (volume : Loaded) → IsGiven image seen volume → (k : ℕ) (snapshot : Snapshot) → slice_get volume.snaps k ≡ Some snapshot → HasRoots image seen volume (past_kept volume k snapshot)
-past-roots image seen volume given k snapshot found =
+past-roots : (image : List ℕ) (seen : Seen) (volume : Loaded) (given : IsGiven image seen volume) (k : ℕ) (snapshot : Snapshot) → slice_get volume.snaps k ≡ Some snapshot → (n : Naming) → In n (names_of image seen volume given (past_kept volume k snapshot)) → IsLive image seen n
+past-roots image seen volume given k snapshot found n h =
     let p : IsVolumePart image seen volume.head volume = part image seen volume given in
     let s : Naming = super_naming volume k snapshot in
-    record {
-      namer = Whole (InBlock snapshot.super_block);
-      each = λ n h. led s n (snapshot-live image seen volume given k snapshot found s (inl refl)) (subst (λ (ns : List Naming). In n ns) (sym (p.snapshots k snapshot found).leads) h);
-    }
+    led s n (snapshot-live image seen volume given k snapshot found s (inl refl)) (subst (λ (ns : List Naming). In n ns) (sym (p.snapshots k snapshot found).leads) h)
 
-view-roots : (image : List ℕ) (seen : Seen) (volume : Loaded) → IsGiven image seen volume → (kept : KeptView) → In kept (views_kept volume seen) → HasRoots image seen volume kept
-view-roots image seen volume given kept (inl e) = subst (HasRoots image seen volume) (sym e) (live-roots image seen volume given)
-view-roots image seen volume given kept (inr h) =
-    let t = past-at volume 0 volume.snaps kept h in
+pub view-roots : (image : List ℕ) (seen : Seen) (volume : Loaded) (given : IsGiven image seen volume) (kept : KeptView) → In kept (views_kept volume seen) → (n : Naming) → In n (names_of image seen volume given kept) → IsLive image seen n
+view-roots image seen volume given kept (inl e) n h = live-roots image seen volume given n (subst (λ (k : KeptView). In n (names_of image seen volume given k)) e h)
+view-roots image seen volume given kept (inr p) n h =
+    let t = past-at volume 0 volume.snaps kept p in
     let none : 0 + t.k ≡ t.k = omega arith in
-    subst (HasRoots image seen volume) (sym (t.same ∙ ap (λ j. past_kept volume j t.snapshot) none)) (past-roots image seen volume given t.k t.snapshot t.found)
+    past-roots image seen volume given t.k t.snapshot t.found n (subst (λ (k : KeptView). In n (names_of image seen volume given k)) (t.same ∙ ap (λ j. past_kept volume j t.snapshot) none) h)
+
+-- the root of a view is named
+pub view-root : (image : List ℕ) (seen : Seen) (volume : Loaded) → IsGiven image seen volume → (kept : KeptView) → In kept (views_kept volume seen) → IsRootNaming image seen (Files (are_hashed volume.names)) (InView (at_of volume kept)) kept.view.root_oid
+view-root image seen volume given kept one =
+    let namer : Namer = namer_of (volume_namer seen (part image seen volume given).mapping) kept.super_block in
+    let n : Naming = naming namer 136 (TreeRoot (Files (are_hashed volume.names))) (InView (at_of volume kept)) kept.view.root_oid in
+    record { naming = n; live = view-roots image seen volume given kept one n (inl refl); expected_is = refl; how_is = refl; oid_is = refl }
 
 -- ---- both ways
 -- a block of a node that a walk meets
@@ -180,25 +180,18 @@ met-record : {K : Type 0} (image : List ℕ) (seen : Seen) (volume : Loaded) (ke
 met-record image seen volume kept shape block given one walk (at, (met, named)) =
     let site : Site = site_of seen in
     let hashed : Bool = are_hashed volume.names in
-    let roots = view-roots image seen volume given kept one in
-    let root : IsRootNaming image seen (Files hashed) (InView (at_of volume kept)) kept.view.root_oid = record {
-      naming = naming roots.namer 136 (TreeRoot (Files hashed)) (InView (at_of volume kept)) kept.view.root_oid;
-      live = roots.each (naming roots.namer 136 (TreeRoot (Files hashed)) (InView (at_of volume kept)) kept.view.root_oid) (inl refl);
-      expected_is = refl;
-      how_is = refl;
-      oid_is = refl;
-    } in
+    let root = view-root image seen volume given kept one in
     let m : IsNamedAt image seen (Files hashed) (InView (at_of volume kept)) at = met-named image seen (Files hashed) (InView (at_of volume kept)) shape (view_named site volume kept.view) walk kept.view.root_oid root at met in
     let t = block-found image seen volume given kept m.naming block m.how_is (ap (view_named site volume kept.view) m.oid_is ∙ named) in
     record { naming = m.naming; object = t.0; names = record { live = m.live; found = t.1.0 }; in_view = m.how_is; block_is = t.1.1 }
 
 metadata-record : (image : List ℕ) (seen : Seen) (volume : Loaded) (kept : KeptView) (block : ℕ) → IsGiven image seen volume → In kept (views_kept volume seen) → IsMetadataBlock (site_of seen) volume kept block → IsRecordHeld image seen volume kept block
 metadata-record image seen volume kept block given one (some, named) =
-    let roots = view-roots image seen volume given kept one in
+    let namer : Namer = namer_of (volume_namer seen (part image seen volume given).mapping) kept.super_block in
     let how = InView (at_of volume kept) in
-    let n : Naming = naming roots.namer 1000 ExtendedMetadata how kept.meta_ext in
+    let n : Naming = naming namer 1000 ExtendedMetadata how kept.meta_ext in
     let t = block-found image seen volume given kept n block refl named in
-    record { naming = n; object = t.0; names = record { live = roots.each n (inr (in-unless roots.namer 1000 ExtendedMetadata how kept.meta_ext some)); found = t.1.0 }; in_view = refl; block_is = t.1.1 }
+    record { naming = n; object = t.0; names = record { live = view-roots image seen volume given kept one n (inr (in-unless namer 1000 ExtendedMetadata how kept.meta_ext some)); found = t.1.0 }; in_view = refl; block_is = t.1.1 }
 
 -- the nodes that are met, as a list of ids
 met-named-block : {K : Type 0} (image : List ℕ) (seen : Seen) (volume : Loaded) (kept : KeptView) (shape : Shape K) (oids : List ℕ) (block : ℕ) → is_walkable (view_tree shape image (site_of seen) volume kept.view) kept.view.root_oid ≡ true →

@@ -4,7 +4,11 @@ pub mod Numbers
 pub mod Faults
 pub mod Gathered
 pub mod Files
+pub mod Runs
 pub mod Counted
+pub mod Heads
+pub mod Leaves
+pub mod Sharing
 pub mod Holding
 pub mod Given
 pub mod Sets

@@ -108,7 +108,7 @@ fn is_placed(site: &Site, extent: FileExt) -> bool
 }
 
 // Adds the blocks of an extent, unless it is a hole; false where it leaves the container.
-fn add_extent(held: &mut Pieces, site: &Site, extent: FileExt) -> Result<bool, NoMemory>
+pub(crate) fn add_extent(held: &mut Pieces, site: &Site, extent: FileExt) -> Result<bool, NoMemory>
     requires { 0 < site.now.block_size }
     ensures placed { IfOk result (λ placed. placed ≡ is_extent_placed site.now.block_size site.now.blocks extent) }
     ensures added { IfOk result (λ placed. IsTrue placed → Grows held.old held.new (IsOfExtent site.now extent)) }
@@ -195,7 +195,7 @@ fn add_files<S: BlockSource>(
 }
 
 // Adds the nodes of a view's extent reference tree.
-fn add_references<S: BlockSource>(
+pub(crate) fn add_references<S: BlockSource>(
     alloc: Global,
     src: &mut S,
     kept: &KeptView,
@@ -219,7 +219,7 @@ fn add_references<S: BlockSource>(
 }
 
 // Adds the block of a snapshot's superblock, where the view is a snapshot's.
-fn add_super(held: &mut Pieces, kept: &KeptView) -> Result<(), NoMemory>
+pub(crate) fn add_super(held: &mut Pieces, kept: &KeptView) -> Result<(), NoMemory>
     ensures { OnOk result (Grows held.old held.new (λ block. kept.now.super_block ≡ Some block)) }
 {
     match kept.super_block {

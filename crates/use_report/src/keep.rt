@@ -3,12 +3,14 @@ ghost use Rattle.std.specs.Prelude.{◌≡◌, ◌≤◌, ◌++◌, [], ◌∷�
 ghost use Rattle.bt_keys.specs.RecordKey.{record_kind_of, file_extent_record};
 ghost use Rattle.bt_cursor.specs.Line.{Item, child_id};
 ghost use Rattle.bt_cursor.specs.Gathered.{shown};
+ghost use Rattle.use_report.specs.Gathered as spec;
 ghost use Rattle.use_report.specs.Gathered.{extent_in, extent_at, is_refused, Gathers};
 
 use apfs_layout::key as kinds;
 use apfs_model::NoMemory;
 use bt_cursor::{Keeper, LineItem};
 use bt_keys::FsTreeKey;
+use bt_node::Entry;
 use fs_record::{FileExt, RecFault, file_ext};
 use std::alloc::Global;
 use std::marker::PhantomData;
@@ -64,6 +66,15 @@ fn extent_of(kind: u8, key: &[u8], value: Option<&[u8]>) -> Result<Option<FileEx
     }
 }
 
+/// The extent of a record, where it is one.
+#[tactic(auto, using(bt_keys::proofs::FsKeys::kind_read, crate::proofs::Gathered::long_read))]
+pub(crate) fn extent_in<K: FsTreeKey>(entry: &Entry<'_, K>) -> Result<Option<FileExt>, RecFault>
+    requires { K.shape.read entry.now.key_bytes.now ≡ Some entry.now.key }
+    ensures { result ≡ spec.extent_in (record { key = entry.now.key_bytes.now; value = option_map (λ value. value.now) entry.now.value }) }
+{
+    extent_of(entry.key.kind(), entry.key_bytes, entry.value)
+}
+
 // The extent of an item, where it is the record of one.
 #[tactic(auto, using(bt_keys::proofs::FsKeys::kind_read, crate::proofs::Gathered::long_read), unfolding(crate::specs::Gathered::extent_at))]
 fn extent_at<K: FsTreeKey>(item: &LineItem<'_, K>) -> Result<Option<FileExt>, RecFault>
@@ -73,7 +84,7 @@ fn extent_at<K: FsTreeKey>(item: &LineItem<'_, K>) -> Result<Option<FileExt>, Re
     if item.level > 0 {
         return Ok(None);
     }
-    extent_of(item.pair.key.kind(), item.pair.key_bytes, item.pair.value)
+    extent_in(&item.pair)
 }
 
 impl<K: FsTreeKey> Keeper<K> for Kept<K> {

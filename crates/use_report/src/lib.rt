@@ -2,11 +2,15 @@
 #![tactic(auto)]
 
 mod files;
+mod heads;
 mod holding;
 mod keep;
 mod kept;
+mod leaves;
 mod numbers;
 mod pieces;
+mod runs;
+mod sharing;
 mod stop;
 mod volumes;
 

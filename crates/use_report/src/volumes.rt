@@ -2,20 +2,24 @@
 ghost use Rattle.std.specs.Prelude.{◌≡◌, ◌<◌, ℕ, List, Some, length, IfOk, IfErr, IsErrOf};
 ghost use Rattle.apfs_model.specs.Counts.{Rose};
 ghost use Rattle.apfs_model.specs.Source.{IsKept};
-ghost use Rattle.nx_ring.specs.Checkpoint.{site_of};
+ghost use Rattle.nx_ring.specs.Checkpoint.{Seen, site_of};
 ghost use Rattle.obj_base.specs.Site.{IsSiteFor};
 ghost use Rattle.obj_base.specs.Stops.{Tells, IsFree};
 ghost use Rattle.obj_base.specs.declared.stop.Stop.TheVariants.{ReadFault, NoMemory};
 ghost use Rattle.use_report.specs.Faults.{IsUseFault, IsUseFeature};
 ghost use Rattle.use_report.specs.Given.{IsGiven, IsRight};
+ghost use Rattle.use_report.specs.Heads.{ArePlaced};
 ghost use Rattle.use_report.specs.Numbers.{IsUsage, told_of};
 ghost use Rattle.use_report.specs.Sets.{AreHoldings, AreRightViews, AreFaultsOf, AreFeaturesOf, AreUsesOf, AreNumbersOf};
+ghost use Rattle.use_report.specs.Sharing.{AreHeldBy};
+ghost use Rattle.use_report.specs.Views.{views_kept};
 
 use crate::UseFault;
 use crate::holding::hold;
 use crate::kept::{KeptView, kept_views};
 use crate::numbers::{Usage, ViewUse};
 use crate::pieces::Pieces;
+use crate::sharing::held_by_sweep;
 use blk_source::BlockSource;
 use nx_ring::Checkpoint;
 use obj_base::{Site, Stop};
@@ -40,13 +44,41 @@ fn held_by_all<S: BlockSource>(
 {
     let mut held = Pieces::new(alloc);
     'views: for i in 0..views.len() {
-        held.turn(i);
+        held.turn(i)?;
         match hold(alloc, src, volume, &views[i], site, &mut held) {
             Ok(()) => {}
             Err(stop) => return Err(stop),
         }
     }
     Ok(held.all)
+}
+
+// The same, where a node that many views share is read once unless something is wrong with one of them.
+fn held_by_views<S: BlockSource>(
+    alloc: Global,
+    src: &mut S,
+    volume: &Volume,
+    views: &[KeptView],
+    site: &Site,
+) -> Result<Vec<Piece>, Stop<UseFault>>
+    requires site { IsSiteFor site.now (S.bytes_len src.old) }
+    requires placed { ArePlaced views.now }
+    ensures held { (image : List ℕ) → S.bytes src.old ≡ Some image → (seen : Seen) → site.now ≡ site_of seen → views.now ≡ views_kept volume.now seen → IsGiven image seen volume.now → IfOk result (λ pieces. AreHeldBy image seen volume.now views.now pieces.items) }
+    ensures present { (image : List ℕ) → S.bytes src.old ≡ Some image → IfErr result (Tells (AreFaultsOf image site.now volume.now views.now) (AreFeaturesOf image site.now volume.now views.now)) }
+    ensures exact { (image : List ℕ) → S.bytes src.old ≡ Some image → AreRightViews image site.now volume.now views.now → IfErr result IsFree }
+    ensures cause { IsErrOf result ReadFault → Rose (S.faults src.old) (S.faults src.new) }
+    ensures kept { IsKept S.bytes S.bytes_len S.faults src.old src.new }
+{
+    let _blocks = site.blocks;
+    match held_by_sweep(alloc, src, volume, views, site) {
+        Ok(Some(pieces)) => return Ok(pieces),
+        Ok(None) => {}
+        Err(stop) => return Err(stop),
+    }
+    match held_by_all(alloc, src, volume, views, site) {
+        Ok(pieces) => Ok(pieces),
+        Err(stop) => Err(stop),
+    }
 }
 
 // The numbers of a view of a transaction.
@@ -128,7 +160,7 @@ pub fn usage<S: BlockSource>(
         Ok(views) => views,
         Err(stop) => return Err(stop),
     };
-    let pieces = match held_by_all(alloc, src, volume, &views, &site) {
+    let pieces = match held_by_views(alloc, src, volume, &views, &site) {
         Ok(pieces) => pieces,
         Err(stop) => return Err(stop),
     };

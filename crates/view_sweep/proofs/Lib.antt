@@ -26,3 +26,5 @@ pub mod Fors
 pub mod Cuts
 pub mod Waits
 pub mod Tops
+pub mod Shares
+pub mod Shared

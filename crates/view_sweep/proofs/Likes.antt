@@ -22,7 +22,7 @@ pub record IsLike (a b : Wanted) : Type 0 where
   pub oid : a.oid ≡ b.oid
   pub number : number_by a.want ≡ number_by b.want
 
-expected-alike : (v : SweptView) (a b : Want) → number_by a ≡ number_by b → expected_by v a ≡ expected_by v b
+pub expected-alike : (v : SweptView) (a b : Want) → number_by a ≡ number_by b → expected_by v a ≡ expected_by v b
 expected-alike v Root Root e = refl
 expected-alike v Root Metadata e = absurd (omega arith)
 expected-alike v Root (Node level namer entry) e = absurd (omega arith)
@@ -70,7 +70,7 @@ unfolding next_of
 next-like k named a b l = ap (next_by k a) (look-like k named a b l) ∙ by-like k a b (k.look b) l
 
 -- ---- of views that look up alike
-expected-one : (u v : SweptView) (want : Want) → AreAsOne u v → expected_by v want ≡ expected_by u want
+pub expected-one : (u v : SweptView) (want : Want) → AreAsOne u v → expected_by v want ≡ expected_by u want
 expected-one u v Root one = ap (λ (h : Bool). TreeRoot (Files h)) (sym one.hashed)
 expected-one u v Metadata one = refl
 expected-one u v (Node level namer entry) one = ap (λ (h : Bool). TreeNode (Files h) level) (sym one.hashed)

@@ -54,7 +54,7 @@ next-view : (k : World) (w m : Wanted) → In w (next_of k m) → w.view ≡ m.v
 unfolding next_of
 next-view k w m h = by-view k w m (k.look m) h
 
-live-view : (k : World) (heads : List Head) (w : Wanted) → IsLive k heads w → (h : Head) × (In h heads × (w.view ≡ h.view))
+pub live-view : (k : World) (heads : List Head) (w : Wanted) → IsLive k heads w → (h : Head) × (In h heads × (w.view ≡ h.view))
 live-view k heads w (rooted _ h) = heads-views heads w h
 live-view k heads w (led m _ live h) = let t = live-view k heads m live in (t.0, (t.1.0, next-view k w m h ∙ t.1.1))
 
@@ -98,7 +98,7 @@ module _ (image : List ℕ) (seen : Seen) (volumes : List Loaded) (heads : List 
       subst (IsMapped image seen volumes) (sym t.1.1) (mapped t.0 t.1.0)
 
   -- to which object it resolves, where its record is known
-  found-as : (w : Wanted) (r : OmapRecord) → IsLive (world volumes (site_of seen) image) heads w → looked volumes (site_of seen) w ≡ Some r → resolved image seen (naming_of supers w) ≡ Some (object_at image (site_of seen) w.view r)
+  pub found-as : (w : Wanted) (r : OmapRecord) → IsLive (world volumes (site_of seen) image) heads w → looked volumes (site_of seen) w ≡ Some r → resolved image seen (naming_of supers w) ≡ Some (object_at image (site_of seen) w.view r)
   found-as w r live e = resolves-as image seen volumes supers w (view-mapped w live) ∙ ap (option_map (object_at image (site_of seen) w.view)) e
 
   lost-as : (w : Wanted) → IsLive (world volumes (site_of seen) image) heads w → looked volumes (site_of seen) w ≡ None → resolved image seen (naming_of supers w) ≡ None

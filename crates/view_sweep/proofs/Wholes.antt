@@ -52,7 +52,7 @@ live-low k heads w (led m _ live h) =
       ]
     ]
 
-live-top : (k : World) (heads : List Head) (w : Wanted) → IsLive k heads w → 16 ≤ level_of w → In w (heads_want heads)
+pub live-top : (k : World) (heads : List Head) (w : Wanted) → IsLive k heads w → 16 ≤ level_of w → In w (heads_want heads)
 live-top k heads w live high = elim (live-low k heads w live) as (λ _. In w (heads_want heads)) [ inl i ↦ i | inr i ↦ absurd (omega arith) ]
 
 pub kids-step : (k : World) (heads : List Head) (kids : List Wanted) (read : List Used) → IsStep k (heads_want heads) [] kids read → AreKids k heads kids

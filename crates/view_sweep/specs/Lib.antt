@@ -5,6 +5,7 @@ pub mod Here
 pub mod Order
 pub mod Swept
 pub mod Named
+pub mod Shared
 pub mod Unused
 pub mod Sets
 pub mod Next

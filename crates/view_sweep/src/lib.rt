@@ -17,6 +17,7 @@ mod used;
 mod wanted;
 
 pub use idle::{MapRecords, unused};
-pub use reaching::reach_views;
-pub use used::Used;
+pub use reaching::{reach_by_views, reach_views};
+pub use sets::ViewSet;
+pub use used::{Reach, Share, SharedAs, Used};
 pub use wanted::{Head, SweptView};

@@ -1,5 +1,5 @@
 // Sets of views: bit `p` of a run of bytes tells of the view at place `p`. A view that stands twice is told at its first place.
-ghost use Rattle.std.specs.Prelude.{◌≡◌, ◌↔◌, ◌&&◌, ◌||◌, ◌+◌, ◌<◌, ◌≤◌, ◌*◌, ℕ, List, true, false, length, IfOk, IsTrue};
+ghost use Rattle.std.specs.Prelude.{◌≡◌, ◌↔◌, ◌&&◌, ◌||◌, ◌+◌, ◌-◌, ◌<◌, ◌≤◌, ◌*◌, ℕ, List, true, false, length, IfOk, IsTrue};
 ghost use Rattle.apfs_model.specs.Bytes.{bit_at};
 ghost use Rattle.apfs_model.specs.Lists.{In};
 ghost use Rattle.bit_lanes.specs.Places.{is_from};
@@ -11,8 +11,10 @@ use bit_lanes::{and_into, set_range};
 use std::alloc::{AllocError, Global};
 
 /// A set of views.
-#[derive(Drop)]
-pub(crate) struct ViewSet {
+#[derive(Debug, Drop)]
+pub struct ViewSet {
+    /// A bit for each view, in the order of the heads: bit `p % 8` of byte `p / 8`, the lowest being bit 0, is that of the view
+    /// at place `p`, counted from 0. The bits after the last view are clear.
     pub bits: Vec<u8>,
 }
 
@@ -114,14 +116,26 @@ pub(crate) fn bits_of(sets: &[ViewSet], number: usize) -> &[u8]
     &set.bits
 }
 
-/// Keeps a set, and answers its number.
+// Whether a set is the last of those that are kept.
+fn is_last(sets: &[ViewSet], bits: &[u8]) -> bool
+    ensures some { IsTrue result → 0 < length sets.now }
+    ensures same { IsTrue result → set_at sets.now (length sets.now - 1) ≡ bits.now }
+{
+    let count = sets.len();
+    count > 0 && *bits_of(sets, count - 1) == *bits
+}
+
+/// Keeps a set, and answers its number: where it is the last of those that are kept, that one's.
 pub(crate) fn keep(sets: &mut Vec<ViewSet>, bits: Vec<u8>) -> Result<usize, AllocError>
     ensures kept { IfOk result (λ n. AreKept sets.old.items sets.new.items) }
     ensures inside { IfOk result (λ n. n < length sets.new.items) }
     ensures at { IfOk result (λ n. set_at sets.new.items n ≡ bits.items) }
     ensures sets { IfOk result (λ n. (views : List View) → AreSets views sets.old.items → IsSetOf views bits.items → AreSets views sets.new.items) }
 {
-    let number = sets.as_slice().len();
+    let count = sets.as_slice().len();
+    if is_last(sets, &bits) {
+        return Ok(count - 1);
+    }
     sets.push(ViewSet { bits })?;
-    Ok(number)
+    Ok(count)
 }

@@ -6,16 +6,17 @@ ghost use Rattle.apfs_model.specs.Source.{IsKept};
 ghost use Rattle.obj_base.specs.Site.{IsSiteFor};
 ghost use Rattle.obj_base.specs.declared.stop.Stop.TheVariants.{ReadFault};
 ghost use Rattle.view_sweep.specs.Wanted.{head_wants, heads_want, AreBelowHeads};
-ghost use Rattle.view_sweep.specs.Found.{world};
+ghost use Rattle.view_sweep.specs.Found.{world, looked};
 ghost use Rattle.view_sweep.specs.Here.{TellsHere};
 ghost use Rattle.apfs_model.specs.Lists.{In};
 ghost use Rattle.view_sweep.specs.Hits.{AreBelowViews};
 ghost use Rattle.view_sweep.specs.Sets.{AreSets, AreKept, AreNumbered, HaveSame, IsSetOfOne, all_asked, asked_with, set_at};
+ghost use Rattle.view_sweep.specs.Shared.{head_views, AreInside, AreShares, IsAbove};
 ghost use Rattle.view_sweep.specs.Swept.{AreKids, IsLive, IsSwept, level_of};
 
 use crate::level::take_level;
 use crate::sets::{ViewSet, keep, one_of, place_of};
-use crate::used::Used;
+use crate::used::Reach;
 use crate::wanted::{Asked, Head, SweptView, Want, Wanted};
 use blk_source::BlockSource;
 use obj_base::{Site, Stop};
@@ -115,21 +116,23 @@ fn levels<S: BlockSource>(
     volumes: &[Volume],
     heads: &[Head],
     views: &[SweptView],
-    sets: &mut Vec<ViewSet>,
     kids: &[Asked],
     block: &mut Vec<u8>,
-    all: &mut Vec<Used>,
+    out: &mut Reach,
 ) -> Result<(), Stop<ReachFault>>
     requires site { IsSiteFor site.now (S.bytes_len src.old) }
     requires long { length block.old.items ≡ site.now.block_size }
     requires below { AreBelowViews (length volumes.now) views.now }
-    requires sets { AreSets views.now sets.old.items }
-    requires numbers { AreNumbered (length sets.old.items) kids.now }
-    requires kids { (image : List ℕ) → S.bytes src.old ≡ Some image → AreKids (world volumes.now site.now image) heads.now (all_asked views.now sets.old.items kids.now) }
-    requires top { (image : List ℕ) → S.bytes src.old ≡ Some image → IsSwept (world volumes.now site.now image) heads.now 16 all.old.items }
-    ensures clear { (image : List ℕ) → S.bytes src.old ≡ Some image → OnOk result (IsSwept (world volumes.now site.now image) heads.now 0 all.new.items) }
+    requires inside { AreInside site.now.blocks views.now out.old.sets.items out.old.shares.items }
+    requires numbers { AreNumbered (length out.old.sets.items) kids.now }
+    requires kids { (image : List ℕ) → S.bytes src.old ≡ Some image → AreKids (world volumes.now site.now image) heads.now (all_asked views.now out.old.sets.items kids.now) }
+    requires top { (image : List ℕ) → S.bytes src.old ≡ Some image → IsSwept (world volumes.now site.now image) heads.now 16 out.old.used.items }
+    requires shares { (image : List ℕ) → S.bytes src.old ≡ Some image → AreShares (looked volumes.now site.now) views.now (IsAbove (world volumes.now site.now image) heads.now 16) out.old.sets.items out.old.shares.items }
+    ensures clear { (image : List ℕ) → S.bytes src.old ≡ Some image → OnOk result (IsSwept (world volumes.now site.now image) heads.now 0 out.new.used.items) }
+    ensures shares { (image : List ℕ) → S.bytes src.old ≡ Some image → OnOk result (AreShares (looked volumes.now site.now) views.now (IsAbove (world volumes.now site.now image) heads.now 0) out.new.sets.items out.new.shares.items) }
+    ensures inside { OnOk result (AreInside site.now.blocks views.now out.new.sets.items out.new.shares.items) }
     ensures present { (image : List ℕ) → S.bytes src.old ≡ Some image → IfErr result (TellsHere (world volumes.now site.now image) (IsLive (world volumes.now site.now image) heads.now)) }
-    ensures reads { OnOk result (S.reads src.new + length all.old.items ≤ S.reads src.old + length all.new.items) }
+    ensures reads { OnOk result (S.reads src.new + length out.old.used.items ≤ S.reads src.old + length out.new.used.items) }
     ensures cause { IsErrOf result ReadFault → Rose (S.faults src.old) (S.faults src.new) }
     ensures kept { IsKept S.bytes S.bytes_len S.faults src.old src.new }
 {
@@ -145,15 +148,16 @@ fn levels<S: BlockSource>(
             volumes,
             views,
             site,
-            sets,
+            &mut out.sets,
             &mut current,
             block,
             &mut below,
+            &mut out.shares,
         ) {
             Ok(read) => read,
             Err(stop) => return Err(stop),
         };
-        all.extend_from_slice(&read)?;
+        out.used.extend_from_slice(&read)?;
         current = below;
     }
     Ok(())
@@ -167,12 +171,14 @@ pub(crate) fn sweep<S: BlockSource>(
     site: &Site,
     volumes: &[Volume],
     heads: &[Head],
-) -> Result<Vec<Used>, Stop<ReachFault>>
+) -> Result<Reach, Stop<ReachFault>>
     requires site { IsSiteFor site.now (S.bytes_len src.old) }
     requires below { AreBelowHeads (length volumes.now) heads.now }
-    ensures clear { (image : List ℕ) → S.bytes src.old ≡ Some image → IfOk result (λ used. IsSwept (world volumes.now site.now image) heads.now 0 used.items) }
+    ensures clear { (image : List ℕ) → S.bytes src.old ≡ Some image → IfOk result (λ reached. IsSwept (world volumes.now site.now image) heads.now 0 reached.used.items) }
+    ensures shares { (image : List ℕ) → S.bytes src.old ≡ Some image → IfOk result (λ reached. AreShares (looked volumes.now site.now) (head_views heads.now) (IsAbove (world volumes.now site.now image) heads.now 0) reached.sets.items reached.shares.items) }
+    ensures inside { IfOk result (λ reached. AreInside site.now.blocks (head_views heads.now) reached.sets.items reached.shares.items) }
     ensures present { (image : List ℕ) → S.bytes src.old ≡ Some image → IfErr result (TellsHere (world volumes.now site.now image) (IsLive (world volumes.now site.now image) heads.now)) }
-    ensures reads { IfOk result (λ used. S.reads src.new ≤ S.reads src.old + length used.items) }
+    ensures reads { IfOk result (λ reached. S.reads src.new ≤ S.reads src.old + length reached.used.items) }
     ensures cause { IsErrOf result ReadFault → Rose (S.faults src.old) (S.faults src.new) }
     ensures kept { IsKept S.bytes S.bytes_len S.faults src.old src.new }
 {
@@ -181,16 +187,27 @@ pub(crate) fn sweep<S: BlockSource>(
     let mut sets = Vec::new(alloc);
     let mut first = wants(alloc, &views, heads, &mut sets)?;
     let mut kids = Vec::new(alloc);
-    let mut all = match take_level(
-        alloc, src, volumes, &views, site, &mut sets, &mut first, &mut block, &mut kids,
+    let mut shares = Vec::new(alloc);
+    let used = match take_level(
+        alloc,
+        src,
+        volumes,
+        &views,
+        site,
+        &mut sets,
+        &mut first,
+        &mut block,
+        &mut kids,
+        &mut shares,
     ) {
         Ok(read) => read,
         Err(stop) => return Err(stop),
     };
+    let mut out = Reach { used, shares, sets };
     match levels(
-        alloc, src, site, volumes, heads, &views, &mut sets, &kids, &mut block, &mut all,
+        alloc, src, site, volumes, heads, &views, &kids, &mut block, &mut out,
     ) {
-        Ok(()) => Ok(all),
+        Ok(()) => Ok(out),
         Err(stop) => Err(stop),
     }
 }

@@ -3,7 +3,8 @@ use Rattle.std.proofs.lemmas.Option.{slice_get-get_or}
 use Rattle.use_report.specs.Sets.{AreHoldings}
 use Rattle.use_report.proofs.Lists.{got-in}
 use Rattle.use_report.proofs.Stopped.{view-told}
-use Rattle.use_report.proofs.Told.{no_view, holdings-none, holdings-more}
+use Rattle.use_report.specs.Heads.{no_view}
+use Rattle.use_report.proofs.Told.{holdings-none, holdings-more}
 use Rattle.use_report.proofs.volumes.held_by_all.Goals as goal
 
 pub views-init : goal.views-init
@@ -32,7 +33,7 @@ views-preserved g c =
     record {
       held = λ image told.
           holdings-more image c.args.site.now c.args.volume.now views i (get_or views i no_view) c.views.held c.turn.new.self c.hold.new.held (slice_get-get_or views i no_view c.views-test.true)
-          c.turn.ensures.same c.turn.ensures.from c.turn.ensures.to (had.held image told) (c.in-Ok.ensures.held image (had.kept.same_bytes ∙ told));
+          c.in_ok-turn.ensures.same c.in_ok-turn.ensures.runs (had.held image told) (c.in-Ok.ensures.held image (had.kept.same_bytes ∙ told));
       kept = record {
         same_bytes = c.hold.ensures.kept.same_bytes ∙ had.kept.same_bytes;
         same_size = c.hold.ensures.kept.same_size ∙ had.kept.same_size;

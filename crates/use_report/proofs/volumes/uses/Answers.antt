@@ -2,7 +2,8 @@ use Rattle.std.proofs.Common.{List, length, get_or, ap, arith}
 use Rattle.std.proofs.lemmas.Option.{slice_get-get_or}
 use Rattle.use_report.specs.declared.numbers.ViewUse.{ViewUse}
 use Rattle.use_report.proofs.Lists.{below-length, one-longer}
-use Rattle.use_report.proofs.Told.{no_view, uses-more}
+use Rattle.use_report.specs.Heads.{no_view}
+use Rattle.use_report.proofs.Told.{uses-more}
 use Rattle.use_report.proofs.volumes.uses.Goals as goal
 
 pub views-init : goal.views-init

@@ -1,4 +1,4 @@
-use Rattle.std.proofs.Common.{◌≡◌, List, ◌++◌, length, map, sym, subst}
+use Rattle.std.proofs.Common.{◌≡◌, List, [], ◌++◌, length, map, sym, subst}
 use Rattle.std.specs.List.{flat_map}
 use Rattle.std.proofs.lemmas.List.Sorted.{IsPermutation-sym}
 use Rattle.apfs_model.specs.Lists.{In}
@@ -12,10 +12,12 @@ use Rattle.view_sweep.specs.Found.{World, world, looked, used_of}
 use Rattle.view_sweep.specs.Here.{Among, IsTwiceHere, IsLostHere, IsMappedBy, IsBadHit, IsRefusedHit}
 use Rattle.view_sweep.specs.Sets.{all_asked, hit_by, AreNumbered}
 use Rattle.view_sweep.specs.Swept.{IsOnce, ArePlaced, AreSound, AreRead, hit_asks}
+use Rattle.view_sweep.specs.Shared.{share_of}
 use Rattle.view_sweep.specs.Asked.{AreSought, IsOfSought}
 use Rattle.view_sweep.specs.Hits.{AreHitsOf}
 use Rattle.view_sweep.proofs.Fors.{sought-like, lost-here, asked-permuted, numbered-permuted, once-permuted, level-for, hits-placed, hits-numbered, after-to, after-from}
 use Rattle.view_sweep.proofs.Members.{numbered-more}
+use Rattle.view_sweep.proofs.Shares.{level-shares}
 use Rattle.view_sweep.proofs.Steps.{AreFor, placed-permuted, here-more, twice-tells, bad-tells, step_from}
 use Rattle.view_sweep.proofs.Wholes.{looked-named}
 use Rattle.view_sweep.proofs.level.take_level.Goals as goal
@@ -66,8 +68,8 @@ read_hits-requires-clause-inside g c =
     (placed-permuted c.args.site.now.blocks c.in-Ok-hits.found.items c.by_record.new.hits.items c.by_record.ensures.order
     (hits-placed (looked c.args.volumes.now c.args.site.now) c.args.site.now c.args.views.now c.hits.new.sets.items c.deref-5.result.now c.in-Ok-hits.found.items c.in-Ok-hits.ensures.hits))
 
-pub returns-in-Ok-read_hits-clause-step : goal.returns-in-Ok-read_hits-clause-step
-returns-in-Ok-read_hits-clause-step g c = λ image told.
+pub returns-clause-step : goal.returns-clause-step
+returns-clause-step g c = λ image told.
     let k : World = world c.args.volumes.now c.args.site.now image in
     let views : List SweptView = c.args.views.now in
     let old : List ViewSet = c.args.sets.now.items in
@@ -92,16 +94,16 @@ returns-in-Ok-read_hits-clause-step g c = λ image told.
     (subst (λ (hs : List Hit). AreSound k.site k.bytes hs) c.deref-6.ensures.value (c.in-Ok-read_hits.ensures.sound image told))
     (subst (λ (hs : List Hit). AreRead (map used_of hs) c.in-Ok-read_hits.read.items) c.deref-6.ensures.value c.in-Ok-read_hits.ensures.read)
 
-pub returns-in-Ok-read_hits-clause-numbers : goal.returns-in-Ok-read_hits-clause-numbers
-returns-in-Ok-read_hits-clause-numbers g c =
+pub returns-clause-numbers : goal.returns-clause-numbers
+returns-clause-numbers g c =
     let new : List ViewSet = c.hits.new.sets.items in
     let hits : List Hit = c.by_record.new.hits.items in
     c.in-Ok-read_hits.ensures.numbers (length new)
     (λ h i. hits-numbered (looked c.args.volumes.now c.args.site.now) c.args.site.now c.args.views.now new c.deref-5.result.now c.in-Ok-hits.found.items hits c.in-Ok-hits.ensures.hits c.by_record.ensures.order h (subst (In h) c.deref-6.ensures.value i))
     (numbered-more (length c.args.sets.now.items) (length new) c.args.below.now.items c.in-Ok-hits.ensures.kept.more c.requires.waiting)
 
-pub returns-clause-stops : goal.returns-clause-stops
-returns-clause-stops g c = λ image told.
+pub returns-in-Err-read_hits-clause-stops : goal.returns-in-Err-read_hits-clause-stops
+returns-in-Err-read_hits-clause-stops g c = λ image told.
     let k : World = world c.args.volumes.now c.args.site.now image in
     let views : List SweptView = c.args.views.now in
     let old : List ViewSet = c.args.sets.now.items in
@@ -117,3 +119,23 @@ returns-clause-stops g c = λ image told.
     let for : AreFor k (all_asked views old current) hits (hit_by views new) = level-for k views old new current sorted all found hits c.by_id.ensures.order so of c.by_record.ensures.order in
     bad-tells k (looked-named c.args.volumes.now c.args.site.now image) (all_asked views old current) hits (hit_by views new) for c.in-Err-read_hits.stop
     (subst (λ (hs : List Hit). Tells (IsBadHit k.site k.bytes hs) (IsRefusedHit k.site k.bytes hs) c.in-Err-read_hits.stop) c.deref-6.ensures.value (c.in-Err-read_hits.ensures.stops image told))
+
+pub returns-clause-shares : goal.returns-clause-shares
+returns-clause-shares g c =
+    let k : World = world c.args.volumes.now c.args.site.now [] in
+    let views : List SweptView = c.args.views.now in
+    let old : List ViewSet = c.args.sets.now.items in
+    let new : List ViewSet = c.hits.new.sets.items in
+    let current : List Asked = c.args.current.now.items in
+    let sorted : List Asked = c.by_id.new.asked.items in
+    let all : List Sought = c.in_ok-all.all.items in
+    let found : List Hit = c.in-Ok-hits.found.items in
+    let hits : List Hit = c.by_record.new.hits.items in
+    let so : AreSought old sorted all =
+    subst (λ (ss : List ViewSet). AreSought ss sorted all) c.deref-3.ensures.value (subst (λ (xs : List Asked). AreSought c.deref-3.result.now xs all) c.deref-4.ensures.value c.in_ok-all.ensures.all) in
+    let of : AreHitsOf k.look k.site views new all found = subst (λ (xs : List Sought). AreHitsOf k.look k.site views new xs found) c.deref-5.ensures.value c.in-Ok-hits.ensures.hits in
+    let for : AreFor k (all_asked views old current) hits (hit_by views new) = level-for k views old new current sorted all found hits c.by_id.ensures.order so of c.by_record.ensures.order in
+    level-shares k (looked-named c.args.volumes.now c.args.site.now []) views new (all_asked views old current) hits for c.in-Ok-hits.ensures.sets
+    (hits-numbered k.look k.site views new all found hits of c.by_record.ensures.order) c.args.site.now.blocks c.args.shares.now.items c.add_shares.new.out.items
+    (placed-permuted c.args.site.now.blocks found hits c.by_record.ensures.order (hits-placed k.look k.site views new all found of))
+    (subst (λ (hs : List Hit). c.add_shares.new.out.items ≡ c.args.shares.now.items ++ map share_of hs) c.deref-7.ensures.value c.in_ok-add_shares.ensures)

@@ -9,8 +9,8 @@ use Rattle.view_sweep.proofs.reaching.reach_views.Goals as goal
 
 pub returns-in-Ok-clause-clear : goal.returns-in-Ok-clause-clear
 returns-in-Ok-clause-clear g c = λ image told seen of supers.
-    reached-as image seen c.args.volumes.now c.args.heads.now supers (mapped-of image seen c.args.site.now c.args.volumes.now c.args.heads.now of) c.requires.told c.in-Ok.used.items
-    (subst (λ (s : Site). IsSwept (world c.args.volumes.now s image) c.args.heads.now 0 c.in-Ok.used.items) of.site_is (c.in-Ok.ensures.clear image told))
+    reached-as image seen c.args.volumes.now c.args.heads.now supers (mapped-of image seen c.args.site.now c.args.volumes.now c.args.heads.now of) c.requires.told c.in-Ok.reached.used.items
+    (subst (λ (s : Site). IsSwept (world c.args.volumes.now s image) c.args.heads.now 0 c.in-Ok.reached.used.items) of.site_is (c.in-Ok.ensures.clear image told))
 
 pub returns-in-Err-clause-present : goal.returns-in-Err-clause-present
 returns-in-Err-clause-present g c = λ image told seen of supers live.

@@ -1,16 +1,21 @@
-use Rattle.std.proofs.Common.{◌≡◌, List, [], length, sym, ◌∙◌, subst}
+use Rattle.std.proofs.Common.{◌≡◌, ℕ, List, [], Option, length, sym, ◌∙◌, subst}
+use Rattle.omap_map.specs.declared.records.OmapRecord.{OmapRecord}
 use Rattle.reach_rules.specs.Live.{rooted}
 use Rattle.view_sweep.specs.declared.sets.ViewSet.{ViewSet}
 use Rattle.view_sweep.specs.declared.wanted.SweptView.{SweptView}
 use Rattle.view_sweep.specs.declared.wanted.Asked.{Asked}
 use Rattle.view_sweep.specs.declared.wanted.Head.{Head}
+use Rattle.view_sweep.specs.declared.wanted.Wanted.{Wanted}
 use Rattle.view_sweep.specs.declared.used.Used.{Used}
+use Rattle.view_sweep.specs.declared.used.Share.{Share}
 use Rattle.view_sweep.specs.Wanted.{heads_want}
-use Rattle.view_sweep.specs.Found.{World, world}
+use Rattle.view_sweep.specs.Found.{World, world, looked}
 use Rattle.view_sweep.specs.Here.{TellsHere, Among}
 use Rattle.view_sweep.specs.Hits.{AreBelowViews}
 use Rattle.view_sweep.specs.Sets.{AreNumbered, HaveSame, all_asked}
+use Rattle.view_sweep.specs.Shared.{AreInside, AreShares, AddsShares, IsAbove}
 use Rattle.view_sweep.specs.Swept.{AreKids, IsLive, IsStep}
+use Rattle.view_sweep.proofs.Shares.{shares-top, inside-top}
 use Rattle.view_sweep.proofs.Steps.{here-more}
 use Rattle.view_sweep.proofs.Tops.{views-below, step-same}
 use Rattle.view_sweep.proofs.Wholes.{kids-step, swept-top}
@@ -71,3 +76,42 @@ levels-requires-clause-top g c = λ image told.
     let step = c.in-Ok.ensures.step image (sym c.take_level.ensures.kept.same_bytes ∙ told) in
     swept-top k heads (all_asked views more kids) c.in-Ok.read.items
     (top-step k heads views c.deref.result.now c.deref-2.result.now c.wants.new.sets.items more c.in_ok-first.first.items c.new-kids.result.items kids c.in-Ok.read.items c.deref.ensures.value c.deref-2.ensures.value c.new-kids.ensures.items c.in_ok-first.ensures.all step)
+
+-- what is told of the first level is told of the views
+top-shares : (blocks : ℕ) (look : Wanted → Option OmapRecord) (P : Wanted → Type 0) (views two : List SweptView) (sets : List ViewSet) (before new : List Share) → two ≡ views → before ≡ [] → AddsShares look blocks two P sets before new → AddsShares look blocks views P sets [] new
+top-shares blocks look P views two sets before new f g b =
+    subst (λ (xs : List Share). AddsShares look blocks views P sets xs new) g (subst (λ (vs : List SweptView). AddsShares look blocks vs P sets before new) f b)
+
+pub levels-requires-clause-inside : goal.levels-requires-clause-inside
+levels-requires-clause-inside g c =
+    let more : List ViewSet = c.take_level.new.sets.items in
+    let new : List Share = c.take_level.new.shares.items in
+    let look : Wanted → Option OmapRecord = looked c.args.volumes.now c.args.site.now in
+    let wanted : List Wanted = all_asked c.deref-2.result.now c.wants.new.sets.items c.in_ok-first.first.items in
+    subst (λ (vs : List SweptView). AreInside c.args.site.now.blocks vs more new) (sym c.deref-3.ensures.value)
+    (inside-top c.args.site.now.blocks look c.in_ok-views.views.items (Among wanted) more new
+    (top-shares c.args.site.now.blocks look (Among wanted) c.in_ok-views.views.items c.deref-2.result.now more c.new-shares.result.items new c.deref-2.ensures.value c.new-shares.ensures.items c.in-Ok.ensures.shares))
+
+pub levels-requires-clause-shares : goal.levels-requires-clause-shares
+levels-requires-clause-shares g c = λ image told.
+    let k : World = world c.args.volumes.now c.args.site.now image in
+    let heads : List Head = c.args.heads.now in
+    let views : List SweptView = c.in_ok-views.views.items in
+    let sets : List ViewSet = c.wants.new.sets.items in
+    let more : List ViewSet = c.take_level.new.sets.items in
+    let first : List Asked = c.in_ok-first.first.items in
+    let new : List Share = c.take_level.new.shares.items in
+    let wanted : List Wanted = all_asked c.deref-2.result.now sets first in
+    let same : HaveSame wanted (heads_want heads) = subst (λ (vs : List SweptView). HaveSame (all_asked vs sets first) (heads_want heads)) (c.deref.ensures.value ∙ sym c.deref-2.ensures.value) c.in_ok-first.ensures.all in
+    subst (λ (vs : List SweptView). AreShares k.look vs (IsAbove k heads 16) more new) (sym c.deref-3.ensures.value)
+    (shares-top c.args.site.now.blocks k heads views wanted more new same
+    (top-shares c.args.site.now.blocks k.look (Among wanted) views c.deref-2.result.now more c.new-shares.result.items new c.deref-2.ensures.value c.new-shares.ensures.items c.in-Ok.ensures.shares))
+
+pub returns-in-Ok-levels-clause-shares : goal.returns-in-Ok-levels-clause-shares
+returns-in-Ok-levels-clause-shares g c = λ image told.
+    subst (λ (vs : List SweptView). AreShares (looked c.args.volumes.now c.args.site.now) vs (IsAbove (world c.args.volumes.now c.args.site.now image) c.args.heads.now 0) c.levels.new.out.sets.items c.levels.new.out.shares.items) (c.deref-3.ensures.value ∙ c.in_ok-views.ensures)
+    (c.in-Ok-levels.ensures.shares image (c.take_level.ensures.kept.same_bytes ∙ told))
+
+pub returns-in-Ok-levels-clause-inside : goal.returns-in-Ok-levels-clause-inside
+returns-in-Ok-levels-clause-inside g c =
+    subst (λ (vs : List SweptView). AreInside c.args.site.now.blocks vs c.levels.new.out.sets.items c.levels.new.out.shares.items) (c.deref-3.ensures.value ∙ c.in_ok-views.ensures) c.in-Ok-levels.ensures.inside

@@ -1,6 +1,6 @@
 use Rattle.std.proofs.Common.{◌<◌, Some, length, arith}
 use Rattle.vol_view.proofs.HeadsKept.{head-kept}
-use Rattle.use_cases.proofs.tests.told.Goals as goal
+use Rattle.use_cases.proofs.tests.told_in.Goals as goal
 
 pub load-requires-clause-head : goal.load-requires-clause-head
 load-requires-clause-head c =
