@@ -11,8 +11,10 @@ use blk_folder::Folder;
 use blk_source::BlockSource;
 use file_extent::{CopyFault, Stream};
 
-// The bytes that are put at once.
-const PIECE: usize = 16384;
+// The bytes that are put at once, of a long stream and of a short one. The most that a source is asked for at once, and a block.
+const LONG: usize = 65536;
+
+const SHORT: usize = 4096;
 
 // Puts a piece of a stream at the end of the file that is written, from byte `at` on: where the next one starts.
 fn put_piece<S: BlockSource, F: Folder>(
@@ -43,6 +45,32 @@ fn put_piece<S: BlockSource, F: Folder>(
     }
 }
 
+// Puts the bytes of a stream at the end of the file that is written, with a buffer for a piece.
+fn put_by<S: BlockSource, F: Folder>(
+    src: &mut S,
+    stream: &Stream,
+    piece: &mut [u8],
+    folder: &mut F,
+) -> Result<(), CopyFault>
+    requires site { IsSiteFor stream.now.site (S.bytes_len src.old) }
+    requires room { 0 < length piece.old }
+    requires writing { F.writing folder.old ≡ true }
+    ensures text { MatchResult result (λ _. AppendedWhole (F.contents folder.old) (F.contents folder.new) (S.bytes src.old) (λ image. stream_bytes stream.now.site.block_size image stream.now.extents stream.now.size)) (λ _. AppendedFront (F.contents folder.old) (F.contents folder.new) (S.bytes src.old) (λ image. stream_bytes stream.now.site.block_size image stream.now.extents stream.now.size)) }
+    ensures read_cause { IsErrOf result ReadFault → Rose (S.faults src.old) (S.faults src.new) }
+    ensures write_cause { IsErrOf result WriteFault → Rose (F.faults folder.old) (F.faults folder.new) }
+    ensures kept { IsKept S.bytes S.bytes_len S.faults src.old src.new }
+    ensures later { F.faults folder.old ≤ F.faults folder.new }
+{
+    let mut at = 0;
+    'pieces: while at < stream.size() {
+        at = match put_piece(src, stream, at, piece, folder) {
+            Ok(next) => next,
+            Err(fault) => return Err(fault),
+        };
+    }
+    Ok(())
+}
+
 /// Puts the bytes of a stream at the end of the file that is written, a piece at a time. What a hole has, and what no extent
 /// covers, isn't read.
 pub(crate) fn put_pieces<S: BlockSource, F: Folder>(
@@ -58,13 +86,10 @@ pub(crate) fn put_pieces<S: BlockSource, F: Folder>(
     ensures kept { IsKept S.bytes S.bytes_len S.faults src.old src.new }
     ensures later { F.faults folder.old ≤ F.faults folder.new }
 {
-    let mut piece = [0u8; PIECE];
-    let mut at = 0;
-    'pieces: while at < stream.size() {
-        at = match put_piece(src, stream, at, &mut piece, folder) {
-            Ok(next) => next,
-            Err(fault) => return Err(fault),
-        };
+    if stream.size() <= SHORT as u64 {
+        let mut piece = [0u8; SHORT];
+        return put_by(src, stream, &mut piece, folder);
     }
-    Ok(())
+    let mut piece = [0u8; LONG];
+    put_by(src, stream, &mut piece, folder)
 }

@@ -2,7 +2,7 @@ use Rattle.std.proofs.Common.{◌≡◌, ◌-◌, ◌∙◌, ℕ, List, refl, ar
 use Rattle.file_extent.specs.Streams.{bytes_from, stream_bytes}
 use Rattle.file_extent.proofs.Pieces.{bytes-more}
 use Rattle.tree_export.proofs.Appends.{pieces_more, pieces_cut, none_whole}
-use Rattle.tree_export.proofs.pieces.put_pieces.Goals as goal
+use Rattle.tree_export.proofs.pieces.put_by.Goals as goal
 
 pub returns-in-Err-clause-text : goal.returns-in-Err-clause-text
 unfolding stream_bytes
@@ -29,6 +29,7 @@ pieces-preserved g c =
     let after = c.in-Ok.ensures in
     record {
       bound = after.next.1;
+      room = omega (arith, before.room, c.put_piece.auto.piece);
       writes = after.writes;
       kept = record {
         same_bytes = after.kept.same_bytes ∙ before.kept.same_bytes;
@@ -57,6 +58,7 @@ returns-clause-text g c =
 pub pieces-init : goal.pieces-init
 pieces-init g c = record {
   bound = omega arith;
+  room = c.requires.room;
   writes = c.requires.writing;
   kept = record { same_bytes = refl; same_size = refl; later = omega arith };
   later = omega arith;

@@ -1,13 +1,14 @@
 -- The bytes before the next piece were put.
-use Rattle.std.proofs.Common.{◌≡◌, ◌≤◌, ◌-◌, true}
+use Rattle.std.proofs.Common.{◌≡◌, ◌≤◌, ◌<◌, ◌-◌, true, length}
 use Rattle.apfs_model.specs.Source.{IsKept}
 use Rattle.file_extent.specs.Streams.{bytes_from}
 use Rattle.tree_export.specs.Parts.{AppendedWhole}
-use Rattle.tree_export.proofs.pieces.put_pieces.Given as goal
+use Rattle.tree_export.proofs.pieces.put_by.Given as goal
 
 abbrev pub invariant-pieces : goal.invariant-pieces
 invariant-pieces g l = record {
   bound : l.at ≤ l.stream.size;
+  room : 0 < length l.piece;
   writes : g.F.Folder.writing l.folder ≡ true;
   kept : IsKept g.S.BlockSource.bytes g.S.BlockSource.bytes_len g.S.BlockSource.faults l.initial.src l.src;
   later : g.F.Folder.faults l.initial.folder ≤ g.F.Folder.faults l.folder;
