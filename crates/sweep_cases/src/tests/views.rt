@@ -4,6 +4,7 @@ ghost use Rattle.obj_base.specs.Site.{IsSiteFor};
 ghost use Rattle.view_sweep.specs.Wanted.{AreToldHeads, AreBelowHeads};
 
 mod shares;
+mod uses;
 
 use blk_source::MemSource;
 use bt_node::NodeFault;

@@ -1,0 +1,127 @@
+// Which views use which records: the live view of a volume, and two snapshots between which a file was renamed. What is wanted
+// was worked out by hand.
+ghost use Rattle.std.specs.Prelude.{◌≡◌, ◌==◌, IfOk, if◌then◌else◌};
+ghost use Rattle.view_sweep.specs.Wanted.{AreToldHeads, AreBelowHeads};
+
+use super::{MAP, open};
+use blk_source::MemSource;
+use img_make::{Sample, make, sample};
+use omap_map::OmapRecord;
+use std::alloc::{AllocError, Global};
+use std::test::Fail;
+use view_sweep::{Head, Reach, Share, SharedAs, SweptView, Used, reach_by_views};
+
+// The transaction of the live view, whose place is 0, or of a snapshot.
+fn xid_of(place: u64) -> u64
+    ensures { result ≡ (if place == 0 then 5 else if place == 1 then 2 else 4) }
+{
+    match place {
+        0 => 5,
+        1 => 2,
+        _ => 4,
+    }
+}
+
+// Views in an order of their places.
+fn views(alloc: Global, order: [u64; 3]) -> Result<Vec<Head>, AllocError>
+    ensures told { IfOk result (λ heads. AreToldHeads heads.items) }
+    ensures below { IfOk result (λ heads. AreBelowHeads 1 heads.items) }
+{
+    let mut heads = Vec::new(alloc);
+    for place in order {
+        heads.push(Head {
+            view: SweptView {
+                slot: 0,
+                place,
+                xid: xid_of(place),
+                map: MAP,
+                hashed: true,
+                volume: 0,
+            },
+            root_oid: 1028,
+            meta_ext: 0,
+        })?;
+    }
+    Ok(heads)
+}
+
+// What the views use.
+fn reach(alloc: Global, order: [u64; 3]) -> Result<Reach, Fail> {
+    let plan = sample(alloc, Sample::V)?;
+    let mut src = MemSource::new(make(alloc, &plan)?, Vec::new(alloc));
+    let at = open(alloc, &mut src)?;
+    let heads = views(alloc, order)?;
+    let volumes = [at.volume];
+    match reach_by_views(alloc, &mut src, &at.site, &volumes, &heads) {
+        Ok(reach) => Ok(reach),
+        Err(_) => Err(Fail::from("the sweep is stopped")),
+    }
+}
+
+// A record that is used: its id, its transaction and its block, as what it is expected, and the bits of its set.
+type One = (u64, u64, u64, SharedAs, u8);
+
+// Whether the set of a record has these bits.
+fn has_bits(reach: &Reach, share: &Share, bits: u8) -> bool {
+    match reach.sets.get(share.set) {
+        Some(set) => set.bits.as_slice() == [bits].as_slice(),
+        None => false,
+    }
+}
+
+// Whether one of the records that are answered is this one, with its set.
+fn has(reach: &Reach, one: &One) -> bool {
+    let (oid, xid, paddr, expected, bits) = *one;
+    let used = Used {
+        map: MAP,
+        mapping: OmapRecord {
+            oid,
+            xid,
+            flags: 0,
+            size: 4096,
+            paddr,
+        },
+    };
+    reach.used.contains(&used)
+        && reach.shares.iter().any(|share| {
+            share.used == used
+                && share.expected == expected
+                && share.hashed
+                && has_bits(reach, share, bits)
+        })
+}
+
+const LEAF: SharedAs = SharedAs::Node { level: 0 };
+
+// The root and the second leaf are those of all views, and the first leaf is one before transaction 4 and another from it on.
+#[test]
+fn each_record_tells_its_views(rt: HostRuntime) -> Result<(), Fail> {
+    let alloc = rt.alloc();
+    // by transaction: the snapshots, then the live view
+    let by_transaction = [
+        (1028, 1, 54, SharedAs::Root, 0b111),
+        (1031, 1, 57, LEAF, 0b001),
+        (1031, 4, 58, LEAF, 0b110),
+        (1032, 1, 59, LEAF, 0b111),
+    ];
+    // the live view, then the snapshots: a view that uses another leaf stands between two that share one
+    let live_first = [
+        (1028, 1, 54, SharedAs::Root, 0b111),
+        (1031, 1, 57, LEAF, 0b010),
+        (1031, 4, 58, LEAF, 0b001),
+        (1031, 4, 58, LEAF, 0b100),
+        (1032, 1, 59, LEAF, 0b111),
+    ];
+    for (order, want) in [
+        ([1, 2, 0], by_transaction.as_slice()),
+        ([0, 1, 2], live_first.as_slice()),
+    ] {
+        let reach = reach(alloc, order)?;
+        assert_eq!(rt; reach.used.len(), 4);
+        assert_eq!(rt; reach.shares.len(), want.len());
+        for one in want {
+            assert!(rt; has(&reach, one), "{one:?} {reach:?}");
+        }
+    }
+    Ok(())
+}
