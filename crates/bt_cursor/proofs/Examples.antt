@@ -53,7 +53,7 @@ pub flat : flat_of (tree (root 7 9 2 3 2 3) 7 9) 1 ≡ pair 7 7 ∷ pair 9 7 ∷
 unfolding fixed_place variable_place place_of key_in value_in flags_of level_of count_of table_offset_of table_length_of end_of table_begin keys_begin key_count_of node_count_of u16_at u32_at u64_at
 flat = refl
 
-pub line : line_of (tree (root 7 9 2 3 2 3) 7 9) 1 ≡ item_at 1 (pair 7 2) ∷ item_at 0 (pair 7 7) ∷ item_at 1 (pair 9 3) ∷ item_at 0 (pair 9 7) ∷ []
+pub line : line_of (tree (root 7 9 2 3 2 3) 7 9) 1 ≡ item_at 1 0 1 (pair 7 2) ∷ item_at 2 0 0 (pair 7 7) ∷ item_at 1 1 1 (pair 9 3) ∷ item_at 3 0 0 (pair 9 7) ∷ []
 unfolding fixed_place variable_place place_of key_in value_in flags_of level_of count_of table_offset_of table_length_of end_of table_begin keys_begin key_count_of node_count_of u16_at u32_at u64_at
 line = refl
 
@@ -96,7 +96,7 @@ unfolding fixed_place variable_place place_of key_in value_in flags_of level_of 
 missing = refl
 
 -- it is a gap, after the entry that names it
-pub gapped : gapped_of (tree (root 7 9 2 4 2 3) 7 9) 1 ≡ Ok (item_at 1 (pair 7 2)) ∷ Ok (item_at 0 (pair 7 7)) ∷ Ok (item_at 1 (pair 9 4)) ∷ Err (Found (Unnamed 4)) ∷ []
+pub gapped : gapped_of (tree (root 7 9 2 4 2 3) 7 9) 1 ≡ Ok (item_at 1 0 1 (pair 7 2)) ∷ Ok (item_at 2 0 0 (pair 7 7)) ∷ Ok (item_at 1 1 1 (pair 9 4)) ∷ Err (Found (Unnamed 4)) ∷ []
 unfolding fixed_place variable_place place_of key_in value_in flags_of level_of count_of table_offset_of table_length_of end_of table_begin keys_begin key_count_of node_count_of u16_at u32_at u64_at
 gapped = refl
 
@@ -105,11 +105,11 @@ unfolding fixed_place variable_place place_of key_in value_in flags_of level_of 
 flat_gapped = refl
 
 -- where the first child isn't there, the gap stays ahead of a rank below the next entry's, and not of one above it
-pub sought_gap : gapped_from_rank shape (record { id = 8; kind = 0; sub = 0 }) (gapped_of (tree (root 7 9 4 3 2 3) 7 9) 1) ≡ Err (Found (Unnamed 4)) ∷ Ok (item_at 1 (pair 9 3)) ∷ Ok (item_at 0 (pair 9 7)) ∷ []
+pub sought_gap : gapped_from_rank shape (record { id = 8; kind = 0; sub = 0 }) (gapped_of (tree (root 7 9 4 3 2 3) 7 9) 1) ≡ Err (Found (Unnamed 4)) ∷ Ok (item_at 1 1 1 (pair 9 3)) ∷ Ok (item_at 3 0 0 (pair 9 7)) ∷ []
 unfolding fixed_place variable_place place_of key_in value_in flags_of level_of count_of table_offset_of table_length_of end_of table_begin keys_begin key_count_of node_count_of u16_at u32_at u64_at
 sought_gap = refl
 
-pub sought_past : gapped_from_rank shape (record { id = 9; kind = 0; sub = 0 }) (gapped_of (tree (root 7 8 4 3 2 3) 7 9) 1) ≡ Ok (item_at 0 (pair 9 7)) ∷ []
+pub sought_past : gapped_from_rank shape (record { id = 9; kind = 0; sub = 0 }) (gapped_of (tree (root 7 8 4 3 2 3) 7 9) 1) ≡ Ok (item_at 3 0 0 (pair 9 7)) ∷ []
 unfolding fixed_place variable_place place_of key_in value_in flags_of level_of count_of table_offset_of table_length_of end_of table_begin keys_begin key_count_of node_count_of u16_at u32_at u64_at
 sought_past = refl
 

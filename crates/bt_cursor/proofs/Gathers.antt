@@ -216,8 +216,11 @@ start_refuses refuses ReadFault told = tt
 start_refuses refuses NoMemory told = tt
 
 -- the item that was lent is the one onto which a walk moved
-pub shown-is : (level : ℕ) (key : List ℕ) (value : Option (List ℕ)) (item : Item) → level ≡ item.level → key ≡ item.pair.key → value ≡ item.pair.value → shown level key value ≡ item
-shown-is level key value item e f g = ap (λ l. shown l key value) e ∙ (ap (λ k. shown item.level k value) f ∙ ap (shown item.level item.pair.key) g)
+pub shown-is : (node at level : ℕ) (key : List ℕ) (value : Option (List ℕ)) (item : Item) → node ≡ item.node → at ≡ item.at → level ≡ item.level → key ≡ item.pair.key → value ≡ item.pair.value → shown node at level key value ≡ item
+shown-is node at level key value item a b e f g =
+    ap (λ n. shown n at level key value) a
+    ∙ (ap (λ i. shown item.node i level key value) b
+    ∙ (ap (λ l. shown item.node item.at l key value) e ∙ (ap (λ k. shown item.node item.at item.level k value) f ∙ ap (shown item.node item.at item.level item.pair.key) g)))
 
 pub not-refused : (kept refused : Bool) → kept ≡ not refused → kept ≡ true → refused ≡ false
 not-refused kept true e f = absurd (false≢true (sym e ∙ f))
@@ -236,15 +239,15 @@ all-told told other tree same shape root one holds refuses start reads e f h all
     (subst (λ (r : ℕ). HasTakenAll other tree shape r holds refuses start reads) h all))
 
 -- the place to which an item leads has the id of its child
-children-step : (level : ℕ) (pair : Pair) (rest : List NodeAt) (ids : List ℕ) → map (λ (at : NodeAt). at.oid) rest ≡ ids → map (λ (at : NodeAt). at.oid) (places_under level pair ++ rest) ≡ cons_option (child_id (item_at level pair)) ids
-children-step zero pair rest ids e = e
-children-step (suc level) pair rest ids e =
+children-step : (oid i level : ℕ) (pair : Pair) (rest : List NodeAt) (ids : List ℕ) → map (λ (at : NodeAt). at.oid) rest ≡ ids → map (λ (at : NodeAt). at.oid) (places_under level pair ++ rest) ≡ cons_option (child_id (item_at oid i level pair)) ids
+children-step oid i zero pair rest ids e = e
+children-step oid i (suc level) pair rest ids e =
     let upper : (suc level == 0) ≡ false = grind (arith, nat_tests) in
     ap (λ (xs : List ℕ). child_in pair ∷ xs) e ∙ ap (λ (b : Bool). cons_option (if b then None else Some (child_in pair)) ids) (sym upper)
 
 children-places : (items : List Item) → map (λ (at : NodeAt). at.oid) (places_in items) ≡ children_of items
 children-places [] = refl
-children-places (item ∷ items) = children-step item.level item.pair (places_in items) (children_of items) (children-places items)
+children-places (item ∷ items) = children-step item.node item.at item.level item.pair (places_in items) (children_of items) (children-places items)
 
 -- the nodes of a walkable tree are its root and those to which its Line leads
 pub ids-walkable : {K : Type 0} (tree : Tree K) (root : ℕ) → is_walkable tree root ≡ true → node_ids tree root ≡ root ∷ children_of (line_of tree root)

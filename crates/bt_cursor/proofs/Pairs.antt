@@ -3,7 +3,7 @@ use Rattle.std.proofs.Common.{◌≡◌, ℕ, zero, suc, ◌+◌, ◌<◌, ◌�
 use Rattle.std.specs.List.{range_with_len}
 use Rattle.bt_node.specs.Shape.{Shape}
 use Rattle.bt_node.specs.Node.{count_of}
-use Rattle.bt_node.specs.Entries.{pair_of, pairs_of}
+use Rattle.bt_cursor.specs.Line.{entry_of, entries_of}
 
 -- one item of a mapped range apart
 drop-range : {X : Type 0} (f : ℕ → X) (a n i k : ℕ) → i < n → k ≡ a + i → drop i (map f (range_with_len a n)) ≡ f k ∷ drop (i + 1) (map f (range_with_len a n))
@@ -21,8 +21,8 @@ drop-end f a zero (suc i) past = refl
 drop-end f a (suc n) zero past = absurd (omega arith)
 drop-end f a (suc n) (suc i) past = drop-end f (a + 1) n i (omega arith)
 
-pub pairs_cons : {K : Type 0} (shape : Shape K) (node : List ℕ) (i : ℕ) → i < count_of node → drop i (pairs_of shape node) ≡ pair_of shape node i ∷ drop (i + 1) (pairs_of shape node)
-pairs_cons shape node i low = drop-range (pair_of shape node) 0 (count_of node) i i low (omega arith)
+pub entries_cons : {K : Type 0} (shape : Shape K) (node : List ℕ) (i : ℕ) → i < count_of node → drop i (entries_of shape node) ≡ entry_of shape node i ∷ drop (i + 1) (entries_of shape node)
+entries_cons shape node i low = drop-range (entry_of shape node) 0 (count_of node) i i low (omega arith)
 
-pub pairs_end : {K : Type 0} (shape : Shape K) (node : List ℕ) (i : ℕ) → count_of node ≤ i → drop i (pairs_of shape node) ≡ []
-pairs_end shape node i past = drop-end (pair_of shape node) 0 (count_of node) i past
+pub entries_end : {K : Type 0} (shape : Shape K) (node : List ℕ) (i : ℕ) → count_of node ≤ i → drop i (entries_of shape node) ≡ []
+entries_end shape node i past = drop-end (entry_of shape node) 0 (count_of node) i past

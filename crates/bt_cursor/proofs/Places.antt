@@ -12,7 +12,7 @@ use Rattle.obj_base.specs.declared.stop.Bad.TheVariants as bads
 use Rattle.obj_base.specs.declared.stop.Stop.{Stop}
 use Rattle.obj_base.specs.declared.stop.Stop.TheVariants.{Found, Unsupported, ReadFault, NoMemory}
 use Rattle.bt_node.specs.Node.{level_of, count_of}
-use Rattle.bt_node.specs.Entries.{Pair, pair_of, pairs_of}
+use Rattle.bt_node.specs.Entries.{Pair, pair_of}
 use Rattle.bt_node.specs.Shape.{Shape}
 use Rattle.bt_node.specs.Soundness.{node_of}
 use Rattle.bt_node.specs.declared.fault.NodeFault.{NodeFault}
@@ -20,8 +20,8 @@ use Rattle.bt_node.specs.declared.node.NodeAt.{NodeAt}
 use Rattle.obj_base.specs.declared.site.Site.{Site}
 use Rattle.bt_cursor.specs.declared.fault.WalkFault.{WalkFault}
 use Rattle.bt_cursor.specs.declared.fault.WalkFault.TheVariants.{Unsound, Unnamed, Order, Counts}
-use Rattle.bt_cursor.specs.Tree.{Tree, root_place, child_place, judged, node_named, block_named, tree_in}
-use Rattle.bt_cursor.specs.Line.{Item, line_part, line_of}
+use Rattle.bt_cursor.specs.Tree.{Tree, root_place, child_in, child_place, judged, node_named, block_named, tree_in}
+use Rattle.bt_cursor.specs.Line.{Item, entry_of, entries_of, line_part, line_of}
 use Rattle.bt_cursor.specs.Met.{IsMet, first, after, places_under, places_in, places_of, has_node, is_walkable}
 use Rattle.bt_cursor.specs.Whole.{IsWhole}
 use Rattle.bt_cursor.specs.Order.{is_ordered}
@@ -60,27 +60,27 @@ range-at f a zero i low = absurd (omega arith)
 range-at f a (suc n) zero low = inl (let e : a + 0 ≡ a = omega arith in ap f e)
 range-at f a (suc n) (suc i) low = inr (let e : (a + 1) + i ≡ a + suc i = omega arith in subst (λ k. In (f k) (map f (range_with_len (a + 1) n))) e (range-at f (a + 1) n i (omega arith)))
 
-pair-in : {K : Type 0} (shape : Shape K) (node : List ℕ) (i : ℕ) → i < count_of node → In (pair_of shape node i) (pairs_of shape node)
-pair-in shape node i low = let e : 0 + i ≡ i = omega arith in subst (λ k. In (pair_of shape node k) (pairs_of shape node)) e (range-at (pair_of shape node) 0 (count_of node) i low)
+entry-in : {K : Type 0} (shape : Shape K) (node : List ℕ) (i : ℕ) → i < count_of node → In (entry_of shape node i) (entries_of shape node)
+entry-in shape node i low = let e : 0 + i ≡ i = omega arith in subst (λ k. In (entry_of shape node k) (entries_of shape node)) e (range-at (entry_of shape node) 0 (count_of node) i low)
 
 places-append : (xs ys : List Item) → places_in (xs ++ ys) ≡ places_in xs ++ places_in ys
 places-append xs ys = flat_map-append (λ (i : Item). places_under i.level i.pair) xs ys
 
 -- a place of a joined list comes from one of its parts
-record IsFrom (f : Pair → List Item) (ps : List Pair) (x : NodeAt) : Type 0 where
-  pair : Pair
-  here : In pair ps
-  there : In x (places_in (f pair))
+record IsFrom (f : ℕ × Pair → List Item) (ps : List (ℕ × Pair)) (x : NodeAt) : Type 0 where
+  entry : ℕ × Pair
+  here : In entry ps
+  there : In x (places_in (f entry))
 
-from-parts : (f : Pair → List Item) (ps : List Pair) (x : NodeAt) → In x (places_in (flat_map f ps)) → IsFrom f ps x
+from-parts : (f : ℕ × Pair → List Item) (ps : List (ℕ × Pair)) (x : NodeAt) → In x (places_in (flat_map f ps)) → IsFrom f ps x
 from-parts f [] x h = absurd h
 from-parts f (p ∷ ps) x h =
     elim (in-either x (places_in (f p)) (places_in (flat_map f ps)) (subst (In x) (places-append (f p) (flat_map f ps)) h)) [
-      | inl l ↦ record { pair = p; here = inl refl; there = l }
-      | inr r ↦ let next = from-parts f ps x r in record { pair = next.pair; here = inr next.here; there = next.there }
+      | inl l ↦ record { entry = p; here = inl refl; there = l }
+      | inr r ↦ let next = from-parts f ps x r in record { entry = next.entry; here = inr next.here; there = next.there }
     ]
 
-to-parts : (f : Pair → List Item) (ps : List Pair) (p : Pair) (x : NodeAt) → In p ps → In x (places_in (f p)) → In x (places_in (flat_map f ps))
+to-parts : (f : ℕ × Pair → List Item) (ps : List (ℕ × Pair)) (p : ℕ × Pair) (x : NodeAt) → In p ps → In x (places_in (f p)) → In x (places_in (flat_map f ps))
 to-parts f [] p x here h = absurd here
 to-parts f (q ∷ ps) p x (inl e) h = subst (In x) (sym (places-append (f q) (flat_map f ps))) (in-left x (places_in (f q)) (places_in (flat_map f ps)) (subst (λ r. In x (places_in (f r))) e h))
 to-parts f (q ∷ ps) p x (inr here) h = subst (In x) (sym (places-append (f q) (flat_map f ps))) (in-right x (places_in (f q)) (places_in (flat_map f ps)) (to-parts f ps p x here h))
@@ -110,48 +110,48 @@ through-in x (Ok node) f h = (node, (refl, h))
 through-in x (Err stop) f h = absurd h
 
 -- a listed place is met
-part-met : {K : Type 0} (tree : Tree K) (root : ℕ) → IsLevelled tree → (level : ℕ) (pair : Pair) (x : NodeAt) → ((l : ℕ) → level ≡ suc l → IsMet tree root (child_place l pair)) → In x (places_in (line_part tree level pair)) → IsMet tree root x
-part-met tree root levelled zero pair x met h = absurd h
-part-met tree root levelled (suc level) pair x met (inl e) = subst (IsMet tree root) (sym e) (met level refl)
-part-met tree root levelled (suc level) pair x met (inr h) =
-    let f : List ℕ → List Item = λ node. flat_map (line_part tree level) (pairs_of tree.shape node) in
-    let below = through-in x (tree.look (child_place level pair)) f h in
+part-met : {K : Type 0} (tree : Tree K) (root : ℕ) → IsLevelled tree → (level oid : ℕ) (entry : ℕ × Pair) (x : NodeAt) → ((l : ℕ) → level ≡ suc l → IsMet tree root (child_place l entry.1)) → In x (places_in (line_part tree level oid entry)) → IsMet tree root x
+part-met tree root levelled zero oid entry x met h = absurd h
+part-met tree root levelled (suc level) oid entry x met (inl e) = subst (IsMet tree root) (sym e) (met level refl)
+part-met tree root levelled (suc level) oid entry x met (inr h) =
+    let f : List ℕ → List Item = λ node. flat_map (line_part tree level (child_in entry.1)) (entries_of tree.shape node) in
+    let below = through-in x (tree.look (child_place level entry.1)) f h in
     let node = below.0 in
-    let from = from-parts (line_part tree level) (pairs_of tree.shape node) x below.1.1 in
-    let at = at-range (pair_of tree.shape node) 0 (count_of node) from.pair from.here in
-    let high : level_of node ≡ level = levelled level pair node below.1.0 in
-    part-met tree root levelled level from.pair x
-    (λ l e. subst (λ p. IsMet tree root (child_place l p)) (sym at.same) (after (child_place level pair) node l at.i (met level refl) below.1.0 (high ∙ e) (omega (arith, at.low)))) from.there
+    let from = from-parts (line_part tree level (child_in entry.1)) (entries_of tree.shape node) x below.1.1 in
+    let at = at-range (entry_of tree.shape node) 0 (count_of node) from.entry from.here in
+    let high : level_of node ≡ level = levelled level entry.1 node below.1.0 in
+    part-met tree root levelled level (child_in entry.1) from.entry x
+    (λ l e. subst (λ (p : ℕ × Pair). IsMet tree root (child_place l p.1)) (sym at.same) (after (child_place level entry.1) node l at.i (met level refl) below.1.0 (high ∙ e) (omega (arith, at.low)))) from.there
 
 listed-met : {K : Type 0} (tree : Tree K) (root : ℕ) → IsLevelled tree → (x : NodeAt) → In x (places_of tree root) → IsMet tree root x
 listed-met tree root levelled x (inl e) = subst (IsMet tree root) (sym e) first
 listed-met tree root levelled x (inr h) =
-    let f : List ℕ → List Item = λ node. flat_map (line_part tree (level_of node)) (pairs_of tree.shape node) in
+    let f : List ℕ → List Item = λ node. flat_map (line_part tree (level_of node) root) (entries_of tree.shape node) in
     let below = through-in x (tree.look (root_place root)) f h in
     let node = below.0 in
-    let from = from-parts (line_part tree (level_of node)) (pairs_of tree.shape node) x below.1.1 in
-    let at = at-range (pair_of tree.shape node) 0 (count_of node) from.pair from.here in
-    part-met tree root levelled (level_of node) from.pair x
-    (λ l e. subst (λ p. IsMet tree root (child_place l p)) (sym at.same) (after (root_place root) node l at.i first below.1.0 e (omega (arith, at.low)))) from.there
+    let from = from-parts (line_part tree (level_of node) root) (entries_of tree.shape node) x below.1.1 in
+    let at = at-range (entry_of tree.shape node) 0 (count_of node) from.entry from.here in
+    part-met tree root levelled (level_of node) root from.entry x
+    (λ l e. subst (λ (p : ℕ × Pair). IsMet tree root (child_place l p.1)) (sym at.same) (after (root_place root) node l at.i first below.1.0 e (omega (arith, at.low)))) from.there
 
 -- a met place is listed, with all below it
 record IsListed {K : Type 0} (tree : Tree K) (root : ℕ) (at : NodeAt) : Type 0 where
   here : In at (places_of tree root)
-  below : (node : List ℕ) → tree.look at ≡ Ok node → (x : NodeAt) → In x (places_in (line_from tree node 0)) → In x (places_of tree root)
+  below : (node : List ℕ) → tree.look at ≡ Ok node → (x : NodeAt) → In x (places_in (line_from tree at.oid node 0)) → In x (places_of tree root)
 
 met-listed : {K : Type 0} (tree : Tree K) (root : ℕ) → IsLevelled tree → (at : NodeAt) → IsMet tree root at → IsListed tree root at
 met-listed tree root levelled at (first) = record {
   here = inl refl;
   below = λ node found x h.
-      let f : List ℕ → List Item = λ b. flat_map (line_part tree (level_of b)) (pairs_of tree.shape b) in
+      let f : List ℕ → List Item = λ b. flat_map (line_part tree (level_of b) root) (entries_of tree.shape b) in
       inr (subst (λ o. In x (places_in (through (value_of o) f))) (sym found) h);
 }
 met-listed tree root levelled at (after above node level i met found high low) =
     let upper = met-listed tree root levelled above met in
     let pair = pair_of tree.shape node i in
-    let f = line_part tree (level_of node) in
-    let into : (x : NodeAt) → In x (places_in (line_part tree (suc level) pair)) → In x (places_of tree root) =
-    λ x h. upper.below node found x (to-parts f (pairs_of tree.shape node) pair x (pair-in tree.shape node i low) (subst (λ l. In x (places_in (line_part tree l pair))) (sym high) h)) in
+    let f = line_part tree (level_of node) above.oid in
+    let into : (x : NodeAt) → In x (places_in (line_part tree (suc level) above.oid (i, pair))) → In x (places_of tree root) =
+    λ x h. upper.below node found x (to-parts f (entries_of tree.shape node) (i, pair) x (entry-in tree.shape node i low) (subst (λ l. In x (places_in (line_part tree l above.oid (i, pair)))) (sym high) h)) in
     record {
       here = into (child_place level pair) (inl refl);
       below = λ lower named x h. into x (inr (subst (λ xs. In x (places_in xs)) (sym (line_under-node tree pair lower level named (levelled level pair lower named))) h));

@@ -30,25 +30,25 @@ none-if true this e = refl
 none-if false this e = absurd (cc)
 
 -- the next item, and what is left after it
-pub line-step : {K : Type 0} (tree : Tree K) (node : List ℕ) (i : ℕ) (above : List Step) (deep : Bool) → i < count_of node → deep ≡ nat_lt 0 (level_of node) →
-    line_from tree node i ++ rest tree above ≡ item_at (level_of node) (pair_of tree.shape node (i + 1 - 1)) ∷ ahead_at tree deep node (i + 1) above
-line-step tree node i above true low upper =
+pub line-step : {K : Type 0} (tree : Tree K) (oid : ℕ) (node : List ℕ) (i : ℕ) (above : List Step) (deep : Bool) → i < count_of node → deep ≡ nat_lt 0 (level_of node) →
+    line_from tree oid node i ++ rest tree above ≡ item_at oid (i + 1 - 1) (level_of node) (pair_of tree.shape node (i + 1 - 1)) ∷ ahead_at tree deep oid node (i + 1) above
+line-step tree oid node i above true low upper =
     let high : level_of node ≡ suc (level_of node - 1) = grind (arith, nat_tests) in
     let back : i ≡ i + 1 - 1 = omega arith in
     let part : ℕ → List Item = λ k. line_under tree (level_of node - 1) (pair_of tree.shape node k) in
-    ap (λ xs. xs ++ rest tree above) (line_from-inner tree node i (level_of node - 1) low high)
-    ∙ (ap (λ xs. item_at (level_of node) (pair_of tree.shape node i) ∷ xs) (append_assoc (part i) (line_from tree node (i + 1)) (rest tree above))
-    ∙ ap (λ k. item_at (level_of node) (pair_of tree.shape node k) ∷ (part k ++ (line_from tree node (i + 1) ++ rest tree above))) back)
-line-step tree node i above false low upper =
+    ap (λ xs. xs ++ rest tree above) (line_from-inner tree oid node i (level_of node - 1) low high)
+    ∙ (ap (λ xs. item_at oid i (level_of node) (pair_of tree.shape node i) ∷ xs) (append_assoc (part i) (line_from tree oid node (i + 1)) (rest tree above))
+    ∙ ap (λ k. item_at oid k (level_of node) (pair_of tree.shape node k) ∷ (part k ++ (line_from tree oid node (i + 1) ++ rest tree above))) back)
+line-step tree oid node i above false low upper =
     let leaf : level_of node ≡ 0 = grind (arith, nat_tests) in
     let back : i ≡ i + 1 - 1 = omega arith in
-    ap (λ xs. xs ++ rest tree above) (line_from-leaf tree node i low leaf)
-    ∙ ap (λ k. item_at (level_of node) (pair_of tree.shape node k) ∷ (line_from tree node (i + 1) ++ rest tree above)) back
+    ap (λ xs. xs ++ rest tree above) (line_from-leaf tree oid node i low leaf)
+    ∙ ap (λ k. item_at oid k (level_of node) (pair_of tree.shape node k) ∷ (line_from tree oid node (i + 1) ++ rest tree above)) back
 
 -- a key that was read stands for its bytes
-pub next_read : {K : Type 0} (shape : Shape K) (seen : Seen) (level high : ℕ) (pair : Pair) (key : K) → shape.read pair.key ≡ Some key → high ≡ level → seen_key shape seen high key ≡ seen_next shape seen (item_at level pair)
-next_read {K = K} shape seen level high pair key read same =
-    let f : Option K → Option Seen = λ o. cond (falls_below (rank_or_least shape o) seen.before || ((is_leaf_item (item_at level pair) && passes o shape.strict) && is_again (rank_or_least shape o) seen.leaf)) None (Some (seen_more seen level (rank_or_least shape o))) in
+pub next_read : {K : Type 0} (shape : Shape K) (seen : Seen) (oid i level high : ℕ) (pair : Pair) (key : K) → shape.read pair.key ≡ Some key → high ≡ level → seen_key shape seen high key ≡ seen_next shape seen (item_at oid i level pair)
+next_read {K = K} shape seen oid i level high pair key read same =
+    let f : Option K → Option Seen = λ o. cond (falls_below (rank_or_least shape o) seen.before || ((is_leaf_item (item_at oid i level pair) && passes o shape.strict) && is_again (rank_or_least shape o) seen.leaf)) None (Some (seen_more seen level (rank_or_least shape o))) in
     ap (λ n. seen_key shape seen n key) same ∙ ap f (sym read)
 
 -- an item that was seen was in order, and one that wasn't was out of order

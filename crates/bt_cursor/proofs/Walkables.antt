@@ -7,11 +7,11 @@ use Rattle.std.proofs.lemmas.Grind.{flat_map-append}
 use Rattle.apfs_model.specs.Lists.{through, value_of}
 use Rattle.obj_base.specs.declared.stop.Stop.{Stop}
 use Rattle.bt_node.specs.Node.{level_of}
-use Rattle.bt_node.specs.Entries.{Pair, pairs_of}
+use Rattle.bt_node.specs.Entries.{Pair}
 use Rattle.bt_node.specs.declared.node.NodeAt.{NodeAt}
 use Rattle.bt_cursor.specs.declared.fault.WalkFault.{WalkFault}
-use Rattle.bt_cursor.specs.Tree.{Tree, root_place, child_place}
-use Rattle.bt_cursor.specs.Line.{Item, is_leaf_item, line_part, line_of}
+use Rattle.bt_cursor.specs.Tree.{Tree, root_place, child_in, child_place}
+use Rattle.bt_cursor.specs.Line.{Item, entries_of, is_leaf_item, line_part, line_of}
 use Rattle.bt_cursor.specs.Gaps.{Gapped, or_gap, gapped_part, gapped_of, all_flat, is_gapless}
 use Rattle.bt_cursor.specs.Met.{places_under, places_in, places_of, has_node, nodes_of, is_walkable}
 
@@ -42,7 +42,7 @@ all-right p (x ∷ xs) ys all = all-right p xs ys (and-second (p x) (list_all p 
 abbrev IsReached : {K : Type 0} → Tree K → List Item → Type 0
 IsReached tree items = list_all (has_node tree) (places_in items) ≡ true
 
-reached-parts : {K : Type 0} (tree : Tree K) (f : Pair → List (Gapped Item)) (g : Pair → List Item) → ((p : Pair) → is_gapless (f p) ≡ true → IsReached tree (g p)) → (ps : List Pair) → is_gapless (flat_map f ps) ≡ true → IsReached tree (flat_map g ps)
+reached-parts : {K : Type 0} (tree : Tree K) (f : ℕ × Pair → List (Gapped Item)) (g : ℕ × Pair → List Item) → ((p : ℕ × Pair) → is_gapless (f p) ≡ true → IsReached tree (g p)) → (ps : List (ℕ × Pair)) → is_gapless (flat_map f ps) ≡ true → IsReached tree (flat_map g ps)
 reached-parts tree f g each [] all = refl
 reached-parts tree f g each (p ∷ ps) all =
     let places : Item → List NodeAt = λ (i : Item). places_under i.level i.pair in
@@ -53,16 +53,16 @@ reached-node : {K : Type 0} (tree : Tree K) (o : Result (List ℕ) (Stop WalkFau
 reached-node tree (Ok node) f g each all = each node all
 reached-node tree (Err why) f g each all = absurd (false≢true all)
 
-reached-part : {K : Type 0} (tree : Tree K) (level : ℕ) (pair : Pair) → is_gapless (gapped_part tree level pair) ≡ true → IsReached tree (line_part tree level pair)
-reached-part tree zero pair all = refl
-reached-part tree (suc level) pair all =
-    reached-node tree (tree.look (child_place level pair)) (λ node. flat_map (gapped_part tree level) (pairs_of tree.shape node)) (λ node. flat_map (line_part tree level) (pairs_of tree.shape node))
-    (λ node. reached-parts tree (gapped_part tree level) (line_part tree level) (reached-part tree level) (pairs_of tree.shape node)) all
+reached-part : {K : Type 0} (tree : Tree K) (level oid : ℕ) (entry : ℕ × Pair) → is_gapless (gapped_part tree level oid entry) ≡ true → IsReached tree (line_part tree level oid entry)
+reached-part tree zero oid entry all = refl
+reached-part tree (suc level) oid entry all =
+    reached-node tree (tree.look (child_place level entry.1)) (λ node. flat_map (gapped_part tree level (child_in entry.1)) (entries_of tree.shape node)) (λ node. flat_map (line_part tree level (child_in entry.1)) (entries_of tree.shape node))
+    (λ node. reached-parts tree (gapped_part tree level (child_in entry.1)) (line_part tree level (child_in entry.1)) (reached-part tree level (child_in entry.1)) (entries_of tree.shape node)) all
 
 pub gapless-walkable : {K : Type 0} (tree : Tree K) (root : ℕ) → is_gapless (gapped_of tree root) ≡ true → is_walkable tree root ≡ true
 gapless-walkable tree root all =
-    reached-node tree (tree.look (root_place root)) (λ node. flat_map (gapped_part tree (level_of node)) (pairs_of tree.shape node)) (λ node. flat_map (line_part tree (level_of node)) (pairs_of tree.shape node))
-    (λ node. reached-parts tree (gapped_part tree (level_of node)) (line_part tree (level_of node)) (reached-part tree (level_of node)) (pairs_of tree.shape node)) all
+    reached-node tree (tree.look (root_place root)) (λ node. flat_map (gapped_part tree (level_of node) root) (entries_of tree.shape node)) (λ node. flat_map (line_part tree (level_of node) root) (entries_of tree.shape node))
+    (λ node. reached-parts tree (gapped_part tree (level_of node) root) (line_part tree (level_of node) root) (reached-part tree (level_of node) root) (entries_of tree.shape node)) all
 
 flat-if : (b : Bool) (pair : Pair) (gapped : List (Gapped Pair)) → is_gapless (cond b (Ok pair ∷ []) [] ++ gapped) ≡ is_gapless gapped
 flat-if true pair gapped = refl

@@ -86,6 +86,10 @@ bottom-moved : (above : List Step) (last : Step) (next : ℕ) → (bottom above 
 bottom-moved [] last next = refl
 bottom-moved (s ∷ ss) last next = refl
 
+bottom-stays : (above : List Step) (last : Step) (next : ℕ) → (bottom above (record last { next = next })).at ≡ (bottom above last).at
+bottom-stays [] last next = refl
+bottom-stays (s ∷ ss) last next = refl
+
 -- one more link below
 IsLinked-push : {K : Type 0} (tree : Tree K) (above : List Step) (last lower : Step) → IsLinked tree above last → IsUnder tree last lower → IsLinked tree (above ++ last ∷ []) lower
 IsLinked-push tree [] last lower linked under = (under, tt)
@@ -112,6 +116,7 @@ IsIn-down tree root above last lower level i within high next low place same nod
     node = ap tree.look place ∙ node;
   };
   base = within.base ∙ ap (λ (s : Step). Ok s.block.items) (sym (bottom-push above last lower));
+  base_at = ap (λ (s : Step). s.at) (bottom-push above last lower) ∙ within.base_at;
   linked = IsLinked-push tree above last lower within.linked (record {
     index = i;
     next = next;
@@ -128,6 +133,7 @@ IsIn-up tree root above lower_above last lower within taken =
       hold = held.0;
       hold_last = held.1;
       base = within.base ∙ ap (λ (s : Step). Ok s.block.items) (ap (λ ss. bottom ss lower) taken ∙ bottom-push above last lower);
+      base_at = ap (λ (s : Step). s.at) (sym (ap (λ ss. bottom ss lower) taken ∙ bottom-push above last lower)) ∙ within.base_at;
       linked = IsLinked-pop tree above last lower (subst (λ ss. IsLinked tree ss lower) taken within.linked);
     }
 
@@ -137,6 +143,7 @@ IsIn-moved tree root above last next within = record {
   hold = within.hold;
   hold_last = record { met = within.hold_last.met; node = within.hold_last.node };
   base = within.base ∙ ap (λ b. Ok b) (bottom-moved above last next);
+  base_at = bottom-stays above last next ∙ within.base_at;
   linked = IsLinked-moved tree above last next within.linked;
 }
 
@@ -146,6 +153,7 @@ IsIn-start tree root above last none at node = subst (λ ss. IsIn tree root ss l
   hold = All-nil (IsMetStep tree root);
   hold_last = record { met = subst (IsMet tree root) (sym at) first; node = ap tree.look at ∙ node };
   base = node;
+  base_at = at;
   linked = tt;
 })
 

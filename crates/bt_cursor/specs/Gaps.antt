@@ -5,10 +5,10 @@ use Rattle.obj_base.specs.Stops.{Tells}
 use Rattle.obj_base.specs.declared.stop.Stop.{Stop}
 use Rattle.obj_base.specs.declared.stop.Stop.TheVariants.{Found, Unsupported}
 use Rattle.bt_node.specs.Node.{level_of}
-use Rattle.bt_node.specs.Entries.{Pair, pairs_of}
+use Rattle.bt_node.specs.Entries.{Pair}
 use Rattle.bt_cursor.specs.declared.fault.WalkFault.{WalkFault}
-use Rattle.bt_cursor.specs.Tree.{Tree, root_place, child_place}
-use Rattle.bt_cursor.specs.Line.{Item, item_at, is_leaf_item}
+use Rattle.bt_cursor.specs.Tree.{Tree, root_place, child_in, child_place}
+use Rattle.bt_cursor.specs.Line.{Item, item_at, entries_of, is_leaf_item}
 
 -- an item of a list, or a gap: why there is no node from which the list goes on
 abbrev pub Gapped : Type 0 → Type 0
@@ -19,14 +19,14 @@ abbrev pub or_gap : {X : Type 0} → Result (List ℕ) (Stop WalkFault) → (Lis
 or_gap (Ok node) f = f node
 or_gap (Err why) f = Err why ∷ []
 
--- an entry of a level, and the items of its child, or a gap where the child isn't there
-abbrev pub gapped_part : {K : Type 0} → Tree K → ℕ → Pair → List (Gapped Item)
-gapped_part tree zero pair = Ok (item_at zero pair) ∷ []
-gapped_part tree (suc level) pair = Ok (item_at (suc level) pair) ∷ or_gap (tree.look (child_place level pair)) (λ node. flat_map (gapped_part tree level) (pairs_of tree.shape node))
+-- an entry of a node of a level, and the items of its child, or a gap where the child isn't there
+abbrev pub gapped_part : {K : Type 0} → Tree K → ℕ → ℕ → ℕ × Pair → List (Gapped Item)
+gapped_part tree zero oid entry = Ok (item_at oid entry.0 zero entry.1) ∷ []
+gapped_part tree (suc level) oid entry = Ok (item_at oid entry.0 (suc level) entry.1) ∷ or_gap (tree.look (child_place level entry.1)) (λ node. flat_map (gapped_part tree level (child_in entry.1)) (entries_of tree.shape node))
 
 -- the Line of a tree with its gaps, by its root; one gap where there is no root
 abbrev pub gapped_of : {K : Type 0} → Tree K → ℕ → List (Gapped Item)
-gapped_of tree root = or_gap (tree.look (root_place root)) (λ node. flat_map (gapped_part tree (level_of node)) (pairs_of tree.shape node))
+gapped_of tree root = or_gap (tree.look (root_place root)) (λ node. flat_map (gapped_part tree (level_of node) root) (entries_of tree.shape node))
 
 -- the items of a list with gaps
 abbrev pub met_in : {X : Type 0} → Gapped X → List X

@@ -22,9 +22,9 @@ use Rattle.bt_cursor.specs.Faults.{IsWalkFault}
 use Rattle.bt_cursor.specs.Seen.{reads_for}
 use Rattle.bt_cursor.specs.Liners.{root_of, tree_of, item_of, is_deep, seen_of, HasPassed}
 
--- the item of a level with the bytes of this key and this value
-abbrev pub shown : ℕ → List ℕ → Option (List ℕ) → Item
-shown level key value = record { level = level; pair = record { key = key; value = value } }
+-- the item of a node and of a number in it, of a level, with the bytes of this key and this value
+abbrev pub shown : ℕ → ℕ → ℕ → List ℕ → Option (List ℕ) → Item
+shown node at level key value = record { node = node; at = at; level = level; pair = record { key = key; value = value } }
 
 -- the ids of the nodes to which some items lead, in their order
 abbrev pub children_of : List Item → List ℕ

@@ -1,6 +1,7 @@
 pub mod Tree
 pub mod Flat
 pub mod Line
+pub mod Steps
 pub mod Met
 pub mod Gaps
 pub mod Order

@@ -57,4 +57,5 @@ pub record IsIn {K : Type 0} (tree : Tree K) (root : ℕ) (above : List Step) (l
   pub hold : All (IsMetStep tree root) above
   pub hold_last : IsMetStep tree root last
   pub base : tree.look (root_place root) ≡ Ok (bottom above last).block.items
+  pub base_at : (bottom above last).at ≡ root_place root
   pub linked : IsLinked tree above last

@@ -42,9 +42,9 @@ pub trait Keeper<K: TreeKey>: Drop {
     /// Gathers what one more item gives; false where the item is refused.
     fn keep(&mut self, item: LineItem<'_, K>) -> Result<bool, NoMemory>
         requires key { K.shape.read item.pair.key_bytes.now ≡ Some item.pair.key }
-        requires child { item.child ≡ child_id (shown item.level item.pair.key_bytes.now (option_map (λ value. value.now) item.pair.value)) }
-        ensures refused { IfOk result (λ kept. kept ≡ not (refuses (shown item.entry.level item.entry.pair.key_bytes.now (option_map (λ value. value.now) item.entry.pair.value)))) }
-        ensures held { (items : List Item) → holds self.old items → IfOk result (λ kept. IsTrue kept → holds self.new (items ++ shown item.entry.level item.entry.pair.key_bytes.now (option_map (λ value. value.now) item.entry.pair.value) ∷ [])) };
+        requires child { item.child ≡ child_id (shown item.node item.at item.level item.pair.key_bytes.now (option_map (λ value. value.now) item.pair.value)) }
+        ensures refused { IfOk result (λ kept. kept ≡ not (refuses (shown item.entry.node item.entry.at item.entry.level item.entry.pair.key_bytes.now (option_map (λ value. value.now) item.entry.pair.value)))) }
+        ensures held { (items : List Item) → holds self.old items → IfOk result (λ kept. IsTrue kept → holds self.new (items ++ shown item.entry.node item.entry.at item.entry.level item.entry.pair.key_bytes.now (option_map (λ value. value.now) item.entry.pair.value) ∷ [])) };
 }
 
 // Why a walk stops, said of what is gathered.

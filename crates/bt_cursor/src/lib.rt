@@ -10,6 +10,7 @@ mod node;
 mod seek;
 mod seen;
 mod start;
+mod step;
 mod walk;
 mod way;
 
@@ -18,3 +19,4 @@ pub use fault::WalkFault;
 pub use gathering::{GatherFault, Keeper, gather};
 pub use liner::{LineItem, Liner};
 pub use namer::{Namer, Physical};
+pub use step::Step;

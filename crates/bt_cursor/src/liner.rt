@@ -8,6 +8,7 @@ use crate::namer::Namer;
 use crate::node::{child, info, key_at, lend_with, level};
 use crate::seen::{Seen, fits, nothing_seen, see};
 use crate::start::start;
+use crate::step::Step;
 use crate::walk::{climb, fall};
 use crate::way::Way;
 use blk_source::BlockSource;
@@ -31,13 +32,36 @@ pub struct Liner<K: TreeKey, N: Namer> {
     ghost deep_in: { deep ≡ true → IsDeep way },
 }
 
-/// An item of the Line: an entry, and how far its node stands above the leaves.
+/// An item of the Line: an entry, the id of its node, its number there, and how far the node stands above the leaves.
 #[derive(Drop)]
 pub struct LineItem<'a, K: TreeKey> {
+    pub node: u64,
+    pub at: u64,
     pub level: u16,
     pub pair: Entry<'a, K>,
     /// The id of the child to which it leads; None at an item of a leaf.
     pub child: Option<u64>,
+}
+
+impl<K: TreeKey> LineItem<'_, K> {
+    ghost use Rattle.std.specs.Prelude.{◌≡◌, option_map, option_to_list};
+    ghost use Rattle.bt_cursor.specs.Line.{child_id};
+    ghost use Rattle.bt_cursor.specs.Steps.{step_in};
+    ghost use Rattle.bt_cursor.specs.Gathered.{shown};
+
+    /// The step that the item is; None at an item of a leaf.
+    pub fn step(&self) -> Option<Step>
+        requires child { self.now.child ≡ child_id (shown self.now.node self.now.at self.now.level self.now.pair.key_bytes.now (option_map (λ value. value.now) self.now.pair.value)) }
+        ensures { option_to_list result ≡ step_in (shown self.now.node self.now.at self.now.level self.now.pair.key_bytes.now (option_map (λ value. value.now) self.now.pair.value)) }
+    {
+        let child = self.child?;
+        Some(Step {
+            node: self.node,
+            at: self.at,
+            level: self.level,
+            child,
+        })
+    }
 }
 
 impl<K: TreeKey, N: Namer> Liner<K, N> {
@@ -169,6 +193,8 @@ impl<K: TreeKey, N: Namer> Liner<K, N> {
     #[tactic(auto, using(crate::proofs::Ways::hold_inside))]
     pub fn item(&self) -> LineItem<'_, K>
         requires { HasItem self.now }
+        ensures node { result.node ≡ (item_of self.now).node }
+        ensures at { result.at ≡ (item_of self.now).at }
         ensures level { result.level ≡ (item_of self.now).level }
         ensures key_bytes { result.pair.key_bytes.now ≡ (item_of self.now).pair.key }
         ensures value { option_map (λ value. value.now) result.pair.value ≡ (item_of self.now).pair.value }
@@ -178,6 +204,8 @@ impl<K: TreeKey, N: Namer> Liner<K, N> {
         let last = self.way.last.next - 1;
         let level = level::<K>(&self.way.last, &self.site);
         LineItem {
+            node: self.way.last.at.oid,
+            at: last as u64,
             level,
             pair: lend_with::<K>(&self.way.last, &self.site, last, self.key.unwrap()),
             child: if level == 0 {

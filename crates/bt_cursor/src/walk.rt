@@ -42,6 +42,7 @@ pub(crate) fn enter<K: TreeKey, S: BlockSource, N: Namer>(
     requires passed { way.old.last.next ≡ i + 1 }
     ensures found { (image : List ℕ) → S.bytes src.old ≡ Some image → Gives (items_of way.new.last) result (look_in K.shape site.now (N.named namer.now) image (child_place (level_of way.old.last.block.items - 1) (pair_of K.shape way.old.last.block.items i))) }
     ensures way { IsWay K.shape site.now way.new.above.items way.new.last way.new.spare.items }
+    ensures at { OnOk result (way.new.last.at ≡ child_place (level_of way.old.last.block.items - 1) (pair_of K.shape way.old.last.block.items i)) }
     ensures above { OnOk result (way.new.above.items ≡ way.old.above.items ++ way.old.last ∷ []) }
     ensures first { OnOk result (way.new.last.next ≡ 0) }
     ensures level { OnOk result (level_of way.new.last.block.items + 1 ≡ level_of way.old.last.block.items) }
@@ -146,7 +147,7 @@ fn down<K: TreeKey, S: BlockSource, N: Namer>(
     requires left { way.old.last.next < count_of way.old.last.block.items }
     requires upper { 0 < level_of way.old.last.block.items }
     ensures way { IsWay K.shape site.now way.new.above.items way.new.last way.new.spare.items }
-    ensures passed { (image : List ℕ) → S.bytes src.old ≡ Some image → OnOk result (gapped_ahead (tree_in K.shape site.now (N.named namer.now) image) way.old ≡ Ok (item_at (level_of way.old.last.block.items) (pair_of K.shape way.old.last.block.items way.old.last.next)) ∷ gapped_ahead (tree_in K.shape site.now (N.named namer.now) image) way.new) }
+    ensures passed { (image : List ℕ) → S.bytes src.old ≡ Some image → OnOk result (gapped_ahead (tree_in K.shape site.now (N.named namer.now) image) way.old ≡ Ok (item_at way.old.last.at.oid way.old.last.next (level_of way.old.last.block.items) (pair_of K.shape way.old.last.block.items way.old.last.next)) ∷ gapped_ahead (tree_in K.shape site.now (N.named namer.now) image) way.new) }
     ensures same { (image : List ℕ) → S.bytes src.old ≡ Some image → OnErr result (gapped_ahead (tree_in K.shape site.now (N.named namer.now) image) way.new ≡ gapped_ahead (tree_in K.shape site.now (N.named namer.now) image) way.old) }
     ensures stops { (image : List ℕ) → S.bytes src.old ≡ Some image → IfErr result (StopsAt (all_flat (gapped_ahead (tree_in K.shape site.now (N.named namer.now) image) way.old))) }
     ensures depth { depth_way way.new ≡ depth_way way.old }

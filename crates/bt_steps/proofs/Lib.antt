@@ -1,3 +1,1 @@
-pub mod Notings
-pub mod Laws
-pub mod Few
+mod Notings

@@ -2,7 +2,6 @@
 #![tactic(auto)]
 
 mod noting;
-mod step;
 
+pub use bt_cursor::Step;
 pub use noting::{Walked, gather_steps};
-pub use step::Step;

@@ -1,8 +1,7 @@
 -- What was gathered of the trees of a map.
-use Rattle.std.specs.Prelude.{◌≡◌, ℕ, ◌+◌, ◌≤◌, Bool, true, false, List, [], ◌∷◌, ◌++◌, length, Option, None, Some, option_to_list, refl, filter_map}
-use Rattle.std.specs.List.{cons_option}
-use Rattle.std.proofs.Common.{arith, ap, sym, ◌∙◌, subst}
-use Rattle.std.proofs.lemmas.List.Elements.{filter_map-append}
+use Rattle.std.specs.Prelude.{◌≡◌, ℕ, ◌+◌, ◌≤◌, Bool, true, false, List, [], ◌∷◌, ◌++◌, length, refl}
+use Rattle.std.proofs.Common.{arith, ap, sym, ◌∙◌, subst, append-nil}
+use Rattle.std.proofs.lemmas.List.Concat.{flat_map-append}
 use Rattle.obj_base.specs.declared.stop.Stop.{Stop}
 use Rattle.obj_base.specs.declared.stop.Stop.TheVariants.{Found, Unsupported, ReadFault, NoMemory}
 use Rattle.obj_base.specs.Stops.{Tells}
@@ -11,13 +10,14 @@ use Rattle.bt_keys.specs.Shapes.{omap_shape}
 use Rattle.bt_cursor.specs.declared.gathering.GatherFault.{GatherFault}
 use Rattle.bt_cursor.specs.declared.gathering.GatherFault.TheVariants as gathers
 use Rattle.bt_cursor.specs.Tree.{Tree}
-use Rattle.bt_cursor.specs.Line.{Item, child_id, leaf_pairs}
+use Rattle.bt_cursor.specs.Line.{Item, leaf_pairs}
 use Rattle.bt_cursor.specs.Met.{nodes_of}
 use Rattle.bt_cursor.specs.Faults.{HasFeature}
-use Rattle.bt_cursor.specs.Gathered.{children_of, IsGatherFault, IsGathered, IsInOrder}
+use Rattle.bt_cursor.specs.Gathered.{IsGatherFault, IsGathered, IsInOrder}
+use Rattle.bt_cursor.specs.Steps.{step_in, steps_in}
+use Rattle.bt_cursor.specs.declared.step.Step.{Step}
 use Rattle.bt_cursor.proofs.Flats.{line-pairs}
 use Rattle.bt_cursor.proofs.Lines.{leaf_pairs-append}
-use Rattle.bt_cursor.proofs.Gathers.{ids-walkable}
 use Rattle.bt_cursor.proofs.Wholes.{means_whole}
 use Rattle.omap_map.specs.Records.{records_of, IsAscending}
 use Rattle.omap_map.specs.Maps.{IsTreeFault}
@@ -43,27 +43,23 @@ says_read root (Unsupported feature block) other says e = absurd (cc)
 says_read root ReadFault other says e = refl
 says_read root NoMemory other says e = absurd (cc)
 
-one-option : {X : Type 0} (o : Option X) → option_to_list o ≡ cons_option o []
-one-option None = refl
-one-option (Some x) = refl
-
 -- what one more item gives was gathered
-pub gives-more : {T : Type 0} (gives : List Pair → List T) → ((ps qs : List Pair) → gives (ps ++ qs) ≡ gives ps ++ gives qs) → (given later : List T) (below further : List ℕ) (items : List Item) (item : Item)
-    → Gives gives given below items → later ≡ given ++ gives (leaf_pairs (item ∷ [])) → further ≡ below ++ option_to_list (child_id item) → Gives gives later further (items ++ item ∷ [])
-gives-more gives joins given later below further items item had e f = record {
+pub gives-more : {T : Type 0} (gives : List Pair → List T) → ((ps qs : List Pair) → gives (ps ++ qs) ≡ gives ps ++ gives qs) → (given later : List T) (steps further : List Step) (items : List Item) (item : Item)
+    → Gives gives given steps items → later ≡ given ++ gives (leaf_pairs (item ∷ [])) → further ≡ steps ++ step_in item → Gives gives later further (items ++ item ∷ [])
+gives-more gives joins given later steps further items item had e f = record {
   same = e ∙ (ap (λ xs. xs ++ gives (leaf_pairs (item ∷ []))) had.same ∙ (sym (joins (leaf_pairs items) (leaf_pairs (item ∷ []))) ∙ ap gives (sym (leaf_pairs-append items (item ∷ [])))));
-  nodes = f ∙ (ap (λ xs. xs ++ option_to_list (child_id item)) had.nodes ∙ (ap (λ xs. children_of items ++ xs) (one-option (child_id item)) ∙ sym (filter_map-append child_id items (item ∷ []))));
+  taken = f ∙ (ap (λ xs. xs ++ step_in item) had.taken ∙ (ap (λ xs. steps_in items ++ xs) (sym (append-nil (step_in item))) ∙ sym (flat_map-append step_in items (item ∷ []))));
 }
 
 -- what a whole tree gives was gathered
-pub gathered-tree : {K T : Type 0} (gives : List Pair → List T) (tree : Tree K) (root : ℕ) (given : List T) (below : List ℕ) (start reads : ℕ) → IsGathered tree root (Gives gives given below) (λ _. false) → reads ≤ start + length (nodes_of tree root) → IsTree gives tree root given below start reads
-gathered-tree gives tree root given below start reads all few = record {
+pub gathered-tree : {K T : Type 0} (gives : List Pair → List T) (tree : Tree K) (root : ℕ) (given : List T) (steps : List Step) (start reads : ℕ) → IsGathered tree root (Gives gives given steps) (λ _. false) → reads ≤ start + length (nodes_of tree root) → IsTree gives tree root given steps start reads
+gathered-tree gives tree root given steps start reads all few = record {
   same = all.held.same ∙ ap gives (line-pairs tree root);
-  nodes = ap (λ (ids : List ℕ). root ∷ ids) all.held.nodes ∙ sym (ids-walkable tree root all.whole.walkable);
+  taken = all.held.taken;
   whole = means_whole tree root all.whole;
   few = few;
 }
 
 -- the records of items in order ascend
-pub gathered-ascending : (given : List OmapRecord) (below : List ℕ) → IsInOrder omap_shape (Gives records_of given below) → IsAscending given
-gathered-ascending given below order = subst (λ (rs : List OmapRecord). IsAscending rs) (sym order.held.same) (ascending-ordered order.items order.ordered)
+pub gathered-ascending : (given : List OmapRecord) (steps : List Step) → IsInOrder omap_shape (Gives records_of given steps) → IsAscending given
+gathered-ascending given steps order = subst (λ (rs : List OmapRecord). IsAscending rs) (sym order.held.same) (ascending-ordered order.items order.ordered)

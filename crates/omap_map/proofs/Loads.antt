@@ -16,7 +16,8 @@ use Rattle.obj_base.specs.declared.site.Site.{Site}
 use Rattle.bt_cursor.specs.Faults.{HasFeature}
 use Rattle.bt_cursor.specs.Flat.{flat_of}
 use Rattle.bt_cursor.specs.Whole.{is_whole}
-use Rattle.bt_cursor.specs.Gathered.{node_ids}
+use Rattle.bt_cursor.specs.Steps.{steps_of}
+use Rattle.bt_cursor.specs.declared.step.Step.{Step}
 use Rattle.bt_cursor.proofs.Places.{whole-world, tree-levelled}
 use Rattle.bt_cursor.proofs.Wholes.{whole_means}
 use Rattle.bt_keys.specs.Shapes.{omap_shape, omap_snap_shape}
@@ -24,7 +25,7 @@ use Rattle.omap_map.specs.Fields.{snap_count_of, tree_of, snap_tree_of}
 use Rattle.omap_map.specs.Records.{records_of, snapshots_of}
 use Rattle.omap_map.specs.Resolve.{resolved}
 use Rattle.omap_map.specs.Features.{is_reverting}
-use Rattle.omap_map.specs.Maps.{Contents, map_in, head_of, is_map_object, record_tree, snapshot_tree, map_records, map_snapshots, map_blocks, contents_of, has_no_snapshots, has_whole_snapshots, is_whole_map, map_nodes, resolved_in, after_header, object_of, IsTreeFault, IsMapFault, IsMapFeature, IsLoaded}
+use Rattle.omap_map.specs.Maps.{Contents, map_in, head_of, is_map_object, record_tree, snapshot_tree, map_records, map_snapshots, map_steps, map_snap_steps, contents_of, has_no_snapshots, has_whole_snapshots, is_whole_map, map_nodes, resolved_in, after_header, object_of, IsTreeFault, IsMapFault, IsMapFeature, IsLoaded}
 use Rattle.omap_map.specs.Gathered.{IsTree, HasSnapshots, IsSnapshotsFault, IsSnapshotsFeature}
 use Rattle.omap_map.specs.declared.records.OmapRecord.{OmapRecord}
 use Rattle.omap_map.specs.declared.fault.OmapFault.{OmapFault}
@@ -109,35 +110,26 @@ snapshots-stop image site block bytes root NoMemory object e h = tt
 pub record HasParts (image : List ℕ) (site : Site) (block : ℕ) (contents : Contents) (start first second last : ℕ) : Type 0 where
   pub bytes : List ℕ
   pub object : IsObject image site block bytes
-  pub below : List ℕ
-  pub records : IsTree records_of (record_tree image site) (tree_of bytes) contents.records below first second
-  pub under : List ℕ
-  pub snapshots : HasSnapshots image site (snap_tree_of bytes) contents.snapshots under second last
+  pub records : IsTree records_of (record_tree image site) (tree_of bytes) contents.records contents.steps first second
+  pub snapshots : HasSnapshots image site (snap_tree_of bytes) contents.snapshots contents.snap_steps second last
   pub count : contents.snap_count ≡ snap_count_of bytes
-  pub blocks : contents.blocks ≡ (block ∷ (tree_of bytes ∷ below)) ++ (if snap_tree_of bytes == 0 then [] else snap_tree_of bytes ∷ under)
+  pub block_is : contents.block ≡ block
+  pub tree_is : contents.tree ≡ tree_of bytes
+  pub snap_tree_is : contents.snap_tree ≡ snap_tree_of bytes
 
--- the blocks of a tree of snapshots, where there is one
-abbrev laid : ℕ → List ℕ → List ℕ
-laid root below = if root == 0 then [] else root ∷ below
+abbrev made : List OmapRecord → List (ℕ × ℕ) → ℕ → ℕ → ℕ → ℕ → List Step → List Step → Contents
+made r s n at t u ss us = record { records = r; snapshots = s; snap_count = n; block = at; tree = t; snap_tree = u; steps = ss; snap_steps = us }
 
--- the blocks that were laid one after the other
-pub blocks-same : (all first below records under snapshots : List ℕ) (block root one snap other : ℕ) → all ≡ first ++ (if snap == 0 then [] else snap ∷ under) → first ≡ block ∷ (root ∷ below) → root ≡ one → below ≡ records → snap ≡ other → under ≡ snapshots
-    → all ≡ (block ∷ (one ∷ records)) ++ (if other == 0 then [] else other ∷ snapshots)
-blocks-same all first below records under snapshots block root one snap other e f g h i j =
-    e
-    ∙ (ap (λ (l : List ℕ). l ++ laid snap under) f
-    ∙ (ap (λ (r : ℕ). (block ∷ (r ∷ below)) ++ laid snap under) g
-    ∙ (ap (λ (b : List ℕ). (block ∷ (one ∷ b)) ++ laid snap under) h
-    ∙ (ap (λ (s : ℕ). (block ∷ (one ∷ records)) ++ laid s under) i
-    ∙ ap (λ (u : List ℕ). (block ∷ (one ∷ records)) ++ laid other u) j))))
-
-contents-same : (a b : Contents) → a.records ≡ b.records → a.snapshots ≡ b.snapshots → a.snap_count ≡ b.snap_count → a.blocks ≡ b.blocks → a ≡ b
-contents-same a b e f g h =
-    let first : List OmapRecord → Contents = λ r. record { records = r; snapshots = a.snapshots; snap_count = a.snap_count; blocks = a.blocks } in
-    let second : List (ℕ × ℕ) → Contents = λ s. record { records = b.records; snapshots = s; snap_count = a.snap_count; blocks = a.blocks } in
-    let third : ℕ → Contents = λ n. record { records = b.records; snapshots = b.snapshots; snap_count = n; blocks = a.blocks } in
-    let fourth : List ℕ → Contents = λ bs. record { records = b.records; snapshots = b.snapshots; snap_count = b.snap_count; blocks = bs } in
-    ap first e ∙ (ap second f ∙ (ap third g ∙ ap fourth h))
+contents-same : (a b : Contents) → a.records ≡ b.records → a.snapshots ≡ b.snapshots → a.snap_count ≡ b.snap_count → a.block ≡ b.block → a.tree ≡ b.tree → a.snap_tree ≡ b.snap_tree → a.steps ≡ b.steps → a.snap_steps ≡ b.snap_steps → a ≡ b
+contents-same a b e f g h i j k l =
+    ap (λ (x : List OmapRecord). made x a.snapshots a.snap_count a.block a.tree a.snap_tree a.steps a.snap_steps) e
+    ∙ (ap (λ (x : List (ℕ × ℕ)). made b.records x a.snap_count a.block a.tree a.snap_tree a.steps a.snap_steps) f
+    ∙ (ap (λ (x : ℕ). made b.records b.snapshots x a.block a.tree a.snap_tree a.steps a.snap_steps) g
+    ∙ (ap (λ (x : ℕ). made b.records b.snapshots b.snap_count x a.tree a.snap_tree a.steps a.snap_steps) h
+    ∙ (ap (λ (x : ℕ). made b.records b.snapshots b.snap_count b.block x a.snap_tree a.steps a.snap_steps) i
+    ∙ (ap (λ (x : ℕ). made b.records b.snapshots b.snap_count b.block b.tree x a.steps a.snap_steps) j
+    ∙ (ap (λ (x : List Step). made b.records b.snapshots b.snap_count b.block b.tree b.snap_tree x a.snap_steps) k
+    ∙ (ap (λ (x : List Step). made b.records b.snapshots b.snap_count b.block b.tree b.snap_tree b.steps x) l)))))))
 
 parts-records : (image : List ℕ) (site : Site) (block : ℕ) (records : List OmapRecord) → records ≡ records_of (flat_of (record_tree image site) (tree_of (map_in image site block))) → records ≡ map_records image site block
 unfolding map_records
@@ -147,10 +139,13 @@ parts-snapshots : (image : List ℕ) (site : Site) (block : ℕ) (snapshots : Li
 unfolding map_snapshots
 parts-snapshots image site block snapshots e = e
 
-parts-blocks : (image : List ℕ) (site : Site) (block : ℕ) (blocks records snapshots : List ℕ) → blocks ≡ (block ∷ records) ++ snapshots → records ≡ node_ids (record_tree image site) (tree_of (map_in image site block))
-    → snapshots ≡ (if has_no_snapshots (map_in image site block) then [] else node_ids (snapshot_tree image site) (snap_tree_of (map_in image site block))) → blocks ≡ map_blocks image site block
-unfolding map_blocks
-parts-blocks image site block blocks records snapshots e f g = e ∙ (ap (λ (l : List ℕ). (block ∷ l) ++ snapshots) f ∙ ap (λ (l : List ℕ). (block ∷ node_ids (record_tree image site) (tree_of (map_in image site block))) ++ l) g)
+parts-steps : (image : List ℕ) (site : Site) (block : ℕ) (steps : List Step) → steps ≡ steps_of (record_tree image site) (tree_of (map_in image site block)) → steps ≡ map_steps image site block
+unfolding map_steps
+parts-steps image site block steps e = e
+
+parts-snap-steps : (image : List ℕ) (site : Site) (block : ℕ) (steps : List Step) → steps ≡ (if has_no_snapshots (map_in image site block) then [] else steps_of (snapshot_tree image site) (snap_tree_of (map_in image site block))) → steps ≡ map_snap_steps image site block
+unfolding map_snap_steps
+parts-snap-steps image site block steps e = e
 
 parts-whole : (image : List ℕ) (site : Site) (block : ℕ) → is_map_object image site block ≡ true → is_whole (record_tree image site) (tree_of (map_in image site block)) ≡ true
     → (has_no_snapshots (map_in image site block) || is_whole (snapshot_tree image site) (snap_tree_of (map_in image site block))) ≡ true → is_whole_map image site block ≡ true
@@ -161,15 +156,14 @@ parts-whole image site block e f g = ap (λ (b : Bool). b && (is_whole (record_t
 pub parts-loaded : (image : List ℕ) (site : Site) (block : ℕ) (contents : Contents) (start first second last : ℕ) → HasParts image site block contents start first second last → IsLoaded image site block contents
 parts-loaded image site block contents start first second last parts =
     let same = parts.object.same in
-    let tree = subst (λ bytes. IsTree records_of (record_tree image site) (tree_of bytes) contents.records parts.below first second) same parts.records in
-    let snapshots = subst (λ bytes. HasSnapshots image site (snap_tree_of bytes) contents.snapshots parts.under second last) same parts.snapshots in
-    let blocks = subst (λ bytes. contents.blocks ≡ (block ∷ (tree_of bytes ∷ parts.below)) ++ (if snap_tree_of bytes == 0 then [] else snap_tree_of bytes ∷ parts.under)) same parts.blocks in
+    let tree = subst (λ bytes. IsTree records_of (record_tree image site) (tree_of bytes) contents.records contents.steps first second) same parts.records in
+    let snapshots = subst (λ bytes. HasSnapshots image site (snap_tree_of bytes) contents.snapshots contents.snap_steps second last) same parts.snapshots in
     let bytes = map_in image site block in
     record {
       whole = parts-whole image site block parts.object.sound tree.whole snapshots.whole;
       settled = parts.object.settled;
-      same = contents-same contents (contents_of image site block) (parts-records image site block contents.records tree.same) (parts-snapshots image site block contents.snapshots snapshots.same) (parts.count ∙ ap snap_count_of same)
-          (parts-blocks image site block contents.blocks (tree_of bytes ∷ parts.below) (if snap_tree_of bytes == 0 then [] else snap_tree_of bytes ∷ parts.under) blocks tree.nodes snapshots.nodes);
+      same = contents-same contents (contents_of image site block) (parts-records image site block contents.records tree.same) (parts-snapshots image site block contents.snapshots snapshots.same) (parts.count ∙ ap snap_count_of same) parts.block_is (parts.tree_is ∙ ap tree_of same) (parts.snap_tree_is ∙ ap snap_tree_of same)
+          (parts-steps image site block contents.steps tree.taken) (parts-snap-steps image site block contents.snap_steps snapshots.taken);
     }
 
 -- and there were no more reads than its object and its nodes
@@ -177,8 +171,8 @@ pub parts-few : (image : List ℕ) (site : Site) (block : ℕ) (contents : Conte
 unfolding map_nodes
 parts-few image site block contents start first second last one parts =
     let same = parts.object.same in
-    let tree = subst (λ bytes. IsTree records_of (record_tree image site) (tree_of bytes) contents.records parts.below first second) same parts.records in
-    let snapshots = subst (λ bytes. HasSnapshots image site (snap_tree_of bytes) contents.snapshots parts.under second last) same parts.snapshots in
+    let tree = subst (λ bytes. IsTree records_of (record_tree image site) (tree_of bytes) contents.records contents.steps first second) same parts.records in
+    let snapshots = subst (λ bytes. HasSnapshots image site (snap_tree_of bytes) contents.snapshots contents.snap_steps second last) same parts.snapshots in
     omega (arith, tree.few, snapshots.few, one)
 
 -- why the object of a map stops is there, as its answer tells it

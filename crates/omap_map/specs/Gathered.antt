@@ -16,7 +16,8 @@ use Rattle.bt_cursor.specs.Line.{Item, leaf_pairs}
 use Rattle.bt_cursor.specs.Met.{nodes_of}
 use Rattle.bt_cursor.specs.Whole.{is_whole}
 use Rattle.bt_cursor.specs.Faults.{HasFeature}
-use Rattle.bt_cursor.specs.Gathered.{children_of, node_ids}
+use Rattle.bt_cursor.specs.Steps.{steps_in, steps_of}
+use Rattle.bt_cursor.specs.declared.step.Step.{Step}
 use Rattle.omap_map.specs.Records.{records_of, snapshots_of, IsAscending}
 use Rattle.omap_map.specs.Maps.{snapshot_tree, IsTreeFault}
 use Rattle.omap_map.specs.declared.records.OmapRecord.{OmapRecord}
@@ -38,22 +39,22 @@ records_in item = records_of (leaf_pairs (item ∷ []))
 abbrev pub snapshots_in : Item → List (ℕ × ℕ)
 snapshots_in item = snapshots_of (leaf_pairs (item ∷ []))
 
--- what was gathered is what some items give, and the ids of the nodes to which they lead
-pub record Gives {T : Type 0} (gives : List Pair → List T) (given : List T) (below : List ℕ) (items : List Item) : Type 0 where
+-- what was gathered is what some items give, and the steps among them
+pub record Gives {T : Type 0} (gives : List Pair → List T) (given : List T) (steps : List Step) (items : List Item) : Type 0 where
   pub same : given ≡ gives (leaf_pairs items)
-  pub nodes : below ≡ children_of items
+  pub taken : steps ≡ steps_in items
 
--- what was gathered is what a whole tree gives, with the blocks of the nodes below its root, and there were no more reads than nodes in it
-pub record IsTree {K T : Type 0} (gives : List Pair → List T) (tree : Tree K) (root : ℕ) (given : List T) (below : List ℕ) (start reads : ℕ) : Type 0 where
+-- what was gathered is what a whole tree gives, with the steps of the tree, and there were no more reads than nodes in it
+pub record IsTree {K T : Type 0} (gives : List Pair → List T) (tree : Tree K) (root : ℕ) (given : List T) (steps : List Step) (start reads : ℕ) : Type 0 where
   pub same : given ≡ gives (flat_of tree root)
-  pub nodes : root ∷ below ≡ node_ids tree root
+  pub taken : steps ≡ steps_of tree root
   pub whole : is_whole tree root ≡ true
   pub few : reads ≤ start + length (nodes_of tree root)
 
--- the snapshots of the tree of a root, where there is one, with the blocks of the nodes below its root
-pub record HasSnapshots (image : List ℕ) (site : Site) (root : ℕ) (snapshots : List (ℕ × ℕ)) (below : List ℕ) (start reads : ℕ) : Type 0 where
+-- the snapshots of the tree of a root, where there is one, with the steps of the tree
+pub record HasSnapshots (image : List ℕ) (site : Site) (root : ℕ) (snapshots : List (ℕ × ℕ)) (steps : List Step) (start reads : ℕ) : Type 0 where
   pub same : snapshots ≡ (if root == 0 then [] else snapshots_of (flat_of (snapshot_tree image site) root))
-  pub nodes : (if root == 0 then [] else root ∷ below) ≡ (if root == 0 then [] else node_ids (snapshot_tree image site) root)
+  pub taken : steps ≡ (if root == 0 then [] else steps_of (snapshot_tree image site) root)
   pub whole : (root == 0 || is_whole (snapshot_tree image site) root) ≡ true
   pub few : reads ≤ start + (if root == 0 then 0 else length (nodes_of (snapshot_tree image site) root))
 

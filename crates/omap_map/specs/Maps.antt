@@ -22,7 +22,8 @@ use Rattle.bt_cursor.specs.Flat.{flat_of}
 use Rattle.bt_cursor.specs.Met.{nodes_of}
 use Rattle.bt_cursor.specs.Faults.{IsWalkFault, HasFeature}
 use Rattle.bt_cursor.specs.Whole.{is_whole}
-use Rattle.bt_cursor.specs.Gathered.{node_ids}
+use Rattle.bt_cursor.specs.Steps.{steps_of}
+use Rattle.bt_cursor.specs.declared.step.Step.{Step}
 use Rattle.omap_map.specs.Fields.{snap_count_of, tree_of, snap_tree_of}
 use Rattle.omap_map.specs.Records.{records_of, snapshots_of}
 use Rattle.omap_map.specs.Resolve.{resolved, named_by}
@@ -31,12 +32,16 @@ use Rattle.omap_map.specs.declared.records.OmapRecord.{OmapRecord}
 use Rattle.omap_map.specs.declared.fault.OmapFault.{OmapFault}
 use Rattle.omap_map.specs.declared.fault.OmapFault.TheVariants.{Head, Tree as TreeFault}
 
--- what a loaded map has: its records in tree order, its snapshots, the number of snapshots that it counts, and the blocks in which it lies
+-- what a loaded map has: its records in tree order, its snapshots, the number of snapshots that it counts, its block, the ids of its roots, and the steps of its two trees
 pub record Contents : Type 0 where
   pub records : List OmapRecord
   pub snapshots : List (ℕ × ℕ)
   pub snap_count : ℕ
-  pub blocks : List ℕ
+  pub block : ℕ
+  pub tree : ℕ
+  pub snap_tree : ℕ
+  pub steps : List Step
+  pub snap_steps : List Step
 
 -- the bytes of the map in a block
 abbrev pub map_in : List ℕ → Site → ℕ → List ℕ
@@ -71,11 +76,12 @@ map_snapshots image site block =
     if has_no_snapshots (map_in image site block) then [] else
     snapshots_of (flat_of (snapshot_tree image site) (snap_tree_of (map_in image site block)))
 
--- the blocks of the map in a block: its own, those of the nodes of its tree, and those of the nodes of its tree of snapshots, each tree in the order of its walk; the id of a physical object is its block
-unfoldable pub map_blocks : List ℕ → Site → ℕ → List ℕ
-map_blocks image site block =
-    block ∷ (node_ids (record_tree image site) (tree_of (map_in image site block))
-    ++ (if has_no_snapshots (map_in image site block) then [] else node_ids (snapshot_tree image site) (snap_tree_of (map_in image site block))))
+-- the steps of the two trees of the map in a block; none of snapshots where it has no such tree
+unfoldable pub map_steps : List ℕ → Site → ℕ → List Step
+map_steps image site block = steps_of (record_tree image site) (tree_of (map_in image site block))
+
+unfoldable pub map_snap_steps : List ℕ → Site → ℕ → List Step
+map_snap_steps image site block = if has_no_snapshots (map_in image site block) then [] else steps_of (snapshot_tree image site) (snap_tree_of (map_in image site block))
 
 -- what the map in a block has
 abbrev pub contents_of : List ℕ → Site → ℕ → Contents
@@ -83,7 +89,11 @@ contents_of image site block = record {
   records = map_records image site block;
   snapshots = map_snapshots image site block;
   snap_count = snap_count_of (map_in image site block);
-  blocks = map_blocks image site block;
+  block = block;
+  tree = tree_of (map_in image site block);
+  snap_tree = snap_tree_of (map_in image site block);
+  steps = map_steps image site block;
+  snap_steps = map_snap_steps image site block;
 }
 
 -- the tree of the snapshots is whole, where the map has one

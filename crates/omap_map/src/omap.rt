@@ -1,6 +1,5 @@
 // An object map, and what its records resolve to.
-ghost use Rattle.std.specs.Prelude.{◌≡◌, ◌≤◌, ◌==◌, length, true, false, [], ◌∷◌, ◌++◌, OnOk, IfOk, IfErr, if◌then◌else◌};
-ghost use Rattle.obj_base.specs.declared.stop.Stop.TheVariants.{NoMemory};
+ghost use Rattle.std.specs.Prelude.{◌≡◌, ◌≤◌, length, true, false, OnOk, IfOk, IfErr};
 ghost use Rattle.std.specs.List.Sorted.{IsPartitionPoint};
 ghost use Rattle.omap_map.specs.Records.{IsAscending};
 ghost use Rattle.omap_map.specs.Search.{is_by};
@@ -10,17 +9,22 @@ use crate::object::{object, snap_count, snap_tree, tree};
 use crate::trees::{records, snapshots_if};
 use crate::{OmapFault, OmapRecord, Place};
 use blk_source::BlockSource;
+use bt_cursor::Step;
 use obj_base::{Site, Stop};
 use std::alloc::Global;
 use std::marker::Model;
 
-/// An object map that was loaded: its records in tree order, its snapshots, and the blocks in which it lies.
+/// An object map that was loaded: its records in tree order, its snapshots, its block, and the roots and the steps of its two trees.
 #[derive(Drop)]
 pub struct Omap {
     records: Vec<OmapRecord>,
     snapshots: Vec<(u64, u32)>,
     snap_count: u32,
-    blocks: Vec<u64>,
+    block: u64,
+    tree: u64,
+    snap_tree: u64,
+    steps: Vec<Step>,
+    snap_steps: Vec<Step>,
 }
 
 impl Model for Omap {
@@ -29,7 +33,7 @@ impl Model for Omap {
 
     ghost Value = { Contents };
 
-    ghost view = { λ a. record { records = a.records.items; snapshots = a.snapshots.items; snap_count = a.snap_count; blocks = a.blocks.items } };
+    ghost view = { λ a. record { records = a.records.items; snapshots = a.snapshots.items; snap_count = a.snap_count; block = a.block; tree = a.tree; snap_tree = a.snap_tree; steps = a.steps.items; snap_steps = a.snap_steps.items } };
 
     ghost invariant = { λ a. IsAscending a.records.items };
 }
@@ -57,12 +61,39 @@ impl Omap {
         self.snap_count
     }
 
-    /// The blocks in which the map lies: its own, then those of the nodes of its tree, and then those of the nodes of its
-    /// tree of snapshots, each tree in the order in which a walk meets them.
-    pub fn blocks(&self) -> &[u64]
-        ensures { result.now ≡ self.now.blocks }
+    /// The block of the map.
+    pub fn block(&self) -> u64
+        ensures { result ≡ self.now.block }
     {
-        &self.blocks
+        self.block
+    }
+
+    /// The id of the root of its tree.
+    pub fn tree(&self) -> u64
+        ensures { result ≡ self.now.tree }
+    {
+        self.tree
+    }
+
+    /// The id of the root of its tree of snapshots, 0 where it has none.
+    pub fn snap_tree(&self) -> u64
+        ensures { result ≡ self.now.snap_tree }
+    {
+        self.snap_tree
+    }
+
+    /// The steps of its tree, in the order in which a walk takes them: one for each node below the root.
+    pub fn steps(&self) -> &[Step]
+        ensures { result.now ≡ self.now.steps }
+    {
+        &self.steps
+    }
+
+    /// The steps of its tree of snapshots.
+    pub fn snap_steps(&self) -> &[Step]
+        ensures { result.now ≡ self.now.snap_steps }
+    {
+        &self.snap_steps
     }
 
     // How many records don't come after an id and a transaction.
@@ -153,38 +184,15 @@ impl Omap {
             Ok(snapped) => snapped,
             Err(stop) => return Err(stop),
         };
-        let mut blocks = lay(alloc, block, root, &kept.blocks)?;
-        lay_snapshots(&mut blocks, snap_root, &snapped.blocks)?;
         Ok(Omap {
             records: kept.records,
             snapshots: snapped.snapshots,
             snap_count: snap_count(&bytes),
-            blocks,
+            block,
+            tree: root,
+            snap_tree: snap_root,
+            steps: kept.steps,
+            snap_steps: snapped.steps,
         })
     }
-}
-
-// The block of a map, that of the root of its tree, and those of the nodes below.
-fn lay(alloc: Global, block: u64, root: u64, below: &[u64]) -> Result<Vec<u64>, Stop<OmapFault>>
-    ensures all { IfOk result (λ blocks. blocks.items ≡ block ∷ (root ∷ below.now)) }
-    ensures memory_only { IfErr result (λ stop. stop ≡ NoMemory) }
-{
-    let mut blocks = Vec::new(alloc);
-    blocks.push(block)?;
-    blocks.push(root)?;
-    blocks.extend_from_slice(below)?;
-    Ok(blocks)
-}
-
-// Puts the block of the root of a tree of snapshots, and those of the nodes below, after the others, where there is one.
-fn lay_snapshots(blocks: &mut Vec<u64>, root: u64, below: &[u64]) -> Result<(), Stop<OmapFault>>
-    ensures all { OnOk result (blocks.new.items ≡ blocks.old.items ++ (if root == 0 then [] else root ∷ below.now)) }
-    ensures memory_only { IfErr result (λ stop. stop ≡ NoMemory) }
-{
-    if root == 0 {
-        return Ok(());
-    }
-    blocks.push(root)?;
-    blocks.extend_from_slice(below)?;
-    Ok(())
 }

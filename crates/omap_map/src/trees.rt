@@ -41,7 +41,7 @@ pub(crate) fn records<S: BlockSource>(
     site: &Site,
 ) -> Result<Records, Stop<OmapFault>>
     requires site { IsSiteFor site.now (S.bytes_len src.old) }
-    ensures clear { (image : List ℕ) → S.bytes src.old ≡ Some image → IfOk result (λ kept. IsTree records_of (record_tree image site.now) root kept.records.items kept.blocks.items (S.reads src.old) (S.reads src.new)) }
+    ensures clear { (image : List ℕ) → S.bytes src.old ≡ Some image → IfOk result (λ kept. IsTree records_of (record_tree image site.now) root kept.records.items kept.steps.items (S.reads src.old) (S.reads src.new)) }
     ensures ascending { IfOk result (λ kept. IsAscending kept.records.items) }
     ensures present { (image : List ℕ) → S.bytes src.old ≡ Some image → IfErr result (Tells (IsTreeFault (record_tree image site.now) root) (HasFeature (record_tree image site.now) root)) }
     ensures cause { IsErrOf result ReadFault → Rose (S.faults src.old) (S.faults src.new) }
@@ -49,7 +49,7 @@ pub(crate) fn records<S: BlockSource>(
 {
     let none = Records {
         records: Vec::new(alloc),
-        blocks: Vec::new(alloc),
+        steps: Vec::new(alloc),
     };
     let namer = Physical {
         blocks: site.blocks,
@@ -68,14 +68,14 @@ fn snapshots<S: BlockSource>(
     site: &Site,
 ) -> Result<Snapshots, Stop<OmapFault>>
     requires site { IsSiteFor site.now (S.bytes_len src.old) }
-    ensures clear { (image : List ℕ) → S.bytes src.old ≡ Some image → IfOk result (λ kept. IsTree snapshots_of (snapshot_tree image site.now) root kept.snapshots.items kept.blocks.items (S.reads src.old) (S.reads src.new)) }
+    ensures clear { (image : List ℕ) → S.bytes src.old ≡ Some image → IfOk result (λ kept. IsTree snapshots_of (snapshot_tree image site.now) root kept.snapshots.items kept.steps.items (S.reads src.old) (S.reads src.new)) }
     ensures present { (image : List ℕ) → S.bytes src.old ≡ Some image → IfErr result (Tells (IsTreeFault (snapshot_tree image site.now) root) (HasFeature (snapshot_tree image site.now) root)) }
     ensures cause { IsErrOf result ReadFault → Rose (S.faults src.old) (S.faults src.new) }
     ensures kept { IsKept S.bytes S.bytes_len S.faults src.old src.new }
 {
     let none = Snapshots {
         snapshots: Vec::new(alloc),
-        blocks: Vec::new(alloc),
+        steps: Vec::new(alloc),
     };
     let namer = Physical {
         blocks: site.blocks,
@@ -94,7 +94,7 @@ pub(crate) fn snapshots_if<S: BlockSource>(
     site: &Site,
 ) -> Result<Snapshots, Stop<OmapFault>>
     requires site { IsSiteFor site.now (S.bytes_len src.old) }
-    ensures clear { (image : List ℕ) → S.bytes src.old ≡ Some image → IfOk result (λ kept. HasSnapshots image site.now root kept.snapshots.items kept.blocks.items (S.reads src.old) (S.reads src.new)) }
+    ensures clear { (image : List ℕ) → S.bytes src.old ≡ Some image → IfOk result (λ kept. HasSnapshots image site.now root kept.snapshots.items kept.steps.items (S.reads src.old) (S.reads src.new)) }
     ensures present { (image : List ℕ) → S.bytes src.old ≡ Some image → IfErr result (Tells (IsSnapshotsFault image site.now root) (IsSnapshotsFeature image site.now root)) }
     ensures cause { IsErrOf result ReadFault → Rose (S.faults src.old) (S.faults src.new) }
     ensures kept { IsKept S.bytes S.bytes_len S.faults src.old src.new }
@@ -102,7 +102,7 @@ pub(crate) fn snapshots_if<S: BlockSource>(
     if root == 0 {
         return Ok(Snapshots {
             snapshots: Vec::new(alloc),
-            blocks: Vec::new(alloc),
+            steps: Vec::new(alloc),
         });
     }
     match snapshots(alloc, src, root, site) {

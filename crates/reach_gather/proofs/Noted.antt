@@ -4,7 +4,7 @@ use Rattle.std.specs.Prelude.{◌==◌}
 use Rattle.std.proofs.lemmas.List.{length-map}
 use Rattle.std.proofs.lemmas.List.FromFn.{length-map-range_with_len}
 use Rattle.apfs_model.proofs.BoolTests.{test_or, equal-from}
-use Rattle.bt_steps.specs.declared.step.Step.{Step}
+use Rattle.bt_cursor.specs.declared.step.Step.{Step}
 use Rattle.nx_ring.specs.Checkpoint.{Seen, site_of}
 use Rattle.space_map.specs.Fields.{cabs_of, cibs_of}
 use Rattle.space_map.specs.Blocks.{address_at, cib_block}

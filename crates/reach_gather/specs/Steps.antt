@@ -1,6 +1,6 @@
 -- The namings of the steps of trees, with their owners.
 use Rattle.std.specs.Prelude.{ℕ, List, map}
-use Rattle.bt_steps.specs.declared.step.Step.{Step}
+use Rattle.bt_cursor.specs.declared.step.Step.{Step}
 use Rattle.reach_rules.specs.Naming.{ByBlock, ByMapping, InBlock, OfId, TreeKind, Naming}
 use Rattle.reach_rules.specs.Owners.{Owner, owner, Named}
 use Rattle.tree_namings.specs.Namings.{step_naming}

@@ -8,12 +8,11 @@ use Rattle.obj_base.specs.declared.stop.Stop.TheVariants.{Found as Fails}
 use Rattle.obj_base.specs.declared.stop.Within.TheVariants.{Physical}
 use Rattle.bt_node.specs.Shape.{Shape}
 use Rattle.bt_node.specs.Node.{level_of}
-use Rattle.bt_node.specs.Entries.{pairs_of}
 use Rattle.obj_base.specs.declared.site.Site.{Site}
 use Rattle.bt_cursor.specs.declared.fault.WalkFault.{WalkFault}
 use Rattle.bt_cursor.specs.declared.fault.WalkFault.TheVariants as walks
 use Rattle.bt_cursor.specs.Tree.{Tree, root_place, node_named, tree_in}
-use Rattle.bt_cursor.specs.Line.{Item, line_of, line_part}
+use Rattle.bt_cursor.specs.Line.{Item, entries_of, line_of, line_part}
 use Rattle.bt_cursor.specs.Flat.{flat_of}
 use Rattle.bt_cursor.specs.Met.{nodes_of}
 use Rattle.bt_cursor.specs.Order.{out_of_order}
@@ -114,7 +113,7 @@ tree-present image seen kind shape walk order count root r (walks.Unsound block 
 tree-present image seen kind shape walk order count root r (walks.Unnamed oid) there = walk-present image seen kind ByBlock shape (in_container (site_of seen).blocks) walk root r root (walks.Unnamed oid) there
 tree-present {K} image seen kind shape walk order count root r (walks.Order item) there =
     let tree : Tree K = tree_in shape (site_of seen) (in_container (site_of seen).blocks) image in
-    let made : Option (List ℕ) → Option ℕ = λ o. out_of_order shape (through o (λ node. flat_map (line_part tree (level_of node)) (pairs_of shape node))) in
+    let made : Option (List ℕ) → Option ℕ = λ o. out_of_order shape (through o (λ node. flat_map (line_part tree (level_of node) root) (entries_of shape node))) in
     let node = node-from (tree.look (root_place root)) made (Some there.number) there.first (λ z. let q : ◌≡◌ {A = Option ℕ} None (Some there.number) = z in cc) in
     record {
       kind = kind;
@@ -155,7 +154,7 @@ unfolding misplaced has_counts tree_line
 extents-present image seen root r (exts.Walk why) (some, there) = tree-present image seen ExtentRefs ext_shape (extents-walk image seen) (λ x. refl) (λ x. refl) root r why there
 extents-present image seen root r (exts.Value item) (some, there) =
     let tree : Tree ExtKey = ext_tree image (site_of seen) in
-    let made : Option (List ℕ) → Bool = λ o. passes (slice_get (through o (λ node. flat_map (line_part tree (level_of node)) (pairs_of ext_shape node))) there.number) is_short_item in
+    let made : Option (List ℕ) → Bool = λ o. passes (slice_get (through o (λ node. flat_map (line_part tree (level_of node) root) (entries_of ext_shape node))) there.number) is_short_item in
     let node = node-from (tree.look (root_place root)) made true there.short (λ z. never-short there.number z) in
     record {
       kind = ExtentRefs;

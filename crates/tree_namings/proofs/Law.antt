@@ -1,6 +1,9 @@
 -- What is live from the naming of a root are that naming and those of the steps of its tree.
-use Rattle.std.proofs.Common.{◌≡◌, ℕ, zero, suc, true, false, List, [], ◌∷◌, ◌++◌, map, Option, Some, None, Result, Ok, Err, ◌⊎◌, inl, inr, refl, ap, sym, ◌∙◌, subst}
+use Rattle.std.proofs.Common.{◌≡◌, ℕ, zero, suc, ◌+◌, Bool, true, false, List, [], ◌∷◌, ◌++◌, map, Option, Some, None, Result, Ok, Err, ◌⊎◌, inl, inr, refl, ap, sym, ◌∙◌, subst, arith}
+use Rattle.std.specs.Prelude.{◌==◌, if◌then◌else◌}
 use Rattle.std.specs.List.{range_with_len, flat_map}
+use Rattle.std.proofs.lemmas.Bool.Decides.{nat_tests}
+use Rattle.std.proofs.lemmas.List.Concat.{flat_map-append}
 use Rattle.apfs_model.specs.Blocks.{block_of}
 use Rattle.apfs_model.specs.Lists.{through, value_of}
 use Rattle.obj_base.specs.declared.site.Site.{Site}
@@ -16,8 +19,9 @@ use Rattle.bt_node.specs.declared.node.NodeAt.{NodeAt}
 use Rattle.bt_cursor.specs.declared.fault.WalkFault.{WalkFault}
 use Rattle.bt_cursor.specs.Tree.{Tree, root_place, child_in, child_place, judged, node_named, block_named, node_at, tree_in}
 use Rattle.bt_cursor.proofs.Nodes.{node_same}
-use Rattle.bt_steps.specs.declared.step.Step.{Step}
-use Rattle.bt_steps.specs.Steps.{numbered, steps_part, steps_of}
+use Rattle.bt_cursor.specs.declared.step.Step.{Step}
+use Rattle.bt_cursor.specs.Line.{Item, item_at, entries_of, line_part}
+use Rattle.bt_cursor.specs.Steps.{step_in, steps_in, steps_of}
 use Rattle.nx_ring.specs.Checkpoint.{Seen, site_of}
 use Rattle.reach_rules.specs.Naming.{LookUp, Object, Namer, Whole, TreeKind, Expected, TreeRoot, TreeNode, Naming, naming}
 use Rattle.reach_rules.specs.Resolved.{Found, resolved, found_by, is_node}
@@ -25,7 +29,7 @@ use Rattle.reach_rules.specs.Tested.{Answer, of_node, node_answer, node_tested, 
 use Rattle.reach_rules.specs.Next.{names, names_if, next, children_in, child_namings, node_namings}
 use Rattle.reach_rules.specs.Features.{used_features}
 use Rattle.reach_rules.proofs.Walks.{Matches, IsWalkOf}
-use Rattle.tree_namings.specs.Namings.{node_id, step_naming, tree_namings}
+use Rattle.tree_namings.specs.Namings.{step_naming, tree_namings}
 use Rattle.tree_namings.proofs.Counted.{AreAllFrom, all-none, all-both, all-by}
 
 -- trees of a shape are walked as the nodes of a kind of trees are named, and their objects are these
@@ -172,55 +176,67 @@ map-append f [] ys = refl
 map-append f (x ∷ xs) ys = ap (λ zs. f x ∷ zs) (map-append f xs ys)
 
 -- a leaf has none
-no-steps : {K : Type 0} (tree : Tree K) (from : Option ℕ) (i : ℕ) (pairs : List Pair) → flat_map (steps_part tree zero from) (numbered i pairs) ≡ []
-no-steps tree from i [] = refl
-no-steps tree from i (pair ∷ pairs) = no-steps tree from (suc i) pairs
+no-steps : {K : Type 0} (tree : Tree K) (oid : ℕ) (at : ℕ → Pair) (is : List ℕ) → steps_in (flat_map (line_part tree zero oid) (map (λ k. (k, at k)) is)) ≡ []
+no-steps tree oid at [] = refl
+no-steps tree oid at (i ∷ is) = no-steps tree oid at is
+
+no-leaf : (level : ℕ) → (suc level == 0) ≡ false
+no-leaf level = grind (arith, nat_tests)
+
+-- above the leaves an item is a step
+one-step : (oid i level : ℕ) (pair : Pair) → step_in (item_at oid i (suc level) pair) ≡ record { node = oid; at = i; level = suc level; child = child_in pair } ∷ []
+one-step oid i level pair = ap (λ (b : Bool). if b then [] else record { node = oid; at = i; level = suc level; child = child_in pair } ∷ []) (no-leaf level)
 
 -- what is live from the namings of a node's entries are those of the steps there
 abbrev EntriesLive : {K : Type 0} → List ℕ → Seen → TreeKind → LookUp → (ℕ → Object) → Tree K → ℕ → ℕ → Type 0
 EntriesLive image seen kind how object tree root level =
-    (from : Option ℕ) (i : ℕ) (pairs : List Pair)
-    → AreAllFrom (next image seen) (kids_of (Whole (object (node_id root from))) kind how level i (map child_in pairs)) (map (step_naming object kind how root) (flat_map (steps_part tree level from) (numbered i pairs)))
+    (oid : ℕ) (at : ℕ → Pair) (i n : ℕ)
+    → AreAllFrom (next image seen) (kids_of (Whole (object oid)) kind how level i (map child_in (map at (range_with_len i n)))) (map (step_naming object kind how root) (steps_in (flat_map (line_part tree level oid) (map (λ k. (k, at k)) (range_with_len i n)))))
 
--- the steps under a place
-abbrev under : {K : Type 0} → Tree K → ℕ → Option ℕ → NodeAt → List Step
-under tree level from at = through (node_at tree at) (λ node. flat_map (steps_part tree level from) (numbered 0 (pairs_of tree.shape node)))
+-- the items under a place
+abbrev under : {K : Type 0} → Tree K → ℕ → NodeAt → List Item
+under tree level at = through (node_at tree at) (λ node. flat_map (line_part tree level at.oid) (entries_of tree.shape node))
 
 -- of a child
 child-lives : {K : Type 0} (image : List ℕ) (seen : Seen) (kind : TreeKind) (how : LookUp) (object : ℕ → Object) (shape : Shape K) (named : ℕ → Option ℕ) (root level : ℕ) (pair : Pair) (n : Naming) →
     IsTreeOf image seen kind how object shape named → EntriesLive image seen kind how object (tree_in shape (site_of seen) named image) root level →
     n.expected ≡ TreeNode kind level → Sees image seen object shape named (child_place level pair) n → IsAt kind how (child_place level pair) n →
-    AreAllFrom (next image seen) (next image seen n) (map (step_naming object kind how root) (under (tree_in shape (site_of seen) named image) level (Some (child_in pair)) (child_place level pair)))
+    AreAllFrom (next image seen) (next image seen n) (map (step_naming object kind how root) (steps_in (under (tree_in shape (site_of seen) named image) level (child_place level pair))))
 child-lives {K} image seen kind how object shape named root level pair n tree rec e (inl h) is =
     let t : Tree K = tree_in shape (site_of seen) named image in
     let at : NodeAt = child_place level pair in
-    let all = rec (Some (child_in pair)) 0 (pairs_of shape h.node) in
-    subst (λ ns. AreAllFrom (next image seen) ns (map (step_naming object kind how root) (under t level (Some (child_in pair)) at))) (sym (next-child image seen kind how object shape named at n level tree is e h))
-    (subst (λ o. AreAllFrom (next image seen) (kids_of (Whole (object at.oid)) kind how level 0 (map child_in (pairs_of shape h.node))) (map (step_naming object kind how root) (through (value_of o) (λ node. flat_map (steps_part t level (Some (child_in pair))) (numbered 0 (pairs_of shape node)))))) (sym h.look) all)
+    let all = rec (child_in pair) (pair_of shape h.node) 0 (count_of h.node) in
+    subst (λ ns. AreAllFrom (next image seen) ns (map (step_naming object kind how root) (steps_in (under t level at)))) (sym (next-child image seen kind how object shape named at n level tree is e h))
+    (subst (λ o. AreAllFrom (next image seen) (kids_of (Whole (object at.oid)) kind how level 0 (map child_in (pairs_of shape h.node))) (map (step_naming object kind how root) (steps_in (through (value_of o) (λ node. flat_map (line_part t level at.oid) (entries_of shape node)))))) (sym h.look) all)
 child-lives {K} image seen kind how object shape named root level pair n tree rec e (inr h) is =
     let t : Tree K = tree_in shape (site_of seen) named image in
     let at : NodeAt = child_place level pair in
-    subst (λ ns. AreAllFrom (next image seen) ns (map (step_naming object kind how root) (under t level (Some (child_in pair)) at))) (sym h.leads)
-    (subst (λ o. AreAllFrom (next image seen) [] (map (step_naming object kind how root) (through (value_of o) (λ node. flat_map (steps_part t level (Some (child_in pair))) (numbered 0 (pairs_of shape node)))))) (sym h.look) (all-none (next image seen)))
+    subst (λ ns. AreAllFrom (next image seen) ns (map (step_naming object kind how root) (steps_in (under t level at)))) (sym h.leads)
+    (subst (λ o. AreAllFrom (next image seen) [] (map (step_naming object kind how root) (steps_in (through (value_of o) (λ node. flat_map (line_part t level at.oid) (entries_of shape node)))))) (sym h.look) (all-none (next image seen)))
 
 entries-live : {K : Type 0} (image : List ℕ) (seen : Seen) (kind : TreeKind) (how : LookUp) (object : ℕ → Object) (shape : Shape K) (named : ℕ → Option ℕ) → IsTreeOf image seen kind how object shape named → (root level : ℕ) →
     EntriesLive image seen kind how object (tree_in shape (site_of seen) named image) root level
-entries-live {K} image seen kind how object shape named tree root zero from i pairs =
-    subst (λ steps. AreAllFrom (next image seen) [] (map (step_naming object kind how root) steps)) (sym (no-steps (tree_in shape (site_of seen) named image) from i pairs)) (all-none (next image seen))
-entries-live image seen kind how object shape named tree root (suc level) from i [] = all-none (next image seen)
-entries-live {K} image seen kind how object shape named tree root (suc level) from i (pair ∷ pairs) =
+entries-live {K} image seen kind how object shape named tree root zero oid at i n =
+    subst (λ steps. AreAllFrom (next image seen) [] (map (step_naming object kind how root) steps)) (sym (no-steps (tree_in shape (site_of seen) named image) oid at (range_with_len i n))) (all-none (next image seen))
+entries-live image seen kind how object shape named tree root (suc level) oid at i zero = all-none (next image seen)
+entries-live {K} image seen kind how object shape named tree root (suc level) oid at i (suc n) =
     let t : Tree K = tree_in shape (site_of seen) named image in
-    let at : NodeAt = child_place level pair in
-    let me : Namer = Whole (object (node_id root from)) in
+    let pair : Pair = at i in
+    let place : NodeAt = child_place level pair in
+    let me : Namer = Whole (object oid) in
     let f : Step → Naming = step_naming object kind how root in
-    let n : Naming = naming me i (TreeNode kind level) how (child_in pair) in
-    let is : IsAt kind how at n = record { how_is = refl; oid_is = refl; expects = inr (level, (pair, (refl, refl))) } in
-    let below : List Step = under t level (Some (child_in pair)) at in
-    let others : List Step = flat_map (steps_part t (suc level) from) (numbered (suc i) pairs) in
-    let child = child-lives image seen kind how object shape named root level pair n tree (entries-live image seen kind how object shape named tree root level) refl (sees image seen kind how object shape named at n tree is) is in
-    let more = entries-live image seen kind how object shape named tree root (suc level) from (suc i) pairs in
-    subst (λ ns. AreAllFrom (next image seen) (n ∷ child_namings me kind how level (suc i) (map child_in pairs)) (n ∷ ns)) (sym (map-append f below others))
-    (all-both (next image seen) n (child_namings me kind how level (suc i) (map child_in pairs)) (n ∷ map f below) (map f others) (all-by (next image seen) n (map f below) child) more)
+    let m : Naming = naming me i (TreeNode kind level) how (child_in pair) in
+    let is : IsAt kind how place m = record { how_is = refl; oid_is = refl; expects = inr (level, (pair, (refl, refl))) } in
+    let below : List Item = under t level place in
+    let others : List Item = flat_map (line_part t (suc level) oid) (map (λ k. (k, at k)) (range_with_len (i + 1) n)) in
+    let kids : List ℕ = map child_in (map at (range_with_len (i + 1) n)) in
+    let child = child-lives image seen kind how object shape named root level pair m tree (entries-live image seen kind how object shape named tree root level) refl (sees image seen kind how object shape named place m tree is) is in
+    let add : i + 1 ≡ suc i = omega arith in
+    let more = subst (λ k. AreAllFrom (next image seen) (child_namings me kind how level k kids) (map f (steps_in others))) add (entries-live image seen kind how object shape named tree root (suc level) oid at (i + 1) n) in
+    let all : map f (step_in (item_at oid i (suc level) pair) ++ steps_in (below ++ others)) ≡ m ∷ (map f (steps_in below) ++ map f (steps_in others)) =
+    ap (λ ss. map f (ss ++ steps_in (below ++ others))) (one-step oid i level pair) ∙ ap (λ ns. m ∷ ns) (ap (map f) (flat_map-append step_in below others) ∙ map-append f (steps_in below) (steps_in others)) in
+    subst (AreAllFrom (next image seen) (m ∷ child_namings me kind how level (suc i) kids)) (sym all)
+    (all-both (next image seen) m (child_namings me kind how level (suc i) kids) (m ∷ map f (steps_in below)) (map f (steps_in others)) (all-by (next image seen) m (map f (steps_in below)) child) more)
 
 root-lives : {K : Type 0} (image : List ℕ) (seen : Seen) (kind : TreeKind) (object : ℕ → Object) (shape : Shape K) (named : ℕ → Option ℕ) (n : Naming) → IsTreeOf image seen kind n.how object shape named → n.expected ≡ TreeRoot kind →
     IsAt kind n.how (root_place n.oid) n → Sees image seen object shape named (root_place n.oid) n →
@@ -229,14 +245,14 @@ root-lives {K} image seen kind object shape named n tree e is (inl h) =
     let t : Tree K = tree_in shape (site_of seen) named image in
     let at : NodeAt = root_place n.oid in
     let f : Step → Naming = step_naming object kind n.how n.oid in
-    let all = entries-live image seen kind n.how object shape named tree n.oid (level_of h.node) None 0 (pairs_of shape h.node) in
+    let all = entries-live image seen kind n.how object shape named tree n.oid (level_of h.node) n.oid (pair_of shape h.node) 0 (count_of h.node) in
     subst (λ ns. AreAllFrom (next image seen) ns (map f (steps_of t n.oid))) (sym (next-root image seen kind n.how object shape named at n tree is e h))
-    (subst (λ o. AreAllFrom (next image seen) (kids_of (Whole (object at.oid)) kind n.how (level_of h.node) 0 (map child_in (pairs_of shape h.node))) (map f (through (value_of o) (λ node. flat_map (steps_part t (level_of node) None) (numbered 0 (pairs_of shape node)))))) (sym h.look) all)
+    (subst (λ o. AreAllFrom (next image seen) (kids_of (Whole (object at.oid)) kind n.how (level_of h.node) 0 (map child_in (pairs_of shape h.node))) (map f (steps_in (through (value_of o) (λ node. flat_map (line_part t (level_of node) n.oid) (entries_of shape node)))))) (sym h.look) all)
 root-lives {K} image seen kind object shape named n tree e is (inr h) =
     let t : Tree K = tree_in shape (site_of seen) named image in
     let f : Step → Naming = step_naming object kind n.how n.oid in
     subst (λ ns. AreAllFrom (next image seen) ns (map f (steps_of t n.oid))) (sym h.leads)
-    (subst (λ o. AreAllFrom (next image seen) [] (map f (through (value_of o) (λ node. flat_map (steps_part t (level_of node) None) (numbered 0 (pairs_of shape node)))))) (sym h.look) (all-none (next image seen)))
+    (subst (λ o. AreAllFrom (next image seen) [] (map f (steps_in (through (value_of o) (λ node. flat_map (line_part t (level_of node) n.oid) (entries_of shape node)))))) (sym h.look) (all-none (next image seen)))
 
 -- ---- the law
 pub tree-lives : {K : Type 0} (image : List ℕ) (seen : Seen) (kind : TreeKind) (object : ℕ → Object) (shape : Shape K) (named : ℕ → Option ℕ) (n : Naming) → IsTreeOf image seen kind n.how object shape named → n.expected ≡ TreeRoot kind →

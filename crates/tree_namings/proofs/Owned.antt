@@ -4,7 +4,7 @@ use Rattle.std.specs.List.{flat_map}
 use Rattle.apfs_model.specs.Apart.{Apart}
 use Rattle.apfs_model.specs.Lists.{In, through}
 use Rattle.apfs_model.proofs.Searches.{in-map, from-map}
-use Rattle.bt_steps.specs.declared.step.Step.{Step}
+use Rattle.bt_cursor.specs.declared.step.Step.{Step}
 use Rattle.nx_ring.specs.Checkpoint.{Seen, site_of}
 use Rattle.reach_rules.specs.Naming.{ByBlock, ByMapping, Object, Newest, InBlock, OfId, OfRecord, Namer, Whole, Kept, TreeKind, Naming}
 use Rattle.reach_rules.specs.Resolved.{Found}

@@ -12,7 +12,7 @@ use Rattle.bt_cursor.specs.Met.{nodes_of}
 use Rattle.bt_cursor.specs.Whole.{IsWhole}
 use Rattle.bt_cursor.specs.Faults as faults
 use Rattle.bt_cursor.specs.Gathered.{IsGatherFault}
-use Rattle.bt_steps.specs.declared.step.Step.{Step}
+use Rattle.bt_cursor.specs.declared.step.Step.{Step}
 use Rattle.bt_steps.specs.Noted.{IsWalked}
 use Rattle.nx_ring.specs.Checkpoint.{Seen, site_of}
 use Rattle.reach_rules.specs.Naming.{ByBlock, InBlock, TreeKind}

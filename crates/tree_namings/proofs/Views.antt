@@ -7,7 +7,7 @@ use Rattle.apfs_model.proofs.BoolTests.{clash}
 use Rattle.apfs_model.proofs.Searches.{in-append, in-map, from-map, from-flat_map}
 use Rattle.bt_node.specs.Entries.{Pair, bytes_in}
 use Rattle.bt_node.specs.Node.{level_of}
-use Rattle.bt_steps.specs.declared.step.Step.{Step}
+use Rattle.bt_cursor.specs.declared.step.Step.{Step}
 use Rattle.nx_block.specs.Super.{slots}
 use Rattle.nx_ring.specs.Checkpoint.{Seen, site_of}
 use Rattle.omap_map.specs.declared.records.OmapRecord.{OmapRecord}

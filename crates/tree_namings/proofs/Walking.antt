@@ -1,21 +1,21 @@
 -- What a walk over the tree of a named root tells.
 use Rattle.std.proofs.Common.{◌≡◌, ℕ, zero, suc, ◌+◌, ◌≤◌, ◌<◌, Bool, true, false, ◌||◌, List, [], ◌∷◌, ◌++◌, length, Option, Some, None, Result, Ok, Err, ◌⊎◌, inl, inr, refl, ap, sym, ◌∙◌, subst, arith, length-append}
-use Rattle.std.specs.Prelude.{is_none, slice_get}
+use Rattle.std.specs.Prelude.{is_none, slice_get, ◌==◌, if◌then◌else◌}
+use Rattle.std.proofs.lemmas.Bool.Decides.{nat_tests}
 use Rattle.std.specs.List.{flat_map, list_any}
-use Rattle.std.proofs.lemmas.List.Concat.{flat_map-append}
 use Rattle.apfs_model.specs.Lists.{through, value_of, passes}
 use Rattle.obj_base.specs.Stops.{Tells, IsFree, raised}
 use Rattle.obj_base.specs.declared.stop.Stop.{Stop}
 use Rattle.obj_base.specs.declared.stop.Stop.TheVariants.{Found as Fails, Unsupported, ReadFault, NoMemory}
 use Rattle.bt_node.specs.Shape.{Shape}
 use Rattle.bt_node.specs.Node.{level_of}
-use Rattle.bt_node.specs.Entries.{Pair, pairs_of}
+use Rattle.bt_node.specs.Entries.{Pair}
 use Rattle.bt_cursor.specs.declared.fault.WalkFault.{WalkFault}
 use Rattle.bt_cursor.specs.declared.fault.WalkFault.TheVariants as walks
 use Rattle.bt_cursor.specs.declared.gathering.GatherFault.{GatherFault}
 use Rattle.bt_cursor.specs.declared.gathering.GatherFault.TheVariants as gathers
-use Rattle.bt_cursor.specs.Tree.{Tree, root_place, child_place, node_at, tree_in}
-use Rattle.bt_cursor.specs.Line.{Item, line_of, line_part}
+use Rattle.bt_cursor.specs.Tree.{Tree, root_place, child_in, node_at, tree_in}
+use Rattle.bt_cursor.specs.Line.{Item, entries_of, line_of, line_part}
 use Rattle.bt_cursor.specs.Flat.{flat_of}
 use Rattle.bt_cursor.specs.Met.{places_under, places_in, places_of, has_node, nodes_of, is_walkable}
 use Rattle.bt_cursor.specs.Order.{out_of_order}
@@ -24,8 +24,8 @@ use Rattle.bt_cursor.specs.Whole.{IsWhole}
 use Rattle.bt_cursor.specs.Faults as faults
 use Rattle.bt_cursor.specs.Gathered.{IsGatherFault}
 use Rattle.bt_cursor.proofs.Walkables.{filter-all}
-use Rattle.bt_steps.specs.declared.step.Step.{Step}
-use Rattle.bt_steps.specs.Steps.{numbered, steps_part, steps_of}
+use Rattle.bt_cursor.specs.declared.step.Step.{Step}
+use Rattle.bt_cursor.specs.Steps.{step_in, steps_in, steps_of}
 use Rattle.bt_steps.specs.Noted.{IsWalked}
 use Rattle.nx_ring.specs.Checkpoint.{Seen, site_of}
 use Rattle.reach_rules.specs.Naming.{LookUp, Object, TreeKind, TreeRoot, Naming}
@@ -118,40 +118,19 @@ walked-tree {K} {image} {seen} {kind} {how} {object} {shape} {named} k root hold
 }
 
 -- ---- as many nodes as steps, and the root
-places-append : (xs ys : List Item) → places_in (xs ++ ys) ≡ places_in xs ++ places_in ys
-places-append xs ys = flat_map-append (λ (i : Item). places_under i.level i.pair) xs ys
+one-each : (level : ℕ) (pair : Pair) (s : Step) → length (if level == 0 then [] else s ∷ []) ≡ length (places_under level pair)
+one-each zero pair s = refl
+one-each (suc level) pair s = let upper : (suc level == 0) ≡ false = grind (arith, nat_tests) in ap (λ (b : Bool). length (if b then [] else s ∷ [])) upper
 
-abbrev Counts : {K : Type 0} → Tree K → ℕ → Type 0
-Counts tree level = (from : Option ℕ) (i : ℕ) (pairs : List Pair) → length (flat_map (steps_part tree level from) (numbered i pairs)) ≡ length (places_in (flat_map (line_part tree level) pairs))
-
-leaves-count : {K : Type 0} (tree : Tree K) → Counts tree zero
-leaves-count tree from i [] = refl
-leaves-count tree from i (pair ∷ pairs) = leaves-count tree from (suc i) pairs
-
-child-counts : {K : Type 0} (tree : Tree K) (level : ℕ) (from : Option ℕ) (o : Result (List ℕ) (Stop WalkFault)) → Counts tree level →
-    length (through (value_of o) (λ node. flat_map (steps_part tree level from) (numbered 0 (pairs_of tree.shape node)))) ≡ length (places_in (through (value_of o) (λ node. flat_map (line_part tree level) (pairs_of tree.shape node))))
-child-counts tree level from (Ok node) rec = rec from 0 (pairs_of tree.shape node)
-child-counts tree level from (Err stop) rec = refl
-
-entries-count : {K : Type 0} (tree : Tree K) (level : ℕ) → Counts tree level
-entries-count tree zero from i pairs = leaves-count tree from i pairs
-entries-count tree (suc level) from i [] = refl
-entries-count tree (suc level) from i (pair ∷ pairs) =
-    let a = steps_part tree (suc level) from (i, pair) in
-    let b = flat_map (steps_part tree (suc level) from) (numbered (suc i) pairs) in
-    let c = line_part tree (suc level) pair in
-    let d = flat_map (line_part tree (suc level)) pairs in
-    let one : length a ≡ length (places_in c) = ap suc (child-counts tree level _ (tree.look (child_place level pair)) (entries-count tree level)) in
-    let more : length b ≡ length (places_in d) = entries-count tree (suc level) from (suc i) pairs in
-    length-append a b ∙ (ap (λ n. n + length b) one ∙ (ap (λ n. length (places_in c) + n) more ∙ (sym (length-append (places_in c) (places_in d)) ∙ ap length (sym (places-append c d)))))
-
-steps-count : {K : Type 0} (tree : Tree K) (root : ℕ) (o : Result (List ℕ) (Stop WalkFault)) →
-    length (through (value_of o) (λ node. flat_map (steps_part tree (level_of node) None) (numbered 0 (pairs_of tree.shape node)))) ≡ length (places_in (through (value_of o) (λ node. flat_map (line_part tree (level_of node)) (pairs_of tree.shape node))))
-steps-count tree root (Ok node) = entries-count tree (level_of node) None 0 (pairs_of tree.shape node)
-steps-count tree root (Err stop) = refl
+steps-count : (items : List Item) → length (steps_in items) ≡ length (places_in items)
+steps-count [] = refl
+steps-count (item ∷ items) =
+    length-append (step_in item) (steps_in items)
+    ∙ (ap (λ n. n + length (steps_in items)) (one-each item.level item.pair (record { node = item.node; at = item.at; level = item.level; child = child_in item.pair }))
+    ∙ (ap (λ n. length (places_under item.level item.pair) + n) (steps-count items) ∙ sym (length-append (places_under item.level item.pair) (places_in items))))
 
 nodes-count : {K : Type 0} (tree : Tree K) (root : ℕ) → is_walkable tree root ≡ true → length (nodes_of tree root) ≡ suc (length (steps_of tree root))
-nodes-count tree root all = ap length (filter-all (has_node tree) (places_of tree root) all) ∙ ap suc (sym (steps-count tree root (tree.look (root_place root))))
+nodes-count tree root all = ap length (filter-all (has_node tree) (places_of tree root) all) ∙ ap suc (sym (steps-count (line_of tree root)))
 
 pub walked-reads : {K : Type 0} {image : List ℕ} {seen : Seen} {kind : TreeKind} {how : LookUp} {object : ℕ → Object} {shape : Shape K} {named : ℕ → Option ℕ} → IsKindOf image seen kind how object shape named →
     (root : ℕ) (holds : List Item → Type 0) (refuses : Item → Bool) (steps : List Step) (old new : ℕ) → IsWalked (tree_in shape (site_of seen) named image) root holds refuses steps → new ≤ old + length (nodes_of (tree_in shape (site_of seen) named image) root) → new ≤ old + suc (length steps)
@@ -193,7 +172,7 @@ gather-present {K} {image} {seen} {kind} {how} {object} {shape} {named} k root b
     let order : (item : ℕ) → Goal (Fails (gathers.Tree (walks.Order item))) = λ item there. elim here as (λ _. Tells (IsReachedFault image seen) (HasFeature image seen) (raised (of_gather (within_of how) (xid_of seen how) block) (Fails (gathers.Tree (walks.Order item))))) [
       | inl names ↦ record { kind = kind; naming = n; root = names; number = there.number; first = ap (misplaced image seen kind) r.oid_is ∙ (k.order root ∙ there.first); same = there.same }
       | inr none ↦
-          let z : ◌≡◌ {A = Option ℕ} None (Some there.number) = sym (ap (λ o. out_of_order shape (through o (λ node. flat_map (line_part tree (level_of node)) (pairs_of shape node)))) none) ∙ there.first in absurd (let q : ⊥ = cc in q)
+          let z : ◌≡◌ {A = Option ℕ} None (Some there.number) = sym (ap (λ o. out_of_order shape (through o (λ node. flat_map (line_part tree (level_of node) root) (entries_of shape node)))) none) ∙ there.first in absurd (let q : ⊥ = cc in q)
     ] in
     let count : Goal (Fails (gathers.Tree walks.Counts)) = λ there. elim here as (λ _. Tells (IsReachedFault image seen) (HasFeature image seen) (raised (of_gather (within_of how) (xid_of seen how) block) (Fails (gathers.Tree walks.Counts)))) [
       | inl names ↦ record { kind = kind; naming = n; root = names; wrong = ap (has_counts image seen kind) r.oid_is ∙ (k.count root ∙ there) }
@@ -213,7 +192,7 @@ gather-present {K} {image} {seen} {kind} {how} {object} {shape} {named} k root b
                 ∙ (ap (λ o. passes o (is_short kind)) (get-seam there.before there.after there.item) ∙ (sym (same there.item) ∙ there.refused));
             same = there.same;
           }
-      | inr none ↦ no-seam there.before there.after there.item (sym (ap (λ o. through o (λ node. flat_map (line_part tree (level_of node)) (pairs_of shape node))) none) ∙ there.split)
+      | inr none ↦ no-seam there.before there.after there.item (sym (ap (λ o. through o (λ node. flat_map (line_part tree (level_of node) root) (entries_of shape node))) none) ∙ there.split)
     ] in
     let go : (s : Stop GatherFault) → Goal s = λ s. elim s as (λ s. Goal s) [
       | Fails f ↦ elim f as (λ f. Goal (Fails f)) [

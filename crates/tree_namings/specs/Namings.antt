@@ -6,8 +6,8 @@ use Rattle.omap_map.specs.Maps.{record_tree, snapshot_tree}
 use Rattle.vol_view.specs.SnapRecords.{metadata_tree}
 use Rattle.ext_ref.specs.Ranges.{ext_tree}
 use Rattle.space_pool.specs.Queues.{queue_tree}
-use Rattle.bt_steps.specs.Steps.{steps_of}
-use Rattle.bt_steps.specs.declared.step.Step.{Step}
+use Rattle.bt_cursor.specs.Steps.{steps_of}
+use Rattle.bt_cursor.specs.declared.step.Step.{Step}
 use Rattle.reach_rules.specs.Naming.{LookUp, Object, Whole, TreeKind, MapRecords, MapSnapshots, ExtentRefs, SnapMetadata, FreeQueue, Files, TreeNode, Naming, naming}
 use Rattle.reach_rules.specs.Resolved.{Found, resolved}
 use Rattle.reach_rules.specs.Next.{next}
@@ -28,14 +28,9 @@ abbrev pub level_below : ℕ → ℕ
 level_below zero = zero
 level_below (suc level) = level
 
--- the id of the node from which a step is taken, none standing for the root
-abbrev pub node_id : ℕ → Option ℕ → ℕ
-node_id root None = root
-node_id root (Some oid) = oid
-
 -- a step names its child; the namer is the object of the node from which it is taken
 abbrev pub step_naming : (ℕ → Object) → TreeKind → LookUp → ℕ → Step → Naming
-step_naming object kind how root step = naming (Whole (object (node_id root step.node))) step.at (TreeNode kind (level_below step.level)) how step.child
+step_naming object kind how root step = naming (Whole (object step.node)) step.at (TreeNode kind (level_below step.level)) how step.child
 
 -- the namings of a tree by its steps, from that of its root on
 abbrev pub tree_namings : (ℕ → Object) → TreeKind → Naming → List Step → List Naming

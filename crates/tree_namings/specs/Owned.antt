@@ -2,12 +2,12 @@
 use Rattle.std.specs.Prelude.{◌≡◌, ℕ, List, [], ◌∷◌, ◌++◌, map, flat_map}
 use Rattle.apfs_model.specs.Apart.{Apart}
 use Rattle.apfs_model.specs.Lists.{In}
-use Rattle.bt_steps.specs.declared.step.Step.{Step}
+use Rattle.bt_cursor.specs.declared.step.Step.{Step}
 use Rattle.nx_ring.specs.Checkpoint.{Seen}
 use Rattle.reach_rules.specs.Naming.{ByBlock, ByMapping, InBlock, OfId, TreeKind, Naming}
 use Rattle.reach_rules.specs.Owners.{Owner, owner, Named, object_owners, told_owners, owners_through}
 use Rattle.reach_rules.specs.PoolOwners.{pool_object_owners, pool_told_owners, pool_owners_through}
-use Rattle.tree_namings.specs.Namings.{node_id, step_naming, IsPlainNaming}
+use Rattle.tree_namings.specs.Namings.{step_naming, IsPlainNaming}
 use Rattle.tree_namings.specs.Tells.{objects_through}
 
 -- the namings of the nodes below a root, by the steps of its tree
@@ -28,7 +28,7 @@ node_owner kind root step = owner (Named (step_naming InBlock kind ByBlock root 
 
 -- by what a step is told apart: the node that names, and the number of the entry
 abbrev pub step_key : ℕ → Step → ℕ × ℕ
-step_key root step = (node_id root step.node, step.at)
+step_key root step = (step.node, step.at)
 
 -- what plain namings tell of
 pub record PlainOwned (image : List ℕ) (seen : Seen) : Type 0 where

@@ -2,7 +2,7 @@
 use Rattle.std.specs.Prelude.{◌≡◌, ◌⊎◌, ℕ, Bool, true, false, List, [], ◌∷◌, ◌++◌, map, flat_map, Some}
 use Rattle.apfs_model.specs.Lists.{In, Lists}
 use Rattle.bt_node.specs.Entries.{Pair}
-use Rattle.bt_steps.specs.declared.step.Step.{Step}
+use Rattle.bt_cursor.specs.declared.step.Step.{Step}
 use Rattle.nx_ring.specs.Checkpoint.{Seen}
 use Rattle.omap_map.specs.declared.records.OmapRecord.{OmapRecord}
 use Rattle.reach_rules.specs.Naming.{ViewAt, LookUp, ByBlock, ByMapping, InContainer, InView, Object, Newest, OfRecord, Namer, TreeKind, Files, Expected, ExtendedMetadata, TreeRoot, TreeNode, Naming}

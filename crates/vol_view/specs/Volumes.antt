@@ -26,7 +26,7 @@ metadata_of image site head = metadata_pairs image site (field.snaps_root_of (su
 
 -- a map in which nothing is found
 abbrev pub empty_map : Contents
-empty_map = record { records = []; snapshots = []; snap_count = 0; blocks = [] }
+empty_map = record { records = []; snapshots = []; snap_count = 0; block = 0; tree = 0; snap_tree = 0; steps = []; snap_steps = [] }
 
 -- what the map in a block has; through a map that isn't whole nothing is found
 unfoldable pub map_or_empty : List ℕ → Site → ℕ → Contents

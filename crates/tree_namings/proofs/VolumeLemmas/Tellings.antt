@@ -7,7 +7,7 @@ use Rattle.apfs_model.proofs.BoolTests.{left-true, all-in}
 use Rattle.obj_base.specs.declared.site.Site.{Site}
 use Rattle.bt_node.specs.Entries.{Pair, bytes_in}
 use Rattle.nx_ring.specs.Checkpoint.{Seen, site_of}
-use Rattle.omap_map.specs.Maps.{contents_of, map_blocks, map_records, is_whole_map}
+use Rattle.omap_map.specs.Maps.{contents_of, map_records, is_whole_map}
 use Rattle.fs_name.specs.Normal.{names_of, are_hashed}
 use Rattle.vol_view.specs.Fields as field
 use Rattle.vol_view.specs.SnapRecords.{snapshot_pairs, name_pairs, is_snapshot_long, is_snapshot_readable, is_name_readable, snap_name_len, snap_name_bytes}
@@ -48,9 +48,9 @@ snapshots-same image site slot bytes i (pair ∷ pairs) long =
     ∙ ap (λ b. (if b then here else []) ++ snapshots_namings slot bytes (suc i) pairs) (sym (long pair (inl refl)))
 
 -- the first block of a whole map is its own
-first-block : (image : List ℕ) (site : Site) (block : ℕ) → is_whole_map image site block ≡ true → slice_index (map_or_empty image site block).blocks 0 ≡ block
-unfolding map_or_empty map_blocks
-first-block image site block whole = ap (λ b. slice_index (if b then contents_of image site block else empty_map).blocks 0) whole
+first-block : (image : List ℕ) (site : Site) (block : ℕ) → is_whole_map image site block ≡ true → (map_or_empty image site block).block ≡ block
+unfolding map_or_empty
+first-block image site block whole = ap (λ b. (if b then contents_of image site block else empty_map).block) whole
 
 whole-records : (image : List ℕ) (site : Site) (block : ℕ) → is_whole_map image site block ≡ true → (map_or_empty image site block).records ≡ map_records image site block
 unfolding map_or_empty

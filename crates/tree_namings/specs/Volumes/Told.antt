@@ -14,7 +14,7 @@ head_naming head = naming (Whole Newest) (184 + 8 * head.slot) (VolumeIn head.sl
 
 -- the block of a loaded volume's object map: the first of those in which the map lies
 abbrev pub map_of : Loaded → ℕ
-map_of volume = slice_index volume.omap.blocks 0
+map_of volume = volume.omap.block
 
 -- the live view of a volume, by its slot, the block of its map, and whether its names are hashed
 abbrev pub live_at : Seen → ℕ → ℕ → Bool → ViewAt

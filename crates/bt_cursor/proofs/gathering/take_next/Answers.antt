@@ -27,14 +27,14 @@ returns-then-not-more-clause-taken g c start had =
 
 pub keep-requires-clause-child : goal.keep-requires-clause-child
 keep-requires-clause-child g c =
-    c.item.ensures.child ∙ ap child_id (sym (shown-is c.item.result.level c.item.result.pair.key_bytes.now (option_map (λ value. value.now) c.item.result.pair.value) (item_of c.next.new.self) c.item.ensures.level c.item.ensures.key_bytes c.item.ensures.value))
+    c.item.ensures.child ∙ ap child_id (sym (shown-is c.item.result.node c.item.result.at c.item.result.level c.item.result.pair.key_bytes.now (option_map (λ value. value.now) c.item.result.pair.value) (item_of c.next.new.self) c.item.ensures.node c.item.ensures.at c.item.ensures.level c.item.ensures.key_bytes c.item.ensures.value))
 
 pub returns-clause-taken : goal.returns-clause-taken
 returns-clause-taken g c start had =
     let old = c.args.liner.now in
     let new = c.next.new.self in
-    let item = shown c.item.result.level c.item.result.pair.key_bytes.now (option_map (λ value. value.now) c.item.result.pair.value) in
-    let same : item ≡ item_of new = shown-is c.item.result.level c.item.result.pair.key_bytes.now (option_map (λ value. value.now) c.item.result.pair.value) (item_of new) c.item.ensures.level c.item.ensures.key_bytes c.item.ensures.value in
+    let item = shown c.item.result.node c.item.result.at c.item.result.level c.item.result.pair.key_bytes.now (option_map (λ value. value.now) c.item.result.pair.value) in
+    let same : item ≡ item_of new = shown-is c.item.result.node c.item.result.at c.item.result.level c.item.result.pair.key_bytes.now (option_map (λ value. value.now) c.item.result.pair.value) (item_of new) c.item.ensures.node c.item.ensures.at c.item.ensures.level c.item.ensures.key_bytes c.item.ensures.value in
     let on : c.in-Ok.more ≡ true = search rules in
     let kept : c.in_ok-kept.kept ≡ true = search rules in
     let right = not-refused c.in_ok-kept.kept (g.P.Keeper.refuses item) c.in_ok-kept.ensures.refused kept in
@@ -50,8 +50,8 @@ pub returns-then-not-kept-clause-present : goal.returns-then-not-kept-clause-pre
 returns-then-not-kept-clause-present g c start had image told =
     let old = c.args.liner.now in
     let new = c.next.new.self in
-    let item = shown c.item.result.level c.item.result.pair.key_bytes.now (option_map (λ value. value.now) c.item.result.pair.value) in
-    let same : item ≡ item_of new = shown-is c.item.result.level c.item.result.pair.key_bytes.now (option_map (λ value. value.now) c.item.result.pair.value) (item_of new) c.item.ensures.level c.item.ensures.key_bytes c.item.ensures.value in
+    let item = shown c.item.result.node c.item.result.at c.item.result.level c.item.result.pair.key_bytes.now (option_map (λ value. value.now) c.item.result.pair.value) in
+    let same : item ≡ item_of new = shown-is c.item.result.node c.item.result.at c.item.result.level c.item.result.pair.key_bytes.now (option_map (λ value. value.now) c.item.result.pair.value) (item_of new) c.item.ensures.node c.item.ensures.at c.item.ensures.level c.item.ensures.key_bytes c.item.ensures.value in
     let on : c.in-Ok.more ≡ true = search rules in
     let not_kept : c.in_ok-kept.kept ≡ false = search rules in
     let wrong = not-kept c.in_ok-kept.kept (g.P.Keeper.refuses item) c.in_ok-kept.ensures.refused not_kept in

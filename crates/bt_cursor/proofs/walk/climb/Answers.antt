@@ -29,8 +29,8 @@ returns-then-not-up-clause-same g c look =
     let tree = tree_by g.K.TreeKey.shape look in
     let last : c.up.new.way.last ≡ c.climb.way.last = search rules in
     let above : c.up.new.way.above.items ≡ c.climb.way.above.items = search rules in
-    ap (λ (s : Step). line_from tree s.block.items s.next ++ rest tree c.up.new.way.above.items) last
-    ∙ (ap (λ ss. line_from tree c.climb.way.last.block.items c.climb.way.last.next ++ rest tree ss) above ∙ c.climb.invariant.same look)
+    ap (λ (s : Step). line_from tree s.at.oid s.block.items s.next ++ rest tree c.up.new.way.above.items) last
+    ∙ (ap (λ ss. line_from tree c.climb.way.last.at.oid c.climb.way.last.block.items c.climb.way.last.next ++ rest tree ss) above ∙ c.climb.invariant.same look)
 
 pub returns-then-not-up-clause-end : goal.returns-then-not-up-clause-end
 returns-then-not-up-clause-end g c not_up look =
@@ -38,16 +38,16 @@ returns-then-not-up-clause-end g c not_up look =
     let past : count_of c.climb.way.last.block.items ≤ c.climb.way.last.next = omega arith in
     let last : c.up.new.way.last ≡ c.climb.way.last = search rules in
     let none : c.up.new.way.above.items ≡ [] = search rules in
-    ap (λ (s : Step). line_from tree s.block.items s.next ++ rest tree c.up.new.way.above.items) last
-    ∙ (ap (λ xs. xs ++ rest tree c.up.new.way.above.items) (line_from_end tree c.climb.way.last.block.items c.climb.way.last.next past) ∙ ap (rest tree) none)
+    ap (λ (s : Step). line_from tree s.at.oid s.block.items s.next ++ rest tree c.up.new.way.above.items) last
+    ∙ (ap (λ xs. xs ++ rest tree c.up.new.way.above.items) (line_from_end tree c.climb.way.last.at.oid c.climb.way.last.block.items c.climb.way.last.next past) ∙ ap (rest tree) none)
 
 pub returns-then-not-up-clause-same_gapped : goal.returns-then-not-up-clause-same_gapped
 returns-then-not-up-clause-same_gapped g c look =
     let tree = tree_by g.K.TreeKey.shape look in
     let last : c.up.new.way.last ≡ c.climb.way.last = search rules in
     let above : c.up.new.way.above.items ≡ c.climb.way.above.items = search rules in
-    ap (λ (s : Step). gapped_from tree s.block.items s.next ++ gapped_rest tree c.up.new.way.above.items) last
-    ∙ (ap (λ ss. gapped_from tree c.climb.way.last.block.items c.climb.way.last.next ++ gapped_rest tree ss) above ∙ c.climb.invariant.same_gapped look)
+    ap (λ (s : Step). gapped_from tree s.at.oid s.block.items s.next ++ gapped_rest tree c.up.new.way.above.items) last
+    ∙ (ap (λ ss. gapped_from tree c.climb.way.last.at.oid c.climb.way.last.block.items c.climb.way.last.next ++ gapped_rest tree ss) above ∙ c.climb.invariant.same_gapped look)
 
 pub returns-then-not-up-clause-end_gapped : goal.returns-then-not-up-clause-end_gapped
 returns-then-not-up-clause-end_gapped g c not_up look =
@@ -55,5 +55,5 @@ returns-then-not-up-clause-end_gapped g c not_up look =
     let past : count_of c.climb.way.last.block.items ≤ c.climb.way.last.next = omega arith in
     let last : c.up.new.way.last ≡ c.climb.way.last = search rules in
     let none : c.up.new.way.above.items ≡ [] = search rules in
-    ap (λ (s : Step). gapped_from tree s.block.items s.next ++ gapped_rest tree c.up.new.way.above.items) last
-    ∙ (ap (λ xs. xs ++ gapped_rest tree c.up.new.way.above.items) (gapped_end tree c.climb.way.last.block.items c.climb.way.last.next past) ∙ ap (gapped_rest tree) none)
+    ap (λ (s : Step). gapped_from tree s.at.oid s.block.items s.next ++ gapped_rest tree c.up.new.way.above.items) last
+    ∙ (ap (λ xs. xs ++ gapped_rest tree c.up.new.way.above.items) (gapped_end tree c.climb.way.last.at.oid c.climb.way.last.block.items c.climb.way.last.next past) ∙ ap (gapped_rest tree) none)

@@ -1,5 +1,6 @@
 use Rattle.std.proofs.Common.{◌≡◌, suc, ◌+◌, ◌-◌, ◌∷◌, ◌++◌, Ok, refl, ap, sym, ◌∙◌, arith}
 use Rattle.bt_node.specs.Node.{level_of}
+use Rattle.bt_node.specs.declared.node.NodeAt.{NodeAt}
 use Rattle.bt_cursor.specs.Tree.{tree_in}
 use Rattle.bt_node.specs.Entries.{pair_of}
 use Rattle.bt_cursor.specs.Line.{Item, item_at}
@@ -17,16 +18,16 @@ returns-in-Ok-clause-passed g c image told =
     let lower = c.enter.new.way.last in
     let high : level_of last.block.items ≡ suc (level_of last.block.items - 1) = omega arith in
     let level : level_of lower.block.items + 1 ≡ level_of last.block.items = c.in-Ok.ensures.level in
-    let item : Gapped Item = Ok (item_at (level_of last.block.items) (pair_of tree.shape last.block.items last.next)) in
-    gapped-down tree c.args.way.now.above.items last (record last { next = last.next + 1 }) lower (level_of last.block.items - 1) last.next c.requires.left high refl refl (c.in-Ok.ensures.found image told) (omega arith) c.in-Ok.ensures.first
-    ∙ sym (ap (λ ss. item ∷ (gapped_from tree lower.block.items lower.next ++ gapped_rest tree ss)) c.in-Ok.ensures.above)
+    let item : Gapped Item = Ok (item_at last.at.oid last.next (level_of last.block.items) (pair_of tree.shape last.block.items last.next)) in
+    gapped-down tree c.args.way.now.above.items last (record last { next = last.next + 1 }) lower (level_of last.block.items - 1) last.next c.requires.left high refl refl refl (c.in-Ok.ensures.found image told) (omega arith) (ap (λ (a : NodeAt). a.oid) c.in-Ok.ensures.at) c.in-Ok.ensures.first
+    ∙ sym (ap (λ ss. item ∷ (gapped_from tree lower.at.oid lower.block.items lower.next ++ gapped_rest tree ss)) c.in-Ok.ensures.above)
 
 pub returns-in-Err-clause-stops : goal.returns-in-Err-clause-stops
 returns-in-Err-clause-stops g c image told =
     let tree = tree_in g.K.TreeKey.shape c.args.site.now (g.N.Namer.named c.args.namer.now) image in
     let last = c.args.way.now.last in
     let high : level_of last.block.items ≡ suc (level_of last.block.items - 1) = omega arith in
-    stops-at tree c.args.way.now.above.items last.block.items (level_of last.block.items - 1) last.next c.in-Err.stop c.requires.left high (c.in-Err.ensures.found image told)
+    stops-at tree c.args.way.now.above.items last.at.oid last.block.items (level_of last.block.items - 1) last.next c.in-Err.stop c.requires.left high (c.in-Err.ensures.found image told)
 
 pub returns-in-Ok-clause-within : goal.returns-in-Ok-clause-within
 returns-in-Ok-clause-within g c image told root within =

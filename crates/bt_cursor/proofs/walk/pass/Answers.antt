@@ -34,10 +34,10 @@ descend-preserved g c =
       way = c.in_ok-down.ensures.way;
       left = c.in_ok-down.ensures.more;
       same = λ image told.
-          sym (ap all_flat (c.in_ok-down.ensures.passed image (search rules)) ∙ flat-inner (level_of last.block.items) pair (gapped_ahead (tree image) c.down.new.way) upper)
+          sym (ap all_flat (c.in_ok-down.ensures.passed image (search rules)) ∙ flat-inner last.at.oid last.next (level_of last.block.items) pair (gapped_ahead (tree image) c.down.new.way) upper)
           ∙ c.descend.invariant.same image told;
       reads = λ image told.
-          let one = places-down (tree image) c.descend.way c.down.new.way (level_of last.block.items) pair upper (c.in_ok-down.ensures.passed image (search rules)) in
+          let one = places-down (tree image) c.descend.way c.down.new.way last.at.oid last.next (level_of last.block.items) pair upper (c.in_ok-down.ensures.passed image (search rules)) in
           omega (arith, one, c.in_ok-down.ensures.reads, c.descend.invariant.reads image told);
       few = omega (arith, c.in_ok-down.ensures.reads, c.in_ok-down.ensures.level, c.descend.invariant.few);
       depth = c.in_ok-down.ensures.depth ∙ c.descend.invariant.depth;
@@ -51,14 +51,14 @@ returns-clause-moved g c image told =
     let tree = tree_in g.K.TreeKey.shape c.args.site.now (g.N.Namer.named c.args.namer.now) image in
     let last = c.descend.way.last in
     let leaf : level_of last.block.items ≡ 0 = omega arith in
-    sym (c.descend.invariant.same image told) ∙ flat-pass tree c.descend.way.above.items last.block.items last.next (last.next + 1 - 1) c.descend.invariant.left leaf (omega arith)
+    sym (c.descend.invariant.same image told) ∙ flat-pass tree c.descend.way.above.items last.at.oid last.block.items last.next (last.next + 1 - 1) c.descend.invariant.left leaf (omega arith)
 
 pub returns-clause-unread : goal.returns-clause-unread
 returns-clause-unread g c image told =
     let tree = tree_in g.K.TreeKey.shape c.args.site.now (g.N.Namer.named c.args.namer.now) image in
     let last = c.descend.way.last in
     let leaf : level_of last.block.items ≡ 0 = omega arith in
-    omega (arith, places-pass tree c.descend.way.above.items last.block.items last.next c.descend.invariant.left leaf, c.descend.invariant.reads image told)
+    omega (arith, places-pass tree c.descend.way.above.items last.at.oid last.block.items last.next c.descend.invariant.left leaf, c.descend.invariant.reads image told)
 
 pub returns-clause-within : goal.returns-clause-within
 returns-clause-within g c image told root within =

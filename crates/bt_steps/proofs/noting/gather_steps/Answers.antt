@@ -1,17 +1,9 @@
-use Rattle.std.proofs.Common.{◌∙◌}
-use Rattle.bt_cursor.specs.Tree.{tree_in}
-use Rattle.bt_steps.proofs.Laws.{noted-steps}
-use Rattle.bt_steps.proofs.Few.{tree-numbered}
 use Rattle.bt_steps.proofs.noting.gather_steps.Goals as goal
 
 pub returns-in-Ok-clause-clear : goal.returns-in-Ok-clause-clear
 returns-in-Ok-clause-clear g c image told =
-    let tree = tree_in g.K.TreeKey.shape c.args.site.now (g.N.Namer.named c.args.namer) image in
     let all = c.in-Ok.ensures.clear image told in
-    record {
-      gathered = record { whole = all.whole; held = all.held.held; none_refused = all.none_refused };
-      steps_are = all.held.steps_are ∙ noted-steps tree c.args.root (tree-numbered g.K.TreeKey.shape c.args.site.now (g.N.Namer.named c.args.namer) image c.requires.site.accepted);
-    }
+    record { gathered = record { whole = all.whole; held = all.held.held; none_refused = all.none_refused }; steps_are = all.held.steps_are }
 
 pub returns-in-Ok-clause-ordered : goal.returns-in-Ok-clause-ordered
 returns-in-Ok-clause-ordered g c = let all = c.in-Ok.ensures.ordered in record { items = all.items; held = all.held.held; ordered = all.ordered }

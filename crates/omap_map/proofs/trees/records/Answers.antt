@@ -9,11 +9,11 @@ use Rattle.omap_map.proofs.trees.records.Goals as goal
 
 pub returns-in-Ok-clause-clear : goal.returns-in-Ok-clause-clear
 returns-in-Ok-clause-clear g c image told =
-    gathered-tree records_of (record_tree image c.args.site.now) c.args.root c.in-Ok.kept.records.items c.in-Ok.kept.blocks.items (g.S.BlockSource.reads c.args.src.now) (g.S.BlockSource.reads c.gather.new.src)
+    gathered-tree records_of (record_tree image c.args.site.now) c.args.root c.in-Ok.kept.records.items c.in-Ok.kept.steps.items (g.S.BlockSource.reads c.args.src.now) (g.S.BlockSource.reads c.gather.new.src)
     (c.in-Ok.ensures.clear image told) (c.in-Ok.ensures.reads image told)
 
 pub returns-in-Ok-clause-ascending : goal.returns-in-Ok-clause-ascending
-returns-in-Ok-clause-ascending g c = gathered-ascending c.in-Ok.kept.records.items c.in-Ok.kept.blocks.items c.in-Ok.ensures.ordered
+returns-in-Ok-clause-ascending g c = gathered-ascending c.in-Ok.kept.records.items c.in-Ok.kept.steps.items c.in-Ok.ensures.ordered
 
 pub returns-in-Err-clause-present : goal.returns-in-Err-clause-present
 returns-in-Err-clause-present g c image told = says_tells (record_tree image c.args.site.now) c.args.root c.in-Err.stop c.raise.result c.raise.ensures (c.in-Err.ensures.present image told)

@@ -9,7 +9,7 @@ use Rattle.omap_map.proofs.trees.snapshots.Goals as goal
 
 pub returns-in-Ok-clause-clear : goal.returns-in-Ok-clause-clear
 returns-in-Ok-clause-clear g c image told =
-    gathered-tree snapshots_of (snapshot_tree image c.args.site.now) c.args.root c.in-Ok.kept.snapshots.items c.in-Ok.kept.blocks.items (g.S.BlockSource.reads c.args.src.now) (g.S.BlockSource.reads c.gather.new.src)
+    gathered-tree snapshots_of (snapshot_tree image c.args.site.now) c.args.root c.in-Ok.kept.snapshots.items c.in-Ok.kept.steps.items (g.S.BlockSource.reads c.args.src.now) (g.S.BlockSource.reads c.gather.new.src)
     (c.in-Ok.ensures.clear image told) (c.in-Ok.ensures.reads image told)
 
 pub returns-in-Err-clause-present : goal.returns-in-Err-clause-present

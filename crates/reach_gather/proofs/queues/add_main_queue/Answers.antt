@@ -1,5 +1,5 @@
 use Rattle.std.proofs.Common.{◌≡◌, ◌∙◌, ◌++◌, map, ap, refl, List}
-use Rattle.bt_steps.specs.declared.step.Step.{Step}
+use Rattle.bt_cursor.specs.declared.step.Step.{Step}
 use Rattle.space_pool.specs.declared.entry.Queue.TheVariants.{Main}
 use Rattle.reach_rules.specs.Naming.{FreeQueue, Naming, ByMapping, OfId}
 use Rattle.reach_rules.specs.Owners.{told_from, queued_ranges_of}

@@ -1,5 +1,5 @@
 use Rattle.std.proofs.Common.{◌≡◌, ◌∙◌, ◌++◌, map, ap, refl, List}
-use Rattle.bt_steps.specs.declared.step.Step.{Step}
+use Rattle.bt_cursor.specs.declared.step.Step.{Step}
 use Rattle.reach_rules.specs.Naming.{MapRecords, Naming, ByBlock, InBlock}
 use Rattle.reach_gather.specs.Named.{naming_of, expected_of, look_of}
 use Rattle.reach_gather.specs.Steps.{block_steps, block_owner}

@@ -1,4 +1,4 @@
-use Rattle.std.proofs.Common.{◌≡◌, Ok, ap, ◌∙◌}
+use Rattle.std.proofs.Common.{◌≡◌, Ok, ap, sym, ◌∙◌}
 use Rattle.bt_cursor.specs.Tree.{tree_in, look_in, root_place}
 use Rattle.bt_cursor.specs.Stack.{IsIn, bottom}
 use Rattle.bt_cursor.proofs.Suffixes.{way-start}
@@ -12,4 +12,5 @@ returns-clause-left g c image on =
     let way = c.back.new.way in
     let within : IsIn tree self.root way.above.items way.last = c.back.ensures.within look self.root on in
     let base : look (root_place self.root) ≡ Ok way.last.block.items = within.base ∙ ap (λ ss. Ok (bottom ss way.last).block.items) c.back.ensures.above in
-    way-start tree self.root way.above.items way.last c.back.ensures.above c.back.ensures.next base
+    let at : way.last.at ≡ root_place self.root = ap (λ ss. (bottom ss way.last).at) (sym c.back.ensures.above) ∙ within.base_at in
+    way-start tree self.root way.above.items way.last c.back.ensures.above c.back.ensures.next at base

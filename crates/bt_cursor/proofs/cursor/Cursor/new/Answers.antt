@@ -17,7 +17,7 @@ returns-in-Ok-clause-within g c image told =
 pub returns-in-Ok-clause-left : goal.returns-in-Ok-clause-left
 returns-in-Ok-clause-left g c image told =
     way-start (tree_in g.K.TreeKey.shape c.args.site (g.N.Namer.named c.args.namer) image) c.args.root c.in-Ok.way.above.items c.in-Ok.way.last
-    c.in-Ok.ensures.start.above c.in-Ok.ensures.start.next (c.in-Ok.ensures.found image told)
+    c.in-Ok.ensures.start.above c.in-Ok.ensures.start.next c.in-Ok.ensures.at (c.in-Ok.ensures.found image told)
 
 pub returns-in-Err-clause-exact : goal.returns-in-Err-clause-exact
 returns-in-Err-clause-exact g c image told walkable =

@@ -18,7 +18,7 @@ returns-in-Ok-clause-passed g c image told =
     let found = at.found image told in
     record {
       within = IsIn-start tree c.args.root way.above.items way.last at.start.above at.at found;
-      gone = gone-start tree c.args.root node _ c.nothing_seen-seen.result _ found (sym (line-start tree c.args.root way.above.items way.last at.start.above at.start.next found))
+      gone = gone-start tree c.args.root node _ c.nothing_seen-seen.result _ found (sym (line-start tree c.args.root way.above.items way.last at.start.above at.start.next at.at found))
           (c.nothing_seen-seen.ensures ∙ (ap (λ n. seen_start n c.info.result.node_count) c.info.ensures.keys ∙ ap (seen_start (key_count_of node)) c.info.ensures.nodes));
     }
 

@@ -21,10 +21,10 @@ returns-clause-moved g c image told =
     let node = last.block.items in
     let low : last.next < count_of node = search rules in
     let back : last.next + 1 - 1 ≡ last.next = omega arith in
-    let same = next_read shape self.seen (level_of node) c.level-high.result (pair_of shape node last.next) c.key_at-key.result c.key_at-key.ensures c.level-high.ensures in
-    let both = seen_some shape self.seen c.see.new.seen (item_at (level_of node) (pair_of shape node last.next)) (sym same ∙ c.see.ensures.seen (search rules)) in (
-      sym (c.in_ok-fall.ensures.same image told) ∙ (sym (c.climb.ensures.same look) ∙ line-step tree node last.next c.climb.new.way.above.items (nat_lt 0 c.level-high.result) low (ap (nat_lt 0) c.level-high.ensures)),
-      subst (λ k. (is_out shape self.seen (item_at (level_of node) (pair_of shape node k)) ≡ false) × (c.see.new.seen ≡ seen_item shape self.seen (item_at (level_of node) (pair_of shape node k)))) (sym back) both,
+    let same = next_read shape self.seen last.at.oid last.next (level_of node) c.level-high.result (pair_of shape node last.next) c.key_at-key.result c.key_at-key.ensures c.level-high.ensures in
+    let both = seen_some shape self.seen c.see.new.seen (item_at last.at.oid last.next (level_of node) (pair_of shape node last.next)) (sym same ∙ c.see.ensures.seen (search rules)) in (
+      sym (c.in_ok-fall.ensures.same image told) ∙ (sym (c.climb.ensures.same look) ∙ line-step tree last.at.oid node last.next c.climb.new.way.above.items (nat_lt 0 c.level-high.result) low (ap (nat_lt 0) c.level-high.ensures)),
+      subst (λ k. (is_out shape self.seen (item_at last.at.oid k (level_of node) (pair_of shape node k)) ≡ false) × (c.see.new.seen ≡ seen_item shape self.seen (item_at last.at.oid k (level_of node) (pair_of shape node k)))) (sym back) both,
     )
 
 pub returns-clause-seen : goal.returns-clause-seen
@@ -34,9 +34,9 @@ returns-clause-seen g c =
     let last = c.climb.new.way.last in
     let node = last.block.items in
     let back : last.next + 1 - 1 ≡ last.next = omega arith in
-    let same = next_read shape self.seen (level_of node) c.level-high.result (pair_of shape node last.next) c.key_at-key.result c.key_at-key.ensures c.level-high.ensures in
-    let both = seen_some shape self.seen c.see.new.seen (item_at (level_of node) (pair_of shape node last.next)) (sym same ∙ c.see.ensures.seen (search rules)) in
-    subst (λ k. (is_out shape self.seen (item_at (level_of node) (pair_of shape node k)) ≡ false) × (c.see.new.seen ≡ seen_item shape self.seen (item_at (level_of node) (pair_of shape node k)))) (sym back) both
+    let same = next_read shape self.seen last.at.oid last.next (level_of node) c.level-high.result (pair_of shape node last.next) c.key_at-key.result c.key_at-key.ensures c.level-high.ensures in
+    let both = seen_some shape self.seen c.see.new.seen (item_at last.at.oid last.next (level_of node) (pair_of shape node last.next)) (sym same ∙ c.see.ensures.seen (search rules)) in
+    subst (λ k. (is_out shape self.seen (item_at last.at.oid k (level_of node) (pair_of shape node k)) ≡ false) × (c.see.new.seen ≡ seen_item shape self.seen (item_at last.at.oid k (level_of node) (pair_of shape node k)))) (sym back) both
 
 pub returns-then-not-see-clause-present : goal.returns-then-not-see-clause-present
 returns-then-not-see-clause-present g c image told within =
@@ -48,10 +48,10 @@ returns-then-not-see-clause-present g c image told within =
     let node = last.block.items in
     let low : last.next < count_of node = search rules in
     let back : last.next + 1 - 1 ≡ last.next = omega arith in
-    let same = next_read shape self.seen (level_of node) c.level-high.result (pair_of shape node last.next) c.key_at-key.result c.key_at-key.ensures c.level-high.ensures in
-    let out = seen_none shape self.seen (item_at (level_of node) (pair_of shape node last.next)) (sym same ∙ c.see.ensures.out (search rules)) in
-    let e = sym (c.in_ok-fall.ensures.same image told) ∙ (sym (c.climb.ensures.same look) ∙ line-step tree node last.next c.climb.new.way.above.items (nat_lt 0 (level_of node)) low refl) in
-    (ap (λ (s : Seen). s.number) (c.see.ensures.same (search rules)), subst (IsBadNext shape self.seen) (sym e) (subst (λ k. is_out shape self.seen (item_at (level_of node) (pair_of shape node k)) ≡ true) (sym back) out))
+    let same = next_read shape self.seen last.at.oid last.next (level_of node) c.level-high.result (pair_of shape node last.next) c.key_at-key.result c.key_at-key.ensures c.level-high.ensures in
+    let out = seen_none shape self.seen (item_at last.at.oid last.next (level_of node) (pair_of shape node last.next)) (sym same ∙ c.see.ensures.out (search rules)) in
+    let e = sym (c.in_ok-fall.ensures.same image told) ∙ (sym (c.climb.ensures.same look) ∙ line-step tree last.at.oid node last.next c.climb.new.way.above.items (nat_lt 0 (level_of node)) low refl) in
+    (ap (λ (s : Seen). s.number) (c.see.ensures.same (search rules)), subst (IsBadNext shape self.seen) (sym e) (subst (λ k. is_out shape self.seen (item_at last.at.oid k (level_of node) (pair_of shape node k)) ≡ true) (sym back) out))
 
 pub returns-clause-fuel : goal.returns-clause-fuel
 returns-clause-fuel g c moved =

@@ -1,4 +1,4 @@
-use Rattle.std.proofs.Common.{refl, subst, sym}
+use Rattle.std.proofs.Common.{ap, ◌∙◌}
 use Rattle.std.specs.Prelude.{option_map, IfOk, IsTrue, Result, Ok, Err, Bool, ◌++◌, ◌∷◌, []}
 use Rattle.bt_cursor.specs.Gathered.{shown}
 use Rattle.bt_steps.specs.Noted.{Notes}
@@ -12,9 +12,8 @@ if-kept (Err e) P Q f h = h
 
 pub returns-clause-held : goal.returns-clause-held
 returns-clause-held g c items noted =
-    let item = shown c.args.item.level c.args.item.pair.key_bytes.now (option_map (λ value. value.now) c.args.item.pair.value) in
-    let by = c.in_ok-note_if.ensures.noted item refl c.requires.child in
-    let inner = subst (λ keeper. g.P.Keeper.holds keeper items) (sym c.in_ok-note_if.ensures.inner) noted.held in
-    if-kept c.keep.result (g.P.Keeper.holds c.keep.new.self (items ++ item ∷ [])) (Notes (g.P.Keeper.holds c.keep.new.self) c.note_if.new.self.spots.items c.note_if.new.self.steps.items (items ++ item ∷ []))
-    (notes-more (g.P.Keeper.holds c.args.self.now.inner) (g.P.Keeper.holds c.keep.new.self) items item c.args.self.now.spots.items c.args.self.now.steps.items c.note_if.new.self.spots.items c.note_if.new.self.steps.items noted by)
-    (c.keep.ensures.held items inner)
+    let item = shown c.args.item.node c.args.item.at c.args.item.level c.args.item.pair.key_bytes.now (option_map (λ value. value.now) c.args.item.pair.value) in
+    let steps = c.note.new.steps.items in
+    if-kept c.keep.result (g.P.Keeper.holds c.keep.new.self (items ++ item ∷ [])) (Notes (g.P.Keeper.holds c.keep.new.self) steps (items ++ item ∷ []))
+    (notes-more (g.P.Keeper.holds c.args.self.now.inner) (g.P.Keeper.holds c.keep.new.self) items item c.args.self.now.steps.items steps noted (c.in_ok-note.ensures ∙ ap (λ xs. c.args.self.now.steps.items ++ xs) c.step.ensures))
+    (c.keep.ensures.held items noted.held)

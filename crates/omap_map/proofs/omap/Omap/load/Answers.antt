@@ -1,10 +1,10 @@
-use Rattle.std.proofs.Common.{◌≡◌, ◌∙◌, ap, subst, Some}
+use Rattle.std.proofs.Common.{◌≡◌, ◌∙◌, ap, subst, refl, Some}
 use Rattle.apfs_model.specs.Blocks.{in_container}
 use Rattle.omap_map.specs.Fields.{tree_of, snap_tree_of, snap_count_of}
 use Rattle.omap_map.specs.Records.{records_of}
 use Rattle.omap_map.specs.Maps.{Contents, record_tree}
 use Rattle.omap_map.specs.Gathered.{IsTree, HasSnapshots}
-use Rattle.omap_map.proofs.Loads.{block_inside, object-tells, object-means, records-stop, snapshots-stop, IsObject, blocks-same, parts-loaded, parts-few, whole-free}
+use Rattle.omap_map.proofs.Loads.{block_inside, object-tells, object-means, records-stop, snapshots-stop, IsObject, parts-loaded, parts-few, whole-free}
 use Rattle.omap_map.proofs.omap.Omap.load.Goals as goal
 
 pub returns-in-Err-clause-present : goal.returns-in-Err-clause-present
@@ -36,7 +36,7 @@ returns-clause-clear g c image told =
     let site = c.args.site.now in
     let reads = g.S.BlockSource.reads in
     let bytes = c.in-Ok.bytes.items in
-    let contents : Contents = record { records = c.in-Ok-records.kept.records.items; snapshots = c.in-Ok-snapshots_if.snapped.snapshots.items; snap_count = c.snap_count.result; blocks = c.lay_snapshots.new.blocks.items } in
+    let contents : Contents = record { records = c.in-Ok-records.kept.records.items; snapshots = c.in-Ok-snapshots_if.snapped.snapshots.items; snap_count = c.snap_count.result; block = block; tree = c.tree-root.result; snap_tree = c.snap_tree-snap_root.result; steps = c.in-Ok-records.kept.steps.items; snap_steps = c.in-Ok-snapshots_if.snapped.steps.items } in
     let inside : in_container site.blocks block ≡ Some block = block_inside site.blocks block c.requires.above c.requires.below in
     let told1 : g.S.BlockSource.bytes c.object.new.src ≡ Some image = c.in-Ok.ensures.kept.same_bytes ∙ told in
     let told2 : g.S.BlockSource.bytes c.records.new.src ≡ Some image = c.in-Ok-records.ensures.kept.same_bytes ∙ told1 in
@@ -45,12 +45,12 @@ returns-clause-clear g c image told =
     parts-loaded image site block contents (reads c.args.src.now) (reads c.object.new.src) (reads c.records.new.src) (reads c.snapshots_if.new.src) (record {
       bytes = bytes;
       object = object-means image site block bytes inside (c.in-Ok.ensures.found image told);
-      below = c.in-Ok-records.kept.blocks.items;
-      records = subst (λ root. IsTree records_of (record_tree image site) root contents.records c.in-Ok-records.kept.blocks.items (reads c.object.new.src) (reads c.records.new.src)) root (c.in-Ok-records.ensures.clear image told1);
-      under = c.in-Ok-snapshots_if.snapped.blocks.items;
-      snapshots = subst (λ root. HasSnapshots image site root contents.snapshots c.in-Ok-snapshots_if.snapped.blocks.items (reads c.records.new.src) (reads c.snapshots_if.new.src)) snap_root (c.in-Ok-snapshots_if.ensures.clear image told2);
-      count = c.snap_count.ensures ∙ ap snap_count_of c.deref-5.ensures.value;
-      blocks = blocks-same c.lay_snapshots.new.blocks.items c.in_ok-blocks.blocks.items c.deref-3.result.now c.in-Ok-records.kept.blocks.items c.deref-4.result.now c.in-Ok-snapshots_if.snapped.blocks.items block c.tree-root.result (tree_of bytes) c.snap_tree-snap_root.result (snap_tree_of bytes) c.in_ok-lay_snapshots.ensures.all c.in_ok-blocks.ensures.all root c.deref-3.ensures.value snap_root c.deref-4.ensures.value;
+      records = subst (λ root. IsTree records_of (record_tree image site) root contents.records c.in-Ok-records.kept.steps.items (reads c.object.new.src) (reads c.records.new.src)) root (c.in-Ok-records.ensures.clear image told1);
+      snapshots = subst (λ root. HasSnapshots image site root contents.snapshots c.in-Ok-snapshots_if.snapped.steps.items (reads c.records.new.src) (reads c.snapshots_if.new.src)) snap_root (c.in-Ok-snapshots_if.ensures.clear image told2);
+      count = c.snap_count.ensures ∙ ap snap_count_of c.deref-3.ensures.value;
+      block_is = refl;
+      tree_is = root;
+      snap_tree_is = snap_root;
     })
 
 pub returns-clause-reads : goal.returns-clause-reads
@@ -59,7 +59,7 @@ returns-clause-reads g c image told =
     let site = c.args.site.now in
     let reads = g.S.BlockSource.reads in
     let bytes = c.in-Ok.bytes.items in
-    let contents : Contents = record { records = c.in-Ok-records.kept.records.items; snapshots = c.in-Ok-snapshots_if.snapped.snapshots.items; snap_count = c.snap_count.result; blocks = c.lay_snapshots.new.blocks.items } in
+    let contents : Contents = record { records = c.in-Ok-records.kept.records.items; snapshots = c.in-Ok-snapshots_if.snapped.snapshots.items; snap_count = c.snap_count.result; block = block; tree = c.tree-root.result; snap_tree = c.snap_tree-snap_root.result; steps = c.in-Ok-records.kept.steps.items; snap_steps = c.in-Ok-snapshots_if.snapped.steps.items } in
     let inside : in_container site.blocks block ≡ Some block = block_inside site.blocks block c.requires.above c.requires.below in
     let told1 : g.S.BlockSource.bytes c.object.new.src ≡ Some image = c.in-Ok.ensures.kept.same_bytes ∙ told in
     let told2 : g.S.BlockSource.bytes c.records.new.src ≡ Some image = c.in-Ok-records.ensures.kept.same_bytes ∙ told1 in
@@ -68,12 +68,12 @@ returns-clause-reads g c image told =
     parts-few image site block contents (reads c.args.src.now) (reads c.object.new.src) (reads c.records.new.src) (reads c.snapshots_if.new.src) c.in-Ok.ensures.reads (record {
       bytes = bytes;
       object = object-means image site block bytes inside (c.in-Ok.ensures.found image told);
-      below = c.in-Ok-records.kept.blocks.items;
-      records = subst (λ root. IsTree records_of (record_tree image site) root contents.records c.in-Ok-records.kept.blocks.items (reads c.object.new.src) (reads c.records.new.src)) root (c.in-Ok-records.ensures.clear image told1);
-      under = c.in-Ok-snapshots_if.snapped.blocks.items;
-      snapshots = subst (λ root. HasSnapshots image site root contents.snapshots c.in-Ok-snapshots_if.snapped.blocks.items (reads c.records.new.src) (reads c.snapshots_if.new.src)) snap_root (c.in-Ok-snapshots_if.ensures.clear image told2);
-      count = c.snap_count.ensures ∙ ap snap_count_of c.deref-5.ensures.value;
-      blocks = blocks-same c.lay_snapshots.new.blocks.items c.in_ok-blocks.blocks.items c.deref-3.result.now c.in-Ok-records.kept.blocks.items c.deref-4.result.now c.in-Ok-snapshots_if.snapped.blocks.items block c.tree-root.result (tree_of bytes) c.snap_tree-snap_root.result (snap_tree_of bytes) c.in_ok-lay_snapshots.ensures.all c.in_ok-blocks.ensures.all root c.deref-3.ensures.value snap_root c.deref-4.ensures.value;
+      records = subst (λ root. IsTree records_of (record_tree image site) root contents.records c.in-Ok-records.kept.steps.items (reads c.object.new.src) (reads c.records.new.src)) root (c.in-Ok-records.ensures.clear image told1);
+      snapshots = subst (λ root. HasSnapshots image site root contents.snapshots c.in-Ok-snapshots_if.snapped.steps.items (reads c.records.new.src) (reads c.snapshots_if.new.src)) snap_root (c.in-Ok-snapshots_if.ensures.clear image told2);
+      count = c.snap_count.ensures ∙ ap snap_count_of c.deref-3.ensures.value;
+      block_is = refl;
+      tree_is = root;
+      snap_tree_is = snap_root;
     })
 
 pub returns-in-Err-clause-exact : goal.returns-in-Err-clause-exact
