@@ -127,13 +127,6 @@ part-lists image seen ns xs a = (
 pub part-tree : (image : List ℕ) (seen : Seen) (root : Naming) (xs : List Naming) → AreNamingsOf image seen root xs → ArePart image seen (root ∷ []) xs []
 part-tree image seen root xs t = part-listed image seen (root ∷ []) xs t.live t.counted t.plain
 
--- ---- of each of some things
-pub part-flat : {X : Type 0} (image : List ℕ) (seen : Seen) (first these rest : X → List Naming) (xs : List X) → ((x : X) → In x xs → ArePart image seen (first x) (these x) (rest x)) →
-    ArePart image seen (flat_map first xs) (flat_map these xs) (flat_map rest xs)
-part-flat image seen first these rest [] f = part-none image seen
-part-flat image seen first these rest (x ∷ xs) f =
-    part-join image seen (first x) (flat_map first xs) (these x) (flat_map these xs) (rest x) (flat_map rest xs) (f x (inl refl)) (part-flat image seen first these rest xs (λ y h. f y (inr h)))
-
 pub part-each : (image : List ℕ) (seen : Seen) (f g : Naming → List Naming) (ns : List Naming) → ((n : Naming) → In n ns → ArePart image seen (n ∷ []) (f n) (g n)) → ArePart image seen ns (flat_map f ns) (flat_map g ns)
 part-each image seen f g [] h = part-none image seen
 part-each image seen f g (n ∷ ns) h = part-join image seen (n ∷ []) ns (f n) (flat_map f ns) (g n) (flat_map g ns) (h n (inl refl)) (part-each image seen f g ns (λ m k. h m (inr k)))

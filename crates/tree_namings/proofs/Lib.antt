@@ -13,6 +13,5 @@ pub mod Views
 pub mod Account
 pub mod Ranges
 pub mod Gathered
-pub mod Owned
 pub mod VolumeLemmas
 pub mod Physical

@@ -1,6 +1,5 @@
 -- What the parts of a container tell.
 use Rattle.std.proofs.Common.{◌≡◌, ℕ, true, List, [], ◌∷◌, ◌++◌, Option, Some, None, inl, inr, refl, sym, subst}
-use Rattle.std.proofs.lemmas.List.{append-nil}
 use Rattle.std.specs.List.{flat_map}
 use Rattle.apfs_model.specs.Lists.{In, Lists, through}
 use Rattle.apfs_model.proofs.Searches.{in-left, in-right, in-append, in-flat_map, from-flat_map}
@@ -14,9 +13,7 @@ use Rattle.reach_rules.specs.PoolOwners.{pool_owners_through, IsPoolOwner}
 use Rattle.reach_rules.specs.Faults.{is_once}
 use Rattle.tree_namings.specs.Namings.{IsPlainNaming}
 use Rattle.tree_namings.specs.Joined.{AreAllOf}
-use Rattle.tree_namings.specs.Tells.{objects_through, IsThrough, ArePlainFrom, AreOnce, PartTells, PlainTells, WholeTells}
-use Rattle.tree_namings.proofs.Lists.{live-none}
-use Rattle.tree_namings.proofs.Joined.{part-lists}
+use Rattle.tree_namings.specs.Tells.{objects_through, IsThrough, ArePlainFrom, AreOnce, PartTells, PlainTells}
 
 -- ---- with a rest
 plain-through : (image : List ℕ) (seen : Seen) (ns these rest : List Naming) → AreAllOf image seen ns these rest → ArePlainFrom image seen rest → ArePlainFrom image seen ns
@@ -42,14 +39,6 @@ through-part image seen told ns these rest more a l = (
     | inr live ↦ in-right x (flat_map told these) more (l.1 x (record { naming = t.naming; live = live; one = t.one }))
   ]),
 )
-
--- nothing is told of where there is no rest
-through-none : {X : Type 0} (image : List ℕ) (seen : Seen) (told : Naming → List X) → Lists [] (IsThrough image seen told [])
-through-none image seen told = ((λ x h. absurd h), (λ x t. absurd (live-none (next image seen) t.naming t.live)))
-
-through-all : {X : Type 0} (image : List ℕ) (seen : Seen) (told : Naming → List X) (ns these : List Naming) → AreAllOf image seen ns these [] → Lists (flat_map told these) (IsThrough image seen told ns)
-through-all image seen told ns these a =
-    subst (λ xs. Lists xs (IsThrough image seen told ns)) (append-nil (flat_map told these)) (through-part image seen told ns these [] [] a (through-none image seen told))
 
 -- ---- owners
 owner-in : (image : List ℕ) (seen : Seen) (xs : List Owner) → Lists xs (IsThrough image seen (owners_through image seen) (roots seen.nx)) → (a : Owner) → IsOwner image seen a → In a (first_owners seen.nx ++ xs)
@@ -113,20 +102,4 @@ pub plain-tells : (image : List ℕ) (seen : Seen) → PlainTells image seen
 plain-tells image seen = record {
   named = λ p n live. let q : IsPlainNaming image seen n = p n live in (q.object, record { names = record { live = live; found = q.found }; sound = q.sound });
   plain = λ p n live. let q : IsPlainNaming image seen n = p n live in q.plain;
-}
-
-none-plain : (image : List ℕ) (seen : Seen) → ArePlainFrom image seen []
-none-plain image seen n live = absurd (live-none (next image seen) n live)
-
-none-once : (image : List ℕ) (seen : Seen) (P : Naming → Type 0) → AreOnce P (Live [] (next image seen))
-none-once image seen P m n p live once how oid = absurd (live-none (next image seen) n live)
-
-pub whole-tells : (image : List ℕ) (seen : Seen) → WholeTells image seen
-whole-tells image seen = record {
-  live = λ all a. part-lists image seen (roots seen.nx) all a;
-  plain = λ all a. plain-through image seen (roots seen.nx) all [] a (none-plain image seen);
-  once = λ all a both. once-by image seen all [] a both (none-once image seen (λ n. In n all)) (none-once image seen (Live [] (next image seen)));
-  owners = λ all a. owners-of image seen (flat_map (owners_through image seen) all) (through-all image seen (owners_through image seen) (roots seen.nx) all a);
-  pool_owners = λ all a. pool-owners-of image seen (flat_map (pool_owners_through image seen) all) (through-all image seen (pool_owners_through image seen) (roots seen.nx) all a);
-  objects = λ all a. objects-of image seen (flat_map (objects_through image seen) all) (through-all image seen (objects_through image seen) (roots seen.nx) all a);
 }

@@ -7,15 +7,6 @@ use Rattle.reach_rules.specs.Naming.{LookUp, ByBlock, ByMapping, Object, InBlock
 use Rattle.reach_rules.specs.Next.{next}
 use Rattle.reach_rules.specs.Live.{Live}
 use Rattle.tree_namings.specs.Namings.{tree_steps, tree_namings}
-use Rattle.tree_namings.specs.Joined.{PartsJoin}
-use Rattle.tree_namings.specs.Container.{PlainLeads, PartsOfContainer}
-use Rattle.tree_namings.specs.Space.{IsSpacePart}
-use Rattle.tree_namings.specs.Tells.{PartTells, PlainTells, WholeTells}
-use Rattle.tree_namings.specs.Account.{AccountTold}
-use Rattle.tree_namings.specs.Ranges.{RangesTold}
-use Rattle.tree_namings.specs.Gathered.{GatheredReaches}
-use Rattle.tree_namings.specs.Owned.{PlainOwned}
-use Rattle.tree_namings.specs.Views.{ViewsTell, OutsideViews, JoinedTells}
 
 -- what is live from the naming of a root are that naming and those of the steps of its tree
 abbrev pub AreOfSteps : List ℕ → Seen → LookUp → (ℕ → Object) → TreeKind → Type 0
@@ -29,20 +20,3 @@ pub record NamingsOfSteps : Type 0 where
   pub extents : (image : List ℕ) (seen : Seen) → AreOfSteps image seen ByBlock InBlock ExtentRefs
   pub metadata : (image : List ℕ) (seen : Seen) → AreOfSteps image seen ByBlock InBlock SnapMetadata
   pub queues : (image : List ℕ) (seen : Seen) (which : Queue) → AreOfSteps image seen ByMapping OfId (FreeQueue which)
-
--- how the parts of what is live in a container are joined, which parts it has, and what they tell
-pub record PartsJoined (image : List ℕ) (seen : Seen) : Type 0 where
-  pub joined : PartsJoin image seen
-  pub leads : PlainLeads image seen
-  pub parts : PartsOfContainer image seen
-  pub space : IsSpacePart image seen
-  pub part : PartTells image seen
-  pub plain : PlainTells image seen
-  pub whole : WholeTells image seen
-  pub owned : PlainOwned image seen
-  pub views : ViewsTell image seen
-  pub outside : OutsideViews image seen
-  pub told : JoinedTells image seen
-  pub account : AccountTold image seen
-  pub ranges : RangesTold image seen
-  pub reached : GatheredReaches image seen

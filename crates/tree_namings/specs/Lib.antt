@@ -10,5 +10,4 @@ pub mod Views
 pub mod Account
 pub mod Ranges
 pub mod Gathered
-pub mod Owned
 pub mod Volumes

@@ -43,12 +43,3 @@ pub record PartTells (image : List ℕ) (seen : Seen) : Type 0 where
 pub record PlainTells (image : List ℕ) (seen : Seen) : Type 0 where
   pub named : ArePlainFrom image seen (roots seen.nx) → (n : Naming) → IsLive image seen n → (f : Found) × NamesSound image seen n f
   pub plain : ArePlainFrom image seen (roots seen.nx) → (n : Naming) → IsLive image seen n → features_through image seen n ≡ []
-
--- what a list of all that is live tells
-pub record WholeTells (image : List ℕ) (seen : Seen) : Type 0 where
-  pub live : (all : List Naming) → AreAllOf image seen (roots seen.nx) all [] → Lists all (IsLive image seen)
-  pub plain : (all : List Naming) → AreAllOf image seen (roots seen.nx) all [] → ArePlainFrom image seen (roots seen.nx)
-  pub once : (all : List Naming) → AreAllOf image seen (roots seen.nx) all [] → AreOnce (λ n. In n all) (λ n. In n all) → AreOnce (IsLive image seen) (IsLive image seen)
-  pub owners : (all : List Naming) → AreAllOf image seen (roots seen.nx) all [] → Lists (first_owners seen.nx ++ flat_map (owners_through image seen) all) (IsOwner image seen)
-  pub pool_owners : (all : List Naming) → AreAllOf image seen (roots seen.nx) all [] → Lists (flat_map (pool_owners_through image seen) all) (IsPoolOwner image seen)
-  pub objects : (all : List Naming) → AreAllOf image seen (roots seen.nx) all [] → Lists (Newest ∷ flat_map (objects_through image seen) all) (IsNamed image seen)

@@ -6,6 +6,6 @@ mod theorem;
 mod volumes;
 mod walks;
 
-pub use theorem::{namings_of_parts, namings_of_steps, parts_joined};
+pub use theorem::{namings_of_parts, namings_of_steps};
 pub use volumes::parts_of_volumes;
 pub use walks::{walk_extents, walk_metadata, walk_queue, walk_records, walk_snapshots};

@@ -1,7 +1,7 @@
 // The laws of namings, which rest on the definitions alone.
 ghost use Rattle.std.specs.Prelude.{ℕ, List};
 ghost use Rattle.nx_ring.specs.Checkpoint.{Seen};
-ghost use Rattle.tree_namings.specs.Laws.{NamingsOfSteps, PartsJoined};
+ghost use Rattle.tree_namings.specs.Laws.{NamingsOfSteps};
 ghost use Rattle.tree_namings.specs.Parts.{NamingsOfParts};
 
 /// What is live from the naming of a tree's root are that naming and those of the tree's steps. It does nothing.
@@ -13,9 +13,4 @@ pub fn namings_of_steps()
 /// does nothing.
 pub fn namings_of_parts()
     ensures { (image : List ℕ) (seen : Seen) → NamingsOfParts image seen }
-{}
-
-/// How the parts of what is live in a container are joined, which parts it has, and what they tell. It does nothing.
-pub fn parts_joined()
-    ensures { (image : List ℕ) (seen : Seen) → PartsJoined image seen }
 {}
