@@ -72,9 +72,6 @@ at-place (x ∷ xs) (suc i) d low = at-place xs i d (omega arith)
 pub items-more : {X : Type 0} (xs : List X) (i : ℕ) (x : X) (a b c : List X) → i < length xs → x ≡ get_or xs i x → b ≡ a ++ take i xs → c ≡ b ++ x ∷ [] → c ≡ a ++ take (i + 1) xs
 items-more xs i x a b c low e p q = q ∙ (ap (λ ys. ys ++ x ∷ []) p ∙ (append_assoc a (take i xs) (x ∷ []) ∙ ap (λ ys. a ++ ys) (sym (one-taken xs i x low e))))
 
-pub flat-more : {X Y : Type 0} (f : X → List Y) (xs : List X) (i : ℕ) (x : X) (a b c : List Y) → i < length xs → x ≡ get_or xs i x → b ≡ a ++ flat_map f (take i xs) → c ≡ b ++ f x → c ≡ a ++ flat_map f (take (i + 1) xs)
-flat-more f xs i x a b c low e p q = appended-more f (take i xs) (x ∷ []) a b c p (q ∙ ap (λ ys. b ++ ys) (sym (append-none (f x)))) ∙ ap (λ ys. a ++ flat_map f ys) (sym (one-taken xs i x low e))
-
 -- the same of what is mapped first
 pub mapped-more : {X Y Z : Type 0} (f : Y → List Z) (m : X → Y) (xs : List X) (i : ℕ) (x : X) (a b c : List Z) → i < length xs → x ≡ get_or xs i x → b ≡ a ++ flat_map f (map m (take i xs)) → c ≡ b ++ f (m x) → c ≡ a ++ flat_map f (map m (take (i + 1) xs))
 mapped-more f m xs i x a b c low e p q =

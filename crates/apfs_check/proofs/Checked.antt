@@ -33,10 +33,6 @@ none-of : {X Y : Type 0} (f : X → List Y) (xs : List X) → ((x : X) → f x �
 none-of f [] h = refl
 none-of f (x ∷ xs) h = ap (λ ys. ys ++ flat_map f xs) (h x) ∙ none-of f xs h
 
-same-of : {X Y : Type 0} (f g : X → List Y) (xs : List X) → ((x : X) → f x ≡ g x) → flat_map f xs ≡ flat_map g xs
-same-of f g [] h = refl
-same-of f g (x ∷ xs) h = ap (λ ys. ys ++ flat_map f xs) (h x) ∙ ap (λ ys. g x ++ ys) (same-of f g xs h)
-
 notes-are : (profile : Profile) (image : List ℕ) (seen : Seen) →
     skipped_notes seen
     ++ (of_volumes (of_views (view_hashes profile)) image seen

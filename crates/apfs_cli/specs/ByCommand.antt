@@ -50,15 +50,6 @@ from_of (Export target) = HandedIn
 from_of (Gen n) = Made
 from_of (Format spec) = Nowhere
 
-abbrev pub is_handed_in : From → Bool
-is_handed_in HandedIn = true
-is_handed_in Made = false
-is_handed_in Nowhere = false
-
--- whether a command takes an image
-abbrev pub takes_image : Asked → Bool
-takes_image command = is_handed_in (from_of command)
-
 -- whether a command takes a folder
 abbrev pub takes_folder : Asked → Bool
 takes_folder Ring = false

@@ -1,13 +1,9 @@
 -- Blocks of an image, and ranges of blocks.
-use Rattle.std.specs.Prelude.{ℕ, ◌+◌, ◌-◌, ◌*◌, ◌/◌, ◌^◌, Bool, ◌&&◌, ◌==◌, nat_lt, nat_le, List, length, slice_range, Option, None, Some, if◌then◌else◌}
+use Rattle.std.specs.Prelude.{ℕ, ◌+◌, ◌-◌, ◌*◌, ◌/◌, ◌^◌, Bool, ◌&&◌, ◌==◌, nat_lt, nat_le, List, slice_range, Option, None, Some, if◌then◌else◌}
 
 -- block k of an image with blocks of a size (General-Purpose Types, paddr_t)
 unfoldable pub block_of : ℕ → List ℕ → ℕ → List ℕ
 block_of size image k = slice_range image (size * k) (size * k + size)
-
--- how many whole blocks an image has
-abbrev pub whole_blocks : ℕ → List ℕ → ℕ
-whole_blocks size image = length image / size
 
 -- a range wholly in the first so many blocks; a first block of 2^63 or more is a negative one (General-Purpose Types, prange_t)
 abbrev pub is_inside : ℕ → ℕ → ℕ → Bool

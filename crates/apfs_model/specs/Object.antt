@@ -49,9 +49,6 @@ no_header_flag = 0x20000000
 abbrev pub encrypted_flag : ℕ
 encrypted_flag = 0x10000000
 
-abbrev pub non_persistent_flag : ℕ
-non_persistent_flag = 0x08000000
-
 abbrev pub has_no_header : List ℕ → Bool
 has_no_header bytes = has_flag (flags_of bytes) no_header_flag
 

@@ -7,7 +7,6 @@ use Rattle.std.specs.Cmp.{nat_eq_equiv}
 use Rattle.std.specs.declared.alloc.Global.{Global}
 use Rattle.lru.specs.LruCache.{lru_cache, put_entries}
 use Rattle.lru.proofs.CallerLemmas.{Contains-put_entries, lookup-put_entries}
-use Rattle.apfs_model.specs.Counts.{one_more}
 use Rattle.obj_base.specs.BlockSize.{is_accepted}
 use Rattle.blk_cache.specs.Keeping.{keeps, IsFull, IsCopy, IsCache, Grows}
 use Rattle.blk_cache.specs.declared.store.Store.{Store}
@@ -19,12 +18,6 @@ pub record IsPutIn (old new : Store) (block : ℕ) (v : Vec ℕ Global) : Type 0
   pub blocks : new.blocks ≡ lru_cache (put_entries nat_eq old.blocks block v) old.blocks.cap
   pub size : new.size ≡ old.size
   pub lost : new.lost ≡ old.lost
-
--- a block was lost
-pub record IsLost (old new : Store) : Type 0 where
-  pub blocks : new.blocks ≡ old.blocks
-  pub size : new.size ≡ old.size
-  pub lost : new.lost ≡ one_more old.lost
 
 -- the entries of a cache after a block that it lacked was put
 put-new : (old : Store) (block : ℕ) (v : Vec ℕ Global) → keeps old block ≡ false → put_entries nat_eq old.blocks block v ≡ (block, v) ∷ take (old.blocks.cap - 1) old.blocks.entries

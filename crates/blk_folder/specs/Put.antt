@@ -25,7 +25,3 @@ Filled old new items = (held : List Item) → old ≡ Some held → new ≡ Some
 -- a front of some items was added
 abbrev pub FilledPart : Option (List Item) → Option (List Item) → List Item → Type 0
 FilledPart old new items = (held : List Item) → old ≡ Some held → (front : List Item) × IsFront front items × (new ≡ Some (held ++ front))
-
--- nothing that was there is gone
-abbrev pub Grew : Option (List Item) → Option (List Item) → Type 0
-Grew old new = (held : List Item) → old ≡ Some held → (more : List Item) × (new ≡ Some (held ++ more))

@@ -12,7 +12,7 @@ use Rattle.bt_cursor.specs.Flat.{flat_of}
 use Rattle.bt_cursor.specs.Line.{item_at, line_of}
 use Rattle.bt_cursor.specs.Gaps.{gapped_of, all_flat}
 use Rattle.bt_cursor.specs.Met.{nodes_of, is_walkable}
-use Rattle.bt_cursor.specs.Order.{is_misplaced_at, out_of_order}
+use Rattle.bt_cursor.specs.Order.{out_of_order}
 use Rattle.bt_cursor.specs.Counts.{is_counted}
 use Rattle.bt_cursor.specs.Whole.{is_whole}
 use Rattle.bt_cursor.specs.From.{from_rank, gapped_from_rank}

@@ -1,5 +1,5 @@
 -- What is gathered on a walk over a tree.
-use Rattle.std.specs.Prelude.{◌≡◌, ℕ, zero, suc, ◌+◌, ◌≤◌, is_none, nat_lt, Bool, true, false, not, cond, List, [], ◌∷◌, ◌++◌, length, Option, Some, None, option_map, refl, map, ◌||◌, ◌&&◌, ◌==◌, if◌then◌else◌}
+use Rattle.std.specs.Prelude.{◌≡◌, ℕ, zero, suc, ◌+◌, ◌≤◌, is_none, nat_lt, Bool, true, false, not, List, [], ◌∷◌, ◌++◌, length, Option, Some, None, option_map, refl, map, ◌||◌, ◌&&◌, ◌==◌, if◌then◌else◌}
 use Rattle.std.specs.List.{filter, list_any, cons_option}
 use Rattle.std.proofs.Common.{arith, ap, sym, ◌∙◌, subst, append-nil, append_assoc, length-append}
 use Rattle.std.proofs.lemmas.Bool.Decides.{nat_tests}
@@ -26,13 +26,13 @@ use Rattle.bt_cursor.specs.declared.gathering.GatherFault.{GatherFault}
 use Rattle.bt_cursor.specs.declared.gathering.GatherFault.TheVariants.{Tree as TreeFault, Refused}
 use Rattle.bt_cursor.specs.Tree.{Tree, child_in}
 use Rattle.bt_cursor.specs.Line.{Item, item_at, child_id, line_of, is_leaf_item}
-use Rattle.bt_cursor.specs.Met.{places_under, places_in, places_of, has_node, nodes_of, is_walkable}
-use Rattle.bt_cursor.specs.Order.{rank_of, is_strict_leaf, ranks_below, ranks_same, is_misplaced, first_misplaced, is_ordered}
+use Rattle.bt_cursor.specs.Met.{places_under, places_in, places_of, has_node, is_walkable}
+use Rattle.bt_cursor.specs.Order.{rank_of, is_strict_leaf, ranks_below, ranks_same, is_misplaced}
 use Rattle.bt_cursor.specs.Faults.{IsNodeFault, IsWalkFault, HasFeature}
 use Rattle.bt_cursor.specs.Whole.{IsWhole}
 use Rattle.bt_cursor.specs.Seen.{reads_for, is_out, seen_item}
-use Rattle.bt_cursor.specs.Liners.{root_of, tree_of, item_of, is_deep, seen_of, left_of, Passes, HasItemIf, HasSeenNone, Sees, HasPassed}
-use Rattle.bt_cursor.specs.Gathered.{children_of, node_ids, shown, IsRefused, IsGatherFault, RefusesOne, SeesOrder, IsGathered, HasWalked, IsWalked, HasTaken, HasTakenAll, Takes}
+use Rattle.bt_cursor.specs.Liners.{root_of, tree_of, item_of, is_deep, seen_of, left_of, Passes, HasItemIf, Sees}
+use Rattle.bt_cursor.specs.Gathered.{children_of, node_ids, shown, IsRefused, IsGatherFault, SeesOrder, IsGathered, HasWalked, IsWalked, HasTaken, HasTakenAll}
 use Rattle.bt_cursor.proofs.Orders.{last-push, first-push, passes-map, leaf-if}
 use Rattle.bt_cursor.proofs.Places.{IsLevelled, whole-world}
 use Rattle.bt_cursor.proofs.Walkables.{filter-all, nodes-passed}
@@ -65,17 +65,6 @@ walk_tells tree root refuses (Found why) h = h
 walk_tells tree root refuses (Unsupported feature block) h = h
 walk_tells tree root refuses ReadFault h = tt
 walk_tells tree root refuses NoMemory h = tt
-
--- a walk refuses no item
-pub walk_refuses : (refuses : Item → Bool) (stop : Stop WalkFault) → RefusesOne refuses (raised TreeFault stop)
-walk_refuses refuses (Found why) = tt
-walk_refuses refuses (Unsupported feature block) = tt
-walk_refuses refuses ReadFault = tt
-walk_refuses refuses NoMemory = tt
-
--- before the first item
-pub order-start : {K : Type 0} (shape : Shape K) (seen : Seen) → seen.before ≡ None → seen.leaf ≡ None → SeesOrder shape [] seen
-order-start shape seen before leaf = record { ordered = refl; before = before; leaf = leaf }
 
 out-misplaced : {K : Type 0} (shape : Shape K) (passed : List Item) (seen : Seen) (item : Item) → SeesOrder shape passed seen → is_misplaced shape passed item ≡ is_out shape seen item
 out-misplaced shape passed seen item has =
@@ -179,10 +168,6 @@ refused-there told holds refuses number start reads old new had image tree root 
 pub taken-told : {K N : Type 0} {k : keys.Ghosts K} {n : namers.Ghosts N} (told other : Option (List ℕ)) (holds : List Item → Type 0) (refuses : Item → Bool) (number start reads : ℕ) (liner : Liner K N k n) → other ≡ told → HasTaken told holds refuses number start reads liner → HasTaken other holds refuses number start reads liner
 taken-told told other holds refuses number start reads liner e had = subst (λ (o : Option (List ℕ)). HasTaken o holds refuses number start reads liner) (sym e) had
 
--- nothing is gathered before the first item
-pub taken-none : {K N : Type 0} {k : keys.Ghosts K} {n : namers.Ghosts N} (told : Option (List ℕ)) (holds : List Item → Type 0) (refuses : Item → Bool) (start reads : ℕ) (liner : Liner K N k n) → holds [] → SeesOrder k.shape [] (seen_of liner) → ((image : List ℕ) → told ≡ Some image → HasWalked image [] start reads liner) → HasTaken told holds refuses 0 start reads liner
-taken-none told holds refuses start reads liner held order walked = record { passed = []; held = held; none_refused = refl; counted = refl; order = order; walked = walked }
-
 -- what was gathered is what the whole tree gives
 pub all-gathered : {K : Type 0} (told : Option (List ℕ)) (tree : List ℕ → Tree K) (shape : Shape K) (root : ℕ) (holds : List Item → Type 0) (refuses : Item → Bool) (start reads : ℕ) → HasTakenAll told tree shape root holds refuses start reads → (image : List ℕ) → told ≡ Some image → IsGathered (tree image) root holds refuses
 all-gathered told tree shape root holds refuses start reads all image e = record {
@@ -207,13 +192,6 @@ start_tells tree root refuses (Found (Refused number)) told = absurd (false≢tr
 start_tells tree root refuses (Unsupported feature block) told = told
 start_tells tree root refuses ReadFault told = tt
 start_tells tree root refuses NoMemory told = tt
-
-pub start_refuses : (refuses : Item → Bool) (stop : Stop GatherFault) → RefusesOne (λ _. false) stop → RefusesOne refuses stop
-start_refuses refuses (Found (TreeFault why)) told = tt
-start_refuses refuses (Found (Refused number)) told = absurd (false≢true told.1)
-start_refuses refuses (Unsupported feature block) told = tt
-start_refuses refuses ReadFault told = tt
-start_refuses refuses NoMemory told = tt
 
 -- the item that was lent is the one onto which a walk moved
 pub shown-is : (node at level : ℕ) (key : List ℕ) (value : Option (List ℕ)) (item : Item) → node ≡ item.node → at ≡ item.at → level ≡ item.level → key ≡ item.pair.key → value ≡ item.pair.value → shown node at level key value ≡ item

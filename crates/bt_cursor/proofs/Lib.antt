@@ -8,7 +8,6 @@ pub mod Flats
 pub mod Suffixes
 pub mod Steps
 pub mod Orders
-pub mod Misplaced
 pub mod Gone
 pub mod Passings
 pub mod Ranks

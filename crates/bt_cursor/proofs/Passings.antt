@@ -1,6 +1,5 @@
 -- What a liner has passed.
 use Rattle.std.proofs.Common.{◌≡◌, ℕ, Bool, true, false, List, [], ◌∷◌, ◌++◌, Err, refl, ap, sym, ◌∙◌, subst}
-use Rattle.std.specs.Prelude.{IsTrue, IsFalse}
 use Rattle.std.proofs.lemmas.Bool.{false≢true}
 use Rattle.obj_base.specs.Stops.{Tells}
 use Rattle.obj_base.specs.declared.stop.Stop.{Stop}
@@ -13,8 +12,7 @@ use Rattle.bt_cursor.specs.declared.liner.Liner.{Liner}
 use Rattle.bt_cursor.specs.declared.namer.Namer as namers
 use Rattle.bt_cursor.specs.declared.seen.Seen.{Seen}
 use Rattle.bt_cursor.specs.Tree.{Tree, root_place}
-use Rattle.bt_cursor.specs.Line.{Item, line_of}
-use Rattle.bt_cursor.specs.Whole.{IsWhole}
+use Rattle.bt_cursor.specs.Line.{Item}
 use Rattle.bt_cursor.specs.Faults.{IsOfNodes, IsWalkFault, HasFeature}
 use Rattle.bt_cursor.specs.Stack.{IsIn}
 use Rattle.bt_cursor.specs.Ahead.{passed_child}
@@ -36,18 +34,6 @@ passes-on {k = k} image passed old new true tree root has moved entered within i
     }
 passes-on {k = k} image passed old new false tree root has moved entered within item =
     gone-end (tree_of old image) (root_of old) passed (left_of old image) old.seen old.deep (passed_child k.shape old.way) has.gone moved.0 moved.1 entered
-
-pub passed-true : {K N : Type 0} {k : keys.Ghosts K} {n : namers.Ghosts N} (image : List ℕ) (passed : List Item) (old new : Liner K N k n) (more : Bool) → Passes image passed old new more → IsTrue more → HasPassed image (passed ++ item_of new ∷ []) new
-passed-true image passed old new true passes on = passes
-passed-true image passed old new false passes on = absurd (false≢true on)
-
-pub passed-line : {K N : Type 0} {k : keys.Ghosts K} {n : namers.Ghosts N} (image : List ℕ) (passed : List Item) (old new : Liner K N k n) (more : Bool) → Passes image passed old new more → IsFalse more → line_of (tree_of old image) (root_of old) ≡ passed
-passed-line image passed old new true passes end = absurd (false≢true (sym end))
-passed-line image passed old new false passes end = passes.0
-
-pub passed-whole : {K N : Type 0} {k : keys.Ghosts K} {n : namers.Ghosts N} (image : List ℕ) (passed : List Item) (old new : Liner K N k n) (more : Bool) → Passes image passed old new more → IsFalse more → IsWhole (tree_of old image) (root_of old)
-passed-whole image passed old new true passes end = absurd (false≢true (sym end))
-passed-whole image passed old new false passes end = passes.1
 
 -- a step that stopped
 pub stops-for : {K : Type 0} (tree : Tree K) (root : ℕ) (passed left : List Item) (seen : Seen) (deep : Bool) (child : NodeAt) (stop : Stop WalkFault) → HasGone tree root passed left seen deep child →

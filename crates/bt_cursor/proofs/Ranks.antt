@@ -65,14 +65,6 @@ pub order-left : {K : Type 0} (shape : Shape K) (xs ys : List Item) → IsInOrde
 order-left shape [] ys ordered = tt
 order-left shape (x ∷ xs) ys ordered = ((All-split (λ (after : Item). ranks_below shape after x ≡ false) xs ys ordered.0).0, order-left shape xs ys ordered.1)
 
--- an item doesn't rank below one before it
-pub order-cross : {K : Type 0} (shape : Shape K) (xs : List Item) (y : Item) (ys : List Item) → IsInOrder shape (xs ++ (y ∷ ys)) → All (λ (x : Item). ranks_below shape y x ≡ false) xs
-order-cross shape [] y ys ordered = All-nil (λ (x : Item). ranks_below shape y x ≡ false)
-order-cross shape (x ∷ xs) y ys ordered =
-    All-cons (λ (z : Item). ranks_below shape y z ≡ false) x xs
-    (All-head (λ (after : Item). ranks_below shape after x ≡ false) y ys ((All-split (λ (after : Item). ranks_below shape after x ≡ false) xs (y ∷ ys) ordered.0).1))
-    (order-cross shape xs y ys ordered.1)
-
 -- entries below the rank go
 pub from_rank-below : {K : Type 0} (shape : Shape K) (rank : Rank) (xs ys : List Pair) → All (λ (x : Pair). is_below_rank shape rank x ≡ true) xs → from_rank shape rank (xs ++ ys) ≡ from_rank shape rank ys
 from_rank-below shape rank [] ys below = refl
@@ -85,15 +77,6 @@ pub from_rank-all : {K : Type 0} (shape : Shape K) (rank : Rank) (ys : List Pair
 from_rank-all shape rank [] above = refl
 from_rank-all shape rank (y ∷ ys) above =
     ap (λ (b : Bool). cond b (from_rank shape rank ys) (y ∷ ys)) (All-head (λ (z : Pair). is_below_rank shape rank z ≡ false) y ys above)
-
-from_rank-cons : (b : Bool) (x : Pair) (tails xs ys : List Pair) (skipped : List Pair) → tails ≡ skipped ++ ys → cond b tails (x ∷ (xs ++ ys)) ≡ cond b skipped (x ∷ xs) ++ ys
-from_rank-cons true x tails xs ys skipped e = e
-from_rank-cons false x tails xs ys skipped e = refl
-
-pub from_rank-above : {K : Type 0} (shape : Shape K) (rank : Rank) (xs ys : List Pair) → All (λ (y : Pair). is_below_rank shape rank y ≡ false) ys → from_rank shape rank (xs ++ ys) ≡ from_rank shape rank xs ++ ys
-from_rank-above shape rank [] ys above = from_rank-all shape rank ys above
-from_rank-above shape rank (x ∷ xs) ys above =
-    from_rank-cons (is_below_rank shape rank x) x (from_rank shape rank (xs ++ ys)) xs ys (from_rank shape rank xs) (from_rank-above shape rank xs ys above)
 
 leaf-if : (b : Bool) (P : Pair → Type 0) (x : Item) (ys : List Item) → P x.pair → All P (map (λ (i : Item). i.pair) ys) → All P (map (λ (i : Item). i.pair) (cond b (x ∷ ys) ys))
 leaf-if true P x ys here all = All-cons P x.pair (map (λ (i : Item). i.pair) ys) here all

@@ -125,10 +125,6 @@ run-taken test (t ∷ ts) others all ends =
     ∙ (ap (λ (b : Bool). cond b (t ∷ take_while test (ts ++ others)) []) (All-head (λ p. test p ≡ true) t ts all)
     ∙ ap (λ ps. t ∷ ps) (run-taken test ts others (All-tail (λ p. test p ≡ true) t ts all) ends))
 
--- no gap stands at the start of a run: where it is empty, where its first entry isn't of it, and where what follows an entry of it starts whole
-pub whole-end : {K : Type 0} (shape : Shape K) (test : Rank → Bool) → starts_whole shape test [] ≡ true
-whole-end shape test = refl
-
 pub whole-over : {K : Type 0} (shape : Shape K) (test : Rank → Bool) (pair : Pair) (others : List (Gapped Pair)) → run_in shape test pair ≡ false → starts_whole shape test (Ok pair ∷ others) ≡ true
 whole-over shape test pair others over =
     let first : Gapped Pair = Ok pair in
@@ -147,9 +143,6 @@ moved-whole {k = k} image old new test moved on = ap (starts_whole k.shape test)
 pub moved-over : {K N : Type 0} {k : keys.Ghosts K} {n : namers.Ghosts N} (image : List ℕ) (old new : Cursor K N k n) (test : Rank → Bool) → Moves image old new true → run_in k.shape test (passed_of new) ≡ false → starts_whole k.shape test (gapped_left_of old image) ≡ true
 moved-over {k = k} image old new test moved over = ap (starts_whole k.shape test) moved ∙ whole-over k.shape test (passed_of new) (gapped_left_of new image) over
 
-pub moved-none : {K N : Type 0} {k : keys.Ghosts K} {n : namers.Ghosts N} (image : List ℕ) (old new : Cursor K N k n) (test : Rank → Bool) → Moves image old new false → starts_whole k.shape test (gapped_left_of old image) ≡ true
-moved-none {k = k} image old new test moved = ap (starts_whole k.shape test) moved
-
 -- from a rank on, on an ordered Line: what is left of the flat list, and that none is missing of a run where none is from there on
 pub left-from : {K N : Type 0} {k : keys.Ghosts K} {n : namers.Ghosts N} (image : List ℕ) (old new : Cursor K N k n) (rank : Rank) → is_ordered k.shape (line_of (tree_of old image) (root_of old)) ≡ true →
     ahead_of new image ≡ gapped_from_rank k.shape rank (gapped_of (tree_of old image) (root_of old)) → left_of new image ≡ from_rank k.shape rank (flat_of (tree_of old image) (root_of old))
@@ -159,12 +152,5 @@ pub whole-from : {K N : Type 0} {k : keys.Ghosts K} {n : namers.Ghosts N} (image
     starts_whole k.shape test (gapped_left_of new image) ≡ true → is_run_whole (tree_of old image) (root_of old) rank test ≡ true
 whole-from {k = k} image old new rank test left whole = ap (λ xs. starts_whole k.shape test (all_flat xs)) (sym left) ∙ whole
 
--- all keys of an id are a run, all of an id and a kind, and all of a rank
-pub run-id : (id : ℕ) → IsRun (record { id = id; kind = 0; sub = 0 }) (λ r. r.id == id)
-run-id id = record { from = λ r e. grind (arith, nat_tests); on = λ r s high no above. grind (arith, nat_tests) }
-
 pub run-kind : (id kind : ℕ) → IsRun (record { id = id; kind = kind; sub = 0 }) (λ r. (r.id == id) && (r.kind == kind))
 run-kind id kind = record { from = λ r e. grind (arith, nat_tests); on = λ r s high no above. grind (arith, nat_tests) }
-
-pub run-rank : (id kind sub : ℕ) → IsRun (record { id = id; kind = kind; sub = sub }) (λ r. (r.id == id) && ((r.kind == kind) && (r.sub == sub)))
-run-rank id kind sub = record { from = λ r e. grind (arith, nat_tests); on = λ r s high no above. grind (arith, nat_tests) }

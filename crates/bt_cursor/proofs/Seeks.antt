@@ -6,19 +6,17 @@ use Rattle.std.proofs.lemmas.Bool.Decides.{nat_tests}
 use Rattle.std.proofs.lemmas.Grind.{flat_map-append}
 use Rattle.std.proofs.lemmas.List.Elements.{All-head, All-tail, All-cons, All-nil, All-weaker}
 use Rattle.apfs_model.specs.Lists.{last_or, last}
-use Rattle.obj_base.specs.declared.stop.Stop.{Stop}
 use Rattle.bt_node.specs.Entries.{Pair}
 use Rattle.bt_node.specs.Rank.{is_below}
 use Rattle.bt_node.specs.Shape.{Shape}
 use Rattle.bt_node.specs.declared.key.Rank.{Rank}
-use Rattle.bt_cursor.specs.declared.fault.WalkFault.{WalkFault}
 use Rattle.bt_cursor.specs.Tree.{Tree}
 use Rattle.bt_cursor.specs.Flat.{flat_of}
 use Rattle.bt_cursor.specs.Line.{Item, line_of, leaf_pairs}
 use Rattle.bt_cursor.specs.Gaps.{Gapped, gapped_of, met_in, all_met, all_flat}
 use Rattle.bt_cursor.specs.Order.{rank_of, ranks_below, is_ordered}
 use Rattle.bt_cursor.specs.From.{is_below_rank, from_rank, after_last, is_low, is_high, gapped_from_rank}
-use Rattle.bt_cursor.specs.Search.{IsPlaceOf, IsGapAt, IsInOrder}
+use Rattle.bt_cursor.specs.Search.{IsPlaceOf, IsInOrder}
 use Rattle.bt_cursor.proofs.Lines.{leaf_pairs-append}
 use Rattle.bt_cursor.proofs.Flats.{flat-met, line-pairs, gapped-line}
 use Rattle.bt_cursor.proofs.Suffixes.{last-after}
@@ -182,13 +180,6 @@ place-from tree root rank left ordered place =
     let order = order-right tree.shape (all_met place.before) (all_met left) (order-met tree root place.before left ordered place.split) in
     sym (ap (after_last (is_low tree.shape rank)) place.split
     ∙ after-last (is_low tree.shape rank) place.before left place.sides.low (none-low tree.shape rank left (starts-met tree.shape rank left order place.sides.high)))
-
--- and a gap at a place of a rank comes first from that rank on
-pub gap-from : {K : Type 0} (tree : Tree K) (root : ℕ) (rank : Rank) (why : Stop WalkFault) → is_ordered tree.shape (line_of tree root) ≡ true → (gap : IsGapAt tree.shape rank (gapped_of tree root) why) → gapped_from_rank tree.shape rank (gapped_of tree root) ≡ Err why ∷ gap.after
-gap-from tree root rank why ordered gap =
-    let order = order-right tree.shape (all_met gap.before) (all_met gap.after) (order-met tree root gap.before (Err why ∷ gap.after) ordered gap.split) in
-    ap (after_last (is_low tree.shape rank)) gap.split
-    ∙ after-last (is_low tree.shape rank) gap.before (Err why ∷ gap.after) gap.sides.low (none-low tree.shape rank gap.after (starts-met tree.shape rank gap.after order gap.sides.high))
 
 -- on an ordered Line the entries of the flat list from a rank on are those of the Line with its gaps from that rank on
 pub from-flat : {K : Type 0} (tree : Tree K) (root : ℕ) (rank : Rank) → is_ordered tree.shape (line_of tree root) ≡ true → all_met (all_flat (gapped_from_rank tree.shape rank (gapped_of tree root))) ≡ from_rank tree.shape rank (flat_of tree root)

@@ -1,5 +1,5 @@
 -- The order of a Line.
-use Rattle.std.specs.Prelude.{ℕ, Bool, ◌&&◌, ◌||◌, is_none, List, [], ◌∷◌, ◌++◌, length, take, slice_get, Option, Some, None, if◌then◌else◌}
+use Rattle.std.specs.Prelude.{ℕ, Bool, ◌&&◌, ◌||◌, is_none, List, [], ◌∷◌, ◌++◌, length, Option, Some, None, if◌then◌else◌}
 use Rattle.std.specs.List.{filter}
 use Rattle.apfs_model.specs.Lists.{last, passes}
 use Rattle.bt_node.specs.Shape.{Shape}
@@ -32,10 +32,6 @@ ranks_same shape item other = is_same_rank (rank_of shape item.pair) (rank_of sh
 -- rank of the last key of a leaf among them
 abbrev pub is_misplaced : {K : Type 0} → Shape K → List Item → Item → Bool
 is_misplaced shape before item = passes (last before) (ranks_below shape item) || (is_strict_leaf shape item && passes (last (filter is_leaf_item before)) (ranks_same shape item))
-
--- the same as a test of a place in a Line
-abbrev pub is_misplaced_at : {K : Type 0} → Shape K → List Item → ℕ → Bool
-is_misplaced_at shape line i = passes (slice_get line i) (is_misplaced shape (take i line))
 
 -- the number of the first item out of order among those that come after some others
 abbrev pub first_misplaced : {K : Type 0} → Shape K → List Item → List Item → Option ℕ

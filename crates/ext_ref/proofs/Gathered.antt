@@ -113,12 +113,6 @@ said_tells image site root (Unsupported feature block) some told = (some, told)
 said_tells image site root ReadFault some told = tt
 said_tells image site root NoMemory some told = tt
 
-pub said_read : (stop : Stop GatherFault) → raised said stop ≡ ReadFault → stop ≡ ReadFault
-said_read (Found why) e = absurd (cc)
-said_read (Unsupported feature block) e = absurd (cc)
-said_read ReadFault e = refl
-said_read NoMemory e = absurd (cc)
-
 -- where a tree is right, only the source or the memory stops a call
 pub right_free : (image : List ℕ) (site : Site) (root : ℕ) (stop : Stop ExtStop) → is_right_tree image site root ≡ true → Tells (IsExtStop image site root) (IsExtFeature image site root) stop → IsFree stop
 right_free image site root (Found why) right told = ext-refutes image site root why right told

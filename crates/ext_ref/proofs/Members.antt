@@ -8,7 +8,7 @@ use Rattle.fs_record.specs.declared.extents.FileExt.{FileExt}
 use Rattle.fs_record.specs.contracts.extents.FileExtPartialEq.TheImpl as extents
 use Rattle.ext_ref.specs.Cover.{is_owned}
 use Rattle.ext_ref.specs.Same.{HaveSame}
-use Rattle.ext_ref.specs.References.{touches, ids_touching, streams_of, references_of}
+use Rattle.ext_ref.specs.References.{touches, ids_touching, streams_of}
 use Rattle.ext_ref.specs.Unreached.{reaches, is_unreached, runs_of, end_of_ranges, unreached_runs}
 use Rattle.ext_ref.specs.declared.range.NewRange.{NewRange}
 use Rattle.ext_ref.proofs.Touched.{has-of, same-distinct}
@@ -43,14 +43,6 @@ streams-same block_size xs ys r same =
     let p : ℕ × FileExt → Bool = λ x. touches block_size r x.1 in
     same-distinct (ids_touching block_size ys r) (ids_touching block_size xs r)
     (λ n. has-of p ys n ∙ (any-same (λ (x : ℕ × FileExt). p x && (x.0 == n)) ys xs (λ x. ((same x).1, (same x).0)) ∙ sym (has-of p xs n)))
-
--- the same for each range
-pub references-same : (block_size : ℕ) (ranges : List NewRange) (xs ys : List (ℕ × FileExt)) → HaveSame xs ys → references_of block_size ranges ys ≡ references_of block_size ranges xs
-references-same block_size [] xs ys same = refl
-references-same block_size (r ∷ rs) xs ys same =
-    let first : streams_of block_size ys r ≡ streams_of block_size xs r = streams-same block_size xs ys r same in
-    let rest : references_of block_size rs ys ≡ references_of block_size rs xs = references-same block_size rs xs ys same in
-    cc
 
 -- the runs that no extent reaches
 pub unreached-same : (block_size : ℕ) (ranges : List NewRange) (xs ys : List (ℕ × FileExt)) → HaveSame xs ys → unreached_runs block_size ranges ys ≡ unreached_runs block_size ranges xs

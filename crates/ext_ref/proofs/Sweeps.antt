@@ -1,14 +1,14 @@
 -- How many streams touch spans, by the places between which the spans stand that a stream touches.
 use Rattle.std.specs.Prelude.{◌≡◌, ◌↔◌, ℕ, suc, ◌+◌, ◌-◌, ◌≤◌, ◌<◌, ◌==◌, ◌||◌, ◌&&◌, not, min, max, Bool, true, false, cond, nat_le, nat_lt, List, [], ◌∷◌, ◌++◌, length, map, filter, count_by, slice_range, refl}
-use Rattle.std.specs.List.{list_any, All}
+use Rattle.std.specs.List.{list_any}
 use Rattle.std.specs.List.Sorted.{IsPermutation, IsPartitionPoint}
 use Rattle.std.proofs.Common.{arith, ap, sym, subst, ◌∙◌, inl, inr, get_or, take, drop}
 use Rattle.std.proofs.lemmas.Bool.{cases_lt, le-ltb}
 use Rattle.std.proofs.lemmas.List.{get_or-take, get_or-drop, length-take, get_or_append_left, get_or_default, length-append}
 use Rattle.std.proofs.Math.Seq.{get_or-append_seam}
-use Rattle.std.proofs.lemmas.List.Elements.{All-head, All-tail, All-push}
+use Rattle.std.proofs.lemmas.List.Elements.{All-head, All-tail}
 use Rattle.std.proofs.lemmas.List.Folds.{list_any_none, list_any_more}
-use Rattle.std.proofs.lemmas.List.Sorted.{list_any-IsPermutation, sum_by-IsPermutation, IsNonDecreasingBy-push}
+use Rattle.std.proofs.lemmas.List.Sorted.{list_any-IsPermutation, sum_by-IsPermutation}
 use Rattle.std.proofs.lemmas.List.Sums.{sum_by-cons, sum_by-append, length-filter, count_by_more_yes, count_by_more_no}
 use Rattle.apfs_model.specs.Apart.{Apart}
 use Rattle.apfs_model.specs.Lists.{In, has, distinct}
@@ -18,7 +18,7 @@ use Rattle.apfs_model.proofs.Searches.{in-has, has-in, filter-test, in-filter}
 use Rattle.fs_record.specs.StreamExtents.{is_hole}
 use Rattle.fs_record.specs.declared.extents.FileExt.{FileExt}
 use Rattle.ext_ref.specs.Cover.{range_has, is_owned}
-use Rattle.ext_ref.specs.Spans.{span_of, span_has, is_spanned, AreProper, AreApart, BeginBy}
+use Rattle.ext_ref.specs.Spans.{span_of, span_has, is_spanned, AreProper, AreApart}
 use Rattle.ext_ref.specs.References.{end_of, touches, streams_of}
 use Rattle.ext_ref.specs.Sweep.{meets, streams_at, is_of, AreRising, AreCounts}
 use Rattle.ext_ref.specs.declared.range.NewRange.{NewRange}
@@ -248,21 +248,6 @@ streams-counted block_size extents sorted ids s moves all apart =
 pub streams-span : (block_size : ℕ) (extents : List (ℕ × FileExt)) (r : NewRange) → streams_at block_size extents (span_of r) ≡ streams_of block_size extents r
 unfolding streams_of touches meets
 streams-span block_size extents r = refl
-
--- one more span after those that rise
-pub rising-push : (spans : List Span) (s : Span) (far : ℕ) → AreRising spans → BeginBy s.first spans → All (λ (t : Span). t.end ≤ far) spans → s.first < s.end → far ≤ s.end → AreRising (spans ++ s ∷ [])
-rising-push spans s far h by ends has past = record {
-  full = All-push (λ (t : Span). t.first < t.end) spans s h.full has;
-  firsts = IsNonDecreasingBy-push (λ (t : Span). t.first) spans s h.firsts (λ d some. by (length spans - 1) d (omega (arith, some)));
-  ends = IsNonDecreasingBy-push (λ (t : Span). t.end) spans s h.ends (λ d some. let e : (get_or spans (length spans - 1) d).end ≤ far = ends (length spans - 1) d (omega (arith, some)) in omega (arith, e, past));
-}
-
-pub ends-push : (spans : List Span) (s : Span) (far : ℕ) → All (λ (t : Span). t.end ≤ far) spans → far ≤ s.end → All (λ (t : Span). t.end ≤ s.end) (spans ++ s ∷ [])
-ends-push spans s far ends past = All-push (λ (t : Span). t.end ≤ s.end) spans s (λ k d low. let e : (get_or spans k d).end ≤ far = ends k d low in omega (arith, e, past)) (omega arith)
-
--- those that begin by a span begin by the next ones
-pub by-push : (spans : List Span) (s : Span) → BeginBy s.first spans → BeginBy s.first (spans ++ s ∷ [])
-by-push spans s by = All-push (λ (t : Span). t.first ≤ s.first) spans s by (omega arith)
 
 -- what an extent meets, among what others meet
 pub owned-next : (block_size : ℕ) (s : Span) (extents : List (ℕ × FileExt)) (k i : ℕ) (d : ℕ × FileExt) (old new : List NewRange) (r : NewRange) → k < length extents → new ≡ old ++ r ∷ []

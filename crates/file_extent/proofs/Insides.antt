@@ -1,5 +1,5 @@
 -- Where the bytes of an extent lie in the source.
-use Rattle.std.proofs.Common.{◌≡◌, ℕ, ◌+◌, ◌-◌, ◌*◌, ◌/◌, ◌%◌, ◌<◌, ◌≤◌, Bool, true, false, cond, ◌&&◌, nat_lt, nat_le, List, [], ◌∷◌, length, Option, Some, inl, inr, refl, sym, subst, arith, ◌^◌}
+use Rattle.std.proofs.Common.{◌≡◌, ℕ, ◌+◌, ◌-◌, ◌*◌, ◌/◌, ◌%◌, ◌<◌, ◌≤◌, Bool, true, false, cond, ◌&&◌, nat_lt, nat_le, List, [], ◌∷◌, length, Some, inl, inr, refl, sym, subst, arith, ◌^◌}
 use Rattle.std.proofs.lemmas.Bool.Decides.{nat_tests}
 use Rattle.std.proofs.lemmas.Option.{none-some, same_Some}
 use Rattle.apfs_model.specs.Lists.{In}
@@ -44,9 +44,6 @@ part-inside es i n e part =
     let last : IsOver es ((i + n) - 1) e = over-in es ((i + n) - 1) e (part.same ((i + n) - 1) (omega arith) (omega arith)) in
     let end : (i + n) - 1 < extent_end e = covers-to e ((i + n) - 1) last.over in
     record { one = first.one; from = covers-from e i first.over; to = omega arith }
-
-pub part-less : (es : List FileExt) (i m n : ℕ) (o : Option FileExt) → IsPart es i o n → 0 < m → m ≤ n → IsPart es i o m
-part-less es i m n o part some few = record { some = some; same = λ j from to. part.same j from (omega arith) }
 
 -- an accepted size is above 0
 pub size-some : (size : ℕ) → is_accepted size ≡ true → 0 < size

@@ -100,10 +100,6 @@ rising-push from (x ∷ es) e rising low =
     both-true (nat_le from x.logical) (are_rising (extent_end x) (es ++ e ∷ [])) (left-true (nat_le from x.logical) (are_rising (extent_end x) es) rising)
     (rising-push (extent_end x) es e (right-true (nat_le from x.logical) (are_rising (extent_end x) es) rising) low)
 
-pub last_end-push : (from : ℕ) (es : List FileExt) (e : FileExt) → last_end from (es ++ e ∷ []) ≡ extent_end e
-last_end-push from [] e = refl
-last_end-push from (x ∷ es) e = last_end-push (extent_end x) es e
-
 -- ---- extents that rise are apart
 apart-from : (x : FileExt) (from : ℕ) (es : List FileExt) → are_rising from es ≡ true → extent_end x ≤ from → list_any (overlap x) es ≡ false
 apart-from x from [] rising low = refl

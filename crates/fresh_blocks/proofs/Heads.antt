@@ -1,11 +1,9 @@
 -- A header of a known type is sound where its kind and its id are expected.
-use Rattle.std.proofs.Common.{arith, ◌≡◌, ℕ, ◌≤◌, true, false, List, Some, Result, is_ok, refl, ap, ◌∙◌}
+use Rattle.std.proofs.Common.{arith, ◌≡◌, ℕ, ◌≤◌, true, false, List, Some, is_ok, refl, ap, ◌∙◌}
 use Rattle.std.proofs.lemmas.Grind.{common_steps}
 use Rattle.apfs_model.specs.Bytes.{has_flag}
 use Rattle.apfs_model.specs.Object.{kind_in, flags_in, encrypted_flag, no_header_flag}
 use Rattle.obj_base.specs.Sound.{sound_of, expecting}
-use Rattle.obj_base.specs.declared.header.HeadFault.{HeadFault}
-use Rattle.obj_base.specs.declared.stop.Bad.{Bad}
 use Rattle.obj_base.proofs.SoundLemmas.{means_sound}
 use Rattle.fresh_blocks.specs.Facts.{HasHeader}
 
@@ -23,7 +21,3 @@ head-sound oid type subtype kind xid bytes h plain headed k late =
       oid_right = Prim.grind (arith, common_steps, h.oid_is);
       xid_right = Prim.omega (arith, h.xid_is, late);
     })
-
--- an answer that is one is `Ok`
-pub ok-is : (bytes : List ℕ) (r : Result (List ℕ) (Bad HeadFault)) → is_ok r ≡ true → is_ok r ≡ true
-ok-is bytes r e = e

@@ -5,9 +5,6 @@ use Rattle.std.specs.Prelude.{filter}
 use Rattle.std.specs.List.{range_with_len}
 use Rattle.apfs_model.proofs.BoolTests.{below-from}
 
-kept : ℕ → ℕ → Bool
-kept bound i = not (nat_lt i bound)
-
 -- a test that is another on each number of a range keeps as many
 pub as-many : (p q : ℕ → Bool) (first n : ℕ) → ((i : ℕ) → first ≤ i → i < first + n → p i ≡ q i) → length (filter p (range_with_len first n)) ≡ length (filter q (range_with_len first n))
 as-many p q first zero same = refl

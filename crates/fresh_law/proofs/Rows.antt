@@ -8,7 +8,6 @@ use Rattle.apfs_model.specs.Object.{space_kind, cib_kind, map_kind, volume_kind,
 use Rattle.apfs_model.specs.Bytes.{u64_at}
 use Rattle.apfs_model.proofs.Empty.{none-flat}
 use Rattle.apfs_model.proofs.BoolTests.{from-range}
-use Rattle.obj_base.specs.Sound.{sound_of, expecting}
 use Rattle.obj_base.specs.declared.header.Header.{Header}
 use Rattle.obj_base.specs.declared.header.HeadFault.{HeadFault}
 use Rattle.obj_base.specs.declared.stop.Bad.{Bad}
@@ -29,7 +28,7 @@ use Rattle.space_pool.specs.Queues.{one_block}
 use Rattle.reach_rules.specs.Naming.{LookUp, ByBlock, ByMapping, InContainer, InView, Object, InBlock, OfId, OfRecord, Namer, Whole, TreeKind, MapRecords, ExtentRefs, SnapMetadata, FreeQueue, Files, Expected, SpaceManager, ContainerMap, ReaperObject, Jumpstart, VolumeIn, VolumeMap, InfoBlock, TreeRoot, Naming, naming}
 use Rattle.reach_rules.specs.Resolved.{Found, standing, found_physical, found_virtual, recorded, mapped, mapped_node, resolved}
 use Rattle.reach_rules.specs.declared.fault.Why.TheVariants.{Magic}
-use Rattle.reach_rules.specs.Tested.{Answer, of_header, of_node, node_answer, head_tested, with_magic, tested}
+use Rattle.reach_rules.specs.Tested.{Answer, of_header, of_node, node_answer, with_magic, tested}
 use Rattle.reach_rules.proofs.Nexts.{Each}
 use Rattle.bt_keys.specs.Shapes.{omap_shape, queue_shape, ext_shape, snap_shape, fs_shape}
 use Rattle.bt_cursor.specs.Flat.{flat_of}
@@ -39,7 +38,7 @@ use Rattle.img_format.specs.declared.spec.Spec.{Spec}
 use Rattle.img_format.specs.Valid.{IsValid}
 use Rattle.fresh_blocks.specs.Site.{block_at, site}
 use Rattle.fresh_law.specs.Checkpoint.{place, seen}
-use Rattle.fresh_blocks.specs.Facts.{HasHeader, IsRootLeaf, IsManager, IsFresh}
+use Rattle.fresh_blocks.specs.Facts.{IsRootLeaf, IsManager, IsFresh}
 use Rattle.fresh_blocks.proofs.Heads.{head-sound}
 use Rattle.fresh_law.proofs.Leaves.{leaf-flat}
 use Rattle.fresh_law.proofs.Sites.{site-is, inside}
@@ -121,10 +120,6 @@ files-found spec image v f = virtual-is spec image v f 52 1028 54 (omega arith) 
 ok-answer : (bytes : List ℕ) (r : Result Header (Bad HeadFault)) → is_ok r ≡ true → of_header bytes r ≡ Ok bytes
 ok-answer bytes (Ok h) e = refl
 ok-answer bytes (Err bad) e = absurd (let z : false ≡ true = e in let q : ⊥ = cc in q)
-
-head-tests : (s : Site) (kind oid type subtype : ℕ) (bytes : List ℕ) → HasHeader oid type subtype bytes → 1 ≤ s.max_xid →
-    is_ok (sound_of bytes (expecting kind (Some oid) s.max_xid)) ≡ true → head_tested s kind (Some oid) bytes ≡ Ok bytes
-head-tests s kind oid type subtype bytes h late e = ok-answer bytes (sound_of bytes (expecting kind (Some oid) s.max_xid)) e
 
 manager-sound : (spec : Spec) (image : List ℕ) → IsFresh spec image → tested (site_of (seen image)) SpaceManager 1024 (block_at image 9) ≡ Ok (block_at image 9)
 unfolding tested site_of

@@ -1,5 +1,5 @@
 -- The trees of the container are in order and counted.
-use Rattle.std.proofs.Common.{arith, ◌≡◌, ℕ, ◌<◌, Bool, true, false, List, [], ◌∷◌, length, map, Option, Some, None, refl, ap, sym, ◌∙◌, subst}
+use Rattle.std.proofs.Common.{arith, ◌≡◌, ℕ, ◌<◌, Bool, true, false, List, [], ◌∷◌, map, Option, Some, None, refl, ap, sym, ◌∙◌, subst}
 use Rattle.std.specs.Prelude.{slice_get}
 use Rattle.apfs_model.specs.Bytes.{u64_at}
 use Rattle.apfs_model.specs.Blocks.{in_container}
@@ -78,9 +78,6 @@ right-queue image which root l =
       counted = leaf-counted (queue_tree image (seen image)) root [] l;
       long = λ number low. no-item _ (is_short (FreeQueue which)) number line;
     }
-
-no-name : (line : List Item) (number : ℕ) → number < length line → line ≡ [] → ⊥
-no-name line number low e = omega (arith, low, ap length e)
 
 -- files are the view's
 right-files : (image : List ℕ) (hashed : Bool) (root : ℕ) → IsRightTree image (seen image) (Files hashed) root

@@ -1,4 +1,3 @@
 pub mod CrcLemmas
 pub mod NormalLemmas
-pub mod HashLemmas
 pub mod TextLemmas

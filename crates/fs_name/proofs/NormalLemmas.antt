@@ -1,13 +1,9 @@
 -- Texts and the characters of their normal forms.
-use Rattle.std.proofs.Common.{◌≡◌, ℕ, ◌<◌, ◌↔◌, nat_lt, length, get_or, arith, inl, inr, Bool, true, false, List, map, All, IsTrue, Result, Ok, Err, IfOk, chars, string_bytes, encode_utf8_all, String, refl, sym, ap, ap₂, ◌∙◌}
-use Rattle.std.specs.Bool.{MatchBool}
-use Rattle.std.specs.Str.{IsUtf8, IsAscii, IsNotAscii, bytes_eq}
+use Rattle.std.proofs.Common.{◌≡◌, ℕ, ◌<◌, ◌↔◌, Bool, true, false, List, map, All, IsTrue, Result, Ok, Err, IfOk, chars, refl, sym, ap, ap₂, ◌∙◌}
+use Rattle.std.specs.Str.{IsAscii, bytes_eq}
 use Rattle.std.specs.Cmp.Lexicographic.{bytes_decides}
-use Rattle.std.proofs.lemmas.Bool.{cases_lt, lt-ltb, le-ltb}
-use Rattle.std.proofs.lemmas.List.{map-id, get_or_past}
-use Rattle.std.proofs.lemmas.List.Folds.{list_all_at}
-use Rattle.std.proofs.lemmas.List.Sums.{list_all-from_AllPass}
-use Rattle.std.proofs.lemmas.Str.{encodes_same, encodes-chars, chars-IsAscii, IsUtf8-string_bytes}
+use Rattle.std.proofs.lemmas.List.{map-id}
+use Rattle.std.proofs.lemmas.Str.{chars-IsAscii}
 use Rattle.std.proofs.lemmas.Str.Ascii.{All-from_ascii}
 use Rattle.unicode_normalization.specs.Forms.{Nfd}
 use Rattle.unicode_normalization.proofs.FormsLemmas.{normalize-ascii}
@@ -16,15 +12,6 @@ use Rattle.caseless.proofs.CaselessLemmas.{canonical_key-ascii, default_case_fol
 use Rattle.fs_name.specs.declared.naming.Names.{Names}
 use Rattle.fs_name.specs.declared.naming.Names.TheVariants.{Exact, Normal, Folded}
 use Rattle.fs_name.specs.Normal.{normal_chars, normal_form, letter_of, is_same_name}
-use Rattle.fs_name.specs.Text.{is_ascii_name}
-
--- a text that was made of some characters has these characters
-pub chars_of_made : {Z : Type 0} (made : String Z) (cs : List ℕ) → string_bytes made ≡ encode_utf8_all cs → chars (string_bytes made) ≡ cs
-chars_of_made made cs e = encodes_same (chars (string_bytes made)) cs (encodes-chars (string_bytes made) (IsUtf8-string_bytes made) ∙ e)
-
--- texts of the same characters are the same
-pub same_text : (a b : List ℕ) → IsUtf8 a → IsUtf8 b → chars a ≡ chars b → a ≡ b
-same_text a b text_a text_b e = sym (encodes-chars a text_a) ∙ ap encode_utf8_all e ∙ encodes-chars b text_b
 
 -- two tests that hold together
 pub same_test : (b t : Bool) → (b ≡ true → t ≡ true) → (t ≡ true → b ≡ true) → b ≡ t
@@ -38,12 +25,6 @@ test_is b xs ys tells =
     let decides = bytes_decides xs ys in
     same_test b (bytes_eq xs ys) (λ t. decides.1 (tells.0 t)) (λ t. tells.1 (decides.0 t))
 
--- the test of texts is that of their characters
-pub chars_eq : (a b : List ℕ) → IsUtf8 a → IsUtf8 b → bytes_eq a b ≡ bytes_eq (chars a) (chars b)
-chars_eq a b text_a text_b =
-    test_is (bytes_eq a b) (chars a) (chars b)
-    (λ t. ap chars ((bytes_decides a b).0 t), λ e. (bytes_decides a b).1 (same_text a b text_a text_b e))
-
 -- the normal form of ASCII letters
 pub normal_chars-ascii : (names : Names) (cs : List ℕ) → All (λ c. c < 128) cs → normal_chars names cs ≡ map (letter_of names) cs
 unfolding normal_chars
@@ -55,18 +36,6 @@ pub ascii_normal_form : (names : Names) (name : List ℕ) → IsAscii name → n
 ascii_normal_form names name ascii =
     ap (normal_chars names) (chars-IsAscii name ascii) ∙ normal_chars-ascii names name (All-from_ascii name ascii)
 
--- names are the same by their bytes, where that is the kind or both are ASCII and not folded
-pub exact_same : (a b : List ℕ) → IsUtf8 a → IsUtf8 b → bytes_eq a b ≡ is_same_name Exact a b
-unfolding is_same_name normal_chars
-exact_same a b text_a text_b = chars_eq a b text_a text_b
-
-pub ascii_same : (a b : List ℕ) → IsAscii a → IsAscii b → bytes_eq a b ≡ is_same_name Normal a b
-unfolding is_same_name
-ascii_same a b ascii_a ascii_b =
-    ap₂ bytes_eq
-    (sym (ascii_normal_form Normal a ascii_a ∙ map-id a))
-    (sym (ascii_normal_form Normal b ascii_b ∙ map-id b))
-
 folded_is : (same : Bool) (a b : List ℕ) → (IsTrue same ↔ IsCanonicalMatch (chars a) (chars b)) → same ≡ is_same_name Folded a b
 unfolding is_same_name normal_chars
 folded_is same a b tells = test_is same (canonical_key (chars a)) (canonical_key (chars b)) tells
@@ -75,14 +44,3 @@ folded_is same a b tells = test_is same (canonical_key (chars a)) (canonical_key
 pub folded_same : {E : Type 0} (result : Result Bool E) (names : Names) (a b : List ℕ) → names ≡ Folded → IfOk result (λ same. IsTrue same ↔ IsCanonicalMatch (chars a) (chars b)) → IfOk result (λ same. same ≡ is_same_name names a b)
 folded_same (Ok same) names a b folded tells = folded_is same a b tells ∙ ap (λ n. is_same_name n a b) (sym folded)
 folded_same (Err e) names a b folded tells = tells
-
--- the test for ASCII is the library's
-pub is_ascii_name_is : (b : Bool) (name : List ℕ) → MatchBool b (IsAscii name) (IsNotAscii name) → b ≡ is_ascii_name name
-unfolding is_ascii_name
-is_ascii_name_is true name ascii = sym (list_all-from_AllPass (λ c. nat_lt c 128) name (λ k d low. lt-ltb _ _ (All-from_ascii name ascii k d low)))
-is_ascii_name_is false name (i, wide) =
-    let inside : i < length name = elim (cases_lt i (length name)) [
-      | inl low ↦ low
-      | inr past ↦ absurd (Prim.omega (arith, get_or_past name i 0 past))
-    ] in
-    sym (list_all_at (λ c. nat_lt c 128) name i 0 inside (le-ltb (get_or name i 0) 128 wide))

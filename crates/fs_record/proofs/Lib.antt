@@ -1,4 +1,3 @@
 pub mod Places
-pub mod Readings
 pub mod Examples
 pub mod FactsExamples

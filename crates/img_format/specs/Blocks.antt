@@ -4,10 +4,6 @@ use Rattle.img_format.specs.declared.spec.Spec.{Spec}
 use Rattle.img_format.specs.Tables.{Field, num, laid, object, plain}
 use Rattle.img_format.specs.Nodes.{Entry, root}
 
--- where things stand
-abbrev pub first_free : ℕ
-first_free = 57
-
 -- the superblock, in blocks 0 and 2
 unfoldable pub super : Spec → List ℕ
 super spec = object 1 0x80000001 0 (

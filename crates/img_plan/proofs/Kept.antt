@@ -1,7 +1,7 @@
 -- Numbers that stay where others are written, and numbers in zeros.
 use Rattle.std.proofs.Common.{◌≡◌, ℕ, zero, suc, ◌+◌, ◌-◌, ◌<◌, ◌≤◌, List, ◌++◌, length, take, drop, replicate, get_or, set, refl, ap, sym, ◌∙◌, inl, inr, arith}
 use Rattle.std.proofs.lemmas.Bool.{cases_lt}
-use Rattle.std.proofs.lemmas.List.{get_or-take, get_or-drop, get_or-replicate, get_or_past, drop-drop, drop_at, take-take, take_at, take_all, take-set-le, length-take-le, length-replicate}
+use Rattle.std.proofs.lemmas.List.{get_or-take, get_or-drop, get_or-replicate, get_or_past, drop-drop, drop_at, take_at, take_all, take-set-le, length-take-le, length-replicate}
 use Rattle.img_edit.proofs.Sealed.{number_past}
 use Rattle.apfs_model.specs.Bytes.{number_at, u16_at, u64_at}
 use Rattle.img_edit.specs.Edits.{IsSameAround, put_at}
@@ -31,10 +31,6 @@ pub drop_later : (old new : List ℕ) (end later : ℕ) → end ≤ later → dr
 drop_later old new end later past same =
     let e : end + (later - end) ≡ later = omega (arith, past) in
     ap (λ n. drop n new) (sym e) ∙ sym (drop-drop (later - end) end new) ∙ ap (λ l. drop (later - end) l) same ∙ drop-drop (later - end) end old ∙ ap (λ n. drop n old) e
-
--- what stays before a place stays before each earlier one
-pub take_earlier : (old new : List ℕ) (start earlier : ℕ) → earlier ≤ start → take start new ≡ take start old → take earlier new ≡ take earlier old
-take_earlier old new start earlier h same = sym (take-take earlier start new h) ∙ ap (λ l. take earlier l) same ∙ take-take earlier start old h
 
 -- what is put at a place leaves the bytes before it
 pub take_put : (at : ℕ) (part bytes : List ℕ) → at ≤ length bytes → take at (put_at at part bytes) ≡ take at bytes

@@ -1,5 +1,5 @@
 -- What it means that a superblock is read.
-use Rattle.std.proofs.Common.{◌≡◌, ℕ, true, false, List, length, Option, Some, None, Result, Ok, Err, is_ok, arith}
+use Rattle.std.proofs.Common.{◌≡◌, ℕ, true, List, length, Some, Ok, arith}
 use Rattle.std.proofs.lemmas.Grind.{common_steps}
 use Rattle.obj_base.specs.BlockSize.{is_accepted}
 use Rattle.nx_block.specs.Super.{block_size_of}
@@ -14,13 +14,3 @@ size_means bytes size e = (Prim.grind (arith, common_steps, e), Prim.grind (arit
 pub read_means : (bytes zero : List ℕ) → read_of bytes ≡ Ok zero → (zero ≡ bytes) × (is_accepted (block_size_of bytes) ≡ true) × (block_size_of bytes ≡ length bytes)
 unfolding read_of
 read_means bytes zero e = (Prim.grind (arith, common_steps, e), Prim.grind (arith, common_steps, e), Prim.grind (arith, common_steps, e))
-
--- a superblock that is read is the block itself
-pub read_same : (bytes : List ℕ) → is_ok (read_of bytes) ≡ true → read_of bytes ≡ Ok bytes
-unfolding read_of
-read_same bytes e = Prim.grind (arith, common_steps, e)
-
--- the block size of a superblock that is read is accepted
-pub read_accepted : (bytes : List ℕ) → is_ok (read_of bytes) ≡ true → is_accepted (block_size_of bytes) ≡ true
-unfolding read_of
-read_accepted bytes e = Prim.grind (arith, common_steps, e)

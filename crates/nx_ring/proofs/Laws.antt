@@ -4,28 +4,8 @@ use Rattle.std.proofs.Common.{arith, refl, inl, inr}
 use Rattle.std.specs.List.{find}
 use Rattle.std.proofs.lemmas.Grind.{common_steps}
 use Rattle.apfs_model.specs.Lists.{In}
-use Rattle.nx_ring.specs.declared.areas.Areas.{Areas}
-use Rattle.nx_ring.specs.declared.line.RingLine.{RingLine}
 use Rattle.nx_ring.specs.Objects.{Place}
 use Rattle.nx_ring.specs.Checkpoint.{Seen, eph, eph_ids}
-use Rattle.nx_ring.specs.Valid.{is_valid, has_mappings, are_apart, IsValid}
-
--- a valid candidate has the six facts
-pub valid_means : (image : List ℕ) (areas : Areas) (line : RingLine) → is_valid image areas line ≡ true → IsValid image areas line
-unfolding is_valid has_mappings are_apart
-valid_means image areas line e = record {
-  ends = Prim.grind (arith, common_steps);
-  maps = Prim.grind (arith, common_steps);
-  placed = Prim.grind (arith, common_steps);
-  objects = Prim.grind (arith, common_steps);
-  ids_once = Prim.grind (arith, common_steps);
-  blocks_once = Prim.grind (arith, common_steps);
-}
-
--- a candidate with the six facts is valid
-pub means_valid : (image : List ℕ) (areas : Areas) (line : RingLine) → IsValid image areas line → is_valid image areas line ≡ true
-unfolding is_valid has_mappings are_apart
-means_valid image areas line v = Prim.grind (arith, common_steps, v.ends, v.maps, v.placed, v.objects, v.ids_once, v.blocks_once)
 
 found_here : (oid : ℕ) (q p : Place) (ps : List Place) (b : Bool) → (q.oid == oid) ≡ b → cond b (Some q) (find (λ (r : Place). r.oid == oid) ps) ≡ Some p → (find (λ (r : Place). r.oid == oid) ps ≡ Some p → In oid (map (λ (r : Place). r.oid) ps)) → In oid (map (λ (r : Place). r.oid) (q ∷ ps))
 found_here oid q p ps true e f rec = inl (Prim.grind (arith, common_steps, e))

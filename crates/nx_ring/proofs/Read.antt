@@ -1,12 +1,12 @@
 -- What was read of a candidate.
-use Rattle.std.proofs.Common.{◌≡◌, ℕ, ◌+◌, ◌<◌, Bool, List, [], ◌∷◌, ◌++◌, length, map, filter, take, get_or, Option, true, ap, ◌∙◌, nat_lt, arith}
+use Rattle.std.proofs.Common.{◌≡◌, ℕ, ◌+◌, ◌<◌, Bool, List, [], ◌∷◌, ◌++◌, length, map, filter, take, get_or, true, ap, ◌∙◌, nat_lt, arith}
 use Rattle.std.proofs.lemmas.Grind.{common_steps}
 use Rattle.std.proofs.lemmas.List.{take_more, map-append}
 use Rattle.std.proofs.lemmas.List.Elements.{filter-append}
 use Rattle.nx_ring.specs.declared.areas.Areas.{Areas}
 use Rattle.nx_ring.specs.declared.line.RingLine.{RingLine}
 use Rattle.nx_ring.specs.declared.mappings.Mapping.{Mapping}
-use Rattle.nx_ring.specs.Candidates.{candidate, candidate_in, ring_block}
+use Rattle.nx_ring.specs.Candidates.{candidate, ring_block}
 use Rattle.nx_ring.specs.Valid.{mappings_of, have_objects, is_valid}
 use Rattle.nx_ring.specs.Objects.{Place, place_at}
 use Rattle.nx_ring.specs.Checkpoint.{Seen}
@@ -21,10 +21,6 @@ skipped_more lines xid i d low =
     ap (λ (ls : List RingLine). map entry (filter passed ls)) (take_more lines i d low)
     ∙ (ap (map entry) (filter-append passed (take i lines) (get_or lines i d ∷ []))
     ∙ map-append entry (filter passed (take i lines)) (filter passed (get_or lines i d ∷ [])))
-
--- a line that was read is the candidate of its index
-pub candidate_is : (image : List ℕ) (areas : Areas) (index len : ℕ) (slice items : List ℕ) (r : Option RingLine) → r ≡ candidate_in len areas index slice → len ≡ length image → slice ≡ items → items ≡ ring_block image areas index → candidate image areas index ≡ r
-candidate_is image areas index len slice items r e f g h = Prim.cc
 
 abbrev made_of : RingLine → List ℕ → List Place → List (ℕ × ℕ) → Seen
 made_of line nx mapped skipped = record { line = line; nx = nx; mapped = mapped; skipped = skipped }

@@ -1,5 +1,5 @@
 -- Which candidates are valid (Container, "Mounting an Apple File System Partition").
-use Rattle.std.specs.Prelude.{◌≡◌, ℕ, ◌+◌, ◌-◌, ◌%◌, Bool, true, ◌&&◌, ◌==◌, nat_le, List, map}
+use Rattle.std.specs.Prelude.{◌≡◌, ℕ, ◌+◌, ◌-◌, ◌%◌, Bool, ◌&&◌, ◌==◌, nat_le, List, map}
 use Rattle.std.specs.List.{range_with_len, flat_map, list_all}
 use Rattle.apfs_model.specs.Lists.{is_distinct}
 use Rattle.nx_ring.specs.declared.areas.Areas.{Areas}
@@ -78,12 +78,3 @@ has_mappings image areas line = (ends_here areas line && has_maps image areas li
 -- a valid candidate
 unfoldable pub is_valid : List ℕ → Areas → RingLine → Bool
 is_valid image areas line = has_mappings image areas line && have_objects image areas line.xid (mappings_of image areas line)
-
--- the facts that make a candidate valid
-pub record IsValid (image : List ℕ) (areas : Areas) (line : RingLine) : Type 0 where
-  pub ends : ends_here areas line ≡ true
-  pub maps : has_maps image areas line ≡ true
-  pub placed : are_placed areas (mappings_of image areas line) ≡ true
-  pub objects : have_objects image areas line.xid (mappings_of image areas line) ≡ true
-  pub ids_once : have_ids_once (mappings_of image areas line) ≡ true
-  pub blocks_once : have_blocks_once areas (mappings_of image areas line) ≡ true

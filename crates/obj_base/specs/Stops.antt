@@ -19,11 +19,6 @@ abbrev pub Gives : {T U F : Type 0} → (T → U) → Result T (Stop F) → Resu
 Gives view (Ok value) answer = answer ≡ Ok (view value)
 Gives view (Err stop) answer = Tells (λ f. answer ≡ Err (Found f)) (λ name block. answer ≡ Err (Unsupported name block)) stop
 
--- the answer is one of those that are there: a fact of the value, and otherwise what the stop tells
-abbrev pub Answers : {T F : Type 0} → (T → Type 0) → (F → Type 0) → (Feature → ℕ → Type 0) → Result T (Stop F) → Type 0
-Answers value fault feature (Ok x) = value x
-Answers value fault feature (Err stop) = Tells fault feature stop
-
 -- no feature is told of
 abbrev pub NoFeature : Feature → ℕ → Type 0
 NoFeature name block = ⊥

@@ -1,11 +1,8 @@
 -- What the record that an id resolves to means.
-use Rattle.std.specs.Prelude.{◌≡◌, ◌⊎◌, ℕ, suc, ◌<◌, ◌≤◌, true, false, List, [], ◌∷◌, length, slice_index_or, Contains, filter, Option, None, Some, refl, option_and_then}
-use Rattle.std.proofs.Common.{arith, ap, sym, subst, ◌∙◌, inl, inr}
-use Rattle.std.proofs.lemmas.Bool.{cases_lt}
-use Rattle.std.proofs.lemmas.List.{get_or_default}
+use Rattle.std.specs.Prelude.{◌≡◌, ◌⊎◌, ℕ, ◌<◌, ◌≤◌, true, false, List, [], ◌∷◌, filter, Option, None, Some, refl, option_and_then}
+use Rattle.std.proofs.Common.{arith, subst, ◌∙◌}
 use Rattle.std.proofs.lemmas.Grind.{common_steps}
-use Rattle.apfs_model.specs.Lists.{In}
-use Rattle.omap_map.specs.Records.{is_before, is_deleted, IsAscending}
+use Rattle.omap_map.specs.Records.{is_deleted}
 use Rattle.omap_map.specs.Resolve.{is_for, latest, resolved, unless_deleted, IsResolved}
 use Rattle.omap_map.specs.declared.records.OmapRecord.{OmapRecord}
 use Rattle.omap_map.proofs.Lists.{filter-in, in-filter, greatest_one, greatest_bound}
@@ -45,32 +42,3 @@ resolved-step records oid x r (Some s) e f =
 pub resolved-means : (records : List OmapRecord) (oid x : ℕ) (r : OmapRecord) → resolved records oid x ≡ Some r → IsResolved records oid x r
 unfolding resolved
 resolved-means records oid x r e = resolved-step records oid x r (latest records oid x) refl e
-
-in-place : {X : Type 0} (xs : List X) (x : X) → In x xs → Contains xs x
-in-place [] x h = absurd h
-in-place (y ∷ ys) x (inl e) = (0, omega arith, sym e)
-in-place (y ∷ ys) x (inr h) = let c = in-place ys x h in (suc c.0, omega (arith, c.1), c.2)
-
-before-apart : (r s : OmapRecord) → r.oid ≡ s.oid → r.xid ≡ s.xid → is_before r s ≡ true → ⊥
-before-apart r s e f h = grind (arith, common_steps)
-
-one-same : (records : List OmapRecord) (r s : OmapRecord) → IsAscending records → r.oid ≡ s.oid → r.xid ≡ s.xid → (i j : ℕ) → i < length records → slice_index_or records i r ≡ r → j < length records → slice_index_or records j s ≡ s → (j < i) ⊎ (i ≤ j) → j ≤ i → r ≡ s
-one-same records r s ascending e f i j low here high there (inl less) le =
-    let second : slice_index_or records j r ≡ s = get_or_default records j r s high ∙ there in
-    absurd (before-apart s r (sym e) (sym f) (subst (λ t. is_before t r ≡ true) second (subst (λ t. is_before (slice_index_or records j r) t ≡ true) here (ascending j i r less low))))
-one-same records r s ascending e f i j low here high there (inr le2) le =
-    let same : i ≡ j = omega arith in
-    sym here ∙ (get_or_default records i r s low ∙ (ap (λ k. slice_index_or records k s) same ∙ there))
-
-one-step : (records : List OmapRecord) (r s : OmapRecord) → IsAscending records → r.oid ≡ s.oid → r.xid ≡ s.xid → (i j : ℕ) → i < length records → slice_index_or records i r ≡ r → j < length records → slice_index_or records j s ≡ s → (i < j) ⊎ (j ≤ i) → r ≡ s
-one-step records r s ascending e f i j low here high there (inl less) =
-    let first : slice_index_or records i s ≡ r = get_or_default records i s r low ∙ here in
-    absurd (before-apart r s e f (subst (λ t. is_before t s ≡ true) first (subst (λ t. is_before (slice_index_or records i s) t ≡ true) there (ascending i j s less high))))
-one-step records r s ascending e f i j low here high there (inr le) = one-same records r s ascending e f i j low here high there (cases_lt j i) le
-
--- two records of one id and one transaction are one
-pub one-record : (records : List OmapRecord) (r s : OmapRecord) → IsAscending records → In r records → In s records → r.oid ≡ s.oid → r.xid ≡ s.xid → r ≡ s
-one-record records r s ascending h k e f =
-    let a = in-place records r h in
-    let b = in-place records s k in
-    one-step records r s ascending e f a.0 b.0 a.1 a.2 b.1 b.2 (cases_lt a.0 b.0)

@@ -1,7 +1,6 @@
 -- Attributes, and the one of a name, by what was gathered.
-use Rattle.std.proofs.Common.{◌≡◌, ℕ, zero, suc, ◌+◌, ◌<◌, Bool, true, false, cond, List, [], ◌∷◌, ◌++◌, length, map, take, get_or, Option, Some, None, Result, Ok, Err, refl, ap, sym, ◌∙◌, arith}
+use Rattle.std.proofs.Common.{◌≡◌, ℕ, zero, suc, ◌+◌, ◌<◌, Bool, true, false, cond, List, [], ◌∷◌, ◌++◌, length, map, get_or, Option, Some, None, Result, Ok, Err, refl, ap, sym, ◌∙◌, arith}
 use Rattle.std.specs.List.{find}
-use Rattle.std.proofs.lemmas.List.{take_more, map-append}
 use Rattle.apfs_model.specs.Lists.{and_then}
 use Rattle.fs_record.specs.Attributes.{Attribute}
 use Rattle.fs_record.specs.Facts.{all_for}
@@ -58,11 +57,6 @@ pub attribute_lost : (block_size : ℕ) (image : List ℕ) (facts : Facts) (path
 attribute_lost block_size image facts path name a e = listed-lost facts (found facts path) (λ (p : Place). held_by block_size image facts (attribute_named facts p.id name)) a e
 
 -- ---- one attribute after another
-pub told_more : (these : List Attribute) (i : ℕ) (a : Attribute) (one : List ℕ × ℕ) (told : List (List ℕ × ℕ)) → i < length these → a ≡ get_or these i a → one ≡ attribute_told a → told ≡ map attribute_told (take i these) → told ++ one ∷ [] ≡ map attribute_told (take (i + 1) these)
-told_more these i a one told low at is so_far =
-    ap (λ (l : List (List ℕ × ℕ)). l ++ one ∷ []) so_far
-    ∙ (ap (λ (t : List ℕ × ℕ). map attribute_told (take i these) ++ t ∷ []) (is ∙ ap attribute_told at)
-    ∙ sym (ap (map attribute_told) (take_more these i a low) ∙ map-append attribute_told (take i these) (get_or these i a ∷ [])))
 
 -- the first that passes a test
 pub find_first : {X : Type 0} (p : X → Bool) (xs : List X) (i : ℕ) (d : X) → i < length xs → ((k : ℕ) → k < i → p (get_or xs k d) ≡ false) → p (get_or xs i d) ≡ true → find p xs ≡ Some (get_or xs i d)

@@ -35,7 +35,7 @@ use Rattle.view_rules.specs.Extents.{is_disordered, is_misplaced, IsExtentOrder,
 use Rattle.view_rules.specs.Rules.{view_facts, refusal_of, HasRecords, raised}
 use Rattle.view_rules.specs.declared.fault.TreeFault.TheVariants.{ExtentOrder, ExtentPlace}
 use Rattle.view_rules.specs.declared.fault.TreeFault.TheVariants.{ExtentOrder, ExtentPlace}
-use Rattle.path_walk.specs.Stops.{IsPathFault, IsStopThere, IsNoAnswer}
+use Rattle.path_walk.specs.Stops.{IsPathFault, IsStopThere}
 use Rattle.path_read.specs.Parts.{HasRefused as HasAttributeRefused}
 use Rattle.path_read.specs.Streamed.{id_at, stream_raised}
 use Rattle.path_walk.specs.declared.stop.PathStop.{PathStop}
@@ -187,22 +187,3 @@ stream_refused image site volume view id (Found streams.Outside) e h records = l
 stream_refused image site volume view id (Unsupported feature block) e h records = let q : ⊥ = cc in q
 stream_refused image site volume view id ReadFault e h records = let q : ⊥ = cc in q
 stream_refused image site volume view id NoMemory e h records = let q : ⊥ = cc in q
-
--- what stops it is no answer
-pub stream_unanswered : (view : View) (id : ℕ) (stop : Stop StreamStop) (p : Stop PathStop) → stream_raised view id stop ≡ Some p → IsNoAnswer p
-stream_unanswered view id (Found (streams.Walk root why)) p e = subst IsNoAnswer (same_Some (Found (paths.Fault (raised view why))) p e) tt
-stream_unanswered view id (Found (streams.Extent why)) p e = absurd (none-some p e)
-stream_unanswered view id (Found streams.Order) p e = subst IsNoAnswer (same_Some (Found (paths.Fault (ExtentOrder (id_at view id)))) p e) tt
-stream_unanswered view id (Found streams.Outside) p e = subst IsNoAnswer (same_Some (Found (paths.Fault (ExtentPlace (id_at view id)))) p e) tt
-stream_unanswered view id (Unsupported feature block) p e = subst IsNoAnswer (same_Some (Unsupported feature block) p e) tt
-stream_unanswered view id ReadFault p e = subst IsNoAnswer (same_Some ReadFault p e) tt
-stream_unanswered view id NoMemory p e = subst IsNoAnswer (same_Some NoMemory p e) tt
-
-pub stream_read : (view : View) (id : ℕ) (stop : Stop StreamStop) → stream_raised view id stop ≡ Some ReadFault → stop ≡ ReadFault
-stream_read view id (Found (streams.Walk root why)) e = absurd (let q : ⊥ = cc in q)
-stream_read view id (Found (streams.Extent why)) e = absurd (let q : ⊥ = cc in q)
-stream_read view id (Found streams.Order) e = absurd (let q : ⊥ = cc in q)
-stream_read view id (Found streams.Outside) e = absurd (let q : ⊥ = cc in q)
-stream_read view id (Unsupported feature block) e = absurd (let q : ⊥ = cc in q)
-stream_read view id ReadFault e = refl
-stream_read view id NoMemory e = absurd (let q : ⊥ = cc in q)

@@ -3,35 +3,30 @@ use Rattle.std.proofs.Common.{◌≡◌, ◌==◌, ℕ, Bool, true, false, cond,
 use Rattle.std.specs.Prelude.{filter, option_map, is_some, not}
 use Rattle.std.specs.Option.{ok_or}
 use Rattle.apfs_model.specs.Lists.{In, and_then, passes}
-use Rattle.apfs_model.proofs.BoolTests.{both-true, false-not, equal-from, from-below}
-use Rattle.obj_base.specs.Stops.{Tells, raised}
+use Rattle.apfs_model.proofs.BoolTests.{both-true, false-not, from-below}
 use Rattle.obj_base.specs.declared.site.Site.{Site}
-use Rattle.obj_base.specs.declared.stop.Feature.{Feature}
 use Rattle.obj_base.specs.declared.stop.Stop.{Stop}
 use Rattle.obj_base.specs.declared.stop.Stop.TheVariants.{Found, Unsupported, ReadFault, NoMemory}
-use Rattle.bt_cursor.specs.Faults.{IsNodeFault, IsWalkFault, HasFeature}
 use Rattle.bt_cursor.specs.declared.fault.WalkFault.{WalkFault}
 use Rattle.bt_cursor.specs.declared.fault.WalkFault.TheVariants as walks
-use Rattle.bt_cursor.specs.Tree.{Tree}
-use Rattle.fs_name.specs.Normal.{are_hashed}
 use Rattle.fs_record.specs.Inodes.{Inode}
 use Rattle.fs_record.specs.Entries.{Entry}
 use Rattle.fs_record.specs.Facts.{Fact, is_reserved, root_id}
 use Rattle.fs_record.specs.declared.fault.RecFault.{RecFault}
 use Rattle.vol_view.specs.Volumes.{Loaded}
-use Rattle.vol_view.specs.Views.{hashed_tree, plain_tree, view_line, FactBy, IsViewFault, IsViewFeature}
+use Rattle.vol_view.specs.Views.{view_line}
 use Rattle.vol_view.specs.declared.volume.View.{View}
 use Rattle.view_rules.specs.Facts.{Facts, inode_at, has_inode, is_directory, does_count}
 use Rattle.view_rules.specs.Entries.{lacks_inode, has_root}
 use Rattle.view_rules.specs.Rules as rules
-use Rattle.view_rules.specs.Rules.{view_facts, IsRecord, IsTreeFault}
+use Rattle.view_rules.specs.Rules.{view_facts, IsTreeFault}
 use Rattle.view_rules.specs.declared.fault.TreeFault.{TreeFault}
 use Rattle.view_rules.specs.declared.fault.TreeFault.TheVariants.{Record, NoInode}
 use Rattle.view_rules.proofs.Law.{refutes, featureless_rules}
 use Rattle.path_walk.specs.Paths.{is_component, parts_of, components}
 use Rattle.path_walk.specs.Places.{Place, placed, root_of, root_name, target_of}
 use Rattle.path_walk.specs.Found.{entries_in, entry_named, place_by, followed, step, walk, found, target_found}
-use Rattle.path_walk.specs.Stops.{IsLawful, IsPathFault, IsGiven, IsStopThere, of_walk, IsOfRecords, IsNoAnswer}
+use Rattle.path_walk.specs.Stops.{IsLawful, IsPathFault, IsGiven, IsStopThere, IsNoAnswer}
 use Rattle.path_walk.specs.Parts.{by_part, along, rooted, IsLack, IsKnown, IsPlaceKnown, IsRefusal, IsSurveyed, lacking_entry}
 use Rattle.path_walk.specs.declared.answer.Answer.{Answer}
 use Rattle.path_walk.specs.declared.answer.Answer.TheVariants.{NotFound, NotDirectory}
@@ -48,9 +43,6 @@ step-in facts place name es o e same chosen =
     ap (λ b. cond (not b) (Err NotDirectory) (followed facts (entry_named facts.names name (entries_in facts place.id)))) e
     ∙ ap (followed facts) (sym (chosen ∙ ap (entry_named facts.names name) same))
 
-pub step_none : (facts : Facts) (place : Place) (name : List ℕ) (es : List Entry) → is_directory place.inode ≡ true → es ≡ entries_in facts place.id → None ≡ entry_named facts.names name es → step facts place name ≡ Err NotFound
-step_none facts place name es e same chosen = step-in facts place name es None e same chosen
-
 -- the place of an entry whose file has an inode
 pub place_there : (facts : Facts) (e : Entry) (inode : Inode) (next : Place) → inode_at facts e.file_id ≡ Some inode → next ≡ placed e.file_id e.name inode → place_by facts e ≡ Some next
 place_there facts e inode next there same = ap (option_map (placed e.file_id e.name)) there ∙ ap Some (sym same)
@@ -59,9 +51,6 @@ pub step_to : (facts : Facts) (place : Place) (name : List ℕ) (es : List Entry
 step_to facts place name es e next directory same chosen there = step-in facts place name es (Some e) directory same chosen ∙ ap (λ (o : Option Place). ok_or o NotFound) there
 
 -- ---- all components
-pub part_empty : (facts : Facts) (place : Place) (part : List ℕ) → (length part == 0) ≡ true → by_part facts place part ≡ Ok place
-part_empty facts place [] e = refl
-part_empty facts place (b ∷ bs) e = absurd (let h = equal-from (length (b ∷ bs)) 0 e in omega arith)
 
 pub part_named : (facts : Facts) (place : Place) (part : List ℕ) → (length part == 0) ≡ false → by_part facts place part ≡ step facts place part
 part_named facts place [] e = absurd cc
@@ -133,64 +122,6 @@ known_given image site volume view shows wanted (Err ReadFault) lawful known = a
 known_given image site volume view shows wanted (Err NoMemory) lawful known = tt
 
 -- ---- what stops a walk
-by-true : (b : Bool) (P Q : Type 0) → b ≡ true → P → FactBy b P Q
-by-true true P Q e p = p
-by-true false P Q e p = absurd cc
-
-by-false : (b : Bool) (P Q : Type 0) → b ≡ false → Q → FactBy b P Q
-by-false true P Q e q = absurd cc
-by-false false P Q e q = q
-
--- a fault or a feature of a walk over a view's tree is there, said of a path
-IsRaise : List ℕ → Site → Loaded → View → (WalkFault → Type 0) → (Feature → ℕ → Type 0) → Type 0
-IsRaise image site volume view fault feature = ((why : WalkFault) → fault why → IsViewFault image site volume view why) × ((name : Feature) (block : ℕ) → feature name block → IsViewFeature image site volume view name block)
-
-raise-there : (image : List ℕ) (site : Site) (volume : Loaded) (view : View) (fault : WalkFault → Type 0) (feature : Feature → ℕ → Type 0) (stop : Stop WalkFault) → IsRaise image site volume view fault feature → Tells fault feature stop → IsStopThere image site volume view (raised (of_walk view) stop)
-unfolding IsRaise
-raise-there image site volume view fault feature (Found (walks.Unsound block why)) lifts told = λ profile ranges. lifts.0 (walks.Unsound block why) told
-raise-there image site volume view fault feature (Found (walks.Unnamed oid)) lifts told = λ profile ranges. ((refl, refl), lifts.0 (walks.Unnamed oid) told)
-raise-there image site volume view fault feature (Found (walks.Order item)) lifts told = λ profile ranges. ((refl, refl), lifts.0 (walks.Order item) told)
-raise-there image site volume view fault feature (Found walks.Counts) lifts told = λ profile ranges. ((refl, refl), lifts.0 walks.Counts told)
-raise-there image site volume view fault feature (Unsupported name block) lifts told = lifts.1 name block told
-raise-there image site volume view fault feature ReadFault lifts told = tt
-raise-there image site volume view fault feature NoMemory lifts told = tt
-
-node-walk : {K : Type 0} (tree : Tree K) (root : ℕ) (why : WalkFault) → IsNodeFault tree root why → IsWalkFault tree root why
-node-walk tree root (walks.Unsound block why) there = there
-node-walk tree root (walks.Unnamed oid) there = there
-node-walk tree root (walks.Order item) there = absurd there
-node-walk tree root walks.Counts there = absurd there
-
-pub hashed_walk : (image : List ℕ) (site : Site) (volume : Loaded) (view : View) (stop : Stop WalkFault) → are_hashed volume.names ≡ true → Tells (IsWalkFault (hashed_tree image site volume view) view.root_oid) (HasFeature (hashed_tree image site volume view) view.root_oid) stop → IsStopThere image site volume view (raised (of_walk view) stop)
-unfolding IsRaise
-hashed_walk image site volume view stop e told =
-    raise-there image site volume view (IsWalkFault (hashed_tree image site volume view) view.root_oid) (HasFeature (hashed_tree image site volume view) view.root_oid) stop
-    (λ why there. by-true (are_hashed volume.names) _ (IsWalkFault (plain_tree image site volume view) view.root_oid why) e there, λ name block there. by-true (are_hashed volume.names) _ (HasFeature (plain_tree image site volume view) view.root_oid name block) e there) told
-
-pub plain_walk : (image : List ℕ) (site : Site) (volume : Loaded) (view : View) (stop : Stop WalkFault) → are_hashed volume.names ≡ false → Tells (IsWalkFault (plain_tree image site volume view) view.root_oid) (HasFeature (plain_tree image site volume view) view.root_oid) stop → IsStopThere image site volume view (raised (of_walk view) stop)
-unfolding IsRaise
-plain_walk image site volume view stop e told =
-    raise-there image site volume view (IsWalkFault (plain_tree image site volume view) view.root_oid) (HasFeature (plain_tree image site volume view) view.root_oid) stop
-    (λ why there. by-false (are_hashed volume.names) (IsWalkFault (hashed_tree image site volume view) view.root_oid why) _ e there, λ name block there. by-false (are_hashed volume.names) (HasFeature (hashed_tree image site volume view) view.root_oid name block) _ e there) told
-
-tells-walk : {K : Type 0} (tree : Tree K) (root : ℕ) (stop : Stop WalkFault) → Tells (IsNodeFault tree root) (HasFeature tree root) stop → Tells (IsWalkFault tree root) (HasFeature tree root) stop
-tells-walk tree root (Found why) told = node-walk tree root why told
-tells-walk tree root (Unsupported name block) told = told
-tells-walk tree root ReadFault told = tt
-tells-walk tree root NoMemory told = tt
-
-pub hashed_node : (image : List ℕ) (site : Site) (volume : Loaded) (view : View) (stop : Stop WalkFault) → are_hashed volume.names ≡ true → Tells (IsNodeFault (hashed_tree image site volume view) view.root_oid) (HasFeature (hashed_tree image site volume view) view.root_oid) stop → IsStopThere image site volume view (raised (of_walk view) stop)
-hashed_node image site volume view stop e told = hashed_walk image site volume view stop e (tells-walk (hashed_tree image site volume view) view.root_oid stop told)
-
-pub plain_node : (image : List ℕ) (site : Site) (volume : Loaded) (view : View) (stop : Stop WalkFault) → are_hashed volume.names ≡ false → Tells (IsNodeFault (plain_tree image site volume view) view.root_oid) (HasFeature (plain_tree image site volume view) view.root_oid) stop → IsStopThere image site volume view (raised (of_walk view) stop)
-plain_node image site volume view stop e told = plain_walk image site volume view stop e (tells-walk (plain_tree image site volume view) view.root_oid stop told)
-
--- a failed read stays one
-pub raised_read : (view : View) (stop : Stop WalkFault) → raised (of_walk view) stop ≡ ReadFault → stop ≡ ReadFault
-raised_read view (Found why) e = absurd cc
-raised_read view (Unsupported name block) e = absurd cc
-raised_read view ReadFault e = refl
-raised_read view NoMemory e = absurd cc
 
 -- ---- what is known of an entry's file
 pub known_lack : {T U : Type 0} (facts : Facts) (view : View) (e : Fact Entry) (shows : T → U) (wanted : Result U Answer) (stop : Stop PathStop) → In e facts.entries → is_reserved e.id ≡ false → IsPlaceKnown facts view e (Err stop) → IsKnown facts view shows wanted (Err stop)
@@ -219,23 +150,6 @@ found_by facts path root parts whole there same so_far =
 
 pub found_lost : (facts : Facts) (path : List ℕ) (a : Answer) → rooted facts ≡ Err a → found facts path ≡ Err a
 found_lost facts path a e = found_along facts path ∙ ap (λ (r : Result Place Answer). and_then {T = Place} {U = Place} r (λ (p : Place). along facts (parts_of path) p)) e
-
--- a walk stops with no answer
-pub raised_unanswered : (view : View) (stop : Stop WalkFault) → IsNoAnswer (raised (of_walk view) stop)
-raised_unanswered view (Found why) = tt
-raised_unanswered view (Unsupported name block) = tt
-raised_unanswered view ReadFault = tt
-raised_unanswered view NoMemory = tt
-
-same-fault : (a b : TreeFault) → ◌≡◌ {A = Stop PathStop} (Found (stops.Fault a)) (Found (stops.Fault b)) → a ≡ b
-same-fault a b e = cc
-
--- a fault that a walk names is one of the walk
-pub raised_records : (view : View) (stop : Stop WalkFault) (fault : TreeFault) → raised (of_walk view) stop ≡ Found (stops.Fault fault) → IsOfRecords view fault
-raised_records view (Found why) fault e = inl (why, sym (same-fault (rules.raised view why) fault e))
-raised_records view (Unsupported name block) fault e = absurd cc
-raised_records view ReadFault fault e = absurd cc
-raised_records view NoMemory fault e = absurd cc
 
 pub unanswered_given : {T U : Type 0} (image : List ℕ) (site : Site) (volume : Loaded) (view : View) (shows : T → U) (wanted : Result U Answer) (stop : Stop PathStop) → IsLawful image site volume view → IsStopThere image site volume view stop → IsNoAnswer stop → IsGiven shows wanted (Err stop)
 unanswered_given image site volume view shows wanted stop lawful there unanswered = lawful_stop image site volume view shows wanted stop lawful there (λ a e. absurd (subst (λ (s : Stop PathStop). IsNoAnswer s) e unanswered))

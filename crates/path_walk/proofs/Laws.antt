@@ -1,29 +1,25 @@
 -- What the definitions promise of a view that meets its rules, and of every view.
-use Rattle.std.proofs.Common.{◌≡◌, ℕ, zero, suc, ◌+◌, ◌≤◌, ◌<◌, Bool, true, false, cond, List, [], ◌∷◌, length, map, Option, Some, None, Result, Ok, Err, ◌⊎◌, inl, inr, refl, ap, sym, ◌∙◌, subst, arith}
-use Rattle.std.specs.Prelude.{filter_map, is_some, option_map, count_by, not, ◌&&◌, ◌==◌, nat_lt, bytes_eq, slice_get}
-use Rattle.std.specs.List.{find, cons_option, position, position_or_len}
+use Rattle.std.proofs.Common.{◌≡◌, ℕ, zero, suc, ◌+◌, ◌≤◌, ◌<◌, Bool, true, false, cond, List, [], ◌∷◌, length, Option, Some, None, Result, Ok, Err, ◌⊎◌, inl, inr, refl, ap, sym, ◌∙◌, subst, arith}
+use Rattle.std.specs.Prelude.{is_some, option_map, not, ◌&&◌, ◌==◌, slice_get}
+use Rattle.std.specs.List.{find, position, position_or_len}
 use Rattle.std.specs.Option.{option_or, ok_or}
-use Rattle.std.specs.Cmp.Lexicographic.{bytes_decides}
-use Rattle.std.proofs.lemmas.Bool.{cases_eq, cases_lt, lt-ltb, le-ltb}
-use Rattle.std.proofs.lemmas.Bool.Decides.{Decides-eqb}
+use Rattle.std.proofs.lemmas.Bool.{cases_lt, lt-ltb, le-ltb}
 use Rattle.apfs_model.specs.Lists.{In, and_then, passes}
 use Rattle.fs_name.specs.declared.naming.Names.{Names}
 use Rattle.fs_record.specs.Entries.{Entry}
-use Rattle.fs_record.specs.Facts.{Fact, is_reserved, root_id}
+use Rattle.fs_record.specs.Facts.{Fact, is_reserved}
 use Rattle.view_rules.specs.Facts.{Facts, inode_at, has_inode, is_directory, does_count}
-use Rattle.view_rules.specs.Names.{is_entry_at, is_entry_repeated, HasDistinctEntries}
-use Rattle.view_rules.specs.Entries.{lacks_inode, HasFiles, has_root}
+use Rattle.view_rules.specs.Entries.{lacks_inode, HasFiles}
 use Rattle.apfs_model.proofs.Searches.{get-in}
 use Rattle.path_walk.specs.Paths.{components}
-use Rattle.path_walk.specs.Places.{Place, placed, root_of, root_name, target_of}
+use Rattle.path_walk.specs.Places.{Place, placed, root_of}
 use Rattle.path_walk.specs.Found.{entries_in, has_name, has_form, entry_named, place_by, followed, step, walk, found, number_named}
-use Rattle.path_walk.specs.Listing.{children, listed, listing}
+use Rattle.path_walk.specs.Listing.{listed, listing}
 use Rattle.path_walk.specs.declared.answer.Answer.{Answer}
 use Rattle.path_walk.specs.declared.answer.Answer.TheVariants.{NotFound, NotDirectory}
-use Rattle.path_walk.specs.declared.target.Target.{Target}
-use Rattle.apfs_model.proofs.BoolTests.{both-true, false-not, not-false, clash}
-use Rattle.path_walk.proofs.Tallies.{tally, tally-is, tally-cons, tally-in, tally-all, tally-by}
-use Rattle.path_walk.proofs.Entries.{in-entries, kept-entries}
+use Rattle.apfs_model.proofs.BoolTests.{false-not, not-false}
+use Rattle.path_walk.proofs.Tallies.{tally, tally-is, tally-cons, tally-in}
+use Rattle.path_walk.proofs.Entries.{in-entries}
 
 -- ---- inodes
 some-value : {X : Type 0} (o : Option X) → is_some o ≡ true → (x : X) × (o ≡ Some x)
@@ -46,32 +42,6 @@ entry_has_place facts files id e h =
     let here : has_inode facts e.file_id ≡ true = sym (ap (λ (w : Entry). has_inode facts w.file_id) same) ∙ fine in
     let u = some-value (inode_at facts e.file_id) here in
     (placed e.file_id e.name u.0, ap (option_map (placed e.file_id e.name)) u.1)
-
--- where a view has its root, the root has a place
-pub root_has_place : (facts : Facts) → has_root facts ≡ true → (root : Place) × ((root_of facts ≡ Some root) × (is_directory root.inode ≡ true))
-unfolding has_root
-root_has_place facts there =
-    let t = passing (inode_at facts root_id) is_directory there in
-    (placed root_id root_name t.0, (ap (option_map (placed root_id root_name)) t.1.0, t.1.1))
-
-all-given : {X Y : Type 0} (f : X → Option Y) (xs : List X) → ((x : X) → In x xs → (y : Y) × (f x ≡ Some y)) → length (filter_map f xs) ≡ length xs
-all-given f [] h = refl
-all-given {X} {Y} f (x ∷ xs) h =
-    let t = h x (inl refl) in
-    let rest = all-given f xs (λ z m. h z (inr m)) in
-    let here : filter_map f (x ∷ xs) ≡ t.0 ∷ filter_map f xs = ap (λ (o : Option Y). cons_option o (filter_map f xs)) t.1 in
-    ap length here ∙ ap suc rest
-
--- where a view has its files, a directory's listing leaves no entry out
-pub children_are_all : (facts : Facts) → HasFiles facts → (id : ℕ) → length (children facts id) ≡ length (entries_in facts id)
-unfolding children
-children_are_all facts files id =
-    let places : List Place = filter_map (place_by facts) (entries_in facts id) in
-    let a = all-given (place_by facts) (entries_in facts id) (entry_has_place facts files id) in
-    let b = tally-by (λ (p : Place). p.name) (λ p. true) places in
-    let c = tally-all (children facts id) in
-    let d = tally-all places in
-    omega arith
 
 -- ---- answers
 pub err-same : {T : Type 0} (a b : Answer) → ◌≡◌ {A = Result T Answer} (Err a) (Err b) → a ≡ b
@@ -120,10 +90,6 @@ listing_answers facts path a e = answers_then IsPathAnswer (found facts path) _ 
 
 -- ---- listings
 -- what is listed of a path that leads to no directory is the one target
-pub file_is_listed_alone : (facts : Facts) (path : List ℕ) (place : Place) → found facts path ≡ Ok place → is_directory place.inode ≡ false → listing facts path ≡ Ok (target_of place ∷ [])
-file_is_listed_alone facts path place there is_file =
-    ap (λ (r : Result Place Answer). and_then {T = Place} {U = List Target} r (λ (p : Place). Ok (map target_of (listed facts p)))) there
-    ∙ ap (λ b. Ok (map target_of (cond b (children facts place.id) (place ∷ [])))) is_file
 
 -- ---- names
 some-equal : (a b : ℕ) → ◌≡◌ {A = Option ℕ} (Some a) (Some b) → a ≡ b
@@ -148,23 +114,6 @@ two-in {X} p (z ∷ zs) (suc i) zero x y e f px py n =
 two-in p (z ∷ zs) (suc i) (suc j) x y e f px py n =
     let a = two-in p zs i j x y e f px py (λ s. n (ap suc s)) in
     let c = tally-cons p z zs in omega arith
-
--- where names are distinct, no two entries of a directory have the same bytes
-pub one_of_a_name : (facts : Facts) → HasDistinctEntries facts → (id i j : ℕ) (e f : Entry) → slice_get (entries_in facts id) i ≡ Some e → slice_get (entries_in facts id) j ≡ Some f → e.name ≡ f.name → i ≡ j
-unfolding is_entry_repeated
-one_of_a_name facts distinct id i j e f at_i at_j same = elim (cases_eq i j) as (λ _. i ≡ j) [
-  | inl s ↦ s
-  | inr n ↦
-      let t = in-entries facts id e (get-in (entries_in facts id) i e at_i) in
-      let fact : Fact Entry = t.0 in
-      let a = two-in (has_name e.name) (entries_in facts id) i j e f at_i at_j ((bytes_decides e.name e.name).1 refl) ((bytes_decides f.name e.name).1 (sym same)) n in
-      let b = kept-entries facts id (has_name e.name) (is_entry_at id e.name) (λ g s r h. both-true (g.id == id) (bytes_eq g.what.name e.name) ((Decides-eqb g.id id).1 s) h) in
-      let c = tally-is (is_entry_at id e.name) facts.entries in
-      let d : count_by (is_entry_at fact.id fact.what.name) facts.entries ≡ count_by (is_entry_at id e.name) facts.entries = ap (λ k. count_by (is_entry_at k fact.what.name) facts.entries) t.1.1 ∙ ap (λ (w : Entry). count_by (is_entry_at id w.name) facts.entries) t.1.2 in
-      let k : nat_lt 1 (count_by (is_entry_at fact.id fact.what.name) facts.entries) ≡ false = distinct fact t.1.0 in
-      let m : nat_lt 1 (count_by (is_entry_at fact.id fact.what.name) facts.entries) ≡ true = lt-ltb 1 (count_by (is_entry_at fact.id fact.what.name) facts.entries) (omega arith) in
-      absurd (clash _ m k)
-]
 
 -- what stands at the first place that passes is what is found
 at-place : {X : Type 0} (p : X → Bool) (xs : List X) → slice_get xs (position_or_len p xs) ≡ find p xs

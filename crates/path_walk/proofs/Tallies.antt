@@ -1,5 +1,5 @@
 -- How many items of a list pass a test.
-use Rattle.std.proofs.Common.{◌≡◌, ℕ, ◌+◌, ◌≤◌, Bool, true, false, cond, List, [], ◌∷◌, ◌++◌, length, map, Option, Some, None, ◌⊎◌, inl, inr, refl, ap, sym, ◌∙◌, arith}
+use Rattle.std.proofs.Common.{◌≡◌, ℕ, ◌+◌, ◌≤◌, Bool, true, false, cond, List, [], ◌∷◌, ◌++◌, map, Option, Some, None, ◌⊎◌, inl, inr, refl, ap, sym, ◌∙◌, arith}
 use Rattle.std.specs.Prelude.{filter, filter_map, option_map, count_by}
 use Rattle.std.specs.List.{cons_option}
 use Rattle.std.proofs.lemmas.Bool.{false≢true}
@@ -43,21 +43,11 @@ pub tally-nil : {X : Type 0} (p : X → Bool) → tally p [] ≡ 0
 unfolding tally
 tally-nil p = refl
 
-pub tally-append : {X : Type 0} (p : X → Bool) (xs ys : List X) → tally p (xs ++ ys) ≡ tally p xs + tally p ys
-unfolding tally
-tally-append p [] ys = omega arith
-tally-append p (x ∷ xs) ys = let a = tally-append p xs ys in omega arith
-
 pub tally-in : {X : Type 0} (p : X → Bool) (xs : List X) (x : X) → In x xs → p x ≡ true → 1 ≤ tally p xs
 unfolding tally
 tally-in p [] x h e = absurd h
 tally-in p (y ∷ ys) x (inl s) e = let a : bit (p y) ≡ 1 = bit-true (p y) (sym (ap p s) ∙ e) in omega arith
 tally-in p (y ∷ ys) x (inr h) e = let a = tally-in p ys x h e in omega arith
-
-pub tally-all : {X : Type 0} (xs : List X) → tally (λ x. true) xs ≡ length xs
-unfolding tally bit
-tally-all [] = refl
-tally-all (x ∷ xs) = let a = tally-all xs in omega arith
 
 bit-le : (a b : Bool) → (a ≡ true → b ≡ true) → bit a ≤ bit b
 unfolding bit
@@ -71,21 +61,11 @@ bit-apart true false c f g h = let e : bit c ≡ 1 = bit-true c (f refl) in omeg
 bit-apart false true c f g h = let e : bit c ≡ 1 = bit-true c (g refl) in omega arith
 bit-apart false false c f g h = omega arith
 
-pub tally-le : {X : Type 0} (p q : X → Bool) → ((x : X) → p x ≡ true → q x ≡ true) → (xs : List X) → tally p xs ≤ tally q xs
-unfolding tally
-tally-le p q h [] = omega arith
-tally-le p q h (x ∷ xs) = let a = bit-le (p x) (q x) (h x) in let b = tally-le p q h xs in omega arith
-
 -- two tests that never hold together, and each of which implies a third
 pub tally-apart : {X : Type 0} (p q r : X → Bool) → ((x : X) → p x ≡ true → r x ≡ true) → ((x : X) → q x ≡ true → r x ≡ true) → ((x : X) → p x ≡ true → q x ≡ true → ⊥) → (xs : List X) → tally p xs + tally q xs ≤ tally r xs
 unfolding tally
 tally-apart p q r f g h [] = omega arith
 tally-apart p q r f g h (x ∷ xs) = let a = bit-apart (p x) (q x) (r x) (f x) (g x) (h x) in let b = tally-apart p q r f g h xs in omega arith
-
-pub tally-map : {X Y : Type 0} (p : Y → Bool) (f : X → Y) (xs : List X) → tally p (map f xs) ≡ tally (λ x. p (f x)) xs
-unfolding tally
-tally-map p f [] = refl
-tally-map p f (x ∷ xs) = ap (λ n. bit (p (f x)) + n) (tally-map p f xs)
 
 -- the facts of a test, and what they say
 pub tally-kept : {X Y : Type 0} (test : X → Bool) (what : X → Y) (p : Y → Bool) (q : X → Bool) → ((x : X) → test x ≡ true → p (what x) ≡ true → q x ≡ true) → (xs : List X) → tally p (map what (filter test xs)) ≤ tally q xs
@@ -98,33 +78,6 @@ tally-kept {X} {Y} test what p q h (x ∷ xs) =
       | false ↦ λ e. omega arith
     ] in
     go (test x) refl
-
-pub tally-given : {X Y : Type 0} (f : X → Option Y) (p : Y → Bool) (q : X → Bool) → ((x : X) (y : Y) → f x ≡ Some y → p y ≡ true → q x ≡ true) → (xs : List X) → tally p (filter_map f xs) ≤ tally q xs
-unfolding tally
-tally-given f p q h [] = omega arith
-tally-given {X} {Y} f p q h (x ∷ xs) =
-    let rest = tally-given f p q h xs in
-    let go : (o : Option Y) → f x ≡ o → tally p (cons_option o (filter_map f xs)) ≤ bit (q x) + tally q xs = λ o. elim o as (λ o. f x ≡ o → tally p (cons_option o (filter_map f xs)) ≤ bit (q x) + tally q xs) [
-      | None ↦ λ e. omega arith
-      | Some y ↦ λ e. let a = bit-le (p y) (q x) (h x y e) in omega arith
-    ] in
-    go (f x) refl
-
-tally-put : {X : Type 0} (name : X → List ℕ) (p : X → Bool) (x : X) (xs : List X) → tally p (put_in name x xs) ≡ bit (p x) + tally p xs
-unfolding tally
-tally-put name p x [] = refl
-tally-put {X} name p x (y ∷ ys) =
-    let rest = tally-put name p x ys in
-    let go : (b : Bool) → tally p (cond b (y ∷ put_in name x ys) (x ∷ y ∷ ys)) ≡ bit (p x) + (bit (p y) + tally p ys) = λ b. elim b as (λ b. tally p (cond b (y ∷ put_in name x ys) (x ∷ y ∷ ys)) ≡ bit (p x) + (bit (p y) + tally p ys)) [
-      | true ↦ omega arith
-      | false ↦ refl
-    ] in
-    go (is_after name x y)
-
-pub tally-by : {X : Type 0} (name : X → List ℕ) (p : X → Bool) (xs : List X) → tally p (by_name name xs) ≡ tally p xs
-unfolding tally
-tally-by name p [] = refl
-tally-by name p (x ∷ xs) = tally-put name p x (by_name name xs) ∙ ap (λ n. bit (p x) + n) (tally-by name p xs)
 
 pub in-kept : {X : Type 0} (test : X → Bool) (xs : List X) (x : X) → In x (filter test xs) → In x xs × (test x ≡ true)
 in-kept test xs x h = (from-filter test x xs h, filter-test test x xs h)

@@ -176,10 +176,3 @@ walk_tells tree root (Found (gathers.Refused item)) other says told = absurd say
 walk_tells tree root (Unsupported feature block) other says told = subst (Tells (IsWalkFault tree root) (HasFeature tree root)) (sym says) told
 walk_tells tree root ReadFault other says told = subst (Tells (IsWalkFault tree root) (HasFeature tree root)) (sym says) tt
 walk_tells tree root NoMemory other says told = subst (Tells (IsWalkFault tree root) (HasFeature tree root)) (sym says) tt
-
-pub walk_read : (stop : Stop GatherFault) (other : Stop WalkFault) → IsWalkStop stop other → other ≡ ReadFault → stop ≡ ReadFault
-walk_read (Found (gathers.Tree why)) other says e = absurd cc
-walk_read (Found (gathers.Refused item)) other says e = absurd says
-walk_read (Unsupported feature block) other says e = absurd cc
-walk_read ReadFault other says e = refl
-walk_read NoMemory other says e = absurd cc

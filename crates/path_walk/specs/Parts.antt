@@ -161,10 +161,6 @@ Leads shows wanted (To x) = wanted ≡ Ok (shows x)
 Leads shows wanted (Answered a) = wanted ≡ Err a
 Leads shows wanted Lost = Unit {0}
 
--- a fault of a view, said of a path
-abbrev pub of_view : TreeFault → PathStop
-of_view fault = stops.Fault fault
-
 -- names that are hashed or not
 abbrev pub names_by : Bool → Names
 names_by true = Folded

@@ -1,8 +1,7 @@
 -- Namings that are kept, as namings.
-use Rattle.std.specs.Prelude.{Bool, true, false}
 use Rattle.omap_map.specs.declared.records.OmapRecord.{OmapRecord}
 use Rattle.space_pool.specs.declared.entry.Queue.TheVariants as queue
-use Rattle.reach_rules.specs.Naming.{ViewAt, LookUp, ByBlock, ByMapping, InContainer, InView, Newest, InBlock, OfId, OfRecord, Namer, Whole, Kept, TreeKind, MapRecords, MapSnapshots, ExtentRefs, SnapMetadata, FreeQueue, Expected, SpaceManager, ContainerMap, ReaperObject, ReapList, Jumpstart, VolumeIn, VolumeMap, SnapshotSuper, AddressBlock, InfoBlock, TreeRoot, TreeNode, Naming, naming}
+use Rattle.reach_rules.specs.Naming.{ViewAt, LookUp, ByBlock, ByMapping, InContainer, Newest, InBlock, OfId, OfRecord, Namer, Whole, Kept, TreeKind, MapRecords, MapSnapshots, ExtentRefs, SnapMetadata, FreeQueue, Expected, SpaceManager, ContainerMap, ReaperObject, ReapList, Jumpstart, VolumeIn, VolumeMap, SnapshotSuper, AddressBlock, InfoBlock, TreeRoot, TreeNode, Naming, naming}
 use Rattle.reach_gather.specs.declared.naming.Mapping.{Mapping}
 use Rattle.reach_gather.specs.declared.naming.ViewKey.{ViewKey}
 use Rattle.reach_gather.specs.declared.naming.NamedBy.{NamedBy}
@@ -64,10 +63,3 @@ look_of looks.Container = InContainer
 -- the naming
 abbrev pub naming_of : Named → Naming
 naming_of n = naming (namer_of n.by) n.at (expected_of n.expects) (look_of n.how) n.oid
-
--- a naming of no view's object is kept
-abbrev pub is_kept : LookUp → Bool
-is_kept ByBlock = true
-is_kept ByMapping = true
-is_kept InContainer = true
-is_kept (InView view) = false

@@ -4,13 +4,13 @@ use Rattle.std.specs.Prelude.{option_map, option_and_then}
 use Rattle.apfs_model.specs.Blocks.{in_container}
 use Rattle.apfs_model.proofs.Inside.{inside-same}
 use Rattle.obj_base.specs.declared.site.Site.{Site}
-use Rattle.bt_keys.specs.Shapes.{omap_shape, omap_snap_shape, ext_shape, snap_shape, fs_shape, fs_plain_shape}
+use Rattle.bt_keys.specs.Shapes.{omap_shape, omap_snap_shape, ext_shape, snap_shape}
 use Rattle.nx_ring.specs.Checkpoint.{Seen, site_of}
 use Rattle.omap_map.specs.Resolve.{resolved as resolves, resolve, place_of, named_by}
 use Rattle.omap_map.specs.Maps.{map_records, is_whole_map, resolved_in, named_in}
 use Rattle.omap_map.specs.declared.records.OmapRecord.{OmapRecord}
 use Rattle.omap_map.specs.declared.records.Place.{Place}
-use Rattle.reach_rules.specs.Naming.{ViewAt, ByBlock, InView, Object, InBlock, OfRecord, MapRecords, MapSnapshots, ExtentRefs, SnapMetadata, Files}
+use Rattle.reach_rules.specs.Naming.{ByBlock, Object, InBlock, OfRecord, MapRecords, MapSnapshots, ExtentRefs, SnapMetadata}
 use Rattle.reach_rules.specs.Resolved.{Found, standing, recorded, found_physical, found_virtual}
 use Rattle.reach_rules.proofs.Walks.{Matches, IsWalkOf}
 
@@ -54,13 +54,6 @@ virtual-match image site map x oid =
       | true ↦ record-match image site map (resolves rs oid x)
       | false ↦ tt
     ]
-
--- so the trees of a view are walked as they are named
-pub hashed-walk : (image : List ℕ) (seen : Seen) (view : ViewAt) → IsWalkOf image seen (Files true) (InView view) fs_shape (named_in image (site_of seen) view.map view.xid)
-hashed-walk image seen view = record { answer = λ at bytes. refl; kids = λ bytes. refl; found = λ e oid n. virtual-match image (site_of seen) view.map view.xid oid }
-
-pub plain-walk : (image : List ℕ) (seen : Seen) (view : ViewAt) → IsWalkOf image seen (Files false) (InView view) fs_plain_shape (named_in image (site_of seen) view.map view.xid)
-plain-walk image seen view = record { answer = λ at bytes. refl; kids = λ bytes. refl; found = λ e oid n. virtual-match image (site_of seen) view.map view.xid oid }
 
 -- what is found by a block
 pub standing-by : (image : List ℕ) (site : Site) (oid : ℕ) (f : Found) → found_physical image site oid ≡ Some f → f ≡ standing image site (InBlock oid) oid

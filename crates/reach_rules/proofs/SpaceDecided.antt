@@ -28,7 +28,6 @@ use Rattle.reach_rules.specs.Tested.{Answer, tested}
 use Rattle.reach_rules.specs.Next.{next, unless_zero, address_naming, addresses_in, address_namings, is_cib_of, cibs_in, cib_naming, cab_namings}
 use Rattle.reach_rules.specs.Live.{led, IsLive, NamesSound}
 use Rattle.reach_rules.specs.Features.{features_through, used_features, tested_features, field_features}
-use Rattle.reach_rules.specs.Faults.{Present}
 use Rattle.reach_rules.specs.Accounted.{IsPlain, IsShaped}
 use Rattle.apfs_model.proofs.BoolTests.{test_or, left-true, right-true, both-true, from-below, upto-from, from-upto, equal-from, from-equal, in-range, from-range}
 use Rattle.apfs_model.proofs.Searches.{in-right, in-map, in-filter, all-of}
@@ -45,10 +44,6 @@ pub record Managed (image : List ℕ) (seen : Seen) : Type 0 where
   pub there : HasManager seen object.bytes object.block
   pub shaped : is_shaped (site_of seen) object.bytes ≡ true
   pub shape : Shape (site_of seen) object.bytes
-
--- a fault of the space is present
-pub space-flaw : (image : List ℕ) (seen : Seen) (m : List ℕ) (b : ℕ) → HasManager seen m b → (fault : SpaceFault) → Present image seen (Space fault) → Flawed image seen
-space-flaw image seen m b has fault p = inl (Space fault, p)
 
 -- all numbers below a bound are right, or something is present
 pub each_below : {T : Type 0} (P : ℕ → Type 0) (n : ℕ) → ((k : ℕ) → k < n → P k ⊎ T) → ((k : ℕ) → k < n → P k) ⊎ T

@@ -2,7 +2,7 @@
 use Rattle.std.proofs.Common.{◌≡◌, ℕ, ◌<◌, Bool, true, false, List, [], length, Option, Some, None, Result, Ok, Err, ◌⊎◌, inl, inr, refl, ap, sym, ◌∙◌, subst, arith}
 use Rattle.std.specs.Prelude.{slice_get, option_map, option_and_then, flat_map}
 use Rattle.apfs_model.specs.Blocks.{in_container}
-use Rattle.apfs_model.specs.Lists.{In, through, value_of, passes}
+use Rattle.apfs_model.specs.Lists.{through, value_of, passes}
 use Rattle.obj_base.specs.declared.stop.Stop.{Stop}
 use Rattle.obj_base.specs.declared.stop.Stop.TheVariants.{Found as Fails}
 use Rattle.obj_base.specs.declared.stop.Within.TheVariants.{Physical}
@@ -19,7 +19,7 @@ use Rattle.bt_cursor.specs.Order.{out_of_order}
 use Rattle.bt_cursor.specs.Counts as counts
 use Rattle.bt_cursor.specs.Faults.{IsWalkFault}
 use Rattle.nx_ring.specs.Checkpoint.{Seen, site_of}
-use Rattle.reach_rules.specs.Naming.{ByBlock, InBlock, Whole, TreeKind, MapRecords, MapSnapshots, SnapMetadata, ExtentRefs, ContainerMap, VolumeMap, Naming}
+use Rattle.reach_rules.specs.Naming.{ByBlock, InBlock, TreeKind, MapRecords, MapSnapshots, SnapMetadata, ExtentRefs, Naming}
 use Rattle.reach_rules.specs.Resolved.{Found, resolved, standing, found_physical, found_by}
 use Rattle.reach_rules.specs.Trees.{tree_line, misplaced, has_counts, is_short_at, NamesRoot}
 use Rattle.bt_keys.specs.Shapes.{omap_shape, omap_snap_shape, snap_shape, ext_shape}
@@ -30,26 +30,12 @@ use Rattle.ext_ref.specs.Ranges.{ext_tree}
 use Rattle.ext_ref.specs.Stops.{is_short_item, IsExtStop}
 use Rattle.ext_ref.specs.declared.stop.ExtStop.{ExtStop}
 use Rattle.ext_ref.specs.declared.stop.ExtStop.TheVariants as exts
-use Rattle.reach_rules.specs.Live.{led, IsLive, NamesSound}
-use Rattle.reach_rules.specs.Next.{map_namings, names}
+use Rattle.reach_rules.specs.Next.{names}
 use Rattle.reach_rules.specs.Faults.{Present}
 use Rattle.reach_rules.specs.Raised.{of_walk, of_extents}
 use Rattle.apfs_model.proofs.Searches.{passing-below}
-use Rattle.reach_rules.proofs.Nexts.{in-next}
 use Rattle.reach_rules.proofs.Walks.{IsWalkOf, IsRootNaming, walk-present}
 use Rattle.reach_rules.proofs.Looks.{records-walk, snapshots-walk, metadata-walk, extents-walk, standing-by}
-
--- what a naming of an object map leads to
-pub map-leads : (image : List ℕ) (seen : Seen) (n m : Naming) (f : Found) → NamesSound image seen n f → (n.expected ≡ ContainerMap) ⊎ (n.expected ≡ VolumeMap) → In m (map_namings (Whole f.object) f.bytes) → IsLive image seen m
-map-leads image seen n m f s e h = led n m s.names.live (in-next image seen n m (record {
-  object = f;
-  found = s.names.found;
-  sound = s.sound;
-  names = elim e as (λ _. In m (names image seen n.how n.expected (Whole f.object) f.bytes)) [
-    | inl c ↦ subst (λ x. In m (names image seen n.how x (Whole f.object) f.bytes)) (sym c) h
-    | inr v ↦ subst (λ x. In m (names image seen n.how x (Whole f.object) f.bytes)) (sym v) h
-  ];
-}))
 
 -- a root that is found has a node, or the walk tells why not
 found-or : (o : Option Found) → ((f : Found) × (o ≡ Some f)) ⊎ (o ≡ None)

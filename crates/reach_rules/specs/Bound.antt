@@ -12,10 +12,6 @@ RoseBy bound old new = new ≤ old + bound
 abbrev pub reach_reads : Whole → ℕ
 reach_reads whole = whole.objects + pool_bitmap_blocks_of whole.space.manager
 
--- to settle: a read for each chunk
-abbrev pub settle_reads : Whole → ℕ
-settle_reads whole = chunks_of whole.space.manager
-
 -- for the whole account: a read for each named object, each chunk, and each block of the pool's current bitmap
 abbrev pub account_reads : ℕ → List ℕ → ℕ
 account_reads objects manager = objects + chunks_of manager + pool_bitmap_blocks_of manager

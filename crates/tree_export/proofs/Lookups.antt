@@ -1,7 +1,7 @@
 -- What stops a look-up of an id's inode is there.
 use Rattle.std.proofs.Common.{◌≡◌, ℕ, Bool, true, false, cond, List, refl, ap, sym, ◌∙◌, subst}
 use Rattle.std.proofs.lemmas.Bool.{false≢true}
-use Rattle.obj_base.specs.Stops.{Tells, raised}
+use Rattle.obj_base.specs.Stops.{Tells}
 use Rattle.obj_base.specs.declared.site.Site.{Site}
 use Rattle.obj_base.specs.declared.stop.Stop.{Stop}
 use Rattle.obj_base.specs.declared.stop.Stop.TheVariants.{Found, Unsupported, ReadFault, NoMemory}
@@ -9,10 +9,8 @@ use Rattle.bt_node.specs.Entries.{Pair}
 use Rattle.bt_cursor.specs.Tree.{Tree}
 use Rattle.bt_cursor.specs.Flat.{flat_of}
 use Rattle.bt_cursor.specs.Whole.{is_whole}
-use Rattle.bt_cursor.specs.Faults.{IsNodeFault, IsWalkFault, HasFeature}
+use Rattle.bt_cursor.specs.Faults.{IsWalkFault, HasFeature}
 use Rattle.bt_cursor.specs.Gathered.{IsGatherFault}
-use Rattle.bt_cursor.specs.declared.fault.WalkFault.{WalkFault}
-use Rattle.bt_cursor.specs.declared.fault.WalkFault.TheVariants.{Unsound, Unnamed, Order, Counts}
 use Rattle.bt_cursor.specs.declared.gathering.GatherFault.{GatherFault}
 use Rattle.bt_cursor.specs.declared.gathering.GatherFault.TheVariants as gathers
 use Rattle.bt_cursor.proofs.Wholes.{means_whole}
@@ -27,24 +25,6 @@ use Rattle.tree_export.specs.declared.stop.ExportFault.{ExportFault}
 use Rattle.tree_export.specs.declared.stop.ExportFault.TheVariants as faults
 
 -- ---- in a tree
-node-walk : {K : Type 0} (tree : Tree K) (root : ℕ) (why : WalkFault) → IsNodeFault tree root why → IsWalkFault tree root why
-node-walk tree root (Unsound block why) h = h
-node-walk tree root (Unnamed oid) h = h
-node-walk tree root (Order item) h = absurd h
-node-walk tree root Counts h = absurd h
-
--- why a search stops
-pub node_lookup : {K : Type 0} (tree : Tree K) (root id : ℕ) (stop : Stop WalkFault) → Tells (IsNodeFault tree root) (HasFeature tree root) stop → Tells (IsLookupFault tree root id) (HasFeature tree root) (raised (faults.Walk id) stop)
-node_lookup tree root id (Found why) h = (refl, node-walk tree root why h)
-node_lookup tree root id (Unsupported feature block) h = h
-node_lookup tree root id ReadFault h = tt
-node_lookup tree root id NoMemory h = tt
-
-pub lookup_read : (id : ℕ) (stop : Stop WalkFault) → raised (faults.Walk id) stop ≡ ReadFault → stop ≡ ReadFault
-lookup_read id (Found why) e = absurd (let q : ⊥ = cc in q)
-lookup_read id (Unsupported feature block) e = absurd (let q : ⊥ = cc in q)
-lookup_read id ReadFault e = refl
-lookup_read id NoMemory e = absurd (let q : ⊥ = cc in q)
 
 -- why a walk over all of it stops
 pub gather_lookup : {K : Type 0} (tree : Tree K) (root id : ℕ) (stop : Stop GatherFault) → Tells (IsGatherFault tree root (λ _. false)) (HasFeature tree root) stop → Tells (IsLookupFault tree root id) (HasFeature tree root) (gather_raised id stop)
@@ -53,13 +33,6 @@ gather_lookup tree root id (Found (gathers.Refused item)) h = absurd (false≢tr
 gather_lookup tree root id (Unsupported feature block) h = h
 gather_lookup tree root id ReadFault h = tt
 gather_lookup tree root id NoMemory h = tt
-
-pub gather_read : (id : ℕ) (stop : Stop GatherFault) → gather_raised id stop ≡ ReadFault → stop ≡ ReadFault
-gather_read id (Found (gathers.Tree why)) e = absurd (let q : ⊥ = cc in q)
-gather_read id (Found (gathers.Refused item)) e = absurd (let q : ⊥ = cc in q)
-gather_read id (Unsupported feature block) e = absurd (let q : ⊥ = cc in q)
-gather_read id ReadFault e = refl
-gather_read id NoMemory e = absurd (let q : ⊥ = cc in q)
 
 -- ---- in a view
 by-true : (b : Bool) (P Q : Type 0) → b ≡ true → P → FactBy b P Q

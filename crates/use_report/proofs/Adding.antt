@@ -1,18 +1,13 @@
 -- Pieces to which blocks are added: one, those of a hole or of an extent, and those of each of some items.
-use Rattle.std.proofs.Common.{◌≡◌, ℕ, ◌+◌, ◌<◌, ◌≤◌, true, false, ◌==◌, List, length, take, get_or, Option, Some, None, ◌⊎◌, inl, inr, refl, ap, sym, ◌∙◌, subst, arith}
+use Rattle.std.proofs.Common.{◌≡◌, ℕ, ◌+◌, ◌<◌, ◌≤◌, true, ◌==◌, List, length, take, get_or, ◌⊎◌, inl, inr, refl, sym, ◌∙◌, subst, arith}
 use Rattle.std.specs.Prelude.{◌↔◌}
 use Rattle.std.proofs.lemmas.List.{take_all}
 use Rattle.apfs_model.specs.Blocks.{is_in}
 use Rattle.apfs_model.specs.Lists.{In}
-use Rattle.apfs_model.proofs.BoolTests.{clash}
-use Rattle.obj_base.specs.declared.site.Site.{Site}
-use Rattle.fs_record.specs.StreamExtents.{extent_blocks, is_hole}
-use Rattle.fs_record.specs.declared.extents.FileExt.{FileExt}
 use Rattle.use_report.specs.Counted.{Grows}
-use Rattle.use_report.specs.Files.{IsOfExtent}
 use Rattle.use_report.specs.declared.pieces.Pieces.{Pieces}
-use Rattle.use_report.proofs.Lists.{one-some, no-some, none-taken, taken-more}
-use Rattle.use_report.proofs.Sets.{in-above, in-below, in-from, grows-none, grows-then, grows-same}
+use Rattle.use_report.proofs.Lists.{taken-more}
+use Rattle.use_report.proofs.Sets.{in-above, in-below, in-from, grows-then, grows-same}
 
 -- ---- one block
 block-is : (block b : ℕ) → (is_in b block 1 ≡ true) ↔ (b ≡ block)
@@ -25,39 +20,12 @@ block-is block b = (
 pub grows-one : (old new : Pieces) (block : ℕ) → Grows old new (λ b. is_in b block 1 ≡ true) → Grows old new (λ b. b ≡ block)
 grows-one old new block a = grows-same old new (λ b. is_in b block 1 ≡ true) (λ b. b ≡ block) (block-is block) a
 
--- the block of a look-up was added, where it gave one
-pub grows-some : (old new : Pieces) (o : Option ℕ) (block : ℕ) → o ≡ Some block → Grows old new (λ b. is_in b block 1 ≡ true) → Grows old new (λ b. o ≡ Some b)
-grows-some old new o block e a =
-    grows-same old new (λ b. b ≡ block) (λ b. o ≡ Some b) (λ b. ((λ s. e ∙ ap Some (sym s)), (λ s. one-some b block (sym s ∙ e)))) (grows-one old new block a)
-
-pub grows-missing : (set : Pieces) (o : Option ℕ) → o ≡ None → Grows set set (λ b. o ≡ Some b)
-grows-missing set o e = grows-none set (λ b. o ≡ Some b) (λ b s. no-some b (sym e ∙ s))
-
--- what an id names was added, where the id isn't 0
-pub grows-if : (old new : Pieces) (id : ℕ) (P : ℕ → Type 0) → (id == 0) ≡ false → Grows old new P → Grows old new (λ b. ((id == 0) ≡ false) × P b)
-grows-if old new id P some g = grows-same old new P (λ b. ((id == 0) ≡ false) × P b) (λ b. ((λ p. (some, p)), (λ t. t.1))) g
-
-pub grows-unless : (set : Pieces) (id : ℕ) (P : ℕ → Type 0) → (id == 0) ≡ true → Grows set set (λ b. ((id == 0) ≡ false) × P b)
-grows-unless set id P none = grows-none set (λ b. ((id == 0) ≡ false) × P b) (λ b t. clash (id == 0) none t.0)
-
 -- ---- an extent
-pub grows-extent : (site : Site) (e : FileExt) (old new : Pieces) (n : ℕ) → is_hole e ≡ false → n ≡ extent_blocks site.block_size e → Grows old new (λ b. is_in b e.block n ≡ true) → Grows old new (IsOfExtent site e)
-grows-extent site e old new n some many a =
-    grows-same old new (λ b. is_in b e.block n ≡ true) (IsOfExtent site e) (λ b. (
-      (λ h. (some, subst (λ k. is_in b e.block k ≡ true) many h)),
-      (λ t. subst (λ k. is_in b e.block k ≡ true) (sym many) t.1),
-    )) a
-
-pub grows-hole : (site : Site) (e : FileExt) (set : Pieces) → is_hole e ≡ true → Grows set set (IsOfExtent site e)
-grows-hole site e set none = grows-none set (IsOfExtent site e) (λ b t. clash (is_hole e) none t.0)
 
 -- ---- the blocks of each of some items
 -- a block of one of some items
 abbrev pub IsOfOne : {X : Type 0} → (X → ℕ → Type 0) → List X → ℕ → Type 0
 IsOfOne {X} P items block = (x : X) × In x items × P x block
-
-pub grows-first : {X : Type 0} (P : X → ℕ → Type 0) (xs : List X) (set : Pieces) → Grows set set (IsOfOne P (take 0 xs))
-grows-first P xs set = grows-none set (IsOfOne P (take 0 xs)) (λ block o. none-taken xs o.0 o.1)
 
 one-more : {X : Type 0} (P : X → ℕ → Type 0) (xs : List X) (i : ℕ) (d : X) (block : ℕ) → i < length xs → (IsOfOne P (take i xs) block ⊎ P (get_or xs i d) block) ↔ IsOfOne P (take (i + 1) xs) block
 one-more P xs i d block low =

@@ -8,7 +8,7 @@ use Rattle.apfs_model.proofs.BoolTests.{left-or, right-or, either-from, equal-fr
 use Rattle.apfs_model.proofs.Searches.{in-append, in-left, in-right}
 use Rattle.piece_count.specs.Covered.{is_from}
 use Rattle.piece_count.proofs.Numbers.{from-low, from-high, from-is, one-test}
-use Rattle.use_report.specs.Runs.{head_place, has_view, AreRuns, AreRunsOf, Extends, ExtendsIn, AreRunsUpTo}
+use Rattle.use_report.specs.Runs.{head_place, has_view, AreRuns, Extends, ExtendsIn, AreRunsUpTo}
 use Rattle.use_report.specs.declared.runs.Run.{Run}
 
 abbrev run_of : ℕ → ℕ → Run
@@ -90,17 +90,10 @@ and-true : (a b : Bool) → b ≡ true → (a && b) ≡ a
 and-true true b e = e
 and-true false b e = refl
 
-and-false : (a b : Bool) → b ≡ false → (a && b) ≡ false
-and-false true b e = e
-and-false false b e = refl
-
 pub extends-set : (bits : List ℕ) (many view : ℕ) (old new : List Run) → bit_at bits (head_place many view) ≡ true → Extends old view new → ExtendsIn bits many old view new
 extends-set bits many view old new e x are =
     let t = x are in
     (t.0, λ v. t.1 v ∙ ap (λ b. has_view old v || b) (sym (and-true (v == view) (bit_at bits (head_place many view)) e)))
-
-pub extends-clear : (bits : List ℕ) (many view : ℕ) (old : List Run) → bit_at bits (head_place many view) ≡ false → ExtendsIn bits many old view old
-extends-clear bits many view old e are = (are, λ v. sym (ap (λ b. has_view old v || b) (and-false (v == view) (bit_at bits (head_place many view)) e) ∙ last-or (has_view old v)))
 
 -- ---- view by view
 pub runs-none : (bits : List ℕ) (many : ℕ) (runs : List Run) → runs ≡ [] → AreRunsUpTo bits many 0 runs
@@ -128,6 +121,3 @@ runs-next bits many view old new had x =
       ];
       none = λ v up. let apart : v ≡ view → ⊥ = λ e. let q : ⊥ = omega (arith, up, e) in q in other v apart ∙ had.none v (omega (arith, up));
     }
-
-pub runs-all : (bits : List ℕ) (many view : ℕ) (runs : List Run) → many ≤ view → AreRunsUpTo bits many view runs → AreRunsOf bits many runs
-runs-all bits many view runs all had = λ v low. had.has v (omega (arith, all, low))

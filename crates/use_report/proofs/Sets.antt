@@ -29,11 +29,6 @@ in-from block first length above below = both-true (nat_le first block) (nat_lt 
 
 -- ---- how pieces grow
 -- nothing is added where nothing is to be
-pub grows-none : (set : Pieces) (P : ℕ → Type 0) → ((block : ℕ) → P block → ⊥) → Grows set set P
-grows-none set P none = record {
-  same_runs = refl;
-  held = λ view block low. ((λ e. inl e), (λ t. elim t as (λ _. is_covered set.all.items view block ≡ true) [ inl e ↦ e | inr p ↦ absurd (none block p.1) ]));
-}
 
 -- pieces of some, and of others
 pub covered-both : (pieces more : List Piece) (view block : ℕ) → is_covered (pieces ++ more) view block ≡ (is_covered pieces view block || is_covered more view block)

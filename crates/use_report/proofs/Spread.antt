@@ -1,22 +1,18 @@
 -- Pieces to which what views share is added, and what is their own.
-use Rattle.std.proofs.Common.{◌≡◌, ℕ, ◌+◌, ◌<◌, ◌≤◌, true, false, ◌==◌, List, [], ◌∷◌, length, take, get_or, Option, Some, None, Result, Ok, ◌⊎◌, inl, inr, refl, ap, sym, ◌∙◌, subst, arith}
+use Rattle.std.proofs.Common.{◌≡◌, ℕ, ◌+◌, ◌<◌, ◌≤◌, true, false, ◌==◌, List, [], ◌∷◌, length, take, get_or, Some, None, ◌⊎◌, inl, inr, refl, ap, sym, ◌∙◌, subst, arith}
 use Rattle.std.specs.Prelude.{slice_get}
 use Rattle.std.specs.List.{list_any}
 use Rattle.std.proofs.lemmas.List.{take_all}
 use Rattle.std.proofs.lemmas.Option.{slice_get-get_or}
-use Rattle.apfs_model.specs.Blocks.{is_in}
 use Rattle.apfs_model.specs.Bytes.{bit_at}
 use Rattle.apfs_model.specs.Lists.{In}
 use Rattle.apfs_model.proofs.BoolTests.{clash, equal-from, unequal-from, test_or}
 use Rattle.obj_base.specs.declared.site.Site.{Site}
 use Rattle.bt_node.specs.Shape.{Shape}
-use Rattle.bt_node.specs.Node.{level_of, count_of}
+use Rattle.bt_node.specs.Node.{count_of}
 use Rattle.bt_node.specs.Entries.{Pair, pair_of, pairs_of}
 use Rattle.bt_node.proofs.Places.{pairs_counted}
 use Rattle.bt_node.proofs.Ranges.{item_listed}
-use Rattle.fs_record.specs.StreamExtents.{is_extent_placed}
-use Rattle.fs_record.specs.declared.extents.FileExt.{FileExt}
-use Rattle.fs_record.specs.declared.fault.RecFault.{RecFault}
 use Rattle.ext_ref.specs.Ranges.{node_blocks_of}
 use Rattle.piece_count.specs.Covered.{is_from, covers, is_covered}
 use Rattle.piece_count.specs.declared.piece.Piece.{Piece}
@@ -27,40 +23,17 @@ use Rattle.view_sweep.specs.declared.used.SharedAs.TheVariants.{Root}
 use Rattle.view_sweep.specs.Sets.{set_at}
 use Rattle.view_sweep.specs.Shared.{is_shared}
 use Rattle.use_report.specs.Counted.{Grows}
-use Rattle.use_report.specs.Files.{IsOfExtent}
-use Rattle.use_report.specs.Gathered.{extent_in}
 use Rattle.use_report.specs.Holding.{AddsReferences}
-use Rattle.use_report.specs.Leaves.{IsOfRecord, IsOfRecords, IsPlacedRecord, ArePlacedRecords, IsOfLeaf, AddsLeaf, IsOfNode, AddsNode}
+use Rattle.use_report.specs.Leaves.{IsPlacedRecord, ArePlacedRecords}
 use Rattle.use_report.specs.Runs.{head_place, has_view, AreRunsOf}
-use Rattle.use_report.specs.Sharing.{may_be_leaf, bytes_of, IsOfShare, IsPlacedShare, AddsShare, IsOfShares, AreShared, IsOwn, IsOwnAt, AddsOwns}
+use Rattle.use_report.specs.Sharing.{IsOfShare, IsPlacedShare, AddsShare, IsOfShares, AreShared, IsOwn, IsOwnAt, AddsOwns}
 use Rattle.use_report.specs.declared.kept.KeptView.{KeptView}
 use Rattle.use_report.specs.declared.pieces.Pieces.{Pieces}
-use Rattle.use_report.proofs.Adding.{grows-one}
 use Rattle.use_report.proofs.Lists.{one-some, none-taken, taken-more}
-use Rattle.use_report.proofs.Sets.{grows-none, grows-then, grows-same}
+use Rattle.use_report.proofs.Sets.{grows-then}
 use Rattle.use_report.proofs.Told.{turned-view}
 
 -- ---- a record of a leaf
-one-extent : (pair : Pair) (a b : FileExt) → extent_in pair ≡ Ok (Some a) → extent_in pair ≡ Ok (Some b) → a ≡ b
-one-extent pair a b x y = let z : ◌≡◌ {A = Result (Option FileExt) RecFault} (Ok (Some a)) (Ok (Some b)) = sym x ∙ y in cc
-
-no-extent : {T : Type 0} (pair : Pair) (a : FileExt) → extent_in pair ≡ Ok None → extent_in pair ≡ Ok (Some a) → T
-no-extent pair a x y = absurd (let z : ◌≡◌ {A = Result (Option FileExt) RecFault} (Ok None) (Ok (Some a)) = sym x ∙ y in let q : ⊥ = cc in q)
-
-pub record-some : (site : Site) (pair : Pair) (e : FileExt) (old new : Pieces) → extent_in pair ≡ Ok (Some e) → Grows old new (IsOfExtent site e) → Grows old new (IsOfRecord site pair)
-record-some site pair e old new read g = grows-same old new (IsOfExtent site e) (IsOfRecord site pair) (λ block. (
-  (λ o. (e, read, o)),
-  (λ o. subst (λ x. IsOfExtent site x block) (one-extent pair o.0 e o.1 read) o.2),
-)) g
-
-pub record-none : (site : Site) (pair : Pair) (set : Pieces) → extent_in pair ≡ Ok None → Grows set set (IsOfRecord site pair)
-record-none site pair set none = grows-none set (IsOfRecord site pair) (λ block o. no-extent pair o.0 none o.1)
-
-pub placed-some : (site : Site) (pair : Pair) (e : FileExt) → extent_in pair ≡ Ok (Some e) → is_extent_placed site.block_size site.blocks e ≡ true → IsPlacedRecord site pair
-placed-some site pair e read placed = λ x h. subst (λ y. is_extent_placed site.block_size site.blocks y ≡ true) (one-extent pair e x read h) placed
-
-pub placed-none : (site : Site) (pair : Pair) → extent_in pair ≡ Ok None → IsPlacedRecord site pair
-placed-none site pair none = λ x h. no-extent pair x none h
 
 -- what stands for a record where a list has none in a place
 abbrev pub no_pair : Pair
@@ -76,37 +49,7 @@ pair-got shape node i low =
 pub placed-next : (site : Site) (pairs : List Pair) (i : ℕ) (d : Pair) → i < length pairs → ArePlacedRecords site (take i pairs) → IsPlacedRecord site (get_or pairs i d) → ArePlacedRecords site (take (i + 1) pairs)
 placed-next site pairs i d low had one = λ pair h. elim ((taken-more pairs i d pair low).0 h) as (λ _. IsPlacedRecord site pair) [ inl k ↦ had pair k | inr e ↦ subst (IsPlacedRecord site) (sym e) one ]
 
--- a node above the leaves has none
-pub leaf-none : {K : Type 0} (shape : Shape K) (site : Site) (bytes : List ℕ) (set : Pieces) → 0 < level_of bytes → AddsLeaf shape site bytes set set
-leaf-none shape site bytes set high =
-    let never : level_of bytes ≡ 0 → ⊥ = λ e. let q : ⊥ = omega (arith, high, e) in q in
-    record { grows = grows-none set (IsOfLeaf shape site bytes) (λ block o. never o.0); placed = λ e. absurd (never e) }
-
--- those of a leaf were added
-pub leaf-all : {K : Type 0} (shape : Shape K) (site : Site) (bytes : List ℕ) (old new : Pieces) → level_of bytes ≤ 0 → Grows old new (IsOfRecords site (pairs_of shape bytes)) → ArePlacedRecords site (pairs_of shape bytes) → AddsLeaf shape site bytes old new
-leaf-all shape site bytes old new low g placed =
-    let leaf : level_of bytes ≡ 0 = omega (arith, low) in
-    record { grows = grows-same old new (IsOfRecords site (pairs_of shape bytes)) (IsOfLeaf shape site bytes) (λ block. ((λ o. (leaf, o)), (λ o. o.1))) g; placed = λ _. placed }
-
 -- ---- a record that views share
-pub share-only : (image : List ℕ) (site : Site) (share : Share) (old new : Pieces) → may_be_leaf share.expected ≡ false → Grows old new (λ b. is_in b share.used.mapping.paddr 1 ≡ true) → AddsShare image site share old new
-share-only image site share old new never g = record {
-  grows = grows-same old new (λ b. b ≡ share.used.mapping.paddr) (IsOfShare image site share) (λ b. (
-    (λ e. inl e),
-    (λ o. elim o as (λ _. b ≡ share.used.mapping.paddr) [ inl e ↦ e | inr l ↦ clash (may_be_leaf share.expected) l.0 never ]),
-  )) (grows-one old new share.used.mapping.paddr g);
-  placed = λ e. clash (may_be_leaf share.expected) e never;
-}
-
-pub share-leaf : (image : List ℕ) (site : Site) (share : Share) (old mid new : Pieces) (bytes : List ℕ) → may_be_leaf share.expected ≡ true → bytes ≡ bytes_of image site share → Grows old mid (λ b. is_in b share.used.mapping.paddr 1 ≡ true) → AddsNode share.hashed site bytes mid new → AddsShare image site share old new
-share-leaf image site share old mid new bytes may e g a =
-    let b : AddsNode share.hashed site (bytes_of image site share) mid new = subst (λ (x : List ℕ). AddsNode share.hashed site x mid new) e a in
-    let Of : ℕ → Type 0 = IsOfNode share.hashed site (bytes_of image site share) in
-    record {
-      grows = grows-then old mid new (λ b. b ≡ share.used.mapping.paddr) (λ b. (may_be_leaf share.expected ≡ true) × Of b) (grows-one old mid share.used.mapping.paddr g)
-          (grows-same mid new Of (λ b. (may_be_leaf share.expected ≡ true) × Of b) (λ b. ((λ o. (may, o)), (λ o. o.1))) b.grows);
-      placed = λ _. b.placed;
-    }
 
 -- what stands for a record where a list has none in a place
 abbrev pub no_share : Share
@@ -154,12 +97,6 @@ shares-all image site sets many shares i pieces all a = subst (λ (xs : List Sha
 -- ---- what is a view's own
 pub own-added : (image : List ℕ) (site : Site) (kept : KeptView) (old mid new : Pieces) → AddsReferences image site kept old mid → Grows mid new (λ block. kept.super_block ≡ Some block) → Grows old new (IsOwn image site kept)
 own-added image site kept old mid new r s = grows-then old mid new (λ block. In block (node_blocks_of image site kept.extents_root)) (λ block. kept.super_block ≡ Some block) r.1 s
-
-pub owns-none : (image : List ℕ) (site : Site) (views : List KeptView) (pieces : List Piece) → AddsOwns image site views 0 pieces pieces
-owns-none image site views pieces = λ view block few. (
-  (λ e. inl e),
-  (λ t. elim t as (λ _. is_covered pieces view block ≡ true) [ inl e ↦ e | inr o ↦ let low = o.low in absurd (let q : ⊥ = omega (arith, low) in q) ]),
-)
 
 pub owns-next : (image : List ℕ) (site : Site) (views : List KeptView) (i : ℕ) (kept : KeptView) (old : List Piece) (before turned after : Pieces) → slice_get views i ≡ Some kept → AddsOwns image site views i old before.all.items → turned.all ≡ before.all →
     turned.runs.items ≡ record { from = i; to = i + 1 } ∷ [] → Grows turned after (IsOwn image site kept) → AddsOwns image site views (i + 1) old after.all.items

@@ -1,5 +1,5 @@
 -- Why the blocks of a view can't be gone through, said of the view.
-use Rattle.std.proofs.Common.{◌≡◌, ℕ, Bool, true, false, not, ◌==◌, List, [], ◌∷◌, ◌++◌, length, Option, Some, None, Result, Ok, Err, is_ok, inl, inr, refl, ap, sym, ◌∙◌, subst, if◌then◌else◌}
+use Rattle.std.proofs.Common.{◌≡◌, ℕ, Bool, true, false, not, ◌==◌, List, [], ◌∷◌, ◌++◌, length, Option, Some, None, Result, Ok, Err, is_ok, refl, ap, sym, ◌∙◌, subst, if◌then◌else◌}
 use Rattle.std.specs.Prelude.{slice_get}
 use Rattle.std.specs.List.{list_any}
 use Rattle.apfs_model.specs.Lists.{In}
@@ -7,7 +7,7 @@ use Rattle.apfs_model.proofs.BoolTests.{clash, equal-from, never-true, not-false
 use Rattle.apfs_model.proofs.Searches.{from-map}
 use Rattle.obj_base.specs.declared.site.Site.{Site}
 use Rattle.obj_base.specs.declared.stop.Stop.{Stop}
-use Rattle.obj_base.specs.Stops.{Tells, IsFree, NoFeature, raised}
+use Rattle.obj_base.specs.Stops.{Tells, raised}
 use Rattle.obj_base.proofs.StopLemmas.{raised_tells, tells_more}
 use Rattle.bt_keys.specs.RecordKey.{record_kind_of, inode_record, attribute_record, sibling_link_record, file_extent_record, entry_record, sibling_map_record}
 use Rattle.bt_node.specs.Entries.{Pair}
@@ -37,7 +37,7 @@ use Rattle.use_report.specs.Holding.{of_gather, of_extents, IsFilesFault, AreRig
 use Rattle.use_report.specs.Sets.{AreFaultsOf, AreFeaturesOf}
 use Rattle.use_report.specs.declared.kept.KeptView.{KeptView}
 use Rattle.use_report.specs.declared.stop.UseFault.{UseFault}
-use Rattle.use_report.specs.declared.stop.UseFault.TheVariants.{Walk, Value, Outside}
+use Rattle.use_report.specs.declared.stop.UseFault.TheVariants.{Walk, Value}
 use Rattle.use_report.proofs.Lists.{none-any}
 
 -- ---- a record that is refused
@@ -106,10 +106,6 @@ pub files-told : (image : List ℕ) (site : Site) (volume : Loaded) (view : View
     Tells (IsFilesFault image site volume view) (IsViewFeature image site volume view) (raised (of_gather view.xid) stop)
 files-told image site volume view stop h = raised_tells (of_gather view.xid) (IsViewStop image site volume view) (IsFilesFault image site volume view) (IsViewFeature image site volume view) stop (files-fault image site volume view) h
 
--- nothing is told of the image in other words either
-pub free-raised : {F G : Type 0} (say : F → G) (stop : Stop F) → IsFree stop → IsFree (raised say stop)
-free-raised say stop h = raised_tells say (λ _. ⊥) (λ _. ⊥) NoFeature stop (λ f none. none) h
-
 -- an extent that leaves the container is one of the view
 pub outside-extent : (image : List ℕ) (site : Site) (volume : Loaded) (view : View) (extents : List FileExt) → LeavesOne site extents → extents ≡ said (view_facts image site volume view).extents → HasOutsideExtent image site volume view
 outside-extent image site volume view extents one same =
@@ -142,23 +138,6 @@ pub references-told : (image : List ℕ) (site : Site) (kept : KeptView) (stop :
 references-told image site kept stop h = raised_tells (of_extents kept.view.xid) (IsExtStop image site kept.extents_root) (IsReferencesFault image site kept) (IsExtFeature image site kept.extents_root) stop (references-fault image site kept) h
 
 -- ---- both are of the view
-files-in : (image : List ℕ) (site : Site) (volume : Loaded) (kept : KeptView) (fault : UseFault) → IsFilesFault image site volume kept.view fault → IsUseFaultIn image site volume kept fault
-files-in image site volume kept (Walk xid why) h = (h.0, inl h.1)
-files-in image site volume kept (Value xid item) h = (h.0, inl h.1)
-files-in image site volume kept (Outside xid) h = (h.0, inl h.1)
-
-references-in : (image : List ℕ) (site : Site) (volume : Loaded) (kept : KeptView) (fault : UseFault) → IsReferencesFault image site kept fault → IsUseFaultIn image site volume kept fault
-references-in image site volume kept (Walk xid why) h = (h.0, inr h.1)
-references-in image site volume kept (Value xid item) h = (h.0, inr h.1)
-references-in image site volume kept (Outside xid) h = absurd h
-
-pub told-files : (image : List ℕ) (site : Site) (volume : Loaded) (kept : KeptView) (stop : Stop UseFault) → Tells (IsFilesFault image site volume kept.view) (IsViewFeature image site volume kept.view) stop → Tells (IsUseFaultIn image site volume kept) (IsUseFeatureIn image site volume kept) stop
-told-files image site volume kept stop h =
-    tells_more (IsFilesFault image site volume kept.view) (IsUseFaultIn image site volume kept) (IsViewFeature image site volume kept.view) (IsUseFeatureIn image site volume kept) stop (files-in image site volume kept) (λ feature block f. inl f) h
-
-pub told-references : (image : List ℕ) (site : Site) (volume : Loaded) (kept : KeptView) (stop : Stop UseFault) → Tells (IsReferencesFault image site kept) (IsExtFeature image site kept.extents_root) stop → Tells (IsUseFaultIn image site volume kept) (IsUseFeatureIn image site volume kept) stop
-told-references image site volume kept stop h =
-    tells_more (IsReferencesFault image site kept) (IsUseFaultIn image site volume kept) (IsExtFeature image site kept.extents_root) (IsUseFeatureIn image site volume kept) stop (references-in image site volume kept) (λ feature block f. inr f) h
 
 -- what is there in a view is there in one of some
 pub view-told : (image : List ℕ) (site : Site) (volume : Loaded) (views : List KeptView) (view : KeptView) (stop : Stop UseFault) → In view views →

@@ -56,10 +56,6 @@ view-place volume seen (suc j) kept e =
     let none : suc (0 + j) ≡ suc j = omega arith in
     pasts-place volume 0 j volume.snaps kept e ∙ none
 
--- the same number by another fact
-number-same : {X : Type 0} (P Q : X → Type 0) (n : ℕ) → ((x : X) → P x ↔ Q x) → IsNumberOf P n → IsNumberOf Q n
-number-same P Q n s m = record { all = m.all; lists = ((λ x h. (s x).0 (m.lists.0 x h)), (λ x q. m.lists.1 x ((s x).1 q))); apart = m.apart; same = m.same }
-
 -- ---- one view more
 -- a run of one view has that view
 one-run : (i view : ℕ) → has_view (record { from = i; to = i + 1 } ∷ []) view ≡ is_from i (i + 1) view

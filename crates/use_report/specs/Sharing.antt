@@ -1,9 +1,8 @@
 -- What views hold by the records that they share.
-use Rattle.std.specs.Prelude.{◌≡◌, ◌⊎◌, ◌↔◌, ℕ, ◌-◌, ◌*◌, ◌^◌, ◌<◌, ◌≤◌, Bool, true, false, ◌==◌, List, length, None, Some, slice_get}
+use Rattle.std.specs.Prelude.{◌≡◌, ◌⊎◌, ◌↔◌, ℕ, ◌-◌, ◌*◌, ◌^◌, ◌<◌, ◌≤◌, Bool, true, false, ◌==◌, List, length, Some, slice_get}
 use Rattle.apfs_model.specs.Blocks.{block_of, in_container}
 use Rattle.apfs_model.specs.Lists.{In}
 use Rattle.obj_base.specs.declared.site.Site.{Site}
-use Rattle.bt_node.specs.declared.node.NodeAt.{NodeAt}
 use Rattle.nx_ring.specs.Checkpoint.{Seen, site_of}
 use Rattle.vol_view.specs.Volumes.{Loaded}
 use Rattle.ext_ref.specs.Ranges.{node_blocks_of}
@@ -33,12 +32,6 @@ abbrev pub may_be_leaf : SharedAs → Bool
 may_be_leaf Root = true
 may_be_leaf Metadata = false
 may_be_leaf (Node level) = level == 0
-
--- the place of the node of a record
-abbrev pub place_as : ℕ → SharedAs → NodeAt
-place_as oid Root = record { oid = oid; root = true; level = None }
-place_as oid Metadata = record { oid = oid; root = true; level = None }
-place_as oid (Node level) = record { oid = oid; root = false; level = Some level }
 
 -- the bytes of a record's object
 abbrev pub bytes_of : List ℕ → Site → Share → List ℕ

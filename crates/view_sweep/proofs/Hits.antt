@@ -5,10 +5,9 @@ use Rattle.std.proofs.lemmas.List.{take_more}
 use Rattle.std.proofs.lemmas.Grind.{flat_map-append}
 use Rattle.apfs_model.specs.Lists.{In}
 use Rattle.obj_base.specs.declared.site.Site.{Site}
-use Rattle.obj_base.specs.declared.stop.Feature.{Feature}
 use Rattle.obj_base.specs.declared.stop.Stop.{Stop}
 use Rattle.obj_base.specs.declared.stop.Stop.TheVariants.{Found, Unsupported, ReadFault, NoMemory}
-use Rattle.obj_base.specs.Stops.{Tells, IsFree}
+use Rattle.obj_base.specs.Stops.{Tells}
 use Rattle.omap_map.specs.declared.records.OmapRecord.{OmapRecord}
 use Rattle.reach_rules.specs.declared.fault.ReachFault.{ReachFault}
 use Rattle.view_sweep.specs.declared.wanted.SweptView.{SweptView}
@@ -61,12 +60,6 @@ bad-hit site bytes hits h block one e (Found fault) k = (h, (one, subst (λ (b :
 bad-hit site bytes hits h block one e (Unsupported feature at) k = (h, (one, subst (λ (b : List ℕ). IsFeatureOf h.mapping.paddr (tested_as site h.wanted b) feature at) e k))
 bad-hit site bytes hits h block one e ReadFault k = tt
 bad-hit site bytes hits h block one e NoMemory k = tt
-
-pub free-tells : (P : ReachFault → Type 0) (Q : Feature → ℕ → Type 0) (stop : Stop ReachFault) → IsFree stop → Tells P Q stop
-free-tells P Q (Found fault) h = absurd h
-free-tells P Q (Unsupported feature block) h = absurd h
-free-tells P Q ReadFault h = tt
-free-tells P Q NoMemory h = tt
 
 pub held-block : (bytes : OmapRecord → List ℕ) (block : List ℕ) (u : Used) (o : Option Used) → o ≡ Some u → block ≡ bytes u.mapping → IfSome o (λ x. block ≡ bytes x.mapping)
 held-block bytes block u o e f = subst (λ (p : Option Used). IfSome p (λ x. block ≡ bytes x.mapping)) (sym e) f

@@ -17,7 +17,7 @@ use Rattle.obj_base.specs.declared.stop.Stop.TheVariants.{Found, Unsupported, Re
 use Rattle.obj_base.specs.Stops.{Tells, IsFree, NoFeature}
 use Rattle.reach_rules.specs.declared.fault.ReachFault.{ReachFault}
 use Rattle.reach_rules.specs.declared.fault.ReachFault.TheVariants.{UnusedMapping}
-use Rattle.reach_rules.specs.Maps.{IsMapOf, AreUsed, IsUnused}
+use Rattle.reach_rules.specs.Maps.{IsMapOf, IsUnused}
 use Rattle.view_sweep.specs.declared.used.Used.{Used}
 use Rattle.view_sweep.specs.declared.idle.MapRecords.{MapRecords}
 use Rattle.view_sweep.specs.Order.{used_rank, is_used_below}
@@ -62,8 +62,6 @@ pub used-permuted : (maps : List MapRecords) (us vs : List Used) → IsPermutati
 used-permuted maps us vs p all = λ m i r j k. in-permuted us vs p (used_in m.map r) (all m i r j k)
 
 -- ---- what it is of the maps of a container
-pub maps-used : (image : List ℕ) (seen : Seen) (maps : List MapRecords) (used : List Used) → AreUsedOnes image seen used → AreMapsOf image seen maps → AreAllUsed maps used → (m : MapRecords) → In m maps → AreUsed image seen m.map
-maps-used image seen maps used ones of all = λ m i r j k. ones.only (used_in m.map r) (all m i r (subst (λ (rs : List OmapRecord). In r rs) (sym (of m i).2) j) k)
 
 pub maps-unused : (image : List ℕ) (seen : Seen) (maps : List MapRecords) (used : List Used) (within : Within) (oid xid : ℕ) → AreUsedOnes image seen used → AreMapsOf image seen maps → HasIdle maps used within oid xid → IsUnused image seen within oid xid
 maps-unused image seen maps used within oid xid ones of h =

@@ -82,8 +82,6 @@ sets-last views set front old new last more e f long bits all is =
     (set-or views last.set.items set more.set.items (at last (in-right last front (last ∷ []) (inl refl))) is long bits)
 
 -- ---- what is asked is sought
-pub sought-none : (sets : List ViewSet) → AreSought sets [] []
-sought-none sets = record { each = λ oid number p h. absurd h.listed; only = λ oid number p h. absurd h.listed }
 
 pub sought-more : (sets : List ViewSet) (asked longer : List Asked) (a : Asked) (set : List ℕ) (old new : List Sought) → longer ≡ asked ++ a ∷ [] → set ≡ set_at sets a.set → AreSought sets asked old → IsJoined a.wanted set old new → AreSought sets longer new
 sought-more sets asked longer a set old new e bits so j = record {

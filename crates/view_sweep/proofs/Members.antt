@@ -85,9 +85,6 @@ asked-kept views old new (a ∷ rest) kept low =
 pub numbered-more : (n m : ℕ) (asked : List Asked) → n ≤ m → AreNumbered n asked → AreNumbered m asked
 numbered-more n m asked le low = λ a h. let k : a.set < n = low a h in omega arith
 
-pub kept-self : (sets : List ViewSet) → AreKept sets sets
-kept-self sets = record { more = omega arith; same = λ n low. refl }
-
 pub kept-both : (a b c : List ViewSet) → AreKept a b → AreKept b c → AreKept a c
 kept-both a b c p q =
     let x : length a ≤ length b = p.more in

@@ -1,6 +1,6 @@
 -- What is wanted, as a naming: to which object it resolves, and what that one names.
-use Rattle.std.proofs.Common.{◌≡◌, ℕ, zero, suc, Bool, true, false, ◌==◌, List, [], ◌∷◌, map, Option, Some, None, Ok, Err, refl, ap, sym, ◌∙◌, if◌then◌else◌}
-use Rattle.std.specs.Prelude.{option_map, option_and_then, slice_get}
+use Rattle.std.proofs.Common.{◌≡◌, ℕ, zero, suc, true, false, ◌==◌, List, [], ◌∷◌, map, Option, Some, None, Ok, Err, refl, ap, sym, ◌∙◌, if◌then◌else◌}
+use Rattle.std.specs.Prelude.{option_map, option_and_then}
 use Rattle.apfs_model.specs.Blocks.{in_container}
 use Rattle.apfs_model.specs.Lists.{through}
 use Rattle.apfs_model.proofs.Inside.{inside-same}
@@ -10,19 +10,17 @@ use Rattle.nx_ring.specs.Checkpoint.{Seen, site_of}
 use Rattle.omap_map.specs.Resolve.{resolved as resolves, latest}
 use Rattle.omap_map.specs.Maps.{map_records, is_whole_map, resolved_in, contents_of}
 use Rattle.omap_map.specs.declared.records.OmapRecord.{OmapRecord}
-use Rattle.vol_view.specs.Volumes.{Loaded, map_block_of, map_or_empty, empty_map, loaded_of}
-use Rattle.vol_view.specs.declared.head.VolHead.{VolHead}
+use Rattle.vol_view.specs.Volumes.{Loaded, map_or_empty, empty_map}
 use Rattle.vol_view.specs.Fields as volumes
-use Rattle.reach_rules.specs.Naming.{LookUp, InView, OfRecord, Namer, Whole, Files, ExtendedMetadata, Naming, naming}
+use Rattle.reach_rules.specs.Naming.{InView, OfRecord, Namer, Whole, Files, Naming, naming}
 use Rattle.reach_rules.specs.Resolved.{Found, standing, recorded, resolved}
 use Rattle.reach_rules.specs.Tested.{Answer, tested}
-use Rattle.reach_rules.specs.Next.{children_in, child_namings, node_namings, unless_zero, view_namings, names, names_if, next}
+use Rattle.reach_rules.specs.Next.{children_in, child_namings, node_namings, names, names_if, next}
 use Rattle.view_sweep.specs.declared.wanted.SweptView.{SweptView}
-use Rattle.view_sweep.specs.declared.wanted.Head.{Head}
 use Rattle.view_sweep.specs.declared.wanted.Want.{Want}
 use Rattle.view_sweep.specs.declared.wanted.Want.TheVariants.{Root, Metadata, Node}
 use Rattle.view_sweep.specs.declared.wanted.Wanted.{Wanted}
-use Rattle.view_sweep.specs.Wanted.{view_at, wanted, head_wants, expected_by, expected_of, naming_of}
+use Rattle.view_sweep.specs.Wanted.{view_at, wanted, expected_by, expected_of, naming_of}
 use Rattle.view_sweep.specs.Found.{world, looked, placed, records_at, bytes_at, kids_from, kids_by, wants_by, wants_if, next_by, next_of}
 
 -- ---- to which object it resolves
@@ -55,13 +53,6 @@ placed-all image site v (Some r) = placed-at image site v r
 -- the volume of a view has the records of the map in the block that the view gives
 pub record IsMapped (image : List ℕ) (seen : Seen) (volumes : List Loaded) (v : SweptView) : Type 0 where
   pub same : records_at volumes v.volume ≡ (map_or_empty image (site_of seen) v.map).records
-
--- so it is of a volume that was loaded
-pub mapped-by : (image : List ℕ) (seen : Seen) (loaded : List Loaded) (v : SweptView) (head : VolHead) → slice_get loaded v.volume ≡ Some (loaded_of image (site_of seen) head) → v.map ≡ map_block_of image (site_of seen) head → IsMapped image seen loaded v
-unfolding loaded_of
-mapped-by image seen loaded v head e m = record {
-  same = ap (λ (o : Option Loaded). through o (λ (volume : Loaded). volume.omap.records)) e ∙ ap (λ (b : ℕ). (map_or_empty image (site_of seen) b).records) (sym m);
-}
 
 pub resolves-as : (image : List ℕ) (seen : Seen) (loaded : List Loaded) (supers : SweptView → Namer) (w : Wanted) → IsMapped image seen loaded w.view → resolved image seen (naming_of supers w) ≡ option_map (object_at image (site_of seen) w.view) (looked loaded (site_of seen) w)
 unfolding resolved looked
@@ -103,14 +94,3 @@ next-as image seen loaded supers w m =
     ∙ ap (λ o. through o (λ (f : Found). names_if image seen (naming_of supers w) f (tested (site_of seen) (expected_of w) w.oid f.bytes))) (sym (resolves-as image seen loaded supers w m))
 
 -- ---- what the superblock of a view names is what is wanted of it
-pub head-names : (supers : SweptView → Namer) (h : Head) (bytes : List ℕ) → h.root_oid ≡ volumes.root_oid_of bytes → h.meta_ext ≡ volumes.meta_ext_of bytes → map (naming_of supers) (head_wants h) ≡ view_namings (supers h.view) (view_at h.view) bytes
-head-names supers h bytes root meta =
-    let v : SweptView = h.view in
-    let how : LookUp = InView (view_at v) in
-    let go : (b : Bool) (oid : ℕ) → map (naming_of supers) (if b then [] else wanted v oid Metadata ∷ []) ≡ (if b then [] else naming (supers v) 1000 ExtendedMetadata how oid ∷ []) = λ b oid. elim b as (λ b. map (naming_of supers) (if b then [] else wanted v oid Metadata ∷ []) ≡ (if b then [] else naming (supers v) 1000 ExtendedMetadata how oid ∷ [])) [
-      | true ↦ refl
-      | false ↦ refl
-    ] in
-    ap (λ (ns : List Naming). naming_of supers (wanted v h.root_oid Root) ∷ ns) (go (h.meta_ext == 0) h.meta_ext)
-    ∙ (ap (λ (oid : ℕ). naming_of supers (wanted v oid Root) ∷ unless_zero (supers v) 1000 ExtendedMetadata how h.meta_ext) root
-    ∙ ap (λ (oid : ℕ). naming_of supers (wanted v (volumes.root_oid_of bytes) Root) ∷ unless_zero (supers v) 1000 ExtendedMetadata how oid) meta)

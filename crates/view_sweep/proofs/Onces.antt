@@ -1,16 +1,14 @@
 -- Two that are asked for under one id of a view.
-use Rattle.std.proofs.Common.{◌≡◌, ℕ, ◌+◌, ◌<◌, ◌≤◌, Bool, true, false, ◌&&◌, ◌||◌, List, length, ◌⊎◌, inl, inr, Option, Some, None, IfSome, refl, ap, sym, ◌∙◌, subst, arith}
-use Rattle.std.specs.Prelude.{IsNone}
-use Rattle.std.proofs.lemmas.Bool.{cases_lt, and_parts, and_from, both_ways}
+use Rattle.std.proofs.Common.{◌≡◌, ℕ, ◌+◌, ◌<◌, ◌≤◌, Bool, true, false, ◌&&◌, ◌||◌, List, length, ◌⊎◌, inl, inr, refl, ap, sym, ◌∙◌, subst, arith}
+use Rattle.std.proofs.lemmas.Bool.{cases_lt, both_ways}
 use Rattle.apfs_model.specs.Bytes.{bit_at}
-use Rattle.bit_lanes.specs.Places.{IsSearched}
 use Rattle.obj_base.specs.declared.stop.Within.TheVariants.{Volume}
 use Rattle.view_sweep.specs.declared.sets.ViewSet.{ViewSet}
 use Rattle.view_sweep.specs.declared.wanted.SweptView.{SweptView}
 use Rattle.view_sweep.specs.declared.wanted.Wanted.{Wanted}
 use Rattle.view_sweep.specs.declared.wanted.Asked.{Asked}
 use Rattle.view_sweep.specs.Sets.{width_of, set_at, view_of, of_view, all_asked, AreSets, AreNumbered, IsFirst}
-use Rattle.view_sweep.specs.Asked.{nth_asked, has_view, IsShared, AreApartTo, IsClashAt, AreAlikeAt, IsOfSet, IsRun}
+use Rattle.view_sweep.specs.Asked.{nth_asked, has_view, IsClashAt, AreAlikeAt, IsOfSet, IsRun}
 use Rattle.view_sweep.specs.Here.{IsTwice, Among}
 use Rattle.view_sweep.specs.Order.{AreById}
 use Rattle.view_sweep.specs.Swept.{IsOnce}
@@ -32,15 +30,6 @@ pub set-long : (views : List SweptView) (sets : List ViewSet) (asked : List Aske
 set-long views sets asked j bits proper low within e = ap length e ∙ (proper (nth_asked asked j).set (nth-numbered (length sets) asked j low within)).long
 
 -- ---- what two sets share
-pub shared-found : (a b both : List ℕ) (count : ℕ) (o : Option ℕ) → ((k : ℕ) → bit_at both k ≡ (bit_at a k && bit_at b k)) → IsSearched both 0 count o → IfSome o (IsShared a b count)
-shared-found a b both count None bits found = tt
-shared-found a b both count (Some p) bits found =
-    let t = and_parts (bit_at a p) (bit_at b p) (sym (bits p) ∙ found.is_set) in
-    record { below = found.below; one = t.0; other = t.1 }
-
-pub shared-none : (a b both : List ℕ) (count : ℕ) (o : Option ℕ) → ((k : ℕ) → bit_at both k ≡ (bit_at a k && bit_at b k)) → IsSearched both 0 count o → IsNone o → AreApartTo a b count
-shared-none a b both count None bits found none = λ p low e f. both_ways _ (found p (omega arith) low) (bits p ∙ and_from _ _ e f)
-shared-none a b both count (Some p) bits found none = absurd (let z : true ≡ false = none in let q : ⊥ = cc in q)
 
 or-left : (b c : Bool) → b ≡ true → (b || c) ≡ true
 or-left true c e = refl
@@ -51,15 +40,6 @@ or-right true c e = refl
 or-right false c e = e
 
 -- ---- a run of those of one id
-pub run-none : (views : List SweptView) (sets : List ViewSet) (asked : List Asked) (seen : List ℕ) → length seen ≡ width_of (length views) → IsRun views sets asked seen 0 0
-run-none views sets asked seen long = record {
-  start = omega arith;
-  long = long;
-  same = λ j low high. absurd (omega arith);
-  less = λ j low. absurd (omega arith);
-  known = λ j p low high. absurd (omega arith);
-  once = λ j k low. absurd (omega arith);
-}
 
 last-or : (j i : ℕ) → j < i + 1 → (j < i) ⊎ (i ≡ j)
 last-or j i low = elim (cases_lt j i) as (λ _. (j < i) ⊎ (i ≡ j)) [ inl a ↦ inl a | inr b ↦ inr (omega arith) ]

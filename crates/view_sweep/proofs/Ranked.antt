@@ -29,10 +29,6 @@ between {X} {K} {R} o key xs sorted i j k d low high end tie =
     let c : R (key (get_or xs i d)) (key (get_or xs j d)) ≡ R (key (get_or xs k d)) (key (get_or xs j d)) = o.congr (key (get_or xs i d)) (key (get_or xs k d)) (key (get_or xs j d)) tie in
     ties o (key (get_or xs i d)) (key (get_or xs j d)) (ap is_lt c ∙ b) a
 
--- and so with the last
-pub ties-right : {K : Type 0} {R : K → K → Ordering} → IsTotalOrder R → (x y z : K) → R x z ≡ Equal → R x y ≡ Equal → R y z ≡ Equal
-ties-right o x y z last middle = sym (o.congr x y z middle) ∙ last
-
 -- an item of the front of a list has a place in it
 pub in-take : {X : Type 0} (xs : List X) (i : ℕ) (x d : X) → In x (take i xs) → (j : ℕ) × ((j < i) × ((j < length xs) × (x ≡ get_or xs j d)))
 in-take [] zero x d h = absurd h
@@ -40,13 +36,6 @@ in-take [] (suc i) x d h = absurd h
 in-take (y ∷ ys) zero x d h = absurd h
 in-take (y ∷ ys) (suc i) x d (inl e) = (0, (omega arith, (omega arith, e)))
 in-take (y ∷ ys) (suc i) x d (inr h) = let t = in-take ys i x d h in let low : t.0 < i = t.1.0 in let end : t.0 < length ys = t.1.1.0 in (suc t.0, (omega arith, (omega arith, t.1.1.1)))
-
--- and what has a place in it is an item
-pub take-in : {X : Type 0} (xs : List X) (i j : ℕ) (d : X) → j < i → j < length xs → In (get_or xs j d) (take i xs)
-take-in [] i j d low end = absurd (omega arith)
-take-in (y ∷ ys) zero j d low end = absurd (omega arith)
-take-in (y ∷ ys) (suc i) zero d low end = inl refl
-take-in (y ∷ ys) (suc i) (suc j) d low end = inr (take-in ys i j d (omega arith) (omega arith))
 
 -- an item of a list has a place in it
 pub in-place : {X : Type 0} (xs : List X) (x d : X) → In x xs → (j : ℕ) × ((j < length xs) × (x ≡ get_or xs j d))
@@ -85,9 +74,3 @@ pub then-tie : (c d : Ordering) → ordering_then c d ≡ Equal → (c ≡ Equal
 then-tie Less d e = absurd (cc)
 then-tie Equal d e = (refl, e)
 then-tie Greater d e = absurd (cc)
-
-pub nat-ties : (x y : ℕ) → x ≡ y → nat_cmp x y ≡ Equal
-nat-ties x y e = grind (arith, nat_tests)
-
-pub then-ties : (c d : Ordering) → c ≡ Equal → d ≡ Equal → ordering_then c d ≡ Equal
-then-ties c d p q = ap (λ (x : Ordering). ordering_then x d) p ∙ q

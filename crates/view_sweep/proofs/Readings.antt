@@ -1,5 +1,5 @@
 -- Each of some sorted things is read once.
-use Rattle.std.proofs.Common.{◌≡◌, ℕ, ◌+◌, ◌-◌, ◌<◌, ◌≤◌, List, [], ◌∷◌, ◌++◌, length, map, get_or, take, Option, Some, None, ◌⊎◌, inl, inr, ap, sym, ◌∙◌, subst, arith}
+use Rattle.std.proofs.Common.{◌≡◌, ℕ, ◌+◌, ◌-◌, ◌<◌, ◌≤◌, List, [], ◌∷◌, ◌++◌, length, map, get_or, take, Option, Some, ◌⊎◌, inl, inr, ap, sym, ◌∙◌, subst, arith}
 use Rattle.std.specs.declared.cmp.Ordering.{Ordering}
 use Rattle.std.specs.declared.cmp.Ordering.TheVariants.{Equal}
 use Rattle.std.specs.Ordering.{is_lt}
@@ -26,15 +26,6 @@ pub record Reading {X U : Type 0} (key : X → U) (xs : List X) (i : ℕ) (held 
   pub apart : Apart read
   pub each : (u : U) → In u (map key (take i xs)) → In u read
   pub only : (u : U) → In u read → In u (map key (take i xs))
-
-pub reading-none : {X U : Type 0} (key : X → U) (xs : List X) → Reading key xs 0 None []
-reading-none {X} {U} key xs = record {
-  last = λ d h. absurd (omega arith);
-  stands = λ u e. absurd (let q : ◌≡◌ {A = Option U} None (Some u) = e in cc);
-  apart = tt;
-  each = λ u h. h;
-  only = λ u h. h;
-}
 
 take-uses : {X U : Type 0} (key : X → U) (xs : List X) (i : ℕ) (d : X) → i < length xs → map key (take (i + 1) xs) ≡ map key (take i xs) ++ key (get_or xs i d) ∷ []
 take-uses key xs i d low = ap (map key) (take_more xs i d low) ∙ map-append key (take i xs) (get_or xs i d ∷ [])

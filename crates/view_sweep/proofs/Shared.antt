@@ -1,7 +1,6 @@
 -- Through which views records are used, said of namings.
-use Rattle.std.proofs.Common.{◌≡◌, ℕ, ◌<◌, ◌≤◌, true, List, length, Option, Some, None, inl, inr, refl, ap, sym, ◌∙◌, subst, arith}
+use Rattle.std.proofs.Common.{◌≡◌, ℕ, ◌<◌, ◌≤◌, true, List, length, Option, Some, None, refl, ap, sym, ◌∙◌, subst, arith}
 use Rattle.std.specs.Prelude.{◌↔◌, option_and_then, option_map}
-use Rattle.std.proofs.lemmas.Bool.{cases_lt}
 use Rattle.apfs_model.specs.Blocks.{in_container}
 use Rattle.apfs_model.specs.Lists.{In}
 use Rattle.apfs_model.proofs.Searches.{from-map}
@@ -135,11 +134,3 @@ shared-block image seen views first sets shares a p at block = (
         block_is = s.block_is;
       }),
 )
-
--- where no two views are one, each place is the first of its view
-pub apart-first : (views : List SweptView) (p : ℕ) → p < length views → ((q : ℕ) → q < p → view_of views q ≡ view_of views p → ⊥) → IsFirst views (view_of views p) p
-apart-first views p low apart = record {
-  below = low;
-  is = refl;
-  first = λ q inside e. elim (cases_lt q p) as (λ _. p ≤ q) [ inl before ↦ absurd (apart q before e) | inr after ↦ omega arith ];
-}

@@ -70,10 +70,6 @@ found-since volumes site w v m next found one since none some less =
     ap (λ (i : ℕ). option_and_then (placed site) (resolved (records_at volumes i) w.oid v.xid)) (sym one.volume)
     ∙ (ap (option_and_then (placed site)) (same-since records w.oid w.view.xid v.xid m next here since none some less ∙ sym here) ∙ found)
 
--- what holds of a view holds of those from its place up to the next
-pub places-first : (P : SweptView → Type 0) (views : List SweptView) (low : ℕ) (v : SweptView) → v ≡ view_of views low → P v → (p : ℕ) → low ≤ p → p < low + 1 → P (view_of views p)
-places-first P views low v e h p le less = let same : low ≡ p = omega arith in subst (λ (i : ℕ). P (view_of views i)) same (subst P e h)
-
 pub places-more : (P : SweptView → Type 0) (views : List SweptView) (low i : ℕ) → ((p : ℕ) → low ≤ p → p < i → P (view_of views p)) → P (view_of views i) → (p : ℕ) → low ≤ p → p < i + 1 → P (view_of views p)
 places-more P views low i all one p le less = elim (cases_lt p i) as (λ _. P (view_of views p)) [
   | inl before ↦ all p le before

@@ -20,10 +20,6 @@ use Rattle.view_sweep.specs.Hits.{IsHitOf, HasHit, AreSplit, AreHitsOf}
 use Rattle.view_sweep.specs.Next.{AreAsOne}
 use Rattle.view_sweep.proofs.Ranked.{in-push}
 
--- a bit for each of so many views
-pub bits-enough : (views : List SweptView) (set : List ℕ) → IsSetOf views set → length views ≤ 8 * length set
-bits-enough views set is = let e : length set ≡ (length views + 7) / 8 = is.long in omega arith
-
 -- a view of a part
 pub part-bit : (low high p : ℕ) (b : Bool) → (is_from low high p && b) ≡ true → (low ≤ p) × ((p < high) × (b ≡ true))
 part-bit low high p b e =
@@ -121,9 +117,6 @@ module _ (look : Wanted → Option OmapRecord) (site : Site) (views : List Swept
     only = s.only;
     kept = s.kept;
   }
-
-pub hits-none : (look : Wanted → Option OmapRecord) (site : Site) (views : List SweptView) (sets : List ViewSet) → AreHitsOf look site views sets [] []
-hits-none look site views sets = record { each = λ s p h. absurd h; only = λ h i. absurd i }
 
 -- one more that is sought
 pub hits-more : (look : Wanted → Option OmapRecord) (site : Site) (views : List SweptView) (sets more : List ViewSet) (all longer : List Sought) (s : Sought) (old new : List Hit) → longer ≡ all ++ s ∷ [] → AreKept sets more → AreHitsOf look site views sets all old

@@ -12,7 +12,7 @@ use Rattle.view_sweep.specs.declared.wanted.Wanted.{Wanted}
 use Rattle.view_sweep.specs.declared.wanted.Asked.{Asked}
 use Rattle.view_sweep.specs.declared.wanted.Head.{Head}
 use Rattle.view_sweep.specs.Wanted.{head_wants}
-use Rattle.view_sweep.specs.Sets.{width_of, view_of, of_view, views_in, set_at, asked_of, all_asked, asked_with, AreNumbered, AreKept, IsFirst, IsSetOfOne, HaveSame}
+use Rattle.view_sweep.specs.Sets.{view_of, of_view, views_in, set_at, asked_of, all_asked, asked_with, AreNumbered, AreKept, IsSetOfOne, HaveSame}
 use Rattle.view_sweep.specs.Found.{World}
 use Rattle.view_sweep.specs.Swept.{AreKids, level_of}
 use Rattle.view_sweep.proofs.Losts.{nobody}
@@ -81,25 +81,10 @@ taken k heads views first sets kids current after level pos high a kept low b e 
     (subst (λ (n : ℕ). IsWaiting k heads n (all_asked views sets current)) s b) (level-asked views sets (level - 1) current kids after e)
 
 -- ---- what superblocks want
-pub one-set : (views : List SweptView) (set : List ℕ) (v : SweptView) (place : ℕ) → length set ≡ width_of (length views) → ((k : ℕ) → (bit_at set k ≡ true) ↔ (k ≡ place)) → IsFirst views v place → IsSetOfOne views set v
-one-set views set v place long one at = record {
-  is_set = record {
-    long = long;
-    first = λ p e. let same : p ≡ place = (one p).0 e in
-        subst (λ (i : ℕ). IsFirst views (view_of views i) i) (sym same) (subst (λ (u : SweptView). IsFirst views u place) (sym at.is) at);
-  };
-  only = λ p e. ap (view_of views) ((one p).0 e) ∙ at.is;
-  place = place;
-  below = at.below;
-  has = (one place).1 refl;
-}
 
 -- a head that isn't there, where a list has no item
 abbrev pub nohead : Head
 nohead = record { view = nobody.view; root_oid = 0; meta_ext = 0 }
-
-pub heads-none : (views : List SweptView) (sets : List ViewSet) → HaveSame (all_asked views sets []) []
-heads-none views sets = record { to = λ x h. h; from = λ x h. h }
 
 pub heads-more : (views : List SweptView) (sets more : List ViewSet) (old new : List Asked) (head : Head) (n : ℕ) (xs ys : List Wanted) → ys ≡ xs ++ head_wants head → AreKept sets more → AreNumbered (length sets) old → IsSetOfOne views (set_at more n) head.view
     → new ≡ old ++ map (asked_with n) (head_wants head) → HaveSame (all_asked views sets old) xs → HaveSame (all_asked views more new) ys

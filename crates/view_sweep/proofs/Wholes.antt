@@ -74,9 +74,6 @@ pub record IsLevel (k : World) (heads : List Head) (level : ℕ) (current : List
   pub live : (w : Wanted) → In w current → IsLive k heads w × (level_of w ≡ level)
   pub all : (w : Wanted) → IsLive k heads w → level_of w ≡ level → In w current
 
-pub waiting-none : (k : World) (heads : List Head) → IsWaiting k heads 16 []
-waiting-none k heads = record { live = λ w h. absurd h; all = λ m w live high low h e. absurd (omega arith) }
-
 level-all : (k : World) (heads : List Head) (kids current : List Wanted) (level : ℕ) → level < 16 → AreKids k heads kids → IsWaiting k heads (suc level) current → (w : Wanted) → IsLive k heads w → level_of w ≡ level → In w (current ++ filter (at_level level) kids)
 level-all k heads kids current level low a b w (rooted _ h) e = let f : level_of w ≡ 16 = heads-level heads w h in absurd (omega arith)
 level-all k heads kids current level low a b w (led m _ live h) e =

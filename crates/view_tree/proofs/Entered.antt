@@ -1,7 +1,7 @@
 -- Directories that a tree enters, its rows one by one, and what stops it.
 use Rattle.std.proofs.Common.{◌≡◌, ◌==◌, ◌&&◌, get_or, ℕ, suc, ◌+◌, ◌-◌, ◌<◌, ◌≤◌, Bool, true, false, cond, List, [], ◌∷◌, ◌++◌, length, map, reverse, Option, None, Some, Result, Ok, Err, ◌⊎◌, inl, inr, refl, ap, sym, ◌∙◌, subst, arith, append_assoc, append-nil, length-append}
 use Rattle.std.specs.Prelude.{filter_map, option_map, slice_get, nat_le}
-use Rattle.std.proofs.lemmas.List.{reverse-append, map-append}
+use Rattle.std.proofs.lemmas.List.{reverse-append}
 use Rattle.apfs_model.specs.Lists.{In, and_then, passes}
 use Rattle.apfs_model.proofs.BoolTests.{both-true, left-true, right-true, from-below}
 use Rattle.apfs_model.proofs.Searches.{in-append, from-map}
@@ -89,9 +89,6 @@ next_entered facts first row rest next entered e r h opened =
 pub popped : {X : Type 0} (old new : List X) (x : X) → old ≡ new ++ x ∷ [] → reverse old ≡ x ∷ reverse new
 popped old new x e = ap reverse e ∙ reverse-append new (x ∷ [])
 
-pub pushed : {X : Type 0} (old new : List X) (x : X) → new ≡ old ++ x ∷ [] → reverse new ≡ x ∷ reverse old
-pushed old new x e = ap reverse e ∙ reverse-append old (x ∷ [])
-
 pub told_step : (facts : Facts) (n : ℕ) (rows : List (List ℕ × Target)) (row : List ℕ × Target) (left rest next : List (List ℕ × Target)) (whole : List (List ℕ × Target)) → length rows < n → left ≡ row ∷ rest → next ≡ told_under facts row ++ rest →
     rows ++ told_from facts (n - length rows) left ≡ whole → (rows ++ row ∷ []) ++ told_from facts (n - length (rows ++ row ∷ [])) next ≡ whole
 told_step facts n rows row left rest next whole low e f so_far =
@@ -118,9 +115,6 @@ lack_stop facts view path e (Found (stops.Fault fault)) listed counts known = in
 lack_stop facts view path e (Unsupported feature block) listed counts known = absurd known
 lack_stop facts view path e ReadFault listed counts known = absurd known
 lack_stop facts view path e NoMemory listed counts known = tt
-
-pub memory_stop : (facts : Facts) (view : View) (path : List ℕ) (stop : Stop PathStop) → stop ≡ NoMemory → IsTreeStop facts view path stop
-memory_stop facts view path stop e = subst (λ (s : Stop PathStop). IsTreeStop facts view path s) (sym e) tt
 
 pub stop_known : {T U : Type 0} (facts : Facts) (view : View) (path : List ℕ) (shows : T → U) (wanted : Result U Answer) (stop : Stop PathStop) → IsTreeStop facts view path stop → IsTreeKnown facts view path shows wanted (Err stop)
 stop_known facts view path shows wanted (Found (stops.Answer a)) known = absurd known
@@ -171,10 +165,6 @@ tree-at facts path place e = ap (λ (r : Result Place Answer). and_then {T = Pla
 pub tree_directory : (facts : Facts) (path : List ℕ) (place : Place) (rows : List (List ℕ × Target)) → found facts path ≡ Ok place → is_directory place.inode ≡ true → rows ≡ told_from facts (length facts.entries) (told_of facts [] place.id) → tree facts path ≡ Ok rows
 tree_directory facts path place rows there e all =
     tree-at facts path place there ∙ ap Ok (ap (λ b. map row_told (cond b (rows_below facts place.id) (lone_row place ∷ []))) e ∙ (rows_told facts place.id ∙ sym all))
-
-pub tree_file : (facts : Facts) (path : List ℕ) (place : Place) (row : List ℕ × Target) (rows : List (List ℕ × Target)) → found facts path ≡ Ok place → is_directory place.inode ≡ false → row ≡ row_told (lone_row place) → rows ≡ row ∷ [] → tree facts path ≡ Ok rows
-tree_file facts path place row rows there e same all =
-    tree-at facts path place there ∙ ap Ok (ap (λ b. map row_told (cond b (rows_below facts place.id) (lone_row place ∷ []))) e ∙ (ap (λ (r : List ℕ × Target). r ∷ []) (sym same) ∙ sym all))
 
 -- ---- of a view
 repeat-there : (image : List ℕ) (site : Site) (volume : Loaded) (view : View) (path : List ℕ) (fault : TreeFault) → IsRepeat (view_facts image site volume view) view path fault → IsPathFault image site volume view fault
@@ -263,13 +253,6 @@ met_part facts path names id part next es taken number opened named gives some s
     component-some (b ∷ bs) e = from-below 0 (length (b ∷ bs)) (omega arith)
 
 -- ---- rows that are put on others
-pub put_step : {X Y : Type 0} (f : X → Y) (ts rest : List X) (t : X) (left next : List Y) (row : Y) (whole : List Y) → ts ≡ rest ++ t ∷ [] → row ≡ f t → next ≡ left ++ row ∷ [] → map f ts ++ reverse left ≡ whole → map f rest ++ reverse next ≡ whole
-put_step f ts rest t left next row whole e same put so_far =
-    ap (λ l. map f rest ++ l) (pushed left next row put ∙ ap (λ r. r ∷ reverse left) same)
-    ∙ (sym (append_assoc (map f rest) (f t ∷ []) (reverse left)) ∙ (ap (λ l. l ++ reverse left) (sym (ap (map f) e ∙ map-append f rest (t ∷ []))) ∙ so_far))
-
-pub put_end : {X Y : Type 0} (f : X → Y) (ts : List X) (left whole : List Y) → ts ≡ [] → map f ts ++ reverse left ≡ whole → reverse left ≡ whole
-put_end f ts left whole e so_far = sym (ap (λ l. map f l ++ reverse left) e) ∙ so_far
 
 pub told_start : (facts : Facts) (n : ℕ) (rows left start : List (List ℕ × Target)) → rows ≡ [] → left ≡ start → rows ++ told_from facts (n - length rows) left ≡ told_from facts n start
 told_start facts n rows left start e f =

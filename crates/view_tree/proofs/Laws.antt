@@ -7,15 +7,14 @@ use Rattle.fs_record.specs.Inodes.{Inode}
 use Rattle.fs_record.specs.Entries.{Entry}
 use Rattle.fs_record.specs.Facts.{Fact, is_reserved, first_user_id}
 use Rattle.view_rules.specs.Facts.{Facts, inode_at, is_directory, has_directory, does_count, names_file, entry_count, entry_count_in}
-use Rattle.view_rules.specs.Directories.{is_user_directory, is_misnamed, is_root_named, HasDirNames, IsDirNames}
+use Rattle.view_rules.specs.Directories.{is_user_directory, is_misnamed, IsDirNames}
 use Rattle.apfs_model.proofs.Searches.{get-in}
-use Rattle.view_rules.proofs.Searches.{broken-clear}
 use Rattle.path_walk.specs.Places.{placed}
 use Rattle.path_walk.specs.Found.{entries_in, found}
 use Rattle.view_tree.specs.Tree.{tree}
 use Rattle.view_tree.specs.Met.{Spot, spot_in, IsMetTwice}
 use Rattle.path_walk.specs.declared.answer.Answer.{Answer}
-use Rattle.apfs_model.proofs.BoolTests.{both-true, left-true, right-true, false-not, clash, never-true}
+use Rattle.apfs_model.proofs.BoolTests.{both-true, left-true, right-true, false-not, never-true}
 use Rattle.path_walk.proofs.Tallies.{tally, tally-is, tally-in, tally-apart}
 use Rattle.path_walk.proofs.Entries.{kept-entries}
 use Rattle.view_tree.proofs.Rows.{inode-fact}
@@ -68,10 +67,3 @@ met_twice_is_there facts path id m =
     let z = tally-is (names_file id) facts.entries in
     omega arith) in
     inl (record { item = f; listed = g.1.0; same = g.1.1; breach = both-true (is_user_directory f) (not once) user (false-not once never) })
-
--- so no tree of a view that meets its rules meets two entries of one directory
-pub never_twice : (facts : Facts) → HasDirNames facts → is_root_named facts ≡ false → (path : List ℕ) (id : ℕ) → IsMetTwice facts path id → ⊥
-never_twice facts clear unnamed path id m = elim (met_twice_is_there facts path id m) as (λ _. ⊥) [
-  | inl b ↦ broken-clear b clear
-  | inr t ↦ clash (is_root_named facts) t.1 unnamed
-]

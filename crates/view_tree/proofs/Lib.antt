@@ -1,5 +1,4 @@
 pub mod Rows
-pub mod Trees
 pub mod Laws
 pub mod Examples
 pub mod Told

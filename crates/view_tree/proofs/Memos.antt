@@ -3,7 +3,7 @@ use Rattle.std.proofs.Common.{◌≡◌, ◌==◌, ℕ, zero, suc, ◌<◌, Bool
 use Rattle.std.specs.Prelude.{filter, not, option_map, slice_get, nat_le, IfSome}
 use Rattle.std.specs.List.{cons_option}
 use Rattle.std.specs.Ordering.{nat_cmp, is_eq}
-use Rattle.std.specs.BTreeMap.{BTreeMap, get, is_at, Updates}
+use Rattle.std.specs.BTreeMap.{BTreeMap, get, is_at}
 use Rattle.std.specs.Map.{lookup}
 use Rattle.std.proofs.lemmas.Bool.Decides.{Decides-eqb}
 use Rattle.apfs_model.specs.Lists.{In, passes, through, value_of}
@@ -27,16 +27,6 @@ use Rattle.path_walk.proofs.Known.{step_file}
 
 pub same_number : (a b : ℕ) → is_eq (nat_cmp a b) ≡ true → a ≡ b
 same_number a b e = grind arith
-
--- a spot that is kept of a directory
-pub memo_put : (facts : Facts) (path : List ℕ) (old new : BTreeMap ℕ (ℕ × ℕ)) (id : ℕ) (s : ℕ × ℕ) → IsMemo facts path old → Updates nat_cmp old new id (Some s) → IsMet facts path (spot_in s.0 s.1) → IsEntryOf facts (spot_in s.0 s.1) id → IsMemo facts path new
-memo_put facts path old new id s memo updates met entry q =
-    let Good : Option (ℕ × ℕ) → Type 0 = λ o. IfSome o (λ t. IsMet facts path (spot_in t.0 t.1) × IsEntryOf facts (spot_in t.0 t.1) q) in
-    let go : (b : Bool) → is_at (nat_cmp id) q ≡ b → Good (cond b (Some s) (get nat_cmp old q)) = λ b. elim b as (λ b. is_at (nat_cmp id) q ≡ b → Good (cond b (Some s) (get nat_cmp old q))) [
-      | true ↦ λ e. (met, subst (λ i. IsEntryOf facts (spot_in s.0 s.1) i) (same_number id q e) entry)
-      | false ↦ λ e. memo q
-    ] in
-    subst Good (sym (updates.0 q)) (go (is_at (nat_cmp id) q) refl)
 
 -- two spots of one directory
 pub memo_twice : (facts : Facts) (path : List ℕ) (memo : BTreeMap ℕ (ℕ × ℕ)) (id : ℕ) (s other : ℕ × ℕ) → IsMemo facts path memo → IsMet facts path (spot_in s.0 s.1) → IsEntryOf facts (spot_in s.0 s.1) id → is_user_id facts id ≡ true → get nat_cmp memo id ≡ Some other → ((other.0 == s.0) ≡ true → (other.1 == s.1) ≡ true → ⊥) → IsMetTwice facts path id

@@ -2,7 +2,6 @@
 use Rattle.std.specs.Prelude.{◌≡◌, ℕ, ◌+◌, ◌<◌, not, Bool, true, false, cond, ◌&&◌, ◌||◌, ◌==◌, nat_le, List, [], ◌∷◌, ◌++◌, length, map, Option, None, Some, refl, Result, Ok, Err, IfOk, IsTrue, is_some, is_none, option_map, option_to_list}
 use Rattle.std.specs.List.{filter, list_all, list_any}
 use Rattle.std.proofs.Common.{arith, ap, sym, ◌∙◌, subst, inl, inr}
-use Rattle.std.proofs.lemmas.Bool.Decides.{nat_tests}
 use Rattle.std.proofs.lemmas.List.{map-append}
 use Rattle.std.proofs.lemmas.List.Elements.{filter-append}
 use Rattle.apfs_model.specs.Lists.{In}
@@ -62,42 +61,6 @@ kind-apart n e = ap (λ k. k == 11) e
 unless : (n m : ℕ) → n ≡ 11 → (n == 1) ≡ false
 unless n m e = ap (λ k. k == 1) e
 
--- an entry above the leaves isn't refused
-pub upper-kept : (level : ℕ) (key : List ℕ) (value : Option (List ℕ)) → 0 < level → true ≡ not (is_refused (shown level key value))
-upper-kept level key value upper =
-    let inner : (level == 0) ≡ false = grind (arith, nat_tests) in
-    ap (λ (b : Bool). not (b && is_unread (shown level key value).pair)) (sym inner)
-
--- the record of a snapshot is refused where it can't be read
-pub snapshot-kept : (level : ℕ) (key : List ℕ) (value : Option (List ℕ)) (k : SnapKey) → level ≡ 0 → snap_shape.read key ≡ Some k → k.kind ≡ 1 → is_some (snapshot_read k.id (bytes_in value)) ≡ not (is_refused (shown level key value))
-snapshot-kept level key value k low e kind =
-    let read = key-read key k e in
-    let is : (record_kind_of key == 1) ≡ true = kind-is (record_kind_of key) 1 (read.1.0 ∙ kind) in
-    some-none (snapshot_read k.id (bytes_in value))
-    ∙ (ap (λ i. not (is_none (snapshot_read i (bytes_in value)))) (sym read.0)
-    ∙ (ap (λ (b : Bool). not (cond b (is_none (snapshot_read (id_of key) (bytes_in value))) (cond (record_kind_of key == 11) (is_none (name_read key (bytes_in value))) false))) (sym is)
-    ∙ ap (λ (l : ℕ). not ((l == 0) && is_unread (shown l key value).pair)) (sym low)))
-
--- so is the record of a name
-pub name-kept : (level : ℕ) (key : List ℕ) (value : Option (List ℕ)) (k : SnapKey) → level ≡ 0 → snap_shape.read key ≡ Some k → k.kind ≡ 11 → is_some (name_read key (bytes_in value)) ≡ not (is_refused (shown level key value))
-name-kept level key value k low e kind =
-    let read = key-read key k e in
-    let eleven : record_kind_of key ≡ 11 = read.1.0 ∙ kind in
-    some-none (name_read key (bytes_in value))
-    ∙ (ap (λ (b : Bool). not (cond b (is_none (name_read key (bytes_in value))) false)) (sym (kind-is (record_kind_of key) 11 eleven))
-    ∙ (ap (λ (b : Bool). not (cond b (is_none (snapshot_read (id_of key) (bytes_in value))) (cond (record_kind_of key == 11) (is_none (name_read key (bytes_in value))) false))) (sym (unless (record_kind_of key) 11 eleven))
-    ∙ ap (λ (l : ℕ). not ((l == 0) && is_unread (shown l key value).pair)) (sym low)))
-
--- another entry isn't refused
-pub other-kept : (level : ℕ) (key : List ℕ) (value : Option (List ℕ)) (k : SnapKey) → level ≡ 0 → snap_shape.read key ≡ Some k → (k.kind ≡ 1 → ⊥) → (k.kind ≡ 11 → ⊥) → true ≡ not (is_refused (shown level key value))
-other-kept level key value k low e no_snapshot no_name =
-    let read = key-read key k e in
-    let first : (record_kind_of key == 1) ≡ false = never-true (record_kind_of key == 1) (λ t. no_snapshot (sym read.1.0 ∙ equal-from (record_kind_of key) 1 t)) in
-    let second : (record_kind_of key == 11) ≡ false = never-true (record_kind_of key == 11) (λ t. no_name (sym read.1.0 ∙ equal-from (record_kind_of key) 11 t)) in
-    ap (λ (b : Bool). not (cond b (is_none (name_read key (bytes_in value))) false)) (sym second)
-    ∙ (ap (λ (b : Bool). not (cond b (is_none (snapshot_read (id_of key) (bytes_in value))) (cond (record_kind_of key == 11) (is_none (name_read key (bytes_in value))) false))) (sym first)
-    ∙ ap (λ (l : ℕ). not ((l == 0) && is_unread (shown l key value).pair)) (sym low))
-
 -- one more item was gathered
 pub tell-more : (items : List Item) (item : Item) (snapshots later : List SnapshotRecord) (names further : List NameRecord) → Tell (leaf_pairs items) snapshots names
     → later ≡ snapshots ++ map snapshot_told (snapshot_pairs (leaf_pairs (item ∷ []))) → further ≡ names ++ map name_told (name_pairs (leaf_pairs (item ∷ []))) → Tell (leaf_pairs (items ++ item ∷ [])) later further
@@ -121,34 +84,9 @@ by-kinds : (p : Pair) (s n : Bool) → is_snapshot p ≡ s → is_snapshot_name 
     → (snapshots_told (shown 0 p.key p.value) ≡ map snapshot_told (cond s (p ∷ []) [])) × (names_told (shown 0 p.key p.value) ≡ map name_told (cond n (p ∷ []) []))
 by-kinds p s n e f = (ap (λ (b : Bool). map snapshot_told (cond b (p ∷ []) [])) e, ap (λ (b : Bool). map name_told (cond b (p ∷ []) [])) f)
 
-upper-pairs : (level : ℕ) (key : List ℕ) (value : Option (List ℕ)) → 0 < level → leaf_pairs (shown level key value ∷ []) ≡ []
-upper-pairs level key value upper =
-    let inner : (level == 0) ≡ false = grind (arith, nat_tests) in
-    ap (λ (b : Bool). map (λ (item : Item). item.pair) (cond b (shown level key value ∷ []) [])) inner
-
 append-none : {X : Type 0} (xs : List X) → xs ≡ xs ++ []
 append-none [] = refl
 append-none (x ∷ xs) = ap (λ ys. x ∷ ys) (append-none xs)
-
--- an item above the leaves adds nothing
-pub tell-upper : (items : List Item) (level : ℕ) (key : List ℕ) (value : Option (List ℕ)) (snapshots : List SnapshotRecord) (names : List NameRecord) → 0 < level → Tell (leaf_pairs items) snapshots names → Tell (leaf_pairs (items ++ shown level key value ∷ [])) snapshots names
-tell-upper items level key value snapshots names upper had =
-    let none = upper-pairs level key value upper in
-    tell-more items (shown level key value) snapshots snapshots names names had
-    (append-none snapshots ∙ ap (λ ps. snapshots ++ map snapshot_told (snapshot_pairs ps)) (sym none))
-    (append-none names ∙ ap (λ ps. names ++ map name_told (name_pairs ps)) (sym none))
-
--- an entry of another kind adds nothing
-pub tell-other : (items : List Item) (level : ℕ) (key : List ℕ) (value : Option (List ℕ)) (k : SnapKey) (snapshots : List SnapshotRecord) (names : List NameRecord) → level ≡ 0 → snap_shape.read key ≡ Some k → (k.kind ≡ 1 → ⊥) → (k.kind ≡ 11 → ⊥)
-    → Tell (leaf_pairs items) snapshots names → Tell (leaf_pairs (items ++ shown level key value ∷ [])) snapshots names
-tell-other items level key value k snapshots names low e no_snapshot no_name had =
-    let read = key-read key k e in
-    let p : Pair = record { key = key; value = value } in
-    let first : is_snapshot p ≡ false = never-true (record_kind_of key == 1) (λ t. no_snapshot (sym read.1.0 ∙ equal-from (record_kind_of key) 1 t)) in
-    let second : is_snapshot_name p ≡ false = never-true (record_kind_of key == 11) (λ t. no_name (sym read.1.0 ∙ equal-from (record_kind_of key) 11 t)) in
-    let kinds = by-kinds p false false first second in
-    subst (λ l. Tell (leaf_pairs (items ++ shown l key value ∷ [])) snapshots names) (sym low)
-    (tell-more items (shown 0 key value) snapshots snapshots names names had (append-none snapshots ∙ ap (λ xs. snapshots ++ xs) (sym kinds.0)) (append-none names ∙ ap (λ xs. names ++ xs) (sym kinds.1)))
 
 read-step : (a b : Bool) (x : ℕ) (value raw name : List ℕ) → is_some (option_map (snapshot_with x value) (cond a (cond b (Some name) None) None)) ≡ true → option_to_list (option_map (snapshot_with x value) (cond a (cond b (Some name) None) None)) ≡ snapshot_with x value name ∷ []
 read-step true true x value raw name e = refl

@@ -22,7 +22,7 @@ use Rattle.bt_cursor.specs.declared.gathering.GatherFault.{GatherFault}
 use Rattle.bt_cursor.specs.declared.gathering.GatherFault.TheVariants as gathers
 use Rattle.bt_cursor.proofs.Flats.{line-pairs}
 use Rattle.bt_cursor.proofs.Wholes.{means_whole}
-use Rattle.omap_map.specs.Features.{has_snapshot_state, snapshot_features}
+use Rattle.omap_map.specs.Features.{has_snapshot_state}
 use Rattle.omap_map.specs.Maps.{Contents, map_snapshots, IsLoaded, IsMapFault, IsMapFeature}
 use Rattle.omap_map.specs.declared.fault.OmapFault.{OmapFault}
 use Rattle.omap_map.proofs.Loads.{whole-object}
@@ -58,9 +58,6 @@ made_of xid created name block extents root meta = record { xid = xid; created =
 pub inside-site : (blocks block : ℕ) → (nat_lt 0 block && nat_lt block blocks) ≡ true → in_container blocks block ≡ Some block
 inside-site blocks block e = ap (λ b. cond b (Some block) None) e
 
-pub outside-site : (blocks block : ℕ) → (nat_lt 0 block && nat_lt block blocks) ≡ false → in_container blocks block ≡ None
-outside-site blocks block e = ap (λ b. cond b (Some block) None) e
-
 abbrev MagicIs : Bool → ℕ → List ℕ → List ℕ → Type 0
 MagicIs b block bytes bs = let answer : Result (List ℕ) (Stop VolStop) = Ok bs in cond b (Ok bytes) (Err (Found (Magic block))) ≡ answer
 
@@ -91,13 +88,6 @@ pub map-marked : (image : List ℕ) (site : Site) (head : VolHead) (block : ℕ)
 map-marked image site head block contents loaded same marked =
     let there : has_snapshot_state (map_snapshots image site block) ≡ true = subst (λ (c : Contents). has_snapshot_state c.snapshots ≡ true) loaded.same marked in
     inr (inr (inl (same, whole-object image site block loaded.whole, subst (λ (b : Bool). In SnapshotState (cond b (SnapshotState ∷ []) [])) (sym there) (inl refl))))
-
-unmarked-step : (b : Bool) → b ≡ false → cond b (SnapshotState ∷ []) [] ≡ []
-unmarked-step b e = ap (λ (c : Bool). cond c (SnapshotState ∷ []) []) e
-
--- the snapshots of a map have no feature
-pub map-unmarked : (snapshots : List (ℕ × ℕ)) → has_snapshot_state snapshots ≡ false → snapshot_features snapshots ≡ []
-map-unmarked snapshots e = unmarked-step (has_snapshot_state snapshots) e
 
 pairs-some : (image : List ℕ) (site : Site) (root : ℕ) → (root == 0) ≡ false → metadata_pairs image site root ≡ flat_of (metadata_tree image site) root
 unfolding metadata_pairs

@@ -2,20 +2,8 @@
 use Rattle.std.specs.Prelude.{◌≡◌, ℕ, Bool, true, false, List, None, cond, refl}
 use Rattle.obj_base.specs.declared.site.Site.{Site}
 use Rattle.omap_map.specs.Resolve.{latest, resolved, resolve, named_by}
-use Rattle.omap_map.specs.Maps.{Contents, contents_of, is_whole_map, resolved_in, named_in}
-use Rattle.vol_view.specs.Volumes.{Loaded, empty_map, map_or_empty}
-use Rattle.vol_view.specs.Views.{view_named}
-use Rattle.vol_view.specs.declared.volume.View.{View}
-
-found-step : (b : Bool) (c : Contents) (oid x : ℕ) → resolved (cond b c empty_map).records oid x ≡ cond b (resolved c.records oid x) None
-unfolding resolved latest
-found-step true c oid x = refl
-found-step false c oid x = refl
-
--- a record is found in the map of a volume as in its image
-pub found-in_image : (image : List ℕ) (site : Site) (block oid x : ℕ) → resolved (map_or_empty image site block).records oid x ≡ resolved_in image site block oid x
-unfolding map_or_empty resolved_in
-found-in_image image site block oid x = found-step (is_whole_map image site block) (contents_of image site block) oid x
+use Rattle.omap_map.specs.Maps.{Contents, contents_of, is_whole_map, named_in}
+use Rattle.vol_view.specs.Volumes.{empty_map, map_or_empty}
 
 named-step : (b : Bool) (c : Contents) (x blocks oid : ℕ) → named_by (cond b c empty_map).records x blocks oid ≡ cond b (named_by c.records x blocks oid) None
 unfolding named_by resolve resolved latest
@@ -26,7 +14,3 @@ named-step false c x blocks oid = refl
 pub named-in_image : (image : List ℕ) (site : Site) (block x oid : ℕ) → named_by (map_or_empty image site block).records x site.blocks oid ≡ named_in image site block x oid
 unfolding map_or_empty named_in
 named-in_image image site block x oid = named-step (is_whole_map image site block) (contents_of image site block) x site.blocks oid
-
--- the look-up through a loaded volume's map at a view's transaction is that of the view
-pub view-named : (site : Site) (volume : Loaded) (view : View) (oid : ℕ) → named_by volume.omap.records view.xid site.blocks oid ≡ view_named site volume view oid
-view-named site volume view oid = refl

@@ -16,7 +16,3 @@ each-more {X} P xs o ys e each one x m =
       | inl h ↦ each x h
       | inr h ↦ one-has P o x one h
     ]
-
--- nothing is in a list without items
-pub each-none : {X : Type 0} (P : X → Type 0) (ys : List X) → ys ≡ [] → (x : X) → In x ys → P x
-each-none P ys e x m = let none = subst (In x) e m in absurd none

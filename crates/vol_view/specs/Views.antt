@@ -10,7 +10,7 @@ use Rattle.bt_cursor.specs.Tree.{Tree, tree_in}
 use Rattle.bt_cursor.specs.Flat.{flat_of}
 use Rattle.bt_cursor.specs.Line.{Item, line_of}
 use Rattle.bt_cursor.specs.Met.{nodes_of, is_walkable}
-use Rattle.bt_cursor.specs.Order.{is_ordered, out_of_order}
+use Rattle.bt_cursor.specs.Order.{is_ordered}
 use Rattle.bt_cursor.specs.From.{is_kind_whole}
 use Rattle.bt_cursor.specs.Counts.{is_counted}
 use Rattle.bt_cursor.specs.Whole.{is_whole}
@@ -91,12 +91,6 @@ unfoldable pub is_view_walkable : List ℕ → Site → Loaded → View → Bool
 is_view_walkable image site volume view =
     if are_hashed volume.names then is_walkable (hashed_tree image site volume view) view.root_oid
     else is_walkable (plain_tree image site volume view) view.root_oid
-
--- the number of the first item of a view's Line that is out of order
-abbrev pub view_out_of_order : List ℕ → Site → Loaded → View → Option ℕ
-view_out_of_order image site volume view =
-    if are_hashed volume.names then out_of_order fs_shape (view_line image site volume view)
-    else out_of_order fs_plain_shape (view_line image site volume view)
 
 -- a view whose Line is ordered
 abbrev pub is_view_ordered : List ℕ → Site → Loaded → View → Bool
