@@ -1,8 +1,9 @@
 -- What the command `space` counts, and what its stops say.
-use Rattle.std.proofs.Common.{◌≡◌, ℕ, ◌+◌, ◌<◌, ◌≤◌, List, ◌++◌, Some, length, get_or, take, true, inl, inr, refl, sym, ap, ◌∙◌, subst, zero-add, arith, if◌then◌else◌}
+use Rattle.std.proofs.Common.{◌≡◌, ℕ, ◌+◌, ◌<◌, ◌≤◌, List, ◌++◌, Some, length, get_or, take, true, Bool, inl, inr, refl, sym, ap, ◌∙◌, subst, zero-add, arith, if◌then◌else◌}
 use Rattle.std.specs.List.{flat_map, enumerate_from}
 use Rattle.std.proofs.lemmas.List.{take_all, get_or_default}
-use Rattle.std.proofs.lemmas.List.FromFn.{length-enumerate_from, get_or-enumerate_from}
+use Rattle.std.proofs.lemmas.List.FromFn.{length-enumerate_from, get_or-enumerate_from, sum_by-map-range_with_len_more}
+use Rattle.apfs_model.specs.Bytes.{bit_at}
 use Rattle.obj_base.specs.declared.stop.Stop.{Stop}
 use Rattle.obj_base.specs.declared.stop.Stop.TheVariants.{Found, Unsupported, ReadFault, NoMemory}
 use Rattle.obj_base.specs.Stops.{Tells, IsFree, NoFeature}
@@ -24,11 +25,21 @@ use Rattle.space_pool.specs.Stops.{AreQueued, IsPoolFault, IsQueueFault, IsQueue
 use Rattle.reach_rules.specs.declared.fault.ReachFault.TheVariants as sweeps
 use Rattle.apfs_check.specs.Raised.{of_ring, of_sweep}
 use Rattle.apfs_cli.specs.Checkpoints.{IsNewest}
-use Rattle.apfs_cli.specs.Commands.Space.{chunk_text, IsText}
+use Rattle.apfs_cli.specs.Commands.Space.{free_in, chunk_text, IsText}
 use Rattle.apfs_cli.specs.Words.{Space}
 use Rattle.apfs_cli.proofs.Endings.{StopTells, no_result}
 use Rattle.apfs_cli.proofs.Puts.{texts_to}
 use Rattle.apfs_cli.proofs.Stops.{one_newest, no_newest_fault, no_newest_feature}
+
+-- no bit is counted before the first
+pub free_in_none : (bits : List ℕ) → free_in bits 0 ≡ 0
+unfolding free_in
+free_in_none bits = refl
+
+-- one bit more
+pub free_in_more : (bits : List ℕ) (n : ℕ) → free_in bits (n + 1) ≡ free_in bits n + (if bit_at bits n then 0 else 1)
+unfolding free_in
+free_in_more bits n = sum_by-map-range_with_len_more (λ (marked : Bool). if marked then 0 else 1) (bit_at bits) 0 n n (zero-add n)
 
 -- the line of one chunk more
 pub chunks_more : (chunks : List Chunk) (i : ℕ) (chunk : Chunk) → i < length chunks → chunk ≡ get_or chunks i chunk →

@@ -1,10 +1,11 @@
 -- Bits of one byte, and of a byte in a run.
-use Rattle.std.proofs.Common.{◌≡◌, ◌≢◌, ℕ, zero, suc, ◌+◌, ◌*◌, ◌/◌, ◌%◌, ◌^◌, ◌<◌, ◌≤◌, Bool, true, false, ◌&&◌, ◌||◌, cond, eqb, ltb, List, length, get_or, min, max, refl, sym, ap, ap₂, ◌∙◌, arith, inl, inr}
-use Rattle.std.specs.Prelude.{bit_and, bit_or}
-use Rattle.std.specs.Int.{bit_at as bit_number}
-use Rattle.std.proofs.lemmas.Bool.{cases_lt, and_from, both_ways, cond-true, cond-false, lt-ltb, le-ltb}
+use Rattle.std.proofs.Common.{◌≡◌, ◌≢◌, ℕ, zero, suc, ◌+◌, ◌*◌, ◌/◌, ◌%◌, ◌^◌, ◌<◌, ◌≤◌, Bool, true, false, ◌&&◌, ◌||◌, cond, eqb, ltb, List, length, get_or, min, max, w8, refl, sym, ap, ap₂, ◌∙◌, arith, inl, inr}
+use Rattle.std.specs.Prelude.{bit_and, bit_or, bit_xor}
+use Rattle.std.specs.Int.{bit_at as bit_number, trailing_zeros}
+use Rattle.std.proofs.lemmas.Bool.{cases_lt, and_parts, and_from, both_ways, cond-true, cond-false, lt-ltb, le-ltb}
 use Rattle.std.proofs.lemmas.List.{get_or_past}
-use Rattle.std.proofs.lemmas.Nat.Bits.{bit_at_and, bit_at_or, bit_at-lt, bit_at-zero}
+use Rattle.std.proofs.lemmas.Nat.{xor_lt, and_le_l}
+use Rattle.std.proofs.lemmas.Nat.Bits.{bit_at_and, bit_at_or, bit_at_xor, bit_at-lt, bit_at-zero, bit_at-trailing_zeros, same_from_bits}
 use Rattle.apfs_model.specs.Bytes.{has_bit, bit_at}
 use Rattle.bit_lanes.specs.Bits.{IsLowestApart, IsFirstDifference, ShareBit}
 
@@ -31,6 +32,19 @@ and_test (suc zero) (suc zero) low_a low_b = refl
 and_test (suc (suc a)) b low_a low_b = absurd (Prim.omega arith)
 and_test a (suc (suc b)) low_a low_b = absurd (Prim.omega arith)
 
+equal_test : (a b : ℕ) → a < 2 → b < 2 → (a + b) % 2 ≡ 0 → is_set a ≡ is_set b
+unfolding is_set
+equal_test a b low_a low_b even = let same : a ≡ b = Prim.omega arith in ap (λ v. eqb v 1) same
+
+apart_test : (a b : ℕ) → a < 2 → b < 2 → (a + b) % 2 ≡ 1 → is_set a ≢ is_set b
+unfolding is_set
+apart_test zero zero low_a low_b odd e = Prim.omega arith
+apart_test zero (suc zero) low_a low_b odd e = Prim.cc
+apart_test (suc zero) zero low_a low_b odd e = Prim.cc
+apart_test (suc zero) (suc zero) low_a low_b odd e = Prim.omega arith
+apart_test (suc (suc a)) b low_a low_b odd e = Prim.omega arith
+apart_test a (suc (suc b)) low_a low_b odd e = Prim.omega arith
+
 -- a bit is set in x | y where it is set in one of both
 pub has_bit_or : (x y i : ℕ) → has_bit (bit_or x y) i ≡ (has_bit x i || has_bit y i)
 unfolding is_set
@@ -42,6 +56,35 @@ has_bit_and : (x y i : ℕ) → has_bit (bit_and x y) i ≡ (has_bit x i && has_
 unfolding is_set
 has_bit_and x y i =
     ap is_set (bit_at_and x y i) ∙ and_test (bit_number x i) (bit_number y i) (bit_at-lt x i) (bit_at-lt y i)
+
+-- numbers whose x ^ y is 0 are equal
+same_of_xor : (x y : ℕ) → bit_xor x y ≡ 0 → x ≡ y
+same_of_xor x y none =
+    same_from_bits x y
+    (λ i. let even : (bit_number x i + bit_number y i) % 2 ≡ 0 = sym (bit_at_xor x y i) ∙ ap (λ n. bit_number n i) none ∙ bit_at-zero i in
+    let low_x : bit_number x i < 2 = bit_at-lt x i in
+    let low_y : bit_number y i < 2 = bit_at-lt y i in
+    Prim.omega arith)
+
+some_of_xor : (x y : ℕ) → x ≢ y → 0 < bit_xor x y
+some_of_xor x y apart =
+    elim (cases_lt 0 (bit_xor x y)) [
+      | inl some ↦ some
+      | inr none ↦ absurd (apart (same_of_xor x y (Prim.omega arith)))
+    ]
+
+-- the lowest bit of x ^ y
+pub lowest_apart : (x y : ℕ) → x < 2 ^ 8 → y < 2 ^ 8 → x ≢ y → IsLowestApart x y (trailing_zeros w8 (bit_xor x y))
+unfolding is_set
+lowest_apart x y low_x low_y apart =
+    let t = bit_at-trailing_zeros w8 (bit_xor x y) (some_of_xor x y apart) (xor_lt 8 x y low_x low_y) in
+    let at : ℕ = trailing_zeros w8 (bit_xor x y) in
+    record {
+      inside = t.0;
+      differs = apart_test (bit_number x at) (bit_number y at) (bit_at-lt x at) (bit_at-lt y at) (sym (bit_at_xor x y at) ∙ t.1);
+      least = λ k low.
+          equal_test (bit_number x k) (bit_number y k) (bit_at-lt x k) (bit_at-lt y k) (sym (bit_at_xor x y k) ∙ t.2 k low);
+    }
 
 no_bit : (i : ℕ) → has_bit 0 i ≡ false
 unfolding is_set
@@ -76,6 +119,22 @@ first_from_byte a b i t low apart same =
                 bit_of_byte a k i byte ∙ apart.least (k % 8) (Prim.omega arith) ∙ sym (bit_of_byte b k i byte)
           ];
     }
+
+-- runs that differ at a bit are not equal
+pub differ_apart : (a b : List ℕ) (i : ℕ) → IsFirstDifference a b i → a ≢ b
+differ_apart a b i first e = first.differs (ap (λ bytes. bit_at bytes i) e)
+
+-- a byte of x & y that is not 0 has a bit that both have
+pub share_from_byte : (a b : List ℕ) (i : ℕ) → get_or a i 0 < 2 ^ 8 → bit_and (get_or a i 0) (get_or b i 0) ≢ 0 → ShareBit a b
+unfolding is_set
+share_from_byte a b i low some =
+    let both : ℕ = bit_and (get_or a i 0) (get_or b i 0) in
+    let above : 0 < both = elim (cases_lt 0 both) [ inl positive ↦ positive | inr none ↦ absurd (some (Prim.omega arith)) ] in
+    let below : both < 2 ^ 8 = Prim.omega (arith, and_le_l (get_or a i 0) (get_or b i 0)) in
+    let t = bit_at-trailing_zeros w8 both above below in
+    let at : ℕ = trailing_zeros w8 both in
+    let set = and_parts (has_bit (get_or a i 0) at) (has_bit (get_or b i 0) at) (sym (has_bit_and (get_or a i 0) (get_or b i 0) at) ∙ ap is_set t.1) in
+    (8 * i + at, (bit_in_byte a i at t.0 ∙ set.0, bit_in_byte b i at t.0 ∙ set.1))
 
 -- runs share no bit where each byte of x & y is 0
 pub no_share : (a b : List ℕ) → ((i : ℕ) → i < length a → bit_and (get_or a i 0) (get_or b i 0) ≡ 0) → ShareBit a b → ⊥

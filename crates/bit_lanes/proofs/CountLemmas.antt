@@ -1,5 +1,5 @@
 -- Bits that are set, byte by byte.
-use Rattle.std.proofs.Common.{◌≡◌, ℕ, zero, suc, ◌+◌, ◌*◌, ◌/◌, ◌%◌, ◌^◌, ◌<◌, ◌≤◌, ◌-◌, eqb, cond, List, get_or, map, count_by, add-zero, refl, sym, ap, ap₂, ◌∙◌, arith}
+use Rattle.std.proofs.Common.{◌≡◌, ℕ, zero, suc, ◌+◌, ◌*◌, ◌/◌, ◌%◌, ◌^◌, ◌<◌, ◌≤◌, ◌-◌, eqb, cond, List, get_or, map, count_by, min, add-zero, refl, sym, ap, ap₂, ◌∙◌, arith}
 use Rattle.std.specs.Prelude.{count_ones}
 use Rattle.std.specs.List.{range_with_len}
 use Rattle.std.specs.Int.{bit_at as bit_number}
@@ -10,6 +10,7 @@ use Rattle.std.proofs.lemmas.Nat.Bits.{bit_at-suc, bit_at-lt}
 use Rattle.std.proofs.Math.Nat.{pow-suc}
 use lib.Count.{ones, ones_step}
 use Rattle.apfs_model.specs.Bytes.{has_bit, bit_at}
+use Rattle.apfs_model.specs.Counts.{given}
 use Rattle.bit_lanes.specs.Bits.{ones_below}
 
 -- how many of the lowest k bits of a number are set
@@ -66,6 +67,10 @@ ones_of_byte bytes i low =
     let next : 8 * (i + 1) ≡ 8 * i + 8 = Prim.omega arith in
     ap (ones_below bytes) next ∙ ones_in_byte bytes i 8 (Prim.omega arith)
     ∙ ap (λ m. ones_below bytes (8 * i) + m) (sym (count_ones-low 8 (get_or bytes i 0) low))
+
+-- the same of a count that stands at its greatest number
+pub given_more : (n m : ℕ) → min (given n + m) (2 ^ 64 - 1) ≡ given (n + m)
+given_more n m = Prim.omega arith
 
 -- no more bits are set than there are
 pub ones_bound : (bytes : List ℕ) (n : ℕ) → ones_below bytes n ≤ n

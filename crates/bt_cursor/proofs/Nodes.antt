@@ -12,7 +12,7 @@ use Rattle.obj_base.specs.declared.stop.Stop.{Stop}
 use Rattle.obj_base.specs.declared.stop.Stop.TheVariants.{Found, Unsupported, ReadFault, NoMemory}
 use Rattle.obj_base.specs.Sound.{agrees, sound_of}
 use Rattle.bt_node.specs.Shape.{Shape}
-use Rattle.bt_node.specs.Node.{level_of, count_of, is_fixed, end_of, keys_begin, table_length_of}
+use Rattle.bt_node.specs.Node.{level_of, count_of, is_fixed, is_root, end_of, keys_begin, table_length_of}
 use Rattle.bt_node.specs.Entries.{Pair}
 use Rattle.bt_node.specs.Soundness.{node_of, node_expect, with_header, after_head, has_level, IsNode}
 use Rattle.bt_node.specs.declared.node.NodeAt.{NodeAt}
@@ -90,3 +90,7 @@ gap_fault tree root at (Found Counts) met of told = of
 gap_fault tree root at (Unsupported feature block) met of told = record { at = at; met = met; gap = told }
 gap_fault tree root at ReadFault met of told = tt
 gap_fault tree root at NoMemory met of told = tt
+
+-- a root tells of its tree
+pub root_told : {K : Type 0} (shape : Shape K) (site : Site) (step : Step) → IsStep shape site step → step.at.root ≡ true → is_root step.block.items ≡ true
+root_told shape site step sound root = (node_means shape step.at site step.block.items sound.node).root_right ∙ root

@@ -14,7 +14,7 @@ use Rattle.bt_cursor.specs.declared.fault.WalkFault.TheVariants.{Unsound, Unname
 use Rattle.bt_cursor.specs.Tree.{Tree}
 use Rattle.bt_cursor.specs.Advance.{TellsGap, IsGapOf}
 use Rattle.bt_cursor.specs.Line.{Item, item_at, is_leaf_item}
-use Rattle.bt_cursor.specs.Order.{rank_or_least}
+use Rattle.bt_cursor.specs.Order.{rank_or_least, rank_of}
 use Rattle.bt_cursor.specs.Ahead.{line_from, line_under, rest, ahead_at}
 use Rattle.bt_cursor.specs.Seen.{falls_below, is_again, is_out, seen_more, seen_item, seen_key, seen_next}
 use Rattle.bt_cursor.specs.declared.seen.Seen.{Seen}
@@ -57,6 +57,10 @@ seen_some shape seen new item e = seen-if (is_out shape seen item) (seen_item sh
 
 pub seen_none : {K : Type 0} (shape : Shape K) (seen : Seen) (item : Item) → seen_next shape seen item ≡ None → is_out shape seen item ≡ true
 seen_none shape seen item e = none-if (is_out shape seen item) (seen_item shape seen item) e
+
+-- a key that was read has the rank of its bytes
+pub rank_read : {K : Type 0} (shape : Shape K) (pair : Pair) (key : K) → shape.read pair.key ≡ Some key → shape.rank key ≡ rank_of shape pair
+rank_read shape pair key read = ap (rank_or_least shape) (sym read)
 
 -- a stop at a child that was still to come tells why it isn't there
 pub gap-told : {K : Type 0} (tree : Tree K) (deep : Bool) (child : NodeAt) (stop : Stop WalkFault) → deep ≡ true → Tells (λ fault. tree.look child ≡ Err (Found fault)) (λ feature block. tree.look child ≡ Err (Unsupported feature block)) stop → TellsGap (IsGapOf tree deep child) stop

@@ -156,3 +156,7 @@ IsIn-start tree root above last none at node = subst (λ ss. IsIn tree root ss l
   base_at = at;
   linked = tt;
 })
+
+-- the last node's index lies in it
+pub hold_inside : {K : Type 0} (shape : Shape K) (site : Site) (above : List Step) (last : Step) (spare : List Step) → IsWay shape site above last spare → last.next ≤ count_of last.block.items
+hold_inside shape site above last spare way = way.hold_last.inside

@@ -1,5 +1,6 @@
 -- Spans that are joined have the blocks of those that were joined.
 use Rattle.std.specs.Prelude.{◌≡◌, ℕ, ◌+◌, ◌≤◌, ◌<◌, max, ◌&&◌, ◌||◌, nat_le, nat_lt, Bool, true, false, List, [], ◌∷◌, ◌++◌, length, map, Some, None, refl, if◌then◌else◌}
+use Rattle.std.specs.List.{range_with_len, list_all}
 use Rattle.std.specs.List.Sorted.{IsNonDecreasingBy, IsPartitionPoint, IsPartitionedBy}
 use Rattle.std.proofs.Common.{arith, ap, sym, subst, ◌∙◌, inl, inr, get_or, take}
 use Rattle.std.proofs.lemmas.Grind.{common_steps}
@@ -11,9 +12,9 @@ use Rattle.std.proofs.lemmas.List.Quantifiers.{all_pairs_push}
 use Rattle.std.proofs.lemmas.List.Sorted.{IsPartitionedBy-leb}
 use Rattle.std.proofs.lemmas.Bool.{cases_lt}
 use Rattle.apfs_model.proofs.BoolTests.{test_or, below-from, from-below, upto-from, from-upto, both-true, left-true, right-true, never-true}
-use Rattle.ext_ref.specs.Cover.{is_owned, range_has}
+use Rattle.ext_ref.specs.Cover.{is_owned, is_covered, range_has}
 use Rattle.ext_ref.proofs.Covers.{all-each, not-all}
-use Rattle.ext_ref.specs.Spans.{span_of, span_has, is_spanned, joined_spans, AreProper, AreApart, BeginBy, are_spanned}
+use Rattle.ext_ref.specs.Spans.{span_of, span_has, is_spanned, joined_spans, AreProper, AreApart, BeginBy, are_spanned, IsCoverOf}
 use Rattle.ext_ref.specs.declared.range.NewRange.{NewRange}
 use Rattle.ext_ref.specs.declared.covering.Span.{Span}
 
@@ -126,6 +127,10 @@ none-spanned spans first n some split =
     not-all (is_spanned spans) first n first (omega arith) (omega (arith, some))
     (list_any_none (span_has first) spans (λ k d low. span-before first (get_or spans k d) (let f : nat_le (get_or spans k d).first first ≡ false = split.1 k d (omega arith) low in grind (arith, common_steps, f))))
 
+all-same : (test other : ℕ → Bool) (ns : List ℕ) → ((n : ℕ) → test n ≡ other n) → list_all test ns ≡ list_all other ns
+all-same test other [] same = refl
+all-same test other (n ∷ ns) same = ap (λ (b : Bool). b && list_all test ns) (same n) ∙ ap (λ (b : Bool). other n && b) (all-same test other ns same)
+
 -- a block from the end of span i on, where the spans after it begin after a block and that end
 outside : (spans : List Span) (first i k : ℕ) (d e : Span) → AreApart spans → i < length spans → k < length spans
     → IsPartitionPoint (λ (s : Span). nat_le s.first first ≡ true) (λ (s : Span). nat_le s.first first ≡ false) spans (i + 1) → span_has (max first (get_or spans i d).end) (get_or spans k e) ≡ false
@@ -169,6 +174,11 @@ last-spanned spans first n i d h some low split =
           passes ∙ sym (not-all (is_spanned spans) first n block (omega arith) (omega (arith, over, some))
           (list_any_none (span_has block) spans (λ k e less. outside spans first i k d e h low less split)))
     ]
+
+-- a cover has all of a range exactly where its ranges do
+pub cover-same : (ranges : List NewRange) (spans : List Span) (first n : ℕ) → IsCoverOf ranges spans → are_spanned spans first n ≡ is_covered ranges first n
+unfolding is_covered
+cover-same ranges spans first n same = all-same (is_spanned spans) (is_owned ranges) (range_with_len first n) same
 
 -- after one more span in order
 pub begin-later : (sorted spans : List Span) (i : ℕ) (one : Span) → i < length sorted → IsNonDecreasingBy (λ (s : Span). s.first) sorted → BeginBy (get_or sorted i one).first spans

@@ -1,17 +1,18 @@
 -- An extent after those before it.
-use Rattle.std.proofs.Common.{◌≡◌, ℕ, zero, suc, ◌+◌, ◌-◌, ◌<◌, ◌≤◌, ◌^◌, Bool, true, false, ◌&&◌, List, [], ◌∷◌, ◌++◌, length, Some, inl, inr, refl, ap, sym, ◌∙◌, arith}
-use Rattle.std.specs.List.{slice_get, list_all}
+use Rattle.std.proofs.Common.{◌≡◌, ℕ, zero, suc, ◌+◌, ◌-◌, ◌<◌, ◌≤◌, ◌^◌, Bool, true, false, not, ◌&&◌, List, [], ◌∷◌, ◌++◌, length, Some, None, inl, inr, refl, ap, sym, ◌∙◌, subst, arith}
+use Rattle.std.specs.List.{slice_get, list_all, list_any}
 use Rattle.std.proofs.lemmas.Bool.Decides.{nat_tests}
 use Rattle.std.proofs.lemmas.Grind.{common_steps}
 use Rattle.std.proofs.lemmas.Option.{none-some, same_Some}
 use Rattle.std.proofs.lemmas.List.Folds.{list_all-append}
 use Rattle.apfs_model.specs.Lists.{In}
-use Rattle.apfs_model.proofs.BoolTests.{both-true, all-in}
+use Rattle.apfs_model.proofs.BoolTests.{both-true, left-or, right-or, all-in}
 use Rattle.obj_base.specs.declared.site.Site.{Site}
-use Rattle.fs_record.specs.StreamExtents.{extent_end, is_extent_even, is_extent_placed, are_apart, are_extents_ordered}
+use Rattle.fs_record.specs.StreamExtents.{extent_end, overlap, is_extent_even, is_extent_placed, are_apart, are_extents_ordered}
 use Rattle.fs_record.specs.declared.extents.FileExt.{FileExt}
 use Rattle.file_extent.specs.Streams.{are_extents_placed}
 use Rattle.file_extent.specs.Laid.{last_end, AreLaid}
+use Rattle.file_extent.specs.Collected.{IsMisordered}
 use Rattle.file_extent.proofs.Searches.{rising-push, rising-apart}
 
 -- the end of the last extent
@@ -26,12 +27,48 @@ at-in k [] e at = absurd (none-some e at)
 at-in zero (x ∷ es) e at = inl (sym (same_Some x e at))
 at-in (suc k) (x ∷ es) e at = inr (at-in k es e at)
 
+none-at : (k : ℕ) (es : List FileExt) → k + 1 ≡ length es → slice_get es k ≡ None → es ≡ []
+none-at k [] long at = refl
+none-at zero (x ∷ es) long at = absurd (cc)
+none-at (suc k) (x ∷ es) long at = absurd (some-none-at k es (omega arith) at)
+  where
+    some-none-at : (k : ℕ) (es : List FileExt) → k + 1 ≡ length es → slice_get es k ≡ None → ⊥
+    some-none-at k [] long at = absurd (omega arith)
+    some-none-at zero (x ∷ es) long at = cc
+    some-none-at (suc k) (x ∷ es) long at = some-none-at k es (omega arith) at
+
+pub follows_none : (es : List FileExt) (e : FileExt) → slice_get es (length es - 1) ≡ None → last_end 0 es ≤ e.logical
+follows_none [] e at = omega arith
+follows_none (x ∷ es) e at = let none : x ∷ es ≡ [] = none-at (length (x ∷ es) - 1) (x ∷ es) (omega arith) at in absurd (cc)
+
 some-long : (es : List FileExt) (e : FileExt) → slice_get es (length es - 1) ≡ Some e → (length es - 1) + 1 ≡ length es
 some-long [] e at = absurd (none-some e at)
 some-long (x ∷ es) e at = omega arith
 
 pub follows_after : (es : List FileExt) (e last : FileExt) → slice_get es (length es - 1) ≡ Some last → extent_end last ≤ e.logical → last_end 0 es ≤ e.logical
 follows_after es e last at low = let end = last-at 0 (length es - 1) es last (some-long es last at) at in omega (arith, end)
+
+-- extents of which one has a byte in common with the last aren't apart
+any-last : (x e : FileExt) (es : List FileExt) → overlap x e ≡ true → list_any (overlap x) (es ++ e ∷ []) ≡ true
+any-last x e [] over = left-or (overlap x e) false over
+any-last x e (y ∷ es) over = right-or (overlap x y) (list_any (overlap x) (es ++ e ∷ [])) (any-last x e es over)
+
+not-apart : (x e : FileExt) (es : List FileExt) → In x es → overlap x e ≡ true → are_apart (es ++ e ∷ []) ≡ false
+not-apart x e [] one over = absurd one
+not-apart x e (y ∷ es) (inl same) over =
+    let any : list_any (overlap y) (es ++ e ∷ []) ≡ true = any-last y e es (subst (λ (z : FileExt). overlap z e ≡ true) same over) in
+    ap (λ b. not b && are_apart (es ++ e ∷ [])) any
+not-apart x e (y ∷ es) (inr one) over =
+    let rest : are_apart (es ++ e ∷ []) ≡ false = not-apart x e es one over in
+    grind (arith, nat_tests, common_steps, rest)
+
+pub follows_over : (es : List FileExt) (e last : FileExt) → slice_get es (length es - 1) ≡ Some last → 0 < last.length → 0 < e.length → e.logical < extent_end last → last.logical < extent_end e → are_apart (es ++ e ∷ []) ≡ false
+follows_over es e last at some wide before after =
+    let over : overlap last e ≡ true = grind (arith, nat_tests) in
+    not-apart last e es (at-in (length es - 1) es last at) over
+
+pub follows_before : (es : List FileExt) (e last : FileExt) → slice_get es (length es - 1) ≡ Some last → 0 < e.length → extent_end e ≤ last.logical → IsMisordered es e
+follows_before es e last at wide before = record { other = last; one = at-in (length es - 1) es last at; later = omega arith }
 
 -- ---- what the last extent fails, all of them fail
 all-last : (test : FileExt → Bool) (es : List FileExt) (e : FileExt) → test e ≡ false → list_all test (es ++ e ∷ []) ≡ false

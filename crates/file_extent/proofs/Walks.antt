@@ -1,5 +1,5 @@
 -- What a walk over the extents of a stream tells.
-use Rattle.std.proofs.Common.{◌≡◌, ℕ, zero, suc, ◌+◌, ◌<◌, ◌≤◌, true, List, [], ◌∷◌, map, Option, Some, None, Result, Ok, Err, All, IsSome, refl, ap, sym, ◌∙◌, arith}
+use Rattle.std.proofs.Common.{◌≡◌, ℕ, zero, suc, ◌+◌, ◌<◌, ◌≤◌, Bool, true, List, [], ◌∷◌, length, map, Option, Some, None, Result, Ok, Err, All, IsSome, refl, ap, sym, ◌∙◌, arith}
 use Rattle.std.specs.Prelude.{flat_map}
 use Rattle.std.specs.List.{range_with_len}
 use Rattle.std.proofs.lemmas.List.Elements.{All-nil, All-cons, All-head, All-tail, All-append}
@@ -19,6 +19,8 @@ use Rattle.bt_node.specs.declared.node.NodeAt.{NodeAt}
 use Rattle.bt_node.specs.declared.fault.NodeFault.{NodeFault}
 use Rattle.bt_node.proofs.Laws.{node_means}
 use Rattle.bt_keys.specs.RecordKey.{file_extent_record}
+use Rattle.bt_keys.specs.FsTree.{IsFsShape}
+use Rattle.bt_keys.proofs.FsKeys.{extent_long}
 use Rattle.bt_cursor.specs.Tree.{Tree, root_place, child_place, judged, node_named, block_named, tree_in}
 use Rattle.bt_cursor.specs.Flat.{flat_part, flat_of}
 use Rattle.bt_cursor.specs.Gaps.{Gapped, gapped_of, all_met, all_flat, IsSuffix}
@@ -33,6 +35,12 @@ use Rattle.bt_cursor.proofs.Seeks.{from-flat}
 use Rattle.file_extent.specs.declared.stop.StreamStop.TheVariants as stops
 use Rattle.file_extent.specs.Collected.{stream_rank, IsReadable, IsCollected, IsCollectStop}
 use Rattle.file_extent.proofs.Collecting.{extents-none}
+
+-- the logical address lies in the key of an extent
+pub long_read : {K : Type 0} (hashed : Bool) (shape : Shape K) (key : List ℕ) (k : K) (kind : ℕ) → IsFsShape hashed shape → shape.read key ≡ Some k → kind ≡ (shape.rank k).kind → kind ≡ file_extent_record → 16 ≤ length key
+long_read hashed shape key k kind law e is eight =
+    let known = law.reads key k e in
+    extent_long hashed key known.whole (sym known.kind ∙ (sym is ∙ eight))
 
 -- ---- each record of a tree has a key that can be read
 each-range : (P : Pair → Type 0) (f : ℕ → Pair) (a n : ℕ) → ((i : ℕ) → i < a + n → P (f i)) → All P (map f (range_with_len a n))

@@ -1,3 +1,4 @@
 pub mod CrcLemmas
 pub mod NormalLemmas
+pub mod HashLemmas
 pub mod TextLemmas

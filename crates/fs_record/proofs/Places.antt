@@ -1,10 +1,10 @@
 -- A search over extended fields, field by field.
-use Rattle.std.specs.Prelude.{◌≡◌, ℕ, suc, ◌+◌, ◌-◌, ◌<◌, ◌≤◌, ◌*◌, true, false, List, [], ◌∷◌, map, Option, None, Some, IfSome, Ok, Err, refl}
+use Rattle.std.specs.Prelude.{◌≡◌, ℕ, suc, ◌+◌, ◌-◌, ◌<◌, ◌≤◌, ◌*◌, length, true, false, List, [], ◌∷◌, map, Option, None, Some, IfSome, Ok, Err, refl}
 use Rattle.std.specs.List.{range_with_len}
 use Rattle.std.proofs.Common.{arith, ap, sym, subst}
 use Rattle.std.proofs.lemmas.Grind.{common_steps}
 use Rattle.std.proofs.lemmas.Bool.Decides.{nat_tests}
-use Rattle.fs_record.specs.Fields.{size_at, laid_out, placed, padded, is_field_long}
+use Rattle.fs_record.specs.Fields.{size_at, sizes_of, field_count_of, laid_out, placed, padded, fields_of, field_of, has_table, have_fields_room, is_field_long, field_place}
 use Rattle.fs_record.specs.Search.{fits, field_seen, place_after}
 use Rattle.fs_record.specs.declared.fields.Field.{Field}
 use Rattle.fs_record.specs.declared.fault.RecFault.{RecFault}
@@ -26,6 +26,21 @@ pub place_more : (len type least : ℕ) (found new : Option ℕ) (f : Field) (fs
 unfolding place_after field_seen is_field_long
 place_more len type least (Some at) new f fs fit e = grind (arith, common_steps)
 place_more len type least None new f fs fit e = grind (arith, common_steps)
+
+-- a value that ends before its fields has none
+pub place_none : (value : List ℕ) (at type least : ℕ) → length value ≡ at → field_place value at type least ≡ Ok None
+unfolding field_place have_fields_room field_of fields_of is_field_long
+place_none value at type least e = grind (arith, nat_tests, common_steps)
+
+-- a table that leaves the value is a fault
+pub place_untabled : (value : List ℕ) (at type least : ℕ) → (length value ≡ at → ⊥) → has_table value at ≡ false → field_place value at type least ≡ Err Fields
+unfolding field_place have_fields_room
+place_untabled value at type least e f = grind (arith, nat_tests, common_steps)
+
+-- otherwise the place is that of the search over all fields
+pub place_tabled : (value : List ℕ) (at type least : ℕ) → (length value ≡ at → ⊥) → has_table value at ≡ true → field_place value at type least ≡ place_after (length value) type least None (laid_out (at + 4 + 4 * field_count_of value at) (sizes_of value at))
+unfolding field_place have_fields_room field_of fields_of place_after
+place_tabled value at type least e f = grind (arith, nat_tests, common_steps)
 
 -- a field is found inside the value
 pub seen_inside : (len type least : ℕ) (found new : Option ℕ) (f : Field) → IfSome found (λ start. start + least ≤ len) → fits len f ≡ true → field_seen type least found f ≡ Ok new → IfSome new (λ start. start + least ≤ len)

@@ -61,3 +61,12 @@ node_long size tree head items block is room = ap length is ∙ length-append (r
 -- what stands behind the zeros for a sum
 pub behind_sum : (bytes block : List ℕ) → block ≡ replicate 8 0 ++ bytes → drop 8 block ≡ bytes
 behind_sum bytes block is = ap (λ l. drop 8 l) is
+
+-- a header with zeros after it is as long as its block
+pub headed_long : (size : ℕ) (head : Head) (block : List ℕ) → block ≡ replicate 8 0 ++ header_of head ++ replicate (size - 32) 0 → 32 ≤ size → length block ≡ size
+headed_long size head block is room =
+    let all : length block ≡ length (replicate {A = ℕ} 8 0 ++ header_of head ++ replicate (size - 32) 0) = ap length is in
+    let parts : length (replicate {A = ℕ} 8 0 ++ header_of head ++ replicate (size - 32) 0) ≡ 8 + length (header_of head) + length (replicate {A = ℕ} (size - 32) 0) = simp length-append in
+    let zeros : length (replicate {A = ℕ} (size - 32) 0) ≡ size - 32 = length-replicate (size - 32) 0 in
+    let front = length-header head in
+    omega (arith, all, parts, zeros, front)

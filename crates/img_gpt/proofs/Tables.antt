@@ -3,9 +3,10 @@ use Rattle.std.proofs.Common.{◌≡◌, inl, inr, ℕ, zero, suc, ◌+◌, ◌*
 use Rattle.std.specs.Prelude.{nat_le, ◌==◌, SomeIff}
 use Rattle.std.specs.Str.{bytes_eq}
 use Rattle.std.specs.List.{find, range_with_len}
-use Rattle.std.proofs.lemmas.Bool.{cases_lt, le-leb, lt-leb, and_left, and_right, and_from, cond-true, cond-false}
+use Rattle.std.proofs.lemmas.Bool.{eq-eqb, ne_eqb, cases_eq, cases_lt, le-leb, lt-leb, and_left, and_right, and_from, cond-true, cond-false}
 use Rattle.std.proofs.Math.Nat.{mul-le-mul}
 use Rattle.apfs_model.specs.Bytes.{u32_at, u64_at, part_at}
+use Rattle.apfs_model.specs.Blocks.{is_multiple}
 use Rattle.img_gpt.specs.Table.{has_header, header_mark, sector_of, entries_at, entry_count, entry_size, is_entry_count, is_entry_size, is_table, entry_at, is_container_entry, container_entry, container_type, first_sector, last_sector}
 use Rattle.img_gpt.specs.Partition.{part_of, is_placed}
 use Rattle.img_gpt.specs.Reads.{IsTableOf}
@@ -54,6 +55,13 @@ value_from_some None P n x is some = absurd Prim.cc
 value_from_some (Some y) P n x is some = let same : y ≡ x = Prim.cc in grind (arith, is, same)
 
 -- ---- the table
+
+pub multiple_is : (n : ℕ) → ((n % 8) == 0) ≡ is_multiple n 8
+multiple_is n =
+    elim (cases_eq (n % 8) 0) [
+      | inl e ↦ eq-eqb (n % 8) 0 e ∙ sym (eq-eqb (8 * (n / 8)) n (omega (arith, e)))
+      | inr ne ↦ ne_eqb (n % 8) 0 ne ∙ sym (ne_eqb (8 * (n / 8)) n (λ e. ne (omega (arith, e))))
+    ]
 
 pub table-is : (disk header : List ℕ) (sector size : ℕ) → length disk ≡ size → header ≡ part_at disk sector 92 →
     is_table disk sector ≡ (is_entry_count (u32_at header 80) && (is_entry_size (u32_at header 84) && nat_le (u64_at header 72 * sector + u32_at header 80 * u32_at header 84) size))

@@ -71,6 +71,11 @@ nothing_is image areas e f =
     let P : Areas → Type 0 = λ a. checkpoint_or (option_map (checkpoint_of image a) (newest_line image a)) ≡ Err (Found NoCheckpoint) in
     passed image areas answer e ∙ subst P (sym same) (unchosen image areas (newest_line image areas) (sym f))
 
+-- a test of block 0 that fails is the one that both answers name
+pub early : {T : Type 0} (image : List ℕ) (x : T) (stop : Stop RingFault) → after_zero image (Ok x) ≡ Err stop → newest_of image ≡ Err stop
+unfolding newest_of after_zero where_whole
+early image x stop e = Prim.grind (arith, common_steps, e)
+
 abbrev IsNamed : List ℕ → Option Seen → RingFault → Type 0
 IsNamed image o BlockZero = IsWrongZero image
 IsNamed image o (Truncated have need) = IsTruncated image have need

@@ -2,7 +2,7 @@
 use Rattle.std.proofs.Common.{◌≡◌, ℕ, zero, suc, ◌+◌, ◌≤◌, ◌<◌, Bool, true, false, ◌||◌, ◌==◌, List, [], ◌∷◌, length, map, refl, sym, ◌∙◌, arith}
 use Rattle.std.specs.List.{range_with_len}
 use Rattle.std.specs.Set.{is_member}
-use Rattle.std.specs.Prelude.{nat_eq}
+use Rattle.std.specs.Prelude.{nat_eq, nat_le}
 use Rattle.std.proofs.lemmas.Grind.{common_steps}
 use Rattle.std.proofs.lemmas.Cmp.{nat_eq_equiv}
 use Rattle.std.proofs.lemmas.Map.Made.{length-le_from_is_member}
@@ -11,7 +11,7 @@ use Rattle.apfs_model.specs.Lists.{has, is_distinct}
 use Rattle.nx_ring.specs.declared.areas.Areas.{Areas}
 use Rattle.nx_ring.specs.declared.mappings.Mapping.{Mapping}
 use Rattle.nx_ring.specs.Objects.{data_block, mapped_blocks, object_blocks}
-use Rattle.nx_ring.specs.Valid.{blocks_of, have_blocks_once, are_apart}
+use Rattle.nx_ring.specs.Valid.{blocks_of, are_placed, have_blocks_once, are_apart}
 use Rattle.nx_ring.proofs.Apart.{has_joined}
 use Rattle.nx_ring.proofs.Sorted.{apart}
 
@@ -63,6 +63,14 @@ blocks_within areas (m ∷ ms) q some e =
 pub few_once : (areas : Areas) (ms : List Mapping) → 0 < areas.data_blocks → is_distinct (blocks_of areas ms) ≡ true → length (blocks_of areas ms) ≤ areas.data_blocks
 few_once areas ms some e = few (blocks_of areas ms) areas.data_base areas.data_blocks e (λ q h. blocks_within areas ms q some h)
 
+-- mappings with more blocks than the data area share one
+pub many_blocks : (areas : Areas) (ms : List Mapping) → 0 < areas.data_blocks → nat_le (length (blocks_of areas ms)) areas.data_blocks ≡ false → is_distinct (blocks_of areas ms) ≡ false
+many_blocks areas ms some many = let once = few_once areas ms some in Prim.grind (arith, common_steps, once, many)
+
 pub few_blocks : (areas : Areas) (ms : List Mapping) → 0 < areas.data_blocks → are_apart areas ms ≡ true → length (blocks_of areas ms) ≤ areas.data_blocks
 unfolding are_apart have_blocks_once
 few_blocks areas ms some e = few_once areas ms some (Prim.grind (arith, common_steps, e))
+
+pub apart_placed : (areas : Areas) (ms : List Mapping) → are_apart areas ms ≡ true → are_placed areas ms ≡ true
+unfolding are_apart
+apart_placed areas ms e = Prim.grind (arith, common_steps, e)

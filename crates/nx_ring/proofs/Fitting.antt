@@ -2,6 +2,7 @@
 use Rattle.std.proofs.Common.{◌≡◌, ℕ, ◌+◌, ◌*◌, ◌/◌, ◌≤◌, ◌<◌, arith}
 use Rattle.std.proofs.Common.{List, true, false, Ok, length, ap, sym, ◌∙◌}
 use Rattle.std.proofs.Common.{◌^◌, ◌%◌}
+use Rattle.apfs_model.specs.Blocks.{is_multiple}
 use Rattle.nx_block.specs.Read.{read_of}
 use Rattle.nx_block.proofs.Laws.{read_means}
 use Rattle.std.proofs.Math.Nat.{mul-div-le, mul-le-mul_left}
@@ -9,6 +10,12 @@ use Rattle.std.proofs.lemmas.Grind.{common_steps}
 use Rattle.obj_base.specs.BlockSize.{is_accepted}
 use Rattle.nx_block.specs.Super.{block_size_of, block_count_of, desc_base_of, desc_blocks_of, data_base_of, data_blocks_of}
 use Rattle.nx_ring.specs.Zero.{has_areas, is_area, is_short, is_contiguous, areas_of, Fits}
+
+-- a block below the end of a range that fits, fits
+pub block_fits : (size a b len : ℕ) → a < b → size * b ≤ len → size * a + size ≤ len
+block_fits size a b len low fits =
+    let more : size * (a + 1) ≤ size * b = mul-le-mul_left size (omega arith) in
+    grind arith
 
 -- the first blocks of an image, up to its last whole one, fit
 pub blocks_fit : (size n count len : ℕ) → n ≤ count → count ≤ len / size → size * n ≤ len
@@ -54,3 +61,7 @@ pub read_size : (bytes zero : List ℕ) → read_of bytes ≡ Ok zero → is_acc
 read_size bytes zero e =
     let means = read_means bytes zero e in
     ap (λ b. is_accepted (block_size_of b)) means.0 ∙ means.1
+
+-- a whole number of accepted blocks, one or more, is a length that has a sum
+pub whole_object : (size n : ℕ) → is_accepted size ≡ true → 1 ≤ n / size → is_multiple n size ≡ true → (n % 4 ≡ 0) × (4096 ≤ n)
+whole_object size n accepted some whole = (Prim.grind (arith, common_steps, accepted, some, whole), Prim.grind (arith, common_steps, accepted, some, whole))

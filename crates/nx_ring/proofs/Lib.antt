@@ -13,4 +13,5 @@ pub mod Parts
 pub mod Heads
 pub mod Kept
 pub mod Chosen
+pub mod Sites
 pub mod Zeros

@@ -14,6 +14,11 @@ use Rattle.nx_ring.specs.declared.fault.RingFault.{RingFault}
 use Rattle.nx_ring.specs.declared.fault.RingFault.TheVariants.{BlockZero}
 use Rattle.nx_ring.specs.Zero.{first_of, size_in, zero_of, has_zero, zero_in, zero_reads}
 
+-- block 0 takes one read or more
+pub one_read : (image : List ℕ) → 1 ≤ zero_reads image
+unfolding zero_reads
+one_read image = Prim.grind (arith, common_steps)
+
 -- the block size that an image gives is the one that was read
 size_is : (image first : List ℕ) (size : ℕ) → first ≡ first_of image → Some size ≡ size_of first → size_in image ≡ size
 unfolding size_in

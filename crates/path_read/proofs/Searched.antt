@@ -12,7 +12,8 @@ use Rattle.bt_node.specs.Entries.{Pair}
 use Rattle.bt_node.specs.declared.key.Rank.{Rank}
 use Rattle.bt_node.specs.declared.key.TreeKey as keys
 use Rattle.bt_keys.specs.FsTree.{IsFsShape}
-use Rattle.bt_keys.specs.RecordKey.{id_of, record_kind_of, attribute_record}
+use Rattle.bt_keys.specs.RecordKey.{id_of, record_kind_of, attribute_record, has_plain_name}
+use Rattle.bt_keys.proofs.FsKeys.{attribute_named}
 use Rattle.bt_cursor.specs.declared.namer.Namer as namers
 use Rattle.bt_cursor.specs.declared.cursor.Cursor.{Cursor}
 use Rattle.bt_cursor.specs.Cursors.{root_of, tree_of, left_of, gapped_left_of, passed_of, IsOn, Moves}
@@ -32,6 +33,12 @@ use Rattle.std.proofs.lemmas.Bool.{false≢true}
 use Rattle.path_read.specs.declared.search.Took.{Took}
 use Rattle.path_read.specs.declared.search.Took.TheVariants.{One, End, Refused}
 use Rattle.path_read.specs.Parts.{run_attributes, HasRefused, IsOfRun, GoesWhole}
+
+-- the name of an attribute lies in its key
+pub plain_read : {K : Type 0} (hashed : Bool) (shape : Shape K) (key : List ℕ) (k : K) → IsFsShape hashed shape → shape.read key ≡ Some k → (shape.rank k).kind ≡ attribute_record → has_plain_name key ≡ true
+plain_read hashed shape key k law e is =
+    let known = law.reads key k e in
+    attribute_named hashed key known.whole (sym known.kind ∙ is)
 
 -- ---- what is taken of a run
 taken-step : {K : Type 0} (shape : Shape K) (id : ℕ) (before : List Attribute) (pair : Pair) (pairs : List Pair) (es : List Attribute) (t : Bool) (r : Result Attribute RecFault) →

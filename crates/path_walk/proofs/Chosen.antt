@@ -1,5 +1,5 @@
 -- The entry that a name takes, by its number.
-use Rattle.std.proofs.Common.{◌≡◌, ℕ, zero, suc, ◌<◌, Bool, true, false, cond, List, [], ◌∷◌, length, Option, Some, None, refl, ap, sym, ◌∙◌, arith, get_or}
+use Rattle.std.proofs.Common.{◌≡◌, ℕ, zero, suc, ◌<◌, Bool, true, false, cond, List, [], ◌∷◌, length, Option, Some, None, inl, inr, refl, ap, sym, ◌∙◌, arith, get_or}
 use Rattle.std.specs.Prelude.{filter, slice_get, option_map, nat_lt, ◌==◌}
 use Rattle.std.specs.List.{find, position, position_or_len}
 use Rattle.std.specs.Option.{option_or}
@@ -13,7 +13,24 @@ use Rattle.path_walk.specs.Found.{entries_in, has_name, has_form, entry_named, n
 use Rattle.path_walk.specs.Parts.{whats, is_wanted}
 use Rattle.path_walk.specs.declared.search.Wanted.TheVariants.{All}
 use Rattle.apfs_model.proofs.BoolTests.{equal-from}
-use Rattle.path_walk.proofs.Laws.{number_of_the_entry}
+use Rattle.path_walk.proofs.Laws.{placed-as-found, number_of_the_entry}
+
+none-found : {X : Type 0} (p : X → Bool) (xs : List X) → position p xs ≡ None → find p xs ≡ None
+none-found p xs e = elim (placed-as-found p xs) as (λ _. find p xs ≡ None) [
+  | inl (k, x, at_k, there, here) ↦ absurd cc
+  | inr (at_none, gone) ↦ gone
+]
+
+none-either : (a b : Option ℕ) → option_or a b ≡ None → (a ≡ None) × (b ≡ None)
+none-either None b e = (refl, e)
+none-either (Some x) b e = absurd cc
+
+-- no entry is taken where none has a number
+pub chosen_none : (names : Names) (name : List ℕ) (es : List Entry) → None ≡ number_named names name es → None ≡ entry_named names name es
+unfolding number_named entry_named
+chosen_none names name es e =
+    let t = none-either (position (has_name name) es) (position (has_form names name) es) (sym e) in
+    sym (ap (λ (o : Option Entry). option_or o (find (has_form names name) es)) (none-found (has_name name) es t.0) ∙ none-found (has_form names name) es t.1)
 
 get-what : (fs : List (Fact Entry)) (i : ℕ) → slice_get (whats fs) i ≡ option_map (λ (f : Fact Entry). f.what) (slice_get fs i)
 get-what [] i = refl

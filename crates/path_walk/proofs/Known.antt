@@ -4,6 +4,7 @@ use Rattle.std.specs.Prelude.{filter, option_map, is_some, not}
 use Rattle.std.specs.Option.{ok_or}
 use Rattle.apfs_model.specs.Lists.{In, and_then, passes}
 use Rattle.apfs_model.proofs.BoolTests.{both-true, false-not, from-below}
+use Rattle.obj_base.specs.Stops.{raised}
 use Rattle.obj_base.specs.declared.site.Site.{Site}
 use Rattle.obj_base.specs.declared.stop.Stop.{Stop}
 use Rattle.obj_base.specs.declared.stop.Stop.TheVariants.{Found, Unsupported, ReadFault, NoMemory}
@@ -26,7 +27,7 @@ use Rattle.view_rules.proofs.Law.{refutes, featureless_rules}
 use Rattle.path_walk.specs.Paths.{is_component, parts_of, components}
 use Rattle.path_walk.specs.Places.{Place, placed, root_of, root_name, target_of}
 use Rattle.path_walk.specs.Found.{entries_in, entry_named, place_by, followed, step, walk, found, target_found}
-use Rattle.path_walk.specs.Stops.{IsLawful, IsPathFault, IsGiven, IsStopThere, IsNoAnswer}
+use Rattle.path_walk.specs.Stops.{IsLawful, IsPathFault, IsGiven, IsStopThere, of_walk, IsOfRecords, IsNoAnswer}
 use Rattle.path_walk.specs.Parts.{by_part, along, rooted, IsLack, IsKnown, IsPlaceKnown, IsRefusal, IsSurveyed, lacking_entry}
 use Rattle.path_walk.specs.declared.answer.Answer.{Answer}
 use Rattle.path_walk.specs.declared.answer.Answer.TheVariants.{NotFound, NotDirectory}
@@ -150,6 +151,23 @@ found_by facts path root parts whole there same so_far =
 
 pub found_lost : (facts : Facts) (path : List ℕ) (a : Answer) → rooted facts ≡ Err a → found facts path ≡ Err a
 found_lost facts path a e = found_along facts path ∙ ap (λ (r : Result Place Answer). and_then {T = Place} {U = Place} r (λ (p : Place). along facts (parts_of path) p)) e
+
+-- a walk stops with no answer
+pub raised_unanswered : (view : View) (stop : Stop WalkFault) → IsNoAnswer (raised (of_walk view) stop)
+raised_unanswered view (Found why) = tt
+raised_unanswered view (Unsupported name block) = tt
+raised_unanswered view ReadFault = tt
+raised_unanswered view NoMemory = tt
+
+same-fault : (a b : TreeFault) → ◌≡◌ {A = Stop PathStop} (Found (stops.Fault a)) (Found (stops.Fault b)) → a ≡ b
+same-fault a b e = cc
+
+-- a fault that a walk names is one of the walk
+pub raised_records : (view : View) (stop : Stop WalkFault) (fault : TreeFault) → raised (of_walk view) stop ≡ Found (stops.Fault fault) → IsOfRecords view fault
+raised_records view (Found why) fault e = inl (why, sym (same-fault (rules.raised view why) fault e))
+raised_records view (Unsupported name block) fault e = absurd cc
+raised_records view ReadFault fault e = absurd cc
+raised_records view NoMemory fault e = absurd cc
 
 pub unanswered_given : {T U : Type 0} (image : List ℕ) (site : Site) (volume : Loaded) (view : View) (shows : T → U) (wanted : Result U Answer) (stop : Stop PathStop) → IsLawful image site volume view → IsStopThere image site volume view stop → IsNoAnswer stop → IsGiven shows wanted (Err stop)
 unanswered_given image site volume view shows wanted stop lawful there unanswered = lawful_stop image site volume view shows wanted stop lawful there (λ a e. absurd (subst (λ (s : Stop PathStop). IsNoAnswer s) e unanswered))

@@ -87,6 +87,9 @@ children_told facts id es targets sorted e f g =
 pub listed_directory : (facts : Facts) (place : Place) (targets : List Target) → is_directory place.inode ≡ true → targets ≡ map target_of (children facts place.id) → targets ≡ map target_of (listed facts place)
 listed_directory facts place targets e f = f ∙ sym (ap (λ b. map target_of (cond b (children facts place.id) (place ∷ []))) e)
 
+pub listed_file : (facts : Facts) (place : Place) (targets : List Target) → is_directory place.inode ≡ false → targets ≡ target_of place ∷ [] → targets ≡ map target_of (listed facts place)
+listed_file facts place targets e f = f ∙ sym (ap (λ b. map target_of (cond b (children facts place.id) (place ∷ []))) e)
+
 pub listing_found : (facts : Facts) (path : List ℕ) (place : Place) (targets : List Target) → found facts path ≡ Ok place → targets ≡ map target_of (listed facts place) → listing facts path ≡ Ok targets
 listing_found facts path place targets there e = ap (λ (r : Result Place Answer). and_then {T = Place} {U = List Target} r (λ (p : Place). Ok (map target_of (listed facts p)))) there ∙ ap Ok (sym e)
 

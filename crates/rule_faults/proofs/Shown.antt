@@ -9,26 +9,30 @@ use Rattle.fs_record.specs.Attributes.{Attribute}
 use Rattle.fs_record.specs.Siblings.{Link}
 use Rattle.fs_record.specs.Facts.{Fact}
 use Rattle.fs_record.specs.declared.extents.FileExt.{FileExt}
-use Rattle.view_rules.specs.Words.{IsBroken}
+use Rattle.view_rules.specs.Words.{IsClear, IsBroken}
 use Rattle.view_rules.specs.Facts.{Facts, id_of_fact}
 use Rattle.view_rules.specs.Names.{entry_place, attribute_place, is_entry_repeated, is_attribute_repeated, has_other_ascii_hash, has_other_name_hash}
-use Rattle.view_rules.specs.Entries.{lacks_parent, lacks_inode, has_other_kind}
-use Rattle.view_rules.specs.Directories.{is_misnamed}
+use Rattle.view_rules.specs.Entries.{lacks_parent, lacks_inode, has_root, has_other_kind}
+use Rattle.view_rules.specs.Directories.{is_misnamed, is_root_named, IsUnreached}
 use Rattle.view_rules.specs.Counts.{has_other_children, has_other_links}
 use Rattle.view_rules.specs.Siblings.{HasEntryFellows, is_entry_lost, is_link_lost, is_map_lost, is_unmarked, sibling_place, link_place, file_place}
-use Rattle.view_rules.specs.Extents.{is_misplaced, is_uncovered}
+use Rattle.view_rules.specs.Extents.{IsExtentOrder, is_misplaced, is_uncovered}
 use Rattle.view_rules.specs.Inodes.{lacks_target, has_large_stream, has_large_body, lacks_owner}
 use Rattle.view_rules.specs.declared.fault.IdAt.{IdAt}
 use Rattle.view_rules.specs.declared.fault.NamedAt.{NamedAt}
 use Rattle.view_rules.specs.declared.fault.TreeFault.{TreeFault}
-use Rattle.view_rules.specs.declared.fault.TreeFault.TheVariants.{DupName, Hash, NoParent, NoInode, KindMismatch, DirNames, Children, Links, SiblingLost, ExtentPlace, ExtentUncovered, LinkTarget, Stream, AttrOwner, NameHash}
+use Rattle.view_rules.specs.declared.fault.TreeFault.TheVariants.{DupName, Hash, NoParent, NoInode, KindMismatch, DirNames, Unreached, Children, Links, SiblingLost, ExtentOrder, ExtentPlace, ExtentUncovered, LinkTarget, Stream, AttrOwner, NameHash}
 use Rattle.view_rules.specs.declared.profile.Profile.TheVariants.{Strict}
 use Rattle.apfs_model.proofs.BoolTests.{clash}
 use Rattle.apfs_model.proofs.Searches.{found-in}
-use Rattle.rule_breaks.proofs.Finds.{found-broken}
+use Rattle.rule_breaks.proofs.Finds.{none-clear, found-broken}
 use Rattle.rule_breaks.proofs.FellowLooks.{lost_none}
 use Rattle.rule_faults.specs.declared.faults.Asked.{Asked}
 use Rattle.rule_faults.specs.Faults.{id_at, named_at, IsShown, IsFirst}
+
+-- where nothing is found no item breaks the rule
+pub none_clear : {X : Type 0} (breaks : X → Bool) (xs : List X) → None ≡ find breaks xs → IsClear breaks xs
+none_clear breaks xs none = none-clear breaks xs (sym none)
 
 -- some rules hold and some more, or the first fault that is given is there
 first-of : (asked : Asked) (facts : Facts) (A B : Type 0) (one other : Option TreeFault) → IsFirst asked facts A one → IsFirst asked facts B other → IsFirst asked facts (A × B) (option_or one other)
@@ -117,3 +121,16 @@ lost_entry asked facts x first found is =
       | Some s ↦ λ twin. ((refl, refl), inl (subst (λ p. IsBroken (is_entry_lost facts) sibling_place facts.entries p) twin there))
     ] in
     subst (λ y. IsFirst asked facts (HasEntryFellows facts) y) (sym is) (go x.what.sibling refl)
+
+pub order : (asked : Asked) (facts : Facts) (id : ℕ) (at : IdAt) → at ≡ id_at asked.view.now id → IsExtentOrder asked.site.now.block_size facts id → IsShown asked facts (ExtentOrder at)
+order asked facts id at is there = subst (λ (y : IdAt). IsShown asked facts (ExtentOrder y)) (sym is) ((refl, refl), there)
+
+pub way : (asked : Asked) (facts : Facts) (id n : ℕ) (at : IdAt) → IsUnreached facts id → n ≡ id → at ≡ id_at asked.view.now n → IsShown asked facts (Unreached at)
+way asked facts id n at there called is = subst (λ (y : IdAt). IsShown asked facts (Unreached y)) (sym (is ∙ ap (id_at asked.view.now) called)) ((refl, refl), there)
+
+-- the root
+pub root : (asked : Asked) (facts : Facts) → has_root facts ≡ false → IsShown asked facts (NoInode asked.view.now.slot asked.view.now.xid 2 None)
+root asked facts fails = ((refl, refl), (refl, fails))
+
+pub root_name : (asked : Asked) (facts : Facts) (at : IdAt) → at ≡ id_at asked.view.now 2 → is_root_named facts ≡ true → IsShown asked facts (DirNames at)
+root_name asked facts at is named = subst (λ (y : IdAt). IsShown asked facts (DirNames y)) (sym is) ((refl, refl), inr (refl, named))

@@ -1,14 +1,17 @@
 -- Counts of facts by a number.
 use Rattle.std.proofs.Common.{◌≡◌, ℕ, ◌+◌, ◌<◌, Bool, true, false, cond, List, [], ◌∷◌, length, take, get_or, Option, Some, None, refl, ap, sym, ◌∙◌, arith}
-use Rattle.std.specs.Prelude.{count_by, ◌==◌, ◌&&◌, nat_lt}
+use Rattle.std.specs.Prelude.{count_by, bytes_eq, ◌==◌, ◌&&◌, nat_lt}
 use Rattle.std.specs.List.{list_any}
 use Rattle.std.proofs.lemmas.Grind.{common_steps}
 use Rattle.std.proofs.lemmas.List.Sums.{count_by_more_yes, count_by_more_no}
 use Rattle.std.proofs.lemmas.Bool.Decides.{nat_tests}
 use Rattle.apfs_model.specs.Lists.{passes}
+use Rattle.fs_record.specs.Attributes.{Attribute}
+use Rattle.fs_record.specs.Facts.{Fact}
 use Rattle.view_rules.specs.Facts.{Facts, is_system_id}
 use Rattle.view_rules.specs.Counts.{is_system_name}
-use Rattle.rule_index.specs.Ids.{has_id, count_in, CountsIds, system_file}
+use Rattle.view_rules.specs.Inodes.{gives_target, target_name, holds_target}
+use Rattle.rule_index.specs.Ids.{has_id, count_in, CountsIds, system_file, target_file}
 
 -- the next item has the number that is added
 pub counts-some : {T : Type 0} (id : T → Option ℕ) (items : List T) (i : ℕ) (d : T) (k : ℕ) (old new : List ℕ) → i < length items → id (get_or items i d) ≡ Some k → CountsIds id (take i items) old
@@ -45,3 +48,17 @@ any-counted p (x ∷ xs) = grind (arith, nat_tests, common_steps, any-counted p 
 pub system_counts : (facts : Facts) (m : List ℕ) (q : ℕ) → CountsIds system_file facts.entries m → nat_lt 0 (count_in m q) ≡ list_any (is_system_name q) facts.entries
 system_counts facts m q counts =
     ap (nat_lt 0) (counts q ∙ count-same (has_id system_file q) (is_system_name q) (λ e. if-counted (is_system_id e.id) e.what.file_id q) facts.entries) ∙ any-counted (is_system_name q) facts.entries
+
+target-test : (q : ℕ) (a : Fact Attribute) → has_id target_file q a ≡ gives_target q a
+target-test q a = if-counted (bytes_eq a.what.name target_name && holds_target a.what.body) a.id q ∙ swapped (bytes_eq a.what.name target_name && holds_target a.what.body) (a.id == q)
+  where
+    swapped : (a b : Bool) → (a && b) ≡ (b && a)
+    swapped true true = refl
+    swapped true false = refl
+    swapped false true = refl
+    swapped false false = refl
+
+-- the targets of a file
+pub target_counts : (facts : Facts) (m : List ℕ) (q : ℕ) → CountsIds target_file facts.attributes m → nat_lt 0 (count_in m q) ≡ list_any (gives_target q) facts.attributes
+target_counts facts m q counts =
+    ap (nat_lt 0) (counts q ∙ count-same (has_id target_file q) (gives_target q) (target-test q) facts.attributes) ∙ any-counted (gives_target q) facts.attributes

@@ -52,3 +52,8 @@ kin-nowhere inodes q e =
 -- the inode at the place of an id tells its kind
 pub kind-at : (inodes : List (Fact Inode)) (q at kind : ℕ) (d : Fact Inode) → Some at ≡ kin_place (map with_id inodes) q → (inode_kind (get_or inodes at d).what == kind) ≡ has_kind (map with_id inodes) q kind
 kind-at inodes q at kind d e = sym (ap (λ (o : Option Kin). passes o (λ (k : Kin). k.kind == kind)) (kin-there inodes q at d (e ∙ place-with q inodes)))
+
+-- whether there is a kind, and it is another
+pub kind_passes : (o : Option Inode) (kind : ℕ) → passes (option_map inode_kind o) (λ k. not (k == kind)) ≡ passes o (λ (x : Inode). not (inode_kind x == kind))
+kind_passes None kind = refl
+kind_passes (Some x) kind = refl

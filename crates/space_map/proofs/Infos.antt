@@ -112,6 +112,12 @@ pub cib-test : (manager : List ℕ) (i count : ℕ) (bytes cib : List ℕ) (b : 
 unfolding is_cib
 cib-test manager i count bytes cib b e counted same = sym (e ∙ (ap (λ n. (info_index_of bytes == i) && (info_count_of bytes == n)) counted ∙ ap (λ xs. (info_index_of xs == i) && (info_count_of xs == share (chunks_of manager) (cib_chunks_of manager) i)) same))
 
+-- one more address
+pub addresses_more : (cab front : List ℕ) (n : ℕ) → front ++ map (cab_address_at cab) (range_with_len 0 (n + 1)) ≡ (front ++ map (cab_address_at cab) (range_with_len 0 n)) ++ cab_address_at cab n ∷ []
+addresses_more cab front n =
+    ap (λ xs. front ++ xs) (map-range_with_len_more (cab_address_at cab) 0 n n (omega arith))
+    ∙ sym (append_assoc front (map (cab_address_at cab) (range_with_len 0 n)) (cab_address_at cab n ∷ []))
+
 pub direct_more : (manager : List ℕ) (n : ℕ) → map (address_at manager) (range_with_len 0 (n + 1)) ≡ map (address_at manager) (range_with_len 0 n) ++ address_at manager n ∷ []
 direct_more manager n = map-range_with_len_more (address_at manager) 0 n n (omega arith)
 

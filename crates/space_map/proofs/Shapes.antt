@@ -1,9 +1,22 @@
 -- Shapes: what rooms say.
-use Rattle.std.specs.Prelude.{◌≡◌, ℕ, ◌+◌, ◌-◌, ◌*◌, ◌/◌, ◌%◌, ◌<◌, ◌≤◌, ◌&&◌}
+use Rattle.std.specs.Prelude.{◌≡◌, ℕ, ◌+◌, ◌-◌, ◌*◌, ◌/◌, ◌%◌, ◌<◌, ◌≤◌, true, nat_le, ◌&&◌, List}
 use Rattle.std.proofs.Common.{arith, ap, sym, ◌∙◌}
 use Rattle.std.proofs.Math.Nat.{div-mul-le_self, mul-le-mul_right, lt-div-mul-add}
 use Rattle.std.proofs.lemmas.Nat.{div-mul-add}
 use Rattle.apfs_model.specs.Blocks.{rounded_up}
+use Rattle.apfs_model.proofs.BoolTests.{left-true, right-true, upto-from}
+use Rattle.space_map.specs.Fields.{cib_chunks_of, cab_cibs_of}
+use Rattle.space_map.specs.Geometry.{most_chunks, has_rooms}
+
+-- rooms are of one thing or more
+pub rooms_some : (size : ℕ) (manager : List ℕ) → has_rooms size manager ≡ true → (1 ≤ cib_chunks_of manager) × (1 ≤ cab_cibs_of manager)
+unfolding has_rooms
+rooms_some size manager e =
+    let chunks = left-true (nat_le 1 (cib_chunks_of manager) && nat_le (cib_chunks_of manager) (most_chunks size)) _ e in
+    let cibs = right-true (nat_le 1 (cib_chunks_of manager) && nat_le (cib_chunks_of manager) (most_chunks size)) _ e in (
+      upto-from 1 (cib_chunks_of manager) (left-true (nat_le 1 (cib_chunks_of manager)) _ chunks),
+      upto-from 1 (cab_cibs_of manager) (left-true (nat_le 1 (cab_cibs_of manager)) _ cibs),
+    )
 
 -- a unit that is needed begins among the things
 pub unit_start : (n unit k : ℕ) → 1 ≤ unit → k < rounded_up n unit → k * unit < n

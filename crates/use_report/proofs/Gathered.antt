@@ -1,12 +1,15 @@
 -- What a walk over the files of a view gathers.
-use Rattle.std.proofs.Common.{◌≡◌, ℕ, Bool, true, false, ◌≤◌, ◌==◌, cond, List, [], ◌∷◌, ◌++◌, map, Option, Some, None, Result, Ok, Err, refl, ap, sym, ◌∙◌}
+use Rattle.std.proofs.Common.{◌≡◌, ℕ, Bool, true, false, ◌≤◌, ◌==◌, cond, List, [], ◌∷◌, ◌++◌, length, map, Option, Some, None, Result, Ok, Err, refl, ap, sym, ◌∙◌}
 use Rattle.std.specs.Prelude.{option_map, option_to_list, if◌then◌else◌}
 use Rattle.std.specs.List.{cons_option}
 use Rattle.std.proofs.lemmas.List.{map-append}
 use Rattle.std.proofs.lemmas.List.Elements.{filter_map-append}
 use Rattle.apfs_model.specs.Lists.{value_of}
 use Rattle.bt_node.specs.Entries.{Pair}
+use Rattle.bt_node.specs.Shape.{Shape}
 use Rattle.bt_keys.specs.RecordKey.{record_kind_of, file_extent_record}
+use Rattle.bt_keys.specs.FsTree.{IsFsShape}
+use Rattle.bt_keys.proofs.FsKeys.{extent_long}
 use Rattle.bt_cursor.specs.Gathered.{children_of}
 use Rattle.bt_cursor.specs.Line.{Item, child_id, is_leaf_item, leaf_pairs}
 use Rattle.bt_cursor.proofs.Lines.{leaf_pairs-append}
@@ -14,6 +17,17 @@ use Rattle.fs_record.specs.Facts.{Fact, told_by, fact_of, read_extent, extents_o
 use Rattle.fs_record.specs.declared.extents.FileExt.{FileExt}
 use Rattle.fs_record.specs.declared.fault.RecFault.{RecFault}
 use Rattle.use_report.specs.Gathered.{some_extent, extent_in, extent_at, said, Gathers}
+
+-- the key of an extent that was read has its logical address
+pub long_read : {K : Type 0} (hashed : Bool) (shape : Shape K) (key : List ℕ) (k : K) (kind : ℕ) → IsFsShape hashed shape → shape.read key ≡ Some k → kind ≡ (shape.rank k).kind → kind ≡ file_extent_record → 16 ≤ length key
+long_read hashed shape key k kind law e is eight =
+    let known = law.reads key k e in
+    extent_long hashed key known.whole (sym known.kind ∙ (sym is ∙ eight))
+
+-- nothing was gathered
+pub gathers_none : (below : List ℕ) (extents : List FileExt) → below ≡ [] → extents ≡ [] → Gathers below extents []
+unfolding extents_of
+gathers_none below extents b e = record { nodes = b; same = e }
 
 -- ---- what one more item gives
 one-option : {X : Type 0} (o : Option X) → cons_option o [] ≡ option_to_list o

@@ -5,6 +5,7 @@ pub mod Orders
 pub mod Kids
 pub mod Sounds
 pub mod Losts
+pub mod Sizes
 pub mod Hits
 pub mod Steps
 pub mod Levels

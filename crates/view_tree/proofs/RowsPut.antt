@@ -1,5 +1,5 @@
 -- What puts of the lines of rows, one after the other, leave on a sink.
-use Rattle.std.proofs.Common.{◌≡◌, ℕ, ◌+◌, ◌<◌, ◌≤◌, List, [], ◌∷◌, ◌++◌, Option, Some, Result, Ok, Err, length, get_or, take, drop, sym, ap, ◌∙◌, append_assoc, append-nil, take-append-drop, drop-cons, subst, arith}
+use Rattle.std.proofs.Common.{◌≡◌, ℕ, ◌+◌, ◌<◌, ◌≤◌, List, [], ◌∷◌, ◌++◌, Option, Some, Result, Ok, Err, length, get_or, take, drop, refl, sym, ap, ◌∙◌, append_assoc, append-nil, take-append-drop, drop-cons, subst, arith}
 use Rattle.std.specs.Prelude.{OnOk}
 use Rattle.std.specs.List.{flat_map}
 use Rattle.std.proofs.lemmas.List.{take_all, take_more}
@@ -7,6 +7,7 @@ use Rattle.std.proofs.lemmas.Grind.{flat_map-append}
 use Rattle.apfs_model.specs.Counts.{Rose}
 use Rattle.apfs_model.specs.Sink.{Wrote, WrotePart}
 use Rattle.path_walk.specs.Paths.{slash}
+use Rattle.path_walk.specs.declared.target.Target.{Target}
 use Rattle.view_tree.specs.Kept.{path_after, told_rows, last_path}
 use Rattle.view_tree.specs.Puts.{CutsText, IsPut, Passes}
 use Rattle.view_tree.specs.Texts.{row_text, tree_text}
@@ -41,8 +42,29 @@ put-after first second (Ok done) old mid new a b c before put = (wrote-more old 
 put-after first second (Err stop) old mid new a b c before put =
     (part-more old mid new first second before.0 put.0, (cut-later stop a b c before.1 put.1.0, omega (arith, before.1, put.1.1)))
 
+-- nothing was put
+pub put_none : (contents : Option (List ℕ)) (a : ℕ) (text : List ℕ) → text ≡ [] → IsPut text (Ok tt) contents contents a a
+put_none contents a text e = subst (λ (t : List ℕ). IsPut t (Ok tt) contents contents a a) (sym e) (wrote-nothing contents, omega arith)
+
+-- memory ran out before anything was put
+pub none_cut : (contents : Option (List ℕ)) (a : ℕ) (text : List ℕ) → IsPut text (Err NoMemory) contents contents a a
+none_cut contents a text = ((λ held told. ([], text, refl, told ∙ ap (λ (l : List ℕ). Some l) (sym (append-nil held)))), (tt, omega arith))
+
 -- ---- one line
 -- a line waits
+pub passes_waits : (waited text waits : List ℕ) (contents : Option (List ℕ)) (a : ℕ) → waits ≡ waited ++ text → Passes waited text waits (Ok tt) contents contents a a
+passes_waits waited text waits contents a e = ([], sym e, (wrote-nothing contents, omega arith))
+
+-- what waited was put with it
+pub passes_put : (waited text all waits : List ℕ) (old new : Option (List ℕ)) (a b : ℕ) → all ≡ waited ++ text → waits ≡ [] → IsPut all (Ok tt) old new a b → Passes waited text waits (Ok tt) old new a b
+passes_put waited text all waits old new a b e none put = (all, sym e ∙ (sym (append-nil all) ∙ ap (λ (l : List ℕ). all ++ l) (sym none)), put)
+
+pub passes_cut : (waited text all waits : List ℕ) (stop : PutStop) (old new : Option (List ℕ)) (a b : ℕ) → all ≡ waited ++ text → IsPut all (Err stop) old new a b → Passes waited text waits (Err stop) old new a b
+passes_cut waited text all waits stop old new a b e put = subst (λ (t : List ℕ). IsPut t (Err stop) old new a b) e put
+
+-- a line alone
+pub put_alone : (row : List ℕ × Target) (line : List ℕ) (result : Result Unit PutStop) (old new : Option (List ℕ)) (a b : ℕ) → line ≡ row_text row → IsPut line result old new a b → IsPut (tree_text (row ∷ [])) result old new a b
+put_alone row line result old new a b e put = subst (λ (t : List ℕ). IsPut t result old new a b) (e ∙ sym (append-nil (row_text row))) put
 
 -- ---- what a put says
 pub put_whole : (text : List ℕ) (result : Result Unit PutStop) (old new : Option (List ℕ)) (a b : ℕ) → IsPut text result old new a b → OnOk result (Wrote old new text)

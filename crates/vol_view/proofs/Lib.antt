@@ -1,4 +1,6 @@
+pub mod Names
 pub mod SlotsLemmas
+pub mod Supers
 pub mod Placed
 pub mod Maps
 pub mod LoadLaws

@@ -20,16 +20,17 @@ use Rattle.obj_base.specs.declared.stop.Within.TheVariants.{Physical, Ephemeral,
 use Rattle.obj_base.specs.declared.site.Site.{Site}
 use Rattle.nx_block.specs.Super.{omap_oid_of, fs_oid_of, slots}
 use Rattle.nx_ring.specs.Checkpoint.{Seen, site_of}
+use Rattle.omap_map.specs.Fields.{snap_count_of}
 use Rattle.omap_map.specs.Records.{maps_encrypted, maps_headless}
 use Rattle.omap_map.specs.Features.{container_features, snapshot_features, mapping_features}
 use Rattle.omap_map.specs.Resolve.{resolve, place_of}
-use Rattle.omap_map.specs.Maps.{Contents, IsMapFault, IsMapFeature}
+use Rattle.omap_map.specs.Maps.{Contents, map_in, map_snapshots, is_map_object, is_whole_map, IsLoaded, IsMapFault, IsMapFeature}
 use Rattle.omap_map.proofs.Loads.{whole-object, object-inside, whole-free, resolved-loaded}
 use Rattle.omap_map.specs.declared.records.Place.{Place}
 use Rattle.omap_map.specs.declared.fault.OmapFault.{OmapFault}
 use Rattle.vol_view.specs.Heads.{super_in, super_test, has_magic, is_super, volume_place, volume_block, head_of, head_for, head_at, heads_in}
 use Rattle.vol_view.specs.Stops.{IsNamed, IsNamedIn, IsHeadsStop, IsHeadsFeature, IsPlainMap, IsVolume, AreRight}
-use Rattle.vol_view.specs.Slots.{map_raised, plain_of, inside_of, placed_of, located, after_header, told_of, volume_at, slot_of, HasMap, IsRight}
+use Rattle.vol_view.specs.Slots.{map_raised, plain_of, inside_of, placed_of, located, after_header, told_of, volume_at, slot_of, HasMap, IsMarked, IsRight}
 use Rattle.vol_view.specs.declared.head.VolHead.{VolHead}
 use Rattle.vol_view.specs.declared.stop.VolStop.{VolStop}
 use Rattle.vol_view.specs.declared.stop.VolStop.TheVariants.{Head, Magic, Unnamed, Omap, Walk, SnapRecord, SnapCount, SnapName, OmapSnaps}
@@ -231,6 +232,29 @@ raise_tells image seen (Found f) h = h
 raise_tells image seen (Unsupported name at) h = inl h
 raise_tells image seen ReadFault h = tt
 raise_tells image seen NoMemory h = tt
+
+map-object : (image : List ℕ) (site : Site) (block : ℕ) (contents : Contents) → IsLoaded image site block contents → is_map_object image site block ≡ true
+unfolding is_whole_map
+map-object image site block contents loaded = and-first (is_map_object image site block) _ loaded.whole
+
+-- a feature of the container's map is there
+pub mark_tells : (image : List ℕ) (seen : Seen) (contents : Contents) (stop : Stop VolStop) → IsLoaded image (site_of seen) (omap_oid_of seen.nx) contents → Tells (λ fault. ⊥) (IsMarked contents (omap_oid_of seen.nx)) stop → Tells (IsHeadsStop image seen) (IsHeadsFeature image seen) stop
+mark_tells image seen contents (Found f) loaded h = absurd h
+mark_tells image seen contents (Unsupported name at) loaded h =
+    let count : contents.snap_count ≡ snap_count_of (map_in image (site_of seen) (omap_oid_of seen.nx)) = ap (λ (c : Contents). c.snap_count) loaded.same in
+    let snapshots : contents.snapshots ≡ map_snapshots image (site_of seen) (omap_oid_of seen.nx) = ap (λ (c : Contents). c.snapshots) loaded.same in
+    inr (inl (
+      h.0,
+      (
+        map-object image (site_of seen) (omap_oid_of seen.nx) contents loaded,
+        (elim h.1 [
+          | inl k ↦ inl (subst (λ n. In name (container_features n)) count k)
+          | inr k ↦ inr (subst (λ ss. In name (snapshot_features ss)) snapshots k)
+        ]),
+      ),
+    ))
+mark_tells image seen contents ReadFault loaded h = tt
+mark_tells image seen contents NoMemory loaded h = tt
 
 -- a map that was loaded without a feature is plain
 pub map-plain : (image : List ℕ) (seen : Seen) (contents : Contents) → HasMap image seen contents → IsPlainMap image seen
