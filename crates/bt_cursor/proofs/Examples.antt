@@ -67,14 +67,6 @@ pub falling : out_of_order shape (line_of (tree (root 9 7 2 3 2 3) 9 7) 1) ≡ S
 unfolding fixed_place variable_place place_of key_in value_in flags_of level_of count_of table_offset_of table_length_of end_of table_begin keys_begin key_count_of node_count_of u16_at u32_at u64_at
 falling = refl
 
-pub fallen : is_misplaced_at shape (line_of (tree (root 9 7 2 3 2 3) 9 7) 1) 2 ≡ true
-unfolding fixed_place variable_place place_of key_in value_in flags_of level_of count_of table_offset_of table_length_of end_of table_begin keys_begin key_count_of node_count_of u16_at u32_at u64_at
-fallen = refl
-
-pub standing : is_misplaced_at shape (line_of (tree (root 9 7 2 3 2 3) 9 7) 1) 1 ≡ false
-unfolding fixed_place variable_place place_of key_in value_in flags_of level_of count_of table_offset_of table_length_of end_of table_begin keys_begin key_count_of node_count_of u16_at u32_at u64_at
-standing = refl
-
 -- item 3, the second leaf's entry, has the rank of the first leaf's; the root's entry before it may have it
 pub repeating : out_of_order shape (line_of (tree (root 7 7 2 3 2 3) 7 7) 1) ≡ Some 3
 unfolding fixed_place variable_place place_of key_in value_in flags_of level_of count_of table_offset_of table_length_of end_of table_begin keys_begin key_count_of node_count_of u16_at u32_at u64_at
