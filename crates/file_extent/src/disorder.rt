@@ -31,7 +31,7 @@ impl<K: TreeKey> Keeper<K> for Nothing {
 
     fn keep(&mut self, item: LineItem<'_, K>) -> Result<bool, NoMemory>
         requires key { K.shape.read item.pair.key_bytes.now ≡ Some item.pair.key }
-        requires child { item.child ≡ child_id (shown item.level item.pair.key_bytes.now (option_map (λ value. value.now) item.pair.value)) }
+        requires child { item.child ≡ child_id (shown item.node item.at item.level item.pair.key_bytes.now (option_map (λ value. value.now) item.pair.value)) }
         ensures refused { IfOk result (λ kept. kept ≡ true) }
         ensures held { (items : List Item) → Unit {0} → IfOk result (λ kept. IsTrue kept → Unit {0}) }
     {

@@ -52,7 +52,7 @@ fn names_of<K: FsTreeKey>() -> Names
 #[tactic(auto, unfolding(view_rules::specs::Rules::refusal_of))]
 fn refusal_in<K: FsTreeKey>(item: &LineItem<'_, K>) -> Option<RecFault>
     requires { K.shape.read item.now.pair.key_bytes.now ≡ Some item.now.pair.key }
-    ensures { result ≡ refusal_of (names_by K.HASHED) (shown item.now.level item.now.pair.key_bytes.now (option_map (λ value. value.now) item.now.pair.value)) }
+    ensures { result ≡ refusal_of (names_by K.HASHED) (shown item.now.node item.now.at item.now.level item.now.pair.key_bytes.now (option_map (λ value. value.now) item.now.pair.value)) }
 {
     if item.level > 0 {
         return None;
@@ -94,7 +94,7 @@ fn add_entry<K: FsTreeKey>(
     item: &LineItem<'_, K>,
 ) -> Result<(), NoMemory>
     requires { K.shape.read item.now.pair.key_bytes.now ≡ Some item.now.pair.key }
-    ensures { OnOk result (entries.new.items ≡ entries.old.items ++ entries_of (names_by K.HASHED) (leaf_pairs (shown item.now.level item.now.pair.key_bytes.now (option_map (λ value. value.now) item.now.pair.value) ∷ []))) }
+    ensures { OnOk result (entries.new.items ≡ entries.old.items ++ entries_of (names_by K.HASHED) (leaf_pairs (shown item.now.node item.now.at item.now.level item.now.pair.key_bytes.now (option_map (λ value. value.now) item.now.pair.value) ∷ []))) }
 {
     if item.level > 0 {
         return Ok(());
@@ -117,7 +117,7 @@ fn add_inode<K: FsTreeKey>(
     item: &LineItem<'_, K>,
 ) -> Result<(), NoMemory>
     requires { K.shape.read item.now.pair.key_bytes.now ≡ Some item.now.pair.key }
-    ensures { OnOk result (inodes.new.items ≡ inodes.old.items ++ inodes_of (leaf_pairs (shown item.now.level item.now.pair.key_bytes.now (option_map (λ value. value.now) item.now.pair.value) ∷ []))) }
+    ensures { OnOk result (inodes.new.items ≡ inodes.old.items ++ inodes_of (leaf_pairs (shown item.now.node item.now.at item.now.level item.now.pair.key_bytes.now (option_map (λ value. value.now) item.now.pair.value) ∷ []))) }
 {
     if item.level > 0 {
         return Ok(());
@@ -142,9 +142,9 @@ impl<K: FsTreeKey> Keeper<K> for Survey {
 
     fn keep(&mut self, item: LineItem<'_, K>) -> Result<bool, NoMemory>
         requires key { K.shape.read item.pair.key_bytes.now ≡ Some item.pair.key }
-        requires child { item.child ≡ child_id (shown item.level item.pair.key_bytes.now (option_map (λ value. value.now) item.pair.value)) }
+        requires child { item.child ≡ child_id (shown item.node item.at item.level item.pair.key_bytes.now (option_map (λ value. value.now) item.pair.value)) }
         ensures refused { IfOk result (λ kept. kept ≡ true) }
-        ensures held { (items : List Item) → HasGathered (names_by K.HASHED) self.old.number self.old.refusal self.old.entries.items self.old.inodes.items items → IfOk result (λ kept. IsTrue kept → HasGathered (names_by K.HASHED) self.new.number self.new.refusal self.new.entries.items self.new.inodes.items (items ++ shown item.entry.level item.entry.pair.key_bytes.now (option_map (λ value. value.now) item.entry.pair.value) ∷ [])) }
+        ensures held { (items : List Item) → HasGathered (names_by K.HASHED) self.old.number self.old.refusal self.old.entries.items self.old.inodes.items items → IfOk result (λ kept. IsTrue kept → HasGathered (names_by K.HASHED) self.new.number self.new.refusal self.new.entries.items self.new.inodes.items (items ++ shown item.entry.node item.entry.at item.entry.level item.entry.pair.key_bytes.now (option_map (λ value. value.now) item.entry.pair.value) ∷ [])) }
     {
         self.refusal = with_refusal(self.refusal, self.number, refusal_in::<K>(&item));
         add_entry::<K>(self.alloc, &mut self.entries, &item)?;

@@ -79,7 +79,7 @@ pub(crate) fn extent_in<K: FsTreeKey>(entry: &Entry<'_, K>) -> Result<Option<Fil
 #[tactic(auto, using(bt_keys::proofs::FsKeys::kind_read, crate::proofs::Gathered::long_read), unfolding(crate::specs::Gathered::extent_at))]
 fn extent_at<K: FsTreeKey>(item: &LineItem<'_, K>) -> Result<Option<FileExt>, RecFault>
     requires { K.shape.read item.now.pair.key_bytes.now ≡ Some item.now.pair.key }
-    ensures { result ≡ extent_at (shown item.now.level item.now.pair.key_bytes.now (option_map (λ value. value.now) item.now.pair.value)) }
+    ensures { result ≡ extent_at (shown item.now.node item.now.at item.now.level item.now.pair.key_bytes.now (option_map (λ value. value.now) item.now.pair.value)) }
 {
     if item.level > 0 {
         return Ok(None);
@@ -94,9 +94,9 @@ impl<K: FsTreeKey> Keeper<K> for Kept<K> {
 
     fn keep(&mut self, item: LineItem<'_, K>) -> Result<bool, NoMemory>
         requires key { K.shape.read item.pair.key_bytes.now ≡ Some item.pair.key }
-        requires child { item.child ≡ child_id (shown item.level item.pair.key_bytes.now (option_map (λ value. value.now) item.pair.value)) }
-        ensures refused { IfOk result (λ kept. kept ≡ not (is_refused (shown item.entry.level item.entry.pair.key_bytes.now (option_map (λ value. value.now) item.entry.pair.value)))) }
-        ensures held { (items : List Item) → Gathers self.old.below.items self.old.extents.items items → IfOk result (λ kept. IsTrue kept → Gathers self.new.below.items self.new.extents.items (items ++ shown item.entry.level item.entry.pair.key_bytes.now (option_map (λ value. value.now) item.entry.pair.value) ∷ [])) }
+        requires child { item.child ≡ child_id (shown item.node item.at item.level item.pair.key_bytes.now (option_map (λ value. value.now) item.pair.value)) }
+        ensures refused { IfOk result (λ kept. kept ≡ not (is_refused (shown item.entry.node item.entry.at item.entry.level item.entry.pair.key_bytes.now (option_map (λ value. value.now) item.entry.pair.value)))) }
+        ensures held { (items : List Item) → Gathers self.old.below.items self.old.extents.items items → IfOk result (λ kept. IsTrue kept → Gathers self.new.below.items self.new.extents.items (items ++ shown item.entry.node item.entry.at item.entry.level item.entry.pair.key_bytes.now (option_map (λ value. value.now) item.entry.pair.value) ∷ [])) }
     {
         add(&mut self.below, item.child)?;
         let Ok(extent) = extent_at(&item) else {

@@ -83,9 +83,9 @@ impl<K: FsTreeKey> Keeper<K> for Keep<K> {
     #[tactic(auto, using(bt_keys::proofs::FsKeys::kind_read, bt_keys::proofs::FsKeys::id_read))]
     fn keep(&mut self, item: LineItem<'_, K>) -> Result<bool, NoMemory>
         requires key { K.shape.read item.pair.key_bytes.now ≡ Some item.pair.key }
-        requires child { item.child ≡ child_id (shown item.level item.pair.key_bytes.now (option_map (λ value. value.now) item.pair.value)) }
+        requires child { item.child ≡ child_id (shown item.node item.at item.level item.pair.key_bytes.now (option_map (λ value. value.now) item.pair.value)) }
         ensures refused { IfOk result (λ kept. kept ≡ true) }
-        ensures held { (line : List Item) → IsKeptOf self.old.facts self.old.items self.old.records self.old.refusal line → IfOk result (λ kept. IsTrue kept → IsKeptOf self.new.facts self.new.items self.new.records self.new.refusal (line ++ shown item.entry.level item.entry.pair.key_bytes.now (option_map (λ value. value.now) item.entry.pair.value) ∷ [])) }
+        ensures held { (line : List Item) → IsKeptOf self.old.facts self.old.items self.old.records self.old.refusal line → IfOk result (λ kept. IsTrue kept → IsKeptOf self.new.facts self.new.items self.new.records self.new.refusal (line ++ shown item.entry.node item.entry.at item.entry.level item.entry.pair.key_bytes.now (option_map (λ value. value.now) item.entry.pair.value) ∷ [])) }
     {
         let number = self.items;
         self.items = self.items.saturating_add(1);

@@ -81,7 +81,7 @@ abbrev names_told : Item → List NameRecord
 names_told item = map name_told (name_pairs (leaf_pairs (item ∷ [])))
 
 by-kinds : (p : Pair) (s n : Bool) → is_snapshot p ≡ s → is_snapshot_name p ≡ n
-    → (snapshots_told (shown 0 p.key p.value) ≡ map snapshot_told (cond s (p ∷ []) [])) × (names_told (shown 0 p.key p.value) ≡ map name_told (cond n (p ∷ []) []))
+    → (snapshots_told (shown 0 0 0 p.key p.value) ≡ map snapshot_told (cond s (p ∷ []) [])) × (names_told (shown 0 0 0 p.key p.value) ≡ map name_told (cond n (p ∷ []) []))
 by-kinds p s n e f = (ap (λ (b : Bool). map snapshot_told (cond b (p ∷ []) [])) e, ap (λ (b : Bool). map name_told (cond b (p ∷ []) [])) f)
 
 append-none : {X : Type 0} (xs : List X) → xs ≡ xs ++ []
@@ -113,29 +113,29 @@ unfolding named_xid
 name-told p = refl
 
 -- one more snapshot's record was gathered
-pub tell-snapshot : (items : List Item) (level : ℕ) (key : List ℕ) (value : Option (List ℕ)) (k : SnapKey) (snapshots later : List SnapshotRecord) (names further : List NameRecord) → level ≡ 0 → snap_shape.read key ≡ Some k → k.kind ≡ 1 → is_some (snapshot_read k.id (bytes_in value)) ≡ true
-    → later ≡ snapshots ++ option_to_list (snapshot_read k.id (bytes_in value)) → further ≡ names → Tell (leaf_pairs items) snapshots names → Tell (leaf_pairs (items ++ shown level key value ∷ [])) later further
-tell-snapshot items level key value k snapshots later names further low e kind some more same had =
+pub tell-snapshot : (items : List Item) (node at level : ℕ) (key : List ℕ) (value : Option (List ℕ)) (k : SnapKey) (snapshots later : List SnapshotRecord) (names further : List NameRecord) → level ≡ 0 → snap_shape.read key ≡ Some k → k.kind ≡ 1 → is_some (snapshot_read k.id (bytes_in value)) ≡ true
+    → later ≡ snapshots ++ option_to_list (snapshot_read k.id (bytes_in value)) → further ≡ names → Tell (leaf_pairs items) snapshots names → Tell (leaf_pairs (items ++ shown node at level key value ∷ [])) later further
+tell-snapshot items node at level key value k snapshots later names further low e kind some more same had =
     let read = key-read key k e in
     let p : Pair = record { key = key; value = value } in
     let one : record_kind_of key ≡ 1 = read.1.0 ∙ kind in
     let kinds = by-kinds p true false (kind-is (record_kind_of key) 1 one) (kind-apart (record_kind_of key) one) in
     let told : option_to_list (snapshot_read k.id (bytes_in value)) ≡ snapshot_told p ∷ [] =
     snapshot-one k.id (bytes_in value) some ∙ ap (λ i. snapshot_with i (bytes_in value) (name_in (snap_name_bytes (bytes_in value))) ∷ []) (sym read.0) in
-    subst (λ l. Tell (leaf_pairs (items ++ shown l key value ∷ [])) later further) (sym low)
-    (tell-more items (shown 0 key value) snapshots later names further had (more ∙ ap (λ xs. snapshots ++ xs) (told ∙ sym kinds.0)) (same ∙ (append-none names ∙ ap (λ xs. names ++ xs) (sym kinds.1))))
+    subst (λ l. Tell (leaf_pairs (items ++ shown node at l key value ∷ [])) later further) (sym low)
+    (tell-more items (shown node at 0 key value) snapshots later names further had (more ∙ ap (λ xs. snapshots ++ xs) (told ∙ sym kinds.0)) (same ∙ (append-none names ∙ ap (λ xs. names ++ xs) (sym kinds.1))))
 
 -- one more record of a name was gathered
-pub tell-name : (items : List Item) (level : ℕ) (key : List ℕ) (value : Option (List ℕ)) (k : SnapKey) (snapshots later : List SnapshotRecord) (names further : List NameRecord) → level ≡ 0 → snap_shape.read key ≡ Some k → k.kind ≡ 11 → is_some (name_read key (bytes_in value)) ≡ true
-    → further ≡ names ++ option_to_list (name_read key (bytes_in value)) → later ≡ snapshots → Tell (leaf_pairs items) snapshots names → Tell (leaf_pairs (items ++ shown level key value ∷ [])) later further
-tell-name items level key value k snapshots later names further low e kind some more same had =
+pub tell-name : (items : List Item) (node at level : ℕ) (key : List ℕ) (value : Option (List ℕ)) (k : SnapKey) (snapshots later : List SnapshotRecord) (names further : List NameRecord) → level ≡ 0 → snap_shape.read key ≡ Some k → k.kind ≡ 11 → is_some (name_read key (bytes_in value)) ≡ true
+    → further ≡ names ++ option_to_list (name_read key (bytes_in value)) → later ≡ snapshots → Tell (leaf_pairs items) snapshots names → Tell (leaf_pairs (items ++ shown node at level key value ∷ [])) later further
+tell-name items node at level key value k snapshots later names further low e kind some more same had =
     let read = key-read key k e in
     let p : Pair = record { key = key; value = value } in
     let eleven : record_kind_of key ≡ 11 = read.1.0 ∙ kind in
     let kinds = by-kinds p false true (unless (record_kind_of key) 11 eleven) (kind-is (record_kind_of key) 11 eleven) in
     let told : option_to_list (name_read key (bytes_in value)) ≡ name_told p ∷ [] = name-one key (bytes_in value) some ∙ ap (λ (r : NameRecord). r ∷ []) (name-told p) in
-    subst (λ l. Tell (leaf_pairs (items ++ shown l key value ∷ [])) later further) (sym low)
-    (tell-more items (shown 0 key value) snapshots later names further had (same ∙ (append-none snapshots ∙ ap (λ xs. snapshots ++ xs) (sym kinds.0))) (more ∙ ap (λ xs. names ++ xs) (told ∙ sym kinds.1)))
+    subst (λ l. Tell (leaf_pairs (items ++ shown node at l key value ∷ [])) later further) (sym low)
+    (tell-more items (shown node at 0 key value) snapshots later names further had (same ∙ (append-none snapshots ∙ ap (λ xs. snapshots ++ xs) (sym kinds.0))) (more ∙ ap (λ xs. names ++ xs) (told ∙ sym kinds.1)))
 
 -- a snapshot's record can be read where something is read of it
 readable-step : (a b c : Bool) (x : ℕ) (value name : List ℕ) → ((a && b) && c) ≡ is_some (option_map (snapshot_with x value) (cond (a && b) (cond c (Some name) None) None))
@@ -258,14 +258,14 @@ refused-unreadable items number refused =
     (λ e. each-name (leaf_pairs items) item.pair readable (in-filter is_snapshot_name item.pair (leaf_pairs items) pair e)))
 
 -- a snapshot's record that was kept is one more
-pub snapshot-held : (r : Result Bool NoMemory) (items : List Item) (level : ℕ) (key : List ℕ) (value : Option (List ℕ)) (k : SnapKey) (snapshots later : List SnapshotRecord) (names further : List NameRecord) → level ≡ 0 → snap_shape.read key ≡ Some k → k.kind ≡ 1
+pub snapshot-held : (r : Result Bool NoMemory) (items : List Item) (node at level : ℕ) (key : List ℕ) (value : Option (List ℕ)) (k : SnapKey) (snapshots later : List SnapshotRecord) (names further : List NameRecord) → level ≡ 0 → snap_shape.read key ≡ Some k → k.kind ≡ 1
     → IfOk r (λ kept. kept ≡ is_some (snapshot_read k.id (bytes_in value))) → IfOk r (λ kept. later ≡ snapshots ++ option_to_list (snapshot_read k.id (bytes_in value))) → further ≡ names → Tell (leaf_pairs items) snapshots names
-    → IfOk r (λ kept. IsTrue kept → Tell (leaf_pairs (items ++ shown level key value ∷ [])) later further)
-snapshot-held (Ok kept) items level key value k snapshots later names further low e kind refused more same had = λ t. tell-snapshot items level key value k snapshots later names further low e kind (sym refused ∙ t) more same had
-snapshot-held (Err stop) items level key value k snapshots later names further low e kind refused more same had = tt
+    → IfOk r (λ kept. IsTrue kept → Tell (leaf_pairs (items ++ shown node at level key value ∷ [])) later further)
+snapshot-held (Ok kept) items node at level key value k snapshots later names further low e kind refused more same had = λ t. tell-snapshot items node at level key value k snapshots later names further low e kind (sym refused ∙ t) more same had
+snapshot-held (Err stop) items node at level key value k snapshots later names further low e kind refused more same had = tt
 
-pub name-held : (r : Result Bool NoMemory) (items : List Item) (level : ℕ) (key : List ℕ) (value : Option (List ℕ)) (k : SnapKey) (snapshots later : List SnapshotRecord) (names further : List NameRecord) → level ≡ 0 → snap_shape.read key ≡ Some k → k.kind ≡ 11
+pub name-held : (r : Result Bool NoMemory) (items : List Item) (node at level : ℕ) (key : List ℕ) (value : Option (List ℕ)) (k : SnapKey) (snapshots later : List SnapshotRecord) (names further : List NameRecord) → level ≡ 0 → snap_shape.read key ≡ Some k → k.kind ≡ 11
     → IfOk r (λ kept. kept ≡ is_some (name_read key (bytes_in value))) → IfOk r (λ kept. further ≡ names ++ option_to_list (name_read key (bytes_in value))) → later ≡ snapshots → Tell (leaf_pairs items) snapshots names
-    → IfOk r (λ kept. IsTrue kept → Tell (leaf_pairs (items ++ shown level key value ∷ [])) later further)
-name-held (Ok kept) items level key value k snapshots later names further low e kind refused more same had = λ t. tell-name items level key value k snapshots later names further low e kind (sym refused ∙ t) more same had
-name-held (Err stop) items level key value k snapshots later names further low e kind refused more same had = tt
+    → IfOk r (λ kept. IsTrue kept → Tell (leaf_pairs (items ++ shown node at level key value ∷ [])) later further)
+name-held (Ok kept) items node at level key value k snapshots later names further low e kind refused more same had = λ t. tell-name items node at level key value k snapshots later names further low e kind (sym refused ∙ t) more same had
+name-held (Err stop) items node at level key value k snapshots later names further low e kind refused more same had = tt

@@ -83,9 +83,9 @@ impl Keeper<SnapKey> for Metadata {
 
     fn keep(&mut self, item: LineItem<'_, SnapKey>) -> Result<bool, NoMemory>
         requires key { snap_shape.read item.pair.key_bytes.now ≡ Some item.pair.key }
-        requires child { item.child ≡ child_id (shown item.level item.pair.key_bytes.now (option_map (λ value. value.now) item.pair.value)) }
-        ensures refused { IfOk result (λ kept. kept ≡ not (is_refused (shown item.entry.level item.entry.pair.key_bytes.now (option_map (λ value. value.now) item.entry.pair.value)))) }
-        ensures held { (items : List Item) → Tell (leaf_pairs items) self.old.snapshots.items self.old.names.items → IfOk result (λ kept. IsTrue kept → Tell (leaf_pairs (items ++ shown item.entry.level item.entry.pair.key_bytes.now (option_map (λ value. value.now) item.entry.pair.value) ∷ [])) self.new.snapshots.items self.new.names.items) }
+        requires child { item.child ≡ child_id (shown item.node item.at item.level item.pair.key_bytes.now (option_map (λ value. value.now) item.pair.value)) }
+        ensures refused { IfOk result (λ kept. kept ≡ not (is_refused (shown item.entry.node item.entry.at item.entry.level item.entry.pair.key_bytes.now (option_map (λ value. value.now) item.entry.pair.value)))) }
+        ensures held { (items : List Item) → Tell (leaf_pairs items) self.old.snapshots.items self.old.names.items → IfOk result (λ kept. IsTrue kept → Tell (leaf_pairs (items ++ shown item.entry.node item.entry.at item.entry.level item.entry.pair.key_bytes.now (option_map (λ value. value.now) item.entry.pair.value) ∷ [])) self.new.snapshots.items self.new.names.items) }
     {
         if item.level > 0 {
             return Ok(true);

@@ -22,8 +22,8 @@ pub(crate) struct Entries {
 #[tactic(auto, unfolding(space_pool::specs::Queues::queue_entry_of, space_pool::specs::Queues::is_short_item))]
 fn entry_at(item: LineItem<'_, QueueKey>) -> Option<Option<QueueEntry>>
     requires { queue_shape.read item.pair.key_bytes.now ≡ Some item.pair.key }
-    ensures short { is_none result ≡ is_short_item (shown item.entry.level item.entry.pair.key_bytes.now (option_map (λ value. value.now) item.entry.pair.value)) }
-    ensures value { IfSome result (λ given. option_to_list given ≡ entries_at (shown item.entry.level item.entry.pair.key_bytes.now (option_map (λ value. value.now) item.entry.pair.value))) }
+    ensures short { is_none result ≡ is_short_item (shown item.entry.node item.entry.at item.entry.level item.entry.pair.key_bytes.now (option_map (λ value. value.now) item.entry.pair.value)) }
+    ensures value { IfSome result (λ given. option_to_list given ≡ entries_at (shown item.entry.node item.entry.at item.entry.level item.entry.pair.key_bytes.now (option_map (λ value. value.now) item.entry.pair.value))) }
 {
     if item.level > 0 {
         return Some(None);
@@ -43,9 +43,9 @@ impl Keeper<QueueKey> for Entries {
 
     fn keep(&mut self, item: LineItem<'_, QueueKey>) -> Result<bool, NoMemory>
         requires key { queue_shape.read item.pair.key_bytes.now ≡ Some item.pair.key }
-        requires child { item.child ≡ child_id (shown item.level item.pair.key_bytes.now (option_map (λ value. value.now) item.pair.value)) }
-        ensures refused { IfOk result (λ kept. kept ≡ not (is_short_item (shown item.entry.level item.entry.pair.key_bytes.now (option_map (λ value. value.now) item.entry.pair.value)))) }
-        ensures held { (items : List Item) → self.old.entries.items ≡ queue_entries_in (leaf_pairs items) → IfOk result (λ kept. IsTrue kept → self.new.entries.items ≡ queue_entries_in (leaf_pairs (items ++ shown item.entry.level item.entry.pair.key_bytes.now (option_map (λ value. value.now) item.entry.pair.value) ∷ []))) }
+        requires child { item.child ≡ child_id (shown item.node item.at item.level item.pair.key_bytes.now (option_map (λ value. value.now) item.pair.value)) }
+        ensures refused { IfOk result (λ kept. kept ≡ not (is_short_item (shown item.entry.node item.entry.at item.entry.level item.entry.pair.key_bytes.now (option_map (λ value. value.now) item.entry.pair.value)))) }
+        ensures held { (items : List Item) → self.old.entries.items ≡ queue_entries_in (leaf_pairs items) → IfOk result (λ kept. IsTrue kept → self.new.entries.items ≡ queue_entries_in (leaf_pairs (items ++ shown item.entry.node item.entry.at item.entry.level item.entry.pair.key_bytes.now (option_map (λ value. value.now) item.entry.pair.value) ∷ []))) }
     {
         let Some(given) = entry_at(item) else {
             return Ok(false);

@@ -39,8 +39,8 @@ fn new_range(first: u64, told: ExtValue) -> Option<NewRange>
 #[tactic(auto, unfolding(ext_ref::specs::Ranges::range_of, ext_ref::specs::Stops::is_short_item, bt_keys::specs::Values::ext_value_of))]
 fn range_at(item: LineItem<'_, ExtKey>) -> Option<Option<NewRange>>
     requires { ext_shape.read item.pair.key_bytes.now ≡ Some item.pair.key }
-    ensures short { is_none result ≡ is_short_item (shown item.entry.level item.entry.pair.key_bytes.now (option_map (λ value. value.now) item.entry.pair.value)) }
-    ensures value { IfSome result (λ given. option_to_list given ≡ ranges_at (shown item.entry.level item.entry.pair.key_bytes.now (option_map (λ value. value.now) item.entry.pair.value))) }
+    ensures short { is_none result ≡ is_short_item (shown item.entry.node item.entry.at item.entry.level item.entry.pair.key_bytes.now (option_map (λ value. value.now) item.entry.pair.value)) }
+    ensures value { IfSome result (λ given. option_to_list given ≡ ranges_at (shown item.entry.node item.entry.at item.entry.level item.entry.pair.key_bytes.now (option_map (λ value. value.now) item.entry.pair.value))) }
 {
     if item.level > 0 {
         return Some(None);
@@ -56,9 +56,9 @@ impl Keeper<ExtKey> for Ranges {
 
     fn keep(&mut self, item: LineItem<'_, ExtKey>) -> Result<bool, NoMemory>
         requires key { ext_shape.read item.pair.key_bytes.now ≡ Some item.pair.key }
-        requires child { item.child ≡ child_id (shown item.level item.pair.key_bytes.now (option_map (λ value. value.now) item.pair.value)) }
-        ensures refused { IfOk result (λ kept. kept ≡ not (is_short_item (shown item.entry.level item.entry.pair.key_bytes.now (option_map (λ value. value.now) item.entry.pair.value)))) }
-        ensures held { (items : List Item) → self.old.ranges.items ≡ spec.ranges_in (leaf_pairs items) → IfOk result (λ kept. IsTrue kept → self.new.ranges.items ≡ spec.ranges_in (leaf_pairs (items ++ shown item.entry.level item.entry.pair.key_bytes.now (option_map (λ value. value.now) item.entry.pair.value) ∷ []))) }
+        requires child { item.child ≡ child_id (shown item.node item.at item.level item.pair.key_bytes.now (option_map (λ value. value.now) item.pair.value)) }
+        ensures refused { IfOk result (λ kept. kept ≡ not (is_short_item (shown item.entry.node item.entry.at item.entry.level item.entry.pair.key_bytes.now (option_map (λ value. value.now) item.entry.pair.value)))) }
+        ensures held { (items : List Item) → self.old.ranges.items ≡ spec.ranges_in (leaf_pairs items) → IfOk result (λ kept. IsTrue kept → self.new.ranges.items ≡ spec.ranges_in (leaf_pairs (items ++ shown item.entry.node item.entry.at item.entry.level item.entry.pair.key_bytes.now (option_map (λ value. value.now) item.entry.pair.value) ∷ []))) }
     {
         let Some(given) = range_at(item) else {
             return Ok(false);

@@ -22,7 +22,7 @@ pub(crate) struct Records {
 #[tactic(auto, unfolding(omap_map::specs::Records::record_of, bt_keys::specs::Values::omap_value_of))]
 fn record_in(item: LineItem<'_, OmapKey>) -> Option<OmapRecord>
     requires { omap_shape.read item.pair.key_bytes.now ≡ Some item.pair.key }
-    ensures { option_to_list result ≡ records_in (shown item.entry.level item.entry.pair.key_bytes.now (option_map (λ value. value.now) item.entry.pair.value)) }
+    ensures { option_to_list result ≡ records_in (shown item.entry.node item.entry.at item.entry.level item.entry.pair.key_bytes.now (option_map (λ value. value.now) item.entry.pair.value)) }
 {
     if item.level > 0 {
         return None;
@@ -44,9 +44,9 @@ impl Keeper<OmapKey> for Records {
 
     fn keep(&mut self, item: LineItem<'_, OmapKey>) -> Result<bool, NoMemory>
         requires key { omap_shape.read item.pair.key_bytes.now ≡ Some item.pair.key }
-        requires child { item.child ≡ child_id (shown item.level item.pair.key_bytes.now (option_map (λ value. value.now) item.pair.value)) }
+        requires child { item.child ≡ child_id (shown item.node item.at item.level item.pair.key_bytes.now (option_map (λ value. value.now) item.pair.value)) }
         ensures refused { IfOk result (λ kept. kept ≡ true) }
-        ensures held { (items : List Item) → self.old.records.items ≡ records_of (leaf_pairs items) → IfOk result (λ kept. IsTrue kept → self.new.records.items ≡ records_of (leaf_pairs (items ++ shown item.entry.level item.entry.pair.key_bytes.now (option_map (λ value. value.now) item.entry.pair.value) ∷ []))) }
+        ensures held { (items : List Item) → self.old.records.items ≡ records_of (leaf_pairs items) → IfOk result (λ kept. IsTrue kept → self.new.records.items ≡ records_of (leaf_pairs (items ++ shown item.entry.node item.entry.at item.entry.level item.entry.pair.key_bytes.now (option_map (λ value. value.now) item.entry.pair.value) ∷ []))) }
     {
         add(&mut self.records, record_in(item))?;
         Ok(true)

@@ -7,5 +7,5 @@ use Rattle.reach_gather.proofs.keepers.records.RecordsKeeperOmapKey.keep.Goals a
 
 pub returns-clause-held : goal.returns-clause-held
 returns-clause-held c items had kept =
-    let item = shown c.args.item.level c.args.item.pair.key_bytes.now (option_map (λ value. value.now) c.args.item.pair.value) in
+    let item = shown c.args.item.node c.args.item.at c.args.item.level c.args.item.pair.key_bytes.now (option_map (λ value. value.now) c.args.item.pair.value) in
     kept-more record_of c.args.self.now.records.items c.add.new.gathered.items items item had (c.in_ok-add.ensures ∙ ap (λ xs. c.args.self.now.records.items ++ xs) c.record_in.ensures)
