@@ -8,7 +8,7 @@ use Rattle.apfs_model.specs.Bytes.{u16_at, u32_at, u64_at, i32_at}
 use Rattle.bt_node.specs.Entries.{Pair}
 use Rattle.bt_keys.specs.RecordKey.{id_of, record_kind_of, second_of, len_and_hash_of, hashed_name_of, is_fs_key, sub_of}
 use Rattle.bt_keys.specs.Shapes.{fs_shape}
-use Rattle.bt_cursor.specs.Line.{Item, item_at}
+use Rattle.bt_cursor.specs.Line.{Item}
 use Rattle.bt_cursor.specs.Order.{is_ordered}
 use Rattle.obj_base.specs.declared.site.Site.{Site}
 use Rattle.fs_name.specs.declared.naming.Names.TheVariants.{Folded}
@@ -40,6 +40,7 @@ use Rattle.img_format.specs.Tables.{num, laid}
 use Rattle.img_format.specs.Blocks.{file_entries, private_hash, root_hash}
 use Rattle.fresh_blocks.specs.Facts.{pair_of}
 use Rattle.reach_rules.proofs.Nexts.{Each, each-in}
+use Rattle.fresh_law.proofs.Leaves.{leaf_items}
 
 -- the records as they are read
 abbrev pub pairs : List Pair
@@ -67,7 +68,7 @@ pub facts-are : facts_in Folded pairs ≡ told
 unfolding facts.inodes_of facts.entries_of facts.attributes_of facts.links_of facts.sibling_files_of facts.extents_of id_of record_kind_of len_and_hash_of hashed_name_of inode_of entry_of stream_of sibling_of parent_of private_id_of links_of bsd_flags_of mode_of i32_at u16_at u32_at u64_at num laid field_of fields_of have_fields_room is_field_long is_name name_in is_utf8 chars encode_utf8
 facts-are = refl
 
-pub line-ordered : is_ordered fs_shape (map (item_at 0) pairs) ≡ true
+pub line-ordered : is_ordered fs_shape (leaf_items 1028 0 pairs) ≡ true
 unfolding id_of record_kind_of sub_of second_of len_and_hash_of is_fs_key u16_at u32_at u64_at num laid
 line-ordered = refl
 
@@ -75,12 +76,12 @@ line-ordered = refl
 abbrev Readable : Item → Type 0
 Readable item = refusal_of Folded item ≡ None
 
-all-readable : Each Readable (map (item_at 0) pairs)
+all-readable : Each Readable (leaf_items 1028 0 pairs)
 unfolding refusal_of refused record_kind_of len_and_hash_of hashed_name_of inode_of entry_of u16_at u32_at u64_at num laid field_of fields_of have_fields_room is_field_long is_name is_utf8 chars encode_utf8
 all-readable = (refl, (refl, (refl, (refl, tt))))
 
-pub records-right : HasRecords Folded (map (item_at 0) pairs)
-records-right item h = each-in Readable (map (item_at 0) pairs) item all-readable h
+pub records-right : HasRecords Folded (leaf_items 1028 0 pairs)
+records-right item h = each-in Readable (leaf_items 1028 0 pairs) item all-readable h
 
 -- ---- the hashes
 folded : (name : List ℕ) → list_all (λ b. nat_lt b 128) name ≡ true → name_hash_of Folded name ≡ hash_chars (map (letter_of Folded) name)

@@ -8,7 +8,6 @@ use Rattle.bt_node.specs.Shape.{Shape}
 use Rattle.bt_keys.specs.Values.{omap_value_of}
 use Rattle.bt_keys.specs.Shapes.{omap_shape}
 use Rattle.bt_cursor.specs.Tree.{root_place, tree_in, node_named, judged}
-use Rattle.bt_cursor.specs.Line.{item_at}
 use Rattle.bt_cursor.specs.Order.{is_ordered}
 use Rattle.bt_cursor.specs.Flat.{flat_of}
 use Rattle.bt_cursor.specs.Whole.{is_whole}
@@ -25,7 +24,7 @@ use Rattle.img_format.specs.Tables.{num}
 use Rattle.img_format.specs.Blocks.{map_entry}
 use Rattle.fresh_blocks.specs.Site.{site, block_at}
 use Rattle.fresh_blocks.specs.Facts.{pair_of, IsRootLeaf, IsObjectMap, IsFresh}
-use Rattle.fresh_law.proofs.Leaves.{IsLeaf, leaf-flat, leaf-whole}
+use Rattle.fresh_law.proofs.Leaves.{IsLeaf, leaf_items, leaf-flat, leaf-whole}
 use Rattle.fresh_blocks.proofs.Heads.{head-sound}
 use Rattle.fresh_law.proofs.Sites.{inside}
 use Rattle.fresh_law.proofs.Roots.{mapped}
@@ -53,15 +52,15 @@ leaf-in shape spec image named oid block entries r n i = record {
 -- what a map's tree must be, by its one entry: its record, and a Line in order
 record IsOne (oid block : ℕ) : Type 0 where
   record_is : records_of (map pair_of (map_entry oid block ∷ [])) ≡ mapped oid block ∷ []
-  ordered : is_ordered omap_shape (map (item_at 0) (map pair_of (map_entry oid block ∷ []))) ≡ true
+  ordered : (root : ℕ) → is_ordered omap_shape (leaf_items root 0 (map pair_of (map_entry oid block ∷ []))) ≡ true
 
 volume-one : IsOne 1026 51
 unfolding record_of omap_value_of u32_at u64_at num
-volume-one = record { record_is = refl; ordered = refl }
+volume-one = record { record_is = refl; ordered = λ root. refl }
 
 files-one : IsOne 1028 54
 unfolding record_of omap_value_of u32_at u64_at num
-files-one = record { record_is = refl; ordered = refl }
+files-one = record { record_is = refl; ordered = λ root. refl }
 
 -- a map in a block, with its tree's root in another
 record IsMapAt (spec : Spec) (image : List ℕ) (block tree oid at : ℕ) : Type 0 where
@@ -86,7 +85,7 @@ unfolding is_whole_map has_whole_snapshots
 map-whole spec image block tree oid at m =
     both-true (is_map_object image (site spec) block) _ (map-object spec image block tree oid at m)
     (both-true (is_whole (record_tree image (site spec)) (tree_of (map_in image (site spec) block))) _
-    (ap (λ root. is_whole (record_tree image (site spec)) root) m.object.tree_is ∙ leaf-whole (record_tree image (site spec)) tree _ (map-leaf spec image block tree oid at m) m.one.ordered)
+    (ap (λ root. is_whole (record_tree image (site spec)) root) m.object.tree_is ∙ leaf-whole (record_tree image (site spec)) tree _ (map-leaf spec image block tree oid at m) (m.one.ordered tree))
     (left-or (has_no_snapshots (map_in image (site spec) block)) _ (ap (λ n. n == 0) m.object.snap_tree)))
 
 map-records : (spec : Spec) (image : List ℕ) (block tree oid at : ℕ) → IsMapAt spec image block tree oid at → map_records image (site spec) block ≡ mapped oid at ∷ []

@@ -7,7 +7,7 @@ use Rattle.apfs_model.specs.Lists.{passes}
 use Rattle.bt_node.specs.Entries.{Pair}
 use Rattle.bt_keys.specs.Shapes.{omap_shape, queue_shape, ext_shape, snap_shape}
 use Rattle.bt_cursor.specs.Tree.{tree_in}
-use Rattle.bt_cursor.specs.Line.{Item, item_at}
+use Rattle.bt_cursor.specs.Line.{Item}
 use Rattle.bt_cursor.specs.Order.{out_of_order}
 use Rattle.nx_ring.specs.Checkpoint.{site_of}
 use Rattle.omap_map.specs.Maps.{record_tree}
@@ -27,7 +27,7 @@ use Rattle.img_format.specs.Blocks.{map_entry}
 use Rattle.fresh_blocks.specs.Site.{site}
 use Rattle.fresh_law.specs.Checkpoint.{seen}
 use Rattle.fresh_blocks.specs.Facts.{pair_of, IsFresh}
-use Rattle.fresh_law.proofs.Leaves.{IsLeaf, leaf-line, leaf-counted}
+use Rattle.fresh_law.proofs.Leaves.{IsLeaf, leaf_items, leaf-line, leaf-counted}
 use Rattle.fresh_law.proofs.Sites.{site-is, inside}
 use Rattle.fresh_law.proofs.Maps.{leaf-in}
 use Rattle.fresh_law.proofs.Owned.{pool_queue-named, main_queue-named}
@@ -38,7 +38,7 @@ never : (o : Option Item) → passes o (is_short MapRecords) ≡ false
 never None = refl
 never (Some x) = refl
 
-right-map : (image : List ℕ) (root : ℕ) (pairs : List Pair) → IsLeaf (record_tree image (site_of (seen image))) root pairs → out_of_order omap_shape (map (item_at 0) pairs) ≡ None → IsRightTree image (seen image) MapRecords root
+right-map : (image : List ℕ) (root : ℕ) (pairs : List Pair) → IsLeaf (record_tree image (site_of (seen image))) root pairs → out_of_order omap_shape (leaf_items root 0 pairs) ≡ None → IsRightTree image (seen image) MapRecords root
 unfolding misplaced has_counts tree_line
 right-map image root pairs l ordered = record {
   ordered = ap (out_of_order omap_shape) (leaf-line (record_tree image (site_of (seen image))) root pairs l) ∙ ordered;
@@ -84,11 +84,11 @@ right-files : (image : List ℕ) (hashed : Bool) (root : ℕ) → IsRightTree im
 unfolding misplaced has_counts tree_line
 right-files image hashed root = record { ordered = refl; counted = refl; long = λ number low. no-item [] (is_short (Files hashed)) number refl }
 
-volume-ordered : out_of_order omap_shape (map (item_at 0) (map pair_of (map_entry 1026 51 ∷ []))) ≡ None
+volume-ordered : out_of_order omap_shape (leaf_items 26 0 (map pair_of (map_entry 1026 51 ∷ []))) ≡ None
 unfolding u64_at num
 volume-ordered = refl
 
-files-ordered : out_of_order omap_shape (map (item_at 0) (map pair_of (map_entry 1028 54 ∷ []))) ≡ None
+files-ordered : out_of_order omap_shape (leaf_items 53 0 (map pair_of (map_entry 1028 54 ∷ []))) ≡ None
 unfolding u64_at num
 files-ordered = refl
 

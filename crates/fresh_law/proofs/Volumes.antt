@@ -7,7 +7,6 @@ use Rattle.apfs_model.specs.Lists.{In}
 use Rattle.apfs_model.proofs.BoolTests.{from-range}
 use Rattle.obj_base.specs.declared.site.Site.{Site}
 use Rattle.bt_keys.specs.Shapes.{fs_shape}
-use Rattle.bt_cursor.specs.Line.{item_at}
 use Rattle.bt_cursor.specs.Order.{is_ordered}
 use Rattle.fs_name.specs.declared.naming.Names.{Names}
 use Rattle.fs_name.specs.declared.naming.Names.TheVariants.{Folded}
@@ -44,7 +43,7 @@ use Rattle.fresh_blocks.specs.Site.{block_at, site}
 use Rattle.fresh_law.specs.Checkpoint.{seen}
 use Rattle.fresh_blocks.specs.Facts.{IsVolume, IsFresh}
 use Rattle.fresh_law.specs.Law.{HasEmptyRoot}
-use Rattle.fresh_law.proofs.Leaves.{IsLeaf, leaf-flat, leaf-line, leaf-walkable, leaf-counted}
+use Rattle.fresh_law.proofs.Leaves.{IsLeaf, leaf_items, leaf-flat, leaf-line, leaf-walkable, leaf-counted}
 use Rattle.fresh_law.proofs.Sites.{site-is, inside}
 use Rattle.fresh_law.proofs.Maps.{leaf-in, container-map, volume-map}
 use Rattle.fresh_law.proofs.Rows.{later-slot, no-metadata}
@@ -171,7 +170,7 @@ pub flat-is : (spec : Spec) (image : List ℕ) → IsValid spec → IsFresh spec
 unfolding view_flat
 flat-is spec image v f = leaf-flat (hashed_tree image (site spec) (loaded spec image) live) 1028 pairs (files-leaf spec image v f)
 
-line-is : (spec : Spec) (image : List ℕ) → IsValid spec → IsFresh spec image → view_line image (site spec) (loaded spec image) live ≡ map (item_at 0) pairs
+line-is : (spec : Spec) (image : List ℕ) → IsValid spec → IsFresh spec image → view_line image (site spec) (loaded spec image) live ≡ leaf_items 1028 0 pairs
 unfolding view_line
 line-is spec image v f = leaf-line (hashed_tree image (site spec) (loaded spec image) live) 1028 pairs (files-leaf spec image v f)
 
