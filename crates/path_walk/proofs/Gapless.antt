@@ -9,12 +9,12 @@ use Rattle.apfs_model.specs.Lists.{through, value_of}
 use Rattle.apfs_model.proofs.BoolTests.{left-true, right-true, both-true}
 use Rattle.obj_base.specs.declared.stop.Stop.{Stop}
 use Rattle.bt_node.specs.Node.{level_of}
-use Rattle.bt_node.specs.Entries.{Pair, pairs_of}
+use Rattle.bt_node.specs.Entries.{Pair}
 use Rattle.bt_node.specs.declared.node.NodeAt.{NodeAt}
 use Rattle.bt_node.specs.declared.key.Rank.{Rank}
 use Rattle.bt_cursor.specs.declared.fault.WalkFault.{WalkFault}
-use Rattle.bt_cursor.specs.Tree.{Tree, root_place, child_place}
-use Rattle.bt_cursor.specs.Line.{Item, line_part}
+use Rattle.bt_cursor.specs.Tree.{Tree, root_place, child_in, child_place}
+use Rattle.bt_cursor.specs.Line.{Item, entries_of, line_part}
 use Rattle.bt_cursor.specs.Gaps.{Gapped, or_gap, gapped_part, gapped_of, all_flat, is_gapless}
 use Rattle.bt_cursor.specs.Met.{places_under, places_in, has_node, is_walkable}
 use Rattle.bt_cursor.specs.From.{is_low, after_last, run_or_gap, is_kind_whole, is_of_kind}
@@ -36,7 +36,7 @@ all-right p (x ∷ xs) ys all = all-right p xs ys (right-true (p x) (list_all p 
 abbrev IsReached : {K : Type 0} → Tree K → List Item → Type 0
 IsReached tree items = list_all (has_node tree) (places_in items) ≡ true
 
-gapless-parts : {K : Type 0} (tree : Tree K) (f : Pair → List (Gapped Item)) (g : Pair → List Item) → ((p : Pair) → IsReached tree (g p) → is_gapless (f p) ≡ true) → (ps : List Pair) → IsReached tree (flat_map g ps) → is_gapless (flat_map f ps) ≡ true
+gapless-parts : {K X : Type 0} (tree : Tree K) (f : X → List (Gapped Item)) (g : X → List Item) → ((p : X) → IsReached tree (g p) → is_gapless (f p) ≡ true) → (ps : List X) → IsReached tree (flat_map g ps) → is_gapless (flat_map f ps) ≡ true
 gapless-parts tree f g each [] all = refl
 gapless-parts tree f g each (p ∷ ps) all =
     let places : Item → List NodeAt = λ (i : Item). places_under i.level i.pair in
@@ -47,16 +47,17 @@ gapless-node : {K : Type 0} (tree : Tree K) (o : Result (List ℕ) (Stop WalkFau
 gapless-node tree (Ok node) f g each all = each node all
 gapless-node tree (Err why) f g each all = absurd (false≢true all)
 
-gapless-part : {K : Type 0} (tree : Tree K) (level : ℕ) (pair : Pair) → IsReached tree (line_part tree level pair) → is_gapless (gapped_part tree level pair) ≡ true
-gapless-part tree zero pair all = refl
-gapless-part tree (suc level) pair all =
-    gapless-node tree (tree.look (child_place level pair)) (λ node. flat_map (gapped_part tree level) (pairs_of tree.shape node)) (λ node. flat_map (line_part tree level) (pairs_of tree.shape node))
-    (λ node. gapless-parts tree (gapped_part tree level) (line_part tree level) (gapless-part tree level) (pairs_of tree.shape node)) all
+gapless-part : {K : Type 0} (tree : Tree K) (level oid : ℕ) (entry : ℕ × Pair) → IsReached tree (line_part tree level oid entry) → is_gapless (gapped_part tree level oid entry) ≡ true
+gapless-part tree zero oid entry all = refl
+gapless-part tree (suc level) oid entry all =
+    let below : ℕ = child_in entry.1 in
+    gapless-node tree (tree.look (child_place level entry.1)) (λ node. flat_map (gapped_part tree level below) (entries_of tree.shape node)) (λ node. flat_map (line_part tree level below) (entries_of tree.shape node))
+    (λ node. gapless-parts tree (gapped_part tree level below) (line_part tree level below) (gapless-part tree level below) (entries_of tree.shape node)) all
 
 walkable-gapless : {K : Type 0} (tree : Tree K) (root : ℕ) → is_walkable tree root ≡ true → is_gapless (gapped_of tree root) ≡ true
 walkable-gapless tree root all =
-    gapless-node tree (tree.look (root_place root)) (λ node. flat_map (gapped_part tree (level_of node)) (pairs_of tree.shape node)) (λ node. flat_map (line_part tree (level_of node)) (pairs_of tree.shape node))
-    (λ node. gapless-parts tree (gapped_part tree (level_of node)) (line_part tree (level_of node)) (gapless-part tree (level_of node)) (pairs_of tree.shape node)) all
+    gapless-node tree (tree.look (root_place root)) (λ node. flat_map (gapped_part tree (level_of node) root) (entries_of tree.shape node)) (λ node. flat_map (line_part tree (level_of node) root) (entries_of tree.shape node))
+    (λ node. gapless-parts tree (gapped_part tree (level_of node) root) (line_part tree (level_of node) root) (gapless-part tree (level_of node) root) (entries_of tree.shape node)) all
 
 after-all : {X : Type 0} (p test : X → Bool) (xs : List X) → list_all p xs ≡ true → list_all p (after_last test xs) ≡ true
 after-all p test [] all = refl

@@ -2,7 +2,7 @@
 ghost use Rattle.std.specs.Prelude.{◌≡◌, ◌++◌, map, OnOk};
 ghost use Rattle.reach_rules.specs.Naming.{ByBlock, ByMapping, InBlock, OfId};
 ghost use Rattle.reach_rules.specs.Owners as spec;
-ghost use Rattle.tree_namings.specs.Namings.{level_below, node_id, step_naming};
+ghost use Rattle.tree_namings.specs.Namings.{level_below, step_naming};
 ghost use Rattle.reach_gather.specs.Named.{kind_of, naming_of};
 ghost use Rattle.reach_gather.specs.Steps.{block_steps, id_steps, block_owner};
 
@@ -18,22 +18,12 @@ fn below(level: u16) -> u16
     if level == 0 { 0 } else { level - 1 }
 }
 
-// The node from which a step is taken.
-fn node(root: u64, step: &Step) -> u64
-    ensures { result ≡ node_id root step.now.node }
-{
-    match step.node {
-        Some(node) => node,
-        None => root,
-    }
-}
-
 // The naming of a step in a tree of physical nodes.
 fn block_step(tree: Tree, root: u64, step: &Step) -> Named
     ensures { naming_of result ≡ step_naming InBlock (kind_of tree) ByBlock root step.now }
 {
     Named {
-        by: NamedBy::Block(node(root, step)),
+        by: NamedBy::Block(step.node),
         at: step.at,
         expects: Expects::Node(tree, below(step.level)),
         how: By::Block,
@@ -46,7 +36,7 @@ fn id_step(tree: Tree, root: u64, step: &Step) -> Named
     ensures { naming_of result ≡ step_naming OfId (kind_of tree) ByMapping root step.now }
 {
     Named {
-        by: NamedBy::Id(node(root, step)),
+        by: NamedBy::Id(step.node),
         at: step.at,
         expects: Expects::Node(tree, below(step.level)),
         how: By::Mapping,

@@ -18,7 +18,6 @@ ghost use Rattle.reach_rules.specs.Naming.{ByBlock, Namer, ExtentRefs, SnapMetad
 ghost use Rattle.reach_rules.specs.Next.{unless_zero};
 ghost use Rattle.reach_rules.specs.Reached.{IsReachedFault};
 ghost use Rattle.tree_namings.specs.Volumes.Parts.{IsVolumePart, volume_namer};
-ghost use Rattle.tree_namings.specs.Volumes.Told as told;
 ghost use Rattle.tree_namings.specs.Volumes.Told.{head_naming, told_volume};
 ghost use Rattle.reach_gather.specs.Adds.{Adds, AreLive};
 ghost use Rattle.reach_gather.specs.Named.{namer_of, naming_of};
@@ -104,14 +103,6 @@ fn add_live_metadata<S: BlockSource>(
     }
 }
 
-// The block of a volume's object map: the first of those in which the map lies.
-fn map_of(volume: &Volume) -> u64
-    ensures { result ≡ told.map_of volume.now }
-{
-    let blocks = volume.omap.blocks();
-    if blocks.is_empty() { 0 } else { blocks[0] }
-}
-
 // The record of the container's map by which the volume of a slot is found.
 fn mapping_of(map: u64, found: OmapRecord) -> Mapping
     ensures { result ≡ record { map = map; oid = found.oid; xid = found.xid; flags = found.flags; size = found.size; paddr = found.paddr } }
@@ -156,7 +147,7 @@ fn add_named<S: BlockSource>(
     ensures cause { IsErrOf result ReadFault → Rose (S.faults src.old) (S.faults src.new) }
     ensures kept { IsKept S.bytes S.bytes_len S.faults src.old src.new }
 {
-    let map = map_of(volume);
+    let map = volume.omap.block();
     let omap = Named {
         by,
         at: 128,

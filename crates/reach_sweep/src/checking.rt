@@ -4,11 +4,9 @@ ghost use Rattle.obj_base.specs.Stops.{Tells, NoFeature};
 ghost use Rattle.obj_base.specs.declared.stop.Stop.TheVariants.{ReadFault, NoMemory};
 ghost use Rattle.reach_rules.specs.Features.{HasFeature};
 ghost use Rattle.reach_rules.specs.Reached.{IsReachedFault};
-ghost use Rattle.tree_namings.specs.Volumes.Told as told;
 ghost use Rattle.view_sweep.specs.Unused.{AreAllUsed, IsUnusedHere, AreMapsOf, AreUsedOnes};
 ghost use Rattle.reach_sweep.specs.Used.{maps_of, told_by_map, volume_map};
 
-use crate::sweeping::map_of;
 use nx_ring::Checkpoint;
 use obj_base::{Stop, Within};
 use omap_map::OmapRecord;
@@ -23,7 +21,7 @@ fn volume_map<'a>(volume: &'a Volume) -> MapRecords<'a>
 {
     MapRecords {
         within: Within::Volume(volume.head.slot),
-        map: map_of(volume),
+        map: volume.omap.block(),
         records: volume.omap.records(),
     }
 }

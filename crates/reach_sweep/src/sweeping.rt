@@ -13,7 +13,6 @@ ghost use Rattle.vol_view.specs.declared.head.VolHead.{VolHead};
 ghost use Rattle.reach_rules.specs.Naming.{Namer};
 ghost use Rattle.reach_rules.specs.Features.{HasFeature};
 ghost use Rattle.reach_rules.specs.Reached.{IsReachedFault};
-ghost use Rattle.tree_namings.specs.Volumes.Told as told;
 ghost use Rattle.tree_namings.specs.Volumes.Laws.{HasParts};
 ghost use Rattle.view_sweep.specs.Named.{head_namings, AreLive, AreReached};
 ghost use Rattle.reach_sweep.specs.Views as swept;
@@ -27,14 +26,6 @@ use std::alloc::Global;
 use view_sweep::{Head, SweptView, Used, reach_views};
 use vol_view::{Snapshot, Volume};
 
-// The block of a volume's object map: the first of those in which the map lies.
-pub(crate) fn map_of(volume: &Volume) -> u64
-    ensures { result ≡ told.map_of volume.now }
-{
-    let blocks = volume.omap.blocks();
-    if blocks.is_empty() { 0 } else { blocks[0] }
-}
-
 // The live view of volume `i`, with what the volume's superblock names.
 fn live_head(cp: &Checkpoint, i: usize, volume: &Volume) -> Head
     ensures { result ≡ swept.live_head cp.now i volume.now }
@@ -44,7 +35,7 @@ fn live_head(cp: &Checkpoint, i: usize, volume: &Volume) -> Head
             slot: volume.head.slot,
             place: 0,
             xid: cp.xid(),
-            map: map_of(volume),
+            map: volume.omap.block(),
             hashed: volume.names.are_hashed(),
             volume: i,
         },
@@ -63,7 +54,7 @@ fn past_head(i: usize, volume: &Volume, k: usize, snapshot: &Snapshot) -> Head
             slot: volume.head.slot,
             place: k as u64 + 1,
             xid: snapshot.xid,
-            map: map_of(volume),
+            map: volume.omap.block(),
             hashed: volume.names.are_hashed(),
             volume: i,
         },

@@ -1,7 +1,6 @@
 // The views of a volume, as they are swept.
 ghost use Rattle.std.specs.Prelude.{◌≡◌, ◌<◌, IfOk, IfErr};
 ghost use Rattle.obj_base.specs.declared.stop.Stop.TheVariants.{NoMemory};
-ghost use Rattle.tree_namings.specs.Volumes.Told as told;
 ghost use Rattle.use_report.specs.Heads as spec;
 ghost use Rattle.use_report.specs.Heads.{AreHeadsOf};
 
@@ -12,14 +11,6 @@ use std::alloc::Global;
 use view_sweep::{Head, SweptView};
 use vol_view::Volume;
 
-// The block of a volume's object map: the first of those in which the map lies.
-fn map_of(volume: &Volume) -> u64
-    ensures { result ≡ told.map_of volume.now }
-{
-    let blocks = volume.omap.blocks();
-    if blocks.is_empty() { 0 } else { blocks[0] }
-}
-
 // A view, with what its superblock names.
 fn head_of(volume: &Volume, kept: &KeptView) -> Head
     ensures { result ≡ spec.head_of volume.now kept.now }
@@ -29,7 +20,7 @@ fn head_of(volume: &Volume, kept: &KeptView) -> Head
             slot: volume.head.slot,
             place: kept.place,
             xid: kept.view.xid,
-            map: map_of(volume),
+            map: volume.omap.block(),
             hashed: volume.names.are_hashed(),
             volume: 0,
         },

@@ -90,7 +90,7 @@ kept-leaf facts later items items' records records' refusal why line item leaf h
 pub kept-inner : (facts : Facts) (items items' records : ℕ) (refusal : Option Refusal) (line : List Item) (item : Item) → 0 < item.level → IsKeptOf facts items records refusal line → items' ≡ min (items + 1) (2 ^ 64 - 1) → IsKeptOf facts items' records refusal (line ++ item ∷ [])
 kept-inner facts items items' records refusal line item inner had i =
     let pairs : leaf_pairs (line ++ item ∷ []) ≡ leaf_pairs line =
-    leaf_pairs-append line (item ∷ []) ∙ (ap (λ ps. leaf_pairs line ++ ps) (leaf_pairs-inner item.level item.pair [] inner) ∙ append-nil (leaf_pairs line)) in
+    leaf_pairs-append line (item ∷ []) ∙ (ap (λ ps. leaf_pairs line ++ ps) (leaf_pairs-inner item.node item.at item.level item.pair [] inner) ∙ append-nil (leaf_pairs line)) in
     let keeps : or_this refusal items None ≡ refusal = elim refusal as (λ (o : Option Refusal). or_this o items None ≡ o) [ None ↦ refl | Some r ↦ refl ] in
     record {
       said = had.said ∙ ap (λ ps. brief_facts (facts_in facts.names ps)) (sym pairs);

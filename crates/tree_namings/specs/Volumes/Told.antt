@@ -12,7 +12,7 @@ use Rattle.reach_rules.specs.Next.{unless_zero}
 abbrev pub head_naming : VolHead → Naming
 head_naming head = naming (Whole Newest) (184 + 8 * head.slot) (VolumeIn head.slot) InContainer head.oid
 
--- the block of a loaded volume's object map: the first of those in which the map lies
+-- the block of a loaded volume's object map
 abbrev pub map_of : Loaded → ℕ
 map_of volume = volume.omap.block
 
