@@ -6,12 +6,12 @@ use Rattle.reach_rules.specs.Owners.{Owner, owner, Named}
 use Rattle.tree_namings.specs.Namings.{step_naming}
 
 -- in a tree of physical nodes
-abbrev pub block_steps : TreeKind → ℕ → List Step → List Naming
-block_steps kind root steps = map (step_naming InBlock kind ByBlock root) steps
+abbrev pub block_steps : TreeKind → List Step → List Naming
+block_steps kind steps = map (step_naming InBlock kind ByBlock) steps
 
 -- in a tree of ephemeral nodes
-abbrev pub id_steps : TreeKind → ℕ → List Step → List Naming
-id_steps kind root steps = map (step_naming OfId kind ByMapping root) steps
+abbrev pub id_steps : TreeKind → List Step → List Naming
+id_steps kind steps = map (step_naming OfId kind ByMapping) steps
 
 -- the block of a physical naming
 abbrev pub block_owner : Naming → Owner

@@ -9,27 +9,23 @@ ghost use Rattle.bt_cursor.specs.Flat.{flat_of};
 ghost use Rattle.nx_ring.specs.Checkpoint.{site_of};
 ghost use Rattle.omap_map.specs.Maps.{record_tree};
 ghost use Rattle.omap_map.specs.Records.{records_of};
+ghost use Rattle.reach_rules.specs.Naming.{ByBlock, MapRecords, MapSnapshots, ExtentRefs, SnapMetadata, TreeRoot};
 ghost use Rattle.reach_rules.specs.Features.{HasFeature};
 ghost use Rattle.reach_rules.specs.Live.{IsLive};
 ghost use Rattle.reach_rules.specs.Reached.{IsReachedFault};
 ghost use Rattle.reach_gather.specs.Adds.{Adds};
-ghost use Rattle.reach_gather.specs.Named.{naming_of};
-ghost use Rattle.reach_gather.specs.declared.naming.By.TheVariants as looks;
-ghost use Rattle.reach_gather.specs.declared.naming.Expects.TheVariants as expects;
-ghost use Rattle.reach_gather.specs.declared.naming.Tree.TheVariants as trees;
 
 use crate::Gathered;
 use crate::keepers::nothing::Nothing;
 use crate::keepers::ranges::Ranges;
 use crate::keepers::records::Records;
-use crate::naming::{Named, Tree};
 use crate::ranges::tell_all;
 use crate::steps::note_blocks;
 use blk_source::BlockSource;
 use nx_ring::Checkpoint;
 use obj_base::Stop;
 use omap_map::OmapRecord;
-use reach_rules::ReachFault;
+use reach_rules::{Naming, ReachFault, TreeKind};
 use std::alloc::Global;
 use tree_namings::{walk_extents, walk_metadata, walk_records, walk_snapshots};
 
@@ -38,14 +34,14 @@ pub fn add_metadata<S: BlockSource>(
     alloc: Global,
     src: &mut S,
     cp: &Checkpoint,
-    root: Named,
+    root: Naming,
     out: &mut Gathered,
 ) -> Result<(), Stop<ReachFault>>
     requires site { IsSiteFor (site_of cp.now) (S.bytes_len src.old) }
-    requires how { root.how ≡ looks.Block }
-    requires kind { root.expects ≡ expects.Root trees.Metadata }
-    ensures clear { (image : List ℕ) → S.bytes src.old ≡ Some image → OnOk result (Adds image cp.now (naming_of root ∷ []) [] out.old out.new) }
-    ensures present { (image : List ℕ) → S.bytes src.old ≡ Some image → IsLive image cp.now (naming_of root) → IfErr result (Tells (IsReachedFault image cp.now) (HasFeature image cp.now)) }
+    requires how { root.how ≡ ByBlock }
+    requires kind { root.expected ≡ TreeRoot SnapMetadata }
+    ensures clear { (image : List ℕ) → S.bytes src.old ≡ Some image → OnOk result (Adds image cp.now (root ∷ []) [] out.old out.new) }
+    ensures present { (image : List ℕ) → S.bytes src.old ≡ Some image → IsLive image cp.now root → IfErr result (Tells (IsReachedFault image cp.now) (HasFeature image cp.now)) }
     ensures reads { (image : List ℕ) → S.bytes src.old ≡ Some image → OnOk result (S.reads src.new + length out.old.namings ≤ S.reads src.old + length out.new.namings) }
     ensures cause { IsErrOf result ReadFault → Rose (S.faults src.old) (S.faults src.new) }
     ensures kept { IsKept S.bytes S.bytes_len S.faults src.old src.new }
@@ -55,7 +51,7 @@ pub fn add_metadata<S: BlockSource>(
         Err(stop) => return Err(stop),
     };
     out.note_block(root)?;
-    note_blocks(out, Tree::Metadata, root.oid, &walked.steps)?;
+    note_blocks(out, TreeKind::SnapMetadata, &walked.steps)?;
     Ok(())
 }
 
@@ -64,14 +60,14 @@ pub fn add_map_snapshots<S: BlockSource>(
     alloc: Global,
     src: &mut S,
     cp: &Checkpoint,
-    root: Named,
+    root: Naming,
     out: &mut Gathered,
 ) -> Result<(), Stop<ReachFault>>
     requires site { IsSiteFor (site_of cp.now) (S.bytes_len src.old) }
-    requires how { root.how ≡ looks.Block }
-    requires kind { root.expects ≡ expects.Root trees.MapSnapshots }
-    ensures clear { (image : List ℕ) → S.bytes src.old ≡ Some image → OnOk result (Adds image cp.now (naming_of root ∷ []) [] out.old out.new) }
-    ensures present { (image : List ℕ) → S.bytes src.old ≡ Some image → IsLive image cp.now (naming_of root) → IfErr result (Tells (IsReachedFault image cp.now) (HasFeature image cp.now)) }
+    requires how { root.how ≡ ByBlock }
+    requires kind { root.expected ≡ TreeRoot MapSnapshots }
+    ensures clear { (image : List ℕ) → S.bytes src.old ≡ Some image → OnOk result (Adds image cp.now (root ∷ []) [] out.old out.new) }
+    ensures present { (image : List ℕ) → S.bytes src.old ≡ Some image → IsLive image cp.now root → IfErr result (Tells (IsReachedFault image cp.now) (HasFeature image cp.now)) }
     ensures reads { (image : List ℕ) → S.bytes src.old ≡ Some image → OnOk result (S.reads src.new + length out.old.namings ≤ S.reads src.old + length out.new.namings) }
     ensures cause { IsErrOf result ReadFault → Rose (S.faults src.old) (S.faults src.new) }
     ensures kept { IsKept S.bytes S.bytes_len S.faults src.old src.new }
@@ -81,7 +77,7 @@ pub fn add_map_snapshots<S: BlockSource>(
         Err(stop) => return Err(stop),
     };
     out.note_block(root)?;
-    note_blocks(out, Tree::MapSnapshots, root.oid, &walked.steps)?;
+    note_blocks(out, TreeKind::MapSnapshots, &walked.steps)?;
     Ok(())
 }
 
@@ -90,15 +86,15 @@ pub fn add_map_records<S: BlockSource>(
     alloc: Global,
     src: &mut S,
     cp: &Checkpoint,
-    root: Named,
+    root: Naming,
     out: &mut Gathered,
 ) -> Result<Vec<OmapRecord>, Stop<ReachFault>>
     requires site { IsSiteFor (site_of cp.now) (S.bytes_len src.old) }
-    requires how { root.how ≡ looks.Block }
-    requires kind { root.expects ≡ expects.Root trees.MapRecords }
-    ensures clear { (image : List ℕ) → S.bytes src.old ≡ Some image → OnOk result (Adds image cp.now (naming_of root ∷ []) [] out.old out.new) }
+    requires how { root.how ≡ ByBlock }
+    requires kind { root.expected ≡ TreeRoot MapRecords }
+    ensures clear { (image : List ℕ) → S.bytes src.old ≡ Some image → OnOk result (Adds image cp.now (root ∷ []) [] out.old out.new) }
     ensures records { (image : List ℕ) → S.bytes src.old ≡ Some image → IfOk result (λ records. records.items ≡ records_of (flat_of (record_tree image (site_of cp.now)) root.oid)) }
-    ensures present { (image : List ℕ) → S.bytes src.old ≡ Some image → IsLive image cp.now (naming_of root) → IfErr result (Tells (IsReachedFault image cp.now) (HasFeature image cp.now)) }
+    ensures present { (image : List ℕ) → S.bytes src.old ≡ Some image → IsLive image cp.now root → IfErr result (Tells (IsReachedFault image cp.now) (HasFeature image cp.now)) }
     ensures reads { (image : List ℕ) → S.bytes src.old ≡ Some image → OnOk result (S.reads src.new + length out.old.namings ≤ S.reads src.old + length out.new.namings) }
     ensures cause { IsErrOf result ReadFault → Rose (S.faults src.old) (S.faults src.new) }
     ensures kept { IsKept S.bytes S.bytes_len S.faults src.old src.new }
@@ -111,7 +107,7 @@ pub fn add_map_records<S: BlockSource>(
         Err(stop) => return Err(stop),
     };
     out.note_block(root)?;
-    note_blocks(out, Tree::MapRecords, root.oid, &walked.steps)?;
+    note_blocks(out, TreeKind::MapRecords, &walked.steps)?;
     Ok(walked.kept.records)
 }
 
@@ -120,15 +116,15 @@ pub fn add_extents<S: BlockSource>(
     alloc: Global,
     src: &mut S,
     cp: &Checkpoint,
-    root: Named,
+    root: Naming,
     out: &mut Gathered,
 ) -> Result<(), Stop<ReachFault>>
     requires site { IsSiteFor (site_of cp.now) (S.bytes_len src.old) }
-    requires how { root.how ≡ looks.Block }
-    requires kind { root.expects ≡ expects.Root trees.Extents }
+    requires how { root.how ≡ ByBlock }
+    requires kind { root.expected ≡ TreeRoot ExtentRefs }
     requires some { (root.oid == 0) ≡ false }
-    ensures clear { (image : List ℕ) → S.bytes src.old ≡ Some image → OnOk result (Adds image cp.now (naming_of root ∷ []) [] out.old out.new) }
-    ensures present { (image : List ℕ) → S.bytes src.old ≡ Some image → IsLive image cp.now (naming_of root) → IfErr result (Tells (IsReachedFault image cp.now) (HasFeature image cp.now)) }
+    ensures clear { (image : List ℕ) → S.bytes src.old ≡ Some image → OnOk result (Adds image cp.now (root ∷ []) [] out.old out.new) }
+    ensures present { (image : List ℕ) → S.bytes src.old ≡ Some image → IsLive image cp.now root → IfErr result (Tells (IsReachedFault image cp.now) (HasFeature image cp.now)) }
     ensures reads { (image : List ℕ) → S.bytes src.old ≡ Some image → OnOk result (S.reads src.new + length out.old.namings ≤ S.reads src.old + length out.new.namings) }
     ensures cause { IsErrOf result ReadFault → Rose (S.faults src.old) (S.faults src.new) }
     ensures kept { IsKept S.bytes S.bytes_len S.faults src.old src.new }
@@ -141,7 +137,7 @@ pub fn add_extents<S: BlockSource>(
         Err(stop) => return Err(stop),
     };
     out.note_block(root)?;
-    tell_all(out, root, walked.kept.ranges.as_slice())?;
-    note_blocks(out, Tree::Extents, root.oid, &walked.steps)?;
+    tell_all(alloc, out, root, walked.kept.ranges.as_slice())?;
+    note_blocks(out, TreeKind::ExtentRefs, &walked.steps)?;
     Ok(())
 }

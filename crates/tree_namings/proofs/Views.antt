@@ -181,7 +181,7 @@ outside-map : {X : Type 0} (f : X → Naming) (xs : List X) → ((x : X) → is_
 outside-map f xs a n h = let t = from-map f xs n h in subst (λ (x : Naming). is_in_view x.how ≡ false) (sym t.1.1) (a t.0)
 
 outside-tree : (object : ℕ → Object) (kind : TreeKind) (root : Naming) (steps : List Step) → is_in_view root.how ≡ false → AreOutside (tree_namings object kind root steps)
-outside-tree object kind root steps e = outside-one root (map (step_naming object kind root.how root.oid) steps) e (outside-map (step_naming object kind root.how root.oid) steps (λ step. e))
+outside-tree object kind root steps e = outside-one root (map (step_naming object kind root.how) steps) e (outside-map (step_naming object kind root.how) steps (λ step. e))
 
 outside-lists : (namer : Namer) (at : ℕ) (oids : List ℕ) → AreOutside (reap_namings namer at oids)
 outside-lists namer at [] = outside-none

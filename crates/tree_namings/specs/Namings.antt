@@ -29,12 +29,12 @@ level_below zero = zero
 level_below (suc level) = level
 
 -- a step names its child; the namer is the object of the node from which it is taken
-abbrev pub step_naming : (ℕ → Object) → TreeKind → LookUp → ℕ → Step → Naming
-step_naming object kind how root step = naming (Whole (object step.node)) step.at (TreeNode kind (level_below step.level)) how step.child
+abbrev pub step_naming : (ℕ → Object) → TreeKind → LookUp → Step → Naming
+step_naming object kind how step = naming (Whole (object step.node)) step.at (TreeNode kind (level_below step.level)) how step.child
 
 -- the namings of a tree by its steps, from that of its root on
 abbrev pub tree_namings : (ℕ → Object) → TreeKind → Naming → List Step → List Naming
-tree_namings object kind root steps = root ∷ map (step_naming object kind root.how root.oid) steps
+tree_namings object kind root steps = root ∷ map (step_naming object kind root.how) steps
 
 -- a naming resolves to an object that is sound as it expects, and no feature is there through it
 pub record IsPlainNaming (image : List ℕ) (seen : Seen) (n : Naming) : Type 0 where

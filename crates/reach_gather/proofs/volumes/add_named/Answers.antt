@@ -8,7 +8,6 @@ use Rattle.tree_namings.specs.Volumes.Parts.{IsMapPart}
 use Rattle.tree_namings.specs.Volumes.Told.{map_of, map_in_volume, told_view, live_at, told_snapshots}
 use Rattle.reach_gather.specs.Adds.{Adds}
 use Rattle.reach_gather.specs.Held.{Held}
-use Rattle.reach_gather.specs.Named.{namer_of}
 use Rattle.reach_gather.specs.Views.{AreSuperParts, pasts_namings}
 use Rattle.reach_gather.proofs.Growing.{adds-left, adds-join}
 use Rattle.reach_gather.proofs.volumes.add_named.Goals as goal
@@ -17,7 +16,7 @@ pub returns-in-Ok-add_snapshots-clause-clear : goal.returns-in-Ok-add_snapshots-
 returns-in-Ok-add_snapshots-clause-clear g c = λ image told parts.
     let seen : Seen = c.args.cp.now in
     let volume : Loaded = c.args.volume.now in
-    let me : Namer = namer_of c.args.by in
+    let me : Namer = c.args.namer in
     let em : c.block-map.result ≡ map_of volume = c.block-map.ensures ∙ ap (λ (v : Loaded). v.omap.block) c.volume.view_is in
     let a : Held = c.args.out.now in
     let b : Held = c.add_map.new.out in

@@ -1,0 +1,55 @@
+-- Owners that are kept, one after another, as ranges and as owners.
+use Rattle.std.proofs.Common.{◌≡◌, ℕ, suc, ◌+◌, ◌<◌, Bool, true, false, cond, List, [], ◌∷◌, ◌++◌, length, map, take, get_or, refl, ap, sym, ◌∙◌}
+use Rattle.std.specs.Prelude.{not, ◌==◌, flat_map}
+use Rattle.std.proofs.lemmas.List.{take_more}
+use Rattle.std.proofs.lemmas.List.Concat.{flat_map-append}
+use Rattle.reach_rules.specs.Naming.{Naming}
+use Rattle.reach_rules.specs.Owners.{Owner, owner_of, Told, told_from}
+use Rattle.reach_rules.specs.Reached.{range_of}
+use Rattle.reach_gather.specs.Held.{some_owners}
+use Rattle.reach_gather.specs.Kept.{owners_in, some_ranges}
+use Rattle.reach_gather.specs.declared.kept.KeptOwners.{KeptOwners}
+use Rattle.reach_gather.proofs.Telling.{filter-more, append-assoc}
+
+list-end : {X : Type 0} (xs : List X) → xs ++ [] ≡ xs
+list-end [] = refl
+list-end (x ∷ xs) = ap (λ ys. x ∷ ys) (list-end xs)
+
+map-both : {X Y : Type 0} (f : X → Y) (xs ys : List X) → map f (xs ++ ys) ≡ map f xs ++ map f ys
+map-both f [] ys = refl
+map-both f (x ∷ xs) ys = ap (λ zs. f x ∷ zs) (map-both f xs ys)
+
+-- what is made of a list grows by what is made of one more item
+grown : {X Y : Type 0} (f : List X → List Y) → ((xs ys : List X) → f (xs ++ ys) ≡ f xs ++ f ys) → (xs : List X) (i : ℕ) (x : X) (old mid new : List Y) → i < length xs → get_or xs i x ≡ x
+    → mid ≡ old ++ f (take i xs) → new ≡ mid ++ f (x ∷ []) → new ≡ old ++ f (take (i + 1) xs)
+grown f both xs i x old mid new low is m given =
+    let more : take (i + 1) xs ≡ take i xs ++ x ∷ [] = take_more xs i x low ∙ ap (λ y. take i xs ++ y ∷ []) is in
+    given ∙ (ap (λ ys. ys ++ f (x ∷ [])) m ∙ (append-assoc old (f (take i xs)) (f (x ∷ [])) ∙ ap (λ ys. old ++ ys) (sym (both (take i xs) (x ∷ [])) ∙ ap f (sym more))))
+
+pub ranges-more : (xs : List (ℕ × ℕ)) (i : ℕ) (x : ℕ × ℕ) (old mid new : List (ℕ × ℕ)) → i < length xs → get_or xs i x ≡ x → mid ≡ old ++ some_ranges (take i xs) → new ≡ mid ++ some_ranges (x ∷ []) → new ≡ old ++ some_ranges (take (i + 1) xs)
+ranges-more = grown some_ranges (filter-more (λ (r : ℕ × ℕ). not (r.1 == 0)))
+
+pub made-more : {Y : Type 0} (g : KeptOwners → List Y) (xs : List KeptOwners) (i : ℕ) (x : KeptOwners) (old mid new : List Y) → i < length xs → get_or xs i x ≡ x → mid ≡ old ++ flat_map g (take i xs) → new ≡ mid ++ g x
+    → new ≡ old ++ flat_map g (take (i + 1) xs)
+made-more g xs i x old mid new low is m given = grown (flat_map g) (flat_map-append g) xs i x old mid new low is m (given ∙ ap (λ ys. mid ++ ys) (sym (list-end (g x))))
+
+-- the ranges of what is kept, item by item
+abbrev pub ranges_in : KeptOwners → List (ℕ × ℕ)
+ranges_in k = map range_of (owners_in k)
+
+pub ranges-all : (ks : List KeptOwners) → flat_map ranges_in ks ≡ map range_of (flat_map owners_in ks)
+ranges-all [] = refl
+ranges-all (k ∷ ks) = ap (λ ys. ranges_in k ++ ys) (ranges-all ks) ∙ sym (map-both range_of (owners_in k) (flat_map owners_in ks))
+
+-- the ranges of which an object tells are those of their owners
+told-if : (b : Bool) (o : Owner) (os : List Owner) (rs : List (ℕ × ℕ)) → map range_of os ≡ rs → map range_of (cond b (o ∷ os) os) ≡ cond b (range_of o ∷ rs) rs
+told-if true o os rs e = ap (λ ys. range_of o ∷ ys) e
+told-if false o os rs e = e
+
+pub told-ranges : (n : Naming) (k : ℕ) (rs : List (ℕ × ℕ)) → map range_of (some_owners (told_from n k rs)) ≡ some_ranges rs
+told-ranges n k [] = refl
+told-ranges n k (r ∷ rs) = told-if (not (r.1 == 0)) (owner_of (Told n k) r) (some_owners (told_from n (suc k) rs)) (some_ranges rs) (told-ranges n (suc k) rs)
+
+-- one more is kept
+pub one-more-kept : (ks ms : List KeptOwners) (k : KeptOwners) (old : List Owner) → ms ≡ ks ++ k ∷ [] → flat_map owners_in ks ≡ old → flat_map owners_in ms ≡ old ++ owners_in k
+one-more-kept ks ms k old e was = ap (flat_map owners_in) e ∙ (flat_map-append owners_in ks (k ∷ []) ∙ (ap (λ ys. ys ++ (owners_in k ++ [])) was ∙ ap (λ ys. old ++ ys) (list-end (owners_in k))))
