@@ -8,7 +8,7 @@ use Rattle.reach_rules.specs.Owners.{Owner, owner_of, Told, told_from}
 use Rattle.reach_rules.specs.Reached.{range_of}
 use Rattle.reach_gather.specs.Held.{some_owners}
 use Rattle.reach_gather.specs.Kept.{owners_in, some_ranges}
-use Rattle.reach_gather.specs.declared.kept.KeptOwners.{KeptOwners}
+use Rattle.reach_gather.specs.declared.keeping.KeptOwners.{KeptOwners}
 use Rattle.reach_gather.proofs.Telling.{filter-more, append-assoc}
 
 list-end : {X : Type 0} (xs : List X) → xs ++ [] ≡ xs

@@ -3,8 +3,8 @@ use Rattle.std.specs.Prelude.{ℕ, not, ◌==◌, List, [], ◌∷◌}
 use Rattle.std.specs.List.{filter}
 use Rattle.reach_rules.specs.Owners.{Owner, told_from}
 use Rattle.reach_gather.specs.Held.{some_owners}
-use Rattle.reach_gather.specs.declared.kept.KeptOwners.{KeptOwners}
-use Rattle.reach_gather.specs.declared.kept.KeptOwners.TheVariants.{One, Those}
+use Rattle.reach_gather.specs.declared.keeping.KeptOwners.{KeptOwners}
+use Rattle.reach_gather.specs.declared.keeping.KeptOwners.TheVariants.{One, Those}
 
 -- the owners that are kept so
 abbrev pub owners_in : KeptOwners → List Owner

@@ -6,7 +6,7 @@ ghost use Rattle.reach_gather.specs.Kept.{owners_in};
 ghost use Rattle.reach_gather.specs.Finished.{AreRangesOnce, first_of};
 
 use crate::gathered::Gathered;
-use crate::kept::{KeptOwners, owners_of, ranges_of};
+use crate::keeping::{KeptOwners, owners_of, ranges_of};
 use id_lists::distinct;
 use reach_rules::Owner;
 use std::alloc::{AllocError, Global};

@@ -1,6 +1,6 @@
 // What is gathered of a container on the way.
 
-use crate::kept::KeptOwners;
+use crate::keeping::KeptOwners;
 use blk_source::NoMemory;
 use omap_map::OmapRecord;
 use reach_rules::{Naming, Owner, Who};

@@ -7,7 +7,7 @@ mod gathered;
 mod infos;
 mod jumping;
 mod keepers;
-mod kept;
+mod keeping;
 mod maps;
 mod once;
 mod queues;

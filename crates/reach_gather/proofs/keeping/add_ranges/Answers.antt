@@ -1,6 +1,6 @@
 use Rattle.std.proofs.Common.{sym}
 use Rattle.reach_gather.proofs.Kepts.{ranges-more}
-use Rattle.reach_gather.proofs.kept.add_ranges.Goals as goal
+use Rattle.reach_gather.proofs.keeping.add_ranges.Goals as goal
 
 pub loop-range-preserved : goal.loop-range-preserved
 loop-range-preserved c =

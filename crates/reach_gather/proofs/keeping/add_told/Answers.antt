@@ -1,6 +1,6 @@
 use Rattle.std.proofs.Common.{sym}
 use Rattle.reach_gather.proofs.Telling.{tell-more}
-use Rattle.reach_gather.proofs.kept.add_told.Goals as goal
+use Rattle.reach_gather.proofs.keeping.add_told.Goals as goal
 
 pub loop-i-preserved : goal.loop-i-preserved
 loop-i-preserved c =
