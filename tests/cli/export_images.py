@@ -1,8 +1,9 @@
 #!/usr/bin/env python3
-"""Writes small containers whose names a folder has to take with care.
+"""Writes small containers whose names a folder has to take with care, and a damaged one for `apfs-rescue`.
 
     export_images.py names IMAGE    names of dots, of control characters, with a backslash, and a link
     export_images.py long IMAGE     the folder `a` with a file, then a name of 255 bytes that is written with 258, then the file `z`
+    export_images.py rescue IMAGE   six files that can be read, and beside them an entry without an inode, a folder below itself, an extent outside the container, a name with a slash, one name twice, and one that is too long
 
 They are written by ../bench/container.py, which shares no code with the program. Each file holds its own name and a line's end.
 """
@@ -16,6 +17,11 @@ from container import BLOCK, FILE, FOLDER, Container, Volume, entry, extent, fol
 # A container's files: the name, the id of its folder, and whether it is one itself. The first has the id 16.
 NAMES = [("..", 2, True), ("..", 16, False), (".", 16, False), (".", 2, False), ("...", 2, False), ("\x1b]0;x\x07", 2, False), ("a\\x2e", 2, False), ("b\x7f\n", 2, False)]
 LONG = [("a", 2, True), ("f", 16, False), ("m" * 254 + "\x01", 2, False), ("z", 2, False)]
+RESCUE = [("loop", 2, True), ("stop", 2, True), ("to", 2, True), ("in", 16, False), ("c", 17, False), ("a", 18, False), ("-n", 2, False), ("*", 2, False)]
+RESCUE += [("twice", 2, False), ("twice", 2, False), ("w/slash", 2, False), ("m" * 254 + "\x01", 2, False), ("z", 18, False)]
+# Records beside those of files: the folder `loop` is below itself, the entry `b` of the folder `stop` leads to no inode, and the only extent of the file `out` leaves the container.
+OUT = [entry(18, "out", 64, FILE), inode(64, 18, FILE, 1, 5), stream_id(64), extent(64, 0, BLOCK, 2**40)]
+ODD = {"rescue": [entry(16, "again", 16, FOLDER), entry(17, "b", 99, FILE), *OUT]}
 
 
 def records_of(files, container):
@@ -36,8 +42,8 @@ def records_of(files, container):
 def main():
     container = Container()
     volume = Volume(container)
-    records, ranges = records_of({"names": NAMES, "long": LONG}[sys.argv[1]], container)
-    volume.finish(volume.files(records), ranges)
+    records, ranges = records_of({"names": NAMES, "long": LONG, "rescue": RESCUE}[sys.argv[1]], container)
+    volume.finish(volume.files(records + ODD.get(sys.argv[1], [])), ranges)
     container.finish(sys.argv[2])
 
 
