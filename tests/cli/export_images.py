@@ -5,14 +5,17 @@
     export_images.py long IMAGE     the folder `a` with a file, then a name of 255 bytes that is written with 258, then the file `z`
     export_images.py rescue IMAGE   six files that can be read, and beside them an entry without an inode, a folder below itself, an extent outside the container, a name with a slash, one name twice, and one that is too long
 
+    export_images.py sealed IMAGE   two volumes, each with the file `f`, of which the second says that it is sealed
+
 They are written by ../bench/container.py, which shares no code with the program. Each file holds its own name and a line's end.
 """
 import os
+import struct
 import sys
 
 sys.dont_write_bytecode = True
 sys.path.insert(0, os.path.join(os.path.dirname(os.path.dirname(os.path.abspath(__file__))), "bench"))
-from container import BLOCK, FILE, FOLDER, Container, Volume, entry, extent, folders, inode, stream_id
+from container import BLOCK, FILE, FOLDER, Container, Volume, entry, extent, folders, inode, stream_id, sum_of
 
 # A container's files: the name, the id of its folder, and whether it is one itself. The first has the id 16.
 NAMES = [("..", 2, True), ("..", 16, False), (".", 16, False), (".", 2, False), ("...", 2, False), ("\x1b]0;x\x07", 2, False), ("a\\x2e", 2, False), ("b\x7f\n", 2, False)]
@@ -39,8 +42,22 @@ def records_of(files, container):
     return records, ranges
 
 
+def seal(container):
+    """Sets the incompatible features of the volume that was put last: case insensitive, and sealed."""
+    at = max(block for block, data in container.blocks.items() if data[32:36] == b"APSB")
+    data = container.blocks[at][:56] + struct.pack("<Q", 0x21) + container.blocks[at][64:]
+    container.blocks[at] = struct.pack("<Q", sum_of(data)) + data[8:]
+
+
 def main():
     container = Container()
+    if sys.argv[1] == "sealed":
+        for _ in range(2):
+            volume = Volume(container)
+            volume.finish(volume.files(records_of([("f", 2, False)], container)[0]))
+        seal(container)
+        container.finish(sys.argv[2])
+        return
     volume = Volume(container)
     records, ranges = records_of({"names": NAMES, "long": LONG, "rescue": RESCUE}[sys.argv[1]], container)
     volume.finish(volume.files(records + ODD.get(sys.argv[1], [])), ranges)
