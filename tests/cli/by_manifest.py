@@ -9,6 +9,8 @@ it was made.
                                                  exports every view into new folders, and names what differs in text, names, contents or rights
     by_manifest.py --start FOLDER WHOLE MANIFESTS
                                                  whether a folder holds a start of what the live view gives, which the folder WHOLE has, and how many entries
+    by_manifest.py --rescued FOLDER MANIFESTS [SNAPSHOT]
+                                                 whether each path of a view is in a folder of apfs-rescue as it should be, or among those that failed
 
 MANIFESTS is a folder of tests/images/manifests. It knows nothing of the program under test, and reads no image.
 """
@@ -268,6 +270,28 @@ def tell_start(folder, whole, manifests):
     return f"part {len(first)}" if (kind, rights) == all_of_it[:2] and kind == "-" and all_of_it[2].startswith(data) else f"wrong: {first[-1]}"
 
 
+def tell_rescued(folder, manifests, snapshot=None):
+    """Tells whether a folder of apfs-rescue has each file of a view with its bytes, but for those that its list names, or that are below a directory that it names; whether the list names all that is
+    neither a file nor a directory; and that nothing else is there. Answers how many files there are and how many paths the list has, or `wrong` and a path."""
+    found, rows = found_in(os.path.join(folder, "files").encode()), dict(entries_of(views_of(manifests)[snapshot]))
+    lines = open(os.path.join(folder, "failed"), "rb").read().split(b"\n")[:-1]
+    listed = {line.split(b": ")[0][1:] for line in lines}
+    if len(listed) != len(lines) or sorted(os.listdir(folder)) != ["failed", "files"]:
+        return f"wrong: {len(lines)} lines, {sorted(os.listdir(folder))}"
+    for path in {*rows, *found, *listed} - {b""}:
+        parts, file, (kind, _, data) = path.split(b"/"), rows.get(path), found.get(path, (None, None, None))
+        is_below = any(b"/".join(parts[:n]) in listed for n in range(len(parts)))
+        is_missing = file is not None and kind is None and (path in listed) != is_below
+        is_folder = file is not None and file.is_directory() and kind == "d" and not is_below
+        is_file = file is not None and file.kind == kind == "-" and hash_of(data) == file.sum and not is_below and path not in listed
+        if not (is_missing or is_folder or is_file):
+            return f"wrong: {path!r}"
+    return f"{sum(kind == '-' for kind, _, _ in found.values())} files, {len(lines)} failed"
+
+
+if sys.argv[1] == "--rescued":
+    print(tell_rescued(*sys.argv[2:5]))
+    sys.exit(0)
 if sys.argv[1] == "--export":
     sys.exit(0 if compare_exports(*sys.argv[2:5]) else 1)
 if sys.argv[1] == "--start":
