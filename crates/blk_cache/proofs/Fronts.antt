@@ -1,9 +1,9 @@
--- What a list of pairs has once one of them was moved to its head, or one was put there.
-use Rattle.std.proofs.Common.{◌≡◌, Bool, true, false, List, [], ◌∷◌, length, Option, Some, None, is_some, refl, ap, ◌∙◌, arith}
+-- What a list of pairs has once one of them was moved to its head or to its end, or one was put at its head.
+use Rattle.std.proofs.Common.{◌≡◌, Bool, true, false, List, [], ◌∷◌, ◌++◌, length, Option, Some, None, is_some, refl, ap, ◌∙◌, arith, length-append}
 use Rattle.std.specs.Prelude.{cond}
 use Rattle.std.specs.Option.{option_map_or}
 use Rattle.std.specs.Map.{lookup, lookup_entry, remove_entry}
-use Rattle.lru.specs.LruCache.{promoted}
+use Rattle.lru.specs.LruCache.{promoted, demoted}
 
 -- which of two pairs is asked first doesn't matter for whether one is found
 swap : {V : Type 0} (a b : Bool) (x y : V) (o : Option V) → is_some (cond a (Some x) (cond b (Some y) o)) ≡ is_some (cond b (Some y) (cond a (Some x) o))
@@ -20,6 +20,11 @@ under false x o p e = e
 pub more : {V : Type 0} (a : Bool) (x : V) (o : Option V) → is_some o ≡ true → is_some (cond a (Some x) o) ≡ true
 more true x o e = refl
 more false x o e = e
+
+-- a pair is found at the end of others as at their head
+back-found : {K V : Type 0} (u : K → Bool) (es : List (K × V)) (e : K × V) → is_some (lookup u (es ++ e ∷ [])) ≡ is_some (lookup u (e ∷ es))
+back-found u [] e = refl
+back-found u (f ∷ es) e = under (u f.0) f.1 (lookup u (es ++ e ∷ [])) (lookup u (e ∷ es)) (back-found u es e) ∙ swap (u f.0) (u e.0) f.1 e.1 (lookup u es)
 
 module _ {K V : Type 0} (test : K → Bool) where
   -- a pair that is moved to the head is found as before
@@ -51,6 +56,21 @@ module _ {K V : Type 0} (test : K → Bool) where
 
   pub promoted-length : (es : List (K × V)) → length (promoted test es) ≡ length es
   promoted-length es = length-case es (lookup_entry test es) refl
+
+  demoted-case : (u : K → Bool) (es : List (K × V)) (o : Option (K × V)) → lookup_entry test es ≡ o → is_some (lookup u (option_map_or (λ e. remove_entry test es ++ e ∷ []) o es)) ≡ is_some (lookup u es)
+  demoted-case u es None h = refl
+  demoted-case u es (Some e) h = back-found u (remove_entry test es) e ∙ front-found u es e h
+
+  -- what is demoted is found as before
+  pub demoted-found : (u : K → Bool) (es : List (K × V)) → is_some (lookup u (demoted test es)) ≡ is_some (lookup u es)
+  demoted-found u es = demoted-case u es (lookup_entry test es) refl
+
+  back-case : (es : List (K × V)) (o : Option (K × V)) → lookup_entry test es ≡ o → length (option_map_or (λ e. remove_entry test es ++ e ∷ []) o es) ≡ length es
+  back-case es None h = refl
+  back-case es (Some e) h = omega (arith, length-append (remove_entry test es) (e ∷ []), front-length es e h)
+
+  pub demoted-length : (es : List (K × V)) → length (demoted test es) ≡ length es
+  demoted-length es = back-case es (lookup_entry test es) refl
 
   -- where no value is found no pair is
   pub no-entry : (es : List (K × V)) → is_some (lookup test es) ≡ false → lookup_entry test es ≡ None

@@ -4,15 +4,15 @@ use Rattle.std.proofs.lemmas.Grind.{common_steps}
 use Rattle.std.proofs.lemmas.Bool.Decides.{nat_tests}
 use Rattle.std.specs.Map.{lookup}
 use Rattle.std.specs.declared.alloc.Global.{Global}
-use Rattle.lru.specs.LruCache.{LruCache, lru_cache, promoted}
-use Rattle.lru.proofs.CallerLemmas.{Contains-lookup, Contains-promoted}
+use Rattle.lru.specs.LruCache.{LruCache, lru_cache, promoted, demoted}
+use Rattle.lru.proofs.CallerLemmas.{Contains-lookup, Contains-promoted, Contains-demoted}
 use Rattle.apfs_model.specs.Source.{IsKept}
 use Rattle.apfs_model.specs.Blocks.{block_of}
 use Rattle.obj_base.specs.BlockSize.{is_accepted}
-use Rattle.blk_cache.specs.Keeping.{keeps, Touches, IsCopy, IsCache, Grows, IsSame}
+use Rattle.blk_cache.specs.Keeping.{keeps, Touches, IsCopy, IsCache, Grows, IsSame, IsReordered}
 use Rattle.blk_cache.specs.declared.store.Store.{Store}
 use Rattle.std.specs.Prelude.{IfSome, slice_range, ◌/◌}
-use Rattle.blk_cache.proofs.Fronts.{promoted-found, promoted-length}
+use Rattle.blk_cache.proofs.Fronts.{promoted-found, promoted-length, demoted-found, demoted-length}
 use Rattle.apfs_model.specs.Source.{Copies}
 use Rattle.blk_cache.proofs.Ranges.{range-range, range-clip}
 
@@ -71,6 +71,17 @@ served_grows old new block e size lost = record {
   lost_later = omega (arith, lost);
 }
 
+-- a block that was made the next one to go
+pub demoted_same : (old new : Store) (block : ℕ) → new.blocks ≡ lru_cache (demoted (nat_eq block) old.blocks.entries) old.blocks.cap → new.size ≡ old.size → new.lost ≡ old.lost → IsReordered old new
+demoted_same old new block e size lost = record {
+  same_size = size;
+  same_cap = ap (λ (c : Blocks). c.cap) e;
+  same_length = ap (λ (c : Blocks). length c.entries) e ∙ demoted-length (nat_eq block) old.blocks.entries;
+  same_blocks = λ b. ap (λ (c : Blocks). is_some (lookup (nat_eq b) c.entries)) e ∙ demoted-found (nat_eq block) (nat_eq b) old.blocks.entries;
+  within = λ entry there. Contains-demoted (nat_eq block) old.blocks.entries entry (subst (λ (c : Blocks). Contains c.entries entry) e there);
+  same_lost = lost;
+}
+
 -- a cache stays as it was where nothing was kept
 pub lost_grows : (old new : Store) → new.blocks ≡ old.blocks → new.size ≡ old.size → old.lost ≤ new.lost → Grows old new
 lost_grows old new e size later = record {
@@ -116,6 +127,14 @@ module _ {S : Type 0} (bytes : S → Option (List ℕ)) (bytes_len : S → ℕ) 
     copies = λ entry there.
         subst (λ (n : ℕ). IsCopy bytes bytes_len inner n entry) (sym size)
         (cache.copies entry (Contains-promoted (nat_eq block) old.blocks.entries entry (subst (λ (c : Blocks). Contains c.entries entry) e there)));
+  }
+
+  pub reordered_cache : (inner : S) (old new : Store) → IsCache bytes bytes_len inner old → IsReordered old new → IsCache bytes bytes_len inner new
+  reordered_cache inner old new cache order = record {
+    accepted = ap is_accepted order.same_size ∙ cache.accepted;
+    room = omega (arith, cache.room, order.same_cap);
+    fits = omega (arith, cache.fits, order.same_length, order.same_cap);
+    copies = λ entry there. subst (λ (n : ℕ). IsCopy bytes bytes_len inner n entry) (sym order.same_size) (cache.copies entry (order.within entry there));
   }
 
   pub lost_cache : (inner : S) (old new : Store) → IsCache bytes bytes_len inner old → new.blocks ≡ old.blocks → new.size ≡ old.size → IsCache bytes bytes_len inner new

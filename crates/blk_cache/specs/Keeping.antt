@@ -51,3 +51,12 @@ pub record Grows (old new : Store) : Type 0 where
 pub record IsSame (old new : Store) : Type 0 where
   pub same_blocks : (block : ℕ) → keeps new block ≡ keeps old block
   pub same_lost : new.lost ≡ old.lost
+
+-- the same blocks are kept, maybe in another order
+pub record IsReordered (old new : Store) : Type 0 where
+  pub same_size : new.size ≡ old.size
+  pub same_cap : new.blocks.cap ≡ old.blocks.cap
+  pub same_length : length new.blocks.entries ≡ length old.blocks.entries
+  pub same_blocks : (block : ℕ) → keeps new block ≡ keeps old block
+  pub within : (entry : ℕ × Vec ℕ Global) → Contains new.blocks.entries entry → Contains old.blocks.entries entry
+  pub same_lost : new.lost ≡ old.lost

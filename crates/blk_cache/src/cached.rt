@@ -5,7 +5,7 @@ ghost use Rattle.apfs_model.specs.Source.{Copies};
 ghost use Rattle.obj_base.specs.BlockSize.{is_accepted};
 ghost use Rattle.blk_cache.specs.Keeping.{keeps, IsFull, Touches, last_touched, touched_count, IsCache};
 
-use crate::part::parts;
+use crate::part::read;
 use crate::store::Store;
 use blk_source::{BlockSource, ReadFailed};
 use lru::LruCache;
@@ -134,6 +134,6 @@ impl<S: BlockSource> BlockSource for Cached<S> {
         ensures capacity { self.new.store.blocks.cap ≡ self.old.store.blocks.cap }
     {
         self.reads = self.reads.saturating_add(1);
-        parts(self.alloc, &mut self.inner, &mut self.store, at, into)
+        read(self.alloc, &mut self.inner, &mut self.store, at, into)
     }
 }

@@ -2,7 +2,7 @@
 ghost use Rattle.std.specs.Prelude.{◌≡◌, ◌⊎◌, ◌+◌, ◌-◌, ◌*◌, ◌/◌, ◌%◌, ◌≤◌, ◌<◌, ℕ, List, Some, None, true, false, length, min, take, OnOk, OnErr, IfOk};
 ghost use Rattle.apfs_model.specs.Counts.{one_more, Rose};
 ghost use Rattle.apfs_model.specs.Source.{Copies, IsKept};
-ghost use Rattle.blk_cache.specs.Keeping.{keeps, Touches, last_touched, touched_count, IsCache, Grows, IsSame};
+ghost use Rattle.blk_cache.specs.Keeping.{keeps, Touches, last_touched, touched_count, IsCache, Grows, IsSame, IsReordered};
 
 use crate::store::Store;
 use blk_source::{BlockSource, ReadFailed};
@@ -224,9 +224,9 @@ fn step<S: BlockSource>(
     pass(inner, at, done, past, into)
 }
 
-/// Reads a piece. The last block that it touches is kept afterwards where there is memory. The others are read past the cache
-/// where they aren't kept, as many as stand side by side with one read.
-pub(crate) fn parts<S: BlockSource>(
+// Reads a piece. The last block that it touches is kept afterwards where there is memory. The others are read past the cache
+// where they aren't kept, as many as stand side by side with one read.
+fn parts<S: BlockSource>(
     alloc: Global,
     inner: &mut S,
     store: &mut Store,
@@ -250,5 +250,50 @@ pub(crate) fn parts<S: BlockSource>(
     while done < into.len() {
         done = step(alloc, inner, store, at, done, into)?;
     }
+    Ok(())
+}
+
+// Makes the last block of a piece that touches several the next one to go: contents are wanted once, and nodes again.
+fn demote_last(store: &mut Store, at: u64, len: usize)
+    requires size { 1 ≤ store.old.size }
+    requires some { 1 ≤ len }
+    requires fits { at + len < 18446744073709551616 }
+    ensures { IsReordered store.old store.new }
+{
+    let size = store.size as u64;
+    let last = (at + (len as u64 - 1)) / size;
+    if at / size < last {
+        store.demote(last);
+    }
+}
+
+/// Reads a piece. The last block that it touches is kept afterwards where there is memory, as the next one to go where it
+/// isn't the only one.
+pub(crate) fn read<S: BlockSource>(
+    alloc: Global,
+    inner: &mut S,
+    store: &mut Store,
+    at: u64,
+    into: &mut [u8],
+) -> Result<(), ReadFailed>
+    requires cache { IsCache S.bytes S.bytes_len inner.old store.old }
+    requires some { 1 ≤ length into.old }
+    requires short { length into.old ≤ 65536 }
+    requires inside { at + length into.old ≤ S.bytes_len inner.old }
+    ensures found { (image : List ℕ) → S.bytes inner.old ≡ Some image → OnOk result (Copies image at into.new) }
+    ensures cause { OnErr result (Rose (S.faults inner.old) (S.faults inner.new)) }
+    ensures kept { IsKept S.bytes S.bytes_len S.faults inner.old inner.new }
+    ensures cache { IsCache S.bytes S.bytes_len inner.new store.new }
+    ensures grows { Grows store.old store.new }
+    ensures last { OnOk result ((keeps store.new (last_touched store.old.size at (length into.old)) ≡ true) ⊎ Rose store.old.lost store.new.lost) }
+    ensures served { ((block : ℕ) → Touches store.old.size at (length into.old) block → keeps store.old block ≡ true) → (S.reads inner.new ≡ S.reads inner.old) × IsSame store.old store.new }
+    ensures once_each { S.reads inner.new ≤ S.reads inner.old + touched_count store.old.size at (length into.old) }
+{
+    let _size = inner.size();
+    match parts(alloc, inner, store, at, into) {
+        Ok(()) => {}
+        Err(fault) => return Err(fault),
+    }
+    demote_last(store, at, into.len());
     Ok(())
 }

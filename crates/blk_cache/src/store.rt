@@ -4,7 +4,7 @@ ghost use Rattle.std.specs.Map.{lookup};
 ghost use Rattle.std.specs.declared.alloc.Global.{Global};
 ghost use Rattle.lru.specs.LruCache.{lru_cache, promoted, put_entries};
 ghost use Rattle.apfs_model.specs.Counts.{one_more};
-ghost use Rattle.blk_cache.specs.Keeping.{keeps};
+ghost use Rattle.blk_cache.specs.Keeping.{keeps, IsReordered};
 
 use lru::LruCache;
 use std::alloc::Global;
@@ -41,6 +41,13 @@ impl Store {
             Some(bytes) => into.copy_from_slice(&bytes[from..from + into.len()]),
         }
         self.blocks.promote(&block)
+    }
+
+    /// Makes a block, where it is kept, the next one to go.
+    pub(crate) fn demote(&mut self, block: u64)
+        ensures { IsReordered self.old self.new }
+    {
+        self.blocks.demote(&block);
     }
 
     /// Counts a block that couldn't be kept.

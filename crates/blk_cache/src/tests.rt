@@ -4,13 +4,18 @@ use blk_source::{BlockSource, MemSource, SureSource};
 use std::alloc::Global;
 use std::test::Fail;
 
-// An image of 20,000 bytes: four blocks of 4,096 bytes, and a short one.
-fn image(alloc: Global) -> Result<Vec<u8>, Fail> {
+// So many bytes.
+fn bytes(alloc: Global, count: u32) -> Result<Vec<u8>, Fail> {
     let mut bytes = Vec::new(alloc);
-    for i in 0..20_000u32 {
+    for i in 0..count {
         bytes.push((i / 7 % 251) as u8)?;
     }
     Ok(bytes)
+}
+
+// An image of 20,000 bytes: four blocks of 4,096 bytes, and a short one.
+fn image(alloc: Global) -> Result<Vec<u8>, Fail> {
+    bytes(alloc, 20_000)
 }
 
 // The bytes of a source from a place on.
@@ -79,5 +84,46 @@ fn what_is_kept_is_not_read_again(rt: HostRuntime) -> Result<(), Fail> {
     }
     assert_eq!(rt; (cached.inner().read_count(), cached.lost()), (9, 0));
     assert_eq!(rt; cached.into_inner().fault_count(), 1);
+    Ok(())
+}
+
+// Two nodes, and contents whose last blocks are 3, 5 and 8.
+const NODES_AND_CONTENTS: [(u16, u16); 5] = [
+    (0, 4096),
+    (4096, 4096),
+    (8192, 8192),
+    (16_384, 8192),
+    (24_576, 12_288),
+];
+
+#[test]
+fn reads_of_several_blocks_push_out_one_block_at_most(rt: HostRuntime) -> Result<(), Fail> {
+    let alloc = rt.alloc();
+    let source = SureSource::new(bytes(alloc, 36_864)?);
+    let mut cached = Cached::new(alloc, source, 4096, 3).or(Err("no memory"))?;
+    for (at, len) in NODES_AND_CONTENTS {
+        let _piece = piece(alloc, &mut cached, at, len)?;
+    }
+    assert_eq!(rt;
+        (
+            cached.kept(0),
+            cached.kept(1),
+            cached.kept(3),
+            cached.kept(5),
+            cached.kept(8)
+        ),
+        (true, true, false, false, true)
+    );
+    // A third node takes the place of contents.
+    let _node = piece(alloc, &mut cached, 8192, 4096)?;
+    assert_eq!(rt;
+        (
+            cached.kept(0),
+            cached.kept(1),
+            cached.kept(2),
+            cached.kept(8)
+        ),
+        (true, true, true, false)
+    );
     Ok(())
 }

@@ -11,7 +11,7 @@ use std::marker::Model;
 use vol_view::{View, Volume};
 
 // The bytes that are copied at once.
-const PIECE: usize = 4096;
+const PIECE: usize = 65536;
 
 /// A stream: its extents, sorted by where they start, and its size in bytes. It holds no source: each call that reads is
 /// handed the source from which it was opened.
@@ -148,7 +148,7 @@ impl Stream {
         }
     }
 
-    /// Copies the whole stream into a sink, in pieces of at most 4,096 bytes. After an error the sink has a front of the
+    /// Copies the whole stream into a sink, in pieces of at most 65,536 bytes. After an error the sink has a prefix of the
     /// bytes. Where the source doesn't tell its bytes, one part of which nothing is known was put. Takes no memory.
     pub fn copy_to<S: BlockSource, W: Sink>(
         &self,

@@ -9,7 +9,7 @@ use crate::tests::formatted::FORMAT_CASES;
 use crate::tests::generated::{GEN, GEN_CASES, GEN_TEXT};
 use crate::tests::images::{Image, image_bytes, opened};
 use crate::tests::uses::{USAGE, USAGE_CASES, VIEWS_USED};
-use crate::tests::{Ended, NOTHING, ROOM, Refused, end, end_export, end_on, ended_so, ended_with};
+use crate::tests::{Ended, NOTHING, Refused, end, end_export, end_on, ended_so, ended_with};
 use apfs_layout::container::{DESC_INDEX, FS_OID};
 use apfs_layout::node::COUNT;
 use img_changes::cases::{END, FILES, HELLO, MAP_ROOT, SNAPSHOTS as TWO_SNAPSHOTS};
@@ -218,19 +218,29 @@ fn what_is_named_of_a_hostile_image_is_there(rt: HostRuntime) -> Result<(), Fail
     Ok(())
 }
 
+// More than the longest text of a run.
+const LONG_ROOM: usize = 70_000;
+
 // What a run writes that isn't stopped.
 #[derive(Clone, Copy)]
 enum Text {
     Lines(&'static str),
     /// The contents of the file `hole`.
     Hole,
+    /// The same after a hole of 65,536 bytes.
+    LongHole,
+}
+
+// So many zeros, and 904 times a byte.
+fn zeros_then(alloc: Global, zeros: usize, byte: u8) -> Result<Vec<u8>, AllocError> {
+    let mut contents = vec![in alloc; 0u8; zeros]?;
+    contents.extend_from_slice(&[byte; 904])?;
+    Ok(contents)
 }
 
 // 4,096 zeros, and 904 times a byte.
 pub fn hole_then(alloc: Global, byte: u8) -> Result<Vec<u8>, AllocError> {
-    let mut contents = vec![in alloc; 0u8; 4096]?;
-    contents.extend_from_slice(&[byte; 904])?;
-    Ok(contents)
+    zeros_then(alloc, 4096, byte)
 }
 
 impl Text {
@@ -238,6 +248,7 @@ impl Text {
         match self {
             Text::Lines(lines) => lines.as_bytes().to_vec(alloc),
             Text::Hole => hole_then(alloc, b'A'),
+            Text::LongHole => zeros_then(alloc, 65_536, b'A'),
         }
     }
 }
@@ -299,18 +310,17 @@ const STOPPED_RUNS: &[Stopped] = &[
         words: &["cat", "x", "/hole"],
         text: Text::Hole,
         reads: (16, 90),
-        put_before_the_last_read: 4096,
-        put_before: &[0, 4096],
         ..AT_ONCE
     },
+    // Contents are put in pieces of 65,536 bytes, and the first of these two is a hole.
     Stopped {
         name: "cat --quick",
-        image: Image::Made((Sample::P, &[], &[]), &[]),
+        image: Image::Streamed(66_440, &[(0, 65_536, 0), (65_536, 4096, 57)]),
         words: CAT_HOLE,
-        text: Text::Hole,
+        text: Text::LongHole,
         reads: (20, 39),
-        put_before_the_last_read: 4096,
-        put_before: &[0, 4096],
+        put_before_the_last_read: 65_536,
+        put_before: &[0, 65_536],
         ..AT_ONCE
     },
     Stopped {
@@ -471,7 +481,7 @@ fn held_after(run: &Stopped, calls: usize) -> &'static str {
 // Ends a run, with what is refused.
 fn end_run(alloc: Global, run: &Stopped, on: &Prepared, refused: Refused) -> Result<Ended, Fail> {
     let image = opened(run.image, on.image.clone()?, [refused.read].to_vec(alloc)?);
-    end_on(alloc, image, run.words, ROOM, refused)
+    end_on(alloc, image, run.words, LONG_ROOM, refused)
 }
 
 // Refuses each read of a run in turn, and says whether it ends with 3.

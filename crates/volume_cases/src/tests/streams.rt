@@ -17,6 +17,9 @@ const FILE: u64 = 16;
 
 const SIZE: u64 = 5000;
 
+// More than a piece, of 65,536 bytes.
+const LONG: u64 = 70_000;
+
 // The node of the view's records, and the start of the value of the second extent: a length of 4,096 and block 57.
 const LEAF: usize = 54;
 
@@ -48,8 +51,8 @@ fn edited(alloc: Global, at: usize, byte: u8) -> Result<MemSource, Fail> {
     Ok(MemSource::new(image, Vec::new(alloc)))
 }
 
-// The stream of an id in the live view; a fault of the layers below is no answer of these tests.
-fn open(alloc: Global, src: &mut MemSource, id: u64) -> Result<Stream, Stop<StreamStop>>
+// The stream of an id in the live view, with a size; a fault of the layers below is no answer of these tests.
+fn open(alloc: Global, src: &mut MemSource, id: u64, size: u64) -> Result<Stream, Stop<StreamStop>>
     ensures { IfOk result (λ stream. IsSiteFor stream.site (length src.new.bytes)) }
 {
     let Ok(cp) = newest(alloc, src) else {
@@ -72,7 +75,7 @@ fn open(alloc: Global, src: &mut MemSource, id: u64) -> Result<Stream, Stop<Stre
         &volume,
         &live(&volume, &cp),
         id,
-        SIZE,
+        size,
         &cp.site(),
     )
 }
@@ -81,7 +84,7 @@ fn open(alloc: Global, src: &mut MemSource, id: u64) -> Result<Stream, Stop<Stre
 fn a_hole_is_zeros_and_the_size_is_the_end(rt: HostRuntime) -> Result<(), Fail> {
     let alloc = rt.alloc();
     let mut src = MemSource::new(made(alloc)?, Vec::new(alloc));
-    let Ok(stream) = open(alloc, &mut src, FILE) else {
+    let Ok(stream) = open(alloc, &mut src, FILE, SIZE) else {
         panic!(rt; "there is no stream");
     };
     let mut into = [1u8; 20];
@@ -99,10 +102,10 @@ fn a_hole_is_zeros_and_the_size_is_the_end(rt: HostRuntime) -> Result<(), Fail> 
 // How a copy ends into a sink with room for the bytes that refuses the put of this number, and how many it then has.
 fn copied(alloc: Global, id: u64, put: u64) -> Result<(Result<(), CopyFault>, usize), Fail> {
     let mut src = MemSource::new(made(alloc)?, Vec::new(alloc));
-    let Ok(stream) = open(alloc, &mut src, id) else {
+    let Ok(stream) = open(alloc, &mut src, id, LONG) else {
         return Err(Fail::from("there is no stream"));
     };
-    let mut out = MemSink::new(alloc, 5000, vec![in alloc; put]?)?;
+    let mut out = MemSink::new(alloc, LONG as usize, vec![in alloc; put]?)?;
     let end = stream.copy_to(&mut src, &mut out);
     Ok((end, out.contents().len()))
 }
@@ -110,8 +113,11 @@ fn copied(alloc: Global, id: u64, put: u64) -> Result<(Result<(), CopyFault>, us
 #[test]
 fn a_copy_goes_in_pieces_up_to_a_refused_one(rt: HostRuntime) -> Result<(), Fail> {
     let alloc = rt.alloc();
-    assert_eq!(rt; copied(alloc, FILE, 3)?, (Ok(()), 5000));
-    assert_eq!(rt; copied(alloc, FILE, 2)?, (Err(CopyFault::WriteFault), 4096));
+    assert_eq!(rt; copied(alloc, FILE, 3)?, (Ok(()), 70_000));
+    assert_eq!(rt;
+        copied(alloc, FILE, 2)?,
+        (Err(CopyFault::WriteFault), 65_536)
+    );
     // No extent is of this id, so each byte is a zero.
     assert_eq!(rt; copied(alloc, 99, 1)?, (Err(CopyFault::WriteFault), 0));
     Ok(())
@@ -129,7 +135,7 @@ fn extents_that_are_wrong(rt: HostRuntime) -> Result<(), Fail> {
         (8, 0, None),
     ];
     for (at, byte, stop) in cases {
-        match open(alloc, &mut edited(alloc, at, byte)?, FILE) {
+        match open(alloc, &mut edited(alloc, at, byte)?, FILE, SIZE) {
             Ok(_) => assert!(rt; stop.is_none(), "{at}"),
             Err(other) => assert_eq!(rt; Some(other), stop.map(Stop::Found), "{at}"),
         }
