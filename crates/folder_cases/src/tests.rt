@@ -1,253 +1,381 @@
-// What a real directory gets of what is put into it, and what stays as it was.
+// What real directories get of what is put into them, and what stays as it was.
+use apfs_model::WriteFailed;
 use blk_folder::{DirFolder, Folder};
 use std::alloc::{AllocError, Global};
-use std::os::unix::fs::{PermissionsExt, symlink};
+use std::os::unix::fs::symlink;
 use std::test::Fail;
-use std::{env, fs, process};
+use std::{env, fs, io, process};
 
-// A directory, a file in it that is put in two pieces, and a file without bytes.
-fn fill<F: Folder>(folder: &mut F) -> Result<(), Fail> {
-    folder.make_dir("d")?;
-    folder.start_file("d/f")?;
-    folder.append(b"hel")?;
-    folder.append(b"lo")?;
-    folder.start_file("e")?;
-    Ok(())
+// What stands at a path: a directory, a file with a text, or a link that leads to a path.
+#[derive(Clone, Copy)]
+enum Thing {
+    Directory,
+    File(&'static str),
+    Link(&'static str),
 }
 
-// Whether neither a directory nor a file can be put at a path.
-fn is_refused<F: Folder>(folder: &mut F, path: &str) -> bool {
-    folder.make_dir(path).is_err() && folder.start_file(path).is_err()
+use Thing::{Directory, File, Link};
+
+type Row = (&'static str, Thing);
+
+// What is put into a folder: a directory, or a file with a text, at a path. At a path that is refused neither can be put.
+#[derive(Clone, Copy)]
+enum Call {
+    Makes(&'static str),
+    Writes(&'static str, &'static str),
+    Refuses(&'static str),
 }
 
-// The rights of what stands at a path.
-fn rights(rt: &HostRuntime, path: &str) -> Result<u32, Fail> {
-    Ok(fs::symlink_metadata(rt, path)?.permissions().mode() & 0o777)
+use Call::{Makes, Refuses, Writes};
+
+// A folder that is filled. All paths but those of calls start at the case's own directory, and parents come first.
+struct Case {
+    // What stands there before, which stays.
+    standing: &'static [Row],
+    // The directory that is filled. None is an empty path.
+    into: Option<&'static str>,
+    calls: &'static [Call],
+    // What stands there afterwards besides.
+    put: &'static [Row],
 }
 
-// A real directory that has another one beside it.
-#[derive(Drop)]
-struct Dirs {
-    top: String,
-    dir: String,
-    beside: String,
-}
+const ONE: &[Row] = &[("dir", Directory)];
 
-fn make_dirs(rt: &HostRuntime, name: &str) -> Result<Dirs, Fail> {
-    let alloc = rt.alloc();
-    let number = process::id(rt.process());
-    let below = format!(in alloc; "{name}.{number}")?;
-    let top = env::temp_dir(rt)?
-        .join(alloc, below.as_str())?
-        .into_string();
-    let dir = format!(in alloc; "{top}/dir")?;
-    let beside = format!(in alloc; "{top}/beside")?;
-    fs::create_dir(rt, &top)?;
-    fs::create_dir(rt, &dir)?;
-    fs::create_dir(rt, &beside)?;
-    Ok(Dirs { top, dir, beside })
-}
-
-#[test]
-fn a_real_directory_gets_what_is_put(rt: HostRuntime) -> Result<(), Fail> {
-    let alloc = rt.alloc();
-    let dirs = make_dirs(&rt, "folder_cases")?;
-    let mut folder = DirFolder::new(&rt, dirs.dir.clone()?);
-    fill(&mut folder)?;
-    let file = format!(in alloc; "{}/d/f", dirs.dir)?;
-    assert_eq!(rt; fs::read(&rt, &file)?.as_slice(), b"hello".as_slice());
-    let empty = format!(in alloc; "{}/e", dirs.dir)?;
-    assert_eq!(rt; fs::read(&rt, &empty)?.len(), 0);
-    // The mask takes the same away from all rights: what is left of them to a file and to a directory says what it lets through.
-    let plain = format!(in alloc; "{}/plain", dirs.beside)?;
-    fs::write(&rt, &plain, b"")?;
-    assert_eq!(rt; rights(&rt, &file)?, rights(&rt, &plain)? & 0o644);
-    let directory = format!(in alloc; "{}/d", dirs.dir)?;
-    assert_eq!(rt;
-        rights(&rt, &directory)?,
-        rights(&rt, &dirs.beside)? & 0o755
-    );
-    fs::remove_dir_all(&rt, &dirs.top)?;
-    Ok(())
-}
-
-// Where something stands in a real directory, or leads elsewhere from there, or stands below what is no directory.
-const STANDING: &[&str] = &[
-    "file",
-    "file/x",
-    "directory",
-    "directory/file",
-    "directory/file/x",
-    "to_file",
-    "to_file/x",
-    "to_directory",
-    "to_directory/x",
-    "to_directory/file",
-    "to_directory/../x",
-    "directory/up",
-    "directory/up/x",
-    "directory/up/file",
-    "to_itself",
-    "to_itself/x",
-    "missing/x",
+// Files, a directory, and links to these, to the directory above, and to itself; and `d`, a real directory beyond a link.
+const LINKED: &[Row] = &[
+    ("dir", Directory),
+    ("dir/file", File("old")),
+    ("dir/directory", Directory),
+    ("dir/directory/file", File("old")),
+    ("dir/directory/d", Directory),
+    ("dir/directory/up", Link("..")),
+    ("dir/to_file", Link("file")),
+    ("dir/to_directory", Link("directory")),
+    ("dir/to_itself", Link("to_itself")),
 ];
 
-// Fills a real directory with files, a directory, and links to these, to the directory above and to itself.
-fn stand(rt: &HostRuntime, dir: &str) -> Result<(), Fail> {
-    let alloc = rt.alloc();
-    fs::write(rt, format!(in alloc; "{dir}/file")?, b"old")?;
-    fs::create_dir(rt, format!(in alloc; "{dir}/directory")?)?;
-    fs::write(rt, format!(in alloc; "{dir}/directory/file")?, b"old")?;
-    symlink(rt, "file", format!(in alloc; "{dir}/to_file")?)?;
-    symlink(rt, "directory", format!(in alloc; "{dir}/to_directory")?)?;
-    symlink(rt, "..", format!(in alloc; "{dir}/directory/up")?)?;
-    symlink(rt, "to_itself", format!(in alloc; "{dir}/to_itself")?)?;
+const OUTSIDE: &[Row] = &[
+    ("beside", Directory),
+    ("dir", Directory),
+    ("dir/link", Link("../beside")),
+    ("dir/dangling", Link("../beside/missing")),
+];
+
+const NO_DIRECTORY: &[Row] = &[("file", File("old")), ("link", Link("missing"))];
+
+const REACHED: &[Row] = &[("dir", Directory), ("to_dir", Link("dir"))];
+
+const CASES: &[Case] = &[
+    Case {
+        standing: ONE,
+        into: Some("dir"),
+        calls: &[Makes("d"), Writes("d/f", "hello"), Writes("e", "")],
+        put: &[
+            ("dir/d", Directory),
+            ("dir/d/f", File("hello")),
+            ("dir/e", File("")),
+        ],
+    },
+    // A file is closed by the next one, by a refusal, by a directory, and at the end.
+    Case {
+        standing: ONE,
+        into: Some("dir"),
+        calls: &[
+            Writes("a", "1"),
+            Writes("b", "2"),
+            Refuses("b"),
+            Writes("c", "3"),
+            Makes("d"),
+            Writes("e", "4"),
+        ],
+        put: &[
+            ("dir/a", File("1")),
+            ("dir/b", File("2")),
+            ("dir/c", File("3")),
+            ("dir/d", Directory),
+            ("dir/e", File("4")),
+        ],
+    },
+    // What stands stays, and a refusal refuses nothing else.
+    Case {
+        standing: LINKED,
+        into: Some("dir"),
+        calls: &[
+            Refuses("file"),
+            Refuses("file/x"),
+            Refuses("directory"),
+            Refuses("directory/file"),
+            Refuses("directory/file/x"),
+            Refuses("to_file"),
+            Refuses("to_file/x"),
+            Refuses("to_directory"),
+            Refuses("to_directory/x"),
+            Refuses("to_directory/file"),
+            Refuses("to_directory/d/x"),
+            Refuses("to_directory/../x"),
+            Refuses("directory/up"),
+            Refuses("directory/up/x"),
+            Refuses("directory/up/file"),
+            Refuses("to_itself"),
+            Refuses("to_itself/x"),
+            Refuses("missing/x"),
+            Makes("d"),
+            Writes("d/f", "hello"),
+            Writes("e", ""),
+        ],
+        put: &[
+            ("dir/d", Directory),
+            ("dir/d/f", File("hello")),
+            ("dir/e", File("")),
+        ],
+    },
+    // After something was put a parent of the same name elsewhere, or of a longer one, is asked for all the same.
+    Case {
+        standing: LINKED,
+        into: Some("dir"),
+        calls: &[
+            Makes("d"),
+            Makes("d/up"),
+            Refuses("directory/up/x"),
+            Makes("to"),
+            Refuses("to_directory/x"),
+            Writes("to/f", "old"),
+            Refuses("to/f/x"),
+            Makes("directory/d/d"),
+            Refuses("to_directory/d/d/x"),
+            Writes("directory/d/d/x", "new"),
+        ],
+        put: &[
+            ("dir/d", Directory),
+            ("dir/d/up", Directory),
+            ("dir/to", Directory),
+            ("dir/to/f", File("old")),
+            ("dir/directory/d/d", Directory),
+            ("dir/directory/d/d/x", File("new")),
+        ],
+    },
+    // Nothing leaves the directory.
+    Case {
+        standing: OUTSIDE,
+        into: Some("dir"),
+        calls: &[
+            Refuses(""),
+            Refuses("."),
+            Refuses(".."),
+            Refuses("/"),
+            Refuses("/x"),
+            Refuses("../x"),
+            Refuses("./x"),
+            Refuses("x/"),
+            Refuses("x//y"),
+            Refuses("d/../../x"),
+            Refuses("x\0y"),
+            Refuses("link"),
+            Refuses("link/x"),
+            Refuses("link/../x"),
+            Refuses("dangling"),
+            Refuses("dangling/x"),
+        ],
+        put: &[],
+    },
+    // With an empty path the name would stand at the system's root.
+    Case {
+        standing: NO_DIRECTORY,
+        into: None,
+        calls: &[Refuses("apfs-folder-cases")],
+        put: &[],
+    },
+    Case {
+        standing: NO_DIRECTORY,
+        into: Some("file"),
+        calls: &[Refuses("x")],
+        put: &[],
+    },
+    Case {
+        standing: NO_DIRECTORY,
+        into: Some("link"),
+        calls: &[Refuses("x")],
+        put: &[],
+    },
+    Case {
+        standing: NO_DIRECTORY,
+        into: Some("missing"),
+        calls: &[Refuses("x")],
+        put: &[],
+    },
+    // The directory may be reached over a link, and its path may end with a slash.
+    Case {
+        standing: REACHED,
+        into: Some("to_dir"),
+        calls: &[Makes("x")],
+        put: &[("dir/x", Directory)],
+    },
+    Case {
+        standing: REACHED,
+        into: Some("dir/"),
+        calls: &[Makes("x")],
+        put: &[("dir/x", Directory)],
+    },
+];
+
+// What is wrong with a case: a call that doesn't go as it has to, a call after which other files are open, files that are open at
+// the end, a row that doesn't stand, or the number of entries.
+#[derive(Debug, Drop)]
+enum Wrong {
+    Call(usize),
+    Open(usize),
+    Left(usize),
+    Row(usize),
+    Entries(usize),
+}
+
+fn path_in(alloc: Global, top: &str, path: &str) -> Result<String, AllocError> {
+    format!(in alloc; "{top}/{path}")
+}
+
+fn place(rt: &HostRuntime, at: &str, thing: Thing) -> io::Result<()> {
+    match thing {
+        Directory => fs::create_dir(rt, at),
+        File(text) => fs::write(rt, at, text),
+        Link(to) => symlink(rt, to, at),
+    }
+}
+
+fn place_all(rt: &HostRuntime, top: &str, rows: &[Row]) -> Result<(), Fail> {
+    for (path, thing) in rows {
+        let at = path_in(rt.alloc(), top, path)?;
+        place(rt, &at, *thing)?;
+    }
     Ok(())
+}
+
+fn has_text(rt: &HostRuntime, at: &str, text: &str) -> io::Result<bool> {
+    Ok(fs::read_to_string(rt, at)?.as_str() == text)
+}
+
+fn leads_to(rt: &HostRuntime, at: &str, to: &str) -> io::Result<bool> {
+    Ok(fs::read_link(rt, at)?.into_string().as_str() == to)
+}
+
+// Whether a thing stands at a path.
+fn stands(rt: &HostRuntime, at: &str, thing: Thing) -> io::Result<bool> {
+    let found = fs::symlink_metadata(rt, at)?;
+    match thing {
+        Directory => Ok(found.is_dir()),
+        File(text) => Ok(found.is_file() && has_text(rt, at, text)?),
+        Link(to) => Ok(found.is_symlink() && leads_to(rt, at, to)?),
+    }
 }
 
 // How many entries a real directory has.
-fn entries(rt: &HostRuntime, dir: &str) -> Result<usize, Fail> {
+fn entries(rt: &HostRuntime, dir: &str) -> io::Result<usize> {
     Ok(fs::read_dir(rt, dir)?.count())
 }
 
-#[test]
-fn what_stands_in_a_real_directory_stays(rt: HostRuntime) -> Result<(), Fail> {
-    let alloc = rt.alloc();
-    let dirs = make_dirs(&rt, "folder_cases_standing")?;
-    stand(&rt, &dirs.dir)?;
-    let below = format!(in alloc; "{}/directory", dirs.dir)?;
-    let mut folder = DirFolder::new(&rt, dirs.dir.clone()?);
-    for path in STANDING {
-        assert!(rt; is_refused(&mut folder, path), "{path}");
-        let found = (entries(&rt, &dirs.dir)?, entries(&rt, &below)?);
-        assert_eq!(rt; found, (5, 2), "{path}");
+// How many entries a thing at a path has.
+fn entries_of(rt: &HostRuntime, at: &str, thing: Thing) -> io::Result<usize> {
+    match thing {
+        Directory => entries(rt, at),
+        File(_) | Link(_) => Ok(0),
     }
-    for file in [&dirs.dir, &below] {
-        let file = format!(in alloc; "{file}/file")?;
-        assert_eq!(rt; fs::read(&rt, &file)?.as_slice(), b"old".as_slice());
-    }
-    // A refusal refuses nothing else.
-    fill(&mut folder)?;
-    assert_eq!(rt; entries(&rt, &dirs.dir)?, 7);
-    fs::remove_dir_all(&rt, &dirs.top)?;
-    Ok(())
 }
 
-// A name of so many letters.
-fn long_name(alloc: Global, length: usize) -> Result<String, AllocError> {
-    String::from_utf8_lossy(alloc, &vec![in alloc; b'n'; length]?)
+// How many entries the directories of some rows have, all of which have to stand.
+fn entries_in(rt: &HostRuntime, top: &str, rows: &[Row]) -> Result<usize, Fail> {
+    let mut sum = 0usize;
+    for (i, (path, thing)) in rows.iter().enumerate() {
+        let at = path_in(rt.alloc(), top, path)?;
+        if !stands(rt, &at, *thing)? {
+            return Err(Wrong::Row(i))?;
+        }
+        sum = sum.saturating_add(entries_of(rt, &at, *thing)?);
+    }
+    Ok(sum)
 }
 
-#[test]
-fn long_names_are_put_or_refused(rt: HostRuntime) -> Result<(), Fail> {
-    let alloc = rt.alloc();
-    let dirs = make_dirs(&rt, "folder_cases_long")?;
-    let mut folder = DirFolder::new(&rt, dirs.dir.clone()?);
-    let longest = long_name(alloc, 255)?;
-    folder.start_file(&longest)?;
-    let longer = long_name(alloc, 256)?;
-    assert!(rt; is_refused(&mut folder, &longer));
-    // The system takes no path of 4,096 bytes or more, however short its names are.
-    let mut path = String::from_str(alloc, "d")?;
-    folder.make_dir(&path)?;
-    for _ in 0..15 {
-        path.push('/')?;
-        path.push_str(&longest)?;
-        folder.make_dir(&path)?;
-    }
-    path.push('/')?;
-    path.push_str(&longest)?;
-    assert!(rt; is_refused(&mut folder, &path));
-    assert_eq!(rt; entries(&rt, &dirs.dir)?, 2);
-    fs::remove_dir_all(&rt, &dirs.top)?;
-    Ok(())
+// Puts a file in two pieces.
+fn write<F: Folder>(folder: &mut F, path: &str, text: &str) -> Result<(), WriteFailed> {
+    let bytes = text.as_bytes();
+    let half = bytes.len() / 2;
+    folder.start_file(path)?;
+    folder.append(&bytes[..half])?;
+    folder.append(&bytes[half..])
 }
 
-#[test]
-fn the_directory_itself_is_one_or_nothing_is_put(rt: HostRuntime) -> Result<(), Fail> {
-    let alloc = rt.alloc();
-    let dirs = make_dirs(&rt, "folder_cases_dir")?;
-    let (file, link, slash) = (
-        format!(in alloc; "{}/file", dirs.beside)?,
-        format!(in alloc; "{}/link", dirs.beside)?,
-        format!(in alloc; "{}/dir/", dirs.top)?,
-    );
-    fs::write(&rt, &file, b"old")?;
-    symlink(&rt, "missing", &link)?;
-    let missing = format!(in alloc; "{}/missing", dirs.beside)?;
-    // With an empty path the name would stand at the system's root.
-    for dir in ["", file.as_str(), link.as_str(), missing.as_str()] {
-        let mut folder = DirFolder::new(&rt, String::from_str(alloc, dir)?);
-        assert!(rt; is_refused(&mut folder, "apfs-folder-cases"), "{dir}");
+// Whether a call goes as it has to.
+fn goes<F: Folder>(folder: &mut F, call: Call) -> bool {
+    match call {
+        Makes(path) => folder.make_dir(path).is_ok(),
+        Writes(path, text) => write(folder, path, text).is_ok(),
+        Refuses(path) => folder.make_dir(path).is_err() && folder.start_file(path).is_err(),
     }
-    assert_eq!(rt; fs::read(&rt, &file)?.as_slice(), b"old".as_slice());
-    assert_eq!(rt; entries(&rt, &dirs.beside)?, 2);
-    // One that is reached over a link, and one whose path ends with a slash.
-    let to_dir = format!(in alloc; "{}/to_dir", dirs.beside)?;
-    symlink(&rt, &dirs.dir, &to_dir)?;
-    DirFolder::new(&rt, to_dir).make_dir("over a link")?;
-    DirFolder::new(&rt, slash).make_dir("before a slash")?;
-    assert_eq!(rt; entries(&rt, &dirs.dir)?, 2);
-    fs::remove_dir_all(&rt, &dirs.top)?;
-    Ok(())
+}
+
+// How many files are open after a call.
+fn opened(call: Call) -> usize {
+    match call {
+        Writes(_, _) => 1,
+        Makes(_) | Refuses(_) => 0,
+    }
 }
 
 // Linux lists what a process has open.
 const OPEN: &str = "/proc/self/fd";
 
-#[test]
-fn each_file_is_closed(rt: HostRuntime) -> Result<(), Fail> {
-    let dirs = make_dirs(&rt, "folder_cases_closed")?;
-    let before = entries(&rt, OPEN)?;
-    let mut folder = DirFolder::new(&rt, dirs.dir.clone()?);
-    folder.start_file("a")?;
-    folder.start_file("b")?;
-    assert_eq!(rt; entries(&rt, OPEN)?, before.saturating_add(1));
-    assert!(rt; folder.start_file("b").is_err());
-    assert_eq!(rt; entries(&rt, OPEN)?, before);
-    folder.start_file("c")?;
-    folder.make_dir("d")?;
-    assert_eq!(rt; entries(&rt, OPEN)?, before);
-    folder.start_file("e")?;
+// Fills a directory, and looks after each call whether its file is open and nothing more.
+fn fill(rt: &HostRuntime, dir: String, calls: &[Call]) -> Result<(), Fail> {
+    let before = entries(rt, OPEN)?;
+    let mut folder = DirFolder::new(rt, dir);
+    for (i, call) in calls.iter().enumerate() {
+        if !goes(&mut folder, *call) {
+            return Err(Wrong::Call(i))?;
+        }
+        if entries(rt, OPEN)? != before.saturating_add(opened(*call)) {
+            return Err(Wrong::Open(i))?;
+        }
+    }
     drop(folder);
-    assert_eq!(rt; entries(&rt, OPEN)?, before);
-    fs::remove_dir_all(&rt, &dirs.top)?;
+    let left = entries(rt, OPEN)?;
+    if left == before {
+        Ok(())
+    } else {
+        Err(Wrong::Left(left))?
+    }
+}
+
+// The directory that is filled.
+fn dir_of(alloc: Global, top: &str, into: Option<&str>) -> Result<String, AllocError> {
+    match into {
+        Some(path) => path_in(alloc, top, path),
+        None => Ok(String::new(alloc)),
+    }
+}
+
+// Fills the folder of a case. Afterwards all that stood and all that was put is there, and no other entry.
+fn run(rt: &HostRuntime, top: &str, case: &Case) -> Result<(), Fail> {
+    fs::create_dir(rt, top)?;
+    place_all(rt, top, case.standing)?;
+    fill(rt, dir_of(rt.alloc(), top, case.into)?, case.calls)?;
+    let found = entries(rt, top)?
+        .saturating_add(entries_in(rt, top, case.standing)?)
+        .saturating_add(entries_in(rt, top, case.put)?);
+    if found != case.standing.len().saturating_add(case.put.len()) {
+        return Err(Wrong::Entries(found))?;
+    }
+    fs::remove_dir_all(rt, top)?;
     Ok(())
 }
 
 #[test]
-fn nothing_leaves_a_real_directory(rt: HostRuntime) -> Result<(), Fail> {
+fn real_directories_get_what_is_put_and_nothing_else(rt: HostRuntime) -> Result<(), Fail> {
     let alloc = rt.alloc();
-    let dirs = make_dirs(&rt, "folder_cases_out")?;
-    let link = format!(in alloc; "{}/link", dirs.dir)?;
-    symlink(&rt, &dirs.beside, &link)?;
-    let dangling = format!(in alloc; "{}/dangling", dirs.dir)?;
-    let missing = format!(in alloc; "{}/missing", dirs.beside)?;
-    symlink(&rt, &missing, &dangling)?;
-    let mut folder = DirFolder::new(&rt, dirs.dir.clone()?);
-    for path in [
-        "",
-        ".",
-        "..",
-        "/",
-        "/x",
-        "../x",
-        "./x",
-        "x/",
-        "x//y",
-        "d/../../x",
-        "x\0y",
-        "link",
-        "link/x",
-        "link/../x",
-        "dangling",
-        "dangling/x",
-    ] {
-        assert!(rt; is_refused(&mut folder, path), "{path}");
+    let number = process::id(rt.process());
+    for (i, case) in CASES.iter().enumerate() {
+        let below = format!(in alloc; "folder_cases.{number}.{i}")?;
+        let top = env::temp_dir(&rt)?
+            .join(alloc, below.as_str())?
+            .into_string();
+        run(&rt, &top, case)?;
     }
-    assert_eq!(rt; fs::read_dir(&rt, &dirs.beside)?.count(), 0);
-    assert_eq!(rt; fs::read_dir(&rt, &dirs.top)?.count(), 2);
-    assert_eq!(rt; fs::read_dir(&rt, &dirs.dir)?.count(), 2);
-    fs::remove_dir_all(&rt, &dirs.top)?;
     Ok(())
 }
