@@ -8,6 +8,7 @@ use Rattle.img_format.specs.Fresh.{fresh}
 use Rattle.img_gpt.specs.Partition.{IsPartition}
 use Rattle.blk_folder.specs.Items.{Item}
 use Rattle.blk_folder.specs.Put.{Filled, FilledPart}
+use Rattle.tree_export.specs.Safe.{AreSafe}
 use Rattle.apfs_check.specs.Present as container
 use Rattle.apfs_check.specs.WellFormed.{IsWellFormed}
 use Rattle.apfs_cli.specs.First.{PresentBy}
@@ -216,10 +217,16 @@ abbrev pub HasFrontMore : Option Stored → List Item → Type 0
 HasFrontMore None items = Unit {0}
 HasFrontMore (Some folder) items = FilledPart folder.old folder.new items
 
--- the folder has the items more with status 0, and with each other one a front of them
-pub record IsFilledWith (result : ℕ) (folder : Option Stored) (items : List Item) : Type 0 where
+-- the folder has the items more with status 0, and with each other one a front of them; it has them all before anything is written
+pub record IsFilledWith (result : ℕ) (out : Sunk) (folder : Option Stored) (items : List Item) : Type 0 where
   pub whole : result ≡ 0 → HasMore folder items
   pub front : HasFrontMore folder items
+  pub before_text : HasMore folder items ⊎ Wrote out.old out.new []
+
+-- it has some items more, whose paths stay in it
+abbrev pub HasSafeMore : Option Stored → Type 0
+HasSafeMore None = Unit {0}
+HasSafeMore (Some folder) = (items : List Item) × Filled folder.old folder.new items × AreSafe items
 
 -- ---- what a stop leaves
 

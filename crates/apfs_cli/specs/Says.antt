@@ -7,6 +7,7 @@ use Rattle.blk_folder.specs.Put.{Filled}
 use Rattle.img_gpt.specs.Partition.{found_part, HasNoTable, HasBadTable, HasNoPartition, HasPartOutside}
 use Rattle.img_gpt.specs.declared.part.Part.{Part}
 use Rattle.path_walk.specs.declared.answer.Answer.{Answer}
+use Rattle.tree_export.specs.Safe.{AreSafe}
 use Rattle.apfs_cli.specs.OnView.{ByAnswer}
 use Rattle.apfs_cli.specs.Texts.{IsPrefix}
 use Rattle.apfs_model.specs.Sink.{Wrote}
@@ -98,12 +99,13 @@ CameOver command (Some image) result out err = (outcome : Outcome) × SaysOn com
 
 -- ---- the folder
 
--- the folder has some items more, of which a fact holds for each image that is told; a command that takes no folder adds none
+-- the folder has some items more, of which a fact holds for each image that is told; whatever is told, their paths stay in it, and a command that takes no folder adds none
 pub record Fills (command : Asked) (source : Looked) (folder : Stored) (P : List ℕ → List Item → Type 0) : Type 0 where
   pub added : List Item
   pub none : takes_folder command ≡ false → added ≡ []
   pub are : OfImage source (λ image. P image added)
   pub put : Filled folder.old folder.new added
+  pub safe : AreSafe added
 
 -- the items of a command, where what they rest on holds
 abbrev pub AreItemsIf : Asked → List ℕ → List Item → Type 0
@@ -113,18 +115,22 @@ AreItemsIf command image items = RestsOn command image → AreItems command imag
 abbrev pub AreFrontIf : Asked → List ℕ → List Item → Type 0
 AreFrontIf command image front = (front ≡ []) ⊎ ((items : List Item) × AreItemsIf command image items × IsFront front items)
 
+-- the items of a command by the part of its text that was written: all of them, or no more than its lead was written and they are a front
+abbrev pub AreItemsBy : Asked → List ℕ → List ℕ → List Item → Type 0
+AreItemsBy command part image items = AreItemsIf command image items ⊎ (IsPrefix part (lead_of command) × AreFrontIf command image items)
+
 -- nothing was added
 abbrev pub IsSame : Stored → Type 0
 IsSame folder = Filled folder.old folder.new []
 
--- what an outcome says of a command, a source and a folder: all items were added, or a front of them where something failed; where a fault or a feature stopped it none, but over a source that doesn't tell its bytes
+-- what an outcome says of a command, a source and a folder: all items were added, or a front of them where something failed before the text began; where a fault or a feature stopped it none, but over a source that doesn't tell its bytes
 abbrev pub FillsBy : Asked → Looked → Stored → Outcome → Type 0
 FillsBy command source folder (Written text) = Fills command source folder (AreItemsIf command)
 FillsBy command source folder (Faulty lead named) = Fills command source folder (λ image added. added ≡ [])
 FillsBy command source folder WrongWords = IsSame folder
-FillsBy command source folder (ReadFailed part) = Fills command source folder (AreFrontIf command)
-FillsBy command source folder (WriteFailed part) = Fills command source folder (AreFrontIf command)
-FillsBy command source folder (OutOfMemory part) = Fills command source folder (AreFrontIf command)
+FillsBy command source folder (ReadFailed part) = Fills command source folder (AreItemsBy command part)
+FillsBy command source folder (WriteFailed part) = Fills command source folder (AreItemsBy command part)
+FillsBy command source folder (OutOfMemory part) = Fills command source folder (AreItemsBy command part)
 FillsBy command source folder (Refused lead feature block) = Fills command source folder (λ image added. added ≡ [])
 FillsBy command source folder (Answered lead answer) = IsSame folder
 FillsBy command source folder NoImage = IsSame folder
