@@ -20,7 +20,7 @@ use Rattle.apfs_cli.specs.Outcome.{Outcome, text_of, line_of, Written, Faulty, R
 use Rattle.apfs_cli.specs.ByCommand.{From, HandedIn, Made, Nowhere, from_of, takes_folder, lead_of, IsText, IsAnswer, AreItems, IsUncounted, IsUnexported, profile_of}
 use Rattle.apfs_cli.specs.Says.{HasAll, IsTableFault, IsUntouched, PutFailed, Ran, HasNoPart}
 use Rattle.apfs_cli.specs.declared.named.Named.{Named}
-use Rattle.apfs_cli.specs.declared.named.Named.TheVariants.{InContainer, InUsage, InExport, NoTable, BadTable, NoPartition, PartOutside}
+use Rattle.apfs_cli.specs.declared.named.Named.TheVariants.{InContainer, InUsage, InExport}
 
 -- both sinks have all of an outcome more than before
 abbrev pub BothWrote : Sunk → Sunk → Outcome → Type 0
@@ -39,10 +39,7 @@ abbrev pub IsPresentIn : Asked → List ℕ → Named → Type 0
 IsPresentIn command image (InContainer fault) = PresentBy (profile_of command) image fault
 IsPresentIn command image (InUsage slot xid) = IsUncounted command image slot xid
 IsPresentIn command image (InExport slot xid id) = IsUnexported command image slot xid id
-IsPresentIn command image NoTable = ⊥
-IsPresentIn command image BadTable = ⊥
-IsPresentIn command image NoPartition = ⊥
-IsPresentIn command image (PartOutside at) = ⊥
+IsPresentIn command image named = ⊥
 
 -- a command came to name a fault, which is present where the bytes of its source are told
 abbrev pub RanNaming : Option Line → Option Looked → Option Stored → Sunk → List ℕ → Named → Type 0
