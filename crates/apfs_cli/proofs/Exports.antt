@@ -4,7 +4,7 @@ use Rattle.std.specs.List.{cons_option, flat_map}
 use Rattle.std.proofs.Common.{inl, inr, sym, ◌∙◌, ap, subst, get_or}
 use Rattle.std.proofs.lemmas.Grind.{flat_map-append}
 use Rattle.std.proofs.lemmas.List.Elements.{filter_map-append}
-use Rattle.std.proofs.lemmas.List.{append-nil, take_more}
+use Rattle.std.proofs.lemmas.List.{take_more}
 use Rattle.cmd_words.specs.Asked.{AskedTarget}
 use Rattle.obj_base.specs.declared.site.Site.{Site}
 use Rattle.obj_base.specs.declared.stop.Stop.{Stop}
@@ -25,7 +25,7 @@ use Rattle.path_walk.specs.declared.target.Target.{Target}
 use Rattle.view_tree.specs.Tree.{tree}
 use Rattle.path_walk.specs.declared.answer.Answer.{Answer}
 use Rattle.path_walk.specs.declared.answer.Answer.TheVariants.{NoVolume, NoSnapshot}
-use Rattle.blk_folder.specs.Items.{Item, IsFront}
+use Rattle.blk_folder.specs.Items.{Item}
 use Rattle.tree_export.specs.Exported.{Wanted, wanted_of, put_all, items_in, exported, skipped}
 use Rattle.tree_export.specs.Faults.{IsFailure}
 use Rattle.tree_export.specs.Filled.{FilledWhole, FilledFront}
@@ -44,7 +44,7 @@ use Rattle.apfs_cli.specs.Meant.{HasNoVolume, IsMeantFault}
 use Rattle.apfs_cli.specs.MeantView.{IsMeantView, HasNoSnapshot}
 use Rattle.apfs_cli.specs.OnView.{ByAnswer, IsWantedOf, IsAnswerOn}
 use Rattle.apfs_cli.specs.Reached.{IsClear, IsFree, IsWhileLooking, TellsViewWay}
-use Rattle.apfs_cli.specs.Says.{AreFrontIf, AnswersAt, Fills, HasEnded, HasEndedInto, IsTextIf}
+use Rattle.apfs_cli.specs.Says.{AreItemsIf, AreItemsBy, AnswersAt, Fills, HasEnded, HasEndedInto, IsTextIf}
 use Rattle.apfs_cli.specs.Seen.{stopped_exporting, stopped_on}
 use Rattle.apfs_cli.specs.Words.{Export}
 use Rattle.apfs_cli.specs.Written.{Sunk, IsPut}
@@ -232,26 +232,35 @@ abbrev FrontPut : Looked → Stored → Loaded → View → Site → List Wanted
 FrontPut source folder volume view site items =
     FilledFront folder.old folder.new source.bytes (λ image. IsOrdered image site volume view) (λ image. put_all site.block_size image (view_facts image site volume view) items)
 
--- a folder into which a front was put
+-- a folder into which all was put
+all_fills : (target : AskedTarget) (source : Looked) (folder : Stored) (seen : Seen) (volume : Loaded) (view : View) (site : Site) (items : List Wanted) → IsAtItems target source seen volume view site items → AllPut source folder volume view site items →
+    Fills (Export target) source folder (AreItemsIf (Export target))
+all_fills target source folder seen volume view site items at all = record {
+  added = all.0;
+  none = λ e. absurd Prim.cc;
+  are = λ image told rests.
+      let P : List Item → Type 0 = λ l. export.AreItems target image l in
+      (at.clean image told, subst P (sym (all.2 image told (ordered_at target source seen volume view site items image at told))) (are_items target source seen volume view site items image at told));
+  put = all.1;
+  safe = all.3;
+}
+
+-- whatever part of the text was written then
+all_before : (target : AskedTarget) (source : Looked) (folder : Stored) (part : List ℕ) → Fills (Export target) source folder (AreItemsIf (Export target)) → Fills (Export target) source folder (AreItemsBy (Export target) part)
+all_before target source folder part f = record { added = f.added; none = f.none; are = λ image told. inl (f.are image told); put = f.put; safe = f.safe }
+
+-- a folder into which a front was put, where nothing was written
 front_fills : (target : AskedTarget) (source : Looked) (folder : Stored) (seen : Seen) (volume : Loaded) (view : View) (site : Site) (items : List Wanted) → IsAtItems target source seen volume view site items → FrontPut source folder volume view site items →
-    Fills (Export target) source folder (AreFrontIf (Export target))
+    Fills (Export target) source folder (AreItemsBy (Export target) [])
 front_fills target source folder seen volume view site items at front = record {
   added = front.0;
   none = λ e. absurd Prim.cc;
   are = λ image told.
       let wanted : List Item = put_all site.block_size image (view_facts image site volume view) items in
-      inr (wanted, (λ rests. (at.clean image told, are_items target source seen volume view site items image at told)), front.2 image told (ordered_at target source seen volume view site items image at told));
+      inr (([], refl), inr (wanted, (λ rests. (at.clean image told, are_items target source seen volume view site items image at told)), front.2 image told (ordered_at target source seen volume view site items image at told)));
   put = front.1;
+  safe = front.3;
 }
-
-all_front : (source : Looked) (folder : Stored) (volume : Loaded) (view : View) (site : Site) (items : List Wanted) → AllPut source folder volume view site items → FrontPut source folder volume view site items
-all_front source folder volume view site items all = (
-  all.0,
-  all.1,
-  λ image told ordered.
-      let P : List Item → Type 0 = λ l. IsFront all.0 l in
-      subst P (all.2 image told ordered) (record { whole = all.0; rest = []; split = sym (append-nil all.0); end = inl refl }),
-)
 
 -- ---- what stops it while it puts
 
@@ -262,13 +271,13 @@ pub export_stop_ended : (target : AskedTarget) (source : Looked) (folder : Store
 export_stop_ended target source folder seen volume view site items slot xid (exports.Stopped (layer.Found why)) contents count at front free read write = (
   [],
   (refl, λ image told. absurd (free image told)),
-  record { added = front.0; none = λ e. absurd Prim.cc; are = λ image told. absurd (free image told); put = front.1 },
+  record { added = front.0; none = λ e. absurd Prim.cc; are = λ image told. absurd (free image told); put = front.1; safe = front.3 },
   wrote_nothing contents,
 )
 export_stop_ended target source folder seen volume view site items slot xid (exports.Stopped (layer.Unsupported feature block)) contents count at front free read write = (
   [],
   (refl, λ image told. absurd (free image told)),
-  record { added = front.0; none = λ e. absurd Prim.cc; are = λ image told. absurd (free image told); put = front.1 },
+  record { added = front.0; none = λ e. absurd Prim.cc; are = λ image told. absurd (free image told); put = front.1; safe = front.3 },
   wrote_nothing contents,
 )
 export_stop_ended target source folder seen volume view site items slot xid (exports.Stopped layer.ReadFault) contents count at front free read write =
@@ -308,28 +317,21 @@ pub export_put_ended : (target : AskedTarget) (source : Looked) (folder : Stored
 export_put_ended target source folder seen volume view site items text (Ok done) out at all formed is put = (
   text,
   record { formed = formed; is = text_at target source seen volume view site items text at is },
-  record {
-    added = all.0;
-    none = λ e. absurd Prim.cc;
-    are = λ image told rests.
-        let P : List Item → Type 0 = λ l. export.AreItems target image l in
-        (at.clean image told, subst P (sym (all.2 image told (ordered_at target source seen volume view site items image at told))) (are_items target source seen volume view site items image at told));
-    put = all.1;
-  },
+  all_fills target source folder seen volume view site items at all,
   put.0,
 )
 export_put_ended target source folder seen volume view site items text (Err stops.WriteFailed) out at all formed is put =
     let taken = part_taken out.old out.new text put.1 in (
       taken.0,
       (inl put.0, part_of_text (Export target) source text taken.0 formed (text_at target source seen volume view site items text at is) taken.1),
-      front_fills target source folder seen volume view site items at (all_front source folder volume view site items all),
+      all_before target source folder taken.0 (all_fills target source folder seen volume view site items at all),
       taken.2,
     )
 export_put_ended target source folder seen volume view site items text (Err stops.OutOfMemory) out at all formed is put =
     let taken = part_taken out.old out.new text put.1 in (
       taken.0,
       part_of_text (Export target) source text taken.0 formed (text_at target source seen volume view site items text at is) taken.1,
-      front_fills target source folder seen volume view site items at (all_front source folder volume view site items all),
+      all_before target source folder taken.0 (all_fills target source folder seen volume view site items at all),
       taken.2,
     )
 export_put_ended target source folder seen volume view site items text (Err (stops.Faulty named)) out at all formed is put = absurd put.0

@@ -18,11 +18,11 @@ use Rattle.apfs_cli.specs.declared.words.Command.TheVariants as commands
 use Rattle.apfs_cli.specs.ByCommand.{From, HandedIn, Made, Nowhere, from_of, takes_folder, AreItems}
 use Rattle.apfs_cli.specs.Handed.{Looked, LookFailed, OfImage, part_looked, made, Stored, stored_in, IsGivenKept}
 use Rattle.apfs_cli.specs.Outcome.{Outcome, Written, Faulty, WrongWords, ReadFailed, WriteFailed, OutOfMemory, Refused, Answered, NoImage, NoFolder, text_of}
-use Rattle.apfs_cli.specs.Says.{HasEnded, HasEndedInto, HasMade, HasCome, FillsBy, FillsOn, IsSame, IsUntouched, LacksFrom, LacksStore, IsSourceFrom, IsSource, StopsTable, PutFailed, HasAll, Says, CameTo, wrong_words, no_image, no_folder, no_part, ran, no_memory}
+use Rattle.apfs_cli.specs.Says.{HasEnded, HasEndedInto, HasMade, HasCome, AreItemsIf, AreItemsBy, FillsBy, FillsOn, IsSame, IsUntouched, LacksFrom, LacksStore, IsSourceFrom, IsSource, StopsTable, PutFailed, HasAll, Says, CameTo, wrong_words, no_image, no_folder, no_part, ran, no_memory}
 use Rattle.apfs_cli.specs.Seen.{outcome_of, stopped_at_table}
 use Rattle.apfs_cli.specs.Words.{Asked, Line, plain_line, partition_line, said, Ring, Info, Volumes, Space, Check, Snapshots, Usage, Ls, Tree, Cat, Xattr, Export, Gen, Format}
 use Rattle.apfs_cli.specs.Written.{Sunk, Failed, IsClosed}
-use Rattle.apfs_cli.proofs.Fillings.{says_more}
+use Rattle.apfs_cli.proofs.Fillings.{says_more, none_more}
 use Rattle.apfs_cli.proofs.Puts.{wrote_nothing}
 use Rattle.apfs_cli.proofs.Statuses.{some_part}
 
@@ -58,13 +58,13 @@ no_items (Gen n) image none = refl
 no_items (Format spec) image none = refl
 
 same_by : (command : Asked) (source : Looked) (folder : Stored) (o : Outcome) → takes_folder command ≡ false → IsSame folder → FillsBy command source folder o
-same_by command source folder (Written text) plain same = record { added = []; none = λ n. refl; are = λ image told rests. no_items command image plain; put = same }
-same_by command source folder (Faulty lead named) plain same = record { added = []; none = λ n. refl; are = λ image told. refl; put = same }
+same_by command source folder (Written text) plain same = none_more command source folder (AreItemsIf command) (λ image rests. no_items command image plain) same
+same_by command source folder (Faulty lead named) plain same = none_more command source folder (λ image added. added ≡ []) (λ image. refl) same
 same_by command source folder WrongWords plain same = same
-same_by command source folder (ReadFailed part) plain same = record { added = []; none = λ n. refl; are = λ image told. inl refl; put = same }
-same_by command source folder (WriteFailed part) plain same = record { added = []; none = λ n. refl; are = λ image told. inl refl; put = same }
-same_by command source folder (OutOfMemory part) plain same = record { added = []; none = λ n. refl; are = λ image told. inl refl; put = same }
-same_by command source folder (Refused lead feature block) plain same = record { added = []; none = λ n. refl; are = λ image told. refl; put = same }
+same_by command source folder (ReadFailed part) plain same = none_more command source folder (AreItemsBy command part) (λ image. inl (λ rests. no_items command image plain)) same
+same_by command source folder (WriteFailed part) plain same = none_more command source folder (AreItemsBy command part) (λ image. inl (λ rests. no_items command image plain)) same
+same_by command source folder (OutOfMemory part) plain same = none_more command source folder (AreItemsBy command part) (λ image. inl (λ rests. no_items command image plain)) same
+same_by command source folder (Refused lead feature block) plain same = none_more command source folder (λ image added. added ≡ []) (λ image. refl) same
 same_by command source folder (Answered lead answer) plain same = same
 same_by command source folder NoImage plain same = same
 same_by command source folder NoFolder plain same = same

@@ -4,7 +4,7 @@ use Rattle.std.proofs.Common.{inl, inr, sym, ◌∙◌, ap, subst, arith}
 use Rattle.std.proofs.lemmas.List.{append-nil}
 use Rattle.apfs_model.specs.Sink.{Wrote}
 use Rattle.obj_base.specs.declared.stop.Feature.{Feature}
-use Rattle.blk_folder.specs.Items.{Item, IsFront}
+use Rattle.blk_folder.specs.Items.{Item}
 use Rattle.blk_folder.specs.Put.{Filled}
 use Rattle.img_gpt.specs.Slices.{sliced}
 use Rattle.img_gpt.specs.Partition.{found_part, bytes_in}
@@ -23,10 +23,11 @@ use Rattle.apfs_cli.specs.Words.{Asked, Line, plain_line, Ring, Info, Volumes, S
 use Rattle.apfs_cli.specs.Handed.{Looked, LookFailed, OfImage, made, Stored, StoreFailed}
 use Rattle.apfs_cli.specs.Outcome.{Outcome, Written, Faulty, WrongWords, ReadFailed, WriteFailed, OutOfMemory, Refused, Answered, NoImage, NoFolder, status_of, text_of}
 use Rattle.apfs_cli.specs.ByCommand.{From, HandedIn, Made, Nowhere, from_of, takes_folder, lead_of, IsText, IsNamed, IsAnswer, RestsOn, HasResult, profile_of}
-use Rattle.apfs_cli.specs.Says.{IsPart, SaysOn, Fills, FillsBy, FillsOn, AreItemsIf, AreFrontIf, IsSame, IsUntouched, LacksImage, LacksFolder, IsSourceFrom, IsSource, IsTableFault, StopsTable, PutFailed, Ran, HasNoImage, HasNoFolder, HasNoPart, Says, CameTo, wrong_words, no_image, no_folder, no_part, ran, no_memory}
+use Rattle.apfs_cli.specs.Says.{IsPart, SaysOn, Fills, FillsBy, FillsOn, AreItemsIf, AreItemsBy, IsSame, IsUntouched, LacksImage, LacksFolder, IsSourceFrom, IsSource, IsTableFault, StopsTable, PutFailed, Ran, HasNoImage, HasNoFolder, HasNoPart, Says, CameTo, wrong_words, no_image, no_folder, no_part, ran, no_memory}
 use Rattle.apfs_cli.specs.Rows.{BothWrote, HasText, RanOrNoPart, IsPresentIn, RanNaming, RanRefusing, NamesFault, NamesFeature, NamesAnswer, SaysReadFailed, IsSomePart, SaysOutOfMemory, HasFailedPut, IsGivenFrom, IsGiven, IsAsked, HasDefinedText, HasDefinedAnswer, HasSound, HasUnsound, HasTableFault, IsExactly, IsOrFree, IsCleanOrFree, IsFoundOrFree, HandedFailed, IsUndisturbed, IsCompleted, lead_in, IsRefusal, IsTurnedAway, AsksFolder, IsUntold, MayFill}
 use Rattle.apfs_cli.specs.declared.named.Named.{Named}
 use Rattle.apfs_cli.specs.declared.named.Named.TheVariants.{InContainer, InUsage, InExport, NoTable, BadTable, NoPartition, PartOutside}
+use Rattle.apfs_cli.proofs.Fillings.{none_more}
 use Rattle.apfs_cli.proofs.Owed.{IsOwed, owed}
 use Rattle.apfs_cli.proofs.Present.{fault_there, feature_there}
 
@@ -158,32 +159,36 @@ part_on command source failed (Answered lead answer) says = lead_part command so
 part_on command source failed NoImage says = absurd says
 part_on command source failed NoFolder says = absurd says
 
--- all items are a front of themselves
-pub whole_front : (items : List Item) → IsFront items items
-whole_front items = record { whole = items; rest = []; split = sym (append-nil items); end = inl refl }
+-- ---- the folder
 
--- the folder where nothing was added
-same_fills : (command : Asked) (source : Looked) (folder : Stored) → IsSame folder → Fills command source folder (AreFrontIf command)
-same_fills command source folder same = record { added = []; none = λ e. refl; are = λ image told. inl refl; put = same }
+-- no more than the lead was written
+lead_prefix : (command : Asked) (lead : List ℕ) → lead ≡ lead_of command → IsPrefix lead (lead_of command)
+lead_prefix command lead e =
+    let P : List ℕ → Type 0 = λ l. IsPrefix l (lead_of command) in
+    subst P (sym e) (whole_prefix (lead_of command))
 
-none_fills : (command : Asked) (source : Looked) (folder : Stored) → Fills command source folder (λ image added. added ≡ []) → Fills command source folder (AreFrontIf command)
-none_fills command source folder f = record { added = f.added; none = f.none; are = λ image told. inl (f.are image told); put = f.put }
+same_fills : (command : Asked) (source : Looked) (folder : Stored) (part : List ℕ) → IsPrefix part (lead_of command) → IsSame folder → Fills command source folder (AreItemsBy command part)
+same_fills command source folder part before same = none_more command source folder (AreItemsBy command part) (λ image. inr (before, inl refl)) same
 
-pub front_fills : (command : Asked) (source : Looked) (folder : Stored) (o : Outcome) → FillsBy command source folder o → Fills command source folder (AreFrontIf command)
-front_fills command source folder (Written text) f = record { added = f.added; none = f.none; are = λ image told. inr (f.added, f.are image told, whole_front f.added); put = f.put }
-front_fills command source folder (Faulty lead named) f = none_fills command source folder f
-front_fills command source folder WrongWords f = same_fills command source folder f
-front_fills command source folder (ReadFailed part) f = f
-front_fills command source folder (WriteFailed part) f = f
-front_fills command source folder (OutOfMemory part) f = f
-front_fills command source folder (Refused lead feature block) f = none_fills command source folder f
-front_fills command source folder (Answered lead answer) f = same_fills command source folder f
-front_fills command source folder NoImage f = same_fills command source folder f
-front_fills command source folder NoFolder f = same_fills command source folder f
+none_fills : (command : Asked) (source : Looked) (folder : Stored) (part : List ℕ) → IsPrefix part (lead_of command) → Fills command source folder (λ image added. added ≡ []) → Fills command source folder (AreItemsBy command part)
+none_fills command source folder part before f = record { added = f.added; none = f.none; are = λ image told. inr (before, inl (f.are image told)); put = f.put; safe = f.safe }
 
-front_on : (command : Asked) (source : Looked) (folder : Option Stored) (o : Outcome) (part : List ℕ) → FillsOn command source folder o → FillsOn command source folder (OutOfMemory part)
-front_on command source None o part f = tt
-front_on command source (Some folder) o part f = front_fills command source folder o f
+-- whatever the outcome, the folder has all items if a part of the text was written, otherwise a front of them
+pub part_fills : (command : Asked) (source : Looked) (folder : Stored) (failed : Type 0) (o : Outcome) → SaysOn command source failed o → FillsBy command source folder o → Fills command source folder (AreItemsBy command (text_of o))
+part_fills command source folder failed (Written text) says f = record { added = f.added; none = f.none; are = λ image told. inl (f.are image told); put = f.put; safe = f.safe }
+part_fills command source folder failed (Faulty lead named) says f = none_fills command source folder lead (lead_prefix command lead says.0) f
+part_fills command source folder failed WrongWords says f = absurd says
+part_fills command source folder failed (ReadFailed part) says f = f
+part_fills command source folder failed (WriteFailed part) says f = f
+part_fills command source folder failed (OutOfMemory part) says f = f
+part_fills command source folder failed (Refused lead feature block) says f = none_fills command source folder lead (lead_prefix command lead says.0) f
+part_fills command source folder failed (Answered lead answer) says f = same_fills command source folder lead (lead_prefix command lead says.0) f
+part_fills command source folder failed NoImage says f = absurd says
+part_fills command source folder failed NoFolder says f = absurd says
+
+pub part_filled : (command : Asked) (source : Looked) (folder : Option Stored) (failed : Type 0) (o : Outcome) → SaysOn command source failed o → FillsOn command source folder o → FillsOn command source folder (OutOfMemory (text_of o))
+part_filled command source None failed o says f = tt
+part_filled command source (Some folder) failed o says f = part_fills command source folder failed o says f
 
 -- whatever the outcome, a part of what the command writes was written, or nothing
 pub some_part : (asked : Option Line) (image : Option Looked) (folder : Option Stored) (out : Sunk) (o : Outcome) → Says asked image folder out o → IsSomePart asked image folder out (text_of o)
@@ -198,7 +203,7 @@ some_part asked image folder out o (ran has) = inl (record {
   source = has.source;
   source_is = has.source_is;
   says = part_on has.line.command has.source (PutFailed out folder) o has.says;
-  fills = front_on has.line.command has.source folder o (text_of o) has.fills;
+  fills = part_filled has.line.command has.source folder (PutFailed out folder) o has.says has.fills;
 })
 some_part asked image folder out o (no_memory is same) = inr (ap text_of is, same)
 
@@ -766,9 +771,9 @@ pub fills_none : (command : Asked) (source : Looked) (folder : Stored) (o : Outc
 fills_none command source folder (Written text) e f = none_filled command source folder (AreItemsIf command) e f
 fills_none command source folder (Faulty lead named) e f = none_filled command source folder (λ image added. added ≡ []) e f
 fills_none command source folder WrongWords e f = f
-fills_none command source folder (ReadFailed part) e f = none_filled command source folder (AreFrontIf command) e f
-fills_none command source folder (WriteFailed part) e f = none_filled command source folder (AreFrontIf command) e f
-fills_none command source folder (OutOfMemory part) e f = none_filled command source folder (AreFrontIf command) e f
+fills_none command source folder (ReadFailed part) e f = none_filled command source folder (AreItemsBy command part) e f
+fills_none command source folder (WriteFailed part) e f = none_filled command source folder (AreItemsBy command part) e f
+fills_none command source folder (OutOfMemory part) e f = none_filled command source folder (AreItemsBy command part) e f
 fills_none command source folder (Refused lead feature block) e f = none_filled command source folder (λ image added. added ≡ []) e f
 fills_none command source folder (Answered lead answer) e f = f
 fills_none command source folder NoImage e f = f

@@ -26,7 +26,7 @@ use Rattle.apfs_cli.specs.Commands.Gen as gen
 use Rattle.apfs_cli.specs.Commands.Format as format
 use Rattle.apfs_cli.specs.Words.{Asked, Ring, Info, Volumes, Space, Check, Snapshots, Usage, Ls, Tree, Cat, Xattr, Export, Gen, Format}
 use Rattle.apfs_cli.specs.declared.named.Named.{Named}
-use Rattle.apfs_cli.specs.declared.named.Named.TheVariants.{InContainer, InUsage, InExport, NoTable, BadTable, NoPartition, PartOutside}
+use Rattle.apfs_cli.specs.declared.named.Named.TheVariants.{InContainer, InUsage, InExport}
 
 -- where a command has its image from: it is handed in, it is made, or there is none
 pub data From : Type 0 where
@@ -35,37 +35,14 @@ pub data From : Type 0 where
   Nowhere : From
 
 abbrev pub from_of : Asked → From
-from_of Ring = HandedIn
-from_of Info = HandedIn
-from_of Volumes = HandedIn
-from_of Space = HandedIn
-from_of (Check profile) = HandedIn
-from_of (Snapshots volume) = HandedIn
-from_of (Usage volume) = HandedIn
-from_of (Ls checks target) = HandedIn
-from_of (Tree checks target) = HandedIn
-from_of (Cat checks target) = HandedIn
-from_of (Xattr checks target name) = HandedIn
-from_of (Export target) = HandedIn
 from_of (Gen n) = Made
 from_of (Format spec) = Nowhere
+from_of command = HandedIn
 
 -- whether a command takes a folder
 abbrev pub takes_folder : Asked → Bool
-takes_folder Ring = false
-takes_folder Info = false
-takes_folder Volumes = false
-takes_folder Space = false
-takes_folder (Check profile) = false
-takes_folder (Snapshots volume) = false
-takes_folder (Usage volume) = false
-takes_folder (Ls checks target) = false
-takes_folder (Tree checks target) = false
-takes_folder (Cat checks target) = false
-takes_folder (Xattr checks target name) = false
 takes_folder (Export target) = true
-takes_folder (Gen n) = false
-takes_folder (Format spec) = false
+takes_folder command = false
 
 -- an attribute is named
 abbrev pub is_named : Option (List ℕ) → Bool
@@ -74,20 +51,9 @@ is_named (Some name) = true
 
 -- whether a command may read the image while it writes its text
 abbrev pub streams : Asked → Bool
-streams Ring = false
-streams Info = false
-streams Volumes = false
-streams Space = false
-streams (Check profile) = false
-streams (Snapshots volume) = false
-streams (Usage volume) = false
-streams (Ls checks target) = false
-streams (Tree checks target) = false
 streams (Cat checks target) = true
 streams (Xattr checks target name) = is_named name
-streams (Export target) = false
-streams (Gen n) = false
-streams (Format spec) = false
+streams command = false
 
 -- the text that a command writes of an image
 abbrev pub IsText : Asked → List ℕ → List ℕ → Type 0
@@ -108,20 +74,8 @@ IsText (Format spec) image text = format.IsText spec text
 
 -- what a command writes before it looks at an image
 abbrev pub lead_of : Asked → List ℕ
-lead_of Ring = []
-lead_of Info = []
-lead_of Volumes = []
-lead_of Space = []
-lead_of (Check profile) = []
-lead_of (Snapshots volume) = []
-lead_of (Usage volume) = []
-lead_of (Ls checks target) = []
-lead_of (Tree checks target) = []
-lead_of (Cat checks target) = []
-lead_of (Xattr checks target name) = []
-lead_of (Export target) = []
 lead_of (Gen n) = gen.lead n
-lead_of (Format spec) = []
+lead_of command = []
 
 -- a fault of the container that a command may name of an image: one that is there
 abbrev pub IsFault : Asked → List ℕ → Fault → Type 0
@@ -142,47 +96,20 @@ IsFault (Format spec) image fault = ⊥
 
 -- a fault of a view whose blocks can't be counted, which a command may name of an image: `usage`, after a check that found nothing
 abbrev pub IsUncounted : Asked → List ℕ → ℕ → ℕ → Type 0
-IsUncounted Ring image slot xid = ⊥
-IsUncounted Info image slot xid = ⊥
-IsUncounted Volumes image slot xid = ⊥
-IsUncounted Space image slot xid = ⊥
-IsUncounted (Check profile) image slot xid = ⊥
-IsUncounted (Snapshots volume) image slot xid = ⊥
 IsUncounted (Usage volume) image slot xid = ResultBy (First Plain) image (usage.IsViewFault volume image slot xid)
-IsUncounted (Ls checks target) image slot xid = ⊥
-IsUncounted (Tree checks target) image slot xid = ⊥
-IsUncounted (Cat checks target) image slot xid = ⊥
-IsUncounted (Xattr checks target name) image slot xid = ⊥
-IsUncounted (Export target) image slot xid = ⊥
-IsUncounted (Gen n) image slot xid = ⊥
-IsUncounted (Format spec) image slot xid = ⊥
+IsUncounted command image slot xid = ⊥
 
 -- a fault of what has an id in a view, so that it can't be put, which a command may name of an image: `export`, after a check that found nothing
 abbrev pub IsUnexported : Asked → List ℕ → ℕ → ℕ → ℕ → Type 0
-IsUnexported Ring image slot xid id = ⊥
-IsUnexported Info image slot xid id = ⊥
-IsUnexported Volumes image slot xid id = ⊥
-IsUnexported Space image slot xid id = ⊥
-IsUnexported (Check profile) image slot xid id = ⊥
-IsUnexported (Snapshots volume) image slot xid id = ⊥
-IsUnexported (Usage volume) image slot xid id = ⊥
-IsUnexported (Ls checks target) image slot xid id = ⊥
-IsUnexported (Tree checks target) image slot xid id = ⊥
-IsUnexported (Cat checks target) image slot xid id = ⊥
-IsUnexported (Xattr checks target name) image slot xid id = ⊥
 IsUnexported (Export target) image slot xid id = ResultBy (First Plain) image (export.IsViewFault target image slot xid id)
-IsUnexported (Gen n) image slot xid id = ⊥
-IsUnexported (Format spec) image slot xid id = ⊥
+IsUnexported command image slot xid id = ⊥
 
 -- a fault that a command may name of an image; those of a table of partitions are named before there is one
 abbrev pub IsNamed : Asked → List ℕ → Named → Type 0
 IsNamed command image (InContainer fault) = IsFault command image fault
 IsNamed command image (InUsage slot xid) = IsUncounted command image slot xid
 IsNamed command image (InExport slot xid id) = IsUnexported command image slot xid id
-IsNamed command image NoTable = ⊥
-IsNamed command image BadTable = ⊥
-IsNamed command image NoPartition = ⊥
-IsNamed command image (PartOutside at) = ⊥
+IsNamed command image named = ⊥
 
 -- a feature, with its block, that a command may refuse of an image: one that is there, and where the container isn't checked no fault comes first
 abbrev pub IsFeature : Asked → List ℕ → Feature → ℕ → Type 0
@@ -203,11 +130,6 @@ IsFeature (Format spec) image feature block = ⊥
 
 -- an answer that a command gives of an image in place of a text: by its cause
 abbrev pub IsAnswer : Asked → List ℕ → Answer → Type 0
-IsAnswer Ring image answer = ⊥
-IsAnswer Info image answer = ⊥
-IsAnswer Volumes image answer = ⊥
-IsAnswer Space image answer = ⊥
-IsAnswer (Check profile) image answer = ⊥
 IsAnswer (Snapshots volume) image answer = snapshots.IsAnswer volume image answer
 IsAnswer (Usage volume) image answer = ResultBy (First Plain) image (usage.IsAnswer volume image answer)
 IsAnswer (Ls checks target) image answer = ResultBy checks image (ls.IsAnswer target image answer)
@@ -215,76 +137,38 @@ IsAnswer (Tree checks target) image answer = ResultBy checks image (tree.IsAnswe
 IsAnswer (Cat checks target) image answer = ResultBy checks image (cat.IsAnswer target image answer)
 IsAnswer (Xattr checks target name) image answer = ResultBy checks image (xattr.IsAnswer target name image answer)
 IsAnswer (Export target) image answer = ResultBy (First Plain) image (export.IsAnswer target image answer)
-IsAnswer (Gen n) image answer = ⊥
-IsAnswer (Format spec) image answer = ⊥
+IsAnswer command image answer = ⊥
 
 -- the items that a command puts into a folder
 abbrev pub AreItems : Asked → List ℕ → List Item → Type 0
-AreItems Ring image items = items ≡ []
-AreItems Info image items = items ≡ []
-AreItems Volumes image items = items ≡ []
-AreItems Space image items = items ≡ []
-AreItems (Check profile) image items = items ≡ []
-AreItems (Snapshots volume) image items = items ≡ []
-AreItems (Usage volume) image items = items ≡ []
-AreItems (Ls checks target) image items = items ≡ []
-AreItems (Tree checks target) image items = items ≡ []
-AreItems (Cat checks target) image items = items ≡ []
-AreItems (Xattr checks target name) image items = items ≡ []
 AreItems (Export target) image items = ResultBy (First Plain) image (export.AreItems target image items)
-AreItems (Gen n) image items = items ≡ []
-AreItems (Format spec) image items = items ≡ []
+AreItems command image items = items ≡ []
 
 -- what is promised of a command's text, and of its answers on a path, rests on this: for a command on a view that checks nothing first, that the view that is meant meets its rules
 abbrev pub RestsOn : Asked → List ℕ → Type 0
-RestsOn Ring image = Unit {0}
-RestsOn Info image = Unit {0}
-RestsOn Volumes image = Unit {0}
-RestsOn Space image = Unit {0}
-RestsOn (Check profile) image = Unit {0}
-RestsOn (Snapshots volume) image = Unit {0}
-RestsOn (Usage volume) image = Unit {0}
 RestsOn (Ls checks target) image = RestsBy checks (IsLawfulView image target)
 RestsOn (Tree checks target) image = RestsBy checks (IsLawfulView image target)
 RestsOn (Cat checks target) image = RestsBy checks (IsLawfulView image target)
 RestsOn (Xattr checks target name) image = RestsBy checks (IsLawfulView image target)
-RestsOn (Export target) image = Unit {0}
-RestsOn (Gen n) image = Unit {0}
-RestsOn (Format spec) image = Unit {0}
+RestsOn command image = Unit {0}
 
 -- whether a command checks the container before it looks at it
 abbrev pub checks_of : Asked → Checks
-checks_of Ring = Quick
-checks_of Info = Quick
-checks_of Volumes = Quick
-checks_of Space = Quick
-checks_of (Check profile) = Quick
-checks_of (Snapshots volume) = Quick
 checks_of (Usage volume) = First Plain
 checks_of (Ls checks target) = checks
 checks_of (Tree checks target) = checks
 checks_of (Cat checks target) = checks
 checks_of (Xattr checks target name) = checks
 checks_of (Export target) = First Plain
-checks_of (Gen n) = Quick
-checks_of (Format spec) = Quick
+checks_of command = Quick
 
 -- a command without a check before it; `usage` and `export` aren't there without one
 abbrev pub quick : Asked → Asked
-quick Ring = Ring
-quick Info = Info
-quick Volumes = Volumes
-quick Space = Space
-quick (Check profile) = Check profile
-quick (Snapshots volume) = Snapshots volume
-quick (Usage volume) = Usage volume
 quick (Ls checks target) = Ls Quick target
 quick (Tree checks target) = Tree Quick target
 quick (Cat checks target) = Cat Quick target
 quick (Xattr checks target name) = Xattr Quick target name
-quick (Export target) = Export target
-quick (Gen n) = Gen n
-quick (Format spec) = Format spec
+quick command = command
 
 -- the profile of a check before a command, where there is one
 abbrev pub profile_in : Checks → Option Profile
@@ -293,20 +177,9 @@ profile_in (First profile) = Some profile
 
 -- the profile under which a command checks the whole container, where it does
 abbrev pub profile_of : Asked → Option Profile
-profile_of Ring = None
-profile_of Info = None
-profile_of Volumes = None
-profile_of Space = None
 profile_of (Check profile) = Some profile
-profile_of (Snapshots volume) = None
-profile_of (Usage volume) = Some Plain
-profile_of (Ls checks target) = profile_in checks
-profile_of (Tree checks target) = profile_in checks
-profile_of (Cat checks target) = profile_in checks
-profile_of (Xattr checks target name) = profile_in checks
-profile_of (Export target) = Some Plain
 profile_of (Gen n) = Some Plain
-profile_of (Format spec) = None
+profile_of command = profile_in (checks_of command)
 
 -- a command is defined to write a text of an image, or to answer
 abbrev pub HasResult : Asked → List ℕ → Type 0

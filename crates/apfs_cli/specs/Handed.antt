@@ -2,7 +2,7 @@
 use Rattle.std.specs.Prelude.{◌≡◌, ℕ, List, Option, None, Some}
 use Rattle.apfs_model.specs.Counts.{Rose}
 use Rattle.blk_source.specs.declared.source.Opened.{Opened}
-use Rattle.blk_source.specs.declared.source.Opened.TheVariants.{Absent, Image}
+use Rattle.blk_source.specs.declared.source.Opened.TheVariants.{Image}
 use Rattle.blk_folder.specs.Items.{Item}
 use Rattle.blk_folder.specs.declared.folder.Given.{Given}
 use Rattle.blk_folder.specs.declared.folder.Given.TheVariants.{Nothing, Into}
@@ -21,8 +21,7 @@ looked bytes faults old new = record { bytes = bytes old; old_faults = faults ol
 -- what was handed in for the image, where a source was
 abbrev pub looked_at : {S : Type 0} → (S → Option (List ℕ)) → (S → ℕ) → Opened S → Opened S → Option Looked
 looked_at bytes faults (Image old) (Image new) = Some (looked bytes faults old new)
-looked_at bytes faults (Image old) Absent = None
-looked_at bytes faults Absent new = None
+looked_at bytes faults old new = None
 
 -- a source failed in the run
 abbrev pub LookFailed : Looked → Type 0
@@ -53,8 +52,7 @@ stored contents faults old new = record { old = contents old; new = contents new
 -- what was handed in for the folder, where a folder was
 abbrev pub stored_in : {F : Type 0} → (F → Option (List Item)) → (F → ℕ) → Given F → Given F → Option Stored
 stored_in contents faults (Into old) (Into new) = Some (stored contents faults old new)
-stored_in contents faults (Into old) Nothing = None
-stored_in contents faults Nothing new = None
+stored_in contents faults old new = None
 
 -- the folder failed in the run
 abbrev pub StoreFailed : Option Stored → Type 0
@@ -65,5 +63,4 @@ StoreFailed (Some folder) = Rose folder.old_faults folder.new_faults
 abbrev pub IsGivenKept : {F : Type 0} → Given F → Given F → Type 0
 IsGivenKept Nothing Nothing = Unit {0}
 IsGivenKept (Into old) (Into new) = Unit {0}
-IsGivenKept Nothing (Into new) = ⊥
-IsGivenKept (Into old) Nothing = ⊥
+IsGivenKept old new = ⊥

@@ -44,14 +44,12 @@ status_of NoFolder = 9
 abbrev pub text_of : Outcome → List ℕ
 text_of (Written text) = text
 text_of (Faulty lead named) = lead
-text_of WrongWords = []
 text_of (ReadFailed part) = part
 text_of (WriteFailed part) = part
 text_of (OutOfMemory part) = part
 text_of (Refused lead feature block) = lead
 text_of (Answered lead answer) = lead
-text_of NoImage = []
-text_of NoFolder = []
+text_of o = []
 
 -- what is written on the second sink
 abbrev pub line_of : Outcome → List ℕ

@@ -8,6 +8,7 @@ use Rattle.img_format.specs.Fresh.{fresh}
 use Rattle.img_gpt.specs.Partition.{IsPartition}
 use Rattle.blk_folder.specs.Items.{Item}
 use Rattle.blk_folder.specs.Put.{Filled, FilledPart}
+use Rattle.tree_export.specs.Safe.{AreSafe}
 use Rattle.apfs_check.specs.Present as container
 use Rattle.apfs_check.specs.WellFormed.{IsWellFormed}
 use Rattle.apfs_cli.specs.First.{PresentBy}
@@ -19,7 +20,7 @@ use Rattle.apfs_cli.specs.Outcome.{Outcome, text_of, line_of, Written, Faulty, R
 use Rattle.apfs_cli.specs.ByCommand.{From, HandedIn, Made, Nowhere, from_of, takes_folder, lead_of, IsText, IsAnswer, AreItems, IsUncounted, IsUnexported, profile_of}
 use Rattle.apfs_cli.specs.Says.{HasAll, IsTableFault, IsUntouched, PutFailed, Ran, HasNoPart}
 use Rattle.apfs_cli.specs.declared.named.Named.{Named}
-use Rattle.apfs_cli.specs.declared.named.Named.TheVariants.{InContainer, InUsage, InExport, NoTable, BadTable, NoPartition, PartOutside}
+use Rattle.apfs_cli.specs.declared.named.Named.TheVariants.{InContainer, InUsage, InExport}
 
 -- both sinks have all of an outcome more than before
 abbrev pub BothWrote : Sunk → Sunk → Outcome → Type 0
@@ -38,10 +39,7 @@ abbrev pub IsPresentIn : Asked → List ℕ → Named → Type 0
 IsPresentIn command image (InContainer fault) = PresentBy (profile_of command) image fault
 IsPresentIn command image (InUsage slot xid) = IsUncounted command image slot xid
 IsPresentIn command image (InExport slot xid id) = IsUnexported command image slot xid id
-IsPresentIn command image NoTable = ⊥
-IsPresentIn command image BadTable = ⊥
-IsPresentIn command image NoPartition = ⊥
-IsPresentIn command image (PartOutside at) = ⊥
+IsPresentIn command image named = ⊥
 
 -- a command came to name a fault, which is present where the bytes of its source are told
 abbrev pub RanNaming : Option Line → Option Looked → Option Stored → Sunk → List ℕ → Named → Type 0
@@ -216,10 +214,16 @@ abbrev pub HasFrontMore : Option Stored → List Item → Type 0
 HasFrontMore None items = Unit {0}
 HasFrontMore (Some folder) items = FilledPart folder.old folder.new items
 
--- the folder has the items more with status 0, and with each other one a front of them
-pub record IsFilledWith (result : ℕ) (folder : Option Stored) (items : List Item) : Type 0 where
+-- the folder has the items more with status 0, and with each other one a front of them; it has them all before anything is written
+pub record IsFilledWith (result : ℕ) (out : Sunk) (folder : Option Stored) (items : List Item) : Type 0 where
   pub whole : result ≡ 0 → HasMore folder items
   pub front : HasFrontMore folder items
+  pub before_text : HasMore folder items ⊎ Wrote out.old out.new []
+
+-- it has some items more, whose paths stay in it
+abbrev pub HasSafeMore : Option Stored → Type 0
+HasSafeMore None = Unit {0}
+HasSafeMore (Some folder) = (items : List Item) × Filled folder.old folder.new items × AreSafe items
 
 -- ---- what a stop leaves
 

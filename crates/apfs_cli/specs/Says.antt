@@ -7,6 +7,7 @@ use Rattle.blk_folder.specs.Put.{Filled}
 use Rattle.img_gpt.specs.Partition.{found_part, HasNoTable, HasBadTable, HasNoPartition, HasPartOutside}
 use Rattle.img_gpt.specs.declared.part.Part.{Part}
 use Rattle.path_walk.specs.declared.answer.Answer.{Answer}
+use Rattle.tree_export.specs.Safe.{AreSafe}
 use Rattle.apfs_cli.specs.OnView.{ByAnswer}
 use Rattle.apfs_cli.specs.Texts.{IsPrefix}
 use Rattle.apfs_model.specs.Sink.{Wrote}
@@ -20,7 +21,7 @@ use Rattle.apfs_cli.specs.Outcome.{Outcome, text_of, Written, Faulty, WrongWords
 use Rattle.apfs_cli.specs.ByCommand.{From, HandedIn, Made, Nowhere, from_of, takes_folder, streams, lead_of, IsText, IsNamed, IsFeature, IsAnswer, AreItems, RestsOn, HasResult}
 use Rattle.apfs_cli.specs.Formed.{IsFormed}
 use Rattle.apfs_cli.specs.declared.named.Named.{Named}
-use Rattle.apfs_cli.specs.declared.named.Named.TheVariants.{InContainer, InUsage, InExport, NoTable, BadTable, NoPartition, PartOutside}
+use Rattle.apfs_cli.specs.declared.named.Named.TheVariants.{NoTable, BadTable, NoPartition, PartOutside}
 
 -- ---- a command over a source
 
@@ -70,14 +71,12 @@ AnswersAt command image answer = ByAnswer answer (Unit {0}) (Unit {0}) (RestsOn 
 abbrev pub SaysOn : Asked → Looked → Type 0 → Outcome → Type 0
 SaysOn command source failed (Written text) = IsWhole command source text
 SaysOn command source failed (Faulty lead named) = (lead ≡ lead_of command) × OfImage source (λ image. StopsAt command image (IsNamed command image named))
-SaysOn command source failed WrongWords = ⊥
 SaysOn command source failed (ReadFailed part) = LookFailed source × IsReadPart command source part
 SaysOn command source failed (WriteFailed part) = failed × IsPart command source part
 SaysOn command source failed (OutOfMemory part) = IsPart command source part
 SaysOn command source failed (Refused lead feature block) = (lead ≡ lead_of command) × OfImage source (λ image. StopsAt command image (IsFeature command image feature block))
 SaysOn command source failed (Answered lead answer) = (lead ≡ lead_of command) × OfImage source (λ image. AnswersAt command image answer)
-SaysOn command source failed NoImage = ⊥
-SaysOn command source failed NoFolder = ⊥
+SaysOn command source failed o = ⊥
 
 -- a command has come to an outcome over a source, and has written its text
 abbrev pub HasEnded : Asked → Looked → Result Unit Stopped → Sunk → Type 0
@@ -98,12 +97,13 @@ CameOver command (Some image) result out err = (outcome : Outcome) × SaysOn com
 
 -- ---- the folder
 
--- the folder has some items more, of which a fact holds for each image that is told; a command that takes no folder adds none
+-- the folder has some items more, of which a fact holds for each image that is told; whatever is told, their paths stay in it, and a command that takes no folder adds none
 pub record Fills (command : Asked) (source : Looked) (folder : Stored) (P : List ℕ → List Item → Type 0) : Type 0 where
   pub added : List Item
   pub none : takes_folder command ≡ false → added ≡ []
   pub are : OfImage source (λ image. P image added)
   pub put : Filled folder.old folder.new added
+  pub safe : AreSafe added
 
 -- the items of a command, where what they rest on holds
 abbrev pub AreItemsIf : Asked → List ℕ → List Item → Type 0
@@ -113,22 +113,23 @@ AreItemsIf command image items = RestsOn command image → AreItems command imag
 abbrev pub AreFrontIf : Asked → List ℕ → List Item → Type 0
 AreFrontIf command image front = (front ≡ []) ⊎ ((items : List Item) × AreItemsIf command image items × IsFront front items)
 
+-- the items of a command by the part of its text that was written: all of them, or no more than its lead was written and they are a front
+abbrev pub AreItemsBy : Asked → List ℕ → List ℕ → List Item → Type 0
+AreItemsBy command part image items = AreItemsIf command image items ⊎ (IsPrefix part (lead_of command) × AreFrontIf command image items)
+
 -- nothing was added
 abbrev pub IsSame : Stored → Type 0
 IsSame folder = Filled folder.old folder.new []
 
--- what an outcome says of a command, a source and a folder: all items were added, or a front of them where something failed; where a fault or a feature stopped it none, but over a source that doesn't tell its bytes
+-- what an outcome says of a command, a source and a folder: all items were added, or a front of them where something failed before the text began; where a fault or a feature stopped it none, but over a source that doesn't tell its bytes
 abbrev pub FillsBy : Asked → Looked → Stored → Outcome → Type 0
 FillsBy command source folder (Written text) = Fills command source folder (AreItemsIf command)
 FillsBy command source folder (Faulty lead named) = Fills command source folder (λ image added. added ≡ [])
-FillsBy command source folder WrongWords = IsSame folder
-FillsBy command source folder (ReadFailed part) = Fills command source folder (AreFrontIf command)
-FillsBy command source folder (WriteFailed part) = Fills command source folder (AreFrontIf command)
-FillsBy command source folder (OutOfMemory part) = Fills command source folder (AreFrontIf command)
+FillsBy command source folder (ReadFailed part) = Fills command source folder (AreItemsBy command part)
+FillsBy command source folder (WriteFailed part) = Fills command source folder (AreItemsBy command part)
+FillsBy command source folder (OutOfMemory part) = Fills command source folder (AreItemsBy command part)
 FillsBy command source folder (Refused lead feature block) = Fills command source folder (λ image added. added ≡ [])
-FillsBy command source folder (Answered lead answer) = IsSame folder
-FillsBy command source folder NoImage = IsSame folder
-FillsBy command source folder NoFolder = IsSame folder
+FillsBy command source folder o = IsSame folder
 
 -- where there is a folder
 abbrev pub FillsOn : Asked → Looked → Option Stored → Outcome → Type 0
@@ -144,9 +145,7 @@ IsUntouched (Some folder) = IsSame folder
 -- an image is wanted by this origin, and none was handed in
 abbrev pub LacksFrom : From → Option Looked → Type 0
 LacksFrom HandedIn None = Unit {0}
-LacksFrom HandedIn (Some source) = ⊥
-LacksFrom Made image = ⊥
-LacksFrom Nowhere image = ⊥
+LacksFrom from image = ⊥
 
 -- the command takes an image, and none was handed in
 abbrev pub LacksImage : Line → Option Looked → Type 0
@@ -155,8 +154,7 @@ LacksImage line image = LacksFrom (from_of line.command) image
 -- a folder is wanted, and none was handed in
 abbrev pub LacksStore : Bool → Option Stored → Type 0
 LacksStore true None = Unit {0}
-LacksStore true (Some folder) = ⊥
-LacksStore false folder = ⊥
+LacksStore wanted folder = ⊥
 
 -- the command takes a folder, and none was handed in
 abbrev pub LacksFolder : Line → Option Stored → Type 0
@@ -190,9 +188,7 @@ IsTableFault disk NoTable = HasNoTable disk
 IsTableFault disk BadTable = HasBadTable disk
 IsTableFault disk NoPartition = HasNoPartition disk
 IsTableFault disk (PartOutside at) = HasPartOutside disk at
-IsTableFault disk (InContainer fault) = ⊥
-IsTableFault disk (InUsage slot xid) = ⊥
-IsTableFault disk (InExport slot xid id) = ⊥
+IsTableFault disk named = ⊥
 
 -- what stops a run before there is a partition: a fault of the table, where the disk is told one that is there, or a read that failed
 abbrev pub StopsTable : Looked → Outcome → Type 0

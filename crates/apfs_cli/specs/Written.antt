@@ -3,7 +3,7 @@ use Rattle.std.specs.Prelude.{◌≡◌, ◌⊎◌, ◌++◌, ℕ, ◌≤◌, Li
 use Rattle.apfs_model.specs.Counts.{Rose}
 use Rattle.apfs_model.specs.Sink.{Wrote, WrotePart}
 use Rattle.apfs_cli.specs.declared.stopped.Stopped.{Stopped}
-use Rattle.apfs_cli.specs.declared.stopped.Stopped.TheVariants.{Faulty, WrongWords, ReadFailed, WriteFailed, OutOfMemory, Refused, Answered, NoImage, NoFolder}
+use Rattle.apfs_cli.specs.declared.stopped.Stopped.TheVariants.{WriteFailed, OutOfMemory}
 use Rattle.apfs_cli.specs.Outcome.{Outcome, status_of, text_of, line_of}
 use Rattle.apfs_cli.specs.Texts.{out_of_memory_line}
 
@@ -23,15 +23,9 @@ Failed sink = Rose sink.old_faults sink.new_faults
 
 -- what stops a text: a put of it that fails, or want of memory
 abbrev pub CutsText : Stopped → Sunk → Type 0
-CutsText (Faulty named) sink = ⊥
-CutsText WrongWords sink = ⊥
-CutsText ReadFailed sink = ⊥
 CutsText WriteFailed sink = Failed sink
 CutsText OutOfMemory sink = Unit {0}
-CutsText (Refused feature block) sink = ⊥
-CutsText (Answered answer) sink = ⊥
-CutsText NoImage sink = ⊥
-CutsText NoFolder sink = ⊥
+CutsText stopped sink = ⊥
 
 -- a text was put on a sink: all of it, or a prefix where something stopped it
 abbrev pub IsPut : List ℕ → Result Unit Stopped → Sunk → Type 0

@@ -9,7 +9,7 @@ ghost use Rattle.cmd_words.specs.Asked.{target_asked};
 ghost use Rattle.img_format.specs.declared.spec.Spec.{Spec};
 ghost use Rattle.apfs_cli.specs.Handed.{looked, looked_at, stored_in, IsGivenKept};
 ghost use Rattle.apfs_cli.specs.Outcome as outcomes;
-ghost use Rattle.apfs_cli.specs.Rows.{BothWrote, HasText, NamesFault, NamesFeature, NamesAnswer, SaysReadFailed, SaysOutOfMemory, HasFailedPut, HasDefinedText, HasDefinedItems, HasDefinedAnswer, HasSound, HasUnsound, HasTableFault, IsExactly, IsOrFree, IsCleanOrFree, IsFoundOrFree, IsUndisturbed, IsCompleted, IsFilledWith, IsNewOrFree, IsOfMade, IsRefusal, IsTurnedAway, lead_in, MayFill};
+ghost use Rattle.apfs_cli.specs.Rows.{BothWrote, HasText, NamesFault, NamesFeature, NamesAnswer, SaysReadFailed, SaysOutOfMemory, HasFailedPut, HasDefinedText, HasDefinedItems, HasDefinedAnswer, HasSound, HasUnsound, HasTableFault, IsExactly, IsOrFree, IsCleanOrFree, IsFoundOrFree, IsUndisturbed, IsCompleted, IsFilledWith, HasSafeMore, IsNewOrFree, IsOfMade, IsRefusal, IsTurnedAway, lead_in, MayFill};
 ghost use Rattle.apfs_cli.specs.Says.{HasEnded, HasCome, HasNoImage, HasNoFolder, IsOpenedKept, IsUntouched, CameTo, CameOver};
 ghost use Rattle.apfs_cli.specs.Seen.{outcome_of};
 ghost use Rattle.apfs_cli.specs.Words.{Check, Export, Format, Gen, asked_of, line_in, plain_line, said};
@@ -192,7 +192,8 @@ pub fn run<S: BlockSource, W: Sink, E: Sink, F: Folder>(
     ensures completed { IsUndisturbed (asked_of (map string_bytes words.now)) (looked_at S.bytes S.faults image.old image.new) (stored_in F.contents F.faults folder.old folder.new) (sunk W.contents W.faults out.old out.new) (sunk E.contents E.faults err.old err.new) → IsCompleted result }
 
     // What a folder gets.
-    ensures filled { (items : List Item) → HasDefinedItems (asked_of (map string_bytes words.now)) (looked_at S.bytes S.faults image.old image.new) (stored_in F.contents F.faults folder.old folder.new) items → IsFilledWith result (stored_in F.contents F.faults folder.old folder.new) items }
+    ensures filled { (items : List Item) → HasDefinedItems (asked_of (map string_bytes words.now)) (looked_at S.bytes S.faults image.old image.new) (stored_in F.contents F.faults folder.old folder.new) items → IsFilledWith result (sunk W.contents W.faults out.old out.new) (stored_in F.contents F.faults folder.old folder.new) items }
+    ensures safe { HasSafeMore (stored_in F.contents F.faults folder.old folder.new) }
 
     // How `format` ends.
     ensures new { (spec : Spec) → asked_of (map string_bytes words.now) ≡ Some (plain_line (Format spec)) → IsNewOrFree spec result (sunk W.contents W.faults out.old out.new) }

@@ -1,12 +1,13 @@
 -- What a folder has after some items.
 use Rattle.std.proofs.Common.{◌≡◌, ◌⊎◌, inl, inr, ℕ, List, [], ◌∷◌, ◌++◌, Option, None, Some, refl, ap, sym, ◌∙◌, subst, append_assoc, append-nil}
 use Rattle.std.specs.List.{cons_option}
-use Rattle.std.proofs.lemmas.List.Elements.{filter_map-append}
+use Rattle.std.proofs.lemmas.List.Elements.{filter_map-append, All-nil, All-cons, All-append}
 use Rattle.view_rules.specs.Facts.{Facts}
 use Rattle.blk_folder.specs.Items.{Item, file_at, held_more, with_more, IsBegun, EndsWith, IsFront}
 use Rattle.blk_folder.specs.Put.{Added, MayHaveAdded, Appended, Filled}
 use Rattle.tree_export.specs.Exported.{Wanted, put_for, put_all}
 use Rattle.tree_export.specs.Filled.{FilledWhole, FilledFront}
+use Rattle.tree_export.specs.Safe.{IsSafe, AreSafe}
 use Rattle.tree_export.specs.Parts.{AppendedWhole, AppendedFront}
 
 -- ---- what was added
@@ -74,48 +75,62 @@ front-more front xs ys f = record {
   ];
 }
 
+-- ---- paths that stay in the folder
+none-safe : AreSafe []
+none-safe = All-nil (λ (item : Item). IsSafe item.path)
+
+one-safe : (item : Item) → IsSafe item.path → AreSafe (item ∷ [])
+one-safe item safe = All-cons (λ (i : Item). IsSafe i.path) item [] safe none-safe
+
+more-safe : (xs ys : List Item) → AreSafe xs → AreSafe ys → AreSafe (xs ++ ys)
+more-safe xs ys first second = All-append (λ (item : Item). IsSafe item.path) xs ys first second
+
 -- ---- what a call has filled
 -- nothing, before anything is wanted
 pub filled_none : (a : Option (List Item)) (told : Option (List ℕ)) (sound : List ℕ → Type 0) (wanted : List ℕ → List Item) → ((image : List ℕ) → [] ≡ wanted image) → FilledWhole a a told sound wanted
-filled_none a told sound wanted empty = ([], none_filled a, λ image known s. empty image)
+filled_none a told sound wanted empty = ([], none_filled a, (λ image known s. empty image), none-safe)
 
 pub front_filled : (a : Option (List Item)) (told : Option (List ℕ)) (sound : List ℕ → Type 0) (wanted : List ℕ → List Item) → FilledFront a a told sound wanted
-front_filled a told sound wanted = ([], none_filled a, λ image known s. front_none (wanted image))
+front_filled a told sound wanted = ([], none_filled a, (λ image known s. front_none (wanted image)), none-safe)
 
 -- an item was added
-pub filled_item : (a b : Option (List Item)) (told : Option (List ℕ)) (sound : List ℕ → Type 0) (wanted : List ℕ → List Item) (item : Item) → Added a b item → ((image : List ℕ) → item ∷ [] ≡ wanted image) → FilledWhole a b told sound wanted
-filled_item a b told sound wanted item added same = (item ∷ [], added, λ image known s. same image)
+pub filled_item : (a b : Option (List Item)) (told : Option (List ℕ)) (sound : List ℕ → Type 0) (wanted : List ℕ → List Item) (item : Item) → IsSafe item.path → Added a b item → ((image : List ℕ) → item ∷ [] ≡ wanted image) → FilledWhole a b told sound wanted
+filled_item a b told sound wanted item safe added same = (item ∷ [], added, (λ image known s. same image), one-safe item safe)
 
 -- it may have been added
-pub front_item : (a b : Option (List Item)) (told : Option (List ℕ)) (sound : List ℕ → Type 0) (wanted : List ℕ → List Item) (item : Item) → MayHaveAdded a b item → ((image : List ℕ) → IsFront (item ∷ []) (wanted image)) → FilledFront a b told sound wanted
-front_item a b told sound wanted item part front =
+pub front_item : (a b : Option (List Item)) (told : Option (List ℕ)) (sound : List ℕ → Type 0) (wanted : List ℕ → List Item) (item : Item) → IsSafe item.path → MayHaveAdded a b item → ((image : List ℕ) → IsFront (item ∷ []) (wanted image)) → FilledFront a b told sound wanted
+front_item a b told sound wanted item safe part front =
     let m = may_filled a b item part in (
       m.0,
       m.1,
-      λ image known s. elim m.2 as (λ _. IsFront m.0 (wanted image)) [
-        | inl none ↦ subst (λ (l : List Item). IsFront l (wanted image)) (sym none) (front_none (wanted image))
-        | inr one ↦ subst (λ (l : List Item). IsFront l (wanted image)) (sym one) (front image)
-      ],
+      (
+          λ image known s. elim m.2 as (λ _. IsFront m.0 (wanted image)) [
+            | inl none ↦ subst (λ (l : List Item). IsFront l (wanted image)) (sym none) (front_none (wanted image))
+            | inr one ↦ subst (λ (l : List Item). IsFront l (wanted image)) (sym one) (front image)
+          ]
+          ),
+      elim m.2 as (λ _. AreSafe m.0) [ inl none ↦ subst AreSafe (sym none) none-safe | inr one ↦ subst AreSafe (sym one) (one-safe item safe) ],
     )
 
 -- a file was begun and has all its bytes
-pub filled_file : (a b c : Option (List Item)) (told later : Option (List ℕ)) (sound : List ℕ → Type 0) (path : List ℕ) (bytes text : List ℕ → List ℕ) → later ≡ told → Added a b (file_at path []) → AppendedWhole b c later text →
+pub filled_file : (a b c : Option (List Item)) (told later : Option (List ℕ)) (sound : List ℕ → Type 0) (path : List ℕ) (bytes text : List ℕ → List ℕ) → later ≡ told → IsSafe path → Added a b (file_at path []) → AppendedWhole b c later text →
     ((image : List ℕ) → told ≡ Some image → sound image → bytes image ≡ text image) → FilledWhole a c told sound (λ (image : List ℕ). file_at path (bytes image) ∷ [])
-filled_file a b c told later sound path bytes text kept begun put same =
-    (file_at path put.0 ∷ [], file-put a b c path put.0 begun put.1, λ image known s. ap (λ (l : List ℕ). file_at path l ∷ []) (put.2 image (kept ∙ known) ∙ sym (same image known s)))
+filled_file a b c told later sound path bytes text kept safe begun put same =
+    (file_at path put.0 ∷ [], file-put a b c path put.0 begun put.1, (λ image known s. ap (λ (l : List ℕ). file_at path l ∷ []) (put.2 image (kept ∙ known) ∙ sym (same image known s))), one-safe (file_at path put.0) safe)
 
 -- or a front of its bytes
-pub front_bytes : (a b c : Option (List Item)) (told later : Option (List ℕ)) (sound : List ℕ → Type 0) (path : List ℕ) (bytes text : List ℕ → List ℕ) → later ≡ told → Added a b (file_at path []) → AppendedFront b c later text →
+pub front_bytes : (a b c : Option (List Item)) (told later : Option (List ℕ)) (sound : List ℕ → Type 0) (path : List ℕ) (bytes text : List ℕ → List ℕ) → later ≡ told → IsSafe path → Added a b (file_at path []) → AppendedFront b c later text →
     ((image : List ℕ) → told ≡ Some image → sound image → bytes image ≡ text image) → FilledFront a c told sound (λ (image : List ℕ). file_at path (bytes image) ∷ [])
-front_bytes a b c told later sound path bytes text kept begun put same =
-    (file_at path put.0 ∷ [], file-put a b c path put.0 begun put.1, λ image known s. let rest = put.2 image (kept ∙ known) in front_file path (bytes image) put.0 rest.0 (same image known s ∙ rest.1))
+front_bytes a b c told later sound path bytes text kept safe begun put same =
+    (file_at path put.0 ∷ [], file-put a b c path put.0 begun put.1, (λ image known s. let rest = put.2 image (kept ∙ known) in front_file path (bytes image) put.0 rest.0 (same image known s ∙ rest.1)), one-safe (file_at path put.0) safe)
 
 -- items were added after others
 pub filled_more : (a b c : Option (List Item)) (told later : Option (List ℕ)) (sound : List ℕ → Type 0) (x y z : List ℕ → List Item) → later ≡ told → ((image : List ℕ) → x image ++ y image ≡ z image) → FilledWhole a b told sound x → FilledWhole b c later sound y → FilledWhole a c told sound z
 filled_more a b c told later sound x y z kept both first second = (
   first.0 ++ second.0,
   filled-more a b c first.0 second.0 first.1 second.1,
-  λ image known s. ap (λ (l : List Item). l ++ second.0) (first.2 image known s) ∙ (ap (λ (l : List Item). x image ++ l) (second.2 image (kept ∙ known) s) ∙ both image),
+  (λ image known s. ap (λ (l : List Item). l ++ second.0) (first.2 image known s) ∙ (ap (λ (l : List Item). x image ++ l) (second.2 image (kept ∙ known) s) ∙ both image)),
+  more-safe first.0 second.0 first.3 second.3,
 )
 
 -- a front of some was added after others, and more were wanted
@@ -123,10 +138,13 @@ pub filled_cut : (a b c : Option (List Item)) (told later : Option (List ℕ)) (
 filled_cut a b c told later sound x y z rest kept both first second = (
   first.0 ++ second.0,
   filled-more a b c first.0 second.0 first.1 second.1,
-  λ image known s.
+  (
+      λ image known s.
       let here : IsFront (first.0 ++ second.0) (first.0 ++ y image) = front-after first.0 second.0 (y image) (second.2 image (kept ∙ known) s) in
       let there : IsFront (first.0 ++ second.0) (x image ++ y image) = subst (λ (l : List Item). IsFront (first.0 ++ second.0) (l ++ y image)) (first.2 image known s) here in
-      subst (λ (l : List Item). IsFront (first.0 ++ second.0) l) (both image) (front-more (first.0 ++ second.0) (x image ++ y image) (rest image) there),
+      subst (λ (l : List Item). IsFront (first.0 ++ second.0) l) (both image) (front-more (first.0 ++ second.0) (x image ++ y image) (rest image) there)
+      ),
+  more-safe first.0 second.0 first.3 second.3,
 )
 
 -- all of some are a front, where more were wanted
@@ -134,16 +152,16 @@ pub filled_front : (a b : Option (List Item)) (told : Option (List ℕ)) (sound 
 filled_front a b told sound x z rest both first = (
   first.0,
   first.1,
-  λ image known s.
-      subst (λ (l : List Item). IsFront first.0 l) (both image) (front-more first.0 (x image) (rest image) (subst (λ (l : List Item). IsFront first.0 l) (first.2 image known s) (front_all first.0))),
+  (λ image known s. subst (λ (l : List Item). IsFront first.0 l) (both image) (front-more first.0 (x image) (rest image) (subst (λ (l : List Item). IsFront first.0 l) (first.2 image known s) (front_all first.0)))),
+  first.3,
 )
 
 -- what is wanted may be said in other words, and of a source that has the same bytes
 pub filled_as : (a b : Option (List Item)) (told later : Option (List ℕ)) (sound : List ℕ → Type 0) (x y : List ℕ → List Item) → later ≡ told → ((image : List ℕ) → told ≡ Some image → sound image → x image ≡ y image) → FilledWhole a b later sound x → FilledWhole a b told sound y
-filled_as a b told later sound x y kept same first = (first.0, first.1, λ image known s. first.2 image (kept ∙ known) s ∙ same image known s)
+filled_as a b told later sound x y kept same first = (first.0, first.1, (λ image known s. first.2 image (kept ∙ known) s ∙ same image known s), first.3)
 
 pub front_as : (a b : Option (List Item)) (told later : Option (List ℕ)) (sound : List ℕ → Type 0) (x y : List ℕ → List Item) → later ≡ told → ((image : List ℕ) → told ≡ Some image → sound image → x image ≡ y image) → FilledFront a b later sound x → FilledFront a b told sound y
-front_as a b told later sound x y kept same first = (first.0, first.1, λ image known s. subst (λ (l : List Item). IsFront first.0 l) (same image known s) (first.2 image (kept ∙ known) s))
+front_as a b told later sound x y kept same first = (first.0, first.1, (λ image known s. subst (λ (l : List Item). IsFront first.0 l) (same image known s) (first.2 image (kept ∙ known) s)), first.3)
 
 -- ---- what is put for some items
 pub put_append : (block_size : ℕ) (image : List ℕ) (facts : Facts) (xs ys : List Wanted) → put_all block_size image facts (xs ++ ys) ≡ put_all block_size image facts xs ++ put_all block_size image facts ys

@@ -9,3 +9,4 @@ pub mod Tellings
 pub mod Rows
 pub mod Taken
 pub mod Stops
+pub mod Examples

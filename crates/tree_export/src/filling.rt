@@ -43,9 +43,9 @@ fn tell(done: &mut Done, place: usize, put: Put) -> Result<(), NoMemory>
 }
 
 /// Puts the items of a view into a folder, one after the other, each by the inode of its id: a directory, or a file with the
-/// stream of its inode. For other inodes nothing is put, nor for files that are compressed or dataless. A component of a path
-/// that is `.` is written `\x2e`, and one that is `..` is written `\x2e\x2e`. Where a look at the view stops or a call fails,
-/// the folder has a front of what was to be put, of whose last file a front of the bytes may be there.
+/// stream of its inode. For other inodes nothing is put, nor for files that are compressed or dataless. A path is written as
+/// `safe_path` gives it. Where a look at the view stops or a call fails, the folder has a front of what was to be put, of whose
+/// last file a front of the bytes may be there.
 pub fn export<S: BlockSource, F: Folder>(
     alloc: Global,
     src: &mut S,

@@ -12,6 +12,7 @@ ghost use Rattle.path_read.specs.Contents.{stream_in};
 ghost use Rattle.blk_folder.specs.Items.{file_at};
 ghost use Rattle.tree_export.specs.Exported.{wanted_of, put_for, put_all};
 ghost use Rattle.tree_export.specs.Filled.{HasFilled};
+ghost use Rattle.tree_export.specs.Safe.{IsSafe};
 ghost use Rattle.tree_export.specs.Faults.{HasInode, IsExportStop};
 ghost use Rattle.tree_export.specs.Parts.{put_as, IsPut, IsFileStop, IsContentStop};
 ghost use Rattle.tree_export.specs.declared.stop.ExportFault.TheVariants as faults;
@@ -64,6 +65,7 @@ fn put_file<S: BlockSource, F: Folder>(
     folder: &mut F,
 ) -> Result<(), ExportStop>
     requires site { IsSiteFor site.now (S.bytes_len src.old) }
+    requires safe { IsSafe path.now }
     ensures filled { HasFilled (F.contents folder.old) (F.contents folder.new) (S.bytes src.old) (λ image. is_view_ordered image site.now volume.now view.now ≡ true) (λ image. file_at path.now (stream_in site.now.block_size image (view_facts image site.now volume.now view.now) stream size) ∷ []) result }
     ensures present { (image : List ℕ) → S.bytes src.old ≡ Some image → IfErr result (IsFileStop image site.now volume.now view.now id stream) }
     ensures read_cause { result ≡ Err (Stopped ReadFault) → Rose (S.faults src.old) (S.faults src.new) }
@@ -99,6 +101,7 @@ fn put_content<S: BlockSource, F: Folder>(
     folder: &mut F,
 ) -> Result<Put, ExportStop>
     requires site { IsSiteFor site.now (S.bytes_len src.old) }
+    requires safe { IsSafe path.now }
     ensures filled { HasFilled (F.contents folder.old) (F.contents folder.new) (S.bytes src.old) (λ image. is_view_ordered image site.now volume.now view.now ≡ true) (λ image. cons_option (put_as site.now.block_size image (view_facts image site.now volume.now view.now) path.now content) []) result }
     ensures told { (image : List ℕ) → IfOk result (IsPut (put_as site.now.block_size image (view_facts image site.now volume.now view.now) path.now content)) }
     ensures present { (image : List ℕ) → S.bytes src.old ≡ Some image → IfErr result (IsContentStop image site.now volume.now view.now id content) }

@@ -33,7 +33,7 @@ pub returns-in-Err-clause-answer : goal.returns-in-Err-clause-answer
 returns-in-Err-clause-answer g c =
     let command = Export (target_asked c.args.target) in
     let source = looked g.S.BlockSource.bytes g.S.BlockSource.faults c.args.src c.kept_size_of.new.src in
-    unfilled command source (stored g.F.Folder.contents g.F.Folder.faults c.args.folder.now c.args.folder.now) ReadFailed (sunk g.W.Sink.contents g.W.Sink.faults c.args.out.now c.args.out.now)
+    unfilled command source (stored g.F.Folder.contents g.F.Folder.faults c.args.folder.now c.args.folder.now) ReadFailed (g.W.Sink.contents c.args.out.now) (g.W.Sink.faults c.args.out.now)
     (kept_store g.F.Folder.contents g.F.Folder.faults c.args.folder.now)
     (read_ended command source (g.W.Sink.contents c.args.out.now) (g.W.Sink.faults c.args.out.now) c.in-Err.ensures.cause)
 
@@ -41,6 +41,6 @@ pub returns-in-Err-new-clause-answer : goal.returns-in-Err-new-clause-answer
 returns-in-Err-new-clause-answer g c =
     let command = Export (target_asked c.args.target) in
     let source = looked g.S.BlockSource.bytes g.S.BlockSource.faults c.args.src c.in-Err-new.src in
-    unfilled command source (stored g.F.Folder.contents g.F.Folder.faults c.args.folder.now c.args.folder.now) OutOfMemory (sunk g.W.Sink.contents g.W.Sink.faults c.args.out.now c.args.out.now)
+    unfilled command source (stored g.F.Folder.contents g.F.Folder.faults c.args.folder.now c.args.folder.now) OutOfMemory (g.W.Sink.contents c.args.out.now) (g.W.Sink.faults c.args.out.now)
     (kept_store g.F.Folder.contents g.F.Folder.faults c.args.folder.now)
     (no_memory_ended command source (g.W.Sink.contents c.args.out.now) (g.W.Sink.faults c.args.out.now))

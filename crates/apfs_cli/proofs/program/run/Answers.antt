@@ -6,7 +6,7 @@ use Rattle.apfs_cli.specs.Words.{asked_of}
 use Rattle.apfs_cli.specs.Written.{sunk}
 use Rattle.apfs_cli.proofs.Statuses.{text_row, whole_row, fault_row, wrong_words_row, usage_row, read_failed_row, write_failed_row, out_of_memory_row, feature_row, answered_row, always_answered_row, clean_row, flawed_row, completed_row, no_image_row, absent_row, no_folder_row, nowhere_row, no_part_row, lead_row, turned_away_row, folder_row}
 use Rattle.apfs_cli.proofs.NewRow.{new_row}
-use Rattle.apfs_cli.proofs.FilledRow.{filled_row}
+use Rattle.apfs_cli.proofs.FilledRow.{filled_row, safe_row}
 use Rattle.apfs_cli.proofs.program.run.Goals as goal
 
 pub returns-clause-text : goal.returns-clause-text
@@ -127,4 +127,9 @@ returns-clause-new g c =
 pub returns-clause-filled : goal.returns-clause-filled
 returns-clause-filled g c =
     filled_row (asked_of (map string_bytes c.args.words.now)) (looked_at g.S.BlockSource.bytes g.S.BlockSource.faults c.args.image.now c.end.new.image) (stored_in g.F.Folder.contents g.F.Folder.faults c.args.folder.now c.end.new.folder) c.end.result
+    (sunk g.W.Sink.contents g.W.Sink.faults c.args.out.now c.end.new.out) (sunk g.E.Sink.contents g.E.Sink.faults c.args.err.now c.end.new.err) c.end.ensures.answer
+
+pub returns-clause-safe : goal.returns-clause-safe
+returns-clause-safe g c =
+    safe_row (asked_of (map string_bytes c.args.words.now)) (looked_at g.S.BlockSource.bytes g.S.BlockSource.faults c.args.image.now c.end.new.image) (stored_in g.F.Folder.contents g.F.Folder.faults c.args.folder.now c.end.new.folder) c.end.result
     (sunk g.W.Sink.contents g.W.Sink.faults c.args.out.now c.end.new.out) (sunk g.E.Sink.contents g.E.Sink.faults c.args.err.now c.end.new.err) c.end.ensures.answer

@@ -13,22 +13,22 @@ use Rattle.tree_export.proofs.putting.put_content.Goals as goal
 pub returns-in-Ok-clause-filled : goal.returns-in-Ok-clause-filled
 returns-in-Ok-clause-filled g c =
     filled_item (g.F.Folder.contents c.args.folder.now) (g.F.Folder.contents c.make_dir.new.self) (g.S.BlockSource.bytes c.args.src.now) (λ (image : List ℕ). is_view_ordered image c.args.site.now c.args.volume.now c.args.view.now ≡ true)
-    (λ (image : List ℕ). cons_option (put_as c.args.site.now.block_size image (view_facts image c.args.site.now c.args.volume.now c.args.view.now) c.args.path.now c.args.content) []) (directory_at c.args.path.now) c.in-Ok.ensures.made (λ image. ap (λ (k : Content). cons_option (put_as c.args.site.now.block_size image (view_facts image c.args.site.now c.args.volume.now c.args.view.now) c.args.path.now k) []) (sym c.in-Directory.is))
+    (λ (image : List ℕ). cons_option (put_as c.args.site.now.block_size image (view_facts image c.args.site.now c.args.volume.now c.args.view.now) c.args.path.now c.args.content) []) (directory_at c.args.path.now) c.requires.safe c.in-Ok.ensures.made (λ image. ap (λ (k : Content). cons_option (put_as c.args.site.now.block_size image (view_facts image c.args.site.now c.args.volume.now c.args.view.now) c.args.path.now k) []) (sym c.in-Directory.is))
 
 pub returns-in-Err-clause-filled : goal.returns-in-Err-clause-filled
 returns-in-Err-clause-filled g c =
     front_item (g.F.Folder.contents c.args.folder.now) (g.F.Folder.contents c.make_dir.new.self) (g.S.BlockSource.bytes c.args.src.now) (λ (image : List ℕ). is_view_ordered image c.args.site.now c.args.volume.now c.args.view.now ≡ true)
-    (λ (image : List ℕ). cons_option (put_as c.args.site.now.block_size image (view_facts image c.args.site.now c.args.volume.now c.args.view.now) c.args.path.now c.args.content) []) (directory_at c.args.path.now) c.in-Err.ensures.part (λ image. subst (λ (l : List Item). IsFront (directory_at c.args.path.now ∷ []) l) (ap (λ (k : Content). cons_option (put_as c.args.site.now.block_size image (view_facts image c.args.site.now c.args.volume.now c.args.view.now) c.args.path.now k) []) (sym c.in-Directory.is)) (front_all (directory_at c.args.path.now ∷ [])))
+    (λ (image : List ℕ). cons_option (put_as c.args.site.now.block_size image (view_facts image c.args.site.now c.args.volume.now c.args.view.now) c.args.path.now c.args.content) []) (directory_at c.args.path.now) c.requires.safe c.in-Err.ensures.part (λ image. subst (λ (l : List Item). IsFront (directory_at c.args.path.now ∷ []) l) (ap (λ (k : Content). cons_option (put_as c.args.site.now.block_size image (view_facts image c.args.site.now c.args.volume.now c.args.view.now) c.args.path.now k) []) (sym c.in-Directory.is)) (front_all (directory_at c.args.path.now ∷ [])))
 
 pub returns-in-Ok-start_file-clause-filled : goal.returns-in-Ok-start_file-clause-filled
 returns-in-Ok-start_file-clause-filled g c =
     filled_item (g.F.Folder.contents c.args.folder.now) (g.F.Folder.contents c.start_file.new.self) (g.S.BlockSource.bytes c.args.src.now) (λ (image : List ℕ). is_view_ordered image c.args.site.now c.args.volume.now c.args.view.now ≡ true)
-    (λ (image : List ℕ). cons_option (put_as c.args.site.now.block_size image (view_facts image c.args.site.now c.args.volume.now c.args.view.now) c.args.path.now c.args.content) []) (file_at c.args.path.now []) c.in-Ok-start_file.ensures.started (λ image. ap (λ (k : Content). cons_option (put_as c.args.site.now.block_size image (view_facts image c.args.site.now c.args.volume.now c.args.view.now) c.args.path.now k) []) (sym c.in-Empty.is))
+    (λ (image : List ℕ). cons_option (put_as c.args.site.now.block_size image (view_facts image c.args.site.now c.args.volume.now c.args.view.now) c.args.path.now c.args.content) []) (file_at c.args.path.now []) c.requires.safe c.in-Ok-start_file.ensures.started (λ image. ap (λ (k : Content). cons_option (put_as c.args.site.now.block_size image (view_facts image c.args.site.now c.args.volume.now c.args.view.now) c.args.path.now k) []) (sym c.in-Empty.is))
 
 pub returns-in-Err-start_file-clause-filled : goal.returns-in-Err-start_file-clause-filled
 returns-in-Err-start_file-clause-filled g c =
     front_item (g.F.Folder.contents c.args.folder.now) (g.F.Folder.contents c.start_file.new.self) (g.S.BlockSource.bytes c.args.src.now) (λ (image : List ℕ). is_view_ordered image c.args.site.now c.args.volume.now c.args.view.now ≡ true)
-    (λ (image : List ℕ). cons_option (put_as c.args.site.now.block_size image (view_facts image c.args.site.now c.args.volume.now c.args.view.now) c.args.path.now c.args.content) []) (file_at c.args.path.now []) c.in-Err-start_file.ensures.part (λ image. subst (λ (l : List Item). IsFront (file_at c.args.path.now [] ∷ []) l) (ap (λ (k : Content). cons_option (put_as c.args.site.now.block_size image (view_facts image c.args.site.now c.args.volume.now c.args.view.now) c.args.path.now k) []) (sym c.in-Empty.is)) (front_all (file_at c.args.path.now [] ∷ [])))
+    (λ (image : List ℕ). cons_option (put_as c.args.site.now.block_size image (view_facts image c.args.site.now c.args.volume.now c.args.view.now) c.args.path.now c.args.content) []) (file_at c.args.path.now []) c.requires.safe c.in-Err-start_file.ensures.part (λ image. subst (λ (l : List Item). IsFront (file_at c.args.path.now [] ∷ []) l) (ap (λ (k : Content). cons_option (put_as c.args.site.now.block_size image (view_facts image c.args.site.now c.args.volume.now c.args.view.now) c.args.path.now k) []) (sym c.in-Empty.is)) (front_all (file_at c.args.path.now [] ∷ [])))
 
 pub returns-in-Ok-clause-told : goal.returns-in-Ok-clause-told
 returns-in-Ok-clause-told g c image = (c.args.path.now, ap (λ (k : Content). put_as c.args.site.now.block_size image (view_facts image c.args.site.now c.args.volume.now c.args.view.now) c.args.path.now k) c.in-Directory.is)

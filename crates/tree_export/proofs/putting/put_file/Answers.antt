@@ -22,7 +22,7 @@ pub returns-in-Err-start_file-clause-filled : goal.returns-in-Err-start_file-cla
 returns-in-Err-start_file-clause-filled g c =
     front_item (g.F.Folder.contents c.args.folder.now) (g.F.Folder.contents c.start_file.new.self) (g.S.BlockSource.bytes c.args.src.now) (λ (image : List ℕ). is_view_ordered image c.args.site.now c.args.volume.now c.args.view.now ≡ true)
     (λ (image : List ℕ). file_at c.args.path.now (stream_in c.args.site.now.block_size image (view_facts image c.args.site.now c.args.volume.now c.args.view.now) c.args.stream c.args.size) ∷ [])
-    (file_at c.args.path.now []) c.in-Err-start_file.ensures.part
+    (file_at c.args.path.now []) c.requires.safe c.in-Err-start_file.ensures.part
     (λ image. let bytes : List ℕ = stream_in c.args.site.now.block_size image (view_facts image c.args.site.now c.args.volume.now c.args.view.now) c.args.stream c.args.size in front_file c.args.path.now bytes [] bytes refl)
 
 pub returns-in-Ok-put_pieces-clause-filled : goal.returns-in-Ok-put_pieces-clause-filled
@@ -31,7 +31,7 @@ returns-in-Ok-put_pieces-clause-filled g c =
     (λ (image : List ℕ). is_view_ordered image c.args.site.now c.args.volume.now c.args.view.now ≡ true) c.args.path.now
     (λ (image : List ℕ). stream_in c.args.site.now.block_size image (view_facts image c.args.site.now c.args.volume.now c.args.view.now) c.args.stream c.args.size)
     (λ (image : List ℕ). stream_bytes c.in-Ok.stream.site.block_size image c.in-Ok.stream.extents c.in-Ok.stream.size)
-    c.in-Ok.ensures.kept.same_bytes c.in-Ok-start_file.ensures.started c.in-Ok-put_pieces.ensures.text
+    c.in-Ok.ensures.kept.same_bytes c.requires.safe c.in-Ok-start_file.ensures.started c.in-Ok-put_pieces.ensures.text
     (λ image told ordered. stream_opened image c.args.site.now c.args.volume.now c.args.view.now c.args.stream c.args.size c.in-Ok.stream (c.in-Ok.ensures.clear image told ordered))
 
 pub returns-in-Err-ReadFault-clause-filled : goal.returns-in-Err-ReadFault-clause-filled
@@ -40,7 +40,7 @@ returns-in-Err-ReadFault-clause-filled g c =
     (λ (image : List ℕ). is_view_ordered image c.args.site.now c.args.volume.now c.args.view.now ≡ true) c.args.path.now
     (λ (image : List ℕ). stream_in c.args.site.now.block_size image (view_facts image c.args.site.now c.args.volume.now c.args.view.now) c.args.stream c.args.size)
     (λ (image : List ℕ). stream_bytes c.in-Ok.stream.site.block_size image c.in-Ok.stream.extents c.in-Ok.stream.size)
-    c.in-Ok.ensures.kept.same_bytes c.in-Ok-start_file.ensures.started c.in-Err-ReadFault.ensures.text
+    c.in-Ok.ensures.kept.same_bytes c.requires.safe c.in-Ok-start_file.ensures.started c.in-Err-ReadFault.ensures.text
     (λ image told ordered. stream_opened image c.args.site.now c.args.volume.now c.args.view.now c.args.stream c.args.size c.in-Ok.stream (c.in-Ok.ensures.clear image told ordered))
 
 pub returns-clause-filled : goal.returns-clause-filled
@@ -49,5 +49,5 @@ returns-clause-filled g c =
     (λ (image : List ℕ). is_view_ordered image c.args.site.now c.args.volume.now c.args.view.now ≡ true) c.args.path.now
     (λ (image : List ℕ). stream_in c.args.site.now.block_size image (view_facts image c.args.site.now c.args.volume.now c.args.view.now) c.args.stream c.args.size)
     (λ (image : List ℕ). stream_bytes c.in-Ok.stream.site.block_size image c.in-Ok.stream.extents c.in-Ok.stream.size)
-    c.in-Ok.ensures.kept.same_bytes c.in-Ok-start_file.ensures.started c.in-Err-WriteFault.ensures.text
+    c.in-Ok.ensures.kept.same_bytes c.requires.safe c.in-Ok-start_file.ensures.started c.in-Err-WriteFault.ensures.text
     (λ image told ordered. stream_opened image c.args.site.now c.args.volume.now c.args.view.now c.args.stream c.args.size c.in-Ok.stream (c.in-Ok.ensures.clear image told ordered))

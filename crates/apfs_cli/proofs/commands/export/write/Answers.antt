@@ -27,7 +27,7 @@ pub returns-in-Err-clause-answer : goal.returns-in-Err-clause-answer
 returns-in-Err-clause-answer g c =
     let command = Export (target_asked c.args.target) in
     let source = looked g.S.BlockSource.bytes g.S.BlockSource.faults c.args.src.now c.check_first.new.src in
-    unfilled command source (stored g.F.Folder.contents g.F.Folder.faults c.args.folder.now c.args.folder.now) c.in-Err.stopped (sunk g.W.Sink.contents g.W.Sink.faults c.args.out.now c.args.out.now)
+    unfilled command source (stored g.F.Folder.contents g.F.Folder.faults c.args.folder.now c.args.folder.now) c.in-Err.stopped (g.W.Sink.contents c.args.out.now) (g.W.Sink.faults c.args.out.now)
     (kept_store g.F.Folder.contents g.F.Folder.faults c.args.folder.now)
     (flaw_ended {T = Unit} g.S.BlockSource.bytes g.S.BlockSource.faults (First Plain) command c.args.src.now c.check_first.new.src c.in-Err.stopped (g.W.Sink.contents c.args.out.now) (g.W.Sink.faults c.args.out.now)
     (first_stops command refl) c.in-Err.ensures.flaw c.in-Err.ensures.looking c.in-Err.ensures.cause)

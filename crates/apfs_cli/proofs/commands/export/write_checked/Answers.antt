@@ -31,7 +31,7 @@ pub returns-in-Err-clause-answer : goal.returns-in-Err-clause-answer
 returns-in-Err-clause-answer g c =
     let command = Export (target_asked c.args.target) in
     let source = looked g.S.BlockSource.bytes g.S.BlockSource.faults c.args.src.now c.reach_view.new.src in
-    unfilled command source (stored g.F.Folder.contents g.F.Folder.faults c.args.folder.now c.args.folder.now) c.in-Err.stopped (sunk g.W.Sink.contents g.W.Sink.faults c.args.out.now c.args.out.now)
+    unfilled command source (stored g.F.Folder.contents g.F.Folder.faults c.args.folder.now c.args.folder.now) c.in-Err.stopped (g.W.Sink.contents c.args.out.now) (g.W.Sink.faults c.args.out.now)
     (kept_store g.F.Folder.contents g.F.Folder.faults c.args.folder.now)
     (export_way_ended (target_asked c.args.target) source c.in-Err.stopped (g.W.Sink.contents c.args.out.now) (g.W.Sink.faults c.args.out.now) c.requires.clean c.in-Err.ensures.way c.in-Err.ensures.looking
     (λ (e : c.in-Err.stopped ≡ ReadFailed). c.in-Err.ensures.cause (ap (λ (s : Stopped). Err s) e)))

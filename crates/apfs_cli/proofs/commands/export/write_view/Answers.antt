@@ -45,7 +45,7 @@ pub returns-in-Err-clause-answer : goal.returns-in-Err-clause-answer
 returns-in-Err-clause-answer g c =
     let command = Export (target_asked c.args.target) in
     let source = looked g.S.BlockSource.bytes g.S.BlockSource.faults c.args.src.now c.items_at.new.src in
-    unfilled command source (stored g.F.Folder.contents g.F.Folder.faults c.args.folder.now c.args.folder.now) c.in-Err.stopped (sunk g.W.Sink.contents g.W.Sink.faults c.args.out.now c.args.out.now)
+    unfilled command source (stored g.F.Folder.contents g.F.Folder.faults c.args.folder.now c.args.folder.now) c.in-Err.stopped (g.W.Sink.contents c.args.out.now) (g.W.Sink.faults c.args.out.now)
     (kept_store g.F.Folder.contents g.F.Folder.faults c.args.folder.now)
     (export_items_ended (target_asked c.args.target) source c.in-Err.stopped (g.W.Sink.contents c.args.out.now) (g.W.Sink.faults c.args.out.now)
     (λ image told.
