@@ -23,6 +23,7 @@ use Rattle.view_rules.specs.declared.profile.Profile.{Profile}
 use Rattle.view_rules.specs.declared.profile.Profile.TheVariants.{Plain, Strict}
 use Rattle.apfs_check.specs.Volumes.{volume_of, volume_ranges}
 use Rattle.apfs_check.specs.Notes as notes
+use Rattle.apfs_check.specs.NoteTests as tests
 use Rattle.apfs_check.specs.Data.{HasRightData}
 use Rattle.apfs_check.specs.WellFormed.{HasViewRules}
 use Rattle.apfs_check.specs.Held.{Held, view_hashes, unreached_under, counts_under, AddsViews, AddsData, AddsVolumes}
@@ -133,15 +134,15 @@ one-volume profile image seen volume a b c d same p e q =
     sum-one n = omega arith
 
 -- ---- one view
-hashes-of : (profile : Profile) (image : List ℕ) (seen : Seen) (head : VolHead) (view : View) → filter notes.is_hash_note (tree_notes.notes_of profile view (view_facts image (site_of seen) (volume_of image seen head) view)) ≡ view_hashes profile image seen head view
+hashes-of : (profile : Profile) (image : List ℕ) (seen : Seen) (head : VolHead) (view : View) → filter tests.is_hash_note (tree_notes.notes_of profile view (view_facts image (site_of seen) (volume_of image seen head) view)) ≡ view_hashes profile image seen head view
 hashes-of Plain image seen head view = view-hash image seen head view
 hashes-of Strict image seen head view = hash-kind Strict view (view_facts image (site_of seen) (volume_of image seen head) view)
 
 -- so many records and these notes of a view are added
 pub record PutsView (records : ℕ) (noted : List Note) (old new : Held) : Type 0 where
   pub records_added : new.records ≡ given (old.records + records)
-  pub hashes : new.hashes ≡ old.hashes ++ filter notes.is_hash_note noted
-  pub unnamed : new.unnamed ≡ old.unnamed ++ filter notes.is_unnamed_note noted
+  pub hashes : new.hashes ≡ old.hashes ++ filter tests.is_hash_note noted
+  pub unnamed : new.unnamed ≡ old.unnamed ++ filter tests.is_unnamed_note noted
   pub views_same : new.views ≡ old.views
   pub unreached_same : new.unreached ≡ old.unreached
   pub counts_same : new.counts ≡ old.counts
@@ -151,8 +152,8 @@ pub one-view : (profile : Profile) (image : List ℕ) (seen : Seen) (head : VolH
 one-view profile image seen head view records noted a b rules counted told put = record {
   right = λ other one. in-single other view (HasViewRules profile image seen head) rules one;
   records = ap given (put.records_added ∙ ap (λ n. given (a.records + n)) counted) ∙ given-one a.records (record_count image seen head view);
-  hashes = put.hashes ∙ ap (λ ns. a.hashes ++ ns) (ap (filter notes.is_hash_note) told ∙ (hashes-of profile image seen head view ∙ sym (append-none _)));
-  unnamed = put.unnamed ∙ ap (λ ns. a.unnamed ++ ns) (ap (filter notes.is_unnamed_note) told ∙ (view-unnamed profile image seen head view ∙ sym (append-none _)));
+  hashes = put.hashes ∙ ap (λ ns. a.hashes ++ ns) (ap (filter tests.is_hash_note) told ∙ (hashes-of profile image seen head view ∙ sym (append-none _)));
+  unnamed = put.unnamed ∙ ap (λ ns. a.unnamed ++ ns) (ap (filter tests.is_unnamed_note) told ∙ (view-unnamed profile image seen head view ∙ sym (append-none _)));
   views_same = put.views_same;
   unreached_same = put.unreached_same;
   counts_same = put.counts_same;

@@ -12,6 +12,7 @@ use Rattle.view_rules.specs.declared.profile.Profile.{Profile}
 use Rattle.view_rules.specs.declared.profile.Profile.TheVariants.{Plain, Strict}
 use Rattle.apfs_check.specs.Volumes.{volume_of}
 use Rattle.apfs_check.specs.Notes as notes
+use Rattle.apfs_check.specs.NoteTests as tests
 
 filter-append : {X : Type 0} (p : X → Bool) (xs ys : List X) → filter p (xs ++ ys) ≡ filter p xs ++ filter p ys
 filter-append p [] ys = refl
@@ -32,30 +33,30 @@ append-none [] = refl
 append-none (x ∷ xs) = ap (λ ys. x ∷ ys) (append-none xs)
 
 -- the notes of a view on inodes without entries
-pub unnamed-kind : (profile : Profile) (view : View) (facts : Facts) → filter notes.is_unnamed_note (notes_of profile view facts) ≡ unnamed_notes view facts
+pub unnamed-kind : (profile : Profile) (view : View) (facts : Facts) → filter tests.is_unnamed_note (notes_of profile view facts) ≡ unnamed_notes view facts
 unfolding notes_of
 unnamed-kind Plain view facts =
-    filter-append notes.is_unnamed_note (hash_notes view facts) (unnamed_notes view facts)
-    ∙ (ap (λ ns. ns ++ filter notes.is_unnamed_note (unnamed_notes view facts)) (filter-other notes.is_unnamed_note (hash_note view) (filter (has_other_name_hash facts) facts.entries) (λ e. refl))
-    ∙ filter-made notes.is_unnamed_note (unnamed_note view) (filter (is_unnamed facts) facts.inodes) (λ f. refl))
-unnamed-kind Strict view facts = filter-made notes.is_unnamed_note (unnamed_note view) (filter (is_unnamed facts) facts.inodes) (λ f. refl)
+    filter-append tests.is_unnamed_note (hash_notes view facts) (unnamed_notes view facts)
+    ∙ (ap (λ ns. ns ++ filter tests.is_unnamed_note (unnamed_notes view facts)) (filter-other tests.is_unnamed_note (hash_note view) (filter (has_other_name_hash facts) facts.entries) (λ e. refl))
+    ∙ filter-made tests.is_unnamed_note (unnamed_note view) (filter (is_unnamed facts) facts.inodes) (λ f. refl))
+unnamed-kind Strict view facts = filter-made tests.is_unnamed_note (unnamed_note view) (filter (is_unnamed facts) facts.inodes) (λ f. refl)
 
 -- the notes of a view on hashes; under Strict there are none
 abbrev pub hashes_under : Profile → View → Facts → List Note
 hashes_under Plain view facts = hash_notes view facts
 hashes_under Strict view facts = []
 
-pub hash-kind : (profile : Profile) (view : View) (facts : Facts) → filter notes.is_hash_note (notes_of profile view facts) ≡ hashes_under profile view facts
+pub hash-kind : (profile : Profile) (view : View) (facts : Facts) → filter tests.is_hash_note (notes_of profile view facts) ≡ hashes_under profile view facts
 unfolding notes_of
 hash-kind Plain view facts =
-    filter-append notes.is_hash_note (hash_notes view facts) (unnamed_notes view facts)
-    ∙ (ap (λ ns. filter notes.is_hash_note (hash_notes view facts) ++ ns) (filter-other notes.is_hash_note (unnamed_note view) (filter (is_unnamed facts) facts.inodes) (λ f. refl))
-    ∙ (append-none (filter notes.is_hash_note (hash_notes view facts)) ∙ filter-made notes.is_hash_note (hash_note view) (filter (has_other_name_hash facts) facts.entries) (λ e. refl)))
-hash-kind Strict view facts = filter-other notes.is_hash_note (unnamed_note view) (filter (is_unnamed facts) facts.inodes) (λ f. refl)
+    filter-append tests.is_hash_note (hash_notes view facts) (unnamed_notes view facts)
+    ∙ (ap (λ ns. filter tests.is_hash_note (hash_notes view facts) ++ ns) (filter-other tests.is_hash_note (unnamed_note view) (filter (is_unnamed facts) facts.inodes) (λ f. refl))
+    ∙ (append-none (filter tests.is_hash_note (hash_notes view facts)) ∙ filter-made tests.is_hash_note (hash_note view) (filter (has_other_name_hash facts) facts.entries) (λ e. refl)))
+hash-kind Strict view facts = filter-other tests.is_hash_note (unnamed_note view) (filter (is_unnamed facts) facts.inodes) (λ f. refl)
 
 -- the notes that a view's rules give, by kind, are those of which a container's notes are made
-pub view-unnamed : (profile : Profile) (image : List ℕ) (seen : Seen) (head : VolHead) (view : View) → filter notes.is_unnamed_note (notes_of profile view (view_facts image (site_of seen) (volume_of image seen head) view)) ≡ notes.view_unnamed_notes image seen head view
+pub view-unnamed : (profile : Profile) (image : List ℕ) (seen : Seen) (head : VolHead) (view : View) → filter tests.is_unnamed_note (notes_of profile view (view_facts image (site_of seen) (volume_of image seen head) view)) ≡ notes.view_unnamed_notes image seen head view
 view-unnamed profile image seen head view = unnamed-kind profile view (view_facts image (site_of seen) (volume_of image seen head) view)
 
-pub view-hash : (image : List ℕ) (seen : Seen) (head : VolHead) (view : View) → filter notes.is_hash_note (notes_of Plain view (view_facts image (site_of seen) (volume_of image seen head) view)) ≡ notes.view_hash_notes image seen head view
+pub view-hash : (image : List ℕ) (seen : Seen) (head : VolHead) (view : View) → filter tests.is_hash_note (notes_of Plain view (view_facts image (site_of seen) (volume_of image seen head) view)) ≡ notes.view_hash_notes image seen head view
 view-hash image seen head view = hash-kind Plain view (view_facts image (site_of seen) (volume_of image seen head) view)

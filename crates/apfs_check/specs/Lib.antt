@@ -1,6 +1,7 @@
 pub mod Volumes
 pub mod Data
 pub mod Notes
+pub mod NoteTests
 pub mod WellFormed
 pub mod Present
 pub mod Raised

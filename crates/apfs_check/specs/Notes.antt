@@ -1,5 +1,5 @@
 -- The notes of a container: what is odd in it, and no fault.
-use Rattle.std.specs.Prelude.{ℕ, Bool, true, false, List, ◌++◌, map, flat_map}
+use Rattle.std.specs.Prelude.{ℕ, List, ◌++◌, map, flat_map}
 use Rattle.apfs_model.specs.Counts.{given}
 use Rattle.nx_ring.specs.Checkpoint.{Seen, site_of}
 use Rattle.vol_view.specs.Heads.{heads_of}
@@ -10,27 +10,11 @@ use Rattle.ext_ref.specs.declared.range.NewRange.{NewRange}
 use Rattle.view_rules.specs.Rules.{view_facts}
 use Rattle.tree_rules.specs.Notes.{hash_notes, unnamed_notes}
 use Rattle.tree_rules.specs.declared.notes.Note.{Note}
-use Rattle.tree_rules.specs.declared.notes.Note.TheVariants.{Skipped, Hash, Unreached, Unnamed, Count}
+use Rattle.tree_rules.specs.declared.notes.Note.TheVariants.{Skipped, Unreached, Count}
 use Rattle.view_rules.specs.declared.profile.Profile.{Profile}
 use Rattle.view_rules.specs.declared.profile.Profile.TheVariants.{Plain, Strict}
 use Rattle.apfs_check.specs.Volumes.{volume_of}
 use Rattle.apfs_check.specs.Data.{unreached_in, miscounted_in, streams_in}
-
--- a note on a hash
-abbrev pub is_hash_note : Note → Bool
-is_hash_note (Skipped index xid) = false
-is_hash_note (Hash at) = true
-is_hash_note (Unreached slot block length) = false
-is_hash_note (Unnamed at) = false
-is_hash_note (Count slot block stored streams) = false
-
--- a note on an inode without an entry
-abbrev pub is_unnamed_note : Note → Bool
-is_unnamed_note (Skipped index xid) = false
-is_unnamed_note (Hash at) = false
-is_unnamed_note (Unreached slot block length) = false
-is_unnamed_note (Unnamed at) = true
-is_unnamed_note (Count slot block stored streams) = false
 
 -- note skipped: one for each candidate that the newest checkpoint stands before, by index
 abbrev pub skipped_note : ℕ × ℕ → Note

@@ -29,7 +29,7 @@ impl Gathered {
     ghost use Rattle.apfs_model.specs.Counts.{given};
     ghost use Rattle.tree_rules.specs.declared.notes.Note.TheVariants as noted;
     ghost use Rattle.apfs_check.specs.Held.{nothing_held};
-    ghost use Rattle.apfs_check.specs.Notes.{is_hash_note, is_unnamed_note};
+    ghost use Rattle.apfs_check.specs.NoteTests.{is_hash_note, is_unnamed_note};
 
     /// Nothing yet.
     pub(crate) fn new(alloc: Global) -> Gathered

@@ -14,7 +14,8 @@ use Rattle.vol_view.specs.Volumes.{Loaded}
 use Rattle.vol_view.specs.declared.volume.View.{View}
 use Rattle.view_rules.specs.Facts.{Facts}
 use Rattle.view_rules.specs.Rules.{view_facts}
-use Rattle.path_walk.specs.Stops.{IsLawful, IsGiven as IsGivenBy, IsStopThere}
+use Rattle.path_walk.specs.Stops.{IsLawful}
+use Rattle.path_walk.specs.Calls.{IsGiven as IsGivenBy, IsStopThere}
 use Rattle.path_walk.specs.declared.answer.Answer.{Answer}
 use Rattle.path_walk.specs.declared.stop.PathStop.{PathStop}
 use Rattle.path_walk.specs.declared.stop.PathStop.TheVariants as paths

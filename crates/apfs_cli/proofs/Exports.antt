@@ -18,7 +18,8 @@ use Rattle.view_rules.specs.Rules.{view_facts}
 use Rattle.view_rules.specs.declared.profile.Profile.TheVariants.{Plain}
 use Rattle.apfs_check.specs.WellFormed.{IsWellFormed}
 use Rattle.path_walk.specs.Places.{root_name}
-use Rattle.path_walk.specs.Stops.{IsGiven, IsLawful, IsNoAnswer}
+use Rattle.path_walk.specs.Stops.{IsLawful}
+use Rattle.path_walk.specs.Calls.{IsGiven, IsNoAnswer}
 use Rattle.path_walk.specs.declared.stop.PathStop.{PathStop}
 use Rattle.path_walk.specs.declared.stop.PathStop.TheVariants as paths
 use Rattle.path_walk.specs.declared.target.Target.{Target}

@@ -12,8 +12,9 @@ use Rattle.apfs_model.proofs.BoolTests.{from-upto, upto-from, left-true, right-t
 use Rattle.cmd_words.specs.Asked as lines
 use Rattle.cmd_words.specs.Lines.{line_of}
 use Rattle.img_format.specs.declared.spec.Spec.{Spec}
-use Rattle.img_format.specs.Names.{most_name, IsName}
-use Rattle.img_format.specs.Valid.{least_blocks, most_blocks, IsValid}
+use Rattle.img_format.specs.Names.{IsName}
+use Rattle.img_format.specs.Limits.{most_name, least_blocks, most_blocks}
+use Rattle.img_format.specs.Valid.{IsValid}
 use Rattle.apfs_cli.specs.Words.{Asked, Line, built, line_in, plain_line, command_of, after_gpt, asked_by, asked_of, plain_by, plain_of, new_by, new_of, few, count_said, files_said, gen_files, holdable, blocks_said, is_name, name_said, spec_by, spec_said, new_spec, Ring, Info, Volumes, Space, Check, Snapshots, Usage, Ls, Tree, Cat, Xattr, Export, Gen, Format}
 
 pub asked_with : (words rest : List (List ℕ)) → Some rest ≡ after_gpt words → option_map (line_in true) (command_of rest) ≡ asked_of words

@@ -15,7 +15,8 @@ use Rattle.view_rules.specs.Facts.{Facts}
 use Rattle.view_rules.specs.Rules.{view_facts}
 use Rattle.apfs_check.specs.declared.fault.Fault.{Fault}
 use Rattle.apfs_check.specs.Raised.{of_view}
-use Rattle.path_walk.specs.Stops.{IsLawful, IsGiven as IsGivenBy, IsStopThere}
+use Rattle.path_walk.specs.Stops.{IsLawful}
+use Rattle.path_walk.specs.Calls.{IsGiven as IsGivenBy, IsStopThere}
 use Rattle.path_walk.specs.declared.answer.Answer.{Answer}
 use Rattle.path_walk.specs.declared.answer.Answer.TheVariants.{NoVolume, NoSnapshot}
 use Rattle.path_walk.specs.declared.stop.PathStop.{PathStop}

@@ -6,7 +6,8 @@ use Rattle.blk_folder.specs.Items.{Item}
 use Rattle.blk_folder.specs.declared.folder.Given.{Given}
 use Rattle.blk_folder.specs.declared.folder.Given.TheVariants.{Nothing, Into}
 use Rattle.img_format.specs.declared.spec.Spec.{Spec}
-use Rattle.img_gpt.specs.Partition.{found_part, IsTableStop}
+use Rattle.img_gpt.specs.Partition.{found_part}
+use Rattle.img_gpt.specs.Laws.{IsTableStop}
 use Rattle.img_gpt.specs.declared.part.GptStop.{GptStop}
 use Rattle.img_gpt.specs.declared.part.GptStop.TheVariants as gpt
 use Rattle.img_gpt.specs.declared.part.Part.{Part}

@@ -4,13 +4,13 @@ use Rattle.std.specs.Str.{is_utf8}
 use Rattle.uuid.specs.Text.{parsed}
 use Rattle.apfs_model.specs.Lists.{has}
 use Rattle.cmd_words.specs.Asked as lines
-use Rattle.cmd_words.specs.Asked.{AskedFlags, AskedTarget, target_asked}
+use Rattle.cmd_words.specs.Asked.{AskedFlags, AskedTarget}
+use Rattle.cmd_words.specs.Lent.{target_asked}
 use Rattle.cmd_words.specs.Lines.{is_digit, line_of}
 use Rattle.view_rules.specs.declared.profile.Profile.{Profile}
 use Rattle.view_rules.specs.declared.profile.Profile.TheVariants.{Plain, Strict}
 use Rattle.img_format.specs.declared.spec.Spec.{Spec}
-use Rattle.img_format.specs.Names.{most_name}
-use Rattle.img_format.specs.Valid.{least_blocks, most_blocks}
+use Rattle.img_format.specs.Limits.{most_name, least_blocks, most_blocks}
 use Rattle.apfs_cli.specs.declared.words.Checks.{Checks}
 use Rattle.apfs_cli.specs.declared.words.Checks.TheVariants.{Quick, First}
 use Rattle.apfs_cli.specs.declared.words.Command.{Command}

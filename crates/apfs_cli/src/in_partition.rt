@@ -1,7 +1,7 @@
 // Commands over a partition of a disk.
 ghost use Rattle.std.specs.Prelude.{◌≡◌, ◌+◌, ◌≤◌, None, Some};
 ghost use Rattle.apfs_model.specs.Source.{IsKept};
-ghost use Rattle.cmd_words.specs.Asked.{target_asked};
+ghost use Rattle.cmd_words.specs.Lent.{target_asked};
 ghost use Rattle.apfs_cli.specs.Handed.{looked, part_looked, stored};
 ghost use Rattle.apfs_cli.specs.Says.{HasEnded, HasEndedInto, HasCome};
 ghost use Rattle.apfs_cli.specs.Seen.{stopped_at_table};

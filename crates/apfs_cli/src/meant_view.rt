@@ -4,7 +4,7 @@ ghost use Rattle.apfs_model.specs.Counts.{Rose};
 ghost use Rattle.apfs_model.specs.Source.{IsKept};
 ghost use Rattle.obj_base.specs.Site.{IsSiteFor};
 ghost use Rattle.nx_ring.specs.Checkpoint.{site_of};
-ghost use Rattle.cmd_words.specs.Asked.{target_asked};
+ghost use Rattle.cmd_words.specs.Lent.{target_asked};
 ghost use Rattle.apfs_cli.specs.MeantView.{view_of, IsMeantView};
 ghost use Rattle.apfs_cli.specs.Reached.{TellsViewWay, IsWhileLooking};
 ghost use Rattle.apfs_cli.specs.declared.stopped.Stopped.TheVariants.{ReadFailed};

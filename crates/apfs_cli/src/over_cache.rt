@@ -5,7 +5,7 @@ ghost use Rattle.apfs_model.specs.Source.{IsKept};
 ghost use Rattle.obj_base.specs.BlockSize.{is_accepted};
 ghost use Rattle.nx_block.specs.Read.{size_of};
 ghost use Rattle.apfs_cli.specs.Cache.{kept_size};
-ghost use Rattle.cmd_words.specs.Asked.{target_asked};
+ghost use Rattle.cmd_words.specs.Lent.{target_asked};
 ghost use Rattle.apfs_cli.specs.Handed.{looked, stored};
 ghost use Rattle.apfs_cli.specs.Says.{HasEnded, HasEndedInto};
 ghost use Rattle.apfs_cli.specs.Words.{Export, said};

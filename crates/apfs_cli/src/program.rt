@@ -5,7 +5,7 @@ ghost use Rattle.apfs_model.specs.Sink.{Wrote};
 ghost use Rattle.apfs_model.specs.Source.{IsKept};
 ghost use Rattle.apfs_check.specs.WellFormed.{IsWellFormed};
 ghost use Rattle.blk_folder.specs.Items.{Item};
-ghost use Rattle.cmd_words.specs.Asked.{target_asked};
+ghost use Rattle.cmd_words.specs.Lent.{target_asked};
 ghost use Rattle.img_format.specs.declared.spec.Spec.{Spec};
 ghost use Rattle.apfs_cli.specs.Handed.{looked, looked_at, stored_in, IsGivenKept};
 ghost use Rattle.apfs_cli.specs.Outcome as outcomes;

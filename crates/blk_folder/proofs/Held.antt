@@ -4,8 +4,8 @@ use Rattle.std.proofs.lemmas.List.{take-append-le, drop-append-le, take_all, app
 use Rattle.std.proofs.lemmas.List.Sums.{sum_by-append}
 use Rattle.std.specs.Prelude.{slice_get}
 use Rattle.std.specs.Str.{is_utf8}
-use Rattle.blk_folder.specs.Items.{Item, Held, Directory, File, held_more, with_more}
-use Rattle.blk_folder.specs.Memory.{MemoryFolder, taken, taken_by, byte_count, empty_at}
+use Rattle.blk_folder.specs.Items.{Item, Held, Directory, File, held_more, with_more, byte_count}
+use Rattle.blk_folder.specs.Memory.{MemoryFolder, taken, taken_by, empty_at}
 use Rattle.blk_folder.specs.Places.{held_as, item_to, items_in, end_at, IsIn, AreIn, IsFile, EndsInFile}
 use Rattle.blk_folder.specs.declared.memory.Place.{Place}
 

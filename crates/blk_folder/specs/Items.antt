@@ -1,5 +1,5 @@
 -- What a folder has: directories and files, each by its path, in the order in which they were put.
-use Rattle.std.specs.Prelude.{◌≡◌, ◌⊎◌, ℕ, ◌++◌, List, [], ◌∷◌}
+use Rattle.std.specs.Prelude.{◌≡◌, ◌⊎◌, ℕ, ◌++◌, List, [], ◌∷◌, length}
 
 -- what stands at a path: a directory, or a file with its bytes
 pub data Held : Type 0 where
@@ -46,3 +46,8 @@ pub record IsFront (front items : List Item) : Type 0 where
   pub rest : List Item
   pub split : items ≡ whole ++ rest
   pub end : EndsWith whole rest front
+
+-- how many bytes a file has; a directory has none
+abbrev pub byte_count : Held → ℕ
+byte_count Directory = 0
+byte_count (File bytes) = length bytes

@@ -2,6 +2,7 @@
 use Rattle.std.specs.Prelude.{[], ◌∷◌, ◌++◌, false, if◌then◌else◌, ◌≡◌, ◌⊎◌, ℕ, ◌+◌, ◌<◌, Bool, List, length, sum_by, slice_get, Some}
 use Rattle.apfs_model.specs.Counts.{one_more}
 use Rattle.blk_folder.specs.Items.{Item, Held, Directory, File, with_more}
+use Rattle.blk_folder.specs.Items.{byte_count}
 
 -- a folder with room for so many items and so many bytes of paths and pieces, which fails at the calls of these numbers, counted from 1
 pub record MemoryFolder : Type 0 where
@@ -20,11 +21,6 @@ IsDirectory held = held ≡ Directory
 -- a file of these bytes
 abbrev pub HasBytes : Held → List ℕ → Type 0
 HasBytes held bytes = held ≡ File bytes
-
--- how many bytes a file has; a directory has none
-abbrev pub byte_count : Held → ℕ
-byte_count Directory = 0
-byte_count (File bytes) = length bytes
 
 -- how many bytes an item takes: those of its path, and its own
 abbrev pub taken_by : Item → ℕ

@@ -1,10 +1,6 @@
 -- What a line asks for, with its texts as bytes.
-use Rattle.std.specs.Prelude.{ℕ, Bool, Option, option_map}
+use Rattle.std.specs.Prelude.{ℕ, Bool, Option}
 use Rattle.cmd_words.specs.Said.{Text}
-use Rattle.cmd_words.specs.declared.lines.Flags.{Flags}
-use Rattle.cmd_words.specs.declared.lines.Target.{Target}
-use Rattle.cmd_words.specs.declared.lines.Line.{Line}
-use Rattle.cmd_words.specs.declared.lines.Line.TheVariants as lines
 
 -- a path, and the view in which it is looked up
 pub record AskedTarget : Type 0 where
@@ -45,34 +41,3 @@ pub data Asked : Type 0 where
   Xattr : AskedFlags → AskedTarget → Option Text → Asked
   -- what a view has, put into a directory
   Export : AskedTarget → Asked
-
--- a target without where its words lie
-abbrev pub target_asked : Target → AskedTarget
-target_asked target = record {
-  path = target.path.now;
-  volume = target.volume;
-  snapshot = option_map (λ text. text.now) target.snapshot;
-}
-
--- flags, as the definitions have them
-abbrev pub flags_asked : Flags → AskedFlags
-flags_asked flags = record { quick = flags.quick; strict = flags.strict }
-
--- flags with a target, without where its words lie
-abbrev pub browse_asked : Flags × Target → AskedFlags × AskedTarget
-browse_asked browse = (flags_asked browse.0, target_asked browse.1)
-
--- a line without where its words lie
-abbrev pub asked_by : Line → Asked
-asked_by lines.Ring = Ring
-asked_by lines.Info = Info
-asked_by lines.Volumes = Volumes
-asked_by lines.Space = Space
-asked_by (lines.Check strict) = Check strict
-asked_by (lines.Snapshots volume) = Snapshots volume
-asked_by (lines.Usage volume) = Usage volume
-asked_by (lines.Ls flags target) = Ls (flags_asked flags) (target_asked target)
-asked_by (lines.Tree flags target) = Tree (flags_asked flags) (target_asked target)
-asked_by (lines.Cat flags target) = Cat (flags_asked flags) (target_asked target)
-asked_by (lines.Xattr flags target name) = Xattr (flags_asked flags) (target_asked target) (option_map (λ text. text.now) name)
-asked_by (lines.Export target) = Export (target_asked target)

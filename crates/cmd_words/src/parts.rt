@@ -2,7 +2,7 @@
 ghost use Rattle.std.specs.Prelude.{◌≡◌, is_some, option_map};
 ghost use Rattle.clap.specs.Words.{first_of, found_of, rows_of};
 ghost use Rattle.cmd_words.specs.Lines.{browse_by, check_by, flags_by, root_by, small_number, target_by, volume_alone, volume_by, xattr_by};
-ghost use Rattle.cmd_words.specs.Asked.{asked_by, browse_asked, flags_asked, target_asked};
+ghost use Rattle.cmd_words.specs.Lent.{asked_by, browse_asked, flags_asked, target_asked};
 
 use crate::lines::{Flags, Line, Target};
 use clap::ArgMatches;

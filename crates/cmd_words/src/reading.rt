@@ -2,7 +2,8 @@
 ghost use Rattle.std.specs.Prelude.{◌≡◌, IfOk, map, option_map, true};
 ghost use Rattle.std.specs.String.{string_bytes};
 ghost use Rattle.clap.specs.Words.{app_of, found_of, is_simple_and_free, rows_of};
-ghost use Rattle.cmd_words.specs.Asked.{Export, Snapshots, Usage, asked_by, browse_asked, target_asked};
+ghost use Rattle.cmd_words.specs.Asked.{Export, Snapshots, Usage};
+ghost use Rattle.cmd_words.specs.Lent.{asked_by, browse_asked, target_asked};
 ghost use Rattle.cmd_words.specs.ByClap.{export_by_clap, line_by_clap, read_by_clap};
 ghost use Rattle.cmd_words.specs.Commands.{check_app, found_in, target_app, view_app, volume_app, xattr_app};
 ghost use Rattle.cmd_words.specs.Lines.{alone, browse_by, check_by, line_of, root_by, volume_alone, xattr_by};

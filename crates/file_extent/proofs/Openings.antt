@@ -23,7 +23,8 @@ use Rattle.vol_view.specs.Volumes.{Loaded}
 use Rattle.vol_view.specs.Views.{view_named, hashed_tree, plain_tree, view_flat, view_line, is_view_ordered, has_all_records, is_view_whole, FactBy, IsViewFault, IsViewFeature}
 use Rattle.vol_view.specs.declared.volume.View.{View}
 use Rattle.file_extent.specs.Streams.{extents_for, are_extents_placed}
-use Rattle.file_extent.specs.Stops.{HasRefused, IsStreamStop, IsStreamFeature, IsStreamSound, IsOpened}
+use Rattle.file_extent.specs.Stops.{HasRefused, IsStreamStop}
+use Rattle.file_extent.specs.Opening.{IsStreamFeature, IsStreamSound, IsOpened}
 use Rattle.file_extent.specs.Laid.{AreLaid}
 use Rattle.file_extent.specs.Collected.{AreCollected, IsCollectStop}
 use Rattle.file_extent.specs.declared.stop.StreamStop.{StreamStop}

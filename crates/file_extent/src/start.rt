@@ -9,7 +9,8 @@ ghost use Rattle.bt_cursor.specs.Faults.{HasFeature};
 ghost use Rattle.bt_keys.specs.RecordKey.{file_extent_record};
 ghost use Rattle.vol_view.specs.Views.{view_tree, view_flat, is_view_ordered, has_all_records};
 ghost use Rattle.file_extent.specs.Streams.{extents_for};
-ghost use Rattle.file_extent.specs.Stops.{IsStreamStop, IsStreamFeature};
+ghost use Rattle.file_extent.specs.Stops.{IsStreamStop};
+ghost use Rattle.file_extent.specs.Opening.{IsStreamFeature};
 ghost use Rattle.file_extent.specs.Laid.{AreLaid};
 ghost use Rattle.file_extent.specs.Collected.{AreCollected, IsCollectStop};
 

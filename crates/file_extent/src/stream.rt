@@ -44,7 +44,8 @@ impl Stream {
     ghost use Rattle.obj_base.specs.Stops.{Tells, IsFree};
     ghost use Rattle.obj_base.specs.declared.stop.Stop.TheVariants as stops;
     ghost use Rattle.vol_view.specs.Views.{is_view_ordered};
-    ghost use Rattle.file_extent.specs.Stops.{IsStreamStop, IsStreamFeature, IsStreamSound, IsOpened};
+    ghost use Rattle.file_extent.specs.Stops.{IsStreamStop};
+    ghost use Rattle.file_extent.specs.Opening.{IsStreamFeature, IsStreamSound, IsOpened};
     ghost use Rattle.file_extent.specs.declared.stop.CopyFault.TheVariants.{ReadFault, WriteFault};
 
     /// Opens the stream of an id, with a size in bytes, in a view (Data Streams): collects its extents by a search to the

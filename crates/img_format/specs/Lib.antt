@@ -1,4 +1,5 @@
 pub mod Names
+pub mod Limits
 pub mod Valid
 pub mod Tables
 pub mod Nodes

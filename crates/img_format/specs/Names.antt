@@ -2,10 +2,7 @@
 use Rattle.std.specs.Prelude.{◌≡◌, ℕ, ◌≤◌, false, List, length}
 use Rattle.std.specs.Str.{IsUtf8}
 use Rattle.apfs_model.specs.Lists.{has}
-
--- the longest name
-abbrev pub most_name : ℕ
-most_name = 255
+use Rattle.img_format.specs.Limits.{most_name}
 
 -- a name that a volume can have: in UTF-8, without a zero
 pub record IsName (name : List ℕ) : Type 0 where

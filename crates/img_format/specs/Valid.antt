@@ -1,14 +1,8 @@
 -- Which containers can be made.
-use Rattle.std.specs.Prelude.{◌≡◌, ℕ, ◌≤◌, length}
+use Rattle.std.specs.Prelude.{◌≡◌, ◌≤◌, length}
 use Rattle.img_format.specs.declared.spec.Spec.{Spec}
 use Rattle.img_format.specs.Names.{IsName}
-
--- the least and the greatest number of blocks: the first has room for all that is used, and one chunk holds the second
-abbrev pub least_blocks : ℕ
-least_blocks = 256
-
-abbrev pub most_blocks : ℕ
-most_blocks = 32768
+use Rattle.img_format.specs.Limits.{least_blocks, most_blocks}
 
 -- a container that can be made: its number of blocks, its volume's name, and identifiers of 16 bytes, as their type has them
 pub record IsValid (spec : Spec) : Type 0 where

@@ -2,7 +2,8 @@
 use Rattle.std.specs.Prelude.{◌≡◌, ◌⊎◌, ℕ, Bool, true, false, List, Option, None, Some, Result, Ok, Err, refl, if◌then◌else◌}
 use Rattle.std.proofs.Common.{inl, inr, ◌∙◌, ap, subst}
 use Rattle.img_gpt.specs.Table.{sector_of, is_table, container_entry}
-use Rattle.img_gpt.specs.Partition.{part_of, is_placed, placed_by, found_by, found_part, HasTable, IsTableFault, FoundExactly, PartOrFault}
+use Rattle.img_gpt.specs.Partition.{part_of, is_placed, placed_by, found_by, found_part, HasTable}
+use Rattle.img_gpt.specs.Laws.{IsTableFault, FoundExactly, PartOrFault}
 use Rattle.img_gpt.specs.declared.part.Part.{Part}
 use Rattle.img_gpt.specs.declared.part.GptStop.{GptStop}
 use Rattle.img_gpt.specs.declared.part.GptStop.TheVariants.{NoTable, BadTable, NoPartition, PartOutside, ReadFault}

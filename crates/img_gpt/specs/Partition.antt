@@ -1,10 +1,10 @@
 -- The partition of a disk that holds a container, or the first of four faults for which there is none.
-use Rattle.std.specs.Prelude.{◌≡◌, ◌⊎◌, ℕ, ◌+◌, ◌-◌, ◌*◌, Bool, true, false, ◌&&◌, nat_le, List, Option, None, Some, Result, Ok, Err, if◌then◌else◌}
+use Rattle.std.specs.Prelude.{◌≡◌, ℕ, ◌+◌, ◌-◌, ◌*◌, Bool, true, false, ◌&&◌, nat_le, List, Option, None, Some, Result, Ok, Err, if◌then◌else◌}
 use Rattle.apfs_model.specs.Bytes.{part_at}
 use Rattle.img_gpt.specs.Table.{lies_in, sector_of, is_table, container_entry, first_sector, last_sector}
 use Rattle.img_gpt.specs.declared.part.Part.{Part}
 use Rattle.img_gpt.specs.declared.part.GptStop.{GptStop}
-use Rattle.img_gpt.specs.declared.part.GptStop.TheVariants.{NoTable, BadTable, NoPartition, PartOutside, ReadFault}
+use Rattle.img_gpt.specs.declared.part.GptStop.TheVariants.{NoTable, BadTable, NoPartition, PartOutside}
 
 -- the bytes of entry i's partition: from its first sector on, with its last sector
 abbrev pub part_of : List ℕ → ℕ → ℕ → Part
@@ -62,27 +62,3 @@ HasNoPartition disk = (sector : ℕ) × HasTable disk sector × (container_entry
 -- PartOutside: entry i is the first of the type, and its partition ends before it begins or doesn't lie in the disk
 abbrev pub HasPartOutside : List ℕ → ℕ → Type 0
 HasPartOutside disk i = (sector : ℕ) × HasTable disk sector × (container_entry disk sector ≡ Some i) × (is_placed disk sector i ≡ false)
-
--- a fault of the table is there, and none before it; a failed read is none
-abbrev pub IsTableFault : List ℕ → GptStop → Type 0
-IsTableFault disk NoTable = HasNoTable disk
-IsTableFault disk BadTable = HasBadTable disk
-IsTableFault disk NoPartition = HasNoPartition disk
-IsTableFault disk (PartOutside i) = HasPartOutside disk i
-IsTableFault disk ReadFault = ⊥
-
--- each fault is named exactly where it is there and none before it
-abbrev pub FoundExactly : Type 0
-FoundExactly = (disk : List ℕ) (stop : GptStop) → (found_part disk ≡ Err stop → IsTableFault disk stop) × (IsTableFault disk stop → found_part disk ≡ Err stop)
-
--- a disk has a partition, or one of the faults; never both, and no two of the faults
-abbrev pub PartOrFault : Type 0
-PartOrFault = (disk : List ℕ) → ((part : Part) × (found_part disk ≡ Ok part)) ⊎ ((stop : GptStop) × IsTableFault disk stop)
-
--- what stops the search is there; of a failed read nothing is said
-abbrev pub IsTableStop : List ℕ → GptStop → Type 0
-IsTableStop disk NoTable = IsTableFault disk NoTable
-IsTableStop disk BadTable = IsTableFault disk BadTable
-IsTableStop disk NoPartition = IsTableFault disk NoPartition
-IsTableStop disk (PartOutside i) = IsTableFault disk (PartOutside i)
-IsTableStop disk ReadFault = Unit {0}

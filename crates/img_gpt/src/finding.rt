@@ -4,7 +4,8 @@ ghost use Rattle.apfs_model.specs.Bytes.{part_at};
 ghost use Rattle.apfs_model.specs.Counts.{Rose};
 ghost use Rattle.apfs_model.specs.Source.{IsKept};
 ghost use Rattle.img_gpt.specs.Table.{has_header, sector_of, container_entry, entry_at};
-ghost use Rattle.img_gpt.specs.Partition.{found_part, HasTable, IsTableStop};
+ghost use Rattle.img_gpt.specs.Partition.{found_part, HasTable};
+ghost use Rattle.img_gpt.specs.Laws.{IsTableStop};
 ghost use Rattle.img_gpt.specs.Reads.{IsWithin, IsTableOf};
 ghost use Rattle.img_gpt.specs.declared.part.GptStop.TheVariants.{ReadFault};
 

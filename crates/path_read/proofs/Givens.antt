@@ -13,13 +13,13 @@ use Rattle.vol_view.specs.Volumes.{Loaded}
 use Rattle.vol_view.specs.Views.{view_flat, has_all_records}
 use Rattle.vol_view.specs.declared.volume.View.{View}
 use Rattle.file_extent.specs.Streams.{Opened, stream_bytes}
-use Rattle.file_extent.specs.Stops.{IsOpened}
+use Rattle.file_extent.specs.Opening.{IsOpened}
 use Rattle.view_rules.specs.Facts.{Facts}
 use Rattle.view_rules.specs.Rules.{view_facts}
 use Rattle.path_walk.specs.Places.{Place}
 use Rattle.path_walk.specs.Found.{found}
 use Rattle.path_read.specs.Contents.{stream_in, contents_by, contents_in, contents_at, contents, readable}
-use Rattle.path_walk.specs.Stops.{IsGiven}
+use Rattle.path_walk.specs.Calls.{IsGiven}
 use Rattle.path_read.specs.Written.{IsWritten}
 use Rattle.path_read.specs.declared.stop.WriteStop.{WriteStop}
 use Rattle.path_read.proofs.Laws.{same_stream}

@@ -27,7 +27,8 @@ use Rattle.vol_view.specs.Volumes.{Loaded}
 use Rattle.vol_view.specs.Views.{view_flat, view_line, hashed_tree, plain_tree, IsViewFault}
 use Rattle.vol_view.specs.declared.volume.View.{View}
 use Rattle.file_extent.specs.Streams.{extents_for, are_extents_placed}
-use Rattle.file_extent.specs.Stops.{HasRefused, IsStreamStop, IsStreamFeature}
+use Rattle.file_extent.specs.Stops.{HasRefused, IsStreamStop}
+use Rattle.file_extent.specs.Opening.{IsStreamFeature}
 use Rattle.file_extent.specs.declared.stop.StreamStop.{StreamStop}
 use Rattle.file_extent.specs.declared.stop.StreamStop.TheVariants as streams
 use Rattle.view_rules.specs.Facts.{Facts}
@@ -35,7 +36,8 @@ use Rattle.view_rules.specs.Extents.{is_disordered, is_misplaced, IsExtentOrder,
 use Rattle.view_rules.specs.Rules.{view_facts, refusal_of, HasRecords, raised}
 use Rattle.view_rules.specs.declared.fault.TreeFault.TheVariants.{ExtentOrder, ExtentPlace}
 use Rattle.view_rules.specs.declared.fault.TreeFault.TheVariants.{ExtentOrder, ExtentPlace}
-use Rattle.path_walk.specs.Stops.{IsPathFault, IsStopThere}
+use Rattle.path_walk.specs.Stops.{IsPathFault}
+use Rattle.path_walk.specs.Calls.{IsStopThere}
 use Rattle.path_read.specs.Parts.{HasRefused as HasAttributeRefused}
 use Rattle.path_read.specs.Streamed.{id_at, stream_raised}
 use Rattle.path_walk.specs.declared.stop.PathStop.{PathStop}

@@ -27,7 +27,8 @@ use Rattle.view_rules.proofs.Law.{refutes, featureless_rules}
 use Rattle.path_walk.specs.Paths.{is_component, parts_of, components}
 use Rattle.path_walk.specs.Places.{Place, placed, root_of, root_name, target_of}
 use Rattle.path_walk.specs.Found.{entries_in, entry_named, place_by, followed, step, walk, found, target_found}
-use Rattle.path_walk.specs.Stops.{IsLawful, IsPathFault, IsGiven, IsStopThere, of_walk, IsOfRecords, IsNoAnswer}
+use Rattle.path_walk.specs.Stops.{IsLawful, IsPathFault}
+use Rattle.path_walk.specs.Calls.{IsGiven, IsStopThere, of_walk, IsOfRecords, IsNoAnswer}
 use Rattle.path_walk.specs.Parts.{by_part, along, rooted, IsLack, IsKnown, IsPlaceKnown, IsRefusal, IsSurveyed, lacking_entry}
 use Rattle.path_walk.specs.declared.answer.Answer.{Answer}
 use Rattle.path_walk.specs.declared.answer.Answer.TheVariants.{NotFound, NotDirectory}

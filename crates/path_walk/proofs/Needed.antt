@@ -47,7 +47,7 @@ use Rattle.path_walk.specs.Paths.{is_component, parts_of, components}
 use Rattle.path_walk.specs.Places.{Place, placed, root_name, root_of, target_of}
 use Rattle.path_walk.specs.Found.{entries_in, entry_named, place_by, step, found}
 use Rattle.path_walk.specs.Needs.{AreRead, HasKind, HasAll, HasEntriesOf, StepNeeds, WalkNeeds, PathNeeds, HaveFiles, ChildrenNeed, ListingNeeds, RestsOn}
-use Rattle.path_walk.specs.Stops.{IsNoAnswer}
+use Rattle.path_walk.specs.Calls.{IsNoAnswer}
 use Rattle.path_walk.specs.Parts.{whats, rooted, by_part, target_by, Leads, IsKnown, IsPlaceKnown, with_read, with_kept, run_entries, Takes, TakesNext, IsOfRun, GoesWhole, HasKindIn, HasEntriesIn, NeedsIn, PartNeeds, AlongNeeds, WhereLed, WhereTold}
 use Rattle.path_walk.specs.declared.answer.Answer.{Answer}
 use Rattle.path_walk.specs.declared.answer.Answer.TheVariants.{NotFound}

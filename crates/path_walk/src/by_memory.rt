@@ -6,7 +6,7 @@ ghost use Rattle.path_walk.specs.Places.{target_of};
 ghost use Rattle.path_walk.specs.Found.{step, found};
 ghost use Rattle.path_walk.specs.Listing.{children, listing};
 ghost use Rattle.path_walk.specs.Needs.{StepNeeds, PathNeeds, HaveFiles, ChildrenNeed, ListingNeeds};
-ghost use Rattle.path_walk.specs.Stops.{IsNoAnswer};
+ghost use Rattle.path_walk.specs.Calls.{IsNoAnswer};
 ghost use Rattle.path_walk.specs.Parts.{whats, by_part, along, rooted, lacking_entry, targets_by, HasEntries, Remembers, IsKnown, IsPlaceKnown, IsTargetKnown, PartNeeds, AlongNeeds, WhereTold, of_any};
 
 use crate::by_search::{ROOT, place_of, root_of_inode};

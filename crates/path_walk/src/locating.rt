@@ -14,7 +14,8 @@ ghost use Rattle.vol_view.specs.Views.{view_tree, is_view_ordered};
 ghost use Rattle.view_rules.specs.Facts.{facts_in};
 ghost use Rattle.view_rules.specs.Rules.{view_facts};
 ghost use Rattle.path_walk.specs.Found.{found, target_found};
-ghost use Rattle.path_walk.specs.Stops.{IsLawful, IsGiven, IsStopThere, IsNoAnswer};
+ghost use Rattle.path_walk.specs.Stops.{IsLawful};
+ghost use Rattle.path_walk.specs.Calls.{IsGiven, IsStopThere, IsNoAnswer};
 ghost use Rattle.path_walk.specs.Needs.{HasEntriesOf, PathNeeds, RestsOn};
 ghost use Rattle.path_walk.specs.Parts.{Leads, NeedsIn, WhereLed};
 

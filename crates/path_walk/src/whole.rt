@@ -8,7 +8,7 @@ ghost use Rattle.obj_base.specs.Site.{IsSiteFor};
 ghost use Rattle.view_rules.specs.Rules as rules;
 ghost use Rattle.vol_view.specs.Views.{view_line};
 ghost use Rattle.view_rules.specs.Rules.{view_facts, HasRecords};
-ghost use Rattle.path_walk.specs.Stops.{IsStopThere, of_walk, IsNoAnswer, IsOfRecords};
+ghost use Rattle.path_walk.specs.Calls.{IsStopThere, of_walk, IsNoAnswer, IsOfRecords};
 ghost use Rattle.path_walk.specs.Needs.{HasAll};
 ghost use Rattle.path_walk.specs.Parts.{Remembers, IsSurveyed};
 ghost use Rattle.path_walk.specs.declared.stop.PathStop.TheVariants as stops;

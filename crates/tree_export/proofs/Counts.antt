@@ -5,8 +5,7 @@ use Rattle.std.specs.List.{cons_option}
 use Rattle.std.proofs.lemmas.List.Sums.{sum_by_push}
 use Rattle.apfs_model.specs.Counts.{given}
 use Rattle.view_rules.specs.Facts.{Facts}
-use Rattle.blk_folder.specs.Items.{Item, directory_at, file_at}
-use Rattle.blk_folder.specs.Memory.{byte_count}
+use Rattle.blk_folder.specs.Items.{Item, directory_at, file_at, byte_count}
 use Rattle.tree_export.specs.Exported.{Wanted, put_for, put_all, is_left_out}
 use Rattle.tree_export.specs.Done.{is_file, is_folder, directory_count, file_count, byte_sum, left_out_from, left_out, IsDoneFor}
 use Rattle.tree_export.specs.Parts.{IsPut, TellsMore}

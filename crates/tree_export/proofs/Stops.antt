@@ -25,7 +25,8 @@ use Rattle.fs_record.specs.Facts.{Fact, told_by, fact_of, read_inode, read_attri
 use Rattle.fs_record.specs.declared.fault.RecFault.{RecFault}
 use Rattle.file_extent.specs.declared.stop.StreamStop.{StreamStop}
 use Rattle.file_extent.specs.declared.stop.StreamStop.TheVariants as streams
-use Rattle.file_extent.specs.Stops.{IsStreamStop, IsStreamFeature}
+use Rattle.file_extent.specs.Stops.{IsStreamStop}
+use Rattle.file_extent.specs.Opening.{IsStreamFeature}
 use Rattle.vol_view.specs.Volumes.{Loaded}
 use Rattle.vol_view.specs.Views.{hashed_tree, plain_tree, view_flat, view_line, is_view_walkable, is_view_counted, is_view_whole}
 use Rattle.vol_view.specs.declared.volume.View.{View}

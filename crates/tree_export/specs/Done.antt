@@ -2,8 +2,7 @@
 use Rattle.std.specs.Prelude.{◌≡◌, ℕ, suc, Bool, true, false, List, [], ◌∷◌, count_by, sum_by, if◌then◌else◌}
 use Rattle.apfs_model.specs.Counts.{given}
 use Rattle.view_rules.specs.Facts.{Facts}
-use Rattle.blk_folder.specs.Items.{Item, Held, Directory, File}
-use Rattle.blk_folder.specs.Memory.{byte_count}
+use Rattle.blk_folder.specs.Items.{Item, Held, Directory, File, byte_count}
 use Rattle.tree_export.specs.Exported.{Wanted, put_all, is_left_out}
 use Rattle.tree_export.specs.declared.told.Done.{Done}
 

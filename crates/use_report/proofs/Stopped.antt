@@ -30,7 +30,8 @@ use Rattle.view_rules.specs.Rules.{view_facts, refusal_of, HasRecords, IsRecord,
 use Rattle.view_rules.specs.Extents.{is_misplaced}
 use Rattle.view_rules.specs.declared.profile.Profile.{Profile}
 use Rattle.ext_ref.specs.declared.range.NewRange.{NewRange}
-use Rattle.use_report.specs.Faults.{HasOutsideExtent, IsUseFaultIn, IsUseFeatureIn}
+use Rattle.use_report.specs.Faults.{HasOutsideExtent, IsUseFaultIn}
+use Rattle.use_report.specs.Stops.{IsUseFeatureIn}
 use Rattle.use_report.specs.Files.{IsViewStop, LeavesOne}
 use Rattle.use_report.specs.Gathered.{some_extent, extent_in, extent_at, is_refused, said}
 use Rattle.use_report.specs.Holding.{of_gather, of_extents, IsFilesFault, AreRightFiles, IsReferencesFault}

@@ -2,7 +2,6 @@
 use Rattle.std.specs.Prelude.{◌≡◌, ◌⊎◌, ℕ, false, List}
 use Rattle.apfs_model.specs.Blocks.{is_inside}
 use Rattle.apfs_model.specs.Lists.{In}
-use Rattle.obj_base.specs.declared.stop.Feature.{Feature}
 use Rattle.obj_base.specs.declared.site.Site.{Site}
 use Rattle.nx_ring.specs.Checkpoint.{Seen, site_of}
 use Rattle.bt_cursor.specs.declared.fault.WalkFault.{WalkFault}
@@ -11,10 +10,10 @@ use Rattle.fs_record.specs.StreamExtents.{is_extent_placed}
 use Rattle.fs_record.specs.declared.extents.FileExt.{FileExt}
 use Rattle.fs_record.specs.declared.fault.RecFault.{RecFault}
 use Rattle.vol_view.specs.Volumes.{Loaded}
-use Rattle.vol_view.specs.Views.{view_line, IsViewFault, IsViewFeature}
+use Rattle.vol_view.specs.Views.{view_line, IsViewFault}
 use Rattle.vol_view.specs.declared.volume.View.{View}
 use Rattle.ext_ref.specs.Ranges.{ranges_of}
-use Rattle.ext_ref.specs.Stops.{IsExtStop, IsExtFeature}
+use Rattle.ext_ref.specs.Stops.{IsExtStop}
 use Rattle.ext_ref.specs.declared.range.NewRange.{NewRange}
 use Rattle.ext_ref.specs.declared.stop.ExtStop.TheVariants as extents
 use Rattle.view_rules.specs.Rules.{view_facts, IsRecord}
@@ -51,18 +50,8 @@ IsUseFaultIn image site volume kept (Walk xid why) = (xid ≡ kept.view.xid) × 
 IsUseFaultIn image site volume kept (Value xid item) = (xid ≡ kept.view.xid) × IsValueIn image site volume kept item
 IsUseFaultIn image site volume kept (Outside xid) = (xid ≡ kept.view.xid) × (HasOutsideExtent image site volume kept.view ⊎ HasOutsideRange image site kept)
 
--- a feature of a node of a view's files, or of its extent references, is there, in this block
-abbrev pub IsUseFeatureIn : List ℕ → Site → Loaded → KeptView → Feature → ℕ → Type 0
-IsUseFeatureIn image site volume kept feature block = IsViewFeature image site volume kept.view feature block ⊎ IsExtFeature image site kept.extents_root feature block
-
 -- a fault is there in a view of a volume
 pub record IsUseFault (image : List ℕ) (seen : Seen) (volume : Loaded) (fault : UseFault) : Type 0 where
   pub kept : KeptView
   pub one : In kept (views_kept volume seen)
   pub there : IsUseFaultIn image (site_of seen) volume kept fault
-
--- a feature is there in a view of a volume
-pub record IsUseFeature (image : List ℕ) (seen : Seen) (volume : Loaded) (feature : Feature) (block : ℕ) : Type 0 where
-  pub kept : KeptView
-  pub one : In kept (views_kept volume seen)
-  pub there : IsUseFeatureIn image (site_of seen) volume kept feature block

@@ -2,6 +2,7 @@ pub mod Views
 pub mod Held
 pub mod Numbers
 pub mod Faults
+pub mod Stops
 pub mod Gathered
 pub mod Files
 pub mod Runs

@@ -8,7 +8,8 @@ use Rattle.piece_count.specs.Covered.{is_covered, nth_count, IsCount}
 use Rattle.piece_count.specs.declared.piece.Piece.{Piece}
 use Rattle.piece_count.specs.declared.tally.Counts.{Counts}
 use Rattle.piece_count.specs.declared.tally.ViewCount.{ViewCount}
-use Rattle.use_report.specs.Faults.{IsUseFaultIn, IsUseFeatureIn}
+use Rattle.use_report.specs.Faults.{IsUseFaultIn}
+use Rattle.use_report.specs.Stops.{IsUseFeatureIn}
 use Rattle.use_report.specs.Holding.{IsWalkedSet, IsRightView}
 use Rattle.use_report.specs.declared.kept.KeptView.{KeptView}
 use Rattle.use_report.specs.declared.numbers.ViewUse.{ViewUse}

@@ -6,7 +6,6 @@ use Rattle.vol_view.specs.Volumes.{Loaded}
 use Rattle.vol_view.specs.Views.{live_of, past_of}
 use Rattle.vol_view.specs.declared.volume.Snapshot.{Snapshot}
 use Rattle.reach_rules.specs.Naming.{ViewAt}
-use Rattle.tree_namings.specs.Volumes.Told.{map_of}
 use Rattle.use_report.specs.declared.kept.KeptView.{KeptView}
 
 -- the volume as it is
@@ -28,4 +27,4 @@ views_kept volume seen = live_kept volume seen ∷ pasts_kept volume 0 volume.sn
 
 -- a view as namings have it: the volume's slot, the view's place and transaction, the block of the volume's object map, and whether names are hashed
 abbrev pub at_of : Loaded → KeptView → ViewAt
-at_of volume kept = record { slot = volume.head.slot; place = kept.place; xid = kept.view.xid; map = map_of volume; hashed = are_hashed volume.names }
+at_of volume kept = record { slot = volume.head.slot; place = kept.place; xid = kept.view.xid; map = volume.omap.block; hashed = are_hashed volume.names }

@@ -11,7 +11,8 @@ ghost use Rattle.fs_record.specs.declared.extents.FileExt as stored;
 ghost use Rattle.vol_view.specs.Views.{view_named, IsViewFeature};
 ghost use Rattle.ext_ref.specs.Stops.{IsExtFeature, is_right_tree};
 ghost use Rattle.use_report.specs.Counted.{Grows};
-ghost use Rattle.use_report.specs.Faults.{IsUseFaultIn, IsUseFeatureIn};
+ghost use Rattle.use_report.specs.Faults.{IsUseFaultIn};
+ghost use Rattle.use_report.specs.Stops.{IsUseFeatureIn};
 ghost use Rattle.use_report.specs.Files.{IsNamedBlock, IsOfExtent, IsCoveredBlock, IsMetadataBlock, LeavesOne};
 ghost use Rattle.use_report.specs.Holding.{of_gather, of_extents, AddsFiles, IsFilesFault, AreRightFiles, AddsReferences, IsReferencesFault, IsHoldingOf, IsRightView};
 

@@ -23,7 +23,8 @@ use Rattle.path_walk.specs.Places.{Place, target_of}
 use Rattle.path_walk.specs.Found.{entries_in, place_by, found, number_named}
 use Rattle.path_walk.specs.Listing.{children}
 use Rattle.view_tree.specs.Met.{Spot, spot_in, is_user_id, IsEntered, own, below, IsEntryOf, IsMet}
-use Rattle.path_walk.specs.Stops.{IsLawful, IsPathFault, IsGiven, IsStopThere}
+use Rattle.path_walk.specs.Stops.{IsLawful, IsPathFault}
+use Rattle.path_walk.specs.Calls.{IsGiven, IsStopThere}
 use Rattle.view_tree.specs.Told.{IsTold}
 use Rattle.view_tree.specs.Tree.{rows_below, rows_at, lone_row, row_told, tree}
 use Rattle.path_walk.specs.Parts.{whats, IsLack, IsKnown, IsPlaceKnown, WhereTold}

@@ -16,7 +16,8 @@ use Rattle.path_walk.specs.Paths.{is_component, parts_of, components}
 use Rattle.path_walk.specs.Places.{Place, root_of, target_of}
 use Rattle.path_walk.specs.Found.{entries_in, place_by, step, found, number_named}
 use Rattle.view_tree.specs.Tree.{lone_row, row_told}
-use Rattle.view_tree.specs.Met.{Spot, spot_in, spot_named, taken_from, taken, is_user_id, IsEntryOf, IsShown, IsShownAt, IsShownTwice, HaveMetFiles}
+use Rattle.view_tree.specs.Met.{Spot, spot_in, spot_named, taken_from, taken, is_user_id, IsEntryOf}
+use Rattle.view_tree.specs.Rows.{IsShown, IsShownAt, IsShownTwice, HaveMetFiles}
 use Rattle.path_walk.specs.Parts.{whats, by_part}
 use Rattle.view_tree.specs.Parts.{is_opened_target, HasAll, IsTaken, IsKeptAt, AreKeptIn, AreRowsKept, StaysKept, KeepsTaken, KeepsFrom, KeepsPath}
 use Rattle.path_walk.specs.declared.answer.Answer.{Answer}

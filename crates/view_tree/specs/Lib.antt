@@ -3,6 +3,7 @@ pub mod Texts
 pub mod Kept
 pub mod Puts
 pub mod Met
+pub mod Rows
 pub mod Told
 pub mod Needs
 pub mod Parts

@@ -1,14 +1,13 @@
 -- The entries that a tree meets, those of its path among them; and DirNames of a tree, where two of them name one directory.
-use Rattle.std.specs.Prelude.{◌≡◌, ◌⊎◌, ℕ, Bool, true, ◌&&◌, ◌==◌, nat_le, List, [], ◌∷◌, slice_get, Option, None, Some, option_map, Ok, if◌then◌else◌}
+use Rattle.std.specs.Prelude.{◌≡◌, ◌⊎◌, ℕ, Bool, true, ◌&&◌, nat_le, List, [], ◌∷◌, slice_get, Option, None, Some, option_map, Ok, if◌then◌else◌}
 use Rattle.std.specs.List.{cons_option}
 use Rattle.apfs_model.specs.Lists.{In, through, value_of}
 use Rattle.fs_record.specs.Entries.{Entry}
-use Rattle.fs_record.specs.Facts.{directory_kind, first_user_id}
-use Rattle.view_rules.specs.Facts.{Facts, has_inode, is_directory, has_directory}
+use Rattle.fs_record.specs.Facts.{first_user_id}
+use Rattle.view_rules.specs.Facts.{Facts, is_directory, has_directory}
 use Rattle.path_walk.specs.Paths.{components}
 use Rattle.path_walk.specs.Places.{Place, root_of}
 use Rattle.path_walk.specs.Found.{entries_in, step, found, number_named}
-use Rattle.path_walk.specs.declared.target.Target.{Target}
 
 -- where an entry stands: the id of its directory, and its number among the entries there
 pub record Spot : Type 0 where
@@ -70,32 +69,3 @@ pub record IsMetTwice (facts : Facts) (path : List ℕ) (id : ℕ) : Type 0 wher
   pub one_names : IsEntryOf facts one id
   pub other_names : IsEntryOf facts other id
   pub directory : is_user_id facts id ≡ true
-
--- a row of a tree names a directory that is entered: one of 16 or more
-abbrev pub is_row_entered : List ℕ × Target → Bool
-is_row_entered row = (row.1.kind == directory_kind) && nat_le first_user_id row.1.id
-
--- a tree with these rows has what is in a directory: the one that its path leads to, or one that a row names and that is entered
-abbrev pub IsShown : Facts → List ℕ → List (List ℕ × Target) → ℕ → Type 0
-IsShown facts path rows id =
-    ((place : Place) × (found facts path ≡ Ok place) × (is_directory place.inode ≡ true) × (place.id ≡ id))
-    ⊎ ((row : List ℕ × Target) × In row rows × (is_row_entered row ≡ true) × (row.1.id ≡ id))
-
--- an entry that a tree with these rows met: one that its path takes, or one of a directory of which it has what is in it
-abbrev pub IsShownAt : Facts → List ℕ → List (List ℕ × Target) → Spot → Type 0
-IsShownAt facts path rows spot = In spot (taken facts path) ⊎ IsShown facts path rows spot.id
-
--- two different entries that a tree with these rows met, those of the path among them, name one directory of 16 or more
-pub record IsShownTwice (facts : Facts) (path : List ℕ) (rows : List (List ℕ × Target)) (id : ℕ) : Type 0 where
-  pub one : Spot
-  pub other : Spot
-  pub different : one ≡ other → ⊥
-  pub one_met : IsShownAt facts path rows one
-  pub other_met : IsShownAt facts path rows other
-  pub one_names : IsEntryOf facts one id
-  pub other_names : IsEntryOf facts other id
-  pub directory : is_user_id facts id ≡ true
-
--- the file of each entry that a tree with these rows met has an inode
-abbrev pub HaveMetFiles : Facts → List ℕ → List (List ℕ × Target) → Type 0
-HaveMetFiles facts path rows = (spot : Spot) (file : ℕ) → IsShownAt facts path rows spot → IsEntryOf facts spot file → has_inode facts file ≡ true

@@ -10,9 +10,10 @@ ghost use Rattle.path_walk.specs.Found.{found};
 ghost use Rattle.path_walk.specs.Listing.{children};
 ghost use Rattle.view_tree.specs.Tree as spec;
 ghost use Rattle.view_tree.specs.Kept.{told_rows};
-ghost use Rattle.view_tree.specs.Met.{spot_in, is_user_id, IsEntryOf, IsEntered, IsMet, IsMetTwice, IsShownTwice, HaveMetFiles};
+ghost use Rattle.view_tree.specs.Met.{spot_in, is_user_id, IsEntryOf, IsEntered, IsMet, IsMetTwice};
+ghost use Rattle.view_tree.specs.Rows.{IsShownTwice, HaveMetFiles};
 ghost use Rattle.path_walk.specs.Needs.{PathNeeds};
-ghost use Rattle.path_walk.specs.Stops.{IsNoAnswer};
+ghost use Rattle.path_walk.specs.Calls.{IsNoAnswer};
 ghost use Rattle.path_walk.specs.Parts.{whats, by_part, along, targets_by, Remembers, PartNeeds, AlongNeeds, WhereTold, of_any};
 ghost use Rattle.view_tree.specs.Parts.{is_opened_target, told_of, told_from, row_at, kept_under, IsMemo, IsTaken, TakesFrom, HasAll, IsUnderway, IsTreeStop, IsTreeKnown, StaysKept, AreKeptIn, AreRowsKept, KeepsTaken, KeepsFrom, KeepsPath};
 

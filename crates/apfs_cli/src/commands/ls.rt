@@ -1,6 +1,6 @@
 // The command `ls`.
 ghost use Rattle.apfs_model.specs.Source.{IsKept};
-ghost use Rattle.cmd_words.specs.Asked.{target_asked};
+ghost use Rattle.cmd_words.specs.Lent.{target_asked};
 ghost use Rattle.path_walk.specs.Texts.{target_text};
 ghost use Rattle.apfs_cli.specs.Handed.{looked};
 ghost use Rattle.apfs_cli.specs.Says.{HasEnded};

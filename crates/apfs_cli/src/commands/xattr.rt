@@ -1,7 +1,7 @@
 // The command `xattr`.
 ghost use Rattle.std.specs.Prelude.{None, Some, option_map};
 ghost use Rattle.apfs_model.specs.Source.{IsKept};
-ghost use Rattle.cmd_words.specs.Asked.{target_asked};
+ghost use Rattle.cmd_words.specs.Lent.{target_asked};
 ghost use Rattle.path_read.specs.Texts.{attribute_text};
 ghost use Rattle.apfs_cli.specs.Handed.{looked};
 ghost use Rattle.apfs_cli.specs.Says.{HasEnded};

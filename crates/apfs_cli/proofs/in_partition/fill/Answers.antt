@@ -1,6 +1,6 @@
 -- What the command came to over the image, or over its partition.
 use Rattle.std.proofs.Common.{refl}
-use Rattle.cmd_words.specs.Asked.{target_asked}
+use Rattle.cmd_words.specs.Lent.{target_asked}
 use Rattle.apfs_cli.specs.Handed.{looked, stored}
 use Rattle.apfs_cli.specs.Words.{Export}
 use Rattle.apfs_cli.specs.Written.{sunk}

@@ -1,7 +1,7 @@
 -- What the command came to over the partition, or what stops the search for one.
 use Rattle.std.proofs.Common.{◌≡◌, ◌≤◌, ap, refl}
 use Rattle.std.specs.Prelude.{Err}
-use Rattle.cmd_words.specs.Asked.{target_asked}
+use Rattle.cmd_words.specs.Lent.{target_asked}
 use Rattle.img_gpt.specs.declared.part.GptStop.{GptStop}
 use Rattle.img_gpt.specs.declared.part.GptStop.TheVariants.{ReadFault}
 use Rattle.apfs_cli.specs.Handed.{looked, part_looked, stored}

@@ -3,7 +3,7 @@ use Rattle.std.proofs.Common.{◌≡◌, ◌∙◌, ℕ, List, Option, ap, subst
 use Rattle.apfs_model.specs.Counts.{Rose}
 use Rattle.img_gpt.specs.Slices.{sliced}
 use Rattle.img_gpt.specs.declared.slice.Slice.{Slice}
-use Rattle.cmd_words.specs.Asked.{target_asked}
+use Rattle.cmd_words.specs.Lent.{target_asked}
 use Rattle.apfs_cli.specs.Handed.{Looked, LookFailed, looked, part_looked, stored}
 use Rattle.apfs_cli.specs.Words.{Export}
 use Rattle.apfs_cli.specs.Written.{sunk}

@@ -1,6 +1,6 @@
 -- The view that is meant, or what stands in the way to it.
 use Rattle.std.proofs.Common.{sym}
-use Rattle.cmd_words.specs.Asked.{target_asked}
+use Rattle.cmd_words.specs.Lent.{target_asked}
 use Rattle.apfs_cli.proofs.OverView.{view_way}
 use Rattle.apfs_cli.proofs.meant_view.reach_view.Goals as goal
 

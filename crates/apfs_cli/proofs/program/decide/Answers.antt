@@ -2,7 +2,7 @@
 use Rattle.std.proofs.Common.{◌≡◌, ◌∙◌, ap, sym, refl}
 use Rattle.std.specs.Prelude.{map, option_map, None, Some}
 use Rattle.std.specs.String.{string_bytes}
-use Rattle.cmd_words.specs.Asked.{target_asked}
+use Rattle.cmd_words.specs.Lent.{target_asked}
 use Rattle.apfs_cli.specs.Handed.{looked_at, stored_in}
 use Rattle.apfs_cli.specs.Words.{Export, Format, Gen, asked_of, line_in, line_said, plain_line, said, spec_of}
 use Rattle.apfs_cli.specs.Written.{sunk}

@@ -1,6 +1,6 @@
 -- What the command came to over the source and the folder, or that there is no folder.
 use Rattle.std.proofs.Common.{refl}
-use Rattle.cmd_words.specs.Asked.{target_asked}
+use Rattle.cmd_words.specs.Lent.{target_asked}
 use Rattle.apfs_cli.specs.Handed.{looked}
 use Rattle.apfs_cli.specs.Words.{Export, line_in}
 use Rattle.apfs_cli.proofs.Plugs.{come_nowhere}

@@ -1,7 +1,7 @@
 -- What the command came to over the source, or that there is none.
 use Rattle.std.proofs.Common.{◌≡◌, ◌∙◌, sym, refl}
 use Rattle.blk_source.specs.declared.source.Opened.TheVariants.{Absent, Image}
-use Rattle.cmd_words.specs.Asked.{target_asked}
+use Rattle.cmd_words.specs.Lent.{target_asked}
 use Rattle.apfs_cli.specs.Handed.{stored_in}
 use Rattle.apfs_cli.specs.Words.{Export, line_in}
 use Rattle.apfs_cli.proofs.Plugs.{come_absent, kept_folder, kept_given}

@@ -1,7 +1,8 @@
 -- The table, its first entry of the type, and the partition of that entry.
 use Rattle.std.proofs.Common.{◌≡◌, ◌∙◌, sym, ap, true, false, Ok, length}
 use Rattle.std.proofs.lemmas.Result.{err_from_is_err_and}
-use Rattle.img_gpt.specs.Partition.{part_of, is_placed, IsTableStop}
+use Rattle.img_gpt.specs.Partition.{part_of, is_placed}
+use Rattle.img_gpt.specs.Laws.{IsTableStop}
 use Rattle.img_gpt.proofs.Exactly.{found_there}
 use Rattle.img_gpt.proofs.finding.find_part.Goals as goal
 

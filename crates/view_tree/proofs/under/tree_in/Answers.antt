@@ -3,7 +3,7 @@ use Rattle.view_rules.specs.Facts.{is_directory}
 use Rattle.path_walk.specs.Places.{Place}
 use Rattle.path_walk.specs.Found.{found}
 use Rattle.view_tree.specs.Tree.{tree, lone_row, row_told}
-use Rattle.view_tree.specs.Met.{IsShownTwice, HaveMetFiles}
+use Rattle.view_tree.specs.Rows.{IsShownTwice, HaveMetFiles}
 use Rattle.view_tree.specs.Kept.{told_rows}
 use Rattle.view_tree.specs.Parts.{told_of, told_from, IsMemo, IsUnderway, AreKeptIn}
 use Rattle.path_walk.specs.declared.target.Target.{Target}

@@ -1,6 +1,6 @@
 use Rattle.std.proofs.Common.{◌≡◌, ◌++◌}
 use Rattle.std.specs.Prelude.{filter}
-use Rattle.apfs_check.specs.Notes.{is_hash_note, is_unnamed_note}
+use Rattle.apfs_check.specs.NoteTests.{is_hash_note, is_unnamed_note}
 use Rattle.apfs_check.proofs.gathered.Gathered.put_all.Given as goal
 
 abbrev pub invariant-notes : goal.invariant-notes

@@ -1,6 +1,6 @@
 -- The check stops the run, or what comes of a container that is well-formed is what it comes to.
 use Rattle.std.proofs.Common.{◌∙◌, sym, refl}
-use Rattle.cmd_words.specs.Asked.{target_asked}
+use Rattle.cmd_words.specs.Lent.{target_asked}
 use Rattle.view_rules.specs.declared.profile.Profile.TheVariants.{Plain}
 use Rattle.apfs_cli.specs.Handed.{looked, stored}
 use Rattle.apfs_cli.specs.Words.{Export}

@@ -1,7 +1,7 @@
 -- What comes of the view, or what stands in the way to it. In a container that is well-formed nothing does but that there is no volume or no snapshot.
 use Rattle.std.proofs.Common.{◌≡◌, ◌∙◌, ap, sym}
 use Rattle.std.specs.Prelude.{Err}
-use Rattle.cmd_words.specs.Asked.{target_asked}
+use Rattle.cmd_words.specs.Lent.{target_asked}
 use Rattle.apfs_cli.specs.Handed.{looked, stored}
 use Rattle.apfs_cli.specs.Words.{Export}
 use Rattle.apfs_cli.specs.Written.{sunk}

@@ -1,7 +1,7 @@
 -- The view that is meant meets its rules, so its items are those of its tree.
 use Rattle.std.proofs.Common.{◌≡◌, ◌∙◌, ap, sym}
 use Rattle.std.specs.Prelude.{Err}
-use Rattle.cmd_words.specs.Asked.{target_asked}
+use Rattle.cmd_words.specs.Lent.{target_asked}
 use Rattle.apfs_cli.specs.Handed.{looked, stored}
 use Rattle.apfs_cli.specs.Words.{Export}
 use Rattle.apfs_cli.specs.Written.{sunk}

@@ -1,6 +1,7 @@
 -- The contents are written, or what stands in the way to the view, or in it, is told.
 use Rattle.std.proofs.Common.{List, ℕ, Some, refl}
-use Rattle.cmd_words.specs.Asked.{AskedTarget, target_asked}
+use Rattle.cmd_words.specs.Asked.{AskedTarget}
+use Rattle.cmd_words.specs.Lent.{target_asked}
 use Rattle.obj_base.specs.declared.site.Site.{Site}
 use Rattle.nx_ring.specs.Checkpoint.{Seen}
 use Rattle.vol_view.specs.Volumes.{Loaded}
