@@ -1,0 +1,11 @@
+pub mod Weaving
+pub mod Kept
+pub mod Named
+pub mod Counted
+pub mod Climbs
+pub mod Fellows
+pub mod Streams
+pub mod Known
+pub mod Law
+pub mod Right
+pub mod Examples
