@@ -4,7 +4,13 @@ use Rattle.apfs_model.specs.Lists.{In}
 use Rattle.apfs_model.proofs.Searches.{from-map}
 use Rattle.bt_cursor.specs.declared.step.Step.{Step}
 use Rattle.nx_ring.specs.Checkpoint.{Seen}
-use Rattle.reach_rules.specs.Naming.{ByBlock, ByMapping, Object, InBlock, OfId, TreeKind, Expected, SpaceManager, ContainerMap, ReaperObject, ReapList, Jumpstart, VolumeIn, VolumeMap, ExtendedMetadata, SnapshotSuper, AddressBlock, InfoBlock, TreeRoot, TreeNode, Naming}
+use Rattle.reach_rules.specs.declared.naming.LookUp.TheVariants.{ByBlock, ByMapping}
+use Rattle.reach_rules.specs.declared.naming.Object.{Object}
+use Rattle.reach_rules.specs.declared.naming.Object.TheVariants.{InBlock, OfId}
+use Rattle.reach_rules.specs.declared.naming.TreeKind.{TreeKind}
+use Rattle.reach_rules.specs.declared.naming.Expected.{Expected}
+use Rattle.reach_rules.specs.declared.naming.Expected.TheVariants.{SpaceManager, ContainerMap, ReaperObject, ReapList, Jumpstart, VolumeIn, VolumeMap, ExtendedMetadata, SnapshotSuper, AddressBlock, InfoBlock, TreeRoot, TreeNode}
+use Rattle.reach_rules.specs.declared.naming.Naming.{Naming}
 use Rattle.reach_rules.specs.Trees.{IsRightTree}
 use Rattle.reach_rules.specs.Owners.{owners_through, tree_owners}
 use Rattle.reach_rules.specs.PoolOwners.{pool_owners_through, pool_tree_owners}

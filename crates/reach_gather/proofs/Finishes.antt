@@ -8,8 +8,12 @@ use Rattle.apfs_model.specs.Counts.{given}
 use Rattle.apfs_model.specs.Lists.{In, Lists}
 use Rattle.apfs_model.proofs.Searches.{in-left, in-right, in-append, in-map, from-map, in-filter, from-filter, filter-test}
 use Rattle.omap_map.specs.declared.records.OmapRecord.{OmapRecord}
-use Rattle.reach_rules.specs.Naming.{LookUp, ByBlock, ByMapping, Object, Newest, InBlock, OfId, OfRecord, Naming}
-use Rattle.reach_rules.specs.Owners.{Owner}
+use Rattle.reach_rules.specs.declared.naming.LookUp.{LookUp}
+use Rattle.reach_rules.specs.declared.naming.LookUp.TheVariants.{ByBlock, ByMapping}
+use Rattle.reach_rules.specs.declared.naming.Object.{Object}
+use Rattle.reach_rules.specs.declared.naming.Object.TheVariants.{Newest, InBlock, OfId, OfRecord}
+use Rattle.reach_rules.specs.declared.naming.Naming.{Naming}
+use Rattle.reach_rules.specs.declared.owner.Owner.{Owner}
 use Rattle.reach_rules.specs.Reached.{range_of}
 use Rattle.reach_rules.specs.Tally.{IsNumberOf}
 use Rattle.reach_gather.specs.Finished.{AreRangesOnce, is_look, id_of, IsIdOf, IsObjectOf}

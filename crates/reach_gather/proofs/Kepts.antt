@@ -3,8 +3,10 @@ use Rattle.std.proofs.Common.{◌≡◌, ℕ, suc, ◌+◌, ◌<◌, Bool, true,
 use Rattle.std.specs.Prelude.{not, ◌==◌, flat_map}
 use Rattle.std.proofs.lemmas.List.{take_more}
 use Rattle.std.proofs.lemmas.List.Concat.{flat_map-append}
-use Rattle.reach_rules.specs.Naming.{Naming}
-use Rattle.reach_rules.specs.Owners.{Owner, owner_of, Told, told_from}
+use Rattle.reach_rules.specs.declared.naming.Naming.{Naming}
+use Rattle.reach_rules.specs.declared.owner.Owner.{Owner}
+use Rattle.reach_rules.specs.declared.owner.Who.TheVariants.{Told}
+use Rattle.reach_rules.specs.Owners.{owner_of, told_from}
 use Rattle.reach_rules.specs.Reached.{range_of}
 use Rattle.reach_gather.specs.Held.{some_owners}
 use Rattle.reach_gather.specs.Kept.{owners_in, some_ranges}

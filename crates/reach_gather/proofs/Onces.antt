@@ -7,7 +7,13 @@ use Rattle.apfs_model.specs.Lists.{In}
 use Rattle.id_lists.proofs.Repeats.{contained, listed}
 use Rattle.nx_ring.specs.Checkpoint.{Seen}
 use Rattle.obj_base.specs.declared.stop.Within.{Within}
-use Rattle.reach_rules.specs.Naming.{LookUp, ByBlock, Newest, Whole, SpaceManager, Naming, naming}
+use Rattle.reach_rules.specs.declared.naming.LookUp.{LookUp}
+use Rattle.reach_rules.specs.declared.naming.LookUp.TheVariants.{ByBlock}
+use Rattle.reach_rules.specs.declared.naming.Object.TheVariants.{Newest}
+use Rattle.reach_rules.specs.declared.naming.Namer.TheVariants.{Whole}
+use Rattle.reach_rules.specs.declared.naming.Expected.TheVariants.{SpaceManager}
+use Rattle.reach_rules.specs.declared.naming.Naming.{Naming}
+use Rattle.reach_rules.specs.Naming.{naming}
 use Rattle.reach_rules.specs.Live.{IsLive}
 use Rattle.reach_rules.specs.Faults.{within_of, xid_of, is_once, IsNamedTwice}
 use Rattle.tree_namings.specs.Views.{AreOnceAs}

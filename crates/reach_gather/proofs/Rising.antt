@@ -12,7 +12,7 @@ use Rattle.apfs_model.specs.Apart.{Apart}
 use Rattle.apfs_model.specs.Lists.{In}
 use Rattle.apfs_model.proofs.Searches.{in-map}
 use Rattle.id_lists.proofs.Repeats.{contained, listed, sorted_apart}
-use Rattle.reach_rules.specs.Owners.{Owner}
+use Rattle.reach_rules.specs.declared.owner.Owner.{Owner}
 use Rattle.reach_rules.specs.Reached.{range_of}
 use Rattle.reach_gather.specs.Finished.{AreRangesOnce, first_of}
 use Rattle.reach_gather.proofs.Finishes.{ranges-once}

@@ -11,10 +11,15 @@ use Rattle.omap_map.specs.Maps.{map_records, is_whole_map, resolved_in}
 use Rattle.omap_map.specs.Resolve as resolve
 use Rattle.omap_map.specs.declared.records.OmapRecord.{OmapRecord}
 use Rattle.vol_view.specs.Volumes.{Loaded}
-use Rattle.reach_rules.specs.Naming.{OfRecord, Namer, Whole, VolumeIn, TreeRoot, Naming}
+use Rattle.reach_rules.specs.declared.naming.Object.TheVariants.{OfRecord}
+use Rattle.reach_rules.specs.declared.naming.Namer.{Namer}
+use Rattle.reach_rules.specs.declared.naming.Namer.TheVariants.{Whole}
+use Rattle.reach_rules.specs.declared.naming.Expected.TheVariants.{VolumeIn, TreeRoot}
+use Rattle.reach_rules.specs.declared.naming.Naming.{Naming}
 use Rattle.reach_rules.specs.Next.{next}
 use Rattle.reach_rules.specs.Resolved.{Found, standing}
-use Rattle.reach_rules.specs.Owners.{owner, Recorded, object_owners, told_owners, owners_through}
+use Rattle.reach_rules.specs.declared.owner.Who.TheVariants.{Recorded}
+use Rattle.reach_rules.specs.Owners.{owner, object_owners, told_owners, owners_through}
 use Rattle.reach_rules.specs.PoolOwners.{pool_object_owners, pool_told_owners, pool_owners_through}
 use Rattle.tree_namings.specs.Volumes.Parts.{IsVolumePart, volume_namer}
 use Rattle.tree_namings.specs.Volumes.Told.{head_naming, told_volume}

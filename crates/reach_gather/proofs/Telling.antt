@@ -3,8 +3,10 @@ use Rattle.std.proofs.Common.{◌≡◌, ℕ, zero, suc, ◌+◌, ◌<◌, Bool,
 use Rattle.std.specs.Prelude.{not, ◌==◌, if◌then◌else◌}
 use Rattle.std.specs.List.{filter}
 use Rattle.std.proofs.lemmas.List.{take_more}
-use Rattle.reach_rules.specs.Naming.{Naming}
-use Rattle.reach_rules.specs.Owners.{Owner, owner, owner_of, Told, told_from}
+use Rattle.reach_rules.specs.declared.naming.Naming.{Naming}
+use Rattle.reach_rules.specs.declared.owner.Owner.{Owner}
+use Rattle.reach_rules.specs.declared.owner.Who.TheVariants.{Told}
+use Rattle.reach_rules.specs.Owners.{owner, owner_of, told_from}
 use Rattle.reach_gather.specs.Held.{some_owners}
 
 told-more : (n : Naming) (k : ℕ) (xs : List (ℕ × ℕ)) (x : ℕ × ℕ) → told_from n k (xs ++ x ∷ []) ≡ told_from n k xs ++ owner_of (Told n (k + length xs)) x ∷ []

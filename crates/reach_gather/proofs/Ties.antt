@@ -10,8 +10,15 @@ use denote.Enum.Declared.{Choice, intoss}
 use denote.Enum.Compared.{Each, by}
 use Rattle.omap_map.specs.declared.records.OmapRecord.{OmapRecord}
 use Rattle.space_pool.specs.declared.entry.Queue.{Queue}
-use Rattle.reach_rules.specs.Naming.{ViewAt, LookUp, Object, Namer, TreeKind, Expected, Naming}
-use Rattle.reach_rules.specs.Owners.{Who, Owner}
+use Rattle.reach_rules.specs.declared.naming.ViewAt.{ViewAt}
+use Rattle.reach_rules.specs.declared.naming.LookUp.{LookUp}
+use Rattle.reach_rules.specs.declared.naming.Object.{Object}
+use Rattle.reach_rules.specs.declared.naming.Namer.{Namer}
+use Rattle.reach_rules.specs.declared.naming.TreeKind.{TreeKind}
+use Rattle.reach_rules.specs.declared.naming.Expected.{Expected}
+use Rattle.reach_rules.specs.declared.naming.Naming.{Naming}
+use Rattle.reach_rules.specs.declared.owner.Who.{Who}
+use Rattle.reach_rules.specs.declared.owner.Owner.{Owner}
 use Rattle.reach_gather.specs.Finished.{is_look}
 use Rattle.space_pool.specs.contracts.entry.Queue as queues
 use Rattle.reach_rules.specs.contracts.naming.LookUp as looks

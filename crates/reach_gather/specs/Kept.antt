@@ -1,7 +1,8 @@
 -- Owners, as they are kept.
 use Rattle.std.specs.Prelude.{ℕ, not, ◌==◌, List, [], ◌∷◌}
 use Rattle.std.specs.List.{filter}
-use Rattle.reach_rules.specs.Owners.{Owner, told_from}
+use Rattle.reach_rules.specs.declared.owner.Owner.{Owner}
+use Rattle.reach_rules.specs.Owners.{told_from}
 use Rattle.reach_gather.specs.Held.{some_owners}
 use Rattle.reach_gather.specs.declared.keeping.KeptOwners.{KeptOwners}
 use Rattle.reach_gather.specs.declared.keeping.KeptOwners.TheVariants.{One, Those}

@@ -1,8 +1,13 @@
 -- The namings of the steps of trees, with their owners.
 use Rattle.std.specs.Prelude.{ℕ, List, map}
 use Rattle.bt_cursor.specs.declared.step.Step.{Step}
-use Rattle.reach_rules.specs.Naming.{ByBlock, ByMapping, InBlock, OfId, TreeKind, Naming}
-use Rattle.reach_rules.specs.Owners.{Owner, owner, Named}
+use Rattle.reach_rules.specs.declared.naming.LookUp.TheVariants.{ByBlock, ByMapping}
+use Rattle.reach_rules.specs.declared.naming.Object.TheVariants.{InBlock, OfId}
+use Rattle.reach_rules.specs.declared.naming.TreeKind.{TreeKind}
+use Rattle.reach_rules.specs.declared.naming.Naming.{Naming}
+use Rattle.reach_rules.specs.declared.owner.Owner.{Owner}
+use Rattle.reach_rules.specs.declared.owner.Who.TheVariants.{Named}
+use Rattle.reach_rules.specs.Owners.{owner}
 use Rattle.tree_namings.specs.Namings.{step_naming}
 
 -- in a tree of physical nodes

@@ -4,7 +4,7 @@ ghost use Rattle.apfs_model.specs.Apart.{Apart};
 ghost use Rattle.apfs_model.specs.Counts.{given};
 ghost use Rattle.apfs_model.specs.Lists.{In, Lists};
 ghost use Rattle.omap_map.specs.declared.records.OmapRecord.{OmapRecord};
-ghost use Rattle.reach_rules.specs.Naming.{Naming};
+ghost use Rattle.reach_rules.specs.declared.naming.Naming.{Naming};
 ghost use Rattle.reach_rules.specs.Tally.{IsNumberOf};
 ghost use Rattle.reach_gather.specs.Finished.{is_look, id_of, IsIdOf, IsObjectOf};
 

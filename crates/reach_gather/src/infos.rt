@@ -1,7 +1,8 @@
 // The blocks that tell of chunks, and the bitmaps of chunks.
 ghost use Rattle.std.specs.Prelude.{◌≡◌, ◌++◌, ◌==◌, map, slice_index, OnOk, if◌then◌else◌};
 ghost use Rattle.space_map.specs.Fields.{cabs_of, cibs_of, addresses_of};
-ghost use Rattle.reach_rules.specs.Owners.{owner, Bitmap};
+ghost use Rattle.reach_rules.specs.declared.owner.Who.TheVariants.{Bitmap};
+ghost use Rattle.reach_rules.specs.Owners.{owner};
 ghost use Rattle.reach_gather.specs.Infos.{room_of, known_cab, known_cib, known_cabs, known_cibs, bitmaps_from};
 ghost use Rattle.reach_gather.specs.Steps.{block_owner};
 

@@ -11,7 +11,7 @@ ghost use Rattle.omap_map.specs.Maps.{map_records};
 ghost use Rattle.vol_view.specs.Volumes.{Loaded};
 ghost use Rattle.vol_view.specs.declared.head.VolHead.{VolHead};
 ghost use Rattle.space_map.specs.Stops.{IsSpaceOf};
-ghost use Rattle.reach_rules.specs.Naming.{Namer};
+ghost use Rattle.reach_rules.specs.declared.naming.Namer.{Namer};
 ghost use Rattle.reach_rules.specs.Next.{roots};
 ghost use Rattle.reach_rules.specs.Features.{HasFeature};
 ghost use Rattle.reach_rules.specs.Owners.{first_owners};

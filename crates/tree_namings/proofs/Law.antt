@@ -23,7 +23,15 @@ use Rattle.bt_cursor.specs.declared.step.Step.{Step}
 use Rattle.bt_cursor.specs.Line.{Item, item_at, entries_of, line_part}
 use Rattle.bt_cursor.specs.Steps.{step_in, steps_in, steps_of}
 use Rattle.nx_ring.specs.Checkpoint.{Seen, site_of}
-use Rattle.reach_rules.specs.Naming.{LookUp, Object, Namer, Whole, TreeKind, Expected, TreeRoot, TreeNode, Naming, naming}
+use Rattle.reach_rules.specs.declared.naming.LookUp.{LookUp}
+use Rattle.reach_rules.specs.declared.naming.Object.{Object}
+use Rattle.reach_rules.specs.declared.naming.Namer.{Namer}
+use Rattle.reach_rules.specs.declared.naming.Namer.TheVariants.{Whole}
+use Rattle.reach_rules.specs.declared.naming.TreeKind.{TreeKind}
+use Rattle.reach_rules.specs.declared.naming.Expected.{Expected}
+use Rattle.reach_rules.specs.declared.naming.Expected.TheVariants.{TreeRoot, TreeNode}
+use Rattle.reach_rules.specs.declared.naming.Naming.{Naming}
+use Rattle.reach_rules.specs.Naming.{naming}
 use Rattle.reach_rules.specs.Resolved.{Found, resolved, found_by, is_node}
 use Rattle.reach_rules.specs.Tested.{Answer, of_node, node_answer, node_tested, tested}
 use Rattle.reach_rules.specs.Next.{names, names_if, next, children_in, child_namings, node_namings}

@@ -15,7 +15,19 @@ use Rattle.vol_view.specs.Fields as volumes
 use Rattle.vol_view.specs.SnapRecords.{is_snapshot_long}
 use Rattle.space_map.specs.Fields.{cabs_of, cibs_of}
 use Rattle.space_map.specs.Blocks.{manager_of}
-use Rattle.reach_rules.specs.Naming.{ViewAt, LookUp, ByBlock, ByMapping, InContainer, InView, Object, Newest, InBlock, OfId, OfRecord, Namer, Whole, TreeKind, Files, Expected, ReapList, ExtendedMetadata, AddressBlock, InfoBlock, Naming, naming}
+use Rattle.reach_rules.specs.declared.naming.ViewAt.{ViewAt}
+use Rattle.reach_rules.specs.declared.naming.LookUp.{LookUp}
+use Rattle.reach_rules.specs.declared.naming.LookUp.TheVariants.{ByBlock, ByMapping, InContainer, InView}
+use Rattle.reach_rules.specs.declared.naming.Object.{Object}
+use Rattle.reach_rules.specs.declared.naming.Object.TheVariants.{Newest, InBlock, OfId, OfRecord}
+use Rattle.reach_rules.specs.declared.naming.Namer.{Namer}
+use Rattle.reach_rules.specs.declared.naming.Namer.TheVariants.{Whole}
+use Rattle.reach_rules.specs.declared.naming.TreeKind.{TreeKind}
+use Rattle.reach_rules.specs.declared.naming.TreeKind.TheVariants.{Files}
+use Rattle.reach_rules.specs.declared.naming.Expected.{Expected}
+use Rattle.reach_rules.specs.declared.naming.Expected.TheVariants.{ReapList, ExtendedMetadata, AddressBlock, InfoBlock}
+use Rattle.reach_rules.specs.declared.naming.Naming.{Naming}
+use Rattle.reach_rules.specs.Naming.{naming}
 use Rattle.reach_rules.specs.Resolved.{Found, resolved}
 use Rattle.reach_rules.specs.Tested.{Answer, tested}
 use Rattle.reach_rules.specs.Next.{roots, names, next, unless_zero, slot_namings, live_view, past_view, view_namings, records_of_snapshots, address_naming, addresses_in, address_namings, cib_naming, cibs_in, cab_namings, children_in, child_namings, node_namings}

@@ -3,7 +3,7 @@ use Rattle.std.specs.Prelude.{flat_map, ◌↔◌}
 use Rattle.std.specs.List.Sorted.{IsStrictlyIncreasing}
 use Rattle.std.proofs.lemmas.Result.{IfOk-weaker}
 use Rattle.apfs_model.specs.Lists.{In}
-use Rattle.reach_rules.specs.Owners.{Owner}
+use Rattle.reach_rules.specs.declared.owner.Owner.{Owner}
 use Rattle.reach_rules.specs.Reached.{range_of}
 use Rattle.reach_gather.specs.Kept.{owners_in}
 use Rattle.reach_gather.specs.Finished.{AreRangesOnce, first_of}

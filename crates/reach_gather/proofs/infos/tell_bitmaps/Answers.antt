@@ -1,7 +1,8 @@
 use Rattle.std.proofs.Common.{◌≡◌, ◌∙◌, ◌<◌, List, length, get_or, ap, subst}
 use Rattle.std.specs.Prelude.{◌==◌, if◌then◌else◌}
 use Rattle.space_map.specs.declared.chunk.Chunk.{Chunk}
-use Rattle.reach_rules.specs.Owners.{owner, Bitmap}
+use Rattle.reach_rules.specs.declared.owner.Who.TheVariants.{Bitmap}
+use Rattle.reach_rules.specs.Owners.{owner}
 use Rattle.reach_gather.proofs.Numbered.{bitmaps-step}
 use Rattle.reach_gather.proofs.infos.tell_bitmaps.Goals as goal
 

@@ -1,7 +1,10 @@
 use Rattle.std.proofs.Common.{◌≡◌, ◌∙◌, ◌++◌, ◌∷◌, [], ℕ, ap, sym, ◌+◌, ◌≤◌, length, arith}
 use Rattle.nx_block.specs.Super.{jumpstart_of}
 use Rattle.nx_ring.specs.Checkpoint.{Seen}
-use Rattle.reach_rules.specs.Naming.{ByBlock, Newest, Whole, Jumpstart}
+use Rattle.reach_rules.specs.declared.naming.LookUp.TheVariants.{ByBlock}
+use Rattle.reach_rules.specs.declared.naming.Object.TheVariants.{Newest}
+use Rattle.reach_rules.specs.declared.naming.Namer.TheVariants.{Whole}
+use Rattle.reach_rules.specs.declared.naming.Expected.TheVariants.{Jumpstart}
 use Rattle.reach_rules.specs.Owners.{told_from}
 use Rattle.reach_gather.specs.Held.{some_owners}
 use Rattle.reach_gather.specs.Steps.{block_owner}

@@ -1,6 +1,6 @@
 use Rattle.std.proofs.Common.{◌≡◌, ◌∙◌, [], ◌∷◌, ap, refl, sym, subst, inl, inr, ◌+◌, ◌≤◌, length, arith}
 use Rattle.nx_ring.specs.Checkpoint.{site_of}
-use Rattle.reach_rules.specs.Naming.{Naming}
+use Rattle.reach_rules.specs.declared.naming.Naming.{Naming}
 use Rattle.reach_rules.specs.Live.{IsLive}
 use Rattle.reach_gather.specs.Adds.{Adds}
 use Rattle.reach_gather.proofs.Fields.{map-adds, map-leads, led-to, lost-tells, tree-field, past-field, records-of-map}

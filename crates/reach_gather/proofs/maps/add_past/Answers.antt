@@ -1,5 +1,11 @@
 use Rattle.std.proofs.Common.{[], ◌∷◌, sym, subst}
-use Rattle.reach_rules.specs.Naming.{ByBlock, InBlock, Namer, Whole, MapSnapshots, TreeRoot, Naming}
+use Rattle.reach_rules.specs.declared.naming.LookUp.TheVariants.{ByBlock}
+use Rattle.reach_rules.specs.declared.naming.Object.TheVariants.{InBlock}
+use Rattle.reach_rules.specs.declared.naming.Namer.{Namer}
+use Rattle.reach_rules.specs.declared.naming.Namer.TheVariants.{Whole}
+use Rattle.reach_rules.specs.declared.naming.TreeKind.TheVariants.{MapSnapshots}
+use Rattle.reach_rules.specs.declared.naming.Expected.TheVariants.{TreeRoot}
+use Rattle.reach_rules.specs.declared.naming.Naming.{Naming}
 use Rattle.reach_rules.specs.Live.{IsLive}
 use Rattle.reach_gather.specs.Adds.{Adds}
 use Rattle.reach_gather.proofs.Fields.{adds-zero, adds-some, live-some}

@@ -1,7 +1,10 @@
 use Rattle.std.proofs.Common.{◌≡◌, ◌∙◌, ◌++◌, map, ap, refl, List}
 use Rattle.bt_cursor.specs.declared.step.Step.{Step}
 use Rattle.space_pool.specs.declared.entry.Queue.TheVariants.{Main}
-use Rattle.reach_rules.specs.Naming.{FreeQueue, Naming, ByMapping, OfId}
+use Rattle.reach_rules.specs.declared.naming.TreeKind.TheVariants.{FreeQueue}
+use Rattle.reach_rules.specs.declared.naming.Naming.{Naming}
+use Rattle.reach_rules.specs.declared.naming.LookUp.TheVariants.{ByMapping}
+use Rattle.reach_rules.specs.declared.naming.Object.TheVariants.{OfId}
 use Rattle.reach_rules.specs.Owners.{told_from, queued_ranges_of}
 use Rattle.reach_gather.specs.Steps.{id_steps}
 use Rattle.reach_gather.proofs.Branches.{queue-adds}

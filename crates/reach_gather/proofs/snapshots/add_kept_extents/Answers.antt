@@ -1,4 +1,7 @@
-use Rattle.reach_rules.specs.Naming.{ByBlock, Kept, ExtentRefs, TreeRoot}
+use Rattle.reach_rules.specs.declared.naming.LookUp.TheVariants.{ByBlock}
+use Rattle.reach_rules.specs.declared.naming.Namer.TheVariants.{Kept}
+use Rattle.reach_rules.specs.declared.naming.TreeKind.TheVariants.{ExtentRefs}
+use Rattle.reach_rules.specs.declared.naming.Expected.TheVariants.{TreeRoot}
 use Rattle.reach_gather.proofs.Fields.{adds-zero, live-some}
 use Rattle.reach_gather.proofs.snapshots.add_kept_extents.Goals as goal
 

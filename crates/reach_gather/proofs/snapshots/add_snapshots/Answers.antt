@@ -5,7 +5,7 @@ use Rattle.apfs_model.specs.Lists.{In}
 use Rattle.fs_name.specs.Normal.{are_hashed}
 use Rattle.vol_view.specs.Volumes.{Loaded}
 use Rattle.vol_view.specs.declared.volume.Snapshot.{Snapshot}
-use Rattle.reach_rules.specs.Naming.{ViewAt}
+use Rattle.reach_rules.specs.declared.naming.ViewAt.{ViewAt}
 use Rattle.tree_namings.specs.Volumes.Told.{past_at, told_snapshot, told_snapshots}
 use Rattle.space_pool.proofs.Indexes.{kept-then}
 use Rattle.reach_gather.specs.Adds.{Adds}

@@ -1,6 +1,9 @@
 use Rattle.std.proofs.Common.{◌≡◌, ◌∙◌, ◌++◌, map, ap, refl, List}
 use Rattle.bt_cursor.specs.declared.step.Step.{Step}
-use Rattle.reach_rules.specs.Naming.{MapRecords, Naming, ByBlock, InBlock}
+use Rattle.reach_rules.specs.declared.naming.TreeKind.TheVariants.{MapRecords}
+use Rattle.reach_rules.specs.declared.naming.Naming.{Naming}
+use Rattle.reach_rules.specs.declared.naming.LookUp.TheVariants.{ByBlock}
+use Rattle.reach_rules.specs.declared.naming.Object.TheVariants.{InBlock}
 use Rattle.reach_gather.specs.Steps.{block_steps, block_owner}
 use Rattle.reach_gather.proofs.Branches.{tree-adds}
 use Rattle.reach_gather.proofs.Told.{map-records}

@@ -1,5 +1,7 @@
 use Rattle.std.proofs.Common.{[]}
-use Rattle.reach_rules.specs.Naming.{ByBlock, ExtentRefs, TreeRoot}
+use Rattle.reach_rules.specs.declared.naming.LookUp.TheVariants.{ByBlock}
+use Rattle.reach_rules.specs.declared.naming.TreeKind.TheVariants.{ExtentRefs}
+use Rattle.reach_rules.specs.declared.naming.Expected.TheVariants.{TreeRoot}
 use Rattle.reach_gather.proofs.Fields.{adds-zero, adds-some, live-some}
 use Rattle.reach_gather.proofs.volumes.add_live_extents.Goals as goal
 

@@ -2,7 +2,11 @@ use Rattle.std.proofs.Common.{◌≡◌, ◌∙◌, ◌++◌, List, [], ◌∷�
 use Rattle.fs_name.specs.Normal.{are_hashed}
 use Rattle.nx_ring.specs.Checkpoint.{Seen}
 use Rattle.vol_view.specs.Volumes.{Loaded}
-use Rattle.reach_rules.specs.Naming.{ByBlock, Namer, ExtentRefs, SnapMetadata, TreeRoot, Naming}
+use Rattle.reach_rules.specs.declared.naming.LookUp.TheVariants.{ByBlock}
+use Rattle.reach_rules.specs.declared.naming.Namer.{Namer}
+use Rattle.reach_rules.specs.declared.naming.TreeKind.TheVariants.{ExtentRefs, SnapMetadata}
+use Rattle.reach_rules.specs.declared.naming.Expected.TheVariants.{TreeRoot}
+use Rattle.reach_rules.specs.declared.naming.Naming.{Naming}
 use Rattle.reach_rules.specs.Next.{unless_zero}
 use Rattle.tree_namings.specs.Volumes.Parts.{IsMapPart}
 use Rattle.tree_namings.specs.Volumes.Told.{map_of, map_in_volume, told_view, live_at, told_snapshots}

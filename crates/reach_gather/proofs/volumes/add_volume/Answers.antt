@@ -2,7 +2,9 @@ use Rattle.std.proofs.Common.{◌≡◌, ◌∙◌, ap, sym, subst, ◌+◌, ◌
 use Rattle.nx_block.specs.Super.{omap_oid_of}
 use Rattle.nx_ring.specs.Checkpoint.{Seen}
 use Rattle.vol_view.specs.Volumes.{Loaded}
-use Rattle.reach_rules.specs.Naming.{OfRecord, Namer, Whole}
+use Rattle.reach_rules.specs.declared.naming.Object.TheVariants.{OfRecord}
+use Rattle.reach_rules.specs.declared.naming.Namer.{Namer}
+use Rattle.reach_rules.specs.declared.naming.Namer.TheVariants.{Whole}
 use Rattle.tree_namings.specs.Volumes.Parts.{IsMapPart, volume_namer}
 use Rattle.tree_namings.specs.Volumes.Told.{head_naming, map_of, map_in_volume, told_volume}
 use Rattle.reach_gather.specs.Adds.{AreLive}

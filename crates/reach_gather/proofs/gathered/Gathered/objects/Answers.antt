@@ -1,6 +1,7 @@
 use Rattle.std.proofs.Common.{List, ap, ◌∙◌, subst, arith}
 use Rattle.apfs_model.specs.Lists.{Lists}
-use Rattle.reach_rules.specs.Naming.{ByBlock, ByMapping, Naming}
+use Rattle.reach_rules.specs.declared.naming.LookUp.TheVariants.{ByBlock, ByMapping}
+use Rattle.reach_rules.specs.declared.naming.Naming.{Naming}
 use Rattle.reach_gather.specs.Held.{Held}
 use Rattle.reach_gather.specs.Finished.{IsIdOf}
 use Rattle.reach_gather.proofs.Finishes.{objects-number}

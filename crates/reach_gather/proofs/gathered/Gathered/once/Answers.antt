@@ -1,7 +1,8 @@
 use Rattle.std.proofs.Common.{List, ap, ◌∙◌, subst}
 use Rattle.std.proofs.lemmas.Result.{IfOk-weaker}
 use Rattle.apfs_model.specs.Lists.{In}
-use Rattle.reach_rules.specs.Naming.{Naming, ByMapping, InContainer}
+use Rattle.reach_rules.specs.declared.naming.Naming.{Naming}
+use Rattle.reach_rules.specs.declared.naming.LookUp.TheVariants.{ByMapping, InContainer}
 use Rattle.tree_namings.specs.Views.{AreOnceAs}
 use Rattle.reach_gather.specs.Held.{Held}
 use Rattle.reach_gather.proofs.gathered.Gathered.once.Goals as goal

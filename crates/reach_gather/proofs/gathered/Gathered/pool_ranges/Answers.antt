@@ -1,7 +1,7 @@
 use Rattle.std.proofs.Common.{◌≡◌, List, ap, ◌∙◌, subst}
 use Rattle.std.specs.Prelude.{flat_map}
 use Rattle.std.proofs.lemmas.Result.{IfOk-weaker}
-use Rattle.reach_rules.specs.Owners.{Owner}
+use Rattle.reach_rules.specs.declared.owner.Owner.{Owner}
 use Rattle.reach_gather.specs.Held.{Held}
 use Rattle.reach_gather.specs.Kept.{owners_in}
 use Rattle.reach_gather.specs.Finished.{AreRangesOnce}
