@@ -19,7 +19,7 @@ use Rattle.view_rules.specs.Rules.{view_facts}
 use Rattle.path_walk.specs.Places.{Place}
 use Rattle.path_walk.specs.Found.{found}
 use Rattle.path_read.specs.Contents.{stream_in, contents_by, contents_in, contents_at, contents, readable}
-use Rattle.path_walk.specs.Calls.{IsGiven}
+use Rattle.path_walk.specs.Calls.{IsGiven, IsNoAnswer}
 use Rattle.path_read.specs.Written.{IsWritten}
 use Rattle.path_read.specs.declared.stop.WriteStop.{WriteStop}
 use Rattle.path_read.proofs.Laws.{same_stream}
@@ -72,12 +72,12 @@ pub written_same : (old new : Option (List ℕ)) (a b : Result (List ℕ) Answer
 written_same old new a b r e h = subst (λ (w : Result (List ℕ) Answer). IsWritten old new w r) e h
 
 -- what holds where an answer was given holds where it is given by a call that writes
-pub rests_written : {T U : Type 0} (shows : T → U) (wanted : Result U Answer) (needs : Type 0) (stop : Stop PathStop) → RestsOn {T = T} shows wanted needs (Err stop) → WhereWritten needs (Err (writes.Stopped stop))
-rests_written shows wanted needs (Found (stops.Answer a)) h = h.1
-rests_written shows wanted needs (Found (stops.Fault fault)) h = tt
-rests_written shows wanted needs (Unsupported feature block) h = tt
-rests_written shows wanted needs ReadFault h = tt
-rests_written shows wanted needs NoMemory h = tt
+pub rests_written : {T U : Type 0} (shows : T → U) (wanted : Result U Answer) (P Q : Type 0) (stop : Stop PathStop) → ((a : Answer) → wanted ≡ Err a → P → Q) → RestsOn {T = T} shows wanted P (Err stop) → WhereWritten Q (Err (writes.Stopped stop))
+rests_written shows wanted P Q (Found (stops.Answer a)) f h = f a h.0 h.1
+rests_written shows wanted P Q (Found (stops.Fault fault)) f h = tt
+rests_written shows wanted P Q (Unsupported feature block) f h = tt
+rests_written shows wanted P Q ReadFault f h = tt
+rests_written shows wanted P Q NoMemory f h = tt
 
 pub told_written : (T : Type 0) (needs : Type 0) (stop : Stop PathStop) → WhereTold {T = T} needs (Err stop) → WhereWritten needs (Err (writes.Stopped stop))
 told_written T needs (Found (stops.Answer a)) h = h
@@ -86,14 +86,21 @@ told_written T needs (Unsupported feature block) h = tt
 told_written T needs ReadFault h = tt
 told_written T needs NoMemory h = tt
 
-pub written_where : (needs : Type 0) (result : Result (Unit {0}) WriteStop) → needs → WhereWritten needs result
-written_where needs (Ok _) h = h
-written_where needs (Err (writes.Stopped (Found (stops.Answer a)))) h = h
-written_where needs (Err (writes.Stopped (Found (stops.Fault fault)))) h = tt
-written_where needs (Err (writes.Stopped (Unsupported feature block))) h = tt
-written_where needs (Err (writes.Stopped ReadFault)) h = tt
-written_where needs (Err (writes.Stopped NoMemory)) h = tt
-written_where needs (Err writes.WriteFault) h = tt
+pub unanswered_written : (needs : Type 0) (stop : Stop PathStop) → IsNoAnswer stop → WhereWritten needs (Err (writes.Stopped stop))
+unanswered_written needs (Found (stops.Answer a)) h = absurd h
+unanswered_written needs (Found (stops.Fault fault)) h = tt
+unanswered_written needs (Unsupported feature block) h = tt
+unanswered_written needs ReadFault h = tt
+unanswered_written needs NoMemory h = tt
+
+pub written_where : (P Q : Type 0) (result : Result (Unit {0}) WriteStop) → (P → Q) → WhereWritten P result → WhereWritten Q result
+written_where P Q (Ok _) f h = f h
+written_where P Q (Err (writes.Stopped (Found (stops.Answer a)))) f h = f h
+written_where P Q (Err (writes.Stopped (Found (stops.Fault fault)))) f h = tt
+written_where P Q (Err (writes.Stopped (Unsupported feature block))) f h = tt
+written_where P Q (Err (writes.Stopped ReadFault)) f h = tt
+written_where P Q (Err (writes.Stopped NoMemory)) f h = tt
+written_where P Q (Err writes.WriteFault) f h = tt
 
 -- what the contents of a file need is there, by what its path leads to
 pub open_refused : (image : List ℕ) (site : Site) (volume : Loaded) (view : View) (path : List ℕ) (place : Place) (a : Answer) → PathNeeds (view_facts image site volume view) (HasEntriesOf image site volume view) path → found (view_facts image site volume view) path ≡ Ok place → readable place.inode ≡ Err a → ContentsNeed image site volume view path

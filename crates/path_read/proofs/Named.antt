@@ -2,15 +2,20 @@
 use Rattle.std.proofs.Common.{◌≡◌, ℕ, zero, suc, ◌+◌, ◌<◌, Bool, true, false, cond, List, [], ◌∷◌, ◌++◌, length, map, get_or, Option, Some, None, Result, Ok, Err, refl, ap, sym, ◌∙◌, arith}
 use Rattle.std.specs.List.{find}
 use Rattle.apfs_model.specs.Lists.{and_then}
+use Rattle.obj_base.specs.declared.site.Site.{Site}
 use Rattle.fs_record.specs.Attributes.{Attribute}
 use Rattle.fs_record.specs.Facts.{all_for}
+use Rattle.vol_view.specs.Volumes.{Loaded}
+use Rattle.vol_view.specs.declared.volume.View.{View}
 use Rattle.view_rules.specs.Facts.{Facts}
+use Rattle.view_rules.specs.Rules.{view_facts}
 use Rattle.path_walk.specs.Places.{Place}
 use Rattle.path_walk.specs.Found.{found}
 use Rattle.path_walk.specs.Order.{by_name}
 use Rattle.path_walk.specs.declared.answer.Answer.{Answer}
 use Rattle.path_walk.proofs.Laws.{err-same, ok-err}
 use Rattle.path_read.specs.Attributes.{attributes_in, attribute_told, attributes, is_called, attribute_named, held_by, attribute}
+use Rattle.path_read.specs.Needs.{AttributesNeed, HasExtents, ValueNeed}
 use Rattle.path_read.specs.Parts.{attributes_at}
 
 ok-equal : {T : Type 0} (x y : T) → ◌≡◌ {A = Result T Answer} (Ok x) (Ok y) → x ≡ y
@@ -55,6 +60,28 @@ attribute_given block_size image facts path name these o e f = held-at block_siz
 
 pub attribute_lost : (block_size : ℕ) (image : List ℕ) (facts : Facts) (path name : List ℕ) (a : Answer) → attributes_at facts path ≡ Err a → attribute block_size image facts path name ≡ Err a
 attribute_lost block_size image facts path name a e = listed-lost facts (found facts path) (λ (p : Place). held_by block_size image facts (attribute_named facts p.id name)) a e
+
+-- ---- what the value of an attribute needs, by what was gathered
+module _ (image : List ℕ) (site : Site) (volume : Loaded) (view : View) (path name : List ℕ) where
+  pub value_lost : (a : Answer) → attributes_at (view_facts image site volume view) path ≡ Err a → AttributesNeed image site volume view path → ValueNeed image site volume view path name
+  value_lost a lost needs = record {
+    attributes = needs;
+    extents = λ place x there named.
+        let facts : Facts = view_facts image site volume view in
+        let these : List Attribute = all_for place.id facts.attributes in
+        absurd (ok-err these a (sym (gathered_at facts path place these there refl) ∙ lost));
+  }
+
+  pub value_given : (these : List Attribute) (o : Option Attribute) → attributes_at (view_facts image site volume view) path ≡ Ok these → find (is_called name) these ≡ o → ((a : Attribute) → o ≡ Some a → HasExtents image site volume view a.body) → AttributesNeed image site volume view path → ValueNeed image site volume view path name
+  unfolding attribute_named
+  value_given these o given first has needs = record {
+    attributes = needs;
+    extents = λ place a there named.
+        let facts : Facts = view_facts image site volume view in
+        let all : List Attribute = all_for place.id facts.attributes in
+        let same : these ≡ all = ok-equal these all (sym given ∙ gathered_at facts path place all there refl) in
+        has a (sym first ∙ ap (find (is_called name)) same ∙ named);
+  }
 
 -- ---- one attribute after another
 

@@ -7,8 +7,9 @@ ghost use Rattle.obj_base.specs.declared.stop.Stop.TheVariants.{ReadFault};
 ghost use Rattle.obj_base.specs.Site.{IsSiteFor};
 ghost use Rattle.view_rules.specs.Rules.{view_facts};
 ghost use Rattle.path_walk.specs.Stops.{IsLawful};
-ghost use Rattle.vol_view.specs.Views.{is_view_ordered};
-ghost use Rattle.path_read.specs.Needs.{AttributesNeed, WhereWritten};
+ghost use Rattle.bt_keys.specs.RecordKey.{file_extent_record};
+ghost use Rattle.vol_view.specs.Views.{is_view_ordered, has_all_records};
+ghost use Rattle.path_read.specs.Needs.{HasExtents, ValueNeed, WhereWritten};
 ghost use Rattle.path_read.specs.Attributes as spec;
 ghost use Rattle.path_read.specs.Attributes.{is_called};
 ghost use Rattle.path_read.specs.Contents.{stream_in, body_in};
@@ -52,6 +53,7 @@ fn write_stream<S: BlockSource, W: Sink>(
 ) -> Result<(), WriteStop>
     requires site { IsSiteFor site.now (S.bytes_len src.old) }
     ensures exact { (image : List ℕ) → S.bytes src.old ≡ Some image → IsLawful image site.now volume.now view.now → IsWritten (W.contents out.old) (W.contents out.new) (Ok (stream_in site.now.block_size image (view_facts image site.now volume.now view.now) id size)) result }
+    ensures rests { (image : List ℕ) → S.bytes src.old ≡ Some image → is_view_ordered image site.now volume.now view.now ≡ true → WhereWritten (has_all_records image site.now volume.now view.now id file_extent_record ≡ true) result }
     ensures text { HasPart (W.contents out.old) (W.contents out.new) (S.bytes src.old) (λ image. IsLawful image site.now volume.now view.now) (λ image. Ok (stream_in site.now.block_size image (view_facts image site.now volume.now view.now) id size)) result }
     ensures untouched { IfErr result (IsUntouched (W.contents out.old) (W.contents out.new)) }
     ensures present { (image : List ℕ) → S.bytes src.old ≡ Some image → IfErr result (IsWriteStopThere image site.now volume.now view.now) }
@@ -83,6 +85,7 @@ fn write_body<S: BlockSource, W: Sink>(
 ) -> Result<(), WriteStop>
     requires site { IsSiteFor site.now (S.bytes_len src.old) }
     ensures exact { (image : List ℕ) → S.bytes src.old ≡ Some image → IsLawful image site.now volume.now view.now → IsWritten (W.contents out.old) (W.contents out.new) (Ok (body_in site.now.block_size image (view_facts image site.now volume.now view.now) (body_of body.now))) result }
+    ensures rests { (image : List ℕ) → S.bytes src.old ≡ Some image → is_view_ordered image site.now volume.now view.now ≡ true → WhereWritten (HasExtents image site.now volume.now view.now (body_of body.now)) result }
     ensures text { HasPart (W.contents out.old) (W.contents out.new) (S.bytes src.old) (λ image. IsLawful image site.now volume.now view.now) (λ image. Ok (body_in site.now.block_size image (view_facts image site.now volume.now view.now) (body_of body.now))) result }
     ensures untouched { IfErr result (IsUntouched (W.contents out.old) (W.contents out.new)) }
     ensures present { (image : List ℕ) → S.bytes src.old ≡ Some image → IfErr result (IsWriteStopThere image site.now volume.now view.now) }
@@ -117,7 +120,7 @@ pub fn attr<S: BlockSource, W: Sink>(
 ) -> Result<(), WriteStop>
     requires site { IsSiteFor site.now (S.bytes_len src.old) }
     ensures exact { (image : List ℕ) → S.bytes src.old ≡ Some image → IsLawful image site.now volume.now view.now → IsWritten (W.contents out.old) (W.contents out.new) (spec.attribute site.now.block_size image (view_facts image site.now volume.now view.now) path.now name.now) result }
-    ensures rests { (image : List ℕ) → S.bytes src.old ≡ Some image → is_view_ordered image site.now volume.now view.now ≡ true → WhereWritten (AttributesNeed image site.now volume.now view.now path.now) result }
+    ensures rests { (image : List ℕ) → S.bytes src.old ≡ Some image → is_view_ordered image site.now volume.now view.now ≡ true → WhereWritten (ValueNeed image site.now volume.now view.now path.now name.now) result }
     ensures text { HasPart (W.contents out.old) (W.contents out.new) (S.bytes src.old) (λ image. IsLawful image site.now volume.now view.now) (λ image. spec.attribute site.now.block_size image (view_facts image site.now volume.now view.now) path.now name.now) result }
     ensures untouched { IfErr result (IsUntouched (W.contents out.old) (W.contents out.new)) }
     ensures present { (image : List ℕ) → S.bytes src.old ≡ Some image → IfErr result (IsWriteStopThere image site.now volume.now view.now) }

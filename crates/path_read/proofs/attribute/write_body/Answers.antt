@@ -1,6 +1,7 @@
 use Rattle.std.proofs.Common.{◌∙◌, List, ℕ, Ok, refl, ap, sym, subst}
 use Rattle.view_rules.specs.Rules.{view_facts}
 use Rattle.path_read.specs.Contents.{body_in}
+use Rattle.path_read.specs.Needs.{HasExtents, WhereWritten}
 use Rattle.path_read.specs.Parts.{body_of}
 use Rattle.path_walk.specs.Stops.{IsLawful}
 use Rattle.path_read.specs.Written.{IsWritten}
@@ -36,3 +37,12 @@ returns-in-Stream-clause-text g c =
     (λ (image : List ℕ). Ok (body_in c.args.site.now.block_size image (view_facts image c.args.site.now c.args.volume.now c.args.view.now) (body_of (Stream c.in-Stream.id c.in-Stream.size))))
     (λ (image : List ℕ). Ok (body_in c.args.site.now.block_size image (view_facts image c.args.site.now c.args.volume.now c.args.view.now) (body_of c.args.body.now))) c.write_stream.result refl
     (λ image told lawful. ap (λ (b : KeptBody). Ok (body_in c.args.site.now.block_size image (view_facts image c.args.site.now c.args.volume.now c.args.view.now) (body_of b))) c.in-Stream.is) c.write_stream.ensures.text
+
+pub returns-in-Ok-clause-rests : goal.returns-in-Ok-clause-rests
+returns-in-Ok-clause-rests g c image told ordered =
+    subst (λ (b : KeptBody). HasExtents image c.args.site.now c.args.volume.now c.args.view.now (body_of b)) (sym c.in-Embedded.is) tt
+
+pub returns-in-Stream-clause-rests : goal.returns-in-Stream-clause-rests
+returns-in-Stream-clause-rests g c image told ordered =
+    subst (λ (b : KeptBody). WhereWritten (HasExtents image c.args.site.now c.args.volume.now c.args.view.now (body_of b)) c.write_stream.result)
+    (sym c.in-Stream.is) (c.write_stream.ensures.rests image told ordered)

@@ -1,5 +1,7 @@
-use Rattle.std.proofs.Common.{◌∙◌, ℕ, List, Ok, ap, subst}
+use Rattle.std.proofs.Common.{◌≡◌, ◌∙◌, ℕ, true, List, Ok, ap, subst}
 use Rattle.apfs_model.specs.Sink.{WrotePart}
+use Rattle.bt_keys.specs.RecordKey.{file_extent_record}
+use Rattle.vol_view.specs.Views.{has_all_records}
 use Rattle.file_extent.specs.Streams.{Opened, stream_bytes}
 use Rattle.view_rules.specs.Rules.{view_facts}
 use Rattle.path_walk.proofs.Known.{unanswered_given}
@@ -7,7 +9,7 @@ use Rattle.path_read.specs.Contents.{stream_in}
 use Rattle.path_walk.specs.Stops.{IsLawful}
 use Rattle.obj_base.specs.declared.stop.Stop.TheVariants.{ReadFault}
 use Rattle.path_read.specs.declared.stop.WriteStop.TheVariants.{Stopped, WriteFault}
-use Rattle.path_read.proofs.Givens.{stopped_written, ok-same, stream_opened}
+use Rattle.path_read.proofs.Givens.{stopped_written, ok-same, stream_opened, unanswered_written}
 use Rattle.path_read.proofs.Parted.{none_parted, whole_parted, front_parted}
 use Rattle.path_read.proofs.attribute.write_stream.Goals as goal
 
@@ -79,3 +81,10 @@ returns-clause-text g c =
     (λ (image : List ℕ). Ok (stream_in c.args.site.now.block_size image (view_facts image c.args.site.now c.args.volume.now c.args.view.now) c.args.id c.args.size))
     (λ (image : List ℕ). stream_bytes stream.site.block_size image stream.extents stream.size) WriteFault c.in-Ok.ensures.kept.same_bytes
     (λ image told lawful. ap (λ (l : List ℕ). Ok l) (stream_opened image c.args.site.now c.args.volume.now c.args.view.now c.args.id c.args.size stream (c.in-Ok.ensures.opened image told lawful.rules.ordered))) c.in-Err-WriteFault.ensures.text
+
+pub returns-in-Err-clause-rests : goal.returns-in-Err-clause-rests
+returns-in-Err-clause-rests g c image told ordered =
+    unanswered_written (has_all_records image c.args.site.now c.args.volume.now c.args.view.now c.args.id file_extent_record ≡ true) c.in-Err.stop c.in-Err.ensures.unanswered
+
+pub returns-in-Ok-copy_to-clause-rests : goal.returns-in-Ok-copy_to-clause-rests
+returns-in-Ok-copy_to-clause-rests g c image told ordered = (c.in-Ok.ensures.opened image told ordered).whole
