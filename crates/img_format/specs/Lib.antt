@@ -1,5 +1,5 @@
-pub mod Names
 pub mod Limits
+pub mod Names
 pub mod Valid
 pub mod Tables
 pub mod Nodes
