@@ -51,7 +51,3 @@ told-if false o os rs e = e
 pub told-ranges : (n : Naming) (k : ℕ) (rs : List (ℕ × ℕ)) → map range_of (some_owners (told_from n k rs)) ≡ some_ranges rs
 told-ranges n k [] = refl
 told-ranges n k (r ∷ rs) = told-if (not (r.1 == 0)) (owner_of (Told n k) r) (some_owners (told_from n (suc k) rs)) (some_ranges rs) (told-ranges n (suc k) rs)
-
--- one more is kept
-pub one-more-kept : (ks ms : List KeptOwners) (k : KeptOwners) (old : List Owner) → ms ≡ ks ++ k ∷ [] → flat_map owners_in ks ≡ old → flat_map owners_in ms ≡ old ++ owners_in k
-one-more-kept ks ms k old e was = ap (flat_map owners_in) e ∙ (flat_map-append owners_in ks (k ∷ []) ∙ (ap (λ ys. ys ++ (owners_in k ++ [])) was ∙ ap (λ ys. old ++ ys) (list-end (owners_in k))))

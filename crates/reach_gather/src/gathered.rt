@@ -28,6 +28,7 @@ impl Model for Gathered {
 impl Gathered {
     ghost use Rattle.std.specs.Prelude.{◌≡◌, ◌++◌, ◌∷◌, [], ◌==◌, OnOk, if◌then◌else◌};
     ghost use Rattle.reach_rules.specs.Owners as spec;
+    ghost use Rattle.reach_rules.specs.declared.owner.Who.TheVariants as who;
     ghost use Rattle.reach_gather.specs.Held.{some_owners};
 
     /// Nothing yet.
@@ -91,7 +92,7 @@ impl Gathered {
     /// A naming of a physical object, which owns its block.
     pub fn note_block(&mut self, naming: Naming) -> Result<(), NoMemory>
         ensures namings { OnOk result (self.new.namings ≡ self.old.namings ++ naming ∷ []) }
-        ensures owners { OnOk result (self.new.owners ≡ self.old.owners ++ spec.owner (spec.Named naming) naming.oid 1 ∷ []) }
+        ensures owners { OnOk result (self.new.owners ≡ self.old.owners ++ spec.owner (who.Named naming) naming.oid 1 ∷ []) }
         ensures pool_owners { self.new.pool_owners ≡ self.old.pool_owners }
     {
         self.put_naming(naming)?;
@@ -106,7 +107,7 @@ impl Gathered {
     pub fn note_info(&mut self, naming: Naming) -> Result<(), NoMemory>
         ensures namings { OnOk result (self.new.namings ≡ self.old.namings ++ naming ∷ []) }
         ensures owners { self.new.owners ≡ self.old.owners }
-        ensures pool_owners { OnOk result (self.new.pool_owners ≡ self.old.pool_owners ++ spec.owner (spec.Named naming) naming.oid 1 ∷ []) }
+        ensures pool_owners { OnOk result (self.new.pool_owners ≡ self.old.pool_owners ++ spec.owner (who.Named naming) naming.oid 1 ∷ []) }
     {
         self.put_naming(naming)?;
         self.put_pool_owner(Owner {
@@ -124,7 +125,7 @@ impl Gathered {
         mapping: OmapRecord,
     ) -> Result<(), NoMemory>
         ensures namings { OnOk result (self.new.namings ≡ self.old.namings ++ naming ∷ []) }
-        ensures owners { OnOk result (self.new.owners ≡ self.old.owners ++ spec.owner (spec.Recorded map mapping) mapping.paddr 1 ∷ []) }
+        ensures owners { OnOk result (self.new.owners ≡ self.old.owners ++ spec.owner (who.Recorded map mapping) mapping.paddr 1 ∷ []) }
         ensures pool_owners { self.new.pool_owners ≡ self.old.pool_owners }
     {
         self.put_naming(naming)?;

@@ -2,7 +2,6 @@
 ghost use Rattle.std.specs.Prelude.{◌≡◌, ◌++◌, map, OnOk};
 ghost use Rattle.reach_rules.specs.declared.naming.LookUp.TheVariants.{ByBlock, ByMapping};
 ghost use Rattle.reach_rules.specs.declared.naming.Object.TheVariants.{InBlock, OfId};
-ghost use Rattle.reach_rules.specs.Owners as spec;
 ghost use Rattle.tree_namings.specs.Namings.{level_below, step_naming};
 ghost use Rattle.reach_gather.specs.Steps.{block_steps, id_steps, block_owner};
 
