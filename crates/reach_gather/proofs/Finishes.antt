@@ -52,7 +52,7 @@ apart-append (x ∷ xs) ys p q none = (
   apart-append xs ys p.1 q (λ y h k. none y (inr h) k),
 )
 
-apart_map : {X Y : Type 0} (f : X → Y) → ((a b : X) → f a ≡ f b → a ≡ b) → (xs : List X) → Apart xs → Apart (map f xs)
+pub apart_map : {X Y : Type 0} (f : X → Y) → ((a b : X) → f a ≡ f b → a ≡ b) → (xs : List X) → Apart xs → Apart (map f xs)
 apart_map f one [] h = tt
 apart_map f one (x ∷ xs) h = ((λ k. let t = from-map f xs (f x) k in h.0 (subst (λ y. In y xs) (sym (one x t.0 t.1.1)) t.1.0)), apart_map f one xs h.1)
 

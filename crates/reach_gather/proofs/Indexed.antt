@@ -17,7 +17,7 @@ use Rattle.reach_rules.specs.declared.naming.Expected.TheVariants.{AddressBlock,
 use Rattle.reach_rules.specs.declared.naming.Naming.{Naming}
 use Rattle.reach_rules.specs.Naming.{naming}
 use Rattle.reach_gather.specs.Infos.{room_of, known_cab, known_cib, known_cabs, known_cibs}
-use Rattle.reach_gather.proofs.Backs.{apart_map}
+use Rattle.reach_gather.proofs.Finishes.{apart_map}
 
 apart-both : {X : Type 0} (xs ys : List X) → Apart xs → Apart ys → ((x : X) → In x xs → In x ys → ⊥) → Apart (xs ++ ys)
 apart-both [] ys a b out = b

@@ -22,18 +22,20 @@ map-both f [] ys = refl
 map-both f (x ∷ xs) ys = ap (λ zs. f x ∷ zs) (map-both f xs ys)
 
 -- what is made of a list grows by what is made of one more item
-grown : {X Y : Type 0} (f : List X → List Y) → ((xs ys : List X) → f (xs ++ ys) ≡ f xs ++ f ys) → (xs : List X) (i : ℕ) (x : X) (old mid new : List Y) → i < length xs → get_or xs i x ≡ x
-    → mid ≡ old ++ f (take i xs) → new ≡ mid ++ f (x ∷ []) → new ≡ old ++ f (take (i + 1) xs)
-grown f both xs i x old mid new low is m given =
-    let more : take (i + 1) xs ≡ take i xs ++ x ∷ [] = take_more xs i x low ∙ ap (λ y. take i xs ++ y ∷ []) is in
+grown : {X Y : Type 0} (f : List X → List Y) → ((xs ys : List X) → f (xs ++ ys) ≡ f xs ++ f ys) → (xs : List X) (i : ℕ) (d : X) (old mid new : List Y) → i < length xs
+    → mid ≡ old ++ f (take i xs) → new ≡ mid ++ f (get_or xs i d ∷ []) → new ≡ old ++ f (take (i + 1) xs)
+grown f both xs i d old mid new low m given =
+    let x = get_or xs i d in
+    let more : take (i + 1) xs ≡ take i xs ++ x ∷ [] = take_more xs i d low in
     given ∙ (ap (λ ys. ys ++ f (x ∷ [])) m ∙ (append-assoc old (f (take i xs)) (f (x ∷ [])) ∙ ap (λ ys. old ++ ys) (sym (both (take i xs) (x ∷ [])) ∙ ap f (sym more))))
 
-pub ranges-more : (xs : List (ℕ × ℕ)) (i : ℕ) (x : ℕ × ℕ) (old mid new : List (ℕ × ℕ)) → i < length xs → get_or xs i x ≡ x → mid ≡ old ++ some_ranges (take i xs) → new ≡ mid ++ some_ranges (x ∷ []) → new ≡ old ++ some_ranges (take (i + 1) xs)
+pub ranges-more : (xs : List (ℕ × ℕ)) (i : ℕ) (d : ℕ × ℕ) (old mid new : List (ℕ × ℕ)) → i < length xs → mid ≡ old ++ some_ranges (take i xs) → new ≡ mid ++ some_ranges (get_or xs i d ∷ []) → new ≡ old ++ some_ranges (take (i + 1) xs)
 ranges-more = grown some_ranges (filter-more (λ (r : ℕ × ℕ). not (r.1 == 0)))
 
 pub made-more : {Y : Type 0} (g : KeptOwners → List Y) (xs : List KeptOwners) (i : ℕ) (x : KeptOwners) (old mid new : List Y) → i < length xs → get_or xs i x ≡ x → mid ≡ old ++ flat_map g (take i xs) → new ≡ mid ++ g x
     → new ≡ old ++ flat_map g (take (i + 1) xs)
-made-more g xs i x old mid new low is m given = grown (flat_map g) (flat_map-append g) xs i x old mid new low is m (given ∙ ap (λ ys. mid ++ ys) (sym (list-end (g x))))
+made-more g xs i x old mid new low is m given =
+    grown (flat_map g) (flat_map-append g) xs i x old mid new low m (given ∙ ap (λ ys. mid ++ ys) (sym (list-end (g x)) ∙ ap (λ y. g y ++ []) (sym is)))
 
 -- the ranges of what is kept, item by item
 abbrev pub ranges_in : KeptOwners → List (ℕ × ℕ)

@@ -35,12 +35,13 @@ append-assoc [] ys zs = refl
 append-assoc (x ∷ xs) ys zs = ap (λ ws. x ∷ ws) (append-assoc xs ys zs)
 
 -- one more range is told
-pub tell-more : (n : Naming) (xs : List (ℕ × ℕ)) (i : ℕ) (x : ℕ × ℕ) (old mid new : List Owner) → i < length xs → get_or xs i x ≡ x
-    → mid ≡ old ++ some_owners (told_from n 0 (take i xs)) → new ≡ mid ++ (if x.1 == 0 then [] else owner (Told n i) x.0 x.1 ∷ []) → new ≡ old ++ some_owners (told_from n 0 (take (i + 1) xs))
-tell-more n xs i x old mid new low is m given =
+pub tell-more : (n : Naming) (xs : List (ℕ × ℕ)) (i : ℕ) (d : ℕ × ℕ) (old mid new : List Owner) → i < length xs
+    → mid ≡ old ++ some_owners (told_from n 0 (take i xs)) → new ≡ mid ++ (if (get_or xs i d).1 == 0 then [] else owner (Told n i) (get_or xs i d).0 (get_or xs i d).1 ∷ []) → new ≡ old ++ some_owners (told_from n 0 (take (i + 1) xs))
+tell-more n xs i d old mid new low m given =
+    let x : ℕ × ℕ = get_or xs i d in
     let so_far : List Owner = some_owners (told_from n 0 (take i xs)) in
     let p : Owner → Bool = λ (o : Owner). not (o.blocks == 0) in
-    let more : take (i + 1) xs ≡ take i xs ++ x ∷ [] = take_more xs i x low ∙ ap (λ y. take i xs ++ y ∷ []) is in
+    let more : take (i + 1) xs ≡ take i xs ++ x ∷ [] = take_more xs i d low in
     let long : length (take i xs) ≡ i = length-take xs i low in
     let place : 0 + length (take i xs) ≡ i = omega (arith, long) in
     let told : told_from n 0 (take (i + 1) xs) ≡ told_from n 0 (take i xs) ++ owner_of (Told n i) x ∷ [] =
