@@ -15,16 +15,7 @@ use Rattle.omap_map.specs.Maps.{map_in, map_records, record_tree}
 use Rattle.omap_map.specs.Records.{records_of}
 use Rattle.omap_map.specs.declared.records.OmapRecord.{OmapRecord}
 use Rattle.reach_rules.specs.declared.fault.ReachFault.{ReachFault}
-use Rattle.reach_rules.specs.declared.naming.LookUp.{LookUp}
-use Rattle.reach_rules.specs.declared.naming.LookUp.TheVariants.{ByBlock}
-use Rattle.reach_rules.specs.declared.naming.Object.TheVariants.{InBlock}
-use Rattle.reach_rules.specs.declared.naming.Namer.{Namer}
-use Rattle.reach_rules.specs.declared.naming.Namer.TheVariants.{Whole}
-use Rattle.reach_rules.specs.declared.naming.TreeKind.TheVariants.{MapRecords, MapSnapshots}
-use Rattle.reach_rules.specs.declared.naming.Expected.{Expected}
-use Rattle.reach_rules.specs.declared.naming.Expected.TheVariants.{ContainerMap, VolumeMap, TreeRoot}
-use Rattle.reach_rules.specs.declared.naming.Naming.{Naming}
-use Rattle.reach_rules.specs.Naming.{naming}
+use Rattle.reach_rules.specs.Naming.{LookUp, ByBlock, InBlock, Namer, Whole, MapRecords, MapSnapshots, Expected, ContainerMap, VolumeMap, TreeRoot, Naming, naming}
 use Rattle.reach_rules.specs.Next.{next, unless_zero}
 use Rattle.reach_rules.specs.Live.{IsLive, led}
 use Rattle.reach_rules.specs.Resolved.{resolved, found_by, standing}

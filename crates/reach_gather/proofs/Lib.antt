@@ -3,7 +3,6 @@ pub mod Kept
 pub mod Owning
 pub mod Branches
 pub mod Telling
-pub mod Kepts
 pub mod Told
 pub mod Fields
 pub mod Numbered
@@ -16,6 +15,7 @@ pub mod Started
 pub mod Pasts
 pub mod Latest
 pub mod Slots
+pub mod Backs
 pub mod Ties
 pub mod Finishes
 pub mod Rising

@@ -13,9 +13,8 @@ use Rattle.omap_map.specs.declared.records.OmapRecord.{OmapRecord}
 use Rattle.space_pool.specs.Queues.{queue_tree, queue_entries_in, queue_entries}
 use Rattle.space_pool.specs.declared.entry.Queue.{Queue}
 use Rattle.space_pool.specs.declared.entry.QueueEntry.{QueueEntry}
-use Rattle.reach_rules.specs.declared.naming.TreeKind.TheVariants.{MapRecords, ExtentRefs, FreeQueue}
-use Rattle.reach_rules.specs.declared.owner.Owner.{Owner}
-use Rattle.reach_rules.specs.Owners.{new_ranges_of, queued_ranges_of}
+use Rattle.reach_rules.specs.Naming.{MapRecords, ExtentRefs, FreeQueue}
+use Rattle.reach_rules.specs.Owners.{Owner, new_ranges_of, queued_ranges_of}
 use Rattle.reach_rules.specs.Trees.{tree_line}
 use Rattle.reach_gather.specs.Held.{some_owners}
 

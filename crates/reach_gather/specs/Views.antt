@@ -5,11 +5,7 @@ use Rattle.fs_name.specs.Normal.{are_hashed}
 use Rattle.nx_ring.specs.Checkpoint.{Seen}
 use Rattle.vol_view.specs.Volumes.{Loaded}
 use Rattle.vol_view.specs.declared.volume.Snapshot.{Snapshot}
-use Rattle.reach_rules.specs.declared.naming.ViewAt.{ViewAt}
-use Rattle.reach_rules.specs.declared.naming.Object.TheVariants.{InBlock}
-use Rattle.reach_rules.specs.declared.naming.Namer.{Namer}
-use Rattle.reach_rules.specs.declared.naming.Namer.TheVariants.{Whole}
-use Rattle.reach_rules.specs.declared.naming.Naming.{Naming}
+use Rattle.reach_rules.specs.Naming.{ViewAt, InBlock, Namer, Whole, Naming}
 use Rattle.reach_rules.specs.Next.{next}
 use Rattle.tree_namings.specs.Namings.{IsPlainNaming}
 use Rattle.tree_namings.specs.Volumes.Parts.{IsMapPart, IsVolumePart, volume_namer}

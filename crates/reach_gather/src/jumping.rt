@@ -12,10 +12,12 @@ ghost use Rattle.tree_namings.specs.Container.{jumpstart_naming};
 ghost use Rattle.reach_gather.specs.Adds.{Adds};
 
 use crate::Gathered;
+use crate::naming::{By, Expects, Named, NamedBy};
+use crate::ranges::tell_all;
 use blk_source::BlockSource;
 use nx_ring::Checkpoint;
 use obj_base::Stop;
-use reach_rules::{Expected, LookUp, Namer, Naming, Object, ReachFault};
+use reach_rules::ReachFault;
 use reaper_jumpstart::jumpstart;
 use std::alloc::Global;
 
@@ -41,14 +43,14 @@ pub fn add_jumpstart<S: BlockSource>(
     if block == 0 {
         return Ok(());
     }
-    let naming = Naming {
-        namer: Namer::Whole(Object::Newest),
+    let naming = Named {
+        by: NamedBy::Newest,
         at: 1272,
-        expected: Expected::Jumpstart,
-        how: LookUp::ByBlock,
+        expects: Expects::Jumpstart,
+        how: By::Block,
         oid: block,
     };
     out.note_block(naming)?;
-    out.tell_those(naming, extents)?;
+    tell_all(out, naming, extents.as_slice())?;
     Ok(())
 }

@@ -10,20 +10,20 @@ ghost use Rattle.nx_ring.specs.Checkpoint.{site_of};
 ghost use Rattle.omap_map.specs.Maps.{map_in, map_records};
 ghost use Rattle.reach_rules.specs.Features.{HasFeature};
 ghost use Rattle.reach_rules.specs.Live.{IsLive};
-ghost use Rattle.reach_rules.specs.declared.naming.LookUp.TheVariants.{ByBlock};
-ghost use Rattle.reach_rules.specs.declared.naming.Object.TheVariants.{InBlock};
-ghost use Rattle.reach_rules.specs.declared.naming.Namer.TheVariants.{Whole};
-ghost use Rattle.reach_rules.specs.declared.naming.TreeKind.TheVariants.{MapSnapshots};
-ghost use Rattle.reach_rules.specs.declared.naming.Expected.TheVariants.{TreeRoot};
-ghost use Rattle.reach_rules.specs.Naming.{naming};
+ghost use Rattle.reach_rules.specs.Naming.{ByBlock, InBlock, Whole, MapSnapshots, TreeRoot};
 ghost use Rattle.reach_rules.specs.Next.{unless_zero};
 ghost use Rattle.reach_rules.specs.Reached.{IsReachedFault};
 ghost use Rattle.tree_namings.specs.Parts.{ExpectsMap};
 ghost use Rattle.tree_namings.specs.Volumes.Parts.{IsMapPart};
 ghost use Rattle.reach_gather.specs.Adds.{Adds, AreLive};
+ghost use Rattle.reach_gather.specs.Named.{naming_of};
 ghost use Rattle.reach_gather.specs.Reading.{IsLostBlock};
+ghost use Rattle.reach_gather.specs.declared.naming.By.TheVariants as looks;
+ghost use Rattle.reach_gather.specs.declared.naming.Expects.TheVariants as expects;
+ghost use Rattle.reach_gather.specs.declared.naming.NamedBy.TheVariants as namers;
 
 use crate::Gathered;
+use crate::naming::{By, Expects, Named, NamedBy, Tree};
 use crate::trees::{add_map_records, add_map_snapshots};
 use apfs_layout::object_map;
 use blk_read::read_new;
@@ -31,7 +31,7 @@ use blk_source::BlockSource;
 use nx_ring::Checkpoint;
 use obj_base::{Stop, Within, u64_at};
 use omap_map::OmapRecord;
-use reach_rules::{Expected, LookUp, Namer, Naming, Object, ReachFault, TreeKind};
+use reach_rules::ReachFault;
 use std::alloc::Global;
 
 // The bytes of a block of the container.
@@ -64,14 +64,14 @@ fn read<S: BlockSource>(
 }
 
 // The naming of the root of a map's tree of records, and of its tree of snapshots.
-fn root(map: Naming, at: u64, tree: TreeKind, oid: u64) -> Naming
-    ensures { result ≡ naming (Whole (InBlock map.oid)) at (TreeRoot tree) ByBlock oid }
+fn root(map: Named, at: u64, tree: Tree, oid: u64) -> Named
+    ensures { result ≡ record { by = namers.Block map.oid; at = at; expects = expects.Root tree; how = looks.Block; oid = oid } }
 {
-    Naming {
-        namer: Namer::Whole(Object::InBlock(map.oid)),
+    Named {
+        by: NamedBy::Block(map.oid),
         at,
-        expected: Expected::TreeRoot(tree),
-        how: LookUp::ByBlock,
+        expects: Expects::Root(tree),
+        how: By::Block,
         oid,
     }
 }
@@ -81,7 +81,7 @@ fn add_past<S: BlockSource>(
     alloc: Global,
     src: &mut S,
     cp: &Checkpoint,
-    map: Naming,
+    map: Named,
     oid: u64,
     out: &mut Gathered,
 ) -> Result<(), Stop<ReachFault>>
@@ -96,7 +96,7 @@ fn add_past<S: BlockSource>(
         let _size = src.size();
         return Ok(());
     }
-    let root = root(map, 56, TreeKind::MapSnapshots, oid);
+    let root = root(map, 56, Tree::MapSnapshots, oid);
     match add_map_snapshots(alloc, src, cp, root, out) {
         Ok(()) => Ok(()),
         Err(stop) => Err(stop),
@@ -108,15 +108,15 @@ pub fn add_map<S: BlockSource>(
     alloc: Global,
     src: &mut S,
     cp: &Checkpoint,
-    map: Naming,
+    map: Named,
     out: &mut Gathered,
 ) -> Result<Vec<OmapRecord>, Stop<ReachFault>>
     requires site { IsSiteFor (site_of cp.now) (S.bytes_len src.old) }
-    requires how { map.how ≡ ByBlock }
-    requires kind { ExpectsMap map.expected }
-    ensures clear { (image : List ℕ) → S.bytes src.old ≡ Some image → IsMapPart image cp.now map → OnOk result (Adds image cp.now (map ∷ []) [] out.old out.new) }
+    requires how { map.how ≡ looks.Block }
+    requires kind { ExpectsMap (naming_of map).expected }
+    ensures clear { (image : List ℕ) → S.bytes src.old ≡ Some image → IsMapPart image cp.now (naming_of map) → OnOk result (Adds image cp.now (naming_of map ∷ []) [] out.old out.new) }
     ensures records { (image : List ℕ) → S.bytes src.old ≡ Some image → IfOk result (λ records. records.items ≡ map_records image (site_of cp.now) map.oid) }
-    ensures present { (image : List ℕ) → S.bytes src.old ≡ Some image → IsMapPart image cp.now map → IsLive image cp.now map → IfErr result (Tells (IsReachedFault image cp.now) (HasFeature image cp.now)) }
+    ensures present { (image : List ℕ) → S.bytes src.old ≡ Some image → IsMapPart image cp.now (naming_of map) → IsLive image cp.now (naming_of map) → IfErr result (Tells (IsReachedFault image cp.now) (HasFeature image cp.now)) }
     ensures reads { (image : List ℕ) → S.bytes src.old ≡ Some image → OnOk result (S.reads src.new + length out.old.namings ≤ S.reads src.old + length out.new.namings) }
     ensures cause { IsErrOf result ReadFault → Rose (S.faults src.old) (S.faults src.new) }
     ensures kept { IsKept S.bytes S.bytes_len S.faults src.old src.new }
@@ -128,7 +128,7 @@ pub fn add_map<S: BlockSource>(
     let tree = u64_at(&bytes, object_map::TREE);
     let past = u64_at(&bytes, object_map::SNAP_TREE);
     out.note_block(map)?;
-    let root = root(map, 48, TreeKind::MapRecords, tree);
+    let root = root(map, 48, Tree::MapRecords, tree);
     let records = match add_map_records(alloc, src, cp, root, out) {
         Ok(records) => records,
         Err(stop) => return Err(stop),

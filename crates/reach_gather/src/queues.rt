@@ -8,24 +8,25 @@ ghost use Rattle.obj_base.specs.Stops.{Tells};
 ghost use Rattle.obj_base.specs.declared.stop.Stop.TheVariants.{ReadFault};
 ghost use Rattle.nx_ring.specs.Checkpoint.{site_of};
 ghost use Rattle.space_pool.specs.Queues.{queue_entries};
-ghost use Rattle.space_pool.specs.declared.entry.Queue.TheVariants.{Pool, Main};
-ghost use Rattle.reach_rules.specs.declared.naming.LookUp.TheVariants.{ByMapping};
-ghost use Rattle.reach_rules.specs.declared.naming.TreeKind.TheVariants.{FreeQueue};
-ghost use Rattle.reach_rules.specs.declared.naming.Expected.TheVariants.{TreeRoot};
 ghost use Rattle.reach_rules.specs.Features.{HasFeature};
 ghost use Rattle.reach_rules.specs.Live.{IsLive};
 ghost use Rattle.reach_rules.specs.Reached.{IsReachedFault};
 ghost use Rattle.reach_gather.specs.Adds.{Adds};
+ghost use Rattle.reach_gather.specs.Named.{naming_of};
+ghost use Rattle.reach_gather.specs.declared.naming.By.TheVariants as looks;
+ghost use Rattle.reach_gather.specs.declared.naming.Expects.TheVariants as expects;
+ghost use Rattle.reach_gather.specs.declared.naming.Tree.TheVariants as trees;
 
 use crate::Gathered;
 use crate::keepers::entries::Entries;
+use crate::naming::{Named, Tree};
 use crate::ranges::{tell_all, tell_all_pool};
 use crate::steps::note_ids;
 use blk_source::BlockSource;
 use nx_ring::Checkpoint;
 use obj_base::Stop;
-use reach_rules::{Naming, ReachFault, TreeKind};
-use space_pool::{Queue, QueueEntry};
+use reach_rules::ReachFault;
+use space_pool::QueueEntry;
 use std::alloc::Global;
 use tree_namings::walk_queue;
 
@@ -34,15 +35,15 @@ pub fn add_main_queue<S: BlockSource>(
     alloc: Global,
     src: &mut S,
     cp: &Checkpoint,
-    root: Naming,
+    root: Named,
     out: &mut Gathered,
 ) -> Result<(), Stop<ReachFault>>
     requires site { IsSiteFor (site_of cp.now) (S.bytes_len src.old) }
-    requires how { root.how ≡ ByMapping }
-    requires kind { root.expected ≡ TreeRoot (FreeQueue Main) }
+    requires how { root.how ≡ looks.Mapping }
+    requires kind { root.expects ≡ expects.Root trees.MainQueue }
     requires some { (root.oid == 0) ≡ false }
-    ensures clear { (image : List ℕ) → S.bytes src.old ≡ Some image → OnOk result (Adds image cp.now (root ∷ []) [] out.old out.new) }
-    ensures present { (image : List ℕ) → S.bytes src.old ≡ Some image → IsLive image cp.now root → IfErr result (Tells (IsReachedFault image cp.now) (HasFeature image cp.now)) }
+    ensures clear { (image : List ℕ) → S.bytes src.old ≡ Some image → OnOk result (Adds image cp.now (naming_of root ∷ []) [] out.old out.new) }
+    ensures present { (image : List ℕ) → S.bytes src.old ≡ Some image → IsLive image cp.now (naming_of root) → IfErr result (Tells (IsReachedFault image cp.now) (HasFeature image cp.now)) }
     ensures reads { (image : List ℕ) → S.bytes src.old ≡ Some image → OnOk result (S.reads src.new + length out.old.namings ≤ S.reads src.old + length out.new.namings) }
     ensures cause { IsErrOf result ReadFault → Rose (S.faults src.old) (S.faults src.new) }
     ensures kept { IsKept S.bytes S.bytes_len S.faults src.old src.new }
@@ -55,13 +56,8 @@ pub fn add_main_queue<S: BlockSource>(
         Err(stop) => return Err(stop),
     };
     out.note_id(root)?;
-    tell_all(alloc, out, root, walked.kept.entries.as_slice())?;
-    note_ids(
-        out,
-        TreeKind::FreeQueue(Queue::Main),
-        root.oid,
-        &walked.steps,
-    )?;
+    tell_all(out, root, walked.kept.entries.as_slice())?;
+    note_ids(out, Tree::MainQueue, root.oid, &walked.steps)?;
     Ok(())
 }
 
@@ -70,16 +66,16 @@ pub fn add_pool_queue<S: BlockSource>(
     alloc: Global,
     src: &mut S,
     cp: &Checkpoint,
-    root: Naming,
+    root: Named,
     out: &mut Gathered,
 ) -> Result<Vec<QueueEntry>, Stop<ReachFault>>
     requires site { IsSiteFor (site_of cp.now) (S.bytes_len src.old) }
-    requires how { root.how ≡ ByMapping }
-    requires kind { root.expected ≡ TreeRoot (FreeQueue Pool) }
+    requires how { root.how ≡ looks.Mapping }
+    requires kind { root.expects ≡ expects.Root trees.PoolQueue }
     requires some { (root.oid == 0) ≡ false }
-    ensures clear { (image : List ℕ) → S.bytes src.old ≡ Some image → OnOk result (Adds image cp.now (root ∷ []) [] out.old out.new) }
+    ensures clear { (image : List ℕ) → S.bytes src.old ≡ Some image → OnOk result (Adds image cp.now (naming_of root ∷ []) [] out.old out.new) }
     ensures entries { (image : List ℕ) → S.bytes src.old ≡ Some image → IfOk result (λ entries. entries.items ≡ queue_entries image cp.now root.oid) }
-    ensures present { (image : List ℕ) → S.bytes src.old ≡ Some image → IsLive image cp.now root → IfErr result (Tells (IsReachedFault image cp.now) (HasFeature image cp.now)) }
+    ensures present { (image : List ℕ) → S.bytes src.old ≡ Some image → IsLive image cp.now (naming_of root) → IfErr result (Tells (IsReachedFault image cp.now) (HasFeature image cp.now)) }
     ensures reads { (image : List ℕ) → S.bytes src.old ≡ Some image → OnOk result (S.reads src.new + length out.old.namings ≤ S.reads src.old + length out.new.namings) }
     ensures cause { IsErrOf result ReadFault → Rose (S.faults src.old) (S.faults src.new) }
     ensures kept { IsKept S.bytes S.bytes_len S.faults src.old src.new }
@@ -92,12 +88,7 @@ pub fn add_pool_queue<S: BlockSource>(
         Err(stop) => return Err(stop),
     };
     out.note_id(root)?;
-    tell_all_pool(alloc, out, root, walked.kept.entries.as_slice())?;
-    note_ids(
-        out,
-        TreeKind::FreeQueue(Queue::Pool),
-        root.oid,
-        &walked.steps,
-    )?;
+    tell_all_pool(out, root, walked.kept.entries.as_slice())?;
+    note_ids(out, Tree::PoolQueue, root.oid, &walked.steps)?;
     Ok(walked.kept.entries)
 }

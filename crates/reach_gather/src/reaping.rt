@@ -8,34 +8,36 @@ ghost use Rattle.reach_rules.specs.Reached.{IsReachedFault};
 ghost use Rattle.tree_namings.specs.Container.{reaper_naming};
 ghost use Rattle.reach_gather.specs.Adds.{Adds};
 ghost use Rattle.reach_gather.specs.Chain.{reap_at};
+ghost use Rattle.reach_gather.specs.Named.{naming_of};
 
 use crate::Gathered;
+use crate::naming::{By, Expects, Named, NamedBy};
 use blk_source::NoMemory;
 use nx_ring::Checkpoint;
 use obj_base::Stop;
-use reach_rules::{Expected, LookUp, Namer, Naming, Object, ReachFault};
+use reach_rules::ReachFault;
 use reaper_jumpstart::reap;
 use std::alloc::Global;
 
 // The naming of the reaper, or of a list.
-fn link(ids: &[u64], i: usize) -> Naming
+fn link(ids: &[u64], i: usize) -> Named
     requires { i < length ids.now }
-    ensures { result ≡ reap_at ids.now i }
+    ensures { naming_of result ≡ reap_at ids.now i }
 {
     if i == 0 {
-        return Naming {
-            namer: Namer::Whole(Object::Newest),
+        return Named {
+            by: NamedBy::Newest,
             at: 168,
-            expected: Expected::ReaperObject,
-            how: LookUp::ByMapping,
+            expects: Expects::Reaper,
+            how: By::Mapping,
             oid: ids[i],
         };
     }
-    Naming {
-        namer: Namer::Whole(Object::OfId(ids[i - 1])),
+    Named {
+        by: NamedBy::Id(ids[i - 1]),
         at: if i == 1 { 48 } else { 32 },
-        expected: Expected::ReapList,
-        how: LookUp::ByMapping,
+        expects: Expects::ReapList,
+        how: By::Mapping,
         oid: ids[i],
     }
 }

@@ -1,14 +1,15 @@
 // The nodes of trees below their roots, as the steps of the trees name them.
 ghost use Rattle.std.specs.Prelude.{◌≡◌, ◌++◌, map, OnOk};
-ghost use Rattle.reach_rules.specs.declared.naming.LookUp.TheVariants.{ByBlock, ByMapping};
-ghost use Rattle.reach_rules.specs.declared.naming.Object.TheVariants.{InBlock, OfId};
+ghost use Rattle.reach_rules.specs.Naming.{ByBlock, ByMapping, InBlock, OfId};
+ghost use Rattle.reach_rules.specs.Owners as spec;
 ghost use Rattle.tree_namings.specs.Namings.{level_below, step_naming};
+ghost use Rattle.reach_gather.specs.Named.{kind_of, naming_of};
 ghost use Rattle.reach_gather.specs.Steps.{block_steps, id_steps, block_owner};
 
 use crate::Gathered;
+use crate::naming::{By, Expects, Named, NamedBy, Tree};
 use blk_source::NoMemory;
 use bt_steps::Step;
-use reach_rules::{Expected, LookUp, Namer, Naming, Object, TreeKind};
 
 // The level below a level.
 fn below(level: u16) -> u16
@@ -18,27 +19,27 @@ fn below(level: u16) -> u16
 }
 
 // The naming of a step in a tree of physical nodes.
-fn block_step(tree: TreeKind, step: &Step) -> Naming
-    ensures { result ≡ step_naming InBlock tree ByBlock step.now }
+fn block_step(tree: Tree, root: u64, step: &Step) -> Named
+    ensures { naming_of result ≡ step_naming InBlock (kind_of tree) ByBlock root step.now }
 {
-    Naming {
-        namer: Namer::Whole(Object::InBlock(step.node)),
+    Named {
+        by: NamedBy::Block(step.node),
         at: step.at,
-        expected: Expected::TreeNode(tree, below(step.level)),
-        how: LookUp::ByBlock,
+        expects: Expects::Node(tree, below(step.level)),
+        how: By::Block,
         oid: step.child,
     }
 }
 
 // The naming of a step in a tree of ephemeral nodes.
-fn id_step(tree: TreeKind, step: &Step) -> Naming
-    ensures { result ≡ step_naming OfId tree ByMapping step.now }
+fn id_step(tree: Tree, root: u64, step: &Step) -> Named
+    ensures { naming_of result ≡ step_naming OfId (kind_of tree) ByMapping root step.now }
 {
-    Naming {
-        namer: Namer::Whole(Object::OfId(step.node)),
+    Named {
+        by: NamedBy::Id(step.node),
         at: step.at,
-        expected: Expected::TreeNode(tree, below(step.level)),
-        how: LookUp::ByMapping,
+        expects: Expects::Node(tree, below(step.level)),
+        how: By::Mapping,
         oid: step.child,
     }
 }
@@ -46,27 +47,33 @@ fn id_step(tree: TreeKind, step: &Step) -> Naming
 /// The nodes below the root of a tree of physical nodes, each with its block.
 pub(crate) fn note_blocks(
     out: &mut Gathered,
-    tree: TreeKind,
+    tree: Tree,
+    root: u64,
     steps: &[Step],
 ) -> Result<(), NoMemory>
-    ensures namings { OnOk result (out.new.namings ≡ out.old.namings ++ block_steps tree steps.now) }
-    ensures owners { OnOk result (out.new.owners ≡ out.old.owners ++ map block_owner (block_steps tree steps.now)) }
+    ensures namings { OnOk result (out.new.namings ≡ out.old.namings ++ block_steps (kind_of tree) root steps.now) }
+    ensures owners { OnOk result (out.new.owners ≡ out.old.owners ++ map block_owner (block_steps (kind_of tree) root steps.now)) }
     ensures pool_owners { out.new.pool_owners ≡ out.old.pool_owners }
 {
     for step in steps {
-        out.note_block(block_step(tree, step))?;
+        out.note_block(block_step(tree, root, step))?;
     }
     Ok(())
 }
 
 /// The nodes below the root of a tree of ephemeral nodes.
-pub(crate) fn note_ids(out: &mut Gathered, tree: TreeKind, steps: &[Step]) -> Result<(), NoMemory>
-    ensures namings { OnOk result (out.new.namings ≡ out.old.namings ++ id_steps tree steps.now) }
+pub(crate) fn note_ids(
+    out: &mut Gathered,
+    tree: Tree,
+    root: u64,
+    steps: &[Step],
+) -> Result<(), NoMemory>
+    ensures namings { OnOk result (out.new.namings ≡ out.old.namings ++ id_steps (kind_of tree) root steps.now) }
     ensures owners { out.new.owners ≡ out.old.owners }
     ensures pool_owners { out.new.pool_owners ≡ out.old.pool_owners }
 {
     for step in steps {
-        out.note_id(id_step(tree, step))?;
+        out.note_id(id_step(tree, root, step))?;
     }
     Ok(())
 }

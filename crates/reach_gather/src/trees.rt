@@ -9,25 +9,27 @@ ghost use Rattle.bt_cursor.specs.Flat.{flat_of};
 ghost use Rattle.nx_ring.specs.Checkpoint.{site_of};
 ghost use Rattle.omap_map.specs.Maps.{record_tree};
 ghost use Rattle.omap_map.specs.Records.{records_of};
-ghost use Rattle.reach_rules.specs.declared.naming.LookUp.TheVariants.{ByBlock};
-ghost use Rattle.reach_rules.specs.declared.naming.TreeKind.TheVariants.{MapRecords, MapSnapshots, ExtentRefs, SnapMetadata};
-ghost use Rattle.reach_rules.specs.declared.naming.Expected.TheVariants.{TreeRoot};
 ghost use Rattle.reach_rules.specs.Features.{HasFeature};
 ghost use Rattle.reach_rules.specs.Live.{IsLive};
 ghost use Rattle.reach_rules.specs.Reached.{IsReachedFault};
 ghost use Rattle.reach_gather.specs.Adds.{Adds};
+ghost use Rattle.reach_gather.specs.Named.{naming_of};
+ghost use Rattle.reach_gather.specs.declared.naming.By.TheVariants as looks;
+ghost use Rattle.reach_gather.specs.declared.naming.Expects.TheVariants as expects;
+ghost use Rattle.reach_gather.specs.declared.naming.Tree.TheVariants as trees;
 
 use crate::Gathered;
 use crate::keepers::nothing::Nothing;
 use crate::keepers::ranges::Ranges;
 use crate::keepers::records::Records;
+use crate::naming::{Named, Tree};
 use crate::ranges::tell_all;
 use crate::steps::note_blocks;
 use blk_source::BlockSource;
 use nx_ring::Checkpoint;
 use obj_base::Stop;
 use omap_map::OmapRecord;
-use reach_rules::{Naming, ReachFault, TreeKind};
+use reach_rules::ReachFault;
 use std::alloc::Global;
 use tree_namings::{walk_extents, walk_metadata, walk_records, walk_snapshots};
 
@@ -36,14 +38,14 @@ pub fn add_metadata<S: BlockSource>(
     alloc: Global,
     src: &mut S,
     cp: &Checkpoint,
-    root: Naming,
+    root: Named,
     out: &mut Gathered,
 ) -> Result<(), Stop<ReachFault>>
     requires site { IsSiteFor (site_of cp.now) (S.bytes_len src.old) }
-    requires how { root.how ≡ ByBlock }
-    requires kind { root.expected ≡ TreeRoot SnapMetadata }
-    ensures clear { (image : List ℕ) → S.bytes src.old ≡ Some image → OnOk result (Adds image cp.now (root ∷ []) [] out.old out.new) }
-    ensures present { (image : List ℕ) → S.bytes src.old ≡ Some image → IsLive image cp.now root → IfErr result (Tells (IsReachedFault image cp.now) (HasFeature image cp.now)) }
+    requires how { root.how ≡ looks.Block }
+    requires kind { root.expects ≡ expects.Root trees.Metadata }
+    ensures clear { (image : List ℕ) → S.bytes src.old ≡ Some image → OnOk result (Adds image cp.now (naming_of root ∷ []) [] out.old out.new) }
+    ensures present { (image : List ℕ) → S.bytes src.old ≡ Some image → IsLive image cp.now (naming_of root) → IfErr result (Tells (IsReachedFault image cp.now) (HasFeature image cp.now)) }
     ensures reads { (image : List ℕ) → S.bytes src.old ≡ Some image → OnOk result (S.reads src.new + length out.old.namings ≤ S.reads src.old + length out.new.namings) }
     ensures cause { IsErrOf result ReadFault → Rose (S.faults src.old) (S.faults src.new) }
     ensures kept { IsKept S.bytes S.bytes_len S.faults src.old src.new }
@@ -53,7 +55,7 @@ pub fn add_metadata<S: BlockSource>(
         Err(stop) => return Err(stop),
     };
     out.note_block(root)?;
-    note_blocks(out, TreeKind::SnapMetadata, &walked.steps)?;
+    note_blocks(out, Tree::Metadata, root.oid, &walked.steps)?;
     Ok(())
 }
 
@@ -62,14 +64,14 @@ pub fn add_map_snapshots<S: BlockSource>(
     alloc: Global,
     src: &mut S,
     cp: &Checkpoint,
-    root: Naming,
+    root: Named,
     out: &mut Gathered,
 ) -> Result<(), Stop<ReachFault>>
     requires site { IsSiteFor (site_of cp.now) (S.bytes_len src.old) }
-    requires how { root.how ≡ ByBlock }
-    requires kind { root.expected ≡ TreeRoot MapSnapshots }
-    ensures clear { (image : List ℕ) → S.bytes src.old ≡ Some image → OnOk result (Adds image cp.now (root ∷ []) [] out.old out.new) }
-    ensures present { (image : List ℕ) → S.bytes src.old ≡ Some image → IsLive image cp.now root → IfErr result (Tells (IsReachedFault image cp.now) (HasFeature image cp.now)) }
+    requires how { root.how ≡ looks.Block }
+    requires kind { root.expects ≡ expects.Root trees.MapSnapshots }
+    ensures clear { (image : List ℕ) → S.bytes src.old ≡ Some image → OnOk result (Adds image cp.now (naming_of root ∷ []) [] out.old out.new) }
+    ensures present { (image : List ℕ) → S.bytes src.old ≡ Some image → IsLive image cp.now (naming_of root) → IfErr result (Tells (IsReachedFault image cp.now) (HasFeature image cp.now)) }
     ensures reads { (image : List ℕ) → S.bytes src.old ≡ Some image → OnOk result (S.reads src.new + length out.old.namings ≤ S.reads src.old + length out.new.namings) }
     ensures cause { IsErrOf result ReadFault → Rose (S.faults src.old) (S.faults src.new) }
     ensures kept { IsKept S.bytes S.bytes_len S.faults src.old src.new }
@@ -79,7 +81,7 @@ pub fn add_map_snapshots<S: BlockSource>(
         Err(stop) => return Err(stop),
     };
     out.note_block(root)?;
-    note_blocks(out, TreeKind::MapSnapshots, &walked.steps)?;
+    note_blocks(out, Tree::MapSnapshots, root.oid, &walked.steps)?;
     Ok(())
 }
 
@@ -88,15 +90,15 @@ pub fn add_map_records<S: BlockSource>(
     alloc: Global,
     src: &mut S,
     cp: &Checkpoint,
-    root: Naming,
+    root: Named,
     out: &mut Gathered,
 ) -> Result<Vec<OmapRecord>, Stop<ReachFault>>
     requires site { IsSiteFor (site_of cp.now) (S.bytes_len src.old) }
-    requires how { root.how ≡ ByBlock }
-    requires kind { root.expected ≡ TreeRoot MapRecords }
-    ensures clear { (image : List ℕ) → S.bytes src.old ≡ Some image → OnOk result (Adds image cp.now (root ∷ []) [] out.old out.new) }
+    requires how { root.how ≡ looks.Block }
+    requires kind { root.expects ≡ expects.Root trees.MapRecords }
+    ensures clear { (image : List ℕ) → S.bytes src.old ≡ Some image → OnOk result (Adds image cp.now (naming_of root ∷ []) [] out.old out.new) }
     ensures records { (image : List ℕ) → S.bytes src.old ≡ Some image → IfOk result (λ records. records.items ≡ records_of (flat_of (record_tree image (site_of cp.now)) root.oid)) }
-    ensures present { (image : List ℕ) → S.bytes src.old ≡ Some image → IsLive image cp.now root → IfErr result (Tells (IsReachedFault image cp.now) (HasFeature image cp.now)) }
+    ensures present { (image : List ℕ) → S.bytes src.old ≡ Some image → IsLive image cp.now (naming_of root) → IfErr result (Tells (IsReachedFault image cp.now) (HasFeature image cp.now)) }
     ensures reads { (image : List ℕ) → S.bytes src.old ≡ Some image → OnOk result (S.reads src.new + length out.old.namings ≤ S.reads src.old + length out.new.namings) }
     ensures cause { IsErrOf result ReadFault → Rose (S.faults src.old) (S.faults src.new) }
     ensures kept { IsKept S.bytes S.bytes_len S.faults src.old src.new }
@@ -109,7 +111,7 @@ pub fn add_map_records<S: BlockSource>(
         Err(stop) => return Err(stop),
     };
     out.note_block(root)?;
-    note_blocks(out, TreeKind::MapRecords, &walked.steps)?;
+    note_blocks(out, Tree::MapRecords, root.oid, &walked.steps)?;
     Ok(walked.kept.records)
 }
 
@@ -118,15 +120,15 @@ pub fn add_extents<S: BlockSource>(
     alloc: Global,
     src: &mut S,
     cp: &Checkpoint,
-    root: Naming,
+    root: Named,
     out: &mut Gathered,
 ) -> Result<(), Stop<ReachFault>>
     requires site { IsSiteFor (site_of cp.now) (S.bytes_len src.old) }
-    requires how { root.how ≡ ByBlock }
-    requires kind { root.expected ≡ TreeRoot ExtentRefs }
+    requires how { root.how ≡ looks.Block }
+    requires kind { root.expects ≡ expects.Root trees.Extents }
     requires some { (root.oid == 0) ≡ false }
-    ensures clear { (image : List ℕ) → S.bytes src.old ≡ Some image → OnOk result (Adds image cp.now (root ∷ []) [] out.old out.new) }
-    ensures present { (image : List ℕ) → S.bytes src.old ≡ Some image → IsLive image cp.now root → IfErr result (Tells (IsReachedFault image cp.now) (HasFeature image cp.now)) }
+    ensures clear { (image : List ℕ) → S.bytes src.old ≡ Some image → OnOk result (Adds image cp.now (naming_of root ∷ []) [] out.old out.new) }
+    ensures present { (image : List ℕ) → S.bytes src.old ≡ Some image → IsLive image cp.now (naming_of root) → IfErr result (Tells (IsReachedFault image cp.now) (HasFeature image cp.now)) }
     ensures reads { (image : List ℕ) → S.bytes src.old ≡ Some image → OnOk result (S.reads src.new + length out.old.namings ≤ S.reads src.old + length out.new.namings) }
     ensures cause { IsErrOf result ReadFault → Rose (S.faults src.old) (S.faults src.new) }
     ensures kept { IsKept S.bytes S.bytes_len S.faults src.old src.new }
@@ -139,7 +141,7 @@ pub fn add_extents<S: BlockSource>(
         Err(stop) => return Err(stop),
     };
     out.note_block(root)?;
-    tell_all(alloc, out, root, walked.kept.ranges.as_slice())?;
-    note_blocks(out, TreeKind::ExtentRefs, &walked.steps)?;
+    tell_all(out, root, walked.kept.ranges.as_slice())?;
+    note_blocks(out, Tree::Extents, root.oid, &walked.steps)?;
     Ok(())
 }

@@ -14,19 +14,18 @@ ghost use Rattle.omap_map.specs.Maps.{map_records};
 ghost use Rattle.reach_rules.specs.Features.{HasFeature};
 ghost use Rattle.reach_rules.specs.Live.{IsLive};
 ghost use Rattle.vol_view.specs.Volumes.{Loaded};
-ghost use Rattle.reach_rules.specs.declared.naming.LookUp.TheVariants.{ByBlock};
-ghost use Rattle.reach_rules.specs.declared.naming.Namer.{Namer};
-ghost use Rattle.reach_rules.specs.declared.naming.TreeKind.TheVariants.{ExtentRefs, SnapMetadata};
-ghost use Rattle.reach_rules.specs.declared.naming.Expected.TheVariants.{TreeRoot};
+ghost use Rattle.reach_rules.specs.Naming.{ByBlock, Namer, ExtentRefs, SnapMetadata, TreeRoot};
 ghost use Rattle.reach_rules.specs.Next.{unless_zero};
 ghost use Rattle.reach_rules.specs.Reached.{IsReachedFault};
 ghost use Rattle.tree_namings.specs.Volumes.Parts.{IsVolumePart, volume_namer};
 ghost use Rattle.tree_namings.specs.Volumes.Told.{head_naming, told_volume};
 ghost use Rattle.reach_gather.specs.Adds.{Adds, AreLive};
+ghost use Rattle.reach_gather.specs.Named.{namer_of, naming_of};
 ghost use Rattle.reach_gather.specs.Views.{AreVolumeParts, AreNamedParts, volume_views, slots_namings, loaded_views};
 
 use crate::Gathered;
 use crate::maps::add_map;
+use crate::naming::{By, Expects, Mapping, Named, NamedBy, Tree};
 use crate::resolving::resolve;
 use crate::snapshots::add_snapshots;
 use crate::trees::{add_extents, add_metadata};
@@ -34,7 +33,7 @@ use blk_source::BlockSource;
 use nx_ring::Checkpoint;
 use obj_base::{Stop, Within};
 use omap_map::OmapRecord;
-use reach_rules::{Expected, LookUp, Namer, Naming, Object, ReachFault, TreeKind};
+use reach_rules::ReachFault;
 use std::alloc::Global;
 use vol_view::Volume;
 
@@ -43,13 +42,13 @@ fn add_live_extents<S: BlockSource>(
     alloc: Global,
     src: &mut S,
     cp: &Checkpoint,
-    namer: Namer,
+    by: NamedBy,
     oid: u64,
     out: &mut Gathered,
 ) -> Result<(), Stop<ReachFault>>
     requires site { IsSiteFor (site_of cp.now) (S.bytes_len src.old) }
-    ensures clear { (image : List ℕ) → S.bytes src.old ≡ Some image → OnOk result (Adds image cp.now (unless_zero namer 144 (TreeRoot ExtentRefs) ByBlock oid) [] out.old out.new) }
-    ensures present { (image : List ℕ) → S.bytes src.old ≡ Some image → AreLive image cp.now (unless_zero namer 144 (TreeRoot ExtentRefs) ByBlock oid) → IfErr result (Tells (IsReachedFault image cp.now) (HasFeature image cp.now)) }
+    ensures clear { (image : List ℕ) → S.bytes src.old ≡ Some image → OnOk result (Adds image cp.now (unless_zero (namer_of by) 144 (TreeRoot ExtentRefs) ByBlock oid) [] out.old out.new) }
+    ensures present { (image : List ℕ) → S.bytes src.old ≡ Some image → AreLive image cp.now (unless_zero (namer_of by) 144 (TreeRoot ExtentRefs) ByBlock oid) → IfErr result (Tells (IsReachedFault image cp.now) (HasFeature image cp.now)) }
     ensures reads { (image : List ℕ) → S.bytes src.old ≡ Some image → OnOk result (S.reads src.new + length out.old.namings ≤ S.reads src.old + length out.new.namings) }
     ensures cause { IsErrOf result ReadFault → Rose (S.faults src.old) (S.faults src.new) }
     ensures kept { IsKept S.bytes S.bytes_len S.faults src.old src.new }
@@ -58,11 +57,11 @@ fn add_live_extents<S: BlockSource>(
         let _size = src.size();
         return Ok(());
     }
-    let root = Naming {
-        namer,
+    let root = Named {
+        by,
         at: 144,
-        expected: Expected::TreeRoot(TreeKind::ExtentRefs),
-        how: LookUp::ByBlock,
+        expects: Expects::Root(Tree::Extents),
+        how: By::Block,
         oid,
     };
     match add_extents(alloc, src, cp, root, out) {
@@ -76,13 +75,13 @@ fn add_live_metadata<S: BlockSource>(
     alloc: Global,
     src: &mut S,
     cp: &Checkpoint,
-    namer: Namer,
+    by: NamedBy,
     oid: u64,
     out: &mut Gathered,
 ) -> Result<(), Stop<ReachFault>>
     requires site { IsSiteFor (site_of cp.now) (S.bytes_len src.old) }
-    ensures clear { (image : List ℕ) → S.bytes src.old ≡ Some image → OnOk result (Adds image cp.now (unless_zero namer 152 (TreeRoot SnapMetadata) ByBlock oid) [] out.old out.new) }
-    ensures present { (image : List ℕ) → S.bytes src.old ≡ Some image → AreLive image cp.now (unless_zero namer 152 (TreeRoot SnapMetadata) ByBlock oid) → IfErr result (Tells (IsReachedFault image cp.now) (HasFeature image cp.now)) }
+    ensures clear { (image : List ℕ) → S.bytes src.old ≡ Some image → OnOk result (Adds image cp.now (unless_zero (namer_of by) 152 (TreeRoot SnapMetadata) ByBlock oid) [] out.old out.new) }
+    ensures present { (image : List ℕ) → S.bytes src.old ≡ Some image → AreLive image cp.now (unless_zero (namer_of by) 152 (TreeRoot SnapMetadata) ByBlock oid) → IfErr result (Tells (IsReachedFault image cp.now) (HasFeature image cp.now)) }
     ensures reads { (image : List ℕ) → S.bytes src.old ≡ Some image → OnOk result (S.reads src.new + length out.old.namings ≤ S.reads src.old + length out.new.namings) }
     ensures cause { IsErrOf result ReadFault → Rose (S.faults src.old) (S.faults src.new) }
     ensures kept { IsKept S.bytes S.bytes_len S.faults src.old src.new }
@@ -91,11 +90,11 @@ fn add_live_metadata<S: BlockSource>(
         let _size = src.size();
         return Ok(());
     }
-    let root = Naming {
-        namer,
+    let root = Named {
+        by,
         at: 152,
-        expected: Expected::TreeRoot(TreeKind::SnapMetadata),
-        how: LookUp::ByBlock,
+        expects: Expects::Root(Tree::Metadata),
+        how: By::Block,
         oid,
     };
     match add_metadata(alloc, src, cp, root, out) {
@@ -104,15 +103,30 @@ fn add_live_metadata<S: BlockSource>(
     }
 }
 
-// The naming of a volume by its slot.
-fn named(volume: &Volume) -> Naming
-    ensures { result ≡ head_naming volume.now.head }
+// The record of the container's map by which the volume of a slot is found.
+fn mapping_of(map: u64, found: OmapRecord) -> Mapping
+    ensures { result ≡ record { map = map; oid = found.oid; xid = found.xid; flags = found.flags; size = found.size; paddr = found.paddr } }
 {
-    Naming {
-        namer: Namer::Whole(Object::Newest),
+    Mapping {
+        map,
+        oid: found.oid,
+        xid: found.xid,
+        flags: found.flags,
+        size: found.size,
+        paddr: found.paddr,
+    }
+}
+
+// The naming of a volume by its slot.
+fn named(volume: &Volume) -> Named
+    ensures naming { naming_of result ≡ head_naming volume.now.head }
+    ensures oid { result.oid ≡ volume.now.head.oid }
+{
+    Named {
+        by: NamedBy::Newest,
         at: 184 + 8 * u64::from(volume.head.slot),
-        expected: Expected::VolumeIn(volume.head.slot),
-        how: LookUp::InContainer,
+        expects: Expects::Volume(volume.head.slot),
+        how: By::Container,
         oid: volume.head.oid,
     }
 }
@@ -123,33 +137,33 @@ fn add_named<S: BlockSource>(
     src: &mut S,
     cp: &Checkpoint,
     volume: &Volume,
-    namer: Namer,
+    by: NamedBy,
     out: &mut Gathered,
 ) -> Result<(), Stop<ReachFault>>
     requires site { IsSiteFor (site_of cp.now) (S.bytes_len src.old) }
-    ensures clear { (image : List ℕ) → S.bytes src.old ≡ Some image → AreVolumeParts image cp.now namer volume.now → OnOk result (Adds image cp.now (told_volume cp.now namer volume.now) (volume_views cp.now namer volume.now) out.old out.new) }
-    ensures present { (image : List ℕ) → S.bytes src.old ≡ Some image → AreVolumeParts image cp.now namer volume.now → AreLive image cp.now (told_volume cp.now namer volume.now) → IfErr result (Tells (IsReachedFault image cp.now) (HasFeature image cp.now)) }
+    ensures clear { (image : List ℕ) → S.bytes src.old ≡ Some image → AreVolumeParts image cp.now (namer_of by) volume.now → OnOk result (Adds image cp.now (told_volume cp.now (namer_of by) volume.now) (volume_views cp.now (namer_of by) volume.now) out.old out.new) }
+    ensures present { (image : List ℕ) → S.bytes src.old ≡ Some image → AreVolumeParts image cp.now (namer_of by) volume.now → AreLive image cp.now (told_volume cp.now (namer_of by) volume.now) → IfErr result (Tells (IsReachedFault image cp.now) (HasFeature image cp.now)) }
     ensures reads { (image : List ℕ) → S.bytes src.old ≡ Some image → OnOk result (S.reads src.new + length out.old.namings ≤ S.reads src.old + length out.new.namings) }
     ensures cause { IsErrOf result ReadFault → Rose (S.faults src.old) (S.faults src.new) }
     ensures kept { IsKept S.bytes S.bytes_len S.faults src.old src.new }
 {
     let map = volume.omap.block();
-    let omap = Naming {
-        namer,
+    let omap = Named {
+        by,
         at: 128,
-        expected: Expected::VolumeMap,
-        how: LookUp::ByBlock,
+        expects: Expects::VolumeMap,
+        how: By::Block,
         oid: map,
     };
     match add_map(alloc, src, cp, omap, out) {
         Ok(_) => (),
         Err(stop) => return Err(stop),
     }
-    match add_live_extents(alloc, src, cp, namer, volume.extents_root, out) {
+    match add_live_extents(alloc, src, cp, by, volume.extents_root, out) {
         Ok(()) => (),
         Err(stop) => return Err(stop),
     }
-    match add_live_metadata(alloc, src, cp, namer, volume.snaps_root, out) {
+    match add_live_metadata(alloc, src, cp, by, volume.snaps_root, out) {
         Ok(()) => (),
         Err(stop) => return Err(stop),
     }
@@ -188,9 +202,9 @@ pub fn add_volume<S: BlockSource>(
             }));
         }
     };
-    let namer = Namer::Whole(Object::OfRecord(map, found));
-    out.note_record(named(volume), map, found)?;
-    match add_named(alloc, src, cp, volume, namer, out) {
+    let mapping = mapping_of(map, found);
+    out.note_record(named(volume), mapping)?;
+    match add_named(alloc, src, cp, volume, NamedBy::Record(mapping), out) {
         Ok(()) => Ok(()),
         Err(stop) => Err(stop),
     }

@@ -1,4 +1,4 @@
--- Who owns which blocks of the container. The types of owners are those of the code.
+-- Who owns which blocks of the container.
 use Rattle.std.specs.Prelude.{◌≡◌, ℕ, suc, Bool, true, false, List, [], ◌∷◌, ◌++◌, map, Ok, Err, if◌then◌else◌}
 use Rattle.apfs_model.specs.Blocks.{is_in}
 use Rattle.apfs_model.specs.Lists.{In, through}
@@ -12,13 +12,31 @@ use Rattle.space_map.specs.Fields.{pool_base_of, pool_blocks_of, ring_base_of, r
 use Rattle.space_pool.specs.Queues.{queue_entries}
 use Rattle.space_pool.specs.declared.entry.Queue.TheVariants.{Pool, Main}
 use Rattle.space_pool.specs.declared.entry.QueueEntry.{QueueEntry}
-pub use Rattle.reach_rules.specs.declared.owner.Who.{Who}
-pub use Rattle.reach_rules.specs.declared.owner.Who.TheVariants.{BlockZero, Descriptors, Checkpoints, KeyLocker, MediaLocker, InternalPool, PoolRing, Named, Recorded, Told, Bitmap}
-pub use Rattle.reach_rules.specs.declared.owner.Owner.{Owner}
 use Rattle.reach_rules.specs.Naming.{Object, Newest, InBlock, OfId, OfRecord, TreeKind, MapRecords, MapSnapshots, ExtentRefs, SnapMetadata, FreeQueue, Files, Expected, SpaceManager, ContainerMap, ReaperObject, ReapList, Jumpstart, VolumeIn, VolumeMap, ExtendedMetadata, SnapshotSuper, AddressBlock, InfoBlock, TreeRoot, TreeNode, Naming}
 use Rattle.reach_rules.specs.Resolved.{Found, resolved}
 use Rattle.reach_rules.specs.Tested.{Answer, tested}
 use Rattle.reach_rules.specs.Live.{IsLive}
+
+-- who owns: block 0, the areas, the lockers, the pool and its ring, the object of a physical naming, the record of the
+-- object map in a block, the range of a place among those of which the object of a naming tells, or the bitmap of a chunk
+pub data Who : Type 0 where
+  BlockZero : Who
+  Descriptors : Who
+  Checkpoints : Who
+  KeyLocker : Who
+  MediaLocker : Who
+  InternalPool : Who
+  PoolRing : Who
+  Named : Naming → Who
+  Recorded : ℕ → OmapRecord → Who
+  Told : Naming → ℕ → Who
+  Bitmap : ℕ → Who
+
+-- an owner, and its range: a first block and a number of blocks
+pub record Owner : Type 0 where
+  pub who : Who
+  pub first : ℕ
+  pub blocks : ℕ
 
 -- an owner by its parts
 abbrev pub owner : Who → ℕ → ℕ → Owner

@@ -11,7 +11,7 @@ ghost use Rattle.omap_map.specs.Maps.{map_records};
 ghost use Rattle.vol_view.specs.Volumes.{Loaded};
 ghost use Rattle.vol_view.specs.declared.head.VolHead.{VolHead};
 ghost use Rattle.space_map.specs.Stops.{IsSpaceOf};
-ghost use Rattle.reach_rules.specs.declared.naming.Namer.{Namer};
+ghost use Rattle.reach_rules.specs.Naming.{Namer};
 ghost use Rattle.reach_rules.specs.Next.{roots};
 ghost use Rattle.reach_rules.specs.Features.{HasFeature};
 ghost use Rattle.reach_rules.specs.Owners.{first_owners};
@@ -29,8 +29,11 @@ use blk_source::{BlockSource, NoMemory as OutOfMemory};
 use nx_ring::Checkpoint;
 use obj_base::Stop;
 use omap_map::OmapRecord;
-use reach_gather::{Gathered, add_jumpstart, add_map, add_reaper, add_space, add_volumes};
-use reach_rules::{Expected, LookUp, Namer, Naming, Object, Owner, ReachFault, Who};
+use reach_gather::{
+    By, Expects, Gathered, Named, NamedBy, Owned, OwnedBy, add_jumpstart, add_map, add_reaper,
+    add_space, add_volumes,
+};
+use reach_rules::ReachFault;
 use space_map::Space;
 use std::alloc::Global;
 use vol_view::Volume;
@@ -44,28 +47,28 @@ fn tell_first(cp: &Checkpoint, out: &mut Gathered) -> Result<(), OutOfMemory>
     let nx = cp.nx();
     let (key_locker, key_blocks) = nx.locker();
     let (media_locker, media_blocks) = nx.media_locker();
-    out.tell(Owner {
-        who: Who::BlockZero,
+    out.tell(Owned {
+        who: OwnedBy::BlockZero,
         first: 0,
         blocks: 1,
     })?;
-    out.tell(Owner {
-        who: Who::Descriptors,
+    out.tell(Owned {
+        who: OwnedBy::Descriptors,
         first: nx.desc_base(),
         blocks: u64::from(nx.desc_blocks()),
     })?;
-    out.tell(Owner {
-        who: Who::Checkpoints,
+    out.tell(Owned {
+        who: OwnedBy::Checkpoints,
         first: nx.data_base(),
         blocks: u64::from(nx.data_blocks()),
     })?;
-    out.tell(Owner {
-        who: Who::KeyLocker,
+    out.tell(Owned {
+        who: OwnedBy::KeyLocker,
         first: key_locker,
         blocks: key_blocks,
     })?;
-    out.tell(Owner {
-        who: Who::MediaLocker,
+    out.tell(Owned {
+        who: OwnedBy::MediaLocker,
         first: media_locker,
         blocks: media_blocks,
     })?;
@@ -97,11 +100,11 @@ fn add_container_map<S: BlockSource>(
     ensures cause { IsErrOf result ReadFault → Rose (S.faults src.old) (S.faults src.new) }
     ensures kept { IsKept S.bytes S.bytes_len S.faults src.old src.new }
 {
-    let map = Naming {
-        namer: Namer::Whole(Object::Newest),
+    let map = Named {
+        by: NamedBy::Newest,
         at: 160,
-        expected: Expected::ContainerMap,
-        how: LookUp::ByBlock,
+        expects: Expects::ContainerMap,
+        how: By::Block,
         oid: cp.nx().omap_oid(),
     };
     match add_map(alloc, src, cp, map, out) {

@@ -21,10 +21,7 @@ use Rattle.nx_ring.proofs.Laws.{eph_in}
 use Rattle.reach_rules.specs.declared.fault.Why.{Why}
 use Rattle.reach_rules.specs.declared.fault.ReachFault.{ReachFault}
 use Rattle.reach_rules.specs.declared.fault.ReachFault.TheVariants.{Unsound, Unnamed}
-use Rattle.reach_rules.specs.declared.naming.LookUp.TheVariants.{ByMapping}
-use Rattle.reach_rules.specs.declared.naming.Object.TheVariants.{OfId}
-use Rattle.reach_rules.specs.declared.naming.Namer.TheVariants.{Whole}
-use Rattle.reach_rules.specs.declared.naming.Naming.{Naming}
+use Rattle.reach_rules.specs.Naming.{ByMapping, OfId, Whole, Naming}
 use Rattle.reach_rules.specs.Resolved.{Found, resolved, mapped}
 use Rattle.reach_rules.specs.Tested.{Answer, of_header, head_tested, tested}
 use Rattle.reach_rules.specs.Next.{names, names_if, next}

@@ -15,9 +15,7 @@ use Rattle.bt_cursor.specs.Gathered.{IsGatherFault}
 use Rattle.bt_cursor.specs.declared.step.Step.{Step}
 use Rattle.bt_steps.specs.Noted.{IsWalked}
 use Rattle.nx_ring.specs.Checkpoint.{Seen, site_of}
-use Rattle.reach_rules.specs.declared.naming.LookUp.TheVariants.{ByBlock}
-use Rattle.reach_rules.specs.declared.naming.Object.TheVariants.{InBlock}
-use Rattle.reach_rules.specs.declared.naming.TreeKind.{TreeKind}
+use Rattle.reach_rules.specs.Naming.{ByBlock, InBlock, TreeKind}
 use Rattle.reach_rules.specs.Trees.{is_short}
 use Rattle.reach_rules.specs.Features.{HasFeature}
 use Rattle.reach_rules.specs.Faults.{xid_of}

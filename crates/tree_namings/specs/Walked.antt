@@ -19,13 +19,7 @@ use Rattle.ext_ref.specs.Ranges.{ext_tree}
 use Rattle.space_pool.specs.Queues.{queue_tree}
 use Rattle.reach_rules.specs.declared.fault.ReachFault.{ReachFault}
 use Rattle.reach_rules.specs.declared.fault.ReachFault.TheVariants.{Value}
-use Rattle.reach_rules.specs.declared.naming.LookUp.{LookUp}
-use Rattle.reach_rules.specs.declared.naming.LookUp.TheVariants.{ByBlock}
-use Rattle.reach_rules.specs.declared.naming.Object.{Object}
-use Rattle.reach_rules.specs.declared.naming.TreeKind.{TreeKind}
-use Rattle.reach_rules.specs.declared.naming.TreeKind.TheVariants.{MapRecords, MapSnapshots, ExtentRefs, SnapMetadata, FreeQueue, Files}
-use Rattle.reach_rules.specs.declared.naming.Expected.TheVariants.{TreeRoot}
-use Rattle.reach_rules.specs.declared.naming.Naming.{Naming}
+use Rattle.reach_rules.specs.Naming.{LookUp, ByBlock, Object, TreeKind, MapRecords, MapSnapshots, ExtentRefs, SnapMetadata, FreeQueue, Files, TreeRoot, Naming}
 use Rattle.reach_rules.specs.Live.{IsLive}
 use Rattle.reach_rules.specs.Trees.{tree_line, IsRightTree}
 use Rattle.reach_rules.specs.Faults.{xid_of}

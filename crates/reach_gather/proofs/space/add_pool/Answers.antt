@@ -4,15 +4,13 @@ use Rattle.nx_ring.specs.Checkpoint.{Seen}
 use Rattle.space_pool.specs.Queues.{queue_entries, is_queued_in_pool}
 use Rattle.space_pool.specs.declared.entry.Queue.TheVariants.{Pool}
 use Rattle.space_pool.specs.declared.entry.QueueEntry.{QueueEntry}
-use Rattle.reach_rules.specs.declared.naming.LookUp.TheVariants.{ByMapping}
-use Rattle.reach_rules.specs.declared.naming.Namer.{Namer}
-use Rattle.reach_rules.specs.declared.naming.TreeKind.TheVariants.{FreeQueue}
-use Rattle.reach_rules.specs.declared.naming.Expected.TheVariants.{TreeRoot}
-use Rattle.reach_rules.specs.declared.naming.Naming.{Naming}
+use Rattle.reach_rules.specs.Naming.{ByMapping, Namer, FreeQueue, TreeRoot}
 use Rattle.reach_rules.specs.Next.{unless_zero}
 use Rattle.reach_rules.specs.Live.{IsLive}
 use Rattle.tree_namings.specs.Space.{manager_namer}
 use Rattle.reach_gather.specs.Adds.{Adds, AreLive}
+use Rattle.reach_gather.specs.Named.{naming_of}
+use Rattle.reach_gather.specs.declared.naming.Named.{Named}
 use Rattle.reach_gather.proofs.Fields.{adds-zero, adds-some, live-some}
 use Rattle.reach_gather.proofs.Spaced.{all-pooled, none-pooled}
 use Rattle.reach_gather.proofs.space.add_pool.Goals as goal
@@ -30,14 +28,14 @@ returns-clause-clear g c = λ image told.
     let me : Namer = manager_namer seen.nx in
     subst (λ (oid : ℕ). Adds image seen (unless_zero me 208 (TreeRoot (FreeQueue Pool)) ByMapping oid) [] c.args.out.now c.add_pool_queue.new.out) c.pool_root-oid.ensures
     (adds-some image seen me 208 (TreeRoot (FreeQueue Pool)) ByMapping c.pool_root-oid.result [] c.args.out.now c.add_pool_queue.new.out c.if-oid-eq0.false
-    (subst (λ (n : Naming). Adds image seen (n ∷ []) [] c.args.out.now c.add_pool_queue.new.out) c.root-root.ensures (c.in-Ok.ensures.clear image told)))
+    (subst (λ (n : Named). Adds image seen (naming_of n ∷ []) [] c.args.out.now c.add_pool_queue.new.out) c.root-root.ensures (c.in-Ok.ensures.clear image told)))
 
 pub returns-in-Err-clause-present : goal.returns-in-Err-clause-present
 returns-in-Err-clause-present g c = λ image told is live.
     let seen : Seen = c.args.cp.now in
     let me : Namer = manager_namer seen.nx in
     c.in-Err.ensures.present image told
-    (subst (λ (n : Naming). IsLive image seen n) (sym c.root-root.ensures)
+    (subst (λ (n : Named). IsLive image seen (naming_of n)) (sym c.root-root.ensures)
     (live-some image seen me 208 (TreeRoot (FreeQueue Pool)) ByMapping c.pool_root-oid.result c.if-oid-eq0.false
     (subst (λ (oid : ℕ). AreLive image seen (unless_zero me 208 (TreeRoot (FreeQueue Pool)) ByMapping oid)) (sym c.pool_root-oid.ensures) live)))
 
@@ -50,5 +48,5 @@ returns-clause-queued g c = λ image told.
     let manager : List ℕ = c.args.space.now.manager in
     let entries : c.deref.result.now ≡ c.in-Ok.entries.items = c.deref.ensures.value in
     all-pooled image seen manager c.in-Ok.entries.items
-    (c.in-Ok.ensures.entries image told ∙ (ap (λ (n : Naming). queue_entries image seen n.oid) c.root-root.ensures ∙ ap (queue_entries image seen) c.pool_root-oid.ensures))
+    (c.in-Ok.ensures.entries image told ∙ (ap (λ (n : Named). queue_entries image seen n.oid) c.root-root.ensures ∙ ap (queue_entries image seen) c.pool_root-oid.ensures))
     (subst (λ (es : List QueueEntry). list_all (is_queued_in_pool manager) es ≡ true) entries c.in-None.ensures.clear)

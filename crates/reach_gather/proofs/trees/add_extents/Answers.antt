@@ -1,9 +1,7 @@
 use Rattle.std.proofs.Common.{◌≡◌, ◌∙◌, ◌++◌, map, ap, refl, List}
 use Rattle.bt_cursor.specs.declared.step.Step.{Step}
-use Rattle.reach_rules.specs.declared.naming.TreeKind.TheVariants.{ExtentRefs}
-use Rattle.reach_rules.specs.declared.naming.Naming.{Naming}
-use Rattle.reach_rules.specs.declared.naming.LookUp.TheVariants.{ByBlock}
-use Rattle.reach_rules.specs.declared.naming.Object.TheVariants.{InBlock}
+use Rattle.reach_rules.specs.Naming.{ExtentRefs, Naming, ByBlock, InBlock}
+use Rattle.reach_gather.specs.Named.{naming_of, expected_of, look_of}
 use Rattle.reach_gather.specs.Steps.{block_steps, block_owner}
 use Rattle.reach_rules.specs.Owners.{told_from, new_ranges_of}
 use Rattle.reach_gather.proofs.Branches.{tree-adds}
@@ -15,18 +13,18 @@ use Rattle.reach_gather.proofs.trees.add_extents.Goals as goal
 pub returns-in-Err-clause-present : goal.returns-in-Err-clause-present
 returns-in-Err-clause-present g c = λ image told live.
     c.in-Err.ensures.present image told (record {
-      naming = c.args.root;
+      naming = naming_of c.args.root;
       live = live;
-      expected_is = c.requires.kind;
-      how_is = c.requires.how;
+      expected_is = ap expected_of c.requires.kind;
+      how_is = ap look_of c.requires.how;
       oid_is = refl;
     })
 
 pub returns-clause-clear : goal.returns-clause-clear
 returns-clause-clear g c = λ image told.
-    let root : Naming = c.args.root in
-    let how = c.requires.how in
-    let kind = c.requires.kind in
+    let root : Naming = naming_of c.args.root in
+    let how = ap look_of c.requires.how in
+    let kind = ap expected_of c.requires.kind in
     let steps : c.deref.result.now ≡ c.in-Ok.walked.steps.items = c.deref.ensures.value in
     let ranges : c.as_slice.result.now ≡ c.in-Ok.walked.kept.ranges.items = c.as_slice.ensures.value in
     let walked = c.in-Ok.ensures.clear image told in
@@ -36,11 +34,11 @@ returns-clause-clear g c = λ image told.
     (told-after c.args.out.now.owners c.note_block.new.self.owners c.tell_all.new.out.owners (block_owner root) (told_from root 0 (map range_of_new c.as_slice.result.now)) (told_from root 0 (new_ranges_of image c.args.cp.now root.oid)) c.in_ok-note_block.ensures.owners c.in_ok-tell_all.ensures.owners
     (ap (told_from root 0) (ap (map range_of_new) ranges ∙ new-ranges image c.args.cp.now root.oid c.in-Ok.walked.kept.ranges.items c.requires.some walked.held)))
     (c.tell_all.ensures.pool_owners ∙ c.note_block.ensures.pool_owners)
-    (c.in_ok-note_blocks.ensures.namings ∙ ap (λ (xs : List Step). c.tell_all.new.out.namings ++ block_steps ExtentRefs xs) steps)
-    (c.in_ok-note_blocks.ensures.owners ∙ ap (λ (xs : List Step). c.tell_all.new.out.owners ++ map block_owner (block_steps ExtentRefs xs)) steps)
+    (c.in_ok-note_blocks.ensures.namings ∙ ap (λ (xs : List Step). c.tell_all.new.out.namings ++ block_steps ExtentRefs root.oid xs) steps)
+    (c.in_ok-note_blocks.ensures.owners ∙ ap (λ (xs : List Step). c.tell_all.new.out.owners ++ map block_owner (block_steps ExtentRefs root.oid xs)) steps)
     c.note_blocks.ensures.pool_owners
 
 pub returns-clause-reads : goal.returns-clause-reads
 returns-clause-reads g c = λ image told.
-    tree-read (step_naming InBlock ExtentRefs ByBlock) c.args.root c.deref.result.now c.in-Ok.walked.steps.items c.args.out.now.namings c.tell_all.new.out.namings c.note_blocks.new.out.namings (g.S.BlockSource.reads c.args.src.now) (g.S.BlockSource.reads c.walk_extents.new.src)
+    tree-read (step_naming InBlock ExtentRefs ByBlock c.args.root.oid) (naming_of c.args.root) c.deref.result.now c.in-Ok.walked.steps.items c.args.out.now.namings c.tell_all.new.out.namings c.note_blocks.new.out.namings (g.S.BlockSource.reads c.args.src.now) (g.S.BlockSource.reads c.walk_extents.new.src)
     (c.tell_all.ensures.namings ∙ c.in_ok-note_block.ensures.namings) c.in_ok-note_blocks.ensures.namings c.deref.ensures.value (c.in-Ok.ensures.reads image told)

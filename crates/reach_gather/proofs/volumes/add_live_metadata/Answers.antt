@@ -1,16 +1,15 @@
 use Rattle.std.proofs.Common.{[]}
-use Rattle.reach_rules.specs.declared.naming.LookUp.TheVariants.{ByBlock}
-use Rattle.reach_rules.specs.declared.naming.TreeKind.TheVariants.{SnapMetadata}
-use Rattle.reach_rules.specs.declared.naming.Expected.TheVariants.{TreeRoot}
+use Rattle.reach_rules.specs.Naming.{ByBlock, SnapMetadata, TreeRoot}
+use Rattle.reach_gather.specs.Named.{namer_of}
 use Rattle.reach_gather.proofs.Fields.{adds-zero, adds-some, live-some}
 use Rattle.reach_gather.proofs.volumes.add_live_metadata.Goals as goal
 
 pub returns-then-oid-eq0-clause-clear : goal.returns-then-oid-eq0-clause-clear
-returns-then-oid-eq0-clause-clear g c = λ image told. adds-zero image c.args.cp.now c.args.namer 152 (TreeRoot SnapMetadata) ByBlock c.args.oid c.args.out.now c.if-oid-eq0.true
+returns-then-oid-eq0-clause-clear g c = λ image told. adds-zero image c.args.cp.now (namer_of c.args.by) 152 (TreeRoot SnapMetadata) ByBlock c.args.oid c.args.out.now c.if-oid-eq0.true
 
 pub returns-in-Ok-clause-clear : goal.returns-in-Ok-clause-clear
-returns-in-Ok-clause-clear g c = λ image told. adds-some image c.args.cp.now c.args.namer 152 (TreeRoot SnapMetadata) ByBlock c.args.oid [] c.args.out.now c.add_metadata.new.out c.if-oid-eq0.false (c.in-Ok.ensures.clear image told)
+returns-in-Ok-clause-clear g c = λ image told. adds-some image c.args.cp.now (namer_of c.args.by) 152 (TreeRoot SnapMetadata) ByBlock c.args.oid [] c.args.out.now c.add_metadata.new.out c.if-oid-eq0.false (c.in-Ok.ensures.clear image told)
 
 pub returns-in-Err-clause-present : goal.returns-in-Err-clause-present
 returns-in-Err-clause-present g c = λ image told live.
-    c.in-Err.ensures.present image told (live-some image c.args.cp.now c.args.namer 152 (TreeRoot SnapMetadata) ByBlock c.args.oid c.if-oid-eq0.false live)
+    c.in-Err.ensures.present image told (live-some image c.args.cp.now (namer_of c.args.by) 152 (TreeRoot SnapMetadata) ByBlock c.args.oid c.if-oid-eq0.false live)

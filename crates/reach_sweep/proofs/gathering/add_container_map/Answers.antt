@@ -1,11 +1,7 @@
 use Rattle.std.proofs.Common.{◌≡◌, ◌∙◌, ℕ, [], ◌∷◌, ap, sym, subst}
 use Rattle.nx_block.specs.Super.{omap_oid_of}
 use Rattle.nx_ring.specs.Checkpoint.{Seen}
-use Rattle.reach_rules.specs.declared.naming.LookUp.TheVariants.{ByBlock}
-use Rattle.reach_rules.specs.declared.naming.Object.TheVariants.{Newest}
-use Rattle.reach_rules.specs.declared.naming.Namer.TheVariants.{Whole}
-use Rattle.reach_rules.specs.declared.naming.Expected.TheVariants.{ContainerMap}
-use Rattle.reach_rules.specs.Naming.{naming}
+use Rattle.reach_rules.specs.Naming.{ByBlock, Newest, Whole, ContainerMap, naming}
 use Rattle.reach_rules.specs.Live.{IsLive}
 use Rattle.tree_namings.specs.Volumes.Parts.{IsMapPart}
 use Rattle.reach_gather.specs.Adds.{Adds}

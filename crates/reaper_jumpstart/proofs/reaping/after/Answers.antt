@@ -1,7 +1,5 @@
 use Rattle.std.proofs.Common.{sym, ◌∙◌, ap, subst}
-use Rattle.reach_rules.specs.declared.naming.LookUp.TheVariants.{ByMapping}
-use Rattle.reach_rules.specs.declared.naming.Expected.TheVariants.{ReapList}
-use Rattle.reach_rules.specs.Naming.{naming}
+use Rattle.reach_rules.specs.Naming.{ByMapping, ReapList, naming}
 use Rattle.nx_block.specs.Reaper.{reap_next_of}
 use Rattle.reaper_jumpstart.specs.Reaped.{IsLink}
 use Rattle.reaper_jumpstart.proofs.Chained.{list-present, list-free, list-busy, list-unplain, list-link, count-some, count-none}

@@ -1,6 +1,5 @@
 use Rattle.std.proofs.Common.{subst}
-use Rattle.reach_rules.specs.declared.naming.LookUp.TheVariants.{ByMapping}
-use Rattle.reach_rules.specs.Naming.{naming}
+use Rattle.reach_rules.specs.Naming.{ByMapping, naming}
 use Rattle.tree_namings.specs.Namings.{IsPlainNaming}
 use Rattle.reaper_jumpstart.specs.Reaped.{expected_at}
 use Rattle.reaper_jumpstart.proofs.reaping.further.Goals as goal

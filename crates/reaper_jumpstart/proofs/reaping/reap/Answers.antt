@@ -9,8 +9,7 @@ use Rattle.apfs_model.proofs.Searches.{has-in}
 use Rattle.obj_base.specs.declared.stop.Within.TheVariants.{Ephemeral}
 use Rattle.nx_ring.proofs.Apart.{has_joined}
 use Rattle.nx_ring.specs.Checkpoint.{eph_ids}
-use Rattle.reach_rules.specs.declared.naming.LookUp.TheVariants.{ByMapping}
-use Rattle.reach_rules.specs.Naming.{naming}
+use Rattle.reach_rules.specs.Naming.{ByMapping, naming}
 use Rattle.reach_rules.specs.Live.{IsLive}
 use Rattle.reach_rules.specs.Faults.{IsNamedTwice}
 use Rattle.tree_namings.specs.Namings.{IsPlainNaming}
