@@ -72,7 +72,7 @@ fn the_root_names_two_leaves(rt: HostRuntime) -> Result<(), Fail> {
     assert_eq!(rt; walked.steps.len(), 2);
     for (at, child) in [1031u64, 1032].into_iter().enumerate() {
         let step = Step {
-            node: None,
+            node: 1028,
             level: 1,
             at: at as u64,
             child,
