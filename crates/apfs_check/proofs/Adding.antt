@@ -17,7 +17,7 @@ use Rattle.ext_ref.specs.declared.range.NewRange.{NewRange}
 use Rattle.reach_sweep.specs.Account.{AreLoadedOf}
 use Rattle.reach_sweep.specs.Views.{head_of}
 use Rattle.tree_rules.specs.declared.notes.Note.{Note}
-use Rattle.tree_rules.specs.Notes as tree_notes
+use Rattle.tree_rules.specs.Tallies as tallies
 use Rattle.view_rules.specs.Rules.{view_facts, HasTreeRules}
 use Rattle.view_rules.specs.declared.profile.Profile.{Profile}
 use Rattle.view_rules.specs.declared.profile.Profile.TheVariants.{Plain, Strict}
@@ -134,7 +134,7 @@ one-volume profile image seen volume a b c d same p e q =
     sum-one n = omega arith
 
 -- ---- one view
-hashes-of : (profile : Profile) (image : List ℕ) (seen : Seen) (head : VolHead) (view : View) → filter tests.is_hash_note (tree_notes.notes_of profile view (view_facts image (site_of seen) (volume_of image seen head) view)) ≡ view_hashes profile image seen head view
+hashes-of : (profile : Profile) (image : List ℕ) (seen : Seen) (head : VolHead) (view : View) → filter tests.is_hash_note (tallies.notes_of profile view (view_facts image (site_of seen) (volume_of image seen head) view)) ≡ view_hashes profile image seen head view
 hashes-of Plain image seen head view = view-hash image seen head view
 hashes-of Strict image seen head view = hash-kind Strict view (view_facts image (site_of seen) (volume_of image seen head) view)
 
@@ -147,7 +147,7 @@ pub record PutsView (records : ℕ) (noted : List Note) (old new : Held) : Type 
   pub unreached_same : new.unreached ≡ old.unreached
   pub counts_same : new.counts ≡ old.counts
 
-pub one-view : (profile : Profile) (image : List ℕ) (seen : Seen) (head : VolHead) (view : View) (records : ℕ) (noted : List Note) (a b : Held) → HasViewRules profile image seen head view → records ≡ given (record_count image seen head view) → noted ≡ tree_notes.notes_of profile view (view_facts image (site_of seen) (volume_of image seen head) view) →
+pub one-view : (profile : Profile) (image : List ℕ) (seen : Seen) (head : VolHead) (view : View) (records : ℕ) (noted : List Note) (a b : Held) → HasViewRules profile image seen head view → records ≡ given (record_count image seen head view) → noted ≡ tallies.notes_of profile view (view_facts image (site_of seen) (volume_of image seen head) view) →
     PutsView records noted a b → AddsViews profile image seen head (view ∷ []) a b
 one-view profile image seen head view records noted a b rules counted told put = record {
   right = λ other one. in-single other view (HasViewRules profile image seen head) rules one;
@@ -168,14 +168,14 @@ one-view profile image seen head view records noted a b rules counted told put =
 
 -- a view of a volume that was loaded, by what its check tells
 pub view-added : (profile : Profile) (image : List ℕ) (seen : Seen) (site : Site) (volume : Loaded) (view : View) (ranges : List NewRange) (records : ℕ) (noted : List Note) (a b : Held) → IsReady image seen volume → site ≡ site_of seen → ranges ≡ volume_ranges image (site_of seen) volume.head →
-    HasTreeRules profile image site volume view ranges → records ≡ given (length (view_flat image site volume view)) → noted ≡ tree_notes.notes_of profile view (view_facts image site volume view) → PutsView records noted a b → AddsViews profile image seen volume.head (view ∷ []) a b
+    HasTreeRules profile image site volume view ranges → records ≡ given (length (view_flat image site volume view)) → noted ≡ tallies.notes_of profile view (view_facts image site volume view) → PutsView records noted a b → AddsViews profile image seen volume.head (view ∷ []) a b
 view-added profile image seen site volume view ranges records noted a b ready here same rules counted told put =
     let head = volume.head in
     let has : HasViewRules profile image seen head view = subst (λ (v : Loaded). HasTreeRules profile image (site_of seen) v view (volume_ranges image (site_of seen) head)) ready.loaded.same
     (subst (λ (s : Site). HasTreeRules profile image s volume view (volume_ranges image (site_of seen) head)) here (subst (λ rs. HasTreeRules profile image site volume view rs) same rules)) in
     let counts : records ≡ given (record_count image seen head view) = subst (λ (v : Loaded). records ≡ given (length (view_flat image (site_of seen) v view))) ready.loaded.same (subst (λ (s : Site). records ≡ given (length (view_flat image s volume view))) here counted) in
-    let tells : noted ≡ tree_notes.notes_of profile view (view_facts image (site_of seen) (volume_of image seen head) view) =
-    subst (λ (v : Loaded). noted ≡ tree_notes.notes_of profile view (view_facts image (site_of seen) v view)) ready.loaded.same (subst (λ (s : Site). noted ≡ tree_notes.notes_of profile view (view_facts image s volume view)) here told) in
+    let tells : noted ≡ tallies.notes_of profile view (view_facts image (site_of seen) (volume_of image seen head) view) =
+    subst (λ (v : Loaded). noted ≡ tallies.notes_of profile view (view_facts image (site_of seen) v view)) ready.loaded.same (subst (λ (s : Site). noted ≡ tallies.notes_of profile view (view_facts image s volume view)) here told) in
     one-view profile image seen head view records noted a b has counts tells put
 
 -- a view that has the tree of one that passed, by the number of its records

@@ -28,7 +28,8 @@ use Rattle.view_rules.specs.Facts.{Facts, facts_in}
 use Rattle.view_rules.specs.Rules.{view_facts, HasRecords, HasFactRules, HasTreeRules}
 use Rattle.view_rules.specs.declared.profile.Profile.{Profile}
 use Rattle.view_rules.specs.declared.profile.Profile.TheVariants.{Plain, Strict}
-use Rattle.tree_rules.specs.Notes.{hash_note, hash_notes, unnamed_note, unnamed_notes, notes_of}
+use Rattle.tree_rules.specs.Notes.{hash_note, hash_notes, unnamed_note, unnamed_notes}
+use Rattle.tree_rules.specs.Tallies.{notes_of}
 use Rattle.tree_rules.specs.declared.notes.Note.{Note}
 use Rattle.apfs_check.specs.Again.{HaveOneTree, IsPassed}
 use Rattle.apfs_check.specs.Volumes.{extent_of, view_extents}

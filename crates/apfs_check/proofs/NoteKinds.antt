@@ -5,7 +5,8 @@ use Rattle.vol_view.specs.declared.head.VolHead.{VolHead}
 use Rattle.vol_view.specs.declared.volume.View.{View}
 use Rattle.view_rules.specs.Facts.{Facts}
 use Rattle.view_rules.specs.Names.{has_other_name_hash}
-use Rattle.tree_rules.specs.Notes.{hash_note, hash_notes, is_unnamed, unnamed_note, unnamed_notes, notes_of}
+use Rattle.tree_rules.specs.Notes.{hash_note, hash_notes, is_unnamed, unnamed_note, unnamed_notes}
+use Rattle.tree_rules.specs.Tallies.{notes_of}
 use Rattle.view_rules.specs.Rules.{view_facts}
 use Rattle.tree_rules.specs.declared.notes.Note.{Note}
 use Rattle.view_rules.specs.declared.profile.Profile.{Profile}

@@ -14,7 +14,7 @@ use Rattle.bt_cursor.specs.declared.fault.WalkFault.TheVariants as walks
 use Rattle.bt_cursor.specs.Tree.{Tree, block_named}
 use Rattle.bt_cursor.specs.Faults.{HasGap}
 use Rattle.nx_ring.specs.Checkpoint.{Seen, site_of}
-use Rattle.omap_map.specs.Maps.{named_in}
+use Rattle.omap_map.specs.Loading.{named_in}
 use Rattle.fs_name.specs.Normal.{are_hashed}
 use Rattle.vol_view.specs.Volumes.{map_block_of, loaded_of}
 use Rattle.vol_view.specs.Views.{view_named, hashed_tree, plain_tree, FactBy, IsViewFault, IsViewFeature}

@@ -26,10 +26,11 @@ use Rattle.apfs_cli.specs.Handed.{looked}
 use Rattle.apfs_cli.specs.MeantView.{IsMeantView}
 use Rattle.apfs_cli.specs.OnView.{Wanted}
 use Rattle.apfs_cli.specs.Reached.{TellsViewWay, IsWhileLooking}
-use Rattle.apfs_cli.specs.Says.{HasEnded}
+use Rattle.apfs_cli.specs.Ended.{HasEnded}
 use Rattle.apfs_cli.specs.Seen.{stopped_on}
 use Rattle.apfs_cli.specs.Words.{Asked}
-use Rattle.apfs_cli.specs.Written.{Sunk, IsPut}
+use Rattle.apfs_cli.specs.Written.{Sunk}
+use Rattle.apfs_cli.specs.Putting.{IsPut}
 use Rattle.apfs_cli.proofs.OverView.{IsOverView, StopGiven, view_way_ended, view_stop_ended, view_put_ended, given_stop}
 use Rattle.apfs_cli.proofs.Puts.{wrote_nothing, rose_later}
 

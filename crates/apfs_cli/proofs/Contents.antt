@@ -21,7 +21,8 @@ use Rattle.path_read.specs.declared.stop.WriteStop.{WriteStop}
 use Rattle.path_read.specs.declared.stop.WriteStop.TheVariants as writes
 use Rattle.apfs_cli.specs.MeantView.{IsMeantView}
 use Rattle.apfs_cli.specs.OnView.{Wanted}
-use Rattle.apfs_cli.specs.Says.{IsPart, IsReadPart, IsTextIf, HasEnded}
+use Rattle.apfs_cli.specs.Says.{IsPart, IsReadPart, IsTextIf}
+use Rattle.apfs_cli.specs.Ended.{HasEnded}
 use Rattle.apfs_cli.specs.Seen.{stopped_writing}
 use Rattle.apfs_cli.specs.Words.{Asked}
 use Rattle.apfs_cli.specs.Written.{Sunk}

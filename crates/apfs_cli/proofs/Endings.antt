@@ -8,13 +8,15 @@ use Rattle.apfs_check.specs.declared.fault.Fault.{Fault}
 use Rattle.path_walk.specs.declared.answer.Answer.{Answer}
 use Rattle.apfs_cli.proofs.Puts.{wrote_nothing, part_taken}
 use Rattle.apfs_cli.specs.Texts.{IsPrefix}
-use Rattle.apfs_cli.specs.Written.{Sunk, Failed, IsPut}
+use Rattle.apfs_cli.specs.Written.{Sunk, Failed}
+use Rattle.apfs_cli.specs.Putting.{IsPut}
 use Rattle.apfs_cli.specs.declared.stopped.Stopped.{Stopped}
 use Rattle.apfs_cli.specs.declared.stopped.Stopped.TheVariants as stops
 use Rattle.apfs_cli.specs.ByCommand.{lead_of, IsText, IsFault, IsNamed, IsFeature, IsAnswer, HasResult}
 use Rattle.apfs_cli.specs.Formed.{IsFormed}
 use Rattle.apfs_cli.specs.Handed.{Looked, LookFailed, OfImage}
-use Rattle.apfs_cli.specs.Says.{IsPart, IsReadPart, BeginsText, IsTextIf, StopsAt, AnswersAt, SaysOn, HasEnded}
+use Rattle.apfs_cli.specs.Says.{IsPart, IsReadPart, BeginsText, IsTextIf, StopsAt, AnswersAt, SaysOn}
+use Rattle.apfs_cli.specs.Ended.{HasEnded}
 use Rattle.apfs_cli.specs.Outcome.{Outcome, Written, Faulty, WrongWords, ReadFailed, WriteFailed, OutOfMemory, Refused, Answered, NoImage, NoFolder}
 use Rattle.apfs_cli.specs.Seen.{outcome_of, stopped_at}
 use Rattle.apfs_cli.specs.Words.{Asked}

@@ -27,8 +27,8 @@ use Rattle.view_tree.specs.Tree.{tree}
 use Rattle.path_walk.specs.declared.answer.Answer.{Answer}
 use Rattle.path_walk.specs.declared.answer.Answer.TheVariants.{NoVolume, NoSnapshot}
 use Rattle.blk_folder.specs.Items.{Item}
-use Rattle.tree_export.specs.Exported.{Wanted, wanted_of, put_all, items_in, exported, skipped}
-use Rattle.tree_export.specs.Faults.{IsFailure}
+use Rattle.tree_export.specs.Exported.{Wanted, put_all, items_in, exported, skipped}
+use Rattle.tree_export.specs.Stopping.{wanted_of, IsFailure}
 use Rattle.tree_export.specs.Filled.{FilledWhole, FilledFront}
 use Rattle.tree_export.specs.Texts.{skipped_text, export_text}
 use Rattle.tree_export.specs.declared.told.Item.{Item as Asked}
@@ -39,16 +39,19 @@ use Rattle.apfs_cli.specs.declared.stopped.Stopped.{Stopped}
 use Rattle.apfs_cli.specs.declared.stopped.Stopped.TheVariants as stops
 use Rattle.apfs_cli.specs.ByCommand.{HasResult}
 use Rattle.apfs_cli.specs.Commands.Export as export
+use Rattle.apfs_cli.specs.Commands.ExportParts as export_parts
 use Rattle.apfs_cli.specs.Formed.{IsFormed}
 use Rattle.apfs_cli.specs.Handed.{Looked, LookFailed, OfImage, Stored, StoreFailed}
 use Rattle.apfs_cli.specs.Meant.{HasNoVolume, IsMeantFault}
 use Rattle.apfs_cli.specs.MeantView.{IsMeantView, HasNoSnapshot}
 use Rattle.apfs_cli.specs.OnView.{ByAnswer, IsWantedOf, IsAnswerOn}
 use Rattle.apfs_cli.specs.Reached.{IsClear, IsFree, IsWhileLooking, TellsViewWay}
-use Rattle.apfs_cli.specs.Says.{AreItemsIf, AreItemsBy, AnswersAt, Fills, HasEnded, HasEndedInto, IsTextIf}
+use Rattle.apfs_cli.specs.Says.{AreItemsIf, AreItemsBy, AnswersAt, Fills, IsTextIf}
+use Rattle.apfs_cli.specs.Ended.{HasEnded, HasEndedInto}
 use Rattle.apfs_cli.specs.Seen.{stopped_exporting, stopped_on}
 use Rattle.apfs_cli.specs.Words.{Export}
-use Rattle.apfs_cli.specs.Written.{Sunk, IsPut}
+use Rattle.apfs_cli.specs.Written.{Sunk}
+use Rattle.apfs_cli.specs.Putting.{IsPut}
 use Rattle.apfs_cli.proofs.Browsable.{AnswersPaths, well_clear, well_lawful, well_wanted}
 use Rattle.apfs_cli.proofs.ByAnswers.{which_answer}
 use Rattle.apfs_cli.proofs.Endings.{nothing_part, nothing_read, part_of_text, read_ended, no_memory_ended}
@@ -157,7 +160,7 @@ free_stop view wanted layer.ReadFault given none = tt
 free_stop view wanted layer.NoMemory given none = tt
 
 -- where it is one there are no items
-pub no_root_items : {T : Type 0} (view : T → List (List ℕ × Target)) (facts : Facts) (stop : Stop PathStop) → IsGiven view (tree facts root_name) (Err stop) → export.IsOfNoRoot stop → [] ≡ items_in facts
+pub no_root_items : {T : Type 0} (view : T → List (List ℕ × Target)) (facts : Facts) (stop : Stop PathStop) → IsGiven view (tree facts root_name) (Err stop) → export_parts.IsOfNoRoot stop → [] ≡ items_in facts
 no_root_items view facts (layer.Found (paths.Answer answer)) given root = no_items facts answer given
 no_root_items view facts (layer.Found (paths.Fault fault)) given root = absurd root
 no_root_items view facts (layer.Unsupported feature block) given root = absurd root

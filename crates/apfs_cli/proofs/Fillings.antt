@@ -10,7 +10,8 @@ use Rattle.apfs_cli.specs.declared.stopped.Stopped.TheVariants as stops
 use Rattle.apfs_cli.specs.Handed.{Looked, LookFailed, Stored, stored}
 use Rattle.apfs_cli.specs.Outcome.{Outcome, Written, Faulty, WrongWords, ReadFailed, WriteFailed, OutOfMemory, Refused, Answered, NoImage, NoFolder}
 use Rattle.apfs_cli.specs.ByCommand.{lead_of}
-use Rattle.apfs_cli.specs.Says.{SaysOn, HasEnded, HasEndedInto, Fills, FillsBy, AreItemsIf, AreItemsBy, IsSame, PutFailed}
+use Rattle.apfs_cli.specs.Says.{SaysOn, Fills, FillsBy, AreItemsIf, AreItemsBy, IsSame, PutFailed}
+use Rattle.apfs_cli.specs.Ended.{HasEnded, HasEndedInto}
 use Rattle.apfs_cli.specs.Seen.{outcome_of}
 use Rattle.apfs_cli.specs.Words.{Asked}
 use Rattle.apfs_cli.specs.Written.{Sunk}

@@ -12,12 +12,13 @@ use Rattle.apfs_cli.specs.Commands.Gen as gen
 use Rattle.apfs_cli.specs.Handed.{made}
 use Rattle.apfs_cli.specs.Outcome.{Outcome, Written, Faulty, WrongWords, ReadFailed, WriteFailed, OutOfMemory, Refused, Answered, NoImage, NoFolder, status_of, text_of}
 use Rattle.apfs_cli.specs.ReportText.{report_text}
-use Rattle.apfs_cli.specs.Rows.{IsOfMade}
-use Rattle.apfs_cli.specs.Says.{BeginsText, BeginsForm, IsPart, SaysOn, HasEnded, HasMade, CameOver}
+use Rattle.apfs_cli.specs.Ended.{IsOfMade, HasEnded, HasMade, CameOver}
+use Rattle.apfs_cli.specs.Says.{BeginsText, BeginsForm, IsPart, SaysOn}
 use Rattle.apfs_cli.specs.Seen.{outcome_of}
 use Rattle.apfs_cli.specs.Texts.{IsPrefix}
 use Rattle.apfs_cli.specs.Words.{Check, Gen}
-use Rattle.apfs_cli.specs.Written.{Sunk, Failed, IsPut, IsClosed, Ends}
+use Rattle.apfs_cli.specs.Written.{Sunk, Failed, Ends}
+use Rattle.apfs_cli.specs.Putting.{IsPut, IsClosed}
 use Rattle.apfs_cli.proofs.ByAnswers.{for_answer}
 use Rattle.apfs_cli.proofs.Puts.{wrote_more, rose_later, part_taken}
 use Rattle.apfs_cli.proofs.Statuses.{part_on}

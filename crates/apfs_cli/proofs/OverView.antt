@@ -30,10 +30,12 @@ use Rattle.apfs_cli.specs.Meant.{HasVolume, HasNoVolume}
 use Rattle.apfs_cli.specs.MeantView.{IsMeantView, HasNoSnapshot, IsLawfulView}
 use Rattle.apfs_cli.specs.OnView.{ByAnswer, Wanted, IsWantedOf, IsTextOn, IsAnswerOn, IsFaultOn, IsFeatureOn}
 use Rattle.apfs_cli.specs.Reached.{TellsWay, TellsViewWay, IsWhileLooking}
-use Rattle.apfs_cli.specs.Says.{StopsAt, IsOnlyAnswer, AnswersAt, HasEnded}
+use Rattle.apfs_cli.specs.Says.{StopsAt, IsOnlyAnswer, AnswersAt}
+use Rattle.apfs_cli.specs.Ended.{HasEnded}
 use Rattle.apfs_cli.specs.Seen.{answered_of, stopped_on}
 use Rattle.apfs_cli.specs.Words.{Asked}
-use Rattle.apfs_cli.specs.Written.{Sunk, IsPut}
+use Rattle.apfs_cli.specs.Written.{Sunk}
+use Rattle.apfs_cli.specs.Putting.{IsPut}
 use Rattle.apfs_cli.proofs.ByAnswers.{IsOfPath, which_answer, answered_same, answered_third, of_path}
 use Rattle.apfs_cli.proofs.Endings.{put_ended_if, nothing_part, nothing_read, read_ended, no_memory_ended}
 use Rattle.apfs_cli.proofs.OverVolume.{IsOverVolume, way_ended, no_volume_answers}

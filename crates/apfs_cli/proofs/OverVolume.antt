@@ -13,7 +13,8 @@ use Rattle.apfs_cli.specs.ByCommand.{lead_of, IsText, IsFault, IsNamed, IsFeatur
 use Rattle.apfs_cli.specs.Handed.{Looked, LookFailed, OfImage}
 use Rattle.apfs_cli.specs.Meant.{HasVolume, HasNoVolume, IsMeantFault, IsMeantFeature}
 use Rattle.apfs_cli.specs.Reached.{IsClear, OfContainer, TellsWay, IsWhileLooking}
-use Rattle.apfs_cli.specs.Says.{StopsAt, AnswersAt, HasEnded}
+use Rattle.apfs_cli.specs.Says.{StopsAt, AnswersAt}
+use Rattle.apfs_cli.specs.Ended.{HasEnded}
 use Rattle.apfs_cli.specs.Words.{Asked, Snapshots}
 use Rattle.apfs_cli.proofs.Endings.{read_ended, no_memory_ended}
 use Rattle.apfs_cli.proofs.Puts.{wrote_nothing}

@@ -8,7 +8,8 @@ use Rattle.apfs_model.specs.Sink.{Wrote, WrotePart}
 use Rattle.apfs_cli.specs.declared.stopped.Stopped.{Stopped}
 use Rattle.apfs_cli.specs.declared.stopped.Stopped.TheVariants.{Faulty, WrongWords, ReadFailed, WriteFailed, OutOfMemory, Refused, Answered, NoImage, NoFolder}
 use Rattle.apfs_cli.specs.Texts.{IsPrefix}
-use Rattle.apfs_cli.specs.Written.{Sunk, CutsText, IsPut, Passes}
+use Rattle.apfs_cli.specs.Written.{Sunk}
+use Rattle.apfs_cli.specs.Putting.{CutsText, IsPut, Passes}
 
 pub wrote_nothing : (contents : Option (List ℕ)) → Wrote contents contents []
 wrote_nothing contents held told = told ∙ ap (λ (l : List ℕ). Some l) (sym (append-nil held))

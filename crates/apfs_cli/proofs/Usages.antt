@@ -23,7 +23,8 @@ use Rattle.apfs_cli.specs.Commands.Usage.{usage_text}
 use Rattle.apfs_cli.specs.Handed.{Looked, LookFailed, OfImage}
 use Rattle.apfs_cli.specs.Meant.{IsMeantVolume, HasNoVolume, IsMeantFault}
 use Rattle.apfs_cli.specs.Reached.{IsClear, TellsWay, IsWhileLooking}
-use Rattle.apfs_cli.specs.Says.{AnswersAt, HasEnded}
+use Rattle.apfs_cli.specs.Says.{AnswersAt}
+use Rattle.apfs_cli.specs.Ended.{HasEnded}
 use Rattle.apfs_cli.specs.Seen.{stopped_counting}
 use Rattle.apfs_cli.specs.Words.{Usage}
 use Rattle.apfs_cli.proofs.Browsable.{meant_own, well_clear, well_views}

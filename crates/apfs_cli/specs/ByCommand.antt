@@ -162,14 +162,6 @@ checks_of (Xattr checks target name) = checks
 checks_of (Export target) = First Plain
 checks_of command = Quick
 
--- a command without a check before it; `usage` and `export` aren't there without one
-abbrev pub quick : Asked → Asked
-quick (Ls checks target) = Ls Quick target
-quick (Tree checks target) = Tree Quick target
-quick (Cat checks target) = Cat Quick target
-quick (Xattr checks target name) = Xattr Quick target name
-quick command = command
-
 -- the profile of a check before a command, where there is one
 abbrev pub profile_in : Checks → Option Profile
 profile_in Quick = None

@@ -7,6 +7,7 @@ pub mod Check
 pub mod Snapshots
 pub mod Usage
 pub mod Export
+pub mod ExportParts
 pub mod Ls
 pub mod Tree
 pub mod Cat

@@ -1,4 +1,5 @@
 pub mod Words
+pub mod Lent
 pub mod Cache
 pub mod Texts
 pub mod Names
@@ -11,14 +12,17 @@ pub mod ReportText
 pub mod Commands
 pub mod First
 pub mod ByCommand
+pub mod Unchecked
 pub mod Formed
 pub mod Handed
 pub mod Outcome
 pub mod Written
+pub mod Putting
 pub mod Seen
 pub mod Reached
 pub mod Says
 pub mod Rows
+pub mod Ended
 pub use Rattle.apfs_model.specs.Counts
 pub use Rattle.apfs_model.specs.Source
 pub use Rattle.apfs_model.specs.Sink

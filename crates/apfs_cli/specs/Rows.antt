@@ -194,10 +194,6 @@ pub record IsUndisturbed (asked : Option Line) (image : Option Looked) (folder :
 abbrev pub IsCompleted : ℕ → Type 0
 IsCompleted result = (result ≡ 0) ⊎ ((result ≡ 7) ⊎ ((result ≡ 1) ⊎ ((result ≡ 6) ⊎ (result ≡ 5))))
 
--- the statuses with which an image that was made may end
-abbrev pub IsOfMade : ℕ → Type 0
-IsOfMade result = (result ≡ 0) ⊎ ((result ≡ 1) ⊎ ((result ≡ 4) ⊎ ((result ≡ 5) ⊎ (result ≡ 6))))
-
 -- a new container was written; or a put failed or memory ran out, and a part of it was
 abbrev pub IsNewOrFree : Spec → ℕ → Sunk → Type 0
 IsNewOrFree spec result out = ((result ≡ 0) × Wrote out.old out.new (fresh spec)) ⊎ (((result ≡ 4) ⊎ (result ≡ 5)) × WrotePart out.old out.new (fresh spec))

@@ -1,5 +1,5 @@
 -- When each outcome may be: by the words first, then by whether what the command takes was handed in, then by the table of a disk's partitions where one is asked for, then by the command and the bytes of its image.
-use Rattle.std.specs.Prelude.{◌≡◌, ◌⊎◌, ℕ, Bool, true, false, List, [], Option, Some, None, Result, Ok, Err}
+use Rattle.std.specs.Prelude.{◌≡◌, ◌⊎◌, ℕ, Bool, true, false, List, [], Option, Some, None, Ok}
 use Rattle.blk_source.specs.declared.source.Opened.{Opened}
 use Rattle.blk_source.specs.declared.source.Opened.TheVariants.{Absent, Image}
 use Rattle.blk_folder.specs.Items.{Item, IsFront}
@@ -10,14 +10,11 @@ use Rattle.path_walk.specs.declared.answer.Answer.{Answer}
 use Rattle.tree_export.specs.Safe.{AreSafe}
 use Rattle.apfs_cli.specs.OnView.{ByAnswer}
 use Rattle.apfs_cli.specs.Texts.{IsPrefix}
-use Rattle.apfs_model.specs.Sink.{Wrote}
 use Rattle.apfs_cli.specs.Written.{Sunk, Failed, Ends}
-use Rattle.apfs_cli.specs.declared.stopped.Stopped.{Stopped}
 use Rattle.apfs_cli.specs.declared.stopped.Stopped.TheVariants as stops
-use Rattle.apfs_cli.specs.Seen.{outcome_of}
 use Rattle.apfs_cli.specs.Words.{Asked, Line}
 use Rattle.apfs_cli.specs.Handed.{Looked, LookFailed, OfImage, part_looked, made, Stored, StoreFailed}
-use Rattle.apfs_cli.specs.Outcome.{Outcome, text_of, Written, Faulty, WrongWords, ReadFailed, WriteFailed, OutOfMemory, Refused, Answered, NoImage, NoFolder}
+use Rattle.apfs_cli.specs.Outcome.{Outcome, Written, Faulty, WrongWords, ReadFailed, WriteFailed, OutOfMemory, Refused, Answered, NoImage, NoFolder}
 use Rattle.apfs_cli.specs.ByCommand.{From, HandedIn, Made, Nowhere, from_of, takes_folder, streams, lead_of, IsText, IsNamed, IsFeature, IsAnswer, AreItems, RestsOn, HasResult}
 use Rattle.apfs_cli.specs.Formed.{IsFormed}
 use Rattle.apfs_cli.specs.declared.named.Named.{Named}
@@ -78,22 +75,7 @@ SaysOn command source failed (Refused lead feature block) = (lead ≡ lead_of co
 SaysOn command source failed (Answered lead answer) = (lead ≡ lead_of command) × OfImage source (λ image. AnswersAt command image answer)
 SaysOn command source failed o = ⊥
 
--- a command has come to an outcome over a source, and has written its text
-abbrev pub HasEnded : Asked → Looked → Result Unit Stopped → Sunk → Type 0
-HasEnded command source ended out =
-    (part : List ℕ) × SaysOn command source (Failed out) (outcome_of ended part) × Wrote out.old out.new (text_of (outcome_of ended part))
-
 -- ---- a command over the image that it makes
-
--- it has come to an outcome over the image that was made, and has written its text; without one memory ran out, and nothing was written
-abbrev pub HasMade : Asked → Option (List ℕ) → Result Unit Stopped → Sunk → Type 0
-HasMade command None ended out = (ended ≡ Err stops.OutOfMemory) × Wrote out.old out.new []
-HasMade command (Some image) ended out = HasEnded command (made image) ended out
-
--- it came to an outcome over the image that was made, has written its text, and has said its line and given its status
-abbrev pub CameOver : Asked → Option (List ℕ) → ℕ → Sunk → Sunk → Type 0
-CameOver command None result out err = Ends result (OutOfMemory []) out err
-CameOver command (Some image) result out err = (outcome : Outcome) × SaysOn command (made image) (Failed out) outcome × Ends result outcome out err
 
 -- ---- the folder
 
@@ -201,12 +183,6 @@ StopsTable disk o =
 abbrev pub PutFailed : Sunk → Option Stored → Type 0
 PutFailed out folder = Failed out ⊎ StoreFailed folder
 
--- a command that takes a folder has come to an outcome over a source, has put so much into the folder, and has written its text
-abbrev pub HasEndedInto : Asked → Looked → Stored → Result Unit Stopped → Sunk → Type 0
-HasEndedInto command source folder ended out =
-    (part : List ℕ) × SaysOn command source (PutFailed out (Some folder)) (outcome_of ended part) × FillsBy command source folder (outcome_of ended part)
-    × Wrote out.old out.new (text_of (outcome_of ended part))
-
 -- the words are right and what the command takes was handed in, and it came to an outcome over its source
 pub record Ran (asked : Option Line) (image : Option Looked) (folder : Option Stored) (out : Sunk) (o : Outcome) : Type 0 where
   pub line : Line
@@ -249,11 +225,6 @@ pub data Says (asked : Option Line) (image : Option Looked) (folder : Option Sto
   no_part : HasNoPart asked image folder o → IsUntouched folder → Says asked image folder out o
   ran : Ran asked image folder out o → Says asked image folder out o
   no_memory : o ≡ OutOfMemory [] → IsUntouched folder → Says asked image folder out o
-
--- a run has come to an outcome that the words and what was handed in allow, and has written its text
-abbrev pub HasCome : Option Line → Option Looked → Option Stored → Result Unit Stopped → Sunk → Type 0
-HasCome asked image folder ended out =
-    (part : List ℕ) × Says asked image folder out (outcome_of ended part) × Wrote out.old out.new (text_of (outcome_of ended part))
 
 -- a run comes to an outcome that the words and what was handed in allow, has written its text, and has said its line and given its status
 abbrev pub CameTo : Option Line → Option Looked → Option Stored → ℕ → Sunk → Sunk → Type 0

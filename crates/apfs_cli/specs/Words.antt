@@ -5,7 +5,6 @@ use Rattle.uuid.specs.Text.{parsed}
 use Rattle.apfs_model.specs.Lists.{has}
 use Rattle.cmd_words.specs.Asked as lines
 use Rattle.cmd_words.specs.Asked.{AskedFlags, AskedTarget}
-use Rattle.cmd_words.specs.Lent.{target_asked}
 use Rattle.cmd_words.specs.Lines.{is_digit, line_of}
 use Rattle.view_rules.specs.declared.profile.Profile.{Profile}
 use Rattle.view_rules.specs.declared.profile.Profile.TheVariants.{Plain, Strict}
@@ -13,11 +12,6 @@ use Rattle.img_format.specs.declared.spec.Spec.{Spec}
 use Rattle.img_format.specs.Limits.{most_name, least_blocks, most_blocks}
 use Rattle.apfs_cli.specs.declared.words.Checks.{Checks}
 use Rattle.apfs_cli.specs.declared.words.Checks.TheVariants.{Quick, First}
-use Rattle.apfs_cli.specs.declared.words.Command.{Command}
-use Rattle.apfs_cli.specs.declared.words.Command.TheVariants as commands
-use Rattle.apfs_cli.specs.declared.words.NewContainer.{NewContainer}
-use Rattle.apfs_cli.specs.declared.words.Order.{Order}
-use Rattle.apfs_cli.specs.declared.words.Order.TheVariants as orders
 
 -- what the program is asked for, with the parts of the line beside the image
 pub data Asked : Type 0 where
@@ -88,9 +82,6 @@ line_in in_partition command = record { in_partition = in_partition; command = c
 
 abbrev pub plain_line : Asked → Line
 plain_line command = line_in false command
-
-abbrev pub partition_line : Asked → Line
-partition_line command = line_in true command
 
 -- `1` to `9`
 abbrev pub leading : ℕ → Option ℕ
@@ -193,28 +184,3 @@ asked_by words (Some rest) = option_map (line_in true) (command_of rest)
 -- what the words ask for; None where they are no line of the program
 unfoldable pub asked_of : List (List ℕ) → Option Line
 asked_of words = asked_by words (after_gpt words)
-
--- a command that takes no folder, without where its words lie
-abbrev pub said : Command → Asked
-said commands.Ring = Ring
-said commands.Info = Info
-said commands.Volumes = Volumes
-said commands.Space = Space
-said (commands.Check profile) = Check profile
-said (commands.Snapshots volume) = Snapshots volume
-said (commands.Usage volume) = Usage volume
-said (commands.Ls checks target) = Ls checks (target_asked target)
-said (commands.Tree checks target) = Tree checks (target_asked target)
-said (commands.Cat checks target) = Cat checks (target_asked target)
-said (commands.Xattr checks target name) = Xattr checks (target_asked target) (option_map (λ text. text.now) name)
-
--- a new container without where the word of its name lies
-abbrev pub spec_of : NewContainer → Spec
-spec_of wanted = record { blocks = wanted.blocks; name = wanted.name.now; container = wanted.container; volume = wanted.volume }
-
--- a line without where its words lie
-abbrev pub line_said : Order → Line
-line_said (orders.On in_partition command) = line_in in_partition (said command)
-line_said (orders.Export in_partition target) = line_in in_partition (Export (target_asked target))
-line_said (orders.Gen files) = plain_line (Gen files)
-line_said (orders.Format wanted) = plain_line (Format (spec_of wanted))

@@ -1,11 +1,12 @@
 //! The commands: each writes its text on a sink, and stops where there is none.
-ghost use Rattle.apfs_model.specs.Source.{IsKept};
+ghost use Rattle.apfs_model.specs.Kept.{IsKept};
 ghost use Rattle.std.specs.Prelude.{◌≡◌, ℕ, List, Some};
 ghost use Rattle.apfs_cli.specs.Handed.{looked};
-ghost use Rattle.apfs_cli.specs.Says.{HasEnded};
+ghost use Rattle.apfs_cli.specs.Ended.{HasEnded};
 ghost use Rattle.apfs_cli.specs.Reached.{IsClean};
-ghost use Rattle.apfs_cli.specs.Words.{said};
-ghost use Rattle.apfs_cli.specs.ByCommand.{checks_of, quick};
+ghost use Rattle.apfs_cli.specs.Lent.{said};
+ghost use Rattle.apfs_cli.specs.ByCommand.{checks_of};
+ghost use Rattle.apfs_cli.specs.Unchecked.{quick};
 ghost use Rattle.apfs_cli.specs.Written.{sunk};
 
 mod cat;

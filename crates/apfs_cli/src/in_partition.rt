@@ -1,11 +1,12 @@
 // Commands over a partition of a disk.
 ghost use Rattle.std.specs.Prelude.{◌≡◌, ◌+◌, ◌≤◌, None, Some};
-ghost use Rattle.apfs_model.specs.Source.{IsKept};
+ghost use Rattle.apfs_model.specs.Kept.{IsKept};
 ghost use Rattle.cmd_words.specs.Lent.{target_asked};
 ghost use Rattle.apfs_cli.specs.Handed.{looked, part_looked, stored};
-ghost use Rattle.apfs_cli.specs.Says.{HasEnded, HasEndedInto, HasCome};
+ghost use Rattle.apfs_cli.specs.Ended.{HasEnded, HasEndedInto, HasCome};
 ghost use Rattle.apfs_cli.specs.Seen.{stopped_at_table};
-ghost use Rattle.apfs_cli.specs.Words.{Export, line_in, partition_line, said};
+ghost use Rattle.apfs_cli.specs.Words.{Export, line_in};
+ghost use Rattle.apfs_cli.specs.Lent.{partition_line, said};
 ghost use Rattle.apfs_cli.specs.Written.{sunk};
 
 use crate::named::Named;

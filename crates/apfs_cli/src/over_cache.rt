@@ -1,14 +1,15 @@
 // Commands over a cache of the image's blocks.
 ghost use Rattle.std.specs.Prelude.{◌≡◌, ℕ, List, Some, true, length, unwrap_or, IfOk, OnErr};
 ghost use Rattle.apfs_model.specs.Counts.{Rose};
-ghost use Rattle.apfs_model.specs.Source.{IsKept};
+ghost use Rattle.apfs_model.specs.Kept.{IsKept};
 ghost use Rattle.obj_base.specs.BlockSize.{is_accepted};
 ghost use Rattle.nx_block.specs.Read.{size_of};
 ghost use Rattle.apfs_cli.specs.Cache.{kept_size};
 ghost use Rattle.cmd_words.specs.Lent.{target_asked};
 ghost use Rattle.apfs_cli.specs.Handed.{looked, stored};
-ghost use Rattle.apfs_cli.specs.Says.{HasEnded, HasEndedInto};
-ghost use Rattle.apfs_cli.specs.Words.{Export, said};
+ghost use Rattle.apfs_cli.specs.Ended.{HasEnded, HasEndedInto};
+ghost use Rattle.apfs_cli.specs.Words.{Export};
+ghost use Rattle.apfs_cli.specs.Lent.{said};
 ghost use Rattle.apfs_cli.specs.Written.{sunk};
 
 use crate::commands::{export, on_image};

@@ -2,18 +2,21 @@
 ghost use Rattle.std.specs.Prelude.{◌≡◌, ◌≤◌, [], map, option_map, List, ℕ, None, Some};
 ghost use Rattle.std.specs.String.{string_bytes};
 ghost use Rattle.apfs_model.specs.Sink.{Wrote};
-ghost use Rattle.apfs_model.specs.Source.{IsKept};
+ghost use Rattle.apfs_model.specs.Kept.{IsKept};
 ghost use Rattle.apfs_check.specs.WellFormed.{IsWellFormed};
 ghost use Rattle.blk_folder.specs.Items.{Item};
 ghost use Rattle.cmd_words.specs.Lent.{target_asked};
 ghost use Rattle.img_format.specs.declared.spec.Spec.{Spec};
 ghost use Rattle.apfs_cli.specs.Handed.{looked, looked_at, stored_in, IsGivenKept};
 ghost use Rattle.apfs_cli.specs.Outcome as outcomes;
-ghost use Rattle.apfs_cli.specs.Rows.{BothWrote, HasText, NamesFault, NamesFeature, NamesAnswer, SaysReadFailed, SaysOutOfMemory, HasFailedPut, HasDefinedText, HasDefinedItems, HasDefinedAnswer, HasSound, HasUnsound, HasTableFault, IsExactly, IsOrFree, IsCleanOrFree, IsFoundOrFree, IsUndisturbed, IsCompleted, IsFilledWith, HasSafeMore, IsNewOrFree, IsOfMade, IsRefusal, IsTurnedAway, lead_in, MayFill};
-ghost use Rattle.apfs_cli.specs.Says.{HasEnded, HasCome, HasNoImage, HasNoFolder, IsOpenedKept, IsUntouched, CameTo, CameOver};
+ghost use Rattle.apfs_cli.specs.Rows.{BothWrote, HasText, NamesFault, NamesFeature, NamesAnswer, SaysReadFailed, SaysOutOfMemory, HasFailedPut, HasDefinedText, HasDefinedItems, HasDefinedAnswer, HasSound, HasUnsound, HasTableFault, IsExactly, IsOrFree, IsCleanOrFree, IsFoundOrFree, IsUndisturbed, IsCompleted, IsFilledWith, HasSafeMore, IsNewOrFree, IsRefusal, IsTurnedAway, lead_in, MayFill};
+ghost use Rattle.apfs_cli.specs.Ended.{IsOfMade, HasEnded, HasCome, CameOver};
+ghost use Rattle.apfs_cli.specs.Says.{HasNoImage, HasNoFolder, IsOpenedKept, IsUntouched, CameTo};
 ghost use Rattle.apfs_cli.specs.Seen.{outcome_of};
-ghost use Rattle.apfs_cli.specs.Words.{Check, Export, Format, Gen, asked_of, line_in, plain_line, said};
-ghost use Rattle.apfs_cli.specs.Written.{sunk, IsClosed};
+ghost use Rattle.apfs_cli.specs.Words.{Check, Export, Format, Gen, asked_of, line_in, plain_line};
+ghost use Rattle.apfs_cli.specs.Lent.{said};
+ghost use Rattle.apfs_cli.specs.Written.{sunk};
+ghost use Rattle.apfs_cli.specs.Putting.{IsClosed};
 ghost use Rattle.apfs_cli.specs.declared.named.Named.{Named};
 
 use crate::commands::{check, generated, new_container};

@@ -1,7 +1,8 @@
 // Texts that are put on a sink.
 ghost use Rattle.std.specs.Prelude.{◌≡◌, ◌++◌, [], List, ℕ, IfOk, OnOk};
 ghost use Rattle.std.specs.List.{flat_map};
-ghost use Rattle.apfs_cli.specs.Written.{sunk, IsPut, Passes};
+ghost use Rattle.apfs_cli.specs.Written.{sunk};
+ghost use Rattle.apfs_cli.specs.Putting.{IsPut, Passes};
 
 use crate::stopped::Stopped;
 use blk_source::Sink;

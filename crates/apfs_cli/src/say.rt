@@ -4,7 +4,8 @@ ghost use Rattle.apfs_cli.specs.FaultTexts as texts;
 ghost use Rattle.apfs_cli.specs.Seen.{outcome_of};
 ghost use Rattle.apfs_cli.specs.Texts.{out_of_memory_line};
 ghost use Rattle.apfs_cli.specs.Texts as lines;
-ghost use Rattle.apfs_cli.specs.Written.{sunk, IsSaid, IsClosed};
+ghost use Rattle.apfs_cli.specs.Written.{sunk, IsSaid};
+ghost use Rattle.apfs_cli.specs.Putting.{IsClosed};
 
 use crate::fault_text::named_fault_text;
 use crate::named::Named;

@@ -3,7 +3,8 @@ ghost use Rattle.std.specs.Prelude.{◌≡◌, map, option_map, IfOk};
 ghost use Rattle.std.specs.String.{string_bytes};
 ghost use Rattle.cmd_words.specs.Lent.{asked_by, flags_asked};
 ghost use Rattle.apfs_cli.specs.ByCommand as by_command;
-ghost use Rattle.apfs_cli.specs.Words.{command_of, new_of, plain_of, asked_of, said, line_said, spec_of, count_said, files_said, gen_files, spec_said, new_spec};
+ghost use Rattle.apfs_cli.specs.Words.{command_of, new_of, plain_of, asked_of, count_said, files_said, gen_files, spec_said, new_spec};
+ghost use Rattle.apfs_cli.specs.Lent.{said, line_said, spec_of};
 ghost use Rattle.apfs_cli.specs.Words as lines;
 ghost use Rattle.uuid.specs.Text.{parsed};
 

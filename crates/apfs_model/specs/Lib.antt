@@ -6,4 +6,5 @@ pub mod Apart
 pub mod Sum
 pub mod Object
 pub mod Source
+pub mod Kept
 pub mod Sink

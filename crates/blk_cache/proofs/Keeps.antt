@@ -6,7 +6,7 @@ use Rattle.std.specs.Map.{lookup}
 use Rattle.std.specs.declared.alloc.Global.{Global}
 use Rattle.lru.specs.LruCache.{LruCache, lru_cache, promoted, demoted}
 use Rattle.lru.proofs.CallerLemmas.{Contains-lookup, Contains-promoted, Contains-demoted}
-use Rattle.apfs_model.specs.Source.{IsKept}
+use Rattle.apfs_model.specs.Kept.{IsKept}
 use Rattle.apfs_model.specs.Blocks.{block_of}
 use Rattle.obj_base.specs.BlockSize.{is_accepted}
 use Rattle.blk_cache.specs.Keeping.{keeps, Touches, IsCopy, IsCache, Grows, IsSame, IsReordered}

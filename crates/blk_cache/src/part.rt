@@ -1,7 +1,8 @@
 // Reading the parts of a read, each within one block.
 ghost use Rattle.std.specs.Prelude.{◌≡◌, ◌⊎◌, ◌+◌, ◌-◌, ◌*◌, ◌/◌, ◌%◌, ◌≤◌, ◌<◌, ℕ, List, Some, None, true, false, length, min, take, OnOk, OnErr, IfOk};
 ghost use Rattle.apfs_model.specs.Counts.{one_more, Rose};
-ghost use Rattle.apfs_model.specs.Source.{Copies, IsKept};
+ghost use Rattle.apfs_model.specs.Source.{Copies};
+ghost use Rattle.apfs_model.specs.Kept.{IsKept};
 ghost use Rattle.blk_cache.specs.Keeping.{keeps, Touches, last_touched, touched_count, IsCache, Grows, IsSame, IsReordered};
 
 use crate::store::Store;

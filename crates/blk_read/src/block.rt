@@ -2,7 +2,7 @@
 ghost use Rattle.std.specs.Prelude.{◌≡◌, ◌+◌, ◌*◌, ◌≤◌, List, ℕ, Some, length, IfOk, IfErr, IsErrOf, OnOk, OnErr};
 ghost use Rattle.apfs_model.specs.Blocks.{block_of};
 ghost use Rattle.apfs_model.specs.Counts.{one_more, Rose};
-ghost use Rattle.apfs_model.specs.Source.{IsKept};
+ghost use Rattle.apfs_model.specs.Kept.{IsKept};
 ghost use Rattle.obj_base.specs.Stops.{IsFree};
 ghost use Rattle.obj_base.specs.declared.stop.Stop.TheVariants.{ReadFault};
 

@@ -1,7 +1,8 @@
 // Sources in memory, for tests and for images that the program made.
 ghost use Rattle.std.specs.Prelude.{◌≡◌, ◌+◌, ◌≤◌, ◌↔◌, List, ℕ, Option, Some, length, OnOk, OnErr, IsErr, IsTrue, Contains};
 ghost use Rattle.apfs_model.specs.Counts.{one_more, Rose};
-ghost use Rattle.apfs_model.specs.Source.{Copies, told_length};
+ghost use Rattle.apfs_model.specs.Source.{Copies};
+ghost use Rattle.apfs_model.specs.Kept.{told_length};
 
 use crate::BlockSource;
 use apfs_model::ReadFailed;

@@ -9,7 +9,8 @@ use Rattle.bt_node.specs.Entries.{Pair, pair_of, pairs_of}
 use Rattle.bt_node.specs.declared.node.NodeAt.{NodeAt}
 use Rattle.bt_cursor.specs.Tree.{Tree, root_place, child_in, child_place, node_at}
 use Rattle.bt_cursor.specs.Flat.{flat_part, flat_of}
-use Rattle.bt_cursor.specs.Line.{Item, item_at, entry_of, entries_of, is_leaf_item, line_part, line_of, leaf_pairs}
+use Rattle.bt_cursor.specs.Line.{Item, item_at, entry_of, entries_of, is_leaf_item, line_part, line_of}
+use Rattle.bt_cursor.specs.WholeTree.{leaf_pairs}
 use Rattle.bt_cursor.specs.Gaps.{Gapped, or_gap, gapped_part, gapped_of, met_in, all_met, all_flat}
 use Rattle.bt_cursor.specs.declared.fault.WalkFault.{WalkFault}
 use Rattle.bt_cursor.specs.Ahead.{line_from, rest}

@@ -25,11 +25,11 @@ use Rattle.bt_cursor.specs.declared.fault.WalkFault.TheVariants.{Unsound, Unname
 use Rattle.bt_cursor.specs.declared.gathering.GatherFault.{GatherFault}
 use Rattle.bt_cursor.specs.declared.gathering.GatherFault.TheVariants.{Tree as TreeFault, Refused}
 use Rattle.bt_cursor.specs.Tree.{Tree, child_in}
-use Rattle.bt_cursor.specs.Line.{Item, item_at, child_id, line_of, is_leaf_item}
+use Rattle.bt_cursor.specs.Line.{Item, item_at, line_of, is_leaf_item}
+use Rattle.bt_cursor.specs.WholeTree.{child_id, IsWhole}
 use Rattle.bt_cursor.specs.Met.{places_under, places_in, places_of, has_node, is_walkable}
 use Rattle.bt_cursor.specs.Order.{rank_of, is_strict_leaf, ranks_below, ranks_same, is_misplaced}
 use Rattle.bt_cursor.specs.Faults.{IsNodeFault, IsWalkFault, HasFeature}
-use Rattle.bt_cursor.specs.Whole.{IsWhole}
 use Rattle.bt_cursor.specs.Seen.{reads_for, is_out, seen_item}
 use Rattle.bt_cursor.specs.Liners.{root_of, tree_of, item_of, is_deep, seen_of, left_of, Passes, HasItemIf, Sees}
 use Rattle.bt_cursor.specs.Gathered.{children_of, node_ids, shown, IsRefused, IsGatherFault, SeesOrder, IsGathered, HasWalked, IsWalked, HasTaken, HasTakenAll}

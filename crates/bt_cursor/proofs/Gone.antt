@@ -13,11 +13,11 @@ use Rattle.bt_node.specs.Entries.{Pair}
 use Rattle.bt_node.specs.declared.node.NodeAt.{NodeAt}
 use Rattle.bt_cursor.specs.Tree.{Tree, root_place, child_place}
 use Rattle.bt_cursor.specs.Flat.{flat_of}
-use Rattle.bt_cursor.specs.Line.{Item, line_of, leaf_pairs}
+use Rattle.bt_cursor.specs.Line.{Item, line_of}
+use Rattle.bt_cursor.specs.WholeTree.{leaf_pairs, IsWhole}
 use Rattle.bt_cursor.specs.Met.{places_under, places_in, places_of, has_node, nodes_of}
 use Rattle.bt_cursor.specs.Order.{first_misplaced, out_of_order}
 use Rattle.bt_cursor.specs.Counts.{has_counts, is_counted}
-use Rattle.bt_cursor.specs.Whole.{IsWhole}
 use Rattle.bt_cursor.specs.Faults.{IsOutOfOrder}
 use Rattle.bt_cursor.specs.Seen.{comes_to, seen_start, seen_item, is_out, fits, HasSeen}
 use Rattle.bt_cursor.specs.Advance.{Entered, IsBadNext, IsGapOf, IsNextGap, still, HasGone}

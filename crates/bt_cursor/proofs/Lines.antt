@@ -8,7 +8,8 @@ use Rattle.apfs_model.specs.Lists.{through, value_of}
 use Rattle.bt_node.specs.Node.{level_of, count_of}
 use Rattle.bt_node.specs.Entries.{Pair, pair_of}
 use Rattle.bt_cursor.specs.Tree.{Tree, child_in, child_place}
-use Rattle.bt_cursor.specs.Line.{Item, item_at, entry_of, entries_of, line_part, is_leaf_item, leaf_pairs}
+use Rattle.bt_cursor.specs.Line.{Item, item_at, entry_of, entries_of, line_part, is_leaf_item}
+use Rattle.bt_cursor.specs.WholeTree.{leaf_pairs}
 use Rattle.bt_cursor.specs.Ahead.{line_from, line_under, rest}
 use Rattle.bt_cursor.specs.declared.way.Step.{Step}
 use Rattle.bt_cursor.proofs.Pairs.{entries_cons, entries_end}

@@ -14,13 +14,15 @@ use Rattle.obj_base.specs.Sound.{agrees, sound_of}
 use Rattle.bt_node.specs.Shape.{Shape}
 use Rattle.bt_node.specs.Node.{level_of, count_of, is_fixed, is_root, end_of, keys_begin, table_length_of}
 use Rattle.bt_node.specs.Entries.{Pair}
-use Rattle.bt_node.specs.Soundness.{node_of, node_expect, with_header, after_head, has_level, IsNode}
+use Rattle.bt_node.specs.Soundness.{node_of, node_expect, with_header, after_head, has_level}
+use Rattle.bt_node.specs.SoundNode.{IsNode}
 use Rattle.bt_node.specs.declared.node.NodeAt.{NodeAt}
 use Rattle.obj_base.specs.declared.site.Site.{Site}
 use Rattle.bt_node.proofs.Laws.{node_means}
 use Rattle.bt_cursor.specs.Tree.{Tree, child_place}
 use Rattle.bt_cursor.specs.Met.{IsMet}
-use Rattle.bt_cursor.specs.Faults.{IsNodeFault, HasFeature, IsOfNodes}
+use Rattle.bt_cursor.specs.Faults.{IsNodeFault, HasFeature}
+use Rattle.bt_cursor.specs.WholeTree.{IsOfNodes}
 use Rattle.bt_cursor.specs.Stack.{IsStep}
 use Rattle.bt_cursor.specs.declared.fault.WalkFault.{WalkFault}
 use Rattle.bt_cursor.specs.declared.fault.WalkFault.TheVariants.{Unsound, Unnamed, Order, Counts}

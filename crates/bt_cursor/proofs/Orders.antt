@@ -10,7 +10,8 @@ use Rattle.bt_node.specs.Entries.{Pair}
 use Rattle.bt_node.specs.Rank.{is_below, is_same_rank}
 use Rattle.bt_node.specs.Shape.{Shape}
 use Rattle.bt_node.specs.declared.key.Rank.{Rank}
-use Rattle.bt_cursor.specs.Line.{Item, is_leaf_item, leaf_pairs}
+use Rattle.bt_cursor.specs.Line.{Item, is_leaf_item}
+use Rattle.bt_cursor.specs.WholeTree.{leaf_pairs}
 use Rattle.bt_cursor.specs.Met.{places_under, places_in}
 use Rattle.bt_cursor.specs.Order.{rank_of, is_strict_leaf, ranks_below, ranks_same, is_misplaced, first_misplaced}
 use Rattle.bt_cursor.specs.Seen.{spend, comes_to, seen_start, seen_item, is_out, HasSeen}

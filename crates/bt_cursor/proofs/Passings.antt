@@ -13,7 +13,8 @@ use Rattle.bt_cursor.specs.declared.namer.Namer as namers
 use Rattle.bt_cursor.specs.declared.seen.Seen.{Seen}
 use Rattle.bt_cursor.specs.Tree.{Tree, root_place}
 use Rattle.bt_cursor.specs.Line.{Item}
-use Rattle.bt_cursor.specs.Faults.{IsOfNodes, IsWalkFault, HasFeature}
+use Rattle.bt_cursor.specs.Faults.{IsWalkFault, HasFeature}
+use Rattle.bt_cursor.specs.WholeTree.{IsOfNodes}
 use Rattle.bt_cursor.specs.Stack.{IsIn}
 use Rattle.bt_cursor.specs.Ahead.{passed_child}
 use Rattle.bt_cursor.specs.Advance.{Entered, Advances, StopsFor, TellsGap, IsGapOf, IsNextGap, IsNextFault, HasGone}

@@ -23,7 +23,7 @@ use Rattle.bt_cursor.specs.declared.fault.WalkFault.TheVariants.{Unsound, Unname
 use Rattle.bt_cursor.specs.Tree.{Tree, root_place, child_in, child_place, judged, node_named, block_named, tree_in}
 use Rattle.bt_cursor.specs.Line.{Item, entry_of, entries_of, line_part, line_of}
 use Rattle.bt_cursor.specs.Met.{IsMet, first, after, places_under, places_in, places_of, has_node, is_walkable}
-use Rattle.bt_cursor.specs.Whole.{IsWhole}
+use Rattle.bt_cursor.specs.WholeTree.{IsWhole}
 use Rattle.bt_cursor.specs.Order.{is_ordered}
 use Rattle.bt_cursor.specs.Faults.{HasGap, HasFeature, IsNodeFault, IsOutOfOrder, IsWalkFault}
 use Rattle.bt_cursor.specs.Ahead.{line_from}

@@ -10,7 +10,8 @@ use Rattle.bt_node.specs.Entries.{Pair}
 use Rattle.bt_node.specs.Rank.{is_below}
 use Rattle.bt_node.specs.Shape.{Shape}
 use Rattle.bt_node.specs.declared.key.Rank.{Rank}
-use Rattle.bt_cursor.specs.Line.{Item, is_leaf_item, leaf_pairs}
+use Rattle.bt_cursor.specs.Line.{Item, is_leaf_item}
+use Rattle.bt_cursor.specs.WholeTree.{leaf_pairs}
 use Rattle.bt_cursor.specs.Order.{rank_of, ranks_below, is_strict_leaf, ranks_same, is_misplaced, first_misplaced, is_ordered}
 use Rattle.bt_cursor.specs.From.{is_below_rank, from_rank}
 use Rattle.bt_cursor.specs.Search.{IsInOrder}

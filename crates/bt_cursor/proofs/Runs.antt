@@ -15,7 +15,8 @@ use Rattle.bt_cursor.specs.declared.cursor.Cursor.{Cursor}
 use Rattle.bt_cursor.specs.declared.namer.Namer as namers
 use Rattle.bt_cursor.specs.Tree.{Tree}
 use Rattle.bt_cursor.specs.Flat.{flat_of}
-use Rattle.bt_cursor.specs.Line.{Item, is_leaf_item, line_of, leaf_pairs}
+use Rattle.bt_cursor.specs.Line.{Item, is_leaf_item, line_of}
+use Rattle.bt_cursor.specs.WholeTree.{leaf_pairs}
 use Rattle.bt_cursor.specs.Gaps.{Gapped, gapped_of, met_in, all_met, flat_in, all_flat, is_gapless, IsSuffix}
 use Rattle.bt_cursor.specs.Order.{rank_of, is_ordered}
 use Rattle.bt_cursor.specs.From.{is_below_rank, from_rank, IsRun, run_in, gapped_from_rank, run_or_gap, starts_whole, is_run_whole}

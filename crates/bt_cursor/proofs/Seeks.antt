@@ -12,7 +12,8 @@ use Rattle.bt_node.specs.Shape.{Shape}
 use Rattle.bt_node.specs.declared.key.Rank.{Rank}
 use Rattle.bt_cursor.specs.Tree.{Tree}
 use Rattle.bt_cursor.specs.Flat.{flat_of}
-use Rattle.bt_cursor.specs.Line.{Item, line_of, leaf_pairs}
+use Rattle.bt_cursor.specs.Line.{Item, line_of}
+use Rattle.bt_cursor.specs.WholeTree.{leaf_pairs}
 use Rattle.bt_cursor.specs.Gaps.{Gapped, gapped_of, met_in, all_met, all_flat}
 use Rattle.bt_cursor.specs.Order.{rank_of, ranks_below, is_ordered}
 use Rattle.bt_cursor.specs.From.{is_below_rank, from_rank, after_last, is_low, is_high, gapped_from_rank}

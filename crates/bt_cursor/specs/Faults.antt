@@ -3,7 +3,7 @@ use Rattle.std.specs.Prelude.{◌≡◌, ℕ, false, Some, Err}
 use Rattle.apfs_model.specs.Counts.{given}
 use Rattle.obj_base.specs.declared.stop.Feature.{Feature}
 use Rattle.obj_base.specs.declared.stop.Stop.{Stop}
-use Rattle.obj_base.specs.declared.stop.Stop.TheVariants.{Found, Unsupported, ReadFault, NoMemory}
+use Rattle.obj_base.specs.declared.stop.Stop.TheVariants.{Found, Unsupported}
 use Rattle.bt_node.specs.declared.node.NodeAt.{NodeAt}
 use Rattle.bt_cursor.specs.declared.fault.WalkFault.{WalkFault}
 use Rattle.bt_cursor.specs.declared.fault.WalkFault.TheVariants.{Unsound, Unnamed, Order, Counts}
@@ -42,13 +42,3 @@ IsWalkFault tree root (Unsound block why) = HasGap tree root (Found (Unsound blo
 IsWalkFault tree root (Unnamed oid) = HasGap tree root (Found (Unnamed oid))
 IsWalkFault tree root (Order item) = IsOutOfOrder tree root item
 IsWalkFault tree root Counts = is_counted tree root ≡ false
-
--- a walk stops for a node, or for the source or the memory, and for no order or count
-abbrev pub IsOfNodes : Stop WalkFault → Type 0
-IsOfNodes (Found (Unsound block why)) = Unit {0}
-IsOfNodes (Found (Unnamed oid)) = Unit {0}
-IsOfNodes (Found (Order item)) = ⊥
-IsOfNodes (Found Counts) = ⊥
-IsOfNodes (Unsupported feature block) = Unit {0}
-IsOfNodes ReadFault = Unit {0}
-IsOfNodes NoMemory = Unit {0}

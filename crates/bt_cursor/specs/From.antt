@@ -1,7 +1,6 @@
 -- Lists from a rank on.
 use Rattle.std.specs.Prelude.{◌≡◌, ℕ, Bool, true, false, not, ◌==◌, ◌&&◌, List, [], ◌∷◌, Ok, Err, if◌then◌else◌}
 use Rattle.std.specs.List.{list_any, take_while}
-use Rattle.apfs_model.specs.Lists.{drop_while}
 use Rattle.bt_node.specs.Shape.{Shape}
 use Rattle.bt_node.specs.Rank.{is_below}
 use Rattle.bt_node.specs.Entries.{Pair}
@@ -14,6 +13,11 @@ use Rattle.bt_cursor.specs.Order.{rank_of}
 -- an entry ranks below a rank
 abbrev pub is_below_rank : {K : Type 0} → Shape K → Rank → Pair → Bool
 is_below_rank shape rank pair = is_below (rank_of shape pair) rank
+
+-- the items from the first on that doesn't pass
+abbrev pub drop_while : {X : Type 0} → (X → Bool) → List X → List X
+drop_while test [] = []
+drop_while test (x ∷ xs) = if test x then drop_while test xs else x ∷ xs
 
 -- the entries from the first on that doesn't rank below a rank
 abbrev pub from_rank : {K : Type 0} → Shape K → Rank → List Pair → List Pair

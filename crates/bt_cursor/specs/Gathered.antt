@@ -14,10 +14,10 @@ use Rattle.bt_cursor.specs.declared.seen.Seen.{Seen}
 use Rattle.bt_cursor.specs.declared.gathering.GatherFault.{GatherFault}
 use Rattle.bt_cursor.specs.declared.gathering.GatherFault.TheVariants.{Tree as TreeFault, Refused}
 use Rattle.bt_cursor.specs.Tree.{Tree}
-use Rattle.bt_cursor.specs.Line.{Item, child_id, line_of, is_leaf_item}
+use Rattle.bt_cursor.specs.Line.{Item, line_of, is_leaf_item}
+use Rattle.bt_cursor.specs.WholeTree.{child_id, IsWhole}
 use Rattle.bt_cursor.specs.Met.{places_in, nodes_of}
 use Rattle.bt_cursor.specs.Order.{rank_of, first_misplaced, is_ordered}
-use Rattle.bt_cursor.specs.Whole.{IsWhole}
 use Rattle.bt_cursor.specs.Faults.{IsWalkFault}
 use Rattle.bt_cursor.specs.Seen.{reads_for}
 use Rattle.bt_cursor.specs.Liners.{root_of, tree_of, item_of, is_deep, seen_of, HasPassed}

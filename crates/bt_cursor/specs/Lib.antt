@@ -9,6 +9,7 @@ pub mod Counts
 pub mod Whole
 pub mod From
 pub mod Faults
+pub mod WholeTree
 pub mod Stack
 pub mod Ahead
 pub mod Fuel

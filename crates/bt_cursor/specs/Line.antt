@@ -1,6 +1,6 @@
 -- The Line of a tree: all its entries, each before what stands below it.
-use Rattle.std.specs.Prelude.{ℕ, zero, suc, Bool, ◌==◌, List, [], ◌∷◌, map, flat_map, Option, None, Some, if◌then◌else◌}
-use Rattle.std.specs.List.{filter, range_with_len}
+use Rattle.std.specs.Prelude.{ℕ, zero, suc, Bool, ◌==◌, List, [], ◌∷◌, map, flat_map}
+use Rattle.std.specs.List.{range_with_len}
 use Rattle.apfs_model.specs.Lists.{through}
 use Rattle.bt_node.specs.Node.{level_of, count_of}
 use Rattle.bt_node.specs.Entries.{Pair, pair_of}
@@ -25,10 +25,6 @@ entry_of shape node i = (i, pair_of shape node i)
 abbrev pub entries_of : {K : Type 0} → Shape K → List ℕ → List (ℕ × Pair)
 entries_of shape node = map (entry_of shape node) (range_with_len 0 (count_of node))
 
--- the id of the child to which an item leads, above the leaves
-abbrev pub child_id : Item → Option ℕ
-child_id item = if item.level == 0 then None else Some (child_in item.pair)
-
 -- an entry of a node of a level, and the items of its child; none of those where the child isn't there
 abbrev pub line_part : {K : Type 0} → Tree K → ℕ → ℕ → ℕ × Pair → List Item
 line_part tree zero oid entry = item_at oid entry.0 zero entry.1 ∷ []
@@ -41,7 +37,3 @@ line_of tree root = through (node_at tree (root_place root)) (λ node. flat_map 
 -- an item of a leaf
 abbrev pub is_leaf_item : Item → Bool
 is_leaf_item item = item.level == 0
-
--- the entries of leaves among some items
-abbrev pub leaf_pairs : List Item → List Pair
-leaf_pairs items = map (λ (item : Item). item.pair) (filter is_leaf_item items)

@@ -7,7 +7,7 @@ use Rattle.bt_cursor.specs.declared.liner.Liner.{Liner}
 use Rattle.bt_cursor.specs.declared.seen.Seen.{Seen}
 use Rattle.bt_cursor.specs.Tree.{Tree, tree_in}
 use Rattle.bt_cursor.specs.Line.{Item, line_of}
-use Rattle.bt_cursor.specs.Whole.{IsWhole}
+use Rattle.bt_cursor.specs.WholeTree.{IsWhole}
 use Rattle.bt_cursor.specs.Stack.{IsIn}
 use Rattle.bt_cursor.specs.Ahead.{ahead_if, passed_pair, passed_item, passed_child}
 use Rattle.bt_cursor.specs.Advance.{HasGone}

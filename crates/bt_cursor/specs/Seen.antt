@@ -8,7 +8,8 @@ use Rattle.bt_node.specs.Rank.{is_below, is_same_rank}
 use Rattle.bt_node.specs.declared.key.Rank.{Rank}
 use Rattle.bt_cursor.specs.declared.seen.Seen.{Seen}
 use Rattle.bt_cursor.specs.declared.seen.Tally.{Tally}
-use Rattle.bt_cursor.specs.Line.{Item, is_leaf_item, leaf_pairs}
+use Rattle.bt_cursor.specs.Line.{Item, is_leaf_item}
+use Rattle.bt_cursor.specs.WholeTree.{leaf_pairs}
 use Rattle.bt_cursor.specs.Met.{places_in}
 use Rattle.bt_cursor.specs.Order.{rank_of, is_strict_leaf, first_misplaced}
 

@@ -4,7 +4,7 @@ use Rattle.obj_base.specs.BlockSize.{is_accepted}
 use Rattle.bt_node.specs.Shape.{Shape}
 use Rattle.bt_node.specs.Node.{level_of, count_of}
 use Rattle.bt_node.specs.Entries.{pair_of}
-use Rattle.bt_node.specs.Soundness.{IsNode}
+use Rattle.bt_node.specs.SoundNode.{IsNode}
 use Rattle.obj_base.specs.declared.site.Site.{Site}
 use Rattle.bt_cursor.specs.Tree.{Tree, root_place, child_place}
 use Rattle.bt_cursor.specs.Met.{IsMet}

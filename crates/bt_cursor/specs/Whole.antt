@@ -1,5 +1,5 @@
 -- Whole trees.
-use Rattle.std.specs.Prelude.{◌≡◌, ℕ, Bool, true, ◌&&◌}
+use Rattle.std.specs.Prelude.{ℕ, Bool, ◌&&◌}
 use Rattle.bt_cursor.specs.Tree.{Tree}
 use Rattle.bt_cursor.specs.Line.{line_of}
 use Rattle.bt_cursor.specs.Order.{is_ordered}
@@ -9,9 +9,3 @@ use Rattle.bt_cursor.specs.Met.{is_walkable}
 -- a whole tree: walkable, ordered and counted
 abbrev pub is_whole : {K : Type 0} → Tree K → ℕ → Bool
 is_whole tree root = is_walkable tree root && (is_ordered tree.shape (line_of tree root) && is_counted tree root)
-
--- the facts that make a tree whole
-pub record IsWhole {K : Type 0} (tree : Tree K) (root : ℕ) : Type 0 where
-  pub walkable : is_walkable tree root ≡ true
-  pub ordered : is_ordered tree.shape (line_of tree root) ≡ true
-  pub counted : is_counted tree root ≡ true

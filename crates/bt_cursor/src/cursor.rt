@@ -29,7 +29,7 @@ pub struct Cursor<K: TreeKey, N: Namer> {
 impl<K: TreeKey, N: Namer> Cursor<K, N> {
     ghost use Rattle.std.specs.Prelude.{◌≡◌, ℕ, ◌+◌, ◌<◌, ◌≤◌, List, Some, true, option_map, OnOk, OnErr, IfOk, IfErr, IsErrOf, IsOk, IsTrue};
     ghost use Rattle.apfs_model.specs.Counts.{Rose};
-    ghost use Rattle.apfs_model.specs.Source.{IsKept};
+    ghost use Rattle.apfs_model.specs.Kept.{IsKept};
     ghost use Rattle.obj_base.specs.declared.stop.Stop.TheVariants.{ReadFault, NoMemory};
     ghost use Rattle.obj_base.specs.Stops.{Tells, IsFree};
     ghost use Rattle.obj_base.specs.Site.{IsSiteFor};
@@ -40,7 +40,8 @@ impl<K: TreeKey, N: Namer> Cursor<K, N> {
     ghost use Rattle.bt_cursor.specs.Met.{is_walkable};
     ghost use Rattle.bt_cursor.specs.Order.{is_ordered};
     ghost use Rattle.bt_cursor.specs.From.{gapped_from_rank};
-    ghost use Rattle.bt_cursor.specs.Faults.{IsOfNodes, IsNodeFault, HasFeature};
+    ghost use Rattle.bt_cursor.specs.Faults.{IsNodeFault, HasFeature};
+    ghost use Rattle.bt_cursor.specs.WholeTree.{IsOfNodes};
     ghost use Rattle.bt_cursor.specs.Cursors.{site_of, root_of, tree_of, ahead_of, gapped_left_of, unread_of, passed_of, fuel_of, depth_of, HasDepth, IsOn, HasEntry, Moves};
 
     /// Reads the root, whose id is `root`, and stands before the first entry. Takes all its buffers here.

@@ -2,14 +2,14 @@
 ghost use Rattle.std.specs.Prelude.{◌≡◌, ◌+◌, ◌≤◌, ◌<◌, ℕ, List, [], length, ◌∷◌, ◌++◌, Option, Some, Bool, true, false, not, option_map, IfOk, IfErr, IsErrOf, OnOk, IsTrue};
 ghost use Rattle.std.specs.List.{list_any};
 ghost use Rattle.apfs_model.specs.Counts.{Rose};
-ghost use Rattle.apfs_model.specs.Source.{IsKept};
+ghost use Rattle.apfs_model.specs.Kept.{IsKept};
 ghost use Rattle.obj_base.specs.Stops.{Tells, IsFree, raised};
 ghost use Rattle.obj_base.specs.declared.stop.Stop.TheVariants.{ReadFault, NoMemory};
 ghost use Rattle.obj_base.specs.Site.{IsSiteFor};
 ghost use Rattle.bt_cursor.specs.Tree.{tree_in};
-ghost use Rattle.bt_cursor.specs.Line.{Item, child_id, line_of};
+ghost use Rattle.bt_cursor.specs.Line.{Item, line_of};
+ghost use Rattle.bt_cursor.specs.WholeTree.{child_id, IsWhole};
 ghost use Rattle.bt_cursor.specs.Met.{nodes_of};
-ghost use Rattle.bt_cursor.specs.Whole.{IsWhole};
 ghost use Rattle.bt_cursor.specs.Faults.{HasFeature};
 ghost use Rattle.bt_cursor.specs.Liners.{site_of, root_of, tree_of, seen_of, fuel_of};
 ghost use Rattle.bt_cursor.specs.Gathered.{shown, IsGatherFault, RefusesOne, IsGathered, IsInOrder, SeesOrder, HasWalked, HasTaken, Takes};

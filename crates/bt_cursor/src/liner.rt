@@ -45,7 +45,7 @@ pub struct LineItem<'a, K: TreeKey> {
 
 impl<K: TreeKey> LineItem<'_, K> {
     ghost use Rattle.std.specs.Prelude.{◌≡◌, option_map, option_to_list};
-    ghost use Rattle.bt_cursor.specs.Line.{child_id};
+    ghost use Rattle.bt_cursor.specs.WholeTree.{child_id, IsWhole, IsOfNodes};
     ghost use Rattle.bt_cursor.specs.Steps.{step_in};
     ghost use Rattle.bt_cursor.specs.Gathered.{shown};
 
@@ -67,15 +67,14 @@ impl<K: TreeKey> LineItem<'_, K> {
 impl<K: TreeKey, N: Namer> Liner<K, N> {
     ghost use Rattle.std.specs.Prelude.{◌≡◌, ℕ, ◌+◌, ◌-◌, ◌<◌, ◌≤◌, nat_lt, true, false, List, [], ◌∷◌, ◌++◌, Some, option_map, OnOk, IfOk, IfErr, IsErrOf, IsTrue, IsFalse};
     ghost use Rattle.apfs_model.specs.Counts.{Rose};
-    ghost use Rattle.apfs_model.specs.Source.{IsKept};
+    ghost use Rattle.apfs_model.specs.Kept.{IsKept};
     ghost use Rattle.obj_base.specs.declared.stop.Stop.TheVariants.{Unsupported, ReadFault, NoMemory};
     ghost use Rattle.obj_base.specs.Stops.{Tells, IsFree};
     ghost use Rattle.obj_base.specs.Site.{IsSiteFor};
     ghost use Rattle.bt_cursor.specs.Tree.{tree_in};
-    ghost use Rattle.bt_cursor.specs.Line.{Item, child_id, line_of};
+    ghost use Rattle.bt_cursor.specs.Line.{Item, line_of};
     ghost use Rattle.bt_cursor.specs.Met.{is_walkable};
-    ghost use Rattle.bt_cursor.specs.Whole.{IsWhole};
-    ghost use Rattle.bt_cursor.specs.Faults.{IsOfNodes, IsNodeFault, IsWalkFault, HasFeature};
+    ghost use Rattle.bt_cursor.specs.Faults.{IsNodeFault, IsWalkFault, HasFeature};
     ghost use Rattle.bt_cursor.specs.Stack.{IsIn};
     ghost use Rattle.bt_cursor.specs.Ahead.{passed_child};
     ghost use Rattle.bt_cursor.specs.Seen.{reads_for};

@@ -1,16 +1,17 @@
 // Nodes on the way.
 ghost use Rattle.std.specs.Prelude.{◌≡◌, ℕ, ◌+◌, ◌<◌, ◌≤◌, List, Option, Some, option_map, OnOk, IfErr, IsErrOf, true};
 ghost use Rattle.apfs_model.specs.Counts.{Rose};
-ghost use Rattle.apfs_model.specs.Source.{IsKept};
+ghost use Rattle.apfs_model.specs.Kept.{IsKept};
 ghost use Rattle.obj_base.specs.declared.stop.Stop.TheVariants.{ReadFault, NoMemory};
 ghost use Rattle.obj_base.specs.Stops.{Gives};
 ghost use Rattle.bt_node.specs.Node.{level_of, count_of, key_count_of, node_count_of};
 ghost use Rattle.obj_base.specs.BlockSize.{is_accepted};
-ghost use Rattle.bt_node.specs.Soundness.{node_of, IsNode};
+ghost use Rattle.bt_node.specs.Soundness.{node_of};
+ghost use Rattle.bt_node.specs.SoundNode.{IsNode};
 ghost use Rattle.bt_node.specs.Entries.{child_of, pair_of};
 ghost use Rattle.obj_base.specs.Site.{IsSiteFor};
 ghost use Rattle.bt_cursor.specs.Tree.{block_named, judged, look_in};
-ghost use Rattle.bt_cursor.specs.Faults.{IsOfNodes};
+ghost use Rattle.bt_cursor.specs.WholeTree.{IsOfNodes};
 ghost use Rattle.bt_cursor.specs.Stack.{IsStep, IsLong};
 ghost use Rattle.bt_cursor.specs.Ahead.{items_of};
 

@@ -1,7 +1,7 @@
 // Searches for a rank, in a node and from node to node.
 ghost use Rattle.std.specs.Prelude.{◌≡◌, ℕ, ◌+◌, ◌<◌, ◌≤◌, true, List, length, Some, OnOk, IfErr, IsErrOf};
 ghost use Rattle.apfs_model.specs.Counts.{Rose};
-ghost use Rattle.apfs_model.specs.Source.{IsKept};
+ghost use Rattle.apfs_model.specs.Kept.{IsKept};
 ghost use Rattle.obj_base.specs.declared.stop.Stop.TheVariants.{ReadFault, NoMemory};
 ghost use Rattle.obj_base.specs.Stops.{Tells};
 ghost use Rattle.bt_node.specs.Node.{count_of};
@@ -9,7 +9,8 @@ ghost use Rattle.bt_node.specs.Entries.{pair_of};
 ghost use Rattle.obj_base.specs.Site.{IsSiteFor};
 ghost use Rattle.bt_cursor.specs.Tree.{tree_in};
 ghost use Rattle.bt_cursor.specs.Order.{rank_of};
-ghost use Rattle.bt_cursor.specs.Faults.{IsOfNodes, IsNodeFault, HasFeature};
+ghost use Rattle.bt_cursor.specs.Faults.{IsNodeFault, HasFeature};
+ghost use Rattle.bt_cursor.specs.WholeTree.{IsOfNodes};
 ghost use Rattle.bt_cursor.specs.Stack.{IsStep, IsWay, IsIn};
 ghost use Rattle.bt_cursor.specs.Gaps.{gapped_of};
 ghost use Rattle.bt_cursor.specs.Ahead.{depth_way};

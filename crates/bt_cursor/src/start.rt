@@ -1,13 +1,14 @@
 // Where a walk starts.
 ghost use Rattle.std.specs.Prelude.{◌≡◌, ℕ, ◌+◌, ◌≤◌, List, Some, Ok, Err, IfOk, IfErr, IsErrOf};
 ghost use Rattle.apfs_model.specs.Counts.{Rose};
-ghost use Rattle.apfs_model.specs.Source.{IsKept};
+ghost use Rattle.apfs_model.specs.Kept.{IsKept};
 ghost use Rattle.obj_base.specs.declared.stop.Stop.TheVariants.{Found, Unsupported, ReadFault, NoMemory};
 ghost use Rattle.obj_base.specs.Stops.{Tells};
 ghost use Rattle.obj_base.specs.Site.{IsSiteFor};
 ghost use Rattle.bt_node.specs.Node.{level_of};
 ghost use Rattle.bt_cursor.specs.Tree.{look_in, tree_in, root_place};
-ghost use Rattle.bt_cursor.specs.Faults.{IsOfNodes, IsNodeFault, HasFeature};
+ghost use Rattle.bt_cursor.specs.Faults.{IsNodeFault, HasFeature};
+ghost use Rattle.bt_cursor.specs.WholeTree.{IsOfNodes};
 ghost use Rattle.bt_cursor.specs.Stack.{IsLong, IsStep, IsWay};
 ghost use Rattle.bt_cursor.specs.Ahead.{depth_way, IsStart};
 

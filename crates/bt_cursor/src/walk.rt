@@ -1,14 +1,15 @@
 // Steps over a tree, up and down.
 ghost use Rattle.std.specs.Prelude.{◌≡◌, ℕ, ◌+◌, ◌-◌, ◌*◌, ◌<◌, ◌≤◌, List, [], ◌∷◌, ◌++◌, length, Some, Ok, OnOk, OnErr, IfOk, IfErr, IsErrOf, IsTrue, IsFalse};
 ghost use Rattle.apfs_model.specs.Counts.{Rose};
-ghost use Rattle.apfs_model.specs.Source.{IsKept};
+ghost use Rattle.apfs_model.specs.Kept.{IsKept};
 ghost use Rattle.obj_base.specs.declared.stop.Stop.TheVariants.{ReadFault, NoMemory};
 ghost use Rattle.obj_base.specs.Stops.{Gives, Tells};
 ghost use Rattle.bt_node.specs.Node.{level_of, count_of};
 ghost use Rattle.bt_node.specs.Entries.{pair_of};
 ghost use Rattle.obj_base.specs.Site.{IsSiteFor};
 ghost use Rattle.bt_cursor.specs.Tree.{Look, tree_by, tree_in, look_in, child_place};
-ghost use Rattle.bt_cursor.specs.Faults.{IsOfNodes, IsNodeFault, HasFeature};
+ghost use Rattle.bt_cursor.specs.Faults.{IsNodeFault, HasFeature};
+ghost use Rattle.bt_cursor.specs.WholeTree.{IsOfNodes};
 ghost use Rattle.bt_cursor.specs.Stack.{IsWay, IsIn};
 ghost use Rattle.bt_cursor.specs.Line.{item_at};
 ghost use Rattle.bt_cursor.specs.Gaps.{all_flat, StopsAt};

@@ -4,7 +4,7 @@ use Rattle.std.proofs.Common.{ap, sym}
 use Rattle.std.proofs.lemmas.Bool.{ltb-false, leb-true, false≢true}
 use Rattle.std.proofs.lemmas.Option.{none-some, same_Some}
 use Rattle.bt_node.specs.declared.key.Rank.{Rank}
-use Rattle.bt_node.specs.Shape.{IsLawful}
+use Rattle.bt_node.specs.SoundNode.{IsLawful}
 use Rattle.bt_keys.specs.RecordKey.{id_of, record_kind_of, sub_of, is_ext_key, is_fs_key}
 use Rattle.bt_keys.specs.Shapes.{omap_shape, omap_snap_shape, queue_shape, ext_shape, snap_shape, fs_record_shape}
 use Rattle.bt_keys.specs.FsTree.{IsFsKey, IsFsShape}

@@ -14,7 +14,8 @@ use Rattle.bt_node.specs.declared.node.NodeAt.{NodeAt}
 use Rattle.bt_node.specs.Shape.{Shape}
 use Rattle.bt_node.specs.Node.{level_of, count_of, is_root, is_leaf, is_hashed, lacks_header, end_of, keys_begin, node_size_of}
 use Rattle.bt_node.specs.Entries.{place_of, is_ghost}
-use Rattle.bt_node.specs.Soundness.{node_expect, is_alike, has_layout, has_level, has_right_flags, is_empty, is_key_inside, is_value_inside, is_table_inside, is_entry_inside, is_bounded, has_value, has_values, has_key, has_keys, each_entry, with_header, after_head, node_of, IsEntry, IsTable, IsSoundNode}
+use Rattle.bt_node.specs.Soundness.{node_expect, is_alike, has_layout, has_level, has_right_flags, is_empty, is_key_inside, is_value_inside, is_table_inside, is_entry_inside, is_bounded, has_value, has_values, has_key, has_keys, each_entry, with_header, after_head, node_of}
+use Rattle.bt_node.specs.SoundNode.{IsEntry, IsTable, IsSoundNode}
 use Rattle.bt_node.specs.View.{IsLegible}
 use Rattle.bt_node.proofs.Ranges.{one_passes, all_pass}
 use Rattle.bt_node.proofs.Places.{table_holds, table_ends, bounded_table, bounded_entry, key_ends}

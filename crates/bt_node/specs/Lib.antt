@@ -3,6 +3,7 @@ pub mod Shape
 pub mod Node
 pub mod Entries
 pub mod Soundness
+pub mod SoundNode
 pub mod Table
 pub mod View
 pub use Rattle.obj_base.specs.Site

@@ -1,7 +1,6 @@
 -- The fields of a node (B-Trees, btree_node_phys_t).
-use Rattle.std.specs.Prelude.{ℕ, ◌+◌, ◌-◌, Bool, List, length, Option, Some, None, if◌then◌else◌}
+use Rattle.std.specs.Prelude.{ℕ, ◌+◌, ◌-◌, Bool, List, length, if◌then◌else◌}
 use Rattle.apfs_model.specs.Bytes.{u16_at, u32_at, u64_at, has_flag}
-use Rattle.bt_node.specs.declared.node.RootInfo.{RootInfo}
 
 -- the node's flags (btn_flags)
 unfoldable pub flags_of : List ℕ → ℕ
@@ -78,7 +77,3 @@ key_count_of node = u64_at node (length node - info_len + 24)
 
 unfoldable pub node_count_of : List ℕ → ℕ
 node_count_of node = u64_at node (length node - info_len + 32)
-
--- what a root tells of its tree, and nothing at another node
-abbrev pub info_of : List ℕ → Option RootInfo
-info_of node = if is_root node then Some (record { node_size = node_size_of node; key_count = key_count_of node; node_count = node_count_of node }) else None

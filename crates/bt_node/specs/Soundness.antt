@@ -1,5 +1,5 @@
 -- Which nodes are sound, and which test is the first that fails.
-use Rattle.std.specs.Prelude.{◌≡◌, ℕ, ◌+◌, ◌*◌, ◌≤◌, ◌<◌, Bool, true, false, not, ◌&&◌, ◌||◌, ◌==◌, nat_lt, nat_le, List, Option, Some, None, is_some, IsSome, Result, Ok, Err, if◌then◌else◌}
+use Rattle.std.specs.Prelude.{ℕ, ◌+◌, ◌*◌, Bool, true, false, not, ◌&&◌, ◌||◌, ◌==◌, nat_lt, nat_le, List, Option, Some, is_some, Result, Ok, Err, if◌then◌else◌}
 use Rattle.std.specs.List.{range_with_len, list_all}
 use Rattle.apfs_model.specs.Object.{root_kind, node_kind}
 use Rattle.obj_base.specs.declared.header.Header.{Header}
@@ -8,7 +8,7 @@ use Rattle.obj_base.specs.declared.header.HeadFault.{HeadFault}
 use Rattle.obj_base.specs.declared.stop.Bad.{Bad}
 use Rattle.obj_base.specs.declared.stop.Bad.TheVariants.{Found, Unsupported}
 use Rattle.obj_base.specs.declared.stop.Feature.TheVariants.{Sealed, NoHeader, Deep, Size}
-use Rattle.obj_base.specs.Sound.{sound_of, agrees, IsSound}
+use Rattle.obj_base.specs.Sound.{sound_of, agrees}
 use Rattle.bt_node.specs.declared.key.Layout.{Layout}
 use Rattle.bt_node.specs.declared.key.Layout.TheVariants.{Fixed, Variable, Either}
 use Rattle.obj_base.specs.declared.site.Site.{Site}
@@ -90,14 +90,6 @@ has_key shape node i = is_some (shape.read (key_in node (place_of shape node i))
 unfoldable pub has_keys : {K : Type 0} → Shape K → List ℕ → Bool
 has_keys shape node = each_entry node (has_key shape node)
 
--- Bounds, Ghost, Key: the first of the three that some entry fails
-abbrev pub entries_fault : {K : Type 0} → Shape K → List ℕ → Option NodeFault
-entries_fault shape node =
-    if not (each_entry node (is_entry_inside shape node)) then Some Bounds else
-    if not (has_values shape node) then Some Ghost else
-    if not (has_keys shape node) then Some Key else
-    None
-
 -- the ten tests that follow that of the header, in their order
 unfoldable pub after_head : {K : Type 0} → Shape K → NodeAt → Site → List ℕ → Result (List ℕ) (Bad NodeFault)
 after_head shape at site node =
@@ -126,36 +118,3 @@ with_header shape at site node (Err bad) = Err (of_header bad)
 -- the node, where it is sound as expected, or the first test that fails (B-Trees, btree_node_phys_t)
 unfoldable pub node_of : {K : Type 0} → Shape K → NodeAt → Site → List ℕ → Result (List ℕ) (Bad NodeFault)
 node_of shape at site node = with_header shape at site node (sound_of node (node_expect shape at site))
-
--- a node that is sound as expected
-abbrev pub IsNode : {K : Type 0} → Shape K → NodeAt → Site → List ℕ → Type 0
-IsNode shape at site node = node_of shape at site node ≡ Ok node
-
--- the facts of an entry whose key and value can be lent
-pub record IsEntry {K : Type 0} (shape : Shape K) (node : List ℕ) (i : ℕ) : Type 0 where
-  pub key_ends : keys_begin node + (place_of shape node i).key_offset + (place_of shape node i).key_len ≤ end_of node
-  pub value_begins : is_ghost (place_of shape node i) ≡ false → keys_begin node + (place_of shape node i).value_offset ≤ end_of node
-  pub value_ends : is_ghost (place_of shape node i) ≡ false → (place_of shape node i).value_len ≤ (place_of shape node i).value_offset
-  pub child_fits : 0 < level_of node → 8 ≤ (place_of shape node i).value_len
-  pub valued : is_ghost (place_of shape node i) ≡ true → (shape.ghosts ≡ true) × (level_of node ≡ 0)
-  pub readable : IsSome (shape.read (key_in node (place_of shape node i)))
-
--- the facts of a table of contents: it holds its entries, it lies inside, and each entry can be lent
-pub record IsTable {K : Type 0} (shape : Shape K) (node : List ℕ) : Type 0 where
-  pub holds : count_of node * place_len node ≤ table_length_of node
-  pub ends : keys_begin node ≤ end_of node
-  pub entries : (i : ℕ) → i < count_of node → IsEntry shape node i
-
--- the facts of a node that is sound as expected
-pub record IsSoundNode {K : Type 0} (shape : Shape K) (at : NodeAt) (site : Site) (node : List ℕ) : Type 0 where
-  pub header : IsSound node (node_expect shape at site)
-  pub unsealed : is_hashed node ≡ false
-  pub headed : lacks_header node ≡ false
-  pub root_right : is_root node ≡ at.root
-  pub leaf_right : is_leaf node ≡ (level_of node == 0)
-  pub fixed_right : has_layout shape.layout node ≡ true
-  pub shallow : at.root ≡ true → level_of node ≤ 15
-  pub level_right : has_level at.level node ≡ true
-  pub size_right : at.root ≡ true → node_size_of node ≡ site.block_size
-  pub filled : count_of node ≡ 0 → (at.root ≡ true) × (level_of node ≡ 0)
-  pub table : IsTable shape node

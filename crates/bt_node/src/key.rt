@@ -1,6 +1,7 @@
 // What the keys of one kind of tree are.
 ghost use Rattle.std.specs.Prelude.{◌≡◌, ℕ, Bool};
-ghost use Rattle.bt_node.specs.Shape.{Shape, IsLawful};
+ghost use Rattle.bt_node.specs.Shape.{Shape};
+ghost use Rattle.bt_node.specs.SoundNode.{IsLawful};
 ghost use Rattle.bt_node.specs.Rank as ranks;
 ghost use Rattle.bt_node.specs.declared.key.Layout as layouts;
 

@@ -1,6 +1,7 @@
 // The fields of a node (B-Trees, btree_node_phys_t), and what is expected of one.
 ghost use Rattle.std.specs.Prelude.{◌≡◌, ◌+◌, ◌≤◌, ◌<◌, ◌^◌, length};
 ghost use Rattle.bt_node.specs.Node as fields;
+ghost use Rattle.bt_node.specs.SoundNode as sound_node;
 
 use apfs_layout::node as layout;
 use obj_base::{u16_at, u32_at, u64_at};
@@ -135,7 +136,7 @@ pub(crate) fn node_size(bytes: &[u8]) -> u32
 #[tactic(auto, unfolding(crate::specs::Node::node_size_of, crate::specs::Node::key_count_of, crate::specs::Node::node_count_of))]
 pub(crate) fn info(bytes: &[u8]) -> Option<RootInfo>
     requires { 96 ≤ length bytes.now }
-    ensures { result ≡ fields.info_of bytes.now }
+    ensures { result ≡ sound_node.info_of bytes.now }
 {
     if !is_root(bytes) {
         return None;

@@ -6,6 +6,7 @@
 ghost use Rattle.std.specs.Prelude.{◌≡◌, ◌≤◌, ◌<◌, ◌%◌, ◌&&◌, ◌==◌, length, true, MatchResult};
 ghost use Rattle.bt_node.specs.Node as fields;
 ghost use Rattle.bt_node.specs.Soundness as spec;
+ghost use Rattle.bt_node.specs.SoundNode as sound_node;
 
 use crate::table::Table;
 use crate::{Layout, NodeAt, NodeFault, Site, TreeKey, entries, node};
@@ -115,7 +116,7 @@ fn may_lack_values<K: TreeKey>(bytes: &[u8]) -> bool
 fn test_entries<K: TreeKey>(bytes: &[u8]) -> Option<NodeFault>
     requires long { 96 ≤ length bytes.now }
     requires table { spec.is_table_inside bytes.now ≡ true }
-    ensures { result ≡ spec.entries_fault K.shape bytes.now }
+    ensures { result ≡ sound_node.entries_fault K.shape bytes.now }
 {
     let table = Table::new(bytes);
     let mut valued = true;

@@ -2,8 +2,10 @@
 ghost use Rattle.std.specs.Prelude.{◌≡◌, ◌↔◌, ◌<◌, length, true, option_map, IsOk, IfOk, slice_get};
 ghost use Rattle.obj_base.specs.BlockSize as sizes;
 ghost use Rattle.bt_node.specs.Node as fields;
+ghost use Rattle.bt_node.specs.SoundNode as sound_node;
 ghost use Rattle.bt_node.specs.Entries as spec;
-ghost use Rattle.bt_node.specs.Soundness.{node_of, IsNode, IsSoundNode};
+ghost use Rattle.bt_node.specs.Soundness.{node_of};
+ghost use Rattle.bt_node.specs.SoundNode.{IsNode, IsSoundNode};
 
 use crate::{NodeAt, NodeFault, RootInfo, Site, TreeKey, entries, node, soundness};
 use obj_base::Bad;
@@ -140,7 +142,7 @@ impl<'a, K: TreeKey> NodeView<'a, K> {
 
     /// What the root tells of its tree; None exactly at another node.
     pub fn info(&self) -> Option<RootInfo>
-        ensures { result ≡ fields.info_of self.now }
+        ensures { result ≡ sound_node.info_of self.now }
     {
         node::info(self.bytes)
     }

@@ -11,7 +11,8 @@ use Rattle.obj_base.specs.declared.stop.Stop.TheVariants.{Found, Unsupported, Re
 use Rattle.obj_base.specs.Stops.{Tells, IsFree, raised}
 use Rattle.bt_cursor.specs.declared.gathering.GatherFault.{GatherFault}
 use Rattle.bt_cursor.specs.declared.gathering.GatherFault.TheVariants as gathers
-use Rattle.bt_cursor.specs.Line.{Item, child_id, leaf_pairs, line_of}
+use Rattle.bt_cursor.specs.Line.{Item, line_of}
+use Rattle.bt_cursor.specs.WholeTree.{child_id, leaf_pairs}
 use Rattle.bt_node.specs.declared.node.NodeAt.{NodeAt}
 use Rattle.bt_cursor.specs.Flat.{flat_of}
 use Rattle.bt_cursor.specs.Met.{nodes_of}

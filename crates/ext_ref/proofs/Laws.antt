@@ -8,7 +8,7 @@ use Rattle.obj_base.specs.declared.stop.Stop.TheVariants.{Found, Unsupported}
 use Rattle.obj_base.specs.declared.site.Site.{Site}
 use Rattle.bt_keys.specs.Shapes.{ext_shape}
 use Rattle.bt_cursor.specs.Line.{line_of}
-use Rattle.bt_cursor.specs.Whole.{IsWhole}
+use Rattle.bt_cursor.specs.WholeTree.{IsWhole}
 use Rattle.bt_cursor.proofs.Places.{whole-world, tree-levelled}
 use Rattle.bt_cursor.proofs.Wholes.{whole_means}
 use Rattle.ext_ref.specs.Ranges.{ext_tree}

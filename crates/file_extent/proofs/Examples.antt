@@ -2,7 +2,8 @@
 use Rattle.std.specs.Prelude.{◌≡◌, ℕ, List, [], ◌∷◌, refl}
 use Rattle.apfs_model.specs.Blocks.{block_of}
 use Rattle.fs_record.specs.declared.extents.FileExt.{FileExt}
-use Rattle.file_extent.specs.Streams.{byte_in, byte_of, stream_bytes, read_len}
+use Rattle.file_extent.specs.Streams.{byte_in, byte_of, stream_bytes}
+use Rattle.file_extent.specs.Opened.{read_len}
 
 abbrev image : List ℕ
 image = 0 ∷ 1 ∷ 2 ∷ 3 ∷ 10 ∷ 11 ∷ 12 ∷ 13 ∷ 20 ∷ 21 ∷ 22 ∷ 23 ∷ 30 ∷ 31 ∷ 32 ∷ 33 ∷ []

@@ -20,7 +20,8 @@ use Rattle.bt_node.specs.declared.key.Rank.{Rank}
 use Rattle.bt_cursor.specs.Tree.{Tree}
 use Rattle.bt_cursor.specs.Flat.{flat_of}
 use Rattle.bt_cursor.specs.Gaps.{Gapped, all_met}
-use Rattle.bt_cursor.specs.Line.{Item, is_leaf_item, line_of, leaf_pairs}
+use Rattle.bt_cursor.specs.Line.{Item, is_leaf_item, line_of}
+use Rattle.bt_cursor.specs.WholeTree.{leaf_pairs}
 use Rattle.bt_cursor.specs.Order.{rank_of, is_ordered}
 use Rattle.bt_cursor.specs.Search.{IsInOrder}
 use Rattle.bt_cursor.specs.Faults.{HasFeature}

@@ -8,7 +8,8 @@ use Rattle.fs_record.specs.declared.fault.RecFault.{RecFault}
 use Rattle.vol_view.specs.Volumes.{Loaded}
 use Rattle.vol_view.specs.Views.{view_flat, has_all_records, is_view_whole, IsViewFeature}
 use Rattle.vol_view.specs.declared.volume.View.{View}
-use Rattle.file_extent.specs.Streams.{Opened, extents_for, opened_of, are_extents_placed}
+use Rattle.file_extent.specs.Streams.{Opened, extents_for, are_extents_placed}
+use Rattle.file_extent.specs.Opened.{opened_of}
 use Rattle.file_extent.specs.Stops.{HasRefused}
 
 -- a feature that is named of a stream is there: of a node of the view

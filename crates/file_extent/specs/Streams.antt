@@ -1,5 +1,5 @@
 -- The bytes of a stream (Data Streams).
-use Rattle.std.specs.Prelude.{ℕ, Bool, ◌+◌, ◌-◌, ◌/◌, ◌%◌, List, map, min, slice_index, Option, None, Some, if◌then◌else◌}
+use Rattle.std.specs.Prelude.{ℕ, Bool, ◌+◌, ◌-◌, ◌/◌, ◌%◌, List, map, slice_index, Option, None, Some, if◌then◌else◌}
 use Rattle.std.specs.List.{range_with_len, find, list_all}
 use Rattle.apfs_model.specs.Blocks.{block_of}
 use Rattle.bt_node.specs.Entries.{Pair}
@@ -37,10 +37,6 @@ bytes_from block_size image es i n = map (byte_of block_size image es) (range_wi
 unfoldable pub stream_bytes : ℕ → List ℕ → List FileExt → ℕ → List ℕ
 stream_bytes block_size image es size = bytes_from block_size image es 0 size
 
--- how many bytes a read of n bytes from a place on gives: the fewer of n and what is left of the size
-abbrev pub read_len : ℕ → ℕ → ℕ → ℕ
-read_len size offset n = min n (size - offset)
-
 -- the extents of a stream lie in the container, but for holes
 unfoldable pub are_extents_placed : Site → List FileExt → Bool
 are_extents_placed site es = list_all (is_extent_placed site.block_size site.blocks) es
@@ -50,7 +46,3 @@ pub record Opened : Type 0 where
   pub site : Site
   pub extents : List FileExt
   pub size : ℕ
-
--- the stream of an id and a size among a view's records
-abbrev pub opened_of : Site → List Pair → ℕ → ℕ → Opened
-opened_of site pairs id size = record { site = site; extents = extents_for id pairs; size = size }

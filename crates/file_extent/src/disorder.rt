@@ -1,12 +1,13 @@
 // Why the records of a tree aren't in order, by a walk over all of it.
 ghost use Rattle.std.specs.Prelude.{◌≡◌, ◌++◌, ◌∷◌, [], ℕ, List, Option, Some, true, false, not, option_map, IfOk, IfErr, IsTrue};
 ghost use Rattle.apfs_model.specs.Counts.{Rose};
-ghost use Rattle.apfs_model.specs.Source.{IsKept};
+ghost use Rattle.apfs_model.specs.Kept.{IsKept};
 ghost use Rattle.obj_base.specs.Stops.{Tells};
 ghost use Rattle.obj_base.specs.declared.stop.Stop.TheVariants.{ReadFault};
 ghost use Rattle.obj_base.specs.Site.{IsSiteFor};
 ghost use Rattle.bt_cursor.specs.Tree.{tree_in};
-ghost use Rattle.bt_cursor.specs.Line.{Item, line_of, child_id};
+ghost use Rattle.bt_cursor.specs.Line.{Item, line_of};
+ghost use Rattle.bt_cursor.specs.WholeTree.{child_id};
 ghost use Rattle.bt_cursor.specs.Order.{is_ordered};
 ghost use Rattle.bt_cursor.specs.Faults.{HasFeature};
 ghost use Rattle.bt_cursor.specs.Gathered.{shown};

@@ -2,7 +2,7 @@
 ghost use Rattle.std.specs.Prelude.{◌≡◌, ◌+◌, ◌<◌, ◌≤◌, ℕ, List, Some, false, length, take, replicate, OnOk, OnErr, IfOk};
 ghost use Rattle.fs_record.specs.StreamExtents.{is_hole};
 ghost use Rattle.apfs_model.specs.Counts.{Rose};
-ghost use Rattle.apfs_model.specs.Source.{IsKept};
+ghost use Rattle.apfs_model.specs.Kept.{IsKept};
 ghost use Rattle.obj_base.specs.Site.{IsSiteFor};
 ghost use Rattle.file_extent.specs.Streams.{bytes_from};
 ghost use Rattle.file_extent.specs.Laid.{AreLaid, IsPart};

@@ -36,10 +36,11 @@ impl Model for Stream {
 impl Stream {
     ghost use Rattle.std.specs.Prelude.{◌≡◌, ◌+◌, ◌-◌, ◌<◌, ◌≤◌, ℕ, List, Some, true, length, take, OnOk, OnErr, IfOk, IfErr, IsErrOf};
     ghost use Rattle.apfs_model.specs.Counts.{Rose};
-    ghost use Rattle.apfs_model.specs.Source.{IsKept};
+    ghost use Rattle.apfs_model.specs.Kept.{IsKept};
     ghost use Rattle.apfs_model.specs.Sink.{Wrote, WrotePart};
     ghost use Rattle.obj_base.specs.Site.{IsSiteFor};
-    ghost use Rattle.file_extent.specs.Streams.{read_len, bytes_from, stream_bytes};
+    ghost use Rattle.file_extent.specs.Streams.{bytes_from, stream_bytes};
+    ghost use Rattle.file_extent.specs.Opened.{read_len};
     ghost use Rattle.file_extent.specs.Copied.{CopiedWhole, CopiedFront, Copied};
     ghost use Rattle.obj_base.specs.Stops.{Tells, IsFree};
     ghost use Rattle.obj_base.specs.declared.stop.Stop.TheVariants as stops;

@@ -14,7 +14,7 @@ use Rattle.obj_base.specs.declared.site.Site.{Site}
 use Rattle.fs_name.specs.declared.naming.Names.TheVariants.{Folded}
 use Rattle.fs_name.specs.Text.{is_name, name_in, is_ascii_name}
 use Rattle.fs_name.specs.Crc.{after_bits, after_byte, crc32c_of}
-use Rattle.fs_name.specs.Normal.{letter_of}
+use Rattle.fs_name.specs.Steps.{letter_of}
 use Rattle.fs_name.specs.Hash.{hash_chars, name_hash_of}
 use Rattle.fs_name.proofs.NormalLemmas.{ascii_normal_form}
 use Rattle.fs_record.specs.Fields.{fields_of, have_fields_room, field_of, is_field_long}

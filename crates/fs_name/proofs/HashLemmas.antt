@@ -8,8 +8,8 @@ use Rattle.std.proofs.lemmas.List.Folds.{fold-map}
 use Rattle.std.proofs.lemmas.Nat.{and_mask}
 use Rattle.fs_name.specs.declared.naming.Names.{Names}
 use Rattle.fs_name.specs.Crc.{ones, after_byte, after_bytes, crc32c_of}
-use Rattle.fs_name.specs.Hash.{bytes_of_chars, after_char, hash_chars, name_hash_of}
-use Rattle.fs_name.specs.Normal.{letter_of}
+use Rattle.fs_name.specs.Hash.{bytes_of_chars, hash_chars, name_hash_of}
+use Rattle.fs_name.specs.Steps.{after_char, letter_of}
 use Rattle.fs_name.proofs.NormalLemmas.{ascii_normal_form}
 
 -- the bytes of characters go one character at a time

@@ -11,7 +11,8 @@ use Rattle.caseless.specs.Caseless.{canonical_key, IsCanonicalMatch}
 use Rattle.caseless.proofs.CaselessLemmas.{canonical_key-ascii, default_case_fold-ascii}
 use Rattle.fs_name.specs.declared.naming.Names.{Names}
 use Rattle.fs_name.specs.declared.naming.Names.TheVariants.{Exact, Normal, Folded}
-use Rattle.fs_name.specs.Normal.{normal_chars, normal_form, letter_of, is_same_name}
+use Rattle.fs_name.specs.Normal.{normal_chars, normal_form, is_same_name}
+use Rattle.fs_name.specs.Steps.{letter_of}
 
 -- a text that was made of some characters has these characters
 pub chars_of_made : {Z : Type 0} (made : String Z) (cs : List ℕ) → string_bytes made ≡ encode_utf8_all cs → chars (string_bytes made) ≡ cs

@@ -7,7 +7,8 @@ use Rattle.std.proofs.lemmas.Grind.{common_steps}
 use Rattle.std.proofs.lemmas.List.{get_or_push}
 use Rattle.std.proofs.lemmas.List.Elements.{filter-append}
 use Rattle.std.proofs.lemmas.Str.{IsUtf8-from_is_utf8, is_utf8-from_IsUtf8, IsUtf8-take, IsUtf8-append, IsUtf8-from_ascii}
-use Rattle.fs_name.specs.Text.{zeros, is_name, name_in, name_of}
+use Rattle.fs_name.specs.Text.{zeros, is_name, name_in}
+use Rattle.fs_name.specs.Steps.{name_of}
 use Rattle.fs_name.proofs.NormalLemmas.{same_test}
 
 -- a list has a zero exactly where its zeros are one or more

@@ -2,16 +2,12 @@
 use Rattle.std.specs.Prelude.{ℕ, ◌%◌, ◌^◌, List, flat_map}
 use Rattle.std.specs.Int.{w32, bit_not, to_le_bytes}
 use Rattle.fs_name.specs.declared.naming.Names.{Names}
-use Rattle.fs_name.specs.Crc.{after_bytes, crc32c_of}
+use Rattle.fs_name.specs.Crc.{crc32c_of}
 use Rattle.fs_name.specs.Normal.{normal_form}
 
 -- characters as numbers of 32 bits, each with its lowest byte first
 abbrev pub bytes_of_chars : List ℕ → List ℕ
 bytes_of_chars cs = flat_map (to_le_bytes w32) cs
-
--- a remainder after one more character
-abbrev pub after_char : ℕ → ℕ → ℕ
-after_char remainder c = after_bytes remainder (to_le_bytes w32 c)
 
 -- the hash of characters: the low 22 bits of their CRC-32C, complemented
 unfoldable pub hash_chars : List ℕ → ℕ

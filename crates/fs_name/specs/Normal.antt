@@ -1,6 +1,5 @@
 -- The normal form of a name, by which a volume compares and hashes names (File-System Objects, j_drec_hashed_key_t).
 use Rattle.std.specs.Prelude.{ℕ, Bool, true, false, List, chars, bytes_eq, if◌then◌else◌}
-use Rattle.std.specs.Char.{to_ascii_lowercase}
 use Rattle.unicode_normalization.specs.Forms.{nfd}
 use Rattle.caseless.specs.Caseless.{default_case_fold}
 use Rattle.apfs_model.specs.Bytes.{has_flag}
@@ -28,12 +27,6 @@ normal_chars Folded cs = nfd (default_case_fold (nfd cs))
 -- the normal form of a name, as characters
 abbrev pub normal_form : Names → List ℕ → List ℕ
 normal_form names name = normal_chars names (chars name)
-
--- the normal form of an ASCII letter
-abbrev pub letter_of : Names → ℕ → ℕ
-letter_of Exact c = c
-letter_of Normal c = c
-letter_of Folded c = to_ascii_lowercase c
 
 -- two names are the same: their normal forms are equal
 unfoldable pub is_same_name : Names → List ℕ → List ℕ → Bool

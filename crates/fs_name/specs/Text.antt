@@ -1,5 +1,5 @@
 -- Names as they stand in keys and values (File-System Objects, j_drec_key_t and its kin).
-use Rattle.std.specs.Prelude.{ℕ, ◌-◌, Bool, if◌then◌else◌, ◌&&◌, ◌==◌, nat_le, nat_lt, List, length, filter, take, slice_index, Option, Some, None}
+use Rattle.std.specs.Prelude.{ℕ, ◌-◌, Bool, ◌&&◌, ◌==◌, nat_le, nat_lt, List, length, filter, take, slice_index}
 use Rattle.std.specs.List.{list_all}
 use Rattle.std.specs.Str.{is_utf8}
 
@@ -14,10 +14,6 @@ is_name raw = nat_le 2 (length raw) && slice_index raw (length raw - 1) == 0 && 
 -- the name in a stored name: all but the final zero
 unfoldable pub name_in : List ℕ → List ℕ
 name_in raw = take (length raw - 1) raw
-
--- the name that a stored name has, where it is one
-unfoldable pub name_of : List ℕ → Option (List ℕ)
-name_of raw = if is_name raw then Some (name_in raw) else None
 
 -- a name of ASCII characters alone
 unfoldable pub is_ascii_name : List ℕ → Bool

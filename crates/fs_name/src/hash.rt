@@ -1,8 +1,8 @@
 // The hash of a name.
 ghost use Rattle.std.specs.Prelude.{◌≡◌, chars, fold, IsOk, IfOk, IsAscii};
 ghost use Rattle.fs_name.specs.Crc.{ones};
-ghost use Rattle.fs_name.specs.Hash.{after_char, hash_chars, name_hash_of};
-ghost use Rattle.fs_name.specs.Normal.{letter_of};
+ghost use Rattle.fs_name.specs.Hash.{hash_chars, name_hash_of};
+ghost use Rattle.fs_name.specs.Steps.{after_char, letter_of};
 
 use crate::Names;
 use crate::crc::{ONES, after_word};

@@ -1,6 +1,6 @@
 // Names as they are stored.
 ghost use Rattle.std.specs.Prelude.{◌≡◌, option_map};
-ghost use Rattle.fs_name.specs.Text.{name_of};
+ghost use Rattle.fs_name.specs.Steps.{name_of};
 
 /// The name in a stored name, which is UTF-8, ends with its one zero and has another byte before it; None exactly for other bytes.
 /// Takes no memory.

@@ -4,7 +4,8 @@ use Rattle.std.specs.List.{range_with_len}
 use Rattle.std.proofs.Common.{arith, ap, sym, subst}
 use Rattle.std.proofs.lemmas.Grind.{common_steps}
 use Rattle.std.proofs.lemmas.Bool.Decides.{nat_tests}
-use Rattle.fs_record.specs.Fields.{size_at, sizes_of, field_count_of, laid_out, placed, padded, fields_of, field_of, has_table, have_fields_room, is_field_long, field_place}
+use Rattle.fs_record.specs.Fields.{size_at, sizes_of, field_count_of, laid_out, placed, padded, fields_of, field_of, has_table, have_fields_room, is_field_long}
+use Rattle.fs_record.specs.Reading.{field_place}
 use Rattle.fs_record.specs.Search.{fits, field_seen, place_after}
 use Rattle.fs_record.specs.declared.fields.Field.{Field}
 use Rattle.fs_record.specs.declared.fault.RecFault.{RecFault}

@@ -5,8 +5,8 @@ use Rattle.std.proofs.lemmas.Grind.{common_steps}
 use Rattle.std.proofs.lemmas.Bool.Decides.{nat_tests}
 use Rattle.apfs_model.specs.Bytes.{u16_at, u64_at}
 use Rattle.fs_name.specs.declared.naming.Names.{Names}
-use Rattle.fs_name.specs.Text.{name_of}
-use Rattle.fs_record.specs.Fields.{field_place}
+use Rattle.fs_name.specs.Steps.{name_of}
+use Rattle.fs_record.specs.Reading.{field_place}
 use Rattle.fs_record.specs.Inodes.{inode_of, stream_at, stream_of, parent_of, private_id_of, links_of, bsd_flags_of, mode_of}
 use Rattle.fs_record.specs.Entries.{entry_of, entry_hash, entry_name_bytes, sibling_of}
 use Rattle.fs_record.specs.declared.fault.RecFault.{RecFault}

@@ -3,8 +3,6 @@ use Rattle.std.specs.Prelude.{ℕ, ◌+◌, Bool, not, ◌&&◌, ◌||◌, nat_l
 use Rattle.apfs_model.specs.Bytes.{u16_at, u64_at, part_at, has_flag}
 use Rattle.bt_keys.specs.RecordKey.{plain_name_of}
 use Rattle.fs_name.specs.Text.{is_name, name_in}
-use Rattle.fs_record.specs.declared.attribute.AttrBody.{AttrBody}
-use Rattle.fs_record.specs.declared.attribute.AttrBody.TheVariants as bodies
 use Rattle.fs_record.specs.declared.fault.RecFault.{RecFault}
 use Rattle.fs_record.specs.declared.fault.RecFault.TheVariants.{Length, Flags, Name}
 
@@ -16,11 +14,6 @@ pub data Body : Type 0 where
 pub record Attribute : Type 0 where
   pub name : List ℕ
   pub body : Body
-
--- what an attribute's body holds, as the bytes that it lends
-abbrev pub body_seen : AttrBody → Body
-body_seen (bodies.Embedded bytes) = Embedded bytes.now
-body_seen (bodies.Stream id size) = Streamed id size
 
 -- the attribute's flags (flags, XATTR_DATA_STREAM and XATTR_DATA_EMBEDDED)
 unfoldable pub flags_of : List ℕ → ℕ

@@ -1,7 +1,7 @@
 -- Directory entries (File-System Objects, j_drec_val_t).
-use Rattle.std.specs.Prelude.{ℕ, ◌%◌, Bool, not, ◌&&◌, nat_lt, List, length, Option, option_map, Result, Ok, Err, if◌then◌else◌}
+use Rattle.std.specs.Prelude.{ℕ, ◌%◌, not, ◌&&◌, nat_lt, List, length, Option, option_map, Result, Ok, Err, if◌then◌else◌}
 use Rattle.apfs_model.specs.Bytes.{u16_at, u64_at}
-use Rattle.bt_keys.specs.RecordKey.{hash_of, hashed_name_of, plain_name_of, has_hashed_name, has_plain_name}
+use Rattle.bt_keys.specs.RecordKey.{hash_of, hashed_name_of, plain_name_of}
 use Rattle.fs_name.specs.declared.naming.Names.{Names}
 use Rattle.fs_name.specs.Normal.{are_hashed}
 use Rattle.fs_name.specs.Text.{is_name, name_in}
@@ -29,10 +29,6 @@ sibling_field = 1
 -- the name in an entry's key, its final zero among its bytes
 abbrev pub entry_name_bytes : Names → List ℕ → List ℕ
 entry_name_bytes names key = if are_hashed names then hashed_name_of key else plain_name_of key
-
--- the name lies inside the key
-abbrev pub has_entry_name : Names → List ℕ → Bool
-has_entry_name names key = if are_hashed names then has_hashed_name key else has_plain_name key
 
 -- the stored hash of an entry's name; 0 where names aren't hashed
 abbrev pub entry_hash : Names → List ℕ → ℕ

@@ -1,10 +1,8 @@
 -- Extended fields (Extended Fields, xf_blob_t and x_field_t).
-use Rattle.std.specs.Prelude.{ℕ, ◌+◌, ◌*◌, ◌/◌, Bool, true, ◌&&◌, ◌==◌, nat_le, List, [], ◌∷◌, length, map, slice_index, Option, None, Some, option_map, Result, Ok, Err, not, if◌then◌else◌}
+use Rattle.std.specs.Prelude.{ℕ, ◌+◌, ◌*◌, ◌/◌, Bool, true, ◌&&◌, ◌==◌, nat_le, List, [], ◌∷◌, length, map, slice_index, Option, None, Some, if◌then◌else◌}
 use Rattle.std.specs.List.{range_with_len, list_all, find}
 use Rattle.apfs_model.specs.Bytes.{u16_at}
 use Rattle.fs_record.specs.declared.fields.Field.{Field}
-use Rattle.fs_record.specs.declared.fault.RecFault.{RecFault}
-use Rattle.fs_record.specs.declared.fault.RecFault.TheVariants as faults
 
 -- what the table says of a field: its type and its size
 pub record Size : Type 0 where
@@ -60,9 +58,3 @@ field_of value at type = find (λ (f : Field). f.kind == type) (fields_of value 
 unfoldable pub is_field_long : Option Field → ℕ → Bool
 is_field_long None n = true
 is_field_long (Some f) n = nat_le n f.len
-
--- where the contents of the first field of a type start, where there is one; Fields where what is there doesn't fit or that field is too short
-unfoldable pub field_place : List ℕ → ℕ → ℕ → ℕ → Result (Option ℕ) RecFault
-field_place value at type least =
-    if not (have_fields_room value at && is_field_long (field_of value at type) least) then Err faults.Fields else
-    Ok (option_map (λ (f : Field). f.at) (field_of value at type))

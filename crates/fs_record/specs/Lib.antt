@@ -3,6 +3,7 @@ pub mod Search
 pub mod Inodes
 pub mod Entries
 pub mod Attributes
+pub mod Reading
 pub mod Siblings
 pub mod Extents
 pub mod StreamExtents

@@ -1,6 +1,6 @@
 // What an extended attribute's record says (Extended Attributes, j_xattr_key_t and j_xattr_val_t).
 ghost use Rattle.std.specs.Prelude.{◌≡◌};
-ghost use Rattle.fs_record.specs.Attributes.{body_seen};
+ghost use Rattle.fs_record.specs.Reading.{body_seen};
 
 use std::marker::Model;
 
@@ -21,7 +21,8 @@ pub struct Attr<'a> {
 }
 
 impl<'a> Model for Attr<'a> {
-    ghost use Rattle.fs_record.specs.Attributes.{Attribute, body_seen};
+    ghost use Rattle.fs_record.specs.Attributes.{Attribute};
+    ghost use Rattle.fs_record.specs.Reading.{body_seen};
 
     ghost Value = { Attribute };
 

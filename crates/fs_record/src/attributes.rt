@@ -1,7 +1,8 @@
 // Reading extended attributes (Extended Attributes, j_xattr_key_t and j_xattr_val_t).
 ghost use Rattle.std.specs.Prelude.{◌≡◌, ◌≤◌, length, true, false};
 ghost use Rattle.bt_keys.specs.RecordKey.{has_plain_name, plain_name_of};
-ghost use Rattle.fs_record.specs.Attributes.{attribute_of, is_attribute_short, is_streamed, is_embedded, contents_of, body_in, body_seen};
+ghost use Rattle.fs_record.specs.Attributes.{attribute_of, is_attribute_short, is_streamed, is_embedded, contents_of, body_in};
+ghost use Rattle.fs_record.specs.Reading.{body_seen};
 
 use crate::{Attr, AttrBody, RecFault};
 use apfs_layout::{key as keys, record as layout};

@@ -2,7 +2,8 @@
 ghost use Rattle.std.specs.Prelude.{◌≡◌, ◌≤◌, ◌+◌, length, true, IfSome, option_map};
 ghost use Rattle.apfs_model.specs.Bytes as numbers;
 ghost use Rattle.bt_keys.specs.RecordKey.{has_hashed_name, hash_of, hashed_name_of};
-ghost use Rattle.fs_record.specs.Entries.{entry_of, entry_name_bytes, entry_hash, has_entry_name};
+ghost use Rattle.fs_record.specs.Entries.{entry_of, entry_name_bytes, entry_hash};
+ghost use Rattle.fs_record.specs.Reading.{has_entry_name};
 
 use crate::RecFault;
 use crate::attributes::plain_name;

@@ -1,6 +1,7 @@
 // Extended fields (Extended Fields, xf_blob_t and x_field_t).
 ghost use Rattle.std.specs.Prelude.{◌≡◌, ◌≤◌, ◌+◌, ◌*◌, ◌<◌, length, true, IfOk, IfSome, None};
 ghost use Rattle.fs_record.specs.Fields as spec;
+ghost use Rattle.fs_record.specs.Reading as reading;
 ghost use Rattle.fs_record.specs.Search.{field_seen, place_after};
 
 use crate::RecFault;
@@ -112,7 +113,7 @@ pub(crate) fn find(
     least: usize,
 ) -> Result<Option<usize>, RecFault>
     requires { at ≤ length value.now }
-    ensures found { result ≡ spec.field_place value.now at kind least }
+    ensures found { result ≡ reading.field_place value.now at kind least }
     ensures inside { IfOk result (λ place. IfSome place (λ start. start + least ≤ length value.now)) }
 {
     if value.len() == at {

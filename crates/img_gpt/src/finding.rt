@@ -2,7 +2,7 @@
 ghost use Rattle.std.specs.Prelude.{◌≡◌, ◌+◌, ◌≤◌, ℕ, List, Some, Ok, true, false, IfOk, IfErr, IsErrOf, OnErr, MatchOption};
 ghost use Rattle.apfs_model.specs.Bytes.{part_at};
 ghost use Rattle.apfs_model.specs.Counts.{Rose};
-ghost use Rattle.apfs_model.specs.Source.{IsKept};
+ghost use Rattle.apfs_model.specs.Kept.{IsKept};
 ghost use Rattle.img_gpt.specs.Table.{has_header, sector_of, container_entry, entry_at};
 ghost use Rattle.img_gpt.specs.Partition.{found_part, HasTable};
 ghost use Rattle.img_gpt.specs.Laws.{IsTableStop};

@@ -1,5 +1,5 @@
 -- The EFI jumpstart (EFI Jumpstart, nx_efi_jumpstart_t).
-use Rattle.std.specs.Prelude.{ℕ, ◌+◌, ◌*◌, Bool, ◌==◌, ◌&&◌, nat_le, List, length, map, Option, Some, None, if◌then◌else◌}
+use Rattle.std.specs.Prelude.{ℕ, ◌+◌, ◌*◌, Bool, ◌==◌, ◌&&◌, nat_le, List, length, map}
 use Rattle.std.specs.List.{range_with_len}
 use Rattle.apfs_model.specs.Bytes.{u32_at}
 use Rattle.nx_block.specs.Super.{range_at}
@@ -23,10 +23,6 @@ jump_extent_of bytes i = range_at bytes (176 + 16 * i)
 -- a jumpstart: it has the magic, and its extents fit its block
 unfoldable pub is_jump : List ℕ → Bool
 is_jump bytes = (jump_magic_of bytes == jump_magic) && nat_le (176 + 16 * jump_count_of bytes) (length bytes)
-
--- the jumpstart, where the block is one
-abbrev pub jump_of : List ℕ → Option (List ℕ)
-jump_of bytes = if is_jump bytes then Some bytes else None
 
 -- the extents of the driver
 abbrev pub jump_extents_of : List ℕ → List (ℕ × ℕ)

@@ -6,10 +6,6 @@ use Rattle.apfs_model.specs.Bytes.{u32_at, u64_at, part_at}
 abbrev pub nx_magic : ℕ
 nx_magic = 0x4253584e
 
--- the four bytes of the magic (nx_magic)
-unfoldable pub magic_bytes_of : List ℕ → List ℕ
-magic_bytes_of bytes = part_at bytes 32 4
-
 -- the magic, as a number (nx_magic)
 unfoldable pub magic_of : List ℕ → ℕ
 magic_of bytes = u32_at bytes 32
@@ -30,14 +26,6 @@ incompat_of bytes = u64_at bytes 64
 unfoldable pub uuid_of : List ℕ → List ℕ
 uuid_of bytes = part_at bytes 72 16
 
--- the next object's id (nx_next_oid)
-unfoldable pub next_oid_of : List ℕ → ℕ
-next_oid_of bytes = u64_at bytes 88
-
--- the next transaction (nx_next_xid)
-unfoldable pub next_xid_of : List ℕ → ℕ
-next_xid_of bytes = u64_at bytes 96
-
 -- the blocks of the descriptor area; the highest bit says that it isn't contiguous (nx_xp_desc_blocks)
 unfoldable pub desc_blocks_of : List ℕ → ℕ
 desc_blocks_of bytes = u32_at bytes 104
@@ -54,14 +42,6 @@ desc_base_of bytes = u64_at bytes 112
 unfoldable pub data_base_of : List ℕ → ℕ
 data_base_of bytes = u64_at bytes 120
 
--- the next index of the descriptor area (nx_xp_desc_next)
-unfoldable pub desc_next_of : List ℕ → ℕ
-desc_next_of bytes = u32_at bytes 128
-
--- the next index of the data area (nx_xp_data_next)
-unfoldable pub data_next_of : List ℕ → ℕ
-data_next_of bytes = u32_at bytes 132
-
 -- the index of the checkpoint's first block (nx_xp_desc_index)
 unfoldable pub desc_index_of : List ℕ → ℕ
 desc_index_of bytes = u32_at bytes 136
@@ -69,14 +49,6 @@ desc_index_of bytes = u32_at bytes 136
 -- the blocks of the checkpoint: its maps and its superblock (nx_xp_desc_len)
 unfoldable pub desc_len_of : List ℕ → ℕ
 desc_len_of bytes = u32_at bytes 140
-
--- the index of the checkpoint's first data block (nx_xp_data_index)
-unfoldable pub data_index_of : List ℕ → ℕ
-data_index_of bytes = u32_at bytes 144
-
--- the checkpoint's data blocks (nx_xp_data_len)
-unfoldable pub data_len_of : List ℕ → ℕ
-data_len_of bytes = u32_at bytes 148
 
 -- the space manager, an ephemeral oid (nx_spaceman_oid)
 unfoldable pub space_oid_of : List ℕ → ℕ

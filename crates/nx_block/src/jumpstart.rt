@@ -2,7 +2,8 @@
 //
 // Tests: the magic, and that the extents fit. Gives: the extents of the driver. Rests on: nothing below.
 ghost use Rattle.std.specs.Prelude.{◌≡◌, ◌≤◌, ◌<◌, length};
-ghost use Rattle.nx_block.specs.Jump.{jump_of, jump_count_of, jump_extent_of};
+ghost use Rattle.nx_block.specs.Jump.{jump_count_of, jump_extent_of};
+ghost use Rattle.nx_block.specs.OtherFields.{jump_of};
 
 use crate::view::range_in;
 use apfs_layout::jumpstart;

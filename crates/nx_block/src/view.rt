@@ -2,7 +2,8 @@
 ghost use Rattle.std.specs.Prelude.{◌≡◌, ◌<◌, ◌≤◌, ◌+◌, length};
 ghost use Rattle.obj_base.specs.Sound.{header_of};
 ghost use Rattle.nx_block.specs.Read.{read_of};
-ghost use Rattle.nx_block.specs.Super.{magic_bytes_of, block_size_of, block_count_of, incompat_of, uuid_of, next_oid_of, next_xid_of, desc_blocks_of, data_blocks_of, desc_base_of, data_base_of, desc_next_of, data_next_of, desc_index_of, desc_len_of, data_index_of, data_len_of, space_oid_of, omap_oid_of, reaper_oid_of, fs_oid_of, blocked_of, eviction_of, jumpstart_of, locker_of, media_locker_of, slots, range_at};
+ghost use Rattle.nx_block.specs.Super.{block_size_of, block_count_of, incompat_of, uuid_of, desc_blocks_of, data_blocks_of, desc_base_of, data_base_of, desc_index_of, desc_len_of, space_oid_of, omap_oid_of, reaper_oid_of, fs_oid_of, blocked_of, eviction_of, jumpstart_of, locker_of, media_locker_of, slots, range_at};
+ghost use Rattle.nx_block.specs.OtherFields.{magic_bytes_of, next_oid_of, next_xid_of, desc_next_of, data_next_of, data_index_of, data_len_of};
 
 use apfs_layout::container;
 use obj_base::{Header, u32_at, u64_at};

@@ -13,7 +13,8 @@ use Rattle.nx_ring.specs.declared.fault.RingFault.TheVariants.{BlockZero, Trunca
 use Rattle.nx_ring.specs.Zero.{zero_of, areas_of, after_zero, where_whole, is_short, IsWrongZero, IsTruncated, IsNonContiguous}
 use Rattle.nx_ring.specs.Candidates.{all_candidates}
 use Rattle.nx_ring.specs.Checkpoint.{Seen}
-use Rattle.nx_ring.specs.Newest.{newest_line, seen_of, checkpoint_of, checkpoint_or, newest_of, passing, skipped_of, IsFault, IsFeature}
+use Rattle.nx_ring.specs.Newest.{newest_line, seen_of, checkpoint_of, checkpoint_or, newest_of, skipped_of, IsFault, IsFeature}
+use Rattle.nx_ring.specs.Reading.{passing}
 use Rattle.nx_ring.specs.Ring.{IsRingFault, IsRingFeature}
 
 -- the best of all candidates, with those before which it stands, is the newest checkpoint

@@ -9,7 +9,8 @@ use Rattle.std.proofs.Math.Nat.{mul-div-le, mul-le-mul_left}
 use Rattle.std.proofs.lemmas.Grind.{common_steps}
 use Rattle.obj_base.specs.BlockSize.{is_accepted}
 use Rattle.nx_block.specs.Super.{block_size_of, block_count_of, desc_base_of, desc_blocks_of, data_base_of, data_blocks_of}
-use Rattle.nx_ring.specs.Zero.{has_areas, is_area, is_short, is_contiguous, areas_of, Fits}
+use Rattle.nx_ring.specs.Zero.{has_areas, is_area, is_short, is_contiguous, areas_of}
+use Rattle.nx_ring.specs.Reading.{Fits}
 
 -- a block below the end of a range that fits, fits
 pub block_fits : (size a b len : ℕ) → a < b → size * b ≤ len → size * a + size ≤ len

@@ -5,7 +5,8 @@ use Rattle.std.specs.List.{find}
 use Rattle.std.proofs.lemmas.Grind.{common_steps}
 use Rattle.apfs_model.specs.Lists.{In}
 use Rattle.nx_ring.specs.Objects.{Place}
-use Rattle.nx_ring.specs.Checkpoint.{Seen, eph, eph_ids}
+use Rattle.nx_ring.specs.Checkpoint.{Seen, eph}
+use Rattle.nx_ring.specs.Reading.{eph_ids}
 
 found_here : (oid : ℕ) (q p : Place) (ps : List Place) (b : Bool) → (q.oid == oid) ≡ b → cond b (Some q) (find (λ (r : Place). r.oid == oid) ps) ≡ Some p → (find (λ (r : Place). r.oid == oid) ps ≡ Some p → In oid (map (λ (r : Place). r.oid) ps)) → In oid (map (λ (r : Place). r.oid) (q ∷ ps))
 found_here oid q p ps true e f rec = inl (Prim.grind (arith, common_steps, e))

@@ -18,7 +18,7 @@ use Rattle.nx_ring.specs.declared.line.RingLine.{RingLine}
 use Rattle.nx_ring.specs.Candidates.{is_candidate, candidate, candidate_in, all_candidates, ring_block}
 use Rattle.nx_ring.specs.Mappings.{is_map}
 use Rattle.nx_ring.specs.Valid.{index_after, is_map_after, has_maps, has_mappings, mappings_of, first_mappings, blocks_of, is_valid, are_apart}
-use Rattle.nx_ring.specs.Newest.{loaded}
+use Rattle.nx_ring.specs.Reading.{loaded}
 use Rattle.nx_ring.proofs.Few.{few_blocks}
 
 head_sound : (bytes : List ℕ) (r : Result Header (Bad HeadFault)) → is_ok (with_head bytes r) ≡ true → is_ok r ≡ true

@@ -7,7 +7,7 @@ use Rattle.nx_block.specs.Super.{block_size_of, block_count_of}
 use Rattle.nx_block.specs.Read.{read_of}
 use Rattle.nx_block.proofs.Laws.{read_means}
 use Rattle.nx_ring.specs.Checkpoint.{Seen, site_of}
-use Rattle.nx_ring.specs.Newest.{IsHeld}
+use Rattle.nx_ring.specs.Reading.{IsHeld}
 
 -- a superblock that is read has an accepted block size
 pub size_accepted : (nx : List ℕ) → read_of nx ≡ Ok nx → is_accepted (block_size_of nx) ≡ true

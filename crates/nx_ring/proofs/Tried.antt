@@ -15,7 +15,8 @@ use Rattle.apfs_model.specs.Lists.{greatest, greater_of}
 use Rattle.apfs_model.proofs.Greatest.{All-cons}
 use Rattle.nx_ring.specs.declared.areas.Areas.{Areas}
 use Rattle.nx_ring.specs.declared.line.RingLine.{RingLine}
-use Rattle.nx_ring.specs.Candidates.{candidate, candidate_in, all_candidates, AreCandidates}
+use Rattle.nx_ring.specs.Candidates.{candidate, candidate_in, all_candidates}
+use Rattle.nx_ring.specs.Reading.{AreCandidates}
 use Rattle.nx_ring.specs.Valid.{is_valid}
 use Rattle.nx_ring.specs.Order.{is_before}
 use Rattle.nx_ring.specs.Newest.{newest_line}

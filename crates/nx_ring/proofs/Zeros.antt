@@ -12,7 +12,8 @@ use Rattle.nx_block.specs.Read.{size_of}
 use Rattle.nx_block.proofs.Laws.{size_means}
 use Rattle.nx_ring.specs.declared.fault.RingFault.{RingFault}
 use Rattle.nx_ring.specs.declared.fault.RingFault.TheVariants.{BlockZero}
-use Rattle.nx_ring.specs.Zero.{first_of, size_in, zero_of, has_zero, zero_in, zero_reads}
+use Rattle.nx_ring.specs.Zero.{first_of, size_in, zero_of, has_zero}
+use Rattle.nx_ring.specs.Reading.{zero_in, zero_reads}
 
 -- block 0 takes one read or more
 pub one_read : (image : List ℕ) → 1 ≤ zero_reads image

@@ -1,5 +1,5 @@
 -- The candidates of the descriptor area (Container, "Mounting an Apple File System Partition").
-use Rattle.std.specs.Prelude.{◌≡◌, ℕ, All, ◌+◌, ◌*◌, Bool, ◌&&◌, ◌==◌, nat_le, List, length, Option, None, Some, is_ok, if◌then◌else◌}
+use Rattle.std.specs.Prelude.{ℕ, ◌+◌, ◌*◌, Bool, ◌&&◌, ◌==◌, nat_le, List, length, Option, None, Some, is_ok, if◌then◌else◌}
 use Rattle.std.specs.List.{range_with_len, filter_map}
 use Rattle.apfs_model.specs.Blocks.{block_of}
 use Rattle.apfs_model.specs.Object.{xid_of}
@@ -49,7 +49,3 @@ candidates image areas n = filter_map (candidate image areas) (range_with_len 0 
 -- the candidates of the whole area
 unfoldable pub all_candidates : List ℕ → Areas → List RingLine
 all_candidates image areas = candidates image areas areas.desc_blocks
-
--- each line is the candidate at its index
-abbrev pub AreCandidates : List ℕ → Areas → List RingLine → Type 0
-AreCandidates image areas lines = All (λ line. candidate image areas line.index ≡ Some line) lines

@@ -1,5 +1,5 @@
 -- A checkpoint, and what it maps.
-use Rattle.std.specs.Prelude.{ℕ, ◌==◌, List, map, Option, option_map}
+use Rattle.std.specs.Prelude.{ℕ, ◌==◌, List, Option, option_map}
 use Rattle.std.specs.List.{find}
 use Rattle.nx_ring.specs.declared.line.RingLine.{RingLine}
 use Rattle.obj_base.specs.declared.site.Site.{Site}
@@ -16,10 +16,6 @@ pub record Seen : Type 0 where
 -- the ephemeral map: where an oid's object is found
 unfoldable pub eph : Seen → ℕ → Option Place
 eph seen oid = find (λ (p : Place). p.oid == oid) seen.mapped
-
--- the oids of the ephemeral map
-unfoldable pub eph_ids : Seen → List ℕ
-eph_ids seen = map (λ (p : Place). p.oid) seen.mapped
 
 -- the bytes of an oid's object
 abbrev pub object_of : Seen → ℕ → Option (List ℕ)

@@ -10,4 +10,5 @@ pub mod Features
 pub mod Checkpoint
 pub mod Order
 pub mod Newest
+pub mod Reading
 pub mod Ring

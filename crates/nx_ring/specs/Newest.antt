@@ -1,10 +1,9 @@
 -- The newest checkpoint.
-use Rattle.std.specs.Prelude.{◌≡◌, ◌⊎◌, ℕ, ◌*◌, ◌≤◌, nat_lt, List, length, map, filter, Option, None, Some, option_map, Result, Ok, Err, if◌then◌else◌}
+use Rattle.std.specs.Prelude.{◌≡◌, ◌⊎◌, ℕ, nat_lt, List, map, filter, Option, None, Some, option_map, Result, Ok, Err}
 use Rattle.apfs_model.specs.Lists.{greatest, In}
 use Rattle.obj_base.specs.declared.stop.Feature.{Feature}
 use Rattle.obj_base.specs.declared.stop.Stop.{Stop}
 use Rattle.obj_base.specs.declared.stop.Stop.TheVariants.{Found, Unsupported}
-use Rattle.nx_block.specs.Super.{block_size_of, block_count_of}
 use Rattle.nx_ring.specs.declared.areas.Areas.{Areas}
 use Rattle.nx_ring.specs.declared.line.RingLine.{RingLine}
 use Rattle.nx_ring.specs.declared.fault.RingFault.{RingFault}
@@ -12,7 +11,7 @@ use Rattle.nx_ring.specs.declared.fault.RingFault.TheVariants.{NoCheckpoint}
 use Rattle.nx_ring.specs.Zero.{zero_of, areas_of, after_zero}
 use Rattle.nx_ring.specs.Candidates.{all_candidates, ring_block}
 use Rattle.nx_ring.specs.Objects.{place_at}
-use Rattle.nx_ring.specs.Valid.{is_valid, mappings_of, blocks_of}
+use Rattle.nx_ring.specs.Valid.{is_valid, mappings_of}
 use Rattle.nx_ring.specs.Checkpoint.{Seen}
 use Rattle.nx_ring.specs.Features.{container_features}
 
@@ -40,18 +39,6 @@ seen_of image areas skipped line = record {
 -- the checkpoint of a line
 unfoldable pub checkpoint_of : List ℕ → Areas → RingLine → Seen
 checkpoint_of image areas line = seen_of image areas (skipped_of (all_candidates image areas) line.xid) line
-
--- how many blocks of objects are loaded for a line: all where it is valid, otherwise none
-abbrev pub loaded : List ℕ → Areas → RingLine → ℕ
-loaded image areas line = if is_valid image areas line then length (blocks_of areas (mappings_of image areas line)) else 0
-
--- a checkpoint, with the candidates before which it stands
-abbrev pub passing : Seen → List (ℕ × ℕ) → Seen
-passing seen skipped = record { line = seen.line; nx = seen.nx; mapped = seen.mapped; skipped = skipped }
-
--- a superblock's container lies in an image of so many bytes
-abbrev pub IsHeld : List ℕ → ℕ → Type 0
-IsHeld nx len = block_count_of nx * block_size_of nx ≤ len
 
 -- the newest checkpoint, where there is one
 abbrev pub checkpoint_or : Option Seen → Result Seen (Stop RingFault)

@@ -1,5 +1,5 @@
 -- The objects that a checkpoint maps, in the data area (Container, checkpoint_mapping_t).
-use Rattle.std.specs.Prelude.{◌≡◌, ℕ, ◌+◌, ◌-◌, ◌/◌, ◌%◌, ◌≤◌, Bool, ◌&&◌, nat_le, List, length, map, Some, is_ok}
+use Rattle.std.specs.Prelude.{ℕ, ◌+◌, ◌-◌, ◌/◌, ◌%◌, Bool, ◌&&◌, nat_le, List, map, Some, is_ok}
 use Rattle.std.specs.List.{range_with_len, flat_map}
 use Rattle.apfs_model.specs.Blocks.{block_of, is_in, is_multiple}
 use Rattle.apfs_model.specs.Object.{kind_in}
@@ -50,11 +50,6 @@ pub record Place : Type 0 where
   pub oid : ℕ
   pub block : ℕ
   pub bytes : List ℕ
-
--- the length of an object of whole blocks, each of 4,096 bytes or a multiple
-pub record HasWholeBlocks (bytes : List ℕ) : Type 0 where
-  pub long : 4096 ≤ length bytes
-  pub even : length bytes % 4 ≡ 0
 
 -- where a mapping finds its object
 abbrev pub place_at : List ℕ → Areas → Mapping → Place

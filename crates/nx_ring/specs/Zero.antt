@@ -1,8 +1,7 @@
 -- The first block of a container, and the areas that it names.
-use Rattle.std.specs.Prelude.{◌≡◌, ℕ, ◌+◌, ◌*◌, ◌/◌, ◌%◌, ◌^◌, ◌≤◌, ◌<◌, Bool, true, false, not, ◌&&◌, ◌==◌, nat_lt, nat_le, List, length, is_ok, Result, Ok, Err, if◌then◌else◌}
+use Rattle.std.specs.Prelude.{◌≡◌, ℕ, ◌/◌, ◌%◌, ◌^◌, ◌<◌, Bool, true, false, not, ◌&&◌, nat_lt, nat_le, List, length, is_ok, Result, Err, if◌then◌else◌}
 use Rattle.std.specs.Option.{is_some}
 use Rattle.apfs_model.specs.Blocks.{block_of, is_inside}
-use Rattle.obj_base.specs.BlockSize.{is_accepted}
 use Rattle.obj_base.specs.declared.stop.Feature.{Feature}
 use Rattle.obj_base.specs.declared.stop.Feature.TheVariants.{NonContiguous}
 use Rattle.obj_base.specs.declared.stop.Stop.{Stop}
@@ -83,30 +82,6 @@ where_whole len zero answer =
 -- an answer, where block 0 is right and both of these hold; otherwise the first of the three that fails
 unfoldable pub after_zero : {T : Type 0} → List ℕ → Result T (Stop RingFault) → Result T (Stop RingFault)
 after_zero image answer = if is_right image then where_whole (length image) (zero_of image) answer else Err (Found BlockZero)
-
--- block 0, where it lies wholly in the image
-unfoldable pub zero_in : List ℕ → Result (List ℕ) (Stop RingFault)
-zero_in image = if has_zero image then Ok (zero_of image) else Err (Found BlockZero)
-
--- the areas that block 0 names in an image of so many bytes, or the first of the tests that fails
-unfoldable pub areas_in : ℕ → List ℕ → Result Areas (Stop RingFault)
-areas_in len zero = if is_whole zero then where_whole len zero (Ok (areas_of zero)) else Err (Found BlockZero)
-
--- how many reads block 0 takes: one for the first bytes, and one more where it is larger
-unfoldable pub zero_reads : List ℕ → ℕ
-zero_reads image = if size_in image == 4096 then 1 else 2
-
--- areas of one block or more, contiguous, in an image of so many bytes
-pub record Fits (areas : Areas) (len : ℕ) : Type 0 where
-  pub accepted : is_accepted areas.size ≡ true
-  pub some_desc : 0 < areas.desc_blocks
-  pub some_data : 0 < areas.data_blocks
-  pub few_desc : areas.desc_blocks < 2 ^ 31
-  pub few_data : areas.data_blocks < 2 ^ 31
-  pub small_desc : areas.desc_base + areas.desc_blocks < 2 ^ 64
-  pub small_data : areas.data_base + areas.data_blocks < 2 ^ 64
-  pub desc : areas.size * (areas.desc_base + areas.desc_blocks) ≤ len
-  pub «data» : areas.size * (areas.data_base + areas.data_blocks) ≤ len
 
 -- BlockZero: block 0 isn't right
 abbrev pub IsWrongZero : List ℕ → Type 0

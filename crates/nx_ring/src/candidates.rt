@@ -5,15 +5,15 @@
 ghost use Rattle.std.specs.Prelude.{◌≡◌, ◌+◌, ◌*◌, ◌%◌, ◌≤◌, ◌<◌, ◌^◌, ◌++◌, List, ℕ, All, Some, Ok, Err, length, IfOk, IfErr, IfSome, IsErrOf, OnOk, true};
 ghost use Rattle.std.specs.Option.{option_to_list};
 ghost use Rattle.apfs_model.specs.Counts.{Rose};
-ghost use Rattle.apfs_model.specs.Source.{IsKept};
+ghost use Rattle.apfs_model.specs.Kept.{IsKept};
 ghost use Rattle.obj_base.specs.BlockSize as sizes;
 ghost use Rattle.obj_base.specs.Stops.{Gives, Tells};
 ghost use Rattle.obj_base.specs.declared.stop.Stop.TheVariants.{Found, Unsupported, ReadFault, NoMemory};
 ghost use Rattle.nx_block.specs.Super.{desc_blocks_of};
 ghost use Rattle.nx_block.specs.Read.{read_of};
-ghost use Rattle.nx_ring.specs.Zero.{zero_of, zero_reads, areas_of, Fits, IsNonContiguous};
+ghost use Rattle.nx_ring.specs.Zero.{zero_of, areas_of, IsNonContiguous};
+ghost use Rattle.nx_ring.specs.Reading.{zero_reads, Fits, IsHeld};
 ghost use Rattle.nx_ring.specs.Candidates.{candidate_in, candidate, candidates, all_candidates};
-ghost use Rattle.nx_ring.specs.Newest.{IsHeld};
 ghost use Rattle.nx_ring.specs.Ring.{ring_of, IsRingFault};
 
 use crate::areas::Areas;

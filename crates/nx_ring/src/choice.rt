@@ -4,15 +4,17 @@
 // the greatest transaction, and of the least index on a tie. Rests on: the candidates, and which are valid.
 ghost use Rattle.std.specs.Prelude.{◌≡◌, ◌+◌, ◌*◌, ◌≤◌, ◌<◌, ◌++◌, List, ℕ, All, length, option_map, find, if◌then◌else◌, Some, None, Ok, true, [], ◌∷◌, IfOk, IfErr, OnOk, IfSome, IsErrOf};
 ghost use Rattle.apfs_model.specs.Counts.{Rose};
-ghost use Rattle.apfs_model.specs.Source.{IsKept};
+ghost use Rattle.apfs_model.specs.Kept.{IsKept};
 ghost use Rattle.obj_base.specs.Stops.{Gives, Tells, IsFree};
 ghost use Rattle.obj_base.specs.declared.stop.Stop.TheVariants.{ReadFault, NoMemory};
 ghost use Rattle.nx_block.specs.Super.{block_size_of, block_count_of, desc_blocks_of, data_blocks_of};
-ghost use Rattle.nx_ring.specs.Zero.{zero_of, zero_reads, areas_of, Fits};
-ghost use Rattle.nx_ring.specs.Candidates.{candidate, all_candidates, AreCandidates};
+ghost use Rattle.nx_ring.specs.Zero.{zero_of, areas_of};
+ghost use Rattle.nx_ring.specs.Reading.{zero_reads, Fits, AreCandidates};
+ghost use Rattle.nx_ring.specs.Candidates.{candidate, all_candidates};
 ghost use Rattle.nx_ring.specs.Known.{AreKnown};
 ghost use Rattle.nx_ring.specs.Valid as valid;
 ghost use Rattle.nx_ring.specs.Newest as found;
+ghost use Rattle.nx_ring.specs.Reading as reading;
 ghost use Rattle.nx_ring.specs.Newest.{newest_of};
 ghost use Rattle.nx_ring.specs.Features.{container_features};
 ghost use Rattle.nx_ring.specs.Ring.{IsRingFault, IsRingFeature};
@@ -49,7 +51,7 @@ fn load<S: BlockSource>(
     requires some { 1 ≤ line.now.desc_len }
     requires placed { valid.are_placed areas.now mappings.now ≡ true }
     ensures found { (image : List ℕ) → S.bytes src.old ≡ Some image → candidate image areas.now line.now.index ≡ Some line.now → valid.is_valid image areas.now line.now ≡ true → mappings.now ≡ valid.mappings_of image areas.now line.now → IfOk result (λ new. new ≡ Some (found.seen_of image areas.now [] line.now)) }
-    ensures holds { IfOk result (λ new. IfSome new (λ seen. found.IsHeld seen.nx (S.bytes_len src.old))) }
+    ensures holds { IfOk result (λ new. IfSome new (λ seen. reading.IsHeld seen.nx (S.bytes_len src.old))) }
     ensures free { IfErr result IsFree }
     ensures cause { IsErrOf result ReadFault → Rose (S.faults src.old) (S.faults src.new) }
     ensures kept { IsKept S.bytes S.bytes_len S.faults src.old src.new }
@@ -84,11 +86,11 @@ fn checkpoint_at<S: BlockSource>(
     requires inside { line.now.index < areas.now.desc_blocks }
     ensures found { (image : List ℕ) → S.bytes src.old ≡ Some image → AreKnown image areas.now known.old → candidate image areas.now line.now.index ≡ Some line.now → IfOk result (λ new. new ≡ (if valid.is_valid image areas.now line.now then Some (found.seen_of image areas.now [] line.now) else None)) }
     ensures known { (image : List ℕ) → S.bytes src.old ≡ Some image → AreKnown image areas.now known.old → OnOk result (AreKnown image areas.now known.new) }
-    ensures holds { IfOk result (λ new. IfSome new (λ seen. found.IsHeld seen.nx (S.bytes_len src.old))) }
+    ensures holds { IfOk result (λ new. IfSome new (λ seen. reading.IsHeld seen.nx (S.bytes_len src.old))) }
     ensures free { IfErr result IsFree }
     ensures cause { IsErrOf result ReadFault → Rose (S.faults src.old) (S.faults src.new) }
     ensures kept { IsKept S.bytes S.bytes_len S.faults src.old src.new }
-    ensures reads { (image : List ℕ) → S.bytes src.old ≡ Some image → AreKnown image areas.now known.old → S.reads src.new ≤ S.reads src.old + (areas.now.desc_blocks + areas.now.data_blocks + found.loaded image areas.now line.now) }
+    ensures reads { (image : List ℕ) → S.bytes src.old ≡ Some image → AreKnown image areas.now known.old → S.reads src.new ≤ S.reads src.old + (areas.now.desc_blocks + areas.now.data_blocks + reading.loaded image areas.now line.now) }
 {
     let Some(mappings) = valid_mappings(alloc, src, areas, line, known)? else {
         return Ok(None);
@@ -106,7 +108,7 @@ fn first_valid<S: BlockSource>(
     requires fits { Fits areas.now (S.bytes_len src.old) }
     requires inside { All (λ line. line.index < areas.now.desc_blocks) lines.now }
     ensures found { (image : List ℕ) → S.bytes src.old ≡ Some image → AreCandidates image areas.now lines.now → IfOk result (λ new. new ≡ option_map (found.seen_of image areas.now []) (find (valid.is_valid image areas.now) lines.now)) }
-    ensures holds { IfOk result (λ new. IfSome new (λ seen. found.IsHeld seen.nx (S.bytes_len src.old))) }
+    ensures holds { IfOk result (λ new. IfSome new (λ seen. reading.IsHeld seen.nx (S.bytes_len src.old))) }
     ensures free { IfErr result IsFree }
     ensures cause { IsErrOf result ReadFault → Rose (S.faults src.old) (S.faults src.new) }
     ensures kept { IsKept S.bytes S.bytes_len S.faults src.old src.new }
@@ -141,7 +143,7 @@ fn with_skipped(
     mut checkpoint: Checkpoint,
     lines: &[RingLine],
 ) -> Result<Checkpoint, Stop<RingFault>>
-    ensures found { IfOk result (λ seen. seen ≡ found.passing checkpoint (found.skipped_of lines.now checkpoint.line.xid)) }
+    ensures found { IfOk result (λ seen. seen ≡ reading.passing checkpoint (found.skipped_of lines.now checkpoint.line.xid)) }
     ensures memory_only { IfErr result (λ stop. stop ≡ NoMemory) }
 {
     let xid = checkpoint.xid();
@@ -157,7 +159,7 @@ fn with_skipped(
 #[tactic(auto, using(crate::proofs::Chosen::early))]
 fn find<S: BlockSource>(alloc: Global, src: &mut S) -> Result<Checkpoint, Stop<RingFault>>
     ensures found { (image : List ℕ) → S.bytes src.old ≡ Some image → Gives (λ seen. seen) result (found.newest_of image) }
-    ensures holds { IfOk result (λ seen. found.IsHeld seen.nx (S.bytes_len src.old)) }
+    ensures holds { IfOk result (λ seen. reading.IsHeld seen.nx (S.bytes_len src.old)) }
     ensures cause { IsErrOf result ReadFault → Rose (S.faults src.old) (S.faults src.new) }
     ensures kept { IsKept S.bytes S.bytes_len S.faults src.old src.new }
     ensures reads { (image : List ℕ) → S.bytes src.old ≡ Some image → S.reads src.new ≤ S.reads src.old + (zero_reads image + desc_blocks_of (zero_of image) + desc_blocks_of (zero_of image) * (desc_blocks_of (zero_of image) + data_blocks_of (zero_of image))) }

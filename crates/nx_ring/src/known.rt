@@ -4,7 +4,7 @@
 // on: placed mappings.
 ghost use Rattle.std.specs.Prelude.{◌≡◌, ◌+◌, ◌≤◌, ◌<◌, ◌==◌, ◌&&◌, not, List, ℕ, Some, true, length, IfOk, OnOk, IfErr, IsErrOf};
 ghost use Rattle.apfs_model.specs.Counts.{Rose};
-ghost use Rattle.apfs_model.specs.Source.{IsKept};
+ghost use Rattle.apfs_model.specs.Kept.{IsKept};
 ghost use Rattle.apfs_model.specs.Bytes as bytes;
 ghost use Rattle.apfs_model.specs.Lists.{passes};
 ghost use Rattle.apfs_model.specs.Object.{flags_of};
@@ -12,7 +12,7 @@ ghost use Rattle.obj_base.specs.Stops.{IsFree};
 ghost use Rattle.obj_base.specs.declared.stop.Stop.TheVariants.{ReadFault, NoMemory};
 ghost use Rattle.std.specs.BTreeMap.{get};
 ghost use Rattle.nx_ring.specs.declared.areas.Areas as declared;
-ghost use Rattle.nx_ring.specs.Zero.{Fits};
+ghost use Rattle.nx_ring.specs.Reading.{Fits};
 ghost use Rattle.nx_ring.specs.Objects as objects;
 ghost use Rattle.nx_ring.specs.Known as spec;
 ghost use Rattle.nx_ring.specs.Known.{AreKnown};

@@ -4,11 +4,12 @@
 // object. Rests on: `sound`.
 ghost use Rattle.std.specs.Prelude.{◌≡◌, ◌+◌, ◌*◌, ◌≤◌, ◌<◌, ◌/◌, ◌%◌, ◌^◌, List, ℕ, Some, None, true, length, IfOk, IfErr, IfSome, IsErrOf, if◌then◌else◌};
 ghost use Rattle.apfs_model.specs.Counts.{Rose};
-ghost use Rattle.apfs_model.specs.Source.{IsKept};
+ghost use Rattle.apfs_model.specs.Kept.{IsKept};
 ghost use Rattle.obj_base.specs.Stops.{IsFree};
 ghost use Rattle.obj_base.specs.declared.stop.Stop.TheVariants.{ReadFault};
-ghost use Rattle.nx_ring.specs.Zero.{Fits};
+ghost use Rattle.nx_ring.specs.Reading.{Fits};
 ghost use Rattle.nx_ring.specs.Objects as objects;
+ghost use Rattle.nx_ring.specs.Reading as reading;
 
 use crate::RingFault;
 use crate::areas::Areas;
@@ -28,7 +29,8 @@ pub struct Object {
 }
 
 impl Model for Object {
-    ghost use Rattle.nx_ring.specs.Objects.{Place, HasWholeBlocks};
+    ghost use Rattle.nx_ring.specs.Objects.{Place};
+    ghost use Rattle.nx_ring.specs.Reading.{HasWholeBlocks};
 
     ghost Value = { Place };
 
@@ -52,7 +54,7 @@ impl Object {
 
     pub(crate) fn bytes(&self) -> &[u8]
         ensures same { result.now ≡ self.now.bytes }
-        ensures in_whole_blocks { objects.HasWholeBlocks result.now }
+        ensures in_whole_blocks { reading.HasWholeBlocks result.now }
     {
         &self.held
     }

@@ -5,12 +5,12 @@
 ghost use Rattle.std.specs.Prelude.{◌≡◌, ◌+◌, ◌-◌, ◌≤◌, ◌<◌, ◌^◌, ◌++◌, List, ℕ, Some, None, true, false, length, map, nat_le, IfOk, OnOk, IfErr, IfSome, IsErrOf};
 ghost use Rattle.std.specs.Option.{is_some};
 ghost use Rattle.apfs_model.specs.Counts.{Rose};
-ghost use Rattle.apfs_model.specs.Source.{IsKept};
+ghost use Rattle.apfs_model.specs.Kept.{IsKept};
 ghost use Rattle.apfs_model.specs.Lists.{is_distinct};
 ghost use Rattle.obj_base.specs.Stops.{IsFree};
 ghost use Rattle.obj_base.specs.declared.stop.Stop.TheVariants.{ReadFault, NoMemory};
 ghost use Rattle.nx_ring.specs.Rising.{Rises, Halts};
-ghost use Rattle.nx_ring.specs.Zero.{Fits};
+ghost use Rattle.nx_ring.specs.Reading.{Fits};
 ghost use Rattle.nx_ring.specs.Mappings.{mappings_in};
 ghost use Rattle.nx_ring.specs.Objects.{mapped_blocks, place_at};
 ghost use Rattle.nx_ring.specs.Objects as objects;

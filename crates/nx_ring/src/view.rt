@@ -2,7 +2,7 @@
 ghost use Rattle.std.specs.Prelude.{◌≡◌, ◌-◌, ◌≤◌, [], Ok, length, option_map, IfSome};
 ghost use Rattle.nx_block.specs.Read.{read_of};
 ghost use Rattle.nx_ring.specs.Checkpoint.{eph, object_of, object_block_of, site_of};
-ghost use Rattle.nx_ring.specs.Objects.{HasWholeBlocks};
+ghost use Rattle.nx_ring.specs.Reading.{HasWholeBlocks};
 
 use crate::RingLine;
 use crate::objects::Object;

@@ -5,14 +5,15 @@
 ghost use Rattle.std.specs.Prelude.{◌≡◌, ◌+◌, ◌*◌, ◌/◌, ◌≤◌, ◌<◌, List, ℕ, true, Some, None, Ok, Err, length, is_ok, IfOk, IfErr, IsErrOf, if◌then◌else◌};
 ghost use Rattle.std.specs.Option.{is_some};
 ghost use Rattle.apfs_model.specs.Counts.{Rose};
-ghost use Rattle.apfs_model.specs.Source.{IsKept};
+ghost use Rattle.apfs_model.specs.Kept.{IsKept};
 ghost use Rattle.obj_base.specs.BlockSize as sizes;
 ghost use Rattle.obj_base.specs.Stops.{Gives};
 ghost use Rattle.obj_base.specs.declared.stop.Stop.TheVariants.{Found, ReadFault};
 ghost use Rattle.nx_block.specs.Super.{block_count_of};
 ghost use Rattle.nx_block.specs.Read.{size_of, read_of};
 ghost use Rattle.nx_ring.specs.declared.fault.RingFault.TheVariants.{BlockZero};
-ghost use Rattle.nx_ring.specs.Zero.{is_area, has_areas, is_contiguous, first_of, zero_of, zero_in, zero_reads, areas_of, after_zero, areas_in, Fits};
+ghost use Rattle.nx_ring.specs.Zero.{is_area, has_areas, is_contiguous, first_of, zero_of, areas_of, after_zero};
+ghost use Rattle.nx_ring.specs.Reading.{zero_in, zero_reads, areas_in, Fits};
 
 use crate::RingFault;
 use crate::areas::Areas;

@@ -1,6 +1,7 @@
 pub mod BlockSize
 pub mod Site
 pub mod Sound
+pub mod SoundObject
 pub mod Features
 pub mod Stops
 pub mod Words

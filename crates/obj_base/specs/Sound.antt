@@ -1,5 +1,5 @@
 -- Which objects are sound, and which test is the first that fails.
-use Rattle.std.specs.Prelude.{◌≡◌, ℕ, ◌-◌, ◌^◌, ◌≤◌, Bool, true, false, not, ◌==◌, nat_le, List, Option, Some, None, Result, Ok, Err, if◌then◌else◌}
+use Rattle.std.specs.Prelude.{ℕ, ◌-◌, ◌^◌, Bool, true, not, ◌==◌, nat_le, List, Option, Some, None, Result, Ok, Err, if◌then◌else◌}
 use Rattle.apfs_model.specs.Sum.{sum_of}
 use Rattle.apfs_model.specs.Object.{sum_field, oid_of, xid_of, subtype_of, kind_of, flags_of, is_encrypted, has_no_header}
 use Rattle.obj_base.specs.declared.header.Header.{Header}
@@ -41,16 +41,6 @@ sound_of bytes expect =
     if not (agrees expect.oid (oid_of bytes)) then Err (Found BadOid) else
     if not (nat_le (xid_of bytes) expect.max_xid) then Err (Found BadXid) else
     Ok (header_of bytes)
-
--- the facts that make an object sound
-pub record IsSound (bytes : List ℕ) (expect : Expect) : Type 0 where
-  pub sum_right : sum_field bytes ≡ sum_of bytes
-  pub plain : is_encrypted bytes ≡ false
-  pub has_header : has_no_header bytes ≡ false
-  pub kind_right : kind_of bytes ≡ expect.kind
-  pub subtype_right : agrees expect.subtype (subtype_of bytes) ≡ true
-  pub oid_right : agrees expect.oid (oid_of bytes) ≡ true
-  pub xid_right : xid_of bytes ≤ expect.max_xid
 
 -- what is expected of an object: a kind, an oid, and a transaction of at most the greatest
 abbrev pub expecting : ℕ → Option ℕ → ℕ → Expect

@@ -1,6 +1,7 @@
 // The tests of an object's header.
 ghost use Rattle.std.specs.Prelude.{◌≡◌, ◌≤◌, ◌%◌, ◌↔◌, length, IsOk};
-ghost use Rattle.obj_base.specs.Sound.{header_of, sound_of, IsSound};
+ghost use Rattle.obj_base.specs.Sound.{header_of, sound_of};
+ghost use Rattle.obj_base.specs.SoundObject.{IsSound};
 
 use crate::{Bad, Expect, Feature, HeadFault, Header, ObjFlags, sum64, u32_at, u64_at};
 use apfs_layout::object;

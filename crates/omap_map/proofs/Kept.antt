@@ -10,7 +10,8 @@ use Rattle.bt_keys.specs.Shapes.{omap_shape}
 use Rattle.bt_cursor.specs.declared.gathering.GatherFault.{GatherFault}
 use Rattle.bt_cursor.specs.declared.gathering.GatherFault.TheVariants as gathers
 use Rattle.bt_cursor.specs.Tree.{Tree}
-use Rattle.bt_cursor.specs.Line.{Item, leaf_pairs}
+use Rattle.bt_cursor.specs.Line.{Item}
+use Rattle.bt_cursor.specs.WholeTree.{leaf_pairs}
 use Rattle.bt_cursor.specs.Met.{nodes_of}
 use Rattle.bt_cursor.specs.Faults.{HasFeature}
 use Rattle.bt_cursor.specs.Gathered.{IsGatherFault, IsGathered, IsInOrder}
@@ -19,7 +20,8 @@ use Rattle.bt_cursor.specs.declared.step.Step.{Step}
 use Rattle.bt_cursor.proofs.Flats.{line-pairs}
 use Rattle.bt_cursor.proofs.Lines.{leaf_pairs-append}
 use Rattle.bt_cursor.proofs.Wholes.{means_whole}
-use Rattle.omap_map.specs.Records.{records_of, IsAscending}
+use Rattle.omap_map.specs.Records.{records_of}
+use Rattle.omap_map.specs.Loading.{IsAscending}
 use Rattle.omap_map.specs.Maps.{IsTreeFault}
 use Rattle.omap_map.specs.Gathered.{SaysOfMap, Gives, IsTree}
 use Rattle.omap_map.specs.declared.records.OmapRecord.{OmapRecord}

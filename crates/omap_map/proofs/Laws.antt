@@ -3,7 +3,8 @@ use Rattle.std.specs.Prelude.{◌≡◌, ◌⊎◌, ℕ, ◌<◌, ◌≤◌, tru
 use Rattle.std.proofs.Common.{arith, subst, ◌∙◌}
 use Rattle.std.proofs.lemmas.Grind.{common_steps}
 use Rattle.omap_map.specs.Records.{is_deleted}
-use Rattle.omap_map.specs.Resolve.{is_for, latest, resolved, unless_deleted, IsResolved}
+use Rattle.omap_map.specs.Resolve.{is_for, latest, resolved, unless_deleted}
+use Rattle.omap_map.specs.Loading.{IsResolved}
 use Rattle.omap_map.specs.declared.records.OmapRecord.{OmapRecord}
 use Rattle.omap_map.proofs.Lists.{filter-in, in-filter, greatest_one, greatest_bound}
 

@@ -25,7 +25,8 @@ use Rattle.omap_map.specs.Fields.{snap_count_of, tree_of, snap_tree_of}
 use Rattle.omap_map.specs.Records.{records_of, snapshots_of}
 use Rattle.omap_map.specs.Resolve.{resolved}
 use Rattle.omap_map.specs.Features.{is_reverting}
-use Rattle.omap_map.specs.Maps.{Contents, map_in, head_of, is_map_object, record_tree, snapshot_tree, map_records, map_snapshots, map_steps, map_snap_steps, contents_of, has_no_snapshots, has_whole_snapshots, is_whole_map, map_nodes, resolved_in, after_header, object_of, IsTreeFault, IsMapFault, IsMapFeature, IsLoaded}
+use Rattle.omap_map.specs.Maps.{Contents, map_in, head_of, is_map_object, record_tree, snapshot_tree, map_records, map_snapshots, map_steps, map_snap_steps, contents_of, has_no_snapshots, has_whole_snapshots, is_whole_map, resolved_in, IsTreeFault, IsMapFault, IsMapFeature}
+use Rattle.omap_map.specs.Loading.{map_nodes, after_header, object_of, IsLoaded}
 use Rattle.omap_map.specs.Gathered.{IsTree, HasSnapshots, IsSnapshotsFault, IsSnapshotsFeature}
 use Rattle.omap_map.specs.declared.records.OmapRecord.{OmapRecord}
 use Rattle.omap_map.specs.declared.fault.OmapFault.{OmapFault}

@@ -16,7 +16,8 @@ use Rattle.obj_base.specs.Sound.{expecting}
 use Rattle.obj_base.specs.Stops.{Tells, raised}
 use Rattle.blk_read.specs.Object.{judged, sound_object}
 use Rattle.omap_map.specs.Features.{is_reverting}
-use Rattle.omap_map.specs.Maps.{map_in, head_of, head_fault, unless_reverting, after_header, object_of}
+use Rattle.omap_map.specs.Maps.{map_in, head_of}
+use Rattle.omap_map.specs.Loading.{head_fault, unless_reverting, after_header, object_of}
 use Rattle.omap_map.specs.declared.fault.OmapFault.{OmapFault}
 
 -- the sound object of a map in a block

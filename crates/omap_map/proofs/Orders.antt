@@ -13,12 +13,14 @@ use Rattle.bt_keys.specs.Shapes.{rank3, omap_shape}
 use Rattle.bt_keys.specs.Values.{omap_value_of}
 use Rattle.bt_keys.specs.declared.number_key.OmapKey.{OmapKey}
 use Rattle.bt_keys.specs.declared.values.OmapValue.{OmapValue}
-use Rattle.bt_cursor.specs.Line.{Item, is_leaf_item, leaf_pairs}
+use Rattle.bt_cursor.specs.Line.{Item, is_leaf_item}
+use Rattle.bt_cursor.specs.WholeTree.{leaf_pairs}
 use Rattle.bt_cursor.proofs.Lines.{leaf_pairs-append}
 use Rattle.bt_cursor.proofs.Orders.{last-push, first-if, passes-map, leaf-if}
 use Rattle.bt_cursor.specs.Order.{rank_of, rank_or_least, is_strict_leaf, ranks_same, is_misplaced, first_misplaced, out_of_order, is_ordered}
 use Rattle.bt_cursor.specs.Seen.{falls_below, is_again}
-use Rattle.omap_map.specs.Records.{record_of, records_of, joined, is_before, IsAscending}
+use Rattle.omap_map.specs.Records.{record_of, records_of, joined}
+use Rattle.omap_map.specs.Loading.{is_before, IsAscending}
 use Rattle.omap_map.specs.Gathered.{records_in, IsUpTo, IsLeafUpTo, IsOrdered}
 use Rattle.omap_map.specs.declared.records.OmapRecord.{OmapRecord}
 

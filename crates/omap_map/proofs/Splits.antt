@@ -7,7 +7,7 @@ use Rattle.std.proofs.lemmas.Bool.{cases_lt}
 use Rattle.std.proofs.lemmas.List.{take-append-drop, drop_more, length-take, length-drop, get_or-take, get_or-drop, get_or_read}
 use Rattle.std.proofs.lemmas.List.Elements.{filter-append}
 use Rattle.apfs_model.specs.Lists.{In, greatest}
-use Rattle.omap_map.specs.Records.{is_before, IsAscending}
+use Rattle.omap_map.specs.Loading.{is_before, IsAscending}
 use Rattle.omap_map.specs.Resolve.{is_for, latest}
 use Rattle.omap_map.specs.Search.{is_by}
 use Rattle.omap_map.specs.declared.records.OmapRecord.{OmapRecord}

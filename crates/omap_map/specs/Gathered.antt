@@ -12,13 +12,15 @@ use Rattle.bt_cursor.specs.declared.gathering.GatherFault.{GatherFault}
 use Rattle.bt_cursor.specs.declared.gathering.GatherFault.TheVariants as gathers
 use Rattle.bt_cursor.specs.Tree.{Tree}
 use Rattle.bt_cursor.specs.Flat.{flat_of}
-use Rattle.bt_cursor.specs.Line.{Item, leaf_pairs}
+use Rattle.bt_cursor.specs.Line.{Item}
+use Rattle.bt_cursor.specs.WholeTree.{leaf_pairs}
 use Rattle.bt_cursor.specs.Met.{nodes_of}
 use Rattle.bt_cursor.specs.Whole.{is_whole}
 use Rattle.bt_cursor.specs.Faults.{HasFeature}
 use Rattle.bt_cursor.specs.Steps.{steps_in, steps_of}
 use Rattle.bt_cursor.specs.declared.step.Step.{Step}
-use Rattle.omap_map.specs.Records.{records_of, snapshots_of, IsAscending}
+use Rattle.omap_map.specs.Records.{records_of, snapshots_of}
+use Rattle.omap_map.specs.Loading.{IsAscending}
 use Rattle.omap_map.specs.Maps.{snapshot_tree, IsTreeFault}
 use Rattle.omap_map.specs.declared.records.OmapRecord.{OmapRecord}
 use Rattle.omap_map.specs.declared.fault.OmapFault.{OmapFault}

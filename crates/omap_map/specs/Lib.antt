@@ -4,4 +4,5 @@ pub mod Resolve
 pub mod Search
 pub mod Features
 pub mod Maps
+pub mod Loading
 pub mod Gathered

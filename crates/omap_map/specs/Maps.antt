@@ -1,5 +1,5 @@
 -- The object maps of an image.
-use Rattle.std.specs.Prelude.{◌≡◌, ◌⊎◌, ℕ, ◌+◌, Bool, true, false, ◌&&◌, ◌||◌, ◌==◌, List, [], ◌∷◌, ◌++◌, length, is_ok, is_some, Option, None, Some, Result, Ok, Err, if◌then◌else◌}
+use Rattle.std.specs.Prelude.{◌≡◌, ◌⊎◌, ℕ, Bool, true, false, ◌&&◌, ◌||◌, ◌==◌, List, [], is_ok, is_some, Option, None, Some, Result, Err, if◌then◌else◌}
 use Rattle.apfs_model.specs.Blocks.{block_of, in_container}
 use Rattle.apfs_model.specs.Lists.{In}
 use Rattle.apfs_model.specs.Object.{map_kind}
@@ -9,25 +9,20 @@ use Rattle.obj_base.specs.declared.header.HeadFault.{HeadFault}
 use Rattle.obj_base.specs.declared.stop.Bad.{Bad}
 use Rattle.obj_base.specs.declared.stop.Bad.TheVariants as bads
 use Rattle.obj_base.specs.declared.stop.Feature.{Feature}
-use Rattle.obj_base.specs.declared.stop.Feature.TheVariants.{Revert}
-use Rattle.obj_base.specs.declared.stop.Stop.{Stop}
-use Rattle.obj_base.specs.declared.stop.Stop.TheVariants as stops
-use Rattle.obj_base.specs.declared.stop.Unsound.{Unsound}
 use Rattle.obj_base.specs.declared.site.Site.{Site}
 use Rattle.bt_keys.specs.declared.number_key.OmapKey.{OmapKey}
 use Rattle.bt_keys.specs.declared.number_key.OmapSnapKey.{OmapSnapKey}
 use Rattle.bt_keys.specs.Shapes.{omap_shape, omap_snap_shape}
 use Rattle.bt_cursor.specs.Tree.{Tree, tree_in}
 use Rattle.bt_cursor.specs.Flat.{flat_of}
-use Rattle.bt_cursor.specs.Met.{nodes_of}
 use Rattle.bt_cursor.specs.Faults.{IsWalkFault, HasFeature}
 use Rattle.bt_cursor.specs.Whole.{is_whole}
 use Rattle.bt_cursor.specs.Steps.{steps_of}
 use Rattle.bt_cursor.specs.declared.step.Step.{Step}
 use Rattle.omap_map.specs.Fields.{snap_count_of, tree_of, snap_tree_of}
 use Rattle.omap_map.specs.Records.{records_of, snapshots_of}
-use Rattle.omap_map.specs.Resolve.{resolved, named_by}
-use Rattle.omap_map.specs.Features.{is_reverting, map_features}
+use Rattle.omap_map.specs.Resolve.{resolved}
+use Rattle.omap_map.specs.Features.{map_features}
 use Rattle.omap_map.specs.declared.records.OmapRecord.{OmapRecord}
 use Rattle.omap_map.specs.declared.fault.OmapFault.{OmapFault}
 use Rattle.omap_map.specs.declared.fault.OmapFault.TheVariants.{Head, Tree as TreeFault}
@@ -107,41 +102,9 @@ is_whole_map image site block =
     is_map_object image site block
     && (is_whole (record_tree image site) (tree_of (map_in image site block)) && has_whole_snapshots image site block)
 
--- how many nodes the two trees of a map have, each counted as often as it is met
-unfoldable pub map_nodes : List ℕ → Site → ℕ → ℕ
-map_nodes image site block =
-    length (nodes_of (record_tree image site) (tree_of (map_in image site block)))
-    + (if has_no_snapshots (map_in image site block) then 0 else length (nodes_of (snapshot_tree image site) (snap_tree_of (map_in image site block))))
-
 -- the record that an oid resolves to at x through the map in a block; through a map that isn't whole nothing is looked up
 unfoldable pub resolved_in : List ℕ → Site → ℕ → ℕ → ℕ → Option OmapRecord
 resolved_in image site block oid x = if is_whole_map image site block then resolved (map_records image site block) oid x else None
-
--- the block that an oid names at x through the map in a block
-unfoldable pub named_in : List ℕ → Site → ℕ → ℕ → ℕ → Option ℕ
-named_in image site block x oid = if is_whole_map image site block then named_by (map_records image site block) x site.blocks oid else None
-
--- a test of the map's object that fails, said of the map
-abbrev pub head_fault : Unsound HeadFault → OmapFault
-head_fault unsound = Head unsound.block unsound.why
-
--- a fault of the header is one of the map; a feature of the header stands in the map's block
-abbrev pub of_header : ℕ → Bad HeadFault → Stop OmapFault
-of_header block (bads.Found why) = stops.Found (Head block why)
-of_header block (bads.Unsupported feature) = stops.Unsupported feature block
-
--- the map's bytes where no revert is pending
-abbrev pub unless_reverting : ℕ → List ℕ → Result (List ℕ) (Stop OmapFault)
-unless_reverting block bytes = if is_reverting bytes then Err (stops.Unsupported Revert block) else Ok bytes
-
--- the bytes of a map with this header, or why they stop
-abbrev pub after_header : ℕ → List ℕ → Result Header (Bad HeadFault) → Result (List ℕ) (Stop OmapFault)
-after_header block bytes (Ok _) = unless_reverting block bytes
-after_header block bytes (Err bad) = Err (of_header block bad)
-
--- the object of the map in a block: its bytes, or the first test that fails, those of the header before that of a pending revert
-unfoldable pub object_of : List ℕ → Site → ℕ → Result (List ℕ) (Stop OmapFault)
-object_of image site block = after_header block (map_in image site block) (head_of image site block)
 
 -- a fault of the tree of a root is there
 abbrev pub IsTreeFault : {K : Type 0} → Tree K → ℕ → OmapFault → Type 0
@@ -171,9 +134,3 @@ IsMapFeature image site at feature block =
     ((block ≡ at) × (in_container site.blocks at ≡ Some at) × (head_of image site at ≡ Err (bads.Unsupported feature)))
     ⊎ ((is_map_object image site at ≡ true)
     × (((block ≡ at) × In feature (map_features (map_in image site at))) ⊎ IsTreesFeature image site (map_in image site at) feature block))
-
--- the map in a block is whole, no revert of it is pending, and this is what it has
-pub record IsLoaded (image : List ℕ) (site : Site) (block : ℕ) (contents : Contents) : Type 0 where
-  pub whole : is_whole_map image site block ≡ true
-  pub settled : is_reverting (map_in image site block) ≡ false
-  pub same : contents ≡ contents_of image site block

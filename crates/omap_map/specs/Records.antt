@@ -1,5 +1,5 @@
 -- The records and the snapshots of an object map (Object Maps, omap_key_t, omap_val_t and omap_snapshot_t).
-use Rattle.std.specs.Prelude.{◌≡◌, ℕ, Bool, true, ◌&&◌, ◌||◌, ◌==◌, nat_lt, List, filter_map, AllPairs, Option, option_map, option_and_then}
+use Rattle.std.specs.Prelude.{ℕ, Bool, List, filter_map, Option, option_map, option_and_then}
 use Rattle.apfs_model.specs.Bytes.{has_flag}
 use Rattle.bt_node.specs.Entries.{Pair, bytes_in}
 use Rattle.bt_keys.specs.declared.number_key.OmapKey.{OmapKey}
@@ -28,14 +28,6 @@ snapshot_of pair = option_and_then (λ (k : OmapSnapKey). option_map (λ flags. 
 -- the snapshots of some entries, in their order
 abbrev pub snapshots_of : List Pair → List (ℕ × ℕ)
 snapshots_of pairs = filter_map snapshot_of pairs
-
--- a record comes before another in its tree: by the oid, then by the transaction
-abbrev pub is_before : OmapRecord → OmapRecord → Bool
-is_before r s = nat_lt r.oid s.oid || ((r.oid == s.oid) && nat_lt r.xid s.xid)
-
--- the records of a tree: each comes before all that follow it
-abbrev pub IsAscending : List OmapRecord → Type 0
-IsAscending records = AllPairs (λ r s. is_before r s ≡ true) records
 
 -- the flags of a mapping (Object Maps, Object Map Value Flags)
 abbrev pub deleted_flag : ℕ

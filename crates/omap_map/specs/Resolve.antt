@@ -1,7 +1,7 @@
 -- Which record of an object map an id resolves to (Object Maps, "Accessing Objects in an Object Map").
-use Rattle.std.specs.Prelude.{◌≡◌, ℕ, ◌≤◌, Bool, false, ◌&&◌, ◌==◌, nat_le, List, filter, Option, None, Some, option_map, option_and_then, if◌then◌else◌}
+use Rattle.std.specs.Prelude.{ℕ, Bool, ◌&&◌, ◌==◌, nat_le, List, filter, Option, None, Some, option_map, option_and_then, if◌then◌else◌}
 use Rattle.apfs_model.specs.Blocks.{in_container}
-use Rattle.apfs_model.specs.Lists.{In, greatest}
+use Rattle.apfs_model.specs.Lists.{greatest}
 use Rattle.omap_map.specs.Records.{is_deleted}
 use Rattle.omap_map.specs.declared.records.OmapRecord.{OmapRecord}
 use Rattle.omap_map.specs.declared.records.Place.{Place}
@@ -33,11 +33,3 @@ resolve records oid x = option_map place_of (resolved records oid x)
 -- the block that an oid names at x, where its record gives one in a container of so many blocks
 unfoldable pub named_by : List OmapRecord → ℕ → ℕ → ℕ → Option ℕ
 named_by records x blocks oid = option_and_then (λ (p : Place). in_container blocks p.block) (resolve records oid x)
-
--- the facts of the record that an oid resolves to at x: it is one of the map's, of the oid, early enough, the last of these, and not marked deleted
-pub record IsResolved (records : List OmapRecord) (oid x : ℕ) (r : OmapRecord) : Type 0 where
-  pub one : In r records
-  pub same : r.oid ≡ oid
-  pub early : r.xid ≤ x
-  pub last : (s : OmapRecord) → In s records → s.oid ≡ oid → s.xid ≤ x → s.xid ≤ r.xid
-  pub kept : is_deleted r.flags ≡ false

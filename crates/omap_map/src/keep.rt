@@ -1,7 +1,8 @@
 // What is kept of the items of a map's two trees.
 ghost use Rattle.std.specs.Prelude.{◌≡◌, ◌++◌, ℕ, List, [], ◌∷◌, Option, Some, true, false, option_map, option_to_list, OnOk, IfOk, IsTrue};
 ghost use Rattle.bt_keys.specs.Shapes.{omap_shape, omap_snap_shape};
-ghost use Rattle.bt_cursor.specs.Line.{Item, child_id};
+ghost use Rattle.bt_cursor.specs.Line.{Item};
+ghost use Rattle.bt_cursor.specs.WholeTree.{child_id};
 ghost use Rattle.bt_cursor.specs.Gathered.{shown};
 ghost use Rattle.omap_map.specs.Records.{records_of, snapshots_of};
 ghost use Rattle.omap_map.specs.Gathered.{records_in, snapshots_in, Gives};

@@ -1,13 +1,13 @@
 // The object of a map: its bytes, their fields and their tests (Object Maps, omap_phys_t).
 ghost use Rattle.std.specs.Prelude.{◌≡◌, ◌+◌, ◌≤◌, ◌<◌, ℕ, List, Some, length, IfOk, IsErrOf};
 ghost use Rattle.apfs_model.specs.Counts.{Rose};
-ghost use Rattle.apfs_model.specs.Source.{IsKept};
+ghost use Rattle.apfs_model.specs.Kept.{IsKept};
 ghost use Rattle.obj_base.specs.Stops.{Gives, raised};
 ghost use Rattle.obj_base.specs.declared.stop.Stop.TheVariants.{ReadFault};
 ghost use Rattle.obj_base.specs.Site.{IsSiteFor};
 ghost use Rattle.omap_map.specs.Fields as fields;
 ghost use Rattle.omap_map.specs.Features.{is_reverting};
-ghost use Rattle.omap_map.specs.Maps.{head_fault, object_of};
+ghost use Rattle.omap_map.specs.Loading.{head_fault, object_of};
 
 use crate::OmapFault;
 use apfs_layout::{kind, object_map};

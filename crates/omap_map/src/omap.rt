@@ -1,7 +1,7 @@
 // An object map, and what its records resolve to.
 ghost use Rattle.std.specs.Prelude.{◌≡◌, ◌≤◌, length, true, false, OnOk, IfOk, IfErr};
 ghost use Rattle.std.specs.List.Sorted.{IsPartitionPoint};
-ghost use Rattle.omap_map.specs.Records.{IsAscending};
+ghost use Rattle.omap_map.specs.Loading.{IsAscending};
 ghost use Rattle.omap_map.specs.Search.{is_by};
 ghost use Rattle.omap_map.specs.Resolve as spec;
 
@@ -28,7 +28,7 @@ pub struct Omap {
 }
 
 impl Model for Omap {
-    ghost use Rattle.omap_map.specs.Records.{IsAscending};
+    ghost use Rattle.omap_map.specs.Loading.{IsAscending, object_of, map_nodes, IsLoaded};
     ghost use Rattle.omap_map.specs.Maps.{Contents};
 
     ghost Value = { Contents };
@@ -140,14 +140,14 @@ impl Omap {
 impl Omap {
     ghost use Rattle.std.specs.Prelude.{◌+◌, ◌<◌, ℕ, List, Some, Err, IsErrOf};
     ghost use Rattle.apfs_model.specs.Counts.{Rose};
-    ghost use Rattle.apfs_model.specs.Source.{IsKept};
+    ghost use Rattle.apfs_model.specs.Kept.{IsKept};
     ghost use Rattle.obj_base.specs.Stops.{Tells, Gives, IsFree};
     ghost use Rattle.obj_base.specs.declared.stop.Stop as stops;
     ghost use Rattle.obj_base.specs.declared.stop.Stop.TheVariants.{ReadFault};
     ghost use Rattle.obj_base.specs.Site.{IsSiteFor};
     ghost use Rattle.omap_map.specs.declared.fault.OmapFault as faults;
     ghost use Rattle.omap_map.specs.Features.{is_reverting};
-    ghost use Rattle.omap_map.specs.Maps.{map_in, is_whole_map, object_of, map_nodes, IsLoaded, IsMapFault, IsMapFeature};
+    ghost use Rattle.omap_map.specs.Maps.{map_in, is_whole_map, IsMapFault, IsMapFeature};
 
     /// The object map in a block, with its tree and its tree of snapshots, where all of these are whole. `Head` comes
     /// where its object isn't sound, `Tree` where one of its trees isn't whole, and `Unsupported` for a feature of its

@@ -1,13 +1,14 @@
 // The two trees of a map.
 ghost use Rattle.std.specs.Prelude.{◌≡◌, ◌+◌, ◌≤◌, ℕ, List, Some, false, IfOk, IfErr, IsErrOf};
 ghost use Rattle.apfs_model.specs.Counts.{Rose};
-ghost use Rattle.apfs_model.specs.Source.{IsKept};
+ghost use Rattle.apfs_model.specs.Kept.{IsKept};
 ghost use Rattle.obj_base.specs.Stops.{Tells};
 ghost use Rattle.obj_base.specs.declared.stop.Stop.TheVariants.{ReadFault};
 ghost use Rattle.obj_base.specs.Site.{IsSiteFor};
 ghost use Rattle.bt_cursor.specs.Faults.{HasFeature};
 ghost use Rattle.bt_cursor.specs.Gathered.{RefusesOne};
-ghost use Rattle.omap_map.specs.Records.{records_of, snapshots_of, IsAscending};
+ghost use Rattle.omap_map.specs.Records.{records_of, snapshots_of};
+ghost use Rattle.omap_map.specs.Loading.{IsAscending};
 ghost use Rattle.omap_map.specs.Maps.{record_tree, snapshot_tree, IsTreeFault};
 ghost use Rattle.omap_map.specs.Gathered.{SaysOfMap, IsTree, HasSnapshots, IsSnapshotsFault, IsSnapshotsFeature};
 

@@ -12,7 +12,7 @@ use Rattle.own_ledger.specs.Held.{HeldBlocks, Agrees}
 use Rattle.own_ledger.proofs.MarkLemmas.{count_same, count_more, bit_in_front}
 use Rattle.space_map.specs.Fields.{chunks_of}
 use Rattle.space_map.specs.Chunks.{chunk_at, chunks_in}
-use Rattle.space_map.specs.Marks.{bitmap_of}
+use Rattle.space_map.specs.Held.{bitmap_of}
 use Rattle.space_map.specs.Stops.{Known, known_of}
 use Rattle.space_map.specs.declared.chunk.Chunk.{Chunk}
 use Rattle.space_map.proofs.Marked.{bits_are_marks}

@@ -5,7 +5,7 @@
 ghost use Rattle.std.specs.Prelude.{◌≡◌, ◌≢◌, ◌+◌, ◌-◌, ◌*◌, ◌%◌, ◌≤◌, ◌<◌, ◌^◌, ℕ, List, Some, true, false, length, OnOk, OnErr, IfErr, IsErrOf};
 ghost use Rattle.apfs_model.specs.Bytes.{bit_at};
 ghost use Rattle.apfs_model.specs.Counts.{Rose};
-ghost use Rattle.apfs_model.specs.Source.{IsKept};
+ghost use Rattle.apfs_model.specs.Kept.{IsKept};
 ghost use Rattle.bit_lanes.specs.Bits.{ones_below};
 ghost use Rattle.apfs_model.specs.Blocks.{rounded_up};
 ghost use Rattle.obj_base.specs.BlockSize as sizes;

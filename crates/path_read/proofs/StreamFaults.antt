@@ -12,7 +12,8 @@ use Rattle.obj_base.specs.declared.stop.Stop.TheVariants.{Found, Unsupported, Re
 use Rattle.obj_base.specs.declared.site.Site.{Site}
 use Rattle.bt_node.specs.Entries.{Pair}
 use Rattle.bt_keys.specs.RecordKey.{record_kind_of, inode_record, attribute_record, sibling_link_record, file_extent_record}
-use Rattle.bt_cursor.specs.Line.{Item, is_leaf_item, line_of, leaf_pairs}
+use Rattle.bt_cursor.specs.Line.{Item, is_leaf_item, line_of}
+use Rattle.bt_cursor.specs.WholeTree.{leaf_pairs}
 use Rattle.bt_cursor.specs.Flat.{flat_of}
 use Rattle.bt_cursor.specs.declared.fault.WalkFault.{WalkFault}
 use Rattle.bt_cursor.specs.declared.fault.WalkFault.TheVariants.{Unsound, Unnamed, Order, Counts}
@@ -33,7 +34,8 @@ use Rattle.file_extent.specs.declared.stop.StreamStop.{StreamStop}
 use Rattle.file_extent.specs.declared.stop.StreamStop.TheVariants as streams
 use Rattle.view_rules.specs.Facts.{Facts}
 use Rattle.view_rules.specs.Extents.{is_disordered, is_misplaced, IsExtentOrder, IsExtentPlace}
-use Rattle.view_rules.specs.Rules.{view_facts, refusal_of, HasRecords, raised}
+use Rattle.view_rules.specs.Rules.{view_facts, refusal_of, HasRecords}
+use Rattle.view_rules.specs.Listed.{raised}
 use Rattle.view_rules.specs.declared.fault.TreeFault.TheVariants.{ExtentOrder, ExtentPlace}
 use Rattle.view_rules.specs.declared.fault.TreeFault.TheVariants.{ExtentOrder, ExtentPlace}
 use Rattle.path_walk.specs.Stops.{IsPathFault}

@@ -1,6 +1,6 @@
 // Attributes in memory.
 ghost use Rattle.std.specs.Prelude.{◌≡◌, ℕ, length, IfOk, bytes_eq};
-ghost use Rattle.fs_record.specs.Attributes.{body_seen};
+ghost use Rattle.fs_record.specs.Reading.{body_seen};
 ghost use Rattle.path_read.specs.Attributes.{body_len, is_called};
 ghost use Rattle.path_read.specs.Parts.{body_of};
 

@@ -19,7 +19,7 @@ use Rattle.vol_view.specs.Views.{view_line}
 use Rattle.vol_view.specs.declared.volume.View.{View}
 use Rattle.view_rules.specs.Facts.{Facts, inode_at, has_inode, is_directory, does_count}
 use Rattle.view_rules.specs.Entries.{lacks_inode, has_root}
-use Rattle.view_rules.specs.Rules as rules
+use Rattle.view_rules.specs.Listed as listed
 use Rattle.view_rules.specs.Rules.{view_facts, IsTreeFault}
 use Rattle.view_rules.specs.declared.fault.TreeFault.{TreeFault}
 use Rattle.view_rules.specs.declared.fault.TreeFault.TheVariants.{Record, NoInode}
@@ -165,7 +165,7 @@ same-fault a b e = cc
 
 -- a fault that a walk names is one of the walk
 pub raised_records : (view : View) (stop : Stop WalkFault) (fault : TreeFault) → raised (of_walk view) stop ≡ Found (stops.Fault fault) → IsOfRecords view fault
-raised_records view (Found why) fault e = inl (why, sym (same-fault (rules.raised view why) fault e))
+raised_records view (Found why) fault e = inl (why, sym (same-fault (listed.raised view why) fault e))
 raised_records view (Unsupported name block) fault e = absurd cc
 raised_records view ReadFault fault e = absurd cc
 raised_records view NoMemory fault e = absurd cc

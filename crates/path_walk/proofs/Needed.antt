@@ -25,7 +25,8 @@ use Rattle.bt_cursor.specs.Cursors.{tree_of, left_of, gapped_left_of, passed_of,
 use Rattle.bt_cursor.specs.Tree.{Tree}
 use Rattle.bt_cursor.specs.Gaps.{all_met}
 use Rattle.bt_cursor.specs.Flat.{flat_of}
-use Rattle.bt_cursor.specs.Line.{Item, is_leaf_item, leaf_pairs, line_of}
+use Rattle.bt_cursor.specs.Line.{Item, is_leaf_item, line_of}
+use Rattle.bt_cursor.specs.WholeTree.{leaf_pairs}
 use Rattle.bt_cursor.specs.Order.{is_ordered}
 use Rattle.bt_cursor.specs.From.{from_rank, run_in, is_of_kind, is_kind_whole}
 use Rattle.bt_cursor.specs.Whole.{is_whole}

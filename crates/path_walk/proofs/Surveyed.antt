@@ -15,7 +15,8 @@ use Rattle.bt_node.specs.Entries.{Pair}
 use Rattle.bt_node.specs.declared.key.Rank.{Rank}
 use Rattle.bt_keys.specs.FsTree.{IsFsShape}
 use Rattle.bt_keys.specs.RecordKey.{id_of, record_kind_of, entry_record, inode_record}
-use Rattle.bt_cursor.specs.Line.{Item, is_leaf_item, leaf_pairs}
+use Rattle.bt_cursor.specs.Line.{Item, is_leaf_item}
+use Rattle.bt_cursor.specs.WholeTree.{leaf_pairs}
 use Rattle.bt_cursor.specs.Order.{rank_of, rank_or_least, ranks_below, is_ordered}
 use Rattle.bt_cursor.specs.Search.{IsInOrder}
 use Rattle.bt_cursor.proofs.Lines.{leaf_pairs-append}

@@ -11,7 +11,7 @@ use Rattle.view_rules.specs.declared.fault.TreeFault.TheVariants.{Record}
 use Rattle.vol_view.specs.Volumes.{Loaded}
 use Rattle.vol_view.specs.Views.{IsViewFeature}
 use Rattle.vol_view.specs.declared.volume.View.{View}
-use Rattle.view_rules.specs.Rules as rules
+use Rattle.view_rules.specs.Listed as listed
 use Rattle.path_walk.specs.declared.answer.Answer.{Answer}
 use Rattle.path_walk.specs.declared.stop.PathStop.{PathStop}
 use Rattle.path_walk.specs.declared.stop.PathStop.TheVariants as stops
@@ -37,12 +37,12 @@ IsStopThere image site volume view stop = Tells (IsPathStop image site volume vi
 
 -- what a walk names, said of a path
 abbrev pub of_walk : View → WalkFault → PathStop
-of_walk view why = stops.Fault (rules.raised view why)
+of_walk view why = stops.Fault (listed.raised view why)
 
 -- a fault that a walk over all records of a view names: one of the walk, or Record
 abbrev pub IsOfRecords : View → TreeFault → Type 0
 IsOfRecords view fault =
-    ((why : WalkFault) × (fault ≡ rules.raised view why))
+    ((why : WalkFault) × (fault ≡ listed.raised view why))
     ⊎ ((item : ℕ) × (why : RecFault) × (fault ≡ Record view.slot view.xid item why))
 
 -- a call stops with no answer

@@ -1,7 +1,7 @@
 // Paths by searches in a view's tree.
 ghost use Rattle.std.specs.Prelude.{◌≡◌, ℕ, true, List, [], ◌∷◌, Some, map, IfOk, IfErr, IfSome, IsErrOf};
 ghost use Rattle.apfs_model.specs.Counts.{Rose};
-ghost use Rattle.apfs_model.specs.Source.{IsKept};
+ghost use Rattle.apfs_model.specs.Kept.{IsKept};
 ghost use Rattle.obj_base.specs.declared.stop.Stop.TheVariants.{ReadFault};
 ghost use Rattle.obj_base.specs.Stops.{Tells};
 ghost use Rattle.obj_base.specs.Site.{IsSiteFor};

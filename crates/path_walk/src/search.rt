@@ -1,7 +1,7 @@
 // Look-ups of the records of an id by a search in a view's tree.
 ghost use Rattle.std.specs.Prelude.{◌≡◌, ◌<◌, ℕ, true, List, [], ◌∷◌, Some, filter, option_map, IfOk, IfErr, IfSome, IsErrOf, OnOk};
 ghost use Rattle.apfs_model.specs.Counts.{Rose};
-ghost use Rattle.apfs_model.specs.Source.{IsKept};
+ghost use Rattle.apfs_model.specs.Kept.{IsKept};
 ghost use Rattle.apfs_model.specs.Lists.{value_of};
 ghost use Rattle.obj_base.specs.declared.stop.Stop.TheVariants.{ReadFault};
 ghost use Rattle.obj_base.specs.Stops.{Tells};

@@ -1,11 +1,12 @@
 // The entries and the inodes of a whole view, gathered in one walk over its tree.
 ghost use Rattle.std.specs.Prelude.{◌≡◌, ◌++◌, ℕ, List, [], ◌∷◌, Some, true, false, option_map, OnOk, IfOk, IfErr, IsErrOf, IsTrue};
 ghost use Rattle.apfs_model.specs.Counts.{Rose};
-ghost use Rattle.apfs_model.specs.Source.{IsKept};
+ghost use Rattle.apfs_model.specs.Kept.{IsKept};
 ghost use Rattle.obj_base.specs.declared.stop.Stop.TheVariants.{ReadFault};
 ghost use Rattle.obj_base.specs.Stops.{Tells};
 ghost use Rattle.obj_base.specs.Site.{IsSiteFor};
-ghost use Rattle.bt_cursor.specs.Line.{Item, child_id, leaf_pairs};
+ghost use Rattle.bt_cursor.specs.Line.{Item};
+ghost use Rattle.bt_cursor.specs.WholeTree.{child_id, leaf_pairs};
 ghost use Rattle.bt_cursor.specs.Faults.{IsWalkFault, HasFeature};
 ghost use Rattle.bt_cursor.specs.Gathered.{shown, RefusesOne, IsGathered};
 ghost use Rattle.fs_record.specs.Facts.{entries_of, inodes_of};

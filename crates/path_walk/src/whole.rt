@@ -1,11 +1,11 @@
 // A whole view in memory.
 ghost use Rattle.std.specs.Prelude.{◌≡◌, ℕ, List, Some, None, IfOk, IfErr, IfSome, IsErrOf};
 ghost use Rattle.apfs_model.specs.Counts.{Rose};
-ghost use Rattle.apfs_model.specs.Source.{IsKept};
+ghost use Rattle.apfs_model.specs.Kept.{IsKept};
 ghost use Rattle.obj_base.specs.declared.stop.Stop.TheVariants.{Found, ReadFault};
 ghost use Rattle.obj_base.specs.Stops.{raised};
 ghost use Rattle.obj_base.specs.Site.{IsSiteFor};
-ghost use Rattle.view_rules.specs.Rules as rules;
+ghost use Rattle.view_rules.specs.Listed as listed;
 ghost use Rattle.vol_view.specs.Views.{view_line};
 ghost use Rattle.view_rules.specs.Rules.{view_facts, HasRecords};
 ghost use Rattle.path_walk.specs.Calls.{IsStopThere, of_walk, IsNoAnswer, IsOfRecords};
@@ -28,7 +28,7 @@ use vol_view::{View, Volume};
 
 /// What a walk names, said of the view.
 pub fn fault_of(view: &View, why: WalkFault) -> TreeFault
-    ensures { result ≡ rules.raised view.now why }
+    ensures { result ≡ listed.raised view.now why }
 {
     match why {
         WalkFault::Unsound { block, why } => TreeFault::Unsound { block, why },

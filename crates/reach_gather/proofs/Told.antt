@@ -1,7 +1,7 @@
 -- The ranges that were kept of a tree are those of which its root tells.
 use Rattle.std.proofs.Common.{◌≡◌, ℕ, Bool, true, false, List, [], ◌∷◌, ◌++◌, map, refl, ap, sym, ◌∙◌}
 use Rattle.std.specs.Prelude.{◌==◌, if◌then◌else◌}
-use Rattle.bt_cursor.specs.Line.{leaf_pairs}
+use Rattle.bt_cursor.specs.WholeTree.{leaf_pairs}
 use Rattle.bt_cursor.specs.Flat.{flat_of}
 use Rattle.bt_cursor.proofs.Flats.{line-pairs}
 use Rattle.nx_ring.specs.Checkpoint.{Seen, site_of}

@@ -1,7 +1,7 @@
 // The snapshots of a volume: their superblocks and their extent references; what their superblocks name is left to the views.
 ghost use Rattle.std.specs.Prelude.{◌≡◌, ◌<◌, ◌^◌, ◌+◌, ◌≤◌, ℕ, List, [], length, Some, OnOk, IfErr, IsErrOf};
 ghost use Rattle.apfs_model.specs.Counts.{Rose};
-ghost use Rattle.apfs_model.specs.Source.{IsKept};
+ghost use Rattle.apfs_model.specs.Kept.{IsKept};
 ghost use Rattle.fs_name.specs.Normal.{are_hashed};
 ghost use Rattle.obj_base.specs.Site.{IsSiteFor};
 ghost use Rattle.obj_base.specs.Stops.{Tells};

@@ -1,7 +1,7 @@
 // Trees of physical nodes and of ephemeral ones, from the namings of their roots on.
 ghost use Rattle.std.specs.Prelude.{◌≡◌, ◌∷◌, ◌==◌, ◌+◌, ◌≤◌, ℕ, List, [], length, Some, false, OnOk, IfErr, IfOk, IsErrOf};
 ghost use Rattle.apfs_model.specs.Counts.{Rose};
-ghost use Rattle.apfs_model.specs.Source.{IsKept};
+ghost use Rattle.apfs_model.specs.Kept.{IsKept};
 ghost use Rattle.obj_base.specs.Site.{IsSiteFor};
 ghost use Rattle.obj_base.specs.Stops.{Tells};
 ghost use Rattle.obj_base.specs.declared.stop.Stop.TheVariants.{ReadFault};

@@ -3,7 +3,7 @@
 ghost use Rattle.std.specs.Prelude.{◌≡◌, ◌∷◌, ◌+◌, ◌≤◌, ℕ, List, [], length, None, Some, OnOk, IfErr, IsErrOf};
 ghost use Rattle.apfs_model.specs.Counts.{Rose};
 ghost use Rattle.apfs_model.specs.Lists.{In};
-ghost use Rattle.apfs_model.specs.Source.{IsKept};
+ghost use Rattle.apfs_model.specs.Kept.{IsKept};
 ghost use Rattle.fs_name.specs.Normal.{are_hashed};
 ghost use Rattle.nx_block.specs.Super.{omap_oid_of};
 ghost use Rattle.obj_base.specs.Site.{IsSiteFor};

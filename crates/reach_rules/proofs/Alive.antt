@@ -11,7 +11,8 @@ use Rattle.obj_base.specs.declared.site.Site.{Site}
 use Rattle.nx_block.specs.Super.{reaper_oid_of, jumpstart_of, fs_oid_of, slots}
 use Rattle.nx_block.specs.Reaper.{reaper_head_of, reap_next_of}
 use Rattle.nx_ring.specs.Objects.{Place}
-use Rattle.nx_ring.specs.Checkpoint.{Seen, site_of, eph, eph_ids}
+use Rattle.nx_ring.specs.Checkpoint.{Seen, site_of, eph}
+use Rattle.nx_ring.specs.Reading.{eph_ids}
 use Rattle.omap_map.specs.Fields as maps
 use Rattle.vol_view.specs.Fields as volumes
 use Rattle.vol_view.specs.SnapRecords.{is_snapshot_long, snap_extents_of}

@@ -7,7 +7,8 @@ use Rattle.obj_base.specs.declared.site.Site.{Site}
 use Rattle.bt_keys.specs.Shapes.{omap_shape, omap_snap_shape, ext_shape, snap_shape}
 use Rattle.nx_ring.specs.Checkpoint.{Seen, site_of}
 use Rattle.omap_map.specs.Resolve.{resolved as resolves, resolve, place_of, named_by}
-use Rattle.omap_map.specs.Maps.{map_records, is_whole_map, resolved_in, named_in}
+use Rattle.omap_map.specs.Maps.{map_records, is_whole_map, resolved_in}
+use Rattle.omap_map.specs.Loading.{named_in}
 use Rattle.omap_map.specs.declared.records.OmapRecord.{OmapRecord}
 use Rattle.omap_map.specs.declared.records.Place.{Place}
 use Rattle.reach_rules.specs.Naming.{ByBlock, Object, InBlock, OfRecord, MapRecords, MapSnapshots, ExtentRefs, SnapMetadata}

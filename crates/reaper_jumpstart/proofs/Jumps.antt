@@ -17,7 +17,8 @@ use Rattle.obj_base.specs.declared.stop.Within.TheVariants.{Physical}
 use Rattle.obj_base.specs.declared.site.Site.{Site}
 use Rattle.blk_read.specs.Object.{judged as judged_block, sound_object}
 use Rattle.nx_block.specs.Super.{jumpstart_of, reaper_oid_of}
-use Rattle.nx_block.specs.Jump.{is_jump, jump_of, jump_extents_of}
+use Rattle.nx_block.specs.Jump.{is_jump, jump_extents_of}
+use Rattle.nx_block.specs.OtherFields.{jump_of}
 use Rattle.nx_ring.specs.Checkpoint.{Seen, site_of}
 use Rattle.reach_rules.specs.declared.fault.Why.TheVariants.{Magic}
 use Rattle.reach_rules.specs.declared.fault.ReachFault.{ReachFault}

@@ -16,7 +16,8 @@ use Rattle.obj_base.specs.declared.stop.Stop.TheVariants as stops
 use Rattle.obj_base.specs.declared.stop.Within.TheVariants.{Ephemeral}
 use Rattle.obj_base.specs.declared.site.Site.{Site}
 use Rattle.nx_ring.specs.Objects.{Place}
-use Rattle.nx_ring.specs.Checkpoint.{Seen, eph, eph_ids, site_of}
+use Rattle.nx_ring.specs.Checkpoint.{Seen, eph, site_of}
+use Rattle.nx_ring.specs.Reading.{eph_ids}
 use Rattle.nx_ring.proofs.Laws.{eph_in}
 use Rattle.reach_rules.specs.declared.fault.Why.{Why}
 use Rattle.reach_rules.specs.declared.fault.ReachFault.{ReachFault}

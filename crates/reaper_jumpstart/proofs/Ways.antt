@@ -10,7 +10,8 @@ use Rattle.apfs_model.proofs.Searches.{in-left, in-right, in-append, in-has}
 use Rattle.obj_base.specs.declared.stop.Within.TheVariants.{Ephemeral}
 use Rattle.nx_block.specs.Super.{reaper_oid_of, slots}
 use Rattle.nx_ring.specs.Objects.{Place}
-use Rattle.nx_ring.specs.Checkpoint.{Seen, eph_ids}
+use Rattle.nx_ring.specs.Checkpoint.{Seen}
+use Rattle.nx_ring.specs.Reading.{eph_ids}
 use Rattle.reach_rules.specs.Naming.{LookUp, ByMapping, Newest, OfId, Namer, Whole, Expected, ReaperObject, ReapList, Naming, naming}
 use Rattle.reach_rules.specs.Next.{roots, next, unless_zero}
 use Rattle.reach_rules.specs.Live.{Live, rooted, led, IsLive}

@@ -3,7 +3,8 @@ use Rattle.std.specs.Prelude.{◌≡◌, ℕ, Bool, true, false, List, [], ◌�
 use Rattle.apfs_model.specs.Apart.{Apart}
 use Rattle.apfs_model.specs.Lists.{In, Lists}
 use Rattle.nx_block.specs.Super.{reaper_oid_of}
-use Rattle.nx_ring.specs.Checkpoint.{Seen, eph_ids}
+use Rattle.nx_ring.specs.Checkpoint.{Seen}
+use Rattle.nx_ring.specs.Reading.{eph_ids}
 use Rattle.reach_rules.specs.Naming.{ByMapping, Newest, OfId, Whole, Expected, ReaperObject, ReapList, Naming, naming}
 use Rattle.reach_rules.specs.Next.{next, unless_zero}
 use Rattle.reach_rules.specs.Live.{Live}

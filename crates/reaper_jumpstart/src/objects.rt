@@ -3,7 +3,7 @@
 // Tests: the first block is one of the container, and the header. Gives: the bytes, and the first block. Rests on: the objects that a checkpoint
 // maps.
 ghost use Rattle.std.specs.Prelude.{◌≡◌, IfOk, IfSome, IsErrOf, option_map};
-ghost use Rattle.nx_ring.specs.Objects.{HasWholeBlocks};
+ghost use Rattle.nx_ring.specs.Reading.{HasWholeBlocks};
 ghost use Rattle.obj_base.specs.Stops.{Gives, raised};
 ghost use Rattle.obj_base.specs.declared.stop.Stop.TheVariants.{ReadFault, NoMemory};
 ghost use Rattle.reach_rules.specs.Naming.{OfId};

@@ -18,7 +18,8 @@ use Rattle.fs_record.specs.Facts.{Fact, all_for}
 use Rattle.fs_record.specs.StreamExtents.{extent_end, overlap, is_extent_even, are_apart, are_extents_ordered}
 use Rattle.fs_record.specs.declared.extents.FileExt.{FileExt}
 use Rattle.view_rules.specs.Facts.{Facts}
-use Rattle.view_rules.specs.Extents.{extents_with_ids, is_disordered, HasExtentOrder, IsExtentOrder}
+use Rattle.view_rules.specs.Extents.{is_disordered, HasExtentOrder, IsExtentOrder}
+use Rattle.view_rules.specs.Listed.{extents_with_ids}
 use Rattle.rule_breaks.specs.Order.{is_uneven, piece_cmp, follows, Follow, IsCrossing}
 use Rattle.rule_breaks.proofs.Finds.{none-clear}
 

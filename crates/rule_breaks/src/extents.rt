@@ -5,6 +5,7 @@ ghost use Rattle.ext_ref.specs.Cover.{is_covered};
 ghost use Rattle.ext_ref.specs.Spans.{IsCoverOf};
 ghost use Rattle.fs_record.specs.StreamExtents as stream;
 ghost use Rattle.view_rules.specs.Extents as spec;
+ghost use Rattle.view_rules.specs.Listed as listed;
 
 use blk_source::NoMemory;
 use ext_ref::{Cover, NewRange};
@@ -103,7 +104,7 @@ pub fn uncovered<'a>(
 
 /// The extents among some facts, each after its stream's id.
 pub fn extents_with_ids(alloc: Global, facts: &Facts) -> Result<Vec<(u64, FileExt)>, NoMemory>
-    ensures { IfOk result (λ extents. extents.items ≡ spec.extents_with_ids facts.now) }
+    ensures { IfOk result (λ extents. extents.items ≡ listed.extents_with_ids facts.now) }
 {
     let extents = facts
         .extents

@@ -20,7 +20,8 @@ use Rattle.space_map.specs.Fields.{cabs_of, cibs_of, chunks_of, cib_chunks_of, f
 use Rattle.space_map.specs.Geometry.{chunk_len, is_shaped}
 use Rattle.space_map.specs.Blocks.{address_at, cab_blocks, cib_blocks}
 use Rattle.space_map.specs.Chunks.{chunk_at, chunks_in, is_told, are_told}
-use Rattle.space_map.specs.Marks.{lacks_bitmap, bitmap_of, is_marked_in, is_marked, has_bits, free_sum}
+use Rattle.space_map.specs.Marks.{lacks_bitmap, is_marked_in, is_marked, has_bits, free_sum}
+use Rattle.space_map.specs.Held.{bitmap_of}
 use Rattle.space_map.specs.Tests.{share, is_chunk, is_in_pool, is_free_total}
 use Rattle.space_map.specs.Stops.{HasManager, space_features, is_bitmap_placed, IsRightCib, IsRightSpace, IsFaultOf, IsInfoFeature, IsSpaceFault, IsSpaceFeature, IsSpaceOf, Known, known_of}
 use Rattle.space_map.specs.Held.{IsHeld, first_chunks, AreRight, AreNamed}

@@ -1,13 +1,13 @@
 -- What holds of each space that was loaded, and of what was read of one on the way.
-use Rattle.std.specs.Prelude.{◌≡◌, ◌⊎◌, ℕ, ◌<◌, ◌≤◌, true, List, length, map, All, slice_index_or}
+use Rattle.std.specs.Prelude.{◌≡◌, ◌⊎◌, ℕ, ◌<◌, ◌≤◌, true, List, length, map, All, slice_index_or, replicate, if◌then◌else◌}
 use Rattle.std.specs.List.{range_with_len}
-use Rattle.apfs_model.specs.Blocks.{rounded_up}
+use Rattle.apfs_model.specs.Blocks.{rounded_up, block_of}
 use Rattle.obj_base.specs.declared.site.Site.{Site}
 use Rattle.space_map.specs.Fields.{cabs_of, cibs_of}
 use Rattle.space_map.specs.Geometry.{chunk_len}
 use Rattle.space_map.specs.Blocks.{cib_block, cib_blocks, is_cib_named}
 use Rattle.space_map.specs.Chunks.{chunk_at}
-use Rattle.space_map.specs.Marks.{has_bits}
+use Rattle.space_map.specs.Marks.{has_bits, lacks_bitmap}
 use Rattle.space_map.specs.Tests.{is_chunk}
 use Rattle.space_map.specs.Stops.{is_bitmap_placed, IsRightCab, IsRightCib, IsUnnamedManager, IsUnsoundManager}
 use Rattle.nx_ring.specs.Checkpoint.{Seen}
@@ -54,3 +54,7 @@ unsound object = faults.Unsound object.block object.why
 -- a fault of the space manager itself is there
 abbrev pub IsManagerFault : Seen → SpaceFault → Type 0
 IsManagerFault seen fault = IsUnnamedManager seen fault ⊎ IsUnsoundManager seen fault
+
+-- the bits of a chunk: its bitmap's block, and zeros where it has none
+unfoldable pub bitmap_of : ℕ → List ℕ → Chunk → List ℕ
+bitmap_of block_size image chunk = if lacks_bitmap chunk then replicate block_size 0 else block_of block_size image chunk.bitmap

@@ -1,5 +1,5 @@
 -- Which blocks are marked as used, and how many aren't (Space Manager, chunk_info_t, ci_bitmap_addr).
-use Rattle.std.specs.Prelude.{ℕ, ◌/◌, ◌%◌, Bool, not, ◌&&◌, ◌||◌, ◌==◌, List, replicate, length, filter, map, sum, is_some, if◌then◌else◌}
+use Rattle.std.specs.Prelude.{ℕ, ◌/◌, ◌%◌, Bool, not, ◌&&◌, ◌||◌, ◌==◌, List, length, filter, map, sum, is_some}
 use Rattle.std.specs.List.{range_with_len}
 use Rattle.apfs_model.specs.Bytes.{bit_at}
 use Rattle.apfs_model.specs.Blocks.{block_of, in_container}
@@ -11,10 +11,6 @@ use Rattle.space_map.specs.declared.chunk.Chunk.{Chunk}
 -- a chunk without a bitmap, all of whose blocks are free
 abbrev pub lacks_bitmap : Chunk → Bool
 lacks_bitmap chunk = chunk.bitmap == 0
-
--- the bits of a chunk: its bitmap's block, and zeros where it has none
-unfoldable pub bitmap_of : ℕ → List ℕ → Chunk → List ℕ
-bitmap_of block_size image chunk = if lacks_bitmap chunk then replicate block_size 0 else block_of block_size image chunk.bitmap
 
 -- block i of a chunk is marked: its bit in the bitmap is 1; none is without a bitmap
 unfoldable pub is_marked_in : ℕ → List ℕ → Chunk → ℕ → Bool

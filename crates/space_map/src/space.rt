@@ -4,7 +4,7 @@ ghost use Rattle.apfs_model.specs.Blocks.{block_of};
 ghost use Rattle.apfs_model.specs.Bytes as bits;
 ghost use Rattle.apfs_model.specs.Bytes.{bit_at};
 ghost use Rattle.apfs_model.specs.Counts.{Rose};
-ghost use Rattle.apfs_model.specs.Source.{IsKept};
+ghost use Rattle.apfs_model.specs.Kept.{IsKept};
 ghost use Rattle.obj_base.specs.Site.{IsSiteFor};
 ghost use Rattle.space_map.specs.Geometry as shape;
 ghost use Rattle.apfs_model.specs.Blocks.{rounded_up};
@@ -36,7 +36,7 @@ pub struct Space {
 
 impl Model for Space {
     ghost use Rattle.space_map.specs.Stops.{Known};
-    ghost use Rattle.space_map.specs.Held.{IsHeld};
+    ghost use Rattle.space_map.specs.Held.{IsHeld, bitmap_of};
 
     ghost Value = { Known };
 
@@ -116,7 +116,7 @@ impl Space {
     ghost use Rattle.obj_base.specs.declared.stop.Stop.TheVariants.{ReadFault};
     ghost use Rattle.nx_ring.specs.Checkpoint.{site_of};
     ghost use Rattle.space_map.specs.Chunks.{chunk_at};
-    ghost use Rattle.space_map.specs.Marks.{bitmap_of, is_marked};
+    ghost use Rattle.space_map.specs.Marks.{is_marked};
     ghost use Rattle.space_map.specs.Stops.{Known, known_of, IsSpaceOf, IsSpaceFault, IsSpaceFeature};
 
     /// The space of a checkpoint's container. `Unnamed` and `Unsound` come for its manager and for the blocks that tell

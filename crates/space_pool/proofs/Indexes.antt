@@ -9,7 +9,7 @@ use Rattle.std.proofs.lemmas.List.FromFn.{map-range_with_len_more}
 use Rattle.apfs_model.specs.Blocks.{block_of, is_inside}
 use Rattle.apfs_model.specs.Lists.{has}
 use Rattle.apfs_model.proofs.BoolTests.{test_or, left-true, right-true, both-true, equal-from, unequal-from, upto-from, from-upto, below-from, from-below, all-in, in-range, right-or}
-use Rattle.apfs_model.specs.Source.{IsKept}
+use Rattle.apfs_model.specs.Kept.{IsKept}
 use Rattle.obj_base.specs.declared.site.Site.{Site}
 use Rattle.obj_base.specs.declared.stop.Stop.{Stop}
 use Rattle.obj_base.specs.declared.stop.Stop.TheVariants.{Found, Unsupported, ReadFault, NoMemory}

@@ -11,7 +11,7 @@ use Rattle.obj_base.specs.declared.stop.Feature.{Feature}
 use Rattle.obj_base.specs.declared.stop.Stop.TheVariants.{Found, Unsupported}
 use Rattle.bt_keys.specs.Shapes.{queue_shape}
 use Rattle.bt_cursor.specs.Line.{line_of}
-use Rattle.bt_cursor.specs.Whole.{IsWhole}
+use Rattle.bt_cursor.specs.WholeTree.{IsWhole}
 use Rattle.bt_cursor.specs.declared.fault.WalkFault.TheVariants as walks
 use Rattle.bt_cursor.proofs.Places.{whole-world, tree-levelled}
 use Rattle.bt_cursor.proofs.Wholes.{whole_means}

@@ -30,7 +30,8 @@ use Rattle.file_extent.specs.Opening.{IsStreamFeature}
 use Rattle.vol_view.specs.Volumes.{Loaded}
 use Rattle.vol_view.specs.Views.{hashed_tree, plain_tree, view_flat, view_line, is_view_walkable, is_view_counted, is_view_whole}
 use Rattle.vol_view.specs.declared.volume.View.{View}
-use Rattle.view_rules.specs.Rules.{view_facts, raised}
+use Rattle.view_rules.specs.Rules.{view_facts}
+use Rattle.view_rules.specs.Listed.{raised}
 use Rattle.view_rules.specs.declared.fault.TreeFault.TheVariants.{ExtentOrder, ExtentPlace}
 use Rattle.view_rules.proofs.Law.{refutes, featureless_rules}
 use Rattle.view_rules.proofs.Trees.{ViewParts, view-clear, featureless}
@@ -41,7 +42,8 @@ use Rattle.path_walk.proofs.Tallies.{in-given, mapped-at}
 use Rattle.path_read.specs.Streamed.{id_at}
 use Rattle.path_read.proofs.StreamFaults.{unrefused, stream_there}
 use Rattle.tree_export.specs.Exported.{Wanted, items_in}
-use Rattle.tree_export.specs.Faults.{HasInode, LacksInode, IsInodeOf, IsRefusedInode, IsExportStop, IsNoInode, StopsAt, IsFailure}
+use Rattle.tree_export.specs.Faults.{HasInode, LacksInode, IsInodeOf, IsRefusedInode}
+use Rattle.tree_export.specs.Stopping.{IsExportStop, IsNoInode, StopsAt, IsFailure}
 use Rattle.tree_export.specs.Parts.{HasContent, IsFileStop, IsContentStop}
 use Rattle.tree_export.specs.declared.content.Content.{Content}
 use Rattle.tree_export.specs.declared.content.Content.TheVariants.{Directory, Empty, Stream, Nothing}

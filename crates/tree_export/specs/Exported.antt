@@ -1,5 +1,5 @@
 -- What a folder gets of a view: from the tree of its root, in its order, the directories, and the files whose contents can be given.
-use Rattle.std.specs.Prelude.{ℕ, Bool, not, ◌||◌, List, map, filter, filter_map, Option, Some, option_map, option_and_then, is_ok, string_bytes, if◌then◌else◌}
+use Rattle.std.specs.Prelude.{ℕ, Bool, not, ◌||◌, List, map, filter, filter_map, Option, Some, option_map, option_and_then, is_ok, if◌then◌else◌}
 use Rattle.apfs_model.specs.Lists.{passes, through, value_of}
 use Rattle.fs_record.specs.Inodes.{Inode}
 use Rattle.view_rules.specs.Facts.{Facts, inode_at, is_directory}
@@ -18,10 +18,6 @@ pub record Wanted : Type 0 where
   pub id : ℕ
   pub kind : ℕ
   pub size : ℕ
-
--- an item of the call, by the bytes of its path
-abbrev pub wanted_of : Item → Wanted
-wanted_of item = record { path = string_bytes item.path; id = item.id; kind = item.kind; size = item.size }
 
 -- the file at a path, where its contents can be given: it is regular, and neither compressed nor dataless
 abbrev pub file_by : ℕ → List ℕ → Facts → List ℕ → Inode → Option folders.Item

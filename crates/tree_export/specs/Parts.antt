@@ -11,7 +11,7 @@ use Rattle.bt_keys.specs.RecordKey.{inode_record}
 use Rattle.bt_cursor.specs.Tree.{Tree}
 use Rattle.bt_cursor.specs.Flat.{flat_of}
 use Rattle.bt_cursor.specs.From.{run_in, is_of_kind}
-use Rattle.bt_cursor.specs.Whole.{IsWhole}
+use Rattle.bt_cursor.specs.WholeTree.{IsWhole}
 use Rattle.bt_cursor.specs.Faults.{IsWalkFault}
 use Rattle.bt_cursor.specs.declared.gathering.GatherFault.{GatherFault}
 use Rattle.bt_cursor.specs.declared.gathering.GatherFault.TheVariants as gathers

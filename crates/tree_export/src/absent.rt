@@ -1,11 +1,12 @@
 // An id without an inode, by a walk over the whole tree.
 ghost use Rattle.std.specs.Prelude.{◌≡◌, ◌++◌, ◌∷◌, [], ℕ, List, Some, true, false, not, option_map, IfOk, IsTrue};
 ghost use Rattle.apfs_model.specs.Counts.{Rose};
-ghost use Rattle.apfs_model.specs.Source.{IsKept};
+ghost use Rattle.apfs_model.specs.Kept.{IsKept};
 ghost use Rattle.obj_base.specs.Stops.{Tells};
 ghost use Rattle.obj_base.specs.declared.stop.Stop.TheVariants.{ReadFault};
 ghost use Rattle.obj_base.specs.Site.{IsSiteFor};
-ghost use Rattle.bt_cursor.specs.Line.{Item, line_of, child_id};
+ghost use Rattle.bt_cursor.specs.Line.{Item, line_of};
+ghost use Rattle.bt_cursor.specs.WholeTree.{child_id};
 ghost use Rattle.bt_cursor.specs.Order.{is_ordered};
 ghost use Rattle.bt_cursor.specs.Flat.{flat_of};
 ghost use Rattle.bt_cursor.specs.Faults.{HasFeature};

@@ -1,17 +1,17 @@
 // Filling a folder with the items of a view.
 ghost use Rattle.std.specs.Prelude.{◌≡◌, ◌≤◌, ◌<◌, ℕ, List, Some, Err, true, length, map, All, IfOk, IfErr, OnOk};
 ghost use Rattle.apfs_model.specs.Counts.{Rose};
-ghost use Rattle.apfs_model.specs.Source.{IsKept};
+ghost use Rattle.apfs_model.specs.Kept.{IsKept};
 ghost use Rattle.obj_base.specs.Site.{IsSiteFor};
 ghost use Rattle.obj_base.specs.declared.stop.Stop.TheVariants.{ReadFault};
 ghost use Rattle.vol_view.specs.Views.{view_flat, is_view_ordered};
 ghost use Rattle.view_rules.specs.Rules.{view_facts};
 ghost use Rattle.path_walk.specs.Stops.{IsLawful};
 ghost use Rattle.blk_folder.specs.Put.{Filled};
-ghost use Rattle.tree_export.specs.Exported.{wanted_of, put_all, items_in, exported};
+ghost use Rattle.tree_export.specs.Exported.{put_all, items_in, exported};
+ghost use Rattle.tree_export.specs.Stopping.{wanted_of, HaveInodes, StopsAt, IsFailure};
 ghost use Rattle.tree_export.specs.Filled.{HasFilled};
 ghost use Rattle.tree_export.specs.Done.{IsDoneFor};
-ghost use Rattle.tree_export.specs.Faults.{HaveInodes, StopsAt, IsFailure};
 ghost use Rattle.tree_export.specs.Parts.{TellsMore};
 ghost use Rattle.tree_export.specs.declared.stop.ExportStop.TheVariants.{Stopped, WriteFault};
 

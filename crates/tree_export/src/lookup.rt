@@ -1,7 +1,7 @@
 // What the inode of an id gives a folder.
 ghost use Rattle.std.specs.Prelude.{◌≡◌, ℕ, true, List, Some, IfOk, IfErr, IsErrOf};
 ghost use Rattle.apfs_model.specs.Counts.{Rose};
-ghost use Rattle.apfs_model.specs.Source.{IsKept};
+ghost use Rattle.apfs_model.specs.Kept.{IsKept};
 ghost use Rattle.obj_base.specs.Stops.{Tells, raised};
 ghost use Rattle.obj_base.specs.declared.stop.Stop.TheVariants.{ReadFault};
 ghost use Rattle.obj_base.specs.Site.{IsSiteFor};
@@ -10,7 +10,7 @@ ghost use Rattle.bt_cursor.specs.Line.{line_of};
 ghost use Rattle.bt_cursor.specs.Order.{is_ordered};
 ghost use Rattle.bt_cursor.specs.Faults.{IsNodeFault, HasFeature};
 ghost use Rattle.vol_view.specs.Views.{view_tree, view_flat, is_view_ordered, IsViewFeature};
-ghost use Rattle.tree_export.specs.Faults.{IsFaultOf};
+ghost use Rattle.tree_export.specs.Stopping.{IsFaultOf};
 ghost use Rattle.tree_export.specs.Parts.{TellsOrdered, TellsRecord, IsContentIn, HasContent, IsLookupFault};
 ghost use Rattle.tree_export.specs.declared.stop.ExportFault.TheVariants as stops;
 

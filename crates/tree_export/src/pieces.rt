@@ -1,7 +1,7 @@
 // The bytes of a file, put piece by piece.
 ghost use Rattle.std.specs.Prelude.{◌≡◌, ◌-◌, ◌<◌, ◌≤◌, true, length, IfOk, OnOk, OnErr, IsErrOf, MatchResult};
 ghost use Rattle.apfs_model.specs.Counts.{Rose};
-ghost use Rattle.apfs_model.specs.Source.{IsKept};
+ghost use Rattle.apfs_model.specs.Kept.{IsKept};
 ghost use Rattle.obj_base.specs.Site.{IsSiteFor};
 ghost use Rattle.file_extent.specs.Streams.{bytes_from, stream_bytes};
 ghost use Rattle.file_extent.specs.declared.stop.CopyFault.TheVariants.{ReadFault, WriteFault};

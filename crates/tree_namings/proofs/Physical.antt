@@ -9,7 +9,7 @@ use Rattle.obj_base.specs.declared.stop.Within.TheVariants.{Physical}
 use Rattle.bt_node.specs.Shape.{Shape}
 use Rattle.bt_cursor.specs.Line.{Item, line_of}
 use Rattle.bt_cursor.specs.Met.{nodes_of}
-use Rattle.bt_cursor.specs.Whole.{IsWhole}
+use Rattle.bt_cursor.specs.WholeTree.{IsWhole}
 use Rattle.bt_cursor.specs.Faults as faults
 use Rattle.bt_cursor.specs.Gathered.{IsGatherFault}
 use Rattle.bt_cursor.specs.declared.step.Step.{Step}

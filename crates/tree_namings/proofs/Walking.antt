@@ -20,7 +20,7 @@ use Rattle.bt_cursor.specs.Flat.{flat_of}
 use Rattle.bt_cursor.specs.Met.{places_under, places_in, places_of, has_node, nodes_of, is_walkable}
 use Rattle.bt_cursor.specs.Order.{out_of_order}
 use Rattle.bt_cursor.specs.Counts as counts
-use Rattle.bt_cursor.specs.Whole.{IsWhole}
+use Rattle.bt_cursor.specs.WholeTree.{IsWhole}
 use Rattle.bt_cursor.specs.Faults as faults
 use Rattle.bt_cursor.specs.Gathered.{IsGatherFault}
 use Rattle.bt_cursor.proofs.Walkables.{filter-all}

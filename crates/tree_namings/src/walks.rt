@@ -2,13 +2,13 @@
 ghost use Rattle.std.specs.Prelude.{◌≡◌, ◌+◌, ◌≤◌, ℕ, suc, List, [], length, Some, None, false, Option, OnOk, IfOk, IfErr, IsErrOf};
 ghost use Rattle.std.specs.List.{list_any};
 ghost use Rattle.apfs_model.specs.Counts.{Rose};
-ghost use Rattle.apfs_model.specs.Source.{IsKept};
+ghost use Rattle.apfs_model.specs.Kept.{IsKept};
 ghost use Rattle.obj_base.specs.Site.{IsSiteFor};
 ghost use Rattle.obj_base.specs.Stops.{Tells, IsFree};
 ghost use Rattle.obj_base.specs.declared.stop.Stop.TheVariants.{ReadFault};
 ghost use Rattle.bt_cursor.specs.Line.{Item, line_of};
 ghost use Rattle.bt_cursor.specs.Met.{nodes_of};
-ghost use Rattle.bt_cursor.specs.Whole.{IsWhole};
+ghost use Rattle.bt_cursor.specs.WholeTree.{IsWhole};
 ghost use Rattle.bt_cursor.specs.Faults as faults;
 ghost use Rattle.bt_cursor.specs.Gathered.{IsGatherFault};
 ghost use Rattle.bt_steps.specs.Noted.{IsWalked};

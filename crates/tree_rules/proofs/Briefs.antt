@@ -24,7 +24,8 @@ use Rattle.view_rules.specs.declared.fault.TreeFault.TheVariants.{Unsound, Unnam
 use Rattle.view_rules.specs.declared.profile.Profile.{Profile}
 use Rattle.view_rules.specs.declared.profile.Profile.TheVariants.{Plain, Strict}
 use Rattle.view_facts.specs.Contents.{brief_body, brief, brief_facts}
-use Rattle.tree_rules.specs.Notes.{is_unnamed, notes_of}
+use Rattle.tree_rules.specs.Notes.{is_unnamed}
+use Rattle.tree_rules.specs.Tallies.{notes_of}
 use Rattle.rule_faults.specs.declared.faults.Asked.{Asked}
 use Rattle.rule_faults.specs.Faults.{IsShown}
 

@@ -11,7 +11,7 @@ use Rattle.view_rules.specs.declared.fault.TreeFault.TheVariants.{Unsound, Unnam
 use Rattle.view_rules.specs.declared.profile.Profile.{Profile}
 use Rattle.view_facts.specs.Kept.{IsGatheredView}
 use Rattle.view_facts.specs.declared.gathering.ViewFacts.{ViewFacts}
-use Rattle.tree_rules.specs.Notes.{notes_of}
+use Rattle.tree_rules.specs.Tallies.{notes_of}
 use Rattle.tree_rules.specs.Tallies.{IsTally}
 use Rattle.tree_rules.specs.declared.tallies.ViewTally.{ViewTally}
 use Rattle.rule_faults.specs.declared.faults.Asked.{Asked}

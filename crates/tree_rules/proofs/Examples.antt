@@ -10,7 +10,8 @@ use Rattle.vol_view.specs.declared.volume.View.{View}
 use Rattle.view_rules.specs.Facts.{Facts}
 use Rattle.view_rules.specs.Names.{has_other_hash, has_other_name_hash}
 use Rattle.view_rules.specs.declared.profile.Profile.TheVariants.{Plain, Strict}
-use Rattle.tree_rules.specs.Notes.{is_unnamed, unnamed_note, notes_of}
+use Rattle.tree_rules.specs.Notes.{is_unnamed, unnamed_note}
+use Rattle.tree_rules.specs.Tallies.{notes_of}
 
 abbrev inode : ℕ → ℕ → Fact Inode
 inode id kind = record { id = id; what = record { parent = 2; private_id = id; links = pos 1; bsd_flags = 0; mode = 4096 * kind; stream = None } }

@@ -1,5 +1,5 @@
 -- The notes of a view: what is odd in it, and no fault.
-use Rattle.std.specs.Prelude.{Bool, not, ◌&&◌, ◌==◌, nat_le, List, ◌++◌, map, filter}
+use Rattle.std.specs.Prelude.{Bool, not, ◌&&◌, ◌==◌, nat_le, List, map, filter}
 use Rattle.std.specs.List.{list_any}
 use Rattle.fs_record.specs.Inodes.{Inode}
 use Rattle.fs_record.specs.Entries.{Entry}
@@ -9,8 +9,6 @@ use Rattle.view_rules.specs.Facts.{Facts, is_directory}
 use Rattle.view_rules.specs.Names.{has_other_name_hash}
 use Rattle.tree_rules.specs.declared.notes.Note.{Note}
 use Rattle.tree_rules.specs.declared.notes.Note.TheVariants.{Hash, Unnamed}
-use Rattle.view_rules.specs.declared.profile.Profile.{Profile}
-use Rattle.view_rules.specs.declared.profile.Profile.TheVariants.{Plain, Strict}
 
 -- the note of an entry whose name isn't ASCII and whose key has another hash
 abbrev pub hash_note : View → Fact Entry → Note
@@ -33,8 +31,3 @@ unnamed_note view f = Unnamed (record { slot = view.slot; xid = view.xid; id = f
 -- note unnamed: one for each such inode
 abbrev pub unnamed_notes : View → Facts → List Note
 unnamed_notes view facts = map (unnamed_note view) (filter (is_unnamed facts) facts.inodes)
-
--- the notes of a view: those on hashes, which are faults under Strict, and then those on inodes, both in record order
-unfoldable pub notes_of : Profile → View → Facts → List Note
-notes_of Plain view facts = hash_notes view facts ++ unnamed_notes view facts
-notes_of Strict view facts = unnamed_notes view facts

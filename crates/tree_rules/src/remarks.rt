@@ -5,6 +5,7 @@ ghost use Rattle.view_rules.specs.Facts.{is_directory};
 ghost use Rattle.view_rules.specs.Names as names;
 ghost use Rattle.rule_faults.specs.Faults as faults;
 ghost use Rattle.tree_rules.specs.Notes as spec;
+ghost use Rattle.tree_rules.specs.Tallies as tallies;
 
 use crate::{Note, Profile};
 use apfs_model::Bytes;
@@ -145,7 +146,7 @@ pub(crate) fn notes(
     view: &View,
     index: &Index<'_>,
 ) -> Result<Vec<Note>, NoMemory>
-    ensures { IfOk result (λ notes. notes.items ≡ spec.notes_of profile view.now index.now.facts.now) }
+    ensures { IfOk result (λ notes. notes.items ≡ tallies.notes_of profile view.now index.now.facts.now) }
 {
     match profile {
         Profile::Plain => {

@@ -1,12 +1,12 @@
 // Whether a view meets its rules, and its extents, in one walk.
 ghost use Rattle.std.specs.Prelude.{◌≡◌, ◌+◌, ◌≤◌, ℕ, List, length, Some, IfOk, IfErr, IsErrOf, OnOk};
 ghost use Rattle.apfs_model.specs.Counts.{Rose};
-ghost use Rattle.apfs_model.specs.Source.{IsKept};
+ghost use Rattle.apfs_model.specs.Kept.{IsKept};
 ghost use Rattle.obj_base.specs.Site.{IsSiteFor};
 ghost use Rattle.obj_base.specs.Stops.{Tells};
 ghost use Rattle.obj_base.specs.declared.stop.Stop.TheVariants.{ReadFault};
 ghost use Rattle.vol_view.specs.Views.{view_nodes, IsViewFeature};
-ghost use Rattle.view_rules.specs.Extents.{extents_with_ids};
+ghost use Rattle.view_rules.specs.Listed.{extents_with_ids};
 ghost use Rattle.view_rules.specs.Rules as rules;
 ghost use Rattle.tree_rules.specs.Tallies.{IsTally};
 

@@ -11,7 +11,8 @@ use Rattle.bt_keys.specs.RecordKey.{record_kind_of, file_extent_record}
 use Rattle.bt_keys.specs.FsTree.{IsFsShape}
 use Rattle.bt_keys.proofs.FsKeys.{extent_long}
 use Rattle.bt_cursor.specs.Gathered.{children_of}
-use Rattle.bt_cursor.specs.Line.{Item, child_id, is_leaf_item, leaf_pairs}
+use Rattle.bt_cursor.specs.Line.{Item, is_leaf_item}
+use Rattle.bt_cursor.specs.WholeTree.{child_id, leaf_pairs}
 use Rattle.bt_cursor.proofs.Lines.{leaf_pairs-append}
 use Rattle.fs_record.specs.Facts.{Fact, told_by, fact_of, read_extent, extents_of}
 use Rattle.fs_record.specs.declared.extents.FileExt.{FileExt}

@@ -13,7 +13,8 @@ use Rattle.bt_cursor.specs.Tree.{Tree}
 use Rattle.bt_cursor.specs.Met.{IsMet, places_of, nodes_of, has_node, is_walkable}
 use Rattle.bt_cursor.proofs.Places.{tree-levelled, places-met, walkable-met}
 use Rattle.nx_ring.specs.Checkpoint.{Seen, site_of}
-use Rattle.omap_map.specs.Maps.{map_records, is_whole_map, named_in}
+use Rattle.omap_map.specs.Maps.{map_records, is_whole_map}
+use Rattle.omap_map.specs.Loading.{named_in}
 use Rattle.omap_map.specs.Resolve.{named_by, resolve}
 use Rattle.omap_map.specs.declared.records.OmapRecord.{OmapRecord}
 use Rattle.omap_map.specs.declared.records.Place.{Place}

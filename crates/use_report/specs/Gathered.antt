@@ -2,7 +2,8 @@
 use Rattle.std.specs.Prelude.{◌≡◌, ℕ, Bool, not, ◌==◌, List, map, Option, None, Some, Result, Ok, Err, is_ok, if◌then◌else◌}
 use Rattle.bt_node.specs.Entries.{Pair}
 use Rattle.bt_keys.specs.RecordKey.{record_kind_of, file_extent_record}
-use Rattle.bt_cursor.specs.Line.{Item, is_leaf_item, leaf_pairs}
+use Rattle.bt_cursor.specs.Line.{Item, is_leaf_item}
+use Rattle.bt_cursor.specs.WholeTree.{leaf_pairs}
 use Rattle.bt_cursor.specs.Gathered.{children_of}
 use Rattle.fs_record.specs.Facts.{Fact, read_extent, extents_of}
 use Rattle.fs_record.specs.declared.extents.FileExt.{FileExt}

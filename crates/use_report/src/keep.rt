@@ -1,7 +1,8 @@
 // What is kept of the items of a view's Line: the nodes below its root, and the extents of its streams.
 ghost use Rattle.std.specs.Prelude.{◌≡◌, ◌≤◌, ◌++◌, [], ◌∷◌, List, Some, length, not, option_map, option_to_list, OnOk, IfOk, IsTrue};
 ghost use Rattle.bt_keys.specs.RecordKey.{record_kind_of, file_extent_record};
-ghost use Rattle.bt_cursor.specs.Line.{Item, child_id};
+ghost use Rattle.bt_cursor.specs.Line.{Item};
+ghost use Rattle.bt_cursor.specs.WholeTree.{child_id};
 ghost use Rattle.bt_cursor.specs.Gathered.{shown};
 ghost use Rattle.use_report.specs.Gathered as spec;
 ghost use Rattle.use_report.specs.Gathered.{extent_in, extent_at, is_refused, Gathers};

@@ -4,7 +4,8 @@ use Rattle.std.specs.Prelude.{slice_get, min, ◌^◌, ◌-◌}
 use Rattle.std.proofs.lemmas.Bool.Decides.{nat_tests}
 use Rattle.apfs_model.specs.Counts.{given}
 use Rattle.apfs_model.proofs.Searches.{in-append}
-use Rattle.bt_cursor.specs.Line.{Item, leaf_pairs, is_leaf_item}
+use Rattle.bt_cursor.specs.Line.{Item, is_leaf_item}
+use Rattle.bt_cursor.specs.WholeTree.{leaf_pairs}
 use Rattle.bt_cursor.proofs.Lines.{leaf_pairs-append, leaf_pairs-inner}
 use Rattle.fs_name.specs.declared.naming.Names.{Names}
 use Rattle.fs_record.specs.Facts.{refused}

@@ -7,9 +7,9 @@ use Rattle.obj_base.specs.declared.stop.Stop.TheVariants.{Found, Unsupported, Re
 use Rattle.obj_base.specs.Stops.{Tells}
 use Rattle.bt_node.specs.Entries.{Pair}
 use Rattle.bt_cursor.specs.Tree.{Tree}
-use Rattle.bt_cursor.specs.Line.{Item, line_of, leaf_pairs}
+use Rattle.bt_cursor.specs.Line.{Item, line_of}
+use Rattle.bt_cursor.specs.WholeTree.{leaf_pairs, IsWhole}
 use Rattle.bt_cursor.specs.Met.{nodes_of}
-use Rattle.bt_cursor.specs.Whole.{IsWhole}
 use Rattle.bt_cursor.specs.Faults.{HasFeature}
 use Rattle.bt_cursor.specs.Gathered.{IsGatherFault}
 use Rattle.bt_cursor.specs.declared.gathering.GatherFault.{GatherFault}
@@ -24,7 +24,8 @@ use Rattle.vol_view.specs.Volumes.{Loaded}
 use Rattle.vol_view.specs.Views.{hashed_tree, plain_tree, view_flat, view_line, view_nodes, is_view_walkable, is_view_counted, FactBy, IsViewFeature, IsViewFault}
 use Rattle.vol_view.specs.declared.volume.View.{View}
 use Rattle.view_rules.specs.Facts.{Facts, facts_in}
-use Rattle.view_rules.specs.Rules.{raised, IsTreeFault}
+use Rattle.view_rules.specs.Rules.{IsTreeFault}
+use Rattle.view_rules.specs.Listed.{raised}
 use Rattle.view_rules.specs.declared.fault.TreeFault.{TreeFault}
 use Rattle.view_rules.specs.declared.profile.Profile.{Profile}
 use Rattle.view_facts.specs.Contents.{brief_facts}

@@ -3,9 +3,9 @@ use Rattle.std.specs.Prelude.{◌≡◌, ℕ, true, List, length, Option}
 use Rattle.apfs_model.specs.Counts.{given}
 use Rattle.obj_base.specs.declared.site.Site.{Site}
 use Rattle.bt_cursor.specs.Tree.{Tree}
-use Rattle.bt_cursor.specs.Line.{Item, line_of, leaf_pairs}
+use Rattle.bt_cursor.specs.Line.{Item, line_of}
+use Rattle.bt_cursor.specs.WholeTree.{leaf_pairs, IsWhole}
 use Rattle.bt_cursor.specs.Flat.{flat_of}
-use Rattle.bt_cursor.specs.Whole.{IsWhole}
 use Rattle.fs_name.specs.declared.naming.Names.{Names}
 use Rattle.vol_view.specs.Volumes.{Loaded}
 use Rattle.vol_view.specs.Views.{view_flat, view_line, is_view_walkable, is_view_ordered, is_view_counted}

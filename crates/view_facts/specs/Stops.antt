@@ -8,7 +8,7 @@ use Rattle.bt_cursor.specs.declared.fault.WalkFault.{WalkFault}
 use Rattle.bt_cursor.specs.declared.gathering.GatherFault.{GatherFault}
 use Rattle.bt_cursor.specs.declared.gathering.GatherFault.TheVariants as gathers
 use Rattle.vol_view.specs.declared.volume.View.{View}
-use Rattle.view_rules.specs.Rules.{raised}
+use Rattle.view_rules.specs.Listed.{raised}
 use Rattle.view_rules.specs.declared.fault.TreeFault.{TreeFault}
 
 -- why a walk stops, said of the view; no item is refused in it

@@ -1,7 +1,7 @@
 // The facts of a view, in one walk over its tree.
 ghost use Rattle.std.specs.Prelude.{◌≡◌, ◌+◌, ◌≤◌, ℕ, List, length, Some, false, IfOk, IfErr, IsErrOf, OnOk};
 ghost use Rattle.apfs_model.specs.Counts.{Rose};
-ghost use Rattle.apfs_model.specs.Source.{IsKept};
+ghost use Rattle.apfs_model.specs.Kept.{IsKept};
 ghost use Rattle.obj_base.specs.Site.{IsSiteFor};
 ghost use Rattle.obj_base.specs.Stops.{Tells};
 ghost use Rattle.obj_base.specs.declared.stop.Stop.TheVariants.{ReadFault};
@@ -13,6 +13,7 @@ ghost use Rattle.vol_view.specs.Views.{view_tree, view_nodes, IsViewFeature};
 ghost use Rattle.view_rules.specs.declared.profile.Profile.{Profile};
 ghost use Rattle.ext_ref.specs.declared.range.NewRange.{NewRange};
 ghost use Rattle.view_rules.specs.Rules as spec;
+ghost use Rattle.view_rules.specs.Listed as listed;
 ghost use Rattle.view_facts.specs.Kept.{IsWalked, IsWalkedView, IsGatheredView};
 ghost use Rattle.view_facts.specs.Stops.{SaysOfView, IsRaised};
 
@@ -46,7 +47,7 @@ struct Walked {
 
 // What a walk names, said of the view.
 fn raised(view: &View, why: WalkFault) -> TreeFault
-    ensures { result ≡ spec.raised view.now why }
+    ensures { result ≡ listed.raised view.now why }
 {
     match why {
         WalkFault::Unsound { block, why } => TreeFault::Unsound { block, why },

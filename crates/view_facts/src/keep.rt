@@ -1,7 +1,8 @@
 // What is kept of the items of a view's Line.
 ghost use Rattle.std.specs.Prelude.{◌≡◌, ◌++◌, [], ◌∷◌, ℕ, List, Some, true, false, option_map, IfOk, OnOk, IsTrue};
 ghost use Rattle.fs_name.specs.Normal.{are_hashed};
-ghost use Rattle.bt_cursor.specs.Line.{Item, child_id};
+ghost use Rattle.bt_cursor.specs.Line.{Item};
+ghost use Rattle.bt_cursor.specs.WholeTree.{child_id};
 ghost use Rattle.bt_cursor.specs.Gathered.{shown};
 ghost use Rattle.view_facts.specs.Kept.{IsKeptOf};
 ghost use Rattle.view_facts.specs.Refusals.{or_this};

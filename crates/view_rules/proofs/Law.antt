@@ -18,7 +18,8 @@ use Rattle.view_rules.specs.Counts.{has_other_children, has_other_links}
 use Rattle.view_rules.specs.Siblings.{link_place, file_place, is_link_lost, is_map_lost, is_unmarked}
 use Rattle.view_rules.specs.Extents.{is_disordered, is_misplaced, is_uncovered}
 use Rattle.view_rules.specs.Inodes.{lacks_target, has_large_stream, has_large_body, lacks_owner}
-use Rattle.view_rules.specs.Rules.{view_facts, HasTreeRules, raised, IsTreeFault}
+use Rattle.view_rules.specs.Rules.{view_facts, HasTreeRules, IsTreeFault}
+use Rattle.view_rules.specs.Listed.{raised}
 use Rattle.view_rules.specs.Laws.{IsFlawed}
 use Rattle.view_rules.specs.declared.fault.IdAt.{IdAt}
 use Rattle.view_rules.specs.declared.fault.NamedAt.{NamedAt}

@@ -1,5 +1,5 @@
 -- The rules on extents: their order, their place in the container, and the ranges that cover them.
-use Rattle.std.specs.Prelude.{ℕ, Bool, not, ◌&&◌, List, map}
+use Rattle.std.specs.Prelude.{ℕ, Bool, not, ◌&&◌, List}
 use Rattle.fs_record.specs.Facts.{Fact, all_for}
 use Rattle.fs_record.specs.StreamExtents.{extent_blocks, is_hole, are_extents_ordered, is_extent_placed}
 use Rattle.fs_record.specs.declared.extents.FileExt.{FileExt}
@@ -7,10 +7,6 @@ use Rattle.ext_ref.specs.Cover.{is_covered}
 use Rattle.ext_ref.specs.declared.range.NewRange.{NewRange}
 use Rattle.view_rules.specs.Words.{IsClear, IsBroken}
 use Rattle.view_rules.specs.Facts.{Facts, id_of_fact}
-
--- the extents of a view in record order, each after its stream's id
-abbrev pub extents_with_ids : Facts → List (ℕ × FileExt)
-extents_with_ids facts = map (λ (f : Fact FileExt). (f.id, f.what)) facts.extents
 
 -- the extents of an extent's stream aren't in order
 unfoldable pub is_disordered : ℕ → Facts → Fact FileExt → Bool

@@ -8,4 +8,5 @@ pub mod Siblings
 pub mod Extents
 pub mod Inodes
 pub mod Rules
+pub mod Listed
 pub mod Laws

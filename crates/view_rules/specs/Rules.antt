@@ -4,7 +4,6 @@ use Rattle.apfs_model.specs.Counts.{given}
 use Rattle.apfs_model.specs.Lists.{In}
 use Rattle.obj_base.specs.declared.site.Site.{Site}
 use Rattle.bt_cursor.specs.Line.{Item, is_leaf_item}
-use Rattle.bt_cursor.specs.declared.fault.WalkFault.{WalkFault}
 use Rattle.bt_cursor.specs.declared.fault.WalkFault.TheVariants as walks
 use Rattle.fs_name.specs.declared.naming.Names.{Names}
 use Rattle.fs_record.specs.Facts.{refused}
@@ -85,13 +84,6 @@ pub record HasTreeRules (profile : Profile) (image : List ℕ) (site : Site) (vo
 -- a slot and a transaction are a view's
 abbrev pub IsOf : View → ℕ → ℕ → Type 0
 IsOf view slot xid = (slot ≡ view.slot) × (xid ≡ view.xid)
-
--- what a walk over a view's tree names, said of the view
-abbrev pub raised : View → WalkFault → TreeFault
-raised view (walks.Unsound block why) = Unsound block why
-raised view (walks.Unnamed oid) = Unnamed view.slot oid view.xid
-raised view (walks.Order item) = Order view.slot view.xid item
-raised view walks.Counts = Counts view.slot view.xid
 
 -- the fault of a view is there
 abbrev pub IsTreeFault : Profile → List ℕ → Site → Loaded → View → List NewRange → TreeFault → Type 0

@@ -5,7 +5,7 @@ use Rattle.std.specs.List.Sorted.{IsPartitionPoint}
 use Rattle.std.proofs.lemmas.Bool.{cases_lt}
 use Rattle.std.proofs.lemmas.List.{get_or_read}
 use Rattle.std.proofs.lemmas.Grind.{common_steps}
-use Rattle.omap_map.specs.Records.{is_before, IsAscending}
+use Rattle.omap_map.specs.Loading.{is_before, IsAscending}
 use Rattle.omap_map.specs.Search.{is_by}
 use Rattle.omap_map.specs.declared.records.OmapRecord.{OmapRecord}
 use Rattle.omap_map.proofs.Lists.{all-in}

@@ -12,7 +12,8 @@ use Rattle.obj_base.specs.Sound.{sound_of, expecting}
 use Rattle.obj_base.proofs.SoundLemmas.{sound_means}
 use Rattle.bt_node.specs.Shape.{Shape}
 use Rattle.bt_node.specs.Node as nodes
-use Rattle.bt_node.specs.Soundness.{node_of, node_expect, with_header, after_head, IsNode}
+use Rattle.bt_node.specs.Soundness.{node_of, node_expect, with_header, after_head}
+use Rattle.bt_node.specs.SoundNode.{IsNode}
 use Rattle.bt_node.specs.declared.fault.NodeFault.{NodeFault}
 use Rattle.bt_node.specs.declared.node.NodeAt.{NodeAt}
 use Rattle.bt_node.proofs.Laws.{node_means}

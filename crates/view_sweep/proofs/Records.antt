@@ -1,7 +1,8 @@
 -- The record by which an id resolves, from the place that it gives.
 use Rattle.std.proofs.Common.{◌≡◌, ℕ, List, Option, Some, None, refl, ap, sym, ◌∙◌}
 use Rattle.std.specs.Prelude.{option_map}
-use Rattle.omap_map.specs.Resolve.{resolved, resolve, place_of, IsResolved}
+use Rattle.omap_map.specs.Resolve.{resolved, resolve, place_of}
+use Rattle.omap_map.specs.Loading.{IsResolved}
 use Rattle.omap_map.specs.declared.records.OmapRecord.{OmapRecord}
 use Rattle.omap_map.specs.declared.records.Place.{Place}
 use Rattle.omap_map.proofs.Laws.{resolved-means}

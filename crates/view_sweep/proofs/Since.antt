@@ -7,7 +7,8 @@ use Rattle.std.specs.Prelude.{option_map}
 use Rattle.std.proofs.lemmas.Bool.{cases_lt}
 use Rattle.apfs_model.specs.Blocks.{in_container}
 use Rattle.obj_base.specs.declared.site.Site.{Site}
-use Rattle.omap_map.specs.Resolve.{is_for, latest, resolved, unless_deleted, IsResolved}
+use Rattle.omap_map.specs.Resolve.{is_for, latest, resolved, unless_deleted}
+use Rattle.omap_map.specs.Loading.{IsResolved}
 use Rattle.omap_map.specs.declared.records.OmapRecord.{OmapRecord}
 use Rattle.omap_map.proofs.Laws.{resolved-means}
 use Rattle.vol_view.specs.Volumes.{Loaded}

@@ -6,7 +6,8 @@ use Rattle.obj_base.specs.Sound.{agrees}
 use Rattle.obj_base.specs.declared.site.Site.{Site}
 use Rattle.bt_node.specs.Shape.{Shape}
 use Rattle.bt_node.specs.Node.{level_of}
-use Rattle.bt_node.specs.Soundness.{has_level, IsNode}
+use Rattle.bt_node.specs.Soundness.{has_level}
+use Rattle.bt_node.specs.SoundNode.{IsNode}
 use Rattle.bt_node.specs.declared.node.NodeAt.{NodeAt}
 use Rattle.bt_node.proofs.Laws.{node_means}
 

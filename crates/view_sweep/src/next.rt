@@ -1,7 +1,7 @@
 // How far the record goes by which an id is found.
 ghost use Rattle.std.specs.Prelude.{◌≡◌, ℕ, ◌<◌, ◌≤◌, Some, length, true, false, IsNone, IfSome, IsTrue};
 ghost use Rattle.std.specs.List.Sorted.{IsPartitionPoint};
-ghost use Rattle.omap_map.specs.Records.{IsAscending};
+ghost use Rattle.omap_map.specs.Loading.{IsAscending};
 ghost use Rattle.omap_map.specs.Search.{is_by};
 ghost use Rattle.view_sweep.specs.Found.{looked, records_at};
 ghost use Rattle.view_sweep.specs.Sets.{view_of, of_view};

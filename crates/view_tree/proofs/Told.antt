@@ -8,7 +8,7 @@ use Rattle.view_tree.specs.Tree.{Row, is_opened, row_after, rows_of, rows_under,
 use Rattle.view_tree.specs.Parts.{told_after, told_of, told_under, told_from}
 use Rattle.path_walk.specs.Calls.{IsOfRecords}
 use Rattle.view_tree.specs.Told.{IsTold}
-use Rattle.view_rules.specs.Rules.{raised}
+use Rattle.view_rules.specs.Listed.{raised}
 use Rattle.bt_cursor.specs.declared.fault.WalkFault.{WalkFault}
 use Rattle.bt_cursor.specs.declared.fault.WalkFault.TheVariants.{Unsound, Unnamed, Order, Counts}
 use Rattle.view_rules.specs.declared.fault.TreeFault.{TreeFault}

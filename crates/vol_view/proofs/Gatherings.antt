@@ -11,11 +11,13 @@ use Rattle.bt_node.specs.Entries.{Pair, bytes_in}
 use Rattle.bt_keys.specs.Shapes.{snap_shape}
 use Rattle.bt_keys.specs.RecordKey.{id_of, record_kind_of, is_snap_key, has_plain_name, plain_name_of}
 use Rattle.bt_keys.specs.declared.record_key.SnapKey.{SnapKey}
-use Rattle.bt_cursor.specs.Line.{Item, is_leaf_item, leaf_pairs}
+use Rattle.bt_cursor.specs.Line.{Item, is_leaf_item}
+use Rattle.bt_cursor.specs.WholeTree.{leaf_pairs}
 use Rattle.bt_cursor.specs.Gathered.{shown, IsRefused}
 use Rattle.apfs_model.specs.declared.failed.NoMemory.{NoMemory}
 use Rattle.bt_cursor.proofs.Lines.{leaf_pairs-append}
-use Rattle.fs_name.specs.Text.{is_name, name_in, name_of}
+use Rattle.fs_name.specs.Text.{is_name, name_in}
+use Rattle.fs_name.specs.Steps.{name_of}
 use Rattle.vol_view.specs.SnapRecords.{is_snapshot, is_snapshot_name, snapshot_pairs, name_pairs, snap_name_len, snap_name_bytes, is_snapshot_long, is_snapshot_readable, is_name_readable, named_xid}
 use Rattle.vol_view.specs.Agreement.{are_readable}
 use Rattle.vol_view.specs.Gathered.{snapshot_with, snapshot_read, name_with, name_read, snapshot_told, name_told, is_unread, is_refused, Tell}

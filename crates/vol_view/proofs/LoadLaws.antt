@@ -10,7 +10,7 @@ use Rattle.obj_base.specs.declared.stop.Within.TheVariants.{Physical, Ephemeral,
 use Rattle.bt_node.specs.Entries.{bytes_in}
 use Rattle.obj_base.specs.declared.site.Site.{Site}
 use Rattle.bt_keys.specs.Shapes.{snap_shape}
-use Rattle.bt_cursor.specs.Whole.{IsWhole}
+use Rattle.bt_cursor.specs.WholeTree.{IsWhole}
 use Rattle.bt_cursor.proofs.Places.{whole-world, tree-levelled}
 use Rattle.bt_cursor.proofs.Wholes.{whole_means}
 use Rattle.omap_map.specs.Features.{snapshot_features}

@@ -13,7 +13,8 @@ use Rattle.obj_base.specs.declared.header.HeadFault.{HeadFault}
 use Rattle.obj_base.specs.declared.stop.Bad.{Bad}
 use Rattle.obj_base.specs.declared.stop.Bad.TheVariants as bads
 use Rattle.obj_base.specs.declared.site.Site.{Site}
-use Rattle.bt_cursor.specs.Line.{leaf_pairs, line_of}
+use Rattle.bt_cursor.specs.Line.{line_of}
+use Rattle.bt_cursor.specs.WholeTree.{leaf_pairs}
 use Rattle.bt_cursor.specs.Flat.{flat_of}
 use Rattle.bt_cursor.specs.Whole.{is_whole}
 use Rattle.bt_cursor.specs.Faults.{HasFeature}
@@ -23,7 +24,8 @@ use Rattle.bt_cursor.specs.declared.gathering.GatherFault.TheVariants as gathers
 use Rattle.bt_cursor.proofs.Flats.{line-pairs}
 use Rattle.bt_cursor.proofs.Wholes.{means_whole}
 use Rattle.omap_map.specs.Features.{has_snapshot_state}
-use Rattle.omap_map.specs.Maps.{Contents, map_snapshots, IsLoaded, IsMapFault, IsMapFeature}
+use Rattle.omap_map.specs.Maps.{Contents, map_snapshots, IsMapFault, IsMapFeature}
+use Rattle.omap_map.specs.Loading.{IsLoaded}
 use Rattle.omap_map.specs.declared.fault.OmapFault.{OmapFault}
 use Rattle.omap_map.proofs.Loads.{whole-object}
 use Rattle.vol_view.specs.Heads.{super_in, super_test, has_magic, is_super}

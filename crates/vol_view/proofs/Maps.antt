@@ -2,7 +2,8 @@
 use Rattle.std.specs.Prelude.{◌≡◌, ℕ, Bool, true, false, List, None, cond, refl}
 use Rattle.obj_base.specs.declared.site.Site.{Site}
 use Rattle.omap_map.specs.Resolve.{latest, resolved, resolve, named_by}
-use Rattle.omap_map.specs.Maps.{Contents, contents_of, is_whole_map, named_in}
+use Rattle.omap_map.specs.Maps.{Contents, contents_of, is_whole_map}
+use Rattle.omap_map.specs.Loading.{named_in}
 use Rattle.vol_view.specs.Volumes.{empty_map, map_or_empty}
 
 named-step : (b : Bool) (c : Contents) (x blocks oid : ℕ) → named_by (cond b c empty_map).records x blocks oid ≡ cond b (named_by c.records x blocks oid) None

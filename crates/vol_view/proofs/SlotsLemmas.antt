@@ -24,7 +24,8 @@ use Rattle.omap_map.specs.Fields.{snap_count_of}
 use Rattle.omap_map.specs.Records.{maps_encrypted, maps_headless}
 use Rattle.omap_map.specs.Features.{container_features, snapshot_features, mapping_features}
 use Rattle.omap_map.specs.Resolve.{resolve, place_of}
-use Rattle.omap_map.specs.Maps.{Contents, map_in, map_snapshots, is_map_object, is_whole_map, IsLoaded, IsMapFault, IsMapFeature}
+use Rattle.omap_map.specs.Maps.{Contents, map_in, map_snapshots, is_map_object, is_whole_map, IsMapFault, IsMapFeature}
+use Rattle.omap_map.specs.Loading.{IsLoaded}
 use Rattle.omap_map.proofs.Loads.{whole-object, object-inside, whole-free, resolved-loaded}
 use Rattle.omap_map.specs.declared.records.Place.{Place}
 use Rattle.omap_map.specs.declared.fault.OmapFault.{OmapFault}

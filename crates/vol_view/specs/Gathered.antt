@@ -14,9 +14,10 @@ use Rattle.bt_cursor.specs.Line.{Item, is_leaf_item}
 use Rattle.bt_cursor.specs.Whole.{is_whole}
 use Rattle.bt_cursor.specs.declared.gathering.GatherFault.{GatherFault}
 use Rattle.bt_cursor.specs.declared.gathering.GatherFault.TheVariants as gathers
-use Rattle.fs_name.specs.Text.{name_of}
+use Rattle.fs_name.specs.Steps.{name_of}
 use Rattle.omap_map.specs.Features.{snapshot_features}
-use Rattle.omap_map.specs.Maps.{Contents, IsLoaded}
+use Rattle.omap_map.specs.Maps.{Contents}
+use Rattle.omap_map.specs.Loading.{IsLoaded}
 use Rattle.vol_view.specs.Fields as field
 use Rattle.vol_view.specs.Heads.{super_in, super_test, has_magic, is_super}
 use Rattle.vol_view.specs.SnapRecords.{metadata_tree, metadata_pairs, is_snapshot, is_snapshot_name, snapshot_pairs, name_pairs, snap_xid, snap_created_of, snap_super_of, snap_extents_of, snap_flags_of, snap_name_len, snap_name_bytes, snapshot_name, record_name, named_xid}

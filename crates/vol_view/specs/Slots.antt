@@ -21,7 +21,8 @@ use Rattle.nx_ring.specs.Checkpoint.{Seen, site_of}
 use Rattle.omap_map.specs.Records.{maps_encrypted, maps_headless}
 use Rattle.omap_map.specs.Resolve.{resolve}
 use Rattle.omap_map.specs.Features.{container_features, snapshot_features}
-use Rattle.omap_map.specs.Maps.{Contents, IsLoaded}
+use Rattle.omap_map.specs.Maps.{Contents}
+use Rattle.omap_map.specs.Loading.{IsLoaded}
 use Rattle.omap_map.specs.declared.records.OmapRecord.{OmapRecord}
 use Rattle.omap_map.specs.declared.records.Place.{Place}
 use Rattle.omap_map.specs.declared.fault.OmapFault.{OmapFault}

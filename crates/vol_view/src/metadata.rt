@@ -1,14 +1,15 @@
 // The records of a volume's snapshot metadata tree, gathered in one walk.
 ghost use Rattle.std.specs.Prelude.{◌≡◌, ◌≤◌, ◌++◌, ℕ, List, [], ◌∷◌, length, Option, Some, true, not, is_some, option_map, option_to_list, IfOk, IfErr, IsErrOf, IsTrue};
 ghost use Rattle.apfs_model.specs.Counts.{Rose};
-ghost use Rattle.apfs_model.specs.Source.{IsKept};
+ghost use Rattle.apfs_model.specs.Kept.{IsKept};
 ghost use Rattle.obj_base.specs.Stops.{Tells, raised};
 ghost use Rattle.obj_base.specs.declared.stop.Stop.TheVariants.{ReadFault};
 ghost use Rattle.obj_base.specs.Site.{IsSiteFor};
 ghost use Rattle.bt_node.specs.Entries.{bytes_in};
 ghost use Rattle.bt_keys.specs.RecordKey.{has_plain_name};
 ghost use Rattle.bt_keys.specs.Shapes.{snap_shape};
-ghost use Rattle.bt_cursor.specs.Line.{Item, child_id, leaf_pairs};
+ghost use Rattle.bt_cursor.specs.Line.{Item};
+ghost use Rattle.bt_cursor.specs.WholeTree.{child_id, leaf_pairs};
 ghost use Rattle.bt_cursor.specs.Gathered.{shown};
 ghost use Rattle.vol_view.specs.Fields as fields;
 ghost use Rattle.vol_view.specs.Volumes.{super_of};

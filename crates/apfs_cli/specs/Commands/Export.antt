@@ -1,8 +1,6 @@
 -- The command `export`: the directories and files of the view that is meant, put into a folder.
 use Rattle.std.specs.Prelude.{◌≡◌, ℕ, List, Result, Ok}
 use Rattle.cmd_words.specs.Asked.{AskedTarget}
-use Rattle.obj_base.specs.declared.stop.Stop.{Stop}
-use Rattle.obj_base.specs.declared.stop.Stop.TheVariants.{Found, Unsupported, ReadFault, NoMemory}
 use Rattle.nx_ring.specs.Checkpoint.{Seen, site_of}
 use Rattle.vol_view.specs.Volumes.{Loaded}
 use Rattle.vol_view.specs.declared.volume.View.{View}
@@ -10,30 +8,13 @@ use Rattle.view_rules.specs.Facts.{Facts}
 use Rattle.view_rules.specs.Rules.{view_facts}
 use Rattle.path_walk.specs.Stops.{IsLawful}
 use Rattle.path_walk.specs.declared.answer.Answer.{Answer}
-use Rattle.path_walk.specs.declared.stop.PathStop.{PathStop}
-use Rattle.path_walk.specs.declared.stop.PathStop.TheVariants as paths
 use Rattle.blk_folder.specs.Items.{Item}
-use Rattle.tree_export.specs.Exported.{wanted_of, exported, skipped}
+use Rattle.tree_export.specs.Exported.{exported, skipped}
 use Rattle.tree_export.specs.Faults.{IsExportFault, fault_id}
-use Rattle.tree_export.specs.Texts.{skipped_text, done_text, export_text}
+use Rattle.tree_export.specs.Texts.{export_text}
 use Rattle.tree_export.specs.declared.stop.ExportFault.{ExportFault}
 use Rattle.apfs_cli.specs.MeantView.{IsMeantView}
 use Rattle.apfs_cli.specs.OnView.{IsTextOn, IsAnswerOn}
-use Rattle.apfs_cli.specs.declared.commands.export.Told.{Told}
-use Rattle.apfs_cli.specs.declared.commands.export.Told.TheVariants.{Skipped, Done}
-
--- the line of an item for which nothing is put, or the one that tells of all that was
-abbrev pub told_text : Told → List ℕ
-told_text (Skipped item) = skipped_text (wanted_of item.now)
-told_text (Done directories files bytes) = done_text directories files bytes
-
--- a call on the root's path stops with an answer: there is no root
-abbrev pub IsOfNoRoot : Stop PathStop → Type 0
-IsOfNoRoot (Found (paths.Answer answer)) = Unit {0}
-IsOfNoRoot (Found (paths.Fault fault)) = ⊥
-IsOfNoRoot (Unsupported feature block) = ⊥
-IsOfNoRoot ReadFault = ⊥
-IsOfNoRoot NoMemory = ⊥
 
 -- the text of a view, which always has one: of its items those for which nothing is put, and how much was
 abbrev pub wanted : ℕ → List ℕ → Facts → Result (List ℕ) Answer

@@ -1,8 +1,8 @@
 // The command `cat`.
-ghost use Rattle.apfs_model.specs.Source.{IsKept};
+ghost use Rattle.apfs_model.specs.Kept.{IsKept};
 ghost use Rattle.cmd_words.specs.Lent.{target_asked};
 ghost use Rattle.apfs_cli.specs.Handed.{looked};
-ghost use Rattle.apfs_cli.specs.Says.{HasEnded};
+ghost use Rattle.apfs_cli.specs.Ended.{HasEnded};
 ghost use Rattle.apfs_cli.specs.Words.{Cat};
 ghost use Rattle.apfs_cli.specs.declared.words.Checks.TheVariants.{Quick};
 ghost use Rattle.apfs_cli.specs.Written.{sunk};

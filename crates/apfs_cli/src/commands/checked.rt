@@ -1,7 +1,7 @@
 // The check of the whole container.
 ghost use Rattle.std.specs.Prelude.{◌≡◌, ℕ, List, Some, IfOk, IfErr, IsErrOf, OnOk};
 ghost use Rattle.apfs_model.specs.Counts.{Rose};
-ghost use Rattle.apfs_model.specs.Source.{IsKept};
+ghost use Rattle.apfs_model.specs.Kept.{IsKept};
 ghost use Rattle.apfs_check.specs.Report.{IsChecked};
 ghost use Rattle.apfs_cli.specs.Reached.{IsClean, IsWhileLooking, TellsFlaw};
 ghost use Rattle.apfs_cli.specs.declared.stopped.Stopped.TheVariants.{ReadFailed};

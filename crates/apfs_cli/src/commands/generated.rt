@@ -3,9 +3,10 @@ ghost use Rattle.std.specs.Prelude.{◌≡◌, ◌≤◌, IfOk, option_map};
 ghost use Rattle.std.specs.String.{string_bytes};
 ghost use Rattle.apfs_cli.specs.Commands.Gen.{lead};
 ghost use Rattle.apfs_cli.specs.Handed.{made};
-ghost use Rattle.apfs_cli.specs.Says.{HasEnded, HasMade};
+ghost use Rattle.apfs_cli.specs.Ended.{HasEnded, HasMade};
 ghost use Rattle.apfs_cli.specs.Words.{Gen};
-ghost use Rattle.apfs_cli.specs.Written.{sunk, IsPut};
+ghost use Rattle.apfs_cli.specs.Written.{sunk};
+ghost use Rattle.apfs_cli.specs.Putting.{IsPut};
 
 use crate::commands::check;
 use crate::put::put;

@@ -1,14 +1,15 @@
 // The command `info`.
 ghost use Rattle.std.specs.Prelude.{◌≡◌, IfOk};
 ghost use Rattle.std.specs.String.{string_bytes};
-ghost use Rattle.apfs_model.specs.Source.{IsKept};
+ghost use Rattle.apfs_model.specs.Kept.{IsKept};
 ghost use Rattle.nx_block.specs.Super.{uuid_of};
 ghost use Rattle.apfs_cli.specs.Commands.Info.{container_text, checkpoint_text, info_text};
 ghost use Rattle.apfs_cli.specs.Names.{uuid_text};
 ghost use Rattle.apfs_cli.specs.Handed.{looked};
-ghost use Rattle.apfs_cli.specs.Says.{HasEnded};
+ghost use Rattle.apfs_cli.specs.Ended.{HasEnded};
 ghost use Rattle.apfs_cli.specs.Words.{Info};
-ghost use Rattle.apfs_cli.specs.Written.{sunk, IsPut};
+ghost use Rattle.apfs_cli.specs.Written.{sunk};
+ghost use Rattle.apfs_cli.specs.Putting.{IsPut};
 
 use crate::put::put;
 use crate::shown::identifier;

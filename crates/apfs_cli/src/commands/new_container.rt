@@ -3,9 +3,11 @@ ghost use Rattle.std.specs.Prelude.{◌≡◌, [], IfOk};
 ghost use Rattle.img_format.specs.Fresh.{fresh};
 ghost use Rattle.img_format.specs.Valid.{IsValid};
 ghost use Rattle.apfs_cli.specs.Handed.{made};
-ghost use Rattle.apfs_cli.specs.Says.{HasEnded};
-ghost use Rattle.apfs_cli.specs.Words.{Format, spec_of};
-ghost use Rattle.apfs_cli.specs.Written.{sunk, IsPut};
+ghost use Rattle.apfs_cli.specs.Ended.{HasEnded};
+ghost use Rattle.apfs_cli.specs.Words.{Format};
+ghost use Rattle.apfs_cli.specs.Lent.{spec_of};
+ghost use Rattle.apfs_cli.specs.Written.{sunk};
+ghost use Rattle.apfs_cli.specs.Putting.{IsPut};
 
 use crate::stopped::Stopped;
 use crate::words::NewContainer;

@@ -2,7 +2,7 @@
 ghost use Rattle.std.specs.Prelude.{◌≡◌, ◌≤◌, ◌++◌, ◌*◌, ◌<◌, [], ℕ, List, codes, IfOk, OnOk, Ok, Some};
 ghost use Rattle.std.specs.String.{string_bytes};
 ghost use Rattle.apfs_model.specs.Bytes as numbers;
-ghost use Rattle.apfs_model.specs.Source.{IsKept};
+ghost use Rattle.apfs_model.specs.Kept.{IsKept};
 ghost use Rattle.obj_base.specs.Site.{IsSiteFor};
 ghost use Rattle.nx_ring.specs.Checkpoint.{site_of};
 ghost use Rattle.nx_ring.specs.Features.{container_features};
@@ -13,9 +13,10 @@ ghost use Rattle.space_pool.specs.Stops.{ArePoolBits, AreQueued};
 ghost use Rattle.apfs_cli.specs.Commands.Space.{head_text, chunk_text, chunks_text, pool_text, queue_text, space_text};
 ghost use Rattle.apfs_cli.specs.Commands.Space as texts;
 ghost use Rattle.apfs_cli.specs.Handed.{looked};
-ghost use Rattle.apfs_cli.specs.Says.{HasEnded};
+ghost use Rattle.apfs_cli.specs.Ended.{HasEnded};
 ghost use Rattle.apfs_cli.specs.Words as asked;
-ghost use Rattle.apfs_cli.specs.Written.{sunk, IsPut};
+ghost use Rattle.apfs_cli.specs.Written.{sunk};
+ghost use Rattle.apfs_cli.specs.Putting.{IsPut};
 
 use crate::put::put;
 use crate::stopped::{Stopped, stopped_by};

@@ -1,12 +1,13 @@
 // The command `tree`.
-ghost use Rattle.apfs_model.specs.Source.{IsKept};
+ghost use Rattle.apfs_model.specs.Kept.{IsKept};
 ghost use Rattle.cmd_words.specs.Lent.{target_asked};
 ghost use Rattle.view_tree.specs.Texts.{tree_text};
 ghost use Rattle.apfs_cli.specs.Handed.{looked};
-ghost use Rattle.apfs_cli.specs.Says.{HasEnded};
+ghost use Rattle.apfs_cli.specs.Ended.{HasEnded};
 ghost use Rattle.apfs_cli.specs.Words.{Tree};
 ghost use Rattle.apfs_cli.specs.declared.words.Checks.TheVariants.{Quick};
-ghost use Rattle.apfs_cli.specs.Written.{sunk, IsPut};
+ghost use Rattle.apfs_cli.specs.Written.{sunk};
+ghost use Rattle.apfs_cli.specs.Putting.{IsPut};
 
 use crate::meant_view::reach_view;
 use crate::on_path::stopped_on_path;

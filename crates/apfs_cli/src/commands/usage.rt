@@ -2,7 +2,7 @@
 ghost use Rattle.std.specs.Prelude.{◌≡◌, ◌++◌, [], ℕ, List, Some, IfOk, OnOk};
 ghost use Rattle.std.specs.List.{flat_map, zip};
 ghost use Rattle.std.specs.String.{string_bytes};
-ghost use Rattle.apfs_model.specs.Source.{IsKept};
+ghost use Rattle.apfs_model.specs.Kept.{IsKept};
 ghost use Rattle.obj_base.specs.Site.{IsSiteFor};
 ghost use Rattle.nx_ring.specs.Checkpoint.{site_of};
 ghost use Rattle.view_rules.specs.declared.profile.Profile.TheVariants.{Plain};
@@ -12,10 +12,11 @@ ghost use Rattle.apfs_cli.specs.Commands.Usage.{live_text, past_text, usage_text
 ghost use Rattle.apfs_cli.specs.Commands.Usage as texts;
 ghost use Rattle.apfs_cli.specs.Handed.{looked};
 ghost use Rattle.apfs_cli.specs.Meant.{IsMeantVolume};
-ghost use Rattle.apfs_cli.specs.Says.{HasEnded};
+ghost use Rattle.apfs_cli.specs.Ended.{HasEnded};
 ghost use Rattle.apfs_cli.specs.Seen.{stopped_counting};
 ghost use Rattle.apfs_cli.specs.Words as asked;
-ghost use Rattle.apfs_cli.specs.Written.{sunk, IsPut};
+ghost use Rattle.apfs_cli.specs.Written.{sunk};
+ghost use Rattle.apfs_cli.specs.Putting.{IsPut};
 
 use crate::meant::reach;
 use crate::named::Named;

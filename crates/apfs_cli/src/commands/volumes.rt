@@ -1,7 +1,7 @@
 // The command `volumes`.
 ghost use Rattle.std.specs.Prelude.{◌≡◌, ◌++◌, [], List, ℕ, IfOk, Ok, Some};
 ghost use Rattle.std.specs.String.{string_bytes};
-ghost use Rattle.apfs_model.specs.Source.{IsKept};
+ghost use Rattle.apfs_model.specs.Kept.{IsKept};
 ghost use Rattle.obj_base.specs.Site.{IsSiteFor};
 ghost use Rattle.nx_ring.specs.Checkpoint.{site_of};
 ghost use Rattle.nx_ring.specs.Features.{container_features};
@@ -10,7 +10,7 @@ ghost use Rattle.apfs_cli.specs.Commands.Volumes.{prefix_text, volume_text};
 ghost use Rattle.apfs_cli.specs.Commands.Volumes as texts;
 ghost use Rattle.apfs_cli.specs.Names.{uuid_text};
 ghost use Rattle.apfs_cli.specs.Handed.{looked};
-ghost use Rattle.apfs_cli.specs.Says.{HasEnded};
+ghost use Rattle.apfs_cli.specs.Ended.{HasEnded};
 ghost use Rattle.apfs_cli.specs.Words.{Volumes};
 ghost use Rattle.apfs_cli.specs.Written.{sunk};
 

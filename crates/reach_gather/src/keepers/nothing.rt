@@ -1,6 +1,7 @@
 // Nothing is kept.
 ghost use Rattle.std.specs.Prelude.{◌≡◌, List, Some, true, false, option_map, IfOk, IsTrue};
-ghost use Rattle.bt_cursor.specs.Line.{Item, child_id};
+ghost use Rattle.bt_cursor.specs.Line.{Item};
+ghost use Rattle.bt_cursor.specs.WholeTree.{child_id};
 ghost use Rattle.bt_cursor.specs.Gathered.{shown};
 
 use blk_source::NoMemory;

@@ -1,7 +1,8 @@
 // What is kept of the items of an extent reference tree.
 ghost use Rattle.std.specs.Prelude.{◌≡◌, ◌++◌, List, [], ◌∷◌, Some, is_none, not, option_map, option_to_list, IfOk, IfSome, IsTrue};
 ghost use Rattle.bt_keys.specs.Shapes.{ext_shape};
-ghost use Rattle.bt_cursor.specs.Line.{Item, child_id, leaf_pairs};
+ghost use Rattle.bt_cursor.specs.Line.{Item};
+ghost use Rattle.bt_cursor.specs.WholeTree.{child_id, leaf_pairs};
 ghost use Rattle.bt_cursor.specs.Gathered.{shown};
 ghost use Rattle.ext_ref.specs.Ranges as spec;
 ghost use Rattle.ext_ref.specs.Stops.{is_short_item};

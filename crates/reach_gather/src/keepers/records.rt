@@ -1,7 +1,8 @@
 // What is kept of the items of an object map's tree.
 ghost use Rattle.std.specs.Prelude.{◌≡◌, ◌++◌, List, [], ◌∷◌, Some, true, false, option_map, option_to_list, IfOk, IsTrue};
 ghost use Rattle.bt_keys.specs.Shapes.{omap_shape};
-ghost use Rattle.bt_cursor.specs.Line.{Item, child_id, leaf_pairs};
+ghost use Rattle.bt_cursor.specs.Line.{Item};
+ghost use Rattle.bt_cursor.specs.WholeTree.{child_id, leaf_pairs};
 ghost use Rattle.bt_cursor.specs.Gathered.{shown};
 ghost use Rattle.omap_map.specs.Records.{records_of};
 ghost use Rattle.omap_map.specs.Gathered.{records_in};

@@ -1,5 +1,5 @@
 use Rattle.std.proofs.Common.{◌≡◌, ℕ, List, Some, take}
-use Rattle.apfs_model.specs.Source.{IsKept}
+use Rattle.apfs_model.specs.Kept.{IsKept}
 use Rattle.reach_sweep.specs.Account.{AreLoadedOf}
 use Rattle.apfs_check.proofs.loading.load_all.Given as goal
 

@@ -1,6 +1,6 @@
 use Rattle.std.proofs.Common.{◌≡◌, ℕ, List, Some, take}
 use Rattle.std.specs.Prelude.{flat_map, IfSome}
-use Rattle.apfs_model.specs.Source.{IsKept}
+use Rattle.apfs_model.specs.Kept.{IsKept}
 use Rattle.nx_ring.specs.Checkpoint.{site_of}
 use Rattle.vol_view.specs.Views.{views_of}
 use Rattle.ext_ref.specs.Left.{AreShortExtents}

@@ -1,5 +1,5 @@
 use Rattle.std.proofs.Common.{◌≡◌, ℕ, List, Some, map, take}
-use Rattle.apfs_model.specs.Source.{IsKept}
+use Rattle.apfs_model.specs.Kept.{IsKept}
 use Rattle.reach_sweep.specs.Views.{head_of}
 use Rattle.apfs_check.specs.Held.{AddsVolumes}
 use Rattle.apfs_check.specs.Steps.{AreReady}

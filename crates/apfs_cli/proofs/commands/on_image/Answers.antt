@@ -1,7 +1,8 @@
 -- The check stops the run, or what the command comes to without one is what it comes to.
-use Rattle.apfs_cli.specs.ByCommand.{quick}
+use Rattle.apfs_cli.specs.Unchecked.{quick}
 use Rattle.apfs_cli.specs.Handed.{looked}
-use Rattle.apfs_cli.specs.Words.{Asked, said}
+use Rattle.apfs_cli.specs.Words.{Asked}
+use Rattle.apfs_cli.specs.Lent.{said}
 use Rattle.apfs_cli.specs.Written.{sunk}
 use Rattle.apfs_cli.proofs.Checked.{clean_ended, first_stops, flaw_ended}
 use Rattle.apfs_cli.proofs.Endings.{ended_same}

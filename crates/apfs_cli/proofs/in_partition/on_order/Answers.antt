@@ -1,6 +1,6 @@
 -- What a command came to over the image, or over its partition.
 use Rattle.apfs_cli.specs.Handed.{looked}
-use Rattle.apfs_cli.specs.Words.{said}
+use Rattle.apfs_cli.specs.Lent.{said}
 use Rattle.apfs_cli.specs.Written.{sunk}
 use Rattle.apfs_cli.proofs.Plugs.{come_plain, handed_in, none_taken}
 use Rattle.apfs_cli.proofs.in_partition.on_order.Goals as goal

@@ -4,7 +4,7 @@ use Rattle.std.specs.Prelude.{Err}
 use Rattle.img_gpt.specs.declared.part.GptStop.{GptStop}
 use Rattle.img_gpt.specs.declared.part.GptStop.TheVariants.{ReadFault}
 use Rattle.apfs_cli.specs.Handed.{looked, part_looked}
-use Rattle.apfs_cli.specs.Words.{said}
+use Rattle.apfs_cli.specs.Lent.{said}
 use Rattle.apfs_cli.specs.Written.{sunk}
 use Rattle.apfs_cli.proofs.Endings.{ended_same}
 use Rattle.apfs_cli.proofs.Plugs.{come_part, come_without, handed_in, none_taken}

@@ -4,7 +4,7 @@ use Rattle.apfs_model.specs.Counts.{Rose}
 use Rattle.img_gpt.specs.Slices.{sliced}
 use Rattle.img_gpt.specs.declared.slice.Slice.{Slice}
 use Rattle.apfs_cli.specs.Handed.{Looked, LookFailed, looked, part_looked}
-use Rattle.apfs_cli.specs.Words.{said}
+use Rattle.apfs_cli.specs.Lent.{said}
 use Rattle.apfs_cli.specs.Written.{sunk}
 use Rattle.apfs_cli.proofs.Endings.{ended_same}
 use Rattle.apfs_cli.proofs.in_partition.on_slice.Goals as goal

@@ -3,7 +3,7 @@ use Rattle.std.proofs.Common.{◌≡◌, ◌∙◌, ◌≤◌, ap}
 use Rattle.apfs_model.specs.Counts.{Rose}
 use Rattle.blk_cache.specs.declared.cached.Cached.{Cached}
 use Rattle.apfs_cli.specs.Handed.{looked}
-use Rattle.apfs_cli.specs.Words.{said}
+use Rattle.apfs_cli.specs.Lent.{said}
 use Rattle.apfs_cli.specs.Written.{sunk}
 use Rattle.apfs_cli.proofs.Endings.{ended_same, read_ended, no_memory_ended}
 use Rattle.apfs_cli.proofs.Puts.{rose_later}

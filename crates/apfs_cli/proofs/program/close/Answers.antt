@@ -2,7 +2,8 @@
 use Rattle.std.specs.Prelude.{Result}
 use Rattle.std.proofs.Common.{inl, refl, sym, subst}
 use Rattle.apfs_cli.specs.Seen.{outcome_of}
-use Rattle.apfs_cli.specs.Written.{sunk, IsClosed}
+use Rattle.apfs_cli.specs.Written.{sunk}
+use Rattle.apfs_cli.specs.Putting.{IsClosed}
 use Rattle.apfs_cli.specs.declared.stopped.Stopped.{Stopped}
 use Rattle.apfs_cli.proofs.Puts.{wrote_nothing}
 use Rattle.apfs_cli.proofs.program.close.Goals as goal

@@ -2,7 +2,8 @@
 use Rattle.std.proofs.Common.{◌≡◌, ◌∙◌, sym}
 use Rattle.std.specs.Prelude.{None}
 use Rattle.blk_source.specs.declared.source.Opened.TheVariants.{Absent, Image}
-use Rattle.apfs_cli.specs.Words.{line_in, said}
+use Rattle.apfs_cli.specs.Words.{line_in}
+use Rattle.apfs_cli.specs.Lent.{said}
 use Rattle.apfs_cli.proofs.Plugs.{come_absent, handed_in}
 use Rattle.apfs_cli.proofs.program.on_opened.Goals as goal
 

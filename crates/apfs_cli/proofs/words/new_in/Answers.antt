@@ -3,7 +3,8 @@ use Rattle.std.proofs.Common.{arith, ◌∙◌, ap, map}
 use Rattle.std.proofs.lemmas.Grind.{common_steps}
 use Rattle.std.specs.Prelude.{option_map}
 use Rattle.std.specs.String.{string_bytes}
-use Rattle.apfs_cli.specs.Words.{spec_of, spec_named, new_spec}
+use Rattle.apfs_cli.specs.Words.{spec_named, new_spec}
+use Rattle.apfs_cli.specs.Lent.{spec_of}
 use Rattle.apfs_cli.proofs.Orders.{list_five, said_same, new_few, new_many}
 use Rattle.apfs_cli.proofs.words.new_in.Goals as goal
 use Rattle.apfs_cli.proofs.words.new_in.Goals.{in_default-via-then-words-lt5, in_default-via-else-words-lt5+else-words-lt6}

@@ -3,7 +3,8 @@ use Rattle.std.proofs.Common.{◌≡◌, ◌∙◌, ap, sym, map}
 use Rattle.std.specs.Prelude.{Some, None, option_map}
 use Rattle.std.specs.String.{string_bytes}
 use Rattle.std.proofs.lemmas.Result.{IfOk-weaker}
-use Rattle.apfs_cli.specs.Words.{spec_of, new_spec}
+use Rattle.apfs_cli.specs.Words.{new_spec}
+use Rattle.apfs_cli.specs.Lent.{spec_of}
 use Rattle.apfs_cli.proofs.Orders.{new_with, new_without}
 use Rattle.apfs_cli.proofs.words.new_or_command_in.Goals as goal
 

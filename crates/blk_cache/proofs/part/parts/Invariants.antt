@@ -1,7 +1,8 @@
 -- The bytes that are there are those of the image, and what is kept is as after a read of them.
 use Rattle.std.proofs.Common.{◌≡◌, ◌⊎◌, ℕ, ◌+◌, ◌/◌, ◌≤◌, ◌<◌, ◌-◌, List, Some, true, length, take}
 use Rattle.apfs_model.specs.Counts.{Rose}
-use Rattle.apfs_model.specs.Source.{Copies, IsKept}
+use Rattle.apfs_model.specs.Source.{Copies}
+use Rattle.apfs_model.specs.Kept.{IsKept}
 use Rattle.blk_cache.specs.Keeping.{keeps, Touches, last_touched, touched_count, IsCache, Grows, IsSame}
 use Rattle.blk_cache.proofs.part.parts.Given as goal
 

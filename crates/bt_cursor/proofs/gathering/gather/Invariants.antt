@@ -1,6 +1,6 @@
 -- The items so far were gathered.
 use Rattle.std.proofs.Common.{◌≡◌, ℕ, List}
-use Rattle.apfs_model.specs.Source.{IsKept}
+use Rattle.apfs_model.specs.Kept.{IsKept}
 use Rattle.bt_cursor.specs.Tree.{tree_in}
 use Rattle.bt_cursor.specs.Liners.{site_of, root_of, tree_of, fuel_of}
 use Rattle.bt_cursor.specs.Gathered.{HasTaken}

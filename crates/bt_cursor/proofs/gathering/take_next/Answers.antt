@@ -1,7 +1,8 @@
 use Rattle.std.proofs.Common.{rules, ◌≡◌, ◌∙◌, ◌∷◌, ◌++◌, [], true, false, ap, sym, subst}
 use Rattle.std.specs.Prelude.{option_map}
 use Rattle.obj_base.specs.Stops.{Tells}
-use Rattle.bt_cursor.specs.Line.{Item, child_id}
+use Rattle.bt_cursor.specs.Line.{Item}
+use Rattle.bt_cursor.specs.WholeTree.{child_id}
 use Rattle.bt_cursor.specs.Faults.{HasFeature}
 use Rattle.bt_cursor.specs.Liners.{tree_of, root_of, item_of, HasItemIf, Sees, Passes}
 use Rattle.bt_cursor.specs.Gathered.{shown, IsGatherFault}

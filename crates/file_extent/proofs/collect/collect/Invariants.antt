@@ -1,6 +1,6 @@
 -- The extents that were passed are laid.
 use Rattle.std.proofs.Common.{◌≡◌, ℕ, List, Some}
-use Rattle.apfs_model.specs.Source.{IsKept}
+use Rattle.apfs_model.specs.Kept.{IsKept}
 use Rattle.bt_cursor.specs.Tree.{tree_in}
 use Rattle.bt_cursor.specs.Cursors.{site_of, root_of, tree_of, gapped_left_of, fuel_of, IsOn}
 use Rattle.file_extent.specs.Laid.{AreLaid}

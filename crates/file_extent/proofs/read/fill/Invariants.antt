@@ -1,6 +1,6 @@
 -- The bytes that are there are those of the stream.
 use Rattle.std.proofs.Common.{◌≡◌, ◌≤◌, ◌-◌, ℕ, List, Some, length, take}
-use Rattle.apfs_model.specs.Source.{IsKept}
+use Rattle.apfs_model.specs.Kept.{IsKept}
 use Rattle.file_extent.specs.Streams.{bytes_from}
 use Rattle.file_extent.proofs.read.fill.Given as goal
 

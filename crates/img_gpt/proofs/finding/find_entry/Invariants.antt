@@ -1,6 +1,6 @@
 -- No entry so far has the type, and the source is as it was.
 use Rattle.std.proofs.Common.{◌≡◌, ◌<◌, ℕ, List, Some, false}
-use Rattle.apfs_model.specs.Source.{IsKept}
+use Rattle.apfs_model.specs.Kept.{IsKept}
 use Rattle.img_gpt.specs.Table.{is_container_entry}
 use Rattle.img_gpt.specs.Reads.{IsTableOf}
 use Rattle.img_gpt.proofs.finding.find_entry.Given as goal

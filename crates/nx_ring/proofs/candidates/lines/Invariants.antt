@@ -1,5 +1,5 @@
 use Rattle.std.proofs.Common.{◌≡◌, ◌≤◌, ◌<◌, ◌+◌, List, ℕ, Some}
-use Rattle.apfs_model.specs.Source.{IsKept}
+use Rattle.apfs_model.specs.Kept.{IsKept}
 use Rattle.nx_ring.specs.Candidates.{candidates}
 use Rattle.std.specs.List.{All}
 use Rattle.nx_ring.specs.declared.line.RingLine.{RingLine}

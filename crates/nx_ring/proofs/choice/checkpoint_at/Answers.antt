@@ -2,7 +2,8 @@ use Rattle.std.proofs.Common.{◌≡◌, ◌∙◌, Bool, true, [], Some, None, 
 use Rattle.std.specs.Option.{is_some}
 use Rattle.nx_ring.specs.Known.{AreKnown}
 use Rattle.nx_ring.specs.Valid.{is_valid, blocks_of, mappings_of}
-use Rattle.nx_ring.specs.Newest.{seen_of, loaded}
+use Rattle.nx_ring.specs.Newest.{seen_of}
+use Rattle.nx_ring.specs.Reading.{loaded}
 use Rattle.nx_ring.proofs.Some.{some_at}
 use Rattle.nx_ring.proofs.choice.checkpoint_at.Goals as goal
 

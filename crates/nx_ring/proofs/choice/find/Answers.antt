@@ -7,9 +7,10 @@ use Rattle.obj_base.specs.declared.stop.Stop.{Stop}
 use Rattle.nx_ring.specs.declared.fault.RingFault.{RingFault}
 use Rattle.nx_ring.specs.declared.line.RingLine.{RingLine}
 use Rattle.nx_ring.specs.Checkpoint.{Seen}
-use Rattle.nx_ring.specs.Candidates.{all_candidates, AreCandidates}
+use Rattle.nx_ring.specs.Candidates.{all_candidates}
+use Rattle.nx_ring.specs.Reading.{AreCandidates, passing}
 use Rattle.nx_ring.specs.Valid.{is_valid}
-use Rattle.nx_ring.specs.Newest.{newest_of, passing, seen_of, skipped_of}
+use Rattle.nx_ring.specs.Newest.{newest_of, seen_of, skipped_of}
 use Rattle.nx_ring.proofs.Chosen.{sizes_are, found_is, nothing_is, given_by}
 use Rattle.nx_ring.proofs.Tried.{tried_are, first_is_newest}
 use Rattle.nx_ring.proofs.choice.find.Goals as goal

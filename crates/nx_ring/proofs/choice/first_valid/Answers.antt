@@ -2,7 +2,8 @@ use Rattle.std.proofs.Common.{◌≡◌, ◌∙◌, [], ℕ, IfSome, get_or, len
 use Rattle.std.proofs.lemmas.Grind.{common_steps}
 use Rattle.nx_ring.specs.declared.line.RingLine.{RingLine}
 use Rattle.nx_ring.specs.Valid.{is_valid, blocks_of, mappings_of}
-use Rattle.nx_ring.specs.Newest.{seen_of, loaded, IsHeld}
+use Rattle.nx_ring.specs.Newest.{seen_of}
+use Rattle.nx_ring.specs.Reading.{loaded, IsHeld}
 use Rattle.nx_ring.proofs.Some.{none_chosen, some_chosen}
 use Rattle.nx_ring.proofs.Kept.{none_known}
 use Rattle.nx_ring.proofs.Tried.{find_more, find_here}

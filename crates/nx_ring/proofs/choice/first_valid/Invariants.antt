@@ -1,9 +1,9 @@
 use Rattle.std.proofs.Common.{◌≡◌, ◌≤◌, ◌+◌, ◌*◌, ℕ, List, Some, None, take}
 use Rattle.std.specs.List.{find}
-use Rattle.apfs_model.specs.Source.{IsKept}
+use Rattle.apfs_model.specs.Kept.{IsKept}
 use Rattle.nx_ring.specs.Valid.{is_valid}
 use Rattle.nx_ring.specs.Known.{AreKnown}
-use Rattle.nx_ring.specs.Candidates.{AreCandidates}
+use Rattle.nx_ring.specs.Reading.{AreCandidates}
 use Rattle.nx_ring.proofs.choice.first_valid.Given as goal
 
 abbrev pub invariant-each : goal.invariant-each

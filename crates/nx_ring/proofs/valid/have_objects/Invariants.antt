@@ -1,6 +1,6 @@
 use Rattle.std.proofs.Common.{◌≡◌, ◌≤◌, ◌+◌, ℕ, true, List, Some, take, length}
 use Rattle.std.specs.List.{list_all}
-use Rattle.apfs_model.specs.Source.{IsKept}
+use Rattle.apfs_model.specs.Kept.{IsKept}
 use Rattle.nx_ring.specs.Objects.{has_object}
 use Rattle.nx_ring.specs.Valid.{blocks_of}
 use Rattle.nx_ring.specs.Known.{AreKnown}

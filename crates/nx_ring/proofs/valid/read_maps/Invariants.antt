@@ -1,6 +1,6 @@
 use Rattle.std.proofs.Common.{◌≡◌, ◌≤◌, ◌+◌, ℕ, true, List, Some}
 use Rattle.std.specs.List.{range_with_len, list_all}
-use Rattle.apfs_model.specs.Source.{IsKept}
+use Rattle.apfs_model.specs.Kept.{IsKept}
 use Rattle.nx_ring.specs.Valid.{first_mappings, is_map_after}
 use Rattle.nx_ring.proofs.valid.read_maps.Given as goal
 

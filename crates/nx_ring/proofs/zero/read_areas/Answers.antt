@@ -1,7 +1,8 @@
 use Rattle.std.proofs.Common.{arith, sym, subst}
 use Rattle.std.proofs.lemmas.Grind.{common_steps}
 use Rattle.nx_ring.specs.declared.areas.Areas.{Areas}
-use Rattle.nx_ring.specs.Zero.{Fits, is_short}
+use Rattle.nx_ring.specs.Zero.{is_short}
+use Rattle.nx_ring.specs.Reading.{Fits}
 use Rattle.nx_ring.proofs.Fitting.{areas_fit, read_size}
 use Rattle.nx_ring.proofs.zero.read_areas.Goals as goal
 

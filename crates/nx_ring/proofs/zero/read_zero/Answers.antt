@@ -4,7 +4,7 @@ use Rattle.std.proofs.lemmas.Grind.{common_steps}
 use Rattle.apfs_model.specs.Blocks.{block_of}
 use Rattle.nx_block.specs.Read.{size_of}
 use Rattle.obj_base.specs.BlockSize.{is_accepted}
-use Rattle.nx_ring.specs.Zero.{zero_in}
+use Rattle.nx_ring.specs.Reading.{zero_in}
 use Rattle.nx_ring.proofs.Zeros.{given, zero_there, zero_first, zero_cut, size_bounds, two_reads}
 use Rattle.nx_ring.proofs.zero.read_zero.Goals as goal
 

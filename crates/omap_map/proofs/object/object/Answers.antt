@@ -2,7 +2,7 @@ use Rattle.std.proofs.Common.{◌≡◌, ◌∙◌, ap, sym, subst, Err}
 use Rattle.obj_base.specs.Stops.{Tells}
 use Rattle.obj_base.specs.declared.stop.Stop.TheVariants.{Found, Unsupported}
 use Rattle.omap_map.specs.Features.{is_reverting}
-use Rattle.omap_map.specs.Maps.{object_of}
+use Rattle.omap_map.specs.Loading.{object_of}
 use Rattle.omap_map.proofs.Objects.{object-raised, object-pending, object-settled}
 use Rattle.omap_map.proofs.object.object.Goals as goal
 

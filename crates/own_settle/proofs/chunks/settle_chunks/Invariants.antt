@@ -1,5 +1,5 @@
 use Rattle.std.proofs.Common.{◌≡◌, ◌+◌, ◌<◌, ◌≤◌, ℕ, List, Some, length}
-use Rattle.apfs_model.specs.Source.{IsKept}
+use Rattle.apfs_model.specs.Kept.{IsKept}
 use Rattle.space_map.specs.Stops.{known_of}
 use Rattle.own_settle.specs.Agreed.{IsChunkAgreed}
 use Rattle.own_settle.proofs.chunks.settle_chunks.Given as goal

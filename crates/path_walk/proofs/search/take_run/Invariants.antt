@@ -1,5 +1,5 @@
 use Rattle.std.proofs.Common.{◌≡◌, ℕ, List, [], Some}
-use Rattle.apfs_model.specs.Source.{IsKept}
+use Rattle.apfs_model.specs.Kept.{IsKept}
 use Rattle.bt_cursor.specs.Cursors.{site_of, root_of, tree_of, left_of, gapped_left_of, fuel_of, IsOn}
 use Rattle.path_walk.specs.Parts.{whats, is_wanted, run_entries, are_whole}
 use Rattle.path_walk.proofs.search.take_run.Given as goal

@@ -1,5 +1,5 @@
 use Rattle.std.proofs.Common.{◌≡◌, ℕ, List, take, Some, ◌+◌, ◌≤◌, length}
-use Rattle.apfs_model.specs.Source.{IsKept}
+use Rattle.apfs_model.specs.Kept.{IsKept}
 use Rattle.fs_name.specs.Normal.{are_hashed}
 use Rattle.tree_namings.specs.Volumes.Told.{told_snapshots}
 use Rattle.reach_gather.specs.Adds.{Adds}

@@ -1,5 +1,5 @@
 use Rattle.std.proofs.Common.{◌≡◌, ℕ, List, take, Some, ◌+◌, ◌≤◌, length}
-use Rattle.apfs_model.specs.Source.{IsKept}
+use Rattle.apfs_model.specs.Kept.{IsKept}
 use Rattle.nx_block.specs.Super.{omap_oid_of}
 use Rattle.nx_ring.specs.Checkpoint.{site_of}
 use Rattle.omap_map.specs.Maps.{map_records}

@@ -8,7 +8,7 @@ use Rattle.apfs_model.proofs.BoolTests.{not-false, not-true}
 use Rattle.apfs_model.proofs.Searches.{has-in}
 use Rattle.obj_base.specs.declared.stop.Within.TheVariants.{Ephemeral}
 use Rattle.nx_ring.proofs.Apart.{has_joined}
-use Rattle.nx_ring.specs.Checkpoint.{eph_ids}
+use Rattle.nx_ring.specs.Reading.{eph_ids}
 use Rattle.reach_rules.specs.Naming.{ByMapping, naming}
 use Rattle.reach_rules.specs.Live.{IsLive}
 use Rattle.reach_rules.specs.Faults.{IsNamedTwice}

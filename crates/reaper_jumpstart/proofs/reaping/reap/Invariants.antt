@@ -3,7 +3,7 @@ use Rattle.std.specs.Ordering.{nat_cmp}
 use Rattle.std.specs.BTreeSet.{contains}
 use Rattle.apfs_model.specs.Apart.{Apart}
 use Rattle.apfs_model.specs.Lists.{In, has}
-use Rattle.nx_ring.specs.Checkpoint.{eph_ids}
+use Rattle.nx_ring.specs.Reading.{eph_ids}
 use Rattle.reaper_jumpstart.proofs.Ways.{IsWay}
 use Rattle.reaper_jumpstart.proofs.reaping.reap.Given as goal
 

@@ -2,7 +2,8 @@ use Rattle.std.proofs.Common.{ℕ, List, sym, subst}
 use Rattle.std.specs.Ordering.{is_lt}
 use Rattle.std.specs.List.Sorted.{IsPermutation, IsSortedBy}
 use Rattle.fs_record.specs.declared.extents.FileExt.{FileExt}
-use Rattle.view_rules.specs.Extents.{extents_with_ids, IsExtentOrder}
+use Rattle.view_rules.specs.Extents.{IsExtentOrder}
+use Rattle.view_rules.specs.Listed.{extents_with_ids}
 use Rattle.rule_breaks.specs.Order.{piece_cmp}
 use Rattle.rule_breaks.proofs.Orders.{uneven_first, crossed_or}
 use Rattle.rule_breaks.proofs.order.disordered.Goals as goal

@@ -1,6 +1,6 @@
 use Rattle.std.proofs.Common.{◌≡◌, ◌≤◌, ◌<◌, ◌+◌, ◌*◌, ℕ, List, Some, length, map, min}
 use Rattle.std.specs.List.{range_with_len}
-use Rattle.apfs_model.specs.Source.{IsKept}
+use Rattle.apfs_model.specs.Kept.{IsKept}
 use Rattle.space_map.specs.Fields.{cibs_of, cab_cibs_of}
 use Rattle.space_map.specs.Blocks.{address_at}
 use Rattle.space_map.specs.Stops.{IsRightCab}

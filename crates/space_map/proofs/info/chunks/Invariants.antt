@@ -1,5 +1,5 @@
 use Rattle.std.proofs.Common.{◌≡◌, ◌≤◌, ◌<◌, ◌+◌, ◌*◌, ℕ, List, Some, length, min}
-use Rattle.apfs_model.specs.Source.{IsKept}
+use Rattle.apfs_model.specs.Kept.{IsKept}
 use Rattle.space_map.specs.Fields.{chunks_of, cib_chunks_of}
 use Rattle.space_map.specs.Stops.{IsRightCib}
 use Rattle.space_map.specs.Held.{first_chunks, AreRight}

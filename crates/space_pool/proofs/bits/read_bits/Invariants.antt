@@ -1,7 +1,7 @@
 use Rattle.std.proofs.Common.{◌≡◌, ◌≤◌, ◌+◌, ◌*◌, ℕ, List, Some, length}
 use Rattle.std.specs.List.{flat_map}
 use Rattle.apfs_model.specs.Blocks.{block_of}
-use Rattle.apfs_model.specs.Source.{IsKept}
+use Rattle.apfs_model.specs.Kept.{IsKept}
 use Rattle.space_pool.specs.Bits.{first_indexes}
 use Rattle.space_pool.proofs.bits.read_bits.Given as goal
 

@@ -2,7 +2,7 @@ use Rattle.std.proofs.Common.{false, refl, sym, subst}
 use Rattle.obj_base.specs.Stops.{Tells}
 use Rattle.bt_cursor.specs.Faults.{HasFeature}
 use Rattle.bt_cursor.specs.Gathered.{IsGatherFault}
-use Rattle.bt_cursor.specs.Whole.{IsWhole}
+use Rattle.bt_cursor.specs.WholeTree.{IsWhole}
 use Rattle.vol_view.specs.Volumes.{Loaded}
 use Rattle.vol_view.specs.Views.{view_tree}
 use Rattle.tree_export.specs.Parts.{IsLookupFault}

@@ -4,9 +4,10 @@ use Rattle.vol_view.specs.Views.{view_flat, is_view_ordered}
 use Rattle.view_rules.specs.Rules.{view_facts}
 use Rattle.blk_folder.specs.Items as folders
 use Rattle.blk_folder.specs.Put.{Filled}
-use Rattle.tree_export.specs.Exported.{Wanted, wanted_of, put_all, exported}
+use Rattle.tree_export.specs.Exported.{Wanted, put_all, exported}
+use Rattle.tree_export.specs.Stopping.{wanted_of, HaveInodes}
 use Rattle.tree_export.specs.Done.{IsDoneFor}
-use Rattle.tree_export.specs.Faults.{HasInode, HaveInodes}
+use Rattle.tree_export.specs.Faults.{HasInode}
 use Rattle.tree_export.specs.Parts.{TellsMore}
 use Rattle.tree_export.proofs.Fills.{filled_none, filled_more, filled_cut, filled_front, put_append, put_nothing}
 use Rattle.tree_export.proofs.Counts.{done_none, done_more}

@@ -1,13 +1,13 @@
 -- The items before the next one were put.
 use Rattle.std.proofs.Common.{◌≡◌, ◌≤◌, ◌<◌, ℕ, List, Some, true, map, take}
 use Rattle.std.specs.Prelude.{All}
-use Rattle.apfs_model.specs.Source.{IsKept}
+use Rattle.apfs_model.specs.Kept.{IsKept}
 use Rattle.vol_view.specs.Views.{view_flat, is_view_ordered}
 use Rattle.view_rules.specs.Rules.{view_facts}
-use Rattle.tree_export.specs.Exported.{wanted_of, put_all}
+use Rattle.tree_export.specs.Exported.{put_all}
+use Rattle.tree_export.specs.Stopping.{wanted_of, HaveInodes}
 use Rattle.tree_export.specs.Filled.{FilledWhole}
 use Rattle.tree_export.specs.Done.{IsDoneFor}
-use Rattle.tree_export.specs.Faults.{HaveInodes}
 use Rattle.tree_export.proofs.filling.export.Given as goal
 
 abbrev pub invariant-loop-place : goal.invariant-loop-place

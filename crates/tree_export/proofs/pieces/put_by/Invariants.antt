@@ -1,6 +1,6 @@
 -- The bytes before the next piece were put.
 use Rattle.std.proofs.Common.{◌≡◌, ◌≤◌, ◌<◌, ◌-◌, true, length}
-use Rattle.apfs_model.specs.Source.{IsKept}
+use Rattle.apfs_model.specs.Kept.{IsKept}
 use Rattle.file_extent.specs.Streams.{bytes_from}
 use Rattle.tree_export.specs.Parts.{AppendedWhole}
 use Rattle.tree_export.proofs.pieces.put_by.Given as goal

@@ -4,7 +4,8 @@ use Rattle.vol_view.specs.Views.{view_flat, is_view_ordered}
 use Rattle.view_rules.specs.Rules.{view_facts}
 use Rattle.blk_folder.specs.Items.{Item}
 use Rattle.tree_export.specs.Safe.{IsSafe, safe_path}
-use Rattle.tree_export.specs.Exported.{wanted_of, put_all}
+use Rattle.tree_export.specs.Exported.{put_all}
+use Rattle.tree_export.specs.Stopping.{wanted_of}
 use Rattle.tree_export.specs.Parts.{put_as, IsPut}
 use Rattle.tree_export.proofs.Fills.{front_filled, filled_as, front_as, put_one}
 use Rattle.tree_export.proofs.Contents.{put_content}

@@ -7,7 +7,7 @@ use Rattle.obj_base.specs.Stops.{Tells, IsFree, raised}
 use Rattle.bt_cursor.specs.Tree.{tree_in}
 use Rattle.bt_cursor.specs.Line.{line_of}
 use Rattle.bt_cursor.specs.Met.{nodes_of}
-use Rattle.bt_cursor.specs.Whole.{IsWhole}
+use Rattle.bt_cursor.specs.WholeTree.{IsWhole}
 use Rattle.bt_cursor.specs.Faults as faults
 use Rattle.bt_cursor.specs.Gathered.{IsGatherFault}
 use Rattle.bt_steps.specs.Noted.{IsWalked}

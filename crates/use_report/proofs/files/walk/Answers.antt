@@ -5,7 +5,7 @@ use Rattle.omap_map.specs.Maps.{Contents}
 use Rattle.omap_map.specs.Resolve.{named_by}
 use Rattle.bt_cursor.specs.Tree.{tree_in}
 use Rattle.bt_cursor.specs.Line.{line_of}
-use Rattle.bt_cursor.specs.Whole.{IsWhole}
+use Rattle.bt_cursor.specs.WholeTree.{IsWhole}
 use Rattle.bt_cursor.specs.Faults.{HasFeature}
 use Rattle.bt_cursor.specs.Gathered.{IsGatherFault, IsGathered}
 use Rattle.vol_view.specs.Volumes.{Loaded}

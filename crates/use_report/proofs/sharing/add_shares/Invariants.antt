@@ -1,5 +1,5 @@
 use Rattle.std.proofs.Common.{◌≡◌, ℕ, List, Some, length, take}
-use Rattle.apfs_model.specs.Source.{IsKept}
+use Rattle.apfs_model.specs.Kept.{IsKept}
 use Rattle.use_report.specs.Sharing.{AreShared}
 use Rattle.use_report.proofs.sharing.add_shares.Given as goal
 

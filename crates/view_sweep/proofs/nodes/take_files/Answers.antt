@@ -1,7 +1,7 @@
 use Rattle.std.proofs.Common.{◌≡◌}
 use Rattle.bt_keys.specs.Shapes.{fs_shape, fs_plain_shape}
 use Rattle.bt_node.specs.Node as fields
-use Rattle.bt_node.specs.Soundness.{IsNode}
+use Rattle.bt_node.specs.SoundNode.{IsNode}
 use Rattle.view_sweep.proofs.Sounds.{node-level, on-ok}
 use Rattle.view_sweep.proofs.nodes.take_files.Goals as goal
 

@@ -1,5 +1,5 @@
 use Rattle.std.proofs.Common.{◌≡◌, ℕ, ◌+◌, ◌≤◌, List, length, Some}
-use Rattle.apfs_model.specs.Source.{IsKept}
+use Rattle.apfs_model.specs.Kept.{IsKept}
 use Rattle.view_sweep.specs.Found.{world, looked}
 use Rattle.view_sweep.specs.Sets.{AreKept, AreNumbered, all_asked}
 use Rattle.view_sweep.specs.Shared.{AreInside, AreShares, IsAbove}

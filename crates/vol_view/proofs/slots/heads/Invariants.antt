@@ -1,5 +1,5 @@
 use Rattle.std.proofs.Common.{◌≡◌, ◌<◌, ℕ, List, Some}
-use Rattle.apfs_model.specs.Source.{IsKept}
+use Rattle.apfs_model.specs.Kept.{IsKept}
 use Rattle.apfs_model.specs.Lists.{In}
 use Rattle.nx_ring.specs.Checkpoint.{site_of}
 use Rattle.vol_view.specs.declared.head.VolHead.{VolHead}

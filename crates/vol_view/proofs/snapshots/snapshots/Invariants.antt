@@ -1,5 +1,5 @@
 use Rattle.std.proofs.Common.{◌≡◌, ℕ, List, Some, take}
-use Rattle.apfs_model.specs.Source.{IsKept}
+use Rattle.apfs_model.specs.Kept.{IsKept}
 use Rattle.vol_view.specs.Gathered.{AreSnapshots}
 use Rattle.vol_view.proofs.snapshots.snapshots.Given as goal
 

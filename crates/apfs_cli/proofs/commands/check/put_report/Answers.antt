@@ -4,7 +4,8 @@ use Rattle.std.specs.List.{flat_map}
 use Rattle.tree_rules.specs.declared.notes.Note.{Note}
 use Rattle.apfs_check.specs.Report.{Told}
 use Rattle.apfs_cli.specs.ReportText.{head_text, note_line}
-use Rattle.apfs_cli.specs.Written.{sunk, IsPut}
+use Rattle.apfs_cli.specs.Written.{sunk}
+use Rattle.apfs_cli.specs.Putting.{IsPut}
 use Rattle.apfs_cli.proofs.Puts.{put_after, put_cut}
 use Rattle.apfs_cli.proofs.commands.check.put_report.Goals as goal
 

@@ -3,7 +3,7 @@ use Rattle.std.proofs.Common.{◌∙◌, ℕ, List, Vec, Global, ap, map}
 use Rattle.std.proofs.lemmas.Result.{IfErr-weaker, IfOk-weaker}
 use Rattle.view_rules.specs.Rules.{view_facts}
 use Rattle.path_walk.specs.declared.target.Target.{Target}
-use Rattle.tree_export.specs.Exported.{wanted_of}
+use Rattle.tree_export.specs.Stopping.{wanted_of}
 use Rattle.tree_export.proofs.Tellings.{rows_items}
 use Rattle.apfs_cli.proofs.Exports.{free_stop, no_root_items}
 use Rattle.apfs_cli.proofs.commands.export.items_at.Goals as goal

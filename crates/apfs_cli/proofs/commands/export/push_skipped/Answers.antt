@@ -3,8 +3,8 @@ use Rattle.std.proofs.Common.{◌≡◌, ◌∙◌, ◌∷◌, [], Some, ap, map
 use Rattle.std.specs.Prelude.{option_map, slice_get}
 use Rattle.std.specs.List.{flat_map}
 use Rattle.std.proofs.lemmas.Grind.{flat_map-append}
-use Rattle.tree_export.specs.Exported.{wanted_of}
-use Rattle.apfs_cli.specs.Commands.Export.{told_text}
+use Rattle.tree_export.specs.Stopping.{wanted_of}
+use Rattle.apfs_cli.specs.Commands.ExportParts.{told_text}
 use Rattle.apfs_cli.specs.declared.commands.export.Told.TheVariants.{Skipped}
 use Rattle.apfs_cli.proofs.commands.export.push_skipped.Goals as goal
 

@@ -2,7 +2,7 @@
 use Rattle.std.proofs.Common.{◌++◌, ◌∙◌, [], ap, map, sym, get_or, arith}
 use Rattle.std.specs.Prelude.{slice_get}
 use Rattle.std.specs.List.{cons_option, flat_map}
-use Rattle.tree_export.specs.Exported.{wanted_of}
+use Rattle.tree_export.specs.Stopping.{wanted_of}
 use Rattle.tree_export.specs.Texts.{skipped_text}
 use Rattle.apfs_cli.proofs.Exports.{skipped_more}
 use Rattle.apfs_cli.proofs.commands.export.skipped_in.Goals as goal

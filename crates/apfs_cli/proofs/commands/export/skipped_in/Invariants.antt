@@ -1,9 +1,9 @@
 use Rattle.std.proofs.Common.{◌≡◌, map, take}
 use Rattle.std.specs.Prelude.{filter_map, slice_get}
 use Rattle.std.specs.List.{flat_map}
-use Rattle.tree_export.specs.Exported.{wanted_of}
+use Rattle.tree_export.specs.Stopping.{wanted_of}
 use Rattle.tree_export.specs.Texts.{skipped_text}
-use Rattle.apfs_cli.specs.Commands.Export.{told_text}
+use Rattle.apfs_cli.specs.Commands.ExportParts.{told_text}
 use Rattle.apfs_cli.proofs.commands.export.skipped_in.Given as goal
 
 abbrev pub invariant-places : goal.invariant-places

@@ -4,7 +4,7 @@ use Rattle.std.specs.Prelude.{◌++◌, Err, filter_map, slice_get}
 use Rattle.std.specs.List.{flat_map}
 use Rattle.cmd_words.specs.Lent.{target_asked}
 use Rattle.view_rules.specs.Rules.{view_facts}
-use Rattle.tree_export.specs.Exported.{wanted_of}
+use Rattle.tree_export.specs.Stopping.{wanted_of}
 use Rattle.tree_export.specs.Texts.{skipped_text, done_text}
 use Rattle.tree_export.proofs.Tellings.{told_text}
 use Rattle.apfs_cli.specs.Handed.{looked, stored}

@@ -3,8 +3,10 @@ use Rattle.std.proofs.Common.{[], subst, refl}
 use Rattle.img_format.specs.declared.spec.Spec.{Spec}
 use Rattle.img_format.specs.Fresh.{fresh}
 use Rattle.apfs_cli.specs.Handed.{made}
-use Rattle.apfs_cli.specs.Words.{Format, spec_of}
-use Rattle.apfs_cli.specs.Written.{sunk, IsPut}
+use Rattle.apfs_cli.specs.Words.{Format}
+use Rattle.apfs_cli.specs.Lent.{spec_of}
+use Rattle.apfs_cli.specs.Written.{sunk}
+use Rattle.apfs_cli.specs.Putting.{IsPut}
 use Rattle.apfs_cli.proofs.Endings.{put_ended, no_memory_ended}
 use Rattle.apfs_cli.proofs.commands.new_container.write.Goals as goal
 

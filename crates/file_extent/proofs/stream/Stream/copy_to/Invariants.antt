@@ -1,6 +1,6 @@
 -- The bytes before the next piece were put.
 use Rattle.std.proofs.Common.{◌≡◌, ◌≤◌, ◌-◌, ℕ, List, Some}
-use Rattle.apfs_model.specs.Source.{IsKept}
+use Rattle.apfs_model.specs.Kept.{IsKept}
 use Rattle.file_extent.specs.Streams.{bytes_from}
 use Rattle.file_extent.specs.Copied.{CopiedWhole}
 use Rattle.file_extent.proofs.stream.Stream.copy_to.Given as goal

@@ -1,7 +1,7 @@
 use Rattle.std.proofs.Common.{rules, of_calls, ◌≡◌, ◌∙◌, true, false, ap, sym, subst}
 use Rattle.std.specs.List.Sorted.{IsPartitionPoint}
 use Rattle.std.proofs.lemmas.List.Sorted.{IsPartitionPoint-from_clause}
-use Rattle.omap_map.specs.Records.{IsAscending}
+use Rattle.omap_map.specs.Loading.{IsAscending}
 use Rattle.omap_map.specs.Search.{is_by}
 use Rattle.omap_map.specs.Maps.{Contents}
 use Rattle.omap_map.proofs.Splits.{partitioned}

@@ -1,5 +1,5 @@
 use Rattle.std.proofs.Common.{rules, ◌≡◌, ◌∙◌, ◌-◌, ap, sym, subst, slice_index_or, arith}
-use Rattle.omap_map.specs.Records.{IsAscending}
+use Rattle.omap_map.specs.Loading.{IsAscending}
 use Rattle.omap_map.specs.Maps.{Contents}
 use Rattle.omap_map.proofs.Splits.{latest-before, latest-found, latest-missed}
 use Rattle.omap_map.proofs.omap.Omap.latest.Goals as goal

@@ -1,7 +1,8 @@
 use Rattle.std.proofs.Common.{◌≡◌, ◌∙◌, true, false, ap, sym, subst, replicate, OnOk, slice_index_or}
 use Rattle.apfs_model.proofs.BoolTests.{from-equal}
 use Rattle.apfs_model.specs.Blocks.{block_of}
-use Rattle.space_map.specs.Marks.{lacks_bitmap, bitmap_of}
+use Rattle.space_map.specs.Marks.{lacks_bitmap}
+use Rattle.space_map.specs.Held.{bitmap_of}
 use Rattle.space_map.specs.Stops.{Known}
 use Rattle.space_map.proofs.Loads.{chunk-is, bits-none, bits-some, unequal}
 use Rattle.space_map.proofs.space.Space.bitmap.Goals as goal

@@ -1,4 +1,4 @@
-use Rattle.apfs_model.specs.Source.{IsKept}
+use Rattle.apfs_model.specs.Kept.{IsKept}
 use Rattle.sweep_cases.proofs.tests.accounts.load_all.Given as goal
 
 abbrev pub invariant-each : goal.invariant-each
