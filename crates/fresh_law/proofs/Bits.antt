@@ -19,9 +19,9 @@ use Rattle.reach_rules.specs.PoolOwners.{IsPoolOwned}
 use Rattle.reach_rules.specs.Accounted.{IsSettled, IsPoolSettled}
 use Rattle.img_format.specs.declared.spec.Spec.{Spec}
 use Rattle.img_format.specs.Valid.{IsValid}
-use Rattle.fresh_blocks.specs.Site.{block_at}
+use Rattle.fresh_law.specs.Site.{block_at}
 use Rattle.fresh_law.specs.Checkpoint.{seen}
-use Rattle.fresh_blocks.specs.Facts.{chunk, IsFresh}
+use Rattle.fresh_law.specs.Facts.{chunk, IsFresh}
 use Rattle.fresh_law.proofs.Counted.{as-many, from-bound}
 use Rattle.fresh_law.proofs.Sites.{site-is, range-inside}
 use Rattle.fresh_law.proofs.Rows.{address-is}

@@ -12,9 +12,9 @@ use Rattle.reach_rules.specs.Accounted.{IsPlain}
 use Rattle.reach_rules.proofs.Nexts.{Each, each-in}
 use Rattle.img_format.specs.declared.spec.Spec.{Spec}
 use Rattle.img_format.specs.Valid.{IsValid}
-use Rattle.fresh_blocks.specs.Site.{block_at}
+use Rattle.fresh_law.specs.Site.{block_at}
 use Rattle.fresh_law.specs.Checkpoint.{seen}
-use Rattle.fresh_blocks.specs.Facts.{IsSuper, IsVolume, IsReaper, IsFresh}
+use Rattle.fresh_law.specs.Facts.{IsSuper, IsVolume, IsReaper, IsFresh}
 use Rattle.fresh_law.proofs.Sites.{site-is}
 use Rattle.fresh_law.proofs.Maps.{container-map, volume-map}
 use Rattle.fresh_law.proofs.Space.{plain}

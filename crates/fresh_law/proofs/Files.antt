@@ -38,7 +38,7 @@ use Rattle.path_walk.specs.Found.{entries_in, found}
 use Rattle.path_walk.specs.Listing.{children, listing}
 use Rattle.img_format.specs.Tables.{num, laid}
 use Rattle.img_format.specs.Blocks.{file_entries, private_hash, root_hash}
-use Rattle.fresh_blocks.specs.Facts.{pair_of}
+use Rattle.fresh_law.specs.Facts.{pair_of}
 use Rattle.reach_rules.proofs.Nexts.{Each, each-in}
 use Rattle.fresh_law.proofs.Leaves.{leaf_items}
 

@@ -9,11 +9,11 @@ use Rattle.view_rules.specs.declared.profile.Profile.TheVariants.{Plain, Strict}
 use Rattle.apfs_check.specs.WellFormed.{IsRightVolume, IsWellFormed}
 use Rattle.img_format.specs.declared.spec.Spec.{Spec}
 use Rattle.img_format.specs.Valid.{IsValid}
-use Rattle.fresh_blocks.specs.Site.{block_at}
+use Rattle.fresh_law.specs.Site.{block_at}
 use Rattle.fresh_law.specs.Checkpoint.{seen}
-use Rattle.fresh_blocks.specs.Facts.{IsFresh}
+use Rattle.fresh_law.specs.Facts.{IsFresh}
 use Rattle.img_format.specs.Fresh.{fresh}
-use Rattle.fresh_blocks.proofs.Fresh.{fresh-says}
+use Rattle.fresh_law.proofs.Fresh.{fresh-says}
 use Rattle.fresh_law.specs.Law.{SaidHolds, FreshHolds}
 use Rattle.fresh_law.proofs.Newest.{newest}
 use Rattle.fresh_law.proofs.Named.{are-named}

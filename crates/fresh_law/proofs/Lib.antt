@@ -16,3 +16,13 @@ pub mod Volumes
 pub mod Files
 pub mod Law
 pub mod Report
+pub mod Heads
+pub mod Laid
+pub mod Parts
+pub mod Says
+pub mod RootBlocks
+pub mod Records
+pub mod Superblocks
+pub mod Bitmaps
+pub mod Image
+pub mod Fresh

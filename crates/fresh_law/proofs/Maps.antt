@@ -22,10 +22,10 @@ use Rattle.img_format.specs.declared.spec.Spec.{Spec}
 use Rattle.img_format.specs.Valid.{IsValid}
 use Rattle.img_format.specs.Tables.{num}
 use Rattle.img_format.specs.Blocks.{map_entry}
-use Rattle.fresh_blocks.specs.Site.{site, block_at}
-use Rattle.fresh_blocks.specs.Facts.{pair_of, IsRootLeaf, IsObjectMap, IsFresh}
+use Rattle.fresh_law.specs.Site.{site, block_at}
+use Rattle.fresh_law.specs.Facts.{pair_of, IsRootLeaf, IsObjectMap, IsFresh}
 use Rattle.fresh_law.proofs.Leaves.{IsLeaf, leaf_items, leaf-flat, leaf-whole}
-use Rattle.fresh_blocks.proofs.Heads.{head-sound}
+use Rattle.fresh_law.proofs.Heads.{head-sound}
 use Rattle.fresh_law.proofs.Sites.{inside}
 use Rattle.fresh_law.proofs.Roots.{mapped}
 

@@ -20,9 +20,9 @@ use Rattle.reach_rules.specs.Accounted.{AreNamed}
 use Rattle.reach_rules.proofs.Nexts.{Each, each-in}
 use Rattle.img_format.specs.declared.spec.Spec.{Spec}
 use Rattle.img_format.specs.Valid.{IsValid}
-use Rattle.fresh_blocks.specs.Site.{block_at, site}
+use Rattle.fresh_law.specs.Site.{block_at, site}
 use Rattle.fresh_law.specs.Checkpoint.{seen}
-use Rattle.fresh_blocks.specs.Facts.{IsFresh}
+use Rattle.fresh_law.specs.Facts.{IsFresh}
 use Rattle.fresh_law.proofs.Sites.{site-is}
 use Rattle.fresh_law.proofs.Maps.{container-map, volume-map}
 use Rattle.fresh_law.proofs.Roots as known

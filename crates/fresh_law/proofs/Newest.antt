@@ -28,10 +28,10 @@ use Rattle.nx_ring.specs.declared.fault.RingFault.{RingFault}
 use Rattle.nx_ring.specs.declared.fault.RingFault.TheVariants.{BlockZero}
 use Rattle.img_format.specs.declared.spec.Spec.{Spec}
 use Rattle.img_format.specs.Valid.{IsValid}
-use Rattle.fresh_blocks.specs.Site.{block_at}
+use Rattle.fresh_law.specs.Site.{block_at}
 use Rattle.fresh_law.specs.Checkpoint.{areas, line, place, seen}
-use Rattle.fresh_blocks.specs.Facts.{IsSuper, mapping, IsFresh}
-use Rattle.fresh_blocks.proofs.Heads.{head-sound}
+use Rattle.fresh_law.specs.Facts.{IsSuper, mapping, IsFresh}
+use Rattle.fresh_law.proofs.Heads.{head-sound}
 
 -- ---- the superblock
 headed : (bytes : List ℕ) (r : Result Header (Bad HeadFault)) → is_ok r ≡ true → with_head bytes r ≡ Ok bytes

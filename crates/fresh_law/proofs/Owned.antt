@@ -20,9 +20,9 @@ use Rattle.reach_rules.specs.PoolOwners.{pool_object_owners, bitmap_owners, pool
 use Rattle.reach_rules.proofs.Nexts.{Each, each-in}
 use Rattle.img_format.specs.declared.spec.Spec.{Spec}
 use Rattle.img_format.specs.Valid.{IsValid}
-use Rattle.fresh_blocks.specs.Site.{block_at, site}
+use Rattle.fresh_law.specs.Site.{block_at, site}
 use Rattle.fresh_law.specs.Checkpoint.{place, seen}
-use Rattle.fresh_blocks.specs.Facts.{IsManager, IsInfo, IsRootLeaf, IsFresh}
+use Rattle.fresh_law.specs.Facts.{IsManager, IsInfo, IsRootLeaf, IsFresh}
 use Rattle.fresh_law.proofs.Leaves.{IsLeaf, leaf-flat}
 use Rattle.fresh_law.proofs.Sites.{site-is, inside}
 use Rattle.fresh_law.proofs.Maps.{leaf-in}

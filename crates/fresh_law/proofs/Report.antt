@@ -35,8 +35,8 @@ use Rattle.apfs_check.specs.Volumes.{volume_of}
 use Rattle.img_format.specs.declared.spec.Spec.{Spec}
 use Rattle.img_format.specs.Fresh.{fresh}
 use Rattle.img_format.specs.Valid.{IsValid}
-use Rattle.fresh_blocks.specs.Facts.{IsFresh}
-use Rattle.fresh_blocks.proofs.Fresh.{fresh-says}
+use Rattle.fresh_law.specs.Facts.{IsFresh}
+use Rattle.fresh_law.proofs.Fresh.{fresh-says}
 use Rattle.fresh_law.specs.Checkpoint.{seen}
 use Rattle.fresh_law.specs.Law.{FreshReported}
 use Rattle.fresh_law.specs.Report.{fresh_report}

@@ -4,7 +4,7 @@ use Rattle.omap_map.specs.declared.records.OmapRecord.{OmapRecord}
 use Rattle.space_pool.specs.declared.entry.Queue.TheVariants.{Pool, Main}
 use Rattle.reach_rules.specs.Naming.{ViewAt, ByBlock, ByMapping, InContainer, InView, Object, Newest, InBlock, OfId, OfRecord, Namer, Whole, MapRecords, ExtentRefs, SnapMetadata, FreeQueue, Files, SpaceManager, ContainerMap, ReaperObject, VolumeIn, VolumeMap, InfoBlock, TreeRoot, Naming, naming}
 use Rattle.reach_rules.specs.Resolved.{Found}
-use Rattle.fresh_blocks.specs.Site.{block_at}
+use Rattle.fresh_law.specs.Site.{block_at}
 
 -- the records of the two object maps
 abbrev pub mapped : ℕ → ℕ → OmapRecord

@@ -36,10 +36,10 @@ use Rattle.space_pool.specs.declared.entry.Queue.TheVariants.{Pool, Main}
 use Rattle.reach_rules.specs.Next.{unless_zero, children_in, slot_namings, roots, node_namings, names, names_if, next}
 use Rattle.img_format.specs.declared.spec.Spec.{Spec}
 use Rattle.img_format.specs.Valid.{IsValid}
-use Rattle.fresh_blocks.specs.Site.{block_at, site}
+use Rattle.fresh_law.specs.Site.{block_at, site}
 use Rattle.fresh_law.specs.Checkpoint.{place, seen}
-use Rattle.fresh_blocks.specs.Facts.{IsRootLeaf, IsManager, IsFresh}
-use Rattle.fresh_blocks.proofs.Heads.{head-sound}
+use Rattle.fresh_law.specs.Facts.{IsRootLeaf, IsManager, IsFresh}
+use Rattle.fresh_law.proofs.Heads.{head-sound}
 use Rattle.fresh_law.proofs.Leaves.{leaf-flat}
 use Rattle.fresh_law.proofs.Sites.{site-is, inside}
 use Rattle.fresh_law.proofs.Maps.{leaf-in, container-map, volume-map}

@@ -6,9 +6,9 @@ use Rattle.obj_base.specs.declared.site.Site.{Site}
 use Rattle.nx_ring.specs.Checkpoint.{site_of}
 use Rattle.img_format.specs.declared.spec.Spec.{Spec}
 use Rattle.img_format.specs.Valid.{IsValid}
-use Rattle.fresh_blocks.specs.Site.{site}
+use Rattle.fresh_law.specs.Site.{site}
 use Rattle.fresh_law.specs.Checkpoint.{seen}
-use Rattle.fresh_blocks.specs.Facts.{IsFresh}
+use Rattle.fresh_law.specs.Facts.{IsFresh}
 
 site-by : (size blocks : ℕ) (size' blocks' : ℕ) → size ≡ size' → blocks ≡ blocks' → ◌≡◌ {A = Site} (record { block_size = size; blocks = blocks; max_xid = 1 }) (record { block_size = size'; blocks = blocks'; max_xid = 1 })
 site-by size blocks size' blocks' e f = Prim.cc

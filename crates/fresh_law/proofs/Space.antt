@@ -20,10 +20,10 @@ use Rattle.space_pool.specs.declared.entry.Queue.TheVariants.{Pool}
 use Rattle.reach_rules.specs.Accounted.{IsShaped}
 use Rattle.img_format.specs.declared.spec.Spec.{Spec}
 use Rattle.img_format.specs.Valid.{IsValid}
-use Rattle.fresh_blocks.specs.Site.{block_at, site}
+use Rattle.fresh_law.specs.Site.{block_at, site}
 use Rattle.fresh_law.specs.Checkpoint.{seen}
-use Rattle.fresh_blocks.specs.Facts.{chunk, IsManager, IsInfo, IsFresh}
-use Rattle.fresh_blocks.proofs.Heads.{head-sound}
+use Rattle.fresh_law.specs.Facts.{chunk, IsManager, IsInfo, IsFresh}
+use Rattle.fresh_law.proofs.Heads.{head-sound}
 use Rattle.fresh_law.proofs.Sites.{site-is, inside}
 use Rattle.fresh_law.proofs.Bits.{cib-is, chunk-is}
 use Rattle.fresh_law.proofs.Owned.{manager-of, pool_queue-empty}

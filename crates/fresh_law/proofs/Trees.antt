@@ -24,9 +24,9 @@ use Rattle.img_format.specs.declared.spec.Spec.{Spec}
 use Rattle.img_format.specs.Valid.{IsValid}
 use Rattle.img_format.specs.Tables.{num}
 use Rattle.img_format.specs.Blocks.{map_entry}
-use Rattle.fresh_blocks.specs.Site.{site}
+use Rattle.fresh_law.specs.Site.{site}
 use Rattle.fresh_law.specs.Checkpoint.{seen}
-use Rattle.fresh_blocks.specs.Facts.{pair_of, IsFresh}
+use Rattle.fresh_law.specs.Facts.{pair_of, IsFresh}
 use Rattle.fresh_law.proofs.Leaves.{IsLeaf, leaf_items, leaf-line, leaf-counted}
 use Rattle.fresh_law.proofs.Sites.{site-is, inside}
 use Rattle.fresh_law.proofs.Maps.{leaf-in}

@@ -39,9 +39,9 @@ use Rattle.apfs_check.specs.WellFormed.{HasAgreement, HasViewRules, IsRightVolum
 use Rattle.img_format.specs.declared.spec.Spec.{Spec}
 use Rattle.img_format.specs.Valid.{IsValid}
 use Rattle.img_format.specs.Blocks.{file_entries}
-use Rattle.fresh_blocks.specs.Site.{block_at, site}
+use Rattle.fresh_law.specs.Site.{block_at, site}
 use Rattle.fresh_law.specs.Checkpoint.{seen}
-use Rattle.fresh_blocks.specs.Facts.{IsVolume, IsFresh}
+use Rattle.fresh_law.specs.Facts.{IsVolume, IsFresh}
 use Rattle.fresh_law.specs.Law.{HasEmptyRoot}
 use Rattle.fresh_law.proofs.Leaves.{IsLeaf, leaf_items, leaf-flat, leaf-line, leaf-walkable, leaf-counted}
 use Rattle.fresh_law.proofs.Sites.{site-is, inside}

@@ -5,7 +5,7 @@ use Rattle.nx_ring.specs.declared.areas.Areas.{Areas}
 use Rattle.nx_ring.specs.Objects.{Place}
 use Rattle.nx_ring.specs.Checkpoint.{Seen}
 use Rattle.img_format.specs.Tables.{size}
-use Rattle.fresh_blocks.specs.Site.{block_at}
+use Rattle.fresh_law.specs.Site.{block_at}
 
 -- the areas
 abbrev pub areas : Areas

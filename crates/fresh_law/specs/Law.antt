@@ -15,7 +15,7 @@ use Rattle.apfs_check.specs.WellFormed.{IsWellFormed}
 use Rattle.img_format.specs.declared.spec.Spec.{Spec}
 use Rattle.img_format.specs.Valid.{IsValid}
 use Rattle.img_format.specs.Fresh.{fresh}
-use Rattle.fresh_blocks.specs.Facts.{IsFresh}
+use Rattle.fresh_law.specs.Facts.{IsFresh}
 use Rattle.fresh_law.specs.Report.{fresh_report}
 
 -- the listing of the root of a volume as it is has nothing

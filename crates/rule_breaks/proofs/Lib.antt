@@ -6,3 +6,4 @@ pub mod Orders
 pub mod NamesApart
 pub mod Wholes
 pub mod Suspected
+pub mod Shown

@@ -26,8 +26,8 @@ use Rattle.view_rules.specs.declared.profile.Profile.TheVariants.{Plain, Strict}
 use Rattle.view_facts.specs.Contents.{brief_body, brief, brief_facts}
 use Rattle.tree_rules.specs.Notes.{is_unnamed}
 use Rattle.tree_rules.specs.Tallies.{notes_of}
-use Rattle.rule_faults.specs.declared.faults.Asked.{Asked}
-use Rattle.rule_faults.specs.Faults.{IsShown}
+use Rattle.rule_breaks.specs.declared.faults.Asked.{Asked}
+use Rattle.rule_breaks.specs.Faults.{IsShown}
 
 fold-brief : (p : Fact Attribute → Bool) → ((a : Fact Attribute) → p (brief a) ≡ p a) → (n : ℕ) (xs : List (Fact Attribute)) → fold (λ a x. a + cond (p x) 1 0) n (map brief xs) ≡ fold (λ a x. a + cond (p x) 1 0) n xs
 fold-brief p same n [] = refl

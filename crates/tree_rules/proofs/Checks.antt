@@ -14,8 +14,8 @@ use Rattle.view_facts.specs.declared.gathering.ViewFacts.{ViewFacts}
 use Rattle.tree_rules.specs.Tallies.{notes_of}
 use Rattle.tree_rules.specs.Tallies.{IsTally}
 use Rattle.tree_rules.specs.declared.tallies.ViewTally.{ViewTally}
-use Rattle.rule_faults.specs.declared.faults.Asked.{Asked}
-use Rattle.rule_faults.specs.Faults.{IsShown, IsFirst}
+use Rattle.rule_breaks.specs.declared.faults.Asked.{Asked}
+use Rattle.rule_breaks.specs.Faults.{IsShown, IsFirst}
 use Rattle.tree_rules.proofs.Briefs.{rules-kept, shown-kept, notes-kept}
 
 -- the rules of the facts are those of the view

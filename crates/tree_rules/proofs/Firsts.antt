@@ -12,9 +12,9 @@ use Rattle.view_rules.specs.Inodes.{HasTargets, HasStreamSizes, HasBodySizes, Ha
 use Rattle.view_rules.specs.Rules.{HasFactRules}
 use Rattle.view_rules.specs.declared.fault.TreeFault.{TreeFault}
 use Rattle.view_rules.specs.declared.profile.Profile.TheVariants.{Strict}
-use Rattle.rule_faults.specs.declared.faults.Asked.{Asked}
-use Rattle.rule_faults.specs.Faults.{IsFirst}
-use Rattle.rule_faults.proofs.Shown.{both}
+use Rattle.rule_breaks.specs.declared.faults.Asked.{Asked}
+use Rattle.rule_breaks.specs.Faults.{IsFirst}
+use Rattle.rule_breaks.proofs.Shown.{both}
 
 -- the rules on facts, group by group
 abbrev names_hold : Facts → Type 0

@@ -1,12 +1,12 @@
 // The first fault that the facts of a view show.
 ghost use Rattle.std.specs.Prelude.{◌<◌, IfOk};
-ghost use Rattle.rule_faults.specs.Faults as spec;
+ghost use Rattle.rule_breaks.specs.Faults as spec;
 ghost use Rattle.view_rules.specs.Rules.{HasFactRules};
 
 mod hashes;
 
 use blk_source::NoMemory;
-use rule_faults::faults::{
+use rule_breaks::faults::{
     Asked, counts, directories, entries, extents, inodes, names, siblings, ways,
 };
 use rule_index::Index;

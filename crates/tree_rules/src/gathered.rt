@@ -12,7 +12,7 @@ use crate::ViewTally;
 use crate::faults::first_fault;
 use crate::remarks::notes;
 use obj_base::Stop;
-use rule_faults::faults::Asked;
+use rule_breaks::faults::Asked;
 use rule_index::Index;
 use std::alloc::Global;
 use view_facts::ViewFacts;

@@ -3,7 +3,7 @@ ghost use Rattle.std.specs.Prelude.{◌≡◌, ◌++◌, ◌&&◌, not, nat_le, 
 ghost use Rattle.std.specs.Option.{option_copied};
 ghost use Rattle.view_rules.specs.Facts.{is_directory};
 ghost use Rattle.view_rules.specs.Names as names;
-ghost use Rattle.rule_faults.specs.Faults as faults;
+ghost use Rattle.rule_breaks.specs.Faults as faults;
 ghost use Rattle.tree_rules.specs.Notes as spec;
 ghost use Rattle.tree_rules.specs.Tallies as tallies;
 

@@ -16,7 +16,7 @@ use blk_source::BlockSource;
 use ext_ref::NewRange;
 use obj_base::{Site, Stop};
 use rule_breaks::extents::extents_with_ids;
-use rule_faults::faults::Asked;
+use rule_breaks::faults::Asked;
 use std::alloc::Global;
 use view_facts::view_facts;
 use view_rules::TreeFault;

@@ -1,19 +1,19 @@
 // Faults of the hashes of names that aren't ASCII: they are faults under Strict alone.
 ghost use Rattle.std.specs.Prelude.{◌≡◌, IfOk};
-ghost use Rattle.rule_faults.specs.Faults as spec;
+ghost use Rattle.rule_breaks.specs.Faults as spec;
 ghost use Rattle.view_rules.specs.Names as rules;
 ghost use Rattle.view_rules.specs.declared.profile.Profile.TheVariants.{Strict};
 
 use crate::Profile;
 use crate::remarks::{named_at, other_name_hash};
 use blk_source::NoMemory;
-use rule_faults::faults::Asked;
+use rule_breaks::faults::Asked;
 use std::alloc::Global;
 use view_facts::Facts;
 use view_rules::TreeFault;
 
 /// A name that isn't ASCII whose key has another hash, under Strict.
-#[tactic(auto, using(rule_faults::proofs::Shown::name_hash, rule_faults::proofs::Shown::none_clear))]
+#[tactic(auto, using(rule_breaks::proofs::Shown::name_hash, rule_breaks::proofs::Shown::none_clear))]
 pub(super) fn fault(
     alloc: Global,
     asked: &Asked<'_>,

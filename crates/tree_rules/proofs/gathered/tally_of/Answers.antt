@@ -1,7 +1,7 @@
 use Rattle.std.proofs.Common.{ap, refl, subst, ◌∙◌}
 use Rattle.view_rules.specs.Facts.{Facts}
 use Rattle.view_rules.specs.Rules.{HasFactRules}
-use Rattle.rule_faults.specs.Faults.{IsShown}
+use Rattle.rule_breaks.specs.Faults.{IsShown}
 use Rattle.tree_rules.specs.Tallies.{notes_of}
 use Rattle.tree_rules.proofs.Checks.{facts_clear, facts_fault, facts_tally, first-there, first-clear}
 use Rattle.tree_rules.proofs.gathered.tally_of.Goals as goal

@@ -1,6 +1,6 @@
 use Rattle.std.proofs.Common.{refl, ap, sym, ◌∙◌}
 use Rattle.std.specs.Option.{option_copied}
-use Rattle.rule_faults.proofs.Shown.{name_hash}
+use Rattle.rule_breaks.proofs.Shown.{name_hash}
 use Rattle.tree_rules.proofs.faults.hashes.fault.Goals as goal
 
 pub returns-in_ok-at-in-Some : goal.returns-in_ok-at-in-Some

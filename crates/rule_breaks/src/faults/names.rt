@@ -1,0 +1,80 @@
+// Faults of names: those that are there twice, and hashes of ASCII ones.
+ghost use Rattle.std.specs.Prelude.{◌≡◌, true, IfOk};
+ghost use Rattle.view_rules.specs.Names as rules;
+ghost use Rattle.rule_breaks.specs.Faults as spec;
+
+use super::{Asked, named_at};
+use crate::names::other_ascii_hash;
+use crate::repeats::{repeated_attribute, repeated_entry};
+use blk_source::NoMemory;
+use std::alloc::Global;
+use view_facts::Facts;
+use view_rules::TreeFault;
+
+// A name that is twice in a directory. `hashed` tells whether the hashes of ASCII names are known to be right.
+#[tactic(auto, using(crate::proofs::Shown::entry_twice, crate::proofs::Shown::none_clear))]
+fn entry_twice(
+    alloc: Global,
+    asked: &Asked<'_>,
+    facts: &Facts,
+    hashed: bool,
+) -> Result<Option<TreeFault>, NoMemory>
+    requires { hashed ≡ true → rules.HasAsciiHashes facts.now }
+    ensures { IfOk result (spec.IsFirst asked.now facts.now (rules.HasDistinctEntries facts.now)) }
+{
+    let first = repeated_entry(alloc, facts, hashed)?;
+    match first {
+        Some(e) => {
+            let at = named_at(alloc, asked.view, e.id(), e.name())?;
+            Ok(Some(TreeFault::DupName(at)))
+        }
+        None => Ok(None),
+    }
+}
+
+// A name that is twice among the attributes of a file.
+#[tactic(auto, using(crate::proofs::Shown::attribute_twice, crate::proofs::Shown::none_clear))]
+fn attribute_twice(
+    alloc: Global,
+    asked: &Asked<'_>,
+    facts: &Facts,
+) -> Result<Option<TreeFault>, NoMemory>
+    ensures { IfOk result (spec.IsFirst asked.now facts.now (rules.HasDistinctAttributes facts.now)) }
+{
+    let first = repeated_attribute(alloc, facts)?;
+    match first {
+        Some(a) => {
+            let at = named_at(alloc, asked.view, a.id(), a.name())?;
+            Ok(Some(TreeFault::DupName(at)))
+        }
+        None => Ok(None),
+    }
+}
+
+// An ASCII name whose key has another hash.
+#[tactic(auto, using(crate::proofs::Shown::other_hash, crate::proofs::Shown::none_clear))]
+fn other_hash(
+    alloc: Global,
+    asked: &Asked<'_>,
+    facts: &Facts,
+) -> Result<Option<TreeFault>, NoMemory>
+    ensures { IfOk result (spec.IsFirst asked.now facts.now (rules.HasAsciiHashes facts.now)) }
+{
+    match other_ascii_hash(facts) {
+        Some(e) => {
+            let at = named_at(alloc, asked.view, e.id(), e.name())?;
+            Ok(Some(TreeFault::Hash(at)))
+        }
+        None => Ok(None),
+    }
+}
+
+/// A fault of a name, where one is there.
+pub fn fault(alloc: Global, asked: &Asked<'_>, facts: &Facts) -> Result<Option<TreeFault>, NoMemory>
+    ensures { IfOk result (spec.IsFirst asked.now facts.now (rules.HasDistinctEntries facts.now × (rules.HasDistinctAttributes facts.now × rules.HasAsciiHashes facts.now))) }
+{
+    let hash = other_hash(alloc, asked, facts)?;
+    let entry = entry_twice(alloc, asked, facts, hash.is_none())?;
+    let attribute = attribute_twice(alloc, asked, facts)?;
+    Ok(entry.or(attribute.or(hash)))
+}
