@@ -20,7 +20,8 @@ use Rattle.apfs_cli.specs.declared.stopped.Stopped.TheVariants as stops
 use Rattle.apfs_cli.specs.declared.words.Checks.{Checks}
 use Rattle.apfs_cli.specs.declared.words.Checks.TheVariants.{Quick, First}
 use Rattle.apfs_cli.specs.First.{ResultBy, FaultBy, FeatureBy}
-use Rattle.apfs_cli.specs.ByCommand.{HandedIn, from_of, lead_of, streams, IsText, IsFault, IsNamed, IsFeature, IsAnswer, RestsOn, HasResult, checks_of, profile_of}
+use Rattle.apfs_cli.specs.ByCommand.{HandedIn, from_of, lead_of, streams, IsText, IsFault, IsNamed, IsFeature, IsAnswer, RestsOn, HasResult, profile_of}
+use Rattle.apfs_cli.specs.Words.{checks_of}
 use Rattle.apfs_cli.specs.Unchecked.{quick}
 use Rattle.apfs_cli.specs.Commands.Ls as ls
 use Rattle.apfs_cli.specs.Commands.Tree as tree
@@ -34,7 +35,7 @@ use Rattle.apfs_cli.specs.Reached.{IsClean, IsWhileLooking, TellsFlaw}
 use Rattle.apfs_cli.specs.ReportText.{report_text}
 use Rattle.apfs_cli.specs.Says.{BeginsText, BeginsForm, IsPart, IsReadPart, IsTextIf, StopsAt, AnswersAt, SaysOn}
 use Rattle.apfs_cli.specs.Ended.{HasEnded}
-use Rattle.apfs_cli.specs.Seen.{outcome_of, stopped_at}
+use Rattle.apfs_cli.specs.Stops.{outcome_of, stopped_at}
 use Rattle.apfs_cli.specs.Texts.{IsPrefix}
 use Rattle.apfs_cli.specs.Words.{Asked, Ring, Info, Volumes, Space, Check, Snapshots, Usage, Ls, Tree, Cat, Xattr, Export, Gen, Format}
 use Rattle.apfs_cli.specs.Written.{Sunk, Failed}

@@ -18,7 +18,7 @@ use Rattle.apfs_cli.specs.Handed.{Looked, LookFailed, OfImage}
 use Rattle.apfs_cli.specs.Says.{IsPart, IsReadPart, BeginsText, IsTextIf, StopsAt, AnswersAt, SaysOn}
 use Rattle.apfs_cli.specs.Ended.{HasEnded}
 use Rattle.apfs_cli.specs.Outcome.{Outcome, Written, Faulty, WrongWords, ReadFailed, WriteFailed, OutOfMemory, Refused, Answered, NoImage, NoFolder}
-use Rattle.apfs_cli.specs.Seen.{outcome_of, stopped_at}
+use Rattle.apfs_cli.specs.Stops.{outcome_of, stopped_at}
 use Rattle.apfs_cli.specs.Words.{Asked}
 
 -- a prefix of a text that a command has is a part of what it writes

@@ -12,7 +12,7 @@ use Rattle.apfs_cli.specs.Outcome.{Outcome, Written, Faulty, WrongWords, ReadFai
 use Rattle.apfs_cli.specs.ByCommand.{lead_of}
 use Rattle.apfs_cli.specs.Says.{SaysOn, Fills, FillsBy, AreItemsIf, AreItemsBy, IsSame, PutFailed}
 use Rattle.apfs_cli.specs.Ended.{HasEnded, HasEndedInto}
-use Rattle.apfs_cli.specs.Seen.{outcome_of}
+use Rattle.apfs_cli.specs.Stops.{outcome_of}
 use Rattle.apfs_cli.specs.Words.{Asked}
 use Rattle.apfs_cli.specs.Written.{Sunk}
 use Rattle.apfs_cli.proofs.Endings.{nothing_part, nothing_read, of_same, says_same}

@@ -14,7 +14,7 @@ use Rattle.apfs_cli.specs.Outcome.{Outcome, Written, Faulty, WrongWords, ReadFai
 use Rattle.apfs_cli.specs.ReportText.{report_text}
 use Rattle.apfs_cli.specs.Ended.{IsOfMade, HasEnded, HasMade, CameOver}
 use Rattle.apfs_cli.specs.Says.{BeginsText, BeginsForm, IsPart, SaysOn}
-use Rattle.apfs_cli.specs.Seen.{outcome_of}
+use Rattle.apfs_cli.specs.Stops.{outcome_of}
 use Rattle.apfs_cli.specs.Texts.{IsPrefix}
 use Rattle.apfs_cli.specs.Words.{Check, Gen}
 use Rattle.apfs_cli.specs.Written.{Sunk, Failed, Ends}

@@ -21,7 +21,8 @@ use Rattle.apfs_cli.specs.Handed.{Looked, LookFailed, OfImage, part_looked, made
 use Rattle.apfs_cli.specs.Outcome.{Outcome, Written, Faulty, WrongWords, ReadFailed, WriteFailed, OutOfMemory, Refused, Answered, NoImage, NoFolder, text_of}
 use Rattle.apfs_cli.specs.Says.{AreItemsIf, AreItemsBy, FillsBy, FillsOn, IsSame, IsUntouched, LacksFrom, LacksStore, IsSourceFrom, IsSource, StopsTable, PutFailed, HasAll, Says, CameTo, wrong_words, no_image, no_folder, no_part, ran, no_memory}
 use Rattle.apfs_cli.specs.Ended.{HasEnded, HasEndedInto, HasMade, HasCome}
-use Rattle.apfs_cli.specs.Seen.{outcome_of, stopped_at_table}
+use Rattle.apfs_cli.specs.Seen.{stopped_at_table}
+use Rattle.apfs_cli.specs.Stops.{outcome_of}
 use Rattle.apfs_cli.specs.Words.{Asked, Line, plain_line, Ring, Info, Volumes, Space, Check, Snapshots, Usage, Ls, Tree, Cat, Xattr, Export, Gen, Format}
 use Rattle.apfs_cli.specs.Lent.{partition_line, said}
 use Rattle.apfs_cli.specs.Written.{Sunk, Failed}

@@ -16,7 +16,7 @@ use Rattle.apfs_check.specs.Raised.{of_volume}
 use Rattle.apfs_cli.specs.Checkpoints.{IsNewest}
 use Rattle.apfs_cli.specs.Meant.{meant_slot, meant_head, IsMeant, HasVolume, HasNoVolume}
 use Rattle.apfs_cli.specs.Reached.{IsClear, TellsWay}
-use Rattle.apfs_cli.specs.Seen.{stopped_at}
+use Rattle.apfs_cli.specs.Stops.{stopped_at}
 use Rattle.apfs_cli.proofs.Stops.{one_newest}
 
 -- the slot that is meant holds one thing

@@ -152,16 +152,6 @@ RestsOn (Cat checks target) image = RestsBy checks (IsLawfulView image target)
 RestsOn (Xattr checks target name) image = RestsBy checks (IsLawfulView image target)
 RestsOn command image = Unit {0}
 
--- whether a command checks the container before it looks at it
-abbrev pub checks_of : Asked → Checks
-checks_of (Usage volume) = First Plain
-checks_of (Ls checks target) = checks
-checks_of (Tree checks target) = checks
-checks_of (Cat checks target) = checks
-checks_of (Xattr checks target name) = checks
-checks_of (Export target) = First Plain
-checks_of command = Quick
-
 -- the profile of a check before a command, where there is one
 abbrev pub profile_in : Checks → Option Profile
 profile_in Quick = None

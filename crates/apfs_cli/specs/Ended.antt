@@ -4,7 +4,7 @@ use Rattle.apfs_model.specs.Sink.{Wrote}
 use Rattle.apfs_cli.specs.Written.{Sunk, Failed, Ends}
 use Rattle.apfs_cli.specs.declared.stopped.Stopped.{Stopped}
 use Rattle.apfs_cli.specs.declared.stopped.Stopped.TheVariants as stops
-use Rattle.apfs_cli.specs.Seen.{outcome_of}
+use Rattle.apfs_cli.specs.Stops.{outcome_of}
 use Rattle.apfs_cli.specs.Words.{Asked, Line}
 use Rattle.apfs_cli.specs.Handed.{Looked, made, Stored}
 use Rattle.apfs_cli.specs.Outcome.{Outcome, text_of, OutOfMemory}

@@ -19,6 +19,7 @@ pub mod Outcome
 pub mod Written
 pub mod Putting
 pub mod Seen
+pub mod Stops
 pub mod Reached
 pub mod Says
 pub mod Rows

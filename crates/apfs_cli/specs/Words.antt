@@ -184,3 +184,13 @@ asked_by words (Some rest) = option_map (line_in true) (command_of rest)
 -- what the words ask for; None where they are no line of the program
 unfoldable pub asked_of : List (List ℕ) → Option Line
 asked_of words = asked_by words (after_gpt words)
+
+-- whether a command checks the container before it looks at it
+abbrev pub checks_of : Asked → Checks
+checks_of (Usage volume) = First Plain
+checks_of (Ls checks target) = checks
+checks_of (Tree checks target) = checks
+checks_of (Cat checks target) = checks
+checks_of (Xattr checks target name) = checks
+checks_of (Export target) = First Plain
+checks_of command = Quick

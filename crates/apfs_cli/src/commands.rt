@@ -5,7 +5,7 @@ ghost use Rattle.apfs_cli.specs.Handed.{looked};
 ghost use Rattle.apfs_cli.specs.Ended.{HasEnded};
 ghost use Rattle.apfs_cli.specs.Reached.{IsClean};
 ghost use Rattle.apfs_cli.specs.Lent.{said};
-ghost use Rattle.apfs_cli.specs.ByCommand.{checks_of};
+ghost use Rattle.apfs_cli.specs.Words.{checks_of};
 ghost use Rattle.apfs_cli.specs.Unchecked.{quick};
 ghost use Rattle.apfs_cli.specs.Written.{sunk};
 

@@ -12,7 +12,7 @@ ghost use Rattle.apfs_cli.specs.Outcome as outcomes;
 ghost use Rattle.apfs_cli.specs.Rows.{BothWrote, HasText, NamesFault, NamesFeature, NamesAnswer, SaysReadFailed, SaysOutOfMemory, HasFailedPut, HasDefinedText, HasDefinedItems, HasDefinedAnswer, HasSound, HasUnsound, HasTableFault, IsExactly, IsOrFree, IsCleanOrFree, IsFoundOrFree, IsUndisturbed, IsCompleted, IsFilledWith, HasSafeMore, IsNewOrFree, IsRefusal, IsTurnedAway, lead_in, MayFill};
 ghost use Rattle.apfs_cli.specs.Ended.{IsOfMade, HasEnded, HasCome, CameOver};
 ghost use Rattle.apfs_cli.specs.Says.{HasNoImage, HasNoFolder, IsOpenedKept, IsUntouched, CameTo};
-ghost use Rattle.apfs_cli.specs.Seen.{outcome_of};
+ghost use Rattle.apfs_cli.specs.Stops.{outcome_of};
 ghost use Rattle.apfs_cli.specs.Words.{Check, Export, Format, Gen, asked_of, line_in, plain_line};
 ghost use Rattle.apfs_cli.specs.Lent.{said};
 ghost use Rattle.apfs_cli.specs.Written.{sunk};

@@ -1,7 +1,7 @@
 // The line that says why there is no text, and the status.
 ghost use Rattle.std.specs.Prelude.{◌⊎◌, ◌≡◌, List, ℕ, IfOk};
 ghost use Rattle.apfs_cli.specs.FaultTexts as texts;
-ghost use Rattle.apfs_cli.specs.Seen.{outcome_of};
+ghost use Rattle.apfs_cli.specs.Stops.{outcome_of};
 ghost use Rattle.apfs_cli.specs.Texts.{out_of_memory_line};
 ghost use Rattle.apfs_cli.specs.Texts as lines;
 ghost use Rattle.apfs_cli.specs.Written.{sunk, IsSaid};

@@ -1,6 +1,6 @@
 // Why a run stops before its text is whole.
 ghost use Rattle.std.specs.Prelude.{◌≡◌};
-ghost use Rattle.apfs_cli.specs.Seen.{stopped_at};
+ghost use Rattle.apfs_cli.specs.Stops.{stopped_at};
 ghost use Rattle.apfs_cli.specs.declared.stopped.Stopped.TheVariants as stops;
 
 use crate::named::Named;

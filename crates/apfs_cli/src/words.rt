@@ -2,7 +2,6 @@
 ghost use Rattle.std.specs.Prelude.{◌≡◌, map, option_map, IfOk};
 ghost use Rattle.std.specs.String.{string_bytes};
 ghost use Rattle.cmd_words.specs.Lent.{asked_by, flags_asked};
-ghost use Rattle.apfs_cli.specs.ByCommand as by_command;
 ghost use Rattle.apfs_cli.specs.Words.{command_of, new_of, plain_of, asked_of, count_said, files_said, gen_files, spec_said, new_spec};
 ghost use Rattle.apfs_cli.specs.Lent.{said, line_said, spec_of};
 ghost use Rattle.apfs_cli.specs.Words as lines;
@@ -98,7 +97,7 @@ pub enum Order<'a> {
 impl Command<'_> {
     /// Whether the container is checked first.
     pub fn checks(self) -> Checks
-        ensures { result ≡ by_command.checks_of (said self.entry) }
+        ensures { result ≡ lines.checks_of (said self.entry) }
     {
         match self {
             Command::Ring | Command::Info | Command::Volumes => Checks::Quick,

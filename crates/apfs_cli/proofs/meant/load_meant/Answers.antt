@@ -6,7 +6,7 @@ use Rattle.vol_view.specs.Heads.{IsHead}
 use Rattle.apfs_check.specs.Raised.{of_volume}
 use Rattle.apfs_cli.specs.Checkpoints.{IsNewest}
 use Rattle.apfs_cli.specs.Meant.{IsMeant, IsMeantVolume}
-use Rattle.apfs_cli.specs.Seen.{stopped_at}
+use Rattle.apfs_cli.specs.Stops.{stopped_at}
 use Rattle.apfs_cli.proofs.Ways.{heads_way, load_way, held_at, in_heads}
 use Rattle.apfs_cli.proofs.meant.load_meant.Goals as goal
 

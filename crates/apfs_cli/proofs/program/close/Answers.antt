@@ -1,7 +1,7 @@
 -- Where the text was written nothing is said.
 use Rattle.std.specs.Prelude.{Result}
 use Rattle.std.proofs.Common.{inl, refl, sym, subst}
-use Rattle.apfs_cli.specs.Seen.{outcome_of}
+use Rattle.apfs_cli.specs.Stops.{outcome_of}
 use Rattle.apfs_cli.specs.Written.{sunk}
 use Rattle.apfs_cli.specs.Putting.{IsClosed}
 use Rattle.apfs_cli.specs.declared.stopped.Stopped.{Stopped}

@@ -7,7 +7,7 @@ use Rattle.space_pool.specs.declared.fault.PoolFault.{PoolFault}
 use Rattle.reach_rules.specs.declared.fault.ReachFault.TheVariants as sweeps
 use Rattle.apfs_check.specs.Raised.{of_sweep}
 use Rattle.apfs_cli.specs.Checkpoints.{IsNewest}
-use Rattle.apfs_cli.specs.Seen.{stopped_at}
+use Rattle.apfs_cli.specs.Stops.{stopped_at}
 use Rattle.apfs_cli.specs.Words.{Space}
 use Rattle.apfs_cli.specs.Handed.{looked}
 use Rattle.apfs_cli.specs.Written.{sunk}

@@ -7,7 +7,7 @@ use Rattle.vol_view.specs.declared.stop.VolStop.{VolStop}
 use Rattle.apfs_cli.specs.Checkpoints.{IsNewest}
 use Rattle.apfs_cli.specs.Commands.Volumes.{volumes_text}
 use Rattle.apfs_check.specs.Raised.{of_volume}
-use Rattle.apfs_cli.specs.Seen.{stopped_at}
+use Rattle.apfs_cli.specs.Stops.{stopped_at}
 use Rattle.apfs_cli.specs.Words.{Volumes}
 use Rattle.apfs_cli.specs.Handed.{looked}
 use Rattle.apfs_cli.specs.Written.{sunk}
