@@ -21,7 +21,7 @@ use Rattle.apfs_cli.specs.Written.{Sunk, Failed, Ends}
 use Rattle.apfs_cli.specs.Putting.{IsPut, IsClosed}
 use Rattle.apfs_cli.proofs.ByAnswers.{for_answer}
 use Rattle.apfs_cli.proofs.Puts.{wrote_more, rose_later, part_taken}
-use Rattle.apfs_cli.proofs.Statuses.{part_on}
+use Rattle.apfs_cli.proofs.Parts.{part_on}
 
 -- ---- the line, and then what the check came to
 

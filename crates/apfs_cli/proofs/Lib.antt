@@ -20,9 +20,11 @@ pub mod Contents
 pub mod Present
 pub mod Owed
 pub mod Statuses
+pub mod Parts
 pub mod NewRow
 pub mod FilledRow
 pub mod Plugs
+pub mod HandedIn
 pub mod Led
 pub mod Orders
 mod Examples

@@ -141,20 +141,6 @@ come_with line image folder ended out plain same (part, says, wrote) = (part, sa
 
 -- ---- a command over what is handed in
 
--- each command on an image takes one
-pub handed_in : (command : Command) → from_of (said command) ≡ HandedIn
-handed_in commands.Ring = refl
-handed_in commands.Info = refl
-handed_in commands.Volumes = refl
-handed_in commands.Space = refl
-handed_in (commands.Check profile) = refl
-handed_in (commands.Snapshots volume) = refl
-handed_in (commands.Usage volume) = refl
-handed_in (commands.Ls checks target) = refl
-handed_in (commands.Tree checks target) = refl
-handed_in (commands.Cat checks target) = refl
-handed_in (commands.Xattr checks target name) = refl
-
 image_there : (f : From) (source : Looked) → LacksFrom f (Some source) → ⊥
 image_there HandedIn source lacks = lacks
 image_there Made source lacks = lacks

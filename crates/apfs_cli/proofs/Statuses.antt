@@ -1,7 +1,6 @@
 -- What each status says and when it comes, from the outcome that a run has come to and from what each command owes.
 use Rattle.std.specs.Prelude.{◌≡◌, ◌⊎◌, ℕ, Bool, true, false, List, [], Option, Some, None, Ok, refl}
 use Rattle.std.proofs.Common.{inl, inr, sym, ◌∙◌, ap, subst, arith}
-use Rattle.std.proofs.lemmas.List.{append-nil}
 use Rattle.apfs_model.specs.Sink.{Wrote}
 use Rattle.obj_base.specs.declared.stop.Feature.{Feature}
 use Rattle.blk_folder.specs.Items.{Item}
@@ -23,7 +22,7 @@ use Rattle.apfs_cli.specs.Words.{Asked, Line, plain_line, Ring, Info, Volumes, S
 use Rattle.apfs_cli.specs.Handed.{Looked, LookFailed, OfImage, made, Stored, StoreFailed}
 use Rattle.apfs_cli.specs.Outcome.{Outcome, Written, Faulty, WrongWords, ReadFailed, WriteFailed, OutOfMemory, Refused, Answered, NoImage, NoFolder, status_of, text_of}
 use Rattle.apfs_cli.specs.ByCommand.{From, HandedIn, Made, Nowhere, from_of, takes_folder, lead_of, IsText, IsNamed, IsAnswer, RestsOn, HasResult, profile_of}
-use Rattle.apfs_cli.specs.Says.{IsPart, SaysOn, Fills, FillsBy, FillsOn, AreItemsIf, AreItemsBy, IsSame, IsUntouched, LacksImage, LacksFolder, IsSourceFrom, IsSource, IsTableFault, StopsTable, PutFailed, Ran, HasNoImage, HasNoFolder, HasNoPart, Says, CameTo, wrong_words, no_image, no_folder, no_part, ran, no_memory}
+use Rattle.apfs_cli.specs.Says.{SaysOn, Fills, FillsBy, FillsOn, AreItemsIf, AreItemsBy, IsSame, IsUntouched, LacksImage, LacksFolder, IsSourceFrom, IsSource, IsTableFault, StopsTable, PutFailed, Ran, HasNoImage, HasNoFolder, HasNoPart, Says, CameTo, wrong_words, no_image, no_folder, no_part, ran, no_memory}
 use Rattle.apfs_cli.specs.Rows.{BothWrote, HasText, RanOrNoPart, IsPresentIn, RanNaming, RanRefusing, NamesFault, NamesFeature, NamesAnswer, SaysReadFailed, IsSomePart, SaysOutOfMemory, HasFailedPut, IsGivenFrom, IsGiven, IsAsked, HasDefinedText, HasDefinedAnswer, HasSound, HasUnsound, HasTableFault, IsExactly, IsOrFree, IsCleanOrFree, IsFoundOrFree, HandedFailed, IsUndisturbed, IsCompleted, lead_in, IsRefusal, IsTurnedAway, AsksFolder, IsUntold, MayFill}
 use Rattle.apfs_cli.specs.declared.named.Named.{Named}
 use Rattle.apfs_cli.specs.declared.named.Named.TheVariants.{InContainer, InUsage, InExport, NoTable, BadTable, NoPartition, PartOutside}
@@ -136,28 +135,6 @@ folder_lacks asked image folder out (ran has) = absurd has.says
 folder_lacks asked image folder out (no_memory is same) = absurd (not_this (λ x. status_of x ≡ status_of NoFolder) NoFolder (OutOfMemory []) is refl (λ a. omega arith))
 
 -- ---- a part of what the command writes
-
--- a text is a prefix of itself
-whole_prefix : (text : List ℕ) → IsPrefix text text
-whole_prefix text = ([], sym (append-nil text))
-
--- a front of what was written at the end
-lead_part : (command : Asked) (source : Looked) (lead : List ℕ) → lead ≡ lead_of command → IsPart command source lead
-lead_part command source lead e =
-    let P : List ℕ → Type 0 = λ l. IsPart command source l in
-    subst P (sym e) (record { formed = inl (whole_prefix (lead_of command)); begins = λ image told. inl (whole_prefix (lead_of command)) })
-
-pub part_on : (command : Asked) (source : Looked) (failed : Type 0) (o : Outcome) → SaysOn command source failed o → IsPart command source (text_of o)
-part_on command source failed (Written text) says = record { formed = inr (text, says.formed, whole_prefix text); begins = λ image told. inr (text, says.is image told, whole_prefix text) }
-part_on command source failed (Faulty lead named) says = lead_part command source lead says.0
-part_on command source failed WrongWords says = absurd says
-part_on command source failed (ReadFailed part) says = says.1.is
-part_on command source failed (WriteFailed part) says = says.1
-part_on command source failed (OutOfMemory part) says = says
-part_on command source failed (Refused lead feature block) says = lead_part command source lead says.0
-part_on command source failed (Answered lead answer) says = lead_part command source lead says.0
-part_on command source failed NoImage says = absurd says
-part_on command source failed NoFolder says = absurd says
 
 -- ---- the folder
 

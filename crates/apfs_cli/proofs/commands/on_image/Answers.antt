@@ -6,7 +6,7 @@ use Rattle.apfs_cli.specs.Lent.{said}
 use Rattle.apfs_cli.specs.Written.{sunk}
 use Rattle.apfs_cli.proofs.Checked.{clean_ended, first_stops, flaw_ended}
 use Rattle.apfs_cli.proofs.Endings.{ended_same}
-use Rattle.apfs_cli.proofs.Plugs.{handed_in}
+use Rattle.apfs_cli.proofs.HandedIn.{handed_in}
 use Rattle.apfs_cli.proofs.Puts.{rose_later}
 use Rattle.apfs_cli.proofs.commands.on_image.Goals as goal
 

@@ -2,7 +2,8 @@
 use Rattle.apfs_cli.specs.Handed.{looked}
 use Rattle.apfs_cli.specs.Lent.{said}
 use Rattle.apfs_cli.specs.Written.{sunk}
-use Rattle.apfs_cli.proofs.Plugs.{come_plain, handed_in, none_taken}
+use Rattle.apfs_cli.proofs.Plugs.{come_plain, none_taken}
+use Rattle.apfs_cli.proofs.HandedIn.{handed_in}
 use Rattle.apfs_cli.proofs.in_partition.on_order.Goals as goal
 
 pub returns-else-in_partition-clause-answer : goal.returns-else-in_partition-clause-answer

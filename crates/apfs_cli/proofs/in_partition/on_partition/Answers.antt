@@ -7,7 +7,8 @@ use Rattle.apfs_cli.specs.Handed.{looked, part_looked}
 use Rattle.apfs_cli.specs.Lent.{said}
 use Rattle.apfs_cli.specs.Written.{sunk}
 use Rattle.apfs_cli.proofs.Endings.{ended_same}
-use Rattle.apfs_cli.proofs.Plugs.{come_part, come_without, handed_in, none_taken}
+use Rattle.apfs_cli.proofs.Plugs.{come_part, come_without, none_taken}
+use Rattle.apfs_cli.proofs.HandedIn.{handed_in}
 use Rattle.apfs_cli.proofs.Puts.{rose_later}
 use Rattle.apfs_cli.proofs.in_partition.on_partition.Goals as goal
 
