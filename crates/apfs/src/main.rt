@@ -1,9 +1,10 @@
 //! `apfs`: checks and browses APFS containers. What it writes, and how it ends, is said by the contract of `run` (apfs_cli).
 #![tactic(auto)]
 
-use apfs_cli::{Order, asked, run};
+use apfs_cli::run;
 use blk_folder::{DirFolder, Given};
 use blk_source::{FileSource, Opened, StdSink};
+use cmd_lines::{Order, asked};
 use std::alloc::{AllocError, Global};
 use std::io::{self, ErrorKind};
 use std::os::unix::fs::FileTypeExt;

@@ -5,19 +5,19 @@ use Rattle.view_rules.specs.declared.profile.Profile.{Profile}
 use Rattle.view_rules.specs.declared.profile.Profile.TheVariants.{Plain}
 use Rattle.apfs_check.specs.WellFormed.{IsWellFormed}
 use Rattle.path_walk.specs.declared.answer.Answer.{Answer}
-use Rattle.apfs_cli.specs.declared.words.Checks.{Checks}
-use Rattle.apfs_cli.specs.declared.words.Checks.TheVariants.{Quick, First}
-use Rattle.apfs_cli.specs.ByCommand.{IsText, IsAnswer, RestsOn, profile_in, profile_of}
-use Rattle.apfs_cli.specs.MeantView.{IsLawfulView}
-use Rattle.apfs_cli.specs.Commands.Ls as ls
-use Rattle.apfs_cli.specs.Commands.Tree as tree
-use Rattle.apfs_cli.specs.Commands.Cat as cat
-use Rattle.apfs_cli.specs.Commands.Xattr as xattr
-use Rattle.apfs_cli.specs.Commands.Export as export
-use Rattle.apfs_cli.specs.First.{ResultBy, RestsBy}
-use Rattle.apfs_cli.specs.Words.{Asked, Ring, Info, Volumes, Space, Check, Snapshots, Usage, Ls, Tree, Cat, Xattr, Export, Gen, Format}
-use Rattle.apfs_cli.proofs.Views.{text_no_answer, wanted_lawful, answer_lawful}
-use Rattle.apfs_cli.proofs.Ways.{volume_or_none}
+use Rattle.cmd_lines.specs.declared.words.Checks.{Checks}
+use Rattle.cmd_lines.specs.declared.words.Checks.TheVariants.{Quick, First}
+use Rattle.cmd_texts.specs.ByCommand.{IsText, IsAnswer, RestsOn, profile_in, profile_of}
+use Rattle.cmd_texts.specs.MeantView.{IsLawfulView}
+use Rattle.cmd_texts.specs.Commands.Ls as ls
+use Rattle.cmd_texts.specs.Commands.Tree as tree
+use Rattle.cmd_texts.specs.Commands.Cat as cat
+use Rattle.cmd_texts.specs.Commands.Xattr as xattr
+use Rattle.cmd_texts.specs.Commands.Export as export
+use Rattle.cmd_texts.specs.First.{ResultBy, RestsBy}
+use Rattle.cmd_lines.specs.Words.{Asked, Ring, Info, Volumes, Space, Check, Snapshots, Usage, Ls, Tree, Cat, Xattr, Export, Gen, Format}
+use Rattle.cmd_texts.proofs.Views.{text_no_answer, wanted_lawful, answer_lawful}
+use Rattle.cmd_texts.proofs.Ways.{volume_or_none}
 
 -- what can't both be without a check can't both be after one
 not_both : (checks : Checks) (image : List ℕ) (A B : Type 0) → (A → B → ⊥) → ResultBy checks image A → ResultBy checks image B → ⊥

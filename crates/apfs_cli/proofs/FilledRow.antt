@@ -11,18 +11,18 @@ use Rattle.vol_view.specs.Volumes.{Loaded}
 use Rattle.vol_view.specs.declared.volume.View.{View}
 use Rattle.view_rules.specs.Rules.{view_facts}
 use Rattle.tree_export.specs.Exported.{exported}
-use Rattle.apfs_cli.specs.ByCommand.{from_of, takes_folder, lead_of, AreItems, RestsOn}
-use Rattle.apfs_cli.specs.Commands.Export as export
-use Rattle.apfs_cli.specs.Handed.{Looked, Stored}
-use Rattle.apfs_cli.specs.Outcome.{Outcome, Written, Faulty, WrongWords, ReadFailed, WriteFailed, OutOfMemory, Refused, Answered, NoImage, NoFolder, status_of, text_of}
+use Rattle.cmd_texts.specs.ByCommand.{from_of, takes_folder, lead_of, AreItems, RestsOn}
+use Rattle.cmd_texts.specs.Commands.Export as export
+use Rattle.cmd_texts.specs.Handed.{Looked, Stored}
+use Rattle.cmd_lines.specs.Outcome.{Outcome, Written, Faulty, WrongWords, ReadFailed, WriteFailed, OutOfMemory, Refused, Answered, NoImage, NoFolder, status_of, text_of}
 use Rattle.apfs_cli.specs.Rows.{IsAsked, HasDefinedItems, HasMore, HasFrontMore, IsFilledWith, HasSafeMore, BothWrote}
-use Rattle.apfs_cli.specs.Texts.{IsPrefix}
-use Rattle.apfs_cli.specs.Says.{AreFrontIf, AreItemsBy, FillsBy, FillsOn, IsSame, IsSource, StopsTable, PutFailed, IsUntouched, Ran, Says, CameTo, wrong_words, no_image, no_folder, no_part, ran, no_memory}
-use Rattle.apfs_cli.specs.Words.{Asked, Line, Ring, Info, Volumes, Space, Check, Snapshots, Usage, Ls, Tree, Cat, Xattr, Export, Gen, Format}
-use Rattle.apfs_cli.specs.Written.{Sunk}
-use Rattle.apfs_cli.proofs.Fillings.{none_safe}
+use Rattle.cmd_lines.specs.Texts.{IsPrefix}
+use Rattle.cmd_texts.specs.Says.{AreFrontIf, AreItemsBy, FillsBy, FillsOn, IsSame, IsSource, StopsTable, PutFailed, IsUntouched, Ran, Says, CameTo, wrong_words, no_image, no_folder, no_part, ran, no_memory}
+use Rattle.cmd_lines.specs.Words.{Asked, Line, Ring, Info, Volumes, Space, Check, Snapshots, Usage, Ls, Tree, Cat, Xattr, Export, Gen, Format}
+use Rattle.cmd_lines.specs.Written.{Sunk}
+use Rattle.cmd_texts.proofs.Fillings.{none_safe}
 use Rattle.apfs_cli.proofs.Statuses.{row, command_ran, part_filled, fills_none, given_source, one_line}
-use Rattle.apfs_cli.proofs.Views.{same_view}
+use Rattle.cmd_texts.proofs.Views.{same_view}
 
 -- ---- the items of a command
 

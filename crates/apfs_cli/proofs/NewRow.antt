@@ -5,17 +5,17 @@ use Rattle.std.proofs.lemmas.List.{append-nil}
 use Rattle.apfs_model.specs.Sink.{Wrote, WrotePart}
 use Rattle.img_format.specs.declared.spec.Spec.{Spec}
 use Rattle.img_format.specs.Fresh.{fresh}
-use Rattle.apfs_cli.specs.declared.named.Named.{Named}
-use Rattle.apfs_cli.specs.declared.named.Named.TheVariants.{InContainer, InUsage, InExport, NoTable, BadTable, NoPartition, PartOutside}
-use Rattle.apfs_cli.specs.ByCommand.{IsNamed}
-use Rattle.apfs_cli.specs.Handed.{Looked, made, Stored}
-use Rattle.apfs_cli.specs.Outcome.{Outcome, Written, Faulty, WrongWords, ReadFailed, WriteFailed, OutOfMemory, Refused, Answered, NoImage, NoFolder, status_of, text_of}
+use Rattle.cmd_lines.specs.declared.named.Named.{Named}
+use Rattle.cmd_lines.specs.declared.named.Named.TheVariants.{InContainer, InUsage, InExport, NoTable, BadTable, NoPartition, PartOutside}
+use Rattle.cmd_texts.specs.ByCommand.{IsNamed}
+use Rattle.cmd_texts.specs.Handed.{Looked, made, Stored}
+use Rattle.cmd_lines.specs.Outcome.{Outcome, Written, Faulty, WrongWords, ReadFailed, WriteFailed, OutOfMemory, Refused, Answered, NoImage, NoFolder, status_of, text_of}
 use Rattle.apfs_cli.specs.Rows.{IsNewOrFree}
-use Rattle.apfs_cli.specs.Says.{IsPart, SaysOn, LacksImage, LacksFolder, IsSource, PutFailed, Ran, Says, CameTo, wrong_words, no_image, no_folder, no_part, ran, no_memory}
-use Rattle.apfs_cli.specs.Texts.{IsPrefix}
-use Rattle.apfs_cli.specs.Words.{Line, plain_line, Format}
-use Rattle.apfs_cli.specs.Written.{Sunk, Ends}
-use Rattle.apfs_cli.proofs.ByAnswers.{for_answer}
+use Rattle.cmd_texts.specs.Says.{IsPart, SaysOn, LacksImage, LacksFolder, IsSource, PutFailed, Ran, Says, CameTo, wrong_words, no_image, no_folder, no_part, ran, no_memory}
+use Rattle.cmd_lines.specs.Texts.{IsPrefix}
+use Rattle.cmd_lines.specs.Words.{Line, plain_line, Format}
+use Rattle.cmd_lines.specs.Written.{Sunk, Ends}
+use Rattle.cmd_texts.proofs.ByAnswers.{for_answer}
 use Rattle.apfs_cli.proofs.Statuses.{made_sure, no_line, one_line}
 
 -- ---- the outcome

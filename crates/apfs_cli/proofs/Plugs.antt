@@ -11,24 +11,24 @@ use Rattle.img_gpt.specs.Laws.{IsTableStop}
 use Rattle.img_gpt.specs.declared.part.GptStop.{GptStop}
 use Rattle.img_gpt.specs.declared.part.GptStop.TheVariants as gpt
 use Rattle.img_gpt.specs.declared.part.Part.{Part}
-use Rattle.apfs_cli.specs.declared.named.Named.TheVariants.{NoTable, BadTable, NoPartition, PartOutside}
-use Rattle.apfs_cli.specs.declared.stopped.Stopped.{Stopped}
-use Rattle.apfs_cli.specs.declared.stopped.Stopped.TheVariants as stops
-use Rattle.apfs_cli.specs.declared.words.Command.{Command}
-use Rattle.apfs_cli.specs.declared.words.Command.TheVariants as commands
-use Rattle.apfs_cli.specs.ByCommand.{From, HandedIn, Made, Nowhere, from_of, takes_folder, AreItems}
-use Rattle.apfs_cli.specs.Handed.{Looked, LookFailed, OfImage, part_looked, made, Stored, stored_in, IsGivenKept}
-use Rattle.apfs_cli.specs.Outcome.{Outcome, Written, Faulty, WrongWords, ReadFailed, WriteFailed, OutOfMemory, Refused, Answered, NoImage, NoFolder, text_of}
-use Rattle.apfs_cli.specs.Says.{AreItemsIf, AreItemsBy, FillsBy, FillsOn, IsSame, IsUntouched, LacksFrom, LacksStore, IsSourceFrom, IsSource, StopsTable, PutFailed, HasAll, Says, CameTo, wrong_words, no_image, no_folder, no_part, ran, no_memory}
-use Rattle.apfs_cli.specs.Ended.{HasEnded, HasEndedInto, HasMade, HasCome}
-use Rattle.apfs_cli.specs.Seen.{stopped_at_table}
-use Rattle.apfs_cli.specs.Stops.{outcome_of}
-use Rattle.apfs_cli.specs.Words.{Asked, Line, plain_line, Ring, Info, Volumes, Space, Check, Snapshots, Usage, Ls, Tree, Cat, Xattr, Export, Gen, Format}
-use Rattle.apfs_cli.specs.Lent.{partition_line, said}
-use Rattle.apfs_cli.specs.Written.{Sunk, Failed}
-use Rattle.apfs_cli.specs.Putting.{IsClosed}
-use Rattle.apfs_cli.proofs.Fillings.{says_more, none_more}
-use Rattle.apfs_cli.proofs.Puts.{wrote_nothing}
+use Rattle.cmd_lines.specs.declared.named.Named.TheVariants.{NoTable, BadTable, NoPartition, PartOutside}
+use Rattle.cmd_lines.specs.declared.stopped.Stopped.{Stopped}
+use Rattle.cmd_lines.specs.declared.stopped.Stopped.TheVariants as stops
+use Rattle.cmd_lines.specs.declared.words.Command.{Command}
+use Rattle.cmd_lines.specs.declared.words.Command.TheVariants as commands
+use Rattle.cmd_texts.specs.ByCommand.{From, HandedIn, Made, Nowhere, from_of, takes_folder, AreItems}
+use Rattle.cmd_texts.specs.Handed.{Looked, LookFailed, OfImage, part_looked, made, Stored, stored_in, IsGivenKept}
+use Rattle.cmd_lines.specs.Outcome.{Outcome, Written, Faulty, WrongWords, ReadFailed, WriteFailed, OutOfMemory, Refused, Answered, NoImage, NoFolder, text_of}
+use Rattle.cmd_texts.specs.Says.{AreItemsIf, AreItemsBy, FillsBy, FillsOn, IsSame, IsUntouched, LacksFrom, LacksStore, IsSourceFrom, IsSource, StopsTable, PutFailed, HasAll, Says, CameTo, wrong_words, no_image, no_folder, no_part, ran, no_memory}
+use Rattle.cmd_texts.specs.Ended.{HasEnded, HasEndedInto, HasMade, HasCome}
+use Rattle.cmd_texts.specs.Seen.{stopped_at_table}
+use Rattle.cmd_lines.specs.Stops.{outcome_of}
+use Rattle.cmd_lines.specs.Words.{Asked, Line, plain_line, Ring, Info, Volumes, Space, Check, Snapshots, Usage, Ls, Tree, Cat, Xattr, Export, Gen, Format}
+use Rattle.cmd_lines.specs.Lent.{partition_line, said}
+use Rattle.cmd_lines.specs.Written.{Sunk, Failed}
+use Rattle.cmd_lines.specs.Putting.{IsClosed}
+use Rattle.cmd_texts.proofs.Fillings.{says_more, none_more}
+use Rattle.cmd_lines.proofs.Puts.{wrote_nothing}
 use Rattle.apfs_cli.proofs.Statuses.{some_part}
 
 -- ---- a command that takes no folder

@@ -44,23 +44,23 @@ use Rattle.apfs_check.proofs.Loaded.{right-sound}
 use Rattle.apfs_check.proofs.Stopped.{view-stops}
 use Rattle.apfs_check.proofs.There.{ring-there, ring-feature, sweep-there, feature-there}
 use Rattle.apfs_check.proofs.VolumesThere.{heads-there, load-there, heads-feature, load-feature}
-use Rattle.apfs_cli.specs.ByCommand.{IsFault, IsFeature, profile_in, profile_of}
-use Rattle.apfs_cli.specs.Checkpoints.{IsCheckpointFault, IsCheckpointFeature, IsVolumesFault, IsVolumesFeature}
-use Rattle.apfs_cli.specs.Commands.Ring as ring
-use Rattle.apfs_cli.specs.Commands.Volumes as volumes
-use Rattle.apfs_cli.specs.Commands.Space as space
-use Rattle.apfs_cli.specs.Commands.Ls as ls
-use Rattle.apfs_cli.specs.Commands.Tree as tree
-use Rattle.apfs_cli.specs.Commands.Cat as cat
-use Rattle.apfs_cli.specs.Commands.Xattr as xattr
-use Rattle.apfs_cli.specs.First.{FaultBy, FeatureBy, PresentBy}
-use Rattle.apfs_cli.specs.Meant.{IsMeant, IsVolumeFault, IsVolumeFeature, IsMeantFault, IsMeantFeature}
-use Rattle.apfs_cli.specs.MeantView.{view_of, IsMeantView}
-use Rattle.apfs_cli.specs.OnView.{IsViewFault, IsNodeFeature, IsFaultOn, IsFeatureOn}
-use Rattle.apfs_cli.specs.Words.{Asked, Ring, Info, Volumes, Space, Check, Snapshots, Usage, Ls, Tree, Cat, Xattr, Export, Gen, Format}
-use Rattle.apfs_cli.specs.declared.words.Checks.{Checks}
-use Rattle.apfs_cli.specs.declared.words.Checks.TheVariants.{Quick, First}
-use Rattle.apfs_cli.proofs.Ways.{in_heads}
+use Rattle.cmd_texts.specs.ByCommand.{IsFault, IsFeature, profile_in, profile_of}
+use Rattle.cmd_texts.specs.Checkpoints.{IsCheckpointFault, IsCheckpointFeature, IsVolumesFault, IsVolumesFeature}
+use Rattle.cmd_texts.specs.Commands.Ring as ring
+use Rattle.cmd_texts.specs.Commands.Volumes as volumes
+use Rattle.cmd_texts.specs.Commands.Space as space
+use Rattle.cmd_texts.specs.Commands.Ls as ls
+use Rattle.cmd_texts.specs.Commands.Tree as tree
+use Rattle.cmd_texts.specs.Commands.Cat as cat
+use Rattle.cmd_texts.specs.Commands.Xattr as xattr
+use Rattle.cmd_texts.specs.First.{FaultBy, FeatureBy, PresentBy}
+use Rattle.cmd_texts.specs.Meant.{IsMeant, IsVolumeFault, IsVolumeFeature, IsMeantFault, IsMeantFeature}
+use Rattle.cmd_texts.specs.MeantView.{view_of, IsMeantView}
+use Rattle.cmd_texts.specs.OnView.{IsViewFault, IsNodeFeature, IsFaultOn, IsFeatureOn}
+use Rattle.cmd_lines.specs.Words.{Asked, Ring, Info, Volumes, Space, Check, Snapshots, Usage, Ls, Tree, Cat, Xattr, Export, Gen, Format}
+use Rattle.cmd_lines.specs.declared.words.Checks.{Checks}
+use Rattle.cmd_lines.specs.declared.words.Checks.TheVariants.{Quick, First}
+use Rattle.cmd_texts.proofs.Ways.{in_heads}
 
 -- a fault that is the same as one that is there
 there_as : (profile : Profile) (image : List ℕ) (fault other : Fault) → fault ≡ other → IsPresent profile image other → IsPresent profile image fault

@@ -13,20 +13,20 @@ use Rattle.img_gpt.proofs.Exactly.{found_not_faulty}
 use Rattle.view_rules.specs.declared.profile.Profile.{Profile}
 use Rattle.apfs_check.specs.WellFormed.{IsWellFormed}
 use Rattle.path_walk.specs.declared.answer.Answer.{Answer}
-use Rattle.apfs_cli.proofs.ByAnswers.{for_answer}
-use Rattle.apfs_cli.specs.Texts.{IsPrefix}
-use Rattle.apfs_cli.specs.Written.{Sunk, Failed, Ends}
+use Rattle.cmd_texts.proofs.ByAnswers.{for_answer}
+use Rattle.cmd_lines.specs.Texts.{IsPrefix}
+use Rattle.cmd_lines.specs.Written.{Sunk, Failed, Ends}
 use Rattle.apfs_check.proofs.Numbers.{reported}
-use Rattle.apfs_cli.specs.ReportText.{report_text}
-use Rattle.apfs_cli.specs.Words.{Asked, Line, plain_line, Ring, Info, Volumes, Space, Check, Snapshots, Usage, Ls, Tree, Cat, Xattr, Export, Gen, Format}
-use Rattle.apfs_cli.specs.Handed.{Looked, LookFailed, OfImage, made, Stored, StoreFailed}
-use Rattle.apfs_cli.specs.Outcome.{Outcome, Written, Faulty, WrongWords, ReadFailed, WriteFailed, OutOfMemory, Refused, Answered, NoImage, NoFolder, status_of, text_of}
-use Rattle.apfs_cli.specs.ByCommand.{From, HandedIn, Made, Nowhere, from_of, takes_folder, lead_of, IsText, IsNamed, IsAnswer, RestsOn, HasResult, profile_of}
-use Rattle.apfs_cli.specs.Says.{SaysOn, Fills, FillsBy, FillsOn, AreItemsIf, AreItemsBy, IsSame, IsUntouched, LacksImage, LacksFolder, IsSourceFrom, IsSource, IsTableFault, StopsTable, PutFailed, Ran, HasNoImage, HasNoFolder, HasNoPart, Says, CameTo, wrong_words, no_image, no_folder, no_part, ran, no_memory}
+use Rattle.cmd_lines.specs.ReportText.{report_text}
+use Rattle.cmd_lines.specs.Words.{Asked, Line, plain_line, Ring, Info, Volumes, Space, Check, Snapshots, Usage, Ls, Tree, Cat, Xattr, Export, Gen, Format}
+use Rattle.cmd_texts.specs.Handed.{Looked, LookFailed, OfImage, made, Stored, StoreFailed}
+use Rattle.cmd_lines.specs.Outcome.{Outcome, Written, Faulty, WrongWords, ReadFailed, WriteFailed, OutOfMemory, Refused, Answered, NoImage, NoFolder, status_of, text_of}
+use Rattle.cmd_texts.specs.ByCommand.{From, HandedIn, Made, Nowhere, from_of, takes_folder, lead_of, IsText, IsNamed, IsAnswer, RestsOn, HasResult, profile_of}
+use Rattle.cmd_texts.specs.Says.{SaysOn, Fills, FillsBy, FillsOn, AreItemsIf, AreItemsBy, IsSame, IsUntouched, LacksImage, LacksFolder, IsSourceFrom, IsSource, IsTableFault, StopsTable, PutFailed, Ran, HasNoImage, HasNoFolder, HasNoPart, Says, CameTo, wrong_words, no_image, no_folder, no_part, ran, no_memory}
 use Rattle.apfs_cli.specs.Rows.{BothWrote, HasText, RanOrNoPart, IsPresentIn, RanNaming, RanRefusing, NamesFault, NamesFeature, NamesAnswer, SaysReadFailed, IsSomePart, SaysOutOfMemory, HasFailedPut, IsGivenFrom, IsGiven, IsAsked, HasDefinedText, HasDefinedAnswer, HasSound, HasUnsound, HasTableFault, IsExactly, IsOrFree, IsCleanOrFree, IsFoundOrFree, HandedFailed, IsUndisturbed, IsCompleted, lead_in, IsRefusal, IsTurnedAway, AsksFolder, IsUntold, MayFill}
-use Rattle.apfs_cli.specs.declared.named.Named.{Named}
-use Rattle.apfs_cli.specs.declared.named.Named.TheVariants.{InContainer, InUsage, InExport, NoTable, BadTable, NoPartition, PartOutside}
-use Rattle.apfs_cli.proofs.Fillings.{none_more}
+use Rattle.cmd_lines.specs.declared.named.Named.{Named}
+use Rattle.cmd_lines.specs.declared.named.Named.TheVariants.{InContainer, InUsage, InExport, NoTable, BadTable, NoPartition, PartOutside}
+use Rattle.cmd_texts.proofs.Fillings.{none_more}
 use Rattle.apfs_cli.proofs.Owed.{IsOwed, owed}
 use Rattle.apfs_cli.proofs.Present.{fault_there, feature_there}
 

@@ -11,16 +11,16 @@ use Rattle.blk_folder.specs.Put.{Filled, FilledPart}
 use Rattle.tree_export.specs.Safe.{AreSafe}
 use Rattle.apfs_check.specs.Present as container
 use Rattle.apfs_check.specs.WellFormed.{IsWellFormed}
-use Rattle.apfs_cli.specs.First.{PresentBy}
+use Rattle.cmd_texts.specs.First.{PresentBy}
 use Rattle.path_walk.specs.declared.answer.Answer.{Answer}
-use Rattle.apfs_cli.specs.Written.{Sunk, Failed}
-use Rattle.apfs_cli.specs.Words.{Asked, Line}
-use Rattle.apfs_cli.specs.Handed.{Looked, LookFailed, OfImage, Stored, StoreFailed}
-use Rattle.apfs_cli.specs.Outcome.{Outcome, text_of, line_of, Written, Faulty, ReadFailed, OutOfMemory, Refused, Answered}
-use Rattle.apfs_cli.specs.ByCommand.{From, HandedIn, Made, Nowhere, from_of, takes_folder, lead_of, IsText, IsAnswer, AreItems, IsUncounted, IsUnexported, profile_of}
-use Rattle.apfs_cli.specs.Says.{HasAll, IsTableFault, IsUntouched, PutFailed, Ran, HasNoPart}
-use Rattle.apfs_cli.specs.declared.named.Named.{Named}
-use Rattle.apfs_cli.specs.declared.named.Named.TheVariants.{InContainer, InUsage, InExport}
+use Rattle.cmd_lines.specs.Written.{Sunk, Failed}
+use Rattle.cmd_lines.specs.Words.{Asked, Line}
+use Rattle.cmd_texts.specs.Handed.{Looked, LookFailed, OfImage, Stored, StoreFailed}
+use Rattle.cmd_lines.specs.Outcome.{Outcome, text_of, line_of, Written, Faulty, ReadFailed, OutOfMemory, Refused, Answered}
+use Rattle.cmd_texts.specs.ByCommand.{From, HandedIn, Made, Nowhere, from_of, takes_folder, lead_of, IsText, IsAnswer, AreItems, IsUncounted, IsUnexported, profile_of}
+use Rattle.cmd_texts.specs.Says.{HasAll, IsTableFault, IsUntouched, PutFailed, Ran, HasNoPart}
+use Rattle.cmd_lines.specs.declared.named.Named.{Named}
+use Rattle.cmd_lines.specs.declared.named.Named.TheVariants.{InContainer, InUsage, InExport}
 
 -- both sinks have all of an outcome more than before
 abbrev pub BothWrote : Sunk → Sunk → Outcome → Type 0

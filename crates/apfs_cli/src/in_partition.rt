@@ -2,19 +2,17 @@
 ghost use Rattle.std.specs.Prelude.{◌≡◌, ◌+◌, ◌≤◌, None, Some};
 ghost use Rattle.apfs_model.specs.Kept.{IsKept};
 ghost use Rattle.cmd_words.specs.Lent.{target_asked};
-ghost use Rattle.apfs_cli.specs.Handed.{looked, part_looked, stored};
-ghost use Rattle.apfs_cli.specs.Ended.{HasEnded, HasEndedInto, HasCome};
-ghost use Rattle.apfs_cli.specs.Seen.{stopped_at_table};
-ghost use Rattle.apfs_cli.specs.Words.{Export, line_in};
-ghost use Rattle.apfs_cli.specs.Lent.{partition_line, said};
-ghost use Rattle.apfs_cli.specs.Written.{sunk};
+ghost use Rattle.cmd_texts.specs.Handed.{looked, part_looked, stored};
+ghost use Rattle.cmd_texts.specs.Ended.{HasEnded, HasEndedInto, HasCome};
+ghost use Rattle.cmd_texts.specs.Seen.{stopped_at_table};
+ghost use Rattle.cmd_lines.specs.Words.{Export, line_in};
+ghost use Rattle.cmd_lines.specs.Lent.{partition_line, said};
+ghost use Rattle.cmd_lines.specs.Written.{sunk};
 
-use crate::named::Named;
 use crate::over_cache::{fill_cached, on_cache};
-use crate::stopped::Stopped;
-use crate::words::Command;
 use blk_folder::Folder;
 use blk_source::{BlockSource, Sink};
+use cmd_lines::{Command, Named, Stopped};
 use cmd_words::Target;
 use img_gpt::{GptStop, Origin, Part, Slice, find_part};
 use std::alloc::Global;

@@ -12,11 +12,12 @@ mod hostile;
 mod images;
 mod uses;
 
-use apfs_cli::{Line, gen_report, put_lines, report, run};
+use apfs_cli::{gen_report, report, run};
 use blk_folder::{Given, MemFolder};
 use blk_source::{BlockSource, MemSink, MemSource, Opened, StdSink};
 use cases::*;
 use checks::{CHECK, CHECK_CASES, FIRST_CASES, LEAKED, MARKED, NINE_VIEWS, SMALL_REPORT};
+use cmd_lines::{Line, put_lines};
 use contents::*;
 use disks::DISK_CASES;
 use exports::{EXPORT_CASES, told};

@@ -12,16 +12,16 @@ use Rattle.apfs_check.proofs.Numbers.{one_report}
 use Rattle.fresh_law.specs.Report.{fresh_report}
 use Rattle.fresh_law.proofs.Law.{fresh-holds}
 use Rattle.fresh_law.proofs.Report.{fresh-reported}
-use Rattle.apfs_cli.specs.Commands.Check as check
-use Rattle.apfs_cli.specs.Handed.{Looked}
-use Rattle.apfs_cli.specs.Outcome.{Written}
-use Rattle.apfs_cli.specs.ReportText.{report_text}
+use Rattle.cmd_texts.specs.Commands.Check as check
+use Rattle.cmd_texts.specs.Handed.{Looked}
+use Rattle.cmd_lines.specs.Outcome.{Written}
+use Rattle.cmd_lines.specs.ReportText.{report_text}
 use Rattle.apfs_cli.specs.Rows.{BothWrote, HasText, IsAsked}
-use Rattle.apfs_cli.specs.Says.{IsSource, IsWhole, Ran}
-use Rattle.apfs_cli.specs.Words.{Line, Check, plain_line, asked_of}
-use Rattle.apfs_cli.specs.Written.{Sunk}
+use Rattle.cmd_texts.specs.Says.{IsSource, IsWhole, Ran}
+use Rattle.cmd_lines.specs.Words.{Line, Check, plain_line, asked_of}
+use Rattle.cmd_lines.specs.Written.{Sunk}
 use Rattle.apfs_cli.proofs.NewRow.{new_row}
-use Rattle.apfs_cli.proofs.Orders.{format_valid}
+use Rattle.cmd_lines.proofs.Orders.{format_valid}
 use Rattle.apfs_cli.proofs.Statuses.{one_line, text_row, whole_row}
 use Rattle.fresh_checked.specs.Law.{IsFormatted, IsCheckOf, IsReportOrFree, FormattedIsClean}
 

@@ -4,13 +4,13 @@ use Rattle.img_format.specs.declared.spec.Spec.{Spec}
 use Rattle.view_rules.specs.declared.profile.Profile.{Profile}
 use Rattle.apfs_check.specs.Report.{Told}
 use Rattle.fresh_law.specs.Report.{fresh_report}
-use Rattle.apfs_cli.specs.Words.{Check, Format, plain_line, asked_of}
-use Rattle.apfs_cli.specs.Handed.{Looked, Stored}
-use Rattle.apfs_cli.specs.Outcome.{Written}
-use Rattle.apfs_cli.specs.ReportText.{report_text}
+use Rattle.cmd_lines.specs.Words.{Check, Format, plain_line, asked_of}
+use Rattle.cmd_texts.specs.Handed.{Looked, Stored}
+use Rattle.cmd_lines.specs.Outcome.{Written}
+use Rattle.cmd_lines.specs.ReportText.{report_text}
 use Rattle.apfs_cli.specs.Rows.{BothWrote}
-use Rattle.apfs_cli.specs.Says.{CameTo}
-use Rattle.apfs_cli.specs.Written.{Sunk}
+use Rattle.cmd_texts.specs.Says.{CameTo}
+use Rattle.cmd_lines.specs.Written.{Sunk}
 
 -- the image that a run of `format` wrote: it ended with 0, and all that the first sink has was written by it
 pub record IsFormatted (spec : Spec) (image : List ℕ) : Type 0 where

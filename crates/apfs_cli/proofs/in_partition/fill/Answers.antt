@@ -1,9 +1,9 @@
 -- What the command came to over the image, or over its partition.
 use Rattle.std.proofs.Common.{refl}
 use Rattle.cmd_words.specs.Lent.{target_asked}
-use Rattle.apfs_cli.specs.Handed.{looked, stored}
-use Rattle.apfs_cli.specs.Words.{Export}
-use Rattle.apfs_cli.specs.Written.{sunk}
+use Rattle.cmd_texts.specs.Handed.{looked, stored}
+use Rattle.cmd_lines.specs.Words.{Export}
+use Rattle.cmd_lines.specs.Written.{sunk}
 use Rattle.apfs_cli.proofs.Plugs.{come_into}
 use Rattle.apfs_cli.proofs.in_partition.fill.Goals as goal
 

@@ -4,12 +4,12 @@ use Rattle.std.specs.Prelude.{Err}
 use Rattle.cmd_words.specs.Lent.{target_asked}
 use Rattle.img_gpt.specs.declared.part.GptStop.{GptStop}
 use Rattle.img_gpt.specs.declared.part.GptStop.TheVariants.{ReadFault}
-use Rattle.apfs_cli.specs.Handed.{looked, part_looked, stored}
-use Rattle.apfs_cli.specs.Words.{Export}
-use Rattle.apfs_cli.specs.Written.{sunk}
-use Rattle.apfs_cli.proofs.Fillings.{into_same, kept_store}
+use Rattle.cmd_texts.specs.Handed.{looked, part_looked, stored}
+use Rattle.cmd_lines.specs.Words.{Export}
+use Rattle.cmd_lines.specs.Written.{sunk}
+use Rattle.cmd_texts.proofs.Fillings.{into_same, kept_store}
 use Rattle.apfs_cli.proofs.Plugs.{come_part_into, come_without_into}
-use Rattle.apfs_cli.proofs.Puts.{rose_later}
+use Rattle.cmd_lines.proofs.Puts.{rose_later}
 use Rattle.apfs_cli.proofs.in_partition.fill_partition.Goals as goal
 
 pub returns-in-Ok-clause-answer : goal.returns-in-Ok-clause-answer

@@ -4,10 +4,10 @@ use Rattle.apfs_model.specs.Counts.{Rose}
 use Rattle.img_gpt.specs.Slices.{sliced}
 use Rattle.img_gpt.specs.declared.slice.Slice.{Slice}
 use Rattle.cmd_words.specs.Lent.{target_asked}
-use Rattle.apfs_cli.specs.Handed.{Looked, LookFailed, looked, part_looked, stored}
-use Rattle.apfs_cli.specs.Words.{Export}
-use Rattle.apfs_cli.specs.Written.{sunk}
-use Rattle.apfs_cli.proofs.Fillings.{into_same}
+use Rattle.cmd_texts.specs.Handed.{Looked, LookFailed, looked, part_looked, stored}
+use Rattle.cmd_lines.specs.Words.{Export}
+use Rattle.cmd_lines.specs.Written.{sunk}
+use Rattle.cmd_texts.proofs.Fillings.{into_same}
 use Rattle.apfs_cli.proofs.in_partition.fill_slice.Goals as goal
 
 pub returns-clause-answer : goal.returns-clause-answer

@@ -1,9 +1,9 @@
 -- What a command came to over the image, or over its partition.
-use Rattle.apfs_cli.specs.Handed.{looked}
-use Rattle.apfs_cli.specs.Lent.{said}
-use Rattle.apfs_cli.specs.Written.{sunk}
+use Rattle.cmd_texts.specs.Handed.{looked}
+use Rattle.cmd_lines.specs.Lent.{said}
+use Rattle.cmd_lines.specs.Written.{sunk}
 use Rattle.apfs_cli.proofs.Plugs.{come_plain, none_taken}
-use Rattle.apfs_cli.proofs.HandedIn.{handed_in}
+use Rattle.cmd_texts.proofs.HandedIn.{handed_in}
 use Rattle.apfs_cli.proofs.in_partition.on_order.Goals as goal
 
 pub returns-else-in_partition-clause-answer : goal.returns-else-in_partition-clause-answer

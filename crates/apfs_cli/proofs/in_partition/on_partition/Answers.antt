@@ -3,13 +3,13 @@ use Rattle.std.proofs.Common.{◌≡◌, ◌≤◌, ap}
 use Rattle.std.specs.Prelude.{Err}
 use Rattle.img_gpt.specs.declared.part.GptStop.{GptStop}
 use Rattle.img_gpt.specs.declared.part.GptStop.TheVariants.{ReadFault}
-use Rattle.apfs_cli.specs.Handed.{looked, part_looked}
-use Rattle.apfs_cli.specs.Lent.{said}
-use Rattle.apfs_cli.specs.Written.{sunk}
-use Rattle.apfs_cli.proofs.Endings.{ended_same}
+use Rattle.cmd_texts.specs.Handed.{looked, part_looked}
+use Rattle.cmd_lines.specs.Lent.{said}
+use Rattle.cmd_lines.specs.Written.{sunk}
+use Rattle.cmd_texts.proofs.Endings.{ended_same}
 use Rattle.apfs_cli.proofs.Plugs.{come_part, come_without, none_taken}
-use Rattle.apfs_cli.proofs.HandedIn.{handed_in}
-use Rattle.apfs_cli.proofs.Puts.{rose_later}
+use Rattle.cmd_texts.proofs.HandedIn.{handed_in}
+use Rattle.cmd_lines.proofs.Puts.{rose_later}
 use Rattle.apfs_cli.proofs.in_partition.on_partition.Goals as goal
 
 pub returns-in-Ok-clause-answer : goal.returns-in-Ok-clause-answer

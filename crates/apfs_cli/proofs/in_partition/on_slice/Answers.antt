@@ -3,10 +3,10 @@ use Rattle.std.proofs.Common.{◌≡◌, ◌∙◌, ℕ, List, Option, ap, subst
 use Rattle.apfs_model.specs.Counts.{Rose}
 use Rattle.img_gpt.specs.Slices.{sliced}
 use Rattle.img_gpt.specs.declared.slice.Slice.{Slice}
-use Rattle.apfs_cli.specs.Handed.{Looked, LookFailed, looked, part_looked}
-use Rattle.apfs_cli.specs.Lent.{said}
-use Rattle.apfs_cli.specs.Written.{sunk}
-use Rattle.apfs_cli.proofs.Endings.{ended_same}
+use Rattle.cmd_texts.specs.Handed.{Looked, LookFailed, looked, part_looked}
+use Rattle.cmd_lines.specs.Lent.{said}
+use Rattle.cmd_lines.specs.Written.{sunk}
+use Rattle.cmd_texts.proofs.Endings.{ended_same}
 use Rattle.apfs_cli.proofs.in_partition.on_slice.Goals as goal
 
 pub returns-clause-answer : goal.returns-clause-answer

@@ -3,13 +3,13 @@ use Rattle.std.proofs.Common.{◌≡◌, ◌∙◌, ◌≤◌, ap}
 use Rattle.apfs_model.specs.Counts.{Rose}
 use Rattle.blk_cache.specs.declared.cached.Cached.{Cached}
 use Rattle.cmd_words.specs.Lent.{target_asked}
-use Rattle.apfs_cli.specs.Handed.{looked, stored}
-use Rattle.apfs_cli.specs.Words.{Export}
-use Rattle.apfs_cli.specs.Written.{sunk}
-use Rattle.apfs_cli.specs.declared.stopped.Stopped.TheVariants.{ReadFailed, OutOfMemory}
-use Rattle.apfs_cli.proofs.Endings.{read_ended, no_memory_ended}
-use Rattle.apfs_cli.proofs.Fillings.{into_same, kept_store, unfilled}
-use Rattle.apfs_cli.proofs.Puts.{rose_later}
+use Rattle.cmd_texts.specs.Handed.{looked, stored}
+use Rattle.cmd_lines.specs.Words.{Export}
+use Rattle.cmd_lines.specs.Written.{sunk}
+use Rattle.cmd_lines.specs.declared.stopped.Stopped.TheVariants.{ReadFailed, OutOfMemory}
+use Rattle.cmd_texts.proofs.Endings.{read_ended, no_memory_ended}
+use Rattle.cmd_texts.proofs.Fillings.{into_same, kept_store, unfilled}
+use Rattle.cmd_lines.proofs.Puts.{rose_later}
 use Rattle.apfs_cli.proofs.over_cache.fill_cached.Goals as goal
 
 pub returns-in-Ok-new-clause-answer : goal.returns-in-Ok-new-clause-answer

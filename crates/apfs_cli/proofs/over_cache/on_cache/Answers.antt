@@ -2,11 +2,11 @@
 use Rattle.std.proofs.Common.{◌≡◌, ◌∙◌, ◌≤◌, ap}
 use Rattle.apfs_model.specs.Counts.{Rose}
 use Rattle.blk_cache.specs.declared.cached.Cached.{Cached}
-use Rattle.apfs_cli.specs.Handed.{looked}
-use Rattle.apfs_cli.specs.Lent.{said}
-use Rattle.apfs_cli.specs.Written.{sunk}
-use Rattle.apfs_cli.proofs.Endings.{ended_same, read_ended, no_memory_ended}
-use Rattle.apfs_cli.proofs.Puts.{rose_later}
+use Rattle.cmd_texts.specs.Handed.{looked}
+use Rattle.cmd_lines.specs.Lent.{said}
+use Rattle.cmd_lines.specs.Written.{sunk}
+use Rattle.cmd_texts.proofs.Endings.{ended_same, read_ended, no_memory_ended}
+use Rattle.cmd_lines.proofs.Puts.{rose_later}
 use Rattle.apfs_cli.proofs.over_cache.on_cache.Goals as goal
 
 pub returns-in-Ok-new-clause-answer : goal.returns-in-Ok-new-clause-answer

@@ -1,11 +1,11 @@
 -- Where the text was written nothing is said.
 use Rattle.std.specs.Prelude.{Result}
 use Rattle.std.proofs.Common.{inl, refl, sym, subst}
-use Rattle.apfs_cli.specs.Stops.{outcome_of}
-use Rattle.apfs_cli.specs.Written.{sunk}
-use Rattle.apfs_cli.specs.Putting.{IsClosed}
-use Rattle.apfs_cli.specs.declared.stopped.Stopped.{Stopped}
-use Rattle.apfs_cli.proofs.Puts.{wrote_nothing}
+use Rattle.cmd_lines.specs.Stops.{outcome_of}
+use Rattle.cmd_lines.specs.Written.{sunk}
+use Rattle.cmd_lines.specs.Putting.{IsClosed}
+use Rattle.cmd_lines.specs.declared.stopped.Stopped.{Stopped}
+use Rattle.cmd_lines.proofs.Puts.{wrote_nothing}
 use Rattle.apfs_cli.proofs.program.close.Goals as goal
 
 pub returns-in-Ok : goal.returns-in-Ok

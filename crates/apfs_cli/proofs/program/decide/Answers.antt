@@ -3,11 +3,11 @@ use Rattle.std.proofs.Common.{◌≡◌, ◌∙◌, ap, sym, refl}
 use Rattle.std.specs.Prelude.{map, option_map, None, Some}
 use Rattle.std.specs.String.{string_bytes}
 use Rattle.cmd_words.specs.Lent.{target_asked}
-use Rattle.apfs_cli.specs.Handed.{looked_at, stored_in}
-use Rattle.apfs_cli.specs.Words.{Export, Format, Gen, asked_of, line_in, plain_line}
-use Rattle.apfs_cli.specs.Lent.{line_said, said, spec_of}
-use Rattle.apfs_cli.specs.Written.{sunk}
-use Rattle.apfs_cli.proofs.Orders.{format_valid, gen_few}
+use Rattle.cmd_texts.specs.Handed.{looked_at, stored_in}
+use Rattle.cmd_lines.specs.Words.{Export, Format, Gen, asked_of, line_in, plain_line}
+use Rattle.cmd_lines.specs.Lent.{line_said, said, spec_of}
+use Rattle.cmd_lines.specs.Written.{sunk}
+use Rattle.cmd_lines.proofs.Orders.{format_valid, gen_few}
 use Rattle.apfs_cli.proofs.Plugs.{come_no_memory, come_wrong, come_made, come_new, come_with, kept_folder, kept_given, none_taken}
 use Rattle.apfs_cli.proofs.program.decide.Goals as goal
 

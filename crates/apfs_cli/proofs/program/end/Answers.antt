@@ -1,9 +1,9 @@
 -- The outcome is what was decided, or that memory ran out where there was none for its line.
 use Rattle.std.specs.Prelude.{map}
 use Rattle.std.specs.String.{string_bytes}
-use Rattle.apfs_cli.specs.Handed.{looked_at, stored_in}
-use Rattle.apfs_cli.specs.Words.{asked_of}
-use Rattle.apfs_cli.specs.Written.{sunk}
+use Rattle.cmd_texts.specs.Handed.{looked_at, stored_in}
+use Rattle.cmd_lines.specs.Words.{asked_of}
+use Rattle.cmd_lines.specs.Written.{sunk}
 use Rattle.apfs_cli.proofs.Plugs.{came_to}
 use Rattle.apfs_cli.proofs.program.end.Goals as goal
 

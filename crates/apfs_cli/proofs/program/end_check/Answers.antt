@@ -1,8 +1,8 @@
 -- The outcome is what the check came to, or that memory ran out where there was none for its line.
 use Rattle.std.specs.Prelude.{Some, None, refl}
-use Rattle.apfs_cli.specs.Handed.{looked}
-use Rattle.apfs_cli.specs.Words.{Check, plain_line}
-use Rattle.apfs_cli.specs.Written.{sunk}
+use Rattle.cmd_texts.specs.Handed.{looked}
+use Rattle.cmd_lines.specs.Words.{Check, plain_line}
+use Rattle.cmd_lines.specs.Written.{sunk}
 use Rattle.apfs_cli.proofs.Plugs.{come_plain, came_to}
 use Rattle.apfs_cli.proofs.program.end_check.Goals as goal
 

@@ -1,8 +1,8 @@
 -- What the command came to over the source and the folder, or that there is no folder.
 use Rattle.std.proofs.Common.{refl}
 use Rattle.cmd_words.specs.Lent.{target_asked}
-use Rattle.apfs_cli.specs.Handed.{looked}
-use Rattle.apfs_cli.specs.Words.{Export, line_in}
+use Rattle.cmd_texts.specs.Handed.{looked}
+use Rattle.cmd_lines.specs.Words.{Export, line_in}
 use Rattle.apfs_cli.proofs.Plugs.{come_nowhere}
 use Rattle.apfs_cli.proofs.program.fill_given.Goals as goal
 

@@ -2,8 +2,8 @@
 use Rattle.std.proofs.Common.{◌≡◌, ◌∙◌, sym, refl}
 use Rattle.blk_source.specs.declared.source.Opened.TheVariants.{Absent, Image}
 use Rattle.cmd_words.specs.Lent.{target_asked}
-use Rattle.apfs_cli.specs.Handed.{stored_in}
-use Rattle.apfs_cli.specs.Words.{Export, line_in}
+use Rattle.cmd_texts.specs.Handed.{stored_in}
+use Rattle.cmd_lines.specs.Words.{Export, line_in}
 use Rattle.apfs_cli.proofs.Plugs.{come_absent, kept_folder, kept_given}
 use Rattle.apfs_cli.proofs.program.fill_opened.Goals as goal
 

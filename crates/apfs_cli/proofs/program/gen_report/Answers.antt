@@ -1,7 +1,7 @@
 -- The outcome over the image that was made, and its status.
 use Rattle.std.specs.Prelude.{option_map}
-use Rattle.apfs_cli.specs.Written.{sunk}
-use Rattle.apfs_cli.proofs.Led.{came_over, status_over}
+use Rattle.cmd_lines.specs.Written.{sunk}
+use Rattle.cmd_texts.proofs.Led.{came_over, status_over}
 use Rattle.apfs_cli.proofs.program.gen_report.Goals as goal
 
 pub returns-clause-answer : goal.returns-clause-answer

@@ -2,10 +2,10 @@
 use Rattle.std.proofs.Common.{◌≡◌, ◌∙◌, sym}
 use Rattle.std.specs.Prelude.{None}
 use Rattle.blk_source.specs.declared.source.Opened.TheVariants.{Absent, Image}
-use Rattle.apfs_cli.specs.Words.{line_in}
-use Rattle.apfs_cli.specs.Lent.{said}
+use Rattle.cmd_lines.specs.Words.{line_in}
+use Rattle.cmd_lines.specs.Lent.{said}
 use Rattle.apfs_cli.proofs.Plugs.{come_absent}
-use Rattle.apfs_cli.proofs.HandedIn.{handed_in}
+use Rattle.cmd_texts.proofs.HandedIn.{handed_in}
 use Rattle.apfs_cli.proofs.program.on_opened.Goals as goal
 
 pub returns-in-Absent-clause-answer : goal.returns-in-Absent-clause-answer

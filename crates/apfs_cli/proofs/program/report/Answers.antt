@@ -1,8 +1,8 @@
 -- Each status says what the outcome of that status says of the check.
 use Rattle.std.specs.Prelude.{Some, None}
-use Rattle.apfs_cli.specs.Handed.{looked}
-use Rattle.apfs_cli.specs.Words.{Check, plain_line}
-use Rattle.apfs_cli.specs.Written.{sunk}
+use Rattle.cmd_texts.specs.Handed.{looked}
+use Rattle.cmd_lines.specs.Words.{Check, plain_line}
+use Rattle.cmd_lines.specs.Written.{sunk}
 use Rattle.apfs_cli.proofs.Statuses.{text_row, fault_row, read_failed_row, write_failed_row, out_of_memory_row, feature_row, completed_row, lead_row, checked_whole, checked_flawed}
 use Rattle.apfs_cli.proofs.program.report.Goals as goal
 

@@ -1,9 +1,9 @@
 -- Each status says what the outcome of that status says.
 use Rattle.std.proofs.Common.{map}
 use Rattle.std.specs.String.{string_bytes}
-use Rattle.apfs_cli.specs.Handed.{looked_at, stored_in}
-use Rattle.apfs_cli.specs.Words.{asked_of}
-use Rattle.apfs_cli.specs.Written.{sunk}
+use Rattle.cmd_texts.specs.Handed.{looked_at, stored_in}
+use Rattle.cmd_lines.specs.Words.{asked_of}
+use Rattle.cmd_lines.specs.Written.{sunk}
 use Rattle.apfs_cli.proofs.Statuses.{text_row, whole_row, fault_row, wrong_words_row, usage_row, read_failed_row, write_failed_row, out_of_memory_row, feature_row, answered_row, always_answered_row, clean_row, flawed_row, completed_row, no_image_row, absent_row, no_folder_row, nowhere_row, no_part_row, lead_row, turned_away_row, folder_row}
 use Rattle.apfs_cli.proofs.NewRow.{new_row}
 use Rattle.apfs_cli.proofs.FilledRow.{filled_row, safe_row}

@@ -1,6 +1,0 @@
--- What stops the check is there.
-use Rattle.apfs_cli.proofs.Checked.{tells_flaw}
-use Rattle.apfs_cli.proofs.commands.checked.checked.Goals as goal
-
-pub returns-in-Err-clause-flaw : goal.returns-in-Err-clause-flaw
-returns-in-Err-clause-flaw g c image given = rw c.stopped_by.ensures (tells_flaw c.args.profile image c.in-Err.stop (c.in-Err.ensures.present image given))

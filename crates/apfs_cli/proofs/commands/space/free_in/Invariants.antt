@@ -1,6 +1,0 @@
-use Rattle.std.proofs.Common.{◌≡◌, ◌≤◌}
-use Rattle.apfs_cli.specs.Commands.Space.{free_in}
-use Rattle.apfs_cli.proofs.commands.space.free_in.Given as goal
-
-abbrev pub invariant-each : goal.invariant-each
-invariant-each l = record { counted : l.free ≡ free_in l.bits l.block; small : l.free ≤ l.block }

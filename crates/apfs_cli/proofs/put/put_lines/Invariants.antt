@@ -1,8 +1,0 @@
-use Rattle.std.proofs.Common.{take}
-use Rattle.std.specs.List.{flat_map}
-use Rattle.apfs_cli.specs.Written.{sunk}
-use Rattle.apfs_cli.proofs.Puts.{Gathers}
-use Rattle.apfs_cli.proofs.put.put_lines.Given as goal
-
-abbrev pub invariant-items : goal.invariant-items
-invariant-items g l = Gathers (flat_map g.T.Line.text (take l.item-index l.items)) l.waiting.items (sunk g.W.Sink.contents g.W.Sink.faults l.fn.out l.out)

@@ -1,0 +1,14 @@
+pub mod Words
+pub mod Lent
+pub mod Texts
+pub mod Names
+pub mod FaultTexts
+pub mod ReportText
+pub mod Unchecked
+pub mod Outcome
+pub mod Written
+pub mod Putting
+pub mod Stops
+pub use Rattle.apfs_model.specs.Counts
+pub use Rattle.apfs_model.specs.Source
+pub use Rattle.apfs_model.specs.Sink

@@ -1,0 +1,34 @@
+-- The command `cat`: the contents of a file in the view that is meant.
+use Rattle.std.specs.Prelude.{ℕ, List, Result}
+use Rattle.view_rules.specs.declared.fault.TreeFault.{TreeFault}
+use Rattle.cmd_words.specs.Asked.{AskedTarget}
+use Rattle.obj_base.specs.declared.stop.Feature.{Feature}
+use Rattle.view_rules.specs.Facts.{Facts}
+use Rattle.apfs_check.specs.declared.fault.Fault.{Fault}
+use Rattle.path_read.specs.Contents.{contents}
+use Rattle.path_walk.specs.declared.answer.Answer.{Answer}
+use Rattle.cmd_texts.specs.OnView.{IsTextOn, IsAnswerOn, IsFaultOn, IsFeatureOn}
+
+-- the contents, byte by byte, or the answer
+abbrev pub wanted : List ℕ → ℕ → List ℕ → Facts → Result (List ℕ) Answer
+wanted path block_size image facts = contents block_size image facts path
+
+-- nothing more is told of a fault of the view
+abbrev pub told : List ℕ → Facts → TreeFault → Type 0
+told path facts fault = Unit {0}
+
+-- the text
+abbrev pub IsText : AskedTarget → List ℕ → List ℕ → Type 0
+IsText target image text = IsTextOn (wanted target.path) target image text
+
+-- the answer
+abbrev pub IsAnswer : AskedTarget → List ℕ → Answer → Type 0
+IsAnswer target image answer = IsAnswerOn (wanted target.path) target image answer
+
+-- the fault that is named
+abbrev pub IsFault : AskedTarget → List ℕ → Fault → Type 0
+IsFault target image fault = IsFaultOn (told target.path) target image fault
+
+-- the feature that is refused
+abbrev pub IsFeature : AskedTarget → List ℕ → Feature → ℕ → Type 0
+IsFeature target image feature block = IsFeatureOn target image feature block

@@ -1,0 +1,16 @@
+pub mod Checkpoints
+pub mod Meant
+pub mod MeantView
+pub mod OnView
+pub mod Commands
+pub mod First
+pub mod ByCommand
+pub mod Formed
+pub mod Handed
+pub mod Seen
+pub mod Reached
+pub mod Says
+pub mod Ended
+pub use Rattle.apfs_model.specs.Counts
+pub use Rattle.apfs_model.specs.Source
+pub use Rattle.apfs_model.specs.Sink
