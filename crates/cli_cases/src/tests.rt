@@ -17,7 +17,7 @@ use blk_folder::{Given, MemFolder};
 use blk_source::{BlockSource, MemSink, MemSource, Opened, StdSink};
 use cases::*;
 use checks::{CHECK, CHECK_CASES, FIRST_CASES, LEAKED, MARKED, NINE_VIEWS, SMALL_REPORT};
-use cmd_lines::{Line, put_lines};
+use cmd_texts::{Line, put_lines};
 use contents::*;
 use disks::DISK_CASES;
 use exports::{EXPORT_CASES, told};

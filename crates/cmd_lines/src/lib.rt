@@ -1,18 +1,16 @@
-//! Orders, lines and statuses: what words ask for, and how a text, a fault, a feature and an answer are written.
+//! Orders, lines and statuses: what words ask for, and how a fault, a feature and an answer are written.
 #![tactic(auto)]
 
 pub mod fault_places;
 mod fault_text;
 mod fault_words;
 mod named;
-mod put;
 mod say;
 mod shown;
 mod stopped;
 mod words;
 
 pub use named::Named;
-pub use put::{Line, put, put_lines};
 pub use say::say;
 pub use shown::identifier;
 pub use stopped::{Stopped, stopped_by};

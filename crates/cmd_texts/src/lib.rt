@@ -5,4 +5,7 @@ pub mod commands;
 mod meant;
 mod meant_view;
 mod on_path;
+mod put;
 mod target_line;
+
+pub use put::{Line, put_lines};

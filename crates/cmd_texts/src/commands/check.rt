@@ -10,9 +10,10 @@ ghost use Rattle.cmd_lines.specs.Written.{sunk};
 ghost use Rattle.cmd_lines.specs.Putting.{IsPut};
 
 use crate::commands::checked::checked;
+use crate::put::{Line, put, put_lines};
 use apfs_check::Report;
 use blk_source::{BlockSource, Sink};
-use cmd_lines::{Line, Stopped, fault_places as places, put, put_lines};
+use cmd_lines::{Stopped, fault_places as places};
 use std::alloc::{AllocError, Global};
 use tree_rules::{Note, Profile};
 

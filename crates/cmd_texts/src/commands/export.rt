@@ -31,10 +31,11 @@ ghost use Rattle.cmd_lines.specs.declared.stopped.Stopped.TheVariants.{ReadFaile
 use crate::commands::checked::check_first;
 use crate::meant_view::{Viewed, reach_view};
 use crate::on_path::stopped_on_path;
+use crate::put::{Line, put_lines};
 use apfs_model::Bytes;
 use blk_folder::Folder;
 use blk_source::{BlockSource, Sink};
-use cmd_lines::{Checks, Line, Named, Stopped, put_lines};
+use cmd_lines::{Checks, Named, Stopped};
 use cmd_words::Target;
 use obj_base::{Site, Stop};
 use path_walk::{PathStop, Target as Found};

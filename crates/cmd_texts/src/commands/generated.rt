@@ -9,8 +9,9 @@ ghost use Rattle.cmd_lines.specs.Written.{sunk};
 ghost use Rattle.cmd_lines.specs.Putting.{IsPut};
 
 use crate::commands::check;
+use crate::put::put;
 use blk_source::{NoMemory, Sink, SureSource};
-use cmd_lines::{Stopped, put};
+use cmd_lines::Stopped;
 use img_make::{gen_plan, make};
 use std::alloc::{AllocError, Global};
 use tree_rules::Profile;

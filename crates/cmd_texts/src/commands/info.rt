@@ -11,8 +11,9 @@ ghost use Rattle.cmd_lines.specs.Words.{Info};
 ghost use Rattle.cmd_lines.specs.Written.{sunk};
 ghost use Rattle.cmd_lines.specs.Putting.{IsPut};
 
+use crate::put::put;
 use blk_source::{BlockSource, Sink};
-use cmd_lines::{Stopped, identifier, put, stopped_by};
+use cmd_lines::{Stopped, identifier, stopped_by};
 use nx_block::NxView;
 use nx_ring::{Checkpoint, newest};
 use std::alloc::{AllocError, Global};

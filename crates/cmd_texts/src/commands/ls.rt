@@ -10,9 +10,10 @@ ghost use Rattle.cmd_lines.specs.Written.{sunk};
 
 use crate::meant_view::reach_view;
 use crate::on_path::stopped_on_path;
+use crate::put::{Line, put_lines};
 use crate::target_line::target_line;
 use blk_source::{BlockSource, Sink};
-use cmd_lines::{Line, Stopped, put_lines};
+use cmd_lines::Stopped;
 use cmd_words::Target;
 use path_walk::list;
 use std::alloc::{AllocError, Global};

@@ -8,8 +8,9 @@ ghost use Rattle.cmd_texts.specs.Ended.{HasEnded};
 ghost use Rattle.cmd_lines.specs.Words.{Ring};
 ghost use Rattle.cmd_lines.specs.Written.{sunk};
 
+use crate::put::{Line, put_lines};
 use blk_source::{BlockSource, Sink};
-use cmd_lines::{Line, Stopped, put_lines, stopped_by};
+use cmd_lines::{Stopped, stopped_by};
 use nx_ring::{RingLine, ring};
 use std::alloc::{AllocError, Global};
 

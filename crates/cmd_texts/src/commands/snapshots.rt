@@ -8,8 +8,9 @@ ghost use Rattle.cmd_lines.specs.Written.{sunk};
 ghost use Rattle.cmd_lines.specs.Putting.{IsPut};
 
 use crate::meant::reach;
+use crate::put::{Line, put_lines};
 use blk_source::{BlockSource, Sink};
-use cmd_lines::{Line, Stopped, put_lines};
+use cmd_lines::Stopped;
 use fs_name::push_shown;
 use std::alloc::{AllocError, Global};
 use vol_view::{Snapshot, Volume};

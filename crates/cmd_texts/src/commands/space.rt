@@ -18,8 +18,9 @@ ghost use Rattle.cmd_lines.specs.Words as asked;
 ghost use Rattle.cmd_lines.specs.Written.{sunk};
 ghost use Rattle.cmd_lines.specs.Putting.{IsPut};
 
+use crate::put::put;
 use blk_source::{BlockSource, Sink};
-use cmd_lines::{Stopped, put, stopped_by};
+use cmd_lines::{Stopped, stopped_by};
 use nx_ring::{Checkpoint, newest};
 use space_map::{Chunk, Space};
 use space_pool::{Queue, QueueEntry, pool_bits, queue};

@@ -19,8 +19,9 @@ ghost use Rattle.cmd_lines.specs.Written.{sunk};
 ghost use Rattle.cmd_lines.specs.Putting.{IsPut};
 
 use crate::meant::reach;
+use crate::put::put;
 use blk_source::{BlockSource, Sink};
-use cmd_lines::{Named, Stopped, put};
+use cmd_lines::{Named, Stopped};
 use fs_name::push_shown;
 use nx_ring::Checkpoint;
 use obj_base::Stop;

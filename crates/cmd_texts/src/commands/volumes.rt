@@ -14,8 +14,9 @@ ghost use Rattle.cmd_texts.specs.Ended.{HasEnded};
 ghost use Rattle.cmd_lines.specs.Words.{Volumes};
 ghost use Rattle.cmd_lines.specs.Written.{sunk};
 
+use crate::put::{Line, put_lines};
 use blk_source::{BlockSource, Sink};
-use cmd_lines::{Line, Stopped, identifier, put_lines, stopped_by};
+use cmd_lines::{Stopped, identifier, stopped_by};
 use fs_name::{Names, push_shown};
 use nx_ring::{Checkpoint, newest};
 use std::alloc::{AllocError, Global};

@@ -11,9 +11,10 @@ ghost use Rattle.cmd_lines.specs.Written.{sunk};
 
 use crate::meant_view::reach_view;
 use crate::on_path::{stopped_on_path, stopped_on_write};
+use crate::put::{Line, put_lines};
 use apfs_model::Bytes;
 use blk_source::{BlockSource, Sink};
-use cmd_lines::{Line, Stopped, put_lines};
+use cmd_lines::Stopped;
 use cmd_words::Target;
 use fs_name::push_shown;
 use path_read::{attr, attrs};

@@ -1,7 +1,7 @@
 -- The texts so far, and that of the item at hand.
 use Rattle.std.proofs.Common.{◌<◌, ◌≤◌, length, arith}
 use Rattle.cmd_lines.proofs.Puts.{gathers_more, gathers_cut, gathers_all}
-use Rattle.cmd_lines.proofs.put.put_lines.Goals as goal
+use Rattle.cmd_texts.proofs.put.put_lines.Goals as goal
 
 pub returns-in-Err : goal.returns-in-Err
 returns-in-Err g c =

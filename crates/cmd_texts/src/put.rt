@@ -4,8 +4,8 @@ ghost use Rattle.std.specs.List.{flat_map};
 ghost use Rattle.cmd_lines.specs.Written.{sunk};
 ghost use Rattle.cmd_lines.specs.Putting.{IsPut, Passes};
 
-use crate::stopped::Stopped;
 use blk_source::Sink;
+use cmd_lines::Stopped;
 use std::alloc::{AllocError, Global};
 
 // How many bytes of lines wait before they are put.
