@@ -47,6 +47,26 @@ pub trait Keeper<K: TreeKey>: Drop {
         ensures held { (items : List Item) → holds self.old items → IfOk result (λ kept. IsTrue kept → holds self.new (items ++ shown item.entry.node item.entry.at item.entry.level item.entry.pair.key_bytes.now (option_map (λ value. value.now) item.entry.pair.value) ∷ [])) };
 }
 
+/// Gathers nothing: for a walk that only tells why a tree isn't whole.
+#[derive(Drop)]
+pub struct Nothing;
+
+impl<K: TreeKey> Keeper<K> for Nothing {
+    ghost refuses = { λ _. false };
+
+    ghost holds = { λ _ _. Unit {0} };
+
+    fn keep(&mut self, item: LineItem<'_, K>) -> Result<bool, NoMemory>
+        requires key { K.shape.read item.pair.key_bytes.now ≡ Some item.pair.key }
+        requires child { item.child ≡ child_id (shown item.node item.at item.level item.pair.key_bytes.now (option_map (λ value. value.now) item.pair.value)) }
+        ensures refused { IfOk result (λ kept. kept ≡ true) }
+        ensures held { (items : List Item) → Unit {0} → IfOk result (λ kept. IsTrue kept → Unit {0}) }
+    {
+        let _ = item;
+        Ok(true)
+    }
+}
+
 // Why a walk stops, said of what is gathered.
 fn raise(stop: Stop<WalkFault>) -> Stop<GatherFault>
     ensures { result ≡ raised GatherFault.Tree stop }

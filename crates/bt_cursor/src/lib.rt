@@ -16,7 +16,7 @@ mod way;
 
 pub use cursor::Cursor;
 pub use fault::WalkFault;
-pub use gathering::{GatherFault, Keeper, gather};
+pub use gathering::{GatherFault, Keeper, Nothing, gather};
 pub use liner::{LineItem, Liner};
 pub use namer::{Namer, Physical};
 pub use step::Step;

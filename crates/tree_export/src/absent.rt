@@ -1,49 +1,26 @@
 // An id without an inode, by a walk over the whole tree.
-ghost use Rattle.std.specs.Prelude.{◌≡◌, ◌++◌, ◌∷◌, [], ℕ, List, Some, true, false, not, option_map, IfOk, IsTrue};
+ghost use Rattle.std.specs.Prelude.{◌≡◌, ℕ, List, Some, true};
 ghost use Rattle.apfs_model.specs.Counts.{Rose};
 ghost use Rattle.apfs_model.specs.Kept.{IsKept};
 ghost use Rattle.obj_base.specs.Stops.{Tells};
 ghost use Rattle.obj_base.specs.declared.stop.Stop.TheVariants.{ReadFault};
 ghost use Rattle.obj_base.specs.Site.{IsSiteFor};
-ghost use Rattle.bt_cursor.specs.Line.{Item, line_of};
-ghost use Rattle.bt_cursor.specs.WholeTree.{child_id};
+ghost use Rattle.bt_cursor.specs.Line.{line_of};
 ghost use Rattle.bt_cursor.specs.Order.{is_ordered};
 ghost use Rattle.bt_cursor.specs.Flat.{flat_of};
 ghost use Rattle.bt_cursor.specs.Faults.{HasFeature};
-ghost use Rattle.bt_cursor.specs.Gathered.{shown};
 ghost use Rattle.vol_view.specs.Views.{view_tree};
 ghost use Rattle.tree_export.specs.Faults.{LacksInode};
 ghost use Rattle.tree_export.specs.Parts.{IsLookupFault, gather_raised};
 
 use crate::ExportFault;
-use blk_source::{BlockSource, NoMemory};
-use bt_cursor::{GatherFault, Keeper, LineItem, gather};
+use blk_source::BlockSource;
+use bt_cursor::{GatherFault, Nothing, gather};
 use bt_keys::FsTreeKey;
-use bt_node::TreeKey;
 use obj_base::{Site, Stop};
 use omap_map::At;
 use std::alloc::Global;
 use vol_view::{View, Volume};
-
-// Nothing is gathered of the items.
-#[derive(Drop)]
-struct Nothing;
-
-impl<K: TreeKey> Keeper<K> for Nothing {
-    ghost refuses = { λ _. false };
-
-    ghost holds = { λ _ _. Unit {0} };
-
-    fn keep(&mut self, item: LineItem<'_, K>) -> Result<bool, NoMemory>
-        requires key { K.shape.read item.pair.key_bytes.now ≡ Some item.pair.key }
-        requires child { item.child ≡ child_id (shown item.node item.at item.level item.pair.key_bytes.now (option_map (λ value. value.now) item.pair.value)) }
-        ensures refused { IfOk result (λ kept. kept ≡ true) }
-        ensures held { (items : List Item) → Unit {0} → IfOk result (λ kept. IsTrue kept → Unit {0}) }
-    {
-        let _ = item;
-        Ok(true)
-    }
-}
 
 // Why the tree isn't whole, said of an id.
 fn raise(id: u64, stop: Stop<GatherFault>) -> Stop<ExportFault>

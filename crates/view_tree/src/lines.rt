@@ -7,9 +7,9 @@ use itoa::Buffer;
 use path_walk::{KeptTarget, Target};
 use std::alloc::{AllocError, Global};
 
-// The letter of a kind of inode (File Modes).
+/// The letter of a kind of inode, as a listing shows it (File Modes).
 #[tactic(auto, unfolding(path_walk::specs::Texts::kind_text))]
-fn kind_letter(kind: u16) -> &'static str
+pub fn kind_letter(kind: u16) -> &'static str
     ensures { result.now ≡ texts.kind_text kind }
 {
     match kind {

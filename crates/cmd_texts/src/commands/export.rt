@@ -11,7 +11,6 @@ ghost use Rattle.view_rules.specs.Rules.{view_facts};
 ghost use Rattle.view_rules.specs.declared.profile.Profile.TheVariants.{Plain};
 ghost use Rattle.path_walk.specs.Stops.{IsLawful};
 ghost use Rattle.path_walk.specs.Calls.{IsNoAnswer};
-ghost use Rattle.path_walk.specs.Texts as lines;
 ghost use Rattle.apfs_check.specs.WellFormed.{IsWellFormed};
 ghost use Rattle.tree_export.specs.Exported.{items_in};
 ghost use Rattle.tree_export.specs.Stopping.{wanted_of};
@@ -42,7 +41,7 @@ use path_walk::{PathStop, Target as Found};
 use std::alloc::{AllocError, Global};
 use tree_export::{Done, ExportFault, ExportStop, Item, export, safe_path};
 use tree_rules::Profile;
-use view_tree::tree;
+use view_tree::{kind_letter, tree};
 use vol_view::View;
 
 // A line: an item for which nothing was put, or how much was.
@@ -54,24 +53,6 @@ enum Told<'a> {
         files: u64,
         bytes: u64,
     },
-}
-
-// The letter of a kind of inode.
-#[tactic(auto, unfolding(path_walk::specs::Texts::kind_text))]
-fn kind_letter(kind: u16) -> &'static str
-    ensures { result.now ≡ lines.kind_text kind }
-{
-    match kind {
-        4 => "d",
-        8 => "-",
-        10 => "l",
-        1 => "p",
-        2 => "c",
-        6 => "b",
-        12 => "s",
-        14 => "w",
-        _ => "?",
-    }
 }
 
 // The line of an item for which nothing was put: its kind, and its path as a folder would have it.

@@ -10,7 +10,7 @@ use path_walk::{Target, find, list};
 use std::alloc::Global;
 use std::process::Abort;
 use std::test::Fail;
-use view_tree::{PutStop, tree, tree_rows};
+use view_tree::{PutStop, kind_letter, tree, tree_rows};
 
 // A path in the live view of an image, or in that of the snapshot of a number, and what is told of it.
 #[derive(Clone, Copy, Debug)]
@@ -229,6 +229,8 @@ fn rows_are_put_as_lines(rt: HostRuntime) -> Result<(), Fail> {
     assert_eq!(rt; end, Err(PutStop::WriteFault));
     // the lines of a small tree are put at once
     assert!(rt; bytes.is_empty());
+    // a whiteout, which no tree has
+    assert_eq!(rt; kind_letter(14), "w");
     Ok(())
 }
 
