@@ -5,13 +5,12 @@ pub mod fault_places;
 mod fault_text;
 mod fault_words;
 mod named;
-mod say;
+pub mod say;
 mod shown;
 mod stopped;
 mod words;
 
 pub use named::Named;
-pub use say::say;
 pub use shown::identifier;
 pub use stopped::{Stopped, stopped_by};
 pub use words::{Checks, Command, NewContainer, Order, asked};
