@@ -161,37 +161,43 @@ asks_folder : AsksFolder into_dir
 asks_folder = refl
 
 -- ---- what a run was handed: here a number stands for a source, a folder or a sink that has failed so often
--- each source tells the same two bytes
-abbrev two_bytes : ℕ → Option (List ℕ)
-two_bytes n = Some (codes "ab")
+-- it tells a byte, or a file without bytes by that name
+abbrev byte_of : ℕ → Option (List ℕ)
+byte_of n = Some (n ∷ [])
 
-looked_so : looked two_bytes (λ n. n) 3 4 ≡ record { bytes = Some (codes "ab"); old_faults = 3; new_faults = 4 }
+abbrev file_of : ℕ → Option (List Item)
+file_of n = Some (file_at (n ∷ []) [] ∷ [])
+
+looked_so : looked byte_of (λ n. n) 3 4 ≡ record { bytes = Some (3 ∷ []); old_faults = 3; new_faults = 4 }
 looked_so = refl
 
-opened : looked_at two_bytes (λ n. n) (Image 3) (Image 4) ≡ Some (looked two_bytes (λ n. n) 3 4)
+opened : looked_at byte_of (λ n. n) (Image 3) (Image 4) ≡ Some (looked byte_of (λ n. n) 3 4)
 opened = refl
 
-absent : looked_at two_bytes (λ n. n) Absent Absent ≡ None
+absent : looked_at byte_of (λ n. n) Absent Absent ≡ None
 absent = refl
 
-image_kept : IsOpenedKept two_bytes (λ n. 2) (Image 3) (Image 4)
-image_kept = (refl, refl)
-
-image_lost : IsOpenedKept two_bytes (λ n. 2) (Image 3) Absent → ⊥
-image_lost kept = kept
-
--- each folder tells that it has nothing
-abbrev no_contents : ℕ → Option (List Item)
-no_contents n = Some []
-
-stored_so : stored no_contents (λ n. n) 3 4 ≡ record { old = Some []; new = Some []; old_faults = 3; new_faults = 4 }
+stored_so : stored file_of (λ n. n) 3 4 ≡ record { old = Some (file_at (3 ∷ []) [] ∷ []); new = Some (file_at (4 ∷ []) [] ∷ []); old_faults = 3; new_faults = 4 }
 stored_so = refl
 
-given : stored_in no_contents (λ n. n) (Into 3) (Into 4) ≡ Some (stored no_contents (λ n. n) 3 4)
+given : stored_in file_of (λ n. n) (Into 3) (Into 4) ≡ Some (stored file_of (λ n. n) 3 4)
 given = refl
 
-not_given : stored_in no_contents (λ n. n) Nothing Nothing ≡ None
+not_given : stored_in file_of (λ n. n) Nothing Nothing ≡ None
 not_given = refl
+
+sunk_so : sunk byte_of (λ n. n) 3 4 ≡ record { old = Some (3 ∷ []); new = Some (4 ∷ []); old_faults = 3; new_faults = 4 }
+sunk_so = refl
+
+-- a source is kept; it isn't where it tells another byte, or is gone
+image_kept : IsOpenedKept byte_of (λ n. 1) (Image 3) (Image 3)
+image_kept = (refl, refl)
+
+other_bytes : IsOpenedKept byte_of (λ n. 1) (Image 3) (Image 4) → ⊥
+other_bytes kept = let e : ◌≡◌ {A = Option (List ℕ)} (Some (4 ∷ [])) (Some (3 ∷ [])) = kept.0 in cc
+
+image_lost : IsOpenedKept byte_of (λ n. 1) (Image 3) Absent → ⊥
+image_lost kept = kept
 
 folder_kept : IsGivenKept {F = ℕ} (Into 3) (Into 4)
 folder_kept = tt
@@ -217,9 +223,6 @@ filled items held e = ap (λ (had : Option (List Item)). option_map (λ those. t
 -- a sink that had nothing, has a text now, and failed so often in the run
 abbrev got : ℕ → List ℕ → Sunk
 got faults text = record { old = Some []; new = Some text; old_faults = 0; new_faults = faults }
-
-same_sunk : sunk (λ n. Some []) (λ n. n) 0 1 ≡ got 1 []
-same_sunk = refl
 
 wrote : (text : List ℕ) → Wrote (Some []) (Some text) text
 wrote text held e = ap (λ (had : Option (List ℕ)). option_map (λ bytes. bytes ++ text) had) e
