@@ -1,5 +1,5 @@
 -- What words ask for, what a run was handed, how it may end, and what is said of small runs; then some texts piece by piece.
-use Rattle.std.proofs.Common.{◌≡◌, ℕ, List, [], ◌∷◌, ◌++◌, map, true, Option, Some, None, inl, inr, refl, ap, subst, arith}
+use Rattle.std.proofs.Common.{◌≡◌, ℕ, List, [], ◌∷◌, ◌++◌, map, true, false, Option, Some, None, inl, inr, refl, ap, subst, arith}
 use Rattle.std.specs.Prelude.{negsuc, codes, option_map}
 use Rattle.std.specs.Fmt.{decimal, digits, signed_decimal}
 use Rattle.std.specs.Str.{is_utf8, chars}
@@ -160,6 +160,9 @@ not_exported items are = no_bytes_flawed Plain are.0
 asks_folder : AsksFolder into_dir
 asks_folder = refl
 
+asks_no_folder : AsksFolder info → ⊥
+asks_no_folder asks = let e : false ≡ true = asks in cc
+
 -- ---- what a run was handed: here a number stands for a source, a folder or a sink that has failed so often
 -- it tells a byte, or a file without bytes by that name
 abbrev byte_of : ℕ → Option (List ℕ)
@@ -259,6 +262,9 @@ check_all image = record { image_there = λ lacks. lacks; folder_there = λ lack
 snapshots_all : (image : List ℕ) → HasAll (plain_line (Snapshots (Some 3))) (Some (told_of (Some image) 0)) None
 snapshots_all image = record { image_there = λ lacks. lacks; folder_there = λ lacks. lacks }
 
+not_all : HasAll (plain_line Info) None None → ⊥
+not_all all = all.image_there tt
+
 no_image : HasNoImage info None
 no_image = record { line = plain_line Info; words = refl; lacks = tt }
 
@@ -267,6 +273,9 @@ no_folder = record { line = plain_line (Export (at (codes "/"))); words = refl; 
 
 untold : IsUntold (Some (told_of None 0))
 untold = refl
+
+is_told : IsUntold (Some no_bytes) → ⊥
+is_told none = let e : ◌≡◌ {A = Option (List ℕ)} (Some []) None = none in cc
 
 -- ---- what failed
 read_failed : HandedFailed (Some (told_of (Some []) 1))
@@ -316,6 +325,9 @@ both_wrote = (wrote [], wrote (codes "apfs: no image\n"))
 -- ---- wrong words: status 2, the line, and a folder that stays as it was
 same : IsSame (gained 0 [])
 same = filled []
+
+another : IsSame (gained 0 (directory_at (codes "d") ∷ [])) → ⊥
+another kept = let e : ◌≡◌ {A = Option (List Item)} (Some (directory_at (codes "d") ∷ [])) (Some []) = kept [] refl in cc
 
 untouched : IsUntouched (Some (gained 0 []))
 untouched = same
