@@ -19,3 +19,4 @@ pub mod ViewSteps
 pub mod DataTold
 pub mod Checked
 pub mod Again
+pub mod Examples

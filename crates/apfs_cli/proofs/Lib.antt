@@ -6,3 +6,4 @@ pub mod Statuses
 pub mod NewRow
 pub mod FilledRow
 pub mod Plugs
+mod Examples

@@ -2,3 +2,4 @@ pub mod Laying
 pub mod Leaves
 pub mod Numbered
 pub mod Putting
+mod Examples
