@@ -12,6 +12,8 @@ use Rattle.bt_keys.specs.Values.{ext_value_of, new_kind}
 use Rattle.bt_cursor.specs.Tree.{Tree, tree_in}
 use Rattle.bt_cursor.specs.Flat.{flat_of}
 use Rattle.bt_cursor.specs.Met.{nodes_of}
+use Rattle.bt_cursor.specs.Steps.{steps_of}
+use Rattle.bt_cursor.specs.declared.step.Step.{Step}
 use Rattle.ext_ref.specs.declared.range.NewRange.{NewRange}
 
 -- the extent reference trees of an image: an id names the block of its number
@@ -37,6 +39,10 @@ ext_pairs image site root = if root == 0 then [] else flat_of (ext_tree image si
 -- the new ranges of the tree of a root, in tree order
 unfoldable pub ranges_of : List ℕ → Site → ℕ → List NewRange
 ranges_of image site root = ranges_in (ext_pairs image site root)
+
+-- the steps of the tree of a root, none where the root is 0
+unfoldable pub ext_steps : List ℕ → Site → ℕ → List Step
+ext_steps image site root = if root == 0 then [] else steps_of (ext_tree image site) root
 
 -- the oids of places
 abbrev pub oids_of : List NodeAt → List ℕ
