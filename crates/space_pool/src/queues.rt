@@ -189,9 +189,11 @@ pub fn queue_walk<S: BlockSource>(
         Ok(kept) => kept,
         Err(stop) => return Err(stop),
     };
-    let Kept { entries, steps } = kept;
-    match placed(space, which, entries) {
-        Ok(entries) => Ok(Queued { entries, steps }),
+    match placed(space, which, kept.entries) {
+        Ok(entries) => Ok(Queued {
+            entries,
+            steps: kept.steps,
+        }),
         Err(fault) => Err(Stop::Found(fault)),
     }
 }

@@ -21,7 +21,7 @@ use Rattle.omap_map.specs.Features.{snapshot_features}
 use Rattle.omap_map.specs.Maps.{Contents, IsLoaded}
 use Rattle.vol_view.specs.Fields as field
 use Rattle.vol_view.specs.Heads.{super_in, super_test, has_magic, is_super}
-use Rattle.vol_view.specs.SnapRecords.{metadata_tree, metadata_pairs, metadata_steps, is_snapshot, is_snapshot_name, snapshot_pairs, name_pairs, snap_xid, snap_created_of, snap_super_of, snap_extents_of, snap_flags_of, snap_name_len, snap_name_bytes, snapshot_name, record_name, named_xid}
+use Rattle.vol_view.specs.SnapRecords.{metadata_tree, metadata_pairs, is_snapshot, is_snapshot_name, snapshot_pairs, name_pairs, snap_xid, snap_created_of, snap_super_of, snap_extents_of, snap_flags_of, snap_name_len, snap_name_bytes, snapshot_name, record_name, named_xid}
 use Rattle.vol_view.specs.Agreement.{are_readable}
 use Rattle.vol_view.specs.Features.{snapshot_super_features, snapshot_record_features}
 use Rattle.vol_view.specs.LoadStops.{IsSnapshotSuperFeature}
@@ -94,12 +94,11 @@ pub record Gives (items : List Item) (snapshots : List SnapshotRecord) (names : 
   pub told : Tell (leaf_pairs items) snapshots names
   pub taken : steps ≡ steps_in items
 
--- the records and the steps of the snapshot metadata tree of a root were gathered: the tree is whole, where there is one, and the records can be read
-pub record HasMetadata (image : List ℕ) (site : Site) (root : ℕ) (snapshots : List SnapshotRecord) (names : List NameRecord) (steps : List Step) : Type 0 where
+-- the records of the snapshot metadata tree of a root were gathered: the tree is whole, where there is one, and they can be read
+pub record HasMetadata (image : List ℕ) (site : Site) (root : ℕ) (snapshots : List SnapshotRecord) (names : List NameRecord) : Type 0 where
   pub whole : (root == 0 || is_whole (metadata_tree image site) root) ≡ true
   pub readable : are_readable (metadata_pairs image site root) ≡ true
   pub told : Tell (metadata_pairs image site root) snapshots names
-  pub taken : steps ≡ metadata_steps image site root
 
 -- the map of a volume was loaded, and its snapshots have no feature
 pub record HasVolumeMap (image : List ℕ) (site : Site) (block : ℕ) (contents : Contents) : Type 0 where

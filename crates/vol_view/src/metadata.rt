@@ -11,6 +11,7 @@ ghost use Rattle.bt_keys.specs.Shapes.{snap_shape};
 ghost use Rattle.bt_cursor.specs.Line.{Item, child_id, leaf_pairs};
 ghost use Rattle.bt_cursor.specs.Gathered.{shown};
 ghost use Rattle.vol_view.specs.Fields as fields;
+ghost use Rattle.vol_view.specs.SnapRecords.{metadata_steps};
 ghost use Rattle.vol_view.specs.Volumes.{super_of};
 ghost use Rattle.vol_view.specs.LoadStops.{IsLoadStop, IsLoadFeature};
 ghost use Rattle.vol_view.specs.Gathered.{snapshot_read, name_read, is_refused, metadata_stop, Tell, Gives, HasMetadata};
@@ -152,7 +153,8 @@ pub(crate) fn gathered<S: BlockSource>(
 ) -> Result<Metadata, Stop<VolStop>>
     requires site { IsSiteFor site.now (S.bytes_len src.old) }
     requires long { 4096 ≤ length bytes.now }
-    ensures clear { (image : List ℕ) → S.bytes src.old ≡ Some image → IfOk result (λ kept. HasMetadata image site.now (fields.snaps_root_of bytes.now) kept.snapshots.items kept.names.items kept.steps.items) }
+    ensures clear { (image : List ℕ) → S.bytes src.old ≡ Some image → IfOk result (λ kept. HasMetadata image site.now (fields.snaps_root_of bytes.now) kept.snapshots.items kept.names.items) }
+    ensures steps { (image : List ℕ) → S.bytes src.old ≡ Some image → IfOk result (λ kept. kept.steps.items ≡ metadata_steps image site.now (fields.snaps_root_of bytes.now)) }
     ensures present { (image : List ℕ) → S.bytes src.old ≡ Some image → bytes.now ≡ super_of image site.now head.now → IfErr result (Tells (IsLoadStop image site.now head.now) (IsLoadFeature image site.now head.now)) }
     ensures cause { IsErrOf result ReadFault → Rose (S.faults src.old) (S.faults src.new) }
     ensures kept { IsKept S.bytes S.bytes_len S.faults src.old src.new }
