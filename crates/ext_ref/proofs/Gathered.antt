@@ -28,7 +28,7 @@ use Rattle.bt_cursor.proofs.Flats.{line-pairs}
 use Rattle.bt_cursor.proofs.Lines.{leaf_pairs-append}
 use Rattle.bt_cursor.proofs.Gathers.{ids-walkable}
 use Rattle.bt_cursor.proofs.Wholes.{means_whole, whole_means}
-use Rattle.ext_ref.specs.Ranges.{ext_tree, range_of, ranges_in, ranges_of, ext_steps, oids_of, node_blocks_of, ext_pairs}
+use Rattle.ext_ref.specs.Ranges.{ext_tree, range_of, ranges_in, ranges_of, ext_steps, blocks_by, oids_of, node_blocks_of, ext_pairs}
 use Rattle.ext_ref.specs.Stops.{is_short_item, HasShortItem, IsExtStop, IsExtFeature, IsScanned, has_long_values, is_right_tree}
 use Rattle.ext_ref.specs.Gathered.{ranges_at, Gathers, said}
 use Rattle.ext_ref.specs.declared.range.NewRange.{NewRange}
@@ -107,18 +107,16 @@ right-walkable image site root some right =
     (whole_means (ext_tree image site) root (left-true (is_whole (ext_tree image site) root) (has_long_values image site root) (other-true (root == 0) _ some right))).walkable
 
 -- the nodes of a right tree are its root and the children of its steps
-pub blocks-steps : (image : List ℕ) (site : Site) (root : ℕ) → (root == 0) ≡ false → is_right_tree image site root ≡ true → node_blocks_of image site root ≡ root ∷ map (λ (s : Step). s.child) (ext_steps image site root)
+pub blocks-steps : (image : List ℕ) (site : Site) (root : ℕ) → is_right_tree image site root ≡ true → node_blocks_of image site root ≡ blocks_by root (ext_steps image site root)
 unfolding node_blocks_of ext_steps
-blocks-steps image site root some right =
+blocks-steps image site root right =
     let tree = ext_tree image site in
-    if-not (root == 0) [] (oids_of (nodes_of tree root)) some
-    ∙ (ids-walkable tree root (right-walkable image site root some right)
-    ∙ ap (λ (xs : List ℕ). root ∷ xs) (steps-children (line_of tree root) ∙ ap (map (λ (s : Step). s.child)) (sym (if-not (root == 0) [] (steps_of tree root) some))))
-
--- where there is no tree, there are no nodes
-pub no-blocks : (image : List ℕ) (site : Site) (root : ℕ) → (root == 0) ≡ true → node_blocks_of image site root ≡ []
-unfolding node_blocks_of
-no-blocks image site root none = if-so (root == 0) [] (oids_of (nodes_of (ext_tree image site) root)) none
+    let go : (b : Bool) → (root == 0) ≡ b → (if b then [] else oids_of (nodes_of tree root)) ≡ (if b then [] else root ∷ map (λ (s : Step). s.child) (if b then [] else steps_of tree root)) =
+    λ b. elim b as (λ b. (root == 0) ≡ b → (if b then [] else oids_of (nodes_of tree root)) ≡ (if b then [] else root ∷ map (λ (s : Step). s.child) (if b then [] else steps_of tree root))) [
+      | true ↦ λ e. refl
+      | false ↦ λ e. ids-walkable tree root (right-walkable image site root e right) ∙ ap (λ (xs : List ℕ). root ∷ xs) (steps-children (line_of tree root))
+    ] in
+    go (root == 0) refl
 
 get-seam : (before after : List Item) (item : Item) → slice_get (before ++ item ∷ after) (length before) ≡ Some item
 get-seam [] after item = refl
