@@ -104,7 +104,8 @@ fn add_tree(held: &mut Pieces, root: u64, steps: &[Step]) -> Result<(), NoMemory
         return Ok(());
     }
     held.add(root, 1)?;
-    add_children(held, steps)
+    add_children(held, steps)?;
+    Ok(())
 }
 
 // Whether an extent that is no hole lies in the container.
