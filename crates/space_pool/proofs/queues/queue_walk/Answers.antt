@@ -1,4 +1,4 @@
-use Rattle.std.proofs.Common.{◌∙◌, ℕ, ap, sym, arith}
+use Rattle.std.proofs.Common.{◌∙◌, ℕ, ap, length, arith}
 use Rattle.std.specs.Prelude.{◌==◌}
 use Rattle.obj_base.specs.declared.stop.Stop.TheVariants.{Found}
 use Rattle.apfs_model.proofs.BoolTests.{never-true, equal-from}
@@ -27,3 +27,7 @@ returns-in-Err-placed-clause-exact g c image told queued =
     let manager = c.args.space.now.manager in
     queued_free image seen manager c.args.which (queue_of image seen manager c.args.which) (Found c.in-Err-placed.fault) queued
     (place_tells image seen manager c.args.which c.in-Ok.kept.entries.items c.in-Err-placed.fault ((c.in-Ok.ensures.clear image told).same ∙ ap (λ (root : ℕ). queue_entries image seen root) c.root_of-root.ensures) c.in-Err-placed.ensures.outside)
+
+pub returns-in-Ok-placed-clause-by_steps : goal.returns-in-Ok-placed-clause-by_steps
+returns-in-Ok-placed-clause-by_steps g c image told =
+    omega (arith, c.in-Ok.ensures.reads image told, queue-few image c.args.cp.now c.root_of-root.result, ap length (c.in-Ok.ensures.steps image told))
