@@ -9,8 +9,8 @@ use Rattle.use_report.specs.Holding.{IsReferencesFault}
 use Rattle.use_report.proofs.Stopped.{references-told}
 use Rattle.use_report.proofs.holding.add_references.Goals as goal
 
-pub returns-in_ok-add_tree-clause-added : goal.returns-in_ok-add_tree-clause-added
-returns-in_ok-add_tree-clause-added g c image told =
+pub returns-in-Ok-clause-added : goal.returns-in-Ok-clause-added
+returns-in-Ok-clause-added g c image told =
     let root = c.args.kept.now.extents_root in
     let scanned = c.in-Ok.ensures.clear image told in
     let same = c.deref.ensures.value ∙ scanned.steps_are in
