@@ -14,7 +14,7 @@ returns-in-Ok-clause-added g c image told =
     let root = c.args.kept.now.extents_root in
     let scanned = c.in-Ok.ensures.clear image told in
     let same = c.deref.ensures.value ∙ scanned.steps_are in
-    (scanned.right, subst (λ (blocks : List ℕ). Grows c.args.held.now c.add_tree.new.held (λ block. In block blocks)) (ap (blocks_by root) same ∙ sym (blocks-steps image c.args.site.now root scanned.right)) c.in_ok-add_tree.ensures)
+    (scanned.right, subst (λ (blocks : List ℕ). Grows c.args.held.now c.add_tree.new.held (λ block. In block blocks)) (ap (blocks_by root) same ∙ sym (blocks-steps image c.args.site.now root scanned.right)) c.in_ok-add_tree-in-Ok.ensures)
 
 pub returns-clause-present : goal.returns-clause-present
 returns-clause-present g c image told =
