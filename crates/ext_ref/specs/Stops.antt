@@ -10,7 +10,8 @@ use Rattle.bt_keys.specs.Values.{ext_value_of}
 use Rattle.bt_cursor.specs.Line.{Item, line_of, is_leaf_item}
 use Rattle.bt_cursor.specs.Whole.{is_whole}
 use Rattle.bt_cursor.specs.Faults.{IsWalkFault, HasFeature}
-use Rattle.ext_ref.specs.Ranges.{ext_tree, ranges_of, node_blocks_of}
+use Rattle.bt_cursor.specs.declared.step.Step.{Step}
+use Rattle.ext_ref.specs.Ranges.{ext_tree, ranges_of, ext_steps}
 use Rattle.ext_ref.specs.declared.range.NewRange.{NewRange}
 use Rattle.ext_ref.specs.declared.stop.ExtStop.{ExtStop}
 use Rattle.ext_ref.specs.declared.stop.ExtStop.TheVariants.{Walk, Value}
@@ -42,8 +43,8 @@ has_long_values image site root = not (list_any is_short_item (line_of (ext_tree
 unfoldable pub is_right_tree : List ℕ → Site → ℕ → Bool
 is_right_tree image site root = (root == 0) || (is_whole (ext_tree image site) root && has_long_values image site root)
 
--- the tree of a root is right, and these are the blocks of its nodes and its new ranges
-pub record IsScanned (image : List ℕ) (site : Site) (root : ℕ) (nodes : List ℕ) (ranges : List NewRange) : Type 0 where
+-- the tree of a root is right, and these are its steps and its new ranges
+pub record IsScanned (image : List ℕ) (site : Site) (root : ℕ) (steps : List Step) (ranges : List NewRange) : Type 0 where
   pub right : is_right_tree image site root ≡ true
-  pub nodes_are : nodes ≡ node_blocks_of image site root
+  pub steps_are : steps ≡ ext_steps image site root
   pub ranges_are : ranges ≡ ranges_of image site root

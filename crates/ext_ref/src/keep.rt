@@ -11,14 +11,14 @@ ghost use Rattle.ext_ref.specs.Gathered.{ranges_at, Gathers};
 use crate::NewRange;
 use apfs_layout::value;
 use blk_source::NoMemory;
-use bt_cursor::{Keeper, LineItem};
+use bt_cursor::{Keeper, LineItem, Step};
 use bt_keys::{ExtKey, ExtValue, ext_value};
 
-/// The new ranges of a tree, and the blocks of the nodes below its root, in the order of its Line.
+/// The new ranges of a tree, and its steps, in the order of its Line.
 #[derive(Drop)]
 pub(crate) struct Kept {
     pub ranges: Vec<NewRange>,
-    pub below: Vec<u64>,
+    pub steps: Vec<Step>,
 }
 
 // Puts what an item gave after what was gathered.
@@ -66,15 +66,15 @@ fn range_at(item: LineItem<'_, ExtKey>) -> Option<Option<NewRange>>
 impl Keeper<ExtKey> for Kept {
     ghost refuses = { is_short_item };
 
-    ghost holds = { λ kept items. Gathers kept.ranges.items kept.below.items items };
+    ghost holds = { λ kept items. Gathers kept.ranges.items kept.steps.items items };
 
     fn keep(&mut self, item: LineItem<'_, ExtKey>) -> Result<bool, NoMemory>
         requires key { ext_shape.read item.pair.key_bytes.now ≡ Some item.pair.key }
         requires child { item.child ≡ child_id (shown item.node item.at item.level item.pair.key_bytes.now (option_map (λ value. value.now) item.pair.value)) }
         ensures refused { IfOk result (λ kept. kept ≡ not (is_short_item (shown item.entry.node item.entry.at item.entry.level item.entry.pair.key_bytes.now (option_map (λ value. value.now) item.entry.pair.value)))) }
-        ensures held { (items : List Item) → Gathers self.old.ranges.items self.old.below.items items → IfOk result (λ kept. IsTrue kept → Gathers self.new.ranges.items self.new.below.items (items ++ shown item.entry.node item.entry.at item.entry.level item.entry.pair.key_bytes.now (option_map (λ value. value.now) item.entry.pair.value) ∷ [])) }
+        ensures held { (items : List Item) → Gathers self.old.ranges.items self.old.steps.items items → IfOk result (λ kept. IsTrue kept → Gathers self.new.ranges.items self.new.steps.items (items ++ shown item.entry.node item.entry.at item.entry.level item.entry.pair.key_bytes.now (option_map (λ value. value.now) item.entry.pair.value) ∷ [])) }
     {
-        add(&mut self.below, item.child)?;
+        add(&mut self.steps, item.step())?;
         let Some(given) = range_at(item) else {
             return Ok(false);
         };

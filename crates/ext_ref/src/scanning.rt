@@ -1,5 +1,5 @@
 // Going through an extent reference tree.
-ghost use Rattle.std.specs.Prelude.{◌≡◌, ◌+◌, ◌≤◌, ◌∷◌, ◌==◌, ℕ, List, length, Some, true, false, OnOk, IfOk, IfErr, IsErrOf};
+ghost use Rattle.std.specs.Prelude.{◌≡◌, ◌+◌, ◌≤◌, ◌==◌, ℕ, List, length, Some, true, false, OnOk, IfOk, IfErr, IsErrOf};
 ghost use Rattle.std.specs.List.{list_any};
 ghost use Rattle.apfs_model.specs.Counts.{Rose};
 ghost use Rattle.apfs_model.specs.Kept.{IsKept};
@@ -7,7 +7,7 @@ ghost use Rattle.obj_base.specs.Stops.{Tells, IsFree, raised};
 ghost use Rattle.obj_base.specs.declared.stop.Stop.TheVariants.{ReadFault, NoMemory};
 ghost use Rattle.obj_base.specs.Site.{IsSiteFor};
 ghost use Rattle.bt_cursor.specs.Faults.{HasFeature};
-ghost use Rattle.ext_ref.specs.Ranges.{ext_tree, node_blocks_of};
+ghost use Rattle.ext_ref.specs.Ranges.{ext_tree, ext_steps, node_blocks_of};
 ghost use Rattle.ext_ref.specs.Stops.{IsExtStop, IsExtFeature, IsScanned, is_right_tree};
 ghost use Rattle.ext_ref.specs.Gathered.{said};
 
@@ -17,7 +17,7 @@ use blk_source::BlockSource;
 use bt_cursor::{GatherFault, Physical, gather};
 use bt_keys::ExtKey;
 use obj_base::{Site, Stop};
-use std::alloc::{AllocError, Global};
+use std::alloc::Global;
 
 // Why a walk stops, said of an extent reference tree.
 fn raise(stop: Stop<GatherFault>) -> Stop<ExtStop>
@@ -32,19 +32,6 @@ fn raise(stop: Stop<GatherFault>) -> Stop<ExtStop>
     }
 }
 
-// The whole tree of a root, its root's block put before those of the nodes below.
-fn with_root(root: u64, kept: Kept) -> Result<ExtScan, AllocError>
-    ensures nodes { IfOk result (λ scan. scan.nodes.items ≡ root ∷ kept.below.items) }
-    ensures ranges { IfOk result (λ scan. scan.ranges.items ≡ kept.ranges.items) }
-{
-    let Kept { ranges, mut below } = kept;
-    below.insert(0, root)?;
-    Ok(ExtScan {
-        nodes: below,
-        ranges,
-    })
-}
-
 // Goes through the tree of a root that isn't 0.
 fn scan_tree<S: BlockSource>(
     alloc: Global,
@@ -54,7 +41,7 @@ fn scan_tree<S: BlockSource>(
 ) -> Result<ExtScan, Stop<ExtStop>>
     requires site { IsSiteFor site.now (S.bytes_len src.old) }
     requires some { (root == 0) ≡ false }
-    ensures clear { (image : List ℕ) → S.bytes src.old ≡ Some image → IfOk result (λ scan. IsScanned image site.now root scan.nodes.items scan.ranges.items) }
+    ensures clear { (image : List ℕ) → S.bytes src.old ≡ Some image → IfOk result (λ scan. IsScanned image site.now root scan.steps.items scan.ranges.items) }
     ensures present { (image : List ℕ) → S.bytes src.old ≡ Some image → IfErr result (Tells (IsExtStop image site.now root) (IsExtFeature image site.now root)) }
     ensures cause { IsErrOf result ReadFault → Rose (S.faults src.old) (S.faults src.new) }
     ensures kept { IsKept S.bytes S.bytes_len S.faults src.old src.new }
@@ -62,18 +49,18 @@ fn scan_tree<S: BlockSource>(
 {
     let none = Kept {
         ranges: Vec::new(alloc),
-        below: Vec::new(alloc),
+        steps: Vec::new(alloc),
     };
     let namer = Physical {
         blocks: site.blocks,
     };
     match gather::<ExtKey, S, Physical, Kept>(alloc, src, namer, root, site, none) {
-        Ok(kept) => Ok(with_root(root, kept)?),
+        Ok(Kept { ranges, steps }) => Ok(ExtScan { steps, ranges }),
         Err(stop) => Err(raise(stop)),
     }
 }
 
-/// The blocks of the nodes of an extent reference tree and its new ranges, where the tree with this root is whole and its
+/// The steps of an extent reference tree and its new ranges, where the tree with this root is whole and its
 /// values can be read; nothing where the root is 0, since there is no tree then. `Walk` tells why the tree isn't whole, and
 /// `Value` which item's value is too short.
 pub fn scan<S: BlockSource>(
@@ -83,7 +70,7 @@ pub fn scan<S: BlockSource>(
     site: &Site,
 ) -> Result<ExtScan, Stop<ExtStop>>
     requires site { IsSiteFor site.now (S.bytes_len src.old) }
-    ensures clear { (image : List ℕ) → S.bytes src.old ≡ Some image → IfOk result (λ scan. IsScanned image site.now root scan.nodes.items scan.ranges.items) }
+    ensures clear { (image : List ℕ) → S.bytes src.old ≡ Some image → IfOk result (λ scan. IsScanned image site.now root scan.steps.items scan.ranges.items) }
     ensures present { (image : List ℕ) → S.bytes src.old ≡ Some image → IfErr result (Tells (IsExtStop image site.now root) (IsExtFeature image site.now root)) }
     ensures exact { (image : List ℕ) → S.bytes src.old ≡ Some image → is_right_tree image site.now root ≡ true → IfErr result IsFree }
     ensures cause { IsErrOf result ReadFault → Rose (S.faults src.old) (S.faults src.new) }
@@ -92,7 +79,7 @@ pub fn scan<S: BlockSource>(
 {
     if root == 0 {
         return Ok(ExtScan {
-            nodes: Vec::new(alloc),
+            steps: Vec::new(alloc),
             ranges: Vec::new(alloc),
         });
     }
@@ -110,7 +97,7 @@ pub fn new_ranges<S: BlockSource>(
     site: &Site,
 ) -> Result<Vec<NewRange>, Stop<ExtStop>>
     requires site { IsSiteFor site.now (S.bytes_len src.old) }
-    ensures clear { (image : List ℕ) → S.bytes src.old ≡ Some image → IfOk result (λ ranges. IsScanned image site.now root (node_blocks_of image site.now root) ranges.items) }
+    ensures clear { (image : List ℕ) → S.bytes src.old ≡ Some image → IfOk result (λ ranges. IsScanned image site.now root (ext_steps image site.now root) ranges.items) }
     ensures present { (image : List ℕ) → S.bytes src.old ≡ Some image → IfErr result (Tells (IsExtStop image site.now root) (IsExtFeature image site.now root)) }
     ensures exact { (image : List ℕ) → S.bytes src.old ≡ Some image → is_right_tree image site.now root ≡ true → IfErr result IsFree }
     ensures cause { IsErrOf result ReadFault → Rose (S.faults src.old) (S.faults src.new) }
@@ -118,7 +105,7 @@ pub fn new_ranges<S: BlockSource>(
     ensures reads { (image : List ℕ) → S.bytes src.old ≡ Some image → OnOk result (S.reads src.new ≤ S.reads src.old + length (node_blocks_of image site.now root)) }
 {
     match scan(alloc, src, root, site) {
-        Ok(ExtScan { nodes: _, ranges }) => Ok(ranges),
+        Ok(ExtScan { steps: _, ranges }) => Ok(ranges),
         Err(stop) => Err(stop),
     }
 }

@@ -8,6 +8,7 @@ use Rattle.apfs_model.proofs.BoolTests.{from-range}
 use Rattle.obj_base.specs.declared.site.Site.{Site}
 use Rattle.bt_keys.specs.Shapes.{fs_shape}
 use Rattle.bt_cursor.specs.Order.{is_ordered}
+use Rattle.bt_cursor.specs.declared.step.Step.{Step}
 use Rattle.fs_name.specs.declared.naming.Names.{Names}
 use Rattle.fs_name.specs.declared.naming.Names.TheVariants.{Folded}
 use Rattle.fs_name.specs.Normal.{names_of}
@@ -20,8 +21,8 @@ use Rattle.omap_map.specs.declared.records.OmapRecord.{OmapRecord}
 use Rattle.omap_map.specs.declared.records.Place.{Place}
 use Rattle.vol_view.specs.Fields as volumes
 use Rattle.vol_view.specs.Heads.{super_in, volume_place, head_of, head_for, head_at, heads_of}
-use Rattle.vol_view.specs.SnapRecords.{metadata_pairs, snapshot_pairs}
-use Rattle.vol_view.specs.Volumes.{Loaded, super_of, map_block_of, metadata_of, map_or_empty, empty_map, snapshots_in, snapshot_in, loaded_by, loaded_of}
+use Rattle.vol_view.specs.SnapRecords.{metadata_pairs, metadata_steps, snapshot_pairs}
+use Rattle.vol_view.specs.Volumes.{Loaded, super_of, map_block_of, metadata_of, metadata_steps_of, map_or_empty, empty_map, snapshots_in, snapshot_in, loaded_by, loaded_of}
 use Rattle.vol_view.specs.Agreement.{are_readable, is_snap_count, are_named, are_map_snapshots, Agree}
 use Rattle.vol_view.specs.LoadStops.{counted_snapshots, map_count, map_xids}
 use Rattle.vol_view.specs.Views.{live_of, views_of, view_named, hashed_tree, view_flat, view_line, is_view_walkable, is_view_counted}
@@ -103,17 +104,18 @@ loaded spec image = record {
   root_oid = 1028;
   extents_root = 55;
   snaps_root = 56;
+  snaps_steps = metadata_steps image (site spec) 56;
   meta_ext = 0;
   snaps = [];
 }
 
-loaded-by : (spec : Spec) (image bytes : List ℕ) (omap : Contents) → IsVolume spec bytes → omap ≡ contents_of image (site spec) 52 → loaded_by (head spec) bytes omap [] ≡ loaded spec image
-loaded-by spec image bytes omap v e =
+loaded-by : (spec : Spec) (image bytes : List ℕ) (omap : Contents) (steps : List Step) → IsVolume spec bytes → omap ≡ contents_of image (site spec) 52 → steps ≡ metadata_steps image (site spec) 56 → loaded_by (head spec) bytes omap steps [] ≡ loaded spec image
+loaded-by spec image bytes omap steps v e taken =
     let names : names_of (volumes.incompat_of bytes) ≡ Folded = ap names_of v.incompat in
-    by _ _ _ _ _ _ e names v.root v.extents v.snaps v.meta_ext
+    by _ _ _ _ _ _ _ e names v.root v.extents v.snaps taken v.meta_ext
   where
-    by : (o : Contents) (n : Names) (r x s m : ℕ) → o ≡ contents_of image (site spec) 52 → n ≡ Folded → r ≡ 1028 → x ≡ 55 → s ≡ 56 → m ≡ 0 → ◌≡◌ {A = Loaded} (record { head = head spec; omap = o; names = n; root_oid = r; extents_root = x; snaps_root = s; meta_ext = m; snaps = [] }) (loaded spec image)
-    by o n r x s m a b c d g h = cc
+    by : (o : Contents) (n : Names) (r x s : ℕ) (ts : List Step) (m : ℕ) → o ≡ contents_of image (site spec) 52 → n ≡ Folded → r ≡ 1028 → x ≡ 55 → s ≡ 56 → ts ≡ metadata_steps image (site spec) 56 → m ≡ 0 → ◌≡◌ {A = Loaded} (record { head = head spec; omap = o; names = n; root_oid = r; extents_root = x; snaps_root = s; snaps_steps = ts; meta_ext = m; snaps = [] }) (loaded spec image)
+    by o n r x s ts m a b c d g t h = cc
 
 map-there : (spec : Spec) (image : List ℕ) → IsValid spec → IsFresh spec image → map_or_empty image (site spec) (volumes.omap_oid_of (block_at image 51)) ≡ contents_of image (site spec) 52
 unfolding map_or_empty
@@ -124,9 +126,9 @@ map-there spec image v f =
 pub loaded-is : (spec : Spec) (image : List ℕ) → IsValid spec → IsFresh spec image → volume_of image (seen image) (head spec) ≡ loaded spec image
 unfolding loaded_of
 loaded-is spec image v f =
-    ap (λ s. loaded_by (head spec) (super_of image s (head spec)) (map_or_empty image s (map_block_of image s (head spec))) (snapshots_in image s (head spec))) (site-is spec image f)
-    ∙ ap (λ ps. loaded_by (head spec) (block_at image 51) (map_or_empty image (site spec) (volumes.omap_oid_of (block_at image 51))) (map (snapshot_in image (site spec)) (snapshot_pairs ps))) (no-metadata spec image v f)
-    ∙ loaded-by spec image (block_at image 51) _ f.volume (map-there spec image v f)
+    ap (λ s. loaded_by (head spec) (super_of image s (head spec)) (map_or_empty image s (map_block_of image s (head spec))) (metadata_steps_of image s (head spec)) (snapshots_in image s (head spec))) (site-is spec image f)
+    ∙ ap (λ ps. loaded_by (head spec) (block_at image 51) (map_or_empty image (site spec) (volumes.omap_oid_of (block_at image 51))) (metadata_steps image (site spec) (volumes.snaps_root_of (block_at image 51))) (map (snapshot_in image (site spec)) (snapshot_pairs ps))) (no-metadata spec image v f)
+    ∙ loaded-by spec image (block_at image 51) _ _ f.volume (map-there spec image v f) (ap (metadata_steps image (site spec)) f.volume.snaps)
 
 -- ---- its snapshots
 agree-none : Agree 0 0 [] []

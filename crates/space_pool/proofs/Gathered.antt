@@ -1,6 +1,10 @@
 -- What was gathered of the tree of a free queue.
-use Rattle.std.specs.Prelude.{◌≡◌, ℕ, ◌<◌, ◌==◌, Bool, true, false, if◌then◌else◌, List, [], ◌∷◌, ◌++◌, length, slice_get, Option, Some, refl}
-use Rattle.std.proofs.Common.{ap, sym, ◌∙◌, subst, get_or}
+use Rattle.std.specs.Prelude.{◌≡◌, ℕ, zero, suc, ◌+◌, ◌<◌, ◌≤◌, ◌==◌, Bool, true, false, if◌then◌else◌, List, [], ◌∷◌, ◌++◌, length, slice_get, Option, Some, refl}
+use Rattle.std.specs.List.{filter}
+use Rattle.std.proofs.Common.{arith, ap, sym, ◌∙◌, subst, get_or, append-nil, length-append}
+use Rattle.std.proofs.lemmas.Bool.Decides.{nat_tests}
+use Rattle.std.proofs.lemmas.List.Concat.{flat_map-append}
+use Rattle.std.proofs.lemmas.List.Sums.{length-filter, count_by-le-length}
 use Rattle.std.proofs.lemmas.List.Elements.{filter_map-append}
 use Rattle.std.proofs.lemmas.Option.{slice_get-get_or}
 use Rattle.apfs_model.specs.Lists.{In, passes}
@@ -13,17 +17,21 @@ use Rattle.bt_cursor.specs.declared.gathering.GatherFault.{GatherFault}
 use Rattle.bt_cursor.specs.declared.gathering.GatherFault.TheVariants as gathers
 use Rattle.bt_cursor.specs.declared.fault.WalkFault.{WalkFault}
 use Rattle.bt_cursor.specs.declared.fault.WalkFault.TheVariants as walks
-use Rattle.bt_cursor.specs.Line.{Item, line_of}
+use Rattle.bt_node.specs.Entries.{Pair}
+use Rattle.bt_cursor.specs.Tree.{Tree, child_in}
+use Rattle.bt_cursor.specs.Line.{Item, item_at, line_of}
 use Rattle.bt_cursor.specs.WholeTree.{leaf_pairs}
 use Rattle.bt_cursor.specs.Flat.{flat_of}
-use Rattle.bt_cursor.specs.Met.{nodes_of}
+use Rattle.bt_cursor.specs.Met.{places_under, places_in, places_of, has_node, nodes_of}
+use Rattle.bt_cursor.specs.Steps.{step_in, steps_in, steps_of}
+use Rattle.bt_cursor.specs.declared.step.Step.{Step}
 use Rattle.bt_cursor.specs.Faults.{IsWalkFault, HasFeature}
 use Rattle.bt_cursor.specs.Gathered.{IsGatherFault, IsGathered, IsRefused}
 use Rattle.bt_cursor.proofs.Flats.{line-pairs}
 use Rattle.bt_cursor.proofs.Lines.{leaf_pairs-append}
 use Rattle.bt_cursor.proofs.Wholes.{means_whole}
 use Rattle.nx_ring.specs.Checkpoint.{Seen}
-use Rattle.space_pool.specs.Queues.{queue_tree, queue_root, queue_of, queue_entry_of, queue_entries_in, queue_entries, ephemeral_named, is_short_item, are_queued_in_pool, is_queued_in_pool}
+use Rattle.space_pool.specs.Queues.{queue_tree, queue_root, queue_of, queue_entry_of, queue_entries_in, queue_entries, queue_steps, ephemeral_named, is_short_item, are_queued_in_pool, is_queued_in_pool}
 use Rattle.space_pool.specs.Stops.{HasShortItem, HasTree, IsQueueFault, IsQueueFeature, has_long_values, is_right_tree, AreQueued}
 use Rattle.space_pool.specs.Gathered.{entries_at, Gathers, said, walk_said, IsTreeFault, AreEntries, queue_nodes, IsOutside, IsPlaceFault}
 use Rattle.space_pool.specs.declared.entry.Queue.{Queue}
@@ -34,9 +42,12 @@ use Rattle.space_pool.specs.declared.fault.PoolFault.TheVariants.{Index, Count, 
 use Rattle.space_pool.proofs.Laws.{queue-refutes, queue-plain}
 
 -- what one more item gives was gathered
-pub gathers-more : (entries later : List QueueEntry) (items : List Item) (item : Item) → Gathers entries items → later ≡ entries ++ entries_at item → Gathers later (items ++ item ∷ [])
-gathers-more entries later items item had e =
-    e ∙ (ap (λ xs. xs ++ entries_at item) had ∙ (sym (filter_map-append queue_entry_of (leaf_pairs items) (leaf_pairs (item ∷ []))) ∙ ap queue_entries_in (sym (leaf_pairs-append items (item ∷ [])))))
+pub gathers-more : (entries later : List QueueEntry) (steps further : List Step) (items : List Item) (item : Item)
+    → Gathers entries steps items → later ≡ entries ++ entries_at item → further ≡ steps ++ step_in item → Gathers later further (items ++ item ∷ [])
+gathers-more entries later steps further items item had e f = record {
+  same = e ∙ (ap (λ xs. xs ++ entries_at item) had.same ∙ (sym (filter_map-append queue_entry_of (leaf_pairs items) (leaf_pairs (item ∷ []))) ∙ ap queue_entries_in (sym (leaf_pairs-append items (item ∷ [])))));
+  taken = f ∙ (ap (λ xs. xs ++ step_in item) had.taken ∙ (ap (λ xs. steps_in items ++ xs) (sym (append-nil (step_in item))) ∙ sym (flat_map-append step_in items (item ∷ []))));
+}
 
 if-not : {A : Type 0} (b : Bool) (x y : A) → b ≡ false → (if b then x else y) ≡ y
 if-not true x y e = absurd (cc)
@@ -47,17 +58,22 @@ if-so true x y e = refl
 if-so false x y e = absurd (cc)
 
 -- a whole tree was gathered
-gathered-right : (image : List ℕ) (seen : Seen) (root : ℕ) (entries : List QueueEntry) → IsGathered (queue_tree image seen) root (Gathers entries) is_short_item → is_right_tree image seen root ≡ true
+gathered-right : (image : List ℕ) (seen : Seen) (root : ℕ) (entries : List QueueEntry) (steps : List Step) → IsGathered (queue_tree image seen) root (Gathers entries steps) is_short_item → is_right_tree image seen root ≡ true
 unfolding is_right_tree has_long_values
-gathered-right image seen root entries all = right-or (root == 0) _ (both-true _ _ (means_whole (queue_tree image seen) root all.whole) (false-not _ all.none_refused))
+gathered-right image seen root entries steps all = right-or (root == 0) _ (both-true _ _ (means_whole (queue_tree image seen) root all.whole) (false-not _ all.none_refused))
 
-gathered-same : (image : List ℕ) (seen : Seen) (root : ℕ) (entries : List QueueEntry) → (root == 0) ≡ false → IsGathered (queue_tree image seen) root (Gathers entries) is_short_item → entries ≡ queue_entries image seen root
+gathered-same : (image : List ℕ) (seen : Seen) (root : ℕ) (entries : List QueueEntry) (steps : List Step) → (root == 0) ≡ false → IsGathered (queue_tree image seen) root (Gathers entries steps) is_short_item → entries ≡ queue_entries image seen root
 unfolding queue_entries
-gathered-same image seen root entries some all =
-    all.held ∙ (ap queue_entries_in (line-pairs (queue_tree image seen) root) ∙ sym (if-not (root == 0) [] (queue_entries_in (flat_of (queue_tree image seen) root)) some))
+gathered-same image seen root entries steps some all =
+    all.held.same ∙ (ap queue_entries_in (line-pairs (queue_tree image seen) root) ∙ sym (if-not (root == 0) [] (queue_entries_in (flat_of (queue_tree image seen) root)) some))
 
-pub gathered-entries : (image : List ℕ) (seen : Seen) (root : ℕ) (entries : List QueueEntry) → (root == 0) ≡ false → IsGathered (queue_tree image seen) root (Gathers entries) is_short_item → AreEntries image seen root entries
-gathered-entries image seen root entries some all = record { right = gathered-right image seen root entries all; same = gathered-same image seen root entries some all }
+pub gathered-entries : (image : List ℕ) (seen : Seen) (root : ℕ) (entries : List QueueEntry) (steps : List Step) → (root == 0) ≡ false → IsGathered (queue_tree image seen) root (Gathers entries steps) is_short_item → AreEntries image seen root entries
+gathered-entries image seen root entries steps some all = record { right = gathered-right image seen root entries steps all; same = gathered-same image seen root entries steps some all }
+
+-- and its steps
+pub gathered-steps : (image : List ℕ) (seen : Seen) (root : ℕ) (entries : List QueueEntry) (steps : List Step) → (root == 0) ≡ false → IsGathered (queue_tree image seen) root (Gathers entries steps) is_short_item → steps ≡ queue_steps image seen root
+unfolding queue_steps
+gathered-steps image seen root entries steps some all = all.held.taken ∙ sym (if-not (root == 0) [] (steps_of (queue_tree image seen) root) some)
 
 -- where there is no tree, there are no entries
 pub none-entries : (image : List ℕ) (seen : Seen) (root : ℕ) → (root == 0) ≡ true → AreEntries image seen root []
@@ -67,9 +83,41 @@ none-entries image seen root none = record {
   same = sym (if-so (root == 0) [] (queue_entries_in (flat_of (queue_tree image seen) root)) none);
 }
 
+-- and no steps
+pub none-steps : (image : List ℕ) (seen : Seen) (root : ℕ) → (root == 0) ≡ true → [] ≡ queue_steps image seen root
+unfolding queue_steps
+none-steps image seen root none = sym (if-so (root == 0) [] (steps_of (queue_tree image seen) root) none)
+
 pub nodes-some : (image : List ℕ) (seen : Seen) (root : ℕ) → (root == 0) ≡ false → queue_nodes image seen root ≡ length (nodes_of (queue_tree image seen) root)
 unfolding queue_nodes
 nodes-some image seen root some = if-not (root == 0) 0 (length (nodes_of (queue_tree image seen) root)) some
+
+-- an item leads to a place exactly if it is a step
+step-place : (node at level : ℕ) (pair : Pair) → length (places_under level pair) ≡ length (step_in (item_at node at level pair))
+step-place node at zero pair = refl
+step-place node at (suc level) pair =
+    let upper : (suc level == 0) ≡ false = grind (arith, nat_tests) in
+    ap length (sym (if-not (suc level == 0) [] (record { node = node; at = at; level = suc level; child = child_in pair } ∷ []) upper))
+
+steps-places : (items : List Item) → length (places_in items) ≡ length (steps_in items)
+steps-places [] = refl
+steps-places (item ∷ items) =
+    length-append (places_under item.level item.pair) (places_in items)
+    ∙ (ap (λ n. n + length (places_in items)) (step-place item.node item.at item.level item.pair)
+    ∙ (ap (λ n. length (step_in item) + n) (steps-places items) ∙ sym (length-append (step_in item) (steps_in items))))
+
+-- a tree has at most one node more than steps
+nodes-steps : {K : Type 0} (tree : Tree K) (root : ℕ) → length (nodes_of tree root) ≤ suc (length (steps_of tree root))
+nodes-steps tree root =
+    let places = places_of tree root in
+    omega (arith, length-filter (has_node tree) places, count_by-le-length (has_node tree) places, steps-places (line_of tree root))
+
+-- a queue's tree has at most one node more than steps
+pub queue-few : (image : List ℕ) (seen : Seen) (root : ℕ) → queue_nodes image seen root ≤ suc (length (queue_steps image seen root))
+unfolding queue_nodes queue_steps
+queue-few image seen root =
+    let tree = queue_tree image seen in
+    elim (root == 0) as (λ b. (if b then 0 else length (nodes_of tree root)) ≤ suc (length (if b then [] else steps_of tree root))) [ true ↦ omega arith | false ↦ nodes-steps tree root ]
 
 get-seam : (before after : List Item) (item : Item) → slice_get (before ++ item ∷ after) (length before) ≡ Some item
 get-seam [] after item = refl

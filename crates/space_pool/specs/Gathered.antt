@@ -8,6 +8,8 @@ use Rattle.bt_cursor.specs.declared.gathering.GatherFault.TheVariants as gathers
 use Rattle.bt_cursor.specs.Line.{Item}
 use Rattle.bt_cursor.specs.WholeTree.{leaf_pairs}
 use Rattle.bt_cursor.specs.Met.{nodes_of}
+use Rattle.bt_cursor.specs.Steps.{steps_in}
+use Rattle.bt_cursor.specs.declared.step.Step.{Step}
 use Rattle.bt_cursor.specs.Faults.{IsNodeFault, IsWalkFault}
 use Rattle.nx_ring.specs.Checkpoint.{Seen}
 use Rattle.space_pool.specs.Queues.{queue_entries_in, queue_entries, queue_tree, ephemeral_named, is_queued_in_pool}
@@ -22,9 +24,10 @@ use Rattle.space_pool.specs.declared.fault.PoolFault.TheVariants.{Index, Count, 
 abbrev pub entries_at : Item → List QueueEntry
 entries_at item = queue_entries_in (leaf_pairs (item ∷ []))
 
--- these are the entries that some items give
-abbrev pub Gathers : List QueueEntry → List Item → Type 0
-Gathers entries items = entries ≡ queue_entries_in (leaf_pairs items)
+-- these are the entries that some items give, and the steps among them
+pub record Gathers (entries : List QueueEntry) (steps : List Step) (items : List Item) : Type 0 where
+  pub same : entries ≡ queue_entries_in (leaf_pairs items)
+  pub taken : steps ≡ steps_in items
 
 -- why a walk stops, said of a queue whose root stands in a block
 abbrev pub walk_said : ℕ → WalkFault → PoolFault

@@ -10,6 +10,8 @@ use Rattle.bt_keys.specs.Values.{queue_length_of}
 use Rattle.bt_cursor.specs.Tree.{Tree, tree_in}
 use Rattle.bt_cursor.specs.Flat.{flat_of}
 use Rattle.bt_cursor.specs.Line.{Item, is_leaf_item}
+use Rattle.bt_cursor.specs.Steps.{steps_of}
+use Rattle.bt_cursor.specs.declared.step.Step.{Step}
 use Rattle.nx_ring.specs.Objects.{Place}
 use Rattle.nx_ring.specs.Checkpoint.{Seen, eph, site_of}
 use Rattle.space_map.specs.Fields.{pool_queue_of, main_queue_of, pool_base_of, pool_blocks_of}
@@ -49,6 +51,10 @@ queue_entries_in pairs = filter_map queue_entry_of pairs
 -- the entries of the tree of a root, in tree order, none where the root is 0
 unfoldable pub queue_entries : List ℕ → Seen → ℕ → List QueueEntry
 queue_entries image seen root = if root == 0 then [] else queue_entries_in (flat_of (queue_tree image seen) root)
+
+-- the steps of the tree of a root, none where the root is 0
+unfoldable pub queue_steps : List ℕ → Seen → ℕ → List Step
+queue_steps image seen root = if root == 0 then [] else steps_of (queue_tree image seen) root
 
 -- the entries of a queue
 abbrev pub queue_of : List ℕ → Seen → List ℕ → Queue → List QueueEntry

@@ -9,23 +9,24 @@ ghost use Rattle.space_pool.specs.Gathered.{entries_at, Gathers};
 
 use crate::QueueEntry;
 use blk_source::NoMemory;
-use bt_cursor::{Keeper, LineItem};
+use bt_cursor::{Keeper, LineItem, Step};
 use bt_keys::{QueueKey, queue_length};
 
-/// The entries of a queue, in tree order.
+/// The entries of a queue, and the steps of its tree, in the order of its Line.
 #[derive(Drop)]
 pub(crate) struct Kept {
     pub entries: Vec<QueueEntry>,
+    pub steps: Vec<Step>,
 }
 
 // Puts what an item gave after what was gathered.
-fn add(entries: &mut Vec<QueueEntry>, given: Option<QueueEntry>) -> Result<(), NoMemory>
-    ensures { OnOk result (entries.new.items ≡ entries.old.items ++ option_to_list given) }
+fn add<T: Drop>(gathered: &mut Vec<T>, given: Option<T>) -> Result<(), NoMemory>
+    ensures { OnOk result (gathered.new.items ≡ gathered.old.items ++ option_to_list given) }
 {
-    let Some(entry) = given else {
+    let Some(item) = given else {
         return Ok(());
     };
-    entries.push(entry)?;
+    gathered.push(item)?;
     Ok(())
 }
 
@@ -50,14 +51,15 @@ fn entry_at(item: LineItem<'_, QueueKey>) -> Option<Option<QueueEntry>>
 impl Keeper<QueueKey> for Kept {
     ghost refuses = { is_short_item };
 
-    ghost holds = { λ kept items. Gathers kept.entries.items items };
+    ghost holds = { λ kept items. Gathers kept.entries.items kept.steps.items items };
 
     fn keep(&mut self, item: LineItem<'_, QueueKey>) -> Result<bool, NoMemory>
         requires key { queue_shape.read item.pair.key_bytes.now ≡ Some item.pair.key }
         requires child { item.child ≡ child_id (shown item.node item.at item.level item.pair.key_bytes.now (option_map (λ value. value.now) item.pair.value)) }
         ensures refused { IfOk result (λ kept. kept ≡ not (is_short_item (shown item.entry.node item.entry.at item.entry.level item.entry.pair.key_bytes.now (option_map (λ value. value.now) item.entry.pair.value)))) }
-        ensures held { (items : List Item) → Gathers self.old.entries.items items → IfOk result (λ kept. IsTrue kept → Gathers self.new.entries.items (items ++ shown item.entry.node item.entry.at item.entry.level item.entry.pair.key_bytes.now (option_map (λ value. value.now) item.entry.pair.value) ∷ [])) }
+        ensures held { (items : List Item) → Gathers self.old.entries.items self.old.steps.items items → IfOk result (λ kept. IsTrue kept → Gathers self.new.entries.items self.new.steps.items (items ++ shown item.entry.node item.entry.at item.entry.level item.entry.pair.key_bytes.now (option_map (λ value. value.now) item.entry.pair.value) ∷ [])) }
     {
+        add(&mut self.steps, item.step())?;
         let Some(given) = entry_at(item) else {
             return Ok(false);
         };

@@ -1,5 +1,5 @@
 // Reading a free queue (Space Manager, spaceman_free_queue_t).
-ghost use Rattle.std.specs.Prelude.{◌≡◌, ◌||◌, ◌+◌, ◌≤◌, ◌==◌, ℕ, List, Some, true, false, length, OnOk, IfOk, IfErr, IfNone, IfSome, IsErrOf};
+ghost use Rattle.std.specs.Prelude.{◌≡◌, ◌||◌, ◌+◌, ◌≤◌, ◌==◌, ℕ, suc, List, Some, true, false, length, OnOk, IfOk, IfErr, IfNone, IfSome, IsErrOf};
 ghost use Rattle.std.specs.List.{list_all};
 ghost use Rattle.apfs_model.specs.Blocks.{is_within};
 ghost use Rattle.apfs_model.specs.Counts.{Rose};
@@ -10,12 +10,12 @@ ghost use Rattle.obj_base.specs.Site.{IsSiteFor};
 ghost use Rattle.bt_cursor.specs.Faults.{HasFeature};
 ghost use Rattle.nx_ring.specs.Checkpoint.{site_of};
 ghost use Rattle.space_map.specs.Fields.{pool_base_of, pool_blocks_of};
-ghost use Rattle.space_pool.specs.Queues.{ephemeral_named, queue_root, queue_tree, queue_of, is_queued_in_pool, are_queued_in_pool};
+ghost use Rattle.space_pool.specs.Queues.{ephemeral_named, queue_root, queue_tree, queue_of, queue_steps, is_queued_in_pool, are_queued_in_pool};
 ghost use Rattle.space_pool.specs.Stops.{IsQueueFault, IsQueueFeature, AreQueued};
 ghost use Rattle.space_pool.specs.Gathered.{said, IsTreeFault, AreEntries, queue_nodes, IsOutside, IsPlaceFault};
 
 use crate::keep::Kept;
-use crate::{Ephemeral, PoolFault, Queue, QueueEntry};
+use crate::{Ephemeral, PoolFault, Queue, QueueEntry, Queued};
 use apfs_layout::space_manager as layout;
 use blk_source::BlockSource;
 use bt_cursor::{GatherFault, Namer, WalkFault, gather};
@@ -44,18 +44,19 @@ fn raise(block: u64, stop: Stop<GatherFault>) -> Stop<PoolFault>
     }
 }
 
-// The entries of the tree of a root, whose block is handed in.
-fn entries_in<S: BlockSource>(
+// The entries and the steps of the tree of a root, whose block is handed in.
+fn walked_from<S: BlockSource>(
     alloc: Global,
     src: &mut S,
     cp: &Checkpoint,
     root: u64,
     block: u64,
-) -> Result<Vec<QueueEntry>, Stop<PoolFault>>
+) -> Result<Kept, Stop<PoolFault>>
     requires site { IsSiteFor (site_of cp.now) (S.bytes_len src.old) }
     requires some { (root == 0) ≡ false }
     requires named { ephemeral_named cp.now root ≡ Some block }
-    ensures clear { (image : List ℕ) → S.bytes src.old ≡ Some image → IfOk result (λ entries. AreEntries image cp.now root entries.items) }
+    ensures clear { (image : List ℕ) → S.bytes src.old ≡ Some image → IfOk result (λ kept. AreEntries image cp.now root kept.entries.items) }
+    ensures steps { (image : List ℕ) → S.bytes src.old ≡ Some image → IfOk result (λ kept. kept.steps.items ≡ queue_steps image cp.now root) }
     ensures present { (image : List ℕ) → S.bytes src.old ≡ Some image → IfErr result (Tells (IsTreeFault image cp.now root) (HasFeature (queue_tree image cp.now) root)) }
     ensures cause { IsErrOf result ReadFault → Rose (S.faults src.old) (S.faults src.new) }
     ensures kept { IsKept S.bytes S.bytes_len S.faults src.old src.new }
@@ -63,6 +64,7 @@ fn entries_in<S: BlockSource>(
 {
     let none = Kept {
         entries: Vec::new(alloc),
+        steps: Vec::new(alloc),
     };
     let site = cp.site();
     match gather::<QueueKey, S, Ephemeral<'_>, Kept>(
@@ -73,21 +75,22 @@ fn entries_in<S: BlockSource>(
         &site,
         none,
     ) {
-        Ok(Kept { entries }) => Ok(entries),
+        Ok(kept) => Ok(kept),
         Err(stop) => Err(raise(block, stop)),
     }
 }
 
-// The entries of the tree of a root that isn't 0.
-fn entries<S: BlockSource>(
+// The entries and the steps of the tree of a root that isn't 0.
+fn walked<S: BlockSource>(
     alloc: Global,
     src: &mut S,
     cp: &Checkpoint,
     root: u64,
-) -> Result<Vec<QueueEntry>, Stop<PoolFault>>
+) -> Result<Kept, Stop<PoolFault>>
     requires site { IsSiteFor (site_of cp.now) (S.bytes_len src.old) }
     requires some { (root == 0) ≡ false }
-    ensures clear { (image : List ℕ) → S.bytes src.old ≡ Some image → IfOk result (λ entries. AreEntries image cp.now root entries.items) }
+    ensures clear { (image : List ℕ) → S.bytes src.old ≡ Some image → IfOk result (λ kept. AreEntries image cp.now root kept.entries.items) }
+    ensures steps { (image : List ℕ) → S.bytes src.old ≡ Some image → IfOk result (λ kept. kept.steps.items ≡ queue_steps image cp.now root) }
     ensures present { (image : List ℕ) → S.bytes src.old ≡ Some image → IfErr result (Tells (IsTreeFault image cp.now root) (HasFeature (queue_tree image cp.now) root)) }
     ensures cause { IsErrOf result ReadFault → Rose (S.faults src.old) (S.faults src.new) }
     ensures kept { IsKept S.bytes S.bytes_len S.faults src.old src.new }
@@ -95,7 +98,7 @@ fn entries<S: BlockSource>(
 {
     let namer = Ephemeral { cp };
     match namer.block(root) {
-        Some(block) => entries_in(alloc, src, cp, root, block),
+        Some(block) => walked_from(alloc, src, cp, root, block),
         None => Err(Stop::Found(PoolFault::Unnamed { oid: root })),
     }
 }
@@ -155,6 +158,46 @@ fn root_of(space: &Space, which: Queue) -> u64
     }
 }
 
+/// The entries of a free queue, in tree order, and the steps of its tree; none where the queue has no tree. `space` is that of
+/// the checkpoint. `Unnamed` comes where the id of a node of its tree names no block, `Walk` where the tree isn't whole
+/// otherwise, `Value` where the value of an item is too short, and for the pool's queue `Place` where an entry leaves the pool.
+pub fn queue_walk<S: BlockSource>(
+    alloc: Global,
+    src: &mut S,
+    cp: &Checkpoint,
+    space: &Space,
+    which: Queue,
+) -> Result<Queued, Stop<PoolFault>>
+    requires site { IsSiteFor (site_of cp.now) (S.bytes_len src.old) }
+    ensures clear { (image : List ℕ) → S.bytes src.old ≡ Some image → IfOk result (λ queued. AreQueued image cp.now space.now.manager which queued.entries.items) }
+    ensures steps { (image : List ℕ) → S.bytes src.old ≡ Some image → IfOk result (λ queued. queued.steps.items ≡ queue_steps image cp.now (queue_root which space.now.manager)) }
+    ensures present { (image : List ℕ) → S.bytes src.old ≡ Some image → IfErr result (Tells (IsQueueFault image cp.now space.now.manager which) (IsQueueFeature image cp.now space.now.manager which)) }
+    ensures exact { (image : List ℕ) → S.bytes src.old ≡ Some image → AreQueued image cp.now space.now.manager which (queue_of image cp.now space.now.manager which) → IfErr result IsFree }
+    ensures cause { IsErrOf result ReadFault → Rose (S.faults src.old) (S.faults src.new) }
+    ensures kept { IsKept S.bytes S.bytes_len S.faults src.old src.new }
+    ensures reads { (image : List ℕ) → S.bytes src.old ≡ Some image → OnOk result (S.reads src.new ≤ S.reads src.old + queue_nodes image cp.now (queue_root which space.now.manager)) }
+    ensures by_steps { (image : List ℕ) → S.bytes src.old ≡ Some image → IfOk result (λ queued. S.reads src.new ≤ S.reads src.old + suc (length queued.steps.items)) }
+{
+    let root = root_of(space, which);
+    if root == 0 {
+        return Ok(Queued {
+            entries: Vec::new(alloc),
+            steps: Vec::new(alloc),
+        });
+    }
+    let kept = match walked(alloc, src, cp, root) {
+        Ok(kept) => kept,
+        Err(stop) => return Err(stop),
+    };
+    match placed(space, which, kept.entries) {
+        Ok(entries) => Ok(Queued {
+            entries,
+            steps: kept.steps,
+        }),
+        Err(fault) => Err(Stop::Found(fault)),
+    }
+}
+
 /// The entries of a free queue, in tree order; none where the queue has no tree. `space` is that of the checkpoint.
 /// `Unnamed` comes where the id of a node of its tree names no block, `Walk` where the tree isn't whole otherwise, `Value`
 /// where the value of an item is too short, and for the pool's queue `Place` where an entry leaves the pool.
@@ -173,16 +216,8 @@ pub fn queue<S: BlockSource>(
     ensures kept { IsKept S.bytes S.bytes_len S.faults src.old src.new }
     ensures reads { (image : List ℕ) → S.bytes src.old ≡ Some image → OnOk result (S.reads src.new ≤ S.reads src.old + queue_nodes image cp.now (queue_root which space.now.manager)) }
 {
-    let root = root_of(space, which);
-    if root == 0 {
-        return Ok(Vec::new(alloc));
-    }
-    let entries = match entries(alloc, src, cp, root) {
-        Ok(entries) => entries,
-        Err(stop) => return Err(stop),
-    };
-    match placed(space, which, entries) {
-        Ok(entries) => Ok(entries),
-        Err(fault) => Err(Stop::Found(fault)),
+    match queue_walk(alloc, src, cp, space, which) {
+        Ok(Queued { entries, steps: _ }) => Ok(entries),
+        Err(stop) => Err(stop),
     }
 }

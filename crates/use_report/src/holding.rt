@@ -1,5 +1,5 @@
 // The pieces of the blocks that a view holds.
-ghost use Rattle.std.specs.Prelude.{◌≡◌, ◌<◌, ◌==◌, ℕ, List, Some, false, true, OnOk, IfOk, IfErr, IsErrOf, IsTrue};
+ghost use Rattle.std.specs.Prelude.{◌≡◌, ◌<◌, ◌==◌, ℕ, List, map, Some, false, true, OnOk, IfOk, IfErr, IsErrOf, IsTrue};
 ghost use Rattle.apfs_model.specs.Counts.{Rose};
 ghost use Rattle.apfs_model.specs.Lists.{In};
 ghost use Rattle.apfs_model.specs.Kept.{IsKept};
@@ -9,6 +9,7 @@ ghost use Rattle.obj_base.specs.declared.stop.Stop.TheVariants.{ReadFault};
 ghost use Rattle.fs_record.specs.StreamExtents.{is_extent_placed};
 ghost use Rattle.fs_record.specs.declared.extents.FileExt as stored;
 ghost use Rattle.vol_view.specs.Views.{view_named, IsViewFeature};
+ghost use Rattle.ext_ref.specs.Ranges.{blocks_by};
 ghost use Rattle.ext_ref.specs.Stops.{IsExtFeature, is_right_tree};
 ghost use Rattle.use_report.specs.Counted.{Grows};
 ghost use Rattle.use_report.specs.Faults.{IsUseFaultIn};
@@ -22,7 +23,7 @@ use crate::kept::KeptView;
 use crate::pieces::Pieces;
 use apfs_model::NoMemory;
 use blk_source::BlockSource;
-use bt_cursor::{GatherFault, Namer};
+use bt_cursor::{GatherFault, Namer, Step};
 use ext_ref::{ExtScan, ExtStop, scan};
 use fs_record::FileExt;
 use obj_base::{Site, Stop};
@@ -85,13 +86,25 @@ fn add_metadata(
     add_named(held, volume, &kept.view, site, kept.meta_ext)
 }
 
-// Adds some blocks.
-fn add_blocks(held: &mut Pieces, blocks: &[u64]) -> Result<(), NoMemory>
-    ensures { OnOk result (Grows held.old held.new (λ block. In block blocks.now)) }
+// Adds the children of some steps.
+fn add_children(held: &mut Pieces, steps: &[Step]) -> Result<(), NoMemory>
+    ensures { OnOk result (Grows held.old held.new (λ block. In block (map (λ step. step.child) steps.now))) }
 {
-    'each: for block in blocks {
-        held.add(*block, 1)?;
+    'each: for step in steps {
+        held.add(step.child, 1)?;
     }
+    Ok(())
+}
+
+// Adds the nodes of a tree by its root and its steps; none where the root is 0, since there is no tree then.
+fn add_tree(held: &mut Pieces, root: u64, steps: &[Step]) -> Result<(), NoMemory>
+    ensures { OnOk result (Grows held.old held.new (λ block. In block (blocks_by root steps.now))) }
+{
+    if root == 0 {
+        return Ok(());
+    }
+    held.add(root, 1)?;
+    add_children(held, steps)?;
     Ok(())
 }
 
@@ -211,8 +224,8 @@ pub(crate) fn add_references<S: BlockSource>(
     ensures kept { IsKept S.bytes S.bytes_len S.faults src.old src.new }
 {
     match scan(alloc, src, kept.extents_root, site) {
-        Ok(ExtScan { nodes, ranges: _ }) => {
-            add_blocks(held, &nodes)?;
+        Ok(ExtScan { steps, ranges: _ }) => {
+            add_tree(held, kept.extents_root, &steps)?;
             Ok(())
         }
         Err(stop) => Err(of_references(kept.view.xid, stop)),

@@ -1,8 +1,9 @@
 -- What is gathered of the records of snapshots and of their names.
 use Rattle.std.specs.Prelude.{◌≡◌, ℕ, ◌+◌, ◌<◌, not, Bool, true, false, cond, ◌&&◌, ◌||◌, ◌==◌, nat_le, List, [], ◌∷◌, ◌++◌, length, map, Option, None, Some, refl, Result, Ok, Err, IfOk, IsTrue, is_some, is_none, option_map, option_to_list}
 use Rattle.std.specs.List.{filter, list_all, list_any}
-use Rattle.std.proofs.Common.{arith, ap, sym, ◌∙◌, subst, inl, inr}
+use Rattle.std.proofs.Common.{arith, ap, sym, ◌∙◌, subst, inl, inr, append-nil}
 use Rattle.std.proofs.lemmas.List.{map-append}
+use Rattle.std.proofs.lemmas.List.Concat.{flat_map-append}
 use Rattle.std.proofs.lemmas.List.Elements.{filter-append}
 use Rattle.apfs_model.specs.Lists.{In}
 use Rattle.apfs_model.proofs.BoolTests.{clash, left-true, right-true, both-true, either-from, never-true, equal-from, from-equal, all-in}
@@ -14,13 +15,15 @@ use Rattle.bt_keys.specs.declared.record_key.SnapKey.{SnapKey}
 use Rattle.bt_cursor.specs.Line.{Item, is_leaf_item}
 use Rattle.bt_cursor.specs.WholeTree.{leaf_pairs}
 use Rattle.bt_cursor.specs.Gathered.{shown, IsRefused}
+use Rattle.bt_cursor.specs.Steps.{step_in, steps_in}
+use Rattle.bt_cursor.specs.declared.step.Step.{Step}
 use Rattle.apfs_model.specs.declared.failed.NoMemory.{NoMemory}
 use Rattle.bt_cursor.proofs.Lines.{leaf_pairs-append}
 use Rattle.fs_name.specs.Text.{is_name, name_in}
 use Rattle.fs_name.specs.Steps.{name_of}
 use Rattle.vol_view.specs.SnapRecords.{is_snapshot, is_snapshot_name, snapshot_pairs, name_pairs, snap_name_len, snap_name_bytes, is_snapshot_long, is_snapshot_readable, is_name_readable, named_xid}
 use Rattle.vol_view.specs.Agreement.{are_readable}
-use Rattle.vol_view.specs.Gathered.{snapshot_with, snapshot_read, name_with, name_read, snapshot_told, name_told, is_unread, is_refused, Tell}
+use Rattle.vol_view.specs.Gathered.{snapshot_with, snapshot_read, name_with, name_read, snapshot_told, name_told, is_unread, is_refused, Tell, Gives}
 use Rattle.vol_view.specs.declared.records.SnapshotRecord.{SnapshotRecord}
 use Rattle.vol_view.specs.declared.records.NameRecord.{NameRecord}
 
@@ -74,6 +77,15 @@ tell-more items item snapshots later names further had e f =
       snapshots_same = e ∙ (ap (λ xs. xs ++ map snapshot_told (snapshot_pairs one)) had.snapshots_same ∙ (sym (map-append snapshot_told (snapshot_pairs all) (snapshot_pairs one)) ∙ (ap (map snapshot_told) (sym (filter-append is_snapshot all one)) ∙ ap (λ ps. map snapshot_told (snapshot_pairs ps)) (sym joined))));
       names_same = f ∙ (ap (λ xs. xs ++ map name_told (name_pairs one)) had.names_same ∙ (sym (map-append name_told (name_pairs all) (name_pairs one)) ∙ (ap (map name_told) (sym (filter-append is_snapshot_name all one)) ∙ ap (λ ps. map name_told (name_pairs ps)) (sym joined))));
     }
+
+-- one more item was gathered, with its step
+pub gives-more : (r : Result Bool NoMemory) (items : List Item) (item : Item) (snapshots later : List SnapshotRecord) (names further : List NameRecord) (steps taken : List Step) → Gives items snapshots names steps → taken ≡ steps ++ step_in item
+    → IfOk r (λ kept. IsTrue kept → Tell (leaf_pairs (items ++ item ∷ [])) later further) → IfOk r (λ kept. IsTrue kept → Gives (items ++ item ∷ []) later further taken)
+gives-more (Ok kept) items item snapshots later names further steps taken had e told = λ t. record {
+  told = told t;
+  taken = e ∙ (ap (λ xs. xs ++ step_in item) had.taken ∙ (ap (λ xs. steps_in items ++ xs) (sym (append-nil (step_in item))) ∙ sym (flat_map-append step_in items (item ∷ []))));
+}
+gives-more (Err stop) items item snapshots later names further steps taken had e told = tt
 
 -- what the records of an item tell
 abbrev snapshots_told : Item → List SnapshotRecord

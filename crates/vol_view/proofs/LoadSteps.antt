@@ -16,6 +16,8 @@ use Rattle.obj_base.specs.declared.site.Site.{Site}
 use Rattle.bt_cursor.specs.Line.{line_of}
 use Rattle.bt_cursor.specs.WholeTree.{leaf_pairs}
 use Rattle.bt_cursor.specs.Flat.{flat_of}
+use Rattle.bt_cursor.specs.Steps.{steps_of}
+use Rattle.bt_cursor.specs.declared.step.Step.{Step}
 use Rattle.bt_cursor.specs.Whole.{is_whole}
 use Rattle.bt_cursor.specs.Faults.{HasFeature}
 use Rattle.bt_cursor.specs.Gathered.{IsGatherFault, IsGathered}
@@ -30,11 +32,11 @@ use Rattle.omap_map.specs.declared.fault.OmapFault.{OmapFault}
 use Rattle.omap_map.proofs.Loads.{whole-object}
 use Rattle.vol_view.specs.Heads.{super_in, super_test, has_magic, is_super}
 use Rattle.vol_view.specs.Slots.{map_raised, after_header, tested}
-use Rattle.vol_view.specs.SnapRecords.{metadata_tree, metadata_pairs}
+use Rattle.vol_view.specs.SnapRecords.{metadata_tree, metadata_pairs, metadata_steps}
 use Rattle.vol_view.specs.Volumes.{map_block_of, metadata_of}
 use Rattle.vol_view.specs.Agreement.{are_readable}
 use Rattle.vol_view.specs.LoadStops.{metadata_root, IsLoadStop, IsLoadFeature}
-use Rattle.vol_view.specs.Gathered.{first_of, is_refused, Tell, metadata_stop, HasMetadata}
+use Rattle.vol_view.specs.Gathered.{first_of, is_refused, Tell, Gives, metadata_stop, HasMetadata}
 use Rattle.vol_view.specs.declared.head.VolHead.{VolHead}
 use Rattle.vol_view.specs.declared.volume.Snapshot.{Snapshot}
 use Rattle.vol_view.specs.declared.stop.VolStop.{VolStop}
@@ -99,6 +101,15 @@ pairs-none : (image : List ℕ) (site : Site) (root : ℕ) → root ≡ 0 → me
 unfolding metadata_pairs
 pairs-none image site root none = ap (λ (r : ℕ). cond (r == 0) [] (flat_of (metadata_tree image site) r)) none
 
+steps-some : (image : List ℕ) (site : Site) (root : ℕ) → (root == 0) ≡ false → metadata_steps image site root ≡ steps_of (metadata_tree image site) root
+unfolding metadata_steps
+steps-some image site root some = ap (λ (b : Bool). cond b [] (steps_of (metadata_tree image site) root)) some
+
+-- where a volume has no snapshot metadata tree, there are no steps
+pub steps-none : (image : List ℕ) (site : Site) (root : ℕ) → root ≡ 0 → metadata_steps image site root ≡ []
+unfolding metadata_steps
+steps-none image site root none = ap (λ (r : ℕ). cond (r == 0) [] (steps_of (metadata_tree image site) r)) none
+
 none-readable : are_readable [] ≡ true
 unfolding are_readable
 none-readable = refl
@@ -114,16 +125,21 @@ no-metadata image site root none =
     }
 
 -- the records of a whole snapshot metadata tree were gathered
-pub gathered-metadata : (image : List ℕ) (site : Site) (root : ℕ) (snapshots : List SnapshotRecord) (names : List NameRecord) → (root == 0) ≡ false
-    → IsGathered (metadata_tree image site) root (λ items. Tell (leaf_pairs items) snapshots names) is_refused → HasMetadata image site root snapshots names
-gathered-metadata image site root snapshots names some all =
+pub gathered-metadata : (image : List ℕ) (site : Site) (root : ℕ) (snapshots : List SnapshotRecord) (names : List NameRecord) (steps : List Step) → (root == 0) ≡ false
+    → IsGathered (metadata_tree image site) root (λ items. Gives items snapshots names steps) is_refused → HasMetadata image site root snapshots names
+gathered-metadata image site root snapshots names steps some all =
     let tree = metadata_tree image site in
     let pairs : leaf_pairs (line_of tree root) ≡ metadata_pairs image site root = line-pairs tree root ∙ sym (pairs-some image site root some) in
     record {
       whole = ap (λ (b : Bool). root == 0 || b) (means_whole tree root all.whole) ∙ ap (λ (b : Bool). b || true) some;
       readable = ap are_readable (sym pairs) ∙ kept-readable (line_of tree root) all.none_refused;
-      told = subst (λ ps. Tell ps snapshots names) pairs all.held;
+      told = subst (λ ps. Tell ps snapshots names) pairs all.held.told;
     }
+
+-- and the steps of the tree
+pub gathered-steps : (image : List ℕ) (site : Site) (root : ℕ) (snapshots : List SnapshotRecord) (names : List NameRecord) (steps : List Step) → (root == 0) ≡ false
+    → IsGathered (metadata_tree image site) root (λ items. Gives items snapshots names steps) is_refused → steps ≡ metadata_steps image site root
+gathered-steps image site root snapshots names steps some all = all.held.taken ∙ sym (steps-some image site root some)
 
 -- why the snapshot metadata tree of a volume stops is there
 pub metadata-tells : (image : List ℕ) (site : Site) (head : VolHead) (root : ℕ) (stop : Stop GatherFault) → root ≡ metadata_root image site head → (root == 0) ≡ false

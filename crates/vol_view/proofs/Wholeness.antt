@@ -13,12 +13,13 @@ use Rattle.obj_base.specs.declared.stop.Stop.TheVariants.{Found, Unsupported, Re
 use Rattle.obj_base.specs.declared.stop.Within.TheVariants.{Physical, Ephemeral, Container, Volume}
 use Rattle.obj_base.specs.declared.site.Site.{Site}
 use Rattle.bt_node.specs.Entries.{Pair}
+use Rattle.bt_cursor.specs.declared.step.Step.{Step}
 use Rattle.omap_map.specs.Features.{snapshot_features}
 use Rattle.omap_map.specs.Maps.{Contents, contents_of, is_whole_map}
 use Rattle.omap_map.proofs.Loads.{whole-object}
 use Rattle.vol_view.specs.Fields as field
-use Rattle.vol_view.specs.SnapRecords.{snapshot_pairs, name_pairs, snapshot_name, record_name, is_snapshot_long, is_snapshot_readable, is_name_readable}
-use Rattle.vol_view.specs.Volumes.{Loaded, super_of, map_block_of, metadata_of, empty_map, map_or_empty, snapshot_in, snapshots_in, loaded_by, loaded_of}
+use Rattle.vol_view.specs.SnapRecords.{metadata_steps, snapshot_pairs, name_pairs, snapshot_name, record_name, is_snapshot_long, is_snapshot_readable, is_name_readable}
+use Rattle.vol_view.specs.Volumes.{Loaded, super_of, map_block_of, metadata_of, metadata_steps_of, empty_map, map_or_empty, snapshot_in, snapshots_in, loaded_by, loaded_of}
 use Rattle.vol_view.specs.Agreement.{are_readable, is_snap_count, is_fellow, is_snapshot_named, is_name_used, are_named, are_map_snapshots, Agree}
 use Rattle.vol_view.specs.Features.{volume_features, snapshot_record_features}
 use Rattle.vol_view.specs.LoadStops.{counted_snapshots, map_count, map_xids, has_whole_metadata, IsSnapshotOf, IsLoadStop, IsLoadFeature, IsLoadable, IsVolumeOf}
@@ -243,20 +244,22 @@ snapshots-same image site head records snaps e f =
     let pairs = snapshot_pairs (metadata_of image site head) in
     f ∙ (ap (map (snapshot_for image site)) e ∙ (map-twice snapshot_told (snapshot_for image site) pairs ∙ map-each (λ p. snapshot_for image site (snapshot_told p)) (snapshot_in image site) pairs (snapshot-in image site)))
 
-loaded-same : (image : List ℕ) (site : Site) (head : VolHead) (bytes : List ℕ) (contents : Contents) (snaps : List Snapshot) → bytes ≡ super_of image site head → contents ≡ map_or_empty image site (map_block_of image site head) → snaps ≡ snapshots_in image site head
-    → loaded_by head bytes contents snaps ≡ loaded_of image site head
+loaded-same : (image : List ℕ) (site : Site) (head : VolHead) (bytes : List ℕ) (contents : Contents) (steps : List Step) (snaps : List Snapshot) → bytes ≡ super_of image site head → contents ≡ map_or_empty image site (map_block_of image site head) → steps ≡ metadata_steps_of image site head → snaps ≡ snapshots_in image site head
+    → loaded_by head bytes contents steps snaps ≡ loaded_of image site head
 unfolding loaded_of
-loaded-same image site head bytes contents snaps e f h =
-    ap (λ bs. loaded_by head bs contents snaps) e ∙ (ap (λ c. loaded_by head (super_of image site head) c snaps) f ∙ ap (loaded_by head (super_of image site head) (map_or_empty image site (map_block_of image site head))) h)
+loaded-same image site head bytes contents steps snaps e f t h =
+    let own = super_of image site head in
+    let found = map_or_empty image site (map_block_of image site head) in
+    ap (λ bs. loaded_by head bs contents steps snaps) e ∙ (ap (λ c. loaded_by head own c steps snaps) f ∙ (ap (λ ts. loaded_by head own found ts snaps) t ∙ ap (loaded_by head own found (metadata_steps_of image site head)) h))
 
 metadata-whole : (image : List ℕ) (site : Site) (head : VolHead) (snapshots : List SnapshotRecord) (names : List NameRecord) → HasMetadata image site (field.snaps_root_of (super_of image site head)) snapshots names → has_whole_metadata image site head ≡ true
 unfolding has_whole_metadata
 metadata-whole image site head snapshots names metadata = metadata.whole
 
 -- the parts make the volume
-pub parts-volume : (image : List ℕ) (site : Site) (head : VolHead) (bytes : List ℕ) (contents : Contents) (snapshots : List SnapshotRecord) (names : List NameRecord) (snaps : List Snapshot) → HasParts image site head bytes contents snapshots names → volume_features bytes ≡ []
-    → AgreeBy (field.snapshots_of bytes) contents.snap_count (xids_of contents) snapshots names → AreSnapshots image site snapshots snaps → IsVolumeOf image site head (loaded_by head bytes contents snaps)
-parts-volume image site head bytes contents snapshots names snaps parts plain agreed made =
+pub parts-volume : (image : List ℕ) (site : Site) (head : VolHead) (bytes : List ℕ) (contents : Contents) (snapshots : List SnapshotRecord) (names : List NameRecord) (steps : List Step) (snaps : List Snapshot) → HasParts image site head bytes contents snapshots names → volume_features bytes ≡ []
+    → AgreeBy (field.snapshots_of bytes) contents.snap_count (xids_of contents) snapshots names → steps ≡ metadata_steps image site (field.snaps_root_of bytes) → AreSnapshots image site snapshots snaps → IsVolumeOf image site head (loaded_by head bytes contents steps snaps)
+parts-volume image site head bytes contents snapshots names steps snaps parts plain agreed taken made =
     let metadata = parts-metadata image site head bytes contents snapshots names parts in
     let map_has = parts-map image site head bytes contents snapshots names parts in
     record {
@@ -271,7 +274,8 @@ parts-volume image site head bytes contents snapshots names snaps parts plain ag
             let right = made.right (snapshot_told pair) (subst (λ xs. In (snapshot_told pair) xs) (sym metadata.told.snapshots_same) (in-map snapshot_told (snapshot_pairs (metadata_of image site head)) pair h)) in
             record { inside = right.inside; super = right.super; unmarked = right.unmarked; plain = right.plain };
       };
-      same = loaded-same image site head bytes contents snaps parts.same (map_has.loaded.same ∙ map-same image site (map_block_of image site head) map_has.loaded.whole) (snapshots-same image site head snapshots snaps metadata.told.snapshots_same made.same);
+      same = loaded-same image site head bytes contents steps snaps parts.same (map_has.loaded.same ∙ map-same image site (map_block_of image site head) map_has.loaded.whole)
+          (taken ∙ ap (λ bs. metadata_steps image site (field.snaps_root_of bs)) parts.same) (snapshots-same image site head snapshots snaps metadata.told.snapshots_same made.same);
     }
 
 -- where a volume can be loaded, only the source or the memory stops `load`

@@ -11,6 +11,9 @@ use Rattle.obj_base.specs.declared.site.Site.{Site}
 use Rattle.bt_node.specs.Entries.{Pair, bytes_in}
 use Rattle.bt_keys.specs.RecordKey.{id_of, plain_name_of}
 use Rattle.bt_cursor.specs.Line.{Item, is_leaf_item}
+use Rattle.bt_cursor.specs.WholeTree.{leaf_pairs}
+use Rattle.bt_cursor.specs.Steps.{steps_in}
+use Rattle.bt_cursor.specs.declared.step.Step.{Step}
 use Rattle.bt_cursor.specs.Whole.{is_whole}
 use Rattle.bt_cursor.specs.declared.gathering.GatherFault.{GatherFault}
 use Rattle.bt_cursor.specs.declared.gathering.GatherFault.TheVariants as gathers
@@ -87,6 +90,11 @@ metadata_stop slot root (gathers.Refused item) = SnapRecord slot
 pub record Tell (pairs : List Pair) (snapshots : List SnapshotRecord) (names : List NameRecord) : Type 0 where
   pub snapshots_same : snapshots ≡ map snapshot_told (snapshot_pairs pairs)
   pub names_same : names ≡ map name_told (name_pairs pairs)
+
+-- what was gathered is what the records among some items tell, and the steps among them
+pub record Gives (items : List Item) (snapshots : List SnapshotRecord) (names : List NameRecord) (steps : List Step) : Type 0 where
+  pub told : Tell (leaf_pairs items) snapshots names
+  pub taken : steps ≡ steps_in items
 
 -- the records of the snapshot metadata tree of a root were gathered: the tree is whole, where there is one, and they can be read
 pub record HasMetadata (image : List ℕ) (site : Site) (root : ℕ) (snapshots : List SnapshotRecord) (names : List NameRecord) : Type 0 where

@@ -9,6 +9,8 @@ use Rattle.bt_keys.specs.RecordKey.{id_of, record_kind_of, plain_name_of, snapsh
 use Rattle.bt_keys.specs.Shapes.{snap_shape}
 use Rattle.bt_cursor.specs.Tree.{Tree, tree_in}
 use Rattle.bt_cursor.specs.Flat.{flat_of}
+use Rattle.bt_cursor.specs.Steps.{steps_of}
+use Rattle.bt_cursor.specs.declared.step.Step.{Step}
 use Rattle.fs_name.specs.Text.{is_name, name_in}
 
 -- the snapshot metadata trees of an image: an id names the block of its number
@@ -18,6 +20,10 @@ metadata_tree image site = tree_in snap_shape site (in_container site.blocks) im
 -- the records of the snapshot metadata tree of a root, none where the root is 0
 unfoldable pub metadata_pairs : List ℕ → Site → ℕ → List Pair
 metadata_pairs image site root = if root == 0 then [] else flat_of (metadata_tree image site) root
+
+-- the steps of the snapshot metadata tree of a root, none where the root is 0
+unfoldable pub metadata_steps : List ℕ → Site → ℕ → List Step
+metadata_steps image site root = if root == 0 then [] else steps_of (metadata_tree image site) root
 
 -- a snapshot's record
 abbrev pub is_snapshot : Pair → Bool

@@ -3,12 +3,13 @@ use Rattle.std.specs.Prelude.{ℕ, Bool, ◌&&◌, List, [], map, filter, None, 
 use Rattle.apfs_model.specs.Blocks.{in_container}
 use Rattle.bt_node.specs.Entries.{Pair, bytes_in}
 use Rattle.obj_base.specs.declared.site.Site.{Site}
+use Rattle.bt_cursor.specs.declared.step.Step.{Step}
 use Rattle.fs_name.specs.declared.naming.Names.{Names}
 use Rattle.fs_name.specs.Normal.{names_of}
 use Rattle.omap_map.specs.Maps.{Contents, contents_of, is_whole_map}
 use Rattle.vol_view.specs.Fields as field
 use Rattle.vol_view.specs.Heads.{super_in, is_super}
-use Rattle.vol_view.specs.SnapRecords.{metadata_pairs, snapshot_pairs, snap_xid, snap_created_of, snap_super_of, snap_extents_of, snapshot_name, is_snapshot_long}
+use Rattle.vol_view.specs.SnapRecords.{metadata_pairs, metadata_steps, snapshot_pairs, snap_xid, snap_created_of, snap_super_of, snap_extents_of, snapshot_name, is_snapshot_long}
 use Rattle.vol_view.specs.declared.head.VolHead.{VolHead}
 use Rattle.vol_view.specs.declared.volume.Snapshot.{Snapshot}
 
@@ -23,6 +24,10 @@ map_block_of image site head = field.omap_oid_of (super_of image site head)
 -- the records of a volume's snapshot metadata tree
 abbrev pub metadata_of : List ℕ → Site → VolHead → List Pair
 metadata_of image site head = metadata_pairs image site (field.snaps_root_of (super_of image site head))
+
+-- the steps of that tree
+abbrev pub metadata_steps_of : List ℕ → Site → VolHead → List Step
+metadata_steps_of image site head = metadata_steps image site (field.snaps_root_of (super_of image site head))
 
 -- a map in which nothing is found
 abbrev pub empty_map : Contents
@@ -70,18 +75,20 @@ pub record Loaded : Type 0 where
   pub root_oid : ℕ
   pub extents_root : ℕ
   pub snaps_root : ℕ
+  pub snaps_steps : List Step
   pub meta_ext : ℕ
   pub snaps : List Snapshot
 
--- a volume by its superblock's bytes, its map and its snapshots
-abbrev pub loaded_by : VolHead → List ℕ → Contents → List Snapshot → Loaded
-loaded_by head bytes omap snaps = record {
+-- a volume by its superblock's bytes, its map, the steps of its snapshot metadata tree and its snapshots
+abbrev pub loaded_by : VolHead → List ℕ → Contents → List Step → List Snapshot → Loaded
+loaded_by head bytes omap steps snaps = record {
   head = head;
   omap = omap;
   names = names_of (field.incompat_of bytes);
   root_oid = field.root_oid_of bytes;
   extents_root = field.extents_root_of bytes;
   snaps_root = field.snaps_root_of bytes;
+  snaps_steps = steps;
   meta_ext = field.meta_ext_of bytes;
   snaps = snaps;
 }
@@ -89,4 +96,4 @@ loaded_by head bytes omap snaps = record {
 -- the volume of a head
 unfoldable pub loaded_of : List ℕ → Site → VolHead → Loaded
 loaded_of image site head =
-    loaded_by head (super_of image site head) (map_or_empty image site (map_block_of image site head)) (snapshots_in image site head)
+    loaded_by head (super_of image site head) (map_or_empty image site (map_block_of image site head)) (metadata_steps_of image site head) (snapshots_in image site head)

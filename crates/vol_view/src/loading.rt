@@ -22,6 +22,7 @@ use crate::snapshots::snapshots;
 use crate::{Snapshot, VolHead, VolStop, Volume};
 use blk_read::read_new;
 use blk_source::{BlockSource, Bytes};
+use bt_cursor::Step;
 use fs_name::Names;
 use nx_ring::Checkpoint;
 use obj_base::{Site, Stop};
@@ -77,16 +78,17 @@ fn test(bytes: &[u8], block: u64) -> Result<(), Stop<VolStop>>
     }
 }
 
-// A volume by its superblock's bytes, its map and its snapshots.
+// A volume by its superblock's bytes, its map, the steps of its snapshot metadata tree and its snapshots.
 fn made(
     alloc: Global,
     head: &VolHead,
     bytes: &[u8],
     omap: Omap,
+    snaps_steps: Vec<Step>,
     snaps: Vec<Snapshot>,
 ) -> Result<Volume, Stop<VolStop>>
     requires { 1024 ≤ length bytes.now }
-    ensures same { IfOk result (λ volume. volume ≡ loaded_by head.now bytes.now omap snaps.items) }
+    ensures same { IfOk result (λ volume. volume ≡ loaded_by head.now bytes.now omap snaps_steps.items snaps.items) }
     ensures memory_only { IfErr result (λ stop. stop ≡ NoMemory) }
 {
     let head = copied(alloc, head)?;
@@ -97,13 +99,14 @@ fn made(
         root_oid: root_oid(bytes),
         extents_root: extents_root(bytes),
         snaps_root: snaps_root(bytes),
+        snaps_steps,
         meta_ext: meta_ext(bytes),
         snaps,
     })
 }
 
-/// The volume of a head that `heads` gave, with its object map and its snapshots, by transaction. Its superblock isn't tested
-/// again. `Unnamed` comes where its map or the superblock of a snapshot has no block of the container, `Omap` where its map
+/// The volume of a head that `heads` gave, with its object map, the steps of its snapshot metadata tree, and its snapshots, by
+/// transaction. Its superblock isn't tested again. `Unnamed` comes where its map or the superblock of a snapshot has no block of the container, `Omap` where its map
 /// isn't whole, `Walk` where its snapshot metadata tree isn't; `SnapRecord`, `SnapCount`, `SnapName` and `OmapSnaps` where the
 /// snapshots' records can't be read or don't agree; `Head` and `Magic` where the superblock of a snapshot isn't sound.
 /// `Unsupported` comes for a feature of the volume, of its map and the map's snapshots, of a node of its snapshot metadata tree,
@@ -155,5 +158,5 @@ pub fn load<S: BlockSource>(
         Ok(snaps) => snaps,
         Err(stop) => return Err(stop),
     };
-    made(alloc, head, &bytes, omap, snaps)
+    made(alloc, head, &bytes, omap, metadata.steps, snaps)
 }

@@ -1,5 +1,5 @@
 // The records of a volume's snapshot metadata tree, gathered in one walk.
-ghost use Rattle.std.specs.Prelude.{◌≡◌, ◌≤◌, ◌++◌, ℕ, List, [], ◌∷◌, length, Option, Some, true, not, is_some, option_map, option_to_list, IfOk, IfErr, IsErrOf, IsTrue};
+ghost use Rattle.std.specs.Prelude.{◌≡◌, ◌≤◌, ◌++◌, ℕ, List, [], ◌∷◌, length, Option, Some, true, not, is_some, option_map, option_to_list, OnOk, IfOk, IfErr, IsErrOf, IsTrue};
 ghost use Rattle.apfs_model.specs.Counts.{Rose};
 ghost use Rattle.apfs_model.specs.Kept.{IsKept};
 ghost use Rattle.obj_base.specs.Stops.{Tells, raised};
@@ -12,26 +12,28 @@ ghost use Rattle.bt_cursor.specs.Line.{Item};
 ghost use Rattle.bt_cursor.specs.WholeTree.{child_id, leaf_pairs};
 ghost use Rattle.bt_cursor.specs.Gathered.{shown};
 ghost use Rattle.vol_view.specs.Fields as fields;
+ghost use Rattle.vol_view.specs.SnapRecords.{metadata_steps};
 ghost use Rattle.vol_view.specs.Volumes.{super_of};
 ghost use Rattle.vol_view.specs.LoadStops.{IsLoadStop, IsLoadFeature};
-ghost use Rattle.vol_view.specs.Gathered.{snapshot_read, name_read, is_refused, metadata_stop, Tell, HasMetadata};
+ghost use Rattle.vol_view.specs.Gathered.{snapshot_read, name_read, is_refused, metadata_stop, Tell, Gives, HasMetadata};
 
 use crate::fields::snaps_root;
 use crate::records::{NameRecord, SnapshotRecord, name_record, snapshot_record};
 use crate::{VolHead, VolStop};
 use apfs_layout::key;
 use blk_source::{BlockSource, NoMemory};
-use bt_cursor::{GatherFault, Keeper, LineItem, Physical, gather};
+use bt_cursor::{GatherFault, Keeper, LineItem, Physical, Step, gather};
 use bt_keys::SnapKey;
 use obj_base::{Site, Stop};
 use std::alloc::Global;
 
-/// The records of snapshots and those of their names, each in tree order.
+/// The records of snapshots, those of their names, and the steps of their tree, each in tree order.
 #[derive(Drop)]
 pub(crate) struct Metadata {
     alloc: Global,
     pub snapshots: Vec<SnapshotRecord>,
     pub names: Vec<NameRecord>,
+    pub steps: Vec<Step>,
 }
 
 // The bytes of a value, none where there is no value.
@@ -50,6 +52,7 @@ impl Metadata {
         ensures refused { IfOk result (λ kept. kept ≡ is_some (snapshot_read xid value.now)) }
         ensures more { IfOk result (λ kept. self.new.snapshots.items ≡ self.old.snapshots.items ++ option_to_list (snapshot_read xid value.now)) }
         ensures same { self.new.names.items ≡ self.old.names.items }
+        ensures taken { self.new.steps.items ≡ self.old.steps.items }
     {
         let Some(record) = snapshot_record(self.alloc, xid, value)? else {
             return Ok(false);
@@ -66,6 +69,7 @@ impl Metadata {
         ensures refused { IfOk result (λ kept. kept ≡ is_some (name_read key.now value.now)) }
         ensures more { IfOk result (λ kept. self.new.names.items ≡ self.old.names.items ++ option_to_list (name_read key.now value.now)) }
         ensures same { self.new.snapshots.items ≡ self.old.snapshots.items }
+        ensures taken { self.new.steps.items ≡ self.old.steps.items }
     {
         let Some(record) = name_record(self.alloc, key, value)? else {
             return Ok(false);
@@ -75,18 +79,26 @@ impl Metadata {
             Err(_) => Err(NoMemory),
         }
     }
-}
 
-impl Keeper<SnapKey> for Metadata {
-    ghost refuses = { is_refused };
+    // Keeps the step that an item is, if it is one.
+    fn note(&mut self, step: Option<Step>) -> Result<(), NoMemory>
+        ensures more { OnOk result (self.new.steps.items ≡ self.old.steps.items ++ option_to_list step) }
+        ensures snapshots { self.new.snapshots.items ≡ self.old.snapshots.items }
+        ensures names { self.new.names.items ≡ self.old.names.items }
+    {
+        let Some(step) = step else {
+            return Ok(());
+        };
+        self.steps.push(step)?;
+        Ok(())
+    }
 
-    ghost holds = { λ kept items. Tell (leaf_pairs items) kept.snapshots.items kept.names.items };
-
-    fn keep(&mut self, item: LineItem<'_, SnapKey>) -> Result<bool, NoMemory>
-        requires key { snap_shape.read item.pair.key_bytes.now ≡ Some item.pair.key }
-        requires child { item.child ≡ child_id (shown item.node item.at item.level item.pair.key_bytes.now (option_map (λ value. value.now) item.pair.value)) }
+    // Keeps the record of an item; false where it can't be read.
+    fn keep_record(&mut self, item: LineItem<'_, SnapKey>) -> Result<bool, NoMemory>
+        requires { snap_shape.read item.pair.key_bytes.now ≡ Some item.pair.key }
         ensures refused { IfOk result (λ kept. kept ≡ not (is_refused (shown item.entry.node item.entry.at item.entry.level item.entry.pair.key_bytes.now (option_map (λ value. value.now) item.entry.pair.value)))) }
         ensures held { (items : List Item) → Tell (leaf_pairs items) self.old.snapshots.items self.old.names.items → IfOk result (λ kept. IsTrue kept → Tell (leaf_pairs (items ++ shown item.entry.node item.entry.at item.entry.level item.entry.pair.key_bytes.now (option_map (λ value. value.now) item.entry.pair.value) ∷ [])) self.new.snapshots.items self.new.names.items) }
+        ensures taken { self.new.steps.items ≡ self.old.steps.items }
     {
         if item.level > 0 {
             return Ok(true);
@@ -99,6 +111,22 @@ impl Keeper<SnapKey> for Metadata {
             return self.keep_name(item.pair.key_bytes, value);
         }
         Ok(true)
+    }
+}
+
+impl Keeper<SnapKey> for Metadata {
+    ghost refuses = { is_refused };
+
+    ghost holds = { λ kept items. Gives items kept.snapshots.items kept.names.items kept.steps.items };
+
+    fn keep(&mut self, item: LineItem<'_, SnapKey>) -> Result<bool, NoMemory>
+        requires key { snap_shape.read item.pair.key_bytes.now ≡ Some item.pair.key }
+        requires child { item.child ≡ child_id (shown item.node item.at item.level item.pair.key_bytes.now (option_map (λ value. value.now) item.pair.value)) }
+        ensures refused { IfOk result (λ kept. kept ≡ not (is_refused (shown item.entry.node item.entry.at item.entry.level item.entry.pair.key_bytes.now (option_map (λ value. value.now) item.entry.pair.value)))) }
+        ensures held { (items : List Item) → Gives items self.old.snapshots.items self.old.names.items self.old.steps.items → IfOk result (λ kept. IsTrue kept → Gives (items ++ shown item.entry.node item.entry.at item.entry.level item.entry.pair.key_bytes.now (option_map (λ value. value.now) item.entry.pair.value) ∷ []) self.new.snapshots.items self.new.names.items self.new.steps.items) }
+    {
+        self.note(item.step())?;
+        self.keep_record(item)
     }
 }
 
@@ -115,8 +143,8 @@ fn raise(slot: u32, root: u64, stop: Stop<GatherFault>) -> Stop<VolStop>
     }
 }
 
-/// The records of the snapshot metadata tree of a volume, by its superblock's bytes, where the tree is whole and they can
-/// be read; none where the volume has no such tree.
+/// The records and the steps of the snapshot metadata tree of a volume, by its superblock's bytes, where the tree is whole and
+/// the records can be read; none where the volume has no such tree.
 pub(crate) fn gathered<S: BlockSource>(
     alloc: Global,
     src: &mut S,
@@ -127,6 +155,7 @@ pub(crate) fn gathered<S: BlockSource>(
     requires site { IsSiteFor site.now (S.bytes_len src.old) }
     requires long { 4096 ≤ length bytes.now }
     ensures clear { (image : List ℕ) → S.bytes src.old ≡ Some image → IfOk result (λ kept. HasMetadata image site.now (fields.snaps_root_of bytes.now) kept.snapshots.items kept.names.items) }
+    ensures steps { (image : List ℕ) → S.bytes src.old ≡ Some image → IfOk result (λ kept. kept.steps.items ≡ metadata_steps image site.now (fields.snaps_root_of bytes.now)) }
     ensures present { (image : List ℕ) → S.bytes src.old ≡ Some image → bytes.now ≡ super_of image site.now head.now → IfErr result (Tells (IsLoadStop image site.now head.now) (IsLoadFeature image site.now head.now)) }
     ensures cause { IsErrOf result ReadFault → Rose (S.faults src.old) (S.faults src.new) }
     ensures kept { IsKept S.bytes S.bytes_len S.faults src.old src.new }
@@ -135,6 +164,7 @@ pub(crate) fn gathered<S: BlockSource>(
         alloc,
         snapshots: Vec::new(alloc),
         names: Vec::new(alloc),
+        steps: Vec::new(alloc),
     };
     let root = snaps_root(bytes);
     if root == 0 {

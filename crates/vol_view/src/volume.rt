@@ -2,6 +2,7 @@
 
 use crate::VolHead;
 use apfs_model::Bytes;
+use bt_cursor::Step;
 use fs_name::Names;
 use omap_map::Omap;
 use std::marker::Model;
@@ -25,7 +26,7 @@ pub struct Snapshot {
     pub meta_ext: u64,
 }
 
-/// A volume with its object map and its snapshots.
+/// A volume with its object map, its snapshots, and the steps of its snapshot metadata tree.
 #[derive(Drop)]
 pub struct Volume {
     pub head: VolHead,
@@ -38,6 +39,8 @@ pub struct Volume {
     pub extents_root: u64,
     /// The root of its snapshot metadata tree, 0 where there is none.
     pub snaps_root: u64,
+    /// The steps of that tree, in the order in which a walk takes them: one for each node below the root.
+    pub snaps_steps: Vec<Step>,
     /// The oid of its extended snapshot metadata, 0 where there is none.
     pub meta_ext: u64,
     /// Its snapshots, by transaction.
@@ -49,7 +52,7 @@ impl Model for Volume {
 
     ghost Value = { Loaded };
 
-    ghost view = { λ a. record { head = a.head; omap = a.omap; names = a.names; root_oid = a.root_oid; extents_root = a.extents_root; snaps_root = a.snaps_root; meta_ext = a.meta_ext; snaps = a.snaps.items } };
+    ghost view = { λ a. record { head = a.head; omap = a.omap; names = a.names; root_oid = a.root_oid; extents_root = a.extents_root; snaps_root = a.snaps_root; snaps_steps = a.snaps_steps.items; meta_ext = a.meta_ext; snaps = a.snaps.items } };
 }
 
 /// A volume as it is, or as a snapshot keeps it.

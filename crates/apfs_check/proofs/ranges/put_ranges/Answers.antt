@@ -3,7 +3,7 @@ use Rattle.obj_base.specs.Stops.{Tells, raised}
 use Rattle.obj_base.specs.declared.site.Site.{Site}
 use Rattle.nx_ring.specs.Checkpoint.{site_of}
 use Rattle.ext_ref.specs.Left.{AreShort}
-use Rattle.ext_ref.specs.Ranges.{ranges_of, node_blocks_of}
+use Rattle.ext_ref.specs.Ranges.{ranges_of, ext_steps}
 use Rattle.ext_ref.specs.Stops.{IsScanned, IsExtStop, IsExtFeature}
 use Rattle.apfs_check.specs.Raised.{of_extents}
 use Rattle.apfs_check.specs.Steps.{IsThere}
@@ -15,7 +15,7 @@ pub returns-in_ok-put_all_short-in-Ok-clause-clear : goal.returns-in_ok-put_all_
 returns-in_ok-put_all_short-in-Ok-clause-clear g c image told =
     let site = site_of c.args.cp.now in
     let root = c.args.root in
-    let scanned = subst (λ (s : Site). IsScanned image s root (node_blocks_of image s root) c.in-Ok.more.items) c.site-site.ensures (c.in-Ok.ensures.clear image told) in
+    let scanned = subst (λ (s : Site). IsScanned image s root (ext_steps image s root) c.in-Ok.more.items) c.site-site.ensures (c.in-Ok.ensures.clear image told) in
     let same : c.deref.result.now ≡ ranges_of image site root = c.deref.ensures.value ∙ scanned.ranges_are in
     c.in_ok-put_all_short-in-Ok.ensures.added (subst AreShort (sym same) (ranges-short image site root)) ∙ ap (λ rs. c.args.ranges.now.items ++ rs) same
 

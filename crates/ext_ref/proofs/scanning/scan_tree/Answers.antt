@@ -4,13 +4,12 @@ use Rattle.ext_ref.specs.Stops.{IsExtStop, IsExtFeature}
 use Rattle.obj_base.specs.Stops.{Tells}
 use Rattle.ext_ref.proofs.scanning.scan_tree.Goals as goal
 
-pub returns-in_ok-with_root-in-Ok-clause-clear : goal.returns-in_ok-with_root-in-Ok-clause-clear
-returns-in_ok-with_root-in-Ok-clause-clear g c image told =
-    gathered-scanned image c.args.site.now c.args.root c.in-Ok.kept.ranges.items c.in_ok-with_root-in-Ok.field-0.ranges.items c.in-Ok.kept.below.items c.in_ok-with_root-in-Ok.field-0.nodes.items c.requires.some
-    (c.in-Ok.ensures.clear image told) c.in_ok-with_root-in-Ok.ensures.nodes c.in_ok-with_root-in-Ok.ensures.ranges
+pub returns-in-Ok-clause-clear : goal.returns-in-Ok-clause-clear
+returns-in-Ok-clause-clear g c image told =
+    gathered-scanned image c.args.site.now c.args.root c.in-Ok.field-0.ranges.items c.in-Ok.field-0.steps.items c.requires.some (c.in-Ok.ensures.clear image told)
 
-pub returns-in_ok-with_root-in-Ok-clause-reads : goal.returns-in_ok-with_root-in-Ok-clause-reads
-returns-in_ok-with_root-in-Ok-clause-reads g c image told =
+pub returns-in-Ok-clause-reads : goal.returns-in-Ok-clause-reads
+returns-in-Ok-clause-reads g c image told =
     let reads = g.S.BlockSource.reads in
     subst (λ n. reads c.gather.new.src ≤ reads c.args.src.now + n) (sym (blocks-nodes image c.args.site.now c.args.root c.requires.some)) (c.in-Ok.ensures.reads image told)
 

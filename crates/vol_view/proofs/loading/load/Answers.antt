@@ -1,7 +1,9 @@
-use Rattle.std.proofs.Common.{◌≡◌, ◌∙◌, [], sym, subst}
+use Rattle.std.proofs.Common.{◌≡◌, ◌∙◌, [], ap, sym, subst}
 use Rattle.obj_base.specs.Stops.{Tells}
 use Rattle.nx_ring.specs.Checkpoint.{site_of}
 use Rattle.vol_view.specs.Features.{volume_features}
+use Rattle.vol_view.specs.Fields.{snaps_root_of}
+use Rattle.vol_view.specs.SnapRecords.{metadata_steps}
 use Rattle.vol_view.specs.Volumes.{loaded_by}
 use Rattle.vol_view.specs.LoadStops.{IsLoadStop, IsLoadFeature, IsVolumeOf}
 use Rattle.vol_view.specs.Gathered.{IsStopOfOne, IsFeatureOfOne, AreSnapshots}
@@ -71,6 +73,9 @@ returns-clause-clear g c image told =
     let plain = subst (λ b. volume_features b ≡ []) (c.deref.ensures.value ∙ sym c.deref-4.ensures.value) c.in-Ok-test.ensures.ok in
     let made = subst (λ s. AreSnapshots image s c.deref-5.result.now snaps) c.site-site.ensures
     (subst (λ rs. AreSnapshots image c.site-site.result rs snaps) (c.deref-7.ensures.value ∙ sym c.deref-5.ensures.value) (c.in-Ok-snapshots.ensures.clear image told3)) in
-    made-volume image site head c.made.result (loaded_by head c.deref-8.result.now omap snaps) c.made.ensures.same
-    (subst (λ b. IsVolumeOf image site head (loaded_by head b omap snaps)) (c.deref-4.ensures.value ∙ sym c.deref-8.ensures.value)
-    (parts-volume image site head c.deref-4.result.now omap c.deref-5.result.now c.deref-6.result.now snaps parts plain c.in-Ok-agree.ensures.ok made))
+    let steps = kept.steps.items in
+    let taken : steps ≡ metadata_steps image site (snaps_root_of c.deref-4.result.now) = subst (λ s. steps ≡ metadata_steps image s (snaps_root_of c.deref-4.result.now)) c.site-site.ensures
+    (c.in-Ok-gathered.ensures.steps image told2 ∙ ap (λ b. metadata_steps image c.site-site.result (snaps_root_of b)) (c.deref-3.ensures.value ∙ sym c.deref-4.ensures.value)) in
+    made-volume image site head c.made.result (loaded_by head c.deref-8.result.now omap steps snaps) c.made.ensures.same
+    (subst (λ b. IsVolumeOf image site head (loaded_by head b omap steps snaps)) (c.deref-4.ensures.value ∙ sym c.deref-8.ensures.value)
+    (parts-volume image site head c.deref-4.result.now omap c.deref-5.result.now c.deref-6.result.now steps snaps parts plain c.in-Ok-agree.ensures.ok taken made))

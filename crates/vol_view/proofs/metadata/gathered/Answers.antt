@@ -2,9 +2,10 @@ use Rattle.std.proofs.Common.{◌≡◌, ◌∙◌, ◌==◌, [], false, sym, ap
 use Rattle.apfs_model.proofs.BoolTests.{never-true, equal-from}
 use Rattle.obj_base.specs.Stops.{Tells}
 use Rattle.vol_view.specs.Fields.{snaps_root_of}
+use Rattle.vol_view.specs.SnapRecords.{metadata_steps}
 use Rattle.vol_view.specs.LoadStops.{IsLoadStop, IsLoadFeature}
 use Rattle.vol_view.specs.Gathered.{HasMetadata}
-use Rattle.vol_view.proofs.LoadSteps.{no-metadata, gathered-metadata, metadata-tells}
+use Rattle.vol_view.proofs.LoadSteps.{no-metadata, gathered-metadata, steps-none, gathered-steps, metadata-tells}
 use Rattle.vol_view.proofs.metadata.gathered.Goals as goal
 
 pub returns-then-root-eq0-clause-clear : goal.returns-then-root-eq0-clause-clear
@@ -20,7 +21,17 @@ returns-in-Ok-clause-clear g c image told =
     let root = c.snaps_root-root.result in
     let some : (root == 0) ≡ false = never-true (root == 0) (λ t. c.if-root-eq0.false (equal-from root 0 t)) in
     subst (λ r. HasMetadata image site r c.in-Ok.kept.snapshots.items c.in-Ok.kept.names.items) c.snaps_root-root.ensures
-    (gathered-metadata image site root c.in-Ok.kept.snapshots.items c.in-Ok.kept.names.items some (c.in-Ok.ensures.clear image told))
+    (gathered-metadata image site root c.in-Ok.kept.snapshots.items c.in-Ok.kept.names.items c.in-Ok.kept.steps.items some (c.in-Ok.ensures.clear image told))
+
+pub returns-then-root-eq0-clause-steps : goal.returns-then-root-eq0-clause-steps
+returns-then-root-eq0-clause-steps g c image told = c.new-3.ensures.items ∙ sym (steps-none image c.args.site.now (snaps_root_of c.args.bytes.now) (sym c.snaps_root-root.ensures ∙ c.if-root-eq0.true))
+
+pub returns-in-Ok-clause-steps : goal.returns-in-Ok-clause-steps
+returns-in-Ok-clause-steps g c image told =
+    let site = c.args.site.now in
+    let root = c.snaps_root-root.result in
+    let some : (root == 0) ≡ false = never-true (root == 0) (λ t. c.if-root-eq0.false (equal-from root 0 t)) in
+    gathered-steps image site root c.in-Ok.kept.snapshots.items c.in-Ok.kept.names.items c.in-Ok.kept.steps.items some (c.in-Ok.ensures.clear image told) ∙ ap (metadata_steps image site) c.snaps_root-root.ensures
 
 pub returns-in-Err-clause-present : goal.returns-in-Err-clause-present
 returns-in-Err-clause-present g c image told same =

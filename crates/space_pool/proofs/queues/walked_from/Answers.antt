@@ -8,15 +8,24 @@ use Rattle.bt_cursor.specs.Faults.{HasFeature}
 use Rattle.bt_cursor.specs.Gathered.{IsGathered, IsGatherFault}
 use Rattle.space_pool.specs.Queues.{queue_tree, ephemeral_named, is_short_item}
 use Rattle.space_pool.specs.Gathered.{Gathers, IsTreeFault}
-use Rattle.space_pool.proofs.Gathered.{gathered-entries, nodes-some, said_tells}
-use Rattle.space_pool.proofs.queues.entries_in.Goals as goal
+use Rattle.space_pool.proofs.Gathered.{gathered-entries, gathered-steps, nodes-some, said_tells}
+use Rattle.space_pool.proofs.queues.walked_from.Goals as goal
 
 pub returns-in-Ok-clause-clear : goal.returns-in-Ok-clause-clear
 returns-in-Ok-clause-clear g c image told =
     let cp = c.args.cp.now in
-    let entries = c.in-Ok.field-0.entries.items in
-    gathered-entries image cp c.args.root entries c.requires.some
-    (subst (λ (site : Site). IsGathered (tree_in queue_shape site (ephemeral_named cp) image) c.args.root (Gathers entries) is_short_item) c.site-site.ensures (c.in-Ok.ensures.clear image told))
+    let entries = c.in-Ok.kept.entries.items in
+    let steps = c.in-Ok.kept.steps.items in
+    gathered-entries image cp c.args.root entries steps c.requires.some
+    (subst (λ (site : Site). IsGathered (tree_in queue_shape site (ephemeral_named cp) image) c.args.root (Gathers entries steps) is_short_item) c.site-site.ensures (c.in-Ok.ensures.clear image told))
+
+pub returns-in-Ok-clause-steps : goal.returns-in-Ok-clause-steps
+returns-in-Ok-clause-steps g c image told =
+    let cp = c.args.cp.now in
+    let entries = c.in-Ok.kept.entries.items in
+    let steps = c.in-Ok.kept.steps.items in
+    gathered-steps image cp c.args.root entries steps c.requires.some
+    (subst (λ (site : Site). IsGathered (tree_in queue_shape site (ephemeral_named cp) image) c.args.root (Gathers entries steps) is_short_item) c.site-site.ensures (c.in-Ok.ensures.clear image told))
 
 pub returns-in-Ok-clause-reads : goal.returns-in-Ok-clause-reads
 returns-in-Ok-clause-reads g c image told =
