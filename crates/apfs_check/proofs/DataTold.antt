@@ -15,7 +15,8 @@ use Rattle.nx_ring.specs.Checkpoint.{Seen, site_of}
 use Rattle.fs_record.specs.declared.extents.FileExt.{FileExt}
 use Rattle.vol_view.specs.Volumes.{Loaded}
 use Rattle.vol_view.specs.declared.head.VolHead.{VolHead}
-use Rattle.ext_ref.specs.References.{streams_of, references_of}
+use Rattle.ext_ref.specs.References.{streams_of}
+use Rattle.ext_ref.specs.Scanned.{references_of}
 use Rattle.ext_ref.specs.Same.{HaveSame}
 use Rattle.ext_ref.specs.Unreached.{unreached_runs}
 use Rattle.ext_ref.specs.declared.range.NewRange.{NewRange}

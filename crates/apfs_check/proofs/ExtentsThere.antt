@@ -14,6 +14,7 @@ use Rattle.vol_view.specs.SnapRecords.{snapshot_pairs, is_snapshot_long}
 use Rattle.vol_view.specs.Volumes.{super_of, metadata_of, loaded_of}
 use Rattle.vol_view.specs.declared.head.VolHead.{VolHead}
 use Rattle.ext_ref.specs.Stops as extents
+use Rattle.ext_ref.specs.Scanned as scanned
 use Rattle.ext_ref.specs.declared.stop.ExtStop.{ExtStop}
 use Rattle.ext_ref.specs.declared.stop.ExtStop.TheVariants as stopped
 use Rattle.reach_rules.specs.Naming.{ByBlock, Namer, Whole, Kept, ExtentRefs, SnapMetadata, TreeRoot, Naming, naming}
@@ -74,6 +75,6 @@ extents-there profile image seen new head one root at (stopped.Walk why) (some, 
 extents-there profile image seen new head one root at (stopped.Value item) (some, there) =
     record { seen = seen; newest = new; fact = extents-present image seen root (extents-root image seen head one root at some) (stopped.Value item) (some, there) }
 
-pub extents-feature : (image : List ℕ) (seen : Seen) → newest_of image ≡ Ok seen → (head : VolHead) → In head (sound_heads image seen) → (root : ℕ) → IsExtentsRoot image seen head root → (feature : Feature) (block : ℕ) → extents.IsExtFeature image (site_of seen) root feature block → IsFeature image feature block
+pub extents-feature : (image : List ℕ) (seen : Seen) → newest_of image ≡ Ok seen → (head : VolHead) → In head (sound_heads image seen) → (root : ℕ) → IsExtentsRoot image seen head root → (feature : Feature) (block : ℕ) → scanned.IsExtFeature image (site_of seen) root feature block → IsFeature image feature block
 extents-feature image seen new head one root at feature block (some, gap) =
     feature-there image seen new feature block (gap-told image seen ExtentRefs ByBlock ext_shape (in_container (site_of seen).blocks) (extents-walk image seen) root (extents-root image seen head one root at some) (stops.Unsupported feature block) gap)

@@ -18,7 +18,8 @@ use Rattle.vol_view.specs.declared.head.VolHead.{VolHead}
 use Rattle.vol_view.specs.declared.stop.VolStop.{VolStop}
 use Rattle.vol_view.specs.declared.volume.Snapshot.{Snapshot}
 use Rattle.vol_view.specs.declared.volume.View.{View}
-use Rattle.ext_ref.specs.Stops.{IsExtStop, IsExtFeature}
+use Rattle.ext_ref.specs.Stops.{IsExtStop}
+use Rattle.ext_ref.specs.Scanned.{IsExtFeature}
 use Rattle.ext_ref.specs.declared.range.NewRange.{NewRange}
 use Rattle.ext_ref.specs.declared.stop.ExtStop.{ExtStop}
 use Rattle.reach_rules.specs.Faults as reach

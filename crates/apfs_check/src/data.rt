@@ -7,7 +7,7 @@ ghost use Rattle.obj_base.specs.declared.stop.Stop.TheVariants.{ReadFault};
 ghost use Rattle.nx_ring.specs.Checkpoint.{site_of};
 ghost use Rattle.fs_record.specs.declared.extents.FileExt as declared;
 ghost use Rattle.ext_ref.specs.Left.{AreShort, AreShortExtents};
-ghost use Rattle.ext_ref.specs.References.{references_of};
+ghost use Rattle.ext_ref.specs.Scanned.{references_of};
 ghost use Rattle.ext_ref.specs.Same.{HaveSame};
 ghost use Rattle.ext_ref.specs.Unreached.{unreached_runs};
 ghost use Rattle.view_rules.specs.declared.profile.Profile.TheVariants as profiles;

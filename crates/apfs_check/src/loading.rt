@@ -7,7 +7,7 @@ ghost use Rattle.obj_base.specs.Site.{IsSiteFor};
 ghost use Rattle.obj_base.specs.declared.stop.Stop.TheVariants.{ReadFault};
 ghost use Rattle.nx_ring.specs.Checkpoint.{site_of};
 ghost use Rattle.nx_ring.specs.Newest.{newest_of};
-ghost use Rattle.vol_view.specs.Heads.{IsHead};
+ghost use Rattle.vol_view.specs.Placed.{IsHead};
 ghost use Rattle.vol_view.specs.Stops.{AreHeads};
 ghost use Rattle.vol_view.specs.declared.head.VolHead as declared;
 ghost use Rattle.reach_sweep.specs.Account.{AreLoadedOf};

@@ -29,8 +29,9 @@ use Rattle.bt_cursor.proofs.Flats.{line-pairs}
 use Rattle.bt_cursor.proofs.Lines.{leaf_pairs-append}
 use Rattle.bt_cursor.proofs.Gathers.{ids-walkable}
 use Rattle.bt_cursor.proofs.Wholes.{means_whole, whole_means}
-use Rattle.ext_ref.specs.Ranges.{ext_tree, range_of, ranges_in, ranges_of, ext_steps, blocks_by, oids_of, node_blocks_of, ext_pairs}
-use Rattle.ext_ref.specs.Stops.{is_short_item, HasShortItem, IsExtStop, IsExtFeature, IsScanned, has_long_values, is_right_tree}
+use Rattle.ext_ref.specs.Ranges.{ext_tree, range_of, ranges_in, ranges_of, oids_of, node_blocks_of, ext_pairs}
+use Rattle.ext_ref.specs.Scanned.{ext_steps, blocks_by, IsExtFeature, IsScanned, has_long_values, is_right_tree}
+use Rattle.ext_ref.specs.Stops.{is_short_item, HasShortItem, IsExtStop}
 use Rattle.ext_ref.specs.Gathered.{ranges_at, Gathers, said}
 use Rattle.ext_ref.specs.declared.range.NewRange.{NewRange}
 use Rattle.ext_ref.specs.declared.stop.ExtStop.{ExtStop}

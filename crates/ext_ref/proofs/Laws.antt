@@ -12,7 +12,8 @@ use Rattle.bt_cursor.specs.WholeTree.{IsWhole}
 use Rattle.bt_cursor.proofs.Places.{whole-world, tree-levelled}
 use Rattle.bt_cursor.proofs.Wholes.{whole_means}
 use Rattle.ext_ref.specs.Ranges.{ext_tree}
-use Rattle.ext_ref.specs.Stops.{is_short_item, HasShortItem, IsExtStop, IsExtFeature, has_long_values, is_right_tree}
+use Rattle.ext_ref.specs.Stops.{is_short_item, HasShortItem, IsExtStop}
+use Rattle.ext_ref.specs.Scanned.{IsExtFeature, has_long_values, is_right_tree}
 use Rattle.ext_ref.specs.declared.stop.ExtStop.{ExtStop}
 use Rattle.ext_ref.specs.declared.stop.ExtStop.TheVariants.{Walk, Value}
 

@@ -1,5 +1,5 @@
 -- The ranges of an extent reference tree (File-System Objects, j_phys_ext_val_t).
-use Rattle.std.specs.Prelude.{ℕ, ◌&&◌, ◌==◌, nat_lt, List, [], ◌∷◌, map, filter_map, Option, None, Some, option_and_then, if◌then◌else◌}
+use Rattle.std.specs.Prelude.{ℕ, ◌&&◌, ◌==◌, nat_lt, List, [], map, filter_map, Option, None, Some, option_and_then, if◌then◌else◌}
 use Rattle.apfs_model.specs.Blocks.{in_container}
 use Rattle.bt_node.specs.Entries.{Pair, bytes_in}
 use Rattle.bt_node.specs.declared.node.NodeAt.{NodeAt}
@@ -12,8 +12,6 @@ use Rattle.bt_keys.specs.Values.{ext_value_of, new_kind}
 use Rattle.bt_cursor.specs.Tree.{Tree, tree_in}
 use Rattle.bt_cursor.specs.Flat.{flat_of}
 use Rattle.bt_cursor.specs.Met.{nodes_of}
-use Rattle.bt_cursor.specs.Steps.{steps_of}
-use Rattle.bt_cursor.specs.declared.step.Step.{Step}
 use Rattle.ext_ref.specs.declared.range.NewRange.{NewRange}
 
 -- the extent reference trees of an image: an id names the block of its number
@@ -39,14 +37,6 @@ ext_pairs image site root = if root == 0 then [] else flat_of (ext_tree image si
 -- the new ranges of the tree of a root, in tree order
 unfoldable pub ranges_of : List ℕ → Site → ℕ → List NewRange
 ranges_of image site root = ranges_in (ext_pairs image site root)
-
--- the steps of the tree of a root, none where the root is 0
-unfoldable pub ext_steps : List ℕ → Site → ℕ → List Step
-ext_steps image site root = if root == 0 then [] else steps_of (ext_tree image site) root
-
--- the blocks of the nodes of a tree by its root and its steps, none where the root is 0; a node's oid is its block
-abbrev pub blocks_by : ℕ → List Step → List ℕ
-blocks_by root steps = if root == 0 then [] else root ∷ map (λ (s : Step). s.child) steps
 
 -- the oids of places
 abbrev pub oids_of : List NodeAt → List ℕ

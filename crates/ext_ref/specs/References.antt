@@ -20,7 +20,3 @@ ids_touching block_size extents r = map (λ (x : ℕ × FileExt). x.0) (filter (
 -- how many distinct streams have an extent that touches a range
 unfoldable pub streams_of : ℕ → List (ℕ × FileExt) → NewRange → ℕ
 streams_of block_size extents r = length (distinct (ids_touching block_size extents r))
-
--- that number for each range
-abbrev pub references_of : ℕ → List NewRange → List (ℕ × FileExt) → List ℕ
-references_of block_size ranges extents = map (streams_of block_size extents) ranges

@@ -1,18 +1,13 @@
 -- What is there where an extent reference tree can't be read, and what holds where it can.
-use Rattle.std.specs.Prelude.{◌≡◌, ℕ, Bool, true, false, not, ◌&&◌, ◌||◌, ◌==◌, List, slice_get, is_none}
-use Rattle.std.specs.List.{list_any}
+use Rattle.std.specs.Prelude.{◌≡◌, ℕ, Bool, true, false, ◌&&◌, ◌==◌, List, slice_get, is_none}
 use Rattle.apfs_model.specs.Counts.{given}
 use Rattle.apfs_model.specs.Lists.{passes}
-use Rattle.obj_base.specs.declared.stop.Feature.{Feature}
 use Rattle.bt_node.specs.Entries.{bytes_in}
 use Rattle.obj_base.specs.declared.site.Site.{Site}
 use Rattle.bt_keys.specs.Values.{ext_value_of}
 use Rattle.bt_cursor.specs.Line.{Item, line_of, is_leaf_item}
-use Rattle.bt_cursor.specs.Whole.{is_whole}
-use Rattle.bt_cursor.specs.Faults.{IsWalkFault, HasFeature}
-use Rattle.bt_cursor.specs.declared.step.Step.{Step}
-use Rattle.ext_ref.specs.Ranges.{ext_tree, ranges_of, ext_steps}
-use Rattle.ext_ref.specs.declared.range.NewRange.{NewRange}
+use Rattle.bt_cursor.specs.Faults.{IsWalkFault}
+use Rattle.ext_ref.specs.Ranges.{ext_tree}
 use Rattle.ext_ref.specs.declared.stop.ExtStop.{ExtStop}
 use Rattle.ext_ref.specs.declared.stop.ExtStop.TheVariants.{Walk, Value}
 
@@ -30,21 +25,3 @@ pub record HasShortItem (image : List ℕ) (site : Site) (root item : ℕ) : Typ
 abbrev pub IsExtStop : List ℕ → Site → ℕ → ExtStop → Type 0
 IsExtStop image site root (Walk why) = ((root == 0) ≡ false) × IsWalkFault (ext_tree image site) root why
 IsExtStop image site root (Value item) = ((root == 0) ≡ false) × HasShortItem image site root item
-
--- a feature of a node of an extent reference tree is there
-abbrev pub IsExtFeature : List ℕ → Site → ℕ → Feature → ℕ → Type 0
-IsExtFeature image site root feature block = ((root == 0) ≡ false) × HasFeature (ext_tree image site) root feature block
-
--- no record's value is too short
-unfoldable pub has_long_values : List ℕ → Site → ℕ → Bool
-has_long_values image site root = not (list_any is_short_item (line_of (ext_tree image site) root))
-
--- the tree of a root is whole with values that can be read, where there is one
-unfoldable pub is_right_tree : List ℕ → Site → ℕ → Bool
-is_right_tree image site root = (root == 0) || (is_whole (ext_tree image site) root && has_long_values image site root)
-
--- the tree of a root is right, and these are its steps and its new ranges
-pub record IsScanned (image : List ℕ) (site : Site) (root : ℕ) (steps : List Step) (ranges : List NewRange) : Type 0 where
-  pub right : is_right_tree image site root ≡ true
-  pub steps_are : steps ≡ ext_steps image site root
-  pub ranges_are : ranges ≡ ranges_of image site root

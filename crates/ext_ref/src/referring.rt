@@ -3,7 +3,7 @@ ghost use Rattle.std.specs.Prelude.{◌≡◌, ◌<◌, length, true, IfOk};
 ghost use Rattle.apfs_model.specs.Lists.{distinct};
 ghost use Rattle.obj_base.specs.BlockSize.{is_accepted};
 ghost use Rattle.ext_ref.specs.References as spec;
-ghost use Rattle.ext_ref.specs.References.{references_of};
+ghost use Rattle.ext_ref.specs.Scanned.{references_of};
 ghost use Rattle.ext_ref.specs.Sweep.{AreRising, AreCounts};
 
 use crate::NewRange;

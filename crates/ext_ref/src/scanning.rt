@@ -7,8 +7,9 @@ ghost use Rattle.obj_base.specs.Stops.{Tells, IsFree, raised};
 ghost use Rattle.obj_base.specs.declared.stop.Stop.TheVariants.{ReadFault, NoMemory};
 ghost use Rattle.obj_base.specs.Site.{IsSiteFor};
 ghost use Rattle.bt_cursor.specs.Faults.{HasFeature};
-ghost use Rattle.ext_ref.specs.Ranges.{ext_tree, ext_steps, node_blocks_of};
-ghost use Rattle.ext_ref.specs.Stops.{IsExtStop, IsExtFeature, IsScanned, is_right_tree};
+ghost use Rattle.ext_ref.specs.Ranges.{ext_tree, node_blocks_of};
+ghost use Rattle.ext_ref.specs.Scanned.{ext_steps, IsExtFeature, IsScanned, is_right_tree};
+ghost use Rattle.ext_ref.specs.Stops.{IsExtStop};
 ghost use Rattle.ext_ref.specs.Gathered.{said};
 
 use crate::keep::Kept;

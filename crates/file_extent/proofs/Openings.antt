@@ -20,7 +20,8 @@ use Rattle.fs_name.specs.Normal.{are_hashed}
 use Rattle.fs_record.specs.StreamExtents.{are_extents_ordered}
 use Rattle.fs_record.specs.declared.extents.FileExt.{FileExt}
 use Rattle.vol_view.specs.Volumes.{Loaded}
-use Rattle.vol_view.specs.Views.{view_named, hashed_tree, plain_tree, view_flat, view_line, is_view_ordered, has_all_records, is_view_whole, FactBy, IsViewFault, IsViewFeature}
+use Rattle.vol_view.specs.Views.{view_named, hashed_tree, plain_tree, view_flat, view_line, is_view_ordered, is_view_whole, FactBy, IsViewFault, IsViewFeature}
+use Rattle.vol_view.specs.Placed.{has_all_records}
 use Rattle.vol_view.specs.declared.volume.View.{View}
 use Rattle.file_extent.specs.Streams.{extents_for, are_extents_placed}
 use Rattle.file_extent.specs.Stops.{HasRefused, IsStreamStop}

@@ -6,7 +6,8 @@ use Rattle.bt_keys.specs.RecordKey.{file_extent_record}
 use Rattle.fs_record.specs.StreamExtents.{are_extents_ordered}
 use Rattle.fs_record.specs.declared.fault.RecFault.{RecFault}
 use Rattle.vol_view.specs.Volumes.{Loaded}
-use Rattle.vol_view.specs.Views.{view_flat, has_all_records, is_view_whole, IsViewFeature}
+use Rattle.vol_view.specs.Views.{view_flat, is_view_whole, IsViewFeature}
+use Rattle.vol_view.specs.Placed.{has_all_records}
 use Rattle.vol_view.specs.declared.volume.View.{View}
 use Rattle.file_extent.specs.Streams.{Opened, extents_for, are_extents_placed}
 use Rattle.file_extent.specs.Opened.{opened_of}

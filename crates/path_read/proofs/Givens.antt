@@ -10,7 +10,8 @@ use Rattle.obj_base.specs.declared.stop.Stop.TheVariants.{Found, Unsupported, Re
 use Rattle.fs_record.specs.Inodes.{Inode}
 use Rattle.fs_record.specs.declared.inode_view.StreamSize.{StreamSize}
 use Rattle.vol_view.specs.Volumes.{Loaded}
-use Rattle.vol_view.specs.Views.{view_flat, has_all_records}
+use Rattle.vol_view.specs.Views.{view_flat}
+use Rattle.vol_view.specs.Placed.{has_all_records}
 use Rattle.vol_view.specs.declared.volume.View.{View}
 use Rattle.file_extent.specs.Streams.{Opened, stream_bytes}
 use Rattle.file_extent.specs.Opening.{IsOpened}

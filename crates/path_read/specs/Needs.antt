@@ -6,7 +6,7 @@ use Rattle.bt_keys.specs.RecordKey.{attribute_record, file_extent_record}
 use Rattle.fs_record.specs.Attributes.{Body, Attribute}
 use Rattle.fs_record.specs.Attributes.Body.{Embedded, Streamed}
 use Rattle.vol_view.specs.Volumes.{Loaded}
-use Rattle.vol_view.specs.Views.{has_all_records}
+use Rattle.vol_view.specs.Placed.{has_all_records}
 use Rattle.vol_view.specs.declared.volume.View.{View}
 use Rattle.view_rules.specs.Rules.{view_facts}
 use Rattle.path_walk.specs.Places.{Place}

@@ -40,7 +40,8 @@ use Rattle.fs_record.specs.Entries.{Entry}
 use Rattle.fs_record.specs.Facts.{Fact, fault_of, read_inode, read_attribute, read_link, read_sibling, read_extent, read_entry, refused, root_id}
 use Rattle.fs_record.specs.declared.fault.RecFault.{RecFault}
 use Rattle.vol_view.specs.Volumes.{Loaded}
-use Rattle.vol_view.specs.Views.{hashed_tree, plain_tree, view_flat, view_line, has_all_records, is_view_ordered, is_view_whole}
+use Rattle.vol_view.specs.Views.{hashed_tree, plain_tree, view_flat, view_line, is_view_ordered, is_view_whole}
+use Rattle.vol_view.specs.Placed.{has_all_records}
 use Rattle.vol_view.specs.declared.volume.View.{View}
 use Rattle.view_rules.specs.Facts.{Facts, facts_in, has_inode, inode_at, is_directory}
 use Rattle.view_rules.specs.Rules.{view_facts, refusal_of, HasRecords}

@@ -10,7 +10,8 @@ use Rattle.fs_name.specs.declared.naming.Names.{Names}
 use Rattle.fs_record.specs.Entries.{Entry}
 use Rattle.fs_record.specs.Facts.{refused, is_reserved, root_id}
 use Rattle.vol_view.specs.Volumes.{Loaded}
-use Rattle.vol_view.specs.Views.{view_flat, view_line, has_all_records, is_view_whole}
+use Rattle.vol_view.specs.Views.{view_flat, view_line, is_view_whole}
+use Rattle.vol_view.specs.Placed.{has_all_records}
 use Rattle.vol_view.specs.declared.volume.View.{View}
 use Rattle.view_rules.specs.Facts.{Facts, has_inode, is_directory}
 use Rattle.view_rules.specs.Rules.{HasRecords}

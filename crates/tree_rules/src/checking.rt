@@ -5,7 +5,8 @@ ghost use Rattle.apfs_model.specs.Kept.{IsKept};
 ghost use Rattle.obj_base.specs.Site.{IsSiteFor};
 ghost use Rattle.obj_base.specs.Stops.{Tells};
 ghost use Rattle.obj_base.specs.declared.stop.Stop.TheVariants.{ReadFault};
-ghost use Rattle.vol_view.specs.Views.{view_nodes, IsViewFeature};
+ghost use Rattle.vol_view.specs.Views.{IsViewFeature};
+ghost use Rattle.vol_view.specs.Placed.{view_nodes};
 ghost use Rattle.view_rules.specs.Rules.{HasTreeRules, IsTreeFault};
 ghost use Rattle.tree_rules.specs.Tallies.{IsTally};
 

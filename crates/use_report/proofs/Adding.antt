@@ -6,7 +6,7 @@ use Rattle.apfs_model.specs.Blocks.{is_in}
 use Rattle.apfs_model.specs.Lists.{In}
 use Rattle.apfs_model.proofs.Searches.{in-map, from-map}
 use Rattle.bt_cursor.specs.declared.step.Step.{Step}
-use Rattle.ext_ref.specs.Ranges.{blocks_by}
+use Rattle.ext_ref.specs.Scanned.{blocks_by}
 use Rattle.piece_count.specs.Covered.{is_covered}
 use Rattle.use_report.specs.Counted.{Grows}
 use Rattle.use_report.specs.declared.pieces.Pieces.{Pieces}

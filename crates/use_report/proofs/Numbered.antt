@@ -14,7 +14,8 @@ use Rattle.fs_record.specs.Facts.{Fact}
 use Rattle.fs_record.specs.StreamExtents.{extent_blocks, is_hole}
 use Rattle.fs_record.specs.declared.extents.FileExt.{FileExt}
 use Rattle.vol_view.specs.Volumes.{Loaded}
-use Rattle.vol_view.specs.Views.{past_of, view_named, view_nodes, views_of, is_view_walkable}
+use Rattle.vol_view.specs.Views.{past_of, view_named, views_of, is_view_walkable}
+use Rattle.vol_view.specs.Placed.{view_nodes}
 use Rattle.vol_view.specs.declared.volume.Snapshot.{Snapshot}
 use Rattle.vol_view.specs.declared.volume.View.{View}
 use Rattle.ext_ref.specs.Ranges.{node_blocks_of}

@@ -26,7 +26,8 @@ use Rattle.vol_view.specs.Views.{past_of, views_of}
 use Rattle.vol_view.specs.declared.volume.Snapshot.{Snapshot}
 use Rattle.vol_view.specs.declared.volume.View.{View}
 use Rattle.ext_ref.specs.Ranges.{ext_tree}
-use Rattle.ext_ref.specs.Stops.{is_short_item, has_long_values, is_right_tree}
+use Rattle.ext_ref.specs.Stops.{is_short_item}
+use Rattle.ext_ref.specs.Scanned.{has_long_values, is_right_tree}
 use Rattle.reach_rules.specs.declared.fault.Why.TheVariants.{Node}
 use Rattle.reach_rules.specs.declared.fault.ReachFault.TheVariants as sweeps
 use Rattle.reach_rules.specs.Naming.{LookUp, ByBlock, Namer, Kept, ExtentRefs, SnapMetadata, TreeRoot, Naming, naming}

@@ -23,7 +23,8 @@ use Rattle.fs_record.specs.declared.fault.RecFault.{RecFault}
 use Rattle.vol_view.specs.Volumes.{Loaded}
 use Rattle.vol_view.specs.Views.{view_line, IsViewFeature}
 use Rattle.vol_view.specs.declared.volume.View.{View}
-use Rattle.ext_ref.specs.Stops.{IsExtStop, IsExtFeature}
+use Rattle.ext_ref.specs.Stops.{IsExtStop}
+use Rattle.ext_ref.specs.Scanned.{IsExtFeature}
 use Rattle.ext_ref.specs.declared.stop.ExtStop.{ExtStop}
 use Rattle.ext_ref.specs.declared.stop.ExtStop.TheVariants as extents
 use Rattle.view_rules.specs.Rules.{view_facts, refusal_of, HasRecords, IsRecord, HasTreeRules}

@@ -17,7 +17,8 @@ use Rattle.bt_cursor.proofs.Gathers.{ids-walkable}
 use Rattle.fs_name.specs.Normal.{are_hashed}
 use Rattle.fs_record.specs.Facts.{extents_of}
 use Rattle.vol_view.specs.Volumes.{Loaded}
-use Rattle.vol_view.specs.Views.{hashed_tree, plain_tree, view_flat, view_line, view_nodes, is_view_walkable, is_view_counted, FactBy, IsViewFeature}
+use Rattle.vol_view.specs.Views.{hashed_tree, plain_tree, view_flat, view_line, is_view_walkable, is_view_counted, FactBy, IsViewFeature}
+use Rattle.vol_view.specs.Placed.{view_nodes}
 use Rattle.vol_view.specs.declared.volume.View.{View}
 use Rattle.use_report.specs.Gathered.{said, is_refused, Gathers}
 use Rattle.use_report.specs.Files.{AreOfTree, AreOfView, AreWholeFiles, IsViewStop}

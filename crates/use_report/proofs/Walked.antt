@@ -21,7 +21,8 @@ use Rattle.omap_map.specs.declared.records.Place.{Place}
 use Rattle.fs_name.specs.Normal.{are_hashed}
 use Rattle.vol_view.specs.Heads.{heads_of}
 use Rattle.vol_view.specs.Volumes.{Loaded}
-use Rattle.vol_view.specs.Views.{view_named, view_tree, hashed_tree, plain_tree, view_nodes, is_view_walkable}
+use Rattle.vol_view.specs.Views.{view_named, view_tree, hashed_tree, plain_tree, is_view_walkable}
+use Rattle.vol_view.specs.Placed.{view_nodes}
 use Rattle.vol_view.specs.declared.volume.Snapshot.{Snapshot}
 use Rattle.reach_rules.specs.Naming.{ViewAt, ByBlock, InView, Namer, ExtentRefs, SnapMetadata, Files, ExtendedMetadata, TreeRoot, Naming, naming}
 use Rattle.reach_rules.specs.Resolved.{Found, resolved, found_by, found_virtual}

@@ -15,7 +15,8 @@ use Rattle.fs_record.specs.Facts.{extents_of}
 use Rattle.fs_record.specs.StreamExtents.{extent_blocks, is_hole, is_extent_placed}
 use Rattle.fs_record.specs.declared.extents.FileExt.{FileExt}
 use Rattle.vol_view.specs.Volumes.{Loaded}
-use Rattle.vol_view.specs.Views.{view_line, view_nodes, view_named, is_view_walkable, is_view_ordered, is_view_counted, IsViewFault}
+use Rattle.vol_view.specs.Views.{view_line, view_named, is_view_walkable, is_view_ordered, is_view_counted, IsViewFault}
+use Rattle.vol_view.specs.Placed.{view_nodes}
 use Rattle.vol_view.specs.declared.volume.View.{View}
 use Rattle.view_rules.specs.Rules.{view_facts}
 use Rattle.use_report.specs.Gathered.{said, is_refused}

@@ -12,7 +12,8 @@ use Rattle.vol_view.specs.Volumes.{Loaded}
 use Rattle.vol_view.specs.Views.{view_line, IsViewFault}
 use Rattle.vol_view.specs.declared.volume.View.{View}
 use Rattle.ext_ref.specs.Ranges.{node_blocks_of}
-use Rattle.ext_ref.specs.Stops.{IsExtStop, is_right_tree}
+use Rattle.ext_ref.specs.Stops.{IsExtStop}
+use Rattle.ext_ref.specs.Scanned.{is_right_tree}
 use Rattle.ext_ref.specs.declared.stop.ExtStop.{ExtStop}
 use Rattle.ext_ref.specs.declared.stop.ExtStop.TheVariants as extents
 use Rattle.view_rules.specs.Rules.{view_facts, IsRecord}

@@ -6,7 +6,7 @@ use Rattle.obj_base.specs.declared.site.Site.{Site}
 use Rattle.nx_ring.specs.Checkpoint.{Seen, site_of}
 use Rattle.vol_view.specs.Volumes.{Loaded}
 use Rattle.vol_view.specs.Views.{IsViewFeature}
-use Rattle.ext_ref.specs.Stops.{IsExtFeature}
+use Rattle.ext_ref.specs.Scanned.{IsExtFeature}
 use Rattle.use_report.specs.Views.{views_kept}
 use Rattle.use_report.specs.declared.kept.KeptView.{KeptView}
 

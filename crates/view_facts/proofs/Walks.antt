@@ -21,7 +21,8 @@ use Rattle.fs_name.specs.declared.naming.Names.{Names}
 use Rattle.fs_name.specs.Normal.{are_hashed}
 use Rattle.ext_ref.specs.declared.range.NewRange.{NewRange}
 use Rattle.vol_view.specs.Volumes.{Loaded}
-use Rattle.vol_view.specs.Views.{hashed_tree, plain_tree, view_flat, view_line, view_nodes, is_view_walkable, is_view_counted, FactBy, IsViewFeature, IsViewFault}
+use Rattle.vol_view.specs.Views.{hashed_tree, plain_tree, view_flat, view_line, is_view_walkable, is_view_counted, FactBy, IsViewFeature, IsViewFault}
+use Rattle.vol_view.specs.Placed.{view_nodes}
 use Rattle.vol_view.specs.declared.volume.View.{View}
 use Rattle.view_rules.specs.Facts.{Facts, facts_in}
 use Rattle.view_rules.specs.Rules.{IsTreeFault}

@@ -3,7 +3,7 @@ use Rattle.std.specs.Prelude.{◌≡◌, ℕ, ◌<◌, List, Option, length}
 use Rattle.std.proofs.Common.{sym, subst, get_or}
 use Rattle.apfs_model.specs.Lists.{In}
 use Rattle.nx_ring.specs.Checkpoint.{Seen}
-use Rattle.vol_view.specs.Heads.{IsHead}
+use Rattle.vol_view.specs.Placed.{IsHead}
 use Rattle.vol_view.specs.declared.head.VolHead.{VolHead}
 use Rattle.vol_view.proofs.Wholeness.{item-in}
 

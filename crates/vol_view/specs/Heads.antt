@@ -1,8 +1,7 @@
 -- The volumes that a container's superblock names (Container, nx_fs_oid).
-use Rattle.std.specs.Prelude.{◌≡◌, ℕ, ◌<◌, Bool, ◌&&◌, ◌==◌, List, filter_map, Option, None, Some, option_map, option_and_then, is_ok, Result, if◌then◌else◌}
+use Rattle.std.specs.Prelude.{ℕ, Bool, ◌&&◌, ◌==◌, List, filter_map, Option, None, option_map, option_and_then, is_ok, Result, if◌then◌else◌}
 use Rattle.std.specs.List.{range_with_len}
 use Rattle.apfs_model.specs.Blocks.{block_of, in_container}
-use Rattle.apfs_model.specs.Lists.{In}
 use Rattle.apfs_model.specs.Object.{volume_kind}
 use Rattle.obj_base.specs.Sound.{sound_of, expecting}
 use Rattle.obj_base.specs.declared.header.Header.{Header}
@@ -71,13 +70,3 @@ heads_in image seen n = filter_map (head_at image seen) (range_with_len 0 n)
 -- the volumes of a container, by slot
 unfoldable pub heads_of : List ℕ → Seen → List VolHead
 heads_of image seen = heads_in image seen slots
-
--- a volume's slot is one of a container's, and the block of its superblock one of the container that an object may have
-pub record IsPlaced (site : Site) (head : VolHead) : Type 0 where
-  pub low : head.slot < slots
-  pub inside : in_container site.blocks head.block ≡ Some head.block
-
--- a record is one of the heads of a container, as far as its bytes are told
-pub record IsHead (bytes : Option (List ℕ)) (seen : Seen) (head : VolHead) : Type 0 where
-  pub placed : IsPlaced (site_of seen) head
-  pub one : (image : List ℕ) → bytes ≡ Some image → In head (heads_of image seen)

@@ -10,3 +10,4 @@ pub mod LoadStops
 pub mod Named
 pub mod Gathered
 pub mod Views
+pub mod Placed

@@ -3,15 +3,13 @@ use Rattle.std.specs.Prelude.{ℕ, Bool, true, false, List, ◌∷◌, map, posi
 use Rattle.obj_base.specs.declared.stop.Feature.{Feature}
 use Rattle.bt_node.specs.Shape.{Shape}
 use Rattle.bt_node.specs.Entries.{Pair}
-use Rattle.bt_node.specs.declared.node.NodeAt.{NodeAt}
 use Rattle.obj_base.specs.declared.site.Site.{Site}
 use Rattle.bt_keys.specs.Shapes.{FsKey, fs_shape, FsPlainKey, fs_plain_shape}
 use Rattle.bt_cursor.specs.Tree.{Tree, tree_in}
 use Rattle.bt_cursor.specs.Flat.{flat_of}
 use Rattle.bt_cursor.specs.Line.{Item, line_of}
-use Rattle.bt_cursor.specs.Met.{nodes_of, is_walkable}
+use Rattle.bt_cursor.specs.Met.{is_walkable}
 use Rattle.bt_cursor.specs.Order.{is_ordered}
-use Rattle.bt_cursor.specs.From.{is_kind_whole}
 use Rattle.bt_cursor.specs.Counts.{is_counted}
 use Rattle.bt_cursor.specs.Whole.{is_whole}
 use Rattle.bt_cursor.specs.Faults.{IsWalkFault, HasFeature}
@@ -73,18 +71,6 @@ unfoldable pub view_line : List ℕ → Site → Loaded → View → List Item
 view_line image site volume view =
     if are_hashed volume.names then line_of (hashed_tree image site volume view) view.root_oid
     else line_of (plain_tree image site volume view) view.root_oid
-
--- the nodes met in a view, in the order of its Line
-unfoldable pub view_nodes : List ℕ → Site → Loaded → View → List NodeAt
-view_nodes image site volume view =
-    if are_hashed volume.names then nodes_of (hashed_tree image site volume view) view.root_oid
-    else nodes_of (plain_tree image site volume view) view.root_oid
-
--- no record of an id and a kind is missing in a view: no gap stands in its tree where one may be
-unfoldable pub has_all_records : List ℕ → Site → Loaded → View → ℕ → ℕ → Bool
-has_all_records image site volume view id kind =
-    if are_hashed volume.names then is_kind_whole (hashed_tree image site volume view) view.root_oid id kind
-    else is_kind_whole (plain_tree image site volume view) view.root_oid id kind
 
 -- a view whose tree is walkable
 unfoldable pub is_view_walkable : List ℕ → Site → Loaded → View → Bool

@@ -7,7 +7,8 @@ ghost use Rattle.obj_base.specs.declared.stop.Stop.TheVariants.{ReadFault, NoMem
 ghost use Rattle.obj_base.specs.Site.{IsSiteFor};
 ghost use Rattle.nx_ring.specs.Checkpoint.{site_of};
 ghost use Rattle.vol_view.specs.Features.{volume_features};
-ghost use Rattle.vol_view.specs.Heads.{IsHead, IsPlaced, super_in};
+ghost use Rattle.vol_view.specs.Heads.{super_in};
+ghost use Rattle.vol_view.specs.Placed.{IsHead, IsPlaced};
 ghost use Rattle.vol_view.specs.Volumes.{super_of, loaded_by};
 ghost use Rattle.vol_view.specs.LoadStops.{IsSuperFeature, IsLoadStop, IsLoadFeature, IsLoadable, IsVolumeOf};
 ghost use Rattle.vol_view.specs.Gathered.{IsFeatureAt};

@@ -9,7 +9,7 @@ ghost use Rattle.obj_base.specs.Site.{IsSiteFor};
 ghost use Rattle.nx_block.specs.Super as super_block;
 ghost use Rattle.nx_ring.specs.Checkpoint.{site_of};
 ghost use Rattle.vol_view.specs.Stops.{IsHeadsStop, IsHeadsFeature, AreRight, AreHeads};
-ghost use Rattle.vol_view.specs.Heads.{IsPlaced, IsHead};
+ghost use Rattle.vol_view.specs.Placed.{IsPlaced, IsHead};
 ghost use Rattle.vol_view.specs.Slots.{slot_of};
 
 use crate::map::container_map;

@@ -4,7 +4,7 @@ ghost use Rattle.apfs_model.specs.Lists.{In};
 ghost use Rattle.obj_base.specs.Site.{IsSiteFor};
 ghost use Rattle.nx_ring.specs.Checkpoint.{site_of};
 ghost use Rattle.nx_ring.specs.Features.{container_features};
-ghost use Rattle.vol_view.specs.Heads.{IsHead};
+ghost use Rattle.vol_view.specs.Placed.{IsHead};
 ghost use Rattle.vol_view.specs.declared.head.VolHead.{VolHead};
 
 mod blocks;

@@ -1,7 +1,7 @@
 use Rattle.std.proofs.Common.{◌≡◌, ℕ, List, map, take}
 use Rattle.std.specs.Prelude.{filter}
 use Rattle.fs_record.specs.declared.extents.FileExt.{FileExt}
-use Rattle.ext_ref.specs.References.{references_of}
+use Rattle.ext_ref.specs.Scanned.{references_of}
 use Rattle.apfs_check.specs.Data.{is_miscounted}
 use Rattle.apfs_check.specs.DataSteps.{with_streams}
 use Rattle.apfs_check.proofs.data.miscounts.Given as goal

@@ -1,6 +1,6 @@
 use Rattle.std.proofs.Common.{◌∙◌, ◌<◌, ◌++◌, ◌∷◌, [], length, take, sym, ap, subst, arith}
 use Rattle.obj_base.specs.Stops.{raised}
-use Rattle.vol_view.specs.Heads.{IsHead}
+use Rattle.vol_view.specs.Placed.{IsHead}
 use Rattle.reach_sweep.specs.Account.{AreLoadedOf}
 use Rattle.apfs_check.specs.Raised.{of_volume}
 use Rattle.apfs_check.specs.Steps.{IsThere}

@@ -1,7 +1,7 @@
 use Rattle.std.proofs.Common.{◌∙◌, sym, ap, subst}
 use Rattle.apfs_model.specs.Lists.{In}
 use Rattle.obj_base.specs.Stops.{raised}
-use Rattle.vol_view.specs.Heads.{IsHead}
+use Rattle.vol_view.specs.Placed.{IsHead}
 use Rattle.vol_view.specs.Stops.{AreHeads}
 use Rattle.apfs_check.specs.Raised.{of_volume}
 use Rattle.apfs_check.specs.Steps.{IsThere}

@@ -3,8 +3,9 @@ use Rattle.obj_base.specs.Stops.{Tells, raised}
 use Rattle.obj_base.specs.declared.site.Site.{Site}
 use Rattle.nx_ring.specs.Checkpoint.{site_of}
 use Rattle.ext_ref.specs.Left.{AreShort}
-use Rattle.ext_ref.specs.Ranges.{ranges_of, ext_steps}
-use Rattle.ext_ref.specs.Stops.{IsScanned, IsExtStop, IsExtFeature}
+use Rattle.ext_ref.specs.Ranges.{ranges_of}
+use Rattle.ext_ref.specs.Scanned.{ext_steps, IsScanned, IsExtFeature}
+use Rattle.ext_ref.specs.Stops.{IsExtStop}
 use Rattle.apfs_check.specs.Raised.{of_extents}
 use Rattle.apfs_check.specs.Steps.{IsThere}
 use Rattle.apfs_check.proofs.Short.{ranges-short}

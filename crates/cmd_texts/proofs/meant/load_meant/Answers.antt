@@ -2,7 +2,7 @@
 use Rattle.std.proofs.Common.{◌≡◌, ◌∙◌, ap, refl, subst, sym}
 use Rattle.std.specs.Prelude.{ℕ, List, Option, Some, None}
 use Rattle.vol_view.specs.declared.head.VolHead.{VolHead}
-use Rattle.vol_view.specs.Heads.{IsHead}
+use Rattle.vol_view.specs.Placed.{IsHead}
 use Rattle.apfs_check.specs.Raised.{of_volume}
 use Rattle.cmd_texts.specs.Checkpoints.{IsNewest}
 use Rattle.cmd_texts.specs.Meant.{IsMeant, IsMeantVolume}

@@ -2,7 +2,7 @@ use Rattle.std.proofs.Common.{List, [], sym, subst}
 use Rattle.apfs_model.proofs.BoolTests.{from-equal}
 use Rattle.bt_cursor.specs.declared.step.Step.{Step}
 use Rattle.ext_ref.specs.declared.range.NewRange.{NewRange}
-use Rattle.ext_ref.specs.Stops.{IsScanned}
+use Rattle.ext_ref.specs.Scanned.{IsScanned}
 use Rattle.ext_ref.proofs.Gathered.{none-scanned, right_free}
 use Rattle.ext_ref.proofs.scanning.scan.Goals as goal
 

@@ -1,6 +1,7 @@
 use Rattle.std.proofs.Common.{◌+◌, ◌≤◌, sym, subst}
 use Rattle.ext_ref.proofs.Gathered.{gathered-scanned, blocks-nodes, said_tells}
-use Rattle.ext_ref.specs.Stops.{IsExtStop, IsExtFeature}
+use Rattle.ext_ref.specs.Stops.{IsExtStop}
+use Rattle.ext_ref.specs.Scanned.{IsExtFeature}
 use Rattle.obj_base.specs.Stops.{Tells}
 use Rattle.ext_ref.proofs.scanning.scan_tree.Goals as goal
 

@@ -1,7 +1,7 @@
 use Rattle.std.proofs.Common.{◌≡◌, ◌∙◌, ℕ, true, List, Ok, ap, subst}
 use Rattle.apfs_model.specs.Sink.{WrotePart}
 use Rattle.bt_keys.specs.RecordKey.{file_extent_record}
-use Rattle.vol_view.specs.Views.{has_all_records}
+use Rattle.vol_view.specs.Placed.{has_all_records}
 use Rattle.file_extent.specs.Streams.{Opened, stream_bytes}
 use Rattle.view_rules.specs.Rules.{view_facts}
 use Rattle.path_walk.proofs.Known.{unanswered_given}

@@ -1,8 +1,7 @@
 use Rattle.std.proofs.Common.{◌∙◌, ℕ, List, sym, ap, subst}
 use Rattle.apfs_model.specs.Lists.{In}
 use Rattle.obj_base.specs.Stops.{Tells}
-use Rattle.ext_ref.specs.Ranges.{blocks_by}
-use Rattle.ext_ref.specs.Stops.{IsExtFeature}
+use Rattle.ext_ref.specs.Scanned.{blocks_by, IsExtFeature}
 use Rattle.ext_ref.proofs.Gathered.{blocks-steps}
 use Rattle.use_report.specs.Counted.{Grows}
 use Rattle.use_report.specs.Holding.{IsReferencesFault}

@@ -2,7 +2,8 @@ use Rattle.std.proofs.Common.{◌≡◌, ◌∙◌, ◌<◌, ◌++◌, ℕ, sym,
 use Rattle.nx_block.specs.Super.{slots}
 use Rattle.apfs_model.specs.Lists.{In}
 use Rattle.nx_ring.specs.Checkpoint.{site_of}
-use Rattle.vol_view.specs.Heads.{heads_in, heads_of, IsPlaced}
+use Rattle.vol_view.specs.Heads.{heads_in, heads_of}
+use Rattle.vol_view.specs.Placed.{IsPlaced}
 use Rattle.vol_view.specs.Slots.{IsRight}
 use Rattle.vol_view.proofs.SlotsLemmas.{slot-tells, slot-found, map-plain, heads-more, right-free}
 use Rattle.vol_view.proofs.Placed.{each-more}

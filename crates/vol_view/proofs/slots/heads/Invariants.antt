@@ -3,7 +3,8 @@ use Rattle.apfs_model.specs.Kept.{IsKept}
 use Rattle.apfs_model.specs.Lists.{In}
 use Rattle.nx_ring.specs.Checkpoint.{site_of}
 use Rattle.vol_view.specs.declared.head.VolHead.{VolHead}
-use Rattle.vol_view.specs.Heads.{heads_in, IsPlaced}
+use Rattle.vol_view.specs.Heads.{heads_in}
+use Rattle.vol_view.specs.Placed.{IsPlaced}
 use Rattle.vol_view.specs.Slots.{IsRight}
 use Rattle.vol_view.proofs.slots.heads.Given as goal
 

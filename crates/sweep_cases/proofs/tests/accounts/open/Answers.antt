@@ -1,6 +1,6 @@
 use Rattle.std.proofs.Common.{ℕ, List, Option, sym, subst}
 use Rattle.apfs_model.specs.Lists.{In}
-use Rattle.vol_view.specs.Heads.{IsHead}
+use Rattle.vol_view.specs.Placed.{IsHead}
 use Rattle.vol_view.specs.declared.head.VolHead.{VolHead}
 use Rattle.sweep_cases.proofs.tests.accounts.open.Goals as goal
 
