@@ -7,7 +7,6 @@ use Rattle.fs_record.specs.Fields.{field_of, have_fields_room, is_field_long}
 use Rattle.bt_keys.specs.RecordKey.{has_hashed_name, has_plain_name}
 use Rattle.fs_name.specs.declared.naming.Names.{Names}
 use Rattle.fs_name.specs.Normal.{are_hashed}
-use Rattle.fs_record.specs.declared.fault.RecFault.TheVariants.{Fields}
 use Rattle.fs_record.specs.declared.attribute.AttrBody.{AttrBody}
 use Rattle.fs_record.specs.declared.attribute.AttrBody.TheVariants as bodies
 use Rattle.fs_record.specs.Attributes.{Body, Embedded, Streamed}

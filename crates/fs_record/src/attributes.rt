@@ -80,7 +80,7 @@ pub(crate) fn plain_name(key: &[u8]) -> &[u8]
 /// The attribute of a record, whose key has its name. `Length` where the value is too short for its contents, or these
 /// for their stream; otherwise `Flags` where not exactly one of the two flags is set; otherwise `Name` where the key's
 /// isn't a proper name.
-#[tactic(auto, unfolding(crate::specs::Attributes::attribute_of, crate::specs::Attributes::is_attribute_short, fs_name::specs::Text::name_of))]
+#[tactic(auto, unfolding(crate::specs::Attributes::attribute_of, crate::specs::Attributes::is_attribute_short, fs_name::specs::Steps::name_of))]
 pub fn attr<'a>(key: &'a [u8], value: &'a [u8]) -> Result<Attr<'a>, RecFault>
     requires { has_plain_name key.now ≡ true }
     ensures { result ≡ attribute_of key.now value.now }

@@ -76,7 +76,7 @@ fn name_bytes(value: &[u8]) -> &[u8]
 
 /// The sibling link of a record, whose key has the file and the sibling. `Length` where the value is too short for its
 /// name, otherwise `Name` where that isn't a proper name.
-#[tactic(auto, unfolding(crate::specs::Siblings::link_of, bt_keys::specs::RecordKey::id_of, bt_keys::specs::RecordKey::second_of, fs_name::specs::Text::name_of))]
+#[tactic(auto, unfolding(crate::specs::Siblings::link_of, bt_keys::specs::RecordKey::id_of, bt_keys::specs::RecordKey::second_of, fs_name::specs::Steps::name_of))]
 pub fn sibling_link<'a>(key: &[u8], value: &'a [u8]) -> Result<Sibling<'a>, RecFault>
     requires { 16 ≤ length key.now }
     ensures { result ≡ link_of key.now value.now }

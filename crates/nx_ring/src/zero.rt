@@ -58,7 +58,7 @@ fn are_contiguous(zero: &NxView<'_>) -> bool
 }
 
 // Reads block 0, by the block size that its first bytes give: these alone where the block is no larger.
-#[tactic(auto, using(nx_block::proofs::Laws::size_means, crate::proofs::Zeros::one_read), unfolding(crate::specs::Zero::zero_in, crate::specs::Zero::has_zero, crate::specs::Zero::zero_of, crate::specs::Zero::size_in, nx_block::specs::Super::block_size_of))]
+#[tactic(auto, using(nx_block::proofs::Laws::size_means, crate::proofs::Zeros::one_read), unfolding(crate::specs::Reading::zero_in, crate::specs::Zero::has_zero, crate::specs::Zero::zero_of, crate::specs::Zero::size_in, nx_block::specs::Super::block_size_of))]
 fn read_zero<S: BlockSource>(alloc: Global, src: &mut S) -> Result<Vec<u8>, Stop<RingFault>>
     ensures found { (image : List ℕ) → S.bytes src.old ≡ Some image → Gives (λ bytes. bytes.items) result (zero_in image) }
     ensures whole { IfOk result (λ bytes. sizes.is_accepted (length bytes.items) ≡ true) }
@@ -84,7 +84,7 @@ fn read_zero<S: BlockSource>(alloc: Global, src: &mut S) -> Result<Vec<u8>, Stop
 }
 
 // The areas that block 0 names in an image of `len` bytes, or the first of its tests that fails.
-#[tactic(auto, using(nx_block::proofs::Laws::read_means), unfolding(crate::specs::Zero::areas_in, crate::specs::Zero::where_whole, crate::specs::Zero::is_whole, crate::specs::Zero::is_short))]
+#[tactic(auto, using(nx_block::proofs::Laws::read_means), unfolding(crate::specs::Reading::areas_in, crate::specs::Zero::where_whole, crate::specs::Zero::is_whole, crate::specs::Zero::is_short))]
 fn read_areas(bytes: &[u8], len: u64) -> Result<Areas, Stop<RingFault>>
     requires { sizes.is_accepted (length bytes.now) ≡ true }
     ensures found { Gives (λ areas. areas) result (areas_in len bytes.now) }
@@ -112,7 +112,7 @@ fn read_areas(bytes: &[u8], len: u64) -> Result<Areas, Stop<RingFault>>
 }
 
 // The areas that block 0 names, or the first of its tests that fails.
-#[tactic(auto, unfolding(crate::specs::Zero::after_zero, crate::specs::Zero::is_right, crate::specs::Zero::areas_in, crate::specs::Zero::zero_in))]
+#[tactic(auto, unfolding(crate::specs::Zero::after_zero, crate::specs::Zero::is_right, crate::specs::Reading::areas_in, crate::specs::Reading::zero_in))]
 pub(crate) fn areas<S: BlockSource>(alloc: Global, src: &mut S) -> Result<Areas, Stop<RingFault>>
     ensures found { (image : List ℕ) → S.bytes src.old ≡ Some image → Gives (λ areas. areas) result (after_zero image (Ok (areas_of (zero_of image)))) }
     ensures fits { IfOk result (λ areas. Fits areas (S.bytes_len src.old)) }

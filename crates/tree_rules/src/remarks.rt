@@ -139,7 +139,7 @@ fn unnamed_notes(view: &View, index: &Index<'_>, before: Vec<Note>) -> Result<Ve
 }
 
 /// The notes of a view: those on hashes, which are faults under Strict, and then those on inodes without entries.
-#[tactic(auto, unfolding(crate::specs::Notes::notes_of))]
+#[tactic(auto, unfolding(crate::specs::Tallies::notes_of))]
 pub(crate) fn notes(
     alloc: Global,
     profile: Profile,
