@@ -221,8 +221,8 @@ class Container:
         fields += [(184 + 8 * slot, "Q", oid) for slot, oid in enumerate(self.volumes)]
         return fields
 
-    def finish(self, path, spare=16):
-        """Puts together what every container has, and writes it. Answers the bytes that are used."""
+    def finish(self, path, spare=16, bare=False):
+        """Puts together what every container has, and writes it: with so many blocks that nothing has, and if it is bare without bitmaps for chunks of such blocks alone. Answers the bytes that are used."""
         self.map = self.object_map({(oid, self.xid): at for oid, at in self.mapped.items()})
         chunks = 1
         while True:
@@ -237,20 +237,22 @@ class Container:
         for at, count in [(0, 1 + self.descriptors + self.data), *self.used]:
             for block in range(at, at + count):
                 bits[block >> 3] |= 1 << (block & 7)
-        free = []
+        free, bitmaps = [], {}
         for chunk in range(chunks):
             part = bytes(bits[chunk * BLOCK : (chunk + 1) * BLOCK])
             held = min(PER_CHUNK, blocks - chunk * PER_CHUNK)
             free.append(held - bin(int.from_bytes(part, "little")).count("1"))
-            self.blocks[first + infos + chunk] = part
+            if not bare or any(part):
+                bitmaps[chunk] = first + infos + len(bitmaps)
+                self.blocks[bitmaps[chunk]] = part
         for info in range(infos):
             rows = range(126 * info, min(chunks, 126 * (info + 1)))
             data = struct.pack("<II", info, len(rows))
             for chunk in rows:
                 held = min(PER_CHUNK, blocks - chunk * PER_CHUNK)
-                data += struct.pack("<QQIIQ", self.xid, chunk * PER_CHUNK, held, free[chunk], first + infos + chunk)
+                data += struct.pack("<QQIIQ", self.xid, chunk * PER_CHUNK, held, free[chunk], bitmaps.get(chunk, 0))
             self.blocks[first + info] = sealed(first + info, self.xid, PHYSICAL | 7, 0, data)
-        in_pool = (1 << infos + chunks) - 1
+        in_pool = (1 << infos + len(bitmaps)) - 1
         self.blocks[ring] = in_pool.to_bytes(-(-pool // 8), "little").ljust(BLOCK, b"\0")
         at = 1 + self.descriptors
         manager = [

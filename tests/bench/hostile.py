@@ -212,6 +212,14 @@ def free_blocks(count, path):
     return container.finish(path, count)
 
 
+def bare_chunks(count, path):
+    """Blocks that nothing has, in chunks without bitmaps"""
+    container = Container()
+    volume = Volume(container)
+    volume.finish(volume.files(folders()))
+    return container.finish(path, count, bare=True)
+
+
 def repeated_child(count, path):
     """Sixteen nodes, of which each but the last names the next one so often: as many leaves as n to the power of 15, for a walk that doesn't see that they are one"""
     container = Container()
@@ -244,6 +252,7 @@ SHAPES = {
     "hard-links": (hard_links, 10000, [CHECK, TREE]),
     "many-volumes": (many_volumes, 12, [CHECK]),
     "free-blocks": (free_blocks, 64000000, [CHECK, SPACE]),
+    "bare-chunks": (bare_chunks, 100000000, [CHECK, SPACE]),
     "repeated-child": (repeated_child, 12, [CHECK]),
 }
 

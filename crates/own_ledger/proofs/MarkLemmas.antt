@@ -1,5 +1,5 @@
 -- The marks of a ledger, by its bits.
-use Rattle.std.proofs.Common.{◌≡◌, ℕ, zero, suc, ◌+◌, ◌-◌, ◌*◌, ◌/◌, ◌%◌, ◌^◌, ◌<◌, ◌≤◌, Bool, true, false, not, ◌&&◌, ◌||◌, nat_le, List, length, take, replicate, min, slice_range, refl, ap, ap₂, sym, ◌∙◌, arith, inl, inr, cond, zero-add}
+use Rattle.std.proofs.Common.{◌≡◌, ℕ, zero, suc, ◌+◌, ◌-◌, ◌*◌, ◌/◌, ◌%◌, ◌^◌, ◌<◌, ◌≤◌, Bool, true, false, not, ◌&&◌, ◌||◌, nat_le, List, length, take, replicate, min, max, slice_range, refl, ap, ap₂, sym, ◌∙◌, arith, inl, inr, cond, zero-add}
 use Rattle.std.specs.Prelude.{count_by}
 use Rattle.std.specs.List.{range_with_len}
 use Rattle.std.proofs.lemmas.Bool.{cases_Bool}
@@ -13,7 +13,7 @@ use Rattle.apfs_model.specs.Blocks.{is_in, is_within}
 use Rattle.apfs_model.specs.Counts.{given}
 use Rattle.apfs_model.proofs.BoolTests.{left-true, right-true, both-true, below-from, upto-from, from-below, from-upto, clash}
 use Rattle.bit_lanes.specs.Bits.{IsFirstDifference, ones_below, ones_of}
-use Rattle.own_ledger.specs.Held.{HeldBlocks, holds, held_count, lies_in, IsEmpty, CanClaim, AddsRange, IsTwice, Agrees, IsLeastDifference}
+use Rattle.own_ledger.specs.Held.{HeldBlocks, holds, held_count, lies_in, IsEmpty, CanClaim, AddsRange, AddsPart, IsTwice, Agrees, IsLeastDifference}
 use Rattle.bit_lanes.specs.Places.{is_from, AreClear, IsLeastSet}
 use Rattle.own_ledger.specs.Inside.{marks_of, IsSound}
 
@@ -158,6 +158,38 @@ claim-adds l_first blocks old new first length inside set =
       ];
     }
 
+-- a part of a range, from its greater first block up to its lesser end
+pub hold-adds : (l_first blocks : ℕ) (old new : List ℕ) (first length from to : ℕ) → (max first l_first ≡ l_first + from) → (min (first + length) (l_first + blocks) ≡ l_first + to) →
+    ((k : ℕ) → bit_at new k ≡ (bit_at old k || is_from from to k)) →
+    AddsPart (ledger_of l_first blocks old) (ledger_of l_first blocks new) first length
+hold-adds l_first blocks old new first length from to begins ends set = record {
+  same_first = refl;
+  same_blocks = refl;
+  held = λ block one.
+      let block_above = in-above block l_first blocks one in
+      let block_below = in-below block l_first blocks one in
+      let same : is_from from to (block - l_first) ≡ is_in block first length = grind (arith, nat_tests) in
+      holds-at l_first blocks new block one ∙ set (block - l_first)
+      ∙ ap₂ (λ a b. a || b) (sym (holds-at l_first blocks old block one)) same;
+}
+
+or-false : (b : Bool) → b ≡ (b || false)
+or-false true = refl
+or-false false = refl
+
+-- no block of a range lies in the ledger's
+pub hold-none : (l_first blocks : ℕ) (bits : List ℕ) (first length : ℕ) → min (first + length) (l_first + blocks) ≤ max first l_first →
+    AddsPart (ledger_of l_first blocks bits) (ledger_of l_first blocks bits) first length
+hold-none l_first blocks bits first length past = record {
+  same_first = refl;
+  same_blocks = refl;
+  held = λ block one.
+      let block_above = in-above block l_first blocks one in
+      let block_below = in-below block l_first blocks one in
+      let none : is_in block first length ≡ false = grind (arith, nat_tests) in
+      or-false (holds (ledger_of l_first blocks bits) block) ∙ ap (λ b. holds (ledger_of l_first blocks bits) block || b) (sym none);
+}
+
 -- ---- comparisons
 
 pub bit_in_front : (bytes : List ℕ) (n k : ℕ) → k < 8 * n → bit_at (take n bytes) k ≡ bit_at bytes k
@@ -209,7 +241,7 @@ module _ (l_first blocks : ℕ) (own : List ℕ) (first count bytes : ℕ) (bits
 abbrev one_or_none : (ℕ → Bool) → ℕ → ℕ
 one_or_none p i = cond (p i) 1 0
 
-count_first : (p : ℕ → Bool) (a n : ℕ) → count_by p (range_with_len a (suc n)) ≡ one_or_none p a + count_by p (range_with_len (a + 1) n)
+pub count_first : (p : ℕ → Bool) (a n : ℕ) → count_by p (range_with_len a (suc n)) ≡ one_or_none p a + count_by p (range_with_len (a + 1) n)
 count_first p a n = sum_by-cons (one_or_none p) a (range_with_len (a + 1) n)
 
 pub count_same : (p q : ℕ → Bool) (a b n : ℕ) → ((i : ℕ) → i < n → p (a + i) ≡ q (b + i)) → count_by p (range_with_len a n) ≡ count_by q (range_with_len b n)
@@ -224,7 +256,7 @@ count_none p a zero none = refl
 count_none p a (suc n) none =
     count_first p a n ∙ ap₂ (λ (x : Bool) (m : ℕ). cond x 1 0 + m) (none a (omega arith)) (count_none p (a + 1) n (λ i above. none i (omega arith)))
 
-count_split : (p : ℕ → Bool) (a n m : ℕ) → count_by p (range_with_len a (n + m)) ≡ count_by p (range_with_len a n) + count_by p (range_with_len (a + n) m)
+pub count_split : (p : ℕ → Bool) (a n m : ℕ) → count_by p (range_with_len a (n + m)) ≡ count_by p (range_with_len a n) + count_by p (range_with_len (a + n) m)
 count_split p a zero m =
     let left : 0 + m ≡ m = omega arith in
     let right : a ≡ a + 0 = omega arith in

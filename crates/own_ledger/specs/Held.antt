@@ -42,6 +42,12 @@ pub record AddsRange (old new : HeldBlocks) (first length : ℕ) : Type 0 where
   pub same_blocks : new.blocks ≡ old.blocks
   pub held : (block : ℕ) → holds new block ≡ (holds old block || is_in block first length)
 
+-- the blocks of a range that lie in the ledger's were added, and nothing else has changed
+pub record AddsPart (old new : HeldBlocks) (first length : ℕ) : Type 0 where
+  pub same_first : new.first ≡ old.first
+  pub same_blocks : new.blocks ≡ old.blocks
+  pub held : (block : ℕ) → is_in block old.first old.blocks ≡ true → holds new block ≡ (holds old block || is_in block first length)
+
 -- Outside: the range has a block, begins at this one, and doesn't lie wholly in the ledger's
 pub record IsOutside (ledger : HeldBlocks) (first length block : ℕ) : Type 0 where
   pub at : block ≡ first

@@ -44,7 +44,7 @@ impl Model for Ledger {
 }
 
 impl Ledger {
-    ghost use Rattle.own_ledger.specs.Held.{holds, held_count, lies_in, IsEmpty, CanClaim, AddsRange, IsClaimFault, Agrees, IsLeastDifference};
+    ghost use Rattle.own_ledger.specs.Held.{holds, held_count, lies_in, IsEmpty, CanClaim, AddsRange, AddsPart, IsClaimFault, Agrees, IsLeastDifference};
 
     /// A ledger of so many blocks from the first on, of which it holds none. It takes one bit a block, and no other call takes
     /// memory.
@@ -64,6 +64,15 @@ impl Ledger {
             }),
             Err(_) => Err(NoMemory),
         }
+    }
+
+    /// Empties the ledger, and moves it to another first block with as many blocks as before. Takes no memory.
+    pub fn restart(&mut self, first: u64)
+        requires { first + self.old.blocks < 2 ^ 64 }
+        ensures { IsEmpty self.new first self.old.blocks }
+    {
+        self.bits.fill(0);
+        self.first = first;
     }
 
     // Whether a range lies wholly in that of the ledger.
@@ -115,6 +124,18 @@ impl Ledger {
         }
         set_range(&mut self.bits, from, to);
         Ok(())
+    }
+
+    /// Adds the blocks of a range that lie in the ledger's, whether or not they are held already.
+    pub fn hold(&mut self, first: u64, length: u64)
+        ensures { AddsPart self.old self.new first length }
+    {
+        let least = first.max(self.first);
+        let end = first.saturating_add(length).min(self.first + self.blocks);
+        if least < end {
+            let from = (least - self.first) as usize;
+            set_range(&mut self.bits, from, from + (end - least) as usize);
+        }
     }
 
     /// The least of so many blocks from a first on that is held where its bit isn't set, or isn't held where it is; `None` where

@@ -101,3 +101,20 @@ fn differences(rt: HostRuntime) -> Result<(), Fail> {
     }
     Ok(())
 }
+
+#[test]
+fn parts_are_held(rt: HostRuntime) -> Result<(), Fail> {
+    let mut ledger = Ledger::new(rt.alloc(), 100, 50)?;
+    ledger.hold(90, 15);
+    ledger.hold(140, 100);
+    ledger.hold(102, 3);
+    ledger.hold(0, 100);
+    ledger.hold(u64::MAX, 5);
+    assert_eq!(rt; ledger.held(), 15);
+    ledger.restart(1000);
+    assert_eq!(rt; ledger.held(), 0);
+    ledger.hold(1049, 7);
+    assert_eq!(rt; ledger.held(), 1);
+    assert!(rt; ledger.holds(1049));
+    Ok(())
+}

@@ -1,6 +1,7 @@
 -- Ranges that are claimed one after the other.
 use Rattle.std.proofs.Common.{◌≡◌, ℕ, zero, suc, ◌+◌, ◌<◌, ◌≤◌, Bool, true, false, ◌||◌, List, [], ◌∷◌, ◌++◌, length, length-take-le, take, get_or, Some, inl, inr, refl, ap, ap₂, sym, ◌∙◌, subst, arith}
 use Rattle.std.specs.Prelude.{slice_get}
+use Rattle.std.specs.List.Sorted.{IsNonDecreasingBy}
 use Rattle.std.proofs.lemmas.Bool.{cases_lt}
 use Rattle.std.proofs.lemmas.List.{take_more, length_push}
 use Rattle.std.proofs.lemmas.List.Folds.{list_any-append}
@@ -14,7 +15,8 @@ use Rattle.own_ledger.specs.declared.held.ClaimFault.{ClaimFault}
 use Rattle.own_ledger.specs.declared.held.ClaimFault.TheVariants as claims
 use Rattle.own_ledger.proofs.MarkLemmas.{part-from, in-above, in-below, in-from}
 use Rattle.reach_rules.specs.Settled.{has_block, is_held, is_held_at, AreApart}
-use Rattle.own_settle.specs.Claimed.{AreClaimed, IsRangeFault}
+use Rattle.own_settle.specs.Claimed.{AreClaimed, HasLeaving, HasTwice, IsRangeFault}
+use Rattle.own_settle.specs.InOrder.{HaveBlocks, first_of}
 
 -- ---- one range more
 
@@ -22,7 +24,7 @@ or-false : (b : Bool) → (b || false) ≡ b
 or-false true = refl
 or-false false = refl
 
-held-more : (ranges : List (ℕ × ℕ)) (range : ℕ × ℕ) (block : ℕ) → is_held (ranges ++ range ∷ []) block ≡ (is_held ranges block || has_block block range)
+pub held-more : (ranges : List (ℕ × ℕ)) (range : ℕ × ℕ) (block : ℕ) → is_held (ranges ++ range ∷ []) block ≡ (is_held ranges block || has_block block range)
 held-more ranges range block = list_any-append (has_block block) ranges (range ∷ []) ∙ ap (λ b. is_held ranges block || b) (or-false (has_block block range))
 
 get-before : {X : Type 0} (xs : List X) (x : X) (i : ℕ) → i < length xs → slice_get (xs ++ x ∷ []) i ≡ slice_get xs i
@@ -50,14 +52,14 @@ at-below ranges block i h = elim (cases_lt i (length ranges)) [
 ]
 
 -- a block that lies in a range lies in that of a place
-place-of-held : (ranges : List (ℕ × ℕ)) (block : ℕ) → is_held ranges block ≡ true → (i : ℕ) × ((i < length ranges) × (is_held_at ranges block i ≡ true))
+pub place-of-held : (ranges : List (ℕ × ℕ)) (block : ℕ) → is_held ranges block ≡ true → (i : ℕ) × ((i < length ranges) × (is_held_at ranges block i ≡ true))
 place-of-held [] block h = absurd (let q : false ≡ true = h in cc)
 place-of-held (r ∷ rs) block h = elim (test_or (has_block block r)) as (λ _. (i : ℕ) × ((i < length (r ∷ rs)) × (is_held_at (r ∷ rs) block i ≡ true))) [
   | inl here ↦ (0, (omega arith, here))
   | inr out ↦ let t = place-of-held rs block (other-true (has_block block r) (is_held rs block) out h) in let low : t.0 < length rs = t.1.0 in (suc t.0, (omega arith, t.1.1))
 ]
 
-held-of-place : (ranges : List (ℕ × ℕ)) (block i : ℕ) → is_held_at ranges block i ≡ true → is_held ranges block ≡ true
+pub held-of-place : (ranges : List (ℕ × ℕ)) (block i : ℕ) → is_held_at ranges block i ≡ true → is_held ranges block ≡ true
 held-of-place [] block i h = absurd (let q : false ≡ true = h in cc)
 held-of-place (r ∷ rs) block zero h = left-or (has_block block r) (is_held rs block) h
 held-of-place (r ∷ rs) block (suc i) h = right-or (has_block block r) (is_held rs block) (held-of-place rs block i h)
@@ -116,7 +118,7 @@ claimed-none ledger all free = record {
 
 -- ---- a claim that is refused
 
-in-get_or : {X : Type 0} (xs : List X) (i : ℕ) (d : X) → i < length xs → In (get_or xs i d) xs
+pub in-get_or : {X : Type 0} (xs : List X) (i : ℕ) (d : X) → i < length xs → In (get_or xs i d) xs
 in-get_or [] i d low = absurd (omega arith)
 in-get_or (x ∷ xs) zero d low = inl refl
 in-get_or (x ∷ xs) (suc i) d low = inr (in-get_or xs i d (omega arith))
@@ -131,11 +133,11 @@ get-take (x ∷ xs) (suc i) (suc j) low = get-take xs i j (omega arith)
 at-take : (all : List (ℕ × ℕ)) (block i j : ℕ) → j < i → i ≤ length all → is_held_at (take i all) block j ≡ true → is_held_at all block j ≡ true
 at-take all block i j low inside h = ap (λ o. passes o (has_block block)) (sym (get-take all i j low)) ∙ h
 
-at-get_or : (all : List (ℕ × ℕ)) (block i : ℕ) (none : ℕ × ℕ) → i < length all → has_block block (get_or all i none) ≡ true → is_held_at all block i ≡ true
+pub at-get_or : (all : List (ℕ × ℕ)) (block i : ℕ) (none : ℕ × ℕ) → i < length all → has_block block (get_or all i none) ≡ true → is_held_at all block i ≡ true
 at-get_or all block i none low h = ap (λ o. passes o (has_block block)) (slice_get-get_or all i none low) ∙ h
 
 pub refused-range : (old now : HeldBlocks) (all : List (ℕ × ℕ)) (i : ℕ) (none : ℕ × ℕ) (fault : ClaimFault) → i < length all → AreClaimed old now (take i all) →
-    IsClaimFault now (get_or all i none).0 (get_or all i none).1 fault → IsRangeFault old all fault
+    IsClaimFault now (get_or all i none).0 (get_or all i none).1 fault → IsRangeFault old.first old.blocks all fault
 refused-range old now all i none (claims.Outside block) low before outside = record {
   range = get_or all i none;
   one = in-get_or all i none low;
@@ -161,5 +163,33 @@ refused-range old now all i none (claims.Twice block) low before twice =
         before = omega arith;
         one_has = at-take all block i place.0 (omega arith) (omega arith) place.1.1;
         other_has = at-get_or all block i none low twice.one;
+      };
+    }
+
+-- ---- a range that isn't in order
+
+pub leaving-at : (blocks : ℕ) (all : List (ℕ × ℕ)) (i : ℕ) → i < length all → HaveBlocks all → is_within (get_or all i (0, 0)).0 (get_or all i (0, 0)).1 0 blocks ≡ false → HasLeaving 0 blocks all (get_or all i (0, 0)).0
+leaving-at blocks all i low have leaves =
+    let one = in-get_or all i (0, 0) low in
+    record { range = get_or all i (0, 0); one = one; some = have (get_or all i (0, 0)) one; leaves = leaves; at = refl }
+
+-- it begins before the one before has ended
+pub twice-at : (blocks end : ℕ) (all : List (ℕ × ℕ)) (i : ℕ) → i < length all → IsNonDecreasingBy first_of all → HaveBlocks all → end ≤ blocks → (i ≡ 0 → end ≡ 0) →
+    ((k : ℕ) → k + 1 ≡ i → end ≡ (get_or all k (0, 0)).0 + (get_or all k (0, 0)).1) → (get_or all i (0, 0)).0 < end → HasTwice 0 blocks all (get_or all i (0, 0)).0
+twice-at blocks end all zero low sorted have inside none last before = absurd (let z = none refl in let q : ⊥ = omega arith in q)
+twice-at blocks end all (suc k) low sorted have inside none last before =
+    let r = get_or all (suc k) (0, 0) in
+    let p = get_or all k (0, 0) in
+    let up : p.0 ≤ r.0 = sorted k (suc k) (0, 0) (omega arith) low in
+    let ends : end ≡ p.0 + p.1 = last k (omega arith) in
+    let some : 0 < r.1 = have r (in-get_or all (suc k) (0, 0) low) in
+    record {
+      low = in-from r.0 0 blocks (omega arith) (omega arith);
+      twice = record {
+        one = k;
+        other = suc k;
+        before = omega arith;
+        one_has = at-get_or all r.0 k (0, 0) (omega arith) (in-from r.0 p.0 p.1 up (omega arith));
+        other_has = at-get_or all r.0 (suc k) (0, 0) low (in-from r.0 r.0 r.1 (omega arith) (omega arith));
       };
     }

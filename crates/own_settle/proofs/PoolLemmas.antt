@@ -8,7 +8,6 @@ use Rattle.space_map.specs.Geometry.{chunk_len}
 use Rattle.space_pool.specs.Bits.{has_pool_bits, has_indexes, is_pool_count, is_pool_shaped}
 use Rattle.space_pool.specs.declared.fault.PoolFault.TheVariants as pools
 use Rattle.own_ledger.specs.Held.{HeldBlocks, holds, Agrees}
-use Rattle.own_ledger.specs.declared.held.ClaimFault.TheVariants as claims
 use Rattle.own_ledger.proofs.MarkLemmas.{in-above, in-below}
 use Rattle.reach_rules.specs.declared.fault.ReachFault.{ReachFault}
 use Rattle.reach_rules.specs.declared.fault.ReachFault.TheVariants.{Unsound, Unnamed, NamedTwice, OwnedTwice, Outside, UnusedMapping, Leaked, Missing, PoolLeaked, PoolMissing, FreeCount, Space, Pool, Tree, Value}

@@ -4,11 +4,13 @@ use Rattle.std.specs.Prelude.{filter, count_by}
 use Rattle.std.specs.List.{range_with_len}
 use Rattle.std.proofs.Math.Nat.{mod-lt, div-add-mod, mul_comm, mul-le-mul_right}
 use Rattle.std.proofs.lemmas.Nat.{div-mul-add, mod-mul-add}
+use Rattle.std.specs.List.Sorted.{IsPermutation}
+use Rattle.std.proofs.lemmas.List.Sorted.{IsPermutation-sym}
 use Rattle.std.proofs.lemmas.List.Sums.{length-filter}
 use Rattle.std.proofs.lemmas.List.FromFn.{length-map-range_with_len}
 use Rattle.std.proofs.lemmas.Bool.{ne_eqb}
 use Rattle.std.proofs.lemmas.Bool.Decides.{nat_tests}
-use Rattle.apfs_model.specs.Blocks.{is_in, is_inside, is_within}
+use Rattle.apfs_model.specs.Blocks.{is_inside, is_within}
 use Rattle.apfs_model.specs.Lists.{In}
 use Rattle.apfs_model.proofs.BoolTests.{from-equal, equal-from, right-true, in-range, from-range}
 use Rattle.apfs_model.proofs.Searches.{in-filter, from-filter, filter-test}
@@ -24,7 +26,6 @@ use Rattle.space_map.specs.Marks.{is_marked, is_marked_in, free_in}
 use Rattle.space_map.specs.Tests.{is_chunk, is_free_count}
 use Rattle.space_map.specs.Stops.{Known, known_of}
 use Rattle.space_map.proofs.Places.{shape-from, block-chunk}
-use Rattle.own_ledger.specs.Held.{HeldBlocks, holds, held_count, IsEmpty}
 use Rattle.own_ledger.specs.declared.held.ClaimFault.{ClaimFault}
 use Rattle.own_ledger.specs.declared.held.ClaimFault.TheVariants as claims
 use Rattle.own_ledger.proofs.MarkLemmas.{count_bound, in-below}
@@ -34,9 +35,12 @@ use Rattle.reach_rules.specs.Tally.{IsNumberOf}
 use Rattle.reach_rules.specs.Owners.{IsOwner}
 use Rattle.reach_rules.specs.Reached.{Whole, IsReached}
 use Rattle.reach_rules.specs.Settled.{is_held, mark_of, is_chunk_counted, ArePoolSettled, IsHeldBlock, IsSettledWith, HasBit, IsSettleFault}
-use Rattle.own_settle.specs.Claimed.{AreClaimed, IsRangeFault}
+use Rattle.own_settle.specs.Claimed.{IsRangeFault}
+use Rattle.own_settle.specs.InOrder.{AreInOrder, HaveBlocks, blocks_in}
 use Rattle.own_settle.specs.Agreed.{unmarked, HasMarkAt, marks_in, first_of, count_of, free_at, IsChunkAgreed, IsOfChunk}
 use Rattle.own_settle.specs.Pooled.{owner_fault}
+use Rattle.own_settle.proofs.OrderLemmas.{order-inside, order-count}
+use Rattle.own_settle.proofs.MovedLemmas.{in-moved, held-moved, apart-moved, fault-moved}
 use Rattle.reach_rules.proofs.Ranges.{range-owner}
 use Rattle.reach_rules.proofs.Refutes.{settled-refutes}
 
@@ -79,7 +83,7 @@ positive-from n m same some = grind (arith, nat_tests)
 outside-from : (first len blocks : ℕ) → is_within first len 0 blocks ≡ false → is_inside first len blocks ≡ false
 outside-from first len blocks out = grind (arith, nat_tests)
 
-inside-from : (first len blocks : ℕ) → blocks ≤ 2 ^ 63 → 0 < len → is_within first len 0 blocks ≡ true → is_inside first len blocks ≡ true
+inside-from : (first len blocks : ℕ) → blocks ≤ 2 ^ 63 → 0 < len → first + len ≤ blocks → is_inside first len blocks ≡ true
 inside-from first len blocks few some inside = grind (arith, nat_tests)
 
 -- the blocks of a site are fewer than 2^63
@@ -139,58 +143,69 @@ wrong-free image seen whole r k low differs = ne_eqb (free_at image whole.space 
 
 -- ---- what is named
 
--- a refused claim of the container's ranges
-pub owners-refused : (image : List ℕ) (whole : Whole) (ledger : HeldBlocks) (fault : ClaimFault) → IsEmpty ledger 0 whole.space.site.blocks → IsRangeFault ledger whole.owners fault → IsSettleFault image whole (owner_fault fault)
-owners-refused image whole ledger (claims.Outside block) empty leaving =
-    let out : is_within leaving.range.0 leaving.range.1 0 whole.space.site.blocks ≡ false =
-    sym (ap₂ (λ a b. is_within leaving.range.0 leaving.range.1 a b) empty.first_is empty.blocks_is) ∙ leaving.leaves in
-    record {
-      range = leaving.range;
-      one = leaving.one;
-      leaves = outside-from leaving.range.0 leaving.range.1 whole.space.site.blocks out;
-      at = leaving.at;
-    }
-owners-refused image whole ledger (claims.Twice block) empty twice =
-    let one : is_in block 0 whole.space.site.blocks ≡ true = sym (ap₂ (λ a b. is_in block a b) empty.first_is empty.blocks_is) ∙ twice.low in
-    let below = in-below block 0 whole.space.site.blocks one in
+-- each range of the owners has a block
+pub have-blocks : (image : List ℕ) (seen : Seen) (whole : Whole) → IsReached image seen whole → HaveBlocks whole.owners
+have-blocks image seen whole r range one =
+    let owner = range-owner (IsOwner image seen) whole.owners r.owners range one in
+    positive-from range.1 owner.0.blocks (ap (λ (x : ℕ × ℕ). x.1) owner.1.1) owner.1.0.some
+
+-- a range of the container's that leaves it, or a block in two of them
+owners-refused : (image : List ℕ) (whole : Whole) (fault : ClaimFault) → IsRangeFault 0 whole.space.site.blocks whole.owners fault → IsSettleFault image whole (owner_fault fault)
+owners-refused image whole (claims.Outside block) leaving = record {
+  range = leaving.range;
+  one = leaving.one;
+  leaves = outside-from leaving.range.0 leaving.range.1 whole.space.site.blocks leaving.leaves;
+  at = leaving.at;
+}
+owners-refused image whole (claims.Twice block) twice =
+    let below = in-below block 0 whole.space.site.blocks twice.low in
     inl (omega arith, twice.twice)
 
-bit-from : (image : List ℕ) (whole : Whole) (old new : HeldBlocks) (k block : ℕ) (mark held : Bool) → AreClaimed old new whole.owners →
-    HasMarkAt (marks_in image whole.space k) new (first_of whole.space k) (count_of whole.space k) block mark held → HasBit image whole block mark held
-bit-from image whole old new k block mark held claimed h = record {
+-- the same, said of the ranges by their first blocks
+pub order-refused : (image : List ℕ) (seen : Seen) (whole : Whole) (ranges sorted : List (ℕ × ℕ)) (blocks : ℕ) (fault : ClaimFault) → IsReached image seen whole → ranges ≡ whole.owners → IsPermutation ranges sorted →
+    blocks ≡ whole.space.site.blocks → (HaveBlocks sorted → IsRangeFault 0 blocks sorted fault) → IsSettleFault image whole (owner_fault fault)
+order-refused image seen whole ranges sorted blocks fault r are moved same h =
+    let moves = subst (λ xs. IsPermutation xs sorted) are moved in
+    let have : HaveBlocks sorted = λ range one. have-blocks image seen whole r range (in-moved sorted whole.owners (IsPermutation-sym whole.owners sorted moves) range one) in
+    owners-refused image whole fault (fault-moved 0 whole.space.site.blocks whole.owners sorted fault moves (subst (λ n. IsRangeFault 0 n sorted fault) same (h have)))
+
+bit-from : (image : List ℕ) (whole : Whole) (held : ℕ → Bool) (k block : ℕ) (mark is : Bool) → ((block : ℕ) → held block ≡ is_held whole.owners block) →
+    HasMarkAt (marks_in image whole.space k) held (first_of whole.space k) (count_of whole.space k) block mark is → HasBit image whole block mark is
+bit-from image whole held k block mark is alike h = record {
   low = subst (λ b. b < whole.space.site.blocks) (sym h.at) (place-low whole.space k h.place h.low);
   mark_is = ap (mark_of image whole) h.at ∙ mark-at image whole k h.place h.low ∙ h.mark_is;
-  held_is = ap (is_held whole.owners) h.at ∙ sym (claimed.held (first_of whole.space k + h.place)) ∙ h.held_is;
+  held_is = ap (is_held whole.owners) h.at ∙ sym (alike (first_of whole.space k + h.place)) ∙ h.held_is;
 }
 
 -- what is named of a chunk
-pub chunk-side : (image : List ℕ) (seen : Seen) (whole : Whole) (old new : HeldBlocks) (fault : ReachFault) → IsReached image seen whole → AreClaimed old new whole.owners →
-    IsOfChunk image whole.space new fault → IsSettleFault image whole fault
-chunk-side image seen whole old new (Unsound block why) r claimed w = absurd w.present
-chunk-side image seen whole old new (Unnamed within oid xid) r claimed w = absurd w.present
-chunk-side image seen whole old new (NamedTwice within oid xid) r claimed w = absurd w.present
-chunk-side image seen whole old new (OwnedTwice block) r claimed w = absurd w.present
-chunk-side image seen whole old new (Outside block) r claimed w = absurd w.present
-chunk-side image seen whole old new (UnusedMapping within oid xid) r claimed w = absurd w.present
-chunk-side image seen whole old new (Leaked block) r claimed w = bit-from image whole old new w.chunk block true false claimed w.present
-chunk-side image seen whole old new (Missing block) r claimed w = bit-from image whole old new w.chunk block false true claimed w.present
-chunk-side image seen whole old new (PoolLeaked block) r claimed w = absurd w.present
-chunk-side image seen whole old new (PoolMissing block) r claimed w = absurd w.present
-chunk-side image seen whole old new (FreeCount chunk) r claimed w =
+chunk-side : (image : List ℕ) (seen : Seen) (whole : Whole) (held : ℕ → Bool) (fault : ReachFault) → IsReached image seen whole → ((block : ℕ) → held block ≡ is_held whole.owners block) →
+    IsOfChunk image whole.space held fault → IsSettleFault image whole fault
+chunk-side image seen whole held (Unsound block why) r alike w = absurd w.present
+chunk-side image seen whole held (Unnamed within oid xid) r alike w = absurd w.present
+chunk-side image seen whole held (NamedTwice within oid xid) r alike w = absurd w.present
+chunk-side image seen whole held (OwnedTwice block) r alike w = absurd w.present
+chunk-side image seen whole held (Outside block) r alike w = absurd w.present
+chunk-side image seen whole held (UnusedMapping within oid xid) r alike w = absurd w.present
+chunk-side image seen whole held (Leaked block) r alike w = bit-from image whole held w.chunk block true false alike w.present
+chunk-side image seen whole held (Missing block) r alike w = bit-from image whole held w.chunk block false true alike w.present
+chunk-side image seen whole held (PoolLeaked block) r alike w = absurd w.present
+chunk-side image seen whole held (PoolMissing block) r alike w = absurd w.present
+chunk-side image seen whole held (FreeCount chunk) r alike w =
     let low : w.chunk < chunks_of whole.space.manager = subst (λ n. w.chunk < n) (chunks-counted image whole.space (known-is image seen whole r)) w.low in
     subst (λ k. (k < chunks_of whole.space.manager) × (is_chunk_counted image whole k ≡ false)) (sym w.present.same) (low, wrong-free image seen whole r w.chunk low w.present.wrong)
-chunk-side image seen whole old new (Space fault) r claimed w = absurd w.present
-chunk-side image seen whole old new (Pool fault) r claimed w = absurd w.present
-chunk-side image seen whole old new (Tree root item) r claimed w = absurd w.present
-chunk-side image seen whole old new (Value root item) r claimed w = absurd w.present
+chunk-side image seen whole held (Space fault) r alike w = absurd w.present
+chunk-side image seen whole held (Pool fault) r alike w = absurd w.present
+chunk-side image seen whole held (Tree root item) r alike w = absurd w.present
+chunk-side image seen whole held (Value root item) r alike w = absurd w.present
 
 -- what stops the comparison of the chunks, said of all that was reached
-pub chunks-side : (image : List ℕ) (seen : Seen) (whole : Whole) (old new : HeldBlocks) (owners : List (ℕ × ℕ)) (space : Known) (stop : Stop ReachFault) → IsReached image seen whole → owners ≡ whole.owners → space ≡ whole.space →
-    AreClaimed old new owners → Tells (IsOfChunk image space new) NoFeature stop → Tells (IsSettleFault image whole) NoFeature stop
-chunks-side image seen whole old new owners space stop r owners_are space_is claimed tells =
-    tells_more (IsOfChunk image whole.space new) (IsSettleFault image whole) NoFeature NoFeature stop
-    (λ fault h. chunk-side image seen whole old new fault r (subst (λ ranges. AreClaimed old new ranges) owners_are claimed) h) (λ feature block h. h)
-    (subst (λ s. Tells (IsOfChunk image s new) NoFeature stop) space_is tells)
+pub chunks-side : (image : List ℕ) (seen : Seen) (whole : Whole) (ranges sorted : List (ℕ × ℕ)) (space : Known) (stop : Stop ReachFault) → IsReached image seen whole → ranges ≡ whole.owners → IsPermutation ranges sorted → space ≡ whole.space →
+    Tells (IsOfChunk image space (is_held sorted)) NoFeature stop → Tells (IsSettleFault image whole) NoFeature stop
+chunks-side image seen whole ranges sorted space stop r are moved space_is tells =
+    let moves = subst (λ xs. IsPermutation xs sorted) are moved in
+    tells_more (IsOfChunk image whole.space (is_held sorted)) (IsSettleFault image whole) NoFeature NoFeature stop
+    (λ fault h. chunk-side image seen whole (is_held sorted) fault r (λ block. sym (held-moved whole.owners sorted moves block)) h) (λ feature block h. h)
+    (subst (λ s. Tells (IsOfChunk image s (is_held sorted)) NoFeature stop) space_is tells)
 
 -- where all settles nothing is named
 pub exact-from : (image : List ℕ) (whole : Whole) (number : ℕ) (stop : Stop ReachFault) → IsSettledWith image whole number → Tells (IsSettleFault image whole) NoFeature stop → IsFree stop
@@ -198,57 +213,55 @@ exact-from image whole number stop settled = tells_more (IsSettleFault image who
 
 -- ---- what Ok says
 
-inside-range : (image : List ℕ) (seen : Seen) (whole : Whole) (old new : HeldBlocks) → IsReached image seen whole → whole.space.site.blocks ≤ 2 ^ 63 → IsEmpty old 0 whole.space.site.blocks → AreClaimed old new whole.owners →
+inside-range : (image : List ℕ) (seen : Seen) (whole : Whole) (sorted : List (ℕ × ℕ)) → IsReached image seen whole → whole.space.site.blocks ≤ 2 ^ 63 → IsPermutation whole.owners sorted → AreInOrder 0 whole.space.site.blocks sorted →
     (range : ℕ × ℕ) → In range whole.owners → is_inside range.0 range.1 whole.space.site.blocks ≡ true
-inside-range image seen whole old new r few empty claimed range one =
-    let owner = range-owner (IsOwner image seen) whole.owners r.owners range one in
-    let count : range.1 ≡ owner.0.blocks = ap (λ (x : ℕ × ℕ). x.1) owner.1.1 in
-    let some = owner.1.0.some in
-    let positive : 0 < range.1 = positive-from range.1 owner.0.blocks count some in
-    inside-from range.0 range.1 whole.space.site.blocks few positive
-    (sym (ap₂ (λ a b. is_within range.0 range.1 a b) empty.first_is empty.blocks_is) ∙ claimed.inside range one positive)
+inside-range image seen whole sorted r few moved order range one =
+    let positive = have-blocks image seen whole r range one in
+    let ends = order-inside 0 whole.space.site.blocks sorted range order (in-moved whole.owners sorted moved range one) in
+    inside-from range.0 range.1 whole.space.site.blocks few positive ends
 
--- the blocks that are held are the number that the ledger counts
-number-is : (whole : Whole) (old new : HeldBlocks) → whole.space.site.blocks ≤ 2 ^ 63 → IsEmpty old 0 whole.space.site.blocks → AreClaimed old new whole.owners → IsNumberOf (IsHeldBlock whole) (held_count new)
-unfolding held_count
-number-is whole old new few empty claimed =
+-- the blocks that are held are as many as those of ranges in order
+number-is : (whole : Whole) (sorted : List (ℕ × ℕ)) → whole.space.site.blocks ≤ 2 ^ 63 → IsPermutation whole.owners sorted → AreInOrder 0 whole.space.site.blocks sorted → IsNumberOf (IsHeldBlock whole) (blocks_in sorted)
+number-is whole sorted few moved order =
     let blocks = whole.space.site.blocks in
-    let all = filter (holds new) (range_with_len 0 blocks) in
-    let range : range_with_len new.first new.blocks ≡ range_with_len 0 blocks = ap₂ range_with_len (claimed.same_first ∙ empty.first_is) (claimed.same_blocks ∙ empty.blocks_is) in
-    let count : count_by (holds new) (range_with_len new.first new.blocks) ≡ length all = ap (count_by (holds new)) range ∙ sym (length-filter (holds new) (range_with_len 0 blocks)) in
-    let bound : count_by (holds new) (range_with_len 0 blocks) ≤ blocks = count_bound (holds new) 0 blocks in
-    let short : length all ≤ blocks = subst (λ n. n ≤ blocks) (sym (length-filter (holds new) (range_with_len 0 blocks))) bound in
+    let alike = held-moved whole.owners sorted moved in
+    let all = filter (is_held sorted) (range_with_len 0 blocks) in
+    let long : length all ≡ count_by (is_held sorted) (range_with_len 0 blocks) = length-filter (is_held sorted) (range_with_len 0 blocks) in
+    let count : count_by (is_held sorted) (range_with_len 0 blocks) ≡ blocks_in sorted = order-count 0 blocks sorted order in
+    let bound : count_by (is_held sorted) (range_with_len 0 blocks) ≤ blocks = count_bound (is_held sorted) 0 blocks in
+    let short : length all ≤ blocks = omega (arith, long, bound) in
+    let same : blocks_in sorted ≡ length all = sym count ∙ sym long in
     record {
       all = all;
       lists = (
         (λ block h. record {
-          low = let low = from-range 0 blocks block (from-filter (holds new) block (range_with_len 0 blocks) h) in omega arith;
-          held = sym (claimed.held block) ∙ filter-test (holds new) block (range_with_len 0 blocks) h;
+          low = let low = from-range 0 blocks block (from-filter (is_held sorted) block (range_with_len 0 blocks) h) in omega arith;
+          held = alike block ∙ filter-test (is_held sorted) block (range_with_len 0 blocks) h;
         }),
-        (λ block held. in-filter (holds new) block (range_with_len 0 blocks) (let low = held.low in in-range 0 blocks block (omega arith) (omega arith)) (claimed.held block ∙ held.held)),
+        (λ block held. in-filter (is_held sorted) block (range_with_len 0 blocks) (let low = held.low in in-range 0 blocks block (omega arith) (omega arith)) (sym (alike block) ∙ held.held)),
       );
-      apart = apart-filter (holds new) (range_with_len 0 blocks) (apart-range 0 blocks);
-      same = count ∙ omega (arith, short);
+      apart = apart-filter (is_held sorted) (range_with_len 0 blocks) (apart-range 0 blocks);
+      same = same ∙ omega (arith, short);
     }
 
--- where the ranges are claimed, the chunks agree and the pool settles, all does
-pub settled-all : (image : List ℕ) (seen : Seen) (whole : Whole) (old new : HeldBlocks) → IsReached image seen whole → 1 ≤ whole.space.site.block_size → whole.space.site.blocks ≤ 2 ^ 63 →
-    IsEmpty old 0 whole.space.site.blocks → AreClaimed old new whole.owners → ArePoolSettled whole → ((k : ℕ) → k < length whole.space.chunks → IsChunkAgreed image whole.space new k) → IsSettledWith image whole (held_count new)
-settled-all image seen whole old new r some few empty claimed pool chunks =
+-- where the ranges lie in order, the chunks agree and the pool settles, all does
+pub settled-all : (image : List ℕ) (seen : Seen) (whole : Whole) (sorted : List (ℕ × ℕ)) → IsReached image seen whole → 1 ≤ whole.space.site.block_size → whole.space.site.blocks ≤ 2 ^ 63 →
+    IsPermutation whole.owners sorted → AreInOrder 0 whole.space.site.blocks sorted → ArePoolSettled whole → ((k : ℕ) → k < length whole.space.chunks → IsChunkAgreed image whole.space (is_held sorted) k) → IsSettledWith image whole (blocks_in sorted)
+settled-all image seen whole sorted r some few moved order pool chunks =
     let counted = chunks-counted image whole.space (known-is image seen whole r) in
     record {
       container = record {
-        inside = inside-range image seen whole old new r few empty claimed;
-        apart = claimed.apart;
+        inside = inside-range image seen whole sorted r few moved order;
+        apart = apart-moved whole.space.site.blocks whole.owners sorted moved order;
         marked = λ block low.
             let len = chunk_len whole.space.site.block_size in
             let k = block / len in
             let again = block-again whole.space block some low in
             let there : k < length whole.space.chunks = subst (λ n. k < n) (sym counted) (chunk-of image seen whole r block some low) in
             ap (mark_of image whole) (sym again.1) ∙ mark-at image whole k (block % len) again.0 ∙ (chunks k there).marks (block % len) again.0
-            ∙ ap (holds new) again.1 ∙ claimed.held block;
+            ∙ ap (is_held sorted) again.1 ∙ sym (held-moved whole.owners sorted moved block);
         counts = λ k low. right-count image seen whole r k low (chunks k (subst (λ n. k < n) (sym counted) low)).count;
       };
       pool = pool;
-      blocks = number-is whole old new few empty claimed;
+      blocks = number-is whole sorted few moved order;
     }

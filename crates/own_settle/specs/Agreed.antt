@@ -1,4 +1,4 @@
--- Whether the bits of a part of the container say what a ledger holds, and a free count what the bits say.
+-- Whether the bits of a part of the container mark the blocks that are held, and a free count says what the bits do.
 use Rattle.std.specs.Prelude.{◌≡◌, ℕ, ◌+◌, ◌*◌, ◌<◌, Bool, true, false, not, List, length, filter, if◌then◌else◌}
 use Rattle.std.specs.List.{range_with_len}
 use Rattle.space_map.specs.Geometry.{chunk_len}
@@ -6,7 +6,6 @@ use Rattle.space_map.specs.Chunks.{chunk_at}
 use Rattle.space_map.specs.Marks.{is_marked_in}
 use Rattle.space_map.specs.Tests.{share}
 use Rattle.space_map.specs.Stops.{Known}
-use Rattle.own_ledger.specs.Held.{HeldBlocks, holds}
 use Rattle.own_ledger.specs.declared.held.Difference.{Difference}
 use Rattle.reach_rules.specs.declared.fault.ReachFault.{ReachFault}
 use Rattle.reach_rules.specs.declared.fault.ReachFault.TheVariants.{Unsound, Unnamed, NamedTwice, OwnedTwice, Outside, UnusedMapping, Leaked, Missing, PoolLeaked, PoolMissing, FreeCount, Space, Pool, Tree, Value}
@@ -16,17 +15,17 @@ unfoldable pub unmarked : (ℕ → Bool) → ℕ → ℕ
 unmarked mark blocks = length (filter (λ place. not (mark place)) (range_with_len 0 blocks))
 
 -- so many blocks from a first on are held exactly where they are marked, by place, and a free count is the number of those that aren't
-pub record IsAgreed (mark : ℕ → Bool) (ledger : HeldBlocks) (first blocks free : ℕ) : Type 0 where
-  pub marks : (place : ℕ) → place < blocks → mark place ≡ holds ledger (first + place)
+pub record IsAgreed (mark held : ℕ → Bool) (first blocks free : ℕ) : Type 0 where
+  pub marks : (place : ℕ) → place < blocks → mark place ≡ held (first + place)
   pub count : free ≡ unmarked mark blocks
 
 -- a block among so many from a first on has a mark, and is held or not
-pub record HasMarkAt (mark : ℕ → Bool) (ledger : HeldBlocks) (first blocks block : ℕ) (marked held : Bool) : Type 0 where
+pub record HasMarkAt (mark held : ℕ → Bool) (first blocks block : ℕ) (is_marked is_held : Bool) : Type 0 where
   pub place : ℕ
   pub low : place < blocks
   pub at : block ≡ first + place
-  pub mark_is : mark place ≡ marked
-  pub held_is : holds ledger (first + place) ≡ held
+  pub mark_is : mark place ≡ is_marked
+  pub held_is : held (first + place) ≡ is_held
 
 -- the free count of a chunk of a number is another than that of the blocks that aren't marked
 pub record HasWrongCount (mark : ℕ → Bool) (number blocks free chunk : ℕ) : Type 0 where
@@ -34,22 +33,22 @@ pub record HasWrongCount (mark : ℕ → Bool) (number blocks free chunk : ℕ) 
   pub wrong : free ≡ unmarked mark blocks → ⊥
 
 -- what is named where they don't agree is there
-abbrev pub IsAgreeFault : (ℕ → Bool) → HeldBlocks → ℕ → ℕ → ℕ → ℕ → ReachFault → Type 0
-IsAgreeFault mark ledger number first blocks free (Unsound block why) = ⊥
-IsAgreeFault mark ledger number first blocks free (Unnamed within oid xid) = ⊥
-IsAgreeFault mark ledger number first blocks free (NamedTwice within oid xid) = ⊥
-IsAgreeFault mark ledger number first blocks free (OwnedTwice block) = ⊥
-IsAgreeFault mark ledger number first blocks free (Outside block) = ⊥
-IsAgreeFault mark ledger number first blocks free (UnusedMapping within oid xid) = ⊥
-IsAgreeFault mark ledger number first blocks free (Leaked block) = HasMarkAt mark ledger first blocks block true false
-IsAgreeFault mark ledger number first blocks free (Missing block) = HasMarkAt mark ledger first blocks block false true
-IsAgreeFault mark ledger number first blocks free (PoolLeaked block) = ⊥
-IsAgreeFault mark ledger number first blocks free (PoolMissing block) = ⊥
-IsAgreeFault mark ledger number first blocks free (FreeCount chunk) = HasWrongCount mark number blocks free chunk
-IsAgreeFault mark ledger number first blocks free (Space fault) = ⊥
-IsAgreeFault mark ledger number first blocks free (Pool fault) = ⊥
-IsAgreeFault mark ledger number first blocks free (Tree root item) = ⊥
-IsAgreeFault mark ledger number first blocks free (Value root item) = ⊥
+abbrev pub IsAgreeFault : (ℕ → Bool) → (ℕ → Bool) → ℕ → ℕ → ℕ → ℕ → ReachFault → Type 0
+IsAgreeFault mark held number first blocks free (Unsound block why) = ⊥
+IsAgreeFault mark held number first blocks free (Unnamed within oid xid) = ⊥
+IsAgreeFault mark held number first blocks free (NamedTwice within oid xid) = ⊥
+IsAgreeFault mark held number first blocks free (OwnedTwice block) = ⊥
+IsAgreeFault mark held number first blocks free (Outside block) = ⊥
+IsAgreeFault mark held number first blocks free (UnusedMapping within oid xid) = ⊥
+IsAgreeFault mark held number first blocks free (Leaked block) = HasMarkAt mark held first blocks block true false
+IsAgreeFault mark held number first blocks free (Missing block) = HasMarkAt mark held first blocks block false true
+IsAgreeFault mark held number first blocks free (PoolLeaked block) = ⊥
+IsAgreeFault mark held number first blocks free (PoolMissing block) = ⊥
+IsAgreeFault mark held number first blocks free (FreeCount chunk) = HasWrongCount mark number blocks free chunk
+IsAgreeFault mark held number first blocks free (Space fault) = ⊥
+IsAgreeFault mark held number first blocks free (Pool fault) = ⊥
+IsAgreeFault mark held number first blocks free (Tree root item) = ⊥
+IsAgreeFault mark held number first blocks free (Value root item) = ⊥
 
 -- what a difference of a ledger and the bits says of a block
 abbrev pub told_of : Difference → ReachFault
@@ -70,16 +69,16 @@ count_of space k = share space.site.blocks (chunk_len space.site.block_size) k
 abbrev pub free_at : List ℕ → Known → ℕ → ℕ
 free_at image space k = (chunk_at space.site.block_size image space.manager k).free
 
--- a chunk agrees with a ledger
-abbrev pub IsChunkAgreed : List ℕ → Known → HeldBlocks → ℕ → Type 0
-IsChunkAgreed image space ledger k = IsAgreed (marks_in image space k) ledger (first_of space k) (count_of space k) (free_at image space k)
+-- a chunk agrees with the blocks that are held
+abbrev pub IsChunkAgreed : List ℕ → Known → (ℕ → Bool) → ℕ → Type 0
+IsChunkAgreed image space held k = IsAgreed (marks_in image space k) held (first_of space k) (count_of space k) (free_at image space k)
 
 -- a fault of a chunk is there
-abbrev pub IsChunkFault : List ℕ → Known → HeldBlocks → ℕ → ReachFault → Type 0
-IsChunkFault image space ledger k fault = IsAgreeFault (marks_in image space k) ledger k (first_of space k) (count_of space k) (free_at image space k) fault
+abbrev pub IsChunkFault : List ℕ → Known → (ℕ → Bool) → ℕ → ReachFault → Type 0
+IsChunkFault image space held k fault = IsAgreeFault (marks_in image space k) held k (first_of space k) (count_of space k) (free_at image space k) fault
 
 -- a fault of one of the chunks is there
-pub record IsOfChunk (image : List ℕ) (space : Known) (ledger : HeldBlocks) (fault : ReachFault) : Type 0 where
+pub record IsOfChunk (image : List ℕ) (space : Known) (held : ℕ → Bool) (fault : ReachFault) : Type 0 where
   pub chunk : ℕ
   pub low : chunk < length space.chunks
-  pub present : IsChunkFault image space ledger chunk fault
+  pub present : IsChunkFault image space held chunk fault

@@ -1,6 +1,6 @@
 -- Ranges that a ledger has claimed, one after the other.
 use Rattle.std.specs.Prelude.{◌≡◌, ℕ, ◌<◌, true, false, List}
-use Rattle.apfs_model.specs.Blocks.{is_in}
+use Rattle.apfs_model.specs.Blocks.{is_in, is_within}
 use Rattle.apfs_model.specs.Lists.{In}
 use Rattle.own_ledger.specs.Held.{HeldBlocks, holds, lies_in}
 use Rattle.own_ledger.specs.declared.held.ClaimFault.{ClaimFault}
@@ -15,20 +15,20 @@ pub record AreClaimed (old new : HeldBlocks) (ranges : List (ℕ × ℕ)) : Type
   pub inside : (range : ℕ × ℕ) → In range ranges → 0 < range.1 → lies_in old range.0 range.1 ≡ true
   pub apart : AreApart ranges
 
--- a range that has a block begins at this one, and leaves the ledger's range
-pub record HasLeaving (ledger : HeldBlocks) (ranges : List (ℕ × ℕ)) (block : ℕ) : Type 0 where
+-- a range that has a block begins at this one, and doesn't lie in so many blocks from a first on
+pub record HasLeaving (first blocks : ℕ) (ranges : List (ℕ × ℕ)) (block : ℕ) : Type 0 where
   pub range : ℕ × ℕ
   pub one : In range ranges
   pub some : 0 < range.1
-  pub leaves : lies_in ledger range.0 range.1 ≡ false
+  pub leaves : is_within range.0 range.1 first blocks ≡ false
   pub at : block ≡ range.0
 
--- a block of the ledger's range lies in two ranges
-pub record HasTwice (ledger : HeldBlocks) (ranges : List (ℕ × ℕ)) (block : ℕ) : Type 0 where
-  pub low : is_in block ledger.first ledger.blocks ≡ true
+-- one of so many blocks from a first on lies in two ranges
+pub record HasTwice (first blocks : ℕ) (ranges : List (ℕ × ℕ)) (block : ℕ) : Type 0 where
+  pub low : is_in block first blocks ≡ true
   pub twice : IsHeldTwice ranges block
 
--- what a refused claim says of all ranges
-abbrev pub IsRangeFault : HeldBlocks → List (ℕ × ℕ) → ClaimFault → Type 0
-IsRangeFault ledger ranges (claims.Outside block) = HasLeaving ledger ranges block
-IsRangeFault ledger ranges (claims.Twice block) = HasTwice ledger ranges block
+-- what a refused claim of so many blocks from a first on says of all ranges
+abbrev pub IsRangeFault : ℕ → ℕ → List (ℕ × ℕ) → ClaimFault → Type 0
+IsRangeFault first blocks ranges (claims.Outside block) = HasLeaving first blocks ranges block
+IsRangeFault first blocks ranges (claims.Twice block) = HasTwice first blocks ranges block

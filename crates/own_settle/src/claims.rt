@@ -9,7 +9,7 @@ use own_ledger::{ClaimFault, Ledger};
 pub(crate) fn claim_all(ledger: &mut Ledger, ranges: &[(u64, u64)]) -> Result<(), ClaimFault>
     requires { (block : ℕ) → holds ledger.old block ≡ false }
     ensures clear { OnOk result (AreClaimed ledger.old ledger.new ranges.now) }
-    ensures present { IfErr result (IsRangeFault ledger.old ranges.now) }
+    ensures present { IfErr result (IsRangeFault ledger.old.first ledger.old.blocks ranges.now) }
 {
     'each: for range in ranges {
         match ledger.claim(range.0, range.1) {

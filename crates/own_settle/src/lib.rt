@@ -3,6 +3,7 @@
 
 mod chunks;
 mod claims;
+mod ordered;
 mod pools;
 mod settled;
 mod whole;

@@ -10,14 +10,13 @@ ghost use Rattle.obj_base.specs.Site.{IsSiteFor};
 ghost use Rattle.obj_base.specs.Stops.{Tells, NoFeature, IsFree};
 ghost use Rattle.obj_base.specs.declared.stop.Stop.TheVariants.{ReadFault};
 ghost use Rattle.nx_ring.specs.Checkpoint.{Seen};
-ghost use Rattle.own_ledger.specs.Held.{IsEmpty};
 ghost use Rattle.reach_rules.specs.Reached.{IsReached};
 ghost use Rattle.reach_rules.specs.Settled.{IsSettledWith, IsSettleFault};
 ghost use Rattle.own_settle.specs.Pooled.{owner_fault};
 
 use crate::Reached;
 use crate::chunks::settle_chunks;
-use crate::claims::claim_all;
+use crate::ordered::{by_first, count_in_order};
 use crate::pools::settle_pool;
 use blk_source::BlockSource;
 use obj_base::Stop;
@@ -36,7 +35,7 @@ fn refused(fault: ClaimFault) -> ReachFault
 }
 
 /// Settles what was reached of a container with the bits that mark its blocks, and gives how many blocks lie in the ranges of its
-/// owners. The ledger is empty and has the container's blocks from 0; after an error it isn't said what it holds. `Outside`
+/// owners. The ranges are sorted by their first blocks, and each chunk is compared with those that have blocks in it. `Outside`
 /// and `OwnedTwice` come where a range leaves the container or a block lies in two, `Leaked` and `Missing` where a bit is set
 /// outside of the ranges or isn't inside, `FreeCount` where a chunk's count is wrong, and of the pool `OwnedTwice`,
 /// `PoolLeaked` and `PoolMissing`. No feature is refused here.
@@ -44,10 +43,8 @@ pub fn settle<S: BlockSource>(
     alloc: Global,
     src: &mut S,
     reached: &Reached,
-    ledger: &mut Ledger,
 ) -> Result<u64, Stop<ReachFault>>
     requires site { IsSiteFor reached.now.space.site (S.bytes_len src.old) }
-    requires empty { IsEmpty ledger.old 0 reached.now.space.site.blocks }
     ensures clear { (image : List ℕ) (seen : Seen) → S.bytes src.old ≡ Some image → IsReached image seen reached.now → IfOk result (IsSettledWith image reached.now) }
     ensures present { (image : List ℕ) (seen : Seen) → S.bytes src.old ≡ Some image → IsReached image seen reached.now → IfErr result (Tells (IsSettleFault image reached.now) NoFeature) }
     ensures exact { (image : List ℕ) (seen : Seen) → S.bytes src.old ≡ Some image → IsReached image seen reached.now → (number : ℕ) → IsSettledWith image reached.now number → IfErr result IsFree }
@@ -57,17 +54,21 @@ pub fn settle<S: BlockSource>(
 {
     let _size = src.size();
     let space = reached.space();
-    match claim_all(ledger, reached.owners()) {
-        Ok(()) => {}
+    let sorted = by_first(alloc, reached.owners())?;
+    let ranges = sorted.as_slice();
+    let number = match count_in_order(ranges, space.site().blocks) {
+        Ok(number) => number,
         Err(fault) => return Err(Stop::Found(refused(fault))),
-    }
+    };
     match settle_pool(alloc, reached) {
         Ok(()) => {}
         Err(stop) => return Err(stop),
     }
-    let mut bits = vec![in alloc; 0u8; space.site().block_size as usize]?;
-    match settle_chunks(src, space, ledger, &mut bits) {
-        Ok(()) => Ok(ledger.held()),
+    let block_size = space.site().block_size;
+    let mut bits = vec![in alloc; 0u8; block_size as usize]?;
+    let mut ledger = Ledger::new(alloc, 0, 8 * u64::from(block_size))?;
+    match settle_chunks(src, space, ranges, &mut ledger, &mut bits) {
+        Ok(()) => Ok(number),
         Err(stop) => Err(stop),
     }
 }

@@ -21,7 +21,6 @@ use crate::reached;
 use blk_source::BlockSource;
 use nx_ring::Checkpoint;
 use obj_base::Stop;
-use own_ledger::Ledger;
 use own_settle::settle;
 use reach_rules::ReachFault;
 use std::alloc::Global;
@@ -63,7 +62,6 @@ impl Tally {
 
 /// Whether each block of a container is owned once and marked: the numbers of named objects and of owned blocks. The container's
 /// superblock has no feature that is refused, and `volumes` are what `load` gave for all heads of the checkpoint, in their order.
-/// Takes the ledger's memory, one bit a block, before its first read.
 pub fn account<S: BlockSource>(
     alloc: Global,
     src: &mut S,
@@ -81,12 +79,11 @@ pub fn account<S: BlockSource>(
     ensures kept { IsKept S.bytes S.bytes_len S.faults src.old src.new }
 {
     let _size = src.size();
-    let mut ledger = Ledger::new(alloc, 0, cp.site().blocks)?;
     let reached = match reached(alloc, src, cp, volumes) {
         Ok(reached) => reached,
         Err(stop) => return Err(stop),
     };
-    match settle(alloc, src, &reached, &mut ledger) {
+    match settle(alloc, src, &reached) {
         Ok(held) => Ok(Tally {
             named: reached.objects(),
             held,

@@ -9,7 +9,6 @@ use blk_source::{BlockSource, MemSource};
 use img_make::{Sample, edit, make, make_with, sample, write};
 use nx_ring::newest;
 use obj_base::Stop;
-use own_ledger::Ledger;
 use own_settle::{Reached, settle};
 use reach_rules::ReachFault;
 use space_map::Space;
@@ -79,7 +78,6 @@ fn settled(
     if first > blocks || count > blocks - first || count > 8 {
         return Err(Fail::from("another pool"));
     }
-    let mut ledger = Ledger::new(alloc, 0, blocks)?;
     let reached = Reached::new(
         0,
         owners.to_vec(alloc)?,
@@ -87,7 +85,7 @@ fn settled(
         space,
         vec![in alloc; pool]?,
     );
-    Ok(settle(alloc, &mut src, &reached, &mut ledger))
+    Ok(settle(alloc, &mut src, &reached))
 }
 
 // A case: the ranges of the container and of the pool, the first byte of the pool's bits, edits, and what they come to.

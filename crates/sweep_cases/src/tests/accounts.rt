@@ -9,9 +9,9 @@ ghost use Rattle.vol_view.specs.declared.head.VolHead.{VolHead};
 
 mod blocks;
 mod features;
-mod ledger;
 mod objects;
 mod space;
+mod vast;
 
 use blk_source::{BlockSource, MemSource};
 use img_changes::{Base, Change, grouped, image};

@@ -1,7 +1,5 @@
-use Rattle.std.proofs.Common.{ap, sym, ◌∙◌, subst}
-use Rattle.obj_base.specs.declared.site.Site.{Site}
+use Rattle.std.proofs.Common.{sym, ◌∙◌, subst}
 use Rattle.nx_ring.specs.Checkpoint.{site_of}
-use Rattle.own_ledger.specs.Held.{IsEmpty}
 use Rattle.reach_rules.specs.Bound.{RoseBy, account_reads}
 use Rattle.reach_rules.specs.Tally.{IsTally}
 use Rattle.reach_rules.proofs.Composed.{composed, tallied}
@@ -16,12 +14,8 @@ pub returns-in-Err-clause-exact : goal.returns-in-Err-clause-exact
 returns-in-Err-clause-exact g c = λ image heads told are loaded w.
     accounted-free image c.args.cp.now c.in-Err.stop w (reached-told image c.args.cp.now c.in-Err.stop (c.in-Err.ensures.present image heads told are loaded))
 
-pub settle-requires-clause-site : goal.settle-requires-clause-site
-settle-requires-clause-site g c = same-site c.in-Ok.reached.space.site (site_of c.args.cp.now) _ _ c.in-Ok.ensures.site c.reached.ensures.kept.same_size c.requires.site
-
-pub settle-requires-clause-empty : goal.settle-requires-clause-empty
-settle-requires-clause-empty g c =
-    subst (λ n. IsEmpty c.in_ok-ledger.ledger 0 n) (ap (λ (s : Site). s.blocks) (c.site.ensures ∙ sym c.in-Ok.ensures.site)) c.in_ok-ledger.ensures
+pub settle-requires : goal.settle-requires
+settle-requires g c = record { site = same-site c.in-Ok.reached.space.site (site_of c.args.cp.now) _ _ c.in-Ok.ensures.site c.reached.ensures.kept.same_size c.requires.site }
 
 pub returns-in-Ok-settle-clause-clear : goal.returns-in-Ok-settle-clause-clear
 returns-in-Ok-settle-clause-clear g c = λ image heads told are loaded.

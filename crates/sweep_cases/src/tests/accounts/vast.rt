@@ -1,4 +1,4 @@
-// The memory of the ledger, which an account takes before it reads anything.
+// A container that tells of more blocks than any memory has bits for.
 ghost use Rattle.std.specs.Prelude.{◌≡◌, ◌≤◌, ◌+◌, ℕ, List, Some, length, OnOk, OnErr};
 ghost use Rattle.apfs_model.specs.Counts.{one_more, Rose};
 ghost use Rattle.apfs_model.specs.Source.{Copies};
@@ -10,6 +10,8 @@ use blk_source::{BlockSource, ReadFailed};
 use img_changes::{Change, SMALL, image};
 use img_make::places::SUPERBLOCK;
 use obj_base::Stop;
+use reach_rules::ReachFault;
+use space_map::SpaceFault;
 use std::test::Fail;
 
 // A source of a size of its own, with zeros after its bytes. It tells nothing, and never fails.
@@ -52,14 +54,14 @@ impl BlockSource for Vast {
     }
 }
 
-// The small container has 2^51 blocks, so that its ledger would take 2^48 bytes: more than an address space has.
+// The small container has 2^51 blocks, of which its manager knows nothing: a bit for each would take 2^48 bytes.
 const VAST: &[Change] = &[
     Change::Put(0, BLOCK_COUNT, &[0, 0, 0, 0, 0, 0, 8, 0]),
     Change::Put(SUPERBLOCK, BLOCK_COUNT, &[0, 0, 0, 0, 0, 0, 8, 0]),
 ];
 
 #[test]
-fn no_room_for_the_ledger(rt: HostRuntime) -> Result<(), Fail> {
+fn blocks_that_are_told_take_no_memory(rt: HostRuntime) -> Result<(), Fail> {
     let alloc = rt.alloc();
     let mut src = Vast {
         bytes: image(alloc, &SMALL, VAST)?,
@@ -67,8 +69,7 @@ fn no_room_for_the_ledger(rt: HostRuntime) -> Result<(), Fail> {
         reads: 0,
     };
     let at = open(alloc, &mut src)?;
-    let before = src.reads;
-    assert_eq!(rt; account_of(alloc, &mut src, &at), Err(Stop::NoMemory));
-    assert_eq!(rt; src.reads, before);
+    let want = ReachFault::Space(SpaceFault::Geometry);
+    assert_eq!(rt; account_of(alloc, &mut src, &at), Err(Stop::Found(want)));
     Ok(())
 }
