@@ -13,8 +13,9 @@ use crate::refused::refused;
 use blk_source::BlockSource;
 use file_extent::{Stream, StreamStop};
 use obj_base::{Site, Stop};
-use path_walk::{PathStop, fault_of};
+use path_walk::PathStop;
 use std::alloc::Global;
+use view_facts::fault_of;
 use view_rules::{IdAt, TreeFault};
 use vol_view::{View, Volume};
 

@@ -4,32 +4,32 @@ use Rattle.std.specs.Prelude.{filter, option_map, is_some, not}
 use Rattle.std.specs.Option.{ok_or}
 use Rattle.apfs_model.specs.Lists.{In, and_then, passes}
 use Rattle.apfs_model.proofs.BoolTests.{both-true, false-not, from-below}
-use Rattle.obj_base.specs.Stops.{raised}
+use Rattle.obj_base.specs.Stops.{raised, Tells}
 use Rattle.obj_base.specs.declared.site.Site.{Site}
 use Rattle.obj_base.specs.declared.stop.Stop.{Stop}
 use Rattle.obj_base.specs.declared.stop.Stop.TheVariants.{Found, Unsupported, ReadFault, NoMemory}
 use Rattle.bt_cursor.specs.declared.fault.WalkFault.{WalkFault}
-use Rattle.bt_cursor.specs.declared.fault.WalkFault.TheVariants as walks
 use Rattle.fs_record.specs.Inodes.{Inode}
 use Rattle.fs_record.specs.Entries.{Entry}
 use Rattle.fs_record.specs.Facts.{Fact, is_reserved, root_id}
-use Rattle.fs_record.specs.declared.fault.RecFault.{RecFault}
 use Rattle.vol_view.specs.Volumes.{Loaded}
-use Rattle.vol_view.specs.Views.{view_line}
+use Rattle.vol_view.specs.Views.{IsViewFeature}
 use Rattle.vol_view.specs.declared.volume.View.{View}
 use Rattle.view_rules.specs.Facts.{Facts, inode_at, has_inode, is_directory, does_count}
 use Rattle.view_rules.specs.Entries.{lacks_inode, has_root}
-use Rattle.view_rules.specs.Listed as listed
 use Rattle.view_rules.specs.Rules.{view_facts, IsTreeFault}
 use Rattle.view_rules.specs.declared.fault.TreeFault.{TreeFault}
-use Rattle.view_rules.specs.declared.fault.TreeFault.TheVariants.{Record, NoInode}
+use Rattle.view_rules.specs.declared.fault.TreeFault.TheVariants.{NoInode}
+use Rattle.view_rules.specs.declared.profile.Profile.{Profile}
+use Rattle.view_rules.specs.declared.profile.Profile.TheVariants.{Plain}
+use Rattle.ext_ref.specs.declared.range.NewRange.{NewRange}
 use Rattle.view_rules.proofs.Law.{refutes, featureless_rules}
 use Rattle.path_walk.specs.Paths.{is_component, parts_of, components}
 use Rattle.path_walk.specs.Places.{Place, placed, root_of, root_name, target_of}
 use Rattle.path_walk.specs.Found.{entries_in, entry_named, place_by, followed, step, walk, found, target_found}
 use Rattle.path_walk.specs.Stops.{IsLawful, IsPathFault}
-use Rattle.path_walk.specs.Calls.{IsGiven, IsStopThere, of_walk, IsOfRecords, IsNoAnswer}
-use Rattle.path_walk.specs.Parts.{by_part, along, rooted, IsLack, IsKnown, IsPlaceKnown, IsRefusal, IsSurveyed, lacking_entry}
+use Rattle.path_walk.specs.Calls.{IsGiven, IsStopThere, of_walk, IsNoAnswer}
+use Rattle.path_walk.specs.Parts.{by_part, along, rooted, IsLack, IsKnown, IsPlaceKnown, lacking_entry}
 use Rattle.path_walk.specs.declared.answer.Answer.{Answer}
 use Rattle.path_walk.specs.declared.answer.Answer.TheVariants.{NotFound, NotDirectory}
 use Rattle.path_walk.specs.declared.stop.PathStop.{PathStop}
@@ -141,10 +141,6 @@ known_ends facts view shows wanted sees whole (Unsupported feature block) goes k
 known_ends facts view shows wanted sees whole ReadFault goes known = known
 known_ends facts view shows wanted sees whole NoMemory goes known = tt
 
--- a record that can't be read is there
-pub record_there : (image : List ℕ) (site : Site) (volume : Loaded) (view : View) (refusal : Option (ℕ × RecFault)) (entries : List (Fact Entry)) (inodes : List (Fact Inode)) (item : ℕ) (why : RecFault) → IsSurveyed image site volume view refusal entries inodes → refusal ≡ Some (item, why) → IsPathFault image site volume view (Record view.slot view.xid item why)
-record_there image site volume view refusal entries inodes item why had e profile ranges = ((refl, refl), subst (λ (r : Option (ℕ × RecFault)). IsRefusal volume.names (view_line image site volume view) r) e had.refused)
-
 -- what is found by the root and the parts
 pub found_by : (facts : Facts) (path : List ℕ) (root : Place) (parts : List (List ℕ)) (whole : Result Place Answer) → rooted facts ≡ Ok root → parts ≡ parts_of path → along facts parts root ≡ whole → found facts path ≡ whole
 found_by facts path root parts whole there same so_far =
@@ -163,12 +159,31 @@ raised_unanswered view NoMemory = tt
 same-fault : (a b : TreeFault) → ◌≡◌ {A = Stop PathStop} (Found (stops.Fault a)) (Found (stops.Fault b)) → a ≡ b
 same-fault a b e = cc
 
--- a fault that a walk names is one of the walk
-pub raised_records : (view : View) (stop : Stop WalkFault) (fault : TreeFault) → raised (of_walk view) stop ≡ Found (stops.Fault fault) → IsOfRecords view fault
-raised_records view (Found why) fault e = inl (why, sym (same-fault (listed.raised view why) fault e))
-raised_records view (Unsupported name block) fault e = absurd cc
-raised_records view ReadFault fault e = absurd cc
-raised_records view NoMemory fault e = absurd cc
+-- a fault that is said of a path is one of the view
+fault-said : (stop : Stop TreeFault) (fault : TreeFault) → raised stops.Fault stop ≡ Found (stops.Fault fault) → stop ≡ Found fault
+fault-said (Found other) fault e = ap Found (same-fault other fault e)
+fault-said (Unsupported name block) fault e = absurd cc
+fault-said ReadFault fault e = absurd cc
+fault-said NoMemory fault e = absurd cc
+
+stop-same : {T : Type 0} (a b : Stop PathStop) → ◌≡◌ {A = Result T (Stop PathStop)} (Err a) (Err b) → a ≡ b
+stop-same a b e = cc
+
+pub fault_said : {T : Type 0} (stop : Stop TreeFault) (other : Stop PathStop) (fault : TreeFault) → other ≡ raised stops.Fault stop → ◌≡◌ {A = Result T (Stop PathStop)} (Err other) (Err (Found (stops.Fault fault))) → stop ≡ Found fault
+fault_said stop other fault said e = fault-said stop fault (sym said ∙ stop-same other (Found (stops.Fault fault)) e)
+
+pub said_unanswered : (stop : Stop TreeFault) → IsNoAnswer (raised stops.Fault stop)
+said_unanswered (Found fault) = tt
+said_unanswered (Unsupported name block) = tt
+said_unanswered ReadFault = tt
+said_unanswered NoMemory = tt
+
+-- what is there whatever the profile and the new ranges is there where a path stops
+pub said_there : (image : List ℕ) (site : Site) (volume : Loaded) (view : View) (stop : Stop TreeFault) → ((profile : Profile) (ranges : List NewRange) → Tells (IsTreeFault profile image site volume view ranges) (IsViewFeature image site volume view) stop) → IsStopThere image site volume view (raised stops.Fault stop)
+said_there image site volume view (Found fault) there = there
+said_there image site volume view (Unsupported name block) there = there Plain []
+said_there image site volume view ReadFault there = tt
+said_there image site volume view NoMemory there = tt
 
 pub unanswered_given : {T U : Type 0} (image : List ℕ) (site : Site) (volume : Loaded) (view : View) (shows : T → U) (wanted : Result U Answer) (stop : Stop PathStop) → IsLawful image site volume view → IsStopThere image site volume view stop → IsNoAnswer stop → IsGiven shows wanted (Err stop)
 unanswered_given image site volume view shows wanted stop lawful there unanswered = lawful_stop image site volume view shows wanted stop lawful there (λ a e. absurd (subst (λ (s : Stop PathStop). IsNoAnswer s) e unanswered))

@@ -6,7 +6,7 @@ pub mod Answers
 pub mod Examples
 pub mod Searched
 pub mod Chosen
-pub mod Surveyed
+pub mod RecordOrder
 pub mod Rising
 pub mod Known
 pub mod Viewed

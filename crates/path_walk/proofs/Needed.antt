@@ -319,7 +319,7 @@ if_as P Q (Some v) f h = f v h
 pub entries_there : {K N V : Type 0} {k : keys.Ghosts K} {n : namers.Ghosts N} (hashed : Bool) (image : List ℕ) (cursor : Cursor K N k n) (root id : ℕ) (names : Names) (keep : Entry → Bool) (left : List Pair) (sees : V → List Entry) (run : Option V) → IsFsShape hashed k.shape →
     is_ordered k.shape (line_of (tree_of cursor image) root) ≡ true →
     left ≡ from_rank k.shape (record { id = id; kind = entry_record; sub = 0 }) (flat_of (tree_of cursor image) root) →
-    run_entries k.shape names keep id [] left ≡ option_map sees run →
+    IfSome run (λ v. run_entries k.shape names keep id [] left ≡ Some (sees v)) →
     IfSome run (λ v. is_kind_whole (tree_of cursor image) root id entry_record ≡ true) → IfSome run (λ v. HasKindIn names (tree_of cursor image) root id entry_record)
 entries_there hashed image cursor root id names keep left sees None law ordered at e whole = tt
 entries_there {k = k} hashed image cursor root id names keep left sees (Some v) law ordered at e whole =

@@ -263,11 +263,6 @@ pub inode_from : {K N : Type 0} {k : keys.Ghosts K} {n : namers.Ghosts N} (hashe
     IfSome inode (λ x. first_for id (inodes_of (flat_of (tree_of cursor image) root)) ≡ Some x)
 inode_from {k = k} {n = n} hashed image cursor root id left inode law ordered at e = inode_found hashed k.shape (site_of cursor) (n.named cursor.namer) image root id left inode law ordered at e
 
--- what holds of a run as it is seen holds of the run
-pub if_seen : {V : Type 0} (sees : V → List Entry) (run : Option V) (es : List Entry) → IfSome (option_map sees run) (λ found. found ≡ es) → IfSome run (λ v. sees v ≡ es)
-if_seen sees None es h = tt
-if_seen sees (Some v) es h = h
-
 -- what holds of a value where there is one holds of this one
 pub some_at : {X : Type 0} (P : X → Type 0) (o : Option X) (x : X) → IfSome o P → o ≡ Some x → P x
 some_at P None x h e = absurd cc

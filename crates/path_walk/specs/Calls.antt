@@ -1,13 +1,10 @@
 -- What the calls on paths answer where they stop.
-use Rattle.std.specs.Prelude.{◌≡◌, ◌⊎◌, ℕ, List, Result, Ok, Err}
+use Rattle.std.specs.Prelude.{◌≡◌, ℕ, List, Result, Ok, Err}
 use Rattle.obj_base.specs.Stops.{Tells}
 use Rattle.obj_base.specs.declared.stop.Stop.{Stop}
 use Rattle.obj_base.specs.declared.stop.Stop.TheVariants.{Found, Unsupported, ReadFault, NoMemory}
 use Rattle.obj_base.specs.declared.site.Site.{Site}
 use Rattle.bt_cursor.specs.declared.fault.WalkFault.{WalkFault}
-use Rattle.fs_record.specs.declared.fault.RecFault.{RecFault}
-use Rattle.view_rules.specs.declared.fault.TreeFault.{TreeFault}
-use Rattle.view_rules.specs.declared.fault.TreeFault.TheVariants.{Record}
 use Rattle.vol_view.specs.Volumes.{Loaded}
 use Rattle.vol_view.specs.Views.{IsViewFeature}
 use Rattle.vol_view.specs.declared.volume.View.{View}
@@ -38,12 +35,6 @@ IsStopThere image site volume view stop = Tells (IsPathStop image site volume vi
 -- what a walk names, said of a path
 abbrev pub of_walk : View → WalkFault → PathStop
 of_walk view why = stops.Fault (listed.raised view why)
-
--- a fault that a walk over all records of a view names: one of the walk, or Record
-abbrev pub IsOfRecords : View → TreeFault → Type 0
-IsOfRecords view fault =
-    ((why : WalkFault) × (fault ≡ listed.raised view why))
-    ⊎ ((item : ℕ) × (why : RecFault) × (fault ≡ Record view.slot view.xid item why))
 
 -- a call stops with no answer
 abbrev pub IsNoAnswer : Stop PathStop → Type 0

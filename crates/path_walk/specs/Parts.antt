@@ -1,37 +1,27 @@
 -- What the parts of the calls on paths give. These are for the contracts of this crate's own functions; what the calls promise is said elsewhere.
-use Rattle.std.specs.Prelude.{◌≡◌, ◌⊎◌, ℕ, ◌≤◌, Bool, true, false, List, [], ◌∷◌, ◌++◌, Option, None, Some, Result, Ok, Err, filter, filter_map, option_map, map, length, if◌then◌else◌}
+use Rattle.std.specs.Prelude.{◌≡◌, ◌⊎◌, ℕ, ◌≤◌, Bool, true, false, List, [], ◌∷◌, ◌++◌, Option, None, Some, Result, Ok, Err, filter, filter_map, option_map, map, if◌then◌else◌}
 use Rattle.std.specs.Option.{ok_or}
 use Rattle.apfs_model.specs.Counts.{given}
 use Rattle.apfs_model.specs.Lists.{In, value_of}
-use Rattle.obj_base.specs.declared.site.Site.{Site}
 use Rattle.obj_base.specs.declared.stop.Stop.{Stop}
 use Rattle.obj_base.specs.declared.stop.Stop.TheVariants.{Found, Unsupported, ReadFault, NoMemory}
 use Rattle.bt_node.specs.Shape.{Shape}
 use Rattle.bt_node.specs.Entries.{Pair}
 use Rattle.bt_keys.specs.RecordKey.{inode_record, entry_record}
-use Rattle.bt_cursor.specs.Line.{Item}
-use Rattle.bt_cursor.specs.WholeTree.{leaf_pairs}
 use Rattle.bt_cursor.specs.Tree.{Tree}
 use Rattle.bt_cursor.specs.Flat.{flat_of}
 use Rattle.bt_cursor.specs.Gaps.{Gapped}
 use Rattle.bt_cursor.specs.From.{run_in, is_of_kind, starts_whole, is_kind_whole}
-use Rattle.bt_cursor.specs.declared.fault.WalkFault.{WalkFault}
-use Rattle.bt_cursor.specs.declared.gathering.GatherFault.{GatherFault}
-use Rattle.bt_cursor.specs.declared.gathering.GatherFault.TheVariants as gathers
 use Rattle.fs_name.specs.declared.naming.Names.{Names}
-use Rattle.fs_name.specs.declared.naming.Names.TheVariants.{Exact, Folded}
 use Rattle.fs_record.specs.Inodes.{Inode}
 use Rattle.fs_record.specs.Entries.{Entry}
-use Rattle.fs_record.specs.Facts.{Fact, read_inode, read_entry, inodes_of, entries_of, root_id, is_reserved}
+use Rattle.fs_record.specs.Facts.{Fact, read_inode, read_entry, root_id, is_reserved}
 use Rattle.fs_record.specs.declared.fault.RecFault.{RecFault}
 use Rattle.view_rules.specs.declared.fault.TreeFault.{TreeFault}
 use Rattle.view_rules.specs.declared.fault.TreeFault.TheVariants.{NoInode}
-use Rattle.vol_view.specs.Volumes.{Loaded}
-use Rattle.vol_view.specs.Views.{view_line, is_view_whole}
 use Rattle.vol_view.specs.declared.volume.View.{View}
 use Rattle.view_rules.specs.Facts.{Facts, facts_in}
 use Rattle.view_rules.specs.Entries.{IsNoInode, has_root}
-use Rattle.view_rules.specs.Rules.{HasRecords, IsRecord, view_facts}
 use Rattle.path_walk.specs.Paths.{is_component}
 use Rattle.path_walk.specs.Places.{Place, root_of, target_of}
 use Rattle.path_walk.specs.Found.{has_name, has_form, place_by, step, walk}
@@ -162,29 +152,6 @@ Leads shows wanted (To x) = wanted ≡ Ok (shows x)
 Leads shows wanted (Answered a) = wanted ≡ Err a
 Leads shows wanted Lost = Unit {0}
 
--- names that are hashed or not
-abbrev pub names_by : Bool → Names
-names_by true = Folded
-names_by false = Exact
-
--- the first refusal after some items, of which this one is of the last
-abbrev pub first_refusal : Option (ℕ × RecFault) → ℕ → Option RecFault → Option (ℕ × RecFault)
-first_refusal (Some before) number why = Some before
-first_refusal None number None = None
-first_refusal None number (Some why) = Some (number, why)
-
--- the first of some items that is refused, if one is
-abbrev pub IsRefusal : Names → List Item → Option (ℕ × RecFault) → Type 0
-IsRefusal names items None = HasRecords names items
-IsRefusal names items (Some at) = IsRecord names items at.0 at.1
-
--- what was gathered of some items: how many they are, the first that is refused, and the entries and inodes among them
-pub record HasGathered (names : Names) (number : ℕ) (refusal : Option (ℕ × RecFault)) (entries : List (Fact Entry)) (inodes : List (Fact Inode)) (items : List Item) : Type 0 where
-  pub counted : number ≡ given (length items)
-  pub refused : IsRefusal names items refusal
-  pub all_entries : entries ≡ entries_of names (leaf_pairs items)
-  pub all_inodes : inodes ≡ inodes_of (leaf_pairs items)
-
 -- facts by ids that don't fall
 abbrev pub Rises : {X : Type 0} → List (Fact X) → Type 0
 Rises [] = Unit {0}
@@ -220,14 +187,6 @@ IsKnown facts view shows wanted (Err (Unsupported feature block)) = ⊥
 IsKnown facts view shows wanted (Err ReadFault) = ⊥
 IsKnown facts view shows wanted (Err NoMemory) = Unit {0}
 
--- a stop of a gathering that refuses no item is that of its walk
-abbrev pub IsWalkStop : Stop GatherFault → Stop WalkFault → Type 0
-IsWalkStop (Found (gathers.Tree why)) stop = stop ≡ Found why
-IsWalkStop (Found (gathers.Refused item)) stop = ⊥
-IsWalkStop (Unsupported feature block) stop = stop ≡ Unsupported feature block
-IsWalkStop ReadFault stop = stop ≡ ReadFault
-IsWalkStop NoMemory stop = stop ≡ NoMemory
-
 -- NoInode of a view, of an entry's file
 abbrev pub lacking_entry : View → ℕ → List ℕ → TreeFault
 lacking_entry view id name = NoInode view.slot view.xid id (Some name)
@@ -249,12 +208,6 @@ IsPlaceKnown facts view e (Err NoMemory) = Unit {0}
 abbrev pub IsTargetKnown : Facts → View → Fact Entry → Result Target (Stop PathStop) → Type 0
 IsTargetKnown facts view e (Ok target) = option_map target_of (place_by facts e.what) ≡ Some target
 IsTargetKnown facts view e (Err stop) = IsPlaceKnown facts view e (Err stop)
-
--- what is gathered of a view: the first of its records that is refused, its entries and its inodes
-pub record IsSurveyed (image : List ℕ) (site : Site) (volume : Loaded) (view : View) (refusal : Option (ℕ × RecFault)) (entries : List (Fact Entry)) (inodes : List (Fact Inode)) : Type 0 where
-  pub whole : is_view_whole image site volume view ≡ true
-  pub refused : IsRefusal volume.names (view_line image site volume view) refusal
-  pub remembers : Remembers (view_facts image site volume view) entries inodes
 
 -- an entry's file as it is told
 abbrev pub target_by : Facts → Entry → Option Target

@@ -12,18 +12,19 @@ ghost use Rattle.path_walk.specs.Parts.{whats, by_part, along, rooted, lacking_e
 use crate::by_search::{ROOT, place_of, root_of_inode};
 use crate::choice::{choose, parts};
 use crate::files::Files;
-use crate::kept::{KeptEntry, KeptTarget, Place};
+use crate::kept::{KeptInode, KeptTarget, Place};
 use crate::order::{alone, by_name};
 use crate::{Answer, PathStop, Target};
 use apfs_model::{Bytes, NoMemory};
 use fs_name::Names;
 use obj_base::Stop;
 use std::alloc::Global;
+use view_facts::EntryFact;
 use view_rules::TreeFault;
 use vol_view::View;
 
 /// The fault of an entry whose file has no inode.
-pub(crate) fn lacking(alloc: Global, view: &View, entry: &KeptEntry) -> Result<TreeFault, NoMemory>
+pub(crate) fn lacking(alloc: Global, view: &View, entry: &EntryFact) -> Result<TreeFault, NoMemory>
     ensures { IfOk result (λ fault. fault ≡ lacking_entry view.now entry.now.id entry.now.what.name) }
 {
     let name = Bytes::from_slice(alloc, entry.name().as_bytes())?;
@@ -40,14 +41,14 @@ pub fn place_in(
     alloc: Global,
     files: &Files,
     view: &View,
-    entry: &KeptEntry,
+    entry: &EntryFact,
 ) -> Result<Place, Stop<PathStop>>
     ensures no_read { IsErrOf result ReadFault → ⊥ }
     ensures known { (facts : Facts) → Remembers facts files.now.entries.items files.now.inodes.items → IsPlaceKnown facts view.now entry.now result }
 {
     match files.inode(entry.file_id()) {
         Some(inode) => {
-            let place = place_of(alloc, entry, inode.copied())?;
+            let place = place_of(alloc, entry, KeptInode::of_fact(inode))?;
             Ok(place)
         }
         None => {
@@ -62,7 +63,7 @@ pub fn target_in(
     alloc: Global,
     files: &Files,
     view: &View,
-    entry: &KeptEntry,
+    entry: &EntryFact,
 ) -> Result<KeptTarget, Stop<PathStop>>
     ensures no_read { IsErrOf result ReadFault → ⊥ }
     ensures known { (facts : Facts) → Remembers facts files.now.entries.items files.now.inodes.items → IsTargetKnown facts view.now entry.now result }
@@ -158,7 +159,7 @@ pub fn root(alloc: Global, files: &Files, view: &View) -> Result<Place, Stop<Pat
 {
     match files.inode(ROOT) {
         Some(inode) => {
-            let place = root_of_inode(alloc, inode.copied())?;
+            let place = root_of_inode(alloc, KeptInode::of_fact(inode))?;
             Ok(place)
         }
         None => Err(Stop::Found(PathStop::Fault(TreeFault::NoInode {
@@ -198,7 +199,7 @@ fn targets_in(
     alloc: Global,
     files: &Files,
     view: &View,
-    entries: &[KeptEntry],
+    entries: &[EntryFact],
 ) -> Result<Vec<Target>, Stop<PathStop>>
     ensures no_read { IsErrOf result ReadFault → ⊥ }
     ensures known { (facts : Facts) → Remembers facts files.now.entries.items files.now.inodes.items → HasEntries facts entries.now → IsKnown facts view.now (λ targets. targets.items) (Ok (targets_by facts (whats entries.now))) result }

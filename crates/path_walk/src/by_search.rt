@@ -18,11 +18,10 @@ ghost use Rattle.path_walk.specs.Places.{placed, target_of};
 ghost use Rattle.path_walk.specs.Listing.{children, listed, listing};
 ghost use Rattle.path_walk.specs.Found.{entries_in, entry_named, step, walk, found};
 ghost use Rattle.path_walk.specs.Needs.{StepNeeds, PathNeeds, ChildrenNeed, ListingNeeds, HaveFiles};
-ghost use Rattle.path_walk.specs.Paths.{is_component, components};
 ghost use Rattle.path_walk.specs.Parts.{whats, by_part, along, target_by, targets_by, Leads, HasEntriesIn, NeedsIn, PartNeeds, AlongNeeds, WhereLed};
 
 use crate::choice::{choose, parts};
-use crate::kept::{KeptEntry, KeptInode, Place};
+use crate::kept::{KeptInode, Place};
 use crate::onward::Onward;
 use crate::order::{alone, by_name};
 use crate::search::{Wanted, find_entries, find_inode};
@@ -35,14 +34,11 @@ use fs_name::Names;
 use obj_base::{Site, Stop};
 use omap_map::At;
 use std::alloc::Global;
+use view_facts::EntryFact;
 use vol_view::{View, Volume};
 
 /// The id of the root (File-System Objects, `ROOT_DIR_INO_NUM`).
 pub const ROOT: u64 = 2;
-
-// The most entries of a directory whose inodes are searched for one by one; where there are more, one walk over the whole
-// tree finds all of them.
-const FEW: usize = 1000;
 
 /// Whether an id is reserved: a directory of such an id has no entries that are followed or listed.
 pub(crate) fn is_reserved(id: u64) -> bool
@@ -54,7 +50,7 @@ pub(crate) fn is_reserved(id: u64) -> bool
 /// The place of an entry's file, which has this inode.
 pub(crate) fn place_of(
     alloc: Global,
-    entry: &KeptEntry,
+    entry: &EntryFact,
     inode: KeptInode,
 ) -> Result<Place, NoMemory>
     ensures { IfOk result (λ place. place ≡ placed entry.now.what.file_id entry.now.what.name inode) }
@@ -79,7 +75,7 @@ pub(crate) fn root_of_inode(alloc: Global, inode: KeptInode) -> Result<Place, No
     })
 }
 
-/// The entries of a directory that are followed and listed; None where one of them can't be read.
+/// The entries of a directory that are followed and listed; None where one of them can't be read, or there are many.
 #[tactic(auto, unfolding(crate::specs::Found::entries_in))]
 pub(crate) fn directory<K: FsTreeKey, S: BlockSource, N: Namer>(
     alloc: Global,
@@ -87,7 +83,7 @@ pub(crate) fn directory<K: FsTreeKey, S: BlockSource, N: Namer>(
     cursor: &mut Cursor<K, N>,
     names: Names,
     id: u64,
-) -> Result<Option<Vec<KeptEntry>>, Stop<WalkFault>>
+) -> Result<Option<Vec<EntryFact>>, Stop<WalkFault>>
     requires site { IsSiteFor (site_of cursor.old) (S.bytes_len src.old) }
     requires hashed { are_hashed names ≡ K.HASHED }
     ensures site { site_of cursor.new ≡ site_of cursor.old }
@@ -110,7 +106,7 @@ pub(crate) fn directory<K: FsTreeKey, S: BlockSource, N: Namer>(
 }
 
 // Entries of a directory among which a name takes the one that it takes among all that are followed: those of its bytes, and
-// where there are none those of its normal form. None where one of the directory's can't be read.
+// where there are none those of its normal form. None where one of the directory's can't be read, or there are many of them.
 #[tactic(auto, unfolding(crate::specs::Found::entries_in))]
 fn candidates<K: FsTreeKey, S: BlockSource, N: Namer>(
     alloc: Global,
@@ -119,7 +115,7 @@ fn candidates<K: FsTreeKey, S: BlockSource, N: Namer>(
     names: Names,
     id: u64,
     name: &str,
-) -> Result<Option<Vec<KeptEntry>>, Stop<WalkFault>>
+) -> Result<Option<Vec<EntryFact>>, Stop<WalkFault>>
     requires site { IsSiteFor (site_of cursor.old) (S.bytes_len src.old) }
     requires hashed { are_hashed names ≡ K.HASHED }
     ensures site { site_of cursor.new ≡ site_of cursor.old }
@@ -300,7 +296,7 @@ fn target_at<K: FsTreeKey, S: BlockSource, N: Namer>(
     src: &mut S,
     cursor: &mut Cursor<K, N>,
     names: Names,
-    entry: &KeptEntry,
+    entry: &EntryFact,
 ) -> Result<Option<Target>, Stop<WalkFault>>
     requires site { IsSiteFor (site_of cursor.old) (S.bytes_len src.old) }
     requires hashed { are_hashed names ≡ K.HASHED }
@@ -326,7 +322,7 @@ fn targets_at<K: FsTreeKey, S: BlockSource, N: Namer>(
     src: &mut S,
     cursor: &mut Cursor<K, N>,
     names: Names,
-    entries: &[KeptEntry],
+    entries: &[EntryFact],
 ) -> Result<Option<Vec<Target>>, Stop<WalkFault>>
     requires site { IsSiteFor (site_of cursor.old) (S.bytes_len src.old) }
     requires hashed { are_hashed names ≡ K.HASHED }
@@ -381,9 +377,6 @@ fn children<K: FsTreeKey, S: BlockSource, N: Namer>(
     let Some(entries) = run else {
         return Ok(None);
     };
-    if entries.len() > FEW {
-        return Ok(None);
-    }
     let found = match targets_at(alloc, src, cursor, names, &entries) {
         Ok(found) => found,
         Err(stop) => return Err(stop),

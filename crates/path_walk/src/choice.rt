@@ -5,10 +5,10 @@ ghost use Rattle.path_walk.specs.Paths as paths;
 ghost use Rattle.path_walk.specs.Found.{entry_named, has_name, has_form, number_named};
 ghost use Rattle.path_walk.specs.Parts.{whats};
 
-use crate::kept::KeptEntry;
 use apfs_model::NoMemory;
 use fs_name::{Names, same_name};
 use std::alloc::{AllocError, Global};
+use view_facts::EntryFact;
 
 /// The parts of a path between its slashes, the empty ones too.
 pub fn parts(alloc: Global, path: &str) -> Result<Vec<&str>, AllocError>
@@ -23,8 +23,8 @@ pub(crate) fn choose<'a>(
     alloc: Global,
     names: Names,
     name: &str,
-    entries: &'a [KeptEntry],
-) -> Result<Option<&'a KeptEntry>, NoMemory>
+    entries: &'a [EntryFact],
+) -> Result<Option<&'a EntryFact>, NoMemory>
     ensures chosen { IfOk result (λ chosen. option_map (λ entry. entry.now.what) chosen ≡ entry_named names name.now (whats entries.now)) }
     ensures one { IfOk result (λ chosen. IfSome chosen (λ entry. In entry.now entries.now)) }
 {
@@ -41,7 +41,7 @@ pub fn choose_number(
     alloc: Global,
     names: Names,
     name: &str,
-    entries: &[KeptEntry],
+    entries: &[EntryFact],
 ) -> Result<Option<usize>, NoMemory>
     ensures named { IfOk result (λ number. number ≡ number_named names name.now (whats entries.now)) }
     ensures numbered { IfOk result (λ number. IfSome number (λ n. n < length entries.now)) }
@@ -53,7 +53,7 @@ pub fn choose_number(
 }
 
 // The number of the first entry of the same bytes.
-fn first_same(name: &str, entries: &[KeptEntry]) -> Option<usize>
+fn first_same(name: &str, entries: &[EntryFact]) -> Option<usize>
     ensures first { result ≡ position (has_name name.now) (whats entries.now) }
     ensures inside { IfSome result (λ n. n < length entries.now) }
 {
@@ -70,7 +70,7 @@ fn first_alike(
     alloc: Global,
     names: Names,
     name: &str,
-    entries: &[KeptEntry],
+    entries: &[EntryFact],
 ) -> Result<Option<usize>, NoMemory>
     ensures first { IfOk result (λ number. number ≡ position (has_form names name.now) (whats entries.now)) }
     ensures inside { IfOk result (λ number. IfSome number (λ n. n < length entries.now)) }

@@ -1,47 +1,46 @@
 // The entries and the inodes of a view in memory.
-ghost use Rattle.std.specs.Prelude.{◌≡◌, ◌==◌, ◌≤◌, nat_lt, ℕ, true, false, length, List, Some, None, option_map, filter, slice_get};
+ghost use Rattle.std.specs.Prelude.{◌≡◌, ◌==◌, ◌≤◌, nat_lt, true, false, length, Some, None, option_map, filter};
 ghost use Rattle.std.specs.List.Sorted.{IsPartitionPoint};
-ghost use Rattle.fs_record.specs.Facts.{Fact};
 ghost use Rattle.view_rules.specs.Facts.{Facts, inode_at};
 ghost use Rattle.path_walk.specs.Found.{entries_in};
 ghost use Rattle.path_walk.specs.Parts.{whats, Rises, IsFirst, Remembers, HasEntries};
 
 use crate::by_search::is_reserved;
-use crate::kept::{InodeAt, KeptEntry, KeptInode};
+use view_facts::{EntryFact, InodeFact};
 
 /// The entries of a view, by the ids of their directories, and its inodes by their ids, each in record order.
 #[derive(Drop)]
 pub struct Files {
-    pub entries: Vec<KeptEntry>,
-    pub inodes: Vec<InodeAt>,
+    pub entries: Vec<EntryFact>,
+    pub inodes: Vec<InodeFact>,
 }
 
 // How many entries are of directories below an id.
-fn entries_below(entries: &[KeptEntry], id: u64) -> usize
+fn entries_below(entries: &[EntryFact], id: u64) -> usize
     ensures bound { result ≤ length entries.now }
     ensures split { Rises entries.now → IsPartitionPoint (λ f. nat_lt f.id id ≡ true) (λ f. nat_lt f.id id ≡ false) entries.now result }
 {
     entries.partition_point(
-        |entry: &KeptEntry| -> bool
+        |entry: &EntryFact| -> bool
             ensures { result ≡ nat_lt entry.now.id id }
         { entry.id() < id },
     )
 }
 
 // How many of some entries are of the directory of an id, where they stand first.
-fn entries_of(entries: &[KeptEntry], id: u64) -> usize
+fn entries_of(entries: &[EntryFact], id: u64) -> usize
     ensures bound { result ≤ length entries.now }
     ensures split { IsFirst id entries.now → IsPartitionPoint (λ f. (f.id == id) ≡ true) (λ f. (f.id == id) ≡ false) entries.now result }
 {
     entries.partition_point(
-        |entry: &KeptEntry| -> bool
+        |entry: &EntryFact| -> bool
             ensures { result ≡ (entry.now.id == id) }
         { entry.id() == id },
     )
 }
 
 // Where an inode of an id would stand, if ids lay as far apart everywhere.
-fn between(inodes: &[InodeAt], id: u64) -> usize {
+fn between(inodes: &[InodeFact], id: u64) -> usize {
     let (Some(first), Some(last)) = (inodes.first(), inodes.last()) else {
         return 0;
     };
@@ -57,7 +56,7 @@ fn between(inodes: &[InodeAt], id: u64) -> usize {
 }
 
 // How many inodes are of ids below an id, as far as those between a place and the id's are looked at: ids that rise are as far apart as their places, or further.
-fn near(inodes: &[InodeAt], id: u64, at: usize) -> usize {
+fn near(inodes: &[InodeFact], id: u64, at: usize) -> usize {
     let Some(item) = inodes.get(at) else {
         return at;
     };
@@ -66,7 +65,7 @@ fn near(inodes: &[InodeAt], id: u64, at: usize) -> usize {
     let from = at.saturating_sub(before);
     let to = at.saturating_add(after).min(inodes.len());
     match inodes.get(from..to) {
-        Some(few) => from.saturating_add(few.partition_point(|at: &InodeAt| -> bool {
+        Some(few) => from.saturating_add(few.partition_point(|at: &InodeFact| -> bool {
             at.id() < id
         })),
         None => at,
@@ -74,7 +73,7 @@ fn near(inodes: &[InodeAt], id: u64, at: usize) -> usize {
 }
 
 // Whether as many inodes are of ids below one as stand before a place.
-fn is_point(inodes: &[InodeAt], id: u64, at: usize) -> bool
+fn is_point(inodes: &[InodeFact], id: u64, at: usize) -> bool
     ensures bound { result ≡ true → at ≤ length inodes.now }
     ensures split { Rises inodes.now → result ≡ true → IsPartitionPoint (λ f. nat_lt f.id id ≡ true) (λ f. nat_lt f.id id ≡ false) inodes.now at }
 {
@@ -95,19 +94,19 @@ fn is_point(inodes: &[InodeAt], id: u64, at: usize) -> bool
 }
 
 // How many inodes are of ids below an id, by a search among all.
-fn searched(inodes: &[InodeAt], id: u64) -> usize
+fn searched(inodes: &[InodeFact], id: u64) -> usize
     ensures bound { result ≤ length inodes.now }
     ensures split { Rises inodes.now → IsPartitionPoint (λ f. nat_lt f.id id ≡ true) (λ f. nat_lt f.id id ≡ false) inodes.now result }
 {
     inodes.partition_point(
-        |at: &InodeAt| -> bool
+        |at: &InodeFact| -> bool
             ensures { result ≡ nat_lt at.now.id id }
         { at.id() < id },
     )
 }
 
 // How many inodes are of ids below an id. A guess is tested, and never believed.
-fn inodes_below(inodes: &[InodeAt], id: u64) -> usize
+fn inodes_below(inodes: &[InodeFact], id: u64) -> usize
     ensures bound { result ≤ length inodes.now }
     ensures split { Rises inodes.now → IsPartitionPoint (λ f. nat_lt f.id id ≡ true) (λ f. nat_lt f.id id ≡ false) inodes.now result }
 {
@@ -119,7 +118,7 @@ fn inodes_below(inodes: &[InodeAt], id: u64) -> usize
 }
 
 // The entries of the directory of an id.
-fn run_of(entries: &[KeptEntry], id: u64) -> &[KeptEntry]
+fn run_of(entries: &[EntryFact], id: u64) -> &[EntryFact]
     ensures { Rises entries.now → result.now ≡ filter (λ f. f.id == id) entries.now }
 {
     let from = entries_below(entries, id);
@@ -131,7 +130,7 @@ fn run_of(entries: &[KeptEntry], id: u64) -> &[KeptEntry]
 impl Files {
     /// The entries of a directory that are followed and listed.
     #[tactic(auto, unfolding(crate::specs::Found::entries_in))]
-    pub fn directory(&self, id: u64) -> &[KeptEntry]
+    pub fn directory(&self, id: u64) -> &[EntryFact]
         ensures counted { (facts : Facts) → Remembers facts self.now.entries.items self.now.inodes.items → HasEntries facts result.now }
         ensures all { (facts : Facts) → Remembers facts self.now.entries.items self.now.inodes.items → whats result.now ≡ entries_in facts id }
     {
@@ -142,18 +141,14 @@ impl Files {
     }
 
     /// The inode of an id, the first where there are more.
-    pub(crate) fn inode(&self, id: u64) -> Option<&KeptInode>
-        ensures { (facts : Facts) → Remembers facts self.now.entries.items self.now.inodes.items → option_map (λ inode. inode.now) result ≡ inode_at facts id }
+    pub(crate) fn inode(&self, id: u64) -> Option<&InodeFact>
+        ensures { (facts : Facts) → Remembers facts self.now.entries.items self.now.inodes.items → option_map (λ inode. inode.now.what) result ≡ inode_at facts id }
     {
         let from = inodes_below(&self.inodes, id);
         if from == self.inodes.len() {
             return None;
         }
         let at = &self.inodes[from];
-        if at.id() == id {
-            Some(at.inode())
-        } else {
-            None
-        }
+        if at.id() == id { Some(at) } else { None }
     }
 }

@@ -1,4 +1,4 @@
-// What is kept of a view's records: entries, inodes, and places.
+// What is kept of what names lead to: inodes, places and targets.
 ghost use Rattle.std.specs.Prelude.{◌≡◌, IfOk};
 ghost use Rattle.path_walk.specs.Places as spec;
 ghost use Rattle.view_rules.specs.Facts.{is_directory};
@@ -6,71 +6,14 @@ ghost use Rattle.view_rules.specs.Facts.{is_directory};
 use crate::Target;
 use apfs_layout::record as layout;
 use apfs_model::{Bytes, NoMemory};
-use fs_record::{DirEntry, Inode, StreamSize};
+use fs_record::{Inode, StreamSize};
 use kept_name::KeptName;
 use std::alloc::Global;
 use std::marker::Model;
+use view_facts::{EntryFact, InodeFact};
 
 // The kind of a directory (File System Constants, File Modes).
 const DIRECTORY: u16 = 4;
-
-/// An entry of a directory, by the directory's id.
-#[derive(Debug, Drop)]
-pub struct KeptEntry {
-    id: u64,
-    name: KeptName,
-    hash: u32,
-    file_id: u64,
-    kind: u16,
-    sibling: Option<u64>,
-}
-
-impl Model for KeptEntry {
-    ghost use Rattle.fs_record.specs.Entries.{Entry};
-    ghost use Rattle.fs_record.specs.Facts.{Fact};
-
-    ghost Value = { Fact Entry };
-
-    ghost view = { λ a. record { id = a.id; what = record { name = a.name; hash = a.hash; file_id = a.file_id; kind = a.kind; sibling = a.sibling } } };
-}
-
-impl KeptEntry {
-    /// A copy of an entry of a directory.
-    pub(crate) fn of(alloc: Global, id: u64, entry: &DirEntry<'_>) -> Result<KeptEntry, NoMemory>
-        ensures { IfOk result (λ kept. kept ≡ record { id = id; what = entry.now }) }
-    {
-        let name = KeptName::of(alloc, entry.name())?;
-        Ok(KeptEntry {
-            id,
-            name,
-            hash: entry.hash(),
-            file_id: entry.file_id(),
-            kind: entry.kind(),
-            sibling: entry.sibling(),
-        })
-    }
-
-    /// The id of its directory.
-    pub(crate) fn id(&self) -> u64
-        ensures { result ≡ self.now.id }
-    {
-        self.id
-    }
-
-    /// The name, without its final zero.
-    pub(crate) fn name(&self) -> &str
-        ensures { result.now ≡ self.now.what.name }
-    {
-        self.name.as_str()
-    }
-
-    /// The id of the file.
-    pub(crate) fn file_id(&self) -> u64
-        ensures { result ≡ self.now.what.file_id }
-    {
-        self.file_id
-    }
-}
 
 /// An inode.
 #[derive(Debug, Drop)]
@@ -108,17 +51,17 @@ impl KeptInode {
         }
     }
 
-    /// Another copy.
-    pub(crate) fn copied(&self) -> KeptInode
-        ensures { result ≡ self.now }
+    /// A copy of an inode's fact.
+    pub(crate) fn of_fact(fact: &InodeFact) -> KeptInode
+        ensures { result ≡ fact.now.what }
     {
         KeptInode {
-            parent: self.parent,
-            private_id: self.private_id,
-            links: self.links,
-            bsd_flags: self.bsd_flags,
-            mode: self.mode,
-            stream: self.stream,
+            parent: fact.parent(),
+            private_id: fact.private_id(),
+            links: fact.links(),
+            bsd_flags: fact.bsd_flags(),
+            mode: fact.mode(),
+            stream: fact.stream(),
         }
     }
 
@@ -155,45 +98,6 @@ impl KeptInode {
         ensures { result ≡ is_directory self.now }
     {
         self.kind() == DIRECTORY
-    }
-}
-
-/// An inode, by its id.
-#[derive(Debug, Drop)]
-pub struct InodeAt {
-    id: u64,
-    inode: KeptInode,
-}
-
-impl Model for InodeAt {
-    ghost use Rattle.fs_record.specs.Inodes as inodes;
-    ghost use Rattle.fs_record.specs.Facts.{Fact};
-
-    ghost Value = { Fact inodes.Inode };
-
-    ghost view = { λ a. record { id = a.id; what = a.inode } };
-}
-
-impl InodeAt {
-    /// The inode of an id.
-    pub(crate) fn of(id: u64, inode: KeptInode) -> InodeAt
-        ensures { result ≡ record { id = id; what = inode } }
-    {
-        InodeAt { id, inode }
-    }
-
-    /// The id.
-    pub(crate) fn id(&self) -> u64
-        ensures { result ≡ self.now.id }
-    {
-        self.id
-    }
-
-    /// The inode.
-    pub(crate) fn inode(&self) -> &KeptInode
-        ensures { result.now ≡ self.now.what }
-    {
-        &self.inode
     }
 }
 
@@ -281,10 +185,10 @@ impl KeptTarget {
     /// What an entry's file is, which has this inode.
     pub(crate) fn of(
         alloc: Global,
-        entry: &KeptEntry,
-        inode: &KeptInode,
+        entry: &EntryFact,
+        inode: &InodeFact,
     ) -> Result<KeptTarget, NoMemory>
-        ensures { IfOk result (λ target. target ≡ spec.target_of (spec.placed entry.now.what.file_id entry.now.what.name inode.now)) }
+        ensures { IfOk result (λ target. target ≡ spec.target_of (spec.placed entry.now.what.file_id entry.now.what.name inode.now.what)) }
     {
         let name = KeptName::of(alloc, entry.name())?;
         Ok(KeptTarget {

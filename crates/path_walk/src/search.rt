@@ -7,7 +7,7 @@ ghost use Rattle.obj_base.specs.declared.stop.Stop.TheVariants.{ReadFault};
 ghost use Rattle.obj_base.specs.Stops.{Tells};
 ghost use Rattle.obj_base.specs.Site.{IsSiteFor};
 ghost use Rattle.bt_node.specs.Entries.{Pair, bytes_in};
-ghost use Rattle.bt_keys.specs.RecordKey.{is_fs_key, record_kind_of, entry_record, inode_record};
+ghost use Rattle.bt_keys.specs.RecordKey.{is_fs_key, record_kind_of, entry_record};
 ghost use Rattle.bt_cursor.specs.Flat.{flat_of};
 ghost use Rattle.bt_cursor.specs.Line.{line_of};
 ghost use Rattle.bt_cursor.specs.Order.{is_ordered};
@@ -22,7 +22,7 @@ ghost use Rattle.path_walk.specs.Parts.{whats, is_wanted, with_kept, run_entries
 ghost use Rattle.path_walk.specs.Pairs.{pair_by};
 ghost use Rattle.path_walk.specs.declared.search.Took.TheVariants.{One};
 
-use crate::kept::{KeptEntry, KeptInode};
+use crate::kept::KeptInode;
 use apfs_layout::key as kinds;
 use apfs_model::NoMemory;
 use blk_source::BlockSource;
@@ -33,11 +33,15 @@ use fs_name::{Names, same_name};
 use fs_record::{DirEntry, RecFault, entry, inode};
 use obj_base::Stop;
 use std::alloc::Global;
+use view_facts::EntryFact;
 
 // The kinds of records of entries and of inodes, as numbers of a rank.
 const ENTRY: u64 = kinds::ENTRY as u64;
 
 const INODE: u64 = kinds::INODE as u64;
+
+// The most entries that are taken by a search; where there are more, one walk over the whole tree finds all of them, and their inodes too.
+const FEW: usize = 1000;
 
 /// What is taken of one more record.
 #[derive(Clone, Copy, PartialEq, Eq, Debug)]
@@ -89,12 +93,9 @@ fn entry_by<'a>(
     entry(names, key, bytes(value))
 }
 
-/// The entry of a record whose kind is that of entries.
+// The entry of a record whose kind is that of entries.
 #[tactic(auto, using(bt_keys::proofs::FsKeys::kind_read))]
-pub(crate) fn read_entry<'a, K: FsTreeKey>(
-    names: Names,
-    pair: &Entry<'a, K>,
-) -> Result<DirEntry<'a>, RecFault>
+fn read_entry<'a, K: FsTreeKey>(names: Names, pair: &Entry<'a, K>) -> Result<DirEntry<'a>, RecFault>
     requires hashed { are_hashed names ≡ K.HASHED }
     requires read { K.shape.read pair.now.key_bytes.now ≡ Some pair.now.key }
     requires kind { (K.shape.rank pair.now.key).kind ≡ entry_record }
@@ -103,8 +104,8 @@ pub(crate) fn read_entry<'a, K: FsTreeKey>(
     entry_by(names, pair.key_bytes, pair.value)
 }
 
-/// The inode of a record's value.
-pub(crate) fn read_inode(value: Option<&[u8]>) -> Option<KeptInode>
+// The inode of a record's value.
+fn read_inode(value: Option<&[u8]>) -> Option<KeptInode>
     ensures { result ≡ value_of (inode_of (bytes_in (option_map (λ v. v.now) value.entry))) }
 {
     match inode(bytes(value)) {
@@ -136,14 +137,14 @@ fn keep(
     id: u64,
     wanted: Wanted<'_>,
     entry: &DirEntry<'_>,
-    taken: &mut Vec<KeptEntry>,
+    taken: &mut Vec<EntryFact>,
 ) -> Result<(), NoMemory>
     ensures { OnOk result (whats taken.new.items ≡ with_kept (is_wanted names wanted.entry entry.now) entry.now (whats taken.old.items)) }
 {
     if !is_kept(alloc, names, wanted, entry)? {
         return Ok(());
     }
-    let kept = KeptEntry::of(alloc, id, entry)?;
+    let kept = EntryFact::of(alloc, id, entry)?;
     match taken.push(kept) {
         Ok(()) => Ok(()),
         Err(_) => Err(NoMemory),
@@ -157,7 +158,7 @@ fn take<K: FsTreeKey>(
     id: u64,
     wanted: Wanted<'_>,
     pair: &Entry<'_, K>,
-    taken: &mut Vec<KeptEntry>,
+    taken: &mut Vec<EntryFact>,
 ) -> Result<Took, NoMemory>
     requires hashed { are_hashed names ≡ K.HASHED }
     requires read { K.shape.read pair.now.key_bytes.now ≡ Some pair.now.key }
@@ -184,7 +185,7 @@ fn take_next<K: FsTreeKey, S: BlockSource, N: Namer>(
     names: Names,
     id: u64,
     wanted: Wanted<'_>,
-    taken: &mut Vec<KeptEntry>,
+    taken: &mut Vec<EntryFact>,
 ) -> Result<Took, Stop<WalkFault>>
     requires site { IsSiteFor (site_of cursor.old) (S.bytes_len src.old) }
     requires hashed { are_hashed names ≡ K.HASHED }
@@ -210,7 +211,7 @@ fn take_next<K: FsTreeKey, S: BlockSource, N: Namer>(
     Ok(took)
 }
 
-// The entries of a directory from the cursor's place on that are wanted; None where one of the directory's can't be read.
+// The entries of a directory from the cursor's place on that are wanted; None where one of the directory's can't be read, or there are many.
 fn take_run<K: FsTreeKey, S: BlockSource, N: Namer>(
     alloc: Global,
     src: &mut S,
@@ -218,7 +219,7 @@ fn take_run<K: FsTreeKey, S: BlockSource, N: Namer>(
     names: Names,
     id: u64,
     wanted: Wanted<'_>,
-) -> Result<Option<Vec<KeptEntry>>, Stop<WalkFault>>
+) -> Result<Option<Vec<EntryFact>>, Stop<WalkFault>>
     requires site { IsSiteFor (site_of cursor.old) (S.bytes_len src.old) }
     requires hashed { are_hashed names ≡ K.HASHED }
     ensures site { site_of cursor.new ≡ site_of cursor.old }
@@ -226,7 +227,7 @@ fn take_run<K: FsTreeKey, S: BlockSource, N: Namer>(
     ensures tree { tree_of cursor.new ≡ tree_of cursor.old }
     ensures within { (image : List ℕ) → S.bytes src.old ≡ Some image → IsOn image cursor.old → IsOn image cursor.new }
     ensures whole { (image : List ℕ) → S.bytes src.old ≡ Some image → IfOk result (λ run. IfSome run (λ v. are_whole K.shape id (gapped_left_of cursor.old image) ≡ true)) }
-    ensures taken { (image : List ℕ) → S.bytes src.old ≡ Some image → IfOk result (λ run. run_entries K.shape names (is_wanted names wanted.entry) id [] (left_of cursor.old image) ≡ option_map (λ v. whats v.items) run) }
+    ensures taken { (image : List ℕ) → S.bytes src.old ≡ Some image → IfOk result (λ run. IfSome run (λ v. run_entries K.shape names (is_wanted names wanted.entry) id [] (left_of cursor.old image) ≡ Some (whats v.items))) }
     ensures present { (image : List ℕ) → S.bytes src.old ≡ Some image → IsOn image cursor.old → IfErr result (Tells (IsNodeFault (tree_of cursor.old image) (root_of cursor.old)) (HasFeature (tree_of cursor.old image) (root_of cursor.old))) }
     ensures cause { IsErrOf result ReadFault → Rose (S.faults src.old) (S.faults src.new) }
     ensures kept { IsKept S.bytes S.bytes_len S.faults src.old src.new }
@@ -242,10 +243,13 @@ fn take_run<K: FsTreeKey, S: BlockSource, N: Namer>(
             Took::End => return Ok(Some(taken)),
             Took::Refused => return Ok(None),
         }
+        if taken.len() > FEW {
+            return Ok(None);
+        }
     }
 }
 
-/// The entries of a directory that are wanted, by a search for its first; None where one of the directory's can't be read.
+/// The entries of a directory that are wanted, by a search for its first; None where one of the directory's can't be read, or there are many.
 #[tactic(auto, using(crate::proofs::Searched::entries_found))]
 pub(crate) fn find_entries<K: FsTreeKey, S: BlockSource, N: Namer>(
     alloc: Global,
@@ -254,7 +258,7 @@ pub(crate) fn find_entries<K: FsTreeKey, S: BlockSource, N: Namer>(
     names: Names,
     id: u64,
     wanted: Wanted<'_>,
-) -> Result<Option<Vec<KeptEntry>>, Stop<WalkFault>>
+) -> Result<Option<Vec<EntryFact>>, Stop<WalkFault>>
     requires site { IsSiteFor (site_of cursor.old) (S.bytes_len src.old) }
     requires hashed { are_hashed names ≡ K.HASHED }
     ensures site { site_of cursor.new ≡ site_of cursor.old }

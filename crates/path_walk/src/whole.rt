@@ -5,49 +5,24 @@ ghost use Rattle.apfs_model.specs.Kept.{IsKept};
 ghost use Rattle.obj_base.specs.declared.stop.Stop.TheVariants.{Found, ReadFault};
 ghost use Rattle.obj_base.specs.Stops.{raised};
 ghost use Rattle.obj_base.specs.Site.{IsSiteFor};
-ghost use Rattle.view_rules.specs.Listed as listed;
 ghost use Rattle.vol_view.specs.Views.{view_line};
 ghost use Rattle.view_rules.specs.Rules.{view_facts, HasRecords};
-ghost use Rattle.path_walk.specs.Calls.{IsStopThere, of_walk, IsNoAnswer, IsOfRecords};
+ghost use Rattle.view_facts.specs.Stops.{IsOfRecords};
+ghost use Rattle.path_walk.specs.Calls.{IsStopThere, of_walk, IsNoAnswer};
 ghost use Rattle.path_walk.specs.Needs.{HasAll};
-ghost use Rattle.path_walk.specs.Parts.{Remembers, IsSurveyed};
+ghost use Rattle.path_walk.specs.Parts.{Remembers};
 ghost use Rattle.path_walk.specs.declared.stop.PathStop.TheVariants as stops;
 ghost use Rattle.view_rules.specs.declared.fault.TreeFault.{TreeFault};
 
 use crate::PathStop;
 use crate::files::Files;
-use crate::survey::{Survey, gather_all};
 use blk_source::BlockSource;
 use bt_cursor::WalkFault;
-use bt_keys::{FsKey, FsPlainKey};
-use fs_record::RecFault;
 use obj_base::{Site, Stop};
 use std::alloc::Global;
+use view_facts::{Facts, fault_of, view_files};
 use view_rules::TreeFault;
 use vol_view::{View, Volume};
-
-/// What a walk names, said of the view.
-pub fn fault_of(view: &View, why: WalkFault) -> TreeFault
-    ensures { result ≡ listed.raised view.now why }
-{
-    match why {
-        WalkFault::Unsound { block, why } => TreeFault::Unsound { block, why },
-        WalkFault::Unnamed { oid } => TreeFault::Unnamed {
-            slot: view.slot,
-            oid,
-            xid: view.xid,
-        },
-        WalkFault::Order { item } => TreeFault::Order {
-            slot: view.slot,
-            xid: view.xid,
-            item,
-        },
-        WalkFault::Counts => TreeFault::Counts {
-            slot: view.slot,
-            xid: view.xid,
-        },
-    }
-}
 
 /// Why a walk stops, said of a path.
 #[tactic(auto, using(crate::proofs::Known::raised_unanswered))]
@@ -63,63 +38,26 @@ pub fn raise(view: &View, stop: Stop<WalkFault>) -> Stop<PathStop>
     }
 }
 
-/// What is gathered of a view whose tree is whole.
-#[tactic(auto, using(crate::proofs::Known::raised_records))]
-pub(crate) fn survey_view<S: BlockSource>(
-    alloc: Global,
-    src: &mut S,
-    volume: &Volume,
-    view: &View,
-    site: &Site,
-) -> Result<Survey, Stop<PathStop>>
-    requires site { IsSiteFor site.now (S.bytes_len src.old) }
-    ensures clear { (image : List ℕ) → S.bytes src.old ≡ Some image → IfOk result (λ kept. IsSurveyed image site.now volume.now view.now kept.refusal kept.entries.items kept.inodes.items) }
-    ensures present { (image : List ℕ) → S.bytes src.old ≡ Some image → IfErr result (IsStopThere image site.now volume.now view.now) }
-    ensures unanswered { IfErr result IsNoAnswer }
-    ensures walked { (fault : TreeFault) → IsErrOf result (Found (stops.Fault fault)) → IsOfRecords view.now fault }
-    ensures cause { IsErrOf result ReadFault → Rose (S.faults src.old) (S.faults src.new) }
-    ensures kept { IsKept S.bytes S.bytes_len S.faults src.old src.new }
+// Why the records of a view can't all be read, said of a path.
+fn of_path(stop: Stop<TreeFault>) -> Stop<PathStop>
+    ensures { result ≡ raised stops.Fault stop }
 {
-    if volume.names.are_hashed() {
-        match gather_all::<FsKey, S>(alloc, src, volume, view, site) {
-            Ok(kept) => Ok(kept),
-            Err(stop) => Err(raise(view, stop)),
-        }
-    } else {
-        match gather_all::<FsPlainKey, S>(alloc, src, volume, view, site) {
-            Ok(kept) => Ok(kept),
-            Err(stop) => Err(raise(view, stop)),
-        }
+    match stop {
+        Stop::Found(fault) => Stop::Found(PathStop::Fault(fault)),
+        Stop::Unsupported { feature, block } => Stop::Unsupported { feature, block },
+        Stop::ReadFault => Stop::ReadFault,
+        Stop::NoMemory => Stop::NoMemory,
     }
 }
 
-/// Why the records of a view can't all be read, by a walk over its whole tree: a fault of the tree, or `Record`; None where they can
-/// all be read.
-pub fn refusal<S: BlockSource>(
-    alloc: Global,
-    src: &mut S,
-    volume: &Volume,
-    view: &View,
-    site: &Site,
-) -> Option<Stop<PathStop>>
-    requires site { IsSiteFor site.now (S.bytes_len src.old) }
-    ensures clear { (image : List ℕ) → S.bytes src.old ≡ Some image → result ≡ None → HasRecords volume.now.names (view_line image site.now volume.now view.now) }
-    ensures present { (image : List ℕ) → S.bytes src.old ≡ Some image → IfSome result (IsStopThere image site.now volume.now view.now) }
-    ensures unanswered { IfSome result IsNoAnswer }
-    ensures cause { result ≡ Some ReadFault → Rose (S.faults src.old) (S.faults src.new) }
-    ensures kept { IsKept S.bytes S.bytes_len S.faults src.old src.new }
+// The entries and the inodes of some facts.
+fn files_of(facts: Facts) -> Files
+    ensures entries { result.entries.items ≡ facts.entries }
+    ensures inodes { result.inodes.items ≡ facts.inodes }
 {
-    match survey_view(alloc, src, volume, view, site) {
-        Ok(kept) => match kept.refusal {
-            Some((item, why)) => Some(Stop::Found(PathStop::Fault(TreeFault::Record {
-                slot: view.slot,
-                xid: view.xid,
-                item,
-                why,
-            }))),
-            None => None,
-        },
-        Err(stop) => Some(stop),
+    Files {
+        entries: facts.entries,
+        inodes: facts.inodes,
     }
 }
 
@@ -140,24 +78,30 @@ pub fn gather_view<S: BlockSource>(
     ensures cause { IsErrOf result ReadFault → Rose (S.faults src.old) (S.faults src.new) }
     ensures kept { IsKept S.bytes S.bytes_len S.faults src.old src.new }
 {
-    let kept = match survey_view(alloc, src, volume, view, site) {
-        Ok(kept) => kept,
-        Err(stop) => return Err(stop),
-    };
-    let Survey {
-        alloc: _,
-        number: _,
-        refusal,
-        entries,
-        inodes,
-    } = kept;
-    match refusal {
-        None => Ok(Files { entries, inodes }),
-        Some((item, why)) => Err(Stop::Found(PathStop::Fault(TreeFault::Record {
-            slot: view.slot,
-            xid: view.xid,
-            item,
-            why,
-        }))),
+    match view_files(alloc, src, volume, view, site) {
+        Ok(facts) => Ok(files_of(facts)),
+        Err(stop) => Err(of_path(stop)),
+    }
+}
+
+/// Why the records of a view can't all be read, by a walk over its whole tree: a fault of the tree, or `Record`; None where they can
+/// all be read.
+pub fn refusal<S: BlockSource>(
+    alloc: Global,
+    src: &mut S,
+    volume: &Volume,
+    view: &View,
+    site: &Site,
+) -> Option<Stop<PathStop>>
+    requires site { IsSiteFor site.now (S.bytes_len src.old) }
+    ensures clear { (image : List ℕ) → S.bytes src.old ≡ Some image → result ≡ None → HasRecords volume.now.names (view_line image site.now volume.now view.now) }
+    ensures present { (image : List ℕ) → S.bytes src.old ≡ Some image → IfSome result (IsStopThere image site.now volume.now view.now) }
+    ensures unanswered { IfSome result IsNoAnswer }
+    ensures cause { result ≡ Some ReadFault → Rose (S.faults src.old) (S.faults src.new) }
+    ensures kept { IsKept S.bytes S.bytes_len S.faults src.old src.new }
+{
+    match gather_view(alloc, src, volume, view, site) {
+        Ok(_) => None,
+        Err(stop) => Some(stop),
     }
 }

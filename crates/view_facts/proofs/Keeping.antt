@@ -12,7 +12,7 @@ use Rattle.fs_record.specs.Facts.{refused}
 use Rattle.fs_record.specs.declared.fault.RecFault.{RecFault}
 use Rattle.view_rules.specs.Facts.{Facts, facts_in}
 use Rattle.view_rules.specs.Rules.{refusal_of, HasRecords, IsRecord}
-use Rattle.view_facts.specs.Contents.{brief_facts}
+use Rattle.view_facts.specs.Contents.{kept_facts}
 use Rattle.view_facts.specs.Adding.{facts_with}
 use Rattle.view_facts.specs.Refusals.{or_this, IsRefusal}
 use Rattle.view_facts.specs.Kept.{IsKeptOf}
@@ -70,17 +70,17 @@ leaf-more line item leaf =
     leaf_pairs-append line (item ∷ []) ∙ ap (λ ps. leaf_pairs line ++ ps) one
 
 -- no item was passed yet
-pub kept-none : (facts : Facts) → facts ≡ brief_facts (facts_in facts.names []) → IsKeptOf facts 0 0 None []
-kept-none facts said = record { said = said; passed = refl; counted = refl; refused = λ item listed. absurd listed }
+pub kept-none : (files : Bool) (facts : Facts) → facts ≡ kept_facts files (facts_in facts.names []) → IsKeptOf files facts 0 0 None []
+kept-none files facts said = record { said = said; passed = refl; counted = refl; refused = λ item listed. absurd listed }
 
 -- one more record
-pub kept-leaf : (facts later : Facts) (items items' records records' : ℕ) (refusal : Option Refusal) (why : Option RecFault) (line : List Item) (item : Item) → item.level ≡ 0 → IsKeptOf facts items records refusal line
-    → later ≡ facts_with facts item.pair → items' ≡ min (items + 1) (2 ^ 64 - 1) → records' ≡ min (records + 1) (2 ^ 64 - 1) → why ≡ refused facts.names item.pair → IsKeptOf later items' records' (or_this refusal items why) (line ++ item ∷ [])
-kept-leaf facts later items items' records records' refusal why line item leaf had added i r w =
+pub kept-leaf : (files : Bool) (facts later : Facts) (items items' records records' : ℕ) (refusal : Option Refusal) (why : Option RecFault) (line : List Item) (item : Item) → item.level ≡ 0 → IsKeptOf files facts items records refusal line
+    → later ≡ facts_with files facts item.pair → items' ≡ min (items + 1) (2 ^ 64 - 1) → records' ≡ min (records + 1) (2 ^ 64 - 1) → why ≡ refused facts.names item.pair → IsKeptOf files later items' records' (or_this refusal items why) (line ++ item ∷ [])
+kept-leaf files facts later items items' records records' refusal why line item leaf had added i r w =
     let pairs = leaf-more line item leaf in
-    let said : facts_with facts item.pair ≡ brief_facts (facts_in facts.names (leaf_pairs (line ++ item ∷ []))) =
-    ap (λ (f : Facts). facts_with f item.pair) had.said ∙ (sym (facts-more facts.names (leaf_pairs line) item.pair) ∙ ap (λ ps. brief_facts (facts_in facts.names ps)) (sym pairs)) in
-    subst (λ (f : Facts). IsKeptOf f items' records' (or_this refusal items why) (line ++ item ∷ [])) (sym added) (record {
+    let said : facts_with files facts item.pair ≡ kept_facts files (facts_in facts.names (leaf_pairs (line ++ item ∷ []))) =
+    ap (λ (f : Facts). facts_with files f item.pair) had.said ∙ (sym (facts-more files facts.names (leaf_pairs line) item.pair) ∙ ap (λ ps. kept_facts files (facts_in facts.names ps)) (sym pairs)) in
+    subst (λ (f : Facts). IsKeptOf files f items' records' (or_this refusal items why) (line ++ item ∷ [])) (sym added) (record {
       said = said;
       passed = given-more items (length line) items' had.passed i ∙ ap given (sym (length-more line item));
       counted = given-more records (length (leaf_pairs line)) records' had.counted r ∙ ap given (sym (ap length pairs ∙ length-more (leaf_pairs line) item.pair));
@@ -88,13 +88,13 @@ kept-leaf facts later items items' records records' refusal why line item leaf h
     })
 
 -- one more item above the leaves
-pub kept-inner : (facts : Facts) (items items' records : ℕ) (refusal : Option Refusal) (line : List Item) (item : Item) → 0 < item.level → IsKeptOf facts items records refusal line → items' ≡ min (items + 1) (2 ^ 64 - 1) → IsKeptOf facts items' records refusal (line ++ item ∷ [])
-kept-inner facts items items' records refusal line item inner had i =
+pub kept-inner : (files : Bool) (facts : Facts) (items items' records : ℕ) (refusal : Option Refusal) (line : List Item) (item : Item) → 0 < item.level → IsKeptOf files facts items records refusal line → items' ≡ min (items + 1) (2 ^ 64 - 1) → IsKeptOf files facts items' records refusal (line ++ item ∷ [])
+kept-inner files facts items items' records refusal line item inner had i =
     let pairs : leaf_pairs (line ++ item ∷ []) ≡ leaf_pairs line =
     leaf_pairs-append line (item ∷ []) ∙ (ap (λ ps. leaf_pairs line ++ ps) (leaf_pairs-inner item.node item.at item.level item.pair [] inner) ∙ append-nil (leaf_pairs line)) in
     let keeps : or_this refusal items None ≡ refusal = elim refusal as (λ (o : Option Refusal). or_this o items None ≡ o) [ None ↦ refl | Some r ↦ refl ] in
     record {
-      said = had.said ∙ ap (λ ps. brief_facts (facts_in facts.names ps)) (sym pairs);
+      said = had.said ∙ ap (λ ps. kept_facts files (facts_in facts.names ps)) (sym pairs);
       passed = given-more items (length line) items' had.passed i ∙ ap given (sym (length-more line item));
       counted = had.counted ∙ ap (λ ps. given (length ps)) (sym pairs);
       refused = subst (λ (o : Option Refusal). IsRefusal facts.names (line ++ item ∷ []) o) keeps (refusal-more facts.names line item refusal items None had.passed (refusal-inner facts.names item inner) had.refused);

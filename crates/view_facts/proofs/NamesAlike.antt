@@ -1,5 +1,5 @@
 -- What records say rests on whether names are hashed, and on no more of how they are compared.
-use Rattle.std.proofs.Common.{◌≡◌, ℕ, List, refl, ap, sym, ◌∙◌}
+use Rattle.std.proofs.Common.{◌≡◌, ℕ, Bool, List, refl, ap, sym, ◌∙◌}
 use Rattle.std.proofs.lemmas.Bool.{false≢true}
 use Rattle.bt_node.specs.Entries.{Pair}
 use Rattle.bt_cursor.specs.Line.{Item}
@@ -11,7 +11,7 @@ use Rattle.fs_record.specs.declared.fault.RecFault.{RecFault}
 use Rattle.fs_record.specs.Facts.{entries_of, refused}
 use Rattle.view_rules.specs.Facts.{Facts, facts_in}
 use Rattle.view_rules.specs.Rules.{refusal_of, HasRecords, IsRecord}
-use Rattle.view_facts.specs.Contents.{brief_facts}
+use Rattle.view_facts.specs.Contents.{kept_facts}
 
 -- the entries of records
 pub entries-alike : (a b : Names) → are_hashed a ≡ are_hashed b → (ps : List Pair) → entries_of a ps ≡ entries_of b ps
@@ -46,8 +46,8 @@ pub record-alike : (a b : Names) (line : List Item) (at : ℕ) (why : RecFault) 
 record-alike a b line at why e r = record { number = r.number; item = r.item; found = r.found; part = sym (refusal-alike a b e r.item) ∙ r.part; same = r.same }
 
 -- what is kept of the facts of records, with the other names
-pub facts-alike : (facts : Facts) (names : Names) (ps : List Pair) → are_hashed facts.names ≡ are_hashed names → facts ≡ brief_facts (facts_in facts.names ps) → record facts { names = names } ≡ brief_facts (facts_in names ps)
-facts-alike facts names ps e said = λ i. record {
+pub facts-alike : (files : Bool) (facts : Facts) (names : Names) (ps : List Pair) → are_hashed facts.names ≡ are_hashed names → facts ≡ kept_facts files (facts_in facts.names ps) → record facts { names = names } ≡ kept_facts files (facts_in names ps)
+facts-alike files facts names ps e said = λ i. record {
   names = names;
   inodes = ap (λ (f : Facts). f.inodes) said i;
   entries = (ap (λ (f : Facts). f.entries) said ∙ entries-alike facts.names names e ps) i;

@@ -1,5 +1,5 @@
 -- What is kept of an attribute's contents: of those that stand in the record, the target of a symbolic link alone.
-use Rattle.std.specs.Prelude.{ℕ, List, [], map, bytes_eq, if◌then◌else◌}
+use Rattle.std.specs.Prelude.{ℕ, Bool, true, false, List, [], map, bytes_eq, if◌then◌else◌}
 use Rattle.fs_record.specs.Attributes.{Body, Embedded, Streamed, Attribute}
 use Rattle.fs_record.specs.Facts.{Fact}
 use Rattle.view_rules.specs.Facts.{Facts}
@@ -31,4 +31,21 @@ brief_facts facts = record {
   links = facts.links;
   siblings = facts.siblings;
   extents = facts.extents;
+}
+
+-- facts of a kind that says nothing of files: none are kept of files alone
+abbrev pub besides : {X : Type 0} → Bool → List X → List X
+besides true facts = []
+besides false facts = facts
+
+-- what is kept of the facts of a view, or of its files alone
+abbrev pub kept_facts : Bool → Facts → Facts
+kept_facts files facts = record {
+  names = facts.names;
+  inodes = facts.inodes;
+  entries = facts.entries;
+  attributes = besides files (map brief facts.attributes);
+  links = besides files facts.links;
+  siblings = besides files facts.siblings;
+  extents = besides files facts.extents;
 }

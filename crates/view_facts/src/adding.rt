@@ -1,5 +1,5 @@
 // What one more record adds to the facts of a view.
-ghost use Rattle.std.specs.Prelude.{◌≡◌, ◌≤◌, ◌++◌, [], ◌∷◌, ℕ, length, true, Some, option_map, IfOk, OnOk};
+ghost use Rattle.std.specs.Prelude.{◌≡◌, ◌≤◌, ◌++◌, [], ◌∷◌, length, true, false, Some, option_map, IfOk, OnOk};
 ghost use Rattle.bt_node.specs.Entries.{bytes_in};
 ghost use Rattle.bt_keys.specs.RecordKey.{is_fs_key, record_kind_of, id_of, has_plain_name};
 ghost use Rattle.fs_name.specs.Normal.{are_hashed};
@@ -12,16 +12,20 @@ ghost use Rattle.fs_record.specs.Extents.{extent_of};
 ghost use Rattle.fs_record.specs.Facts as spec;
 ghost use Rattle.view_facts.specs.Contents.{body_of, brief_body};
 ghost use Rattle.view_facts.specs.Options.{stream_of};
-ghost use Rattle.view_facts.specs.Adding.{said_by, brief_said, facts_with};
+ghost use Rattle.view_facts.specs.Adding.{said_by, brief_said, is_file_record, facts_with};
 
 use crate::contents::{Contents, TARGET_NAME};
-use crate::text::{Text, copied};
+use crate::scope::Scope;
+use crate::text::copied;
 use crate::{AttributeFact, EntryFact, ExtentFact, Facts, InodeFact, LinkFact, SiblingFact};
 use apfs_layout::key as kinds;
 use blk_source::NoMemory;
+use bt_keys::FsTreeKey;
+use bt_node::Entry;
 use fs_name::Names;
 use fs_record::{
-    AttrBody, RecFault, StreamSize, attr, entry, file_ext, inode, sibling_link, sibling_map,
+    AttrBody, RecFault, StreamSize, attr, entry, file_ext, inode, refused, sibling_link,
+    sibling_map,
 };
 use std::alloc::Global;
 
@@ -97,16 +101,7 @@ fn add_entry(
         Ok(entry) => entry,
         Err(why) => return Ok(Some(why)),
     };
-    let name = Text::with(alloc, entry.name(), entry.sibling())?;
-    let fact = EntryFact {
-        id,
-        file_id: entry.file_id(),
-        name,
-        hash: entry.hash(),
-        kind: entry.kind(),
-        ascii: entry.name().is_ascii(),
-    };
-    put(list, fact)?;
+    put(list, EntryFact::of(alloc, id, &entry)?)?;
     Ok(None)
 }
 
@@ -216,9 +211,9 @@ fn add_extent(
     Ok(None)
 }
 
-/// Adds what a record says to the facts, or tells why its reader refuses it; records of other kinds say nothing.
+// Adds what a record says to the facts, or tells why its reader refuses it; records of other kinds say nothing.
 #[tactic(auto, using(bt_keys::proofs::FsKeys::entry_named, bt_keys::proofs::FsKeys::attribute_named, bt_keys::proofs::FsKeys::link_long, bt_keys::proofs::FsKeys::extent_long), unfolding(fs_record::specs::Facts::refused))]
-pub(crate) fn add(
+fn add(
     alloc: Global,
     facts: &mut Facts,
     kind: u8,
@@ -229,7 +224,7 @@ pub(crate) fn add(
     requires whole { is_fs_key (are_hashed facts.old.names) key.now ≡ true }
     requires kind { kind ≡ record_kind_of key.now }
     requires id { id ≡ id_of key.now }
-    ensures facts { OnOk result (facts.new ≡ facts_with facts.old (record { key = key.now; value = option_map (λ v. v.now) value.entry })) }
+    ensures facts { OnOk result (facts.new ≡ facts_with false facts.old (record { key = key.now; value = option_map (λ v. v.now) value.entry })) }
     ensures names { facts.new.names ≡ facts.old.names }
     ensures refused { IfOk result (λ why. why ≡ spec.refused facts.old.names (record { key = key.now; value = option_map (λ v. v.now) value.entry })) }
 {
@@ -243,4 +238,65 @@ pub(crate) fn add(
         kinds::SIBLING_MAP => add_sibling(&mut facts.siblings, id, value),
         _ => Ok(None),
     }
+}
+
+// Whether records of a kind say something of files: those of inodes and of entries.
+fn is_of_files(kind: u8) -> bool
+    ensures { result ≡ is_file_record kind }
+{
+    kind == kinds::INODE || kind == kinds::ENTRY
+}
+
+// Adds the inode or the entry of a record, or tells why its reader refuses it; other records are only read.
+#[tactic(auto, using(bt_keys::proofs::FsKeys::kind_read, bt_keys::proofs::FsKeys::id_read))]
+fn add_file<K: FsTreeKey>(
+    alloc: Global,
+    facts: &mut Facts,
+    pair: &Entry<'_, K>,
+) -> Result<Option<RecFault>, NoMemory>
+    requires hashed { are_hashed facts.old.names ≡ K.HASHED }
+    requires read { K.shape.read pair.now.key_bytes.now ≡ Some pair.now.key }
+    ensures facts { OnOk result (facts.new ≡ facts_with true facts.old (record { key = pair.now.key_bytes.now; value = option_map (λ v. v.now) pair.now.value })) }
+    ensures names { facts.new.names ≡ facts.old.names }
+    ensures refused { IfOk result (λ why. why ≡ spec.refused facts.old.names (record { key = pair.now.key_bytes.now; value = option_map (λ v. v.now) pair.now.value })) }
+{
+    let kind = pair.key.kind();
+    if is_of_files(kind) {
+        add(
+            alloc,
+            facts,
+            kind,
+            pair.key.id(),
+            pair.key_bytes,
+            pair.value,
+        )
+    } else {
+        Ok(refused::<K>(facts.names, pair))
+    }
+}
+
+/// Adds what is kept of a record to the facts, or tells why its reader refuses it.
+#[tactic(auto, using(bt_keys::proofs::FsKeys::kind_read, bt_keys::proofs::FsKeys::id_read))]
+pub(crate) fn add_kept<K: FsTreeKey, W: Scope>(
+    alloc: Global,
+    facts: &mut Facts,
+    pair: &Entry<'_, K>,
+) -> Result<Option<RecFault>, NoMemory>
+    requires hashed { are_hashed facts.old.names ≡ K.HASHED }
+    requires read { K.shape.read pair.now.key_bytes.now ≡ Some pair.now.key }
+    ensures facts { OnOk result (facts.new ≡ facts_with W.FILES facts.old (record { key = pair.now.key_bytes.now; value = option_map (λ v. v.now) pair.now.value })) }
+    ensures names { facts.new.names ≡ facts.old.names }
+    ensures refused { IfOk result (λ why. why ≡ spec.refused facts.old.names (record { key = pair.now.key_bytes.now; value = option_map (λ v. v.now) pair.now.value })) }
+{
+    if W::FILES {
+        return add_file::<K>(alloc, facts, pair);
+    }
+    add(
+        alloc,
+        facts,
+        pair.key.kind(),
+        pair.key.id(),
+        pair.key_bytes,
+        pair.value,
+    )
 }

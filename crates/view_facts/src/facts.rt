@@ -1,5 +1,5 @@
 // What is kept of the records of a view, those of each kind in record order.
-ghost use Rattle.std.specs.Prelude.{◌≡◌, ◌&&◌, bytes_eq};
+ghost use Rattle.std.specs.Prelude.{◌≡◌, ◌&&◌, bytes_eq, IfOk};
 ghost use Rattle.std.specs.Bool.{MatchBool};
 ghost use Rattle.std.specs.Str.{IsAscii, IsNotAscii};
 ghost use Rattle.view_rules.specs.Inodes as rules;
@@ -8,8 +8,10 @@ ghost use Rattle.fs_record.specs.Inodes.{inode_kind};
 use crate::contents::{Contents, TARGET_NAME, holds_target, is_large};
 use crate::text::Text;
 use apfs_layout::record as layout;
+use blk_source::NoMemory;
 use fs_name::Names;
-use fs_record::{FileExt, StreamSize};
+use fs_record::{DirEntry, FileExt, StreamSize};
+use std::alloc::Global;
 use std::marker::Model;
 
 /// An inode, which contracts see as the fact of its record.
@@ -51,11 +53,32 @@ impl InodeFact {
         self.parent
     }
 
+    /// The id of its stream.
+    pub fn private_id(&self) -> u64
+        ensures { result ≡ self.now.what.private_id }
+    {
+        self.private_id
+    }
+
     /// The number of a directory's children, and of another inode's hard links.
     pub fn links(&self) -> i32
         ensures { result ≡ self.now.what.links }
     {
         self.links
+    }
+
+    /// The BSD flags.
+    pub fn bsd_flags(&self) -> u32
+        ensures { result ≡ self.now.what.bsd_flags }
+    {
+        self.bsd_flags
+    }
+
+    /// The mode: the kind, and who may do what.
+    pub fn mode(&self) -> u16
+        ensures { result ≡ self.now.what.mode }
+    {
+        self.mode
     }
 
     /// The kind: 4 for a directory, 8 for a regular file, 10 for a symbolic link (File Modes).
@@ -105,6 +128,21 @@ impl Model for EntryFact {
 }
 
 impl EntryFact {
+    /// The fact of an entry of a directory.
+    pub fn of(alloc: Global, id: u64, entry: &DirEntry<'_>) -> Result<EntryFact, NoMemory>
+        ensures { IfOk result (λ fact. fact ≡ record { id = id; what = entry.now }) }
+    {
+        let name = Text::with(alloc, entry.name(), entry.sibling())?;
+        Ok(EntryFact {
+            id,
+            file_id: entry.file_id(),
+            name,
+            hash: entry.hash(),
+            kind: entry.kind(),
+            ascii: entry.name().is_ascii(),
+        })
+    }
+
     /// The id of its directory.
     pub fn id(&self) -> u64
         ensures { result ≡ self.now.id }

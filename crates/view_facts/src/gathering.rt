@@ -4,7 +4,7 @@ ghost use Rattle.apfs_model.specs.Counts.{Rose};
 ghost use Rattle.apfs_model.specs.Kept.{IsKept};
 ghost use Rattle.obj_base.specs.Site.{IsSiteFor};
 ghost use Rattle.obj_base.specs.Stops.{Tells};
-ghost use Rattle.obj_base.specs.declared.stop.Stop.TheVariants.{ReadFault};
+ghost use Rattle.obj_base.specs.declared.stop.Stop.TheVariants.{Found, ReadFault};
 ghost use Rattle.bt_cursor.specs.Met.{nodes_of};
 ghost use Rattle.bt_cursor.specs.Faults.{HasFeature};
 ghost use Rattle.bt_cursor.specs.Gathered.{RefusesOne};
@@ -15,11 +15,14 @@ ghost use Rattle.view_rules.specs.declared.profile.Profile.{Profile};
 ghost use Rattle.ext_ref.specs.declared.range.NewRange.{NewRange};
 ghost use Rattle.view_rules.specs.Rules as spec;
 ghost use Rattle.view_rules.specs.Listed as listed;
-ghost use Rattle.view_facts.specs.Kept.{IsWalked, IsWalkedView, IsGatheredView};
-ghost use Rattle.view_facts.specs.Stops.{SaysOfView, IsRaised};
+ghost use Rattle.view_rules.specs.declared.fault.TreeFault.{TreeFault};
+ghost use Rattle.view_rules.specs.declared.fault.TreeFault.TheVariants.{Record};
+ghost use Rattle.view_facts.specs.Kept.{IsWalked, IsWalkedView, IsGatheredView, AreFiles};
+ghost use Rattle.view_facts.specs.Stops.{SaysOfView, IsRaised, IsOfWalk, IsOfRecords};
 
 use crate::Facts;
 use crate::keep::{Keep, Refusal};
+use crate::scope::{OfFiles, Scope, Whole};
 use blk_source::BlockSource;
 use bt_cursor::{GatherFault, WalkFault, gather};
 use bt_keys::{FsKey, FsPlainKey, FsTreeKey};
@@ -46,8 +49,8 @@ struct Walked {
     refusal: Option<Refusal>,
 }
 
-// What a walk names, said of the view.
-fn raised(view: &View, why: WalkFault) -> TreeFault
+/// What a walk names, said of the view.
+pub fn fault_of(view: &View, why: WalkFault) -> TreeFault
     ensures { result ≡ listed.raised view.now why }
 {
     match why {
@@ -75,7 +78,7 @@ fn raise(view: &View, stop: Stop<GatherFault>) -> Stop<TreeFault>
     ensures { SaysOfView view.now stop result }
 {
     match stop {
-        Stop::Found(GatherFault::Tree(why)) => Stop::Found(raised(view, why)),
+        Stop::Found(GatherFault::Tree(why)) => Stop::Found(fault_of(view, why)),
         Stop::Found(GatherFault::Refused { item: _ }) => unreachable!(),
         Stop::Unsupported { feature, block } => Stop::Unsupported { feature, block },
         Stop::ReadFault => Stop::ReadFault,
@@ -93,7 +96,7 @@ fn renamed(facts: Facts, names: Names) -> Facts
 }
 
 // A walk over a view's tree under keys of a kind.
-fn walk<K: FsTreeKey, S: BlockSource>(
+fn walk<K: FsTreeKey, W: Scope, S: BlockSource>(
     alloc: Global,
     src: &mut S,
     volume: &Volume,
@@ -102,19 +105,27 @@ fn walk<K: FsTreeKey, S: BlockSource>(
 ) -> Result<Walked, Stop<TreeFault>>
     requires site { IsSiteFor site.now (S.bytes_len src.old) }
     requires hashed { are_hashed volume.now.names ≡ K.HASHED }
-    ensures clear { (image : List ℕ) → S.bytes src.old ≡ Some image → IfOk result (IsWalked (view_tree K.shape image site.now volume.now view.now) view.now.root_oid volume.now.names) }
+    ensures clear { (image : List ℕ) → S.bytes src.old ≡ Some image → IfOk result (IsWalked W.FILES (view_tree K.shape image site.now volume.now view.now) view.now.root_oid volume.now.names) }
     ensures present { (image : List ℕ) → S.bytes src.old ≡ Some image → IfErr result (Tells (IsRaised view.now (view_tree K.shape image site.now volume.now view.now) view.now.root_oid) (HasFeature (view_tree K.shape image site.now volume.now view.now) view.now.root_oid)) }
+    ensures walked { (fault : TreeFault) → IsErrOf result (Found fault) → IsOfWalk view.now fault }
     ensures reads { (image : List ℕ) → S.bytes src.old ≡ Some image → OnOk result (S.reads src.new ≤ S.reads src.old + length (nodes_of (view_tree K.shape image site.now volume.now view.now) view.now.root_oid)) }
     ensures cause { IsErrOf result ReadFault → Rose (S.faults src.old) (S.faults src.new) }
     ensures kept { IsKept S.bytes S.bytes_len S.faults src.old src.new }
 {
-    let none = Keep::<K>::new(alloc, volume.names);
+    let none = Keep::<K, W>::new(alloc, volume.names);
     let namer = At {
         omap: &volume.omap,
         xid: view.xid,
         blocks: site.blocks,
     };
-    let keep = match gather::<K, S, At<'_>, Keep<K>>(alloc, src, namer, view.root_oid, site, none) {
+    let keep = match gather::<K, S, At<'_>, Keep<K, W>>(
+        alloc,
+        src,
+        namer,
+        view.root_oid,
+        site,
+        none,
+    ) {
         Ok(keep) => keep,
         Err(stop) => return Err(raise(view, stop)),
     };
@@ -125,6 +136,7 @@ fn walk<K: FsTreeKey, S: BlockSource>(
         records,
         refusal,
         kind: _,
+        scope: _,
     } = keep;
     Ok(Walked {
         facts: renamed(facts, volume.names),
@@ -134,7 +146,7 @@ fn walk<K: FsTreeKey, S: BlockSource>(
 }
 
 // A walk over the tree of a view.
-fn walk_view<S: BlockSource>(
+fn walk_view<W: Scope, S: BlockSource>(
     alloc: Global,
     src: &mut S,
     volume: &Volume,
@@ -142,22 +154,35 @@ fn walk_view<S: BlockSource>(
     site: &Site,
 ) -> Result<Walked, Stop<TreeFault>>
     requires site { IsSiteFor site.now (S.bytes_len src.old) }
-    ensures clear { (image : List ℕ) → S.bytes src.old ≡ Some image → IfOk result (IsWalkedView image site.now volume.now view.now) }
+    ensures clear { (image : List ℕ) → S.bytes src.old ≡ Some image → IfOk result (IsWalkedView W.FILES image site.now volume.now view.now) }
     ensures present { (profile : Profile) (ranges : List NewRange) (image : List ℕ) → S.bytes src.old ≡ Some image → IfErr result (Tells (spec.IsTreeFault profile image site.now volume.now view.now ranges) (IsViewFeature image site.now volume.now view.now)) }
+    ensures walked { (fault : TreeFault) → IsErrOf result (Found fault) → IsOfWalk view.now fault }
     ensures reads { (image : List ℕ) → S.bytes src.old ≡ Some image → OnOk result (S.reads src.new ≤ S.reads src.old + length (view_nodes image site.now volume.now view.now)) }
     ensures cause { IsErrOf result ReadFault → Rose (S.faults src.old) (S.faults src.new) }
     ensures kept { IsKept S.bytes S.bytes_len S.faults src.old src.new }
 {
     if volume.names.are_hashed() {
-        match walk::<FsKey, S>(alloc, src, volume, view, site) {
+        match walk::<FsKey, W, S>(alloc, src, volume, view, site) {
             Ok(walked) => Ok(walked),
             Err(stop) => Err(stop),
         }
     } else {
-        match walk::<FsPlainKey, S>(alloc, src, volume, view, site) {
+        match walk::<FsPlainKey, W, S>(alloc, src, volume, view, site) {
             Ok(walked) => Ok(walked),
             Err(stop) => Err(stop),
         }
+    }
+}
+
+// A record that its reader refuses, said of the view.
+fn refused(view: &View, refusal: Refusal) -> TreeFault
+    ensures { result ≡ Record view.now.slot view.now.xid refusal.item refusal.why }
+{
+    TreeFault::Record {
+        slot: view.slot,
+        xid: view.xid,
+        item: refusal.item,
+        why: refusal.why,
     }
 }
 
@@ -177,20 +202,42 @@ pub fn view_facts<S: BlockSource>(
     ensures cause { IsErrOf result ReadFault → Rose (S.faults src.old) (S.faults src.new) }
     ensures kept { IsKept S.bytes S.bytes_len S.faults src.old src.new }
 {
-    let walked = match walk_view(alloc, src, volume, view, site) {
+    let walked = match walk_view::<Whole, S>(alloc, src, volume, view, site) {
         Ok(walked) => walked,
         Err(stop) => return Err(stop),
     };
     match walked.refusal {
-        Some(refusal) => Err(Stop::Found(TreeFault::Record {
-            slot: view.slot,
-            xid: view.xid,
-            item: refusal.item,
-            why: refusal.why,
-        })),
+        Some(refusal) => Err(Stop::Found(refused(view, refusal))),
         None => Ok(ViewFacts {
             facts: walked.facts,
             records: walked.records,
         }),
+    }
+}
+
+/// The inodes and the entries of a view, in one walk over its tree, where that is whole and each record can be read. What is
+/// wrong is told as by `view_facts`.
+pub fn view_files<S: BlockSource>(
+    alloc: Global,
+    src: &mut S,
+    volume: &Volume,
+    view: &View,
+    site: &Site,
+) -> Result<Facts, Stop<TreeFault>>
+    requires site { IsSiteFor site.now (S.bytes_len src.old) }
+    ensures clear { (image : List ℕ) → S.bytes src.old ≡ Some image → IfOk result (AreFiles image site.now volume.now view.now) }
+    ensures present { (profile : Profile) (ranges : List NewRange) (image : List ℕ) → S.bytes src.old ≡ Some image → IfErr result (Tells (spec.IsTreeFault profile image site.now volume.now view.now ranges) (IsViewFeature image site.now volume.now view.now)) }
+    ensures walked { (fault : TreeFault) → IsErrOf result (Found fault) → IsOfRecords view.now fault }
+    ensures reads { (image : List ℕ) → S.bytes src.old ≡ Some image → OnOk result (S.reads src.new ≤ S.reads src.old + length (view_nodes image site.now volume.now view.now)) }
+    ensures cause { IsErrOf result ReadFault → Rose (S.faults src.old) (S.faults src.new) }
+    ensures kept { IsKept S.bytes S.bytes_len S.faults src.old src.new }
+{
+    let walked = match walk_view::<OfFiles, S>(alloc, src, volume, view, site) {
+        Ok(walked) => walked,
+        Err(stop) => return Err(stop),
+    };
+    match walked.refusal {
+        Some(refusal) => Err(Stop::Found(refused(view, refusal))),
+        None => Ok(walked.facts),
     }
 }

@@ -6,7 +6,8 @@ mod contents;
 mod facts;
 mod gathering;
 mod keep;
+mod scope;
 mod text;
 
 pub use facts::{AttributeFact, EntryFact, ExtentFact, Facts, InodeFact, LinkFact, SiblingFact};
-pub use gathering::{ViewFacts, view_facts};
+pub use gathering::{ViewFacts, fault_of, view_facts, view_files};

@@ -6,7 +6,7 @@ use Rattle.path_walk.specs.Places.{Place, target_of}
 use Rattle.path_walk.specs.Listing.{children}
 use Rattle.view_tree.specs.Tree.{Row, is_opened, row_after, rows_of, rows_under, rows_from, rows_below, row_told}
 use Rattle.view_tree.specs.Parts.{told_after, told_of, told_under, told_from}
-use Rattle.path_walk.specs.Calls.{IsOfRecords}
+use Rattle.view_facts.specs.Stops.{IsOfRecords}
 use Rattle.view_tree.specs.Told.{IsTold}
 use Rattle.view_rules.specs.Listed.{raised}
 use Rattle.bt_cursor.specs.declared.fault.WalkFault.{WalkFault}

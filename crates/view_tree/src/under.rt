@@ -24,9 +24,10 @@ use obj_base::Stop;
 use path_walk::by_memory::{go_by, root, target_in};
 use path_walk::choice::{choose_number, parts};
 use path_walk::order::kept_by_name;
-use path_walk::{Files, KeptEntry, KeptTarget, PathStop, Place, ROOT};
+use path_walk::{Files, KeptTarget, PathStop, Place, ROOT};
 use std::alloc::Global;
 use std::collections::BTreeMap;
+use view_facts::EntryFact;
 use view_rules::{IdAt, TreeFault};
 use vol_view::View;
 
@@ -109,7 +110,7 @@ fn meet_entries(
     view: &View,
     memo: &mut BTreeMap<u64, (u64, usize)>,
     id: u64,
-    entries: &[KeptEntry],
+    entries: &[EntryFact],
 ) -> Result<Vec<KeptTarget>, Stop<PathStop>>
     ensures no_read { IsErrOf result ReadFault → ⊥ }
     ensures gives { (facts : Facts) (path : List ℕ) (first : ℕ) → IsUnderway facts path first files.now.entries.items files.now.inodes.items → IsEntered facts first id → HasAll facts id entries.now → IsMemo facts path memo.old → IfOk result (λ targets. targets.items ≡ targets_by facts (whats entries.now)) }

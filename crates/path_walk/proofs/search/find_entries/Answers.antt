@@ -1,5 +1,5 @@
-use Rattle.std.proofs.Common.{◌≡◌, ◌∙◌, true}
-use Rattle.std.specs.Prelude.{filter, option_map}
+use Rattle.std.proofs.Common.{◌≡◌, ◌∙◌, [], Some, true}
+use Rattle.std.specs.Prelude.{filter}
 use Rattle.bt_node.specs.declared.key.Rank.{Rank}
 use Rattle.bt_keys.specs.RecordKey.{entry_record}
 use Rattle.bt_cursor.specs.Cursors.{root_of, tree_of, left_of, gapped_left_of}
@@ -7,16 +7,18 @@ use Rattle.fs_record.specs.Facts.{all_for, entries_of}
 use Rattle.bt_cursor.specs.Flat.{flat_of}
 use Rattle.bt_cursor.specs.From.{is_of_kind, is_kind_whole}
 use Rattle.bt_cursor.proofs.Runs.{left-from, whole-from}
-use Rattle.path_walk.specs.Parts.{whats, is_wanted, are_whole}
-use Rattle.path_walk.proofs.Searched.{entries_at, if_seen, tells_same}
+use Rattle.path_walk.specs.Parts.{whats, is_wanted, run_entries, are_whole}
+use Rattle.path_walk.proofs.Searched.{entries_at, tells_same}
 use Rattle.path_walk.proofs.Needed.{if_as, entries_there}
 use Rattle.path_walk.proofs.search.find_entries.Goals as goal
 
 pub returns-in-Ok-take_run-clause-found : goal.returns-in-Ok-take_run-clause-found
 returns-in-Ok-take_run-clause-found g c image told on ordered =
-    if_seen (λ v. whats v.items) c.in-Ok-take_run.run' (filter (is_wanted c.args.names c.args.wanted) (all_for c.args.id (entries_of c.args.names (flat_of (tree_of c.args.cursor.now image) (root_of c.args.cursor.now)))))
-    (entries_at g.K.FsTreeKey.HASHED image c.args.cursor.now (root_of c.args.cursor.now) c.args.id c.args.names (is_wanted c.args.names c.args.wanted) (left_of c.seek.new.self image) (option_map (λ v. whats v.items) c.in-Ok-take_run.run') g.met.K.FsTreeKey.of_tree ordered
-    (left-from image c.args.cursor.now c.seek.new.self (record { id = c.args.id; kind = entry_record; sub = 0 }) ordered (c.in-Ok.ensures.left image told on ordered)) (c.in-Ok-take_run.ensures.taken image (c.in-Ok.ensures.kept.same_bytes ∙ told)))
+    if_as (λ v. run_entries g.K.TreeKey.shape c.args.names (is_wanted c.args.names c.args.wanted) c.args.id [] (left_of c.seek.new.self image) ≡ Some (whats v.items))
+    (λ v. whats v.items ≡ filter (is_wanted c.args.names c.args.wanted) (all_for c.args.id (entries_of c.args.names (flat_of (tree_of c.args.cursor.now image) (root_of c.args.cursor.now))))) c.in-Ok-take_run.run'
+    (λ v e. entries_at g.K.FsTreeKey.HASHED image c.args.cursor.now (root_of c.args.cursor.now) c.args.id c.args.names (is_wanted c.args.names c.args.wanted) (left_of c.seek.new.self image) (Some (whats v.items)) g.met.K.FsTreeKey.of_tree ordered
+    (left-from image c.args.cursor.now c.seek.new.self (record { id = c.args.id; kind = entry_record; sub = 0 }) ordered (c.in-Ok.ensures.left image told on ordered)) e)
+    (c.in-Ok-take_run.ensures.taken image (c.in-Ok.ensures.kept.same_bytes ∙ told))
 
 pub returns-in-Ok-take_run-clause-all : goal.returns-in-Ok-take_run-clause-all
 returns-in-Ok-take_run-clause-all g c image told on ordered =

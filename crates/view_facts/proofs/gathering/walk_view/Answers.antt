@@ -7,7 +7,7 @@ use Rattle.view_facts.proofs.gathering.walk_view.Goals as goal
 
 pub returns-in-Ok-clause-clear : goal.returns-in-Ok-clause-clear
 returns-in-Ok-clause-clear g c image told =
-    walked-hashed image c.args.site.now c.args.volume.now c.args.view.now c.in-Ok.walked (ap (λ (v : Loaded). are_hashed v.names) (sym c.volume.view_is) ∙ (sym c.are_hashed.ensures ∙ c.if-are_hashed.true)) (c.in-Ok.ensures.clear image told)
+    walked-hashed g.W.Scope.FILES image c.args.site.now c.args.volume.now c.args.view.now c.in-Ok.walked (ap (λ (v : Loaded). are_hashed v.names) (sym c.volume.view_is) ∙ (sym c.are_hashed.ensures ∙ c.if-are_hashed.true)) (c.in-Ok.ensures.clear image told)
 
 pub returns-in-Ok-clause-reads : goal.returns-in-Ok-clause-reads
 returns-in-Ok-clause-reads g c image told =
@@ -15,7 +15,7 @@ returns-in-Ok-clause-reads g c image told =
 
 pub returns-in-Ok-walk-clause-clear : goal.returns-in-Ok-walk-clause-clear
 returns-in-Ok-walk-clause-clear g c image told =
-    walked-plain image c.args.site.now c.args.volume.now c.args.view.now c.in-Ok-walk.walked (ap (λ (v : Loaded). are_hashed v.names) (sym c.volume.view_is) ∙ (sym c.are_hashed.ensures ∙ c.if-are_hashed.false)) (c.in-Ok-walk.ensures.clear image told)
+    walked-plain g.W.Scope.FILES image c.args.site.now c.args.volume.now c.args.view.now c.in-Ok-walk.walked (ap (λ (v : Loaded). are_hashed v.names) (sym c.volume.view_is) ∙ (sym c.are_hashed.ensures ∙ c.if-are_hashed.false)) (c.in-Ok-walk.ensures.clear image told)
 
 pub returns-in-Ok-walk-clause-reads : goal.returns-in-Ok-walk-clause-reads
 returns-in-Ok-walk-clause-reads g c image told =

@@ -1,4 +1,4 @@
-use Rattle.std.proofs.Common.{◌≡◌, ◌∙◌, ℕ, ◌≤◌, ◌<◌, List, Some, length, true, false, ap, sym, subst, arith}
+use Rattle.std.proofs.Common.{◌≡◌, ◌∙◌, ℕ, ◌≤◌, ◌<◌, List, length, true, false, ap, sym, subst, arith}
 use Rattle.std.specs.Prelude.{nat_lt}
 use Rattle.std.specs.List.Sorted.{IsPartitionPoint}
 use Rattle.std.proofs.lemmas.List.{get_or_read}
@@ -29,9 +29,8 @@ returns-then-id c facts r =
     let items : List (Fact Inode) = c.args.self.now.inodes.items in
     let le = bound items c.deref.result.now c.inodes_below-from.result c.deref.ensures.value c.inodes_below-from.ensures.bound in
     let low : c.inodes_below-from.result < length items = omega arith in
-    ap Some c.inode.ensures
-    ∙ (inode_is c.args.id c.inodes_below-from.result items c.index-at.result.now low c.index-at.ensures (split items c.deref.result.now c.args.id c.inodes_below-from.result c.deref.ensures.value r.inodes_rise c.inodes_below-from.ensures.split) (sym c.id.ensures ∙ c.if-id.true)
-    ∙ ap (first_for c.args.id) r.all_inodes)
+    inode_is c.args.id c.inodes_below-from.result items c.index-at.result.now low c.index-at.ensures (split items c.deref.result.now c.args.id c.inodes_below-from.result c.deref.ensures.value r.inodes_rise c.inodes_below-from.ensures.split) (sym c.id.ensures ∙ c.if-id.true)
+    ∙ ap (first_for c.args.id) r.all_inodes
 
 pub returns-else-id : goal.returns-else-id
 returns-else-id c facts r =
