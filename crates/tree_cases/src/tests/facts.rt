@@ -9,7 +9,7 @@ use obj_base::Stop;
 use std::alloc::{AllocError, Global};
 use std::process::Abort;
 use std::test::Fail;
-use view_facts::{ViewFacts, view_facts};
+use view_facts::{Facts, ViewFacts, view_facts, view_files};
 use view_rules::TreeFault;
 
 const FILE: u64 = 16;
@@ -23,6 +23,13 @@ fn facts_of(alloc: Global, plan: &Plan) -> Result<Result<ViewFacts, Stop<TreeFau
     let mut src = MemSource::new(make(alloc, plan)?, Vec::new(alloc));
     let at = open(alloc, &mut src, 0)?;
     Ok(view_facts(alloc, &mut src, &at.volume, &at.view, &at.site))
+}
+
+// The inodes and the entries alone.
+fn files_of(alloc: Global, which: Sample) -> Result<Result<Facts, Stop<TreeFault>>, Fail> {
+    let mut src = MemSource::new(make(alloc, &sample(alloc, which)?)?, Vec::new(alloc));
+    let at = open(alloc, &mut src, 0)?;
+    Ok(view_files(alloc, &mut src, &at.volume, &at.view, &at.site))
 }
 
 // The small container with a symbolic link whose target has these bytes.
@@ -150,6 +157,17 @@ fn each_kind_of_record_is_counted(rt: HostRuntime) -> Result<(), Fail> {
             panic!(rt; "{which:?}: there are no facts");
         };
         assert_eq!(rt; counts_of(&found), wanted, "{which:?}");
+        let Ok(files) = files_of(alloc, which)? else {
+            panic!(rt; "{which:?}: there are no files");
+        };
+        assert_eq!(rt;
+            (files.inodes.len(), files.entries.len()),
+            (wanted.inodes, wanted.entries),
+            "{which:?}"
+        );
+        assert!(rt;
+            files.links.is_empty() && files.siblings.is_empty() && files.extents.is_empty()
+        );
     }
     Ok(())
 }
