@@ -45,7 +45,7 @@ pub struct LineItem<'a, K: TreeKey> {
 
 impl<K: TreeKey> LineItem<'_, K> {
     ghost use Rattle.std.specs.Prelude.{◌≡◌, option_map, option_to_list};
-    ghost use Rattle.bt_cursor.specs.WholeTree.{child_id, IsWhole, IsOfNodes};
+    ghost use Rattle.bt_cursor.specs.WholeTree.{child_id};
     ghost use Rattle.bt_cursor.specs.Steps.{step_in};
     ghost use Rattle.bt_cursor.specs.Gathered.{shown};
 
@@ -80,6 +80,7 @@ impl<K: TreeKey, N: Namer> Liner<K, N> {
     ghost use Rattle.bt_cursor.specs.Seen.{reads_for};
     ghost use Rattle.bt_cursor.specs.Advance.{Advances, Entered, StopsFor, TellsGap, IsGapOf, IsNextGap, IsNextFault};
     ghost use Rattle.bt_cursor.specs.Liners.{site_of, root_of, tree_of, left_of, item_of, is_deep, fuel_of, HasItem, HasItemIf, HasSeenNone, Sees, HasPassed, Passes};
+    ghost use Rattle.bt_cursor.specs.WholeTree.{IsOfNodes, IsWhole, child_id};
 
     /// Reads the root, whose id is `root`, and stands before the first item. Takes all its buffers here.
     pub fn new<S: BlockSource>(

@@ -28,7 +28,7 @@ pub struct Omap {
 }
 
 impl Model for Omap {
-    ghost use Rattle.omap_map.specs.Loading.{IsAscending, object_of, map_nodes, IsLoaded};
+    ghost use Rattle.omap_map.specs.Loading.{IsAscending};
     ghost use Rattle.omap_map.specs.Maps.{Contents};
 
     ghost Value = { Contents };
@@ -148,6 +148,7 @@ impl Omap {
     ghost use Rattle.omap_map.specs.declared.fault.OmapFault as faults;
     ghost use Rattle.omap_map.specs.Features.{is_reverting};
     ghost use Rattle.omap_map.specs.Maps.{map_in, is_whole_map, IsMapFault, IsMapFeature};
+    ghost use Rattle.omap_map.specs.Loading.{IsLoaded, map_nodes, object_of};
 
     /// The object map in a block, with its tree and its tree of snapshots, where all of these are whole. `Head` comes
     /// where its object isn't sound, `Tree` where one of its trees isn't whole, and `Unsupported` for a feature of its

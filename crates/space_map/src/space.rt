@@ -36,7 +36,7 @@ pub struct Space {
 
 impl Model for Space {
     ghost use Rattle.space_map.specs.Stops.{Known};
-    ghost use Rattle.space_map.specs.Held.{IsHeld, bitmap_of};
+    ghost use Rattle.space_map.specs.Held.{IsHeld};
 
     ghost Value = { Known };
 
@@ -118,6 +118,7 @@ impl Space {
     ghost use Rattle.space_map.specs.Chunks.{chunk_at};
     ghost use Rattle.space_map.specs.Marks.{is_marked};
     ghost use Rattle.space_map.specs.Stops.{Known, known_of, IsSpaceOf, IsSpaceFault, IsSpaceFeature};
+    ghost use Rattle.space_map.specs.Held.{bitmap_of};
 
     /// The space of a checkpoint's container. `Unnamed` and `Unsound` come for its manager and for the blocks that tell
     /// of chunks, `Geometry` where the manager's shape isn't the container's, `Cab` and `Cib` where such a block has
