@@ -7,7 +7,7 @@ use std::alloc::{AllocError, Global};
 use uuid::Uuid;
 
 /// An identifier as it is shown, in lower case with hyphens.
-#[tactic(auto, unfolding(cmd_lines::specs::Names::uuid_text))]
+#[tactic(auto, unfolding(crate::specs::Names::uuid_text))]
 pub fn identifier(alloc: Global, uuid: [u8; 16]) -> Result<String, AllocError>
     ensures { IfOk result (λ text. string_bytes text ≡ uuid_text uuid) }
 {

@@ -161,7 +161,7 @@ fn built<'a>(in_partition: bool, line: Line<'a>) -> Order<'a>
 }
 
 // What a command asks for, on what is handed in or on a partition of it.
-#[tactic(auto, unfolding(cmd_lines::specs::Words::command_of))]
+#[tactic(auto, unfolding(crate::specs::Words::command_of))]
 fn order_in<'a>(
     alloc: Global,
     words: &'a [String],
