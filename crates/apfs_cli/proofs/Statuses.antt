@@ -27,6 +27,7 @@ use Rattle.apfs_cli.specs.Rows.{BothWrote, HasText, RanOrNoPart, IsPresentIn, Ra
 use Rattle.cmd_lines.specs.declared.named.Named.{Named}
 use Rattle.cmd_lines.specs.declared.named.Named.TheVariants.{InContainer, InUsage, InExport, NoTable, BadTable, NoPartition, PartOutside}
 use Rattle.cmd_texts.proofs.Fillings.{none_more}
+use Rattle.cmd_texts.proofs.Parts.{whole_prefix, part_on}
 use Rattle.apfs_cli.proofs.Owed.{IsOwed, owed}
 use Rattle.apfs_cli.proofs.Present.{fault_there, feature_there}
 

@@ -24,7 +24,7 @@ use Rattle.cmd_texts.specs.Commands.Xattr as xattr
 use Rattle.cmd_texts.specs.Commands.Export as export
 use Rattle.cmd_texts.specs.Commands.Gen as gen
 use Rattle.cmd_texts.specs.Commands.Format as format
-use Rattle.cmd_lines.specs.Words.{Asked, Ring, Info, Volumes, Space, Check, Snapshots, Usage, Ls, Tree, Cat, Xattr, Export, Gen, Format}
+use Rattle.cmd_lines.specs.Words.{Asked, Ring, Info, Volumes, Space, Check, Snapshots, Usage, Ls, Tree, Cat, Xattr, Export, Gen, Format, checks_of}
 use Rattle.cmd_lines.specs.declared.named.Named.{Named}
 use Rattle.cmd_lines.specs.declared.named.Named.TheVariants.{InContainer, InUsage, InExport}
 
