@@ -1,4 +1,3 @@
 // Walks through made trees.
 
-mod steps;
 mod walks;

@@ -123,16 +123,25 @@ impl Omap {
         Some(last)
     }
 
-    /// Where `oid` lies at transaction `xid`: by the record of the greatest transaction of at most `xid` among those of
+    /// The record to which `oid` resolves at transaction `xid`: that of the greatest transaction of at most `xid` among those of
     /// `oid`. None where there is no such record, or where it is marked deleted.
-    #[tactic(auto, unfolding(crate::specs::Resolve::resolve, crate::specs::Resolve::resolved))]
-    pub fn resolve(&self, oid: u64, xid: u64) -> Option<Place>
-        ensures { result ≡ spec.resolve self.now.records oid xid }
+    #[tactic(auto, unfolding(crate::specs::Resolve::resolved))]
+    pub fn record(&self, oid: u64, xid: u64) -> Option<OmapRecord>
+        ensures { result ≡ spec.resolved self.now.records oid xid }
     {
         let record = self.latest(oid, xid)?;
         if record.is_deleted() {
             return None;
         }
+        Some(record)
+    }
+
+    /// Where `oid` lies at transaction `xid`, by the record to which it resolves.
+    #[tactic(auto, unfolding(crate::specs::Resolve::resolve))]
+    pub fn resolve(&self, oid: u64, xid: u64) -> Option<Place>
+        ensures { result ≡ spec.resolve self.now.records oid xid }
+    {
+        let record = self.record(oid, xid)?;
         Some(record.place())
     }
 }

@@ -88,6 +88,7 @@ fn a_map_resolves_by_oid_and_transaction(rt: HostRuntime) -> Result<(), Fail> {
         paddr: 7,
     };
     assert!(rt; omap.records().last() == Some(&last));
+    assert_eq!(rt; omap.record(9, 9), Some(last));
     assert_eq!(rt; omap.records().len(), 3);
     let at = At {
         omap: &omap,

@@ -20,7 +20,7 @@ use Rattle.reach_gather.proofs.Growing.{grew-none, grew-put, fits-more, grewby-o
 use Rattle.reach_gather.proofs.Owning.{own-block, pool-block, own-id, pool-id, OwnBlocks, grewby-blocks}
 
 -- the nodes below a root own their blocks
-nodes-own : (image : List ℕ) (seen : Seen) (kind : TreeKind) (root : Naming) (steps : List Step) → root.how ≡ ByBlock → AreNamingsOf image seen root (tree_namings InBlock kind root steps) → OwnBlocks image seen (map (step_naming InBlock kind root.how root.oid) steps)
+pub nodes-own : (image : List ℕ) (seen : Seen) (kind : TreeKind) (root : Naming) (steps : List Step) → root.how ≡ ByBlock → AreNamingsOf image seen root (tree_namings InBlock kind root steps) → OwnBlocks image seen (map (step_naming InBlock kind root.how root.oid) steps)
 nodes-own image seen kind root steps how are = record {
   owners = λ n h.
       let t = from-map (step_naming InBlock kind root.how root.oid) steps n h in
@@ -70,7 +70,7 @@ tree-right image seen object kind root steps is right n k (inr h) at =
     let s : Step = t.0 in
     absurd (let none : None ≡ Some k = ap (λ (m : Naming). kind-in m.expected) (sym t.1.1) ∙ ap kind-in at in let q : ⊥ = cc in q)
 
-by-block : (root : Naming) → root.how ≡ ByBlock → is_in_view root.how ≡ false
+pub by-block : (root : Naming) → root.how ≡ ByBlock → is_in_view root.how ≡ false
 by-block root how = ap is_in_view how
 
 -- a tree of physical nodes, from the naming of its root on: what its root tells was added with it, and then the nodes below

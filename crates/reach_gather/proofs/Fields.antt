@@ -1,27 +1,14 @@
 -- What a field names in which 0 names nothing, and what an object map names.
-use Rattle.std.proofs.Common.{◌≡◌, ℕ, Bool, true, false, List, [], ◌∷◌, ◌++◌, None, Some, inl, inr, refl, ap, sym, ◌∙◌, subst}
-use Rattle.std.specs.Prelude.{◌==◌, if◌then◌else◌, option_map}
+use Rattle.std.proofs.Common.{◌≡◌, ℕ, Bool, true, false, List, [], ◌∷◌, ◌++◌, inl, inr, refl, ap, sym, ◌∙◌, subst}
+use Rattle.std.specs.Prelude.{◌==◌, if◌then◌else◌}
 use Rattle.apfs_model.specs.Lists.{In}
 use Rattle.apfs_model.proofs.BoolTests.{test_or, equal-from, from-equal}
-use Rattle.obj_base.specs.declared.stop.Stop.{Stop}
-use Rattle.obj_base.specs.declared.stop.Stop.TheVariants.{Found as Fault, Unsupported, ReadFault, NoMemory}
-use Rattle.obj_base.specs.Stops.{Tells}
 use Rattle.nx_ring.specs.Checkpoint.{Seen, site_of}
 use Rattle.omap_map.specs.Fields as maps
-use Rattle.apfs_model.specs.Bytes.{u64_at}
-use Rattle.bt_cursor.specs.Flat.{flat_of}
-use Rattle.obj_base.specs.declared.site.Site.{Site}
-use Rattle.omap_map.specs.Maps.{map_in, map_records, record_tree}
-use Rattle.omap_map.specs.Records.{records_of}
-use Rattle.omap_map.specs.declared.records.OmapRecord.{OmapRecord}
-use Rattle.reach_rules.specs.declared.fault.ReachFault.{ReachFault}
+use Rattle.omap_map.specs.Maps.{map_in}
 use Rattle.reach_rules.specs.Naming.{LookUp, ByBlock, InBlock, Namer, Whole, MapRecords, MapSnapshots, Expected, ContainerMap, VolumeMap, TreeRoot, Naming, naming}
 use Rattle.reach_rules.specs.Next.{next, unless_zero}
 use Rattle.reach_rules.specs.Live.{IsLive, led}
-use Rattle.reach_rules.specs.Resolved.{resolved, found_by, standing}
-use Rattle.reach_rules.specs.Features.{HasFeature}
-use Rattle.reach_rules.specs.Reached.{IsReachedFault}
-use Rattle.apfs_model.specs.Blocks.{in_container}
 use Rattle.reach_rules.specs.Owners.{owners_through}
 use Rattle.reach_rules.specs.PoolOwners.{pool_owners_through}
 use Rattle.tree_namings.specs.Namings.{IsPlainNaming}
@@ -30,23 +17,22 @@ use Rattle.tree_namings.specs.Views.{is_in_view}
 use Rattle.tree_namings.specs.Volumes.Parts.{IsMapPart}
 use Rattle.reach_gather.specs.Held.{Held, GrewBy}
 use Rattle.reach_gather.specs.Adds.{Adds, AreLive}
-use Rattle.reach_gather.specs.Reading.{IsLostBlock}
 use Rattle.reach_gather.specs.Steps.{block_owner}
 use Rattle.reach_gather.proofs.Growing.{adds-none, adds-join, adds-step, adds-as, IsRightRoot}
 use Rattle.reach_gather.proofs.Owning.{own-block, pool-block, OwnBlocks, grewby-blocks}
 
-unless-by : (b : Bool) (ns : List Naming) → b ≡ true → (if b then [] else ns) ≡ []
+pub unless-by : (b : Bool) (ns : List Naming) → b ≡ true → (if b then [] else ns) ≡ []
 unless-by true ns e = refl
 unless-by false ns e = absurd (cc)
 
-unless-not : (b : Bool) (ns : List Naming) → b ≡ false → (if b then [] else ns) ≡ ns
+pub unless-not : (b : Bool) (ns : List Naming) → b ≡ false → (if b then [] else ns) ≡ ns
 unless-not true ns e = absurd (cc)
 unless-not false ns e = refl
 
 pub unless-none : (namer : Namer) (at : ℕ) (e : Expected) (how : LookUp) (oid : ℕ) → oid ≡ 0 → unless_zero namer at e how oid ≡ []
 unless-none namer at e how oid zero = unless-by (oid == 0) (naming namer at e how oid ∷ []) (from-equal oid 0 zero)
 
-not-zero : (oid : ℕ) → (oid ≡ 0 → ⊥) → (oid == 0) ≡ false
+pub not-zero : (oid : ℕ) → (oid ≡ 0 → ⊥) → (oid == 0) ≡ false
 not-zero oid not = elim (test_or (oid == 0)) as (λ _. (oid == 0) ≡ false) [ inl t ↦ absurd (not (equal-from oid 0 t)) | inr f ↦ f ]
 
 pub unless-some : (namer : Namer) (at : ℕ) (e : Expected) (how : LookUp) (oid : ℕ) → (oid ≡ 0 → ⊥) → unless_zero namer at e how oid ≡ naming namer at e how oid ∷ []
@@ -102,35 +88,3 @@ map-adds image seen n tree past a b c d how expects part is_tree is_past p q r r
     adds-step image seen n [] a b d part.plain (ap is_in_view how) (no-root image seen n expects) (block-grew image seen n a b (one-owns image seen n (map-owns image seen n how expects part.plain)) p q r)
     (adds-as image seen (naming namer 48 (TreeRoot MapRecords) ByBlock tree ∷ unless_zero namer 56 (TreeRoot MapSnapshots) ByBlock past) (next image seen n) [] b d leads
     (adds-join image seen (naming namer 48 (TreeRoot MapRecords) ByBlock tree ∷ []) (unless_zero namer 56 (TreeRoot MapSnapshots) ByBlock past) [] [] b c d records snapshots))
-
-pub map-leads : (image : List ℕ) (seen : Seen) (n : Naming) (tree past : ℕ) → IsMapPart image seen n → tree ≡ maps.tree_of (map_in image (site_of seen) n.oid) → past ≡ maps.snap_tree_of (map_in image (site_of seen) n.oid)
-    → next image seen n ≡ naming (Whole (InBlock n.oid)) 48 (TreeRoot MapRecords) ByBlock tree ∷ unless_zero (Whole (InBlock n.oid)) 56 (TreeRoot MapSnapshots) ByBlock past
-map-leads image seen n tree past part is_tree is_past = part.leads ∙ (λ i. naming (Whole (InBlock n.oid)) 48 (TreeRoot MapRecords) ByBlock (sym is_tree i) ∷ unless_zero (Whole (InBlock n.oid)) 56 (TreeRoot MapSnapshots) ByBlock (sym is_past i))
-
--- a plain physical naming is of a block of the container, so that no block is lost
-lost-never : (image : List ℕ) (seen : Seen) (n : Naming) → n.how ≡ ByBlock → IsPlainNaming image seen n → in_container (site_of seen).blocks n.oid ≡ None → ⊥
-unfolding resolved
-lost-never image seen n how p none =
-    let some : found_by image seen ByBlock n.expected n.oid ≡ Some p.object = subst (λ h. found_by image seen h n.expected n.oid ≡ Some p.object) how p.found in
-    let nothing : found_by image seen ByBlock n.expected n.oid ≡ None = ap (λ o. option_map (λ block. standing image (site_of seen) (InBlock block) block) o) none in
-    let clash : None ≡ Some p.object = sym nothing ∙ some in
-    let q : ⊥ = cc in q
-
-pub lost-tells : (image : List ℕ) (seen : Seen) (n : Naming) (stop : Stop ReachFault) → n.how ≡ ByBlock → IsPlainNaming image seen n → IsLostBlock seen n.oid stop → Tells (IsReachedFault image seen) (HasFeature image seen) stop
-lost-tells image seen n (Fault fault) how p lost = absurd (lost-never image seen n how p lost.0)
-lost-tells image seen n (Unsupported feature block) how p lost = absurd lost
-lost-tells image seen n ReadFault how p lost = tt
-lost-tells image seen n NoMemory how p lost = tt
-
--- the fields of an object map, as they were read
-pub tree-field : (image : List ℕ) (seen : Seen) (block : ℕ) (bytes lent : List ℕ) (field : ℕ) → bytes ≡ map_in image (site_of seen) block → lent ≡ bytes → field ≡ u64_at lent 48 → field ≡ maps.tree_of (map_in image (site_of seen) block)
-unfolding maps.tree_of
-tree-field image seen block bytes lent field same lends is = is ∙ ap (λ bs. u64_at bs 48) (lends ∙ same)
-
-pub past-field : (image : List ℕ) (seen : Seen) (block : ℕ) (bytes lent : List ℕ) (field : ℕ) → bytes ≡ map_in image (site_of seen) block → lent ≡ bytes → field ≡ u64_at lent 56 → field ≡ maps.snap_tree_of (map_in image (site_of seen) block)
-unfolding maps.snap_tree_of
-past-field image seen block bytes lent field same lends is = is ∙ ap (λ bs. u64_at bs 56) (lends ∙ same)
-
-pub records-of-map : (image : List ℕ) (site : Site) (block root tree : ℕ) (records : List OmapRecord) → root ≡ tree → tree ≡ maps.tree_of (map_in image site block) → records ≡ records_of (flat_of (record_tree image site) root) → records ≡ map_records image site block
-unfolding map_records
-records-of-map image site block root tree records same is kept = kept ∙ ap (λ oid. records_of (flat_of (record_tree image site) oid)) (same ∙ is)

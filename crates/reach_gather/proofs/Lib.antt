@@ -1,10 +1,11 @@
 pub mod Growing
-pub mod Kept
 pub mod Owning
 pub mod Branches
 pub mod Telling
 pub mod Told
 pub mod Fields
+pub mod Mapped
+pub mod Scanned
 pub mod Numbered
 pub mod Indexed
 pub mod Chunked
@@ -13,7 +14,6 @@ pub mod Noted
 pub mod Chain
 pub mod Started
 pub mod Pasts
-pub mod Latest
 pub mod Slots
 pub mod Backs
 pub mod Ties

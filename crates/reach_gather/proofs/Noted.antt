@@ -24,6 +24,10 @@ use Rattle.reach_gather.proofs.Chunked.{cabs-known, cibs-known}
 pub noted-one : (old new : List Naming) (n : Naming) → new ≡ old ++ n ∷ [] → length new ≡ length old + 1
 noted-one old new n e = noted-more old new (n ∷ []) e
 
+-- what is noted isn't lost
+pub noted-longer : (old new more : List Naming) → new ≡ old ++ more → length old ≤ length new
+noted-longer old new more e = let l = noted-more old new more e in omega (arith, l)
+
 -- a tree by one read for its root and one for each of its steps, each of which is noted
 pub tree-read : (f : Step → Naming) (root : Naming) (noted steps : List Step) (a b c : List Naming) (before after : ℕ) → b ≡ a ++ root ∷ [] → c ≡ b ++ map f noted → noted ≡ steps → after ≤ before + suc (length steps)
     → after + length a ≤ before + length c

@@ -4,7 +4,7 @@ use Rattle.std.specs.Prelude.{not, ◌==◌, if◌then◌else◌}
 use Rattle.std.specs.List.{list_all}
 use Rattle.apfs_model.specs.Lists.{In}
 use Rattle.apfs_model.proofs.BoolTests.{all-in}
-use Rattle.apfs_model.proofs.Searches.{in-left, in-right}
+use Rattle.apfs_model.proofs.Searches.{in-right}
 use Rattle.nx_block.specs.Super.{space_oid_of}
 use Rattle.nx_ring.specs.Checkpoint.{Seen}
 use Rattle.space_map.specs.Fields.{pool_base_of, pool_blocks_of, ring_base_of, ring_blocks_of, pool_queue_of}
@@ -15,12 +15,8 @@ use Rattle.space_pool.specs.declared.entry.QueueEntry.{QueueEntry}
 use Rattle.space_pool.proofs.Gathered.{none_queued}
 use Rattle.reach_rules.specs.Naming.{TreeRoot, SpaceManager, Naming}
 use Rattle.reach_rules.specs.Resolved.{Found}
-use Rattle.reach_rules.specs.Next.{address_namings}
-use Rattle.reach_rules.specs.Live.{led, IsLive}
 use Rattle.reach_rules.specs.Owners.{Owner, owner, InternalPool, PoolRing, owners_through}
-use Rattle.reach_rules.proofs.Sounds.{manager-live}
 use Rattle.reach_rules.proofs.SpaceLifted.{there, manager-sound}
-use Rattle.reach_rules.proofs.Nexts.{in-next}
 use Rattle.tree_namings.specs.Namings.{IsPlainNaming}
 use Rattle.tree_namings.specs.Joined.{ArePart}
 use Rattle.tree_namings.specs.Views.{is_in_view}
@@ -30,7 +26,7 @@ use Rattle.tree_namings.specs.Space.{manager_namer, blocks_namings}
 use Rattle.tree_namings.proofs.Space.{space-part}
 use Rattle.tree_namings.proofs.Views.{outside-views}
 use Rattle.reach_gather.specs.Held.{Held, GrewBy, some_owners}
-use Rattle.reach_gather.specs.Adds.{Adds, AreLive}
+use Rattle.reach_gather.specs.Adds.{Adds}
 use Rattle.reach_gather.specs.Infos.{known_cabs, known_cibs, bitmaps_from}
 use Rattle.reach_gather.specs.Pooled.{ArePooled}
 use Rattle.reach_gather.specs.Steps.{block_owner}
@@ -114,24 +110,6 @@ space-adds image seen space a b c d e is p q r pool main s t u =
       grew = grewby-join image seen (n ∷ []) (pool.these ++ rest) a b e (manager-grew image seen space.manager is.block a b is.manager (part.plain n (inl refl)) p q r)
           (grewby-join image seen pool.these rest b c e pool.grew (grewby-join image seen main.these blocks c d e main.grew (blocks-grew image seen space d e is plain s t u)));
     }
-
--- ---- what stops it
-pub manager-queues : (image : List ℕ) (seen : Seen) (space : Known) → IsSpaceOf image seen space
-    → AreLive image seen (pool_queue_naming (manager_namer seen.nx) space.manager) × AreLive image seen (main_queue_naming (manager_namer seen.nx) space.manager)
-unfolding there
-manager-queues image seen space is =
-    let n : Naming = manager_naming seen.nx in
-    let pool : List Naming = pool_queue_naming (manager_namer seen.nx) space.manager in
-    let main : List Naming = main_queue_naming (manager_namer seen.nx) space.manager in
-    let more : List Naming = address_namings (manager_namer seen.nx) space.manager in
-    let s = manager-sound image seen space.manager is.block is.manager in
-    let led-by : (m : Naming) → In m (pool ++ (main ++ more)) → IsLive image seen m = λ m h. led n m (manager-live image seen) (in-next image seen n m (record {
-      object = there seen space.manager is.block;
-      found = s.names.found;
-      sound = s.sound;
-      names = h;
-    })) in
-    (λ m h. led-by m (in-left m pool (main ++ more) h), λ m h. led-by m (in-right m pool (main ++ more) (in-left m main more h)))
 
 -- all entries lie in the pool
 pub all-pooled : (image : List ℕ) (seen : Seen) (manager : List ℕ) (entries : List QueueEntry) → entries ≡ queue_of image seen manager Pool → list_all (is_queued_in_pool manager) entries ≡ true → ArePooled image seen manager

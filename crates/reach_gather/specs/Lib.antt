@@ -3,7 +3,7 @@ pub mod Owned
 pub mod Held
 pub mod Adds
 pub mod Steps
-pub mod Reading
+pub mod Mapped
 pub mod Infos
 pub mod Pooled
 pub mod Chain

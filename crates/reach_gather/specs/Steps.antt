@@ -1,5 +1,5 @@
 -- The namings of the steps of trees, with their owners.
-use Rattle.std.specs.Prelude.{ℕ, List, map}
+use Rattle.std.specs.Prelude.{ℕ, List, ◌∷◌, map}
 use Rattle.bt_cursor.specs.declared.step.Step.{Step}
 use Rattle.reach_rules.specs.Naming.{ByBlock, ByMapping, InBlock, OfId, TreeKind, Naming}
 use Rattle.reach_rules.specs.Owners.{Owner, owner, Named}
@@ -8,6 +8,10 @@ use Rattle.tree_namings.specs.Namings.{step_naming}
 -- in a tree of physical nodes
 abbrev pub block_steps : TreeKind → ℕ → List Step → List Naming
 block_steps kind root steps = map (step_naming InBlock kind ByBlock root) steps
+
+-- and from that of the tree's root on
+abbrev pub node_namings : TreeKind → Naming → List Step → List Naming
+node_namings kind root steps = root ∷ block_steps kind root.oid steps
 
 -- in a tree of ephemeral nodes
 abbrev pub id_steps : TreeKind → ℕ → List Step → List Naming

@@ -2,13 +2,14 @@
 use Rattle.std.specs.Prelude.{◌≡◌, ℕ, suc, Bool, List, [], ◌∷◌, ◌++◌, map, flat_map, slice_get, Some}
 use Rattle.apfs_model.specs.Lists.{In}
 use Rattle.fs_name.specs.Normal.{are_hashed}
-use Rattle.nx_ring.specs.Checkpoint.{Seen}
+use Rattle.nx_ring.specs.Checkpoint.{Seen, site_of}
+use Rattle.omap_map.specs.Maps.{contents_of}
 use Rattle.vol_view.specs.Volumes.{Loaded}
 use Rattle.vol_view.specs.declared.volume.Snapshot.{Snapshot}
 use Rattle.reach_rules.specs.Naming.{ViewAt, InBlock, Namer, Whole, Naming}
 use Rattle.reach_rules.specs.Next.{next}
 use Rattle.tree_namings.specs.Namings.{IsPlainNaming}
-use Rattle.tree_namings.specs.Volumes.Parts.{IsMapPart, IsVolumePart, volume_namer}
+use Rattle.tree_namings.specs.Volumes.Parts.{IsMapPart, HasWholeMetadata, IsVolumePart, volume_namer}
 use Rattle.tree_namings.specs.Volumes.Told.{head_naming, past_at, live_at, map_of, map_in_volume, super_in_view, told_view}
 
 -- what the superblock of a snapshot names in its view
@@ -36,10 +37,12 @@ volume_views seen namer volume =
     told_view namer (live_at seen volume.head.slot (map_of volume) (are_hashed volume.names)) volume.root_oid volume.meta_ext
     ++ pasts_namings volume.head.slot (map_of volume) (are_hashed volume.names) 0 volume.snaps
 
--- the map of a volume is right, and so are the superblocks of its snapshots
+-- the map of a volume is right, and is what was loaded of it; and so are the superblocks of its snapshots, and its snapshot metadata
 pub record AreVolumeParts (image : List ℕ) (seen : Seen) (namer : Namer) (volume : Loaded) : Type 0 where
   pub map : IsMapPart image seen (map_in_volume namer (map_of volume))
+  pub contents : volume.omap ≡ contents_of image (site_of seen) (map_of volume)
   pub snapshots : AreSuperParts image seen volume (map_of volume)
+  pub metadata : HasWholeMetadata image seen volume
 
 -- each of some volumes is right, and the object of its superblock is known
 abbrev pub AreNamedParts : List ℕ → Seen → (Loaded → Namer) → List Loaded → Type 0

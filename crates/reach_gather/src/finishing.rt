@@ -2,7 +2,6 @@
 ghost use Rattle.std.specs.Prelude.{◌≡◌, ◌↔◌, map, IfOk, IsTrue};
 ghost use Rattle.std.specs.List.Sorted.{IsStrictlyIncreasing};
 ghost use Rattle.apfs_model.specs.Lists.{In};
-ghost use Rattle.reach_rules.specs.Naming.{Naming};
 ghost use Rattle.reach_rules.specs.Owners.{Owner};
 ghost use Rattle.reach_gather.specs.declared.owner.Owned as kept;
 ghost use Rattle.reach_gather.specs.Owned.{owner_as};

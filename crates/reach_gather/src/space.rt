@@ -14,7 +14,7 @@ ghost use Rattle.reach_rules.specs.Owners.{owner, InternalPool, PoolRing};
 ghost use Rattle.reach_rules.specs.Reached.{IsReachedFault};
 ghost use Rattle.tree_namings.specs.Container.{pool_queue_naming, main_queue_naming, manager_naming};
 ghost use Rattle.tree_namings.specs.Space.{manager_namer};
-ghost use Rattle.reach_gather.specs.Adds.{Adds, AreLive};
+ghost use Rattle.reach_gather.specs.Adds.{Adds};
 ghost use Rattle.reach_gather.specs.Pooled.{ArePooled};
 ghost use Rattle.reach_gather.specs.declared.naming.By.TheVariants as looks;
 ghost use Rattle.reach_gather.specs.declared.naming.Expects.TheVariants as expects;
@@ -31,7 +31,6 @@ use nx_ring::Checkpoint;
 use obj_base::{Stop, u64_at};
 use reach_rules::ReachFault;
 use space_map::Space;
-use space_pool::{PoolFault, outside};
 use std::alloc::Global;
 
 // The manager, with the pool and the ring of the pool's bitmaps.
@@ -102,7 +101,7 @@ fn add_pool<S: BlockSource>(
     requires site { IsSiteFor (site_of cp.now) (S.bytes_len src.old) }
     ensures clear { (image : List ℕ) → S.bytes src.old ≡ Some image → OnOk result (Adds image cp.now (pool_queue_naming (manager_namer cp.now.nx) space.now.manager) [] out.old out.new) }
     ensures queued { (image : List ℕ) → S.bytes src.old ≡ Some image → OnOk result (ArePooled image cp.now space.now.manager) }
-    ensures present { (image : List ℕ) → S.bytes src.old ≡ Some image → IsSpaceOf image cp.now space.now → AreLive image cp.now (pool_queue_naming (manager_namer cp.now.nx) space.now.manager) → IfErr result (Tells (IsReachedFault image cp.now) (HasFeature image cp.now)) }
+    ensures present { (image : List ℕ) → S.bytes src.old ≡ Some image → IsSpaceOf image cp.now space.now → IfErr result (Tells (IsReachedFault image cp.now) (HasFeature image cp.now)) }
     ensures reads { (image : List ℕ) → S.bytes src.old ≡ Some image → OnOk result (S.reads src.new + length out.old.namings ≤ S.reads src.old + length out.new.namings) }
     ensures cause { IsErrOf result ReadFault → Rose (S.faults src.old) (S.faults src.new) }
     ensures kept { IsKept S.bytes S.bytes_len S.faults src.old src.new }
@@ -113,13 +112,9 @@ fn add_pool<S: BlockSource>(
         return Ok(());
     }
     let root = root(cp, 208, Tree::PoolQueue, oid);
-    let entries = match add_pool_queue(alloc, src, cp, root, out) {
-        Ok(entries) => entries,
-        Err(stop) => return Err(stop),
-    };
-    match outside(space, &entries) {
-        Some(block) => Err(Stop::Found(ReachFault::Pool(PoolFault::Place { block }))),
-        None => Ok(()),
+    match add_pool_queue(alloc, src, cp, space, root, out) {
+        Ok(()) => Ok(()),
+        Err(stop) => Err(stop),
     }
 }
 
@@ -133,7 +128,7 @@ fn add_main<S: BlockSource>(
 ) -> Result<(), Stop<ReachFault>>
     requires site { IsSiteFor (site_of cp.now) (S.bytes_len src.old) }
     ensures clear { (image : List ℕ) → S.bytes src.old ≡ Some image → OnOk result (Adds image cp.now (main_queue_naming (manager_namer cp.now.nx) space.now.manager) [] out.old out.new) }
-    ensures present { (image : List ℕ) → S.bytes src.old ≡ Some image → AreLive image cp.now (main_queue_naming (manager_namer cp.now.nx) space.now.manager) → IfErr result (Tells (IsReachedFault image cp.now) (HasFeature image cp.now)) }
+    ensures present { (image : List ℕ) → S.bytes src.old ≡ Some image → IsSpaceOf image cp.now space.now → IfErr result (Tells (IsReachedFault image cp.now) (HasFeature image cp.now)) }
     ensures reads { (image : List ℕ) → S.bytes src.old ≡ Some image → OnOk result (S.reads src.new + length out.old.namings ≤ S.reads src.old + length out.new.namings) }
     ensures cause { IsErrOf result ReadFault → Rose (S.faults src.old) (S.faults src.new) }
     ensures kept { IsKept S.bytes S.bytes_len S.faults src.old src.new }
@@ -144,7 +139,7 @@ fn add_main<S: BlockSource>(
         return Ok(());
     }
     let root = root(cp, 248, Tree::MainQueue, oid);
-    match add_main_queue(alloc, src, cp, root, out) {
+    match add_main_queue(alloc, src, cp, space, root, out) {
         Ok(()) => Ok(()),
         Err(stop) => Err(stop),
     }

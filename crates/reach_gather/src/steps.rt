@@ -1,7 +1,6 @@
 // The nodes of trees below their roots, as the steps of the trees name them.
 ghost use Rattle.std.specs.Prelude.{◌≡◌, ◌++◌, map, OnOk};
 ghost use Rattle.reach_rules.specs.Naming.{ByBlock, ByMapping, InBlock, OfId};
-ghost use Rattle.reach_rules.specs.Owners as spec;
 ghost use Rattle.tree_namings.specs.Namings.{level_below, step_naming};
 ghost use Rattle.reach_gather.specs.Named.{kind_of, naming_of};
 ghost use Rattle.reach_gather.specs.Steps.{block_steps, id_steps, block_owner};
@@ -9,7 +8,7 @@ ghost use Rattle.reach_gather.specs.Steps.{block_steps, id_steps, block_owner};
 use crate::Gathered;
 use crate::naming::{By, Expects, Named, NamedBy, Tree};
 use blk_source::NoMemory;
-use bt_steps::Step;
+use bt_cursor::Step;
 
 // The level below a level.
 fn below(level: u16) -> u16

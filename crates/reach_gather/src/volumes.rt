@@ -2,14 +2,12 @@
 // their views name is left to the sweep over all views.
 ghost use Rattle.std.specs.Prelude.{◌≡◌, ◌∷◌, ◌+◌, ◌≤◌, ℕ, List, [], length, None, Some, OnOk, IfErr, IsErrOf};
 ghost use Rattle.apfs_model.specs.Counts.{Rose};
-ghost use Rattle.apfs_model.specs.Lists.{In};
 ghost use Rattle.apfs_model.specs.Kept.{IsKept};
-ghost use Rattle.fs_name.specs.Normal.{are_hashed};
 ghost use Rattle.nx_block.specs.Super.{omap_oid_of};
 ghost use Rattle.obj_base.specs.Site.{IsSiteFor};
 ghost use Rattle.obj_base.specs.Stops.{Tells};
 ghost use Rattle.obj_base.specs.declared.stop.Stop.TheVariants.{ReadFault};
-ghost use Rattle.nx_ring.specs.Checkpoint.{site_of};
+ghost use Rattle.nx_ring.specs.Checkpoint.{Seen, site_of};
 ghost use Rattle.omap_map.specs.Maps.{map_records};
 ghost use Rattle.reach_rules.specs.Features.{HasFeature};
 ghost use Rattle.reach_rules.specs.Live.{IsLive};
@@ -17,7 +15,7 @@ ghost use Rattle.vol_view.specs.Volumes.{Loaded};
 ghost use Rattle.reach_rules.specs.Naming.{ByBlock, Namer, ExtentRefs, SnapMetadata, TreeRoot};
 ghost use Rattle.reach_rules.specs.Next.{unless_zero};
 ghost use Rattle.reach_rules.specs.Reached.{IsReachedFault};
-ghost use Rattle.tree_namings.specs.Volumes.Parts.{IsVolumePart, volume_namer};
+ghost use Rattle.tree_namings.specs.Volumes.Parts.{HasWholeMetadata, IsVolumePart, volume_namer};
 ghost use Rattle.tree_namings.specs.Volumes.Told.{head_naming, told_volume};
 ghost use Rattle.reach_gather.specs.Adds.{Adds, AreLive};
 ghost use Rattle.reach_gather.specs.Named.{namer_of, naming_of};
@@ -26,13 +24,12 @@ ghost use Rattle.reach_gather.specs.Views.{AreVolumeParts, AreNamedParts, volume
 use crate::Gathered;
 use crate::maps::add_map;
 use crate::naming::{By, Expects, Mapping, Named, NamedBy, Tree};
-use crate::resolving::resolve;
 use crate::snapshots::add_snapshots;
-use crate::trees::{add_extents, add_metadata};
-use blk_source::BlockSource;
+use crate::trees::{add_extents, add_nodes};
+use blk_source::{BlockSource, NoMemory};
 use nx_ring::Checkpoint;
 use obj_base::{Stop, Within};
-use omap_map::OmapRecord;
+use omap_map::{Omap, OmapRecord};
 use reach_rules::ReachFault;
 use std::alloc::Global;
 use vol_view::Volume;
@@ -70,24 +67,13 @@ fn add_live_extents<S: BlockSource>(
     }
 }
 
-// Adds a volume's snapshot metadata, where it has some.
-fn add_live_metadata<S: BlockSource>(
-    alloc: Global,
-    src: &mut S,
-    cp: &Checkpoint,
-    by: NamedBy,
-    oid: u64,
-    out: &mut Gathered,
-) -> Result<(), Stop<ReachFault>>
-    requires site { IsSiteFor (site_of cp.now) (S.bytes_len src.old) }
-    ensures clear { (image : List ℕ) → S.bytes src.old ≡ Some image → OnOk result (Adds image cp.now (unless_zero (namer_of by) 152 (TreeRoot SnapMetadata) ByBlock oid) [] out.old out.new) }
-    ensures present { (image : List ℕ) → S.bytes src.old ≡ Some image → AreLive image cp.now (unless_zero (namer_of by) 152 (TreeRoot SnapMetadata) ByBlock oid) → IfErr result (Tells (IsReachedFault image cp.now) (HasFeature image cp.now)) }
-    ensures reads { (image : List ℕ) → S.bytes src.old ≡ Some image → OnOk result (S.reads src.new + length out.old.namings ≤ S.reads src.old + length out.new.namings) }
-    ensures cause { IsErrOf result ReadFault → Rose (S.faults src.old) (S.faults src.new) }
-    ensures kept { IsKept S.bytes S.bytes_len S.faults src.old src.new }
+// Adds a volume's snapshot metadata, where it has some, by the steps of its tree. Nothing is read.
+fn add_live_metadata(volume: &Volume, by: NamedBy, out: &mut Gathered) -> Result<(), NoMemory>
+    ensures clear { (image : List ℕ) (seen : Seen) → HasWholeMetadata image seen volume.now → OnOk result (Adds image seen (unless_zero (namer_of by) 152 (TreeRoot SnapMetadata) ByBlock volume.now.snaps_root) [] out.old out.new) }
+    ensures longer { OnOk result (length out.old.namings ≤ length out.new.namings) }
 {
+    let oid = volume.snaps_root;
     if oid == 0 {
-        let _size = src.size();
         return Ok(());
     }
     let root = Named {
@@ -97,10 +83,8 @@ fn add_live_metadata<S: BlockSource>(
         how: By::Block,
         oid,
     };
-    match add_metadata(alloc, src, cp, root, out) {
-        Ok(()) => Ok(()),
-        Err(stop) => Err(stop),
-    }
+    add_nodes(Tree::Metadata, root, &volume.snaps_steps, out)?;
+    Ok(())
 }
 
 // The record of the container's map by which the volume of a slot is found.
@@ -148,25 +132,19 @@ fn add_named<S: BlockSource>(
     ensures kept { IsKept S.bytes S.bytes_len S.faults src.old src.new }
 {
     let map = volume.omap.block();
-    let omap = Named {
+    let naming = Named {
         by,
         at: 128,
         expects: Expects::VolumeMap,
         how: By::Block,
         oid: map,
     };
-    match add_map(alloc, src, cp, omap, out) {
-        Ok(_) => (),
-        Err(stop) => return Err(stop),
-    }
+    add_map(naming, &volume.omap, out)?;
     match add_live_extents(alloc, src, cp, by, volume.extents_root, out) {
         Ok(()) => (),
         Err(stop) => return Err(stop),
     }
-    match add_live_metadata(alloc, src, cp, by, volume.snaps_root, out) {
-        Ok(()) => (),
-        Err(stop) => return Err(stop),
-    }
+    add_live_metadata(volume, by, out)?;
     match add_snapshots(alloc, src, cp, volume, map, out) {
         Ok(()) => Ok(()),
         Err(stop) => Err(stop),
@@ -174,25 +152,25 @@ fn add_named<S: BlockSource>(
 }
 
 /// Adds a volume, by a record of the container's map, with all that its superblock names but what its views do, which is left to
-/// the rest. `records` are those of the container's map.
+/// the rest. `omap` is the container's map.
 pub fn add_volume<S: BlockSource>(
     alloc: Global,
     src: &mut S,
     cp: &Checkpoint,
     volume: &Volume,
-    records: &[OmapRecord],
+    omap: &Omap,
     out: &mut Gathered,
 ) -> Result<(), Stop<ReachFault>>
     requires site { IsSiteFor (site_of cp.now) (S.bytes_len src.old) }
-    ensures clear { (image : List ℕ) → S.bytes src.old ≡ Some image → records.now ≡ map_records image (site_of cp.now) (omap_oid_of cp.now.nx) → (part : IsVolumePart image cp.now volume.now.head volume.now) → OnOk result (Adds image cp.now (head_naming volume.now.head ∷ []) (volume_views cp.now (volume_namer cp.now part.mapping) volume.now) out.old out.new) }
-    ensures present { (image : List ℕ) → S.bytes src.old ≡ Some image → records.now ≡ map_records image (site_of cp.now) (omap_oid_of cp.now.nx) → IsVolumePart image cp.now volume.now.head volume.now → IsLive image cp.now (head_naming volume.now.head) → IfErr result (Tells (IsReachedFault image cp.now) (HasFeature image cp.now)) }
+    ensures clear { (image : List ℕ) → S.bytes src.old ≡ Some image → omap.now.records ≡ map_records image (site_of cp.now) (omap_oid_of cp.now.nx) → (part : IsVolumePart image cp.now volume.now.head volume.now) → OnOk result (Adds image cp.now (head_naming volume.now.head ∷ []) (volume_views cp.now (volume_namer cp.now part.mapping) volume.now) out.old out.new) }
+    ensures present { (image : List ℕ) → S.bytes src.old ≡ Some image → omap.now.records ≡ map_records image (site_of cp.now) (omap_oid_of cp.now.nx) → IsVolumePart image cp.now volume.now.head volume.now → IsLive image cp.now (head_naming volume.now.head) → IfErr result (Tells (IsReachedFault image cp.now) (HasFeature image cp.now)) }
     ensures reads { (image : List ℕ) → S.bytes src.old ≡ Some image → OnOk result (S.reads src.new + length out.old.namings ≤ S.reads src.old + length out.new.namings) }
     ensures cause { IsErrOf result ReadFault → Rose (S.faults src.old) (S.faults src.new) }
     ensures kept { IsKept S.bytes S.bytes_len S.faults src.old src.new }
 {
     let _size = src.size();
     let map = cp.nx().omap_oid();
-    let found = match resolve(records, volume.head.oid, cp.xid()) {
+    let found = match omap.record(volume.head.oid, cp.xid()) {
         Some(found) => found,
         None => {
             return Err(Stop::Found(ReachFault::Unnamed {
@@ -210,26 +188,26 @@ pub fn add_volume<S: BlockSource>(
     }
 }
 
-/// Adds volumes, each with all that its superblock names but what its views do, which is left to the rest. `records` are those of
-/// the container's map.
+/// Adds volumes, each with all that its superblock names but what its views do, which is left to the rest. `omap` is the
+/// container's map.
 pub fn add_volumes<S: BlockSource>(
     alloc: Global,
     src: &mut S,
     cp: &Checkpoint,
     volumes: &[Volume],
-    records: &[OmapRecord],
+    omap: &Omap,
     out: &mut Gathered,
 ) -> Result<(), Stop<ReachFault>>
     requires site { IsSiteFor (site_of cp.now) (S.bytes_len src.old) }
-    ensures clear { (image : List ℕ) (namer : Loaded → Namer) → S.bytes src.old ≡ Some image → records.now ≡ map_records image (site_of cp.now) (omap_oid_of cp.now.nx) → AreNamedParts image cp.now namer volumes.now → OnOk result (Adds image cp.now (slots_namings volumes.now) (loaded_views cp.now namer volumes.now) out.old out.new) }
-    ensures present { (image : List ℕ) (namer : Loaded → Namer) → S.bytes src.old ≡ Some image → records.now ≡ map_records image (site_of cp.now) (omap_oid_of cp.now.nx) → AreNamedParts image cp.now namer volumes.now → AreLive image cp.now (slots_namings volumes.now) → IfErr result (Tells (IsReachedFault image cp.now) (HasFeature image cp.now)) }
+    ensures clear { (image : List ℕ) (namer : Loaded → Namer) → S.bytes src.old ≡ Some image → omap.now.records ≡ map_records image (site_of cp.now) (omap_oid_of cp.now.nx) → AreNamedParts image cp.now namer volumes.now → OnOk result (Adds image cp.now (slots_namings volumes.now) (loaded_views cp.now namer volumes.now) out.old out.new) }
+    ensures present { (image : List ℕ) (namer : Loaded → Namer) → S.bytes src.old ≡ Some image → omap.now.records ≡ map_records image (site_of cp.now) (omap_oid_of cp.now.nx) → AreNamedParts image cp.now namer volumes.now → AreLive image cp.now (slots_namings volumes.now) → IfErr result (Tells (IsReachedFault image cp.now) (HasFeature image cp.now)) }
     ensures reads { (image : List ℕ) → S.bytes src.old ≡ Some image → OnOk result (S.reads src.new + length out.old.namings ≤ S.reads src.old + length out.new.namings) }
     ensures cause { IsErrOf result ReadFault → Rose (S.faults src.old) (S.faults src.new) }
     ensures kept { IsKept S.bytes S.bytes_len S.faults src.old src.new }
 {
     let _size = src.size();
     for volume in volumes {
-        match add_volume(alloc, src, cp, volume, records, out) {
+        match add_volume(alloc, src, cp, volume, omap, out) {
             Ok(()) => (),
             Err(stop) => return Err(stop),
         }

@@ -6,6 +6,8 @@ use Rattle.bt_node.specs.declared.fault.NodeFault.TheVariants.{Head}
 use Rattle.bt_cursor.specs.declared.fault.WalkFault.{WalkFault}
 use Rattle.bt_cursor.specs.declared.fault.WalkFault.TheVariants as walks
 use Rattle.nx_ring.specs.Checkpoint.{Seen}
+use Rattle.omap_map.specs.declared.fault.OmapFault.{OmapFault}
+use Rattle.omap_map.specs.declared.fault.OmapFault.TheVariants as omaps
 use Rattle.space_map.specs.declared.fault.SpaceFault.{SpaceFault}
 use Rattle.space_map.specs.declared.fault.SpaceFault.TheVariants as spaces
 use Rattle.space_pool.specs.declared.fault.PoolFault.{PoolFault}
@@ -47,3 +49,8 @@ of_pool seen (pools.Value root item) = Value root item
 abbrev pub of_extents : Seen → ℕ → ExtStop → ReachFault
 of_extents seen root (exts.Walk why) = of_walk Physical seen.line.xid root why
 of_extents seen root (exts.Value item) = Value root item
+
+-- a fault of an object map
+abbrev pub of_map : Seen → OmapFault → ReachFault
+of_map seen (omaps.Head block why) = Unsound block (Node (Head why))
+of_map seen (omaps.Tree root why) = of_walk Physical seen.line.xid root why

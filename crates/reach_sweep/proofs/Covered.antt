@@ -4,7 +4,7 @@ use Rattle.apfs_model.specs.Lists.{In}
 use Rattle.obj_base.specs.declared.stop.Within.{Within}
 use Rattle.obj_base.specs.declared.stop.Within.TheVariants.{Physical, Ephemeral, Container, Volume}
 use Rattle.nx_ring.specs.Checkpoint.{Seen, site_of}
-use Rattle.omap_map.specs.Maps.{map_records}
+use Rattle.omap_map.specs.Maps.{Contents, map_records}
 use Rattle.omap_map.specs.Records.{is_deleted}
 use Rattle.omap_map.specs.declared.records.OmapRecord.{OmapRecord}
 use Rattle.vol_view.specs.declared.head.VolHead.{VolHead}
@@ -47,7 +47,7 @@ known-volume image seen heads maps p l slot map g =
       of = k.listed.of;
       one = k.listed.one;
       map_is = k.listed.map_is ∙ at;
-      records_are = k.listed.records_are ∙ (part.records ∙ ap (map_records image (site_of seen)) at);
+      records_are = k.listed.records_are ∙ (ap (λ (m : Contents). m.records) part.contents ∙ ap (map_records image (site_of seen)) at);
     }
 
 known : (image : List ℕ) (seen : Seen) (heads : List VolHead) (maps : List MapRecords) → HasParts image seen heads → AreListed image seen heads maps → (within : Within) (map : ℕ) → IsMapOf image seen within map → IsKnown image seen maps map

@@ -1,5 +1,5 @@
 -- The first owners, and what the volumes need so that they are added, told of the heads.
-use Rattle.std.proofs.Common.{◌≡◌, ℕ, Bool, true, false, cond, List, [], ◌∷◌, ◌++◌, map, inl, inr, refl, ap, sym, ◌∙◌, subst}
+use Rattle.std.proofs.Common.{◌≡◌, ℕ, Bool, true, false, cond, List, [], ◌∷◌, ◌++◌, map, refl, ap, sym, ◌∙◌, subst}
 use Rattle.std.specs.Prelude.{not, ◌==◌, if◌then◌else◌}
 use Rattle.std.proofs.lemmas.List.Elements.{filter-append}
 use Rattle.apfs_model.specs.Lists.{In}
@@ -10,11 +10,9 @@ use Rattle.vol_view.specs.Volumes.{Loaded}
 use Rattle.vol_view.specs.declared.head.VolHead.{VolHead}
 use Rattle.reach_rules.specs.Naming.{Namer, Naming}
 use Rattle.reach_rules.specs.Next.{roots}
-use Rattle.reach_rules.specs.Live.{IsLive, rooted}
 use Rattle.reach_rules.specs.Owners.{Who, BlockZero, Descriptors, Checkpoints, KeyLocker, MediaLocker, Owner, owner, owner_of, first_owners}
 use Rattle.tree_namings.specs.Container.{manager_naming, container_map_naming, reaper_naming, jumpstart_naming}
 use Rattle.tree_namings.specs.Volumes.Told.{head_naming}
-use Rattle.tree_namings.specs.Volumes.Parts.{container_map}
 use Rattle.tree_namings.specs.Volumes.Laws.{HasParts}
 use Rattle.reach_gather.specs.Held.{Held, some_owners}
 use Rattle.reach_gather.specs.Adds.{Adds, AreLive}
@@ -65,12 +63,6 @@ first-told nx old a b c d e p q r s t =
     (some-more (block_zero ∷ descriptors ∷ checkpoints ∷ []) keys old c d
     (some-more (block_zero ∷ descriptors ∷ []) checkpoints old b c
     (some-more (block_zero ∷ []) descriptors old a b p q) r) s) t
-
--- ---- the container's map
--- its naming is live
-pub map-live : (image : List ℕ) (seen : Seen) → IsLive image seen (container_map seen)
-unfolding roots
-map-live image seen = rooted (container_map seen) (inr (inl refl))
 
 -- ---- volumes
 slots-are : (volumes : List Loaded) → map head_naming (map head_of volumes) ≡ slots_namings volumes

@@ -1,12 +1,12 @@
 -- The maps whose records are looked at are sound ones of the container.
-use Rattle.std.proofs.Common.{◌≡◌, ℕ, true, List, inl, inr, refl, sym, ◌∙◌, subst}
+use Rattle.std.proofs.Common.{◌≡◌, ℕ, true, List, inl, inr, refl, ap, sym, ◌∙◌, subst}
 use Rattle.apfs_model.specs.Lists.{In}
 use Rattle.apfs_model.proofs.BoolTests.{left-true}
 use Rattle.apfs_model.proofs.Searches.{in-map}
 use Rattle.obj_base.specs.declared.site.Site.{Site}
 use Rattle.obj_base.specs.declared.stop.Within.{Within}
 use Rattle.nx_ring.specs.Checkpoint.{Seen, site_of}
-use Rattle.omap_map.specs.Maps.{map_records, is_map_object, is_whole_map}
+use Rattle.omap_map.specs.Maps.{Contents, map_records, is_map_object, is_whole_map}
 use Rattle.omap_map.specs.declared.records.OmapRecord.{OmapRecord}
 use Rattle.vol_view.specs.Volumes.{Loaded}
 use Rattle.vol_view.specs.declared.head.VolHead.{VolHead}
@@ -47,7 +47,7 @@ volume-map image seen heads volumes namer m p v c =
     right-map image seen m _ _ c.within_is c.map_is (record {
       of = part.gives;
       sound = whole-object image (site_of seen) _ part.map.whole;
-      records_are = c.records_are ∙ part.records;
+      records_are = c.records_are ∙ ap (λ (m : Contents). m.records) part.contents;
     })
 
 pub maps-by : (image : List ℕ) (seen : Seen) → AreMapsBy image seen

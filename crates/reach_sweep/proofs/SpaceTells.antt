@@ -1,21 +1,27 @@
--- What is told of the space and of the pool's bits is there, said of what is reached.
-use Rattle.std.proofs.Common.{ℕ, List}
-use Rattle.obj_base.specs.Stops.{Tells, NoFeature, raised}
+-- What is told of the space, of the pool's bits and of the container's object map is there, said of what is reached.
+use Rattle.std.proofs.Common.{◌≡◌, ℕ, Bool, true, false, List, Some, None, ap, sym, ◌∙◌}
+use Rattle.std.specs.Prelude.{is_some, ◌&&◌, nat_lt, if◌then◌else◌}
+use Rattle.apfs_model.specs.Blocks.{in_container}
+use Rattle.obj_base.specs.Stops.{Tells, NoFeature, IsFree, raised}
 use Rattle.obj_base.specs.declared.stop.Stop.{Stop}
 use Rattle.obj_base.specs.declared.stop.Stop.TheVariants.{Found, Unsupported, ReadFault, NoMemory}
-use Rattle.nx_ring.specs.Checkpoint.{Seen}
+use Rattle.nx_block.specs.Super.{omap_oid_of}
+use Rattle.nx_ring.specs.Checkpoint.{Seen, site_of}
+use Rattle.omap_map.specs.declared.fault.OmapFault.{OmapFault}
+use Rattle.omap_map.proofs.Loads.{whole-object, object-inside}
 use Rattle.space_map.specs.Stops.{HasManager, IsSpaceFault, IsSpaceFeature}
 use Rattle.space_map.specs.declared.fault.SpaceFault.{SpaceFault}
 use Rattle.space_map.specs.declared.fault.SpaceFault.TheVariants as spaces
 use Rattle.space_pool.specs.Stops.{IsPoolFault}
 use Rattle.space_pool.specs.declared.fault.PoolFault.{PoolFault}
 use Rattle.space_pool.specs.declared.fault.PoolFault.TheVariants as pools
-use Rattle.reach_rules.specs.Raised.{of_space, of_pool}
+use Rattle.reach_rules.specs.Raised.{of_space, of_pool, of_map}
 use Rattle.reach_rules.specs.Faults.{Present}
 use Rattle.reach_rules.specs.Features.{HasFeature}
 use Rattle.reach_rules.specs.Reached.{IsReachedFault}
 use Rattle.reach_rules.proofs.SpaceLifted.{space-present, space-feature}
 use Rattle.reach_rules.proofs.QueuesLifted.{pool-present}
+use Rattle.tree_namings.specs.Volumes.Parts.{IsMapPart, container_map}
 
 space-reached : (image : List ℕ) (seen : Seen) (fault : SpaceFault) → Present image seen (of_space seen fault) → IsReachedFault image seen (of_space seen fault)
 space-reached image seen (spaces.Unnamed within oid) p = p
@@ -47,3 +53,20 @@ pool-tells image seen manager block h (Found fault) t = pool-reached image seen 
 pool-tells image seen manager block h (Unsupported feature at) t = absurd t
 pool-tells image seen manager block h ReadFault t = t
 pool-tells image seen manager block h NoMemory t = t
+
+-- ---- the container's object map
+-- one that is right lies in a block of the container
+pub never-lost : (image : List ℕ) (seen : Seen) → IsMapPart image seen (container_map seen) → (nat_lt 0 (omap_oid_of seen.nx) && nat_lt (omap_oid_of seen.nx) (site_of seen).blocks) ≡ false → ⊥
+never-lost image seen part lost =
+    let oid : ℕ = omap_oid_of seen.nx in
+    let some : is_some (in_container (site_of seen).blocks oid) ≡ true = object-inside image (site_of seen) oid (whole-object image (site_of seen) oid part.whole) in
+    let none : is_some (in_container (site_of seen).blocks oid) ≡ false = ap (λ (b : Bool). is_some (if b then Some oid else None)) lost in
+    let z : false ≡ true = sym none ∙ some in
+    let q : ⊥ = cc in q
+
+-- and nothing but the source and the memory stops its load
+pub free-tells : (image : List ℕ) (seen : Seen) (stop : Stop OmapFault) → IsFree stop → Tells (IsReachedFault image seen) (HasFeature image seen) (raised (of_map seen) stop)
+free-tells image seen (Found fault) free = absurd free
+free-tells image seen (Unsupported feature block) free = absurd free
+free-tells image seen ReadFault free = tt
+free-tells image seen NoMemory free = tt

@@ -1,5 +1,5 @@
 // Whether the records of all object maps are used.
-ghost use Rattle.std.specs.Prelude.{◌≡◌, ◌++◌, ℕ, List, [], ◌∷◌, map, OnOk, IfOk, IfErr, IsErrOf};
+ghost use Rattle.std.specs.Prelude.{◌≡◌, ◌++◌, ℕ, List, map, OnOk, IfOk, IfErr, IsErrOf};
 ghost use Rattle.obj_base.specs.Stops.{Tells, NoFeature};
 ghost use Rattle.obj_base.specs.declared.stop.Stop.TheVariants.{ReadFault, NoMemory};
 ghost use Rattle.reach_rules.specs.Features.{HasFeature};

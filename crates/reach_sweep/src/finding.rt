@@ -15,18 +15,17 @@ ghost use Rattle.reach_sweep.specs.Views.{AreVolumes};
 
 use nx_ring::Checkpoint;
 use obj_base::Stop;
-use omap_map::OmapRecord;
-use reach_gather::resolve;
+use omap_map::Omap;
 use reach_rules::ReachFault;
 use std::alloc::Global;
 use view_sweep::Used;
 use vol_view::Volume;
 
 // The record by which a volume is found, as one that is used.
-fn record_of(cp: &Checkpoint, volume: &Volume, records: &[OmapRecord]) -> Option<Used>
-    ensures { result ≡ found_of cp.now records.now volume.now }
+fn record_of(cp: &Checkpoint, volume: &Volume, omap: &Omap) -> Option<Used>
+    ensures { result ≡ found_of cp.now omap.now.records volume.now }
 {
-    match resolve(records, volume.head.oid, cp.xid()) {
+    match omap.record(volume.head.oid, cp.xid()) {
         Some(mapping) => Some(Used {
             map: cp.nx().omap_oid(),
             mapping,
@@ -39,33 +38,33 @@ fn record_of(cp: &Checkpoint, volume: &Volume, records: &[OmapRecord]) -> Option
 fn add_found(
     cp: &Checkpoint,
     volume: &Volume,
-    records: &[OmapRecord],
+    omap: &Omap,
     out: &mut Vec<Used>,
 ) -> Result<(), Stop<ReachFault>>
-    ensures added { OnOk result (out.new.items ≡ out.old.items ++ filter_map (found_of cp.now records.now) (volume.now ∷ [])) }
+    ensures added { OnOk result (out.new.items ≡ out.old.items ++ filter_map (found_of cp.now omap.now.records) (volume.now ∷ [])) }
     ensures memory_only { IfErr result (λ stop. stop ≡ NoMemory) }
 {
-    let Some(one) = record_of(cp, volume, records) else {
+    let Some(one) = record_of(cp, volume, omap) else {
         return Ok(());
     };
     out.push(one)?;
     Ok(())
 }
 
-/// The records of the container's object map by which some volumes are found. `records` are all of that map.
+/// The records of the container's object map by which some volumes are found. `omap` is that map.
 pub(crate) fn head_records(
     alloc: Global,
     cp: &Checkpoint,
     volumes: &[Volume],
-    records: &[OmapRecord],
+    omap: &Omap,
 ) -> Result<Vec<Used>, Stop<ReachFault>>
-    ensures found { (image : List ℕ) (heads : List VolHead) (namer : Loaded → Namer) → HasParts image cp.now heads → records.now ≡ map_records image (site_of cp.now) (omap_oid_of cp.now.nx) → AreVolumes image cp.now heads volumes.now namer → IfOk result (λ found. AreHeadRecords image cp.now heads (records_used found.items)) }
+    ensures found { (image : List ℕ) (heads : List VolHead) (namer : Loaded → Namer) → HasParts image cp.now heads → omap.now.records ≡ map_records image (site_of cp.now) (omap_oid_of cp.now.nx) → AreVolumes image cp.now heads volumes.now namer → IfOk result (λ found. AreHeadRecords image cp.now heads (records_used found.items)) }
     ensures memory_only { IfErr result (λ stop. stop ≡ NoMemory) }
 {
     let mut found = Vec::new(alloc);
     for i in 0..volumes.len() {
         let volume = &volumes[i];
-        match add_found(cp, volume, records, &mut found) {
+        match add_found(cp, volume, omap, &mut found) {
             Ok(()) => (),
             Err(stop) => return Err(stop),
         }

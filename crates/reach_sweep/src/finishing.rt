@@ -1,5 +1,5 @@
 // What is told of all that was gathered.
-ghost use Rattle.std.specs.Prelude.{◌≡◌, ◌++◌, ◌+◌, ◌^◌, ◌<◌, List, map, length, OnOk, IfOk, IfErr};
+ghost use Rattle.std.specs.Prelude.{◌≡◌, ◌++◌, ◌+◌, ◌^◌, ◌<◌, map, length, OnOk, IfOk, IfErr};
 ghost use Rattle.obj_base.specs.declared.stop.Stop.TheVariants.{NoMemory};
 ghost use Rattle.own_settle.specs.Kept.{HasPool};
 ghost use Rattle.reach_gather.specs.Finished.{mapping_as};

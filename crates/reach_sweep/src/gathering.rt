@@ -25,10 +25,11 @@ ghost use Rattle.reach_gather.specs.Pooled.{ArePooled};
 ghost use Rattle.reach_sweep.specs.Views.{AreVolumes, volumes_views};
 ghost use Rattle.reach_sweep.specs.Composed.{IsStart};
 
+use crate::loading::load_map;
 use blk_source::{BlockSource, NoMemory as OutOfMemory};
 use nx_ring::Checkpoint;
 use obj_base::Stop;
-use omap_map::OmapRecord;
+use omap_map::Omap;
 use reach_gather::{
     By, Expects, Gathered, Named, NamedBy, Owned, OwnedBy, add_jumpstart, add_map, add_reaper,
     add_space, add_volumes,
@@ -85,36 +86,38 @@ pub(crate) fn started(alloc: Global, cp: &Checkpoint) -> Result<Gathered, Stop<R
     Ok(out)
 }
 
-// Adds the container's object map, and gives its records.
+// Adds the container's object map, and gives it.
 fn add_container_map<S: BlockSource>(
     alloc: Global,
     src: &mut S,
     cp: &Checkpoint,
     out: &mut Gathered,
-) -> Result<Vec<OmapRecord>, Stop<ReachFault>>
+) -> Result<Omap, Stop<ReachFault>>
     requires site { IsSiteFor (site_of cp.now) (S.bytes_len src.old) }
     ensures clear { (image : List ℕ) → S.bytes src.old ≡ Some image → IsMapPart image cp.now (container_map cp.now) → OnOk result (Adds image cp.now (container_map_naming cp.now.nx ∷ []) [] out.old out.new) }
-    ensures records { (image : List ℕ) → S.bytes src.old ≡ Some image → IfOk result (λ records. records.items ≡ map_records image (site_of cp.now) (omap_oid_of cp.now.nx)) }
+    ensures records { (image : List ℕ) → S.bytes src.old ≡ Some image → IfOk result (λ omap. omap.records ≡ map_records image (site_of cp.now) (omap_oid_of cp.now.nx)) }
     ensures reads { (image : List ℕ) → S.bytes src.old ≡ Some image → OnOk result (S.reads src.new + length out.old.namings ≤ S.reads src.old + length out.new.namings) }
     ensures present { (image : List ℕ) → S.bytes src.old ≡ Some image → IsMapPart image cp.now (container_map cp.now) → IfErr result (Tells (IsReachedFault image cp.now) (HasFeature image cp.now)) }
     ensures cause { IsErrOf result ReadFault → Rose (S.faults src.old) (S.faults src.new) }
     ensures kept { IsKept S.bytes S.bytes_len S.faults src.old src.new }
 {
-    let map = Named {
+    let omap = match load_map(alloc, src, cp) {
+        Ok(omap) => omap,
+        Err(stop) => return Err(stop),
+    };
+    let naming = Named {
         by: NamedBy::Newest,
         at: 160,
         expects: Expects::ContainerMap,
         how: By::Block,
         oid: cp.nx().omap_oid(),
     };
-    match add_map(alloc, src, cp, map, out) {
-        Ok(records) => Ok(records),
-        Err(stop) => Err(stop),
-    }
+    add_map(naming, &omap, out)?;
+    Ok(omap)
 }
 
-/// Adds all that the roots lead to, but for what the views of the volumes name. What is answered is the records of the container's
-/// object map.
+/// Adds all that the roots lead to, but for what the views of the volumes name. What is answered is the container's object
+/// map.
 pub(crate) fn add_parts<S: BlockSource>(
     alloc: Global,
     src: &mut S,
@@ -122,10 +125,10 @@ pub(crate) fn add_parts<S: BlockSource>(
     space: &Space,
     volumes: &[Volume],
     out: &mut Gathered,
-) -> Result<Vec<OmapRecord>, Stop<ReachFault>>
+) -> Result<Omap, Stop<ReachFault>>
     requires site { IsSiteFor (site_of cp.now) (S.bytes_len src.old) }
     ensures clear { (image : List ℕ) (heads : List VolHead) (namer : Loaded → Namer) → S.bytes src.old ≡ Some image → HasParts image cp.now heads → AreVolumes image cp.now heads volumes.now namer → IsSpaceOf image cp.now space.now → OnOk result (Adds image cp.now (roots cp.now.nx) (volumes_views cp.now namer volumes.now) out.old out.new) }
-    ensures records { (image : List ℕ) → S.bytes src.old ≡ Some image → IfOk result (λ records. records.items ≡ map_records image (site_of cp.now) (omap_oid_of cp.now.nx)) }
+    ensures records { (image : List ℕ) → S.bytes src.old ≡ Some image → IfOk result (λ omap. omap.records ≡ map_records image (site_of cp.now) (omap_oid_of cp.now.nx)) }
     ensures queued { (image : List ℕ) → S.bytes src.old ≡ Some image → OnOk result (ArePooled image cp.now space.now.manager) }
     ensures reads { (image : List ℕ) → S.bytes src.old ≡ Some image → IsSpaceOf image cp.now space.now → OnOk result (S.reads src.new + (length space.now.cabs + length space.now.cibs) + length out.old.namings ≤ S.reads src.old + length out.new.namings) }
     ensures present { (image : List ℕ) (heads : List VolHead) (namer : Loaded → Namer) → S.bytes src.old ≡ Some image → HasParts image cp.now heads → AreVolumes image cp.now heads volumes.now namer → IsSpaceOf image cp.now space.now → IfErr result (Tells (IsReachedFault image cp.now) (HasFeature image cp.now)) }
@@ -136,8 +139,8 @@ pub(crate) fn add_parts<S: BlockSource>(
         Ok(()) => (),
         Err(stop) => return Err(stop),
     }
-    let records = match add_container_map(alloc, src, cp, out) {
-        Ok(records) => records,
+    let omap = match add_container_map(alloc, src, cp, out) {
+        Ok(omap) => omap,
         Err(stop) => return Err(stop),
     };
     match add_reaper(alloc, cp, out) {
@@ -148,8 +151,8 @@ pub(crate) fn add_parts<S: BlockSource>(
         Ok(()) => (),
         Err(stop) => return Err(stop),
     }
-    match add_volumes(alloc, src, cp, volumes, records.as_slice(), out) {
-        Ok(()) => Ok(records),
+    match add_volumes(alloc, src, cp, volumes, &omap, out) {
+        Ok(()) => Ok(omap),
         Err(stop) => Err(stop),
     }
 }

@@ -1,28 +1,31 @@
-// The space of a container, and the bits of its pool.
-ghost use Rattle.std.specs.Prelude.{◌≡◌, ◌≤◌, ◌+◌, ◌*◌, ℕ, List, Some, true, length, OnOk, IfOk, IfErr, IsErrOf};
+// The space of a container, the bits of its pool, and its object map.
+ghost use Rattle.std.specs.Prelude.{◌≡◌, ◌≤◌, ◌+◌, ℕ, List, Some, length, OnOk, IfOk, IfErr, IsErrOf};
 ghost use Rattle.apfs_model.specs.Counts.{Rose};
 ghost use Rattle.apfs_model.specs.Kept.{IsKept};
 ghost use Rattle.obj_base.specs.Site.{IsSiteFor};
 ghost use Rattle.obj_base.specs.Stops.{Tells, raised};
 ghost use Rattle.obj_base.specs.declared.stop.Stop.TheVariants.{ReadFault};
-ghost use Rattle.obj_base.specs.declared.stop.Within.TheVariants.{Ephemeral};
+ghost use Rattle.nx_block.specs.Super.{omap_oid_of};
 ghost use Rattle.nx_ring.specs.Checkpoint.{site_of};
+ghost use Rattle.omap_map.specs.Loading.{map_nodes, IsLoaded};
 ghost use Rattle.space_map.specs.Fields.{pool_bitmap_blocks_of};
 ghost use Rattle.space_map.specs.Stops.{IsSpaceOf};
 ghost use Rattle.space_pool.specs.Stops.{ArePoolBits};
 ghost use Rattle.own_settle.specs.Kept.{HasPool};
-ghost use Rattle.reach_rules.specs.Raised.{of_space, of_pool, of_walk};
+ghost use Rattle.reach_rules.specs.Raised.{of_space, of_map};
 ghost use Rattle.reach_rules.specs.Features.{HasFeature};
 ghost use Rattle.reach_rules.specs.Reached.{IsReachedFault};
+ghost use Rattle.tree_namings.specs.Volumes.Parts.{IsMapPart, container_map};
 
 use blk_source::BlockSource;
-use bt_cursor::WalkFault;
 use bt_node::NodeFault;
 use nx_ring::Checkpoint;
 use obj_base::{Stop, Within};
+use omap_map::{Omap, OmapFault};
+use reach_gather::{raise_pool, walk_fault};
 use reach_rules::{ReachFault, Why};
 use space_map::{Space, SpaceFault};
-use space_pool::{PoolFault, pool_bits};
+use space_pool::pool_bits;
 use std::alloc::Global;
 
 // What is wrong with the space, said of the account.
@@ -75,53 +78,57 @@ pub(crate) fn load_space<S: BlockSource>(
     }
 }
 
-// A fault of the pool's bitmap, said of the account.
-fn pool_fault(cp: &Checkpoint, fault: PoolFault) -> ReachFault
-    ensures { result ≡ of_pool cp.now fault }
+// What is wrong with the container's object map, said of the account.
+fn map_fault(cp: &Checkpoint, fault: OmapFault) -> ReachFault
+    ensures { result ≡ of_map cp.now fault }
 {
     match fault {
-        PoolFault::Unnamed { oid } => ReachFault::Unnamed {
-            within: Within::Ephemeral,
-            oid,
-            xid: cp.xid(),
-        },
-        PoolFault::Walk { root, why } => walk_fault(cp, root, why),
-        PoolFault::Value { root, item } => ReachFault::Value { root, item },
-        other => ReachFault::Pool(other),
-    }
-}
-
-// A fault of the tree of a free queue by its root, said of the account.
-fn walk_fault(cp: &Checkpoint, root: u64, why: WalkFault) -> ReachFault
-    ensures { result ≡ of_walk Ephemeral cp.now.line.xid root why }
-{
-    match why {
-        WalkFault::Unsound { block, why } => ReachFault::Unsound {
+        OmapFault::Head { block, why } => ReachFault::Unsound {
             block,
-            why: Why::Node(why),
+            why: Why::Node(NodeFault::Head(why)),
         },
-        WalkFault::Unnamed { oid } => ReachFault::Unnamed {
-            within: Within::Ephemeral,
-            oid,
-            xid: cp.xid(),
-        },
-        WalkFault::Order { item } => ReachFault::Tree {
-            root,
-            item: Some(item),
-        },
-        WalkFault::Counts => ReachFault::Tree { root, item: None },
+        OmapFault::Tree { root, why } => walk_fault(cp, Within::Physical, root, why),
     }
 }
 
-// Why a reading of the pool's bits stopped, said of the account.
-fn raise_pool(cp: &Checkpoint, stop: Stop<PoolFault>) -> Stop<ReachFault>
-    ensures { result ≡ raised (of_pool cp.now) stop }
+// Why a load of the container's object map stopped, said of the account.
+fn raise_map(cp: &Checkpoint, stop: Stop<OmapFault>) -> Stop<ReachFault>
+    ensures { result ≡ raised (of_map cp.now) stop }
 {
     match stop {
-        Stop::Found(fault) => Stop::Found(pool_fault(cp, fault)),
+        Stop::Found(fault) => Stop::Found(map_fault(cp, fault)),
         Stop::Unsupported { feature, block } => Stop::Unsupported { feature, block },
         Stop::ReadFault => Stop::ReadFault,
         Stop::NoMemory => Stop::NoMemory,
+    }
+}
+
+/// The object map of a checkpoint's container, which is right (`IsMapPart`).
+pub(crate) fn load_map<S: BlockSource>(
+    alloc: Global,
+    src: &mut S,
+    cp: &Checkpoint,
+) -> Result<Omap, Stop<ReachFault>>
+    requires site { IsSiteFor (site_of cp.now) (S.bytes_len src.old) }
+    ensures clear { (image : List ℕ) → S.bytes src.old ≡ Some image → IfOk result (IsLoaded image (site_of cp.now) (omap_oid_of cp.now.nx)) }
+    ensures present { (image : List ℕ) → S.bytes src.old ≡ Some image → IsMapPart image cp.now (container_map cp.now) → IfErr result (Tells (IsReachedFault image cp.now) (HasFeature image cp.now)) }
+    ensures reads { (image : List ℕ) → S.bytes src.old ≡ Some image → OnOk result (S.reads src.new ≤ S.reads src.old + (1 + map_nodes image (site_of cp.now) (omap_oid_of cp.now.nx))) }
+    ensures cause { IsErrOf result ReadFault → Rose (S.faults src.old) (S.faults src.new) }
+    ensures kept { IsKept S.bytes S.bytes_len S.faults src.old src.new }
+{
+    let block = cp.nx().omap_oid();
+    let site = cp.site();
+    if !site.has_block(block) {
+        let _size = src.size();
+        return Err(Stop::Found(ReachFault::Unnamed {
+            within: Within::Physical,
+            oid: block,
+            xid: cp.xid(),
+        }));
+    }
+    match Omap::load(alloc, src, block, &site) {
+        Ok(omap) => Ok(omap),
+        Err(stop) => Err(raise_map(cp, stop)),
     }
 }
 

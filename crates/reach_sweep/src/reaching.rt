@@ -68,8 +68,8 @@ pub fn reached<S: BlockSource>(
         Err(stop) => return Err(stop),
     };
     let mut parts = started(alloc, cp)?;
-    let records = match add_parts(alloc, src, cp, &space, volumes, &mut parts) {
-        Ok(records) => records,
+    let omap = match add_parts(alloc, src, cp, &space, volumes, &mut parts) {
+        Ok(omap) => omap,
         Err(stop) => return Err(stop),
     };
     match parts.once(alloc, cp) {
@@ -83,11 +83,11 @@ pub fn reached<S: BlockSource>(
         Ok(used) => used,
         Err(stop) => return Err(stop),
     };
-    let found = match head_records(alloc, cp, volumes, &records) {
+    let found = match head_records(alloc, cp, volumes, &omap) {
         Ok(found) => found,
         Err(stop) => return Err(stop),
     };
-    match check_used(alloc, cp, volumes, &records, &found, &used) {
+    match check_used(alloc, cp, volumes, omap.records(), &found, &used) {
         Ok(()) => (),
         Err(stop) => return Err(stop),
     }

@@ -14,4 +14,3 @@ pub mod Account
 pub mod Ranges
 pub mod Gathered
 pub mod VolumeLemmas
-pub mod Physical

@@ -1,33 +1,23 @@
 -- The trees of each kind are walked as their nodes are named.
-use Rattle.std.proofs.Common.{◌≡◌, ℕ, true, List, Option, Some, None, Result, Err, is_ok, inl, refl, ap, sym, ◌∙◌, subst}
+use Rattle.std.proofs.Common.{◌≡◌, ℕ, true, List, Option, Some, None, refl, ap, sym, subst}
 use Rattle.std.specs.Prelude.{option_map, option_and_then, if◌then◌else◌}
 use Rattle.apfs_model.specs.Blocks.{in_container}
-use Rattle.apfs_model.proofs.BoolTests.{all-in, clash}
 use Rattle.bt_node.specs.Shape.{Shape}
-use Rattle.obj_base.specs.declared.stop.Stop.{Stop}
-use Rattle.obj_base.specs.declared.stop.Stop.TheVariants.{Found as Fails}
-use Rattle.obj_base.specs.declared.stop.Within.TheVariants.{Ephemeral}
-use Rattle.bt_cursor.specs.declared.fault.WalkFault.{WalkFault}
-use Rattle.bt_cursor.specs.declared.fault.WalkFault.TheVariants as walks
-use Rattle.bt_cursor.specs.Tree.{root_place, node_named}
-use Rattle.bt_cursor.specs.Met.{first, places_of, has_node}
 use Rattle.obj_base.specs.declared.site.Site.{Site}
 use Rattle.bt_keys.specs.Shapes.{omap_shape, omap_snap_shape, queue_shape, ext_shape, snap_shape}
 use Rattle.nx_ring.specs.Objects.{Place}
 use Rattle.nx_ring.specs.Checkpoint.{Seen, site_of, eph}
 use Rattle.space_pool.specs.declared.entry.Queue.{Queue}
-use Rattle.space_pool.specs.Queues.{one_block, ephemeral_named, queue_tree}
-use Rattle.reach_rules.specs.Naming.{ByBlock, ByMapping, InBlock, OfId, TreeKind, MapRecords, MapSnapshots, ExtentRefs, SnapMetadata, FreeQueue, Expected, TreeRoot, Naming}
-use Rattle.reach_rules.specs.Resolved.{Found, resolved, standing, found_physical, found_by, found_ephemeral, is_node, mapped, mapped_node}
+use Rattle.space_pool.specs.Queues.{one_block, ephemeral_named}
+use Rattle.reach_rules.specs.Naming.{ByBlock, ByMapping, InBlock, OfId, TreeKind, MapRecords, MapSnapshots, ExtentRefs, SnapMetadata, FreeQueue, Expected}
+use Rattle.reach_rules.specs.Resolved.{Found, standing, is_node, mapped, mapped_node}
 use Rattle.reach_rules.specs.Trees.{tree_line, misplaced, has_counts}
-use Rattle.reach_rules.specs.declared.fault.ReachFault.TheVariants.{Unnamed}
-use Rattle.reach_rules.specs.Reached.{IsReachedFault}
-use Rattle.reach_rules.proofs.Walks.{IsWalkOf, walk-present}
+use Rattle.reach_rules.proofs.Walks.{IsWalkOf}
 use Rattle.reach_rules.proofs.Looks.{records-walk, snapshots-walk, metadata-walk, extents-walk, standing-by}
 use Rattle.reach_rules.proofs.QueuesLifted.{queue-walk}
 use Rattle.tree_namings.specs.Laws.{NamingsOfSteps}
 use Rattle.tree_namings.specs.Namings.{tree_steps}
-use Rattle.tree_namings.specs.Walked.{has_all_nodes, IsWholeTree, IsNamedRoot}
+use Rattle.tree_namings.specs.Walked.{has_all_nodes}
 use Rattle.tree_namings.proofs.Law.{IsTreeOf, tree-lives}
 use Rattle.tree_namings.proofs.Walking.{IsKindOf}
 
@@ -91,42 +81,3 @@ extents-kind image seen = record { tree = physical-tree image seen ExtentRefs ex
 pub queue-kind : (image : List ℕ) (seen : Seen) (which : Queue) → IsKindOf image seen (FreeQueue which) ByMapping OfId queue_shape (ephemeral_named seen)
 unfolding tree_line misplaced has_counts has_all_nodes tree_steps
 queue-kind image seen which = record { tree = queue-tree image seen which; line = λ root. refl; order = λ root. refl; count = λ root. refl; nodes = λ root. refl; steps = λ root. refl }
-
--- a root that is found by its block stands in it
-pub block-at : (image : List ℕ) (seen : Seen) (kind : TreeKind) (root : ℕ) (n : Naming) (f : Found) → n.expected ≡ TreeRoot kind → n.how ≡ ByBlock → n.oid ≡ root → resolved image seen n ≡ Some f → f.block ≡ root
-unfolding resolved
-block-at image seen kind root n f e how oid found =
-    let by : found_physical image (site_of seen) n.oid ≡ Some f = subst (λ h. found_by image seen h n.expected n.oid ≡ Some f) how found in
-    ap (λ (x : Found). x.block) (standing-by image (site_of seen) n.oid f by) ∙ oid
-
--- what a mapping finds stands in the block that it names
-one-at : (image : List ℕ) (site : Site) (e : Expected) (oid block : ℕ) (o : Option Place) (f : Found) → is_node e ≡ true → option_and_then (one_block site) o ≡ Some block →
-    option_and_then (λ (place : Place). if is_node e then mapped_node image site oid place else mapped site oid place) o ≡ Some f → f.block ≡ block
-one-at image site e oid block None f node named h = absurd (let z : ◌≡◌ {A = Option Found} None (Some f) = h in let q : ⊥ = cc in q)
-one-at image site e oid block (Some place) f node named h =
-    let by : option_map (standing image site (OfId oid)) (one_block site place) ≡ Some f = subst (λ b. (if b then mapped_node image site oid place else mapped site oid place) ≡ Some f) node h in
-    let z : ◌≡◌ {A = Option Found} (Some (standing image site (OfId oid) block)) (Some f) = sym (ap (option_map (standing image site (OfId oid))) named) ∙ by in
-    let s : standing image site (OfId oid) block ≡ f = cc in
-    ap (λ (x : Found). x.block) (sym s)
-
-pub queue-at : (image : List ℕ) (seen : Seen) (which : Queue) (root block : ℕ) → ephemeral_named seen root ≡ Some block → (n : Naming) (f : Found) → n.expected ≡ TreeRoot (FreeQueue which) → n.how ≡ ByMapping → n.oid ≡ root → resolved image seen n ≡ Some f → f.block ≡ block
-unfolding resolved ephemeral_named
-queue-at image seen which root block named n f e how oid found =
-    let by : found_ephemeral image seen n.expected n.oid ≡ Some f = subst (λ h. found_by image seen h n.expected n.oid ≡ Some f) how found in
-    let same : found_ephemeral image seen n.expected root ≡ Some f = subst (λ o. found_ephemeral image seen n.expected o ≡ Some f) oid by in
-    one-at image (site_of seen) n.expected root block (eph seen root) f (ap is_node e) named same
-
--- a root whose id names no block has no node
-no-root : (image : List ℕ) (seen : Seen) (root : ℕ) → ephemeral_named seen root ≡ None → (queue_tree image seen).look (root_place root) ≡ Err (Fails (walks.Unnamed root))
-no-root image seen root none = ap (λ (o : Option ℕ). node_named queue_shape (site_of seen) image (root_place root) (option_and_then (in_container (site_of seen).blocks) o)) none
-
-pub unnamed-present : (image : List ℕ) (seen : Seen) (which : Queue) (root : ℕ) → ephemeral_named seen root ≡ None → IsNamedRoot image seen ByMapping (FreeQueue which) root → IsReachedFault image seen (Unnamed Ephemeral root seen.line.xid)
-unnamed-present image seen which root none r =
-    walk-present image seen (FreeQueue which) ByMapping queue_shape (ephemeral_named seen) (queue-walk image seen which) root
-    (record { naming = r.naming; live = r.live; expected_is = r.expected_is; how_is = r.how_is; oid_is = r.oid_is }) 0 (walks.Unnamed root) (record { at = root_place root; met = first; gap = no-root image seen root none })
-
-pub unnamed-whole : {T : Type 0} (image : List ℕ) (seen : Seen) (which : Queue) (root : ℕ) → ephemeral_named seen root ≡ None → IsWholeTree image seen (FreeQueue which) root → T
-unfolding has_all_nodes
-unnamed-whole image seen which root none whole =
-    clash (has_node (queue_tree image seen) (root_place root)) (all-in (has_node (queue_tree image seen)) (places_of (queue_tree image seen) root) whole.nodes (root_place root) (inl refl))
-    (ap (λ (o : Result (List ℕ) (Stop WalkFault)). is_ok o) (no-root image seen root none))

@@ -1,11 +1,8 @@
 //! The namings of a container: of its trees whose nodes are physical or ephemeral, of its loaded volumes, and how its parts are joined.
 #![tactic(auto)]
 
-mod raising;
 mod theorem;
 mod volumes;
-mod walks;
 
 pub use theorem::{namings_of_parts, namings_of_steps};
 pub use volumes::parts_of_volumes;
-pub use walks::{walk_extents, walk_metadata, walk_queue, walk_records, walk_snapshots};

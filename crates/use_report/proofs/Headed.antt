@@ -7,7 +7,7 @@ use Rattle.apfs_model.proofs.BoolTests.{clash, equal-from, from-equal, never-tru
 use Rattle.apfs_model.proofs.Searches.{get-in, in-get, in-map, from-map, in-flat_map, from-flat_map}
 use Rattle.obj_base.specs.declared.site.Site.{Site}
 use Rattle.nx_ring.specs.Checkpoint.{Seen, site_of}
-use Rattle.omap_map.specs.Maps.{map_records, is_whole_map, contents_of}
+use Rattle.omap_map.specs.Maps.{Contents, map_records, is_whole_map, contents_of}
 use Rattle.vol_view.specs.Volumes.{Loaded, map_or_empty, empty_map}
 use Rattle.reach_rules.specs.Naming.{InView, Namer, Whole, Files, TreeRoot, Naming, naming}
 use Rattle.reach_rules.specs.Next.{roots, names, next}
@@ -194,7 +194,7 @@ of-image image seen volume given site views heads s a = record {
   mapped = λ h i.
       let t = head-from volume views heads a h i in
       let p : IsVolumePart image seen volume.head volume = part image seen volume given in
-      let here : volume.omap.records ≡ (map_or_empty image (site_of seen) (map_of volume)).records = p.records ∙ whole-records image (site_of seen) (map_of volume) p.map.whole in
+      let here : volume.omap.records ≡ (map_or_empty image (site_of seen) (map_of volume)).records = ap (λ (m : Contents). m.records) p.contents ∙ whole-records image (site_of seen) (map_of volume) p.map.whole in
       subst (λ (x : Head). records_at (volume ∷ []) x.view.volume ≡ (map_or_empty image (site_of seen) x.view.map).records) (sym t.is) here;
 }
 

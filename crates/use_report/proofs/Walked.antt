@@ -13,7 +13,7 @@ use Rattle.bt_cursor.specs.Tree.{Tree}
 use Rattle.bt_cursor.specs.Met.{IsMet, places_of, nodes_of, has_node, is_walkable}
 use Rattle.bt_cursor.proofs.Places.{tree-levelled, places-met, walkable-met}
 use Rattle.nx_ring.specs.Checkpoint.{Seen, site_of}
-use Rattle.omap_map.specs.Maps.{map_records, is_whole_map}
+use Rattle.omap_map.specs.Maps.{Contents, map_records, is_whole_map}
 use Rattle.omap_map.specs.Loading.{named_in}
 use Rattle.omap_map.specs.Resolve.{named_by, resolve}
 use Rattle.omap_map.specs.declared.records.OmapRecord.{OmapRecord}
@@ -50,7 +50,7 @@ named-whole image site block x oid w = sym (ap (λ b. if b then named_by (map_re
 named-view : (image : List ℕ) (seen : Seen) (volume : Loaded) → IsGiven image seen volume → (kept : KeptView) (oid : ℕ) → view_named (site_of seen) volume kept.view oid ≡ named_in image (site_of seen) (map_of volume) kept.view.xid oid
 named-view image seen volume given kept oid =
     let p : IsVolumePart image seen volume.head volume = part image seen volume given in
-    ap (λ (rs : List OmapRecord). named_by rs kept.view.xid (site_of seen).blocks oid) p.records
+    ap (λ (rs : List OmapRecord). named_by rs kept.view.xid (site_of seen).blocks oid) (ap (λ (m : Contents). m.records) p.contents)
     ∙ named-whole image (site_of seen) (map_of volume) kept.view.xid oid p.map.whole
 
 -- what an id names is a block of the container

@@ -1,5 +1,5 @@
 -- The naming of a volume that was loaded, and what stands below it.
-use Rattle.std.proofs.Common.{◌≡◌, ℕ, ◌+◌, ◌*◌, true, false, ◌==◌, List, [], ◌∷◌, ◌++◌, map, None, Some, is_ok, inl, inr, refl, ap, sym, ◌∙◌, subst, if◌then◌else◌}
+use Rattle.std.proofs.Common.{◌≡◌, ℕ, Bool, ◌+◌, ◌*◌, true, false, ◌==◌, List, [], ◌∷◌, ◌++◌, map, None, Some, is_ok, inl, inr, refl, ap, sym, ◌∙◌, subst, if◌then◌else◌}
 use Rattle.std.specs.Prelude.{slice_get}
 use Rattle.std.specs.List.{flat_map}
 use Rattle.apfs_model.specs.Lists.{In}
@@ -7,13 +7,14 @@ use Rattle.apfs_model.proofs.BoolTests.{other-true}
 use Rattle.apfs_model.proofs.Searches.{get-in, from-map}
 use Rattle.bt_node.specs.Entries.{Pair, bytes_in}
 use Rattle.obj_base.specs.declared.site.Site.{Site}
+use Rattle.bt_cursor.specs.Steps.{steps_of}
 use Rattle.bt_cursor.specs.Whole.{is_whole}
 use Rattle.nx_block.specs.Super.{omap_oid_of}
 use Rattle.nx_ring.specs.Checkpoint.{Seen, site_of}
-use Rattle.omap_map.specs.Maps.{map_records}
+use Rattle.omap_map.specs.Maps.{contents_of}
 use Rattle.vol_view.specs.Features.{snapshot_record_features}
 use Rattle.vol_view.specs.Heads.{super_in}
-use Rattle.vol_view.specs.SnapRecords.{metadata_tree, snapshot_pairs, snap_super_of, snap_flags_of, is_snapshot_long}
+use Rattle.vol_view.specs.SnapRecords.{metadata_tree, metadata_steps, snapshot_pairs, snap_super_of, snap_flags_of, is_snapshot_long}
 use Rattle.vol_view.specs.Volumes.{Loaded, super_of, map_block_of, metadata_of, snapshot_in, loaded_of}
 use Rattle.vol_view.specs.LoadStops.{metadata_root, has_whole_metadata, IsRightSnapshot, IsLoadable, IsVolumeOf}
 use Rattle.vol_view.specs.declared.head.VolHead.{VolHead}
@@ -24,16 +25,16 @@ use Rattle.reach_rules.specs.Tested.{tested}
 use Rattle.reach_rules.specs.Next.{next}
 use Rattle.reach_rules.specs.Live.{IsLive}
 use Rattle.reach_rules.specs.Features.{Placed, placed_in, record_features, volume_object_features}
-use Rattle.tree_namings.specs.Namings.{IsPlainNaming}
+use Rattle.tree_namings.specs.Namings.{tree_steps, IsPlainNaming}
 use Rattle.tree_namings.specs.Walked.{IsWholeTree}
 use Rattle.tree_namings.proofs.OfKinds.{metadata-kind}
 use Rattle.tree_namings.specs.Volumes.Told.{head_naming, map_of, told_view, super_in_view, map_in_volume, past_view_of}
-use Rattle.tree_namings.specs.Volumes.Parts.{IsMapPart, IsSnapshotPart, volume_namer, IsVolumePart}
+use Rattle.tree_namings.specs.Volumes.Parts.{IsMapPart, IsSnapshotPart, HasWholeMetadata, volume_namer, IsVolumePart}
 use Rattle.tree_namings.proofs.VolumeLemmas.Leads.{sound-next, sound-plain, block-found, record-found, volume-passes, super-passes}
 use Rattle.tree_namings.proofs.VolumeLemmas.Trees.{whole-tree}
 use Rattle.tree_namings.proofs.VolumeLemmas.MapParts.{volume-map-part}
 use Rattle.tree_namings.proofs.VolumeLemmas.Heads.{IsRightHead, super-sound, super-magic}
-use Rattle.tree_namings.proofs.VolumeLemmas.Tellings.{map-is, records-are, told-same}
+use Rattle.tree_namings.proofs.VolumeLemmas.Tellings.{contents-are, map-is, told-same}
 
 -- ---- no feature is there
 flat-none : {X Y : Type 0} (f : X → List Y) (xs : List X) → ((x : X) → In x xs → f x ≡ []) → flat_map f xs ≡ []
@@ -83,11 +84,21 @@ snapshot-part image seen head right i s e =
     record { plain = p.plain; leads = p.leads }
 
 -- the tree of its snapshots' records
-metadata-part : (image : List ℕ) (seen : Seen) (head : VolHead) → IsLoadable image (site_of seen) head → ((loaded_of image (site_of seen) head).snaps_root == 0) ≡ false → IsWholeTree image seen SnapMetadata (loaded_of image (site_of seen) head).snaps_root
+metadata-whole : (image : List ℕ) (seen : Seen) (head : VolHead) → IsLoadable image (site_of seen) head → ((loaded_of image (site_of seen) head).snaps_root == 0) ≡ false → IsWholeTree image seen SnapMetadata (loaded_of image (site_of seen) head).snaps_root
 unfolding loaded_of has_whole_metadata
-metadata-part image seen head right some =
+metadata-whole image seen head right some =
     let root : ℕ = metadata_root image (site_of seen) head in
     whole-tree (metadata-kind image seen) root (λ item. refl) (other-true (root == 0) (is_whole (metadata_tree image (site_of seen)) root) some right.metadata)
+
+-- and its steps
+metadata-steps : (image : List ℕ) (seen : Seen) (head : VolHead) → ((loaded_of image (site_of seen) head).snaps_root == 0) ≡ false → (loaded_of image (site_of seen) head).snaps_steps ≡ tree_steps image seen SnapMetadata (loaded_of image (site_of seen) head).snaps_root
+unfolding loaded_of metadata_steps tree_steps
+metadata-steps image seen head some =
+    let root : ℕ = metadata_root image (site_of seen) head in
+    ap (λ (b : Bool). if b then [] else steps_of (metadata_tree image (site_of seen)) root) some
+
+metadata-part : (image : List ℕ) (seen : Seen) (head : VolHead) → IsLoadable image (site_of seen) head → HasWholeMetadata image seen (loaded_of image (site_of seen) head)
+metadata-part image seen head right = record { whole = metadata-whole image seen head right; steps = metadata-steps image seen head }
 
 -- ---- the volume
 pub loaded-part : (image : List ℕ) (seen : Seen) (head : VolHead) → IsRightHead image seen head → IsLive image seen (head_naming head) → IsLoadable image (site_of seen) head → IsVolumePart image seen head (loaded_of image (site_of seen) head)
@@ -107,7 +118,7 @@ loaded-part image seen head h live right =
       plain = sound-plain image seen n f found sound (ap (placed_in h.mapping.paddr) h.plain) (fields-plain image seen head right);
       leads = sound-next image seen n f found sound ∙ sym (told-same image seen head me right);
       map = subst (λ b. IsMapPart image seen (map_in_volume me b)) (sym at) (volume-map-part image seen me (map_block_of image site head) right.map right.settled right.unmarked);
-      records = records-are image site head right.map ∙ ap (map_records image site) (sym at);
+      contents = contents-are image site head right.map ∙ ap (contents_of image site) (sym at);
       snapshots = snapshot-part image seen head right;
       metadata = metadata-part image seen head right;
       gives = record { naming = n; object = f; names = record { names = record { live = live; found = found }; sound = sound }; volume = refl; gives = at };

@@ -30,13 +30,13 @@ object-head : (image : List ℕ) (site : Site) (block : ℕ) → is_map_object i
 unfolding is_map_object
 object-head image site block e = right-true (is_some (in_container site.blocks block)) (is_ok (head_of image site block)) e
 
-records-whole : (image : List ℕ) (site : Site) (block : ℕ) → is_whole_map image site block ≡ true → is_whole (record_tree image site) (maps.tree_of (map_in image site block)) ≡ true
+pub records-whole : (image : List ℕ) (site : Site) (block : ℕ) → is_whole_map image site block ≡ true → is_whole (record_tree image site) (maps.tree_of (map_in image site block)) ≡ true
 unfolding is_whole_map
 records-whole image site block e =
     left-true (is_whole (record_tree image site) (maps.tree_of (map_in image site block))) (has_whole_snapshots image site block)
     (right-true (is_map_object image site block) (is_whole (record_tree image site) (maps.tree_of (map_in image site block)) && has_whole_snapshots image site block) e)
 
-snapshots-whole : (image : List ℕ) (site : Site) (block : ℕ) → is_whole_map image site block ≡ true → has_no_snapshots (map_in image site block) ≡ false → is_whole (snapshot_tree image site) (maps.snap_tree_of (map_in image site block)) ≡ true
+pub snapshots-whole : (image : List ℕ) (site : Site) (block : ℕ) → is_whole_map image site block ≡ true → has_no_snapshots (map_in image site block) ≡ false → is_whole (snapshot_tree image site) (maps.snap_tree_of (map_in image site block)) ≡ true
 unfolding is_whole_map has_whole_snapshots
 snapshots-whole image site block e some =
     other-true (has_no_snapshots (map_in image site block)) (is_whole (snapshot_tree image site) (maps.snap_tree_of (map_in image site block))) some
@@ -44,11 +44,11 @@ snapshots-whole image site block e some =
     (right-true (is_map_object image site block) (is_whole (record_tree image site) (maps.tree_of (map_in image site block)) && has_whole_snapshots image site block) e))
 
 -- a whole map, whatever names it
-map-part : (image : List ℕ) (seen : Seen) (namer : Namer) (at : ℕ) (e : Expected) (oid : ℕ) → is_whole_map image (site_of seen) oid ≡ true →
+map-part : (image : List ℕ) (seen : Seen) (namer : Namer) (at : ℕ) (e : Expected) (oid : ℕ) → is_whole_map image (site_of seen) oid ≡ true → is_reverting (map_in image (site_of seen) oid) ≡ false →
     (is_ok (head_of image (site_of seen) oid) ≡ true → is_ok (tested (site_of seen) e oid (map_in image (site_of seen) oid)) ≡ true) →
     ((me : Namer) (bytes : List ℕ) → names image seen ByBlock e me bytes ≡ map_namings me bytes) →
     field_features image seen e oid (map_in image (site_of seen) oid) ≡ [] → IsMapPart image seen (naming namer at e ByBlock oid)
-map-part image seen namer at e oid whole passes leads fields =
+map-part image seen namer at e oid whole settled passes leads fields =
     let n : Naming = naming namer at e ByBlock oid in
     let f : Found = standing image (site_of seen) (InBlock oid) oid in
     let object : is_map_object image (site_of seen) oid ≡ true = whole-object image (site_of seen) oid whole in
@@ -59,6 +59,7 @@ map-part image seen namer at e oid whole passes leads fields =
       plain = sound-plain image seen n f found sound refl fields;
       leads = sound-next image seen n f found sound ∙ leads (Whole (InBlock oid)) (map_in image (site_of seen) oid);
       whole = whole;
+      settled = settled;
       records = whole-tree (records-kind image seen) (maps.tree_of (map_in image (site_of seen) oid)) (λ item. refl) (records-whole image (site_of seen) oid whole);
       snapshots = λ some. whole-tree (snapshots-kind image seen) (maps.snap_tree_of (map_in image (site_of seen) oid)) (λ item. refl) (snapshots-whole image (site_of seen) oid whole some);
     }
@@ -73,7 +74,7 @@ container-part image seen right =
     let oid : ℕ = omap_oid_of seen.nx in
     let bytes : List ℕ = map_in image (site_of seen) oid in
     let snapshots : List (ℕ × ℕ) = map_snapshots image (site_of seen) oid in
-    map-part image seen (Whole Newest) 160 ContainerMap oid right.whole (container-passes (site_of seen) oid bytes) (λ me b. refl)
+    map-part image seen (Whole Newest) 160 ContainerMap oid right.whole right.settled (container-passes (site_of seen) oid bytes) (λ me b. refl)
     (ap (λ xs. placed_in oid (xs ++ container_features (maps.snap_count_of bytes))) (map-plain oid bytes snapshots right.settled right.unmarked)
     ∙ ap (placed_in oid) right.plain)
 
@@ -82,5 +83,5 @@ pub volume-map-part : (image : List ℕ) (seen : Seen) (namer : Namer) (oid : �
     IsMapPart image seen (map_in_volume namer oid)
 volume-map-part image seen namer oid whole settled unmarked =
     let bytes : List ℕ = map_in image (site_of seen) oid in
-    map-part image seen namer 128 VolumeMap oid whole (map-passes (site_of seen) oid bytes) (λ me b. refl)
+    map-part image seen namer 128 VolumeMap oid whole settled (map-passes (site_of seen) oid bytes) (λ me b. refl)
     (ap (placed_in oid) (map-plain oid bytes (map_snapshots image (site_of seen) oid) settled unmarked))

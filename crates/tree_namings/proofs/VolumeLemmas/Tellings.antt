@@ -1,13 +1,13 @@
 -- What a loaded volume tells is what its superblock names.
 use Rattle.std.proofs.Common.{◌≡◌, ℕ, suc, ◌+◌, true, List, [], ◌∷◌, ◌++◌, map, inl, inr, refl, ap, sym, ◌∙◌, if◌then◌else◌}
-use Rattle.std.specs.Prelude.{slice_index, ◌&&◌, nat_le, length}
+use Rattle.std.specs.Prelude.{◌&&◌, nat_le, length}
 use Rattle.std.specs.List.{list_all}
 use Rattle.apfs_model.specs.Lists.{In}
 use Rattle.apfs_model.proofs.BoolTests.{left-true, all-in}
 use Rattle.obj_base.specs.declared.site.Site.{Site}
 use Rattle.bt_node.specs.Entries.{Pair, bytes_in}
 use Rattle.nx_ring.specs.Checkpoint.{Seen, site_of}
-use Rattle.omap_map.specs.Maps.{contents_of, map_records, is_whole_map}
+use Rattle.omap_map.specs.Maps.{Contents, contents_of, is_whole_map}
 use Rattle.fs_name.specs.Normal.{names_of, are_hashed}
 use Rattle.vol_view.specs.Fields as field
 use Rattle.vol_view.specs.SnapRecords.{snapshot_pairs, name_pairs, is_snapshot_long, is_snapshot_readable, is_name_readable, snap_name_len, snap_name_bytes}
@@ -47,22 +47,17 @@ snapshots-same image site slot bytes i (pair ∷ pairs) long =
     ap (λ ns. here ++ ns) more
     ∙ ap (λ b. (if b then here else []) ++ snapshots_namings slot bytes (suc i) pairs) (sym (long pair (inl refl)))
 
--- the first block of a whole map is its own
-first-block : (image : List ℕ) (site : Site) (block : ℕ) → is_whole_map image site block ≡ true → (map_or_empty image site block).block ≡ block
+-- of a whole map all is known
+whole-map : (image : List ℕ) (site : Site) (block : ℕ) → is_whole_map image site block ≡ true → map_or_empty image site block ≡ contents_of image site block
 unfolding map_or_empty
-first-block image site block whole = ap (λ b. (if b then contents_of image site block else empty_map).block) whole
+whole-map image site block whole = ap (λ b. if b then contents_of image site block else empty_map) whole
 
-whole-records : (image : List ℕ) (site : Site) (block : ℕ) → is_whole_map image site block ≡ true → (map_or_empty image site block).records ≡ map_records image site block
-unfolding map_or_empty
-whole-records image site block whole = ap (λ b. (if b then contents_of image site block else empty_map).records) whole
+pub contents-are : (image : List ℕ) (site : Site) (head : VolHead) → is_whole_map image site (map_block_of image site head) ≡ true → (loaded_of image site head).omap ≡ contents_of image site (map_block_of image site head)
+unfolding loaded_of
+contents-are image site head whole = whole-map image site (map_block_of image site head) whole
 
 pub map-is : (image : List ℕ) (site : Site) (head : VolHead) → is_whole_map image site (map_block_of image site head) ≡ true → map_of (loaded_of image site head) ≡ map_block_of image site head
-unfolding loaded_of
-map-is image site head whole = first-block image site (map_block_of image site head) whole
-
-pub records-are : (image : List ℕ) (site : Site) (head : VolHead) → is_whole_map image site (map_block_of image site head) ≡ true → (loaded_of image site head).omap.records ≡ map_records image site (map_block_of image site head)
-unfolding loaded_of
-records-are image site head whole = whole-records image site (map_block_of image site head) whole
+map-is image site head whole = ap (λ (c : Contents). c.block) (contents-are image site head whole)
 
 -- what the volume tells with the block of its map
 told-with : (image : List ℕ) (seen : Seen) (head : VolHead) (namer : Namer) → ((pair : Pair) → In pair (snapshot_pairs (metadata_of image (site_of seen) head)) → is_snapshot_long pair ≡ true) →

@@ -1,22 +1,20 @@
-use Rattle.std.proofs.Common.{[], ◌∷◌, sym, subst}
-use Rattle.reach_rules.specs.Naming.{ByBlock, InBlock, Namer, Whole, MapSnapshots, TreeRoot}
-use Rattle.reach_rules.specs.Live.{IsLive}
-use Rattle.reach_gather.specs.Adds.{Adds}
-use Rattle.reach_gather.specs.Named.{naming_of}
-use Rattle.reach_gather.specs.declared.naming.Named.{Named}
-use Rattle.reach_gather.proofs.Fields.{adds-zero, adds-some, live-some}
+use Rattle.std.proofs.Common.{◌∙◌, ◌++◌, map, ap}
+use Rattle.reach_gather.specs.Steps.{block_owner}
+use Rattle.reach_gather.proofs.Mapped.{past-are, past-noted, past-owned}
 use Rattle.reach_gather.proofs.maps.add_past.Goals as goal
 
-pub returns-then-oid-eq0-clause-clear : goal.returns-then-oid-eq0-clause-clear
-returns-then-oid-eq0-clause-clear g c = λ image told. adds-zero image c.args.cp.now (Whole (InBlock c.args.map.oid)) 56 (TreeRoot MapSnapshots) ByBlock c.args.oid c.args.out.now c.if-oid-eq0.true
+pub returns-then-oid-eq0-clause-namings : goal.returns-then-oid-eq0-clause-namings
+returns-then-oid-eq0-clause-namings c = past-noted c.args.block c.args.omap.now c.snap_tree-oid.result c.args.out.now.namings c.snap_tree-oid.ensures c.if-oid-eq0.true
 
-pub returns-in-Ok-clause-clear : goal.returns-in-Ok-clause-clear
-returns-in-Ok-clause-clear g c = λ image told.
-    let me : Namer = Whole (InBlock c.args.map.oid) in
-    adds-some image c.args.cp.now me 56 (TreeRoot MapSnapshots) ByBlock c.args.oid [] c.args.out.now c.add_map_snapshots.new.out c.if-oid-eq0.false
-    (subst (λ (n : Named). Adds image c.args.cp.now (naming_of n ∷ []) [] c.args.out.now c.add_map_snapshots.new.out) c.root-root.ensures (c.in-Ok.ensures.clear image told))
+pub returns-then-oid-eq0-clause-owners : goal.returns-then-oid-eq0-clause-owners
+returns-then-oid-eq0-clause-owners c = past-owned c.args.block c.args.omap.now c.snap_tree-oid.result c.args.out.now.owners c.snap_tree-oid.ensures c.if-oid-eq0.true
 
-pub returns-in-Err-clause-present : goal.returns-in-Err-clause-present
-returns-in-Err-clause-present g c = λ image told live.
-    c.in-Err.ensures.present image told
-    (subst (λ (n : Named). IsLive image c.args.cp.now (naming_of n)) (sym c.root-root.ensures) (live-some image c.args.cp.now (Whole (InBlock c.args.map.oid)) 56 (TreeRoot MapSnapshots) ByBlock c.args.oid c.if-oid-eq0.false live))
+pub returns-clause-namings : goal.returns-clause-namings
+returns-clause-namings c =
+    c.in_ok-add_nodes.ensures.namings
+    ∙ ap (λ xs. c.args.out.now.namings ++ xs) (past-are c.args.block c.args.omap.now c.root-root.result c.snap_tree-oid.result c.snap_steps.result.now c.root-root.ensures c.snap_tree-oid.ensures c.if-oid-eq0.false c.snap_steps.ensures)
+
+pub returns-clause-owners : goal.returns-clause-owners
+returns-clause-owners c =
+    c.in_ok-add_nodes.ensures.owners
+    ∙ ap (λ xs. c.args.out.now.owners ++ map block_owner xs) (past-are c.args.block c.args.omap.now c.root-root.result c.snap_tree-oid.result c.snap_steps.result.now c.root-root.ensures c.snap_tree-oid.ensures c.if-oid-eq0.false c.snap_steps.ensures)

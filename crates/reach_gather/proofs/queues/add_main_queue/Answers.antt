@@ -1,38 +1,46 @@
-use Rattle.std.proofs.Common.{◌≡◌, ◌∙◌, ◌++◌, map, ap, refl, List}
+use Rattle.std.proofs.Common.{◌≡◌, ◌∙◌, ◌++◌, ◌==◌, ℕ, map, ap, false, sym, subst, List}
+use Rattle.obj_base.specs.Stops.{Tells}
 use Rattle.bt_cursor.specs.declared.step.Step.{Step}
+use Rattle.nx_ring.specs.Checkpoint.{Seen}
+use Rattle.space_pool.specs.Queues.{queue_root}
 use Rattle.space_pool.specs.declared.entry.Queue.TheVariants.{Main}
+use Rattle.reach_rules.specs.Features.{HasFeature}
 use Rattle.reach_rules.specs.Naming.{FreeQueue, Naming, ByMapping, OfId}
 use Rattle.reach_rules.specs.Owners.{told_from, queued_ranges_of}
+use Rattle.reach_rules.specs.Reached.{IsReachedFault}
+use Rattle.reach_rules.specs.Trees.{IsRightTree}
+use Rattle.tree_namings.specs.Namings.{step_naming}
 use Rattle.reach_gather.specs.Named.{naming_of, expected_of, look_of}
 use Rattle.reach_gather.specs.Steps.{id_steps}
 use Rattle.reach_gather.proofs.Branches.{queue-adds}
-use Rattle.reach_gather.proofs.Told.{range_of_entry, told-next, told-none, kept-ranges}
-use Rattle.tree_namings.specs.Namings.{step_naming}
 use Rattle.reach_gather.proofs.Noted.{tree-read}
+use Rattle.reach_gather.proofs.Scanned.{queued-whole, queued-namings, queue-tells}
+use Rattle.reach_gather.proofs.Told.{range_of_entry, told-next, told-none}
+use Rattle.space_pool.specs.Queues.{queue_entries}
 use Rattle.reach_gather.proofs.queues.add_main_queue.Goals as goal
 
 pub returns-in-Err-clause-present : goal.returns-in-Err-clause-present
-returns-in-Err-clause-present g c = λ image told live.
-    c.in-Err.ensures.present Main image told (record {
-      naming = naming_of c.args.root;
-      live = live;
-      expected_is = ap expected_of c.requires.kind;
-      how_is = ap look_of c.requires.how;
-      oid_is = refl;
-    })
+returns-in-Err-clause-present g c = λ image told is.
+    let seen : Seen = c.args.cp.now in
+    subst (Tells (IsReachedFault image seen) (HasFeature image seen)) (sym c.raise_pool.ensures) (queue-tells image seen c.args.space.now Main is c.in-Err.stop (c.in-Err.ensures.present image told))
 
 pub returns-clause-clear : goal.returns-clause-clear
 returns-clause-clear g c = λ image told.
+    let seen : Seen = c.args.cp.now in
     let root : Naming = naming_of c.args.root in
+    let manager : List ℕ = c.args.space.now.manager in
     let how = ap look_of c.requires.how in
     let kind = ap expected_of c.requires.kind in
-    let steps : c.deref.result.now ≡ c.in-Ok.walked.steps.items = c.deref.ensures.value in
-    let entries : c.as_slice.result.now ≡ c.in-Ok.walked.kept.entries.items = c.as_slice.ensures.value in
-    let walked = c.in-Ok.ensures.clear Main image told in
-    let ranges = ap (told_from root 0) (ap (map range_of_entry) entries ∙ kept-ranges image c.args.cp.now Main root.oid c.in-Ok.walked.kept.entries.items c.requires.some walked.held) in
-    queue-adds image c.args.cp.now (FreeQueue Main) root c.in-Ok.walked.steps.items c.args.out.now c.tell_all.new.out c.note_ids.new.out how kind (walked.namings root kind how refl) walked.whole.right
+    let some : (queue_root Main manager == 0) ≡ false = subst (λ (oid : ℕ). (oid == 0) ≡ false) c.requires.root c.requires.some in
+    let taken : List Step = c.in-Ok.queued.steps.items in
+    let queued = c.in-Ok.ensures.clear image told in
+    let steps : c.deref.result.now ≡ taken = c.deref.ensures.value in
+    let entries : c.as_slice.result.now ≡ c.in-Ok.queued.entries.items = c.as_slice.ensures.value in
+    let ranges = ap (told_from root 0) (ap (map range_of_entry) (entries ∙ (queued.same ∙ ap (queue_entries image seen) (sym c.requires.root)))) in
+    queue-adds image seen (FreeQueue Main) root taken c.args.out.now c.tell_all.new.out c.note_ids.new.out how kind (queued-namings image seen Main manager root taken c.in-Ok.queued.entries.items some how kind c.requires.root queued (c.in-Ok.ensures.steps image told))
+    (subst (IsRightTree image seen (FreeQueue Main)) (sym c.requires.root) (queued-whole image seen Main manager c.in-Ok.queued.entries.items some queued).right)
     (c.tell_all.ensures.namings ∙ c.in_ok-note_id.ensures.namings)
-    (told-next c.args.out.now.owners c.note_id.new.self.owners c.tell_all.new.out.owners (told_from root 0 (map range_of_entry c.as_slice.result.now)) (told_from root 0 (queued_ranges_of image c.args.cp.now root.oid)) c.note_id.ensures.owners c.in_ok-tell_all.ensures.owners ranges)
+    (told-next c.args.out.now.owners c.note_id.new.self.owners c.tell_all.new.out.owners (told_from root 0 (map range_of_entry c.as_slice.result.now)) (told_from root 0 (queued_ranges_of image seen root.oid)) c.note_id.ensures.owners c.in_ok-tell_all.ensures.owners ranges)
     (told-none c.args.out.now.pool_owners c.note_id.new.self.pool_owners c.tell_all.new.out.pool_owners c.note_id.ensures.pool_owners c.tell_all.ensures.pool_owners)
     (c.in_ok-note_ids.ensures.namings ∙ ap (λ (xs : List Step). c.tell_all.new.out.namings ++ id_steps (FreeQueue Main) root.oid xs) steps)
     c.note_ids.ensures.owners
@@ -40,5 +48,5 @@ returns-clause-clear g c = λ image told.
 
 pub returns-clause-reads : goal.returns-clause-reads
 returns-clause-reads g c = λ image told.
-    tree-read (step_naming OfId (FreeQueue Main) ByMapping c.args.root.oid) (naming_of c.args.root) c.deref.result.now c.in-Ok.walked.steps.items c.args.out.now.namings c.tell_all.new.out.namings c.note_ids.new.out.namings (g.S.BlockSource.reads c.args.src.now) (g.S.BlockSource.reads c.walk_queue.new.src)
-    (c.tell_all.ensures.namings ∙ c.in_ok-note_id.ensures.namings) c.in_ok-note_ids.ensures.namings c.deref.ensures.value (c.in-Ok.ensures.reads image told)
+    tree-read (step_naming OfId (FreeQueue Main) ByMapping c.args.root.oid) (naming_of c.args.root) c.deref.result.now c.in-Ok.queued.steps.items c.args.out.now.namings c.tell_all.new.out.namings c.note_ids.new.out.namings (g.S.BlockSource.reads c.args.src.now) (g.S.BlockSource.reads c.queue_walk.new.src)
+    (c.tell_all.ensures.namings ∙ c.in_ok-note_id.ensures.namings) c.in_ok-note_ids.ensures.namings c.deref.ensures.value (c.in-Ok.ensures.by_steps image told)

@@ -1,14 +1,13 @@
-use Rattle.std.proofs.Common.{ℕ, [], ◌∷◌, sym, subst}
+use Rattle.std.proofs.Common.{ℕ, [], ◌∷◌, subst}
 use Rattle.nx_ring.specs.Checkpoint.{Seen}
 use Rattle.space_pool.specs.declared.entry.Queue.TheVariants.{Main}
 use Rattle.reach_rules.specs.Naming.{ByMapping, Namer, FreeQueue, TreeRoot}
 use Rattle.reach_rules.specs.Next.{unless_zero}
-use Rattle.reach_rules.specs.Live.{IsLive}
 use Rattle.tree_namings.specs.Space.{manager_namer}
-use Rattle.reach_gather.specs.Adds.{Adds, AreLive}
+use Rattle.reach_gather.specs.Adds.{Adds}
 use Rattle.reach_gather.specs.Named.{naming_of}
 use Rattle.reach_gather.specs.declared.naming.Named.{Named}
-use Rattle.reach_gather.proofs.Fields.{adds-zero, adds-some, live-some}
+use Rattle.reach_gather.proofs.Fields.{adds-zero, adds-some}
 use Rattle.reach_gather.proofs.space.add_main.Goals as goal
 
 pub returns-then-oid-eq0-clause-clear : goal.returns-then-oid-eq0-clause-clear
@@ -27,10 +26,4 @@ returns-in-Ok-clause-clear g c = λ image told.
     (subst (λ (n : Named). Adds image seen (naming_of n ∷ []) [] c.args.out.now c.add_main_queue.new.out) c.root-root.ensures (c.in-Ok.ensures.clear image told)))
 
 pub returns-in-Err-clause-present : goal.returns-in-Err-clause-present
-returns-in-Err-clause-present g c = λ image told live.
-    let seen : Seen = c.args.cp.now in
-    let me : Namer = manager_namer seen.nx in
-    c.in-Err.ensures.present image told
-    (subst (λ (n : Named). IsLive image seen (naming_of n)) (sym c.root-root.ensures)
-    (live-some image seen me 248 (TreeRoot (FreeQueue Main)) ByMapping c.main_root-oid.result c.if-oid-eq0.false
-    (subst (λ (oid : ℕ). AreLive image seen (unless_zero me 248 (TreeRoot (FreeQueue Main)) ByMapping oid)) (sym c.main_root-oid.ensures) live)))
+returns-in-Err-clause-present g c = λ image told is. c.in-Err.ensures.present image told is

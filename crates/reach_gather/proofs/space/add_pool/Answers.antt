@@ -1,18 +1,14 @@
-use Rattle.std.proofs.Common.{◌≡◌, ◌∙◌, ℕ, List, [], ◌∷◌, true, ap, sym, subst}
-use Rattle.std.specs.List.{list_all}
+use Rattle.std.proofs.Common.{ℕ, [], ◌∷◌, subst}
 use Rattle.nx_ring.specs.Checkpoint.{Seen}
-use Rattle.space_pool.specs.Queues.{queue_entries, is_queued_in_pool}
 use Rattle.space_pool.specs.declared.entry.Queue.TheVariants.{Pool}
-use Rattle.space_pool.specs.declared.entry.QueueEntry.{QueueEntry}
 use Rattle.reach_rules.specs.Naming.{ByMapping, Namer, FreeQueue, TreeRoot}
 use Rattle.reach_rules.specs.Next.{unless_zero}
-use Rattle.reach_rules.specs.Live.{IsLive}
 use Rattle.tree_namings.specs.Space.{manager_namer}
-use Rattle.reach_gather.specs.Adds.{Adds, AreLive}
+use Rattle.reach_gather.specs.Adds.{Adds}
 use Rattle.reach_gather.specs.Named.{naming_of}
 use Rattle.reach_gather.specs.declared.naming.Named.{Named}
-use Rattle.reach_gather.proofs.Fields.{adds-zero, adds-some, live-some}
-use Rattle.reach_gather.proofs.Spaced.{all-pooled, none-pooled}
+use Rattle.reach_gather.proofs.Fields.{adds-zero, adds-some}
+use Rattle.reach_gather.proofs.Spaced.{none-pooled}
 use Rattle.reach_gather.proofs.space.add_pool.Goals as goal
 
 pub returns-then-oid-eq0-clause-clear : goal.returns-then-oid-eq0-clause-clear
@@ -22,8 +18,8 @@ returns-then-oid-eq0-clause-clear g c = λ image told.
     subst (λ (oid : ℕ). Adds image seen (unless_zero me 208 (TreeRoot (FreeQueue Pool)) ByMapping oid) [] c.args.out.now c.args.out.now) c.pool_root-oid.ensures
     (adds-zero image seen me 208 (TreeRoot (FreeQueue Pool)) ByMapping c.pool_root-oid.result c.args.out.now c.if-oid-eq0.true)
 
-pub returns-clause-clear : goal.returns-clause-clear
-returns-clause-clear g c = λ image told.
+pub returns-in-Ok-clause-clear : goal.returns-in-Ok-clause-clear
+returns-in-Ok-clause-clear g c = λ image told.
     let seen : Seen = c.args.cp.now in
     let me : Namer = manager_namer seen.nx in
     subst (λ (oid : ℕ). Adds image seen (unless_zero me 208 (TreeRoot (FreeQueue Pool)) ByMapping oid) [] c.args.out.now c.add_pool_queue.new.out) c.pool_root-oid.ensures
@@ -31,22 +27,7 @@ returns-clause-clear g c = λ image told.
     (subst (λ (n : Named). Adds image seen (naming_of n ∷ []) [] c.args.out.now c.add_pool_queue.new.out) c.root-root.ensures (c.in-Ok.ensures.clear image told)))
 
 pub returns-in-Err-clause-present : goal.returns-in-Err-clause-present
-returns-in-Err-clause-present g c = λ image told is live.
-    let seen : Seen = c.args.cp.now in
-    let me : Namer = manager_namer seen.nx in
-    c.in-Err.ensures.present image told
-    (subst (λ (n : Named). IsLive image seen (naming_of n)) (sym c.root-root.ensures)
-    (live-some image seen me 208 (TreeRoot (FreeQueue Pool)) ByMapping c.pool_root-oid.result c.if-oid-eq0.false
-    (subst (λ (oid : ℕ). AreLive image seen (unless_zero me 208 (TreeRoot (FreeQueue Pool)) ByMapping oid)) (sym c.pool_root-oid.ensures) live)))
+returns-in-Err-clause-present g c = λ image told is. c.in-Err.ensures.present image told is
 
 pub returns-then-oid-eq0-clause-queued : goal.returns-then-oid-eq0-clause-queued
 returns-then-oid-eq0-clause-queued g c = λ image told. none-pooled image c.args.cp.now c.args.space.now.manager c.pool_root-oid.result c.pool_root-oid.ensures c.if-oid-eq0.true
-
-pub returns-clause-queued : goal.returns-clause-queued
-returns-clause-queued g c = λ image told.
-    let seen : Seen = c.args.cp.now in
-    let manager : List ℕ = c.args.space.now.manager in
-    let entries : c.deref.result.now ≡ c.in-Ok.entries.items = c.deref.ensures.value in
-    all-pooled image seen manager c.in-Ok.entries.items
-    (c.in-Ok.ensures.entries image told ∙ (ap (λ (n : Named). queue_entries image seen n.oid) c.root-root.ensures ∙ ap (queue_entries image seen) c.pool_root-oid.ensures))
-    (subst (λ (es : List QueueEntry). list_all (is_queued_in_pool manager) es ≡ true) entries c.in-None.ensures.clear)

@@ -4,16 +4,16 @@ use Rattle.nx_ring.specs.Checkpoint.{Seen}
 use Rattle.space_map.specs.Stops.{Known}
 use Rattle.reach_gather.specs.Infos.{known_cabs, known_cibs, bitmaps_from}
 use Rattle.reach_gather.specs.Steps.{block_owner}
-use Rattle.reach_gather.proofs.Spaced.{space-adds, manager-queues}
+use Rattle.reach_gather.proofs.Spaced.{space-adds}
 use Rattle.tree_namings.specs.Container.{manager_naming}
 use Rattle.reach_gather.proofs.Noted.{space-read}
 use Rattle.reach_gather.proofs.space.add_space.Goals as goal
 
 pub returns-in-Err-clause-present : goal.returns-in-Err-clause-present
-returns-in-Err-clause-present g c = λ image told is. c.in-Err.ensures.present image told is (manager-queues image c.args.cp.now c.args.space.now is).0
+returns-in-Err-clause-present g c = λ image told is. c.in-Err.ensures.present image told is
 
 pub returns-in-Err-add_main-clause-present : goal.returns-in-Err-add_main-clause-present
-returns-in-Err-add_main-clause-present g c = λ image told is. c.in-Err-add_main.ensures.present image (c.add_pool.ensures.kept.same_bytes ∙ told) (manager-queues image c.args.cp.now c.args.space.now is).1
+returns-in-Err-add_main-clause-present g c = λ image told is. c.in-Err-add_main.ensures.present image (c.add_pool.ensures.kept.same_bytes ∙ told) is
 
 pub returns-clause-clear : goal.returns-clause-clear
 returns-clause-clear g c = λ image told is.

@@ -1,38 +1,54 @@
-use Rattle.std.proofs.Common.{◌≡◌, ◌∙◌, ◌++◌, map, ap, refl, List}
+use Rattle.std.proofs.Common.{◌≡◌, ◌∙◌, ◌++◌, ◌+◌, ◌≤◌, map, ap, refl, sym, subst, List, length}
+use Rattle.obj_base.specs.Stops.{Tells}
+use Rattle.obj_base.specs.declared.site.Site.{Site}
 use Rattle.bt_cursor.specs.declared.step.Step.{Step}
+use Rattle.nx_ring.specs.Checkpoint.{Seen}
+use Rattle.ext_ref.specs.Ranges.{node_blocks_of}
+use Rattle.ext_ref.specs.Stops.{IsExtStop}
+use Rattle.ext_ref.specs.Scanned.{IsScanned, IsExtFeature}
+use Rattle.reach_rules.specs.Features.{HasFeature}
 use Rattle.reach_rules.specs.Naming.{ExtentRefs, Naming, ByBlock, InBlock}
+use Rattle.reach_rules.specs.Owners.{told_from, new_ranges_of}
+use Rattle.reach_rules.specs.Reached.{IsReachedFault}
+use Rattle.tree_namings.specs.Namings.{step_naming}
 use Rattle.reach_gather.specs.Named.{naming_of, expected_of, look_of}
 use Rattle.reach_gather.specs.Steps.{block_steps, block_owner}
-use Rattle.reach_rules.specs.Owners.{told_from, new_ranges_of}
 use Rattle.reach_gather.proofs.Branches.{tree-adds}
-use Rattle.reach_gather.proofs.Told.{range_of_new, told-after, new-ranges}
-use Rattle.tree_namings.specs.Namings.{step_naming}
 use Rattle.reach_gather.proofs.Noted.{tree-read}
+use Rattle.reach_gather.proofs.Scanned.{scanned-whole, scanned-namings, scanned-reads, extents-tells}
+use Rattle.reach_gather.proofs.Told.{range_of_new, told-after}
 use Rattle.reach_gather.proofs.trees.add_extents.Goals as goal
 
 pub returns-in-Err-clause-present : goal.returns-in-Err-clause-present
 returns-in-Err-clause-present g c = λ image told live.
-    c.in-Err.ensures.present image told (record {
+    let seen : Seen = c.args.cp.now in
+    subst (Tells (IsReachedFault image seen) (HasFeature image seen)) (sym c.raise_extents.ensures)
+    (extents-tells image seen c.args.root.oid
+    (record {
       naming = naming_of c.args.root;
       live = live;
       expected_is = ap expected_of c.requires.kind;
       how_is = ap look_of c.requires.how;
       oid_is = refl;
-    })
+    }) c.in-Err.stop
+    (subst (λ (s : Site). Tells (IsExtStop image s c.args.root.oid) (IsExtFeature image s c.args.root.oid) c.in-Err.stop) c.site-site.ensures (c.in-Err.ensures.present image told)))
 
 pub returns-clause-clear : goal.returns-clause-clear
 returns-clause-clear g c = λ image told.
+    let seen : Seen = c.args.cp.now in
     let root : Naming = naming_of c.args.root in
     let how = ap look_of c.requires.how in
     let kind = ap expected_of c.requires.kind in
-    let steps : c.deref.result.now ≡ c.in-Ok.walked.steps.items = c.deref.ensures.value in
-    let ranges : c.as_slice.result.now ≡ c.in-Ok.walked.kept.ranges.items = c.as_slice.ensures.value in
-    let walked = c.in-Ok.ensures.clear image told in
-    tree-adds image c.args.cp.now ExtentRefs root c.in-Ok.walked.steps.items c.args.out.now c.tell_all.new.out c.note_blocks.new.out how kind (walked.namings root kind how refl) (c.in-Ok.ensures.clear image told).whole.right
+    let taken : List Step = c.in-Ok.scanned.steps.items in
+    let scanned = subst (λ (s : Site). IsScanned image s c.args.root.oid taken c.in-Ok.scanned.ranges.items) c.site-site.ensures (c.in-Ok.ensures.clear image told) in
+    let steps : c.deref.result.now ≡ taken = c.deref.ensures.value in
+    let ranges : c.as_slice.result.now ≡ c.in-Ok.scanned.ranges.items = c.as_slice.ensures.value in
+    tree-adds image seen ExtentRefs root taken c.args.out.now c.tell_all.new.out c.note_blocks.new.out how kind (scanned-namings image seen root taken c.in-Ok.scanned.ranges.items c.requires.some how kind scanned)
+    (scanned-whole image seen c.args.root.oid taken c.in-Ok.scanned.ranges.items c.requires.some scanned).right
     refl
     (c.tell_all.ensures.namings ∙ c.in_ok-note_block.ensures.namings)
-    (told-after c.args.out.now.owners c.note_block.new.self.owners c.tell_all.new.out.owners (block_owner root) (told_from root 0 (map range_of_new c.as_slice.result.now)) (told_from root 0 (new_ranges_of image c.args.cp.now root.oid)) c.in_ok-note_block.ensures.owners c.in_ok-tell_all.ensures.owners
-    (ap (told_from root 0) (ap (map range_of_new) ranges ∙ new-ranges image c.args.cp.now root.oid c.in-Ok.walked.kept.ranges.items c.requires.some walked.held)))
+    (told-after c.args.out.now.owners c.note_block.new.self.owners c.tell_all.new.out.owners (block_owner root) (told_from root 0 (map range_of_new c.as_slice.result.now)) (told_from root 0 (new_ranges_of image seen root.oid)) c.in_ok-note_block.ensures.owners c.in_ok-tell_all.ensures.owners
+    (ap (told_from root 0) (ap (map range_of_new) (ranges ∙ scanned.ranges_are))))
     (c.tell_all.ensures.pool_owners ∙ c.note_block.ensures.pool_owners)
     (c.in_ok-note_blocks.ensures.namings ∙ ap (λ (xs : List Step). c.tell_all.new.out.namings ++ block_steps ExtentRefs root.oid xs) steps)
     (c.in_ok-note_blocks.ensures.owners ∙ ap (λ (xs : List Step). c.tell_all.new.out.owners ++ map block_owner (block_steps ExtentRefs root.oid xs)) steps)
@@ -40,5 +56,9 @@ returns-clause-clear g c = λ image told.
 
 pub returns-clause-reads : goal.returns-clause-reads
 returns-clause-reads g c = λ image told.
-    tree-read (step_naming InBlock ExtentRefs ByBlock c.args.root.oid) (naming_of c.args.root) c.deref.result.now c.in-Ok.walked.steps.items c.args.out.now.namings c.tell_all.new.out.namings c.note_blocks.new.out.namings (g.S.BlockSource.reads c.args.src.now) (g.S.BlockSource.reads c.walk_extents.new.src)
-    (c.tell_all.ensures.namings ∙ c.in_ok-note_block.ensures.namings) c.in_ok-note_blocks.ensures.namings c.deref.ensures.value (c.in-Ok.ensures.reads image told)
+    let taken : List Step = c.in-Ok.scanned.steps.items in
+    let scanned = subst (λ (s : Site). IsScanned image s c.args.root.oid taken c.in-Ok.scanned.ranges.items) c.site-site.ensures (c.in-Ok.ensures.clear image told) in
+    let few = subst (λ (s : Site). g.S.BlockSource.reads c.scan.new.src ≤ g.S.BlockSource.reads c.args.src.now + length (node_blocks_of image s c.args.root.oid)) c.site-site.ensures (c.in-Ok.ensures.reads image told) in
+    tree-read (step_naming InBlock ExtentRefs ByBlock c.args.root.oid) (naming_of c.args.root) c.deref.result.now taken c.args.out.now.namings c.tell_all.new.out.namings c.note_blocks.new.out.namings (g.S.BlockSource.reads c.args.src.now) (g.S.BlockSource.reads c.scan.new.src)
+    (c.tell_all.ensures.namings ∙ c.in_ok-note_block.ensures.namings) c.in_ok-note_blocks.ensures.namings c.deref.ensures.value
+    (scanned-reads image c.args.cp.now c.args.root.oid taken c.in-Ok.scanned.ranges.items (g.S.BlockSource.reads c.args.src.now) (g.S.BlockSource.reads c.scan.new.src) c.requires.some scanned few)

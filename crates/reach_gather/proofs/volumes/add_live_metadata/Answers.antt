@@ -1,15 +1,30 @@
-use Rattle.std.proofs.Common.{[]}
-use Rattle.reach_rules.specs.Naming.{ByBlock, SnapMetadata, TreeRoot}
+use Rattle.std.proofs.Common.{◌≡◌, ◌∙◌, ℕ, [], ap, sym, refl, subst}
+use Rattle.vol_view.specs.Volumes.{Loaded}
+use Rattle.reach_rules.specs.Naming.{ByBlock, Namer, SnapMetadata, TreeRoot, naming}
+use Rattle.reach_rules.specs.Next.{unless_zero}
+use Rattle.reach_gather.specs.Adds.{Adds}
 use Rattle.reach_gather.specs.Named.{namer_of}
-use Rattle.reach_gather.proofs.Fields.{adds-zero, adds-some, live-some}
+use Rattle.reach_gather.specs.Steps.{node_namings}
+use Rattle.reach_gather.proofs.Fields.{adds-zero, adds-some}
+use Rattle.reach_gather.proofs.Mapped.{metadata-add}
+use Rattle.reach_gather.proofs.Noted.{noted-longer}
 use Rattle.reach_gather.proofs.volumes.add_live_metadata.Goals as goal
 
 pub returns-then-oid-eq0-clause-clear : goal.returns-then-oid-eq0-clause-clear
-returns-then-oid-eq0-clause-clear g c = λ image told. adds-zero image c.args.cp.now (namer_of c.args.by) 152 (TreeRoot SnapMetadata) ByBlock c.args.oid c.args.out.now c.if-oid-eq0.true
+returns-then-oid-eq0-clause-clear c = λ image seen whole.
+    let at : c.volume.inside.snaps_root ≡ c.args.volume.now.snaps_root = ap (λ (v : Loaded). v.snaps_root) c.volume.view_is in
+    adds-zero image seen (namer_of c.args.by) 152 (TreeRoot SnapMetadata) ByBlock c.args.volume.now.snaps_root c.args.out.now (sym at ∙ c.if-oid-eq0.true)
 
-pub returns-in-Ok-clause-clear : goal.returns-in-Ok-clause-clear
-returns-in-Ok-clause-clear g c = λ image told. adds-some image c.args.cp.now (namer_of c.args.by) 152 (TreeRoot SnapMetadata) ByBlock c.args.oid [] c.args.out.now c.add_metadata.new.out c.if-oid-eq0.false (c.in-Ok.ensures.clear image told)
+pub returns-clause-clear : goal.returns-clause-clear
+returns-clause-clear c = λ image seen whole.
+    let me : Namer = namer_of c.args.by in
+    let at : c.volume.inside.snaps_root ≡ c.args.volume.now.snaps_root = ap (λ (v : Loaded). v.snaps_root) c.volume.view_is in
+    let steps : c.deref.result.now ≡ c.args.volume.now.snaps_steps = c.deref.ensures.value ∙ ap (λ (v : Loaded). v.snaps_steps) c.volume.view_is in
+    subst (λ (oid : ℕ). Adds image seen (unless_zero me 152 (TreeRoot SnapMetadata) ByBlock oid) [] c.args.out.now c.add_nodes.new.out) at
+    (adds-some image seen me 152 (TreeRoot SnapMetadata) ByBlock c.volume.inside.snaps_root [] c.args.out.now c.add_nodes.new.out c.if-oid-eq0.false
+    (metadata-add image seen c.args.volume.now (naming me 152 (TreeRoot SnapMetadata) ByBlock c.volume.inside.snaps_root) c.deref.result.now c.args.out.now c.add_nodes.new.out whole refl refl at (λ z. c.if-oid-eq0.false (at ∙ z)) steps
+    c.in_ok-add_nodes.ensures.namings c.in_ok-add_nodes.ensures.owners c.add_nodes.ensures.pool_owners))
 
-pub returns-in-Err-clause-present : goal.returns-in-Err-clause-present
-returns-in-Err-clause-present g c = λ image told live.
-    c.in-Err.ensures.present image told (live-some image c.args.cp.now (namer_of c.args.by) 152 (TreeRoot SnapMetadata) ByBlock c.args.oid c.if-oid-eq0.false live)
+pub returns-clause-longer : goal.returns-clause-longer
+returns-clause-longer c =
+    noted-longer c.args.out.now.namings c.add_nodes.new.out.namings (node_namings SnapMetadata (naming (namer_of c.args.by) 152 (TreeRoot SnapMetadata) ByBlock c.volume.inside.snaps_root) c.deref.result.now) c.in_ok-add_nodes.ensures.namings

@@ -15,33 +15,37 @@ use Rattle.reach_gather.proofs.volumes.add_volume.Goals as goal
 
 pub returns-in-None-clause-present : goal.returns-in-None-clause-present
 returns-in-None-clause-present g c = λ image told all part live.
-    absurd (never-lost c.resolve.result part.mapping c.in-None.is
-    (record-found image c.args.cp.now c.args.volume.now c.args.records.now c.volume.inside.head.oid c.xid.result c.resolve.result part all (ap (λ (v : Loaded). v.head.oid) c.volume.view_is) c.xid.ensures c.resolve.ensures))
+    absurd (never-lost c.record.result part.mapping c.in-None.is
+    (record-found image c.args.cp.now c.args.volume.now c.args.omap.now.records c.volume.inside.head.oid c.xid.result c.record.result part all (ap (λ (v : Loaded). v.head.oid) c.volume.view_is) c.xid.ensures c.record.ensures))
 
 pub returns-in-Ok-clause-clear : goal.returns-in-Ok-clause-clear
 returns-in-Ok-clause-clear g c = λ image told all part.
     let seen : Seen = c.args.cp.now in
     let volume : Loaded = c.args.volume.now in
-    let found = record-found image seen volume c.args.records.now c.volume.inside.head.oid c.xid.result c.resolve.result part all (ap (λ (v : Loaded). v.head.oid) c.volume.view_is) c.xid.ensures c.resolve.ensures in
-    let one : c.in-Some.found ≡ part.mapping = found-one c.resolve.result c.in-Some.found part.mapping c.in-Some.is found in
+    let found = record-found image seen volume c.args.omap.now.records c.volume.inside.head.oid c.xid.result c.record.result part all (ap (λ (v : Loaded). v.head.oid) c.volume.view_is) c.xid.ensures c.record.ensures in
+    let one : c.in-Some.found ≡ part.mapping = found-one c.record.result c.in-Some.found part.mapping c.in-Some.is found in
     let named : namer_of (by.Record c.mapping_of-mapping.result) ≡ volume_namer seen part.mapping = namer-is seen c.mapping_of-mapping.result c.omap_oid-map.result c.in-Some.found part.mapping c.mapping_of-mapping.ensures (c.omap_oid-map.ensures ∙ ap omap_oid_of c.nx.ensures) one in
     volume-adds image seen volume _ c.mapping_of-mapping.result c.omap_oid-map.result c.in-Some.found c.args.out.now c.note_record.new.self c.add_named.new.out part c.named.ensures.naming c.mapping_of-mapping.ensures (c.omap_oid-map.ensures ∙ ap omap_oid_of c.nx.ensures) one
     c.in_ok-note_record.ensures.namings c.in_ok-note_record.ensures.owners c.note_record.ensures.pool_owners
     (c.in-Ok.ensures.clear image told (record {
       map = subst (λ (n : Namer). IsMapPart image seen (map_in_volume n (map_of volume))) (sym named) part.map;
+      contents = part.contents;
       snapshots = λ i snapshot at. let s = part.snapshots i snapshot at in record { plain = s.plain; leads = s.leads };
+      metadata = part.metadata;
     }))
 
 pub returns-in-Err-clause-present : goal.returns-in-Err-clause-present
 returns-in-Err-clause-present g c = λ image told all part live.
     let seen : Seen = c.args.cp.now in
     let volume : Loaded = c.args.volume.now in
-    let found = record-found image seen volume c.args.records.now c.volume.inside.head.oid c.xid.result c.resolve.result part all (ap (λ (v : Loaded). v.head.oid) c.volume.view_is) c.xid.ensures c.resolve.ensures in
-    let one : c.in-Some.found ≡ part.mapping = found-one c.resolve.result c.in-Some.found part.mapping c.in-Some.is found in
+    let found = record-found image seen volume c.args.omap.now.records c.volume.inside.head.oid c.xid.result c.record.result part all (ap (λ (v : Loaded). v.head.oid) c.volume.view_is) c.xid.ensures c.record.ensures in
+    let one : c.in-Some.found ≡ part.mapping = found-one c.record.result c.in-Some.found part.mapping c.in-Some.is found in
     let named : namer_of (by.Record c.mapping_of-mapping.result) ≡ volume_namer seen part.mapping = namer-is seen c.mapping_of-mapping.result c.omap_oid-map.result c.in-Some.found part.mapping c.mapping_of-mapping.ensures (c.omap_oid-map.ensures ∙ ap omap_oid_of c.nx.ensures) one in
     c.in-Err.ensures.present image told (record {
       map = subst (λ (n : Namer). IsMapPart image seen (map_in_volume n (map_of volume))) (sym named) part.map;
+      contents = part.contents;
       snapshots = λ i snapshot at. let s = part.snapshots i snapshot at in record { plain = s.plain; leads = s.leads };
+      metadata = part.metadata;
     })
     (subst (λ (n : Namer). AreLive image seen (told_volume seen n volume)) (sym named) (led-to image seen (head_naming volume.head) (told_volume seen (volume_namer seen part.mapping) volume) live part.leads))
 

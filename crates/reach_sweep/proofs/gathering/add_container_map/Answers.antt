@@ -1,24 +1,32 @@
-use Rattle.std.proofs.Common.{◌≡◌, ◌∙◌, ℕ, [], ◌∷◌, ap, sym, subst}
+use Rattle.std.proofs.Common.{◌≡◌, ◌∙◌, ℕ, ◌+◌, ◌≤◌, [], ◌∷◌, length, ap, sym, subst, arith}
 use Rattle.nx_block.specs.Super.{omap_oid_of}
-use Rattle.nx_ring.specs.Checkpoint.{Seen}
-use Rattle.reach_rules.specs.Naming.{ByBlock, Newest, Whole, ContainerMap, naming}
-use Rattle.reach_rules.specs.Live.{IsLive}
+use Rattle.nx_ring.specs.Checkpoint.{Seen, site_of}
+use Rattle.omap_map.specs.Maps.{Contents, contents_of}
+use Rattle.omap_map.specs.Loading.{map_nodes}
+use Rattle.reach_rules.specs.Naming.{ByBlock, Newest, Whole, ContainerMap, Naming, naming}
 use Rattle.tree_namings.specs.Volumes.Parts.{IsMapPart}
 use Rattle.reach_gather.specs.Adds.{Adds}
-use Rattle.reach_sweep.proofs.Gathers.{map-live}
+use Rattle.reach_gather.specs.Mapped.{loaded_namings}
+use Rattle.reach_gather.proofs.Growing.{noted-more}
+use Rattle.reach_gather.proofs.Mapped.{loaded-count}
 use Rattle.reach_sweep.proofs.gathering.add_container_map.Goals as goal
 
-pub returns-in-Ok-clause-clear : goal.returns-in-Ok-clause-clear
-returns-in-Ok-clause-clear g c = λ image told part.
+pub returns-clause-clear : goal.returns-clause-clear
+returns-clause-clear g c = λ image told part.
     let seen : Seen = c.args.cp.now in
     let by : c.omap_oid.result ≡ omap_oid_of seen.nx = c.omap_oid.ensures ∙ ap omap_oid_of c.nx.ensures in
     subst (λ (oid : ℕ). Adds image seen (naming (Whole Newest) 160 ContainerMap ByBlock oid ∷ []) [] c.args.out.now c.add_map.new.out) by
-    (c.in-Ok.ensures.clear image told (subst (λ (oid : ℕ). IsMapPart image seen (naming (Whole Newest) 160 ContainerMap ByBlock oid)) (sym by) part))
+    (c.in_ok-add_map.ensures.clear image seen (subst (λ (oid : ℕ). IsMapPart image seen (naming (Whole Newest) 160 ContainerMap ByBlock oid)) (sym by) part)
+    ((c.in-Ok.ensures.clear image told).same ∙ ap (contents_of image (site_of seen)) (sym by)))
 
-pub returns-in-Err-clause-present : goal.returns-in-Err-clause-present
-returns-in-Err-clause-present g c = λ image told part.
+pub returns-clause-records : goal.returns-clause-records
+returns-clause-records g c = λ image told. ap (λ (m : Contents). m.records) (c.in-Ok.ensures.clear image told).same
+
+pub returns-clause-reads : goal.returns-clause-reads
+returns-clause-reads g c = λ image told.
     let seen : Seen = c.args.cp.now in
-    let by : c.omap_oid.result ≡ omap_oid_of seen.nx = c.omap_oid.ensures ∙ ap omap_oid_of c.nx.ensures in
-    c.in-Err.ensures.present image told
-    (subst (λ (oid : ℕ). IsMapPart image seen (naming (Whole Newest) 160 ContainerMap ByBlock oid)) (sym by) part)
-    (subst (λ (oid : ℕ). IsLive image seen (naming (Whole Newest) 160 ContainerMap ByBlock oid)) (sym by) (map-live image seen))
+    let n : Naming = naming (Whole Newest) 160 ContainerMap ByBlock c.omap_oid.result in
+    let few : g.S.BlockSource.reads c.load_map.new.src ≤ g.S.BlockSource.reads c.args.src.now + (1 + map_nodes image (site_of seen) (omap_oid_of seen.nx)) = c.in-Ok.ensures.reads image told in
+    let more : length c.add_map.new.out.namings ≡ length c.args.out.now.namings + length (loaded_namings n c.in-Ok.omap) = noted-more c.args.out.now.namings c.add_map.new.out.namings (loaded_namings n c.in-Ok.omap) c.in_ok-add_map.ensures.namings in
+    let long : length (loaded_namings n c.in-Ok.omap) ≡ 1 + map_nodes image (site_of seen) (omap_oid_of seen.nx) = loaded-count image (site_of seen) (omap_oid_of seen.nx) c.in-Ok.omap n (c.in-Ok.ensures.clear image told) in
+    omega (arith, few, more, long)

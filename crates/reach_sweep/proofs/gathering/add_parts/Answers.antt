@@ -16,7 +16,7 @@ returns-in-Err-add_volumes-clause-present g c = λ image heads namer told has vo
     let told2 = c.in-Ok-add_container_map.ensures.kept.same_bytes ∙ told1 in
     let told3 = c.in-Ok-add_jumpstart.ensures.kept.same_bytes ∙ told2 in
     c.in-Err-add_volumes.ensures.present image namer told3
-    (c.as_slice.ensures.value ∙ c.in-Ok-add_container_map.ensures.records image told1)
+    (c.in-Ok-add_container_map.ensures.records image told1)
     (named-parts image seen heads c.args.volumes.now namer has volumes)
     (slots-live image seen heads c.args.volumes.now namer has volumes)
 
@@ -32,7 +32,7 @@ returns-in-Ok-add_volumes-clause-clear g c = λ image heads namer told has volum
     (c.in-Ok-add_reaper.ensures.clear image)
     (c.in-Ok-add_jumpstart.ensures.clear image told2)
     (c.in-Ok-add_volumes.ensures.clear image namer told3
-    (c.as_slice.ensures.value ∙ c.in-Ok-add_container_map.ensures.records image told1)
+    (c.in-Ok-add_container_map.ensures.records image told1)
     (named-parts image seen heads c.args.volumes.now namer has volumes))
 
 pub returns-in-Ok-add_volumes-clause-reads : goal.returns-in-Ok-add_volumes-clause-reads

@@ -88,7 +88,7 @@ returns-in-Err-check_used-clause-present g c = λ image heads told h l.
     let used : List Used = c.in-Ok-sweep_views.used.items in
     let v = given-of image seen heads volumes h l in
     let before = c.load_pool.ensures.kept.same_bytes ∙ (c.load_space.ensures.kept.same_bytes ∙ told) in
-    let records : c.in-Ok-add_parts.records.items ≡ map_records image (site_of seen) (omap_oid_of seen.nx) = c.in-Ok-add_parts.ensures.records image before in
+    let records : c.in-Ok-add_parts.omap.records ≡ map_records image (site_of seen) (omap_oid_of seen.nx) = c.in-Ok-add_parts.ensures.records image before in
     let swept : AreSwept image seen heads volumes c.in_ok-parts.parts c.add_parts.new.out used found = record {
       given = v;
       gathered = record {
@@ -97,12 +97,12 @@ returns-in-Err-check_used-clause-present g c = λ image heads told h l.
       };
       once = c.in-Ok-once.ensures.clear;
       reached = c.in-Ok-sweep_views.ensures.clear image heads namer (c.add_parts.ensures.kept.same_bytes ∙ before) v.parts v.volumes_are;
-      heads_found = c.in-Ok-head_records.ensures.found image heads namer v.parts (c.deref.ensures.value ∙ records) v.volumes_are;
+      heads_found = c.in-Ok-head_records.ensures.found image heads namer v.parts records v.volumes_are;
     } in
     let ones : AreUsedOnes image seen (found ++ used) = used-ones image seen heads volumes c.in_ok-parts.parts c.add_parts.new.out used found swept in
     c.in-Err-check_used.ensures.present image
-    (subst (λ (us : List Used). AreUsedOnes image seen (us ++ c.deref-4.result.now)) (sym c.deref-3.ensures.value) (subst (λ (us : List Used). AreUsedOnes image seen (found ++ us)) (sym c.deref-4.ensures.value) ones))
-    (of-maps image seen heads volumes namer c.deref-2.result.now v.parts v.volumes_are (c.deref-2.ensures.value ∙ records))
+    (subst (λ (us : List Used). AreUsedOnes image seen (us ++ c.deref-2.result.now)) (sym c.deref.ensures.value) (subst (λ (us : List Used). AreUsedOnes image seen (found ++ us)) (sym c.deref-2.ensures.value) ones))
+    (of-maps image seen heads volumes namer c.records.result.now v.parts v.volumes_are (c.records.ensures.all ∙ records))
 
 pub returns-in-Err-check_used-clause-exact : goal.returns-in-Err-check_used-clause-exact
 returns-in-Err-check_used-clause-exact g c = λ image heads told h l whole r.
@@ -124,11 +124,11 @@ swept-at g c image heads told h l =
       };
       once = c.in-Ok-once.ensures.clear;
       reached = c.in-Ok-sweep_views.ensures.clear image heads namer (c.add_parts.ensures.kept.same_bytes ∙ before) v.parts v.volumes_are;
-      heads_found = c.in-Ok-head_records.ensures.found image heads namer v.parts (c.deref.ensures.value ∙ c.in-Ok-add_parts.ensures.records image before) v.volumes_are;
+      heads_found = c.in-Ok-head_records.ensures.found image heads namer v.parts (c.in-Ok-add_parts.ensures.records image before) v.volumes_are;
     }
 
 known-at : (g : _) (c : goal.After-drop-parts-inside-in-Ok-finish-3 g) (image : List ℕ) (heads : List VolHead) → g.S.BlockSource.bytes c.args.src.now ≡ Some image → AreHeads image c.args.cp.now heads → AreLoadedOf image c.args.cp.now heads c.args.volumes.now →
-    AreKnown image c.args.cp.now heads (maps_of c.args.cp.now c.args.volumes.now c.deref-2.result.now) (c.in-Ok-head_records.found.items ++ c.in-Ok-sweep_views.used.items) c.in-Ok.space c.in-Ok-load_pool.pool.items
+    AreKnown image c.args.cp.now heads (maps_of c.args.cp.now c.args.volumes.now c.records.result.now) (c.in-Ok-head_records.found.items ++ c.in-Ok-sweep_views.used.items) c.in-Ok.space c.in-Ok-load_pool.pool.items
 known-at g c image heads told h l =
     let seen : Seen = c.args.cp.now in
     let volumes : List Loaded = c.args.volumes.now in
@@ -136,9 +136,9 @@ known-at g c image heads told h l =
     let before = c.load_pool.ensures.kept.same_bytes ∙ (c.load_space.ensures.kept.same_bytes ∙ told) in
     record {
       plain = c.requires.plain;
-      listed = listed-by image seen heads volumes (namer_by image seen) c.deref-2.result.now v.parts v.volumes_are (c.deref-2.ensures.value ∙ c.in-Ok-add_parts.ensures.records image before);
-      all_are_used = subst (λ (us : List Used). AreAllUsed (maps_of seen volumes c.deref-2.result.now) (us ++ c.in-Ok-sweep_views.used.items)) c.deref-3.ensures.value
-          (subst (λ (us : List Used). AreAllUsed (maps_of seen volumes c.deref-2.result.now) (c.deref-3.result.now ++ us)) c.deref-4.ensures.value c.in-Ok-check_used.ensures.clear);
+      listed = listed-by image seen heads volumes (namer_by image seen) c.records.result.now v.parts v.volumes_are (c.records.ensures.all ∙ c.in-Ok-add_parts.ensures.records image before);
+      all_are_used = subst (λ (us : List Used). AreAllUsed (maps_of seen volumes c.records.result.now) (us ++ c.in-Ok-sweep_views.used.items)) c.deref.ensures.value
+          (subst (λ (us : List Used). AreAllUsed (maps_of seen volumes c.records.result.now) (c.deref.result.now ++ us)) c.deref-2.ensures.value c.in-Ok-check_used.ensures.clear);
       space_is = c.in-Ok.ensures.clear image told;
       pool_is = c.in-Ok-load_pool.ensures.clear image (c.load_space.ensures.kept.same_bytes ∙ told);
       queued = c.in-Ok-add_parts.ensures.queued image before;
@@ -146,19 +146,19 @@ known-at g c image heads told h l =
 
 finished-at : (g : _) (c : goal.After-drop-parts-inside-in-Ok-finish-3 g) → IsFinished (records_used c.in-Ok-sweep_views.used.items) (records_used c.in-Ok-head_records.found.items) c.add_parts.new.out c.in-Ok.space c.in-Ok-load_pool.pool.items c.in-Ok-finish.reached
 finished-at g c =
-    subst (λ (us : List Used). IsFinished (records_used us) (records_used c.in-Ok-head_records.found.items) c.add_parts.new.out c.in-Ok.space c.in-Ok-load_pool.pool.items c.in-Ok-finish.reached) c.deref-5.ensures.value
-    (subst (λ (us : List Used). IsFinished (records_used c.deref-5.result.now) (records_used us) c.add_parts.new.out c.in-Ok.space c.in-Ok-load_pool.pool.items c.in-Ok-finish.reached) c.deref-6.ensures.value c.in-Ok-finish.ensures.done)
+    subst (λ (us : List Used). IsFinished (records_used us) (records_used c.in-Ok-head_records.found.items) c.add_parts.new.out c.in-Ok.space c.in-Ok-load_pool.pool.items c.in-Ok-finish.reached) c.deref-3.ensures.value
+    (subst (λ (us : List Used). IsFinished (records_used c.deref-3.result.now) (records_used us) c.add_parts.new.out c.in-Ok.space c.in-Ok-load_pool.pool.items c.in-Ok-finish.reached) c.deref-4.ensures.value c.in-Ok-finish.ensures.done)
 
 pub returns-in-Ok-finish-clause-clear : goal.returns-in-Ok-finish-clause-clear
 returns-in-Ok-finish-clause-clear g c = λ image heads told h l.
-    all-reached image c.args.cp.now heads c.args.volumes.now c.in_ok-parts.parts c.add_parts.new.out c.in-Ok-sweep_views.used.items c.in-Ok-head_records.found.items (maps_of c.args.cp.now c.args.volumes.now c.deref-2.result.now) c.in-Ok.space c.in-Ok-load_pool.pool.items c.in-Ok-finish.reached
+    all-reached image c.args.cp.now heads c.args.volumes.now c.in_ok-parts.parts c.add_parts.new.out c.in-Ok-sweep_views.used.items c.in-Ok-head_records.found.items (maps_of c.args.cp.now c.args.volumes.now c.records.result.now) c.in-Ok.space c.in-Ok-load_pool.pool.items c.in-Ok-finish.reached
     (swept-at g c image heads told h l) (known-at g c image heads told h l) (finished-at g c)
 
 pub returns-in-Ok-finish-clause-reads : goal.returns-in-Ok-finish-clause-reads
 returns-in-Ok-finish-clause-reads g c = λ image heads told h l.
     let before = c.load_pool.ensures.kept.same_bytes ∙ (c.load_space.ensures.kept.same_bytes ∙ told) in
-    let few : length c.add_parts.new.out.namings + length c.in-Ok-sweep_views.used.items < 2 ^ 64 = subst (λ (us : List Used). length c.add_parts.new.out.namings + length us < 2 ^ 64) c.deref-5.ensures.value c.in-Ok-finish.ensures.few in
-    reads-within image c.args.cp.now heads c.args.volumes.now c.in_ok-parts.parts c.add_parts.new.out c.in-Ok-sweep_views.used.items c.in-Ok-head_records.found.items (maps_of c.args.cp.now c.args.volumes.now c.deref-2.result.now) c.in-Ok.space c.in-Ok-load_pool.pool.items c.in-Ok-finish.reached
+    let few : length c.add_parts.new.out.namings + length c.in-Ok-sweep_views.used.items < 2 ^ 64 = subst (λ (us : List Used). length c.add_parts.new.out.namings + length us < 2 ^ 64) c.deref-3.ensures.value c.in-Ok-finish.ensures.few in
+    reads-within image c.args.cp.now heads c.args.volumes.now c.in_ok-parts.parts c.add_parts.new.out c.in-Ok-sweep_views.used.items c.in-Ok-head_records.found.items (maps_of c.args.cp.now c.args.volumes.now c.records.result.now) c.in-Ok.space c.in-Ok-load_pool.pool.items c.in-Ok-finish.reached
     (swept-at g c image heads told h l) (known-at g c image heads told h l) (finished-at g c) few _ _ _ _ _ (record {
       of_space = c.in-Ok.ensures.reads;
       of_pool = c.in-Ok-load_pool.ensures.reads;
