@@ -8,3 +8,4 @@ pub mod Siblings
 pub mod Extents
 pub mod StreamExtents
 pub mod Facts
+pub mod Held

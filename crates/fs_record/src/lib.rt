@@ -9,6 +9,7 @@ mod fault;
 mod fields;
 mod inode_view;
 mod inodes;
+mod kept;
 mod refusals;
 mod siblings;
 #[cfg(test)]
@@ -21,5 +22,6 @@ pub use extents::{FileExt, file_ext};
 pub use fault::RecFault;
 pub use inode_view::{Inode, StreamSize};
 pub use inodes::inode;
+pub use kept::KeptName;
 pub use refusals::refused;
 pub use siblings::{Sibling, sibling_link, sibling_map};

@@ -1,4 +1,5 @@
-// Paths in made containers.
+// Paths in made containers, what they lead to, and what their views hold.
 
 mod reads;
+mod usage;
 mod walks;

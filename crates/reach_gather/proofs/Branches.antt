@@ -8,11 +8,11 @@ use Rattle.reach_rules.specs.Naming.{ByBlock, ByMapping, Object, InBlock, OfId, 
 use Rattle.reach_rules.specs.Trees.{IsRightTree}
 use Rattle.reach_rules.specs.Owners.{owners_through, tree_owners}
 use Rattle.reach_rules.specs.PoolOwners.{pool_owners_through, pool_tree_owners}
-use Rattle.tree_namings.specs.Account.{AreRightTrees}
-use Rattle.tree_namings.specs.Namings.{level_below, step_naming, tree_namings, IsPlainNaming, AreNamingsOf}
-use Rattle.tree_namings.proofs.Joined.{part-tree}
-use Rattle.tree_namings.proofs.Views.{outside-views}
-use Rattle.tree_namings.specs.Views.{is_in_view}
+use Rattle.reach_gather.specs.Account.{AreRightTrees}
+use Rattle.reach_gather.specs.Namings.{level_below, step_naming, tree_namings, IsPlainNaming, AreNamingsOf}
+use Rattle.reach_gather.proofs.Joined.{part-tree}
+use Rattle.reach_gather.proofs.Views.{outside-views}
+use Rattle.reach_gather.specs.ViewParts.{is_in_view}
 use Rattle.reach_gather.specs.Held.{Held, Grew, IsOwnerThrough, GrewBy, some_owners}
 use Rattle.reach_gather.specs.Adds.{Adds}
 use Rattle.reach_gather.specs.Steps.{block_steps, id_steps, block_owner}

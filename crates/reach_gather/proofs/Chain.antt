@@ -11,10 +11,10 @@ use Rattle.nx_ring.specs.Checkpoint.{Seen}
 use Rattle.reach_rules.specs.Naming.{ByMapping, Newest, OfId, Whole, TreeKind, TreeRoot, Expected, ReaperObject, ReapList, Naming, naming}
 use Rattle.reach_rules.specs.Owners.{owners_through}
 use Rattle.reach_rules.specs.PoolOwners.{pool_owners_through}
-use Rattle.tree_namings.specs.Views.{is_in_view}
-use Rattle.tree_namings.specs.Container.{reaper_naming}
-use Rattle.tree_namings.proofs.Joined.{part-apart}
-use Rattle.reaper_jumpstart.specs.Reaped.{list_namings, reaper_namings, IsReaped}
+use Rattle.reach_gather.specs.ViewParts.{is_in_view}
+use Rattle.reach_gather.specs.Container.{reaper_naming}
+use Rattle.reach_gather.proofs.Joined.{part-apart}
+use Rattle.reach_gather.specs.Reaped.{list_namings, reaper_namings, IsReaped}
 use Rattle.reach_gather.specs.Held.{Held}
 use Rattle.reach_gather.specs.Adds.{Adds}
 use Rattle.reach_gather.specs.Chain.{reap_at}

@@ -23,10 +23,10 @@ use Rattle.reach_rules.specs.Resolved.{Found}
 use Rattle.reach_rules.specs.Next.{next, address_naming, addresses_in, address_namings, is_cib_of, cibs_in, cib_naming, cab_namings}
 use Rattle.reach_rules.specs.Owners.{Owner, owner, Bitmap, tells_of_chunks, object_owners, told_owners, owners_through}
 use Rattle.reach_rules.specs.PoolOwners.{pool_object_owners, pool_told_owners, pool_owners_through, is_chunk_of, has_bitmap_in, bitmaps_in, bitmap_owner, bitmap_owners}
-use Rattle.tree_namings.specs.Namings.{IsPlainNaming}
-use Rattle.tree_namings.specs.Container.{block_namings}
-use Rattle.tree_namings.specs.Space.{manager_namer, blocks_namings}
-use Rattle.tree_namings.proofs.Container.{plain-block, plain-facts}
+use Rattle.reach_gather.specs.Namings.{IsPlainNaming}
+use Rattle.reach_gather.specs.Container.{block_namings}
+use Rattle.reach_gather.specs.Space.{manager_namer, blocks_namings}
+use Rattle.reach_gather.proofs.Container.{plain-block, plain-facts}
 use Rattle.reach_gather.specs.Held.{Held, Grew, IsOwnerThrough, GrewBy}
 use Rattle.reach_gather.specs.Infos.{room_of, known_cab, known_cib, known_cabs, known_cibs, bitmaps_from}
 use Rattle.reach_gather.specs.Steps.{block_owner}

@@ -14,11 +14,11 @@ use Rattle.reach_rules.specs.Naming.{LookUp, ByBlock, ByMapping, InContainer, In
 use Rattle.reach_rules.specs.Resolved.{Found, resolved, found_by, found_virtual, recorded, standing, mapped, mapped_node, is_node}
 use Rattle.reach_rules.specs.Tally.{IsNumberOf}
 use Rattle.reach_rules.proofs.Looks.{standing-by}
-use Rattle.tree_namings.specs.Tells.{objects_through}
-use Rattle.tree_namings.specs.Views.{is_in_view, record_object, ResolvesTo, AreOutside}
-use Rattle.tree_namings.specs.Joined.{HaveSame}
-use Rattle.tree_namings.specs.Ranges.{joined_objects}
-use Rattle.tree_namings.specs.Gathered.{AreOnceOf}
+use Rattle.reach_gather.specs.Tells.{objects_through}
+use Rattle.reach_gather.specs.ViewParts.{is_in_view, record_object, ResolvesTo, AreOutside}
+use Rattle.reach_gather.specs.Joined.{HaveSame}
+use Rattle.reach_gather.specs.Ranges.{joined_objects}
+use Rattle.reach_gather.specs.Gathered.{AreOnceOf}
 use Rattle.reach_gather.specs.Finished.{IsIdOf, IsObjectOf, AreRecordsWith}
 
 -- what is found through a test, and in another form

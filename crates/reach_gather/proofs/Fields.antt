@@ -11,10 +11,10 @@ use Rattle.reach_rules.specs.Next.{next, unless_zero}
 use Rattle.reach_rules.specs.Live.{IsLive, led}
 use Rattle.reach_rules.specs.Owners.{owners_through}
 use Rattle.reach_rules.specs.PoolOwners.{pool_owners_through}
-use Rattle.tree_namings.specs.Namings.{IsPlainNaming}
-use Rattle.tree_namings.specs.Parts.{ExpectsMap}
-use Rattle.tree_namings.specs.Views.{is_in_view}
-use Rattle.tree_namings.specs.Volumes.Parts.{IsMapPart}
+use Rattle.reach_gather.specs.Namings.{IsPlainNaming}
+use Rattle.reach_gather.specs.Parts.{ExpectsMap}
+use Rattle.reach_gather.specs.ViewParts.{is_in_view}
+use Rattle.reach_gather.specs.Volumes.Parts.{IsMapPart}
 use Rattle.reach_gather.specs.Held.{Held, GrewBy}
 use Rattle.reach_gather.specs.Adds.{Adds, AreLive}
 use Rattle.reach_gather.specs.Steps.{block_owner}

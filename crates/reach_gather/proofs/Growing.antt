@@ -10,10 +10,10 @@ use Rattle.reach_rules.specs.Trees.{IsRightTree}
 use Rattle.reach_rules.specs.Next.{next}
 use Rattle.reach_rules.specs.Owners.{Owner, owners_through}
 use Rattle.reach_rules.specs.PoolOwners.{pool_owners_through}
-use Rattle.tree_namings.specs.Namings.{IsPlainNaming}
-use Rattle.tree_namings.specs.Account.{AreRightTrees}
-use Rattle.tree_namings.specs.Views.{is_in_view, AreOutside}
-use Rattle.tree_namings.proofs.Joined.{part-none, part-left, part-join, part-step}
+use Rattle.reach_gather.specs.Namings.{IsPlainNaming}
+use Rattle.reach_gather.specs.Account.{AreRightTrees}
+use Rattle.reach_gather.specs.ViewParts.{is_in_view, AreOutside}
+use Rattle.reach_gather.proofs.Joined.{part-none, part-left, part-join, part-step}
 use Rattle.reach_gather.specs.Held.{Held, Grew, IsOwnerThrough, GrewBy, some_owners}
 use Rattle.reach_gather.specs.Adds.{Adds}
 

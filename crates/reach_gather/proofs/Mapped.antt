@@ -17,16 +17,16 @@ use Rattle.reach_rules.specs.Next.{unless_zero}
 use Rattle.reach_rules.specs.Owners.{Owner, owners_through, tree_owners}
 use Rattle.reach_rules.specs.PoolOwners.{pool_owners_through, pool_tree_owners}
 use Rattle.reach_rules.specs.Trees.{IsRightTree}
-use Rattle.tree_namings.specs.Namings.{tree_steps, step_naming, tree_namings, IsPlainNaming, AreNamingsOf}
-use Rattle.tree_namings.specs.Parts.{ExpectsMap}
-use Rattle.tree_namings.specs.Walked.{IsWholeTree}
-use Rattle.tree_namings.specs.Volumes.Parts.{IsMapPart, HasWholeMetadata}
+use Rattle.reach_gather.specs.Namings.{tree_steps, step_naming, tree_namings, IsPlainNaming, AreNamingsOf}
+use Rattle.reach_gather.specs.Parts.{ExpectsMap}
+use Rattle.reach_gather.specs.Walked.{IsWholeTree}
+use Rattle.reach_gather.specs.Volumes.Parts.{IsMapPart, HasWholeMetadata}
 use Rattle.vol_view.specs.Volumes.{Loaded}
-use Rattle.tree_namings.proofs.Joined.{part-tree}
-use Rattle.tree_namings.proofs.OfKinds.{records-kind, snapshots-kind, metadata-kind}
-use Rattle.tree_namings.proofs.Views.{outside-views}
-use Rattle.tree_namings.proofs.Walking.{nodes-count, whole-namings}
-use Rattle.tree_namings.proofs.VolumeLemmas.MapParts.{records-whole, snapshots-whole}
+use Rattle.reach_gather.proofs.Joined.{part-tree}
+use Rattle.reach_gather.proofs.OfKinds.{records-kind, snapshots-kind, metadata-kind}
+use Rattle.reach_gather.proofs.Views.{outside-views}
+use Rattle.reach_gather.proofs.Walking.{nodes-count, whole-namings}
+use Rattle.reach_gather.proofs.VolumeLemmas.MapParts.{records-whole, snapshots-whole}
 use Rattle.reach_gather.specs.Held.{Held}
 use Rattle.reach_gather.specs.Adds.{Adds}
 use Rattle.reach_gather.specs.Mapped.{records_root, snapshots_root, past_namings, loaded_namings}

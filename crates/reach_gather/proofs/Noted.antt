@@ -12,8 +12,8 @@ use Rattle.space_map.specs.Stops.{Known, IsSpaceOf}
 use Rattle.nx_block.specs.Super.{jumpstart_of}
 use Rattle.reach_rules.specs.Naming.{ByBlock, Newest, Whole, Jumpstart, Naming}
 use Rattle.reach_rules.specs.Next.{unless_zero}
-use Rattle.reaper_jumpstart.specs.Jumped.{jump_root}
-use Rattle.reaper_jumpstart.proofs.Jumps.{one-root}
+use Rattle.reach_gather.specs.Jumped.{jump_root}
+use Rattle.reach_gather.proofs.Jumps.{one-root}
 use Rattle.reach_gather.specs.Infos.{known_cabs, known_cibs}
 use Rattle.reach_gather.proofs.Growing.{noted-more}
 use Rattle.reach_gather.proofs.Numbered.{append-assoc}

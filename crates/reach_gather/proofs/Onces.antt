@@ -11,7 +11,7 @@ use Rattle.obj_base.specs.declared.stop.Within.{Within}
 use Rattle.reach_rules.specs.Naming.{Naming}
 use Rattle.reach_rules.specs.Live.{IsLive}
 use Rattle.reach_rules.specs.Faults.{within_of, xid_of, is_once, IsNamedTwice}
-use Rattle.tree_namings.specs.Views.{AreOnceAs}
+use Rattle.reach_gather.specs.ViewParts.{AreOnceAs}
 use Rattle.reach_gather.specs.declared.naming.NamedBy.TheVariants.{Newest}
 use Rattle.reach_gather.specs.declared.naming.Expects.TheVariants.{SpaceManager}
 use Rattle.reach_gather.specs.declared.naming.By.{By}

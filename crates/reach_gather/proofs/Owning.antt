@@ -9,8 +9,8 @@ use Rattle.reach_rules.specs.Resolved.{Found}
 use Rattle.reach_rules.specs.Tested.{Answer, tested}
 use Rattle.reach_rules.specs.Owners.{Owner, tells_of_chunks, object_owners, told_owners, told_if, owners_through}
 use Rattle.reach_rules.specs.PoolOwners.{pool_object_owners, pool_told_owners, pool_told_if, pool_owners_through}
-use Rattle.tree_namings.specs.Namings.{IsPlainNaming}
-use Rattle.tree_namings.proofs.Container.{plain-block, plain-facts}
+use Rattle.reach_gather.specs.Namings.{IsPlainNaming}
+use Rattle.reach_gather.proofs.Container.{plain-block, plain-facts}
 use Rattle.reach_gather.specs.Held.{Held, Grew, IsOwnerThrough, GrewBy}
 use Rattle.reach_gather.specs.Steps.{block_owner}
 use Rattle.reach_gather.proofs.Growing.{grew-none, grew-put, fits-more}

@@ -7,7 +7,7 @@ use Rattle.nx_ring.specs.Checkpoint.{Seen}
 use Rattle.vol_view.specs.declared.volume.Snapshot.{Snapshot}
 use Rattle.reach_rules.specs.Naming.{ViewAt, ByBlock, Kept, ExtentRefs, SnapshotSuper, TreeRoot, Naming}
 use Rattle.reach_rules.specs.Next.{next, unless_zero}
-use Rattle.tree_namings.specs.Volumes.Told.{past_at, super_in_view, told_snapshot, told_snapshots}
+use Rattle.reach_gather.specs.Volumes.Told.{past_at, super_in_view, told_snapshot, told_snapshots}
 use Rattle.reach_gather.specs.Held.{Held}
 use Rattle.reach_gather.specs.Adds.{Adds}
 use Rattle.reach_gather.specs.Steps.{block_owner}

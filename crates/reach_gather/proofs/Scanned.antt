@@ -43,10 +43,10 @@ use Rattle.reach_rules.proofs.Walks.{IsRootNaming, gap-told}
 use Rattle.reach_rules.proofs.Looks.{extents-walk}
 use Rattle.reach_rules.proofs.TreesLifted.{extents-present}
 use Rattle.reach_rules.proofs.QueuesLifted.{queue-present, queue-root, queue-walk}
-use Rattle.tree_namings.specs.Namings.{tree_steps, tree_namings, AreNamingsOf}
-use Rattle.tree_namings.specs.Walked.{IsWholeTree}
-use Rattle.tree_namings.proofs.OfKinds.{extents-kind, queue-kind}
-use Rattle.tree_namings.proofs.Walking.{whole-from, whole-namings, nodes-count}
+use Rattle.reach_gather.specs.Namings.{tree_steps, tree_namings, AreNamingsOf}
+use Rattle.reach_gather.specs.Walked.{IsWholeTree}
+use Rattle.reach_gather.proofs.OfKinds.{extents-kind, queue-kind}
+use Rattle.reach_gather.proofs.Walking.{whole-from, whole-namings, nodes-count}
 
 -- ---- extent references
 -- a tree that was scanned is whole

@@ -16,8 +16,8 @@ use Rattle.reach_rules.specs.Next.{next}
 use Rattle.reach_rules.specs.Resolved.{Found, standing}
 use Rattle.reach_rules.specs.Owners.{owner, Recorded, object_owners, told_owners, owners_through}
 use Rattle.reach_rules.specs.PoolOwners.{pool_object_owners, pool_told_owners, pool_owners_through}
-use Rattle.tree_namings.specs.Volumes.Parts.{IsVolumePart, volume_namer}
-use Rattle.tree_namings.specs.Volumes.Told.{head_naming, told_volume}
+use Rattle.reach_gather.specs.Volumes.Parts.{IsVolumePart, volume_namer}
+use Rattle.reach_gather.specs.Volumes.Told.{head_naming, told_volume}
 use Rattle.reach_gather.specs.Held.{Held, some_owners}
 use Rattle.reach_gather.specs.Adds.{Adds}
 use Rattle.reach_gather.specs.Named.{record_of, namer_of}

@@ -17,14 +17,14 @@ use Rattle.reach_rules.specs.Naming.{TreeRoot, SpaceManager, Naming}
 use Rattle.reach_rules.specs.Resolved.{Found}
 use Rattle.reach_rules.specs.Owners.{Owner, owner, InternalPool, PoolRing, owners_through}
 use Rattle.reach_rules.proofs.SpaceLifted.{there, manager-sound}
-use Rattle.tree_namings.specs.Namings.{IsPlainNaming}
-use Rattle.tree_namings.specs.Joined.{ArePart}
-use Rattle.tree_namings.specs.Views.{is_in_view}
-use Rattle.tree_namings.specs.Account.{AreRightTrees}
-use Rattle.tree_namings.specs.Container.{pool_queue_naming, main_queue_naming, manager_naming}
-use Rattle.tree_namings.specs.Space.{manager_namer, blocks_namings}
-use Rattle.tree_namings.proofs.Space.{space-part}
-use Rattle.tree_namings.proofs.Views.{outside-views}
+use Rattle.reach_gather.specs.Namings.{IsPlainNaming}
+use Rattle.reach_gather.specs.Joined.{ArePart}
+use Rattle.reach_gather.specs.ViewParts.{is_in_view}
+use Rattle.reach_gather.specs.Account.{AreRightTrees}
+use Rattle.reach_gather.specs.Container.{pool_queue_naming, main_queue_naming, manager_naming}
+use Rattle.reach_gather.specs.Space.{manager_namer, blocks_namings}
+use Rattle.reach_gather.proofs.Space.{space-part}
+use Rattle.reach_gather.proofs.Views.{outside-views}
 use Rattle.reach_gather.specs.Held.{Held, GrewBy, some_owners}
 use Rattle.reach_gather.specs.Adds.{Adds}
 use Rattle.reach_gather.specs.Infos.{known_cabs, known_cibs, bitmaps_from}

@@ -12,12 +12,12 @@ use Rattle.reach_rules.specs.Resolved.{Found}
 use Rattle.reach_rules.specs.Next.{next}
 use Rattle.reach_rules.specs.Live.{Live}
 use Rattle.reach_rules.specs.Owners.{told_from, owners_through}
-use Rattle.tree_namings.specs.Namings.{IsPlainNaming}
-use Rattle.tree_namings.specs.Container.{jumpstart_naming}
-use Rattle.tree_namings.specs.Views.{is_in_view}
-use Rattle.tree_namings.proofs.Container.{plain-block}
-use Rattle.tree_namings.proofs.Joined.{part-apart}
-use Rattle.reaper_jumpstart.specs.Jumped.{IsJumped}
+use Rattle.reach_gather.specs.Namings.{IsPlainNaming}
+use Rattle.reach_gather.specs.Container.{jumpstart_naming}
+use Rattle.reach_gather.specs.ViewParts.{is_in_view}
+use Rattle.reach_gather.proofs.Container.{plain-block}
+use Rattle.reach_gather.proofs.Joined.{part-apart}
+use Rattle.reach_gather.specs.Jumped.{IsJumped}
 use Rattle.reach_gather.specs.Held.{Held, some_owners}
 use Rattle.reach_gather.specs.Adds.{Adds}
 use Rattle.reach_gather.specs.Steps.{block_owner}

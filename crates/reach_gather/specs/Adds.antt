@@ -4,9 +4,9 @@ use Rattle.apfs_model.specs.Lists.{In}
 use Rattle.nx_ring.specs.Checkpoint.{Seen}
 use Rattle.reach_rules.specs.Naming.{Naming}
 use Rattle.reach_rules.specs.Live.{IsLive}
-use Rattle.tree_namings.specs.Account.{AreRightTrees}
-use Rattle.tree_namings.specs.Joined.{ArePart}
-use Rattle.tree_namings.specs.Views.{AreOutside}
+use Rattle.reach_gather.specs.Account.{AreRightTrees}
+use Rattle.reach_gather.specs.Joined.{ArePart}
+use Rattle.reach_gather.specs.ViewParts.{AreOutside}
 use Rattle.reach_gather.specs.Held.{Held, GrewBy}
 
 -- a part of what is live from first namings was added, with a rest; no naming of it is looked up in a view, and the trees whose roots

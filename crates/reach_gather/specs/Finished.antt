@@ -7,7 +7,7 @@ use Rattle.nx_ring.specs.Checkpoint.{Seen}
 use Rattle.reach_rules.specs.Naming.{LookUp, ByBlock, ByMapping, InContainer, Object, Newest, InBlock, OfId, OfRecord, Naming}
 use Rattle.reach_rules.specs.Owners.{Owner}
 use Rattle.reach_rules.specs.Reached.{range_of}
-use Rattle.tree_namings.specs.Views.{ResolvesTo}
+use Rattle.reach_gather.specs.ViewParts.{ResolvesTo}
 use Rattle.reach_gather.specs.declared.naming.Mapping.{Mapping}
 use Rattle.reach_gather.specs.declared.naming.By.{By}
 use Rattle.reach_gather.specs.declared.naming.By.TheVariants as looks

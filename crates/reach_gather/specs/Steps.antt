@@ -3,7 +3,7 @@ use Rattle.std.specs.Prelude.{ℕ, List, ◌∷◌, map}
 use Rattle.bt_cursor.specs.declared.step.Step.{Step}
 use Rattle.reach_rules.specs.Naming.{ByBlock, ByMapping, InBlock, OfId, TreeKind, Naming}
 use Rattle.reach_rules.specs.Owners.{Owner, owner, Named}
-use Rattle.tree_namings.specs.Namings.{step_naming}
+use Rattle.reach_gather.specs.Namings.{step_naming}
 
 -- in a tree of physical nodes
 abbrev pub block_steps : TreeKind → ℕ → List Step → List Naming

@@ -8,9 +8,9 @@ use Rattle.vol_view.specs.Volumes.{Loaded}
 use Rattle.vol_view.specs.declared.volume.Snapshot.{Snapshot}
 use Rattle.reach_rules.specs.Naming.{ViewAt, InBlock, Namer, Whole, Naming}
 use Rattle.reach_rules.specs.Next.{next}
-use Rattle.tree_namings.specs.Namings.{IsPlainNaming}
-use Rattle.tree_namings.specs.Volumes.Parts.{IsMapPart, HasWholeMetadata, IsVolumePart, volume_namer}
-use Rattle.tree_namings.specs.Volumes.Told.{head_naming, past_at, live_at, map_of, map_in_volume, super_in_view, told_view}
+use Rattle.reach_gather.specs.Namings.{IsPlainNaming}
+use Rattle.reach_gather.specs.Volumes.Parts.{IsMapPart, HasWholeMetadata, IsVolumePart, volume_namer}
+use Rattle.reach_gather.specs.Volumes.Told.{head_naming, past_at, live_at, map_of, map_in_volume, super_in_view, told_view}
 
 -- what the superblock of a snapshot names in its view
 abbrev pub past_view_namings : ViewAt → Snapshot → List Naming

@@ -8,17 +8,17 @@ ghost use Rattle.obj_base.specs.declared.stop.Stop.TheVariants.{ReadFault};
 ghost use Rattle.nx_ring.specs.Checkpoint.{site_of};
 ghost use Rattle.reach_rules.specs.Features.{HasFeature};
 ghost use Rattle.reach_rules.specs.Reached.{IsReachedFault};
-ghost use Rattle.tree_namings.specs.Container.{jumpstart_naming};
+ghost use Rattle.reach_gather.specs.Container.{jumpstart_naming};
 ghost use Rattle.reach_gather.specs.Adds.{Adds};
 
 use crate::Gathered;
 use crate::naming::{By, Expects, Named, NamedBy};
 use crate::ranges::tell_all;
+use crate::starting::jumpstart;
 use blk_source::BlockSource;
 use nx_ring::Checkpoint;
 use obj_base::Stop;
 use reach_rules::ReachFault;
-use reaper_jumpstart::jumpstart;
 use std::alloc::Global;
 
 /// Adds the EFI jumpstart, where the superblock names one, with the extents of its driver.

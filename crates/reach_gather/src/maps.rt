@@ -2,8 +2,8 @@
 ghost use Rattle.std.specs.Prelude.{◌≡◌, ◌∷◌, ◌++◌, ℕ, List, [], map, OnOk};
 ghost use Rattle.nx_ring.specs.Checkpoint.{Seen, site_of};
 ghost use Rattle.omap_map.specs.Maps.{contents_of};
-ghost use Rattle.tree_namings.specs.Parts.{ExpectsMap};
-ghost use Rattle.tree_namings.specs.Volumes.Parts.{IsMapPart};
+ghost use Rattle.reach_gather.specs.Parts.{ExpectsMap};
+ghost use Rattle.reach_gather.specs.Volumes.Parts.{IsMapPart};
 ghost use Rattle.reach_gather.specs.Adds.{Adds};
 ghost use Rattle.reach_gather.specs.Mapped.{past_namings, loaded_namings};
 ghost use Rattle.reach_gather.specs.Named.{naming_of};

@@ -9,7 +9,7 @@ ghost use Rattle.reach_rules.specs.Live.{IsLive};
 ghost use Rattle.reach_rules.specs.Faults as spec;
 ghost use Rattle.reach_rules.specs.Features.{HasFeature};
 ghost use Rattle.reach_rules.specs.Reached.{IsReachedFault};
-ghost use Rattle.tree_namings.specs.Views.{AreOnceAs};
+ghost use Rattle.reach_gather.specs.ViewParts.{AreOnceAs};
 ghost use Rattle.reach_gather.specs.declared.naming.Named as kept;
 ghost use Rattle.reach_gather.specs.Named.{look_of, naming_of};
 ghost use Rattle.reach_gather.specs.Finished.{is_look, id_of, AreOnceHere};

@@ -5,18 +5,18 @@ ghost use Rattle.obj_base.specs.Stops.{Tells};
 ghost use Rattle.obj_base.specs.declared.stop.Stop.TheVariants.{ReadFault};
 ghost use Rattle.reach_rules.specs.Features.{HasFeature};
 ghost use Rattle.reach_rules.specs.Reached.{IsReachedFault};
-ghost use Rattle.tree_namings.specs.Container.{reaper_naming};
+ghost use Rattle.reach_gather.specs.Container.{reaper_naming};
 ghost use Rattle.reach_gather.specs.Adds.{Adds};
 ghost use Rattle.reach_gather.specs.Chain.{reap_at};
 ghost use Rattle.reach_gather.specs.Named.{naming_of};
 
 use crate::Gathered;
 use crate::naming::{By, Expects, Named, NamedBy};
+use crate::reaper_lists::reap;
 use blk_source::NoMemory;
 use nx_ring::Checkpoint;
 use obj_base::Stop;
 use reach_rules::ReachFault;
-use reaper_jumpstart::reap;
 use std::alloc::Global;
 
 // The naming of the reaper, or of a list.

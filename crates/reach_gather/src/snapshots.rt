@@ -11,7 +11,7 @@ ghost use Rattle.reach_rules.specs.Features.{HasFeature};
 ghost use Rattle.reach_rules.specs.Naming.{ByBlock, Kept, ExtentRefs, TreeRoot};
 ghost use Rattle.reach_rules.specs.Next.{unless_zero};
 ghost use Rattle.reach_rules.specs.Reached.{IsReachedFault};
-ghost use Rattle.tree_namings.specs.Volumes.Told.{past_at, told_snapshot, told_snapshots};
+ghost use Rattle.reach_gather.specs.Volumes.Told.{past_at, told_snapshot, told_snapshots};
 ghost use Rattle.reach_gather.specs.Adds.{Adds, AreLive};
 ghost use Rattle.reach_gather.specs.Named.{view_of};
 ghost use Rattle.reach_gather.specs.Views.{IsSuperPart, AreSuperParts, past_view_namings, pasts_namings};

@@ -1,7 +1,7 @@
 // The nodes of trees below their roots, as the steps of the trees name them.
 ghost use Rattle.std.specs.Prelude.{◌≡◌, ◌++◌, map, OnOk};
 ghost use Rattle.reach_rules.specs.Naming.{ByBlock, ByMapping, InBlock, OfId};
-ghost use Rattle.tree_namings.specs.Namings.{level_below, step_naming};
+ghost use Rattle.reach_gather.specs.Namings.{level_below, step_naming};
 ghost use Rattle.reach_gather.specs.Named.{kind_of, naming_of};
 ghost use Rattle.reach_gather.specs.Steps.{block_steps, id_steps, block_owner};
 

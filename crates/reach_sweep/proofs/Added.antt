@@ -6,10 +6,10 @@ use Rattle.nx_block.specs.Super.{slots}
 use Rattle.nx_ring.specs.Checkpoint.{Seen}
 use Rattle.reach_rules.specs.Naming.{Naming}
 use Rattle.reach_rules.specs.Next.{roots, slot_namings}
-use Rattle.tree_namings.specs.Joined.{AreAllOf, HaveSame}
-use Rattle.tree_namings.specs.Container.{manager_naming, container_map_naming, reaper_naming, jumpstart_naming}
-use Rattle.tree_namings.proofs.Joined.{part-all-of, part-same}
-use Rattle.tree_namings.specs.Volumes.Told.{head_naming}
+use Rattle.reach_gather.specs.Joined.{AreAllOf, HaveSame}
+use Rattle.reach_gather.specs.Container.{manager_naming, container_map_naming, reaper_naming, jumpstart_naming}
+use Rattle.reach_gather.proofs.Joined.{part-all-of, part-same}
+use Rattle.reach_gather.specs.Volumes.Told.{head_naming}
 use Rattle.reach_gather.specs.Held.{Held, GrewBy}
 use Rattle.reach_gather.specs.Adds.{Adds}
 use Rattle.reach_gather.proofs.Growing.{adds-join, adds-as}

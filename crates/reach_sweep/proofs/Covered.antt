@@ -10,10 +10,10 @@ use Rattle.omap_map.specs.declared.records.OmapRecord.{OmapRecord}
 use Rattle.vol_view.specs.declared.head.VolHead.{VolHead}
 use Rattle.reach_rules.specs.Naming.{Naming}
 use Rattle.reach_rules.specs.Maps.{GivesMap, IsMapOf}
-use Rattle.tree_namings.specs.Views.{ResolvesTo}
-use Rattle.tree_namings.specs.Volumes.Told.{map_of}
-use Rattle.tree_namings.specs.Volumes.Laws.{HasParts}
-use Rattle.tree_namings.proofs.VolumeLemmas.Tellings.{map-is}
+use Rattle.reach_gather.specs.ViewParts.{ResolvesTo}
+use Rattle.reach_gather.specs.Volumes.Told.{map_of}
+use Rattle.reach_gather.specs.Volumes.Laws.{HasParts}
+use Rattle.reach_gather.proofs.VolumeLemmas.Tellings.{map-is}
 use Rattle.view_sweep.specs.declared.used.Used.{Used}
 use Rattle.view_sweep.specs.declared.idle.MapRecords.{MapRecords}
 use Rattle.view_sweep.specs.Unused.{used_in, AreAllUsed}

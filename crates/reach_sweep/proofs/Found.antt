@@ -15,7 +15,7 @@ use Rattle.omap_map.specs.declared.records.OmapRecord.{OmapRecord}
 use Rattle.vol_view.specs.Volumes.{Loaded}
 use Rattle.vol_view.specs.declared.head.VolHead.{VolHead}
 use Rattle.reach_rules.specs.Naming.{Namer}
-use Rattle.tree_namings.specs.Volumes.Laws.{HasParts}
+use Rattle.reach_gather.specs.Volumes.Laws.{HasParts}
 use Rattle.view_sweep.specs.declared.used.Used.{Used}
 use Rattle.view_sweep.specs.Unused.{used_in}
 use Rattle.reach_sweep.specs.Views.{head_of, AreVolumes}

@@ -11,9 +11,9 @@ use Rattle.vol_view.specs.declared.head.VolHead.{VolHead}
 use Rattle.reach_rules.specs.Naming.{Namer, Naming}
 use Rattle.reach_rules.specs.Next.{roots}
 use Rattle.reach_rules.specs.Owners.{Who, BlockZero, Descriptors, Checkpoints, KeyLocker, MediaLocker, Owner, owner, owner_of, first_owners}
-use Rattle.tree_namings.specs.Container.{manager_naming, container_map_naming, reaper_naming, jumpstart_naming}
-use Rattle.tree_namings.specs.Volumes.Told.{head_naming}
-use Rattle.tree_namings.specs.Volumes.Laws.{HasParts}
+use Rattle.reach_gather.specs.Container.{manager_naming, container_map_naming, reaper_naming, jumpstart_naming}
+use Rattle.reach_gather.specs.Volumes.Told.{head_naming}
+use Rattle.reach_gather.specs.Volumes.Laws.{HasParts}
 use Rattle.reach_gather.specs.Held.{Held, some_owners}
 use Rattle.reach_gather.specs.Adds.{Adds, AreLive}
 use Rattle.reach_gather.specs.Views.{AreNamedParts, slots_namings}

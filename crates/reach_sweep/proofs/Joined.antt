@@ -4,9 +4,9 @@ use Rattle.apfs_model.proofs.Searches.{in-map, from-map}
 use Rattle.nx_ring.specs.Checkpoint.{Seen}
 use Rattle.omap_map.specs.declared.records.OmapRecord.{OmapRecord}
 use Rattle.reach_rules.specs.Naming.{Naming}
-use Rattle.tree_namings.specs.Namings.{IsPlainNaming}
-use Rattle.tree_namings.specs.Container.{all_views}
-use Rattle.tree_namings.specs.Views.{ResolvesTo, AreRecordsOf}
+use Rattle.reach_gather.specs.Namings.{IsPlainNaming}
+use Rattle.reach_gather.specs.Container.{all_views}
+use Rattle.reach_gather.specs.ViewParts.{ResolvesTo, AreRecordsOf}
 use Rattle.view_sweep.specs.declared.used.Used.{Used}
 use Rattle.view_sweep.specs.Named as swept
 use Rattle.reach_sweep.specs.Composed.{record_used, records_used, AreJoinedBy}

@@ -10,7 +10,7 @@ use Rattle.vol_view.specs.Volumes.{Loaded}
 use Rattle.vol_view.specs.LoadStops.{IsVolumeOf}
 use Rattle.vol_view.specs.declared.head.VolHead.{VolHead}
 use Rattle.reach_rules.specs.Naming.{Namer}
-use Rattle.tree_namings.specs.Volumes.Laws.{HasParts}
+use Rattle.reach_gather.specs.Volumes.Laws.{HasParts}
 use Rattle.view_sweep.specs.declared.idle.MapRecords.{MapRecords}
 use Rattle.view_sweep.specs.Unused.{AreMapsOf}
 use Rattle.reach_sweep.specs.Views.{head_of, AreVolumes}

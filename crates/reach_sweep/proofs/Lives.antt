@@ -10,10 +10,10 @@ use Rattle.reach_rules.specs.Naming.{LookUp, ByBlock, ByMapping, InContainer, In
 use Rattle.reach_rules.specs.Resolved.{Found, resolved}
 use Rattle.reach_rules.specs.Live.{rooted}
 use Rattle.reach_rules.specs.Maps.{IsUsed}
-use Rattle.tree_namings.specs.Container.{all_views}
-use Rattle.tree_namings.specs.Views.{is_in_view, record_object, ResolvesTo, AreJoined}
-use Rattle.tree_namings.proofs.Joined.{parts-join}
-use Rattle.tree_namings.proofs.Views.{joined-tells}
+use Rattle.reach_gather.specs.Container.{all_views}
+use Rattle.reach_gather.specs.ViewParts.{is_in_view, record_object, ResolvesTo, AreJoined}
+use Rattle.reach_gather.proofs.Joined.{parts-join}
+use Rattle.reach_gather.proofs.Views.{joined-tells}
 use Rattle.view_sweep.specs.declared.used.Used.{Used}
 use Rattle.view_sweep.specs.Unused.{used_in}
 use Rattle.view_sweep.proofs.Idles.{maps-unused}

@@ -12,7 +12,7 @@ use Rattle.vol_view.specs.Volumes.{Loaded}
 use Rattle.vol_view.specs.declared.head.VolHead.{VolHead}
 use Rattle.reach_rules.specs.Naming.{Namer}
 use Rattle.reach_rules.specs.Maps.{IsMapOf}
-use Rattle.tree_namings.specs.Volumes.Laws.{HasParts}
+use Rattle.reach_gather.specs.Volumes.Laws.{HasParts}
 use Rattle.view_sweep.specs.declared.idle.MapRecords.{MapRecords}
 use Rattle.reach_sweep.specs.Views.{head_of, AreVolumes}
 use Rattle.reach_sweep.specs.Composed.{IsContainerMap, IsVolumeMap, AreMapsBy}

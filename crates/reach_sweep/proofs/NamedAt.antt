@@ -22,7 +22,7 @@ use Rattle.reach_rules.specs.Next.{roots, names, unless_zero, slot_namings, map_
 use Rattle.reach_rules.specs.Live.{rooted, led, IsLive, IsSoundFor}
 use Rattle.reach_rules.proofs.Nexts.{Each, each-in, each-append, each-flat, each-unless, Leads, from-next, in-next}
 use Rattle.reach_rules.proofs.SpaceLifted.{there, manager-sound}
-use Rattle.tree_namings.specs.Container.{manager_naming}
+use Rattle.reach_gather.specs.Container.{manager_naming}
 use Rattle.reach_sweep.proofs.NextApart.{each-snapshots, each-volume}
 use Rattle.reach_sweep.proofs.Pooled.{StandsAs, each-all, block-stands, live-right}
 use Rattle.reach_sweep.proofs.Records.{one-found}

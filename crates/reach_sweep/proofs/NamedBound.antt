@@ -18,14 +18,14 @@ use Rattle.reach_rules.specs.Reached.{Whole}
 use Rattle.reach_rules.specs.Tally.{IsNumberOf}
 use Rattle.reach_rules.proofs.Equal.{naming_eq}
 use Rattle.reach_rules.proofs.Nexts.{each-in, from-next}
-use Rattle.tree_namings.specs.Namings.{IsPlainNaming}
-use Rattle.tree_namings.specs.Tells.{objects_through}
-use Rattle.tree_namings.specs.Joined.{HaveSame}
-use Rattle.tree_namings.specs.Container.{all_views}
-use Rattle.tree_namings.specs.Views.{is_in_view, record_object}
-use Rattle.tree_namings.specs.Ranges.{joined_objects}
-use Rattle.tree_namings.proofs.Joined.{live-among}
-use Rattle.tree_namings.proofs.Views.{view-live}
+use Rattle.reach_gather.specs.Namings.{IsPlainNaming}
+use Rattle.reach_gather.specs.Tells.{objects_through}
+use Rattle.reach_gather.specs.Joined.{HaveSame}
+use Rattle.reach_gather.specs.Container.{all_views}
+use Rattle.reach_gather.specs.ViewParts.{is_in_view, record_object}
+use Rattle.reach_gather.specs.Ranges.{joined_objects}
+use Rattle.reach_gather.proofs.Joined.{live-among}
+use Rattle.reach_gather.proofs.Views.{view-live}
 use Rattle.view_sweep.specs.declared.used.Used.{Used}
 use Rattle.view_sweep.specs.Named.{AreReached}
 use Rattle.view_sweep.specs.Unused.{used_in}

@@ -30,7 +30,7 @@ use Rattle.reach_rules.specs.Settled.{AreApart}
 use Rattle.reach_rules.proofs.Ranges.{apart-owners}
 use Rattle.reach_rules.proofs.Sounds.{manager_naming, map_naming, map-live}
 use Rattle.reach_rules.proofs.SpaceLifted.{there, manager-sound}
-use Rattle.tree_namings.specs.Views.{is_in_view}
+use Rattle.reach_gather.specs.ViewParts.{is_in_view}
 use Rattle.reach_gather.proofs.Counts.{IsObjectBy, resolved-by}
 use Rattle.reach_sweep.proofs.Lives.{in-container}
 use Rattle.reach_sweep.proofs.NamedAt.{IsMapNamed, HasMapIn, live-at, one-cab, one-info}

@@ -10,8 +10,8 @@ use Rattle.omap_map.specs.declared.records.OmapRecord.{OmapRecord}
 use Rattle.reach_rules.specs.Naming.{Naming}
 use Rattle.reach_rules.specs.Owners.{Owner, first_owners, owners_through}
 use Rattle.reach_rules.specs.PoolOwners.{pool_owners_through}
-use Rattle.tree_namings.specs.Joined.{HaveSame}
-use Rattle.tree_namings.specs.Views.{record_owner}
+use Rattle.reach_gather.specs.Joined.{HaveSame}
+use Rattle.reach_gather.specs.ViewParts.{record_owner}
 use Rattle.reach_gather.specs.Held.{IsOwnerThrough, some_owners}
 use Rattle.reach_gather.specs.Finished.{AreRangesOnce}
 use Rattle.reach_gather.proofs.Counts.{objects-once}

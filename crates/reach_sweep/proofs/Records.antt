@@ -12,12 +12,12 @@ use Rattle.reach_rules.specs.Naming.{InContainer, InView, OfRecord, Namer, Namin
 use Rattle.reach_rules.specs.Resolved.{Found, resolved, standing}
 use Rattle.reach_rules.specs.Next.{roots}
 use Rattle.reach_rules.specs.Live.{IsLive, rooted}
-use Rattle.tree_namings.specs.Container.{reaper_naming, jumpstart_naming}
-use Rattle.tree_namings.specs.Views.{record_object, ResolvesTo}
-use Rattle.tree_namings.proofs.Views.{view-live}
-use Rattle.tree_namings.specs.Volumes.Told.{head_naming}
-use Rattle.tree_namings.specs.Volumes.Parts.{IsVolumePart}
-use Rattle.tree_namings.specs.Volumes.Laws.{HasParts}
+use Rattle.reach_gather.specs.Container.{reaper_naming, jumpstart_naming}
+use Rattle.reach_gather.specs.ViewParts.{record_object, ResolvesTo}
+use Rattle.reach_gather.proofs.Views.{view-live}
+use Rattle.reach_gather.specs.Volumes.Told.{head_naming}
+use Rattle.reach_gather.specs.Volumes.Parts.{IsVolumePart}
+use Rattle.reach_gather.specs.Volumes.Laws.{HasParts}
 use Rattle.reach_sweep.specs.Views.{head_of, AreVolumes}
 use Rattle.reach_sweep.specs.Composed.{IsHeadRecord, AreRecordsBy}
 

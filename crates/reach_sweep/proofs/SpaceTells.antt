@@ -21,7 +21,7 @@ use Rattle.reach_rules.specs.Features.{HasFeature}
 use Rattle.reach_rules.specs.Reached.{IsReachedFault}
 use Rattle.reach_rules.proofs.SpaceLifted.{space-present, space-feature}
 use Rattle.reach_rules.proofs.QueuesLifted.{pool-present}
-use Rattle.tree_namings.specs.Volumes.Parts.{IsMapPart, container_map}
+use Rattle.reach_gather.specs.Volumes.Parts.{IsMapPart, container_map}
 
 space-reached : (image : List ℕ) (seen : Seen) (fault : SpaceFault) → Present image seen (of_space seen fault) → IsReachedFault image seen (of_space seen fault)
 space-reached image seen (spaces.Unnamed within oid) p = p

@@ -18,11 +18,11 @@ use Rattle.vol_view.specs.declared.head.VolHead.{VolHead}
 use Rattle.vol_view.specs.declared.volume.Snapshot.{Snapshot}
 use Rattle.reach_rules.specs.Naming.{Newest, InContainer, InView, InBlock, Namer, Whole, Files, VolumeIn, TreeRoot, Naming, naming}
 use Rattle.reach_rules.specs.Next.{slot_namings}
-use Rattle.tree_namings.specs.Joined.{HaveSame}
-use Rattle.tree_namings.specs.Container.{all_views}
-use Rattle.tree_namings.specs.Volumes.Told.{head_naming, map_of, live_at, past_at, told_view}
-use Rattle.tree_namings.specs.Volumes.Laws.{HasParts}
-use Rattle.tree_namings.proofs.VolumeLemmas.Tellings.{map-is}
+use Rattle.reach_gather.specs.Joined.{HaveSame}
+use Rattle.reach_gather.specs.Container.{all_views}
+use Rattle.reach_gather.specs.Volumes.Told.{head_naming, map_of, live_at, past_at, told_view}
+use Rattle.reach_gather.specs.Volumes.Laws.{HasParts}
+use Rattle.reach_gather.proofs.VolumeLemmas.Tellings.{map-is}
 use Rattle.view_sweep.specs.declared.wanted.SweptView.{SweptView}
 use Rattle.view_sweep.specs.declared.wanted.Head.{Head}
 use Rattle.view_sweep.specs.Wanted.{view_at, head_wants, heads_want, naming_of, AreToldHeads, AreBelowHeads}

@@ -16,9 +16,9 @@ use Rattle.reach_rules.specs.Next.{roots}
 use Rattle.reach_rules.specs.Live.{IsLive}
 use Rattle.reach_rules.specs.Accounted.{IsShaped}
 use Rattle.reach_rules.specs.Reached.{Whole, AreInPool, IsReached}
-use Rattle.tree_namings.specs.Views.{AreOnceAs, AreJoined}
-use Rattle.tree_namings.specs.Volumes.Laws.{HasParts}
-use Rattle.tree_namings.proofs.VolumeLemmas.Law.{the-law}
+use Rattle.reach_gather.specs.ViewParts.{AreOnceAs, AreJoined}
+use Rattle.reach_gather.specs.Volumes.Laws.{HasParts}
+use Rattle.reach_gather.proofs.VolumeLemmas.Law.{the-law}
 use Rattle.view_sweep.specs.declared.used.Used.{Used}
 use Rattle.view_sweep.specs.declared.idle.MapRecords.{MapRecords}
 use Rattle.view_sweep.specs.Named.{head_namings, AreLive, AreReached}

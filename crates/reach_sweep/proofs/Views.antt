@@ -16,13 +16,13 @@ use Rattle.vol_view.specs.declared.head.VolHead.{VolHead}
 use Rattle.reach_rules.specs.Naming.{InContainer, Newest, OfRecord, Namer, Whole, VolumeIn, Naming, naming}
 use Rattle.reach_rules.specs.Resolved.{Found, standing}
 use Rattle.reach_rules.specs.Next.{slot_namings, past_view}
-use Rattle.tree_namings.specs.Joined.{HaveSame}
-use Rattle.tree_namings.specs.Container.{views_namings, slot_views, all_views}
-use Rattle.tree_namings.specs.Container as rules
-use Rattle.tree_namings.specs.Volumes.Told.{head_naming, live_at, told_view}
-use Rattle.tree_namings.specs.Volumes.Parts.{volume_namer, IsVolumePart}
-use Rattle.tree_namings.specs.Volumes.Laws.{HasParts}
-use Rattle.tree_namings.proofs.VolumeLemmas.Tellings.{long-snapshots, map-is}
+use Rattle.reach_gather.specs.Joined.{HaveSame}
+use Rattle.reach_gather.specs.Container.{views_namings, slot_views, all_views}
+use Rattle.reach_gather.specs.Container as rules
+use Rattle.reach_gather.specs.Volumes.Told.{head_naming, live_at, told_view}
+use Rattle.reach_gather.specs.Volumes.Parts.{volume_namer, IsVolumePart}
+use Rattle.reach_gather.specs.Volumes.Laws.{HasParts}
+use Rattle.reach_gather.proofs.VolumeLemmas.Tellings.{long-snapshots, map-is}
 use Rattle.reach_gather.specs.Views.{pasts_namings, volume_views}
 use Rattle.reach_sweep.specs.Views.{head_of, AreVolumes, volumes_views}
 

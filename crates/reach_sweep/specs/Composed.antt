@@ -25,14 +25,14 @@ use Rattle.reach_rules.specs.PoolOwners.{pool_owners_through}
 use Rattle.reach_rules.specs.Accounted.{IsShaped}
 use Rattle.reach_rules.specs.Reached.{Whole, range_of, AreInPool, IsReached, IsReachedFault}
 use Rattle.reach_rules.specs.Tally.{IsNumberOf}
-use Rattle.tree_namings.specs.Joined.{HaveSame}
-use Rattle.tree_namings.specs.Container.{manager_naming, container_map_naming, reaper_naming, jumpstart_naming, all_views}
-use Rattle.tree_namings.specs.Views.{record_owner, AreOnceAs, AreJoined}
-use Rattle.tree_namings.specs.Account.{AreCovered}
-use Rattle.tree_namings.specs.Ranges.{joined_owners, joined_objects}
-use Rattle.tree_namings.specs.Gathered.{AreOnceOf, AreOwnersOf}
-use Rattle.tree_namings.specs.Volumes.Told.{head_naming, map_of}
-use Rattle.tree_namings.specs.Volumes.Laws.{HasParts}
+use Rattle.reach_gather.specs.Joined.{HaveSame}
+use Rattle.reach_gather.specs.Container.{manager_naming, container_map_naming, reaper_naming, jumpstart_naming, all_views}
+use Rattle.reach_gather.specs.ViewParts.{record_owner, AreOnceAs, AreJoined}
+use Rattle.reach_gather.specs.Account.{AreCovered}
+use Rattle.reach_gather.specs.Ranges.{joined_owners, joined_objects}
+use Rattle.reach_gather.specs.Gathered.{AreOnceOf, AreOwnersOf}
+use Rattle.reach_gather.specs.Volumes.Told.{head_naming, map_of}
+use Rattle.reach_gather.specs.Volumes.Laws.{HasParts}
 use Rattle.view_sweep.specs.declared.used.Used.{Used}
 use Rattle.view_sweep.specs.declared.idle.MapRecords.{MapRecords}
 use Rattle.view_sweep.specs.Named.{AreLive, AreReached}

@@ -7,7 +7,7 @@ use Rattle.nx_ring.specs.Checkpoint.{Seen}
 use Rattle.omap_map.specs.Resolve.{resolved}
 use Rattle.omap_map.specs.declared.records.OmapRecord.{OmapRecord}
 use Rattle.vol_view.specs.Volumes.{Loaded}
-use Rattle.tree_namings.specs.Volumes.Told.{map_of}
+use Rattle.reach_gather.specs.Volumes.Told.{map_of}
 use Rattle.view_sweep.specs.declared.used.Used.{Used}
 use Rattle.view_sweep.specs.declared.idle.MapRecords.{MapRecords}
 use Rattle.view_sweep.specs.Unused.{used_in}

@@ -11,11 +11,11 @@ use Rattle.vol_view.specs.LoadStops.{IsVolumeOf}
 use Rattle.vol_view.specs.declared.head.VolHead.{VolHead}
 use Rattle.vol_view.specs.declared.volume.Snapshot.{Snapshot}
 use Rattle.reach_rules.specs.Naming.{ViewAt, Newest, InBlock, Namer, Whole, Naming}
-use Rattle.tree_namings.specs.Joined.{HaveSame}
-use Rattle.tree_namings.specs.Container.{all_views}
-use Rattle.tree_namings.specs.Volumes.Told.{map_of, live_at, past_at}
-use Rattle.tree_namings.specs.Volumes.Parts.{volume_namer}
-use Rattle.tree_namings.specs.Volumes.Laws.{HasParts}
+use Rattle.reach_gather.specs.Joined.{HaveSame}
+use Rattle.reach_gather.specs.Container.{all_views}
+use Rattle.reach_gather.specs.Volumes.Told.{map_of, live_at, past_at}
+use Rattle.reach_gather.specs.Volumes.Parts.{volume_namer}
+use Rattle.reach_gather.specs.Volumes.Laws.{HasParts}
 use Rattle.view_sweep.specs.declared.wanted.SweptView.{SweptView}
 use Rattle.view_sweep.specs.declared.wanted.Head.{Head}
 use Rattle.view_sweep.specs.Wanted.{AreToldHeads, AreBelowHeads}

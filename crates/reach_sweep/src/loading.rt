@@ -15,7 +15,7 @@ ghost use Rattle.own_settle.specs.Kept.{HasPool};
 ghost use Rattle.reach_rules.specs.Raised.{of_space, of_map};
 ghost use Rattle.reach_rules.specs.Features.{HasFeature};
 ghost use Rattle.reach_rules.specs.Reached.{IsReachedFault};
-ghost use Rattle.tree_namings.specs.Volumes.Parts.{IsMapPart, container_map};
+ghost use Rattle.reach_gather.specs.Volumes.Parts.{IsMapPart, container_map};
 
 use blk_source::BlockSource;
 use bt_node::NodeFault;

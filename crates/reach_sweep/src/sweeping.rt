@@ -13,7 +13,7 @@ ghost use Rattle.vol_view.specs.declared.head.VolHead.{VolHead};
 ghost use Rattle.reach_rules.specs.Naming.{Namer};
 ghost use Rattle.reach_rules.specs.Features.{HasFeature};
 ghost use Rattle.reach_rules.specs.Reached.{IsReachedFault};
-ghost use Rattle.tree_namings.specs.Volumes.Laws.{HasParts};
+ghost use Rattle.reach_gather.specs.Volumes.Laws.{HasParts};
 ghost use Rattle.view_sweep.specs.Named.{head_namings, AreLive, AreReached};
 ghost use Rattle.reach_sweep.specs.Views as swept;
 ghost use Rattle.reach_sweep.specs.Views.{slots_of, HasSlotTwice, AreVolumes, past_heads, volume_heads, swept_heads, supers_of};

@@ -13,9 +13,9 @@ use Rattle.reach_rules.specs.Naming.{InView, Namer, Whole, Files, TreeRoot, Nami
 use Rattle.reach_rules.specs.Next.{roots, names, next}
 use Rattle.reach_rules.specs.Live.{Live, IsLive, rooted, led}
 use Rattle.reach_rules.proofs.Nexts.{each-in, from-next}
-use Rattle.tree_namings.specs.Views.{is_in_view}
-use Rattle.tree_namings.specs.Volumes.Told.{map_of, told_view}
-use Rattle.tree_namings.specs.Volumes.Parts.{volume_namer, IsVolumePart}
+use Rattle.reach_gather.specs.ViewParts.{is_in_view}
+use Rattle.reach_gather.specs.Volumes.Told.{map_of, told_view}
+use Rattle.reach_gather.specs.Volumes.Parts.{volume_namer, IsVolumePart}
 use Rattle.view_sweep.specs.declared.wanted.SweptView.{SweptView}
 use Rattle.view_sweep.specs.declared.wanted.Head.{Head}
 use Rattle.view_sweep.specs.Wanted.{view_at, head_wants, heads_want, naming_of, AreToldHeads, AreBelowHeads}

@@ -17,7 +17,7 @@ use Rattle.reach_rules.specs.Naming.{ViewAt, LookUp, ByBlock, ByMapping, InConta
 use Rattle.reach_rules.specs.Resolved.{is_node}
 use Rattle.reach_rules.specs.Next.{roots, names, unless_zero, slot_namings, map_namings, live_view, past_view, view_namings, record_namings, snapshot_namings, snapshots_namings, records_of_snapshots, address_naming, addresses_in, address_namings, manager_namings, cib_naming, cibs_in, cab_namings, children_in, child_namings, node_namings, volume_namings}
 use Rattle.reach_rules.proofs.Nexts.{Each, each-append, each-map, each-flat, each-if, each-unless, each-through}
-use Rattle.tree_namings.specs.Views.{is_in_view}
+use Rattle.reach_gather.specs.ViewParts.{is_in_view}
 
 -- the superblock of a snapshot is expected
 abbrev pub is_past_super : Expected → Bool

@@ -39,8 +39,8 @@ use Rattle.reach_rules.proofs.Nexts.{in-unless}
 use Rattle.reach_rules.proofs.Refutes as reached
 use Rattle.reach_rules.proofs.Walks.{IsRootNaming, Told, walkable-from}
 use Rattle.reach_rules.proofs.Looks.{extents-walk}
-use Rattle.tree_namings.specs.Volumes.Told.{map_of, live_at, told_view, told_snapshots, past_view_of}
-use Rattle.tree_namings.specs.Volumes.Parts.{volume_namer}
+use Rattle.reach_gather.specs.Volumes.Told.{map_of, live_at, told_view, told_snapshots, past_view_of}
+use Rattle.reach_gather.specs.Volumes.Parts.{volume_namer}
 use Rattle.use_report.specs.Given.{IsGiven, IsRight}
 use Rattle.use_report.specs.Holding.{IsRightView}
 use Rattle.use_report.specs.Sets.{AreRightViews}

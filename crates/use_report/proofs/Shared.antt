@@ -32,7 +32,7 @@ use Rattle.reach_rules.specs.Tested.{tested}
 use Rattle.reach_rules.specs.Next.{next}
 use Rattle.reach_rules.specs.Live.{Live, IsLive}
 use Rattle.reach_rules.proofs.Walks.{IsWalkOf, IsNamedAt, met-named}
-use Rattle.tree_namings.proofs.Law.{Expects}
+use Rattle.reach_gather.proofs.Law.{Expects}
 use Rattle.view_sweep.specs.declared.sets.ViewSet.{ViewSet}
 use Rattle.view_sweep.specs.declared.wanted.SweptView.{SweptView}
 use Rattle.view_sweep.specs.declared.used.Reach.{Reach}

@@ -33,13 +33,13 @@ use Rattle.reach_rules.specs.Next.{roots, names, next, unless_zero, children_in,
 use Rattle.reach_rules.specs.Live.{IsLive, rooted, led}
 use Rattle.reach_rules.proofs.Nexts.{each-in, from-next}
 use Rattle.reach_rules.proofs.Walks.{Matches, IsWalkOf}
-use Rattle.tree_namings.specs.Views.{is_in_view}
-use Rattle.tree_namings.specs.Volumes.Told.{head_naming, map_of, live_at, past_at, told_view, map_in_volume, super_in_view, told_snapshot, told_snapshots, told_volume, past_view_of, super_naming}
-use Rattle.tree_namings.specs.Volumes.Parts.{volume_namer, IsVolumePart}
-use Rattle.tree_namings.proofs.Law.{Expects}
-use Rattle.tree_namings.proofs.VolumeLemmas.Heads.{IsRightHead, head-right}
-use Rattle.tree_namings.proofs.VolumeLemmas.Others.{volume-slots}
-use Rattle.tree_namings.proofs.VolumeLemmas.Law.{heads-only, the-law}
+use Rattle.reach_gather.specs.ViewParts.{is_in_view}
+use Rattle.reach_gather.specs.Volumes.Told.{head_naming, map_of, live_at, past_at, told_view, map_in_volume, super_in_view, told_snapshot, told_snapshots, told_volume, past_view_of, super_naming}
+use Rattle.reach_gather.specs.Volumes.Parts.{volume_namer, IsVolumePart}
+use Rattle.reach_gather.proofs.Law.{Expects}
+use Rattle.reach_gather.proofs.VolumeLemmas.Heads.{IsRightHead, head-right}
+use Rattle.reach_gather.proofs.VolumeLemmas.Others.{volume-slots}
+use Rattle.reach_gather.proofs.VolumeLemmas.Law.{heads-only, the-law}
 use Rattle.use_report.specs.Given.{IsGiven}
 use Rattle.use_report.specs.Views.{live_kept, past_kept, pasts_kept, views_kept, at_of}
 use Rattle.use_report.specs.declared.kept.KeptView.{KeptView}

@@ -31,9 +31,9 @@ use Rattle.reach_rules.specs.Live.{IsLive, led}
 use Rattle.reach_rules.proofs.Nexts.{in-unless}
 use Rattle.reach_rules.proofs.Walks.{Matches, IsWalkOf, IsNamedAt, IsRootNaming, met-named}
 use Rattle.reach_rules.proofs.Looks.{virtual-match}
-use Rattle.tree_namings.specs.Volumes.Told.{head_naming, map_of, live_at, past_at, told_view, told_snapshot, told_snapshots, told_volume, past_view_of, super_naming}
-use Rattle.tree_namings.specs.Volumes.Parts.{volume_namer, IsVolumePart}
-use Rattle.tree_namings.proofs.VolumeLemmas.Law.{head-live}
+use Rattle.reach_gather.specs.Volumes.Told.{head_naming, map_of, live_at, past_at, told_view, told_snapshot, told_snapshots, told_volume, past_view_of, super_naming}
+use Rattle.reach_gather.specs.Volumes.Parts.{volume_namer, IsVolumePart}
+use Rattle.reach_gather.proofs.VolumeLemmas.Law.{head-live}
 use Rattle.use_report.specs.Files.{IsNamedBlock, IsMetadataBlock}
 use Rattle.use_report.specs.Given.{IsGiven}
 use Rattle.use_report.specs.Held.{IsRecordHeld}

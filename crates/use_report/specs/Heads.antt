@@ -4,7 +4,7 @@ use Rattle.fs_name.specs.Normal.{are_hashed}
 use Rattle.vol_view.specs.Volumes.{Loaded}
 use Rattle.view_sweep.specs.declared.wanted.SweptView.{SweptView}
 use Rattle.view_sweep.specs.declared.wanted.Head.{Head}
-use Rattle.tree_namings.specs.Volumes.Told.{map_of}
+use Rattle.reach_gather.specs.Volumes.Told.{map_of}
 use Rattle.use_report.specs.declared.kept.KeptView.{KeptView}
 
 -- a view, as it is swept; the volume is the only one that is handed in

@@ -1,5 +1,6 @@
 // Volumes of made containers.
 
 mod ranges;
+mod ring;
 mod streams;
 mod volumes;

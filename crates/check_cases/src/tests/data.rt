@@ -2,8 +2,7 @@
 use crate::tests::rows::{
     BOTH, Noted, Numbers, PLAIN, Row, SMALL_NUMBERS, STRICT, Said, Wrong, assert_row, assert_rows,
 };
-use img_changes::{Base, SMALL, image};
-use img_make::{Sample, skipped_checkpoint};
+use img_make::{Base, SMALL, Sample, image, skipped_checkpoint};
 use std::test::Fail;
 
 // The range of the file goes on in block 58.

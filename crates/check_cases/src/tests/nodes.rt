@@ -7,12 +7,12 @@ use apfs_layout::reaping::REAPER_FLAGS;
 use apfs_layout::space_manager::MAIN_QUEUE_TREE;
 use bt_node::NodeFault;
 use fs_record::RecFault;
-use img_changes::cases::{
+use img_make::cases::{
     END, EXTENTS, FILES, HELLO, MAP_ROOT, SHARED, SNAPSHOTS, WITH_A_DELETED, WITH_AN_IDLE,
     WITH_AN_IDLE_VOLUME,
 };
-use img_changes::{Change, SMALL};
 use img_make::places::{CONTAINER_MAP_ROOT, REAPER, SPACE_MANAGER, SUPERBLOCK};
+use img_make::{Change, SMALL};
 use obj_base::{Feature, Within};
 use std::test::Fail;
 

@@ -2,10 +2,9 @@
 use crate::tests::rows::{
     BOTH, Noted, Numbers, PLAIN, Row, SMALL_NUMBERS, Said, Wrong, assert_rows,
 };
-use img_changes::cases::{QUEUED, TREE_IN_THE_POOL, TREE_PAST_THE_POOL, WAITING};
-use img_changes::{Change, SMALL};
-use img_make::Sample;
+use img_make::cases::{QUEUED, TREE_IN_THE_POOL, TREE_PAST_THE_POOL, WAITING};
 use img_make::places::{POOL_QUEUE, RING_BASE};
+use img_make::{Change, SMALL, Sample};
 use std::test::Fail;
 
 // The report of the small container, and the same with a further used block.

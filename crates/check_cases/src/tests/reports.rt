@@ -3,8 +3,7 @@
 use crate::tests::rows::{BOTH, Numbers, Row, SMALL_NUMBERS, Said, assert_rows};
 use apfs_check::check;
 use blk_source::{BlockSource, MemSource};
-use img_changes::{SMALL, image};
-use img_make::Sample;
+use img_make::{SMALL, Sample, image};
 use std::test::Fail;
 use tree_rules::Profile;
 

@@ -3,7 +3,7 @@ use apfs_check::{Fault, Report, check};
 use blk_source::MemSource;
 use bt_node::NodeFault;
 use fs_record::RecFault;
-use img_changes::{Base, Change, image};
+use img_make::{Base, Change, image};
 use obj_base::{Feature, Stop, Within};
 use reach_rules::Why;
 use std::alloc::Global;

@@ -4,9 +4,9 @@ use apfs_layout::chunk_info::{
     CAB_INDEX, CHUNK_ADDRESS, CHUNK_BLOCKS, CHUNK_FREE, CIB_ENTRIES, CIB_INDEX,
 };
 use apfs_layout::space_manager::{MAIN_FREE, POOL_BITMAP_SIZE};
-use img_changes::cases::RING_INDEX;
-use img_changes::{Change, SMALL, grouped};
+use img_make::cases::RING_INDEX;
 use img_make::places::{POOL_BASE, POOL_QUEUE, RING_BASE, SPACE_MANAGER};
+use img_make::{Change, SMALL, grouped};
 use std::test::Fail;
 
 const SMALL_REPORT: Said = Said::Clean(SMALL_NUMBERS, &[]);

@@ -2,8 +2,7 @@
 use apfs_check::check;
 use blk_cache::Cached;
 use blk_source::MemSource;
-use img_changes::image;
-use img_make::Sample;
+use img_make::{Sample, image};
 use std::test::Fail;
 use tree_rules::Profile;
 

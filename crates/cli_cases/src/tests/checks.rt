@@ -1,8 +1,7 @@
 // The cases of `check`, and of commands that check first. The numbers of objects and of used blocks were counted by another program.
 use crate::tests::cases::{Case, Ends, HELLO_LINE, LS, NO_SNAPSHOT};
 use crate::tests::images::Image;
-use img_changes::{Base, Change};
-use img_make::Sample;
+use img_make::{Base, Change, Sample};
 
 pub const CHECK: &[&str] = &["check", "x"];
 

@@ -8,11 +8,10 @@ use apfs_layout::record::ATTRIBUTE_FLAGS;
 use apfs_layout::value::{SNAPSHOT_FLAGS, SNAPSHOT_NAME};
 use blk_source::{MemSource, Opened};
 use fs_name::Names;
-use img_changes::{Base, Change};
 use img_make::records::{EntryPlan, InodePlan, LINK_MODE, attribute};
 use img_make::{
-    FileTree, Item, Leaf, Plan, QueueEntry, Sample, Version, edit, make, put_u32, ring_of_four,
-    sample, skipped_checkpoint, write,
+    Base, Change, FileTree, Item, Leaf, Plan, QueueEntry, Sample, Version, edit, make, put_u32,
+    ring_of_four, sample, skipped_checkpoint, write,
 };
 use std::alloc::{AllocError, Global};
 use std::test::Fail;
@@ -404,7 +403,7 @@ fn bytes(alloc: Global, image: Image) -> Result<Vec<u8>, Fail> {
         Image::ShortInode => with_short_inode(alloc),
         Image::Queued => queued(alloc),
         Image::Unhashed => unhashed(alloc),
-        Image::Made(base, changes) => img_changes::image(alloc, &base, changes),
+        Image::Made(base, changes) => img_make::image(alloc, &base, changes),
         Image::Disk(disk) => {
             let mut bytes = sectors(alloc, disk)?;
             bytes.extend_from_slice(&made(alloc, &sample(alloc, Sample::S)?)?)?;

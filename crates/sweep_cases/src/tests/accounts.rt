@@ -14,8 +14,7 @@ mod space;
 mod vast;
 
 use blk_source::{BlockSource, MemSource};
-use img_changes::{Base, Change, grouped, image};
-use img_make::Sample;
+use img_make::{Base, Change, Sample, grouped, image};
 use nx_ring::{Checkpoint, newest};
 use obj_base::Stop;
 use reach_rules::ReachFault;

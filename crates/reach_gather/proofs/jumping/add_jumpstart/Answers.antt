@@ -7,7 +7,7 @@ use Rattle.reach_gather.specs.Held.{some_owners}
 use Rattle.reach_gather.specs.Steps.{block_owner}
 use Rattle.reach_gather.proofs.Fields.{adds-zero}
 use Rattle.reach_gather.proofs.Started.{jump_by, jump-adds}
-use Rattle.reaper_jumpstart.specs.Jumped.{jump_root}
+use Rattle.reach_gather.specs.Jumped.{jump_root}
 use Rattle.reach_gather.proofs.Noted.{noted-one, jump-none, jump-one}
 use Rattle.reach_gather.proofs.jumping.add_jumpstart.Goals as goal
 

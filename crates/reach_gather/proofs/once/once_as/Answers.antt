@@ -1,7 +1,7 @@
 use Rattle.std.proofs.Common.{map}
 use Rattle.std.proofs.lemmas.Result.{IfOk-weaker}
 use Rattle.apfs_model.proofs.Searches.{in-map}
-use Rattle.tree_namings.specs.Views.{AreOnceAs}
+use Rattle.reach_gather.specs.ViewParts.{AreOnceAs}
 use Rattle.reach_gather.specs.Named.{look_of, naming_of}
 use Rattle.reach_gather.specs.Finished.{AreOnceHere}
 use Rattle.reach_gather.proofs.Finishes.{those-look, those-in}

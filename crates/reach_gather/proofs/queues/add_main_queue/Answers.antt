@@ -9,7 +9,7 @@ use Rattle.reach_rules.specs.Naming.{FreeQueue, Naming, ByMapping, OfId}
 use Rattle.reach_rules.specs.Owners.{told_from, queued_ranges_of}
 use Rattle.reach_rules.specs.Reached.{IsReachedFault}
 use Rattle.reach_rules.specs.Trees.{IsRightTree}
-use Rattle.tree_namings.specs.Namings.{step_naming}
+use Rattle.reach_gather.specs.Namings.{step_naming}
 use Rattle.reach_gather.specs.Named.{naming_of, expected_of, look_of}
 use Rattle.reach_gather.specs.Steps.{id_steps}
 use Rattle.reach_gather.proofs.Branches.{queue-adds}

@@ -1,7 +1,7 @@
 use Rattle.std.proofs.Common.{◌≡◌, ◌+◌, ◌≤◌, length, arith}
 use Rattle.reach_gather.specs.Named.{view_of}
 use Rattle.reach_gather.proofs.Pasts.{snapshot-adds}
-use Rattle.tree_namings.specs.Volumes.Told.{super_in_view}
+use Rattle.reach_gather.specs.Volumes.Told.{super_in_view}
 use Rattle.reach_gather.proofs.Noted.{noted-one}
 use Rattle.reach_gather.proofs.snapshots.add_snapshot.Goals as goal
 

@@ -6,7 +6,7 @@ use Rattle.fs_name.specs.Normal.{are_hashed}
 use Rattle.vol_view.specs.Volumes.{Loaded}
 use Rattle.vol_view.specs.declared.volume.Snapshot.{Snapshot}
 use Rattle.reach_rules.specs.Naming.{ViewAt}
-use Rattle.tree_namings.specs.Volumes.Told.{past_at, told_snapshot, told_snapshots}
+use Rattle.reach_gather.specs.Volumes.Told.{past_at, told_snapshot, told_snapshots}
 use Rattle.space_pool.proofs.Indexes.{kept-then}
 use Rattle.reach_gather.specs.Adds.{Adds}
 use Rattle.reach_gather.specs.Named.{view_of}

@@ -1,7 +1,7 @@
 use Rattle.std.proofs.Common.{◌≡◌, ℕ, List, take, Some, ◌+◌, ◌≤◌, length}
 use Rattle.apfs_model.specs.Kept.{IsKept}
 use Rattle.fs_name.specs.Normal.{are_hashed}
-use Rattle.tree_namings.specs.Volumes.Told.{told_snapshots}
+use Rattle.reach_gather.specs.Volumes.Told.{told_snapshots}
 use Rattle.reach_gather.specs.Adds.{Adds}
 use Rattle.reach_gather.specs.Views.{AreSuperParts, pasts_namings}
 use Rattle.reach_gather.proofs.snapshots.add_snapshots.Given as goal

@@ -3,7 +3,7 @@ use Rattle.nx_ring.specs.Checkpoint.{Seen}
 use Rattle.space_pool.specs.declared.entry.Queue.TheVariants.{Pool}
 use Rattle.reach_rules.specs.Naming.{ByMapping, Namer, FreeQueue, TreeRoot}
 use Rattle.reach_rules.specs.Next.{unless_zero}
-use Rattle.tree_namings.specs.Space.{manager_namer}
+use Rattle.reach_gather.specs.Space.{manager_namer}
 use Rattle.reach_gather.specs.Adds.{Adds}
 use Rattle.reach_gather.specs.Named.{naming_of}
 use Rattle.reach_gather.specs.declared.naming.Named.{Named}

@@ -5,7 +5,7 @@ use Rattle.space_map.specs.Stops.{Known}
 use Rattle.reach_gather.specs.Infos.{known_cabs, known_cibs, bitmaps_from}
 use Rattle.reach_gather.specs.Steps.{block_owner}
 use Rattle.reach_gather.proofs.Spaced.{space-adds}
-use Rattle.tree_namings.specs.Container.{manager_naming}
+use Rattle.reach_gather.specs.Container.{manager_naming}
 use Rattle.reach_gather.proofs.Noted.{space-read}
 use Rattle.reach_gather.proofs.space.add_space.Goals as goal
 

@@ -10,7 +10,7 @@ use Rattle.reach_rules.specs.Features.{HasFeature}
 use Rattle.reach_rules.specs.Naming.{ExtentRefs, Naming, ByBlock, InBlock}
 use Rattle.reach_rules.specs.Owners.{told_from, new_ranges_of}
 use Rattle.reach_rules.specs.Reached.{IsReachedFault}
-use Rattle.tree_namings.specs.Namings.{step_naming}
+use Rattle.reach_gather.specs.Namings.{step_naming}
 use Rattle.reach_gather.specs.Named.{naming_of, expected_of, look_of}
 use Rattle.reach_gather.specs.Steps.{block_steps, block_owner}
 use Rattle.reach_gather.proofs.Branches.{tree-adds}

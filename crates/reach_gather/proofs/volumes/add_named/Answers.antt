@@ -5,8 +5,8 @@ use Rattle.omap_map.specs.Maps.{contents_of}
 use Rattle.vol_view.specs.Volumes.{Loaded}
 use Rattle.reach_rules.specs.Naming.{ByBlock, Namer, ExtentRefs, SnapMetadata, TreeRoot, Naming}
 use Rattle.reach_rules.specs.Next.{unless_zero}
-use Rattle.tree_namings.specs.Volumes.Parts.{IsMapPart}
-use Rattle.tree_namings.specs.Volumes.Told.{map_of, map_in_volume, told_view, live_at, told_snapshots}
+use Rattle.reach_gather.specs.Volumes.Parts.{IsMapPart}
+use Rattle.reach_gather.specs.Volumes.Told.{map_of, map_in_volume, told_view, live_at, told_snapshots}
 use Rattle.reach_gather.specs.Adds.{Adds}
 use Rattle.reach_gather.specs.Held.{Held}
 use Rattle.reach_gather.specs.Named.{namer_of}

@@ -3,8 +3,8 @@ use Rattle.nx_block.specs.Super.{omap_oid_of}
 use Rattle.nx_ring.specs.Checkpoint.{Seen}
 use Rattle.vol_view.specs.Volumes.{Loaded}
 use Rattle.reach_rules.specs.Naming.{Namer}
-use Rattle.tree_namings.specs.Volumes.Parts.{IsMapPart, volume_namer}
-use Rattle.tree_namings.specs.Volumes.Told.{head_naming, map_of, map_in_volume, told_volume}
+use Rattle.reach_gather.specs.Volumes.Parts.{IsMapPart, volume_namer}
+use Rattle.reach_gather.specs.Volumes.Told.{head_naming, map_of, map_in_volume, told_volume}
 use Rattle.reach_gather.specs.Adds.{AreLive}
 use Rattle.reach_gather.specs.Named.{namer_of, naming_of}
 use Rattle.reach_gather.specs.declared.naming.NamedBy.TheVariants as by

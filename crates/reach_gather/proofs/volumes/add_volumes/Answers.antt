@@ -4,7 +4,7 @@ use Rattle.apfs_model.specs.Lists.{In}
 use Rattle.nx_ring.specs.Checkpoint.{Seen}
 use Rattle.vol_view.specs.Volumes.{Loaded}
 use Rattle.reach_rules.specs.Naming.{Namer}
-use Rattle.tree_namings.specs.Volumes.Told.{head_naming}
+use Rattle.reach_gather.specs.Volumes.Told.{head_naming}
 use Rattle.space_pool.proofs.Indexes.{kept-then}
 use Rattle.reach_gather.specs.Adds.{Adds}
 use Rattle.reach_gather.specs.Views.{volume_views, slots_namings, loaded_views}

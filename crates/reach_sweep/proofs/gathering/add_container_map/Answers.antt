@@ -4,7 +4,7 @@ use Rattle.nx_ring.specs.Checkpoint.{Seen, site_of}
 use Rattle.omap_map.specs.Maps.{Contents, contents_of}
 use Rattle.omap_map.specs.Loading.{map_nodes}
 use Rattle.reach_rules.specs.Naming.{ByBlock, Newest, Whole, ContainerMap, Naming, naming}
-use Rattle.tree_namings.specs.Volumes.Parts.{IsMapPart}
+use Rattle.reach_gather.specs.Volumes.Parts.{IsMapPart}
 use Rattle.reach_gather.specs.Adds.{Adds}
 use Rattle.reach_gather.specs.Mapped.{loaded_namings}
 use Rattle.reach_gather.proofs.Growing.{noted-more}

@@ -3,10 +3,9 @@
 use super::{Case, Numbers, SMALL_NUMBERS, assert_cases};
 use apfs_layout::chunk_info::{CHUNK_FREE, CIB_ENTRIES};
 use apfs_layout::space_manager::MAIN_FREE;
-use img_changes::cases::{QUEUED, TREE_IN_THE_POOL, TREE_PAST_THE_POOL, WAITING};
-use img_changes::{Change, SMALL};
-use img_make::Sample;
+use img_make::cases::{QUEUED, TREE_IN_THE_POOL, TREE_PAST_THE_POOL, WAITING};
 use img_make::places::{POOL_BASE, POOL_QUEUE, RING_BASE, SPACE_MANAGER};
+use img_make::{Change, SMALL, Sample};
 use reach_rules::ReachFault;
 use std::test::Fail;
 

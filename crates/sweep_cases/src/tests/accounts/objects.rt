@@ -9,13 +9,12 @@ use apfs_layout::reaping::REAPER_HEAD;
 use apfs_layout::space_manager::MAIN_QUEUE_TREE;
 use apfs_layout::volume::EXTENTS_ROOT;
 use bt_node::NodeFault;
-use img_changes::cases::{
+use img_make::cases::{
     DELETED, END, EXTENTS, FILES, JUMP, KEPT, MAP_ROOT, SHARED, SNAPSHOTS, SUPER, WITH_A_DELETED,
     WITH_AN_IDLE, WITH_AN_IDLE_VOLUME,
 };
-use img_changes::{Change, SMALL, image};
-use img_make::Sample;
 use img_make::places::{CONTAINER_MAP_ROOT, MAIN_QUEUE, REAPER, SPACE_MANAGER, SUPERBLOCK};
+use img_make::{Change, SMALL, Sample, image};
 use obj_base::{HeadFault, Stop, Within};
 use reach_rules::{ReachFault, Why};
 use std::test::Fail;

@@ -3,9 +3,9 @@
 use super::{Case, assert_cases, sum};
 use apfs_layout::chunk_info::{CAB_INDEX, CHUNK_ADDRESS, CHUNK_BITMAP, CIB_ENTRIES, CIB_INDEX};
 use apfs_layout::space_manager::{BLOCKS_PER_CHUNK, MAIN_FREE, POOL_BITMAP_SIZE};
-use img_changes::cases::RING_INDEX;
-use img_changes::{Change, SMALL, grouped};
+use img_make::cases::RING_INDEX;
 use img_make::places::{POOL_BASE, POOL_QUEUE, SPACE_MANAGER};
+use img_make::{Change, SMALL, grouped};
 use obj_base::Stop;
 use reach_rules::ReachFault;
 use space_map::SpaceFault;

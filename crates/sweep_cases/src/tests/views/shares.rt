@@ -2,10 +2,9 @@
 // sample, and the map has other records. What is wanted was worked out by hand.
 use super::{MAP, eight, open};
 use blk_source::{BlockSource, MemSource};
-use img_changes::cases::{DELETED, KEPT, MAP_ROOT};
-use img_changes::{Change, Record, image};
 use img_edit::node::{Item, NodeHead, Totals, Tree, node};
-use img_make::{Sample, write};
+use img_make::cases::{DELETED, KEPT, MAP_ROOT};
+use img_make::{Change, Record, Sample, image, write};
 use obj_base::{Stop, Within};
 use omap_map::OmapRecord;
 use reach_rules::ReachFault;

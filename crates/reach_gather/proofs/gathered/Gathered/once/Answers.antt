@@ -2,7 +2,7 @@ use Rattle.std.proofs.Common.{map, List, ap, ◌∙◌, subst}
 use Rattle.std.proofs.lemmas.Result.{IfOk-weaker}
 use Rattle.apfs_model.specs.Lists.{In}
 use Rattle.reach_rules.specs.Naming.{Naming, ByMapping, InContainer}
-use Rattle.tree_namings.specs.Views.{AreOnceAs}
+use Rattle.reach_gather.specs.ViewParts.{AreOnceAs}
 use Rattle.reach_gather.specs.Held.{Held}
 use Rattle.reach_gather.specs.Named.{naming_of}
 use Rattle.reach_gather.proofs.gathered.Gathered.once.Goals as goal

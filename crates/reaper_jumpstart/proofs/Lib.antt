@@ -1,4 +1,0 @@
-pub mod Tolds
-pub mod Chained
-pub mod Ways
-pub mod Jumps

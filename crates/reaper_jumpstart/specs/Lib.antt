@@ -1,3 +1,0 @@
-pub mod Told
-pub mod Reaped
-pub mod Jumped

@@ -1,8 +1,0 @@
-// The law of the parts of a container that `heads` and `load` have tested, which rests on the definitions alone.
-ghost use Rattle.tree_namings.specs.Volumes.Laws.{PartsOfVolumes};
-
-/// What `heads` and `load` say on Ok, said of namings: the container's map, the volumes of its slots, their maps and the
-/// superblocks of their snapshots are named right, and what a volume names is what was loaded of it. It does nothing.
-pub fn parts_of_volumes()
-    ensures { PartsOfVolumes }
-{}
