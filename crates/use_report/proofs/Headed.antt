@@ -21,13 +21,14 @@ use Rattle.view_sweep.specs.declared.wanted.Head.{Head}
 use Rattle.view_sweep.specs.Wanted.{view_at, head_wants, heads_want, naming_of, AreToldHeads, AreBelowHeads}
 use Rattle.view_sweep.specs.Found.{records_at}
 use Rattle.view_sweep.specs.Named.{head_namings, AreOfImage, AreLive}
+use Rattle.view_sweep.specs.declared.runs.Run.{Run}
 use Rattle.view_sweep.specs.declared.sets.ViewSet.{ViewSet}
 use Rattle.view_sweep.specs.declared.used.Share.{Share}
-use Rattle.view_sweep.specs.Sets.{view_of, IsFirst, width_of, set_at}
+use Rattle.view_sweep.specs.Sets.{view_of, IsFirst, IsSetOf, set_at}
 use Rattle.view_sweep.specs.Shared.{head_views, AreInside}
 use Rattle.use_report.specs.Given.{IsGiven}
 use Rattle.use_report.specs.Heads.{swept_of, head_of, no_view, kept_place, AreHeadsOf, ArePlaced}
-use Rattle.use_report.specs.Runs.{head_place}
+use Rattle.use_report.specs.Runs.{head_place, AreHeadRuns}
 use Rattle.use_report.specs.Sharing.{AreInOrder}
 use Rattle.use_report.specs.Views.{views_kept, at_of}
 use Rattle.use_report.specs.declared.kept.KeptView.{KeptView}
@@ -168,14 +169,17 @@ module _ (volume : Loaded) (views : List KeptView) (heads : List Head) (a : AreH
             omega (arith, is_p);
       }
 
--- the sets of the heads' views have a bit for each
-set-long : (n m width : ℕ) → n ≡ m → width ≡ width_of n → m ≤ 8 * width
-set-long n m width e w = omega (arith, e, w)
+-- the sets of the heads' views have no other place
+set-runs : (views : List SweptView) (set : List Run) (m : ℕ) → length views ≡ m → IsSetOf views set → AreHeadRuns m set
+set-runs views set m e is = record {
+  rising = is.rising;
+  inside = λ p has. subst (λ (n : ℕ). p < n) e (is.first p has).below;
+}
 
 pub in-order : (volume : Loaded) (views : List KeptView) (heads : List Head) → AreHeadsOf volume views heads → (blocks : ℕ) (sets : List ViewSet) (shares : List Share) → AreInside blocks (head_views heads) sets shares → AreInOrder blocks (length views) sets shares
 in-order volume views heads a blocks sets shares inside = record {
   number = inside.number;
-  long = λ n low. set-long (length (head_views heads)) (length views) (length (set_at sets n)) (views-many heads ∙ a.many) (inside.sets_are n low).long;
+  runs = λ n low. set-runs (head_views heads) (set_at sets n) (length views) (views-many heads ∙ a.many) (inside.sets_are n low);
   placed = inside.placed;
 }
 

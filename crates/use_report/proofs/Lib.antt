@@ -5,7 +5,7 @@ pub mod Pasts
 pub mod Origins
 pub mod Viewed
 pub mod Walked
-pub mod Extended
+pub mod HeadRuns
 pub mod Sets
 pub mod Adding
 pub mod Filled

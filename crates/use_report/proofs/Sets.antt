@@ -13,9 +13,9 @@ use Rattle.piece_count.specs.declared.piece.Piece.{Piece}
 use Rattle.piece_count.proofs.Numbers.{count-bound, from-low, from-high, from-is}
 use Rattle.reach_rules.specs.Tally.{IsNumberOf}
 use Rattle.use_report.specs.Counted.{piece_of, Grows, HasExactly}
-use Rattle.use_report.specs.Runs.{has_view}
+use Rattle.view_sweep.specs.Runs.{has_place}
 use Rattle.use_report.specs.declared.pieces.Pieces.{Pieces}
-use Rattle.use_report.specs.declared.runs.Run.{Run}
+use Rattle.view_sweep.specs.declared.runs.Run.{Run}
 
 -- ---- blocks of ranges
 pub in-above : (block first length : ℕ) → is_in block first length ≡ true → first ≤ block
@@ -36,22 +36,22 @@ unfolding is_covered
 covered-both pieces more view block = list_any-append (λ (p : Piece). covers p view block) pieces more
 
 -- the pieces of some runs have the blocks of the range in the views of the runs
-runs-covered : (first end : ℕ) (runs : List Run) (view block : ℕ) → is_covered (map (piece_of first end) runs) view block ≡ (has_view runs view && is_from first end block)
-unfolding is_covered has_view
+runs-covered : (first end : ℕ) (runs : List Run) (view block : ℕ) → is_covered (map (piece_of first end) runs) view block ≡ (has_place runs view && is_from first end block)
+unfolding is_covered has_place
 runs-covered first end [] view block = refl
 runs-covered first end (run ∷ runs) view block =
     let both : (a b x : Bool) → ((a && x) || (b && x)) ≡ ((a || b) && x) = λ a b x. elim a as (λ a. ((a && x) || (b && x)) ≡ ((a || b) && x)) [
       | true ↦ elim x as (λ x. (x || (b && x)) ≡ x) [ true ↦ refl | false ↦ elim b as (λ b. (b && false) ≡ false) [ true ↦ refl | false ↦ refl ] ]
       | false ↦ refl
     ] in
-    ap (λ b. (is_from run.from run.to view && is_from first end block) || b) (runs-covered first end runs view block) ∙ both (is_from run.from run.to view) (list_any (λ (r : Run). is_from r.from r.to view) runs) (is_from first end block)
+    ap (λ b. (is_from run.from run.end view && is_from first end block) || b) (runs-covered first end runs view block) ∙ both (is_from run.from run.end view) (list_any (λ (r : Run). is_from r.from r.end view) runs) (is_from first end block)
 
 pub grows-range : (old new : Pieces) (first length end : ℕ) → end ≡ min (first + length) (2 ^ 64 - 1) → new.runs.items ≡ old.runs.items → new.all.items ≡ old.all.items ++ map (piece_of first end) old.runs.items →
     Grows old new (λ block. is_in block first length ≡ true)
 grows-range old new first length end end_is runs items = record {
   same_runs = runs;
   held = λ view block low.
-      let here : Bool = has_view old.runs.items view in
+      let here : Bool = has_place old.runs.items view in
       let is : is_covered new.all.items view block ≡ (is_covered old.all.items view block || (here && is_from first end block)) =
       ap (λ (ps : List Piece). is_covered ps view block) items ∙ (covered-both old.all.items (map (piece_of first end) old.runs.items) view block ∙ ap (λ b. is_covered old.all.items view block || b) (runs-covered first end old.runs.items view block)) in
       let Now : Type 0 = (is_covered old.all.items view block ≡ true) ⊎ ((here ≡ true) × (is_in block first length ≡ true)) in (
@@ -78,10 +78,10 @@ pub grows-then : (a b c : Pieces) (P Q : ℕ → Type 0) → Grows a b P → Gro
 grows-then a b c P Q g h = record {
   same_runs = h.same_runs ∙ g.same_runs;
   held = λ view block low.
-      let range : has_view b.runs.items view ≡ has_view a.runs.items view = ap (λ (runs : List Run). has_view runs view) g.same_runs in
+      let range : has_place b.runs.items view ≡ has_place a.runs.items view = ap (λ (runs : List Run). has_place runs view) g.same_runs in
       let x = g.held view block low in
       let y = h.held view block low in
-      let Goal : Type 0 = (is_covered a.all.items view block ≡ true) ⊎ ((has_view a.runs.items view ≡ true) × (P block ⊎ Q block)) in (
+      let Goal : Type 0 = (is_covered a.all.items view block ≡ true) ⊎ ((has_place a.runs.items view ≡ true) × (P block ⊎ Q block)) in (
         (λ e. elim (y.0 e) as (λ _. Goal) [
           | inl k ↦ elim (x.0 k) as (λ _. Goal) [ inl l ↦ inl l | inr p ↦ inr (p.0, inl p.1) ]
           | inr q ↦ inr (sym range ∙ q.0, inr q.1)
@@ -99,7 +99,7 @@ grows-same old new P Q s g = record {
   same_runs = g.same_runs;
   held = λ view block low.
       let x = g.held view block low in (
-        (λ e. elim (x.0 e) as (λ _. (is_covered old.all.items view block ≡ true) ⊎ ((has_view old.runs.items view ≡ true) × Q block)) [ inl l ↦ inl l | inr p ↦ inr (p.0, (s block).0 p.1) ]),
+        (λ e. elim (x.0 e) as (λ _. (is_covered old.all.items view block ≡ true) ⊎ ((has_place old.runs.items view ≡ true) × Q block)) [ inl l ↦ inl l | inr p ↦ inr (p.0, (s block).0 p.1) ]),
         (λ t. elim t as (λ _. is_covered new.all.items view block ≡ true) [ inl l ↦ x.1 (inl l) | inr q ↦ x.1 (inr (q.0, (s block).1 q.1)) ]),
       );
 }

@@ -4,7 +4,6 @@ use Rattle.std.specs.Prelude.{slice_get}
 use Rattle.std.specs.List.{list_any}
 use Rattle.std.proofs.lemmas.List.{take_all}
 use Rattle.std.proofs.lemmas.Option.{slice_get-get_or}
-use Rattle.apfs_model.specs.Bytes.{bit_at}
 use Rattle.apfs_model.specs.Lists.{In}
 use Rattle.apfs_model.proofs.BoolTests.{clash, equal-from, unequal-from, test_or}
 use Rattle.obj_base.specs.declared.site.Site.{Site}
@@ -25,7 +24,9 @@ use Rattle.view_sweep.specs.Shared.{is_shared}
 use Rattle.use_report.specs.Counted.{Grows}
 use Rattle.use_report.specs.Holding.{AddsReferences}
 use Rattle.use_report.specs.Leaves.{IsPlacedRecord, ArePlacedRecords}
-use Rattle.use_report.specs.Runs.{head_place, has_view, AreRunsOf}
+use Rattle.view_sweep.specs.declared.runs.Run.{Run}
+use Rattle.view_sweep.specs.Runs.{has_place}
+use Rattle.use_report.specs.Runs.{head_place, AreRunsOf}
 use Rattle.use_report.specs.Sharing.{IsOfShare, IsPlacedShare, AddsShare, IsOfShares, AreShared, IsOwn, IsOwnAt, AddsOwns}
 use Rattle.use_report.specs.declared.kept.KeptView.{KeptView}
 use Rattle.use_report.specs.declared.pieces.Pieces.{Pieces}
@@ -66,16 +67,16 @@ shares-none image site sets many shares pieces e = record {
   placed = λ s h. absurd (none-taken shares s h);
 }
 
-pub shares-next : (image : List ℕ) (site : Site) (sets : List ViewSet) (many : ℕ) (shares : List Share) (i : ℕ) (bits : List ℕ) (before turned after : Pieces) → i < length shares → bits ≡ set_at sets (get_or shares i no_share).set → AreShared image site sets many (take i shares) before.all.items →
-    turned.all ≡ before.all → AreRunsOf bits many turned.runs.items → AddsShare image site (get_or shares i no_share) turned after → AreShared image site sets many (take (i + 1) shares) after.all.items
-shares-next image site sets many shares i bits before turned after low b had same runs adds =
+pub shares-next : (image : List ℕ) (site : Site) (sets : List ViewSet) (many : ℕ) (shares : List Share) (i : ℕ) (set : List Run) (before turned after : Pieces) → i < length shares → set ≡ set_at sets (get_or shares i no_share).set → AreShared image site sets many (take i shares) before.all.items →
+    turned.all ≡ before.all → AreRunsOf set many turned.runs.items → AddsShare image site (get_or shares i no_share) turned after → AreShared image site sets many (take (i + 1) shares) after.all.items
+shares-next image site sets many shares i set before turned after low b had same runs adds =
     let one : Share = get_or shares i no_share in
     record {
       held = λ view block in_view few.
           let g = adds.grows.held view block few in
           let h = had.held view block in_view few in
           let covered : is_covered turned.all.items view block ≡ is_covered before.all.items view block = ap (λ ps. is_covered ps.items view block) same in
-          let has : has_view turned.runs.items view ≡ is_shared sets one (head_place many view) = runs view in_view ∙ ap (λ (xs : List ℕ). bit_at xs (head_place many view)) b in
+          let has : has_place turned.runs.items view ≡ is_shared sets one (head_place many view) = runs view in_view ∙ ap (λ (xs : List Run). has_place xs (head_place many view)) b in
           let All : Type 0 = IsOfShares image site sets many (take (i + 1) shares) view block in (
             (λ e. elim (g.0 e) as (λ _. All) [
               | inl o ↦ let t = h.0 (sym covered ∙ o) in (t.0, (taken-more shares i no_share t.0 low).1 (inl t.1), t.2, t.3)
@@ -99,12 +100,12 @@ pub own-added : (image : List ℕ) (site : Site) (kept : KeptView) (old mid new 
 own-added image site kept old mid new r s = grows-then old mid new (λ block. In block (node_blocks_of image site kept.extents_root)) (λ block. kept.super_block ≡ Some block) r.1 s
 
 pub owns-next : (image : List ℕ) (site : Site) (views : List KeptView) (i : ℕ) (kept : KeptView) (old : List Piece) (before turned after : Pieces) → slice_get views i ≡ Some kept → AddsOwns image site views i old before.all.items → turned.all ≡ before.all →
-    turned.runs.items ≡ record { from = i; to = i + 1 } ∷ [] → Grows turned after (IsOwn image site kept) → AddsOwns image site views (i + 1) old after.all.items
+    turned.runs.items ≡ record { from = i; end = i + 1 } ∷ [] → Grows turned after (IsOwn image site kept) → AddsOwns image site views (i + 1) old after.all.items
 owns-next image site views i kept old before turned after at had same runs g = λ view block few.
     let x = g.held view block few in
     let h = had view block few in
     let covered : is_covered turned.all.items view block ≡ is_covered before.all.items view block = ap (λ ps. is_covered ps.items view block) same in
-    let turn : has_view turned.runs.items view ≡ is_from i (i + 1) view = turned-view turned i view runs in
+    let turn : has_place turned.runs.items view ≡ is_from i (i + 1) view = turned-view turned i view runs in
     let Now : Type 0 = (is_covered old view block ≡ true) ⊎ IsOwnAt image site views (i + 1) view block in (
       (λ e. elim (x.0 e) as (λ _. Now) [
         | inl o ↦ elim (h.0 (sym covered ∙ o)) as (λ _. Now) [ inl k ↦ inl k | inr w ↦ let low = w.low in inr (record { low = omega (arith, low); kept = w.kept; found = w.found; own = w.own }) ]

@@ -18,14 +18,14 @@ use Rattle.use_report.specs.Given.{IsGiven}
 use Rattle.use_report.specs.Held.{IsHeld, IsOnlyHeld, IsHeldByAny}
 use Rattle.use_report.specs.Holding.{IsWalked, IsHoldingOf, IsWalkedSet}
 use Rattle.use_report.specs.Numbers.{IsUse, IsUsage}
-use Rattle.use_report.specs.Runs.{has_view}
+use Rattle.view_sweep.specs.Runs.{has_place}
 use Rattle.use_report.specs.Sets.{AreHoldings, IsUseOf, AreNumbersOf}
 use Rattle.use_report.specs.Sharing.{AreHeldBy}
 use Rattle.use_report.specs.Views.{past_kept, pasts_kept, live_kept, views_kept}
 use Rattle.use_report.specs.declared.kept.KeptView.{KeptView}
 use Rattle.use_report.specs.declared.numbers.ViewUse.{ViewUse}
 use Rattle.use_report.specs.declared.pieces.Pieces.{Pieces}
-use Rattle.use_report.specs.declared.runs.Run.{Run}
+use Rattle.view_sweep.specs.declared.runs.Run.{Run}
 use Rattle.use_report.proofs.Holds.{holding-exact}
 use Rattle.use_report.proofs.Lists.{one-some, no-some, get-there, below-length, push-before, push-last}
 use Rattle.use_report.proofs.Sets.{number-by, number-is}
@@ -58,15 +58,15 @@ view-place volume seen (suc j) kept e =
 
 -- ---- one view more
 -- a run of one view has that view
-one-run : (i view : ℕ) → has_view (record { from = i; to = i + 1 } ∷ []) view ≡ is_from i (i + 1) view
-unfolding has_view
+one-run : (i view : ℕ) → has_place (record { from = i; end = i + 1 } ∷ []) view ≡ is_from i (i + 1) view
+unfolding has_place
 one-run i view =
     let last : (b : Bool) → (b || false) ≡ b = λ b. elim b as (λ b. (b || false) ≡ b) [ true ↦ refl | false ↦ refl ] in
     last (is_from i (i + 1) view)
 
 -- what one view turned to is added to that view alone
-pub turned-view : (turned : Pieces) (i view : ℕ) → turned.runs.items ≡ record { from = i; to = i + 1 } ∷ [] → has_view turned.runs.items view ≡ is_from i (i + 1) view
-turned-view turned i view runs = ap (λ (rs : List Run). has_view rs view) runs ∙ one-run i view
+pub turned-view : (turned : Pieces) (i view : ℕ) → turned.runs.items ≡ record { from = i; end = i + 1 } ∷ [] → has_place turned.runs.items view ≡ is_from i (i + 1) view
+turned-view turned i view runs = ap (λ (rs : List Run). has_place rs view) runs ∙ one-run i view
 
 -- no view yet
 pub holdings-none : (image : List ℕ) (site : Site) (volume : Loaded) (views : List KeptView) (pieces : List Piece) → pieces ≡ [] → AreHoldings image site volume views 0 pieces
@@ -88,11 +88,11 @@ set-same image site volume view test also s h = record {
       ((λ e. x.0 (y.0 e)), (λ p. y.1 (x.1 p)));
 }
 
-pub holdings-more : (image : List ℕ) (site : Site) (volume : Loaded) (views : List KeptView) (i : ℕ) (view : KeptView) (before turned after : Pieces) → slice_get views i ≡ Some view → turned.all ≡ before.all → turned.runs.items ≡ record { from = i; to = i + 1 } ∷ [] → AreHoldings image site volume views i before.all.items →
+pub holdings-more : (image : List ℕ) (site : Site) (volume : Loaded) (views : List KeptView) (i : ℕ) (view : KeptView) (before turned after : Pieces) → slice_get views i ≡ Some view → turned.all ≡ before.all → turned.runs.items ≡ record { from = i; end = i + 1 } ∷ [] → AreHoldings image site volume views i before.all.items →
     IsHoldingOf image site volume view turned after → AreHoldings image site volume views (i + 1) after.all.items
 holdings-more image site volume views i view before turned after at same runs had one =
     let old : (v block : ℕ) → is_covered turned.all.items v block ≡ is_covered before.all.items v block = λ v block. ap (λ (ps : Vec Piece Global). is_covered ps.items v block) same in
-    let turn : (v : ℕ) → has_view turned.runs.items v ≡ is_from i (i + 1) v = λ v. turned-view turned i v runs in
+    let turn : (v : ℕ) → has_place turned.runs.items v ≡ is_from i (i + 1) v = λ v. turned-view turned i v runs in
     let others : (v block : ℕ) → (v ≡ i → ⊥) → block < 2 ^ 64 - 1 → (is_covered after.all.items v block ≡ true) ↔ (is_covered before.all.items v block ≡ true) = λ v block apart low.
     let g = one.grows.held v block low in (
       (λ e. elim (g.0 e) as (λ _. is_covered before.all.items v block ≡ true) [

@@ -1,5 +1,5 @@
 -- What views hold by the records that they share.
-use Rattle.std.specs.Prelude.{◌≡◌, ◌⊎◌, ◌↔◌, ℕ, ◌-◌, ◌*◌, ◌^◌, ◌<◌, ◌≤◌, Bool, true, false, ◌==◌, List, length, Some, slice_get}
+use Rattle.std.specs.Prelude.{◌≡◌, ◌⊎◌, ◌↔◌, ℕ, ◌-◌, ◌^◌, ◌<◌, ◌≤◌, Bool, true, false, ◌==◌, List, length, Some, slice_get}
 use Rattle.apfs_model.specs.Blocks.{block_of, in_container}
 use Rattle.apfs_model.specs.Lists.{In}
 use Rattle.obj_base.specs.declared.site.Site.{Site}
@@ -23,7 +23,7 @@ use Rattle.use_report.specs.Counted.{Grows, HasExactly}
 use Rattle.use_report.specs.Heads.{AreHeadsOf}
 use Rattle.use_report.specs.Held.{IsHeld}
 use Rattle.use_report.specs.Leaves.{IsOfNode, IsPlacedNode}
-use Rattle.use_report.specs.Runs.{head_place}
+use Rattle.use_report.specs.Runs.{head_place, AreHeadRuns}
 use Rattle.use_report.specs.declared.kept.KeptView.{KeptView}
 use Rattle.use_report.specs.declared.pieces.Pieces.{Pieces}
 
@@ -62,7 +62,7 @@ pub record AreShared (image : List ℕ) (site : Site) (sets : List ViewSet) (man
 -- the numbers of sets, the sets and the blocks of records are in order
 pub record AreInOrder (blocks many : ℕ) (sets : List ViewSet) (shares : List Share) : Type 0 where
   pub number : (share : Share) → In share shares → share.set < length sets
-  pub long : (n : ℕ) → n < length sets → many ≤ 8 * length (set_at sets n)
+  pub runs : (n : ℕ) → n < length sets → AreHeadRuns many (set_at sets n)
   pub placed : (share : Share) → In share shares → in_container blocks share.used.mapping.paddr ≡ Some share.used.mapping.paddr
 
 -- a block that is a view's own: a node of its extent reference tree, or a snapshot's superblock

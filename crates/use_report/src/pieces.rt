@@ -1,13 +1,14 @@
 // The pieces of the blocks that views hold.
-ghost use Rattle.std.specs.Prelude.{◌≡◌, ◌+◌, ◌*◌, ◌++◌, ◌^◌, ◌<◌, ◌≤◌, ℕ, List, [], ◌∷◌, length, map, true, OnOk};
+ghost use Rattle.std.specs.Prelude.{◌≡◌, ◌+◌, ◌++◌, ◌^◌, ◌<◌, ℕ, List, [], ◌∷◌, length, map, true, OnOk};
 ghost use Rattle.apfs_model.specs.Blocks.{is_in};
 ghost use Rattle.use_report.specs.Counted.{Grows, piece_of};
-ghost use Rattle.use_report.specs.Runs.{AreRunsOf};
+ghost use Rattle.use_report.specs.Runs.{AreHeadRuns, AreRunsOf};
 
-use crate::runs::{Run, add_runs};
+use crate::runs::add_runs;
 use apfs_model::NoMemory;
 use piece_count::Piece;
 use std::alloc::Global;
+use view_sweep::Run;
 
 /// The pieces of the blocks that views hold, where what is added next is held by the views of some runs.
 #[derive(Drop)]
@@ -25,7 +26,7 @@ fn add_pieces(all: &mut Vec<Piece>, runs: &[Run], first: u64, end: u64) -> Resul
             first,
             end,
             from: run.from,
-            to: run.to,
+            to: run.end,
         }) {
             Ok(()) => {}
             Err(_) => return Err(NoMemory),
@@ -48,13 +49,13 @@ impl Pieces {
     /// What is added next is held by the view in a place.
     pub(crate) fn turn(&mut self, view: usize) -> Result<(), NoMemory>
         requires { view + 1 < 2 ^ 64 }
-        ensures runs { OnOk result (self.new.runs.items ≡ record { from = view; to = view + 1 } ∷ []) }
+        ensures runs { OnOk result (self.new.runs.items ≡ record { from = view; end = view + 1 } ∷ []) }
         ensures same { OnOk result (self.new.all ≡ self.old.all) }
     {
         self.runs.clear();
         match self.runs.push(Run {
             from: view,
-            to: view + 1,
+            end: view + 1,
         }) {
             Ok(()) => Ok(()),
             Err(_) => Err(NoMemory),
@@ -62,13 +63,14 @@ impl Pieces {
     }
 
     /// What is added next is held by the views of a set, of so many.
-    pub(crate) fn share(&mut self, bits: &[u8], many: usize) -> Result<(), NoMemory>
-        requires { many ≤ 8 * length bits.now }
-        ensures runs { OnOk result (AreRunsOf bits.now many self.new.runs.items) }
+    pub(crate) fn share(&mut self, set: &[Run], many: usize) -> Result<(), NoMemory>
+        requires some { 0 < many }
+        requires set { AreHeadRuns many set.now }
+        ensures runs { OnOk result (AreRunsOf set.now many self.new.runs.items) }
         ensures same { OnOk result (self.new.all ≡ self.old.all) }
     {
         self.runs.clear();
-        add_runs(&mut self.runs, bits, many)?;
+        add_runs(&mut self.runs, set, many)?;
         Ok(())
     }
 

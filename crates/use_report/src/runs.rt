@@ -1,97 +1,69 @@
 // The runs of the views of a set.
-ghost use Rattle.std.specs.Prelude.{◌≡◌, ◌+◌, ◌*◌, ◌^◌, ◌<◌, ◌≤◌, ◌++◌, ℕ, [], ◌∷◌, length, OnOk};
-ghost use Rattle.use_report.specs.Runs as spec;
-ghost use Rattle.use_report.specs.Runs.{Extends, ExtendsIn, AreRunsOf};
+ghost use Rattle.std.specs.Prelude.{◌≡◌, ◌==◌, ◌+◌, ◌-◌, ◌<◌, ◌≤◌, ◌&&◌, ◌||◌, nat_lt, ℕ, [], OnOk};
+ghost use Rattle.bit_lanes.specs.Places.{is_from};
+ghost use Rattle.view_sweep.specs.Runs.{has_place, IsBehind};
+ghost use Rattle.use_report.specs.Runs.{AreHeadRuns, AreRunsOf};
 
 use apfs_model::NoMemory;
-use bit_lanes::is_set;
+use view_sweep::{Run, least_place, put_run};
 
-/// The views from one place up to another, of those that are kept.
-#[derive(Clone, Copy, PartialEq, Eq, Debug)]
-pub(crate) struct Run {
-    pub from: usize,
-    pub to: usize,
+// Whether a set has the live view, of so many: its head comes last.
+fn has_live(set: &[Run], many: usize) -> bool
+    requires some { 0 < many }
+    requires runs { AreHeadRuns many set.now }
+    ensures { result ≡ has_place set.now (many - 1) }
+{
+    least_place(set, many - 1).is_some()
 }
 
-// The place among the heads of the view in a place, of so many: the live view comes last.
-fn head_place(many: usize, view: usize) -> usize
-    requires { view < many }
-    ensures place { result ≡ spec.head_place many view }
-    ensures below { result < many }
+// Adds the live view to none, where a set has it.
+fn add_live(runs: &mut Vec<Run>, set: &[Run], many: usize) -> Result<(), NoMemory>
+    requires some { 0 < many }
+    requires none { runs.old.items ≡ [] }
+    requires runs { AreHeadRuns many set.now }
+    ensures live { OnOk result ((view : ℕ) → has_place runs.new.items view ≡ ((view == 0) && has_place set.now (many - 1))) }
+    ensures behind { OnOk result (IsBehind 0 runs.new.items) }
 {
-    if view == 0 { many - 1 } else { view - 1 }
-}
-
-// Adds a run.
-fn put(runs: &mut Vec<Run>, run: Run) -> Result<(), NoMemory>
-    ensures { OnOk result (runs.new.items ≡ runs.old.items ++ run ∷ []) }
-{
-    match runs.push(run) {
-        Ok(()) => Ok(()),
-        Err(_) => Err(NoMemory),
-    }
-}
-
-// The run from one view up to behind another.
-fn run_of(from: usize, view: usize) -> Run
-    requires { view + 1 < 2 ^ 64 }
-    ensures { result ≡ record { from = from; to = view + 1 } }
-{
-    Run { from, to: view + 1 }
-}
-
-// Adds a view behind a run: to it, where it ends before the view, or as one of its own.
-fn put_behind(runs: &mut Vec<Run>, last: Run, view: usize) -> Result<(), NoMemory>
-    requires { view + 1 < 2 ^ 64 }
-    ensures { OnOk result (Extends (runs.old.items ++ last ∷ []) view runs.new.items) }
-{
-    if last.to == view {
-        put(runs, run_of(last.from, view))?;
+    if !has_live(set, many) {
         return Ok(());
     }
-    put(runs, last)?;
-    put(runs, run_of(view, view))?;
+    runs.push(Run { from: 0, end: 1 })?;
     Ok(())
 }
 
-// Adds a view behind some runs.
-fn extend(runs: &mut Vec<Run>, view: usize) -> Result<(), NoMemory>
-    requires { view + 1 < 2 ^ 64 }
-    ensures { OnOk result (Extends runs.old.items view runs.new.items) }
+// Adds the views after those of a run of heads, which are the snapshots', of so many views.
+fn add_next(runs: &mut Vec<Run>, run: Run, many: usize) -> Result<(), NoMemory>
+    requires some { 0 < many }
+    requires low { run.from < run.end }
+    requires high { run.end ≤ many }
+    requires behind { IsBehind (run.from + 1) runs.old.items }
+    ensures places { OnOk result ((view : ℕ) → view < many → has_place runs.new.items view ≡ (has_place runs.old.items view || (nat_lt 0 view && is_from run.from run.end (view - 1)))) }
+    ensures behind { OnOk result (IsBehind (run.from + 1) runs.new.items) }
 {
-    match runs.pop() {
-        Some(last) => {
-            put_behind(runs, last, view)?;
-            Ok(())
-        }
-        None => {
-            put(runs, run_of(view, view))?;
-            Ok(())
-        }
-    }
-}
-
-// The same of a view that is in a set, of so many, and not of another.
-fn extend_in(runs: &mut Vec<Run>, bits: &[u8], many: usize, view: usize) -> Result<(), NoMemory>
-    requires below { view < many }
-    requires long { many ≤ 8 * length bits.now }
-    ensures { OnOk result (ExtendsIn bits.now many runs.old.items view runs.new.items) }
-{
-    if !is_set(bits, head_place(many, view)) {
+    let from = run.from + 1;
+    if from == many {
         return Ok(());
     }
-    extend(runs, view)?;
+    put_run(
+        runs,
+        Run {
+            from,
+            end: run.end.min(many - 1) + 1,
+        },
+    )?;
     Ok(())
 }
 
 /// Adds the runs of the views in a set, of so many, to none.
-pub(crate) fn add_runs(runs: &mut Vec<Run>, bits: &[u8], many: usize) -> Result<(), NoMemory>
+pub(crate) fn add_runs(runs: &mut Vec<Run>, set: &[Run], many: usize) -> Result<(), NoMemory>
+    requires some { 0 < many }
     requires none { runs.old.items ≡ [] }
-    requires long { many ≤ 8 * length bits.now }
-    ensures { OnOk result (AreRunsOf bits.now many runs.new.items) }
+    requires runs { AreHeadRuns many set.now }
+    ensures { OnOk result (AreRunsOf set.now many runs.new.items) }
 {
-    'views: for view in 0..many {
-        extend_in(runs, bits, many, view)?;
+    add_live(runs, set, many)?;
+    'set: for run in set {
+        add_next(runs, *run, many)?;
     }
     Ok(())
 }

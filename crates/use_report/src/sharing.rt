@@ -31,7 +31,7 @@ use bt_node::NodeAt;
 use obj_base::{Site, Stop};
 use piece_count::Piece;
 use std::alloc::Global;
-use view_sweep::{Reach, Share, SharedAs, ViewSet, reach_by_views};
+use view_sweep::{Reach, Run, Share, SharedAs, ViewSet, reach_by_views};
 use vol_view::Volume;
 
 // Whether the object of a record may be a leaf: the level of a root stands in its block.
@@ -104,13 +104,13 @@ fn add_share<S: BlockSource>(
     Ok(whole)
 }
 
-// The bits of the set of a number.
-fn bits_of(sets: &[ViewSet], number: usize) -> &[u8]
+// The runs of the set of a number.
+fn runs_of(sets: &[ViewSet], number: usize) -> &[Run]
     requires { number < length sets.now }
     ensures { result.now ≡ set_at sets.now number }
 {
     let set = &sets[number];
-    &set.bits
+    &set.runs
 }
 
 // The same for each of some records and the views of its set, of so many.
@@ -124,6 +124,7 @@ fn add_shares<S: BlockSource>(
     held: &mut Pieces,
 ) -> Result<bool, Stop<UseFault>>
     requires site { IsSiteFor site.now (S.bytes_len src.old) }
+    requires some { 0 < many }
     requires order { AreInOrder site.now.blocks many sets.now shares.now }
     requires none { held.old.all.items ≡ [] }
     ensures held { (image : List ℕ) → S.bytes src.old ≡ Some image → IfOk result (λ whole. IsTrue whole → AreShared image site.now sets.now many shares.now held.new.all.items) }
@@ -133,7 +134,7 @@ fn add_shares<S: BlockSource>(
 {
     let mut block = vec![in alloc; 0u8; site.block_size as usize]?;
     'shares: for share in shares {
-        held.share(bits_of(sets, share.set), many)?;
+        held.share(runs_of(sets, share.set), many)?;
         match add_share(src, site, share, &mut block, held) {
             Ok(true) => {}
             Ok(false) => return Ok(false),

@@ -4,7 +4,6 @@ use Rattle.std.specs.List.{flat_map}
 use Rattle.std.specs.List.Sorted.{IsPermutation}
 use Rattle.std.proofs.lemmas.Grind.{flat_map-append}
 use Rattle.std.proofs.lemmas.List.Sorted.{IsPermutation-sym}
-use Rattle.apfs_model.specs.Bytes.{bit_at}
 use Rattle.apfs_model.specs.Lists.{In}
 use Rattle.apfs_model.proofs.Searches.{in-map, from-map, in-flat_map, from-flat_map, in-left, in-right, in-append}
 use Rattle.obj_base.specs.declared.stop.Stop.{Stop}
@@ -21,6 +20,7 @@ use Rattle.view_sweep.specs.declared.wanted.SweptView.{SweptView}
 use Rattle.view_sweep.specs.declared.wanted.Wanted.{Wanted}
 use Rattle.view_sweep.specs.declared.wanted.Asked.{Asked}
 use Rattle.view_sweep.specs.declared.used.Hit.{Hit}
+use Rattle.view_sweep.specs.Runs.{has_place}
 use Rattle.view_sweep.specs.Wanted.{number_by}
 use Rattle.view_sweep.specs.Found.{World, wants_of}
 use Rattle.view_sweep.specs.Here.{TellsHere, IsLostHere, IsMappedBy}
@@ -45,7 +45,7 @@ like-asked views sets asked w x p low e h =
     } in
     (y, (in-asked views sets asked h.one y h.listed (record { place = p; below = low; has = h.has; is = refl }), l))
 
-sought-has : (all : List Sought) (s : Sought) (p : ℕ) → In s all → bit_at s.set.items p ≡ true → HasSought all s.wanted.oid (number_by s.wanted.want) p
+sought-has : (all : List Sought) (s : Sought) (p : ℕ) → In s all → has_place s.set.items p ≡ true → HasSought all s.wanted.oid (number_by s.wanted.want) p
 sought-has all s p i e = record { one = s; listed = i; under = record { oid_is = refl; number_is = refl }; has = e }
 
 pub sought-like : (views : List SweptView) (sets : List ViewSet) (asked : List Asked) (all : List Sought) → AreSought sets asked all → (x : Wanted) → IsOfSought views all x → (y : Wanted) × (In y (all_asked views sets asked) × IsLike x y)
@@ -151,7 +151,7 @@ module _ (k : World) (views : List SweptView) (sets : List ViewSet) (current : L
       let o : IsOfSet views a.0.wanted (set_at sets a.0.set) w = a.1.1 in
       let u : SweptView = view_of views o.place in
       let v : Wanted = of_view h.wanted u in
-      let j : In v (hit_by views sets h) = set-of views (set_at sets h.set) h.wanted v (record { place = o.place; below = o.below; has = sym (ap (λ (x : Asked). bit_at (set_at sets x.set) o.place) m.1.1) ∙ o.has; is = refl }) in
+      let j : In v (hit_by views sets h) = set-of views (set_at sets h.set) h.wanted v (record { place = o.place; below = o.below; has = sym (ap (λ (x : Asked). has_place (set_at sets x.set) o.place) m.1.1) ∙ o.has; is = refl }) in
       let e : w ≡ of_view m.0 u = o.is ∙ ap (λ (x : Asked). of_view x.wanted u) m.1.1 in (
         h,
         (

@@ -1,5 +1,6 @@
 pub mod Records
 pub mod Ranked
+pub mod Rises
 pub mod Readings
 pub mod Orders
 pub mod Kids
@@ -19,11 +20,11 @@ pub mod Members
 pub mod Likes
 pub mod Gaps
 pub mod Since
+pub mod Stretches
 pub mod Onces
 pub mod Joins
 pub mod Splits
 pub mod Fors
-pub mod Cuts
 pub mod Waits
 pub mod Tops
 pub mod Shares

@@ -1,13 +1,14 @@
 -- Two that are asked for under one id of a view.
 use Rattle.std.proofs.Common.{◌≡◌, ℕ, ◌+◌, ◌<◌, ◌≤◌, Bool, true, false, ◌&&◌, ◌||◌, List, length, ◌⊎◌, inl, inr, refl, ap, sym, ◌∙◌, subst, arith}
 use Rattle.std.proofs.lemmas.Bool.{cases_lt, both_ways}
-use Rattle.apfs_model.specs.Bytes.{bit_at}
 use Rattle.obj_base.specs.declared.stop.Within.TheVariants.{Volume}
+use Rattle.view_sweep.specs.declared.runs.Run.{Run}
 use Rattle.view_sweep.specs.declared.sets.ViewSet.{ViewSet}
 use Rattle.view_sweep.specs.declared.wanted.SweptView.{SweptView}
 use Rattle.view_sweep.specs.declared.wanted.Wanted.{Wanted}
 use Rattle.view_sweep.specs.declared.wanted.Asked.{Asked}
-use Rattle.view_sweep.specs.Sets.{width_of, set_at, view_of, of_view, all_asked, AreSets, AreNumbered, IsFirst}
+use Rattle.view_sweep.specs.Runs.{has_place, AreRising}
+use Rattle.view_sweep.specs.Sets.{set_at, view_of, of_view, all_asked, AreSets, AreNumbered, IsFirst}
 use Rattle.view_sweep.specs.Asked.{nth_asked, has_view, IsClashAt, AreAlikeAt, IsOfSet, IsRun}
 use Rattle.view_sweep.specs.Here.{IsTwice, Among}
 use Rattle.view_sweep.specs.Order.{AreById}
@@ -25,9 +26,9 @@ noasked = record { wanted = nobody; set = 0 }
 pub nth-numbered : (n : ℕ) (asked : List Asked) (j : ℕ) → AreNumbered n asked → j < length asked → (nth_asked asked j).set < n
 nth-numbered n asked j low within = low (nth_asked asked j) (place-in asked j noasked within)
 
--- the bits of a set that is kept are as long as the others
-pub set-long : (views : List SweptView) (sets : List ViewSet) (asked : List Asked) (j : ℕ) (bits : List ℕ) → AreSets views sets → AreNumbered (length sets) asked → j < length asked → bits ≡ set_at sets (nth_asked asked j).set → length bits ≡ width_of (length views)
-set-long views sets asked j bits proper low within e = ap length e ∙ (proper (nth_asked asked j).set (nth-numbered (length sets) asked j low within)).long
+-- a set that is kept rises
+pub set-rising : (views : List SweptView) (sets : List ViewSet) (asked : List Asked) (j : ℕ) (runs : List Run) → AreSets views sets → AreNumbered (length sets) asked → j < length asked → runs ≡ set_at sets (nth_asked asked j).set → AreRising runs
+set-rising views sets asked j runs proper low within e = subst AreRising (sym e) (proper (nth_asked asked j).set (nth-numbered (length sets) asked j low within)).rising
 
 -- ---- what two sets share
 
@@ -57,22 +58,22 @@ once-more views sets asked i once new j k (inr a) (inl b) e = subst (λ (n : ℕ
 once-more views sets asked i once new j k (inr a) (inr b) e = λ p low x y. ap (λ (n : ℕ). (nth_asked asked n).wanted.want) (sym a ∙ b)
 
 -- the next is of the same id, and of no view that wants it in another way
-pub run-again : (views : List SweptView) (sets : List ViewSet) (asked : List Asked) (seen new : List ℕ) (from i : ℕ) → IsRun views sets asked seen from i
+pub run-again : (views : List SweptView) (sets : List ViewSet) (asked : List Asked) (seen new : List Run) (from i : ℕ) → IsRun views sets asked seen from i
     → (nth_asked asked i).wanted.oid ≡ (nth_asked asked from).wanted.oid → ((j : ℕ) → from ≤ j → j < i → AreAlikeAt views sets asked j i)
-    → length new ≡ length seen → ((p : ℕ) → bit_at new p ≡ (bit_at seen p || has_view sets (nth_asked asked i) p)) → IsRun views sets asked new from (i + 1)
-run-again views sets asked seen new from i r here alike long bits =
+    → AreRising new → ((p : ℕ) → has_place new p ≡ (has_place seen p || has_view sets (nth_asked asked i) p)) → IsRun views sets asked new from (i + 1)
+run-again views sets asked seen new from i r here alike rises bits =
     let start : from ≤ i = r.start in
     record {
       start = omega arith;
-      long = long ∙ r.long;
+      rising = rises;
       same = λ j low high. elim (last-or j i high) as (λ _. (nth_asked asked j).wanted.oid ≡ (nth_asked asked from).wanted.oid) [
         | inl a ↦ r.same j low a
         | inr b ↦ ap (λ (n : ℕ). (nth_asked asked n).wanted.oid) (sym b) ∙ here
       ];
       less = r.less;
-      known = λ j p low high e. bits p ∙ elim (last-or j i high) as (λ _. (bit_at seen p || has_view sets (nth_asked asked i) p) ≡ true) [
-        | inl a ↦ or-left (bit_at seen p) _ (r.known j p low a e)
-        | inr b ↦ or-right (bit_at seen p) _ (ap (λ (n : ℕ). has_view sets (nth_asked asked n) p) b ∙ e)
+      known = λ j p low high e. bits p ∙ elim (last-or j i high) as (λ _. (has_place seen p || has_view sets (nth_asked asked i) p) ≡ true) [
+        | inl a ↦ or-left (has_place seen p) _ (r.known j p low a e)
+        | inr b ↦ or-right (has_place seen p) _ (ap (λ (n : ℕ). has_view sets (nth_asked asked n) p) b ∙ e)
       ];
       once = λ j k low high. once-more views sets asked i r.once (λ n a e. elim (cases_lt n from) as (λ _. AreAlikeAt views sets asked n i) [
         | inl before ↦ let less : (nth_asked asked n).wanted.oid < (nth_asked asked from).wanted.oid = r.less n before in absurd (omega (arith, less, e, here))
@@ -81,9 +82,9 @@ run-again views sets asked seen new from i r here alike long bits =
     }
 
 -- the next is of another id
-pub run-next : (views : List SweptView) (sets : List ViewSet) (asked : List Asked) (seen new : List ℕ) (from i : ℕ) → IsRun views sets asked seen from i → AreById asked → i < length asked
-    → ((nth_asked asked i).wanted.oid ≡ (nth_asked asked from).wanted.oid → ⊥) → length new ≡ length seen → new ≡ set_at sets (nth_asked asked i).set → IsRun views sets asked new i (i + 1)
-run-next views sets asked seen new from i r sorted within other long bits =
+pub run-next : (views : List SweptView) (sets : List ViewSet) (asked : List Asked) (seen new : List Run) (from i : ℕ) → IsRun views sets asked seen from i → AreById asked → i < length asked
+    → ((nth_asked asked i).wanted.oid ≡ (nth_asked asked from).wanted.oid → ⊥) → AreRising new → new ≡ set_at sets (nth_asked asked i).set → IsRun views sets asked new i (i + 1)
+run-next views sets asked seen new from i r sorted within other rises bits =
     let above : (nth_asked asked from).wanted.oid ≤ (nth_asked asked i).wanted.oid = sorted from i r.start within in
     let more : (nth_asked asked from).wanted.oid < (nth_asked asked i).wanted.oid = elim (cases_lt (nth_asked asked from).wanted.oid (nth_asked asked i).wanted.oid) as (λ _. (nth_asked asked from).wanted.oid < (nth_asked asked i).wanted.oid) [
       | inl a ↦ a
@@ -95,10 +96,10 @@ run-next views sets asked seen new from i r sorted within other long bits =
     ] in
     record {
       start = omega arith;
-      long = long ∙ r.long;
+      rising = rises;
       same = λ j low high. let e : j ≡ i = omega arith in ap (λ (n : ℕ). (nth_asked asked n).wanted.oid) e;
       less = less;
-      known = λ j p low high e. let s : j ≡ i = omega arith in ap (λ (bs : List ℕ). bit_at bs p) bits ∙ (ap (λ (n : ℕ). has_view sets (nth_asked asked n) p) (sym s) ∙ e);
+      known = λ j p low high e. let s : j ≡ i = omega arith in ap (λ (bs : List Run). has_place bs p) bits ∙ (ap (λ (n : ℕ). has_view sets (nth_asked asked n) p) (sym s) ∙ e);
       once = λ j k low high. once-more views sets asked i r.once (λ n a e. let b : (nth_asked asked n).wanted.oid < (nth_asked asked i).wanted.oid = less n a in absurd (omega (arith, b, e))) j k (last-or j i low) (last-or k i high);
     }
 
@@ -110,7 +111,7 @@ one-place views p q a b e =
     omega arith
 
 -- at the end no id of a view is wanted in two ways
-pub run-all : (views : List SweptView) (sets : List ViewSet) (asked : List Asked) (seen : List ℕ) (from i : ℕ) → AreSets views sets → AreNumbered (length sets) asked → length asked ≤ i → IsRun views sets asked seen from i → IsOnce (all_asked views sets asked)
+pub run-all : (views : List SweptView) (sets : List ViewSet) (asked : List Asked) (seen : List Run) (from i : ℕ) → AreSets views sets → AreNumbered (length sets) asked → length asked ≤ i → IsRun views sets asked seen from i → IsOnce (all_asked views sets asked)
 run-all views sets asked seen from i proper low end r = λ a b h k v o.
     let x = from-asked views sets asked a h in
     let y = from-asked views sets asked b k in
@@ -130,7 +131,7 @@ run-all views sets asked seen from i proper low end r = λ a b h k v o.
     (ap (λ (w : Wanted). w.want) s.is ∙ (ap (λ (z : Asked). z.wanted.want) j.1.1 ∙ (wants ∙ (ap (λ (z : Asked). z.wanted.want) (sym n.1.1) ∙ sym (ap (λ (w : Wanted). w.want) t.is)))))
 
 -- two that clash are wanted of one view under one id
-pub twice-here : (views : List SweptView) (sets : List ViewSet) (asked : List Asked) (seen : List ℕ) (from last p : ℕ) → IsRun views sets asked seen from last → last < length asked → (nth_asked asked last).wanted.oid ≡ (nth_asked asked from).wanted.oid → IsClashAt views sets asked from last p
+pub twice-here : (views : List SweptView) (sets : List ViewSet) (asked : List Asked) (seen : List Run) (from last p : ℕ) → IsRun views sets asked seen from last → last < length asked → (nth_asked asked last).wanted.oid ≡ (nth_asked asked from).wanted.oid → IsClashAt views sets asked from last p
     → IsTwice (Among (all_asked views sets asked)) (Volume (view_of views p).slot) (nth_asked asked last).wanted.oid (view_of views p).xid
 twice-here views sets asked seen from last p r within here c =
     let one : Asked = nth_asked asked last in

@@ -2,11 +2,11 @@
 use Rattle.std.proofs.Common.{◌≡◌, ℕ, suc, ◌<◌, ◌≤◌, true, List, [], ◌++◌, length, map, ◌⊎◌, inl, inr, Option, Some, refl, ap, sym, ◌∙◌, subst, arith}
 use Rattle.std.proofs.lemmas.Bool.{cases_lt}
 use Rattle.apfs_model.specs.Blocks.{in_container}
-use Rattle.apfs_model.specs.Bytes.{bit_at}
 use Rattle.apfs_model.specs.Lists.{In}
 use Rattle.apfs_model.proofs.Searches.{in-map, from-map, in-left, in-right, in-append}
 use Rattle.omap_map.specs.declared.records.OmapRecord.{OmapRecord}
 use Rattle.reach_rules.specs.Live.{rooted}
+use Rattle.view_sweep.specs.declared.runs.Run.{Run}
 use Rattle.view_sweep.specs.declared.sets.ViewSet.{ViewSet}
 use Rattle.view_sweep.specs.declared.wanted.SweptView.{SweptView}
 use Rattle.view_sweep.specs.declared.wanted.Head.{Head}
@@ -15,6 +15,7 @@ use Rattle.view_sweep.specs.declared.wanted.Want.TheVariants.{Root, Metadata, No
 use Rattle.view_sweep.specs.declared.wanted.Wanted.{Wanted}
 use Rattle.view_sweep.specs.declared.used.Hit.{Hit}
 use Rattle.view_sweep.specs.declared.used.Share.{Share}
+use Rattle.view_sweep.specs.Runs.{has_place}
 use Rattle.view_sweep.specs.Wanted.{heads_want, expected_by, expected_of}
 use Rattle.view_sweep.specs.Found.{World}
 use Rattle.view_sweep.specs.Sets.{view_of, set_at, of_view, hit_by, IsFirst, AreSets, AreKept, HaveSame}
@@ -66,7 +67,7 @@ module _ (k : World) (named : IsByName k) (views : List SweptView) (sets : List 
       record {
         by = share_of h;
         one = in-map share_of hits h s.1.0;
-        has = subst (λ q. bit_at (set_at sets h.set) q ≡ true) same o.has;
+        has = subst (λ q. has_place (set_at sets h.set) q ≡ true) same o.has;
         is = hit-use h v.0 w s.1.0 v.1.0 v.1.1;
       }
 
@@ -74,7 +75,7 @@ module _ (k : World) (named : IsByName k) (views : List SweptView) (sets : List 
   shares-only s p i e =
       let t = from-map share_of hits s i in
       let h : Hit = t.0 in
-      let has : bit_at (set_at sets h.set) p ≡ true = sym (ap (λ (x : Share). is_shared sets x p) t.1.1) ∙ e in
+      let has : has_place (set_at sets h.set) p ≡ true = sym (ap (λ (x : Share). is_shared sets x p) t.1.1) ∙ e in
       let inside : p < length views = ((are h.set (low h t.1.0)).first p has).below in
       let v : Wanted = of_view h.wanted (view_of views p) in
       let j : In v (hit_by views sets h) = set-of views (set_at sets h.set) h.wanted v (record { place = p; below = inside; has = has; is = refl }) in
@@ -125,7 +126,7 @@ shares-more blocks look views P Q R sets grown old new either left right kept in
         record {
           by = t.by;
           one = subst (λ (xs : List Share). In t.by xs) (sym b.added) (in-left t.by old b.more t.one);
-          has = ap (λ (bits : List ℕ). bit_at bits p) (kept.same t.by.set (inside.number t.by t.one)) ∙ t.has;
+          has = ap (λ (bits : List Run). has_place bits p) (kept.same t.by.set (inside.number t.by t.one)) ∙ t.has;
           is = t.is;
         }
     | inr y ↦
@@ -134,7 +135,7 @@ shares-more blocks look views P Q R sets grown old new either left right kept in
   ];
   only = λ s p i e. elim (in-append s old b.more (subst (λ (xs : List Share). In s xs) b.added i)) as (λ _. IsUsedIn look R (view_of views p) s) [
     | inl x ↦
-        let t = a.only s p x (sym (ap (λ (bits : List ℕ). bit_at bits p) (kept.same s.set (inside.number s x))) ∙ e) in
+        let t = a.only s p x (sym (ap (λ (bits : List Run). has_place bits p) (kept.same s.set (inside.number s x))) ∙ e) in
         record { one = t.one; wanted = left t.one t.wanted; view_is = t.view_is; is = t.is }
     | inr y ↦
         let t = b.those.only s p y e in

@@ -58,7 +58,7 @@ placed-is : (site : Site) (r m : OmapRecord) (o : Option ℕ) → option_map (λ
 placed-is site r m None e = absurd (cc)
 placed-is site r m (Some b) e = cc
 
-looked-is : (site : Site) (o : Option OmapRecord) (m : OmapRecord) → option_and_then (placed site) o ≡ Some m → o ≡ Some m
+pub looked-is : (site : Site) (o : Option OmapRecord) (m : OmapRecord) → option_and_then (placed site) o ≡ Some m → o ≡ Some m
 looked-is site None m e = absurd (cc)
 looked-is site (Some r) m e = ap (λ (x : OmapRecord). Some x) (placed-is site r m (in_container site.blocks r.paddr) e)
 

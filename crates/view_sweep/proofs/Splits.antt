@@ -3,18 +3,19 @@ use Rattle.std.proofs.Common.{◌≡◌, ℕ, ◌+◌, ◌*◌, ◌/◌, ◌<◌
 use Rattle.std.proofs.lemmas.Bool.{cases_lt, and_parts, and_from, both_ways}
 use Rattle.std.proofs.lemmas.Bool.Decides.{nat_tests}
 use Rattle.apfs_model.specs.Blocks.{in_container}
-use Rattle.apfs_model.specs.Bytes.{bit_at}
 use Rattle.apfs_model.specs.Lists.{In}
 use Rattle.apfs_model.proofs.Searches.{in-left, in-right}
-use Rattle.bit_lanes.specs.Places.{is_from, AreClear}
+use Rattle.bit_lanes.specs.Places.{is_from}
 use Rattle.obj_base.specs.declared.site.Site.{Site}
 use Rattle.omap_map.specs.Features.{mapping_features}
 use Rattle.omap_map.specs.declared.records.OmapRecord.{OmapRecord}
+use Rattle.view_sweep.specs.declared.runs.Run.{Run}
 use Rattle.view_sweep.specs.declared.sets.ViewSet.{ViewSet}
 use Rattle.view_sweep.specs.declared.joining.Sought.{Sought}
 use Rattle.view_sweep.specs.declared.wanted.SweptView.{SweptView}
 use Rattle.view_sweep.specs.declared.wanted.Wanted.{Wanted}
 use Rattle.view_sweep.specs.declared.used.Hit.{Hit}
+use Rattle.view_sweep.specs.Runs.{has_place, AreRising, AreNone}
 use Rattle.view_sweep.specs.Sets.{set_at, view_of, of_view, IsSetOf, AreKept}
 use Rattle.view_sweep.specs.Hits.{IsHitOf, HasHit, AreSplit, AreHitsOf}
 use Rattle.view_sweep.specs.Next.{AreAsOne}
@@ -35,20 +36,20 @@ bit-part low high p b above below e =
     and_from _ _ f e
 
 -- a part of a set is one
-pub part-set : (views : List SweptView) (set part : List ℕ) (low high : ℕ) → IsSetOf views set → length part ≡ length set → ((k : ℕ) → bit_at part k ≡ (is_from low high k && bit_at set k)) → IsSetOf views part
-part-set views set part low high is long bits = record {
-  long = long ∙ is.long;
-  first = λ p e. is.first p (part-bit low high p (bit_at set p) (sym (bits p) ∙ e)).1.1;
+pub part-set : (views : List SweptView) (set part : List Run) (low high : ℕ) → IsSetOf views set → AreRising part → ((k : ℕ) → has_place part k ≡ (is_from low high k && has_place set k)) → IsSetOf views part
+part-set views set part low high is rises bits = record {
+  rising = rises;
+  first = λ p e. is.first p (part-bit low high p (has_place set p) (sym (bits p) ∙ e)).1.1;
 }
 
-module _ (look : Wanted → Option OmapRecord) (site : Site) (views : List SweptView) (w : Wanted) (set : List ℕ) where
+module _ (look : Wanted → Option OmapRecord) (site : Site) (views : List SweptView) (w : Wanted) (set : List Run) where
   -- among more sets a hit is the same
   pub hit-kept : (old new : List ViewSet) → AreKept old new → (h : Hit) → IsHitOf look site views old w set h → IsHitOf look site views new w set h
   hit-kept old new kept h is =
       let e : set_at new h.set ≡ set_at old h.set = kept.same h.set is.number in
       let more : length old ≤ length new = kept.more in
       let low : h.set < length old = is.number in
-      let back : (p : ℕ) → bit_at (set_at new h.set) p ≡ true → bit_at (set_at old h.set) p ≡ true = λ p f. ap (λ (bs : List ℕ). bit_at bs p) (sym e) ∙ f in
+      let back : (p : ℕ) → has_place (set_at new h.set) p ≡ true → has_place (set_at old h.set) p ≡ true = λ p f. ap (λ (bs : List Run). has_place bs p) (sym e) ∙ f in
       record {
         oid = is.oid;
         want = is.want;
@@ -56,7 +57,7 @@ module _ (look : Wanted → Option OmapRecord) (site : Site) (views : List Swept
         place = is.place;
         below = is.below;
         view = is.view;
-        own = ap (λ (bs : List ℕ). bit_at bs is.place) e ∙ is.own;
+        own = ap (λ (bs : List Run). has_place bs is.place) e ∙ is.own;
         only = λ p f. is.only p (back p f);
         found = λ p f. is.found p (back p f);
         inside = is.inside;
@@ -68,12 +69,12 @@ module _ (look : Wanted → Option OmapRecord) (site : Site) (views : List Swept
     one = h.one;
     listed = all h.one h.listed;
     is = hit-kept old new kept h.one h.is;
-    has = ap (λ (bs : List ℕ). bit_at bs p) (kept.same h.one.set h.is.number) ∙ h.has;
+    has = ap (λ (bs : List Run). has_place bs p) (kept.same h.one.set h.is.number) ∙ h.has;
   }
 
   -- the hit of the views of a part
-  pub hit-of : (sets : List ViewSet) (h : Hit) (low high : ℕ) → h.wanted ≡ of_view w (view_of views low) → h.set < length sets → low < high → high ≤ length views → bit_at set low ≡ true
-      → ((k : ℕ) → bit_at (set_at sets h.set) k ≡ (is_from low high k && bit_at set k)) → ((p : ℕ) → low ≤ p → p < high → AreAsOne h.wanted.view (view_of views p)) → ((p : ℕ) → low ≤ p → p < high → look (of_view h.wanted (view_of views p)) ≡ Some h.mapping)
+  pub hit-of : (sets : List ViewSet) (h : Hit) (low high : ℕ) → h.wanted ≡ of_view w (view_of views low) → h.set < length sets → low < high → high ≤ length views → has_place set low ≡ true
+      → ((k : ℕ) → has_place (set_at sets h.set) k ≡ (is_from low high k && has_place set k)) → ((p : ℕ) → low ≤ p → p < high → AreAsOne h.wanted.view (view_of views p)) → ((p : ℕ) → low ≤ p → p < high → look (of_view h.wanted (view_of views p)) ≡ Some h.mapping)
       → in_container site.blocks h.mapping.paddr ≡ Some h.mapping.paddr → mapping_features site.block_size h.mapping.flags h.mapping.size ≡ [] → IsHitOf look site views sets w set h
   hit-of sets h low high same number more inside has bits one found placed plain = record {
     oid = ap (λ (x : Wanted). x.oid) same;
@@ -82,9 +83,9 @@ module _ (look : Wanted → Option OmapRecord) (site : Site) (views : List Swept
     place = low;
     below = omega arith;
     view = ap (λ (x : Wanted). x.view) same;
-    own = bits low ∙ bit-part low high low (bit_at set low) (omega arith) more has;
-    only = λ p e. (part-bit low high p (bit_at set p) (sym (bits p) ∙ e)).1.1;
-    found = λ p e. let t = part-bit low high p (bit_at set p) (sym (bits p) ∙ e) in (one p t.0 t.1.0, found p t.0 t.1.0);
+    own = bits low ∙ bit-part low high low (has_place set low) (omega arith) more has;
+    only = λ p e. (part-bit low high p (has_place set p) (sym (bits p) ∙ e)).1.1;
+    found = λ p e. let t = part-bit low high p (has_place set p) (sym (bits p) ∙ e) in (one p t.0 t.1.0, found p t.0 t.1.0);
     inside = placed;
     plain = plain;
   }
@@ -93,14 +94,14 @@ module _ (look : Wanted → Option OmapRecord) (site : Site) (views : List Swept
   split-none sets old = record { each = λ p low. absurd (omega arith); only = λ h i. inl i; kept = λ h i. i }
 
   -- a hit more
-  pub split-more : (sets more : List ViewSet) (from low high : ℕ) (old out new : List Hit) (h : Hit) → AreKept sets more → new ≡ out ++ h ∷ [] → AreSplit look site views sets w set from old out → AreClear set from low → IsHitOf look site views more w set h
-      → ((k : ℕ) → bit_at (set_at more h.set) k ≡ (is_from low high k && bit_at set k)) → AreSplit look site views more w set high old new
+  pub split-more : (sets more : List ViewSet) (from low high : ℕ) (old out new : List Hit) (h : Hit) → AreKept sets more → new ≡ out ++ h ∷ [] → AreSplit look site views sets w set from old out → AreNone set from low → IsHitOf look site views more w set h
+      → ((k : ℕ) → has_place (set_at more h.set) k ≡ (is_from low high k && has_place set k)) → AreSplit look site views more w set high old new
   split-more sets more from low high old out new h kept e s clear is bits = record {
     each = λ p below f. elim (cases_lt p from) as (λ _. HasHit look site views more w set new p) [
       | inl before ↦ has-kept sets more kept out new (λ g i. subst (In g) (sym e) (in-left g out (h ∷ []) i)) p (s.each p before f)
       | inr past ↦ elim (cases_lt p low) as (λ _. HasHit look site views more w set new p) [
         | inl early ↦ absurd (both_ways _ (clear p past early) f)
-        | inr late ↦ record { one = h; listed = subst (In h) (sym e) (in-right h out (h ∷ []) (inl refl)); is = is; has = bits p ∙ bit-part low high p (bit_at set p) late below f }
+        | inr late ↦ record { one = h; listed = subst (In h) (sym e) (in-right h out (h ∷ []) (inl refl)); is = is; has = bits p ∙ bit-part low high p (has_place set p) late below f }
       ]
     ];
     only = λ g i. elim (in-push g out h (subst (In g) e i)) as (λ _. In g old ⊎ IsHitOf look site views more w set g) [
@@ -111,7 +112,7 @@ module _ (look : Wanted → Option OmapRecord) (site : Site) (views : List Swept
   }
 
   -- no view is left
-  pub split-all : (sets : List ViewSet) (from end : ℕ) (old out : List Hit) → AreSplit look site views sets w set from old out → AreClear set from end → AreSplit look site views sets w set end old out
+  pub split-all : (sets : List ViewSet) (from end : ℕ) (old out : List Hit) → AreSplit look site views sets w set from old out → AreNone set from end → AreSplit look site views sets w set end old out
   split-all sets from end old out s clear = record {
     each = λ p below f. elim (cases_lt p from) as (λ _. HasHit look site views sets w set out p) [ inl before ↦ s.each p before f | inr past ↦ absurd (both_ways _ (clear p past below) f) ];
     only = s.only;
@@ -124,7 +125,7 @@ pub hits-more : (look : Wanted → Option OmapRecord) (site : Site) (views : Lis
 hits-more look site views sets more all longer s old new e kept so split = record {
   each = λ x p i low f. elim (in-push x all s (subst (In x) e i)) as (λ _. HasHit look site views more x.wanted x.set.items new p) [
     | inl j ↦ has-kept look site views x.wanted x.set.items sets more kept old new split.kept p (so.each x p j low f)
-    | inr q ↦ subst (λ (y : Sought). HasHit look site views more y.wanted y.set.items new p) (sym q) (split.each p low (sym (ap (λ (y : Sought). bit_at y.set.items p) q) ∙ f))
+    | inr q ↦ subst (λ (y : Sought). HasHit look site views more y.wanted y.set.items new p) (sym q) (split.each p low (sym (ap (λ (y : Sought). has_place y.set.items p) q) ∙ f))
   ];
   only = λ h i. elim (split.only h i) as (λ _. (x : Sought) × (In x longer × IsHitOf look site views more x.wanted x.set.items h)) [
     | inl j ↦ let t = so.only h j in (t.0, (subst (In t.0) (sym e) (in-left t.0 all (s ∷ []) t.1.0), hit-kept look site views t.0.wanted t.0.set.items sets more kept h t.1.1))

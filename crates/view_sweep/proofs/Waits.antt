@@ -3,7 +3,6 @@ use Rattle.std.proofs.Common.{◌≡◌, ℕ, suc, ◌-◌, ◌<◌, ◌≤◌, 
 use Rattle.std.specs.Prelude.{◌↔◌}
 use Rattle.std.specs.List.{filter}
 use Rattle.std.proofs.lemmas.Grind.{flat_map-append}
-use Rattle.apfs_model.specs.Bytes.{bit_at}
 use Rattle.apfs_model.specs.Lists.{In}
 use Rattle.apfs_model.proofs.Searches.{in-left, in-right, in-append, in-map, from-map, from-filter}
 use Rattle.view_sweep.specs.declared.sets.ViewSet.{ViewSet}
@@ -11,6 +10,7 @@ use Rattle.view_sweep.specs.declared.wanted.SweptView.{SweptView}
 use Rattle.view_sweep.specs.declared.wanted.Wanted.{Wanted}
 use Rattle.view_sweep.specs.declared.wanted.Asked.{Asked}
 use Rattle.view_sweep.specs.declared.wanted.Head.{Head}
+use Rattle.view_sweep.specs.Runs.{has_place}
 use Rattle.view_sweep.specs.Wanted.{head_wants}
 use Rattle.view_sweep.specs.Sets.{view_of, of_view, views_in, set_at, asked_of, all_asked, asked_with, AreNumbered, AreKept, IsSetOfOne, HaveSame}
 use Rattle.view_sweep.specs.Found.{World}
@@ -98,7 +98,7 @@ heads-more views sets more old new head n xs ys longer kept low one e same =
             let a = from-asked views more (map (asked_with n) (head_wants head)) x j in
             let t = from-map (asked_with n) (head_wants head) a.0 a.1.0 in
             let o = a.1.1 in
-            let at : view_of views o.place ≡ t.0.view = one.only o.place (sym (ap (λ (z : Asked). bit_at (set_at more z.set) o.place) t.1.1) ∙ o.has) ∙ sym (head-view head t.0 t.1.0) in
+            let at : view_of views o.place ≡ t.0.view = one.only o.place (sym (ap (λ (z : Asked). has_place (set_at more z.set) o.place) t.1.1) ∙ o.has) ∙ sym (head-view head t.0 t.1.0) in
             let is : x ≡ t.0 = o.is ∙ (ap (λ (z : Asked). of_view z.wanted (view_of views o.place)) t.1.1 ∙ ap (of_view t.0) at) in
             in-right x xs (head_wants head) (subst (λ (z : Wanted). In z (head_wants head)) (sym is) t.1.0)
       ]);

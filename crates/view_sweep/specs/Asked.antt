@@ -1,7 +1,7 @@
 -- What is asked of sets of views under one id, and what is sought then.
 use Rattle.std.specs.Prelude.{◌≡◌, ◌⊎◌, ℕ, ◌<◌, ◌≤◌, Bool, true, false, List, length, slice_index_or}
-use Rattle.apfs_model.specs.Bytes.{bit_at}
 use Rattle.apfs_model.specs.Lists.{In}
+use Rattle.view_sweep.specs.declared.runs.Run.{Run}
 use Rattle.view_sweep.specs.declared.sets.ViewSet.{ViewSet}
 use Rattle.view_sweep.specs.declared.wanted.SweptView.{SweptView}
 use Rattle.view_sweep.specs.declared.wanted.Want.TheVariants.{Root}
@@ -9,7 +9,8 @@ use Rattle.view_sweep.specs.declared.wanted.Wanted.{Wanted}
 use Rattle.view_sweep.specs.declared.wanted.Asked.{Asked}
 use Rattle.view_sweep.specs.declared.joining.Sought.{Sought}
 use Rattle.view_sweep.specs.Wanted.{number_by}
-use Rattle.view_sweep.specs.Sets.{width_of, set_at, view_of, of_view, IsSetOf}
+use Rattle.view_sweep.specs.Runs.{has_place, AreRising}
+use Rattle.view_sweep.specs.Sets.{set_at, view_of, of_view, IsSetOf}
 
 -- one of those that are asked for, by its place
 abbrev pub nth_asked : List Asked → ℕ → Asked
@@ -17,17 +18,7 @@ nth_asked asked j = slice_index_or asked j (record { wanted = record { view = re
 
 -- it is asked of the view at a place
 abbrev pub has_view : List ViewSet → Asked → ℕ → Bool
-has_view sets a p = bit_at (set_at sets a.set) p
-
--- a view of so many that two sets share
-pub record IsShared (a b : List ℕ) (count p : ℕ) : Type 0 where
-  pub below : p < count
-  pub one : bit_at a p ≡ true
-  pub other : bit_at b p ≡ true
-
--- two sets share none of so many views
-abbrev pub AreApartTo : List ℕ → List ℕ → ℕ → Type 0
-AreApartTo a b count = (p : ℕ) → p < count → bit_at a p ≡ true → bit_at b p ≡ true → ⊥
+has_view sets a p = has_place (set_at sets a.set) p
 
 -- of a view two are asked for in two ways
 pub record AreClashing (views : List SweptView) (sets : List ViewSet) (other one : Asked) (p : ℕ) : Type 0 where
@@ -52,12 +43,12 @@ abbrev pub AreAlikeAt : List SweptView → List ViewSet → List Asked → ℕ �
 AreAlikeAt views sets asked j k = AreAlike views sets (nth_asked asked j) (nth_asked asked k)
 
 -- of those before a place the last are of one id, from where their run began, and their views are seen; none is asked for in two ways of one view
-pub record IsRun (views : List SweptView) (sets : List ViewSet) (asked : List Asked) (seen : List ℕ) (from i : ℕ) : Type 0 where
+pub record IsRun (views : List SweptView) (sets : List ViewSet) (asked : List Asked) (seen : List Run) (from i : ℕ) : Type 0 where
   pub start : from ≤ i
-  pub long : length seen ≡ width_of (length views)
+  pub rising : AreRising seen
   pub same : (j : ℕ) → from ≤ j → j < i → (nth_asked asked j).wanted.oid ≡ (nth_asked asked from).wanted.oid
   pub less : (j : ℕ) → j < from → (nth_asked asked j).wanted.oid < (nth_asked asked from).wanted.oid
-  pub known : (j p : ℕ) → from ≤ j → j < i → has_view sets (nth_asked asked j) p ≡ true → bit_at seen p ≡ true
+  pub known : (j p : ℕ) → from ≤ j → j < i → has_view sets (nth_asked asked j) p ≡ true → has_place seen p ≡ true
   pub once : (j k : ℕ) → j < i → k < i → (nth_asked asked j).wanted.oid ≡ (nth_asked asked k).wanted.oid → AreAlikeAt views sets asked j k
 
 -- an object is wanted under an id and a number, as one is by which it is told
@@ -77,13 +68,13 @@ pub record HasSought (all : List Sought) (oid number p : ℕ) : Type 0 where
   pub one : Sought
   pub listed : In one all
   pub under : IsUnder one.wanted oid number
-  pub has : bit_at one.set.items p ≡ true
+  pub has : has_place one.set.items p ≡ true
 
 -- one more is sought, in the views of a set
-pub record IsJoined (w : Wanted) (set : List ℕ) (old new : List Sought) : Type 0 where
+pub record IsJoined (w : Wanted) (set : List Run) (old new : List Sought) : Type 0 where
   pub kept : (oid number p : ℕ) → HasSought old oid number p → HasSought new oid number p
-  pub more : (p : ℕ) → bit_at set p ≡ true → HasSought new w.oid (number_by w.want) p
-  pub only : (oid number p : ℕ) → HasSought new oid number p → HasSought old oid number p ⊎ (IsUnder w oid number × (bit_at set p ≡ true))
+  pub more : (p : ℕ) → has_place set p ≡ true → HasSought new w.oid (number_by w.want) p
+  pub only : (oid number p : ℕ) → HasSought new oid number p → HasSought old oid number p ⊎ (IsUnder w oid number × (has_place set p ≡ true))
 
 -- what is asked is sought, whoever names it, and nothing else
 pub record AreSought (sets : List ViewSet) (asked : List Asked) (all : List Sought) : Type 0 where
@@ -95,10 +86,10 @@ abbrev pub AreOfSets : List SweptView → List Sought → Type 0
 AreOfSets views all = (s : Sought) → In s all → IsSetOf views s.set.items
 
 -- an object that is sought, as it is wanted of a view of the set
-pub record IsOfSet (views : List SweptView) (w : Wanted) (set : List ℕ) (x : Wanted) : Type 0 where
+pub record IsOfSet (views : List SweptView) (w : Wanted) (set : List Run) (x : Wanted) : Type 0 where
   pub place : ℕ
   pub below : place < length views
-  pub has : bit_at set place ≡ true
+  pub has : has_place set place ≡ true
   pub is : x ≡ of_view w (view_of views place)
 
 -- one of those that are sought

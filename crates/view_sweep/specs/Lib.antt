@@ -7,6 +7,7 @@ pub mod Swept
 pub mod Named
 pub mod Shared
 pub mod Unused
+pub mod Runs
 pub mod Sets
 pub mod Next
 pub mod Asked

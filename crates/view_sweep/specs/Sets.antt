@@ -1,27 +1,24 @@
 -- Sets of views, and what is wanted of each view of one.
-use Rattle.std.specs.Prelude.{◌≡◌, ℕ, zero, suc, ◌+◌, ◌/◌, ◌<◌, ◌≤◌, true, false, List, [], ◌∷◌, length, map, filter, flat_map, slice_index_or}
+use Rattle.std.specs.Prelude.{◌≡◌, ℕ, zero, suc, ◌<◌, ◌≤◌, Bool, true, false, ◌&&◌, ◌||◌, ◌==◌, nat_lt, List, [], ◌∷◌, length, map, filter, flat_map, slice_index_or}
 use Rattle.std.specs.List.{range_with_len}
-use Rattle.apfs_model.specs.Bytes.{bit_at}
 use Rattle.apfs_model.specs.Lists.{In}
+use Rattle.view_sweep.specs.declared.runs.Run.{Run}
 use Rattle.view_sweep.specs.declared.sets.ViewSet.{ViewSet}
 use Rattle.view_sweep.specs.declared.wanted.SweptView.{SweptView}
 use Rattle.view_sweep.specs.declared.wanted.Wanted.{Wanted}
 use Rattle.view_sweep.specs.declared.wanted.Asked.{Asked}
 use Rattle.view_sweep.specs.declared.used.Hit.{Hit}
+use Rattle.view_sweep.specs.Runs.{has_place, AreRising}
 use Rattle.view_sweep.specs.Wanted.{wanted}
-
--- how many bytes have a bit for each of so many views
-abbrev pub width_of : ℕ → ℕ
-width_of n = (n + 7) / 8
 
 -- the view at a place
 abbrev pub view_of : List SweptView → ℕ → SweptView
 view_of views p = slice_index_or views p (record { slot = 0; place = 0; xid = 0; map = 0; hashed = false; volume = 0 })
 
--- the bits of the set of a number
-abbrev pub set_at : List ViewSet → ℕ → List ℕ
+-- the runs of the set of a number
+abbrev pub set_at : List ViewSet → ℕ → List Run
 set_at [] n = []
-set_at (s ∷ ss) zero = s.bits.items
+set_at (s ∷ ss) zero = s.runs.items
 set_at (s ∷ ss) (suc n) = set_at ss n
 
 -- the first place of a view
@@ -30,10 +27,18 @@ pub record IsFirst (views : List SweptView) (v : SweptView) (p : ℕ) : Type 0 w
   pub is : view_of views p ≡ v
   pub first : (q : ℕ) → q < length views → view_of views q ≡ v → p ≤ q
 
--- bits for some views, of which those are set alone that stand for the first place of a view
-pub record IsSetOf (views : List SweptView) (set : List ℕ) : Type 0 where
-  pub long : length set ≡ width_of (length views)
-  pub first : (p : ℕ) → bit_at set p ≡ true → IsFirst views (view_of views p) p
+-- a view stands in a volume of a lower slot than another one, or at a lower place of the same
+abbrev pub is_before : SweptView → SweptView → Bool
+is_before a b = nat_lt a.slot b.slot || ((a.slot == b.slot) && nat_lt a.place b.place)
+
+-- of so many views at the front none is another
+abbrev pub AreDistinct : List SweptView → ℕ → Type 0
+AreDistinct views n = (p q : ℕ) → p < q → q < n → view_of views p ≡ view_of views q → ⊥
+
+-- runs of places of some views, which rise and have the first place of a view alone
+pub record IsSetOf (views : List SweptView) (set : List Run) : Type 0 where
+  pub rising : AreRising set
+  pub first : (p : ℕ) → has_place set p ≡ true → IsFirst views (view_of views p) p
 
 abbrev pub AreSets : List SweptView → List ViewSet → Type 0
 AreSets views sets = (n : ℕ) → n < length sets → IsSetOf views (set_at sets n)
@@ -44,15 +49,15 @@ pub record AreKept (old new : List ViewSet) : Type 0 where
   pub same : (n : ℕ) → n < length old → set_at new n ≡ set_at old n
 
 -- the views of a set
-abbrev pub views_in : List SweptView → List ℕ → List SweptView
-views_in views set = map (view_of views) (filter (bit_at set) (range_with_len 0 (length views)))
+abbrev pub views_in : List SweptView → List Run → List SweptView
+views_in views set = map (view_of views) (filter (has_place set) (range_with_len 0 (length views)))
 
 -- the same object, as it is wanted of another view
 abbrev pub of_view : Wanted → SweptView → Wanted
 of_view w v = wanted v w.oid w.want
 
 -- what is wanted, of each view of a set
-abbrev pub of_set : List SweptView → List ℕ → Wanted → List Wanted
+abbrev pub of_set : List SweptView → List Run → Wanted → List Wanted
 of_set views set w = map (of_view w) (views_in views set)
 
 abbrev pub asked_of : List SweptView → List ViewSet → Asked → List Wanted
@@ -74,12 +79,12 @@ abbrev pub AreNumbered : ℕ → List Asked → Type 0
 AreNumbered n asked = (a : Asked) → In a asked → a.set < n
 
 -- the set of one view of some
-pub record IsSetOfOne (views : List SweptView) (set : List ℕ) (v : SweptView) : Type 0 where
+pub record IsSetOfOne (views : List SweptView) (set : List Run) (v : SweptView) : Type 0 where
   pub is_set : IsSetOf views set
-  pub only : (p : ℕ) → bit_at set p ≡ true → view_of views p ≡ v
+  pub only : (p : ℕ) → has_place set p ≡ true → view_of views p ≡ v
   pub place : ℕ
   pub below : place < length views
-  pub has : bit_at set place ≡ true
+  pub has : has_place set place ≡ true
 
 -- two lists have the same items
 pub record HaveSame {X : Type 0} (xs ys : List X) : Type 0 where

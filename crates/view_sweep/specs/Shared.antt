@@ -1,7 +1,6 @@
 -- Through which views records are used, and as what.
 use Rattle.std.specs.Prelude.{◌≡◌, ℕ, ◌<◌, ◌≤◌, Bool, true, List, ◌++◌, length, map, Option, Some}
 use Rattle.apfs_model.specs.Blocks.{in_container}
-use Rattle.apfs_model.specs.Bytes.{bit_at}
 use Rattle.apfs_model.specs.Lists.{In}
 use Rattle.nx_ring.specs.Checkpoint.{Seen, site_of}
 use Rattle.omap_map.specs.declared.records.OmapRecord.{OmapRecord}
@@ -9,6 +8,7 @@ use Rattle.reach_rules.specs.Naming.{InView, OfRecord, Files, Expected, Extended
 use Rattle.reach_rules.specs.Resolved.{standing, resolved}
 use Rattle.reach_rules.specs.Next.{next}
 use Rattle.reach_rules.specs.Live.{Live}
+use Rattle.view_sweep.specs.declared.runs.Run.{Run}
 use Rattle.view_sweep.specs.declared.sets.ViewSet.{ViewSet}
 use Rattle.view_sweep.specs.declared.wanted.SweptView.{SweptView}
 use Rattle.view_sweep.specs.declared.wanted.Head.{Head}
@@ -19,6 +19,7 @@ use Rattle.view_sweep.specs.declared.used.Hit.{Hit}
 use Rattle.view_sweep.specs.declared.used.Share.{Share}
 use Rattle.view_sweep.specs.declared.used.SharedAs.{SharedAs}
 use Rattle.view_sweep.specs.declared.used.SharedAs.TheVariants.{Root, Metadata, Node}
+use Rattle.view_sweep.specs.Runs.{has_place}
 use Rattle.view_sweep.specs.Wanted.{view_at, expected_of}
 use Rattle.view_sweep.specs.Found.{World, used_of}
 use Rattle.view_sweep.specs.Sets.{view_of, set_at, IsFirst, AreSets}
@@ -39,7 +40,7 @@ expected_in s = expected_as s.hashed s.expected
 
 -- a set has the view at a place
 abbrev pub is_shared : List ViewSet → Share → ℕ → Bool
-is_shared sets s p = bit_at (set_at sets s.set) p
+is_shared sets s p = has_place (set_at sets s.set) p
 
 -- ---- said of namings
 -- a naming is looked up in a view, expects what is told of a record, names the record's id, and resolves to the record's object
@@ -69,9 +70,9 @@ pub record AreSharedBy (image : List ℕ) (seen : Seen) (views : List SweptView)
   pub only : (s : Share) (p : ℕ) → In s shares → is_shared sets s p ≡ true → IsSharedBy image seen views first s p
 
 -- a set has a view
-pub record HasView (set : List ℕ) : Type 0 where
+pub record HasView (set : List Run) : Type 0 where
   pub place : ℕ
-  pub has : bit_at set place ≡ true
+  pub has : has_place set place ≡ true
 
 -- the sets are sets of the views; each record's set is one of them, and has a view; and each record gives a block of a container of so many blocks
 pub record AreInside (blocks : ℕ) (views : List SweptView) (sets : List ViewSet) (shares : List Share) : Type 0 where

@@ -1,24 +1,24 @@
 // What is sought of sets of views, whoever names it.
 ghost use Rattle.std.specs.Prelude.{◌≡◌, ◌<◌, ◌||◌, ◌++◌, ◌∷◌, [], ℕ, List, length, false, OnOk, IfOk, IfErr, IsTrue};
-ghost use Rattle.apfs_model.specs.Bytes.{bit_at};
 ghost use Rattle.apfs_model.specs.Lists.{In};
 ghost use Rattle.obj_base.specs.declared.stop.Stop.TheVariants.{NoMemory};
 ghost use Rattle.view_sweep.specs.declared.joining.Sought.{Sought as One};
 ghost use Rattle.view_sweep.specs.declared.wanted.SweptView.{SweptView as View};
 ghost use Rattle.view_sweep.specs.Wanted.{number_by};
+ghost use Rattle.view_sweep.specs.Runs.{has_place, AreRising};
 ghost use Rattle.view_sweep.specs.Sets.{AreSets, AreNumbered, IsSetOf};
 ghost use Rattle.view_sweep.specs.Asked.{IsJoined, AreSought, AreOfSets, IsUnder};
 
-use crate::sets::{ViewSet, bits_of, copy_of};
+use crate::runs::{Run, add};
+use crate::sets::{ViewSet, copy_of, runs_of};
 use crate::wanted::{Asked, SweptView, Wanted};
-use bit_lanes::or_into;
 use std::alloc::{AllocError, Global};
 
 /// A virtual object that is sought in each view of a set, as one of those that name it wants it.
 #[derive(Drop)]
 pub(crate) struct Sought {
     pub wanted: Wanted,
-    pub set: Vec<u8>,
+    pub set: Vec<Run>,
 }
 
 // Whether two are wanted under one id, and what is expected of them is one.
@@ -29,20 +29,21 @@ fn is_alike(a: &Wanted, b: &Wanted) -> bool
 }
 
 // Adds the views of a set.
-fn add_views(sought: &mut Sought, set: &[u8])
-    requires { length sought.old.set.items ≡ length set.now }
+fn add_views(alloc: Global, sought: &mut Sought, set: &[Run]) -> Result<(), AllocError>
+    requires own { AreRising sought.old.set.items }
+    requires set { AreRising set.now }
     ensures same { sought.new.wanted ≡ sought.old.wanted }
-    ensures long { length sought.new.set.items ≡ length sought.old.set.items }
-    ensures bits { (p : ℕ) → bit_at sought.new.set.items p ≡ (bit_at sought.old.set.items p || bit_at set.now p) }
+    ensures rising { OnOk result (AreRising sought.new.set.items) }
+    ensures places { OnOk result ((p : ℕ) → has_place sought.new.set.items p ≡ (has_place sought.old.set.items p || has_place set.now p)) }
 {
-    or_into(&mut sought.set, set);
+    add(alloc, &mut sought.set, set)
 }
 
 // Puts one more after those that are sought.
 fn push_one(
     alloc: Global,
     wanted: &Wanted,
-    set: &[u8],
+    set: &[Run],
     all: &mut Vec<Sought>,
 ) -> Result<(), AllocError>
     ensures joined { OnOk result (IsJoined wanted.now set.now all.old.items all.new.items) }
@@ -70,8 +71,9 @@ fn is_last_alike(all: &[Sought], wanted: &Wanted) -> bool
 }
 
 // Puts one more after those that are sought, or joins it to the last of them.
-fn put(alloc: Global, wanted: &Wanted, set: &[u8], all: &mut Vec<Sought>) -> Result<(), AllocError>
-    requires long { (s : One) → In s all.old.items → length s.set.items ≡ length set.now }
+fn put(alloc: Global, wanted: &Wanted, set: &[Run], all: &mut Vec<Sought>) -> Result<(), AllocError>
+    requires all { (s : One) → In s all.old.items → AreRising s.set.items }
+    requires set { AreRising set.now }
     ensures joined { OnOk result (IsJoined wanted.now set.now all.old.items all.new.items) }
     ensures sets { (views : List View) → AreOfSets views all.old.items → IsSetOf views set.now → OnOk result (AreOfSets views all.new.items) }
 {
@@ -79,7 +81,7 @@ fn put(alloc: Global, wanted: &Wanted, set: &[u8], all: &mut Vec<Sought>) -> Res
         return push_one(alloc, wanted, set, all);
     }
     let mut last = all.pop().unwrap();
-    add_views(&mut last, set);
+    add_views(alloc, &mut last, set)?;
     all.push(last)?;
     Ok(())
 }
@@ -98,7 +100,7 @@ pub(crate) fn joined(
 {
     let mut all = Vec::new(alloc);
     for one in asked {
-        let set = bits_of(sets, one.set);
+        let set = runs_of(sets, one.set);
         put(alloc, &one.wanted, set, &mut all)?;
     }
     Ok(all)

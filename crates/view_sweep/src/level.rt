@@ -7,6 +7,8 @@ ghost use Rattle.obj_base.specs.declared.stop.Stop.TheVariants.{ReadFault};
 ghost use Rattle.view_sweep.specs.Found.{world, looked};
 ghost use Rattle.view_sweep.specs.Here.{TellsHere, Among};
 ghost use Rattle.view_sweep.specs.Hits.{AreBelowViews};
+ghost use Rattle.view_sweep.specs.Next.{AreStretches};
+ghost use Rattle.view_sweep.specs.Runs.{AreRising};
 ghost use Rattle.view_sweep.specs.Sets.{AreSets, AreKept, AreNumbered, all_asked};
 ghost use Rattle.view_sweep.specs.Swept.{IsStep};
 ghost use Rattle.view_sweep.specs.Shared.{share_of, AddsShares};
@@ -16,6 +18,7 @@ use crate::looking::hits;
 use crate::once::once;
 use crate::order::{by_id, by_record};
 use crate::reading::read_hits;
+use crate::runs::Run;
 use crate::sets::ViewSet;
 use crate::used::{Hit, Share, Used};
 use crate::wanted::{Asked, SweptView};
@@ -41,6 +44,7 @@ pub(crate) fn take_level<S: BlockSource>(
     src: &mut S,
     volumes: &[Volume],
     views: &[SweptView],
+    stretches: &[Run],
     site: &Site,
     sets: &mut Vec<ViewSet>,
     current: &mut Vec<Asked>,
@@ -51,6 +55,8 @@ pub(crate) fn take_level<S: BlockSource>(
     requires site { IsSiteFor site.now (S.bytes_len src.old) }
     requires long { length block.old.items ≡ site.now.block_size }
     requires below { AreBelowViews (length volumes.now) views.now }
+    requires rising { AreRising stretches.now }
+    requires stretches { AreStretches views.now stretches.now }
     requires sets { AreSets views.now sets.old.items }
     requires numbers { AreNumbered (length sets.old.items) current.old.items }
     requires waiting { AreNumbered (length sets.old.items) below.old.items }
@@ -65,13 +71,13 @@ pub(crate) fn take_level<S: BlockSource>(
     ensures cause { IsErrOf result ReadFault → Rose (S.faults src.old) (S.faults src.new) }
     ensures kept { IsKept S.bytes S.bytes_len S.faults src.old src.new }
 {
-    by_id(current);
+    by_id(current)?;
     match once(alloc, views, sets, current) {
         Ok(()) => {}
         Err(stop) => return Err(stop),
     }
     let all = joined(alloc, views, sets, current)?;
-    let mut found = match hits(alloc, volumes, site, views, &all, sets) {
+    let mut found = match hits(alloc, volumes, site, views, stretches, &all, sets) {
         Ok(found) => found,
         Err(stop) => return Err(stop),
     };

@@ -11,6 +11,7 @@ mod once;
 mod order;
 mod reaching;
 mod reading;
+mod runs;
 mod sets;
 mod sweeping;
 mod used;
@@ -18,6 +19,7 @@ mod wanted;
 
 pub use idle::{MapRecords, unused};
 pub use reaching::{reach_by_views, reach_views};
+pub use runs::{Run, least_place, put_run};
 pub use sets::ViewSet;
 pub use used::{Reach, Share, SharedAs, Used};
 pub use wanted::{Head, SweptView};

@@ -9,16 +9,18 @@ ghost use Rattle.omap_map.specs.Resolve.{resolved};
 ghost use Rattle.view_sweep.specs.Found.{looked, records_at};
 ghost use Rattle.view_sweep.specs.Here.{IsLostHere, IsMappedBy};
 ghost use Rattle.view_sweep.specs.Sets.{IsSetOf, AreSets, AreKept};
+ghost use Rattle.view_sweep.specs.Next.{AreStretches};
+ghost use Rattle.view_sweep.specs.Runs.{AreRising};
 ghost use Rattle.view_sweep.specs.Asked.{AreOfSets, IsOfSet, IsOfSought};
 ghost use Rattle.view_sweep.specs.Hits.{AreBelowViews, AreSplit, AreHitsOf};
 
 use crate::joining::Sought;
 use crate::next::until;
-use crate::sets::{ViewSet, keep, part_of};
+use crate::runs::{Run, least_place, part_of};
+use crate::sets::{ViewSet, keep};
 use crate::used::Hit;
 use crate::wanted::{SweptView, Wanted};
 use apfs_layout::object_map;
-use bit_lanes::least_set;
 use obj_base::{Feature, Site, Stop, Within};
 use omap_map::{Omap, OmapRecord};
 use reach_rules::ReachFault;
@@ -104,11 +106,14 @@ fn add_hits(
     volumes: &[Volume],
     site: &Site,
     views: &[SweptView],
+    stretches: &[Run],
     sought: &Sought,
     sets: &mut Vec<ViewSet>,
     out: &mut Vec<Hit>,
 ) -> Result<(), Stop<ReachFault>>
     requires below { AreBelowViews (length volumes.now) views.now }
+    requires rising { AreRising stretches.now }
+    requires stretches { AreStretches views.now stretches.now }
     requires set { IsSetOf views.now sought.now.set.items }
     requires sets { AreSets views.now sets.old.items }
     ensures hits { OnOk result (AreSplit (looked volumes.now site.now) site.now views.now sets.new.items sought.now.wanted sought.now.set.items (length views.now) out.old.items out.new.items) }
@@ -118,7 +123,7 @@ fn add_hits(
     ensures no_read { IsErrOf result ReadFault → ⊥ }
 {
     let mut from = 0;
-    while let Some(low) = least_set(&sought.set, from, views.len()) {
+    while let Some(low) = least_place(&sought.set, from) {
         let wanted = Wanted {
             view: views[low],
             oid: sought.wanted.oid,
@@ -128,7 +133,7 @@ fn add_hits(
             Ok(mapping) => mapping,
             Err(stop) => return Err(stop),
         };
-        let high = until(volumes, site, views, low, &wanted, &mapping);
+        let high = until(volumes, site, views, stretches, low, &wanted, &mapping);
         let part = part_of(alloc, &sought.set, low, high)?;
         let set = keep(sets, part)?;
         out.push(Hit {
@@ -147,10 +152,13 @@ pub(crate) fn hits(
     volumes: &[Volume],
     site: &Site,
     views: &[SweptView],
+    stretches: &[Run],
     all: &[Sought],
     sets: &mut Vec<ViewSet>,
 ) -> Result<Vec<Hit>, Stop<ReachFault>>
     requires below { AreBelowViews (length volumes.now) views.now }
+    requires rising { AreRising stretches.now }
+    requires stretches { AreStretches views.now stretches.now }
     requires all { AreOfSets views.now all.now }
     requires sets { AreSets views.now sets.old.items }
     ensures hits { IfOk result (λ hits. AreHitsOf (looked volumes.now site.now) site.now views.now sets.new.items all.now hits.items) }
@@ -161,7 +169,7 @@ pub(crate) fn hits(
 {
     let mut hits = Vec::new(alloc);
     for sought in all {
-        match add_hits(alloc, volumes, site, views, sought, sets, &mut hits) {
+        match add_hits(alloc, volumes, site, views, stretches, sought, sets, &mut hits) {
             Ok(()) => {}
             Err(stop) => return Err(stop),
         }

@@ -1,32 +1,20 @@
 // Whether an id is wanted twice.
-ghost use Rattle.std.specs.Prelude.{◌≡◌, ◌+◌, ◌<◌, ◌≤◌, ◌||◌, ℕ, true, false, length, OnOk, IfOk, IfErr, IfSome, IsNone, IsErrOf, IsTrue};
-ghost use Rattle.apfs_model.specs.Bytes.{bit_at};
+ghost use Rattle.std.specs.Prelude.{◌≡◌, ◌+◌, ◌<◌, ◌≤◌, ℕ, true, false, length, OnOk, IfOk, IfErr, IfSome, IsNone, IsErrOf, IsTrue};
 ghost use Rattle.obj_base.specs.Stops.{Tells, NoFeature};
 ghost use Rattle.obj_base.specs.declared.stop.Stop.TheVariants.{ReadFault};
-ghost use Rattle.view_sweep.specs.Sets.{AreSets, AreNumbered, all_asked, width_of};
+ghost use Rattle.view_sweep.specs.Runs.{has_place, AreRising};
+ghost use Rattle.view_sweep.specs.Sets.{AreSets, AreNumbered, all_asked};
 ghost use Rattle.view_sweep.specs.Here.{IsTwiceHere, Among};
 ghost use Rattle.view_sweep.specs.Order.{AreById};
 ghost use Rattle.view_sweep.specs.Swept.{IsOnce};
-ghost use Rattle.view_sweep.specs.Asked.{nth_asked, has_view, IsShared, AreApartTo, AreClashing, AreAlike, IsClashAt, AreAlikeAt, IsRun};
+ghost use Rattle.view_sweep.specs.Asked.{nth_asked, has_view, AreClashing, AreAlike, IsClashAt, AreAlikeAt, IsRun};
 
-use crate::sets::{ViewSet, bits_of, copy_of, width};
+use crate::runs::{Run, add, shared};
+use crate::sets::{ViewSet, copy_of, runs_of};
 use crate::wanted::{Asked, SweptView, Want};
-use bit_lanes::{and_any, and_into, least_set, or_into};
 use obj_base::{Stop, Within};
 use reach_rules::ReachFault;
-use std::alloc::{AllocError, Global};
-
-// The place of the first view of so many that two sets share.
-fn shared(alloc: Global, a: &[u8], b: &[u8], count: usize) -> Result<Option<usize>, AllocError>
-    requires long { length a.now ≡ length b.now }
-    requires width { length a.now ≡ width_of count }
-    ensures some { IfOk result (λ found. IfSome found (IsShared a.now b.now count)) }
-    ensures none { IfOk result (λ found. IsNone found → AreApartTo a.now b.now count) }
-{
-    let mut both = copy_of(alloc, a)?;
-    and_into(&mut both, b);
-    Ok(least_set(&both, 0, count))
-}
+use std::alloc::Global;
 
 // Whether an object is wanted in one way, by one namer.
 fn is_same(a: &Want, b: &Want) -> bool
@@ -38,93 +26,69 @@ fn is_same(a: &Want, b: &Want) -> bool
 
 // The place of a view that wants an id in two ways, as two that are asked for.
 fn clash_of(
-    alloc: Global,
     views: &[SweptView],
     sets: &[ViewSet],
     other: &Asked,
     one: &Asked,
-) -> Result<Option<usize>, AllocError>
+) -> Option<usize>
     requires sets { AreSets views.now sets.now }
     requires other { other.now.set < length sets.now }
     requires one { one.now.set < length sets.now }
-    ensures some { IfOk result (λ found. IfSome found (AreClashing views.now sets.now other.now one.now)) }
-    ensures none { IfOk result (λ found. IsNone found → AreAlike views.now sets.now other.now one.now) }
+    ensures some { IfSome result (AreClashing views.now sets.now other.now one.now) }
+    ensures none { IsNone result → AreAlike views.now sets.now other.now one.now }
 {
     if is_same(&other.wanted.want, &one.wanted.want) {
-        return Ok(None);
+        return None;
     }
-    let of_other = bits_of(sets, other.set);
-    let of_one = bits_of(sets, one.set);
-    shared(alloc, of_other, of_one, views.len())
+    shared(runs_of(sets, other.set), runs_of(sets, one.set))
 }
 
 // The place of a view that wants an id in two ways: as the last of some that are asked for, and as one of those before it.
 fn found_clash(
-    alloc: Global,
     views: &[SweptView],
     sets: &[ViewSet],
     asked: &[Asked],
     from: usize,
     last: usize,
-) -> Result<Option<usize>, AllocError>
+) -> Option<usize>
     requires sets { AreSets views.now sets.now }
     requires numbers { AreNumbered (length sets.now) asked.now }
     requires from { from ≤ last }
     requires last { last < length asked.now }
-    ensures some { IfOk result (λ found. IfSome found (IsClashAt views.now sets.now asked.now from last)) }
-    ensures none { IfOk result (λ found. IsNone found → (j : ℕ) → from ≤ j → j < last → AreAlikeAt views.now sets.now asked.now j last) }
+    ensures some { IfSome result (IsClashAt views.now sets.now asked.now from last) }
+    ensures none { IsNone result → (j : ℕ) → from ≤ j → j < last → AreAlikeAt views.now sets.now asked.now j last }
 {
     for place in from..last {
-        let found = clash_of(alloc, views, sets, &asked[place], &asked[last])?;
-        match found {
-            Some(view) => return Ok(Some(view)),
+        match clash_of(views, sets, &asked[place], &asked[last]) {
+            Some(view) => return Some(view),
             None => {}
         }
     }
-    Ok(None)
+    None
 }
 
 // The same, where all views of those before the last are seen.
 fn clash(
-    alloc: Global,
     views: &[SweptView],
     sets: &[ViewSet],
     asked: &[Asked],
-    seen: &[u8],
+    seen: &[Run],
     from: usize,
     last: usize,
-) -> Result<Option<usize>, AllocError>
+) -> Option<usize>
     requires sets { AreSets views.now sets.now }
     requires numbers { AreNumbered (length sets.now) asked.now }
     requires from { from ≤ last }
     requires last { last < length asked.now }
-    requires long { length seen.now ≡ width_of (length views.now) }
-    requires seen { (j p : ℕ) → from ≤ j → j < last → has_view sets.now (nth_asked asked.now j) p ≡ true → bit_at seen.now p ≡ true }
-    ensures some { IfOk result (λ found. IfSome found (IsClashAt views.now sets.now asked.now from last)) }
-    ensures none { IfOk result (λ found. IsNone found → (j : ℕ) → from ≤ j → j < last → AreAlikeAt views.now sets.now asked.now j last) }
+    requires rising { AreRising seen.now }
+    requires seen { (j p : ℕ) → from ≤ j → j < last → has_view sets.now (nth_asked asked.now j) p ≡ true → has_place seen.now p ≡ true }
+    ensures some { IfSome result (IsClashAt views.now sets.now asked.now from last) }
+    ensures none { IsNone result → (j : ℕ) → from ≤ j → j < last → AreAlikeAt views.now sets.now asked.now j last }
 {
-    let set = bits_of(sets, asked[last].set);
-    if !and_any(seen, set) {
-        return Ok(None);
+    match shared(seen, runs_of(sets, asked[last].set)) {
+        Some(_) => found_clash(views, sets, asked, from, last),
+        None => None,
     }
-    found_clash(alloc, views, sets, asked, from, last)
-}
-
-// Takes the views of a set in place of those that are seen.
-fn renew(seen: &mut Vec<u8>, set: &[u8])
-    requires { length seen.old.items ≡ length set.now }
-    ensures { seen.new.items ≡ set.now }
-{
-    seen.copy_from_slice(set);
-}
-
-// Adds the views of a set to those that are seen.
-fn add(seen: &mut Vec<u8>, set: &[u8])
-    requires { length seen.old.items ≡ length set.now }
-    ensures long { length seen.new.items ≡ length seen.old.items }
-    ensures bits { (p : ℕ) → bit_at seen.new.items p ≡ (bit_at seen.old.items p || bit_at set.now p) }
-{
-    or_into(seen, set);
 }
 
 // Takes one more: it is of the run that began at a place, or begins one. What is answered is where its run began.
@@ -133,7 +97,7 @@ fn take_one(
     views: &[SweptView],
     sets: &[ViewSet],
     asked: &[Asked],
-    seen: &mut Vec<u8>,
+    seen: &mut Vec<Run>,
     from: usize,
     i: usize,
 ) -> Result<usize, Stop<ReachFault>>
@@ -147,13 +111,13 @@ fn take_one(
     ensures no_read { IsErrOf result ReadFault → ⊥ }
 {
     let one = asked[i];
-    let set = bits_of(sets, one.set);
+    let set = runs_of(sets, one.set);
     if one.wanted.oid != asked[from].wanted.oid {
-        renew(seen, set);
+        let renewed = copy_of(alloc, set)?;
+        *seen = renewed;
         return Ok(i);
     }
-    let found = clash(alloc, views, sets, asked, seen, from, i)?;
-    match found {
+    match clash(views, sets, asked, seen, from, i) {
         Some(place) => {
             let view = views[place];
             return Err(Stop::Found(ReachFault::NamedTwice {
@@ -164,7 +128,7 @@ fn take_one(
         }
         None => {}
     }
-    add(seen, set);
+    add(alloc, seen, set)?;
     Ok(from)
 }
 
@@ -182,7 +146,7 @@ pub(crate) fn once(
     ensures stops { IfErr result (Tells (IsTwiceHere (Among (all_asked views.now sets.now asked.now))) NoFeature) }
     ensures no_read { IsErrOf result ReadFault → ⊥ }
 {
-    let mut seen = vec![in alloc; 0u8; width(views)]?;
+    let mut seen = Vec::new(alloc);
     let mut from = 0;
     for i in 0..asked.len() {
         match take_one(alloc, views, sets, asked, &mut seen, from, i) {

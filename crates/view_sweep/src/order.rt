@@ -1,10 +1,11 @@
 // Sorting: what is asked by id, what is found and what is used by record.
 ghost use Rattle.std.specs.List.Sorted.{IsPermutation, IsSortedBy};
-ghost use Rattle.std.specs.Prelude.{◌≡◌};
+ghost use Rattle.std.specs.Prelude.{◌≡◌, OnOk};
 ghost use Rattle.view_sweep.specs.Order.{asked_rank, AreById, used_rank, is_hit_below, is_used_below};
 
 use crate::used::{Hit, Used};
 use crate::wanted::Asked;
+use std::alloc::AllocError;
 use std::cmp::Ordering;
 
 // How one that is asked for stands to another: by the id, then by what is expected.
@@ -17,12 +18,13 @@ fn asked_rank(a: &Asked, b: &Asked) -> Ordering
         .then(a.wanted.number().cmp(&b.wanted.number()))
 }
 
-/// Puts what is asked under one id side by side, and of this what is expected alike.
-pub(crate) fn by_id(asked: &mut Vec<Asked>)
-    ensures order { IsPermutation asked.old.items asked.new.items }
-    ensures sorted { AreById asked.new.items }
+/// Puts what is asked under one id side by side, and of this what is expected alike. What is asked alike stays in its order, which is mostly that of the views.
+pub(crate) fn by_id(asked: &mut Vec<Asked>) -> Result<(), AllocError>
+    ensures order { OnOk result (IsPermutation asked.old.items asked.new.items) }
+    ensures sorted { OnOk result (AreById asked.new.items) }
 {
-    asked.sort_unstable_by(|a, b| asked_rank(a, b));
+    asked.sort_by(|a, b| asked_rank(a, b))?;
+    Ok(())
 }
 
 /// Puts what is found by one record side by side.

@@ -1,28 +1,21 @@
-// Sets of views: bit `p` of a run of bytes tells of the view at place `p`. A view that stands twice is told at its first place.
-ghost use Rattle.std.specs.Prelude.{◌≡◌, ◌↔◌, ◌&&◌, ◌||◌, ◌+◌, ◌-◌, ◌<◌, ◌≤◌, ◌*◌, ℕ, List, true, false, length, IfOk, IsTrue};
-ghost use Rattle.apfs_model.specs.Bytes.{bit_at};
+// Sets of views: the runs of their places. A view that stands twice is told at its first place.
+ghost use Rattle.std.specs.Prelude.{◌≡◌, ◌↔◌, ◌+◌, ◌-◌, ◌<◌, ◌^◌, ℕ, List, true, false, length, IfOk, IsTrue};
 ghost use Rattle.apfs_model.specs.Lists.{In};
-ghost use Rattle.bit_lanes.specs.Places.{is_from};
 ghost use Rattle.view_sweep.specs.declared.wanted.SweptView.{SweptView as View};
-ghost use Rattle.view_sweep.specs.Sets.{width_of, set_at, view_of, IsSetOf, AreSets, IsFirst, AreKept};
+ghost use Rattle.view_sweep.specs.Runs.{has_place, AreRising};
+ghost use Rattle.view_sweep.specs.Sets as spec;
+ghost use Rattle.view_sweep.specs.Sets.{set_at, view_of, IsSetOf, AreSets, IsFirst, AreDistinct, AreKept};
 
+use crate::runs::Run;
 use crate::wanted::SweptView;
-use bit_lanes::{and_into, set_range};
 use std::alloc::{AllocError, Global};
 
 /// A set of views.
 #[derive(Debug, Drop)]
 pub struct ViewSet {
-    /// A bit for each view, in the order of the heads: bit `p % 8` of byte `p / 8`, the lowest being bit 0, is that of the view
-    /// at place `p`, counted from 0. The bits after the last view are clear.
-    pub bits: Vec<u8>,
-}
-
-/// How many bytes a set of some views has.
-pub(crate) fn width(views: &[SweptView]) -> usize
-    ensures { result ≡ width_of (length views.now) }
-{
-    views.len().div_ceil(8)
+    /// The runs of their places in the order of the heads, counted from 0: none is empty, and each begins where the one before it ends,
+    /// or later.
+    pub runs: Vec<Run>,
 }
 
 // Whether two views are one.
@@ -33,8 +26,27 @@ fn is_same(a: &SweptView, b: &SweptView) -> bool
     *a == *b
 }
 
-/// The first place of a view.
-pub(crate) fn place_of(views: &[SweptView], view: &SweptView) -> usize
+// Whether a view stands in a volume of a lower slot than another one, or at a lower place of the same.
+fn is_before(a: &SweptView, b: &SweptView) -> bool
+    ensures { result ≡ spec.is_before a.now b.now }
+{
+    a.slot < b.slot || (a.slot == b.slot && a.place < b.place)
+}
+
+/// How many views at the front stand one before the other.
+pub(crate) fn in_order(views: &[SweptView]) -> usize
+    ensures { AreDistinct views.now result }
+{
+    for place in 1..views.len() {
+        if !is_before(&views[place - 1], &views[place]) {
+            return place;
+        }
+    }
+    views.len()
+}
+
+// The first place of a view.
+fn place_of(views: &[SweptView], view: &SweptView) -> usize
     requires { In view.now views.now }
     ensures { IsFirst views.now view.now result }
 {
@@ -45,97 +57,83 @@ pub(crate) fn place_of(views: &[SweptView], view: &SweptView) -> usize
     place
 }
 
-/// The views of a set from one place up to another.
-pub(crate) fn part_of(
-    alloc: Global,
-    set: &[u8],
-    low: usize,
-    high: usize,
-) -> Result<Vec<u8>, AllocError>
-    requires order { low ≤ high }
-    requires inside { high ≤ 8 * length set.now }
-    ensures long { IfOk result (λ part. length part.items ≡ length set.now) }
-    ensures bits { IfOk result (λ part. (k : ℕ) → bit_at part.items k ≡ (is_from low high k && bit_at set.now k)) }
+/// The first place of the view at a place, where so many at the front differ.
+pub(crate) fn first_place(views: &[SweptView], at: usize, ordered: usize) -> usize
+    requires at { at < length views.now }
+    requires ordered { AreDistinct views.now ordered }
+    ensures { IsFirst views.now (view_of views.now at) result }
 {
-    let mut part = vec![in alloc; 0u8; set.len()]?;
-    cut(&mut part, set, low, high);
-    Ok(part)
-}
-
-// Cuts a set to the views between two places that are in another set too, where it has none of its own.
-fn cut(part: &mut [u8], set: &[u8], low: usize, high: usize)
-    requires long { length part.old ≡ length set.now }
-    requires order { low ≤ high }
-    requires inside { high ≤ 8 * length set.now }
-    ensures { (k : ℕ) → bit_at part.new k ≡ ((bit_at part.old k || is_from low high k) && bit_at set.now k) }
-{
-    set_range(part, low, high);
-    and_into(part, set);
-}
-
-// Sets the bit of a place that ends at another, where no bit is set.
-fn mark(set: &mut [u8], place: usize, end: usize)
-    requires end { end ≡ place + 1 }
-    requires inside { place < 8 * length set.old }
-    requires clear { (k : ℕ) → bit_at set.old k ≡ false }
-    ensures { (k : ℕ) → (bit_at set.new k ≡ true) ↔ (k ≡ place) }
-{
-    set_range(set, place, end);
+    if at < ordered {
+        return at;
+    }
+    place_of(views, &views[at])
 }
 
 /// The set of the view at a place.
-pub(crate) fn one_of(
-    alloc: Global,
-    views: &[SweptView],
-    place: usize,
-) -> Result<Vec<u8>, AllocError>
-    requires { place < length views.now }
-    ensures long { IfOk result (λ set. length set.items ≡ width_of (length views.now)) }
-    ensures one { IfOk result (λ set. (k : ℕ) → (bit_at set.items k ≡ true) ↔ (k ≡ place)) }
+pub(crate) fn one_of(alloc: Global, place: usize) -> Result<Vec<Run>, AllocError>
+    requires { place + 1 < 2 ^ 64 }
+    ensures rising { IfOk result (λ set. AreRising set.items) }
+    ensures one { IfOk result (λ set. (k : ℕ) → (has_place set.items k ≡ true) ↔ (k ≡ place)) }
 {
-    let mut set = vec![in alloc; 0u8; width(views)]?;
-    mark(&mut set, place, place + 1);
+    let mut set = Vec::new(alloc);
+    set.push(Run {
+        from: place,
+        end: place + 1,
+    })?;
     Ok(set)
 }
 
 /// A set once more.
-pub(crate) fn copy_of(alloc: Global, set: &[u8]) -> Result<Vec<u8>, AllocError>
+pub(crate) fn copy_of(alloc: Global, set: &[Run]) -> Result<Vec<Run>, AllocError>
     ensures { IfOk result (λ copy. copy.items ≡ set.now) }
 {
-    let mut copy = Vec::new(alloc);
-    copy.extend_from_slice(set)?;
-    Ok(copy)
+    set.to_vec(alloc)
 }
 
-/// The bits of the set of a number.
-pub(crate) fn bits_of(sets: &[ViewSet], number: usize) -> &[u8]
+/// The runs of the set of a number.
+pub(crate) fn runs_of(sets: &[ViewSet], number: usize) -> &[Run]
     requires { number < length sets.now }
     ensures { result.now ≡ set_at sets.now number }
 {
     let set = &sets[number];
-    &set.bits
+    &set.runs
+}
+
+// Whether two sets have the same runs.
+fn are_same(a: &[Run], b: &[Run]) -> bool
+    ensures { IsTrue result → a.now ≡ b.now }
+{
+    if a.len() != b.len() {
+        return false;
+    }
+    for i in 0..a.len() {
+        if a[i].from != b[i].from || a[i].end != b[i].end {
+            return false;
+        }
+    }
+    true
 }
 
 // Whether a set is the last of those that are kept.
-fn is_last(sets: &[ViewSet], bits: &[u8]) -> bool
+fn is_last(sets: &[ViewSet], runs: &[Run]) -> bool
     ensures some { IsTrue result → 0 < length sets.now }
-    ensures same { IsTrue result → set_at sets.now (length sets.now - 1) ≡ bits.now }
+    ensures same { IsTrue result → set_at sets.now (length sets.now - 1) ≡ runs.now }
 {
     let count = sets.len();
-    count > 0 && *bits_of(sets, count - 1) == *bits
+    count > 0 && are_same(runs_of(sets, count - 1), runs)
 }
 
 /// Keeps a set, and answers its number: where it is the last of those that are kept, that one's.
-pub(crate) fn keep(sets: &mut Vec<ViewSet>, bits: Vec<u8>) -> Result<usize, AllocError>
+pub(crate) fn keep(sets: &mut Vec<ViewSet>, runs: Vec<Run>) -> Result<usize, AllocError>
     ensures kept { IfOk result (λ n. AreKept sets.old.items sets.new.items) }
     ensures inside { IfOk result (λ n. n < length sets.new.items) }
-    ensures at { IfOk result (λ n. set_at sets.new.items n ≡ bits.items) }
-    ensures sets { IfOk result (λ n. (views : List View) → AreSets views sets.old.items → IsSetOf views bits.items → AreSets views sets.new.items) }
+    ensures at { IfOk result (λ n. set_at sets.new.items n ≡ runs.items) }
+    ensures sets { IfOk result (λ n. (views : List View) → AreSets views sets.old.items → IsSetOf views runs.items → AreSets views sets.new.items) }
 {
     let count = sets.as_slice().len();
-    if is_last(sets, &bits) {
+    if is_last(sets, &runs) {
         return Ok(count - 1);
     }
-    sets.push(ViewSet { bits })?;
+    sets.push(ViewSet { runs })?;
     Ok(count)
 }

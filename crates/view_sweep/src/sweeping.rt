@@ -8,14 +8,17 @@ ghost use Rattle.obj_base.specs.declared.stop.Stop.TheVariants.{ReadFault};
 ghost use Rattle.view_sweep.specs.Wanted.{head_wants, heads_want, AreBelowHeads};
 ghost use Rattle.view_sweep.specs.Found.{world, looked};
 ghost use Rattle.view_sweep.specs.Here.{TellsHere};
-ghost use Rattle.apfs_model.specs.Lists.{In};
 ghost use Rattle.view_sweep.specs.Hits.{AreBelowViews};
-ghost use Rattle.view_sweep.specs.Sets.{AreSets, AreKept, AreNumbered, HaveSame, IsSetOfOne, all_asked, asked_with, set_at};
+ghost use Rattle.view_sweep.specs.Next.{AreStretches};
+ghost use Rattle.view_sweep.specs.Runs.{AreRising};
+ghost use Rattle.view_sweep.specs.Sets.{AreSets, AreKept, AreNumbered, AreDistinct, HaveSame, IsSetOfOne, all_asked, asked_with, set_at, view_of};
 ghost use Rattle.view_sweep.specs.Shared.{head_views, AreInside, AreShares, IsAbove};
 ghost use Rattle.view_sweep.specs.Swept.{AreKids, IsLive, IsSwept, level_of};
 
 use crate::level::take_level;
-use crate::sets::{ViewSet, keep, one_of, place_of};
+use crate::next::stretches;
+use crate::runs::Run;
+use crate::sets::{ViewSet, first_place, in_order, keep, one_of};
 use crate::used::Reach;
 use crate::wanted::{Asked, Head, SweptView, Want, Wanted};
 use blk_source::BlockSource;
@@ -58,20 +61,22 @@ fn views_of(alloc: Global, heads: &[Head]) -> Result<Vec<SweptView>, AllocError>
     heads.iter().map(|head| head.view).collect(alloc)
 }
 
-// Keeps the set of one view.
+// Keeps the set of the view at a place, where so many at the front stand one before the other.
 fn keep_one(
     alloc: Global,
     views: &[SweptView],
-    view: &SweptView,
+    at: usize,
+    ordered: usize,
     sets: &mut Vec<ViewSet>,
 ) -> Result<usize, AllocError>
-    requires { In view.now views.now }
+    requires at { at < length views.now }
+    requires ordered { AreDistinct views.now ordered }
     ensures kept { IfOk result (λ n. AreKept sets.old.items sets.new.items) }
     ensures inside { IfOk result (λ n. n < length sets.new.items) }
-    ensures one { IfOk result (λ n. IsSetOfOne views.now (set_at sets.new.items n) view.now) }
+    ensures one { IfOk result (λ n. IsSetOfOne views.now (set_at sets.new.items n) (view_of views.now at)) }
     ensures sets { OnOk result (AreSets views.now sets.old.items → AreSets views.now sets.new.items) }
 {
-    let set = one_of(alloc, views, place_of(views, view))?;
+    let set = one_of(alloc, first_place(views, at, ordered))?;
     keep(sets, set)
 }
 
@@ -88,10 +93,11 @@ fn wants(
     ensures numbers { IfOk result (λ wants. AreNumbered (length sets.new.items) wants.items) }
     ensures sets { OnOk result (AreSets views.now sets.new.items) }
 {
+    let ordered = in_order(views);
     let mut wants = Vec::new(alloc);
-    for head in heads {
-        let set = keep_one(alloc, views, &head.view, sets)?;
-        add_head(head, set, &mut wants)?;
+    for at in 0..heads.len() {
+        let set = keep_one(alloc, views, at, ordered, sets)?;
+        add_head(&heads[at], set, &mut wants)?;
     }
     Ok(wants)
 }
@@ -116,12 +122,15 @@ fn levels<S: BlockSource>(
     volumes: &[Volume],
     heads: &[Head],
     views: &[SweptView],
+    stretches: &[Run],
     kids: &[Asked],
     block: &mut Vec<u8>,
     out: &mut Reach,
 ) -> Result<(), Stop<ReachFault>>
     requires site { IsSiteFor site.now (S.bytes_len src.old) }
     requires long { length block.old.items ≡ site.now.block_size }
+    requires rising { AreRising stretches.now }
+    requires stretches { AreStretches views.now stretches.now }
     requires below { AreBelowViews (length volumes.now) views.now }
     requires inside { AreInside site.now.blocks views.now out.old.sets.items out.old.shares.items }
     requires numbers { AreNumbered (length out.old.sets.items) kids.now }
@@ -147,6 +156,7 @@ fn levels<S: BlockSource>(
             src,
             volumes,
             views,
+            stretches,
             site,
             &mut out.sets,
             &mut current,
@@ -186,6 +196,7 @@ pub(crate) fn sweep<S: BlockSource>(
     let views = views_of(alloc, heads)?;
     let mut sets = Vec::new(alloc);
     let mut first = wants(alloc, &views, heads, &mut sets)?;
+    let stretches = stretches(alloc, &views)?;
     let mut kids = Vec::new(alloc);
     let mut shares = Vec::new(alloc);
     let used = match take_level(
@@ -193,6 +204,7 @@ pub(crate) fn sweep<S: BlockSource>(
         src,
         volumes,
         &views,
+        &stretches,
         site,
         &mut sets,
         &mut first,
@@ -205,7 +217,7 @@ pub(crate) fn sweep<S: BlockSource>(
     };
     let mut out = Reach { used, shares, sets };
     match levels(
-        alloc, src, site, volumes, heads, &views, &kids, &mut block, &mut out,
+        alloc, src, site, volumes, heads, &views, &stretches, &kids, &mut block, &mut out,
     ) {
         Ok(()) => Ok(out),
         Err(stop) => Err(stop),

@@ -9,7 +9,7 @@ use img_make::{Sample, make, sample};
 use omap_map::OmapRecord;
 use std::alloc::{AllocError, Global};
 use std::test::Fail;
-use view_sweep::{Head, Reach, Share, SharedAs, SweptView, Used, reach_by_views};
+use view_sweep::{Head, Reach, Run, Share, SharedAs, SweptView, Used, reach_by_views};
 
 // The transaction of the live view, whose place is 0, or of a snapshot.
 fn xid_of(place: u64) -> u64
@@ -58,20 +58,20 @@ fn reach(alloc: Global, order: [u64; 3]) -> Result<Reach, Fail> {
     }
 }
 
-// A record that is used: its id, its transaction and its block, as what it is expected, and the bits of its set.
-type One = (u64, u64, u64, SharedAs, u8);
+// A record that is used: its id, its transaction and its block, as what it is expected, and the only run of its set.
+type One = (u64, u64, u64, SharedAs, Run);
 
-// Whether the set of a record has these bits.
-fn has_bits(reach: &Reach, share: &Share, bits: u8) -> bool {
+// Whether the set of a record is a run.
+fn has_run(reach: &Reach, share: &Share, run: Run) -> bool {
     match reach.sets.get(share.set) {
-        Some(set) => set.bits.as_slice() == [bits].as_slice(),
+        Some(set) => set.runs.as_slice() == [run].as_slice(),
         None => false,
     }
 }
 
 // Whether one of the records that are answered is this one, with its set.
 fn has(reach: &Reach, one: &One) -> bool {
-    let (oid, xid, paddr, expected, bits) = *one;
+    let (oid, xid, paddr, expected, run) = *one;
     let used = Used {
         map: MAP,
         mapping: OmapRecord {
@@ -87,11 +87,22 @@ fn has(reach: &Reach, one: &One) -> bool {
             share.used == used
                 && share.expected == expected
                 && share.hashed
-                && has_bits(reach, share, bits)
+                && has_run(reach, share, run)
         })
 }
 
 const LEAF: SharedAs = SharedAs::Node { level: 0 };
+
+// The places of the three views, of the first, of the second, of the third, and of the last two.
+const ALL: Run = Run { from: 0, end: 3 };
+
+const FIRST: Run = Run { from: 0, end: 1 };
+
+const SECOND: Run = Run { from: 1, end: 2 };
+
+const THIRD: Run = Run { from: 2, end: 3 };
+
+const LATER: Run = Run { from: 1, end: 3 };
 
 // The root and the second leaf are those of all views, and the first leaf is one before transaction 4 and another from it on.
 #[test]
@@ -99,18 +110,18 @@ fn each_record_tells_its_views(rt: HostRuntime) -> Result<(), Fail> {
     let alloc = rt.alloc();
     // by transaction: the snapshots, then the live view
     let by_transaction = [
-        (1028, 1, 54, SharedAs::Root, 0b111),
-        (1031, 1, 57, LEAF, 0b001),
-        (1031, 4, 58, LEAF, 0b110),
-        (1032, 1, 59, LEAF, 0b111),
+        (1028, 1, 54, SharedAs::Root, ALL),
+        (1031, 1, 57, LEAF, FIRST),
+        (1031, 4, 58, LEAF, LATER),
+        (1032, 1, 59, LEAF, ALL),
     ];
     // the live view, then the snapshots: a view that uses another leaf stands between two that share one
     let live_first = [
-        (1028, 1, 54, SharedAs::Root, 0b111),
-        (1031, 1, 57, LEAF, 0b010),
-        (1031, 4, 58, LEAF, 0b001),
-        (1031, 4, 58, LEAF, 0b100),
-        (1032, 1, 59, LEAF, 0b111),
+        (1028, 1, 54, SharedAs::Root, ALL),
+        (1031, 1, 57, LEAF, SECOND),
+        (1031, 4, 58, LEAF, FIRST),
+        (1031, 4, 58, LEAF, THIRD),
+        (1032, 1, 59, LEAF, ALL),
     ];
     for (order, want) in [
         ([1, 2, 0], by_transaction.as_slice()),

@@ -1,4 +1,6 @@
-use Rattle.std.proofs.Common.{ℕ, ◌*◌, ◌≤◌, List, length, get_or, refl, sym, ◌∙◌, subst, arith}
+use Rattle.std.proofs.Common.{List, get_or, refl, sym, ◌∙◌, subst, arith}
+use Rattle.view_sweep.specs.declared.runs.Run.{Run}
+use Rattle.use_report.specs.Runs.{AreHeadRuns}
 use Rattle.use_report.proofs.Lists.{got-in}
 use Rattle.use_report.proofs.Spread.{no_share, shares-none, shares-next, shares-all}
 use Rattle.use_report.proofs.sharing.add_shares.Goals as goal
@@ -10,18 +12,18 @@ shares-init g c = record {
   kept = record { same_bytes = refl; same_size = refl; later = omega arith };
 }
 
-pub bits_of-requires : goal.bits_of-requires
-bits_of-requires g c =
+pub runs_of-requires : goal.runs_of-requires
+runs_of-requires g c =
     let shares = c.args.shares.now in
     let i = c.shares.share-index in
     c.requires.order.number (get_or shares i no_share) (got-in shares i no_share c.shares-test.true)
 
-pub share-requires : goal.share-requires
-share-requires g c =
+pub share-requires-clause-set : goal.share-requires-clause-set
+share-requires-clause-set g c =
     let shares = c.args.shares.now in
     let i = c.shares.share-index in
     let one = get_or shares i no_share in
-    subst (λ (bits : List ℕ). c.args.many ≤ 8 * length bits) (sym c.bits_of.ensures) (c.requires.order.long one.set (c.requires.order.number one (got-in shares i no_share c.shares-test.true)))
+    subst (λ (set : List Run). AreHeadRuns c.args.many set) (sym c.runs_of.ensures) (c.requires.order.runs one.set (c.requires.order.number one (got-in shares i no_share c.shares-test.true)))
 
 pub add_share-requires-clause-inside : goal.add_share-requires-clause-inside
 add_share-requires-clause-inside g c =
@@ -34,7 +36,7 @@ shares-preserved g c =
     let had = c.shares.invariant in
     record {
       held = λ image told.
-          shares-next image c.args.site.now c.args.sets.now c.args.many c.args.shares.now c.shares.share-index c.bits_of.result.now c.shares.held c.share.new.self c.add_share.new.held c.shares-test.true c.bits_of.ensures (had.held image told)
+          shares-next image c.args.site.now c.args.sets.now c.args.many c.args.shares.now c.shares.share-index c.runs_of.result.now c.shares.held c.share.new.self c.add_share.new.held c.shares-test.true c.runs_of.ensures (had.held image told)
           c.in_ok-share.ensures.same c.in_ok-share.ensures.runs (c.in-Ok-true.ensures.added image (had.kept.same_bytes ∙ told) c.in-Ok-true.field-0-test);
       long = c.add_share.ensures.long;
       kept = record {

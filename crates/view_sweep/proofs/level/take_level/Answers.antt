@@ -27,14 +27,14 @@ once-requires-clause-numbers g c =
     let sets : List ViewSet = c.args.sets.now.items in
     let sorted : List Asked = c.by_id.new.asked.items in
     subst (λ (ss : List ViewSet). AreNumbered (length ss) c.deref-2.result.now) (sym c.deref.ensures.value)
-    (subst (λ (xs : List Asked). AreNumbered (length sets) xs) (sym c.deref-2.ensures.value) (numbered-permuted (length sets) c.args.current.now.items sorted c.by_id.ensures.order c.requires.numbers))
+    (subst (λ (xs : List Asked). AreNumbered (length sets) xs) (sym c.deref-2.ensures.value) (numbered-permuted (length sets) c.args.current.now.items sorted c.in_ok-by_id.ensures.order c.requires.numbers))
 
 pub joined-requires-clause-numbers : goal.joined-requires-clause-numbers
 joined-requires-clause-numbers g c =
     let sets : List ViewSet = c.args.sets.now.items in
     let sorted : List Asked = c.by_id.new.asked.items in
     subst (λ (ss : List ViewSet). AreNumbered (length ss) c.deref-4.result.now) (sym c.deref-3.ensures.value)
-    (subst (λ (xs : List Asked). AreNumbered (length sets) xs) (sym c.deref-4.ensures.value) (numbered-permuted (length sets) c.args.current.now.items sorted c.by_id.ensures.order c.requires.numbers))
+    (subst (λ (xs : List Asked). AreNumbered (length sets) xs) (sym c.deref-4.ensures.value) (numbered-permuted (length sets) c.args.current.now.items sorted c.in_ok-by_id.ensures.order c.requires.numbers))
 
 pub returns-in-Err-clause-stops : goal.returns-in-Err-clause-stops
 returns-in-Err-clause-stops g c = λ image told.
@@ -43,7 +43,7 @@ returns-in-Err-clause-stops g c = λ image told.
     let sets : List ViewSet = c.args.sets.now.items in
     let current : List Asked = c.args.current.now.items in
     let sorted : List Asked = c.by_id.new.asked.items in
-    here-more k (Among (all_asked views sets sorted)) (Among (all_asked views sets current)) (asked-permuted views sets sorted current (IsPermutation-sym current sorted c.by_id.ensures.order)) c.in-Err.stop
+    here-more k (Among (all_asked views sets sorted)) (Among (all_asked views sets current)) (asked-permuted views sets sorted current (IsPermutation-sym current sorted c.in_ok-by_id.ensures.order)) c.in-Err.stop
     (twice-tells k (Among (all_asked views sets sorted)) c.in-Err.stop
     (subst (λ (ss : List ViewSet). Tells (IsTwiceHere (Among (all_asked views ss sorted))) NoFeature c.in-Err.stop) c.deref.ensures.value
     (subst (λ (xs : List Asked). Tells (IsTwiceHere (Among (all_asked views c.deref.result.now xs))) NoFeature c.in-Err.stop) c.deref-2.ensures.value c.in-Err.ensures.stops)))
@@ -58,7 +58,7 @@ returns-in-Err-hits-clause-stops g c = λ image told.
     let all : List Sought = c.in_ok-all.all.items in
     let so : AreSought sets sorted all =
     subst (λ (ss : List ViewSet). AreSought ss sorted all) c.deref-3.ensures.value (subst (λ (xs : List Asked). AreSought c.deref-3.result.now xs all) c.deref-4.ensures.value c.in_ok-all.ensures.all) in
-    here-more k (Among (all_asked views sets sorted)) (Among (all_asked views sets current)) (asked-permuted views sets sorted current (IsPermutation-sym current sorted c.by_id.ensures.order)) c.in-Err-hits.stop
+    here-more k (Among (all_asked views sets sorted)) (Among (all_asked views sets current)) (asked-permuted views sets sorted current (IsPermutation-sym current sorted c.in_ok-by_id.ensures.order)) c.in-Err-hits.stop
     (lost-here k (looked-named c.args.volumes.now c.args.site.now image) (IsOfSought views all) (Among (all_asked views sets sorted)) (sought-like views sets sorted all so) c.in-Err-hits.stop
     (subst (λ (xs : List Sought). Tells (IsLostHere (looked c.args.volumes.now c.args.site.now) (IsOfSought views xs)) (IsMappedBy (looked c.args.volumes.now c.args.site.now) c.args.site.now.block_size (IsOfSought views xs)) c.in-Err-hits.stop) c.deref-5.ensures.value c.in-Err-hits.ensures.stops))
 
@@ -84,8 +84,8 @@ returns-clause-step g c = λ image told.
     let so : AreSought old sorted all =
     subst (λ (ss : List ViewSet). AreSought ss sorted all) c.deref-3.ensures.value (subst (λ (xs : List Asked). AreSought c.deref-3.result.now xs all) c.deref-4.ensures.value c.in_ok-all.ensures.all) in
     let of : AreHitsOf k.look k.site views new all found = subst (λ (xs : List Sought). AreHitsOf k.look k.site views new xs found) c.deref-5.ensures.value c.in-Ok-hits.ensures.hits in
-    let for : AreFor k (all_asked views old current) hits (hit_by views new) = level-for k views old new current sorted all found hits c.by_id.ensures.order so of c.by_record.ensures.order in
-    let once : IsOnce (all_asked views old current) = once-permuted views old current sorted c.by_id.ensures.order
+    let for : AreFor k (all_asked views old current) hits (hit_by views new) = level-for k views old new current sorted all found hits c.in_ok-by_id.ensures.order so of c.by_record.ensures.order in
+    let once : IsOnce (all_asked views old current) = once-permuted views old current sorted c.in_ok-by_id.ensures.order
     (subst (λ (ss : List ViewSet). IsOnce (all_asked views ss sorted)) c.deref.ensures.value (subst (λ (xs : List Asked). IsOnce (all_asked views c.deref.result.now xs)) c.deref-2.ensures.value c.in-Ok.ensures.once)) in
     let e : after ≡ before ++ flat_map (hit_asks k.bytes) hits = subst (λ (hs : List Hit). after ≡ before ++ flat_map (hit_asks k.bytes) hs) c.deref-6.ensures.value (c.in-Ok-read_hits.ensures.wants image told) in
     step_from k (looked-named c.args.volumes.now c.args.site.now image) (all_asked views old current) hits (hit_by views new) for (all_asked views new before) (all_asked views new after) c.in-Ok-read_hits.read.items once
@@ -116,7 +116,7 @@ returns-in-Err-read_hits-clause-stops g c = λ image told.
     let so : AreSought old sorted all =
     subst (λ (ss : List ViewSet). AreSought ss sorted all) c.deref-3.ensures.value (subst (λ (xs : List Asked). AreSought c.deref-3.result.now xs all) c.deref-4.ensures.value c.in_ok-all.ensures.all) in
     let of : AreHitsOf k.look k.site views new all found = subst (λ (xs : List Sought). AreHitsOf k.look k.site views new xs found) c.deref-5.ensures.value c.in-Ok-hits.ensures.hits in
-    let for : AreFor k (all_asked views old current) hits (hit_by views new) = level-for k views old new current sorted all found hits c.by_id.ensures.order so of c.by_record.ensures.order in
+    let for : AreFor k (all_asked views old current) hits (hit_by views new) = level-for k views old new current sorted all found hits c.in_ok-by_id.ensures.order so of c.by_record.ensures.order in
     bad-tells k (looked-named c.args.volumes.now c.args.site.now image) (all_asked views old current) hits (hit_by views new) for c.in-Err-read_hits.stop
     (subst (λ (hs : List Hit). Tells (IsBadHit k.site k.bytes hs) (IsRefusedHit k.site k.bytes hs) c.in-Err-read_hits.stop) c.deref-6.ensures.value (c.in-Err-read_hits.ensures.stops image told))
 
@@ -134,7 +134,7 @@ returns-clause-shares g c =
     let so : AreSought old sorted all =
     subst (λ (ss : List ViewSet). AreSought ss sorted all) c.deref-3.ensures.value (subst (λ (xs : List Asked). AreSought c.deref-3.result.now xs all) c.deref-4.ensures.value c.in_ok-all.ensures.all) in
     let of : AreHitsOf k.look k.site views new all found = subst (λ (xs : List Sought). AreHitsOf k.look k.site views new xs found) c.deref-5.ensures.value c.in-Ok-hits.ensures.hits in
-    let for : AreFor k (all_asked views old current) hits (hit_by views new) = level-for k views old new current sorted all found hits c.by_id.ensures.order so of c.by_record.ensures.order in
+    let for : AreFor k (all_asked views old current) hits (hit_by views new) = level-for k views old new current sorted all found hits c.in_ok-by_id.ensures.order so of c.by_record.ensures.order in
     level-shares k (looked-named c.args.volumes.now c.args.site.now []) views new (all_asked views old current) hits for c.in-Ok-hits.ensures.sets
     (hits-numbered k.look k.site views new all found hits of c.by_record.ensures.order) c.args.site.now.blocks c.args.shares.now.items c.add_shares.new.out.items
     (placed-permuted c.args.site.now.blocks found hits c.by_record.ensures.order (hits-placed k.look k.site views new all found of))

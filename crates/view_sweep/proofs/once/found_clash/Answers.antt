@@ -16,7 +16,7 @@ returns-in-Some-clause-some c = record {
   other = c.loop-place.place;
   low = omega arith;
   high = c.loop-place-test.true;
-  is = subst (λ (o : Option ℕ). IfSome o (AreClashing c.args.views.now c.args.sets.now (nth_asked c.args.asked.now c.loop-place.place) (nth_asked c.args.asked.now c.args.last))) c.in-Some.is c.in_ok-found.ensures.some;
+  is = subst (λ (o : Option ℕ). IfSome o (AreClashing c.args.views.now c.args.sets.now (nth_asked c.args.asked.now c.loop-place.place) (nth_asked c.args.asked.now c.args.last))) c.in-Some.is c.clash_of.ensures.some;
 }
 
 pub loop-place-preserved : goal.loop-place-preserved
@@ -24,5 +24,5 @@ loop-place-preserved c = λ j low high. elim (cases_lt j c.loop-place.place) as 
   | inl before ↦ c.loop-place.invariant j low before
   | inr past ↦
       let same : c.loop-place.place ≡ j = omega arith in
-      subst (λ (n : ℕ). AreAlikeAt c.args.views.now c.args.sets.now c.args.asked.now n c.args.last) same (c.in_ok-found.ensures.none (subst (λ (o : Option ℕ). IsNone o) (sym c.in-None.is) refl))
+      subst (λ (n : ℕ). AreAlikeAt c.args.views.now c.args.sets.now c.args.asked.now n c.args.last) same (c.clash_of.ensures.none (subst (λ (o : Option ℕ). IsNone o) (sym c.in-None.is) refl))
 ]

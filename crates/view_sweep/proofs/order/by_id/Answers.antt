@@ -8,4 +8,4 @@ use Rattle.view_sweep.proofs.order.by_id.Goals as goal
 
 pub returns-clause-sorted : goal.returns-clause-sorted
 returns-clause-sorted c =
-    rising c.sort_unstable_by.new.self.items (c.sort_unstable_by.ensures.sorted (λ (a b : Asked). is_lt (asked_rank a b)) asked_order (answers_always _ _ _ (λ f a r g k. ap is_lt (search rules))))
+    rising c.sort_by.new.self.items (c.in_ok-sort_by.ensures.sorted (λ (a b : Asked). is_lt (asked_rank a b)) asked_order (answers_always _ _ _ (λ f a r g k. ap is_lt (search rules))))

@@ -1,6 +1,7 @@
 use Rattle.std.proofs.Common.{◌≡◌, ℕ, List, [], Option, length, sym, ◌∙◌, subst}
 use Rattle.omap_map.specs.declared.records.OmapRecord.{OmapRecord}
 use Rattle.reach_rules.specs.Live.{rooted}
+use Rattle.view_sweep.specs.declared.runs.Run.{Run}
 use Rattle.view_sweep.specs.declared.sets.ViewSet.{ViewSet}
 use Rattle.view_sweep.specs.declared.wanted.SweptView.{SweptView}
 use Rattle.view_sweep.specs.declared.wanted.Asked.{Asked}
@@ -12,6 +13,8 @@ use Rattle.view_sweep.specs.Wanted.{heads_want}
 use Rattle.view_sweep.specs.Found.{World, world, looked}
 use Rattle.view_sweep.specs.Here.{TellsHere, Among}
 use Rattle.view_sweep.specs.Hits.{AreBelowViews}
+use Rattle.view_sweep.specs.Next.{AreStretches}
+use Rattle.view_sweep.specs.Runs.{AreRising}
 use Rattle.view_sweep.specs.Sets.{AreNumbered, HaveSame, all_asked}
 use Rattle.view_sweep.specs.Shared.{AreInside, AreShares, AddsShares, IsAbove}
 use Rattle.view_sweep.specs.Swept.{AreKids, IsLive, IsStep}
@@ -23,16 +26,32 @@ use Rattle.view_sweep.proofs.sweeping.sweep.Goals as goal
 
 pub take_level-requires-clause-below : goal.take_level-requires-clause-below
 take_level-requires-clause-below g c =
-    subst (λ (vs : List SweptView). AreBelowViews (length c.args.volumes.now) vs) (sym c.deref-2.ensures.value)
+    subst (λ (vs : List SweptView). AreBelowViews (length c.args.volumes.now) vs) (sym c.deref-3.ensures.value)
     (views-below (length c.args.volumes.now) c.args.heads.now c.in_ok-views.views.items c.in_ok-views.ensures c.requires.below)
 
 pub levels-requires-clause-below : goal.levels-requires-clause-below
 levels-requires-clause-below g c =
-    subst (λ (vs : List SweptView). AreBelowViews (length c.args.volumes.now) vs) (sym c.deref-3.ensures.value)
+    subst (λ (vs : List SweptView). AreBelowViews (length c.args.volumes.now) vs) (sym c.deref-5.ensures.value)
     (views-below (length c.args.volumes.now) c.args.heads.now c.in_ok-views.views.items c.in_ok-views.ensures c.requires.below)
 
 pub levels-requires-clause-numbers : goal.levels-requires-clause-numbers
-levels-requires-clause-numbers g c = subst (λ (xs : List Asked). AreNumbered (length c.take_level.new.sets.items) xs) (sym c.deref-4.ensures.value) c.in-Ok.ensures.numbers
+levels-requires-clause-numbers g c = subst (λ (xs : List Asked). AreNumbered (length c.take_level.new.sets.items) xs) (sym c.deref-7.ensures.value) c.in-Ok.ensures.numbers
+
+pub take_level-requires-clause-rising : goal.take_level-requires-clause-rising
+take_level-requires-clause-rising g c = subst (λ (runs : List Run). AreRising runs) (sym c.deref-4.ensures.value) c.in_ok-stretches.ensures.rising
+
+pub take_level-requires-clause-stretches : goal.take_level-requires-clause-stretches
+take_level-requires-clause-stretches g c =
+    subst (λ (runs : List Run). AreStretches c.deref-3.result.now runs) (sym c.deref-4.ensures.value)
+    (subst (λ (vs : List SweptView). AreStretches vs c.in_ok-stretches.stretches.items) (sym c.deref-3.ensures.value) (subst (λ (vs : List SweptView). AreStretches vs c.in_ok-stretches.stretches.items) c.deref-2.ensures.value c.in_ok-stretches.ensures.all))
+
+pub levels-requires-clause-rising : goal.levels-requires-clause-rising
+levels-requires-clause-rising g c = subst (λ (runs : List Run). AreRising runs) (sym c.deref-6.ensures.value) c.in_ok-stretches.ensures.rising
+
+pub levels-requires-clause-stretches : goal.levels-requires-clause-stretches
+levels-requires-clause-stretches g c =
+    subst (λ (runs : List Run). AreStretches c.deref-5.result.now runs) (sym c.deref-6.ensures.value)
+    (subst (λ (vs : List SweptView). AreStretches vs c.in_ok-stretches.stretches.items) (sym c.deref-5.ensures.value) (subst (λ (vs : List SweptView). AreStretches vs c.in_ok-stretches.stretches.items) c.deref-2.ensures.value c.in_ok-stretches.ensures.all))
 
 pub returns-in-Err-clause-present : goal.returns-in-Err-clause-present
 returns-in-Err-clause-present g c = λ image told.
@@ -43,7 +62,7 @@ returns-in-Err-clause-present g c = λ image told.
     let first : List Asked = c.in_ok-first.first.items in
     let same : HaveSame (all_asked views sets first) (heads_want heads) = subst (λ (vs : List SweptView). HaveSame (all_asked vs sets first) (heads_want heads)) c.deref.ensures.value c.in_ok-first.ensures.all in
     here-more k (Among (all_asked views sets first)) (IsLive k heads) (λ w h. rooted w (same.to w h)) c.in-Err.stop
-    (subst (λ (vs : List SweptView). TellsHere k (Among (all_asked vs sets first)) c.in-Err.stop) c.deref-2.ensures.value (c.in-Err.ensures.stops image told))
+    (subst (λ (vs : List SweptView). TellsHere k (Among (all_asked vs sets first)) c.in-Err.stop) c.deref-3.ensures.value (c.in-Err.ensures.stops image told))
 
 -- what superblocks want was taken, as it is told of the sets of the views
 top-step : (k : World) (heads : List Head) (views one two : List SweptView) (sets more : List ViewSet) (first before kids : List Asked) (read : List Used) → one ≡ views → two ≡ views → before ≡ [] → HaveSame (all_asked one sets first) (heads_want heads)
@@ -61,10 +80,10 @@ levels-requires-clause-kids g c = λ image told.
     let more : List ViewSet = c.take_level.new.sets.items in
     let kids : List Asked = c.take_level.new.below.items in
     let step = c.in-Ok.ensures.step image (sym c.take_level.ensures.kept.same_bytes ∙ told) in
-    subst (λ (xs : List Asked). AreKids k heads (all_asked c.deref-3.result.now more xs)) (sym c.deref-4.ensures.value)
-    (subst (λ (vs : List SweptView). AreKids k heads (all_asked vs more kids)) (sym c.deref-3.ensures.value)
+    subst (λ (xs : List Asked). AreKids k heads (all_asked c.deref-5.result.now more xs)) (sym c.deref-7.ensures.value)
+    (subst (λ (vs : List SweptView). AreKids k heads (all_asked vs more kids)) (sym c.deref-5.ensures.value)
     (kids-step k heads (all_asked views more kids) c.in-Ok.read.items
-    (top-step k heads views c.deref.result.now c.deref-2.result.now c.wants.new.sets.items more c.in_ok-first.first.items c.new-kids.result.items kids c.in-Ok.read.items c.deref.ensures.value c.deref-2.ensures.value c.new-kids.ensures.items c.in_ok-first.ensures.all step)))
+    (top-step k heads views c.deref.result.now c.deref-3.result.now c.wants.new.sets.items more c.in_ok-first.first.items c.new-kids.result.items kids c.in-Ok.read.items c.deref.ensures.value c.deref-3.ensures.value c.new-kids.ensures.items c.in_ok-first.ensures.all step)))
 
 pub levels-requires-clause-top : goal.levels-requires-clause-top
 levels-requires-clause-top g c = λ image told.
@@ -75,7 +94,7 @@ levels-requires-clause-top g c = λ image told.
     let kids : List Asked = c.take_level.new.below.items in
     let step = c.in-Ok.ensures.step image (sym c.take_level.ensures.kept.same_bytes ∙ told) in
     swept-top k heads (all_asked views more kids) c.in-Ok.read.items
-    (top-step k heads views c.deref.result.now c.deref-2.result.now c.wants.new.sets.items more c.in_ok-first.first.items c.new-kids.result.items kids c.in-Ok.read.items c.deref.ensures.value c.deref-2.ensures.value c.new-kids.ensures.items c.in_ok-first.ensures.all step)
+    (top-step k heads views c.deref.result.now c.deref-3.result.now c.wants.new.sets.items more c.in_ok-first.first.items c.new-kids.result.items kids c.in-Ok.read.items c.deref.ensures.value c.deref-3.ensures.value c.new-kids.ensures.items c.in_ok-first.ensures.all step)
 
 -- what is told of the first level is told of the views
 top-shares : (blocks : ℕ) (look : Wanted → Option OmapRecord) (P : Wanted → Type 0) (views two : List SweptView) (sets : List ViewSet) (before new : List Share) → two ≡ views → before ≡ [] → AddsShares look blocks two P sets before new → AddsShares look blocks views P sets [] new
@@ -87,10 +106,10 @@ levels-requires-clause-inside g c =
     let more : List ViewSet = c.take_level.new.sets.items in
     let new : List Share = c.take_level.new.shares.items in
     let look : Wanted → Option OmapRecord = looked c.args.volumes.now c.args.site.now in
-    let wanted : List Wanted = all_asked c.deref-2.result.now c.wants.new.sets.items c.in_ok-first.first.items in
-    subst (λ (vs : List SweptView). AreInside c.args.site.now.blocks vs more new) (sym c.deref-3.ensures.value)
+    let wanted : List Wanted = all_asked c.deref-3.result.now c.wants.new.sets.items c.in_ok-first.first.items in
+    subst (λ (vs : List SweptView). AreInside c.args.site.now.blocks vs more new) (sym c.deref-5.ensures.value)
     (inside-top c.args.site.now.blocks look c.in_ok-views.views.items (Among wanted) more new
-    (top-shares c.args.site.now.blocks look (Among wanted) c.in_ok-views.views.items c.deref-2.result.now more c.new-shares.result.items new c.deref-2.ensures.value c.new-shares.ensures.items c.in-Ok.ensures.shares))
+    (top-shares c.args.site.now.blocks look (Among wanted) c.in_ok-views.views.items c.deref-3.result.now more c.new-shares.result.items new c.deref-3.ensures.value c.new-shares.ensures.items c.in-Ok.ensures.shares))
 
 pub levels-requires-clause-shares : goal.levels-requires-clause-shares
 levels-requires-clause-shares g c = λ image told.
@@ -101,17 +120,17 @@ levels-requires-clause-shares g c = λ image told.
     let more : List ViewSet = c.take_level.new.sets.items in
     let first : List Asked = c.in_ok-first.first.items in
     let new : List Share = c.take_level.new.shares.items in
-    let wanted : List Wanted = all_asked c.deref-2.result.now sets first in
-    let same : HaveSame wanted (heads_want heads) = subst (λ (vs : List SweptView). HaveSame (all_asked vs sets first) (heads_want heads)) (c.deref.ensures.value ∙ sym c.deref-2.ensures.value) c.in_ok-first.ensures.all in
-    subst (λ (vs : List SweptView). AreShares k.look vs (IsAbove k heads 16) more new) (sym c.deref-3.ensures.value)
+    let wanted : List Wanted = all_asked c.deref-3.result.now sets first in
+    let same : HaveSame wanted (heads_want heads) = subst (λ (vs : List SweptView). HaveSame (all_asked vs sets first) (heads_want heads)) (c.deref.ensures.value ∙ sym c.deref-3.ensures.value) c.in_ok-first.ensures.all in
+    subst (λ (vs : List SweptView). AreShares k.look vs (IsAbove k heads 16) more new) (sym c.deref-5.ensures.value)
     (shares-top c.args.site.now.blocks k heads views wanted more new same
-    (top-shares c.args.site.now.blocks k.look (Among wanted) views c.deref-2.result.now more c.new-shares.result.items new c.deref-2.ensures.value c.new-shares.ensures.items c.in-Ok.ensures.shares))
+    (top-shares c.args.site.now.blocks k.look (Among wanted) views c.deref-3.result.now more c.new-shares.result.items new c.deref-3.ensures.value c.new-shares.ensures.items c.in-Ok.ensures.shares))
 
 pub returns-in-Ok-levels-clause-shares : goal.returns-in-Ok-levels-clause-shares
 returns-in-Ok-levels-clause-shares g c = λ image told.
-    subst (λ (vs : List SweptView). AreShares (looked c.args.volumes.now c.args.site.now) vs (IsAbove (world c.args.volumes.now c.args.site.now image) c.args.heads.now 0) c.levels.new.out.sets.items c.levels.new.out.shares.items) (c.deref-3.ensures.value ∙ c.in_ok-views.ensures)
+    subst (λ (vs : List SweptView). AreShares (looked c.args.volumes.now c.args.site.now) vs (IsAbove (world c.args.volumes.now c.args.site.now image) c.args.heads.now 0) c.levels.new.out.sets.items c.levels.new.out.shares.items) (c.deref-5.ensures.value ∙ c.in_ok-views.ensures)
     (c.in-Ok-levels.ensures.shares image (c.take_level.ensures.kept.same_bytes ∙ told))
 
 pub returns-in-Ok-levels-clause-inside : goal.returns-in-Ok-levels-clause-inside
 returns-in-Ok-levels-clause-inside g c =
-    subst (λ (vs : List SweptView). AreInside c.args.site.now.blocks vs c.levels.new.out.sets.items c.levels.new.out.shares.items) (c.deref-3.ensures.value ∙ c.in_ok-views.ensures) c.in-Ok-levels.ensures.inside
+    subst (λ (vs : List SweptView). AreInside c.args.site.now.blocks vs c.levels.new.out.sets.items c.levels.new.out.shares.items) (c.deref-5.ensures.value ∙ c.in_ok-views.ensures) c.in-Ok-levels.ensures.inside

@@ -1,6 +1,6 @@
 use Rattle.std.proofs.Common.{List, ◌++◌, map, refl, ap, ◌∙◌}
 use Rattle.use_report.specs.Counted.{piece_of}
-use Rattle.use_report.specs.declared.runs.Run.{Run}
+use Rattle.view_sweep.specs.declared.runs.Run.{Run}
 use Rattle.use_report.proofs.Sets.{grows-range}
 use Rattle.use_report.proofs.pieces.Pieces.add.Goals as goal
 
