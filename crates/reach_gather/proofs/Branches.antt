@@ -11,7 +11,7 @@ use Rattle.reach_rules.specs.PoolOwners.{pool_owners_through, pool_tree_owners}
 use Rattle.reach_gather.specs.Account.{AreRightTrees}
 use Rattle.reach_gather.specs.Namings.{level_below, step_naming, tree_namings, IsPlainNaming, AreNamingsOf}
 use Rattle.reach_gather.proofs.Joined.{part-tree}
-use Rattle.reach_gather.proofs.Views.{outside-views}
+use Rattle.reach_gather.proofs.ViewParts.{outside-views}
 use Rattle.reach_gather.specs.ViewParts.{is_in_view}
 use Rattle.reach_gather.specs.Held.{Held, Grew, IsOwnerThrough, GrewBy, some_owners}
 use Rattle.reach_gather.specs.Adds.{Adds}

@@ -24,7 +24,7 @@ use Rattle.reach_gather.specs.Volumes.Parts.{IsMapPart, HasWholeMetadata}
 use Rattle.vol_view.specs.Volumes.{Loaded}
 use Rattle.reach_gather.proofs.Joined.{part-tree}
 use Rattle.reach_gather.proofs.OfKinds.{records-kind, snapshots-kind, metadata-kind}
-use Rattle.reach_gather.proofs.Views.{outside-views}
+use Rattle.reach_gather.proofs.ViewParts.{outside-views}
 use Rattle.reach_gather.proofs.Walking.{nodes-count, whole-namings}
 use Rattle.reach_gather.proofs.VolumeLemmas.MapParts.{records-whole, snapshots-whole}
 use Rattle.reach_gather.specs.Held.{Held}

@@ -23,8 +23,8 @@ use Rattle.reach_gather.specs.ViewParts.{is_in_view}
 use Rattle.reach_gather.specs.Account.{AreRightTrees}
 use Rattle.reach_gather.specs.Container.{pool_queue_naming, main_queue_naming, manager_naming}
 use Rattle.reach_gather.specs.Space.{manager_namer, blocks_namings}
-use Rattle.reach_gather.proofs.Space.{space-part}
-use Rattle.reach_gather.proofs.Views.{outside-views}
+use Rattle.reach_gather.proofs.SpacePart.{space-part}
+use Rattle.reach_gather.proofs.ViewParts.{outside-views}
 use Rattle.reach_gather.specs.Held.{Held, GrewBy, some_owners}
 use Rattle.reach_gather.specs.Adds.{Adds}
 use Rattle.reach_gather.specs.Infos.{known_cabs, known_cibs, bitmaps_from}
