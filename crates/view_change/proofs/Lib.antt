@@ -1,0 +1,4 @@
+mod Weaving
+mod Merges
+mod Lefts
+mod Passing

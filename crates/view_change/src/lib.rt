@@ -1,0 +1,14 @@
+//! Which records only one of two views has, by the leaves of their trees.
+#![tactic(auto)]
+
+mod leaf;
+mod merging;
+mod side;
+mod taker;
+#[cfg(test)]
+mod tests;
+mod ways;
+
+pub use leaf::Leaf;
+pub use merging::merge;
+pub use taker::Taker;
