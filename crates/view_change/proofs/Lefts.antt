@@ -7,7 +7,8 @@ use Rattle.obj_base.specs.declared.site.Site.{Site}
 use Rattle.bt_node.specs.Shape.{Shape}
 use Rattle.bt_node.specs.Node.{count_of}
 use Rattle.bt_node.specs.Entries.{Pair, pair_of, pairs_of}
-use Rattle.bt_node.specs.Soundness.{IsNode, node_of}
+use Rattle.bt_node.specs.Soundness.{node_of}
+use Rattle.bt_node.specs.SoundNode.{IsNode}
 use Rattle.view_change.specs.declared.leaf.Leaf.{Leaf}
 use Rattle.view_change.specs.declared.side.Side.{Side}
 use Rattle.view_change.specs.Leaves.{leaf_place, records_of, records_in}

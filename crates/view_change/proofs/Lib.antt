@@ -2,3 +2,4 @@ mod Weaving
 mod Merges
 mod Lefts
 mod Passing
+mod Uppers

@@ -1,3 +1,4 @@
 pub mod Leaves
 pub mod Sides
 pub mod Merged
+pub mod Upper

@@ -3,12 +3,15 @@
 
 mod leaf;
 mod merging;
+mod node;
 mod side;
 mod taker;
 #[cfg(test)]
 mod tests;
+mod upper;
 mod ways;
 
 pub use leaf::Leaf;
 pub use merging::merge;
 pub use taker::Taker;
+pub use upper::{leaves, leaves_tell_all};

@@ -1,7 +1,7 @@
 // The merge of the leaves of two views.
 ghost use Rattle.std.specs.Prelude.{◌≡◌, ◌⊎◌, ◌+◌, ◌<◌, ◌≤◌, ◌++◌, ◌∷◌, [], ℕ, List, Some, length, IfOk, IfErr, IsErrOf, IsTrue, OnOk};
 ghost use Rattle.apfs_model.specs.Counts.{Rose};
-ghost use Rattle.apfs_model.specs.Source.{IsKept};
+ghost use Rattle.apfs_model.specs.Kept.{IsKept};
 ghost use Rattle.obj_base.specs.Site.{IsSiteFor};
 ghost use Rattle.obj_base.specs.Stops.{IsFree};
 ghost use Rattle.obj_base.specs.declared.stop.Stop.TheVariants.{ReadFault};
@@ -13,7 +13,8 @@ ghost use Rattle.view_change.specs.Merged.{LeavesChanged, SidesMerged};
 use crate::side::{Side, have_one_leaf};
 use crate::ways::{Way, which_way};
 use crate::{Leaf, Taker};
-use blk_source::{BlockSource, NoMemory};
+use apfs_model::NoMemory;
+use blk_source::BlockSource;
 use bt_node::TreeKey;
 use obj_base::{Site, Stop};
 use std::alloc::Global;

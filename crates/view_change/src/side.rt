@@ -1,7 +1,7 @@
 // The records of one of two views, leaf by leaf.
 ghost use Rattle.std.specs.Prelude.{◌≡◌, ◌+◌, ◌<◌, ◌≤◌, ◌∷◌, ◌↔◌, ℕ, List, Some, length, option_map, IfOk, IfErr, IsErrOf, IsTrue};
 ghost use Rattle.apfs_model.specs.Counts.{Rose};
-ghost use Rattle.apfs_model.specs.Source.{IsKept};
+ghost use Rattle.apfs_model.specs.Kept.{IsKept};
 ghost use Rattle.obj_base.specs.Site.{IsSiteFor};
 ghost use Rattle.obj_base.specs.Stops.{IsFree};
 ghost use Rattle.obj_base.specs.declared.stop.Stop.TheVariants.{ReadFault};
@@ -10,8 +10,9 @@ ghost use Rattle.view_change.specs.declared.leaf.Leaf.{Leaf as One};
 ghost use Rattle.view_change.specs.Sides.{IsStanding, IsSameLeaf, IsHungry, HaveOneLeaf, left_of};
 
 use crate::Leaf;
-use blk_read::read_block;
-use blk_source::{BlockSource, NoMemory};
+use crate::node::read_node;
+use apfs_model::NoMemory;
+use blk_source::BlockSource;
 use bt_node::{Entry, NodeView, TreeKey};
 use obj_base::{Site, Stop};
 use std::alloc::Global;
@@ -122,16 +123,12 @@ impl Side<'_> {
         ensures kept { IsKept S.bytes S.bytes_len S.faults src.old src.new }
     {
         let leaf = self.leaves[0];
-        if leaf.block >= site.blocks {
+        let at = leaf.place();
+        if !read_node::<K, S>(src, site, &at, leaf.block, &mut self.block)? {
             return Ok(false);
         }
-        read_block(src, leaf.block, &mut self.block)?;
-        let count = match NodeView::<K>::read(&self.block, &leaf.place(), site) {
-            Ok(node) => node.len(),
-            Err(_) => return Ok(false),
-        };
         self.leaf = leaf;
-        self.count = count;
+        self.count = NodeView::<K>::kept(&self.block, &at, site).len();
         self.next = 0;
         self.skip();
         Ok(true)

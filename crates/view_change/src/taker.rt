@@ -3,7 +3,7 @@ ghost use Rattle.std.specs.Prelude.{◌≡◌, ◌++◌, ◌∷◌, [], List, So
 ghost use Rattle.bt_node.specs.Entries.{Pair};
 ghost use Rattle.view_change.specs.Leaves.{pair};
 
-use blk_source::NoMemory;
+use apfs_model::NoMemory;
 use bt_node::{Entry, TreeKey};
 
 /// What takes records, one after the other.

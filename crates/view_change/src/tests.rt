@@ -1,10 +1,11 @@
-// Leaves of an object map, each in a block of its own.
-use crate::{Leaf, Taker, merge};
+// Nodes of object maps, each in a block of its own.
+use crate::{Leaf, Taker, leaves, merge};
 use apfs_model::NoMemory;
 use blk_source::MemSource;
+use bt_cursor::Physical;
 use bt_keys::OmapKey;
 use bt_node::Entry;
-use img_edit::node::{Item, NodeHead, Tree, node};
+use img_edit::node::{Item, NodeHead, Totals, Tree, node};
 use obj_base::Site;
 use std::alloc::{AllocError, Global};
 use std::process::Abort;
@@ -125,5 +126,96 @@ fn leaves_that_both_views_have_are_not_read(rt: HostRuntime) -> Result<(), Fail>
     for case in &CASES {
         assert_case(&rt, rt.alloc(), case)?;
     }
+    Ok(())
+}
+
+// A node above the leaves, whose entries name some ids; a root of a tree of two levels above its leaves where it has totals.
+fn upper(
+    alloc: Global,
+    oid: u64,
+    level: u16,
+    totals: Option<Totals>,
+    children: &[u64],
+) -> Result<Vec<u8>, AllocError> {
+    let mut items: Vec<Item> = Vec::new(alloc);
+    for child in children {
+        let mut key = Vec::from_slice(alloc, &child.to_le_bytes())?;
+        key.extend_from_slice(&[1, 0, 0, 0, 0, 0, 0, 0])?;
+        items.push((key, Vec::from_slice(alloc, &child.to_le_bytes())?))?;
+    }
+    let head = NodeHead {
+        oid,
+        xid: 1,
+        level,
+        totals,
+    };
+    node(alloc, 4096, &Tree::OBJECT_MAP, &head, &items)?.ok_or(AllocError)
+}
+
+const TOTALS: Totals = Totals {
+    keys: 3,
+    nodes: 6,
+    longest_key: 16,
+    longest_value: 16,
+};
+
+// A tree of which each id is a block: leaves in blocks 1, 2 and 3, above them the nodes in blocks 4 and 5, and the root in block 6. Block 7
+// has a root that names a block outside the container.
+fn tall_image(alloc: Global) -> Result<Vec<u8>, AllocError> {
+    let mut image = vec![in alloc; 0u8; 4096]?;
+    image.extend_from_slice(&leaf(alloc, 1, &[1])?)?;
+    image.extend_from_slice(&leaf(alloc, 2, &[2])?)?;
+    image.extend_from_slice(&leaf(alloc, 3, &[3])?)?;
+    image.extend_from_slice(&upper(alloc, 4, 1, None, &[1, 2])?)?;
+    image.extend_from_slice(&upper(alloc, 5, 1, None, &[3])?)?;
+    image.extend_from_slice(&upper(alloc, 6, 2, Some(TOTALS), &[4, 5])?)?;
+    image.extend_from_slice(&upper(alloc, 7, 1, Some(TOTALS), &[1, 8])?)?;
+    image.resize(32768, 0)?;
+    Ok(image)
+}
+
+// The leaves of the tree of a root in that image, and the number of reads.
+fn leaves_below(
+    rt: &impl Abort,
+    alloc: Global,
+    root: u64,
+) -> Result<(Option<Vec<Leaf>>, u64), AllocError> {
+    let image = tall_image(alloc)?;
+    assert_eq!(rt; image.len(), 32768);
+    let mut source = MemSource::new(image, Vec::new(alloc));
+    let site = Site {
+        block_size: 4096,
+        blocks: 8,
+        max_xid: 9,
+    };
+    let found = leaves::<OmapKey, MemSource, Physical>(
+        alloc,
+        &mut source,
+        &Physical { blocks: 8 },
+        &site,
+        root,
+    );
+    Ok((found.unwrap_or(None), source.read_count()))
+}
+
+#[test]
+fn leaves_are_found_by_the_nodes_above_them(rt: HostRuntime) -> Result<(), Fail> {
+    let (found, reads) = leaves_below(&rt, rt.alloc(), 6)?;
+    let expected = [
+        Leaf { oid: 1, block: 1 },
+        Leaf { oid: 2, block: 2 },
+        Leaf { oid: 3, block: 3 },
+    ];
+    assert!(&rt; found.is_some_and(|leaves| leaves.as_slice() == expected.as_slice()));
+    assert_eq!(&rt; reads, 3);
+    Ok(())
+}
+
+#[test]
+fn no_leaves_are_told_where_one_is_missing(rt: HostRuntime) -> Result<(), Fail> {
+    let (outside, _) = leaves_below(&rt, rt.alloc(), 7)?;
+    assert!(&rt; outside.is_none());
+    let (of_leaf, _) = leaves_below(&rt, rt.alloc(), 1)?;
+    assert!(&rt; of_leaf.is_none());
     Ok(())
 }

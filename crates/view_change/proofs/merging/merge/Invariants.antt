@@ -1,6 +1,6 @@
 -- The leaves that were passed are merged.
 use Rattle.std.proofs.Common.{◌≡◌, ◌+◌, ◌≤◌, ℕ, List, Some, length}
-use Rattle.apfs_model.specs.Source.{IsKept}
+use Rattle.apfs_model.specs.Kept.{IsKept}
 use Rattle.view_change.specs.Leaves.{records_in}
 use Rattle.view_change.specs.Sides.{IsStanding}
 use Rattle.view_change.specs.Merged.{SidesMerged}
