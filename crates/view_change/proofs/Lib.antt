@@ -3,3 +3,4 @@ mod Merges
 mod Lefts
 mod Passing
 mod Uppers
+mod Levels

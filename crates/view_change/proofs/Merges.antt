@@ -2,7 +2,8 @@
 use Rattle.std.proofs.Common.{◌≡◌, List, [], ◌∷◌, ◌++◌, ap, sym, ◌∙◌, refl, subst, append-nil, append_assoc}
 use Rattle.bt_node.specs.Entries.{Pair}
 use Rattle.rule_changes.specs.Changes.{Weaves, ended}
-use Rattle.view_change.specs.Merged.{HaveChanged, AreMerged}
+use Rattle.view_change.specs.Merged.{HaveChanged}
+use Rattle.view_change.specs.Sides.{AreMerged}
 use Rattle.view_change.proofs.Weaving.{more-stay, one-differs}
 
 -- some items more are done

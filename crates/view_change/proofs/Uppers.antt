@@ -1,6 +1,6 @@
 -- The leaves of a tree by the nodes above them.
-use Rattle.std.proofs.Common.{◌≡◌, ℕ, zero, suc, ◌+◌, Bool, true, false, ◌&&◌, ◌==◌, cond, List, [], ◌∷◌, ◌++◌, map, length, Option, None, Some, Result, Ok, Err, refl, ap, sym, ◌∙◌, arith, append-nil, length-append}
-use Rattle.std.specs.Prelude.{nat_lt, option_map}
+use Rattle.std.proofs.Common.{◌≡◌, ℕ, zero, suc, ◌+◌, Bool, true, false, ◌&&◌, ◌==◌, cond, List, [], ◌∷◌, ◌++◌, map, length, Option, None, Some, Result, Ok, Err, refl, ap, sym, ◌∙◌, subst, arith, append-nil, length-append}
+use Rattle.std.specs.Prelude.{nat_lt, is_ok, not, option_map, All}
 use Rattle.std.specs.List.{cons_option}
 use Rattle.std.specs.List.{flat_map, filter, filter_map, list_all, range_with_len}
 use Rattle.std.proofs.lemmas.Bool.{false≢true}
@@ -8,7 +8,7 @@ use Rattle.std.proofs.lemmas.Bool.Decides.{nat_tests}
 use Rattle.std.proofs.lemmas.Grind.{flat_map-append}
 use Rattle.std.proofs.lemmas.List.{map-append}
 use Rattle.std.proofs.lemmas.List.Concat.{flat_map_single}
-use Rattle.std.proofs.lemmas.List.Elements.{filter-append}
+use Rattle.std.proofs.lemmas.List.Elements.{filter-append, All-head, All-tail}
 use Rattle.std.proofs.lemmas.List.Folds.{list_all-append}
 use Rattle.apfs_model.specs.Blocks.{block_of}
 use Rattle.apfs_model.specs.Lists.{through, passes, value_of}
@@ -26,8 +26,9 @@ use Rattle.bt_cursor.specs.Flat.{flat_part, flat_of}
 use Rattle.bt_cursor.specs.Line.{Item, item_at, entries_of, line_part, line_of}
 use Rattle.bt_cursor.specs.Met.{places_under, places_in, places_of, has_node}
 use Rattle.view_change.specs.declared.leaf.Leaf.{Leaf}
-use Rattle.view_change.specs.Leaves.{records_of, records_in}
-use Rattle.view_change.specs.Upper.{is_leaf_place, is_upper_place, leaf_ids, upper_places, leaf_in, leaf_named, FlatByLeaves, node_place, kids_of}
+use Rattle.view_change.specs.Leaves.{records_in, IsLeafThere}
+use Rattle.view_change.specs.Upper.{is_leaf_place, is_upper_place, leaf_ids, upper_places, leaf_in, leaf_named, FlatByLeaves, WalkableByLeaves}
+use Rattle.view_change.specs.Levels.{node_place, kids_of}
 
 -- the places of the nodes from that of an id and of a level down
 abbrev nodes_at : {K : Type 0} → Tree K → ℕ → ℕ → List NodeAt
@@ -102,44 +103,44 @@ line-places tree root level node there high =
     ∙ (ap (λ l. places_in (flat_map (line_part tree l root) (entries_of tree.shape node))) high
     ∙ places-entries (line_part tree (suc level) root) (nodes_at tree level) (part-nodes tree level root) (pair_of tree.shape node) (range_with_len 0 (count_of node)))
 
--- the ids of leaves among some places
-ids_in : List NodeAt → List ℕ
-ids_in places = map (λ (at : NodeAt). at.oid) (filter is_leaf_place places)
-
-ids-append : (xs ys : List NodeAt) → ids_in (xs ++ ys) ≡ ids_in xs ++ ids_in ys
-unfolding ids_in
-ids-append xs ys = ap (map (λ (at : NodeAt). at.oid)) (filter-append is_leaf_place xs ys) ∙ map-append (λ (at : NodeAt). at.oid) (filter is_leaf_place xs) (filter is_leaf_place ys)
-
-ids-none : ids_in [] ≡ []
-unfolding ids_in
-ids-none = refl
-
 above : (level : ℕ) → (suc level == 0) ≡ false
 above level = grind (arith, nat_tests)
 
-ids-upper : (level oid : ℕ) (places : List NodeAt) → ids_in (node_place (suc level) oid ∷ places) ≡ ids_in places
-unfolding ids_in
-ids-upper level oid places = ap (λ (b : Bool). map (λ (at : NodeAt). at.oid) (cond b (node_place (suc level) oid ∷ filter is_leaf_place places) (filter is_leaf_place places))) (above level)
+-- a place above level 0 is no leaf's
+leaf-next : (level oid : ℕ) (places : List NodeAt) → filter is_leaf_place (node_place (suc level) oid ∷ places) ≡ filter is_leaf_place places
+leaf-next level oid places = ap (λ (b : Bool). cond b (node_place (suc level) oid ∷ filter is_leaf_place places) (filter is_leaf_place places)) (above level)
 
-ids-leaf : (oid : ℕ) → ids_in (node_place zero oid ∷ []) ≡ oid ∷ []
-unfolding ids_in
-ids-leaf oid = refl
+leaves-below : (f : ℕ → List NodeAt) (g : ℕ → List ℕ) → ((oid : ℕ) → filter is_leaf_place (f oid) ≡ map (node_place zero) (g oid)) → (oids : List ℕ) → filter is_leaf_place (flat_map f oids) ≡ map (node_place zero) (flat_map g oids)
+leaves-below f g each [] = refl
+leaves-below f g each (oid ∷ oids) =
+    filter-append is_leaf_place (f oid) (flat_map f oids)
+    ∙ (ap (λ xs. xs ++ filter is_leaf_place (flat_map f oids)) (each oid)
+    ∙ (ap (λ xs. map (node_place zero) (g oid) ++ xs) (leaves-below f g each oids) ∙ sym (map-append (node_place zero) (g oid) (flat_map g oids))))
 
-ids-at : {K : Type 0} (tree : Tree K) (level oid : ℕ) → ids_in (nodes_at tree level oid) ≡ leaf_ids_at tree level oid
-ids-at tree zero oid = ids-leaf oid
-ids-at tree (suc level) oid =
+-- the places of the leaves among these
+leaves-are : {K : Type 0} (tree : Tree K) (level oid : ℕ) → filter is_leaf_place (nodes_at tree level oid) ≡ map (node_place zero) (leaf_ids_at tree level oid)
+leaves-are tree zero oid = refl
+leaves-are tree (suc level) oid =
     let at = node_place (suc level) oid in
-    let ids : List ℕ → List ℕ = flat_map (leaf_ids_at tree level) in
     let places : List ℕ → List NodeAt = flat_map (nodes_at tree level) in
-    ids-upper level oid (through (node_at tree at) (λ node. places (children_of tree.shape node)))
-    ∙ found ids_in ids-none (node_at tree at) (λ node. places (children_of tree.shape node)) (λ node. ids (children_of tree.shape node))
-    (λ node. parts ids_in ids-none ids-append (nodes_at tree level) (leaf_ids_at tree level) (ids-at tree level) (children_of tree.shape node))
+    let leaves : List ℕ → List NodeAt = λ oids. map (node_place zero) (flat_map (leaf_ids_at tree level) oids) in
+    leaf-next level oid (through (node_at tree at) (λ node. places (children_of tree.shape node)))
+    ∙ (found (filter is_leaf_place) refl (node_at tree at) (λ node. places (children_of tree.shape node)) (λ node. leaves (children_of tree.shape node))
+    (λ node. leaves-below (nodes_at tree level) (leaf_ids_at tree level) (leaves-are tree level) (children_of tree.shape node))
+    ∙ sym (found (map (node_place zero)) refl (node_at tree at) (λ node. flat_map (leaf_ids_at tree level) (children_of tree.shape node)) (λ node. leaves (children_of tree.shape node)) (λ node. refl)))
 
--- the ids of the leaves of a tree
+-- the places and the ids of the leaves of a tree
+leaf-places-root : {K : Type 0} (tree : Tree K) (root level : ℕ) (node : List ℕ) → node_at tree (root_place root) ≡ Some node → level_of node ≡ suc level → filter is_leaf_place (places_of tree root) ≡ map (node_place zero) (flat_map (leaf_ids_at tree level) (children_of tree.shape node))
+leaf-places-root tree root level node there high =
+    ap (filter is_leaf_place) (line-places tree root level node there high) ∙ leaves-below (nodes_at tree level) (leaf_ids_at tree level) (leaves-are tree level) (children_of tree.shape node)
+
+placed-ids : (oids : List ℕ) → map (λ (at : NodeAt). at.oid) (map (node_place zero) oids) ≡ oids
+placed-ids [] = refl
+placed-ids (oid ∷ oids) = ap (λ xs. oid ∷ xs) (placed-ids oids)
+
 pub leaf_ids-root : {K : Type 0} (tree : Tree K) (root level : ℕ) (node : List ℕ) → node_at tree (root_place root) ≡ Some node → level_of node ≡ suc level → leaf_ids tree root ≡ flat_map (leaf_ids_at tree level) (children_of tree.shape node)
-unfolding ids_in
 leaf_ids-root tree root level node there high =
-    ap ids_in (line-places tree root level node there high) ∙ parts ids_in ids-none ids-append (nodes_at tree level) (leaf_ids_at tree level) (ids-at tree level) (children_of tree.shape node)
+    ap (map (λ (at : NodeAt). at.oid)) (leaf-places-root tree root level node there high) ∙ placed-ids (flat_map (leaf_ids_at tree level) (children_of tree.shape node))
 
 -- the places of the other nodes
 upper-next : (level oid : ℕ) (places : List NodeAt) → filter is_upper_place (node_place (suc level) oid ∷ places) ≡ node_place (suc level) oid ∷ filter is_upper_place places
@@ -295,3 +296,48 @@ flat_leaves shape site named image root e =
     let tree = tree_in shape site named image in
     let high = high-means (node_at tree (root_place root)) e in
     flat-ids tree root high.level high.node high.there high.high ∙ records-named shape site named image (leaf_ids tree root)
+
+-- the place of each leaf of such a tree has its id, and no more
+leaf-places : {K : Type 0} (tree : Tree K) (root : ℕ) → IsHigh (node_at tree (root_place root)) → filter is_leaf_place (places_of tree root) ≡ map (node_place zero) (leaf_ids tree root)
+leaf-places tree root high =
+    leaf-places-root tree root high.level high.node high.there high.high ∙ ap (map (node_place zero)) (sym (leaf_ids-root tree root high.level high.node high.there high.high))
+
+-- all pass a test if those do that pass another one, and the others
+all-here : (test leaf : NodeAt → Bool) (x : NodeAt) (xs : List NodeAt) (b : Bool) → list_all test (cond b (x ∷ filter leaf xs) (filter leaf xs)) ≡ true → list_all test (cond (not b) (x ∷ filter (λ y. not (leaf y)) xs) (filter (λ y. not (leaf y)) xs)) ≡ true
+    → (list_all test (filter leaf xs) ≡ true → list_all test (filter (λ y. not (leaf y)) xs) ≡ true → list_all test xs ≡ true) → list_all test (x ∷ xs) ≡ true
+all-here test leaf x xs true these those next =
+    and-both (test x) (list_all test xs) (and-first (test x) (list_all test (filter leaf xs)) these) (next (and-second (test x) (list_all test (filter leaf xs)) these) those)
+all-here test leaf x xs false these those next =
+    and-both (test x) (list_all test xs) (and-first (test x) (list_all test (filter (λ y. not (leaf y)) xs)) those) (next these (and-second (test x) (list_all test (filter (λ y. not (leaf y)) xs)) those))
+
+all-split : (test leaf : NodeAt → Bool) (xs : List NodeAt) → list_all test (filter leaf xs) ≡ true → list_all test (filter (λ x. not (leaf x)) xs) ≡ true → list_all test xs ≡ true
+all-split test leaf [] these those = refl
+all-split test leaf (x ∷ xs) these those = all-here test leaf x xs (leaf x) these those (all-split test leaf xs)
+
+-- a leaf that is there has a node at its place
+leaf-has : {K : Type 0} (shape : Shape K) (site : Site) (image : List ℕ) (oid : ℕ) (leaf : Leaf) (o : Option ℕ) → option_map (leaf_in oid) o ≡ Some leaf → IsLeafThere shape site image leaf → is_ok (node_named shape site image (node_place zero oid) o) ≡ true
+leaf-has shape site image oid leaf None e sound = absurd (cc)
+leaf-has shape site image oid leaf (Some block) e sound =
+    let same : leaf_in oid block ≡ leaf = cc in
+    let node = subst (IsLeafThere shape site image) (sym same) sound in
+    ap (λ r. is_ok (judged block r)) node
+
+leaves-have : {K : Type 0} (shape : Shape K) (site : Site) (named : ℕ → Option ℕ) (image oids : List ℕ) (leaves : List Leaf) → map (leaf_named site named) oids ≡ map Some leaves → All (IsLeafThere shape site image) leaves
+    → list_all (has_node (tree_in shape site named image)) (map (node_place zero) oids) ≡ true
+leaves-have shape site named image [] leaves e there = refl
+leaves-have shape site named image (oid ∷ oids) [] e there = absurd (cc)
+leaves-have shape site named image (oid ∷ oids) (leaf ∷ leaves) e there =
+    let here : leaf_named site named oid ≡ Some leaf = cc in
+    let others : map (leaf_named site named) oids ≡ map Some leaves = cc in
+    let tree = tree_in shape site named image in
+    and-both (has_node tree (node_place zero oid)) (list_all (has_node tree) (map (node_place zero) oids))
+    (leaf-has shape site image oid leaf (block_named site named oid) here (All-head (IsLeafThere shape site image) leaf leaves there))
+    (leaves-have shape site named image oids leaves others (All-tail (IsLeafThere shape site image) leaf leaves there))
+
+-- a tree with all its nodes is walkable
+pub walkable_leaves : {K : Type 0} (shape : Shape K) → WalkableByLeaves shape
+walkable_leaves shape site named image root leaves are there =
+    let tree = tree_in shape site named image in
+    let high = high-means (node_at tree (root_place root)) are.high in
+    all-split (has_node tree) is_leaf_place (places_of tree root)
+    (ap (list_all (has_node tree)) (leaf-places tree root high) ∙ leaves-have shape site named image (leaf_ids tree root) leaves are.blocks there) are.there

@@ -6,6 +6,7 @@ use Rattle.obj_base.specs.declared.site.Site.{Site}
 use Rattle.bt_node.specs.Shape.{Shape}
 use Rattle.bt_node.specs.Entries.{Pair, pairs_of}
 use Rattle.bt_node.specs.Soundness.{node_of}
+use Rattle.bt_node.specs.SoundNode.{IsNode}
 use Rattle.bt_node.specs.declared.node.NodeAt.{NodeAt}
 use Rattle.view_change.specs.declared.leaf.Leaf.{Leaf}
 
@@ -24,3 +25,7 @@ records_of shape site image leaf = through (value_of (node_of shape (leaf_place 
 -- the records of leaves, in their order
 abbrev pub records_in : {K : Type 0} → Shape K → Site → List ℕ → List Leaf → List Pair
 records_in shape site image leaves = flat_map (records_of shape site image) leaves
+
+-- a leaf is there: its block has a sound node of level 0 with its id
+abbrev pub IsLeafThere : {K : Type 0} → Shape K → Site → List ℕ → Leaf → Type 0
+IsLeafThere shape site image leaf = IsNode shape (leaf_place leaf) site (block_of site.block_size image leaf.block)

@@ -1,13 +1,11 @@
 -- What is gone and what has come between two lists of records.
-use Rattle.std.specs.Prelude.{◌≡◌, ℕ, List, ◌++◌}
+use Rattle.std.specs.Prelude.{ℕ, List}
 use Rattle.obj_base.specs.declared.site.Site.{Site}
 use Rattle.bt_node.specs.Shape.{Shape}
 use Rattle.bt_node.specs.Entries.{Pair}
 use Rattle.rule_changes.specs.Changes.{Weaves}
 use Rattle.view_change.specs.declared.leaf.Leaf.{Leaf}
-use Rattle.view_change.specs.declared.side.Side.{Side}
 use Rattle.view_change.specs.Leaves.{records_in}
-use Rattle.view_change.specs.Sides.{left_of}
 
 -- some records are gone and some have come between two lists, and what is the same is woven with each of them
 pub record HaveChanged (before after : List Pair) (gone_holds come_holds : List Pair → Type 0) : Type 0 where
@@ -23,16 +21,3 @@ pub record HaveChanged (before after : List Pair) (gone_holds come_holds : List 
 abbrev pub LeavesChanged : {K : Type 0} → Shape K → Site → List ℕ → List Leaf → List Leaf → (List Pair → Type 0) → (List Pair → Type 0) → Type 0
 LeavesChanged shape site image before after gone_holds come_holds =
     HaveChanged (records_in shape site image before) (records_in shape site image after) gone_holds come_holds
-
--- two lists are merged up to what is left of each
-pub record AreMerged (before after : List Pair) (gone_holds come_holds : List Pair → Type 0) (left_before left_after : List Pair) : Type 0 where
-  pub done_before : List Pair
-  pub done_after : List Pair
-  pub split_before : before ≡ done_before ++ left_before
-  pub split_after : after ≡ done_after ++ left_after
-  pub changed : HaveChanged done_before done_after gone_holds come_holds
-
--- the same of two sides
-abbrev pub SidesMerged : {K : Type 0} → Shape K → Site → List ℕ → List Pair → List Pair → (List Pair → Type 0) → (List Pair → Type 0) → Side → Side → Type 0
-SidesMerged shape site image before after gone_holds come_holds old new =
-    AreMerged before after gone_holds come_holds (left_of shape site image old) (left_of shape site image new)

@@ -1,4 +1,4 @@
--- The records of a view that are left in a merge.
+-- The state of a merge: what is left of each view, and what is merged so far. A caller needs none of it.
 use Rattle.std.specs.Prelude.{◌≡◌, ℕ, ◌+◌, ◌-◌, ◌<◌, ◌≤◌, true, List, ◌∷◌, ◌++◌, length, map}
 use Rattle.std.specs.List.{range_with_len}
 use Rattle.obj_base.specs.BlockSize.{is_accepted}
@@ -10,6 +10,7 @@ use Rattle.bt_node.specs.SoundNode.{IsNode}
 use Rattle.view_change.specs.declared.leaf.Leaf.{Leaf}
 use Rattle.view_change.specs.declared.side.Side.{Side}
 use Rattle.view_change.specs.Leaves.{leaf_place, records_in}
+use Rattle.view_change.specs.Merged.{HaveChanged}
 
 -- the leaf that was read last is a sound node, where one of its records is left
 pub record IsLeafNode {K : Type 0} (shape : Shape K) (site : Site) (side : Side) : Type 0 where
@@ -66,3 +67,16 @@ pub record HaveOneLeaf (before after : List Leaf) : Type 0 where
   pub rest_after : List Leaf
   pub split_before : before ≡ leaf ∷ rest_before
   pub split_after : after ≡ leaf ∷ rest_after
+
+-- two lists are merged up to what is left of each
+pub record AreMerged (before after : List Pair) (gone_holds come_holds : List Pair → Type 0) (left_before left_after : List Pair) : Type 0 where
+  pub done_before : List Pair
+  pub done_after : List Pair
+  pub split_before : before ≡ done_before ++ left_before
+  pub split_after : after ≡ done_after ++ left_after
+  pub changed : HaveChanged done_before done_after gone_holds come_holds
+
+-- the same of two sides
+abbrev pub SidesMerged : {K : Type 0} → Shape K → Site → List ℕ → List Pair → List Pair → (List Pair → Type 0) → (List Pair → Type 0) → Side → Side → Type 0
+SidesMerged shape site image before after gone_holds come_holds old new =
+    AreMerged before after gone_holds come_holds (left_of shape site image old) (left_of shape site image new)

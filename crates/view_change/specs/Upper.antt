@@ -1,17 +1,16 @@
 -- The nodes of a tree above its leaves, and the leaves that they name.
-use Rattle.std.specs.Prelude.{◌≡◌, ℕ, ◌<◌, nat_lt, Bool, true, false, not, ◌==◌, List, map, flat_map, filter_map, Option, Some, option_map}
+use Rattle.std.specs.Prelude.{◌≡◌, ℕ, nat_lt, Bool, true, false, not, ◌==◌, List, map, filter_map, Option, Some, option_map, All}
 use Rattle.std.specs.List.{filter, list_all}
-use Rattle.apfs_model.specs.Lists.{passes, through}
+use Rattle.apfs_model.specs.Lists.{passes}
 use Rattle.obj_base.specs.declared.site.Site.{Site}
 use Rattle.bt_node.specs.Shape.{Shape}
 use Rattle.bt_node.specs.Node.{level_of}
-use Rattle.bt_node.specs.Entries.{children_of}
 use Rattle.bt_node.specs.declared.node.NodeAt.{NodeAt}
 use Rattle.bt_cursor.specs.Tree.{Tree, tree_in, root_place, node_at, block_named}
 use Rattle.bt_cursor.specs.Flat.{flat_of}
-use Rattle.bt_cursor.specs.Met.{places_of, has_node}
+use Rattle.bt_cursor.specs.Met.{places_of, has_node, is_walkable}
 use Rattle.view_change.specs.declared.leaf.Leaf.{Leaf}
-use Rattle.view_change.specs.Leaves.{records_in}
+use Rattle.view_change.specs.Leaves.{records_in, IsLeafThere}
 
 -- the place of a leaf below a root: a node of level 0
 abbrev pub is_leaf_place : NodeAt → Bool
@@ -49,7 +48,7 @@ is_high tree root = passes (node_at tree (root_place root)) (λ node. nat_lt 0 (
 pub record AreLeaves {K : Type 0} (shape : Shape K) (site : Site) (named : ℕ → Option ℕ) (image : List ℕ) (root : ℕ) (leaves : List Leaf) : Type 0 where
   pub high : is_high (tree_in shape site named image) root ≡ true
   pub there : list_all (has_node (tree_in shape site named image)) (upper_places (tree_in shape site named image) root) ≡ true
-  pub named : map (leaf_named site named) (leaf_ids (tree_in shape site named image) root) ≡ map Some leaves
+  pub blocks : map (leaf_named site named) (leaf_ids (tree_in shape site named image) root) ≡ map Some leaves
 
 -- the flat list of a tree of an image, whose root stands above level 0, is the records of its leaves
 abbrev pub FlatByLeaves : {K : Type 0} → Shape K → Type 0
@@ -57,18 +56,8 @@ FlatByLeaves shape =
     (site : Site) (named : ℕ → Option ℕ) (image : List ℕ) (root : ℕ) → is_high (tree_in shape site named image) root ≡ true
     → flat_of (tree_in shape site named image) root ≡ records_in shape site image (leaves_of shape site named image root)
 
--- the place of a node of a level below a root
-abbrev pub node_place : ℕ → ℕ → NodeAt
-node_place level oid = record { oid = oid; root = false; level = Some level }
-
--- the ids that the entries of a node of a level name; none where the node isn't there
-abbrev pub kids_of : {K : Type 0} → Tree K → ℕ → ℕ → List ℕ
-kids_of tree level oid = through (node_at tree (node_place level oid)) (children_of tree.shape)
-
--- a root that stands above level 0, and the ids that its entries name
-pub record IsTop {K : Type 0} (tree : Tree K) (root level : ℕ) (oids : List ℕ) : Type 0 where
-  pub node : List ℕ
-  pub there : node_at tree (root_place root) ≡ Some node
-  pub high : level_of node ≡ level
-  pub some : 0 < level
-  pub kids : oids ≡ children_of tree.shape node
+-- a tree is walkable if the nodes above its leaves are there, and so are its leaves
+abbrev pub WalkableByLeaves : {K : Type 0} → Shape K → Type 0
+WalkableByLeaves shape =
+    (site : Site) (named : ℕ → Option ℕ) (image : List ℕ) (root : ℕ) (leaves : List Leaf) → AreLeaves shape site named image root leaves → All (IsLeafThere shape site image) leaves
+    → is_walkable (tree_in shape site named image) root ≡ true

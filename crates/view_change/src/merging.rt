@@ -6,9 +6,9 @@ ghost use Rattle.obj_base.specs.Site.{IsSiteFor};
 ghost use Rattle.obj_base.specs.Stops.{IsFree};
 ghost use Rattle.obj_base.specs.declared.stop.Stop.TheVariants.{ReadFault};
 ghost use Rattle.bt_node.specs.Entries.{Pair};
-ghost use Rattle.view_change.specs.Sides.{IsStanding, IsNext, HaveSameLeaves, IsHungry, HaveOneLeaf, next_of, records_left, left_of};
+ghost use Rattle.view_change.specs.Sides.{IsStanding, IsNext, HaveSameLeaves, IsHungry, HaveOneLeaf, next_of, records_left, left_of, SidesMerged};
 ghost use Rattle.view_change.specs.declared.ways.Way.TheVariants.{Same};
-ghost use Rattle.view_change.specs.Merged.{LeavesChanged, SidesMerged};
+ghost use Rattle.view_change.specs.Merged.{LeavesChanged};
 
 use crate::side::{Side, have_one_leaf};
 use crate::ways::{Way, which_way};

@@ -145,6 +145,7 @@ impl Side<'_> {
         ensures stands { IfOk result (λ read. IsTrue read → IsStanding K.shape site.now self.new) }
         ensures left { (image : List ℕ) → S.bytes src.old ≡ Some image → IfOk result (λ read. IsTrue read → left_of K.shape site.now image self.new ≡ left_of K.shape site.now image self.old) }
         ensures fewer { IfOk result (λ read. IsTrue read → IsHungry self.old → length self.new.leaves.now < length self.old.leaves.now) }
+        ensures no_more { IfOk result (λ read. IsTrue read → length self.new.leaves.now ≤ length self.old.leaves.now) }
         ensures reads { IfOk result (λ read. IsTrue read → S.reads src.new + length self.new.leaves.now ≤ S.reads src.old + length self.old.leaves.now) }
         ensures free { IfErr result IsFree }
         ensures cause { IsErrOf result ReadFault → Rose (S.faults src.old) (S.faults src.new) }

@@ -14,7 +14,8 @@ ghost use Rattle.bt_cursor.specs.Tree.{tree_in, node_at, block_named};
 ghost use Rattle.bt_cursor.specs.Flat.{flat_of};
 ghost use Rattle.bt_cursor.specs.Met.{has_node};
 ghost use Rattle.view_change.specs.Leaves.{records_in};
-ghost use Rattle.view_change.specs.Upper.{upper_places, leaf_named, AreLeaves, FlatByLeaves, node_place, kids_of, IsTop};
+ghost use Rattle.view_change.specs.Upper.{upper_places, leaf_named, AreLeaves, FlatByLeaves, WalkableByLeaves};
+ghost use Rattle.view_change.specs.Levels.{node_place, kids_of, IsTop};
 
 use crate::Leaf;
 use crate::node::read_node;
@@ -25,10 +26,12 @@ use bt_node::{NodeAt, NodeView, TreeKey};
 use obj_base::{Site, Stop};
 use std::alloc::Global;
 
-/// The flat list of a tree is the records of its leaves, one leaf after the other. It does nothing.
-#[tactic(auto, using(crate::proofs::Uppers::flat_leaves))]
+/// What the leaves of a tree tell of it: its flat list is their records, one leaf after the other, and it is walkable if they are there. It
+/// does nothing.
+#[tactic(auto, using(crate::proofs::Uppers::flat_leaves, crate::proofs::Uppers::walkable_leaves))]
 pub fn leaves_tell_all<K: TreeKey>()
-    ensures { FlatByLeaves K.shape }
+    ensures records { FlatByLeaves K.shape }
+    ensures walkable { WalkableByLeaves K.shape }
 {}
 
 // The block that an id names.

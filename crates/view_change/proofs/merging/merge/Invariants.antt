@@ -2,8 +2,7 @@
 use Rattle.std.proofs.Common.{◌≡◌, ◌+◌, ◌≤◌, ℕ, List, Some, length}
 use Rattle.apfs_model.specs.Kept.{IsKept}
 use Rattle.view_change.specs.Leaves.{records_in}
-use Rattle.view_change.specs.Sides.{IsStanding}
-use Rattle.view_change.specs.Merged.{SidesMerged}
+use Rattle.view_change.specs.Sides.{IsStanding, SidesMerged}
 use Rattle.view_change.proofs.merging.merge.Given as goal
 
 abbrev pub invariant-leaves : goal.invariant-leaves

@@ -1,8 +1,7 @@
 -- The records that were passed are merged, and no leaf was begun.
 use Rattle.std.proofs.Common.{◌+◌, ℕ, List}
 use Rattle.bt_node.specs.Entries.{Pair}
-use Rattle.view_change.specs.Sides.{IsStanding, HaveSameLeaves, records_left}
-use Rattle.view_change.specs.Merged.{SidesMerged}
+use Rattle.view_change.specs.Sides.{IsStanding, HaveSameLeaves, records_left, SidesMerged}
 use Rattle.view_change.proofs.merging.merge_until_leaf.Given as goal
 
 abbrev pub invariant-records : goal.invariant-records

@@ -1,0 +1,33 @@
+use Rattle.std.proofs.Common.{rules, ◌≡◌, ◌∙◌, length, ap, arith}
+use Rattle.view_change.specs.Leaves.{records_in}
+use Rattle.view_change.proofs.Passing.{stands-first, sides-first, sides-last, none-there}
+use Rattle.view_change.proofs.merging.merge.Goals as goal
+
+pub leaves-init : goal.leaves-init
+leaves-init g c =
+    let shape = g.K.TreeKey.shape in
+    let site = c.args.site.now in
+    let left = c.in_ok-left in
+    let right = c.in_ok-right in
+    record {
+      before = stands-first shape site left.left c.requires.site.accepted left.ensures.long left.ensures.none;
+      after = stands-first shape site right.right c.requires.site.accepted right.ensures.long right.ensures.none;
+      merged = λ image told. sides-first shape site image c.args.before.now c.args.after.now (g.G.Taker.holds c.args.gone.now) (g.C.Taker.holds c.args.come.now) left.left right.right c.requires.none_gone c.requires.none_come
+          left.ensures.none left.ensures.leaves right.ensures.none right.ensures.leaves;
+      few = omega (arith, ap length left.ensures.leaves, ap length right.ensures.leaves);
+      kept = search rules;
+    }
+
+pub returns-clause-clear : goal.returns-clause-clear
+returns-clause-clear g c image told done =
+    let shape = g.K.TreeKey.shape in
+    let site = c.args.site.now in
+    let before = records_in shape site image c.args.before.now in
+    let after = records_in shape site image c.args.after.now in
+    let left = c.merge_read.new.before in
+    let right = c.merge_read.new.after in
+    let same = c.in_ok-merge_read.ensures.leaves in
+    let end : length left.leaves.now ≡ 0 = ap length same.0 ∙ none-there c.has_leaves.result (length c.leaves.left.leaves.now) c.has_leaves.ensures c.if-has_leaves.false in
+    let other : length right.leaves.now ≡ 0 = ap length same.1 ∙ none-there c.has_leaves-else-has_leaves.result (length c.leaves.right.leaves.now) c.has_leaves-else-has_leaves.ensures c.if-has_leaves-2.false in
+    sides-last shape site image before after (g.G.Taker.holds c.merge_read.new.gone) (g.C.Taker.holds c.merge_read.new.come) left right (c.in_ok-merge_read.ensures.none done) end other
+    (c.in_ok-merge_read.ensures.merged image before after (c.leaves.invariant.merged image told) done)
