@@ -1,6 +1,6 @@
 -- A walk over the nodes above the leaves of a tree, level by level.
-use Rattle.std.proofs.Common.{◌≡◌, ℕ, zero, suc, ◌+◌, ◌<◌, ◌≤◌, Bool, true, false, ◌&&◌, List, [], ◌∷◌, ◌++◌, map, length, take, get_or, Option, None, Some, Result, Ok, Err, refl, ap, sym, ◌∙◌, arith, append-nil}
-use Rattle.std.specs.Prelude.{nat_lt, is_ok, slice_get, IfOk, IsTrue}
+use Rattle.std.proofs.Common.{◌≡◌, ℕ, suc, ◌+◌, ◌<◌, ◌≤◌, Bool, true, ◌&&◌, List, [], ◌∷◌, ◌++◌, map, length, take, get_or, Option, Some, Result, Ok, Err, refl, ap, sym, ◌∙◌, subst, arith, append-nil}
+use Rattle.std.specs.Prelude.{nat_lt, is_ok, slice_get, IfOk, IfSome, IsTrue}
 use Rattle.std.specs.List.{flat_map, filter_map, list_all, cons_option}
 use Rattle.std.proofs.lemmas.Bool.Decides.{nat_tests}
 use Rattle.std.proofs.lemmas.Grind.{flat_map-append}
@@ -25,7 +25,7 @@ use Rattle.bt_cursor.specs.Met.{has_node}
 use Rattle.bt_cursor.specs.declared.fault.WalkFault.{WalkFault}
 use Rattle.view_change.specs.declared.leaf.Leaf.{Leaf}
 use Rattle.view_change.specs.Leaves.{records_in}
-use Rattle.view_change.specs.Upper.{leaf_ids, upper_places, leaf_named, leaves_of, is_high, AreLeaves}
+use Rattle.view_change.specs.Upper.{leaf_ids, upper_places, leaf_named, is_high, AreLeaves}
 use Rattle.view_change.specs.Levels.{node_place, kids_of, IsTop}
 use Rattle.view_change.proofs.Uppers.{leaf_ids_at, uppers_at, leaf_ids-root, uppers-root, ids-down, ids-end, uppers-end, uppers-down, there-down, flat_leaves}
 
@@ -84,9 +84,6 @@ left-ids tree root level oids start reads left end = sym left.leaves ∙ (ap (λ
 left-none : {K : Type 0} (tree : Tree K) (level : ℕ) (oids : List ℕ) → level ≡ 0 → flat_map (uppers_at tree level) oids ≡ []
 left-none tree level oids end = ap (λ l. flat_map (uppers_at tree l) oids) end ∙ uppers-end tree oids
 
-pub left-few : {K : Type 0} (tree : Tree K) (root level : ℕ) (oids : List ℕ) (start reads : ℕ) → IsLeft tree root level oids start reads → level ≡ 0 → reads ≤ start + length (upper_places tree root)
-left-few tree root level oids start reads left end = omega (arith, left.few, ap length (left-none tree level oids end))
-
 pub left-clear : {K : Type 0} (shape : Shape K) (site : Site) (named : ℕ → Option ℕ) (image : List ℕ) (root level : ℕ) (oids : List ℕ) (leaves : List Leaf) (start reads : ℕ) → IsLeft (tree_in shape site named image) root level oids start reads → level ≡ 0
     → map (leaf_named site named) oids ≡ map Some leaves → AreLeaves shape site named image root leaves
 left-clear shape site named image root level oids leaves start reads left end each =
@@ -144,3 +141,7 @@ pub all-more : (test : ℕ → Bool) (xs : List ℕ) (i : ℕ) → i < length xs
 all-more test xs i low before here =
     ap (list_all test) (take_more xs i 0 low)
     ∙ (list_all-append test (take i xs) (get_or xs i 0 ∷ []) ∙ and-both (list_all test (take i xs)) (list_all test (get_or xs i 0 ∷ [])) before (and-both (test (get_or xs i 0)) true here refl))
+
+-- what is said of a value that is there
+pub at-some : {X : Type 0} (o : Option X) (x : X) (P : X → Type 0) → o ≡ Some x → IfSome o P → P x
+at-some o x P e h = subst (λ p. IfSome p P) e h

@@ -1,5 +1,5 @@
 -- Steps of a merge of two sides.
-use Rattle.std.proofs.Common.{◌≡◌, ◌⊎◌, inl, inr, ℕ, zero, suc, ◌+◌, ◌<◌, ◌≤◌, ◌↔◌, Bool, false, List, [], ◌∷◌, ◌++◌, length, Result, Ok, Err, refl, ap, sym, ◌∙◌, arith}
+use Rattle.std.proofs.Common.{◌≡◌, ◌⊎◌, inl, inr, ℕ, zero, suc, ◌+◌, ◌<◌, ◌≤◌, ◌↔◌, Bool, true, false, List, [], ◌∷◌, ◌++◌, length, Result, Ok, Err, refl, ap, sym, ◌∙◌, arith}
 use Rattle.std.specs.Prelude.{IfOk, OnOk, IsTrue}
 use Rattle.std.proofs.Math.Nat.{lt_of_not-le}
 use Rattle.std.proofs.lemmas.Bool.{false≢true}
@@ -114,8 +114,8 @@ sides-last shape site image all_before all_after G C left right none end other_e
 
 -- what a test tells
 pub not-passed : (b : Bool) (n m : ℕ) → (IsTrue b ↔ (n ≤ m)) → b ≡ false → m < n
-not-passed b n m means no = lt_of_not-le (λ h. false≢true (sym no ∙ means.1 h))
+not-passed b n m means off = lt_of_not-le (λ h. false≢true (sym off ∙ means.1 h))
 
 pub none-there : (b : Bool) (n : ℕ) → (IsTrue b ↔ (0 < n)) → b ≡ false → n ≡ 0
-none-there b zero means no = refl
-none-there b (suc n) means no = let some : 0 < suc n = omega arith in absurd (false≢true (sym no ∙ means.1 some))
+none-there b zero means off = refl
+none-there b (suc n) means off = let some : 0 < suc n = omega arith in absurd (false≢true (sym off ∙ means.1 some))

@@ -7,7 +7,6 @@ use Rattle.std.proofs.lemmas.Bool.{false≢true}
 use Rattle.std.proofs.lemmas.Bool.Decides.{nat_tests}
 use Rattle.std.proofs.lemmas.Grind.{flat_map-append}
 use Rattle.std.proofs.lemmas.List.{map-append}
-use Rattle.std.proofs.lemmas.List.Concat.{flat_map_single}
 use Rattle.std.proofs.lemmas.List.Elements.{filter-append, All-head, All-tail}
 use Rattle.std.proofs.lemmas.List.Folds.{list_all-append}
 use Rattle.apfs_model.specs.Blocks.{block_of}
@@ -17,13 +16,13 @@ use Rattle.obj_base.specs.declared.stop.Bad.{Bad}
 use Rattle.obj_base.specs.declared.stop.Bad.TheVariants as bads
 use Rattle.bt_node.specs.Shape.{Shape}
 use Rattle.bt_node.specs.Node.{level_of, count_of}
-use Rattle.bt_node.specs.Entries.{Pair, pair_of, pairs_of, child_of, children_of}
+use Rattle.bt_node.specs.Entries.{Pair, pair_of, pairs_of, children_of}
 use Rattle.bt_node.specs.Soundness.{node_of}
 use Rattle.bt_node.specs.declared.node.NodeAt.{NodeAt}
 use Rattle.bt_node.specs.declared.fault.NodeFault.{NodeFault}
 use Rattle.bt_cursor.specs.Tree.{Tree, tree_in, root_place, child_in, child_place, node_at, judged, node_named, block_named}
 use Rattle.bt_cursor.specs.Flat.{flat_part, flat_of}
-use Rattle.bt_cursor.specs.Line.{Item, item_at, entries_of, line_part, line_of}
+use Rattle.bt_cursor.specs.Line.{Item, entries_of, line_part, line_of}
 use Rattle.bt_cursor.specs.Met.{places_under, places_in, places_of, has_node}
 use Rattle.view_change.specs.declared.leaf.Leaf.{Leaf}
 use Rattle.view_change.specs.Leaves.{records_in, IsLeafThere}

@@ -246,5 +246,8 @@ pub fn leaves<K: TreeKey, S: BlockSource, N: Namer>(
         oids = lower;
         level -= 1;
     }
-    Ok(named(alloc, namer, site, &oids)?)
+    let Some(leaves) = named(alloc, namer, site, &oids)? else {
+        return Ok(None);
+    };
+    Ok(Some(leaves))
 }
