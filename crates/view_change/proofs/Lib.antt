@@ -4,3 +4,4 @@ mod Lefts
 mod Passing
 mod Uppers
 mod Levels
+mod Knowing

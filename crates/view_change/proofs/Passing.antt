@@ -98,7 +98,7 @@ sides-first shape site image before after G C left right gone come none on other
     (left-first shape site image left before none on) (left-first shape site image right after other_none other_on) (merged-start all_before all_after G C gone come)
 
 -- after the last leaf
-no-leaves : (leaves : List Leaf) → length leaves ≡ 0 → leaves ≡ []
+pub no-leaves : (leaves : List Leaf) → length leaves ≡ 0 → leaves ≡ []
 no-leaves [] e = refl
 no-leaves (leaf ∷ leaves) e = absurd (omega (arith, e))
 

@@ -1,6 +1,7 @@
 -- The state of a merge: what is left of each view, and what is merged so far. A caller needs none of it.
 use Rattle.std.specs.Prelude.{◌≡◌, ℕ, ◌+◌, ◌-◌, ◌<◌, ◌≤◌, true, List, ◌∷◌, ◌++◌, length, map}
 use Rattle.std.specs.List.{range_with_len}
+use Rattle.apfs_model.specs.Lists.{In}
 use Rattle.obj_base.specs.BlockSize.{is_accepted}
 use Rattle.obj_base.specs.declared.site.Site.{Site}
 use Rattle.bt_node.specs.Shape.{Shape}
@@ -10,7 +11,7 @@ use Rattle.bt_node.specs.SoundNode.{IsNode}
 use Rattle.view_change.specs.declared.leaf.Leaf.{Leaf}
 use Rattle.view_change.specs.declared.side.Side.{Side}
 use Rattle.view_change.specs.Leaves.{leaf_place, records_in}
-use Rattle.view_change.specs.Merged.{HaveChanged}
+use Rattle.view_change.specs.Merged.{HaveChanged, AreKnown}
 
 -- the leaf that was read last is a sound node, where one of its records is left
 pub record IsLeafNode {K : Type 0} (shape : Shape K) (site : Site) (side : Side) : Type 0 where
@@ -80,3 +81,13 @@ pub record AreMerged (before after : List Pair) (gone_holds come_holds : List Pa
 abbrev pub SidesMerged : {K : Type 0} → Shape K → Site → List ℕ → List Pair → List Pair → (List Pair → Type 0) → (List Pair → Type 0) → Side → Side → Type 0
 SidesMerged shape site image before after gone_holds come_holds old new =
     AreMerged before after gone_holds come_holds (left_of shape site image old) (left_of shape site image new)
+
+-- of the leaves that weren't begun some more are passed, all of them known
+pub record HavePassed {K : Type 0} (shape : Shape K) (site : Site) (image : List ℕ) (others old new : List Leaf) : Type 0 where
+  pub passed : List Leaf
+  pub split : old ≡ passed ++ new
+  pub known : AreKnown shape site image others passed
+
+-- each of these leaves is one of those
+abbrev pub AreOf : List Leaf → List Leaf → Type 0
+AreOf these those = (leaf : Leaf) → In leaf these → In leaf those

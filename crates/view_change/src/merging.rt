@@ -6,9 +6,10 @@ ghost use Rattle.obj_base.specs.Site.{IsSiteFor};
 ghost use Rattle.obj_base.specs.Stops.{IsFree};
 ghost use Rattle.obj_base.specs.declared.stop.Stop.TheVariants.{ReadFault};
 ghost use Rattle.bt_node.specs.Entries.{Pair};
-ghost use Rattle.view_change.specs.Sides.{IsStanding, IsNext, HaveSameLeaves, IsHungry, HaveOneLeaf, next_of, records_left, left_of, SidesMerged};
+ghost use Rattle.view_change.specs.Sides.{IsStanding, IsNext, HaveSameLeaves, IsHungry, HaveOneLeaf, next_of, records_left, left_of, SidesMerged, HavePassed, AreOf};
 ghost use Rattle.view_change.specs.declared.ways.Way.TheVariants.{Same};
-ghost use Rattle.view_change.specs.Merged.{LeavesChanged};
+ghost use Rattle.view_change.specs.Merged.{LeavesChanged, AreKnown};
+ghost use Rattle.view_change.specs.declared.leaf.Leaf.{Leaf as One};
 
 use crate::side::{Side, have_one_leaf};
 use crate::ways::{Way, which_way};
@@ -159,6 +160,8 @@ fn share<K: TreeKey, G: Taker<K>, C: Taker<K>>(
     requires one { HaveOneLeaf before.old.leaves.now after.old.leaves.now }
     ensures before { OnOk result (IsStanding K.shape site.now before.new) }
     ensures after { OnOk result (IsStanding K.shape site.now after.new) }
+    ensures known { (image : List ℕ) (others : List One) → AreOf before.old.leaves.now others → IfOk result (λ taken. IsTrue taken → HavePassed K.shape site.now image others after.old.leaves.now after.new.leaves.now) }
+    ensures still { IfOk result (λ taken. IsTrue taken → AreOf before.new.leaves.now before.old.leaves.now) }
     ensures fewer { IfOk result (λ taken. IsTrue taken → length before.new.leaves.now + length after.new.leaves.now < length before.old.leaves.now + length after.old.leaves.now) }
     ensures merged { (image : List ℕ) (all_before all_after : List Pair) → SidesMerged K.shape site.now image all_before all_after (G.holds gone.old) (C.holds come.old) before.old after.old → IfOk result (λ taken. IsTrue taken → SidesMerged K.shape site.now image all_before all_after (G.holds gone.new) (C.holds come.new) before.new after.new) }
 {
@@ -184,6 +187,8 @@ fn refill<K: TreeKey, S: BlockSource>(
     ensures before { IfOk result (λ read. IsTrue read → IsStanding K.shape site.now before.new) }
     ensures after { IfOk result (λ read. IsTrue read → IsStanding K.shape site.now after.new) }
     ensures left { (image : List ℕ) → S.bytes src.old ≡ Some image → IfOk result (λ read. IsTrue read → (left_of K.shape site.now image before.new ≡ left_of K.shape site.now image before.old) × (left_of K.shape site.now image after.new ≡ left_of K.shape site.now image after.old)) }
+    ensures there { (image : List ℕ) → S.bytes src.old ≡ Some image → IfOk result (λ read. IsTrue read → HavePassed K.shape site.now image [] after.old.leaves.now after.new.leaves.now) }
+    ensures still { IfOk result (λ read. IsTrue read → AreOf before.new.leaves.now before.old.leaves.now) }
     ensures fewer { IfOk result (λ read. IsTrue read → length before.new.leaves.now + length after.new.leaves.now < length before.old.leaves.now + length after.old.leaves.now) }
     ensures reads { IfOk result (λ read. IsTrue read → S.reads src.new + (length before.new.leaves.now + length after.new.leaves.now) ≤ S.reads src.old + (length before.old.leaves.now + length after.old.leaves.now)) }
     ensures free { IfErr result IsFree }
@@ -211,6 +216,8 @@ fn advance<K: TreeKey, S: BlockSource, G: Taker<K>, C: Taker<K>>(
     requires more { 0 < length before.old.leaves.now + length after.old.leaves.now }
     ensures before { IfOk result (λ taken. IsTrue taken → IsStanding K.shape site.now before.new) }
     ensures after { IfOk result (λ taken. IsTrue taken → IsStanding K.shape site.now after.new) }
+    ensures known { (image : List ℕ) (others : List One) → S.bytes src.old ≡ Some image → AreOf before.old.leaves.now others → IfOk result (λ taken. IsTrue taken → HavePassed K.shape site.now image others after.old.leaves.now after.new.leaves.now) }
+    ensures still { IfOk result (λ taken. IsTrue taken → AreOf before.new.leaves.now before.old.leaves.now) }
     ensures fewer { IfOk result (λ taken. IsTrue taken → length before.new.leaves.now + length after.new.leaves.now < length before.old.leaves.now + length after.old.leaves.now) }
     ensures merged { (image : List ℕ) → S.bytes src.old ≡ Some image → (all_before all_after : List Pair) → SidesMerged K.shape site.now image all_before all_after (G.holds gone.old) (C.holds come.old) before.old after.old → IfOk result (λ taken. IsTrue taken → SidesMerged K.shape site.now image all_before all_after (G.holds gone.new) (C.holds come.new) before.new after.new) }
     ensures reads { IfOk result (λ taken. IsTrue taken → S.reads src.new + (length before.new.leaves.now + length after.new.leaves.now) ≤ S.reads src.old + (length before.old.leaves.now + length after.old.leaves.now)) }
@@ -243,6 +250,7 @@ pub fn merge<K: TreeKey, S: BlockSource, G: Taker<K>, C: Taker<K>>(
     requires none_gone { G.holds gone.old [] }
     requires none_come { C.holds come.old [] }
     ensures clear { (image : List ℕ) → S.bytes src.old ≡ Some image → IfOk result (λ done. IsTrue done → LeavesChanged K.shape site.now image before.now after.now (G.holds gone.new) (C.holds come.new)) }
+    ensures known { (image : List ℕ) → S.bytes src.old ≡ Some image → IfOk result (λ done. IsTrue done → AreKnown K.shape site.now image before.now after.now) }
     ensures reads { IfOk result (λ done. IsTrue done → S.reads src.new ≤ S.reads src.old + (length before.now + length after.now)) }
     ensures free { IfErr result IsFree }
     ensures cause { IsErrOf result ReadFault → Rose (S.faults src.old) (S.faults src.new) }

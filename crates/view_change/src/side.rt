@@ -1,5 +1,5 @@
 // The records of one of two views, leaf by leaf.
-ghost use Rattle.std.specs.Prelude.{◌≡◌, ◌+◌, ◌<◌, ◌≤◌, ◌∷◌, ◌↔◌, ℕ, List, Some, length, option_map, IfOk, IfErr, IsErrOf, IsTrue};
+ghost use Rattle.std.specs.Prelude.{◌≡◌, ◌+◌, ◌<◌, ◌≤◌, [], ◌∷◌, ◌↔◌, ℕ, List, Some, length, option_map, IfOk, IfErr, IsErrOf, IsTrue};
 ghost use Rattle.apfs_model.specs.Counts.{Rose};
 ghost use Rattle.apfs_model.specs.Kept.{IsKept};
 ghost use Rattle.obj_base.specs.Site.{IsSiteFor};
@@ -7,7 +7,7 @@ ghost use Rattle.obj_base.specs.Stops.{IsFree};
 ghost use Rattle.obj_base.specs.declared.stop.Stop.TheVariants.{ReadFault};
 ghost use Rattle.bt_node.specs.Entries.{pair_of};
 ghost use Rattle.view_change.specs.declared.leaf.Leaf.{Leaf as One};
-ghost use Rattle.view_change.specs.Sides.{IsStanding, IsSameLeaf, IsHungry, HaveOneLeaf, left_of};
+ghost use Rattle.view_change.specs.Sides.{IsStanding, IsSameLeaf, IsHungry, HaveOneLeaf, left_of, HavePassed, AreOf};
 
 use crate::Leaf;
 use crate::node::read_node;
@@ -116,21 +116,25 @@ impl Side<'_> {
         requires hungry { IsHungry self.old }
         ensures stands { IfOk result (λ read. IsTrue read → IsStanding K.shape site.now self.new) }
         ensures left { (image : List ℕ) → S.bytes src.old ≡ Some image → IfOk result (λ read. IsTrue read → left_of K.shape site.now image self.new ≡ left_of K.shape site.now image self.old) }
+        ensures there { (image : List ℕ) → S.bytes src.old ≡ Some image → IfOk result (λ read. IsTrue read → HavePassed K.shape site.now image [] self.old.leaves.now self.new.leaves.now) }
+        ensures still { IfOk result (λ read. IsTrue read → AreOf self.new.leaves.now self.old.leaves.now) }
         ensures fewer { IfOk result (λ read. IsTrue read → length self.new.leaves.now + 1 ≡ length self.old.leaves.now) }
         ensures reads { S.reads src.new ≤ S.reads src.old + 1 }
         ensures free { IfErr result IsFree }
         ensures cause { IsErrOf result ReadFault → Rose (S.faults src.old) (S.faults src.new) }
         ensures kept { IsKept S.bytes S.bytes_len S.faults src.old src.new }
     {
-        let leaf = self.leaves[0];
+        let Some((leaf, rest)) = self.leaves.split_first() else {
+            return Ok(false);
+        };
         let at = leaf.place();
         if !read_node::<K, S>(src, site, &at, leaf.block, &mut self.block)? {
             return Ok(false);
         }
-        self.leaf = leaf;
+        self.leaf = *leaf;
+        self.leaves = rest;
         self.count = NodeView::<K>::kept(&self.block, &at, site).len();
         self.next = 0;
-        self.skip();
         Ok(true)
     }
 
@@ -144,6 +148,8 @@ impl Side<'_> {
         requires stands { IsStanding K.shape site.now self.old }
         ensures stands { IfOk result (λ read. IsTrue read → IsStanding K.shape site.now self.new) }
         ensures left { (image : List ℕ) → S.bytes src.old ≡ Some image → IfOk result (λ read. IsTrue read → left_of K.shape site.now image self.new ≡ left_of K.shape site.now image self.old) }
+        ensures there { (image : List ℕ) → S.bytes src.old ≡ Some image → IfOk result (λ read. IsTrue read → HavePassed K.shape site.now image [] self.old.leaves.now self.new.leaves.now) }
+        ensures still { IfOk result (λ read. IsTrue read → AreOf self.new.leaves.now self.old.leaves.now) }
         ensures fewer { IfOk result (λ read. IsTrue read → IsHungry self.old → length self.new.leaves.now < length self.old.leaves.now) }
         ensures no_more { IfOk result (λ read. IsTrue read → length self.new.leaves.now ≤ length self.old.leaves.now) }
         ensures reads { IfOk result (λ read. IsTrue read → S.reads src.new + length self.new.leaves.now ≤ S.reads src.old + length self.old.leaves.now) }
