@@ -250,7 +250,7 @@ pub fn merge<K: TreeKey, S: BlockSource, G: Taker<K>, C: Taker<K>>(
     requires none_gone { G.holds gone.old [] }
     requires none_come { C.holds come.old [] }
     ensures clear { (image : List ℕ) → S.bytes src.old ≡ Some image → IfOk result (λ done. IsTrue done → LeavesChanged K.shape site.now image before.now after.now (G.holds gone.new) (C.holds come.new)) }
-    ensures known { (image : List ℕ) → S.bytes src.old ≡ Some image → IfOk result (λ done. IsTrue done → AreKnown K.shape site.now image before.now after.now) }
+    ensures leaves_known { (image : List ℕ) → S.bytes src.old ≡ Some image → IfOk result (λ done. IsTrue done → AreKnown K.shape site.now image before.now after.now) }
     ensures reads { IfOk result (λ done. IsTrue done → S.reads src.new ≤ S.reads src.old + (length before.now + length after.now)) }
     ensures free { IfErr result IsFree }
     ensures cause { IsErrOf result ReadFault → Rose (S.faults src.old) (S.faults src.new) }

@@ -154,14 +154,14 @@ fn below<K: TreeKey, S: BlockSource, N: Namer>(
     Ok(Some(lower))
 }
 
-/// A level of a tree below its root, and the ids of its nodes.
+// How far a root stands above the leaves, and the ids that its entries name.
 #[derive(Drop)]
-struct Level {
+struct Root {
     level: u16,
     oids: Vec<u64>,
 }
 
-// The ids that a root above level 0 names, with its own level; none where the root isn't there or is a leaf.
+// The root of an id; none where it isn't there or is a leaf.
 fn top<K: TreeKey, S: BlockSource, N: Namer>(
     alloc: Global,
     src: &mut S,
@@ -169,7 +169,7 @@ fn top<K: TreeKey, S: BlockSource, N: Namer>(
     site: &Site,
     root: u64,
     block: &mut [u8],
-) -> Result<Option<Level>, Stop<()>>
+) -> Result<Option<Root>, Stop<()>>
     requires site { IsSiteFor site.now (S.bytes_len src.old) }
     requires long { length block.old ≡ site.now.block_size }
     ensures top { (image : List ℕ) → S.bytes src.old ≡ Some image → IfOk result (λ found. IfSome found (λ top. IsTop (tree_in K.shape site.now (N.named namer.now) image) root top.level top.oids.items)) }
@@ -193,7 +193,7 @@ fn top<K: TreeKey, S: BlockSource, N: Namer>(
     }
     let mut oids = Vec::new(alloc);
     put_children::<K>(block, &at, site, &mut oids)?;
-    Ok(Some(Level { level, oids }))
+    Ok(Some(Root { level, oids }))
 }
 
 // The leaves of some ids; none where one of these names no block of the container.

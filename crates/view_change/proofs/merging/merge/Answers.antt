@@ -36,8 +36,8 @@ returns-clause-clear g c image told done =
     sides-last shape site image before after (g.G.Taker.holds c.merge_read.new.gone) (g.C.Taker.holds c.merge_read.new.come) left right (c.in_ok-merge_read.ensures.none done) end other
     (c.in_ok-merge_read.ensures.merged image before after (c.leaves.invariant.merged image told) done)
 
-pub returns-clause-known : goal.returns-clause-known
-returns-clause-known g c image told done =
+pub returns-clause-leaves_known : goal.returns-clause-leaves_known
+returns-clause-leaves_known g c image told done =
     let end = none-there c.has_leaves-else-has_leaves.result (length c.leaves.right.leaves.now) c.has_leaves-else-has_leaves.ensures c.if-has_leaves-2.false in
     passes-all g.K.TreeKey.shape c.args.site.now image c.args.before.now c.args.after.now c.leaves.right.leaves.now (no-leaves c.leaves.right.leaves.now end) (c.leaves.invariant.known image told)
 
