@@ -36,7 +36,7 @@ leaf_in oid block = record { oid = oid; block = block }
 abbrev pub leaf_named : Site → (ℕ → Option ℕ) → ℕ → Option Leaf
 leaf_named site named oid = option_map (leaf_in oid) (block_named site named oid)
 
--- the leaves of a tree of an image
+-- the leaves of a tree of an image that have a block
 abbrev pub leaves_of : {K : Type 0} → Shape K → Site → (ℕ → Option ℕ) → List ℕ → ℕ → List Leaf
 leaves_of shape site named image root = filter_map (leaf_named site named) (leaf_ids (tree_in shape site named image) root)
 
