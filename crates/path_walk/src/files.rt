@@ -127,28 +127,43 @@ fn run_of(entries: &[EntryFact], id: u64) -> &[EntryFact]
     &rest[..count]
 }
 
+/// The entries of a directory that are followed and listed.
+#[tactic(auto, unfolding(crate::specs::Found::entries_in))]
+pub(crate) fn directory_in(entries: &[EntryFact], id: u64) -> &[EntryFact]
+    ensures counted { (facts : Facts) → entries.now ≡ facts.entries → Rises entries.now → HasEntries facts result.now }
+    ensures all { (facts : Facts) → entries.now ≡ facts.entries → Rises entries.now → whats result.now ≡ entries_in facts id }
+{
+    if is_reserved(id) {
+        return &[];
+    }
+    run_of(entries, id)
+}
+
+/// The inode of an id, the first where there are more.
+pub(crate) fn inode_in(inodes: &[InodeFact], id: u64) -> Option<&InodeFact>
+    ensures { (facts : Facts) → inodes.now ≡ facts.inodes → Rises inodes.now → option_map (λ inode. inode.now.what) result ≡ inode_at facts id }
+{
+    let from = inodes_below(inodes, id);
+    if from == inodes.len() {
+        return None;
+    }
+    let at = &inodes[from];
+    if at.id() == id { Some(at) } else { None }
+}
+
 impl Files {
     /// The entries of a directory that are followed and listed.
-    #[tactic(auto, unfolding(crate::specs::Found::entries_in))]
     pub fn directory(&self, id: u64) -> &[EntryFact]
         ensures counted { (facts : Facts) → Remembers facts self.now.entries.items self.now.inodes.items → HasEntries facts result.now }
         ensures all { (facts : Facts) → Remembers facts self.now.entries.items self.now.inodes.items → whats result.now ≡ entries_in facts id }
     {
-        if is_reserved(id) {
-            return &[];
-        }
-        run_of(&self.entries, id)
+        directory_in(&self.entries, id)
     }
 
     /// The inode of an id, the first where there are more.
     pub(crate) fn inode(&self, id: u64) -> Option<&InodeFact>
         ensures { (facts : Facts) → Remembers facts self.now.entries.items self.now.inodes.items → option_map (λ inode. inode.now.what) result ≡ inode_at facts id }
     {
-        let from = inodes_below(&self.inodes, id);
-        if from == self.inodes.len() {
-            return None;
-        }
-        let at = &self.inodes[from];
-        if at.id() == id { Some(at) } else { None }
+        inode_in(&self.inodes, id)
     }
 }

@@ -17,14 +17,15 @@ ghost use Rattle.path_walk.specs.Calls.{IsNoAnswer};
 ghost use Rattle.path_walk.specs.Parts.{whats, by_part, along, targets_by, Remembers, PartNeeds, AlongNeeds, WhereTold, of_any};
 ghost use Rattle.view_tree.specs.Parts.{is_opened_target, told_of, told_from, row_at, kept_under, IsMemo, IsTaken, TakesFrom, HasAll, IsUnderway, IsTreeStop, IsTreeKnown, StaysKept, AreKeptIn, AreRowsKept, KeepsTaken, KeepsFrom, KeepsPath};
 
-use crate::kept::{KeptRows, Row};
+use crate::kept::{KeptRows, LentRow, Row};
+use crate::lines::push_name_of;
 use apfs_model::{Bytes, NoMemory};
-use fs_name::{Names, push_shown};
+use fs_name::Names;
 use obj_base::Stop;
 use path_walk::by_memory::{go_by, root, target_in};
 use path_walk::choice::{choose_number, parts};
-use path_walk::order::kept_by_name;
-use path_walk::{Files, KeptTarget, PathStop, Place, ROOT};
+use path_walk::order::lent_by_name;
+use path_walk::{Files, KeptTarget, LentTarget, PathStop, Place};
 use std::alloc::Global;
 use std::collections::BTreeMap;
 use view_facts::EntryFact;
@@ -37,11 +38,25 @@ const DIRECTORY: u16 = 4;
 // The first id of those that aren't kept for the format's own use (`MIN_USER_INO_NUM`).
 const FIRST_USER: u64 = 16;
 
-// Whether a target is a directory that is entered where it is met on the way.
+// Whether what has a kind and an id is a directory that is entered where it is met on the way.
+fn is_entered(kind: u16, id: u64) -> bool
+    ensures { result ≡ ((kind == directory_kind) && nat_le first_user_id id) }
+{
+    kind == DIRECTORY && FIRST_USER <= id
+}
+
+// Whether a target is such a directory.
 fn is_opened(target: &KeptTarget) -> bool
     ensures { result ≡ is_opened_target target.now }
 {
-    target.kind() == DIRECTORY && FIRST_USER <= target.id()
+    is_entered(target.kind(), target.id())
+}
+
+// Whether a target whose name isn't copied is such a directory.
+fn is_opened_lent(target: &LentTarget<'_>) -> bool
+    ensures { result ≡ is_opened_target target.now }
+{
+    is_entered(target.kind(), target.id())
 }
 
 // Whether a place is a directory that is entered where it is met on the way.
@@ -104,27 +119,33 @@ fn meet(
 }
 
 // Meets the entries of a directory, each with its number there, and gives what they lead to, in their order.
-fn meet_entries(
+fn meet_entries<'a>(
     alloc: Global,
     files: &Files,
     view: &View,
     memo: &mut BTreeMap<u64, (u64, usize)>,
     id: u64,
-    entries: &[EntryFact],
-) -> Result<Vec<KeptTarget>, Stop<PathStop>>
+    entries: &'a [EntryFact],
+) -> Result<Vec<LentTarget<'a>>, Stop<PathStop>>
     ensures no_read { IsErrOf result ReadFault → ⊥ }
     ensures gives { (facts : Facts) (path : List ℕ) (first : ℕ) → IsUnderway facts path first files.now.entries.items files.now.inodes.items → IsEntered facts first id → HasAll facts id entries.now → IsMemo facts path memo.old → IfOk result (λ targets. targets.items ≡ targets_by facts (whats entries.now)) }
     ensures kept { (facts : Facts) (path : List ℕ) (first : ℕ) → IsUnderway facts path first files.now.entries.items files.now.inodes.items → IsEntered facts first id → HasAll facts id entries.now → IsMemo facts path memo.old → OnOk result (IsMemo facts path memo.new) }
     ensures stops { (facts : Facts) (path : List ℕ) (first : ℕ) → IsUnderway facts path first files.now.entries.items files.now.inodes.items → IsEntered facts first id → HasAll facts id entries.now → IsMemo facts path memo.old → IfErr result (IsTreeStop facts view.now path) }
     ensures all { (facts : Facts) (path : List ℕ) (first : ℕ) → IsUnderway facts path first files.now.entries.items files.now.inodes.items → IsEntered facts first id → HasAll facts id entries.now → IsMemo facts path memo.old → OnOk result (StaysKept memo.old memo.new × AreKeptIn facts memo.new id) }
 {
-    let mut targets = Vec::new(alloc);
+    let mut targets = Vec::with_capacity(alloc, entries.len())?;
     for (number, entry) in entries.iter().enumerate() {
-        let target = match target_in(alloc, files, view, entry) {
+        let target = match target_in(alloc, &files.inodes, view, entry) {
             Ok(target) => target,
             Err(stop) => return Err(stop),
         };
-        match meet(view, memo, (id, number), target.id(), is_opened(&target)) {
+        match meet(
+            view,
+            memo,
+            (id, number),
+            target.id(),
+            is_opened_lent(&target),
+        ) {
             Ok(()) => {}
             Err(stop) => return Err(stop),
         }
@@ -134,40 +155,41 @@ fn meet_entries(
 }
 
 // What a directory that is entered has, by name.
-fn enter(
+fn enter<'a>(
     alloc: Global,
-    files: &Files,
+    files: &'a Files,
     view: &View,
     memo: &mut BTreeMap<u64, (u64, usize)>,
     id: u64,
-) -> Result<Vec<KeptTarget>, Stop<PathStop>>
+) -> Result<Vec<LentTarget<'a>>, Stop<PathStop>>
     ensures no_read { IsErrOf result ReadFault → ⊥ }
     ensures gives { (facts : Facts) (path : List ℕ) (first : ℕ) → IsUnderway facts path first files.now.entries.items files.now.inodes.items → IsEntered facts first id → IsMemo facts path memo.old → IfOk result (λ targets. targets.items ≡ map target_of (children facts id)) }
     ensures kept { (facts : Facts) (path : List ℕ) (first : ℕ) → IsUnderway facts path first files.now.entries.items files.now.inodes.items → IsEntered facts first id → IsMemo facts path memo.old → OnOk result (IsMemo facts path memo.new) }
     ensures stops { (facts : Facts) (path : List ℕ) (first : ℕ) → IsUnderway facts path first files.now.entries.items files.now.inodes.items → IsEntered facts first id → IsMemo facts path memo.old → IfErr result (IsTreeStop facts view.now path) }
     ensures all { (facts : Facts) (path : List ℕ) (first : ℕ) → IsUnderway facts path first files.now.entries.items files.now.inodes.items → IsEntered facts first id → IsMemo facts path memo.old → OnOk result (StaysKept memo.old memo.new × AreKeptIn facts memo.new id) }
 {
-    let targets = match meet_entries(alloc, files, view, memo, id, files.directory(id)) {
+    let mut targets = match meet_entries(alloc, files, view, memo, id, files.directory(id)) {
         Ok(targets) => targets,
         Err(stop) => return Err(stop),
     };
-    let sorted = kept_by_name(targets)?;
-    Ok(sorted)
+    lent_by_name(&mut targets)?;
+    Ok(targets)
 }
 
 // Puts targets on the rows that are left, the first of them on top.
-fn put_on(
+fn put_on<'a>(
     shared: usize,
-    targets: Vec<KeptTarget>,
-    left: &mut Vec<Row>,
+    targets: Vec<LentTarget<'a>>,
+    left: &mut Vec<LentRow<'a>>,
 ) -> Result<(), Stop<PathStop>>
     ensures no_read { IsErrOf result ReadFault → ⊥ }
     ensures put { OnOk result (reverse left.new.items ≡ map (row_at shared) targets.items ++ reverse left.old.items) }
     ensures memory { IfErr result (λ stop. stop ≡ stops.NoMemory) }
 {
+    left.reserve(targets.len())?;
     let mut targets = targets;
     'put: while let Some(target) = targets.pop() {
-        left.push(Row { shared, target })?;
+        left.push(LentRow::of(shared, target))?;
     }
     Ok(())
 }
@@ -180,24 +202,21 @@ fn lone_row(alloc: Global, place: Place) -> Result<KeptRows, Stop<PathStop>>
 {
     let target = place.target();
     let mut path = Vec::new(alloc);
-    if target.id == ROOT {
-        path.extend_from_slice(target.name.as_slice())?;
-    } else {
-        push_shown(&mut path, target.name.as_slice())?;
-    }
+    push_name_of(&mut path, target.id(), target.name().as_bytes())?;
     let path = Bytes::from_slice(alloc, path.as_slice())?;
+    let target = target.target(alloc)?;
     Ok(KeptRows::lone(path, target))
 }
 
 // Puts the rows right under a row on those that are left.
-fn go_under(
+fn go_under<'a>(
     alloc: Global,
-    files: &Files,
+    files: &'a Files,
     view: &View,
     memo: &mut BTreeMap<u64, (u64, usize)>,
     target: &KeptTarget,
     shared: usize,
-    left: &mut Vec<Row>,
+    left: &mut Vec<LentRow<'a>>,
 ) -> Result<(), Stop<PathStop>>
     ensures no_read { IsErrOf result ReadFault → ⊥ }
     ensures gives { (facts : Facts) (path : List ℕ) (first : ℕ) → IsUnderway facts path first files.now.entries.items files.now.inodes.items → (is_opened_target target.now ≡ true → IsEntered facts first target.now.id) → IsMemo facts path memo.old → OnOk result (reverse left.new.items ≡ kept_under facts shared target.now ++ reverse left.old.items) }
@@ -243,9 +262,10 @@ fn rows_below(
     let mut path = Vec::new(alloc);
     let mut rows = Vec::new(alloc);
     'rows: while rows.len() < files.entries.len() {
-        let Some(row) = left.pop() else {
+        let Some(top) = left.pop() else {
             return Ok(rows);
         };
+        let row = top.kept(alloc)?;
         row.lead(&mut path)?;
         path.push(b'/')?;
         let shared = path.len();
