@@ -1,5 +1,6 @@
 pub mod Tallies
 pub mod Orders
+pub mod Leads
 pub mod Entries
 pub mod Laws
 pub mod Answers

@@ -59,17 +59,18 @@ pub fn place_in(
     }
 }
 
-/// What an entry's file is, as it is told.
+/// What an entry's file is, as it is told. What `shift` has is how far the last file's id is from the place of its inode, 0 at first; it decides nothing.
 pub fn target_in<'a>(
     alloc: Global,
     inodes: &[InodeFact],
     view: &View,
     entry: &'a EntryFact,
+    shift: &mut u64,
 ) -> Result<LentTarget<'a>, Stop<PathStop>>
     ensures no_read { IsErrOf result ReadFault → ⊥ }
     ensures known { (facts : Facts) → inodes.now ≡ facts.inodes → Rises inodes.now → IsTargetKnown facts view.now entry.now result }
 {
-    match inode_in(inodes, entry.file_id()) {
+    match inode_in(inodes, entry.file_id(), shift) {
         Some(inode) => Ok(LentTarget::of(entry, inode)),
         None => {
             let fault = lacking(alloc, view, entry)?;
@@ -204,8 +205,9 @@ fn targets_in<'a>(
     ensures needs { (facts : Facts) → inodes.now ≡ facts.inodes → Rises inodes.now → HasEntries facts entries.now → WhereTold (HaveFiles facts (whats entries.now)) result }
 {
     let mut targets = Vec::with_capacity(alloc, entries.len())?;
+    let mut shift = 0;
     for entry in entries {
-        let target = match target_in(alloc, inodes, view, entry) {
+        let target = match target_in(alloc, inodes, view, entry, &mut shift) {
             Ok(target) => target,
             Err(stop) => return Err(stop),
         };

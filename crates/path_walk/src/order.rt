@@ -44,7 +44,8 @@ pub(crate) fn lead(name: &str) -> u64
 pub fn lent_by_name(targets: &mut Vec<LentTarget<'_>>) -> Result<(), AllocError>
     ensures { OnOk result (targets.new.items ≡ order.by_name (λ target. target.name) targets.old.items) }
 {
-    targets.sort_by(|a, b| a.order(b))
+    targets.sort_by(|a, b| a.order(b))?;
+    Ok(())
 }
 
 /// The same targets, each with a name of its own.

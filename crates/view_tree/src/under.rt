@@ -134,8 +134,9 @@ fn meet_entries<'a>(
     ensures all { (facts : Facts) (path : List ℕ) (first : ℕ) → IsUnderway facts path first files.now.entries.items files.now.inodes.items → IsEntered facts first id → HasAll facts id entries.now → IsMemo facts path memo.old → OnOk result (StaysKept memo.old memo.new × AreKeptIn facts memo.new id) }
 {
     let mut targets = Vec::with_capacity(alloc, entries.len())?;
+    let mut shift = 0;
     for (number, entry) in entries.iter().enumerate() {
-        let target = match target_in(alloc, &files.inodes, view, entry) {
+        let target = match target_in(alloc, &files.inodes, view, entry, &mut shift) {
             Ok(target) => target,
             Err(stop) => return Err(stop),
         };
