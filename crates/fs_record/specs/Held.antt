@@ -1,8 +1,8 @@
 -- What a name that is kept holds.
 use Rattle.std.specs.Prelude.{ℕ, List}
 use Rattle.std.specs.String.{string_bytes}
-use Rattle.fs_record.specs.declared.Held.{Held}
-use Rattle.fs_record.specs.declared.Held.TheVariants.{Short, Long}
+use Rattle.fs_record.specs.declared.kept.Held.{Held}
+use Rattle.fs_record.specs.declared.kept.Held.TheVariants.{Short, Long}
 
 -- the bytes of a name that is kept
 abbrev pub bytes_of : Held → List ℕ
