@@ -49,7 +49,7 @@ pub fn lent_by_name(targets: &mut Vec<LentTarget<'_>>) -> Result<(), AllocError>
 }
 
 /// The same targets, each with a name of its own.
-pub fn kept_of(alloc: Global, lent: &[LentTarget<'_>]) -> Result<Vec<KeptTarget>, NoMemory>
+pub(crate) fn kept_of(alloc: Global, lent: &[LentTarget<'_>]) -> Result<Vec<KeptTarget>, NoMemory>
     ensures { IfOk result (λ kept. kept.items ≡ lent.now) }
 {
     let mut kept = Vec::with_capacity(alloc, lent.len())?;

@@ -38,6 +38,9 @@ const DIRECTORY: u16 = 4;
 // The first id of those that aren't kept for the format's own use (`MIN_USER_INO_NUM`).
 const FIRST_USER: u64 = 16;
 
+// Room for so many rows isn't given back.
+const MANY: usize = 4096;
+
 // Whether what has a kind and an id is a directory that is entered where it is met on the way.
 fn is_entered(kind: u16, id: u64) -> bool
     ensures { result ≡ ((kind == directory_kind) && nat_le first_user_id id) }
@@ -195,6 +198,16 @@ fn put_on<'a>(
     Ok(())
 }
 
+// Gives memory back where few rows are left of many. It leaves room, so that rows which come and go don't make and free it each time.
+fn thin(left: &mut Vec<LentRow<'_>>)
+    ensures { left.new.items ≡ left.old.items }
+{
+    let room = left.capacity();
+    if MANY < room && left.len() < room / 8 * 3 {
+        left.shrink_to(room / 2);
+    }
+}
+
 // The row of a place that is no directory: the path of the root is its name, and that of another one is its name as it is shown.
 fn lone_row(alloc: Global, place: Place) -> Result<KeptRows, Stop<PathStop>>
     ensures no_read { IsErrOf result ReadFault → ⊥ }
@@ -226,6 +239,7 @@ fn go_under<'a>(
     ensures all { (facts : Facts) (path : List ℕ) (first : ℕ) → IsUnderway facts path first files.now.entries.items files.now.inodes.items → (is_opened_target target.now ≡ true → IsEntered facts first target.now.id) → IsMemo facts path memo.old → OnOk result (StaysKept memo.old memo.new × (is_opened_target target.now ≡ true → AreKeptIn facts memo.new target.now.id)) }
 {
     if !is_opened(target) {
+        thin(left);
         return Ok(());
     }
     let targets = match enter(alloc, files, view, memo, target.id()) {
