@@ -20,12 +20,12 @@ ghost use Rattle.path_walk.specs.Found.{entries_in, entry_named, step, walk, fou
 ghost use Rattle.path_walk.specs.Needs.{StepNeeds, PathNeeds, ChildrenNeed, ListingNeeds, HaveFiles};
 ghost use Rattle.path_walk.specs.Parts.{whats, by_part, along, target_by, targets_by, Leads, HasEntriesIn, NeedsIn, PartNeeds, AlongNeeds, WhereLed};
 
+use crate::Answer;
 use crate::choice::{choose, parts};
 use crate::kept::{KeptInode, KeptTarget, Place};
 use crate::onward::Onward;
 use crate::order::{alone, kept_by_name};
 use crate::search::{Wanted, find_entries, find_inode};
-use crate::Answer;
 use apfs_model::NoMemory;
 use blk_source::BlockSource;
 use bt_cursor::{Cursor, Namer, WalkFault};

@@ -20,8 +20,8 @@ ghost use Rattle.path_walk.specs.Needs.{HasEntriesOf, ListingNeeds, RestsOn};
 ghost use Rattle.path_walk.specs.Parts.{Leads, NeedsIn, WhereLed};
 
 use crate::onward::Onward;
-use crate::whole::{gather_view, raise};
 use crate::order::told;
+use crate::whole::{gather_view, raise};
 use crate::{KeptTarget, PathStop, Target, by_memory, by_search};
 use blk_source::BlockSource;
 use bt_cursor::WalkFault;
@@ -165,6 +165,6 @@ pub fn list<S: BlockSource>(
         Ok(kept) => kept,
         Err(stop) => return Err(stop),
     };
-    let targets = told(alloc, kept)?;
+    let targets = told(alloc, &kept)?;
     Ok(targets)
 }

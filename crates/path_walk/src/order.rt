@@ -70,12 +70,12 @@ pub(crate) fn alone(alloc: Global, place: Place) -> Result<Vec<KeptTarget>, Allo
 }
 
 /// The same targets, each with a name of its own.
-pub(crate) fn told(alloc: Global, kept: Vec<KeptTarget>) -> Result<Vec<Target>, NoMemory>
-    ensures { IfOk result (λ targets. targets.items ≡ kept.items) }
+pub(crate) fn told(alloc: Global, kept: &[KeptTarget]) -> Result<Vec<Target>, NoMemory>
+    ensures { IfOk result (λ targets. targets.items ≡ kept.now) }
 {
     let mut targets = Vec::with_capacity(alloc, kept.len())?;
-    'kept: for one in kept {
-        let target = one.target(alloc)?;
+    'kept: for target in kept {
+        let target = target.target(alloc)?;
         targets.push(target)?;
     }
     Ok(targets)

@@ -103,7 +103,8 @@ const NAMES_OF_THE_ROOT: &str =
     "8 21 0 Ab\n8 22 0 ReadMe\n8 20 0 aB\n4 16 0 d\n8 23 0 no directory\n4 3 0 private\n4 7 0 reserved\n";
 
 // By the bytes of the names: one that another begins with comes first, and the bytes of U+00E9, c3 a9, after those of letters and digits.
-const ALIKE: &str = "8 27 0 p\n8 23 0 photo-0\n8 21 0 photo-01\n8 24 0 photo-01a\n8 22 0 photo-01a.long\n8 20 0 photo-01b\n8 25 0 photo-01\u{e9}\n8 26 0 photo-0\u{e9}\n";
+const ALIKE: &str =
+    "8 27 0 p\n8 23 0 photo-0\n8 21 0 photo-01\n8 24 0 photo-01a\n8 22 0 photo-01a.long\n8 20 0 photo-01b\n8 25 0 photo-01\u{e9}\n8 26 0 photo-0\u{e9}\n";
 
 // What paths list.
 fn listings() -> [Case; 16] {
