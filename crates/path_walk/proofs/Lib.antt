@@ -1,6 +1,5 @@
 pub mod Tallies
 pub mod Orders
-pub mod Leads
 pub mod Entries
 pub mod Laws
 pub mod Answers

@@ -14,7 +14,7 @@ use crate::choice::{choose, parts};
 use crate::files::{Files, directory_in, inode_in};
 use crate::kept::{KeptInode, KeptTarget, Place};
 use crate::lent::LentTarget;
-use crate::order::{alone, kept_of, lent_by_name};
+use crate::order::{alone, kept_by_name, kept_of};
 use crate::{Answer, PathStop};
 use apfs_model::{Bytes, NoMemory};
 use fs_name::Names;
@@ -216,7 +216,7 @@ fn targets_in<'a>(
     Ok(targets)
 }
 
-/// What a directory has, by name. The inodes go before the targets are sorted.
+/// What a directory has, by name. The inodes go before names are copied, and the entries before the targets are sorted.
 pub(crate) fn children(
     alloc: Global,
     files: Files,
@@ -228,14 +228,16 @@ pub(crate) fn children(
     ensures needs { (facts : Facts) → Remembers facts files.entries.items files.inodes.items → WhereTold (ChildrenNeed facts of_any id) result }
 {
     let Files { entries, inodes } = files;
-    let mut targets = match targets_in(alloc, &inodes, view, directory_in(&entries, id)) {
+    let targets = match targets_in(alloc, &inodes, view, directory_in(&entries, id)) {
         Ok(targets) => targets,
         Err(stop) => return Err(stop),
     };
     drop(inodes);
-    lent_by_name(&mut targets)?;
     let kept = kept_of(alloc, &targets)?;
-    Ok(kept)
+    drop(targets);
+    drop(entries);
+    let sorted = kept_by_name(kept)?;
+    Ok(sorted)
 }
 
 /// What is listed of a path.

@@ -1,6 +1,5 @@
 // Targets by name.
-ghost use Rattle.std.specs.Prelude.{◌≡◌, ◌<◌, [], ◌∷◌, slice_index_or, IfOk, OnOk};
-ghost use Rattle.path_walk.specs.Leads.{IsLead};
+ghost use Rattle.std.specs.Prelude.{◌≡◌, [], ◌∷◌, IfOk};
 ghost use Rattle.path_walk.specs.Order as order;
 ghost use Rattle.path_walk.specs.Places.{target_of};
 
@@ -10,42 +9,13 @@ use crate::lent::LentTarget;
 use apfs_model::NoMemory;
 use std::alloc::{AllocError, Global};
 
-/// The same of targets that are kept, which are few.
-pub(crate) fn kept_by_name(mut targets: Vec<KeptTarget>) -> Result<Vec<KeptTarget>, AllocError>
+/// Some targets by the bytes of their names, those of one name in their order. The names lie in place, so that a sort reads them where it moves them, and the comparison of
+/// texts takes their first sixteen bytes as two numbers.
+pub fn kept_by_name(mut targets: Vec<KeptTarget>) -> Result<Vec<KeptTarget>, AllocError>
     ensures { IfOk result (λ sorted. sorted.items ≡ order.by_name (λ target. target.name) targets.items) }
 {
     targets.sort_by(|a, b| a.name().cmp(b.name()))?;
     Ok(targets)
-}
-
-// The byte of a name at a place, 0 after its end.
-fn byte_at(name: &str, at: usize) -> u64
-    ensures byte { result ≡ slice_index_or name.now at 0 }
-    ensures small { result < 256 }
-{
-    match name.as_bytes().get(at) {
-        Some(byte) => *byte as u64,
-        None => 0,
-    }
-}
-
-/// The first eight bytes of a name as a number, zeros for those that it lacks.
-pub(crate) fn lead(name: &str) -> u64
-    ensures { IsLead result name.now }
-{
-    let mut lead = 0;
-    'bytes: for at in 0..8 {
-        lead = lead * 256 + byte_at(name, at);
-    }
-    lead
-}
-
-/// Some targets by the bytes of their names, those of one name in their order.
-pub fn lent_by_name(targets: &mut Vec<LentTarget<'_>>) -> Result<(), AllocError>
-    ensures { OnOk result (targets.new.items ≡ order.by_name (λ target. target.name) targets.old.items) }
-{
-    targets.sort_by(|a, b| a.order(b))?;
-    Ok(())
 }
 
 /// The same targets, each with a name of its own.

@@ -12,10 +12,10 @@ ghost use Rattle.view_tree.specs.Texts.{row_text, tree_text};
 ghost use Rattle.view_tree.specs.declared.kept.PutStop.TheVariants as puts;
 
 use crate::lines::{push_kept, push_line, push_name};
-use apfs_model::{Bytes, NoMemory};
+use apfs_model::Bytes;
 use blk_source::Sink;
 use obj_base::Stop;
-use path_walk::{KeptTarget, LentTarget, PathStop, Target};
+use path_walk::{KeptTarget, PathStop, Target};
 use std::alloc::{AllocError, Global};
 use std::marker::Model;
 
@@ -51,41 +51,6 @@ impl Row {
     {
         path.truncate(self.shared);
         push_name(path, self.target.name().as_bytes())
-    }
-}
-
-/// A row whose name isn't copied. Contracts see it as the row.
-#[derive(Drop)]
-pub(crate) struct LentRow<'a> {
-    shared: usize,
-    target: LentTarget<'a>,
-}
-
-impl<'a> Model for LentRow<'a> {
-    ghost use Rattle.view_tree.specs.declared.kept.Row as rows;
-
-    ghost Value = { rows.Row };
-
-    ghost view = { λ a. record { shared = a.shared; target = a.target } };
-}
-
-impl<'a> LentRow<'a> {
-    /// The row of a target, which shares so many bytes of its path.
-    pub(crate) fn of(shared: usize, target: LentTarget<'a>) -> LentRow<'a>
-        ensures { result ≡ record { shared = shared; target = target } }
-    {
-        LentRow { shared, target }
-    }
-
-    /// The row with a name of its own.
-    pub(crate) fn kept(self, alloc: Global) -> Result<Row, NoMemory>
-        ensures { IfOk result (λ row. row ≡ self) }
-    {
-        let target = self.target.kept(alloc)?;
-        Ok(Row {
-            shared: self.shared,
-            target,
-        })
     }
 }
 

@@ -17,15 +17,15 @@ ghost use Rattle.path_walk.specs.Calls.{IsNoAnswer};
 ghost use Rattle.path_walk.specs.Parts.{whats, by_part, along, targets_by, Remembers, PartNeeds, AlongNeeds, WhereTold, of_any};
 ghost use Rattle.view_tree.specs.Parts.{is_opened_target, told_of, told_from, row_at, kept_under, IsMemo, IsTaken, TakesFrom, HasAll, IsUnderway, IsTreeStop, IsTreeKnown, StaysKept, AreKeptIn, AreRowsKept, KeepsTaken, KeepsFrom, KeepsPath};
 
-use crate::kept::{KeptRows, LentRow, Row};
+use crate::kept::{KeptRows, Row};
 use crate::lines::push_name_of;
 use apfs_model::{Bytes, NoMemory};
 use fs_name::Names;
 use obj_base::Stop;
 use path_walk::by_memory::{go_by, root, target_in};
 use path_walk::choice::{choose_number, parts};
-use path_walk::order::lent_by_name;
-use path_walk::{Files, KeptTarget, LentTarget, PathStop, Place};
+use path_walk::order::kept_by_name;
+use path_walk::{Files, KeptTarget, PathStop, Place};
 use std::alloc::Global;
 use std::collections::BTreeMap;
 use view_facts::EntryFact;
@@ -41,25 +41,11 @@ const FIRST_USER: u64 = 16;
 // Room for so many rows isn't given back.
 const MANY: usize = 4096;
 
-// Whether what has a kind and an id is a directory that is entered where it is met on the way.
-fn is_entered(kind: u16, id: u64) -> bool
-    ensures { result ≡ ((kind == directory_kind) && nat_le first_user_id id) }
-{
-    kind == DIRECTORY && FIRST_USER <= id
-}
-
-// Whether a target is such a directory.
+// Whether a target is a directory that is entered where it is met on the way.
 fn is_opened(target: &KeptTarget) -> bool
     ensures { result ≡ is_opened_target target.now }
 {
-    is_entered(target.kind(), target.id())
-}
-
-// Whether a target whose name isn't copied is such a directory.
-fn is_opened_lent(target: &LentTarget<'_>) -> bool
-    ensures { result ≡ is_opened_target target.now }
-{
-    is_entered(target.kind(), target.id())
+    target.kind() == DIRECTORY && FIRST_USER <= target.id()
 }
 
 // Whether a place is a directory that is entered where it is met on the way.
@@ -122,14 +108,14 @@ fn meet(
 }
 
 // Meets the entries of a directory, each with its number there, and gives what they lead to, in their order.
-fn meet_entries<'a>(
+fn meet_entries(
     alloc: Global,
     files: &Files,
     view: &View,
     memo: &mut BTreeMap<u64, (u64, usize)>,
     id: u64,
-    entries: &'a [EntryFact],
-) -> Result<Vec<LentTarget<'a>>, Stop<PathStop>>
+    entries: &[EntryFact],
+) -> Result<Vec<KeptTarget>, Stop<PathStop>>
     ensures no_read { IsErrOf result ReadFault → ⊥ }
     ensures gives { (facts : Facts) (path : List ℕ) (first : ℕ) → IsUnderway facts path first files.now.entries.items files.now.inodes.items → IsEntered facts first id → HasAll facts id entries.now → IsMemo facts path memo.old → IfOk result (λ targets. targets.items ≡ targets_by facts (whats entries.now)) }
     ensures kept { (facts : Facts) (path : List ℕ) (first : ℕ) → IsUnderway facts path first files.now.entries.items files.now.inodes.items → IsEntered facts first id → HasAll facts id entries.now → IsMemo facts path memo.old → OnOk result (IsMemo facts path memo.new) }
@@ -139,17 +125,12 @@ fn meet_entries<'a>(
     let mut targets = Vec::with_capacity(alloc, entries.len())?;
     let mut shift = 0;
     for (number, entry) in entries.iter().enumerate() {
-        let target = match target_in(alloc, &files.inodes, view, entry, &mut shift) {
-            Ok(target) => target,
+        let lent = match target_in(alloc, &files.inodes, view, entry, &mut shift) {
+            Ok(lent) => lent,
             Err(stop) => return Err(stop),
         };
-        match meet(
-            view,
-            memo,
-            (id, number),
-            target.id(),
-            is_opened_lent(&target),
-        ) {
+        let target = lent.kept(alloc)?;
+        match meet(view, memo, (id, number), target.id(), is_opened(&target)) {
             Ok(()) => {}
             Err(stop) => return Err(stop),
         }
@@ -159,32 +140,32 @@ fn meet_entries<'a>(
 }
 
 // What a directory that is entered has, by name.
-fn enter<'a>(
+fn enter(
     alloc: Global,
-    files: &'a Files,
+    files: &Files,
     view: &View,
     memo: &mut BTreeMap<u64, (u64, usize)>,
     id: u64,
-) -> Result<Vec<LentTarget<'a>>, Stop<PathStop>>
+) -> Result<Vec<KeptTarget>, Stop<PathStop>>
     ensures no_read { IsErrOf result ReadFault → ⊥ }
     ensures gives { (facts : Facts) (path : List ℕ) (first : ℕ) → IsUnderway facts path first files.now.entries.items files.now.inodes.items → IsEntered facts first id → IsMemo facts path memo.old → IfOk result (λ targets. targets.items ≡ map target_of (children facts id)) }
     ensures kept { (facts : Facts) (path : List ℕ) (first : ℕ) → IsUnderway facts path first files.now.entries.items files.now.inodes.items → IsEntered facts first id → IsMemo facts path memo.old → OnOk result (IsMemo facts path memo.new) }
     ensures stops { (facts : Facts) (path : List ℕ) (first : ℕ) → IsUnderway facts path first files.now.entries.items files.now.inodes.items → IsEntered facts first id → IsMemo facts path memo.old → IfErr result (IsTreeStop facts view.now path) }
     ensures all { (facts : Facts) (path : List ℕ) (first : ℕ) → IsUnderway facts path first files.now.entries.items files.now.inodes.items → IsEntered facts first id → IsMemo facts path memo.old → OnOk result (StaysKept memo.old memo.new × AreKeptIn facts memo.new id) }
 {
-    let mut targets = match meet_entries(alloc, files, view, memo, id, files.directory(id)) {
+    let targets = match meet_entries(alloc, files, view, memo, id, files.directory(id)) {
         Ok(targets) => targets,
         Err(stop) => return Err(stop),
     };
-    lent_by_name(&mut targets)?;
-    Ok(targets)
+    let sorted = kept_by_name(targets)?;
+    Ok(sorted)
 }
 
 // Puts targets on the rows that are left, the first of them on top.
-fn put_on<'a>(
+fn put_on(
     shared: usize,
-    targets: Vec<LentTarget<'a>>,
-    left: &mut Vec<LentRow<'a>>,
+    targets: Vec<KeptTarget>,
+    left: &mut Vec<Row>,
 ) -> Result<(), Stop<PathStop>>
     ensures no_read { IsErrOf result ReadFault → ⊥ }
     ensures put { OnOk result (reverse left.new.items ≡ map (row_at shared) targets.items ++ reverse left.old.items) }
@@ -193,13 +174,13 @@ fn put_on<'a>(
     left.reserve(targets.len())?;
     let mut targets = targets;
     'put: while let Some(target) = targets.pop() {
-        left.push(LentRow::of(shared, target))?;
+        left.push(Row { shared, target })?;
     }
     Ok(())
 }
 
 // Gives memory back where few rows are left of many. It leaves room, so that rows which come and go don't make and free it each time.
-fn thin(left: &mut Vec<LentRow<'_>>)
+fn thin(left: &mut Vec<Row>)
     ensures { left.new.items ≡ left.old.items }
 {
     let room = left.capacity();
@@ -223,14 +204,14 @@ fn lone_row(alloc: Global, place: Place) -> Result<KeptRows, Stop<PathStop>>
 }
 
 // Puts the rows right under a row on those that are left.
-fn go_under<'a>(
+fn go_under(
     alloc: Global,
-    files: &'a Files,
+    files: &Files,
     view: &View,
     memo: &mut BTreeMap<u64, (u64, usize)>,
     target: &KeptTarget,
     shared: usize,
-    left: &mut Vec<LentRow<'a>>,
+    left: &mut Vec<Row>,
 ) -> Result<(), Stop<PathStop>>
     ensures no_read { IsErrOf result ReadFault → ⊥ }
     ensures gives { (facts : Facts) (path : List ℕ) (first : ℕ) → IsUnderway facts path first files.now.entries.items files.now.inodes.items → (is_opened_target target.now ≡ true → IsEntered facts first target.now.id) → IsMemo facts path memo.old → OnOk result (reverse left.new.items ≡ kept_under facts shared target.now ++ reverse left.old.items) }
@@ -277,10 +258,9 @@ fn rows_below(
     let mut path = Vec::new(alloc);
     let mut rows = Vec::new(alloc);
     'rows: while rows.len() < files.entries.len() {
-        let Some(top) = left.pop() else {
+        let Some(row) = left.pop() else {
             return Ok(rows);
         };
-        let row = top.kept(alloc)?;
         row.lead(&mut path)?;
         path.push(b'/')?;
         let shared = path.len();

@@ -29,7 +29,8 @@ returns-clause-known c facts r =
     let counted : HasEntries facts es = c.directory_in.ensures.counted facts (c.deref-2.ensures.value ∙ r.all_entries) (rising _ _ c.deref-2.ensures.value r.entries_rise) in
     let all = c.directory_in.ensures.all facts (c.deref-2.ensures.value ∙ r.all_entries) (rising _ _ c.deref-2.ensures.value r.entries_rise) in
     let same : c.in-Ok.targets.items ≡ targets_by facts (whats es) = ok_same (targets_by facts (whats es)) c.in-Ok.targets.items (c.in-Ok.ensures.known facts (c.deref.ensures.value ∙ r.all_inodes) (rising _ _ c.deref.ensures.value r.inodes_rise) counted) in
-    ap Ok (sym (c.in_ok-kept.ensures ∙ (c.deref-3.ensures.value ∙ children_told facts c.args.id (whats es) c.in-Ok.targets.items c.lent_by_name.new.targets.items all same c.in_ok-lent_by_name.ensures)))
+    let copied : c.in_ok-kept.kept.items ≡ targets_by facts (whats es) = c.in_ok-kept.ensures ∙ (c.deref-3.ensures.value ∙ same) in
+    ap Ok (sym (children_told facts c.args.id (whats es) c.in_ok-kept.kept.items c.in_ok-sorted.sorted.items all copied c.in_ok-sorted.ensures))
 
 pub returns-in-Err-clause-needs : goal.returns-in-Err-clause-needs
 returns-in-Err-clause-needs c facts r =

@@ -11,7 +11,7 @@ returns-in-Err-clause-stops c facts path first way entered memo =
 pub returns-clause-gives : goal.returns-clause-gives
 returns-clause-gives c facts path first way entered memo =
     let all : HasAll facts c.args.id c.directory.result.now = record { all = c.directory.ensures.all facts way.remembers; each = c.directory.ensures.counted facts way.remembers } in
-    children_told facts c.args.id (whats c.directory.result.now) c.in-Ok.targets.items c.lent_by_name.new.targets.items (c.directory.ensures.all facts way.remembers) (c.in-Ok.ensures.gives facts path first way entered all memo) c.in_ok-lent_by_name.ensures
+    children_told facts c.args.id (whats c.directory.result.now) c.in-Ok.targets.items c.in_ok-sorted.sorted.items (c.directory.ensures.all facts way.remembers) (c.in-Ok.ensures.gives facts path first way entered all memo) c.in_ok-sorted.ensures
 
 pub returns-clause-kept : goal.returns-clause-kept
 returns-clause-kept c facts path first way entered memo =

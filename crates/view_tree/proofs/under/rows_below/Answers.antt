@@ -46,22 +46,22 @@ returns-in_default-clause-gives c facts path way memo =
 pub returns-in-Err-go_under-clause-stops : goal.returns-in-Err-go_under-clause-stops
 returns-in-Err-go_under-clause-stops c facts path way memo =
     let h = c.rows.invariant.walk facts path way memo in
-    let row : Row = c.in_ok-row.row in
+    let row : Row = c.in-Some.row in
     let here : left_told c.rows.path.items (reverse c.rows.left.items) ≡ (path_after c.rows.path.items row, row.target) ∷ left_told (take row.shared c.rows.path.items) (reverse c.pop.new.self.items) =
-    ap (left_told c.rows.path.items) (popped c.rows.left.items c.pop.new.self.items c.in-Some.top c.in-Some.ensures.items ∙ ap (λ (r : Row). r ∷ reverse c.pop.new.self.items) (sym c.in_ok-row.ensures)) in
+    ap (left_told c.rows.path.items) (popped c.rows.left.items c.pop.new.self.items row c.in-Some.ensures.items) in
     let rows : RowsEntered facts c.args.id ((path_after c.rows.path.items row, row.target) ∷ left_told (take row.shared c.rows.path.items) (reverse c.pop.new.self.items)) = subst (λ (l : List (List ℕ × Target)). RowsEntered facts c.args.id l) here h.1.0 in
     c.in-Err-go_under.ensures.stops facts path c.args.id way (rows (path_after c.rows.path.items row, row.target) (inl refl)) h.1.1.0
 
 pub rows-preserved : goal.rows-preserved
 rows-preserved c =
-    let row : Row = c.in_ok-row.row in
+    let row : Row = c.in-Some.row in
     let before : List ℕ = c.rows.path.items in
     let after : List ℕ = c.push.new.self.items in
     let left : List Row = reverse c.rows.left.items in
     let rest : List Row = reverse c.pop.new.self.items in
     let next : List Row = reverse c.go_under.new.left.items in
     let told : List ℕ × Target = (path_after before row, row.target) in
-    let taken : left ≡ row ∷ rest = popped c.rows.left.items c.pop.new.self.items c.in-Some.top c.in-Some.ensures.items ∙ ap (λ (r : Row). r ∷ rest) (sym c.in_ok-row.ensures) in
+    let taken : left ≡ row ∷ rest = popped c.rows.left.items c.pop.new.self.items row c.in-Some.ensures.items in
     let led : after ≡ path_after before row ++ slash ∷ [] = c.in_ok-push.ensures.items ∙ ap (λ (p : List ℕ). p ++ slash ∷ []) c.in_ok-lead.ensures in
     let long : c.len-shared.result ≡ length after = omega (arith, c.len-shared.ensures) in
     let more : told_rows [] c.push-in-rows.new.self.items ≡ told_rows [] c.rows.rows.items ++ told ∷ [] =
