@@ -6,6 +6,5 @@ mod meant;
 mod meant_view;
 mod on_path;
 mod put;
-mod target_line;
 
 pub use put::{Line, put_lines};

@@ -19,6 +19,14 @@ pub trait Line {
     /// The line as its bytes.
     fn line(&self, alloc: Global) -> Result<Vec<u8>, AllocError>
         ensures { IfOk result (λ line. line.items ≡ text self.now) };
+
+    /// Adds the line to those that wait.
+    fn add(&self, alloc: Global, waiting: &mut Vec<u8>) -> Result<(), AllocError>
+        ensures { OnOk result (waiting.new.items ≡ waiting.old.items ++ text self.now) }
+    {
+        let line = self.line(alloc)?;
+        waiting.extend_from_slice(line.as_slice())
+    }
 }
 
 /// Puts a text whole.
@@ -29,14 +37,6 @@ pub fn put<W: Sink>(text: &[u8], out: &mut W) -> Result<(), Stopped>
         Ok(()) => Ok(()),
         Err(_) => Err(Stopped::WriteFailed),
     }
-}
-
-// Adds the line of an item to those that wait.
-fn add_line<T: Line>(alloc: Global, item: &T, waiting: &mut Vec<u8>) -> Result<(), AllocError>
-    ensures { OnOk result (waiting.new.items ≡ waiting.old.items ++ T.text item.now) }
-{
-    let line = item.line(alloc)?;
-    waiting.extend_from_slice(line.as_slice())
 }
 
 // Puts what waits, if anything does.
@@ -65,7 +65,7 @@ fn pass<T: Line, W: Sink>(
 ) -> Result<(), Stopped>
     ensures { Passes waiting.old.items (T.text item.now) waiting.new.items result (sunk W.contents W.faults out.old out.new) }
 {
-    add_line(alloc, item, waiting)?;
+    item.add(alloc, waiting)?;
     if waiting.len() < PIECE {
         return Ok(());
     }

@@ -3,8 +3,11 @@ use crate::search::{NO_GUESS, OrderBy};
 use apfs_model::NoMemory;
 use std::alloc::Global;
 
-/// Places in a list from which searches start: one for each run of ids, of the first item that isn't of an id below the run. They tell nothing
-/// that a search doesn't test, so a wrong one costs time alone.
+/// How many bits of a cut id tell where it stands in its run.
+const RUN_BITS: u32 = 3;
+
+/// Places in a list from which searches start: one for each run of ids, of the first item that isn't of an id below the run. The list of them is small enough
+/// to stay in the processor's cache. They tell nothing that a search doesn't test, so a wrong one costs time alone.
 #[derive(Debug, Drop)]
 pub(crate) struct Guesses {
     first: u64,
@@ -12,7 +15,7 @@ pub(crate) struct Guesses {
     places: Vec<u32>,
 }
 
-// By how many bits ids are cut, so that as many runs as items come out, or twice as many: where ids lie side by side each has a run of its own.
+// By how many bits ids are cut, so that as many numbers as items come out, or twice as many: where ids lie side by side each has a number of its own.
 fn shift_for(first: u64, last: u64, items: usize) -> u32 {
     let span = last.saturating_sub(first);
     match span.checked_div(items as u64) {
@@ -37,6 +40,16 @@ fn close(places: &mut [u32]) {
     }
 }
 
+// The run of a cut id.
+fn run(cut: u64) -> usize {
+    cut.wrapping_shr(RUN_BITS) as usize
+}
+
+// Where a cut id stands in its run.
+fn within_run(cut: u64) -> usize {
+    (cut & ((1 << RUN_BITS) - 1)) as usize
+}
+
 impl Guesses {
     /// No guess for any id.
     pub(crate) fn none(alloc: Global) -> Guesses {
@@ -57,32 +70,33 @@ impl Guesses {
         let last = B::id(&list[list.len() - 1]);
         guesses.first = first;
         guesses.shift = shift_for(first, last, list.len());
-        let runs = guesses.run(last).saturating_add(1);
+        let runs = run(guesses.cut(last)).saturating_add(1);
         guesses.places = unplaced(alloc, runs)?;
         guesses.note::<T, B>(list);
         close(&mut guesses.places);
         Ok(guesses)
     }
 
-    // The run of an id.
-    fn run(&self, id: u64) -> usize {
-        id.saturating_sub(self.first).wrapping_shr(self.shift) as usize
+    // An id without the bits that are cut.
+    fn cut(&self, id: u64) -> u64 {
+        id.saturating_sub(self.first).wrapping_shr(self.shift)
     }
 
     // Gives each run that has an item the place of its first one, which is the last that is noted.
     fn note<T, B: OrderBy<T>>(&mut self, list: &[T]) {
         for place in (0..list.len()).rev() {
-            let run = self.run(B::id(&list[place]));
+            let run = run(self.cut(B::id(&list[place])));
             if let Some(first) = self.places.get_mut(run) {
                 *first = u32::try_from(place).unwrap_or(u32::MAX);
             }
         }
     }
 
-    /// Where a search for an id starts.
+    /// Where a search for an id starts: as far from the first of its run as its number is from the run's first one, which is right where ids lie side by side.
     pub(crate) fn near(&self, id: u64) -> usize {
-        match self.places.get(self.run(id)) {
-            Some(place) => *place as usize,
+        let cut = self.cut(id);
+        match self.places.get(run(cut)) {
+            Some(place) => (*place as usize).saturating_add(within_run(cut)),
             None => NO_GUESS,
         }
     }

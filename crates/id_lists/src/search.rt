@@ -26,7 +26,7 @@ impl OrderBy<u64> for ByItself {
 /// Where a search starts of whose place nothing is known.
 pub const NO_GUESS: usize = usize::MAX;
 
-/// How many items are tried, from a guess on, before the whole list is searched.
+/// How many items are tried, from a guess on and before it, before the whole list is searched.
 const STEPS: usize = 8;
 
 /// Whether a list is in the order of its ids.
@@ -93,6 +93,10 @@ pub fn below<T, B: OrderBy<T>>(list: &[T], id: u64, guess: usize) -> usize
     let at = onward::<T, B>(list, id, guess);
     if is_point::<T, B>(list, id, at) {
         return at;
+    }
+    let before = onward::<T, B>(list, id, guess.saturating_sub(STEPS));
+    if is_point::<T, B>(list, id, before) {
+        return before;
     }
     searched::<T, B>(list, id)
 }

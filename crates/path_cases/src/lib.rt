@@ -1,4 +1,4 @@
-//! What paths lead to in made containers, and what files and attributes hold there. For tests alone.
+//! What paths lead to in made containers, what files and attributes hold there, and which blocks views hold. For tests alone.
 #![tactic(auto)]
 
 #[cfg(test)]

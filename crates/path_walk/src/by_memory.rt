@@ -7,19 +7,20 @@ ghost use Rattle.path_walk.specs.Found.{step, found};
 ghost use Rattle.path_walk.specs.Listing.{children, listing};
 ghost use Rattle.path_walk.specs.Needs.{StepNeeds, PathNeeds, HaveFiles, ChildrenNeed, ListingNeeds};
 ghost use Rattle.path_walk.specs.Calls.{IsNoAnswer};
-ghost use Rattle.path_walk.specs.Parts.{whats, by_part, along, rooted, lacking_entry, targets_by, HasEntries, Remembers, IsKnown, IsPlaceKnown, IsTargetKnown, PartNeeds, AlongNeeds, WhereTold, of_any};
+ghost use Rattle.path_walk.specs.Parts.{whats, by_part, along, rooted, lacking_entry, targets_by, HasEntries, Remembers, Rises, IsKnown, IsPlaceKnown, IsTargetKnown, PartNeeds, AlongNeeds, WhereTold, of_any};
 
 use crate::by_search::{ROOT, place_of, root_of_inode};
 use crate::choice::{choose, parts};
-use crate::files::Files;
+use crate::files::{Files, directory_in, inode_in};
 use crate::kept::{KeptInode, KeptTarget, Place};
-use crate::order::{alone, by_name};
-use crate::{Answer, PathStop, Target};
+use crate::lent::LentTarget;
+use crate::order::{alone, kept_by_name, kept_of};
+use crate::{Answer, PathStop};
 use apfs_model::{Bytes, NoMemory};
 use fs_name::Names;
 use obj_base::Stop;
 use std::alloc::Global;
-use view_facts::EntryFact;
+use view_facts::{EntryFact, InodeFact};
 use view_rules::TreeFault;
 use vol_view::View;
 
@@ -58,21 +59,19 @@ pub fn place_in(
     }
 }
 
-/// What an entry's file is, as it is told.
-pub fn target_in(
+/// What an entry's file is, as it is told. What `shift` has is how far the last file's id is from the place of its inode, 0 at first; it decides nothing.
+pub fn target_in<'a>(
     alloc: Global,
-    files: &Files,
+    inodes: &[InodeFact],
     view: &View,
-    entry: &EntryFact,
-) -> Result<KeptTarget, Stop<PathStop>>
+    entry: &'a EntryFact,
+    shift: &mut u64,
+) -> Result<LentTarget<'a>, Stop<PathStop>>
     ensures no_read { IsErrOf result ReadFault → ⊥ }
-    ensures known { (facts : Facts) → Remembers facts files.now.entries.items files.now.inodes.items → IsTargetKnown facts view.now entry.now result }
+    ensures known { (facts : Facts) → inodes.now ≡ facts.inodes → Rises inodes.now → IsTargetKnown facts view.now entry.now result }
 {
-    match files.inode(entry.file_id()) {
-        Some(inode) => {
-            let target = KeptTarget::of(alloc, entry, inode)?;
-            Ok(target)
-        }
+    match inode_in(inodes, entry.file_id(), shift) {
+        Some(inode) => Ok(LentTarget::of(entry, inode)),
         None => {
             let fault = lacking(alloc, view, entry)?;
             Err(Stop::Found(PathStop::Fault(fault)))
@@ -195,59 +194,65 @@ pub(crate) fn locate(
 }
 
 // What some entries lead to, in their order.
-fn targets_in(
+fn targets_in<'a>(
     alloc: Global,
-    files: &Files,
+    inodes: &[InodeFact],
     view: &View,
-    entries: &[EntryFact],
-) -> Result<Vec<Target>, Stop<PathStop>>
+    entries: &'a [EntryFact],
+) -> Result<Vec<LentTarget<'a>>, Stop<PathStop>>
     ensures no_read { IsErrOf result ReadFault → ⊥ }
-    ensures known { (facts : Facts) → Remembers facts files.now.entries.items files.now.inodes.items → HasEntries facts entries.now → IsKnown facts view.now (λ targets. targets.items) (Ok (targets_by facts (whats entries.now))) result }
-    ensures needs { (facts : Facts) → Remembers facts files.now.entries.items files.now.inodes.items → HasEntries facts entries.now → WhereTold (HaveFiles facts (whats entries.now)) result }
+    ensures known { (facts : Facts) → inodes.now ≡ facts.inodes → Rises inodes.now → HasEntries facts entries.now → IsKnown facts view.now (λ targets. targets.items) (Ok (targets_by facts (whats entries.now))) result }
+    ensures needs { (facts : Facts) → inodes.now ≡ facts.inodes → Rises inodes.now → HasEntries facts entries.now → WhereTold (HaveFiles facts (whats entries.now)) result }
 {
-    let mut targets = Vec::new(alloc);
+    let mut targets = Vec::with_capacity(alloc, entries.len())?;
+    let mut shift = 0;
     for entry in entries {
-        let place = match place_in(alloc, files, view, entry) {
-            Ok(place) => place,
+        let target = match target_in(alloc, inodes, view, entry, &mut shift) {
+            Ok(target) => target,
             Err(stop) => return Err(stop),
         };
-        targets.push(place.target())?;
+        targets.push(target)?;
     }
     Ok(targets)
 }
 
-/// What a directory has, by name.
+/// What a directory has, by name. The inodes go before names are copied, and the entries before the targets are sorted.
 pub(crate) fn children(
     alloc: Global,
-    files: &Files,
+    files: Files,
     view: &View,
     id: u64,
-) -> Result<Vec<Target>, Stop<PathStop>>
+) -> Result<Vec<KeptTarget>, Stop<PathStop>>
     ensures no_read { IsErrOf result ReadFault → ⊥ }
-    ensures known { (facts : Facts) → Remembers facts files.now.entries.items files.now.inodes.items → IsKnown facts view.now (λ targets. targets.items) (Ok (map target_of (children facts id))) result }
-    ensures needs { (facts : Facts) → Remembers facts files.now.entries.items files.now.inodes.items → WhereTold (ChildrenNeed facts of_any id) result }
+    ensures known { (facts : Facts) → Remembers facts files.entries.items files.inodes.items → IsKnown facts view.now (λ targets. targets.items) (Ok (map target_of (children facts id))) result }
+    ensures needs { (facts : Facts) → Remembers facts files.entries.items files.inodes.items → WhereTold (ChildrenNeed facts of_any id) result }
 {
-    let targets = match targets_in(alloc, files, view, files.directory(id)) {
+    let Files { entries, inodes } = files;
+    let targets = match targets_in(alloc, &inodes, view, directory_in(&entries, id)) {
         Ok(targets) => targets,
         Err(stop) => return Err(stop),
     };
-    let sorted = by_name(targets)?;
+    drop(inodes);
+    let kept = kept_of(alloc, &targets)?;
+    drop(targets);
+    drop(entries);
+    let sorted = kept_by_name(kept)?;
     Ok(sorted)
 }
 
 /// What is listed of a path.
 pub(crate) fn list(
     alloc: Global,
-    files: &Files,
+    files: Files,
     names: Names,
     view: &View,
     path: &str,
-) -> Result<Vec<Target>, Stop<PathStop>>
+) -> Result<Vec<KeptTarget>, Stop<PathStop>>
     ensures no_read { IsErrOf result ReadFault → ⊥ }
-    ensures known { (facts : Facts) → facts.names ≡ names → Remembers facts files.now.entries.items files.now.inodes.items → IsKnown facts view.now (λ targets. targets.items) (listing facts path.now) result }
-    ensures needs { (facts : Facts) → facts.names ≡ names → Remembers facts files.now.entries.items files.now.inodes.items → WhereTold (ListingNeeds facts of_any path.now) result }
+    ensures known { (facts : Facts) → facts.names ≡ names → Remembers facts files.entries.items files.inodes.items → IsKnown facts view.now (λ targets. targets.items) (listing facts path.now) result }
+    ensures needs { (facts : Facts) → facts.names ≡ names → Remembers facts files.entries.items files.inodes.items → WhereTold (ListingNeeds facts of_any path.now) result }
 {
-    let place = match locate(alloc, files, names, view, path) {
+    let place = match locate(alloc, &files, names, view, path) {
         Ok(place) => place,
         Err(stop) => return Err(stop),
     };

@@ -20,17 +20,18 @@ ghost use Rattle.path_walk.specs.Found.{entries_in, entry_named, step, walk, fou
 ghost use Rattle.path_walk.specs.Needs.{StepNeeds, PathNeeds, ChildrenNeed, ListingNeeds, HaveFiles};
 ghost use Rattle.path_walk.specs.Parts.{whats, by_part, along, target_by, targets_by, Leads, HasEntriesIn, NeedsIn, PartNeeds, AlongNeeds, WhereLed};
 
+use crate::Answer;
 use crate::choice::{choose, parts};
-use crate::kept::{KeptInode, Place};
+use crate::kept::{KeptInode, KeptTarget, Place};
 use crate::onward::Onward;
-use crate::order::{alone, by_name};
+use crate::order::{alone, kept_by_name};
 use crate::search::{Wanted, find_entries, find_inode};
-use crate::{Answer, Target};
-use apfs_model::{Bytes, NoMemory};
+use apfs_model::NoMemory;
 use blk_source::BlockSource;
 use bt_cursor::{Cursor, Namer, WalkFault};
 use bt_keys::FsTreeKey;
 use fs_name::Names;
+use fs_record::KeptName;
 use obj_base::{Site, Stop};
 use omap_map::At;
 use std::alloc::Global;
@@ -55,7 +56,7 @@ pub(crate) fn place_of(
 ) -> Result<Place, NoMemory>
     ensures { IfOk result (λ place. place ≡ placed entry.now.what.file_id entry.now.what.name inode) }
 {
-    let name = Bytes::from_slice(alloc, entry.name().as_bytes())?;
+    let name = KeptName::of(alloc, entry.name())?;
     Ok(Place {
         id: entry.file_id(),
         name,
@@ -67,7 +68,7 @@ pub(crate) fn place_of(
 pub(crate) fn root_of_inode(alloc: Global, inode: KeptInode) -> Result<Place, NoMemory>
     ensures { IfOk result (λ place. place ≡ placed 2 (0x2f ∷ []) inode) }
 {
-    let name = Bytes::from_slice(alloc, b"/")?;
+    let name = KeptName::of(alloc, "/")?;
     Ok(Place {
         id: ROOT,
         name,
@@ -297,7 +298,7 @@ fn target_at<K: FsTreeKey, S: BlockSource, N: Namer>(
     cursor: &mut Cursor<K, N>,
     names: Names,
     entry: &EntryFact,
-) -> Result<Option<Target>, Stop<WalkFault>>
+) -> Result<Option<KeptTarget>, Stop<WalkFault>>
     requires site { IsSiteFor (site_of cursor.old) (S.bytes_len src.old) }
     requires hashed { are_hashed names ≡ K.HASHED }
     ensures site { site_of cursor.new ≡ site_of cursor.old }
@@ -323,7 +324,7 @@ fn targets_at<K: FsTreeKey, S: BlockSource, N: Namer>(
     cursor: &mut Cursor<K, N>,
     names: Names,
     entries: &[EntryFact],
-) -> Result<Option<Vec<Target>>, Stop<WalkFault>>
+) -> Result<Option<Vec<KeptTarget>>, Stop<WalkFault>>
     requires site { IsSiteFor (site_of cursor.old) (S.bytes_len src.old) }
     requires hashed { are_hashed names ≡ K.HASHED }
     ensures site { site_of cursor.new ≡ site_of cursor.old }
@@ -357,7 +358,7 @@ fn children<K: FsTreeKey, S: BlockSource, N: Namer>(
     cursor: &mut Cursor<K, N>,
     names: Names,
     id: u64,
-) -> Result<Option<Vec<Target>>, Stop<WalkFault>>
+) -> Result<Option<Vec<KeptTarget>>, Stop<WalkFault>>
     requires site { IsSiteFor (site_of cursor.old) (S.bytes_len src.old) }
     requires hashed { are_hashed names ≡ K.HASHED }
     ensures site { site_of cursor.new ≡ site_of cursor.old }
@@ -384,7 +385,7 @@ fn children<K: FsTreeKey, S: BlockSource, N: Namer>(
     let Some(targets) = found else {
         return Ok(None);
     };
-    let sorted = by_name(targets)?;
+    let sorted = kept_by_name(targets)?;
     Ok(Some(sorted))
 }
 
@@ -396,7 +397,7 @@ fn listed<K: FsTreeKey, S: BlockSource, N: Namer>(
     cursor: &mut Cursor<K, N>,
     names: Names,
     place: Place,
-) -> Result<Option<Vec<Target>>, Stop<WalkFault>>
+) -> Result<Option<Vec<KeptTarget>>, Stop<WalkFault>>
     requires site { IsSiteFor (site_of cursor.old) (S.bytes_len src.old) }
     requires hashed { are_hashed names ≡ K.HASHED }
     ensures site { site_of cursor.new ≡ site_of cursor.old }
@@ -423,7 +424,7 @@ pub(crate) fn list<K: FsTreeKey, S: BlockSource, N: Namer>(
     cursor: &mut Cursor<K, N>,
     names: Names,
     path: &str,
-) -> Result<Onward<Vec<Target>>, Stop<WalkFault>>
+) -> Result<Onward<Vec<KeptTarget>>, Stop<WalkFault>>
     requires site { IsSiteFor (site_of cursor.old) (S.bytes_len src.old) }
     requires hashed { are_hashed names ≡ K.HASHED }
     ensures site { site_of cursor.new ≡ site_of cursor.old }

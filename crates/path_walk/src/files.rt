@@ -105,8 +105,8 @@ fn searched(inodes: &[InodeFact], id: u64) -> usize
     )
 }
 
-// How many inodes are of ids below an id. A guess is tested, and never believed.
-fn inodes_below(inodes: &[InodeFact], id: u64) -> usize
+// How many inodes are of ids below an id, by a guess that is tested, or by a search.
+fn sought(inodes: &[InodeFact], id: u64) -> usize
     ensures bound { result ≤ length inodes.now }
     ensures split { Rises inodes.now → IsPartitionPoint (λ f. nat_lt f.id id ≡ true) (λ f. nat_lt f.id id ≡ false) inodes.now result }
 {
@@ -115,6 +115,21 @@ fn inodes_below(inodes: &[InodeFact], id: u64) -> usize
         return guess;
     }
     searched(inodes, id)
+}
+
+// How many inodes are of ids below an id. The first guess is as far from the id as the last answer was from its own: ids are mostly given one after the other. No
+// guess is believed.
+fn inodes_below(inodes: &[InodeFact], id: u64, shift: &mut u64) -> usize
+    ensures bound { result ≤ length inodes.now }
+    ensures split { Rises inodes.now → IsPartitionPoint (λ f. nat_lt f.id id ≡ true) (λ f. nat_lt f.id id ≡ false) inodes.now result }
+{
+    let guess = id.saturating_sub(*shift) as usize;
+    if is_point(inodes, id, guess) {
+        return guess;
+    }
+    let found = sought(inodes, id);
+    *shift = id.saturating_sub(found as u64);
+    found
 }
 
 // The entries of the directory of an id.
@@ -127,28 +142,48 @@ fn run_of(entries: &[EntryFact], id: u64) -> &[EntryFact]
     &rest[..count]
 }
 
+/// The entries of a directory that are followed and listed.
+#[tactic(auto, unfolding(crate::specs::Found::entries_in))]
+pub(crate) fn directory_in(entries: &[EntryFact], id: u64) -> &[EntryFact]
+    ensures counted { (facts : Facts) → entries.now ≡ facts.entries → Rises entries.now → HasEntries facts result.now }
+    ensures all { (facts : Facts) → entries.now ≡ facts.entries → Rises entries.now → whats result.now ≡ entries_in facts id }
+{
+    if is_reserved(id) {
+        return &[];
+    }
+    run_of(entries, id)
+}
+
+/// The inode of an id, the first where there are more. What `shift` has is how far the last id that was looked for is from its place, and decides nothing.
+pub(crate) fn inode_in<'a>(
+    inodes: &'a [InodeFact],
+    id: u64,
+    shift: &mut u64,
+) -> Option<&'a InodeFact>
+    ensures { (facts : Facts) → inodes.now ≡ facts.inodes → Rises inodes.now → option_map (λ inode. inode.now.what) result ≡ inode_at facts id }
+{
+    let from = inodes_below(inodes, id, shift);
+    if from == inodes.len() {
+        return None;
+    }
+    let at = &inodes[from];
+    if at.id() == id { Some(at) } else { None }
+}
+
 impl Files {
     /// The entries of a directory that are followed and listed.
-    #[tactic(auto, unfolding(crate::specs::Found::entries_in))]
     pub fn directory(&self, id: u64) -> &[EntryFact]
         ensures counted { (facts : Facts) → Remembers facts self.now.entries.items self.now.inodes.items → HasEntries facts result.now }
         ensures all { (facts : Facts) → Remembers facts self.now.entries.items self.now.inodes.items → whats result.now ≡ entries_in facts id }
     {
-        if is_reserved(id) {
-            return &[];
-        }
-        run_of(&self.entries, id)
+        directory_in(&self.entries, id)
     }
 
     /// The inode of an id, the first where there are more.
     pub(crate) fn inode(&self, id: u64) -> Option<&InodeFact>
         ensures { (facts : Facts) → Remembers facts self.now.entries.items self.now.inodes.items → option_map (λ inode. inode.now.what) result ≡ inode_at facts id }
     {
-        let from = inodes_below(&self.inodes, id);
-        if from == self.inodes.len() {
-            return None;
-        }
-        let at = &self.inodes[from];
-        if at.id() == id { Some(at) } else { None }
+        let mut shift = 0;
+        inode_in(&self.inodes, id, &mut shift)
     }
 }

@@ -9,7 +9,7 @@ use apfs_model::{Bytes, NoMemory};
 use fs_record::{Inode, KeptName, StreamSize};
 use std::alloc::Global;
 use std::marker::Model;
-use view_facts::{EntryFact, InodeFact};
+use view_facts::InodeFact;
 
 // The kind of a directory (File System Constants, File Modes).
 const DIRECTORY: u16 = 4;
@@ -104,7 +104,7 @@ impl KeptInode {
 #[derive(Debug, Drop)]
 pub struct Place {
     pub(crate) id: u64,
-    pub(crate) name: Bytes,
+    pub(crate) name: KeptName,
     pub(crate) inode: KeptInode,
 }
 
@@ -116,8 +116,8 @@ impl Model for Place {
     ghost view = { λ a. record { id = a.id; name = a.name; inode = a.inode } };
 }
 
-// The size of a stream, 0 without one.
-fn size(stream: Option<StreamSize>) -> u64
+/// The size of a stream, 0 without one.
+pub(crate) fn size(stream: Option<StreamSize>) -> u64
     ensures { result ≡ spec.size_of stream }
 {
     match stream {
@@ -142,12 +142,12 @@ impl Place {
     }
 
     /// The place as it is told.
-    pub fn target(self) -> Target
+    pub fn target(self) -> KeptTarget
         ensures { result ≡ spec.target_of self }
     {
         let kind = self.inode.kind();
         let size = size(self.inode.stream());
-        Target {
+        KeptTarget {
             id: self.id,
             name: self.name,
             kind,
@@ -181,20 +181,22 @@ impl Model for KeptTarget {
 }
 
 impl KeptTarget {
-    /// What an entry's file is, which has this inode.
-    pub(crate) fn of(
+    /// A target with a copy of a name.
+    pub(crate) fn named(
         alloc: Global,
-        entry: &EntryFact,
-        inode: &InodeFact,
+        id: u64,
+        name: &str,
+        kind: u16,
+        size: u64,
     ) -> Result<KeptTarget, NoMemory>
-        ensures { IfOk result (λ target. target ≡ spec.target_of (spec.placed entry.now.what.file_id entry.now.what.name inode.now.what)) }
+        ensures { IfOk result (λ target. target ≡ record { id = id; name = name.now; kind = kind; size = size }) }
     {
-        let name = KeptName::of(alloc, entry.name())?;
+        let name = KeptName::of(alloc, name)?;
         Ok(KeptTarget {
-            id: entry.file_id(),
+            id,
             name,
-            kind: inode.kind(),
-            size: size(inode.stream()),
+            kind,
+            size,
         })
     }
 

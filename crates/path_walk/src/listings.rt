@@ -20,8 +20,9 @@ ghost use Rattle.path_walk.specs.Needs.{HasEntriesOf, ListingNeeds, RestsOn};
 ghost use Rattle.path_walk.specs.Parts.{Leads, NeedsIn, WhereLed};
 
 use crate::onward::Onward;
+use crate::order::told;
 use crate::whole::{gather_view, raise};
-use crate::{PathStop, Target, by_memory, by_search};
+use crate::{KeptTarget, PathStop, Target, by_memory, by_search};
 use blk_source::BlockSource;
 use bt_cursor::WalkFault;
 use bt_keys::{FsKey, FsPlainKey, FsTreeKey};
@@ -37,7 +38,7 @@ fn search_by<K: FsTreeKey, S: BlockSource>(
     view: &View,
     site: &Site,
     path: &str,
-) -> Result<Onward<Vec<Target>>, Stop<WalkFault>>
+) -> Result<Onward<Vec<KeptTarget>>, Stop<WalkFault>>
     requires site { IsSiteFor site.now (S.bytes_len src.old) }
     requires hashed { are_hashed volume.now.names ≡ K.HASHED }
     ensures leads { (image : List ℕ) → S.bytes src.old ≡ Some image → is_ordered K.shape (line_of (view_tree K.shape image site.now volume.now view.now) view.now.root_oid) ≡ true → IfOk result (Leads (λ targets. targets.items) (listing (facts_in volume.now.names (flat_of (view_tree K.shape image site.now volume.now view.now) view.now.root_oid)) path.now)) }
@@ -64,7 +65,7 @@ fn search<S: BlockSource>(
     view: &View,
     site: &Site,
     path: &str,
-) -> Result<Onward<Vec<Target>>, Stop<PathStop>>
+) -> Result<Onward<Vec<KeptTarget>>, Stop<PathStop>>
     requires site { IsSiteFor site.now (S.bytes_len src.old) }
     ensures leads { (image : List ℕ) → S.bytes src.old ≡ Some image → is_view_ordered image site.now volume.now view.now ≡ true → IfOk result (Leads (λ targets. targets.items) (listing (view_facts image site.now volume.now view.now) path.now)) }
     ensures needs { (image : List ℕ) → S.bytes src.old ≡ Some image → is_view_ordered image site.now volume.now view.now ≡ true → IfOk result (WhereLed (ListingNeeds (view_facts image site.now volume.now view.now) (HasEntriesOf image site.now volume.now view.now) path.now)) }
@@ -94,7 +95,7 @@ fn list_whole<S: BlockSource>(
     view: &View,
     site: &Site,
     path: &str,
-) -> Result<Vec<Target>, Stop<PathStop>>
+) -> Result<Vec<KeptTarget>, Stop<PathStop>>
     requires site { IsSiteFor site.now (S.bytes_len src.old) }
     ensures exact { (image : List ℕ) → S.bytes src.old ≡ Some image → IsLawful image site.now volume.now view.now → IsGiven (λ targets. targets.items) (listing (view_facts image site.now volume.now view.now) path.now) result }
     ensures rests { (image : List ℕ) → S.bytes src.old ≡ Some image → RestsOn (λ targets. targets.items) (listing (view_facts image site.now volume.now view.now) path.now) (ListingNeeds (view_facts image site.now volume.now view.now) (HasEntriesOf image site.now volume.now view.now) path.now) result }
@@ -106,9 +107,39 @@ fn list_whole<S: BlockSource>(
         Ok(files) => files,
         Err(stop) => return Err(stop),
     };
-    match by_memory::list(alloc, &files, volume.names, view, path) {
+    match by_memory::list(alloc, files, volume.names, view, path) {
         Ok(targets) => Ok(targets),
         Err(stop) => Err(stop),
+    }
+}
+
+/// What `list` gives, with short names kept in place.
+pub fn list_kept<S: BlockSource>(
+    alloc: Global,
+    src: &mut S,
+    volume: &Volume,
+    view: &View,
+    site: &Site,
+    path: &str,
+) -> Result<Vec<KeptTarget>, Stop<PathStop>>
+    requires site { IsSiteFor site.now (S.bytes_len src.old) }
+    ensures exact { (image : List ℕ) → S.bytes src.old ≡ Some image → IsLawful image site.now volume.now view.now → IsGiven (λ targets. targets.items) (listing (view_facts image site.now volume.now view.now) path.now) result }
+    ensures rests { (image : List ℕ) → S.bytes src.old ≡ Some image → is_view_ordered image site.now volume.now view.now ≡ true → RestsOn (λ targets. targets.items) (listing (view_facts image site.now volume.now view.now) path.now) (ListingNeeds (view_facts image site.now volume.now view.now) (HasEntriesOf image site.now volume.now view.now) path.now) result }
+    ensures present { (image : List ℕ) → S.bytes src.old ≡ Some image → IfErr result (IsStopThere image site.now volume.now view.now) }
+    ensures cause { IsErrOf result ReadFault → Rose (S.faults src.old) (S.faults src.new) }
+    ensures kept { IsKept S.bytes S.bytes_len S.faults src.old src.new }
+{
+    let onward = match search(alloc, src, volume, view, site, path) {
+        Ok(onward) => onward,
+        Err(stop) => return Err(stop),
+    };
+    match onward {
+        Onward::To(targets) => Ok(targets),
+        Onward::Answered(answer) => Err(Stop::Found(PathStop::Answer(answer))),
+        Onward::Lost => match list_whole(alloc, src, volume, view, site, path) {
+            Ok(targets) => Ok(targets),
+            Err(stop) => Err(stop),
+        },
     }
 }
 
@@ -130,16 +161,10 @@ pub fn list<S: BlockSource>(
     ensures cause { IsErrOf result ReadFault → Rose (S.faults src.old) (S.faults src.new) }
     ensures kept { IsKept S.bytes S.bytes_len S.faults src.old src.new }
 {
-    let onward = match search(alloc, src, volume, view, site, path) {
-        Ok(onward) => onward,
+    let kept = match list_kept(alloc, src, volume, view, site, path) {
+        Ok(kept) => kept,
         Err(stop) => return Err(stop),
     };
-    match onward {
-        Onward::To(targets) => Ok(targets),
-        Onward::Answered(answer) => Err(Stop::Found(PathStop::Answer(answer))),
-        Onward::Lost => match list_whole(alloc, src, volume, view, site, path) {
-            Ok(targets) => Ok(targets),
-            Err(stop) => Err(stop),
-        },
-    }
+    let targets = told(alloc, &kept)?;
+    Ok(targets)
 }

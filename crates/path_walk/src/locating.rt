@@ -165,7 +165,10 @@ pub fn find<S: BlockSource>(
     ensures kept { IsKept S.bytes S.bytes_len S.faults src.old src.new }
 {
     match locate(alloc, src, volume, view, site, path) {
-        Ok(place) => Ok(place.target()),
+        Ok(place) => {
+            let target = place.target().target(alloc)?;
+            Ok(target)
+        }
         Err(stop) => Err(stop),
     }
 }

@@ -12,7 +12,7 @@ use Rattle.reach_rules.specs.Accounted.{AreNamed, AreInOrder}
 use Rattle.reach_rules.specs.Reached.{HasBlocks}
 use Rattle.reach_gather.specs.ViewParts.{ExpectsOfView, AreJoined}
 use Rattle.reach_gather.specs.Account.{AreCovered, AreRightTrees, has_blocks, AccountTold}
-use Rattle.reach_gather.proofs.Views.{view-live, joined-tells}
+use Rattle.reach_gather.proofs.ViewParts.{view-live, joined-tells}
 
 names-told : (image : List ℕ) (seen : Seen) (all views : List Naming) (records : List (ℕ × OmapRecord)) → AreJoined image seen all views records → AreCovered image seen all records → AreNamed image seen
 names-told image seen all views records j covered =

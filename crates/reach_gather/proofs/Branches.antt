@@ -1,5 +1,6 @@
 -- What a tree adds that was walked.
 use Rattle.std.proofs.Common.{◌≡◌, ℕ, false, Option, None, Some, List, [], ◌∷◌, ◌++◌, map, inl, inr, refl, ap, sym, ◌∙◌, subst}
+use Rattle.std.proofs.lemmas.List.{append-nil}
 use Rattle.apfs_model.specs.Lists.{In}
 use Rattle.apfs_model.proofs.Searches.{from-map}
 use Rattle.bt_cursor.specs.declared.step.Step.{Step}
@@ -11,7 +12,7 @@ use Rattle.reach_rules.specs.PoolOwners.{pool_owners_through, pool_tree_owners}
 use Rattle.reach_gather.specs.Account.{AreRightTrees}
 use Rattle.reach_gather.specs.Namings.{level_below, step_naming, tree_namings, IsPlainNaming, AreNamingsOf}
 use Rattle.reach_gather.proofs.Joined.{part-tree}
-use Rattle.reach_gather.proofs.Views.{outside-views}
+use Rattle.reach_gather.proofs.ViewParts.{outside-views}
 use Rattle.reach_gather.specs.ViewParts.{is_in_view}
 use Rattle.reach_gather.specs.Held.{Held, Grew, IsOwnerThrough, GrewBy, some_owners}
 use Rattle.reach_gather.specs.Adds.{Adds}
@@ -38,10 +39,6 @@ root-owners image seen kind root p how is = own-block image seen root (TreeRoot 
 
 pub root-pool : (image : List ℕ) (seen : Seen) (kind : TreeKind) (root : Naming) (p : IsPlainNaming image seen root) → root.how ≡ ByBlock → root.expected ≡ TreeRoot kind → pool_owners_through image seen root ≡ pool_tree_owners image seen root kind
 root-pool image seen kind root p how is = pool-block image seen root (TreeRoot kind) p how is refl
-
-list-end : {X : Type 0} (xs : List X) → xs ++ [] ≡ xs
-list-end [] = refl
-list-end (x ∷ xs) = ap (λ ys. x ∷ ys) (list-end xs)
 
 kind-in : Expected → Option TreeKind
 kind-in SpaceManager = None
@@ -91,7 +88,7 @@ tree-adds image seen kind root steps a b c how is are right pool p q r s t u =
       grew = grewby-join image seen (root ∷ []) nodes a b c
           (grewby-one image seen root a b p
           (q ∙ ap (λ xs. a.owners ++ some_owners xs) (sym (root-owners image seen kind root plain how is)))
-          (r ∙ (sym (list-end a.pool_owners) ∙ ap (λ xs. a.pool_owners ++ some_owners xs) (sym (root-pool image seen kind root plain how is ∙ pool)))))
+          (r ∙ (sym (append-nil a.pool_owners) ∙ ap (λ xs. a.pool_owners ++ some_owners xs) (sym (root-pool image seen kind root plain how is ∙ pool)))))
           (grewby-blocks image seen nodes b c (nodes-own image seen kind root steps how are) (s ∙ ap (λ xs. b.namings ++ xs) same) (t ∙ ap (λ xs. b.owners ++ map block_owner xs) same) u);
     }
 

@@ -1,5 +1,5 @@
 -- The objects of the reaper's chain, as they are told.
-use Rattle.std.proofs.Common.{◌≡◌, ℕ, Bool, true, false, not, ◌==◌, List, [], ◌∷◌, ◌++◌, Option, Some, None, Result, Ok, Err, inl, inr, refl, ap, sym, ◌∙◌, subst}
+use Rattle.std.proofs.Common.{◌≡◌, ℕ, true, false, not, ◌==◌, List, [], Option, Some, None, Result, Ok, Err, inl, refl, ap, sym, ◌∙◌, subst}
 use Rattle.std.specs.Prelude.{bit_and}
 use Rattle.apfs_model.specs.Lists.{In}
 use Rattle.apfs_model.proofs.BoolTests.{never-true, false-not, from-equal, equal-from}
@@ -13,11 +13,11 @@ use Rattle.obj_base.specs.declared.stop.Stop.TheVariants as stops
 use Rattle.nx_block.specs.Reaper.{reaper_head_of, reaper_flags_of, reap_count_of, reap_next_of, is_reaping, has_reaped}
 use Rattle.nx_ring.specs.Checkpoint.{Seen, site_of}
 use Rattle.reach_rules.specs.declared.fault.ReachFault.{ReachFault}
-use Rattle.reach_rules.specs.Naming.{ByMapping, OfId, Namer, Whole, ReaperObject, ReapList, Naming, naming}
+use Rattle.reach_rules.specs.Naming.{ByMapping, OfId, Namer, ReaperObject, ReapList, Naming, naming}
 use Rattle.reach_rules.specs.Resolved.{Found, resolved}
 use Rattle.reach_rules.specs.Tested.{Answer, head_tested, tested}
 use Rattle.reach_rules.specs.Live.{IsLive}
-use Rattle.reach_rules.specs.Features.{HasFeature, placed_in, used_features, field_features}
+use Rattle.reach_rules.specs.Features.{HasFeature, placed_in}
 use Rattle.reach_rules.specs.Reached.{IsReachedFault}
 use Rattle.reach_gather.specs.Namings.{IsPlainNaming}
 use Rattle.reach_gather.specs.Told.{judged, told, told_through, told_mapped, found_mapped}

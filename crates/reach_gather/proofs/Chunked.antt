@@ -1,5 +1,6 @@
 -- The blocks that tell of chunks, and the bitmaps of chunks, are those of a right space.
 use Rattle.std.proofs.Common.{◌≡◌, ℕ, ◌+◌, ◌*◌, ◌/◌, ◌%◌, ◌<◌, ◌≤◌, Bool, true, false, ◌&&◌, ◌==◌, List, [], ◌∷◌, ◌++◌, length, map, ◌⊎◌, inl, inr, refl, ap, sym, ◌∙◌, subst, arith, if◌then◌else◌}
+use Rattle.std.proofs.lemmas.List.{append_assoc}
 use Rattle.std.specs.Prelude.{slice_index}
 use Rattle.std.specs.List.{range_with_len}
 use Rattle.std.proofs.lemmas.List.FromFn.{get_or-map-range_with_len}
@@ -12,7 +13,7 @@ use Rattle.nx_block.specs.Super.{space_oid_of}
 use Rattle.nx_ring.specs.Checkpoint.{Seen, site_of}
 use Rattle.space_map.specs.Fields.{cabs_of, cibs_of, cab_cibs_of, cib_chunks_of, chunks_of, addresses_of}
 use Rattle.space_map.specs.Geometry.{has_address, has_cib_place, has_chunk_place}
-use Rattle.space_map.specs.Blocks.{manager_of, address_at, cab_address_at, cab_block_for, cab_blocks, cib_block, cib_blocks}
+use Rattle.space_map.specs.Blocks.{manager_of, address_at, cab_blocks, cib_block, cib_blocks}
 use Rattle.space_map.specs.Chunks.{chunk_in, chunk_at, chunks_in}
 use Rattle.space_map.specs.Stops.{HasManager, Known, known_of, IsSpaceOf}
 use Rattle.space_map.specs.declared.chunk.Chunk.{Chunk}
@@ -27,12 +28,13 @@ use Rattle.reach_gather.specs.Namings.{IsPlainNaming}
 use Rattle.reach_gather.specs.Container.{block_namings}
 use Rattle.reach_gather.specs.Space.{manager_namer, blocks_namings}
 use Rattle.reach_gather.proofs.Container.{plain-block, plain-facts}
+use Rattle.reach_gather.proofs.SpacePart.{own-block, other-block}
 use Rattle.reach_gather.specs.Held.{Held, Grew, IsOwnerThrough, GrewBy}
 use Rattle.reach_gather.specs.Infos.{room_of, known_cab, known_cib, known_cabs, known_cibs, bitmaps_from}
 use Rattle.reach_gather.specs.Steps.{block_owner}
 use Rattle.reach_gather.proofs.Growing.{grew-none, grew-put, fits-more}
 use Rattle.reach_gather.proofs.Owning.{own-plain, pool-plain}
-use Rattle.reach_gather.proofs.Numbered.{append-assoc, HasBitmap, in-bitmaps, from-bitmaps}
+use Rattle.reach_gather.proofs.Numbered.{HasBitmap, in-bitmaps, from-bitmaps}
 use Rattle.reach_gather.proofs.Indexed.{infos-apart}
 
 -- ---- what is known of a space, by its manager
@@ -59,14 +61,6 @@ shape-of image seen space is = shape-from (site_of seen) space.manager is.right.
 
 room-is : (image : List ℕ) (seen : Seen) (space : Known) → IsSpaceOf image seen space → room_of space.manager ≡ cab_cibs_of space.manager
 room-is image seen space is = let some = (shape-of image seen space is).some_cibs in omega (arith, some)
-
-own-block : (B : ℕ) (image manager : List ℕ) (i : ℕ) → (cabs_of manager == 0) ≡ true → cib_block B image manager i ≡ address_at manager i
-unfolding cib_block
-own-block B image manager i e = ap (λ (b : Bool). if b then address_at manager i else cab_address_at (block_of B image (cab_block_for manager i)) (i % cab_cibs_of manager)) e
-
-other-block : (B : ℕ) (image manager : List ℕ) (i : ℕ) → (cabs_of manager == 0) ≡ false → cib_block B image manager i ≡ cab_address_at (block_of B image (cab_block_for manager i)) (i % cab_cibs_of manager)
-unfolding cib_block
-other-block B image manager i e = ap (λ (b : Bool). if b then address_at manager i else cab_address_at (block_of B image (cab_block_for manager i)) (i % cab_cibs_of manager)) e
 
 -- ---- the namings are those of the definitions
 abbrev cab_at : Seen → List ℕ → ℕ → Naming
@@ -477,12 +471,12 @@ blocks-grew image seen space a b is plain p q r =
     let cabs : List Owner = map block_owner (known_cabs oid space) in
     let cibs : List Owner = map block_owner (known_cibs oid space) in
     record {
-      namings = grew-put a.namings b.namings (Infos seen space) (λ n. In n ns) (p ∙ append-assoc a.namings (known_cabs oid space) (known_cibs oid space)) (λ n h. to-blocks image seen space n is plain h) (λ n h. from-blocks image seen space n is plain h);
-      fits = let k : length b.namings ≤ length a.namings + length (Infos seen space) = fits-more a.namings b.namings (Infos seen space) (p ∙ append-assoc a.namings (known_cabs oid space) (known_cibs oid space)) in
+      namings = grew-put a.namings b.namings (Infos seen space) (λ n. In n ns) (p ∙ append_assoc a.namings (known_cabs oid space) (known_cibs oid space)) (λ n h. to-blocks image seen space n is plain h) (λ n h. from-blocks image seen space n is plain h);
+      fits = let k : length b.namings ≤ length a.namings + length (Infos seen space) = fits-more a.namings b.namings (Infos seen space) (p ∙ append_assoc a.namings (known_cabs oid space) (known_cibs oid space)) in
           let l : length (Infos seen space) ≤ length ns = apart-length (Infos seen space) ns (infos-apart oid space) (λ n h. to-blocks image seen space n is plain h) in
           omega arith;
       owners = subst (λ xs. Grew a.owners xs (IsOwnerThrough (owners_through image seen) ns)) (sym q) (grew-none a.owners (IsOwnerThrough (owners_through image seen) ns) (own-never image seen space is plain));
       pool_owners = grew-put a.pool_owners b.pool_owners (Told image seen space) (IsOwnerThrough (pool_owners_through image seen) ns)
-          (r ∙ (append-assoc (a.pool_owners ++ cabs) cibs (bitmaps_from 0 space.chunks) ∙ append-assoc a.pool_owners cabs (cibs ++ bitmaps_from 0 space.chunks)))
+          (r ∙ (append_assoc (a.pool_owners ++ cabs) cibs (bitmaps_from 0 space.chunks) ∙ append_assoc a.pool_owners cabs (cibs ++ bitmaps_from 0 space.chunks)))
           (pool-to image seen space is plain) (pool-back image seen space is plain);
     }

@@ -1,11 +1,11 @@
 -- The jumpstart, as it is told.
-use Rattle.std.proofs.Common.{◌≡◌, ℕ, zero, suc, ◌+◌, Bool, true, false, ◌&&◌, ◌==◌, nat_lt, List, [], ◌∷◌, ◌++◌, length, map, Option, Some, None, Result, Ok, Err, inl, inr, refl, ap, sym, ◌∙◌, subst, if◌then◌else◌}
+use Rattle.std.proofs.Common.{◌≡◌, ℕ, zero, Bool, true, false, ◌&&◌, ◌==◌, nat_lt, List, [], ◌∷◌, length, Option, Some, None, Result, Ok, Err, inr, refl, ap, sym, ◌∙◌, subst, if◌then◌else◌}
 use Rattle.std.specs.Prelude.{option_map}
-use Rattle.apfs_model.specs.Blocks.{block_of, in_container}
+use Rattle.apfs_model.specs.Blocks.{block_of}
 use Rattle.apfs_model.specs.Lists.{In, Lists}
 use Rattle.apfs_model.specs.Object.{jumpstart_kind}
 use Rattle.obj_base.specs.Sound.{sound_of, expecting}
-use Rattle.obj_base.specs.Stops.{Tells, IsFree, in_block, raised}
+use Rattle.obj_base.specs.Stops.{Tells, IsFree, raised}
 use Rattle.obj_base.specs.declared.header.Header.{Header}
 use Rattle.obj_base.specs.declared.header.HeadFault.{HeadFault}
 use Rattle.obj_base.specs.declared.stop.Bad.{Bad}
@@ -25,7 +25,7 @@ use Rattle.reach_rules.specs.declared.fault.ReachFault.{ReachFault}
 use Rattle.reach_rules.specs.declared.fault.ReachFault.TheVariants.{Unsound, Unnamed}
 use Rattle.reach_rules.specs.Naming.{ByBlock, ByMapping, Newest, InBlock, Whole, ReaperObject, Jumpstart, Naming, naming}
 use Rattle.reach_rules.specs.Resolved.{Found, resolved, found_physical, standing}
-use Rattle.reach_rules.specs.Tested.{Answer, of_header, head_tested, with_magic, tested}
+use Rattle.reach_rules.specs.Tested.{of_header, head_tested, with_magic, tested}
 use Rattle.reach_rules.specs.Next.{roots, next, unless_zero}
 use Rattle.reach_rules.specs.Live.{Live, rooted, led, IsLive}
 use Rattle.reach_rules.specs.Features.{HasFeature}

@@ -30,12 +30,12 @@ pub mod OfKinds
 pub mod Parts
 pub mod Joined
 pub mod Container
-pub mod Space
+pub mod SpacePart
 pub mod Tells
-pub mod Views
+pub mod ViewParts
 pub mod Account
-pub mod Ranges
-pub mod Gathered
+pub mod RangesTold
+pub mod Reaches
 pub mod VolumeLemmas
 pub mod Tolds
 pub mod Chained

@@ -1,7 +1,7 @@
 -- What an object map adds that was loaded.
 use Rattle.std.proofs.Common.{◌≡◌, ℕ, suc, ◌+◌, Bool, true, false, List, [], ◌∷◌, ◌++◌, length, map, inl, inr, refl, ap, sym, ◌∙◌, subst, arith, length-append}
 use Rattle.std.specs.Prelude.{◌==◌, if◌then◌else◌}
-use Rattle.std.proofs.lemmas.List.{length-map}
+use Rattle.std.proofs.lemmas.List.{length-map, append-nil, append_assoc}
 use Rattle.apfs_model.proofs.BoolTests.{test_or, equal-from, from-equal}
 use Rattle.obj_base.specs.declared.site.Site.{Site}
 use Rattle.bt_cursor.specs.Met.{nodes_of}
@@ -24,7 +24,7 @@ use Rattle.reach_gather.specs.Volumes.Parts.{IsMapPart, HasWholeMetadata}
 use Rattle.vol_view.specs.Volumes.{Loaded}
 use Rattle.reach_gather.proofs.Joined.{part-tree}
 use Rattle.reach_gather.proofs.OfKinds.{records-kind, snapshots-kind, metadata-kind}
-use Rattle.reach_gather.proofs.Views.{outside-views}
+use Rattle.reach_gather.proofs.ViewParts.{outside-views}
 use Rattle.reach_gather.proofs.Walking.{nodes-count, whole-namings}
 use Rattle.reach_gather.proofs.VolumeLemmas.MapParts.{records-whole, snapshots-whole}
 use Rattle.reach_gather.specs.Held.{Held}
@@ -118,10 +118,6 @@ snapshots-add image seen n contents a b part same not p q r =
     (whole-namings (snapshots-kind image seen) contents.snap_tree contents.snap_steps whole (snapshots-steps image seen n.oid contents same some) root refl refl refl) whole.right refl refl
     (p ∙ ap (λ xs. a.namings ++ xs) nodes) (q ∙ ap (λ xs. a.owners ++ map block_owner xs) nodes) r
 
-list-end : {X : Type 0} (xs : List X) → xs ++ [] ≡ xs
-list-end [] = refl
-list-end (x ∷ xs) = ap (λ ys. x ∷ ys) (list-end xs)
-
 held-same : (a b : Held) → b.namings ≡ a.namings → b.owners ≡ a.owners → b.pool_owners ≡ a.pool_owners → a ≡ b
 held-same a b p q r = λ i. record { namings = sym p i; owners = sym q i; pool_owners = sym r i }
 
@@ -133,7 +129,7 @@ past-add image seen n contents a b part same p q r = elim (test_or (contents.sna
       let zero : contents.snap_tree ≡ 0 = equal-from contents.snap_tree 0 t in
       let none : past_namings n.oid contents ≡ [] = past-none n.oid contents zero in
       subst (Adds image seen (unless_zero (Whole (InBlock n.oid)) 56 (TreeRoot MapSnapshots) ByBlock contents.snap_tree) [] a)
-      (held-same a b (p ∙ (ap (λ xs. a.namings ++ xs) none ∙ list-end a.namings)) (q ∙ (ap (λ xs. a.owners ++ map block_owner xs) none ∙ list-end a.owners)) r)
+      (held-same a b (p ∙ (ap (λ xs. a.namings ++ xs) none ∙ append-nil a.namings)) (q ∙ (ap (λ xs. a.owners ++ map block_owner xs) none ∙ append-nil a.owners)) r)
       (adds-zero image seen (Whole (InBlock n.oid)) 56 (TreeRoot MapSnapshots) ByBlock contents.snap_tree a zero)
   | inr f ↦
       let not : contents.snap_tree ≡ 0 → ⊥ = λ e. let z : true ≡ false = sym (from-equal contents.snap_tree 0 e) ∙ f in let k : ⊥ = cc in k in
@@ -160,23 +156,19 @@ loaded-adds image seen n contents a b c d how expects part same p q r s t u v w 
     map-adds image seen n contents.tree contents.snap_tree a b c d how expects part (ap (λ (k : Contents). k.tree) same) (ap (λ (k : Contents). k.snap_tree) same) p q r
     (records-add image seen n contents b c part same s t u) (past-add image seen n contents c d part same v w x)
 
-append-assoc : {X : Type 0} (xs ys zs : List X) → (xs ++ ys) ++ zs ≡ xs ++ (ys ++ zs)
-append-assoc [] ys zs = refl
-append-assoc (x ∷ xs) ys zs = ap (λ ws. x ∷ ws) (append-assoc xs ys zs)
-
 -- the namings that were noted, one part after the other
 pub loaded-noted : (n : Naming) (contents : Contents) (a b c d : List Naming) → b ≡ a ++ n ∷ [] → c ≡ b ++ node_namings MapRecords (records_root n.oid contents) contents.steps → d ≡ c ++ past_namings n.oid contents → d ≡ a ++ loaded_namings n contents
 loaded-noted n contents a b c d p q r =
     let records : List Naming = node_namings MapRecords (records_root n.oid contents) contents.steps in
     let past : List Naming = past_namings n.oid contents in
-    r ∙ (ap (λ xs. xs ++ past) (q ∙ ap (λ xs. xs ++ records) p) ∙ (ap (λ xs. xs ++ past) (append-assoc a (n ∷ []) records) ∙ append-assoc a (n ∷ records) past))
+    r ∙ (ap (λ xs. xs ++ past) (q ∙ ap (λ xs. xs ++ records) p) ∙ (ap (λ xs. xs ++ past) (append_assoc a (n ∷ []) records) ∙ append_assoc a (n ∷ records) past))
 
 -- ---- as they are noted
 pub nodes-noted : (kind : TreeKind) (root : Naming) (steps : List Step) (a b c : List Naming) → b ≡ a ++ root ∷ [] → c ≡ b ++ block_steps kind root.oid steps → c ≡ a ++ node_namings kind root steps
-nodes-noted kind root steps a b c p q = q ∙ (ap (λ xs. xs ++ block_steps kind root.oid steps) p ∙ append-assoc a (root ∷ []) (block_steps kind root.oid steps))
+nodes-noted kind root steps a b c p q = q ∙ (ap (λ xs. xs ++ block_steps kind root.oid steps) p ∙ append_assoc a (root ∷ []) (block_steps kind root.oid steps))
 
 pub nodes-owned : (kind : TreeKind) (root : Naming) (steps : List Step) (a b c : List Owner) → b ≡ a ++ block_owner root ∷ [] → c ≡ b ++ map block_owner (block_steps kind root.oid steps) → c ≡ a ++ map block_owner (node_namings kind root steps)
-nodes-owned kind root steps a b c p q = q ∙ (ap (λ xs. xs ++ map block_owner (block_steps kind root.oid steps)) p ∙ append-assoc a (block_owner root ∷ []) (map block_owner (block_steps kind root.oid steps)))
+nodes-owned kind root steps a b c p q = q ∙ (ap (λ xs. xs ++ map block_owner (block_steps kind root.oid steps)) p ∙ append_assoc a (block_owner root ∷ []) (map block_owner (block_steps kind root.oid steps)))
 
 -- the naming of a root, as it is kept
 abbrev root_at : ℕ → ℕ → Tree → ℕ → Named
@@ -192,10 +184,10 @@ past-are block contents root oid steps is at not taken =
     ∙ (ap (node_namings MapSnapshots (snapshots_root block contents)) taken ∙ sym (past-some block contents (λ z. not (at ∙ z))))
 
 pub past-noted : (block : ℕ) (contents : Contents) (oid : ℕ) (a : List Naming) → oid ≡ contents.snap_tree → oid ≡ 0 → a ≡ a ++ past_namings block contents
-past-noted block contents oid a at zero = sym (ap (λ xs. a ++ xs) (past-none block contents (sym at ∙ zero)) ∙ list-end a)
+past-noted block contents oid a at zero = sym (ap (λ xs. a ++ xs) (past-none block contents (sym at ∙ zero)) ∙ append-nil a)
 
 pub past-owned : (block : ℕ) (contents : Contents) (oid : ℕ) (a : List Owner) → oid ≡ contents.snap_tree → oid ≡ 0 → a ≡ a ++ map block_owner (past_namings block contents)
-past-owned block contents oid a at zero = sym (ap (λ xs. a ++ map block_owner xs) (past-none block contents (sym at ∙ zero)) ∙ list-end a)
+past-owned block contents oid a at zero = sym (ap (λ xs. a ++ map block_owner xs) (past-none block contents (sym at ∙ zero)) ∙ append-nil a)
 
 -- ---- as many namings as reads
 tree-count : (f : Step → Naming) (root : Naming) (steps : List Step) → length (root ∷ map f steps) ≡ suc (length steps)

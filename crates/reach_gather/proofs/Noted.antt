@@ -1,7 +1,7 @@
 -- No more is read than namings are noted.
 use Rattle.std.proofs.Common.{◌≡◌, ℕ, suc, ◌+◌, ◌≤◌, List, [], ◌∷◌, ◌++◌, length, map, inl, inr, refl, ap, ◌∙◌, arith}
 use Rattle.std.specs.Prelude.{◌==◌}
-use Rattle.std.proofs.lemmas.List.{length-map}
+use Rattle.std.proofs.lemmas.List.{length-map, append_assoc}
 use Rattle.std.proofs.lemmas.List.FromFn.{length-map-range_with_len}
 use Rattle.apfs_model.proofs.BoolTests.{test_or, equal-from}
 use Rattle.bt_cursor.specs.declared.step.Step.{Step}
@@ -16,7 +16,6 @@ use Rattle.reach_gather.specs.Jumped.{jump_root}
 use Rattle.reach_gather.proofs.Jumps.{one-root}
 use Rattle.reach_gather.specs.Infos.{known_cabs, known_cibs}
 use Rattle.reach_gather.proofs.Growing.{noted-more}
-use Rattle.reach_gather.proofs.Numbered.{append-assoc}
 use Rattle.reach_gather.proofs.Indexed.{infos-long}
 use Rattle.reach_gather.proofs.Chunked.{cabs-known, cibs-known}
 
@@ -43,7 +42,7 @@ pub space-read : (image : List ℕ) (seen : Seen) (space : Known) (oid : ℕ) (m
     → after + (length space.cabs + length space.cibs) + length a ≤ before + length e
 space-read image seen space oid manager a b c d e before mid after is p pool main q =
     let one : length b ≡ length a + 1 = noted-one a b manager p in
-    let more : length e ≡ length d + length (known_cabs oid space ++ known_cibs oid space) = noted-more d e (known_cabs oid space ++ known_cibs oid space) (q ∙ append-assoc d (known_cabs oid space) (known_cibs oid space)) in
+    let more : length e ≡ length d + length (known_cabs oid space ++ known_cibs oid space) = noted-more d e (known_cabs oid space ++ known_cibs oid space) (q ∙ append_assoc d (known_cabs oid space) (known_cibs oid space)) in
     let long : length (known_cabs oid space ++ known_cibs oid space) ≡ cabs_of space.manager + cibs_of space.manager = infos-long oid space in
     let cabs : length space.cabs ≡ cabs_of space.manager = ap length (cabs-known image seen space is) ∙ length-map-range_with_len (address_at space.manager) 0 (cabs_of space.manager) in
     let cibs : length space.cibs ≡ cibs_of space.manager = ap length (cibs-known image seen space is) ∙ length-map-range_with_len (cib_block (site_of seen).block_size image space.manager) 0 (cibs_of space.manager) in

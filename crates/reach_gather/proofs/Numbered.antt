@@ -3,7 +3,7 @@ use Rattle.std.proofs.Common.{◌≡◌, ℕ, zero, suc, ◌+◌, ◌<◌, ◌�
 use Rattle.std.specs.Prelude.{◌==◌, if◌then◌else◌}
 use Rattle.std.specs.List.{range_with_len}
 use Rattle.std.proofs.lemmas.Bool.{cases_lt}
-use Rattle.std.proofs.lemmas.List.{take_more}
+use Rattle.std.proofs.lemmas.List.{take_more, append-nil, append_assoc, map-append, length-take-le}
 use Rattle.std.proofs.lemmas.List.FromFn.{map-range_with_len_more}
 use Rattle.apfs_model.specs.Lists.{In}
 use Rattle.apfs_model.proofs.BoolTests.{test_or}
@@ -14,30 +14,13 @@ use Rattle.reach_rules.specs.Owners.{Owner, owner, Bitmap}
 use Rattle.reach_gather.specs.Infos.{bitmap_at, bitmaps_from}
 use Rattle.reach_gather.specs.Steps.{block_owner}
 
-pub append-assoc : {X : Type 0} (xs ys zs : List X) → (xs ++ ys) ++ zs ≡ xs ++ (ys ++ zs)
-append-assoc [] ys zs = refl
-append-assoc (x ∷ xs) ys zs = ap (λ ws. x ∷ ws) (append-assoc xs ys zs)
-
-list-end : {X : Type 0} (xs : List X) → xs ++ [] ≡ xs
-list-end [] = refl
-list-end (x ∷ xs) = ap (λ ys. x ∷ ys) (list-end xs)
-
-map-more : {X Y : Type 0} (f : X → Y) (xs : List X) (x : X) → map f (xs ++ x ∷ []) ≡ map f xs ++ f x ∷ []
-map-more f [] x = refl
-map-more f (y ∷ ys) x = ap (λ zs. f y ∷ zs) (map-more f ys x)
-
-length-take : {X : Type 0} (xs : List X) (i : ℕ) → i < length xs → length (take i xs) ≡ i
-length-take [] i low = absurd (omega arith)
-length-take (x ∷ xs) zero low = refl
-length-take (x ∷ xs) (suc i) low = ap suc (length-take xs i (omega arith))
-
 -- one more naming, and its block
 pub named-more : (f : ℕ → Naming) (n : ℕ) (x : Naming) (old mid new : List Naming) → x ≡ f n → mid ≡ old ++ map f (range_with_len 0 n) → new ≡ mid ++ x ∷ [] → new ≡ old ++ map f (range_with_len 0 (n + 1))
 named-more f n x old mid new is m given =
     let so_far : List Naming = map f (range_with_len 0 n) in
     given
     ∙ (ap (λ ys. ys ++ x ∷ []) m
-    ∙ (append-assoc old so_far (x ∷ [])
+    ∙ (append_assoc old so_far (x ∷ [])
     ∙ ap (λ ys. old ++ ys) (ap (λ y. so_far ++ y ∷ []) is ∙ sym (map-range_with_len_more f 0 n n (omega arith)))))
 
 pub owned-more : (f : ℕ → Naming) (n : ℕ) (x : Naming) (old mid new : List Owner) → x ≡ f n → mid ≡ old ++ map block_owner (map f (range_with_len 0 n)) → new ≡ mid ++ block_owner x ∷ [] → new ≡ old ++ map block_owner (map f (range_with_len 0 (n + 1)))
@@ -45,15 +28,15 @@ owned-more f n x old mid new is m given =
     let so_far : List Naming = map f (range_with_len 0 n) in
     given
     ∙ (ap (λ ys. ys ++ block_owner x ∷ []) m
-    ∙ (append-assoc old (map block_owner so_far) (block_owner x ∷ [])
-    ∙ ap (λ ys. old ++ ys) (ap (λ y. map block_owner so_far ++ block_owner y ∷ []) is ∙ (sym (map-more block_owner so_far (f n)) ∙ ap (map block_owner) (sym (map-range_with_len_more f 0 n n (omega arith)))))))
+    ∙ (append_assoc old (map block_owner so_far) (block_owner x ∷ [])
+    ∙ ap (λ ys. old ++ ys) (ap (λ y. map block_owner so_far ++ block_owner y ∷ []) is ∙ (sym (map-append block_owner so_far (f n ∷ [])) ∙ ap (map block_owner) (sym (map-range_with_len_more f 0 n n (omega arith)))))))
 
 -- one more bitmap
 bitmaps-more : (k : ℕ) (xs : List Chunk) (x : Chunk) → bitmaps_from k (xs ++ x ∷ []) ≡ bitmaps_from k xs ++ bitmap_at (k + length xs) x
-bitmaps-more k [] x = list-end (bitmap_at k x) ∙ ap (λ i. bitmap_at i x) (let e : k ≡ k + 0 = omega arith in e)
+bitmaps-more k [] x = append-nil (bitmap_at k x) ∙ ap (λ i. bitmap_at i x) (let e : k ≡ k + 0 = omega arith in e)
 bitmaps-more k (y ∷ ys) x =
     ap (λ os. bitmap_at k y ++ os) (bitmaps-more (k + 1) ys x ∙ ap (λ i. bitmaps_from (k + 1) ys ++ bitmap_at i x) (let e : (k + 1) + length ys ≡ k + suc (length ys) = omega arith in e))
-    ∙ sym (append-assoc (bitmap_at k y) (bitmaps_from (k + 1) ys) (bitmap_at (k + suc (length ys)) x))
+    ∙ sym (append_assoc (bitmap_at k y) (bitmaps_from (k + 1) ys) (bitmap_at (k + suc (length ys)) x))
 
 bitmap-kept : (i : ℕ) (first : ℕ) (b : Bool) → (if (if b then 0 else 1) == 0 then [] else owner (Bitmap i) first (if b then 0 else 1) ∷ []) ≡ (if b then [] else owner (Bitmap i) first 1 ∷ [])
 bitmap-kept i first true = refl
@@ -65,13 +48,13 @@ bitmaps-step chunks i d o old mid new low same m given =
     let x : Chunk = get_or chunks i d in
     let so_far : List Owner = bitmaps_from 0 (take i chunks) in
     let more : take (i + 1) chunks ≡ take i chunks ++ x ∷ [] = take_more chunks i d low in
-    let long = length-take chunks i low in
+    let long = length-take-le i chunks (omega arith) in
     let place : 0 + length (take i chunks) ≡ i = omega (arith, long) in
     given
     ∙ (ap (λ (q : Owner). mid ++ (if q.blocks == 0 then [] else q ∷ [])) same
     ∙ (ap (λ ys. mid ++ ys) (bitmap-kept i x.bitmap (x.bitmap == 0))
     ∙ (ap (λ ys. ys ++ bitmap_at i x) m
-    ∙ (append-assoc old so_far (bitmap_at i x)
+    ∙ (append_assoc old so_far (bitmap_at i x)
     ∙ ap (λ ys. old ++ ys) (ap (λ k. so_far ++ bitmap_at k x) (sym place) ∙ (sym (bitmaps-more 0 (take i chunks) x) ∙ ap (bitmaps_from 0) (sym more)))))))
 
 -- which bitmaps those of numbered chunks are

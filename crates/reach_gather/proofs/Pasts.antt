@@ -1,6 +1,6 @@
 -- What the snapshots of a volume add.
 use Rattle.std.proofs.Common.{◌≡◌, ℕ, zero, suc, ◌+◌, ◌<◌, Bool, List, [], ◌∷◌, ◌++◌, length, take, get_or, refl, ap, sym, ◌∙◌, subst, arith}
-use Rattle.std.proofs.lemmas.List.{take_more}
+use Rattle.std.proofs.lemmas.List.{take_more, append-nil, append_assoc, length-take-le}
 use Rattle.apfs_model.specs.Lists.{In}
 use Rattle.apfs_model.proofs.Searches.{in-left, in-right}
 use Rattle.nx_ring.specs.Checkpoint.{Seen}
@@ -15,10 +15,6 @@ use Rattle.reach_gather.specs.Views.{past_view_namings, pasts_namings, IsSuperPa
 use Rattle.reach_gather.proofs.Growing.{adds-left, adds-join, adds-step, adds-as, IsRightRoot}
 use Rattle.reach_gather.proofs.Owning.{own-block, pool-block}
 use Rattle.reach_gather.proofs.Fields.{block-grew, one-owns}
-
-list-end : {X : Type 0} (xs : List X) → xs ++ [] ≡ xs
-list-end [] = refl
-list-end (x ∷ xs) = ap (λ ys. x ∷ ys) (list-end xs)
 
 super-root : (image : List ℕ) (seen : Seen) (view : ViewAt) (snapshot : Snapshot) → IsRightRoot image seen (super_in_view view snapshot)
 super-root image seen view snapshot = λ kind is. absurd (let z : SnapshotSuper view ≡ TreeRoot kind = is in let q : ⊥ = cc in q)
@@ -35,32 +31,23 @@ snapshot-adds image seen view snapshot a b c part p q r kept =
     let first : Adds image seen (n ∷ []) rest a b =
     adds-step image seen n rest a b b part.plain refl (super-root image seen view snapshot) (block-grew image seen n a b own p q r)
     (adds-as image seen rest (next image seen n) rest b b part.leads (adds-left image seen rest b)) in
-    subst (λ rs. Adds image seen (told_snapshot view snapshot) rs a c) (list-end rest)
+    subst (λ rs. Adds image seen (told_snapshot view snapshot) rs a c) (append-nil rest)
     (adds-join image seen (n ∷ []) (unless_zero (Kept view) 0 (TreeRoot ExtentRefs) ByBlock snapshot.extents_root) rest [] a b c first kept)
-
-append-assoc : {X : Type 0} (xs ys zs : List X) → (xs ++ ys) ++ zs ≡ xs ++ (ys ++ zs)
-append-assoc [] ys zs = refl
-append-assoc (x ∷ xs) ys zs = ap (λ ws. x ∷ ws) (append-assoc xs ys zs)
 
 -- one more snapshot
 told-more : (slot map : ℕ) (hashed : Bool) (k : ℕ) (xs : List Snapshot) (x : Snapshot) → told_snapshots slot map hashed k (xs ++ x ∷ []) ≡ told_snapshots slot map hashed k xs ++ told_snapshot (past_at slot map hashed (k + length xs) x) x
-told-more slot map hashed k [] x = list-end (told_snapshot (past_at slot map hashed k x) x) ∙ ap (λ i. told_snapshot (past_at slot map hashed i x) x) (let e : k ≡ k + 0 = omega arith in e)
+told-more slot map hashed k [] x = append-nil (told_snapshot (past_at slot map hashed k x) x) ∙ ap (λ i. told_snapshot (past_at slot map hashed i x) x) (let e : k ≡ k + 0 = omega arith in e)
 told-more slot map hashed k (y ∷ ys) x =
     ap (λ ns. told_snapshot (past_at slot map hashed k y) y ++ ns) (told-more slot map hashed (suc k) ys x)
-    ∙ (sym (append-assoc (told_snapshot (past_at slot map hashed k y) y) (told_snapshots slot map hashed (suc k) ys) (told_snapshot (past_at slot map hashed (suc k + length ys) x) x))
+    ∙ (sym (append_assoc (told_snapshot (past_at slot map hashed k y) y) (told_snapshots slot map hashed (suc k) ys) (told_snapshot (past_at slot map hashed (suc k + length ys) x) x))
     ∙ ap (λ i. (told_snapshot (past_at slot map hashed k y) y ++ told_snapshots slot map hashed (suc k) ys) ++ told_snapshot (past_at slot map hashed i x) x) (let e : suc k + length ys ≡ k + suc (length ys) = omega arith in e))
 
 pasts-more : (slot map : ℕ) (hashed : Bool) (k : ℕ) (xs : List Snapshot) (x : Snapshot) → pasts_namings slot map hashed k (xs ++ x ∷ []) ≡ pasts_namings slot map hashed k xs ++ past_view_namings (past_at slot map hashed (k + length xs) x) x
-pasts-more slot map hashed k [] x = list-end (past_view_namings (past_at slot map hashed k x) x) ∙ ap (λ i. past_view_namings (past_at slot map hashed i x) x) (let e : k ≡ k + 0 = omega arith in e)
+pasts-more slot map hashed k [] x = append-nil (past_view_namings (past_at slot map hashed k x) x) ∙ ap (λ i. past_view_namings (past_at slot map hashed i x) x) (let e : k ≡ k + 0 = omega arith in e)
 pasts-more slot map hashed k (y ∷ ys) x =
     ap (λ ns. past_view_namings (past_at slot map hashed k y) y ++ ns) (pasts-more slot map hashed (suc k) ys x)
-    ∙ (sym (append-assoc (past_view_namings (past_at slot map hashed k y) y) (pasts_namings slot map hashed (suc k) ys) (past_view_namings (past_at slot map hashed (suc k + length ys) x) x))
+    ∙ (sym (append_assoc (past_view_namings (past_at slot map hashed k y) y) (pasts_namings slot map hashed (suc k) ys) (past_view_namings (past_at slot map hashed (suc k + length ys) x) x))
     ∙ ap (λ i. (past_view_namings (past_at slot map hashed k y) y ++ pasts_namings slot map hashed (suc k) ys) ++ past_view_namings (past_at slot map hashed i x) x) (let e : suc k + length ys ≡ k + suc (length ys) = omega arith in e))
-
-length-take : {X : Type 0} (xs : List X) (i : ℕ) → i < length xs → length (take i xs) ≡ i
-length-take [] i low = absurd (omega arith)
-length-take (x ∷ xs) zero low = refl
-length-take (x ∷ xs) (suc i) low = ap suc (length-take xs i (omega arith))
 
 -- the snapshots before a place, and the one at it
 pub pasts-next : (image : List ℕ) (seen : Seen) (slot map : ℕ) (hashed : Bool) (xs : List Snapshot) (i : ℕ) (x : Snapshot) (view : ViewAt) (a b c : Held) → i < length xs → get_or xs i x ≡ x → view ≡ past_at slot map hashed i x
@@ -69,7 +56,7 @@ pub pasts-next : (image : List ℕ) (seen : Seen) (slot map : ℕ) (hashed : Boo
     → Adds image seen (told_snapshots slot map hashed 0 (take (i + 1) xs)) (pasts_namings slot map hashed 0 (take (i + 1) xs)) a c
 pasts-next image seen slot map hashed xs i x view a b c low is same before one =
     let more : take (i + 1) xs ≡ take i xs ++ x ∷ [] = take_more xs i x low ∙ ap (λ y. take i xs ++ y ∷ []) is in
-    let long : length (take i xs) ≡ i = length-take xs i low in
+    let long : length (take i xs) ≡ i = length-take-le i xs (omega arith) in
     let place : 0 + length (take i xs) ≡ i = omega (arith, long) in
     let told : told_snapshots slot map hashed 0 (take (i + 1) xs) ≡ told_snapshots slot map hashed 0 (take i xs) ++ told_snapshot view x =
     ap (told_snapshots slot map hashed 0) more ∙ (told-more slot map hashed 0 (take i xs) x ∙ (ap (λ k. told_snapshots slot map hashed 0 (take i xs) ++ told_snapshot (past_at slot map hashed k x) x) place

@@ -23,7 +23,8 @@ use Rattle.bt_cursor.proofs.Wholes.{whole_means}
 use Rattle.nx_ring.specs.Checkpoint.{Seen, site_of}
 use Rattle.ext_ref.specs.Ranges.{ext_tree, oids_of, node_blocks_of}
 use Rattle.ext_ref.specs.Scanned.{ext_steps}
-use Rattle.ext_ref.specs.Stops as scans
+use Rattle.ext_ref.specs.Scanned as scans
+use Rattle.ext_ref.specs.Stops.{is_short_item as is_short_extent, IsExtStop}
 use Rattle.ext_ref.specs.declared.range.NewRange.{NewRange}
 use Rattle.ext_ref.specs.declared.stop.ExtStop.{ExtStop}
 use Rattle.ext_ref.specs.declared.stop.ExtStop.TheVariants as exts
@@ -55,8 +56,8 @@ unfolding scans.is_right_tree scans.has_long_values
 scanned-whole image seen root steps ranges some s =
     let tree : Tree ExtKey = ext_tree image (site_of seen) in
     let both = other-true (root == 0) (is_whole tree root && scans.has_long_values image (site_of seen) root) some s.right in
-    whole-from (extents-kind image seen) root scans.is_short_item (λ item. refl) (whole_means tree root (left-true (is_whole tree root) (scans.has_long_values image (site_of seen) root) both))
-    (not-true (list_any scans.is_short_item (line_of tree root)) (right-true (is_whole tree root) (scans.has_long_values image (site_of seen) root) both))
+    whole-from (extents-kind image seen) root is_short_extent (λ item. refl) (whole_means tree root (left-true (is_whole tree root) (scans.has_long_values image (site_of seen) root) both))
+    (not-true (list_any is_short_extent (line_of tree root)) (right-true (is_whole tree root) (scans.has_long_values image (site_of seen) root) both))
 
 -- what its root's naming leads to is told by its steps
 pub scanned-namings : (image : List ℕ) (seen : Seen) (root : Naming) (steps : List Step) (ranges : List NewRange) → (root.oid == 0) ≡ false → root.how ≡ ByBlock → root.expected ≡ TreeRoot ExtentRefs → scans.IsScanned image (site_of seen) root.oid steps ranges →
@@ -85,7 +86,7 @@ extents-reached image seen root (exts.Walk walks.Counts) p = p
 extents-reached image seen root (exts.Value item) p = p
 
 -- what stops a scan is there
-pub extents-tells : (image : List ℕ) (seen : Seen) (root : ℕ) → IsRootNaming image seen ExtentRefs ByBlock root → (stop : Stop ExtStop) → Tells (scans.IsExtStop image (site_of seen) root) (scans.IsExtFeature image (site_of seen) root) stop →
+pub extents-tells : (image : List ℕ) (seen : Seen) (root : ℕ) → IsRootNaming image seen ExtentRefs ByBlock root → (stop : Stop ExtStop) → Tells (IsExtStop image (site_of seen) root) (scans.IsExtFeature image (site_of seen) root) stop →
     Tells (IsReachedFault image seen) (HasFeature image seen) (raised (of_extents seen root) stop)
 extents-tells image seen root r (Found fault) t = extents-reached image seen root fault (extents-present image seen root r fault t)
 extents-tells image seen root r (Unsupported feature block) (some, gap) = gap-told image seen ExtentRefs ByBlock ext_shape (in_container (site_of seen).blocks) (extents-walk image seen) root r (Unsupported feature block) gap

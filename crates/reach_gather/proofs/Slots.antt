@@ -1,6 +1,6 @@
 -- What a volume adds, from the naming of its slot on.
 use Rattle.std.proofs.Common.{◌≡◌, ℕ, zero, suc, ◌+◌, ◌<◌, Bool, true, false, List, [], ◌∷◌, ◌++◌, length, take, get_or, Option, None, Some, inl, inr, refl, ap, sym, ◌∙◌, subst, arith}
-use Rattle.std.proofs.lemmas.List.{take_more}
+use Rattle.std.proofs.lemmas.List.{take_more, append-nil, append_assoc}
 use Rattle.std.specs.Prelude.{if◌then◌else◌}
 use Rattle.apfs_model.specs.Lists.{In}
 use Rattle.apfs_model.proofs.Searches.{in-map}
@@ -79,10 +79,6 @@ slot-pool image seen volume part =
 slot-root : (image : List ℕ) (seen : Seen) (volume : Loaded) → IsRightRoot image seen (head_naming volume.head)
 slot-root image seen volume = λ kind is. absurd (let z : VolumeIn volume.head.slot ≡ TreeRoot kind = is in let q : ⊥ = cc in q)
 
-list-end : {X : Type 0} (xs : List X) → xs ++ [] ≡ xs
-list-end [] = refl
-list-end (x ∷ xs) = ap (λ ys. x ∷ ys) (list-end xs)
-
 -- a volume, and all that its superblock names but what its views do
 pub volume-adds : (image : List ℕ) (seen : Seen) (volume : Loaded) (n : Naming) (mapping : Mapping) (map : ℕ) (found : OmapRecord) (a b c : Held) (part : IsVolumePart image seen volume.head volume) → n ≡ head_naming volume.head
     → mapping ≡ record { map = map; oid = found.oid; xid = found.xid; flags = found.flags; size = found.size; paddr = found.paddr } → map ≡ omap_oid_of seen.nx → found ≡ part.mapping
@@ -96,7 +92,7 @@ volume-adds image seen volume n mapping map found a b c part is e m f p q r belo
     adds-step image seen h (volume_views seen me volume) a b c part.plain refl (slot-root image seen volume)
     (grewby-one image seen h a b (p ∙ ap (λ x. a.namings ++ x ∷ []) is)
     (q ∙ (ap (λ o. a.owners ++ o ∷ []) (owner-is seen mapping map found part.mapping e m f) ∙ ap (λ os. a.owners ++ some_owners os) (sym (slot-owners image seen volume part))))
-    (r ∙ (sym (list-end a.pool_owners) ∙ ap (λ os. a.pool_owners ++ some_owners os) (sym (slot-pool image seen volume part)))))
+    (r ∙ (sym (append-nil a.pool_owners) ∙ ap (λ os. a.pool_owners ++ some_owners os) (sym (slot-pool image seen volume part)))))
     (adds-as image seen (told_volume seen me volume) (next image seen h) (volume_views seen me volume) b c part.leads names)
 
 -- ---- volume by volume
@@ -104,13 +100,9 @@ slots-more : (xs : List Loaded) (x : Loaded) → slots_namings (xs ++ x ∷ []) 
 slots-more [] x = refl
 slots-more (y ∷ ys) x = ap (λ ns. head_naming y.head ∷ ns) (slots-more ys x)
 
-append-assoc : {X : Type 0} (xs ys zs : List X) → (xs ++ ys) ++ zs ≡ xs ++ (ys ++ zs)
-append-assoc [] ys zs = refl
-append-assoc (x ∷ xs) ys zs = ap (λ ws. x ∷ ws) (append-assoc xs ys zs)
-
 views-more : (seen : Seen) (namer : Loaded → Namer) (xs : List Loaded) (x : Loaded) → loaded_views seen namer (xs ++ x ∷ []) ≡ loaded_views seen namer xs ++ volume_views seen (namer x) x
-views-more seen namer [] x = list-end (volume_views seen (namer x) x)
-views-more seen namer (y ∷ ys) x = ap (λ ns. volume_views seen (namer y) y ++ ns) (views-more seen namer ys x) ∙ sym (append-assoc (volume_views seen (namer y) y) (loaded_views seen namer ys) (volume_views seen (namer x) x))
+views-more seen namer [] x = append-nil (volume_views seen (namer x) x)
+views-more seen namer (y ∷ ys) x = ap (λ ns. volume_views seen (namer y) y ++ ns) (views-more seen namer ys x) ∙ sym (append_assoc (volume_views seen (namer y) y) (loaded_views seen namer ys) (volume_views seen (namer x) x))
 
 pub volumes-next : (image : List ℕ) (seen : Seen) (namer : Loaded → Namer) (xs : List Loaded) (i : ℕ) (x : Loaded) (a b c : Held) → i < length xs → get_or xs i x ≡ x
     → Adds image seen (slots_namings (take i xs)) (loaded_views seen namer (take i xs)) a b

@@ -1,5 +1,6 @@
 -- What a space adds: its manager, its free queues, and the blocks that tell of chunks.
 use Rattle.std.proofs.Common.{◌≡◌, ℕ, Bool, true, false, cond, List, [], ◌∷◌, ◌++◌, map, Some, inl, inr, refl, ap, sym, ◌∙◌, subst}
+use Rattle.std.proofs.lemmas.List.{append-nil, append_assoc}
 use Rattle.std.specs.Prelude.{not, ◌==◌, if◌then◌else◌}
 use Rattle.std.specs.List.{list_all}
 use Rattle.apfs_model.specs.Lists.{In}
@@ -23,8 +24,8 @@ use Rattle.reach_gather.specs.ViewParts.{is_in_view}
 use Rattle.reach_gather.specs.Account.{AreRightTrees}
 use Rattle.reach_gather.specs.Container.{pool_queue_naming, main_queue_naming, manager_naming}
 use Rattle.reach_gather.specs.Space.{manager_namer, blocks_namings}
-use Rattle.reach_gather.proofs.Space.{space-part}
-use Rattle.reach_gather.proofs.Views.{outside-views}
+use Rattle.reach_gather.proofs.SpacePart.{space-part}
+use Rattle.reach_gather.proofs.ViewParts.{outside-views}
 use Rattle.reach_gather.specs.Held.{Held, GrewBy, some_owners}
 use Rattle.reach_gather.specs.Adds.{Adds}
 use Rattle.reach_gather.specs.Infos.{known_cabs, known_cibs, bitmaps_from}
@@ -32,12 +33,7 @@ use Rattle.reach_gather.specs.Pooled.{ArePooled}
 use Rattle.reach_gather.specs.Steps.{block_owner}
 use Rattle.reach_gather.proofs.Growing.{grewby-one, grewby-join, outside-both, trees-both}
 use Rattle.reach_gather.proofs.Owning.{own-id, pool-id}
-use Rattle.reach_gather.proofs.Numbered.{append-assoc}
 use Rattle.reach_gather.proofs.Chunked.{blocks-grew, blocks-expect}
-
-list-end : {X : Type 0} (xs : List X) → xs ++ [] ≡ xs
-list-end [] = refl
-list-end (x ∷ xs) = ap (λ ys. x ∷ ys) (list-end xs)
 
 -- of two owners those with a block
 two-some : (o p : Owner) → some_owners (o ∷ p ∷ []) ≡ (if o.blocks == 0 then [] else o ∷ []) ++ (if p.blocks == 0 then [] else p ∷ [])
@@ -74,8 +70,8 @@ manager-grew image seen manager block a b has p q r s =
     let t : Owner = ring_of manager in
     let own : owners_through image seen n ≡ o ∷ t ∷ [] = own-id image seen n SpaceManager p refl refl ∙ ap (λ m. pool_of m ∷ ring_of m ∷ []) (manager-bytes image seen manager block has p) in
     grewby-one image seen n a b q
-    (r ∙ (append-assoc a.owners (if pool_blocks_of manager == 0 then [] else o ∷ []) (if ring_blocks_of manager == 0 then [] else t ∷ []) ∙ ap (λ xs. a.owners ++ xs) (sym (two-some o t) ∙ ap some_owners (sym own))))
-    (s ∙ (sym (list-end a.pool_owners) ∙ ap (λ xs. a.pool_owners ++ some_owners xs) (sym (pool-id image seen n SpaceManager p refl refl))))
+    (r ∙ (append_assoc a.owners (if pool_blocks_of manager == 0 then [] else o ∷ []) (if ring_blocks_of manager == 0 then [] else t ∷ []) ∙ ap (λ xs. a.owners ++ xs) (sym (two-some o t) ∙ ap some_owners (sym own))))
+    (s ∙ (sym (append-nil a.pool_owners) ∙ ap (λ xs. a.pool_owners ++ some_owners xs) (sym (pool-id image seen n SpaceManager p refl refl))))
 
 -- ---- all of it
 manager-outside : (image : List ℕ) (seen : Seen) (n : Naming) → In n (manager_naming seen.nx ∷ []) → is_in_view n.how ≡ false

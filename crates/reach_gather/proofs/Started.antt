@@ -1,5 +1,6 @@
 -- What the EFI jumpstart adds.
 use Rattle.std.proofs.Common.{◌≡◌, ℕ, Bool, true, false, List, [], ◌∷◌, ◌++◌, map, inl, inr, refl, ap, sym, ◌∙◌, subst, if◌then◌else◌}
+use Rattle.std.proofs.lemmas.List.{append-nil}
 use Rattle.std.specs.Prelude.{◌==◌}
 use Rattle.apfs_model.specs.Blocks.{block_of}
 use Rattle.apfs_model.specs.Lists.{In, Lists}
@@ -25,10 +26,6 @@ use Rattle.reach_gather.proofs.Growing.{grewby-one}
 use Rattle.reach_gather.proofs.Owning.{own-block, pool-block}
 use Rattle.reach_gather.proofs.Told.{told-after}
 use Rattle.reach_gather.proofs.Fields.{unless-some}
-
-list-end : {X : Type 0} (xs : List X) → xs ++ [] ≡ xs
-list-end [] = refl
-list-end (x ∷ xs) = ap (λ ys. x ∷ ys) (list-end xs)
 
 same-all : {X : Type 0} (xs : List X) → map (λ (x : X). x) xs ≡ xs
 same-all [] = refl
@@ -68,5 +65,5 @@ jump-adds image seen extents a b c is not p q r s t u =
       grew = grewby-one image seen n a c (s ∙ p)
           (told-after a.owners b.owners c.owners (block_owner n) (told_from n 0 (map (λ (r : ℕ × ℕ). r) extents)) (told_from n 0 (jump_extents_of plain.object.bytes)) q t (ap (told_from n 0) (same-all extents ∙ told))
           ∙ ap (λ xs. a.owners ++ some_owners xs) (sym own))
-          (u ∙ (r ∙ (sym (list-end a.pool_owners) ∙ ap (λ xs. a.pool_owners ++ some_owners xs) (sym (pool-block image seen n Jumpstart plain refl refl refl)))));
+          (u ∙ (r ∙ (sym (append-nil a.pool_owners) ∙ ap (λ xs. a.pool_owners ++ some_owners xs) (sym (pool-block image seen n Jumpstart plain refl refl refl)))));
     }

@@ -1,8 +1,8 @@
 -- The owners that are told range by range.
-use Rattle.std.proofs.Common.{◌≡◌, ℕ, zero, suc, ◌+◌, ◌<◌, Bool, true, false, cond, List, [], ◌∷◌, ◌++◌, length, map, take, get_or, refl, ap, sym, ◌∙◌, arith}
+use Rattle.std.proofs.Common.{◌≡◌, ℕ, suc, ◌+◌, ◌<◌, Bool, true, false, cond, List, [], ◌∷◌, ◌++◌, length, map, take, get_or, refl, ap, sym, ◌∙◌, arith}
 use Rattle.std.specs.Prelude.{not, ◌==◌, if◌then◌else◌}
 use Rattle.std.specs.List.{filter}
-use Rattle.std.proofs.lemmas.List.{take_more}
+use Rattle.std.proofs.lemmas.List.{take_more, append_assoc, map-append, length-take-le}
 use Rattle.reach_rules.specs.Naming.{Naming}
 use Rattle.reach_rules.specs.Owners.{Owner, owner, owner_of, Told, told_from}
 use Rattle.reach_gather.specs.Held.{some_owners}
@@ -23,22 +23,9 @@ one-some : (b : Bool) (o : Owner) → cond (not b) (o ∷ []) [] ≡ (if b then 
 one-some true o = refl
 one-some false o = refl
 
-map-more : {X Y : Type 0} (f : X → Y) (xs : List X) (x : X) → map f (xs ++ x ∷ []) ≡ map f xs ++ f x ∷ []
-map-more f [] x = refl
-map-more f (y ∷ ys) x = ap (λ zs. f y ∷ zs) (map-more f ys x)
-
 length-map : {X Y : Type 0} (f : X → Y) (xs : List X) → length (map f xs) ≡ length xs
 length-map f [] = refl
 length-map f (x ∷ xs) = ap suc (length-map f xs)
-
-length-take : {X : Type 0} (xs : List X) (i : ℕ) → i < length xs → length (take i xs) ≡ i
-length-take [] i low = absurd (omega arith)
-length-take (x ∷ xs) zero low = refl
-length-take (x ∷ xs) (suc i) low = ap suc (length-take xs i (omega arith))
-
-append-assoc : {X : Type 0} (xs ys zs : List X) → (xs ++ ys) ++ zs ≡ xs ++ (ys ++ zs)
-append-assoc [] ys zs = refl
-append-assoc (x ∷ xs) ys zs = ap (λ ws. x ∷ ws) (append-assoc xs ys zs)
 
 -- one more range is told
 pub tell-more : {T : Type 0} (n : Naming) (range : T → ℕ × ℕ) (xs : List T) (i : ℕ) (x : T) (r : ℕ × ℕ) (old mid new : List Owner) → i < length xs → get_or xs i x ≡ x → r ≡ range x
@@ -49,15 +36,15 @@ tell-more n range xs i x r old mid new low is same m given =
     let so_far : List Owner = some_owners (told_from n 0 (map range (take i xs))) in
     let p : Owner → Bool = λ (o : Owner). not (o.blocks == 0) in
     let more : take (i + 1) xs ≡ take i xs ++ x ∷ [] = take_more xs i x low ∙ ap (λ y. take i xs ++ y ∷ []) is in
-    let long : length (map range (take i xs)) ≡ i = length-map range (take i xs) ∙ length-take xs i low in
+    let long : length (map range (take i xs)) ≡ i = length-map range (take i xs) ∙ length-take-le i xs (omega arith) in
     let place : 0 + length (map range (take i xs)) ≡ i = omega (arith, long) in
     let told : told_from n 0 (map range (take (i + 1) xs)) ≡ told_from n 0 (map range (take i xs)) ++ owner_of (Told n i) (range x) ∷ [] =
     ap (λ ys. told_from n 0 (map range ys)) more
-    ∙ (ap (told_from n 0) (map-more range (take i xs) x)
+    ∙ (ap (told_from n 0) (map-append range (take i xs) (x ∷ []))
     ∙ (told-more n 0 (map range (take i xs)) (range x)
     ∙ ap (λ k. told_from n 0 (map range (take i xs)) ++ owner_of (Told n k) (range x) ∷ []) place)) in
     e ∙ (ap (λ ys. ys ++ (if (range x).1 == 0 then [] else owner (Told n i) (range x).0 (range x).1 ∷ [])) m
-    ∙ (append-assoc old so_far _
+    ∙ (append_assoc old so_far _
     ∙ (ap (λ ys. old ++ (so_far ++ ys)) (sym (one-some ((range x).1 == 0) (owner (Told n i) (range x).0 (range x).1)))
     ∙ (ap (λ ys. old ++ ys) (sym (filter-more p (told_from n 0 (map range (take i xs))) (owner_of (Told n i) (range x) ∷ [])))
     ∙ ap (λ ys. old ++ some_owners ys) (sym told)))))

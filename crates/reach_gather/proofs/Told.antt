@@ -1,5 +1,6 @@
 -- The ranges that were kept of a tree are those of which its root tells.
-use Rattle.std.proofs.Common.{◌≡◌, ℕ, List, [], ◌∷◌, ◌++◌, refl, ap, sym, ◌∙◌}
+use Rattle.std.proofs.Common.{◌≡◌, ℕ, List, [], ◌∷◌, ◌++◌, ap, sym, ◌∙◌}
+use Rattle.std.proofs.lemmas.List.{append-nil, append_assoc}
 use Rattle.ext_ref.specs.declared.range.NewRange.{NewRange}
 use Rattle.space_pool.specs.declared.entry.QueueEntry.{QueueEntry}
 use Rattle.reach_rules.specs.Owners.{Owner}
@@ -8,17 +9,9 @@ use Rattle.reach_gather.specs.Held.{some_owners}
 abbrev pub range_of_new : NewRange → ℕ × ℕ
 range_of_new r = (r.first, r.length)
 
-append-assoc : {X : Type 0} (xs ys zs : List X) → (xs ++ ys) ++ zs ≡ xs ++ (ys ++ zs)
-append-assoc [] ys zs = refl
-append-assoc (x ∷ xs) ys zs = ap (λ ws. x ∷ ws) (append-assoc xs ys zs)
-
-list-end : {X : Type 0} (xs : List X) → xs ++ [] ≡ xs
-list-end [] = refl
-list-end (x ∷ xs) = ap (λ ys. x ∷ ys) (list-end xs)
-
 -- a block, and then what is told
 pub told-after : (old mid new : List Owner) (o : Owner) (told same : List Owner) → mid ≡ old ++ o ∷ [] → new ≡ mid ++ some_owners told → told ≡ same → new ≡ old ++ o ∷ some_owners same
-told-after old mid new o told same m e s = e ∙ (ap (λ xs. xs ++ some_owners told) m ∙ (append-assoc old (o ∷ []) (some_owners told) ∙ ap (λ xs. old ++ o ∷ some_owners xs) s))
+told-after old mid new o told same m e s = e ∙ (ap (λ xs. xs ++ some_owners told) m ∙ (append_assoc old (o ∷ []) (some_owners told) ∙ ap (λ xs. old ++ o ∷ some_owners xs) s))
 
 abbrev pub range_of_entry : QueueEntry → ℕ × ℕ
 range_of_entry e = (e.paddr, e.length)
@@ -28,4 +21,4 @@ pub told-next : (old mid new : List Owner) (told same : List Owner) → mid ≡ 
 told-next old mid new told same m e s = e ∙ (ap (λ xs. xs ++ some_owners told) m ∙ ap (λ xs. old ++ some_owners xs) s)
 
 pub told-none : (old mid new : List Owner) → mid ≡ old → new ≡ mid → new ≡ old ++ []
-told-none old mid new m e = e ∙ (m ∙ sym (list-end old))
+told-none old mid new m e = e ∙ (m ∙ sym (append-nil old))

@@ -1,7 +1,6 @@
 -- What is told of a naming's object is there.
-use Rattle.std.proofs.Common.{◌≡◌, ℕ, Bool, true, false, List, [], ◌∷◌, ◌++◌, Option, Some, None, Result, Ok, Err, is_ok, inl, inr, refl, ap, sym, ◌∙◌, subst}
-use Rattle.std.specs.Prelude.{option_map, option_and_then}
-use Rattle.apfs_model.specs.Blocks.{in_container}
+use Rattle.std.proofs.Common.{◌≡◌, ℕ, true, false, List, [], ◌++◌, Option, Some, None, Result, Ok, Err, is_ok, inl, refl, ap, sym, ◌∙◌, subst}
+use Rattle.std.specs.Prelude.{option_and_then}
 use Rattle.apfs_model.specs.Lists.{In, through}
 use Rattle.apfs_model.proofs.Searches.{in-right}
 use Rattle.obj_base.specs.Sound.{sound_of, expecting}
@@ -14,20 +13,18 @@ use Rattle.obj_base.specs.declared.stop.Feature.{Feature}
 use Rattle.obj_base.specs.declared.stop.Stop.{Stop}
 use Rattle.obj_base.specs.declared.stop.Stop.TheVariants as stops
 use Rattle.obj_base.specs.declared.stop.Within.TheVariants.{Ephemeral}
-use Rattle.obj_base.specs.declared.site.Site.{Site}
 use Rattle.nx_ring.specs.Objects.{Place}
 use Rattle.nx_ring.specs.Checkpoint.{Seen, eph, site_of}
 use Rattle.nx_ring.specs.Reading.{eph_ids}
 use Rattle.nx_ring.proofs.Laws.{eph_in}
-use Rattle.reach_rules.specs.declared.fault.Why.{Why}
 use Rattle.reach_rules.specs.declared.fault.ReachFault.{ReachFault}
 use Rattle.reach_rules.specs.declared.fault.ReachFault.TheVariants.{Unsound, Unnamed}
-use Rattle.reach_rules.specs.Naming.{ByMapping, OfId, Whole, Naming}
+use Rattle.reach_rules.specs.Naming.{ByMapping, Whole, Naming}
 use Rattle.reach_rules.specs.Resolved.{Found, resolved, mapped}
 use Rattle.reach_rules.specs.Tested.{Answer, of_header, head_tested, tested}
 use Rattle.reach_rules.specs.Next.{names, names_if, next}
 use Rattle.reach_rules.specs.Live.{IsLive, IsSoundFor}
-use Rattle.reach_rules.specs.Features.{Placed, field_features, tested_features, used_features, features_through, HasFeature, of}
+use Rattle.reach_rules.specs.Features.{field_features, tested_features, used_features, features_through, HasFeature, of}
 use Rattle.reach_rules.specs.Faults.{within_of, xid_of}
 use Rattle.reach_rules.specs.Reached.{IsReachedFault}
 use Rattle.reach_gather.specs.Namings.{IsPlainNaming}

@@ -34,7 +34,7 @@ pub record IsKindOf {K : Type 0} (image : List ℕ) (seen : Seen) (kind : TreeKi
   pub nodes : (root : ℕ) → has_all_nodes image seen kind root ≡ is_walkable (tree_in shape (site_of seen) named image) root
   pub steps : (root : ℕ) → tree_steps image seen kind root ≡ steps_of (tree_in shape (site_of seen) named image) root
 
-none-from : (o : Option ℕ) → is_none o ≡ true → o ≡ None
+pub none-from : (o : Option ℕ) → is_none o ≡ true → o ≡ None
 none-from None e = refl
 none-from (Some n) e = absurd (cc)
 

@@ -1,20 +1,20 @@
 -- The chain of the reaper, as far as it was walked.
-use Rattle.std.proofs.Common.{◌≡◌, ℕ, zero, suc, ◌+◌, ◌-◌, ◌<◌, ◌≤◌, Bool, true, false, not, ◌&&◌, ◌||◌, ◌==◌, List, [], ◌∷◌, ◌++◌, length, map, ◌⊎◌, inl, inr, refl, ap, sym, ◌∙◌, subst, arith, length-append, if◌then◌else◌}
+use Rattle.std.proofs.Common.{◌≡◌, ℕ, ◌+◌, ◌-◌, ◌<◌, ◌≤◌, Bool, true, false, ◌==◌, List, [], ◌∷◌, ◌++◌, length, ◌⊎◌, inl, inr, refl, ap, sym, ◌∙◌, subst, arith, length-append, if◌then◌else◌}
 use Rattle.std.proofs.lemmas.Grind.{common_steps}
 use Rattle.std.proofs.lemmas.List.{length-map}
 use Rattle.apfs_model.specs.Apart.{Apart}
-use Rattle.apfs_model.specs.Lists.{In, Lists, has, last_or}
+use Rattle.apfs_model.specs.Lists.{In, has, last_or}
 use Rattle.apfs_model.proofs.BoolTests.{clash, never-true, equal-from}
 use Rattle.apfs_model.proofs.Finite.{apart-length}
 use Rattle.apfs_model.proofs.Searches.{in-left, in-right, in-append, in-has}
 use Rattle.obj_base.specs.declared.stop.Within.TheVariants.{Ephemeral}
-use Rattle.nx_block.specs.Super.{reaper_oid_of, slots}
+use Rattle.nx_block.specs.Super.{reaper_oid_of}
 use Rattle.nx_ring.specs.Objects.{Place}
 use Rattle.nx_ring.specs.Checkpoint.{Seen}
 use Rattle.nx_ring.specs.Reading.{eph_ids}
 use Rattle.reach_rules.specs.Naming.{LookUp, ByMapping, Newest, OfId, Namer, Whole, Expected, ReaperObject, ReapList, Naming, naming}
 use Rattle.reach_rules.specs.Next.{roots, next, unless_zero}
-use Rattle.reach_rules.specs.Live.{Live, rooted, led, IsLive}
+use Rattle.reach_rules.specs.Live.{rooted, led, IsLive}
 use Rattle.reach_rules.specs.Faults.{is_once, within_of, xid_of, IsNamedTwice}
 use Rattle.reach_rules.proofs.Nexts.{in-unless}
 use Rattle.reach_gather.specs.Namings.{IsPlainNaming}

@@ -1,5 +1,5 @@
 -- The EFI jumpstart of a container (EFI Jumpstart, nx_efi_jumpstart_t).
-use Rattle.std.specs.Prelude.{◌≡◌, ℕ, Bool, ◌==◌, List, [], ◌∷◌, Option, Some, Result, Ok, Err, if◌then◌else◌}
+use Rattle.std.specs.Prelude.{◌≡◌, ℕ, ◌==◌, List, [], Some, Result, if◌then◌else◌}
 use Rattle.apfs_model.specs.Blocks.{block_of}
 use Rattle.apfs_model.specs.Lists.{In, Lists}
 use Rattle.apfs_model.specs.Object.{jumpstart_kind}

@@ -1,5 +1,5 @@
 -- The namings of a tree, made from its steps.
-use Rattle.std.specs.Prelude.{◌≡◌, ◌≤◌, ◌+◌, ℕ, zero, suc, Bool, List, [], ◌∷◌, map, flat_map, count_by, Option, None, Some}
+use Rattle.std.specs.Prelude.{◌≡◌, ◌≤◌, ◌+◌, ℕ, zero, suc, Bool, List, [], ◌∷◌, map, flat_map, count_by, Some}
 use Rattle.apfs_model.specs.Lists.{In, Lists}
 use Rattle.nx_ring.specs.Checkpoint.{Seen, site_of}
 use Rattle.omap_map.specs.Maps.{record_tree, snapshot_tree}

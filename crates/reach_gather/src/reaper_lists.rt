@@ -78,7 +78,7 @@ fn further(cp: &Checkpoint, first: bool, oid: u64) -> Result<u64, Stop<ReachFaul
 
 /// The ids of the reaper and of its lists, in the order of the chain; none where the superblock names no reaper. `Unnamed`, `Unsound` and
 /// `Unsupported` tell of one of these objects, `NamedTwice` of an id that was met before, so that a chain that goes round is no endless one.
-pub fn reap(alloc: Global, cp: &Checkpoint) -> Result<Vec<u64>, Stop<ReachFault>>
+pub(crate) fn reap(alloc: Global, cp: &Checkpoint) -> Result<Vec<u64>, Stop<ReachFault>>
     ensures clear { (image : List ℕ) → IfOk result (λ ids. IsReaped image cp.now ids.items) }
     ensures present { (image : List ℕ) → IfErr result (Tells (IsReachedFault image cp.now) (HasFeature image cp.now)) }
     ensures exact { (image : List ℕ) → IsRightReaper image cp.now → IfErr result IsFree }

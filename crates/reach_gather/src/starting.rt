@@ -74,7 +74,7 @@ fn extents(alloc: Global, jump: &Jump<'_>) -> Result<Vec<(u64, u64)>, Stop<Reach
 
 /// The extents of the driver of a container's EFI jumpstart, by one read, and none where the superblock names no jumpstart. `Unnamed` and `Unsound`
 /// tell of it, also where its extents don't fit it, and `Unsupported` of its header.
-pub fn jumpstart<S: BlockSource>(
+pub(crate) fn jumpstart<S: BlockSource>(
     alloc: Global,
     src: &mut S,
     cp: &Checkpoint,

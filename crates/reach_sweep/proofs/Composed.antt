@@ -4,7 +4,7 @@ use Rattle.nx_ring.specs.Checkpoint.{Seen}
 use Rattle.omap_map.specs.declared.records.OmapRecord.{OmapRecord}
 use Rattle.reach_rules.specs.Naming.{Naming}
 use Rattle.reach_rules.specs.Tally.{IsNumberOf}
-use Rattle.reach_gather.proofs.Gathered.{gathered-reaches}
+use Rattle.reach_gather.proofs.Reaches.{gathered-reaches}
 use Rattle.reach_gather.specs.Finished.{IsObjectOf}
 use Rattle.reach_sweep.specs.Composed.{records_used, AreCallsReached, PartsCompose}
 use Rattle.reach_sweep.proofs.Added.{parts-added, held-same}

@@ -1,6 +1,7 @@
 -- The first owners, and what the volumes need so that they are added, told of the heads.
 use Rattle.std.proofs.Common.{◌≡◌, ℕ, Bool, true, false, cond, List, [], ◌∷◌, ◌++◌, map, refl, ap, sym, ◌∙◌, subst}
 use Rattle.std.specs.Prelude.{not, ◌==◌, if◌then◌else◌}
+use Rattle.std.proofs.lemmas.List.{append_assoc}
 use Rattle.std.proofs.lemmas.List.Elements.{filter-append}
 use Rattle.apfs_model.specs.Lists.{In}
 use Rattle.apfs_model.proofs.Searches.{in-map}
@@ -17,7 +18,6 @@ use Rattle.reach_gather.specs.Volumes.Laws.{HasParts}
 use Rattle.reach_gather.specs.Held.{Held, some_owners}
 use Rattle.reach_gather.specs.Adds.{Adds, AreLive}
 use Rattle.reach_gather.specs.Views.{AreNamedParts, slots_namings}
-use Rattle.reach_gather.proofs.Numbered.{append-assoc}
 use Rattle.reach_sweep.specs.Views.{head_of, AreVolumes, volumes_views}
 use Rattle.reach_sweep.proofs.Added.{parts-added}
 use Rattle.reach_sweep.proofs.Records.{heads-live}
@@ -36,7 +36,7 @@ pub some-more : (os : List Owner) (o : Owner) (old mid new : List Owner) → mid
 some-more os o old mid new m n =
     let p : Owner → Bool = λ (x : Owner). not (x.blocks == 0) in
     n ∙ (ap (λ xs. xs ++ told_if_some o) m
-    ∙ (append-assoc old (some_owners os) (told_if_some o)
+    ∙ (append_assoc old (some_owners os) (told_if_some o)
     ∙ (ap (λ xs. old ++ (some_owners os ++ xs)) (sym (one-some (o.blocks == 0) o))
     ∙ ap (λ xs. old ++ xs) (sym (filter-append p os (o ∷ []))))))
 

@@ -13,7 +13,7 @@ use Rattle.reach_rules.specs.Maps.{IsUsed}
 use Rattle.reach_gather.specs.Container.{all_views}
 use Rattle.reach_gather.specs.ViewParts.{is_in_view, record_object, ResolvesTo, AreJoined}
 use Rattle.reach_gather.proofs.Joined.{parts-join}
-use Rattle.reach_gather.proofs.Views.{joined-tells}
+use Rattle.reach_gather.proofs.ViewParts.{joined-tells}
 use Rattle.view_sweep.specs.declared.used.Used.{Used}
 use Rattle.view_sweep.specs.Unused.{used_in}
 use Rattle.view_sweep.proofs.Idles.{maps-unused}

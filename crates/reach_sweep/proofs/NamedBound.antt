@@ -25,7 +25,7 @@ use Rattle.reach_gather.specs.Container.{all_views}
 use Rattle.reach_gather.specs.ViewParts.{is_in_view, record_object}
 use Rattle.reach_gather.specs.Ranges.{joined_objects}
 use Rattle.reach_gather.proofs.Joined.{live-among}
-use Rattle.reach_gather.proofs.Views.{view-live}
+use Rattle.reach_gather.proofs.ViewParts.{view-live}
 use Rattle.view_sweep.specs.declared.used.Used.{Used}
 use Rattle.view_sweep.specs.Named.{AreReached}
 use Rattle.view_sweep.specs.Unused.{used_in}

@@ -14,7 +14,7 @@ use Rattle.reach_rules.specs.Next.{roots}
 use Rattle.reach_rules.specs.Live.{IsLive, rooted}
 use Rattle.reach_gather.specs.Container.{reaper_naming, jumpstart_naming}
 use Rattle.reach_gather.specs.ViewParts.{record_object, ResolvesTo}
-use Rattle.reach_gather.proofs.Views.{view-live}
+use Rattle.reach_gather.proofs.ViewParts.{view-live}
 use Rattle.reach_gather.specs.Volumes.Told.{head_naming}
 use Rattle.reach_gather.specs.Volumes.Parts.{IsVolumePart}
 use Rattle.reach_gather.specs.Volumes.Laws.{HasParts}

@@ -48,6 +48,11 @@ pub rest-holds : (asked : Asked) (facts : Facts) (A B C D : Type 0) (first : Opt
 rest-holds asked facts A B C D (Some f) a b d there = there
 rest-holds asked facts A B C D None a b d holds = (a, (b, (holds, d)))
 
+-- the same about the last ones
+pub last-holds : (asked : Asked) (facts : Facts) (A B C D : Type 0) (first : Option TreeFault) → A × (B × C) → IsFirst asked facts D first → IsFirst asked facts (A × (B × (C × D))) first
+last-holds asked facts A B C D (Some f) all there = there
+last-holds asked facts A B C D None all holds = (all.0, (all.1.0, (all.1.1, holds)))
+
 -- no fault is given, so the rules hold
 pub none-given : (asked : Asked) (facts : Facts) (A : Type 0) (first : Option TreeFault) (none : Bool) → IsFirst asked facts A first → is_some first ≡ not none → none ≡ true → A
 none-given asked facts A None none holds is e = holds

@@ -4,3 +4,4 @@ pub mod HomeLooks
 pub mod CountingKeys
 pub mod Wholes
 pub mod HomeCounts
+pub mod Together

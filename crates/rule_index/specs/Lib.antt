@@ -4,3 +4,4 @@ pub mod Homes
 pub mod Lost
 pub mod Keys
 pub mod Digests
+pub mod Twins

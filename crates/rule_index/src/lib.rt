@@ -11,6 +11,7 @@ mod key_counts;
 pub mod keys;
 mod kin;
 mod pairs;
+pub mod twins;
 
 pub use index::Index;
 pub use key::KeyRef;

@@ -17,15 +17,16 @@ use std::marker::Model;
 /// An inode, which contracts see as the fact of its record.
 #[derive(Debug, Drop)]
 pub struct InodeFact {
+    // What look-ups ask of many inodes in turn stands side by side, since fields lie as they stand here.
     pub(crate) id: u64,
+    pub(crate) bsd_flags: u32,
+    pub(crate) mode: u16,
+    pub(crate) has_stream: bool,
     pub(crate) parent: u64,
     pub(crate) private_id: u64,
     // The sizes of its stream, where it has one; no option, which would take eight bytes more for each inode.
     pub(crate) stream: StreamSize,
     pub(crate) links: i32,
-    pub(crate) bsd_flags: u32,
-    pub(crate) mode: u16,
-    pub(crate) has_stream: bool,
 }
 
 impl Model for InodeFact {

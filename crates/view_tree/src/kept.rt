@@ -1,10 +1,9 @@
 // The rows of a tree, as they are kept, told and put.
-ghost use Rattle.std.specs.Prelude.{◌≡◌, ◌++◌, ◌≤◌, ℕ, true, List, [], ◌∷◌, Ok, Err, IfOk, IfErr, OnOk, IsErrOf};
+ghost use Rattle.std.specs.Prelude.{◌≡◌, ◌++◌, ◌≤◌, ℕ, List, [], ◌∷◌, Ok, Err, IfOk, IfErr, OnOk, IsErrOf};
 ghost use Rattle.apfs_model.specs.Counts.{Rose};
 ghost use Rattle.apfs_model.specs.Sink.{Wrote, WrotePart};
 ghost use Rattle.obj_base.specs.declared.stop.Stop.TheVariants as stops;
 ghost use Rattle.obj_base.specs.declared.stop.Stop.TheVariants.{ReadFault};
-ghost use Rattle.fs_name.specs.Shown.{shown_name};
 ghost use Rattle.path_walk.specs.Paths.{slash};
 ghost use Rattle.path_walk.specs.declared.target.Target.{Target};
 ghost use Rattle.view_tree.specs.Kept.{path_after, told_rows, held_told};
@@ -12,10 +11,9 @@ ghost use Rattle.view_tree.specs.Puts.{IsPut, Passes};
 ghost use Rattle.view_tree.specs.Texts.{row_text, tree_text};
 ghost use Rattle.view_tree.specs.declared.kept.PutStop.TheVariants as puts;
 
-use crate::lines::{push_kept, push_line};
+use crate::lines::{push_kept, push_line, push_name};
 use apfs_model::Bytes;
 use blk_source::Sink;
-use fs_name::push_shown;
 use obj_base::Stop;
 use path_walk::{KeptTarget, PathStop, Target};
 use std::alloc::{AllocError, Global};
@@ -36,29 +34,6 @@ impl From<AllocError> for PutStop {
 
     fn from(_: AllocError) -> Self {
         PutStop::NoMemory
-    }
-}
-
-// Whether each byte of a name is shown as it is.
-fn is_plain(name: &[u8]) -> bool
-    ensures { result ≡ true → shown_name name.now ≡ name.now }
-{
-    'bytes: for byte in name {
-        if *byte < 0x20 || *byte == 0x7f || *byte == b'/' || *byte == b'\\' {
-            return false;
-        }
-    }
-    true
-}
-
-// Adds a name as it is shown. Most names are, and are copied at once.
-fn push_name(path: &mut Vec<u8>, name: &[u8]) -> Result<(), AllocError>
-    ensures { OnOk result (path.new.items ≡ path.old.items ++ shown_name name.now) }
-{
-    if is_plain(name) {
-        path.extend_from_slice(name)
-    } else {
-        push_shown(path, name)
     }
 }
 
@@ -178,7 +153,7 @@ fn put_lone<W: Sink>(
     ensures { IsPut (tree_text ((path.now, target.now) ∷ [])) result (W.contents out.old) (W.contents out.new) (W.faults out.old) (W.faults out.new) }
 {
     let mut line = Vec::new(alloc);
-    push_line(alloc, &mut line, target, path)?;
+    push_line(&mut line, target, path)?;
     put_waiting(&mut line, out)
 }
 

@@ -8,4 +8,4 @@ mod under;
 
 pub use depth::{tree, tree_rows};
 pub use kept::{KeptRows, PutStop};
-pub use lines::{kind_letter, push_line};
+pub use lines::{kind_letter, push_target};

@@ -18,13 +18,14 @@ ghost use Rattle.path_walk.specs.Parts.{whats, by_part, along, targets_by, Remem
 ghost use Rattle.view_tree.specs.Parts.{is_opened_target, told_of, told_from, row_at, kept_under, IsMemo, IsTaken, TakesFrom, HasAll, IsUnderway, IsTreeStop, IsTreeKnown, StaysKept, AreKeptIn, AreRowsKept, KeepsTaken, KeepsFrom, KeepsPath};
 
 use crate::kept::{KeptRows, Row};
+use crate::lines::push_name_of;
 use apfs_model::{Bytes, NoMemory};
-use fs_name::{Names, push_shown};
+use fs_name::Names;
 use obj_base::Stop;
 use path_walk::by_memory::{go_by, root, target_in};
 use path_walk::choice::{choose_number, parts};
 use path_walk::order::kept_by_name;
-use path_walk::{Files, KeptTarget, PathStop, Place, ROOT};
+use path_walk::{Files, KeptTarget, PathStop, Place};
 use std::alloc::Global;
 use std::collections::BTreeMap;
 use view_facts::EntryFact;
@@ -36,6 +37,9 @@ const DIRECTORY: u16 = 4;
 
 // The first id of those that aren't kept for the format's own use (`MIN_USER_INO_NUM`).
 const FIRST_USER: u64 = 16;
+
+// Room for so many rows isn't given back.
+const MANY: usize = 4096;
 
 // Whether a target is a directory that is entered where it is met on the way.
 fn is_opened(target: &KeptTarget) -> bool
@@ -118,12 +122,14 @@ fn meet_entries(
     ensures stops { (facts : Facts) (path : List ℕ) (first : ℕ) → IsUnderway facts path first files.now.entries.items files.now.inodes.items → IsEntered facts first id → HasAll facts id entries.now → IsMemo facts path memo.old → IfErr result (IsTreeStop facts view.now path) }
     ensures all { (facts : Facts) (path : List ℕ) (first : ℕ) → IsUnderway facts path first files.now.entries.items files.now.inodes.items → IsEntered facts first id → HasAll facts id entries.now → IsMemo facts path memo.old → OnOk result (StaysKept memo.old memo.new × AreKeptIn facts memo.new id) }
 {
-    let mut targets = Vec::new(alloc);
+    let mut targets = Vec::with_capacity(alloc, entries.len())?;
+    let mut shift = 0;
     for (number, entry) in entries.iter().enumerate() {
-        let target = match target_in(alloc, files, view, entry) {
-            Ok(target) => target,
+        let lent = match target_in(alloc, &files.inodes, view, entry, &mut shift) {
+            Ok(lent) => lent,
             Err(stop) => return Err(stop),
         };
+        let target = lent.kept(alloc)?;
         match meet(view, memo, (id, number), target.id(), is_opened(&target)) {
             Ok(()) => {}
             Err(stop) => return Err(stop),
@@ -165,11 +171,22 @@ fn put_on(
     ensures put { OnOk result (reverse left.new.items ≡ map (row_at shared) targets.items ++ reverse left.old.items) }
     ensures memory { IfErr result (λ stop. stop ≡ stops.NoMemory) }
 {
+    left.reserve(targets.len())?;
     let mut targets = targets;
     'put: while let Some(target) = targets.pop() {
         left.push(Row { shared, target })?;
     }
     Ok(())
+}
+
+// Gives memory back where few rows are left of many. It leaves room, so that rows which come and go don't make and free it each time.
+fn thin(left: &mut Vec<Row>)
+    ensures { left.new.items ≡ left.old.items }
+{
+    let room = left.capacity();
+    if MANY < room && left.len() < room / 8 * 3 {
+        left.shrink_to(room / 2);
+    }
 }
 
 // The row of a place that is no directory: the path of the root is its name, and that of another one is its name as it is shown.
@@ -180,12 +197,9 @@ fn lone_row(alloc: Global, place: Place) -> Result<KeptRows, Stop<PathStop>>
 {
     let target = place.target();
     let mut path = Vec::new(alloc);
-    if target.id == ROOT {
-        path.extend_from_slice(target.name.as_slice())?;
-    } else {
-        push_shown(&mut path, target.name.as_slice())?;
-    }
+    push_name_of(&mut path, target.id(), target.name().as_bytes())?;
     let path = Bytes::from_slice(alloc, path.as_slice())?;
+    let target = target.target(alloc)?;
     Ok(KeptRows::lone(path, target))
 }
 
@@ -206,6 +220,7 @@ fn go_under(
     ensures all { (facts : Facts) (path : List ℕ) (first : ℕ) → IsUnderway facts path first files.now.entries.items files.now.inodes.items → (is_opened_target target.now ≡ true → IsEntered facts first target.now.id) → IsMemo facts path memo.old → OnOk result (StaysKept memo.old memo.new × (is_opened_target target.now ≡ true → AreKeptIn facts memo.new target.now.id)) }
 {
     if !is_opened(target) {
+        thin(left);
         return Ok(());
     }
     let targets = match enter(alloc, files, view, memo, target.id()) {

@@ -1,4 +1,4 @@
-// Volumes of made containers.
+// Volumes of made containers, and rings of checkpoints.
 
 mod ranges;
 mod ring;

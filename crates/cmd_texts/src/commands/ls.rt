@@ -11,19 +11,25 @@ ghost use Rattle.cmd_lines.specs.Written.{sunk};
 use crate::meant_view::reach_view;
 use crate::on_path::stopped_on_path;
 use crate::put::{Line, put_lines};
-use crate::target_line::target_line;
 use blk_source::{BlockSource, Sink};
 use cmd_lines::Stopped;
 use cmd_words::Target;
-use path_walk::list;
+use path_walk::{KeptTarget, list_kept};
 use std::alloc::{AllocError, Global};
+use view_tree::push_target;
 
 /// A target's kind, id, size and name.
-impl Line for path_walk::Target {
+impl Line for KeptTarget {
     ghost text = { λ target. target_text target };
 
     fn line(&self, alloc: Global) -> Result<Vec<u8>, AllocError> {
-        target_line(alloc, self)
+        let mut line = Vec::new(alloc);
+        push_target(&mut line, self)?;
+        Ok(line)
+    }
+
+    fn add(&self, _: Global, waiting: &mut Vec<u8>) -> Result<(), AllocError> {
+        push_target(waiting, self)
     }
 }
 
@@ -42,7 +48,7 @@ pub fn write<S: BlockSource, W: Sink>(
         Err(stopped) => return Err(stopped),
     };
     let site = viewed.checkpoint.site();
-    match list(alloc, src, &viewed.volume, &viewed.view, &site, target.path) {
+    match list_kept(alloc, src, &viewed.volume, &viewed.view, &site, target.path) {
         Ok(items) => put_lines(alloc, items.as_slice(), out),
         Err(stop) => Err(stopped_on_path(stop)),
     }

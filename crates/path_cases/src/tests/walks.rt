@@ -102,8 +102,12 @@ const SNAPSHOTS: Holds = Holds::Of(Sample::V);
 const NAMES_OF_THE_ROOT: &str =
     "8 21 0 Ab\n8 22 0 ReadMe\n8 20 0 aB\n4 16 0 d\n8 23 0 no directory\n4 3 0 private\n4 7 0 reserved\n";
 
+// By the bytes of the names: one that another begins with comes first, and the bytes of U+00E9, c3 a9, after those of letters and digits.
+const ALIKE: &str =
+    "8 27 0 p\n8 23 0 photo-0\n8 21 0 photo-01\n8 24 0 photo-01a\n8 22 0 photo-01a.long\n8 20 0 photo-01b\n8 25 0 photo-01\u{e9}\n8 26 0 photo-0\u{e9}\n";
+
 // What paths list.
-fn listings() -> [Case; 15] {
+fn listings() -> [Case; 16] {
     [
         at(Holds::Of(Sample::S), "/", ""),
         at(HELLO, "", "8 16 5 hello.txt\n"),
@@ -120,6 +124,7 @@ fn listings() -> [Case; 15] {
         at(Holds::Names, "/reserved", ""),
         at(Holds::Names, "/private", "8 19 0 kept\n"),
         at(Holds::Ring, "/d/d/d", "4 16 0 d\n"),
+        at(Holds::Alike, "/", ALIKE),
     ]
 }
 
@@ -148,7 +153,7 @@ const TREE_OF_THE_ROOT: &str =
 const TWICE: &str = "Found(Fault(DirNames(IdAt { slot: 0, xid: 1, id: 16 })))";
 
 // Trees, where none enters a directory twice.
-fn trees() -> [Case; 9] {
+fn trees() -> [Case; 10] {
     [
         at(Holds::Of(Sample::S), "/", ""),
         at(HELLO, "/hello.txt", "8 16 5 hello.txt\n"),
@@ -159,6 +164,7 @@ fn trees() -> [Case; 9] {
         at(Holds::Names, "/d/g", "Found(Answer(NotFound))"),
         at(Holds::Ring, "/", TWICE),
         at(Holds::Ring, "/d", TWICE),
+        at(Holds::Alike, "/", ALIKE),
     ]
 }
 

@@ -1,6 +1,6 @@
 -- Trees that are whole, in the words of namings.
 use Rattle.std.proofs.Common.{◌≡◌, ℕ, true, false, List, Option, Some, None, refl, ◌∙◌}
-use Rattle.std.specs.Prelude.{Bool, is_none, slice_get}
+use Rattle.std.specs.Prelude.{Bool, slice_get}
 use Rattle.apfs_model.specs.Lists.{passes}
 use Rattle.bt_node.specs.Shape.{Shape}
 use Rattle.bt_cursor.specs.Tree.{Tree, tree_in}
@@ -12,11 +12,7 @@ use Rattle.nx_ring.specs.Checkpoint.{Seen, site_of}
 use Rattle.reach_rules.specs.Naming.{LookUp, Object, TreeKind}
 use Rattle.reach_rules.specs.Trees.{tree_line, is_short}
 use Rattle.reach_gather.specs.Walked.{IsWholeTree}
-use Rattle.reach_gather.proofs.Walking.{IsKindOf}
-
-none-from : (o : Option ℕ) → is_none o ≡ true → o ≡ None
-none-from None e = refl
-none-from (Some n) e = absurd (cc)
+use Rattle.reach_gather.proofs.Walking.{IsKindOf, none-from}
 
 never-short : (o : Option Item) (short : Item → Bool) → ((item : Item) → short item ≡ false) → passes o short ≡ false
 never-short None short never = refl

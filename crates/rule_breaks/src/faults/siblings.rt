@@ -9,6 +9,7 @@ use crate::fellows::Fellows;
 use crate::{fellows, names};
 use blk_source::NoMemory;
 use rule_index::Index;
+use rule_index::twins::are_together;
 use std::alloc::Global;
 use view_facts::EntryFact;
 use view_rules::TreeFault;
@@ -85,6 +86,10 @@ pub fn fault(
 ) -> Result<Option<TreeFault>, NoMemory>
     ensures { IfOk result (spec.IsFirst asked.now index.now.facts.now (rules.HasEntryFellows index.now.facts.now × (rules.HasLinkFellows index.now.facts.now × (rules.HasMapFellows index.now.facts.now × rules.HasMarks index.now.facts.now)))) }
 {
+    let together = are_together(alloc, index.facts)?;
+    if together {
+        return Ok(unmarked(asked, index));
+    }
     let fellows = Fellows::of(alloc, index.facts)?;
     let entry = lost_entry(asked, &fellows);
     let link = lost_link(alloc, asked, &fellows)?;

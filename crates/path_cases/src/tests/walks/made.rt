@@ -30,6 +30,8 @@ pub(super) enum Holds {
     Names,
     /// Directory 16 with an entry in the root and one in itself.
     Ring,
+    /// Names that share their first eight bytes, or a part of them.
+    Alike,
     /// Directory `d` with 3,000 empty files, and beside it directory `x` with the file `y`.
     Many,
 }
@@ -61,6 +63,17 @@ fn add_names(alloc: Global, tree: &mut FileTree) -> Result<(), AllocError> {
 fn add_ring(alloc: Global, tree: &mut FileTree) -> Result<(), AllocError> {
     tree.add(alloc, InodePlan::directory(16, ROOT), "d")?;
     tree.name(alloc, &entry(16, 16, 4), "d")
+}
+
+fn add_alike(alloc: Global, tree: &mut FileTree) -> Result<(), AllocError> {
+    tree.add(alloc, InodePlan::file(20, ROOT), "photo-01b")?;
+    tree.add(alloc, InodePlan::file(21, ROOT), "photo-01")?;
+    tree.add(alloc, InodePlan::file(22, ROOT), "photo-01a.long")?;
+    tree.add(alloc, InodePlan::file(23, ROOT), "photo-0")?;
+    tree.add(alloc, InodePlan::file(24, ROOT), "photo-01a")?;
+    tree.add(alloc, InodePlan::file(25, ROOT), "photo-01\u{e9}")?;
+    tree.add(alloc, InodePlan::file(26, ROOT), "photo-0\u{e9}")?;
+    tree.add(alloc, InodePlan::file(27, ROOT), "p")
 }
 
 fn add_many(alloc: Global, tree: &mut FileTree) -> Result<(), AllocError> {
@@ -95,6 +108,7 @@ fn plan_of(alloc: Global, holds: Holds) -> Result<Plan, Fail> {
         Holds::Of(which) => return Ok(sample(alloc, which)?),
         Holds::Names => add_names(alloc, &mut tree)?,
         Holds::Ring => add_ring(alloc, &mut tree)?,
+        Holds::Alike => add_alike(alloc, &mut tree)?,
         Holds::Many => add_many(alloc, &mut tree)?,
     }
     planned(alloc, tree)

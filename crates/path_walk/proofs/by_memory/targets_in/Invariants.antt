@@ -1,11 +1,11 @@
 use Rattle.std.proofs.Common.{◌≡◌, take}
 use Rattle.view_rules.specs.Facts.{Facts}
 use Rattle.path_walk.specs.Needs.{HaveFiles}
-use Rattle.path_walk.specs.Parts.{whats, targets_by, Remembers}
+use Rattle.path_walk.specs.Parts.{whats, targets_by, Rises}
 use Rattle.path_walk.proofs.by_memory.targets_in.Given as goal
 
 abbrev pub invariant-loop-entry : goal.invariant-loop-entry
 invariant-loop-entry l = record {
-  targets : (facts : Facts) → Remembers facts l.files.entries.items l.files.inodes.items → l.targets.items ≡ targets_by facts (whats (take l.entry-index l.entries));
-  files : (facts : Facts) → Remembers facts l.files.entries.items l.files.inodes.items → HaveFiles facts (whats (take l.entry-index l.entries));
+  targets : (facts : Facts) → l.inodes ≡ facts.inodes → Rises l.inodes → l.targets.items ≡ targets_by facts (whats (take l.entry-index l.entries));
+  files : (facts : Facts) → l.inodes ≡ facts.inodes → Rises l.inodes → HaveFiles facts (whats (take l.entry-index l.entries));
 }

@@ -1,4 +1,4 @@
-use Rattle.std.proofs.Common.{◌≡◌, List, ℕ, Result, Ok, Err, sym, ◌∙◌, ap, subst}
+use Rattle.std.proofs.Common.{◌≡◌, Ok, Err, sym, ◌∙◌, ap, subst}
 use Rattle.obj_base.specs.Stops.{Tells, raised}
 use Rattle.obj_base.specs.declared.stop.Stop.TheVariants as stops
 use Rattle.obj_base.specs.declared.stop.Within.TheVariants.{Ephemeral}

@@ -1,8 +1,8 @@
 use Rattle.std.proofs.lemmas.Result.{IfOk-weaker}
-use Rattle.std.proofs.Common.{◌≡◌, ◌==◌, false, sym, ◌∙◌, ap, arith}
+use Rattle.std.proofs.Common.{◌∙◌, ap}
 use Rattle.reach_gather.proofs.Ways.{nonzero}
 use Rattle.nx_block.specs.Super.{jumpstart_of}
-use Rattle.reach_gather.proofs.Jumps.{jump-present, jump-free, lacks-present, lacks-free, jumped, unjumped, one-root}
+use Rattle.reach_gather.proofs.Jumps.{jump-present, jump-free, lacks-present, lacks-free, jumped, unjumped}
 use Rattle.reach_gather.proofs.starting.jumpstart.Goals as goal
 
 pub returns-in-Err-clause-present : goal.returns-in-Err-clause-present

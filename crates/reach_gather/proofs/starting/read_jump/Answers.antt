@@ -1,9 +1,6 @@
-use Rattle.std.proofs.Common.{◌≡◌, ◌≤◌, true, false, ◌&&◌, nat_lt, Err, ap, sym, ◌∙◌, subst, arith}
+use Rattle.std.proofs.Common.{◌≡◌, true, false, ◌&&◌, nat_lt, Err, sym, subst}
 use Rattle.obj_base.specs.Stops.{Tells}
-use Rattle.obj_base.specs.declared.site.Site.{Site}
 use Rattle.obj_base.specs.declared.stop.Stop.TheVariants as stops
-use Rattle.blk_read.proofs.Sizes.{accepted_size}
-use Rattle.nx_ring.specs.Checkpoint.{site_of}
 use Rattle.reach_gather.specs.Jumped.{told_jump}
 use Rattle.reach_gather.proofs.Jumps.{jump-lost, jump-got, jump-bad}
 use Rattle.reach_gather.proofs.starting.read_jump.Goals as goal

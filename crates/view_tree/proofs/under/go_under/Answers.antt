@@ -1,4 +1,4 @@
-use Rattle.std.proofs.Common.{rules, ◌≡◌, true, false, map, reverse, refl, ap, ◌∙◌}
+use Rattle.std.proofs.Common.{rules, ◌≡◌, true, false, List, map, reverse, ap, ◌∙◌}
 use Rattle.path_walk.specs.Places.{target_of}
 use Rattle.path_walk.specs.Listing.{children}
 use Rattle.view_tree.specs.Parts.{is_opened_target}
@@ -6,12 +6,13 @@ use Rattle.view_tree.proofs.RowsKept.{kept_opened, kept_closed}
 use Rattle.view_tree.proofs.Entered.{entered_by}
 use Rattle.view_tree.proofs.Staying.{kept_by}
 use Rattle.apfs_model.proofs.BoolTests.{clash}
+use Rattle.view_tree.specs.declared.kept.Row.{Row}
 use Rattle.view_tree.proofs.under.go_under.Goals as goal
 
 pub returns-then-not-is_opened-clause-gives : goal.returns-then-not-is_opened-clause-gives
 returns-then-not-is_opened-clause-gives c facts path first way entered memo =
     let e : is_opened_target c.args.target.now ≡ false = search rules in
-    kept_closed facts c.args.shared c.args.target.now (reverse c.args.left.now.items) (reverse c.args.left.now.items) e refl
+    kept_closed facts c.args.shared c.args.target.now (reverse c.args.left.now.items) (reverse c.thin.new.left.items) e (ap (λ (l : List Row). reverse l) c.thin.ensures)
 
 pub returns-in-Err-clause-stops : goal.returns-in-Err-clause-stops
 returns-in-Err-clause-stops c facts path first way entered memo =

@@ -23,8 +23,8 @@ returns-in-Err-clause-answer g c =
     way_stopped g.S.BlockSource.bytes g.S.BlockSource.faults (Ls Quick target) (command.wanted target.path) (command.told target.path) target c.args.src.now c.reach_view.new.src c.in-Err.stopped
     (g.W.Sink.contents c.args.out.now) (g.W.Sink.faults c.args.out.now) (ls_over target) c.in-Err.ensures.way c.in-Err.ensures.looking c.in-Err.ensures.cause
 
-pub returns-in-Ok-list-clause-answer : goal.returns-in-Ok-list-clause-answer
-returns-in-Ok-list-clause-answer g c =
+pub returns-in-Ok-list_kept-clause-answer : goal.returns-in-Ok-list_kept-clause-answer
+returns-in-Ok-list_kept-clause-answer g c =
     let target : AskedTarget = target_asked c.args.target in
     let seen : Seen = c.in-Ok.viewed.checkpoint in
     let volume : Loaded = c.in-Ok.viewed.volume in
@@ -32,8 +32,8 @@ returns-in-Ok-list-clause-answer g c =
     let site : Site = c.site-site.result in
     let at : IsAtView g.S.BlockSource.bytes g.S.BlockSource.faults target c.args.src.now c.reach_view.new.src seen volume view site =
     record { site_is = c.site-site.ensures; meant = c.in-Ok.ensures.clear; same_bytes = c.in-Ok.ensures.kept.same_bytes; later = c.in-Ok.ensures.kept.later } in
-    list_put g.S.BlockSource.bytes g.S.BlockSource.faults (Ls Quick target) (λ facts. listing facts target.path) ls_text (command.told target.path) target c.args.src.now c.reach_view.new.src c.list.new.src
-    seen volume view site c.in-Ok-list.items.items c.put_lines.result (sunk g.W.Sink.contents g.W.Sink.faults c.args.out.now c.put_lines.new.out) (ls_over target) (c.in-Ok-list.items.items, refl) at c.in-Ok-list.ensures.exact
+    list_put g.S.BlockSource.bytes g.S.BlockSource.faults (Ls Quick target) (λ facts. listing facts target.path) ls_text (command.told target.path) target c.args.src.now c.reach_view.new.src c.list_kept.new.src
+    seen volume view site c.in-Ok-list_kept.items.items c.put_lines.result (sunk g.W.Sink.contents g.W.Sink.faults c.args.out.now c.put_lines.new.out) (ls_over target) (c.in-Ok-list_kept.items.items, refl) at c.in-Ok-list_kept.ensures.exact
     (rw c.as_slice.ensures.value at c.put_lines.ensures)
 
 pub returns-clause-answer : goal.returns-clause-answer
@@ -46,6 +46,6 @@ returns-clause-answer g c =
     let at : IsAtView g.S.BlockSource.bytes g.S.BlockSource.faults target c.args.src.now c.reach_view.new.src seen volume view site =
     record { site_is = c.site-site.ensures; meant = c.in-Ok.ensures.clear; same_bytes = c.in-Ok.ensures.kept.same_bytes; later = c.in-Ok.ensures.kept.later } in
     rw c.stopped_on_path.ensures
-    (list_stopped g.S.BlockSource.bytes g.S.BlockSource.faults (Ls Quick target) (λ facts. listing facts target.path) ls_text (command.told target.path) target c.args.src.now c.reach_view.new.src c.list.new.src
-    seen volume view site (λ (rows : Vec Target Global). rows.items) c.in-Err-list.stop (g.W.Sink.contents c.args.out.now) (g.W.Sink.faults c.args.out.now) (ls_over target) at
-    c.in-Err-list.ensures.exact c.in-Err-list.ensures.present (λ image given fault e. tt) c.in-Err-list.ensures.cause)
+    (list_stopped g.S.BlockSource.bytes g.S.BlockSource.faults (Ls Quick target) (λ facts. listing facts target.path) ls_text (command.told target.path) target c.args.src.now c.reach_view.new.src c.list_kept.new.src
+    seen volume view site (λ (rows : Vec Target Global). rows.items) c.in-Err-list_kept.stop (g.W.Sink.contents c.args.out.now) (g.W.Sink.faults c.args.out.now) (ls_over target) at
+    c.in-Err-list_kept.ensures.exact c.in-Err-list_kept.ensures.present (λ image given fault e. tt) c.in-Err-list_kept.ensures.cause)

@@ -1,19 +1,11 @@
-use Rattle.std.proofs.Common.{◌≡◌, ◌==◌, ◌∙◌, List, ap, sym, subst}
-use Rattle.std.specs.Prelude.{filter}
-use Rattle.std.proofs.lemmas.Bool.Decides.{Decides-eqb}
-use Rattle.apfs_model.specs.Lists.{In}
-use Rattle.apfs_model.proofs.Searches.{from-filter, filter-test}
+use Rattle.std.proofs.Common.{List, sym, subst, ◌∙◌}
 use Rattle.fs_record.specs.Entries.{Entry}
-use Rattle.fs_record.specs.Facts.{Fact, is_reserved}
+use Rattle.fs_record.specs.Facts.{Fact}
 use Rattle.path_walk.specs.Parts.{Rises}
 use Rattle.path_walk.proofs.files.Files.directory.Goals as goal
 
 pub returns-clause-counted : goal.returns-clause-counted
-returns-clause-counted c facts r e h =
-    let items : List (Fact Entry) = c.args.self.now.entries.items in
-    let test = λ (f : Fact Entry). f.id == c.args.id in
-    let same : c.run_of.result.now ≡ filter test items = c.run_of.ensures (subst (λ (l : List (Fact Entry)). Rises l) (sym c.deref.ensures.value) r.entries_rise) ∙ ap (filter test) c.deref.ensures.value in
-    let k : In e (filter test items) = subst (λ (l : List (Fact Entry)). In e l) same h in (
-      subst (λ (l : List (Fact Entry)). In e l) r.all_entries (from-filter test e items k),
-      ap is_reserved ((Decides-eqb e.id c.args.id).0 (filter-test test e items k)) ∙ (sym c.is_reserved.ensures ∙ c.if-is_reserved.false),
-    )
+returns-clause-counted c facts r = c.directory_in.ensures.counted facts (c.deref.ensures.value ∙ r.all_entries) (subst (λ (l : List (Fact Entry)). Rises l) (sym c.deref.ensures.value) r.entries_rise)
+
+pub returns-clause-all : goal.returns-clause-all
+returns-clause-all c facts r = c.directory_in.ensures.all facts (c.deref.ensures.value ∙ r.all_entries) (subst (λ (l : List (Fact Entry)). Rises l) (sym c.deref.ensures.value) r.entries_rise)

@@ -2,7 +2,7 @@ use Rattle.std.proofs.Common.{subst}
 use Rattle.view_rules.specs.Facts.{Facts}
 use Rattle.view_rules.specs.Siblings.{HasEntryFellows, HasLinkFellows, HasMapFellows, HasMarks}
 use Rattle.rule_breaks.specs.Faults.{IsFirst}
-use Rattle.rule_breaks.proofs.Shown.{both}
+use Rattle.rule_breaks.proofs.Shown.{both, last-holds}
 use Rattle.rule_breaks.proofs.faults.siblings.fault.Goals as goal
 
 pub returns : goal.returns
@@ -17,3 +17,9 @@ returns c =
     (both a f (HasMapFellows f) (HasMarks f) c.in_ok-map.map c.unmarked-mark.result c.or.result c.or.ensures
     (subst (λ (g : Facts). IsFirst a g (HasMapFellows g) c.in_ok-map.map) e c.in_ok-map.ensures)
     c.unmarked-mark.ensures))
+
+pub returns-then-together : goal.returns-then-together
+returns-then-together c =
+    let a = c.args.asked.now in
+    let f = c.args.index.now.facts.now in
+    last-holds a f (HasEntryFellows f) (HasLinkFellows f) (HasMapFellows f) (HasMarks f) c.unmarked.result (c.in_ok-together.ensures c.if-together.true) c.unmarked.ensures

@@ -2,7 +2,7 @@
 use Rattle.std.specs.Prelude.{ℕ, List, refl}
 use Rattle.nx_ring.specs.Checkpoint.{Seen}
 use Rattle.reach_gather.specs.Ranges.{RangesTold}
-use Rattle.reach_gather.proofs.Views.{joined-tells}
+use Rattle.reach_gather.proofs.ViewParts.{joined-tells}
 
 pub ranges-told : (image : List ℕ) (seen : Seen) → RangesTold image seen
 ranges-told image seen = record {

@@ -70,11 +70,11 @@ cib-plain image seen namer at i oid info =
     (ok-header f.bytes (info_test image (site_of seen) cib_kind oid) (info-ok image seen cib_kind oid info)) refl refl
 
 -- where the addresses of chunk-info blocks are
-own-block : (B : ℕ) (image manager : List ℕ) (i : ℕ) → (cabs_of manager == 0) ≡ true → cib_block B image manager i ≡ address_at manager i
+pub own-block : (B : ℕ) (image manager : List ℕ) (i : ℕ) → (cabs_of manager == 0) ≡ true → cib_block B image manager i ≡ address_at manager i
 unfolding cib_block
 own-block B image manager i e = ap (λ (b : Bool). if b then address_at manager i else cab_address_at (block_of B image (cab_block_for manager i)) (i % cab_cibs_of manager)) e
 
-other-block : (B : ℕ) (image manager : List ℕ) (i : ℕ) → (cabs_of manager == 0) ≡ false → cib_block B image manager i ≡ cab_address_at (block_of B image (cab_block_for manager i)) (i % cab_cibs_of manager)
+pub other-block : (B : ℕ) (image manager : List ℕ) (i : ℕ) → (cabs_of manager == 0) ≡ false → cib_block B image manager i ≡ cab_address_at (block_of B image (cab_block_for manager i)) (i % cab_cibs_of manager)
 unfolding cib_block
 other-block B image manager i e = ap (λ (b : Bool). if b then address_at manager i else cab_address_at (block_of B image (cab_block_for manager i)) (i % cab_cibs_of manager)) e
 

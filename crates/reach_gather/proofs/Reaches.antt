@@ -9,9 +9,9 @@ use Rattle.reach_rules.specs.Reached.{range_of, AreRangesOf}
 use Rattle.reach_rules.specs.Tally.{IsObjectCount}
 use Rattle.reach_gather.specs.Ranges.{joined_owners}
 use Rattle.reach_gather.specs.Gathered.{AreOwnersOf, GatheredReaches}
-use Rattle.reach_gather.proofs.Views.{joined-tells}
+use Rattle.reach_gather.proofs.ViewParts.{joined-tells}
 use Rattle.reach_gather.proofs.Account.{account-told}
-use Rattle.reach_gather.proofs.Ranges.{ranges-told}
+use Rattle.reach_gather.proofs.RangesTold.{ranges-told}
 
 -- owners of which a list is known, by those of them that have a block
 ranges-by : (P : Owner → Type 0) (these those : List Owner) → Lists those P → AreOwnersOf these those → AreRangesOf P (map range_of these)

@@ -6,7 +6,7 @@ use Rattle.path_walk.proofs.Known.{unanswered_given}
 use Rattle.path_walk.specs.Needs.{ListingNeeds, HasEntriesOf}
 use Rattle.path_walk.proofs.Needed.{rests_stopped, rests_to, rests_ends}
 use Rattle.view_rules.specs.Facts.{Facts}
-use Rattle.path_walk.proofs.listings.list.Goals as goal
+use Rattle.path_walk.proofs.listings.list_kept.Goals as goal
 
 pub returns-in-Err-clause-exact : goal.returns-in-Err-clause-exact
 returns-in-Err-clause-exact g c image told lawful =

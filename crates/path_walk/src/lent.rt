@@ -1,0 +1,51 @@
+// Targets whose names stand in the entries that lead to them.
+ghost use Rattle.std.specs.Prelude.{◌≡◌, IfOk};
+ghost use Rattle.path_walk.specs.Places as spec;
+
+use crate::kept::{KeptTarget, size};
+use apfs_model::NoMemory;
+use std::alloc::Global;
+use std::marker::Model;
+use view_facts::{EntryFact, InodeFact};
+
+/// A target whose name isn't copied: it stands in the entry. Contracts see it as the target.
+#[derive(Drop)]
+pub struct LentTarget<'a> {
+    entry: &'a EntryFact,
+    size: u64,
+    kind: u16,
+}
+
+impl<'a> Model for LentTarget<'a> {
+    ghost use Rattle.path_walk.specs.declared.target.Target as targets;
+
+    ghost Value = { targets.Target };
+
+    ghost view = { λ a. record { id = a.entry.now.what.file_id; name = a.entry.now.what.name; kind = a.kind; size = a.size } };
+}
+
+impl<'a> LentTarget<'a> {
+    /// What an entry's file is, which has this inode.
+    pub(crate) fn of(entry: &'a EntryFact, inode: &InodeFact) -> LentTarget<'a>
+        ensures { result ≡ spec.target_of (spec.placed entry.now.what.file_id entry.now.what.name inode.now.what) }
+    {
+        LentTarget {
+            entry,
+            size: size(inode.stream()),
+            kind: inode.kind(),
+        }
+    }
+
+    /// A copy with a name of its own.
+    pub fn kept(&self, alloc: Global) -> Result<KeptTarget, NoMemory>
+        ensures { IfOk result (λ target. target ≡ self.now) }
+    {
+        KeptTarget::named(
+            alloc,
+            self.entry.file_id(),
+            self.entry.name(),
+            self.kind,
+            self.size,
+        )
+    }
+}

@@ -1,0 +1,5 @@
+pub mod Leaves
+pub mod Merged
+pub mod Sides
+pub mod Upper
+pub mod Levels

@@ -1,0 +1,221 @@
+// Nodes of object maps, each in a block of its own.
+use crate::{Leaf, Taker, leaves, merge};
+use apfs_model::NoMemory;
+use blk_source::MemSource;
+use bt_cursor::Physical;
+use bt_keys::OmapKey;
+use bt_node::Entry;
+use img_edit::node::{Item, NodeHead, Totals, Tree, node};
+use obj_base::Site;
+use std::alloc::{AllocError, Global};
+use std::process::Abort;
+use std::test::Fail;
+
+const SITE: Site = Site {
+    block_size: 4096,
+    blocks: 5,
+    max_xid: 9,
+};
+
+// The ids of the records that were taken.
+#[derive(Drop)]
+struct Ids(Vec<u64>);
+
+impl Taker<OmapKey> for Ids {
+    ghost holds = { λ ids records. Unit {0} };
+
+    fn take(&mut self, next: Entry<'_, OmapKey>) -> Result<bool, NoMemory> {
+        self.0.push(next.key.oid)?;
+        Ok(true)
+    }
+}
+
+// A leaf with a record for each of some ids.
+fn leaf(alloc: Global, oid: u64, ids: &[u64]) -> Result<Vec<u8>, AllocError> {
+    let mut items: Vec<Item> = Vec::new(alloc);
+    for id in ids {
+        let mut key = Vec::from_slice(alloc, &id.to_le_bytes())?;
+        key.extend_from_slice(&[1, 0, 0, 0, 0, 0, 0, 0])?;
+        items.push((key, vec![in alloc; 0u8; 16]?))?;
+    }
+    let head = NodeHead {
+        oid,
+        xid: 1,
+        level: 0,
+        totals: None,
+    };
+    node(alloc, 4096, &Tree::OBJECT_MAP, &head, &items)?.ok_or(AllocError)
+}
+
+// Block 0 has nothing; block 1 the leaf 7, blocks 2 and 3 two states of the leaf 8, and block 4 the leaf 9.
+fn image(alloc: Global) -> Result<Vec<u8>, AllocError> {
+    let mut image = vec![in alloc; 0u8; 4096]?;
+    image.extend_from_slice(&leaf(alloc, 7, &[1, 2, 3])?)?;
+    image.extend_from_slice(&leaf(alloc, 8, &[4, 5])?)?;
+    image.extend_from_slice(&leaf(alloc, 8, &[4, 6])?)?;
+    image.extend_from_slice(&leaf(alloc, 9, &[9])?)?;
+    image.resize(20480, 0)?;
+    Ok(image)
+}
+
+// Leaves by their ids and blocks, and a merge of them: the ids that are gone, those that have come, and the number of reads.
+struct Case {
+    before: &'static [Leaf],
+    after: &'static [Leaf],
+    gone: &'static [u64],
+    come: &'static [u64],
+    reads: u64,
+}
+
+const SEVEN: Leaf = Leaf { oid: 7, block: 1 };
+
+const EIGHT: Leaf = Leaf { oid: 8, block: 2 };
+
+const NEW_EIGHT: Leaf = Leaf { oid: 8, block: 3 };
+
+const NINE: Leaf = Leaf { oid: 9, block: 4 };
+
+const CASES: [Case; 3] = [
+    Case {
+        before: &[SEVEN, EIGHT, NINE],
+        after: &[SEVEN, NEW_EIGHT, NINE],
+        gone: &[5],
+        come: &[6],
+        reads: 2,
+    },
+    Case {
+        before: &[SEVEN, NINE],
+        after: &[SEVEN, NEW_EIGHT, NINE],
+        gone: &[],
+        come: &[4, 6],
+        reads: 3,
+    },
+    Case {
+        before: &[SEVEN],
+        after: &[],
+        gone: &[1, 2, 3],
+        come: &[],
+        reads: 1,
+    },
+];
+
+fn assert_case(rt: &impl Abort, alloc: Global, case: &Case) -> Result<(), AllocError> {
+    let image = image(alloc)?;
+    assert_eq!(rt; image.len(), 20480);
+    let mut source = MemSource::new(image, Vec::new(alloc));
+    let mut gone = Ids(Vec::new(alloc));
+    let mut come = Ids(Vec::new(alloc));
+    let done = merge::<OmapKey, MemSource, Ids, Ids>(
+        alloc,
+        &mut source,
+        &SITE,
+        case.before,
+        case.after,
+        &mut gone,
+        &mut come,
+    );
+    assert!(rt; matches!(done, Ok(true)));
+    assert_eq!(rt; gone.0.as_slice(), case.gone);
+    assert_eq!(rt; come.0.as_slice(), case.come);
+    assert_eq!(rt; source.read_count(), case.reads);
+    Ok(())
+}
+
+#[test]
+fn leaves_that_both_views_have_are_not_read(rt: HostRuntime) -> Result<(), Fail> {
+    for case in &CASES {
+        assert_case(&rt, rt.alloc(), case)?;
+    }
+    Ok(())
+}
+
+// A node above the leaves, whose entries name some ids; a root of a tree of two levels above its leaves where it has totals.
+fn upper(
+    alloc: Global,
+    oid: u64,
+    level: u16,
+    totals: Option<Totals>,
+    children: &[u64],
+) -> Result<Vec<u8>, AllocError> {
+    let mut items: Vec<Item> = Vec::new(alloc);
+    for child in children {
+        let mut key = Vec::from_slice(alloc, &child.to_le_bytes())?;
+        key.extend_from_slice(&[1, 0, 0, 0, 0, 0, 0, 0])?;
+        items.push((key, Vec::from_slice(alloc, &child.to_le_bytes())?))?;
+    }
+    let head = NodeHead {
+        oid,
+        xid: 1,
+        level,
+        totals,
+    };
+    node(alloc, 4096, &Tree::OBJECT_MAP, &head, &items)?.ok_or(AllocError)
+}
+
+const TOTALS: Totals = Totals {
+    keys: 3,
+    nodes: 6,
+    longest_key: 16,
+    longest_value: 16,
+};
+
+// A tree of which each id is a block: leaves in blocks 1, 2 and 3, above them the nodes in blocks 4 and 5, and the root in block 6. Block 7
+// has a root that names a block outside the container.
+fn tall_image(alloc: Global) -> Result<Vec<u8>, AllocError> {
+    let mut image = vec![in alloc; 0u8; 4096]?;
+    image.extend_from_slice(&leaf(alloc, 1, &[1])?)?;
+    image.extend_from_slice(&leaf(alloc, 2, &[2])?)?;
+    image.extend_from_slice(&leaf(alloc, 3, &[3])?)?;
+    image.extend_from_slice(&upper(alloc, 4, 1, None, &[1, 2])?)?;
+    image.extend_from_slice(&upper(alloc, 5, 1, None, &[3])?)?;
+    image.extend_from_slice(&upper(alloc, 6, 2, Some(TOTALS), &[4, 5])?)?;
+    image.extend_from_slice(&upper(alloc, 7, 1, Some(TOTALS), &[1, 8])?)?;
+    image.resize(32768, 0)?;
+    Ok(image)
+}
+
+// The leaves of the tree of a root in that image, and the number of reads.
+fn leaves_below(
+    rt: &impl Abort,
+    alloc: Global,
+    root: u64,
+) -> Result<(Option<Vec<Leaf>>, u64), AllocError> {
+    let image = tall_image(alloc)?;
+    assert_eq!(rt; image.len(), 32768);
+    let mut source = MemSource::new(image, Vec::new(alloc));
+    let site = Site {
+        block_size: 4096,
+        blocks: 8,
+        max_xid: 9,
+    };
+    let found = leaves::<OmapKey, MemSource, Physical>(
+        alloc,
+        &mut source,
+        &Physical { blocks: 8 },
+        &site,
+        root,
+    );
+    Ok((found.unwrap_or(None), source.read_count()))
+}
+
+#[test]
+fn leaves_are_found_by_the_nodes_above_them(rt: HostRuntime) -> Result<(), Fail> {
+    let (found, reads) = leaves_below(&rt, rt.alloc(), 6)?;
+    let expected = [
+        Leaf { oid: 1, block: 1 },
+        Leaf { oid: 2, block: 2 },
+        Leaf { oid: 3, block: 3 },
+    ];
+    assert!(&rt; found.is_some_and(|leaves| leaves.as_slice() == expected.as_slice()));
+    assert_eq!(&rt; reads, 3);
+    Ok(())
+}
+
+#[test]
+fn no_leaves_are_told_where_one_is_missing(rt: HostRuntime) -> Result<(), Fail> {
+    let (outside, _) = leaves_below(&rt, rt.alloc(), 7)?;
+    assert!(&rt; outside.is_none());
+    let (of_leaf, _) = leaves_below(&rt, rt.alloc(), 1)?;
+    assert!(&rt; of_leaf.is_none());
+    Ok(())
+}
