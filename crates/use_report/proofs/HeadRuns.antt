@@ -46,15 +46,15 @@ one-live old new live view e n f =
 pub next-is : (from end many view : ℕ) → 0 < many → view < many → is_from (from + 1) (min end (many - 1) + 1) view ≡ (nat_lt 0 view && is_from from end (view - 1))
 next-is from end many view some low = one-test (is_from (from + 1) (min end (many - 1) + 1) view) (nat_lt 0 view && is_from from end (view - 1))
     (λ e.
-        let above : from + 1 ≤ view = place-low (from + 1) (min end (many - 1) + 1) view e in
-        let below : view < min end (many - 1) + 1 = place-high (from + 1) (min end (many - 1) + 1) view e in
-        both-true (nat_lt 0 view) (is_from from end (view - 1)) (from-below 0 view (omega arith)) (place-is from end (view - 1) (omega arith) (grind (arith, nat_tests))))
+    let above : from + 1 ≤ view = place-low (from + 1) (min end (many - 1) + 1) view e in
+    let below : view < min end (many - 1) + 1 = place-high (from + 1) (min end (many - 1) + 1) view e in
+    both-true (nat_lt 0 view) (is_from from end (view - 1)) (from-below 0 view (omega arith)) (place-is from end (view - 1) (omega arith) (grind (arith, nat_tests))))
     (λ e.
-        let later : 0 < view = below-from 0 view (left-true (nat_lt 0 view) (is_from from end (view - 1)) e) in
-        let here = right-true (nat_lt 0 view) (is_from from end (view - 1)) e in
-        let above : from ≤ view - 1 = place-low from end (view - 1) here in
-        let below : view - 1 < end = place-high from end (view - 1) here in
-        place-is (from + 1) (min end (many - 1) + 1) view (omega arith) (grind (arith, nat_tests)))
+    let later : 0 < view = below-from 0 view (left-true (nat_lt 0 view) (is_from from end (view - 1)) e) in
+    let here = right-true (nat_lt 0 view) (is_from from end (view - 1)) e in
+    let above : from ≤ view - 1 = place-low from end (view - 1) here in
+    let below : view - 1 < end = place-high from end (view - 1) here in
+    place-is (from + 1) (min end (many - 1) + 1) view (omega arith) (grind (arith, nat_tests)))
 
 pub no-next : (from end many view : ℕ) → from + 1 ≡ many → view < many → (nat_lt 0 view && is_from from end (view - 1)) ≡ false
 no-next from end many view last low = never-true (nat_lt 0 view && is_from from end (view - 1)) (λ e.

@@ -1,6 +1,6 @@
 -- Views that stand side by side, and the first places of views.
 use Rattle.std.proofs.Common.{◌≡◌, ℕ, ◌+◌, ◌-◌, ◌<◌, ◌≤◌, Bool, true, false, nat_lt, List, [], ◌∷◌, ◌++◌, length, map, take, drop, get_or, ◌⊎◌, inl, inr, Option, Some, None, IfSome, refl, ap, sym, ◌∙◌, subst, arith}
-use Rattle.std.specs.Prelude.{IsNone}
+use Rattle.std.specs.Prelude.{◌↔◌, IsNone}
 use Rattle.std.specs.List.Sorted.{IsPartitionPoint, IsPartitionedBy, IsNonDecreasingBy}
 use Rattle.std.proofs.lemmas.Bool.{cases_lt}
 use Rattle.std.proofs.lemmas.Grind.{common_steps}
@@ -19,8 +19,8 @@ use Rattle.view_sweep.specs.declared.wanted.SweptView.{SweptView}
 use Rattle.view_sweep.specs.declared.wanted.Wanted.{Wanted}
 use Rattle.view_sweep.specs.Found.{looked, records_at}
 use Rattle.view_sweep.specs.Next.{AreAsOne, AreNoneAfter, IsNext, IsStretch, AreStretches, AreSoFar, xid_of}
-use Rattle.view_sweep.specs.Runs.{AreRising}
-use Rattle.view_sweep.specs.Sets.{view_of, of_view, is_before, AreDistinct, IsFirst}
+use Rattle.view_sweep.specs.Runs.{has_place, AreRising}
+use Rattle.view_sweep.specs.Sets.{view_of, of_view, is_before, AreDistinct, IsFirst, IsSetOf}
 use Rattle.view_sweep.proofs.Ranked.{in-push}
 use Rattle.view_sweep.proofs.Rises.{rising-put}
 use Rattle.view_sweep.proofs.Since.{looked-is, found-since}
@@ -205,6 +205,16 @@ first-place views at ordered within low apart = record {
   below = within;
   is = refl;
   first = λ q inside e. elim (cases_lt q at) as (λ _. at ≤ q) [ inl less ↦ absurd (apart q at less low e) | inr past ↦ past ];
+}
+
+-- the set of one place
+pub one-set : (views : List SweptView) (set : List Run) (v : SweptView) (place : ℕ) → AreRising set → ((k : ℕ) → (has_place set k ≡ true) ↔ (k ≡ place)) → IsFirst views v place → IsSetOf views set
+one-set views set v place rises one first = record {
+  rising = rises;
+  first = λ p e.
+      let same : place ≡ p = sym ((one p).0 e) in
+      let is : IsFirst views (view_of views place) place = subst (λ (u : SweptView). IsFirst views u place) (sym first.is) first in
+      subst (λ (n : ℕ). IsFirst views (view_of views n) n) same is;
 }
 
 -- the view of a head

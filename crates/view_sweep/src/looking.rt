@@ -169,7 +169,9 @@ pub(crate) fn hits(
 {
     let mut hits = Vec::new(alloc);
     for sought in all {
-        match add_hits(alloc, volumes, site, views, stretches, sought, sets, &mut hits) {
+        match add_hits(
+            alloc, volumes, site, views, stretches, sought, sets, &mut hits,
+        ) {
             Ok(()) => {}
             Err(stop) => return Err(stop),
         }

@@ -25,12 +25,7 @@ fn is_same(a: &Want, b: &Want) -> bool
 }
 
 // The place of a view that wants an id in two ways, as two that are asked for.
-fn clash_of(
-    views: &[SweptView],
-    sets: &[ViewSet],
-    other: &Asked,
-    one: &Asked,
-) -> Option<usize>
+fn clash_of(views: &[SweptView], sets: &[ViewSet], other: &Asked, one: &Asked) -> Option<usize>
     requires sets { AreSets views.now sets.now }
     requires other { other.now.set < length sets.now }
     requires one { one.now.set < length sets.now }

@@ -77,7 +77,8 @@ fn keep_one(
     ensures sets { OnOk result (AreSets views.now sets.old.items → AreSets views.now sets.new.items) }
 {
     let set = one_of(alloc, first_place(views, at, ordered))?;
-    keep(sets, set)
+    let number = keep(sets, set)?;
+    Ok(number)
 }
 
 // What the superblocks of some views want.

@@ -11,7 +11,7 @@ use Rattle.view_sweep.proofs.Waits.{nohead, asked-more, heads-more}
 use Rattle.view_sweep.proofs.sweeping.wants.Goals as goal
 
 pub keep_one-requires-clause-at : goal.keep_one-requires-clause-at
-keep_one-requires-clause-at c = subst (λ (n : ℕ). c.loop-at.at < n) (sym (ap length c.requires.views ∙ length-map (λ (h : Head). h.view) c.args.heads.now)) c.loop-at-test.true
+keep_one-requires-clause-at c = subst (λ (n : ℕ). c.loop-at.at < n) (sym (ap length c.requires.views ∙ length-map c.args.heads.now (λ (h : Head). h.view))) c.loop-at-test.true
 
 pub loop-at-preserved : goal.loop-at-preserved
 loop-at-preserved c =
