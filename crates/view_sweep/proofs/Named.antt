@@ -1,5 +1,5 @@
 -- What is wanted, as a naming: to which object it resolves, and what that one names.
-use Rattle.std.proofs.Common.{◌≡◌, ℕ, zero, suc, true, false, ◌==◌, List, [], ◌∷◌, map, Option, Some, None, Ok, Err, refl, ap, sym, ◌∙◌, if◌then◌else◌}
+use Rattle.std.proofs.Common.{◌≡◌, ℕ, zero, suc, true, false, List, [], ◌∷◌, map, Option, Some, None, Ok, Err, refl, ap, sym, ◌∙◌, if◌then◌else◌}
 use Rattle.std.specs.Prelude.{option_map, option_and_then}
 use Rattle.apfs_model.specs.Blocks.{in_container}
 use Rattle.apfs_model.specs.Lists.{through}
@@ -11,8 +11,7 @@ use Rattle.omap_map.specs.Resolve.{resolved as resolves, latest}
 use Rattle.omap_map.specs.Maps.{map_records, is_whole_map, resolved_in, contents_of}
 use Rattle.omap_map.specs.declared.records.OmapRecord.{OmapRecord}
 use Rattle.vol_view.specs.Volumes.{Loaded, map_or_empty, empty_map}
-use Rattle.vol_view.specs.Fields as volumes
-use Rattle.reach_rules.specs.Naming.{InView, OfRecord, Namer, Whole, Files, Naming, naming}
+use Rattle.reach_rules.specs.Naming.{InView, OfRecord, Namer, Whole, Files, Naming}
 use Rattle.reach_rules.specs.Resolved.{Found, standing, recorded, resolved}
 use Rattle.reach_rules.specs.Tested.{Answer, tested}
 use Rattle.reach_rules.specs.Next.{children_in, child_namings, node_namings, names, names_if, next}

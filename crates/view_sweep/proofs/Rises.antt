@@ -1,5 +1,5 @@
 -- Runs that rise, and their places.
-use Rattle.std.proofs.Common.{◌≡◌, ℕ, zero, suc, ◌+◌, ◌<◌, ◌≤◌, Bool, true, false, ◌&&◌, ◌||◌, nat_le, nat_lt, List, [], ◌∷◌, ◌++◌, length, map, take, drop, get_or, ◌⊎◌, inl, inr, refl, ap, sym, ◌∙◌, subst, arith}
+use Rattle.std.proofs.Common.{◌≡◌, ℕ, zero, suc, ◌+◌, ◌<◌, ◌≤◌, Bool, true, false, ◌&&◌, ◌||◌, nat_le, nat_lt, List, [], ◌∷◌, ◌++◌, length, map, take, drop, get_or, inl, inr, refl, ap, sym, ◌∙◌, subst, arith}
 use Rattle.std.specs.Prelude.{◌↔◌, max, min, Contains}
 use Rattle.std.specs.List.{list_any}
 use Rattle.std.specs.List.Sorted.{IsPartitionPoint, IsPartitionedBy, IsPermutation}
@@ -333,23 +333,6 @@ front-ends low [] last r h i = absurd i
 front-ends low (x ∷ xs) last r h (inl e) = subst (λ (y : Run). y.end ≤ last.from) (sym e) (rising-in x.end (xs ++ last ∷ []) last h.1.1 (in-right last xs (last ∷ []) (inl refl))).0
 front-ends low (x ∷ xs) last r h (inr k) = front-ends x.end xs last r h.1.1 k
 
--- each begins where the last one does, or earlier
-pub last-behind : (front : List Run) (last r : Run) → AreRising (front ++ last ∷ []) → In r (front ++ last ∷ []) → r.from ≤ last.from
-last-behind front last r h i = elim (in-push r front last i) as (λ _. r.from ≤ last.from) [
-  | inl k ↦
-      let a : r.end ≤ last.from = front-ends 0 front last r h k in
-      let b : r.from < r.end = (rising-in 0 front r (rising-front 0 front last h) k).1 in
-      omega arith
-  | inr e ↦ subst (λ (x : Run). x.from ≤ last.from) (sym e) (omega arith)
-]
-
-pub first-behind : (first : Run) (rest : List Run) (r : Run) → AreRising (first ∷ rest) → In r (first ∷ rest) → first.from ≤ r.from
-first-behind first rest r h (inl e) = subst (λ (x : Run). first.from ≤ x.from) (sym e) (omega arith)
-first-behind first rest r h (inr k) =
-    let a : first.from < first.end = h.1.0 in
-    let b : first.end ≤ r.from = (rising-in first.end rest r h.1.1 k).0 in
-    omega arith
-
 pub put-rising : (front old new : List Run) (last run : Run) → old ≡ front ++ last ∷ [] → new ≡ (front ++ last ∷ []) ++ run ∷ [] → last.end < run.from → run.from < run.end → AreRising old → AreRising new
 put-rising front old new last run e n gap some h =
     let was : AreRising (front ++ last ∷ []) = subst AreRising e h in
@@ -425,10 +408,6 @@ behind-all runs more k one other long some order r h s i =
     let c : r.from ≡ (get_or more t.0 nowhere).from = ap begin_of t.1.1 in
     let d : s.from ≡ (get_or runs u.0 nowhere).from = ap begin_of u.1.1 in
     omega arith
-
-pub none-behind : (runs more : List Run) → (length runs ≡ 0) ⊎ (length more ≡ 0) → (r : Run) → In r more → IsBehind r.from runs
-none-behind runs more (inl e) r h s i = let low = (in-place runs s nowhere i).1.0 in absurd (omega (arith, e, low))
-none-behind runs more (inr e) r h s i = let low = (in-place more r nowhere h).1.0 in absurd (omega (arith, e, low))
 
 -- in the order in which they begin
 pub begins-rise : (runs : List Run) (i j : ℕ) (d : Run) → AreRising runs → i ≤ j → j < length runs → begin_of (get_or runs i d) ≤ begin_of (get_or runs j d)

@@ -1,10 +1,9 @@
 -- An id resolves to one record at all transactions between two of its records.
-use Rattle.std.proofs.Common.{◌≡◌, ℕ, ◌<◌, ◌≤◌, List, [], ◌∷◌, Bool, cond, refl, ap, sym, ◌∙◌, arith, inl, inr, Option, None, Some, IfSome, rules, ◌+◌, subst}
+use Rattle.std.proofs.Common.{◌≡◌, ℕ, ◌<◌, ◌≤◌, List, [], ◌∷◌, Bool, cond, refl, ap, sym, ◌∙◌, arith, inl, inr, Option, None, Some, IfSome, rules}
 use Rattle.std.specs.Prelude.{◌⊎◌, filter, option_and_then, IsNone}
 use Rattle.std.proofs.lemmas.Grind.{common_steps}
 use Rattle.apfs_model.specs.Lists.{In, greatest}
 use Rattle.std.specs.Prelude.{option_map}
-use Rattle.std.proofs.lemmas.Bool.{cases_lt}
 use Rattle.apfs_model.specs.Blocks.{in_container}
 use Rattle.obj_base.specs.declared.site.Site.{Site}
 use Rattle.omap_map.specs.Resolve.{is_for, latest, resolved, unless_deleted}
@@ -15,7 +14,7 @@ use Rattle.vol_view.specs.Volumes.{Loaded}
 use Rattle.view_sweep.specs.declared.wanted.SweptView.{SweptView}
 use Rattle.view_sweep.specs.declared.wanted.Wanted.{Wanted}
 use Rattle.view_sweep.specs.Found.{placed, looked, records_at}
-use Rattle.view_sweep.specs.Sets.{view_of, of_view}
+use Rattle.view_sweep.specs.Sets.{of_view}
 use Rattle.view_sweep.specs.Next.{AreNoneAfter, IsNext, AreAsOne}
 
 -- tests that agree on a list leave the same of it
@@ -70,9 +69,3 @@ found-since volumes site w v m next found one since none some less =
     let here : resolved records w.oid w.view.xid ≡ Some m = looked-is site (resolved records w.oid w.view.xid) m found in
     ap (λ (i : ℕ). option_and_then (placed site) (resolved (records_at volumes i) w.oid v.xid)) (sym one.volume)
     ∙ (ap (option_and_then (placed site)) (same-since records w.oid w.view.xid v.xid m next here since none some less ∙ sym here) ∙ found)
-
-pub places-more : (P : SweptView → Type 0) (views : List SweptView) (low i : ℕ) → ((p : ℕ) → low ≤ p → p < i → P (view_of views p)) → P (view_of views i) → (p : ℕ) → low ≤ p → p < i + 1 → P (view_of views p)
-places-more P views low i all one p le less = elim (cases_lt p i) as (λ _. P (view_of views p)) [
-  | inl before ↦ all p le before
-  | inr past ↦ let same : i ≡ p = omega arith in subst (λ (j : ℕ). P (view_of views j)) same one
-]

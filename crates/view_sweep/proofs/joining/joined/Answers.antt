@@ -1,4 +1,4 @@
-use Rattle.std.proofs.Common.{◌+◌, length, take, sym, ◌∙◌, subst}
+use Rattle.std.proofs.Common.{◌+◌, length, take, sym, subst}
 use Rattle.std.proofs.lemmas.List.{take_more}
 use Rattle.view_sweep.specs.declared.wanted.Asked.{Asked}
 use Rattle.view_sweep.specs.Asked.{nth_asked}

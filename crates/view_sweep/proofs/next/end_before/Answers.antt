@@ -1,4 +1,4 @@
-use Rattle.std.proofs.Common.{◌<◌, ◌-◌, ◌≤◌, length, arith}
+use Rattle.std.proofs.Common.{◌<◌, ◌-◌, ◌≤◌, arith}
 use Rattle.view_sweep.proofs.Stretches.{part-long, part-rises, cut-some, cut-before}
 use Rattle.view_sweep.proofs.next.end_before.Goals as goal
 

@@ -1,4 +1,4 @@
-use Rattle.std.proofs.Common.{◌-◌, refl, arith}
+use Rattle.std.proofs.Common.{◌-◌, arith}
 use Rattle.view_sweep.proofs.Stretches.{far-follows, far-ends}
 use Rattle.view_sweep.proofs.next.go_on.Goals as goal
 

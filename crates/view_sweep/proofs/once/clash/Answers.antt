@@ -1,6 +1,4 @@
-use Rattle.std.proofs.Common.{length, refl, ap, sym, ◌∙◌, subst}
-use Rattle.view_sweep.specs.declared.runs.Run.{Run}
-use Rattle.view_sweep.specs.Runs.{has_place}
+use Rattle.std.proofs.Common.{length}
 use Rattle.view_sweep.proofs.Onces.{nth-numbered}
 use Rattle.view_sweep.proofs.once.clash.Goals as goal
 

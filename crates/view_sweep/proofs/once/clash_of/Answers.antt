@@ -1,6 +1,5 @@
-use Rattle.std.proofs.Common.{IfSome, refl, ap, sym, ◌∙◌, subst}
-use Rattle.view_sweep.specs.declared.runs.Run.{Run}
-use Rattle.view_sweep.specs.Runs.{AreRising, has_place}
+use Rattle.std.proofs.Common.{refl, sym, subst}
+use Rattle.view_sweep.specs.Runs.{AreRising}
 use Rattle.view_sweep.proofs.once.clash_of.Goals as goal
 
 pub shared-requires : goal.shared-requires

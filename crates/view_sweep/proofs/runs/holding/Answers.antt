@@ -1,4 +1,4 @@
-use Rattle.std.proofs.Common.{length, arith}
+use Rattle.std.proofs.Common.{arith}
 use Rattle.view_sweep.proofs.Rises.{holding-is}
 use Rattle.view_sweep.proofs.runs.holding.Goals as goal
 

@@ -1,4 +1,4 @@
-use Rattle.std.proofs.Common.{◌≡◌, ◌<◌, take, get_or, length, sym, ◌∙◌, arith}
+use Rattle.std.proofs.Common.{◌<◌, get_or, length, sym, ◌∙◌, arith}
 use Rattle.std.proofs.lemmas.List.{take_all, take_more_same}
 use Rattle.view_sweep.proofs.Rises.{nowhere, run-is}
 use Rattle.view_sweep.proofs.sets.are_same.Goals as goal

@@ -1,4 +1,4 @@
-use Rattle.std.proofs.Common.{◌≡◌, ◌+◌, ◌-◌, sym, ◌∙◌, arith}
+use Rattle.std.proofs.Common.{◌-◌, sym, ◌∙◌, arith}
 use Rattle.view_sweep.proofs.Stretches.{order-more, order-distinct}
 use Rattle.view_sweep.proofs.sets.in_order.Goals as goal
 

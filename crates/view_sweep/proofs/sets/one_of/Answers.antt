@@ -1,6 +1,5 @@
 use Rattle.std.proofs.Common.{◌+◌, List, [], ◌∷◌, ◌++◌, ap, ◌∙◌}
 use Rattle.view_sweep.specs.declared.runs.Run.{Run}
-use Rattle.view_sweep.specs.Runs.{AreRising}
 use Rattle.view_sweep.proofs.Rises.{one-place}
 use Rattle.view_sweep.proofs.sets.one_of.Goals as goal
 
