@@ -1,5 +1,5 @@
 -- Views that stand side by side, and the first places of views.
-use Rattle.std.proofs.Common.{◌≡◌, ℕ, ◌+◌, ◌-◌, ◌<◌, ◌≤◌, true, false, nat_lt, List, [], ◌∷◌, ◌++◌, length, map, take, drop, get_or, inl, inr, Option, Some, IfSome, refl, ap, sym, ◌∙◌, subst, arith}
+use Rattle.std.proofs.Common.{◌≡◌, ℕ, ◌+◌, ◌-◌, ◌<◌, ◌≤◌, true, false, nat_lt, List, [], ◌∷◌, ◌++◌, length, map, take, drop, get_or, inl, inr, Option, None, Some, IfSome, refl, ap, sym, ◌∙◌, subst, arith}
 use Rattle.std.specs.Prelude.{◌↔◌, IsNone}
 use Rattle.std.specs.List.Sorted.{IsPartitionPoint, IsPartitionedBy, IsNonDecreasingBy}
 use Rattle.std.proofs.lemmas.Bool.{cases_lt}
@@ -62,6 +62,9 @@ stretch-more views low end before some e one rises s = record {
 }
 
 -- of some views less
+pub stretch-front : (views : List SweptView) (low end to : ℕ) → to ≤ end → IsStretch views low end → IsStretch views low to
+stretch-front views low end to le s = record { one = λ p q a b c. s.one p q a b (omega arith); rises = λ p q a b c. s.rises p q a b (omega arith) }
+
 pub stretch-part : (views : List SweptView) (low end from : ℕ) → low ≤ from → IsStretch views low end → IsStretch views from end
 stretch-part views low end from le s = record { one = λ p q a b c. s.one p q (omega arith) b c; rises = λ p q a b c. s.rises p q (omega arith) b c }
 
@@ -162,16 +165,36 @@ found-early : (volumes : List Loaded) (site : Site) (w : Wanted) (m : OmapRecord
 unfolding looked
 found-early volumes site w m found = (resolved-means (records_at volumes w.view.volume) w.oid w.view.xid m (looked-is site (resolved (records_at volumes w.view.volume) w.oid w.view.xid) m found)).early
 
-pub found-along : (volumes : List Loaded) (site : Site) (views : List SweptView) (low end p : ℕ) (w : Wanted) (m : OmapRecord) (next : Option ℕ) → w.view ≡ view_of views low → looked volumes site w ≡ Some m → IsStretch views low end → low ≤ p → p < end
-    → (IsNone next → AreNoneAfter (records_at volumes w.view.volume) w.oid w.view.xid) → IfSome next (IsNext (records_at volumes w.view.volume) w.oid w.view.xid) → IfSome next (λ n. (view_of views p).xid < n) → looked volumes site (of_view w (view_of views p)) ≡ Some m
-found-along volumes site views low end p w m next first found s above below none some less =
-    let early : m.xid ≤ w.view.xid = found-early volumes site w m found in
-    let same : w.view.xid ≡ (view_of views low).xid = ap xid_of first in
-    let later : (view_of views low).xid ≤ (view_of views p).xid = s.rises low p (omega arith) above below in
-    found-since volumes site w (view_of views p) m next found (subst (λ (v : SweptView). AreAsOne v (view_of views p)) (sym first) (s.one low p (omega arith) above below)) (omega arith) none some less
+-- what is known of the next record of an id
+abbrev pub IsKnownNext : List Loaded → Wanted → Option ℕ → Type 0
+IsKnownNext volumes w next = (IsNone next → AreNoneAfter (records_at volumes w.view.volume) w.oid w.view.xid) × IfSome next (IsNext (records_at volumes w.view.volume) w.oid w.view.xid)
 
-pub one-along : (views : List SweptView) (low end p : ℕ) (v : SweptView) → v ≡ view_of views low → IsStretch views low end → low ≤ p → p < end → AreAsOne v (view_of views p)
-one-along views low end p v first s above below = subst (λ (u : SweptView). AreAsOne u (view_of views p)) (sym first) (s.one low p (omega arith) above below)
+-- the views from a place up to another are as one view, and find an object by one record
+pub record AreLike (volumes : List Loaded) (site : Site) (views : List SweptView) (w : Wanted) (m : OmapRecord) (low high : ℕ) : Type 0 where
+  pub one : (p : ℕ) → low ≤ p → p < high → AreAsOne w.view (view_of views p)
+  pub found : (p : ℕ) → low ≤ p → p < high → looked volumes site (of_view w (view_of views p)) ≡ Some m
+
+-- those of a stretch, the first of which isn't before the record
+pub like-stretch : (volumes : List Loaded) (site : Site) (views : List SweptView) (w : Wanted) (m : OmapRecord) (from high : ℕ) (next : Option ℕ) → looked volumes site w ≡ Some m → IsKnownNext volumes w next → AreAsOne w.view (view_of views from) → m.xid ≤ (view_of views from).xid
+    → IsStretch views from high → ((p : ℕ) → from ≤ p → p < high → IfSome next (λ n. (view_of views p).xid < n)) → AreLike volumes site views w m from high
+like-stretch volumes site views w m from high next found known first since s before = record {
+  one = λ p above below. one-trans w.view (view_of views from) (view_of views p) first (s.one from p (omega arith) above below);
+  found = λ p above below.
+      let later : (view_of views from).xid ≤ (view_of views p).xid = s.rises from p (omega arith) above below in
+      found-since volumes site w (view_of views p) m next found (one-trans w.view (view_of views from) (view_of views p) first (s.one from p (omega arith) above below)) (omega arith) known.0 known.1 (before p above below);
+}
+
+pub like-first : (volumes : List Loaded) (site : Site) (views : List SweptView) (w : Wanted) (m : OmapRecord) (low high : ℕ) (next : Option ℕ) → w.view ≡ view_of views low → looked volumes site w ≡ Some m → IsKnownNext volumes w next
+    → IsStretch views low high → ((p : ℕ) → low ≤ p → p < high → IfSome next (λ n. (view_of views p).xid < n)) → AreLike volumes site views w m low high
+like-first volumes site views w m low high next first found known s before =
+    let early : m.xid ≤ w.view.xid = found-early volumes site w m found in
+    like-stretch volumes site views w m low high next found known (subst (λ (v : SweptView). AreAsOne w.view v) first (one-self w.view)) (omega (arith, early, ap xid_of first)) s before
+
+pub like-both : (volumes : List Loaded) (site : Site) (views : List SweptView) (w : Wanted) (m : OmapRecord) (low mid high : ℕ) → AreLike volumes site views w m low mid → AreLike volumes site views w m mid high → AreLike volumes site views w m low high
+like-both volumes site views w m low mid high a b = record {
+  one = λ p above below. elim (cases_lt p mid) as (λ _. AreAsOne w.view (view_of views p)) [ inl front ↦ a.one p above front | inr back ↦ b.one p back below ];
+  found = λ p above below. elim (cases_lt p mid) as (λ _. looked volumes site (of_view w (view_of views p)) ≡ Some m) [ inl front ↦ a.found p above front | inr back ↦ b.found p back below ];
+}
 
 -- ---- views that stand one before the other
 

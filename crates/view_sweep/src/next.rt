@@ -155,6 +155,41 @@ fn records_of(volumes: &[Volume], place: usize) -> &[OmapRecord]
     volume.omap.records()
 }
 
+// The end of the views of a stretch, from a place on, that are of a transaction before one, where there is one.
+fn end_from(views: &[SweptView], stretches: &[Run], low: usize, next: Option<u64>) -> usize
+    requires low { low < length views.now }
+    requires rising { AreRising stretches.now }
+    requires all { AreStretches views.now stretches.now }
+    requires first { IfSome next (λ n. (view_of views.now low).xid < n) }
+    ensures more { low < result }
+    ensures inside { result ≤ length views.now }
+    ensures stretch { IsStretch views.now low result }
+    ensures before { (p : ℕ) → low ≤ p → p < result → IfSome next (λ n. (view_of views.now p).xid < n) }
+{
+    let end = stretch_end(views, stretches, low);
+    match next {
+        Some(xid) => end_before(views, low, end, xid),
+        None => end,
+    }
+}
+
+// Whether a view is of the volume of another one, at a transaction from that of a record up to the next one.
+fn is_as_one(first: &SweptView, view: &SweptView, since: u64, next: Option<u64>) -> bool
+    ensures one { IsTrue result → AreAsOne first.now view.now }
+    ensures since { IsTrue result → since ≤ view.now.xid }
+    ensures before { IsTrue result → IfSome next (λ n. view.now.xid < n) }
+{
+    let is_before = match next {
+        Some(next) => view.xid < next,
+        None => true,
+    };
+    is_before
+        && view.volume == first.volume
+        && view.map == first.map
+        && view.hashed == first.hashed
+        && since <= view.xid
+}
+
 /// The end of the views from a place on in which an object is found by one record, which is that of the first of them.
 pub(crate) fn until(
     volumes: &[Volume],
@@ -178,9 +213,10 @@ pub(crate) fn until(
 {
     let first = wanted.view;
     let records = records_of(volumes, first.volume);
-    let end = stretch_end(views, stretches, low);
-    match next_xid(records, wanted.oid, first.xid) {
-        Some(next) => end_before(views, low, end, next),
-        None => end,
+    let next = next_xid(records, wanted.oid, first.xid);
+    let mut high = end_from(views, stretches, low, next);
+    while high < views.len() && is_as_one(&first, &views[high], mapping.xid, next) {
+        high = end_from(views, stretches, high, next);
     }
+    high
 }
