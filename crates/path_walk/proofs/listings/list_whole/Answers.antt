@@ -14,13 +14,13 @@ pub returns-in-Err-clause-exact : goal.returns-in-Err-clause-exact
 returns-in-Err-clause-exact g c image told lawful =
     unanswered_given image c.args.site.now c.args.volume.now c.args.view.now (λ (v : Vec Target Global). v.items) (listing (view_facts image c.args.site.now c.args.volume.now c.args.view.now) c.args.path.now) c.in-Err.stop lawful (c.in-Err.ensures.present image told) c.in-Err.ensures.unanswered
 
-pub returns-clause-exact : goal.returns-clause-exact
-returns-clause-exact g c image told lawful =
+pub returns-in-Err-list-clause-exact : goal.returns-in-Err-list-clause-exact
+returns-in-Err-list-clause-exact g c image told lawful =
     let facts : Facts = view_facts image c.args.site.now c.args.volume.now c.args.view.now in
     known_given image c.args.site.now c.args.volume.now c.args.view.now (λ (v : Vec Target Global). v.items) (listing facts c.args.path.now) (Err c.in-Err-list.stop) lawful (c.in-Err-list.ensures.known facts (sym (ap (λ (v : Loaded). v.names) c.volume.view_is)) (c.in-Ok.ensures.clear image told))
 
-pub returns-clause-present : goal.returns-clause-present
-returns-clause-present g c image told =
+pub returns-in-Err-list-clause-present : goal.returns-in-Err-list-clause-present
+returns-in-Err-list-clause-present g c image told =
     let facts : Facts = view_facts image c.args.site.now c.args.volume.now c.args.view.now in
     known_there image c.args.site.now c.args.volume.now c.args.view.now (λ (v : Vec Target Global). v.items) (listing facts c.args.path.now) c.in-Err-list.stop (c.in-Err-list.ensures.known facts (sym (ap (λ (v : Loaded). v.names) c.volume.view_is)) (c.in-Ok.ensures.clear image told))
 
@@ -34,7 +34,7 @@ returns-in-Ok-list-clause-rests g c image told =
     let facts : Facts = view_facts image c.args.site.now c.args.volume.now c.args.view.now in
     rests_known facts c.args.view.now (λ (v : Vec Target Global). v.items) (listing facts c.args.path.now) (ListingNeeds facts (HasEntriesOf image c.args.site.now c.args.volume.now c.args.view.now) c.args.path.now) (Ok c.in-Ok-list.targets) (c.in-Ok-list.ensures.known facts (sym (ap (λ (v : Loaded). v.names) c.volume.view_is)) (c.in-Ok.ensures.clear image told)) (where_as {T = Vec Target Global} (ListingNeeds facts of_any c.args.path.now) (ListingNeeds facts (HasEntriesOf image c.args.site.now c.args.volume.now c.args.view.now) c.args.path.now) (Ok c.in-Ok-list.targets) (λ h. listing_mono facts c.args.path.now of_any (HasEntriesOf image c.args.site.now c.args.volume.now c.args.view.now) (λ id u. all_entries image c.args.site.now c.args.volume.now c.args.view.now (c.in-Ok.ensures.rests image told) id) h) (c.in-Ok-list.ensures.needs facts (sym (ap (λ (v : Loaded). v.names) c.volume.view_is)) (c.in-Ok.ensures.clear image told)))
 
-pub returns-clause-rests : goal.returns-clause-rests
-returns-clause-rests g c image told =
+pub returns-in-Err-list-clause-rests : goal.returns-in-Err-list-clause-rests
+returns-in-Err-list-clause-rests g c image told =
     let facts : Facts = view_facts image c.args.site.now c.args.volume.now c.args.view.now in
     rests_known facts c.args.view.now (λ (v : Vec Target Global). v.items) (listing facts c.args.path.now) (ListingNeeds facts (HasEntriesOf image c.args.site.now c.args.volume.now c.args.view.now) c.args.path.now) (Err c.in-Err-list.stop) (c.in-Err-list.ensures.known facts (sym (ap (λ (v : Loaded). v.names) c.volume.view_is)) (c.in-Ok.ensures.clear image told)) (where_as {T = Vec Target Global} (ListingNeeds facts of_any c.args.path.now) (ListingNeeds facts (HasEntriesOf image c.args.site.now c.args.volume.now c.args.view.now) c.args.path.now) (Err c.in-Err-list.stop) (λ h. listing_mono facts c.args.path.now of_any (HasEntriesOf image c.args.site.now c.args.volume.now c.args.view.now) (λ id u. all_entries image c.args.site.now c.args.volume.now c.args.view.now (c.in-Ok.ensures.rests image told) id) h) (c.in-Err-list.ensures.needs facts (sym (ap (λ (v : Loaded). v.names) c.volume.view_is)) (c.in-Ok.ensures.clear image told)))
