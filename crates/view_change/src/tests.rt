@@ -22,9 +22,14 @@ const SITE: Site = Site {
 struct Ids(Vec<u64>);
 
 impl Taker<OmapKey> for Ids {
+    ghost use Rattle.std.specs.Prelude.{List, IfOk, IsTrue};
+    ghost use Rattle.bt_node.specs.Entries.{Pair};
+
     ghost holds = { λ ids records. Unit {0} };
 
-    fn take(&mut self, next: Entry<'_, OmapKey>) -> Result<bool, NoMemory> {
+    fn take(&mut self, next: Entry<'_, OmapKey>) -> Result<bool, NoMemory>
+        ensures taken { (records : List Pair) → Unit {0} → IfOk result (λ taken. IsTrue taken → Unit {0}) }
+    {
         self.0.push(next.key.oid)?;
         Ok(true)
     }
