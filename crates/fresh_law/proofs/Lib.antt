@@ -26,3 +26,4 @@ pub mod Superblocks
 pub mod Bitmaps
 pub mod Image
 pub mod Fresh
+mod Clean

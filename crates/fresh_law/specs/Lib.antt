@@ -4,3 +4,4 @@ pub mod Law
 pub mod Site
 pub mod Facts
 pub mod Says
+pub mod Formatted
