@@ -2,5 +2,5 @@ pub mod Leaves
 pub mod Ends
 pub mod Merged
 pub mod Sides
-pub mod Upper
-pub mod Levels
+pub mod Outline
+pub mod Walked
