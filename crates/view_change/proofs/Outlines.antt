@@ -1,6 +1,6 @@
 -- The outline of a tree, level by level.
 use Rattle.std.proofs.Common.{◌≡◌, ℕ, suc, ◌+◌, ◌≤◌, Bool, true, false, ◌&&◌, ◌==◌, cond, List, [], ◌∷◌, ◌++◌, map, length, Option, None, Some, refl, ap, sym, ◌∙◌, subst, arith, append-nil, append_assoc, length-append, ◌<◌, take, get_or, Result, Ok, Err}
-use Rattle.std.specs.Prelude.{is_some, IfOk, IfSome, IsTrue}
+use Rattle.std.specs.Prelude.{is_some, IfOk, IsTrue}
 use Rattle.std.specs.List.{flat_map, list_all, range_with_len}
 use Rattle.std.proofs.lemmas.Bool.{false≢true}
 use Rattle.std.proofs.lemmas.Bool.Decides.{nat_tests}
@@ -38,6 +38,10 @@ and-second : (a b : Bool) → (a && b) ≡ true → b ≡ true
 and-second true b e = e
 and-second false b e = absurd (false≢true e)
 
+pub and-both : (a b : Bool) → a ≡ true → b ≡ true → (a && b) ≡ true
+and-both a b e f = ap (λ (c : Bool). c && b) e ∙ f
+
+-- joined separators are those of the joined items
 are-append : {K : Type 0} (tree : Tree K) (level : ℕ) (xs ys : List Separator) (items others : List Item) → AreSeparators tree level xs items → AreSeparators tree level ys others → AreSeparators tree level (xs ++ ys) (items ++ others)
 are-append tree level [] ys items others none those = subst (AreSeparators tree level ys) (sym (ap (λ is. is ++ others) none)) those
 are-append tree level (x ∷ xs) ys items others these those =
@@ -146,10 +150,30 @@ pub record AreOpened {K : Type 0} (tree : Tree K) (level : ℕ) (xs lower : List
   pub below : lower ≡ flat_map (below_of tree level) xs
   pub there : list_all (λ (x : Separator). is_child_there tree level x.child) xs ≡ true
 
+pub opened-none : {K : Type 0} (tree : Tree K) (level : ℕ) (lower : List Separator) → lower ≡ [] → AreOpened tree level [] lower
+opened-none tree level lower e = record { below = e; there = refl }
+
+-- and the next one
+pub opened-next : {K : Type 0} (tree : Tree K) (level : ℕ) (all : List Separator) (i : ℕ) (d : Separator) (lower new : List Separator) → i < length all → AreOpened tree level (take i all) lower → new ≡ lower ++ below_of tree level (get_or all i d)
+    → is_child_there tree level (get_or all i d).child ≡ true → AreOpened tree level (take (i + 1) all) new
+opened-next tree level all i d lower new low old below there =
+    let next = get_or all i d in
+    let xs = take i all in
+    let one = take_more all i d low in
+    let test : Separator → Bool = λ (x : Separator). is_child_there tree level x.child in
+    record {
+      below = below
+          ∙ (ap (λ ys. ys ++ below_of tree level next) old.below
+          ∙ sym (ap (flat_map (below_of tree level)) one ∙ (flat_map-append (below_of tree level) xs (next ∷ []) ∙ ap (λ ys. flat_map (below_of tree level) xs ++ ys) (append-nil (below_of tree level next)))));
+      there = ap (list_all test) one ∙ (list_all-append test xs (next ∷ []) ∙ and-both (list_all test xs) (list_all test (next ∷ [])) old.there (and-both (test next) true there refl));
+    }
+
+pub left-next : (all : List Separator) (i : ℕ) (d : Separator) (start reads now : ℕ) → i < length all → reads ≤ start + reads_in (take i all) → now ≤ reads + reads_in (get_or all i d ∷ []) → now ≤ start + reads_in (take (i + 1) all)
+left-next all i d start reads now low few last = omega (arith, few, last, ap reads_in (take_more all i d low), reads-append (take i all) (get_or all i d ∷ []))
+
 -- one level down
 pub outline-down : {K : Type 0} (tree : Tree K) (root start reads more : ℕ) (outline lower : Outline) → IsOutlined tree root start reads outline → outline.level ≡ suc lower.level → lower.info ≡ outline.info
-    → AreOpened tree outline.level outline.separators.items lower.separators.items → more ≤ reads + reads_in outline.separators.items
-    → IsOutlined tree root start more lower
+    → AreOpened tree outline.level outline.separators.items lower.separators.items → more ≤ reads + reads_in outline.separators.items → IsOutlined tree root start more lower
 outline-down tree root start reads more outline lower old down info opens few =
     let all = outline.separators.items in
     let same : lower.separators.items ≡ flat_map (below_of tree (suc lower.level)) all = opens.below ∙ ap (λ l. flat_map (below_of tree l) all) down in
@@ -160,7 +184,7 @@ outline-down tree root start reads more outline lower old down info opens few =
       nodes = ap (λ (i : RootInfo). i.node_count) info ∙ old.nodes;
       line = subst (λ xs. AreSeparators tree lower.level xs (line_of tree root)) (sym same)
           (are-down tree lower.level all (line_of tree root) (subst (λ l. AreSeparators tree l all (line_of tree root)) down old.line) (ap (λ l. list_all (λ (x : Separator). is_child_there tree l x.child) all) (sym down) ∙ opens.there));
-      few = omega (arith, few, old.few, down-left tree (suc lower.level) all, ap length same, ap (reads_in) same);
+      few = omega (arith, few, old.few, down-left tree (suc lower.level) all, ap length same, ap reads_in same);
     }
 
 -- a separator and those of its child
@@ -175,29 +199,8 @@ pub if-true : {E : Type 0} (P Q : Type 0) (r : Result Bool E) → (P → Q) → 
 if-true P Q (Ok answer) f h = λ on. f (h on)
 if-true P Q (Err e) f h = tt
 
--- none are opened yet
-pub opened-none : {K : Type 0} (tree : Tree K) (level : ℕ) (lower : List Separator) → lower ≡ [] → AreOpened tree level [] lower
-opened-none tree level lower e = record { below = e; there = refl }
-
-and-both : (a b : Bool) → a ≡ true → b ≡ true → (a && b) ≡ true
-and-both a b e f = ap (λ (c : Bool). c && b) e ∙ f
-
--- one more
-opened-more : {K : Type 0} (tree : Tree K) (level : ℕ) (xs more lower new : List Separator) (next : Separator) → AreOpened tree level xs lower → more ≡ xs ++ next ∷ [] → new ≡ lower ++ below_of tree level next → is_child_there tree level next.child ≡ true → AreOpened tree level more new
-opened-more tree level xs more lower new next old one below there =
-    let test : Separator → Bool = λ (x : Separator). is_child_there tree level x.child in
-    record {
-      below = below
-          ∙ (ap (λ ys. ys ++ below_of tree level next) old.below
-          ∙ sym (ap (flat_map (below_of tree level)) one ∙ (flat_map-append (below_of tree level) xs (next ∷ []) ∙ ap (λ ys. flat_map (below_of tree level) xs ++ ys) (append-nil (below_of tree level next)))));
-      there = ap (list_all test) one ∙ (list_all-append test xs (next ∷ []) ∙ and-both (list_all test xs) (list_all test (next ∷ [])) old.there (and-both (test next) true there refl));
-    }
-
-left-more : (xs more : List Separator) (next : Separator) (start reads now : ℕ) → more ≡ xs ++ next ∷ [] → reads ≤ start + reads_in xs → now ≤ reads + reads_in (next ∷ []) → now ≤ start + reads_in more
-left-more xs more next start reads now one few last = omega (arith, few, last, ap (reads_in) one, reads-append xs (next ∷ []))
-
 -- the node at a place, in the block that its id names
-pub node-loaded : {K : Type 0} (shape : Shape K) (site : Site) (named : ℕ → Option ℕ) (image : List ℕ) (at : NodeAt) (block : ℕ) (node : List ℕ) → block_named site named at.oid ≡ Some block → node ≡ block_of site.block_size image block → IsNode shape at site node
+node-loaded : {K : Type 0} (shape : Shape K) (site : Site) (named : ℕ → Option ℕ) (image : List ℕ) (at : NodeAt) (block : ℕ) (node : List ℕ) → block_named site named at.oid ≡ Some block → node ≡ block_of site.block_size image block → IsNode shape at site node
     → node_at (tree_in shape site named image) at ≡ Some node
 node-loaded shape site named image at block node there same sound =
     ap (λ o. value_of (node_named shape site image at o)) there ∙ ap (λ r. value_of (judged block r)) (ap (node_of shape at site) (sym same) ∙ sound)
@@ -225,11 +228,3 @@ entry-taken shape node i key first oid low read rank child =
     let here : get_or all i (separator_of shape node i) ≡ separator_of shape node i = get_or-map-range_with_len (separator_of shape node) 0 (count_of node) i i (separator_of shape node i) low (omega arith) in
     let same : separator_of shape node i ≡ own first (Some oid) = ap (λ r. own r (Some (child_of shape node i))) (ap (rank_or_least shape) read ∙ sym rank) ∙ ap (λ o. own first (Some o)) (sym child) in
     take_more all i (separator_of shape node i) long ∙ ap (λ x. take i all ++ x ∷ []) (here ∙ same)
-
--- the next of some separators is opened
-pub opened-next : {K : Type 0} (tree : Tree K) (level : ℕ) (all : List Separator) (i : ℕ) (d : Separator) (lower new : List Separator) → i < length all → AreOpened tree level (take i all) lower → new ≡ lower ++ below_of tree level (get_or all i d)
-    → is_child_there tree level (get_or all i d).child ≡ true → AreOpened tree level (take (i + 1) all) new
-opened-next tree level all i d lower new low old below there = opened-more tree level (take i all) (take (i + 1) all) lower new (get_or all i d) old (take_more all i d low) below there
-
-pub left-next : (all : List Separator) (i : ℕ) (d : Separator) (start reads now : ℕ) → i < length all → reads ≤ start + reads_in (take i all) → now ≤ reads + reads_in (get_or all i d ∷ []) → now ≤ start + reads_in (take (i + 1) all)
-left-next all i d start reads now low few last = left-more (take i all) (take (i + 1) all) (get_or all i d) start reads now (take_more all i d low) few last

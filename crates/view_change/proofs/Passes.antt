@@ -17,22 +17,21 @@ use Rattle.bt_node.specs.Rank.{is_below, is_same_rank}
 use Rattle.bt_node.specs.Node.{count_of, key_count_of, node_count_of}
 use Rattle.bt_node.specs.Entries.{Pair, pair_of, pairs_of}
 use Rattle.bt_node.specs.Soundness.{node_of}
-use Rattle.bt_node.specs.SoundNode.{IsNode}
 use Rattle.bt_node.specs.declared.key.Rank.{Rank}
 use Rattle.bt_node.specs.declared.node.NodeAt.{NodeAt}
 use Rattle.bt_node.specs.declared.fault.NodeFault.{NodeFault}
-use Rattle.bt_cursor.specs.Tree.{Tree, tree_in, root_place, node_at, judged, node_named, block_named}
+use Rattle.bt_cursor.specs.Tree.{Tree, tree_in, root_place, judged, node_named, block_named}
 use Rattle.bt_cursor.specs.Flat.{flat_of}
 use Rattle.bt_cursor.specs.Line.{Item, entry_of, entries_of, line_part, line_of, is_leaf_item}
-use Rattle.bt_cursor.specs.Met.{places_under, places_in, places_of, has_node, nodes_of, is_walkable}
-use Rattle.bt_cursor.specs.Order.{rank_of, ranks_below, ranks_same, is_strict_leaf, is_misplaced, first_misplaced, is_ordered}
-use Rattle.bt_cursor.specs.Counts.{has_counts, is_counted}
-use Rattle.bt_cursor.specs.WholeTree.{leaf_pairs, IsWhole}
+use Rattle.bt_cursor.specs.Met.{places_under, places_in, has_node, nodes_of, is_walkable}
+use Rattle.bt_cursor.specs.Order.{rank_of, ranks_below, ranks_same, is_strict_leaf, is_misplaced, first_misplaced}
+use Rattle.bt_cursor.specs.Counts.{has_counts}
+use Rattle.bt_cursor.specs.WholeTree.{leaf_pairs}
 use Rattle.bt_cursor.specs.Seen.{falls_below, is_again, reads_for}
 use Rattle.bt_cursor.proofs.Orders.{last-push, first-if, first-append, first-push, passes-map, leaves-more, places-more}
 use Rattle.bt_cursor.proofs.Lines.{leaf_pairs-append}
 use Rattle.bt_cursor.proofs.Flats.{line-pairs}
-use Rattle.bt_cursor.proofs.Walkables.{filter-all, nodes-passed}
+use Rattle.bt_cursor.proofs.Walkables.{nodes-passed}
 use Rattle.view_change.specs.declared.leaf.Leaf.{Leaf}
 use Rattle.view_change.specs.declared.leaf_taker.Ends.{Ends}
 use Rattle.view_change.specs.declared.outline.Outline.{Outline}
@@ -40,11 +39,9 @@ use Rattle.view_change.specs.declared.outline.Separator.{Separator}
 use Rattle.view_change.specs.declared.seen.Seen.{Seen}
 use Rattle.view_change.specs.Leaves.{leaf_place, records_of, records_in, IsLeafThere}
 use Rattle.view_change.specs.Ends.{leaf_item, leaf_items, HasEnds}
-use Rattle.view_change.specs.Outline.{node_place, reads_in, items_in, LeadsTo, Separates, IsSeparator, AreSeparators, IsOutlined, HasSeen, IsPassed}
+use Rattle.view_change.specs.Outline.{node_place, reads_in, items_in, LeadsTo, Separates, AreSeparators, IsOutlined, HasSeen, IsPassed}
 use Rattle.view_change.specs.Walked.{IsTaken}
-
-and-both : (a b : Bool) → a ≡ true → b ≡ true → (a && b) ≡ true
-and-both a b e f = ap (λ (c : Bool). c && b) e ∙ f
+use Rattle.view_change.proofs.Outlines.{and-both}
 
 pub and-no : (a b : Bool) → b ≡ false → (a && b) ≡ false
 and-no true b e = e

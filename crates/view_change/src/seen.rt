@@ -1,5 +1,5 @@
 // What a pass over a Line has seen.
-ghost use Rattle.std.specs.Prelude.{◌≡◌, ℕ, List, [], ◌∷◌, ◌++◌, IfSome, IsTrue, IsFalse};
+ghost use Rattle.std.specs.Prelude.{◌≡◌, ℕ, List, [], ◌∷◌, ◌++◌, IfSome, IsTrue};
 ghost use Rattle.obj_base.specs.declared.site.Site.{Site};
 ghost use Rattle.bt_cursor.specs.Line.{Item};
 ghost use Rattle.bt_cursor.specs.Seen.{falls_below, is_again};

@@ -21,8 +21,8 @@ use bt_node::TreeKey;
 use obj_base::{Site, Stop};
 use std::alloc::Global;
 
-// Passes a separator and takes the leaf to which it leads, if it leads to one. None where the separator or the leaf is out of order, where
-// the root counts fewer, and where the leaf has no block or isn't taken.
+// Passes a separator and takes the leaf to which it leads, if it leads to one. None where one of them is out of order, where the root counts
+// fewer, and where the leaf has no block or isn't taken.
 fn pass<K: TreeKey, S: BlockSource, N: Namer, T: LeafTaker<K>>(
     src: &mut S,
     namer: &N,
@@ -80,8 +80,8 @@ fn pass_all<K: TreeKey, S: BlockSource, N: Namer, T: LeafTaker<K>>(
     Ok(seen.is_all())
 }
 
-/// Hands the leaves of a tree below its root to what takes them, in their order, and tells whether the tree is whole; no leaf is read here.
-/// None where the root is a leaf, where a node isn't there, where something is out of order or is counted wrong, and where a leaf isn't
+/// Hands the leaves of a tree below its root to `taker`, in their order, and gives it back where the tree is whole; no leaf is read but by the
+/// taker. None where the root is a leaf, where a node isn't there, where something is out of order or counted wrong, and where a leaf isn't
 /// taken. `root` is the id of the root.
 pub fn walk_leaves<K: TreeKey, S: BlockSource, N: Namer, T: LeafTaker<K>>(
     alloc: Global,

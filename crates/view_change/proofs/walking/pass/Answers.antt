@@ -1,9 +1,6 @@
-use Rattle.std.proofs.Common.{◌≡◌, ◌∙◌, ◌∷◌, [], ◌++◌, ℕ, List, None, Some, sym, rules}
-use Rattle.std.specs.Prelude.{IfSome}
-use Rattle.bt_cursor.specs.Line.{Item}
+use Rattle.std.proofs.Common.{◌≡◌, ◌∙◌, ◌∷◌, [], ◌++◌, None, sym, rules}
 use Rattle.view_change.specs.declared.leaf.Leaf.{Leaf}
-use Rattle.view_change.specs.declared.seen.Seen.{Seen}
-use Rattle.view_change.specs.Ends.{leaf_items, HasEnds}
+use Rattle.view_change.specs.Ends.{HasEnds}
 use Rattle.view_change.specs.Outline.{HasSeen}
 use Rattle.view_change.proofs.Passes.{at-some, pass-upper, pass-leaf-if}
 use Rattle.view_change.proofs.walking.pass.Goals as goal
