@@ -2,6 +2,6 @@ mod Weaving
 mod Merges
 mod Lefts
 mod Passing
-mod Uppers
-mod Levels
+mod Outlines
+mod Passes
 mod Knowing

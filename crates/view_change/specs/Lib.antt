@@ -1,5 +1,6 @@
 pub mod Leaves
+pub mod Ends
 pub mod Merged
 pub mod Sides
-pub mod Upper
-pub mod Levels
+pub mod Outline
+pub mod Walked

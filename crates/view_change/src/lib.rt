@@ -2,16 +2,20 @@
 #![tactic(auto)]
 
 mod leaf;
+mod leaf_taker;
 mod merging;
 mod node;
+mod outline;
+mod seen;
 mod side;
 mod taker;
 #[cfg(test)]
 mod tests;
-mod upper;
+mod walking;
 mod ways;
 
 pub use leaf::Leaf;
+pub use leaf_taker::{Ends, LeafTaker};
 pub use merging::merge;
 pub use taker::Taker;
-pub use upper::{leaves, leaves_tell_all};
+pub use walking::walk_leaves;

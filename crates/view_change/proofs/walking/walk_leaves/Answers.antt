@@ -1,0 +1,21 @@
+use Rattle.std.proofs.Common.{rules, ◌≡◌, ◌∙◌, true}
+use Rattle.bt_cursor.specs.Tree.{tree_in}
+use Rattle.view_change.specs.Outline.{IsOutlined}
+use Rattle.view_change.proofs.Passes.{at-some}
+use Rattle.view_change.proofs.walking.walk_leaves.Goals as goal
+
+pub returns-then-branch-clause-clear : goal.returns-then-branch-clause-clear
+returns-then-branch-clause-clear g c start image told none =
+    let reads = g.S.BlockSource.reads in
+    let tree = tree_in g.K.TreeKey.shape c.args.site.now (g.N.Namer.named c.args.namer.now) image in
+    let whole : c.in_ok-pass_all.field-0 ≡ true = search rules in
+    let outlined = at-some c.in_ok-outline.field-0 c.in-Some.outline (IsOutlined tree c.args.root (reads c.args.src.now) (reads c.outline_of.new.src)) c.in-Some.is (c.in_ok-outline.ensures.outlined image told) in
+    c.in_ok-pass_all.ensures.taken start image c.args.root (reads c.args.src.now) (c.outline_of.ensures.kept.same_bytes ∙ told) outlined none whole
+
+pub returns-then-branch-clause-reads : goal.returns-then-branch-clause-reads
+returns-then-branch-clause-reads g c start image told none =
+    let reads = g.S.BlockSource.reads in
+    let tree = tree_in g.K.TreeKey.shape c.args.site.now (g.N.Namer.named c.args.namer.now) image in
+    let whole : c.in_ok-pass_all.field-0 ≡ true = search rules in
+    let outlined = at-some c.in_ok-outline.field-0 c.in-Some.outline (IsOutlined tree c.args.root (reads c.args.src.now) (reads c.outline_of.new.src)) c.in-Some.is (c.in_ok-outline.ensures.outlined image told) in
+    c.in_ok-pass_all.ensures.reads start image c.args.root (reads c.args.src.now) (c.outline_of.ensures.kept.same_bytes ∙ told) outlined none whole

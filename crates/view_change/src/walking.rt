@@ -1,0 +1,110 @@
+// A walk over the leaves of a tree, by the nodes above them.
+ghost use Rattle.std.specs.Prelude.{◌≡◌, ℕ, ◌+◌, ◌≤◌, List, [], ◌∷◌, Some, length, IfOk, IfErr, IfSome, IsErrOf, IsTrue};
+ghost use Rattle.apfs_model.specs.Counts.{Rose};
+ghost use Rattle.apfs_model.specs.Kept.{IsKept};
+ghost use Rattle.obj_base.specs.Site.{IsSiteFor};
+ghost use Rattle.obj_base.specs.Stops.{IsFree};
+ghost use Rattle.obj_base.specs.declared.stop.Stop.TheVariants.{ReadFault};
+ghost use Rattle.bt_cursor.specs.Tree.{tree_in};
+ghost use Rattle.bt_cursor.specs.Met.{nodes_of};
+ghost use Rattle.view_change.specs.declared.outline.Separator.{Separator};
+ghost use Rattle.view_change.specs.Outline.{IsOutlined, IsPassed};
+ghost use Rattle.view_change.specs.Walked.{IsTaken};
+
+use crate::Leaf;
+use crate::leaf_taker::LeafTaker;
+use crate::outline::{Outline, Separator, block_in, outline_of};
+use crate::seen::Seen;
+use blk_source::BlockSource;
+use bt_cursor::Namer;
+use bt_node::TreeKey;
+use obj_base::{Site, Stop};
+use std::alloc::Global;
+
+// Passes a separator and takes the leaf to which it leads, if it leads to one. None where one of them is out of order, where the root counts
+// fewer, and where the leaf has no block or isn't taken.
+fn pass<K: TreeKey, S: BlockSource, N: Namer, T: LeafTaker<K>>(
+    src: &mut S,
+    namer: &N,
+    site: &Site,
+    next: Separator,
+    seen: Seen,
+    taker: &mut T,
+) -> Result<Option<Seen>, Stop<()>>
+    requires site { IsSiteFor site.now (S.bytes_len src.old) }
+    ensures passed { (start : T) (image : List ℕ) (root keys nodes begun : ℕ) (left : List Separator) → S.bytes src.old ≡ Some image → IsPassed K.shape site.now (N.named namer.now) image root keys nodes (T.holds start taker.old site.now image) begun (S.reads src.old) (next ∷ left) seen → IfOk result (λ found. IfSome found (IsPassed K.shape site.now (N.named namer.now) image root keys nodes (T.holds start taker.new site.now image) begun (S.reads src.new) left)) }
+    ensures free { IfErr result IsFree }
+    ensures cause { IsErrOf result ReadFault → Rose (S.faults src.old) (S.faults src.new) }
+    ensures kept { IsKept S.bytes S.bytes_len S.faults src.old src.new }
+{
+    let Some(seen) = seen.after_separator::<K>(next.rank) else {
+        return Ok(None);
+    };
+    let Some(oid) = next.child else {
+        return Ok(Some(seen));
+    };
+    let Some(block) = block_in(namer, site, oid) else {
+        return Ok(None);
+    };
+    let Some(ends) = taker.take(src, site, Leaf { oid, block })? else {
+        return Ok(None);
+    };
+    Ok(seen.after_leaf::<K>(&ends))
+}
+
+// Takes the leaves of an outline; true where the tree is whole.
+fn pass_all<K: TreeKey, S: BlockSource, N: Namer, T: LeafTaker<K>>(
+    src: &mut S,
+    namer: &N,
+    site: &Site,
+    outline: &Outline,
+    taker: &mut T,
+) -> Result<bool, Stop<()>>
+    requires site { IsSiteFor site.now (S.bytes_len src.old) }
+    requires end { outline.now.level ≡ 0 }
+    ensures taken { (start : T) (image : List ℕ) (root begun : ℕ) → S.bytes src.old ≡ Some image → IsOutlined (tree_in K.shape site.now (N.named namer.now) image) root begun (S.reads src.old) outline.now → T.holds start taker.old site.now image [] → IfOk result (λ whole. IsTrue whole → IsTaken K.shape site.now (N.named namer.now) image root (T.holds start taker.new site.now image)) }
+    ensures reads { (start : T) (image : List ℕ) (root begun : ℕ) → S.bytes src.old ≡ Some image → IsOutlined (tree_in K.shape site.now (N.named namer.now) image) root begun (S.reads src.old) outline.now → T.holds start taker.old site.now image [] → IfOk result (λ whole. IsTrue whole → S.reads src.new ≤ begun + length (nodes_of (tree_in K.shape site.now (N.named namer.now) image) root)) }
+    ensures free { IfErr result IsFree }
+    ensures cause { IsErrOf result ReadFault → Rose (S.faults src.old) (S.faults src.new) }
+    ensures kept { IsKept S.bytes S.bytes_len S.faults src.old src.new }
+{
+    let Some(mut seen) = Seen::nothing::<K>(&outline.info) else {
+        return Ok(false);
+    };
+    'separators: for next in &outline.separators {
+        let Some(more) = pass::<K, S, N, T>(src, namer, site, *next, seen, taker)? else {
+            return Ok(false);
+        };
+        seen = more;
+    }
+    Ok(seen.is_all())
+}
+
+/// Hands the leaves of a tree below its root to `taker`, in their order, and gives it back where the tree is whole; no leaf is read but by the
+/// taker. None where the root is a leaf, where a node isn't there, where something is out of order or counted wrong, and where a leaf isn't
+/// taken. `root` is the id of the root.
+pub fn walk_leaves<K: TreeKey, S: BlockSource, N: Namer, T: LeafTaker<K>>(
+    alloc: Global,
+    src: &mut S,
+    namer: &N,
+    site: &Site,
+    root: u64,
+    taker: T,
+) -> Result<Option<T>, Stop<()>>
+    requires site { IsSiteFor site.now (S.bytes_len src.old) }
+    ensures clear { (start : T) (image : List ℕ) → S.bytes src.old ≡ Some image → T.holds start taker site.now image [] → IfOk result (λ found. IfSome found (λ taker. IsTaken K.shape site.now (N.named namer.now) image root (T.holds start taker site.now image))) }
+    ensures reads { (start : T) (image : List ℕ) → S.bytes src.old ≡ Some image → T.holds start taker site.now image [] → IfOk result (λ found. IfSome found (λ taker. S.reads src.new ≤ S.reads src.old + length (nodes_of (tree_in K.shape site.now (N.named namer.now) image) root))) }
+    ensures free { IfErr result IsFree }
+    ensures cause { IsErrOf result ReadFault → Rose (S.faults src.old) (S.faults src.new) }
+    ensures kept { IsKept S.bytes S.bytes_len S.faults src.old src.new }
+{
+    let mut taker = taker;
+    let Some(outline) = outline_of::<K, S, N>(alloc, src, namer, site, root)? else {
+        return Ok(None);
+    };
+    if pass_all::<K, S, N, T>(src, namer, site, &outline, &mut taker)? {
+        Ok(Some(taker))
+    } else {
+        Ok(None)
+    }
+}
