@@ -199,12 +199,13 @@ pub(crate) fn add_data(
     ensures no_read { IsErrOf result ReadFault → ⊥ }
 {
     let site = cp.site();
+    // Looked for before any note on runs is kept, since both take memory.
+    let wrong = wrong_of(alloc, volume, ranges, extents, site.block_size)?;
     let runs = unreached(alloc, ranges, extents, site.block_size)?;
     match tell_runs(&volume.head, &runs, profile, out) {
         Ok(()) => {}
         Err(stop) => return Err(stop),
     }
-    let wrong = wrong_of(alloc, volume, ranges, extents, site.block_size)?;
     match tell_counts(volume.head.slot, &wrong, profile, out) {
         Ok(()) => Ok(()),
         Err(stop) => Err(stop),

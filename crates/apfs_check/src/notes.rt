@@ -6,10 +6,14 @@ use nx_ring::Checkpoint;
 use std::alloc::{AllocError, Global};
 use tree_rules::Note;
 
-/// Puts notes after others.
+/// Puts notes after others. Where there are no others, their list is the one that is kept.
 pub(crate) fn append(notes: &mut Vec<Note>, more: Vec<Note>) -> Result<(), AllocError>
     ensures { OnOk result (notes.new.items ≡ notes.old.items ++ more.items) }
 {
+    if notes.is_empty() {
+        *notes = more;
+        return Ok(());
+    }
     'more: for note in more {
         notes.push(note)?;
     }

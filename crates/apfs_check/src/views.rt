@@ -1,5 +1,5 @@
 // The views of a volume: their rules, what is told of them, and their extents.
-ghost use Rattle.std.specs.Prelude.{◌≡◌, ◌+◌, ◌≤◌, ◌<◌, ◌^◌, ◌∷◌, ◌++◌, [], ℕ, List, Some, false, length, slice_get, OnOk, IfOk, IfErr, IfSome, IsErrOf, IsTrue};
+ghost use Rattle.std.specs.Prelude.{◌≡◌, ◌+◌, ◌≤◌, ◌<◌, ◌^◌, ◌∷◌, ◌++◌, [], ℕ, List, Some, false, length, slice_get, OnOk, IfOk, IfErr, IfSome, IsErrOf, IsTrue, ◌↔◌};
 ghost use Rattle.apfs_model.specs.Counts.{Rose};
 ghost use Rattle.apfs_model.specs.Lists.{In};
 ghost use Rattle.apfs_model.specs.Kept.{IsKept};
@@ -170,6 +170,31 @@ fn put_all_short(
     Ok(())
 }
 
+// Whether each of some extents ends at a number of 64 bits.
+fn are_short(extents: &[(u64, FileExt)], block_size: u32) -> bool
+    requires { 0 < block_size }
+    ensures { IsTrue result ↔ AreShortExtents block_size extents.now }
+{
+    extents.iter().all(|extent| end_of(extent.1, block_size) <= u128::from(u64::MAX))
+}
+
+// The same for each of some extents that aren't needed further: where there are no others, their list is the one that is kept.
+fn move_short(
+    extents: &mut Vec<(u64, FileExt)>,
+    more: Vec<(u64, FileExt)>,
+    block_size: u32,
+) -> Result<(), AllocError>
+    requires { 0 < block_size }
+    ensures added { AreShortOrHoles block_size more.items → OnOk result (extents.new.items ≡ extents.old.items ++ more.items) }
+    ensures short { AreShortExtents block_size extents.old.items → OnOk result (AreShortExtents block_size extents.new.items) }
+{
+    if extents.is_empty() && are_short(&more, block_size) {
+        *extents = more;
+        return Ok(());
+    }
+    put_all_short(extents, &more, block_size)
+}
+
 // How many extents are kept before they are thinned.
 const FIRST_LIMIT: usize = 1024;
 
@@ -219,9 +244,13 @@ pub(crate) fn add_views<S: BlockSource>(
         }
         match add_view(alloc, src, cp, volume, &view, ranges, profile, out) {
             Ok(added) => {
-                put_all_short(&mut extents, &added.extents, site.block_size)?;
+                let Added {
+                    passed: next,
+                    extents: more,
+                } = added;
+                move_short(&mut extents, more, site.block_size)?;
                 limit = thin_past(&mut extents, limit);
-                passed = added.passed;
+                passed = next;
             }
             Err(stop) => return Err(stop),
         }

@@ -7,8 +7,8 @@ use Rattle.std.specs.Ordering.{is_lt}
 use Rattle.std.specs.Cmp.{IsStrictWeakOrder}
 use Rattle.std.proofs.lemmas.Bool.{cases_lt}
 use Rattle.std.proofs.lemmas.Bool.Decides.{nat_tests}
-use Rattle.std.proofs.lemmas.List.Sorted.{IsPermutation-sym, All-permutation, ranks_by, all_adjacent_more}
-use Rattle.std.proofs.lemmas.List.{get_or_default}
+use Rattle.std.proofs.lemmas.List.Sorted.{IsPermutation-refl, IsPermutation-sym, All-permutation, ranks_by, all_adjacent_more}
+use Rattle.std.proofs.lemmas.List.{get_or_default, get_or-map, length-map}
 use Rattle.std.proofs.lemmas.Map.Keys.{IsDistinct-IsPermutation, IsDistinct-from_apart, apart_from_distinct}
 use Rattle.std.proofs.lemmas.Cmp.{nat_cmp_total, then_total, on_total}
 use Rattle.apfs_model.specs.Lists.{In}
@@ -20,11 +20,8 @@ use Rattle.fs_record.specs.declared.extents.FileExt.{FileExt}
 use Rattle.view_rules.specs.Facts.{Facts}
 use Rattle.view_rules.specs.Extents.{is_disordered, HasExtentOrder, IsExtentOrder}
 use Rattle.view_rules.specs.Listed.{extents_with_ids}
-use Rattle.rule_breaks.specs.Order.{is_uneven, piece_cmp, follows, Follow, IsCrossing}
+use Rattle.rule_breaks.specs.Order.{is_uneven, piece, piece_cmp, follows, Follow, StandInOrder, IsCrossing}
 use Rattle.rule_breaks.proofs.Finds.{none-clear}
-
-abbrev piece : Fact FileExt → ℕ × FileExt
-piece f = (f.id, f.what)
 
 abbrev what : Fact FileExt → FileExt
 what f = f.what
@@ -154,6 +151,18 @@ unfolding is_disordered are_extents_ordered
 ordered-clear block_size facts pieces none moved follow f listed =
     let distinct : IsDistinct (collide f.id) (extents_with_ids facts) = IsDistinct-IsPermutation (collide f.id) (flips f.id) pieces (extents_with_ids facts) (IsPermutation-sym (extents_with_ids facts) pieces moved) (following-distinct f.id pieces follow) in
     ap not (both-true (list_all (is_extent_even block_size) (all_for f.id facts.extents)) (are_apart (all_for f.id facts.extents)) (all-even block_size facts.extents none f.id) (distinct-apart f.id facts.extents distinct))
+
+standing-follow : (fs : List (Fact FileExt)) → StandInOrder fs → Follow (map piece fs) (length (map piece fs))
+standing-follow fs stand k d low =
+    let e : Fact FileExt = record { id = 0; what = nothing.1 } in
+    let inside : k + 1 < length fs = omega (arith, length-map fs piece) in
+    let here : get_or (map piece fs) k d ≡ piece (get_or fs k e) = get_or-map piece fs k e d (omega arith) in
+    let next : get_or (map piece fs) (k + 1) d ≡ piece (get_or fs (k + 1) e) = get_or-map piece fs (k + 1) e d inside in
+    ap (λ p. follows p (get_or (map piece fs) (k + 1) d)) here ∙ (ap (λ p. follows (piece (get_or fs k e)) p) next ∙ stand k e inside)
+
+-- extents of which each follows the one before it as they stand: the rule is clear
+pub standing-clear : (block_size : ℕ) (facts : Facts) → find (is_uneven block_size) facts.extents ≡ None → StandInOrder facts.extents → HasExtentOrder block_size facts
+standing-clear block_size facts none stand = ordered-clear block_size facts (extents_with_ids facts) none (IsPermutation-refl (extents_with_ids facts)) (standing-follow facts.extents stand)
 
 -- an extent that isn't even breaks the rule
 pub uneven-broken : (block_size : ℕ) (facts : Facts) (f : Fact FileExt) → find (is_uneven block_size) facts.extents ≡ Some f → IsExtentOrder block_size facts f.id

@@ -6,6 +6,7 @@ ghost use Rattle.ext_ref.specs.Spans.{IsCoverOf};
 ghost use Rattle.fs_record.specs.StreamExtents as stream;
 ghost use Rattle.view_rules.specs.Extents as spec;
 ghost use Rattle.view_rules.specs.Listed as listed;
+ghost use Rattle.rule_breaks.specs.Order as order;
 
 use blk_source::NoMemory;
 use ext_ref::{Cover, NewRange};
@@ -102,14 +103,17 @@ pub fn uncovered<'a>(
     Ok(uncovered_by(facts, block_size, &cover, ranges))
 }
 
+// An extent after its stream's id.
+pub(crate) fn piece(f: &ExtentFact) -> (u64, FileExt)
+    ensures { result ≡ order.piece f.now }
+{
+    (f.id(), f.extent())
+}
+
 /// The extents among some facts, each after its stream's id.
 pub fn extents_with_ids(alloc: Global, facts: &Facts) -> Result<Vec<(u64, FileExt)>, NoMemory>
     ensures { IfOk result (λ extents. extents.items ≡ listed.extents_with_ids facts.now) }
 {
-    let extents = facts
-        .extents
-        .iter()
-        .map(|f| (f.id(), f.extent()))
-        .collect(alloc)?;
+    let extents = facts.extents.iter().map(piece).collect(alloc)?;
     Ok(extents)
 }

@@ -1,5 +1,5 @@
 // The rule on the order of the extents of each stream.
-ghost use Rattle.std.specs.Prelude.{◌≡◌, ◌<◌, ℕ, length, find, map, IfOk, IfSome, IsNone, MatchOption};
+ghost use Rattle.std.specs.Prelude.{◌≡◌, ◌<◌, ℕ, length, true, find, map, IfOk, IfSome, IsNone, MatchOption};
 ghost use Rattle.std.specs.Option.{option_copied};
 ghost use Rattle.std.specs.Ordering.{is_lt};
 ghost use Rattle.std.specs.List.Sorted.{IsPermutation, IsSortedBy};
@@ -8,7 +8,7 @@ ghost use Rattle.fs_record.specs.declared.extents.FileExt as declared;
 ghost use Rattle.view_rules.specs.Extents as rules;
 ghost use Rattle.rule_breaks.specs.Order as spec;
 
-use crate::extents::extents_with_ids;
+use crate::extents::{extents_with_ids, piece};
 use blk_source::NoMemory;
 use fs_record::FileExt;
 use std::alloc::Global;
@@ -67,6 +67,25 @@ fn follows(a: &(u64, FileExt), b: &(u64, FileExt)) -> bool
     u128::from(a.1.logical) + u128::from(a.1.length) <= u128::from(b.1.logical)
 }
 
+// Whether the second of two extents follows the first.
+fn is_followed(a: &ExtentFact, b: &ExtentFact) -> bool
+    ensures { result ≡ spec.follows (spec.piece a.now) (spec.piece b.now) }
+{
+    follows(&piece(a), &piece(b))
+}
+
+// Whether each extent follows the one before it as they stand, as they do in an ordered tree whose streams are in order.
+fn stand_in_order(extents: &[ExtentFact]) -> bool
+    ensures { result ≡ true → spec.StandInOrder extents.now }
+{
+    for i in 1..extents.len() {
+        if !is_followed(&extents[i - 1], &extents[i]) {
+            return false;
+        }
+    }
+    true
+}
+
 // The stream of the first extent that the next one doesn't follow.
 fn crossing(pieces: &[(u64, FileExt)]) -> Option<u64>
     ensures none { IsNone result → spec.Follow pieces.now (length pieces.now) }
@@ -87,6 +106,9 @@ pub fn disordered(alloc: Global, facts: &Facts, block_size: u32) -> Result<Optio
 {
     if let Some(f) = uneven(facts, block_size) {
         return Ok(Some(f.id()));
+    }
+    if stand_in_order(&facts.extents) {
+        return Ok(None);
     }
     let mut pieces = extents_with_ids(alloc, facts)?;
     by_stream(&mut pieces);

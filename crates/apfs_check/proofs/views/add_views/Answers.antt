@@ -35,17 +35,17 @@ views-preserved g c =
           (c.views.invariant.added image told ready same) (c.in-Ok.ensures.clear image (c.views.invariant.kept.same_bytes ∙ told) ready same));
       all = λ image told ready same.
           let read = c.views.invariant.kept.same_bytes ∙ told in
-          let these : c.deref.result.now ≡ view_extents image site volume view = c.deref.ensures.value ∙ c.in-Ok.ensures.all image read in
+          let these : c.in-Ok.added.extents.items ≡ view_extents image site volume view = c.in-Ok.ensures.all image read in
           let right = (c.in-Ok.ensures.clear image read ready same).right view (inl refl) in
           let low : site.blocks < 2 ^ 64 = subst (λ (s : Site). s.blocks < 2 ^ 64) c.site-site.ensures (omega arith) in
-          let ends : AreShortOrHoles c.site-site.result.block_size c.deref.result.now =
+          let ends : AreShortOrHoles c.site-site.result.block_size c.in-Ok.added.extents.items =
           subst (λ es. AreShortOrHoles c.site-site.result.block_size es) (sym these) (subst (λ (s : Site). AreShortOrHoles s.block_size (view_extents image site volume view)) (sym c.site-site.ensures) (extents-short c.args.profile image seen volume ready view right low)) in
-          extents-next image site volume views c.views.place view c.views.extents.items c.put_all_short.new.extents.items c.thin_past-limit.new.extents.items c.view_at-view.ensures (c.views.invariant.all image told ready same)
-          (c.in_ok-put_all_short-in-Ok.ensures.added ends ∙ ap (λ es. c.views.extents.items ++ es) these) c.thin_past-limit.ensures;
+          extents-next image site volume views c.views.place view c.views.extents.items c.move_short.new.extents.items c.thin_past-limit.new.extents.items c.view_at-view.ensures (c.views.invariant.all image told ready same)
+          (c.in_ok-move_short-in-Ok.ensures.added ends ∙ ap (λ es. c.views.extents.items ++ es) these) c.thin_past-limit.ensures;
       passed = λ image told. passed-next c.args.profile image site volume c.args.ranges.now views c.views.place view c.in-Ok.added.passed c.view_at-view.ensures (c.in-Ok.ensures.passed image (c.views.invariant.kept.same_bytes ∙ told));
-      short = short-same (site_of seen).block_size c.put_all_short.new.extents.items c.thin_past-limit.new.extents.items c.thin_past-limit.ensures
-          (subst (λ (s : Site). AreShortExtents s.block_size c.put_all_short.new.extents.items) c.site-site.ensures
-          (c.in_ok-put_all_short-in-Ok.ensures.short (subst (λ (s : Site). AreShortExtents s.block_size c.views.extents.items) (sym c.site-site.ensures) c.views.invariant.short)));
+      short = short-same (site_of seen).block_size c.move_short.new.extents.items c.thin_past-limit.new.extents.items c.thin_past-limit.ensures
+          (subst (λ (s : Site). AreShortExtents s.block_size c.move_short.new.extents.items) c.site-site.ensures
+          (c.in_ok-move_short-in-Ok.ensures.short (subst (λ (s : Site). AreShortExtents s.block_size c.views.extents.items) (sym c.site-site.ensures) c.views.invariant.short)));
       kept = record {
         same_bytes = c.add_view.ensures.kept.same_bytes ∙ c.views.invariant.kept.same_bytes;
         same_size = c.add_view.ensures.kept.same_size ∙ c.views.invariant.kept.same_size;
