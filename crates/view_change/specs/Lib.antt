@@ -1,4 +1,5 @@
 pub mod Leaves
+pub mod Ends
 pub mod Merged
 pub mod Sides
 pub mod Upper

@@ -2,6 +2,7 @@
 #![tactic(auto)]
 
 mod leaf;
+mod leaf_taker;
 mod merging;
 mod node;
 mod side;
@@ -12,6 +13,7 @@ mod upper;
 mod ways;
 
 pub use leaf::Leaf;
+pub use leaf_taker::{Ends, LeafTaker};
 pub use merging::merge;
 pub use taker::Taker;
 pub use upper::{leaves, leaves_tell_all};

@@ -1,0 +1,49 @@
+// What takes the leaves of a tree.
+ghost use Rattle.std.specs.Prelude.{◌≡◌, ◌+◌, ◌≤◌, ℕ, List, [], ◌∷◌, ◌++◌, Some, IfOk, IfErr, IfSome, IsErrOf};
+ghost use Rattle.apfs_model.specs.Counts.{Rose};
+ghost use Rattle.apfs_model.specs.Kept.{IsKept};
+ghost use Rattle.obj_base.specs.declared.site.Site.{Site};
+ghost use Rattle.obj_base.specs.Site.{IsSiteFor};
+ghost use Rattle.obj_base.specs.Stops.{IsFree};
+ghost use Rattle.obj_base.specs.declared.stop.Stop.TheVariants.{ReadFault};
+ghost use Rattle.view_change.specs.declared.leaf.Leaf.{Leaf};
+ghost use Rattle.view_change.specs.Ends.{HasEnds};
+
+use crate::Leaf;
+use blk_source::BlockSource;
+use bt_node::{Rank, TreeKey};
+use obj_base::{Site, Stop};
+
+/// What the order and the counts of a tree need of a leaf.
+#[derive(Clone, Copy, PartialEq, Eq, Debug)]
+pub struct Ends {
+    /// The rank of the first key.
+    pub first: Rank,
+    /// Whether the tree has at most one key of that rank.
+    pub strict: bool,
+    /// The rank of the last key.
+    pub last: Rank,
+    /// The number of records.
+    pub count: u64,
+}
+
+/// What takes the leaves of a tree, one after the other.
+pub trait LeafTaker<K: TreeKey>: Drop {
+    /// In this image it has taken these leaves.
+    ghost holds: { Self → Site → List ℕ → List Leaf → Type 0 };
+
+    /// Takes one more leaf and tells its ends; None where it isn't there, isn't in order, has no record, or is refused.
+    fn take<S: BlockSource>(
+        &mut self,
+        src: &mut S,
+        site: &Site,
+        leaf: Leaf,
+    ) -> Result<Option<Ends>, Stop<()>>
+        requires site { IsSiteFor site.now (S.bytes_len src.old) }
+        ensures ends { (image : List ℕ) (leaves : List Leaf) → S.bytes src.old ≡ Some image → holds self.old site.now image leaves → IfOk result (λ found. IfSome found (HasEnds K.shape site.now image leaf)) }
+        ensures held { (image : List ℕ) (leaves : List Leaf) → S.bytes src.old ≡ Some image → holds self.old site.now image leaves → IfOk result (λ found. IfSome found (λ ends. holds self.new site.now image (leaves ++ leaf ∷ []))) }
+        ensures reads { S.reads src.new ≤ S.reads src.old + 1 }
+        ensures free { IfErr result IsFree }
+        ensures cause { IsErrOf result ReadFault → Rose (S.faults src.old) (S.faults src.new) }
+        ensures kept { IsKept S.bytes S.bytes_len S.faults src.old src.new };
+}
