@@ -29,8 +29,8 @@ pub struct Ends {
 
 /// What takes the leaves of a tree, one after the other.
 pub trait LeafTaker<K: TreeKey>: Drop {
-    /// In this image it has taken these leaves.
-    ghost holds: { Self → Site → List ℕ → List Leaf → Type 0 };
+    /// Begun as the first, it has taken these leaves in this image.
+    ghost holds: { Self → Self → Site → List ℕ → List Leaf → Type 0 };
 
     /// Takes one more leaf and tells its ends; None where it isn't there, isn't in order, has no record, or is refused.
     fn take<S: BlockSource>(
@@ -40,8 +40,8 @@ pub trait LeafTaker<K: TreeKey>: Drop {
         leaf: Leaf,
     ) -> Result<Option<Ends>, Stop<()>>
         requires site { IsSiteFor site.now (S.bytes_len src.old) }
-        ensures ends { (image : List ℕ) (leaves : List Leaf) → S.bytes src.old ≡ Some image → holds self.old site.now image leaves → IfOk result (λ found. IfSome found (HasEnds K.shape site.now image leaf)) }
-        ensures held { (image : List ℕ) (leaves : List Leaf) → S.bytes src.old ≡ Some image → holds self.old site.now image leaves → IfOk result (λ found. IfSome found (λ ends. holds self.new site.now image (leaves ++ leaf ∷ []))) }
+        ensures ends { (start : Self) (image : List ℕ) (leaves : List Leaf) → S.bytes src.old ≡ Some image → holds start self.old site.now image leaves → IfOk result (λ found. IfSome found (HasEnds K.shape site.now image leaf)) }
+        ensures held { (start : Self) (image : List ℕ) (leaves : List Leaf) → S.bytes src.old ≡ Some image → holds start self.old site.now image leaves → IfOk result (λ found. IfSome found (λ ends. holds start self.new site.now image (leaves ++ leaf ∷ []))) }
         ensures reads { S.reads src.new ≤ S.reads src.old + 1 }
         ensures free { IfErr result IsFree }
         ensures cause { IsErrOf result ReadFault → Rose (S.faults src.old) (S.faults src.new) }
