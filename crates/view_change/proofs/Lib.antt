@@ -5,3 +5,6 @@ mod Passing
 mod Uppers
 mod Levels
 mod Knowing
+mod Joined
+mod Underway
+mod EndsRead

@@ -4,3 +4,7 @@ pub mod Merged
 pub mod Sides
 pub mod Upper
 pub mod Levels
+pub mod Numbers
+pub mod Kept
+pub mod Reading
+pub mod Changing
