@@ -1,7 +1,6 @@
 mod Weaving
-mod Merges
-mod Lefts
-mod Passing
 mod Outlines
 mod Passes
-mod Knowing
+mod Joined
+mod Underway
+mod EndsRead

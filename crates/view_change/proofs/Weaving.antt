@@ -18,3 +18,14 @@ pub one-differs : {X : Type 0} (x : X) {all same other : List X} → Weaves all 
 one-differs x ended = differs x [] [] [] ended
 one-differs x (stays y all same other w) = stays y (all ++ x ∷ []) same (other ++ x ∷ []) (one-differs x w)
 one-differs x (differs y all same other w) = differs y (all ++ x ∷ []) same (other ++ x ∷ []) (one-differs x w)
+
+-- a list is woven of nothing and itself
+all-differ : {X : Type 0} (xs : List X) → Weaves xs [] xs
+all-differ [] = ended
+all-differ (x ∷ xs) = differs x xs [] xs (all-differ xs)
+
+-- some more items are no other's
+pub more-differ : {X : Type 0} (xs : List X) {all same other : List X} → Weaves all same other → Weaves (all ++ xs) same (other ++ xs)
+more-differ xs ended = all-differ xs
+more-differ xs (stays y all same other w) = stays y (all ++ xs) same (other ++ xs) (more-differ xs w)
+more-differ xs (differs y all same other w) = differs y (all ++ xs) same (other ++ xs) (more-differ xs w)

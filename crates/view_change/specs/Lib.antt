@@ -1,6 +1,8 @@
 pub mod Leaves
 pub mod Ends
-pub mod Merged
-pub mod Sides
 pub mod Outline
 pub mod Walked
+pub mod Numbers
+pub mod Kept
+pub mod Reading
+pub mod Changing

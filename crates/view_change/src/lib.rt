@@ -1,21 +1,21 @@
-//! Which records only one of two views has, by the leaves of their trees.
+//! How the facts of a view differ from those of the view before, by the leaves of their trees.
 #![tactic(auto)]
 
+mod changing;
+mod kept;
 mod leaf;
+mod leaf_read;
 mod leaf_taker;
-mod merging;
 mod node;
 mod outline;
 mod seen;
-mod side;
-mod taker;
+mod stock;
 #[cfg(test)]
 mod tests;
 mod walking;
-mod ways;
 
+pub use changing::{Changed, Changing};
+pub use kept::{KeptLeaf, KeptView, Numbers};
 pub use leaf::Leaf;
 pub use leaf_taker::{Ends, LeafTaker};
-pub use merging::merge;
-pub use taker::Taker;
 pub use walking::walk_leaves;

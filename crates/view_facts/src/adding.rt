@@ -277,6 +277,28 @@ fn add_file<K: FsTreeKey>(
 
 /// Adds what is kept of a record to the facts, or tells why its reader refuses it.
 #[tactic(auto, using(bt_keys::proofs::FsKeys::kind_read, bt_keys::proofs::FsKeys::id_read))]
+pub fn add_record<K: FsTreeKey>(
+    alloc: Global,
+    facts: &mut Facts,
+    pair: &Entry<'_, K>,
+) -> Result<Option<RecFault>, NoMemory>
+    requires hashed { are_hashed facts.old.names ≡ K.HASHED }
+    requires read { K.shape.read pair.now.key_bytes.now ≡ Some pair.now.key }
+    ensures facts { OnOk result (facts.new ≡ facts_with false facts.old (record { key = pair.now.key_bytes.now; value = option_map (λ v. v.now) pair.now.value })) }
+    ensures names { facts.new.names ≡ facts.old.names }
+    ensures refused { IfOk result (λ why. why ≡ spec.refused facts.old.names (record { key = pair.now.key_bytes.now; value = option_map (λ v. v.now) pair.now.value })) }
+{
+    add(
+        alloc,
+        facts,
+        pair.key.kind(),
+        pair.key.id(),
+        pair.key_bytes,
+        pair.value,
+    )
+}
+
+/// Adds what is kept of a record to the facts, or to those of files alone, or tells why its reader refuses it.
 pub(crate) fn add_kept<K: FsTreeKey, W: Scope>(
     alloc: Global,
     facts: &mut Facts,
@@ -291,12 +313,5 @@ pub(crate) fn add_kept<K: FsTreeKey, W: Scope>(
     if W::FILES {
         return add_file::<K>(alloc, facts, pair);
     }
-    add(
-        alloc,
-        facts,
-        pair.key.kind(),
-        pair.key.id(),
-        pair.key_bytes,
-        pair.value,
-    )
+    add_record::<K>(alloc, facts, pair)
 }

@@ -9,5 +9,6 @@ mod keep;
 mod scope;
 mod text;
 
+pub use adding::add_record;
 pub use facts::{AttributeFact, EntryFact, ExtentFact, Facts, InodeFact, LinkFact, SiblingFact};
 pub use gathering::{ViewFacts, fault_of, view_facts, view_files};

@@ -1,0 +1,247 @@
+-- Steps of a difference, leaf by leaf.
+use Rattle.std.proofs.Common.{◌≡◌, ℕ, ◌+◌, List, [], ◌∷◌, ◌++◌, length, map, flat_map, refl, ap, sym, ◌∙◌, subst, arith, append-nil, length-append}
+use Rattle.std.specs.Prelude.{All, Option, None, Some, IfSome, IfNone, option_to_list, unwrap_or}
+use Rattle.std.proofs.lemmas.List.{map-append, length-map}
+use Rattle.std.proofs.lemmas.Grind.{flat_map-append}
+use Rattle.std.proofs.lemmas.List.Elements.{All-nil, All-head, All-tail, All-push}
+use Rattle.std.specs.List.{range_with_len}
+use Rattle.apfs_model.specs.Blocks.{block_of}
+use Rattle.apfs_model.specs.Counts.{given}
+use Rattle.apfs_model.specs.Lists.{through, value_of}
+use Rattle.obj_base.specs.declared.site.Site.{Site}
+use Rattle.bt_node.specs.Shape.{Shape}
+use Rattle.bt_node.specs.Node.{count_of}
+use Rattle.bt_node.specs.Entries.{Pair, pair_of, pairs_of}
+use Rattle.bt_cursor.specs.Line.{Item, entry_of, entries_of}
+use Rattle.fs_name.specs.declared.naming.Names.{Names}
+use Rattle.rule_changes.specs.Changes.{AreWoven}
+use Rattle.view_rules.specs.Facts.{Facts}
+use Rattle.view_change.specs.declared.leaf.Leaf.{Leaf}
+use Rattle.view_change.specs.declared.leaf_taker.Ends.{Ends}
+use Rattle.view_change.specs.declared.kept.Numbers.{Numbers}
+use Rattle.view_change.specs.declared.kept.KeptLeaf.{KeptLeaf}
+use Rattle.view_change.specs.declared.kept.KeptView.{KeptView}
+use Rattle.view_change.specs.declared.changing.Changed.{Changed}
+use Rattle.view_change.specs.Leaves.{records_of, records_in}
+use Rattle.view_change.specs.Ends.{leaf_item, leaf_items, HasEnds}
+use Rattle.view_change.specs.Numbers.{numbers_of, numbers_since, no_facts_under, joined, first_facts, rest_facts}
+use Rattle.view_change.specs.Kept.{leaf_of, facts_said, AreReadable, IsKeptLeaf, AreKept, IsKeptView}
+use Rattle.view_change.specs.Changing.{IsUnderway, IsDifference}
+use Rattle.view_change.proofs.Joined.{joined-assoc, first-joined, rest-joined, since-joined, joined-none, said-append, said-none, joined-stay, joined-differ, none-woven}
+
+module _ {K : Type 0} (shape : Shape K) (site : Site) (image : List ℕ) where
+  -- what is kept of the facts that the records of a leaf say
+  abbrev said : Names → KeptLeaf → Facts
+  said names kept = facts_said names (records_of shape site image kept.leaf)
+
+  -- the facts of leaves are those of the first and those of the others
+  kept-split : (names : Names) (kept : KeptLeaf) (more : List KeptLeaf) (facts : Facts) → AreKept shape site image names (kept ∷ more) facts
+      → facts ≡ joined (said names kept) (facts_said names (records_in shape site image (map leaf_of more)))
+  kept-split names kept more facts all = all.said ∙ said-append names (records_of shape site image kept.leaf) (records_in shape site image (map leaf_of more))
+
+  kept-leaf : (names : Names) (kept : KeptLeaf) (more : List KeptLeaf) (facts : Facts) → AreKept shape site image names (kept ∷ more) facts → IsKeptLeaf shape site image names kept
+  kept-leaf names kept more facts all = All-head (IsKeptLeaf shape site image names) kept more all.each
+
+  -- the first facts are those of the first leaf
+  kept-first : (names : Names) (kept : KeptLeaf) (more : List KeptLeaf) (facts : Facts) → AreKept shape site image names (kept ∷ more) facts → first_facts kept.numbers facts ≡ said names kept
+  kept-first names kept more facts all =
+      ap (λ (n : Numbers). first_facts n facts) (kept-leaf names kept more facts all).numbers
+      ∙ (ap (first_facts (numbers_of (said names kept))) (kept-split names kept more facts all)
+      ∙ first-joined (said names kept) (facts_said names (records_in shape site image (map leaf_of more))))
+
+  -- the facts after them are those of the other leaves
+  kept-rest : (names : Names) (kept : KeptLeaf) (more : List KeptLeaf) (facts : Facts) → AreKept shape site image names (kept ∷ more) facts → rest_facts kept.numbers facts ≡ facts_said names (records_in shape site image (map leaf_of more))
+  kept-rest names kept more facts all =
+      ap (λ (n : Numbers). rest_facts n facts) (kept-leaf names kept more facts all).numbers
+      ∙ (ap (rest_facts (numbers_of (said names kept))) (kept-split names kept more facts all)
+      ∙ rest-joined (said names kept) (facts_said names (records_in shape site image (map leaf_of more))) refl)
+
+  rest-kept : (names : Names) (kept : KeptLeaf) (more : List KeptLeaf) (facts : Facts) → AreKept shape site image names (kept ∷ more) facts → AreKept shape site image names more (rest_facts kept.numbers facts)
+  rest-kept names kept more facts all = record { each = All-tail (IsKeptLeaf shape site image names) kept more all.each; said = kept-rest names kept more facts all }
+
+  -- the facts of the first leaf are passed
+  pass-first : (names : Names) (kept : KeptLeaf) (more : List KeptLeaf) (before passed facts : Facts) → AreKept shape site image names (kept ∷ more) facts → before ≡ joined passed facts
+      → before ≡ joined (joined passed (said names kept)) (rest_facts kept.numbers facts)
+  pass-first names kept more before passed facts all split =
+      split ∙ (ap (joined passed) (kept-split names kept more facts all)
+      ∙ (sym (joined-assoc passed (said names kept) (facts_said names (records_in shape site image (map leaf_of more))))
+      ∙ ap (joined (joined passed (said names kept))) (sym (kept-rest names kept more facts all))))
+
+  -- a leaf of the view before is passed over, and its facts are gone
+  pub passes-over : (before : Facts) (leaves : List Leaf) (kept : KeptLeaf) (more : List KeptLeaf) (left rest : Facts) (after : KeptView) (gone less come : Facts)
+      → rest ≡ rest_facts kept.numbers left → less ≡ joined gone (first_facts kept.numbers left)
+      → IsUnderway shape site image before leaves (kept ∷ more) left after gone come → IsUnderway shape site image before leaves more rest after less come
+  passes-over before leaves kept more left rest after gone less come on lost so =
+      let first = kept-first before.names kept more left so.rest in
+      subst (λ (f : Facts). IsUnderway shape site image before leaves more f after less come) (sym on)
+      (subst (λ (f : Facts). IsUnderway shape site image before leaves more (rest_facts kept.numbers left) after f come) (sym (lost ∙ ap (joined gone) first)) (record {
+        rest = rest-kept before.names kept more left so.rest;
+        view = so.view;
+        passed = joined so.passed (said before.names kept);
+        same = so.same;
+        split = pass-first before.names kept more before so.passed left so.rest so.split;
+        lost = joined-differ (said before.names kept) so.lost;
+        made = so.made;
+        gone_names = so.gone_names;
+        come_names = so.come_names;
+      }))
+
+  -- the records of a leaf are as many as its items
+  leaf-counted : (leaf : Leaf) (ends : Ends) → HasEnds shape site image leaf ends → length (records_of shape site image leaf) ≡ ends.count
+  leaf-counted leaf ends has =
+      let block = block_of site.block_size image leaf.block in
+      let pairs : records_of shape site image leaf ≡ pairs_of shape block = ap (λ r. through (value_of r) (pairs_of shape)) has.there in
+      let items : leaf_items shape site image leaf ≡ map (leaf_item leaf.oid) (entries_of shape block) = ap (λ r. through (value_of r) (λ node. map (leaf_item leaf.oid) (entries_of shape node))) has.there in
+      let all = range_with_len 0 (count_of block) in
+      ap length pairs ∙ (length-map all (pair_of shape block) ∙ (sym (length-map all (entry_of shape block)) ∙ (sym (length-map (entries_of shape block) (leaf_item leaf.oid)) ∙ (sym (ap length items) ∙ has.counted))))
+
+  given-more : (old n m new : ℕ) → old ≡ given n → new ≡ given (old + m) → new ≡ given (n + m)
+  given-more old n m new a b = omega (arith, a, b)
+
+  records-more : (leaves : List Leaf) (leaf : Leaf) → records_in shape site image (leaves ++ leaf ∷ []) ≡ records_in shape site image leaves ++ records_of shape site image leaf
+  records-more leaves leaf = flat_map-append (records_of shape site image) leaves (leaf ∷ []) ∙ ap (λ ps. records_in shape site image leaves ++ ps) (append-nil (records_of shape site image leaf))
+
+  -- one more leaf is kept
+  view-more : (names : Names) (leaves : List Leaf) (view new : KeptView) (kept : KeptLeaf) → IsKeptLeaf shape site image names kept → new.leaves.items ≡ view.leaves.items ++ kept ∷ [] → new.facts ≡ joined view.facts (said names kept)
+      → new.records ≡ given (view.records + kept.ends.count) → IsKeptView shape site image names leaves view → IsKeptView shape site image names (leaves ++ kept.leaf ∷ []) new
+  view-more names leaves view new kept one put said-too counted had =
+      let all_leaves : map leaf_of new.leaves.items ≡ map leaf_of view.leaves.items ++ kept.leaf ∷ [] = ap (map leaf_of) put ∙ map-append leaf_of view.leaves.items (kept ∷ []) in
+      let before = records_in shape site image (map leaf_of view.leaves.items) in
+      let count = length (records_in shape site image leaves) in
+      let lengths : length (records_in shape site image (leaves ++ kept.leaf ∷ [])) ≡ count + kept.ends.count =
+      ap length (records-more leaves kept.leaf) ∙ (length-append (records_in shape site image leaves) (records_of shape site image kept.leaf) ∙ ap (λ n. count + n) (leaf-counted kept.leaf kept.ends one.ends)) in
+      record {
+        listed = all_leaves ∙ ap (λ ls. ls ++ kept.leaf ∷ []) had.listed;
+        kept = record {
+          each = subst (All (IsKeptLeaf shape site image names)) (sym put) (All-push (IsKeptLeaf shape site image names) view.leaves.items kept had.kept.each one);
+          said = said-too ∙ (ap (λ (f : Facts). joined f (said names kept)) had.kept.said ∙ (sym (said-append names before (records_of shape site image kept.leaf))
+              ∙ (ap (facts_said names) (sym (records-more (map leaf_of view.leaves.items) kept.leaf)) ∙ ap (λ ls. facts_said names (records_in shape site image ls)) (sym all_leaves))));
+        };
+        records = given-more view.records count kept.ends.count new.records had.records counted ∙ ap given (sym lengths);
+      }
+
+  -- a leaf of the view before is one of the view after, and its facts are the same
+  pub stays-too : (before : Facts) (leaves : List Leaf) (kept : KeptLeaf) (more : List KeptLeaf) (left rest : Facts) (after new : KeptView) (gone come : Facts)
+      → rest ≡ rest_facts kept.numbers left → new.facts ≡ joined after.facts (first_facts kept.numbers left)
+      → new.leaves.items ≡ after.leaves.items ++ kept ∷ [] → new.records ≡ given (after.records + kept.ends.count)
+      → IsUnderway shape site image before leaves (kept ∷ more) left after gone come → IsUnderway shape site image before (leaves ++ kept.leaf ∷ []) more rest new gone come
+  stays-too before leaves kept more left rest after new gone come on said-first put counted so =
+      let same : new.facts ≡ joined after.facts (said before.names kept) = said-first ∙ ap (joined after.facts) (kept-first before.names kept more left so.rest) in
+      subst (λ (f : Facts). IsUnderway shape site image before (leaves ++ kept.leaf ∷ []) more f new gone come) (sym on) (record {
+        rest = rest-kept before.names kept more left so.rest;
+        view = view-more before.names leaves after new kept (kept-leaf before.names kept more left so.rest) put same counted so.view;
+        passed = joined so.passed (said before.names kept);
+        same = joined so.same (said before.names kept);
+        split = pass-first before.names kept more before so.passed left so.rest so.split;
+        lost = joined-stay (said before.names kept) so.lost;
+        made = subst (λ (f : Facts). AreWoven f (joined so.same (said before.names kept)) come) (sym same) (joined-stay (said before.names kept) so.made);
+        gone_names = so.gone_names;
+        come_names = so.come_names;
+      })
+
+  -- the leaf that was sought was found
+  pub found-one : (leaf : Leaf) (found : Option KeptLeaf) (kept : KeptLeaf) → found ≡ Some kept → IfSome found (λ (other : KeptLeaf). Some leaf ≡ Some other.leaf) → leaf ≡ kept.leaf
+  found-one leaf found kept is same = ap (λ o. unwrap_or o leaf) (subst (λ o. IfSome o (λ (other : KeptLeaf). Some leaf ≡ Some other.leaf)) is same)
+
+  pub found-first : (before : Facts) (leaves : List Leaf) (found : Option KeptLeaf) (kept : KeptLeaf) (more : List KeptLeaf) (left : Facts) (after : KeptView) (gone come : Facts) → found ≡ Some kept
+      → IsUnderway shape site image before leaves (option_to_list found ++ more) left after gone come → IsUnderway shape site image before leaves (kept ∷ more) left after gone come
+  found-first before leaves found kept more left after gone come is so = subst (λ o. IsUnderway shape site image before leaves (option_to_list o ++ more) left after gone come) is so
+
+  pub found-ends : (before : Facts) (leaves : List Leaf) (leaf : Leaf) (kept : KeptLeaf) (more : List KeptLeaf) (left : Facts) (after : KeptView) (gone come : Facts) → leaf ≡ kept.leaf
+      → IsUnderway shape site image before leaves (kept ∷ more) left after gone come → HasEnds shape site image leaf kept.ends
+  found-ends before leaves leaf kept more left after gone come one so = subst (λ (l : Leaf). HasEnds shape site image l kept.ends) (sym one) (kept-leaf before.names kept more left so.rest).ends
+
+  -- another leaf is one of the view after, and its facts have come
+  pub comes-too : (before : Facts) (leaves : List Leaf) (kept : KeptLeaf) (left : List KeptLeaf) (facts : Facts) (after new : KeptView) (gone come more : Facts)
+      → IsKeptLeaf shape site image before.names kept → new.facts ≡ joined after.facts (said before.names kept) → more ≡ joined come (said before.names kept)
+      → new.leaves.items ≡ after.leaves.items ++ kept ∷ [] → new.records ≡ given (after.records + kept.ends.count)
+      → IsUnderway shape site image before leaves left facts after gone come → IsUnderway shape site image before (leaves ++ kept.leaf ∷ []) left facts new gone more
+  comes-too before leaves kept left facts after new gone come more one said-too come-too put counted so =
+      subst (λ (f : Facts). IsUnderway shape site image before (leaves ++ kept.leaf ∷ []) left facts new gone f) (sym come-too) (record {
+        rest = so.rest;
+        view = view-more before.names leaves after new kept one put said-too counted so.view;
+        passed = so.passed;
+        same = so.same;
+        split = so.split;
+        lost = so.lost;
+        made = subst (λ (f : Facts). AreWoven f so.same (joined come (said before.names kept))) (sym said-too) (joined-differ (said before.names kept) so.made);
+        gone_names = so.gone_names;
+        come_names = so.come_names;
+      })
+
+  -- the names of the facts after are compared as those before
+  view-names : (names : Names) (leaves : List Leaf) (view : KeptView) → IsKeptView shape site image names leaves view → view.facts.names ≡ names
+  view-names names leaves view had = ap (λ (f : Facts). f.names) had.kept.said
+
+  -- a leaf that was read is one of the view after
+  pub read-too : (before : Facts) (leaves : List Leaf) (leaf : Leaf) (ends : Ends) (numbers : Numbers) (pairs : List Pair) (left : List KeptLeaf) (facts : Facts) (after new : KeptView) (added gone come more : Facts)
+      → records_of shape site image leaf ≡ pairs → HasEnds shape site image leaf ends
+      → added ≡ joined after.facts (facts_said after.facts.names pairs) → AreReadable after.facts.names pairs → more ≡ joined come (facts_said come.names pairs)
+      → numbers ≡ numbers_since (numbers_of added) (numbers_of after.facts) → new.facts ≡ added
+      → new.leaves.items ≡ after.leaves.items ++ record { leaf = leaf; ends = ends; numbers = numbers } ∷ [] → new.records ≡ given (after.records + ends.count)
+      → IsUnderway shape site image before leaves left facts after gone come → IsUnderway shape site image before (leaves ++ leaf ∷ []) left facts new gone more
+  read-too before leaves leaf ends numbers pairs left facts after new added gone come more read has adds readable adds-too numbered same put counted so =
+      let kept : KeptLeaf = record { leaf = leaf; ends = ends; numbers = numbers } in
+      let named = view-names before.names leaves after so.view in
+      let said-here : facts_said after.facts.names pairs ≡ said before.names kept = λ i. facts_said (named i) (sym read i) in
+      let said-there : facts_said come.names pairs ≡ said before.names kept = λ i. facts_said (so.come_names i) (sym read i) in
+      let adds-here : added ≡ joined after.facts (said before.names kept) = adds ∙ ap (joined after.facts) said-here in
+      comes-too before leaves kept left facts after new gone come more
+      (record {
+        ends = has;
+        numbers = numbered ∙ (ap (λ (f : Facts). numbers_since (numbers_of f) (numbers_of after.facts)) adds-here ∙ since-joined after.facts (said before.names kept));
+        readable = subst (AreReadable before.names) (sym read) (subst (λ (n : Names). AreReadable n pairs) named readable);
+      })
+      (same ∙ adds-here) (adds-too ∙ ap (joined come) said-there) put counted so
+
+  -- a view without leaves
+  pub view-none : (names : Names) (view : KeptView) → view.leaves.items ≡ [] → view.facts ≡ no_facts_under names → view.records ≡ 0 → IsKeptView shape site image names [] view
+  view-none names view none free counted = record {
+    listed = ap (map leaf_of) none;
+    kept = record {
+      each = subst (All (IsKeptLeaf shape site image names)) (sym none) (All-nil (IsKeptLeaf shape site image names));
+      said = free ∙ (said-none names ∙ ap (λ ks. facts_said names (records_in shape site image (map leaf_of ks))) (sym none));
+    };
+    records = counted;
+  }
+
+  -- no leaf is taken yet
+  pub begins : (names : Names) (leaves : List Leaf) (view : KeptView) (left : List KeptLeaf) (facts : Facts) (after : KeptView) (gone come : Facts)
+      → IsKeptView shape site image names leaves view → left ≡ view.leaves.items → facts ≡ view.facts → IsKeptView shape site image view.facts.names [] after
+      → gone ≡ no_facts_under view.facts.names → come ≡ no_facts_under view.facts.names → IsUnderway shape site image facts [] left facts after gone come
+  begins names leaves view left facts after gone come had on same empty lost made =
+      let named : names ≡ view.facts.names = sym (ap (λ (f : Facts). f.names) had.kept.said) in
+      let kept : AreKept shape site image view.facts.names view.leaves.items view.facts = subst (λ (n : Names). AreKept shape site image n view.leaves.items view.facts) named had.kept in
+      let free : after.facts ≡ no_facts_under view.facts.names = empty.kept.said ∙ (ap (λ ls. facts_said view.facts.names (records_in shape site image ls)) empty.listed ∙ sym (said-none view.facts.names)) in
+      let n = view.facts.names in
+      subst (λ (f : Facts). IsUnderway shape site image f [] left f after gone come) (sym same) (record {
+        rest = subst (λ ks. AreKept shape site image n ks view.facts) (sym on) kept;
+        view = empty;
+        passed = no_facts_under n;
+        same = no_facts_under n;
+        split = refl;
+        lost = subst (λ (f : Facts). AreWoven (no_facts_under n) (no_facts_under n) f) (sym lost) (none-woven n n n);
+        made = subst (λ (f : Facts). AreWoven f (no_facts_under n) come) (sym free) (subst (λ (f : Facts). AreWoven (no_facts_under n) (no_facts_under n) f) (sym made) (none-woven n n n));
+        gone_names = ap (λ (f : Facts). f.names) lost;
+        come_names = ap (λ (f : Facts). f.names) made;
+      })
+
+  -- nothing is left of the view before
+  pub ends-so : (before : Facts) (leaves : List Leaf) (left : List KeptLeaf) (facts : Facts) (changed : Changed)
+      → left ≡ [] → IsUnderway shape site image before leaves left facts changed.after changed.gone changed.come → IsDifference shape site image leaves before changed
+  ends-so before leaves left facts changed none so =
+      let free : facts ≡ no_facts_under before.names = so.rest.said ∙ (ap (λ ks. facts_said before.names (records_in shape site image (map leaf_of ks))) none ∙ sym (said-none before.names)) in
+      let all : before ≡ so.passed = so.split ∙ (ap (joined so.passed) free ∙ joined-none so.passed before.names) in
+      record {
+        after = so.view;
+        same = so.same;
+        left = subst (λ (f : Facts). AreWoven f so.same changed.gone) (sym all) so.lost;
+        made = so.made;
+        gone_names = so.gone_names;
+        come_names = so.come_names;
+      }
+
+-- no leaf was found where none was looked for
+pub none-found : (sought : Option Leaf) (found : Option KeptLeaf) (left : List KeptLeaf) → sought ≡ None → IfSome found (λ (kept : KeptLeaf). sought ≡ Some kept.leaf) → IfNone found (left ≡ []) → option_to_list found ++ left ≡ []
+none-found sought None left none same over = over
+none-found sought (Some kept) left none same over = absurd cc

@@ -1,0 +1,23 @@
+use Rattle.std.proofs.Common.{rules, ◌≡◌, ◌∙◌, true}
+use Rattle.bt_node.specs.Entries.{pairs_of}
+use Rattle.view_change.specs.Numbers.{numbers_since}
+use Rattle.view_change.specs.Changing.{facts_before}
+use Rattle.view_change.proofs.EndsRead.{records-read, ends-read}
+use Rattle.view_change.proofs.Underway.{read-too}
+use Rattle.view_change.proofs.changing.Changing.add.Goals as goal
+
+pub returns-clause-ends : goal.returns-clause-ends
+returns-clause-ends g c site image is = ends-read g.K.TreeKey.shape site image c.args.leaf c.args.node.now c.in-Some.ends is c.in-Some.ensures
+
+pub returns-clause-held : goal.returns-clause-held
+returns-clause-held g c start site image leaves is had =
+    let shape = g.K.TreeKey.shape in
+    let now = c.args.self.now in
+    let leaf = c.args.leaf in
+    let node = c.args.node.now in
+    let here : c.in_ok-add_records.field-0 ≡ true = search rules in
+    let there : c.in_ok-add_records-2.field-0 ≡ true = search rules in
+    read-too shape site image (facts_before start) leaves leaf c.in-Some.ends c.since-numbers.result (pairs_of shape node) now.leaves.items now.left now.after c.put.new.self c.add_records.new.facts now.gone now.come c.add_records-2.new.facts
+    (records-read shape site image leaf node is) (ends-read shape site image leaf node c.in-Some.ends is c.in-Some.ensures)
+    (c.in_ok-add_records.ensures.facts here) (c.in_ok-add_records.ensures.readable here) (c.in_ok-add_records-2.ensures.facts there)
+    (c.since-numbers.ensures ∙ (λ i. numbers_since (c.of.ensures i) (c.of-before.ensures i))) c.put.ensures.facts c.in_ok-put.ensures.leaves c.in_ok-put.ensures.records had

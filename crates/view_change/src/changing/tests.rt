@@ -1,0 +1,141 @@
+// Two views of one volume whose trees share leaves, each leaf in a block of its own.
+use super::{Changed, Changing};
+use crate::{KeptView, Leaf, LeafTaker};
+use blk_source::{BlockSource, MemSource};
+use bt_keys::FsPlainKey;
+use fs_name::Names;
+use img_edit::node::{Item, NodeHead, Tree, node};
+use obj_base::{Site, Stop};
+use std::alloc::{AllocError, Global};
+use std::process::Abort;
+use std::test::Fail;
+use view_facts::Facts;
+
+const SITE: Site = Site {
+    block_size: 4096,
+    blocks: 5,
+    max_xid: 9,
+};
+
+// The number of a record's kind stands above the 60 bits of its id.
+const KIND: u64 = 1 << 60;
+
+const INODE: u64 = 3;
+
+const SIBLING_MAP: u64 = 12;
+
+// A leaf with an inode for each of some ids, or with a sibling map.
+fn leaf(alloc: Global, oid: u64, kind: u64, ids: &[u64]) -> Result<Vec<u8>, AllocError> {
+    let size = if kind == INODE { 92 } else { 8 };
+    let mut items: Vec<Item> = Vec::new(alloc);
+    for id in ids {
+        let key = Vec::from_slice(alloc, &(*id | kind.wrapping_mul(KIND)).to_le_bytes())?;
+        items.push((key, vec![in alloc; 0u8; size]?))?;
+    }
+    let head = NodeHead {
+        oid,
+        xid: 1,
+        level: 0,
+        totals: None,
+    };
+    node(alloc, 4096, &Tree::FILE_SYSTEM, &head, &items)?.ok_or(AllocError)
+}
+
+const SEVEN: Leaf = Leaf { oid: 7, block: 1 };
+
+const EIGHT: Leaf = Leaf { oid: 8, block: 2 };
+
+const NEW_EIGHT: Leaf = Leaf { oid: 8, block: 3 };
+
+const NINE: Leaf = Leaf { oid: 9, block: 4 };
+
+// Block 0 has nothing; block 1 the leaf 7, blocks 2 and 3 two states of the leaf 8, and block 4 the leaf 9.
+fn source(rt: &impl Abort, alloc: Global) -> Result<MemSource, AllocError> {
+    let mut image = vec![in alloc; 0u8; 4096]?;
+    image.extend_from_slice(&leaf(alloc, 7, SIBLING_MAP, &[1, 2, 3])?)?;
+    image.extend_from_slice(&leaf(alloc, 8, SIBLING_MAP, &[4, 5])?)?;
+    image.extend_from_slice(&leaf(alloc, 8, SIBLING_MAP, &[4, 6])?)?;
+    image.extend_from_slice(&leaf(alloc, 9, INODE, &[9, 10])?)?;
+    image.resize(20480, 0)?;
+    assert_eq!(rt; image.len(), 20480);
+    Ok(MemSource::new(image, Vec::new(alloc)))
+}
+
+// What has changed in a view with some leaves; none where one isn't taken.
+fn change(
+    rt: &impl Abort,
+    alloc: Global,
+    source: &mut MemSource,
+    before: KeptView,
+    leaves: &[Leaf],
+) -> Result<Option<Changed>, Stop<()>> {
+    let mut changing = Changing::new::<FsPlainKey>(alloc, before);
+    for leaf in leaves {
+        assert_eq!(rt; source.size(), 20480);
+        let ends = LeafTaker::<FsPlainKey>::take(&mut changing, source, &SITE, *leaf)?;
+        if ends.is_none() {
+            return Ok(None);
+        }
+    }
+    Ok(Some(changing.finish::<FsPlainKey>()?))
+}
+
+// The ids of the siblings and of the inodes among some facts.
+fn ids(alloc: Global, facts: &Facts) -> Result<Vec<u64>, AllocError> {
+    let mut ids = Vec::new(alloc);
+    for sibling in &facts.siblings {
+        ids.push(sibling.id())?;
+    }
+    for inode in &facts.inodes {
+        ids.push(inode.id())?;
+    }
+    Ok(ids)
+}
+
+#[test]
+fn facts_of_leaves_that_both_views_have_are_the_same(rt: HostRuntime) -> Result<(), Fail> {
+    let alloc = rt.alloc();
+    let mut source = source(&rt, alloc)?;
+    let none = KeptView::none::<FsPlainKey>(alloc, Names::Exact);
+    let first = change(&rt, alloc, &mut source, none, &[SEVEN, EIGHT, NINE]).unwrap_or(None);
+    let first = first.expect(&rt, "the first view");
+    assert_eq!(rt;
+        ids(alloc, &first.come)?.as_slice(),
+        [1, 2, 3, 4, 5, 9, 10].as_slice()
+    );
+    assert!(rt; ids(alloc, &first.gone)?.is_empty());
+    assert_eq!(rt; first.after.records(), 7);
+    assert_eq!(rt; source.read_count(), 3);
+    let then = change(
+        &rt,
+        alloc,
+        &mut source,
+        first.after,
+        &[SEVEN, NEW_EIGHT, NINE],
+    )
+    .unwrap_or(None);
+    let then = then.expect(&rt, "the view after");
+    assert_eq!(rt; ids(alloc, &then.gone)?.as_slice(), [4, 5].as_slice());
+    assert_eq!(rt; ids(alloc, &then.come)?.as_slice(), [4, 6].as_slice());
+    assert_eq!(rt;
+        ids(alloc, then.after.facts())?.as_slice(),
+        [1, 2, 3, 4, 6, 9, 10].as_slice()
+    );
+    assert_eq!(rt; source.read_count(), 4);
+    Ok(())
+}
+
+#[test]
+fn a_leaf_out_of_place_is_not_taken(rt: HostRuntime) -> Result<(), Fail> {
+    let alloc = rt.alloc();
+    let mut source = source(&rt, alloc)?;
+    let none = KeptView::none::<FsPlainKey>(alloc, Names::Exact);
+    let outside = Leaf { oid: 7, block: 5 };
+    assert!(rt; matches!(change(&rt, alloc, &mut source, none, &[outside]), Ok(None)));
+    let other = Leaf { oid: 7, block: 4 };
+    let none = KeptView::none::<FsPlainKey>(alloc, Names::Exact);
+    assert!(rt; matches!(change(&rt, alloc, &mut source, none, &[other]), Ok(None)));
+    let hashed = KeptView::none::<FsPlainKey>(alloc, Names::Normal);
+    assert!(rt; matches!(change(&rt, alloc, &mut source, hashed, &[SEVEN]), Ok(None)));
+    Ok(())
+}
