@@ -1,5 +1,5 @@
 -- Facts that are joined, kind by kind, and taken apart by their numbers.
-use Rattle.std.proofs.Common.{◌≡◌, ℕ, zero, suc, ◌+◌, List, [], ◌∷◌, ◌++◌, length, map, filter_map, take, drop, refl, ap, sym, ◌∙◌, subst, arith, append_assoc, append-nil, length-append}
+use Rattle.std.proofs.Common.{◌≡◌, ℕ, ◌+◌, List, [], ◌∷◌, ◌++◌, length, map, take, drop, refl, ap, sym, ◌∙◌, subst, arith, append_assoc, append-nil, length-append}
 use Rattle.std.specs.Prelude.{false, ◌-◌, Option, None, Some, is_some, slice_get}
 use Rattle.std.proofs.lemmas.List.{map-append, take_more}
 use Rattle.std.proofs.lemmas.Option.{slice_get_within, get_or_from_slice_get}
@@ -10,7 +10,7 @@ use Rattle.fs_name.specs.declared.naming.Names.{Names}
 use Rattle.fs_record.specs.Facts.{fact_of, read_inode, read_entry, read_attribute, read_link, read_sibling, read_extent, refused, inodes_of, entries_of, attributes_of, links_of, sibling_files_of, extents_of}
 use Rattle.fs_record.specs.declared.fault.RecFault.{RecFault}
 use Rattle.rule_changes.specs.Changes.{AreWoven, ended}
-use Rattle.view_rules.specs.Facts.{Facts, facts_in}
+use Rattle.view_rules.specs.Facts.{Facts}
 use Rattle.view_facts.specs.Contents.{brief}
 use Rattle.view_facts.specs.Adding.{facts_with}
 use Rattle.view_facts.proofs.Adds.{facts-more}

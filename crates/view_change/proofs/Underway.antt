@@ -1,5 +1,5 @@
 -- Steps of a difference, leaf by leaf.
-use Rattle.std.proofs.Common.{◌≡◌, ℕ, ◌+◌, List, [], ◌∷◌, ◌++◌, length, map, flat_map, refl, ap, sym, ◌∙◌, subst, arith, append-nil, length-append}
+use Rattle.std.proofs.Common.{◌≡◌, ℕ, ◌+◌, List, [], ◌∷◌, ◌++◌, length, map, refl, ap, sym, ◌∙◌, subst, arith, append-nil, length-append}
 use Rattle.std.specs.Prelude.{All, Option, None, Some, IfSome, IfNone, option_to_list, unwrap_or}
 use Rattle.std.proofs.lemmas.List.{map-append, length-map}
 use Rattle.std.proofs.lemmas.Grind.{flat_map-append}
@@ -12,7 +12,7 @@ use Rattle.obj_base.specs.declared.site.Site.{Site}
 use Rattle.bt_node.specs.Shape.{Shape}
 use Rattle.bt_node.specs.Node.{count_of}
 use Rattle.bt_node.specs.Entries.{Pair, pair_of, pairs_of}
-use Rattle.bt_cursor.specs.Line.{Item, entry_of, entries_of}
+use Rattle.bt_cursor.specs.Line.{entry_of, entries_of}
 use Rattle.fs_name.specs.declared.naming.Names.{Names}
 use Rattle.rule_changes.specs.Changes.{AreWoven}
 use Rattle.view_rules.specs.Facts.{Facts}

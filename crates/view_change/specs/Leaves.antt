@@ -1,5 +1,5 @@
 -- The leaves of a tree and their records.
-use Rattle.std.specs.Prelude.{ℕ, false, List, flat_map, Option, Some}
+use Rattle.std.specs.Prelude.{ℕ, false, List, flat_map, Some}
 use Rattle.apfs_model.specs.Blocks.{block_of}
 use Rattle.apfs_model.specs.Lists.{through, value_of}
 use Rattle.obj_base.specs.declared.site.Site.{Site}
@@ -9,10 +9,6 @@ use Rattle.bt_node.specs.Soundness.{node_of}
 use Rattle.bt_node.specs.SoundNode.{IsNode}
 use Rattle.bt_node.specs.declared.node.NodeAt.{NodeAt}
 use Rattle.view_change.specs.declared.leaf.Leaf.{Leaf}
-
--- a record, by the bytes of its key and of its value
-abbrev pub pair : List ℕ → Option (List ℕ) → Pair
-pair key value = record { key = key; value = value }
 
 -- the place of a leaf below a root: a node of level 0
 abbrev pub leaf_place : Leaf → NodeAt

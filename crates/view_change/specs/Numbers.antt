@@ -1,5 +1,5 @@
 -- The facts of each kind, by their numbers.
-use Rattle.std.specs.Prelude.{ℕ, ◌-◌, [], ◌++◌, length, take, drop}
+use Rattle.std.specs.Prelude.{◌-◌, [], ◌++◌, length, take, drop}
 use Rattle.fs_name.specs.declared.naming.Names.{Names}
 use Rattle.view_rules.specs.Facts.{Facts}
 use Rattle.view_change.specs.declared.kept.Numbers.{Numbers}
