@@ -6,7 +6,7 @@ mod piece;
 mod tally;
 
 pub use counting::count;
-pub use piece::Piece;
+pub use piece::{Holdings, Piece, ViewRun, Views};
 pub use tally::{Counts, ViewCount};
 
 #[cfg(test)]
