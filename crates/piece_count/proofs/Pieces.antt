@@ -1,18 +1,18 @@
 -- What pieces add, one after the other.
-use Rattle.std.proofs.Common.{◌≡◌, ℕ, ◌+◌, ◌<◌, ◌≤◌, Bool, true, false, ◌&&◌, ◌||◌, ◌==◌, List, [], ◌∷◌, length, take, get_or, max, min, ◌⊎◌, inl, inr, refl, ap, ap₂, sym, ◌∙◌, subst, arith}
+use Rattle.std.proofs.Common.{◌≡◌, ℕ, ◌+◌, ◌<◌, ◌≤◌, Bool, true, false, ◌&&◌, ◌||◌, ◌==◌, List, [], ◌∷◌, ◌++◌, length, take, get_or, max, min, ◌⊎◌, inl, inr, refl, ap, sym, ◌∙◌, subst, arith}
 use Rattle.std.specs.Prelude.{Contains}
-use Rattle.std.specs.List.Sorted.{IsPermutation, IsNonDecreasingBy}
+use Rattle.std.specs.List.Sorted.{IsPermutation}
 use Rattle.std.proofs.lemmas.List.{take_more, take_all}
 use Rattle.std.proofs.lemmas.List.Folds.{list_any-append}
-use Rattle.std.proofs.lemmas.List.Sorted.{Contains-permutation, IsPermutation-sym}
+use Rattle.std.proofs.lemmas.List.Sorted.{Contains-permutation}
 use Rattle.apfs_model.specs.Lists.{In}
 use Rattle.apfs_model.proofs.BoolTests.{left-true, right-true, both-true, left-or, right-or, either-from, from-equal, equal-from, never-true}
-use Rattle.piece_count.specs.Covered.{is_from, runs_at, is_among, covers, covered_by, is_covered, is_alone, count_below, IsCount}
+use Rattle.piece_count.specs.Covered.{is_from, is_among, covers, covered_by}
+use Rattle.piece_count.specs.Lone.{no_piece}
 use Rattle.piece_count.specs.Tally.{has_none, grown, grown_all, grown_set, IsTally}
 use Rattle.piece_count.specs.declared.piece.ViewRun.{ViewRun}
 use Rattle.piece_count.specs.declared.piece.Views.{Views}
 use Rattle.piece_count.specs.declared.piece.Piece.{Piece}
-use Rattle.piece_count.specs.declared.piece.Holdings.{Holdings}
 use Rattle.piece_count.specs.declared.tally.Tally.{Tally}
 use Rattle.piece_count.proofs.Numbers.{from-low, from-high, from-is, one-test, any-there, there-any, got-from, got-in}
 use Rattle.piece_count.proofs.Tallies.{tally-same}
@@ -82,7 +82,7 @@ grown-last blocks views has from view to first end t up down h =
     (part to view v b (λ v a c. omega (arith, c, up)))) h
 
 -- ---- of a set
-or-none : (c : Bool) → (c || false) ≡ c
+pub or-none : (c : Bool) → (c || false) ≡ c
 or-none true = refl
 or-none false = refl
 
@@ -129,18 +129,15 @@ pub set-last : (blocks views : ℕ) (has : ℕ → ℕ → Bool) (runs : List Vi
 set-last blocks views has runs i first end t high h = subst (λ (rs : List ViewRun). IsTally blocks views (grown_set has rs first end) t) (take_all i runs high) h
 
 -- ---- of a piece
--- what stands for a piece where a list has none in a place
-abbrev pub no_piece : Piece
-no_piece = record { first = 0; end = 0; set = 0 }
-
-covered-more : (sets : List Views) (pieces : List Piece) (i v b : ℕ) → i < length pieces → covered_by sets (take (i + 1) pieces) v b ≡ (covered_by sets (take i pieces) v b || covers sets (get_or pieces i no_piece) v b)
+-- one piece more has its blocks in the views of its set
+pub covered-push : (sets : List Views) (pieces : List Piece) (piece : Piece) (v b : ℕ) → covered_by sets (pieces ++ piece ∷ []) v b ≡ (covered_by sets pieces v b || covers sets piece v b)
 unfolding covered_by
-covered-more sets pieces i v b low =
-    let piece : Piece = get_or pieces i no_piece in
-    ap (λ (ps : List Piece). covered_by sets ps v b) (take_more pieces i no_piece low)
-    ∙ (list_any-append (λ (p : Piece). covers sets p v b) (take i pieces) (piece ∷ []) ∙ ap (λ c. covered_by sets (take i pieces) v b || c) (or-none (covers sets piece v b)))
+covered-push sets pieces piece v b = list_any-append (λ (p : Piece). covers sets p v b) pieces (piece ∷ []) ∙ ap (λ c. covered_by sets pieces v b || c) (or-none (covers sets piece v b))
 
-covers-within : (first end blocks b : ℕ) → b < blocks → is_from (min first blocks) (min end blocks) b ≡ is_from first end b
+pub covered-more : (sets : List Views) (pieces : List Piece) (i v b : ℕ) → i < length pieces → covered_by sets (take (i + 1) pieces) v b ≡ (covered_by sets (take i pieces) v b || covers sets (get_or pieces i no_piece) v b)
+covered-more sets pieces i v b low = ap (λ (ps : List Piece). covered_by sets ps v b) (take_more pieces i no_piece low) ∙ covered-push sets (take i pieces) (get_or pieces i no_piece) v b
+
+pub covers-within : (first end blocks b : ℕ) → b < blocks → is_from (min first blocks) (min end blocks) b ≡ is_from first end b
 covers-within first end blocks b lb = one-test (is_from (min first blocks) (min end blocks) b) (is_from first end b)
     (λ e.
     let c = from-low (min first blocks) (min end blocks) b e in
@@ -151,28 +148,13 @@ covers-within first end blocks b lb = one-test (is_from (min first blocks) (min 
     let d = from-high first end b e in
     from-is (min first blocks) (min end blocks) b (omega (arith, c)) (omega (arith, d, lb)))
 
-pub piece-more : (blocks views : ℕ) (sets : List Views) (pieces : List Piece) (i first end : ℕ) (runs : List ViewRun) (t : Tally) → i < length pieces → runs ≡ runs_at sets (get_or pieces i no_piece).set → first ≡ min (get_or pieces i no_piece).first blocks → end ≡ min (get_or pieces i no_piece).end blocks →
-    IsTally blocks views (grown_set (covered_by sets (take i pieces)) runs first end) t → IsTally blocks views (covered_by sets (take (i + 1) pieces)) t
-piece-more blocks views sets pieces i first end runs t low a c d h =
-    let piece : Piece = get_or pieces i no_piece in
-    let old : ℕ → ℕ → Bool = covered_by sets (take i pieces) in
-    tally-same blocks views (grown_set old runs first end) (covered_by sets (take (i + 1) pieces)) t (λ v k l lk.
-    ap (λ (rs : List ViewRun). old v k || (is_among rs v && is_from first end k)) a ∙ (ap₂ (λ (x y : ℕ). old v k || (is_among (runs_at sets piece.set) v && is_from x y k)) c d
-    ∙ (ap (λ x. old v k || (is_among (runs_at sets piece.set) v && x)) (covers-within piece.first piece.end blocks k lk) ∙ sym (covered-more sets pieces i v k low)))) h
-
-none-covered : (sets : List Views) (pieces : List Piece) (v b : ℕ) → false ≡ covered_by sets (take 0 pieces) v b
+pub none-covered : (sets : List Views) (pieces : List Piece) (v b : ℕ) → false ≡ covered_by sets (take 0 pieces) v b
 unfolding covered_by
 none-covered sets [] v b = refl
 none-covered sets (p ∷ ps) v b = refl
 
 pub piece-none : (blocks views : ℕ) (sets : List Views) (pieces : List Piece) (t : Tally) → IsTally blocks views has_none t → IsTally blocks views (covered_by sets (take 0 pieces)) t
 piece-none blocks views sets pieces t h = tally-same blocks views has_none (covered_by sets (take 0 pieces)) t (λ v b l lb. none-covered sets pieces v b) h
-
--- the next piece begins no earlier
-pub next-first : (blocks : ℕ) (pieces : List Piece) (i at : ℕ) → IsNonDecreasingBy (λ (p : Piece). p.first) pieces → at ≡ min (get_or pieces i no_piece).first blocks → i + 1 < length pieces → at ≤ min (get_or pieces (i + 1) no_piece).first blocks
-next-first blocks pieces i at sorted is low =
-    let up = sorted i (i + 1) no_piece (omega arith) low in
-    omega (arith, up, is)
 
 -- ---- in another order
 in-permuted : (xs ys : List Piece) → IsPermutation xs ys → (x : Piece) → In x xs → In x ys
@@ -182,21 +164,8 @@ in-permuted xs ys p x h =
     let d = Contains-permutation xs ys x p c in
     subst (λ (y : Piece). In y ys) d.2 (got-in ys d.0 x d.1)
 
-covered-permuted : (sets : List Views) (xs ys : List Piece) → IsPermutation xs ys → (v b : ℕ) → covered_by sets xs v b ≡ true → covered_by sets ys v b ≡ true
+pub covered-permuted : (sets : List Views) (xs ys : List Piece) → IsPermutation xs ys → (v b : ℕ) → covered_by sets xs v b ≡ true → covered_by sets ys v b ≡ true
 unfolding covered_by
 covered-permuted sets xs ys p v b e =
     let r = there-any (λ (p : Piece). covers sets p v b) xs e in
     any-there (λ (p : Piece). covers sets p v b) ys r.0 (in-permuted xs ys p r.0 r.1.0) r.1.1
-
-pub counted : (blocks views : ℕ) (held : Holdings) (sets : List Views) (sorted : List Piece) (i : ℕ) (t : Tally) → sets ≡ held.sets.items → IsPermutation held.pieces.items sorted → length sorted ≤ i → t.at ≡ blocks → IsTally blocks views (covered_by sets (take i sorted)) t → IsCount blocks views held t.counts
-counted blocks views held sets sorted i t same p high at h =
-    let pieces : List Piece = held.pieces.items in
-    let all : take i sorted ≡ sorted = take_all i sorted high in
-    let here : IsTally blocks views (is_covered held) t = tally-same blocks views (covered_by sets (take i sorted)) (is_covered held) t (λ v b l lb. ap₂ (λ (ss : List Views) (ps : List Piece). covered_by ss ps v b) same all
-    ∙ one-test (covered_by held.sets.items sorted v b) (is_covered held v b) (covered-permuted held.sets.items sorted pieces (IsPermutation-sym pieces sorted p) v b) (covered-permuted held.sets.items pieces sorted p v b)) h in
-    record {
-      many = here.many;
-      held = here.held;
-      only = λ v l. here.only v l ∙ ap (count_below (is_alone (is_covered held) views v)) at;
-      all = here.all;
-    }

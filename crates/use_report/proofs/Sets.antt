@@ -1,17 +1,17 @@
 -- Pieces of blocks: how they grow, and how many blocks pass a test.
-use Rattle.std.proofs.Common.{◌≡◌, ℕ, ◌+◌, ◌-◌, ◌^◌, ◌<◌, ◌≤◌, Bool, true, false, ◌&&◌, ◌||◌, nat_le, nat_lt, min, List, [], ◌∷◌, ◌++◌, length, ◌⊎◌, inl, inr, refl, ap, ap₂, sym, ◌∙◌, subst, arith}
+use Rattle.std.proofs.Common.{◌≡◌, ℕ, ◌+◌, ◌-◌, ◌^◌, ◌<◌, ◌≤◌, Bool, true, ◌&&◌, ◌||◌, nat_le, nat_lt, min, List, [], ◌∷◌, ◌++◌, length, ◌⊎◌, inl, inr, ap, ap₂, sym, ◌∙◌, subst, arith}
 use Rattle.std.specs.Prelude.{◌↔◌, filter, count_by}
 use Rattle.std.specs.List.{range_with_len}
 use Rattle.std.proofs.lemmas.List.Sums.{length-filter}
-use Rattle.std.proofs.lemmas.List.Folds.{list_any-append}
 use Rattle.apfs_model.specs.Blocks.{is_in}
 use Rattle.apfs_model.proofs.BoolTests.{left-true, right-true, both-true, left-or, right-or, either-from, in-range, from-range, upto-from, below-from, from-upto, from-below}
 use Rattle.apfs_model.proofs.Searches.{in-filter, filter-test, from-filter}
 use Rattle.apfs_model.proofs.Finite.{apart-range, apart-filter}
-use Rattle.piece_count.specs.Covered.{is_from, covers, covered_by, is_covered, count_below}
+use Rattle.piece_count.specs.Covered.{is_from, covered_by, is_covered, count_below}
 use Rattle.piece_count.specs.declared.piece.Views.{Views}
 use Rattle.piece_count.specs.declared.piece.Piece.{Piece}
 use Rattle.piece_count.proofs.Numbers.{count-bound, from-low, from-high, from-is}
+use Rattle.piece_count.proofs.Pieces.{covered-push}
 use Rattle.reach_rules.specs.Tally.{IsNumberOf}
 use Rattle.use_report.specs.Counted.{has_turn, Grows, HasExactly}
 use Rattle.use_report.specs.declared.pieces.Pieces.{Pieces}
@@ -27,13 +27,6 @@ pub in-from : (block first length : ℕ) → first ≤ block → block < first +
 in-from block first length above below = both-true (nat_le first block) (nat_lt block (first + length)) (from-upto first block above) (from-below block (first + length) below)
 
 -- ---- how pieces grow
--- one piece more has its blocks in the views of its set
-piece-covered : (sets : List Views) (pieces : List Piece) (piece : Piece) (view block : ℕ) → covered_by sets (pieces ++ piece ∷ []) view block ≡ (covered_by sets pieces view block || covers sets piece view block)
-unfolding covered_by
-piece-covered sets pieces piece view block =
-    let last : (b : Bool) → (b || false) ≡ b = λ b. elim b as (λ b. (b || false) ≡ b) [ true ↦ refl | false ↦ refl ] in
-    list_any-append (λ (p : Piece). covers sets p view block) pieces (piece ∷ []) ∙ ap (λ b. covered_by sets pieces view block || b) (last (covers sets piece view block))
-
 pub grows-range : (old new : Pieces) (first length end : ℕ) → end ≡ min (first + length) (2 ^ 64 - 1) → new ≡ record old { all = record old.all { pieces = new.all.pieces } } → new.all.pieces.items ≡ old.all.pieces.items ++ record { first = first; end = end; set = old.set } ∷ [] →
     Grows old new (λ block. is_in block first length ≡ true)
 grows-range old new first length end end_is same items = record {
@@ -43,7 +36,7 @@ grows-range old new first length end end_is same items = record {
       let piece : Piece = record { first = first; end = end; set = old.set } in
       let here : Bool = has_turn old view in
       let is : is_covered new.all view block ≡ (is_covered old.all view block || (here && is_from first end block)) =
-      ap₂ (λ (ss : List Views) (ps : List Piece). covered_by ss ps view block) (ap (λ (p : Pieces). p.all.sets.items) same) items ∙ piece-covered sets old.all.pieces.items piece view block in
+      ap₂ (λ (ss : List Views) (ps : List Piece). covered_by ss ps view block) (ap (λ (p : Pieces). p.all.sets.items) same) items ∙ covered-push sets old.all.pieces.items piece view block in
       let Now : Type 0 = (is_covered old.all view block ≡ true) ⊎ ((here ≡ true) × (is_in block first length ≡ true)) in (
         (λ e. elim (either-from (is_covered old.all view block) (here && is_from first end block) (sym is ∙ e)) as (λ _. Now) [
           | inl o ↦ inl o

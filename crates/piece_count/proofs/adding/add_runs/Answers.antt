@@ -1,7 +1,7 @@
 use Rattle.std.proofs.Common.{◌∙◌, take, refl, arith}
 use Rattle.piece_count.specs.Tally.{grown_set}
 use Rattle.piece_count.proofs.Pieces.{set-none, set-more, set-last}
-use Rattle.piece_count.proofs.counting.add_runs.Goals as goal
+use Rattle.piece_count.proofs.adding.add_runs.Goals as goal
 
 pub runs-init : goal.runs-init
 runs-init c = record {

@@ -1,6 +1,6 @@
 use Rattle.std.proofs.Common.{◌≡◌, ℕ, ◌^◌, ◌<◌, ◌≤◌, Bool, length, take}
 use Rattle.piece_count.specs.Tally.{IsTally, grown_set}
-use Rattle.piece_count.proofs.counting.add_runs.Given as goal
+use Rattle.piece_count.proofs.adding.add_runs.Given as goal
 
 abbrev pub invariant-runs : goal.invariant-runs
 invariant-runs l = record {
