@@ -99,6 +99,23 @@ def extents_in_snapshots(count, path):
     return container.finish(path)
 
 
+def turns_of_extents(count, path):
+    """Snapshots that take turns between two trees of 40 extents for each snapshot"""
+    container = Container(xid=count + 1)
+    volume = Volume(container)
+    parts = 40 * count
+    data = container.take(4 * parts)
+    roots = []
+    for first in (data, data + 2 * parts):
+        records = [*folders(1), entry(2, "file", 16, FILE), inode(16, 2, FILE, 1, parts * BLOCK), stream_id(16)]
+        records += [extent(16, i * BLOCK, BLOCK, first + 2 * i) for i in range(parts)]
+        roots.append(volume.files(records))
+    for xid in range(1, count + 1):
+        volume.snapshot(xid, roots[xid % 2])
+    volume.finish(roots[0], [(data, 4 * parts, 16, 1)])
+    return container.finish(path)
+
+
 def files_over(count, spans, ranges, container):
     """A volume of files with one extent each, `spans` their first blocks and lengths, and its new ranges."""
     volume = Volume(container)
@@ -235,13 +252,14 @@ def repeated_child(count, path):
 
 
 # The function, its least n, and the commands that are run.
-CHECK, LS, TREE, CAT, SPACE, SNAPSHOTS = ["check"], ["ls", "/"], ["tree", "/"], ["cat", "/file", "--quick"], ["space"], ["snapshots"]
+CHECK, LS, TREE, CAT, SPACE, SNAPSHOTS, USAGE = ["check"], ["ls", "/"], ["tree", "/"], ["cat", "/file", "--quick"], ["space"], ["snapshots"], ["usage"]
 SHAPES = {
     "shared-tree": (shared_tree, 250, [CHECK, SNAPSHOTS]),
     "other-roots": (other_roots, 250, [CHECK]),
     "own-leaf": (own_leaf, 125, [CHECK]),
     "leaf-of-many": (leaf_of_many, 8, [CHECK]),
     "extents-in-snapshots": (extents_in_snapshots, 125, [CHECK, CAT]),
+    "turns-of-extents": (turns_of_extents, 50, [CHECK, USAGE]),
     "ranges-under-all": (ranges_under_all, 4000, [CHECK]),
     "one-long": (one_long, 4000, [CHECK]),
     "random-ids": (random_ids, 2000, [CHECK]),

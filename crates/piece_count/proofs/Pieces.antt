@@ -1,14 +1,17 @@
 -- What pieces add, one after the other.
-use Rattle.std.proofs.Common.{◌≡◌, ℕ, ◌+◌, ◌<◌, ◌≤◌, Bool, true, false, ◌&&◌, ◌||◌, ◌==◌, List, [], ◌∷◌, length, take, get_or, max, min, ◌⊎◌, inl, inr, refl, ap, ap₂, sym, ◌∙◌, subst, arith}
+use Rattle.std.proofs.Common.{◌≡◌, ℕ, ◌+◌, ◌<◌, ◌≤◌, Bool, true, false, ◌&&◌, ◌||◌, ◌==◌, List, [], ◌∷◌, ◌++◌, length, take, get_or, max, min, ◌⊎◌, inl, inr, refl, ap, sym, ◌∙◌, subst, arith}
 use Rattle.std.specs.Prelude.{Contains}
-use Rattle.std.specs.List.Sorted.{IsPermutation, IsNonDecreasingBy}
+use Rattle.std.specs.List.Sorted.{IsPermutation}
 use Rattle.std.proofs.lemmas.List.{take_more, take_all}
 use Rattle.std.proofs.lemmas.List.Folds.{list_any-append}
-use Rattle.std.proofs.lemmas.List.Sorted.{Contains-permutation, IsPermutation-sym}
+use Rattle.std.proofs.lemmas.List.Sorted.{Contains-permutation}
 use Rattle.apfs_model.specs.Lists.{In}
 use Rattle.apfs_model.proofs.BoolTests.{left-true, right-true, both-true, left-or, right-or, either-from, from-equal, equal-from, never-true}
-use Rattle.piece_count.specs.Covered.{is_from, covers, is_covered, is_alone, count_below, IsCount}
-use Rattle.piece_count.specs.Tally.{has_none, grown, grown_all, IsTally}
+use Rattle.piece_count.specs.Covered.{is_from, is_among, covers, covered_by}
+use Rattle.piece_count.specs.Lone.{no_piece}
+use Rattle.piece_count.specs.Tally.{has_none, grown, grown_all, grown_set, IsTally}
+use Rattle.piece_count.specs.declared.piece.ViewRun.{ViewRun}
+use Rattle.piece_count.specs.declared.piece.Views.{Views}
 use Rattle.piece_count.specs.declared.piece.Piece.{Piece}
 use Rattle.piece_count.specs.declared.tally.Tally.{Tally}
 use Rattle.piece_count.proofs.Numbers.{from-low, from-high, from-is, one-test, any-there, there-any, got-from, got-in}
@@ -78,64 +81,80 @@ grown-last blocks views has from view to first end t up down h =
     (part view to v b (λ v a c. omega (arith, a, c, down)))
     (part to view v b (λ v a c. omega (arith, c, up)))) h
 
+-- ---- of a set
+pub or-none : (c : Bool) → (c || false) ≡ c
+or-none true = refl
+or-none false = refl
+
+-- of no run yet
+pub set-none : (blocks views : ℕ) (has : ℕ → ℕ → Bool) (runs : List ViewRun) (first end : ℕ) (t : Tally) → IsTally blocks views has t → IsTally blocks views (grown_set has (take 0 runs) first end) t
+unfolding is_among
+set-none blocks views has [] first end t h = tally-same blocks views has (grown_set has [] first end) t (λ v b l lb. sym (or-none (has v b))) h
+set-none blocks views has (run ∷ runs) first end t h = tally-same blocks views has (grown_set has [] first end) t (λ v b l lb. sym (or-none (has v b))) h
+
+-- what stands for a run where a list has none in a place
+abbrev pub no_run : ViewRun
+no_run = record { from = 0; to = 0 }
+
+among-more : (runs : List ViewRun) (i v : ℕ) → i < length runs → is_among (take (i + 1) runs) v ≡ (is_among (take i runs) v || is_from (get_or runs i no_run).from (get_or runs i no_run).to v)
+unfolding is_among
+among-more runs i v low =
+    let run : ViewRun = get_or runs i no_run in
+    ap (λ (rs : List ViewRun). is_among rs v) (take_more runs i no_run low)
+    ∙ (list_any-append (λ (r : ViewRun). is_from r.from r.to v) (take i runs) (run ∷ []) ∙ ap (λ c. is_among (take i runs) v || c) (or-none (is_from run.from run.to v)))
+
+both-added : (has old more r : Bool) → ((has || (old && r)) || (more && r)) ≡ (has || ((old || more) && r))
+both-added true old more r = refl
+both-added false true true true = refl
+both-added false true true false = refl
+both-added false true false true = refl
+both-added false true false false = refl
+both-added false false more r = refl
+
+-- of one run more
+pub set-more : (blocks views : ℕ) (has : ℕ → ℕ → Bool) (runs : List ViewRun) (i to first end : ℕ) (t : Tally) → i < length runs → to ≡ min (get_or runs i no_run).to views →
+    IsTally blocks views (grown_all (grown_set has (take i runs) first end) (get_or runs i no_run).from to first end) t → IsTally blocks views (grown_set has (take (i + 1) runs) first end) t
+set-more blocks views has runs i to first end t low to_is h =
+    let run : ViewRun = get_or runs i no_run in
+    tally-same blocks views (grown_all (grown_set has (take i runs) first end) run.from to first end) (grown_set has (take (i + 1) runs) first end) t (λ v b l lb.
+    let r : Bool = is_from first end b in
+    let old : Bool = is_among (take i runs) v in
+    let same : is_from run.from to v ≡ is_from run.from run.to v = one-test (is_from run.from to v) (is_from run.from run.to v)
+    (λ e. let a = from-high run.from to v e in from-is run.from run.to v (from-low run.from to v e) (omega (arith, a, to_is)))
+    (λ e. let a = from-high run.from run.to v e in from-is run.from to v (from-low run.from run.to v e) (omega (arith, a, to_is, l))) in
+    ap (λ x. (has v b || (old && r)) || (x && r)) same ∙ (both-added (has v b) old (is_from run.from run.to v) r ∙ ap (λ x. has v b || (x && r)) (sym (among-more runs i v low)))) h
+
+-- of all of them
+pub set-last : (blocks views : ℕ) (has : ℕ → ℕ → Bool) (runs : List ViewRun) (i first end : ℕ) (t : Tally) → length runs ≤ i → IsTally blocks views (grown_set has (take i runs) first end) t → IsTally blocks views (grown_set has runs first end) t
+set-last blocks views has runs i first end t high h = subst (λ (rs : List ViewRun). IsTally blocks views (grown_set has rs first end) t) (take_all i runs high) h
+
 -- ---- of a piece
--- what stands for a piece where a list has none in a place
-abbrev pub no_piece : Piece
-no_piece = record { first = 0; end = 0; from = 0; to = 0 }
+-- one piece more has its blocks in the views of its set
+pub covered-push : (sets : List Views) (pieces : List Piece) (piece : Piece) (v b : ℕ) → covered_by sets (pieces ++ piece ∷ []) v b ≡ (covered_by sets pieces v b || covers sets piece v b)
+unfolding covered_by
+covered-push sets pieces piece v b = list_any-append (λ (p : Piece). covers sets p v b) pieces (piece ∷ []) ∙ ap (λ c. covered_by sets pieces v b || c) (or-none (covers sets piece v b))
 
-covered-more : (pieces : List Piece) (i v b : ℕ) → i < length pieces → is_covered (take (i + 1) pieces) v b ≡ (is_covered (take i pieces) v b || covers (get_or pieces i no_piece) v b)
-unfolding is_covered
-covered-more pieces i v b low =
-    let last : (c : Bool) → (c || false) ≡ c = λ c. elim c as (λ c. (c || false) ≡ c) [ true ↦ refl | false ↦ refl ] in
-    let piece : Piece = get_or pieces i no_piece in
-    ap (λ (ps : List Piece). is_covered ps v b) (take_more pieces i no_piece low)
-    ∙ (list_any-append (λ (p : Piece). covers p v b) (take i pieces) (piece ∷ []) ∙ ap (λ c. is_covered (take i pieces) v b || c) (last (covers piece v b)))
+pub covered-more : (sets : List Views) (pieces : List Piece) (i v b : ℕ) → i < length pieces → covered_by sets (take (i + 1) pieces) v b ≡ (covered_by sets (take i pieces) v b || covers sets (get_or pieces i no_piece) v b)
+covered-more sets pieces i v b low = ap (λ (ps : List Piece). covered_by sets ps v b) (take_more pieces i no_piece low) ∙ covered-push sets (take i pieces) (get_or pieces i no_piece) v b
 
-covers-within : (piece : Piece) (blocks views v b : ℕ) → v < views → b < blocks → (is_from piece.from (min piece.to views) v && is_from (min piece.first blocks) (min piece.end blocks) b) ≡ covers piece v b
-covers-within piece blocks views v b l lb =
-    let from : ℕ = piece.from in
-    let to : ℕ = piece.to in
-    let first : ℕ = piece.first in
-    let end : ℕ = piece.end in
-    one-test (is_from from (min to views) v && is_from (min first blocks) (min end blocks) b) (is_from from to v && is_from first end b)
+pub covers-within : (first end blocks b : ℕ) → b < blocks → is_from (min first blocks) (min end blocks) b ≡ is_from first end b
+covers-within first end blocks b lb = one-test (is_from (min first blocks) (min end blocks) b) (is_from first end b)
     (λ e.
-    let x = left-true (is_from from (min to views) v) (is_from (min first blocks) (min end blocks) b) e in
-    let y = right-true (is_from from (min to views) v) (is_from (min first blocks) (min end blocks) b) e in
-    let a = from-high from (min to views) v x in
-    let c = from-low (min first blocks) (min end blocks) b y in
-    let d = from-high (min first blocks) (min end blocks) b y in
-    both-true (is_from from to v) (is_from first end b) (from-is from to v (from-low from (min to views) v x) (omega (arith, a))) (from-is first end b (omega (arith, c, lb)) (omega (arith, d))))
+    let c = from-low (min first blocks) (min end blocks) b e in
+    let d = from-high (min first blocks) (min end blocks) b e in
+    from-is first end b (omega (arith, c, lb)) (omega (arith, d)))
     (λ e.
-    let x = left-true (is_from from to v) (is_from first end b) e in
-    let y = right-true (is_from from to v) (is_from first end b) e in
-    let a = from-high from to v x in
-    let c = from-low first end b y in
-    let d = from-high first end b y in
-    both-true (is_from from (min to views) v) (is_from (min first blocks) (min end blocks) b) (from-is from (min to views) v (from-low from to v x) (omega (arith, a, l))) (from-is (min first blocks) (min end blocks) b (omega (arith, c)) (omega (arith, d, lb))))
+    let c = from-low first end b e in
+    let d = from-high first end b e in
+    from-is (min first blocks) (min end blocks) b (omega (arith, c)) (omega (arith, d, lb)))
 
-pub piece-more : (blocks views : ℕ) (pieces : List Piece) (i from to first end : ℕ) (t : Tally) → i < length pieces → from ≡ (get_or pieces i no_piece).from → to ≡ min (get_or pieces i no_piece).to views → first ≡ min (get_or pieces i no_piece).first blocks → end ≡ min (get_or pieces i no_piece).end blocks →
-    IsTally blocks views (grown_all (is_covered (take i pieces)) from to first end) t → IsTally blocks views (is_covered (take (i + 1) pieces)) t
-piece-more blocks views pieces i from to first end t low a b c d h =
-    let piece : Piece = get_or pieces i no_piece in
-    let old : ℕ → ℕ → Bool = is_covered (take i pieces) in
-    tally-same blocks views (grown_all old from to first end) (is_covered (take (i + 1) pieces)) t (λ v k l lk.
-    ap₂ (λ (x y : ℕ). old v k || (is_from x y v && is_from first end k)) a b ∙ (ap₂ (λ (x y : ℕ). old v k || (is_from piece.from (min piece.to views) v && is_from x y k)) c d
-    ∙ (ap (λ x. old v k || x) (covers-within piece blocks views v k l lk) ∙ sym (covered-more pieces i v k low)))) h
+pub none-covered : (sets : List Views) (pieces : List Piece) (v b : ℕ) → false ≡ covered_by sets (take 0 pieces) v b
+unfolding covered_by
+none-covered sets [] v b = refl
+none-covered sets (p ∷ ps) v b = refl
 
-none-covered : (pieces : List Piece) (v b : ℕ) → false ≡ is_covered (take 0 pieces) v b
-unfolding is_covered
-none-covered [] v b = refl
-none-covered (p ∷ ps) v b = refl
-
-pub piece-none : (blocks views : ℕ) (pieces : List Piece) (t : Tally) → IsTally blocks views has_none t → IsTally blocks views (is_covered (take 0 pieces)) t
-unfolding is_covered
-piece-none blocks views pieces t h = tally-same blocks views has_none (is_covered (take 0 pieces)) t (λ v b l lb. none-covered pieces v b) h
-
--- the next piece begins no earlier
-pub next-first : (blocks : ℕ) (pieces : List Piece) (i at : ℕ) → IsNonDecreasingBy (λ (p : Piece). p.first) pieces → at ≡ min (get_or pieces i no_piece).first blocks → i + 1 < length pieces → at ≤ min (get_or pieces (i + 1) no_piece).first blocks
-next-first blocks pieces i at sorted is low =
-    let up = sorted i (i + 1) no_piece (omega arith) low in
-    omega (arith, up, is)
+pub piece-none : (blocks views : ℕ) (sets : List Views) (pieces : List Piece) (t : Tally) → IsTally blocks views has_none t → IsTally blocks views (covered_by sets (take 0 pieces)) t
+piece-none blocks views sets pieces t h = tally-same blocks views has_none (covered_by sets (take 0 pieces)) t (λ v b l lb. none-covered sets pieces v b) h
 
 -- ---- in another order
 in-permuted : (xs ys : List Piece) → IsPermutation xs ys → (x : Piece) → In x xs → In x ys
@@ -145,20 +164,8 @@ in-permuted xs ys p x h =
     let d = Contains-permutation xs ys x p c in
     subst (λ (y : Piece). In y ys) d.2 (got-in ys d.0 x d.1)
 
-covered-permuted : (xs ys : List Piece) → IsPermutation xs ys → (v b : ℕ) → is_covered xs v b ≡ true → is_covered ys v b ≡ true
-unfolding is_covered
-covered-permuted xs ys p v b e =
-    let r = there-any (λ (p : Piece). covers p v b) xs e in
-    any-there (λ (p : Piece). covers p v b) ys r.0 (in-permuted xs ys p r.0 r.1.0) r.1.1
-
-pub counted : (blocks views : ℕ) (pieces sorted : List Piece) (i : ℕ) (t : Tally) → IsPermutation pieces sorted → length sorted ≤ i → t.at ≡ blocks → IsTally blocks views (is_covered (take i sorted)) t → IsCount blocks views pieces t.counts
-counted blocks views pieces sorted i t p high at h =
-    let all : take i sorted ≡ sorted = take_all i sorted high in
-    let here : IsTally blocks views (is_covered pieces) t = tally-same blocks views (is_covered (take i sorted)) (is_covered pieces) t (λ v b l lb. ap (λ (ps : List Piece). is_covered ps v b) all
-    ∙ one-test (is_covered sorted v b) (is_covered pieces v b) (covered-permuted sorted pieces (IsPermutation-sym pieces sorted p) v b) (covered-permuted pieces sorted p v b)) h in
-    record {
-      many = here.many;
-      held = here.held;
-      only = λ v l. here.only v l ∙ ap (count_below (is_alone (is_covered pieces) views v)) at;
-      all = here.all;
-    }
+pub covered-permuted : (sets : List Views) (xs ys : List Piece) → IsPermutation xs ys → (v b : ℕ) → covered_by sets xs v b ≡ true → covered_by sets ys v b ≡ true
+unfolding covered_by
+covered-permuted sets xs ys p v b e =
+    let r = there-any (λ (p : Piece). covers sets p v b) xs e in
+    any-there (λ (p : Piece). covers sets p v b) ys r.0 (in-permuted xs ys p r.0 r.1.0) r.1.1

@@ -1,7 +1,11 @@
 -- Which blocks of which views pieces have, and how many there are. Views are told by their places.
-use Rattle.std.specs.Prelude.{◌≡◌, ℕ, ◌<◌, Bool, not, ◌&&◌, ◌==◌, nat_le, nat_lt, List, length, count_by, get_or}
+use Rattle.std.specs.Prelude.{◌≡◌, ℕ, ◌<◌, Bool, not, ◌&&◌, ◌==◌, nat_le, nat_lt, List, [], length, count_by, get_or, slice_get}
 use Rattle.std.specs.List.{range_with_len, list_any}
+use Rattle.std.specs.Option.{option_map_or}
+use Rattle.piece_count.specs.declared.piece.ViewRun.{ViewRun}
+use Rattle.piece_count.specs.declared.piece.Views.{Views}
 use Rattle.piece_count.specs.declared.piece.Piece.{Piece}
+use Rattle.piece_count.specs.declared.piece.Holdings.{Holdings}
 use Rattle.piece_count.specs.declared.tally.Counts.{Counts}
 use Rattle.piece_count.specs.declared.tally.ViewCount.{ViewCount}
 
@@ -9,13 +13,24 @@ use Rattle.piece_count.specs.declared.tally.ViewCount.{ViewCount}
 abbrev pub is_from : ℕ → ℕ → ℕ → Bool
 is_from from to n = nat_le from n && nat_lt n to
 
+-- the runs of the set of a number, of some sets; none where there is no such set
+unfoldable pub runs_at : List Views → ℕ → List ViewRun
+runs_at sets number = option_map_or (λ (set : Views). set.runs.items) (slice_get sets number) []
+
+-- a view is in one of some runs
+unfoldable pub is_among : List ViewRun → ℕ → Bool
+is_among runs view = list_any (λ (run : ViewRun). is_from run.from run.to view) runs
+
 -- a piece has a block of a view
-abbrev pub covers : Piece → ℕ → ℕ → Bool
-covers piece view block = is_from piece.from piece.to view && is_from piece.first piece.end block
+abbrev pub covers : List Views → Piece → ℕ → ℕ → Bool
+covers sets piece view block = is_among (runs_at sets piece.set) view && is_from piece.first piece.end block
 
 -- one of some pieces has it
-unfoldable pub is_covered : List Piece → ℕ → ℕ → Bool
-is_covered pieces view block = list_any (λ (p : Piece). covers p view block) pieces
+unfoldable pub covered_by : List Views → List Piece → ℕ → ℕ → Bool
+covered_by sets pieces view block = list_any (λ (p : Piece). covers sets p view block) pieces
+
+abbrev pub is_covered : Holdings → ℕ → ℕ → Bool
+is_covered held = covered_by held.sets.items held.pieces.items
 
 -- one of so many views has a block, where it is told which has which
 unfoldable pub is_any : (ℕ → ℕ → Bool) → ℕ → ℕ → Bool
@@ -34,7 +49,7 @@ abbrev pub nth_count : List ViewCount → ℕ → ViewCount
 nth_count counts view = get_or counts view (record { held = 0; only = 0 })
 
 -- these are the numbers of the blocks, of a container of so many, that so many views have by pieces
-pub record IsCount (blocks views : ℕ) (pieces : List Piece) (counts : Counts) : Type 0 where
+pub record IsCount (blocks views : ℕ) (pieces : Holdings) (counts : Counts) : Type 0 where
   pub many : length counts.views.items ≡ views
   pub held : (view : ℕ) → view < views → (nth_count counts.views.items view).held ≡ count_below (is_covered pieces view) blocks
   pub only : (view : ℕ) → view < views → (nth_count counts.views.items view).only ≡ count_below (is_alone (is_covered pieces) views view) blocks

@@ -1,2 +1,3 @@
 pub mod Covered
 pub mod Tally
+pub mod Lone

@@ -1,6 +1,7 @@
 -- What is counted of pieces that come in the order of their first blocks.
 use Rattle.std.specs.Prelude.{◌≡◌, ℕ, ◌<◌, ◌≤◌, Bool, false, ◌&&◌, ◌||◌, ◌==◌, nat_lt, length, List, get_or, set, max}
-use Rattle.piece_count.specs.Covered.{is_from, is_any, is_alone, count_below, nth_count}
+use Rattle.piece_count.specs.Covered.{is_from, is_among, is_any, is_alone, count_below, nth_count}
+use Rattle.piece_count.specs.declared.piece.ViewRun.{ViewRun}
 use Rattle.piece_count.specs.declared.tally.Tally.{Tally}
 
 -- no view has a block
@@ -14,6 +15,10 @@ grown has view first end other block = has other block || ((other == view) && is
 -- the same of the views from one up to another
 abbrev pub grown_all : (ℕ → ℕ → Bool) → ℕ → ℕ → ℕ → ℕ → ℕ → ℕ → Bool
 grown_all has from to first end other block = has other block || (is_from from to other && is_from first end block)
+
+-- the same of the views of some runs
+abbrev pub grown_set : (ℕ → ℕ → Bool) → List ViewRun → ℕ → ℕ → ℕ → ℕ → Bool
+grown_set has runs first end other block = has other block || (is_among runs other && is_from first end block)
 
 -- how far a view reaches
 abbrev pub reach_of : List ℕ → ℕ → ℕ

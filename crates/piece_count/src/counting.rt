@@ -1,54 +1,32 @@
 // How many blocks views have by pieces.
-ghost use Rattle.std.specs.Prelude.{◌≡◌, ℕ, ◌^◌, ◌<◌, ◌≤◌, Bool, length, IfOk};
+ghost use Rattle.std.specs.Prelude.{◌<◌, IfOk};
 ghost use Rattle.piece_count.specs.Covered.{IsCount};
-ghost use Rattle.piece_count.specs.Tally.{IsTally, grown_all};
 
-use crate::piece::{Piece, by_first};
-use crate::tally::{Counts, Tally};
+use crate::lone::{add_counts, count_lone, divide};
+use crate::piece::{Holdings, by_first};
+use crate::tally::Counts;
 use apfs_model::NoMemory;
 use std::alloc::Global;
 
-// Counts the blocks from one up to another, which the views from one up to another have.
-fn add_views(tally: &mut Tally, from: usize, to: usize, first: u64, end: u64)
-    requires counted { to ≤ length tally.old.counts.views.items }
-    requires reached { to ≤ length tally.old.reach.items }
-    ensures added { (blocks views : ℕ) (has : ℕ → ℕ → Bool) → blocks < 2 ^ 64 → end ≤ blocks → tally.old.at ≡ first → IsTally blocks views has tally.old → IsTally blocks views (grown_all has from to first end) tally.new }
-    ensures at { tally.new.at ≡ tally.old.at }
-{
-    'views: for view in from..to {
-        tally.add(view, first, end);
-    }
-}
-
 /// How many blocks, of a container of so many, each of so many views has by pieces, how many no other has, and how many some view has.
-/// Blocks and views beyond those aren't looked at. Time goes as pieces and the views of each, and as sorting the pieces; memory as
-/// views.
+/// Blocks and views beyond those aren't looked at. Time goes as the views of each set and of each piece that shares a block with
+/// another, and as sorting the pieces; memory as sets and views.
 ///
 /// # Errors
 ///
 /// `NoMemory`: an allocation failed.
 pub fn count(
     alloc: Global,
-    mut pieces: Vec<Piece>,
+    mut held: Holdings,
     views: usize,
     blocks: u64,
 ) -> Result<Counts, NoMemory>
     requires { 0 < views }
-    ensures { IfOk result (IsCount blocks views pieces.items) }
+    ensures { IfOk result (IsCount blocks views held) }
 {
-    by_first(&mut pieces);
-    let mut tally = Tally::new(alloc, views)?;
-    'pieces: for piece in pieces.iter() {
-        let first = piece.first.min(blocks);
-        tally.settle(first);
-        add_views(
-            &mut tally,
-            piece.from,
-            piece.to.min(views),
-            first,
-            piece.end.min(blocks),
-        );
-    }
-    tally.settle(blocks);
-    Ok(tally.counts)
+    by_first(&mut held.pieces);
+    let mut all = divide(alloc, &held.sets, &held.pieces, views, blocks)?;
+    let lone = count_lone(alloc, &held.sets, &all.lone, views, blocks)?;
+    add_counts(&mut all.counts, &lone);
+    Ok(all.counts)
 }

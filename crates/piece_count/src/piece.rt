@@ -1,17 +1,50 @@
-// Runs of blocks, each of some views side by side.
+// Runs of blocks, each of the views of a set.
+ghost use Rattle.std.specs.Prelude.{◌≡◌};
 ghost use Rattle.std.specs.List.Sorted.{IsPermutation, IsNonDecreasingBy};
+ghost use Rattle.piece_count.specs.Covered.{runs_at};
 
-/// A run of blocks, which some views side by side have. Views are told by their places.
+/// Views side by side. They are told by their places.
+#[derive(Clone, Copy, PartialEq, Eq, Debug)]
+pub struct ViewRun {
+    /// The first view.
+    pub from: usize,
+    /// The view after the last one.
+    pub to: usize,
+}
+
+/// A set of views, by runs of them.
+#[derive(Debug, Drop)]
+pub struct Views {
+    pub runs: Vec<ViewRun>,
+}
+
+/// A run of blocks, which the views of a set have.
 #[derive(Clone, Copy, PartialEq, Eq, Debug)]
 pub struct Piece {
     /// The first block.
     pub first: u64,
     /// The block after the last one.
     pub end: u64,
-    /// The first view.
-    pub from: usize,
-    /// The view after the last one.
-    pub to: usize,
+    /// The number of the set, counted from 0.
+    pub set: usize,
+}
+
+/// What views have: pieces, and the sets of views in the order of their numbers.
+#[derive(Debug, Drop)]
+pub struct Holdings {
+    pub sets: Vec<Views>,
+    pub pieces: Vec<Piece>,
+}
+
+/// The runs of the set of a number; none where there is no such set.
+#[tactic(auto, unfolding(crate::specs::Covered::runs_at))]
+pub(crate) fn runs_of(sets: &[Views], number: usize) -> &[ViewRun]
+    ensures { result.now ≡ runs_at sets.now number }
+{
+    match sets.get(number) {
+        Some(views) => &views.runs,
+        None => &[],
+    }
 }
 
 /// Puts pieces in the order of their first blocks.

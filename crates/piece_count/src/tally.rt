@@ -40,8 +40,8 @@ pub(crate) struct Tally {
     pub second: u64,
 }
 
-// How many blocks from one up to another aren't below a third.
-fn beyond(first: u64, end: u64, low: u64) -> u64
+/// How many blocks from one up to another aren't below a third.
+pub(crate) fn beyond(first: u64, end: u64, low: u64) -> u64
     ensures { result ≡ end - max first low }
 {
     end.saturating_sub(first.max(low))

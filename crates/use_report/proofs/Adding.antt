@@ -1,5 +1,5 @@
 -- Pieces to which blocks are added: one, those of a hole or of an extent, and those of each of some items.
-use Rattle.std.proofs.Common.{◌≡◌, ℕ, ◌+◌, ◌<◌, ◌≤◌, Bool, true, false, ◌==◌, if◌then◌else◌, List, [], ◌∷◌, map, length, ap, take, get_or, ◌⊎◌, inl, inr, refl, sym, ◌∙◌, subst, arith}
+use Rattle.std.proofs.Common.{◌≡◌, ℕ, ◌+◌, ◌<◌, ◌≤◌, Bool, true, false, ◌==◌, if◌then◌else◌, List, [], ◌∷◌, map, length, ap, take, get_or, ◌⊎◌, inl, inr, refl, sym, subst, arith}
 use Rattle.std.specs.Prelude.{◌↔◌}
 use Rattle.std.proofs.lemmas.List.{take_all}
 use Rattle.apfs_model.specs.Blocks.{is_in}
@@ -62,10 +62,10 @@ grows-mapped {X} f xs a b g = grows-same a b (IsOfOne (λ (x : X) (block : ℕ).
 -- ---- the nodes of a tree
 grows-none : (a : Pieces) → Grows a a (λ block. In block [])
 grows-none a = record {
-  same_runs = refl;
+  same = refl;
   held = λ view block low. (
     (λ e. inl e),
-    (λ t. elim t as (λ _. is_covered a.all.items view block ≡ true) [ inl e ↦ e | inr p ↦ absurd p.1 ]),
+    (λ t. elim t as (λ _. is_covered a.all view block ≡ true) [ inl e ↦ e | inr p ↦ absurd p.1 ]),
   );
 }
 

@@ -1,13 +1,18 @@
 -- The views of a set, by the runs of their heads.
-use Rattle.std.proofs.Common.{◌≡◌, ℕ, ◌+◌, ◌-◌, ◌<◌, ◌≤◌, Bool, true, false, ◌&&◌, ◌||◌, ◌==◌, nat_lt, List, [], ◌∷◌, ◌++◌, take, get_or, length, inl, inr, Option, None, Some, is_some, if◌then◌else◌, refl, ap, sym, ◌∙◌, subst, arith}
+use Rattle.std.proofs.Common.{◌≡◌, ℕ, zero, suc, ◌+◌, ◌-◌, ◌<◌, ◌≤◌, Bool, true, false, ◌&&◌, ◌||◌, ◌==◌, nat_lt, List, [], ◌∷◌, ◌++◌, map, length, inl, inr, Option, None, Some, is_some, if◌then◌else◌, refl, ap, sym, ◌∙◌, arith}
 use Rattle.std.specs.Prelude.{min}
 use Rattle.std.proofs.lemmas.Bool.Decides.{nat_tests}
 use Rattle.apfs_model.proofs.BoolTests.{test_or, equal-from, unequal-from, from-below, below-from, both-true, left-true, right-true, never-true}
 use Rattle.bit_lanes.specs.Places.{is_from}
+use Rattle.piece_count.specs.Covered.{runs_at, is_among}
+use Rattle.piece_count.specs.declared.piece.ViewRun.{ViewRun}
+use Rattle.piece_count.specs.declared.piece.Views.{Views}
+use Rattle.view_sweep.specs.Sets.{set_at}
+use Rattle.view_sweep.specs.declared.sets.ViewSet.{ViewSet}
 use Rattle.view_sweep.specs.declared.runs.Run.{Run}
-use Rattle.view_sweep.specs.Runs.{has_place, AreRising, IsLeast}
-use Rattle.view_sweep.proofs.Rises.{nowhere, place-low, place-high, place-is, one-test, has-put, has-none}
-use Rattle.use_report.specs.Runs.{head_place, AreHeadRuns, AreRunsOf}
+use Rattle.view_sweep.specs.Runs.{has_place, IsLeast}
+use Rattle.view_sweep.proofs.Rises.{place-low, place-high, place-is, one-test, has-put, has-none}
+use Rattle.use_report.specs.Runs.{head_place, AreHeadRuns, view_run, AreViewsOf, AreOwnSets}
 
 -- ---- the live view
 
@@ -103,3 +108,57 @@ head-by set many view false e =
 
 pub far-all : (set some : List Run) (many : ℕ) (has : Bool) (view : ℕ) → some ≡ set → has ≡ so_far set many some view → has ≡ has_place set (head_place many view)
 far-all set some many has view e a = a ∙ (ap (λ (xs : List Run). so_far set many xs view) e ∙ head-by set many view (view == 0) refl)
+
+-- ---- sets of views
+
+-- runs are told over as pieces are counted by them
+pub among-is : (runs : List Run) (view : ℕ) → is_among (map view_run runs) view ≡ has_place runs view
+unfolding is_among has_place
+among-is [] view = refl
+among-is (run ∷ runs) view = ap (λ b. is_from run.from run.end view || b) (among-is runs view)
+
+pub among-one : (runs : List ViewRun) (place view : ℕ) → runs ≡ record { from = place; to = place + 1 } ∷ [] → is_among runs view ≡ is_from place (place + 1) view
+unfolding is_among
+among-one runs place view e = ap (λ (rs : List ViewRun). is_among rs view) e ∙ sym (or-none (is_from place (place + 1) view))
+
+-- what stood there still does, and the new set stands behind
+runs-before : (sets more : List Views) (i : ℕ) → i < length sets → runs_at (sets ++ more) i ≡ runs_at sets i
+unfolding runs_at
+runs-before [] more i low = absurd (omega arith)
+runs-before (set ∷ sets) more zero low = refl
+runs-before (set ∷ sets) more (suc i) low = runs-before sets more i (omega arith)
+
+runs-last : (sets : List Views) (set : Views) (i : ℕ) → i ≡ length sets → runs_at (sets ++ set ∷ []) i ≡ set.runs.items
+unfolding runs_at
+runs-last [] set zero e = refl
+runs-last [] set (suc i) e = absurd (omega arith)
+runs-last (s ∷ sets) set zero e = absurd (omega arith)
+runs-last (s ∷ sets) set (suc i) e = runs-last sets set i (omega arith)
+
+pub own-none : (sets : List Views) → AreOwnSets 0 sets
+own-none sets i view low = absurd (omega arith)
+
+pub own-kept : (sets : List Views) (set : Views) (many : ℕ) → many ≤ length sets → AreOwnSets many sets → AreOwnSets many (sets ++ set ∷ [])
+own-kept sets set many long own i view low = ap (λ (rs : List ViewRun). is_among rs view) (runs-before sets (set ∷ []) i (omega arith)) ∙ own i view low
+
+pub own-more : (sets : List Views) (set : Views) (many : ℕ) → length sets ≡ many → AreOwnSets many sets → ((view : ℕ) → is_among set.runs.items view ≡ is_from many (many + 1) view) → AreOwnSets (many + 1) (sets ++ set ∷ [])
+own-more sets set many long own one i view low = elim (test_or (i == many)) as (λ _. is_among (runs_at (sets ++ set ∷ []) i) view ≡ is_from i (i + 1) view) [
+  | inl y ↦
+      let e : i ≡ many = equal-from i many y in
+      ap (λ (rs : List ViewRun). is_among rs view) (runs-last sets set i (e ∙ sym long)) ∙ (one view ∙ ap (λ (n : ℕ). is_from n (n + 1) view) (sym e))
+  | inr n ↦ let apart = unequal-from i many n in own-kept sets set many (omega arith) own i view (omega arith)
+]
+
+-- the first so many of some sets come after those of the views
+abbrev pub AreFirst : List ViewSet → ℕ → ℕ → List Views → Type 0
+AreFirst shared many some sets = (n view : ℕ) → n < some → view < many → is_among (runs_at sets (many + n)) view ≡ has_place (set_at shared n) (head_place many view)
+
+pub first-more : (shared : List ViewSet) (many some : ℕ) (sets : List Views) (set : Views) → length sets ≡ many + some → AreFirst shared many some sets → AreViewsOf (set_at shared some) many set → AreFirst shared many (some + 1) (sets ++ set ∷ [])
+first-more shared many some sets set long had one n view low in_view = elim (test_or (n == some)) as (λ _. is_among (runs_at (sets ++ set ∷ []) (many + n)) view ≡ has_place (set_at shared n) (head_place many view)) [
+  | inl y ↦
+      let e : n ≡ some = equal-from n some y in
+      ap (λ (rs : List ViewRun). is_among rs view) (runs-last sets set (many + n) (omega arith)) ∙ (one view in_view ∙ ap (λ (k : ℕ). has_place (set_at shared k) (head_place many view)) (sym e))
+  | inr o ↦
+      let apart = unequal-from n some o in
+      ap (λ (rs : List ViewRun). is_among rs view) (runs-before sets (set ∷ []) (many + n) (omega arith)) ∙ had n view (omega arith) in_view
+]

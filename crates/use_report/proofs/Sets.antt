@@ -1,21 +1,20 @@
 -- Pieces of blocks: how they grow, and how many blocks pass a test.
-use Rattle.std.proofs.Common.{◌≡◌, ℕ, ◌+◌, ◌-◌, ◌^◌, ◌<◌, ◌≤◌, Bool, true, false, ◌&&◌, ◌||◌, nat_le, nat_lt, min, List, [], ◌∷◌, ◌++◌, length, map, ◌⊎◌, inl, inr, refl, ap, sym, ◌∙◌, subst, arith}
+use Rattle.std.proofs.Common.{◌≡◌, ℕ, ◌+◌, ◌-◌, ◌^◌, ◌<◌, ◌≤◌, Bool, true, ◌&&◌, ◌||◌, nat_le, nat_lt, min, List, [], ◌∷◌, ◌++◌, length, ◌⊎◌, inl, inr, ap, ap₂, sym, ◌∙◌, subst, arith}
 use Rattle.std.specs.Prelude.{◌↔◌, filter, count_by}
-use Rattle.std.specs.List.{range_with_len, list_any}
+use Rattle.std.specs.List.{range_with_len}
 use Rattle.std.proofs.lemmas.List.Sums.{length-filter}
-use Rattle.std.proofs.lemmas.List.Folds.{list_any-append}
 use Rattle.apfs_model.specs.Blocks.{is_in}
 use Rattle.apfs_model.proofs.BoolTests.{left-true, right-true, both-true, left-or, right-or, either-from, in-range, from-range, upto-from, below-from, from-upto, from-below}
 use Rattle.apfs_model.proofs.Searches.{in-filter, filter-test, from-filter}
 use Rattle.apfs_model.proofs.Finite.{apart-range, apart-filter}
-use Rattle.piece_count.specs.Covered.{is_from, covers, is_covered, count_below}
+use Rattle.piece_count.specs.Covered.{is_from, covered_by, is_covered, count_below}
+use Rattle.piece_count.specs.declared.piece.Views.{Views}
 use Rattle.piece_count.specs.declared.piece.Piece.{Piece}
 use Rattle.piece_count.proofs.Numbers.{count-bound, from-low, from-high, from-is}
+use Rattle.piece_count.proofs.Pieces.{covered-push}
 use Rattle.reach_rules.specs.Tally.{IsNumberOf}
-use Rattle.use_report.specs.Counted.{piece_of, Grows, HasExactly}
-use Rattle.view_sweep.specs.Runs.{has_place}
+use Rattle.use_report.specs.Counted.{has_turn, Grows, HasExactly}
 use Rattle.use_report.specs.declared.pieces.Pieces.{Pieces}
-use Rattle.view_sweep.specs.declared.runs.Run.{Run}
 
 -- ---- blocks of ranges
 pub in-above : (block first length : ℕ) → is_in block first length ≡ true → first ≤ block
@@ -28,34 +27,18 @@ pub in-from : (block first length : ℕ) → first ≤ block → block < first +
 in-from block first length above below = both-true (nat_le first block) (nat_lt block (first + length)) (from-upto first block above) (from-below block (first + length) below)
 
 -- ---- how pieces grow
--- nothing is added where nothing is to be
-
--- pieces of some, and of others
-pub covered-both : (pieces more : List Piece) (view block : ℕ) → is_covered (pieces ++ more) view block ≡ (is_covered pieces view block || is_covered more view block)
-unfolding is_covered
-covered-both pieces more view block = list_any-append (λ (p : Piece). covers p view block) pieces more
-
--- the pieces of some runs have the blocks of the range in the views of the runs
-runs-covered : (first end : ℕ) (runs : List Run) (view block : ℕ) → is_covered (map (piece_of first end) runs) view block ≡ (has_place runs view && is_from first end block)
-unfolding is_covered has_place
-runs-covered first end [] view block = refl
-runs-covered first end (run ∷ runs) view block =
-    let both : (a b x : Bool) → ((a && x) || (b && x)) ≡ ((a || b) && x) = λ a b x. elim a as (λ a. ((a && x) || (b && x)) ≡ ((a || b) && x)) [
-      | true ↦ elim x as (λ x. (x || (b && x)) ≡ x) [ true ↦ refl | false ↦ elim b as (λ b. (b && false) ≡ false) [ true ↦ refl | false ↦ refl ] ]
-      | false ↦ refl
-    ] in
-    ap (λ b. (is_from run.from run.end view && is_from first end block) || b) (runs-covered first end runs view block) ∙ both (is_from run.from run.end view) (list_any (λ (r : Run). is_from r.from r.end view) runs) (is_from first end block)
-
-pub grows-range : (old new : Pieces) (first length end : ℕ) → end ≡ min (first + length) (2 ^ 64 - 1) → new.runs.items ≡ old.runs.items → new.all.items ≡ old.all.items ++ map (piece_of first end) old.runs.items →
+pub grows-range : (old new : Pieces) (first length end : ℕ) → end ≡ min (first + length) (2 ^ 64 - 1) → new ≡ record old { all = record old.all { pieces = new.all.pieces } } → new.all.pieces.items ≡ old.all.pieces.items ++ record { first = first; end = end; set = old.set } ∷ [] →
     Grows old new (λ block. is_in block first length ≡ true)
-grows-range old new first length end end_is runs items = record {
-  same_runs = runs;
+grows-range old new first length end end_is same items = record {
+  same = same;
   held = λ view block low.
-      let here : Bool = has_place old.runs.items view in
-      let is : is_covered new.all.items view block ≡ (is_covered old.all.items view block || (here && is_from first end block)) =
-      ap (λ (ps : List Piece). is_covered ps view block) items ∙ (covered-both old.all.items (map (piece_of first end) old.runs.items) view block ∙ ap (λ b. is_covered old.all.items view block || b) (runs-covered first end old.runs.items view block)) in
-      let Now : Type 0 = (is_covered old.all.items view block ≡ true) ⊎ ((here ≡ true) × (is_in block first length ≡ true)) in (
-        (λ e. elim (either-from (is_covered old.all.items view block) (here && is_from first end block) (sym is ∙ e)) as (λ _. Now) [
+      let sets : List Views = old.all.sets.items in
+      let piece : Piece = record { first = first; end = end; set = old.set } in
+      let here : Bool = has_turn old view in
+      let is : is_covered new.all view block ≡ (is_covered old.all view block || (here && is_from first end block)) =
+      ap₂ (λ (ss : List Views) (ps : List Piece). covered_by ss ps view block) (ap (λ (p : Pieces). p.all.sets.items) same) items ∙ covered-push sets old.all.pieces.items piece view block in
+      let Now : Type 0 = (is_covered old.all view block ≡ true) ⊎ ((here ≡ true) × (is_in block first length ≡ true)) in (
+        (λ e. elim (either-from (is_covered old.all view block) (here && is_from first end block) (sym is ∙ e)) as (λ _. Now) [
           | inl o ↦ inl o
           | inr n ↦
               let there = right-true here (is_from first end block) n in
@@ -63,12 +46,12 @@ grows-range old new first length end end_is runs items = record {
               let below = from-high first end block there in
               inr (left-true here (is_from first end block) n, in-from block first length above (omega (arith, below, end_is)))
         ]),
-        (λ t. is ∙ elim t as (λ _. (is_covered old.all.items view block || (here && is_from first end block)) ≡ true) [
-          | inl o ↦ left-or (is_covered old.all.items view block) (here && is_from first end block) o
+        (λ t. is ∙ elim t as (λ _. (is_covered old.all view block || (here && is_from first end block)) ≡ true) [
+          | inl o ↦ left-or (is_covered old.all view block) (here && is_from first end block) o
           | inr n ↦
               let above = in-above block first length n.1 in
               let below = in-below block first length n.1 in
-              right-or (is_covered old.all.items view block) (here && is_from first end block) (both-true here (is_from first end block) n.0 (from-is first end block above (omega (arith, below, end_is, low))))
+              right-or (is_covered old.all view block) (here && is_from first end block) (both-true here (is_from first end block) n.0 (from-is first end block above (omega (arith, below, end_is, low))))
         ]),
       );
 }
@@ -76,19 +59,19 @@ grows-range old new first length end end_is runs items = record {
 -- one after the other
 pub grows-then : (a b c : Pieces) (P Q : ℕ → Type 0) → Grows a b P → Grows b c Q → Grows a c (λ block. P block ⊎ Q block)
 grows-then a b c P Q g h = record {
-  same_runs = h.same_runs ∙ g.same_runs;
+  same = h.same ∙ ap (λ (p : Pieces). record p { all = record p.all { pieces = c.all.pieces } }) g.same;
   held = λ view block low.
-      let range : has_place b.runs.items view ≡ has_place a.runs.items view = ap (λ (runs : List Run). has_place runs view) g.same_runs in
+      let range : has_turn b view ≡ has_turn a view = ap (λ (p : Pieces). has_turn p view) g.same in
       let x = g.held view block low in
       let y = h.held view block low in
-      let Goal : Type 0 = (is_covered a.all.items view block ≡ true) ⊎ ((has_place a.runs.items view ≡ true) × (P block ⊎ Q block)) in (
+      let Goal : Type 0 = (is_covered a.all view block ≡ true) ⊎ ((has_turn a view ≡ true) × (P block ⊎ Q block)) in (
         (λ e. elim (y.0 e) as (λ _. Goal) [
           | inl k ↦ elim (x.0 k) as (λ _. Goal) [ inl l ↦ inl l | inr p ↦ inr (p.0, inl p.1) ]
           | inr q ↦ inr (sym range ∙ q.0, inr q.1)
         ]),
-        (λ t. elim t as (λ _. is_covered c.all.items view block ≡ true) [
+        (λ t. elim t as (λ _. is_covered c.all view block ≡ true) [
           | inl l ↦ y.1 (inl (x.1 (inl l)))
-          | inr pq ↦ elim pq.1 as (λ _. is_covered c.all.items view block ≡ true) [ inl p ↦ y.1 (inl (x.1 (inr (pq.0, p)))) | inr q ↦ y.1 (inr (range ∙ pq.0, q)) ]
+          | inr pq ↦ elim pq.1 as (λ _. is_covered c.all view block ≡ true) [ inl p ↦ y.1 (inl (x.1 (inr (pq.0, p)))) | inr q ↦ y.1 (inr (range ∙ pq.0, q)) ]
         ]),
       );
 }
@@ -96,11 +79,11 @@ grows-then a b c P Q g h = record {
 -- the same blocks by another fact
 pub grows-same : (old new : Pieces) (P Q : ℕ → Type 0) → ((block : ℕ) → P block ↔ Q block) → Grows old new P → Grows old new Q
 grows-same old new P Q s g = record {
-  same_runs = g.same_runs;
+  same = g.same;
   held = λ view block low.
       let x = g.held view block low in (
-        (λ e. elim (x.0 e) as (λ _. (is_covered old.all.items view block ≡ true) ⊎ ((has_place old.runs.items view ≡ true) × Q block)) [ inl l ↦ inl l | inr p ↦ inr (p.0, (s block).0 p.1) ]),
-        (λ t. elim t as (λ _. is_covered new.all.items view block ≡ true) [ inl l ↦ x.1 (inl l) | inr q ↦ x.1 (inr (q.0, (s block).1 q.1)) ]),
+        (λ e. elim (x.0 e) as (λ _. (is_covered old.all view block ≡ true) ⊎ ((has_turn old view ≡ true) × Q block)) [ inl l ↦ inl l | inr p ↦ inr (p.0, (s block).0 p.1) ]),
+        (λ t. elim t as (λ _. is_covered new.all view block ≡ true) [ inl l ↦ x.1 (inl l) | inr q ↦ x.1 (inr (q.0, (s block).1 q.1)) ]),
       );
 }
 

@@ -25,7 +25,7 @@ use Rattle.fs_record.specs.declared.extents.FileExt.{FileExt}
 use Rattle.vol_view.specs.Volumes.{Loaded}
 use Rattle.vol_view.specs.Views.{view_named, view_tree, view_flat, hashed_tree, plain_tree}
 use Rattle.piece_count.specs.Covered.{is_covered}
-use Rattle.piece_count.specs.declared.piece.Piece.{Piece}
+use Rattle.piece_count.specs.declared.piece.Holdings.{Holdings}
 use Rattle.reach_rules.specs.Naming.{InView, OfRecord, Files, Expected, ExtendedMetadata, TreeRoot, TreeNode, Namer, Naming}
 use Rattle.reach_rules.specs.Resolved.{Found, standing, resolved}
 use Rattle.reach_rules.specs.Tested.{tested}
@@ -328,7 +328,7 @@ module _ (image : List ℕ) (seen : Seen) (volume : Loaded) (given : IsGiven ima
       ]
 
 -- pieces of what views share, and of what is their own, are what each of them holds
-pub shares-held : (image : List ℕ) (seen : Seen) (volume : Loaded) (site : Site) (views : List KeptView) (reach : Reach) (before after : List Piece) → site ≡ site_of seen → views ≡ views_kept volume seen → IsGiven image seen volume → site.blocks < 2 ^ 64 →
+pub shares-held : (image : List ℕ) (seen : Seen) (volume : Loaded) (site : Site) (views : List KeptView) (reach : Reach) (before after : Holdings) → site ≡ site_of seen → views ≡ views_kept volume seen → IsGiven image seen volume → site.blocks < 2 ^ 64 →
     IsReachOf image seen volume views reach → AreShared image site reach.sets.items (length views) reach.shares.items before → AddsOwns image site views (length views) before after → AreHeldBy image seen volume views after
 shares-held image seen volume site views reach before after s v given few r shared owns = λ i kept at.
     let all : List KeptView = views_kept volume seen in

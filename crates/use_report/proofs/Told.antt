@@ -1,5 +1,5 @@
 -- What is told of a volume are the numbers of the blocks that its views hold.
-use Rattle.std.proofs.Common.{◌≡◌, ℕ, zero, suc, ◌+◌, ◌-◌, ◌^◌, ◌<◌, Bool, true, false, not, ◌&&◌, ◌||◌, ◌==◌, List, [], ◌∷◌, ◌++◌, Vec, Global, length, Some, inl, inr, refl, ap, sym, ◌∙◌, subst, arith}
+use Rattle.std.proofs.Common.{◌≡◌, ℕ, zero, suc, ◌+◌, ◌-◌, ◌^◌, ◌<◌, Bool, true, false, not, ◌&&◌, ◌==◌, List, [], ◌∷◌, ◌++◌, length, Some, inl, inr, refl, ap, sym, ◌∙◌, subst, arith}
 use Rattle.std.specs.Prelude.{◌↔◌, slice_get}
 use Rattle.std.specs.List.{AllZip, range_with_len, list_any}
 use Rattle.apfs_model.proofs.BoolTests.{left-true, right-true, both-true, equal-from, unequal-from, test_or, clash, not-true, false-not, never-true}
@@ -8,24 +8,26 @@ use Rattle.obj_base.specs.declared.site.Site.{Site}
 use Rattle.nx_ring.specs.Checkpoint.{Seen, site_of}
 use Rattle.vol_view.specs.Volumes.{Loaded}
 use Rattle.vol_view.specs.declared.volume.Snapshot.{Snapshot}
-use Rattle.piece_count.specs.Covered.{is_from, is_covered, is_any, is_alone, IsCount}
+use Rattle.piece_count.specs.Covered.{is_from, runs_at, is_among, covered_by, is_covered, is_any, is_alone, IsCount}
+use Rattle.piece_count.specs.declared.piece.Views.{Views}
 use Rattle.piece_count.specs.declared.piece.Piece.{Piece}
+use Rattle.piece_count.specs.declared.piece.Holdings.{Holdings}
 use Rattle.piece_count.specs.declared.tally.Counts.{Counts}
 use Rattle.piece_count.specs.declared.tally.ViewCount.{ViewCount}
 use Rattle.piece_count.proofs.Numbers.{any-below, below-any, from-low, from-high, from-is}
 use Rattle.reach_rules.specs.Tally.{IsNumberOf}
+use Rattle.use_report.specs.Counted.{has_turn}
 use Rattle.use_report.specs.Given.{IsGiven}
 use Rattle.use_report.specs.Held.{IsHeld, IsOnlyHeld, IsHeldByAny}
 use Rattle.use_report.specs.Holding.{IsWalked, IsHoldingOf, IsWalkedSet}
 use Rattle.use_report.specs.Numbers.{IsUse, IsUsage}
-use Rattle.view_sweep.specs.Runs.{has_place}
+use Rattle.use_report.specs.Runs.{AreOwnSets}
 use Rattle.use_report.specs.Sets.{AreHoldings, IsUseOf, AreNumbersOf}
 use Rattle.use_report.specs.Sharing.{AreHeldBy}
 use Rattle.use_report.specs.Views.{past_kept, pasts_kept, live_kept, views_kept}
 use Rattle.use_report.specs.declared.kept.KeptView.{KeptView}
 use Rattle.use_report.specs.declared.numbers.ViewUse.{ViewUse}
 use Rattle.use_report.specs.declared.pieces.Pieces.{Pieces}
-use Rattle.view_sweep.specs.declared.runs.Run.{Run}
 use Rattle.use_report.proofs.Holds.{holding-exact}
 use Rattle.use_report.proofs.Lists.{one-some, no-some, get-there, below-length, push-before, push-last}
 use Rattle.use_report.proofs.Sets.{number-by, number-is}
@@ -57,23 +59,17 @@ view-place volume seen (suc j) kept e =
     pasts-place volume 0 j volume.snaps kept e ∙ none
 
 -- ---- one view more
--- a run of one view has that view
-one-run : (i view : ℕ) → has_place (record { from = i; end = i + 1 } ∷ []) view ≡ is_from i (i + 1) view
-unfolding has_place
-one-run i view =
-    let last : (b : Bool) → (b || false) ≡ b = λ b. elim b as (λ b. (b || false) ≡ b) [ true ↦ refl | false ↦ refl ] in
-    last (is_from i (i + 1) view)
-
--- what one view turned to is added to that view alone
-pub turned-view : (turned : Pieces) (i view : ℕ) → turned.runs.items ≡ record { from = i; end = i + 1 } ∷ [] → has_place turned.runs.items view ≡ is_from i (i + 1) view
-turned-view turned i view runs = ap (λ (rs : List Run). has_place rs view) runs ∙ one-run i view
+-- what is added next is held by the view in a place alone, where the sets begin with those of each view alone
+pub turned-view : (sets : List Views) (before turned : Pieces) (many i view : ℕ) → sets ≡ before.all.sets.items → AreOwnSets many sets → i < many → turned ≡ record before { set = i } → has_turn turned view ≡ is_from i (i + 1) view
+turned-view sets before turned many i view s own low e =
+    ap (λ (p : Pieces). has_turn p view) e ∙ (ap (λ (ss : List Views). is_among (runs_at ss i) view) (sym s) ∙ own i view low)
 
 -- no view yet
-pub holdings-none : (image : List ℕ) (site : Site) (volume : Loaded) (views : List KeptView) (pieces : List Piece) → pieces ≡ [] → AreHoldings image site volume views 0 pieces
-unfolding is_covered
-holdings-none image site volume views pieces e = record {
+pub holdings-none : (image : List ℕ) (site : Site) (volume : Loaded) (views : List KeptView) (held : Holdings) → held.pieces.items ≡ [] → AreHoldings image site volume views 0 held
+unfolding covered_by
+holdings-none image site volume views held e = record {
   each = λ i view low here. absurd (let q : ⊥ = omega (arith, low) in q);
-  none = λ i block up low. ap (λ (ps : List Piece). is_covered ps i block) e;
+  none = λ i block up low. ap (λ (ps : List Piece). covered_by held.sets.items ps i block) e;
 }
 
 set-same : (image : List ℕ) (site : Site) (volume : Loaded) (view : KeptView) (test also : ℕ → Bool) → ((block : ℕ) → block < 2 ^ 64 - 1 → (also block ≡ true) ↔ (test block ≡ true)) → IsWalkedSet image site volume view test → IsWalkedSet image site volume view also
@@ -88,14 +84,14 @@ set-same image site volume view test also s h = record {
       ((λ e. x.0 (y.0 e)), (λ p. y.1 (x.1 p)));
 }
 
-pub holdings-more : (image : List ℕ) (site : Site) (volume : Loaded) (views : List KeptView) (i : ℕ) (view : KeptView) (before turned after : Pieces) → slice_get views i ≡ Some view → turned.all ≡ before.all → turned.runs.items ≡ record { from = i; end = i + 1 } ∷ [] → AreHoldings image site volume views i before.all.items →
-    IsHoldingOf image site volume view turned after → AreHoldings image site volume views (i + 1) after.all.items
-holdings-more image site volume views i view before turned after at same runs had one =
-    let old : (v block : ℕ) → is_covered turned.all.items v block ≡ is_covered before.all.items v block = λ v block. ap (λ (ps : Vec Piece Global). is_covered ps.items v block) same in
-    let turn : (v : ℕ) → has_place turned.runs.items v ≡ is_from i (i + 1) v = λ v. turned-view turned i v runs in
-    let others : (v block : ℕ) → (v ≡ i → ⊥) → block < 2 ^ 64 - 1 → (is_covered after.all.items v block ≡ true) ↔ (is_covered before.all.items v block ≡ true) = λ v block apart low.
+pub holdings-more : (image : List ℕ) (site : Site) (volume : Loaded) (views : List KeptView) (i : ℕ) (view : KeptView) (before turned after : Pieces) → slice_get views i ≡ Some view → AreOwnSets (length views) before.all.sets.items → turned ≡ record before { set = i } →
+    AreHoldings image site volume views i before.all → IsHoldingOf image site volume view turned after → AreHoldings image site volume views (i + 1) after.all
+holdings-more image site volume views i view before turned after at own turns had one =
+    let old : (v block : ℕ) → is_covered turned.all v block ≡ is_covered before.all v block = λ v block. ap (λ (p : Pieces). is_covered p.all v block) turns in
+    let turn : (v : ℕ) → has_turn turned v ≡ is_from i (i + 1) v = λ v. turned-view before.all.sets.items before turned (length views) i v refl own (below-length views i view at) turns in
+    let others : (v block : ℕ) → (v ≡ i → ⊥) → block < 2 ^ 64 - 1 → (is_covered after.all v block ≡ true) ↔ (is_covered before.all v block ≡ true) = λ v block apart low.
     let g = one.grows.held v block low in (
-      (λ e. elim (g.0 e) as (λ _. is_covered before.all.items v block ≡ true) [
+      (λ e. elim (g.0 e) as (λ _. is_covered before.all v block ≡ true) [
         | inl o ↦ sym (old v block) ∙ o
         | inr n ↦
             let here : is_from i (i + 1) v ≡ true = sym (turn v) ∙ n.0 in
@@ -107,11 +103,11 @@ holdings-more image site volume views i view before turned after at same runs ha
     )
     in
     record {
-      each = λ j other low here. elim (test_or (j == i)) as (λ _. IsWalkedSet image site volume other (is_covered after.all.items j)) [
+      each = λ j other low here. elim (test_or (j == i)) as (λ _. IsWalkedSet image site volume other (is_covered after.all j)) [
         | inl y ↦
             let s = equal-from j i y in
             let view_is : view ≡ other = one-some view other (sym at ∙ (ap (slice_get views) (sym s) ∙ here)) in
-            let this : IsWalkedSet image site volume view (is_covered after.all.items j) = record {
+            let this : IsWalkedSet image site volume view (is_covered after.all j) = record {
               files = one.files;
               those = one.those;
               right = one.right;
@@ -119,20 +115,20 @@ holdings-more image site volume views i view before turned after at same runs ha
               has = λ block lb.
                   let g = one.grows.held j block lb in (
                     (λ e. elim (g.0 e) as (λ _. IsWalked image site volume view one.files block) [
-                      | inl o ↦ clash (is_covered before.all.items j block) (sym (old j block) ∙ o) (had.none j block (omega (arith, s)) lb)
+                      | inl o ↦ clash (is_covered before.all j block) (sym (old j block) ∙ o) (had.none j block (omega (arith, s)) lb)
                       | inr n ↦ n.1
                     ]),
                     (λ p. g.1 (inr (turn j ∙ from-is i (i + 1) j (omega (arith, s)) (omega (arith, s)), p))),
                   );
             } in
-            subst (λ (w : KeptView). IsWalkedSet image site volume w (is_covered after.all.items j)) view_is this
+            subst (λ (w : KeptView). IsWalkedSet image site volume w (is_covered after.all j)) view_is this
         | inr n ↦
             let apart = unequal-from j i n in
-            set-same image site volume other (is_covered before.all.items j) (is_covered after.all.items j) (λ block lb. others j block apart lb) (had.each j other (omega (arith, low, apart)) here)
+            set-same image site volume other (is_covered before.all j) (is_covered after.all j) (λ block lb. others j block apart lb) (had.each j other (omega (arith, low, apart)) here)
       ];
       none = λ j block up low.
           let apart : j ≡ i → ⊥ = λ s. let q : ⊥ = omega (arith, s, up) in q in
-          never-true (is_covered after.all.items j block) (λ e. clash (is_covered before.all.items j block) ((others j block apart low).0 e) (had.none j block (omega (arith, up)) low));
+          never-true (is_covered after.all j block) (λ e. clash (is_covered before.all j block) ((others j block apart low).0 e) (had.none j block (omega (arith, up)) low));
     }
 
 -- the numbers of the view in a place are told
@@ -156,7 +152,7 @@ uses-more views counts told new i view numbers e many at one had k v low here =
     ]
 
 -- ---- the numbers
-module _ (image : List ℕ) (seen : Seen) (volume : Loaded) (pieces : List Piece) (few : (site_of seen).blocks < 2 ^ 64) (exact-at : AreHeldBy image seen volume (views_kept volume seen) pieces) where
+module _ (image : List ℕ) (seen : Seen) (volume : Loaded) (pieces : Holdings) (few : (site_of seen).blocks < 2 ^ 64) (exact-at : AreHeldBy image seen volume (views_kept volume seen) pieces) where
   abbrev blocks : ℕ
   blocks = (site_of seen).blocks
 
@@ -228,14 +224,14 @@ module _ (image : List ℕ) (seen : Seen) (volume : Loaded) (pieces : List Piece
   }
 
 -- where each view is walked, its pieces are what it holds
-pub holdings-held : (image : List ℕ) (seen : Seen) (volume : Loaded) (site : Site) (views : List KeptView) (pieces : List Piece) → site ≡ site_of seen → views ≡ views_kept volume seen → IsGiven image seen volume → site.blocks < 2 ^ 64 → AreHoldings image site volume views (length views) pieces → AreHeldBy image seen volume views pieces
+pub holdings-held : (image : List ℕ) (seen : Seen) (volume : Loaded) (site : Site) (views : List KeptView) (pieces : Holdings) → site ≡ site_of seen → views ≡ views_kept volume seen → IsGiven image seen volume → site.blocks < 2 ^ 64 → AreHoldings image site volume views (length views) pieces → AreHeldBy image seen volume views pieces
 holdings-held image seen volume site views pieces s v given few held = λ i kept at.
     let here : slice_get (views_kept volume seen) i ≡ Some kept = ap (λ (xs : List KeptView). slice_get xs i) (sym v) ∙ at in
     let walked : IsWalkedSet image (site_of seen) volume kept (is_covered pieces i) = subst (λ (x : Site). IsWalkedSet image x volume kept (is_covered pieces i)) s (held.each i kept (below-length views i kept at) at) in
     holding-exact image seen volume given (subst (λ (x : Site). x.blocks < 2 ^ 64) s few) kept (get-in (views_kept volume seen) i kept here) (is_covered pieces i) walked
 
 -- the same of a site and of views that are those of the checkpoint and the volume
-pub usage-told : (image : List ℕ) (seen : Seen) (volume : Loaded) (site : Site) (views named : List KeptView) (pieces : List Piece) (told : List ViewUse) (number : ℕ) → site ≡ site_of seen → views ≡ views_kept volume seen → named ≡ views →
+pub usage-told : (image : List ℕ) (seen : Seen) (volume : Loaded) (site : Site) (views named : List KeptView) (pieces : Holdings) (told : List ViewUse) (number : ℕ) → site ≡ site_of seen → views ≡ views_kept volume seen → named ≡ views →
     site.blocks < 2 ^ 64 → AreHeldBy image seen volume views pieces → AreNumbersOf site.blocks named pieces told number → IsUsage image seen volume (record { views = told; all = number })
 usage-told image seen volume site views named pieces told number s v p few held n =
     let all : List KeptView = views_kept volume seen in

@@ -5,7 +5,7 @@ use Rattle.obj_base.specs.declared.stop.Feature.{Feature}
 use Rattle.obj_base.specs.declared.site.Site.{Site}
 use Rattle.vol_view.specs.Volumes.{Loaded}
 use Rattle.piece_count.specs.Covered.{is_covered, nth_count, IsCount}
-use Rattle.piece_count.specs.declared.piece.Piece.{Piece}
+use Rattle.piece_count.specs.declared.piece.Holdings.{Holdings}
 use Rattle.piece_count.specs.declared.tally.Counts.{Counts}
 use Rattle.piece_count.specs.declared.tally.ViewCount.{ViewCount}
 use Rattle.use_report.specs.Faults.{IsUseFaultIn}
@@ -16,7 +16,7 @@ use Rattle.use_report.specs.declared.numbers.ViewUse.{ViewUse}
 use Rattle.use_report.specs.declared.stop.UseFault.{UseFault}
 
 -- pieces have what each of the first so many views has, and nothing of a later one
-pub record AreHoldings (image : List ℕ) (site : Site) (volume : Loaded) (views : List KeptView) (many : ℕ) (pieces : List Piece) : Type 0 where
+pub record AreHoldings (image : List ℕ) (site : Site) (volume : Loaded) (views : List KeptView) (many : ℕ) (pieces : Holdings) : Type 0 where
   pub each : (i : ℕ) (view : KeptView) → i < many → slice_get views i ≡ Some view → IsWalkedSet image site volume view (is_covered pieces i)
   pub none : (i block : ℕ) → many ≤ i → block < 2 ^ 64 - 1 → is_covered pieces i block ≡ false
 
@@ -44,7 +44,7 @@ pub record AreUsesOf (views : List KeptView) (counts : List ViewCount) (told : L
   pub each : (i : ℕ) (view : KeptView) → slice_get views i ≡ Some view → (numbers : ViewUse) × (slice_get told i ≡ Some numbers) × IsUseOf counts i view.view.xid numbers
 
 -- the numbers of some views by pieces, and how many blocks some view has
-pub record AreNumbersOf (blocks : ℕ) (views : List KeptView) (pieces : List Piece) (told : List ViewUse) (number : ℕ) : Type 0 where
+pub record AreNumbersOf (blocks : ℕ) (views : List KeptView) (pieces : Holdings) (told : List ViewUse) (number : ℕ) : Type 0 where
   pub counts : Counts
   pub counted : IsCount blocks (length views) pieces counts
   pub number_is : number ≡ counts.all

@@ -1,5 +1,5 @@
 -- What views hold by the records that they share.
-use Rattle.std.specs.Prelude.{◌≡◌, ◌⊎◌, ◌↔◌, ℕ, ◌-◌, ◌^◌, ◌<◌, ◌≤◌, Bool, true, false, ◌==◌, List, length, Some, slice_get}
+use Rattle.std.specs.Prelude.{◌≡◌, ◌⊎◌, ◌↔◌, ℕ, ◌-◌, ◌^◌, ◌<◌, Bool, true, false, ◌==◌, List, length, Some, slice_get}
 use Rattle.apfs_model.specs.Blocks.{block_of, in_container}
 use Rattle.apfs_model.specs.Lists.{In}
 use Rattle.obj_base.specs.declared.site.Site.{Site}
@@ -7,7 +7,7 @@ use Rattle.nx_ring.specs.Checkpoint.{Seen, site_of}
 use Rattle.vol_view.specs.Volumes.{Loaded}
 use Rattle.ext_ref.specs.Ranges.{node_blocks_of}
 use Rattle.piece_count.specs.Covered.{is_covered}
-use Rattle.piece_count.specs.declared.piece.Piece.{Piece}
+use Rattle.piece_count.specs.declared.piece.Holdings.{Holdings}
 use Rattle.reach_rules.specs.Naming.{Namer}
 use Rattle.view_sweep.specs.declared.sets.ViewSet.{ViewSet}
 use Rattle.view_sweep.specs.declared.wanted.SweptView.{SweptView}
@@ -55,7 +55,7 @@ abbrev pub IsOfShares : List ℕ → Site → List ViewSet → ℕ → List Shar
 IsOfShares image site sets many shares view block = (share : Share) × In share shares × (is_shared sets share (head_place many view) ≡ true) × IsOfShare image site share block
 
 -- pieces have what some records give to so many views
-pub record AreShared (image : List ℕ) (site : Site) (sets : List ViewSet) (many : ℕ) (shares : List Share) (pieces : List Piece) : Type 0 where
+pub record AreShared (image : List ℕ) (site : Site) (sets : List ViewSet) (many : ℕ) (shares : List Share) (pieces : Holdings) : Type 0 where
   pub held : (view block : ℕ) → view < many → block < 2 ^ 64 - 1 → (is_covered pieces view block ≡ true) ↔ IsOfShares image site sets many shares view block
   pub placed : (share : Share) → In share shares → IsPlacedShare image site share
 
@@ -77,7 +77,7 @@ pub record IsOwnAt (image : List ℕ) (site : Site) (views : List KeptView) (man
   pub own : IsOwn image site kept block
 
 -- what is their own of the first so many views was added
-abbrev pub AddsOwns : List ℕ → Site → List KeptView → ℕ → List Piece → List Piece → Type 0
+abbrev pub AddsOwns : List ℕ → Site → List KeptView → ℕ → Holdings → Holdings → Type 0
 AddsOwns image site views many old new = (view block : ℕ) → block < 2 ^ 64 - 1 → (is_covered new view block ≡ true) ↔ ((is_covered old view block ≡ true) ⊎ IsOwnAt image site views many view block)
 
 -- these are the records that the views of a volume use
@@ -88,5 +88,5 @@ pub record IsReachOf (image : List ℕ) (seen : Seen) (volume : Loaded) (views :
   pub shared : (supers : SweptView → Namer) → AreSharedBy image seen (head_views heads) (head_namings supers heads) reach.sets.items reach.shares.items
 
 -- pieces have exactly what each of some views holds
-abbrev pub AreHeldBy : List ℕ → Seen → Loaded → List KeptView → List Piece → Type 0
+abbrev pub AreHeldBy : List ℕ → Seen → Loaded → List KeptView → Holdings → Type 0
 AreHeldBy image seen volume views pieces = (i : ℕ) (kept : KeptView) → slice_get views i ≡ Some kept → HasExactly (site_of seen).blocks (IsHeld image seen volume kept) (is_covered pieces i)

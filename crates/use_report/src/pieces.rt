@@ -1,77 +1,47 @@
 // The pieces of the blocks that views hold.
-ghost use Rattle.std.specs.Prelude.{◌≡◌, ◌+◌, ◌++◌, ◌^◌, ◌<◌, ℕ, List, [], ◌∷◌, length, map, true, OnOk};
+ghost use Rattle.std.specs.Prelude.{◌≡◌, ◌+◌, ◌^◌, ◌<◌, ℕ, [], length, true, OnOk, IfOk};
 ghost use Rattle.apfs_model.specs.Blocks.{is_in};
-ghost use Rattle.use_report.specs.Counted.{Grows, piece_of};
-ghost use Rattle.use_report.specs.Runs.{AreHeadRuns, AreRunsOf};
+ghost use Rattle.view_sweep.specs.Sets.{set_at};
+ghost use Rattle.use_report.specs.Counted.{Grows};
+ghost use Rattle.use_report.specs.Runs.{AreHeadRuns, AreViewSets};
 
-use crate::runs::add_runs;
+use crate::runs::view_sets;
 use apfs_model::NoMemory;
-use piece_count::Piece;
+use piece_count::{Holdings, Piece};
 use std::alloc::Global;
-use view_sweep::Run;
+use view_sweep::ViewSet;
 
-/// The pieces of the blocks that views hold, where what is added next is held by the views of some runs.
+/// The pieces of the blocks that views hold, where what is added next is held by the views of the set of a number.
 #[derive(Drop)]
 pub(crate) struct Pieces {
-    pub runs: Vec<Run>,
-    pub all: Vec<Piece>,
-}
-
-// Adds the blocks from one up to another, for the views of each of some runs.
-fn add_pieces(all: &mut Vec<Piece>, runs: &[Run], first: u64, end: u64) -> Result<(), NoMemory>
-    ensures { OnOk result (all.new.items ≡ all.old.items ++ map (piece_of first end) runs.now) }
-{
-    'runs: for run in runs {
-        match all.push(Piece {
-            first,
-            end,
-            from: run.from,
-            to: run.end,
-        }) {
-            Ok(()) => {}
-            Err(_) => return Err(NoMemory),
-        }
-    }
-    Ok(())
+    pub set: usize,
+    pub all: Holdings,
 }
 
 impl Pieces {
-    /// No view holds a block yet.
-    pub(crate) fn new(alloc: Global) -> Pieces
-        ensures { result.all.items ≡ [] }
+    /// No view holds a block yet, of so many. The first sets are each of one view, and then come those of some sets of heads.
+    pub(crate) fn new(alloc: Global, shared: &[ViewSet], many: usize) -> Result<Pieces, NoMemory>
+        requires some { 0 < length shared.now → 0 < many }
+        requires sets { (n : ℕ) → n < length shared.now → AreHeadRuns many (set_at shared.now n) }
+        ensures none { IfOk result (λ held. held.all.pieces.items ≡ []) }
+        ensures sets { IfOk result (λ held. AreViewSets shared.now many held.all.sets.items) }
+        ensures few { IfOk result (λ held. many + length shared.now < 2 ^ 64) }
     {
-        Pieces {
-            runs: Vec::new(alloc),
-            all: Vec::new(alloc),
-        }
+        let sets = view_sets(alloc, shared, many)?;
+        Ok(Pieces {
+            set: 0,
+            all: Holdings {
+                sets,
+                pieces: Vec::new(alloc),
+            },
+        })
     }
 
-    /// What is added next is held by the view in a place.
-    pub(crate) fn turn(&mut self, view: usize) -> Result<(), NoMemory>
-        requires { view + 1 < 2 ^ 64 }
-        ensures runs { OnOk result (self.new.runs.items ≡ record { from = view; end = view + 1 } ∷ []) }
-        ensures same { OnOk result (self.new.all ≡ self.old.all) }
+    /// What is added next is held by the views of the set of a number.
+    pub(crate) fn turn(&mut self, set: usize)
+        ensures { self.new ≡ record self.old { set = set } }
     {
-        self.runs.clear();
-        match self.runs.push(Run {
-            from: view,
-            end: view + 1,
-        }) {
-            Ok(()) => Ok(()),
-            Err(_) => Err(NoMemory),
-        }
-    }
-
-    /// What is added next is held by the views of a set, of so many.
-    pub(crate) fn share(&mut self, set: &[Run], many: usize) -> Result<(), NoMemory>
-        requires some { 0 < many }
-        requires set { AreHeadRuns many set.now }
-        ensures runs { OnOk result (AreRunsOf set.now many self.new.runs.items) }
-        ensures same { OnOk result (self.new.all ≡ self.old.all) }
-    {
-        self.runs.clear();
-        add_runs(&mut self.runs, set, many)?;
-        Ok(())
+        self.set = set;
     }
 
     /// Adds the blocks of a range.
@@ -79,7 +49,11 @@ impl Pieces {
         ensures { OnOk result (Grows self.old self.new (λ block. is_in block first length ≡ true)) }
     {
         let end = first.saturating_add(length);
-        add_pieces(&mut self.all, &self.runs, first, end)?;
+        self.all.pieces.push(Piece {
+            first,
+            end,
+            set: self.set,
+        })?;
         Ok(())
     }
 }

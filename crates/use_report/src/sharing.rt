@@ -1,5 +1,5 @@
 // What the views of a volume hold, where each node that many of them share is read once.
-ghost use Rattle.std.specs.Prelude.{◌≡◌, ◌*◌, ◌^◌, ◌<◌, ◌≤◌, [], ℕ, List, Some, true, length, map, IfOk, IfSome, IfErr, IsErrOf, IsTrue};
+ghost use Rattle.std.specs.Prelude.{◌≡◌, ◌+◌, ◌*◌, ◌^◌, ◌<◌, ◌≤◌, [], ℕ, List, Some, true, length, map, IfOk, IfSome, IfErr, IsErrOf, IsTrue};
 ghost use Rattle.apfs_model.specs.Blocks.{in_container};
 ghost use Rattle.apfs_model.specs.Counts.{Rose};
 ghost use Rattle.apfs_model.specs.Kept.{IsKept};
@@ -8,11 +8,11 @@ ghost use Rattle.obj_base.specs.Site.{IsSiteFor};
 ghost use Rattle.obj_base.specs.BlockSize.{is_accepted};
 ghost use Rattle.obj_base.specs.Stops.{IsFree};
 ghost use Rattle.obj_base.specs.declared.stop.Stop.TheVariants.{ReadFault as ReadFailed};
-ghost use Rattle.view_sweep.specs.Sets.{set_at};
 ghost use Rattle.use_report.specs.Counted.{Grows};
 ghost use Rattle.use_report.specs.Given.{IsGiven};
 ghost use Rattle.use_report.specs.Heads.{ArePlaced};
 ghost use Rattle.use_report.specs.Leaves.{AddsNode};
+ghost use Rattle.use_report.specs.Runs.{AreOwnSets, AreViewSets};
 ghost use Rattle.use_report.specs.Sharing as spec;
 ghost use Rattle.use_report.specs.Sharing.{bytes_of, AddsShare, AreShared, AreInOrder, IsOwn, AddsOwns, IsReachOf, AreHeldBy};
 ghost use Rattle.use_report.specs.Views.{views_kept};
@@ -29,9 +29,9 @@ use blk_source::BlockSource;
 use bt_keys::{FsKey, FsPlainKey};
 use bt_node::NodeAt;
 use obj_base::{Site, Stop};
-use piece_count::Piece;
+use piece_count::Holdings;
 use std::alloc::Global;
-use view_sweep::{Reach, Run, Share, SharedAs, ViewSet, reach_by_views};
+use view_sweep::{Reach, Share, SharedAs, ViewSet, reach_by_views};
 use vol_view::Volume;
 
 // Whether the object of a record may be a leaf: the level of a root stands in its block.
@@ -104,16 +104,7 @@ fn add_share<S: BlockSource>(
     Ok(whole)
 }
 
-// The runs of the set of a number.
-fn runs_of(sets: &[ViewSet], number: usize) -> &[Run]
-    requires { number < length sets.now }
-    ensures { result.now ≡ set_at sets.now number }
-{
-    let set = &sets[number];
-    &set.runs
-}
-
-// The same for each of some records and the views of its set, of so many.
+// The same for each of some records and the views of its set, which comes after those of so many views.
 fn add_shares<S: BlockSource>(
     alloc: Global,
     src: &mut S,
@@ -124,17 +115,19 @@ fn add_shares<S: BlockSource>(
     held: &mut Pieces,
 ) -> Result<bool, Stop<UseFault>>
     requires site { IsSiteFor site.now (S.bytes_len src.old) }
-    requires some { 0 < many }
+    requires few { many + length sets.now < 2 ^ 64 }
     requires order { AreInOrder site.now.blocks many sets.now shares.now }
-    requires none { held.old.all.items ≡ [] }
-    ensures held { (image : List ℕ) → S.bytes src.old ≡ Some image → IfOk result (λ whole. IsTrue whole → AreShared image site.now sets.now many shares.now held.new.all.items) }
+    requires none { held.old.all.pieces.items ≡ [] }
+    requires sets { AreViewSets sets.now many held.old.all.sets.items }
+    ensures held { (image : List ℕ) → S.bytes src.old ≡ Some image → IfOk result (λ whole. IsTrue whole → AreShared image site.now sets.now many shares.now held.new.all) }
+    ensures sets { (image : List ℕ) → S.bytes src.old ≡ Some image → IfOk result (λ whole. IsTrue whole → AreViewSets sets.now many held.new.all.sets.items) }
     ensures free { IfErr result IsFree }
     ensures cause { IsErrOf result ReadFailed → Rose (S.faults src.old) (S.faults src.new) }
     ensures kept { IsKept S.bytes S.bytes_len S.faults src.old src.new }
 {
     let mut block = vec![in alloc; 0u8; site.block_size as usize]?;
     'shares: for share in shares {
-        held.share(runs_of(sets, share.set), many)?;
+        held.turn(many + share.set);
         match add_share(src, site, share, &mut block, held) {
             Ok(true) => {}
             Ok(false) => return Ok(false),
@@ -191,13 +184,13 @@ fn add_owns<S: BlockSource>(
     held: &mut Pieces,
 ) -> Result<bool, Stop<UseFault>>
     requires site { IsSiteFor site.now (S.bytes_len src.old) }
-    ensures added { (image : List ℕ) → S.bytes src.old ≡ Some image → IfOk result (λ whole. IsTrue whole → AddsOwns image site.now views.now (length views.now) held.old.all.items held.new.all.items) }
+    ensures added { (image : List ℕ) → S.bytes src.old ≡ Some image → AreOwnSets (length views.now) held.old.all.sets.items → IfOk result (λ whole. IsTrue whole → AddsOwns image site.now views.now (length views.now) held.old.all held.new.all) }
     ensures free { IfErr result IsFree }
     ensures cause { IsErrOf result ReadFailed → Rose (S.faults src.old) (S.faults src.new) }
     ensures kept { IsKept S.bytes S.bytes_len S.faults src.old src.new }
 {
     'views: for i in 0..views.len() {
-        held.turn(i)?;
+        held.turn(i);
         match add_own(alloc, src, &views[i], site, held) {
             Ok(true) => {}
             Ok(false) => return Ok(false),
@@ -241,10 +234,10 @@ pub(crate) fn held_by_sweep<S: BlockSource>(
     volume: &Volume,
     views: &[KeptView],
     site: &Site,
-) -> Result<Option<Vec<Piece>>, Stop<UseFault>>
+) -> Result<Option<Holdings>, Stop<UseFault>>
     requires site { IsSiteFor site.now (S.bytes_len src.old) }
     requires placed { ArePlaced views.now }
-    ensures held { (image : List ℕ) → S.bytes src.old ≡ Some image → (seen : Seen) → site.now ≡ site_of seen → views.now ≡ views_kept volume.now seen → IsGiven image seen volume.now → IfOk result (λ found. IfSome found (λ pieces. AreHeldBy image seen volume.now views.now pieces.items)) }
+    ensures held { (image : List ℕ) → S.bytes src.old ≡ Some image → (seen : Seen) → site.now ≡ site_of seen → views.now ≡ views_kept volume.now seen → IsGiven image seen volume.now → IfOk result (λ found. IfSome found (AreHeldBy image seen volume.now views.now)) }
     ensures free { IfErr result IsFree }
     ensures cause { IsErrOf result ReadFailed → Rose (S.faults src.old) (S.faults src.new) }
     ensures kept { IsKept S.bytes S.bytes_len S.faults src.old src.new }
@@ -258,7 +251,7 @@ pub(crate) fn held_by_sweep<S: BlockSource>(
         Ok(None) => return Ok(None),
         Err(stop) => return Err(stop),
     };
-    let mut held = Pieces::new(alloc);
+    let mut held = Pieces::new(alloc, &reach.sets, views.len())?;
     match add_shares(
         alloc,
         src,

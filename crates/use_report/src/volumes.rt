@@ -24,7 +24,7 @@ use crate::sharing::held_by_sweep;
 use blk_source::BlockSource;
 use nx_ring::Checkpoint;
 use obj_base::{Site, Stop};
-use piece_count::{Piece, ViewCount, count};
+use piece_count::{Holdings, ViewCount, count};
 use std::alloc::Global;
 use vol_view::Volume;
 
@@ -35,17 +35,17 @@ fn held_by_all<S: BlockSource>(
     volume: &Volume,
     views: &[KeptView],
     site: &Site,
-) -> Result<Vec<Piece>, Stop<UseFault>>
+) -> Result<Holdings, Stop<UseFault>>
     requires site { IsSiteFor site.now (S.bytes_len src.old) }
-    ensures held { (image : List ℕ) → S.bytes src.old ≡ Some image → IfOk result (λ pieces. AreHoldings image site.now volume.now views.now (length views.now) pieces.items) }
+    ensures held { (image : List ℕ) → S.bytes src.old ≡ Some image → IfOk result (AreHoldings image site.now volume.now views.now (length views.now)) }
     ensures present { (image : List ℕ) → S.bytes src.old ≡ Some image → IfErr result (Tells (AreFaultsOf image site.now volume.now views.now) (AreFeaturesOf image site.now volume.now views.now)) }
     ensures exact { (image : List ℕ) → S.bytes src.old ≡ Some image → AreRightViews image site.now volume.now views.now → IfErr result IsFree }
     ensures cause { IsErrOf result ReadFault → Rose (S.faults src.old) (S.faults src.new) }
     ensures kept { IsKept S.bytes S.bytes_len S.faults src.old src.new }
 {
-    let mut held = Pieces::new(alloc);
+    let mut held = Pieces::new(alloc, &[], views.len())?;
     'views: for i in 0..views.len() {
-        held.turn(i)?;
+        held.turn(i);
         match hold(alloc, src, volume, &views[i], site, &mut held) {
             Ok(()) => {}
             Err(stop) => return Err(stop),
@@ -61,10 +61,10 @@ fn held_by_views<S: BlockSource>(
     volume: &Volume,
     views: &[KeptView],
     site: &Site,
-) -> Result<Vec<Piece>, Stop<UseFault>>
+) -> Result<Holdings, Stop<UseFault>>
     requires site { IsSiteFor site.now (S.bytes_len src.old) }
     requires placed { ArePlaced views.now }
-    ensures held { (image : List ℕ) → S.bytes src.old ≡ Some image → (seen : Seen) → site.now ≡ site_of seen → views.now ≡ views_kept volume.now seen → IsGiven image seen volume.now → IfOk result (λ pieces. AreHeldBy image seen volume.now views.now pieces.items) }
+    ensures held { (image : List ℕ) → S.bytes src.old ≡ Some image → (seen : Seen) → site.now ≡ site_of seen → views.now ≡ views_kept volume.now seen → IsGiven image seen volume.now → IfOk result (AreHeldBy image seen volume.now views.now) }
     ensures present { (image : List ℕ) → S.bytes src.old ≡ Some image → IfErr result (Tells (AreFaultsOf image site.now volume.now views.now) (AreFeaturesOf image site.now volume.now views.now)) }
     ensures exact { (image : List ℕ) → S.bytes src.old ≡ Some image → AreRightViews image site.now volume.now views.now → IfErr result IsFree }
     ensures cause { IsErrOf result ReadFault → Rose (S.faults src.old) (S.faults src.new) }
@@ -116,14 +116,14 @@ fn uses(
 fn tally(
     alloc: Global,
     views: &[KeptView],
-    pieces: Vec<Piece>,
+    held: Holdings,
     blocks: u64,
 ) -> Result<Usage, Stop<UseFault>>
     requires { 0 < length views.now }
-    ensures numbers { IfOk result (λ usage. AreNumbersOf blocks views.now pieces.items usage.views.items usage.all) }
+    ensures numbers { IfOk result (λ usage. AreNumbersOf blocks views.now held usage.views.items usage.all) }
     ensures memory_only { IfErr result (λ stop. stop ≡ NoMemory) }
 {
-    let counts = count(alloc, pieces, views.len(), blocks)?;
+    let counts = count(alloc, held, views.len(), blocks)?;
     let told = match uses(alloc, views, &counts.views) {
         Ok(told) => told,
         Err(stop) => return Err(stop),

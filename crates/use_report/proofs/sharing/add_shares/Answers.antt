@@ -1,29 +1,23 @@
-use Rattle.std.proofs.Common.{List, get_or, refl, sym, ◌∙◌, subst, arith}
-use Rattle.view_sweep.specs.declared.runs.Run.{Run}
-use Rattle.use_report.specs.Runs.{AreHeadRuns}
+use Rattle.std.proofs.Common.{get_or, refl, sym, ◌∙◌, arith}
 use Rattle.use_report.proofs.Lists.{got-in}
-use Rattle.use_report.proofs.Spread.{no_share, shares-none, shares-next, shares-all}
+use Rattle.use_report.proofs.Spread.{no_share, shares-none, shares-next, shares-all, view-sets}
 use Rattle.use_report.proofs.sharing.add_shares.Goals as goal
 
 pub shares-init : goal.shares-init
 shares-init g c = record {
-  held = λ image told. shares-none image c.args.site.now c.args.sets.now c.args.many c.args.shares.now c.args.held.now.all.items c.requires.none;
+  held = λ image told. shares-none image c.args.site.now c.args.sets.now c.args.many c.args.shares.now c.args.held.now.all c.requires.none;
+  sets = λ image told. c.requires.sets;
   long = sym c.in_ok-block.block.ok.0 ∙ c.in_ok-block.ensures.len;
   kept = record { same_bytes = refl; same_size = refl; later = omega arith };
 }
 
-pub runs_of-requires : goal.runs_of-requires
-runs_of-requires g c =
+pub overflow_add-many : goal.overflow_add-many
+overflow_add-many g c =
     let shares = c.args.shares.now in
     let i = c.shares.share-index in
-    c.requires.order.number (get_or shares i no_share) (got-in shares i no_share c.shares-test.true)
-
-pub share-requires-clause-set : goal.share-requires-clause-set
-share-requires-clause-set g c =
-    let shares = c.args.shares.now in
-    let i = c.shares.share-index in
-    let one = get_or shares i no_share in
-    subst (λ (set : List Run). AreHeadRuns c.args.many set) (sym c.runs_of.ensures) (c.requires.order.runs one.set (c.requires.order.number one (got-in shares i no_share c.shares-test.true)))
+    let low = c.requires.order.number (get_or shares i no_share) (got-in shares i no_share c.shares-test.true) in
+    let few = c.requires.few in
+    omega (arith, low, few)
 
 pub add_share-requires-clause-inside : goal.add_share-requires-clause-inside
 add_share-requires-clause-inside g c =
@@ -34,10 +28,13 @@ add_share-requires-clause-inside g c =
 pub shares-preserved : goal.shares-preserved
 shares-preserved g c =
     let had = c.shares.invariant in
+    let shares = c.args.shares.now in
+    let i = c.shares.share-index in
     record {
       held = λ image told.
-          shares-next image c.args.site.now c.args.sets.now c.args.many c.args.shares.now c.shares.share-index c.runs_of.result.now c.shares.held c.share.new.self c.add_share.new.held c.shares-test.true c.runs_of.ensures (had.held image told)
-          c.in_ok-share.ensures.same c.in_ok-share.ensures.runs (c.in-Ok-true.ensures.added image (had.kept.same_bytes ∙ told) c.in-Ok-true.field-0-test);
+          shares-next image c.args.site.now c.args.sets.now c.args.many shares i c.shares.held c.turn.new.self c.add_share.new.held c.shares-test.true (c.requires.order.number (get_or shares i no_share) (got-in shares i no_share c.shares-test.true))
+          (had.held image told) (had.sets image told) c.turn.ensures (c.in-Ok-true.ensures.added image (had.kept.same_bytes ∙ told) c.in-Ok-true.field-0-test);
+      sets = λ image told. view-sets c.args.sets.now c.args.many c.shares.held c.turn.new.self c.add_share.new.held _ _ c.turn.ensures (c.in-Ok-true.ensures.added image (had.kept.same_bytes ∙ told) c.in-Ok-true.field-0-test).grows (had.sets image told);
       long = c.add_share.ensures.long;
       kept = record {
         same_bytes = c.add_share.ensures.kept.same_bytes ∙ had.kept.same_bytes;
@@ -48,4 +45,4 @@ shares-preserved g c =
 
 pub returns-clause-held : goal.returns-clause-held
 returns-clause-held g c image told _ =
-    shares-all image c.args.site.now c.args.sets.now c.args.many c.args.shares.now c.shares.share-index c.shares.held.all.items c.shares-test.false (c.shares.invariant.held image told)
+    shares-all image c.args.site.now c.args.sets.now c.args.many c.args.shares.now c.shares.share-index c.shares.held.all c.shares-test.false (c.shares.invariant.held image told)

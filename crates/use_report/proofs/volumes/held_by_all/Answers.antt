@@ -2,6 +2,7 @@ use Rattle.std.proofs.Common.{◌≡◌, ℕ, length, get_or, refl, ◌∙◌, s
 use Rattle.std.proofs.lemmas.Option.{slice_get-get_or}
 use Rattle.use_report.specs.Sets.{AreHoldings}
 use Rattle.use_report.proofs.Lists.{got-in}
+use Rattle.use_report.proofs.Spread.{own-sets}
 use Rattle.use_report.proofs.Stopped.{view-told}
 use Rattle.use_report.specs.Heads.{no_view}
 use Rattle.use_report.proofs.Told.{holdings-none, holdings-more}
@@ -9,7 +10,8 @@ use Rattle.use_report.proofs.volumes.held_by_all.Goals as goal
 
 pub views-init : goal.views-init
 views-init g c = record {
-  held = λ image told. holdings-none image c.args.site.now c.args.volume.now c.args.views.now c.new-held.result.all.items c.new-held.ensures;
+  held = λ image told. holdings-none image c.args.site.now c.args.volume.now c.args.views.now c.in_ok-held.held.all c.in_ok-held.ensures.none;
+  own = λ image told. c.in_ok-held.ensures.sets.own;
   kept = record { same_bytes = refl; same_size = refl; later = omega arith };
 }
 
@@ -33,7 +35,8 @@ views-preserved g c =
     record {
       held = λ image told.
           holdings-more image c.args.site.now c.args.volume.now views i (get_or views i no_view) c.views.held c.turn.new.self c.hold.new.held (slice_get-get_or views i no_view c.views-test.true)
-          c.in_ok-turn.ensures.same c.in_ok-turn.ensures.runs (had.held image told) (c.in-Ok.ensures.held image (had.kept.same_bytes ∙ told));
+          (had.own image told) c.turn.ensures (had.held image told) (c.in-Ok.ensures.held image (had.kept.same_bytes ∙ told));
+      own = λ image told. let g = (c.in-Ok.ensures.held image (had.kept.same_bytes ∙ told)).grows in own-sets (length views) c.views.held c.turn.new.self c.hold.new.held _ i c.turn.ensures g (had.own image told);
       kept = record {
         same_bytes = c.hold.ensures.kept.same_bytes ∙ had.kept.same_bytes;
         same_size = c.hold.ensures.kept.same_size ∙ had.kept.same_size;
@@ -45,4 +48,4 @@ pub returns-clause-held : goal.returns-clause-held
 returns-clause-held g c image told =
     let views = c.args.views.now in
     let all : c.views.i ≡ length views = omega (arith, c.views-test.false, c.views.auto.i-end) in
-    subst (λ (n : ℕ). AreHoldings image c.args.site.now c.args.volume.now views n c.views.held.all.items) all (c.views.invariant.held image told)
+    subst (λ (n : ℕ). AreHoldings image c.args.site.now c.args.volume.now views n c.views.held.all) all (c.views.invariant.held image told)

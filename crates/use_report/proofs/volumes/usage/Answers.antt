@@ -22,5 +22,5 @@ returns-in-Ok-tally-clause-count g c image told given =
     let few : site.blocks < 2 ^ 64 = omega arith in
     let all : views ≡ views_kept c.args.volume.now c.args.cp.now = c.deref.ensures.value ∙ c.in-Ok.ensures.all in
     let same : c.deref-2.result.now ≡ views = c.deref-2.ensures.value ∙ sym c.deref.ensures.value in
-    usage-told image c.args.cp.now c.args.volume.now site views c.deref-2.result.now c.in-Ok-held_by_views.pieces.items usage.views.items usage.all c.site-site.ensures all same few
+    usage-told image c.args.cp.now c.args.volume.now site views c.deref-2.result.now c.in-Ok-held_by_views.pieces usage.views.items usage.all c.site-site.ensures all same few
     (c.in-Ok-held_by_views.ensures.held image told c.args.cp.now c.site-site.ensures all given) c.in-Ok-tally.ensures.numbers

@@ -1,6 +1,6 @@
 use Rattle.std.proofs.Common.{◌≡◌, ℕ, ◌^◌, ◌<◌, ◌≤◌, Bool, length, max}
 use Rattle.piece_count.specs.Tally.{IsTally, grown_all}
-use Rattle.piece_count.proofs.counting.add_views.Given as goal
+use Rattle.piece_count.proofs.adding.add_views.Given as goal
 
 abbrev pub invariant-views : goal.invariant-views
 invariant-views l = record {

@@ -1,7 +1,7 @@
 use Rattle.std.proofs.Common.{◌∙◌, refl, arith}
 use Rattle.piece_count.specs.Tally.{grown_all}
 use Rattle.piece_count.proofs.Pieces.{grown-none, grown-one, grown-last}
-use Rattle.piece_count.proofs.counting.add_views.Goals as goal
+use Rattle.piece_count.proofs.adding.add_views.Goals as goal
 
 pub views-init : goal.views-init
 views-init c = record {
