@@ -198,6 +198,24 @@ def folder_chain(count, path):
     return one_volume(path, records)
 
 
+def deep_files(count, path):
+    """Folders of short names, each in the one before, with ten files of a block in each"""
+    container = Container()
+    data = container.take(10 * count)
+    records, owned = folders(1), []
+    for i in range(count):
+        above = 15 + i if i else 2
+        records += [entry(above, "d", 16 + i, FOLDER), inode(16 + i, above, FOLDER, 10 if i + 1 == count else 11)]
+        for j in range(10):
+            id, block = 16 + count + 10 * i + j, data + 10 * i + j
+            container.blocks[block] = f"{i}-{j}\n".encode().ljust(BLOCK, b"\0")
+            records += [entry(16 + i, f"f{j}", id, FILE), inode(id, 16 + i, FILE, 1, 1000), stream_id(id), extent(id, 0, BLOCK, block)]
+            owned.append((block, 1, id, 1))
+    volume = Volume(container)
+    volume.finish(volume.files(records), owned)
+    return container.finish(path)
+
+
 def one_folder(count, path):
     """Empty files in one folder"""
     return one_volume(path, [*folders(count), *plain_files(count)])
@@ -252,7 +270,8 @@ def repeated_child(count, path):
 
 
 # The function, its least n, and the commands that are run.
-CHECK, LS, TREE, CAT, SPACE, SNAPSHOTS, USAGE = ["check"], ["ls", "/"], ["tree", "/"], ["cat", "/file", "--quick"], ["space"], ["snapshots"], ["usage"]
+# The folder that `export` fills is made for each run.
+CHECK, LS, TREE, CAT, SPACE, SNAPSHOTS, USAGE, EXPORT = ["check"], ["ls", "/"], ["tree", "/"], ["cat", "/file", "--quick"], ["space"], ["snapshots"], ["usage"], ["export"]
 SHAPES = {
     "shared-tree": (shared_tree, 250, [CHECK, SNAPSHOTS]),
     "other-roots": (other_roots, 250, [CHECK]),
@@ -265,7 +284,8 @@ SHAPES = {
     "random-ids": (random_ids, 2000, [CHECK]),
     "candidates": (candidates, 250, [["info"], CHECK]),
     "huge-mapping": (huge_mapping, 32, [["info"], CHECK]),
-    "folder-chain": (folder_chain, 5000, [CHECK, TREE]),
+    "folder-chain": (folder_chain, 5000, [CHECK, TREE, EXPORT]),
+    "deep-files": (deep_files, 250, [CHECK, TREE, EXPORT]),
     "one-folder": (one_folder, 62500, [CHECK, LS, TREE]),
     "hard-links": (hard_links, 10000, [CHECK, TREE]),
     "many-volumes": (many_volumes, 12, [CHECK]),
@@ -298,7 +318,11 @@ def measure(name, program, room, sizes, limit):
         # (a process of its own makes it: the kernel counts the memory of this one to that of the processes that it starts)
         used = int(subprocess.run([sys.executable, __file__, "--make", name, str(count), image], check=True, capture_output=True).stdout) / 2**20
         for words in runs:
-            status, took, held = measured([program, words[0], image, *words[1:]], limit)
+            into = os.path.join(room, "into")
+            os.mkdir(into)
+            status, took, held = measured([program, words[0], image, *words[1:], *([into] if words is EXPORT else [])], limit)
+            # (Python's own way goes no deeper than a thousand folders)
+            subprocess.run(["rm", "-rf", into], check=True)
             then = before.get(words[0], (0, 0))
             print(
                 f"  {words[0]:6} n {count:7}, {used:7.1f} MiB used: status {status}, {took:7.2f} s {growth(took, then[0])}, {held:7.1f} MiB {growth(held, then[1])}, "

@@ -1,5 +1,5 @@
 -- What the command `export` comes to. It runs over the image of a well-formed container, so nothing stands in its way: its view is there or one of the two answers is given, and all that the view has can be put.
-use Rattle.std.specs.Prelude.{◌≡◌, ◌⊎◌, ◌++◌, ◌+◌, ◌<◌, ℕ, true, List, [], ◌∷◌, length, take, map, zero, suc, Option, Some, option_map, Result, Ok, Err, filter_map, slice_get, refl}
+use Rattle.std.specs.Prelude.{◌≡◌, ◌⊎◌, ◌++◌, ◌+◌, ◌<◌, ℕ, true, List, [], ◌∷◌, length, take, Option, Some, Result, Ok, Err, filter_map, slice_get, refl}
 use Rattle.std.specs.List.{cons_option, flat_map}
 use Rattle.std.proofs.Common.{inl, inr, sym, ◌∙◌, ap, subst, get_or}
 use Rattle.std.proofs.lemmas.Grind.{flat_map-append}
@@ -28,10 +28,9 @@ use Rattle.path_walk.specs.declared.answer.Answer.{Answer}
 use Rattle.path_walk.specs.declared.answer.Answer.TheVariants.{NoVolume, NoSnapshot}
 use Rattle.blk_folder.specs.Items.{Item}
 use Rattle.tree_export.specs.Exported.{Wanted, put_all, items_in, exported, skipped}
-use Rattle.tree_export.specs.Stopping.{wanted_of, IsFailure}
+use Rattle.tree_export.specs.Stopping.{IsFailure}
 use Rattle.tree_export.specs.Filled.{FilledWhole, FilledFront}
 use Rattle.tree_export.specs.Texts.{skipped_text, export_text}
-use Rattle.tree_export.specs.declared.told.Item.{Item as Asked}
 use Rattle.tree_export.specs.declared.stop.ExportStop.{ExportStop}
 use Rattle.tree_export.specs.declared.stop.ExportStop.TheVariants as exports
 use Rattle.tree_export.proofs.Tellings.{no_items}
@@ -168,12 +167,6 @@ no_root_items view facts layer.ReadFault given root = absurd root
 no_root_items view facts layer.NoMemory given root = absurd root
 
 -- ---- the lines
-
--- what stands at a place of some items
-pub get_wanted : (items : List Asked) (i : ℕ) → slice_get (map wanted_of items) i ≡ option_map wanted_of (slice_get items i)
-get_wanted [] i = refl
-get_wanted (item ∷ items) zero = refl
-get_wanted (item ∷ items) (suc i) = get_wanted items i
 
 -- the lines of the places up to one, that of the place there among them
 pub skipped_more : (items : List Wanted) (places : List ℕ) (i other : ℕ) → i < length places →

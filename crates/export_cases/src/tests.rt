@@ -7,15 +7,15 @@ ghost use Rattle.obj_base.specs.Site.{IsSiteFor};
 mod holed;
 mod made;
 
-use apfs_model::NoMemory;
 use blk_folder::MemFolder;
 use blk_source::MemSource;
-use made::{Holds, Seen, items_of, open_view, source};
+use made::{Holds, Seen, open_view, rows_of, source};
 use obj_base::Stop;
 use std::alloc::Global;
 use std::process::Abort;
 use std::test::Fail;
-use tree_export::{Done, ExportFault, ExportStop, Item, export};
+use tree_export::{Done, ExportFault, ExportStop, export};
+use view_tree::KeptRows;
 
 // What a folder has: of each item its path, and of a file its bytes.
 fn told(alloc: Global, folder: &MemFolder) -> Result<String, Fail> {
@@ -97,8 +97,8 @@ fn folders_get_the_tree_of_a_view(rt: HostRuntime) -> Result<(), Fail> {
         let holds = case.holds;
         let mut src = source(alloc, holds, Vec::new(alloc))?;
         let seen = open_view(alloc, &mut src)?;
-        let items = items_of(alloc, &mut src, &seen)?;
-        let (end, put) = ended(alloc, &mut src, &seen, &items, Vec::new(alloc))?;
+        let rows = rows_of(alloc, &mut src, &seen)?;
+        let (end, put) = ended(alloc, &mut src, &seen, &rows, Vec::new(alloc))?;
         match end {
             Ok(done) => {
                 let counts = (done.directories, done.files, done.bytes);
@@ -118,7 +118,7 @@ fn ended(
     alloc: Global,
     src: &mut MemSource,
     seen: &Seen,
-    items: &[Item],
+    rows: &KeptRows,
     fails: Vec<u64>,
 ) -> Result<(Result<Done, ExportStop>, String), Fail>
     requires { IsSiteFor seen.now.site (length src.old.bytes) }
@@ -130,7 +130,7 @@ fn ended(
         &seen.volume,
         &seen.view,
         &seen.site,
-        items,
+        rows,
         &mut folder,
     );
     let put = told(alloc, &folder)?;
@@ -160,8 +160,8 @@ fn a_refused_call_ends_it(rt: HostRuntime) -> Result<(), Fail> {
         let fails = vec![in alloc; *number]?;
         let mut src = source(alloc, Holds::Several, Vec::new(alloc))?;
         let seen = open_view(alloc, &mut src)?;
-        let items = items_of(alloc, &mut src, &seen)?;
-        let (end, text) = ended(alloc, &mut src, &seen, &items, fails)?;
+        let rows = rows_of(alloc, &mut src, &seen)?;
+        let (end, text) = ended(alloc, &mut src, &seen, &rows, fails)?;
         let wanted = if *number == 5 {
             None
         } else {
@@ -179,9 +179,9 @@ fn a_refused_read_ends_it(rt: HostRuntime) -> Result<(), Fail> {
     let whole = "\nd/\nd/f=hello\nlast/";
     let mut src = source(alloc, Holds::Several, Vec::new(alloc))?;
     let seen = open_view(alloc, &mut src)?;
-    let items = items_of(alloc, &mut src, &seen)?;
+    let rows = rows_of(alloc, &mut src, &seen)?;
     let before = src.read_count();
-    let (end, text) = ended(alloc, &mut src, &seen, &items, Vec::new(alloc))?;
+    let (end, text) = ended(alloc, &mut src, &seen, &rows, Vec::new(alloc))?;
     assert_eq!(rt; stop_of(end), None);
     assert_eq!(rt; text.as_str(), whole);
     let after = src.read_count();
@@ -190,8 +190,8 @@ fn a_refused_read_ends_it(rt: HostRuntime) -> Result<(), Fail> {
         let fails = vec![in alloc; number.saturating_add(1)]?;
         let mut src = source(alloc, Holds::Several, fails)?;
         let seen = open_view(alloc, &mut src)?;
-        let items = items_of(alloc, &mut src, &seen)?;
-        let (end, text) = ended(alloc, &mut src, &seen, &items, Vec::new(alloc))?;
+        let rows = rows_of(alloc, &mut src, &seen)?;
+        let (end, text) = ended(alloc, &mut src, &seen, &rows, Vec::new(alloc))?;
         assert_eq!(rt;
             stop_of(end),
             Some(ExportStop::Stopped(Stop::ReadFault)),
@@ -202,31 +202,20 @@ fn a_refused_read_ends_it(rt: HostRuntime) -> Result<(), Fail> {
     Ok(())
 }
 
-// An item of an id.
-fn item(alloc: Global, path: &str, id: u64) -> Result<Item, NoMemory> {
-    Ok(Item {
-        path: String::from_str(alloc, path)?,
-        id,
-        kind: 8,
-        size: 0,
-    })
-}
-
 #[test]
 fn an_id_without_an_inode_is_named(rt: HostRuntime) -> Result<(), Fail> {
     let alloc = rt.alloc();
+    let mut other = source(alloc, Holds::Several, Vec::new(alloc))?;
+    let seen = open_view(alloc, &mut other)?;
+    let rows = rows_of(alloc, &mut other, &seen)?;
+    // The directory `d` of those rows has the id of the only file here, and no file here has the next one.
     let mut src = source(alloc, Holds::Hello, Vec::new(alloc))?;
     let seen = open_view(alloc, &mut src)?;
-    let items = vec![in alloc;
-        item(alloc, "a/../b", 16)?,
-        item(alloc, "c", 99)?,
-        item(alloc, "d", 16)?,
-    ]?;
-    let (end, text) = ended(alloc, &mut src, &seen, &items, Vec::new(alloc))?;
+    let (end, text) = ended(alloc, &mut src, &seen, &rows, Vec::new(alloc))?;
     assert_eq!(rt;
         stop_of(end),
-        Some(ExportStop::Stopped(Stop::Found(ExportFault::NoInode { id: 99 })))
+        Some(ExportStop::Stopped(Stop::Found(ExportFault::NoInode { id: 17 })))
     );
-    assert_eq!(rt; text.as_str(), "\na/\\x2e\\x2e/b=hello");
+    assert_eq!(rt; text.as_str(), "\nd=hello");
     Ok(())
 }

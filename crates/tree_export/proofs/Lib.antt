@@ -1,4 +1,5 @@
 pub mod Safes
+pub mod Plains
 pub mod Appends
 pub mod Fills
 pub mod Contents

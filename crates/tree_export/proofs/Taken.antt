@@ -1,42 +1,36 @@
 -- The items of a list before a place, and the one that stands there.
-use Rattle.std.proofs.Common.{◌≡◌, ℕ, zero, suc, ◌+◌, ◌<◌, List, [], ◌∷◌, ◌++◌, length, map, take, drop, get_or, Some, refl, ap, sym, ◌∙◌, arith, take-append-drop}
+use Rattle.std.proofs.Common.{◌≡◌, ℕ, zero, suc, ◌+◌, ◌<◌, List, [], ◌∷◌, ◌++◌, length, map, take, drop, Some, refl, ap, sym, ◌∙◌, arith, take-append-drop}
 use Rattle.std.specs.Prelude.{All, slice_get}
-use Rattle.std.proofs.lemmas.List.{take_more, map-append}
 use Rattle.std.proofs.lemmas.List.Elements.{All-weaker, All-same, All-push}
 use Rattle.tree_export.specs.Parts.{TellsMore}
 use Rattle.tree_export.specs.declared.putting.Put.{Put}
 use Rattle.tree_export.specs.declared.putting.Put.TheVariants as puts
 use Rattle.tree_export.specs.declared.told.Done.{Done}
 
-pub taken_more : {X Y : Type 0} (f : X → Y) (xs : List X) (i : ℕ) (x : X) → i < length xs → x ≡ get_or xs i x → map f (take (i + 1) xs) ≡ map f (take i xs) ++ f x ∷ []
-taken_more f xs i x low e =
-    ap (map f) (take_more xs i x low) ∙ (map-append f (take i xs) (get_or xs i x ∷ []) ∙ ap (λ y. map f (take i xs) ++ f y ∷ []) (sym e))
+pub taken_more : {X : Type 0} (xs : List X) (i : ℕ) (x : X) → slice_get xs i ≡ Some x → take (i + 1) xs ≡ take i xs ++ x ∷ []
+taken_more [] i x at = absurd cc
+taken_more (y ∷ xs) zero x at = let e : y ≡ x = cc in ap (λ z. z ∷ []) e
+taken_more (y ∷ xs) (suc i) x at = let e : suc i + 1 ≡ suc (i + 1) = omega arith in ap (λ n. take n (y ∷ xs)) e ∙ ap (λ l. y ∷ l) (taken_more xs i x at)
 
-pub taken_split : {X Y : Type 0} (f : X → Y) (xs : List X) (i : ℕ) (x : X) → i < length xs → x ≡ get_or xs i x → (map f (take i xs) ++ f x ∷ []) ++ map f (drop (i + 1) xs) ≡ map f xs
-taken_split f xs i x low e =
-    ap (λ l. l ++ map f (drop (i + 1) xs)) (sym (taken_more f xs i x low e)) ∙ (sym (map-append f (take (i + 1) xs) (drop (i + 1) xs)) ∙ ap (map f) (take-append-drop (i + 1) xs))
+pub taken_split : {X : Type 0} (xs : List X) (i : ℕ) (x : X) → slice_get xs i ≡ Some x → (take i xs ++ x ∷ []) ++ drop (i + 1) xs ≡ xs
+taken_split xs i x at = ap (λ l. l ++ drop (i + 1) xs) (sym (taken_more xs i x at)) ∙ take-append-drop (i + 1) xs
 
-pub taken_all : {X Y : Type 0} (f : X → Y) (xs : List X) (n : ℕ) → n ≡ length xs → map f (take n xs) ≡ map f xs
-taken_all f xs n e = ap (λ k. map f (take k xs)) e ∙ ap (map f) (whole xs)
+pub taken_all : {X : Type 0} (xs : List X) (n : ℕ) → n ≡ length xs → take n xs ≡ xs
+taken_all xs n e = ap (λ k. take k xs) e ∙ whole xs
   where
     whole : {X : Type 0} (xs : List X) → take (length xs) xs ≡ xs
     whole [] = refl
     whole (x ∷ xs) = ap (λ l. x ∷ l) (whole xs)
 
-pub taken_at : {X Y : Type 0} (f : X → Y) (xs : List X) (i : ℕ) (x : X) → i < length xs → x ≡ get_or xs i x → slice_get (map f xs) i ≡ Some (f x)
-taken_at f [] i x low e = absurd (omega arith)
-taken_at f (y ∷ xs) zero x low e = ap (λ z. Some (f z)) (sym e)
-taken_at f (y ∷ xs) (suc i) x low e = taken_at f xs i x (omega arith) e
+pub taken_len : {X : Type 0} (xs : List X) (i : ℕ) (x : X) → slice_get xs i ≡ Some x → length (take i xs) ≡ i
+taken_len [] i x at = absurd cc
+taken_len (y ∷ xs) zero x at = refl
+taken_len (y ∷ xs) (suc i) x at = ap suc (taken_len xs i x at)
 
-pub taken_before : {X Y : Type 0} (f : X → Y) (xs : List X) (i : ℕ) → map f (take i xs) ≡ take i (map f xs)
-taken_before f xs zero = refl
-taken_before f [] (suc i) = refl
-taken_before f (x ∷ xs) (suc i) = ap (λ l. f x ∷ l) (taken_before f xs i)
-
-pub taken_len : {X Y : Type 0} (f : X → Y) (xs : List X) (i : ℕ) → i < length xs → length (map f (take i xs)) ≡ i
-taken_len f xs zero low = refl
-taken_len f [] (suc i) low = absurd (omega arith)
-taken_len f (x ∷ xs) (suc i) low = ap suc (taken_len f xs i (omega arith))
+pub taken_there : {X : Type 0} (xs : List X) (i : ℕ) → i < length xs → (x : X) × (slice_get xs i ≡ Some x)
+taken_there [] i low = absurd (omega arith)
+taken_there (x ∷ xs) zero low = (x, refl)
+taken_there (x ∷ xs) (suc i) low = taken_there xs i (omega arith)
 
 -- the places of skipped items lie before the next one
 pub inside_more : (old : Done) (n : ℕ) (put : Put) (new : Done) → TellsMore old n put new → All (λ (k : ℕ). k < n) old.skipped.items → All (λ (k : ℕ). k < n + 1) new.skipped.items

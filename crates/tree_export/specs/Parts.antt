@@ -1,5 +1,5 @@
 -- What the parts of the call give. These are for the contracts of this crate's own functions; what the call promises is said elsewhere.
-use Rattle.std.specs.Prelude.{◌≡◌, ◌++◌, ◌+◌, ℕ, List, [], ◌∷◌, Option, None, Some, length, Result, Ok, Err, is_ok, if◌then◌else◌}
+use Rattle.std.specs.Prelude.{◌≡◌, ◌≢◌, ◌++◌, ◌+◌, ℕ, List, [], ◌∷◌, Option, None, Some, length, Result, Ok, Err, is_ok, if◌then◌else◌}
 use Rattle.apfs_model.specs.Counts.{given, one_more}
 use Rattle.obj_base.specs.Stops.{Tells}
 use Rattle.obj_base.specs.declared.site.Site.{Site}
@@ -24,6 +24,7 @@ use Rattle.vol_view.specs.Volumes.{Loaded}
 use Rattle.vol_view.specs.Views.{IsViewFeature}
 use Rattle.vol_view.specs.declared.volume.View.{View}
 use Rattle.view_rules.specs.Facts.{Facts, is_directory}
+use Rattle.path_walk.specs.Paths.{slash}
 use Rattle.path_read.specs.Contents.{readable, stream_in}
 use Rattle.blk_folder.specs.Items as folders
 use Rattle.blk_folder.specs.Items.{directory_at, file_at}
@@ -40,6 +41,16 @@ use Rattle.tree_export.specs.declared.stop.ExportFault.TheVariants as faults
 use Rattle.tree_export.specs.declared.stop.ExportStop.{ExportStop}
 use Rattle.tree_export.specs.declared.stop.ExportStop.TheVariants.{Stopped, WriteFault}
 use Rattle.tree_export.specs.declared.told.Done.{Done}
+
+-- ---- paths that are written as they are
+-- a byte may stand after another one: it isn't zero, and after a slash neither a slash nor a dot
+abbrev pub MayFollow : ℕ → ℕ → Type 0
+MayFollow before byte = (byte ≢ 0) × (before ≡ slash → (byte ≢ slash) × (byte ≢ 46))
+
+-- so may each byte of a text after a first one, and the last isn't a slash
+abbrev pub IsPlainAfter : ℕ → List ℕ → Type 0
+IsPlainAfter before [] = before ≢ slash
+IsPlainAfter before (byte ∷ bytes) = MayFollow before byte × IsPlainAfter byte bytes
 
 -- ---- the content of an inode
 -- a file's, by its stream

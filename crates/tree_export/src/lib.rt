@@ -4,6 +4,7 @@
 mod absent;
 mod content;
 mod filling;
+mod items;
 mod lookup;
 mod pieces;
 mod putting;
@@ -13,6 +14,7 @@ mod stop;
 mod told;
 
 pub use filling::export;
+pub use items::item_at;
 pub use safe::safe_path;
 pub use stop::{ExportFault, ExportStop};
 pub use told::{Done, Item};

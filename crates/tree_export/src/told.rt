@@ -1,6 +1,6 @@
 // What is asked to be put into a folder, and what was.
 
-/// A file or a directory of a view, as `tree` tells of it. What is put for it goes by the inode of its id.
+/// A file or a directory of a view, as the row of a tree tells of it. What is put for it goes by the inode of its id.
 #[derive(PartialEq, Debug, Drop)]
 pub struct Item {
     /// Where it is put, as names joined by slashes.

@@ -7,3 +7,4 @@ pub mod Entered
 pub mod Staying
 pub mod RowsKept
 pub mod RowsPut
+pub mod Trails

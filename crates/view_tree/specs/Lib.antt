@@ -1,6 +1,7 @@
 pub mod Tree
 pub mod Texts
 pub mod Kept
+pub mod Trails
 pub mod Puts
 pub mod Met
 pub mod Rows

@@ -1,5 +1,5 @@
 // The rows of a tree, as they are kept, told and put.
-ghost use Rattle.std.specs.Prelude.{◌≡◌, ◌++◌, ◌≤◌, ℕ, List, [], ◌∷◌, Ok, Err, IfOk, IfErr, OnOk, IsErrOf};
+ghost use Rattle.std.specs.Prelude.{◌≡◌, ◌++◌, ◌+◌, ◌<◌, ◌≤◌, ℕ, List, [], ◌∷◌, length, slice_get, Some, Ok, Err, IfOk, IfErr, OnOk, IsErrOf};
 ghost use Rattle.apfs_model.specs.Counts.{Rose};
 ghost use Rattle.apfs_model.specs.Sink.{Wrote, WrotePart};
 ghost use Rattle.obj_base.specs.declared.stop.Stop.TheVariants as stops;
@@ -8,10 +8,12 @@ ghost use Rattle.path_walk.specs.Paths.{slash};
 ghost use Rattle.path_walk.specs.declared.target.Target.{Target};
 ghost use Rattle.view_tree.specs.Kept.{path_after, told_rows, held_told};
 ghost use Rattle.view_tree.specs.Puts.{IsPut, Passes};
+ghost use Rattle.view_tree.specs.Trails.{IsOn, path_of};
 ghost use Rattle.view_tree.specs.Texts.{row_text, tree_text};
 ghost use Rattle.view_tree.specs.declared.kept.PutStop.TheVariants as puts;
 
-use crate::lines::{push_kept, push_line, push_name};
+use crate::lines::{push_kept, push_name};
+use crate::trail::Trail;
 use apfs_model::Bytes;
 use blk_source::Sink;
 use obj_base::Stop;
@@ -57,7 +59,7 @@ impl Row {
 // The rows of a tree: that of what is no directory, or those below a directory.
 #[derive(Drop)]
 enum Held {
-    Lone(Bytes, Target),
+    Lone(Bytes, KeptTarget),
     Below(Vec<Row>),
 }
 
@@ -147,13 +149,13 @@ fn put_below<W: Sink>(alloc: Global, rows: &[Row], out: &mut W) -> Result<(), Pu
 fn put_lone<W: Sink>(
     alloc: Global,
     path: &[u8],
-    target: &Target,
+    target: &KeptTarget,
     out: &mut W,
 ) -> Result<(), PutStop>
     ensures { IsPut (tree_text ((path.now, target.now) ∷ [])) result (W.contents out.old) (W.contents out.new) (W.faults out.old) (W.faults out.new) }
 {
     let mut line = Vec::new(alloc);
-    push_line(&mut line, target, path)?;
+    push_kept(&mut line, target, path)?;
     put_waiting(&mut line, out)
 }
 
@@ -186,9 +188,68 @@ fn told_below(alloc: Global, rows: Vec<Row>) -> Result<Vec<(Bytes, Target)>, Sto
     Ok(told)
 }
 
+// Goes on to the row at a place below a directory, from a row before it or from the first one.
+fn go_on(rows: &[Row], place: usize, trail: &mut Trail) -> Result<(), AllocError>
+    requires low { place < length rows.now }
+    requires before { trail.old.passed ≤ place }
+    requires on { IsOn (told_rows [] rows.now) trail.old }
+    ensures on { OnOk result (IsOn (told_rows [] rows.now) trail.new) }
+    ensures passed { OnOk result (trail.new.passed ≡ place + 1) }
+{
+    'rows: while trail.passed <= place {
+        let row = &rows[trail.passed];
+        row.lead(&mut trail.path)?;
+        trail.path.push(b'/')?;
+        trail.passed += 1;
+    }
+    Ok(())
+}
+
+// Goes to the row at a place below a directory, and tells its target.
+fn go_below<'a>(
+    rows: &'a [Row],
+    place: usize,
+    trail: &mut Trail,
+) -> Result<&'a KeptTarget, AllocError>
+    requires low { place < length rows.now }
+    requires on { IsOn (told_rows [] rows.now) trail.old }
+    ensures on { OnOk result (IsOn (told_rows [] rows.now) trail.new) }
+    ensures row { IfOk result (λ target. slice_get (told_rows [] rows.now) place ≡ Some (path_of trail.new, target.now)) }
+{
+    if place < trail.passed {
+        trail.start();
+    }
+    go_on(rows, place, trail)?;
+    Ok(&rows[place].target)
+}
+
+// Goes to the only row.
+fn go_alone<'a>(
+    path: &[u8],
+    target: &'a KeptTarget,
+    trail: &mut Trail,
+) -> Result<&'a KeptTarget, AllocError>
+    ensures on { OnOk result (IsOn ((path.now, target.now) ∷ []) trail.new) }
+    ensures path { OnOk result (path_of trail.new ≡ path.now) }
+    ensures target { IfOk result (λ same. same.now ≡ target.now) }
+{
+    trail.start();
+    trail.path.extend_from_slice(path)?;
+    trail.path.push(b'/')?;
+    trail.passed = 1;
+    Ok(target)
+}
+
 impl KeptRows {
+    /// No rows.
+    pub fn none(alloc: Global) -> KeptRows
+        ensures { result ≡ [] }
+    {
+        KeptRows::below(Vec::new(alloc))
+    }
+
     /// The row of what is no directory.
-    pub(crate) fn lone(path: Bytes, target: Target) -> KeptRows
+    pub(crate) fn lone(path: Bytes, target: KeptTarget) -> KeptRows
         ensures { result ≡ (path, target) ∷ [] }
     {
         KeptRows {
@@ -214,13 +275,36 @@ impl KeptRows {
         match self.held {
             Held::Lone(path, target) => {
                 let mut told = Vec::new(alloc);
-                told.push((path, target))?;
+                told.push((path, target.target(alloc)?))?;
                 Ok(told)
             }
             Held::Below(rows) => match told_below(alloc, rows) {
                 Ok(told) => Ok(told),
                 Err(stop) => Err(stop),
             },
+        }
+    }
+
+    /// How many rows there are.
+    pub fn len(&self) -> usize
+        ensures { result ≡ length self.now }
+    {
+        match &self.held {
+            Held::Lone(_, _) => 1,
+            Held::Below(rows) => rows.len(),
+        }
+    }
+
+    /// Goes to the row at a place, and tells its target. From a row before it the trail goes on, from another one it starts again.
+    pub fn go_to(&self, place: usize, trail: &mut Trail) -> Result<&KeptTarget, AllocError>
+        requires low { place < length self.now }
+        requires on { IsOn self.now trail.old }
+        ensures on { OnOk result (IsOn self.now trail.new) }
+        ensures row { IfOk result (λ target. slice_get self.now place ≡ Some (path_of trail.new, target.now)) }
+    {
+        match &self.held {
+            Held::Lone(path, target) => go_alone(path.as_slice(), target, trail),
+            Held::Below(rows) => go_below(rows, place, trail),
         }
     }
 

@@ -7,7 +7,7 @@ ghost use Rattle.path_walk.specs.Texts as texts;
 
 use fs_name::push_shown;
 use itoa::Buffer;
-use path_walk::{KeptTarget, ROOT, Target};
+use path_walk::{KeptTarget, ROOT};
 use std::alloc::AllocError;
 
 /// The letter of a kind of inode, as a listing shows it (File Modes).
@@ -46,16 +46,6 @@ fn push_head(text: &mut Vec<u8>, kind: u16, id: u64, size: u64) -> Result<(), Al
     push_number(text, id)?;
     push_number(text, size)?;
     text.push(b' ')?;
-    Ok(())
-}
-
-/// Adds the line of a target with a shown name or path.
-pub(crate) fn push_line(text: &mut Vec<u8>, target: &Target, shown: &[u8]) -> Result<(), AllocError>
-    ensures { OnOk result (text.new.items ≡ text.old.items ++ texts.line_text target.now shown.now) }
-{
-    push_head(text, target.kind, target.id, target.size)?;
-    text.extend_from_slice(shown)?;
-    text.push(b'\n')?;
     Ok(())
 }
 

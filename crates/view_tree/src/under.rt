@@ -199,7 +199,6 @@ fn lone_row(alloc: Global, place: Place) -> Result<KeptRows, Stop<PathStop>>
     let mut path = Vec::new(alloc);
     push_name_of(&mut path, target.id(), target.name().as_bytes())?;
     let path = Bytes::from_slice(alloc, path.as_slice())?;
-    let target = target.target(alloc)?;
     Ok(KeptRows::lone(path, target))
 }
 

@@ -12,7 +12,7 @@ use Rattle.cmd_texts.specs.declared.commands.export.Told.TheVariants.{Skipped, D
 
 -- the line of an item for which nothing is put, or the one that tells of all that was
 abbrev pub told_text : Told → List ℕ
-told_text (Skipped item) = skipped_text (wanted_of item.now)
+told_text (Skipped item) = skipped_text (wanted_of item)
 told_text (Done directories files bytes) = done_text directories files bytes
 
 -- a call on the root's path stops with an answer: there is no root

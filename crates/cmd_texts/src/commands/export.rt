@@ -1,5 +1,5 @@
 // The command `export`.
-ghost use Rattle.std.specs.Prelude.{◌≡◌, ◌++◌, [], ◌∷◌, ℕ, List, Some, map, option_map, filter_map, slice_get, IfOk, IfErr, IsErrOf, OnOk};
+ghost use Rattle.std.specs.Prelude.{◌≡◌, ◌++◌, ◌<◌, [], ◌∷◌, ℕ, List, Some, All, length, map, filter_map, slice_get, IfOk, IfErr, IsErrOf, OnOk};
 ghost use Rattle.std.specs.List.{cons_option, flat_map};
 ghost use Rattle.std.specs.String.{string_bytes};
 ghost use Rattle.apfs_model.specs.Counts.{Rose};
@@ -12,10 +12,10 @@ ghost use Rattle.view_rules.specs.declared.profile.Profile.TheVariants.{Plain};
 ghost use Rattle.path_walk.specs.Stops.{IsLawful};
 ghost use Rattle.path_walk.specs.Calls.{IsNoAnswer};
 ghost use Rattle.apfs_check.specs.WellFormed.{IsWellFormed};
-ghost use Rattle.tree_export.specs.Exported.{items_in};
+ghost use Rattle.tree_export.specs.Exported.{item_of, items_in};
 ghost use Rattle.tree_export.specs.Stopping.{wanted_of};
-ghost use Rattle.tree_export.specs.Exported as view_items;
 ghost use Rattle.tree_export.specs.Texts.{skipped_text, done_text};
+ghost use Rattle.view_tree.specs.Trails.{IsOn};
 ghost use Rattle.cmd_texts.specs.Commands.ExportParts.{told_text, IsOfNoRoot};
 ghost use Rattle.cmd_texts.specs.Handed.{looked, stored};
 ghost use Rattle.cmd_texts.specs.MeantView.{IsMeantView};
@@ -31,23 +31,22 @@ use crate::commands::checked::check_first;
 use crate::meant_view::{Viewed, reach_view};
 use crate::on_path::stopped_on_path;
 use crate::put::{Line, put_lines};
-use apfs_model::Bytes;
 use blk_folder::Folder;
 use blk_source::{BlockSource, Sink};
 use cmd_lines::{Checks, Named, Stopped};
 use cmd_words::Target;
 use obj_base::{Site, Stop};
-use path_walk::{PathStop, Target as Found};
+use path_walk::PathStop;
 use std::alloc::{AllocError, Global};
-use tree_export::{Done, ExportFault, ExportStop, Item, export, safe_path};
+use tree_export::{Done, ExportFault, ExportStop, Item, export, item_at, safe_path};
 use tree_rules::Profile;
-use view_tree::{kind_letter, tree};
+use view_tree::{KeptRows, Trail, kind_letter, tree_rows};
 use vol_view::View;
 
 // A line: an item for which nothing was put, or how much was.
 #[derive(Drop)]
-enum Told<'a> {
-    Skipped(&'a Item),
+enum Told {
+    Skipped(Item),
     Done {
         directories: u64,
         files: u64,
@@ -72,7 +71,7 @@ fn done_line(alloc: Global, directories: u64, files: u64, bytes: u64) -> Result<
 }
 
 /// The kind and the path of an item for which nothing was put, or how much was.
-impl Line for Told<'_> {
+impl Line for Told {
     ghost text = { λ told. told_text told };
 
     fn line(&self, alloc: Global) -> Result<Vec<u8>, AllocError> {
@@ -88,49 +87,43 @@ impl Line for Told<'_> {
     }
 }
 
-// The item at a place, where there is one.
-#[tactic(auto, using(crate::proofs::Exports::get_wanted))]
-fn item_at(items: &[Item], place: usize) -> Option<&Item>
-    ensures { option_map (λ item. wanted_of item.now) result ≡ slice_get (map wanted_of items.entry.now) place }
-{
-    items.get(place)
-}
-
-// Adds the line of the item at a place, where there is one.
-fn push_skipped<'a>(
-    items: &'a [Item],
+// Adds the line of the item at a place.
+fn push_skipped(
+    alloc: Global,
+    rows: &KeptRows,
     place: usize,
-    told: &mut Vec<Told<'a>>,
+    trail: &mut Trail,
+    told: &mut Vec<Told>,
 ) -> Result<(), AllocError>
-    ensures { OnOk result (flat_map told_text told.new.items ≡ flat_map told_text told.old.items ++ flat_map skipped_text (cons_option (slice_get (map wanted_of items.entry.now) place) [])) }
+    requires low { place < length rows.now }
+    requires on { IsOn rows.now trail.old }
+    ensures on { OnOk result (IsOn rows.now trail.new) }
+    ensures line { OnOk result (flat_map told_text told.new.items ≡ flat_map told_text told.old.items ++ flat_map skipped_text (cons_option (slice_get (map item_of rows.now) place) [])) }
 {
-    let Some(item) = item_at(items, place) else {
-        return Ok(());
-    };
+    let item = item_at(alloc, rows, place, trail)?;
     told.push(Told::Skipped(item))?;
     Ok(())
 }
 
 // The items at some places, each as a line.
-fn skipped_in<'a>(
-    alloc: Global,
-    items: &'a [Item],
-    places: &[usize],
-) -> Result<Vec<Told<'a>>, AllocError>
-    ensures { IfOk result (λ told. flat_map told_text told.items ≡ flat_map skipped_text (filter_map (slice_get (map wanted_of items.entry.now)) places.now)) }
+fn skipped_in(alloc: Global, rows: &KeptRows, places: &[usize]) -> Result<Vec<Told>, AllocError>
+    requires { All (λ place. place < length rows.now) places.now }
+    ensures { IfOk result (λ told. flat_map told_text told.items ≡ flat_map skipped_text (filter_map (slice_get (map item_of rows.now)) places.now)) }
 {
     let mut told = Vec::new(alloc);
+    let mut trail = Trail::new(alloc);
     'places: for place in places {
-        push_skipped(items, *place, &mut told)?;
+        push_skipped(alloc, rows, *place, &mut trail, &mut told)?;
     }
     Ok(told)
 }
 
 // A line for each item for which nothing was put, and one of how much was.
-fn told_of<'a>(alloc: Global, items: &'a [Item], done: &Done) -> Result<Vec<Told<'a>>, AllocError>
-    ensures { IfOk result (λ told. flat_map told_text told.items ≡ flat_map skipped_text (filter_map (slice_get (map wanted_of items.entry.now)) done.now.skipped.items) ++ done_text done.now.directories done.now.files done.now.bytes) }
+fn told_of(alloc: Global, rows: &KeptRows, done: &Done) -> Result<Vec<Told>, AllocError>
+    requires { All (λ place. place < length rows.now) done.now.skipped.items }
+    ensures { IfOk result (λ told. flat_map told_text told.items ≡ flat_map skipped_text (filter_map (slice_get (map item_of rows.now)) done.now.skipped.items) ++ done_text done.now.directories done.now.files done.now.bytes) }
 {
-    let mut told = skipped_in(alloc, items, done.skipped.as_slice())?;
+    let mut told = skipped_in(alloc, rows, done.skipped.as_slice())?;
     told.push(Told::Done {
         directories: done.directories,
         files: done.files,
@@ -140,46 +133,26 @@ fn told_of<'a>(alloc: Global, items: &'a [Item], done: &Done) -> Result<Vec<Told
 }
 
 // Puts all lines.
-fn put_done<W: Sink>(alloc: Global, items: &[Item], done: &Done, out: &mut W) -> Result<(), Stopped>
-    ensures { IsPut (flat_map skipped_text (filter_map (slice_get (map wanted_of items.now)) done.now.skipped.items) ++ done_text done.now.directories done.now.files done.now.bytes) result (sunk W.contents W.faults out.old out.new) }
+fn put_done<W: Sink>(
+    alloc: Global,
+    rows: &KeptRows,
+    done: &Done,
+    out: &mut W,
+) -> Result<(), Stopped>
+    requires { All (λ place. place < length rows.now) done.now.skipped.items }
+    ensures { IsPut (flat_map skipped_text (filter_map (slice_get (map item_of rows.now)) done.now.skipped.items) ++ done_text done.now.directories done.now.files done.now.bytes) result (sunk W.contents W.faults out.old out.new) }
 {
-    let told = told_of(alloc, items, done)?;
+    let told = told_of(alloc, rows, done)?;
     put_lines(alloc, told.as_slice(), out)
 }
 
-// The item of a row of a tree. Its path is text, since names are; one that isn't is told as if there were no memory for it.
-fn item_of(alloc: Global, path: &[u8], found: &Found) -> Result<Item, AllocError>
-    ensures { IfOk result (λ item. wanted_of item ≡ view_items.item_of (path.now, found.now)) }
-{
-    let Ok(path) = str::from_utf8(path) else {
-        return Err(AllocError);
-    };
-    Ok(Item {
-        path: String::from_str(alloc, path)?,
-        id: found.id,
-        kind: found.kind,
-        size: found.size,
-    })
-}
-
-// The items of the rows of a tree.
-fn items_of(alloc: Global, rows: Vec<(Bytes, Found)>) -> Result<Vec<Item>, AllocError>
-    ensures { IfOk result (λ items. map wanted_of items.items ≡ map view_items.item_of rows.items) }
-{
-    let mut items = Vec::new(alloc);
-    'rows: for (path, found) in rows {
-        items.push(item_of(alloc, path.as_slice(), &found)?)?;
-    }
-    Ok(items)
-}
-
-// The items where there is no tree: none where the view has no root, otherwise why the run stops.
-fn items_without(alloc: Global, stop: Stop<PathStop>) -> Result<Vec<Item>, Stopped>
-    ensures none { IfOk result (λ items. (items.items ≡ []) × IsOfNoRoot stop) }
+// The rows where there is no tree: none where the view has no root, otherwise why the run stops.
+fn rows_without(alloc: Global, stop: Stop<PathStop>) -> Result<KeptRows, Stopped>
+    ensures none { IfOk result (λ rows. (rows ≡ []) × IsOfNoRoot stop) }
     ensures stopped { IfErr result (λ stopped. (stopped ≡ stopped_on stop) × IsNoAnswer stop) }
 {
     match stop {
-        Stop::Found(PathStop::Answer(_)) => Ok(Vec::new(alloc)),
+        Stop::Found(PathStop::Answer(_)) => Ok(KeptRows::none(alloc)),
         Stop::Found(PathStop::Fault(fault)) => {
             Err(stopped_on_path(Stop::Found(PathStop::Fault(fault))))
         }
@@ -189,26 +162,23 @@ fn items_without(alloc: Global, stop: Stop<PathStop>) -> Result<Vec<Item>, Stopp
     }
 }
 
-// The items of a view: those of the tree of its root.
-fn items_at<S: BlockSource>(
+// The rows of the tree of a view's root.
+fn rows_at<S: BlockSource>(
     alloc: Global,
     src: &mut S,
     viewed: &Viewed,
     site: &Site,
-) -> Result<Vec<Item>, Stopped>
+) -> Result<KeptRows, Stopped>
     requires site { IsSiteFor site.now (S.bytes_len src.old) }
-    ensures found { (image : List ℕ) → S.bytes src.old ≡ Some image → IsLawful image site.now viewed.now.volume viewed.now.view → IfOk result (λ items. map wanted_of items.items ≡ items_in (view_facts image site.now viewed.now.volume viewed.now.view)) }
+    ensures found { (image : List ℕ) → S.bytes src.old ≡ Some image → IsLawful image site.now viewed.now.volume viewed.now.view → IfOk result (λ rows. map item_of rows ≡ items_in (view_facts image site.now viewed.now.volume viewed.now.view)) }
     ensures free { (image : List ℕ) → S.bytes src.old ≡ Some image → IsLawful image site.now viewed.now.volume viewed.now.view → IfErr result IsFree }
     ensures looking { IfErr result IsWhileLooking }
     ensures cause { IsErrOf result ReadFailed → Rose (S.faults src.old) (S.faults src.new) }
     ensures kept { IsKept S.bytes S.bytes_len S.faults src.old src.new }
 {
-    match tree(alloc, src, &viewed.volume, &viewed.view, site, "/") {
-        Ok(rows) => match items_of(alloc, rows) {
-            Ok(items) => Ok(items),
-            Err(_) => Err(Stopped::OutOfMemory),
-        },
-        Err(stop) => items_without(alloc, stop),
+    match tree_rows(alloc, src, &viewed.volume, &viewed.view, site, "/") {
+        Ok(rows) => Ok(rows),
+        Err(stop) => rows_without(alloc, stop),
     }
 }
 
@@ -237,13 +207,13 @@ fn stopped_in(view: &View, stop: ExportStop) -> Stopped
 }
 
 // Puts the items of the view that is meant into a folder, and writes which weren't put and how much was.
-fn write_items<S: BlockSource, W: Sink, F: Folder>(
+fn write_rows<S: BlockSource, W: Sink, F: Folder>(
     alloc: Global,
     target: Target<'_>,
     src: &mut S,
     viewed: &Viewed,
     site: &Site,
-    items: &[Item],
+    rows: &KeptRows,
     out: &mut W,
     folder: &mut F,
 ) -> Result<(), Stopped>
@@ -251,20 +221,12 @@ fn write_items<S: BlockSource, W: Sink, F: Folder>(
     requires site_is { site.now ≡ site_of viewed.now.checkpoint }
     requires clean { (image : List ℕ) → S.bytes src.old ≡ Some image → IsWellFormed Plain image }
     requires meant { (image : List ℕ) → S.bytes src.old ≡ Some image → IsMeantView image (target_asked target) viewed.now.checkpoint viewed.now.volume viewed.now.view }
-    requires items { (image : List ℕ) → S.bytes src.old ≡ Some image → map wanted_of items.now ≡ items_in (view_facts image site.now viewed.now.volume viewed.now.view) }
+    requires items { (image : List ℕ) → S.bytes src.old ≡ Some image → map item_of rows.now ≡ items_in (view_facts image site.now viewed.now.volume viewed.now.view) }
     ensures answer { HasEndedInto (asked.Export (target_asked target.entry)) (looked S.bytes S.faults src.old src.new) (stored F.contents F.faults folder.old folder.new) result (sunk W.contents W.faults out.old out.new) }
     ensures kept { IsKept S.bytes S.bytes_len S.faults src.old src.new }
 {
-    match export(
-        alloc,
-        src,
-        &viewed.volume,
-        &viewed.view,
-        site,
-        items,
-        folder,
-    ) {
-        Ok(done) => put_done(alloc, items, &done, out),
+    match export(alloc, src, &viewed.volume, &viewed.view, site, rows, folder) {
+        Ok(done) => put_done(alloc, rows, &done, out),
         Err(stop) => Err(stopped_in(&viewed.view, stop)),
     }
 }
@@ -285,20 +247,11 @@ fn write_view<S: BlockSource, W: Sink, F: Folder>(
     ensures kept { IsKept S.bytes S.bytes_len S.faults src.old src.new }
 {
     let site = viewed.checkpoint.site();
-    let items = match items_at(alloc, src, viewed, &site) {
-        Ok(items) => items,
+    let rows = match rows_at(alloc, src, viewed, &site) {
+        Ok(rows) => rows,
         Err(stopped) => return Err(stopped),
     };
-    write_items(
-        alloc,
-        target,
-        src,
-        viewed,
-        &site,
-        items.as_slice(),
-        out,
-        folder,
-    )
+    write_rows(alloc, target, src, viewed, &site, &rows, out, folder)
 }
 
 // Puts the view that is meant into a folder, in a container that is well-formed.

@@ -1,7 +1,7 @@
 // A large hole is put piece by piece and not read.
 ghost use Rattle.blk_folder.specs.Edge.{untold};
 
-use super::made::{HOLE, Holds, items_of, open_view, source};
+use super::made::{HOLE, Holds, open_view, rows_of, source};
 use apfs_model::WriteFailed;
 use blk_folder::Folder;
 use std::process::Abort;
@@ -59,7 +59,7 @@ fn a_hole_is_put_piece_by_piece(rt: HostRuntime) -> Result<(), Fail> {
     }
     let mut src = source(alloc, Holds::Hole, fails)?;
     let seen = open_view(alloc, &mut src)?;
-    let items = items_of(alloc, &mut src, &seen)?;
+    let rows = rows_of(alloc, &mut src, &seen)?;
     let mut folder = Tally {
         bytes: 0,
         longest: 0,
@@ -72,7 +72,7 @@ fn a_hole_is_put_piece_by_piece(rt: HostRuntime) -> Result<(), Fail> {
         &seen.volume,
         &seen.view,
         &seen.site,
-        &items,
+        &rows,
         &mut folder,
     ) {
         Ok(done) => assert_eq!(rt; (done.files, done.bytes), (1, HOLE + 5)),

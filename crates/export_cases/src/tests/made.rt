@@ -1,4 +1,4 @@
-// Made images, the live view of their only volume, and the items of its tree.
+// Made images, the live view of their only volume, and the rows of its tree.
 ghost use Rattle.std.specs.Prelude.{length, IfOk, ◌≡◌};
 ghost use Rattle.obj_base.specs.Site.{IsSiteFor};
 
@@ -10,8 +10,7 @@ use nx_ring::newest;
 use obj_base::Site;
 use std::alloc::{AllocError, Global};
 use std::test::Fail;
-use tree_export::Item;
-use view_tree::tree;
+use view_tree::{KeptRows, tree_rows};
 use vol_view::{View, Volume, heads, live, load};
 
 // The id of the root.
@@ -182,26 +181,13 @@ pub(super) fn open_view(alloc: Global, src: &mut MemSource) -> Result<Seen, Fail
     })
 }
 
-/// The items of the view's tree.
-pub(super) fn items_of(alloc: Global, src: &mut MemSource, seen: &Seen) -> Result<Vec<Item>, Fail>
+/// The rows of the view's tree.
+pub(super) fn rows_of(alloc: Global, src: &mut MemSource, seen: &Seen) -> Result<KeptRows, Fail>
     requires { IsSiteFor seen.now.site (length src.old.bytes) }
     ensures { length src.new.bytes ≡ length src.old.bytes }
 {
-    let rows = match tree(alloc, src, &seen.volume, &seen.view, &seen.site, "/") {
-        Ok(rows) => rows,
-        Err(_) => return Err(Fail::from("there is no tree")),
-    };
-    let mut items = Vec::new(alloc);
-    for (path, target) in rows.iter() {
-        let Ok(path) = str::from_utf8(path.as_slice()) else {
-            return Err(Fail::from("a path isn't UTF-8"));
-        };
-        items.push(Item {
-            path: String::from_str(alloc, path)?,
-            id: target.id,
-            kind: target.kind,
-            size: target.size,
-        })?;
+    match tree_rows(alloc, src, &seen.volume, &seen.view, &seen.site, "/") {
+        Ok(rows) => Ok(rows),
+        Err(_) => Err(Fail::from("there is no tree")),
     }
-    Ok(items)
 }

@@ -1,18 +1,16 @@
-use Rattle.std.proofs.Common.{◌≡◌, ◌∙◌, ℕ, List, [], ◌∷◌, map, ap, Bor}
+-- A path that is written as it is, or one that was made of its components.
+use Rattle.std.proofs.Common.{◌≡◌, ◌∙◌, ℕ, List, sym, subst}
 use Rattle.std.specs.Prelude.{string_bytes}
-use Rattle.std.specs.List.{flat_map, join_by}
-use Rattle.path_walk.specs.Paths.{slash, parts_of}
-use Rattle.tree_export.specs.Safe.{IsSafe, safe_byte, safe_part, safe_path}
-use Rattle.tree_export.proofs.Safes.{joined_as, mapped_by, ok_as, ok_has, path_safe}
+use Rattle.tree_export.specs.Safe.{IsSafe, safe_path}
+use Rattle.tree_export.proofs.Safes.{ok_as, ok_has, path_safe}
 use Rattle.tree_export.proofs.safe.safe_path.Goals as goal
 
+pub returns-then-is_plain : goal.returns-then-is_plain
+returns-then-is_plain c =
+    let P : List ℕ → Type 0 = λ text. safe_path text ≡ text in
+    let same : safe_path c.args.path.now ≡ c.args.path.now = subst P c.as_bytes.ensures.value (c.is_plain.ensures c.if-is_plain.true) in
+    let written = ok_as string_bytes c.from_str.result c.args.path.now (safe_path c.args.path.now) (sym same) c.from_str.ensures.ok in
+    record { written = written; safe = ok_has string_bytes IsSafe c.from_str.result (safe_path c.args.path.now) (path_safe c.args.path.now) written }
+
 pub returns : goal.returns
-unfolding safe_path
-returns c =
-    let now : Bor (List ℕ) → List ℕ = λ p. p.now in
-    let parts : List (List ℕ) = parts_of (flat_map safe_byte c.args.path.now) in
-    let same : map now c.deref-3.result.now ≡ map safe_part parts =
-    ap (map now) c.deref-3.ensures.value
-    ∙ (c.in_ok-safe.ensures ∙ mapped_by now safe_part c.deref-2.result.now parts (ap (map now) c.deref-2.ensures.value ∙ (c.in_ok-parts.ensures ∙ ap parts_of (c.deref.ensures ∙ c.in_ok-path.ensures)))) in
-    let written = ok_as string_bytes c.join.result (join_by now (slash ∷ []) c.deref-3.result.now) (join_by safe_part (slash ∷ []) parts) (joined_as now safe_part (slash ∷ []) c.deref-3.result.now parts same) c.join.ensures.ok in
-    record { written = written; safe = ok_has string_bytes IsSafe c.join.result (safe_path c.args.path.now) (path_safe c.args.path.now) written }
+returns c = record { written = c.written.ensures; safe = ok_has string_bytes IsSafe c.written.result (safe_path c.args.path.now) (path_safe c.args.path.now) c.written.ensures }

@@ -4,13 +4,13 @@ use Rattle.std.specs.Prelude.{◌++◌, Err, filter_map, slice_get}
 use Rattle.std.specs.List.{flat_map}
 use Rattle.cmd_words.specs.Lent.{target_asked}
 use Rattle.view_rules.specs.Rules.{view_facts}
-use Rattle.tree_export.specs.Stopping.{wanted_of}
+use Rattle.tree_export.specs.Exported.{item_of}
 use Rattle.tree_export.specs.Texts.{skipped_text, done_text}
 use Rattle.tree_export.proofs.Tellings.{told_text}
 use Rattle.cmd_texts.specs.Handed.{looked, stored}
 use Rattle.cmd_lines.specs.Written.{sunk}
 use Rattle.cmd_texts.proofs.Exports.{IsAtItems, lawful_at, export_put_ended, export_stop_ended}
-use Rattle.cmd_texts.proofs.commands.export.write_items.Goals as goal
+use Rattle.cmd_texts.proofs.commands.export.write_rows.Goals as goal
 
 pub returns-in-Ok-clause-answer : goal.returns-in-Ok-clause-answer
 returns-in-Ok-clause-answer g c =
@@ -19,7 +19,7 @@ returns-in-Ok-clause-answer g c =
     let volume = c.args.viewed.now.volume in
     let view = c.args.viewed.now.view in
     let site = c.args.site.now in
-    let items = map wanted_of c.args.items.now in
+    let items = map item_of c.args.rows.now in
     let done = c.in-Ok.done in
     let source = looked g.S.BlockSource.bytes g.S.BlockSource.faults c.args.src.now c.export.new.src in
     let folder = stored g.F.Folder.contents g.F.Folder.faults c.args.folder.now c.export.new.folder in
@@ -38,7 +38,7 @@ returns-in-Err-clause-answer g c =
     let volume = c.args.viewed.now.volume in
     let view = c.args.viewed.now.view in
     let site = c.args.site.now in
-    let items = map wanted_of c.args.items.now in
+    let items = map item_of c.args.rows.now in
     let stop = c.in-Err.stop in
     let source = looked g.S.BlockSource.bytes g.S.BlockSource.faults c.args.src.now c.export.new.src in
     let folder = stored g.F.Folder.contents g.F.Folder.faults c.args.folder.now c.export.new.folder in
