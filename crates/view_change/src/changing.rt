@@ -58,7 +58,7 @@ pub struct Changed {
 impl Changing {
     /// Begins with no leaf, after a view.
     pub fn new<K: TreeKey>(alloc: Global, before: KeptView) -> Changing
-        ensures start { (site : Place) (image : List ℕ) (names : Names) (leaves : List One) → IsKeptView K.shape site image names leaves before → HasChanged K.shape site image [] result result }
+        ensures begun { (site : Place) (image : List ℕ) (names : Names) (leaves : List One) → IsKeptView K.shape site image names leaves before → HasChanged K.shape site image [] result result }
         ensures before { facts_before result ≡ facts_of before }
     {
         let names = before.facts.names;
@@ -97,7 +97,7 @@ impl Changing {
 
     // Takes a leaf that the view before has among its next ones.
     fn stay<K: TreeKey>(&mut self, leaf: Leaf) -> Result<Option<Ends>, NoMemory>
-        ensures ends { (start : State) (site : Place) (image : List ℕ) (leaves : List One) → HasChanged K.shape site image leaves start self.old → IfOk result (λ found. IfSome found (HasEnds K.shape site image leaf)) }
+        ensures leaf_ends { (start : State) (site : Place) (image : List ℕ) (leaves : List One) → HasChanged K.shape site image leaves start self.old → IfOk result (λ found. IfSome found (HasEnds K.shape site image leaf)) }
         ensures held { (start : State) (site : Place) (image : List ℕ) (leaves : List One) → HasChanged K.shape site image leaves start self.old → IfOk result (λ found. IfSome found (λ ends. HasChanged K.shape site image (leaves ++ leaf ∷ []) start self.new)) }
     {
         let Some(kept) = self.pass_until::<K>(Some(leaf))? else {
@@ -114,7 +114,7 @@ impl Changing {
         leaf: Leaf,
         node: &NodeView<'_, K>,
     ) -> Result<Option<Ends>, NoMemory>
-        ensures ends { (site : Place) (image : List ℕ) → IsNodeOf K.shape site image leaf node.now → IfOk result (λ found. IfSome found (HasEnds K.shape site image leaf)) }
+        ensures leaf_ends { (site : Place) (image : List ℕ) → IsNodeOf K.shape site image leaf node.now → IfOk result (λ found. IfSome found (HasEnds K.shape site image leaf)) }
         ensures held { (start : State) (site : Place) (image : List ℕ) (leaves : List One) → IsNodeOf K.shape site image leaf node.now → HasChanged K.shape site image leaves start self.old → IfOk result (λ found. IfSome found (λ ends. HasChanged K.shape site image (leaves ++ leaf ∷ []) start self.new)) }
     {
         let Some(ends) = ends_of(node) else {
@@ -144,7 +144,7 @@ impl Changing {
         leaf: Leaf,
     ) -> Result<Option<Ends>, Stop<()>>
         requires { IsSiteFor site.now (S.bytes_len src.old) }
-        ensures ends { (image : List ℕ) → S.bytes src.old ≡ Some image → IfOk result (λ found. IfSome found (HasEnds K.shape site.now image leaf)) }
+        ensures leaf_ends { (image : List ℕ) → S.bytes src.old ≡ Some image → IfOk result (λ found. IfSome found (HasEnds K.shape site.now image leaf)) }
         ensures held { (start : State) (image : List ℕ) (leaves : List One) → S.bytes src.old ≡ Some image → HasChanged K.shape site.now image leaves start self.old → IfOk result (λ found. IfSome found (λ ends. HasChanged K.shape site.now image (leaves ++ leaf ∷ []) start self.new)) }
         ensures reads { S.reads src.new ≤ S.reads src.old + 1 }
         ensures free { IfErr result IsFree }

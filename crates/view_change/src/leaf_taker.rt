@@ -40,7 +40,7 @@ pub trait LeafTaker<K: TreeKey>: Drop {
         leaf: Leaf,
     ) -> Result<Option<Ends>, Stop<()>>
         requires site { IsSiteFor site.now (S.bytes_len src.old) }
-        ensures ends { (start : Self) (image : List ℕ) (leaves : List Leaf) → S.bytes src.old ≡ Some image → holds start self.old site.now image leaves → IfOk result (λ found. IfSome found (HasEnds K.shape site.now image leaf)) }
+        ensures leaf_ends { (start : Self) (image : List ℕ) (leaves : List Leaf) → S.bytes src.old ≡ Some image → holds start self.old site.now image leaves → IfOk result (λ found. IfSome found (HasEnds K.shape site.now image leaf)) }
         ensures held { (start : Self) (image : List ℕ) (leaves : List Leaf) → S.bytes src.old ≡ Some image → holds start self.old site.now image leaves → IfOk result (λ found. IfSome found (λ ends. holds start self.new site.now image (leaves ++ leaf ∷ []))) }
         ensures reads { S.reads src.new ≤ S.reads src.old + 1 }
         ensures free { IfErr result IsFree }

@@ -20,7 +20,7 @@ returns-clause-passed g c start image root keys nodes begun left told p =
     let ends = c.in-Some-2.ends in
     let leaf : Leaf = record { oid = c.in-Some-child.oid; block = c.in-Some-block_in.block } in
     let held = g.T.LeafTaker.holds start c.take.new.self site image in
-    let told_ends : HasEnds shape site image leaf ends = at-some c.in_ok-ends.field-0 ends (HasEnds shape site image leaf) c.in-Some-2.is (c.in_ok-ends.ensures.ends start image p.leaves told p.held) in
+    let told_ends : HasEnds shape site image leaf ends = at-some c.in_ok-ends.field-0 ends (HasEnds shape site image leaf) c.in-Some-2.is (c.in_ok-ends.ensures.leaf_ends start image p.leaves told p.held) in
     let have : held (p.leaves ++ leaf ∷ []) = at-some c.in_ok-ends.field-0 ends (λ _. held (p.leaves ++ leaf ∷ [])) c.in-Some-2.is (c.in_ok-ends.ensures.held start image p.leaves told p.held) in
     pass-leaf-if shape site (g.N.Namer.named c.args.namer.now) image root keys nodes (g.T.LeafTaker.holds start c.args.taker.now site image) held begun (g.S.BlockSource.reads c.args.src.now) (g.S.BlockSource.reads c.take.new.src) c.args.next left c.args.seen c.after_leaf.result c.in-Some-child.oid c.in-Some-block_in.block p c.in-Some-child.is
     (sym c.block_in.ensures ∙ c.in-Some-block_in.is) told_ends.there

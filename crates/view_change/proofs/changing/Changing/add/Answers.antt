@@ -6,8 +6,8 @@ use Rattle.view_change.proofs.EndsRead.{records-read, ends-read}
 use Rattle.view_change.proofs.Underway.{read-too}
 use Rattle.view_change.proofs.changing.Changing.add.Goals as goal
 
-pub returns-clause-ends : goal.returns-clause-ends
-returns-clause-ends g c site image is = ends-read g.K.TreeKey.shape site image c.args.leaf c.args.node.now c.in-Some.ends is c.in-Some.ensures
+pub returns-clause-leaf_ends : goal.returns-clause-leaf_ends
+returns-clause-leaf_ends g c site image is = ends-read g.K.TreeKey.shape site image c.args.leaf c.args.node.now c.in-Some.ends is c.in-Some.ensures
 
 pub returns-clause-held : goal.returns-clause-held
 returns-clause-held g c start site image leaves is had =

@@ -4,8 +4,8 @@ use Rattle.view_change.specs.Changing.{facts_before, IsUnderway}
 use Rattle.view_change.proofs.Underway.{found-one, found-first, found-ends, stays-too}
 use Rattle.view_change.proofs.changing.Changing.stay.Goals as goal
 
-pub returns-clause-ends : goal.returns-clause-ends
-returns-clause-ends g c start site image leaves had =
+pub returns-clause-leaf_ends : goal.returns-clause-leaf_ends
+returns-clause-leaf_ends g c start site image leaves had =
     let shape = g.K.TreeKey.shape in
     let now = c.pass_until.new.self in
     let found = c.in_ok-kept.field-0 in
