@@ -32,9 +32,9 @@ fn is_at_home(index: &Index<'_>, f: &InodeFact) -> bool
     }
 }
 
-// Whether a directory of 16 or more hasn't exactly one entry, in the directory of its parent.
+/// Whether a directory of 16 or more hasn't exactly one entry, in the directory of its parent.
 #[tactic(auto, unfolding(view_rules::specs::Directories::is_misnamed))]
-fn is_misnamed(index: &Index<'_>, f: &InodeFact) -> bool
+pub fn is_misnamed(index: &Index<'_>, f: &InodeFact) -> bool
     ensures { result ≡ spec.is_misnamed index.now.facts.now f.now }
 {
     is_user_directory(f) && !is_at_home(index, f)

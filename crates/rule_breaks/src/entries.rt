@@ -8,17 +8,17 @@ use rule_index::Index;
 use rule_index::ids::does_count;
 use view_facts::EntryFact;
 
-// Whether an entry that counts stands in what is no directory.
+/// Whether an entry that counts stands in what is no directory.
 #[tactic(auto, unfolding(view_rules::specs::Entries::lacks_parent))]
-fn lacks_parent(index: &Index<'_>, e: &EntryFact) -> bool
+pub fn lacks_parent(index: &Index<'_>, e: &EntryFact) -> bool
     ensures { result ≡ spec.lacks_parent index.now.facts.now e.now }
 {
     does_count(e) && !index.has_directory(e.id())
 }
 
-// Whether an entry that counts is of a file without an inode.
+/// Whether an entry that counts is of a file without an inode.
 #[tactic(auto, unfolding(view_rules::specs::Entries::lacks_inode))]
-fn lacks_inode(index: &Index<'_>, e: &EntryFact) -> bool
+pub fn lacks_inode(index: &Index<'_>, e: &EntryFact) -> bool
     ensures { result ≡ spec.lacks_inode index.now.facts.now e.now }
 {
     does_count(e) && !index.has_inode(e.file_id())
@@ -34,9 +34,9 @@ fn is_other(kind: Option<u16>, other: u16) -> bool
     }
 }
 
-// Whether an entry that counts is of another kind than the inode of its file.
+/// Whether an entry that counts is of another kind than the inode of its file.
 #[tactic(auto, using(rule_index::proofs::KinLooks::kind_passes), unfolding(view_rules::specs::Entries::has_other_kind))]
-fn has_other_kind(index: &Index<'_>, e: &EntryFact) -> bool
+pub fn has_other_kind(index: &Index<'_>, e: &EntryFact) -> bool
     ensures { result ≡ spec.has_other_kind index.now.facts.now e.now }
 {
     does_count(e) && is_other(index.kind(e.file_id()), e.kind())

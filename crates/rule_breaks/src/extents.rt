@@ -32,9 +32,9 @@ fn is_placed(block_size: u32, blocks: u64, extent: FileExt) -> bool
     u128::from(extent.block) + u128::from(extent.blocks(block_size)) <= u128::from(blocks)
 }
 
-// Whether an extent leaves the container.
+/// Whether an extent leaves the container.
 #[tactic(auto, unfolding(view_rules::specs::Extents::is_misplaced))]
-fn is_misplaced(block_size: u32, blocks: u64, f: &ExtentFact) -> bool
+pub fn is_misplaced(block_size: u32, blocks: u64, f: &ExtentFact) -> bool
     requires { 0 < block_size }
     ensures { result ≡ spec.is_misplaced block_size blocks f.now }
 {
@@ -61,9 +61,9 @@ fn covers(cover: &Cover, ranges: &[NewRange], first: u64, length: u64) -> bool
     cover.covers(first, length)
 }
 
-// Whether an extent that is no hole isn't covered.
+/// Whether an extent that is no hole isn't covered.
 #[tactic(auto, unfolding(view_rules::specs::Extents::is_uncovered))]
-fn is_uncovered(block_size: u32, cover: &Cover, ranges: &[NewRange], f: &ExtentFact) -> bool
+pub fn is_uncovered(block_size: u32, cover: &Cover, ranges: &[NewRange], f: &ExtentFact) -> bool
     requires size { 0 < block_size }
     requires cover { IsCoverOf ranges.now cover.now }
     ensures { result ≡ spec.is_uncovered block_size ranges.now f.now }

@@ -9,17 +9,17 @@ use view_facts::{AttributeFact, Facts, InodeFact};
 /// The least size of a stream that is too large, in bytes.
 const LARGE_SIZE: u64 = 0x8000_0000_0000_0000;
 
-// Whether a symbolic link lacks its target.
+/// Whether a symbolic link lacks its target.
 #[tactic(auto, unfolding(view_rules::specs::Inodes::lacks_target))]
-fn lacks_target(index: &Index<'_>, f: &InodeFact) -> bool
+pub fn lacks_target(index: &Index<'_>, f: &InodeFact) -> bool
     ensures { result ≡ spec.lacks_target index.now.facts.now f.now }
 {
     f.kind() == 10 && !index.has_target(f.id())
 }
 
-// Whether an inode has a stream that is too large.
+/// Whether an inode has a stream that is too large.
 #[tactic(auto, unfolding(view_rules::specs::Inodes::has_large_stream))]
-fn has_large_stream(f: &InodeFact) -> bool
+pub fn has_large_stream(f: &InodeFact) -> bool
     ensures { result ≡ spec.has_large_stream f.now }
 {
     match f.stream() {
@@ -28,17 +28,17 @@ fn has_large_stream(f: &InodeFact) -> bool
     }
 }
 
-// Whether an attribute has a stream that is too large.
+/// Whether an attribute has a stream that is too large.
 #[tactic(auto, unfolding(view_rules::specs::Inodes::has_large_body))]
-fn has_large_body(a: &AttributeFact) -> bool
+pub fn has_large_body(a: &AttributeFact) -> bool
     ensures { result ≡ spec.has_large_body a.now }
 {
     a.has_large_body()
 }
 
-// Whether the file of an attribute has no inode.
+/// Whether the file of an attribute has no inode.
 #[tactic(auto, unfolding(view_rules::specs::Inodes::lacks_owner))]
-fn lacks_owner(index: &Index<'_>, a: &AttributeFact) -> bool
+pub fn lacks_owner(index: &Index<'_>, a: &AttributeFact) -> bool
     ensures { result ≡ spec.lacks_owner index.now.facts.now a.now }
 {
     !index.has_inode(a.id())

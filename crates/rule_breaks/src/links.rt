@@ -22,9 +22,9 @@ fn is_counted_directory(f: &InodeFact) -> bool
     f.kind() == 4 && (f.id() == 2 || f.id() >= 16)
 }
 
-// Whether a directory has another number of children.
+/// Whether a directory has another number of children.
 #[tactic(auto, unfolding(view_rules::specs::Counts::has_other_children))]
-fn has_other_children(index: &Index<'_>, f: &InodeFact) -> bool
+pub fn has_other_children(index: &Index<'_>, f: &InodeFact) -> bool
     ensures { result ≡ spec.has_other_children index.now.facts.now f.now }
 {
     is_counted_directory(f) && is_other(f.links(), index.child_count(f.id()))
@@ -38,9 +38,9 @@ fn is_linked_file(index: &Index<'_>, f: &InodeFact, count: u64) -> bool
     f.kind() == 8 && count > 0 && !index.has_system_name(f.id())
 }
 
-// Whether a file has another number of links.
+/// Whether a file has another number of links.
 #[tactic(auto, unfolding(view_rules::specs::Counts::has_other_links))]
-fn has_other_links(index: &Index<'_>, f: &InodeFact) -> bool
+pub fn has_other_links(index: &Index<'_>, f: &InodeFact) -> bool
     ensures { result ≡ spec.has_other_links index.now.facts.now f.now }
 {
     let count = index.entry_count(f.id());

@@ -17,9 +17,9 @@ use view_facts::{ExtentFact, Facts};
 /// The greatest end of an extent in bytes (Data Streams, `j_file_extent_val_t`).
 const MOST: u64 = 1 << 63;
 
-// Whether an extent has a length, begins and ends at multiples of the block size, and ends at 2^63 at most.
+/// Whether an extent has a length, begins and ends at multiples of the block size, and ends at 2^63 at most.
 #[tactic(auto, unfolding(fs_record::specs::StreamExtents::is_extent_even))]
-fn is_even(block_size: u32, extent: FileExt) -> bool
+pub fn is_even(block_size: u32, extent: FileExt) -> bool
     requires { 0 < block_size }
     ensures { result ≡ stream.is_extent_even block_size extent }
 {

@@ -180,7 +180,7 @@ links-known facts f =
     }
 
 -- ---- directories
-count-more : {X : Type 0} (p q : X → Bool) → ((x : X) → p x ≡ true → q x ≡ true) → (xs : List X) → count_by p xs ≤ count_by q xs
+pub count-more : {X : Type 0} (p q : X → Bool) → ((x : X) → p x ≡ true → q x ≡ true) → (xs : List X) → count_by p xs ≤ count_by q xs
 count-more p q more [] = let zero_p : count_by p [] ≡ 0 = refl in let zero_q : count_by q [] ≡ 0 = refl in omega arith
 count-more p q more (x ∷ xs) =
     let rest : count_by p xs ≤ count_by q xs = count-more p q more xs in

@@ -8,4 +8,7 @@ pub mod Streams
 pub mod Known
 pub mod Law
 pub mod Right
+pub mod Looks
+pub mod Appended
+pub mod Tested
 pub mod Examples

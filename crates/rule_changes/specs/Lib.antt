@@ -1,3 +1,5 @@
 pub mod Changes
 pub mod Laws
 pub mod Known
+pub mod Lookups
+pub mod Parts

@@ -10,34 +10,19 @@ ghost use Rattle.tree_rules.specs.Tallies as tallies;
 use crate::{Note, Profile};
 use apfs_model::Bytes;
 use blk_source::NoMemory;
-use fs_name::name_hash;
+use rule_breaks::names::has_other_name_hash;
 use rule_index::Index;
 use std::alloc::Global;
 use view_facts::{EntryFact, Facts, InodeFact};
 use view_rules::{IdAt, NamedAt};
 use vol_view::View;
 
-// Whether an entry's name isn't ASCII, and its key has another hash.
-#[tactic(auto, using(rule_breaks::proofs::Texts::ascii_name, rule_breaks::proofs::Texts::other_name), unfolding(view_rules::specs::Names::has_other_name_hash, view_rules::specs::Names::has_other_hash))]
-fn has_other_hash(alloc: Global, facts: &Facts, e: &EntryFact) -> Result<bool, NoMemory>
-    ensures { IfOk result (λ other. other ≡ names.has_other_name_hash facts.now e.now) }
-{
-    if e.is_ascii() {
-        return Ok(false);
-    }
-    if !facts.names.are_hashed() {
-        return Ok(false);
-    }
-    let hash = name_hash(alloc, facts.names, e.name())?;
-    Ok(hash != e.hash())
-}
-
 /// The first entry whose name isn't ASCII and whose key has another hash.
 pub(crate) fn other_name_hash(alloc: Global, facts: &Facts) -> Result<Option<&EntryFact>, NoMemory>
     ensures { IfOk result (λ first. option_copied first ≡ find (names.has_other_name_hash facts.now) facts.now.entries) }
 {
     for e in &facts.entries {
-        let other = has_other_hash(alloc, facts, e)?;
+        let other = has_other_name_hash(alloc, facts, e)?;
         if other {
             return Ok(Some(e));
         }
@@ -67,7 +52,7 @@ fn hash_note(
 ) -> Result<Option<Note>, NoMemory>
     ensures { IfOk result (λ note. note ≡ (if names.has_other_name_hash facts.now e.now then Some (spec.hash_note view.now e.now) else None)) }
 {
-    if !has_other_hash(alloc, facts, e)? {
+    if !has_other_name_hash(alloc, facts, e)? {
         return Ok(None);
     }
     let at = named_at(alloc, view, e)?;

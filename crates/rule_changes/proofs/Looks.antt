@@ -1,0 +1,175 @@
+-- What look-ups in lists and passes over them tell.
+use Rattle.std.proofs.Common.{◌≡◌, ℕ, zero, suc, ◌+◌, ◌-◌, ◌<◌, ◌≤◌, Bool, true, false, cond, ◌&&◌, ◌||◌, ◌==◌, List, [], ◌∷◌, length, get_or, take, drop, Option, Some, None, inl, inr, refl, ap, sym, ◌∙◌, subst, arith}
+use Rattle.std.specs.Prelude.{◌*◌, ◌%◌, ◌^◌, nat_lt, nat_le, count_by, filter, slice_get, option_map, bytes_eq, All}
+use Rattle.std.specs.List.{find, list_any}
+use Rattle.std.specs.List.Sorted.{IsPartitionPoint}
+use Rattle.std.proofs.lemmas.Bool.Decides.{nat_tests}
+use Rattle.apfs_model.specs.Lists.{In, passes}
+use Rattle.apfs_model.proofs.BoolTests.{test_or, equal-from, from-equal, left-true, right-true, both-true}
+use Rattle.fs_record.specs.Facts.{Fact}
+use Rattle.fs_name.specs.Text.{is_ascii_name}
+use Rattle.fs_name.specs.Normal.{are_hashed}
+use Rattle.fs_record.specs.Inodes.{Inode}
+use Rattle.fs_record.specs.Entries.{Entry}
+use Rattle.fs_record.specs.Attributes.{Attribute}
+use Rattle.view_rules.specs.Facts.{Facts}
+use Rattle.view_rules.specs.Names.{is_entry_at, is_attribute_at, HasAsciiHashes}
+use Rattle.view_rules.specs.Directories.{parent_at, Leads, up}
+use Rattle.rule_changes.specs.Changes.{is_of, HasDistinctInodes, IsClearWhere}
+use Rattle.rule_changes.specs.Lookups.{breaks_at, hash_rank}
+use Rattle.rule_changes.proofs.Weaving.{one-more, one-no, none-in, some-in, found-only}
+use Rattle.rule_changes.proofs.Known.{count-more, alike-by-hash}
+
+-- what holds at each place holds of each item
+pub each-in : {X : Type 0} (P : X → Type 0) (xs : List X) → All P xs → (x : X) → In x xs → P x
+each-in P [] all x h = absurd h
+each-in P (y ∷ ys) all x (inl e) = subst P (sym e) (all 0 y (omega arith))
+each-in P (y ∷ ys) all x (inr h) = each-in P ys (λ k d low. all (suc k) d (omega arith)) x h
+
+-- ---- the items of an id
+-- one that fails isn't kept
+filter-no : {X : Type 0} (p : X → Bool) (x : X) (xs : List X) → p x ≡ false → filter p (x ∷ xs) ≡ filter p xs
+filter-no p x xs e = ap (λ b. cond b (x ∷ filter p xs) (filter p xs)) e
+
+-- one that passes is
+filter-yes : {X : Type 0} (p : X → Bool) (x : X) (xs : List X) → p x ≡ true → filter p (x ∷ xs) ≡ x ∷ filter p xs
+filter-yes p x xs e = ap (λ b. cond b (x ∷ filter p xs) (filter p xs)) e
+
+none-kept : {X : Type 0} (p : X → Bool) (xs : List X) → ((k : ℕ) (d : X) → k < length xs → p (get_or xs k d) ≡ false) → filter p xs ≡ []
+none-kept p [] fails = refl
+none-kept p (x ∷ xs) fails = filter-no p x xs (fails 0 x (omega arith)) ∙ none-kept p xs (λ k d low. fails (suc k) d (omega arith))
+
+above-other : (n q : ℕ) → nat_le n q ≡ false → (n == q) ≡ false
+above-other n q e = grind (arith, nat_tests)
+
+below-other : (n q : ℕ) → nat_lt n q ≡ true → (n == q) ≡ false
+below-other n q e = grind (arith, nat_tests)
+
+between-same : (n q : ℕ) → nat_lt n q ≡ false → nat_le n q ≡ true → (n == q) ≡ true
+between-same n q e f = grind (arith, nat_tests)
+
+both-ways : (n q : ℕ) → nat_lt n q ≡ true → nat_le n q ≡ false → ⊥
+both-ways n q e f = grind (arith, nat_tests)
+
+-- those of a number stand between those below it and those above it
+pub run-is : {X : Type 0} (n : X → ℕ) (xs : List X) (q from to : ℕ) → from ≤ length xs → to ≤ length xs
+    → IsPartitionPoint (λ x. nat_lt (n x) q ≡ true) (λ x. nat_lt (n x) q ≡ false) xs from → IsPartitionPoint (λ x. nat_le (n x) q ≡ true) (λ x. nat_le (n x) q ≡ false) xs to
+    → take (to - from) (drop from xs) ≡ filter (λ x. n x == q) xs
+run-is n [] q zero to low high first last = let e : to - 0 ≡ 0 = omega arith in ap (λ k. take k []) e
+run-is n [] q (suc from) to low high first last = absurd (omega arith)
+run-is n (x ∷ xs) q zero zero low high first last =
+    sym (none-kept (λ y. n y == q) (x ∷ xs) (λ k d inside. above-other (n (get_or (x ∷ xs) k d)) q (last.1 k d (omega arith) inside)))
+run-is n (x ∷ xs) q zero (suc to) low high first last =
+    let rest : take (to - 0) (drop 0 xs) ≡ filter (λ y. n y == q) xs = run-is n xs q 0 to (omega arith) (omega arith) ((λ k d a b. absurd (omega arith)), (λ k d a b. first.1 (suc k) d (omega arith) (omega arith))) ((λ k d a b. last.0 (suc k) d (omega arith) (omega arith)), (λ k d a b. last.1 (suc k) d (omega arith) (omega arith))) in
+    let here : (n x == q) ≡ true = between-same (n x) q (first.1 0 x (omega arith) (omega arith)) (last.0 0 x (omega arith) (omega arith)) in
+    let e : suc to - 0 ≡ suc (to - 0) = omega arith in
+    ap (λ k. take k (x ∷ xs)) e ∙ (ap (λ ys. x ∷ ys) rest ∙ sym (filter-yes (λ y. n y == q) x xs here))
+run-is n (x ∷ xs) q (suc from) zero low high first last = absurd (both-ways (n x) q (first.0 0 x (omega arith) (omega arith)) (last.1 0 x (omega arith) (omega arith)))
+run-is n (x ∷ xs) q (suc from) (suc to) low high first last =
+    let rest : take (to - from) (drop from xs) ≡ filter (λ y. n y == q) xs = run-is n xs q from to (omega arith) (omega arith) ((λ k d a b. first.0 (suc k) d (omega arith) (omega arith)), (λ k d a b. first.1 (suc k) d (omega arith) (omega arith))) ((λ k d a b. last.0 (suc k) d (omega arith) (omega arith)), (λ k d a b. last.1 (suc k) d (omega arith) (omega arith))) in
+    let less : (n x == q) ≡ false = below-other (n x) q (first.0 0 x (omega arith) (omega arith)) in
+    let e : suc to - suc from ≡ to - from = omega arith in
+    ap (λ k. take k (drop from xs)) e ∙ (rest ∙ sym (filter-no (λ y. n y == q) x xs less))
+
+-- the first one that is kept is the one that is found
+pub first-kept : {X : Type 0} (p : X → Bool) (xs : List X) → slice_get (filter p xs) 0 ≡ find p xs
+first-kept p [] = refl
+first-kept {X} p (x ∷ xs) = go (p x) (first-kept p xs)
+  where
+    go : (b : Bool) → slice_get (filter p xs) 0 ≡ find p xs → slice_get (cond b (x ∷ filter p xs) (filter p xs)) 0 ≡ cond b (Some x) (find p xs)
+    go true e = refl
+    go false e = e
+
+-- those that are kept and pass
+count-filtered : {X : Type 0} (p q : X → Bool) (xs : List X) → count_by p (filter q xs) ≡ count_by (λ x. q x && p x) xs
+count-filtered p q [] = refl
+count-filtered {X} p q (x ∷ xs) = elim (test_or (q x)) as (λ _. count_by p (filter q (x ∷ xs)) ≡ count_by (λ y. q y && p y) (x ∷ xs)) [
+  | inl good ↦
+      let more = ap (count_by p) (filter-yes q x xs good) in
+      let a = one-more p x (filter q xs) in
+      let b : count_by (λ y. q y && p y) (x ∷ xs) ≡ cond (p x) 1 0 + count_by (λ y. q y && p y) xs = one-more (λ y. q y && p y) x xs ∙ ap (λ b. cond (b && p x) 1 0 + count_by (λ y. q y && p y) xs) good in
+      let rest = count-filtered p q xs in
+      omega arith
+  | inr bad ↦
+      let more = ap (count_by p) (filter-no q x xs bad) in
+      let b : count_by (λ y. q y && p y) (x ∷ xs) ≡ 0 + count_by (λ y. q y && p y) xs = one-no (λ y. q y && p y) x xs (ap (λ b. b && p x) bad) in
+      let rest = count-filtered p q xs in
+      omega arith
+]
+
+-- among those that are kept as many pass as among all, if at least as many are kept and pass
+pub count-kept : {X : Type 0} (p q r : X → Bool) (xs : List X) → ((x : X) → r x ≡ true → (q x && p x) ≡ true) → count_by p xs ≤ count_by r xs → count_by p (filter q xs) ≡ count_by p xs
+count-kept p q r xs kept most =
+    let a = count-filtered p q xs in
+    let b = count-more r (λ x. q x && p x) kept xs in
+    let c = count-more (λ x. q x && p x) p (λ x e. right-true (q x) (p x) e) xs in
+    omega arith
+
+-- nothing is found, so nothing passes
+none-found : {X : Type 0} (p : X → Bool) (xs : List X) → find p xs ≡ None → list_any p xs ≡ false
+none-found p [] e = refl
+none-found {X} p (x ∷ xs) e = go (p x) (none-found p xs) e
+  where
+    go : (b : Bool) → (find p xs ≡ None → list_any p xs ≡ false) → cond b (Some x) (find p xs) ≡ None → (b || list_any p xs) ≡ false
+    go true more e = absurd cc
+    go false more e = more e
+
+pub none-long : {X : Type 0} (xs : List X) → length xs ≡ 0 → xs ≡ []
+none-long [] e = refl
+none-long (x ∷ xs) e = absurd (omega arith)
+
+-- nothing is kept, so nothing passes
+pub none-of-run : {X : Type 0} (p : X → Bool) (xs : List X) → filter p xs ≡ [] → list_any p xs ≡ false
+none-of-run {X} p xs e = none-found p xs (sym (first-kept p xs) ∙ ap (λ (ys : List X). slice_get ys 0) e)
+
+-- a number that is at most 1
+pub not-twice : (n m : ℕ) → n ≤ 1 → n ≡ m → nat_lt 1 m ≡ false
+not-twice n m few same = grind (arith, nat_tests)
+
+-- ---- entries of a name
+same-rank : (e x : Fact Entry) → x.id ≡ e.id → x.what.hash ≡ e.what.hash → hash_rank x ≡ hash_rank e
+same-rank e x a b = λ i. (a i * 2 ^ 22 % 2 ^ 64 + b i) % 2 ^ 64
+
+-- those of the hash of an ASCII name, among which all with the name stand
+pub hash-fellows : (facts : Facts) (e : Fact Entry) → are_hashed facts.names ≡ true → is_ascii_name e.what.name ≡ true → HasAsciiHashes facts → In e facts.entries
+    → count_by (is_entry_at e.id e.what.name) (filter (λ x. hash_rank x == hash_rank e) facts.entries) ≡ count_by (is_entry_at e.id e.what.name) facts.entries
+hash-fellows facts e hashed ascii right listed =
+    let alike = alike-by-hash facts hashed right e listed (inl ascii) in
+    count-kept (is_entry_at e.id e.what.name) (λ x. hash_rank x == hash_rank e) (λ x. is_entry_at e.id e.what.name x && (x.what.hash == e.what.hash)) facts.entries
+    (λ x h.
+    let at = left-true (is_entry_at e.id e.what.name x) (x.what.hash == e.what.hash) h in
+    let id = equal-from x.id e.id (left-true (x.id == e.id) (bytes_eq x.what.name e.what.name) at) in
+    let hash = equal-from x.what.hash e.what.hash (right-true (is_entry_at e.id e.what.name x) (x.what.hash == e.what.hash) h) in
+    both-true (hash_rank x == hash_rank e) (is_entry_at e.id e.what.name x) (from-equal (hash_rank x) (hash_rank e) (same-rank e x id hash)) at)
+    (omega arith)
+
+-- those of the directory
+pub directory-fellows : (facts : Facts) (e : Fact Entry) → count_by (is_entry_at e.id e.what.name) (filter (λ x. x.id == e.id) facts.entries) ≡ count_by (is_entry_at e.id e.what.name) facts.entries
+directory-fellows facts e =
+    count-kept (is_entry_at e.id e.what.name) (λ x. x.id == e.id) (is_entry_at e.id e.what.name) facts.entries
+    (λ x h. both-true (x.id == e.id) (is_entry_at e.id e.what.name x) (left-true (x.id == e.id) (bytes_eq x.what.name e.what.name) h) h)
+    (omega arith)
+
+-- the attributes of a file
+pub attribute-fellows : (facts : Facts) (a : Fact Attribute) → count_by (is_attribute_at a.id a.what.name) (filter (λ x. x.id == a.id) facts.attributes) ≡ count_by (is_attribute_at a.id a.what.name) facts.attributes
+attribute-fellows facts a =
+    count-kept (is_attribute_at a.id a.what.name) (λ x. x.id == a.id) (is_attribute_at a.id a.what.name) facts.attributes
+    (λ x h. both-true (x.id == a.id) (is_attribute_at a.id a.what.name x) (left-true (x.id == a.id) (bytes_eq x.what.name a.what.name) h) h)
+    (omega arith)
+
+-- ---- parents
+pub one-step : (facts : Facts) (id : ℕ) (f : Fact Inode) → find (is_of id) facts.inodes ≡ Some f → Leads (parent_at facts) f.what.parent → Leads (parent_at facts) id
+one-step facts id f found leads =
+    up id f.what.parent (ap (λ (o : Option (Fact Inode)). option_map (λ (inode : Inode). inode.parent) (option_map (λ (g : Fact Inode). g.what) o)) found) leads
+
+-- ---- ids of which something speaks
+-- of an id that some item has nothing is wrong, if nothing is of the ids of the items
+pub none-at : {X : Type 0} (key : X → ℕ) (bad : ℕ → Bool) (xs : List X) → list_any (λ x. bad (key x)) xs ≡ false → (id : ℕ) → list_any (λ x. key x == id) xs ≡ true → bad id ≡ false
+none-at key bad xs none id some =
+    let t = some-in (λ x. key x == id) xs some in
+    ap bad (sym (equal-from (key t.0) id t.1.1)) ∙ none-in (λ x. bad (key x)) xs none t.0 t.1.0
+
+-- the inode that is looked up is each one of its id
+pub where-clear : (facts : Facts) → HasDistinctInodes facts → (test : ℕ → Bool) (breaks : Fact Inode → Bool) → ((id : ℕ) → test id ≡ true → breaks_at breaks facts id ≡ false) → IsClearWhere test breaks facts.inodes
+where-clear facts distinct test breaks none f listed touched =
+    ap (λ (o : Option (Fact Inode)). passes o breaks) (sym (found-only (is_of f.id) facts.inodes (distinct f.id) f listed (from-equal f.id f.id refl))) ∙ none f.id touched
