@@ -65,30 +65,6 @@ order-more shape node oid n m key rank next one read right ranked had =
       last_rank = ap (option_map (λ (other : Item). rank_of shape other.pair)) (last-push items item) ∙ ap Some (ap (rank_or_least shape) read ∙ sym ranked);
     })
 
-and-false : (b : Bool) → (b && false) ≡ false
-and-false true = refl
-and-false false = refl
-
--- the first item
-pub order-first : {K : Type 0} (shape : Shape K) (node : List ℕ) (oid : ℕ) (key : K) (rank : Rank) → shape.read (pair_of shape node 0).key ≡ Some key → rank ≡ shape.rank key → AreInOrder shape (items_to shape node oid 1) rank
-order-first shape node oid key rank read ranked = record { ordered = ap (λ (b : Bool). cond b (Some 0) None) (and-false (passes (shape.read (pair_of shape node 0).key) shape.strict)); last_rank = ap Some (ap (rank_or_least shape) read ∙ sym ranked) }
-
--- the ends of all items
-pub ends-are : {K : Type 0} (shape : Shape K) (node : List ℕ) (oid count : ℕ) (key : K) (ends : Ends) → count ≡ count_of node → 0 < count → shape.read (pair_of shape node 0).key ≡ Some key
-    → ends.first ≡ shape.rank key → ends.strict ≡ shape.strict key → ends.count ≡ count → AreInOrder shape (items_to shape node oid count) ends.last → AreEndsOf shape (map (leaf_item oid) (entries_of shape node)) ends
-ends-are shape node oid zero key ends all some read first strict counted had = absurd (omega (arith, some))
-ends-are shape node oid (suc n) key ends all some read first strict counted had =
-    subst (λ (m : ℕ). AreEndsOf shape (items_to shape node oid m) ends) all (record {
-      ordered = ap (λ o. is_none o) had.ordered;
-      item = leaf_item oid (entry_of shape node 0);
-      others = map (leaf_item oid) (map (entry_of shape node) (range_with_len 1 n));
-      split = refl;
-      first = ap (rank_or_least shape) read ∙ sym first;
-      strict = ap (λ o. passes o shape.strict) read ∙ sym strict;
-      last_rank = had.last_rank;
-      counted = length-map (map (entry_of shape node) (range_with_len 0 (suc n))) (leaf_item oid) ∙ (length-map (range_with_len 0 (suc n)) (entry_of shape node) ∙ (length-range_with_len 0 (suc n) ∙ sym counted));
-    })
-
 -- the records of a leaf are the entries of its node
 pub records-read : {K : Type 0} (shape : Shape K) (site : Site) (image : List ℕ) (leaf : Leaf) (node : List ℕ) → IsNodeOf shape site image leaf node → records_of shape site image leaf ≡ pairs_of shape node
 records-read shape site image leaf node is =

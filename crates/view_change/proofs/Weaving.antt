@@ -13,12 +13,6 @@ more-stay xs ended = all-stay xs
 more-stay xs (stays y all same other w) = stays y (all ++ xs) (same ++ xs) other (more-stay xs w)
 more-stay xs (differs y all same other w) = differs y (all ++ xs) (same ++ xs) other (more-stay xs w)
 
--- one more item is no other's
-pub one-differs : {X : Type 0} (x : X) {all same other : List X} → Weaves all same other → Weaves (all ++ x ∷ []) same (other ++ x ∷ [])
-one-differs x ended = differs x [] [] [] ended
-one-differs x (stays y all same other w) = stays y (all ++ x ∷ []) same (other ++ x ∷ []) (one-differs x w)
-one-differs x (differs y all same other w) = differs y (all ++ x ∷ []) same (other ++ x ∷ []) (one-differs x w)
-
 -- a list is woven of nothing and itself
 all-differ : {X : Type 0} (xs : List X) → Weaves xs [] xs
 all-differ [] = ended
