@@ -9,6 +9,7 @@
 Told are the processor time and the greatest memory of the process by the kernel's count, how they grew from the size before, and both for each MiB of
 the image that is used. The containers are written by container.py, which shares no code with the program.
 """
+import bisect
 import os
 import random
 import resource
@@ -18,7 +19,7 @@ import sys
 import tempfile
 
 sys.dont_write_bytecode = True
-from container import BLOCK, EPHEMERAL, FILE, FOLDER, IS_LEAF, IS_ROOT, PHYSICAL, Container, Volume, entry, extent, folders, inode, laid, links, node, sealed, stream_id
+from container import BLOCK, EPHEMERAL, FILE, FOLDER, IS_LEAF, IS_ROOT, PHYSICAL, Container, Volume, entry, extent, folders, inode, laid, links, node, order_of, sealed, stream_id
 
 
 def plain_files(count, folder=2, first=16):
@@ -58,30 +59,126 @@ def other_roots(count, path):
     return container.finish(path)
 
 
-def changing_leaf(count, files, path):
-    """Writes snapshots between which one leaf of a tree of so many files changes."""
+def changing_leaves(count, files, changed, path):
+    """Writes snapshots between which so many leaves of a tree of so many files change."""
     container = Container(xid=count + 1)
     volume = Volume(container)
     kept = volume.files([*folders(files), *plain_files(files)])
     made = {oid: container.blocks[at] for (oid, _), at in volume.map.items()}
     leaves = sorted(oid for oid, data in made.items() if data[34:36] == b"\0\0")
+    first = [len(leaves) * (2 * i + 1) // (2 * changed) for i in range(changed)]
     for xid in range(1, count + 1):
         volume.snapshot(xid, kept)
-        oid = leaves[len(leaves) // 2]
-        data = made[oid]
-        volume.put(lambda oid, data=data, xid=xid: sealed(oid, xid + 1, *struct.unpack_from("<II", data, 24), data[32:]), xid + 1, oid)
+        for at in first:
+            oid = leaves[at]
+            data = made[oid]
+            volume.put(lambda oid, data=data, xid=xid: sealed(oid, xid + 1, *struct.unpack_from("<II", data, 24), data[32:]), xid + 1, oid)
     volume.finish(kept)
     return container.finish(path)
 
 
 def own_leaf(count, path):
     """Snapshots between which one leaf of the tree changes"""
-    return changing_leaf(count, 2 * count, path)
+    return changing_leaves(count, 2 * count, 1, path)
 
 
 def leaf_of_many(count, path):
     """Snapshots between which one leaf of a tree of 10,000 files changes"""
-    return changing_leaf(count, 10000, path)
+    return changing_leaves(count, 10000, 1, path)
+
+
+def leaves_of_many(count, path):
+    """Snapshots between which twenty leaves of a tree of 50,000 files change"""
+    return changing_leaves(count, 50000, 20, path)
+
+
+class Growing:
+    """A tree of three levels whose nodes are put again if their entries change; a leaf with too many records is split, and one without any goes."""
+
+    def __init__(self, volume, records):
+        self.volume, self.root, self.records = volume, None, len(records)
+        self.lows, self.leaves = [], []
+        for at in range(0, len(records), 28):
+            self.lows.append(order_of(records[at]))
+            self.leaves.append([None, records[at : at + 28]])
+        self.above = [[None, self.leaves[at : at + 40]] for at in range(0, len(self.leaves), 40)]
+        self.home = {id(leaf): above for above in self.above for leaf in above[1]}
+        self.changed = [*self.leaves, *self.above]
+
+    def leaf_of(self, record):
+        return max(bisect.bisect_right(self.lows, order_of(record)) - 1, 0)
+
+    def add(self, record):
+        at = self.leaf_of(record)
+        leaf = self.leaves[at]
+        bisect.insort(leaf[1], record, key=order_of)
+        self.records += 1
+        if len(leaf[1]) > 36:
+            other = [None, leaf[1][18:]]
+            del leaf[1][18:]
+            self.leaves.insert(at + 1, other)
+            self.lows.insert(at + 1, order_of(other[1][0]))
+            above = self.home[id(other)] = self.home[id(leaf)]
+            above[1].insert(next(i for i, one in enumerate(above[1]) if one is leaf) + 1, other)
+            self.changed.append(other)
+        self.changed += [leaf, self.home[id(leaf)]]
+
+    def remove(self, record):
+        at = self.leaf_of(record)
+        leaf = self.leaves[at]
+        leaf[1].remove(record)
+        self.records -= 1
+        if not leaf[1]:
+            del self.leaves[at], self.lows[at]
+            above = self.home[id(leaf)]
+            above[1] = [one for one in above[1] if one is not leaf]
+        self.changed += [leaf, self.home[id(leaf)]]
+
+    def put(self, xid):
+        """Puts what has changed at a transaction, and answers the id of the root."""
+        volume, seen = self.volume, set()
+        for what in sorted(self.changed, key=lambda one: isinstance(one[1][0], list) if one[1] else False):
+            if id(what) in seen or not what[1]:
+                continue
+            seen.add(id(what))
+            is_leaf = not isinstance(what[1][0], list)
+            entries = what[1] if is_leaf else [(leaf[1][0][0], struct.pack("<Q", leaf[0])) for leaf in what[1]]
+            flags, level = (IS_LEAF, 0) if is_leaf else (0, 1)
+            what[0] = volume.put(lambda oid, flags=flags, level=level, entries=entries: node((oid, xid, 3, 0xE), flags, level, entries), xid, what[0])
+        self.changed = []
+        top = [(above[1][0][1][0][0], struct.pack("<Q", above[0])) for above in self.above]
+        info = struct.pack("<IIIIIIQQ", 0, BLOCK, 0, 0, 0, 0, self.records, 1 + len(self.above) + len(self.leaves))
+        self.root = volume.put(lambda oid: node((oid, xid, 2, 0xE), IS_ROOT, 2, top, info), xid, self.root)
+        return self.root
+
+
+def files_come_and_go(count, path):
+    """Snapshots between which five of 50,000 files go, and five come amid their ids"""
+    chance = random.Random(count)
+    container = Container(xid=count + 1)
+    volume = Volume(container)
+    files = {16 + 8 * i for i in range(50000)}
+    record_pair = lambda file: (entry(2, f"file-{file:07}", file, FILE), inode(file, 2, FILE, 1))
+    tree = Growing(volume, sorted([*folders(50000), *(record for file in files for record in record_pair(file))], key=order_of))
+    kept = sorted(files)
+    root = tree.put(1)
+    for xid in range(1, count + 1):
+        volume.snapshot(xid, root)
+        for _ in range(5):
+            gone = kept.pop(chance.randrange(len(kept)))
+            files.remove(gone)
+            come = 16 + chance.randrange(8 * 50000)
+            while come in files:
+                come += 1
+            files.add(come)
+            bisect.insort(kept, come)
+            for record in record_pair(gone):
+                tree.remove(record)
+            for record in record_pair(come):
+                tree.add(record)
+        root = tree.put(xid + 1)
+    volume.finish(root)
+    return container.finish(path)
 
 
 def extents_in_snapshots(count, path):
@@ -277,6 +374,8 @@ SHAPES = {
     "other-roots": (other_roots, 250, [CHECK]),
     "own-leaf": (own_leaf, 125, [CHECK]),
     "leaf-of-many": (leaf_of_many, 8, [CHECK]),
+    "leaves-of-many": (leaves_of_many, 38, [CHECK]),
+    "files-come-and-go": (files_come_and_go, 38, [CHECK]),
     "extents-in-snapshots": (extents_in_snapshots, 125, [CHECK, CAT]),
     "turns-of-extents": (turns_of_extents, 50, [CHECK, USAGE]),
     "ranges-under-all": (ranges_under_all, 4000, [CHECK]),

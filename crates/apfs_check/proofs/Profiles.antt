@@ -25,25 +25,7 @@ use Rattle.apfs_check.specs.Data.{unreached_in, miscounted_in, HasRightData}
 use Rattle.apfs_check.specs.Notes.{of_views, view_hash_notes, unreached_note, unreached_notes, count_note, count_notes}
 use Rattle.apfs_check.specs.WellFormed.{IsWellFormed}
 use Rattle.apfs_model.proofs.Empty.{map-none, flat-none, none-flat}
-
--- ---- lists
-none-clear : {X : Type 0} (test : X → Bool) (xs : List X) → filter test xs ≡ [] → IsClear test xs
-none-clear test xs e x h = elim (test_or (test x)) as (λ _. test x ≡ false) [
-  | inr f ↦ f
-  | inl t ↦ absurd (subst (λ ys. In x ys) e (in-filter test x xs h t))
-]
-
-clear-none : {X : Type 0} (test : X → Bool) (xs : List X) → IsClear test xs → filter test xs ≡ []
-clear-none test [] clear = refl
-clear-none test (x ∷ xs) clear = ap (λ b. cond b (x ∷ filter test xs) (filter test xs)) (clear x (inl refl)) ∙ clear-none test xs (λ y h. clear y (inr h))
-
--- ---- a view
--- a view without notes on hashes has all hashes right
-hashes-clear : (view : View) (facts : Facts) → hash_notes view facts ≡ [] → HasNameHashes facts
-hashes-clear view facts e = none-clear (has_other_name_hash facts) facts.entries (map-none (hash_note view) (filter (has_other_name_hash facts) facts.entries) e)
-
-clear-hashes : (view : View) (facts : Facts) → HasNameHashes facts → hash_notes view facts ≡ []
-clear-hashes view facts clear = ap (map (hash_note view)) (clear-none (has_other_name_hash facts) facts.entries clear)
+use Rattle.tree_rules.proofs.Nexts.{hashes-clear, clear-hashes}
 
 -- the rules of a view under another profile, where the hashes are right if it is Strict
 rules-under : (a b : Profile) (image : List ℕ) (site : Site) (volume : Loaded) (view : View) (ranges : List NewRange) → (b ≡ Strict → HasNameHashes (view_facts image site volume view)) → HasTreeRules a image site volume view ranges → HasTreeRules b image site volume view ranges

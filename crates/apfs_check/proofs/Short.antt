@@ -15,7 +15,7 @@ use Rattle.ext_ref.specs.declared.range.NewRange.{NewRange}
 use Rattle.apfs_check.proofs.Named.{from-filter_map}
 
 -- ---- of a list of which a fact holds item by item
-at-in : {X : Type 0} (xs : List X) (k : ℕ) (d : X) → k < length xs → In (slice_index_or xs k d) xs
+pub at-in : {X : Type 0} (xs : List X) (k : ℕ) (d : X) → k < length xs → In (slice_index_or xs k d) xs
 at-in [] k d low = absurd (omega arith)
 at-in (x ∷ xs) zero d low = inl refl
 at-in (x ∷ xs) (suc k) d low = inr (at-in xs k d (omega arith))

@@ -1,6 +1,6 @@
 -- Going through the views of a volume that was loaded.
-use Rattle.std.proofs.Common.{◌≡◌, ◌∙◌, ℕ, zero, suc, ◌+◌, ◌-◌, ◌<◌, ◌≤◌, true, false, List, [], ◌∷◌, ◌++◌, length, None, Some, Option, map, take, inl, inr, sym, ap, subst, arith}
-use Rattle.std.specs.Prelude.{◌^◌, IfSome, nat_lt, flat_map, slice_get, option_map}
+use Rattle.std.proofs.Common.{◌≡◌, ◌∙◌, ℕ, zero, suc, ◌+◌, ◌-◌, ◌<◌, ◌≤◌, true, false, List, [], ◌∷◌, ◌++◌, length, None, Some, Option, map, take, inl, inr, refl, sym, ap, subst, arith}
+use Rattle.std.specs.Prelude.{◌^◌, ◌⊎◌, IfSome, slice_index_or, nat_lt, flat_map, slice_get, option_map}
 use Rattle.std.specs.List.{All}
 use Rattle.std.proofs.lemmas.Grind.{flat_map-append}
 use Rattle.std.proofs.lemmas.List.{length-map}
@@ -10,6 +10,7 @@ use Rattle.apfs_model.specs.Lists.{In}
 use Rattle.apfs_model.proofs.BoolTests.{not-false, other-true, right-true, upto-from}
 use Rattle.apfs_model.proofs.Searches.{from-map, in-flat_map, in-left, in-right, in-append}
 use Rattle.obj_base.specs.declared.site.Site.{Site}
+use Rattle.omap_map.proofs.Lists.{all-in}
 use Rattle.nx_ring.specs.Checkpoint.{Seen, site_of}
 use Rattle.fs_record.specs.Facts.{Fact}
 use Rattle.fs_record.specs.StreamExtents.{extent_blocks, is_hole, is_extent_placed}
@@ -25,7 +26,9 @@ use Rattle.view_rules.specs.Facts.{Facts}
 use Rattle.view_rules.specs.Extents.{is_misplaced}
 use Rattle.view_rules.specs.Rules.{view_facts}
 use Rattle.view_rules.specs.declared.profile.Profile.{Profile}
-use Rattle.apfs_check.specs.Again.{IsPassed}
+use Rattle.view_change.specs.declared.kept.KeptView.{KeptView}
+use Rattle.tree_rules.specs.Known.{AddExtents, IsKnown, IsKnownBefore, extents_before}
+use Rattle.apfs_check.specs.Again.{IsPassed, IsKnownOf}
 use Rattle.apfs_check.specs.declared.views.Passed.{Passed}
 use Rattle.apfs_check.specs.Volumes.{volume_of, volume_ranges, extent_of, view_extents, volume_extents}
 use Rattle.apfs_check.specs.WellFormed.{HasViewRules}
@@ -67,25 +70,27 @@ extents-same image seen volume r =
     ap (λ (v : Loaded). flat_map (view_extents image (site_of seen) v) (views_of v seen)) r.loaded.same
     ∙ ap (λ vs. flat_map (view_extents image (site_of seen) (volume_of image seen head)) vs) (sym (views-same image seen head r.loaded.right))
 
--- those of one view more
-one-more : {X Y : Type 0} (f : X → List Y) (xs : List X) (x : X) (a : List Y) → HaveSame a (flat_map f xs) → HaveSame (a ++ f x) (flat_map f (xs ++ x ∷ []))
-one-more f xs x a same = λ y. (
-  (λ h. elim (in-append y a (f x) h) as (λ _. In y (flat_map f (xs ++ x ∷ []))) [
+-- those of one view more, some of which were there
+one-more : {X Y : Type 0} (f : X → List Y) (xs : List X) (x : X) (a m : List Y) → HaveSame a (flat_map f xs) → ((y : Y) → In y m → In y (f x)) → ((y : Y) → In y (f x) → In y a ⊎ In y m) → HaveSame (a ++ m) (flat_map f (xs ++ x ∷ []))
+one-more f xs x a m same own all = λ y. (
+  (λ h. elim (in-append y a m h) as (λ _. In y (flat_map f (xs ++ x ∷ []))) [
     | inl k ↦ subst (In y) (sym (flat_map-append f xs (x ∷ []))) (in-left y (flat_map f xs) (f x ++ []) ((same y).0 k))
-    | inr k ↦ subst (In y) (sym (flat_map-append f xs (x ∷ []))) (in-right y (flat_map f xs) (f x ++ []) (in-left y (f x) [] k))
+    | inr k ↦ subst (In y) (sym (flat_map-append f xs (x ∷ []))) (in-right y (flat_map f xs) (f x ++ []) (in-left y (f x) [] (own y k)))
   ]),
-  (λ h. elim (in-append y (flat_map f xs) (f x ++ []) (subst (In y) (flat_map-append f xs (x ∷ [])) h)) as (λ _. In y (a ++ f x)) [
-    | inl k ↦ in-left y a (f x) ((same y).1 k)
-    | inr k ↦ in-right y a (f x) (subst (In y) (append-none (f x)) k)
+  (λ h. elim (in-append y (flat_map f xs) (f x ++ []) (subst (In y) (flat_map-append f xs (x ∷ [])) h)) as (λ _. In y (a ++ m)) [
+    | inl k ↦ in-left y a m ((same y).1 k)
+    | inr k ↦ elim (all y (subst (In y) (append-none (f x)) k)) as (λ _. In y (a ++ m)) [ inl l ↦ in-left y a m l | inr r ↦ in-right y a m r ]
   ]),
 )
 
-pub extents-next : (image : List ℕ) (site : Site) (volume : Loaded) (views : List View) (i : ℕ) (view : View) (b c d : List (ℕ × FileExt)) → slice_get views i ≡ Some view → HaveSame b (flat_map (view_extents image site volume) (take i views)) → c ≡ b ++ view_extents image site volume view → HaveSame c d
+pub extents-next : (image : List ℕ) (site : Site) (volume : Loaded) (views : List View) (i : ℕ) (view : View) (before added b c d : List (ℕ × FileExt)) → slice_get views i ≡ Some view → HaveSame b (flat_map (view_extents image site volume) (take i views))
+    → AddExtents image site volume view before added → ((x : ℕ × FileExt) → In x before → In x (flat_map (view_extents image site volume) (take i views))) → c ≡ b ++ added → HaveSame c d
     → HaveSame d (flat_map (view_extents image site volume) (take (i + 1) views))
-extents-next image site volume views i view b c d at p q r =
+extents-next image site volume views i view before added b c d at p new old q r =
     let f : View → List (ℕ × FileExt) = view_extents image site volume in
+    let all : (x : ℕ × FileExt) → In x (f view) → In x b ⊎ In x added = λ x h. elim (new.all x h) as (λ _. In x b ⊎ In x added) [ inl k ↦ inl ((p x).1 (old x k)) | inr k ↦ inr k ] in
     let more : HaveSame c (flat_map f (take (i + 1) views)) =
-    subst (λ vs. HaveSame c (flat_map f vs)) (sym (take-one views i view at)) (subst (λ es. HaveSame es (flat_map f (take i views ++ view ∷ []))) (sym q) (one-more f (take i views) view b p)) in
+    subst (λ vs. HaveSame c (flat_map f vs)) (sym (take-one views i view at)) (subst (λ es. HaveSame es (flat_map f (take i views ++ view ∷ []))) (sym q) (one-more f (take i views) view b added p new.own all)) in
     λ x. ((λ h. (more x).0 ((r x).1 h)), (λ h. (r x).0 ((more x).1 h)))
 
 -- a view whose extents an earlier one has
@@ -101,26 +106,55 @@ extents-kept image site volume views i before view b at one same had = λ x. (
       ]),
 )
 
--- the view that passed is one of those up to the next place
-pub passed-next : (profile : Profile) (image : List ℕ) (site : Site) (volume : Loaded) (ranges : List NewRange) (views : List View) (i : ℕ) (view : View) (passed : Option Passed) → slice_get views i ≡ Some view → IfSome passed (IsPassed profile image site volume ranges (view ∷ []))
+-- a view that passed is one of those up to the next place
+pub passed-one : (profile : Profile) (image : List ℕ) (site : Site) (volume : Loaded) (ranges : List NewRange) (views : List View) (i : ℕ) (view : View) (passed : Option Passed) → slice_get views i ≡ Some view → IfSome passed (IsPassed profile image site volume ranges (view ∷ []))
     → IfSome passed (IsPassed profile image site volume ranges (take (i + 1) views))
-passed-next profile image site volume ranges views i view None at is = tt
-passed-next profile image site volume ranges views i view (Some p) at is = record {
+passed-one profile image site volume ranges views i view None at is = tt
+passed-one profile image site volume ranges views i view (Some p) at is = record {
   one = subst (In p.view) (sym (take-one views i view at)) (in-right p.view (take i views) (view ∷ []) is.one);
   rules = is.rules;
   records = is.records;
   notes = is.notes;
 }
 
-pub passed-kept : (profile : Profile) (image : List ℕ) (site : Site) (volume : Loaded) (ranges : List NewRange) (views : List View) (i : ℕ) (view : View) (passed : Option Passed) → slice_get views i ≡ Some view → IfSome passed (IsPassed profile image site volume ranges (take i views))
-    → IfSome passed (IsPassed profile image site volume ranges (take (i + 1) views))
-passed-kept profile image site volume ranges views i view None at is = tt
-passed-kept profile image site volume ranges views i view (Some p) at is = record {
-  one = subst (In p.view) (sym (take-one views i view at)) (in-left p.view (take i views) (view ∷ []) is.one);
-  rules = is.rules;
-  records = is.records;
-  notes = is.notes;
-}
+pub passed-kept : (profile : Profile) (image : List ℕ) (site : Site) (volume : Loaded) (ranges : List NewRange) (views : List View) (i : ℕ) (view : View) (passed : List Passed) → slice_get views i ≡ Some view → All (IsPassed profile image site volume ranges (take i views)) passed
+    → All (IsPassed profile image site volume ranges (take (i + 1) views)) passed
+passed-kept profile image site volume ranges views i view passed at all k d low =
+    let is = all k d low in
+    record {
+      one = subst (In (slice_index_or passed k d).view) (sym (take-one views i view at)) (in-left (slice_index_or passed k d).view (take i views) (view ∷ []) is.one);
+      rules = is.rules;
+      records = is.records;
+      notes = is.notes;
+    }
+
+-- those that are remembered, with one more
+pub passed-more : (profile : Profile) (image : List ℕ) (site : Site) (volume : Loaded) (ranges : List NewRange) (views : List View) (old new : List Passed) (one : Option Passed) → ((other : Passed) → In other new → In other old ⊎ (one ≡ Some other))
+    → All (IsPassed profile image site volume ranges views) old → IfSome one (IsPassed profile image site volume ranges views) → All (IsPassed profile image site volume ranges views) new
+passed-more profile image site volume ranges views old new one of all is =
+    all-in-list (IsPassed profile image site volume ranges views) new (λ other h. elim (of other h) as (λ _. IsPassed profile image site volume ranges views other) [
+      | inl k ↦ all-in (IsPassed profile image site volume ranges views) old all other k
+      | inr e ↦ subst (λ (o : Option Passed). IfSome o (IsPassed profile image site volume ranges views)) e is
+    ])
+
+-- what is kept of a view
+pub known-one : (profile : Profile) (image : List ℕ) (site : Site) (volume : Loaded) (ranges : List NewRange) (views : List View) (i : ℕ) (view : View) (kept : Option KeptView) → slice_get views i ≡ Some view → IfSome kept (IsKnown profile image site volume ranges view) → IsKnownOf profile image site volume ranges (take (i + 1) views) kept
+known-one profile image site volume ranges views i view None at is = tt
+known-one profile image site volume ranges views i view (Some kept) at is = (view, (subst (In view) (sym (take-one views i view at)) (in-right view (take i views) (view ∷ []) (inl refl)), is))
+
+pub known-kept : (profile : Profile) (image : List ℕ) (site : Site) (volume : Loaded) (ranges : List NewRange) (views : List View) (i : ℕ) (view : View) (kept : Option KeptView) → slice_get views i ≡ Some view → IsKnownOf profile image site volume ranges (take i views) kept → IsKnownOf profile image site volume ranges (take (i + 1) views) kept
+known-kept profile image site volume ranges views i view None at is = tt
+known-kept profile image site volume ranges views i view (Some kept) at is = (is.0, (subst (In is.0) (sym (take-one views i view at)) (in-left is.0 (take i views) (view ∷ []) is.1.0), is.1.1))
+
+pub known-before : (profile : Profile) (image : List ℕ) (site : Site) (volume : Loaded) (ranges : List NewRange) (views : List View) (kept : Option KeptView) → IsKnownOf profile image site volume ranges views kept → IsKnownBefore profile image site volume ranges kept
+known-before profile image site volume ranges views None is = tt
+known-before profile image site volume ranges views (Some kept) is = (is.0, is.1.1)
+
+-- the extents of what is kept of a view are those of the view
+pub extents-known : (profile : Profile) (image : List ℕ) (site : Site) (volume : Loaded) (ranges : List NewRange) (views : List View) (kept : Option KeptView) → IsKnownOf profile image site volume ranges views kept → (x : ℕ × FileExt) → In x (extents_before kept) → In x (flat_map (view_extents image site volume) views)
+extents-known profile image site volume ranges views None is x h = absurd h
+extents-known profile image site volume ranges views (Some kept) is x h =
+    in-flat_map (view_extents image site volume) is.0 x views is.1.0 (subst (λ fs. In x (map extent_of fs)) (ap (λ (facts : Facts). facts.extents) is.1.1.is.gathered.facts) h)
 
 -- extents that are short, thinned
 pub short-same : (block_size : ℕ) (xs ys : List (ℕ × FileExt)) → HaveSame xs ys → AreShortExtents block_size xs → AreShortExtents block_size ys

@@ -31,12 +31,7 @@ pub trait Raise<P> {
 pub(crate) fn stop_of<P: Copy, F: Raise<P> + Drop>(stop: Stop<F>, place: P) -> Stop<Fault>
     ensures { result ≡ raised (F.raises place) stop }
 {
-    match stop {
-        Stop::Found(fault) => Stop::Found(fault.raise(place)),
-        Stop::Unsupported { feature, block } => Stop::Unsupported { feature, block },
-        Stop::ReadFault => Stop::ReadFault,
-        Stop::NoMemory => Stop::NoMemory,
-    }
+    stop.map(|fault| fault.raise(place))
 }
 
 /// A fault of the container is raised as it is.

@@ -1,16 +1,21 @@
 // The views of a volume: their rules, what is told of them, and their extents.
-ghost use Rattle.std.specs.Prelude.{◌≡◌, ◌+◌, ◌≤◌, ◌<◌, ◌^◌, ◌∷◌, ◌++◌, [], ℕ, List, Some, false, length, slice_get, OnOk, IfOk, IfErr, IfSome, IsErrOf, IsTrue, ◌↔◌};
+ghost use Rattle.std.specs.Prelude.{◌≡◌, ◌⊎◌, ◌+◌, ◌≤◌, ◌<◌, ◌^◌, ◌∷◌, ◌++◌, [], ℕ, List, Some, false, length, slice_get, All, OnOk, IfOk, IfErr, IfSome, IsErrOf, IsTrue, ◌↔◌};
 ghost use Rattle.apfs_model.specs.Counts.{Rose};
 ghost use Rattle.apfs_model.specs.Lists.{In};
 ghost use Rattle.apfs_model.specs.Kept.{IsKept};
 ghost use Rattle.obj_base.specs.Site.{IsSiteFor};
+ghost use Rattle.obj_base.specs.Stops.{Tells};
 ghost use Rattle.obj_base.specs.declared.stop.Stop.TheVariants.{ReadFault};
 ghost use Rattle.nx_ring.specs.Checkpoint.{site_of};
 ghost use Rattle.fs_record.specs.StreamExtents as stream;
-ghost use Rattle.vol_view.specs.Views.{views_of};
+ghost use Rattle.vol_view.specs.Views.{views_of, IsViewFeature};
+ghost use Rattle.view_rules.specs.Rules.{IsTreeFault};
+ghost use Rattle.tree_rules.specs.Known.{AddExtents, IsKnown, IsKnownBefore, IsCheckedNext, extents_before};
 ghost use Rattle.ext_ref.specs.Left.{AreShortExtents};
 ghost use Rattle.ext_ref.specs.Same.{HaveSame};
+ghost use Rattle.ext_ref.specs.Spans.{IsCoverOf};
 ghost use Rattle.apfs_check.specs.Volumes as spec;
+ghost use Rattle.apfs_check.specs.declared.views.Passed as declared;
 ghost use Rattle.apfs_check.specs.Again.{are_seen_alike, HaveOneTree, IsPassed};
 ghost use Rattle.apfs_check.specs.Held.{AddsViews};
 ghost use Rattle.apfs_check.specs.DataSteps.{AreShortOrHoles};
@@ -20,13 +25,15 @@ use crate::Fault;
 use crate::gathered::Gathered;
 use crate::raising::stop_of;
 use blk_source::BlockSource;
-use ext_ref::{NewRange, thin};
+use ext_ref::{Cover, NewRange, thin};
 use fs_record::FileExt;
 use nx_ring::Checkpoint;
 use obj_base::Stop;
 use omap_map::OmapRecord;
 use std::alloc::{AllocError, Global};
-use tree_rules::{CheckedView, Profile, ViewTally, check_with_extents};
+use tree_rules::{CheckedNext, CheckedView, Profile, ViewTally, check_next, check_with_extents};
+use view_change::KeptView;
+use view_rules::TreeFault;
 use vol_view::{View, Volume, live, past};
 
 // A view of a volume by its place: the live one, then those of the snapshots by transaction.
@@ -48,11 +55,12 @@ struct Passed {
     records: u64,
 }
 
-// A view that was added, where nothing is noted of it, and its extents, each after its stream's id.
+// A view that was added, where nothing is noted of it; its extents, each after its stream's id, or those that the view before hasn't; and what is kept of it.
 #[derive(Drop)]
 struct Added {
     passed: Option<Passed>,
     extents: Vec<(u64, FileExt)>,
+    kept: Option<KeptView>,
 }
 
 // A view as one that passed, where nothing is noted of it.
@@ -86,16 +94,71 @@ fn have_one_tree(volume: &Volume, one: &View, other: &View) -> bool
     one.root_oid == other.root_oid && is_seen_alike(volume.omap.records(), one.xid, other.xid)
 }
 
-// The view that passed, where it has the tree of another one.
-fn again(volume: &Volume, passed: Option<Passed>, view: &View) -> Option<Passed>
-    ensures same { IfSome result (λ before. passed ≡ Some before) }
+// How many views that passed are remembered.
+const REMEMBERED: usize = 16;
+
+// A view that passed and has the tree of another one.
+fn again(volume: &Volume, passed: &[Passed], view: &View) -> Option<Passed>
+    ensures same { IfSome result (λ before. In before passed.now) }
     ensures one { IfSome result (λ before. HaveOneTree volume.now before.view view.now) }
 {
-    let before = passed?;
-    if have_one_tree(volume, &before.view, view) {
-        Some(before)
-    } else {
-        None
+    'passed: for i in 0..passed.len() {
+        let before = passed[i];
+        if have_one_tree(volume, &before.view, view) {
+            return Some(before);
+        }
+    }
+    None
+}
+
+// Remembers a view that passed, in place of the first where there are so many.
+fn remember(passed: &mut Vec<Passed>, one: Option<Passed>) -> Result<(), AllocError>
+    ensures { OnOk result ((other : declared.Passed) → In other passed.new.items → In other passed.old.items ⊎ (one ≡ Some other)) }
+{
+    let Some(one) = one else {
+        return Ok(());
+    };
+    if passed.len() >= REMEMBERED {
+        passed.remove(0);
+    }
+    passed.push(one)?;
+    Ok(())
+}
+
+// What is told of a view: by its difference from one before, if there is more than one view.
+fn check_one<S: BlockSource>(
+    alloc: Global,
+    src: &mut S,
+    cp: &Checkpoint,
+    volume: &Volume,
+    view: &View,
+    before: Option<KeptView>,
+    ranges: &[NewRange],
+    cover: &Cover,
+    profile: Profile,
+) -> Result<CheckedNext, Stop<TreeFault>>
+    requires site { IsSiteFor (site_of cp.now) (S.bytes_len src.old) }
+    requires cover { IsCoverOf ranges.now cover.now }
+    ensures clear { (image : List ℕ) → S.bytes src.old ≡ Some image → IsKnownBefore profile image (site_of cp.now) volume.now ranges.now before → IfOk result (IsCheckedNext profile image (site_of cp.now) volume.now ranges.now view.now (extents_before before)) }
+    ensures present { (image : List ℕ) → S.bytes src.old ≡ Some image → IsKnownBefore profile image (site_of cp.now) volume.now ranges.now before → IfErr result (Tells (IsTreeFault profile image (site_of cp.now) volume.now view.now ranges.now) (IsViewFeature image (site_of cp.now) volume.now view.now)) }
+    ensures cause { IsErrOf result ReadFault → Rose (S.faults src.old) (S.faults src.new) }
+    ensures kept { IsKept S.bytes S.bytes_len S.faults src.old src.new }
+{
+    let site = cp.site();
+    if !volume.snaps.is_empty() {
+        return match check_next(
+            alloc, src, volume, view, before, ranges, cover, &site, profile,
+        ) {
+            Ok(next) => Ok(next),
+            Err(stop) => Err(stop),
+        };
+    }
+    match check_with_extents(alloc, src, volume, view, ranges, &site, profile) {
+        Ok(checked) => Ok(CheckedNext {
+            checked,
+            kept: None,
+        }),
+        Err(stop) => Err(stop),
     }
 }
 
@@ -106,27 +169,35 @@ fn add_view<S: BlockSource>(
     cp: &Checkpoint,
     volume: &Volume,
     view: &View,
+    before: Option<KeptView>,
     ranges: &[NewRange],
+    cover: &Cover,
     profile: Profile,
     out: &mut Gathered,
 ) -> Result<Added, Stop<Fault>>
     requires site { IsSiteFor (site_of cp.now) (S.bytes_len src.old) }
-    ensures clear { (image : List ℕ) → S.bytes src.old ≡ Some image → IsReady image cp.now volume.now → ranges.now ≡ spec.volume_ranges image (site_of cp.now) volume.now.head → OnOk result (AddsViews profile image cp.now volume.now.head (view.now ∷ []) out.old out.new) }
-    ensures all { (image : List ℕ) → S.bytes src.old ≡ Some image → IfOk result (λ added. added.extents.items ≡ spec.view_extents image (site_of cp.now) volume.now view.now) }
-    ensures passed { (image : List ℕ) → S.bytes src.old ≡ Some image → IfOk result (λ added. IfSome added.passed (IsPassed profile image (site_of cp.now) volume.now ranges.now (view.now ∷ []))) }
-    ensures present { (image : List ℕ) → S.bytes src.old ≡ Some image → IsReady image cp.now volume.now → ranges.now ≡ spec.volume_ranges image (site_of cp.now) volume.now.head → In view.now (views_of volume.now cp.now) → IfErr result (IsThere profile image) }
+    requires cover { IsCoverOf ranges.now cover.now }
+    ensures clear { (image : List ℕ) → S.bytes src.old ≡ Some image → IsKnownBefore profile image (site_of cp.now) volume.now ranges.now before → IsReady image cp.now volume.now → ranges.now ≡ spec.volume_ranges image (site_of cp.now) volume.now.head → OnOk result (AddsViews profile image cp.now volume.now.head (view.now ∷ []) out.old out.new) }
+    ensures all { (image : List ℕ) → S.bytes src.old ≡ Some image → IsKnownBefore profile image (site_of cp.now) volume.now ranges.now before → IfOk result (λ added. AddExtents image (site_of cp.now) volume.now view.now (extents_before before) added.extents.items) }
+    ensures passed { (image : List ℕ) → S.bytes src.old ≡ Some image → IsKnownBefore profile image (site_of cp.now) volume.now ranges.now before → IfOk result (λ added. IfSome added.passed (IsPassed profile image (site_of cp.now) volume.now ranges.now (view.now ∷ []))) }
+    ensures known { (image : List ℕ) → S.bytes src.old ≡ Some image → IsKnownBefore profile image (site_of cp.now) volume.now ranges.now before → IfOk result (λ added. IfSome added.kept (IsKnown profile image (site_of cp.now) volume.now ranges.now view.now)) }
+    ensures present { (image : List ℕ) → S.bytes src.old ≡ Some image → IsKnownBefore profile image (site_of cp.now) volume.now ranges.now before → IsReady image cp.now volume.now → ranges.now ≡ spec.volume_ranges image (site_of cp.now) volume.now.head → In view.now (views_of volume.now cp.now) → IfErr result (IsThere profile image) }
     ensures cause { IsErrOf result ReadFault → Rose (S.faults src.old) (S.faults src.new) }
     ensures kept { IsKept S.bytes S.bytes_len S.faults src.old src.new }
 {
-    let site = cp.site();
-    let checked = match check_with_extents(alloc, src, volume, view, ranges, &site, profile) {
-        Ok(checked) => checked,
+    let next = match check_one(alloc, src, cp, volume, view, before, ranges, cover, profile) {
+        Ok(next) => next,
         Err(stop) => return Err(stop_of(stop, ())),
     };
+    let CheckedNext { checked, kept } = next;
     let CheckedView { tally, extents } = checked;
     let passed = passed_of(view, &tally);
     out.put_view(tally)?;
-    Ok(Added { passed, extents })
+    Ok(Added {
+        passed,
+        extents,
+        kept,
+    })
 }
 
 // The block after the last one of an extent.
@@ -211,8 +282,8 @@ fn thin_past(extents: &mut Vec<(u64, FileExt)>, limit: usize) -> usize
 }
 
 /// Adds what is told of all views of a volume, each of which has its rules, and gives their extents, each after its stream's id, in whatever
-/// order: of an extent that many views have, few are kept. A view that has the tree of the one that was tested before it isn't walked again
-/// where that one passed and nothing was noted of it. None ends after block 2^64 - 1: those of a view that has its rules all end within
+/// order: of an extent that many views have, few are kept. A view that has the tree of one of the last that passed, of which nothing was noted, isn't walked again; another one is tested by its difference from the
+/// last that was tested and passed. None ends after block 2^64 - 1: those of a view that has its rules all end within
 /// the container.
 pub(crate) fn add_views<S: BlockSource>(
     alloc: Global,
@@ -232,25 +303,40 @@ pub(crate) fn add_views<S: BlockSource>(
     ensures kept { IsKept S.bytes S.bytes_len S.faults src.old src.new }
 {
     let site = cp.site();
+    let cover = Cover::of(alloc, ranges)?;
     let mut extents = Vec::new(alloc);
     let mut limit = FIRST_LIMIT;
-    let mut passed = None;
+    let mut passed = Vec::new(alloc);
+    let mut known = None;
     let count = volume.snaps.len() + 1;
     'views: for place in 0..count {
         let view = view_at(volume, cp, place);
-        if let Some(before) = again(volume, passed, &view) {
+        if let Some(before) = again(volume, &passed, &view) {
             out.count_records(before.records);
             continue;
         }
-        match add_view(alloc, src, cp, volume, &view, ranges, profile, out) {
+        match add_view(
+            alloc,
+            src,
+            cp,
+            volume,
+            &view,
+            known.take(),
+            ranges,
+            &cover,
+            profile,
+            out,
+        ) {
             Ok(added) => {
                 let Added {
                     passed: next,
                     extents: more,
+                    kept,
                 } = added;
                 move_short(&mut extents, more, site.block_size)?;
                 limit = thin_past(&mut extents, limit);
-                passed = next;
+                remember(&mut passed, next)?;
+                known = kept;
             }
             Err(stop) => return Err(stop),
         }

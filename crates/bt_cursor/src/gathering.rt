@@ -71,12 +71,7 @@ impl<K: TreeKey> Keeper<K> for Nothing {
 fn raise(stop: Stop<WalkFault>) -> Stop<GatherFault>
     ensures { result ≡ raised GatherFault.Tree stop }
 {
-    match stop {
-        Stop::Found(why) => Stop::Found(GatherFault::Tree(why)),
-        Stop::Unsupported { feature, block } => Stop::Unsupported { feature, block },
-        Stop::ReadFault => Stop::ReadFault,
-        Stop::NoMemory => Stop::NoMemory,
-    }
+    stop.map(GatherFault::Tree)
 }
 
 // Starts a walk over the tree of a root.

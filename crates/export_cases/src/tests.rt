@@ -9,6 +9,7 @@ mod made;
 
 use blk_folder::MemFolder;
 use blk_source::MemSource;
+use img_make::table;
 use made::{Holds, Seen, open_view, rows_of, source};
 use obj_base::Stop;
 use std::alloc::Global;
@@ -36,55 +37,18 @@ fn told(alloc: Global, folder: &MemFolder) -> Result<String, Fail> {
     Ok(text)
 }
 
-// What an image holds, what a folder gets of it, and what the call tells: how many directories, files and bytes, and which places.
-#[derive(Clone, Copy)]
-struct Case {
-    holds: Holds,
-    put: &'static str,
-    done: (u64, u64, u64),
-    skipped: &'static [usize],
-}
+// What an image holds, what a folder gets of it, and what the call tells: how many directories, files and bytes, and which places
+// are skipped.
+type Case = (Holds, &'static str, (u64, u64, u64), &'static [usize]);
 
-fn cases() -> [Case; 6] {
-    [
-        Case {
-            holds: Holds::Hello,
-            put: "\nhello.txt=hello",
-            done: (0, 1, 5),
-            skipped: &[],
-        },
-        Case {
-            holds: Holds::Folders,
-            put: "\nd/\nd/f=\ne/",
-            done: (2, 1, 0),
-            skipped: &[],
-        },
-        Case {
-            holds: Holds::Link,
-            put: "",
-            done: (0, 0, 0),
-            skipped: &[0],
-        },
-        Case {
-            holds: Holds::Dots,
-            put: "\n\\x2e/\n\\x2e/\\x2e\\x2e=\n\\x2e\\x2e=\n...=",
-            done: (1, 3, 0),
-            skipped: &[],
-        },
-        Case {
-            holds: Holds::Withheld,
-            put: "\nplain=hello",
-            done: (0, 1, 5),
-            skipped: &[0, 1, 2],
-        },
-        Case {
-            holds: Holds::Empty,
-            put: "",
-            done: (0, 0, 0),
-            skipped: &[],
-        },
-    ]
-}
+const CASES: &[Case] = table! {
+    Holds::Hello, "\nhello.txt=hello", (0, 1, 5), &[];
+    Holds::Folders, "\nd/\nd/f=\ne/", (2, 1, 0), &[];
+    Holds::Link, "", (0, 0, 0), &[0];
+    Holds::Dots, "\n\\x2e/\n\\x2e/\\x2e\\x2e=\n\\x2e\\x2e=\n...=", (1, 3, 0), &[];
+    Holds::Withheld, "\nplain=hello", (0, 1, 5), &[0, 1, 2];
+    Holds::Empty, "", (0, 0, 0), &[];
+};
 
 fn are_same(places: &[usize], wanted: &[usize]) -> bool {
     places == wanted
@@ -93,22 +57,22 @@ fn are_same(places: &[usize], wanted: &[usize]) -> bool {
 #[test]
 fn folders_get_the_tree_of_a_view(rt: HostRuntime) -> Result<(), Fail> {
     let alloc = rt.alloc();
-    for case in cases() {
-        let holds = case.holds;
+    for (holds, wanted, counts, skipped) in CASES {
+        let holds = *holds;
         let mut src = source(alloc, holds, Vec::new(alloc))?;
         let seen = open_view(alloc, &mut src)?;
         let rows = rows_of(alloc, &mut src, &seen)?;
         let (end, put) = ended(alloc, &mut src, &seen, &rows, Vec::new(alloc))?;
         match end {
             Ok(done) => {
-                let counts = (done.directories, done.files, done.bytes);
-                assert_eq!(rt; counts, case.done, "{holds:?}");
-                let is_same = are_same(&done.skipped, case.skipped);
+                let told = (done.directories, done.files, done.bytes);
+                assert_eq!(rt; told, *counts, "{holds:?}");
+                let is_same = are_same(&done.skipped, skipped);
                 assert!(rt; is_same, "{holds:?}");
             }
             Err(stop) => panic!(rt; "{holds:?}: {stop:?}"),
         }
-        assert_eq!(rt; put.as_str(), case.put, "{holds:?}");
+        assert_eq!(rt; put.as_str(), *wanted, "{holds:?}");
     }
     Ok(())
 }

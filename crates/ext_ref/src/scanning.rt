@@ -4,7 +4,7 @@ ghost use Rattle.std.specs.List.{list_any};
 ghost use Rattle.apfs_model.specs.Counts.{Rose};
 ghost use Rattle.apfs_model.specs.Kept.{IsKept};
 ghost use Rattle.obj_base.specs.Stops.{Tells, IsFree, raised};
-ghost use Rattle.obj_base.specs.declared.stop.Stop.TheVariants.{ReadFault, NoMemory};
+ghost use Rattle.obj_base.specs.declared.stop.Stop.TheVariants.{ReadFault};
 ghost use Rattle.obj_base.specs.Site.{IsSiteFor};
 ghost use Rattle.bt_cursor.specs.Faults.{HasFeature};
 ghost use Rattle.ext_ref.specs.Ranges.{ext_tree, node_blocks_of};
@@ -24,13 +24,10 @@ use std::alloc::Global;
 fn raise(stop: Stop<GatherFault>) -> Stop<ExtStop>
     ensures { result ≡ raised said stop }
 {
-    match stop {
-        Stop::Found(GatherFault::Tree(why)) => Stop::Found(ExtStop::Walk(why)),
-        Stop::Found(GatherFault::Refused { item }) => Stop::Found(ExtStop::Value { item }),
-        Stop::Unsupported { feature, block } => Stop::Unsupported { feature, block },
-        Stop::ReadFault => Stop::ReadFault,
-        Stop::NoMemory => Stop::NoMemory,
-    }
+    stop.map(|fault| match fault {
+        GatherFault::Tree(why) => ExtStop::Walk(why),
+        GatherFault::Refused { item } => ExtStop::Value { item },
+    })
 }
 
 // Goes through the tree of a root that isn't 0.

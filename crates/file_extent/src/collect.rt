@@ -3,7 +3,7 @@ ghost use Rattle.std.specs.Prelude.{◌≡◌, ◌++◌, ◌≤◌, ◌<◌, ℕ
 ghost use Rattle.apfs_model.specs.Counts.{Rose};
 ghost use Rattle.apfs_model.specs.Kept.{IsKept};
 ghost use Rattle.obj_base.specs.Stops.{Tells, raised};
-ghost use Rattle.obj_base.specs.declared.stop.Stop.TheVariants.{ReadFault, NoMemory};
+ghost use Rattle.obj_base.specs.declared.stop.Stop.TheVariants.{ReadFault};
 ghost use Rattle.obj_base.specs.Site.{IsSiteFor};
 ghost use Rattle.bt_node.specs.Entries.{bytes_in};
 ghost use Rattle.bt_keys.specs.RecordKey.{record_kind_of, id_of, file_extent_record};
@@ -32,12 +32,7 @@ use std::alloc::Global;
 pub(crate) fn raise(root: u64, stop: Stop<WalkFault>) -> Stop<StreamStop>
     ensures { result ≡ raised (stops.Walk root) stop }
 {
-    match stop {
-        Stop::Found(why) => Stop::Found(StreamStop::Walk { root, why }),
-        Stop::Unsupported { feature, block } => Stop::Unsupported { feature, block },
-        Stop::ReadFault => Stop::ReadFault,
-        Stop::NoMemory => Stop::NoMemory,
-    }
+    stop.map(|why| StreamStop::Walk { root, why })
 }
 
 // The extent of a record whose key has this id and this kind, where it is one of the stream's.

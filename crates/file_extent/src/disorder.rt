@@ -22,13 +22,10 @@ use std::alloc::Global;
 fn raise(root: u64, stop: Stop<GatherFault>) -> Stop<StreamStop>
     ensures { result ≡ gather_raised root stop }
 {
-    match stop {
-        Stop::Found(GatherFault::Tree(why)) => Stop::Found(StreamStop::Walk { root, why }),
-        Stop::Found(GatherFault::Refused { item: _ }) => Stop::Found(StreamStop::Order),
-        Stop::Unsupported { feature, block } => Stop::Unsupported { feature, block },
-        Stop::ReadFault => Stop::ReadFault,
-        Stop::NoMemory => Stop::NoMemory,
-    }
+    stop.map(|fault| match fault {
+        GatherFault::Tree(why) => StreamStop::Walk { root, why },
+        GatherFault::Refused { item: _ } => StreamStop::Order,
+    })
 }
 
 /// Why the records of a tree aren't in order.

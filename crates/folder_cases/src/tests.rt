@@ -28,15 +28,21 @@ enum Call {
 
 use Call::{Makes, Refuses, Writes};
 
-// A folder that is filled. All paths but those of calls start at the case's own directory, and parents come first.
-struct Case {
-    // What stands there before, which stays.
-    standing: &'static [Row],
-    // The directory that is filled. None is an empty path.
-    into: Option<&'static str>,
-    calls: &'static [Call],
-    // What stands there afterwards besides.
-    put: &'static [Row],
+// A folder that is filled: what stands there before, which stays; the directory that is filled, of which none is an empty path; the
+// calls; and what stands there afterwards besides. All paths but those of calls start at the case's own directory, and parents come
+// first.
+type Case = (
+    &'static [Row],
+    Option<&'static str>,
+    &'static [Call],
+    &'static [Row],
+);
+
+// A table of tuples: a row is the parts of one, and ends with a semicolon.
+macro_rules! table {
+    ($($($part:expr),+;)*) => {
+        &[$(($($part),+)),*]
+    };
 }
 
 const ONE: &[Row] = &[("dir", Directory)];
@@ -65,158 +71,36 @@ const NO_DIRECTORY: &[Row] = &[("file", File("old")), ("link", Link("missing"))]
 
 const REACHED: &[Row] = &[("dir", Directory), ("to_dir", Link("dir"))];
 
-const CASES: &[Case] = &[
-    Case {
-        standing: ONE,
-        into: Some("dir"),
-        calls: &[Makes("d"), Writes("d/f", "hello"), Writes("e", "")],
-        put: &[
-            ("dir/d", Directory),
-            ("dir/d/f", File("hello")),
-            ("dir/e", File("")),
-        ],
-    },
+const CASES: &[Case] = table! {
+    ONE, Some("dir"), &[Makes("d"), Writes("d/f", "hello"), Writes("e", "")],
+        &[("dir/d", Directory), ("dir/d/f", File("hello")), ("dir/e", File(""))];
     // A file is closed by the next one, by a refusal, by a directory, and at the end.
-    Case {
-        standing: ONE,
-        into: Some("dir"),
-        calls: &[
-            Writes("a", "1"),
-            Writes("b", "2"),
-            Refuses("b"),
-            Writes("c", "3"),
-            Makes("d"),
-            Writes("e", "4"),
-        ],
-        put: &[
-            ("dir/a", File("1")),
-            ("dir/b", File("2")),
-            ("dir/c", File("3")),
-            ("dir/d", Directory),
-            ("dir/e", File("4")),
-        ],
-    },
+    ONE, Some("dir"), &[Writes("a", "1"), Writes("b", "2"), Refuses("b"), Writes("c", "3"), Makes("d"), Writes("e", "4")],
+        &[("dir/a", File("1")), ("dir/b", File("2")), ("dir/c", File("3")), ("dir/d", Directory), ("dir/e", File("4"))];
     // What stands stays, and a refusal refuses nothing else.
-    Case {
-        standing: LINKED,
-        into: Some("dir"),
-        calls: &[
-            Refuses("file"),
-            Refuses("file/x"),
-            Refuses("directory"),
-            Refuses("directory/file"),
-            Refuses("directory/file/x"),
-            Refuses("to_file"),
-            Refuses("to_file/x"),
-            Refuses("to_directory"),
-            Refuses("to_directory/x"),
-            Refuses("to_directory/file"),
-            Refuses("to_directory/d/x"),
-            Refuses("to_directory/../x"),
-            Refuses("directory/up"),
-            Refuses("directory/up/x"),
-            Refuses("directory/up/file"),
-            Refuses("to_itself"),
-            Refuses("to_itself/x"),
-            Refuses("missing/x"),
-            Makes("d"),
-            Writes("d/f", "hello"),
-            Writes("e", ""),
-        ],
-        put: &[
-            ("dir/d", Directory),
-            ("dir/d/f", File("hello")),
-            ("dir/e", File("")),
-        ],
-    },
+    LINKED, Some("dir"), &[Refuses("file"), Refuses("file/x"), Refuses("directory"), Refuses("directory/file"), Refuses("directory/file/x"),
+        Refuses("to_file"), Refuses("to_file/x"), Refuses("to_directory"), Refuses("to_directory/x"), Refuses("to_directory/file"),
+        Refuses("to_directory/d/x"), Refuses("to_directory/../x"), Refuses("directory/up"), Refuses("directory/up/x"), Refuses("directory/up/file"),
+        Refuses("to_itself"), Refuses("to_itself/x"), Refuses("missing/x"), Makes("d"), Writes("d/f", "hello"), Writes("e", "")],
+        &[("dir/d", Directory), ("dir/d/f", File("hello")), ("dir/e", File(""))];
     // After something was put a parent of the same name elsewhere, or of a longer one, is asked for all the same.
-    Case {
-        standing: LINKED,
-        into: Some("dir"),
-        calls: &[
-            Makes("d"),
-            Makes("d/up"),
-            Refuses("directory/up/x"),
-            Makes("to"),
-            Refuses("to_directory/x"),
-            Writes("to/f", "old"),
-            Refuses("to/f/x"),
-            Makes("directory/d/d"),
-            Refuses("to_directory/d/d/x"),
-            Writes("directory/d/d/x", "new"),
-        ],
-        put: &[
-            ("dir/d", Directory),
-            ("dir/d/up", Directory),
-            ("dir/to", Directory),
-            ("dir/to/f", File("old")),
-            ("dir/directory/d/d", Directory),
-            ("dir/directory/d/d/x", File("new")),
-        ],
-    },
+    LINKED, Some("dir"), &[Makes("d"), Makes("d/up"), Refuses("directory/up/x"), Makes("to"), Refuses("to_directory/x"), Writes("to/f", "old"),
+        Refuses("to/f/x"), Makes("directory/d/d"), Refuses("to_directory/d/d/x"), Writes("directory/d/d/x", "new")],
+        &[("dir/d", Directory), ("dir/d/up", Directory), ("dir/to", Directory), ("dir/to/f", File("old")), ("dir/directory/d/d", Directory),
+        ("dir/directory/d/d/x", File("new"))];
     // Nothing leaves the directory.
-    Case {
-        standing: OUTSIDE,
-        into: Some("dir"),
-        calls: &[
-            Refuses(""),
-            Refuses("."),
-            Refuses(".."),
-            Refuses("/"),
-            Refuses("/x"),
-            Refuses("../x"),
-            Refuses("./x"),
-            Refuses("x/"),
-            Refuses("x//y"),
-            Refuses("d/../../x"),
-            Refuses("x\0y"),
-            Refuses("link"),
-            Refuses("link/x"),
-            Refuses("link/../x"),
-            Refuses("dangling"),
-            Refuses("dangling/x"),
-        ],
-        put: &[],
-    },
+    OUTSIDE, Some("dir"), &[Refuses(""), Refuses("."), Refuses(".."), Refuses("/"), Refuses("/x"), Refuses("../x"), Refuses("./x"), Refuses("x/"),
+        Refuses("x//y"), Refuses("d/../../x"), Refuses("x\0y"), Refuses("link"), Refuses("link/x"), Refuses("link/../x"), Refuses("dangling"),
+        Refuses("dangling/x")], &[];
     // With an empty path the name would stand at the system's root.
-    Case {
-        standing: NO_DIRECTORY,
-        into: None,
-        calls: &[Refuses("apfs-folder-cases")],
-        put: &[],
-    },
-    Case {
-        standing: NO_DIRECTORY,
-        into: Some("file"),
-        calls: &[Refuses("x")],
-        put: &[],
-    },
-    Case {
-        standing: NO_DIRECTORY,
-        into: Some("link"),
-        calls: &[Refuses("x")],
-        put: &[],
-    },
-    Case {
-        standing: NO_DIRECTORY,
-        into: Some("missing"),
-        calls: &[Refuses("x")],
-        put: &[],
-    },
+    NO_DIRECTORY, None, &[Refuses("apfs-folder-cases")], &[];
+    NO_DIRECTORY, Some("file"), &[Refuses("x")], &[];
+    NO_DIRECTORY, Some("link"), &[Refuses("x")], &[];
+    NO_DIRECTORY, Some("missing"), &[Refuses("x")], &[];
     // The directory may be reached over a link, and its path may end with a slash.
-    Case {
-        standing: REACHED,
-        into: Some("to_dir"),
-        calls: &[Makes("x")],
-        put: &[("dir/x", Directory)],
-    },
-    Case {
-        standing: REACHED,
-        into: Some("dir/"),
-        calls: &[Makes("x")],
-        put: &[("dir/x", Directory)],
-    },
-];
+    REACHED, Some("to_dir"), &[Makes("x")], &[("dir/x", Directory)];
+    REACHED, Some("dir/"), &[Makes("x")], &[("dir/x", Directory)];
+};
 
 // What is wrong with a case: a call that doesn't go as it has to, a call after which other files are open, files that are open at
 // the end, a row that doesn't stand, or the number of entries.
@@ -353,13 +237,14 @@ fn dir_of(alloc: Global, top: &str, into: Option<&str>) -> Result<String, AllocE
 
 // Fills the folder of a case. Afterwards all that stood and all that was put is there, and no other entry.
 fn run(rt: &HostRuntime, top: &str, case: &Case) -> Result<(), Fail> {
+    let (standing, into, calls, put) = *case;
     fs::create_dir(rt, top)?;
-    place_all(rt, top, case.standing)?;
-    fill(rt, dir_of(rt.alloc(), top, case.into)?, case.calls)?;
+    place_all(rt, top, standing)?;
+    fill(rt, dir_of(rt.alloc(), top, into)?, calls)?;
     let found = entries(rt, top)?
-        .saturating_add(entries_in(rt, top, case.standing)?)
-        .saturating_add(entries_in(rt, top, case.put)?);
-    if found != case.standing.len().saturating_add(case.put.len()) {
+        .saturating_add(entries_in(rt, top, standing)?)
+        .saturating_add(entries_in(rt, top, put)?);
+    if found != standing.len().saturating_add(put.len()) {
         return Err(Wrong::Entries(found))?;
     }
     fs::remove_dir_all(rt, top)?;

@@ -1,11 +1,13 @@
 // Made containers, and changes of them.
 ghost use Rattle.std.specs.Prelude.{◌≡◌, ◌*◌, ◌%◌, ◌≤◌, IfOk, vec_len};
 
+use crate::places::ROOT_OID;
 use crate::{
-    Groups, NewRange, Plan, QueueEntry, Sample, edit, free, make, make_grouped, mark, reseal_block,
-    sample, write,
+    Groups, Item, Leaf, NewRange, Plan, QueueEntry, Sample, edit, free, make, make_grouped, mark,
+    pack, reseal_block, sample, write,
 };
 use apfs_layout::node::{COUNT, INFO_LEN, KEY_COUNT, TABLE, TABLE_LENGTH};
+use fs_name::Names;
 use std::alloc::Global;
 use std::test::Fail;
 
@@ -139,16 +141,54 @@ fn put_all(image: &mut [u8], changes: &[Change]) -> Result<(), Fail> {
     Ok(())
 }
 
+/// The bytes of the image of a plan, which has to be valid.
+pub fn made(alloc: Global, plan: &Plan) -> Result<Vec<u8>, Fail>
+    ensures in_blocks { IfOk result (λ image. vec_len image % 4096 ≡ 0) }
+    ensures enough { IfOk result (λ image. 4096 * 51 ≤ vec_len image) }
+{
+    if !plan.valid() {
+        return Err(Fail::from("the plan isn't valid"));
+    }
+    Ok(make(alloc, plan)?)
+}
+
+// Gives the first volume of a plan other leaves, and says how it compares names. A leaf that stands alone is the root.
+fn put_leaves(plan: &mut Plan, names: Names, mut leaves: Vec<Leaf>) {
+    if leaves.len() == 1 {
+        leaves[0].oid = ROOT_OID;
+    }
+    if let Some(volume) = plan.volumes.first_mut() {
+        volume.names = names;
+        if let Some(version) = volume.versions.first_mut() {
+            version.leaves = leaves;
+        }
+    }
+}
+
+// The id of the first of several leaves.
+const FIRST_LEAF: u64 = 1031;
+
+/// The bytes of the image of a sample whose first volume compares names so, and has these records of files in place of its own.
+pub fn image_with(
+    alloc: Global,
+    which: Sample,
+    names: Names,
+    items: Vec<Item>,
+) -> Result<Vec<u8>, Fail>
+    ensures in_blocks { IfOk result (λ image. vec_len image % 4096 ≡ 0) }
+    ensures enough { IfOk result (λ image. 4096 * 51 ≤ vec_len image) }
+{
+    let mut plan = sample(alloc, which)?;
+    put_leaves(&mut plan, names, pack(alloc, items, FIRST_LEAF)?);
+    made(alloc, &plan)
+}
+
 /// The bytes of an image, changed.
 pub fn image(alloc: Global, base: &Base, changes: &[Change]) -> Result<Vec<u8>, Fail>
     ensures in_blocks { IfOk result (λ image. vec_len image % 4096 ≡ 0) }
     ensures enough { IfOk result (λ image. 4096 * 51 ≤ vec_len image) }
 {
-    let plan = plan_of(alloc, base)?;
-    if !plan.valid() {
-        return Err(Fail::from("the plan isn't valid"));
-    }
-    let mut image = make(alloc, &plan)?;
+    let mut image = made(alloc, &plan_of(alloc, base)?)?;
     put_all(&mut image, changes)?;
     Ok(image)
 }

@@ -11,7 +11,7 @@ mod objects;
 
 pub use checkpoints::{ring_of_four, skipped_checkpoint};
 pub use geometry::Groups;
-pub use images::{Base, Change, Ranges, Record, SMALL, grouped, image};
+pub use images::{Base, Change, Ranges, Record, SMALL, grouped, image, image_with, made};
 pub use img_edit::{
     edit, free, mark, places, put_bytes, put_u16, put_u32, put_u64, reseal, reseal_block, write,
 };
@@ -20,3 +20,11 @@ pub use img_plan::{
     records, sample,
 };
 pub use making::{make, make_grouped, make_with};
+
+/// A table of tuples: a row is the parts of one, and ends with a semicolon.
+#[macro_export]
+macro_rules! table {
+    ($($($part:expr),+;)*) => {
+        &[$(($($part),+)),*]
+    };
+}

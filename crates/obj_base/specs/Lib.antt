@@ -4,6 +4,7 @@ pub mod Sound
 pub mod SoundObject
 pub mod Features
 pub mod Stops
+pub mod Raising
 pub mod Words
 pub use Rattle.apfs_model.specs.Counts
 pub use Rattle.apfs_model.specs.Bytes

@@ -1,7 +1,8 @@
 // Why a call stops, and the features that are refused.
-ghost use Rattle.std.specs.Prelude.{◌≡◌};
+ghost use Rattle.std.specs.Prelude.{◌≡◌, ⊤};
 ghost use Rattle.obj_base.specs.Features.{feature_name};
-ghost use Rattle.obj_base.specs.Stops.{in_block};
+ghost use Rattle.obj_base.specs.Stops.{Tells, in_block};
+ghost use Rattle.obj_base.specs.Raising.{IsRaisedBy};
 ghost use Rattle.obj_base.specs.declared.stop.Stop.TheVariants.{ReadFault, NoMemory};
 
 use apfs_model::{NoMemory as OutOfMemory, ReadFailed};
@@ -124,6 +125,21 @@ impl<F> Bad<F> {
         match self {
             Bad::Found(why) => Stop::Found(Unsound { block, why }),
             Bad::Unsupported(feature) => Stop::Unsupported { feature, block },
+        }
+    }
+}
+
+impl<F> Stop<F> {
+    /// The same stop, its fault told in other words.
+    pub fn map<G, M: FnOnce(F) -> G>(self, say: M) -> Stop<G>
+        requires { Tells (M.pre say) (λ _ _. ⊤) self }
+        ensures { IsRaisedBy (M.post say) self result }
+    {
+        match self {
+            Stop::Found(fault) => Stop::Found(say(fault)),
+            Stop::Unsupported { feature, block } => Stop::Unsupported { feature, block },
+            Stop::ReadFault => Stop::ReadFault,
+            Stop::NoMemory => Stop::NoMemory,
         }
     }
 }

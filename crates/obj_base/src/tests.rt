@@ -87,6 +87,8 @@ fn causes_are_carried(rt: HostRuntime) {
                 block: 7
             }
     );
+    let raised = Stop::Found(HeadFault::BadSum).map(Bad::Found);
+    assert!(rt; raised == Stop::Found(Bad::Found(HeadFault::BadSum)));
     assert_eq!(rt; Feature::LaterTree.name(), "LaterTree");
     assert!(rt; is_accepted(4096) && !is_accepted(4097));
 }

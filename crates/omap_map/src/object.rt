@@ -53,12 +53,7 @@ fn is_pending(bytes: &[u8]) -> bool
 fn raise(stop: Stop<Unsound<HeadFault>>) -> Stop<OmapFault>
     ensures { result ≡ raised head_fault stop }
 {
-    match stop {
-        Stop::Found(Unsound { block, why }) => Stop::Found(OmapFault::Head { block, why }),
-        Stop::Unsupported { feature, block } => Stop::Unsupported { feature, block },
-        Stop::ReadFault => Stop::ReadFault,
-        Stop::NoMemory => Stop::NoMemory,
-    }
+    stop.map(|Unsound { block, why }| OmapFault::Head { block, why })
 }
 
 /// The bytes of the map in a block, or the first test of its object that fails.

@@ -25,13 +25,10 @@ fn raise(root: u64, stop: Stop<GatherFault>) -> Stop<OmapFault>
     requires { RefusesOne (λ _. false) stop }
     ensures { SaysOfMap root stop result }
 {
-    match stop {
-        Stop::Found(GatherFault::Tree(why)) => Stop::Found(OmapFault::Tree { root, why }),
-        Stop::Found(GatherFault::Refused { item: _ }) => unreachable!(),
-        Stop::Unsupported { feature, block } => Stop::Unsupported { feature, block },
-        Stop::ReadFault => Stop::ReadFault,
-        Stop::NoMemory => Stop::NoMemory,
-    }
+    stop.map(|fault| match fault {
+        GatherFault::Tree(why) => OmapFault::Tree { root, why },
+        GatherFault::Refused { item: _ } => unreachable!(),
+    })
 }
 
 /// The records of the tree of a root, where it is whole.

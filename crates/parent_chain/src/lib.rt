@@ -5,4 +5,4 @@ mod climbs;
 mod unreached;
 mod ways;
 
-pub use unreached::first_unreached;
+pub use unreached::{do_ids_rise, first_unreached};

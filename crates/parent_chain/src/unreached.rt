@@ -32,8 +32,8 @@ fn is_unreached(ways: &mut Ways, number: usize, f: &InodeFact) -> bool
     !leads
 }
 
-// Whether each of some inodes has a greater id than the one before it.
-fn do_rise(inodes: &[InodeFact]) -> bool
+/// Whether each of some inodes has a greater id than the one before it.
+pub fn do_ids_rise(inodes: &[InodeFact]) -> bool
     ensures { result ≡ true → Rise inodes.now }
 {
     for i in 1..inodes.len() {
@@ -48,7 +48,7 @@ fn do_rise(inodes: &[InodeFact]) -> bool
 fn do_directories_lead(alloc: Global, facts: &Facts) -> Result<bool, NoMemory>
     ensures { IfOk result (λ lead. lead ≡ true → spec.HasWays facts.now) }
 {
-    if !do_rise(&facts.inodes) {
+    if !do_ids_rise(&facts.inodes) {
         return Ok(false);
     }
     let mut ways = Ways::of_directories(alloc, &facts.inodes)?;

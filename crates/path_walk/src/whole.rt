@@ -30,24 +30,14 @@ pub fn raise(view: &View, stop: Stop<WalkFault>) -> Stop<PathStop>
     ensures raised { result ≡ raised (of_walk view.now) stop }
     ensures unanswered { IsNoAnswer result }
 {
-    match stop {
-        Stop::Found(why) => Stop::Found(PathStop::Fault(fault_of(view, why))),
-        Stop::Unsupported { feature, block } => Stop::Unsupported { feature, block },
-        Stop::ReadFault => Stop::ReadFault,
-        Stop::NoMemory => Stop::NoMemory,
-    }
+    stop.map(|why| PathStop::Fault(fault_of(view, why)))
 }
 
 // Why the records of a view can't all be read, said of a path.
 fn of_path(stop: Stop<TreeFault>) -> Stop<PathStop>
     ensures { result ≡ raised stops.Fault stop }
 {
-    match stop {
-        Stop::Found(fault) => Stop::Found(PathStop::Fault(fault)),
-        Stop::Unsupported { feature, block } => Stop::Unsupported { feature, block },
-        Stop::ReadFault => Stop::ReadFault,
-        Stop::NoMemory => Stop::NoMemory,
-    }
+    stop.map(PathStop::Fault)
 }
 
 // The entries and the inodes of some facts.

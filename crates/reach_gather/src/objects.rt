@@ -18,15 +18,10 @@ use reach_rules::{ReachFault, Why};
 pub(crate) fn raise(stop: Stop<Unsound<HeadFault>>) -> Stop<ReachFault>
     ensures { result ≡ raised unsound stop }
 {
-    match stop {
-        Stop::Found(Unsound { block, why }) => Stop::Found(ReachFault::Unsound {
-            block,
-            why: Why::Node(NodeFault::Head(why)),
-        }),
-        Stop::Unsupported { feature, block } => Stop::Unsupported { feature, block },
-        Stop::ReadFault => Stop::ReadFault,
-        Stop::NoMemory => Stop::NoMemory,
-    }
+    stop.map(|Unsound { block, why }| ReachFault::Unsound {
+        block,
+        why: Why::Node(NodeFault::Head(why)),
+    })
 }
 
 /// An object that a checkpoint maps.

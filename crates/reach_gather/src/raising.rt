@@ -46,12 +46,7 @@ fn extents_fault(cp: &Checkpoint, root: u64, fault: ExtStop) -> ReachFault
 pub(crate) fn raise_extents(cp: &Checkpoint, root: u64, stop: Stop<ExtStop>) -> Stop<ReachFault>
     ensures { result ≡ raised (of_extents cp.now root) stop }
 {
-    match stop {
-        Stop::Found(fault) => Stop::Found(extents_fault(cp, root, fault)),
-        Stop::Unsupported { feature, block } => Stop::Unsupported { feature, block },
-        Stop::ReadFault => Stop::ReadFault,
-        Stop::NoMemory => Stop::NoMemory,
-    }
+    stop.map(|fault| extents_fault(cp, root, fault))
 }
 
 // A fault of the pool's bitmap or of a free queue, said of the account.
@@ -74,10 +69,5 @@ fn pool_fault(cp: &Checkpoint, fault: PoolFault) -> ReachFault
 pub fn raise_pool(cp: &Checkpoint, stop: Stop<PoolFault>) -> Stop<ReachFault>
     ensures { result ≡ raised (of_pool cp.now) stop }
 {
-    match stop {
-        Stop::Found(fault) => Stop::Found(pool_fault(cp, fault)),
-        Stop::Unsupported { feature, block } => Stop::Unsupported { feature, block },
-        Stop::ReadFault => Stop::ReadFault,
-        Stop::NoMemory => Stop::NoMemory,
-    }
+    stop.map(|fault| pool_fault(cp, fault))
 }

@@ -50,12 +50,7 @@ fn space_fault(cp: &Checkpoint, fault: SpaceFault) -> ReachFault
 fn raise_space(cp: &Checkpoint, stop: Stop<SpaceFault>) -> Stop<ReachFault>
     ensures { result ≡ raised (of_space cp.now) stop }
 {
-    match stop {
-        Stop::Found(fault) => Stop::Found(space_fault(cp, fault)),
-        Stop::Unsupported { feature, block } => Stop::Unsupported { feature, block },
-        Stop::ReadFault => Stop::ReadFault,
-        Stop::NoMemory => Stop::NoMemory,
-    }
+    stop.map(|fault| space_fault(cp, fault))
 }
 
 /// The space of a checkpoint's container.
@@ -95,12 +90,7 @@ fn map_fault(cp: &Checkpoint, fault: OmapFault) -> ReachFault
 fn raise_map(cp: &Checkpoint, stop: Stop<OmapFault>) -> Stop<ReachFault>
     ensures { result ≡ raised (of_map cp.now) stop }
 {
-    match stop {
-        Stop::Found(fault) => Stop::Found(map_fault(cp, fault)),
-        Stop::Unsupported { feature, block } => Stop::Unsupported { feature, block },
-        Stop::ReadFault => Stop::ReadFault,
-        Stop::NoMemory => Stop::NoMemory,
-    }
+    stop.map(|fault| map_fault(cp, fault))
 }
 
 /// The object map of a checkpoint's container, which is right (`IsMapPart`).

@@ -9,6 +9,7 @@ pub mod Known
 pub mod Law
 pub mod Right
 pub mod Looks
+pub mod Among
 pub mod Appended
 pub mod Tested
 pub mod Examples

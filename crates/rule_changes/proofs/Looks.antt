@@ -5,7 +5,7 @@ use Rattle.std.specs.List.{find, list_any}
 use Rattle.std.specs.List.Sorted.{IsPartitionPoint}
 use Rattle.std.proofs.lemmas.Bool.Decides.{nat_tests}
 use Rattle.apfs_model.specs.Lists.{In, passes}
-use Rattle.apfs_model.proofs.BoolTests.{test_or, equal-from, from-equal, left-true, right-true, both-true}
+use Rattle.apfs_model.proofs.BoolTests.{test_or, clash, never-true, equal-from, from-equal, left-true, right-true, both-true}
 use Rattle.fs_record.specs.Facts.{Fact}
 use Rattle.fs_name.specs.Text.{is_ascii_name}
 use Rattle.fs_name.specs.Normal.{are_hashed}
@@ -104,6 +104,14 @@ count-kept p q r xs kept most =
     let b = count-more r (λ x. q x && p x) kept xs in
     let c = count-more (λ x. q x && p x) p (λ x e. right-true (q x) (p x) e) xs in
     omega arith
+
+-- where all that pass are kept, some of those that are kept passes if some of all does
+pub any-kept : {X : Type 0} (p q : X → Bool) → ((x : X) → p x ≡ true → q x ≡ true) → (xs : List X) → list_any p (filter q xs) ≡ list_any p xs
+any-kept p q kept [] = refl
+any-kept {X} p q kept (x ∷ xs) = elim (test_or (q x)) as (λ _. list_any p (filter q (x ∷ xs)) ≡ list_any p (x ∷ xs)) [
+  | inl good ↦ ap (list_any p) (filter-yes q x xs good) ∙ ap (λ b. p x || b) (any-kept p q kept xs)
+  | inr bad ↦ ap (list_any p) (filter-no q x xs bad) ∙ (any-kept p q kept xs ∙ ap (λ b. b || list_any p xs) (sym (never-true (p x) (λ t. clash (q x) (kept x t) bad))))
+]
 
 -- nothing is found, so nothing passes
 none-found : {X : Type 0} (p : X → Bool) (xs : List X) → find p xs ≡ None → list_any p xs ≡ false

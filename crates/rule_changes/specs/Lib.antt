@@ -3,3 +3,4 @@ pub mod Laws
 pub mod Known
 pub mod Lookups
 pub mod Parts
+pub mod Fellows

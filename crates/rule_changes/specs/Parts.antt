@@ -15,8 +15,7 @@ use Rattle.view_rules.specs.Counts.{has_other_children, has_other_links}
 use Rattle.view_rules.specs.Siblings.{is_unmarked}
 use Rattle.view_rules.specs.Extents.{is_disordered, is_misplaced, is_uncovered}
 use Rattle.view_rules.specs.Inodes.{lacks_target, has_large_stream, has_large_body, lacks_owner}
-use Rattle.rule_changes.specs.Changes.{IsUnused, HasDistinctInodes, IsClearWhere, is_renamed, is_refilled, is_stripped, is_rewritten, has_double, stands_as_in}
-use Rattle.rule_changes.specs.Known.{HasNoSiblings}
+use Rattle.rule_changes.specs.Changes.{IsUnused, HasDistinctInodes, IsClearWhere, is_renamed, is_refilled, is_stripped, is_rewritten, has_double, stands_as_in, KeepsFellows}
 
 -- an entry's name is there once in its directory, where the hashes of ASCII names are right
 abbrev pub IsAlone : Facts → Fact Entry → Type 0
@@ -38,10 +37,9 @@ pub record AreEntriesRight (after come : Facts) : Type 0 where
   pub kinds : IsClear (has_other_kind after) come.entries
   pub marks : IsClear (is_unmarked after) come.entries
 
--- of names of entries, and of attributes; nothing of siblings is gone or has come
+-- of names of entries, of siblings, and of attributes
 pub record AreNamesRight (after gone come : Facts) : Type 0 where
-  pub old_siblings : HasNoSiblings gone
-  pub new_siblings : HasNoSiblings come
+  pub fellows : KeepsFellows after gone come
   pub entries : (e : Fact Entry) → In e come.entries → IsAlone after e
   pub attributes : IsClear (is_attribute_repeated after) come.attributes
   pub owners : IsClear (lacks_owner after) come.attributes

@@ -3,10 +3,12 @@
 
 mod entries;
 mod extents;
+mod found;
 mod lookups;
 mod plain;
 mod removed;
 mod repeats;
+mod shared;
 mod siblings;
 mod touched;
 mod ways;

@@ -3,12 +3,12 @@ ghost use Rattle.std.specs.Prelude.{◌≡◌, ◌==◌, filter, find, IfSome};
 ghost use Rattle.std.specs.Option.{option_copied};
 ghost use Rattle.std.specs.List.Sorted.{IsNonDecreasingBy};
 ghost use Rattle.rule_changes.specs.Changes.{is_of};
-ghost use Rattle.rule_changes.specs.Lookups.{hash_rank};
+ghost use Rattle.rule_changes.specs.Lookups.{hash_rank, is_file_link};
 
 use id_lists::{NO_GUESS, OrderBy, are_in_order, below, up_to};
 use rule_index::Index;
 use std::marker::{Model, PhantomData};
-use view_facts::{AttributeFact, EntryFact, ExtentFact, InodeFact};
+use view_facts::{AttributeFact, EntryFact, ExtentFact, InodeFact, LinkFact, SiblingFact};
 
 /// By the id of the inode.
 pub(crate) struct ByInode;
@@ -60,6 +60,34 @@ impl OrderBy<AttributeFact> for ByFile {
 
     fn id(a: &AttributeFact) -> u64 {
         a.id()
+    }
+}
+
+/// By the file of the link.
+pub(crate) struct ByLinkedFile;
+
+impl OrderBy<LinkFact> for ByLinkedFile {
+    ghost use Rattle.fs_record.specs.Facts.{Fact};
+    ghost use Rattle.fs_record.specs.Siblings.{Link};
+
+    ghost id = { λ (l : Fact Link). l.what.file };
+
+    fn id(l: &LinkFact) -> u64 {
+        l.file()
+    }
+}
+
+/// By the sibling of the map.
+pub(crate) struct BySibling;
+
+impl OrderBy<SiblingFact> for BySibling {
+    ghost use Rattle.std.specs.Prelude.{ℕ};
+    ghost use Rattle.fs_record.specs.Facts.{Fact};
+
+    ghost id = { λ (m : Fact ℕ). m.id };
+
+    fn id(m: &SiblingFact) -> u64 {
+        m.id()
     }
 }
 
@@ -151,11 +179,15 @@ pub(crate) struct After<'a> {
     directories: Ordered<'a, EntryFact, ByDirectory>,
     hashes: Ordered<'a, EntryFact, ByHash>,
     attributes: Ordered<'a, AttributeFact, ByFile>,
+    links: Ordered<'a, LinkFact, ByLinkedFile>,
+    maps: Ordered<'a, SiblingFact, BySibling>,
     extents: Ordered<'a, ExtentFact, ByStream>,
     ghost inodes_right: { inodes ≡ index.now.facts.now.inodes },
     ghost directories_right: { directories ≡ index.now.facts.now.entries },
     ghost hashes_right: { hashes ≡ index.now.facts.now.entries },
     ghost attributes_right: { attributes ≡ index.now.facts.now.attributes },
+    ghost links_right: { links ≡ index.now.facts.now.links },
+    ghost maps_right: { maps ≡ index.now.facts.now.siblings },
     ghost extents_right: { extents ≡ index.now.facts.now.extents },
 }
 
@@ -171,6 +203,8 @@ impl<'a> After<'a> {
             directories: Ordered::of(&facts.entries)?,
             hashes: Ordered::of(&facts.entries)?,
             attributes: Ordered::of(&facts.attributes)?,
+            links: Ordered::of(&facts.links)?,
+            maps: Ordered::of(&facts.siblings)?,
             extents: Ordered::of(&facts.extents)?,
         })
     }
@@ -201,6 +235,20 @@ impl<'a> After<'a> {
         ensures { result.now ≡ filter (is_of file) self.now.index.now.facts.now.attributes }
     {
         self.attributes.run(file)
+    }
+
+    /// The links of a file.
+    pub(crate) fn links_of(&self, file: u64) -> &'a [LinkFact]
+        ensures { result.now ≡ filter (is_file_link file) self.now.index.now.facts.now.links }
+    {
+        self.links.run(file)
+    }
+
+    /// The maps of a sibling.
+    pub(crate) fn maps_of(&self, sibling: u64) -> &'a [SiblingFact]
+        ensures { result.now ≡ filter (is_of sibling) self.now.index.now.facts.now.siblings }
+    {
+        self.maps.run(sibling)
     }
 
     /// The extents of a stream.

@@ -17,7 +17,8 @@ use crate::extents::are_streams_right;
 use crate::lookups::After;
 use crate::removed::are_let_go;
 use crate::repeats::{are_attributes_alone, are_entries_alone};
-use crate::siblings::are_none;
+use crate::shared::are_still_shared;
+use crate::siblings::are_fellows_right;
 use crate::touched::{
     Children, DirectoryNames, Links, Named, Targets, do_refilled_keep, do_renamed_keep,
     do_stripped_keep,
@@ -41,14 +42,11 @@ fn lack_owners(index: &Index<'_>, come: &Facts) -> bool
     come.attributes.iter().any(|a| lacks_owner(index, a))
 }
 
-// Whether names and attributes that have come are as they must be, and nothing of siblings is gone or has come.
+// Whether names, siblings and attributes that are gone or have come are as they must be.
 fn are_names_right(after: &After<'_>, gone: &Facts, come: &Facts) -> bool
     ensures { IsTrue result → AreNamesRight after.now.index.now.facts.now gone.now come.now }
 {
-    if !are_none(gone) {
-        return false;
-    }
-    if !are_none(come) {
+    if !are_fellows_right(after, gone, come) {
         return false;
     }
     if !are_entries_alone(after, come) {
@@ -97,8 +95,8 @@ fn are_hashes_right(
     }
 }
 
-/// Whether it shows that a change is plain, by what is gone, what has come, and an index of the facts after. Where it doesn't, the change may be plain and may not be. Where siblings are gone or have
-/// come it never shows. `cover` is that of the new ranges.
+/// Whether it shows that a change is plain, by what is gone, what has come, and an index of the facts after. Where it doesn't, the change may be plain and may not be. `cover` is that
+/// of the new ranges.
 ///
 /// # Errors
 ///
@@ -129,6 +127,10 @@ pub fn is_plain(
         return Ok(false);
     }
     if !are_inodes_right(&after, gone, come) {
+        return Ok(false);
+    }
+    let shared = are_still_shared(alloc, index, gone, come)?;
+    if !shared {
         return Ok(false);
     }
     Ok(are_streams_right(asked, cover, &after, gone, come))

@@ -100,8 +100,8 @@ fn is_entry_of(e: &EntryFact, file: u64, sibling: u64) -> bool
     }
 }
 
-// Whether an entry and a link go together.
-fn go_together(e: &EntryFact, l: &LinkFact) -> bool
+/// Whether an entry and a link go together.
+pub fn go_together(e: &EntryFact, l: &LinkFact) -> bool
     ensures { result ≡ spec.go_together e.now l.now }
 {
     is_entry_of(e, l.file(), l.sibling()) && e.id() == l.parent() && e.name() == l.name()

@@ -30,12 +30,7 @@ use std::alloc::Global;
 pub(crate) fn raise(stop: Stop<Unsound<HeadFault>>) -> Stop<SpaceFault>
     ensures { result ≡ raised unsound stop }
 {
-    match stop {
-        Stop::Found(Unsound { block, why }) => Stop::Found(SpaceFault::Unsound { block, why }),
-        Stop::Unsupported { feature, block } => Stop::Unsupported { feature, block },
-        Stop::ReadFault => Stop::ReadFault,
-        Stop::NoMemory => Stop::NoMemory,
-    }
+    stop.map(|Unsound { block, why }| SpaceFault::Unsound { block, why })
 }
 
 // Whether a block that tells of chunks has this index and this count.

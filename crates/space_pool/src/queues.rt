@@ -5,7 +5,7 @@ ghost use Rattle.apfs_model.specs.Blocks.{is_within};
 ghost use Rattle.apfs_model.specs.Counts.{Rose};
 ghost use Rattle.apfs_model.specs.Kept.{IsKept};
 ghost use Rattle.obj_base.specs.Stops.{Tells, IsFree, raised};
-ghost use Rattle.obj_base.specs.declared.stop.Stop.TheVariants.{ReadFault, NoMemory};
+ghost use Rattle.obj_base.specs.declared.stop.Stop.TheVariants.{ReadFault};
 ghost use Rattle.obj_base.specs.Site.{IsSiteFor};
 ghost use Rattle.bt_cursor.specs.Faults.{HasFeature};
 ghost use Rattle.nx_ring.specs.Checkpoint.{site_of};
@@ -29,19 +29,11 @@ use std::alloc::Global;
 fn raise(block: u64, stop: Stop<GatherFault>) -> Stop<PoolFault>
     ensures { result ≡ raised (said block) stop }
 {
-    match stop {
-        Stop::Found(GatherFault::Tree(WalkFault::Unnamed { oid })) => Stop::Found(
-            PoolFault::Unnamed { oid },
-        ),
-        Stop::Found(GatherFault::Tree(why)) => Stop::Found(PoolFault::Walk { root: block, why }),
-        Stop::Found(GatherFault::Refused { item }) => Stop::Found(PoolFault::Value {
-            root: block,
-            item,
-        }),
-        Stop::Unsupported { feature, block } => Stop::Unsupported { feature, block },
-        Stop::ReadFault => Stop::ReadFault,
-        Stop::NoMemory => Stop::NoMemory,
-    }
+    stop.map(|fault| match fault {
+        GatherFault::Tree(WalkFault::Unnamed { oid }) => PoolFault::Unnamed { oid },
+        GatherFault::Tree(why) => PoolFault::Walk { root: block, why },
+        GatherFault::Refused { item } => PoolFault::Value { root: block, item },
+    })
 }
 
 // The entries and the steps of the tree of a root, whose block is handed in.

@@ -1,5 +1,6 @@
 // The cases, in tables.
 mod cases;
+mod changes;
 mod facts;
 mod opened;
 mod trees;

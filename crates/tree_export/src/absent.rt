@@ -26,13 +26,10 @@ use vol_view::{View, Volume};
 fn raise(id: u64, stop: Stop<GatherFault>) -> Stop<ExportFault>
     ensures { result ≡ gather_raised id stop }
 {
-    match stop {
-        Stop::Found(GatherFault::Tree(why)) => Stop::Found(ExportFault::Walk { id, why }),
-        Stop::Found(GatherFault::Refused { item: _ }) => Stop::Found(ExportFault::NoInode { id }),
-        Stop::Unsupported { feature, block } => Stop::Unsupported { feature, block },
-        Stop::ReadFault => Stop::ReadFault,
-        Stop::NoMemory => Stop::NoMemory,
-    }
+    stop.map(|fault| match fault {
+        GatherFault::Tree(why) => ExportFault::Walk { id, why },
+        GatherFault::Refused { item: _ } => ExportFault::NoInode { id },
+    })
 }
 
 /// Why a search has found no record of the inode of an id: the tree isn't whole, or there is none.

@@ -30,12 +30,7 @@ use vol_view::{View, Volume};
 fn raise(id: u64, stop: Stop<WalkFault>) -> Stop<ExportFault>
     ensures { result ≡ raised (stops.Walk id) stop }
 {
-    match stop {
-        Stop::Found(why) => Stop::Found(ExportFault::Walk { id, why }),
-        Stop::Unsupported { feature, block } => Stop::Unsupported { feature, block },
-        Stop::ReadFault => Stop::ReadFault,
-        Stop::NoMemory => Stop::NoMemory,
-    }
+    stop.map(|why| ExportFault::Walk { id, why })
 }
 
 // What is found of the inode of an id, by the keys of the view's tree.

@@ -44,12 +44,7 @@ pub(crate) enum Put {
 fn raise(id: u64, stop: Stop<StreamStop>) -> Stop<ExportFault>
     ensures { result ≡ raised (faults.Stream id) stop }
 {
-    match stop {
-        Stop::Found(why) => Stop::Found(ExportFault::Stream { id, why }),
-        Stop::Unsupported { feature, block } => Stop::Unsupported { feature, block },
-        Stop::ReadFault => Stop::ReadFault,
-        Stop::NoMemory => Stop::NoMemory,
-    }
+    stop.map(|why| ExportFault::Stream { id, why })
 }
 
 // Puts a file with the bytes of a stream, of the item of an id. The stream is opened before the file is there.

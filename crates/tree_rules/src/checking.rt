@@ -50,7 +50,7 @@ pub fn check_view<S: BlockSource>(
         ranges,
         profile,
     };
-    match tally_of(alloc, &asked, &gathered) {
+    match tally_of(alloc, &asked, &gathered.facts, gathered.records) {
         Ok(tally) => Ok(tally),
         Err(stop) => Err(stop),
     }

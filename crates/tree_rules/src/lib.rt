@@ -5,6 +5,7 @@ mod checking;
 mod faults;
 mod gathered;
 mod listing;
+mod next;
 mod notes;
 mod remarks;
 mod tallies;
@@ -12,6 +13,7 @@ mod with_extents;
 
 pub use checking::check_view;
 pub use listing::view_extents;
+pub use next::{CheckedNext, check_next};
 pub use notes::Note;
 pub use tallies::{CheckedView, ViewTally};
 pub use view_rules::Profile;

@@ -53,7 +53,7 @@ pub fn check_with_extents<S: BlockSource>(
         ranges,
         profile,
     };
-    let tally = match tally_of(alloc, &asked, &gathered) {
+    let tally = match tally_of(alloc, &asked, &gathered.facts, gathered.records) {
         Ok(tally) => tally,
         Err(stop) => return Err(stop),
     };

@@ -156,26 +156,20 @@ fn add_extents(held: &mut Pieces, site: &Site, extents: &[FileExt]) -> Result<bo
 fn of_files(xid: u64, stop: Stop<GatherFault>) -> Stop<UseFault>
     ensures { result ≡ raised (of_gather xid) stop }
 {
-    match stop {
-        Stop::Found(GatherFault::Tree(why)) => Stop::Found(UseFault::Walk { xid, why }),
-        Stop::Found(GatherFault::Refused { item }) => Stop::Found(UseFault::Value { xid, item }),
-        Stop::Unsupported { feature, block } => Stop::Unsupported { feature, block },
-        Stop::ReadFault => Stop::ReadFault,
-        Stop::NoMemory => Stop::NoMemory,
-    }
+    stop.map(|fault| match fault {
+        GatherFault::Tree(why) => UseFault::Walk { xid, why },
+        GatherFault::Refused { item } => UseFault::Value { xid, item },
+    })
 }
 
 // Why a view's extent references can't be gone through, said of the view.
 fn of_references(xid: u64, stop: Stop<ExtStop>) -> Stop<UseFault>
     ensures { result ≡ raised (of_extents xid) stop }
 {
-    match stop {
-        Stop::Found(ExtStop::Walk(why)) => Stop::Found(UseFault::Walk { xid, why }),
-        Stop::Found(ExtStop::Value { item }) => Stop::Found(UseFault::Value { xid, item }),
-        Stop::Unsupported { feature, block } => Stop::Unsupported { feature, block },
-        Stop::ReadFault => Stop::ReadFault,
-        Stop::NoMemory => Stop::NoMemory,
-    }
+    stop.map(|fault| match fault {
+        ExtStop::Walk(why) => UseFault::Walk { xid, why },
+        ExtStop::Value { item } => UseFault::Value { xid, item },
+    })
 }
 
 // Adds the nodes of a view's files, and the blocks of its extents.

@@ -4,3 +4,4 @@ mod Passes
 mod Joined
 mod Underway
 mod EndsRead
+mod Differs

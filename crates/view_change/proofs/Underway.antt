@@ -1,6 +1,6 @@
 -- Steps of a difference, leaf by leaf.
 use Rattle.std.proofs.Common.{◌≡◌, ℕ, ◌+◌, List, [], ◌∷◌, ◌++◌, length, map, refl, ap, sym, ◌∙◌, subst, arith, append-nil, length-append}
-use Rattle.std.specs.Prelude.{All, Option, None, Some, IfSome, IfNone, option_to_list, unwrap_or}
+use Rattle.std.specs.Prelude.{Bool, true, false, All, Option, None, Some, IfSome, IfNone, option_to_list, unwrap_or}
 use Rattle.std.proofs.lemmas.List.{map-append, length-map}
 use Rattle.std.proofs.lemmas.Grind.{flat_map-append}
 use Rattle.std.proofs.lemmas.List.Elements.{All-nil, All-head, All-tail, All-push}
@@ -21,12 +21,12 @@ use Rattle.view_change.specs.declared.leaf_taker.Ends.{Ends}
 use Rattle.view_change.specs.declared.kept.Numbers.{Numbers}
 use Rattle.view_change.specs.declared.kept.KeptLeaf.{KeptLeaf}
 use Rattle.view_change.specs.declared.kept.KeptView.{KeptView}
-use Rattle.view_change.specs.declared.changing.Changed.{Changed}
+use Rattle.view_change.specs.declared.changing.Change.{Change}
 use Rattle.view_change.specs.Leaves.{records_of, records_in}
 use Rattle.view_change.specs.Ends.{leaf_item, leaf_items, HasEnds}
 use Rattle.view_change.specs.Numbers.{numbers_of, numbers_since, no_facts_under, joined, first_facts, rest_facts}
 use Rattle.view_change.specs.Kept.{leaf_of, facts_said, AreReadable, IsKeptLeaf, AreKept, IsKeptView}
-use Rattle.view_change.specs.Changing.{IsUnderway, IsDifference}
+use Rattle.view_change.specs.Changing.{IsFollowed, IsUnderway, IsDifference}
 use Rattle.view_change.proofs.Joined.{joined-assoc, first-joined, rest-joined, since-joined, joined-none, said-append, said-none, joined-stay, joined-differ, none-woven}
 
 module _ {K : Type 0} (shape : Shape K) (site : Site) (image : List ℕ) where
@@ -68,22 +68,24 @@ module _ {K : Type 0} (shape : Shape K) (site : Site) (image : List ℕ) where
       ∙ ap (joined (joined passed (said names kept))) (sym (kept-rest names kept more facts all))))
 
   -- a leaf of the view before is passed over, and its facts are gone
-  pub passes-over : (before : Facts) (leaves : List Leaf) (kept : KeptLeaf) (more : List KeptLeaf) (left rest : Facts) (after : KeptView) (gone less come : Facts)
+  pub passes-over : (before : Facts) (leaves : List Leaf) (kept : KeptLeaf) (more : List KeptLeaf) (left rest : Facts) (after : KeptView) (follows : Bool) (gone less come : Facts)
       → rest ≡ rest_facts kept.numbers left → less ≡ joined gone (first_facts kept.numbers left)
-      → IsUnderway shape site image before leaves (kept ∷ more) left after gone come → IsUnderway shape site image before leaves more rest after less come
-  passes-over before leaves kept more left rest after gone less come on lost so =
+      → IsUnderway shape site image before leaves (kept ∷ more) left after follows gone come → IsUnderway shape site image before leaves more rest after follows less come
+  passes-over before leaves kept more left rest after follows gone less come on lost so =
       let first = kept-first before.names kept more left so.rest in
-      subst (λ (f : Facts). IsUnderway shape site image before leaves more f after less come) (sym on)
-      (subst (λ (f : Facts). IsUnderway shape site image before leaves more (rest_facts kept.numbers left) after f come) (sym (lost ∙ ap (joined gone) first)) (record {
+      subst (λ (f : Facts). IsUnderway shape site image before leaves more f after follows less come) (sym on)
+      (subst (λ (f : Facts). IsUnderway shape site image before leaves more (rest_facts kept.numbers left) after follows f come) (sym (lost ∙ ap (joined gone) first)) (record {
         rest = rest-kept before.names kept more left so.rest;
         view = so.view;
-        passed = joined so.passed (said before.names kept);
-        same = so.same;
-        split = pass-first before.names kept more before so.passed left so.rest so.split;
-        lost = joined-differ (said before.names kept) so.lost;
-        made = so.made;
-        gone_names = so.gone_names;
-        come_names = so.come_names;
+        followed = λ on. let had = so.followed on in record {
+          passed = joined had.passed (said before.names kept);
+          same = had.same;
+          split = pass-first before.names kept more before had.passed left so.rest had.split;
+          lost = joined-differ (said before.names kept) had.lost;
+          made = had.made;
+          gone_names = had.gone_names;
+          come_names = had.come_names;
+        };
       }))
 
   -- the records of a leaf are as many as its items
@@ -121,78 +123,81 @@ module _ {K : Type 0} (shape : Shape K) (site : Site) (image : List ℕ) where
       }
 
   -- a leaf of the view before is one of the view after, and its facts are the same
-  pub stays-too : (before : Facts) (leaves : List Leaf) (kept : KeptLeaf) (more : List KeptLeaf) (left rest : Facts) (after new : KeptView) (gone come : Facts)
+  pub stays-too : (before : Facts) (leaves : List Leaf) (kept : KeptLeaf) (more : List KeptLeaf) (left rest : Facts) (after new : KeptView) (follows : Bool) (gone come : Facts)
       → rest ≡ rest_facts kept.numbers left → new.facts ≡ joined after.facts (first_facts kept.numbers left)
       → new.leaves.items ≡ after.leaves.items ++ kept ∷ [] → new.records ≡ given (after.records + kept.ends.count)
-      → IsUnderway shape site image before leaves (kept ∷ more) left after gone come → IsUnderway shape site image before (leaves ++ kept.leaf ∷ []) more rest new gone come
-  stays-too before leaves kept more left rest after new gone come on said-first put counted so =
+      → IsUnderway shape site image before leaves (kept ∷ more) left after follows gone come → IsUnderway shape site image before (leaves ++ kept.leaf ∷ []) more rest new follows gone come
+  stays-too before leaves kept more left rest after new follows gone come on said-first put counted so =
       let same : new.facts ≡ joined after.facts (said before.names kept) = said-first ∙ ap (joined after.facts) (kept-first before.names kept more left so.rest) in
-      subst (λ (f : Facts). IsUnderway shape site image before (leaves ++ kept.leaf ∷ []) more f new gone come) (sym on) (record {
+      subst (λ (f : Facts). IsUnderway shape site image before (leaves ++ kept.leaf ∷ []) more f new follows gone come) (sym on) (record {
         rest = rest-kept before.names kept more left so.rest;
         view = view-more before.names leaves after new kept (kept-leaf before.names kept more left so.rest) put same counted so.view;
-        passed = joined so.passed (said before.names kept);
-        same = joined so.same (said before.names kept);
-        split = pass-first before.names kept more before so.passed left so.rest so.split;
-        lost = joined-stay (said before.names kept) so.lost;
-        made = subst (λ (f : Facts). AreWoven f (joined so.same (said before.names kept)) come) (sym same) (joined-stay (said before.names kept) so.made);
-        gone_names = so.gone_names;
-        come_names = so.come_names;
+        followed = λ on. let had = so.followed on in record {
+          passed = joined had.passed (said before.names kept);
+          same = joined had.same (said before.names kept);
+          split = pass-first before.names kept more before had.passed left so.rest had.split;
+          lost = joined-stay (said before.names kept) had.lost;
+          made = subst (λ (f : Facts). AreWoven f (joined had.same (said before.names kept)) come) (sym same) (joined-stay (said before.names kept) had.made);
+          gone_names = had.gone_names;
+          come_names = had.come_names;
+        };
       })
 
   -- the leaf that was sought was found
   pub found-one : (leaf : Leaf) (found : Option KeptLeaf) (kept : KeptLeaf) → found ≡ Some kept → IfSome found (λ (other : KeptLeaf). Some leaf ≡ Some other.leaf) → leaf ≡ kept.leaf
   found-one leaf found kept is same = ap (λ o. unwrap_or o leaf) (subst (λ o. IfSome o (λ (other : KeptLeaf). Some leaf ≡ Some other.leaf)) is same)
 
-  pub found-first : (before : Facts) (leaves : List Leaf) (found : Option KeptLeaf) (kept : KeptLeaf) (more : List KeptLeaf) (left : Facts) (after : KeptView) (gone come : Facts) → found ≡ Some kept
-      → IsUnderway shape site image before leaves (option_to_list found ++ more) left after gone come → IsUnderway shape site image before leaves (kept ∷ more) left after gone come
-  found-first before leaves found kept more left after gone come is so = subst (λ o. IsUnderway shape site image before leaves (option_to_list o ++ more) left after gone come) is so
+  pub found-first : (before : Facts) (leaves : List Leaf) (found : Option KeptLeaf) (kept : KeptLeaf) (more : List KeptLeaf) (left : Facts) (after : KeptView) (follows : Bool) (gone come : Facts) → found ≡ Some kept
+      → IsUnderway shape site image before leaves (option_to_list found ++ more) left after follows gone come → IsUnderway shape site image before leaves (kept ∷ more) left after follows gone come
+  found-first before leaves found kept more left after follows gone come is so = subst (λ o. IsUnderway shape site image before leaves (option_to_list o ++ more) left after follows gone come) is so
 
-  pub found-ends : (before : Facts) (leaves : List Leaf) (leaf : Leaf) (kept : KeptLeaf) (more : List KeptLeaf) (left : Facts) (after : KeptView) (gone come : Facts) → leaf ≡ kept.leaf
-      → IsUnderway shape site image before leaves (kept ∷ more) left after gone come → HasEnds shape site image leaf kept.ends
-  found-ends before leaves leaf kept more left after gone come one so = subst (λ (l : Leaf). HasEnds shape site image l kept.ends) (sym one) (kept-leaf before.names kept more left so.rest).ends
+  pub found-ends : (before : Facts) (leaves : List Leaf) (leaf : Leaf) (kept : KeptLeaf) (more : List KeptLeaf) (left : Facts) (after : KeptView) (follows : Bool) (gone come : Facts) → leaf ≡ kept.leaf
+      → IsUnderway shape site image before leaves (kept ∷ more) left after follows gone come → HasEnds shape site image leaf kept.ends
+  found-ends before leaves leaf kept more left after follows gone come one so = subst (λ (l : Leaf). HasEnds shape site image l kept.ends) (sym one) (kept-leaf before.names kept more left so.rest).ends
 
   -- another leaf is one of the view after, and its facts have come
-  pub comes-too : (before : Facts) (leaves : List Leaf) (kept : KeptLeaf) (left : List KeptLeaf) (facts : Facts) (after new : KeptView) (gone come more : Facts)
-      → IsKeptLeaf shape site image before.names kept → new.facts ≡ joined after.facts (said before.names kept) → more ≡ joined come (said before.names kept)
+  pub comes-too : (before : Facts) (leaves : List Leaf) (kept : KeptLeaf) (left : List KeptLeaf) (facts : Facts) (after new : KeptView) (follows : Bool) (gone come more : Facts)
+      → IsKeptLeaf shape site image before.names kept → new.facts ≡ joined after.facts (said before.names kept) → (follows ≡ true → more ≡ joined come (said before.names kept))
       → new.leaves.items ≡ after.leaves.items ++ kept ∷ [] → new.records ≡ given (after.records + kept.ends.count)
-      → IsUnderway shape site image before leaves left facts after gone come → IsUnderway shape site image before (leaves ++ kept.leaf ∷ []) left facts new gone more
-  comes-too before leaves kept left facts after new gone come more one said-too come-too put counted so =
-      subst (λ (f : Facts). IsUnderway shape site image before (leaves ++ kept.leaf ∷ []) left facts new gone f) (sym come-too) (record {
-        rest = so.rest;
-        view = view-more before.names leaves after new kept one put said-too counted so.view;
-        passed = so.passed;
-        same = so.same;
-        split = so.split;
-        lost = so.lost;
-        made = subst (λ (f : Facts). AreWoven f so.same (joined come (said before.names kept))) (sym said-too) (joined-differ (said before.names kept) so.made);
-        gone_names = so.gone_names;
-        come_names = so.come_names;
-      })
+      → IsUnderway shape site image before leaves left facts after follows gone come → IsUnderway shape site image before (leaves ++ kept.leaf ∷ []) left facts new follows gone more
+  comes-too before leaves kept left facts after new follows gone come more one said-too come-too put counted so = record {
+    rest = so.rest;
+    view = view-more before.names leaves after new kept one put said-too counted so.view;
+    followed = λ on. let had = so.followed on in subst (λ (f : Facts). IsFollowed before facts new.facts gone f) (sym (come-too on)) (record {
+      passed = had.passed;
+      same = had.same;
+      split = had.split;
+      lost = had.lost;
+      made = subst (λ (f : Facts). AreWoven f had.same (joined come (said before.names kept))) (sym said-too) (joined-differ (said before.names kept) had.made);
+      gone_names = had.gone_names;
+      come_names = had.come_names;
+    });
+  }
 
   -- the names of the facts after are compared as those before
   view-names : (names : Names) (leaves : List Leaf) (view : KeptView) → IsKeptView shape site image names leaves view → view.facts.names ≡ names
   view-names names leaves view had = ap (λ (f : Facts). f.names) had.kept.said
 
   -- a leaf that was read is one of the view after
-  pub read-too : (before : Facts) (leaves : List Leaf) (leaf : Leaf) (ends : Ends) (numbers : Numbers) (pairs : List Pair) (left : List KeptLeaf) (facts : Facts) (after new : KeptView) (added gone come more : Facts)
+  pub read-too : (before : Facts) (leaves : List Leaf) (leaf : Leaf) (ends : Ends) (numbers : Numbers) (pairs : List Pair) (left : List KeptLeaf) (facts : Facts) (after new : KeptView) (follows : Bool) (added gone come more : Facts)
       → records_of shape site image leaf ≡ pairs → HasEnds shape site image leaf ends
-      → added ≡ joined after.facts (facts_said after.facts.names pairs) → AreReadable after.facts.names pairs → more ≡ joined come (facts_said come.names pairs)
+      → added ≡ joined after.facts (facts_said after.facts.names pairs) → AreReadable after.facts.names pairs → (follows ≡ true → more ≡ joined come (facts_said come.names pairs))
       → numbers ≡ numbers_since (numbers_of added) (numbers_of after.facts) → new.facts ≡ added
       → new.leaves.items ≡ after.leaves.items ++ record { leaf = leaf; ends = ends; numbers = numbers } ∷ [] → new.records ≡ given (after.records + ends.count)
-      → IsUnderway shape site image before leaves left facts after gone come → IsUnderway shape site image before (leaves ++ leaf ∷ []) left facts new gone more
-  read-too before leaves leaf ends numbers pairs left facts after new added gone come more read has adds readable adds-too numbered same put counted so =
+      → IsUnderway shape site image before leaves left facts after follows gone come → IsUnderway shape site image before (leaves ++ leaf ∷ []) left facts new follows gone more
+  read-too before leaves leaf ends numbers pairs left facts after new follows added gone come more read has adds readable adds-too numbered same put counted so =
       let kept : KeptLeaf = record { leaf = leaf; ends = ends; numbers = numbers } in
       let named = view-names before.names leaves after so.view in
       let said-here : facts_said after.facts.names pairs ≡ said before.names kept = λ i. facts_said (named i) (sym read i) in
-      let said-there : facts_said come.names pairs ≡ said before.names kept = λ i. facts_said (so.come_names i) (sym read i) in
+      let said-there : follows ≡ true → facts_said come.names pairs ≡ said before.names kept = λ on i. facts_said ((so.followed on).come_names i) (sym read i) in
       let adds-here : added ≡ joined after.facts (said before.names kept) = adds ∙ ap (joined after.facts) said-here in
-      comes-too before leaves kept left facts after new gone come more
+      comes-too before leaves kept left facts after new follows gone come more
       (record {
         ends = has;
         numbers = numbered ∙ (ap (λ (f : Facts). numbers_since (numbers_of f) (numbers_of after.facts)) adds-here ∙ since-joined after.facts (said before.names kept));
         readable = subst (AreReadable before.names) (sym read) (subst (λ (n : Names). AreReadable n pairs) named readable);
       })
-      (same ∙ adds-here) (adds-too ∙ ap (joined come) said-there) put counted so
+      (same ∙ adds-here) (λ on. adds-too on ∙ ap (joined come) (said-there on)) put counted so
 
   -- a view without leaves
   pub view-none : (names : Names) (view : KeptView) → view.leaves.items ≡ [] → view.facts ≡ no_facts_under names → view.records ≡ 0 → IsKeptView shape site image names [] view
@@ -206,39 +211,57 @@ module _ {K : Type 0} (shape : Shape K) (site : Site) (image : List ℕ) where
   }
 
   -- no leaf is taken yet
-  pub begins : (names : Names) (leaves : List Leaf) (view : KeptView) (left : List KeptLeaf) (facts : Facts) (after : KeptView) (gone come : Facts)
+  pub begins : (names : Names) (leaves : List Leaf) (view : KeptView) (left : List KeptLeaf) (facts : Facts) (after : KeptView) (follows : Bool) (gone come : Facts)
       → IsKeptView shape site image names leaves view → left ≡ view.leaves.items → facts ≡ view.facts → IsKeptView shape site image view.facts.names [] after
-      → gone ≡ no_facts_under view.facts.names → come ≡ no_facts_under view.facts.names → IsUnderway shape site image facts [] left facts after gone come
-  begins names leaves view left facts after gone come had on same empty lost made =
+      → gone ≡ no_facts_under view.facts.names → come ≡ no_facts_under view.facts.names → IsUnderway shape site image facts [] left facts after follows gone come
+  begins names leaves view left facts after follows gone come had on same empty lost made =
       let named : names ≡ view.facts.names = sym (ap (λ (f : Facts). f.names) had.kept.said) in
       let kept : AreKept shape site image view.facts.names view.leaves.items view.facts = subst (λ (n : Names). AreKept shape site image n view.leaves.items view.facts) named had.kept in
       let free : after.facts ≡ no_facts_under view.facts.names = empty.kept.said ∙ (ap (λ ls. facts_said view.facts.names (records_in shape site image ls)) empty.listed ∙ sym (said-none view.facts.names)) in
       let n = view.facts.names in
-      subst (λ (f : Facts). IsUnderway shape site image f [] left f after gone come) (sym same) (record {
+      subst (λ (f : Facts). IsUnderway shape site image f [] left f after follows gone come) (sym same) (record {
         rest = subst (λ ks. AreKept shape site image n ks view.facts) (sym on) kept;
         view = empty;
-        passed = no_facts_under n;
-        same = no_facts_under n;
-        split = refl;
-        lost = subst (λ (f : Facts). AreWoven (no_facts_under n) (no_facts_under n) f) (sym lost) (none-woven n n n);
-        made = subst (λ (f : Facts). AreWoven f (no_facts_under n) come) (sym free) (subst (λ (f : Facts). AreWoven (no_facts_under n) (no_facts_under n) f) (sym made) (none-woven n n n));
-        gone_names = ap (λ (f : Facts). f.names) lost;
-        come_names = ap (λ (f : Facts). f.names) made;
+        followed = λ on. record {
+          passed = no_facts_under n;
+          same = no_facts_under n;
+          split = refl;
+          lost = subst (λ (f : Facts). AreWoven (no_facts_under n) (no_facts_under n) f) (sym lost) (none-woven n n n);
+          made = subst (λ (f : Facts). AreWoven f (no_facts_under n) come) (sym free) (subst (λ (f : Facts). AreWoven (no_facts_under n) (no_facts_under n) f) (sym made) (none-woven n n n));
+          gone_names = ap (λ (f : Facts). f.names) lost;
+          come_names = ap (λ (f : Facts). f.names) made;
+        };
       })
 
+  -- the view before is let go
+  pub lets-go : (before : Facts) (leaves : List Leaf) (left none : List KeptLeaf) (facts free : Facts) (after : KeptView) (follows : Bool) (gone come : Facts) → none ≡ [] → free ≡ no_facts_under after.facts.names
+      → IsUnderway shape site image before leaves left facts after follows gone come → IsUnderway shape site image before leaves none free after false gone come
+  lets-go before leaves left none facts free after follows gone come over empty so = record {
+    rest = record {
+      each = subst (All (IsKeptLeaf shape site image before.names)) (sym over) (All-nil (IsKeptLeaf shape site image before.names));
+      said = empty ∙ (ap no_facts_under (view-names before.names leaves after so.view) ∙ (said-none before.names ∙ ap (λ ks. facts_said before.names (records_in shape site image (map leaf_of ks))) (sym over)));
+    };
+    view = so.view;
+    followed = λ on. absurd cc;
+  }
+
   -- nothing is left of the view before
-  pub ends-so : (before : Facts) (leaves : List Leaf) (left : List KeptLeaf) (facts : Facts) (changed : Changed)
-      → left ≡ [] → IsUnderway shape site image before leaves left facts changed.after changed.gone changed.come → IsDifference shape site image leaves before changed
-  ends-so before leaves left facts changed none so =
+  pub ends-so : (before : Facts) (leaves : List Leaf) (left : List KeptLeaf) (facts : Facts) (after : KeptView) (follows : Bool) (change : Change)
+      → left ≡ [] → follows ≡ true → IsUnderway shape site image before leaves left facts after follows change.gone change.come → IsDifference shape site image leaves before (record { after = after; change = Some change })
+  ends-so before leaves left facts after follows change none on so =
+      let had = so.followed on in
       let free : facts ≡ no_facts_under before.names = so.rest.said ∙ (ap (λ ks. facts_said before.names (records_in shape site image (map leaf_of ks))) none ∙ sym (said-none before.names)) in
-      let all : before ≡ so.passed = so.split ∙ (ap (joined so.passed) free ∙ joined-none so.passed before.names) in
+      let all : before ≡ had.passed = had.split ∙ (ap (joined had.passed) free ∙ joined-none had.passed before.names) in
       record {
         after = so.view;
-        same = so.same;
-        left = subst (λ (f : Facts). AreWoven f so.same changed.gone) (sym all) so.lost;
-        made = so.made;
-        gone_names = so.gone_names;
-        come_names = so.come_names;
+        change = record {
+          same = had.same;
+          left = subst (λ (f : Facts). AreWoven f had.same change.gone) (sym all) had.lost;
+          made = had.made;
+          names = view-names before.names leaves after so.view;
+          gone_names = had.gone_names;
+          come_names = had.come_names;
+        };
       }
 
 -- no leaf was found where none was looked for

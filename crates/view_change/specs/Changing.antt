@@ -1,5 +1,5 @@
 -- What is known of a view and the one before while its leaves are taken.
-use Rattle.std.specs.Prelude.{◌≡◌, ℕ, List}
+use Rattle.std.specs.Prelude.{◌≡◌, ℕ, Bool, true, List, IfSome}
 use Rattle.obj_base.specs.declared.site.Site.{Site}
 use Rattle.bt_node.specs.Shape.{Shape}
 use Rattle.view_rules.specs.Facts.{Facts}
@@ -7,6 +7,7 @@ use Rattle.rule_changes.specs.Changes.{AreWoven}
 use Rattle.view_change.specs.declared.leaf.Leaf.{Leaf}
 use Rattle.view_change.specs.declared.kept.KeptLeaf.{KeptLeaf}
 use Rattle.view_change.specs.declared.kept.KeptView.{KeptView}
+use Rattle.view_change.specs.declared.changing.Change.{Change}
 use Rattle.view_change.specs.declared.changing.Changed.{Changed}
 use Rattle.view_change.specs.declared.changing.Changing.{Changing}
 use Rattle.view_change.specs.Numbers.{joined}
@@ -16,32 +17,40 @@ use Rattle.view_change.specs.Kept.{AreKept, IsKeptView}
 abbrev pub facts_before : Changing → Facts
 facts_before start = start.left
 
--- after some leaves of a view: what is kept of it, and what is left of the view before; of the facts before that aren't left some are gone,
--- some of the facts after have come, and what is the same is woven with each of them
-pub record IsUnderway {K : Type 0} (shape : Shape K) (site : Site) (image : List ℕ) (before : Facts) (leaves : List Leaf) (left : List KeptLeaf) (left_facts : Facts) (after : KeptView) (gone come : Facts) : Type 0 where
-  pub rest : AreKept shape site image before.names left left_facts
-  pub view : IsKeptView shape site image before.names leaves after
+-- some facts are gone, some have come, and what is the same is woven with each into the facts before and after
+pub record HasDifference (before after : Facts) (change : Change) : Type 0 where
+  pub same : Facts
+  pub left : AreWoven before same change.gone
+  pub made : AreWoven after same change.come
+  pub names : after.names ≡ before.names
+  pub gone_names : change.gone.names ≡ before.names
+  pub come_names : change.come.names ≡ before.names
+
+-- some facts before are left, and the facts that were passed differ from those after as these are gone and have come
+pub record IsFollowed (before left after gone come : Facts) : Type 0 where
   pub passed : Facts
   pub same : Facts
-  pub split : before ≡ joined passed left_facts
+  pub split : before ≡ joined passed left
   pub lost : AreWoven passed same gone
-  pub made : AreWoven after.facts same come
+  pub made : AreWoven after same come
   pub gone_names : gone.names ≡ before.names
   pub come_names : come.names ≡ before.names
 
+-- after some leaves of a view: what is kept of it, what is left of the view before, and, if it is followed, what is gone and has come
+pub record IsUnderway {K : Type 0} (shape : Shape K) (site : Site) (image : List ℕ) (before : Facts) (leaves : List Leaf) (left : List KeptLeaf) (left_facts : Facts) (after : KeptView) (follows : Bool) (gone come : Facts) : Type 0 where
+  pub rest : AreKept shape site image before.names left left_facts
+  pub view : IsKeptView shape site image before.names leaves after
+  pub followed : follows ≡ true → IsFollowed before left_facts after.facts gone come
+
 -- begun as the first, it has taken some leaves in an image, and these leaves of the view before are left
 abbrev pub HasChangedTo : {K : Type 0} → Shape K → Site → List ℕ → List Leaf → Changing → List KeptLeaf → Changing → Type 0
-HasChangedTo shape site image leaves start left now = IsUnderway shape site image (facts_before start) leaves left now.left now.after now.gone now.come
+HasChangedTo shape site image leaves start left now = IsUnderway shape site image (facts_before start) leaves left now.left now.after now.follows now.gone now.come
 
 -- begun as the first, it has taken some leaves in an image
 abbrev pub HasChanged : {K : Type 0} → Shape K → Site → List ℕ → List Leaf → Changing → Changing → Type 0
 HasChanged shape site image leaves start now = HasChangedTo shape site image leaves start now.leaves.items now
 
--- this is what is kept of a view with some leaves, and how its facts differ from those before
+-- this is what is kept of a view with some leaves, and how its facts differ from those before, if that was followed
 pub record IsDifference {K : Type 0} (shape : Shape K) (site : Site) (image : List ℕ) (leaves : List Leaf) (before : Facts) (changed : Changed) : Type 0 where
   pub after : IsKeptView shape site image before.names leaves changed.after
-  pub same : Facts
-  pub left : AreWoven before same changed.gone
-  pub made : AreWoven changed.after.facts same changed.come
-  pub gone_names : changed.gone.names ≡ before.names
-  pub come_names : changed.come.names ≡ before.names
+  pub change : IfSome changed.change (HasDifference before changed.after.facts)

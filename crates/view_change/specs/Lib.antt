@@ -6,3 +6,4 @@ pub mod Numbers
 pub mod Kept
 pub mod Reading
 pub mod Changing
+pub mod Difference

@@ -1,5 +1,5 @@
 // The difference of a view from the one before, leaf by leaf.
-ghost use Rattle.std.specs.Prelude.{◌≡◌, ◌+◌, ◌≤◌, ◌++◌, [], ◌∷◌, ℕ, List, Some, None, IfOk, IfErr, IfSome, IfNone, IsErrOf, option_to_list};
+ghost use Rattle.std.specs.Prelude.{◌≡◌, ◌+◌, ◌≤◌, ◌++◌, [], ◌∷◌, ℕ, List, Some, None, true, IfOk, IfErr, IfSome, IfNone, IsErrOf, IsTrue, option_to_list};
 ghost use Rattle.apfs_model.specs.Counts.{Rose};
 ghost use Rattle.apfs_model.specs.Kept.{IsKept};
 ghost use Rattle.obj_base.specs.Site.{IsSiteFor};
@@ -10,7 +10,9 @@ ghost use Rattle.fs_name.specs.declared.naming.Names.{Names};
 ghost use Rattle.view_change.specs.declared.leaf.Leaf.{Leaf as One};
 ghost use Rattle.view_change.specs.declared.changing.Changing.{Changing as State};
 ghost use Rattle.view_change.specs.Ends.{HasEnds};
-ghost use Rattle.view_change.specs.Kept.{facts_of, IsKeptView};
+ghost use Rattle.bt_node.specs.Entries.{pairs_of};
+ghost use Rattle.view_change.specs.Numbers.{joined};
+ghost use Rattle.view_change.specs.Kept.{facts_of, facts_said, IsKeptView};
 ghost use Rattle.view_change.specs.Reading.{IsNodeOf};
 ghost use Rattle.view_change.specs.Changing.{facts_before, HasChanged, HasChangedTo, IsDifference};
 
@@ -32,10 +34,10 @@ use std::collections::VecDeque;
 use view_facts::Facts;
 
 /// Among how many of the next leaves of the view before a leaf is looked for.
-const AHEAD: usize = 9;
+const AHEAD: usize = 256;
 
-/// What takes the leaves of a view that comes after another. A leaf that the view before has too isn't read again: its facts are those of
-/// the view before.
+/// What takes the leaves of a view that comes after another. A leaf that is found among the next of the view before isn't read again: its facts are
+/// those of the view before. Where fewer than half of the leaves of either view are in both, the view before is let go and no difference is followed.
 #[derive(Drop)]
 pub struct Changing {
     alloc: Global,
@@ -43,16 +45,39 @@ pub struct Changing {
     leaves: VecDeque<KeptLeaf>,
     left: Stock,
     after: KeptView,
+    /// Whether what is gone and what has come is gathered.
+    follows: bool,
     gone: Facts,
     come: Facts,
 }
 
-/// What is kept of a view, and the facts that are gone and that have come since the one before.
+/// The facts that are gone and that have come since the view before.
+#[derive(Drop)]
+pub struct Change {
+    pub gone: Facts,
+    pub come: Facts,
+}
+
+/// What is kept of a view, and how its facts differ from those of the one before, where that was followed.
 #[derive(Drop)]
 pub struct Changed {
     pub after: KeptView,
-    pub gone: Facts,
-    pub come: Facts,
+    pub change: Option<Change>,
+}
+
+// Adds the records of a leaf to the facts that have come, where these are followed; false where one is refused.
+fn add_come<K: FsTreeKey>(
+    alloc: Global,
+    follows: bool,
+    node: &NodeView<'_, K>,
+    come: &mut Facts,
+) -> Result<bool, NoMemory>
+    ensures { IfOk result (λ added. IsTrue added → follows ≡ true → come.new ≡ joined come.old (facts_said come.old.names (pairs_of K.shape node.now))) }
+{
+    if !follows {
+        return Ok(true);
+    }
+    add_records(alloc, node, come)
 }
 
 impl Changing {
@@ -67,17 +92,52 @@ impl Changing {
             leaves: VecDeque::from_vec(before.leaves),
             left: Stock::new(before.facts),
             after: KeptView::none::<K>(alloc, names),
+            follows: true,
             gone: no_facts(alloc, names),
             come: no_facts(alloc, names),
         }
     }
 
-    // Whether a leaf is one of the next of the view before. Nothing rests on it but the time.
-    fn is_ahead(&self, leaf: &Leaf) -> bool {
-        self.leaves
-            .iter()
-            .take(AHEAD)
-            .any(|kept| kept.leaf == *leaf)
+    // Where a leaf stands among the next of the view before from a place on. Nothing rests on it but the time.
+    fn place_of(&self, leaf: &Leaf, from: usize) -> Option<usize> {
+        'next: for ahead in 0..AHEAD {
+            let place = from.saturating_add(ahead);
+            match self.leaves.get(place) {
+                Some(kept) if kept.leaf == *leaf => return Some(place),
+                Some(_) => {}
+                None => return None,
+            }
+        }
+        None
+    }
+
+    // How many of some leaves are found in the view before, one after the other.
+    fn count_found(&self, leaves: &[Leaf]) -> usize {
+        let mut from: usize = 0;
+        let mut found: usize = 0;
+        'leaves: for leaf in leaves {
+            if let Some(place) = self.place_of(leaf, from) {
+                from = place.saturating_add(1);
+                found = found.saturating_add(1);
+            }
+        }
+        found
+    }
+
+    // Whether half of some leaves at least, and half of those of the view before, are in both.
+    fn shares_half(&self, leaves: &[Leaf]) -> bool {
+        let most = leaves.len().max(self.leaves.len());
+        self.count_found(leaves) >= most - most / 2
+    }
+
+    // Lets go of the view before: the difference from it isn't followed.
+    fn let_go<K: TreeKey>(&mut self) -> ()
+        ensures held { (start : State) (site : Place) (image : List ℕ) (leaves : List One) → HasChanged K.shape site image leaves start self.old → HasChanged K.shape site image leaves start self.new }
+    {
+        let names = self.after.names();
+        self.leaves = VecDeque::new(self.alloc);
+        self.left = Stock::new(no_facts(self.alloc, names));
+        self.follows = false;
     }
 
     // Passes over leaves of the view before, whose facts are gone, until one comes; over all of them where none is looked for.
@@ -124,7 +184,7 @@ impl Changing {
         if !add_records(self.alloc, node, &mut self.after.facts)? {
             return Ok(None);
         }
-        if !add_records(self.alloc, node, &mut self.come)? {
+        if !add_come(self.alloc, self.follows, node, &mut self.come)? {
             return Ok(None);
         }
         let numbers = Numbers::of(&self.after.facts).since(&before);
@@ -160,7 +220,7 @@ impl Changing {
         Ok(self.add(leaf, &node)?)
     }
 
-    /// What has changed, once all leaves are taken.
+    /// What is kept, once all leaves are taken, and what has changed, where it was followed.
     pub fn finish<K: TreeKey>(mut self) -> Result<Changed, NoMemory>
         ensures { (start : State) (site : Place) (image : List ℕ) (leaves : List One) → HasChanged K.shape site image leaves start self → IfOk result (IsDifference K.shape site image leaves (facts_before start)) }
     {
@@ -170,15 +230,31 @@ impl Changing {
             leaves: _,
             left: _,
             after,
+            follows,
             gone,
             come,
         } = self;
-        Ok(Changed { after, gone, come })
+        if !follows {
+            return Ok(Changed {
+                after,
+                change: None,
+            });
+        }
+        Ok(Changed {
+            after,
+            change: Some(Change { gone, come }),
+        })
     }
 }
 
 impl<K: FsTreeKey> LeafTaker<K> for Changing {
     ghost holds = { λ start now site image leaves. HasChanged K.shape site image leaves start now };
+
+    fn foresee(&mut self, leaves: &[Leaf]) -> () {
+        if !self.shares_half(leaves) {
+            self.let_go::<K>();
+        }
+    }
 
     fn take<S: BlockSource>(
         &mut self,
@@ -186,7 +262,7 @@ impl<K: FsTreeKey> LeafTaker<K> for Changing {
         site: &Site,
         leaf: Leaf,
     ) -> Result<Option<Ends>, Stop<()>> {
-        if self.is_ahead(&leaf) {
+        if self.place_of(&leaf, 0).is_some() {
             return Ok(self.stay::<K>(leaf)?);
         }
         self.read::<K, S>(src, site, leaf)

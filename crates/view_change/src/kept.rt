@@ -108,6 +108,13 @@ impl KeptView {
         Ok(())
     }
 
+    /// How names are compared.
+    pub(crate) fn names(&self) -> Names
+        ensures { result ≡ (facts_of self.now).names }
+    {
+        self.facts.names
+    }
+
     /// The facts.
     pub fn facts(&self) -> &Facts
         ensures { result.now ≡ facts_of self.now }

@@ -32,6 +32,10 @@ pub trait LeafTaker<K: TreeKey>: Drop {
     /// Begun as the first, it has taken these leaves in this image.
     ghost holds: { Self → Self → Site → List ℕ → List Leaf → Type 0 };
 
+    /// Is told the leaves that are to come, those without a block left out, before it takes the first.
+    fn foresee(&mut self, leaves: &[Leaf]) -> ()
+        ensures foreseen { (start : Self) (site : Site) (image : List ℕ) → holds start self.old site image [] → holds start self.new site image [] };
+
     /// Takes one more leaf and tells its ends; None where it isn't there, isn't in order, has no record, or is refused.
     fn take<S: BlockSource>(
         &mut self,

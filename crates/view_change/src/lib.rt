@@ -2,6 +2,7 @@
 #![tactic(auto)]
 
 mod changing;
+mod differing;
 mod kept;
 mod leaf;
 mod leaf_read;
@@ -14,7 +15,8 @@ mod stock;
 mod tests;
 mod walking;
 
-pub use changing::{Changed, Changing};
+pub use changing::{Change, Changed, Changing};
+pub use differing::{difference, keep};
 pub use kept::{KeptLeaf, KeptView, Numbers};
 pub use leaf::Leaf;
 pub use leaf_taker::{Ends, LeafTaker};

@@ -40,6 +40,10 @@ impl LeafTaker<OmapKey> for Leaves {
 
     ghost holds = { λ start taker site image leaves. ⊥ };
 
+    fn foresee(&mut self, leaves: &[Leaf]) -> () {
+        let _ = leaves;
+    }
+
     fn take<S: BlockSource>(
         &mut self,
         src: &mut S,

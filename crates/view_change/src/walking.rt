@@ -15,6 +15,7 @@ use crate::Leaf;
 use crate::leaf_taker::LeafTaker;
 use crate::outline::{Outline, Separator, block_in, outline_of};
 use crate::seen::Seen;
+use apfs_model::NoMemory;
 use blk_source::BlockSource;
 use bt_cursor::Namer;
 use bt_node::TreeKey;
@@ -80,6 +81,24 @@ fn pass_all<K: TreeKey, S: BlockSource, N: Namer, T: LeafTaker<K>>(
     Ok(seen.is_all())
 }
 
+// The leaves to which an outline leads, those without a block left out.
+fn leaves_of<N: Namer>(
+    alloc: Global,
+    namer: &N,
+    site: &Site,
+    outline: &Outline,
+) -> Result<Vec<Leaf>, NoMemory> {
+    let mut leaves = Vec::new(alloc);
+    'separators: for next in &outline.separators {
+        if let Some(oid) = next.child {
+            if let Some(block) = block_in(namer, site, oid) {
+                leaves.push(Leaf { oid, block })?;
+            }
+        }
+    }
+    Ok(leaves)
+}
+
 /// Hands the leaves of a tree below its root to `taker`, in their order, and gives it back where the tree is whole; no leaf is read but by the
 /// taker. None where the root is a leaf, where a node isn't there, where something is out of order or counted wrong, and where a leaf isn't
 /// taken. `root` is the id of the root.
@@ -102,6 +121,7 @@ pub fn walk_leaves<K: TreeKey, S: BlockSource, N: Namer, T: LeafTaker<K>>(
     let Some(outline) = outline_of::<K, S, N>(alloc, src, namer, site, root)? else {
         return Ok(None);
     };
+    taker.foresee(&leaves_of(alloc, namer, site, &outline)?);
     if pass_all::<K, S, N, T>(src, namer, site, &outline, &mut taker)? {
         Ok(Some(taker))
     } else {

@@ -77,13 +77,10 @@ fn raise(view: &View, stop: Stop<GatherFault>) -> Stop<TreeFault>
     requires { RefusesOne (λ _. false) stop }
     ensures { SaysOfView view.now stop result }
 {
-    match stop {
-        Stop::Found(GatherFault::Tree(why)) => Stop::Found(fault_of(view, why)),
-        Stop::Found(GatherFault::Refused { item: _ }) => unreachable!(),
-        Stop::Unsupported { feature, block } => Stop::Unsupported { feature, block },
-        Stop::ReadFault => Stop::ReadFault,
-        Stop::NoMemory => Stop::NoMemory,
-    }
+    stop.map(|fault| match fault {
+        GatherFault::Tree(why) => fault_of(view, why),
+        GatherFault::Refused { item: _ } => unreachable!(),
+    })
 }
 
 // The same facts, with how names are compared.

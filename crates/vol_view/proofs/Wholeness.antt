@@ -296,6 +296,6 @@ parts-of image r s head bytes b1 b2 b3 contents snapshots later names further sa
 }
 
 -- a volume that is made of them is the defined one
-pub made-volume : (image : List ℕ) (site : Site) (head : VolHead) (r : Result Loaded (Stop VolStop)) (volume : Loaded) → IfOk r (λ made. made ≡ volume) → IsVolumeOf image site head volume → IfOk r (IsVolumeOf image site head)
-made-volume image site head (Ok made) volume e h = subst (IsVolumeOf image site head) (sym e) h
-made-volume image site head (Err stop) volume e h = tt
+pub made-volume : (P : Loaded → Type 0) (r : Result Loaded (Stop VolStop)) (volume : Loaded) → IfOk r (λ made. made ≡ volume) → P volume → IfOk r P
+made-volume P (Ok made) volume e h = subst P (sym e) h
+made-volume P (Err stop) volume e h = tt

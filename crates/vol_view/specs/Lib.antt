@@ -11,3 +11,4 @@ pub mod Named
 pub mod Gathered
 pub mod Views
 pub mod Placed
+pub mod ReadBound

@@ -1,5 +1,5 @@
 // A volume whole: its superblock, its object map and its snapshots.
-ghost use Rattle.std.specs.Prelude.{◌≡◌, ◌≤◌, ℕ, List, [], length, Some, IfOk, IfErr, IsErrOf, OnOk};
+ghost use Rattle.std.specs.Prelude.{◌≡◌, ◌≤◌, ◌+◌, ℕ, List, [], length, Some, IfOk, IfErr, IsErrOf, OnOk};
 ghost use Rattle.apfs_model.specs.Counts.{Rose};
 ghost use Rattle.apfs_model.specs.Kept.{IsKept};
 ghost use Rattle.obj_base.specs.Stops.{Tells, IsFree};
@@ -12,6 +12,7 @@ ghost use Rattle.vol_view.specs.Placed.{IsHead, IsPlaced};
 ghost use Rattle.vol_view.specs.Volumes.{super_of, loaded_by};
 ghost use Rattle.vol_view.specs.LoadStops.{IsSuperFeature, IsLoadStop, IsLoadFeature, IsLoadable, IsVolumeOf};
 ghost use Rattle.vol_view.specs.Gathered.{IsFeatureAt};
+ghost use Rattle.vol_view.specs.ReadBound.{load_reads};
 
 use crate::agree::agree;
 use crate::features::of_volume;
@@ -59,6 +60,7 @@ fn superblock_of<S: BlockSource>(
     requires placed { IsPlaced site.now head.now }
     ensures found { (image : List ℕ) → S.bytes src.old ≡ Some image → IfOk result (λ bytes. bytes.items ≡ super_of image site.now head.now) }
     ensures long { IfOk result (λ bytes. 4096 ≤ length bytes.items) }
+    ensures reads { S.reads src.new ≤ S.reads src.old + 1 }
     ensures free { IfErr result IsFree }
     ensures cause { IsErrOf result ReadFault → Rose (S.faults src.old) (S.faults src.new) }
     ensures kept { IsKept S.bytes S.bytes_len S.faults src.old src.new }
@@ -112,6 +114,7 @@ fn made(
 /// snapshots' records can't be read or don't agree; `Head` and `Magic` where the superblock of a snapshot isn't sound.
 /// `Unsupported` comes for a feature of the volume, of its map and the map's snapshots, of a node of its snapshot metadata tree,
 /// of a snapshot's record or of a snapshot's superblock. The flags and sizes of mappings aren't looked at.
+/// `reads`: one read for its superblock, one for the map's object, one for each node of the map's trees and of its snapshot metadata tree, and one for each snapshot.
 pub fn load<S: BlockSource>(
     alloc: Global,
     src: &mut S,
@@ -124,6 +127,7 @@ pub fn load<S: BlockSource>(
     ensures same { IfOk result (λ volume. volume.head ≡ head.now) }
     ensures present { (image : List ℕ) → S.bytes src.old ≡ Some image → IfErr result (Tells (IsLoadStop image (site_of cp.now) head.now) (IsLoadFeature image (site_of cp.now) head.now)) }
     ensures exact { (image : List ℕ) → S.bytes src.old ≡ Some image → IsLoadable image (site_of cp.now) head.now → IfErr result IsFree }
+    ensures reads { (image : List ℕ) → S.bytes src.old ≡ Some image → IfOk result (λ volume. S.reads src.new ≤ S.reads src.old + load_reads image (site_of cp.now) head.now volume.snaps) }
     ensures cause { IsErrOf result ReadFault → Rose (S.faults src.old) (S.faults src.new) }
     ensures kept { IsKept S.bytes S.bytes_len S.faults src.old src.new }
 {

@@ -1,11 +1,13 @@
 // The object maps of the container and of its volumes.
-ghost use Rattle.std.specs.Prelude.{◌≡◌, ◌≤◌, length, [], ℕ, List, Some, IfOk, IfErr, IsErrOf, OnOk};
+ghost use Rattle.std.specs.Prelude.{◌≡◌, ◌≤◌, ◌+◌, length, [], ℕ, List, Some, IfOk, IfErr, IsErrOf, OnOk};
 ghost use Rattle.apfs_model.specs.Counts.{Rose};
 ghost use Rattle.apfs_model.specs.Kept.{IsKept};
 ghost use Rattle.obj_base.specs.Stops.{Tells};
 ghost use Rattle.obj_base.specs.declared.stop.Stop.TheVariants.{ReadFault, NoMemory};
 ghost use Rattle.obj_base.specs.Site.{IsSiteFor};
 ghost use Rattle.omap_map.specs.Features.{has_snapshot_state, container_features, snapshot_features};
+ghost use Rattle.omap_map.specs.Loading.{map_nodes};
+ghost use Rattle.nx_block.specs.Super.{omap_oid_of};
 ghost use Rattle.nx_ring.specs.Checkpoint.{site_of};
 ghost use Rattle.vol_view.specs.Stops.{IsHeadsStop, IsHeadsFeature};
 ghost use Rattle.vol_view.specs.Slots.{map_raised, HasMap, IsMarked};
@@ -27,12 +29,7 @@ use std::alloc::Global;
 fn raise(stop: Stop<OmapFault>) -> Stop<VolStop>
     ensures { result ≡ map_raised stop }
 {
-    match stop {
-        Stop::Found(fault) => Stop::Found(VolStop::Omap(fault)),
-        Stop::Unsupported { feature, block } => Stop::Unsupported { feature, block },
-        Stop::ReadFault => Stop::ReadFault,
-        Stop::NoMemory => Stop::NoMemory,
-    }
+    stop.map(VolStop::Omap)
 }
 
 // Whether a snapshot of the map is being deleted or reverted to.
@@ -77,6 +74,7 @@ pub(crate) fn container_map<S: BlockSource>(
     requires same { site.now ≡ site_of cp.now }
     ensures clear { (image : List ℕ) → S.bytes src.old ≡ Some image → IfOk result (HasMap image cp.now) }
     ensures present { (image : List ℕ) → S.bytes src.old ≡ Some image → IfErr result (Tells (IsHeadsStop image cp.now) (IsHeadsFeature image cp.now)) }
+    ensures reads { (image : List ℕ) → S.bytes src.old ≡ Some image → OnOk result (S.reads src.new ≤ S.reads src.old + (1 + map_nodes image (site_of cp.now) (omap_oid_of cp.now.nx))) }
     ensures cause { IsErrOf result ReadFault → Rose (S.faults src.old) (S.faults src.new) }
     ensures kept { IsKept S.bytes S.bytes_len S.faults src.old src.new }
 {
@@ -108,6 +106,7 @@ pub(crate) fn volume_map<S: BlockSource>(
     requires long { 1024 ≤ length bytes.now }
     ensures clear { (image : List ℕ) → S.bytes src.old ≡ Some image → IfOk result (HasVolumeMap image site.now (fields.omap_oid_of bytes.now)) }
     ensures present { (image : List ℕ) → S.bytes src.old ≡ Some image → (head : VolHead) → bytes.now ≡ super_of image site.now head → IfErr result (Tells (IsLoadStop image site.now head) (IsLoadFeature image site.now head)) }
+    ensures reads { (image : List ℕ) → S.bytes src.old ≡ Some image → OnOk result (S.reads src.new ≤ S.reads src.old + (1 + map_nodes image site.now (fields.omap_oid_of bytes.now))) }
     ensures cause { IsErrOf result ReadFault → Rose (S.faults src.old) (S.faults src.new) }
     ensures kept { IsKept S.bytes S.bytes_len S.faults src.old src.new }
 {

@@ -1,5 +1,5 @@
 // The records of a volume's snapshot metadata tree, gathered in one walk.
-ghost use Rattle.std.specs.Prelude.{◌≡◌, ◌≤◌, ◌++◌, ℕ, List, [], ◌∷◌, length, Option, Some, true, not, is_some, option_map, option_to_list, OnOk, IfOk, IfErr, IsErrOf, IsTrue};
+ghost use Rattle.std.specs.Prelude.{◌≡◌, ◌≤◌, ◌+◌, ◌++◌, ℕ, List, [], ◌∷◌, length, Option, Some, true, not, is_some, option_map, option_to_list, OnOk, IfOk, IfErr, IsErrOf, IsTrue};
 ghost use Rattle.apfs_model.specs.Counts.{Rose};
 ghost use Rattle.apfs_model.specs.Kept.{IsKept};
 ghost use Rattle.obj_base.specs.Stops.{Tells, raised};
@@ -13,6 +13,7 @@ ghost use Rattle.bt_cursor.specs.WholeTree.{child_id, leaf_pairs};
 ghost use Rattle.bt_cursor.specs.Gathered.{shown};
 ghost use Rattle.vol_view.specs.Fields as fields;
 ghost use Rattle.vol_view.specs.SnapRecords.{metadata_steps};
+ghost use Rattle.vol_view.specs.ReadBound.{metadata_nodes};
 ghost use Rattle.vol_view.specs.Volumes.{super_of};
 ghost use Rattle.vol_view.specs.LoadStops.{IsLoadStop, IsLoadFeature};
 ghost use Rattle.vol_view.specs.Gathered.{snapshot_read, name_read, is_refused, metadata_stop, Tell, Gives, HasMetadata};
@@ -134,13 +135,10 @@ impl Keeper<SnapKey> for Metadata {
 fn raise(slot: u32, root: u64, stop: Stop<GatherFault>) -> Stop<VolStop>
     ensures { result ≡ raised (metadata_stop slot root) stop }
 {
-    match stop {
-        Stop::Found(GatherFault::Tree(why)) => Stop::Found(VolStop::Walk { root, why }),
-        Stop::Found(GatherFault::Refused { item: _ }) => Stop::Found(VolStop::SnapRecord { slot }),
-        Stop::Unsupported { feature, block } => Stop::Unsupported { feature, block },
-        Stop::ReadFault => Stop::ReadFault,
-        Stop::NoMemory => Stop::NoMemory,
-    }
+    stop.map(|fault| match fault {
+        GatherFault::Tree(why) => VolStop::Walk { root, why },
+        GatherFault::Refused { item: _ } => VolStop::SnapRecord { slot },
+    })
 }
 
 /// The records and the steps of the snapshot metadata tree of a volume, by its superblock's bytes, where the tree is whole and
@@ -156,6 +154,7 @@ pub(crate) fn gathered<S: BlockSource>(
     requires long { 4096 ≤ length bytes.now }
     ensures clear { (image : List ℕ) → S.bytes src.old ≡ Some image → IfOk result (λ kept. HasMetadata image site.now (fields.snaps_root_of bytes.now) kept.snapshots.items kept.names.items) }
     ensures steps { (image : List ℕ) → S.bytes src.old ≡ Some image → IfOk result (λ kept. kept.steps.items ≡ metadata_steps image site.now (fields.snaps_root_of bytes.now)) }
+    ensures reads { (image : List ℕ) → S.bytes src.old ≡ Some image → OnOk result (S.reads src.new ≤ S.reads src.old + metadata_nodes image site.now (fields.snaps_root_of bytes.now)) }
     ensures present { (image : List ℕ) → S.bytes src.old ≡ Some image → bytes.now ≡ super_of image site.now head.now → IfErr result (Tells (IsLoadStop image site.now head.now) (IsLoadFeature image site.now head.now)) }
     ensures cause { IsErrOf result ReadFault → Rose (S.faults src.old) (S.faults src.new) }
     ensures kept { IsKept S.bytes S.bytes_len S.faults src.old src.new }

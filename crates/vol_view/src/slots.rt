@@ -1,5 +1,5 @@
 // The volumes in the slots of a container's superblock.
-ghost use Rattle.std.specs.Prelude.{◌≡◌, ◌++◌, ◌<◌, ℕ, List, Some, IfOk, IfErr, IfSome, IsErrOf, OnOk, option_to_list};
+ghost use Rattle.std.specs.Prelude.{◌≡◌, ◌++◌, ◌<◌, ◌≤◌, ◌+◌, ℕ, List, length, Some, IfOk, IfErr, IfSome, IsErrOf, OnOk, option_to_list};
 ghost use Rattle.apfs_model.specs.Counts.{Rose};
 ghost use Rattle.apfs_model.specs.Lists.{In};
 ghost use Rattle.apfs_model.specs.Kept.{IsKept};
@@ -11,6 +11,7 @@ ghost use Rattle.nx_ring.specs.Checkpoint.{site_of};
 ghost use Rattle.vol_view.specs.Stops.{IsHeadsStop, IsHeadsFeature, AreRight, AreHeads};
 ghost use Rattle.vol_view.specs.Placed.{IsPlaced, IsHead};
 ghost use Rattle.vol_view.specs.Slots.{slot_of};
+ghost use Rattle.vol_view.specs.ReadBound.{heads_reads};
 
 use crate::map::container_map;
 use crate::place::locate;
@@ -41,6 +42,7 @@ fn volume_in<S: BlockSource>(
     requires low { slot < super_block.slots }
     ensures found { (image : List ℕ) → S.bytes src.old ≡ Some image → Gives (λ head. head) result (slot_of image cp.now omap.now.records slot) }
     ensures placed { IfOk result (λ head. IfSome head (IsPlaced (site_of cp.now))) }
+    ensures reads { IfOk result (λ head. S.reads src.new ≤ S.reads src.old + length (option_to_list head)) }
     ensures cause { IsErrOf result ReadFault → Rose (S.faults src.old) (S.faults src.new) }
     ensures kept { IsKept S.bytes S.bytes_len S.faults src.old src.new }
 {
@@ -69,7 +71,7 @@ fn add(heads: &mut Vec<VolHead>, head: Option<VolHead>) -> Result<(), Stop<VolSt
 /// container's object map isn't whole, and `Unnamed` where it or a volume's superblock has no block of the container;
 /// `Head` and `Magic` where a superblock isn't sound. `Unsupported` comes for a feature of the container's map and its
 /// snapshots, of a record that gives the block of a volume, or of a superblock's header. No feature of a volume is
-/// refused here.
+/// refused here. `reads`: one read for the map's object, one for each node of its trees, and one for each volume.
 pub fn heads<S: BlockSource>(
     alloc: Global,
     src: &mut S,
@@ -80,6 +82,7 @@ pub fn heads<S: BlockSource>(
     ensures each { IfOk result (λ heads. (head : VolHead) → In head heads.items → IsHead (S.bytes src.old) cp.now head) }
     ensures present { (image : List ℕ) → S.bytes src.old ≡ Some image → IfErr result (Tells (IsHeadsStop image cp.now) (IsHeadsFeature image cp.now)) }
     ensures exact { (image : List ℕ) → S.bytes src.old ≡ Some image → AreRight image cp.now → IfErr result IsFree }
+    ensures reads { (image : List ℕ) → S.bytes src.old ≡ Some image → IfOk result (λ heads. S.reads src.new ≤ S.reads src.old + heads_reads image cp.now heads.items) }
     ensures cause { IsErrOf result ReadFault → Rose (S.faults src.old) (S.faults src.new) }
     ensures kept { IsKept S.bytes S.bytes_len S.faults src.old src.new }
 {

@@ -1,5 +1,5 @@
 // The snapshots of a volume: what their records tell, and their superblocks.
-ghost use Rattle.std.specs.Prelude.{◌≡◌, ◌≤◌, ℕ, List, Some, IfOk, IfErr, IsErrOf, OnOk};
+ghost use Rattle.std.specs.Prelude.{◌≡◌, ◌≤◌, ◌+◌, ℕ, List, length, Some, IfOk, IfErr, IsErrOf, OnOk};
 ghost use Rattle.apfs_model.specs.Counts.{Rose};
 ghost use Rattle.apfs_model.specs.Lists.{In};
 ghost use Rattle.apfs_model.specs.Kept.{IsKept};
@@ -26,6 +26,7 @@ fn snapshot<S: BlockSource>(
 ) -> Result<Snapshot, Stop<VolStop>>
     requires site { IsSiteFor site.now (S.bytes_len src.old) }
     ensures clear { (image : List ℕ) → S.bytes src.old ≡ Some image → IfOk result (IsRightSnapshotOf image site.now told.now) }
+    ensures reads { S.reads src.new ≤ S.reads src.old + 1 }
     ensures present { (image : List ℕ) → S.bytes src.old ≡ Some image → IfErr result (Tells (IsRecordStop image site.now told.now) (IsRecordFeature image site.now told.now)) }
     ensures cause { IsErrOf result ReadFault → Rose (S.faults src.old) (S.faults src.new) }
     ensures kept { IsKept S.bytes S.bytes_len S.faults src.old src.new }
@@ -70,6 +71,7 @@ pub(crate) fn snapshots<S: BlockSource>(
 ) -> Result<Vec<Snapshot>, Stop<VolStop>>
     requires site { IsSiteFor site.now (S.bytes_len src.old) }
     ensures clear { (image : List ℕ) → S.bytes src.old ≡ Some image → IfOk result (λ snapshots. AreSnapshots image site.now records.now snapshots.items) }
+    ensures reads { IfOk result (λ snapshots. S.reads src.new ≤ S.reads src.old + length snapshots.items) }
     ensures present { (image : List ℕ) → S.bytes src.old ≡ Some image → IfErr result (Tells (IsStopOfOne image site.now records.now) (IsFeatureOfOne image site.now records.now)) }
     ensures cause { IsErrOf result ReadFault → Rose (S.faults src.old) (S.faults src.new) }
     ensures kept { IsKept S.bytes S.bytes_len S.faults src.old src.new }

@@ -45,12 +45,7 @@ pub(crate) fn tell(
 fn raise(stop: Stop<Unsound<HeadFault>>) -> Stop<VolStop>
     ensures { result ≡ head_raised stop }
 {
-    match stop {
-        Stop::Found(Unsound { block, why }) => Stop::Found(VolStop::Head { block, why }),
-        Stop::Unsupported { feature, block } => Stop::Unsupported { feature, block },
-        Stop::ReadFault => Stop::ReadFault,
-        Stop::NoMemory => Stop::NoMemory,
-    }
+    stop.map(|Unsound { block, why }| VolStop::Head { block, why })
 }
 
 /// The superblock of a volume in a block, or the first test that fails: those of the header, then the magic. An oid that
@@ -68,6 +63,7 @@ pub(crate) fn superblock<S: BlockSource>(
     ensures found { (image : List ℕ) → S.bytes src.old ≡ Some image → Gives (λ bytes. bytes.items) result (tested site.now oid block (super_in image site.now block)) }
     ensures same { (image : List ℕ) → S.bytes src.old ≡ Some image → IfOk result (λ bytes. bytes.items ≡ super_in image site.now block) }
     ensures long { IfOk result (λ bytes. 1024 ≤ length bytes.items) }
+    ensures reads { S.reads src.new ≤ S.reads src.old + 1 }
     ensures cause { IsErrOf result ReadFault → Rose (S.faults src.old) (S.faults src.new) }
     ensures kept { IsKept S.bytes S.bytes_len S.faults src.old src.new }
 {

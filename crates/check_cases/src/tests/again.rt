@@ -1,9 +1,10 @@
-// Snapshots over one tree: what their check reads, and what it says of them.
-use apfs_check::check;
+// Snapshots over one tree, and over trees that share leaves: what their check reads, and what it says of them.
+use apfs_check::{Fault, check};
 use blk_source::MemSource;
 use fs_name::Names;
 use img_make::records::InodePlan;
-use img_make::{FileTree, Leaf, Sample, Version, make, sample};
+use img_make::{FileTree, Leaf, Sample, Version, made, sample};
+use obj_base::Stop;
 use std::alloc::{AllocError, Global};
 use std::test::Fail;
 use tree_rules::Profile;
@@ -14,10 +15,8 @@ const FIRST_LEAF: u64 = 1031;
 // The records of the root directory and of an empty file.
 const RECORDS: u64 = 6;
 
-// The tree of a transaction, of an empty file with a name, in so many leaves: each but the last has one item.
-fn version(alloc: Global, xid: u64, name: &str, leaves: u64) -> Result<Version, AllocError> {
-    let mut tree = FileTree::new(alloc, Names::Folded)?;
-    tree.add(alloc, InodePlan::file(16, 2), name)?;
+// A tree at a transaction in so many leaves: each but the last has one item.
+fn in_leaves(alloc: Global, xid: u64, tree: FileTree, leaves: u64) -> Result<Version, AllocError> {
     let last = FIRST_LEAF.saturating_add(leaves).saturating_sub(1);
     let mut oid = FIRST_LEAF;
     let mut done = Vec::new(alloc);
@@ -38,23 +37,32 @@ fn version(alloc: Global, xid: u64, name: &str, leaves: u64) -> Result<Version, 
     })
 }
 
+// The tree of a transaction, of an empty file with a name.
+fn version(alloc: Global, xid: u64, name: &str, leaves: u64) -> Result<Version, AllocError> {
+    let mut tree = FileTree::new(alloc, Names::Folded)?;
+    tree.add(alloc, InodePlan::file(16, 2), name)?;
+    in_leaves(alloc, xid, tree, leaves)
+}
+
+// A container whose volume has a snapshot of each version.
+fn source_of(alloc: Global, versions: Vec<Version>) -> Result<MemSource, Fail> {
+    let mut plan = sample(alloc, Sample::V)?;
+    plan.xid = (versions.len() as u64).saturating_add(1);
+    if let Some(volume) = plan.volumes.first_mut() {
+        volume.versions = versions;
+    }
+    Ok(MemSource::new(made(alloc, &plan)?, Vec::new(alloc)))
+}
+
 // How many reads a check takes of a volume with snapshots of these names for its file, and how many records it counts.
 fn reads_of(alloc: Global, names: &[&str], leaves: u64) -> Result<(u64, u64), Fail> {
-    let mut plan = sample(alloc, Sample::V)?;
     let mut versions = Vec::new(alloc);
     let mut xid = 0u64;
     for name in names.iter() {
         xid = xid.saturating_add(1);
         versions.push(version(alloc, xid, *name, leaves)?)?;
     }
-    plan.xid = xid.saturating_add(1);
-    if let Some(volume) = plan.volumes.first_mut() {
-        volume.versions = versions;
-    }
-    if !plan.valid() {
-        return Err(Fail::from("the plan isn't valid"));
-    }
-    let mut src = MemSource::new(make(alloc, &plan)?, Vec::new(alloc));
+    let mut src = source_of(alloc, versions)?;
     match check(alloc, &mut src, Profile::Plain) {
         Ok(report) => Ok((src.read_count(), report.records)),
         Err(_) => Err(Fail::from("no report")),
@@ -69,7 +77,7 @@ fn reads_of_a_leaf(alloc: Global, names: &[&str]) -> Result<u64, Fail> {
     Ok(five.0.saturating_sub(four.0))
 }
 
-const ONE_TREE: [&str; 8] = ["old", "old", "old", "old", "old", "old", "old", "old"];
+const ONE_TREE: [&str; 8] = ["old"; 8];
 
 const TWO_TREES: [&str; 8] = ["old", "old", "old", "new", "new", "new", "new", "new"];
 
@@ -84,12 +92,121 @@ fn one_tree_is_walked_once(rt: HostRuntime) -> Result<(), Fail> {
     Ok(())
 }
 
-// The live view, the first snapshot and the fourth one are walked: each but the first one reads the leaf again.
+// The live view and the first snapshot are walked. The fifth leaf is in both, and is read once.
 #[test]
-fn a_tree_is_walked_again_where_a_record_lies_between(rt: HostRuntime) -> Result<(), Fail> {
+fn a_leaf_that_both_trees_have_is_read_once(rt: HostRuntime) -> Result<(), Fail> {
     let alloc = rt.alloc();
     let once = reads_of_a_leaf(alloc, &["old"])?;
-    assert_eq!(rt; reads_of_a_leaf(alloc, &TWO_TREES)?, once.saturating_add(2));
+    assert_eq!(rt; reads_of_a_leaf(alloc, &TWO_TREES)?, once);
     assert_eq!(rt; reads_of(alloc, &TWO_TREES, 5)?.1, 9 * RECORDS);
+    Ok(())
+}
+
+// What a directory holds: nothing, an empty file with a name, or one whose inode tells two links.
+#[derive(Clone, Copy, Debug)]
+enum Held {
+    Nothing,
+    File(&'static str),
+    TwoLinks,
+}
+
+// The leaves in which the root directory, three files and the directory stand, the last one also with what the directory holds.
+const LEAVES: u64 = 11;
+
+// The records of the root directory, three files and a directory.
+const STEADY: u64 = 12;
+
+// The tree of a transaction: three files, and a directory that holds this.
+fn holding(alloc: Global, xid: u64, held: Held) -> Result<Version, AllocError> {
+    let mut tree = FileTree::new(alloc, Names::Folded)?;
+    tree.add(alloc, InodePlan::file(16, 2), "a")?;
+    tree.add(alloc, InodePlan::file(17, 2), "b")?;
+    tree.add(alloc, InodePlan::file(18, 2), "c")?;
+    tree.add(alloc, InodePlan::directory(30, 2), "d")?;
+    match held {
+        Held::Nothing => {}
+        Held::File(name) => tree.add(alloc, InodePlan::file(31, 30), name)?,
+        Held::TwoLinks => {
+            tree.add(alloc, InodePlan::file(31, 30), "x")?;
+            tree.inode(InodePlan {
+                children_or_links: 2,
+                ..InodePlan::file(31, 30)
+            })?;
+        }
+    }
+    in_leaves(alloc, xid, tree, LEAVES)
+}
+
+// Five snapshots by what the directory holds in each, and the transaction of the view of which a number of links is named, if one is; otherwise how
+// many views have the file.
+struct Case {
+    held: [Held; 5],
+    links: Option<u64>,
+    with_file: u64,
+}
+
+const X: Held = Held::File("x");
+
+const Y: Held = Held::File("y");
+
+const NO: Held = Held::Nothing;
+
+// The live view is that of the fifth snapshot.
+const CASES: [Case; 5] = [
+    Case {
+        held: [NO, NO, X, X, X],
+        links: None,
+        with_file: 4,
+    },
+    Case {
+        held: [X, X, NO, NO, NO],
+        links: None,
+        with_file: 2,
+    },
+    Case {
+        held: [X, X, Y, Y, Y],
+        links: None,
+        with_file: 6,
+    },
+    Case {
+        held: [X, Y, X, NO, X],
+        links: None,
+        with_file: 5,
+    },
+    Case {
+        held: [X, X, Held::TwoLinks, X, X],
+        links: Some(3),
+        with_file: 0,
+    },
+];
+
+#[test]
+fn snapshots_that_share_leaves_are_tested(rt: HostRuntime) -> Result<(), Fail> {
+    let alloc = rt.alloc();
+    for case in &CASES {
+        let mut versions = Vec::new(alloc);
+        let mut xid = 0u64;
+        for held in &case.held {
+            xid = xid.saturating_add(1);
+            versions.push(holding(alloc, xid, *held)?)?;
+        }
+        let mut src = source_of(alloc, versions)?;
+        match check(alloc, &mut src, Profile::Plain) {
+            Ok(report) => {
+                assert!(rt; case.links.is_none(), "{:?}", case.held);
+                assert_eq!(rt;
+                    report.records,
+                    6 * STEADY + 2 * case.with_file,
+                    "{:?}",
+                    case.held
+                );
+                assert!(rt; report.notes.is_empty(), "{:?}", case.held);
+            }
+            Err(Stop::Found(Fault::Links(at))) => {
+                assert_eq!(rt; (Some(at.xid), at.id), (case.links, 31), "{:?}", case.held);
+            }
+            Err(_) => return Err(Fail::from("another fault")),
+        }
+    }
     Ok(())
 }

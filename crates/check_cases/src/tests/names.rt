@@ -5,20 +5,24 @@ use apfs_layout::key::LEN_AND_HASH;
 use blk_source::Bytes;
 use fs_name::Names;
 use img_make::records::InodePlan;
-use img_make::{FileTree, Item, Leaf, Plan, Sample, Version, make, put_u32, sample};
+use img_make::{FileTree, Item, Sample, image_with, put_u32};
 use obj_base::Stop;
 use std::alloc::{AllocError, Global};
 use std::test::Fail;
 use tree_rules::{Note, Profile};
 use view_rules::NamedAt;
 
-// The oid of the root of the volume's file-system tree.
-const ROOT_OID: u64 = 1028;
-
 // The name, whose two bytes and the zero behind them follow 12 bytes in the key of its entry.
 const NAME: &str = "é";
 
 const KEY_LEN: usize = 15;
+
+const NUMBERS: Numbers = Numbers {
+    records: 8,
+    used: 58,
+    free: 198,
+    ..SMALL_NUMBERS
+};
 
 // The records of a volume with the file `é`, which has block 57.
 fn items_of(alloc: Global) -> Result<Vec<Item>, AllocError> {
@@ -39,37 +43,16 @@ fn clear_hash(items: &mut [Item]) {
     }
 }
 
-// Puts a tree of a leaf in the place of that of the plan's volume.
-fn set_tree(plan: &mut Plan, versions: Vec<Version>) {
-    if let Some(volume) = plan.volumes.first_mut() {
-        volume.versions = versions;
-    }
-}
-
 // A container whose volume has these records.
-fn image_with(alloc: Global, items: Vec<Item>) -> Result<Vec<u8>, Fail> {
-    let mut plan = sample(alloc, Sample::H)?;
-    let leaf = Leaf {
-        oid: ROOT_OID,
-        items,
-    };
-    let version = Version {
-        xid: 1,
-        snapshot: None,
-        leaves: vec![in alloc; leaf]?,
-    };
-    set_tree(&mut plan, vec![in alloc; version]?);
-    if !plan.valid() {
-        return Err(Fail::from("the plan isn't valid"));
-    }
-    Ok(make(alloc, &plan)?)
+fn image_of(alloc: Global, items: Vec<Item>) -> Result<Vec<u8>, Fail> {
+    image_with(alloc, Sample::H, Names::Folded, items)
 }
 
 // The container whose file has the hash 0.
 fn other_hash(alloc: Global) -> Result<Vec<u8>, Fail> {
     let mut items = items_of(alloc)?;
     clear_hash(&mut items);
-    image_with(alloc, items)
+    image_of(alloc, items)
 }
 
 // The name where it stands: in the root of the only volume.
@@ -89,15 +72,7 @@ fn note_hash(rt: HostRuntime) -> Result<(), Fail> {
     let Ok(report) = told(alloc, other_hash(alloc)?, Profile::Plain) else {
         panic!(rt; "the container isn't well-formed");
     };
-    assert_eq!(rt;
-        numbers_of(&report),
-        Numbers {
-            records: 8,
-            used: 58,
-            free: 198,
-            ..SMALL_NUMBERS
-        }
-    );
+    assert_eq!(rt; numbers_of(&report), NUMBERS);
     assert!(rt; report.notes.as_slice() == notes.as_slice());
     Ok(())
 }
@@ -114,15 +89,6 @@ fn fault_name_hash(rt: HostRuntime) -> Result<(), Fail> {
 #[test]
 fn clean_name_of_other_letters(rt: HostRuntime) -> Result<(), Fail> {
     let alloc = rt.alloc();
-    let image = image_with(alloc, items_of(alloc)?)?;
-    let said = Said::Clean(
-        Numbers {
-            records: 8,
-            used: 58,
-            free: 198,
-            ..SMALL_NUMBERS
-        },
-        &[],
-    );
-    assert_row(&rt, alloc, NAME, &image, BOTH, said)
+    let image = image_of(alloc, items_of(alloc)?)?;
+    assert_row(&rt, alloc, NAME, &image, BOTH, Said::Clean(NUMBERS, &[]))
 }

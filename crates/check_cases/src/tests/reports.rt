@@ -1,148 +1,27 @@
 // The reports of the samples. How many objects and used blocks each has, another program counted; how many records each has, the table
 // of samples says: four of the two directories, and those of its files, in each view.
-use crate::tests::rows::{BOTH, Numbers, Row, SMALL_NUMBERS, Said, assert_rows};
+use crate::tests::rows::Said::Clean;
+use crate::tests::rows::{BOTH, Numbers, Row, SMALL_NUMBERS, SMALL_REPORT, assert_rows};
 use apfs_check::check;
 use blk_source::{BlockSource, MemSource};
-use img_make::{SMALL, Sample, image};
+use img_make::{SMALL, Sample, image, table};
 use std::test::Fail;
 use tree_rules::Profile;
 
-const REPORTS: &[Row] = &[
-    Row {
-        name: "clean_report_small",
-        base: SMALL,
-        changes: &[],
-        profiles: BOTH,
-        said: Said::Clean(SMALL_NUMBERS, &[]),
-    },
-    Row {
-        name: "clean_report_hello",
-        base: (Sample::H, &[], &[]),
-        changes: &[],
-        profiles: BOTH,
-        said: Said::Clean(
-            Numbers {
-                records: 8,
-                used: 58,
-                free: 198,
-                ..SMALL_NUMBERS
-            },
-            &[],
-        ),
-    },
-    Row {
-        name: "clean_report_links",
-        base: (Sample::L, &[], &[]),
-        changes: &[],
-        profiles: BOTH,
-        said: Said::Clean(
-            Numbers {
-                records: 11,
-                ..SMALL_NUMBERS
-            },
-            &[],
-        ),
-    },
-    Row {
-        name: "clean_report_hole",
-        base: (Sample::P, &[], &[]),
-        changes: &[],
-        profiles: BOTH,
-        said: Said::Clean(
-            Numbers {
-                records: 9,
-                used: 58,
-                free: 198,
-                ..SMALL_NUMBERS
-            },
-            &[],
-        ),
-    },
-    Row {
-        name: "clean_report_shared",
-        base: (Sample::C, &[], &[]),
-        changes: &[],
-        profiles: BOTH,
-        said: Said::Clean(
-            Numbers {
-                records: 12,
-                used: 58,
-                free: 198,
-                ..SMALL_NUMBERS
-            },
-            &[],
-        ),
-    },
-    Row {
-        name: "clean_report_jumpstart",
-        base: (Sample::J, &[], &[]),
-        changes: &[],
-        profiles: BOTH,
-        said: Said::Clean(
-            Numbers {
-                objects: 15,
-                used: 60,
-                free: 196,
-                ..SMALL_NUMBERS
-            },
-            &[],
-        ),
-    },
-    Row {
-        name: "clean_report_two_volumes",
-        base: (Sample::T, &[], &[]),
-        changes: &[],
-        profiles: BOTH,
-        said: Said::Clean(
-            Numbers {
-                volumes: 2,
-                views: 2,
-                objects: 20,
-                records: 12,
-                used: 64,
-                free: 192,
-                ..SMALL_NUMBERS
-            },
-            &[],
-        ),
-    },
-    Row {
-        name: "clean_report_snapshots",
-        base: (Sample::V, &[], &[]),
-        changes: &[],
-        profiles: BOTH,
-        said: Said::Clean(
-            Numbers {
-                xid: 5,
-                views: 3,
-                objects: 22,
-                records: 18,
-                used: 65,
-                free: 191,
-                ..SMALL_NUMBERS
-            },
-            &[],
-        ),
-    },
-    Row {
-        name: "clean_report_eight_snapshots",
-        base: (Sample::V2, &[], &[]),
-        changes: &[],
-        profiles: BOTH,
-        said: Said::Clean(
-            Numbers {
-                xid: 9,
-                views: 9,
-                objects: 34,
-                records: 54,
-                used: 77,
-                free: 179,
-                ..SMALL_NUMBERS
-            },
-            &[],
-        ),
-    },
-];
+const REPORTS: &[Row] = table! {
+    "clean_report_small", SMALL, &[], BOTH, SMALL_REPORT;
+    "clean_report_hello", (Sample::H, &[], &[]), &[], BOTH, Clean(Numbers { records: 8, used: 58, free: 198, ..SMALL_NUMBERS }, &[]);
+    "clean_report_links", (Sample::L, &[], &[]), &[], BOTH, Clean(Numbers { records: 11, ..SMALL_NUMBERS }, &[]);
+    "clean_report_hole", (Sample::P, &[], &[]), &[], BOTH, Clean(Numbers { records: 9, used: 58, free: 198, ..SMALL_NUMBERS }, &[]);
+    "clean_report_shared", (Sample::C, &[], &[]), &[], BOTH, Clean(Numbers { records: 12, used: 58, free: 198, ..SMALL_NUMBERS }, &[]);
+    "clean_report_jumpstart", (Sample::J, &[], &[]), &[], BOTH, Clean(Numbers { objects: 15, used: 60, free: 196, ..SMALL_NUMBERS }, &[]);
+    "clean_report_two_volumes", (Sample::T, &[], &[]), &[], BOTH,
+        Clean(Numbers { volumes: 2, views: 2, objects: 20, records: 12, used: 64, free: 192, ..SMALL_NUMBERS }, &[]);
+    "clean_report_snapshots", (Sample::V, &[], &[]), &[], BOTH,
+        Clean(Numbers { xid: 5, views: 3, objects: 22, records: 18, used: 65, free: 191, ..SMALL_NUMBERS }, &[]);
+    "clean_report_eight_snapshots", (Sample::V2, &[], &[]), &[], BOTH,
+        Clean(Numbers { xid: 9, views: 9, objects: 34, records: 54, used: 77, free: 179, ..SMALL_NUMBERS }, &[]);
+};
 
 #[test]
 fn reports_are_as_said(rt: HostRuntime) -> Result<(), Fail> {

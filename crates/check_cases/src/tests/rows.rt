@@ -77,15 +77,17 @@ pub enum Said {
     Feature(Feature, u64),
 }
 
-// A case: what an image is made of, its changes, the profiles under which it is checked, and what is said of it.
-#[derive(Clone, Copy, Debug)]
-pub struct Row {
-    pub name: &'static str,
-    pub base: Base,
-    pub changes: &'static [Change],
-    pub profiles: &'static [Profile],
-    pub said: Said,
-}
+// A case: its name, what an image is made of, its changes, the profiles under which it is checked, and what is said of it.
+pub type Row = (
+    &'static str,
+    Base,
+    &'static [Change],
+    &'static [Profile],
+    Said,
+);
+
+// What is said of the small container.
+pub const SMALL_REPORT: Said = Said::Clean(SMALL_NUMBERS, &[]);
 
 pub const PLAIN: &[Profile] = &[Profile::Plain];
 
@@ -187,22 +189,15 @@ fn are_notes(notes: &[Note], meant: &[Noted]) -> bool {
 
 // Whether what is answered is what is said.
 fn is_as_said(answer: &Result<Report, Stop<Fault>>, said: Said) -> bool {
-    match answer {
-        Ok(report) => match said {
-            Said::Clean(want, notes) => {
-                numbers_of(report) == want && are_notes(&report.notes, notes)
-            }
-            _ => false,
-        },
-        Err(Stop::Found(fault)) => match said {
-            Said::Fault(wrong) => *fault == fault_of(wrong),
-            _ => false,
-        },
-        Err(Stop::Unsupported { feature, block }) => match said {
-            Said::Feature(want, at) => *feature == want && *block == at,
-            _ => false,
-        },
-        Err(_) => false,
+    match (answer, said) {
+        (Ok(report), Said::Clean(want, notes)) => {
+            numbers_of(report) == want && are_notes(&report.notes, notes)
+        }
+        (Err(Stop::Found(fault)), Said::Fault(wrong)) => *fault == fault_of(wrong),
+        (Err(Stop::Unsupported { feature, block }), Said::Feature(want, at)) => {
+            *feature == want && *block == at
+        }
+        _ => false,
     }
 }
 
@@ -225,9 +220,9 @@ pub(super) fn assert_row(
 
 // Whether each image of a table is as said.
 pub(super) fn assert_rows(rt: &impl Abort, alloc: Global, rows: &[Row]) -> Result<(), Fail> {
-    for row in rows.iter() {
-        let image = image(alloc, &row.base, row.changes)?;
-        assert_row(rt, alloc, row.name, &image, row.profiles, row.said)?;
+    for (name, base, changes, profiles, said) in rows {
+        let image = image(alloc, base, changes)?;
+        assert_row(rt, alloc, name, &image, profiles, *said)?;
     }
     Ok(())
 }

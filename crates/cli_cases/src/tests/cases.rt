@@ -1,16 +1,15 @@
 // The cases: what a run is handed, and how it ends. Their lines were worked out by hand.
+use crate::tests::images::Image::*;
 use crate::tests::images::*;
+use Ends::*;
 use apfs_layout::chunk_info::{CHUNK_BITMAP, CIB_ENTRIES};
-use apfs_layout::{node, object, object_map, space_manager, volume};
+use apfs_layout::{container, node, object, object_map, space_manager, volume};
+use img_make::Change::{Bare, Put};
+use img_make::cases::{QUEUED, SNAPSHOTS as TWO_SNAPSHOTS};
+use img_make::{SMALL, Sample, table};
 
-// A case: what a run is handed, and how it ends.
-#[derive(Clone, Copy)]
-pub struct Case {
-    pub name: &'static str,
-    pub image: Image,
-    pub words: &'static [&'static str],
-    pub ends: Ends,
-}
+// A case: its name, what a run is handed, and how it ends.
+pub type Case = (&'static str, Image, &'static [&'static str], Ends);
 
 // How a run ends: with a text on the first sink, or with a line on the second.
 #[derive(Clone, Copy)]
@@ -25,36 +24,16 @@ pub enum Ends {
 }
 
 impl Ends {
-    // The status.
-    pub fn status(self) -> u8 {
+    // The status, what is written on the first sink, and what on the second.
+    pub fn said(self) -> (u8, &'static str, &'static str) {
         match self {
-            Ends::Wrote(_) => 0,
-            Ends::Faulty(_) => 1,
-            Ends::Usage => 2,
-            Ends::Refused(_) => 6,
-            Ends::Answered(_) => 7,
-            Ends::NoImage => 8,
-            Ends::NoFolder => 9,
-        }
-    }
-
-    // What is written on the first sink.
-    pub fn text(self) -> &'static str {
-        match self {
-            Ends::Wrote(text) => text,
-            Ends::Faulty(_) | Ends::Refused(_) | Ends::Answered(_) => "",
-            Ends::Usage | Ends::NoImage | Ends::NoFolder => "",
-        }
-    }
-
-    // What is written on the second sink.
-    pub fn line(self) -> &'static str {
-        match self {
-            Ends::Wrote(_) => "",
-            Ends::Faulty(line) | Ends::Refused(line) | Ends::Answered(line) => line,
-            Ends::Usage => "apfs: usage: apfs COMMAND IMAGE [WORDS]\n",
-            Ends::NoImage => NO_IMAGE,
-            Ends::NoFolder => "apfs: no folder\n",
+            Wrote(text) => (0, text, ""),
+            Faulty(line) => (1, "", line),
+            Usage => (2, "", "apfs: usage: apfs COMMAND IMAGE [WORDS]\n"),
+            Refused(line) => (6, "", line),
+            Answered(line) => (7, "", line),
+            NoImage => (8, "", NO_IMAGE),
+            NoFolder => (9, "", "apfs: no folder\n"),
         }
     }
 }
@@ -76,65 +55,33 @@ pub const LS_OLD: &[&str] = &["ls", "x", "/", "--snapshot", "s2", "--quick"];
 pub const TREE_OLD: &[&str] = &["tree", "x", "--snapshot=s2", "/", "--quick"];
 
 // A directory with an empty file.
-pub const FOLDER: Image = Image::Files(&[
-    Entry {
-        directory: 2,
-        file: 16,
-        kind: 4,
-        name: "d",
-    },
-    Entry {
-        directory: 16,
-        file: 17,
-        kind: 8,
-        name: "f",
-    },
-]);
+pub const FOLDER: Image = Files(&[(2, 16, 4, "d"), (16, 17, 8, "f")]);
 
 // Two empty files whose names are alike.
-pub const ALIKE: Image = Image::Files(&[
-    Entry {
-        directory: 2,
-        file: 16,
-        kind: 8,
-        name: "a",
-    },
-    Entry {
-        directory: 2,
-        file: 17,
-        kind: 8,
-        name: "A",
-    },
-]);
+pub const ALIKE: Image = Files(&[(2, 16, 8, "a"), (2, 17, 8, "A")]);
 
 // A directory that is named by the root and in itself.
-pub const NAMED_TWICE: Image = Image::Named(
-    &[Entry {
-        directory: 2,
-        file: 16,
-        kind: 4,
-        name: "d",
-    }],
-    &[Name {
-        directory: 16,
-        file: 16,
-        name: "d",
-    }],
-);
+pub const NAMED_TWICE: Image = Named(&[(2, 16, 4, "d")], &[(16, 16, "d")]);
 
 // A directory with two names in the root.
-pub const TWO_NAMES: Image = Image::Named(
-    &[Entry {
-        directory: 2,
-        file: 16,
-        kind: 4,
-        name: "c",
-    }],
-    &[Name {
-        directory: 2,
-        file: 16,
-        name: "d",
-    }],
+pub const TWO_NAMES: Image = Named(&[(2, 16, 4, "c")], &[(2, 16, "d")]);
+
+// The superblock of the container with two snapshots names its volume in slot 3.
+const VIEWS_LATER: Image = Made(
+    TWO_SNAPSHOTS,
+    &[
+        Put(SUPERBLOCK, container::FS_OID, &[0, 0]),
+        Put(SUPERBLOCK, container::FS_OID + 3 * 8, &[2, 4]),
+    ],
+);
+
+// A container with two volumes, and the keys of the records of its map, of 16 bytes each, are exchanged.
+const EXCHANGED: Image = Made(
+    (Sample::T, &[], &[]),
+    &[
+        Put(MAP_TREE, node::TABLE, &[16, 0]),
+        Put(MAP_TREE, node::TABLE + 4, &[0, 0]),
+    ],
 );
 
 pub const SPACE_QUEUED_LINES: &str =
@@ -172,757 +119,143 @@ pub const SMALL_LINE: &str = "0 ffeeddcc-bbaa-9988-7766-554433221100 0 folded 0 
 
 pub const RENAMED_LINE: &str = "0 ffeeddcc-bbaa-9988-7766-554433221100 0 folded 0 a\\x0ab\\x2f\n";
 
-pub const CASES: &[Case] = &[
-    Case {
-        name: "clean_ring",
-        image: Image::Ring,
-        words: RING,
-        ends: Ends::Wrote(RING_LINES),
-    },
-    Case {
-        name: "fault_truncated",
-        image: Image::RingCut,
-        words: RING,
-        ends: Ends::Faulty("apfs: fault: Truncated have 255 need 256\n"),
-    },
-    Case {
-        name: "fault_block_zero_short",
-        image: Image::RingShort,
-        words: RING,
-        ends: Ends::Faulty("apfs: fault: BlockZero\n"),
-    },
-    Case {
-        name: "fault_truncated_info",
-        image: Image::SmallCutSplit,
-        words: INFO,
-        ends: Ends::Faulty("apfs: fault: Truncated have 255 need 256\n"),
-    },
-    Case {
-        name: "fault_truncated_volumes",
-        image: Image::SmallCutSplit,
-        words: VOLUMES,
-        ends: Ends::Faulty("apfs: fault: Truncated have 255 need 256\n"),
-    },
-    Case {
-        name: "feature_non_contiguous_volumes",
-        image: Image::SmallSplit,
-        words: VOLUMES,
-        ends: Ends::Refused("apfs: unsupported: NonContiguous block 0\n"),
-    },
-    Case {
-        name: "feature_non_contiguous",
-        image: Image::RingSplit,
-        words: RING,
-        ends: Ends::Refused("apfs: unsupported: NonContiguous block 0\n"),
-    },
-    Case {
-        name: "words_none",
-        image: Image::Absent,
-        words: &[],
-        ends: Ends::Usage,
-    },
-    Case {
-        name: "words_ring_alone",
-        image: Image::Absent,
-        words: &["ring"],
-        ends: Ends::Usage,
-    },
-    Case {
-        name: "words_ring_three",
-        image: Image::Ring,
-        words: &["ring", "x", "y"],
-        ends: Ends::Usage,
-    },
-    Case {
-        name: "words_unknown",
-        image: Image::Ring,
-        words: &["checks", "x"],
-        ends: Ends::Usage,
-    },
-    Case {
-        name: "words_info_three",
-        image: Image::Empty,
-        words: &["info", "x", "y"],
-        ends: Ends::Usage,
-    },
-    Case {
-        name: "answer_no_image",
-        image: Image::Absent,
-        words: RING,
-        ends: Ends::NoImage,
-    },
-    Case {
-        name: "answer_no_image_info",
-        image: Image::Absent,
-        words: INFO,
-        ends: Ends::NoImage,
-    },
-    Case {
-        name: "clean_info",
-        image: Image::Empty,
-        words: INFO,
-        ends: Ends::Wrote(INFO_LINES),
-    },
-    Case {
-        name: "clean_info_skipped",
-        image: Image::EmptySkipped,
-        words: INFO,
-        ends: Ends::Wrote(SKIPPED_LINES),
-    },
-    Case {
-        name: "fault_no_checkpoint",
-        image: Image::EmptyUnsummed,
-        words: INFO,
-        ends: Ends::Faulty("apfs: fault: NoCheckpoint\n"),
-    },
-    Case {
-        name: "feature_fusion",
-        image: Image::EmptyFeatures(0x102),
-        words: INFO,
-        ends: Ends::Refused("apfs: unsupported: Fusion block 2\n"),
-    },
-    Case {
-        name: "feature_version",
-        image: Image::EmptyFeatures(0),
-        words: INFO,
-        ends: Ends::Refused("apfs: unsupported: Version block 2\n"),
-    },
-    Case {
-        name: "feature_unknown_container",
-        image: Image::EmptyFeatures(0x402),
-        words: INFO,
-        ends: Ends::Refused("apfs: unsupported: UnknownContainer block 2\n"),
-    },
-    Case {
-        name: "feature_resizing",
-        image: Image::EmptyResizing,
-        words: INFO,
-        ends: Ends::Refused("apfs: unsupported: Resizing block 2\n"),
-    },
-    Case {
-        name: "fault_block_zero_info",
-        image: Image::RingShort,
-        words: INFO,
-        ends: Ends::Faulty("apfs: fault: BlockZero\n"),
-    },
-    Case {
-        name: "clean_volumes",
-        image: Image::Small,
-        words: VOLUMES,
-        ends: Ends::Wrote(SMALL_LINE),
-    },
-    Case {
-        name: "clean_volumes_none",
-        image: Image::Empty,
-        words: VOLUMES,
-        ends: Ends::Wrote(""),
-    },
-    Case {
-        name: "clean_volumes_flagless",
-        image: Image::SmallChanged(VOLUME, volume::FS_FLAGS, &[0]),
-        words: VOLUMES,
-        ends: Ends::Wrote(SMALL_LINE),
-    },
-    Case {
-        name: "clean_volumes_renamed",
-        image: Image::SmallChanged(VOLUME, volume::NAME, b"a\nb/\0"),
-        words: VOLUMES,
-        ends: Ends::Wrote(RENAMED_LINE),
-    },
-    Case {
-        name: "fault_unnamed_volume",
-        image: Image::SmallChanged(MAP_TREE, ONLY_VALUE, &[1]),
-        words: VOLUMES,
-        ends: Ends::Faulty("apfs: fault: Unnamed container oid 1026 xid 1\n"),
-    },
-    Case {
-        name: "fault_unsound_volume",
-        image: Image::SmallUnsummed,
-        words: VOLUMES,
-        ends: Ends::Faulty("apfs: fault: Unsound block 51 BadSum\n"),
-    },
-    Case {
-        name: "fault_magic_volume",
-        image: Image::SmallChanged(VOLUME, volume::MAGIC, b"NXSB"),
-        words: VOLUMES,
-        ends: Ends::Faulty("apfs: fault: Unsound block 51 Magic\n"),
-    },
-];
+pub const CASES: &[Case] = table! {
+    "clean_ring", Ring, RING, Wrote(RING_LINES);
+    "fault_truncated", RingCut, RING, Faulty("apfs: fault: Truncated have 255 need 256\n");
+    "fault_block_zero_short", RingShort, RING, Faulty("apfs: fault: BlockZero\n");
+    "fault_truncated_info", SmallCutSplit, INFO, Faulty("apfs: fault: Truncated have 255 need 256\n");
+    "fault_truncated_volumes", SmallCutSplit, VOLUMES, Faulty("apfs: fault: Truncated have 255 need 256\n");
+    "feature_non_contiguous_volumes", SmallChanged(0, container::DESC_BLOCKS + 3, &[0x80]), VOLUMES, Refused("apfs: unsupported: NonContiguous block 0\n");
+    "feature_non_contiguous", RingSplit, RING, Refused("apfs: unsupported: NonContiguous block 0\n");
+    "words_none", Absent, &[], Usage;
+    "words_ring_alone", Absent, &["ring"], Usage;
+    "words_ring_three", Ring, &["ring", "x", "y"], Usage;
+    "words_unknown", Ring, &["checks", "x"], Usage;
+    "words_info_three", Empty, &["info", "x", "y"], Usage;
+    "answer_no_image", Absent, RING, NoImage;
+    "answer_no_image_info", Absent, INFO, NoImage;
+    "clean_info", Empty, INFO, Wrote(INFO_LINES);
+    "clean_info_skipped", EmptySkipped, INFO, Wrote(SKIPPED_LINES);
+    "fault_no_checkpoint", EmptyUnsummed, INFO, Faulty("apfs: fault: NoCheckpoint\n");
+    "feature_fusion", EmptyFeatures(0x102), INFO, Refused("apfs: unsupported: Fusion block 2\n");
+    "feature_version", EmptyFeatures(0), INFO, Refused("apfs: unsupported: Version block 2\n");
+    "feature_unknown_container", EmptyFeatures(0x402), INFO, Refused("apfs: unsupported: UnknownContainer block 2\n");
+    "feature_resizing", EmptyResizing, INFO, Refused("apfs: unsupported: Resizing block 2\n");
+    "fault_block_zero_info", RingShort, INFO, Faulty("apfs: fault: BlockZero\n");
+};
+
+// Those of `volumes`.
+pub const LIST_CASES: &[Case] = table! {
+    "clean_volumes", Small, VOLUMES, Wrote(SMALL_LINE);
+    "clean_volumes_none", Empty, VOLUMES, Wrote("");
+    "clean_volumes_flagless", SmallChanged(VOLUME, volume::FS_FLAGS, &[0]), VOLUMES, Wrote(SMALL_LINE);
+    "clean_volumes_renamed", SmallChanged(VOLUME, volume::NAME, b"a\nb/\0"), VOLUMES, Wrote(RENAMED_LINE);
+    "fault_unnamed_volume", SmallChanged(MAP_TREE, ONLY_VALUE, &[1]), VOLUMES, Faulty("apfs: fault: Unnamed container oid 1026 xid 1\n");
+    "fault_unsound_volume", Made(SMALL, &[Bare(VOLUME, object::SUM, &[0, 0])]), VOLUMES, Faulty("apfs: fault: Unsound block 51 BadSum\n");
+    "fault_magic_volume", SmallChanged(VOLUME, volume::MAGIC, b"NXSB"), VOLUMES, Faulty("apfs: fault: Unsound block 51 Magic\n");
+};
 
 // Those of features, and of words.
-pub const FEATURE_CASES: &[Case] = &[
-    Case {
-        name: "feature_container_snapshots",
-        image: Image::SmallChanged(MAP, object_map::SNAP_COUNT, &[1]),
-        words: VOLUMES,
-        ends: Ends::Refused("apfs: unsupported: ContainerSnapshots block 25\n"),
-    },
-    Case {
-        name: "feature_revert",
-        image: Image::SmallChanged(MAP, object_map::REVERT_MIN, &[1]),
-        words: VOLUMES,
-        ends: Ends::Refused("apfs: unsupported: Revert block 25\n"),
-    },
-    Case {
-        name: "feature_encrypted",
-        image: Image::SmallChanged(MAP_TREE, ONLY_VALUE, &[4]),
-        words: VOLUMES,
-        ends: Ends::Refused("apfs: unsupported: Encrypted block 51\n"),
-    },
-    Case {
-        name: "feature_no_header",
-        image: Image::SmallChanged(MAP_TREE, ONLY_VALUE, &[8]),
-        words: VOLUMES,
-        ends: Ends::Refused("apfs: unsupported: NoHeader block 51\n"),
-    },
-    Case {
-        name: "feature_size",
-        image: Image::SmallChanged(MAP_TREE, ONLY_VALUE + 4, &[0, 32]),
-        words: VOLUMES,
-        ends: Ends::Refused("apfs: unsupported: Size block 51\n"),
-    },
-    Case {
-        name: "feature_sealed",
-        image: Image::SmallChanged(MAP_TREE, node::FLAGS, &[15]),
-        words: VOLUMES,
-        ends: Ends::Refused("apfs: unsupported: Sealed block 26\n"),
-    },
-    Case {
-        name: "feature_deep",
-        image: Image::SmallChanged(MAP_TREE, node::FLAGS, &[5, 0, 16]),
-        words: VOLUMES,
-        ends: Ends::Refused("apfs: unsupported: Deep block 26\n"),
-    },
-    Case {
-        name: "fault_tree_counts",
-        image: Image::SmallChanged(MAP_TREE, ROOT_KEY_COUNT, &[2]),
-        words: VOLUMES,
-        ends: Ends::Faulty("apfs: fault: Counts root 26\n"),
-    },
-    Case {
-        name: "fault_tree_order",
-        image: Image::TwoExchanged,
-        words: VOLUMES,
-        ends: Ends::Faulty("apfs: fault: Order root 26 item 1\n"),
-    },
-    Case {
-        name: "fault_bad_kind",
-        image: Image::SmallChanged(VOLUME, object::TYPE, &[14]),
-        words: VOLUMES,
-        ends: Ends::Faulty("apfs: fault: Unsound block 51 BadKind\n"),
-    },
-    Case {
-        name: "fault_bad_subtype",
-        image: Image::SmallChanged(MAP_TREE, object::SUBTYPE, &[12]),
-        words: VOLUMES,
-        ends: Ends::Faulty("apfs: fault: Unsound block 26 BadSubtype\n"),
-    },
-    Case {
-        name: "fault_bad_oid",
-        image: Image::SmallChanged(VOLUME, object::OID, &[3]),
-        words: VOLUMES,
-        ends: Ends::Faulty("apfs: fault: Unsound block 51 BadOid\n"),
-    },
-    Case {
-        name: "fault_bad_xid",
-        image: Image::SmallChanged(VOLUME, object::XID, &[2]),
-        words: VOLUMES,
-        ends: Ends::Faulty("apfs: fault: Unsound block 51 BadXid\n"),
-    },
-    Case {
-        name: "fault_node_flags",
-        image: Image::SmallChanged(MAP_TREE, node::FLAGS, &[5]),
-        words: VOLUMES,
-        ends: Ends::Faulty("apfs: fault: Unsound block 26 Flags\n"),
-    },
-    Case {
-        name: "fault_node_bounds",
-        image: Image::SmallChanged(MAP_TREE, node::TABLE_LENGTH + 1, &[16]),
-        words: VOLUMES,
-        ends: Ends::Faulty("apfs: fault: Unsound block 26 Bounds\n"),
-    },
-    Case {
-        name: "fault_node_empty",
-        image: Image::SmallChanged(MAP_TREE, node::FLAGS, &[5, 0, 1, 0, 0]),
-        words: VOLUMES,
-        ends: Ends::Faulty("apfs: fault: Unsound block 26 Empty\n"),
-    },
-    Case {
-        name: "fault_node_ghost",
-        image: Image::SmallChanged(MAP_TREE, node::TABLE + 2, &[255, 255]),
-        words: VOLUMES,
-        ends: Ends::Faulty("apfs: fault: Unsound block 26 Ghost\n"),
-    },
-];
+pub const FEATURE_CASES: &[Case] = table! {
+    "feature_container_snapshots", SmallChanged(MAP, object_map::SNAP_COUNT, &[1]), VOLUMES,
+        Refused("apfs: unsupported: ContainerSnapshots block 25\n");
+    "feature_revert", SmallChanged(MAP, object_map::REVERT_MIN, &[1]), VOLUMES, Refused("apfs: unsupported: Revert block 25\n");
+    "feature_encrypted", SmallChanged(MAP_TREE, ONLY_VALUE, &[4]), VOLUMES, Refused("apfs: unsupported: Encrypted block 51\n");
+    "feature_no_header", SmallChanged(MAP_TREE, ONLY_VALUE, &[8]), VOLUMES, Refused("apfs: unsupported: NoHeader block 51\n");
+    "feature_size", SmallChanged(MAP_TREE, ONLY_VALUE + 4, &[0, 32]), VOLUMES, Refused("apfs: unsupported: Size block 51\n");
+    "feature_sealed", SmallChanged(MAP_TREE, node::FLAGS, &[15]), VOLUMES, Refused("apfs: unsupported: Sealed block 26\n");
+    "feature_deep", SmallChanged(MAP_TREE, node::FLAGS, &[5, 0, 16]), VOLUMES, Refused("apfs: unsupported: Deep block 26\n");
+    "fault_tree_counts", SmallChanged(MAP_TREE, ROOT_KEY_COUNT, &[2]), VOLUMES, Faulty("apfs: fault: Counts root 26\n");
+    "fault_tree_order", EXCHANGED, VOLUMES, Faulty("apfs: fault: Order root 26 item 1\n");
+    "fault_bad_kind", SmallChanged(VOLUME, object::TYPE, &[14]), VOLUMES, Faulty("apfs: fault: Unsound block 51 BadKind\n");
+    "fault_bad_subtype", SmallChanged(MAP_TREE, object::SUBTYPE, &[12]), VOLUMES, Faulty("apfs: fault: Unsound block 26 BadSubtype\n");
+    "fault_bad_oid", SmallChanged(VOLUME, object::OID, &[3]), VOLUMES, Faulty("apfs: fault: Unsound block 51 BadOid\n");
+    "fault_bad_xid", SmallChanged(VOLUME, object::XID, &[2]), VOLUMES, Faulty("apfs: fault: Unsound block 51 BadXid\n");
+    "fault_node_flags", SmallChanged(MAP_TREE, node::FLAGS, &[5]), VOLUMES, Faulty("apfs: fault: Unsound block 26 Flags\n");
+    "fault_node_bounds", SmallChanged(MAP_TREE, node::TABLE_LENGTH + 1, &[16]), VOLUMES, Faulty("apfs: fault: Unsound block 26 Bounds\n");
+    "fault_node_empty", SmallChanged(MAP_TREE, node::FLAGS, &[5, 0, 1, 0, 0]), VOLUMES, Faulty("apfs: fault: Unsound block 26 Empty\n");
+    "fault_node_ghost", SmallChanged(MAP_TREE, node::TABLE + 2, &[255, 255]), VOLUMES, Faulty("apfs: fault: Unsound block 26 Ghost\n");
+};
 
-// Those of the commands on one volume, and of space.
-pub const VOLUME_CASES: &[Case] = &[
-    Case {
-        name: "words_snapshots_twice",
-        image: Image::Views,
-        words: &["snapshots", "x", "--volume", "0", "--volume=0"],
-        ends: Ends::Usage,
-    },
-    Case {
-        name: "answer_no_image_snapshots",
-        image: Image::Absent,
-        words: SNAPSHOTS,
-        ends: Ends::NoImage,
-    },
-    Case {
-        name: "clean_snapshots",
-        image: Image::Views,
-        words: SNAPSHOTS,
-        ends: Ends::Wrote(VIEWS_LINES),
-    },
-    Case {
-        name: "clean_snapshots_none",
-        image: Image::Small,
-        words: SNAPSHOTS,
-        ends: Ends::Wrote(""),
-    },
-    Case {
-        name: "clean_snapshots_volume",
-        image: Image::Views,
-        words: &["snapshots", "x", "--volume=0"],
-        ends: Ends::Wrote(VIEWS_LINES),
-    },
-    Case {
-        name: "clean_snapshots_later_slot",
-        image: Image::ViewsLater,
-        words: SNAPSHOTS,
-        ends: Ends::Wrote(VIEWS_LINES),
-    },
-    Case {
-        name: "answer_no_volume",
-        image: Image::Hello,
-        words: &["snapshots", "x", "--volume", "7"],
-        ends: Ends::Answered(NO_VOLUME),
-    },
-    Case {
-        name: "answer_no_volume_below",
-        image: Image::ViewsLater,
-        words: &["snapshots", "x", "--volume=0"],
-        ends: Ends::Answered(NO_VOLUME),
-    },
-    Case {
-        name: "answer_no_volume_at_all",
-        image: Image::Empty,
-        words: SNAPSHOTS,
-        ends: Ends::Answered(NO_VOLUME),
-    },
-    Case {
-        name: "fault_truncated_snapshots",
-        image: Image::SmallCutSplit,
-        words: SNAPSHOTS,
-        ends: Ends::Faulty("apfs: fault: Truncated have 255 need 256\n"),
-    },
-    Case {
-        name: "fault_snap_count",
-        image: Image::ViewsChanged(VOLUME, volume::SNAPSHOTS, &[3]),
-        words: SNAPSHOTS,
-        ends: Ends::Faulty("apfs: fault: Volume 0 SnapCount\n"),
-    },
-    Case {
-        name: "fault_snap_record",
-        image: Image::ViewsChanged(SNAPS_TREE, FIRST_NAME, b"s2s"),
-        words: SNAPSHOTS,
-        ends: Ends::Faulty("apfs: fault: Volume 0 SnapRecord\n"),
-    },
-    Case {
-        name: "fault_snap_name",
-        image: Image::ViewsChanged(SNAPS_TREE, FIRST_NAME, b"t2"),
-        words: SNAPSHOTS,
-        ends: Ends::Faulty("apfs: fault: Volume 0 SnapName\n"),
-    },
-    Case {
-        name: "fault_omap_snaps",
-        image: Image::ViewsChanged(VOLUME_MAP, object_map::SNAP_COUNT, &[3]),
-        words: SNAPSHOTS,
-        ends: Ends::Faulty("apfs: fault: Volume 0 OmapSnaps\n"),
-    },
-    Case {
-        name: "feature_restore",
-        image: Image::SmallChanged(VOLUME, volume::INCOMPAT, &[0x11]),
-        words: SNAPSHOTS,
-        ends: Ends::Refused("apfs: unsupported: Restore block 51\n"),
-    },
-    Case {
-        name: "feature_unknown_volume",
-        image: Image::SmallChanged(VOLUME, volume::INCOMPAT, &[0x41]),
-        words: SNAPSHOTS,
-        ends: Ends::Refused("apfs: unsupported: UnknownVolume block 51\n"),
-    },
-    Case {
-        name: "feature_storage",
-        image: Image::SmallChanged(VOLUME, volume::ROOT_TYPE + 3, &[0x40]),
-        words: SNAPSHOTS,
-        ends: Ends::Refused("apfs: unsupported: Storage block 51\n"),
-    },
-    Case {
-        name: "feature_snapshot_state",
-        image: Image::ViewsChanged(SNAPS_TREE, FIRST_FLAGS, &[2]),
-        words: SNAPSHOTS,
-        ends: Ends::Refused("apfs: unsupported: SnapshotState block 60\n"),
-    },
-    Case {
-        name: "feature_dataless",
-        image: Image::ViewsChanged(SNAPS_TREE, SECOND_FLAGS, &[1]),
-        words: SNAPSHOTS,
-        ends: Ends::Refused("apfs: unsupported: Dataless block 62\n"),
-    },
-    Case {
-        name: "feature_encrypted_volume",
-        image: Image::SmallChanged(VOLUME, volume::FS_FLAGS, &[0]),
-        words: SNAPSHOTS,
-        ends: Ends::Refused("apfs: unsupported: Encrypted block 51\n"),
-    },
-    Case {
-        name: "feature_later_tree",
-        image: Image::SmallChanged(VOLUME, volume::RESERVED, &[7]),
-        words: SNAPSHOTS,
-        ends: Ends::Refused("apfs: unsupported: LaterTree block 51\n"),
-    },
-    Case {
-        name: "clean_space",
-        image: Image::Small,
-        words: SPACE,
-        ends: Ends::Wrote(SPACE_LINES),
-    },
-    Case {
-        name: "answer_no_image_space",
-        image: Image::Absent,
-        words: SPACE,
-        ends: Ends::NoImage,
-    },
-    Case {
-        name: "fault_no_checkpoint_space",
-        image: Image::EmptyUnsummed,
-        words: SPACE,
-        ends: Ends::Faulty("apfs: fault: NoCheckpoint\n"),
-    },
-    Case {
-        name: "fault_space_geometry",
-        image: Image::SmallChanged(MANAGER, space_manager::BLOCKS_PER_CHUNK, &[0xf8, 0x7f]),
-        words: SPACE,
-        ends: Ends::Faulty("apfs: fault: Space Geometry\n"),
-    },
-    Case {
-        name: "fault_space_place",
-        image: Image::SmallChanged(CHUNK_INFO, CIB_ENTRIES + CHUNK_BITMAP, &[200]),
-        words: SPACE,
-        ends: Ends::Faulty("apfs: fault: Space Place 200\n"),
-    },
-    Case {
-        name: "fault_space_free_total",
-        image: Image::SmallChanged(MANAGER, space_manager::MAIN_FREE, &[198]),
-        words: SPACE,
-        ends: Ends::Faulty("apfs: fault: Space FreeTotal\n"),
-    },
-    Case {
-        name: "fault_pool_index",
-        image: Image::SmallChanged(MANAGER, POOL_INDEX, &[16]),
-        words: SPACE,
-        ends: Ends::Faulty("apfs: fault: Pool Index 0\n"),
-    },
-];
+// Those of `snapshots`.
+pub const VOLUME_CASES: &[Case] = table! {
+    "words_snapshots_twice", Views, &["snapshots", "x", "--volume", "0", "--volume=0"], Usage;
+    "answer_no_image_snapshots", Absent, SNAPSHOTS, NoImage;
+    "clean_snapshots", Views, SNAPSHOTS, Wrote(VIEWS_LINES);
+    "clean_snapshots_none", Small, SNAPSHOTS, Wrote("");
+    "clean_snapshots_volume", Views, &["snapshots", "x", "--volume=0"], Wrote(VIEWS_LINES);
+    "clean_snapshots_later_slot", VIEWS_LATER, SNAPSHOTS, Wrote(VIEWS_LINES);
+    "answer_no_volume", Hello, &["snapshots", "x", "--volume", "7"], Answered(NO_VOLUME);
+    "answer_no_volume_below", VIEWS_LATER, &["snapshots", "x", "--volume=0"], Answered(NO_VOLUME);
+    "answer_no_volume_at_all", Empty, SNAPSHOTS, Answered(NO_VOLUME);
+    "fault_truncated_snapshots", SmallCutSplit, SNAPSHOTS, Faulty("apfs: fault: Truncated have 255 need 256\n");
+    "fault_snap_count", ViewsChanged(VOLUME, volume::SNAPSHOTS, &[3]), SNAPSHOTS, Faulty("apfs: fault: Volume 0 SnapCount\n");
+    "fault_snap_record", ViewsChanged(SNAPS_TREE, FIRST_NAME, b"s2s"), SNAPSHOTS, Faulty("apfs: fault: Volume 0 SnapRecord\n");
+    "fault_snap_name", ViewsChanged(SNAPS_TREE, FIRST_NAME, b"t2"), SNAPSHOTS, Faulty("apfs: fault: Volume 0 SnapName\n");
+    "fault_omap_snaps", ViewsChanged(VOLUME_MAP, object_map::SNAP_COUNT, &[3]), SNAPSHOTS, Faulty("apfs: fault: Volume 0 OmapSnaps\n");
+    "feature_restore", SmallChanged(VOLUME, volume::INCOMPAT, &[0x11]), SNAPSHOTS, Refused("apfs: unsupported: Restore block 51\n");
+    "feature_unknown_volume", SmallChanged(VOLUME, volume::INCOMPAT, &[0x41]), SNAPSHOTS, Refused("apfs: unsupported: UnknownVolume block 51\n");
+    "feature_storage", SmallChanged(VOLUME, volume::ROOT_TYPE + 3, &[0x40]), SNAPSHOTS, Refused("apfs: unsupported: Storage block 51\n");
+    "feature_snapshot_state", ViewsChanged(SNAPS_TREE, FIRST_FLAGS, &[2]), SNAPSHOTS, Refused("apfs: unsupported: SnapshotState block 60\n");
+    "feature_dataless", ViewsChanged(SNAPS_TREE, SECOND_FLAGS, &[1]), SNAPSHOTS, Refused("apfs: unsupported: Dataless block 62\n");
+    "feature_encrypted_volume", SmallChanged(VOLUME, volume::FS_FLAGS, &[0]), SNAPSHOTS, Refused("apfs: unsupported: Encrypted block 51\n");
+    "feature_later_tree", SmallChanged(VOLUME, volume::RESERVED, &[7]), SNAPSHOTS, Refused("apfs: unsupported: LaterTree block 51\n");
+};
+
+// Those of `space`.
+pub const SPACE_CASES: &[Case] = table! {
+    "clean_space", Small, SPACE, Wrote(SPACE_LINES);
+    "answer_no_image_space", Absent, SPACE, NoImage;
+    "fault_no_checkpoint_space", EmptyUnsummed, SPACE, Faulty("apfs: fault: NoCheckpoint\n");
+    "fault_space_geometry", SmallChanged(MANAGER, space_manager::BLOCKS_PER_CHUNK, &[0xf8, 0x7f]), SPACE, Faulty("apfs: fault: Space Geometry\n");
+    "fault_space_place", SmallChanged(CHUNK_INFO, CIB_ENTRIES + CHUNK_BITMAP, &[200]), SPACE, Faulty("apfs: fault: Space Place 200\n");
+    "fault_space_free_total", SmallChanged(MANAGER, space_manager::MAIN_FREE, &[198]), SPACE, Faulty("apfs: fault: Space FreeTotal\n");
+    "fault_pool_index", SmallChanged(MANAGER, POOL_INDEX, &[16]), SPACE, Faulty("apfs: fault: Pool Index 0\n");
+};
 
 // Those of the commands on one view.
-pub const VIEW_CASES: &[Case] = &[
-    Case {
-        name: "words_ls_alone",
-        image: Image::Hello,
-        words: &["ls", "x"],
-        ends: Ends::Usage,
-    },
-    Case {
-        name: "words_ls_stray",
-        image: Image::Hello,
-        words: &["ls", "x", "/", "y"],
-        ends: Ends::Usage,
-    },
-    Case {
-        name: "answer_no_image_ls",
-        image: Image::Absent,
-        words: LS,
-        ends: Ends::NoImage,
-    },
-    Case {
-        name: "answer_no_image_tree",
-        image: Image::Absent,
-        words: TREE,
-        ends: Ends::NoImage,
-    },
-    Case {
-        name: "clean_ls_none",
-        image: Image::Small,
-        words: LS,
-        ends: Ends::Wrote(""),
-    },
-    Case {
-        name: "clean_ls_empty_path",
-        image: Image::Hello,
-        words: &["ls", "x", "", "--quick"],
-        ends: Ends::Wrote(HELLO_LINE),
-    },
-    Case {
-        name: "clean_ls_file",
-        image: Image::Hello,
-        words: &["ls", "x", "/hello.txt", "--quick"],
-        ends: Ends::Wrote(HELLO_LINE),
-    },
-    Case {
-        name: "clean_ls_newline",
-        image: Image::Files(&[Entry {
-            directory: 2,
-            file: 16,
-            kind: 8,
-            name: "a\nb",
-        }]),
-        words: LS,
-        ends: Ends::Wrote("- 16 0 a\\x0ab\n"),
-    },
-    Case {
-        name: "clean_ls_normal_form",
-        image: Image::Files(&[Entry {
-            directory: 2,
-            file: 16,
-            kind: 8,
-            name: "ReadMe",
-        }]),
-        words: &["ls", "x", "/README", "--quick"],
-        ends: Ends::Wrote("- 16 0 ReadMe\n"),
-    },
-    Case {
-        name: "clean_ls_same_bytes",
-        image: ALIKE,
-        words: &["ls", "x", "/A", "--quick"],
-        ends: Ends::Wrote("- 17 0 A\n"),
-    },
-    Case {
-        name: "clean_ls_same_bytes_first",
-        image: ALIKE,
-        words: &["ls", "x", "/a", "--quick"],
-        ends: Ends::Wrote("- 16 0 a\n"),
-    },
-    Case {
-        name: "clean_ls_by_name",
-        image: ALIKE,
-        words: LS,
-        ends: Ends::Wrote("- 17 0 A\n- 16 0 a\n"),
-    },
-    Case {
-        name: "clean_ls_kinds",
-        image: Image::Files(&[
-            Entry {
-                directory: 2,
-                file: 16,
-                kind: 4,
-                name: "a",
-            },
-            Entry {
-                directory: 2,
-                file: 17,
-                kind: 10,
-                name: "b",
-            },
-            Entry {
-                directory: 2,
-                file: 18,
-                kind: 1,
-                name: "c",
-            },
-            Entry {
-                directory: 2,
-                file: 19,
-                kind: 2,
-                name: "d",
-            },
-            Entry {
-                directory: 2,
-                file: 20,
-                kind: 6,
-                name: "e",
-            },
-            Entry {
-                directory: 2,
-                file: 21,
-                kind: 12,
-                name: "f",
-            },
-            Entry {
-                directory: 2,
-                file: 22,
-                kind: 14,
-                name: "g",
-            },
-            Entry {
-                directory: 2,
-                file: 23,
-                kind: 9,
-                name: "h",
-            },
-        ]),
-        words: LS,
-        ends: Ends::Wrote(
-            "d 16 0 a\nl 17 0 b\np 18 0 c\nc 19 0 d\nb 20 0 e\ns 21 0 f\nw 22 0 g\n? 23 0 h\n",
-        ),
-    },
-    Case {
-        name: "clean_ls_live",
-        image: Image::Views,
-        words: LS,
-        ends: Ends::Wrote("- 16 0 new\n"),
-    },
-    Case {
-        name: "clean_ls_snapshot_old",
-        image: Image::Views,
-        words: LS_OLD,
-        ends: Ends::Wrote("- 16 0 old\n"),
-    },
-    Case {
-        name: "clean_ls_snapshot_new",
-        image: Image::Views,
-        words: &["ls", "x", "/", "--volume=0", "--snapshot", "s4", "--quick"],
-        ends: Ends::Wrote("- 16 0 new\n"),
-    },
-    Case {
-        name: "answer_not_found",
-        image: Image::Hello,
-        words: &["ls", "x", "/x", "--quick"],
-        ends: Ends::Answered(NOT_FOUND),
-    },
-    Case {
-        name: "answer_not_directory",
-        image: Image::Hello,
-        words: &["ls", "x", "/hello.txt/x", "--quick"],
-        ends: Ends::Answered(NOT_DIRECTORY),
-    },
-    Case {
-        name: "answer_no_volume_ls",
-        image: Image::Hello,
-        words: &["ls", "x", "/", "--volume", "7", "--quick"],
-        ends: Ends::Answered(NO_VOLUME),
-    },
-    Case {
-        name: "answer_no_snapshot",
-        image: Image::Hello,
-        words: &["ls", "x", "/", "--snapshot", "x", "--quick"],
-        ends: Ends::Answered(NO_SNAPSHOT),
-    },
-    Case {
-        name: "answer_no_snapshot_prefix",
-        image: Image::Views,
-        words: &["tree", "x", "/", "--snapshot", "s", "--quick"],
-        ends: Ends::Answered(NO_SNAPSHOT),
-    },
-    Case {
-        name: "feature_later_tree_ls",
-        image: Image::SmallChanged(VOLUME, volume::RESERVED, &[7]),
-        words: LS,
-        ends: Ends::Refused("apfs: unsupported: LaterTree block 51\n"),
-    },
-    Case {
-        name: "fault_truncated_ls",
-        image: Image::SmallCutSplit,
-        words: LS,
-        ends: Ends::Faulty("apfs: fault: Truncated have 255 need 256\n"),
-    },
-    Case {
-        name: "clean_tree_folder",
-        image: FOLDER,
-        words: TREE,
-        ends: Ends::Wrote("d 16 0 d\n- 17 0 d/f\n"),
-    },
-    Case {
-        name: "clean_tree_below",
-        image: FOLDER,
-        words: &["tree", "x", "d", "--quick"],
-        ends: Ends::Wrote("- 17 0 f\n"),
-    },
-    Case {
-        name: "clean_tree_file",
-        image: FOLDER,
-        words: &["tree", "x", "/d/f", "--quick"],
-        ends: Ends::Wrote("- 17 0 f\n"),
-    },
-    Case {
-        name: "clean_tree_snapshot",
-        image: Image::Views,
-        words: TREE_OLD,
-        ends: Ends::Wrote("- 16 0 old\n"),
-    },
-    Case {
-        name: "answer_not_found_tree",
-        image: FOLDER,
-        words: &["tree", "x", "/f", "--quick"],
-        ends: Ends::Answered(NOT_FOUND),
-    },
-    Case {
-        name: "fault_dir_names_within",
-        image: NAMED_TWICE,
-        words: TREE,
-        ends: Ends::Faulty("apfs: fault: DirNames volume 0 view 1 id 16\n"),
-    },
-    Case {
-        name: "fault_dir_names_path",
-        image: NAMED_TWICE,
-        words: &["tree", "x", "/d", "--quick"],
-        ends: Ends::Faulty("apfs: fault: DirNames volume 0 view 1 id 16\n"),
-    },
-    Case {
-        name: "fault_dir_names_beside",
-        image: TWO_NAMES,
-        words: TREE,
-        ends: Ends::Faulty("apfs: fault: DirNames volume 0 view 1 id 16\n"),
-    },
-    Case {
-        name: "fault_view_order",
-        image: Image::Backwards,
-        words: TREE,
-        ends: Ends::Faulty("apfs: fault: Order volume 0 view 1 item 1\n"),
-    },
-    Case {
-        name: "fault_view_counts",
-        image: Image::SmallChanged(FILES_TREE, ROOT_KEY_COUNT, &[5]),
-        words: TREE,
-        ends: Ends::Faulty("apfs: fault: Counts volume 0 view 1\n"),
-    },
-    Case {
-        name: "fault_view_unsound",
-        image: Image::SmallChanged(FILES_TREE, object::SUBTYPE, &[15]),
-        words: LS,
-        ends: Ends::Faulty("apfs: fault: Unsound block 54 BadSubtype\n"),
-    },
-    Case {
-        name: "fault_record_length",
-        image: Image::ShortInode,
-        words: TREE,
-        ends: Ends::Faulty("apfs: fault: Record volume 0 view 1 item 4 Length\n"),
-    },
-    Case {
-        name: "clean_ls_record_unneeded",
-        image: Image::ShortInode,
-        words: LS,
-        ends: Ends::Wrote(""),
-    },
-    Case {
-        name: "fault_no_inode",
-        image: Image::Named(
-            &[],
-            &[Name {
-                directory: 2,
-                file: 17,
-                name: "e",
-            }],
-        ),
-        words: LS,
-        ends: Ends::Faulty("apfs: fault: NoInode volume 0 view 1 id 2 name e\n"),
-    },
-    Case {
-        name: "clean_space_queued",
-        image: Image::Queued,
-        words: SPACE,
-        ends: Ends::Wrote(SPACE_QUEUED_LINES),
-    },
-];
+pub const VIEW_CASES: &[Case] = table! {
+    "words_ls_alone", Hello, &["ls", "x"], Usage;
+    "words_ls_stray", Hello, &["ls", "x", "/", "y"], Usage;
+    "answer_no_image_ls", Absent, LS, NoImage;
+    "answer_no_image_tree", Absent, TREE, NoImage;
+    "clean_ls_none", Small, LS, Wrote("");
+    "clean_ls_empty_path", Hello, &["ls", "x", "", "--quick"], Wrote(HELLO_LINE);
+    "clean_ls_file", Hello, &["ls", "x", "/hello.txt", "--quick"], Wrote(HELLO_LINE);
+    "clean_ls_newline", Files(&[(2, 16, 8, "a\nb")]), LS, Wrote("- 16 0 a\\x0ab\n");
+    "clean_ls_normal_form", Files(&[(2, 16, 8, "ReadMe")]), &["ls", "x", "/README", "--quick"], Wrote("- 16 0 ReadMe\n");
+    "clean_ls_same_bytes", ALIKE, &["ls", "x", "/A", "--quick"], Wrote("- 17 0 A\n");
+    "clean_ls_same_bytes_first", ALIKE, &["ls", "x", "/a", "--quick"], Wrote("- 16 0 a\n");
+    "clean_ls_by_name", ALIKE, LS, Wrote("- 17 0 A\n- 16 0 a\n");
+    "clean_ls_kinds", Files(&[(2, 16, 4, "a"), (2, 17, 10, "b"), (2, 18, 1, "c"), (2, 19, 2, "d"), (2, 20, 6, "e"), (2, 21, 12, "f"), (2, 22, 14, "g"), (2, 23, 9, "h")]), LS,
+        Wrote("d 16 0 a\nl 17 0 b\np 18 0 c\nc 19 0 d\nb 20 0 e\ns 21 0 f\nw 22 0 g\n? 23 0 h\n");
+    "clean_ls_live", Views, LS, Wrote("- 16 0 new\n");
+    "clean_ls_snapshot_old", Views, LS_OLD, Wrote("- 16 0 old\n");
+    "clean_ls_snapshot_new", Views, &["ls", "x", "/", "--volume=0", "--snapshot", "s4", "--quick"], Wrote("- 16 0 new\n");
+    "answer_not_found", Hello, &["ls", "x", "/x", "--quick"], Answered(NOT_FOUND);
+    "answer_not_directory", Hello, &["ls", "x", "/hello.txt/x", "--quick"], Answered(NOT_DIRECTORY);
+    "answer_no_volume_ls", Hello, &["ls", "x", "/", "--volume", "7", "--quick"], Answered(NO_VOLUME);
+    "answer_no_snapshot", Hello, &["ls", "x", "/", "--snapshot", "x", "--quick"], Answered(NO_SNAPSHOT);
+    "answer_no_snapshot_prefix", Views, &["tree", "x", "/", "--snapshot", "s", "--quick"], Answered(NO_SNAPSHOT);
+    "feature_later_tree_ls", SmallChanged(VOLUME, volume::RESERVED, &[7]), LS, Refused("apfs: unsupported: LaterTree block 51\n");
+    "fault_truncated_ls", SmallCutSplit, LS, Faulty("apfs: fault: Truncated have 255 need 256\n");
+};
+
+// Those of `tree`, and what both find wrong.
+pub const TREE_CASES: &[Case] = table! {
+    "clean_tree_folder", FOLDER, TREE, Wrote("d 16 0 d\n- 17 0 d/f\n");
+    "clean_tree_below", FOLDER, &["tree", "x", "d", "--quick"], Wrote("- 17 0 f\n");
+    "clean_tree_file", FOLDER, &["tree", "x", "/d/f", "--quick"], Wrote("- 17 0 f\n");
+    "clean_tree_snapshot", Views, TREE_OLD, Wrote("- 16 0 old\n");
+    "answer_not_found_tree", FOLDER, &["tree", "x", "/f", "--quick"], Answered(NOT_FOUND);
+    "fault_dir_names_within", NAMED_TWICE, TREE, Faulty("apfs: fault: DirNames volume 0 view 1 id 16\n");
+    "fault_dir_names_path", NAMED_TWICE, &["tree", "x", "/d", "--quick"], Faulty("apfs: fault: DirNames volume 0 view 1 id 16\n");
+    "fault_dir_names_beside", TWO_NAMES, TREE, Faulty("apfs: fault: DirNames volume 0 view 1 id 16\n");
+    "fault_view_order", Backwards, TREE, Faulty("apfs: fault: Order volume 0 view 1 item 1\n");
+    "fault_view_counts", SmallChanged(FILES_TREE, ROOT_KEY_COUNT, &[5]), TREE, Faulty("apfs: fault: Counts volume 0 view 1\n");
+    "fault_view_unsound", SmallChanged(FILES_TREE, object::SUBTYPE, &[15]), LS, Faulty("apfs: fault: Unsound block 54 BadSubtype\n");
+    "fault_record_length", ShortInode, TREE, Faulty("apfs: fault: Record volume 0 view 1 item 4 Length\n");
+    "clean_ls_record_unneeded", ShortInode, LS, Wrote("");
+    "fault_no_inode", Named(&[], &[(2, 17, "e")]), LS, Faulty("apfs: fault: NoInode volume 0 view 1 id 2 name e\n");
+    "clean_space_queued", Made(QUEUED, &[]), SPACE, Wrote(SPACE_QUEUED_LINES);
+};

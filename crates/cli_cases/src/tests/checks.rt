@@ -1,7 +1,9 @@
 // The cases of `check`, and of commands that check first. The numbers of objects and of used blocks were counted by another program.
-use crate::tests::cases::{Case, Ends, HELLO_LINE, LS, NO_SNAPSHOT};
+use crate::tests::cases::Ends::*;
+use crate::tests::cases::{Case, HELLO_LINE, LS, NO_SNAPSHOT};
 use crate::tests::images::Image;
-use img_make::{Base, Change, Sample};
+use crate::tests::images::Image::*;
+use img_make::{Base, Change, Sample, table};
 
 pub const CHECK: &[&str] = &["check", "x"];
 
@@ -16,14 +18,14 @@ const LS_STRICT_QUICK: &[&str] = &["ls", "x", "/", "--strict", "--quick"];
 // The container with a file of five bytes, and block 200 is marked.
 const HELLO: Base = (Sample::H, &[], &[]);
 
-pub const MARKED: Image = Image::Made(HELLO, &[Change::Mark(200)]);
+pub const MARKED: Image = Made(HELLO, &[Change::Mark(200)]);
 
 // The range of the file goes on in block 58, and the range of two files counts one.
-const LONGER: Image = Image::Made((Sample::H, &[(57, 2)], &[]), &[]);
+const LONGER: Image = Made((Sample::H, &[(57, 2)], &[]), &[]);
 
-const ONE_COUNTED: Image = Image::Made((Sample::C, &[(57, 1)], &[]), &[]);
+const ONE_COUNTED: Image = Made((Sample::C, &[(57, 1)], &[]), &[]);
 
-pub const NINE_VIEWS: Image = Image::Made((Sample::V2, &[], &[]), &[]);
+pub const NINE_VIEWS: Image = Made((Sample::V2, &[], &[]), &[]);
 
 pub const LEAKED: &str = "apfs: fault: Leaked block 200\n";
 
@@ -35,162 +37,36 @@ pub const SMALL_REPORT: &str =
 pub const VIEWS_REPORT: &str =
     "clean\nxid 5\nvolumes 1\nviews 3\nobjects 22\nrecords 18\nused 65\nfree 191\nnotes 0\n";
 
-pub const CHECK_CASES: &[Case] = &[
-    Case {
-        name: "clean_check",
-        image: Image::Small,
-        words: CHECK,
-        ends: Ends::Wrote(SMALL_REPORT),
-    },
-    Case {
-        name: "clean_check_strict",
-        image: Image::Small,
-        words: STRICT,
-        ends: Ends::Wrote(SMALL_REPORT),
-    },
-    Case {
-        name: "note_check_skipped",
-        image: Image::SmallSkipped,
-        words: CHECK,
-        ends: Ends::Wrote(
-            "clean\nxid 1\nvolumes 1\nviews 1\nobjects 14\nrecords 4\nused 57\nfree 199\nnotes 1\nnote skipped index 3 xid 2\n",
-        ),
-    },
-    Case {
-        name: "clean_check_views",
-        image: Image::Views,
-        words: CHECK,
-        ends: Ends::Wrote(VIEWS_REPORT),
-    },
-    Case {
-        name: "clean_check_nine_views",
-        image: NINE_VIEWS,
-        words: CHECK,
-        ends: Ends::Wrote(
-            "clean\nxid 9\nvolumes 1\nviews 9\nobjects 34\nrecords 54\nused 77\nfree 179\nnotes 0\n",
-        ),
-    },
-    Case {
-        name: "note_check_unreached",
-        image: LONGER,
-        words: CHECK,
-        ends: Ends::Wrote(
-            "clean\nxid 1\nvolumes 1\nviews 1\nobjects 14\nrecords 8\nused 59\nfree 197\nnotes 1\nnote unreached volume 0 block 58 length 1\n",
-        ),
-    },
-    Case {
-        name: "fault_check_unreached",
-        image: LONGER,
-        words: STRICT,
-        ends: Ends::Faulty("apfs: fault: DataUnreached volume 0 block 58 length 1\n"),
-    },
-    Case {
-        name: "note_check_count",
-        image: ONE_COUNTED,
-        words: CHECK,
-        ends: Ends::Wrote(
-            "clean\nxid 1\nvolumes 1\nviews 1\nobjects 14\nrecords 12\nused 58\nfree 198\nnotes 1\nnote count volume 0 block 57 stored 1 streams 2\n",
-        ),
-    },
-    Case {
-        name: "fault_check_count",
-        image: ONE_COUNTED,
-        words: STRICT,
-        ends: Ends::Faulty("apfs: fault: DataCount volume 0 block 57 stored 1 streams 2\n"),
-    },
-    Case {
-        name: "note_check_hash",
-        image: Image::Unhashed,
-        words: CHECK,
-        ends: Ends::Wrote(
-            "clean\nxid 1\nvolumes 1\nviews 1\nobjects 14\nrecords 8\nused 58\nfree 198\nnotes 1\nnote hash volume 0 view 1 id 2 name é\n",
-        ),
-    },
-    Case {
-        name: "fault_check_hash",
-        image: Image::Unhashed,
-        words: STRICT,
-        ends: Ends::Faulty(NAME_HASH),
-    },
-    Case {
-        name: "words_check_quick",
-        image: Image::Small,
-        words: &["check", "x", "--quick"],
-        ends: Ends::Usage,
-    },
-];
+pub const CHECK_CASES: &[Case] = table! {
+    "clean_check", Small, CHECK, Wrote(SMALL_REPORT);
+    "clean_check_strict", Small, STRICT, Wrote(SMALL_REPORT);
+    "note_check_skipped", SmallSkipped, CHECK,
+        Wrote("clean\nxid 1\nvolumes 1\nviews 1\nobjects 14\nrecords 4\nused 57\nfree 199\nnotes 1\nnote skipped index 3 xid 2\n");
+    "clean_check_views", Views, CHECK, Wrote(VIEWS_REPORT);
+    "clean_check_nine_views", NINE_VIEWS, CHECK, Wrote("clean\nxid 9\nvolumes 1\nviews 9\nobjects 34\nrecords 54\nused 77\nfree 179\nnotes 0\n");
+    "note_check_unreached", LONGER, CHECK,
+        Wrote("clean\nxid 1\nvolumes 1\nviews 1\nobjects 14\nrecords 8\nused 59\nfree 197\nnotes 1\nnote unreached volume 0 block 58 length 1\n");
+    "fault_check_unreached", LONGER, STRICT, Faulty("apfs: fault: DataUnreached volume 0 block 58 length 1\n");
+    "note_check_count", ONE_COUNTED, CHECK,
+        Wrote("clean\nxid 1\nvolumes 1\nviews 1\nobjects 14\nrecords 12\nused 58\nfree 198\nnotes 1\nnote count volume 0 block 57 stored 1 streams 2\n");
+    "fault_check_count", ONE_COUNTED, STRICT, Faulty("apfs: fault: DataCount volume 0 block 57 stored 1 streams 2\n");
+    "note_check_hash", Unhashed, CHECK,
+        Wrote("clean\nxid 1\nvolumes 1\nviews 1\nobjects 14\nrecords 8\nused 58\nfree 198\nnotes 1\nnote hash volume 0 view 1 id 2 name é\n");
+    "fault_check_hash", Unhashed, STRICT, Faulty(NAME_HASH);
+    "words_check_quick", Small, &["check", "x", "--quick"], Usage;
+};
 
-pub const FIRST_CASES: &[Case] = &[
-    Case {
-        name: "fault_check_leaked",
-        image: MARKED,
-        words: CHECK,
-        ends: Ends::Faulty(LEAKED),
-    },
-    Case {
-        name: "fault_ls_checked",
-        image: MARKED,
-        words: LS_CHECKED,
-        ends: Ends::Faulty(LEAKED),
-    },
-    Case {
-        name: "clean_ls_quick",
-        image: MARKED,
-        words: LS,
-        ends: Ends::Wrote(HELLO_LINE),
-    },
-    Case {
-        name: "fault_tree_checked",
-        image: MARKED,
-        words: &["tree", "x", "/"],
-        ends: Ends::Faulty(LEAKED),
-    },
-    Case {
-        name: "fault_cat_checked",
-        image: MARKED,
-        words: &["cat", "x", "/hello.txt"],
-        ends: Ends::Faulty(LEAKED),
-    },
-    Case {
-        name: "fault_xattr_checked",
-        image: MARKED,
-        words: &["xattr", "x", "/hello.txt"],
-        ends: Ends::Faulty(LEAKED),
-    },
-    Case {
-        name: "clean_ls_checked",
-        image: Image::Hello,
-        words: LS_CHECKED,
-        ends: Ends::Wrote(HELLO_LINE),
-    },
-    Case {
-        name: "clean_ls_strict",
-        image: Image::Hello,
-        words: LS_STRICT,
-        ends: Ends::Wrote(HELLO_LINE),
-    },
-    Case {
-        name: "clean_ls_checked_note",
-        image: Image::Unhashed,
-        words: LS_CHECKED,
-        ends: Ends::Wrote("- 16 5 é\n"),
-    },
-    Case {
-        name: "fault_ls_strict",
-        image: Image::Unhashed,
-        words: LS_STRICT,
-        ends: Ends::Faulty(NAME_HASH),
-    },
-    Case {
-        name: "clean_ls_strict_quick",
-        image: Image::Unhashed,
-        words: LS_STRICT_QUICK,
-        ends: Ends::Wrote("- 16 5 é\n"),
-    },
-    Case {
-        name: "answer_no_snapshot_checked",
-        image: Image::Views,
-        words: &["ls", "x", "/", "--snapshot", "none"],
-        ends: Ends::Answered(NO_SNAPSHOT),
-    },
-];
+pub const FIRST_CASES: &[Case] = table! {
+    "fault_check_leaked", MARKED, CHECK, Faulty(LEAKED);
+    "fault_ls_checked", MARKED, LS_CHECKED, Faulty(LEAKED);
+    "clean_ls_quick", MARKED, LS, Wrote(HELLO_LINE);
+    "fault_tree_checked", MARKED, &["tree", "x", "/"], Faulty(LEAKED);
+    "fault_cat_checked", MARKED, &["cat", "x", "/hello.txt"], Faulty(LEAKED);
+    "fault_xattr_checked", MARKED, &["xattr", "x", "/hello.txt"], Faulty(LEAKED);
+    "clean_ls_checked", Hello, LS_CHECKED, Wrote(HELLO_LINE);
+    "clean_ls_strict", Hello, LS_STRICT, Wrote(HELLO_LINE);
+    "clean_ls_checked_note", Unhashed, LS_CHECKED, Wrote("- 16 5 é\n");
+    "fault_ls_strict", Unhashed, LS_STRICT, Faulty(NAME_HASH);
+    "clean_ls_strict_quick", Unhashed, LS_STRICT_QUICK, Wrote("- 16 5 é\n");
+    "answer_no_snapshot_checked", Views, &["ls", "x", "/", "--snapshot", "none"], Answered(NO_SNAPSHOT);
+};

@@ -1,9 +1,10 @@
 // The cases of the commands on contents and attributes. Their lines were worked out by hand.
-use crate::tests::cases::{
-    Case, Ends, HELLO_LINE, NO_SNAPSHOT, NO_VOLUME, NOT_DIRECTORY, NOT_FOUND,
-};
+use crate::tests::cases::Ends::*;
+use crate::tests::cases::{Case, HELLO_LINE, NO_SNAPSHOT, NO_VOLUME, NOT_DIRECTORY, NOT_FOUND};
+use crate::tests::images::Image::*;
 use crate::tests::images::*;
 use apfs_layout::volume;
+use img_make::table;
 
 const NOT_FILE: &str = "apfs: answer: NotFile\n";
 
@@ -21,211 +22,42 @@ pub const XATTR: &[&str] = &["xattr", "x", "/l", "--quick"];
 
 pub const TARGET: &[&str] = &["xattr", "x", "/l", "com.apple.fs.symlink", "--quick"];
 
-pub const CONTENT_CASES: &[Case] = &[
-    Case {
-        name: "words_cat_alone",
-        image: Image::Hello,
-        words: &["cat", "x"],
-        ends: Ends::Usage,
-    },
-    Case {
-        name: "words_cat_stray",
-        image: Image::Hello,
-        words: &["cat", "x", "/hello.txt", "y"],
-        ends: Ends::Usage,
-    },
-    Case {
-        name: "words_xattr_stray",
-        image: Image::Link,
-        words: &["xattr", "x", "/l", "y", "z"],
-        ends: Ends::Usage,
-    },
-    Case {
-        name: "answer_no_image_cat",
-        image: Image::Absent,
-        words: CAT,
-        ends: Ends::NoImage,
-    },
-    Case {
-        name: "answer_no_image_xattr",
-        image: Image::Absent,
-        words: XATTR,
-        ends: Ends::NoImage,
-    },
-    Case {
-        name: "clean_cat",
-        image: Image::Hello,
-        words: CAT,
-        ends: Ends::Wrote("hello"),
-    },
-    Case {
-        name: "clean_cat_empty_snapshot",
-        image: Image::Views,
-        words: &["cat", "x", "/old", "--snapshot", "s2", "--quick"],
-        ends: Ends::Wrote(""),
-    },
-    Case {
-        name: "clean_cat_last_block",
-        image: Image::Streamed(3, &[(0, 4096, 255)]),
-        words: CAT_HOLE,
-        ends: Ends::Wrote("\0\0\0"),
-    },
-    Case {
-        name: "clean_cat_other_flags",
-        image: Image::Flagged(!0x4000_0020),
-        words: CAT,
-        ends: Ends::Wrote("hello"),
-    },
-    Case {
-        name: "clean_ls_compressed",
-        image: Image::Flagged(0x20),
-        words: &["ls", "x", "/", "--quick"],
-        ends: Ends::Wrote(HELLO_LINE),
-    },
-    Case {
-        name: "answer_not_found_cat",
-        image: Image::Views,
-        words: &["cat", "x", "/old", "--quick"],
-        ends: Ends::Answered(NOT_FOUND),
-    },
-    Case {
-        name: "answer_not_directory_cat",
-        image: Image::Hello,
-        words: &["cat", "x", "/hello.txt/x", "--quick"],
-        ends: Ends::Answered(NOT_DIRECTORY),
-    },
-    Case {
-        name: "answer_not_file_root",
-        image: Image::Hello,
-        words: &["cat", "x", "/", "--quick"],
-        ends: Ends::Answered(NOT_FILE),
-    },
-    Case {
-        name: "answer_not_file_link",
-        image: Image::Link,
-        words: &["cat", "x", "/l", "--quick"],
-        ends: Ends::Answered(NOT_FILE),
-    },
-    Case {
-        name: "answer_compressed",
-        image: Image::Flagged(0x20),
-        words: CAT,
-        ends: Ends::Answered(COMPRESSED),
-    },
-    Case {
-        name: "answer_compressed_and_dataless",
-        image: Image::Flagged(0x4000_0020),
-        words: CAT,
-        ends: Ends::Answered(COMPRESSED),
-    },
-    Case {
-        name: "answer_dataless",
-        image: Image::Flagged(0x4000_0000),
-        words: CAT,
-        ends: Ends::Answered(DATALESS),
-    },
-    Case {
-        name: "answer_no_volume_cat",
-        image: Image::Hello,
-        words: &["cat", "x", "/hello.txt", "--volume", "7", "--quick"],
-        ends: Ends::Answered(NO_VOLUME),
-    },
-    Case {
-        name: "answer_no_snapshot_xattr",
-        image: Image::Link,
-        words: &["xattr", "x", "/l", "--snapshot", "x", "--quick"],
-        ends: Ends::Answered(NO_SNAPSHOT),
-    },
-    Case {
-        name: "feature_later_tree_cat",
-        image: Image::SmallChanged(VOLUME, volume::RESERVED, &[7]),
-        words: &["cat", "x", "/", "--quick"],
-        ends: Ends::Refused("apfs: unsupported: LaterTree block 51\n"),
-    },
-    Case {
-        name: "fault_extent_order",
-        image: Image::Streamed(5000, &[(0, 8192, 0), (4096, 4096, 57)]),
-        words: CAT_HOLE,
-        ends: Ends::Faulty("apfs: fault: ExtentOrder volume 0 view 1 id 16\n"),
-    },
-    Case {
-        name: "fault_extent_place",
-        image: Image::Streamed(3, &[(0, 8192, 255)]),
-        words: CAT_HOLE,
-        ends: Ends::Faulty("apfs: fault: ExtentPlace volume 0 view 1 id 16\n"),
-    },
-    Case {
-        name: "clean_xattr",
-        image: Image::Link,
-        words: XATTR,
-        ends: Ends::Wrote("6 com.apple.fs.symlink\n"),
-    },
-    Case {
-        name: "clean_xattr_none",
-        image: Image::Hello,
-        words: &["xattr", "x", "/hello.txt", "--quick"],
-        ends: Ends::Wrote(""),
-    },
-    Case {
-        name: "clean_xattr_name",
-        image: Image::Link,
-        words: TARGET,
-        ends: Ends::Wrote("hello\0"),
-    },
-    Case {
-        name: "clean_xattr_name_before_options",
-        image: Image::Link,
-        words: &[
-            "xattr",
-            "x",
-            "--volume",
-            "0",
-            "/l",
-            "com.apple.fs.symlink",
-            "--quick",
-        ],
-        ends: Ends::Wrote("hello\0"),
-    },
-    Case {
-        name: "clean_ls_link",
-        image: Image::Link,
-        words: &["ls", "x", "/l", "--quick"],
-        ends: Ends::Wrote("l 16 0 l\n"),
-    },
-    Case {
-        name: "answer_no_attribute",
-        image: Image::Link,
-        words: &["xattr", "x", "/l", "x", "--quick"],
-        ends: Ends::Answered(NO_ATTRIBUTE),
-    },
-    Case {
-        name: "answer_no_attribute_prefix",
-        image: Image::Link,
-        words: &["xattr", "x", "/l", "com.apple.fs.symlin", "--quick"],
-        ends: Ends::Answered(NO_ATTRIBUTE),
-    },
-    Case {
-        name: "answer_not_found_xattr",
-        image: Image::Link,
-        words: &["xattr", "x", "/m", "--quick"],
-        ends: Ends::Answered(NOT_FOUND),
-    },
-    Case {
-        name: "answer_not_found_xattr_name",
-        image: Image::Link,
-        words: &["xattr", "x", "/m", "com.apple.fs.symlink", "--quick"],
-        ends: Ends::Answered(NOT_FOUND),
-    },
-    Case {
-        name: "fault_record_flags",
-        image: Image::LinkUnsaid,
-        words: XATTR,
-        ends: Ends::Faulty("apfs: fault: Record volume 0 view 1 item 6 Flags\n"),
-    },
-    Case {
-        name: "clean_ls_attribute_unneeded",
-        image: Image::LinkUnsaid,
-        words: &["ls", "x", "/", "--quick"],
-        ends: Ends::Wrote("l 16 0 l\n"),
-    },
-];
+pub const CONTENT_CASES: &[Case] = table! {
+    "words_cat_alone", Hello, &["cat", "x"], Usage;
+    "words_cat_stray", Hello, &["cat", "x", "/hello.txt", "y"], Usage;
+    "words_xattr_stray", Link, &["xattr", "x", "/l", "y", "z"], Usage;
+    "answer_no_image_cat", Absent, CAT, NoImage;
+    "answer_no_image_xattr", Absent, XATTR, NoImage;
+    "clean_cat", Hello, CAT, Wrote("hello");
+    "clean_cat_empty_snapshot", Views, &["cat", "x", "/old", "--snapshot", "s2", "--quick"], Wrote("");
+    "clean_cat_last_block", Streamed(3, &[(0, 4096, 255)]), CAT_HOLE, Wrote("\0\0\0");
+    "clean_cat_other_flags", Flagged(!0x4000_0020), CAT, Wrote("hello");
+    "clean_ls_compressed", Flagged(0x20), &["ls", "x", "/", "--quick"], Wrote(HELLO_LINE);
+    "answer_not_found_cat", Views, &["cat", "x", "/old", "--quick"], Answered(NOT_FOUND);
+    "answer_not_directory_cat", Hello, &["cat", "x", "/hello.txt/x", "--quick"], Answered(NOT_DIRECTORY);
+    "answer_not_file_root", Hello, &["cat", "x", "/", "--quick"], Answered(NOT_FILE);
+    "answer_not_file_link", Link, &["cat", "x", "/l", "--quick"], Answered(NOT_FILE);
+    "answer_compressed", Flagged(0x20), CAT, Answered(COMPRESSED);
+    "answer_compressed_and_dataless", Flagged(0x4000_0020), CAT, Answered(COMPRESSED);
+    "answer_dataless", Flagged(0x4000_0000), CAT, Answered(DATALESS);
+    "answer_no_volume_cat", Hello, &["cat", "x", "/hello.txt", "--volume", "7", "--quick"], Answered(NO_VOLUME);
+    "answer_no_snapshot_xattr", Link, &["xattr", "x", "/l", "--snapshot", "x", "--quick"], Answered(NO_SNAPSHOT);
+    "feature_later_tree_cat", SmallChanged(VOLUME, volume::RESERVED, &[7]), &["cat", "x", "/", "--quick"],
+        Refused("apfs: unsupported: LaterTree block 51\n");
+    "fault_extent_order", Streamed(5000, &[(0, 8192, 0), (4096, 4096, 57)]), CAT_HOLE, Faulty("apfs: fault: ExtentOrder volume 0 view 1 id 16\n");
+    "fault_extent_place", Streamed(3, &[(0, 8192, 255)]), CAT_HOLE, Faulty("apfs: fault: ExtentPlace volume 0 view 1 id 16\n");
+};
+
+pub const ATTRIBUTE_CASES: &[Case] = table! {
+    "clean_xattr", Link, XATTR, Wrote("6 com.apple.fs.symlink\n");
+    "clean_xattr_none", Hello, &["xattr", "x", "/hello.txt", "--quick"], Wrote("");
+    "clean_xattr_name", Link, TARGET, Wrote("hello\0");
+    "clean_xattr_name_before_options", Link, &["xattr", "x", "--volume", "0", "/l", "com.apple.fs.symlink", "--quick"], Wrote("hello\0");
+    "clean_ls_link", Link, &["ls", "x", "/l", "--quick"], Wrote("l 16 0 l\n");
+    "answer_no_attribute", Link, &["xattr", "x", "/l", "x", "--quick"], Answered(NO_ATTRIBUTE);
+    "answer_no_attribute_prefix", Link, &["xattr", "x", "/l", "com.apple.fs.symlin", "--quick"], Answered(NO_ATTRIBUTE);
+    "answer_not_found_xattr", Link, &["xattr", "x", "/m", "--quick"], Answered(NOT_FOUND);
+    "answer_not_found_xattr_name", Link, &["xattr", "x", "/m", "com.apple.fs.symlink", "--quick"], Answered(NOT_FOUND);
+    "fault_record_flags", LinkUnsaid, XATTR, Faulty("apfs: fault: Record volume 0 view 1 item 6 Flags\n");
+    "clean_ls_attribute_unneeded", LinkUnsaid, &["ls", "x", "/", "--quick"], Wrote("l 16 0 l\n");
+};

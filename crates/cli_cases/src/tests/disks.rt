@@ -1,8 +1,9 @@
 // Disks whose partition is the small container, and the cases of `--gpt` on them.
-use crate::tests::cases::{Case, Ends};
+use crate::tests::cases::Case;
+use crate::tests::cases::Ends::*;
 use crate::tests::checks::SMALL_REPORT;
 use crate::tests::images::Image;
-use img_make::write;
+use img_make::{table, write};
 use std::alloc::{AllocError, Global};
 
 // The partition's first sector.
@@ -82,71 +83,16 @@ pub const GPT_CHECK: &[&str] = &["--gpt", "check", "x"];
 
 pub const GPT_RING: &[&str] = &["--gpt", "ring", "x"];
 
-pub const DISK_CASES: &[Case] = &[
-    Case {
-        name: "clean_gpt_check",
-        image: Image::Disk(DISK),
-        words: GPT_CHECK,
-        ends: Ends::Wrote(SMALL_REPORT),
-    },
-    Case {
-        name: "clean_gpt_check_large_sectors",
-        image: Image::Disk(LARGE),
-        words: GPT_CHECK,
-        ends: Ends::Wrote(SMALL_REPORT),
-    },
-    Case {
-        name: "fault_block_zero_disk",
-        image: Image::Disk(DISK),
-        words: &["check", "x"],
-        ends: Ends::Faulty("apfs: fault: BlockZero\n"),
-    },
-    Case {
-        name: "fault_gpt_no_table",
-        image: Image::Ring,
-        words: GPT_RING,
-        ends: Ends::Faulty("apfs: fault: Gpt NoTable\n"),
-    },
-    Case {
-        name: "fault_gpt_bad_table",
-        image: Image::Disk(ODD_ENTRIES),
-        words: GPT_CHECK,
-        ends: Ends::Faulty("apfs: fault: Gpt BadTable\n"),
-    },
-    Case {
-        name: "fault_gpt_no_partition",
-        image: Image::Disk(OTHER_TYPE),
-        words: GPT_CHECK,
-        ends: Ends::Faulty("apfs: fault: Gpt NoPartition\n"),
-    },
-    Case {
-        name: "fault_gpt_part_outside",
-        image: Image::Disk(CUT),
-        words: GPT_CHECK,
-        ends: Ends::Faulty("apfs: fault: Gpt PartOutside entry 0\n"),
-    },
-    Case {
-        name: "answer_no_image_gpt",
-        image: Image::Absent,
-        words: GPT_RING,
-        ends: Ends::NoImage,
-    },
-    Case {
-        name: "words_gpt_alone",
-        image: Image::Disk(DISK),
-        words: &["--gpt"],
-        ends: Ends::Usage,
-    },
-    Case {
-        name: "words_gpt_twice",
-        image: Image::Disk(DISK),
-        words: &["--gpt", "--gpt", "ring", "x"],
-        ends: Ends::Usage,
-    },
-    Case {
-        name: "words_gpt_after_the_command",
-        image: Image::Disk(DISK),
-        words: &["ring", "--gpt", "x"],
-        ends: Ends::Usage,
-    },
-];
+pub const DISK_CASES: &[Case] = table! {
+    "clean_gpt_check", Image::Disk(DISK), GPT_CHECK, Wrote(SMALL_REPORT);
+    "clean_gpt_check_large_sectors", Image::Disk(LARGE), GPT_CHECK, Wrote(SMALL_REPORT);
+    "fault_block_zero_disk", Image::Disk(DISK), &["check", "x"], Faulty("apfs: fault: BlockZero\n");
+    "fault_gpt_no_table", Image::Ring, GPT_RING, Faulty("apfs: fault: Gpt NoTable\n");
+    "fault_gpt_bad_table", Image::Disk(ODD_ENTRIES), GPT_CHECK, Faulty("apfs: fault: Gpt BadTable\n");
+    "fault_gpt_no_partition", Image::Disk(OTHER_TYPE), GPT_CHECK, Faulty("apfs: fault: Gpt NoPartition\n");
+    "fault_gpt_part_outside", Image::Disk(CUT), GPT_CHECK, Faulty("apfs: fault: Gpt PartOutside entry 0\n");
+    "answer_no_image_gpt", Image::Absent, GPT_RING, NoImage;
+    "words_gpt_alone", Image::Disk(DISK), &["--gpt"], Usage;
+    "words_gpt_twice", Image::Disk(DISK), &["--gpt", "--gpt", "ring", "x"], Usage;
+    "words_gpt_after_the_command", Image::Disk(DISK), &["ring", "--gpt", "x"], Usage;
+};

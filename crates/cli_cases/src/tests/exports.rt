@@ -1,11 +1,13 @@
 // The cases of `export`, each with what its folder has then, or with nothing handed in for the folder. They were worked out by hand.
-use crate::tests::cases::{Case, Ends, FOLDER, NO_SNAPSHOT, NO_VOLUME};
+use crate::tests::cases::Ends::*;
+use crate::tests::cases::{Case, FOLDER, NO_SNAPSHOT, NO_VOLUME};
 use crate::tests::checks::{LEAKED, MARKED};
 use crate::tests::disks::DISK;
-use crate::tests::images::{Entry, Image, VOLUME};
+use crate::tests::images::Image::*;
+use crate::tests::images::{Image, VOLUME};
 use apfs_layout::volume;
 use blk_folder::{Given, MemFolder};
-use img_make::Sample;
+use img_make::{Sample, table};
 use std::alloc::Global;
 use std::test::Fail;
 
@@ -38,23 +40,7 @@ const OF_SECOND: &[&str] = &["export", "x", "y", "--volume", "1"];
 const FILE: u16 = 8;
 
 // A directory with a file of five bytes, and an empty file beside it.
-pub const FILLED: Image = Image::WithBytes(
-    &[
-        Entry {
-            directory: 2,
-            file: 16,
-            kind: 4,
-            name: "d",
-        },
-        Entry {
-            directory: 2,
-            file: 18,
-            kind: FILE,
-            name: "e",
-        },
-    ],
-    16,
-);
+pub const FILLED: Image = WithBytes(&[(2, 16, 4, "d"), (2, 18, FILE, "e")], 16);
 
 pub const FILLED_TEXT: &str = "exported 1 directories 2 files 5 bytes\n";
 
@@ -68,7 +54,7 @@ pub const EXPORTED: &[&str] = &[
 ];
 
 // Two volumes; the second has the file `hello.txt`.
-const TWO: Image = Image::Made((Sample::T, &[], &[]), &[]);
+const TWO: Image = Made((Sample::T, &[], &[]), &[]);
 
 const NO_FILES: &str = "exported 0 directories 0 files 0 bytes\n";
 
@@ -76,346 +62,45 @@ const ONE_EMPTY: &str = "exported 0 directories 1 files 0 bytes\n";
 
 const WITHHELD: &str = "skipped - hello.txt\nexported 0 directories 0 files 0 bytes\n";
 
-pub const EXPORT_CASES: &[(Case, Option<&str>)] = &[
-    (
-        Case {
-            name: "clean_export",
-            image: Image::Hello,
-            words: EXPORT,
-            ends: Ends::Wrote("exported 0 directories 1 files 5 bytes\n"),
-        },
-        Some("\nhello.txt=hello"),
-    ),
-    (
-        Case {
-            name: "clean_export_folder",
-            image: FOLDER,
-            words: EXPORT,
-            ends: Ends::Wrote("exported 1 directories 1 files 0 bytes\n"),
-        },
-        Some("\nd/\nd/f="),
-    ),
-    (
-        Case {
-            name: "clean_export_filled",
-            image: FILLED,
-            words: EXPORT,
-            ends: Ends::Wrote(FILLED_TEXT),
-        },
-        Some("\nd/\nd/hello=hello\ne="),
-    ),
-    (
-        Case {
-            name: "clean_export_link",
-            image: Image::Link,
-            words: EXPORT,
-            ends: Ends::Wrote("skipped l l\nexported 0 directories 0 files 0 bytes\n"),
-        },
-        Some(""),
-    ),
-    (
-        Case {
-            name: "clean_export_kinds",
-            image: Image::Files(&[
-                Entry {
-                    directory: 2,
-                    file: 16,
-                    kind: 1,
-                    name: "p",
-                },
-                Entry {
-                    directory: 2,
-                    file: 17,
-                    kind: 2,
-                    name: "c",
-                },
-                Entry {
-                    directory: 2,
-                    file: 18,
-                    kind: 6,
-                    name: "b\n",
-                },
-                Entry {
-                    directory: 2,
-                    file: 19,
-                    kind: 12,
-                    name: "..",
-                },
-            ]),
-            words: EXPORT,
-            ends: Ends::Wrote(
-                "skipped s \\x2e\\x2e\nskipped b b\\x0a\nskipped c c\nskipped p p\nexported 0 directories 0 files 0 bytes\n",
-            ),
-        },
-        Some(""),
-    ),
-    (
-        Case {
-            name: "clean_export_compressed",
-            image: Image::Flagged(0x20),
-            words: EXPORT,
-            ends: Ends::Wrote(WITHHELD),
-        },
-        Some(""),
-    ),
-    (
-        Case {
-            name: "clean_export_dataless",
-            image: Image::Flagged(0x4000_0000),
-            words: EXPORT,
-            ends: Ends::Wrote(WITHHELD),
-        },
-        Some(""),
-    ),
-    (
-        Case {
-            name: "clean_export_dots",
-            image: Image::Files(&[Entry {
-                directory: 2,
-                file: 16,
-                kind: FILE,
-                name: "..",
-            }]),
-            words: EXPORT,
-            ends: Ends::Wrote(ONE_EMPTY),
-        },
-        Some("\n\\x2e\\x2e="),
-    ),
-    (
-        Case {
-            name: "clean_export_newline",
-            image: Image::Files(&[Entry {
-                directory: 2,
-                file: 16,
-                kind: FILE,
-                name: "a\nb",
-            }]),
-            words: EXPORT,
-            ends: Ends::Wrote(ONE_EMPTY),
-        },
-        Some("\na\\x0ab="),
-    ),
-    (
-        Case {
-            name: "clean_export_alike",
-            image: Image::Exact(&[
-                Entry {
-                    directory: 2,
-                    file: 16,
-                    kind: FILE,
-                    name: "a",
-                },
-                Entry {
-                    directory: 2,
-                    file: 17,
-                    kind: FILE,
-                    name: "A",
-                },
-                Entry {
-                    directory: 2,
-                    file: 18,
-                    kind: FILE,
-                    name: "é",
-                },
-                Entry {
-                    directory: 2,
-                    file: 19,
-                    kind: FILE,
-                    name: "e\u{301}",
-                },
-            ]),
-            words: EXPORT,
-            ends: Ends::Wrote("exported 0 directories 4 files 0 bytes\n"),
-        },
-        Some("\nA=\na=\ne\u{301}=\né="),
-    ),
-    (
-        Case {
-            name: "clean_export_none",
-            image: Image::Small,
-            words: EXPORT,
-            ends: Ends::Wrote(NO_FILES),
-        },
-        Some(""),
-    ),
-    (
-        Case {
-            name: "clean_export_views",
-            image: Image::Views,
-            words: EXPORT,
-            ends: Ends::Wrote(ONE_EMPTY),
-        },
-        Some("\nnew="),
-    ),
-    (
-        Case {
-            name: "clean_export_snapshot",
-            image: Image::Views,
-            words: &["export", "x", "y", "--snapshot", "s2"],
-            ends: Ends::Wrote(ONE_EMPTY),
-        },
-        Some("\nold="),
-    ),
-    (
-        Case {
-            name: "clean_export_volume",
-            image: TWO,
-            words: OF_SECOND,
-            ends: Ends::Wrote("exported 0 directories 1 files 5 bytes\n"),
-        },
-        Some("\nhello.txt=hello"),
-    ),
-    (
-        Case {
-            name: "clean_export_folder_like_an_option",
-            image: Image::Views,
-            words: &["export", "x", "--snapshot", "--volume=0", "--snapshot=s4"],
-            ends: Ends::Wrote(ONE_EMPTY),
-        },
-        Some("\nnew="),
-    ),
-    (
-        Case {
-            name: "clean_gpt_export",
-            image: Image::Disk(DISK),
-            words: &["--gpt", "export", "x", "y"],
-            ends: Ends::Wrote(NO_FILES),
-        },
-        Some(""),
-    ),
-    (
-        Case {
-            name: "words_export_without_folder",
-            image: Image::Hello,
-            words: &["export", "x"],
-            ends: Ends::Usage,
-        },
-        None,
-    ),
-    (
-        Case {
-            name: "words_export_stray",
-            image: Image::Hello,
-            words: &["export", "x", "y", "z"],
-            ends: Ends::Usage,
-        },
-        Some(""),
-    ),
-    (
-        Case {
-            name: "words_export_quick",
-            image: Image::Hello,
-            words: &["export", "x", "y", "--quick"],
-            ends: Ends::Usage,
-        },
-        Some(""),
-    ),
-    (
-        Case {
-            name: "words_export_strict",
-            image: Image::Hello,
-            words: &["export", "x", "y", "--strict"],
-            ends: Ends::Usage,
-        },
-        Some(""),
-    ),
-    (
-        Case {
-            name: "words_gpt_export_without_folder",
-            image: Image::Disk(DISK),
-            words: &["--gpt", "export", "x"],
-            ends: Ends::Usage,
-        },
-        None,
-    ),
-    (
-        Case {
-            name: "answer_no_image_export",
-            image: Image::Absent,
-            words: EXPORT,
-            ends: Ends::NoImage,
-        },
-        None,
-    ),
-    (
-        Case {
-            name: "answer_no_folder",
-            image: Image::Hello,
-            words: EXPORT,
-            ends: Ends::NoFolder,
-        },
-        None,
-    ),
-    (
-        Case {
-            name: "answer_no_folder_before_fault",
-            image: MARKED,
-            words: EXPORT,
-            ends: Ends::NoFolder,
-        },
-        None,
-    ),
-    (
-        Case {
-            name: "answer_no_folder_gpt",
-            image: Image::Ring,
-            words: &["--gpt", "export", "x", "y"],
-            ends: Ends::NoFolder,
-        },
-        None,
-    ),
-    (
-        Case {
-            name: "answer_no_volume_export",
-            image: Image::Hello,
-            words: OF_SECOND,
-            ends: Ends::Answered(NO_VOLUME),
-        },
-        Some(""),
-    ),
-    (
-        Case {
-            name: "answer_no_volume_at_all_export",
-            image: Image::Empty,
-            words: EXPORT,
-            ends: Ends::Answered(NO_VOLUME),
-        },
-        Some(""),
-    ),
-    (
-        Case {
-            name: "answer_no_snapshot_export",
-            image: Image::Hello,
-            words: &["export", "x", "y", "--snapshot", "s2"],
-            ends: Ends::Answered(NO_SNAPSHOT),
-        },
-        Some(""),
-    ),
-    (
-        Case {
-            name: "fault_export_checked",
-            image: MARKED,
-            words: EXPORT,
-            ends: Ends::Faulty(LEAKED),
-        },
-        Some(""),
-    ),
-    (
-        Case {
-            name: "fault_export_before_answer",
-            image: MARKED,
-            words: OF_SECOND,
-            ends: Ends::Faulty(LEAKED),
-        },
-        Some(""),
-    ),
-    (
-        Case {
-            name: "feature_export_checked",
-            image: Image::SmallChanged(VOLUME, volume::INCOMPAT, &[0x11]),
-            words: EXPORT,
-            ends: Ends::Refused("apfs: unsupported: Restore block 51\n"),
-        },
-        Some(""),
-    ),
-];
+// A case, and what its folder has then.
+pub type Export = (Case, Option<&'static str>);
+
+pub const EXPORT_CASES: &[Export] = table! {
+    ("clean_export", Hello, EXPORT, Wrote("exported 0 directories 1 files 5 bytes\n")), Some("\nhello.txt=hello");
+    ("clean_export_folder", FOLDER, EXPORT, Wrote("exported 1 directories 1 files 0 bytes\n")), Some("\nd/\nd/f=");
+    ("clean_export_filled", FILLED, EXPORT, Wrote(FILLED_TEXT)), Some("\nd/\nd/hello=hello\ne=");
+    ("clean_export_link", Link, EXPORT, Wrote("skipped l l\nexported 0 directories 0 files 0 bytes\n")), Some("");
+    ("clean_export_kinds", Files(&[(2, 16, 1, "p"), (2, 17, 2, "c"), (2, 18, 6, "b\n"), (2, 19, 12, "..")]), EXPORT,
+        Wrote("skipped s \\x2e\\x2e\nskipped b b\\x0a\nskipped c c\nskipped p p\nexported 0 directories 0 files 0 bytes\n")), Some("");
+    ("clean_export_compressed", Flagged(0x20), EXPORT, Wrote(WITHHELD)), Some("");
+    ("clean_export_dataless", Flagged(0x4000_0000), EXPORT, Wrote(WITHHELD)), Some("");
+    ("clean_export_dots", Files(&[(2, 16, FILE, "..")]), EXPORT, Wrote(ONE_EMPTY)), Some("\n\\x2e\\x2e=");
+    ("clean_export_newline", Files(&[(2, 16, FILE, "a\nb")]), EXPORT, Wrote(ONE_EMPTY)), Some("\na\\x0ab=");
+    ("clean_export_alike", Exact(&[(2, 16, FILE, "a"), (2, 17, FILE, "A"), (2, 18, FILE, "é"), (2, 19, FILE, "e\u{301}")]), EXPORT,
+        Wrote("exported 0 directories 4 files 0 bytes\n")), Some("\nA=\na=\ne\u{301}=\né=");
+    ("clean_export_none", Small, EXPORT, Wrote(NO_FILES)), Some("");
+    ("clean_export_views", Views, EXPORT, Wrote(ONE_EMPTY)), Some("\nnew=");
+    ("clean_export_snapshot", Views, &["export", "x", "y", "--snapshot", "s2"], Wrote(ONE_EMPTY)), Some("\nold=");
+    ("clean_export_volume", TWO, OF_SECOND, Wrote("exported 0 directories 1 files 5 bytes\n")), Some("\nhello.txt=hello");
+    ("clean_export_folder_like_an_option", Views, &["export", "x", "--snapshot", "--volume=0", "--snapshot=s4"], Wrote(ONE_EMPTY)), Some("\nnew=");
+    ("clean_gpt_export", Disk(DISK), &["--gpt", "export", "x", "y"], Wrote(NO_FILES)), Some("");
+};
+
+// Those that export nothing.
+pub const REFUSED_CASES: &[Export] = table! {
+    ("words_export_without_folder", Hello, &["export", "x"], Usage), None;
+    ("words_export_stray", Hello, &["export", "x", "y", "z"], Usage), Some("");
+    ("words_export_quick", Hello, &["export", "x", "y", "--quick"], Usage), Some("");
+    ("words_export_strict", Hello, &["export", "x", "y", "--strict"], Usage), Some("");
+    ("words_gpt_export_without_folder", Disk(DISK), &["--gpt", "export", "x"], Usage), None;
+    ("answer_no_image_export", Absent, EXPORT, NoImage), None;
+    ("answer_no_folder", Hello, EXPORT, NoFolder), None;
+    ("answer_no_folder_before_fault", MARKED, EXPORT, NoFolder), None;
+    ("answer_no_folder_gpt", Ring, &["--gpt", "export", "x", "y"], NoFolder), None;
+    ("answer_no_volume_export", Hello, OF_SECOND, Answered(NO_VOLUME)), Some("");
+    ("answer_no_volume_at_all_export", Empty, EXPORT, Answered(NO_VOLUME)), Some("");
+    ("answer_no_snapshot_export", Hello, &["export", "x", "y", "--snapshot", "s2"], Answered(NO_SNAPSHOT)), Some("");
+    ("fault_export_checked", MARKED, EXPORT, Faulty(LEAKED)), Some("");
+    ("fault_export_before_answer", MARKED, OF_SECOND, Faulty(LEAKED)), Some("");
+    ("feature_export_checked", SmallChanged(VOLUME, volume::INCOMPAT, &[0x11]), EXPORT, Refused("apfs: unsupported: Restore block 51\n")), Some("");
+};

@@ -1,6 +1,8 @@
 // The cases of `format`, and what other commands say of what it writes. Their numbers were worked out by hand from what a new container holds.
-use crate::tests::cases::{Case, Ends, SMALL_LINE};
-use crate::tests::images::Image;
+use crate::tests::cases::Ends::Usage;
+use crate::tests::cases::{Case, SMALL_LINE};
+use crate::tests::images::Image::Absent;
+use img_make::table;
 
 const CONTAINER: &str = "00112233-4455-6677-8899-aabbccddeeff";
 
@@ -47,89 +49,18 @@ pub const READ_CASES: [(&[&str], &str); 6] = [
 const LONG_NAME: &str =
     "0123456789abcdef0123456789abcdef0123456789abcdef0123456789abcdef0123456789abcdef0123456789abcdef0123456789abcdef0123456789abcdef0123456789abcdef0123456789abcdef0123456789abcdef0123456789abcdef0123456789abcdef0123456789abcdef0123456789abcdef0123456789abcdef";
 
-pub const FORMAT_CASES: &[Case] = &[
-    Case {
-        name: "format_too_few_blocks",
-        image: Image::Absent,
-        words: &["format", "255", "Small", CONTAINER, VOLUME],
-        ends: Ends::Usage,
-    },
-    Case {
-        name: "format_too_many_blocks",
-        image: Image::Absent,
-        words: &["format", "32769", "Small", CONTAINER, VOLUME],
-        ends: Ends::Usage,
-    },
-    Case {
-        name: "format_leading_zero",
-        image: Image::Absent,
-        words: &["format", "0256", "Small", CONTAINER, VOLUME],
-        ends: Ends::Usage,
-    },
-    Case {
-        name: "format_six_digits",
-        image: Image::Absent,
-        words: &["format", "100256", "Small", CONTAINER, VOLUME],
-        ends: Ends::Usage,
-    },
-    Case {
-        name: "format_empty_name",
-        image: Image::Absent,
-        words: &["format", "256", "", CONTAINER, VOLUME],
-        ends: Ends::Usage,
-    },
-    Case {
-        name: "format_long_name",
-        image: Image::Absent,
-        words: &["format", "256", LONG_NAME, CONTAINER, VOLUME],
-        ends: Ends::Usage,
-    },
-    Case {
-        name: "format_zero_in_the_name",
-        image: Image::Absent,
-        words: &["format", "256", "a\0b", CONTAINER, VOLUME],
-        ends: Ends::Usage,
-    },
-    Case {
-        name: "format_wrong_container",
-        image: Image::Absent,
-        words: &[
-            "format",
-            "256",
-            "Small",
-            "00112233-4455-6677-8899-aabbccddeefg",
-            VOLUME,
-        ],
-        ends: Ends::Usage,
-    },
-    Case {
-        name: "format_wrong_volume",
-        image: Image::Absent,
-        words: &["format", "256", "Small", CONTAINER, "1"],
-        ends: Ends::Usage,
-    },
-    Case {
-        name: "format_three_words",
-        image: Image::Absent,
-        words: &["format", "256", "Small", CONTAINER],
-        ends: Ends::Usage,
-    },
-    Case {
-        name: "format_five_words",
-        image: Image::Absent,
-        words: &["format", "256", "Small", CONTAINER, VOLUME, "x"],
-        ends: Ends::Usage,
-    },
-    Case {
-        name: "format_upper_case",
-        image: Image::Absent,
-        words: &["Format", "256", "Small", CONTAINER, VOLUME],
-        ends: Ends::Usage,
-    },
-    Case {
-        name: "format_in_a_partition",
-        image: Image::Absent,
-        words: &["--gpt", "format", "256", "Small", CONTAINER, VOLUME],
-        ends: Ends::Usage,
-    },
-];
+pub const FORMAT_CASES: &[Case] = table! {
+    "format_too_few_blocks", Absent, &["format", "255", "Small", CONTAINER, VOLUME], Usage;
+    "format_too_many_blocks", Absent, &["format", "32769", "Small", CONTAINER, VOLUME], Usage;
+    "format_leading_zero", Absent, &["format", "0256", "Small", CONTAINER, VOLUME], Usage;
+    "format_six_digits", Absent, &["format", "100256", "Small", CONTAINER, VOLUME], Usage;
+    "format_empty_name", Absent, &["format", "256", "", CONTAINER, VOLUME], Usage;
+    "format_long_name", Absent, &["format", "256", LONG_NAME, CONTAINER, VOLUME], Usage;
+    "format_zero_in_the_name", Absent, &["format", "256", "a\0b", CONTAINER, VOLUME], Usage;
+    "format_wrong_container", Absent, &["format", "256", "Small", "00112233-4455-6677-8899-aabbccddeefg", VOLUME], Usage;
+    "format_wrong_volume", Absent, &["format", "256", "Small", CONTAINER, "1"], Usage;
+    "format_three_words", Absent, &["format", "256", "Small", CONTAINER], Usage;
+    "format_five_words", Absent, &["format", "256", "Small", CONTAINER, VOLUME, "x"], Usage;
+    "format_upper_case", Absent, &["Format", "256", "Small", CONTAINER, VOLUME], Usage;
+    "format_in_a_partition", Absent, &["--gpt", "format", "256", "Small", CONTAINER, VOLUME], Usage;
+};

@@ -3,29 +3,26 @@
 use crate::tests::cases::*;
 use crate::tests::checks::*;
 use crate::tests::contents::*;
-use crate::tests::disks::{DISK, DISK_CASES, GPT_CHECK, GPT_RING};
-use crate::tests::exports::{EXPORT, EXPORT_CASES, EXPORTED, FILLED, FILLED_TEXT};
-use crate::tests::formatted::FORMAT_CASES;
-use crate::tests::generated::{GEN, GEN_CASES, GEN_TEXT};
+use crate::tests::disks::{DISK, GPT_CHECK, GPT_RING};
+use crate::tests::exports::{EXPORT, EXPORTED, FILLED, FILLED_TEXT};
+use crate::tests::generated::{GEN, GEN_TEXT};
+use crate::tests::images::Image::*;
 use crate::tests::images::{Image, image_bytes, opened};
-use crate::tests::uses::{USAGE, USAGE_CASES, VIEWS_USED};
-use crate::tests::{Ended, NOTHING, Refused, end, end_export, end_on, ended_so, ended_with};
+use crate::tests::uses::{USAGE, VIEWS_USED};
+use crate::tests::{Ended, NOTHING, Refused, end, end_on};
+use Text::*;
 use apfs_layout::container::{DESC_INDEX, FS_OID};
 use apfs_layout::node::COUNT;
+use img_make::Change::Put;
 use img_make::cases::{END, FILES, HELLO, MAP_ROOT, SNAPSHOTS as TWO_SNAPSHOTS};
 use img_make::places::SUPERBLOCK;
-use img_make::{Change, SMALL, Sample};
+use img_make::{SMALL, Sample, table};
 use std::alloc::{AllocError, Global};
 use std::process::Abort;
 use std::test::Fail;
 
-// An image, and the texts of all faults that are in it.
-#[derive(Clone, Copy)]
-struct Wrong {
-    name: &'static str,
-    image: Image,
-    faults: &'static [&'static str],
-}
+// A name, an image, and the texts of all faults that are in it.
+type Wrong = (&'static str, Image, &'static [&'static str]);
 
 // Where the root of the files of the container with two snapshots has the ids of its two children, 1031 and 1032.
 const FIRST_CHILD: usize = END - 8;
@@ -94,101 +91,23 @@ const UNREADABLE_MAP: &[&str] = &[
     "NoInode volume 0 view 1 id 2",
 ];
 
-const WRONG_IMAGES: &[Wrong] = &[
-    Wrong {
-        name: "no bytes",
-        image: Image::SmallShort(0),
-        faults: &["BlockZero"],
-    },
-    Wrong {
-        name: "one byte",
-        image: Image::SmallShort(1),
-        faults: &["BlockZero"],
-    },
-    Wrong {
-        name: "a block less a byte",
-        image: Image::SmallShort(4095),
-        faults: &["BlockZero"],
-    },
-    Wrong {
-        name: "one block",
-        image: Image::SmallShort(4096),
-        faults: &["Truncated have 1 need 256"],
-    },
-    Wrong {
-        name: "a block and a byte",
-        image: Image::SmallShort(4097),
-        faults: &["Truncated have 1 need 256"],
-    },
-    Wrong {
-        name: "a byte less than all",
-        image: Image::SmallShort(1_048_575),
-        faults: &["Truncated have 255 need 256"],
-    },
-    Wrong {
-        name: "the checkpoint starts at index 2^32 - 1",
-        image: Image::Made(
-            SMALL,
-            &[Change::Put(SUPERBLOCK, DESC_INDEX, &[0xff, 0xff, 0xff, 0xff])],
-        ),
-        faults: &["NoCheckpoint"],
-    },
-    Wrong {
-        name: "the last slot names 2^64 - 1",
-        image: Image::Made(
-            SMALL,
-            &[Change::Put(
-                SUPERBLOCK,
-                FS_OID + 99 * 8,
-                &[0xff, 0xff, 0xff, 0xff, 0xff, 0xff, 0xff, 0xff],
-            )],
-        ),
-        faults: &["Unnamed container oid 18446744073709551615 xid 1"],
-    },
-    Wrong {
-        name: "a root leads to itself",
-        image: Image::Made(
-            TWO_SNAPSHOTS,
-            &[Change::Put(FILES, FIRST_CHILD, &[0x04, 0x04])],
-        ),
-        faults: ITSELF,
-    },
-    Wrong {
-        name: "a root leads to one leaf twice",
-        image: Image::Made(
-            TWO_SNAPSHOTS,
-            &[Change::Put(FILES, SECOND_CHILD, &[0x07, 0x04])],
-        ),
-        faults: FIRST_LEAF_TWICE,
-    },
-    Wrong {
-        name: "a node of 2^32 - 1 keys",
-        image: Image::Made(
-            SMALL,
-            &[Change::Put(MAP_ROOT, COUNT, &[0xff, 0xff, 0xff, 0xff])],
-        ),
-        faults: UNREADABLE_MAP,
-    },
-    Wrong {
-        name: "a file of 2^63 bytes",
-        image: Image::Made(
-            HELLO,
-            &[Change::Put(FILES, STREAM_SIZE, &[0, 0, 0, 0, 0, 0, 0, 0x80])],
-        ),
-        faults: &["Stream volume 0 view 1 id 16"],
-    },
-    Wrong {
-        name: "an extent of 2^56 - 4096 bytes",
-        image: Image::Made(
-            HELLO,
-            &[Change::Put(FILES, EXTENT, &[0, 0xf0, 0xff, 0xff, 0xff, 0xff, 0xff])],
-        ),
-        faults: &[
-            "ExtentPlace volume 0 view 1 id 16",
-            "ExtentUncovered volume 0 view 1 id 16",
-        ],
-    },
-];
+const WRONG_IMAGES: &[Wrong] = table! {
+    "no bytes", SmallShort(0), &["BlockZero"];
+    "one byte", SmallShort(1), &["BlockZero"];
+    "a block less a byte", SmallShort(4095), &["BlockZero"];
+    "one block", SmallShort(4096), &["Truncated have 1 need 256"];
+    "a block and a byte", SmallShort(4097), &["Truncated have 1 need 256"];
+    "a byte less than all", SmallShort(1_048_575), &["Truncated have 255 need 256"];
+    "the checkpoint starts at index 2^32 - 1", Made(SMALL, &[Put(SUPERBLOCK, DESC_INDEX, &[0xff, 0xff, 0xff, 0xff])]), &["NoCheckpoint"];
+    "the last slot names 2^64 - 1", Made(SMALL, &[Put(SUPERBLOCK, FS_OID + 99 * 8, &[0xff, 0xff, 0xff, 0xff, 0xff, 0xff, 0xff, 0xff])]),
+        &["Unnamed container oid 18446744073709551615 xid 1"];
+    "a root leads to itself", Made(TWO_SNAPSHOTS, &[Put(FILES, FIRST_CHILD, &[0x04, 0x04])]), ITSELF;
+    "a root leads to one leaf twice", Made(TWO_SNAPSHOTS, &[Put(FILES, SECOND_CHILD, &[0x07, 0x04])]), FIRST_LEAF_TWICE;
+    "a node of 2^32 - 1 keys", Made(SMALL, &[Put(MAP_ROOT, COUNT, &[0xff, 0xff, 0xff, 0xff])]), UNREADABLE_MAP;
+    "a file of 2^63 bytes", Made(HELLO, &[Put(FILES, STREAM_SIZE, &[0, 0, 0, 0, 0, 0, 0, 0x80])]), &["Stream volume 0 view 1 id 16"];
+    "an extent of 2^56 - 4096 bytes", Made(HELLO, &[Put(FILES, EXTENT, &[0, 0xf0, 0xff, 0xff, 0xff, 0xff, 0xff])]),
+        &["ExtentPlace volume 0 view 1 id 16", "ExtentUncovered volume 0 view 1 id 16"];
+};
 
 // Whether a line names one of some faults.
 fn names_one_of(line: &[u8], faults: &[&str]) -> bool {
@@ -204,13 +123,12 @@ fn names_one_of(line: &[u8], faults: &[&str]) -> bool {
 #[test]
 fn what_is_named_of_a_hostile_image_is_there(rt: HostRuntime) -> Result<(), Fail> {
     let alloc = rt.alloc();
-    for wrong in WRONG_IMAGES {
-        let ended = end(alloc, wrong.image, CHECK, NOTHING)?;
-        let is_there = names_one_of(ended.err.contents(), wrong.faults);
+    for (name, image, faults) in WRONG_IMAGES {
+        let ended = end(alloc, *image, CHECK, NOTHING)?;
+        let is_there = names_one_of(ended.err.contents(), faults);
         assert!(rt;
             ended.status == 1 && ended.out.contents().is_empty() && is_there,
-            "{}: status {}",
-            wrong.name,
+            "{name}: status {}",
             ended.status
         );
     }
@@ -245,9 +163,9 @@ pub fn hole_then(alloc: Global, byte: u8) -> Result<Vec<u8>, AllocError> {
 impl Text {
     fn bytes(self, alloc: Global) -> Result<Vec<u8>, AllocError> {
         match self {
-            Text::Lines(lines) => lines.as_bytes().to_vec(alloc),
-            Text::Hole => hole_then(alloc, b'A'),
-            Text::LongHole => zeros_then(alloc, 65_536, b'A'),
+            Lines(lines) => lines.as_bytes().to_vec(alloc),
+            Hole => hole_then(alloc, b'A'),
+            LongHole => zeros_then(alloc, 65_536, b'A'),
         }
     }
 }
@@ -275,9 +193,9 @@ struct Stopped {
 // A run that puts its text at once, after its last read, and nothing into its folder.
 const AT_ONCE: Stopped = Stopped {
     name: "",
-    image: Image::Absent,
+    image: Absent,
     words: &[],
-    text: Text::Lines(""),
+    text: Lines(""),
     reads: (0, 0),
     put_before_the_last_read: 0,
     put_before: &[0],
@@ -285,159 +203,54 @@ const AT_ONCE: Stopped = Stopped {
     calls_before_the_last_read: 0,
 };
 
+// Contents are put in pieces of 65,536 bytes.
+const IN_PIECES: Stopped = Stopped {
+    put_before_the_last_read: 65_536,
+    put_before: &[0, 65_536],
+    ..AT_ONCE
+};
+
+// The last read of `export` is that of the file's bytes, after the directory was put and the file begun.
+const INTO_A_FOLDER: Stopped = Stopped {
+    held: EXPORTED,
+    calls_before_the_last_read: 2,
+    ..AT_ONCE
+};
+
+// `gen` puts its first line before the others.
+const IN_TWO: Stopped = Stopped {
+    put_before: &[0, 12],
+    ..AT_ONCE
+};
+
+macro_rules! runs {
+    ($($name:literal, $image:expr, $words:expr, $text:expr, $reads:expr, $order:expr;)*) => {
+        &[$(Stopped { name: $name, image: $image, words: $words, text: $text, reads: $reads, ..$order }),*]
+    };
+}
+
 // Every command but `format`, whose tests are in `formatted`. A new one has its row at the end.
-const STOPPED_RUNS: &[Stopped] = &[
-    Stopped {
-        name: "check",
-        image: Image::Views,
-        words: CHECK,
-        text: Text::Lines(VIEWS_REPORT),
-        reads: (22, 60),
-        ..AT_ONCE
-    },
-    Stopped {
-        name: "ls",
-        image: Image::Views,
-        words: LS_CHECKED,
-        text: Text::Lines("- 16 0 new\n"),
-        reads: (23, 90),
-        ..AT_ONCE
-    },
-    Stopped {
-        name: "cat",
-        image: Image::Made((Sample::P, &[], &[]), &[]),
-        words: &["cat", "x", "/hole"],
-        text: Text::Hole,
-        reads: (16, 90),
-        ..AT_ONCE
-    },
-    // Contents are put in pieces of 65,536 bytes, and the first of these two is a hole.
-    Stopped {
-        name: "cat --quick",
-        image: Image::Streamed(66_440, &[(0, 65_536, 0), (65_536, 4096, 57)]),
-        words: CAT_HOLE,
-        text: Text::LongHole,
-        reads: (20, 39),
-        put_before_the_last_read: 65_536,
-        put_before: &[0, 65_536],
-        ..AT_ONCE
-    },
-    Stopped {
-        name: "ring",
-        image: Image::Ring,
-        words: RING,
-        text: Text::Lines(RING_LINES),
-        reads: (9, 39),
-        ..AT_ONCE
-    },
-    Stopped {
-        name: "info",
-        image: Image::Empty,
-        words: INFO,
-        text: Text::Lines(INFO_LINES),
-        reads: (14, 39),
-        ..AT_ONCE
-    },
-    Stopped {
-        name: "volumes",
-        image: Image::Small,
-        words: VOLUMES,
-        text: Text::Lines(SMALL_LINE),
-        reads: (17, 39),
-        ..AT_ONCE
-    },
-    Stopped {
-        name: "space",
-        image: Image::Small,
-        words: SPACE,
-        text: Text::Lines(SPACE_LINES),
-        reads: (15, 39),
-        ..AT_ONCE
-    },
-    Stopped {
-        name: "snapshots",
-        image: Image::Views,
-        words: SNAPSHOTS,
-        text: Text::Lines(VIEWS_LINES),
-        reads: (20, 39),
-        ..AT_ONCE
-    },
-    Stopped {
-        name: "ls --quick, of a snapshot",
-        image: Image::Views,
-        words: LS_OLD,
-        text: Text::Lines("- 16 0 old\n"),
-        reads: (21, 39),
-        ..AT_ONCE
-    },
-    Stopped {
-        name: "tree --quick, of a snapshot",
-        image: Image::Views,
-        words: TREE_OLD,
-        text: Text::Lines("- 16 0 old\n"),
-        reads: (21, 39),
-        ..AT_ONCE
-    },
-    Stopped {
-        name: "xattr --quick",
-        image: Image::Link,
-        words: XATTR,
-        text: Text::Lines("6 com.apple.fs.symlink\n"),
-        reads: (20, 39),
-        ..AT_ONCE
-    },
-    Stopped {
-        name: "xattr --quick, of a name",
-        image: Image::Link,
-        words: TARGET,
-        text: Text::Lines("hello\0"),
-        reads: (20, 39),
-        ..AT_ONCE
-    },
-    Stopped {
-        name: "--gpt ring",
-        image: Image::Disk(DISK),
-        words: GPT_RING,
-        text: Text::Lines("1 block 2 xid 1 from 0 length 2\n"),
-        reads: (11, 39),
-        ..AT_ONCE
-    },
-    Stopped {
-        name: "--gpt check",
-        image: Image::Disk(DISK),
-        words: GPT_CHECK,
-        text: Text::Lines(SMALL_REPORT),
-        reads: (16, 60),
-        ..AT_ONCE
-    },
-    Stopped {
-        name: "usage",
-        image: Image::Views,
-        words: USAGE,
-        text: Text::Lines(VIEWS_USED),
-        reads: (24, 66),
-        ..AT_ONCE
-    },
-    // Its last read is that of the file's bytes, after the directory was put and the file begun.
-    Stopped {
-        name: "export",
-        image: FILLED,
-        words: EXPORT,
-        text: Text::Lines(FILLED_TEXT),
-        reads: (15, 90),
-        held: EXPORTED,
-        calls_before_the_last_read: 2,
-        ..AT_ONCE
-    },
-    Stopped {
-        name: "gen",
-        image: Image::Absent,
-        words: GEN,
-        text: Text::Lines(GEN_TEXT),
-        put_before: &[0, 12],
-        ..AT_ONCE
-    },
-];
+const STOPPED_RUNS: &[Stopped] = runs! {
+    "check", Views, CHECK, Lines(VIEWS_REPORT), (22, 60), AT_ONCE;
+    "ls", Views, LS_CHECKED, Lines("- 16 0 new\n"), (23, 90), AT_ONCE;
+    "cat", Made((Sample::P, &[], &[]), &[]), &["cat", "x", "/hole"], Hole, (16, 90), AT_ONCE;
+    // The first of the two pieces is a hole.
+    "cat --quick", Streamed(66_440, &[(0, 65_536, 0), (65_536, 4096, 57)]), CAT_HOLE, LongHole, (20, 39), IN_PIECES;
+    "ring", Ring, RING, Lines(RING_LINES), (9, 39), AT_ONCE;
+    "info", Empty, INFO, Lines(INFO_LINES), (14, 39), AT_ONCE;
+    "volumes", Small, VOLUMES, Lines(SMALL_LINE), (17, 39), AT_ONCE;
+    "space", Small, SPACE, Lines(SPACE_LINES), (15, 39), AT_ONCE;
+    "snapshots", Views, SNAPSHOTS, Lines(VIEWS_LINES), (20, 39), AT_ONCE;
+    "ls --quick, of a snapshot", Views, LS_OLD, Lines("- 16 0 old\n"), (21, 39), AT_ONCE;
+    "tree --quick, of a snapshot", Views, TREE_OLD, Lines("- 16 0 old\n"), (21, 39), AT_ONCE;
+    "xattr --quick", Link, XATTR, Lines("6 com.apple.fs.symlink\n"), (20, 39), AT_ONCE;
+    "xattr --quick, of a name", Link, TARGET, Lines("hello\0"), (20, 39), AT_ONCE;
+    "--gpt ring", Disk(DISK), GPT_RING, Lines("1 block 2 xid 1 from 0 length 2\n"), (11, 39), AT_ONCE;
+    "--gpt check", Disk(DISK), GPT_CHECK, Lines(SMALL_REPORT), (16, 60), AT_ONCE;
+    "usage", Views, USAGE, Lines(VIEWS_USED), (24, 66), AT_ONCE;
+    "export", FILLED, EXPORT, Lines(FILLED_TEXT), (15, 90), INTO_A_FOLDER;
+    "gen", Absent, GEN, Lines(GEN_TEXT), (0, 0), IN_TWO;
+};
 
 // Whether a run ended with this status and this line, left a folder that has this, and wrote the first so many bytes of a text.
 fn ended_after(
@@ -518,14 +331,6 @@ fn refuse_each_read(rt: &impl Abort, alloc: Global, run: &Stopped) -> Result<(),
     Ok(())
 }
 
-#[test]
-fn failure_of_each_read(rt: HostRuntime) -> Result<(), Fail> {
-    for run in STOPPED_RUNS {
-        refuse_each_read(&rt, rt.alloc(), run)?;
-    }
-    Ok(())
-}
-
 // Refuses each put of a run in turn, and says whether it ends with 4; with 0 after its last put.
 fn refuse_each_put(rt: &impl Abort, alloc: Global, run: &Stopped) -> Result<(), Fail> {
     let on = prepare(alloc, run)?;
@@ -547,7 +352,7 @@ fn refuse_each_put(rt: &impl Abort, alloc: Global, run: &Stopped) -> Result<(), 
 }
 
 // Refuses each call of the folder of a run in turn, and says whether it ends with 4 and writes nothing; with 0 after its last call.
-fn refuse_each_call(rt: &impl Abort, alloc: Global, run: &Stopped) -> Result<(), Fail> {
+fn failure_of_each_call(rt: &impl Abort, alloc: Global, run: &Stopped) -> Result<(), Fail> {
     let on = prepare(alloc, run)?;
     for (i, held) in run.held.iter().enumerate() {
         let refused = Refused {
@@ -571,9 +376,9 @@ fn refuse_each_call(rt: &impl Abort, alloc: Global, run: &Stopped) -> Result<(),
 }
 
 #[test]
-fn failure_of_each_call(rt: HostRuntime) -> Result<(), Fail> {
+fn failure_of_each_read(rt: HostRuntime) -> Result<(), Fail> {
     for run in STOPPED_RUNS {
-        refuse_each_call(&rt, rt.alloc(), run)?;
+        refuse_each_read(&rt, rt.alloc(), run)?;
     }
     Ok(())
 }
@@ -582,97 +387,7 @@ fn failure_of_each_call(rt: HostRuntime) -> Result<(), Fail> {
 fn failure_of_each_put(rt: HostRuntime) -> Result<(), Fail> {
     for run in STOPPED_RUNS {
         refuse_each_put(&rt, rt.alloc(), run)?;
+        failure_of_each_call(&rt, rt.alloc(), run)?;
     }
     Ok(())
-}
-
-// Whether each case ends with 4 and writes nothing, where the first put on each sink is refused.
-fn refuse_the_first_put(rt: &impl Abort, alloc: Global, cases: &[Case]) -> Result<(), Fail> {
-    let refused = Refused {
-        put: 1,
-        line: 1,
-        ..NOTHING
-    };
-    for case in cases {
-        // Nothing is put where there is nothing to write.
-        let is_silent = case.ends.text().is_empty() && case.ends.line().is_empty();
-        let status = if is_silent { 0 } else { 4 };
-        let ended = end(alloc, case.image, case.words, refused)?;
-        let as_said = ended_with(&ended, status, "", "");
-        assert!(rt; as_said, "{}: status {}", case.name, ended.status);
-    }
-    Ok(())
-}
-
-// One test for each table of cases: the prover takes all of them at once for too large.
-#[test]
-fn failure_of_the_first_put_of_cases(rt: HostRuntime) -> Result<(), Fail> {
-    refuse_the_first_put(&rt, rt.alloc(), CASES)
-}
-
-#[test]
-fn failure_of_the_first_put_of_features(rt: HostRuntime) -> Result<(), Fail> {
-    refuse_the_first_put(&rt, rt.alloc(), FEATURE_CASES)
-}
-
-#[test]
-fn failure_of_the_first_put_of_volumes(rt: HostRuntime) -> Result<(), Fail> {
-    refuse_the_first_put(&rt, rt.alloc(), VOLUME_CASES)
-}
-
-#[test]
-fn failure_of_the_first_put_of_views(rt: HostRuntime) -> Result<(), Fail> {
-    refuse_the_first_put(&rt, rt.alloc(), VIEW_CASES)
-}
-
-#[test]
-fn failure_of_the_first_put_of_contents(rt: HostRuntime) -> Result<(), Fail> {
-    refuse_the_first_put(&rt, rt.alloc(), CONTENT_CASES)
-}
-
-#[test]
-fn failure_of_the_first_put_of_disks(rt: HostRuntime) -> Result<(), Fail> {
-    refuse_the_first_put(&rt, rt.alloc(), DISK_CASES)
-}
-
-#[test]
-fn failure_of_the_first_put_of_checks(rt: HostRuntime) -> Result<(), Fail> {
-    refuse_the_first_put(&rt, rt.alloc(), CHECK_CASES)
-}
-
-#[test]
-fn failure_of_the_first_put_of_commands_that_check_first(rt: HostRuntime) -> Result<(), Fail> {
-    refuse_the_first_put(&rt, rt.alloc(), FIRST_CASES)
-}
-
-#[test]
-fn failure_of_the_first_put_of_gen(rt: HostRuntime) -> Result<(), Fail> {
-    refuse_the_first_put(&rt, rt.alloc(), GEN_CASES)
-}
-
-#[test]
-fn failure_of_the_first_put_of_usage(rt: HostRuntime) -> Result<(), Fail> {
-    refuse_the_first_put(&rt, rt.alloc(), USAGE_CASES)
-}
-
-// The text of `export` is put when its folder is done.
-#[test]
-fn failure_of_the_first_put_of_export(rt: HostRuntime) -> Result<(), Fail> {
-    let alloc = rt.alloc();
-    let refused = Refused {
-        put: 1,
-        line: 1,
-        ..NOTHING
-    };
-    for (case, held) in EXPORT_CASES {
-        let ended = end_export(alloc, case, *held, refused)?;
-        let as_said = ended_so(&ended, 4, "", "", held.unwrap_or(""));
-        assert!(rt; as_said, "{}: status {}", case.name, ended.status);
-    }
-    Ok(())
-}
-
-#[test]
-fn failure_of_the_first_put_of_format(rt: HostRuntime) -> Result<(), Fail> {
-    refuse_the_first_put(&rt, rt.alloc(), FORMAT_CASES)
 }

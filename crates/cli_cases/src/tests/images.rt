@@ -1,8 +1,8 @@
 // The images that the cases are run on, each one fact away from a good one.
 use crate::tests::disks::{Disk, sectors, write_table};
-use apfs_layout::container::{BLOCKED, DESC_BLOCKS, FS_OID, INCOMPAT};
+use apfs_layout::container::{BLOCKED, DESC_BLOCKS, INCOMPAT};
 use apfs_layout::key::LEN_AND_HASH;
-use apfs_layout::node::{INFO_LEN, KEY_COUNT, TABLE};
+use apfs_layout::node::{INFO_LEN, KEY_COUNT};
 use apfs_layout::object::SUM;
 use apfs_layout::record::ATTRIBUTE_FLAGS;
 use apfs_layout::value::{SNAPSHOT_FLAGS, SNAPSHOT_NAME};
@@ -10,8 +10,8 @@ use blk_source::{MemSource, Opened};
 use fs_name::Names;
 use img_make::records::{EntryPlan, InodePlan, LINK_MODE, attribute};
 use img_make::{
-    Base, Change, FileTree, Item, Leaf, Plan, QueueEntry, Sample, Version, edit, make, put_u32,
-    ring_of_four, sample, skipped_checkpoint, write,
+    Base, Change, FileTree, Item, Sample, edit, image_with, made, put_u32, ring_of_four, sample,
+    skipped_checkpoint, write,
 };
 use std::alloc::{AllocError, Global};
 use std::test::Fail;
@@ -19,7 +19,7 @@ use std::test::Fail;
 const BLOCK: usize = 4096;
 
 // The superblock of the only checkpoint.
-const SUPERBLOCK: usize = 2;
+pub const SUPERBLOCK: usize = 2;
 
 // Blocks of the small container: the container's object map, the only node of its tree, and the volume's superblock.
 pub const MAP: usize = 25;
@@ -58,25 +58,11 @@ pub const FIRST_FLAGS: usize = BLOCK - INFO_LEN - (SNAPSHOT_NAME + 3) + SNAPSHOT
 
 pub const SECOND_FLAGS: usize = BLOCK - INFO_LEN - 2 * (SNAPSHOT_NAME + 3) + SNAPSHOT_FLAGS;
 
-// The oid of the root of the file-system tree of a made volume.
-const ROOT_OID: u64 = 1028;
+// A file: the directory in which it has its entry and which is its parent, its id, its kind, and its name.
+pub type Entry = (u64, u64, u16, &'static str);
 
-// A file of this kind, whose parent is the directory in which it has its entry.
-#[derive(Clone, Copy, Debug)]
-pub struct Entry {
-    pub directory: u64,
-    pub file: u64,
-    pub kind: u16,
-    pub name: &'static str,
-}
-
-// A further name of a file, in a directory.
-#[derive(Clone, Copy, Debug)]
-pub struct Name {
-    pub directory: u64,
-    pub file: u64,
-    pub name: &'static str,
-}
+// A further name of a file: its directory, the file, and the name.
+pub type Name = (u64, u64, &'static str);
 
 // What a case is run on.
 #[derive(Clone, Copy, Debug)]
@@ -102,20 +88,12 @@ pub enum Image {
     EmptySkipped,
     /// A container with one volume, which holds its two directories.
     Small,
-    /// The sum of its volume's superblock is wrong.
-    SmallUnsummed,
-    /// Block 0 says that its descriptor area isn't contiguous.
-    SmallSplit,
-    /// The same without its last block.
+    /// Without its last block, and block 0 says that its descriptor area isn't contiguous.
     SmallCutSplit,
     /// The block of this number has other bytes from a place on, and a right sum.
     SmallChanged(usize, usize, &'static [u8]),
-    /// A container with two such volumes, the keys of whose records are exchanged.
-    TwoExchanged,
     /// A container whose volume has a file and two snapshots.
     Views,
-    /// Its superblock names the volume in slot 3.
-    ViewsLater,
     /// Its first snapshot has this name.
     ViewsNamed(&'static str),
     /// The block of this number has other bytes from a place on, and a right sum.
@@ -142,8 +120,6 @@ pub enum Image {
     Backwards,
     /// The small container, whose volume has one more inode (16), with a value of 8 bytes.
     ShortInode,
-    /// The small container, and block 60 waits in the main queue.
-    Queued,
     /// The first so many bytes of the small container.
     SmallShort(usize),
     /// The small container, and a second checkpoint follows, whose space manager has a wrong sum.
@@ -156,27 +132,10 @@ pub enum Image {
     Disk(Disk),
 }
 
-fn made(alloc: Global, plan: &Plan) -> Result<Vec<u8>, Fail> {
-    if plan.valid() {
-        return Ok(make(alloc, plan)?);
-    }
-    Ok(Vec::new(alloc))
-}
-
 // A container without volumes.
 fn empty(alloc: Global) -> Result<Vec<u8>, Fail> {
     let mut plan = sample(alloc, Sample::S)?;
     plan.volumes.clear();
-    made(alloc, &plan)
-}
-
-// A container with two volumes of the small one's kind.
-fn two(alloc: Global) -> Result<Vec<u8>, Fail> {
-    let mut plan = sample(alloc, Sample::S)?;
-    let mut other = sample(alloc, Sample::S)?;
-    if let Some(volume) = other.volumes.pop() {
-        plan.volumes.push(volume)?;
-    }
     made(alloc, &plan)
 }
 
@@ -195,14 +154,14 @@ fn views_named(alloc: Global, name: &str) -> Result<Vec<u8>, Fail> {
 
 // Adds empty files and directories to those of a volume.
 fn add_files(alloc: Global, tree: &mut FileTree, files: &[Entry]) -> Result<(), AllocError> {
-    for file in files {
-        let mut plan = InodePlan::file(file.file, file.directory);
-        if file.kind == 4 {
-            plan = InodePlan::directory(file.file, file.directory);
+    for (directory, file, kind, name) in files {
+        let mut plan = InodePlan::file(*file, *directory);
+        if *kind == 4 {
+            plan = InodePlan::directory(*file, *directory);
         } else {
-            plan.mode = file.kind.saturating_mul(0x1000);
+            plan.mode = kind.saturating_mul(0x1000);
         }
-        tree.add(alloc, plan, file.name)?;
+        tree.add(alloc, plan, name)?;
     }
     Ok(())
 }
@@ -211,47 +170,21 @@ fn add_files(alloc: Global, tree: &mut FileTree, files: &[Entry]) -> Result<(), 
 fn file_tree(alloc: Global, files: &[Entry], names: &[Name]) -> Result<FileTree, AllocError> {
     let mut tree = FileTree::new(alloc, Names::Folded)?;
     add_files(alloc, &mut tree, files)?;
-    for name in names {
+    for (directory, file, name) in names {
         let plan = EntryPlan {
-            directory: name.directory,
-            file: name.file,
+            directory: *directory,
+            file: *file,
             kind: 4,
             sibling: None,
         };
-        tree.name(alloc, &plan, name.name)?;
+        tree.name(alloc, &plan, name)?;
     }
     Ok(tree)
 }
 
-// A sample whose volume compares names so, and has these records of files in place of its own.
-fn with_names(
-    alloc: Global,
-    which: Sample,
-    names: Names,
-    items: Vec<Item>,
-) -> Result<Vec<u8>, Fail> {
-    let mut plan = sample(alloc, which)?;
-    let Some(mut volume) = plan.volumes.pop() else {
-        return Ok(Vec::new(alloc));
-    };
-    volume.names = names;
-    let leaf = Leaf {
-        oid: ROOT_OID,
-        items,
-    };
-    let version = Version {
-        xid: 1,
-        snapshot: None,
-        leaves: vec![in alloc; leaf]?,
-    };
-    volume.versions = vec![in alloc; version]?;
-    plan.volumes.push(volume)?;
-    made(alloc, &plan)
-}
-
 // A sample whose volume has these records of files in place of its own.
 fn with_items(alloc: Global, which: Sample, items: Vec<Item>) -> Result<Vec<u8>, Fail> {
-    with_names(alloc, which, Names::Folded, items)
+    image_with(alloc, which, Names::Folded, items)
 }
 
 // A container whose volume has these records of files.
@@ -281,7 +214,7 @@ fn with_file(
 fn exact(alloc: Global, files: &[Entry]) -> Result<Vec<u8>, Fail> {
     let mut tree = FileTree::new(alloc, Names::Exact)?;
     add_files(alloc, &mut tree, files)?;
-    with_names(alloc, Sample::S, Names::Exact, tree.items(alloc)?)
+    image_with(alloc, Sample::S, Names::Exact, tree.items(alloc)?)
 }
 
 // A container whose volume has these files and directories, and the file 17 of five bytes in one of them.
@@ -347,44 +280,18 @@ fn unhashed(alloc: Global) -> Result<Vec<u8>, Fail> {
     with_items(alloc, Sample::H, items)
 }
 
-// The small container, and block 60 waits in the main queue.
-fn queued(alloc: Global) -> Result<Vec<u8>, Fail> {
-    let mut plan = sample(alloc, Sample::S)?;
-    plan.queued.push(QueueEntry {
-        xid: 1,
-        paddr: 60,
-        length: 1,
-    })?;
-    made(alloc, &plan)
-}
-
 // Says in block 0 that the descriptor area isn't contiguous, by the highest bit of its number of blocks.
 fn split(image: &mut [u8]) -> bool {
     edit(image, BLOCK, 0, DESC_BLOCKS + 3, &[0x80])
 }
 
-// Exchanges the places of the keys of the first two entries of a node whose keys have 16 bytes each.
-fn exchange_keys(image: &mut [u8], block: usize) -> bool {
-    edit(image, BLOCK, block, TABLE, &[16, 0]) && edit(image, BLOCK, block, TABLE + 4, &[0, 0])
-}
-
 // A good image.
 fn bytes(alloc: Global, image: Image) -> Result<Vec<u8>, Fail> {
     match image {
-        Image::Absent
-        | Image::Ring
-        | Image::RingCut
-        | Image::RingShort
-        | Image::RingSplit
-        | Image::Empty
-        | Image::EmptyUnsummed
-        | Image::EmptyFeatures(_)
-        | Image::EmptyResizing
-        | Image::EmptySkipped => empty(alloc),
-        Image::TwoExchanged => two(alloc),
-        Image::Views | Image::ViewsLater | Image::ViewsChanged(..) => {
-            made(alloc, &sample(alloc, Sample::V)?)
-        }
+        Image::Ring | Image::RingCut | Image::RingShort | Image::RingSplit => empty(alloc),
+        Image::Empty | Image::EmptyUnsummed | Image::EmptyFeatures(_) => empty(alloc),
+        Image::EmptyResizing | Image::EmptySkipped => empty(alloc),
+        Image::Views | Image::ViewsChanged(..) => made(alloc, &sample(alloc, Sample::V)?),
         Image::ViewsNamed(name) => views_named(alloc, name),
         Image::Hello => made(alloc, &sample(alloc, Sample::H)?),
         Image::Flagged(flags) => {
@@ -401,7 +308,6 @@ fn bytes(alloc: Global, image: Image) -> Result<Vec<u8>, Fail> {
         Image::WithBytes(files, directory) => with_bytes(alloc, files, directory),
         Image::Backwards => backwards(alloc),
         Image::ShortInode => with_short_inode(alloc),
-        Image::Queued => queued(alloc),
         Image::Unhashed => unhashed(alloc),
         Image::Made(base, changes) => img_make::image(alloc, &base, changes),
         Image::Disk(disk) => {
@@ -427,21 +333,9 @@ fn change(image: Image, bytes: &mut [u8]) -> bool {
         Image::SmallChanged(block, at, other) | Image::ViewsChanged(block, at, other) => {
             edit(bytes, BLOCK, block, at, other)
         }
-        Image::ViewsLater => {
-            edit(bytes, BLOCK, SUPERBLOCK, FS_OID, &[0, 0])
-                && edit(bytes, BLOCK, SUPERBLOCK, FS_OID + 3 * 8, &[2, 4])
-        }
-        Image::SmallSplit | Image::SmallCutSplit => split(bytes),
-        Image::SmallUnsummed => write(bytes, BLOCK, VOLUME, SUM, &[0, 0]),
-        Image::TwoExchanged => exchange_keys(bytes, MAP_TREE),
+        Image::SmallCutSplit => split(bytes),
         Image::Disk(disk) => write_table(bytes, disk),
-        Image::Absent | Image::Empty | Image::Small | Image::Views | Image::Hello => true,
-        Image::SmallShort(_) => true,
-        Image::Files(_) | Image::Named(..) | Image::Queued | Image::ViewsNamed(_) => true,
-        Image::Backwards | Image::ShortInode => true,
-        Image::Exact(_) | Image::WithBytes(..) => true,
-        Image::Unhashed | Image::Made(..) => true,
-        Image::Flagged(_) | Image::Streamed(..) | Image::Link | Image::LinkUnsaid => true,
+        _ => true,
     }
 }
 

@@ -5,7 +5,7 @@ ghost use Rattle.obj_base.specs.Site.{IsSiteFor};
 use blk_source::MemSource;
 use fs_name::Names;
 use img_make::records::{InodePlan, LINK_MODE, attribute};
-use img_make::{FileTree, Plan, Sample, make, pack, places, sample};
+use img_make::{FileTree, Sample, image_with, made, sample, table};
 use nx_ring::newest;
 use obj_base::Site;
 use std::alloc::{AllocError, Global};
@@ -15,9 +15,6 @@ use vol_view::{View, Volume, heads, live, load};
 
 // The id of the root.
 const ROOT: u64 = 2;
-
-// The id of the first of several leaves.
-const FIRST_LEAF: u64 = 1031;
 
 // The flags of compressed and of dataless files.
 const COMPRESSED: u32 = 0x20;
@@ -67,10 +64,27 @@ fn add_hello(
     tree.stream(alloc, id, &[(0, 4096, HELLO_BLOCK)])
 }
 
-fn add_folders(alloc: Global, tree: &mut FileTree) -> Result<(), AllocError> {
-    tree.add(alloc, InodePlan::directory(16, ROOT), "d")?;
-    tree.add(alloc, InodePlan::file(17, 16), "f")?;
-    tree.add(alloc, InodePlan::directory(18, ROOT), "e")
+// A file or a directory without contents: the directory in which it stands, its id, whether it is a directory, and its name.
+type File = (u64, u64, bool, &'static str);
+
+const FOLDERS: &[File] = table! {
+    ROOT, 16, true, "d"; 16, 17, false, "f"; ROOT, 18, true, "e";
+};
+
+const DOTS: &[File] = table! {
+    ROOT, 16, true, "."; 16, 17, false, ".."; ROOT, 18, false, ".."; ROOT, 19, false, "...";
+};
+
+fn add_files(alloc: Global, tree: &mut FileTree, files: &[File]) -> Result<(), AllocError> {
+    for (directory, id, is_directory, name) in files {
+        let plan = if *is_directory {
+            InodePlan::directory(*id, *directory)
+        } else {
+            InodePlan::file(*id, *directory)
+        };
+        tree.add(alloc, plan, name)?;
+    }
+    Ok(())
 }
 
 fn add_link(alloc: Global, tree: &mut FileTree) -> Result<(), AllocError> {
@@ -78,13 +92,6 @@ fn add_link(alloc: Global, tree: &mut FileTree) -> Result<(), AllocError> {
     link.mode = LINK_MODE;
     tree.add(alloc, link, "l")?;
     tree.record(attribute(alloc, 16, b"com.apple.fs.symlink", b"hello\0")?)
-}
-
-fn add_dots(alloc: Global, tree: &mut FileTree) -> Result<(), AllocError> {
-    tree.add(alloc, InodePlan::directory(16, ROOT), ".")?;
-    tree.add(alloc, InodePlan::file(17, 16), "..")?;
-    tree.add(alloc, InodePlan::file(18, ROOT), "..")?;
-    tree.add(alloc, InodePlan::file(19, ROOT), "...")
 }
 
 fn add_withheld(alloc: Global, tree: &mut FileTree) -> Result<(), AllocError> {
@@ -108,43 +115,24 @@ fn add_hole(alloc: Global, tree: &mut FileTree) -> Result<(), AllocError> {
 }
 
 // The sample with the block `hello`, with these files.
-fn planned(alloc: Global, tree: FileTree) -> Result<Plan, Fail> {
-    let mut plan = sample(alloc, Sample::H)?;
-    let mut leaves = pack(alloc, tree.items(alloc)?, FIRST_LEAF)?;
-    if leaves.len() == 1 {
-        leaves[0].oid = places::ROOT_OID;
-    }
-    for volume in plan.volumes.iter_mut() {
-        for version in volume.versions.iter_mut() {
-            version.leaves = leaves;
-            return Ok(plan);
-        }
-    }
-    Ok(plan)
-}
-
-fn plan_of(alloc: Global, holds: Holds) -> Result<Plan, Fail> {
+fn image_of(alloc: Global, holds: Holds) -> Result<Vec<u8>, Fail> {
     let mut tree = FileTree::new(alloc, Names::Folded)?;
     match holds {
-        Holds::Hello => return Ok(sample(alloc, Sample::H)?),
-        Holds::Folders => add_folders(alloc, &mut tree)?,
+        Holds::Hello => return made(alloc, &sample(alloc, Sample::H)?),
+        Holds::Folders => add_files(alloc, &mut tree, FOLDERS)?,
         Holds::Link => add_link(alloc, &mut tree)?,
-        Holds::Dots => add_dots(alloc, &mut tree)?,
+        Holds::Dots => add_files(alloc, &mut tree, DOTS)?,
         Holds::Withheld => add_withheld(alloc, &mut tree)?,
         Holds::Empty => {}
         Holds::Several => add_several(alloc, &mut tree)?,
         Holds::Hole => add_hole(alloc, &mut tree)?,
     }
-    planned(alloc, tree)
+    image_with(alloc, Sample::H, Names::Folded, tree.items(alloc)?)
 }
 
 /// The image, of which the reads of these numbers are refused.
 pub(super) fn source(alloc: Global, holds: Holds, fails: Vec<u64>) -> Result<MemSource, Fail> {
-    let plan = plan_of(alloc, holds)?;
-    if !plan.valid() {
-        return Err(Fail::from("the plan isn't valid"));
-    }
-    Ok(MemSource::new(make(alloc, &plan)?, fails))
+    Ok(MemSource::new(image_of(alloc, holds)?, fails))
 }
 
 /// A view, with its volume and its site.

@@ -3,7 +3,7 @@ use apfs_model::NoMemory;
 use fs_name::Names;
 use img_make::{
     Groups, Leaf, NewRange, Plan, QueueEntry, Sample, Version, VolPlan, free, make, make_grouped,
-    make_with, mark, ring_of_four, sample, skipped_checkpoint,
+    make_with, mark, ring_of_four, sample, skipped_checkpoint, table,
 };
 use obj_base::{sum64, u64_at};
 use std::alloc::{AllocError, Global};
@@ -45,6 +45,14 @@ fn number(image: &[u8], block: usize, at: usize) -> Option<u64> {
     }
 }
 
+// Whether an image has these numbers.
+fn assert_numbers(rt: &impl Abort, image: &[u8], numbers: &[Number]) {
+    for (block, at, wanted) in numbers {
+        let found = number(image, *block, *at);
+        assert_eq!(rt; found, Some(*wanted), "block {block} byte {at}");
+    }
+}
+
 // The row of a block of so many bytes.
 fn row_of(image: &[u8], size: usize, block: usize) -> Option<Row> {
     let from = block.checked_mul(size)?;
@@ -80,20 +88,20 @@ fn assert_rows(rt: &impl Abort, image: &[u8], size: usize, rows: &[Row], small: 
 fn each_sample_has_its_blocks(rt: HostRuntime) -> Result<(), Fail> {
     let samples: [(Sample, &[Row]); 9] = [
         (Sample::S, &[]),
-        (Sample::H, &rows::HELLO),
-        (Sample::L, &rows::LINKS),
-        (Sample::P, &rows::HOLE),
-        (Sample::C, &rows::SHARED),
-        (Sample::V, &rows::SNAPSHOTS),
-        (Sample::V2, &rows::EIGHT_SNAPSHOTS),
-        (Sample::J, &rows::JUMPSTART),
-        (Sample::T, &rows::TWO_VOLUMES),
+        (Sample::H, rows::HELLO),
+        (Sample::L, rows::LINKS),
+        (Sample::P, rows::HOLE),
+        (Sample::C, rows::SHARED),
+        (Sample::V, rows::SNAPSHOTS),
+        (Sample::V2, rows::EIGHT_SNAPSHOTS),
+        (Sample::J, rows::JUMPSTART),
+        (Sample::T, rows::TWO_VOLUMES),
     ];
     for (which, rows) in samples {
         let plan = sample(rt.alloc(), which)?;
         let image = image_of(rt.alloc(), &plan)?;
         assert_eq!(rt; image.len(), 1_048_576, "{which:?}");
-        assert_rows(&rt, &image, 4096, rows, &rows::SMALL);
+        assert_rows(&rt, &image, 4096, rows, rows::SMALL);
     }
     Ok(())
 }
@@ -107,34 +115,26 @@ fn an_address_block_names_the_chunk_info_block(rt: HostRuntime) -> Result<(), Fa
             cibs: 1,
         };
         let image = make_grouped(rt.alloc(), &plan, groups)?;
-        assert_rows(&rt, &image, 4096, &rows::ADDRESS_BLOCK, &rows::SMALL);
+        assert_rows(&rt, &image, 4096, rows::ADDRESS_BLOCK, rows::SMALL);
     }
     Ok(())
 }
 
+// A block, a byte in it, and the number of 64 bits that stands there.
+type Number = (usize, usize, u64);
+
 // What a container of two chunks has, with one chunk to a chunk-info block, and one of these to an address block: block,
 // byte and number.
-const GROUPED: [(usize, usize, u64); 15] = [
+const GROUPED: &[Number] = table! {
     // the manager's sizes of groups, its chunks, chunk-info blocks and address blocks, and both addresses
-    (9, 40, 0x0000_0001_0000_0001),
-    (9, 56, 2),
-    (9, 64, 0x0000_0002_0000_0002),
-    (9, 80, 2584),
-    (9, 2584, 46),
-    (9, 2592, 47),
+    9, 40, 0x0000_0001_0000_0001; 9, 56, 2; 9, 64, 0x0000_0002_0000_0002; 9, 80, 2584; 9, 2584, 46; 9, 2592, 47;
     // the pool's bits: two chunk-info blocks, a bitmap, and two address blocks
-    (27, 0, 31),
+    27, 0, 31;
     // of both chunk-info blocks index and count; the first one's bitmap, and the second one's first block
-    (43, 32, 0x0000_0001_0000_0000),
-    (43, 64, 45),
-    (44, 32, 0x0000_0001_0000_0001),
-    (44, 48, 32768),
+    43, 32, 0x0000_0001_0000_0000; 43, 64, 45; 44, 32, 0x0000_0001_0000_0001; 44, 48, 32768;
     // of both address blocks index and count, and the address
-    (46, 32, 0x0000_0001_0000_0000),
-    (46, 40, 43),
-    (47, 32, 0x0000_0001_0000_0001),
-    (47, 40, 44),
-];
+    46, 32, 0x0000_0001_0000_0000; 46, 40, 43; 47, 32, 0x0000_0001_0000_0001; 47, 40, 44;
+};
 
 #[test]
 fn address_blocks_name_groups(rt: HostRuntime) -> Result<(), Fail> {
@@ -142,20 +142,14 @@ fn address_blocks_name_groups(rt: HostRuntime) -> Result<(), Fail> {
     if plan.valid() {
         let groups = Groups { chunks: 1, cibs: 1 };
         let image = make_grouped(rt.alloc(), &plan, groups)?;
-        for (block, at, wanted) in GROUPED {
-            assert_eq!(rt;
-                number(&image, block, at),
-                Some(wanted),
-                "block {block} byte {at}"
-            );
-        }
+        assert_numbers(&rt, &image, GROUPED);
     }
     Ok(())
 }
 
 #[test]
 fn greater_blocks_hold_the_same(rt: HostRuntime) -> Result<(), Fail> {
-    let sizes: [(u32, &[Row]); 2] = [(16384, &rows::SMALL_16384), (65536, &rows::SMALL_65536)];
+    let sizes: [(u32, &[Row]); 2] = [(16384, rows::SMALL_16384), (65536, rows::SMALL_65536)];
     let plan = sample(rt.alloc(), Sample::S)?;
     assert_eq!(rt; plan.blocks, 256);
     for (size, rows) in sizes {
@@ -244,48 +238,24 @@ fn full_plan(alloc: Global) -> Result<Plan, AllocError> {
 }
 
 // What the image of this plan has: block, byte and number.
-const FULL: [(usize, usize, u64); 23] = [
+const FULL: &[Number] = table! {
     // the root of the file-system tree, above two nodes, and these above six leaves: flags, level and count, the number
     // of keys, that of nodes
-    (54, 32, 0x0000_0002_0002_0001),
-    (54, 4080, 6),
-    (54, 4088, 9),
+    54, 32, 0x0000_0002_0002_0001; 54, 4080, 6; 54, 4088, 9;
     // the oids of two leaves with the file's block between them, and the flags, levels and counts of the two nodes
-    (57, 8, 1031),
-    (58, 0, 0x006f_6c6c_6568),
-    (60, 8, 2000),
-    (65, 32, 0x0000_0005_0001_0000),
-    (66, 32, 0x0000_0001_0001_0000),
+    57, 8, 1031; 58, 0, 0x006f_6c6c_6568; 60, 8, 2000; 65, 32, 0x0000_0005_0001_0000; 66, 32, 0x0000_0001_0001_0000;
     // the queue: six mappings, the last of which are the leaves in blocks 13 and 14; the root of level 1, and the leaves
-    (1, 32, 0x0000_0006_0000_0001),
-    (1, 224, 2007),
-    (1, 232, 13),
-    (1, 264, 2008),
-    (1, 272, 14),
-    (2, 144, 0x0000_0006_0000_0000),
-    (12, 32, 0x0000_0002_0001_0005),
-    (12, 4080, 126),
-    (12, 4088, 3),
-    (13, 32, 0x0000_007d_0000_0006),
-    (14, 32, 0x0000_0001_0000_0006),
+    1, 32, 0x0000_0006_0000_0001; 1, 224, 2007; 1, 232, 13; 1, 264, 2008; 1, 272, 14; 2, 144, 0x0000_0006_0000_0000;
+    12, 32, 0x0000_0002_0001_0005; 12, 4080, 126; 12, 4088, 3; 13, 32, 0x0000_007d_0000_0006; 14, 32, 0x0000_0001_0000_0006;
     // the jumpstart, its magic and version, its count of extents, and the extent
-    (2, 1272, 67),
-    (67, 32, 0x0000_0001_5244_534a),
-    (67, 44, 1),
-    (67, 176, 90),
-];
+    2, 1272, 67; 67, 32, 0x0000_0001_5244_534a; 67, 44, 1; 67, 176, 90;
+};
 
 #[test]
 fn a_full_container_has_its_parts(rt: HostRuntime) -> Result<(), Fail> {
     let plan = full_plan(rt.alloc())?;
     let image = image_of(rt.alloc(), &plan)?;
-    for (block, at, wanted) in FULL {
-        assert_eq!(rt;
-            number(&image, block, at),
-            Some(wanted),
-            "block {block} byte {at}"
-        );
-    }
+    assert_numbers(&rt, &image, FULL);
     // 68 blocks from 0 on, the three of the jumpstart, and those of the queue are used
     assert_eq!(rt; number(&image, 9, 72), Some(1300 - 68 - 3 - 126));
     Ok(())
@@ -303,42 +273,28 @@ fn a_block_is_marked_and_freed(rt: HostRuntime) -> Result<(), Fail> {
     assert_eq!(rt; number(&image, 9, 72), Some(198));
     assert!(rt; free(&mut image, 4096, 200));
     assert!(rt; !free(&mut image, 4096, 200));
-    assert_rows(&rt, &image, 4096, &[], &rows::SMALL);
+    assert_rows(&rt, &image, 4096, &[], rows::SMALL);
     Ok(())
 }
 
 // Superblocks and a checkpoint map that edits make: block, byte and number.
-const SKIPPED: [(usize, usize, u64); 6] = [
-    (3, 8, 3),
-    (3, 72, 13),
-    (3, 192, 16),
-    (4, 16, 2),
-    (4, 136, 0x0000_0002_0000_0002),
-    (13, 0, 0),
-];
+const SKIPPED: &[Number] = table! {
+    3, 8, 3; 3, 72, 13; 3, 192, 16; 4, 16, 2; 4, 136, 0x0000_0002_0000_0002; 13, 0, 0;
+};
 
-const RING: [(usize, usize, u64); 6] = [
-    (0, 16, 9),
-    (2, 16, 9),
-    (4, 0, 0),
-    (6, 16, 7),
-    (8, 16, 8),
-    (8, 136, 0x0000_0002_0000_0006),
-];
+const RING: &[Number] = table! {
+    0, 16, 9; 2, 16, 9; 4, 0, 0; 6, 16, 7; 8, 16, 8; 8, 136, 0x0000_0002_0000_0006;
+};
 
 #[test]
 fn images_of_several_checkpoints(rt: HostRuntime) -> Result<(), Fail> {
     let plan = sample(rt.alloc(), Sample::S)?;
     let mut skipped = image_of(rt.alloc(), &plan)?;
     assert!(rt; skipped_checkpoint(&mut skipped));
-    for (block, at, wanted) in SKIPPED {
-        assert_eq!(rt; number(&skipped, block, at), Some(wanted), "block {block}");
-    }
+    assert_numbers(&rt, &skipped, SKIPPED);
     let mut ring = image_of(rt.alloc(), &plan)?;
     assert!(rt; ring_of_four(&mut ring));
-    for (block, at, wanted) in RING {
-        assert_eq!(rt; number(&ring, block, at), Some(wanted), "block {block}");
-    }
+    assert_numbers(&rt, &ring, RING);
     Ok(())
 }
 

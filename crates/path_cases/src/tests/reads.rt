@@ -6,7 +6,7 @@ use apfs_model::Bytes;
 use blk_source::{MemSink, MemSource};
 use fs_name::Names;
 use img_make::records::{InodePlan, LINK_MODE, attribute, stream_attribute};
-use img_make::{FileTree, Item, Sample, make, sample};
+use img_make::{FileTree, Item, Sample, image_with};
 use nx_ring::newest;
 use obj_base::{Site, Stop};
 use path_read::{WriteStop, attr, attrs, cat};
@@ -42,22 +42,7 @@ fn items(alloc: Global) -> Result<Vec<Item>, Fail> {
 }
 
 fn made(alloc: Global) -> Result<MemSource, Fail> {
-    let mut plan = sample(alloc, Sample::H)?;
-    let items = items(alloc)?;
-    match plan.volumes.get_mut(0) {
-        Some(volume) => match volume.versions.get_mut(0) {
-            Some(version) => match version.leaves.get_mut(0) {
-                Some(leaf) => leaf.items = items,
-                None => return Err(Fail::from("no leaf")),
-            },
-            None => return Err(Fail::from("no version")),
-        },
-        None => return Err(Fail::from("no volume")),
-    }
-    if !plan.valid() {
-        return Err(Fail::from("the plan isn't valid"));
-    }
-    let image = make(alloc, &plan)?;
+    let image = image_with(alloc, Sample::H, Names::Folded, items(alloc)?)?;
     Ok(MemSource::new(image, Vec::new(alloc)))
 }
 

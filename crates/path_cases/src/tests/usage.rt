@@ -2,22 +2,20 @@
 use blk_source::MemSource;
 use bt_cursor::WalkFault;
 use bt_node::NodeFault;
-use img_make::{Plan, Sample, make, sample, write};
+use img_make::{Plan, Sample, made, sample, table, write};
 use nx_ring::newest;
 use obj_base::{HeadFault, Stop};
 use std::alloc::Global;
+use std::process::Abort;
 use std::test::Fail;
-use use_report::{Usage, UseFault, ViewUse, usage};
+use use_report::{Usage, UseFault, usage};
 use vol_view::{heads, load};
 
 // An edit: a block, a place in it, and the byte that it gets. Sums stay as they are.
 type Edit = (usize, usize, u8);
 
-fn made(alloc: Global, plan: &Plan, edits: &[Edit]) -> Result<Vec<u8>, Fail> {
-    if !plan.valid() {
-        return Err(Fail::from("the plan isn't valid"));
-    }
-    let mut image = make(alloc, plan)?;
+fn edited(alloc: Global, plan: &Plan, edits: &[Edit]) -> Result<Vec<u8>, Fail> {
+    let mut image = made(alloc, plan)?;
     for (block, place, byte) in edits.iter() {
         if !write(&mut image, 4096, *block, *place, &[*byte]) {
             return Err(Fail::from("no such place"));
@@ -132,52 +130,39 @@ fn told(
     Ok(usage)
 }
 
-fn of(xid: u64, held: u64, only: u64) -> ViewUse {
-    ViewUse { xid, held, only }
+// What the views of a volume hold: of each its transaction, how many blocks it holds, and how many it alone.
+type Held = &'static [(u64, u64, u64)];
+
+fn assert_held(rt: &impl Abort, usage: &Usage, held: &[(u64, u64, u64)], all: u64) {
+    assert_eq!(rt; (usage.views.len(), usage.all), (held.len(), all));
+    for (view, (xid, blocks, only)) in usage.views.iter().zip(held) {
+        assert_eq!(rt; (view.xid, view.held, view.only), (*xid, *blocks, *only));
+    }
 }
+
+// A sample, the place of a volume, what its views hold, and all that they hold.
+const SAMPLES: &[(Sample, usize, Held, u64)] = table! {
+    Sample::V, 0, &[(5, 4, 1), (2, 5, 3), (4, 5, 2)], 9;
+    Sample::V2, 0, &[(9, 4, 1), (1, 5, 2), (2, 5, 2), (3, 5, 2), (4, 5, 2), (5, 5, 2), (6, 5, 2), (7, 5, 2), (8, 5, 2)], 21;
+    Sample::S, 0, &[(1, 2, 2)], 2;
+    Sample::H, 0, &[(1, 3, 3)], 3;
+    Sample::P, 0, &[(1, 3, 3)], 3;
+    Sample::L, 0, &[(1, 2, 2)], 2;
+    Sample::C, 0, &[(1, 3, 3)], 3;
+    Sample::J, 0, &[(1, 2, 2)], 2;
+    Sample::T, 0, &[(1, 2, 2)], 2;
+    Sample::T, 1, &[(1, 3, 3)], 3;
+};
 
 #[test]
 fn what_views_hold(rt: HostRuntime) -> Result<(), Fail> {
     let alloc = rt.alloc();
-    for (which, place, want, all) in [
-        (
-            Sample::V,
-            0,
-            [of(5, 4, 1), of(2, 5, 3), of(4, 5, 2)].as_slice(),
-            9,
-        ),
-        (
-            Sample::V2,
-            0,
-            [
-                of(9, 4, 1),
-                of(1, 5, 2),
-                of(2, 5, 2),
-                of(3, 5, 2),
-                of(4, 5, 2),
-                of(5, 5, 2),
-                of(6, 5, 2),
-                of(7, 5, 2),
-                of(8, 5, 2),
-            ]
-            .as_slice(),
-            21,
-        ),
-        (Sample::S, 0, [of(1, 2, 2)].as_slice(), 2),
-        (Sample::H, 0, [of(1, 3, 3)].as_slice(), 3),
-        (Sample::P, 0, [of(1, 3, 3)].as_slice(), 3),
-        (Sample::L, 0, [of(1, 2, 2)].as_slice(), 2),
-        (Sample::C, 0, [of(1, 3, 3)].as_slice(), 3),
-        (Sample::J, 0, [of(1, 2, 2)].as_slice(), 2),
-        (Sample::T, 0, [of(1, 2, 2)].as_slice(), 2),
-        (Sample::T, 1, [of(1, 3, 3)].as_slice(), 3),
-    ] {
-        let image = made(alloc, &sample(alloc, which)?, &[])?;
-        let Ok(usage) = told(alloc, image, place, Vec::new(alloc)) else {
+    for (which, place, held, all) in SAMPLES {
+        let image = made(alloc, &sample(alloc, *which)?)?;
+        let Ok(usage) = told(alloc, image, *place, Vec::new(alloc)) else {
             panic!(rt; "nothing is told");
         };
-        assert_eq!(rt; usage.views.as_slice(), want);
-        assert_eq!(rt; usage.all, all);
+        assert_held(&rt, &usage, held, *all);
     }
     Ok(())
 }
@@ -186,44 +171,29 @@ fn what_views_hold(rt: HostRuntime) -> Result<(), Fail> {
 fn two_views_share_an_extent(rt: HostRuntime) -> Result<(), Fail> {
     let alloc = rt.alloc();
     // Each view has a root and extent references of its own, and the snapshot a superblock. Both have the file's block.
-    let image = made(alloc, &with_an_earlier_file(alloc)?, &[])?;
+    let image = made(alloc, &with_an_earlier_file(alloc)?)?;
     let Ok(usage) = told(alloc, image, 0, Vec::new(alloc)) else {
         panic!(rt; "nothing is told");
     };
-    assert_eq!(rt;
-        usage.views.as_slice(),
-        [of(2, 3, 2), of(1, 4, 3)].as_slice()
-    );
-    assert_eq!(rt; usage.all, 6);
+    assert_held(&rt, &usage, &[(2, 3, 2), (1, 4, 3)], 6);
     Ok(())
 }
+
+const OWN_LEAVES: Held = table! {
+    9, 4, 1; 1, 5, 3; 2, 5, 3; 3, 5, 3; 4, 5, 3; 5, 5, 3; 6, 5, 3; 7, 5, 3; 8, 5, 2;
+};
 
 // A root and a leaf that all nine views share, eight leaves, nine roots of extent references, and eight superblocks. Each node of
 // the files is read by the sweep, and the root and the leaves once more; a walk of each view would take 36 reads.
 #[test]
 fn a_node_that_views_share_is_read_once(rt: HostRuntime) -> Result<(), Fail> {
     let alloc = rt.alloc();
-    let image = made(alloc, &with_own_leaves(alloc)?, &[])?;
+    let image = made(alloc, &with_own_leaves(alloc)?)?;
     let Ok((usage, reads)) = told_in(alloc, image, 0, Vec::new(alloc)) else {
         panic!(rt; "nothing is told");
     };
     assert!(rt; reads <= 29);
-    assert_eq!(rt;
-        usage.views.as_slice(),
-        [
-            of(9, 4, 1),
-            of(1, 5, 3),
-            of(2, 5, 3),
-            of(3, 5, 3),
-            of(4, 5, 3),
-            of(5, 5, 3),
-            of(6, 5, 3),
-            of(7, 5, 3),
-            of(8, 5, 2),
-        ]
-        .as_slice()
-    );
-    assert_eq!(rt; usage.all, 27);
+    assert_held(&rt, &usage, OWN_LEAVES, 27);
     Ok(())
 }
 
@@ -238,7 +208,7 @@ fn which_node_is_wrong(rt: HostRuntime) -> Result<(), Fail> {
         (Sample::V, 57, 2),
         (Sample::V, 63, 4),
     ] {
-        let image = made(alloc, &sample(alloc, which)?, &[(block, 2000, 0x55)])?;
+        let image = edited(alloc, &sample(alloc, which)?, &[(block, 2000, 0x55)])?;
         let why = WalkFault::Unsound {
             block: block as u64,
             why: NodeFault::Head(HeadFault::BadSum),
@@ -268,7 +238,7 @@ fn which_extent_is_wrong(rt: HostRuntime) -> Result<(), Fail> {
         value.extend_from_slice(&block.to_le_bytes())?;
         value.extend_from_slice(&[0; 8])?;
         value.truncate(bytes);
-        let image = made(alloc, &with_extent(alloc, &value)?, &[])?;
+        let image = made(alloc, &with_extent(alloc, &value)?)?;
         let got = told(alloc, image, 0, Vec::new(alloc)).err();
         assert_eq!(rt; got, want.map(Stop::Found));
     }
@@ -278,7 +248,7 @@ fn which_extent_is_wrong(rt: HostRuntime) -> Result<(), Fail> {
 #[test]
 fn each_read_fails_in_turn(rt: HostRuntime) -> Result<(), Fail> {
     let alloc = rt.alloc();
-    let image = made(alloc, &sample(alloc, Sample::V)?, &[])?;
+    let image = made(alloc, &sample(alloc, Sample::V)?)?;
     for number in 1..200u64 {
         let mut fails = Vec::new(alloc);
         fails.push(number)?;

@@ -4,7 +4,7 @@ mod made;
 
 use apfs_model::Bytes;
 use blk_source::{MemSink, MemSource};
-use img_make::Sample;
+use img_make::{Sample, table};
 use made::{Holds, open_view, source};
 use path_walk::{Target, find, list};
 use std::alloc::Global;
@@ -12,34 +12,8 @@ use std::process::Abort;
 use std::test::Fail;
 use view_tree::{PutStop, kind_letter, tree, tree_rows};
 
-// A path in the live view of an image, or in that of the snapshot of a number, and what is told of it.
-#[derive(Clone, Copy, Debug)]
-struct Case {
-    holds: Holds,
-    snapshot: Option<usize>,
-    path: &'static str,
-    told: &'static str,
-}
-
-// A path in the live view.
-fn at(holds: Holds, path: &'static str, told: &'static str) -> Case {
-    Case {
-        holds,
-        snapshot: None,
-        path,
-        told,
-    }
-}
-
-// A path in the view of a snapshot of the sample that has two.
-fn before(snapshot: usize, path: &'static str, told: &'static str) -> Case {
-    Case {
-        holds: SNAPSHOTS,
-        snapshot: Some(snapshot),
-        path,
-        told,
-    }
-}
+// What an image holds, the number of a snapshot or none for the live view, a path in that view, and what is told of it.
+type Case = (Holds, Option<usize>, &'static str, &'static str);
 
 // Adds kind, id, size and name of a target, or the shown path in the name's place.
 fn add_row(alloc: Global, text: &mut String, target: &Target, name: &Bytes) -> Result<(), Fail> {
@@ -54,9 +28,10 @@ fn add_row(alloc: Global, text: &mut String, target: &Target, name: &Bytes) -> R
 
 // What is told of a listing: its rows, or why there is none.
 fn listed(alloc: Global, src: &mut MemSource, case: &Case) -> Result<String, Fail> {
-    let at = open_view(alloc, src, case.snapshot)?;
+    let (_, snapshot, path, _) = *case;
+    let at = open_view(alloc, src, snapshot)?;
     let mut text = String::new(alloc);
-    match list(alloc, src, &at.volume, &at.view, &at.site, case.path) {
+    match list(alloc, src, &at.volume, &at.view, &at.site, path) {
         Ok(targets) => {
             for target in targets.iter() {
                 add_row(alloc, &mut text, target, &target.name)?;
@@ -69,9 +44,10 @@ fn listed(alloc: Global, src: &mut MemSource, case: &Case) -> Result<String, Fai
 
 // What is told of a tree.
 fn grown(alloc: Global, src: &mut MemSource, case: &Case) -> Result<String, Fail> {
-    let at = open_view(alloc, src, case.snapshot)?;
+    let (_, snapshot, path, _) = *case;
+    let at = open_view(alloc, src, snapshot)?;
     let mut text = String::new(alloc);
-    match tree(alloc, src, &at.volume, &at.view, &at.site, case.path) {
+    match tree(alloc, src, &at.volume, &at.view, &at.site, path) {
         Ok(rows) => {
             for (path, target) in rows.iter() {
                 add_row(alloc, &mut text, target, path)?;
@@ -84,9 +60,10 @@ fn grown(alloc: Global, src: &mut MemSource, case: &Case) -> Result<String, Fail
 
 // What is told of where a path leads.
 fn found(alloc: Global, src: &mut MemSource, case: &Case) -> Result<String, Fail> {
-    let at = open_view(alloc, src, case.snapshot)?;
+    let (_, snapshot, path, _) = *case;
+    let at = open_view(alloc, src, snapshot)?;
     let mut text = String::new(alloc);
-    match find(alloc, src, &at.volume, &at.view, &at.site, case.path) {
+    match find(alloc, src, &at.volume, &at.view, &at.site, path) {
         Ok(target) => {
             add_row(alloc, &mut text, &target, &target.name)?;
             Ok(text)
@@ -107,45 +84,37 @@ const ALIKE: &str =
     "8 27 0 p\n8 23 0 photo-0\n8 21 0 photo-01\n8 24 0 photo-01a\n8 22 0 photo-01a.long\n8 20 0 photo-01b\n8 25 0 photo-01\u{e9}\n8 26 0 photo-0\u{e9}\n";
 
 // What paths list.
-fn listings() -> [Case; 16] {
-    [
-        at(Holds::Of(Sample::S), "/", ""),
-        at(HELLO, "", "8 16 5 hello.txt\n"),
-        at(HELLO, "//hello.txt/", "8 16 5 hello.txt\n"),
-        at(HELLO, "/x", "Found(Answer(NotFound))"),
-        at(HELLO, "/hello.txt/x", "Found(Answer(NotDirectory))"),
-        at(HELLO, "/..", "Found(Answer(NotFound))"),
-        at(Holds::Of(Sample::L), "/", "8 16 0 a\n8 16 0 b\n"),
-        at(Holds::Of(Sample::P), "/hole", "8 16 5000 hole\n"),
-        at(SNAPSHOTS, "/", "8 16 0 new\n"),
-        before(0, "/", "8 16 0 old\n"),
-        before(1, "/", "8 16 0 new\n"),
-        at(Holds::Names, "/", NAMES_OF_THE_ROOT),
-        at(Holds::Names, "/reserved", ""),
-        at(Holds::Names, "/private", "8 19 0 kept\n"),
-        at(Holds::Ring, "/d/d/d", "4 16 0 d\n"),
-        at(Holds::Alike, "/", ALIKE),
-    ]
-}
+const LISTINGS: &[Case] = table! {
+    Holds::Of(Sample::S), None, "/", "";
+    HELLO, None, "", "8 16 5 hello.txt\n";
+    HELLO, None, "//hello.txt/", "8 16 5 hello.txt\n";
+    HELLO, None, "/x", "Found(Answer(NotFound))";
+    HELLO, None, "/hello.txt/x", "Found(Answer(NotDirectory))";
+    HELLO, None, "/..", "Found(Answer(NotFound))";
+    Holds::Of(Sample::L), None, "/", "8 16 0 a\n8 16 0 b\n";
+    Holds::Of(Sample::P), None, "/hole", "8 16 5000 hole\n";
+    SNAPSHOTS, None, "/", "8 16 0 new\n";
+    SNAPSHOTS, Some(0), "/", "8 16 0 old\n";
+    SNAPSHOTS, Some(1), "/", "8 16 0 new\n";
+    Holds::Names, None, "/", NAMES_OF_THE_ROOT;
+    Holds::Names, None, "/reserved", "";
+    Holds::Names, None, "/private", "8 19 0 kept\n";
+    Holds::Ring, None, "/d/d/d", "4 16 0 d\n";
+    Holds::Alike, None, "/", ALIKE;
+};
 
 // Where paths lead. Where several entries are the same by their normal forms, the one of the same bytes is taken, otherwise the first.
-fn finds() -> [Case; 9] {
-    [
-        at(HELLO, "/", "4 2 0 /\n"),
-        before(0, "/new", "Found(Answer(NotFound))"),
-        at(Holds::Names, "/aB", "8 20 0 aB\n"),
-        at(Holds::Names, "/Ab", "8 21 0 Ab\n"),
-        at(Holds::Names, "/AB", "8 20 0 aB\n"),
-        at(Holds::Names, "/README", "8 22 0 ReadMe\n"),
-        at(Holds::Names, "/D/F", "8 17 0 f\n"),
-        at(Holds::Names, "/reserved/unseen", "Found(Answer(NotFound))"),
-        at(
-            Holds::Names,
-            "/no directory/x",
-            "Found(Answer(NotDirectory))",
-        ),
-    ]
-}
+const FINDS: &[Case] = table! {
+    HELLO, None, "/", "4 2 0 /\n";
+    SNAPSHOTS, Some(0), "/new", "Found(Answer(NotFound))";
+    Holds::Names, None, "/aB", "8 20 0 aB\n";
+    Holds::Names, None, "/Ab", "8 21 0 Ab\n";
+    Holds::Names, None, "/AB", "8 20 0 aB\n";
+    Holds::Names, None, "/README", "8 22 0 ReadMe\n";
+    Holds::Names, None, "/D/F", "8 17 0 f\n";
+    Holds::Names, None, "/reserved/unseen", "Found(Answer(NotFound))";
+    Holds::Names, None, "/no directory/x", "Found(Answer(NotDirectory))";
+};
 
 const TREE_OF_THE_ROOT: &str =
     "8 21 0 Ab\n8 22 0 ReadMe\n8 20 0 aB\n4 16 0 d\n8 17 0 d/f\n8 23 0 no directory\n4 3 0 private\n4 7 0 reserved\n";
@@ -153,47 +122,45 @@ const TREE_OF_THE_ROOT: &str =
 const TWICE: &str = "Found(Fault(DirNames(IdAt { slot: 0, xid: 1, id: 16 })))";
 
 // Trees, where none enters a directory twice.
-fn trees() -> [Case; 10] {
-    [
-        at(Holds::Of(Sample::S), "/", ""),
-        at(HELLO, "/hello.txt", "8 16 5 hello.txt\n"),
-        before(0, "/", "8 16 0 old\n"),
-        at(Holds::Names, "/", TREE_OF_THE_ROOT),
-        at(Holds::Names, "/d", "8 17 0 f\n"),
-        at(Holds::Names, "/private", "8 19 0 kept\n"),
-        at(Holds::Names, "/d/g", "Found(Answer(NotFound))"),
-        at(Holds::Ring, "/", TWICE),
-        at(Holds::Ring, "/d", TWICE),
-        at(Holds::Alike, "/", ALIKE),
-    ]
-}
+const TREES: &[Case] = table! {
+    Holds::Of(Sample::S), None, "/", "";
+    HELLO, None, "/hello.txt", "8 16 5 hello.txt\n";
+    SNAPSHOTS, Some(0), "/", "8 16 0 old\n";
+    Holds::Names, None, "/", TREE_OF_THE_ROOT;
+    Holds::Names, None, "/d", "8 17 0 f\n";
+    Holds::Names, None, "/private", "8 19 0 kept\n";
+    Holds::Names, None, "/d/g", "Found(Answer(NotFound))";
+    Holds::Ring, None, "/", TWICE;
+    Holds::Ring, None, "/d", TWICE;
+    Holds::Alike, None, "/", ALIKE;
+};
 
 #[test]
 fn listings_are_by_name(rt: HostRuntime) -> Result<(), Fail> {
-    for case in listings().iter() {
-        let mut src = source(rt.alloc(), case.holds)?;
+    for case in LISTINGS {
+        let mut src = source(rt.alloc(), case.0)?;
         let told = listed(rt.alloc(), &mut src, case)?;
-        assert_eq!(rt; told.as_str(), case.told, "{case:?}");
+        assert_eq!(rt; told.as_str(), case.3, "{case:?}");
     }
     Ok(())
 }
 
 #[test]
 fn paths_lead_by_bytes_then_by_form(rt: HostRuntime) -> Result<(), Fail> {
-    for case in finds().iter() {
-        let mut src = source(rt.alloc(), case.holds)?;
+    for case in FINDS {
+        let mut src = source(rt.alloc(), case.0)?;
         let told = found(rt.alloc(), &mut src, case)?;
-        assert_eq!(rt; told.as_str(), case.told, "{case:?}");
+        assert_eq!(rt; told.as_str(), case.3, "{case:?}");
     }
     Ok(())
 }
 
 #[test]
 fn trees_enter_each_directory_once(rt: HostRuntime) -> Result<(), Fail> {
-    for case in trees().iter() {
-        let mut src = source(rt.alloc(), case.holds)?;
+    for case in TREES {
+        let mut src = source(rt.alloc(), case.0)?;
         let told = grown(rt.alloc(), &mut src, case)?;
-        assert_eq!(rt; told.as_str(), case.told, "{case:?}");
+        assert_eq!(rt; told.as_str(), case.3, "{case:?}");
     }
     Ok(())
 }

@@ -2,7 +2,7 @@
 
 use apfs_layout::space_manager::{MAIN_QUEUE_TREE, POOL_BITMAP_SIZE};
 use blk_source::MemSource;
-use img_make::{Plan, Sample, edit, make, sample};
+use img_make::{Plan, Sample, edit, made, sample};
 use nx_ring::newest;
 use obj_base::Stop;
 use space_map::Space;
@@ -19,10 +19,7 @@ const INDEXES: usize = 2520;
 type Edit<'a> = (usize, &'a [u8]);
 
 fn image(alloc: Global, plan: &Plan, edits: &[Edit<'_>]) -> Result<Vec<u8>, Fail> {
-    if !plan.valid() {
-        return Err(Fail::from("the plan isn't valid"));
-    }
-    let mut image = make(alloc, plan)?;
+    let mut image = made(alloc, plan)?;
     for (place, bytes) in edits.iter() {
         if !edit(&mut image, 4096, MANAGER, *place, bytes) {
             return Err(Fail::from("no such place"));
@@ -119,20 +116,12 @@ fn what_waits_in_a_queue(rt: HostRuntime) -> Result<(), Fail> {
 fn a_queue_without_a_tree(rt: HostRuntime) -> Result<(), Fail> {
     let alloc = rt.alloc();
     let plan = sample(alloc, Sample::S)?;
-    let none = entries(
-        alloc,
-        image(alloc, &plan, &[(MAIN_QUEUE_TREE, &[0, 0])])?,
-        Queue::Main,
-    );
+    let without = image(alloc, &plan, &[(MAIN_QUEUE_TREE, &[0, 0])])?;
+    let none = entries(alloc, without, Queue::Main);
     assert!(rt; none.is_ok_and(|entries| entries.is_empty()));
-    let unnamed = entries(
-        alloc,
-        image(alloc, &plan, &[(MAIN_QUEUE_TREE, &[0x88, 0x13])])?,
-        Queue::Main,
-    );
-    assert_eq!(rt;
-        unnamed.err(),
-        Some(Stop::Found(PoolFault::Unnamed { oid: 5000 }))
-    );
+    let elsewhere = image(alloc, &plan, &[(MAIN_QUEUE_TREE, &[0x88, 0x13])])?;
+    let stop = entries(alloc, elsewhere, Queue::Main).err();
+    let unnamed = PoolFault::Unnamed { oid: 5000 };
+    assert_eq!(rt; stop, Some(Stop::Found(unnamed)));
     Ok(())
 }

@@ -6,11 +6,12 @@ ghost use Rattle.obj_base.specs.Site.{IsSiteFor};
 use apfs_layout::chunk_info::{CHUNK_FREE, CIB_ENTRIES};
 use apfs_layout::space_manager::MAIN_FREE;
 use blk_source::{BlockSource, MemSource};
-use img_make::{Sample, edit, make, make_with, sample, write};
+use img_make::{Sample, edit, make, make_with, sample, table, write};
 use nx_ring::newest;
 use obj_base::Stop;
 use own_settle::{Reached, settle};
 use reach_rules::ReachFault;
+use reach_rules::ReachFault::*;
 use space_map::Space;
 use std::alloc::Global;
 use std::test::Fail;
@@ -89,140 +90,49 @@ fn settled(
 }
 
 // A case: the ranges of the container and of the pool, the first byte of the pool's bits, edits, and what they come to.
-#[derive(Clone, Copy, Debug)]
-struct Case {
-    owners: Ranges,
-    pool_owners: Ranges,
-    pool_bits: u8,
-    edits: &'static [Edit],
-    want: Result<u64, ReachFault>,
-}
+type Case = (Ranges, Ranges, u8, &'static [Edit], Result<u64, ReachFault>);
 
 // The ranges that settle with the container as it is made.
 const USED: Ranges = &[(0, 57)];
 
 const POOL_USED: Ranges = &[(43, 2)];
 
-const CASES: &[Case] = &[
-    Case {
-        owners: USED,
-        pool_owners: POOL_USED,
-        pool_bits: 0x03,
-        edits: &[],
-        want: Ok(57),
-    },
-    Case {
-        owners: &[(43, 14), (0, 43)],
-        pool_owners: &[(44, 1), (43, 1)],
-        pool_bits: 0x03,
-        edits: &[],
-        want: Ok(57),
-    },
+const CASES: &[Case] = table! {
+    USED, POOL_USED, 0x03, &[], Ok(57);
+    &[(43, 14), (0, 43)], &[(44, 1), (43, 1)], 0x03, &[], Ok(57);
     // A bit past the container's 256 blocks, in the last byte of which it has some and after it.
-    Case {
-        owners: USED,
-        pool_owners: POOL_USED,
-        pool_bits: 0x03,
-        edits: &[(BITMAP, 32, &[0x01]), (BITMAP, 4095, &[0x80])],
-        want: Ok(57),
-    },
+    USED, POOL_USED, 0x03, &[(BITMAP, 32, &[0x01]), (BITMAP, 4095, &[0x80])], Ok(57);
     // Block 60 is marked, and the free counts of its chunk and of the device say so.
-    Case {
-        owners: &[(0, 57), (60, 1)],
-        pool_owners: POOL_USED,
-        pool_bits: 0x03,
-        edits: &[
-            (BITMAP, 7, &[0x11]),
-            (CIB, CIB_ENTRIES + CHUNK_FREE, &[198]),
-            (MANAGER, MAIN_FREE, &[198]),
-        ],
-        want: Ok(58),
-    },
-    Case {
-        owners: USED,
-        pool_owners: POOL_USED,
-        pool_bits: 0x03,
-        edits: &[
-            (CIB, CIB_ENTRIES + CHUNK_FREE, &[198]),
-            (MANAGER, MAIN_FREE, &[198]),
-        ],
-        want: Err(ReachFault::FreeCount { chunk: 0 }),
-    },
-    Case {
-        owners: &[(0, 57), (56, 1)],
-        pool_owners: POOL_USED,
-        pool_bits: 0x03,
-        edits: &[],
-        want: Err(ReachFault::OwnedTwice { block: 56 }),
-    },
-    Case {
-        owners: &[(0, 57), (255, 2)],
-        pool_owners: POOL_USED,
-        pool_bits: 0x03,
-        edits: &[],
-        want: Err(ReachFault::Outside { block: 255 }),
-    },
-    Case {
-        owners: &[(0, 56)],
-        pool_owners: POOL_USED,
-        pool_bits: 0x03,
-        edits: &[],
-        want: Err(ReachFault::Leaked { block: 56 }),
-    },
-    Case {
-        owners: &[(0, 57), (200, 1)],
-        pool_owners: POOL_USED,
-        pool_bits: 0x03,
-        edits: &[],
-        want: Err(ReachFault::Missing { block: 200 }),
-    },
-    Case {
-        owners: &[(0, 57), (255, 1)],
-        pool_owners: POOL_USED,
-        pool_bits: 0x03,
-        edits: &[],
-        want: Err(ReachFault::Missing { block: 255 }),
-    },
-    Case {
-        owners: USED,
-        pool_owners: POOL_USED,
-        pool_bits: 0x43,
-        edits: &[],
-        want: Err(ReachFault::PoolLeaked { block: 49 }),
-    },
-    Case {
-        owners: USED,
-        pool_owners: &[(43, 3)],
-        pool_bits: 0x03,
-        edits: &[],
-        want: Err(ReachFault::PoolMissing { block: 45 }),
-    },
-    Case {
-        owners: USED,
-        pool_owners: &[(43, 2), (44, 1)],
-        pool_bits: 0x03,
-        edits: &[],
-        want: Err(ReachFault::OwnedTwice { block: 44 }),
-    },
-];
+    &[(0, 57), (60, 1)], POOL_USED, 0x03, &[(BITMAP, 7, &[0x11]), (CIB, CIB_ENTRIES + CHUNK_FREE, &[198]), (MANAGER, MAIN_FREE, &[198])], Ok(58);
+    USED, POOL_USED, 0x03, &[(CIB, CIB_ENTRIES + CHUNK_FREE, &[198]), (MANAGER, MAIN_FREE, &[198])], Err(FreeCount { chunk: 0 });
+    &[(0, 57), (56, 1)], POOL_USED, 0x03, &[], Err(OwnedTwice { block: 56 });
+    &[(0, 57), (255, 2)], POOL_USED, 0x03, &[], Err(Outside { block: 255 });
+    &[(0, 56)], POOL_USED, 0x03, &[], Err(Leaked { block: 56 });
+    &[(0, 57), (200, 1)], POOL_USED, 0x03, &[], Err(Missing { block: 200 });
+    &[(0, 57), (255, 1)], POOL_USED, 0x03, &[], Err(Missing { block: 255 });
+    USED, POOL_USED, 0x43, &[], Err(PoolLeaked { block: 49 });
+    USED, &[(43, 3)], 0x03, &[], Err(PoolMissing { block: 45 });
+    USED, &[(43, 2), (44, 1)], 0x03, &[], Err(OwnedTwice { block: 44 });
+};
 
 #[test]
 fn blocks_settle(rt: HostRuntime) -> Result<(), Fail> {
     let alloc = rt.alloc();
     for case in CASES {
-        let want = match case.want {
-            Ok(number) => Ok(number),
-            Err(fault) => Err(Stop::Found(fault)),
-        };
+        let (owners, pool_owners, pool_bits, edits, want) = *case;
+        let image = image(alloc, 4096, edits)?;
         let found = settled(
             alloc,
-            image(alloc, 4096, case.edits)?,
+            image,
             Vec::new(alloc),
-            case.owners,
-            case.pool_owners,
-            case.pool_bits,
+            owners,
+            pool_owners,
+            pool_bits,
         )?;
-        assert_eq!(rt; found, want, "{case:?}");
+        match want {
+            Ok(number) => assert_eq!(rt; found, Ok(number), "{case:?}"),
+            Err(fault) => assert_eq!(rt; found, Err(Stop::Found(fault)), "{case:?}"),
+        }
     }
     Ok(())
 }
@@ -230,15 +140,8 @@ fn blocks_settle(rt: HostRuntime) -> Result<(), Fail> {
 #[test]
 fn large_blocks_settle(rt: HostRuntime) -> Result<(), Fail> {
     let alloc = rt.alloc();
-    let none = Vec::new(alloc);
-    let found = settled(
-        alloc,
-        image(alloc, 65536, &[])?,
-        none,
-        USED,
-        POOL_USED,
-        0x03,
-    )?;
+    let image = image(alloc, 65536, &[])?;
+    let found = settled(alloc, image, Vec::new(alloc), USED, POOL_USED, 0x03)?;
     assert_eq!(rt; found, Ok(57));
     Ok(())
 }

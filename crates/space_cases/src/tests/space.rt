@@ -12,9 +12,10 @@ use apfs_layout::space_manager::{
     BLOCKS_PER_CHUNK, MAIN_CABS, MAIN_CHUNKS, MAIN_FREE, SECOND_BLOCKS, SECOND_QUEUE_TREE,
 };
 use blk_source::{BlockSource, MemSource};
-use img_make::{Plan, Sample, edit, make, make_with, sample, write};
+use img_make::{Sample, edit, made, make_with, sample, table, write};
 use nx_ring::newest;
 use obj_base::{Feature, HeadFault, Stop, Within};
+use space_map::SpaceFault::*;
 use space_map::{Chunk, Space, SpaceFault};
 use std::alloc::Global;
 use std::process::Abort;
@@ -59,13 +60,6 @@ fn put(image: &mut [u8], edits: &[Edit], sealed: bool) -> Result<(), Fail> {
         }
     }
     Ok(())
-}
-
-fn made(alloc: Global, plan: &Plan) -> Result<Vec<u8>, Fail> {
-    if !plan.valid() {
-        return Err(Fail::from("the plan isn't valid"));
-    }
-    Ok(make(alloc, plan)?)
 }
 
 fn edited(alloc: Global, first: &[Edit], then: &[Edit], sealed: bool) -> Result<Vec<u8>, Fail> {
@@ -175,23 +169,15 @@ fn marks(rt: HostRuntime) -> Result<(), Fail> {
 #[test]
 fn near_misses(rt: HostRuntime) -> Result<(), Fail> {
     let alloc = rt.alloc();
-    let counted = edited(
-        alloc,
-        &[
-            (MANAGER, MAIN_FREE, &[198]),
-            (CIB, CIB_ENTRIES + CHUNK_FREE, &[198]),
-        ],
-        &[],
-        true,
-    )?;
+    let counts: &[Edit] = &[
+        (MANAGER, MAIN_FREE, &[198]),
+        (CIB, CIB_ENTRIES + CHUNK_FREE, &[198]),
+    ];
+    let counted = edited(alloc, counts, &[], true)?;
     let mut src = MemSource::new(counted, Vec::new(alloc));
     assert!(rt; load(alloc, &mut src).is_ok_and(|space| space.free() == 198));
-    let moved = edited(
-        alloc,
-        &[(CIB, CIB_ENTRIES + CHUNK_BITMAP, &[50])],
-        &[],
-        true,
-    )?;
+    let bitmap: &[Edit] = &[(CIB, CIB_ENTRIES + CHUNK_BITMAP, &[50])];
+    let moved = edited(alloc, bitmap, &[], true)?;
     assert_eq!(rt; marked(alloc, moved, Vec::new(alloc), 56), Some(false));
     Ok(())
 }
@@ -207,65 +193,31 @@ fn assert_stop(rt: &impl Abort, alloc: Global, image: Vec<u8>, stop: Stop<SpaceF
 #[test]
 fn what_stops_it(rt: HostRuntime) -> Result<(), Fail> {
     let alloc = rt.alloc();
-    let unnamed = |within: Within, oid: u64| SpaceFault::Unnamed { within, oid };
-    let cases: [(Edit, SpaceFault); 13] = [
-        ((NEWEST, SPACE_OID, &[77]), unnamed(Within::Ephemeral, 1101)),
-        ((MANAGER, ADDRESS, &[0]), unnamed(Within::Physical, 0)),
-        (
-            (NEWEST, SPACE_OID, &[1]),
-            SpaceFault::Unsound {
-                block: 10,
-                why: HeadFault::BadKind,
-            },
-        ),
-        (
-            (CIB, TYPE, &[8]),
-            SpaceFault::Unsound {
-                block: 43,
-                why: HeadFault::BadKind,
-            },
-        ),
-        (
-            (MANAGER, BLOCKS_PER_CHUNK, &[0xf8, 0x7f]),
-            SpaceFault::Geometry,
-        ),
-        ((MANAGER, MAIN_CHUNKS, &[2]), SpaceFault::Geometry),
-        ((CIB, CIB_INDEX, &[1]), SpaceFault::Cib { index: 0 }),
-        ((CIB, CIB_COUNT, &[2]), SpaceFault::Cib { index: 0 }),
-        (
-            (CIB, CIB_ENTRIES + CHUNK_ADDRESS, &[1]),
-            SpaceFault::Index { chunk: 0 },
-        ),
-        (
-            (CIB, CIB_ENTRIES + CHUNK_BLOCKS, &[255, 0]),
-            SpaceFault::Index { chunk: 0 },
-        ),
-        (
-            (CIB, CIB_ENTRIES + CHUNK_BITMAP, &[200]),
-            SpaceFault::Place { block: 200 },
-        ),
-        ((MANAGER, ADDRESS, &[51]), SpaceFault::Place { block: 51 }),
-        ((MANAGER, MAIN_FREE, &[198]), SpaceFault::FreeTotal),
-    ];
+    let cases: &[(Edit, SpaceFault)] = table! {
+        (NEWEST, SPACE_OID, &[77]), Unnamed { within: Within::Ephemeral, oid: 1101 };
+        (MANAGER, ADDRESS, &[0]), Unnamed { within: Within::Physical, oid: 0 };
+        (NEWEST, SPACE_OID, &[1]), Unsound { block: 10, why: HeadFault::BadKind };
+        (CIB, TYPE, &[8]), Unsound { block: 43, why: HeadFault::BadKind };
+        (MANAGER, BLOCKS_PER_CHUNK, &[0xf8, 0x7f]), Geometry;
+        (MANAGER, MAIN_CHUNKS, &[2]), Geometry;
+        (CIB, CIB_INDEX, &[1]), Cib { index: 0 };
+        (CIB, CIB_COUNT, &[2]), Cib { index: 0 };
+        (CIB, CIB_ENTRIES + CHUNK_ADDRESS, &[1]), Index { chunk: 0 };
+        (CIB, CIB_ENTRIES + CHUNK_BLOCKS, &[255, 0]), Index { chunk: 0 };
+        (CIB, CIB_ENTRIES + CHUNK_BITMAP, &[200]), Place { block: 200 };
+        (MANAGER, ADDRESS, &[51]), Place { block: 51 };
+        (MANAGER, MAIN_FREE, &[198]), FreeTotal;
+    };
     for (change, fault) in cases {
-        let image = edited(alloc, &[change], &[], true)?;
-        assert_stop(&rt, alloc, image, Stop::Found(fault));
+        let image = edited(alloc, &[*change], &[], true)?;
+        assert_stop(&rt, alloc, image, Stop::Found(*fault));
     }
     let torn = edited(alloc, &[], &[(CIB, 4095, &[1])], false)?;
     let why = HeadFault::BadSum;
-    assert_stop(
-        &rt,
-        alloc,
-        torn,
-        Stop::Found(SpaceFault::Unsound { block: 43, why }),
-    );
+    let unsound = Unsound { block: 43, why };
+    assert_stop(&rt, alloc, torn, Stop::Found(unsound));
     let numbered = edited(alloc, WITH_CAB, &[(SPARE, CAB_INDEX, &[1])], true)?;
-    assert_stop(
-        &rt,
-        alloc,
-        numbered,
-        Stop::Found(SpaceFault::Cab { index: 0 }),
-    );
+    assert_stop(&rt, alloc, numbered, Stop::Found(Cab { index: 0 }));
     Ok(())
 }
 

@@ -42,12 +42,7 @@ const SMALL_NUMBERS: Numbers = Numbers {
 type Told = Result<Numbers, Stop<ReachFault>>;
 
 // A case: what an image is made of, its changes, and what its account comes to.
-#[derive(Clone, Copy, Debug)]
-struct Case {
-    base: Base,
-    changes: &'static [Change],
-    want: Result<Numbers, ReachFault>,
-}
+type Case = (Base, &'static [Change], Result<Numbers, ReachFault>);
 
 // An account that was made, and how often the source was read before it and after it.
 #[derive(Drop)]
@@ -134,13 +129,13 @@ fn sum(alloc: Global, image: Vec<u8>) -> Result<Told, Fail> {
 
 // Whether each image of a table comes to what is said of it.
 fn assert_cases(rt: &impl Abort, alloc: Global, cases: &[Case]) -> Result<(), Fail> {
-    for case in cases.iter() {
-        let want = match case.want {
+    for (base, changes, want) in cases {
+        let want = match *want {
             Ok(numbers) => Ok(numbers),
             Err(fault) => Err(Stop::Found(fault)),
         };
-        let found = sum(alloc, image(alloc, &case.base, case.changes)?)?;
-        assert_eq!(rt; found, want, "{case:?}");
+        let found = sum(alloc, image(alloc, base, changes)?)?;
+        assert_eq!(rt; found, want, "{base:?} {changes:?}");
     }
     Ok(())
 }

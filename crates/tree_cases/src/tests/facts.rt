@@ -4,7 +4,7 @@ use blk_source::MemSource;
 use fs_name::Names;
 use fs_record::RecFault;
 use img_make::records::{InodePlan, Item, LINK_MODE, attribute};
-use img_make::{FileTree, Plan, Sample, make, sample};
+use img_make::{FileTree, Sample, image_with, made, sample};
 use obj_base::Stop;
 use std::alloc::{AllocError, Global};
 use std::process::Abort;
@@ -16,18 +16,15 @@ const FILE: u64 = 16;
 
 const ROOT: u64 = 2;
 
-fn facts_of(alloc: Global, plan: &Plan) -> Result<Result<ViewFacts, Stop<TreeFault>>, Fail> {
-    if !plan.valid() {
-        return Err(Fail::from("the plan isn't valid"));
-    }
-    let mut src = MemSource::new(make(alloc, plan)?, Vec::new(alloc));
+fn facts_of(alloc: Global, image: Vec<u8>) -> Result<Result<ViewFacts, Stop<TreeFault>>, Fail> {
+    let mut src = MemSource::new(image, Vec::new(alloc));
     let at = open(alloc, &mut src, 0)?;
     Ok(view_facts(alloc, &mut src, &at.volume, &at.view, &at.site))
 }
 
 // The inodes and the entries alone.
-fn files_of(alloc: Global, which: Sample) -> Result<Result<Facts, Stop<TreeFault>>, Fail> {
-    let mut src = MemSource::new(make(alloc, &sample(alloc, which)?)?, Vec::new(alloc));
+fn files_of(alloc: Global, image: Vec<u8>) -> Result<Result<Facts, Stop<TreeFault>>, Fail> {
+    let mut src = MemSource::new(image, Vec::new(alloc));
     let at = open(alloc, &mut src, 0)?;
     Ok(view_files(alloc, &mut src, &at.volume, &at.view, &at.site))
 }
@@ -45,44 +42,24 @@ fn linked(alloc: Global, target: &[u8]) -> Result<Vec<Item>, AllocError> {
 }
 
 // The small container with these records.
-fn with_items(alloc: Global, items: Vec<Item>) -> Result<Plan, Fail> {
-    let mut plan = sample(alloc, Sample::S)?;
-    let Some(volume) = plan.volumes.first_mut() else {
-        return Err(Fail::from("the sample has no volume"));
-    };
-    let Some(version) = volume.versions.first_mut() else {
-        return Err(Fail::from("the volume has no version"));
-    };
-    let Some(leaf) = version.leaves.first_mut() else {
-        return Err(Fail::from("the version has no leaf"));
-    };
-    leaf.items = items;
-    Ok(plan)
+fn with_items(alloc: Global, items: Vec<Item>) -> Result<Vec<u8>, Fail> {
+    image_with(alloc, Sample::S, Names::Folded, items)
 }
 
-// How many records there are, and how many facts of each kind.
-#[derive(Clone, Copy, PartialEq, Eq, Debug)]
-struct Counted {
-    records: u64,
-    inodes: usize,
-    entries: usize,
-    attributes: usize,
-    links: usize,
-    siblings: usize,
-    extents: usize,
-}
+// How many records there are, and how many inodes, entries, attributes, links, siblings and extents.
+type Counts = [u64; 7];
 
-fn counts_of(found: &ViewFacts) -> Counted {
+fn counts_of(found: &ViewFacts) -> Counts {
     let facts = &found.facts;
-    Counted {
-        records: found.records,
-        inodes: facts.inodes.len(),
-        entries: facts.entries.len(),
-        attributes: facts.attributes.len(),
-        links: facts.links.len(),
-        siblings: facts.siblings.len(),
-        extents: facts.extents.len(),
-    }
+    [
+        found.records,
+        facts.inodes.len() as u64,
+        facts.entries.len() as u64,
+        facts.attributes.len() as u64,
+        facts.links.len() as u64,
+        facts.siblings.len() as u64,
+        facts.extents.len() as u64,
+    ]
 }
 
 #[test]
@@ -91,78 +68,24 @@ fn each_kind_of_record_is_counted(rt: HostRuntime) -> Result<(), Fail> {
     // The bare volume has 4 records. A file has an inode and an entry, one with a stream also the record of its id and its
     // extents, and each of two names an entry, a link and a map.
     let cases = [
-        (
-            Sample::S,
-            Counted {
-                records: 4,
-                inodes: 2,
-                entries: 2,
-                attributes: 0,
-                links: 0,
-                siblings: 0,
-                extents: 0,
-            },
-        ),
-        (
-            Sample::H,
-            Counted {
-                records: 8,
-                inodes: 3,
-                entries: 3,
-                attributes: 0,
-                links: 0,
-                siblings: 0,
-                extents: 1,
-            },
-        ),
-        (
-            Sample::L,
-            Counted {
-                records: 11,
-                inodes: 3,
-                entries: 4,
-                attributes: 0,
-                links: 2,
-                siblings: 2,
-                extents: 0,
-            },
-        ),
-        (
-            Sample::P,
-            Counted {
-                records: 9,
-                inodes: 3,
-                entries: 3,
-                attributes: 0,
-                links: 0,
-                siblings: 0,
-                extents: 2,
-            },
-        ),
-        (
-            Sample::V,
-            Counted {
-                records: 6,
-                inodes: 3,
-                entries: 3,
-                attributes: 0,
-                links: 0,
-                siblings: 0,
-                extents: 0,
-            },
-        ),
+        (Sample::S, [4, 2, 2, 0, 0, 0, 0]),
+        (Sample::H, [8, 3, 3, 0, 0, 0, 1]),
+        (Sample::L, [11, 3, 4, 0, 2, 2, 0]),
+        (Sample::P, [9, 3, 3, 0, 0, 0, 2]),
+        (Sample::V, [6, 3, 3, 0, 0, 0, 0]),
     ];
     for (which, wanted) in cases {
-        let Ok(found) = facts_of(alloc, &sample(alloc, which)?)? else {
+        let image = made(alloc, &sample(alloc, which)?)?;
+        let Ok(found) = facts_of(alloc, image.to_vec(alloc)?)? else {
             panic!(rt; "{which:?}: there are no facts");
         };
         assert_eq!(rt; counts_of(&found), wanted, "{which:?}");
-        let Ok(files) = files_of(alloc, which)? else {
+        let Ok(files) = files_of(alloc, image)? else {
             panic!(rt; "{which:?}: there are no files");
         };
         assert_eq!(rt;
-            (files.inodes.len(), files.entries.len()),
-            (wanted.inodes, wanted.entries),
+            [files.inodes.len() as u64, files.entries.len() as u64],
+            [wanted[1], wanted[2]],
             "{which:?}"
         );
         assert!(rt;
@@ -182,8 +105,8 @@ fn the_target_of_a_link_is_kept(rt: HostRuntime) -> Result<(), Fail> {
         (b"he\0lo\0", false),
     ];
     for (target, is_target) in cases {
-        let plan = with_items(alloc, linked(alloc, target)?)?;
-        let Ok(found) = facts_of(alloc, &plan)? else {
+        let image = with_items(alloc, linked(alloc, target)?)?;
+        let Ok(found) = facts_of(alloc, image)? else {
             panic!(rt; "there are no facts");
         };
         let [attribute] = found.facts.attributes.as_slice() else {
@@ -208,7 +131,7 @@ fn the_first_record_that_is_refused_is_named(rt: HostRuntime) -> Result<(), Fail
             item.1.truncate(length);
         }
     }
-    let stop = match facts_of(alloc, &with_items(alloc, items)?)? {
+    let stop = match facts_of(alloc, with_items(alloc, items)?)? {
         Ok(_) => panic!(rt; "there are facts"),
         Err(stop) => stop,
     };

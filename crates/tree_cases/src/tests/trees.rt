@@ -1,19 +1,17 @@
 // The trees of the cases: their records, and the containers that hold them.
+use crate::tests::cases::Base;
 use apfs_layout::key::LEN_AND_HASH;
 use fs_name::Names;
 use img_make::records::{
     DIRECTORY_MODE, EntryPlan, InodePlan, Item, attribute, entry, file_extent, inode, rank,
     sibling_link, sibling_map, stream_attribute,
 };
-use img_make::{Leaf, Plan, Sample, make, put_u32, sample};
+use img_make::{Leaf, Plan, Sample, image_with, made, put_u32, sample};
 use obj_base::u32_at;
 use std::alloc::{AllocError, Global};
 use std::test::Fail;
 
-// The oid of the root of the volume's file-system tree.
-const ROOT_OID: u64 = 1028;
-
-// The oids of two leaves below it.
+// The oids of two leaves below the root of the volume's file-system tree.
 const FIRST_LEAF: u64 = 1031;
 
 const LAST_LEAF: u64 = 1032;
@@ -222,13 +220,24 @@ fn top_items(alloc: Global, top: Top) -> Result<Vec<Item>, AllocError> {
 }
 
 // The items of a tree, in its order.
-fn items_of(alloc: Global, top: Top, records: &[Rec]) -> Result<Vec<Item>, AllocError> {
+fn items_of(alloc: Global, top: Top, base: Base, records: &[Rec]) -> Result<Vec<Item>, AllocError> {
     let mut items = top_items(alloc, top)?;
-    for record in records {
+    for record in base.records().iter().chain(records) {
         items.push(item_of(alloc, *record)?)?;
     }
     items.sort_by_key(|item| rank(&item.0))?;
     Ok(items)
+}
+
+// A container whose volume has this tree, in one node.
+pub(super) fn image_of(
+    alloc: Global,
+    top: Top,
+    base: Base,
+    records: &[Rec],
+) -> Result<Vec<u8>, Fail> {
+    let items = items_of(alloc, top, base, records)?;
+    image_with(alloc, Sample::S, Names::Folded, items)
 }
 
 // Puts a tree of these leaves in the place of that of the plan's volume.
@@ -240,28 +249,14 @@ fn set_tree(plan: &mut Plan, leaves: Vec<Leaf>) {
     }
 }
 
-// A container of 256 blocks, whose volume has a tree of these leaves.
-fn image_with(alloc: Global, leaves: Vec<Leaf>) -> Result<Vec<u8>, Fail> {
-    let mut plan = sample(alloc, Sample::S)?;
-    set_tree(&mut plan, leaves);
-    if !plan.valid() {
-        return Err(Fail::from("the plan isn't valid"));
-    }
-    Ok(make(alloc, &plan)?)
-}
-
-// A container whose volume has this tree, in one node.
-pub(super) fn image_of(alloc: Global, top: Top, records: &[Rec]) -> Result<Vec<u8>, Fail> {
-    let root = Leaf {
-        oid: ROOT_OID,
-        items: items_of(alloc, top, records)?,
-    };
-    image_with(alloc, vec![in alloc; root]?)
-}
-
 // A container whose volume has this tree, in two leaves below the root, of which the last has its last item alone.
-pub(super) fn image_of_two(alloc: Global, top: Top, records: &[Rec]) -> Result<Vec<u8>, Fail> {
-    let mut items = items_of(alloc, top, records)?;
+pub(super) fn image_of_two(
+    alloc: Global,
+    top: Top,
+    base: Base,
+    records: &[Rec],
+) -> Result<Vec<u8>, Fail> {
+    let mut items = items_of(alloc, top, base, records)?;
     let mut last = Vec::new(alloc);
     if let Some(item) = items.pop() {
         last.push(item)?;
@@ -274,5 +269,7 @@ pub(super) fn image_of_two(alloc: Global, top: Top, records: &[Rec]) -> Result<V
         oid: LAST_LEAF,
         items: last,
     };
-    image_with(alloc, vec![in alloc; first, second]?)
+    let mut plan = sample(alloc, Sample::S)?;
+    set_tree(&mut plan, vec![in alloc; first, second]?);
+    made(alloc, &plan)
 }

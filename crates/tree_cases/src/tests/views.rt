@@ -1,10 +1,10 @@
 // What is said of the views of the cases, under both profiles.
-use crate::tests::cases::{
-    Case, DIRECTORY_CASES, EXTENT_CASES, INODE_CASES, LEAF_CASES, NAME_CASES, SIBLING_CASES, Said,
-    Word,
-};
+use crate::tests::cases::*;
 use crate::tests::opened::open;
-use crate::tests::trees::{Count, FILE, FOLDER, Id, In, Rec, Top, image_of, image_of_two};
+use crate::tests::trees::Rec::*;
+use crate::tests::trees::Top::Root;
+use crate::tests::trees::{Count, FILE, FOLDER, Id, In, Rec, image_of, image_of_two};
+use Base::Alone;
 use blk_source::{Bytes, MemSource};
 use ext_ref::NewRange;
 use fs_record::RecFault;
@@ -119,7 +119,7 @@ fn fault_of(alloc: Global, said: Said) -> Result<Option<TreeFault>, Fail> {
             id: 2,
             name: None,
         }),
-        Said::At(word, id) => fault_at(word, id),
+        Said::Fault(word, id) => fault_at(word, id),
         Said::Named(word, id, name) => fault_named(word, named_at(alloc, id, name)?),
     })
 }
@@ -177,8 +177,8 @@ fn assert_case(
 }
 
 fn assert_cases(rt: &impl Abort, alloc: Global, cases: &[Case]) -> Result<(), Fail> {
-    for (name, top, records, said) in cases {
-        let image = image_of(alloc, *top, records)?;
+    for (name, top, base, records, said) in cases {
+        let image = image_of(alloc, *top, *base, records)?;
         assert_case(rt, alloc, name, &image, *said)?;
     }
     Ok(())
@@ -212,8 +212,8 @@ fn inode_cases_end_as_said(rt: HostRuntime) -> Result<(), Fail> {
 #[test]
 fn cases_of_two_leaves_end_as_said(rt: HostRuntime) -> Result<(), Fail> {
     let alloc = rt.alloc();
-    for (name, top, records, said) in LEAF_CASES {
-        let image = image_of_two(alloc, *top, records)?;
+    for (name, top, base, records, said) in LEAF_CASES {
+        let image = image_of_two(alloc, *top, *base, records)?;
         assert_case(&rt, alloc, name, &image, *said)?;
     }
     Ok(())
@@ -221,14 +221,14 @@ fn cases_of_two_leaves_end_as_said(rt: HostRuntime) -> Result<(), Fail> {
 
 // A name that isn't ASCII, with another hash in its entry.
 const OTHER_HASH: &[Rec] = &[
-    Rec::Hashed(In(2), Id(16), FILE, "é"),
-    Rec::Inode(Id(16), In(2), 0x81a4, Count(1)),
+    Hashed(In(2), Id(16), FILE, "é"),
+    Inode(Id(16), In(2), F, Count(1)),
 ];
 
 #[test]
 fn another_hash_is_a_fault_under_strict(rt: HostRuntime) -> Result<(), Fail> {
     let alloc = rt.alloc();
-    let image = image_of(alloc, Top::Root(1), OTHER_HASH)?;
+    let image = image_of(alloc, Root(1), Alone, OTHER_HASH)?;
     let fault = TreeFault::NameHash(named_at(alloc, 2, "é")?);
     let answer = checked(alloc, image, 0, Profile::Strict)?;
     assert!(rt; answer.is_err_and(|stop| stop == Stop::Found(fault)));
@@ -237,20 +237,20 @@ fn another_hash_is_a_fault_under_strict(rt: HostRuntime) -> Result<(), Fail> {
 
 // Two such names, and two files without an entry, whose ids stand between those of the directories.
 const NOTED: &[Rec] = &[
-    Rec::Hashed(In(2), Id(18), FILE, "é"),
-    Rec::Entry(In(2), Id(20), FOLDER, "d"),
-    Rec::Hashed(In(20), Id(17), FILE, "ü"),
-    Rec::Inode(Id(16), In(2), 0x81a4, Count(1)),
-    Rec::Inode(Id(17), In(20), 0x81a4, Count(1)),
-    Rec::Inode(Id(18), In(2), 0x81a4, Count(1)),
-    Rec::Inode(Id(19), In(2), 0x81a4, Count(3)),
-    Rec::Inode(Id(20), In(2), 0x41ed, Count(1)),
+    Hashed(In(2), Id(18), FILE, "é"),
+    Entry(In(2), Id(20), FOLDER, "d"),
+    Hashed(In(20), Id(17), FILE, "ü"),
+    Inode(Id(16), In(2), F, Count(1)),
+    Inode(Id(17), In(20), F, Count(1)),
+    Inode(Id(18), In(2), F, Count(1)),
+    Inode(Id(19), In(2), F, Count(3)),
+    Inode(Id(20), In(2), D, Count(1)),
 ];
 
 #[test]
 fn notes_stand_in_their_order(rt: HostRuntime) -> Result<(), Fail> {
     let alloc = rt.alloc();
-    let image = image_of(alloc, Top::Root(2), NOTED)?;
+    let image = image_of(alloc, Root(2), Alone, NOTED)?;
     let Ok(tally) = checked(alloc, image, 0, Profile::Plain)? else {
         panic!(rt; "the view breaks a rule");
     };

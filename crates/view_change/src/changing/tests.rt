@@ -1,5 +1,5 @@
 // Two views of one volume whose trees share leaves, each leaf in a block of its own.
-use super::{Changed, Changing};
+use super::{Change, Changed, Changing};
 use crate::{KeptView, Leaf, LeafTaker};
 use blk_source::{BlockSource, MemSource};
 use bt_keys::FsPlainKey;
@@ -70,6 +70,7 @@ fn change(
     leaves: &[Leaf],
 ) -> Result<Option<Changed>, Stop<()>> {
     let mut changing = Changing::new::<FsPlainKey>(alloc, before);
+    LeafTaker::<FsPlainKey>::foresee(&mut changing, leaves);
     for leaf in leaves {
         assert_eq!(rt; source.size(), 20480);
         let ends = LeafTaker::<FsPlainKey>::take(&mut changing, source, &SITE, *leaf)?;
@@ -92,36 +93,67 @@ fn ids(alloc: Global, facts: &Facts) -> Result<Vec<u64>, AllocError> {
     Ok(ids)
 }
 
+// Whether this is what a change has: the ids that are gone and those that have come, if it was followed.
+fn has(
+    alloc: Global,
+    change: Option<&Change>,
+    told: Option<(&[u64], &[u64])>,
+) -> Result<bool, AllocError> {
+    match (change, told) {
+        (Some(change), Some((gone, come))) => {
+            let lost = ids(alloc, &change.gone)?;
+            let made = ids(alloc, &change.come)?;
+            Ok(lost.as_slice() == gone && made.as_slice() == come)
+        }
+        (None, None) => Ok(true),
+        _ => Ok(false),
+    }
+}
+
+// The leaves of a view, its ids, those that are gone and have come since the view before if that was followed, and how many reads were made till then.
+struct View {
+    leaves: &'static [Leaf],
+    ids: &'static [u64],
+    change: Option<(&'static [u64], &'static [u64])>,
+    reads: u64,
+}
+
+// The last one shares one leaf of three.
+const VIEWS: [View; 3] = [
+    View {
+        leaves: &[SEVEN, EIGHT, NINE],
+        ids: &[1, 2, 3, 4, 5, 9, 10],
+        change: None,
+        reads: 3,
+    },
+    View {
+        leaves: &[SEVEN, NEW_EIGHT, NINE],
+        ids: &[1, 2, 3, 4, 6, 9, 10],
+        change: Some((&[4, 5], &[4, 6])),
+        reads: 4,
+    },
+    View {
+        leaves: &[SEVEN],
+        ids: &[1, 2, 3],
+        change: None,
+        reads: 5,
+    },
+];
+
 #[test]
 fn facts_of_leaves_that_both_views_have_are_the_same(rt: HostRuntime) -> Result<(), Fail> {
     let alloc = rt.alloc();
     let mut source = source(&rt, alloc)?;
-    let none = KeptView::none::<FsPlainKey>(alloc, Names::Exact);
-    let first = change(&rt, alloc, &mut source, none, &[SEVEN, EIGHT, NINE]).unwrap_or(None);
-    let first = first.expect(&rt, "the first view");
-    assert_eq!(rt;
-        ids(alloc, &first.come)?.as_slice(),
-        [1, 2, 3, 4, 5, 9, 10].as_slice()
-    );
-    assert!(rt; ids(alloc, &first.gone)?.is_empty());
-    assert_eq!(rt; first.after.records(), 7);
-    assert_eq!(rt; source.read_count(), 3);
-    let then = change(
-        &rt,
-        alloc,
-        &mut source,
-        first.after,
-        &[SEVEN, NEW_EIGHT, NINE],
-    )
-    .unwrap_or(None);
-    let then = then.expect(&rt, "the view after");
-    assert_eq!(rt; ids(alloc, &then.gone)?.as_slice(), [4, 5].as_slice());
-    assert_eq!(rt; ids(alloc, &then.come)?.as_slice(), [4, 6].as_slice());
-    assert_eq!(rt;
-        ids(alloc, then.after.facts())?.as_slice(),
-        [1, 2, 3, 4, 6, 9, 10].as_slice()
-    );
-    assert_eq!(rt; source.read_count(), 4);
+    let mut before = KeptView::none::<FsPlainKey>(alloc, Names::Exact);
+    for view in &VIEWS {
+        let changed = change(&rt, alloc, &mut source, before, view.leaves).unwrap_or(None);
+        let Changed { after, change } = changed.expect(&rt, "a view");
+        assert_eq!(rt; ids(alloc, after.facts())?.as_slice(), view.ids);
+        assert_eq!(rt; after.records(), view.ids.len() as u64);
+        assert!(rt; has(alloc, change.as_ref(), view.change)?);
+        assert_eq!(rt; source.read_count(), view.reads);
+        before = after;
+    }
     Ok(())
 }
 

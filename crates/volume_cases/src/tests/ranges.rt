@@ -8,7 +8,7 @@ use ext_ref::{
     Cover, ExtScan, ExtStop, NewRange, covered, new_ranges, references, scan, thin, unreached,
 };
 use fs_record::FileExt;
-use img_make::{Sample, make, sample};
+use img_make::{Sample, make, sample, table};
 use obj_base::{Site, Stop};
 use std::alloc::{AllocError, Global};
 use std::test::Fail;
@@ -103,28 +103,15 @@ fn which_ranges_are_covered(rt: HostRuntime) -> Result<(), Fail> {
         range(TOP, 5),
     ];
     let cover = Cover::of(alloc, &ranges)?;
-    let cases = [
-        (57, 5, true),
-        (58, 4, true),
-        (56, 2, false),
-        (61, 2, false),
-        (60, 1, true),
-        (70, 1, false),
-        (70, 0, true),
-        (80, 11, true),
-        (81, 11, false),
-        (0, 1, false),
-        (TOP, 5, true),
-        (TOP, 6, false),
-        (TOP, TOP, false),
-    ];
+    let cases: &[(u64, u64, bool)] = table! {
+        57, 5, true; 58, 4, true; 56, 2, false; 61, 2, false; 60, 1, true; 70, 1, false; 70, 0, true; 80, 11, true; 81, 11, false;
+        0, 1, false; TOP, 5, true; TOP, 6, false; TOP, TOP, false;
+    };
     for (first, length, expected) in cases {
-        assert_eq!(rt; cover.covers(first, length), expected, "{first} {length}");
-        assert_eq!(rt;
-            covered(&ranges, first, length),
-            expected,
-            "{first} {length}"
-        );
+        let found = cover.covers(*first, *length);
+        assert_eq!(rt; found, *expected, "{first} {length}");
+        let found = covered(&ranges, *first, *length);
+        assert_eq!(rt; found, *expected, "{first} {length}");
     }
     Ok(())
 }
@@ -170,21 +157,10 @@ fn streams_are_counted_once_a_range(rt: HostRuntime) -> Result<(), Fail> {
 // Of stream 1 two extents touch: it has blocks 10 to 14. Of stream 2 two leave block 13 out: it has 11, 12 and 14. Of stream 3 one covers
 // another and a third goes on past it: it has 20 to 30. Stream 4 has block 29, an extent without a block and a hole. Stream 5 has
 // blocks 40 and 44, and stream 6 has 39 to 45.
-const FILES: [(u64, u64, u64); 13] = [
-    (3, 25, 6),
-    (1, 12, 3),
-    (4, 12, 0),
-    (5, 44, 1),
-    (3, 20, 10),
-    (2, 14, 1),
-    (4, 29, 1),
-    (6, 39, 7),
-    (1, 10, 2),
-    (4, 0, 1000),
-    (2, 11, 2),
-    (5, 40, 1),
-    (3, 22, 2),
-];
+const FILES: &[(u64, u64, u64)] = table! {
+    3, 25, 6; 1, 12, 3; 4, 12, 0; 5, 44, 1; 3, 20, 10; 2, 14, 1; 4, 29, 1; 6, 39, 7; 1, 10, 2; 4, 0, 1000; 2, 11, 2; 5, 40, 1;
+    3, 22, 2;
+};
 
 // An extent of so many blocks of 4,096 bytes.
 fn at(block: u64, blocks: u64) -> FileExt {
@@ -195,37 +171,26 @@ fn at(block: u64, blocks: u64) -> FileExt {
     }
 }
 
-// How many streams touch each of some ranges.
-fn touching(alloc: Global, ranges: &[NewRange]) -> Result<Vec<u64>, Fail> {
+// How many streams touch each of some ranges, of which the first block and the number of blocks are given.
+fn touching(alloc: Global, pairs: &[(u64, u64)]) -> Result<Vec<u64>, Fail> {
+    let mut ranges = Vec::new(alloc);
+    for (first, length) in pairs {
+        ranges.push(range(*first, *length))?;
+    }
     let mut extents = Vec::new(alloc);
     for (stream, block, blocks) in FILES {
-        extents.push((stream, at(block, blocks)))?;
+        extents.push((*stream, at(*block, *blocks)))?;
     }
-    Ok(references(alloc, ranges, &extents, 4096)?)
+    Ok(references(alloc, &ranges, &extents, 4096)?)
 }
+
+const APART: &[(u64, u64)] = table! {
+    44, 1; 10, 1; 15, 5; 12, 1; 31, 8; 13, 1; 42, 1; 11, 1; 20, 4; 30, 1; 14, 1; 40, 1; 9, 1; 24, 4; 28, 2; 46, 1; TOP, 1;
+};
 
 #[test]
 fn streams_of_ranges_that_lie_apart(rt: HostRuntime) -> Result<(), Fail> {
-    let ranges = [
-        range(44, 1),
-        range(10, 1),
-        range(15, 5),
-        range(12, 1),
-        range(31, 8),
-        range(13, 1),
-        range(42, 1),
-        range(11, 1),
-        range(20, 4),
-        range(30, 1),
-        range(14, 1),
-        range(40, 1),
-        range(9, 1),
-        range(24, 4),
-        range(28, 2),
-        range(46, 1),
-        range(TOP, 1),
-    ];
-    let counts = touching(rt.alloc(), &ranges)?;
+    let counts = touching(rt.alloc(), APART)?;
     assert_eq!(rt;
         counts.as_slice(),
         [2, 1, 0, 2, 0, 1, 1, 2, 1, 1, 2, 2, 0, 1, 2, 0, 0].as_slice()
@@ -233,29 +198,20 @@ fn streams_of_ranges_that_lie_apart(rt: HostRuntime) -> Result<(), Fail> {
     Ok(())
 }
 
+// The third ends before the first, which begins no later; two are one; two begin together; two meet two others; one has no block.
+const OVERLAPPING: &[(u64, u64)] = table! {
+    10, 5; 13, 3; 12, 2; 10, 5; 10, 1; 21, 9; 29, 2; 13, 0; 43, 100; 41, 3;
+};
+
 #[test]
 fn streams_of_ranges_that_overlap(rt: HostRuntime) -> Result<(), Fail> {
-    // the third ends before the first, which begins no later; two are one; two begin together; two meet two others; one has no block
-    let ranges = [
-        range(10, 5),
-        range(13, 3),
-        range(12, 2),
-        range(10, 5),
-        range(10, 1),
-        range(21, 9),
-        range(29, 2),
-        range(13, 0),
-        range(43, 100),
-        range(41, 3),
-    ];
-    let counts = touching(rt.alloc(), &ranges)?;
+    let counts = touching(rt.alloc(), OVERLAPPING)?;
     assert_eq!(rt;
         counts.as_slice(),
         [2, 2, 2, 2, 1, 2, 2, 0, 2, 1].as_slice()
     );
     // one range about all others
-    let ranges = [range(1, 1000), range(41, 3), range(13, 1), range(0, 10)];
-    let counts = touching(rt.alloc(), &ranges)?;
+    let counts = touching(rt.alloc(), &[(1, 1000), (41, 3), (13, 1), (0, 10)])?;
     assert_eq!(rt; counts.as_slice(), [6, 1, 1, 0].as_slice());
     Ok(())
 }

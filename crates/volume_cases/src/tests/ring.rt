@@ -1,7 +1,7 @@
 // Small rings of checkpoints at three block sizes. The container has 32 blocks: descriptors in blocks 1 to 8, data in
 // blocks 9 to 12.
 use blk_source::MemSource;
-use nx_ring::{Checkpoint, RingFault, RingLine, newest, ring};
+use nx_ring::{Checkpoint, RingFault, newest, ring};
 use obj_base::{Feature, Stop, sum64};
 use std::alloc::{AllocError, Global};
 use std::test::Fail;
@@ -121,6 +121,8 @@ enum Broken {
     Xid,
 }
 
+use Broken::*;
+
 // An image in the making.
 #[derive(Drop)]
 struct Image {
@@ -154,23 +156,23 @@ impl Image {
         let stored = self.size;
         let size = stored as usize;
         let long = stored.saturating_mul(2);
-        let long = if broken == Broken::Size {
+        let long = if broken == Size {
             long.saturating_sub(1)
         } else {
             long
         };
         let paddr = match broken {
-            Broken::Place => 13,
-            Broken::Shared => 9,
+            Place => 13,
+            Shared => 9,
             _ => 11,
         };
-        let oid = if broken == Broken::Twice { 1024 } else { 1025 };
-        let start = if broken == Broken::End { 3 } else { 2 };
+        let oid = if broken == Twice { 1024 } else { 1025 };
+        let start = if broken == End { 3 } else { 2 };
         self.put(3, &map(alloc, size, 3, 2, (long, 1024, 12))?.bytes);
         self.put(4, &map(alloc, size, 4, 2, (stored, oid, paddr))?.bytes);
         self.put(5, &superblock(alloc, size, stored, 0, (2, start, 3))?.bytes);
-        let there = if broken == Broken::Oid { 7 } else { oid };
-        let xid = if broken == Broken::Xid { 3 } else { 2 };
+        let there = if broken == Oid { 7 } else { oid };
+        let xid = if broken == Xid { 3 } else { 2 };
         self.put(11, &object(alloc, size, there, xid)?.bytes);
         self.long_object(alloc, broken)
     }
@@ -180,7 +182,7 @@ impl Image {
     fn long_object(&mut self, alloc: Global, broken: Broken) -> Result<(), AllocError> {
         let size = self.size as usize;
         let mut both = Block::new(alloc, size.saturating_mul(2))?;
-        if broken == Broken::Shared {
+        if broken == Shared {
             put(&mut both.bytes, size, &object(alloc, size, 1025, 2)?.bytes);
         } else {
             put(&mut both.bytes, size, b"wrapped");
@@ -197,7 +199,7 @@ fn rings(alloc: Global, size: u32, broken: Broken) -> Result<Image, AllocError> 
     let mut image = Image { bytes, size };
     image.first(alloc)?;
     image.second(alloc, broken)?;
-    if broken == Broken::MapSum {
+    if broken == MapSum {
         image.put(3, b"x");
     }
     Ok(image)
@@ -211,27 +213,17 @@ fn newest_of(alloc: Global, image: Vec<u8>) -> Result<Checkpoint, Stop<RingFault
 #[test]
 fn lists_candidates_in_the_fewest_reads(rt: HostRuntime) -> Result<(), Fail> {
     let alloc = rt.alloc();
-    let wanted = [
-        RingLine {
-            index: 1,
-            block: 2,
-            xid: 1,
-            desc_index: 0,
-            desc_len: 2,
-        },
-        RingLine {
-            index: 4,
-            block: 5,
-            xid: 2,
-            desc_index: 2,
-            desc_len: 3,
-        },
-    ];
+    // each one's index, block, transaction, and the index and the number of its descriptors
+    let wanted = [(1, 2, 1, (0, 2)), (4, 5, 2, (2, 3))];
     for (size, reads) in [(4096u32, 9u64), (16384, 10), (65536, 10)] {
-        let image = rings(alloc, size, Broken::Nothing)?;
+        let image = rings(alloc, size, Nothing)?;
         let mut source = MemSource::new(image.bytes, Vec::new(alloc));
         let lines = ring(alloc, &mut source).map_err(|_| "stopped")?;
-        assert_eq!(rt; lines.as_slice(), wanted.as_slice(), "{size}");
+        let told = lines
+            .iter()
+            .map(|at| (at.index, at.block, at.xid, (at.desc_index, at.desc_len)))
+            .collect::<Vec<_>>(alloc)?;
+        assert_eq!(rt; told.as_slice(), wanted.as_slice(), "{size}");
         assert_eq!(rt; source.read_count(), reads, "{size}");
     }
     Ok(())
@@ -242,18 +234,11 @@ fn takes_the_newest(rt: HostRuntime) -> Result<(), Fail> {
     let alloc = rt.alloc();
     for stored in [4096u32, 16384, 65536] {
         let size = stored as usize;
-        let image = rings(alloc, stored, Broken::Nothing)?;
+        let image = rings(alloc, stored, Nothing)?;
         let checkpoint = newest_of(alloc, image.bytes).map_err(|_| "stopped")?;
         let maps = checkpoint.maps();
-        assert_eq!(rt;
-            (
-                checkpoint.xid(),
-                checkpoint.block(),
-                checkpoint.index(),
-                maps
-            ),
-            (2, 5, 4, 2)
-        );
+        let place = (checkpoint.block(), checkpoint.index());
+        assert_eq!(rt; (checkpoint.xid(), place, maps), (2, (5, 4), 2));
         assert_eq!(rt; (checkpoint.mapped(), checkpoint.skipped().len()), (2, 0));
         assert_eq!(rt; checkpoint.nx().block_count(), 32);
         assert_eq!(rt; checkpoint.site().block_size, stored);
@@ -269,17 +254,7 @@ fn takes_the_newest(rt: HostRuntime) -> Result<(), Fail> {
 #[test]
 fn takes_the_older_where_the_newer_is_broken(rt: HostRuntime) -> Result<(), Fail> {
     let alloc = rt.alloc();
-    let cases = [
-        Broken::End,
-        Broken::MapSum,
-        Broken::Size,
-        Broken::Oid,
-        Broken::Place,
-        Broken::Twice,
-        Broken::Shared,
-        Broken::Xid,
-    ];
-    for broken in cases {
+    for broken in [End, MapSum, Size, Oid, Place, Twice, Shared, Xid] {
         let image = rings(alloc, 4096, broken)?;
         let checkpoint = newest_of(alloc, image.bytes).map_err(|_| "stopped")?;
         assert_eq!(rt; checkpoint.xid(), 1, "{broken:?}");
@@ -315,7 +290,7 @@ fn the_first_test_that_fails_is_answered(rt: HostRuntime) -> Result<(), Fail> {
         (16384, 0x8000_0000, whole, apart),
     ];
     for (stored, bit, kept, stop) in cases {
-        let mut image = rings(alloc, 16384, Broken::Nothing)?;
+        let mut image = rings(alloc, 16384, Nothing)?;
         image.put(0, &zero(alloc, 16384, stored, bit)?.bytes);
         image.bytes.truncate(kept);
         let mut source = MemSource::new(image.bytes, Vec::new(alloc));
@@ -335,7 +310,7 @@ fn the_first_test_that_fails_is_answered(rt: HostRuntime) -> Result<(), Fail> {
 fn a_failed_read_stops_it(rt: HostRuntime) -> Result<(), Fail> {
     let alloc = rt.alloc();
     for read in [1u64, 2, 3, 12, 15, 16, 19] {
-        let image = rings(alloc, 16384, Broken::Nothing)?;
+        let image = rings(alloc, 16384, Nothing)?;
         let mut source = MemSource::new(image.bytes, vec![in alloc; read]?);
         assert!(rt;
             newest(alloc, &mut source).is_err_and(|stop| stop == Stop::ReadFault),
@@ -350,7 +325,7 @@ fn the_newest_is_read_twice_and_the_older_not_at_all(rt: HostRuntime) -> Result<
     let alloc = rt.alloc();
     // Block 0, the 8 descriptors, 2 maps and 3 blocks of objects; then the superblock and these 3 blocks again.
     for (size, reads) in [(4096u32, 18u64), (16384, 19), (65536, 19)] {
-        let image = rings(alloc, size, Broken::Nothing)?;
+        let image = rings(alloc, size, Nothing)?;
         let mut source = MemSource::new(image.bytes, Vec::new(alloc));
         let checkpoint = newest(alloc, &mut source).map_err(|_| "stopped")?;
         assert_eq!(rt; checkpoint.xid(), 2, "{size}");

@@ -5,7 +5,7 @@ ghost use Rattle.obj_base.specs.Site.{IsSiteFor};
 
 use blk_source::{MemSink, MemSource};
 use file_extent::{CopyFault, Stream, StreamStop};
-use img_make::{Sample, edit, make, sample};
+use img_make::{Sample, edit, made, sample};
 use nx_ring::newest;
 use obj_base::Stop;
 use std::alloc::Global;
@@ -25,17 +25,13 @@ const LEAF: usize = 54;
 
 const EXTENT: [u8; 16] = [0, 16, 0, 0, 0, 0, 0, 0, 57, 0, 0, 0, 0, 0, 0, 0];
 
-fn made(alloc: Global) -> Result<Vec<u8>, Fail> {
-    let plan = sample(alloc, Sample::P)?;
-    if !plan.valid() {
-        return Err(Fail::from("the plan isn't valid"));
-    }
-    Ok(make(alloc, &plan)?)
+fn container(alloc: Global) -> Result<Vec<u8>, Fail> {
+    made(alloc, &sample(alloc, Sample::P)?)
 }
 
 // The container with one byte changed in the value of the second extent.
 fn edited(alloc: Global, at: usize, byte: u8) -> Result<MemSource, Fail> {
-    let mut image = made(alloc)?;
+    let mut image = container(alloc)?;
     let Some(leaf) = image.get(LEAF * 4096..LEAF * 4096 + 4096) else {
         return Err(Fail::from("no such node"));
     };
@@ -83,7 +79,7 @@ fn open(alloc: Global, src: &mut MemSource, id: u64, size: u64) -> Result<Stream
 #[test]
 fn a_hole_is_zeros_and_the_size_is_the_end(rt: HostRuntime) -> Result<(), Fail> {
     let alloc = rt.alloc();
-    let mut src = MemSource::new(made(alloc)?, Vec::new(alloc));
+    let mut src = MemSource::new(container(alloc)?, Vec::new(alloc));
     let Ok(stream) = open(alloc, &mut src, FILE, SIZE) else {
         panic!(rt; "there is no stream");
     };
@@ -101,7 +97,7 @@ fn a_hole_is_zeros_and_the_size_is_the_end(rt: HostRuntime) -> Result<(), Fail> 
 
 // How a copy ends into a sink with room for the bytes that refuses the put of this number, and how many it then has.
 fn copied(alloc: Global, id: u64, put: u64) -> Result<(Result<(), CopyFault>, usize), Fail> {
-    let mut src = MemSource::new(made(alloc)?, Vec::new(alloc));
+    let mut src = MemSource::new(container(alloc)?, Vec::new(alloc));
     let Ok(stream) = open(alloc, &mut src, id, LONG) else {
         return Err(Fail::from("there is no stream"));
     };

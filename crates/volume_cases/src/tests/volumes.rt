@@ -4,13 +4,14 @@ mod loads;
 
 use blk_source::{Bytes, MemSource};
 use fs_name::Names;
-use img_make::{Plan, Sample, edit, make, make_with, sample, write};
+use img_make::{Plan, Sample, edit, made, make_with, sample, table, write};
 use nx_ring::{RingFault, newest};
 use obj_base::{Feature, HeadFault, Stop, Within};
 use omap_map::OmapFault;
 use std::alloc::Global;
 use std::process::Abort;
 use std::test::Fail;
+use vol_view::VolStop::*;
 use vol_view::{VolHead, VolStop, heads};
 
 // An edit: a block, a place in it, and the byte that it gets.
@@ -31,11 +32,8 @@ const UUID: [u8; 16] = [
     0xff, 0xee, 0xdd, 0xcc, 0xbb, 0xaa, 0x99, 0x88, 0x77, 0x66, 0x55, 0x44, 0x33, 0x22, 0x11, 0x00,
 ];
 
-fn made(alloc: Global, plan: &Plan, edits: &[Edit], sealed: bool) -> Result<Vec<u8>, Fail> {
-    if !plan.valid() {
-        return Err(Fail::from("the plan isn't valid"));
-    }
-    let mut image = make(alloc, plan)?;
+fn changed(alloc: Global, plan: &Plan, edits: &[Edit], sealed: bool) -> Result<Vec<u8>, Fail> {
+    let mut image = made(alloc, plan)?;
     for (block, place, byte) in edits.iter() {
         let done = if sealed {
             edit(&mut image, 4096, *block, *place, &[*byte])
@@ -51,7 +49,7 @@ fn made(alloc: Global, plan: &Plan, edits: &[Edit], sealed: bool) -> Result<Vec<
 
 fn edited(alloc: Global, edits: &[Edit], sealed: bool) -> Result<Vec<u8>, Fail> {
     let plan = sample(alloc, Sample::S)?;
-    made(alloc, &plan, edits, sealed)
+    changed(alloc, &plan, edits, sealed)
 }
 
 // The small container with blocks of 65,536 bytes.
@@ -84,7 +82,7 @@ fn with_a_gap(alloc: Global) -> Result<Vec<u8>, Fail> {
         (SECOND, 964, 0x02),
         (SECOND, 965, 0x01),
     ];
-    made(alloc, &plan, &edits, true)
+    changed(alloc, &plan, &edits, true)
 }
 
 // The heads of an image, by its newest checkpoint; a fault of the ring is no answer of these tests.
@@ -173,49 +171,30 @@ fn a_failed_read_stops_them(rt: HostRuntime) -> Result<(), Fail> {
 #[test]
 fn what_stops_the_volumes(rt: HostRuntime) -> Result<(), Fail> {
     let alloc = rt.alloc();
-    let deleted = edited(alloc, &[(RECORDS, 4040, 1)], true)?;
-    let unnamed = VolStop::Unnamed {
-        within: Within::Container,
-        oid: 1026,
+    let faults: &[(Edit, bool, VolStop)] = table! {
+        (RECORDS, 4040, 1), true, Unnamed { within: Within::Container, oid: 1026 };
+        (SUPER, 4095, 1), false, Head { block: 51, why: HeadFault::BadSum };
+        (SUPER, 32, 0), true, Magic { block: 51 };
+        (MAP, 4095, 1), false, Omap(OmapFault::Head { block: 25, why: HeadFault::BadSum });
     };
-    assert_stop(&rt, alloc, deleted, Stop::Found(unnamed));
-    let torn = edited(alloc, &[(SUPER, 4095, 1)], false)?;
-    let head = VolStop::Head {
-        block: 51,
-        why: HeadFault::BadSum,
-    };
-    assert_stop(&rt, alloc, torn, Stop::Found(head));
-    let magic = edited(alloc, &[(SUPER, 32, 0)], true)?;
-    assert_stop(&rt, alloc, magic, Stop::Found(VolStop::Magic { block: 51 }));
-    let map = edited(alloc, &[(MAP, 4095, 1)], false)?;
-    let fault = OmapFault::Head {
-        block: 25,
-        why: HeadFault::BadSum,
-    };
-    assert_stop(&rt, alloc, map, Stop::Found(VolStop::Omap(fault)));
+    for (edit, sealed, fault) in faults {
+        let image = edited(alloc, &[*edit], *sealed)?;
+        assert_stop(&rt, alloc, image, Stop::Found(*fault));
+    }
     Ok(())
 }
 
 #[test]
 fn features_of_the_map_and_of_its_record(rt: HostRuntime) -> Result<(), Fail> {
     let alloc = rt.alloc();
-    let counted = edited(alloc, &[(MAP, 36, 1)], true)?;
-    let snapshots = Stop::Unsupported {
-        feature: Feature::ContainerSnapshots,
-        block: 25,
-    };
-    assert_stop(&rt, alloc, counted, snapshots);
-    let flagged = edited(alloc, &[(RECORDS, 4040, 8)], true)?;
-    let headless = Stop::Unsupported {
-        feature: Feature::NoHeader,
-        block: 51,
-    };
-    assert_stop(&rt, alloc, flagged, headless);
-    let large = edited(alloc, &[(RECORDS, 4045, 32)], true)?;
-    let size = Stop::Unsupported {
-        feature: Feature::Size,
-        block: 51,
-    };
-    assert_stop(&rt, alloc, large, size);
+    let features: [(Edit, Feature, u64); 3] = [
+        ((MAP, 36, 1), Feature::ContainerSnapshots, 25),
+        ((RECORDS, 4040, 8), Feature::NoHeader, 51),
+        ((RECORDS, 4045, 32), Feature::Size, 51),
+    ];
+    for (edit, feature, block) in features {
+        let image = edited(alloc, &[edit], true)?;
+        assert_stop(&rt, alloc, image, Stop::Unsupported { feature, block });
+    }
     Ok(())
 }

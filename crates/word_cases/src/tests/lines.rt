@@ -1,4 +1,5 @@
 //! Lines, right and wrong, worked out by hand. The words of a line are parted by `|`.
+use cmd_words::Line::*;
 use cmd_words::{Flags, Line, Target, line_in};
 use std::alloc::{AllocError, Global};
 
@@ -29,67 +30,47 @@ fn said(quick: bool, strict: bool) -> Flags {
     Flags { quick, strict }
 }
 
+// A table of tuples: a row is the parts of one, and ends with a semicolon.
+macro_rules! table {
+    ($($($part:expr),+;)*) => {
+        &[$(($($part),+)),*]
+    };
+}
+
 #[test]
 fn right_lines_say_their_parts(rt: HostRuntime) -> Result<(), AllocError> {
-    let rows = [
-        ("ring|img", Line::Ring),
-        ("info|img", Line::Info),
-        ("volumes|--help", Line::Volumes),
-        ("space|img", Line::Space),
-        ("check|", Line::Check(false)),
-        ("check|img|--strict", Line::Check(true)),
-        ("check|img|--strict|--", Line::Check(true)),
-        ("snapshots|img", Line::Snapshots(None)),
-        ("snapshots|img|--volume=2", Line::Snapshots(Some(2))),
-        ("snapshots|img|--", Line::Snapshots(None)),
-        ("usage|img", Line::Usage(None)),
-        ("usage|--|--volume|41", Line::Usage(Some(41))),
-        ("export|img|dir", Line::Export(at("/", None, None))),
-        ("export|img|", Line::Export(at("/", None, None))),
-        (
-            "export|img|--volume|--volume=3",
-            Line::Export(at("/", Some(3), None)),
-        ),
-        (
-            "export|img|--|--snapshot|s|--volume|1",
-            Line::Export(at("/", Some(1), Some("s"))),
-        ),
-        ("ls|img|/", Line::Ls(plain(), at("/", None, None))),
-        (
-            "ls|img|a|--quick",
-            Line::Ls(said(true, false), at("a", None, None)),
-        ),
-        (
-            "ls|img|--strict|a",
-            Line::Ls(said(false, true), at("a", None, None)),
-        ),
-        ("ls|img|", Line::Ls(plain(), at("", None, None))),
-        ("ls|--volume|é", Line::Ls(plain(), at("é", None, None))),
-        ("tree|img|a", Line::Tree(plain(), at("a", None, None))),
-        (
-            "tree|img|--strict|--quick|a",
-            Line::Tree(said(true, true), at("a", None, None)),
-        ),
-        ("tree|img|help", Line::Tree(plain(), at("help", None, None))),
-        (
-            "xattr|img|a",
-            Line::Xattr(plain(), at("a", None, None), None),
-        ),
-        (
-            "xattr|img|a|--quick|n",
-            Line::Xattr(said(true, false), at("a", None, None), Some("n")),
-        ),
-        (
-            "xattr|img|a|--|-n",
-            Line::Xattr(plain(), at("a", None, None), Some("-n")),
-        ),
-        (
-            "xattr|img|--volume=1|a|--snapshot|s|n",
-            Line::Xattr(plain(), at("a", Some(1), Some("s")), Some("n")),
-        ),
-    ];
+    let rows: &[(&str, Line<'_>)] = table! {
+        "ring|img", Ring;
+        "info|img", Info;
+        "volumes|--help", Volumes;
+        "space|img", Space;
+        "check|", Check(false);
+        "check|img|--strict", Check(true);
+        "check|img|--strict|--", Check(true);
+        "snapshots|img", Snapshots(None);
+        "snapshots|img|--volume=2", Snapshots(Some(2));
+        "snapshots|img|--", Snapshots(None);
+        "usage|img", Usage(None);
+        "usage|--|--volume|41", Usage(Some(41));
+        "export|img|dir", Export(at("/", None, None));
+        "export|img|", Export(at("/", None, None));
+        "export|img|--volume|--volume=3", Export(at("/", Some(3), None));
+        "export|img|--|--snapshot|s|--volume|1", Export(at("/", Some(1), Some("s")));
+        "ls|img|/", Ls(plain(), at("/", None, None));
+        "ls|img|a|--quick", Ls(said(true, false), at("a", None, None));
+        "ls|img|--strict|a", Ls(said(false, true), at("a", None, None));
+        "ls|img|", Ls(plain(), at("", None, None));
+        "ls|--volume|é", Ls(plain(), at("é", None, None));
+        "tree|img|a", Tree(plain(), at("a", None, None));
+        "tree|img|--strict|--quick|a", Tree(said(true, true), at("a", None, None));
+        "tree|img|help", Tree(plain(), at("help", None, None));
+        "xattr|img|a", Xattr(plain(), at("a", None, None), None);
+        "xattr|img|a|--quick|n", Xattr(said(true, false), at("a", None, None), Some("n"));
+        "xattr|img|a|--|-n", Xattr(plain(), at("a", None, None), Some("-n"));
+        "xattr|img|--volume=1|a|--snapshot|s|n", Xattr(plain(), at("a", Some(1), Some("s")), Some("n"));
+    };
     for (text, line) in rows {
-        let as_said = asks_for(rt.alloc(), text, Some(line))?;
+        let as_said = asks_for(rt.alloc(), text, Some(*line))?;
         assert!(rt; as_said, "{text}");
     }
     Ok(())
@@ -97,123 +78,51 @@ fn right_lines_say_their_parts(rt: HostRuntime) -> Result<(), AllocError> {
 
 #[test]
 fn options_stand_anywhere(rt: HostRuntime) -> Result<(), AllocError> {
-    let rows = [
-        ("cat|img|a|--volume|3", at("a", Some(3), None)),
-        ("cat|img|--volume=0|a", at("a", Some(0), None)),
-        ("cat|img|a|--volume=10", at("a", Some(10), None)),
-        (
-            "cat|img|--snapshot|s|--volume|99|a",
-            at("a", Some(99), Some("s")),
-        ),
-        ("cat|img|a|--snapshot=", at("a", None, Some(""))),
-        ("cat|img|a|--snapshot|", at("a", None, Some(""))),
-        ("cat|img|a|--snapshot=-x", at("a", None, Some("-x"))),
-        (
-            "cat|img|a|--snapshot=--volume=3",
-            at("a", None, Some("--volume=3")),
-        ),
-        ("cat|img|a|--snapshot=a=b", at("a", None, Some("a=b"))),
-        ("cat|img|a|--snapshot|-", at("a", None, Some("-"))),
-        ("cat|img|a|--snapshot=-é", at("a", None, Some("-é"))),
-        ("cat|img|--|-a", at("-a", None, None)),
-        ("cat|img|--|--", at("--", None, None)),
-        ("cat|img|--|--help", at("--help", None, None)),
-        ("cat|img|--|--quick", at("--quick", None, None)),
-        (
-            "cat|img|a|--snapshot=--quick",
-            at("a", None, Some("--quick")),
-        ),
-        (
-            "cat|img|--volume=3|--|--volume=4",
-            at("--volume=4", Some(3), None),
-        ),
-        ("cat|img|a|--", at("a", None, None)),
-        ("cat|img|-", at("-", None, None)),
-    ];
+    let rows: &[(&str, Target<'_>)] = table! {
+        "cat|img|a|--volume|3", at("a", Some(3), None);
+        "cat|img|--volume=0|a", at("a", Some(0), None);
+        "cat|img|a|--volume=10", at("a", Some(10), None);
+        "cat|img|--snapshot|s|--volume|99|a", at("a", Some(99), Some("s"));
+        "cat|img|a|--snapshot=", at("a", None, Some(""));
+        "cat|img|a|--snapshot|", at("a", None, Some(""));
+        "cat|img|a|--snapshot=-x", at("a", None, Some("-x"));
+        "cat|img|a|--snapshot=--volume=3", at("a", None, Some("--volume=3"));
+        "cat|img|a|--snapshot=a=b", at("a", None, Some("a=b"));
+        "cat|img|a|--snapshot|-", at("a", None, Some("-"));
+        "cat|img|a|--snapshot=-é", at("a", None, Some("-é"));
+        "cat|img|--|-a", at("-a", None, None);
+        "cat|img|--|--", at("--", None, None);
+        "cat|img|--|--help", at("--help", None, None);
+        "cat|img|--|--quick", at("--quick", None, None);
+        "cat|img|a|--snapshot=--quick", at("a", None, Some("--quick"));
+        "cat|img|--volume=3|--|--volume=4", at("--volume=4", Some(3), None);
+        "cat|img|a|--", at("a", None, None);
+        "cat|img|-", at("-", None, None);
+    };
     for (text, target) in rows {
-        let as_said = asks_for(rt.alloc(), text, Some(Line::Cat(plain(), target)))?;
+        let as_said = asks_for(rt.alloc(), text, Some(Cat(plain(), *target)))?;
         assert!(rt; as_said, "{text}");
     }
     Ok(())
 }
 
+// Lines, parted by spaces. The first has no word.
+const WRONG: &str =
+    " help --help --help|img ls ring export|img export|img|dir|/ export|img|dir|--quick export|img|dir|--strict \
+    export|img|dir|--volume=x export|img|--volume|3 export|img|dir|--snapshot=s|--snapshot=s RING|img rings|img ring|img|a \
+    ring|img|-- check|img|--quick check|img|a check|img|--strict=true check|img|--strict|--strict ring|img|--strict info|img|--quick \
+    volumes|img|--strict space|img|--strict gen|3 LS|img|a lsx|img|a ls|img ls|img|a|b ls|img|a|--quick=1 ls|img|a|--quick= \
+    ls|img|a|--quick|1 ls|img|a|--quick|--quick ls|img|a|--strict|--quick|--strict ls|img|a|--snapshot|--quick ls|img|a|-q \
+    ls|img|--quick cat|img|-- cat|img|a|--|b cat|img|a|--volume=07 cat|img|a|--volume=100 cat|img|a|--volume=+3 cat|img|a|--volume= \
+    cat|img|a|--volume| cat|img|a|--volume cat|img|a|--vol=3 cat|img|a|-v|3 cat|img|a|--volume=3|--volume=3 \
+    cat|img|a|--volume|3|--volume=3 cat|img|a|--snapshot=x|--snapshot|y cat|img|a|--snapshot|-x cat|img|a|--snapshot|--volume=3 \
+    cat|img|a|--snapshot|--|x cat|img|-a cat|img|-1 cat|img|--- cat|img|--=x cat|img|a|-h cat|img|a|--help cat|img|a|-V \
+    cat|img|a|--version xattr|img|a|n|m snapshots|img|a snapshots|img|--strict snapshots|img|--snapshot=a usage usage|img|1 \
+    usage|img|--volume=100 usage|img|--snapshot=a usage|img|--strict usage|img|--quick";
+
 #[test]
 fn wrong_words_are_no_line(rt: HostRuntime) -> Result<(), AllocError> {
-    let rows = [
-        "",
-        "help",
-        "--help",
-        "--help|img",
-        "ls",
-        "ring",
-        "export|img",
-        "export|img|dir|/",
-        "export|img|dir|--quick",
-        "export|img|dir|--strict",
-        "export|img|dir|--volume=x",
-        "export|img|--volume|3",
-        "export|img|dir|--snapshot=s|--snapshot=s",
-        "RING|img",
-        "rings|img",
-        "ring|img|a",
-        "ring|img|--",
-        "check|img|--quick",
-        "check|img|a",
-        "check|img|--strict=true",
-        "check|img|--strict|--strict",
-        "ring|img|--strict",
-        "info|img|--quick",
-        "volumes|img|--strict",
-        "space|img|--strict",
-        "gen|3",
-        "LS|img|a",
-        "lsx|img|a",
-        "ls|img",
-        "ls|img|a|b",
-        "ls|img|a|--quick=1",
-        "ls|img|a|--quick=",
-        "ls|img|a|--quick|1",
-        "ls|img|a|--quick|--quick",
-        "ls|img|a|--strict|--quick|--strict",
-        "ls|img|a|--snapshot|--quick",
-        "ls|img|a|-q",
-        "ls|img|--quick",
-        "cat|img|--",
-        "cat|img|a|--|b",
-        "cat|img|a|--volume=07",
-        "cat|img|a|--volume=100",
-        "cat|img|a|--volume=+3",
-        "cat|img|a|--volume=",
-        "cat|img|a|--volume|",
-        "cat|img|a|--volume",
-        "cat|img|a|--vol=3",
-        "cat|img|a|-v|3",
-        "cat|img|a|--volume=3|--volume=3",
-        "cat|img|a|--volume|3|--volume=3",
-        "cat|img|a|--snapshot=x|--snapshot|y",
-        "cat|img|a|--snapshot|-x",
-        "cat|img|a|--snapshot|--volume=3",
-        "cat|img|a|--snapshot|--|x",
-        "cat|img|-a",
-        "cat|img|-1",
-        "cat|img|---",
-        "cat|img|--=x",
-        "cat|img|a|-h",
-        "cat|img|a|--help",
-        "cat|img|a|-V",
-        "cat|img|a|--version",
-        "xattr|img|a|n|m",
-        "snapshots|img|a",
-        "snapshots|img|--strict",
-        "snapshots|img|--snapshot=a",
-        "usage",
-        "usage|img|1",
-        "usage|img|--volume=100",
-        "usage|img|--snapshot=a",
-        "usage|img|--strict",
-        "usage|img|--quick",
-    ];
-    for text in rows {
+    for text in WRONG.split(' ') {
         let as_said = asks_for(rt.alloc(), text, None)?;
         assert!(rt; as_said, "{text}");
     }

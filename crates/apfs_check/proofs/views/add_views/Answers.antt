@@ -1,5 +1,5 @@
-use Rattle.std.proofs.Common.{◌≡◌, ◌∙◌, ◌<◌, ◌≤◌, ◌∷◌, [], ◌++◌, length, take, inl, refl, sym, ap, subst, arith}
-use Rattle.std.specs.Prelude.{◌^◌, flat_map, IfSome}
+use Rattle.std.proofs.Common.{◌≡◌, ◌∙◌, ℕ, List, ◌+◌, ◌<◌, ◌≤◌, ◌∷◌, [], ◌++◌, length, take, inl, refl, sym, ap, subst, arith}
+use Rattle.std.specs.Prelude.{◌^◌, flat_map, Some}
 use Rattle.std.proofs.lemmas.List.{take_all}
 use Rattle.apfs_model.proofs.Searches.{get-in}
 use Rattle.obj_base.specs.declared.site.Site.{Site}
@@ -10,45 +10,60 @@ use Rattle.ext_ref.specs.Left.{AreShortExtents}
 use Rattle.ext_ref.specs.Same.{HaveSame}
 use Rattle.apfs_check.specs.Volumes.{view_extents}
 use Rattle.apfs_check.specs.DataSteps.{AreShortOrHoles}
-use Rattle.apfs_check.specs.Again.{IsPassed}
+use Rattle.apfs_check.specs.Again.{IsPassed, IsKnownOf}
 use Rattle.apfs_check.specs.Held.{AddsViews}
 use Rattle.apfs_check.proofs.Adding.{more-views, again-added}
 use Rattle.apfs_check.proofs.Again.{extents-again}
-use Rattle.apfs_check.proofs.ViewSteps.{take-one, views-length, extents-kept, passed-next, passed-kept, extents-same, extents-next, extents-short, short-same}
+use Rattle.apfs_check.proofs.ViewSteps.{take-one, views-length, extents-kept, passed-one, passed-kept, passed-more, known-one, known-kept, known-before, extents-known, extents-same, extents-next, extents-short, short-same}
+use Rattle.omap_map.proofs.Lists.{all-in}
+use Rattle.tree_rules.specs.Known.{extents_before}
+use Rattle.apfs_model.specs.Lists.{In}
 use Rattle.apfs_check.proofs.views.add_views.Goals as goal
 
 pub returns-in-Err-clause-present : goal.returns-in-Err-clause-present
 returns-in-Err-clause-present g c image told ready same =
-    c.in-Err.ensures.present image (c.views.invariant.kept.same_bytes ∙ told) ready same (get-in (views_of c.args.volume.now c.args.cp.now) c.views.place c.view_at-view.result c.view_at-view.ensures)
+    c.in-Err.ensures.present image (c.views.invariant.kept.same_bytes ∙ told)
+    (known-before c.args.profile image (site_of c.args.cp.now) c.args.volume.now c.args.ranges.now (take c.views.place (views_of c.args.volume.now c.args.cp.now)) c.take.result (subst (IsKnownOf c.args.profile image (site_of c.args.cp.now) c.args.volume.now c.args.ranges.now (take c.views.place (views_of c.args.volume.now c.args.cp.now))) (sym c.take.ensures.value) (c.views.invariant.known image told))) ready same (get-in (views_of c.args.volume.now c.args.cp.now) c.views.place c.view_at-view.result c.view_at-view.ensures)
 
 pub views-preserved : goal.views-preserved
 views-preserved g c =
     let seen = c.args.cp.now in
     let site = site_of seen in
     let volume = c.args.volume.now in
+    let ranges = c.args.ranges.now in
+    let profile = c.args.profile in
     let views = views_of volume seen in
+    let place = c.views.place in
     let view = c.view_at-view.result in
+    let at = c.view_at-view.ensures in
+    let had = c.views.invariant in
+    let kb : (image : List ℕ) → g.S.BlockSource.bytes c.args.src.now ≡ Some image → IsKnownOf profile image site volume ranges (take place views) c.take.result =
+    λ image told. subst (IsKnownOf profile image site volume ranges (take place views)) (sym c.take.ensures.value) (had.known image told) in
     record {
       added = λ image told ready same.
-          subst (λ vs. AddsViews c.args.profile image seen volume.head vs c.args.out.now c.add_view.new.out) (sym (take-one views c.views.place view c.view_at-view.ensures))
-          (more-views c.args.profile image seen volume.head (take c.views.place views) (view ∷ []) c.args.out.now c.views.out c.add_view.new.out
-          (c.views.invariant.added image told ready same) (c.in-Ok.ensures.clear image (c.views.invariant.kept.same_bytes ∙ told) ready same));
+          subst (λ vs. AddsViews profile image seen volume.head vs c.args.out.now c.add_view.new.out) (sym (take-one views place view at))
+          (more-views profile image seen volume.head (take place views) (view ∷ []) c.args.out.now c.views.out c.add_view.new.out
+          (had.added image told ready same) (c.in-Ok.ensures.clear image (had.kept.same_bytes ∙ told) (known-before profile image site volume ranges (take place views) c.take.result (kb image told)) ready same));
       all = λ image told ready same.
-          let read = c.views.invariant.kept.same_bytes ∙ told in
-          let these : c.in-Ok.added.extents.items ≡ view_extents image site volume view = c.in-Ok.ensures.all image read in
-          let right = (c.in-Ok.ensures.clear image read ready same).right view (inl refl) in
+          let read = had.kept.same_bytes ∙ told in
+          let before = known-before profile image site volume ranges (take place views) c.take.result (kb image told) in
+          let new = c.in-Ok.ensures.all image read before in
+          let right = (c.in-Ok.ensures.clear image read before ready same).right view (inl refl) in
           let low : site.blocks < 2 ^ 64 = subst (λ (s : Site). s.blocks < 2 ^ 64) c.site-site.ensures (omega arith) in
           let ends : AreShortOrHoles c.site-site.result.block_size c.in-Ok.added.extents.items =
-          subst (λ es. AreShortOrHoles c.site-site.result.block_size es) (sym these) (subst (λ (s : Site). AreShortOrHoles s.block_size (view_extents image site volume view)) (sym c.site-site.ensures) (extents-short c.args.profile image seen volume ready view right low)) in
-          extents-next image site volume views c.views.place view c.views.extents.items c.move_short.new.extents.items c.thin_past-limit.new.extents.items c.view_at-view.ensures (c.views.invariant.all image told ready same)
-          (c.in_ok-move_short-in-Ok.ensures.added ends ∙ ap (λ es. c.views.extents.items ++ es) these) c.thin_past-limit.ensures;
-      passed = λ image told. passed-next c.args.profile image site volume c.args.ranges.now views c.views.place view c.in-Ok.added.passed c.view_at-view.ensures (c.in-Ok.ensures.passed image (c.views.invariant.kept.same_bytes ∙ told));
+          subst (λ (s : Site). AreShortOrHoles s.block_size c.in-Ok.added.extents.items) (sym c.site-site.ensures) (λ x h some. extents-short profile image seen volume ready view right low x (new.own x h) some) in
+          extents-next image site volume views place view (extents_before c.take.result) c.in-Ok.added.extents.items c.views.extents.items c.move_short.new.extents.items c.thin_past-limit.new.extents.items at (had.all image told ready same)
+          new (extents-known profile image site volume ranges (take place views) c.take.result (kb image told)) (c.in_ok-move_short-in-Ok.ensures.added ends) c.thin_past-limit.ensures;
+      passed = λ image told.
+          passed-more profile image site volume ranges (take (place + 1) views) c.views.passed.items c.remember.new.passed.items c.in-Ok.added.passed c.in_ok-remember-in-Ok.ensures (passed-kept profile image site volume ranges views place view c.views.passed.items at (had.passed image told))
+          (passed-one profile image site volume ranges views place view c.in-Ok.added.passed at (c.in-Ok.ensures.passed image (had.kept.same_bytes ∙ told) (known-before profile image site volume ranges (take place views) c.take.result (kb image told))));
+      known = λ image told. known-one profile image site volume ranges views place view c.in-Ok.added.kept at (c.in-Ok.ensures.known image (had.kept.same_bytes ∙ told) (known-before profile image site volume ranges (take place views) c.take.result (kb image told)));
       short = short-same (site_of seen).block_size c.move_short.new.extents.items c.thin_past-limit.new.extents.items c.thin_past-limit.ensures
           (subst (λ (s : Site). AreShortExtents s.block_size c.move_short.new.extents.items) c.site-site.ensures
-          (c.in_ok-move_short-in-Ok.ensures.short (subst (λ (s : Site). AreShortExtents s.block_size c.views.extents.items) (sym c.site-site.ensures) c.views.invariant.short)));
+          (c.in_ok-move_short-in-Ok.ensures.short (subst (λ (s : Site). AreShortExtents s.block_size c.views.extents.items) (sym c.site-site.ensures) had.short)));
       kept = record {
-        same_bytes = c.add_view.ensures.kept.same_bytes ∙ c.views.invariant.kept.same_bytes;
-        same_size = c.add_view.ensures.kept.same_size ∙ c.views.invariant.kept.same_size;
+        same_bytes = c.add_view.ensures.kept.same_bytes ∙ had.kept.same_bytes;
+        same_size = c.add_view.ensures.kept.same_size ∙ had.kept.same_size;
         later = omega (arith, c.add_view.ensures.kept.later, c.views.invariant.kept.later);
       };
     }
@@ -58,22 +73,28 @@ views-preserved-in-Some g c =
     let seen = c.args.cp.now in
     let site = site_of seen in
     let volume = c.args.volume.now in
+    let ranges = c.args.ranges.now in
+    let profile = c.args.profile in
     let views = views_of volume seen in
+    let place = c.views.place in
     let view = c.view_at-view.result in
+    let at = c.view_at-view.ensures in
+    let had = c.views.invariant in
     let before = c.in-Some.before in
     let one = c.in-Some.ensures.one in
     record {
       added = λ image told ready same.
-          let is = subst (λ o. IfSome o (IsPassed c.args.profile image site volume c.args.ranges.now (take c.views.place views))) c.in-Some.ensures.same (c.views.invariant.passed image told) in
-          subst (λ vs. AddsViews c.args.profile image seen volume.head vs c.args.out.now c.count_records.new.self) (sym (take-one views c.views.place view c.view_at-view.ensures))
-          (more-views c.args.profile image seen volume.head (take c.views.place views) (view ∷ []) c.args.out.now c.views.out c.count_records.new.self
-          (c.views.invariant.added image told ready same) (again-added c.args.profile image seen volume c.args.ranges.now (take c.views.place views) before view c.views.out c.count_records.new.self ready same is one c.count_records.ensures));
+          let is = all-in (IsPassed profile image site volume ranges (take place views)) c.views.passed.items (had.passed image told) before (subst (In before) c.deref.ensures.value c.in-Some.ensures.same) in
+          subst (λ vs. AddsViews profile image seen volume.head vs c.args.out.now c.count_records.new.self) (sym (take-one views place view at))
+          (more-views profile image seen volume.head (take place views) (view ∷ []) c.args.out.now c.views.out c.count_records.new.self
+          (had.added image told ready same) (again-added profile image seen volume ranges (take place views) before view c.views.out c.count_records.new.self ready same is one c.count_records.ensures));
       all = λ image told ready same.
-          let is = subst (λ o. IfSome o (IsPassed c.args.profile image site volume c.args.ranges.now (take c.views.place views))) c.in-Some.ensures.same (c.views.invariant.passed image told) in
-          extents-kept image site volume views c.views.place before.view view c.views.extents.items c.view_at-view.ensures is.one (extents-again image site volume before.view view one) (c.views.invariant.all image told ready same);
-      passed = λ image told. passed-kept c.args.profile image site volume c.args.ranges.now views c.views.place view c.views.passed c.view_at-view.ensures (c.views.invariant.passed image told);
-      short = c.views.invariant.short;
-      kept = c.views.invariant.kept;
+          let is = all-in (IsPassed profile image site volume ranges (take place views)) c.views.passed.items (had.passed image told) before (subst (In before) c.deref.ensures.value c.in-Some.ensures.same) in
+          extents-kept image site volume views place before.view view c.views.extents.items at is.one (extents-again image site volume before.view view one) (had.all image told ready same);
+      passed = λ image told. passed-kept profile image site volume ranges views place view c.views.passed.items at (had.passed image told);
+      known = λ image told. known-kept profile image site volume ranges views place view c.views.known at (had.known image told);
+      short = had.short;
+      kept = had.kept;
     }
 
 pub returns-clause-all : goal.returns-clause-all

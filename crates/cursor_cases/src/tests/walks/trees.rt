@@ -2,6 +2,7 @@
 
 use crate::tests::walks::image::{Form, Node};
 use bt_cursor::WalkFault;
+use bt_cursor::WalkFault::*;
 use bt_node::NodeFault;
 use img_edit::node::Tree;
 use obj_base::HeadFault;
@@ -66,6 +67,13 @@ pub const TWO_THREE: u64 = 0x3000_0000_0000_0002;
 
 pub const SIXTEEN_THREE: u64 = 0x3000_0000_0000_0010;
 
+// A table of tuples: a row is the parts of one, and ends with a semicolon.
+macro_rules! table {
+    ($($($part:expr),+;)*) => {
+        &[$(($($part),+)),*]
+    };
+}
+
 /// Two leaves in the blocks 2 and 3 under a root, the keys of each, what the root tells and names, and where the walk
 /// stops.
 pub type Pair = (
@@ -77,83 +85,15 @@ pub type Pair = (
     WalkFault,
 );
 
-pub const TWO_LEAVES: &[Pair] = &[
-    (
-        (3, 3),
-        &[(1, 2), (3, 3)],
-        &[(2, 0), (1, 0)],
-        &[(3, 0)],
-        &[(1, 1, 0), (0, 2, 0)],
-        WalkFault::Order { item: 2 },
-    ),
-    (
-        (3, 3),
-        &[(1, 2), (3, 3)],
-        &[(1, 0), (4, 0)],
-        &[(3, 0)],
-        &[(1, 1, 0), (0, 1, 0), (0, 4, 0)],
-        WalkFault::Order { item: 3 },
-    ),
-    (
-        (3, 3),
-        &[(1, 2), (3, 3)],
-        &[(1, 0), (3, 0)],
-        &[(3, 0)],
-        &[(1, 1, 0), (0, 1, 0), (0, 3, 0), (1, 3, 0)],
-        WalkFault::Order { item: 4 },
-    ),
-    (
-        (3, 3),
-        &[(1, 2), (3, 3)],
-        &[(1, 0), (1, 0)],
-        &[(3, 0)],
-        &[(1, 1, 0), (0, 1, 0)],
-        WalkFault::Order { item: 2 },
-    ),
-    (
-        (3, 3),
-        &[(1, 2), (3, 3)],
-        &[(1, 0)],
-        &[(3, 0)],
-        &[(1, 1, 0), (0, 1, 0), (1, 3, 0), (0, 3, 0)],
-        WalkFault::Counts,
-    ),
-    (
-        (2, 2),
-        &[(1, 2), (3, 3)],
-        &[(1, 0)],
-        &[(3, 0)],
-        &[(1, 1, 0), (0, 1, 0), (1, 3, 0), (0, 3, 0)],
-        WalkFault::Counts,
-    ),
-    (
-        (2, 3),
-        &[(1, 2), (3, 9)],
-        &[(1, 0)],
-        &[(3, 0)],
-        &[(1, 1, 0), (0, 1, 0), (1, 3, 0)],
-        WalkFault::Unnamed { oid: 9 },
-    ),
-    (
-        (2, 3),
-        &[(1, 2), (3, 7)],
-        &[(1, 0)],
-        &[(3, 0)],
-        &[(1, 1, 0), (0, 1, 0), (1, 3, 0)],
-        WalkFault::Unsound {
-            block: 7,
-            why: NodeFault::Head(HeadFault::BadSum),
-        },
-    ),
-    (
-        (2, 3),
-        &[(1, 2), (3, 4)],
-        &[(1, 0)],
-        &[(3, 0)],
-        &[(1, 1, 0), (0, 1, 0), (1, 3, 0)],
-        WalkFault::Unsound {
-            block: 4,
-            why: NodeFault::Level,
-        },
-    ),
-];
+pub const TWO_LEAVES: &[Pair] = table! {
+    (3, 3), &[(1, 2), (3, 3)], &[(2, 0), (1, 0)], &[(3, 0)], &[(1, 1, 0), (0, 2, 0)], Order { item: 2 };
+    (3, 3), &[(1, 2), (3, 3)], &[(1, 0), (4, 0)], &[(3, 0)], &[(1, 1, 0), (0, 1, 0), (0, 4, 0)], Order { item: 3 };
+    (3, 3), &[(1, 2), (3, 3)], &[(1, 0), (3, 0)], &[(3, 0)], &[(1, 1, 0), (0, 1, 0), (0, 3, 0), (1, 3, 0)], Order { item: 4 };
+    (3, 3), &[(1, 2), (3, 3)], &[(1, 0), (1, 0)], &[(3, 0)], &[(1, 1, 0), (0, 1, 0)], Order { item: 2 };
+    (3, 3), &[(1, 2), (3, 3)], &[(1, 0)], &[(3, 0)], &[(1, 1, 0), (0, 1, 0), (1, 3, 0), (0, 3, 0)], Counts;
+    (2, 2), &[(1, 2), (3, 3)], &[(1, 0)], &[(3, 0)], &[(1, 1, 0), (0, 1, 0), (1, 3, 0), (0, 3, 0)], Counts;
+    (2, 3), &[(1, 2), (3, 9)], &[(1, 0)], &[(3, 0)], &[(1, 1, 0), (0, 1, 0), (1, 3, 0)], Unnamed { oid: 9 };
+    (2, 3), &[(1, 2), (3, 7)], &[(1, 0)], &[(3, 0)], &[(1, 1, 0), (0, 1, 0), (1, 3, 0)],
+        Unsound { block: 7, why: NodeFault::Head(HeadFault::BadSum) };
+    (2, 3), &[(1, 2), (3, 4)], &[(1, 0)], &[(3, 0)], &[(1, 1, 0), (0, 1, 0), (1, 3, 0)], Unsound { block: 4, why: NodeFault::Level };
+};

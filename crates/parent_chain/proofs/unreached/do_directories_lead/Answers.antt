@@ -33,5 +33,5 @@ returns c =
     let all = take_all c.loop-number.number facts.inodes (subst (λ (ys : List (Fact Inode)). length ys ≤ c.loop-number.number) same c.loop-number-test.false) in
     λ _.
     have-ways facts
-    (subst Rise (c.deref.ensures.value ∙ ap (λ (g : Facts). g.inodes) c.facts.view_is) (c.do_rise.ensures c.if-not-do_rise.false))
+    (subst Rise (c.deref.ensures.value ∙ ap (λ (g : Facts). g.inodes) c.facts.view_is) (c.do_ids_rise.ensures c.if-not-do_ids_rise.false))
     (subst (LeadFrom (parent_at (directories_of facts))) all c.loop-number.invariant.lead)

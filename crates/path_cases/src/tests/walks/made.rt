@@ -5,7 +5,7 @@ ghost use Rattle.obj_base.specs.Site.{IsSiteFor};
 use blk_source::MemSource;
 use fs_name::Names;
 use img_make::records::{EntryPlan, InodePlan};
-use img_make::{FileTree, Plan, Sample, make, pack, places, sample};
+use img_make::{FileTree, Sample, image_with, made, sample, table};
 use nx_ring::newest;
 use obj_base::Site;
 use std::alloc::{AllocError, Global};
@@ -17,9 +17,6 @@ const ROOT: u64 = 2;
 
 // The id of the private directory, which isn't reserved and stands below the first user's.
 const PRIVATE: u64 = 3;
-
-// The id of the first of several leaves.
-const FIRST_LEAF: u64 = 1031;
 
 /// What an image holds.
 #[derive(Clone, Copy, PartialEq, Eq, Debug)]
@@ -36,44 +33,56 @@ pub(super) enum Holds {
     Many,
 }
 
-fn entry(directory: u64, file: u64, kind: u16) -> EntryPlan {
+// A file or a directory without contents: the directory in which it stands, its id, the kind that its entry gives, and its name.
+type File = (u64, u64, u16, &'static str);
+
+const FILE: u16 = 8;
+
+const FOLDER: u16 = 4;
+
+const NAMES: &[File] = table! {
+    ROOT, 20, FILE, "aB"; ROOT, 21, FILE, "Ab"; ROOT, 22, FILE, "ReadMe"; ROOT, 16, FOLDER, "d"; 16, 17, FILE, "f";
+    ROOT, 7, FOLDER, "reserved"; 7, 18, FILE, "unseen"; PRIVATE, 19, FILE, "kept";
+};
+
+const ALIKE: &[File] = table! {
+    ROOT, 20, FILE, "photo-01b"; ROOT, 21, FILE, "photo-01"; ROOT, 22, FILE, "photo-01a.long"; ROOT, 23, FILE, "photo-0";
+    ROOT, 24, FILE, "photo-01a"; ROOT, 25, FILE, "photo-01\u{e9}"; ROOT, 26, FILE, "photo-0\u{e9}"; ROOT, 27, FILE, "p";
+};
+
+fn add_files(alloc: Global, tree: &mut FileTree, files: &[File]) -> Result<(), AllocError> {
+    for (directory, id, kind, name) in files {
+        let plan = if *kind == FOLDER {
+            InodePlan::directory(*id, *directory)
+        } else {
+            InodePlan::file(*id, *directory)
+        };
+        tree.add(alloc, plan, name)?;
+    }
+    Ok(())
+}
+
+// An entry that calls its file a directory.
+fn entry(directory: u64, file: u64) -> EntryPlan {
     EntryPlan {
         directory,
         file,
-        kind,
+        kind: FOLDER,
         sibling: None,
     }
 }
 
 fn add_names(alloc: Global, tree: &mut FileTree) -> Result<(), AllocError> {
-    tree.add(alloc, InodePlan::file(20, ROOT), "aB")?;
-    tree.add(alloc, InodePlan::file(21, ROOT), "Ab")?;
-    tree.add(alloc, InodePlan::file(22, ROOT), "ReadMe")?;
-    tree.add(alloc, InodePlan::directory(16, ROOT), "d")?;
-    tree.add(alloc, InodePlan::file(17, 16), "f")?;
-    tree.add(alloc, InodePlan::directory(7, ROOT), "reserved")?;
-    tree.add(alloc, InodePlan::file(18, 7), "unseen")?;
-    tree.name(alloc, &entry(ROOT, PRIVATE, 4), "private")?;
-    tree.add(alloc, InodePlan::file(19, PRIVATE), "kept")?;
-    // An entry that calls its file a directory, which the inode doesn't.
+    add_files(alloc, tree, NAMES)?;
+    tree.name(alloc, &entry(ROOT, PRIVATE), "private")?;
+    // The inode of this one is a file's.
     tree.inode(InodePlan::file(23, ROOT))?;
-    tree.name(alloc, &entry(ROOT, 23, 4), "no directory")
+    tree.name(alloc, &entry(ROOT, 23), "no directory")
 }
 
 fn add_ring(alloc: Global, tree: &mut FileTree) -> Result<(), AllocError> {
     tree.add(alloc, InodePlan::directory(16, ROOT), "d")?;
-    tree.name(alloc, &entry(16, 16, 4), "d")
-}
-
-fn add_alike(alloc: Global, tree: &mut FileTree) -> Result<(), AllocError> {
-    tree.add(alloc, InodePlan::file(20, ROOT), "photo-01b")?;
-    tree.add(alloc, InodePlan::file(21, ROOT), "photo-01")?;
-    tree.add(alloc, InodePlan::file(22, ROOT), "photo-01a.long")?;
-    tree.add(alloc, InodePlan::file(23, ROOT), "photo-0")?;
-    tree.add(alloc, InodePlan::file(24, ROOT), "photo-01a")?;
-    tree.add(alloc, InodePlan::file(25, ROOT), "photo-01\u{e9}")?;
-    tree.add(alloc, InodePlan::file(26, ROOT), "photo-0\u{e9}")?;
-    tree.add(alloc, InodePlan::file(27, ROOT), "p")
+    tree.name(alloc, &entry(16, 16), "d")
 }
 
 fn add_many(alloc: Global, tree: &mut FileTree) -> Result<(), AllocError> {
@@ -86,41 +95,21 @@ fn add_many(alloc: Global, tree: &mut FileTree) -> Result<(), AllocError> {
     tree.add(alloc, InodePlan::file(18, 17), "y")
 }
 
-// The small container with these files.
-fn planned(alloc: Global, tree: FileTree) -> Result<Plan, Fail> {
-    let mut plan = sample(alloc, Sample::S)?;
-    let mut leaves = pack(alloc, tree.items(alloc)?, FIRST_LEAF)?;
-    if leaves.len() == 1 {
-        leaves[0].oid = places::ROOT_OID;
-    }
-    for volume in plan.volumes.iter_mut() {
-        for version in volume.versions.iter_mut() {
-            version.leaves = leaves;
-            return Ok(plan);
-        }
-    }
-    Ok(plan)
-}
-
-fn plan_of(alloc: Global, holds: Holds) -> Result<Plan, Fail> {
+fn image_of(alloc: Global, holds: Holds) -> Result<Vec<u8>, Fail> {
     let mut tree = FileTree::new(alloc, Names::Folded)?;
     match holds {
-        Holds::Of(which) => return Ok(sample(alloc, which)?),
+        Holds::Of(which) => return made(alloc, &sample(alloc, which)?),
         Holds::Names => add_names(alloc, &mut tree)?,
         Holds::Ring => add_ring(alloc, &mut tree)?,
-        Holds::Alike => add_alike(alloc, &mut tree)?,
+        Holds::Alike => add_files(alloc, &mut tree, ALIKE)?,
         Holds::Many => add_many(alloc, &mut tree)?,
     }
-    planned(alloc, tree)
+    image_with(alloc, Sample::S, Names::Folded, tree.items(alloc)?)
 }
 
 /// The image.
 pub(super) fn source(alloc: Global, holds: Holds) -> Result<MemSource, Fail> {
-    let plan = plan_of(alloc, holds)?;
-    if !plan.valid() {
-        return Err(Fail::from("the plan isn't valid"));
-    }
-    Ok(MemSource::new(make(alloc, &plan)?, Vec::new(alloc)))
+    Ok(MemSource::new(image_of(alloc, holds)?, Vec::new(alloc)))
 }
 
 /// A view, with its volume and its site.

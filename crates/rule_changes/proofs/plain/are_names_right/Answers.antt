@@ -14,8 +14,7 @@ returns-then-are_attributes_alone c holds =
     let after = c.args.after.now.index.now.facts.now in
     let come = c.args.come.now in
     record {
-      old_siblings = c.are_none.ensures c.if-not-are_none.false;
-      new_siblings = c.are_none-2.ensures c.if-not-are_none-2.false;
+      fellows = c.are_fellows_right.ensures c.if-not-are_fellows_right.false;
       entries = each-in (IsAlone after) come.entries (c.are_entries_alone.ensures c.if-not-are_entries_alone.false);
       attributes = each-in (λ (a : Fact Attribute). is_attribute_repeated after a ≡ false) come.attributes (c.are_attributes_alone.ensures c.if-are_attributes_alone.true);
       owners = none-in (lacks_owner after) come.attributes (sym c.lack_owners.ensures ∙ not-true c.lack_owners.result holds);

@@ -3,106 +3,38 @@
 use super::{Case, Numbers, SMALL_NUMBERS, assert_cases};
 use apfs_layout::chunk_info::{CHUNK_FREE, CIB_ENTRIES};
 use apfs_layout::space_manager::MAIN_FREE;
+use img_make::Change::*;
 use img_make::cases::{QUEUED, TREE_IN_THE_POOL, TREE_PAST_THE_POOL, WAITING};
 use img_make::places::{POOL_BASE, POOL_QUEUE, RING_BASE, SPACE_MANAGER};
-use img_make::{Change, SMALL, Sample};
-use reach_rules::ReachFault;
+use img_make::{SMALL, Sample, table};
+use reach_rules::ReachFault::*;
 use std::test::Fail;
 
-const OWNERS: &[Case] = &[
-    Case {
-        base: QUEUED,
-        changes: &[],
-        want: Ok(Numbers {
-            owned: 58,
-            ..SMALL_NUMBERS
-        }),
-    },
-    Case {
-        base: QUEUED,
-        changes: &[Change::Free(60)],
-        want: Err(ReachFault::Missing { block: 60 }),
-    },
-    Case {
-        base: SMALL,
-        changes: &[Change::Mark(200)],
-        want: Err(ReachFault::Leaked { block: 200 }),
-    },
-    Case {
-        base: SMALL,
-        changes: &[Change::Mark(255)],
-        want: Err(ReachFault::Leaked { block: 255 }),
-    },
-    Case {
-        base: (Sample::C, &[(57, 2), (58, 1)], &[]),
-        changes: &[],
-        want: Err(ReachFault::OwnedTwice { block: 58 }),
-    },
-    Case {
-        base: (Sample::C, &[(57, 1), (58, 1)], &[]),
-        changes: &[],
-        want: Ok(Numbers {
-            owned: 59,
-            ..SMALL_NUMBERS
-        }),
-    },
-    Case {
-        base: SMALL,
-        changes: TREE_IN_THE_POOL,
-        want: Err(ReachFault::OwnedTwice { block: 46 }),
-    },
-    Case {
-        base: SMALL,
-        changes: TREE_PAST_THE_POOL,
-        want: Ok(SMALL_NUMBERS),
-    },
-    Case {
-        base: (Sample::S, &[], &[(255, 2)]),
-        changes: &[],
-        want: Err(ReachFault::Outside { block: 255 }),
-    },
-    Case {
-        base: (Sample::S, &[], &[(255, 1)]),
-        changes: &[],
-        want: Ok(Numbers {
-            owned: 58,
-            ..SMALL_NUMBERS
-        }),
-    },
-];
+const OWNERS: &[Case] = table! {
+    QUEUED, &[], Ok(Numbers { owned: 58, ..SMALL_NUMBERS });
+    QUEUED, &[Free(60)], Err(Missing { block: 60 });
+    SMALL, &[Mark(200)], Err(Leaked { block: 200 });
+    SMALL, &[Mark(255)], Err(Leaked { block: 255 });
+    (Sample::C, &[(57, 2), (58, 1)], &[]), &[], Err(OwnedTwice { block: 58 });
+    (Sample::C, &[(57, 1), (58, 1)], &[]), &[], Ok(Numbers { owned: 59, ..SMALL_NUMBERS });
+    SMALL, TREE_IN_THE_POOL, Err(OwnedTwice { block: 46 });
+    SMALL, TREE_PAST_THE_POOL, Ok(SMALL_NUMBERS);
+    (Sample::S, &[], &[(255, 2)]), &[], Err(Outside { block: 255 });
+    (Sample::S, &[], &[(255, 1)]), &[], Ok(Numbers { owned: 58, ..SMALL_NUMBERS });
+};
 
 #[test]
 fn owners(rt: HostRuntime) -> Result<(), Fail> {
     assert_cases(&rt, rt.alloc(), OWNERS)
 }
 
-const POOL: &[Case] = &[
-    Case {
-        base: SMALL,
-        changes: &[Change::Bare(RING_BASE, 0, &[0x07])],
-        want: Err(ReachFault::PoolLeaked { block: 45 }),
-    },
-    Case {
-        base: SMALL,
-        changes: &[Change::Bare(RING_BASE, 0, &[0x01])],
-        want: Err(ReachFault::PoolMissing { block: 44 }),
-    },
-    Case {
-        base: SMALL,
-        changes: &[WAITING],
-        want: Err(ReachFault::PoolMissing { block: 45 }),
-    },
-    Case {
-        base: SMALL,
-        changes: &[WAITING, Change::Bare(RING_BASE, 0, &[0x07])],
-        want: Ok(SMALL_NUMBERS),
-    },
-    Case {
-        base: SMALL,
-        changes: &[Change::Records(POOL_QUEUE, &[([1, 44], &[1])])],
-        want: Err(ReachFault::OwnedTwice { block: 44 }),
-    },
-];
+const POOL: &[Case] = table! {
+    SMALL, &[Bare(RING_BASE, 0, &[0x07])], Err(PoolLeaked { block: 45 });
+    SMALL, &[Bare(RING_BASE, 0, &[0x01])], Err(PoolMissing { block: 44 });
+    SMALL, &[WAITING], Err(PoolMissing { block: 45 });
+    SMALL, &[WAITING, Bare(RING_BASE, 0, &[0x07])], Ok(SMALL_NUMBERS);
+    SMALL, &[Records(POOL_QUEUE, &[([1, 44], &[1])])], Err(OwnedTwice { block: 44 });
+};
 
 #[test]
 fn owners_of_the_pool(rt: HostRuntime) -> Result<(), Fail> {
@@ -110,21 +42,10 @@ fn owners_of_the_pool(rt: HostRuntime) -> Result<(), Fail> {
 }
 
 // The free counts of the only chunk and of the device.
-const COUNTS: &[Case] = &[
-    Case {
-        base: SMALL,
-        changes: &[
-            Change::Put(POOL_BASE, CIB_ENTRIES + CHUNK_FREE, &[198]),
-            Change::Put(SPACE_MANAGER, MAIN_FREE, &[198]),
-        ],
-        want: Err(ReachFault::FreeCount { chunk: 0 }),
-    },
-    Case {
-        base: SMALL,
-        changes: &[Change::Mark(60), Change::Free(60)],
-        want: Ok(SMALL_NUMBERS),
-    },
-];
+const COUNTS: &[Case] = table! {
+    SMALL, &[Put(POOL_BASE, CIB_ENTRIES + CHUNK_FREE, &[198]), Put(SPACE_MANAGER, MAIN_FREE, &[198])], Err(FreeCount { chunk: 0 });
+    SMALL, &[Mark(60), Free(60)], Ok(SMALL_NUMBERS);
+};
 
 #[test]
 fn counts(rt: HostRuntime) -> Result<(), Fail> {

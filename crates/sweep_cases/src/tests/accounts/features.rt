@@ -5,9 +5,10 @@ use apfs_layout::node::{FLAGS, NODE_SIZE};
 use apfs_layout::object::TYPE;
 use apfs_layout::reaping::REAPER_FLAGS;
 use apfs_layout::space_manager::SECOND_BLOCKS;
+use img_make::Change::Put;
 use img_make::cases::{END, EXTENTS, MAP_ROOT};
 use img_make::places::{POOL_BASE, REAPER, SPACE_MANAGER};
-use img_make::{Change, SMALL, image};
+use img_make::{Change, SMALL, image, table};
 use obj_base::{Feature, Stop};
 use std::alloc::Global;
 use std::process::Abort;
@@ -17,51 +18,29 @@ use std::test::Fail;
 const VALUE: usize = END - 16;
 
 // A case: changes of the small container, and what its account comes to, or a feature with the block that is named for it.
-#[derive(Clone, Copy, Debug)]
-struct Case {
-    changes: &'static [Change],
-    want: Result<Numbers, (Feature, u64)>,
-}
+type Case = (&'static [Change], Result<Numbers, (Feature, u64)>);
 
 // Whether each image of a table comes to what is said of it.
 fn assert_features(rt: &impl Abort, alloc: Global, cases: &[Case]) -> Result<(), Fail> {
-    for case in cases.iter() {
-        let want = match case.want {
+    for (changes, want) in cases {
+        let want = match *want {
             Ok(numbers) => Ok(numbers),
             Err((feature, block)) => Err(Stop::Unsupported { feature, block }),
         };
-        let found = sum(alloc, image(alloc, &SMALL, case.changes)?)?;
-        assert_eq!(rt; found, want, "{case:?}");
+        let found = sum(alloc, image(alloc, &SMALL, changes)?)?;
+        assert_eq!(rt; found, want, "{changes:?}");
     }
     Ok(())
 }
 
-const OBJECTS: &[Case] = &[
-    Case {
-        changes: &[Change::Put(REAPER, REAPER_FLAGS, &[3])],
-        want: Err((Feature::Reaper, 10)),
-    },
-    Case {
-        changes: &[Change::Put(REAPER, REAPER_FLAGS, &[5])],
-        want: Ok(SMALL_NUMBERS),
-    },
-    Case {
-        changes: &[Change::Put(SPACE_MANAGER, SECOND_BLOCKS, &[1])],
-        want: Err((Feature::Fusion, 9)),
-    },
-    Case {
-        changes: &[Change::Put(POOL_BASE, TYPE + 3, &[0x50])],
-        want: Err((Feature::Encrypted, 43)),
-    },
-    Case {
-        changes: &[Change::Put(EXTENTS, TYPE + 3, &[0x50])],
-        want: Err((Feature::Encrypted, 55)),
-    },
-    Case {
-        changes: &[Change::Put(EXTENTS, TYPE + 3, &[0x60])],
-        want: Err((Feature::NoHeader, 55)),
-    },
-];
+const OBJECTS: &[Case] = table! {
+    &[Put(REAPER, REAPER_FLAGS, &[3])], Err((Feature::Reaper, 10));
+    &[Put(REAPER, REAPER_FLAGS, &[5])], Ok(SMALL_NUMBERS);
+    &[Put(SPACE_MANAGER, SECOND_BLOCKS, &[1])], Err((Feature::Fusion, 9));
+    &[Put(POOL_BASE, TYPE + 3, &[0x50])], Err((Feature::Encrypted, 43));
+    &[Put(EXTENTS, TYPE + 3, &[0x50])], Err((Feature::Encrypted, 55));
+    &[Put(EXTENTS, TYPE + 3, &[0x60])], Err((Feature::NoHeader, 55));
+};
 
 #[test]
 fn of_objects(rt: HostRuntime) -> Result<(), Fail> {
@@ -69,40 +48,16 @@ fn of_objects(rt: HostRuntime) -> Result<(), Fail> {
 }
 
 // A node is hashed, has no header, or stands above level 15.
-const NODES: &[Case] = &[
-    Case {
-        changes: &[Change::Put(EXTENTS, FLAGS, &[0x0b])],
-        want: Err((Feature::Sealed, 55)),
-    },
-    Case {
-        changes: &[Change::Put(EXTENTS, FLAGS, &[0x13])],
-        want: Err((Feature::NoHeader, 55)),
-    },
-    Case {
-        changes: &[Change::Put(EXTENTS, FLAGS, &[1, 0, 16])],
-        want: Err((Feature::Deep, 55)),
-    },
-    Case {
-        changes: &[Change::Put(EXTENTS, END + NODE_SIZE + 1, &[0x20])],
-        want: Err((Feature::Size, 55)),
-    },
-    Case {
-        changes: &[Change::Put(MAP_ROOT, VALUE, &[4])],
-        want: Err((Feature::Encrypted, 54)),
-    },
-    Case {
-        changes: &[Change::Put(MAP_ROOT, VALUE, &[8])],
-        want: Err((Feature::NoHeader, 54)),
-    },
-    Case {
-        changes: &[Change::Put(MAP_ROOT, VALUE + 5, &[0x20])],
-        want: Err((Feature::Size, 54)),
-    },
-    Case {
-        changes: &[Change::Put(MAP_ROOT, VALUE, &[2])],
-        want: Ok(SMALL_NUMBERS),
-    },
-];
+const NODES: &[Case] = table! {
+    &[Put(EXTENTS, FLAGS, &[0x0b])], Err((Feature::Sealed, 55));
+    &[Put(EXTENTS, FLAGS, &[0x13])], Err((Feature::NoHeader, 55));
+    &[Put(EXTENTS, FLAGS, &[1, 0, 16])], Err((Feature::Deep, 55));
+    &[Put(EXTENTS, END + NODE_SIZE + 1, &[0x20])], Err((Feature::Size, 55));
+    &[Put(MAP_ROOT, VALUE, &[4])], Err((Feature::Encrypted, 54));
+    &[Put(MAP_ROOT, VALUE, &[8])], Err((Feature::NoHeader, 54));
+    &[Put(MAP_ROOT, VALUE + 5, &[0x20])], Err((Feature::Size, 54));
+    &[Put(MAP_ROOT, VALUE, &[2])], Ok(SMALL_NUMBERS);
+};
 
 #[test]
 fn of_nodes_and_records(rt: HostRuntime) -> Result<(), Fail> {

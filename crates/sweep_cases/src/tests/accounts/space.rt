@@ -3,42 +3,23 @@
 use super::{Case, assert_cases, sum};
 use apfs_layout::chunk_info::{CAB_INDEX, CHUNK_ADDRESS, CHUNK_BITMAP, CIB_ENTRIES, CIB_INDEX};
 use apfs_layout::space_manager::{BLOCKS_PER_CHUNK, MAIN_FREE, POOL_BITMAP_SIZE};
+use img_make::Change::*;
 use img_make::cases::RING_INDEX;
 use img_make::places::{POOL_BASE, POOL_QUEUE, SPACE_MANAGER};
-use img_make::{Change, SMALL, grouped};
+use img_make::{SMALL, grouped, table};
 use obj_base::Stop;
-use reach_rules::ReachFault;
+use reach_rules::ReachFault::*;
 use space_map::SpaceFault;
 use space_pool::PoolFault;
 use std::test::Fail;
 
-const SPACE: &[Case] = &[
-    Case {
-        base: SMALL,
-        changes: &[Change::Put(SPACE_MANAGER, BLOCKS_PER_CHUNK, &[0xf8, 0x7f])],
-        want: Err(ReachFault::Space(SpaceFault::Geometry)),
-    },
-    Case {
-        base: SMALL,
-        changes: &[Change::Put(POOL_BASE, CIB_INDEX, &[1])],
-        want: Err(ReachFault::Space(SpaceFault::Cib { index: 0 })),
-    },
-    Case {
-        base: SMALL,
-        changes: &[Change::Put(POOL_BASE, CIB_ENTRIES + CHUNK_ADDRESS, &[1])],
-        want: Err(ReachFault::Space(SpaceFault::Index { chunk: 0 })),
-    },
-    Case {
-        base: SMALL,
-        changes: &[Change::Put(POOL_BASE, CIB_ENTRIES + CHUNK_BITMAP, &[200])],
-        want: Err(ReachFault::Space(SpaceFault::Place { block: 200 })),
-    },
-    Case {
-        base: SMALL,
-        changes: &[Change::Put(SPACE_MANAGER, MAIN_FREE, &[198])],
-        want: Err(ReachFault::Space(SpaceFault::FreeTotal)),
-    },
-];
+const SPACE: &[Case] = table! {
+    SMALL, &[Put(SPACE_MANAGER, BLOCKS_PER_CHUNK, &[0xf8, 0x7f])], Err(Space(SpaceFault::Geometry));
+    SMALL, &[Put(POOL_BASE, CIB_INDEX, &[1])], Err(Space(SpaceFault::Cib { index: 0 }));
+    SMALL, &[Put(POOL_BASE, CIB_ENTRIES + CHUNK_ADDRESS, &[1])], Err(Space(SpaceFault::Index { chunk: 0 }));
+    SMALL, &[Put(POOL_BASE, CIB_ENTRIES + CHUNK_BITMAP, &[200])], Err(Space(SpaceFault::Place { block: 200 }));
+    SMALL, &[Put(SPACE_MANAGER, MAIN_FREE, &[198])], Err(Space(SpaceFault::FreeTotal));
+};
 
 #[test]
 fn chunks(rt: HostRuntime) -> Result<(), Fail> {
@@ -49,40 +30,20 @@ fn chunks(rt: HostRuntime) -> Result<(), Fail> {
 #[test]
 fn an_address_block_of_another_index(rt: HostRuntime) -> Result<(), Fail> {
     let alloc = rt.alloc();
-    let found = sum(alloc, grouped(alloc, &[Change::Put(45, CAB_INDEX, &[1])])?)?;
-    let fault = ReachFault::Space(SpaceFault::Cab { index: 0 });
+    let found = sum(alloc, grouped(alloc, &[Put(45, CAB_INDEX, &[1])])?)?;
+    let fault = Space(SpaceFault::Cab { index: 0 });
     assert_eq!(rt; found, Err(Stop::Found(fault)));
     Ok(())
 }
 
 // Block 60 isn't of the pool, and 50 is its last one.
-const POOL: &[Case] = &[
-    Case {
-        base: SMALL,
-        changes: &[Change::Put(SPACE_MANAGER, RING_INDEX, &[16])],
-        want: Err(ReachFault::Pool(PoolFault::Index { at: 0 })),
-    },
-    Case {
-        base: SMALL,
-        changes: &[Change::Put(SPACE_MANAGER, POOL_BITMAP_SIZE, &[0])],
-        want: Err(ReachFault::Pool(PoolFault::Count)),
-    },
-    Case {
-        base: SMALL,
-        changes: &[Change::Records(POOL_QUEUE, &[([1, 60], &[1])])],
-        want: Err(ReachFault::Pool(PoolFault::Place { block: 60 })),
-    },
-    Case {
-        base: SMALL,
-        changes: &[Change::Records(POOL_QUEUE, &[([1, 50], &[2])])],
-        want: Err(ReachFault::Pool(PoolFault::Place { block: 50 })),
-    },
-    Case {
-        base: SMALL,
-        changes: &[Change::Records(POOL_QUEUE, &[([1, 50], &[1])])],
-        want: Err(ReachFault::PoolMissing { block: 50 }),
-    },
-];
+const POOL: &[Case] = table! {
+    SMALL, &[Put(SPACE_MANAGER, RING_INDEX, &[16])], Err(Pool(PoolFault::Index { at: 0 }));
+    SMALL, &[Put(SPACE_MANAGER, POOL_BITMAP_SIZE, &[0])], Err(Pool(PoolFault::Count));
+    SMALL, &[Records(POOL_QUEUE, &[([1, 60], &[1])])], Err(Pool(PoolFault::Place { block: 60 }));
+    SMALL, &[Records(POOL_QUEUE, &[([1, 50], &[2])])], Err(Pool(PoolFault::Place { block: 50 }));
+    SMALL, &[Records(POOL_QUEUE, &[([1, 50], &[1])])], Err(PoolMissing { block: 50 });
+};
 
 #[test]
 fn pool(rt: HostRuntime) -> Result<(), Fail> {

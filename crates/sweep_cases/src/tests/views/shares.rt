@@ -4,10 +4,11 @@ use super::{MAP, eight, open};
 use blk_source::{BlockSource, MemSource};
 use img_edit::node::{Item, NodeHead, Totals, Tree, node};
 use img_make::cases::{DELETED, KEPT, MAP_ROOT};
-use img_make::{Change, Record, Sample, image, write};
+use img_make::{Change, Record, Sample, image, table, write};
 use obj_base::{Stop, Within};
 use omap_map::OmapRecord;
 use reach_rules::ReachFault;
+use reach_rules::ReachFault::{NamedTwice, Unnamed};
 use std::alloc::{AllocError, Global};
 use std::test::Fail;
 use view_sweep::{Used, reach_views};
@@ -69,18 +70,9 @@ fn put(alloc: Global, image: &mut [u8], made: &Made) -> Result<(), Fail> {
     Ok(())
 }
 
-// A record that is used: its id, its transaction and its block.
-type One = (u64, u64, u64);
-
 // A case: the records of the map, the roots of the views of even transactions and of odd ones, whether two volumes have the map
-// and the views in turn, and the records that are used, or what is wrong.
-#[derive(Clone, Copy, Debug)]
-struct Case {
-    records: &'static [Record],
-    roots: [u64; 2],
-    in_turn: bool,
-    want: Result<&'static [One], ReachFault>,
-}
+// and the views in turn, and what is wrong. Where nothing is, each record is used that isn't marked deleted.
+type Case = (&'static [Record], [u64; 2], bool, Option<ReachFault>);
 
 // What a sweep answers, and how many reads it takes.
 #[derive(Drop)]
@@ -91,15 +83,16 @@ struct Swept {
 
 // The sweep of the eight views of a case.
 fn sweep(alloc: Global, case: &Case) -> Result<Swept, Fail> {
+    let (records, roots, in_turn, _) = *case;
     let base = (Sample::V2, [].as_slice(), [].as_slice());
-    let mut bytes = image(alloc, &base, &[Change::Records(MAP_ROOT, case.records)])?;
+    let mut bytes = image(alloc, &base, &[Change::Records(MAP_ROOT, records)])?;
     for made in NODES.iter() {
         put(alloc, &mut bytes, made)?;
     }
     let mut src = MemSource::new(bytes, Vec::new(alloc));
     let first = open(alloc, &mut src)?;
     let second = open(alloc, &mut src)?;
-    let heads = eight(alloc, if case.in_turn { 2 } else { 1 }, case.roots)?;
+    let heads = eight(alloc, if in_turn { 2 } else { 1 }, roots)?;
     let volumes = [first.volume, second.volume];
     let before = src.read_count();
     let told = reach_views(alloc, &mut src, &second.site, &volumes, &heads);
@@ -109,21 +102,25 @@ fn sweep(alloc: Global, case: &Case) -> Result<Swept, Fail> {
     })
 }
 
-// Whether these are the records of some, each once.
-fn are_used(used: &[Used], want: &[One]) -> bool {
-    used.len() == want.len()
-        && want.iter().all(|one| {
-            used.contains(&Used {
-                map: MAP,
-                mapping: OmapRecord {
-                    oid: one.0,
-                    xid: one.1,
-                    flags: 0,
-                    size: 4096,
-                    paddr: one.2,
-                },
-            })
-        })
+// A record of the map as it is used, where it isn't marked deleted.
+fn used_of(record: &Record) -> Option<Used> {
+    let ([oid, xid], value) = *record;
+    let [flags, paddr] = *value else {
+        return None;
+    };
+    let mapping = OmapRecord {
+        oid,
+        xid,
+        flags: 0,
+        size: 4096,
+        paddr,
+    };
+    (flags == KEPT).then_some(Used { map: MAP, mapping })
+}
+
+// The records that are used where nothing is wrong.
+fn wanted(alloc: Global, records: &[Record]) -> Result<Vec<Used>, AllocError> {
+    records.iter().filter_map(used_of).collect(alloc)
 }
 
 // A child that differs in a middle snapshot alone.
@@ -136,139 +133,45 @@ const MIDDLE: &[Record] = &[
     ([2004, 1], &[KEPT, 110]),
 ];
 
-const OF_MIDDLE: &[One] = &[
-    (2000, 1, 100),
-    (2001, 1, 105),
-    (2001, 4, 106),
-    (2001, 5, 107),
-    (2003, 1, 109),
-    (2004, 1, 110),
-];
-
-const CASES: [Case; 7] = [
-    Case {
-        records: MIDDLE,
-        roots: [2000, 2000],
-        in_turn: false,
-        want: Ok(OF_MIDDLE),
-    },
+const CASES: &[Case] = table! {
+    MIDDLE, [2000, 2000], false, None;
     // two volumes that share a map
-    Case {
-        records: MIDDLE,
-        roots: [2000, 2000],
-        in_turn: true,
-        want: Ok(OF_MIDDLE),
-    },
+    MIDDLE, [2000, 2000], true, None;
     // every second snapshot has another root over the same nodes
-    Case {
-        records: &[
-            ([2000, 1], &[KEPT, 100]),
-            ([2001, 1], &[KEPT, 105]),
-            ([2003, 1], &[KEPT, 109]),
-            ([2004, 1], &[KEPT, 110]),
-            ([2010, 1], &[KEPT, 103]),
-        ],
-        roots: [2000, 2010],
-        in_turn: false,
-        want: Ok(&[
-            (2000, 1, 100),
-            (2001, 1, 105),
-            (2003, 1, 109),
-            (2004, 1, 110),
-            (2010, 1, 103),
-        ]),
-    },
+    &[([2000, 1], &[KEPT, 100]), ([2001, 1], &[KEPT, 105]), ([2003, 1], &[KEPT, 109]), ([2004, 1], &[KEPT, 110]), ([2010, 1], &[KEPT, 103])],
+        [2000, 2010], false, None;
     // a leaf's record is marked deleted between two snapshots, where no node names it
-    Case {
-        records: &[
-            ([2000, 1], &[KEPT, 100]),
-            ([2001, 1], &[KEPT, 105]),
-            ([2001, 3], &[KEPT, 106]),
-            ([2001, 5], &[KEPT, 107]),
-            ([2003, 1], &[KEPT, 109]),
-            ([2004, 1], &[KEPT, 110]),
-            ([2004, 3], &[DELETED, 0]),
-            ([2004, 5], &[KEPT, 111]),
-        ],
-        roots: [2000, 2000],
-        in_turn: false,
-        want: Ok(&[
-            (2000, 1, 100),
-            (2001, 1, 105),
-            (2001, 3, 106),
-            (2001, 5, 107),
-            (2003, 1, 109),
-            (2004, 1, 110),
-            (2004, 5, 111),
-        ]),
-    },
+    &[([2000, 1], &[KEPT, 100]), ([2001, 1], &[KEPT, 105]), ([2001, 3], &[KEPT, 106]), ([2001, 5], &[KEPT, 107]), ([2003, 1], &[KEPT, 109]),
+        ([2004, 1], &[KEPT, 110]), ([2004, 3], &[DELETED, 0]), ([2004, 5], &[KEPT, 111])],
+        [2000, 2000], false, None;
     // the last snapshot still names it
-    Case {
-        records: &[
-            ([2000, 1], &[KEPT, 100]),
-            ([2001, 1], &[KEPT, 105]),
-            ([2003, 1], &[KEPT, 109]),
-            ([2004, 1], &[KEPT, 110]),
-            ([2004, 8], &[DELETED, 0]),
-        ],
-        roots: [2000, 2000],
-        in_turn: false,
-        want: Err(ReachFault::Unnamed {
-            within: Within::Volume(0),
-            oid: 2004,
-            xid: 8,
-        }),
-    },
+    &[([2000, 1], &[KEPT, 100]), ([2001, 1], &[KEPT, 105]), ([2003, 1], &[KEPT, 109]), ([2004, 1], &[KEPT, 110]), ([2004, 8], &[DELETED, 0])],
+        [2000, 2000], false, Some(Unnamed { within: Within::Volume(0), oid: 2004, xid: 8 });
     // two parents name a leaf, each in the views of one root
-    Case {
-        records: &[
-            ([2000, 1], &[KEPT, 100]),
-            ([2001, 1], &[KEPT, 106]),
-            ([2002, 1], &[KEPT, 108]),
-            ([2003, 1], &[KEPT, 109]),
-            ([2011, 1], &[KEPT, 104]),
-        ],
-        roots: [2000, 2011],
-        in_turn: false,
-        want: Ok(&[
-            (2000, 1, 100),
-            (2001, 1, 106),
-            (2002, 1, 108),
-            (2003, 1, 109),
-            (2011, 1, 104),
-        ]),
-    },
+    &[([2000, 1], &[KEPT, 100]), ([2001, 1], &[KEPT, 106]), ([2002, 1], &[KEPT, 108]), ([2003, 1], &[KEPT, 109]), ([2011, 1], &[KEPT, 104])],
+        [2000, 2011], false, None;
     // both name it in one view alone, whose root names both
-    Case {
-        records: &[
-            ([2000, 1], &[KEPT, 100]),
-            ([2000, 5], &[KEPT, 101]),
-            ([2000, 6], &[KEPT, 102]),
-            ([2001, 1], &[KEPT, 106]),
-            ([2002, 1], &[KEPT, 108]),
-            ([2003, 1], &[KEPT, 109]),
-        ],
-        roots: [2000, 2000],
-        in_turn: false,
-        want: Err(ReachFault::NamedTwice {
-            within: Within::Volume(0),
-            oid: 2003,
-            xid: 5,
-        }),
-    },
-];
+    &[([2000, 1], &[KEPT, 100]), ([2000, 5], &[KEPT, 101]), ([2000, 6], &[KEPT, 102]), ([2001, 1], &[KEPT, 106]), ([2002, 1], &[KEPT, 108]), ([2003, 1], &[KEPT, 109])],
+        [2000, 2000], false, Some(NamedTwice { within: Within::Volume(0), oid: 2003, xid: 5 });
+};
 
 #[test]
 fn sets_of_views_split_and_meet(rt: HostRuntime) -> Result<(), Fail> {
     let alloc = rt.alloc();
-    for case in CASES.iter() {
+    for case in CASES {
         let swept = sweep(alloc, case)?;
-        match (&swept.told, case.want) {
-            (Ok(used), Ok(want)) => {
-                assert!(rt; are_used(used, want), "{used:?} {case:?}");
-                assert_eq!(rt; swept.reads, want.len() as u64, "{case:?}");
+        match (&swept.told, case.3) {
+            (Ok(used), None) => {
+                let want = wanted(alloc, case.0)?;
+                let are_used = want.iter().all(|one| used.contains(one));
+                assert!(rt; are_used, "{used:?} {case:?}");
+                assert_eq!(rt;
+                    (used.len(), swept.reads),
+                    (want.len(), want.len() as u64),
+                    "{case:?}"
+                );
             }
-            (Err(stop), Err(fault)) => assert_eq!(rt; *stop, Stop::Found(fault), "{case:?}"),
+            (Err(stop), Some(fault)) => assert_eq!(rt; *stop, Stop::Found(fault), "{case:?}"),
             (told, _) => panic!(rt; "{told:?} {case:?}"),
         }
     }

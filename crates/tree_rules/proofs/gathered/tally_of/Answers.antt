@@ -10,20 +10,32 @@ pub returns-in-Some-clause-present : goal.returns-in-Some-clause-present
 returns-in-Some-clause-present c image volume gathered =
     let asked = c.args.asked.now in
     let seen = c.in_ok-index.index.facts.now in
-    facts_fault asked image volume c.args.gathered.now c.in-Some.fault gathered
+    facts_fault asked image volume (record { facts = c.args.facts.now; records = c.args.records }) c.in-Some.fault gathered
     (subst (λ (facts : Facts). IsShown asked facts c.in-Some.fault) c.in_ok-index.ensures
     (first-there asked seen (HasFactRules asked.profile asked.site.now asked.ranges.now seen) c.in_ok-first.first c.in-Some.fault c.in_ok-first.ensures c.in-Some.is))
+
+pub returns-clause-rules : goal.returns-clause-rules
+returns-clause-rules c =
+    let asked = c.args.asked.now in
+    let seen = c.in_ok-index.index.facts.now in
+    subst (λ (facts : Facts). HasFactRules asked.profile asked.site.now asked.ranges.now facts) c.in_ok-index.ensures
+    (first-clear asked seen (HasFactRules asked.profile asked.site.now asked.ranges.now seen) c.in_ok-first.first c.in_ok-first.ensures c.in_default.is)
+
+pub returns-clause-noted : goal.returns-clause-noted
+returns-clause-noted c =
+    let asked = c.args.asked.now in
+    c.in_ok-notes.ensures ∙ ap (λ (facts : Facts). notes_of asked.profile asked.view.now facts) c.in_ok-index.ensures
 
 pub returns-clause-clear : goal.returns-clause-clear
 returns-clause-clear c image volume gathered =
     let asked = c.args.asked.now in
     let seen = c.in_ok-index.index.facts.now in
-    facts_clear asked.profile image asked.site.now volume asked.view.now asked.ranges.now c.args.gathered.now gathered
+    facts_clear asked.profile image asked.site.now volume asked.view.now asked.ranges.now (record { facts = c.args.facts.now; records = c.args.records }) gathered
     (subst (λ (facts : Facts). HasFactRules asked.profile asked.site.now asked.ranges.now facts) c.in_ok-index.ensures
     (first-clear asked seen (HasFactRules asked.profile asked.site.now asked.ranges.now seen) c.in_ok-first.first c.in_ok-first.ensures c.in_default.is))
 
 pub returns-clause-value : goal.returns-clause-value
 returns-clause-value c image volume gathered =
     let asked = c.args.asked.now in
-    facts_tally asked.profile image asked.site.now volume asked.view.now c.args.gathered.now (record { records = c.args.gathered.now.records; notes = c.in_ok-notes.notes }) gathered refl
+    facts_tally asked.profile image asked.site.now volume asked.view.now (record { facts = c.args.facts.now; records = c.args.records }) (record { records = c.args.records; notes = c.in_ok-notes.notes }) gathered refl
     (c.in_ok-notes.ensures ∙ ap (λ (facts : Facts). notes_of asked.profile asked.view.now facts) c.in_ok-index.ensures)

@@ -10,7 +10,7 @@ returns-then-branch-clause-clear g c start image told none =
     let tree = tree_in g.K.TreeKey.shape c.args.site.now (g.N.Namer.named c.args.namer.now) image in
     let whole : c.in_ok-pass_all.field-0 ≡ true = search rules in
     let outlined = at-some c.in_ok-outline.field-0 c.in-Some.outline (IsOutlined tree c.args.root (reads c.args.src.now) (reads c.outline_of.new.src)) c.in-Some.is (c.in_ok-outline.ensures.outlined image told) in
-    c.in_ok-pass_all.ensures.taken start image c.args.root (reads c.args.src.now) (c.outline_of.ensures.kept.same_bytes ∙ told) outlined none whole
+    c.in_ok-pass_all.ensures.taken start image c.args.root (reads c.args.src.now) (c.outline_of.ensures.kept.same_bytes ∙ told) outlined (c.foresee.ensures.foreseen start c.args.site.now image none) whole
 
 pub returns-then-branch-clause-reads : goal.returns-then-branch-clause-reads
 returns-then-branch-clause-reads g c start image told none =
@@ -18,4 +18,4 @@ returns-then-branch-clause-reads g c start image told none =
     let tree = tree_in g.K.TreeKey.shape c.args.site.now (g.N.Namer.named c.args.namer.now) image in
     let whole : c.in_ok-pass_all.field-0 ≡ true = search rules in
     let outlined = at-some c.in_ok-outline.field-0 c.in-Some.outline (IsOutlined tree c.args.root (reads c.args.src.now) (reads c.outline_of.new.src)) c.in-Some.is (c.in_ok-outline.ensures.outlined image told) in
-    c.in_ok-pass_all.ensures.reads start image c.args.root (reads c.args.src.now) (c.outline_of.ensures.kept.same_bytes ∙ told) outlined none whole
+    c.in_ok-pass_all.ensures.reads start image c.args.root (reads c.args.src.now) (c.outline_of.ensures.kept.same_bytes ∙ told) outlined (c.foresee.ensures.foreseen start c.args.site.now image none) whole

@@ -1,10 +1,12 @@
-use Rattle.std.proofs.Common.{◌≡◌, ◌∙◌, [], ap, sym, subst}
+use Rattle.std.proofs.Common.{◌≡◌, ◌∙◌, ◌≤◌, ◌+◌, [], ap, sym, subst, arith}
 use Rattle.obj_base.specs.Stops.{Tells}
 use Rattle.nx_ring.specs.Checkpoint.{site_of}
 use Rattle.vol_view.specs.Features.{volume_features}
-use Rattle.vol_view.specs.Fields.{snaps_root_of}
+use Rattle.omap_map.specs.Loading.{map_nodes}
+use Rattle.vol_view.specs.Fields.{omap_oid_of, snaps_root_of}
 use Rattle.vol_view.specs.SnapRecords.{metadata_steps}
-use Rattle.vol_view.specs.Volumes.{loaded_by}
+use Rattle.vol_view.specs.ReadBound.{metadata_nodes, load_reads}
+use Rattle.vol_view.specs.Volumes.{super_of, loaded_by}
 use Rattle.vol_view.specs.LoadStops.{IsLoadStop, IsLoadFeature, IsVolumeOf}
 use Rattle.vol_view.specs.Gathered.{IsStopOfOne, IsFeatureOfOne, AreSnapshots}
 use Rattle.vol_view.proofs.Wholeness.{parts-of, agree-tells, snapshots-tell, parts-volume, made-volume, load-free}
@@ -76,6 +78,20 @@ returns-clause-clear g c image told =
     let steps = kept.steps.items in
     let taken : steps ≡ metadata_steps image site (snaps_root_of c.deref-4.result.now) = subst (λ s. steps ≡ metadata_steps image s (snaps_root_of c.deref-4.result.now)) c.site-site.ensures
     (c.in-Ok-gathered.ensures.steps image told2 ∙ ap (λ b. metadata_steps image c.site-site.result (snaps_root_of b)) (c.deref-3.ensures.value ∙ sym c.deref-4.ensures.value)) in
-    made-volume image site head c.made.result (loaded_by head c.deref-8.result.now omap steps snaps) c.made.ensures.same
+    made-volume (IsVolumeOf image site head) c.made.result (loaded_by head c.deref-8.result.now omap steps snaps) c.made.ensures.same
     (subst (λ b. IsVolumeOf image site head (loaded_by head b omap steps snaps)) (c.deref-4.ensures.value ∙ sym c.deref-8.ensures.value)
     (parts-volume image site head c.deref-4.result.now omap c.deref-5.result.now c.deref-6.result.now steps snaps parts plain c.in-Ok-agree.ensures.ok taken made))
+
+pub returns-clause-reads : goal.returns-clause-reads
+unfolding load_reads
+returns-clause-reads g c image told =
+    let site0 = c.site-site.result in
+    let site = site_of c.args.cp.now in
+    let head = c.args.head.now in
+    let told1 = c.superblock_of.ensures.kept.same_bytes ∙ told in
+    let told2 = c.volume_map.ensures.kept.same_bytes ∙ told1 in
+    let mapped = ap (λ b. map_nodes image site0 (omap_oid_of b)) (c.deref-2.ensures.value ∙ c.in-Ok.ensures.found image told) ∙ ap (λ s. map_nodes image s (omap_oid_of (super_of image s head))) c.site-site.ensures in
+    let walked = ap (λ b. metadata_nodes image site0 (snaps_root_of b)) (c.deref-3.ensures.value ∙ c.in-Ok.ensures.found image told) ∙ ap (λ s. metadata_nodes image s (snaps_root_of (super_of image s head))) c.site-site.ensures in
+    let snaps = c.in-Ok-snapshots.snaps.items in
+    made-volume (λ volume. g.S.BlockSource.reads c.snapshots.new.src ≤ g.S.BlockSource.reads c.args.src.now + load_reads image site head volume.snaps) c.made.result (loaded_by head c.deref-8.result.now c.in-Ok-volume_map.omap c.in-Ok-gathered.metadata.steps.items snaps) c.made.ensures.same
+    (omega (arith, mapped, walked, c.superblock_of.ensures.reads, c.in-Ok-volume_map.ensures.reads image told1, c.in-Ok-gathered.ensures.reads image told2, c.in-Ok-snapshots.ensures.reads))

@@ -1,7 +1,8 @@
-use Rattle.std.proofs.Common.{◌≡◌, ◌∙◌, sym, ap, subst}
+use Rattle.std.proofs.Common.{◌≡◌, ◌∙◌, sym, ap, subst, arith}
 use Rattle.obj_base.specs.Stops.{Tells}
 use Rattle.nx_block.specs.Super.{omap_oid_of}
 use Rattle.omap_map.specs.Maps.{IsMapFault, IsMapFeature}
+use Rattle.omap_map.specs.Loading.{map_nodes}
 use Rattle.nx_ring.specs.Checkpoint.{site_of}
 use Rattle.vol_view.specs.Stops.{IsHeadsStop, IsHeadsFeature}
 use Rattle.vol_view.proofs.SlotsLemmas.{raise_tells}
@@ -15,3 +16,10 @@ returns-in-Err-clause-present g c image told =
     let there = subst (λ s. Tells (IsMapFault image s c.omap_oid-block.result) (IsMapFeature image s c.omap_oid-block.result) stop) c.requires.same (c.in-Err.ensures.present image told) in
     let there2 = subst (λ b. Tells (IsMapFault image (site_of seen) b) (IsMapFeature image (site_of seen) b) stop) block there in
     subst (Tells (IsHeadsStop image seen) (IsHeadsFeature image seen)) (sym c.raise.ensures) (raise_tells image seen stop there2)
+
+pub returns-in-Ok-test-clause-reads : goal.returns-in-Ok-test-clause-reads
+returns-in-Ok-test-clause-reads g c image told =
+    let seen = c.args.cp.now in
+    let block : c.omap_oid-block.result ≡ omap_oid_of seen.nx = c.omap_oid-block.ensures ∙ ap omap_oid_of c.nx.ensures in
+    let same = ap (λ s. map_nodes image s c.omap_oid-block.result) c.requires.same ∙ ap (map_nodes image (site_of seen)) block in
+    omega (arith, same, c.in-Ok.ensures.reads image told)

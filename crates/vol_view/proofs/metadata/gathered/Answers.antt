@@ -1,8 +1,10 @@
-use Rattle.std.proofs.Common.{◌≡◌, ◌∙◌, ◌==◌, [], false, sym, ap, subst}
+use Rattle.std.proofs.Common.{◌≡◌, ◌∙◌, ◌==◌, [], false, length, if◌then◌else◌, sym, ap, subst, arith}
 use Rattle.apfs_model.proofs.BoolTests.{never-true, equal-from}
 use Rattle.obj_base.specs.Stops.{Tells}
 use Rattle.vol_view.specs.Fields.{snaps_root_of}
-use Rattle.vol_view.specs.SnapRecords.{metadata_steps}
+use Rattle.bt_cursor.specs.Met.{nodes_of}
+use Rattle.vol_view.specs.SnapRecords.{metadata_tree, metadata_steps}
+use Rattle.vol_view.specs.ReadBound.{metadata_nodes}
 use Rattle.vol_view.specs.LoadStops.{IsLoadStop, IsLoadFeature}
 use Rattle.vol_view.specs.Gathered.{HasMetadata}
 use Rattle.vol_view.proofs.LoadSteps.{no-metadata, gathered-metadata, steps-none, gathered-steps, metadata-tells}
@@ -41,3 +43,13 @@ returns-in-Err-clause-present g c image told same =
     let some : (root == 0) ≡ false = never-true (root == 0) (λ t. c.if-root-eq0.false (equal-from root 0 t)) in
     subst (Tells (IsLoadStop image site head) (IsLoadFeature image site head)) (sym c.raise.ensures)
     (metadata-tells image site head root c.in-Err.stop (c.snaps_root-root.ensures ∙ ap snaps_root_of same) some (c.in-Err.ensures.present image told))
+
+pub returns-in-Ok-clause-reads : goal.returns-in-Ok-clause-reads
+unfolding metadata_nodes
+returns-in-Ok-clause-reads g c image told =
+    let site = c.args.site.now in
+    let root = c.snaps_root-root.result in
+    let some : (root == 0) ≡ false = never-true (root == 0) (λ t. c.if-root-eq0.false (equal-from root 0 t)) in
+    let nodes = length (nodes_of (metadata_tree image site) root) in
+    let all : metadata_nodes image site (snaps_root_of c.args.bytes.now) ≡ nodes = ap (metadata_nodes image site) (sym c.snaps_root-root.ensures) ∙ ap (λ b. if b then 0 else nodes) some in
+    omega (arith, all, c.in-Ok.ensures.reads image told)

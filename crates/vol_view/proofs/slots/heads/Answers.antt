@@ -1,9 +1,10 @@
-use Rattle.std.proofs.Common.{◌≡◌, ◌∙◌, ◌<◌, ◌++◌, ℕ, sym, ap, subst, arith, below_more, option_to_list}
+use Rattle.std.proofs.Common.{◌≡◌, ◌∙◌, ◌<◌, ◌++◌, ℕ, length, length-append, sym, ap, subst, arith, below_more, option_to_list}
 use Rattle.nx_block.specs.Super.{slots}
 use Rattle.apfs_model.specs.Lists.{In}
 use Rattle.nx_ring.specs.Checkpoint.{site_of}
 use Rattle.vol_view.specs.Heads.{heads_in, heads_of}
 use Rattle.vol_view.specs.Placed.{IsPlaced}
+use Rattle.vol_view.specs.ReadBound.{heads_reads}
 use Rattle.vol_view.specs.Slots.{IsRight}
 use Rattle.vol_view.proofs.SlotsLemmas.{slot-tells, slot-found, map-plain, heads-more, right-free}
 use Rattle.vol_view.proofs.Placed.{each-more}
@@ -31,6 +32,8 @@ slots-preserved g c =
           let one = slot-found image seen c.in-Ok.omap slot head (c.in-Ok.ensures.clear image told) low (c.in-Ok-volume_in.ensures.found image (c.slots.invariant.kept.same_bytes ∙ told)) in
           below_more (λ (k : ℕ). IsRight image seen k) slot (c.slots.invariant.right image told) one.1;
       placed = each-more (IsPlaced (site_of seen)) c.slots.heads.items head _ c.in_ok-add.ensures.more c.slots.invariant.placed c.in-Ok-volume_in.ensures.placed;
+      reads = λ image told.
+          omega (arith, c.slots.invariant.reads image told, c.in-Ok-volume_in.ensures.reads, ap length c.in_ok-add.ensures.more, length-append c.slots.heads.items (option_to_list head));
       kept = record {
         same_bytes = c.in-Ok-volume_in.ensures.kept.same_bytes ∙ c.slots.invariant.kept.same_bytes;
         same_size = c.in-Ok-volume_in.ensures.kept.same_size ∙ c.slots.invariant.kept.same_size;
@@ -50,6 +53,10 @@ returns-clause-clear g c image told =
       };
       same = c.slots.invariant.found image told ∙ ap (heads_in image seen) end;
     }
+
+pub returns-clause-reads : goal.returns-clause-reads
+unfolding heads_reads
+returns-clause-reads g c image told = c.slots.invariant.reads image told
 
 pub returns-clause-each : goal.returns-clause-each
 unfolding heads_of

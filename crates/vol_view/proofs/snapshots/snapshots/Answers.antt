@@ -1,4 +1,4 @@
-use Rattle.std.proofs.Common.{◌∙◌, ◌<◌, ◌≤◌, length, subst, arith}
+use Rattle.std.proofs.Common.{◌∙◌, ◌<◌, ◌≤◌, [], ◌∷◌, length, length-append, ap, subst, arith}
 use Rattle.std.proofs.lemmas.List.{take_all}
 use Rattle.vol_view.specs.Gathered.{AreSnapshots}
 use Rattle.vol_view.proofs.Wholeness.{one-tells, item-in, snapshots-more}
@@ -17,6 +17,8 @@ records-preserved g c =
       made = λ image told.
           snapshots-more image c.args.site.now c.args.records.now c.records.told-index c.told-item.result c.records.snapshots.items c.push.new.self.items c.in-Ok.snapshot low c.told-item.is
           (c.records.invariant.made image told) (c.in-Ok.ensures.clear image (c.records.invariant.kept.same_bytes ∙ told)) c.in_ok-push.ensures.items;
+      reads =
+          omega (arith, c.records.invariant.reads, c.snapshot.ensures.reads, ap length c.in_ok-push.ensures.items, length-append c.records.snapshots.items (c.in-Ok.snapshot ∷ []));
       kept = record {
         same_bytes = c.snapshot.ensures.kept.same_bytes ∙ c.records.invariant.kept.same_bytes;
         same_size = c.snapshot.ensures.kept.same_size ∙ c.records.invariant.kept.same_size;

@@ -1,17 +1,18 @@
 // The volume of the sample container with two snapshots, and small edits of it.
 
-use super::{Edit, SUPER, made};
+use super::{Edit, SUPER, changed};
 use blk_source::{Bytes, MemSource};
 use bt_cursor::WalkFault;
 use bt_node::NodeFault;
 use fs_name::Names;
-use img_make::{Sample, sample};
+use img_make::{Sample, sample, table};
 use nx_ring::{Checkpoint, newest};
 use obj_base::{Feature, HeadFault, Stop, Within};
 use omap_map::OmapFault;
 use std::alloc::Global;
 use std::process::Abort;
 use std::test::Fail;
+use vol_view::VolStop::*;
 use vol_view::{VolStop, Volume, by_name, heads, live, load, past};
 
 // The volume's map, the root of its snapshot metadata tree, the superblock of its first snapshot, and the root of the
@@ -33,7 +34,7 @@ const NAME_2: usize = RECORD_4 - 8;
 
 fn edited(alloc: Global, edits: &[Edit], sealed: bool) -> Result<Vec<u8>, Fail> {
     let plan = sample(alloc, Sample::V)?;
-    made(alloc, &plan, edits, sealed)
+    changed(alloc, &plan, edits, sealed)
 }
 
 // The first volume of an image by its newest checkpoint, and that; a fault of the ring or of the heads is no answer of
@@ -59,32 +60,16 @@ fn assert_loaded(rt: &impl Abort, alloc: Global, edits: &[Edit]) -> Result<(), F
         panic!(rt; "there is no volume");
     };
     assert_eq!(rt; volume.names, Names::Folded);
-    assert_eq!(rt;
-        (
-            volume.root_oid,
-            volume.extents_root,
-            volume.snaps_root,
-            volume.meta_ext
-        ),
-        (1028, 55, 56, 0)
-    );
+    let roots = (volume.root_oid, volume.extents_root, volume.snaps_root);
+    assert_eq!(rt; (roots, volume.meta_ext), ((1028, 55, 56), 0));
     assert_eq!(rt; volume.snaps.len(), 2);
     let first = &volume.snaps[0];
-    assert_eq!(rt;
-        (
-            first.xid,
-            first.super_block,
-            first.extents_root,
-            first.root_oid
-        ),
-        (2, 60, 61, 1028)
-    );
+    let roots = (first.super_block, first.extents_root, first.root_oid);
+    assert_eq!(rt; (first.xid, roots), (2, (60, 61, 1028)));
     assert!(rt; first.name == Bytes::from_slice(alloc, b"s2")?);
     let last = &volume.snaps[1];
-    assert_eq!(rt;
-        (last.xid, last.super_block, last.extents_root, last.root_oid),
-        (4, 62, 63, 1028)
-    );
+    let roots = (last.super_block, last.extents_root, last.root_oid);
+    assert_eq!(rt; (last.xid, roots), (4, (62, 63, 1028)));
     let now = live(&volume, &cp);
     assert_eq!(rt; (now.slot, now.xid, now.root_oid), (0, 5, 1028));
     let before = past(&volume, 1);
@@ -100,18 +85,15 @@ fn a_volume_with_two_snapshots(rt: HostRuntime) -> Result<(), Fail> {
     let alloc = rt.alloc();
     assert_loaded(&rt, alloc, &[])?;
     // Of a snapshot's superblock neither the reserved number nor the types of its physical trees are looked at.
-    assert_loaded(
-        &rt,
-        alloc,
-        &[(FIRST, 1048, 1), (FIRST, 123, 0), (FIRST, 160, 1)],
-    )
+    let edits = [(FIRST, 1048, 1), (FIRST, 123, 0), (FIRST, 160, 1)];
+    assert_loaded(&rt, alloc, &edits)
 }
 
 #[test]
 fn the_small_volume_has_none(rt: HostRuntime) -> Result<(), Fail> {
     let alloc = rt.alloc();
     let plan = sample(alloc, Sample::S)?;
-    let Ok((volume, _)) = loaded(alloc, made(alloc, &plan, &[], true)?) else {
+    let Ok((volume, _)) = loaded(alloc, changed(alloc, &plan, &[], true)?) else {
         panic!(rt; "there is no volume");
     };
     assert_eq!(rt; volume.snaps.len(), 0);
@@ -136,91 +118,52 @@ fn assert_stop(
 #[test]
 fn what_stops_a_volume(rt: HostRuntime) -> Result<(), Fail> {
     let alloc = rt.alloc();
-    let physical = Within::Physical;
-    let faults = [
-        (
-            (SUPER, 128, 0),
-            VolStop::Unnamed {
-                within: physical,
-                oid: 0,
-            },
-        ),
-        (
-            (METADATA, RECORD_2 + 8, 0),
-            VolStop::Unnamed {
-                within: physical,
-                oid: 0,
-            },
-        ),
-        (
-            (METADATA, RECORD_2 + 52, 0x33),
-            VolStop::SnapRecord { slot: 0 },
-        ),
-        ((SUPER, 216, 3), VolStop::SnapCount { slot: 0 }),
-        (
-            (METADATA, RECORD_2 + 51, 0x33),
-            VolStop::SnapName { slot: 0 },
-        ),
-        ((METADATA, NAME_2, 4), VolStop::SnapName { slot: 0 }),
-        ((VOLUME_MAP, 36, 3), VolStop::OmapSnaps { slot: 0 }),
-        ((FIRST, 32, 0), VolStop::Magic { block: 60 }),
-    ];
-    for (edit, fault) in faults {
-        assert_stop(&rt, alloc, edit, true, Stop::Found(fault))?;
-    }
-    let why = HeadFault::BadSum;
-    assert_stop(
-        &rt,
-        alloc,
-        (FIRST, 4095, 1),
-        false,
-        Stop::Found(VolStop::Head { block: 60, why }),
-    )?;
-    let map = OmapFault::Head { block: 52, why };
-    assert_stop(
-        &rt,
-        alloc,
-        (VOLUME_MAP, 4095, 1),
-        false,
-        Stop::Found(VolStop::Omap(map)),
-    )?;
-    let why = WalkFault::Unsound {
-        block: 56,
-        why: NodeFault::Head(why),
+    let faults: &[(Edit, bool, VolStop)] = table! {
+        (SUPER, 128, 0), true, Unnamed { within: Within::Physical, oid: 0 };
+        (METADATA, RECORD_2 + 8, 0), true, Unnamed { within: Within::Physical, oid: 0 };
+        (METADATA, RECORD_2 + 52, 0x33), true, SnapRecord { slot: 0 };
+        (SUPER, 216, 3), true, SnapCount { slot: 0 };
+        (METADATA, RECORD_2 + 51, 0x33), true, SnapName { slot: 0 };
+        (METADATA, NAME_2, 4), true, SnapName { slot: 0 };
+        (VOLUME_MAP, 36, 3), true, OmapSnaps { slot: 0 };
+        (FIRST, 32, 0), true, Magic { block: 60 };
+        (FIRST, 4095, 1), false, Head { block: 60, why: HeadFault::BadSum };
+        (VOLUME_MAP, 4095, 1), false, Omap(OmapFault::Head { block: 52, why: HeadFault::BadSum });
+        (METADATA, 4000, 1), false, Walk { root: 56, why: WalkFault::Unsound { block: 56, why: NodeFault::Head(HeadFault::BadSum) } };
     };
-    assert_stop(
-        &rt,
-        alloc,
-        (METADATA, 4000, 1),
-        false,
-        Stop::Found(VolStop::Walk { root: 56, why }),
-    )
+    for (edit, sealed, fault) in faults {
+        assert_stop(&rt, alloc, *edit, *sealed, Stop::Found(*fault))?;
+    }
+    Ok(())
 }
 
 #[test]
 fn features_of_a_volume(rt: HostRuntime) -> Result<(), Fail> {
     let alloc = rt.alloc();
-    let features = [
-        ((SUPER, 160, 1), Feature::Revert, 51),
-        ((SUPER, 264, 0), Feature::Encrypted, 51),
-        ((SUPER, 1024, 1), Feature::Sealed, 51),
-        ((SUPER, 56, 3), Feature::Dataless, 51),
-        ((SUPER, 56, 0x11), Feature::Restore, 51),
-        ((SUPER, 123, 0), Feature::Storage, 51),
-        ((SUPER, 1048, 1), Feature::LaterTree, 51),
-        ((SUPER, 56, 0x41), Feature::UnknownVolume, 51),
-        (
-            (MAP_SNAPSHOTS, 4096 - 40 - 16, 1),
-            Feature::SnapshotState,
-            52,
-        ),
-        ((METADATA, RECORD_2 + 44, 2), Feature::SnapshotState, 60),
-        ((METADATA, RECORD_4 + 44, 1), Feature::Dataless, 62),
-        ((FIRST, 264, 0), Feature::Encrypted, 60),
-        ((FIRST, 56, 0x21), Feature::Sealed, 60),
-    ];
+    let features: &[(Edit, Feature, u64)] = table! {
+        (SUPER, 160, 1), Feature::Revert, 51;
+        (SUPER, 264, 0), Feature::Encrypted, 51;
+        (SUPER, 1024, 1), Feature::Sealed, 51;
+        (SUPER, 56, 3), Feature::Dataless, 51;
+        (SUPER, 56, 0x11), Feature::Restore, 51;
+        (SUPER, 123, 0), Feature::Storage, 51;
+        (SUPER, 1048, 1), Feature::LaterTree, 51;
+        (SUPER, 56, 0x41), Feature::UnknownVolume, 51;
+        (MAP_SNAPSHOTS, 4096 - 40 - 16, 1), Feature::SnapshotState, 52;
+        (METADATA, RECORD_2 + 44, 2), Feature::SnapshotState, 60;
+        (METADATA, RECORD_4 + 44, 1), Feature::Dataless, 62;
+        (FIRST, 264, 0), Feature::Encrypted, 60;
+        (FIRST, 56, 0x21), Feature::Sealed, 60;
+    };
     for (edit, feature, block) in features {
-        assert_stop(&rt, alloc, edit, true, Stop::Unsupported { feature, block })?;
+        let (feature, block) = (*feature, *block);
+        assert_stop(
+            &rt,
+            alloc,
+            *edit,
+            true,
+            Stop::Unsupported { feature, block },
+        )?;
     }
     Ok(())
 }

@@ -1,0 +1,164 @@
+// Whether a change between two views shows to be plain. What is expected was worked out by hand from the rules' words.
+use crate::tests::cases::Base::Alone;
+use crate::tests::cases::{D, F, L};
+use crate::tests::opened::{Opened, open};
+use crate::tests::trees::Rec::*;
+use crate::tests::trees::Top::Root;
+use crate::tests::trees::{
+    At, Block, Count, FILE, FOLDER, Id, In, LINK, Rec, Sibling, Size, image_of,
+};
+use blk_source::MemSource;
+use ext_ref::{Cover, NewRange};
+use img_make::table;
+use obj_base::Site;
+use rule_breaks::faults::Asked;
+use rule_changes::{is_plain, is_silent};
+use rule_index::Index;
+use std::alloc::{AllocError, Global};
+use std::test::Fail;
+use view_facts::{ViewFacts, view_facts};
+use view_rules::Profile;
+
+// The ranges that cover the blocks of extents.
+const RANGES: [NewRange; 1] = [NewRange {
+    first: 57,
+    length: 2,
+    count: 1,
+}];
+
+// The site of the containers.
+const SITE: Site = Site {
+    block_size: 4096,
+    blocks: 256,
+    max_xid: 1,
+};
+
+// How many children the root says it has, and other records.
+type Tree = (u32, &'static [Rec]);
+
+// A name, the records that stay, what is gone, what has come, and whether the change shows to be plain, and to bring no notes.
+type Change = (&'static str, &'static [Rec], Tree, Tree, (bool, bool));
+
+const A: Rec = Inode(Id(16), In(2), F, Count(1));
+
+const NAME_OF_A: Rec = Entry(In(2), Id(16), FILE, "a");
+
+const B: Rec = Inode(Id(17), In(2), F, Count(1));
+
+const NAME_OF_B: Rec = Entry(In(2), Id(17), FILE, "b");
+
+// The first name of a file with several: its entry, its link and its map.
+const TWIN_A: Rec = Twin(In(2), Id(16), FILE, Sibling(20), "a");
+
+const LINK_A: Rec = Link(Id(16), Sibling(20), In(2), "a");
+
+const MAP_A: Rec = Map(Sibling(20), Id(16));
+
+// The second one.
+const TWIN_B: Rec = Twin(In(2), Id(16), FILE, Sibling(21), "b");
+
+const LINK_B: Rec = Link(Id(16), Sibling(21), In(2), "b");
+
+const MAP_B: Rec = Map(Sibling(21), Id(16));
+
+// The file with two links, and with three.
+const TWO: Rec = Inode(Id(16), In(2), F, Count(2));
+
+const THREE: Rec = Inode(Id(16), In(2), F, Count(3));
+
+// A folder in a new folder.
+const NESTED: &[Rec] = &[
+    Inode(Id(16), In(2), D, Count(1)),
+    Inode(Id(17), In(16), D, Count(0)),
+    Entry(In(2), Id(16), FOLDER, "d"),
+    Entry(In(16), Id(17), FOLDER, "e"),
+];
+
+// Two folders, each in the other one.
+const RING: &[Rec] = &[
+    Inode(Id(16), In(17), D, Count(1)),
+    Inode(Id(17), In(16), D, Count(1)),
+    Entry(In(17), Id(16), FOLDER, "d"),
+    Entry(In(16), Id(17), FOLDER, "e"),
+];
+
+const CHANGES: &[Change] = table! {
+    "nothing", &[A, NAME_OF_A], (1, &[]), (1, &[]), (true, true);
+    "a_new_file", &[A, NAME_OF_A], (1, &[]), (2, &[B, NAME_OF_B]), (true, true);
+    "a_deleted_file", &[A, NAME_OF_A], (2, &[B, NAME_OF_B]), (1, &[]), (true, true);
+    "a_deleted_name", &[A, B, NAME_OF_A], (2, &[NAME_OF_B]), (1, &[]), (true, false);
+    "a_name_whose_file_is_gone", &[NAME_OF_A], (1, &[A]), (1, &[]), (false, true);
+    "a_root_with_fewer_entries_than_it_says", &[A, NAME_OF_A], (1, &[]), (3, &[B, NAME_OF_B]), (false, true);
+    "a_name_that_is_there_twice", &[A, NAME_OF_A], (1, &[]), (2, &[B, Entry(In(2), Id(17), FILE, "a")]), (false, true);
+    "a_name_with_another_hash", &[A, NAME_OF_A], (1, &[]), (2, &[B, Hashed(In(2), Id(17), FILE, "b")]), (false, true);
+    "a_folder_in_a_new_folder", &[], (0, &[]), (1, NESTED), (true, true);
+    "folders_in_one_another", &[], (0, &[]), (0, RING), (false, true);
+    "a_link_without_a_target", &[], (0, &[]), (1, &[Inode(Id(16), In(2), L, Count(1)), Entry(In(2), Id(16), LINK, "l")]), (false, true);
+    "an_extent_after_another", &[A, NAME_OF_A, Extent(Id(16), At(0), Size(4096), Block(57))], (1, &[]),
+        (1, &[Extent(Id(16), At(4096), Size(4096), Block(58))]), (true, true);
+    "an_extent_over_another", &[A, NAME_OF_A, Extent(Id(16), At(0), Size(8192), Block(57))], (1, &[]),
+        (1, &[Extent(Id(16), At(4096), Size(4096), Block(58))]), (false, true);
+    "an_extent_in_no_new_range", &[A, NAME_OF_A], (1, &[]), (1, &[Extent(Id(16), At(0), Size(4096), Block(59))]), (false, true);
+    "a_sibling", &[A, NAME_OF_A], (1, &[]), (1, &[MAP_A]), (false, true);
+    "a_second_name", &[], (1, &[A, NAME_OF_A]), (2, &[TWO, TWIN_A, TWIN_B, LINK_A, LINK_B, MAP_A, MAP_B]), (true, true);
+    "a_third_name", &[TWIN_A, TWIN_B, LINK_A, LINK_B, MAP_A, MAP_B], (2, &[TWO]),
+        (3, &[THREE, Twin(In(2), Id(16), FILE, Sibling(22), "c"), Link(Id(16), Sibling(22), In(2), "c"), Map(Sibling(22), Id(16))]), (true, true);
+    "a_deleted_name_of_two", &[TWIN_A, LINK_A, MAP_A], (2, &[TWO, TWIN_B, LINK_B, MAP_B]), (1, &[A]), (true, true);
+    "a_name_of_two_that_is_changed", &[TWO, TWIN_A, LINK_A, MAP_A, MAP_B], (2, &[TWIN_B, LINK_B]),
+        (2, &[Twin(In(2), Id(16), FILE, Sibling(21), "c"), Link(Id(16), Sibling(21), In(2), "c")]), (true, true);
+    "a_deleted_file_with_two_names", &[], (2, &[TWO, TWIN_A, TWIN_B, LINK_A, LINK_B, MAP_A, MAP_B]), (0, &[]), (true, true);
+    "a_second_name_beside_one_without_a_mark", &[NAME_OF_A], (1, &[A]), (2, &[TWO, TWIN_B, LINK_B, MAP_B]), (false, true);
+    "a_link_whose_entry_is_gone", &[TWIN_A, LINK_A, MAP_A, LINK_B, MAP_B], (2, &[TWO, TWIN_B]), (1, &[A]), (false, true);
+    "an_entry_whose_link_is_gone", &[TWO, TWIN_A, TWIN_B, LINK_A, MAP_A, MAP_B], (2, &[LINK_B]), (2, &[]), (false, true);
+    "a_link_whose_map_is_gone", &[TWO, TWIN_A, TWIN_B, LINK_A, LINK_B, MAP_A], (2, &[MAP_B]), (2, &[]), (false, true);
+    "a_map_whose_entry_and_link_are_gone", &[TWIN_A, LINK_A, MAP_A, MAP_B], (2, &[TWO, TWIN_B, LINK_B]), (1, &[A]), (false, true);
+};
+
+// The facts of a view of these records, with the view.
+fn gathered(alloc: Global, tree: (u32, &[Rec])) -> Result<(ViewFacts, Opened), Fail> {
+    let image = image_of(alloc, Root(tree.0), Alone, tree.1)?;
+    let mut src = MemSource::new(image, Vec::new(alloc));
+    let at = open(alloc, &mut src, 0)?;
+    match view_facts(alloc, &mut src, &at.volume, &at.view, &at.site) {
+        Ok(gathered) => Ok((gathered, at)),
+        Err(_) => Err(Fail::from("the tree isn't whole")),
+    }
+}
+
+// Some records, and more of them.
+fn joined(alloc: Global, some: &[Rec], more: &[Rec]) -> Result<Vec<Rec>, AllocError> {
+    let mut all = Vec::from_slice(alloc, some)?;
+    for record in more {
+        all.push(*record)?;
+    }
+    Ok(all)
+}
+
+// Whether a change shows to be plain, and to bring no notes.
+fn shows(alloc: Global, same: &[Rec], gone: Tree, come: Tree) -> Result<(bool, bool), Fail> {
+    let records = joined(alloc, same, come.1)?;
+    let (after, at) = gathered(alloc, (come.0, &records))?;
+    let (gone, _) = gathered(alloc, gone)?;
+    let (come, _) = gathered(alloc, come)?;
+    let asked = Asked {
+        view: &at.view,
+        site: &SITE,
+        ranges: &RANGES,
+        profile: Profile::Strict,
+    };
+    let cover = Cover::of(alloc, &RANGES)?;
+    let index = Index::new(alloc, &after.facts)?;
+    let plain = is_plain(alloc, &asked, &cover, &index, &gone.facts, &come.facts)?;
+    let silent = is_silent(alloc, &index, &gone.facts, &come.facts)?;
+    Ok((plain, silent))
+}
+
+#[test]
+fn changes_show_to_be_plain(rt: HostRuntime) -> Result<(), Fail> {
+    let alloc = rt.alloc();
+    for (name, same, gone, come, expected) in CHANGES {
+        let shown = shows(alloc, same, *gone, *come)?;
+        assert_eq!(rt; shown, *expected, "{name}");
+    }
+    Ok(())
+}

@@ -1,0 +1,25 @@
+use Rattle.std.proofs.Common.{◌≡◌, sym, subst, true}
+use Rattle.view_rules.specs.Words.{IsClear}
+use Rattle.view_rules.specs.Facts.{Facts}
+use Rattle.view_rules.specs.Names.{HasNameHashes}
+use Rattle.rule_changes.specs.Changes.{HasDistinctInodes, IsChange, IsPlainChange}
+use Rattle.rule_changes.specs.Known.{is_nameless}
+use Rattle.tree_rules.proofs.Nexts.{both-ok, changed, right-still}
+use Rattle.tree_rules.proofs.next.are_right_still.Goals as goal
+
+pub returns : goal.returns
+returns c =
+    let asked = c.args.asked.now in
+    let after = c.args.after.now in
+    let gone = c.args.gone.now in
+    let come = c.args.come.now in
+    let distinct : HasDistinctInodes after = c.are_inodes_distinct.ensures c.if-not-are_inodes_distinct.false in
+    let same_facts : c.in_ok-index.index.facts.now ≡ after = c.in_ok-index.ensures in
+    both-ok c.is_silent.result (λ right named hashed told before same had names left made.
+    let change = changed before after gone come same had.distinct distinct names left made in
+    let there = subst (λ (f : Facts). IsChange before f gone come same) (sym same_facts) change in
+    right-still asked.profile asked.site.now asked.ranges.now before after gone come same had change
+    (subst (λ (f : Facts). IsPlainChange asked.profile asked.site.now asked.ranges.now before f gone come) same_facts (c.in_ok-is_plain.ensures c.if-not-branch.false before same had.rules there))
+    (subst (λ (f : Facts). IsClear (is_nameless f) f.inodes) same_facts (named told before same there had.nameless))
+    (subst HasNameHashes same_facts (hashed told before same there had.hashes)))
+    c.is_silent.ensures.nameless c.is_silent.ensures.hashes

@@ -1,0 +1,89 @@
+-- What was found of the leaves of a view, said of the view.
+use Rattle.std.proofs.Common.{◌≡◌, ◌∙◌, ◌<◌, ℕ, suc, Bool, true, false, List, [], ◌∷◌, ◌++◌, None, length, map, filter, refl, ap, sym, subst, arith}
+use Rattle.std.specs.Prelude.{All, if◌then◌else◌}
+use Rattle.std.proofs.lemmas.List.Elements.{All-nil, All-append}
+use Rattle.apfs_model.specs.Counts.{given}
+use Rattle.apfs_model.specs.Lists.{In}
+use Rattle.apfs_model.proofs.Searches.{in-filter, in-map}
+use Rattle.obj_base.specs.declared.site.Site.{Site}
+use Rattle.bt_node.specs.Shape.{Shape}
+use Rattle.bt_node.specs.Entries.{Pair}
+use Rattle.bt_keys.specs.Shapes.{fs_shape}
+use Rattle.bt_cursor.specs.Flat.{flat_of}
+use Rattle.bt_cursor.specs.Line.{Item, line_of, is_leaf_item}
+use Rattle.bt_cursor.specs.WholeTree.{leaf_pairs}
+use Rattle.bt_cursor.proofs.Flats.{line-pairs}
+use Rattle.fs_name.specs.declared.naming.Names.{Names}
+use Rattle.fs_name.specs.Normal.{are_hashed}
+use Rattle.fs_record.specs.Facts.{refused}
+use Rattle.omap_map.proofs.Lists.{all-in}
+use Rattle.vol_view.specs.Volumes.{Loaded}
+use Rattle.vol_view.specs.Views.{hashed_tree, view_named}
+use Rattle.vol_view.specs.declared.volume.View.{View}
+use Rattle.view_rules.specs.Facts.{Facts, facts_in}
+use Rattle.view_rules.specs.Rules.{refusal_of, HasRecords}
+use Rattle.view_facts.specs.Kept.{IsGatheredView, IsWalkedView}
+use Rattle.view_facts.proofs.Walks.{walked-hashed}
+use Rattle.view_change.specs.declared.leaf.Leaf.{Leaf}
+use Rattle.view_change.specs.declared.kept.KeptLeaf.{KeptLeaf}
+use Rattle.view_change.specs.declared.kept.KeptView.{KeptView}
+use Rattle.view_change.specs.declared.changing.Changed.{Changed}
+use Rattle.view_change.specs.Leaves.{records_of, records_in}
+use Rattle.view_change.specs.Kept.{leaf_of, facts_of, facts_said, AreReadable, IsKeptLeaf, IsKeptView}
+use Rattle.view_change.specs.Changing.{IsDifference}
+use Rattle.view_change.specs.Walked.{IsTaken}
+use Rattle.view_change.specs.Difference.{IsKeptOf, gathered_of}
+
+-- the records of leaves that are kept can be read
+leaves-readable : {K : Type 0} (shape : Shape K) (site : Site) (image : List ℕ) (names : Names) (kept : List KeptLeaf) → All (IsKeptLeaf shape site image names) kept → AreReadable names (records_in shape site image (map leaf_of kept))
+leaves-readable shape site image names [] all = All-nil (λ (pair : Pair). refused names pair ≡ None)
+leaves-readable shape site image names (leaf ∷ leaves) all =
+    All-append (λ (pair : Pair). refused names pair ≡ None) (records_of shape site image leaf.leaf) (records_in shape site image (map leaf_of leaves))
+    (all 0 leaf (omega arith)).readable (leaves-readable shape site image names leaves (λ k d low. all (suc k) d (omega arith)))
+
+-- so can those of their Line
+item-readable : (names : Names) (line : List Item) (item : Item) → In item line → (b : Bool) → is_leaf_item item ≡ b → AreReadable names (leaf_pairs line) → (if b then refused names item.pair else None) ≡ None
+item-readable names line item listed true leaf all = all-in (λ (pair : Pair). refused names pair ≡ None) (leaf_pairs line) all item.pair (in-map (λ (i : Item). i.pair) (filter is_leaf_item line) item (in-filter is_leaf_item item line listed leaf))
+item-readable names line item listed false upper all = refl
+
+line-readable : (names : Names) (line : List Item) → AreReadable names (leaf_pairs line) → HasRecords names line
+unfolding refusal_of
+line-readable names line all item listed = item-readable names line item listed (is_leaf_item item) refl all
+
+-- what is kept of the leaves that were taken is what is kept of the view
+pub kept-view : (image : List ℕ) (site : Site) (volume : Loaded) (view : View) (before : Facts) (changed : Changed) (holds : List Leaf → Type 0) → are_hashed volume.names ≡ true → before.names ≡ volume.names
+    → (taken : IsTaken fs_shape site (view_named site volume view) image view.root_oid holds) → IsDifference fs_shape site image taken.leaves before changed → IsKeptOf image site volume view changed.after
+kept-view image site volume view before changed holds hashed named taken d =
+    let tree = hashed_tree image site volume view in
+    let root = view.root_oid in
+    let names : before.names ≡ volume.names = named in
+    let after : IsKeptView fs_shape site image volume.names taken.leaves changed.after = subst (λ (n : Names). IsKeptView fs_shape site image n taken.leaves changed.after) names d.after in
+    let facts : facts_of changed.after ≡ facts_said volume.names (flat_of tree root) =
+    after.kept.said ∙ (ap (λ (ls : List Leaf). facts_said volume.names (records_in fs_shape site image ls)) after.listed ∙ ap (λ (ps : List Pair). facts_said volume.names ps) (sym taken.flat)) in
+    let pairs : records_in fs_shape site image (map leaf_of changed.after.leaves.items) ≡ leaf_pairs (line_of tree root) =
+    ap (λ (ls : List Leaf). records_in fs_shape site image ls) after.listed ∙ (sym taken.flat ∙ sym (line-pairs tree root)) in
+    let readable : HasRecords volume.names (line_of tree root) =
+    line-readable volume.names (line_of tree root) (subst (AreReadable volume.names) pairs (leaves-readable fs_shape site image volume.names changed.after.leaves.items after.kept.each)) in
+    let walked : IsWalkedView false image site volume view (record { facts = facts_of changed.after; records = changed.after.records; refusal = None }) =
+    walked-hashed false image site volume view (record { facts = facts_of changed.after; records = changed.after.records; refusal = None }) hashed (record {
+      whole = taken.whole;
+      facts = facts;
+      records = after.records ∙ ap (λ (ps : List Pair). given (length ps)) (sym taken.flat);
+      refusal = readable;
+    }) in
+    record {
+      leaves = taken.leaves;
+      leaves_kept = after;
+      gathered = record {
+        walkable = walked.walkable;
+        ordered = walked.ordered;
+        counted = walked.counted;
+        readable = walked.refusal;
+        facts = walked.facts;
+        records = walked.records;
+      };
+    }
+
+-- the names of a view that is kept
+pub kept-names : (image : List ℕ) (site : Site) (names : Names) (leaves : List Leaf) (kept : KeptView) → IsKeptView fs_shape site image names leaves kept → (facts_of kept).names ≡ names
+kept-names image site names leaves kept is = ap (λ (f : Facts). f.names) is.kept.said

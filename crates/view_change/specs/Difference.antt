@@ -1,0 +1,21 @@
+-- How a view of a volume differs from the one before.
+use Rattle.std.specs.Prelude.{ℕ, List}
+use Rattle.obj_base.specs.declared.site.Site.{Site}
+use Rattle.bt_keys.specs.Shapes.{fs_shape}
+use Rattle.vol_view.specs.Volumes.{Loaded}
+use Rattle.vol_view.specs.declared.volume.View.{View}
+use Rattle.view_facts.specs.Kept.{IsGatheredView}
+use Rattle.view_facts.specs.declared.gathering.ViewFacts.{ViewFacts}
+use Rattle.view_change.specs.declared.leaf.Leaf.{Leaf}
+use Rattle.view_change.specs.declared.kept.KeptView.{KeptView}
+use Rattle.view_change.specs.Kept.{facts_of, records_kept, IsKeptView}
+
+-- the facts and the number of records of what is kept of a view
+abbrev pub gathered_of : KeptView → ViewFacts
+gathered_of kept = record { facts = facts_of kept; records = records_kept kept }
+
+-- this is what is kept of a view of a volume whose names are hashed; its tree is whole, and its records can be read
+pub record IsKeptOf (image : List ℕ) (site : Site) (volume : Loaded) (view : View) (kept : KeptView) : Type 0 where
+  pub leaves : List Leaf
+  pub leaves_kept : IsKeptView fs_shape site image volume.names leaves kept
+  pub gathered : IsGatheredView image site volume view (gathered_of kept)
