@@ -137,76 +137,58 @@ fn holding(alloc: Global, xid: u64, held: Held) -> Result<Version, AllocError> {
     in_leaves(alloc, xid, tree, LEAVES)
 }
 
-// Five snapshots by what the directory holds in each, and the transaction of the view of which a number of links is named, if one is; otherwise how
-// many views have the file.
-struct Case {
-    held: [Held; 5],
-    links: Option<u64>,
-    with_file: u64,
-}
-
 const X: Held = Held::File("x");
 
 const Y: Held = Held::File("y");
 
 const NO: Held = Held::Nothing;
 
-// The live view is that of the fifth snapshot.
-const CASES: [Case; 5] = [
-    Case {
-        held: [NO, NO, X, X, X],
-        links: None,
-        with_file: 4,
-    },
-    Case {
-        held: [X, X, NO, NO, NO],
-        links: None,
-        with_file: 2,
-    },
-    Case {
-        held: [X, X, Y, Y, Y],
-        links: None,
-        with_file: 6,
-    },
-    Case {
-        held: [X, Y, X, NO, X],
-        links: None,
-        with_file: 5,
-    },
-    Case {
-        held: [X, X, Held::TwoLinks, X, X],
-        links: Some(3),
-        with_file: 0,
-    },
+// What a check says of a volume: the records of a report without notes, or the view and the inode of which a number of links is named.
+#[derive(Clone, Copy, PartialEq, Eq, Debug)]
+enum Said {
+    Records(u64),
+    Links { xid: u64, id: u64 },
+}
+
+// Five snapshots by what the directory holds in each, and what is said of them: how many records the six views have, so many of them with the file. The live
+// view is that of the fifth snapshot.
+const CASES: [([Held; 5], Said); 5] = [
+    ([NO, NO, X, X, X], Said::Records(6 * STEADY + 2 * 4)),
+    ([X, X, NO, NO, NO], Said::Records(6 * STEADY + 2 * 2)),
+    ([X, X, Y, Y, Y], Said::Records(6 * STEADY + 2 * 6)),
+    ([X, Y, X, NO, X], Said::Records(6 * STEADY + 2 * 5)),
+    ([X, X, Held::TwoLinks, X, X], Said::Links { xid: 3, id: 31 }),
 ];
+
+// What a check says of snapshots that hold this.
+fn told(alloc: Global, held: &[Held]) -> Result<Said, Fail> {
+    let mut versions = Vec::new(alloc);
+    let mut xid = 0u64;
+    for one in held {
+        xid = xid.saturating_add(1);
+        versions.push(holding(alloc, xid, *one)?)?;
+    }
+    let mut src = source_of(alloc, versions)?;
+    match check(alloc, &mut src, Profile::Plain) {
+        Ok(report) => {
+            if !report.notes.is_empty() {
+                return Err(Fail::from("notes"));
+            }
+            Ok(Said::Records(report.records))
+        }
+        Err(Stop::Found(Fault::Links(at))) => Ok(Said::Links {
+            xid: at.xid,
+            id: at.id,
+        }),
+        Err(_) => Err(Fail::from("another fault")),
+    }
+}
 
 #[test]
 fn snapshots_that_share_leaves_are_tested(rt: HostRuntime) -> Result<(), Fail> {
-    let alloc = rt.alloc();
-    for case in &CASES {
-        let mut versions = Vec::new(alloc);
-        let mut xid = 0u64;
-        for held in &case.held {
-            xid = xid.saturating_add(1);
-            versions.push(holding(alloc, xid, *held)?)?;
-        }
-        let mut src = source_of(alloc, versions)?;
-        match check(alloc, &mut src, Profile::Plain) {
-            Ok(report) => {
-                assert!(rt; case.links.is_none(), "{:?}", case.held);
-                assert_eq!(rt;
-                    report.records,
-                    6 * STEADY + 2 * case.with_file,
-                    "{:?}",
-                    case.held
-                );
-                assert!(rt; report.notes.is_empty(), "{:?}", case.held);
-            }
-            Err(Stop::Found(Fault::Links(at))) => {
-                assert_eq!(rt; (Some(at.xid), at.id), (case.links, 31), "{:?}", case.held);
-            }
-            Err(_) => return Err(Fail::from("another fault")),
-        }
+    for (held, said) in &CASES {
+        let as_said = told(rt.alloc(), held)? == *said;
+        assert!(rt; as_said, "{held:?}");
     }
     Ok(())
 }
