@@ -37,7 +37,18 @@ use Rattle.vol_view.specs.declared.head.VolHead.{VolHead}
 use Rattle.vol_view.specs.declared.volume.View.{View}
 use Rattle.reach_rules.specs.declared.fault.Why.TheVariants.{Node}
 use Rattle.reach_rules.specs.declared.fault.ReachFault.TheVariants as sweeps
-use Rattle.reach_rules.specs.Naming.{ViewAt, LookUp, ByBlock, Newest, InBlock, OfRecord, Namer, Whole, Kept, TreeKind, MapRecords, MapSnapshots, SnapMetadata, Expected, ContainerMap, VolumeIn, VolumeMap, SnapshotSuper, TreeRoot, Naming, naming}
+use Rattle.reach_rules.specs.declared.naming.ViewAt.{ViewAt}
+use Rattle.reach_rules.specs.declared.naming.LookUp.{LookUp}
+use Rattle.reach_rules.specs.declared.naming.LookUp.TheVariants.{ByBlock}
+use Rattle.reach_rules.specs.declared.naming.Object.TheVariants.{Newest, InBlock, OfRecord}
+use Rattle.reach_rules.specs.declared.naming.Namer.{Namer}
+use Rattle.reach_rules.specs.declared.naming.Namer.TheVariants.{Whole, Kept}
+use Rattle.reach_rules.specs.declared.naming.TreeKind.{TreeKind}
+use Rattle.reach_rules.specs.declared.naming.TreeKind.TheVariants.{MapRecords, MapSnapshots, SnapMetadata}
+use Rattle.reach_rules.specs.declared.naming.Expected.{Expected}
+use Rattle.reach_rules.specs.declared.naming.Expected.TheVariants.{ContainerMap, VolumeIn, VolumeMap, SnapshotSuper, TreeRoot}
+use Rattle.reach_rules.specs.declared.naming.Naming.{Naming}
+use Rattle.reach_rules.specs.Naming.{naming}
 use Rattle.reach_rules.specs.Resolved.{Found, resolved, standing, recorded}
 use Rattle.reach_rules.specs.Tested.{Answer, tested}
 use Rattle.reach_rules.specs.Next.{names, map_namings, past_view}

@@ -17,7 +17,13 @@ use Rattle.ext_ref.specs.Stops as extents
 use Rattle.ext_ref.specs.Scanned as scanned
 use Rattle.ext_ref.specs.declared.stop.ExtStop.{ExtStop}
 use Rattle.ext_ref.specs.declared.stop.ExtStop.TheVariants as stopped
-use Rattle.reach_rules.specs.Naming.{ByBlock, Namer, Whole, Kept, ExtentRefs, SnapMetadata, TreeRoot, Naming, naming}
+use Rattle.reach_rules.specs.declared.naming.LookUp.TheVariants.{ByBlock}
+use Rattle.reach_rules.specs.declared.naming.Namer.{Namer}
+use Rattle.reach_rules.specs.declared.naming.Namer.TheVariants.{Whole, Kept}
+use Rattle.reach_rules.specs.declared.naming.TreeKind.TheVariants.{ExtentRefs, SnapMetadata}
+use Rattle.reach_rules.specs.declared.naming.Expected.TheVariants.{TreeRoot}
+use Rattle.reach_rules.specs.declared.naming.Naming.{Naming}
+use Rattle.reach_rules.specs.Naming.{naming}
 use Rattle.reach_rules.specs.Next.{unless_zero, live_view, past_view, view_namings, volume_namings, snapshots_namings, records_of_snapshots}
 use Rattle.apfs_model.proofs.Searches.{in-left, in-right, from-map, from-filter, filter-test}
 use Rattle.view_rules.specs.declared.profile.Profile.{Profile}

@@ -18,7 +18,13 @@ use Rattle.vol_view.specs.Views.{past_of, views_of, rooted_views}
 use Rattle.vol_view.specs.Agreement.{are_readable}
 use Rattle.vol_view.specs.declared.head.VolHead.{VolHead}
 use Rattle.vol_view.specs.declared.volume.View.{View}
-use Rattle.reach_rules.specs.Naming.{ViewAt, ByBlock, InBlock, Whole, Kept, SnapshotSuper, VolumeMap, Naming, naming}
+use Rattle.reach_rules.specs.declared.naming.ViewAt.{ViewAt}
+use Rattle.reach_rules.specs.declared.naming.LookUp.TheVariants.{ByBlock}
+use Rattle.reach_rules.specs.declared.naming.Object.TheVariants.{InBlock}
+use Rattle.reach_rules.specs.declared.naming.Namer.TheVariants.{Whole, Kept}
+use Rattle.reach_rules.specs.declared.naming.Expected.TheVariants.{SnapshotSuper, VolumeMap}
+use Rattle.reach_rules.specs.declared.naming.Naming.{Naming}
+use Rattle.reach_rules.specs.Naming.{naming}
 use Rattle.reach_rules.specs.Resolved.{Found, resolved, standing, found_physical}
 use Rattle.reach_rules.specs.Tested.{tested}
 use Rattle.reach_rules.specs.Next.{past_view}

@@ -28,7 +28,15 @@ use Rattle.vol_view.specs.SnapRecords.{metadata_tree}
 use Rattle.vol_view.specs.declared.stop.VolStop.TheVariants as volumes
 use Rattle.reach_rules.specs.declared.fault.Why.{Why}
 use Rattle.reach_rules.specs.declared.fault.Why.TheVariants.{Node, Magic}
-use Rattle.reach_rules.specs.Naming.{ByBlock, InBlock, Namer, Whole, MapRecords, MapSnapshots, SnapMetadata, Expected, TreeRoot, Naming, naming}
+use Rattle.reach_rules.specs.declared.naming.LookUp.TheVariants.{ByBlock}
+use Rattle.reach_rules.specs.declared.naming.Object.TheVariants.{InBlock}
+use Rattle.reach_rules.specs.declared.naming.Namer.{Namer}
+use Rattle.reach_rules.specs.declared.naming.Namer.TheVariants.{Whole}
+use Rattle.reach_rules.specs.declared.naming.TreeKind.TheVariants.{MapRecords, MapSnapshots, SnapMetadata}
+use Rattle.reach_rules.specs.declared.naming.Expected.{Expected}
+use Rattle.reach_rules.specs.declared.naming.Expected.TheVariants.{TreeRoot}
+use Rattle.reach_rules.specs.declared.naming.Naming.{Naming}
+use Rattle.reach_rules.specs.Naming.{naming}
 use Rattle.reach_rules.specs.Resolved.{Found, resolved, standing}
 use Rattle.reach_rules.specs.Tested.{Answer, of_header, with_magic, head_tested, tested}
 use Rattle.reach_rules.specs.Next.{names, map_namings}

@@ -25,7 +25,15 @@ use Rattle.vol_view.specs.Views.{live_of, past_of, rooted_views}
 use Rattle.vol_view.specs.declared.head.VolHead.{VolHead}
 use Rattle.vol_view.specs.declared.volume.View.{View}
 use Rattle.reach_rules.specs.declared.fault.Why.TheVariants.{Magic}
-use Rattle.reach_rules.specs.Naming.{ViewAt, ByBlock, ByMapping, InContainer, InView, Newest, InBlock, OfRecord, Namer, Whole, Kept, Files, ReaperObject, Jumpstart, VolumeIn, SnapshotSuper, TreeRoot, ExtentRefs, SnapMetadata, Naming, naming}
+use Rattle.reach_rules.specs.declared.naming.ViewAt.{ViewAt}
+use Rattle.reach_rules.specs.declared.naming.LookUp.TheVariants.{ByBlock, ByMapping, InContainer, InView}
+use Rattle.reach_rules.specs.declared.naming.Object.TheVariants.{Newest, InBlock, OfRecord}
+use Rattle.reach_rules.specs.declared.naming.Namer.{Namer}
+use Rattle.reach_rules.specs.declared.naming.Namer.TheVariants.{Whole, Kept}
+use Rattle.reach_rules.specs.declared.naming.TreeKind.TheVariants.{Files, ExtentRefs, SnapMetadata}
+use Rattle.reach_rules.specs.declared.naming.Expected.TheVariants.{ReaperObject, Jumpstart, VolumeIn, SnapshotSuper, TreeRoot}
+use Rattle.reach_rules.specs.declared.naming.Naming.{Naming}
+use Rattle.reach_rules.specs.Naming.{naming}
 use Rattle.reach_rules.specs.Resolved.{Found, resolved, standing, recorded}
 use Rattle.reach_rules.specs.Tested.{Answer, of_header, with_magic, tested}
 use Rattle.reach_rules.specs.Next.{roots, names, unless_zero, slot_namings, live_view, past_view, view_namings, record_namings, snapshot_namings, snapshots_namings, volume_namings, records_of_snapshots}

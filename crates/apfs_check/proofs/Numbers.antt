@@ -9,7 +9,9 @@ use Rattle.nx_ring.specs.Checkpoint.{Seen, site_of}
 use Rattle.nx_ring.specs.declared.fault.RingFault.{RingFault}
 use Rattle.space_map.specs.Marks.{is_marked}
 use Rattle.vol_view.specs.Heads.{heads_of}
-use Rattle.reach_rules.specs.Naming.{Object, Newest, Naming}
+use Rattle.reach_rules.specs.declared.naming.Object.{Object}
+use Rattle.reach_rules.specs.declared.naming.Object.TheVariants.{Newest}
+use Rattle.reach_rules.specs.declared.naming.Naming.{Naming}
 use Rattle.reach_rules.specs.Resolved.{Found, resolved}
 use Rattle.reach_rules.specs.Live.{IsLive, IsNamed, newest, named}
 use Rattle.reach_rules.specs.Tally.{IsNumberOf, IsOwnedBlock}

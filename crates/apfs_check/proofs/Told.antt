@@ -22,7 +22,9 @@ use Rattle.vol_view.specs.declared.head.VolHead.{VolHead}
 use Rattle.vol_view.specs.declared.volume.View.{View}
 use Rattle.vol_view.proofs.Maps.{named-in_image}
 use Rattle.reach_rules.specs.declared.fault.Why.TheVariants.{Node}
-use Rattle.reach_rules.specs.Naming.{ViewAt, InView, Files}
+use Rattle.reach_rules.specs.declared.naming.ViewAt.{ViewAt}
+use Rattle.reach_rules.specs.declared.naming.LookUp.TheVariants.{InView}
+use Rattle.reach_rules.specs.declared.naming.TreeKind.TheVariants.{Files}
 use Rattle.reach_rules.specs.Resolved.{found_virtual}
 use Rattle.reach_rules.specs.Features.{HasFeature}
 use Rattle.reach_rules.specs.Faults.{IsUnsound, IsUnnamed}

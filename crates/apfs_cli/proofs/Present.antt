@@ -24,7 +24,8 @@ use Rattle.space_pool.specs.declared.entry.Queue.{Queue}
 use Rattle.space_pool.specs.declared.fault.PoolFault.{PoolFault}
 use Rattle.space_pool.specs.declared.fault.PoolFault.TheVariants as pools
 use Rattle.reach_rules.specs.Features.{HasFeature}
-use Rattle.reach_rules.specs.Naming.{ByMapping, FreeQueue}
+use Rattle.reach_rules.specs.declared.naming.LookUp.TheVariants.{ByMapping}
+use Rattle.reach_rules.specs.declared.naming.TreeKind.TheVariants.{FreeQueue}
 use Rattle.reach_rules.specs.Raised.{of_space, of_pool}
 use Rattle.reach_rules.specs.declared.fault.ReachFault.TheVariants as sweeps
 use Rattle.reach_rules.proofs.QueuesLifted.{pool-present, queue-present, queue-root, queue-walk}

@@ -14,7 +14,8 @@ use Rattle.space_map.specs.Marks.{is_marked_in, is_marked, free_in}
 use Rattle.space_map.specs.Tests.{is_free_count}
 use Rattle.space_pool.specs.Bits.{first_indexes, pool_bits_of, is_pool_marked}
 use Rattle.reach_rules.specs.Faults.{lies_inside, is_of_pool}
-use Rattle.reach_rules.specs.Owners.{Owner, covers, IsOwner, IsOwned}
+use Rattle.reach_rules.specs.declared.owner.Owner.{Owner}
+use Rattle.reach_rules.specs.Owners.{covers, IsOwner, IsOwned}
 use Rattle.reach_rules.specs.PoolOwners.{IsPoolOwned}
 use Rattle.reach_rules.specs.Accounted.{IsSettled, IsPoolSettled}
 use Rattle.img_format.specs.declared.spec.Spec.{Spec}

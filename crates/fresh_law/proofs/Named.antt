@@ -10,7 +10,9 @@ use Rattle.nx_ring.specs.Checkpoint.{site_of}
 use Rattle.omap_map.specs.Maps.{map_records}
 use Rattle.omap_map.specs.declared.records.OmapRecord.{OmapRecord}
 use Rattle.vol_view.specs.Fields as volumes
-use Rattle.reach_rules.specs.Naming.{OfRecord, VolumeIn, Naming}
+use Rattle.reach_rules.specs.declared.naming.Object.TheVariants.{OfRecord}
+use Rattle.reach_rules.specs.declared.naming.Expected.TheVariants.{VolumeIn}
+use Rattle.reach_rules.specs.declared.naming.Naming.{Naming}
 use Rattle.reach_rules.specs.Resolved.{Found, resolved}
 use Rattle.reach_rules.specs.Next.{next}
 use Rattle.reach_rules.specs.Live.{rooted, led, IsLive, NamesSound}

@@ -15,7 +15,9 @@ use Rattle.space_pool.specs.Queues.{queue_tree, queue_entries, queue_entries_in,
 use Rattle.space_pool.specs.declared.entry.QueueEntry.{QueueEntry}
 use Rattle.reach_rules.specs.Resolved.{Found}
 use Rattle.reach_rules.specs.Tested.{tested}
-use Rattle.reach_rules.specs.Owners.{BlockZero, Descriptors, Checkpoints, KeyLocker, MediaLocker, InternalPool, PoolRing, Named, Recorded, Bitmap, Owner, owner, first_owners, told_from, object_owners, told_owners, told_if, owners_through, IsOwner, first, of}
+use Rattle.reach_rules.specs.declared.owner.Who.TheVariants.{BlockZero, Descriptors, Checkpoints, KeyLocker, MediaLocker, InternalPool, PoolRing, Named, Recorded, Bitmap}
+use Rattle.reach_rules.specs.declared.owner.Owner.{Owner}
+use Rattle.reach_rules.specs.Owners.{owner, first_owners, told_from, object_owners, told_owners, told_if, owners_through, IsOwner, first, of}
 use Rattle.reach_rules.specs.PoolOwners.{pool_object_owners, bitmap_owners, pool_told_owners, pool_told_if, pool_owners_through, IsPoolOwner}
 use Rattle.reach_rules.proofs.Nexts.{Each, each-in}
 use Rattle.img_format.specs.declared.spec.Spec.{Spec}

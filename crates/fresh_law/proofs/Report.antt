@@ -16,7 +16,8 @@ use Rattle.vol_view.specs.Volumes.{Loaded}
 use Rattle.vol_view.specs.Views.{views_of, view_flat}
 use Rattle.vol_view.specs.declared.head.VolHead.{VolHead}
 use Rattle.vol_view.specs.declared.volume.View.{View}
-use Rattle.reach_rules.specs.Naming.{Object, Newest, InBlock, OfId, OfRecord}
+use Rattle.reach_rules.specs.declared.naming.Object.{Object}
+use Rattle.reach_rules.specs.declared.naming.Object.TheVariants.{Newest, InBlock, OfId, OfRecord}
 use Rattle.reach_rules.specs.Resolved.{Found, resolved}
 use Rattle.reach_rules.specs.Live.{IsNamed, newest, named}
 use Rattle.reach_rules.specs.Tally.{IsObjectCount, IsOwnedBlock, IsOwnedCount}

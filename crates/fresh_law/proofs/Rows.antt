@@ -25,7 +25,18 @@ use Rattle.vol_view.specs.SnapRecords.{metadata_tree, metadata_pairs}
 use Rattle.space_map.specs.Geometry.{has_address}
 use Rattle.space_map.specs.Blocks.{address_at}
 use Rattle.space_pool.specs.Queues.{one_block}
-use Rattle.reach_rules.specs.Naming.{LookUp, ByBlock, ByMapping, InContainer, InView, Object, InBlock, OfId, OfRecord, Namer, Whole, TreeKind, MapRecords, ExtentRefs, SnapMetadata, FreeQueue, Files, Expected, SpaceManager, ContainerMap, ReaperObject, Jumpstart, VolumeIn, VolumeMap, InfoBlock, TreeRoot, Naming, naming}
+use Rattle.reach_rules.specs.declared.naming.LookUp.{LookUp}
+use Rattle.reach_rules.specs.declared.naming.LookUp.TheVariants.{ByBlock, ByMapping, InContainer, InView}
+use Rattle.reach_rules.specs.declared.naming.Object.{Object}
+use Rattle.reach_rules.specs.declared.naming.Object.TheVariants.{InBlock, OfId, OfRecord}
+use Rattle.reach_rules.specs.declared.naming.Namer.{Namer}
+use Rattle.reach_rules.specs.declared.naming.Namer.TheVariants.{Whole}
+use Rattle.reach_rules.specs.declared.naming.TreeKind.{TreeKind}
+use Rattle.reach_rules.specs.declared.naming.TreeKind.TheVariants.{MapRecords, ExtentRefs, SnapMetadata, FreeQueue, Files}
+use Rattle.reach_rules.specs.declared.naming.Expected.{Expected}
+use Rattle.reach_rules.specs.declared.naming.Expected.TheVariants.{SpaceManager, ContainerMap, ReaperObject, Jumpstart, VolumeIn, VolumeMap, InfoBlock, TreeRoot}
+use Rattle.reach_rules.specs.declared.naming.Naming.{Naming}
+use Rattle.reach_rules.specs.Naming.{naming}
 use Rattle.reach_rules.specs.Resolved.{Found, standing, found_physical, found_virtual, recorded, mapped, mapped_node, resolved}
 use Rattle.reach_rules.specs.declared.fault.Why.TheVariants.{Magic}
 use Rattle.reach_rules.specs.Tested.{Answer, of_header, of_node, node_answer, with_magic, tested}

@@ -3,7 +3,8 @@ use Rattle.std.proofs.Common.{arith, ◌≡◌, ℕ, ◌+◌, ◌<◌, ◌≤◌
 use Rattle.std.proofs.lemmas.Grind.{common_steps}
 use Rattle.std.proofs.lemmas.Bool.{cases_lt}
 use Rattle.apfs_model.specs.Lists.{In}
-use Rattle.reach_rules.specs.Owners.{Owner, covers}
+use Rattle.reach_rules.specs.declared.owner.Owner.{Owner}
+use Rattle.reach_rules.specs.Owners.{covers}
 
 -- from a place to an end, each owner begins where the one before it ends
 abbrev pub Tiles : ℕ → ℕ → List Owner → Type 0

@@ -16,7 +16,11 @@ use Rattle.ext_ref.specs.Ranges.{ext_tree}
 use Rattle.space_pool.specs.Queues.{queue_tree, ephemeral_named}
 use Rattle.space_pool.specs.declared.entry.Queue.{Queue}
 use Rattle.space_pool.specs.declared.entry.Queue.TheVariants.{Pool, Main}
-use Rattle.reach_rules.specs.Naming.{TreeKind, MapRecords, ExtentRefs, SnapMetadata, FreeQueue, Files, TreeRoot, Expected, Naming}
+use Rattle.reach_rules.specs.declared.naming.TreeKind.{TreeKind}
+use Rattle.reach_rules.specs.declared.naming.TreeKind.TheVariants.{MapRecords, ExtentRefs, SnapMetadata, FreeQueue, Files}
+use Rattle.reach_rules.specs.declared.naming.Expected.{Expected}
+use Rattle.reach_rules.specs.declared.naming.Expected.TheVariants.{TreeRoot}
+use Rattle.reach_rules.specs.declared.naming.Naming.{Naming}
 use Rattle.reach_rules.specs.Trees.{tree_line, misplaced, has_counts, is_short, IsRightTree}
 use Rattle.reach_rules.specs.Accounted.{AreInOrder}
 use Rattle.reach_rules.proofs.Nexts.{Each, each-in}

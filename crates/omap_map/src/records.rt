@@ -5,7 +5,7 @@ ghost use Rattle.std.specs.List.Sorted.{IsPartitionPoint};
 use apfs_layout::object_map;
 
 /// A record of an object map: where an object lies from a transaction on (Object Maps, `omap_key_t` and `omap_val_t`).
-#[derive(Clone, Copy, PartialEq, Eq, Debug)]
+#[derive(Clone, Copy, PartialEq, Eq, PartialOrd, Ord, Debug)]
 pub struct OmapRecord {
     pub oid: u64,
     pub xid: u64,

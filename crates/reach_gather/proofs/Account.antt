@@ -5,8 +5,12 @@ use Rattle.apfs_model.specs.Lists.{Lists}
 use Rattle.apfs_model.proofs.Searches.{in-filter, from-filter, filter-test}
 use Rattle.nx_ring.specs.Checkpoint.{Seen}
 use Rattle.omap_map.specs.declared.records.OmapRecord.{OmapRecord}
-use Rattle.reach_rules.specs.Naming.{TreeKind, Files, Expected, TreeRoot, TreeNode, ExtendedMetadata, Naming}
-use Rattle.reach_rules.specs.Owners.{Owner}
+use Rattle.reach_rules.specs.declared.naming.TreeKind.{TreeKind}
+use Rattle.reach_rules.specs.declared.naming.TreeKind.TheVariants.{Files}
+use Rattle.reach_rules.specs.declared.naming.Expected.{Expected}
+use Rattle.reach_rules.specs.declared.naming.Expected.TheVariants.{TreeRoot, TreeNode, ExtendedMetadata}
+use Rattle.reach_rules.specs.declared.naming.Naming.{Naming}
+use Rattle.reach_rules.specs.declared.owner.Owner.{Owner}
 use Rattle.reach_rules.specs.Trees.{tree_line, misplaced, has_counts, IsRightTree}
 use Rattle.reach_rules.specs.Accounted.{AreNamed, AreInOrder}
 use Rattle.reach_rules.specs.Reached.{HasBlocks}

@@ -5,7 +5,13 @@ use Rattle.apfs_model.specs.Lists.{In}
 use Rattle.apfs_model.proofs.Searches.{from-map}
 use Rattle.bt_cursor.specs.declared.step.Step.{Step}
 use Rattle.nx_ring.specs.Checkpoint.{Seen}
-use Rattle.reach_rules.specs.Naming.{ByBlock, ByMapping, Object, InBlock, OfId, TreeKind, Expected, SpaceManager, ContainerMap, ReaperObject, ReapList, Jumpstart, VolumeIn, VolumeMap, ExtendedMetadata, SnapshotSuper, AddressBlock, InfoBlock, TreeRoot, TreeNode, Naming}
+use Rattle.reach_rules.specs.declared.naming.LookUp.TheVariants.{ByBlock, ByMapping}
+use Rattle.reach_rules.specs.declared.naming.Object.{Object}
+use Rattle.reach_rules.specs.declared.naming.Object.TheVariants.{InBlock, OfId}
+use Rattle.reach_rules.specs.declared.naming.TreeKind.{TreeKind}
+use Rattle.reach_rules.specs.declared.naming.Expected.{Expected}
+use Rattle.reach_rules.specs.declared.naming.Expected.TheVariants.{SpaceManager, ContainerMap, ReaperObject, ReapList, Jumpstart, VolumeIn, VolumeMap, ExtendedMetadata, SnapshotSuper, AddressBlock, InfoBlock, TreeRoot, TreeNode}
+use Rattle.reach_rules.specs.declared.naming.Naming.{Naming}
 use Rattle.reach_rules.specs.Trees.{IsRightTree}
 use Rattle.reach_rules.specs.Owners.{owners_through, tree_owners}
 use Rattle.reach_rules.specs.PoolOwners.{pool_owners_through, pool_tree_owners}
@@ -21,14 +27,14 @@ use Rattle.reach_gather.proofs.Growing.{grew-none, grew-put, fits-more, grewby-o
 use Rattle.reach_gather.proofs.Owning.{own-block, pool-block, own-id, pool-id, OwnBlocks, grewby-blocks}
 
 -- the nodes below a root own their blocks
-pub nodes-own : (image : List ℕ) (seen : Seen) (kind : TreeKind) (root : Naming) (steps : List Step) → root.how ≡ ByBlock → AreNamingsOf image seen root (tree_namings InBlock kind root steps) → OwnBlocks image seen (map (step_naming InBlock kind root.how root.oid) steps)
+pub nodes-own : (image : List ℕ) (seen : Seen) (kind : TreeKind) (root : Naming) (steps : List Step) → root.how ≡ ByBlock → AreNamingsOf image seen root (tree_namings InBlock kind root steps) → OwnBlocks image seen (map (step_naming InBlock kind root.how) steps)
 nodes-own image seen kind root steps how are = record {
   owners = λ n h.
-      let t = from-map (step_naming InBlock kind root.how root.oid) steps n h in
+      let t = from-map (step_naming InBlock kind root.how) steps n h in
       let s : Step = t.0 in
       own-block image seen n (TreeNode kind (level_below s.level)) (are.plain n (inr h)) (ap (λ (m : Naming). m.how) t.1.1 ∙ how) (ap (λ (m : Naming). m.expected) t.1.1) refl;
   pool_owners = λ n h.
-      let t = from-map (step_naming InBlock kind root.how root.oid) steps n h in
+      let t = from-map (step_naming InBlock kind root.how) steps n h in
       let s : Step = t.0 in
       pool-block image seen n (TreeNode kind (level_below s.level)) (are.plain n (inr h)) (ap (λ (m : Naming). m.how) t.1.1 ∙ how) (ap (λ (m : Naming). m.expected) t.1.1) refl;
 }
@@ -63,7 +69,7 @@ tree-right image seen object kind root steps is right n k (inl e) at =
     let kinds : kind ≡ k = cc in
     subst (λ (m : Naming). IsRightTree image seen k m.oid) (sym e) (subst (λ x. IsRightTree image seen x root.oid) kinds right)
 tree-right image seen object kind root steps is right n k (inr h) at =
-    let t = from-map (step_naming object kind root.how root.oid) steps n h in
+    let t = from-map (step_naming object kind root.how) steps n h in
     let s : Step = t.0 in
     absurd (let none : None ≡ Some k = ap (λ (m : Naming). kind-in m.expected) (sym t.1.1) ∙ ap kind-in at in let q : ⊥ = cc in q)
 
@@ -74,12 +80,12 @@ by-block root how = ap is_in_view how
 pub tree-adds : (image : List ℕ) (seen : Seen) (kind : TreeKind) (root : Naming) (steps : List Step) (a b c : Held) → root.how ≡ ByBlock → root.expected ≡ TreeRoot kind → AreNamingsOf image seen root (tree_namings InBlock kind root steps) → IsRightTree image seen kind root.oid
     → pool_tree_owners image seen root kind ≡ []
     → b.namings ≡ a.namings ++ root ∷ [] → b.owners ≡ a.owners ++ block_owner root ∷ some_owners (tree_owners image seen root kind) → b.pool_owners ≡ a.pool_owners
-    → c.namings ≡ b.namings ++ block_steps kind root.oid steps → c.owners ≡ b.owners ++ map block_owner (block_steps kind root.oid steps) → c.pool_owners ≡ b.pool_owners
+    → c.namings ≡ b.namings ++ block_steps kind steps → c.owners ≡ b.owners ++ map block_owner (block_steps kind steps) → c.pool_owners ≡ b.pool_owners
     → Adds image seen (root ∷ []) [] a c
 tree-adds image seen kind root steps a b c how is are right pool p q r s t u =
     let plain : IsPlainNaming image seen root = are.plain root (inl refl) in
-    let nodes : List Naming = map (step_naming InBlock kind root.how root.oid) steps in
-    let same : block_steps kind root.oid steps ≡ nodes = ap (λ h. map (step_naming InBlock kind h root.oid) steps) (sym how) in
+    let nodes : List Naming = map (step_naming InBlock kind root.how) steps in
+    let same : block_steps kind steps ≡ nodes = ap (λ h. map (step_naming InBlock kind h) steps) (sym how) in
     record {
       these = root ∷ nodes;
       part = part-tree image seen root (root ∷ nodes) are;
@@ -105,14 +111,14 @@ grewby-nothing image seen ns a b own p q r = record {
   pool_owners = subst (λ xs. Grew a.pool_owners xs (IsOwnerThrough (pool_owners_through image seen) ns)) (sym r) (grew-none a.pool_owners (IsOwnerThrough (pool_owners_through image seen) ns) (λ o w. subst (λ xs. In o xs) (own.pool_owners w.naming w.one) w.owner));
 }
 
-ids-own : (image : List ℕ) (seen : Seen) (kind : TreeKind) (root : Naming) (steps : List Step) → root.how ≡ ByMapping → AreNamingsOf image seen root (tree_namings OfId kind root steps) → OwnNothing image seen (map (step_naming OfId kind root.how root.oid) steps)
+ids-own : (image : List ℕ) (seen : Seen) (kind : TreeKind) (root : Naming) (steps : List Step) → root.how ≡ ByMapping → AreNamingsOf image seen root (tree_namings OfId kind root steps) → OwnNothing image seen (map (step_naming OfId kind root.how) steps)
 ids-own image seen kind root steps how are = record {
   owners = λ n h.
-      let t = from-map (step_naming OfId kind root.how root.oid) steps n h in
+      let t = from-map (step_naming OfId kind root.how) steps n h in
       let s : Step = t.0 in
       own-id image seen n (TreeNode kind (level_below s.level)) (are.plain n (inr h)) (ap (λ (m : Naming). m.how) t.1.1 ∙ how) (ap (λ (m : Naming). m.expected) t.1.1);
   pool_owners = λ n h.
-      let t = from-map (step_naming OfId kind root.how root.oid) steps n h in
+      let t = from-map (step_naming OfId kind root.how) steps n h in
       let s : Step = t.0 in
       pool-id image seen n (TreeNode kind (level_below s.level)) (are.plain n (inr h)) (ap (λ (m : Naming). m.how) t.1.1 ∙ how) (ap (λ (m : Naming). m.expected) t.1.1);
 }
@@ -123,12 +129,12 @@ by-id root how = ap is_in_view how
 -- a tree of ephemeral nodes, from the naming of its root on: what its root tells was added with it, and then the nodes below
 pub queue-adds : (image : List ℕ) (seen : Seen) (kind : TreeKind) (root : Naming) (steps : List Step) (a b c : Held) → root.how ≡ ByMapping → root.expected ≡ TreeRoot kind → AreNamingsOf image seen root (tree_namings OfId kind root steps) → IsRightTree image seen kind root.oid
     → b.namings ≡ a.namings ++ root ∷ [] → b.owners ≡ a.owners ++ some_owners (tree_owners image seen root kind) → b.pool_owners ≡ a.pool_owners ++ some_owners (pool_tree_owners image seen root kind)
-    → c.namings ≡ b.namings ++ id_steps kind root.oid steps → c.owners ≡ b.owners → c.pool_owners ≡ b.pool_owners
+    → c.namings ≡ b.namings ++ id_steps kind steps → c.owners ≡ b.owners → c.pool_owners ≡ b.pool_owners
     → Adds image seen (root ∷ []) [] a c
 queue-adds image seen kind root steps a b c how is are right p q r s t u =
     let plain : IsPlainNaming image seen root = are.plain root (inl refl) in
-    let nodes : List Naming = map (step_naming OfId kind root.how root.oid) steps in
-    let same : id_steps kind root.oid steps ≡ nodes = ap (λ h. map (step_naming OfId kind h root.oid) steps) (sym how) in
+    let nodes : List Naming = map (step_naming OfId kind root.how) steps in
+    let same : id_steps kind steps ≡ nodes = ap (λ h. map (step_naming OfId kind h) steps) (sym how) in
     record {
       these = root ∷ nodes;
       part = part-tree image seen root (root ∷ nodes) are;

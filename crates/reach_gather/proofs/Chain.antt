@@ -8,7 +8,14 @@ use Rattle.apfs_model.specs.Apart.{Apart}
 use Rattle.apfs_model.specs.Lists.{In}
 use Rattle.apfs_model.proofs.BoolTests.{test_or, equal-from, from-equal, unequal-from, never-true}
 use Rattle.nx_ring.specs.Checkpoint.{Seen}
-use Rattle.reach_rules.specs.Naming.{ByMapping, Newest, OfId, Whole, TreeKind, TreeRoot, Expected, ReaperObject, ReapList, Naming, naming}
+use Rattle.reach_rules.specs.declared.naming.LookUp.TheVariants.{ByMapping}
+use Rattle.reach_rules.specs.declared.naming.Object.TheVariants.{Newest, OfId}
+use Rattle.reach_rules.specs.declared.naming.Namer.TheVariants.{Whole}
+use Rattle.reach_rules.specs.declared.naming.TreeKind.{TreeKind}
+use Rattle.reach_rules.specs.declared.naming.Expected.{Expected}
+use Rattle.reach_rules.specs.declared.naming.Expected.TheVariants.{TreeRoot, ReaperObject, ReapList}
+use Rattle.reach_rules.specs.declared.naming.Naming.{Naming}
+use Rattle.reach_rules.specs.Naming.{naming}
 use Rattle.reach_rules.specs.Owners.{owners_through}
 use Rattle.reach_rules.specs.PoolOwners.{pool_owners_through}
 use Rattle.reach_gather.specs.ViewParts.{is_in_view}

@@ -13,7 +13,12 @@ use Rattle.obj_base.specs.declared.stop.Stop.TheVariants as stops
 use Rattle.nx_block.specs.Reaper.{reaper_head_of, reaper_flags_of, reap_count_of, reap_next_of, is_reaping, has_reaped}
 use Rattle.nx_ring.specs.Checkpoint.{Seen, site_of}
 use Rattle.reach_rules.specs.declared.fault.ReachFault.{ReachFault}
-use Rattle.reach_rules.specs.Naming.{ByMapping, OfId, Namer, ReaperObject, ReapList, Naming, naming}
+use Rattle.reach_rules.specs.declared.naming.LookUp.TheVariants.{ByMapping}
+use Rattle.reach_rules.specs.declared.naming.Object.TheVariants.{OfId}
+use Rattle.reach_rules.specs.declared.naming.Namer.{Namer}
+use Rattle.reach_rules.specs.declared.naming.Expected.TheVariants.{ReaperObject, ReapList}
+use Rattle.reach_rules.specs.declared.naming.Naming.{Naming}
+use Rattle.reach_rules.specs.Naming.{naming}
 use Rattle.reach_rules.specs.Resolved.{Found, resolved}
 use Rattle.reach_rules.specs.Tested.{Answer, head_tested, tested}
 use Rattle.reach_rules.specs.Live.{IsLive}

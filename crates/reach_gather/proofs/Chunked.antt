@@ -18,11 +18,20 @@ use Rattle.space_map.specs.Chunks.{chunk_in, chunk_at, chunks_in}
 use Rattle.space_map.specs.Stops.{HasManager, Known, known_of, IsSpaceOf}
 use Rattle.space_map.specs.declared.chunk.Chunk.{Chunk}
 use Rattle.space_map.proofs.Places.{Shape, shape-from, cab-address, cib-address, cib-place, cib-cab, chunk-place, chunk-cib}
-use Rattle.reach_rules.specs.Naming.{ByBlock, InBlock, OfId, Whole, TreeKind, Expected, AddressBlock, InfoBlock, TreeRoot, Naming, naming}
+use Rattle.reach_rules.specs.declared.naming.LookUp.TheVariants.{ByBlock}
+use Rattle.reach_rules.specs.declared.naming.Object.TheVariants.{InBlock, OfId}
+use Rattle.reach_rules.specs.declared.naming.Namer.TheVariants.{Whole}
+use Rattle.reach_rules.specs.declared.naming.TreeKind.{TreeKind}
+use Rattle.reach_rules.specs.declared.naming.Expected.{Expected}
+use Rattle.reach_rules.specs.declared.naming.Expected.TheVariants.{AddressBlock, InfoBlock, TreeRoot}
+use Rattle.reach_rules.specs.declared.naming.Naming.{Naming}
+use Rattle.reach_rules.specs.Naming.{naming}
 use Rattle.reach_rules.specs.Trees.{IsRightTree}
 use Rattle.reach_rules.specs.Resolved.{Found}
 use Rattle.reach_rules.specs.Next.{next, address_naming, addresses_in, address_namings, is_cib_of, cibs_in, cib_naming, cab_namings}
-use Rattle.reach_rules.specs.Owners.{Owner, owner, Bitmap, tells_of_chunks, object_owners, told_owners, owners_through}
+use Rattle.reach_rules.specs.declared.owner.Who.TheVariants.{Bitmap}
+use Rattle.reach_rules.specs.declared.owner.Owner.{Owner}
+use Rattle.reach_rules.specs.Owners.{owner, tells_of_chunks, object_owners, told_owners, owners_through}
 use Rattle.reach_rules.specs.PoolOwners.{pool_object_owners, pool_told_owners, pool_owners_through, is_chunk_of, has_bitmap_in, bitmaps_in, bitmap_owner, bitmap_owners}
 use Rattle.reach_gather.specs.Namings.{IsPlainNaming}
 use Rattle.reach_gather.specs.Container.{block_namings}

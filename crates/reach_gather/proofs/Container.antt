@@ -8,7 +8,14 @@ use Rattle.nx_ring.specs.Objects.{Place}
 use Rattle.nx_ring.specs.Checkpoint.{Seen, site_of, eph}
 use Rattle.space_map.specs.Fields.{cabs_of, cibs_of}
 use Rattle.space_pool.specs.Queues.{one_block}
-use Rattle.reach_rules.specs.Naming.{ByBlock, ByMapping, InBlock, OfId, Namer, Whole, Expected, SpaceManager, AddressBlock, InfoBlock, Naming, naming}
+use Rattle.reach_rules.specs.declared.naming.LookUp.TheVariants.{ByBlock, ByMapping}
+use Rattle.reach_rules.specs.declared.naming.Object.TheVariants.{InBlock, OfId}
+use Rattle.reach_rules.specs.declared.naming.Namer.{Namer}
+use Rattle.reach_rules.specs.declared.naming.Namer.TheVariants.{Whole}
+use Rattle.reach_rules.specs.declared.naming.Expected.{Expected}
+use Rattle.reach_rules.specs.declared.naming.Expected.TheVariants.{SpaceManager, AddressBlock, InfoBlock}
+use Rattle.reach_rules.specs.declared.naming.Naming.{Naming}
+use Rattle.reach_rules.specs.Naming.{naming}
 use Rattle.reach_rules.specs.Resolved.{Found, resolved, standing, found_by, found_physical, found_ephemeral, is_node, mapped, mapped_node}
 use Rattle.reach_rules.specs.Tested.{Answer, tested}
 use Rattle.reach_rules.specs.Next.{names, next, address_naming, addresses_in, address_namings}

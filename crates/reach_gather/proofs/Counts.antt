@@ -10,7 +10,12 @@ use Rattle.nx_ring.specs.Objects.{Place}
 use Rattle.omap_map.specs.Maps.{resolved_in}
 use Rattle.omap_map.specs.declared.records.OmapRecord.{OmapRecord}
 use Rattle.space_pool.specs.Queues.{one_block}
-use Rattle.reach_rules.specs.Naming.{LookUp, ByBlock, ByMapping, InContainer, InView, Object, Newest, InBlock, OfId, OfRecord, Expected, Naming}
+use Rattle.reach_rules.specs.declared.naming.LookUp.{LookUp}
+use Rattle.reach_rules.specs.declared.naming.LookUp.TheVariants.{ByBlock, ByMapping, InContainer, InView}
+use Rattle.reach_rules.specs.declared.naming.Object.{Object}
+use Rattle.reach_rules.specs.declared.naming.Object.TheVariants.{Newest, InBlock, OfId, OfRecord}
+use Rattle.reach_rules.specs.declared.naming.Expected.{Expected}
+use Rattle.reach_rules.specs.declared.naming.Naming.{Naming}
 use Rattle.reach_rules.specs.Resolved.{Found, resolved, found_by, found_virtual, recorded, standing, mapped, mapped_node, is_node}
 use Rattle.reach_rules.specs.Tally.{IsNumberOf}
 use Rattle.reach_rules.proofs.Looks.{standing-by}

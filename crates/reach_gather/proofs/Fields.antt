@@ -6,7 +6,16 @@ use Rattle.apfs_model.proofs.BoolTests.{test_or, equal-from, from-equal}
 use Rattle.nx_ring.specs.Checkpoint.{Seen, site_of}
 use Rattle.omap_map.specs.Fields as maps
 use Rattle.omap_map.specs.Maps.{map_in}
-use Rattle.reach_rules.specs.Naming.{LookUp, ByBlock, InBlock, Namer, Whole, MapRecords, MapSnapshots, Expected, ContainerMap, VolumeMap, TreeRoot, Naming, naming}
+use Rattle.reach_rules.specs.declared.naming.LookUp.{LookUp}
+use Rattle.reach_rules.specs.declared.naming.LookUp.TheVariants.{ByBlock}
+use Rattle.reach_rules.specs.declared.naming.Object.TheVariants.{InBlock}
+use Rattle.reach_rules.specs.declared.naming.Namer.{Namer}
+use Rattle.reach_rules.specs.declared.naming.Namer.TheVariants.{Whole}
+use Rattle.reach_rules.specs.declared.naming.TreeKind.TheVariants.{MapRecords, MapSnapshots}
+use Rattle.reach_rules.specs.declared.naming.Expected.{Expected}
+use Rattle.reach_rules.specs.declared.naming.Expected.TheVariants.{ContainerMap, VolumeMap, TreeRoot}
+use Rattle.reach_rules.specs.declared.naming.Naming.{Naming}
+use Rattle.reach_rules.specs.Naming.{naming}
 use Rattle.reach_rules.specs.Next.{next, unless_zero}
 use Rattle.reach_rules.specs.Live.{IsLive, led}
 use Rattle.reach_rules.specs.Owners.{owners_through}

@@ -5,10 +5,13 @@ use Rattle.apfs_model.specs.Lists.{In}
 use Rattle.apfs_model.proofs.BoolTests.{not-true, false-not}
 use Rattle.apfs_model.proofs.Searches.{in-left, in-right, in-append, in-filter, from-filter, filter-test}
 use Rattle.nx_ring.specs.Checkpoint.{Seen}
-use Rattle.reach_rules.specs.Naming.{TreeKind, TreeRoot, Naming}
+use Rattle.reach_rules.specs.declared.naming.TreeKind.{TreeKind}
+use Rattle.reach_rules.specs.declared.naming.Expected.TheVariants.{TreeRoot}
+use Rattle.reach_rules.specs.declared.naming.Naming.{Naming}
 use Rattle.reach_rules.specs.Trees.{IsRightTree}
 use Rattle.reach_rules.specs.Next.{next}
-use Rattle.reach_rules.specs.Owners.{Owner, owners_through}
+use Rattle.reach_rules.specs.declared.owner.Owner.{Owner}
+use Rattle.reach_rules.specs.Owners.{owners_through}
 use Rattle.reach_rules.specs.PoolOwners.{pool_owners_through}
 use Rattle.reach_gather.specs.Namings.{IsPlainNaming}
 use Rattle.reach_gather.specs.Account.{AreRightTrees}

@@ -9,9 +9,15 @@ use Rattle.apfs_model.proofs.Finite.{apart-range}
 use Rattle.apfs_model.proofs.Searches.{in-append, from-map}
 use Rattle.space_map.specs.Fields.{cabs_of, cibs_of, addresses_of}
 use Rattle.space_map.specs.Stops.{Known}
-use Rattle.reach_rules.specs.Naming.{ByBlock, InBlock, OfId, Whole, Expected, AddressBlock, InfoBlock, Naming, naming}
+use Rattle.reach_rules.specs.declared.naming.LookUp.TheVariants.{ByBlock}
+use Rattle.reach_rules.specs.declared.naming.Object.TheVariants.{InBlock, OfId}
+use Rattle.reach_rules.specs.declared.naming.Namer.TheVariants.{Whole}
+use Rattle.reach_rules.specs.declared.naming.Expected.{Expected}
+use Rattle.reach_rules.specs.declared.naming.Expected.TheVariants.{AddressBlock, InfoBlock}
+use Rattle.reach_rules.specs.declared.naming.Naming.{Naming}
+use Rattle.reach_rules.specs.Naming.{naming}
 use Rattle.reach_gather.specs.Infos.{room_of, known_cab, known_cib, known_cabs, known_cibs}
-use Rattle.reach_gather.proofs.Backs.{apart_map}
+use Rattle.reach_gather.proofs.Finishes.{apart_map}
 
 apart-both : {X : Type 0} (xs ys : List X) → Apart xs → Apart ys → ((x : X) → In x xs → In x ys → ⊥) → Apart (xs ++ ys)
 apart-both [] ys a b out = b

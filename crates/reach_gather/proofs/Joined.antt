@@ -5,7 +5,11 @@ use Rattle.apfs_model.specs.Apart.{Apart}
 use Rattle.apfs_model.specs.Lists.{In, Lists}
 use Rattle.apfs_model.proofs.Searches.{in-left, in-right, in-append}
 use Rattle.nx_ring.specs.Checkpoint.{Seen}
-use Rattle.reach_rules.specs.Naming.{LookUp, Namer, Expected, Naming, naming}
+use Rattle.reach_rules.specs.declared.naming.LookUp.{LookUp}
+use Rattle.reach_rules.specs.declared.naming.Namer.{Namer}
+use Rattle.reach_rules.specs.declared.naming.Expected.{Expected}
+use Rattle.reach_rules.specs.declared.naming.Naming.{Naming}
+use Rattle.reach_rules.specs.Naming.{naming}
 use Rattle.reach_rules.specs.Next.{next, unless_zero}
 use Rattle.reach_rules.specs.Live.{Live, rooted, led}
 use Rattle.reach_rules.proofs.Lives.{live-left, live-right, live-append, live-unroll, live-roll}

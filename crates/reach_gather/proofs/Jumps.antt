@@ -23,7 +23,12 @@ use Rattle.nx_ring.specs.Checkpoint.{Seen, site_of}
 use Rattle.reach_rules.specs.declared.fault.Why.TheVariants.{Magic}
 use Rattle.reach_rules.specs.declared.fault.ReachFault.{ReachFault}
 use Rattle.reach_rules.specs.declared.fault.ReachFault.TheVariants.{Unsound, Unnamed}
-use Rattle.reach_rules.specs.Naming.{ByBlock, ByMapping, Newest, InBlock, Whole, ReaperObject, Jumpstart, Naming, naming}
+use Rattle.reach_rules.specs.declared.naming.LookUp.TheVariants.{ByBlock, ByMapping}
+use Rattle.reach_rules.specs.declared.naming.Object.TheVariants.{Newest, InBlock}
+use Rattle.reach_rules.specs.declared.naming.Namer.TheVariants.{Whole}
+use Rattle.reach_rules.specs.declared.naming.Expected.TheVariants.{ReaperObject, Jumpstart}
+use Rattle.reach_rules.specs.declared.naming.Naming.{Naming}
+use Rattle.reach_rules.specs.Naming.{naming}
 use Rattle.reach_rules.specs.Resolved.{Found, resolved, found_physical, standing}
 use Rattle.reach_rules.specs.Tested.{of_header, head_tested, with_magic, tested}
 use Rattle.reach_rules.specs.Next.{roots, next, unless_zero}

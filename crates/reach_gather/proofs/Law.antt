@@ -23,7 +23,15 @@ use Rattle.bt_cursor.specs.declared.step.Step.{Step}
 use Rattle.bt_cursor.specs.Line.{Item, item_at, entries_of, line_part}
 use Rattle.bt_cursor.specs.Steps.{step_in, steps_in, steps_of}
 use Rattle.nx_ring.specs.Checkpoint.{Seen, site_of}
-use Rattle.reach_rules.specs.Naming.{LookUp, Object, Namer, Whole, TreeKind, Expected, TreeRoot, TreeNode, Naming, naming}
+use Rattle.reach_rules.specs.declared.naming.LookUp.{LookUp}
+use Rattle.reach_rules.specs.declared.naming.Object.{Object}
+use Rattle.reach_rules.specs.declared.naming.Namer.{Namer}
+use Rattle.reach_rules.specs.declared.naming.Namer.TheVariants.{Whole}
+use Rattle.reach_rules.specs.declared.naming.TreeKind.{TreeKind}
+use Rattle.reach_rules.specs.declared.naming.Expected.{Expected}
+use Rattle.reach_rules.specs.declared.naming.Expected.TheVariants.{TreeRoot, TreeNode}
+use Rattle.reach_rules.specs.declared.naming.Naming.{Naming}
+use Rattle.reach_rules.specs.Naming.{naming}
 use Rattle.reach_rules.specs.Resolved.{Found, resolved, found_by, is_node}
 use Rattle.reach_rules.specs.Tested.{Answer, of_node, node_answer, node_tested, tested}
 use Rattle.reach_rules.specs.Next.{names, names_if, next, children_in, child_namings, node_namings}
@@ -188,51 +196,51 @@ one-step : (oid i level : ℕ) (pair : Pair) → step_in (item_at oid i (suc lev
 one-step oid i level pair = ap (λ (b : Bool). if b then [] else record { node = oid; at = i; level = suc level; child = child_in pair } ∷ []) (no-leaf level)
 
 -- what is live from the namings of a node's entries are those of the steps there
-abbrev EntriesLive : {K : Type 0} → List ℕ → Seen → TreeKind → LookUp → (ℕ → Object) → Tree K → ℕ → ℕ → Type 0
-EntriesLive image seen kind how object tree root level =
+abbrev EntriesLive : {K : Type 0} → List ℕ → Seen → TreeKind → LookUp → (ℕ → Object) → Tree K → ℕ → Type 0
+EntriesLive image seen kind how object tree level =
     (oid : ℕ) (at : ℕ → Pair) (i n : ℕ)
-    → AreAllFrom (next image seen) (kids_of (Whole (object oid)) kind how level i (map child_in (map at (range_with_len i n)))) (map (step_naming object kind how root) (steps_in (flat_map (line_part tree level oid) (map (λ k. (k, at k)) (range_with_len i n)))))
+    → AreAllFrom (next image seen) (kids_of (Whole (object oid)) kind how level i (map child_in (map at (range_with_len i n)))) (map (step_naming object kind how) (steps_in (flat_map (line_part tree level oid) (map (λ k. (k, at k)) (range_with_len i n)))))
 
 -- the items under a place
 abbrev under : {K : Type 0} → Tree K → ℕ → NodeAt → List Item
 under tree level at = through (node_at tree at) (λ node. flat_map (line_part tree level at.oid) (entries_of tree.shape node))
 
 -- of a child
-child-lives : {K : Type 0} (image : List ℕ) (seen : Seen) (kind : TreeKind) (how : LookUp) (object : ℕ → Object) (shape : Shape K) (named : ℕ → Option ℕ) (root level : ℕ) (pair : Pair) (n : Naming) →
-    IsTreeOf image seen kind how object shape named → EntriesLive image seen kind how object (tree_in shape (site_of seen) named image) root level →
+child-lives : {K : Type 0} (image : List ℕ) (seen : Seen) (kind : TreeKind) (how : LookUp) (object : ℕ → Object) (shape : Shape K) (named : ℕ → Option ℕ) (level : ℕ) (pair : Pair) (n : Naming) →
+    IsTreeOf image seen kind how object shape named → EntriesLive image seen kind how object (tree_in shape (site_of seen) named image) level →
     n.expected ≡ TreeNode kind level → Sees image seen object shape named (child_place level pair) n → IsAt kind how (child_place level pair) n →
-    AreAllFrom (next image seen) (next image seen n) (map (step_naming object kind how root) (steps_in (under (tree_in shape (site_of seen) named image) level (child_place level pair))))
-child-lives {K} image seen kind how object shape named root level pair n tree rec e (inl h) is =
+    AreAllFrom (next image seen) (next image seen n) (map (step_naming object kind how) (steps_in (under (tree_in shape (site_of seen) named image) level (child_place level pair))))
+child-lives {K} image seen kind how object shape named level pair n tree rec e (inl h) is =
     let t : Tree K = tree_in shape (site_of seen) named image in
     let at : NodeAt = child_place level pair in
     let all = rec (child_in pair) (pair_of shape h.node) 0 (count_of h.node) in
-    subst (λ ns. AreAllFrom (next image seen) ns (map (step_naming object kind how root) (steps_in (under t level at)))) (sym (next-child image seen kind how object shape named at n level tree is e h))
-    (subst (λ o. AreAllFrom (next image seen) (kids_of (Whole (object at.oid)) kind how level 0 (map child_in (pairs_of shape h.node))) (map (step_naming object kind how root) (steps_in (through (value_of o) (λ node. flat_map (line_part t level at.oid) (entries_of shape node)))))) (sym h.look) all)
-child-lives {K} image seen kind how object shape named root level pair n tree rec e (inr h) is =
+    subst (λ ns. AreAllFrom (next image seen) ns (map (step_naming object kind how) (steps_in (under t level at)))) (sym (next-child image seen kind how object shape named at n level tree is e h))
+    (subst (λ o. AreAllFrom (next image seen) (kids_of (Whole (object at.oid)) kind how level 0 (map child_in (pairs_of shape h.node))) (map (step_naming object kind how) (steps_in (through (value_of o) (λ node. flat_map (line_part t level at.oid) (entries_of shape node)))))) (sym h.look) all)
+child-lives {K} image seen kind how object shape named level pair n tree rec e (inr h) is =
     let t : Tree K = tree_in shape (site_of seen) named image in
     let at : NodeAt = child_place level pair in
-    subst (λ ns. AreAllFrom (next image seen) ns (map (step_naming object kind how root) (steps_in (under t level at)))) (sym h.leads)
-    (subst (λ o. AreAllFrom (next image seen) [] (map (step_naming object kind how root) (steps_in (through (value_of o) (λ node. flat_map (line_part t level at.oid) (entries_of shape node)))))) (sym h.look) (all-none (next image seen)))
+    subst (λ ns. AreAllFrom (next image seen) ns (map (step_naming object kind how) (steps_in (under t level at)))) (sym h.leads)
+    (subst (λ o. AreAllFrom (next image seen) [] (map (step_naming object kind how) (steps_in (through (value_of o) (λ node. flat_map (line_part t level at.oid) (entries_of shape node)))))) (sym h.look) (all-none (next image seen)))
 
-entries-live : {K : Type 0} (image : List ℕ) (seen : Seen) (kind : TreeKind) (how : LookUp) (object : ℕ → Object) (shape : Shape K) (named : ℕ → Option ℕ) → IsTreeOf image seen kind how object shape named → (root level : ℕ) →
-    EntriesLive image seen kind how object (tree_in shape (site_of seen) named image) root level
-entries-live {K} image seen kind how object shape named tree root zero oid at i n =
-    subst (λ steps. AreAllFrom (next image seen) [] (map (step_naming object kind how root) steps)) (sym (no-steps (tree_in shape (site_of seen) named image) oid at (range_with_len i n))) (all-none (next image seen))
-entries-live image seen kind how object shape named tree root (suc level) oid at i zero = all-none (next image seen)
-entries-live {K} image seen kind how object shape named tree root (suc level) oid at i (suc n) =
+entries-live : {K : Type 0} (image : List ℕ) (seen : Seen) (kind : TreeKind) (how : LookUp) (object : ℕ → Object) (shape : Shape K) (named : ℕ → Option ℕ) → IsTreeOf image seen kind how object shape named → (level : ℕ) →
+    EntriesLive image seen kind how object (tree_in shape (site_of seen) named image) level
+entries-live {K} image seen kind how object shape named tree zero oid at i n =
+    subst (λ steps. AreAllFrom (next image seen) [] (map (step_naming object kind how) steps)) (sym (no-steps (tree_in shape (site_of seen) named image) oid at (range_with_len i n))) (all-none (next image seen))
+entries-live image seen kind how object shape named tree (suc level) oid at i zero = all-none (next image seen)
+entries-live {K} image seen kind how object shape named tree (suc level) oid at i (suc n) =
     let t : Tree K = tree_in shape (site_of seen) named image in
     let pair : Pair = at i in
     let place : NodeAt = child_place level pair in
     let me : Namer = Whole (object oid) in
-    let f : Step → Naming = step_naming object kind how root in
+    let f : Step → Naming = step_naming object kind how in
     let m : Naming = naming me i (TreeNode kind level) how (child_in pair) in
     let is : IsAt kind how place m = record { how_is = refl; oid_is = refl; expects = inr (level, (pair, (refl, refl))) } in
     let below : List Item = under t level place in
     let others : List Item = flat_map (line_part t (suc level) oid) (map (λ k. (k, at k)) (range_with_len (i + 1) n)) in
     let kids : List ℕ = map child_in (map at (range_with_len (i + 1) n)) in
-    let child = child-lives image seen kind how object shape named root level pair m tree (entries-live image seen kind how object shape named tree root level) refl (sees image seen kind how object shape named place m tree is) is in
+    let child = child-lives image seen kind how object shape named level pair m tree (entries-live image seen kind how object shape named tree level) refl (sees image seen kind how object shape named place m tree is) is in
     let add : i + 1 ≡ suc i = omega arith in
-    let more = subst (λ k. AreAllFrom (next image seen) (child_namings me kind how level k kids) (map f (steps_in others))) add (entries-live image seen kind how object shape named tree root (suc level) oid at (i + 1) n) in
+    let more = subst (λ k. AreAllFrom (next image seen) (child_namings me kind how level k kids) (map f (steps_in others))) add (entries-live image seen kind how object shape named tree (suc level) oid at (i + 1) n) in
     let all : map f (step_in (item_at oid i (suc level) pair) ++ steps_in (below ++ others)) ≡ m ∷ (map f (steps_in below) ++ map f (steps_in others)) =
     ap (λ ss. map f (ss ++ steps_in (below ++ others))) (one-step oid i level pair) ∙ ap (λ ns. m ∷ ns) (ap (map f) (flat_map-append step_in below others) ∙ map-append f (steps_in below) (steps_in others)) in
     subst (AreAllFrom (next image seen) (m ∷ child_namings me kind how level (suc i) kids)) (sym all)
@@ -240,17 +248,17 @@ entries-live {K} image seen kind how object shape named tree root (suc level) oi
 
 root-lives : {K : Type 0} (image : List ℕ) (seen : Seen) (kind : TreeKind) (object : ℕ → Object) (shape : Shape K) (named : ℕ → Option ℕ) (n : Naming) → IsTreeOf image seen kind n.how object shape named → n.expected ≡ TreeRoot kind →
     IsAt kind n.how (root_place n.oid) n → Sees image seen object shape named (root_place n.oid) n →
-    AreAllFrom (next image seen) (next image seen n) (map (step_naming object kind n.how n.oid) (steps_of (tree_in shape (site_of seen) named image) n.oid))
+    AreAllFrom (next image seen) (next image seen n) (map (step_naming object kind n.how) (steps_of (tree_in shape (site_of seen) named image) n.oid))
 root-lives {K} image seen kind object shape named n tree e is (inl h) =
     let t : Tree K = tree_in shape (site_of seen) named image in
     let at : NodeAt = root_place n.oid in
-    let f : Step → Naming = step_naming object kind n.how n.oid in
-    let all = entries-live image seen kind n.how object shape named tree n.oid (level_of h.node) n.oid (pair_of shape h.node) 0 (count_of h.node) in
+    let f : Step → Naming = step_naming object kind n.how in
+    let all = entries-live image seen kind n.how object shape named tree (level_of h.node) n.oid (pair_of shape h.node) 0 (count_of h.node) in
     subst (λ ns. AreAllFrom (next image seen) ns (map f (steps_of t n.oid))) (sym (next-root image seen kind n.how object shape named at n tree is e h))
     (subst (λ o. AreAllFrom (next image seen) (kids_of (Whole (object at.oid)) kind n.how (level_of h.node) 0 (map child_in (pairs_of shape h.node))) (map f (steps_in (through (value_of o) (λ node. flat_map (line_part t (level_of node) n.oid) (entries_of shape node)))))) (sym h.look) all)
 root-lives {K} image seen kind object shape named n tree e is (inr h) =
     let t : Tree K = tree_in shape (site_of seen) named image in
-    let f : Step → Naming = step_naming object kind n.how n.oid in
+    let f : Step → Naming = step_naming object kind n.how in
     subst (λ ns. AreAllFrom (next image seen) ns (map f (steps_of t n.oid))) (sym h.leads)
     (subst (λ o. AreAllFrom (next image seen) [] (map f (steps_in (through (value_of o) (λ node. flat_map (line_part t (level_of node) n.oid) (entries_of shape node)))))) (sym h.look) (all-none (next image seen)))
 
@@ -260,5 +268,5 @@ pub tree-lives : {K : Type 0} (image : List ℕ) (seen : Seen) (kind : TreeKind)
 tree-lives {K} image seen kind object shape named n tree e =
     let at : NodeAt = root_place n.oid in
     let is : IsAt kind n.how at n = record { how_is = refl; oid_is = refl; expects = inl (e, refl) } in
-    all-by (next image seen) n (map (step_naming object kind n.how n.oid) (steps_of (tree_in shape (site_of seen) named image) n.oid))
+    all-by (next image seen) n (map (step_naming object kind n.how) (steps_of (tree_in shape (site_of seen) named image) n.oid))
     (root-lives image seen kind object shape named n tree e is (sees image seen kind n.how object shape named at n tree is))

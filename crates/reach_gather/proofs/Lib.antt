@@ -2,6 +2,7 @@ pub mod Growing
 pub mod Owning
 pub mod Branches
 pub mod Telling
+pub mod Kepts
 pub mod Told
 pub mod Fields
 pub mod Mapped
@@ -15,7 +16,6 @@ pub mod Chain
 pub mod Started
 pub mod Pasts
 pub mod Slots
-pub mod Backs
 pub mod Ties
 pub mod Finishes
 pub mod Rising

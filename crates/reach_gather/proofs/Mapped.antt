@@ -12,9 +12,17 @@ use Rattle.nx_ring.specs.Checkpoint.{Seen, site_of}
 use Rattle.omap_map.specs.Fields as maps
 use Rattle.omap_map.specs.Maps.{Contents, contents_of, map_in, record_tree, snapshot_tree, has_no_snapshots, is_whole_map, map_steps, map_snap_steps}
 use Rattle.omap_map.specs.Loading.{map_nodes, IsLoaded}
-use Rattle.reach_rules.specs.Naming.{ByBlock, InBlock, Whole, TreeKind, MapRecords, MapSnapshots, SnapMetadata, TreeRoot, Naming}
+use Rattle.reach_rules.specs.declared.naming.LookUp.TheVariants.{ByBlock}
+use Rattle.reach_rules.specs.declared.naming.Object.TheVariants.{InBlock}
+use Rattle.reach_rules.specs.declared.naming.Namer.TheVariants.{Whole}
+use Rattle.reach_rules.specs.declared.naming.TreeKind.{TreeKind}
+use Rattle.reach_rules.specs.declared.naming.TreeKind.TheVariants.{MapRecords, MapSnapshots, SnapMetadata}
+use Rattle.reach_rules.specs.declared.naming.Expected.TheVariants.{TreeRoot}
+use Rattle.reach_rules.specs.declared.naming.Naming.{Naming}
+use Rattle.reach_rules.specs.Naming.{naming}
 use Rattle.reach_rules.specs.Next.{unless_zero}
-use Rattle.reach_rules.specs.Owners.{Owner, owners_through, tree_owners}
+use Rattle.reach_rules.specs.declared.owner.Owner.{Owner}
+use Rattle.reach_rules.specs.Owners.{owners_through, tree_owners}
 use Rattle.reach_rules.specs.PoolOwners.{pool_owners_through, pool_tree_owners}
 use Rattle.reach_rules.specs.Trees.{IsRightTree}
 use Rattle.reach_gather.specs.Namings.{tree_steps, step_naming, tree_namings, IsPlainNaming, AreNamingsOf}
@@ -30,14 +38,7 @@ use Rattle.reach_gather.proofs.VolumeLemmas.MapParts.{records-whole, snapshots-w
 use Rattle.reach_gather.specs.Held.{Held}
 use Rattle.reach_gather.specs.Adds.{Adds}
 use Rattle.reach_gather.specs.Mapped.{records_root, snapshots_root, past_namings, loaded_namings}
-use Rattle.reach_gather.specs.Named.{naming_of}
 use Rattle.reach_gather.specs.Steps.{block_steps, node_namings, block_owner}
-use Rattle.reach_gather.specs.declared.naming.By.TheVariants as looks
-use Rattle.reach_gather.specs.declared.naming.Expects.TheVariants as expects
-use Rattle.reach_gather.specs.declared.naming.Named.{Named}
-use Rattle.reach_gather.specs.declared.naming.NamedBy.TheVariants as namers
-use Rattle.reach_gather.specs.declared.naming.Tree.{Tree}
-use Rattle.reach_gather.specs.declared.naming.Tree.TheVariants as trees
 use Rattle.reach_gather.proofs.Branches.{nodes-own, root-owners, root-pool, tree-right, by-block}
 use Rattle.reach_gather.proofs.Fields.{unless-by, unless-not, not-zero, adds-zero, adds-some, map-adds}
 use Rattle.reach_gather.proofs.Owning.{OwnBlocks, grewby-blocks}
@@ -66,7 +67,7 @@ pub nodes-add : (image : List ℕ) (seen : Seen) (kind : TreeKind) (root : Namin
     → Adds image seen (root ∷ []) [] a b
 nodes-add image seen kind root steps a b how is are right none pool p q r =
     let these : List Naming = tree_namings InBlock kind root steps in
-    let same : node_namings kind root steps ≡ these = ap (λ h. root ∷ map (step_naming InBlock kind h root.oid) steps) (sym how) in
+    let same : node_namings kind root steps ≡ these = ap (λ h. root ∷ map (step_naming InBlock kind h) steps) (sym how) in
     record {
       these = these;
       part = part-tree image seen root these are;
@@ -164,23 +165,23 @@ loaded-noted n contents a b c d p q r =
     r ∙ (ap (λ xs. xs ++ past) (q ∙ ap (λ xs. xs ++ records) p) ∙ (ap (λ xs. xs ++ past) (append_assoc a (n ∷ []) records) ∙ append_assoc a (n ∷ records) past))
 
 -- ---- as they are noted
-pub nodes-noted : (kind : TreeKind) (root : Naming) (steps : List Step) (a b c : List Naming) → b ≡ a ++ root ∷ [] → c ≡ b ++ block_steps kind root.oid steps → c ≡ a ++ node_namings kind root steps
-nodes-noted kind root steps a b c p q = q ∙ (ap (λ xs. xs ++ block_steps kind root.oid steps) p ∙ append_assoc a (root ∷ []) (block_steps kind root.oid steps))
+pub nodes-noted : (kind : TreeKind) (root : Naming) (steps : List Step) (a b c : List Naming) → b ≡ a ++ root ∷ [] → c ≡ b ++ block_steps kind steps → c ≡ a ++ node_namings kind root steps
+nodes-noted kind root steps a b c p q = q ∙ (ap (λ xs. xs ++ block_steps kind steps) p ∙ append_assoc a (root ∷ []) (block_steps kind steps))
 
-pub nodes-owned : (kind : TreeKind) (root : Naming) (steps : List Step) (a b c : List Owner) → b ≡ a ++ block_owner root ∷ [] → c ≡ b ++ map block_owner (block_steps kind root.oid steps) → c ≡ a ++ map block_owner (node_namings kind root steps)
-nodes-owned kind root steps a b c p q = q ∙ (ap (λ xs. xs ++ map block_owner (block_steps kind root.oid steps)) p ∙ append_assoc a (block_owner root ∷ []) (map block_owner (block_steps kind root.oid steps)))
+pub nodes-owned : (kind : TreeKind) (root : Naming) (steps : List Step) (a b c : List Owner) → b ≡ a ++ block_owner root ∷ [] → c ≡ b ++ map block_owner (block_steps kind steps) → c ≡ a ++ map block_owner (node_namings kind root steps)
+nodes-owned kind root steps a b c p q = q ∙ (ap (λ xs. xs ++ map block_owner (block_steps kind steps)) p ∙ append_assoc a (block_owner root ∷ []) (map block_owner (block_steps kind steps)))
 
--- the naming of a root, as it is kept
-abbrev root_at : ℕ → ℕ → Tree → ℕ → Named
-root_at block at tree oid = record { by = namers.Block block; at = at; expects = expects.Root tree; how = looks.Block; oid = oid }
+-- the naming of a root
+abbrev root_at : ℕ → ℕ → TreeKind → ℕ → Naming
+root_at block at tree oid = naming (Whole (InBlock block)) at (TreeRoot tree) ByBlock oid
 
-pub records-are : (block : ℕ) (contents : Contents) (root : Named) (oid : ℕ) (steps : List Step) → root ≡ root_at block 48 trees.MapRecords oid → oid ≡ contents.tree → steps ≡ contents.steps → node_namings MapRecords (naming_of root) steps ≡ node_namings MapRecords (records_root block contents) contents.steps
+pub records-are : (block : ℕ) (contents : Contents) (root : Naming) (oid : ℕ) (steps : List Step) → root ≡ root_at block 48 MapRecords oid → oid ≡ contents.tree → steps ≡ contents.steps → node_namings MapRecords root steps ≡ node_namings MapRecords (records_root block contents) contents.steps
 records-are block contents root oid steps is at taken =
-    ap (λ (n : Named). node_namings MapRecords (naming_of n) steps) (is ∙ ap (root_at block 48 trees.MapRecords) at) ∙ ap (node_namings MapRecords (records_root block contents)) taken
+    ap (λ (n : Naming). node_namings MapRecords n steps) (is ∙ ap (root_at block 48 MapRecords) at) ∙ ap (node_namings MapRecords (records_root block contents)) taken
 
-pub past-are : (block : ℕ) (contents : Contents) (root : Named) (oid : ℕ) (steps : List Step) → root ≡ root_at block 56 trees.MapSnapshots oid → oid ≡ contents.snap_tree → (oid ≡ 0 → ⊥) → steps ≡ contents.snap_steps → node_namings MapSnapshots (naming_of root) steps ≡ past_namings block contents
+pub past-are : (block : ℕ) (contents : Contents) (root : Naming) (oid : ℕ) (steps : List Step) → root ≡ root_at block 56 MapSnapshots oid → oid ≡ contents.snap_tree → (oid ≡ 0 → ⊥) → steps ≡ contents.snap_steps → node_namings MapSnapshots root steps ≡ past_namings block contents
 past-are block contents root oid steps is at not taken =
-    ap (λ (n : Named). node_namings MapSnapshots (naming_of n) steps) (is ∙ ap (root_at block 56 trees.MapSnapshots) at)
+    ap (λ (n : Naming). node_namings MapSnapshots n steps) (is ∙ ap (root_at block 56 MapSnapshots) at)
     ∙ (ap (node_namings MapSnapshots (snapshots_root block contents)) taken ∙ sym (past-some block contents (λ z. not (at ∙ z))))
 
 pub past-noted : (block : ℕ) (contents : Contents) (oid : ℕ) (a : List Naming) → oid ≡ contents.snap_tree → oid ≡ 0 → a ≡ a ++ past_namings block contents
@@ -202,7 +203,7 @@ past-count image site block at whole =
     let go : (b : Bool) → (root == 0) ≡ b → length (if b then [] else node_namings MapSnapshots top (if b then [] else steps)) ≡ (if b then 0 else length (nodes_of (snapshot_tree image site) root)) =
     λ b. elim b as (λ b. (root == 0) ≡ b → length (if b then [] else node_namings MapSnapshots top (if b then [] else steps)) ≡ (if b then 0 else length (nodes_of (snapshot_tree image site) root))) [
       | true ↦ λ e. refl
-      | false ↦ λ e. tree-count (step_naming InBlock MapSnapshots ByBlock top.oid) top steps ∙ sym (nodes-count (snapshot_tree image site) root (whole_means (snapshot_tree image site) root (snapshots-whole image site block whole e)).walkable)
+      | false ↦ λ e. tree-count (step_naming InBlock MapSnapshots ByBlock) top steps ∙ sym (nodes-count (snapshot_tree image site) root (whole_means (snapshot_tree image site) root (snapshots-whole image site block whole e)).walkable)
     ] in
     go (root == 0) refl
 
@@ -213,7 +214,7 @@ contents-count image site block n whole =
     let root : ℕ = maps.tree_of (map_in image site block) in
     let top : Naming = records_root n.oid contents in
     let records : length (node_namings MapRecords top contents.steps) ≡ length (nodes_of (record_tree image site) root) =
-    tree-count (step_naming InBlock MapRecords ByBlock top.oid) top contents.steps ∙ sym (nodes-count (record_tree image site) root (whole_means (record_tree image site) root (records-whole image site block whole)).walkable) in
+    tree-count (step_naming InBlock MapRecords ByBlock) top contents.steps ∙ sym (nodes-count (record_tree image site) root (whole_means (record_tree image site) root (records-whole image site block whole)).walkable) in
     let past = past-count image site block n.oid whole in
     let all : length (node_namings MapRecords top contents.steps ++ past_namings n.oid contents) ≡ length (node_namings MapRecords top contents.steps) + length (past_namings n.oid contents) = length-append (node_namings MapRecords top contents.steps) (past_namings n.oid contents) in
     ap suc all ∙ (ap (λ k. suc (k + length (past_namings n.oid contents))) records ∙ (ap (λ k. suc (length (nodes_of (record_tree image site) root) + k)) past ∙ (let one : (k : ℕ) → suc k ≡ 1 + k = λ k. omega arith in one _)))

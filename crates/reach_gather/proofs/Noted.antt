@@ -10,7 +10,11 @@ use Rattle.space_map.specs.Fields.{cabs_of, cibs_of}
 use Rattle.space_map.specs.Blocks.{address_at, cib_block}
 use Rattle.space_map.specs.Stops.{Known, IsSpaceOf}
 use Rattle.nx_block.specs.Super.{jumpstart_of}
-use Rattle.reach_rules.specs.Naming.{ByBlock, Newest, Whole, Jumpstart, Naming}
+use Rattle.reach_rules.specs.declared.naming.LookUp.TheVariants.{ByBlock}
+use Rattle.reach_rules.specs.declared.naming.Object.TheVariants.{Newest}
+use Rattle.reach_rules.specs.declared.naming.Namer.TheVariants.{Whole}
+use Rattle.reach_rules.specs.declared.naming.Expected.TheVariants.{Jumpstart}
+use Rattle.reach_rules.specs.declared.naming.Naming.{Naming}
 use Rattle.reach_rules.specs.Next.{unless_zero}
 use Rattle.reach_gather.specs.Jumped.{jump_root}
 use Rattle.reach_gather.proofs.Jumps.{one-root}

@@ -9,8 +9,10 @@ use Rattle.apfs_model.specs.Lists.{In}
 use Rattle.apfs_model.proofs.BoolTests.{test_or}
 use Rattle.apfs_model.proofs.Searches.{in-left, in-right, in-append}
 use Rattle.space_map.specs.declared.chunk.Chunk.{Chunk}
-use Rattle.reach_rules.specs.Naming.{Naming}
-use Rattle.reach_rules.specs.Owners.{Owner, owner, Bitmap}
+use Rattle.reach_rules.specs.declared.naming.Naming.{Naming}
+use Rattle.reach_rules.specs.declared.owner.Who.TheVariants.{Bitmap}
+use Rattle.reach_rules.specs.declared.owner.Owner.{Owner}
+use Rattle.reach_rules.specs.Owners.{owner}
 use Rattle.reach_gather.specs.Infos.{bitmap_at, bitmaps_from}
 use Rattle.reach_gather.specs.Steps.{block_owner}
 

@@ -9,7 +9,11 @@ use Rattle.nx_ring.specs.Objects.{Place}
 use Rattle.nx_ring.specs.Checkpoint.{Seen, site_of, eph}
 use Rattle.space_pool.specs.declared.entry.Queue.{Queue}
 use Rattle.space_pool.specs.Queues.{one_block, ephemeral_named}
-use Rattle.reach_rules.specs.Naming.{ByBlock, ByMapping, InBlock, OfId, TreeKind, MapRecords, MapSnapshots, ExtentRefs, SnapMetadata, FreeQueue, Expected}
+use Rattle.reach_rules.specs.declared.naming.LookUp.TheVariants.{ByBlock, ByMapping}
+use Rattle.reach_rules.specs.declared.naming.Object.TheVariants.{InBlock, OfId}
+use Rattle.reach_rules.specs.declared.naming.TreeKind.{TreeKind}
+use Rattle.reach_rules.specs.declared.naming.TreeKind.TheVariants.{MapRecords, MapSnapshots, ExtentRefs, SnapMetadata, FreeQueue}
+use Rattle.reach_rules.specs.declared.naming.Expected.{Expected}
 use Rattle.reach_rules.specs.Resolved.{Found, standing, is_node, mapped, mapped_node}
 use Rattle.reach_rules.specs.Trees.{tree_line, misplaced, has_counts}
 use Rattle.reach_rules.proofs.Walks.{IsWalkOf}

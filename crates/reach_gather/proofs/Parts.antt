@@ -5,7 +5,13 @@ use Rattle.apfs_model.specs.Lists.{In, Lists}
 use Rattle.nx_ring.specs.Checkpoint.{Seen, site_of}
 use Rattle.omap_map.specs.Fields as maps
 use Rattle.space_map.specs.Blocks.{manager_of}
-use Rattle.reach_rules.specs.Naming.{ByBlock, Namer, Whole, MapRecords, MapSnapshots, Expected, Jumpstart, ExtendedMetadata, AddressBlock, InfoBlock, TreeRoot, Naming}
+use Rattle.reach_rules.specs.declared.naming.LookUp.TheVariants.{ByBlock}
+use Rattle.reach_rules.specs.declared.naming.Namer.{Namer}
+use Rattle.reach_rules.specs.declared.naming.Namer.TheVariants.{Whole}
+use Rattle.reach_rules.specs.declared.naming.TreeKind.TheVariants.{MapRecords, MapSnapshots}
+use Rattle.reach_rules.specs.declared.naming.Expected.{Expected}
+use Rattle.reach_rules.specs.declared.naming.Expected.TheVariants.{Jumpstart, ExtendedMetadata, AddressBlock, InfoBlock, TreeRoot}
+use Rattle.reach_rules.specs.declared.naming.Naming.{Naming}
 use Rattle.reach_rules.specs.Resolved.{Found, resolved}
 use Rattle.reach_rules.specs.Tested.{Answer, tested}
 use Rattle.reach_rules.specs.Next.{names, next, unless_zero, map_namings, cab_namings, cib_naming, cibs_in}

@@ -5,7 +5,12 @@ use Rattle.apfs_model.specs.Lists.{In}
 use Rattle.apfs_model.proofs.Searches.{in-left, in-right}
 use Rattle.nx_ring.specs.Checkpoint.{Seen}
 use Rattle.vol_view.specs.declared.volume.Snapshot.{Snapshot}
-use Rattle.reach_rules.specs.Naming.{ViewAt, ByBlock, Kept, ExtentRefs, SnapshotSuper, TreeRoot, Naming}
+use Rattle.reach_rules.specs.declared.naming.ViewAt.{ViewAt}
+use Rattle.reach_rules.specs.declared.naming.LookUp.TheVariants.{ByBlock}
+use Rattle.reach_rules.specs.declared.naming.Namer.TheVariants.{Kept}
+use Rattle.reach_rules.specs.declared.naming.TreeKind.TheVariants.{ExtentRefs}
+use Rattle.reach_rules.specs.declared.naming.Expected.TheVariants.{SnapshotSuper, TreeRoot}
+use Rattle.reach_rules.specs.declared.naming.Naming.{Naming}
 use Rattle.reach_rules.specs.Next.{next, unless_zero}
 use Rattle.reach_gather.specs.Volumes.Told.{past_at, super_in_view, told_snapshot, told_snapshots}
 use Rattle.reach_gather.specs.Held.{Held}

@@ -12,7 +12,14 @@ use Rattle.bt_cursor.specs.Tree.{Tree, root_place, child_in, child_place, tree_i
 use Rattle.bt_cursor.specs.Met.{IsMet, first, after, places_of, has_node, is_walkable}
 use Rattle.bt_cursor.proofs.Places.{tree-levelled, places-met}
 use Rattle.nx_ring.specs.Checkpoint.{Seen, site_of}
-use Rattle.reach_rules.specs.Naming.{LookUp, Object, Namer, Whole, TreeKind, Expected, TreeRoot, TreeNode, Naming}
+use Rattle.reach_rules.specs.declared.naming.LookUp.{LookUp}
+use Rattle.reach_rules.specs.declared.naming.Object.{Object}
+use Rattle.reach_rules.specs.declared.naming.Namer.{Namer}
+use Rattle.reach_rules.specs.declared.naming.Namer.TheVariants.{Whole}
+use Rattle.reach_rules.specs.declared.naming.TreeKind.{TreeKind}
+use Rattle.reach_rules.specs.declared.naming.Expected.{Expected}
+use Rattle.reach_rules.specs.declared.naming.Expected.TheVariants.{TreeRoot, TreeNode}
+use Rattle.reach_rules.specs.declared.naming.Naming.{Naming}
 use Rattle.reach_rules.specs.Resolved.{Found}
 use Rattle.reach_rules.specs.Tested.{Answer, tested}
 use Rattle.reach_rules.specs.Next.{next, child_namings}

@@ -3,7 +3,8 @@ use Rattle.std.proofs.Common.{ℕ, List, map, refl, sym, subst}
 use Rattle.std.specs.List.{flat_map}
 use Rattle.apfs_model.specs.Lists.{Lists}
 use Rattle.nx_ring.specs.Checkpoint.{Seen}
-use Rattle.reach_rules.specs.Owners.{Owner, IsOwner}
+use Rattle.reach_rules.specs.declared.owner.Owner.{Owner}
+use Rattle.reach_rules.specs.Owners.{IsOwner}
 use Rattle.reach_rules.specs.PoolOwners.{pool_owners_through, IsPoolOwner}
 use Rattle.reach_rules.specs.Reached.{range_of, AreRangesOf}
 use Rattle.reach_rules.specs.Tally.{IsObjectCount}

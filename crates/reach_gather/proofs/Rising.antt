@@ -12,9 +12,9 @@ use Rattle.apfs_model.specs.Apart.{Apart}
 use Rattle.apfs_model.specs.Lists.{In}
 use Rattle.apfs_model.proofs.Searches.{in-map}
 use Rattle.id_lists.proofs.Repeats.{contained, listed, sorted_apart}
-use Rattle.reach_gather.specs.declared.owner.Owned.{Owned}
-use Rattle.reach_gather.specs.Owned.{owner_as}
-use Rattle.reach_gather.specs.Finished.{AreRangesOnce, first_of, range_as}
+use Rattle.reach_rules.specs.declared.owner.Owner.{Owner}
+use Rattle.reach_rules.specs.Reached.{range_of}
+use Rattle.reach_gather.specs.Finished.{AreRangesOnce, first_of}
 use Rattle.reach_gather.proofs.Finishes.{ranges-once}
 
 -- ---- a list whose images are put in another order
@@ -45,10 +45,10 @@ apart-under f (x ∷ xs) apart = ((λ h. apart.0 (in-map f xs x h)), apart-under
 rising-apart : (rs : List (ℕ × ℕ)) → IsStrictlyIncreasing (map first_of rs) → Apart rs
 rising-apart rs rise = apart-under first_of rs (sorted_apart nat_cmp_total (map first_of rs) (sorted_from_strictly_increasing (map first_of rs) rise))
 
-pub rising-once : (os : List Owned) (ranges sorted : List (ℕ × ℕ)) → ranges ≡ map range_as os → IsPermutation ranges sorted → IsStrictlyIncreasing (map first_of sorted) → AreRangesOnce (map owner_as os) sorted
+pub rising-once : (os : List Owner) (ranges sorted : List (ℕ × ℕ)) → ranges ≡ map range_of os → IsPermutation ranges sorted → IsStrictlyIncreasing (map first_of sorted) → AreRangesOnce os sorted
 rising-once os ranges sorted e moved rise =
-    let t = moved-alike range_as os sorted (subst (λ rs. IsPermutation rs sorted) e moved) in
-    ranges-once (map owner_as os) os t.0 refl (moved-same os t.0 t.1.0) (apart-under range_as t.0 (subst Apart (sym t.1.1) (rising-apart sorted rise))) sorted (sym t.1.1)
+    let t = moved-alike range_of os sorted (subst (λ rs. IsPermutation rs sorted) e moved) in
+    ranges-once os t.0 (moved-same os t.0 t.1.0) (apart-under range_of t.0 (subst Apart (sym t.1.1) (rising-apart sorted rise))) sorted (sym t.1.1)
 
 -- ---- the first blocks, by their places
 pub firsts-length : (rs : List (ℕ × ℕ)) → length (map first_of rs) ≡ length rs

@@ -35,7 +35,11 @@ use Rattle.space_pool.specs.declared.entry.Queue.{Queue}
 use Rattle.space_pool.specs.declared.entry.QueueEntry.{QueueEntry}
 use Rattle.space_pool.specs.declared.fault.PoolFault.{PoolFault}
 use Rattle.space_pool.specs.declared.fault.PoolFault.TheVariants as pools
-use Rattle.reach_rules.specs.Naming.{ByBlock, ByMapping, InBlock, OfId, ExtentRefs, FreeQueue, TreeRoot, Naming}
+use Rattle.reach_rules.specs.declared.naming.LookUp.TheVariants.{ByBlock, ByMapping}
+use Rattle.reach_rules.specs.declared.naming.Object.TheVariants.{InBlock, OfId}
+use Rattle.reach_rules.specs.declared.naming.TreeKind.TheVariants.{ExtentRefs, FreeQueue}
+use Rattle.reach_rules.specs.declared.naming.Expected.TheVariants.{TreeRoot}
+use Rattle.reach_rules.specs.declared.naming.Naming.{Naming}
 use Rattle.reach_rules.specs.Faults.{Present}
 use Rattle.reach_rules.specs.Features.{HasFeature}
 use Rattle.reach_rules.specs.Raised.{of_extents, of_pool}

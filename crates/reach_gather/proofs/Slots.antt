@@ -11,19 +11,21 @@ use Rattle.omap_map.specs.Maps.{map_records, is_whole_map, resolved_in}
 use Rattle.omap_map.specs.Resolve as resolve
 use Rattle.omap_map.specs.declared.records.OmapRecord.{OmapRecord}
 use Rattle.vol_view.specs.Volumes.{Loaded}
-use Rattle.reach_rules.specs.Naming.{OfRecord, Namer, Whole, VolumeIn, TreeRoot, Naming}
+use Rattle.reach_rules.specs.declared.naming.Object.TheVariants.{OfRecord}
+use Rattle.reach_rules.specs.declared.naming.Namer.{Namer}
+use Rattle.reach_rules.specs.declared.naming.Namer.TheVariants.{Whole}
+use Rattle.reach_rules.specs.declared.naming.Expected.TheVariants.{VolumeIn, TreeRoot}
+use Rattle.reach_rules.specs.declared.naming.Naming.{Naming}
 use Rattle.reach_rules.specs.Next.{next}
 use Rattle.reach_rules.specs.Resolved.{Found, standing}
-use Rattle.reach_rules.specs.Owners.{owner, Recorded, object_owners, told_owners, owners_through}
+use Rattle.reach_rules.specs.declared.owner.Who.TheVariants.{Recorded}
+use Rattle.reach_rules.specs.Owners.{owner, object_owners, told_owners, owners_through}
 use Rattle.reach_rules.specs.PoolOwners.{pool_object_owners, pool_told_owners, pool_owners_through}
 use Rattle.reach_gather.specs.Volumes.Parts.{IsVolumePart, volume_namer}
 use Rattle.reach_gather.specs.Volumes.Told.{head_naming, told_volume}
 use Rattle.reach_gather.specs.Held.{Held, some_owners}
 use Rattle.reach_gather.specs.Adds.{Adds}
-use Rattle.reach_gather.specs.Named.{record_of, namer_of}
 use Rattle.reach_gather.specs.Views.{volume_views, slots_namings, loaded_views}
-use Rattle.reach_gather.specs.declared.naming.Mapping.{Mapping}
-use Rattle.reach_gather.specs.declared.naming.NamedBy.TheVariants as by
 use Rattle.reach_gather.proofs.Growing.{grewby-one, adds-join, adds-step, adds-as, IsRightRoot}
 use Rattle.reach_gather.proofs.Owning.{own-plain, pool-plain}
 
@@ -57,11 +59,11 @@ some-thing : (a b : Found) → Some a ≡ Some b → a ≡ b
 some-thing a b e = cc
 
 -- who names what the volume's superblock does
-pub namer-is : (seen : Seen) (mapping : Mapping) (map : ℕ) (found r : OmapRecord) → mapping ≡ record { map = map; oid = found.oid; xid = found.xid; flags = found.flags; size = found.size; paddr = found.paddr } → map ≡ omap_oid_of seen.nx → found ≡ r → namer_of (by.Record mapping) ≡ volume_namer seen r
-namer-is seen mapping map found r e m f = ap (λ (x : Mapping). namer_of (by.Record x)) e ∙ (λ i. Whole (OfRecord (m i) (f i)))
+pub namer-is : (seen : Seen) (map : ℕ) (found r : OmapRecord) → map ≡ omap_oid_of seen.nx → found ≡ r → Whole (OfRecord map found) ≡ volume_namer seen r
+namer-is seen map found r m f = λ i. Whole (OfRecord (m i) (f i))
 
-owner-is : (seen : Seen) (mapping : Mapping) (map : ℕ) (found r : OmapRecord) → mapping ≡ record { map = map; oid = found.oid; xid = found.xid; flags = found.flags; size = found.size; paddr = found.paddr } → map ≡ omap_oid_of seen.nx → found ≡ r → owner (Recorded mapping.map (record_of mapping)) mapping.paddr 1 ≡ owner (Recorded (omap_oid_of seen.nx) r) r.paddr 1
-owner-is seen mapping map found r e m f = ap (λ (x : Mapping). owner (Recorded x.map (record_of x)) x.paddr 1) e ∙ (λ i. owner (Recorded (m i) (f i)) (f i).paddr 1)
+owner-is : (seen : Seen) (map : ℕ) (found r : OmapRecord) → map ≡ omap_oid_of seen.nx → found ≡ r → owner (Recorded map found) found.paddr 1 ≡ owner (Recorded (omap_oid_of seen.nx) r) r.paddr 1
+owner-is seen map found r m f = λ i. owner (Recorded (m i) (f i)) (f i).paddr 1
 
 -- the naming of a volume owns the block of its record
 slot-owners : (image : List ℕ) (seen : Seen) (volume : Loaded) (part : IsVolumePart image seen volume.head volume) → owners_through image seen (head_naming volume.head) ≡ owner (Recorded (omap_oid_of seen.nx) part.mapping) part.mapping.paddr 1 ∷ []
@@ -80,18 +82,18 @@ slot-root : (image : List ℕ) (seen : Seen) (volume : Loaded) → IsRightRoot i
 slot-root image seen volume = λ kind is. absurd (let z : VolumeIn volume.head.slot ≡ TreeRoot kind = is in let q : ⊥ = cc in q)
 
 -- a volume, and all that its superblock names but what its views do
-pub volume-adds : (image : List ℕ) (seen : Seen) (volume : Loaded) (n : Naming) (mapping : Mapping) (map : ℕ) (found : OmapRecord) (a b c : Held) (part : IsVolumePart image seen volume.head volume) → n ≡ head_naming volume.head
-    → mapping ≡ record { map = map; oid = found.oid; xid = found.xid; flags = found.flags; size = found.size; paddr = found.paddr } → map ≡ omap_oid_of seen.nx → found ≡ part.mapping
-    → b.namings ≡ a.namings ++ n ∷ [] → b.owners ≡ a.owners ++ owner (Recorded mapping.map (record_of mapping)) mapping.paddr 1 ∷ [] → b.pool_owners ≡ a.pool_owners
-    → Adds image seen (told_volume seen (namer_of (by.Record mapping)) volume) (volume_views seen (namer_of (by.Record mapping)) volume) b c
+pub volume-adds : (image : List ℕ) (seen : Seen) (volume : Loaded) (n : Naming) (map : ℕ) (found : OmapRecord) (a b c : Held) (part : IsVolumePart image seen volume.head volume) → n ≡ head_naming volume.head
+    → map ≡ omap_oid_of seen.nx → found ≡ part.mapping
+    → b.namings ≡ a.namings ++ n ∷ [] → b.owners ≡ a.owners ++ owner (Recorded map found) found.paddr 1 ∷ [] → b.pool_owners ≡ a.pool_owners
+    → Adds image seen (told_volume seen (Whole (OfRecord map found)) volume) (volume_views seen (Whole (OfRecord map found)) volume) b c
     → Adds image seen (head_naming volume.head ∷ []) (volume_views seen (volume_namer seen part.mapping) volume) a c
-volume-adds image seen volume n mapping map found a b c part is e m f p q r below =
+volume-adds image seen volume n map found a b c part is m f p q r below =
     let h : Naming = head_naming volume.head in
     let me : Namer = volume_namer seen part.mapping in
-    let names : Adds image seen (told_volume seen me volume) (volume_views seen me volume) b c = subst (λ x. Adds image seen (told_volume seen x volume) (volume_views seen x volume) b c) (namer-is seen mapping map found part.mapping e m f) below in
+    let names : Adds image seen (told_volume seen me volume) (volume_views seen me volume) b c = subst (λ x. Adds image seen (told_volume seen x volume) (volume_views seen x volume) b c) (namer-is seen map found part.mapping m f) below in
     adds-step image seen h (volume_views seen me volume) a b c part.plain refl (slot-root image seen volume)
     (grewby-one image seen h a b (p ∙ ap (λ x. a.namings ++ x ∷ []) is)
-    (q ∙ (ap (λ o. a.owners ++ o ∷ []) (owner-is seen mapping map found part.mapping e m f) ∙ ap (λ os. a.owners ++ some_owners os) (sym (slot-owners image seen volume part))))
+    (q ∙ (ap (λ o. a.owners ++ o ∷ []) (owner-is seen map found part.mapping m f) ∙ ap (λ os. a.owners ++ some_owners os) (sym (slot-owners image seen volume part))))
     (r ∙ (sym (append-nil a.pool_owners) ∙ ap (λ os. a.pool_owners ++ some_owners os) (sym (slot-pool image seen volume part)))))
     (adds-as image seen (told_volume seen me volume) (next image seen h) (volume_views seen me volume) b c part.leads names)
 

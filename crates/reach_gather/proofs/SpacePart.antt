@@ -16,7 +16,14 @@ use Rattle.space_map.specs.Fields.{cabs_of, cibs_of, cab_cibs_of, addresses_of}
 use Rattle.space_map.specs.Geometry.{has_address, has_cib_place}
 use Rattle.space_map.specs.Blocks.{address_at, cab_address_at, cab_block_for, cib_block, is_info, info_test}
 use Rattle.space_map.specs.Stops.{HasManager, IsRightSpace}
-use Rattle.reach_rules.specs.Naming.{ByBlock, InBlock, Namer, Whole, Expected, AddressBlock, InfoBlock, Naming, naming}
+use Rattle.reach_rules.specs.declared.naming.LookUp.TheVariants.{ByBlock}
+use Rattle.reach_rules.specs.declared.naming.Object.TheVariants.{InBlock}
+use Rattle.reach_rules.specs.declared.naming.Namer.{Namer}
+use Rattle.reach_rules.specs.declared.naming.Namer.TheVariants.{Whole}
+use Rattle.reach_rules.specs.declared.naming.Expected.{Expected}
+use Rattle.reach_rules.specs.declared.naming.Expected.TheVariants.{AddressBlock, InfoBlock}
+use Rattle.reach_rules.specs.declared.naming.Naming.{Naming}
+use Rattle.reach_rules.specs.Naming.{naming}
 use Rattle.reach_rules.specs.Resolved.{Found, resolved, standing}
 use Rattle.reach_rules.specs.Tested.{of_header, tested}
 use Rattle.reach_rules.specs.Next.{names, next, address_naming, addresses_in, address_namings, is_cib_of, cibs_in, cib_naming, cab_namings}

@@ -14,9 +14,12 @@ use Rattle.space_pool.specs.Queues.{queue_of, is_queued_in_pool}
 use Rattle.space_pool.specs.declared.entry.Queue.TheVariants.{Pool}
 use Rattle.space_pool.specs.declared.entry.QueueEntry.{QueueEntry}
 use Rattle.space_pool.proofs.Gathered.{none_queued}
-use Rattle.reach_rules.specs.Naming.{TreeRoot, SpaceManager, Naming}
+use Rattle.reach_rules.specs.declared.naming.Expected.TheVariants.{TreeRoot, SpaceManager}
+use Rattle.reach_rules.specs.declared.naming.Naming.{Naming}
 use Rattle.reach_rules.specs.Resolved.{Found}
-use Rattle.reach_rules.specs.Owners.{Owner, owner, InternalPool, PoolRing, owners_through}
+use Rattle.reach_rules.specs.declared.owner.Who.TheVariants.{InternalPool, PoolRing}
+use Rattle.reach_rules.specs.declared.owner.Owner.{Owner}
+use Rattle.reach_rules.specs.Owners.{owner, owners_through}
 use Rattle.reach_rules.proofs.SpaceLifted.{there, manager-sound}
 use Rattle.reach_gather.specs.Namings.{IsPlainNaming}
 use Rattle.reach_gather.specs.Joined.{ArePart}

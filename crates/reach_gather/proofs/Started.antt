@@ -1,5 +1,5 @@
 -- What the EFI jumpstart adds.
-use Rattle.std.proofs.Common.{◌≡◌, ℕ, Bool, true, false, List, [], ◌∷◌, ◌++◌, map, inl, inr, refl, ap, sym, ◌∙◌, subst, if◌then◌else◌}
+use Rattle.std.proofs.Common.{◌≡◌, ℕ, Bool, true, false, List, [], ◌∷◌, ◌++◌, inl, inr, refl, ap, sym, ◌∙◌, subst, if◌then◌else◌}
 use Rattle.std.proofs.lemmas.List.{append-nil}
 use Rattle.std.specs.Prelude.{◌==◌}
 use Rattle.apfs_model.specs.Blocks.{block_of}
@@ -8,7 +8,12 @@ use Rattle.apfs_model.proofs.BoolTests.{never-true, equal-from}
 use Rattle.nx_block.specs.Super.{jumpstart_of}
 use Rattle.nx_block.specs.Jump.{jump_extents_of}
 use Rattle.nx_ring.specs.Checkpoint.{Seen, site_of}
-use Rattle.reach_rules.specs.Naming.{ByBlock, Newest, Whole, TreeRoot, Jumpstart, Naming, naming}
+use Rattle.reach_rules.specs.declared.naming.LookUp.TheVariants.{ByBlock}
+use Rattle.reach_rules.specs.declared.naming.Object.TheVariants.{Newest}
+use Rattle.reach_rules.specs.declared.naming.Namer.TheVariants.{Whole}
+use Rattle.reach_rules.specs.declared.naming.Expected.TheVariants.{Jumpstart, TreeRoot}
+use Rattle.reach_rules.specs.declared.naming.Naming.{Naming}
+use Rattle.reach_rules.specs.Naming.{naming}
 use Rattle.reach_rules.specs.Resolved.{Found}
 use Rattle.reach_rules.specs.Next.{next}
 use Rattle.reach_rules.specs.Live.{Live}
@@ -27,10 +32,6 @@ use Rattle.reach_gather.proofs.Owning.{own-block, pool-block}
 use Rattle.reach_gather.proofs.Told.{told-after}
 use Rattle.reach_gather.proofs.Fields.{unless-some}
 
-same-all : {X : Type 0} (xs : List X) → map (λ (x : X). x) xs ≡ xs
-same-all [] = refl
-same-all (x ∷ xs) = ap (λ ys. x ∷ ys) (same-all xs)
-
 if-not : {A : Type 0} (b : Bool) (x y : A) → b ≡ false → (if b then x else y) ≡ y
 if-not true x y e = absurd (cc)
 if-not false x y e = refl
@@ -45,7 +46,7 @@ jump-one n m (inr h) = absurd h
 
 pub jump-adds : (image : List ℕ) (seen : Seen) (extents : List (ℕ × ℕ)) (a b c : Held) → IsJumped image seen extents → (jumpstart_of seen.nx ≡ 0 → ⊥)
     → b.namings ≡ a.namings ++ jump_by (jumpstart_of seen.nx) ∷ [] → b.owners ≡ a.owners ++ block_owner (jump_by (jumpstart_of seen.nx)) ∷ [] → b.pool_owners ≡ a.pool_owners
-    → c.namings ≡ b.namings → c.owners ≡ b.owners ++ some_owners (told_from (jump_by (jumpstart_of seen.nx)) 0 (map (λ (r : ℕ × ℕ). r) extents)) → c.pool_owners ≡ b.pool_owners
+    → c.namings ≡ b.namings → c.owners ≡ b.owners ++ some_owners (told_from (jump_by (jumpstart_of seen.nx)) 0 extents) → c.pool_owners ≡ b.pool_owners
     → Adds image seen (jumpstart_naming seen.nx) [] a c
 jump-adds image seen extents a b c is not p q r s t u =
     let block : ℕ = jumpstart_of seen.nx in
@@ -63,7 +64,7 @@ jump-adds image seen extents a b c is not p q r s t u =
       outside = λ m h. ap (λ (x : Naming). is_in_view x.how) (jump-one n m h);
       trees = λ m kind h e. absurd (let z : Jumpstart ≡ TreeRoot kind = ap (λ (x : Naming). x.expected) (sym (jump-one n m h)) ∙ e in let k : ⊥ = cc in k);
       grew = grewby-one image seen n a c (s ∙ p)
-          (told-after a.owners b.owners c.owners (block_owner n) (told_from n 0 (map (λ (r : ℕ × ℕ). r) extents)) (told_from n 0 (jump_extents_of plain.object.bytes)) q t (ap (told_from n 0) (same-all extents ∙ told))
+          (told-after a.owners b.owners c.owners (block_owner n) (told_from n 0 extents) (told_from n 0 (jump_extents_of plain.object.bytes)) q t (ap (told_from n 0) told)
           ∙ ap (λ xs. a.owners ++ some_owners xs) (sym own))
           (u ∙ (r ∙ (sym (append-nil a.pool_owners) ∙ ap (λ xs. a.pool_owners ++ some_owners xs) (sym (pool-block image seen n Jumpstart plain refl refl refl)))));
     }

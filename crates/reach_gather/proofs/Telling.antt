@@ -1,17 +1,19 @@
 -- The owners that are told range by range.
-use Rattle.std.proofs.Common.{◌≡◌, ℕ, suc, ◌+◌, ◌<◌, Bool, true, false, cond, List, [], ◌∷◌, ◌++◌, length, map, take, get_or, refl, ap, sym, ◌∙◌, arith}
+use Rattle.std.proofs.Common.{◌≡◌, ℕ, suc, ◌+◌, ◌<◌, Bool, true, false, cond, List, [], ◌∷◌, ◌++◌, length, take, get_or, refl, ap, sym, ◌∙◌, arith}
 use Rattle.std.specs.Prelude.{not, ◌==◌, if◌then◌else◌}
 use Rattle.std.specs.List.{filter}
-use Rattle.std.proofs.lemmas.List.{take_more, append_assoc, map-append, length-take-le}
-use Rattle.reach_rules.specs.Naming.{Naming}
-use Rattle.reach_rules.specs.Owners.{Owner, owner, owner_of, Told, told_from}
+use Rattle.std.proofs.lemmas.List.{take_more, append_assoc, length-take-le}
+use Rattle.reach_rules.specs.declared.naming.Naming.{Naming}
+use Rattle.reach_rules.specs.declared.owner.Who.TheVariants.{Told}
+use Rattle.reach_rules.specs.declared.owner.Owner.{Owner}
+use Rattle.reach_rules.specs.Owners.{owner, owner_of, told_from}
 use Rattle.reach_gather.specs.Held.{some_owners}
 
 told-more : (n : Naming) (k : ℕ) (xs : List (ℕ × ℕ)) (x : ℕ × ℕ) → told_from n k (xs ++ x ∷ []) ≡ told_from n k xs ++ owner_of (Told n (k + length xs)) x ∷ []
 told-more n k [] x = ap (λ i. owner_of (Told n i) x ∷ []) (let e : k ≡ k + 0 = omega arith in e)
 told-more n k (y ∷ ys) x = ap (λ os. owner_of (Told n k) y ∷ os) (told-more n (suc k) ys x ∙ ap (λ i. told_from n (suc k) ys ++ owner_of (Told n i) x ∷ []) (let e : suc k + length ys ≡ k + suc (length ys) = omega arith in e))
 
-filter-more : {X : Type 0} (p : X → Bool) (xs ys : List X) → filter p (xs ++ ys) ≡ filter p xs ++ filter p ys
+pub filter-more : {X : Type 0} (p : X → Bool) (xs ys : List X) → filter p (xs ++ ys) ≡ filter p xs ++ filter p ys
 filter-more p [] ys = refl
 filter-more p (x ∷ xs) ys = filter-if (p x) x (filter p (xs ++ ys)) (filter p xs) (filter p ys) (filter-more p xs ys)
   where
@@ -23,28 +25,21 @@ one-some : (b : Bool) (o : Owner) → cond (not b) (o ∷ []) [] ≡ (if b then 
 one-some true o = refl
 one-some false o = refl
 
-length-map : {X Y : Type 0} (f : X → Y) (xs : List X) → length (map f xs) ≡ length xs
-length-map f [] = refl
-length-map f (x ∷ xs) = ap suc (length-map f xs)
-
 -- one more range is told
-pub tell-more : {T : Type 0} (n : Naming) (range : T → ℕ × ℕ) (xs : List T) (i : ℕ) (x : T) (r : ℕ × ℕ) (old mid new : List Owner) → i < length xs → get_or xs i x ≡ x → r ≡ range x
-    → mid ≡ old ++ some_owners (told_from n 0 (map range (take i xs))) → new ≡ mid ++ (if r.1 == 0 then [] else owner (Told n i) r.0 r.1 ∷ [])
-    → new ≡ old ++ some_owners (told_from n 0 (map range (take (i + 1) xs)))
-tell-more n range xs i x r old mid new low is same m given =
-    let e : new ≡ mid ++ (if (range x).1 == 0 then [] else owner (Told n i) (range x).0 (range x).1 ∷ []) = given ∙ ap (λ (q : ℕ × ℕ). mid ++ (if q.1 == 0 then [] else owner (Told n i) q.0 q.1 ∷ [])) same in
-    let so_far : List Owner = some_owners (told_from n 0 (map range (take i xs))) in
+pub tell-more : (n : Naming) (xs : List (ℕ × ℕ)) (i : ℕ) (d : ℕ × ℕ) (old mid new : List Owner) → i < length xs
+    → mid ≡ old ++ some_owners (told_from n 0 (take i xs)) → new ≡ mid ++ (if (get_or xs i d).1 == 0 then [] else owner (Told n i) (get_or xs i d).0 (get_or xs i d).1 ∷ []) → new ≡ old ++ some_owners (told_from n 0 (take (i + 1) xs))
+tell-more n xs i d old mid new low m given =
+    let x : ℕ × ℕ = get_or xs i d in
+    let so_far : List Owner = some_owners (told_from n 0 (take i xs)) in
     let p : Owner → Bool = λ (o : Owner). not (o.blocks == 0) in
-    let more : take (i + 1) xs ≡ take i xs ++ x ∷ [] = take_more xs i x low ∙ ap (λ y. take i xs ++ y ∷ []) is in
-    let long : length (map range (take i xs)) ≡ i = length-map range (take i xs) ∙ length-take-le i xs (omega arith) in
-    let place : 0 + length (map range (take i xs)) ≡ i = omega (arith, long) in
-    let told : told_from n 0 (map range (take (i + 1) xs)) ≡ told_from n 0 (map range (take i xs)) ++ owner_of (Told n i) (range x) ∷ [] =
-    ap (λ ys. told_from n 0 (map range ys)) more
-    ∙ (ap (told_from n 0) (map-append range (take i xs) (x ∷ []))
-    ∙ (told-more n 0 (map range (take i xs)) (range x)
-    ∙ ap (λ k. told_from n 0 (map range (take i xs)) ++ owner_of (Told n k) (range x) ∷ []) place)) in
-    e ∙ (ap (λ ys. ys ++ (if (range x).1 == 0 then [] else owner (Told n i) (range x).0 (range x).1 ∷ [])) m
+    let more : take (i + 1) xs ≡ take i xs ++ x ∷ [] = take_more xs i d low in
+    let long : length (take i xs) ≡ i = length-take-le i xs (omega arith) in
+    let place : 0 + length (take i xs) ≡ i = omega (arith, long) in
+    let told : told_from n 0 (take (i + 1) xs) ≡ told_from n 0 (take i xs) ++ owner_of (Told n i) x ∷ [] =
+    ap (told_from n 0) more ∙ (told-more n 0 (take i xs) x ∙ ap (λ k. told_from n 0 (take i xs) ++ owner_of (Told n k) x ∷ []) place) in
+    given
+    ∙ (ap (λ ys. ys ++ (if x.1 == 0 then [] else owner (Told n i) x.0 x.1 ∷ [])) m
     ∙ (append_assoc old so_far _
-    ∙ (ap (λ ys. old ++ (so_far ++ ys)) (sym (one-some ((range x).1 == 0) (owner (Told n i) (range x).0 (range x).1)))
-    ∙ (ap (λ ys. old ++ ys) (sym (filter-more p (told_from n 0 (map range (take i xs))) (owner_of (Told n i) (range x) ∷ [])))
+    ∙ (ap (λ ys. old ++ (so_far ++ ys)) (sym (one-some (x.1 == 0) (owner (Told n i) x.0 x.1)))
+    ∙ (ap (λ ys. old ++ ys) (sym (filter-more p (told_from n 0 (take i xs)) (owner_of (Told n i) x ∷ [])))
     ∙ ap (λ ys. old ++ some_owners ys) (sym told)))))

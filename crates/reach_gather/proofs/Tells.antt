@@ -4,11 +4,14 @@ use Rattle.std.specs.List.{flat_map}
 use Rattle.apfs_model.specs.Lists.{In, Lists, through}
 use Rattle.apfs_model.proofs.Searches.{in-left, in-right, in-append, in-flat_map, from-flat_map}
 use Rattle.nx_ring.specs.Checkpoint.{Seen}
-use Rattle.reach_rules.specs.Naming.{Object, Newest, Naming}
+use Rattle.reach_rules.specs.declared.naming.Object.{Object}
+use Rattle.reach_rules.specs.declared.naming.Object.TheVariants.{Newest}
+use Rattle.reach_rules.specs.declared.naming.Naming.{Naming}
 use Rattle.reach_rules.specs.Resolved.{Found, resolved}
 use Rattle.reach_rules.specs.Next.{roots, next}
 use Rattle.reach_rules.specs.Live.{Live, IsLive, IsNamed, newest, named}
-use Rattle.reach_rules.specs.Owners.{Owner, first_owners, owners_through, IsOwner, first, of}
+use Rattle.reach_rules.specs.declared.owner.Owner.{Owner}
+use Rattle.reach_rules.specs.Owners.{first_owners, owners_through, IsOwner, first, of}
 use Rattle.reach_rules.specs.PoolOwners.{pool_owners_through, IsPoolOwner}
 use Rattle.reach_rules.specs.Faults.{is_once}
 use Rattle.reach_gather.specs.Namings.{IsPlainNaming}

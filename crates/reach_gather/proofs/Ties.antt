@@ -1,66 +1,80 @@
--- Namings and owners that tie by their orders are one.
+-- Namings and owners that tie by their orders are one, and so are look-ups that are told as equal.
 use Rattle.std.proofs.Common.{◌≡◌, ℕ, Bool, true, false, List, [], ◌∷◌, inl, inr, refl, ap, sym, ◌∙◌}
 use Rattle.std.specs.declared.cmp.Ordering.{Ordering}
 use Rattle.std.specs.declared.cmp.Ordering.TheVariants.{Less, Equal, Greater}
-use Rattle.std.specs.Ordering.{nat_cmp, bool_cmp, ordering_then}
+use Rattle.std.specs.Ordering.{nat_cmp, bool_cmp, ordering_then, ordering_reverse, is_eq}
 use Rattle.std.proofs.lemmas.Map.Lookups.{CmpEqualImpliesEq, exact_unsigned}
 use Rattle.id_lists.proofs.Repeats.{ties}
 use denote.Struct.Field.{Field}
 use denote.Enum.Declared.{Choice, intoss}
 use denote.Enum.Compared.{Each, by}
-use Rattle.reach_gather.specs.declared.naming.Mapping.{Mapping}
-use Rattle.reach_gather.specs.declared.naming.ViewKey.{ViewKey}
-use Rattle.reach_gather.specs.declared.naming.NamedBy.{NamedBy}
-use Rattle.reach_gather.specs.declared.naming.Tree.{Tree}
-use Rattle.reach_gather.specs.declared.naming.Expects.{Expects}
-use Rattle.reach_gather.specs.declared.naming.By.{By}
-use Rattle.reach_gather.specs.declared.naming.Named.{Named}
-use Rattle.reach_gather.specs.declared.owner.OwnedBy.{OwnedBy}
-use Rattle.reach_gather.specs.declared.owner.Owned.{Owned}
-use Rattle.reach_gather.specs.contracts.naming.NamedBy as namers
-use Rattle.reach_gather.specs.contracts.naming.Tree as trees
-use Rattle.reach_gather.specs.contracts.naming.Expects as expecteds
-use Rattle.reach_gather.specs.contracts.naming.By as looks
-use Rattle.reach_gather.specs.contracts.owner.OwnedBy as whos
-use Rattle.reach_gather.specs.contracts.naming.MappingOrd.TheImpl as of_mapping
-use Rattle.reach_gather.specs.contracts.naming.ViewKeyOrd.TheImpl as of_view
-use Rattle.reach_gather.specs.contracts.naming.NamedByOrd.TheImpl as of_namer
-use Rattle.reach_gather.specs.contracts.naming.TreeOrd.TheImpl as of_tree
-use Rattle.reach_gather.specs.contracts.naming.ExpectsOrd.TheImpl as of_expected
-use Rattle.reach_gather.specs.contracts.naming.ByOrd.TheImpl as of_look
-use Rattle.reach_gather.specs.contracts.naming.NamedOrd.TheImpl as of_named
-use Rattle.reach_gather.specs.contracts.naming.NamedOrd.TheImpl.Laws as named_laws
-use Rattle.reach_gather.specs.contracts.naming.NamedPartialEq.TheImpl as same_named
-use Rattle.reach_gather.specs.contracts.owner.OwnedByOrd.TheImpl as of_who
-use Rattle.reach_gather.specs.contracts.owner.OwnedOrd.TheImpl as of_owned
+use Rattle.omap_map.specs.declared.records.OmapRecord.{OmapRecord}
+use Rattle.space_pool.specs.declared.entry.Queue.{Queue}
+use Rattle.reach_rules.specs.declared.naming.ViewAt.{ViewAt}
+use Rattle.reach_rules.specs.declared.naming.LookUp.{LookUp}
+use Rattle.reach_rules.specs.declared.naming.Object.{Object}
+use Rattle.reach_rules.specs.declared.naming.Namer.{Namer}
+use Rattle.reach_rules.specs.declared.naming.TreeKind.{TreeKind}
+use Rattle.reach_rules.specs.declared.naming.Expected.{Expected}
+use Rattle.reach_rules.specs.declared.naming.Naming.{Naming}
+use Rattle.reach_rules.specs.declared.owner.Who.{Who}
+use Rattle.reach_rules.specs.declared.owner.Owner.{Owner}
+use Rattle.reach_gather.specs.Finished.{is_look}
+use Rattle.space_pool.specs.contracts.entry.Queue as queues
+use Rattle.reach_rules.specs.contracts.naming.LookUp as looks
+use Rattle.reach_rules.specs.contracts.naming.Object as objects
+use Rattle.reach_rules.specs.contracts.naming.Namer as namers
+use Rattle.reach_rules.specs.contracts.naming.TreeKind as kinds
+use Rattle.reach_rules.specs.contracts.naming.Expected as expecteds
+use Rattle.reach_rules.specs.contracts.owner.Who as whos
+use Rattle.omap_map.specs.contracts.records.OmapRecordOrd.TheImpl as of_record
+use Rattle.space_pool.specs.contracts.entry.QueueOrd.TheImpl as of_queue
+use Rattle.reach_rules.specs.contracts.naming.ViewAtOrd.TheImpl as of_view
+use Rattle.reach_rules.specs.contracts.naming.LookUpOrd.TheImpl as of_look
+use Rattle.reach_rules.specs.contracts.naming.LookUpOrd.TheImpl.Laws as look_laws
+use Rattle.reach_rules.specs.contracts.naming.ObjectOrd.TheImpl as of_object
+use Rattle.reach_rules.specs.contracts.naming.NamerOrd.TheImpl as of_namer
+use Rattle.reach_rules.specs.contracts.naming.TreeKindOrd.TheImpl as of_kind
+use Rattle.reach_rules.specs.contracts.naming.ExpectedOrd.TheImpl as of_expected
+use Rattle.reach_rules.specs.contracts.naming.NamingOrd.TheImpl as of_naming
+use Rattle.reach_rules.specs.contracts.naming.NamingOrd.TheImpl.Laws as naming_laws
+use Rattle.reach_rules.specs.contracts.owner.WhoOrd.TheImpl as of_who
+use Rattle.reach_rules.specs.contracts.owner.OwnerOrd.TheImpl as of_owner
+use Rattle.reach_rules.specs.contracts.naming.NamingPartialEq.TheImpl as same_naming
 
 -- ---- the orders
-abbrev mapping_rank : Mapping → Mapping → Ordering
-mapping_rank = of_mapping.ghosts.cmp
+abbrev record_rank : OmapRecord → OmapRecord → Ordering
+record_rank = of_record.ghosts.cmp
 
-abbrev view_rank : ViewKey → ViewKey → Ordering
+abbrev queue_rank : Queue → Queue → Ordering
+queue_rank = of_queue.ghosts.cmp
+
+abbrev view_rank : ViewAt → ViewAt → Ordering
 view_rank = of_view.ghosts.cmp
 
-abbrev namer_rank : NamedBy → NamedBy → Ordering
-namer_rank = of_namer.ghosts.cmp
-
-abbrev tree_rank : Tree → Tree → Ordering
-tree_rank = of_tree.ghosts.cmp
-
-abbrev expected_rank : Expects → Expects → Ordering
-expected_rank = of_expected.ghosts.cmp
-
-abbrev look_rank : By → By → Ordering
+abbrev look_rank : LookUp → LookUp → Ordering
 look_rank = of_look.ghosts.cmp
 
-abbrev named_rank : Named → Named → Ordering
-named_rank = of_named.ghosts.cmp
+abbrev object_rank : Object → Object → Ordering
+object_rank = of_object.ghosts.cmp
 
-abbrev who_rank : OwnedBy → OwnedBy → Ordering
+abbrev namer_rank : Namer → Namer → Ordering
+namer_rank = of_namer.ghosts.cmp
+
+abbrev kind_rank : TreeKind → TreeKind → Ordering
+kind_rank = of_kind.ghosts.cmp
+
+abbrev expected_rank : Expected → Expected → Ordering
+expected_rank = of_expected.ghosts.cmp
+
+abbrev naming_rank : Naming → Naming → Ordering
+naming_rank = of_naming.ghosts.cmp
+
+abbrev who_rank : Who → Who → Ordering
 who_rank = of_who.ghosts.cmp
 
-abbrev owned_rank : Owned → Owned → Ordering
-owned_rank = of_owned.ghosts.cmp
+abbrev owner_rank : Owner → Owner → Ordering
+owner_rank = of_owner.ghosts.cmp
 
 -- ---- one order after another
 both-tie : (c d : Ordering) → ordering_then c d ≡ Equal → (c ≡ Equal) × (d ≡ Equal)
@@ -75,26 +89,25 @@ flag-tie false true e = absurd (cc)
 flag-tie false false e = refl
 
 -- ---- structs of numbers
-mapping_by : ℕ → ℕ → ℕ → ℕ → ℕ → ℕ → Mapping
-mapping_by map oid xid flags size paddr = record { map = map; oid = oid; xid = xid; flags = flags; size = size; paddr = paddr }
+record_by : ℕ → ℕ → ℕ → ℕ → ℕ → OmapRecord
+record_by oid xid flags size paddr = record { oid = oid; xid = xid; flags = flags; size = size; paddr = paddr }
 
-mapping-is : (a b : Mapping) → a.map ≡ b.map → a.oid ≡ b.oid → a.xid ≡ b.xid → a.flags ≡ b.flags → a.size ≡ b.size → a.paddr ≡ b.paddr → a ≡ b
-unfolding mapping_by
-mapping-is a b p q r s t u = let k : mapping_by a.map a.oid a.xid a.flags a.size a.paddr ≡ mapping_by b.map b.oid b.xid b.flags b.size b.paddr = cc in k
+record-is : (a b : OmapRecord) → a.oid ≡ b.oid → a.xid ≡ b.xid → a.flags ≡ b.flags → a.size ≡ b.size → a.paddr ≡ b.paddr → a ≡ b
+unfolding record_by
+record-is a b p q r s t = let k : record_by a.oid a.xid a.flags a.size a.paddr ≡ record_by b.oid b.xid b.flags b.size b.paddr = cc in k
 
-mapping-one : CmpEqualImpliesEq mapping_rank
-mapping-one a b e =
-    let t1 = both-tie (nat_cmp a.map b.map) (ordering_then (nat_cmp a.oid b.oid) (ordering_then (nat_cmp a.xid b.xid) (ordering_then (nat_cmp a.flags b.flags) (ordering_then (nat_cmp a.size b.size) (nat_cmp a.paddr b.paddr))))) e in
-    let t2 = both-tie (nat_cmp a.oid b.oid) (ordering_then (nat_cmp a.xid b.xid) (ordering_then (nat_cmp a.flags b.flags) (ordering_then (nat_cmp a.size b.size) (nat_cmp a.paddr b.paddr)))) t1.1 in
-    let t3 = both-tie (nat_cmp a.xid b.xid) (ordering_then (nat_cmp a.flags b.flags) (ordering_then (nat_cmp a.size b.size) (nat_cmp a.paddr b.paddr))) t2.1 in
-    let t4 = both-tie (nat_cmp a.flags b.flags) (ordering_then (nat_cmp a.size b.size) (nat_cmp a.paddr b.paddr)) t3.1 in
-    let t5 = both-tie (nat_cmp a.size b.size) (nat_cmp a.paddr b.paddr) t4.1 in
-    mapping-is a b (exact_unsigned a.map b.map t1.0) (exact_unsigned a.oid b.oid t2.0) (exact_unsigned a.xid b.xid t3.0) (exact_unsigned a.flags b.flags t4.0) (exact_unsigned a.size b.size t5.0) (exact_unsigned a.paddr b.paddr t5.1)
+pub record-one : CmpEqualImpliesEq record_rank
+record-one a b e =
+    let t1 = both-tie (nat_cmp a.oid b.oid) (ordering_then (nat_cmp a.xid b.xid) (ordering_then (nat_cmp a.flags b.flags) (ordering_then (nat_cmp a.size b.size) (nat_cmp a.paddr b.paddr)))) e in
+    let t2 = both-tie (nat_cmp a.xid b.xid) (ordering_then (nat_cmp a.flags b.flags) (ordering_then (nat_cmp a.size b.size) (nat_cmp a.paddr b.paddr))) t1.1 in
+    let t3 = both-tie (nat_cmp a.flags b.flags) (ordering_then (nat_cmp a.size b.size) (nat_cmp a.paddr b.paddr)) t2.1 in
+    let t4 = both-tie (nat_cmp a.size b.size) (nat_cmp a.paddr b.paddr) t3.1 in
+    record-is a b (exact_unsigned a.oid b.oid t1.0) (exact_unsigned a.xid b.xid t2.0) (exact_unsigned a.flags b.flags t3.0) (exact_unsigned a.size b.size t4.0) (exact_unsigned a.paddr b.paddr t4.1)
 
-view_by : ℕ → ℕ → ℕ → ℕ → Bool → ViewKey
+view_by : ℕ → ℕ → ℕ → ℕ → Bool → ViewAt
 view_by slot place xid map hashed = record { slot = slot; place = place; xid = xid; map = map; hashed = hashed }
 
-view-is : (a b : ViewKey) → a.slot ≡ b.slot → a.place ≡ b.place → a.xid ≡ b.xid → a.map ≡ b.map → a.hashed ≡ b.hashed → a ≡ b
+view-is : (a b : ViewAt) → a.slot ≡ b.slot → a.place ≡ b.place → a.xid ≡ b.xid → a.map ≡ b.map → a.hashed ≡ b.hashed → a ≡ b
 unfolding view_by
 view-is a b p q r s t = let k : view_by a.slot a.place a.xid a.map a.hashed ≡ view_by b.slot b.place b.xid b.map b.hashed = cc in k
 
@@ -133,178 +146,97 @@ fields-one {A} {B} R S one other x y e =
     let q : x.1.0 ≡ y.1.0 = other x.1.0 y.1.0 t.1 in
     let k : pair_of x.0 x.1.0 ≡ pair_of y.0 y.1.0 = cc in k
 
-tree-one : CmpEqualImpliesEq tree_rank
-tree-one x y e =
-    let point : (a b : Unit {0}) → Ordering = λ a b. Equal in
-    trees.the_type.to_one x y (ap (intoss trees.the_type.parts) (choices-one trees.the_type.parts (point, (point, (point, (point, (point, (point, tt)))))) ((λ a b k. refl), ((λ a b k. refl), ((λ a b k. refl), ((λ a b k. refl), ((λ a b k. refl), ((λ a b k. refl), tt)))))) (trees.as_values x) (trees.as_values y) e))
+-- a variant without fields
+point : Unit {0} → Unit {0} → Ordering
+point a b = Equal
+
+at-point : CmpEqualImpliesEq point
+at-point a b e = refl
+
+queue-one : CmpEqualImpliesEq queue_rank
+unfolding point
+queue-one x y e =
+    let ranks : Each Ordering queues.the_type.parts = (point, (point, tt)) in
+    queues.the_type.to_one x y (ap (intoss queues.the_type.parts) (choices-one queues.the_type.parts ranks (at-point, (at-point, tt)) (queues.as_values x) (queues.as_values y) e))
 
 look-one : CmpEqualImpliesEq look_rank
+unfolding point
 look-one x y e =
-    let point : (a b : Unit {0}) → Ordering = λ a b. Equal in
-    looks.the_type.to_one x y (ap (intoss looks.the_type.parts) (choices-one looks.the_type.parts (point, (point, (point, tt))) ((λ a b k. refl), ((λ a b k. refl), ((λ a b k. refl), tt))) (looks.as_values x) (looks.as_values y) e))
+    let ranks : Each Ordering looks.the_type.parts = (point, (point, (point, ((λ a b. view_rank a.0 b.0), tt)))) in
+    looks.the_type.to_one x y (ap (intoss looks.the_type.parts) (choices-one looks.the_type.parts ranks (at-point, (at-point, (at-point, (field-one view_rank view-one, tt)))) (looks.as_values x) (looks.as_values y) e))
+
+object-one : CmpEqualImpliesEq object_rank
+unfolding point
+object-one x y e =
+    let ranks : Each Ordering objects.the_type.parts = (point, ((λ a b. nat_cmp a.0 b.0), ((λ a b. nat_cmp a.0 b.0), ((λ a b. ordering_then (nat_cmp a.0 b.0) (record_rank a.1.0 b.1.0)), tt)))) in
+    objects.the_type.to_one x y (ap (intoss objects.the_type.parts) (choices-one objects.the_type.parts ranks (at-point, (field-one nat_cmp exact_unsigned, (field-one nat_cmp exact_unsigned, (fields-one nat_cmp record_rank exact_unsigned record-one, tt)))) (objects.as_values x) (objects.as_values y) e))
 
 namer-one : CmpEqualImpliesEq namer_rank
 namer-one x y e =
-    let ranks : Each Ordering namers.the_type.parts =
-    ((λ a b. Equal), ((λ a b. nat_cmp a.0 b.0), ((λ a b. nat_cmp a.0 b.0), ((λ a b. mapping_rank a.0 b.0), ((λ a b. view_rank a.0 b.0), tt))))) in
-    namers.the_type.to_one x y (ap (intoss namers.the_type.parts) (choices-one namers.the_type.parts ranks
-    ((λ a b k. refl), (field-one nat_cmp exact_unsigned, (field-one nat_cmp exact_unsigned, (field-one mapping_rank mapping-one, (field-one view_rank view-one, tt))))) (namers.as_values x) (namers.as_values y) e))
+    let ranks : Each Ordering namers.the_type.parts = ((λ a b. object_rank a.0 b.0), ((λ a b. view_rank a.0 b.0), tt)) in
+    namers.the_type.to_one x y (ap (intoss namers.the_type.parts) (choices-one namers.the_type.parts ranks (field-one object_rank object-one, (field-one view_rank view-one, tt)) (namers.as_values x) (namers.as_values y) e))
+
+kind-one : CmpEqualImpliesEq kind_rank
+unfolding point
+kind-one x y e =
+    let ranks : Each Ordering kinds.the_type.parts = (point, (point, (point, (point, ((λ a b. queue_rank a.0 b.0), ((λ a b. bool_cmp a.0 b.0), tt)))))) in
+    kinds.the_type.to_one x y (ap (intoss kinds.the_type.parts) (choices-one kinds.the_type.parts ranks (at-point, (at-point, (at-point, (at-point, (field-one queue_rank queue-one, (field-one bool_cmp flag-tie, tt)))))) (kinds.as_values x) (kinds.as_values y) e))
 
 expected-one : CmpEqualImpliesEq expected_rank
+unfolding point
 expected-one x y e =
-    let ranks : Each Ordering expecteds.the_type.parts = (
-      (λ a b. Equal),
-      (
-        (λ a b. Equal),
-        (
-          (λ a b. Equal),
-          (
-            (λ a b. Equal),
-            (
-              (λ a b. Equal),
-              (
-                (λ a b. nat_cmp a.0 b.0),
-                (
-                  (λ a b. Equal),
-                  (
-                    (λ a b. view_rank a.0 b.0),
-                    (
-                      (λ a b. nat_cmp a.0 b.0),
-                      (
-                        (λ a b. nat_cmp a.0 b.0),
-                        ((λ a b. tree_rank a.0 b.0), ((λ a b. ordering_then (tree_rank a.0 b.0) (nat_cmp a.1.0 b.1.0)), tt)),
-                      ),
-                    ),
-                  ),
-                ),
-              ),
-            ),
-          ),
-        ),
-      ),
-    ) in
-    expecteds.the_type.to_one x y (ap (intoss expecteds.the_type.parts) (choices-one expecteds.the_type.parts ranks (
-      (λ a b k. refl),
-      (
-        (λ a b k. refl),
-        (
-          (λ a b k. refl),
-          (
-            (λ a b k. refl),
-            (
-              (λ a b k. refl),
-              (
-                field-one nat_cmp exact_unsigned,
-                (
-                  (λ a b k. refl),
-                  (
-                    field-one view_rank view-one,
-                    (
-                      field-one nat_cmp exact_unsigned,
-                      (
-                        field-one nat_cmp exact_unsigned,
-                        (field-one tree_rank tree-one, (fields-one tree_rank nat_cmp tree-one exact_unsigned, tt)),
-                      ),
-                    ),
-                  ),
-                ),
-              ),
-            ),
-          ),
-        ),
-      ),
-    ) (expecteds.as_values x) (expecteds.as_values y) e))
+    let ranks : Each Ordering expecteds.the_type.parts = (point, (point, (point, (point, (point, ((λ a b. nat_cmp a.0 b.0), (point, (point, ((λ a b. view_rank a.0 b.0), ((λ a b. nat_cmp a.0 b.0), ((λ a b. nat_cmp a.0 b.0), ((λ a b. kind_rank a.0 b.0), ((λ a b. ordering_then (kind_rank a.0 b.0) (nat_cmp a.1.0 b.1.0)), tt))))))))))))) in
+    expecteds.the_type.to_one x y (ap (intoss expecteds.the_type.parts) (choices-one expecteds.the_type.parts ranks (at-point, (at-point, (at-point, (at-point, (at-point, (field-one nat_cmp exact_unsigned, (at-point, (at-point, (field-one view_rank view-one, (field-one nat_cmp exact_unsigned, (field-one nat_cmp exact_unsigned, (field-one kind_rank kind-one, (fields-one kind_rank nat_cmp kind-one exact_unsigned, tt))))))))))))) (expecteds.as_values x) (expecteds.as_values y) e))
 
-named_by : NamedBy → ℕ → Expects → By → ℕ → Named
-named_by b at e h oid = record { by = b; at = at; expects = e; how = h; oid = oid }
+naming_by : Namer → ℕ → Expected → LookUp → ℕ → Naming
+naming_by namer at expected how oid = record { namer = namer; at = at; expected = expected; how = how; oid = oid }
 
-named-is : (a b : Named) → a.by ≡ b.by → a.at ≡ b.at → a.expects ≡ b.expects → a.how ≡ b.how → a.oid ≡ b.oid → a ≡ b
-unfolding named_by
-named-is a b p q r s t = let k : named_by a.by a.at a.expects a.how a.oid ≡ named_by b.by b.at b.expects b.how b.oid = cc in k
+naming-is : (a b : Naming) → a.namer ≡ b.namer → a.at ≡ b.at → a.expected ≡ b.expected → a.how ≡ b.how → a.oid ≡ b.oid → a ≡ b
+unfolding naming_by
+naming-is a b p q r s t = let k : naming_by a.namer a.at a.expected a.how a.oid ≡ naming_by b.namer b.at b.expected b.how b.oid = cc in k
 
-pub named-one : CmpEqualImpliesEq named_rank
-named-one a b e =
-    let t1 = both-tie (namer_rank a.by b.by) (ordering_then (nat_cmp a.at b.at) (ordering_then (expected_rank a.expects b.expects) (ordering_then (look_rank a.how b.how) (nat_cmp a.oid b.oid)))) e in
-    let t2 = both-tie (nat_cmp a.at b.at) (ordering_then (expected_rank a.expects b.expects) (ordering_then (look_rank a.how b.how) (nat_cmp a.oid b.oid))) t1.1 in
-    let t3 = both-tie (expected_rank a.expects b.expects) (ordering_then (look_rank a.how b.how) (nat_cmp a.oid b.oid)) t2.1 in
+pub naming-one : CmpEqualImpliesEq naming_rank
+naming-one a b e =
+    let t1 = both-tie (namer_rank a.namer b.namer) (ordering_then (nat_cmp a.at b.at) (ordering_then (expected_rank a.expected b.expected) (ordering_then (look_rank a.how b.how) (nat_cmp a.oid b.oid)))) e in
+    let t2 = both-tie (nat_cmp a.at b.at) (ordering_then (expected_rank a.expected b.expected) (ordering_then (look_rank a.how b.how) (nat_cmp a.oid b.oid))) t1.1 in
+    let t3 = both-tie (expected_rank a.expected b.expected) (ordering_then (look_rank a.how b.how) (nat_cmp a.oid b.oid)) t2.1 in
     let t4 = both-tie (look_rank a.how b.how) (nat_cmp a.oid b.oid) t3.1 in
-    named-is a b (namer-one a.by b.by t1.0) (exact_unsigned a.at b.at t2.0) (expected-one a.expects b.expects t3.0) (look-one a.how b.how t4.0) (exact_unsigned a.oid b.oid t4.1)
+    naming-is a b (namer-one a.namer b.namer t1.0) (exact_unsigned a.at b.at t2.0) (expected-one a.expected b.expected t3.0) (look-one a.how b.how t4.0) (exact_unsigned a.oid b.oid t4.1)
 
 who-one : CmpEqualImpliesEq who_rank
+unfolding point
 who-one x y e =
-    let ranks : Each Ordering whos.the_type.parts = (
-      (λ a b. Equal),
-      (
-        (λ a b. Equal),
-        (
-          (λ a b. Equal),
-          (
-            (λ a b. Equal),
-            (
-              (λ a b. Equal),
-              (
-                (λ a b. Equal),
-                (
-                  (λ a b. Equal),
-                  (
-                    (λ a b. named_rank a.0 b.0),
-                    (
-                      (λ a b. mapping_rank a.0 b.0),
-                      ((λ a b. ordering_then (named_rank a.0 b.0) (nat_cmp a.1.0 b.1.0)), ((λ a b. nat_cmp a.0 b.0), tt)),
-                    ),
-                  ),
-                ),
-              ),
-            ),
-          ),
-        ),
-      ),
-    ) in
-    whos.the_type.to_one x y (ap (intoss whos.the_type.parts) (choices-one whos.the_type.parts ranks (
-      (λ a b k. refl),
-      (
-        (λ a b k. refl),
-        (
-          (λ a b k. refl),
-          (
-            (λ a b k. refl),
-            (
-              (λ a b k. refl),
-              (
-                (λ a b k. refl),
-                (
-                  (λ a b k. refl),
-                  (
-                    field-one named_rank named-one,
-                    (
-                      field-one mapping_rank mapping-one,
-                      (fields-one named_rank nat_cmp named-one exact_unsigned, (field-one nat_cmp exact_unsigned, tt)),
-                    ),
-                  ),
-                ),
-              ),
-            ),
-          ),
-        ),
-      ),
-    ) (whos.as_values x) (whos.as_values y) e))
+    let ranks : Each Ordering whos.the_type.parts = (point, (point, (point, (point, (point, (point, (point, ((λ a b. naming_rank a.0 b.0), ((λ a b. ordering_then (nat_cmp a.0 b.0) (record_rank a.1.0 b.1.0)), ((λ a b. ordering_then (naming_rank a.0 b.0) (nat_cmp a.1.0 b.1.0)), ((λ a b. nat_cmp a.0 b.0), tt))))))))))) in
+    whos.the_type.to_one x y (ap (intoss whos.the_type.parts) (choices-one whos.the_type.parts ranks (at-point, (at-point, (at-point, (at-point, (at-point, (at-point, (at-point, (field-one naming_rank naming-one, (fields-one nat_cmp record_rank exact_unsigned record-one, (fields-one naming_rank nat_cmp naming-one exact_unsigned, (field-one nat_cmp exact_unsigned, tt))))))))))) (whos.as_values x) (whos.as_values y) e))
 
-owned_by : OwnedBy → ℕ → ℕ → Owned
-owned_by w first blocks = record { who = w; first = first; blocks = blocks }
+owner_by : ℕ → ℕ → Who → Owner
+owner_by first blocks who = record { first = first; blocks = blocks; who = who }
 
-owned-is : (a b : Owned) → a.who ≡ b.who → a.first ≡ b.first → a.blocks ≡ b.blocks → a ≡ b
-unfolding owned_by
-owned-is a b p q r = let k : owned_by a.who a.first a.blocks ≡ owned_by b.who b.first b.blocks = cc in k
+owner-is : (a b : Owner) → a.first ≡ b.first → a.blocks ≡ b.blocks → a.who ≡ b.who → a ≡ b
+unfolding owner_by
+owner-is a b p q r = let k : owner_by a.first a.blocks a.who ≡ owner_by b.first b.blocks b.who = cc in k
 
-pub owned-one : CmpEqualImpliesEq owned_rank
-owned-one a b e =
+pub owner-one : CmpEqualImpliesEq owner_rank
+owner-one a b e =
     let t1 = both-tie (nat_cmp a.first b.first) (ordering_then (nat_cmp a.blocks b.blocks) (who_rank a.who b.who)) e in
     let t2 = both-tie (nat_cmp a.blocks b.blocks) (who_rank a.who b.who) t1.1 in
-    owned-is a b (who-one a.who b.who t2.1) (exact_unsigned a.first b.first t1.0) (exact_unsigned a.blocks b.blocks t2.0)
+    owner-is a b (exact_unsigned a.first b.first t1.0) (exact_unsigned a.blocks b.blocks t2.0) (who-one a.who b.who t2.1)
 
 -- ---- and what is told as equal is one
-abbrev pub named_eq : Named → Named → Bool
-named_eq = same_named.ghosts.eq
+abbrev pub naming_eq : Naming → Naming → Bool
+naming_eq = same_naming.ghosts.eq
 
-pub named-same : (a b : Named) → named_eq a b ≡ true → a ≡ b
-named-same a b e = named-one a b (ties (named_rank a b) (sym (named_laws.matches_eq-law a b) ∙ e))
+pub naming-same : (a b : Naming) → naming_eq a b ≡ true → a ≡ b
+naming-same a b e = naming-one a b (ties (naming_rank a b) (sym (naming_laws.matches_eq-law a b) ∙ e))
+
+pub look-same : (a b : LookUp) → is_look a b ≡ true → a ≡ b
+look-same a b e = look-one a b (ties (look_rank a b) (sym (look_laws.matches_eq-law a b) ∙ e))
+
+-- an order that is its own reverse ties
+own-reverse : (o : Ordering) → o ≡ ordering_reverse o → is_eq o ≡ true
+own-reverse Less e = absurd (cc)
+own-reverse Equal e = refl
+own-reverse Greater e = absurd (cc)
+
+pub look-itself : (a : LookUp) → is_look a a ≡ true
+look-itself a = look_laws.matches_eq-law a a ∙ own-reverse (look_rank a a) (look_laws.total-law.antisymm a a)

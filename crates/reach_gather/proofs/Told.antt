@@ -3,7 +3,7 @@ use Rattle.std.proofs.Common.{◌≡◌, ℕ, List, [], ◌∷◌, ◌++◌, ap,
 use Rattle.std.proofs.lemmas.List.{append-nil, append_assoc}
 use Rattle.ext_ref.specs.declared.range.NewRange.{NewRange}
 use Rattle.space_pool.specs.declared.entry.QueueEntry.{QueueEntry}
-use Rattle.reach_rules.specs.Owners.{Owner}
+use Rattle.reach_rules.specs.declared.owner.Owner.{Owner}
 use Rattle.reach_gather.specs.Held.{some_owners}
 
 abbrev pub range_of_new : NewRange → ℕ × ℕ

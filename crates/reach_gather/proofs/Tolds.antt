@@ -19,7 +19,9 @@ use Rattle.nx_ring.specs.Reading.{eph_ids}
 use Rattle.nx_ring.proofs.Laws.{eph_in}
 use Rattle.reach_rules.specs.declared.fault.ReachFault.{ReachFault}
 use Rattle.reach_rules.specs.declared.fault.ReachFault.TheVariants.{Unsound, Unnamed}
-use Rattle.reach_rules.specs.Naming.{ByMapping, Whole, Naming}
+use Rattle.reach_rules.specs.declared.naming.LookUp.TheVariants.{ByMapping}
+use Rattle.reach_rules.specs.declared.naming.Namer.TheVariants.{Whole}
+use Rattle.reach_rules.specs.declared.naming.Naming.{Naming}
 use Rattle.reach_rules.specs.Resolved.{Found, resolved, mapped}
 use Rattle.reach_rules.specs.Tested.{Answer, of_header, head_tested, tested}
 use Rattle.reach_rules.specs.Next.{names, names_if, next}

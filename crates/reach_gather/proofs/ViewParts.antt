@@ -15,7 +15,19 @@ use Rattle.vol_view.specs.Fields as volumes
 use Rattle.vol_view.specs.SnapRecords.{is_snapshot_long}
 use Rattle.space_map.specs.Fields.{cabs_of, cibs_of}
 use Rattle.space_map.specs.Blocks.{manager_of}
-use Rattle.reach_rules.specs.Naming.{ViewAt, LookUp, ByBlock, ByMapping, InContainer, InView, Object, Newest, InBlock, OfId, OfRecord, Namer, Whole, TreeKind, Files, Expected, ReapList, ExtendedMetadata, AddressBlock, InfoBlock, Naming, naming}
+use Rattle.reach_rules.specs.declared.naming.ViewAt.{ViewAt}
+use Rattle.reach_rules.specs.declared.naming.LookUp.{LookUp}
+use Rattle.reach_rules.specs.declared.naming.LookUp.TheVariants.{ByBlock, ByMapping, InContainer, InView}
+use Rattle.reach_rules.specs.declared.naming.Object.{Object}
+use Rattle.reach_rules.specs.declared.naming.Object.TheVariants.{Newest, InBlock, OfId, OfRecord}
+use Rattle.reach_rules.specs.declared.naming.Namer.{Namer}
+use Rattle.reach_rules.specs.declared.naming.Namer.TheVariants.{Whole}
+use Rattle.reach_rules.specs.declared.naming.TreeKind.{TreeKind}
+use Rattle.reach_rules.specs.declared.naming.TreeKind.TheVariants.{Files}
+use Rattle.reach_rules.specs.declared.naming.Expected.{Expected}
+use Rattle.reach_rules.specs.declared.naming.Expected.TheVariants.{ReapList, ExtendedMetadata, AddressBlock, InfoBlock}
+use Rattle.reach_rules.specs.declared.naming.Naming.{Naming}
+use Rattle.reach_rules.specs.Naming.{naming}
 use Rattle.reach_rules.specs.Resolved.{Found, resolved}
 use Rattle.reach_rules.specs.Tested.{Answer, tested}
 use Rattle.reach_rules.specs.Next.{roots, names, next, unless_zero, slot_namings, live_view, past_view, view_namings, records_of_snapshots, address_naming, addresses_in, address_namings, cib_naming, cibs_in, cab_namings, children_in, child_namings, node_namings}
@@ -181,7 +193,7 @@ outside-map : {X : Type 0} (f : X → Naming) (xs : List X) → ((x : X) → is_
 outside-map f xs a n h = let t = from-map f xs n h in subst (λ (x : Naming). is_in_view x.how ≡ false) (sym t.1.1) (a t.0)
 
 outside-tree : (object : ℕ → Object) (kind : TreeKind) (root : Naming) (steps : List Step) → is_in_view root.how ≡ false → AreOutside (tree_namings object kind root steps)
-outside-tree object kind root steps e = outside-one root (map (step_naming object kind root.how root.oid) steps) e (outside-map (step_naming object kind root.how root.oid) steps (λ step. e))
+outside-tree object kind root steps e = outside-one root (map (step_naming object kind root.how) steps) e (outside-map (step_naming object kind root.how) steps (λ step. e))
 
 outside-lists : (namer : Namer) (at : ℕ) (oids : List ℕ) → AreOutside (reap_namings namer at oids)
 outside-lists namer at [] = outside-none

@@ -16,7 +16,11 @@ use Rattle.bt_cursor.proofs.Walkables.{filter-all}
 use Rattle.bt_cursor.specs.declared.step.Step.{Step}
 use Rattle.bt_cursor.specs.Steps.{step_in, steps_in, steps_of}
 use Rattle.nx_ring.specs.Checkpoint.{Seen, site_of}
-use Rattle.reach_rules.specs.Naming.{LookUp, Object, TreeKind, TreeRoot, Naming}
+use Rattle.reach_rules.specs.declared.naming.LookUp.{LookUp}
+use Rattle.reach_rules.specs.declared.naming.Object.{Object}
+use Rattle.reach_rules.specs.declared.naming.TreeKind.{TreeKind}
+use Rattle.reach_rules.specs.declared.naming.Expected.TheVariants.{TreeRoot}
+use Rattle.reach_rules.specs.declared.naming.Naming.{Naming}
 use Rattle.reach_rules.specs.Next.{next}
 use Rattle.reach_rules.specs.Trees.{tree_line, misplaced, has_counts, is_short}
 use Rattle.reach_gather.specs.Namings.{tree_steps, tree_namings, AreNamingsOf}

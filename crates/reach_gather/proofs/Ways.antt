@@ -12,7 +12,15 @@ use Rattle.nx_block.specs.Super.{reaper_oid_of}
 use Rattle.nx_ring.specs.Objects.{Place}
 use Rattle.nx_ring.specs.Checkpoint.{Seen}
 use Rattle.nx_ring.specs.Reading.{eph_ids}
-use Rattle.reach_rules.specs.Naming.{LookUp, ByMapping, Newest, OfId, Namer, Whole, Expected, ReaperObject, ReapList, Naming, naming}
+use Rattle.reach_rules.specs.declared.naming.LookUp.{LookUp}
+use Rattle.reach_rules.specs.declared.naming.LookUp.TheVariants.{ByMapping}
+use Rattle.reach_rules.specs.declared.naming.Object.TheVariants.{Newest, OfId}
+use Rattle.reach_rules.specs.declared.naming.Namer.{Namer}
+use Rattle.reach_rules.specs.declared.naming.Namer.TheVariants.{Whole}
+use Rattle.reach_rules.specs.declared.naming.Expected.{Expected}
+use Rattle.reach_rules.specs.declared.naming.Expected.TheVariants.{ReaperObject, ReapList}
+use Rattle.reach_rules.specs.declared.naming.Naming.{Naming}
+use Rattle.reach_rules.specs.Naming.{naming}
 use Rattle.reach_rules.specs.Next.{roots, next, unless_zero}
 use Rattle.reach_rules.specs.Live.{rooted, led, IsLive}
 use Rattle.reach_rules.specs.Faults.{is_once, within_of, xid_of, IsNamedTwice}

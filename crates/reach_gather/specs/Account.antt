@@ -7,8 +7,11 @@ use Rattle.nx_ring.specs.Features.{container_features}
 use Rattle.omap_map.specs.Maps.{map_records}
 use Rattle.omap_map.specs.Records.{is_deleted}
 use Rattle.omap_map.specs.declared.records.OmapRecord.{OmapRecord}
-use Rattle.reach_rules.specs.Naming.{TreeKind, TreeRoot, Naming}
-use Rattle.reach_rules.specs.Owners.{Owner, IsOwner}
+use Rattle.reach_rules.specs.declared.naming.TreeKind.{TreeKind}
+use Rattle.reach_rules.specs.declared.naming.Expected.TheVariants.{TreeRoot}
+use Rattle.reach_rules.specs.declared.naming.Naming.{Naming}
+use Rattle.reach_rules.specs.declared.owner.Owner.{Owner}
+use Rattle.reach_rules.specs.Owners.{IsOwner}
 use Rattle.reach_rules.specs.PoolOwners.{IsPoolOwner}
 use Rattle.reach_rules.specs.Maps.{IsMapOf}
 use Rattle.reach_rules.specs.Trees.{IsRightTree}

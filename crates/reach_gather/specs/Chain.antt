@@ -1,6 +1,11 @@
 -- The reaper and its lists, by number.
 use Rattle.std.specs.Prelude.{ℕ, ◌-◌, ◌==◌, List, slice_index, if◌then◌else◌}
-use Rattle.reach_rules.specs.Naming.{ByMapping, Newest, OfId, Whole, ReaperObject, ReapList, Naming, naming}
+use Rattle.reach_rules.specs.declared.naming.LookUp.TheVariants.{ByMapping}
+use Rattle.reach_rules.specs.declared.naming.Object.TheVariants.{Newest, OfId}
+use Rattle.reach_rules.specs.declared.naming.Namer.TheVariants.{Whole}
+use Rattle.reach_rules.specs.declared.naming.Expected.TheVariants.{ReaperObject, ReapList}
+use Rattle.reach_rules.specs.declared.naming.Naming.{Naming}
+use Rattle.reach_rules.specs.Naming.{naming}
 
 -- the naming of the reaper, by the superblock, or of a list, by the object before it
 abbrev pub reap_at : List ℕ → ℕ → Naming

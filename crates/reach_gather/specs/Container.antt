@@ -11,7 +11,16 @@ use Rattle.vol_view.specs.Fields as volumes
 use Rattle.vol_view.specs.SnapRecords.{snap_super_of, is_snapshot_long}
 use Rattle.space_map.specs.Fields.{pool_queue_of, main_queue_of}
 use Rattle.space_pool.specs.declared.entry.Queue.TheVariants.{Pool, Main}
-use Rattle.reach_rules.specs.Naming.{ViewAt, ByBlock, ByMapping, Newest, InBlock, OfId, Namer, Whole, Kept, FreeQueue, Expected, SpaceManager, ContainerMap, ReaperObject, ReapList, Jumpstart, ExtendedMetadata, SnapshotSuper, InfoBlock, TreeRoot, Naming, naming}
+use Rattle.reach_rules.specs.declared.naming.ViewAt.{ViewAt}
+use Rattle.reach_rules.specs.declared.naming.LookUp.TheVariants.{ByBlock, ByMapping}
+use Rattle.reach_rules.specs.declared.naming.Object.TheVariants.{Newest, InBlock, OfId}
+use Rattle.reach_rules.specs.declared.naming.Namer.{Namer}
+use Rattle.reach_rules.specs.declared.naming.Namer.TheVariants.{Whole, Kept}
+use Rattle.reach_rules.specs.declared.naming.TreeKind.TheVariants.{FreeQueue}
+use Rattle.reach_rules.specs.declared.naming.Expected.{Expected}
+use Rattle.reach_rules.specs.declared.naming.Expected.TheVariants.{SpaceManager, ContainerMap, ReaperObject, ReapList, Jumpstart, ExtendedMetadata, SnapshotSuper, InfoBlock, TreeRoot}
+use Rattle.reach_rules.specs.declared.naming.Naming.{Naming}
+use Rattle.reach_rules.specs.Naming.{naming}
 use Rattle.reach_rules.specs.Resolved.{Found, resolved, standing}
 use Rattle.reach_rules.specs.Next.{roots, names, next, unless_zero, slot_namings, live_view, past_view, view_namings, records_of_snapshots, address_namings}
 use Rattle.reach_rules.specs.Live.{IsSoundFor}

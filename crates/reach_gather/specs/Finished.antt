@@ -1,19 +1,18 @@
 -- What is told of all that was gathered.
-use Rattle.std.specs.Prelude.{◌≡◌, ◌⊎◌, ℕ, Bool, true, false, List, map}
+use Rattle.std.specs.Prelude.{◌≡◌, ◌⊎◌, ℕ, Bool, List, map}
 use Rattle.apfs_model.specs.Apart.{Apart}
 use Rattle.apfs_model.specs.Lists.{In, Lists}
 use Rattle.omap_map.specs.declared.records.OmapRecord.{OmapRecord}
 use Rattle.nx_ring.specs.Checkpoint.{Seen}
-use Rattle.reach_rules.specs.Naming.{LookUp, ByBlock, ByMapping, InContainer, Object, Newest, InBlock, OfId, OfRecord, Naming}
-use Rattle.reach_rules.specs.Owners.{Owner}
+use Rattle.reach_rules.specs.declared.naming.LookUp.{LookUp}
+use Rattle.reach_rules.specs.declared.naming.LookUp.TheVariants.{ByBlock, ByMapping, InContainer}
+use Rattle.reach_rules.specs.declared.naming.Object.{Object}
+use Rattle.reach_rules.specs.declared.naming.Object.TheVariants.{Newest, InBlock, OfId, OfRecord}
+use Rattle.reach_rules.specs.declared.naming.Naming.{Naming}
+use Rattle.reach_rules.specs.contracts.naming.LookUpPartialEq.TheImpl as of_look
+use Rattle.reach_rules.specs.declared.owner.Owner.{Owner}
 use Rattle.reach_rules.specs.Reached.{range_of}
 use Rattle.reach_gather.specs.ViewParts.{ResolvesTo}
-use Rattle.reach_gather.specs.declared.naming.Mapping.{Mapping}
-use Rattle.reach_gather.specs.declared.naming.By.{By}
-use Rattle.reach_gather.specs.declared.naming.By.TheVariants as looks
-use Rattle.reach_gather.specs.declared.naming.Named as kept
-use Rattle.reach_gather.specs.declared.owner.Owned.{Owned}
-use Rattle.reach_gather.specs.Named.{record_of}
 
 -- ranges are those of some owners, each of which is taken once
 pub record AreRangesOnce (owners : List Owner) (ranges : List (ℕ × ℕ)) : Type 0 where
@@ -22,33 +21,21 @@ pub record AreRangesOnce (owners : List Owner) (ranges : List (ℕ × ℕ)) : Ty
   pub apart : Apart each
   pub same : ranges ≡ map range_of each
 
--- the range of an owner that is kept
-abbrev pub range_as : Owned → ℕ × ℕ
-range_as o = (o.first, o.blocks)
-
 -- the first block of a range
 abbrev pub first_of : ℕ × ℕ → ℕ
 first_of r = r.0
 
 -- two look-ups are one
-abbrev pub is_look : By → By → Bool
-is_look looks.Block looks.Block = true
-is_look looks.Block looks.Mapping = false
-is_look looks.Block looks.Container = false
-is_look looks.Mapping looks.Block = false
-is_look looks.Mapping looks.Mapping = true
-is_look looks.Mapping looks.Container = false
-is_look looks.Container looks.Block = false
-is_look looks.Container looks.Mapping = false
-is_look looks.Container looks.Container = true
+abbrev pub is_look : LookUp → LookUp → Bool
+is_look = of_look.ghosts.eq
 
--- the id of a naming that is kept
-abbrev pub id_of : kept.Named → ℕ
+-- the id of a naming
+abbrev pub id_of : Naming → ℕ
 id_of n = n.oid
 
 -- of some namings no two name one id
-abbrev pub AreOnceHere : List kept.Named → Type 0
-AreOnceHere ns = (m n : kept.Named) → In m ns → In n ns → m.oid ≡ n.oid → m ≡ n
+abbrev pub AreOnceHere : List Naming → Type 0
+AreOnceHere ns = (m n : Naming) → In m ns → In n ns → m.oid ≡ n.oid → m ≡ n
 
 -- an id is that of one of some namings that are looked up so
 pub record IsIdOf (how : LookUp) (namings : List Naming) (oid : ℕ) : Type 0 where
@@ -56,10 +43,6 @@ pub record IsIdOf (how : LookUp) (namings : List Naming) (oid : ℕ) : Type 0 wh
   pub one : In naming namings
   pub how_is : naming.how ≡ how
   pub oid_is : oid ≡ naming.oid
-
--- a record, with the block of its map
-abbrev pub mapping_as : Mapping → ℕ × OmapRecord
-mapping_as m = (m.map, record_of m)
 
 -- an object is the newest superblock, that of a block or of an ephemeral id that some namings name, or that of one of some records
 abbrev pub IsObjectOf : List Naming → List (ℕ × OmapRecord) → Object → Type 0

@@ -8,8 +8,9 @@ use Rattle.nx_ring.specs.Features.{container_features}
 use Rattle.omap_map.specs.declared.records.OmapRecord.{OmapRecord}
 use Rattle.space_map.specs.Stops.{IsSpaceOf}
 use Rattle.space_pool.specs.Stops.{ArePoolBits}
-use Rattle.reach_rules.specs.Naming.{Object, Naming}
-use Rattle.reach_rules.specs.Owners.{Owner}
+use Rattle.reach_rules.specs.declared.naming.Object.{Object}
+use Rattle.reach_rules.specs.declared.naming.Naming.{Naming}
+use Rattle.reach_rules.specs.declared.owner.Owner.{Owner}
 use Rattle.reach_rules.specs.PoolOwners.{pool_owners_through}
 use Rattle.reach_rules.specs.Accounted.{IsShaped}
 use Rattle.reach_rules.specs.Reached.{Whole, range_of, AreInPool, IsReached}

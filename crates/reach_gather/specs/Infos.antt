@@ -4,8 +4,15 @@ use Rattle.std.specs.List.{range_with_len}
 use Rattle.space_map.specs.Fields.{cabs_of, cibs_of, cab_cibs_of, addresses_of}
 use Rattle.space_map.specs.Stops.{Known}
 use Rattle.space_map.specs.declared.chunk.Chunk.{Chunk}
-use Rattle.reach_rules.specs.Naming.{ByBlock, InBlock, OfId, Whole, AddressBlock, InfoBlock, Naming, naming}
-use Rattle.reach_rules.specs.Owners.{Owner, owner, Bitmap}
+use Rattle.reach_rules.specs.declared.naming.LookUp.TheVariants.{ByBlock}
+use Rattle.reach_rules.specs.declared.naming.Object.TheVariants.{InBlock, OfId}
+use Rattle.reach_rules.specs.declared.naming.Namer.TheVariants.{Whole}
+use Rattle.reach_rules.specs.declared.naming.Expected.TheVariants.{AddressBlock, InfoBlock}
+use Rattle.reach_rules.specs.declared.naming.Naming.{Naming}
+use Rattle.reach_rules.specs.Naming.{naming}
+use Rattle.reach_rules.specs.declared.owner.Who.TheVariants.{Bitmap}
+use Rattle.reach_rules.specs.declared.owner.Owner.{Owner}
+use Rattle.reach_rules.specs.Owners.{owner}
 
 -- how many chunk-info blocks an address block names, and one where the manager says none
 abbrev pub room_of : List ℕ → ℕ

@@ -8,7 +8,11 @@ use Rattle.nx_block.specs.Super.{jumpstart_of}
 use Rattle.nx_block.specs.Jump.{jump_extents_of}
 use Rattle.nx_ring.specs.Checkpoint.{Seen, site_of}
 use Rattle.reach_rules.specs.declared.fault.ReachFault.{ReachFault}
-use Rattle.reach_rules.specs.Naming.{ByBlock, Newest, Whole, Jumpstart, Naming}
+use Rattle.reach_rules.specs.declared.naming.LookUp.TheVariants.{ByBlock}
+use Rattle.reach_rules.specs.declared.naming.Object.TheVariants.{Newest}
+use Rattle.reach_rules.specs.declared.naming.Namer.TheVariants.{Whole}
+use Rattle.reach_rules.specs.declared.naming.Expected.TheVariants.{Jumpstart}
+use Rattle.reach_rules.specs.declared.naming.Naming.{Naming}
 use Rattle.reach_rules.specs.Resolved.{Found, found_physical}
 use Rattle.reach_rules.specs.Tested.{head_tested}
 use Rattle.reach_rules.specs.Next.{next, unless_zero}

@@ -3,7 +3,14 @@ use Rattle.std.specs.Prelude.{◌≡◌, ℕ, List, [], ◌∷◌}
 use Rattle.apfs_model.specs.Lists.{Lists}
 use Rattle.nx_ring.specs.Checkpoint.{Seen}
 use Rattle.space_pool.specs.declared.entry.Queue.{Queue}
-use Rattle.reach_rules.specs.Naming.{LookUp, ByBlock, ByMapping, Object, InBlock, OfId, TreeKind, MapRecords, MapSnapshots, ExtentRefs, SnapMetadata, FreeQueue, TreeRoot, Naming}
+use Rattle.reach_rules.specs.declared.naming.LookUp.{LookUp}
+use Rattle.reach_rules.specs.declared.naming.LookUp.TheVariants.{ByBlock, ByMapping}
+use Rattle.reach_rules.specs.declared.naming.Object.{Object}
+use Rattle.reach_rules.specs.declared.naming.Object.TheVariants.{InBlock, OfId}
+use Rattle.reach_rules.specs.declared.naming.TreeKind.{TreeKind}
+use Rattle.reach_rules.specs.declared.naming.TreeKind.TheVariants.{MapRecords, MapSnapshots, ExtentRefs, SnapMetadata, FreeQueue}
+use Rattle.reach_rules.specs.declared.naming.Expected.TheVariants.{TreeRoot}
+use Rattle.reach_rules.specs.declared.naming.Naming.{Naming}
 use Rattle.reach_rules.specs.Next.{next}
 use Rattle.reach_rules.specs.Live.{Live}
 use Rattle.reach_gather.specs.Namings.{tree_steps, tree_namings}

@@ -1,6 +1,5 @@
-pub mod Named
-pub mod Owned
 pub mod Held
+pub mod Kept
 pub mod Adds
 pub mod Steps
 pub mod Mapped

@@ -1,7 +1,13 @@
 -- The namings of an object map that was loaded: its own, and those of its two trees.
 use Rattle.std.specs.Prelude.{ℕ, ◌==◌, List, [], ◌∷◌, ◌++◌, if◌then◌else◌}
 use Rattle.omap_map.specs.Maps.{Contents}
-use Rattle.reach_rules.specs.Naming.{ByBlock, InBlock, Whole, MapRecords, MapSnapshots, TreeRoot, Naming, naming}
+use Rattle.reach_rules.specs.declared.naming.LookUp.TheVariants.{ByBlock}
+use Rattle.reach_rules.specs.declared.naming.Object.TheVariants.{InBlock}
+use Rattle.reach_rules.specs.declared.naming.Namer.TheVariants.{Whole}
+use Rattle.reach_rules.specs.declared.naming.TreeKind.TheVariants.{MapRecords, MapSnapshots}
+use Rattle.reach_rules.specs.declared.naming.Expected.TheVariants.{TreeRoot}
+use Rattle.reach_rules.specs.declared.naming.Naming.{Naming}
+use Rattle.reach_rules.specs.Naming.{naming}
 use Rattle.reach_gather.specs.Steps.{node_namings}
 
 -- the map in a block names the root of its tree of records

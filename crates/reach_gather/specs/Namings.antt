@@ -8,7 +8,14 @@ use Rattle.ext_ref.specs.Ranges.{ext_tree}
 use Rattle.space_pool.specs.Queues.{queue_tree}
 use Rattle.bt_cursor.specs.Steps.{steps_of}
 use Rattle.bt_cursor.specs.declared.step.Step.{Step}
-use Rattle.reach_rules.specs.Naming.{LookUp, Object, Whole, TreeKind, MapRecords, MapSnapshots, ExtentRefs, SnapMetadata, FreeQueue, Files, TreeNode, Naming, naming}
+use Rattle.reach_rules.specs.declared.naming.LookUp.{LookUp}
+use Rattle.reach_rules.specs.declared.naming.Object.{Object}
+use Rattle.reach_rules.specs.declared.naming.Namer.TheVariants.{Whole}
+use Rattle.reach_rules.specs.declared.naming.TreeKind.{TreeKind}
+use Rattle.reach_rules.specs.declared.naming.TreeKind.TheVariants.{MapRecords, MapSnapshots, ExtentRefs, SnapMetadata, FreeQueue, Files}
+use Rattle.reach_rules.specs.declared.naming.Expected.TheVariants.{TreeNode}
+use Rattle.reach_rules.specs.declared.naming.Naming.{Naming}
+use Rattle.reach_rules.specs.Naming.{naming}
 use Rattle.reach_rules.specs.Resolved.{Found, resolved}
 use Rattle.reach_rules.specs.Next.{next}
 use Rattle.reach_rules.specs.Live.{Live, IsSoundFor}
@@ -29,12 +36,12 @@ level_below zero = zero
 level_below (suc level) = level
 
 -- a step names its child; the namer is the object of the node from which it is taken
-abbrev pub step_naming : (ℕ → Object) → TreeKind → LookUp → ℕ → Step → Naming
-step_naming object kind how root step = naming (Whole (object step.node)) step.at (TreeNode kind (level_below step.level)) how step.child
+abbrev pub step_naming : (ℕ → Object) → TreeKind → LookUp → Step → Naming
+step_naming object kind how step = naming (Whole (object step.node)) step.at (TreeNode kind (level_below step.level)) how step.child
 
 -- the namings of a tree by its steps, from that of its root on
 abbrev pub tree_namings : (ℕ → Object) → TreeKind → Naming → List Step → List Naming
-tree_namings object kind root steps = root ∷ map (step_naming object kind root.how root.oid) steps
+tree_namings object kind root steps = root ∷ map (step_naming object kind root.how) steps
 
 -- a naming resolves to an object that is sound as it expects, and no feature is there through it
 pub record IsPlainNaming (image : List ℕ) (seen : Seen) (n : Naming) : Type 0 where

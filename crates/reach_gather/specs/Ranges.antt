@@ -5,8 +5,11 @@ use Rattle.apfs_model.specs.Counts.{given}
 use Rattle.apfs_model.specs.Lists.{In}
 use Rattle.nx_ring.specs.Checkpoint.{Seen}
 use Rattle.omap_map.specs.declared.records.OmapRecord.{OmapRecord}
-use Rattle.reach_rules.specs.Naming.{Object, Newest, Naming}
-use Rattle.reach_rules.specs.Owners.{Owner, first_owners, owners_through}
+use Rattle.reach_rules.specs.declared.naming.Object.{Object}
+use Rattle.reach_rules.specs.declared.naming.Object.TheVariants.{Newest}
+use Rattle.reach_rules.specs.declared.naming.Naming.{Naming}
+use Rattle.reach_rules.specs.declared.owner.Owner.{Owner}
+use Rattle.reach_rules.specs.Owners.{first_owners, owners_through}
 use Rattle.reach_rules.specs.Tally.{IsObjectCount}
 use Rattle.reach_gather.specs.Tells.{objects_through}
 use Rattle.reach_gather.specs.ViewParts.{record_object, record_owner, AreJoined}

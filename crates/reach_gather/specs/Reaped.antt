@@ -5,7 +5,13 @@ use Rattle.apfs_model.specs.Lists.{In, Lists}
 use Rattle.nx_block.specs.Super.{reaper_oid_of}
 use Rattle.nx_ring.specs.Checkpoint.{Seen}
 use Rattle.nx_ring.specs.Reading.{eph_ids}
-use Rattle.reach_rules.specs.Naming.{ByMapping, Newest, OfId, Whole, Expected, ReaperObject, ReapList, Naming, naming}
+use Rattle.reach_rules.specs.declared.naming.LookUp.TheVariants.{ByMapping}
+use Rattle.reach_rules.specs.declared.naming.Object.TheVariants.{Newest, OfId}
+use Rattle.reach_rules.specs.declared.naming.Namer.TheVariants.{Whole}
+use Rattle.reach_rules.specs.declared.naming.Expected.{Expected}
+use Rattle.reach_rules.specs.declared.naming.Expected.TheVariants.{ReaperObject, ReapList}
+use Rattle.reach_rules.specs.declared.naming.Naming.{Naming}
+use Rattle.reach_rules.specs.Naming.{naming}
 use Rattle.reach_rules.specs.Next.{next, unless_zero}
 use Rattle.reach_rules.specs.Live.{Live}
 use Rattle.reach_gather.specs.Namings.{IsPlainNaming}

@@ -3,7 +3,10 @@ use Rattle.std.specs.Prelude.{ℕ, List, [], ◌∷◌, ◌++◌, flat_map}
 use Rattle.nx_block.specs.Super.{space_oid_of}
 use Rattle.nx_ring.specs.Checkpoint.{Seen, site_of}
 use Rattle.space_map.specs.Stops.{HasManager, IsRightSpace}
-use Rattle.reach_rules.specs.Naming.{OfId, Namer, Whole, Naming}
+use Rattle.reach_rules.specs.declared.naming.Object.TheVariants.{OfId}
+use Rattle.reach_rules.specs.declared.naming.Namer.{Namer}
+use Rattle.reach_rules.specs.declared.naming.Namer.TheVariants.{Whole}
+use Rattle.reach_rules.specs.declared.naming.Naming.{Naming}
 use Rattle.reach_rules.specs.Next.{address_namings}
 use Rattle.reach_gather.specs.Joined.{ArePart}
 use Rattle.reach_gather.specs.Container.{pool_queue_naming, main_queue_naming, block_namings, manager_naming}

@@ -2,11 +2,14 @@
 use Rattle.std.specs.Prelude.{◌≡◌, ℕ, true, List, [], ◌∷◌, ◌++◌, flat_map}
 use Rattle.apfs_model.specs.Lists.{In, Lists, through}
 use Rattle.nx_ring.specs.Checkpoint.{Seen}
-use Rattle.reach_rules.specs.Naming.{Object, Newest, Naming}
+use Rattle.reach_rules.specs.declared.naming.Object.{Object}
+use Rattle.reach_rules.specs.declared.naming.Object.TheVariants.{Newest}
+use Rattle.reach_rules.specs.declared.naming.Naming.{Naming}
 use Rattle.reach_rules.specs.Resolved.{Found, resolved}
 use Rattle.reach_rules.specs.Next.{roots, next}
 use Rattle.reach_rules.specs.Live.{Live, IsLive, NamesSound, IsNamed}
-use Rattle.reach_rules.specs.Owners.{Owner, first_owners, owners_through, IsOwner}
+use Rattle.reach_rules.specs.declared.owner.Owner.{Owner}
+use Rattle.reach_rules.specs.Owners.{first_owners, owners_through, IsOwner}
 use Rattle.reach_rules.specs.PoolOwners.{pool_owners_through, IsPoolOwner}
 use Rattle.reach_rules.specs.Features.{features_through}
 use Rattle.reach_rules.specs.Faults.{is_once}

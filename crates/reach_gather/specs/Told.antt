@@ -10,7 +10,9 @@ use Rattle.bt_node.specs.declared.fault.NodeFault.TheVariants.{Head}
 use Rattle.reach_rules.specs.declared.fault.Why.TheVariants.{Node}
 use Rattle.reach_rules.specs.declared.fault.ReachFault.{ReachFault}
 use Rattle.reach_rules.specs.declared.fault.ReachFault.TheVariants.{Unsound, Unnamed}
-use Rattle.reach_rules.specs.Naming.{LookUp, ByMapping, Naming}
+use Rattle.reach_rules.specs.declared.naming.LookUp.{LookUp}
+use Rattle.reach_rules.specs.declared.naming.LookUp.TheVariants.{ByMapping}
+use Rattle.reach_rules.specs.declared.naming.Naming.{Naming}
 use Rattle.reach_rules.specs.Resolved.{Found, resolved, mapped}
 use Rattle.reach_rules.specs.Tested.{Answer, head_tested, tested}
 use Rattle.reach_rules.specs.Faults.{within_of, xid_of}

@@ -5,11 +5,23 @@ use Rattle.bt_node.specs.Entries.{Pair}
 use Rattle.bt_cursor.specs.declared.step.Step.{Step}
 use Rattle.nx_ring.specs.Checkpoint.{Seen}
 use Rattle.omap_map.specs.declared.records.OmapRecord.{OmapRecord}
-use Rattle.reach_rules.specs.Naming.{ViewAt, LookUp, ByBlock, ByMapping, InContainer, InView, Object, Newest, OfRecord, Namer, TreeKind, Files, Expected, ExtendedMetadata, TreeRoot, TreeNode, Naming}
+use Rattle.reach_rules.specs.declared.naming.ViewAt.{ViewAt}
+use Rattle.reach_rules.specs.declared.naming.LookUp.{LookUp}
+use Rattle.reach_rules.specs.declared.naming.LookUp.TheVariants.{ByBlock, ByMapping, InContainer, InView}
+use Rattle.reach_rules.specs.declared.naming.Object.{Object}
+use Rattle.reach_rules.specs.declared.naming.Object.TheVariants.{Newest, OfRecord}
+use Rattle.reach_rules.specs.declared.naming.Namer.{Namer}
+use Rattle.reach_rules.specs.declared.naming.TreeKind.{TreeKind}
+use Rattle.reach_rules.specs.declared.naming.TreeKind.TheVariants.{Files}
+use Rattle.reach_rules.specs.declared.naming.Expected.{Expected}
+use Rattle.reach_rules.specs.declared.naming.Expected.TheVariants.{ExtendedMetadata, TreeRoot, TreeNode}
+use Rattle.reach_rules.specs.declared.naming.Naming.{Naming}
 use Rattle.reach_rules.specs.Resolved.{Found, resolved}
 use Rattle.reach_rules.specs.Next.{roots, next, unless_zero, address_namings}
 use Rattle.reach_rules.specs.Live.{Live, IsLive, NamesSound, IsNamed}
-use Rattle.reach_rules.specs.Owners.{Owner, owner, Recorded, first_owners, owners_through, IsOwner}
+use Rattle.reach_rules.specs.declared.owner.Who.TheVariants.{Recorded}
+use Rattle.reach_rules.specs.declared.owner.Owner.{Owner}
+use Rattle.reach_rules.specs.Owners.{owner, first_owners, owners_through, IsOwner}
 use Rattle.reach_rules.specs.PoolOwners.{pool_owners_through, IsPoolOwner}
 use Rattle.reach_rules.specs.Features.{features_through}
 use Rattle.reach_rules.specs.Maps.{IsUsed, IsIdle}

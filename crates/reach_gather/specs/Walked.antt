@@ -6,7 +6,8 @@ use Rattle.omap_map.specs.Maps.{record_tree, snapshot_tree}
 use Rattle.vol_view.specs.SnapRecords.{metadata_tree}
 use Rattle.ext_ref.specs.Ranges.{ext_tree}
 use Rattle.space_pool.specs.Queues.{queue_tree}
-use Rattle.reach_rules.specs.Naming.{TreeKind, MapRecords, MapSnapshots, ExtentRefs, SnapMetadata, FreeQueue, Files}
+use Rattle.reach_rules.specs.declared.naming.TreeKind.{TreeKind}
+use Rattle.reach_rules.specs.declared.naming.TreeKind.TheVariants.{MapRecords, MapSnapshots, ExtentRefs, SnapMetadata, FreeQueue, Files}
 use Rattle.reach_rules.specs.Trees.{IsRightTree}
 
 -- each place that is met in the tree of a root has a node; a view's is not looked at here

@@ -1,23 +1,23 @@
 // How many objects are named.
-ghost use Rattle.std.specs.Prelude.{◌≡◌, ◌↔◌, ◌+◌, ◌^◌, ◌<◌, map, filter, length, IfOk};
+ghost use Rattle.std.specs.Prelude.{◌≡◌, ℕ, ◌↔◌, ◌+◌, ◌^◌, ◌<◌, map, filter, length, IfOk};
 ghost use Rattle.apfs_model.specs.Apart.{Apart};
 ghost use Rattle.apfs_model.specs.Counts.{given};
 ghost use Rattle.apfs_model.specs.Lists.{In, Lists};
+ghost use Rattle.omap_map.specs.declared.records.OmapRecord.{OmapRecord};
+ghost use Rattle.reach_rules.specs.declared.naming.Naming.{Naming};
 ghost use Rattle.reach_rules.specs.Tally.{IsNumberOf};
-ghost use Rattle.reach_gather.specs.declared.naming.Mapping as entry;
-ghost use Rattle.reach_gather.specs.declared.naming.Named as kept;
-ghost use Rattle.reach_gather.specs.Named.{look_of, naming_of};
-ghost use Rattle.reach_gather.specs.Finished.{is_look, id_of, IsIdOf, mapping_as, IsObjectOf};
+ghost use Rattle.reach_gather.specs.Finished.{is_look, id_of, IsIdOf, IsObjectOf};
 
 use crate::gathered::Gathered;
-use crate::naming::{By, Mapping, Named};
 use crate::once::is_look;
 use id_lists::distinct;
+use omap_map::OmapRecord;
+use reach_rules::{LookUp, Naming};
 use std::alloc::{AllocError, Global};
 
 // The ids of the namings that are looked up so.
-fn ids_of(alloc: Global, namings: &[Named], how: By) -> Result<Vec<u64>, AllocError>
-    ensures { IfOk result (λ v. v.items ≡ map id_of (filter (λ (n : kept.Named). is_look n.how how) namings.now)) }
+fn ids_of(alloc: Global, namings: &[Naming], how: LookUp) -> Result<Vec<u64>, AllocError>
+    ensures { IfOk result (λ v. v.items ≡ map id_of (filter (λ (n : Naming). is_look n.how how) namings.now)) }
 {
     namings
         .iter()
@@ -27,8 +27,8 @@ fn ids_of(alloc: Global, namings: &[Named], how: By) -> Result<Vec<u64>, AllocEr
 }
 
 // The ids of the namings that are looked up so, each once.
-fn ids_once(alloc: Global, namings: &[Named], how: By) -> Result<Vec<u64>, AllocError>
-    ensures lists { IfOk result (λ v. Lists v.items (IsIdOf (look_of how) (map naming_of namings.now))) }
+fn ids_once(alloc: Global, namings: &[Naming], how: LookUp) -> Result<Vec<u64>, AllocError>
+    ensures lists { IfOk result (λ v. Lists v.items (IsIdOf how namings.now)) }
     ensures apart { IfOk result (λ v. Apart v.items) }
 {
     let mut ids = ids_of(alloc, namings, how)?;
@@ -47,14 +47,18 @@ fn all_of(ids: usize, blocks: usize, records: usize) -> u64
 
 impl Gathered {
     /// How many objects are named: the newest superblock, those of the blocks and of the ephemeral ids that are named, and those of
-    /// the records, each once. The records are left each once.
-    pub fn objects(&self, alloc: Global, records: &mut Vec<Mapping>) -> Result<u64, AllocError>
-        ensures count { IfOk result (IsNumberOf (IsObjectOf self.now.namings (map mapping_as records.old.items))) }
-        ensures same { IfOk result (λ number. (m : entry.Mapping) → In m records.old.items ↔ In m records.new.items) }
+    /// the records, each once. The records, each with the block of its map, are left each once.
+    pub fn objects(
+        &self,
+        alloc: Global,
+        records: &mut Vec<(u64, OmapRecord)>,
+    ) -> Result<u64, AllocError>
+        ensures count { IfOk result (IsNumberOf (IsObjectOf self.now.namings records.old.items)) }
+        ensures same { IfOk result (λ _. (m : ℕ × OmapRecord) → In m records.old.items ↔ In m records.new.items) }
         ensures few { length self.now.namings < 2 ^ 63 }
     {
-        let ids = ids_once(alloc, &self.namings, By::Mapping)?;
-        let blocks = ids_once(alloc, &self.namings, By::Block)?;
+        let ids = ids_once(alloc, &self.namings, LookUp::ByMapping)?;
+        let blocks = ids_once(alloc, &self.namings, LookUp::ByBlock)?;
         distinct(records);
         Ok(all_of(ids.len(), blocks.len(), records.len()))
     }

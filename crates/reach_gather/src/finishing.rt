@@ -1,20 +1,19 @@
 // The owners as ranges, each once.
-ghost use Rattle.std.specs.Prelude.{◌≡◌, ◌↔◌, map, IfOk, IsTrue};
+ghost use Rattle.std.specs.Prelude.{◌≡◌, ◌↔◌, map, flat_map, IfOk, IsTrue};
 ghost use Rattle.std.specs.List.Sorted.{IsStrictlyIncreasing};
-ghost use Rattle.apfs_model.specs.Lists.{In};
-ghost use Rattle.reach_rules.specs.Owners.{Owner};
-ghost use Rattle.reach_gather.specs.declared.owner.Owned as kept;
-ghost use Rattle.reach_gather.specs.Owned.{owner_as};
-ghost use Rattle.reach_gather.specs.Finished.{AreRangesOnce, first_of, range_as};
+ghost use Rattle.reach_rules.specs.Reached.{range_of};
+ghost use Rattle.reach_gather.specs.Kept.{owners_in};
+ghost use Rattle.reach_gather.specs.Finished.{AreRangesOnce, first_of};
 
 use crate::gathered::Gathered;
-use crate::owner::Owned;
+use crate::keeping::{KeptOwners, owners_of, ranges_of};
 use id_lists::distinct;
+use reach_rules::Owner;
 use std::alloc::{AllocError, Global};
 
-// The ranges of some owners, in their order.
-fn ranges_of(alloc: Global, owners: &[Owned]) -> Result<Vec<(u64, u64)>, AllocError>
-    ensures { IfOk result (λ v. v.items ≡ map range_as owners.now) }
+// The ranges of some owners.
+fn ranges_alone(alloc: Global, owners: &[Owner]) -> Result<Vec<(u64, u64)>, AllocError>
+    ensures { IfOk result (λ v. v.items ≡ map range_of owners.now) }
 {
     owners
         .iter()
@@ -34,39 +33,33 @@ fn do_rise(ranges: &[(u64, u64)]) -> bool
     true
 }
 
-// The ranges of some owners, each owner once. An owner that was noted twice has two ranges that begin at one block, so the owners
+// The ranges of owners that are kept, each owner once. An owner that was noted twice has two ranges that begin at one block, so the owners
 // themselves are compared only where two ranges do.
-fn ranges_once(alloc: Global, owners: &mut Vec<Owned>) -> Result<Vec<(u64, u64)>, AllocError>
-    ensures all { IfOk result (λ v. AreRangesOnce (map owner_as owners.old.items) v.items) }
-    ensures same { (o : kept.Owned) → In o owners.old.items ↔ In o owners.new.items }
+fn ranges_once(alloc: Global, kept: &[KeptOwners]) -> Result<Vec<(u64, u64)>, AllocError>
+    ensures { IfOk result (λ v. AreRangesOnce (flat_map owners_in kept.now) v.items) }
 {
-    let mut ranges = ranges_of(alloc, owners)?;
+    let mut ranges = ranges_of(alloc, kept)?;
     ranges.sort_unstable();
     if do_rise(&ranges) {
         return Ok(ranges);
     }
-    distinct(owners);
-    ranges_of(alloc, owners)
+    let mut owners = owners_of(alloc, kept)?;
+    distinct(&mut owners);
+    ranges_alone(alloc, &owners)
 }
 
 impl Gathered {
     /// The ranges of the owners, each owner once.
-    pub fn ranges(&mut self, alloc: Global) -> Result<Vec<(u64, u64)>, AllocError>
-        ensures all { IfOk result (λ v. AreRangesOnce self.old.owners v.items) }
-        ensures same { (a : Owner) → In a self.old.owners ↔ In a self.new.owners }
-        ensures namings { self.new.namings ≡ self.old.namings }
-        ensures pool_owners { self.new.pool_owners ≡ self.old.pool_owners }
+    pub fn ranges(&self, alloc: Global) -> Result<Vec<(u64, u64)>, AllocError>
+        ensures { IfOk result (λ v. AreRangesOnce self.now.owners v.items) }
     {
-        ranges_once(alloc, &mut self.owners)
+        ranges_once(alloc, &self.owners)
     }
 
     /// The ranges of the owners of the pool, each owner once.
-    pub fn pool_ranges(&mut self, alloc: Global) -> Result<Vec<(u64, u64)>, AllocError>
-        ensures all { IfOk result (λ v. AreRangesOnce self.old.pool_owners v.items) }
-        ensures same { (a : Owner) → In a self.old.pool_owners ↔ In a self.new.pool_owners }
-        ensures namings { self.new.namings ≡ self.old.namings }
-        ensures owners { self.new.owners ≡ self.old.owners }
+    pub fn pool_ranges(&self, alloc: Global) -> Result<Vec<(u64, u64)>, AllocError>
+        ensures { IfOk result (λ v. AreRangesOnce self.now.pool_owners v.items) }
     {
-        ranges_once(alloc, &mut self.pool_owners)
+        ranges_once(alloc, &self.pool_owners)
     }
 }

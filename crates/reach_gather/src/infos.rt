@@ -1,18 +1,16 @@
 // The blocks that tell of chunks, and the bitmaps of chunks.
 ghost use Rattle.std.specs.Prelude.{◌≡◌, ◌++◌, ◌==◌, map, slice_index, OnOk, if◌then◌else◌};
 ghost use Rattle.space_map.specs.Fields.{cabs_of, cibs_of, addresses_of};
-ghost use Rattle.reach_rules.specs.Owners.{owner, Bitmap};
+ghost use Rattle.reach_rules.specs.declared.owner.Who.TheVariants.{Bitmap};
+ghost use Rattle.reach_rules.specs.Owners.{owner};
 ghost use Rattle.reach_gather.specs.Infos.{room_of, known_cab, known_cib, known_cabs, known_cibs, bitmaps_from};
-ghost use Rattle.reach_gather.specs.Named.{naming_of};
-ghost use Rattle.reach_gather.specs.Owned.{owner_as};
 ghost use Rattle.reach_gather.specs.Steps.{block_owner};
 
 use crate::Gathered;
-use crate::naming::{By, Expects, Named, NamedBy};
-use crate::owner::{Owned, OwnedBy};
 use apfs_layout::space_manager as layout;
 use blk_source::NoMemory;
 use obj_base::u32_at;
+use reach_rules::{Expected, LookUp, Namer, Naming, Object, Owner, Who};
 use space_map::{Chunk, Space};
 
 // The number at an index, 0 past the end.
@@ -57,38 +55,38 @@ fn room(space: &Space) -> u32
 }
 
 // The naming of a chunk-info address block.
-fn cab(space: &Space, oid: u64, i: u32) -> Named
-    ensures { naming_of result ≡ known_cab oid space.now i }
+fn cab(space: &Space, oid: u64, i: u32) -> Naming
+    ensures { result ≡ known_cab oid space.now i }
 {
-    Named {
-        by: NamedBy::Id(oid),
+    Naming {
+        namer: Namer::Whole(Object::OfId(oid)),
         at: u64::from(addresses(space)) + 8 * u64::from(i),
-        expects: Expects::AddressBlock(u64::from(i)),
-        how: By::Block,
+        expected: Expected::AddressBlock(u64::from(i)),
+        how: LookUp::ByBlock,
         oid: item(space.cabs(), i),
     }
 }
 
 // The naming of a chunk-info block.
-fn cib(space: &Space, oid: u64, i: u32) -> Named
-    ensures { naming_of result ≡ known_cib oid space.now i }
+fn cib(space: &Space, oid: u64, i: u32) -> Naming
+    ensures { result ≡ known_cib oid space.now i }
 {
     let block = item(space.cibs(), i);
     if cabs(space) == 0 {
-        return Named {
-            by: NamedBy::Id(oid),
+        return Naming {
+            namer: Namer::Whole(Object::OfId(oid)),
             at: u64::from(addresses(space)) + 8 * u64::from(i),
-            expects: Expects::InfoBlock(u64::from(i)),
-            how: By::Block,
+            expected: Expected::InfoBlock(u64::from(i)),
+            how: LookUp::ByBlock,
             oid: block,
         };
     }
     let room = room(space);
-    Named {
-        by: NamedBy::Block(item(space.cabs(), i / room)),
+    Naming {
+        namer: Namer::Whole(Object::InBlock(item(space.cabs(), i / room))),
         at: 40 + 8 * u64::from(i % room),
-        expects: Expects::InfoBlock(u64::from(i)),
-        how: By::Block,
+        expected: Expected::InfoBlock(u64::from(i)),
+        how: LookUp::ByBlock,
         oid: block,
     }
 }
@@ -118,11 +116,11 @@ fn note_cibs(space: &Space, oid: u64, out: &mut Gathered) -> Result<(), NoMemory
 }
 
 // The bitmap of the chunk of a number, without blocks where it has none.
-fn bitmap(chunk: &Chunk, i: u64) -> Owned
-    ensures { owner_as result ≡ owner (Bitmap i) chunk.now.bitmap (if chunk.now.bitmap == 0 then 0 else 1) }
+fn bitmap(chunk: &Chunk, i: u64) -> Owner
+    ensures { result ≡ owner (Bitmap i) chunk.now.bitmap (if chunk.now.bitmap == 0 then 0 else 1) }
 {
-    Owned {
-        who: OwnedBy::Bitmap(i),
+    Owner {
+        who: Who::Bitmap(i),
         first: chunk.bitmap,
         blocks: if chunk.bitmap == 0 { 0 } else { 1 },
     }

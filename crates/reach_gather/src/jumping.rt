@@ -12,13 +12,11 @@ ghost use Rattle.reach_gather.specs.Container.{jumpstart_naming};
 ghost use Rattle.reach_gather.specs.Adds.{Adds};
 
 use crate::Gathered;
-use crate::naming::{By, Expects, Named, NamedBy};
-use crate::ranges::tell_all;
 use crate::starting::jumpstart;
 use blk_source::BlockSource;
 use nx_ring::Checkpoint;
 use obj_base::Stop;
-use reach_rules::ReachFault;
+use reach_rules::{Expected, LookUp, Namer, Naming, Object, ReachFault};
 use std::alloc::Global;
 
 /// Adds the EFI jumpstart, where the superblock names one, with the extents of its driver.
@@ -43,14 +41,14 @@ pub fn add_jumpstart<S: BlockSource>(
     if block == 0 {
         return Ok(());
     }
-    let naming = Named {
-        by: NamedBy::Newest,
+    let naming = Naming {
+        namer: Namer::Whole(Object::Newest),
         at: 1272,
-        expects: Expects::Jumpstart,
-        how: By::Block,
+        expected: Expected::Jumpstart,
+        how: LookUp::ByBlock,
         oid: block,
     };
     out.note_block(naming)?;
-    tell_all(out, naming, extents.as_slice())?;
+    out.tell_those(naming, extents)?;
     Ok(())
 }

@@ -6,7 +6,7 @@ ghost use Rattle.std.specs.Prelude.{◌≡◌, IfOk, IfSome, IsErrOf, option_map
 ghost use Rattle.nx_ring.specs.Reading.{HasWholeBlocks};
 ghost use Rattle.obj_base.specs.Stops.{Gives, raised};
 ghost use Rattle.obj_base.specs.declared.stop.Stop.TheVariants.{ReadFault, NoMemory};
-ghost use Rattle.reach_rules.specs.Naming.{OfId};
+ghost use Rattle.reach_rules.specs.declared.naming.Object.TheVariants.{OfId};
 ghost use Rattle.reach_gather.specs.Told.{found_mapped, told_mapped, unsound};
 
 use bt_node::NodeFault;

@@ -1,63 +1,46 @@
 // Whether an id is named twice.
-ghost use Rattle.std.specs.Prelude.{◌≡◌, true, false, List, ℕ, filter, map, OnOk, IfOk, IfErr, IsErrOf};
+ghost use Rattle.std.specs.Prelude.{◌≡◌, true, false, List, ℕ, filter, OnOk, IfOk, IfErr, IsErrOf};
 ghost use Rattle.std.specs.List.Sorted.{IsPermutation, IsNonDecreasingBy};
 ghost use Rattle.apfs_model.specs.Lists.{In};
 ghost use Rattle.obj_base.specs.Stops.{Tells};
 ghost use Rattle.obj_base.specs.declared.stop.Stop.TheVariants.{ReadFault};
-ghost use Rattle.reach_rules.specs.Naming.{Naming, ByMapping, InContainer};
+ghost use Rattle.reach_rules.specs.declared.naming.LookUp.TheVariants.{ByMapping, InContainer};
+ghost use Rattle.reach_rules.specs.declared.naming.Naming.{Naming};
 ghost use Rattle.reach_rules.specs.Live.{IsLive};
 ghost use Rattle.reach_rules.specs.Faults as spec;
 ghost use Rattle.reach_rules.specs.Features.{HasFeature};
 ghost use Rattle.reach_rules.specs.Reached.{IsReachedFault};
 ghost use Rattle.reach_gather.specs.ViewParts.{AreOnceAs};
-ghost use Rattle.reach_gather.specs.declared.naming.Named as kept;
-ghost use Rattle.reach_gather.specs.Named.{look_of, naming_of};
 ghost use Rattle.reach_gather.specs.Finished.{is_look, id_of, AreOnceHere};
 
 use crate::gathered::Gathered;
-use crate::naming::{By, Named};
 use nx_ring::Checkpoint;
 use obj_base::{Stop, Within};
-use reach_rules::ReachFault;
+use reach_rules::{LookUp, Naming, ReachFault};
 use std::alloc::{AllocError, Global};
 
 // Whether two look-ups are one.
-pub(crate) fn is_look(how: By, other: By) -> bool
+pub(crate) fn is_look(how: LookUp, other: LookUp) -> bool
     ensures { result ≡ is_look how other }
 {
-    match how {
-        By::Block => match other {
-            By::Block => true,
-            By::Mapping => false,
-            By::Container => false,
-        },
-        By::Mapping => match other {
-            By::Block => false,
-            By::Mapping => true,
-            By::Container => false,
-        },
-        By::Container => match other {
-            By::Block => false,
-            By::Mapping => false,
-            By::Container => true,
-        },
-    }
+    how == other
 }
 
 // The space of a look-up.
-fn within_of(how: By) -> Within
-    ensures { result ≡ spec.within_of (look_of how) }
+fn within_of(how: LookUp) -> Within
+    ensures { result ≡ spec.within_of how }
 {
     match how {
-        By::Block => Within::Physical,
-        By::Mapping => Within::Ephemeral,
-        By::Container => Within::Container,
+        LookUp::ByBlock => Within::Physical,
+        LookUp::ByMapping => Within::Ephemeral,
+        LookUp::InContainer => Within::Container,
+        LookUp::InView(view) => Within::Volume(view.slot),
     }
 }
 
 // The namings that are looked up so.
-fn those(alloc: Global, namings: &[Named], how: By) -> Result<Vec<Named>, AllocError>
-    ensures { IfOk result (λ v. v.items ≡ filter (λ (n : kept.Named). is_look n.how how) namings.now) }
+fn those(alloc: Global, namings: &[Naming], how: LookUp) -> Result<Vec<Naming>, AllocError>
+    ensures { IfOk result (λ v. v.items ≡ filter (λ (n : Naming). is_look n.how how) namings.now) }
 {
     namings
         .iter()
@@ -67,7 +50,7 @@ fn those(alloc: Global, namings: &[Named], how: By) -> Result<Vec<Named>, AllocE
 }
 
 // Puts the namings of one id side by side.
-fn by_id(namings: &mut Vec<Named>)
+fn by_id(namings: &mut Vec<Naming>)
     ensures order { IsPermutation namings.old.items namings.new.items }
     ensures sorted { IsNonDecreasingBy id_of namings.new.items }
 {
@@ -75,20 +58,30 @@ fn by_id(namings: &mut Vec<Named>)
 }
 
 // Whether two namings name one id.
-fn is_clash(before: &Named, naming: &Named) -> bool
+fn is_clash(before: &Naming, naming: &Naming) -> bool
     ensures clash { result ≡ true → (before.now.oid ≡ naming.now.oid) × (before.now ≡ naming.now → ⊥) }
     ensures alike { result ≡ false → before.now.oid ≡ naming.now.oid → before.now ≡ naming.now }
 {
     before.oid == naming.oid && before != naming
 }
 
+// The transaction of a look-up.
+fn xid_of(how: LookUp, cp: &Checkpoint) -> u64
+    ensures { result ≡ spec.xid_of cp.now how }
+{
+    match how {
+        LookUp::ByBlock | LookUp::ByMapping | LookUp::InContainer => cp.xid(),
+        LookUp::InView(view) => view.xid,
+    }
+}
+
 // Whether no two namings that are looked up so, and stand by their ids, name one id.
-fn beside(namings: &[Named], how: By, cp: &Checkpoint) -> Result<(), Stop<ReachFault>>
+fn beside(namings: &[Naming], how: LookUp, cp: &Checkpoint) -> Result<(), Stop<ReachFault>>
     requires sorted { IsNonDecreasingBy id_of namings.now }
-    requires alike { (n : kept.Named) → In n namings.now → n.how ≡ how }
-    requires each { spec.is_once (look_of how) ≡ true }
+    requires alike { (n : Naming) → In n namings.now → n.how ≡ how }
+    requires each { spec.is_once how ≡ true }
     ensures once { OnOk result (AreOnceHere namings.now) }
-    ensures present { (image : List ℕ) → ((n : kept.Named) → In n namings.now → IsLive image cp.now (naming_of n)) → IfErr result (Tells (IsReachedFault image cp.now) (HasFeature image cp.now)) }
+    ensures present { (image : List ℕ) → ((n : Naming) → In n namings.now → IsLive image cp.now n) → IfErr result (Tells (IsReachedFault image cp.now) (HasFeature image cp.now)) }
     ensures no_read { IsErrOf result ReadFault → ⊥ }
 {
     for i in 1..namings.len() {
@@ -98,7 +91,7 @@ fn beside(namings: &[Named], how: By, cp: &Checkpoint) -> Result<(), Stop<ReachF
             return Err(Stop::Found(ReachFault::NamedTwice {
                 within: within_of(how),
                 oid: naming.oid,
-                xid: cp.xid(),
+                xid: xid_of(how, cp),
             }));
         }
     }
@@ -108,13 +101,13 @@ fn beside(namings: &[Named], how: By, cp: &Checkpoint) -> Result<(), Stop<ReachF
 // Whether no two namings that are looked up so name one id.
 fn once_as(
     alloc: Global,
-    namings: &[Named],
-    how: By,
+    namings: &[Naming],
+    how: LookUp,
     cp: &Checkpoint,
 ) -> Result<(), Stop<ReachFault>>
-    requires each { spec.is_once (look_of how) ≡ true }
-    ensures once { OnOk result (AreOnceAs (look_of how) (map naming_of namings.now)) }
-    ensures present { (image : List ℕ) → ((n : Naming) → In n (map naming_of namings.now) → IsLive image cp.now n) → IfErr result (Tells (IsReachedFault image cp.now) (HasFeature image cp.now)) }
+    requires each { spec.is_once how ≡ true }
+    ensures once { OnOk result (AreOnceAs how namings.now) }
+    ensures present { (image : List ℕ) → ((n : Naming) → In n namings.now → IsLive image cp.now n) → IfErr result (Tells (IsReachedFault image cp.now) (HasFeature image cp.now)) }
     ensures no_read { IsErrOf result ReadFault → ⊥ }
 {
     let mut kept = those(alloc, namings, how)?;
@@ -129,10 +122,10 @@ impl Gathered {
         ensures present { (image : List ℕ) → ((n : Naming) → In n self.now.namings → IsLive image cp.now n) → IfErr result (Tells (IsReachedFault image cp.now) (HasFeature image cp.now)) }
         ensures no_read { IsErrOf result ReadFault → ⊥ }
     {
-        match once_as(alloc, &self.namings, By::Mapping, cp) {
+        match once_as(alloc, &self.namings, LookUp::ByMapping, cp) {
             Ok(()) => {}
             Err(stop) => return Err(stop),
         }
-        once_as(alloc, &self.namings, By::Container, cp)
+        once_as(alloc, &self.namings, LookUp::InContainer, cp)
     }
 }

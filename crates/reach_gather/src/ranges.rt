@@ -1,15 +1,14 @@
 // The ranges of which the object of a naming tells.
-ghost use Rattle.std.specs.Prelude.{◌≡◌, ◌++◌, ℕ, map, OnOk};
+ghost use Rattle.std.specs.Prelude.{◌≡◌, ◌++◌, ℕ, map, OnOk, IfOk};
 ghost use Rattle.reach_rules.specs.Owners.{told_from};
 ghost use Rattle.reach_gather.specs.Held.{some_owners};
-ghost use Rattle.reach_gather.specs.Named.{naming_of};
 
 use crate::Gathered;
-use crate::naming::Named;
-use crate::owner::{Owned, OwnedBy};
 use blk_source::NoMemory;
 use ext_ref::NewRange;
+use reach_rules::Naming;
 use space_pool::QueueEntry;
+use std::alloc::{AllocError, Global};
 
 /// Something that stands for a range of blocks.
 pub(crate) trait Ranged {
@@ -40,55 +39,39 @@ impl Ranged for QueueEntry {
     }
 }
 
-impl Ranged for (u64, u64) {
-    ghost range = { λ r. r };
-
-    fn range(&self) -> (u64, u64)
-        ensures { result ≡ self.now }
-    {
-        *self
-    }
+// The ranges alone.
+fn pairs<T: Ranged>(alloc: Global, ranges: &[T]) -> Result<Vec<(u64, u64)>, AllocError>
+    ensures { IfOk result (λ v. v.items ≡ map T.range ranges.now) }
+{
+    ranges.iter().map(|range| range.range()).collect(alloc)
 }
 
 /// The ranges of which an object tells, each with its place.
 pub(crate) fn tell_all<T: Ranged>(
+    alloc: Global,
     out: &mut Gathered,
-    naming: Named,
+    naming: Naming,
     ranges: &[T],
 ) -> Result<(), NoMemory>
     ensures namings { out.new.namings ≡ out.old.namings }
-    ensures owners { OnOk result (out.new.owners ≡ out.old.owners ++ some_owners (told_from (naming_of naming) 0 (map T.range ranges.now))) }
+    ensures owners { OnOk result (out.new.owners ≡ out.old.owners ++ some_owners (told_from naming 0 (map T.range ranges.now))) }
     ensures pool_owners { out.new.pool_owners ≡ out.old.pool_owners }
 {
-    out.make_room(ranges.len())?;
-    for i in 0..ranges.len() {
-        let (first, blocks) = ranges[i].range();
-        out.tell(Owned {
-            who: OwnedBy::Told(naming, i as u64),
-            first,
-            blocks,
-        })?;
-    }
-    Ok(())
+    let pairs = pairs(alloc, ranges)?;
+    out.tell_those(naming, pairs)
 }
 
 /// The ranges of the pool of which an object tells, each with its place.
 pub(crate) fn tell_all_pool<T: Ranged>(
+    alloc: Global,
     out: &mut Gathered,
-    naming: Named,
+    naming: Naming,
     ranges: &[T],
 ) -> Result<(), NoMemory>
     ensures namings { out.new.namings ≡ out.old.namings }
     ensures owners { out.new.owners ≡ out.old.owners }
-    ensures pool_owners { OnOk result (out.new.pool_owners ≡ out.old.pool_owners ++ some_owners (told_from (naming_of naming) 0 (map T.range ranges.now))) }
+    ensures pool_owners { OnOk result (out.new.pool_owners ≡ out.old.pool_owners ++ some_owners (told_from naming 0 (map T.range ranges.now))) }
 {
-    for i in 0..ranges.len() {
-        let (first, blocks) = ranges[i].range();
-        out.tell_pool(Owned {
-            who: OwnedBy::Told(naming, i as u64),
-            first,
-            blocks,
-        })?;
-    }
-    Ok(())
+    let pairs = pairs(alloc, ranges)?;
+    out.tell_those_pool(naming, pairs)
 }

@@ -5,7 +5,10 @@
 ghost use Rattle.std.specs.Prelude.{◌≡◌, ℕ, List, Bool, IfOk, IfErr, IsErrOf};
 ghost use Rattle.obj_base.specs.Stops.{Tells, IsFree};
 ghost use Rattle.obj_base.specs.declared.stop.Stop.TheVariants.{ReadFault};
-ghost use Rattle.reach_rules.specs.Naming.{Namer, ReaperObject, ReapList, ByMapping, naming};
+ghost use Rattle.reach_rules.specs.declared.naming.LookUp.TheVariants.{ByMapping};
+ghost use Rattle.reach_rules.specs.declared.naming.Namer.{Namer};
+ghost use Rattle.reach_rules.specs.declared.naming.Expected.TheVariants.{ReaperObject, ReapList};
+ghost use Rattle.reach_rules.specs.Naming.{naming};
 ghost use Rattle.reach_rules.specs.Live.{IsLive};
 ghost use Rattle.reach_rules.specs.Features.{HasFeature};
 ghost use Rattle.reach_rules.specs.Reached.{IsReachedFault};

@@ -8,36 +8,34 @@ ghost use Rattle.reach_rules.specs.Reached.{IsReachedFault};
 ghost use Rattle.reach_gather.specs.Container.{reaper_naming};
 ghost use Rattle.reach_gather.specs.Adds.{Adds};
 ghost use Rattle.reach_gather.specs.Chain.{reap_at};
-ghost use Rattle.reach_gather.specs.Named.{naming_of};
 
 use crate::Gathered;
-use crate::naming::{By, Expects, Named, NamedBy};
 use crate::reaper_lists::reap;
 use blk_source::NoMemory;
 use nx_ring::Checkpoint;
 use obj_base::Stop;
-use reach_rules::ReachFault;
+use reach_rules::{Expected, LookUp, Namer, Naming, Object, ReachFault};
 use std::alloc::Global;
 
 // The naming of the reaper, or of a list.
-fn link(ids: &[u64], i: usize) -> Named
+fn link(ids: &[u64], i: usize) -> Naming
     requires { i < length ids.now }
-    ensures { naming_of result ≡ reap_at ids.now i }
+    ensures { result ≡ reap_at ids.now i }
 {
     if i == 0 {
-        return Named {
-            by: NamedBy::Newest,
+        return Naming {
+            namer: Namer::Whole(Object::Newest),
             at: 168,
-            expects: Expects::Reaper,
-            how: By::Mapping,
+            expected: Expected::ReaperObject,
+            how: LookUp::ByMapping,
             oid: ids[i],
         };
     }
-    Named {
-        by: NamedBy::Id(ids[i - 1]),
+    Naming {
+        namer: Namer::Whole(Object::OfId(ids[i - 1])),
         at: if i == 1 { 48 } else { 32 },
-        expects: Expects::ReapList,
-        how: By::Mapping,
+        expected: Expected::ReapList,
+        how: LookUp::ByMapping,
         oid: ids[i],
     }
 }

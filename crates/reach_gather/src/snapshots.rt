@@ -8,21 +8,22 @@ ghost use Rattle.obj_base.specs.Stops.{Tells};
 ghost use Rattle.obj_base.specs.declared.stop.Stop.TheVariants.{ReadFault};
 ghost use Rattle.nx_ring.specs.Checkpoint.{site_of};
 ghost use Rattle.reach_rules.specs.Features.{HasFeature};
-ghost use Rattle.reach_rules.specs.Naming.{ByBlock, Kept, ExtentRefs, TreeRoot};
+ghost use Rattle.reach_rules.specs.declared.naming.LookUp.TheVariants.{ByBlock};
+ghost use Rattle.reach_rules.specs.declared.naming.Namer.TheVariants.{Kept};
+ghost use Rattle.reach_rules.specs.declared.naming.TreeKind.TheVariants.{ExtentRefs};
+ghost use Rattle.reach_rules.specs.declared.naming.Expected.TheVariants.{TreeRoot};
 ghost use Rattle.reach_rules.specs.Next.{unless_zero};
 ghost use Rattle.reach_rules.specs.Reached.{IsReachedFault};
 ghost use Rattle.reach_gather.specs.Volumes.Told.{past_at, told_snapshot, told_snapshots};
 ghost use Rattle.reach_gather.specs.Adds.{Adds, AreLive};
-ghost use Rattle.reach_gather.specs.Named.{view_of};
 ghost use Rattle.reach_gather.specs.Views.{IsSuperPart, AreSuperParts, past_view_namings, pasts_namings};
 
 use crate::Gathered;
-use crate::naming::{By, Expects, Named, NamedBy, Tree, ViewKey};
 use crate::trees::add_extents;
 use blk_source::BlockSource;
 use nx_ring::Checkpoint;
 use obj_base::Stop;
-use reach_rules::ReachFault;
+use reach_rules::{Expected, LookUp, Namer, Naming, ReachFault, TreeKind, ViewAt};
 use std::alloc::Global;
 use vol_view::{Snapshot, Volume};
 
@@ -31,13 +32,13 @@ fn add_kept_extents<S: BlockSource>(
     alloc: Global,
     src: &mut S,
     cp: &Checkpoint,
-    view: ViewKey,
+    view: ViewAt,
     oid: u64,
     out: &mut Gathered,
 ) -> Result<(), Stop<ReachFault>>
     requires site { IsSiteFor (site_of cp.now) (S.bytes_len src.old) }
-    ensures clear { (image : List ℕ) → S.bytes src.old ≡ Some image → OnOk result (Adds image cp.now (unless_zero (Kept (view_of view)) 0 (TreeRoot ExtentRefs) ByBlock oid) [] out.old out.new) }
-    ensures present { (image : List ℕ) → S.bytes src.old ≡ Some image → AreLive image cp.now (unless_zero (Kept (view_of view)) 0 (TreeRoot ExtentRefs) ByBlock oid) → IfErr result (Tells (IsReachedFault image cp.now) (HasFeature image cp.now)) }
+    ensures clear { (image : List ℕ) → S.bytes src.old ≡ Some image → OnOk result (Adds image cp.now (unless_zero (Kept view) 0 (TreeRoot ExtentRefs) ByBlock oid) [] out.old out.new) }
+    ensures present { (image : List ℕ) → S.bytes src.old ≡ Some image → AreLive image cp.now (unless_zero (Kept view) 0 (TreeRoot ExtentRefs) ByBlock oid) → IfErr result (Tells (IsReachedFault image cp.now) (HasFeature image cp.now)) }
     ensures reads { (image : List ℕ) → S.bytes src.old ≡ Some image → OnOk result (S.reads src.new + length out.old.namings ≤ S.reads src.old + length out.new.namings) }
     ensures cause { IsErrOf result ReadFault → Rose (S.faults src.old) (S.faults src.new) }
     ensures kept { IsKept S.bytes S.bytes_len S.faults src.old src.new }
@@ -46,11 +47,11 @@ fn add_kept_extents<S: BlockSource>(
         let _size = src.size();
         return Ok(());
     }
-    let root = Named {
-        by: NamedBy::Snapshot(view),
+    let root = Naming {
+        namer: Namer::Kept(view),
         at: 0,
-        expects: Expects::Root(Tree::Extents),
-        how: By::Block,
+        expected: Expected::TreeRoot(TreeKind::ExtentRefs),
+        how: LookUp::ByBlock,
         oid,
     };
     match add_extents(alloc, src, cp, root, out) {
@@ -64,22 +65,22 @@ pub(crate) fn add_snapshot<S: BlockSource>(
     alloc: Global,
     src: &mut S,
     cp: &Checkpoint,
-    view: ViewKey,
+    view: ViewAt,
     snapshot: &Snapshot,
     out: &mut Gathered,
 ) -> Result<(), Stop<ReachFault>>
     requires site { IsSiteFor (site_of cp.now) (S.bytes_len src.old) }
-    ensures clear { (image : List ℕ) → S.bytes src.old ≡ Some image → IsSuperPart image cp.now (view_of view) snapshot.now → OnOk result (Adds image cp.now (told_snapshot (view_of view) snapshot.now) (past_view_namings (view_of view) snapshot.now) out.old out.new) }
-    ensures present { (image : List ℕ) → S.bytes src.old ≡ Some image → AreLive image cp.now (told_snapshot (view_of view) snapshot.now) → IfErr result (Tells (IsReachedFault image cp.now) (HasFeature image cp.now)) }
+    ensures clear { (image : List ℕ) → S.bytes src.old ≡ Some image → IsSuperPart image cp.now view snapshot.now → OnOk result (Adds image cp.now (told_snapshot view snapshot.now) (past_view_namings view snapshot.now) out.old out.new) }
+    ensures present { (image : List ℕ) → S.bytes src.old ≡ Some image → AreLive image cp.now (told_snapshot view snapshot.now) → IfErr result (Tells (IsReachedFault image cp.now) (HasFeature image cp.now)) }
     ensures reads { (image : List ℕ) → S.bytes src.old ≡ Some image → OnOk result (S.reads src.new + length out.old.namings ≤ S.reads src.old + length out.new.namings) }
     ensures cause { IsErrOf result ReadFault → Rose (S.faults src.old) (S.faults src.new) }
     ensures kept { IsKept S.bytes S.bytes_len S.faults src.old src.new }
 {
-    let named = Named {
-        by: NamedBy::Snapshot(view),
+    let named = Naming {
+        namer: Namer::Kept(view),
         at: 8,
-        expects: Expects::SnapshotSuper(view),
-        how: By::Block,
+        expected: Expected::SnapshotSuper(view),
+        how: LookUp::ByBlock,
         oid: snapshot.super_block,
     };
     out.note_block(named)?;
@@ -90,11 +91,11 @@ pub(crate) fn add_snapshot<S: BlockSource>(
 }
 
 // The view of snapshot `i` of a volume whose object map stands in a block.
-fn view_at(volume: &Volume, map: u64, i: usize, snapshot: &Snapshot) -> ViewKey
+fn view_at(volume: &Volume, map: u64, i: usize, snapshot: &Snapshot) -> ViewAt
     requires { i < 2 ^ 63 }
-    ensures { view_of result ≡ past_at volume.now.head.slot map (are_hashed volume.now.names) i snapshot.now }
+    ensures { result ≡ past_at volume.now.head.slot map (are_hashed volume.now.names) i snapshot.now }
 {
-    ViewKey {
+    ViewAt {
         slot: volume.head.slot,
         place: i as u64 + 1,
         xid: snapshot.xid,

@@ -9,28 +9,30 @@ ghost use Rattle.nx_block.specs.Super.{space_oid_of};
 ghost use Rattle.nx_ring.specs.Checkpoint.{site_of};
 ghost use Rattle.space_map.specs.Fields.{pool_base_of, pool_blocks_of, ring_base_of, ring_blocks_of, pool_queue_of, main_queue_of};
 ghost use Rattle.space_map.specs.Stops.{IsSpaceOf};
+ghost use Rattle.reach_rules.specs.declared.naming.LookUp.TheVariants.{ByMapping};
+ghost use Rattle.reach_rules.specs.declared.naming.Object.TheVariants.{OfId};
+ghost use Rattle.reach_rules.specs.declared.naming.Namer.TheVariants.{Whole};
+ghost use Rattle.reach_rules.specs.declared.naming.Expected.TheVariants.{TreeRoot};
+ghost use Rattle.reach_rules.specs.Naming.{naming};
 ghost use Rattle.reach_rules.specs.Features.{HasFeature};
-ghost use Rattle.reach_rules.specs.Owners.{owner, InternalPool, PoolRing};
+ghost use Rattle.reach_rules.specs.declared.owner.Who.TheVariants.{InternalPool, PoolRing};
+ghost use Rattle.reach_rules.specs.Owners.{owner};
 ghost use Rattle.reach_rules.specs.Reached.{IsReachedFault};
 ghost use Rattle.reach_gather.specs.Container.{pool_queue_naming, main_queue_naming, manager_naming};
 ghost use Rattle.reach_gather.specs.Space.{manager_namer};
 ghost use Rattle.reach_gather.specs.Adds.{Adds};
 ghost use Rattle.reach_gather.specs.Pooled.{ArePooled};
-ghost use Rattle.reach_gather.specs.declared.naming.By.TheVariants as looks;
-ghost use Rattle.reach_gather.specs.declared.naming.Expects.TheVariants as expects;
-ghost use Rattle.reach_gather.specs.declared.naming.NamedBy.TheVariants as namers;
 
 use crate::Gathered;
 use crate::infos::note_space;
-use crate::naming::{By, Expects, Named, NamedBy, Tree};
-use crate::owner::{Owned, OwnedBy};
 use crate::queues::{add_main_queue, add_pool_queue};
 use apfs_layout::space_manager as layout;
 use blk_source::{BlockSource, NoMemory};
 use nx_ring::Checkpoint;
 use obj_base::{Stop, u64_at};
-use reach_rules::ReachFault;
+use reach_rules::{Expected, LookUp, Namer, Naming, Object, Owner, ReachFault, TreeKind, Who};
 use space_map::Space;
+use space_pool::Queue;
 use std::alloc::Global;
 
 // The manager, with the pool and the ring of the pool's bitmaps.
@@ -39,23 +41,23 @@ fn add_manager(cp: &Checkpoint, space: &Space, out: &mut Gathered) -> Result<(),
     ensures owners { OnOk result (out.new.owners ≡ (out.old.owners ++ (if pool_blocks_of space.now.manager == 0 then [] else owner InternalPool (pool_base_of space.now.manager) (pool_blocks_of space.now.manager) ∷ [])) ++ (if ring_blocks_of space.now.manager == 0 then [] else owner PoolRing (ring_base_of space.now.manager) (ring_blocks_of space.now.manager) ∷ [])) }
     ensures pool_owners { out.new.pool_owners ≡ out.old.pool_owners }
 {
-    let manager = Named {
-        by: NamedBy::Newest,
+    let manager = Naming {
+        namer: Namer::Whole(Object::Newest),
         at: 152,
-        expects: Expects::SpaceManager,
-        how: By::Mapping,
+        expected: Expected::SpaceManager,
+        how: LookUp::ByMapping,
         oid: cp.nx().space_oid(),
     };
     let (first, blocks) = space.pool();
     let (ring, ring_blocks) = space.pool_ring();
     out.note_id(manager)?;
-    out.tell(Owned {
-        who: OwnedBy::InternalPool,
+    out.tell(Owner {
+        who: Who::InternalPool,
         first,
         blocks,
     })?;
-    out.tell(Owned {
-        who: OwnedBy::PoolRing,
+    out.tell(Owner {
+        who: Who::PoolRing,
         first: ring,
         blocks: ring_blocks,
     })
@@ -78,14 +80,14 @@ fn main_root(space: &Space) -> u64
 }
 
 // The naming of the root of a queue, by the manager.
-fn root(cp: &Checkpoint, at: u64, tree: Tree, oid: u64) -> Named
-    ensures { result ≡ record { by = namers.Id (space_oid_of cp.now.nx); at = at; expects = expects.Root tree; how = looks.Mapping; oid = oid } }
+fn root(cp: &Checkpoint, at: u64, tree: TreeKind, oid: u64) -> Naming
+    ensures { result ≡ naming (Whole (OfId (space_oid_of cp.now.nx))) at (TreeRoot tree) ByMapping oid }
 {
-    Named {
-        by: NamedBy::Id(cp.nx().space_oid()),
+    Naming {
+        namer: Namer::Whole(Object::OfId(cp.nx().space_oid())),
         at,
-        expects: Expects::Root(tree),
-        how: By::Mapping,
+        expected: Expected::TreeRoot(tree),
+        how: LookUp::ByMapping,
         oid,
     }
 }
@@ -111,7 +113,7 @@ fn add_pool<S: BlockSource>(
         let _size = src.size();
         return Ok(());
     }
-    let root = root(cp, 208, Tree::PoolQueue, oid);
+    let root = root(cp, 208, TreeKind::FreeQueue(Queue::Pool), oid);
     match add_pool_queue(alloc, src, cp, space, root, out) {
         Ok(()) => Ok(()),
         Err(stop) => Err(stop),
@@ -138,7 +140,7 @@ fn add_main<S: BlockSource>(
         let _size = src.size();
         return Ok(());
     }
-    let root = root(cp, 248, Tree::MainQueue, oid);
+    let root = root(cp, 248, TreeKind::FreeQueue(Queue::Main), oid);
     match add_main_queue(alloc, src, cp, space, root, out) {
         Ok(()) => Ok(()),
         Err(stop) => Err(stop),

@@ -10,7 +10,7 @@ ghost use Rattle.obj_base.specs.Stops.{Gives, Tells, IsFree};
 ghost use Rattle.obj_base.specs.declared.stop.Stop.TheVariants.{ReadFault};
 ghost use Rattle.nx_block.specs.Jump.{jump_extents_of};
 ghost use Rattle.nx_ring.specs.Checkpoint.{site_of};
-ghost use Rattle.reach_rules.specs.Naming.{InBlock};
+ghost use Rattle.reach_rules.specs.declared.naming.Object.TheVariants.{InBlock};
 ghost use Rattle.reach_rules.specs.Features.{HasFeature};
 ghost use Rattle.reach_rules.specs.Reached.{IsReachedFault};
 ghost use Rattle.reach_gather.specs.Jumped.{told_jump, jump_root, IsJumped, IsRightJump};

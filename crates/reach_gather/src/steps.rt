@@ -1,14 +1,14 @@
 // The nodes of trees below their roots, as the steps of the trees name them.
 ghost use Rattle.std.specs.Prelude.{◌≡◌, ◌++◌, map, OnOk};
-ghost use Rattle.reach_rules.specs.Naming.{ByBlock, ByMapping, InBlock, OfId};
+ghost use Rattle.reach_rules.specs.declared.naming.LookUp.TheVariants.{ByBlock, ByMapping};
+ghost use Rattle.reach_rules.specs.declared.naming.Object.TheVariants.{InBlock, OfId};
 ghost use Rattle.reach_gather.specs.Namings.{level_below, step_naming};
-ghost use Rattle.reach_gather.specs.Named.{kind_of, naming_of};
 ghost use Rattle.reach_gather.specs.Steps.{block_steps, id_steps, block_owner};
 
 use crate::Gathered;
-use crate::naming::{By, Expects, Named, NamedBy, Tree};
 use blk_source::NoMemory;
 use bt_cursor::Step;
+use reach_rules::{Expected, LookUp, Namer, Naming, Object, TreeKind};
 
 // The level below a level.
 fn below(level: u16) -> u16
@@ -18,27 +18,27 @@ fn below(level: u16) -> u16
 }
 
 // The naming of a step in a tree of physical nodes.
-fn block_step(tree: Tree, root: u64, step: &Step) -> Named
-    ensures { naming_of result ≡ step_naming InBlock (kind_of tree) ByBlock root step.now }
+fn block_step(tree: TreeKind, step: &Step) -> Naming
+    ensures { result ≡ step_naming InBlock tree ByBlock step.now }
 {
-    Named {
-        by: NamedBy::Block(step.node),
+    Naming {
+        namer: Namer::Whole(Object::InBlock(step.node)),
         at: step.at,
-        expects: Expects::Node(tree, below(step.level)),
-        how: By::Block,
+        expected: Expected::TreeNode(tree, below(step.level)),
+        how: LookUp::ByBlock,
         oid: step.child,
     }
 }
 
 // The naming of a step in a tree of ephemeral nodes.
-fn id_step(tree: Tree, root: u64, step: &Step) -> Named
-    ensures { naming_of result ≡ step_naming OfId (kind_of tree) ByMapping root step.now }
+fn id_step(tree: TreeKind, step: &Step) -> Naming
+    ensures { result ≡ step_naming OfId tree ByMapping step.now }
 {
-    Named {
-        by: NamedBy::Id(step.node),
+    Naming {
+        namer: Namer::Whole(Object::OfId(step.node)),
         at: step.at,
-        expects: Expects::Node(tree, below(step.level)),
-        how: By::Mapping,
+        expected: Expected::TreeNode(tree, below(step.level)),
+        how: LookUp::ByMapping,
         oid: step.child,
     }
 }
@@ -46,33 +46,27 @@ fn id_step(tree: Tree, root: u64, step: &Step) -> Named
 /// The nodes below the root of a tree of physical nodes, each with its block.
 pub(crate) fn note_blocks(
     out: &mut Gathered,
-    tree: Tree,
-    root: u64,
+    tree: TreeKind,
     steps: &[Step],
 ) -> Result<(), NoMemory>
-    ensures namings { OnOk result (out.new.namings ≡ out.old.namings ++ block_steps (kind_of tree) root steps.now) }
-    ensures owners { OnOk result (out.new.owners ≡ out.old.owners ++ map block_owner (block_steps (kind_of tree) root steps.now)) }
+    ensures namings { OnOk result (out.new.namings ≡ out.old.namings ++ block_steps tree steps.now) }
+    ensures owners { OnOk result (out.new.owners ≡ out.old.owners ++ map block_owner (block_steps tree steps.now)) }
     ensures pool_owners { out.new.pool_owners ≡ out.old.pool_owners }
 {
     for step in steps {
-        out.note_block(block_step(tree, root, step))?;
+        out.note_block(block_step(tree, step))?;
     }
     Ok(())
 }
 
 /// The nodes below the root of a tree of ephemeral nodes.
-pub(crate) fn note_ids(
-    out: &mut Gathered,
-    tree: Tree,
-    root: u64,
-    steps: &[Step],
-) -> Result<(), NoMemory>
-    ensures namings { OnOk result (out.new.namings ≡ out.old.namings ++ id_steps (kind_of tree) root steps.now) }
+pub(crate) fn note_ids(out: &mut Gathered, tree: TreeKind, steps: &[Step]) -> Result<(), NoMemory>
+    ensures namings { OnOk result (out.new.namings ≡ out.old.namings ++ id_steps tree steps.now) }
     ensures owners { out.new.owners ≡ out.old.owners }
     ensures pool_owners { out.new.pool_owners ≡ out.old.pool_owners }
 {
     for step in steps {
-        out.note_id(id_step(tree, root, step))?;
+        out.note_id(id_step(tree, step))?;
     }
     Ok(())
 }

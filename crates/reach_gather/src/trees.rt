@@ -8,16 +8,14 @@ ghost use Rattle.obj_base.specs.declared.stop.Stop.TheVariants.{ReadFault};
 ghost use Rattle.nx_ring.specs.Checkpoint.{site_of};
 ghost use Rattle.reach_rules.specs.Features.{HasFeature};
 ghost use Rattle.reach_rules.specs.Live.{IsLive};
+ghost use Rattle.reach_rules.specs.declared.naming.LookUp.TheVariants.{ByBlock};
+ghost use Rattle.reach_rules.specs.declared.naming.TreeKind.TheVariants.{ExtentRefs};
+ghost use Rattle.reach_rules.specs.declared.naming.Expected.TheVariants.{TreeRoot};
 ghost use Rattle.reach_rules.specs.Reached.{IsReachedFault};
 ghost use Rattle.reach_gather.specs.Adds.{Adds};
-ghost use Rattle.reach_gather.specs.Named.{kind_of, naming_of};
 ghost use Rattle.reach_gather.specs.Steps.{node_namings, block_owner};
-ghost use Rattle.reach_gather.specs.declared.naming.By.TheVariants as looks;
-ghost use Rattle.reach_gather.specs.declared.naming.Expects.TheVariants as expects;
-ghost use Rattle.reach_gather.specs.declared.naming.Tree.TheVariants as trees;
 
 use crate::Gathered;
-use crate::naming::{Named, Tree};
 use crate::raising::raise_extents;
 use crate::ranges::tell_all;
 use crate::steps::note_blocks;
@@ -26,23 +24,23 @@ use bt_cursor::Step;
 use ext_ref::scan;
 use nx_ring::Checkpoint;
 use obj_base::Stop;
-use reach_rules::ReachFault;
+use reach_rules::{Naming, ReachFault, TreeKind};
 use std::alloc::Global;
 
 /// Adds a tree of physical nodes, by the naming of its root and by its steps: each node with its block, and nothing of which the
 /// tree tells. Nothing is read.
 pub(crate) fn add_nodes(
-    tree: Tree,
-    root: Named,
+    tree: TreeKind,
+    root: Naming,
     steps: &[Step],
     out: &mut Gathered,
 ) -> Result<(), NoMemory>
-    ensures namings { OnOk result (out.new.namings ≡ out.old.namings ++ node_namings (kind_of tree) (naming_of root) steps.now) }
-    ensures owners { OnOk result (out.new.owners ≡ out.old.owners ++ map block_owner (node_namings (kind_of tree) (naming_of root) steps.now)) }
+    ensures namings { OnOk result (out.new.namings ≡ out.old.namings ++ node_namings tree root steps.now) }
+    ensures owners { OnOk result (out.new.owners ≡ out.old.owners ++ map block_owner (node_namings tree root steps.now)) }
     ensures pool_owners { out.new.pool_owners ≡ out.old.pool_owners }
 {
     out.note_block(root)?;
-    note_blocks(out, tree, root.oid, steps)?;
+    note_blocks(out, tree, steps)?;
     Ok(())
 }
 
@@ -51,15 +49,15 @@ pub(crate) fn add_extents<S: BlockSource>(
     alloc: Global,
     src: &mut S,
     cp: &Checkpoint,
-    root: Named,
+    root: Naming,
     out: &mut Gathered,
 ) -> Result<(), Stop<ReachFault>>
     requires site { IsSiteFor (site_of cp.now) (S.bytes_len src.old) }
-    requires how { root.how ≡ looks.Block }
-    requires kind { root.expects ≡ expects.Root trees.Extents }
+    requires how { root.how ≡ ByBlock }
+    requires kind { root.expected ≡ TreeRoot ExtentRefs }
     requires some { (root.oid == 0) ≡ false }
-    ensures clear { (image : List ℕ) → S.bytes src.old ≡ Some image → OnOk result (Adds image cp.now (naming_of root ∷ []) [] out.old out.new) }
-    ensures present { (image : List ℕ) → S.bytes src.old ≡ Some image → IsLive image cp.now (naming_of root) → IfErr result (Tells (IsReachedFault image cp.now) (HasFeature image cp.now)) }
+    ensures clear { (image : List ℕ) → S.bytes src.old ≡ Some image → OnOk result (Adds image cp.now (root ∷ []) [] out.old out.new) }
+    ensures present { (image : List ℕ) → S.bytes src.old ≡ Some image → IsLive image cp.now root → IfErr result (Tells (IsReachedFault image cp.now) (HasFeature image cp.now)) }
     ensures reads { (image : List ℕ) → S.bytes src.old ≡ Some image → OnOk result (S.reads src.new + length out.old.namings ≤ S.reads src.old + length out.new.namings) }
     ensures cause { IsErrOf result ReadFault → Rose (S.faults src.old) (S.faults src.new) }
     ensures kept { IsKept S.bytes S.bytes_len S.faults src.old src.new }
@@ -70,7 +68,7 @@ pub(crate) fn add_extents<S: BlockSource>(
         Err(stop) => return Err(raise_extents(cp, root.oid, stop)),
     };
     out.note_block(root)?;
-    tell_all(out, root, scanned.ranges.as_slice())?;
-    note_blocks(out, Tree::Extents, root.oid, &scanned.steps)?;
+    tell_all(alloc, out, root, scanned.ranges.as_slice())?;
+    note_blocks(out, TreeKind::ExtentRefs, &scanned.steps)?;
     Ok(())
 }

@@ -12,25 +12,26 @@ ghost use Rattle.omap_map.specs.Maps.{map_records};
 ghost use Rattle.reach_rules.specs.Features.{HasFeature};
 ghost use Rattle.reach_rules.specs.Live.{IsLive};
 ghost use Rattle.vol_view.specs.Volumes.{Loaded};
-ghost use Rattle.reach_rules.specs.Naming.{ByBlock, Namer, ExtentRefs, SnapMetadata, TreeRoot};
+ghost use Rattle.reach_rules.specs.declared.naming.LookUp.TheVariants.{ByBlock};
+ghost use Rattle.reach_rules.specs.declared.naming.Namer.{Namer};
+ghost use Rattle.reach_rules.specs.declared.naming.TreeKind.TheVariants.{ExtentRefs, SnapMetadata};
+ghost use Rattle.reach_rules.specs.declared.naming.Expected.TheVariants.{TreeRoot};
 ghost use Rattle.reach_rules.specs.Next.{unless_zero};
 ghost use Rattle.reach_rules.specs.Reached.{IsReachedFault};
 ghost use Rattle.reach_gather.specs.Volumes.Parts.{HasWholeMetadata, IsVolumePart, volume_namer};
 ghost use Rattle.reach_gather.specs.Volumes.Told.{head_naming, told_volume};
 ghost use Rattle.reach_gather.specs.Adds.{Adds, AreLive};
-ghost use Rattle.reach_gather.specs.Named.{namer_of, naming_of};
 ghost use Rattle.reach_gather.specs.Views.{AreVolumeParts, AreNamedParts, volume_views, slots_namings, loaded_views};
 
 use crate::Gathered;
 use crate::maps::add_map;
-use crate::naming::{By, Expects, Mapping, Named, NamedBy, Tree};
 use crate::snapshots::add_snapshots;
 use crate::trees::{add_extents, add_nodes};
 use blk_source::{BlockSource, NoMemory};
 use nx_ring::Checkpoint;
 use obj_base::{Stop, Within};
-use omap_map::{Omap, OmapRecord};
-use reach_rules::ReachFault;
+use omap_map::Omap;
+use reach_rules::{Expected, LookUp, Namer, Naming, Object, ReachFault, TreeKind};
 use std::alloc::Global;
 use vol_view::Volume;
 
@@ -39,13 +40,13 @@ fn add_live_extents<S: BlockSource>(
     alloc: Global,
     src: &mut S,
     cp: &Checkpoint,
-    by: NamedBy,
+    namer: Namer,
     oid: u64,
     out: &mut Gathered,
 ) -> Result<(), Stop<ReachFault>>
     requires site { IsSiteFor (site_of cp.now) (S.bytes_len src.old) }
-    ensures clear { (image : List ℕ) → S.bytes src.old ≡ Some image → OnOk result (Adds image cp.now (unless_zero (namer_of by) 144 (TreeRoot ExtentRefs) ByBlock oid) [] out.old out.new) }
-    ensures present { (image : List ℕ) → S.bytes src.old ≡ Some image → AreLive image cp.now (unless_zero (namer_of by) 144 (TreeRoot ExtentRefs) ByBlock oid) → IfErr result (Tells (IsReachedFault image cp.now) (HasFeature image cp.now)) }
+    ensures clear { (image : List ℕ) → S.bytes src.old ≡ Some image → OnOk result (Adds image cp.now (unless_zero namer 144 (TreeRoot ExtentRefs) ByBlock oid) [] out.old out.new) }
+    ensures present { (image : List ℕ) → S.bytes src.old ≡ Some image → AreLive image cp.now (unless_zero namer 144 (TreeRoot ExtentRefs) ByBlock oid) → IfErr result (Tells (IsReachedFault image cp.now) (HasFeature image cp.now)) }
     ensures reads { (image : List ℕ) → S.bytes src.old ≡ Some image → OnOk result (S.reads src.new + length out.old.namings ≤ S.reads src.old + length out.new.namings) }
     ensures cause { IsErrOf result ReadFault → Rose (S.faults src.old) (S.faults src.new) }
     ensures kept { IsKept S.bytes S.bytes_len S.faults src.old src.new }
@@ -54,11 +55,11 @@ fn add_live_extents<S: BlockSource>(
         let _size = src.size();
         return Ok(());
     }
-    let root = Named {
-        by,
+    let root = Naming {
+        namer,
         at: 144,
-        expects: Expects::Root(Tree::Extents),
-        how: By::Block,
+        expected: Expected::TreeRoot(TreeKind::ExtentRefs),
+        how: LookUp::ByBlock,
         oid,
     };
     match add_extents(alloc, src, cp, root, out) {
@@ -68,49 +69,34 @@ fn add_live_extents<S: BlockSource>(
 }
 
 // Adds a volume's snapshot metadata, where it has some, by the steps of its tree. Nothing is read.
-fn add_live_metadata(volume: &Volume, by: NamedBy, out: &mut Gathered) -> Result<(), NoMemory>
-    ensures clear { (image : List ℕ) (seen : Seen) → HasWholeMetadata image seen volume.now → OnOk result (Adds image seen (unless_zero (namer_of by) 152 (TreeRoot SnapMetadata) ByBlock volume.now.snaps_root) [] out.old out.new) }
+fn add_live_metadata(volume: &Volume, namer: Namer, out: &mut Gathered) -> Result<(), NoMemory>
+    ensures clear { (image : List ℕ) (seen : Seen) → HasWholeMetadata image seen volume.now → OnOk result (Adds image seen (unless_zero namer 152 (TreeRoot SnapMetadata) ByBlock volume.now.snaps_root) [] out.old out.new) }
     ensures longer { OnOk result (length out.old.namings ≤ length out.new.namings) }
 {
     let oid = volume.snaps_root;
     if oid == 0 {
         return Ok(());
     }
-    let root = Named {
-        by,
+    let root = Naming {
+        namer,
         at: 152,
-        expects: Expects::Root(Tree::Metadata),
-        how: By::Block,
+        expected: Expected::TreeRoot(TreeKind::SnapMetadata),
+        how: LookUp::ByBlock,
         oid,
     };
-    add_nodes(Tree::Metadata, root, &volume.snaps_steps, out)?;
+    add_nodes(TreeKind::SnapMetadata, root, &volume.snaps_steps, out)?;
     Ok(())
 }
 
-// The record of the container's map by which the volume of a slot is found.
-fn mapping_of(map: u64, found: OmapRecord) -> Mapping
-    ensures { result ≡ record { map = map; oid = found.oid; xid = found.xid; flags = found.flags; size = found.size; paddr = found.paddr } }
-{
-    Mapping {
-        map,
-        oid: found.oid,
-        xid: found.xid,
-        flags: found.flags,
-        size: found.size,
-        paddr: found.paddr,
-    }
-}
-
 // The naming of a volume by its slot.
-fn named(volume: &Volume) -> Named
-    ensures naming { naming_of result ≡ head_naming volume.now.head }
-    ensures oid { result.oid ≡ volume.now.head.oid }
+fn named(volume: &Volume) -> Naming
+    ensures { result ≡ head_naming volume.now.head }
 {
-    Named {
-        by: NamedBy::Newest,
+    Naming {
+        namer: Namer::Whole(Object::Newest),
         at: 184 + 8 * u64::from(volume.head.slot),
-        expects: Expects::Volume(volume.head.slot),
-        how: By::Container,
+        expected: Expected::VolumeIn(volume.head.slot),
+        how: LookUp::InContainer,
         oid: volume.head.oid,
     }
 }
@@ -121,30 +107,30 @@ fn add_named<S: BlockSource>(
     src: &mut S,
     cp: &Checkpoint,
     volume: &Volume,
-    by: NamedBy,
+    namer: Namer,
     out: &mut Gathered,
 ) -> Result<(), Stop<ReachFault>>
     requires site { IsSiteFor (site_of cp.now) (S.bytes_len src.old) }
-    ensures clear { (image : List ℕ) → S.bytes src.old ≡ Some image → AreVolumeParts image cp.now (namer_of by) volume.now → OnOk result (Adds image cp.now (told_volume cp.now (namer_of by) volume.now) (volume_views cp.now (namer_of by) volume.now) out.old out.new) }
-    ensures present { (image : List ℕ) → S.bytes src.old ≡ Some image → AreVolumeParts image cp.now (namer_of by) volume.now → AreLive image cp.now (told_volume cp.now (namer_of by) volume.now) → IfErr result (Tells (IsReachedFault image cp.now) (HasFeature image cp.now)) }
+    ensures clear { (image : List ℕ) → S.bytes src.old ≡ Some image → AreVolumeParts image cp.now namer volume.now → OnOk result (Adds image cp.now (told_volume cp.now namer volume.now) (volume_views cp.now namer volume.now) out.old out.new) }
+    ensures present { (image : List ℕ) → S.bytes src.old ≡ Some image → AreVolumeParts image cp.now namer volume.now → AreLive image cp.now (told_volume cp.now namer volume.now) → IfErr result (Tells (IsReachedFault image cp.now) (HasFeature image cp.now)) }
     ensures reads { (image : List ℕ) → S.bytes src.old ≡ Some image → OnOk result (S.reads src.new + length out.old.namings ≤ S.reads src.old + length out.new.namings) }
     ensures cause { IsErrOf result ReadFault → Rose (S.faults src.old) (S.faults src.new) }
     ensures kept { IsKept S.bytes S.bytes_len S.faults src.old src.new }
 {
     let map = volume.omap.block();
-    let naming = Named {
-        by,
+    let naming = Naming {
+        namer,
         at: 128,
-        expects: Expects::VolumeMap,
-        how: By::Block,
+        expected: Expected::VolumeMap,
+        how: LookUp::ByBlock,
         oid: map,
     };
     add_map(naming, &volume.omap, out)?;
-    match add_live_extents(alloc, src, cp, by, volume.extents_root, out) {
+    match add_live_extents(alloc, src, cp, namer, volume.extents_root, out) {
         Ok(()) => (),
         Err(stop) => return Err(stop),
     }
-    add_live_metadata(volume, by, out)?;
+    add_live_metadata(volume, namer, out)?;
     match add_snapshots(alloc, src, cp, volume, map, out) {
         Ok(()) => Ok(()),
         Err(stop) => Err(stop),
@@ -180,9 +166,9 @@ pub fn add_volume<S: BlockSource>(
             }));
         }
     };
-    let mapping = mapping_of(map, found);
-    out.note_record(named(volume), mapping)?;
-    match add_named(alloc, src, cp, volume, NamedBy::Record(mapping), out) {
+    let namer = Namer::Whole(Object::OfRecord(map, found));
+    out.note_record(named(volume), map, found)?;
+    match add_named(alloc, src, cp, volume, namer, out) {
         Ok(()) => Ok(()),
         Err(stop) => Err(stop),
     }

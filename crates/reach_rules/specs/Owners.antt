@@ -5,7 +5,6 @@ use Rattle.apfs_model.specs.Lists.{In, through}
 use Rattle.nx_block.specs.Super.{desc_base_of, desc_blocks_of, data_base_of, data_blocks_of, locker_of, media_locker_of}
 use Rattle.nx_block.specs.Jump.{jump_extents_of}
 use Rattle.nx_ring.specs.Checkpoint.{Seen, site_of}
-use Rattle.omap_map.specs.declared.records.OmapRecord.{OmapRecord}
 use Rattle.ext_ref.specs.Ranges.{ranges_of}
 use Rattle.ext_ref.specs.declared.range.NewRange.{NewRange}
 use Rattle.space_map.specs.Fields.{pool_base_of, pool_blocks_of, ring_base_of, ring_blocks_of}
@@ -16,27 +15,9 @@ use Rattle.reach_rules.specs.Naming.{Object, Newest, InBlock, OfId, OfRecord, Tr
 use Rattle.reach_rules.specs.Resolved.{Found, resolved}
 use Rattle.reach_rules.specs.Tested.{Answer, tested}
 use Rattle.reach_rules.specs.Live.{IsLive}
-
--- who owns: block 0, the areas, the lockers, the pool and its ring, the object of a physical naming, the record of the
--- object map in a block, the range of a place among those of which the object of a naming tells, or the bitmap of a chunk
-pub data Who : Type 0 where
-  BlockZero : Who
-  Descriptors : Who
-  Checkpoints : Who
-  KeyLocker : Who
-  MediaLocker : Who
-  InternalPool : Who
-  PoolRing : Who
-  Named : Naming → Who
-  Recorded : ℕ → OmapRecord → Who
-  Told : Naming → ℕ → Who
-  Bitmap : ℕ → Who
-
--- an owner, and its range: a first block and a number of blocks
-pub record Owner : Type 0 where
-  pub who : Who
-  pub first : ℕ
-  pub blocks : ℕ
+pub use Rattle.reach_rules.specs.declared.owner.Who.{Who}
+pub use Rattle.reach_rules.specs.declared.owner.Who.TheVariants.{BlockZero, Descriptors, Checkpoints, KeyLocker, MediaLocker, InternalPool, PoolRing, Named, Recorded, Told, Bitmap}
+pub use Rattle.reach_rules.specs.declared.owner.Owner.{Owner}
 
 -- an owner by its parts
 abbrev pub owner : Who → ℕ → ℕ → Owner

@@ -4,7 +4,7 @@ use Rattle.std.specs.List.{flat_map, range_with_len}
 use Rattle.apfs_model.specs.Lists.{In}
 use Rattle.nx_block.specs.Super.{slots}
 use Rattle.nx_ring.specs.Checkpoint.{Seen}
-use Rattle.reach_rules.specs.Naming.{Naming}
+use Rattle.reach_rules.specs.declared.naming.Naming.{Naming}
 use Rattle.reach_rules.specs.Next.{roots, slot_namings}
 use Rattle.reach_gather.specs.Joined.{AreAllOf, HaveSame}
 use Rattle.reach_gather.specs.Container.{manager_naming, container_map_naming, reaper_naming, jumpstart_naming}

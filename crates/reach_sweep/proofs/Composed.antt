@@ -2,7 +2,7 @@
 use Rattle.std.proofs.Common.{ℕ, List, subst}
 use Rattle.nx_ring.specs.Checkpoint.{Seen}
 use Rattle.omap_map.specs.declared.records.OmapRecord.{OmapRecord}
-use Rattle.reach_rules.specs.Naming.{Naming}
+use Rattle.reach_rules.specs.declared.naming.Naming.{Naming}
 use Rattle.reach_rules.specs.Tally.{IsNumberOf}
 use Rattle.reach_gather.proofs.Reaches.{gathered-reaches}
 use Rattle.reach_gather.specs.Finished.{IsObjectOf}

@@ -8,7 +8,7 @@ use Rattle.omap_map.specs.Maps.{Contents, map_records}
 use Rattle.omap_map.specs.Records.{is_deleted}
 use Rattle.omap_map.specs.declared.records.OmapRecord.{OmapRecord}
 use Rattle.vol_view.specs.declared.head.VolHead.{VolHead}
-use Rattle.reach_rules.specs.Naming.{Naming}
+use Rattle.reach_rules.specs.declared.naming.Naming.{Naming}
 use Rattle.reach_rules.specs.Maps.{GivesMap, IsMapOf}
 use Rattle.reach_gather.specs.ViewParts.{ResolvesTo}
 use Rattle.reach_gather.specs.Volumes.Told.{map_of}

@@ -14,7 +14,7 @@ use Rattle.omap_map.specs.Resolve.{resolved}
 use Rattle.omap_map.specs.declared.records.OmapRecord.{OmapRecord}
 use Rattle.vol_view.specs.Volumes.{Loaded}
 use Rattle.vol_view.specs.declared.head.VolHead.{VolHead}
-use Rattle.reach_rules.specs.Naming.{Namer}
+use Rattle.reach_rules.specs.declared.naming.Namer.{Namer}
 use Rattle.reach_gather.specs.Volumes.Laws.{HasParts}
 use Rattle.view_sweep.specs.declared.used.Used.{Used}
 use Rattle.view_sweep.specs.Unused.{used_in}

@@ -9,9 +9,13 @@ use Rattle.nx_block.specs.Super.{desc_base_of, desc_blocks_of, data_base_of, dat
 use Rattle.nx_ring.specs.Checkpoint.{Seen}
 use Rattle.vol_view.specs.Volumes.{Loaded}
 use Rattle.vol_view.specs.declared.head.VolHead.{VolHead}
-use Rattle.reach_rules.specs.Naming.{Namer, Naming}
+use Rattle.reach_rules.specs.declared.naming.Namer.{Namer}
+use Rattle.reach_rules.specs.declared.naming.Naming.{Naming}
 use Rattle.reach_rules.specs.Next.{roots}
-use Rattle.reach_rules.specs.Owners.{Who, BlockZero, Descriptors, Checkpoints, KeyLocker, MediaLocker, Owner, owner, owner_of, first_owners}
+use Rattle.reach_rules.specs.declared.owner.Who.{Who}
+use Rattle.reach_rules.specs.declared.owner.Who.TheVariants.{BlockZero, Descriptors, Checkpoints, KeyLocker, MediaLocker}
+use Rattle.reach_rules.specs.declared.owner.Owner.{Owner}
+use Rattle.reach_rules.specs.Owners.{owner, owner_of, first_owners}
 use Rattle.reach_gather.specs.Container.{manager_naming, container_map_naming, reaper_naming, jumpstart_naming}
 use Rattle.reach_gather.specs.Volumes.Told.{head_naming}
 use Rattle.reach_gather.specs.Volumes.Laws.{HasParts}

@@ -3,7 +3,7 @@ use Rattle.std.proofs.Common.{ℕ, List, sym, subst}
 use Rattle.apfs_model.proofs.Searches.{in-map, from-map}
 use Rattle.nx_ring.specs.Checkpoint.{Seen}
 use Rattle.omap_map.specs.declared.records.OmapRecord.{OmapRecord}
-use Rattle.reach_rules.specs.Naming.{Naming}
+use Rattle.reach_rules.specs.declared.naming.Naming.{Naming}
 use Rattle.reach_gather.specs.Namings.{IsPlainNaming}
 use Rattle.reach_gather.specs.Container.{all_views}
 use Rattle.reach_gather.specs.ViewParts.{ResolvesTo, AreRecordsOf}

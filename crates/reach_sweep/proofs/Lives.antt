@@ -6,7 +6,11 @@ use Rattle.obj_base.specs.declared.stop.Stop.TheVariants.{Found as Finds, Unsupp
 use Rattle.nx_ring.specs.Checkpoint.{Seen}
 use Rattle.omap_map.specs.declared.records.OmapRecord.{OmapRecord}
 use Rattle.reach_rules.specs.declared.fault.ReachFault.TheVariants.{UnusedMapping}
-use Rattle.reach_rules.specs.Naming.{LookUp, ByBlock, ByMapping, InContainer, InView, Object, InBlock, OfId, OfRecord, Naming}
+use Rattle.reach_rules.specs.declared.naming.LookUp.{LookUp}
+use Rattle.reach_rules.specs.declared.naming.LookUp.TheVariants.{ByBlock, ByMapping, InContainer, InView}
+use Rattle.reach_rules.specs.declared.naming.Object.{Object}
+use Rattle.reach_rules.specs.declared.naming.Object.TheVariants.{InBlock, OfId, OfRecord}
+use Rattle.reach_rules.specs.declared.naming.Naming.{Naming}
 use Rattle.reach_rules.specs.Resolved.{Found, resolved}
 use Rattle.reach_rules.specs.Live.{rooted}
 use Rattle.reach_rules.specs.Maps.{IsUsed}

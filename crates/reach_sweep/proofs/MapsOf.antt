@@ -10,7 +10,7 @@ use Rattle.omap_map.specs.Maps.{Contents, map_records, is_map_object, is_whole_m
 use Rattle.omap_map.specs.declared.records.OmapRecord.{OmapRecord}
 use Rattle.vol_view.specs.Volumes.{Loaded}
 use Rattle.vol_view.specs.declared.head.VolHead.{VolHead}
-use Rattle.reach_rules.specs.Naming.{Namer}
+use Rattle.reach_rules.specs.declared.naming.Namer.{Namer}
 use Rattle.reach_rules.specs.Maps.{IsMapOf}
 use Rattle.reach_gather.specs.Volumes.Laws.{HasParts}
 use Rattle.view_sweep.specs.declared.idle.MapRecords.{MapRecords}

@@ -10,7 +10,11 @@ use Rattle.apfs_model.proofs.Finite.{apart-length}
 use Rattle.apfs_model.proofs.Searches.{in-left, in-right, in-append, from-map, in-flat_map, from-flat_map}
 use Rattle.nx_ring.specs.Checkpoint.{Seen}
 use Rattle.omap_map.specs.declared.records.OmapRecord.{OmapRecord}
-use Rattle.reach_rules.specs.Naming.{Object, Newest, OfRecord, Whole as By, Kept, VolumeIn, Naming}
+use Rattle.reach_rules.specs.declared.naming.Object.{Object}
+use Rattle.reach_rules.specs.declared.naming.Object.TheVariants.{Newest, OfRecord}
+use Rattle.reach_rules.specs.declared.naming.Namer.TheVariants.{Whole as By, Kept}
+use Rattle.reach_rules.specs.declared.naming.Expected.TheVariants.{VolumeIn}
+use Rattle.reach_rules.specs.declared.naming.Naming.{Naming}
 use Rattle.reach_rules.specs.Resolved.{Found, resolved}
 use Rattle.reach_rules.specs.Next.{roots, names, next}
 use Rattle.reach_rules.specs.Live.{led, IsLive}

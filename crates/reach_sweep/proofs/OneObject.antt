@@ -19,12 +19,21 @@ use Rattle.space_map.specs.Fields.{pool_base_of, pool_blocks_of}
 use Rattle.space_map.specs.Blocks.{address_at, cib_block, info_index_of, is_info, info_test}
 use Rattle.space_map.specs.Tests.{is_cab, is_cib, is_in_pool}
 use Rattle.space_map.specs.Stops.{HasManager, IsRightSpace}
-use Rattle.reach_rules.specs.Naming.{ViewAt, LookUp, ByBlock, ByMapping, InContainer, InView, Object, Newest, InBlock, OfId, OfRecord, Expected, SpaceManager, ContainerMap, ReaperObject, ReapList, Jumpstart, VolumeIn, VolumeMap, ExtendedMetadata, SnapshotSuper, AddressBlock, InfoBlock, TreeRoot, TreeNode, Naming}
+use Rattle.reach_rules.specs.declared.naming.ViewAt.{ViewAt}
+use Rattle.reach_rules.specs.declared.naming.LookUp.{LookUp}
+use Rattle.reach_rules.specs.declared.naming.LookUp.TheVariants.{ByBlock, ByMapping, InContainer, InView}
+use Rattle.reach_rules.specs.declared.naming.Object.{Object}
+use Rattle.reach_rules.specs.declared.naming.Object.TheVariants.{Newest, InBlock, OfId, OfRecord}
+use Rattle.reach_rules.specs.declared.naming.Expected.{Expected}
+use Rattle.reach_rules.specs.declared.naming.Expected.TheVariants.{SpaceManager, ContainerMap, ReaperObject, ReapList, Jumpstart, VolumeIn, VolumeMap, ExtendedMetadata, SnapshotSuper, AddressBlock, InfoBlock, TreeRoot, TreeNode}
+use Rattle.reach_rules.specs.declared.naming.Naming.{Naming}
 use Rattle.reach_rules.specs.Resolved.{Found, resolved, standing, recorded, found_virtual, found_by}
 use Rattle.reach_rules.specs.Tested.{Answer, tested}
 use Rattle.reach_rules.specs.Faults.{is_once}
 use Rattle.reach_rules.specs.Live.{IsLive}
-use Rattle.reach_rules.specs.Owners.{InternalPool, Named, Owner, owner, covers, tells_of_chunks, object_owners, told_owners, told_if, owners_through, of, IsOwner}
+use Rattle.reach_rules.specs.declared.owner.Who.TheVariants.{InternalPool, Named}
+use Rattle.reach_rules.specs.declared.owner.Owner.{Owner}
+use Rattle.reach_rules.specs.Owners.{owner, covers, tells_of_chunks, object_owners, told_owners, told_if, owners_through, of, IsOwner}
 use Rattle.reach_rules.specs.Reached.{Whole, IsReached}
 use Rattle.reach_rules.specs.Settled.{AreApart}
 use Rattle.reach_rules.proofs.Ranges.{apart-owners}

@@ -7,8 +7,9 @@ use Rattle.apfs_model.proofs.BoolTests.{not-true, false-not}
 use Rattle.apfs_model.proofs.Searches.{in-left, in-right, in-append, from-map, in-flat_map, from-flat_map, in-filter, from-filter, filter-test}
 use Rattle.nx_ring.specs.Checkpoint.{Seen}
 use Rattle.omap_map.specs.declared.records.OmapRecord.{OmapRecord}
-use Rattle.reach_rules.specs.Naming.{Naming}
-use Rattle.reach_rules.specs.Owners.{Owner, first_owners, owners_through}
+use Rattle.reach_rules.specs.declared.naming.Naming.{Naming}
+use Rattle.reach_rules.specs.declared.owner.Owner.{Owner}
+use Rattle.reach_rules.specs.Owners.{first_owners, owners_through}
 use Rattle.reach_rules.specs.PoolOwners.{pool_owners_through}
 use Rattle.reach_gather.specs.Joined.{HaveSame}
 use Rattle.reach_gather.specs.ViewParts.{record_owner}

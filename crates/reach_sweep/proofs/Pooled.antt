@@ -24,12 +24,25 @@ use Rattle.space_map.specs.declared.chunk.Chunk.{Chunk}
 use Rattle.space_pool.specs.Queues.{queue_of, is_queued_in_pool}
 use Rattle.space_pool.specs.declared.entry.Queue.TheVariants.{Pool, Main}
 use Rattle.space_pool.specs.declared.entry.QueueEntry.{QueueEntry}
-use Rattle.reach_rules.specs.Naming.{ViewAt, LookUp, ByBlock, ByMapping, InContainer, InView, Object, Newest, InBlock, OfId, OfRecord, Namer, Whole, Kept, TreeKind, MapRecords, MapSnapshots, ExtentRefs, SnapMetadata, FreeQueue, Files, Expected, SpaceManager, ContainerMap, ReaperObject, ReapList, Jumpstart, VolumeIn, VolumeMap, ExtendedMetadata, SnapshotSuper, AddressBlock, InfoBlock, TreeRoot, TreeNode, Naming}
+use Rattle.reach_rules.specs.declared.naming.ViewAt.{ViewAt}
+use Rattle.reach_rules.specs.declared.naming.LookUp.{LookUp}
+use Rattle.reach_rules.specs.declared.naming.LookUp.TheVariants.{ByBlock, ByMapping, InContainer, InView}
+use Rattle.reach_rules.specs.declared.naming.Object.{Object}
+use Rattle.reach_rules.specs.declared.naming.Object.TheVariants.{Newest, InBlock, OfId, OfRecord}
+use Rattle.reach_rules.specs.declared.naming.Namer.{Namer}
+use Rattle.reach_rules.specs.declared.naming.Namer.TheVariants.{Whole, Kept}
+use Rattle.reach_rules.specs.declared.naming.TreeKind.{TreeKind}
+use Rattle.reach_rules.specs.declared.naming.TreeKind.TheVariants.{MapRecords, MapSnapshots, ExtentRefs, SnapMetadata, FreeQueue, Files}
+use Rattle.reach_rules.specs.declared.naming.Expected.{Expected}
+use Rattle.reach_rules.specs.declared.naming.Expected.TheVariants.{SpaceManager, ContainerMap, ReaperObject, ReapList, Jumpstart, VolumeIn, VolumeMap, ExtendedMetadata, SnapshotSuper, AddressBlock, InfoBlock, TreeRoot, TreeNode}
+use Rattle.reach_rules.specs.declared.naming.Naming.{Naming}
 use Rattle.reach_rules.specs.Resolved.{Found, resolved, standing, found_by}
 use Rattle.reach_rules.specs.Tested.{Answer, tested}
 use Rattle.reach_rules.specs.Next.{roots, names, unless_zero, slot_namings, map_namings, live_view, past_view, view_namings, record_namings, snapshot_namings, snapshots_namings, records_of_snapshots, address_naming, addresses_in, address_namings, manager_namings, is_cib_of, cib_naming, cibs_in, cab_namings, children_in, child_namings, node_namings, volume_namings}
 use Rattle.reach_rules.specs.Live.{rooted, led, IsLive}
-use Rattle.reach_rules.specs.Owners.{Owner, owner, Named, told_from, queued_ranges_of, tells_of_chunks}
+use Rattle.reach_rules.specs.declared.owner.Who.TheVariants.{Named}
+use Rattle.reach_rules.specs.declared.owner.Owner.{Owner}
+use Rattle.reach_rules.specs.Owners.{owner, told_from, queued_ranges_of, tells_of_chunks}
 use Rattle.reach_rules.specs.PoolOwners.{pool_object_owners, is_chunk_of, has_bitmap_in, bitmaps_in, bitmap_owner, bitmap_owners, pool_told_owners, pool_told_if, pool_owners_through}
 use Rattle.reach_rules.specs.Reached.{range_of}
 use Rattle.reach_rules.proofs.Nexts.{Each, each-in, each-append, each-if, each-flat, each-unless, from-next}

@@ -8,7 +8,10 @@ use Rattle.omap_map.specs.Maps.{resolved_in}
 use Rattle.omap_map.specs.declared.records.OmapRecord.{OmapRecord}
 use Rattle.vol_view.specs.Volumes.{Loaded}
 use Rattle.vol_view.specs.declared.head.VolHead.{VolHead}
-use Rattle.reach_rules.specs.Naming.{InContainer, InView, OfRecord, Namer, Naming}
+use Rattle.reach_rules.specs.declared.naming.LookUp.TheVariants.{InContainer, InView}
+use Rattle.reach_rules.specs.declared.naming.Object.TheVariants.{OfRecord}
+use Rattle.reach_rules.specs.declared.naming.Namer.{Namer}
+use Rattle.reach_rules.specs.declared.naming.Naming.{Naming}
 use Rattle.reach_rules.specs.Resolved.{Found, resolved, standing}
 use Rattle.reach_rules.specs.Next.{roots}
 use Rattle.reach_rules.specs.Live.{IsLive, rooted}

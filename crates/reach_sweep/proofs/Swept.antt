@@ -16,7 +16,14 @@ use Rattle.vol_view.specs.Volumes.{Loaded, map_or_empty, loaded_of}
 use Rattle.vol_view.specs.LoadStops.{IsLoadable, IsVolumeOf}
 use Rattle.vol_view.specs.declared.head.VolHead.{VolHead}
 use Rattle.vol_view.specs.declared.volume.Snapshot.{Snapshot}
-use Rattle.reach_rules.specs.Naming.{Newest, InContainer, InView, InBlock, Namer, Whole, Files, VolumeIn, TreeRoot, Naming, naming}
+use Rattle.reach_rules.specs.declared.naming.LookUp.TheVariants.{InContainer, InView}
+use Rattle.reach_rules.specs.declared.naming.Object.TheVariants.{Newest, InBlock}
+use Rattle.reach_rules.specs.declared.naming.Namer.{Namer}
+use Rattle.reach_rules.specs.declared.naming.Namer.TheVariants.{Whole}
+use Rattle.reach_rules.specs.declared.naming.TreeKind.TheVariants.{Files}
+use Rattle.reach_rules.specs.declared.naming.Expected.TheVariants.{VolumeIn, TreeRoot}
+use Rattle.reach_rules.specs.declared.naming.Naming.{Naming}
+use Rattle.reach_rules.specs.Naming.{naming}
 use Rattle.reach_rules.specs.Next.{slot_namings}
 use Rattle.reach_gather.specs.Joined.{HaveSame}
 use Rattle.reach_gather.specs.Container.{all_views}

@@ -11,7 +11,8 @@ use Rattle.vol_view.specs.Stops.{AreHeads}
 use Rattle.vol_view.specs.declared.head.VolHead.{VolHead}
 use Rattle.space_map.specs.Stops.{Known, IsSpaceOf}
 use Rattle.space_pool.specs.Stops.{ArePoolBits}
-use Rattle.reach_rules.specs.Naming.{ByMapping, InContainer, Naming}
+use Rattle.reach_rules.specs.declared.naming.LookUp.TheVariants.{ByMapping, InContainer}
+use Rattle.reach_rules.specs.declared.naming.Naming.{Naming}
 use Rattle.reach_rules.specs.Next.{roots}
 use Rattle.reach_rules.specs.Live.{IsLive}
 use Rattle.reach_rules.specs.Accounted.{IsShaped}

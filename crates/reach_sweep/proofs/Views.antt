@@ -13,7 +13,13 @@ use Rattle.vol_view.specs.SnapRecords.{snapshot_pairs, is_snapshot_long}
 use Rattle.vol_view.specs.Volumes.{Loaded, super_of, map_block_of, metadata_of, snapshot_in, loaded_of}
 use Rattle.vol_view.specs.LoadStops.{IsLoadable, IsVolumeOf}
 use Rattle.vol_view.specs.declared.head.VolHead.{VolHead}
-use Rattle.reach_rules.specs.Naming.{InContainer, Newest, OfRecord, Namer, Whole, VolumeIn, Naming, naming}
+use Rattle.reach_rules.specs.declared.naming.LookUp.TheVariants.{InContainer}
+use Rattle.reach_rules.specs.declared.naming.Object.TheVariants.{Newest, OfRecord}
+use Rattle.reach_rules.specs.declared.naming.Namer.{Namer}
+use Rattle.reach_rules.specs.declared.naming.Namer.TheVariants.{Whole}
+use Rattle.reach_rules.specs.declared.naming.Expected.TheVariants.{VolumeIn}
+use Rattle.reach_rules.specs.declared.naming.Naming.{Naming}
+use Rattle.reach_rules.specs.Naming.{naming}
 use Rattle.reach_rules.specs.Resolved.{Found, standing}
 use Rattle.reach_rules.specs.Next.{slot_namings, past_view}
 use Rattle.reach_gather.specs.Joined.{HaveSame}

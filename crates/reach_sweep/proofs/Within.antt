@@ -7,7 +7,7 @@ use Rattle.vol_view.specs.declared.head.VolHead.{VolHead}
 use Rattle.space_map.specs.Fields.{pool_bitmap_blocks_of}
 use Rattle.space_map.specs.Stops.{Known}
 use Rattle.reach_rules.specs.Bound.{ReachedWithin}
-use Rattle.reach_rules.specs.Naming.{Naming}
+use Rattle.reach_rules.specs.declared.naming.Naming.{Naming}
 use Rattle.reach_rules.specs.Reached.{Whole}
 use Rattle.reach_rules.specs.Settled.{AreApart}
 use Rattle.reach_rules.specs.Tally.{IsNumberOf}

@@ -15,12 +15,16 @@ use Rattle.vol_view.specs.LoadStops.{IsVolumeOf}
 use Rattle.vol_view.specs.declared.head.VolHead.{VolHead}
 use Rattle.space_map.specs.Stops.{Known, IsSpaceOf}
 use Rattle.space_pool.specs.Stops.{ArePoolBits}
-use Rattle.reach_rules.specs.Naming.{ByMapping, InContainer, Object, Namer, Naming}
+use Rattle.reach_rules.specs.declared.naming.LookUp.TheVariants.{ByMapping, InContainer}
+use Rattle.reach_rules.specs.declared.naming.Object.{Object}
+use Rattle.reach_rules.specs.declared.naming.Namer.{Namer}
+use Rattle.reach_rules.specs.declared.naming.Naming.{Naming}
 use Rattle.reach_rules.specs.Next.{roots}
 use Rattle.reach_rules.specs.Live.{IsLive}
 use Rattle.reach_rules.specs.Features.{HasFeature}
 use Rattle.reach_rules.specs.declared.fault.ReachFault.{ReachFault}
-use Rattle.reach_rules.specs.Owners.{Owner, first_owners}
+use Rattle.reach_rules.specs.declared.owner.Owner.{Owner}
+use Rattle.reach_rules.specs.Owners.{first_owners}
 use Rattle.reach_rules.specs.PoolOwners.{pool_owners_through}
 use Rattle.reach_rules.specs.Accounted.{IsShaped}
 use Rattle.reach_rules.specs.Reached.{Whole, range_of, AreInPool, IsReached, IsReachedFault}

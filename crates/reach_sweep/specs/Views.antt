@@ -10,7 +10,11 @@ use Rattle.vol_view.specs.Volumes.{Loaded}
 use Rattle.vol_view.specs.LoadStops.{IsVolumeOf}
 use Rattle.vol_view.specs.declared.head.VolHead.{VolHead}
 use Rattle.vol_view.specs.declared.volume.Snapshot.{Snapshot}
-use Rattle.reach_rules.specs.Naming.{ViewAt, Newest, InBlock, Namer, Whole, Naming}
+use Rattle.reach_rules.specs.declared.naming.ViewAt.{ViewAt}
+use Rattle.reach_rules.specs.declared.naming.Object.TheVariants.{Newest, InBlock}
+use Rattle.reach_rules.specs.declared.naming.Namer.{Namer}
+use Rattle.reach_rules.specs.declared.naming.Namer.TheVariants.{Whole}
+use Rattle.reach_rules.specs.declared.naming.Naming.{Naming}
 use Rattle.reach_gather.specs.Joined.{HaveSame}
 use Rattle.reach_gather.specs.Container.{all_views}
 use Rattle.reach_gather.specs.Volumes.Told.{map_of, live_at, past_at}

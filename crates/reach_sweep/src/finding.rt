@@ -7,7 +7,7 @@ ghost use Rattle.nx_ring.specs.Checkpoint.{site_of};
 ghost use Rattle.omap_map.specs.Maps.{map_records};
 ghost use Rattle.vol_view.specs.Volumes.{Loaded};
 ghost use Rattle.vol_view.specs.declared.head.VolHead.{VolHead};
-ghost use Rattle.reach_rules.specs.Naming.{Namer};
+ghost use Rattle.reach_rules.specs.declared.naming.Namer.{Namer};
 ghost use Rattle.reach_gather.specs.Volumes.Laws.{HasParts};
 ghost use Rattle.reach_sweep.specs.Composed.{records_used, AreHeadRecords};
 ghost use Rattle.reach_sweep.specs.Used.{found_of};

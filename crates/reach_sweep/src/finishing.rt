@@ -2,30 +2,23 @@
 ghost use Rattle.std.specs.Prelude.{◌≡◌, ◌++◌, ◌+◌, ◌^◌, ◌<◌, map, length, OnOk, IfOk, IfErr};
 ghost use Rattle.obj_base.specs.declared.stop.Stop.TheVariants.{NoMemory};
 ghost use Rattle.own_settle.specs.Kept.{HasPool};
-ghost use Rattle.reach_gather.specs.Finished.{mapping_as};
 ghost use Rattle.reach_sweep.specs.Composed.{record_used, records_used, HasRecords};
 ghost use Rattle.reach_sweep.specs.Finished.{IsFinished};
 
 use obj_base::Stop;
+use omap_map::OmapRecord;
 use own_settle::Reached;
-use reach_gather::{Gathered, Mapping, Owned, OwnedBy};
-use reach_rules::ReachFault;
+use reach_gather::Gathered;
+use reach_rules::{Owner, ReachFault, Who};
 use space_map::Space;
 use std::alloc::Global;
 use view_sweep::Used;
 
-// A record that is used, as it is kept.
-fn mapping_of(used: &Used) -> Mapping
-    ensures { mapping_as result ≡ record_used used.now }
+// A record that is used, with the block of its map.
+fn mapping_of(used: &Used) -> (u64, OmapRecord)
+    ensures { result ≡ record_used used.now }
 {
-    Mapping {
-        map: used.map,
-        oid: used.mapping.oid,
-        xid: used.mapping.xid,
-        flags: used.mapping.flags,
-        size: used.mapping.size,
-        paddr: used.mapping.paddr,
-    }
+    (used.map, used.mapping)
 }
 
 // The owners of records that are used.
@@ -34,10 +27,9 @@ fn tell_records(used: &[Used], out: &mut Gathered) -> Result<(), Stop<ReachFault
     ensures memory_only { IfErr result (λ stop. stop ≡ NoMemory) }
 {
     for one in used {
-        let mapping = mapping_of(one);
-        out.tell(Owned {
-            who: OwnedBy::Recorded(mapping),
-            first: mapping.paddr,
+        out.tell(Owner {
+            who: Who::Recorded(one.map, one.mapping),
+            first: one.mapping.paddr,
             blocks: 1,
         })?;
     }
@@ -45,20 +37,23 @@ fn tell_records(used: &[Used], out: &mut Gathered) -> Result<(), Stop<ReachFault
 }
 
 // Adds records that are used, as they are kept.
-fn add_mappings(used: &[Used], out: &mut Vec<Mapping>) -> Result<(), Stop<ReachFault>>
-    ensures added { OnOk result (map mapping_as out.new.items ≡ map mapping_as out.old.items ++ records_used used.now) }
+fn add_mappings(used: &[Used], out: &mut Vec<(u64, OmapRecord)>) -> Result<(), Stop<ReachFault>>
+    ensures added { OnOk result (out.new.items ≡ out.old.items ++ records_used used.now) }
     ensures memory_only { IfErr result (λ stop. stop ≡ NoMemory) }
 {
     for one in used {
-        let mapping = mapping_of(one);
-        out.push(mapping)?;
+        out.push(mapping_of(one))?;
     }
     Ok(())
 }
 
 // The records that views use, and after them those by which the volumes are found.
-fn mappings(alloc: Global, used: &[Used], found: &[Used]) -> Result<Vec<Mapping>, Stop<ReachFault>>
-    ensures all { IfOk result (λ all. map mapping_as all.items ≡ records_used used.now ++ records_used found.now) }
+fn mappings(
+    alloc: Global,
+    used: &[Used],
+    found: &[Used],
+) -> Result<Vec<(u64, OmapRecord)>, Stop<ReachFault>>
+    ensures all { IfOk result (λ all. all.items ≡ records_used used.now ++ records_used found.now) }
     ensures memory_only { IfErr result (λ stop. stop ≡ NoMemory) }
 {
     let mut all = Vec::new(alloc);

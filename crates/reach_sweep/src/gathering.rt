@@ -11,7 +11,7 @@ ghost use Rattle.omap_map.specs.Maps.{map_records};
 ghost use Rattle.vol_view.specs.Volumes.{Loaded};
 ghost use Rattle.vol_view.specs.declared.head.VolHead.{VolHead};
 ghost use Rattle.space_map.specs.Stops.{IsSpaceOf};
-ghost use Rattle.reach_rules.specs.Naming.{Namer};
+ghost use Rattle.reach_rules.specs.declared.naming.Namer.{Namer};
 ghost use Rattle.reach_rules.specs.Next.{roots};
 ghost use Rattle.reach_rules.specs.Features.{HasFeature};
 ghost use Rattle.reach_rules.specs.Owners.{first_owners};
@@ -30,11 +30,8 @@ use blk_source::{BlockSource, NoMemory as OutOfMemory};
 use nx_ring::Checkpoint;
 use obj_base::Stop;
 use omap_map::Omap;
-use reach_gather::{
-    By, Expects, Gathered, Named, NamedBy, Owned, OwnedBy, add_jumpstart, add_map, add_reaper,
-    add_space, add_volumes,
-};
-use reach_rules::ReachFault;
+use reach_gather::{Gathered, add_jumpstart, add_map, add_reaper, add_space, add_volumes};
+use reach_rules::{Expected, LookUp, Namer, Naming, Object, Owner, ReachFault, Who};
 use space_map::Space;
 use std::alloc::Global;
 use vol_view::Volume;
@@ -48,28 +45,28 @@ fn tell_first(cp: &Checkpoint, out: &mut Gathered) -> Result<(), OutOfMemory>
     let nx = cp.nx();
     let (key_locker, key_blocks) = nx.locker();
     let (media_locker, media_blocks) = nx.media_locker();
-    out.tell(Owned {
-        who: OwnedBy::BlockZero,
+    out.tell(Owner {
+        who: Who::BlockZero,
         first: 0,
         blocks: 1,
     })?;
-    out.tell(Owned {
-        who: OwnedBy::Descriptors,
+    out.tell(Owner {
+        who: Who::Descriptors,
         first: nx.desc_base(),
         blocks: u64::from(nx.desc_blocks()),
     })?;
-    out.tell(Owned {
-        who: OwnedBy::Checkpoints,
+    out.tell(Owner {
+        who: Who::Checkpoints,
         first: nx.data_base(),
         blocks: u64::from(nx.data_blocks()),
     })?;
-    out.tell(Owned {
-        who: OwnedBy::KeyLocker,
+    out.tell(Owner {
+        who: Who::KeyLocker,
         first: key_locker,
         blocks: key_blocks,
     })?;
-    out.tell(Owned {
-        who: OwnedBy::MediaLocker,
+    out.tell(Owner {
+        who: Who::MediaLocker,
         first: media_locker,
         blocks: media_blocks,
     })?;
@@ -105,11 +102,11 @@ fn add_container_map<S: BlockSource>(
         Ok(omap) => omap,
         Err(stop) => return Err(stop),
     };
-    let naming = Named {
-        by: NamedBy::Newest,
+    let naming = Naming {
+        namer: Namer::Whole(Object::Newest),
         at: 160,
-        expects: Expects::ContainerMap,
-        how: By::Block,
+        expected: Expected::ContainerMap,
+        how: LookUp::ByBlock,
         oid: cp.nx().omap_oid(),
     };
     add_map(naming, &omap, out)?;

@@ -10,7 +10,7 @@ ghost use Rattle.obj_base.specs.declared.stop.Stop.TheVariants.{ReadFault, NoMem
 ghost use Rattle.nx_ring.specs.Checkpoint.{site_of};
 ghost use Rattle.vol_view.specs.Volumes.{Loaded};
 ghost use Rattle.vol_view.specs.declared.head.VolHead.{VolHead};
-ghost use Rattle.reach_rules.specs.Naming.{Namer};
+ghost use Rattle.reach_rules.specs.declared.naming.Namer.{Namer};
 ghost use Rattle.reach_rules.specs.Features.{HasFeature};
 ghost use Rattle.reach_rules.specs.Reached.{IsReachedFault};
 ghost use Rattle.reach_gather.specs.Volumes.Laws.{HasParts};

@@ -9,7 +9,13 @@ use Rattle.obj_base.specs.declared.site.Site.{Site}
 use Rattle.nx_ring.specs.Checkpoint.{Seen, site_of}
 use Rattle.omap_map.specs.Maps.{Contents, map_records, is_whole_map, contents_of}
 use Rattle.vol_view.specs.Volumes.{Loaded, map_or_empty, empty_map}
-use Rattle.reach_rules.specs.Naming.{InView, Namer, Whole, Files, TreeRoot, Naming, naming}
+use Rattle.reach_rules.specs.declared.naming.LookUp.TheVariants.{InView}
+use Rattle.reach_rules.specs.declared.naming.Namer.{Namer}
+use Rattle.reach_rules.specs.declared.naming.Namer.TheVariants.{Whole}
+use Rattle.reach_rules.specs.declared.naming.TreeKind.TheVariants.{Files}
+use Rattle.reach_rules.specs.declared.naming.Expected.TheVariants.{TreeRoot}
+use Rattle.reach_rules.specs.declared.naming.Naming.{Naming}
+use Rattle.reach_rules.specs.Naming.{naming}
 use Rattle.reach_rules.specs.Next.{roots, names, next}
 use Rattle.reach_rules.specs.Live.{Live, IsLive, rooted, led}
 use Rattle.reach_rules.proofs.Nexts.{each-in, from-next}

@@ -13,7 +13,18 @@ use Rattle.vol_view.specs.SnapRecords.{is_snapshot_long, snap_extents_of}
 use Rattle.space_map.specs.Fields.{cabs_of, cibs_of, pool_queue_of, main_queue_of}
 use Rattle.space_map.specs.Blocks.{manager_of}
 use Rattle.space_pool.specs.declared.entry.Queue.TheVariants.{Pool, Main}
-use Rattle.reach_rules.specs.Naming.{ViewAt, LookUp, ByBlock, ByMapping, InContainer, InView, Newest, Namer, Whole, Kept, TreeKind, MapRecords, MapSnapshots, ExtentRefs, SnapMetadata, FreeQueue, Files, Expected, SpaceManager, ContainerMap, ReaperObject, ReapList, Jumpstart, VolumeIn, VolumeMap, ExtendedMetadata, SnapshotSuper, AddressBlock, InfoBlock, TreeRoot, TreeNode, Naming, naming}
+use Rattle.reach_rules.specs.declared.naming.ViewAt.{ViewAt}
+use Rattle.reach_rules.specs.declared.naming.LookUp.{LookUp}
+use Rattle.reach_rules.specs.declared.naming.LookUp.TheVariants.{ByBlock, ByMapping, InContainer, InView}
+use Rattle.reach_rules.specs.declared.naming.Object.TheVariants.{Newest}
+use Rattle.reach_rules.specs.declared.naming.Namer.{Namer}
+use Rattle.reach_rules.specs.declared.naming.Namer.TheVariants.{Whole, Kept}
+use Rattle.reach_rules.specs.declared.naming.TreeKind.{TreeKind}
+use Rattle.reach_rules.specs.declared.naming.TreeKind.TheVariants.{MapRecords, MapSnapshots, ExtentRefs, SnapMetadata, FreeQueue, Files}
+use Rattle.reach_rules.specs.declared.naming.Expected.{Expected}
+use Rattle.reach_rules.specs.declared.naming.Expected.TheVariants.{SpaceManager, ContainerMap, ReaperObject, ReapList, Jumpstart, VolumeIn, VolumeMap, ExtendedMetadata, SnapshotSuper, AddressBlock, InfoBlock, TreeRoot, TreeNode}
+use Rattle.reach_rules.specs.declared.naming.Naming.{Naming}
+use Rattle.reach_rules.specs.Naming.{naming}
 use Rattle.reach_rules.specs.Resolved.{is_node}
 use Rattle.reach_rules.specs.Next.{roots, names, unless_zero, slot_namings, map_namings, live_view, past_view, view_namings, record_namings, snapshot_namings, snapshots_namings, records_of_snapshots, address_naming, addresses_in, address_namings, manager_namings, cib_naming, cibs_in, cab_namings, children_in, child_namings, node_namings, volume_namings}
 use Rattle.reach_rules.proofs.Nexts.{Each, each-append, each-map, each-flat, each-if, each-unless, each-through}

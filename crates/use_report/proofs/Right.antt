@@ -30,7 +30,14 @@ use Rattle.ext_ref.specs.Stops.{is_short_item}
 use Rattle.ext_ref.specs.Scanned.{has_long_values, is_right_tree}
 use Rattle.reach_rules.specs.declared.fault.Why.TheVariants.{Node}
 use Rattle.reach_rules.specs.declared.fault.ReachFault.TheVariants as sweeps
-use Rattle.reach_rules.specs.Naming.{LookUp, ByBlock, Namer, Kept, ExtentRefs, SnapMetadata, TreeRoot, Naming, naming}
+use Rattle.reach_rules.specs.declared.naming.LookUp.{LookUp}
+use Rattle.reach_rules.specs.declared.naming.LookUp.TheVariants.{ByBlock}
+use Rattle.reach_rules.specs.declared.naming.Namer.{Namer}
+use Rattle.reach_rules.specs.declared.naming.Namer.TheVariants.{Kept}
+use Rattle.reach_rules.specs.declared.naming.TreeKind.TheVariants.{ExtentRefs, SnapMetadata}
+use Rattle.reach_rules.specs.declared.naming.Expected.TheVariants.{TreeRoot}
+use Rattle.reach_rules.specs.declared.naming.Naming.{Naming}
+use Rattle.reach_rules.specs.Naming.{naming}
 use Rattle.reach_rules.specs.Next.{unless_zero}
 use Rattle.reach_rules.specs.Faults.{within_of, xid_of}
 use Rattle.reach_rules.specs.Trees.{tree_line, misplaced, has_counts, IsRightTree}

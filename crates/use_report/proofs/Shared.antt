@@ -26,7 +26,13 @@ use Rattle.vol_view.specs.Volumes.{Loaded}
 use Rattle.vol_view.specs.Views.{view_named, view_tree, view_flat, hashed_tree, plain_tree}
 use Rattle.piece_count.specs.Covered.{is_covered}
 use Rattle.piece_count.specs.declared.piece.Holdings.{Holdings}
-use Rattle.reach_rules.specs.Naming.{InView, OfRecord, Files, Expected, ExtendedMetadata, TreeRoot, TreeNode, Namer, Naming}
+use Rattle.reach_rules.specs.declared.naming.LookUp.TheVariants.{InView}
+use Rattle.reach_rules.specs.declared.naming.Object.TheVariants.{OfRecord}
+use Rattle.reach_rules.specs.declared.naming.Namer.{Namer}
+use Rattle.reach_rules.specs.declared.naming.TreeKind.TheVariants.{Files}
+use Rattle.reach_rules.specs.declared.naming.Expected.{Expected}
+use Rattle.reach_rules.specs.declared.naming.Expected.TheVariants.{ExtendedMetadata, TreeRoot, TreeNode}
+use Rattle.reach_rules.specs.declared.naming.Naming.{Naming}
 use Rattle.reach_rules.specs.Resolved.{Found, standing, resolved}
 use Rattle.reach_rules.specs.Tested.{tested}
 use Rattle.reach_rules.specs.Next.{next}

@@ -26,7 +26,18 @@ use Rattle.vol_view.specs.Stops.{AreHeads}
 use Rattle.vol_view.specs.Volumes.{Loaded}
 use Rattle.vol_view.specs.declared.head.VolHead.{VolHead}
 use Rattle.vol_view.specs.declared.volume.Snapshot.{Snapshot}
-use Rattle.reach_rules.specs.Naming.{ViewAt, LookUp, ByBlock, InContainer, InView, InBlock, Newest, Namer, Whole, Kept, TreeKind, ExtentRefs, SnapMetadata, Files, Expected, VolumeIn, ExtendedMetadata, SnapshotSuper, TreeRoot, TreeNode, Naming, naming}
+use Rattle.reach_rules.specs.declared.naming.ViewAt.{ViewAt}
+use Rattle.reach_rules.specs.declared.naming.LookUp.{LookUp}
+use Rattle.reach_rules.specs.declared.naming.LookUp.TheVariants.{ByBlock, InContainer, InView}
+use Rattle.reach_rules.specs.declared.naming.Object.TheVariants.{InBlock, Newest}
+use Rattle.reach_rules.specs.declared.naming.Namer.{Namer}
+use Rattle.reach_rules.specs.declared.naming.Namer.TheVariants.{Whole, Kept}
+use Rattle.reach_rules.specs.declared.naming.TreeKind.{TreeKind}
+use Rattle.reach_rules.specs.declared.naming.TreeKind.TheVariants.{ExtentRefs, SnapMetadata, Files}
+use Rattle.reach_rules.specs.declared.naming.Expected.{Expected}
+use Rattle.reach_rules.specs.declared.naming.Expected.TheVariants.{VolumeIn, ExtendedMetadata, SnapshotSuper, TreeRoot, TreeNode}
+use Rattle.reach_rules.specs.declared.naming.Naming.{Naming}
+use Rattle.reach_rules.specs.Naming.{naming}
 use Rattle.reach_rules.specs.Resolved.{Found, resolved, found_by, is_node}
 use Rattle.reach_rules.specs.Tested.{Answer, of_node, node_tested, tested}
 use Rattle.reach_rules.specs.Next.{roots, names, next, unless_zero, children_in, child_namings, node_namings}

@@ -8,7 +8,8 @@ use Rattle.fs_record.specs.StreamExtents.{extent_blocks, is_hole}
 use Rattle.fs_record.specs.declared.extents.FileExt.{FileExt}
 use Rattle.vol_view.specs.Volumes.{Loaded}
 use Rattle.ext_ref.specs.Ranges.{node_blocks_of}
-use Rattle.reach_rules.specs.Naming.{InView, Naming}
+use Rattle.reach_rules.specs.declared.naming.LookUp.TheVariants.{InView}
+use Rattle.reach_rules.specs.declared.naming.Naming.{Naming}
 use Rattle.reach_rules.specs.Resolved.{Found}
 use Rattle.reach_rules.specs.Live.{Names}
 use Rattle.view_rules.specs.Rules.{view_facts}

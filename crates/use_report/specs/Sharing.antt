@@ -8,7 +8,7 @@ use Rattle.vol_view.specs.Volumes.{Loaded}
 use Rattle.ext_ref.specs.Ranges.{node_blocks_of}
 use Rattle.piece_count.specs.Covered.{is_covered}
 use Rattle.piece_count.specs.declared.piece.Holdings.{Holdings}
-use Rattle.reach_rules.specs.Naming.{Namer}
+use Rattle.reach_rules.specs.declared.naming.Namer.{Namer}
 use Rattle.view_sweep.specs.declared.sets.ViewSet.{ViewSet}
 use Rattle.view_sweep.specs.declared.wanted.SweptView.{SweptView}
 use Rattle.view_sweep.specs.declared.wanted.Head.{Head}

@@ -5,7 +5,7 @@ use Rattle.fs_name.specs.Normal.{are_hashed}
 use Rattle.vol_view.specs.Volumes.{Loaded}
 use Rattle.vol_view.specs.Views.{live_of, past_of}
 use Rattle.vol_view.specs.declared.volume.Snapshot.{Snapshot}
-use Rattle.reach_rules.specs.Naming.{ViewAt}
+use Rattle.reach_rules.specs.declared.naming.ViewAt.{ViewAt}
 use Rattle.use_report.specs.declared.kept.KeptView.{KeptView}
 
 -- the volume as it is

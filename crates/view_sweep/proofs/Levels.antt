@@ -19,7 +19,7 @@ use Rattle.bt_node.specs.declared.node.NodeAt.{NodeAt}
 use Rattle.bt_node.proofs.Laws.{node_means}
 use Rattle.bt_keys.specs.Shapes.{fs_shape, fs_plain_shape}
 use Rattle.omap_map.specs.declared.records.OmapRecord.{OmapRecord}
-use Rattle.reach_rules.specs.Naming.{Files}
+use Rattle.reach_rules.specs.declared.naming.TreeKind.TheVariants.{Files}
 use Rattle.reach_rules.specs.Tested.{Answer, node_answer, of_node, of_header, tested}
 use Rattle.view_sweep.specs.declared.wanted.SweptView.{SweptView}
 use Rattle.view_sweep.specs.declared.wanted.Want.{Want}

@@ -3,7 +3,9 @@ use Rattle.std.proofs.Common.{◌≡◌, ℕ, zero, suc, Bool, List, [], ◌∷�
 use Rattle.obj_base.specs.declared.site.Site.{Site}
 use Rattle.bt_node.specs.Node.{level_of}
 use Rattle.omap_map.specs.declared.records.OmapRecord.{OmapRecord}
-use Rattle.reach_rules.specs.Naming.{Files, Expected, TreeRoot, TreeNode}
+use Rattle.reach_rules.specs.declared.naming.TreeKind.TheVariants.{Files}
+use Rattle.reach_rules.specs.declared.naming.Expected.{Expected}
+use Rattle.reach_rules.specs.declared.naming.Expected.TheVariants.{TreeRoot, TreeNode}
 use Rattle.reach_rules.specs.Tested.{Answer, tested}
 use Rattle.reach_rules.specs.Next.{children_in}
 use Rattle.view_sweep.specs.declared.wanted.SweptView.{SweptView}

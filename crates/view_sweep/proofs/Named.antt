@@ -11,7 +11,12 @@ use Rattle.omap_map.specs.Resolve.{resolved as resolves, latest}
 use Rattle.omap_map.specs.Maps.{map_records, is_whole_map, resolved_in, contents_of}
 use Rattle.omap_map.specs.declared.records.OmapRecord.{OmapRecord}
 use Rattle.vol_view.specs.Volumes.{Loaded, map_or_empty, empty_map}
-use Rattle.reach_rules.specs.Naming.{InView, OfRecord, Namer, Whole, Files, Naming}
+use Rattle.reach_rules.specs.declared.naming.LookUp.TheVariants.{InView}
+use Rattle.reach_rules.specs.declared.naming.Object.TheVariants.{OfRecord}
+use Rattle.reach_rules.specs.declared.naming.Namer.{Namer}
+use Rattle.reach_rules.specs.declared.naming.Namer.TheVariants.{Whole}
+use Rattle.reach_rules.specs.declared.naming.TreeKind.TheVariants.{Files}
+use Rattle.reach_rules.specs.declared.naming.Naming.{Naming}
 use Rattle.reach_rules.specs.Resolved.{Found, standing, recorded, resolved}
 use Rattle.reach_rules.specs.Tested.{Answer, tested}
 use Rattle.reach_rules.specs.Next.{children_in, child_namings, node_namings, names, names_if, next}

@@ -10,7 +10,12 @@ use Rattle.omap_map.specs.Resolve.{resolved as resolves}
 use Rattle.omap_map.specs.declared.records.OmapRecord.{OmapRecord}
 use Rattle.omap_map.proofs.Laws.{resolved-means}
 use Rattle.vol_view.specs.Volumes.{Loaded}
-use Rattle.reach_rules.specs.Naming.{ViewAt, LookUp, InView, OfRecord, Namer, Naming}
+use Rattle.reach_rules.specs.declared.naming.ViewAt.{ViewAt}
+use Rattle.reach_rules.specs.declared.naming.LookUp.{LookUp}
+use Rattle.reach_rules.specs.declared.naming.LookUp.TheVariants.{InView}
+use Rattle.reach_rules.specs.declared.naming.Object.TheVariants.{OfRecord}
+use Rattle.reach_rules.specs.declared.naming.Namer.{Namer}
+use Rattle.reach_rules.specs.declared.naming.Naming.{Naming}
 use Rattle.reach_rules.specs.Resolved.{Found, standing, resolved}
 use Rattle.reach_rules.specs.Next.{next}
 use Rattle.reach_rules.specs.Live.{Live}

@@ -7,7 +7,7 @@ use Rattle.bt_node.specs.Node.{level_of}
 use Rattle.omap_map.specs.Resolve.{resolved}
 use Rattle.omap_map.specs.declared.records.OmapRecord.{OmapRecord}
 use Rattle.vol_view.specs.Volumes.{Loaded}
-use Rattle.reach_rules.specs.Naming.{Files}
+use Rattle.reach_rules.specs.declared.naming.TreeKind.TheVariants.{Files}
 use Rattle.reach_rules.specs.Tested.{Answer, tested}
 use Rattle.reach_rules.specs.Next.{children_in}
 use Rattle.view_sweep.specs.declared.wanted.SweptView.{SweptView}

@@ -1,7 +1,16 @@
 -- What is wanted of views, as namings.
 use Rattle.std.specs.Prelude.{◌≡◌, ℕ, ◌+◌, ◌<◌, ◌==◌, List, [], ◌∷◌, flat_map, if◌then◌else◌}
 use Rattle.apfs_model.specs.Lists.{In}
-use Rattle.reach_rules.specs.Naming.{ViewAt, InView, OfRecord, Namer, Whole, Files, Expected, ExtendedMetadata, TreeRoot, TreeNode, Naming, naming}
+use Rattle.reach_rules.specs.declared.naming.ViewAt.{ViewAt}
+use Rattle.reach_rules.specs.declared.naming.LookUp.TheVariants.{InView}
+use Rattle.reach_rules.specs.declared.naming.Object.TheVariants.{OfRecord}
+use Rattle.reach_rules.specs.declared.naming.Namer.{Namer}
+use Rattle.reach_rules.specs.declared.naming.Namer.TheVariants.{Whole}
+use Rattle.reach_rules.specs.declared.naming.TreeKind.TheVariants.{Files}
+use Rattle.reach_rules.specs.declared.naming.Expected.{Expected}
+use Rattle.reach_rules.specs.declared.naming.Expected.TheVariants.{ExtendedMetadata, TreeRoot, TreeNode}
+use Rattle.reach_rules.specs.declared.naming.Naming.{Naming}
+use Rattle.reach_rules.specs.Naming.{naming}
 use Rattle.view_sweep.specs.declared.wanted.SweptView.{SweptView}
 use Rattle.view_sweep.specs.declared.wanted.Head.{Head}
 use Rattle.view_sweep.specs.declared.wanted.Want.{Want}

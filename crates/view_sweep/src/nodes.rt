@@ -8,7 +8,7 @@ ghost use Rattle.bt_node.specs.Entries.{children_of};
 ghost use Rattle.bt_node.specs.Node as fields;
 ghost use Rattle.bt_node.specs.Soundness.{node_of};
 ghost use Rattle.bt_node.specs.SoundNode.{IsNode};
-ghost use Rattle.reach_rules.specs.Naming.{Files};
+ghost use Rattle.reach_rules.specs.declared.naming.TreeKind.TheVariants.{Files};
 ghost use Rattle.reach_rules.specs.Next.{children_in};
 ghost use Rattle.reach_rules.specs.Tested.{node_answer, head_tested};
 ghost use Rattle.view_sweep.specs.Found.{tested_as, is_sound, kids_from, kids_by, wants_of};

@@ -6,7 +6,7 @@ ghost use Rattle.obj_base.specs.Site.{IsSiteFor};
 ghost use Rattle.obj_base.specs.Stops.{Tells, IsFree};
 ghost use Rattle.obj_base.specs.declared.stop.Stop.TheVariants.{ReadFault};
 ghost use Rattle.nx_ring.specs.Checkpoint.{Seen};
-ghost use Rattle.reach_rules.specs.Naming.{Namer};
+ghost use Rattle.reach_rules.specs.declared.naming.Namer.{Namer};
 ghost use Rattle.reach_rules.specs.Features.{HasFeature};
 ghost use Rattle.reach_rules.specs.Reached.{IsReachedFault};
 ghost use Rattle.view_sweep.specs.declared.wanted.SweptView.{SweptView as View};

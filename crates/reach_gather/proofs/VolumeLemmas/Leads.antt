@@ -16,7 +16,15 @@ use Rattle.omap_map.specs.Maps.{resolved_in}
 use Rattle.omap_map.specs.declared.records.OmapRecord.{OmapRecord}
 use Rattle.vol_view.specs.Heads.{has_magic}
 use Rattle.reach_rules.specs.declared.fault.Why.TheVariants.{Magic}
-use Rattle.reach_rules.specs.Naming.{ViewAt, ByBlock, InContainer, InBlock, OfRecord, Namer, Whole, Expected, ContainerMap, VolumeIn, VolumeMap, SnapshotSuper, Naming, naming}
+use Rattle.reach_rules.specs.declared.naming.ViewAt.{ViewAt}
+use Rattle.reach_rules.specs.declared.naming.LookUp.TheVariants.{ByBlock, InContainer}
+use Rattle.reach_rules.specs.declared.naming.Object.TheVariants.{InBlock, OfRecord}
+use Rattle.reach_rules.specs.declared.naming.Namer.{Namer}
+use Rattle.reach_rules.specs.declared.naming.Namer.TheVariants.{Whole}
+use Rattle.reach_rules.specs.declared.naming.Expected.{Expected}
+use Rattle.reach_rules.specs.declared.naming.Expected.TheVariants.{ContainerMap, VolumeIn, VolumeMap, SnapshotSuper}
+use Rattle.reach_rules.specs.declared.naming.Naming.{Naming}
+use Rattle.reach_rules.specs.Naming.{naming}
 use Rattle.reach_rules.specs.Resolved.{Found, resolved, standing, recorded}
 use Rattle.reach_rules.specs.Tested.{Answer, of_header, with_magic, tested}
 use Rattle.reach_rules.specs.Next.{names, names_if, next}

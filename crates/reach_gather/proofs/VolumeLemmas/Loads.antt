@@ -19,7 +19,13 @@ use Rattle.vol_view.specs.Volumes.{Loaded, super_of, map_block_of, metadata_of, 
 use Rattle.vol_view.specs.LoadStops.{metadata_root, has_whole_metadata, IsRightSnapshot, IsLoadable, IsVolumeOf}
 use Rattle.vol_view.specs.declared.head.VolHead.{VolHead}
 use Rattle.vol_view.specs.declared.volume.Snapshot.{Snapshot}
-use Rattle.reach_rules.specs.Naming.{ViewAt, Newest, InBlock, OfRecord, Namer, Whole, Kept, SnapMetadata, VolumeIn, SnapshotSuper, Naming}
+use Rattle.reach_rules.specs.declared.naming.ViewAt.{ViewAt}
+use Rattle.reach_rules.specs.declared.naming.Object.TheVariants.{Newest, InBlock, OfRecord}
+use Rattle.reach_rules.specs.declared.naming.Namer.{Namer}
+use Rattle.reach_rules.specs.declared.naming.Namer.TheVariants.{Whole, Kept}
+use Rattle.reach_rules.specs.declared.naming.TreeKind.TheVariants.{SnapMetadata}
+use Rattle.reach_rules.specs.declared.naming.Expected.TheVariants.{VolumeIn, SnapshotSuper}
+use Rattle.reach_rules.specs.declared.naming.Naming.{Naming}
 use Rattle.reach_rules.specs.Resolved.{Found, resolved, standing}
 use Rattle.reach_rules.specs.Tested.{tested}
 use Rattle.reach_rules.specs.Next.{next}

@@ -15,7 +15,14 @@ use Rattle.omap_map.specs.Features.{is_reverting, map_features, snapshot_feature
 use Rattle.omap_map.specs.Maps.{map_in, map_snapshots, head_of, is_map_object, record_tree, snapshot_tree, has_no_snapshots, has_whole_snapshots, is_whole_map}
 use Rattle.omap_map.proofs.Loads.{whole-object, object-inside}
 use Rattle.vol_view.specs.Stops.{IsPlainMap}
-use Rattle.reach_rules.specs.Naming.{ByBlock, Newest, InBlock, Namer, Whole, Expected, ContainerMap, VolumeMap, Naming, naming}
+use Rattle.reach_rules.specs.declared.naming.LookUp.TheVariants.{ByBlock}
+use Rattle.reach_rules.specs.declared.naming.Object.TheVariants.{Newest, InBlock}
+use Rattle.reach_rules.specs.declared.naming.Namer.{Namer}
+use Rattle.reach_rules.specs.declared.naming.Namer.TheVariants.{Whole}
+use Rattle.reach_rules.specs.declared.naming.Expected.{Expected}
+use Rattle.reach_rules.specs.declared.naming.Expected.TheVariants.{ContainerMap, VolumeMap}
+use Rattle.reach_rules.specs.declared.naming.Naming.{Naming}
+use Rattle.reach_rules.specs.Naming.{naming}
 use Rattle.reach_rules.specs.Resolved.{Found, standing}
 use Rattle.reach_rules.specs.Tested.{tested}
 use Rattle.reach_rules.specs.Next.{names, map_namings}

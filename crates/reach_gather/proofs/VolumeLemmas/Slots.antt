@@ -9,7 +9,12 @@ use Rattle.nx_ring.specs.Checkpoint.{Seen, site_of}
 use Rattle.vol_view.specs.Heads.{super_in, volume_block, head_of, head_at, heads_of}
 use Rattle.vol_view.specs.Stops.{IsVolume, AreRight, AreHeads}
 use Rattle.vol_view.specs.declared.head.VolHead.{VolHead}
-use Rattle.reach_rules.specs.Naming.{InContainer, Newest, Whole, VolumeIn, Naming, naming}
+use Rattle.reach_rules.specs.declared.naming.LookUp.TheVariants.{InContainer}
+use Rattle.reach_rules.specs.declared.naming.Object.TheVariants.{Newest}
+use Rattle.reach_rules.specs.declared.naming.Namer.TheVariants.{Whole}
+use Rattle.reach_rules.specs.declared.naming.Expected.TheVariants.{VolumeIn}
+use Rattle.reach_rules.specs.declared.naming.Naming.{Naming}
+use Rattle.reach_rules.specs.Naming.{naming}
 use Rattle.reach_rules.specs.Next.{slot_namings}
 use Rattle.reach_gather.specs.Volumes.Told.{head_naming}
 use Rattle.reach_gather.proofs.VolumeLemmas.Heads.{volume-block}

@@ -16,7 +16,12 @@ use Rattle.vol_view.specs.Agreement.{are_readable}
 use Rattle.vol_view.specs.Volumes.{super_of, map_block_of, metadata_of, empty_map, map_or_empty, snapshot_in, loaded_of}
 use Rattle.vol_view.specs.LoadStops.{IsLoadable}
 use Rattle.vol_view.specs.declared.head.VolHead.{VolHead}
-use Rattle.reach_rules.specs.Naming.{ByBlock, Namer, ExtentRefs, SnapMetadata, VolumeMap, TreeRoot, Naming, naming}
+use Rattle.reach_rules.specs.declared.naming.LookUp.TheVariants.{ByBlock}
+use Rattle.reach_rules.specs.declared.naming.Namer.{Namer}
+use Rattle.reach_rules.specs.declared.naming.TreeKind.TheVariants.{ExtentRefs, SnapMetadata}
+use Rattle.reach_rules.specs.declared.naming.Expected.TheVariants.{VolumeMap, TreeRoot}
+use Rattle.reach_rules.specs.declared.naming.Naming.{Naming}
+use Rattle.reach_rules.specs.Naming.{naming}
 use Rattle.reach_rules.specs.Next.{unless_zero, live_view, view_namings, record_namings, snapshots_namings, past_view, volume_namings}
 use Rattle.reach_gather.specs.Volumes.Told.{map_of, told_snapshots, told_with, told_volume}
 

@@ -9,7 +9,9 @@ use Rattle.bt_cursor.specs.Order.{out_of_order}
 use Rattle.bt_cursor.specs.Whole.{is_whole}
 use Rattle.bt_cursor.proofs.Wholes.{whole_means}
 use Rattle.nx_ring.specs.Checkpoint.{Seen, site_of}
-use Rattle.reach_rules.specs.Naming.{LookUp, Object, TreeKind}
+use Rattle.reach_rules.specs.declared.naming.LookUp.{LookUp}
+use Rattle.reach_rules.specs.declared.naming.Object.{Object}
+use Rattle.reach_rules.specs.declared.naming.TreeKind.{TreeKind}
 use Rattle.reach_rules.specs.Trees.{tree_line, is_short}
 use Rattle.reach_gather.specs.Walked.{IsWholeTree}
 use Rattle.reach_gather.proofs.Walking.{IsKindOf, none-from}

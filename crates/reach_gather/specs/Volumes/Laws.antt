@@ -8,7 +8,8 @@ use Rattle.vol_view.specs.Stops.{AreHeads}
 use Rattle.vol_view.specs.Volumes.{Loaded, map_block_of}
 use Rattle.vol_view.specs.LoadStops.{IsVolumeOf}
 use Rattle.vol_view.specs.declared.head.VolHead.{VolHead}
-use Rattle.reach_rules.specs.Naming.{InContainer, Naming}
+use Rattle.reach_rules.specs.declared.naming.LookUp.TheVariants.{InContainer}
+use Rattle.reach_rules.specs.declared.naming.Naming.{Naming}
 use Rattle.reach_rules.specs.Next.{slot_namings}
 use Rattle.reach_rules.specs.Live.{IsLive}
 use Rattle.reach_rules.specs.Maps.{GivesMap}

@@ -5,7 +5,15 @@ use Rattle.fs_name.specs.Normal.{are_hashed}
 use Rattle.vol_view.specs.Volumes.{Loaded}
 use Rattle.vol_view.specs.declared.head.VolHead.{VolHead}
 use Rattle.vol_view.specs.declared.volume.Snapshot.{Snapshot}
-use Rattle.reach_rules.specs.Naming.{ViewAt, ByBlock, InContainer, InView, Newest, Namer, Whole, Kept, ExtentRefs, SnapMetadata, Files, VolumeIn, VolumeMap, ExtendedMetadata, SnapshotSuper, TreeRoot, Naming, naming}
+use Rattle.reach_rules.specs.declared.naming.ViewAt.{ViewAt}
+use Rattle.reach_rules.specs.declared.naming.LookUp.TheVariants.{ByBlock, InContainer, InView}
+use Rattle.reach_rules.specs.declared.naming.Object.TheVariants.{Newest}
+use Rattle.reach_rules.specs.declared.naming.Namer.{Namer}
+use Rattle.reach_rules.specs.declared.naming.Namer.TheVariants.{Whole, Kept}
+use Rattle.reach_rules.specs.declared.naming.TreeKind.TheVariants.{ExtentRefs, SnapMetadata, Files}
+use Rattle.reach_rules.specs.declared.naming.Expected.TheVariants.{VolumeIn, VolumeMap, ExtendedMetadata, SnapshotSuper, TreeRoot}
+use Rattle.reach_rules.specs.declared.naming.Naming.{Naming}
+use Rattle.reach_rules.specs.Naming.{naming}
 use Rattle.reach_rules.specs.Next.{unless_zero}
 
 -- the newest superblock names the volume of a head

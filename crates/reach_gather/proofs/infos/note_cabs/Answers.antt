@@ -1,12 +1,11 @@
 use Rattle.std.proofs.Common.{◌∙◌}
 use Rattle.reach_gather.specs.Infos.{known_cab}
-use Rattle.reach_gather.specs.Named.{naming_of}
 use Rattle.reach_gather.proofs.Numbered.{named-more, owned-more}
 use Rattle.reach_gather.proofs.infos.note_cabs.Goals as goal
 
 pub loop-i-preserved : goal.loop-i-preserved
 loop-i-preserved c = record {
-  namings = named-more (known_cab c.args.oid c.args.space.now) c.loop-i.i (naming_of c.cab.result) c.args.out.now.namings c.loop-i.out.namings c.note_info.new.self.namings c.cab.ensures c.loop-i.invariant.namings c.in_ok-note_info.ensures.namings;
+  namings = named-more (known_cab c.args.oid c.args.space.now) c.loop-i.i c.cab.result c.args.out.now.namings c.loop-i.out.namings c.note_info.new.self.namings c.cab.ensures c.loop-i.invariant.namings c.in_ok-note_info.ensures.namings;
   owners = c.note_info.ensures.owners ∙ c.loop-i.invariant.owners;
-  pool_owners = owned-more (known_cab c.args.oid c.args.space.now) c.loop-i.i (naming_of c.cab.result) c.args.out.now.pool_owners c.loop-i.out.pool_owners c.note_info.new.self.pool_owners c.cab.ensures c.loop-i.invariant.pool_owners c.in_ok-note_info.ensures.pool_owners;
+  pool_owners = owned-more (known_cab c.args.oid c.args.space.now) c.loop-i.i c.cab.result c.args.out.now.pool_owners c.loop-i.out.pool_owners c.note_info.new.self.pool_owners c.cab.ensures c.loop-i.invariant.pool_owners c.in_ok-note_info.ensures.pool_owners;
 }

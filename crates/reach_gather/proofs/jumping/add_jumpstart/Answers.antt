@@ -1,7 +1,10 @@
-use Rattle.std.proofs.Common.{◌≡◌, ◌∙◌, ◌++◌, ◌∷◌, [], ℕ, List, map, ap, sym, ◌+◌, ◌≤◌, length, arith}
+use Rattle.std.proofs.Common.{◌≡◌, ◌∙◌, ◌++◌, ◌∷◌, [], ℕ, ap, sym, ◌+◌, ◌≤◌, length, arith}
 use Rattle.nx_block.specs.Super.{jumpstart_of}
 use Rattle.nx_ring.specs.Checkpoint.{Seen}
-use Rattle.reach_rules.specs.Naming.{ByBlock, Newest, Whole, Jumpstart}
+use Rattle.reach_rules.specs.declared.naming.LookUp.TheVariants.{ByBlock}
+use Rattle.reach_rules.specs.declared.naming.Object.TheVariants.{Newest}
+use Rattle.reach_rules.specs.declared.naming.Namer.TheVariants.{Whole}
+use Rattle.reach_rules.specs.declared.naming.Expected.TheVariants.{Jumpstart}
 use Rattle.reach_rules.specs.Owners.{told_from}
 use Rattle.reach_gather.specs.Held.{some_owners}
 use Rattle.reach_gather.specs.Steps.{block_owner}
@@ -21,16 +24,13 @@ pub returns-clause-clear : goal.returns-clause-clear
 returns-clause-clear g c = λ image told.
     let seen : Seen = c.args.cp.now in
     let by : c.jumpstart-block.result ≡ jumpstart_of seen.nx = c.jumpstart-block.ensures ∙ ap jumpstart_of c.nx.ensures in
-    let extents : c.as_slice.result.now ≡ c.in-Ok.extents.items = c.as_slice.ensures.value in
-    jump-adds image seen c.in-Ok.extents.items c.args.out.now c.note_block.new.self c.tell_all.new.out (c.in-Ok.ensures.clear image told) (λ z. c.if-block-eq0.false (by ∙ z))
+    jump-adds image seen c.in-Ok.extents.items c.args.out.now c.note_block.new.self c.tell_those.new.self (c.in-Ok.ensures.clear image told) (λ z. c.if-block-eq0.false (by ∙ z))
     (c.in_ok-note_block.ensures.namings ∙ ap (λ (b : ℕ). c.args.out.now.namings ++ jump_by b ∷ []) by)
     (c.in_ok-note_block.ensures.owners ∙ ap (λ (b : ℕ). c.args.out.now.owners ++ block_owner (jump_by b) ∷ []) by)
     c.note_block.ensures.pool_owners
-    c.tell_all.ensures.namings
-    (c.in_ok-tell_all.ensures.owners
-    ∙ (ap (λ (b : ℕ). c.note_block.new.self.owners ++ some_owners (told_from (jump_by b) 0 (map (λ (r : ℕ × ℕ). r) c.as_slice.result.now))) by
-    ∙ ap (λ (xs : List (ℕ × ℕ)). c.note_block.new.self.owners ++ some_owners (told_from (jump_by (jumpstart_of seen.nx)) 0 (map (λ (r : ℕ × ℕ). r) xs))) extents))
-    c.tell_all.ensures.pool_owners
+    c.tell_those.ensures.namings
+    (c.in_ok-tell_those.ensures.owners ∙ ap (λ (b : ℕ). c.note_block.new.self.owners ++ some_owners (told_from (jump_by b) 0 c.in-Ok.extents.items)) by)
+    c.tell_those.ensures.pool_owners
 
 pub returns-then-block-eq0-clause-reads : goal.returns-then-block-eq0-clause-reads
 returns-then-block-eq0-clause-reads g c = λ image told.
@@ -46,5 +46,5 @@ returns-clause-reads g c = λ image told.
     let few : g.S.BlockSource.reads c.jumpstart.new.src ≤ g.S.BlockSource.reads c.args.src.now + length (jump_root seen.nx) = c.in-Ok.ensures.reads in
     let most : length (jump_root seen.nx) ≤ 1 = jump-one seen.nx in
     let one : length c.note_block.new.self.namings ≡ length c.args.out.now.namings + 1 = noted-one c.args.out.now.namings c.note_block.new.self.namings (jump_by c.jumpstart-block.result) c.in_ok-note_block.ensures.namings in
-    let same : length c.tell_all.new.out.namings ≡ length c.note_block.new.self.namings = ap length c.tell_all.ensures.namings in
+    let same : length c.tell_those.new.self.namings ≡ length c.note_block.new.self.namings = ap length c.tell_those.ensures.namings in
     omega (arith, few, most, one, same)

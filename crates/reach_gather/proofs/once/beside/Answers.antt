@@ -5,7 +5,7 @@ use Rattle.reach_gather.proofs.once.beside.Goals as goal
 pub returns-then-is_clash-clause-present : goal.returns-then-is_clash-clause-present
 returns-then-is_clash-clause-present c = λ image live.
     twice-there image c.args.cp.now c.args.namings.now c.args.how c.requires.alike c.requires.each live (c.loop-i.i - 1) c.loop-i.i (omega arith) c.loop-i-test.true (c.if-is_clash.ensures.clash refl)
-    c.within_of.result c.xid.result c.within_of.ensures c.xid.ensures
+    c.within_of.result c.xid_of.result c.within_of.ensures c.xid_of.ensures
 
 pub loop-i-preserved : goal.loop-i-preserved
 loop-i-preserved c =

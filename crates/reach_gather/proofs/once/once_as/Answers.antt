@@ -1,8 +1,5 @@
-use Rattle.std.proofs.Common.{map}
 use Rattle.std.proofs.lemmas.Result.{IfOk-weaker}
-use Rattle.apfs_model.proofs.Searches.{in-map}
 use Rattle.reach_gather.specs.ViewParts.{AreOnceAs}
-use Rattle.reach_gather.specs.Named.{look_of, naming_of}
 use Rattle.reach_gather.specs.Finished.{AreOnceHere}
 use Rattle.reach_gather.proofs.Finishes.{those-look, those-in}
 use Rattle.reach_gather.proofs.Onces.{sorted-in, in-sorted, once-as}
@@ -15,12 +12,12 @@ beside-requires-clause-alike c = λ n h.
 
 pub returns-clause-once : goal.returns-clause-once
 returns-clause-once c =
-    IfOk-weaker c.beside.result (λ _. AreOnceHere c.deref.result.now) (λ _. AreOnceAs (look_of c.args.how) (map naming_of c.args.namings.now))
+    IfOk-weaker c.beside.result (λ _. AreOnceHere c.deref.result.now) (λ _. AreOnceAs c.args.how c.args.namings.now)
     (λ _ once. once-as c.args.namings.now c.deref.result.now c.args.how
     (in-sorted c.args.namings.now c.in_ok-kept.kept.items c.by_id.new.namings.items c.deref.result.now c.args.how c.in_ok-kept.ensures c.by_id.ensures.order c.deref.ensures.value) once)
     c.beside.ensures.once
 
 pub returns-clause-present : goal.returns-clause-present
 returns-clause-present c = λ image live.
-    c.beside.ensures.present image (λ n h. live (naming_of n) (in-map naming_of c.args.namings.now n (those-in c.args.namings.now c.args.how n
-    (sorted-in c.args.namings.now c.in_ok-kept.kept.items c.by_id.new.namings.items c.deref.result.now c.args.how c.in_ok-kept.ensures c.by_id.ensures.order c.deref.ensures.value n h))))
+    c.beside.ensures.present image (λ n h. live n (those-in c.args.namings.now c.args.how n
+    (sorted-in c.args.namings.now c.in_ok-kept.kept.items c.by_id.new.namings.items c.deref.result.now c.args.how c.in_ok-kept.ensures c.by_id.ensures.order c.deref.ensures.value n h)))

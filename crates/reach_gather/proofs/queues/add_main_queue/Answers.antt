@@ -5,12 +5,14 @@ use Rattle.nx_ring.specs.Checkpoint.{Seen}
 use Rattle.space_pool.specs.Queues.{queue_root}
 use Rattle.space_pool.specs.declared.entry.Queue.TheVariants.{Main}
 use Rattle.reach_rules.specs.Features.{HasFeature}
-use Rattle.reach_rules.specs.Naming.{FreeQueue, Naming, ByMapping, OfId}
+use Rattle.reach_rules.specs.declared.naming.LookUp.TheVariants.{ByMapping}
+use Rattle.reach_rules.specs.declared.naming.Object.TheVariants.{OfId}
+use Rattle.reach_rules.specs.declared.naming.TreeKind.TheVariants.{FreeQueue}
+use Rattle.reach_rules.specs.declared.naming.Naming.{Naming}
 use Rattle.reach_rules.specs.Owners.{told_from, queued_ranges_of}
 use Rattle.reach_rules.specs.Reached.{IsReachedFault}
 use Rattle.reach_rules.specs.Trees.{IsRightTree}
 use Rattle.reach_gather.specs.Namings.{step_naming}
-use Rattle.reach_gather.specs.Named.{naming_of, expected_of, look_of}
 use Rattle.reach_gather.specs.Steps.{id_steps}
 use Rattle.reach_gather.proofs.Branches.{queue-adds}
 use Rattle.reach_gather.proofs.Noted.{tree-read}
@@ -27,10 +29,10 @@ returns-in-Err-clause-present g c = λ image told is.
 pub returns-clause-clear : goal.returns-clause-clear
 returns-clause-clear g c = λ image told.
     let seen : Seen = c.args.cp.now in
-    let root : Naming = naming_of c.args.root in
+    let root : Naming = c.args.root in
     let manager : List ℕ = c.args.space.now.manager in
-    let how = ap look_of c.requires.how in
-    let kind = ap expected_of c.requires.kind in
+    let how = c.requires.how in
+    let kind = c.requires.kind in
     let some : (queue_root Main manager == 0) ≡ false = subst (λ (oid : ℕ). (oid == 0) ≡ false) c.requires.root c.requires.some in
     let taken : List Step = c.in-Ok.queued.steps.items in
     let queued = c.in-Ok.ensures.clear image told in
@@ -42,11 +44,11 @@ returns-clause-clear g c = λ image told.
     (c.tell_all.ensures.namings ∙ c.in_ok-note_id.ensures.namings)
     (told-next c.args.out.now.owners c.note_id.new.self.owners c.tell_all.new.out.owners (told_from root 0 (map range_of_entry c.as_slice.result.now)) (told_from root 0 (queued_ranges_of image seen root.oid)) c.note_id.ensures.owners c.in_ok-tell_all.ensures.owners ranges)
     (told-none c.args.out.now.pool_owners c.note_id.new.self.pool_owners c.tell_all.new.out.pool_owners c.note_id.ensures.pool_owners c.tell_all.ensures.pool_owners)
-    (c.in_ok-note_ids.ensures.namings ∙ ap (λ (xs : List Step). c.tell_all.new.out.namings ++ id_steps (FreeQueue Main) root.oid xs) steps)
+    (c.in_ok-note_ids.ensures.namings ∙ ap (λ (xs : List Step). c.tell_all.new.out.namings ++ id_steps (FreeQueue Main) xs) steps)
     c.note_ids.ensures.owners
     c.note_ids.ensures.pool_owners
 
 pub returns-clause-reads : goal.returns-clause-reads
 returns-clause-reads g c = λ image told.
-    tree-read (step_naming OfId (FreeQueue Main) ByMapping c.args.root.oid) (naming_of c.args.root) c.deref.result.now c.in-Ok.queued.steps.items c.args.out.now.namings c.tell_all.new.out.namings c.note_ids.new.out.namings (g.S.BlockSource.reads c.args.src.now) (g.S.BlockSource.reads c.queue_walk.new.src)
+    tree-read (step_naming OfId (FreeQueue Main) ByMapping) c.args.root c.deref.result.now c.in-Ok.queued.steps.items c.args.out.now.namings c.tell_all.new.out.namings c.note_ids.new.out.namings (g.S.BlockSource.reads c.args.src.now) (g.S.BlockSource.reads c.queue_walk.new.src)
     (c.tell_all.ensures.namings ∙ c.in_ok-note_id.ensures.namings) c.in_ok-note_ids.ensures.namings c.deref.ensures.value (c.in-Ok.ensures.by_steps image told)

@@ -1,5 +1,7 @@
 use Rattle.std.proofs.Common.{sym, ◌∙◌, ap, subst}
-use Rattle.reach_rules.specs.Naming.{ByMapping, ReapList, naming}
+use Rattle.reach_rules.specs.declared.naming.LookUp.TheVariants.{ByMapping}
+use Rattle.reach_rules.specs.declared.naming.Expected.TheVariants.{ReapList}
+use Rattle.reach_rules.specs.Naming.{naming}
 use Rattle.nx_block.specs.Reaper.{reap_next_of}
 use Rattle.reach_gather.specs.Reaped.{IsLink}
 use Rattle.reach_gather.proofs.Chained.{list-present, list-free, list-busy, list-unplain, list-link, count-some, count-none}

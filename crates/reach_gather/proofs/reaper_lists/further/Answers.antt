@@ -1,5 +1,6 @@
 use Rattle.std.proofs.Common.{subst}
-use Rattle.reach_rules.specs.Naming.{ByMapping, naming}
+use Rattle.reach_rules.specs.declared.naming.LookUp.TheVariants.{ByMapping}
+use Rattle.reach_rules.specs.Naming.{naming}
 use Rattle.reach_gather.specs.Namings.{IsPlainNaming}
 use Rattle.reach_gather.specs.Reaped.{expected_at}
 use Rattle.reach_gather.proofs.reaper_lists.further.Goals as goal

@@ -1,5 +1,7 @@
 use Rattle.std.proofs.Common.{sym, ◌∙◌, ap, subst}
-use Rattle.reach_rules.specs.Naming.{ByMapping, ReaperObject, naming}
+use Rattle.reach_rules.specs.declared.naming.LookUp.TheVariants.{ByMapping}
+use Rattle.reach_rules.specs.declared.naming.Expected.TheVariants.{ReaperObject}
+use Rattle.reach_rules.specs.Naming.{naming}
 use Rattle.nx_block.specs.Reaper.{reaper_head_of}
 use Rattle.reach_gather.specs.Reaped.{IsLink}
 use Rattle.reach_gather.proofs.Chained.{reaper-present, reaper-free, reaper-busy, reaper-unplain, reaper-link, flag-busy, flag-idle}

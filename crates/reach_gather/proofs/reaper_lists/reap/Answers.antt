@@ -9,7 +9,8 @@ use Rattle.apfs_model.proofs.Searches.{has-in}
 use Rattle.obj_base.specs.declared.stop.Within.TheVariants.{Ephemeral}
 use Rattle.nx_ring.proofs.Apart.{has_joined}
 use Rattle.nx_ring.specs.Reading.{eph_ids}
-use Rattle.reach_rules.specs.Naming.{ByMapping, naming}
+use Rattle.reach_rules.specs.declared.naming.LookUp.TheVariants.{ByMapping}
+use Rattle.reach_rules.specs.Naming.{naming}
 use Rattle.reach_rules.specs.Live.{IsLive}
 use Rattle.reach_rules.specs.Faults.{IsNamedTwice}
 use Rattle.reach_gather.specs.Namings.{IsPlainNaming}

@@ -1,12 +1,14 @@
 use Rattle.std.proofs.Common.{ℕ, [], ◌∷◌, subst}
 use Rattle.nx_ring.specs.Checkpoint.{Seen}
 use Rattle.space_pool.specs.declared.entry.Queue.TheVariants.{Pool}
-use Rattle.reach_rules.specs.Naming.{ByMapping, Namer, FreeQueue, TreeRoot}
+use Rattle.reach_rules.specs.declared.naming.LookUp.TheVariants.{ByMapping}
+use Rattle.reach_rules.specs.declared.naming.Namer.{Namer}
+use Rattle.reach_rules.specs.declared.naming.TreeKind.TheVariants.{FreeQueue}
+use Rattle.reach_rules.specs.declared.naming.Expected.TheVariants.{TreeRoot}
+use Rattle.reach_rules.specs.declared.naming.Naming.{Naming}
 use Rattle.reach_rules.specs.Next.{unless_zero}
 use Rattle.reach_gather.specs.Space.{manager_namer}
 use Rattle.reach_gather.specs.Adds.{Adds}
-use Rattle.reach_gather.specs.Named.{naming_of}
-use Rattle.reach_gather.specs.declared.naming.Named.{Named}
 use Rattle.reach_gather.proofs.Fields.{adds-zero, adds-some}
 use Rattle.reach_gather.proofs.Spaced.{none-pooled}
 use Rattle.reach_gather.proofs.space.add_pool.Goals as goal
@@ -24,7 +26,7 @@ returns-in-Ok-clause-clear g c = λ image told.
     let me : Namer = manager_namer seen.nx in
     subst (λ (oid : ℕ). Adds image seen (unless_zero me 208 (TreeRoot (FreeQueue Pool)) ByMapping oid) [] c.args.out.now c.add_pool_queue.new.out) c.pool_root-oid.ensures
     (adds-some image seen me 208 (TreeRoot (FreeQueue Pool)) ByMapping c.pool_root-oid.result [] c.args.out.now c.add_pool_queue.new.out c.if-oid-eq0.false
-    (subst (λ (n : Named). Adds image seen (naming_of n ∷ []) [] c.args.out.now c.add_pool_queue.new.out) c.root-root.ensures (c.in-Ok.ensures.clear image told)))
+    (subst (λ (n : Naming). Adds image seen (n ∷ []) [] c.args.out.now c.add_pool_queue.new.out) c.root-root.ensures (c.in-Ok.ensures.clear image told)))
 
 pub returns-in-Err-clause-present : goal.returns-in-Err-clause-present
 returns-in-Err-clause-present g c = λ image told is. c.in-Err.ensures.present image told is

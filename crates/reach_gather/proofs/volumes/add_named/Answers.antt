@@ -3,13 +3,16 @@ use Rattle.fs_name.specs.Normal.{are_hashed}
 use Rattle.nx_ring.specs.Checkpoint.{Seen, site_of}
 use Rattle.omap_map.specs.Maps.{contents_of}
 use Rattle.vol_view.specs.Volumes.{Loaded}
-use Rattle.reach_rules.specs.Naming.{ByBlock, Namer, ExtentRefs, SnapMetadata, TreeRoot, Naming}
+use Rattle.reach_rules.specs.declared.naming.LookUp.TheVariants.{ByBlock}
+use Rattle.reach_rules.specs.declared.naming.Namer.{Namer}
+use Rattle.reach_rules.specs.declared.naming.TreeKind.TheVariants.{ExtentRefs, SnapMetadata}
+use Rattle.reach_rules.specs.declared.naming.Expected.TheVariants.{TreeRoot}
+use Rattle.reach_rules.specs.declared.naming.Naming.{Naming}
 use Rattle.reach_rules.specs.Next.{unless_zero}
 use Rattle.reach_gather.specs.Volumes.Parts.{IsMapPart}
 use Rattle.reach_gather.specs.Volumes.Told.{map_of, map_in_volume, told_view, live_at, told_snapshots}
 use Rattle.reach_gather.specs.Adds.{Adds}
 use Rattle.reach_gather.specs.Held.{Held}
-use Rattle.reach_gather.specs.Named.{namer_of}
 use Rattle.reach_gather.specs.Views.{AreSuperParts, pasts_namings}
 use Rattle.reach_gather.proofs.Growing.{adds-left, adds-join}
 use Rattle.reach_gather.proofs.Noted.{noted-longer}
@@ -19,7 +22,7 @@ pub returns-in-Ok-add_snapshots-clause-clear : goal.returns-in-Ok-add_snapshots-
 returns-in-Ok-add_snapshots-clause-clear g c = λ image told parts.
     let seen : Seen = c.args.cp.now in
     let volume : Loaded = c.args.volume.now in
-    let me : Namer = namer_of c.args.by in
+    let me : Namer = c.args.namer in
     let em : c.block-map.result ≡ map_of volume = c.block-map.ensures ∙ ap (λ (v : Loaded). v.omap.block) c.volume.view_is in
     let a : Held = c.args.out.now in
     let b : Held = c.add_map.new.out in

@@ -2,12 +2,12 @@ use Rattle.std.proofs.Common.{◌≡◌, ◌∙◌, ap, sym, subst, ◌+◌, ◌
 use Rattle.nx_block.specs.Super.{omap_oid_of}
 use Rattle.nx_ring.specs.Checkpoint.{Seen}
 use Rattle.vol_view.specs.Volumes.{Loaded}
-use Rattle.reach_rules.specs.Naming.{Namer}
+use Rattle.reach_rules.specs.declared.naming.Object.TheVariants.{OfRecord}
+use Rattle.reach_rules.specs.declared.naming.Namer.{Namer}
+use Rattle.reach_rules.specs.declared.naming.Namer.TheVariants.{Whole}
 use Rattle.reach_gather.specs.Volumes.Parts.{IsMapPart, volume_namer}
 use Rattle.reach_gather.specs.Volumes.Told.{head_naming, map_of, map_in_volume, told_volume}
 use Rattle.reach_gather.specs.Adds.{AreLive}
-use Rattle.reach_gather.specs.Named.{namer_of, naming_of}
-use Rattle.reach_gather.specs.declared.naming.NamedBy.TheVariants as by
 use Rattle.reach_gather.proofs.Fields.{led-to}
 use Rattle.reach_gather.proofs.Slots.{record-found, never-lost, found-one, namer-is, volume-adds}
 use Rattle.reach_gather.proofs.Noted.{noted-one}
@@ -24,8 +24,8 @@ returns-in-Ok-clause-clear g c = λ image told all part.
     let volume : Loaded = c.args.volume.now in
     let found = record-found image seen volume c.args.omap.now.records c.volume.inside.head.oid c.xid.result c.record.result part all (ap (λ (v : Loaded). v.head.oid) c.volume.view_is) c.xid.ensures c.record.ensures in
     let one : c.in-Some.found ≡ part.mapping = found-one c.record.result c.in-Some.found part.mapping c.in-Some.is found in
-    let named : namer_of (by.Record c.mapping_of-mapping.result) ≡ volume_namer seen part.mapping = namer-is seen c.mapping_of-mapping.result c.omap_oid-map.result c.in-Some.found part.mapping c.mapping_of-mapping.ensures (c.omap_oid-map.ensures ∙ ap omap_oid_of c.nx.ensures) one in
-    volume-adds image seen volume _ c.mapping_of-mapping.result c.omap_oid-map.result c.in-Some.found c.args.out.now c.note_record.new.self c.add_named.new.out part c.named.ensures.naming c.mapping_of-mapping.ensures (c.omap_oid-map.ensures ∙ ap omap_oid_of c.nx.ensures) one
+    let named : Whole (OfRecord c.omap_oid-map.result c.in-Some.found) ≡ volume_namer seen part.mapping = namer-is seen c.omap_oid-map.result c.in-Some.found part.mapping (c.omap_oid-map.ensures ∙ ap omap_oid_of c.nx.ensures) one in
+    volume-adds image seen volume _ c.omap_oid-map.result c.in-Some.found c.args.out.now c.note_record.new.self c.add_named.new.out part c.named.ensures (c.omap_oid-map.ensures ∙ ap omap_oid_of c.nx.ensures) one
     c.in_ok-note_record.ensures.namings c.in_ok-note_record.ensures.owners c.note_record.ensures.pool_owners
     (c.in-Ok.ensures.clear image told (record {
       map = subst (λ (n : Namer). IsMapPart image seen (map_in_volume n (map_of volume))) (sym named) part.map;
@@ -40,7 +40,7 @@ returns-in-Err-clause-present g c = λ image told all part live.
     let volume : Loaded = c.args.volume.now in
     let found = record-found image seen volume c.args.omap.now.records c.volume.inside.head.oid c.xid.result c.record.result part all (ap (λ (v : Loaded). v.head.oid) c.volume.view_is) c.xid.ensures c.record.ensures in
     let one : c.in-Some.found ≡ part.mapping = found-one c.record.result c.in-Some.found part.mapping c.in-Some.is found in
-    let named : namer_of (by.Record c.mapping_of-mapping.result) ≡ volume_namer seen part.mapping = namer-is seen c.mapping_of-mapping.result c.omap_oid-map.result c.in-Some.found part.mapping c.mapping_of-mapping.ensures (c.omap_oid-map.ensures ∙ ap omap_oid_of c.nx.ensures) one in
+    let named : Whole (OfRecord c.omap_oid-map.result c.in-Some.found) ≡ volume_namer seen part.mapping = namer-is seen c.omap_oid-map.result c.in-Some.found part.mapping (c.omap_oid-map.ensures ∙ ap omap_oid_of c.nx.ensures) one in
     c.in-Err.ensures.present image told (record {
       map = subst (λ (n : Namer). IsMapPart image seen (map_in_volume n (map_of volume))) (sym named) part.map;
       contents = part.contents;
@@ -51,6 +51,6 @@ returns-in-Err-clause-present g c = λ image told all part live.
 
 pub returns-in-Ok-clause-reads : goal.returns-in-Ok-clause-reads
 returns-in-Ok-clause-reads g c = λ image told.
-    let one : length c.note_record.new.self.namings ≡ length c.args.out.now.namings + 1 = noted-one c.args.out.now.namings c.note_record.new.self.namings (naming_of c.named.result) c.in_ok-note_record.ensures.namings in
+    let one : length c.note_record.new.self.namings ≡ length c.args.out.now.namings + 1 = noted-one c.args.out.now.namings c.note_record.new.self.namings c.named.result c.in_ok-note_record.ensures.namings in
     let more : g.S.BlockSource.reads c.add_named.new.src + length c.note_record.new.self.namings ≤ g.S.BlockSource.reads c.args.src.now + length c.add_named.new.out.namings = c.in-Ok.ensures.reads image told in
     omega (arith, one, more)

@@ -3,7 +3,7 @@ use Rattle.std.proofs.lemmas.List.{take_all}
 use Rattle.apfs_model.specs.Lists.{In}
 use Rattle.nx_ring.specs.Checkpoint.{Seen}
 use Rattle.vol_view.specs.Volumes.{Loaded}
-use Rattle.reach_rules.specs.Naming.{Namer}
+use Rattle.reach_rules.specs.declared.naming.Namer.{Namer}
 use Rattle.reach_gather.specs.Volumes.Told.{head_naming}
 use Rattle.space_pool.proofs.Indexes.{kept-then}
 use Rattle.reach_gather.specs.Adds.{Adds}

@@ -4,7 +4,7 @@ use Rattle.nx_block.specs.Super.{omap_oid_of}
 use Rattle.nx_ring.specs.Checkpoint.{site_of}
 use Rattle.omap_map.specs.Maps.{map_records}
 use Rattle.vol_view.specs.Volumes.{Loaded}
-use Rattle.reach_rules.specs.Naming.{Namer}
+use Rattle.reach_rules.specs.declared.naming.Namer.{Namer}
 use Rattle.reach_gather.specs.Adds.{Adds}
 use Rattle.reach_gather.specs.Views.{AreNamedParts, slots_namings, loaded_views}
 use Rattle.reach_gather.proofs.volumes.add_volumes.Given as goal

@@ -1,6 +1,6 @@
 use Rattle.std.proofs.Common.{◌≡◌, ◌∙◌, ℕ, ap}
 use Rattle.nx_block.specs.Super.{desc_base_of, desc_blocks_of, data_base_of, data_blocks_of, locker_of, media_locker_of}
-use Rattle.reach_rules.specs.Owners.{Descriptors, Checkpoints, KeyLocker, MediaLocker}
+use Rattle.reach_rules.specs.declared.owner.Who.TheVariants.{Descriptors, Checkpoints, KeyLocker, MediaLocker}
 use Rattle.reach_sweep.proofs.Gathers.{told-as, first-told}
 use Rattle.reach_sweep.proofs.gathering.tell_first.Goals as goal
 

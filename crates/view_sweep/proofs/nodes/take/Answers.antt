@@ -1,6 +1,6 @@
 use Rattle.std.proofs.Common.{◌≡◌, ◌++◌, ℕ, List, refl, ap, sym, ◌∙◌}
 use Rattle.bt_node.specs.Node as fields
-use Rattle.reach_rules.specs.Naming.{Files}
+use Rattle.reach_rules.specs.declared.naming.TreeKind.TheVariants.{Files}
 use Rattle.reach_rules.specs.Next.{children_in}
 use Rattle.omap_map.specs.declared.records.OmapRecord.{OmapRecord}
 use Rattle.view_sweep.specs.declared.wanted.SweptView.{SweptView}

@@ -1,8 +1,8 @@
-use Rattle.std.proofs.Common.{map, List, ap, ◌∙◌, subst, arith}
+use Rattle.std.proofs.Common.{List, ap, ◌∙◌, subst, arith}
 use Rattle.apfs_model.specs.Lists.{Lists}
-use Rattle.reach_rules.specs.Naming.{ByBlock, ByMapping, Naming}
+use Rattle.reach_rules.specs.declared.naming.LookUp.TheVariants.{ByBlock, ByMapping}
+use Rattle.reach_rules.specs.declared.naming.Naming.{Naming}
 use Rattle.reach_gather.specs.Held.{Held}
-use Rattle.reach_gather.specs.Named.{naming_of}
 use Rattle.reach_gather.specs.Finished.{IsIdOf}
 use Rattle.reach_gather.proofs.Finishes.{objects-number}
 use Rattle.reach_gather.proofs.gathered.Gathered.objects.Goals as goal
@@ -11,6 +11,6 @@ pub returns-clause-count : goal.returns-clause-count
 returns-clause-count c =
     let held = ap (λ (h : Held). h.namings) c.self.view_is in
     objects-number c.args.self.now.namings c.in_ok-ids.ids.items c.in_ok-blocks.blocks.items c.args.records.now.items c.distinct.new.items.items
-    (subst (λ (ns : List Naming). Lists c.in_ok-ids.ids.items (IsIdOf ByMapping ns)) (ap (map naming_of) c.deref.ensures.value ∙ held) c.in_ok-ids.ensures.lists) c.in_ok-ids.ensures.apart
-    (subst (λ (ns : List Naming). Lists c.in_ok-blocks.blocks.items (IsIdOf ByBlock ns)) (ap (map naming_of) c.deref-2.ensures.value ∙ held) c.in_ok-blocks.ensures.lists) c.in_ok-blocks.ensures.apart
+    (subst (λ (ns : List Naming). Lists c.in_ok-ids.ids.items (IsIdOf ByMapping ns)) (c.deref.ensures.value ∙ held) c.in_ok-ids.ensures.lists) c.in_ok-ids.ensures.apart
+    (subst (λ (ns : List Naming). Lists c.in_ok-blocks.blocks.items (IsIdOf ByBlock ns)) (c.deref-2.ensures.value ∙ held) c.in_ok-blocks.ensures.lists) c.in_ok-blocks.ensures.apart
     c.distinct.ensures.same c.distinct.ensures.apart c.len.result c.len-2.result c.len-3.result c.all_of.result (c.len.ensures ∙ omega (arith, c.in_ok-ids.ids.ok.0)) (c.len-2.ensures ∙ omega (arith, c.in_ok-blocks.blocks.ok.0)) (c.len-3.ensures ∙ omega (arith, c.distinct.new.items.ok.0)) c.all_of.ensures

@@ -1,0 +1,5 @@
+use Rattle.reach_gather.proofs.Kepts.{ranges-more}
+use Rattle.reach_gather.proofs.keeping.add_ranges.Goals as goal
+
+pub loop-range-preserved : goal.loop-range-preserved
+loop-range-preserved c = ranges-more c.args.ranges.now c.loop-range.range-index (0, 0) c.args.out.now.items c.loop-range.out.items c.add_range.new.out.items c.loop-range-test.true c.loop-range.invariant c.in_ok-add_range.ensures
