@@ -1,5 +1,5 @@
 // A view after another one of its volume: whether it meets its rules, by what it has more and less, where that shows it.
-ghost use Rattle.std.specs.Prelude.{◌≡◌, ◌<◌, ℕ, List, [], Some, length, IfOk, IfErr, IfSome, IsErrOf, IsTrue, OnOk};
+ghost use Rattle.std.specs.Prelude.{◌≡◌, ◌+◌, ◌*◌, ◌≤◌, ◌<◌, ℕ, List, [], Some, length, IfOk, IfErr, IfSome, IsErrOf, IsTrue, OnOk};
 ghost use Rattle.apfs_model.specs.Counts.{Rose};
 ghost use Rattle.apfs_model.specs.Kept.{IsKept};
 ghost use Rattle.obj_base.specs.Site.{IsSiteFor};
@@ -9,6 +9,7 @@ ghost use Rattle.ext_ref.specs.Spans.{IsCoverOf};
 ghost use Rattle.fs_record.specs.declared.extents.FileExt.{FileExt};
 ghost use Rattle.vol_view.specs.Volumes.{Loaded};
 ghost use Rattle.vol_view.specs.Views.{IsViewFeature};
+ghost use Rattle.vol_view.specs.Placed.{view_nodes};
 ghost use Rattle.view_rules.specs.Facts as facts;
 ghost use Rattle.view_rules.specs.Listed.{extents_with_ids};
 ghost use Rattle.view_rules.specs.Rules as rules;
@@ -16,7 +17,7 @@ ghost use Rattle.rule_changes.specs.Changes.{AreWoven, HasDistinctInodes};
 ghost use Rattle.vol_view.specs.declared.volume.View as declared;
 ghost use Rattle.view_change.specs.Kept.{facts_of, records_kept};
 ghost use Rattle.view_change.specs.Changing.{HasDifference};
-ghost use Rattle.view_change.specs.Difference.{IsKeptOf};
+ghost use Rattle.view_change.specs.Difference.{view_places, IsKeptOf};
 ghost use Rattle.tree_rules.specs.Tallies.{IsTally};
 ghost use Rattle.tree_rules.specs.Known as spec;
 
@@ -194,6 +195,7 @@ fn check_after<S: BlockSource>(
     requires cover { IsCoverOf asked.now.ranges.now cover.now }
     ensures clear { (image : List ℕ) (earlier : declared.View) → S.bytes src.old ≡ Some image → spec.IsKnown asked.now.profile image asked.now.site.now volume.now asked.now.ranges.now earlier before → IfOk result (λ found. IfSome found (spec.IsCheckedNext asked.now.profile image asked.now.site.now volume.now asked.now.ranges.now asked.now.view.now (extents_with_ids (facts_of before)))) }
     ensures present { (image : List ℕ) (earlier : declared.View) → S.bytes src.old ≡ Some image → spec.IsKnown asked.now.profile image asked.now.site.now volume.now asked.now.ranges.now earlier before → IfErr result (Tells (rules.IsTreeFault asked.now.profile image asked.now.site.now volume.now asked.now.view.now asked.now.ranges.now) (IsViewFeature image asked.now.site.now volume.now asked.now.view.now)) }
+    ensures reads_met { (image : List ℕ) → S.bytes src.old ≡ Some image → S.reads src.new ≤ S.reads src.old + length (view_places image asked.now.site.now volume.now asked.now.view.now) }
     ensures cause { IsErrOf result ReadFault → Rose (S.faults src.old) (S.faults src.new) }
     ensures kept { IsKept S.bytes S.bytes_len S.faults src.old src.new }
 {
@@ -218,6 +220,7 @@ fn check_first<S: BlockSource>(
     requires site { IsSiteFor asked.now.site.now (S.bytes_len src.old) }
     ensures clear { (image : List ℕ) → S.bytes src.old ≡ Some image → IfOk result (λ found. IfSome found (spec.IsCheckedNext asked.now.profile image asked.now.site.now volume.now asked.now.ranges.now asked.now.view.now [])) }
     ensures present { (image : List ℕ) → S.bytes src.old ≡ Some image → IfErr result (Tells (rules.IsTreeFault asked.now.profile image asked.now.site.now volume.now asked.now.view.now asked.now.ranges.now) (IsViewFeature image asked.now.site.now volume.now asked.now.view.now)) }
+    ensures reads_met { (image : List ℕ) → S.bytes src.old ≡ Some image → S.reads src.new ≤ S.reads src.old + length (view_places image asked.now.site.now volume.now asked.now.view.now) }
     ensures cause { IsErrOf result ReadFault → Rose (S.faults src.old) (S.faults src.new) }
     ensures kept { IsKept S.bytes S.bytes_len S.faults src.old src.new }
 {
@@ -245,6 +248,7 @@ fn check_by<S: BlockSource>(
     requires cover { IsCoverOf asked.now.ranges.now cover.now }
     ensures clear { (image : List ℕ) → S.bytes src.old ≡ Some image → spec.IsKnownBefore asked.now.profile image asked.now.site.now volume.now asked.now.ranges.now before → IfOk result (λ found. IfSome found (spec.IsCheckedNext asked.now.profile image asked.now.site.now volume.now asked.now.ranges.now asked.now.view.now (spec.extents_before before))) }
     ensures present { (image : List ℕ) → S.bytes src.old ≡ Some image → spec.IsKnownBefore asked.now.profile image asked.now.site.now volume.now asked.now.ranges.now before → IfErr result (Tells (rules.IsTreeFault asked.now.profile image asked.now.site.now volume.now asked.now.view.now asked.now.ranges.now) (IsViewFeature image asked.now.site.now volume.now asked.now.view.now)) }
+    ensures reads_met { (image : List ℕ) → S.bytes src.old ≡ Some image → S.reads src.new ≤ S.reads src.old + length (view_places image asked.now.site.now volume.now asked.now.view.now) }
     ensures cause { IsErrOf result ReadFault → Rose (S.faults src.old) (S.faults src.new) }
     ensures kept { IsKept S.bytes S.bytes_len S.faults src.old src.new }
 {
@@ -262,7 +266,7 @@ fn check_by<S: BlockSource>(
 
 /// What `check_with_extents` answers of a view, and what is kept of it for the next view of its volume, where it has its rules and no notes. Where a view before is known and shares half of the leaves at least, this one is
 /// tested by what it has more and less, if that shows that it has its rules; then `extents` are those that have come. `before` is what an earlier call kept of another view of the volume, under the same ranges and profile, and
-/// `cover` is that of the ranges.
+/// `cover` is that of the ranges. `reads`: on Ok at most two for each node of the view's tree.
 pub fn check_next<S: BlockSource>(
     alloc: Global,
     src: &mut S,
@@ -278,6 +282,7 @@ pub fn check_next<S: BlockSource>(
     requires cover { IsCoverOf ranges.now cover.now }
     ensures clear { (image : List ℕ) → S.bytes src.old ≡ Some image → spec.IsKnownBefore profile image site.now volume.now ranges.now before → IfOk result (spec.IsCheckedNext profile image site.now volume.now ranges.now view.now (spec.extents_before before)) }
     ensures present { (image : List ℕ) → S.bytes src.old ≡ Some image → spec.IsKnownBefore profile image site.now volume.now ranges.now before → IfErr result (Tells (rules.IsTreeFault profile image site.now volume.now view.now ranges.now) (IsViewFeature image site.now volume.now view.now)) }
+    ensures reads { (image : List ℕ) → S.bytes src.old ≡ Some image → spec.IsKnownBefore profile image site.now volume.now ranges.now before → OnOk result (S.reads src.new ≤ S.reads src.old + 2 * length (view_nodes image site.now volume.now view.now)) }
     ensures cause { IsErrOf result ReadFault → Rose (S.faults src.old) (S.faults src.new) }
     ensures kept { IsKept S.bytes S.bytes_len S.faults src.old src.new }
 {

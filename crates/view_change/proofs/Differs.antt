@@ -1,5 +1,5 @@
 -- What was found of the leaves of a view, said of the view.
-use Rattle.std.proofs.Common.{◌≡◌, ◌∙◌, ◌<◌, ℕ, suc, Bool, true, false, List, [], ◌∷◌, ◌++◌, None, length, map, filter, refl, ap, sym, subst, arith}
+use Rattle.std.proofs.Common.{◌≡◌, ◌∙◌, ◌+◌, ◌<◌, ◌≤◌, ℕ, suc, Bool, true, false, List, [], ◌∷◌, ◌++◌, None, length, map, filter, refl, ap, sym, subst, arith}
 use Rattle.std.specs.Prelude.{All, if◌then◌else◌}
 use Rattle.std.proofs.lemmas.List.Elements.{All-nil, All-append}
 use Rattle.apfs_model.specs.Counts.{given}
@@ -8,7 +8,10 @@ use Rattle.apfs_model.proofs.Searches.{in-filter, in-map}
 use Rattle.obj_base.specs.declared.site.Site.{Site}
 use Rattle.bt_node.specs.Shape.{Shape}
 use Rattle.bt_node.specs.Entries.{Pair}
+use Rattle.bt_node.specs.declared.node.NodeAt.{NodeAt}
 use Rattle.bt_keys.specs.Shapes.{fs_shape}
+use Rattle.bt_cursor.specs.Tree.{tree_in}
+use Rattle.bt_cursor.specs.Met.{places_of}
 use Rattle.bt_cursor.specs.Flat.{flat_of}
 use Rattle.bt_cursor.specs.Line.{Item, line_of, is_leaf_item}
 use Rattle.bt_cursor.specs.WholeTree.{leaf_pairs}
@@ -16,6 +19,8 @@ use Rattle.bt_cursor.proofs.Flats.{line-pairs}
 use Rattle.fs_name.specs.declared.naming.Names.{Names}
 use Rattle.fs_name.specs.Normal.{are_hashed}
 use Rattle.fs_record.specs.Facts.{refused}
+use Rattle.omap_map.specs.Maps.{Contents}
+use Rattle.omap_map.specs.Resolve.{named_by}
 use Rattle.omap_map.proofs.Lists.{all-in}
 use Rattle.vol_view.specs.Volumes.{Loaded}
 use Rattle.vol_view.specs.Views.{hashed_tree, view_named}
@@ -32,7 +37,7 @@ use Rattle.view_change.specs.Leaves.{records_of, records_in}
 use Rattle.view_change.specs.Kept.{leaf_of, facts_of, facts_said, AreReadable, IsKeptLeaf, IsKeptView}
 use Rattle.view_change.specs.Changing.{IsDifference}
 use Rattle.view_change.specs.Walked.{IsTaken}
-use Rattle.view_change.specs.Difference.{IsKeptOf, gathered_of}
+use Rattle.view_change.specs.Difference.{view_places, IsKeptOf, gathered_of}
 
 -- the records of leaves that are kept can be read
 leaves-readable : {K : Type 0} (shape : Shape K) (site : Site) (image : List ℕ) (names : Names) (kept : List KeptLeaf) → All (IsKeptLeaf shape site image names) kept → AreReadable names (records_in shape site image (map leaf_of kept))
@@ -87,3 +92,14 @@ kept-view image site volume view before changed holds hashed named taken d =
 -- the names of a view that is kept
 pub kept-names : (image : List ℕ) (site : Site) (names : Names) (leaves : List Leaf) (kept : KeptView) → IsKeptView fs_shape site image names leaves kept → (facts_of kept).names ≡ names
 kept-names image site names leaves kept is = ap (λ (f : Facts). f.names) is.kept.said
+
+-- the places that a walk over a view meets
+places-hashed : (image : List ℕ) (site : Site) (volume : Loaded) (view : View) → are_hashed volume.names ≡ true → view_places image site volume view ≡ places_of (hashed_tree image site volume view) view.root_oid
+unfolding view_places
+places-hashed image site volume view e = rw e refl
+
+pub places-within : (image : List ℕ) (site : Site) (volume : Loaded) (view : View) (omap : Contents) (first last : ℕ) → omap ≡ volume.omap → are_hashed volume.names ≡ true
+    → last ≤ first + length (places_of (tree_in fs_shape site (λ oid. named_by omap.records view.xid site.blocks oid) image) view.root_oid) → last ≤ first + length (view_places image site volume view)
+places-within image site volume view omap first last same hashed few =
+    subst (λ (ats : List NodeAt). last ≤ first + length ats) (sym (places-hashed image site volume view hashed))
+    (subst (λ (o : Contents). last ≤ first + length (places_of (tree_in fs_shape site (λ oid. named_by o.records view.xid site.blocks oid) image) view.root_oid)) same few)

@@ -5,3 +5,4 @@ mod Joined
 mod Underway
 mod EndsRead
 mod Differs
+pub mod Places

@@ -1,5 +1,5 @@
 -- The outline of a tree, level by level.
-use Rattle.std.proofs.Common.{◌≡◌, ℕ, suc, ◌+◌, ◌≤◌, Bool, true, false, ◌&&◌, ◌==◌, cond, List, [], ◌∷◌, ◌++◌, map, length, Option, None, Some, refl, ap, sym, ◌∙◌, subst, arith, append-nil, append_assoc, length-append, ◌<◌, take, get_or, Result, Ok, Err}
+use Rattle.std.proofs.Common.{◌≡◌, ℕ, zero, suc, ◌+◌, ◌≤◌, Bool, true, false, ◌&&◌, ◌==◌, cond, List, [], ◌∷◌, ◌++◌, map, length, Option, None, Some, refl, ap, sym, ◌∙◌, subst, arith, append-nil, append_assoc, length-append, ◌<◌, take, get_or, Result, Ok, Err}
 use Rattle.std.specs.Prelude.{is_some, IfOk, IsTrue}
 use Rattle.std.specs.List.{flat_map, list_all, range_with_len}
 use Rattle.std.proofs.lemmas.Bool.{false≢true}
@@ -23,7 +23,7 @@ use Rattle.bt_node.specs.declared.node.NodeAt.{NodeAt}
 use Rattle.bt_node.proofs.Laws.{node_means}
 use Rattle.bt_cursor.specs.Tree.{Tree, tree_in, root_place, child_in, node_at, node_named, judged, block_named}
 use Rattle.bt_cursor.specs.Line.{Item, item_at, entry_of, entries_of, line_part, line_of}
-use Rattle.bt_cursor.specs.Met.{has_node}
+use Rattle.bt_cursor.specs.Met.{places_under, places_in, places_of, has_node}
 use Rattle.bt_cursor.specs.Order.{rank_or_least}
 use Rattle.bt_cursor.specs.Seen.{reads_for}
 use Rattle.view_change.specs.declared.outline.Outline.{Outline}
@@ -145,6 +145,35 @@ outline-top tree root start reads node outline there high info all few =
       few = omega (arith, few, reads-short outline.separators.items);
     }
 
+-- so many more are still to be read by the first separators as by all at most
+reads-taken : (n : ℕ) (xs : List Separator) → reads_in (take n xs) ≤ reads_in xs
+reads-taken zero xs = omega arith
+reads-taken (suc n) [] = omega arith
+reads-taken (suc n) (x ∷ xs) = omega (arith, reads-taken n xs)
+
+-- each separator leads to a place
+separators-few : {K : Type 0} (tree : Tree K) (level : ℕ) (xs : List Separator) (items : List Item) → AreSeparators tree level xs items → length xs ≤ length (places_in items)
+separators-few tree level [] items none = omega arith
+separators-few tree level (x ∷ xs) items these =
+    let g : Item → List NodeAt = λ (other : Item). places_under other.level other.pair in
+    let item = these.0 in
+    let own = items_in tree level x.child in
+    let rest = these.1.0 in
+    let is = these.1.1 in
+    omega (
+      arith,
+      separators-few tree level xs rest is.2,
+      ap (λ ys. length (places_in ys)) is.1,
+      length-append (places_under item.level item.pair) (places_in (own ++ rest)),
+      ap length is.0.separates.upper,
+      ap length (flat_map-append g own rest),
+      length-append (places_in own) (places_in rest),
+    )
+
+-- with all that is still to be read there are no more reads than places
+pub outline-few : {K : Type 0} (tree : Tree K) (root start reads : ℕ) (outline : Outline) → IsOutlined tree root start reads outline → reads + reads_in outline.separators.items ≤ start + length (places_of tree root)
+outline-few tree root start reads outline is = omega (arith, is.few, separators-few tree outline.level outline.separators.items (line_of tree root) is.line)
+
 -- some separators are opened one level down
 pub record AreOpened {K : Type 0} (tree : Tree K) (level : ℕ) (xs lower : List Separator) : Type 0 where
   pub below : lower ≡ flat_map (below_of tree level) xs
@@ -170,6 +199,10 @@ opened-next tree level all i d lower new low old below there =
 
 pub left-next : (all : List Separator) (i : ℕ) (d : Separator) (start reads now : ℕ) → i < length all → reads ≤ start + reads_in (take i all) → now ≤ reads + reads_in (get_or all i d ∷ []) → now ≤ start + reads_in (take (i + 1) all)
 left-next all i d start reads now low few last = omega (arith, few, last, ap reads_in (take_more all i d low), reads-append (take i all) (get_or all i d ∷ []))
+
+-- no more than all that was to be read
+pub part-left : (all items : List Separator) (i : ℕ) (d : Separator) (start reads now : ℕ) → all ≡ items → i < length all → reads ≤ start + reads_in (take i all) → now ≤ reads + reads_in (get_or all i d ∷ []) → now ≤ start + reads_in items
+part-left all items i d start reads now same low few last = omega (arith, left-next all i d start reads now low few last, reads-taken (i + 1) all, ap reads_in same)
 
 -- one level down
 pub outline-down : {K : Type 0} (tree : Tree K) (root start reads more : ℕ) (outline lower : Outline) → IsOutlined tree root start reads outline → outline.level ≡ suc lower.level → lower.info ≡ outline.info

@@ -1,14 +1,24 @@
 -- How a view of a volume differs from the one before.
-use Rattle.std.specs.Prelude.{ℕ, List}
+use Rattle.std.specs.Prelude.{ℕ, List, if◌then◌else◌}
 use Rattle.obj_base.specs.declared.site.Site.{Site}
+use Rattle.bt_node.specs.declared.node.NodeAt.{NodeAt}
 use Rattle.bt_keys.specs.Shapes.{fs_shape}
+use Rattle.bt_cursor.specs.Met.{places_of}
+use Rattle.fs_name.specs.Normal.{are_hashed}
 use Rattle.vol_view.specs.Volumes.{Loaded}
+use Rattle.vol_view.specs.Views.{hashed_tree, plain_tree}
 use Rattle.vol_view.specs.declared.volume.View.{View}
 use Rattle.view_facts.specs.Kept.{IsGatheredView}
 use Rattle.view_facts.specs.declared.gathering.ViewFacts.{ViewFacts}
 use Rattle.view_change.specs.declared.leaf.Leaf.{Leaf}
 use Rattle.view_change.specs.declared.kept.KeptView.{KeptView}
 use Rattle.view_change.specs.Kept.{facts_of, records_kept, IsKeptView}
+
+-- the places that a walk over a view meets, each as often as it is met: those of its nodes where each of them has a node
+unfoldable pub view_places : List ℕ → Site → Loaded → View → List NodeAt
+view_places image site volume view =
+    if are_hashed volume.names then places_of (hashed_tree image site volume view) view.root_oid
+    else places_of (plain_tree image site volume view) view.root_oid
 
 -- the facts and the number of records of what is kept of a view
 abbrev pub gathered_of : KeptView → ViewFacts

@@ -10,7 +10,7 @@ ghost use Rattle.vol_view.specs.Placed.{view_nodes};
 ghost use Rattle.view_change.specs.declared.leaf.Leaf.{Leaf};
 ghost use Rattle.view_change.specs.Kept.{facts_of, IsKeptView};
 ghost use Rattle.view_change.specs.Changing.{HasDifference};
-ghost use Rattle.view_change.specs.Difference.{IsKeptOf};
+ghost use Rattle.view_change.specs.Difference.{view_places, IsKeptOf};
 
 use crate::{Changed, Changing, KeptView, walk_leaves};
 use blk_source::BlockSource;
@@ -34,6 +34,7 @@ pub fn difference<S: BlockSource>(
     ensures after { (image : List ℕ) (leaves : List Leaf) → S.bytes src.old ≡ Some image → IsKeptView fs_shape site.now image volume.now.names leaves before → IfOk result (λ found. IfSome found (λ changed. IsKeptOf image site.now volume.now view.now changed.after)) }
     ensures differs { (image : List ℕ) (leaves : List Leaf) → S.bytes src.old ≡ Some image → IsKeptView fs_shape site.now image volume.now.names leaves before → IfOk result (λ found. IfSome found (λ changed. IfSome changed.change (HasDifference (facts_of before) (facts_of changed.after)))) }
     ensures reads { (image : List ℕ) (leaves : List Leaf) → S.bytes src.old ≡ Some image → IsKeptView fs_shape site.now image volume.now.names leaves before → IfOk result (λ found. IfSome found (λ changed. S.reads src.new ≤ S.reads src.old + length (view_nodes image site.now volume.now view.now))) }
+    ensures reads_met { (image : List ℕ) → S.bytes src.old ≡ Some image → S.reads src.new ≤ S.reads src.old + length (view_places image site.now volume.now view.now) }
     ensures free { IfErr result IsFree }
     ensures cause { IsErrOf result ReadFault → Rose (S.faults src.old) (S.faults src.new) }
     ensures kept { IsKept S.bytes S.bytes_len S.faults src.old src.new }
@@ -71,6 +72,7 @@ pub fn keep<S: BlockSource>(
 ) -> Result<Option<KeptView>, Stop<()>>
     requires site { IsSiteFor site.now (S.bytes_len src.old) }
     ensures clear { (image : List ℕ) → S.bytes src.old ≡ Some image → IfOk result (λ found. IfSome found (IsKeptOf image site.now volume.now view.now)) }
+    ensures reads_met { (image : List ℕ) → S.bytes src.old ≡ Some image → S.reads src.new ≤ S.reads src.old + length (view_places image site.now volume.now view.now) }
     ensures free { IfErr result IsFree }
     ensures cause { IsErrOf result ReadFault → Rose (S.faults src.old) (S.faults src.new) }
     ensures kept { IsKept S.bytes S.bytes_len S.faults src.old src.new }

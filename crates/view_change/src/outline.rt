@@ -9,7 +9,7 @@ ghost use Rattle.obj_base.specs.declared.stop.Stop.TheVariants.{ReadFault};
 ghost use Rattle.bt_node.specs.Node.{level_of};
 ghost use Rattle.bt_node.specs.SoundNode.{IsNode};
 ghost use Rattle.bt_cursor.specs.Tree.{tree_in, node_at, block_named};
-ghost use Rattle.bt_cursor.specs.Met.{has_node};
+ghost use Rattle.bt_cursor.specs.Met.{has_node, places_of};
 ghost use Rattle.view_change.specs.Outline.{node_place, separators_of, separators_in, below_of, is_child_there, reads_in, IsOutlined};
 
 use crate::node::read_node;
@@ -170,6 +170,7 @@ fn below<K: TreeKey, S: BlockSource, N: Namer>(
     requires upper { 0 < outline.now.level }
     ensures outlined { (image : List ℕ) (root start : ℕ) → S.bytes src.old ≡ Some image → IsOutlined (tree_in K.shape site.now (N.named namer.now) image) root start (S.reads src.old) outline.now → IfOk result (λ found. IfSome found (IsOutlined (tree_in K.shape site.now (N.named namer.now) image) root start (S.reads src.new))) }
     ensures level { IfOk result (λ found. IfSome found (λ lower. lower.level + 1 ≡ outline.now.level)) }
+    ensures reads { S.reads src.new ≤ S.reads src.old + reads_in outline.now.separators.items }
     ensures free { IfErr result IsFree }
     ensures cause { IsErrOf result ReadFault → Rose (S.faults src.old) (S.faults src.new) }
     ensures kept { IsKept S.bytes S.bytes_len S.faults src.old src.new }
@@ -203,6 +204,7 @@ fn top<K: TreeKey, S: BlockSource, N: Namer>(
     requires site { IsSiteFor site.now (S.bytes_len src.old) }
     requires long { length block.old ≡ site.now.block_size }
     ensures outlined { (image : List ℕ) → S.bytes src.old ≡ Some image → IfOk result (λ found. IfSome found (IsOutlined (tree_in K.shape site.now (N.named namer.now) image) root (S.reads src.old) (S.reads src.new))) }
+    ensures reads { S.reads src.new ≤ S.reads src.old + 1 }
     ensures free { IfErr result IsFree }
     ensures cause { IsErrOf result ReadFault → Rose (S.faults src.old) (S.faults src.new) }
     ensures kept { IsKept S.bytes S.bytes_len S.faults src.old src.new }
@@ -243,6 +245,7 @@ pub(crate) fn outline_of<K: TreeKey, S: BlockSource, N: Namer>(
     requires site { IsSiteFor site.now (S.bytes_len src.old) }
     ensures outlined { (image : List ℕ) → S.bytes src.old ≡ Some image → IfOk result (λ found. IfSome found (IsOutlined (tree_in K.shape site.now (N.named namer.now) image) root (S.reads src.old) (S.reads src.new))) }
     ensures end { IfOk result (λ found. IfSome found (λ outline. outline.level ≡ 0)) }
+    ensures reads { (image : List ℕ) → S.bytes src.old ≡ Some image → S.reads src.new ≤ S.reads src.old + length (places_of (tree_in K.shape site.now (N.named namer.now) image) root) }
     ensures free { IfErr result IsFree }
     ensures cause { IsErrOf result ReadFault → Rose (S.faults src.old) (S.faults src.new) }
     ensures kept { IsKept S.bytes S.bytes_len S.faults src.old src.new }

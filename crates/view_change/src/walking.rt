@@ -6,9 +6,9 @@ ghost use Rattle.obj_base.specs.Site.{IsSiteFor};
 ghost use Rattle.obj_base.specs.Stops.{IsFree};
 ghost use Rattle.obj_base.specs.declared.stop.Stop.TheVariants.{ReadFault};
 ghost use Rattle.bt_cursor.specs.Tree.{tree_in};
-ghost use Rattle.bt_cursor.specs.Met.{nodes_of};
+ghost use Rattle.bt_cursor.specs.Met.{nodes_of, places_of};
 ghost use Rattle.view_change.specs.declared.outline.Separator.{Separator};
-ghost use Rattle.view_change.specs.Outline.{IsOutlined, IsPassed};
+ghost use Rattle.view_change.specs.Outline.{reads_in, IsOutlined, IsPassed};
 ghost use Rattle.view_change.specs.Walked.{IsTaken};
 
 use crate::Leaf;
@@ -34,6 +34,7 @@ fn pass<K: TreeKey, S: BlockSource, N: Namer, T: LeafTaker<K>>(
 ) -> Result<Option<Seen>, Stop<()>>
     requires site { IsSiteFor site.now (S.bytes_len src.old) }
     ensures passed { (start : T) (image : List ℕ) (root keys nodes begun : ℕ) (left : List Separator) → S.bytes src.old ≡ Some image → IsPassed K.shape site.now (N.named namer.now) image root keys nodes (T.holds start taker.old site.now image) begun (S.reads src.old) (next ∷ left) seen → IfOk result (λ found. IfSome found (IsPassed K.shape site.now (N.named namer.now) image root keys nodes (T.holds start taker.new site.now image) begun (S.reads src.new) left)) }
+    ensures reads { S.reads src.new ≤ S.reads src.old + reads_in (next ∷ []) }
     ensures free { IfErr result IsFree }
     ensures cause { IsErrOf result ReadFault → Rose (S.faults src.old) (S.faults src.new) }
     ensures kept { IsKept S.bytes S.bytes_len S.faults src.old src.new }
@@ -65,6 +66,7 @@ fn pass_all<K: TreeKey, S: BlockSource, N: Namer, T: LeafTaker<K>>(
     requires end { outline.now.level ≡ 0 }
     ensures taken { (start : T) (image : List ℕ) (root begun : ℕ) → S.bytes src.old ≡ Some image → IsOutlined (tree_in K.shape site.now (N.named namer.now) image) root begun (S.reads src.old) outline.now → T.holds start taker.old site.now image [] → IfOk result (λ whole. IsTrue whole → IsTaken K.shape site.now (N.named namer.now) image root (T.holds start taker.new site.now image)) }
     ensures reads { (start : T) (image : List ℕ) (root begun : ℕ) → S.bytes src.old ≡ Some image → IsOutlined (tree_in K.shape site.now (N.named namer.now) image) root begun (S.reads src.old) outline.now → T.holds start taker.old site.now image [] → IfOk result (λ whole. IsTrue whole → S.reads src.new ≤ begun + length (nodes_of (tree_in K.shape site.now (N.named namer.now) image) root)) }
+    ensures reads_met { S.reads src.new ≤ S.reads src.old + reads_in outline.now.separators.items }
     ensures free { IfErr result IsFree }
     ensures cause { IsErrOf result ReadFault → Rose (S.faults src.old) (S.faults src.new) }
     ensures kept { IsKept S.bytes S.bytes_len S.faults src.old src.new }
@@ -101,7 +103,7 @@ fn leaves_of<N: Namer>(
 
 /// Hands the leaves of a tree below its root to `taker`, in their order, and gives it back where the tree is whole; no leaf is read but by the
 /// taker. None where the root is a leaf, where a node isn't there, where something is out of order or counted wrong, and where a leaf isn't
-/// taken. `root` is the id of the root.
+/// taken. `root` is the id of the root. Whatever is answered, there is at most one read for each place that the walk meets.
 pub fn walk_leaves<K: TreeKey, S: BlockSource, N: Namer, T: LeafTaker<K>>(
     alloc: Global,
     src: &mut S,
@@ -113,6 +115,7 @@ pub fn walk_leaves<K: TreeKey, S: BlockSource, N: Namer, T: LeafTaker<K>>(
     requires site { IsSiteFor site.now (S.bytes_len src.old) }
     ensures clear { (start : T) (image : List ℕ) → S.bytes src.old ≡ Some image → T.holds start taker site.now image [] → IfOk result (λ found. IfSome found (λ taker. IsTaken K.shape site.now (N.named namer.now) image root (T.holds start taker site.now image))) }
     ensures reads { (start : T) (image : List ℕ) → S.bytes src.old ≡ Some image → T.holds start taker site.now image [] → IfOk result (λ found. IfSome found (λ taker. S.reads src.new ≤ S.reads src.old + length (nodes_of (tree_in K.shape site.now (N.named namer.now) image) root))) }
+    ensures reads_met { (image : List ℕ) → S.bytes src.old ≡ Some image → S.reads src.new ≤ S.reads src.old + length (places_of (tree_in K.shape site.now (N.named namer.now) image) root) }
     ensures free { IfErr result IsFree }
     ensures cause { IsErrOf result ReadFault → Rose (S.faults src.old) (S.faults src.new) }
     ensures kept { IsKept S.bytes S.bytes_len S.faults src.old src.new }

@@ -15,7 +15,7 @@ use Rattle.view_change.specs.declared.changing.Changing.{Changing}
 use Rattle.view_change.specs.Kept.{facts_of}
 use Rattle.view_change.specs.Changing.{HasChanged, HasDifference}
 use Rattle.view_change.specs.Walked.{IsTaken}
-use Rattle.view_change.proofs.Differs.{kept-view, kept-names}
+use Rattle.view_change.proofs.Differs.{kept-view, kept-names, places-within}
 use Rattle.view_change.proofs.differing.difference.Goals as goal
 
 pub returns-clause-after : goal.returns-clause-after
@@ -56,3 +56,31 @@ returns-clause-reads g c image leaves told had =
     let few = subst (λ (o : Option Changing). IfSome o (λ changing. within (nodes_of (tree_in fs_shape site (λ oid. named_by c.volume.inside.omap.records view.xid site.blocks oid) image) view.root_oid))) c.in-Some.is
     (c.in_ok-changing.ensures.reads c.new-changing.result image told (c.new-changing.ensures.begun site image volume.names leaves had)) in
     subst within (sym (nodes-hashed image site volume view hashed)) (subst (λ (o : Contents). within (nodes_of (tree_in fs_shape site (λ oid. named_by o.records view.xid site.blocks oid) image) view.root_oid)) same few)
+
+pub returns-in_default-clause-reads_met : goal.returns-in_default-clause-reads_met
+returns-in_default-clause-reads_met g c image told =
+    let volume = c.args.volume.now in
+    let same : c.volume.inside.omap ≡ volume.omap = ap (λ (v : Loaded). v.omap) c.volume.view_is in
+    let hashed : are_hashed volume.names ≡ true = ap (λ (v : Loaded). are_hashed v.names) (sym c.volume.view_is) ∙ (sym c.are_hashed.ensures ∙ c.if-not-are_hashed.false) in
+    places-within image c.args.site.now volume c.args.view.now c.volume.inside.omap (g.S.BlockSource.reads c.args.src.now) (g.S.BlockSource.reads c.walk_leaves.new.src) same hashed (c.walk_leaves.ensures.reads_met image told)
+
+pub returns-in_err-changing-clause-reads_met : goal.returns-in_err-changing-clause-reads_met
+returns-in_err-changing-clause-reads_met g c image told =
+    let volume = c.args.volume.now in
+    let same : c.volume.inside.omap ≡ volume.omap = ap (λ (v : Loaded). v.omap) c.volume.view_is in
+    let hashed : are_hashed volume.names ≡ true = ap (λ (v : Loaded). are_hashed v.names) (sym c.volume.view_is) ∙ (sym c.are_hashed.ensures ∙ c.if-not-are_hashed.false) in
+    places-within image c.args.site.now volume c.args.view.now c.volume.inside.omap (g.S.BlockSource.reads c.args.src.now) (g.S.BlockSource.reads c.walk_leaves.new.src) same hashed (c.walk_leaves.ensures.reads_met image told)
+
+pub returns-in_err-finish-clause-reads_met : goal.returns-in_err-finish-clause-reads_met
+returns-in_err-finish-clause-reads_met g c image told =
+    let volume = c.args.volume.now in
+    let same : c.volume.inside.omap ≡ volume.omap = ap (λ (v : Loaded). v.omap) c.volume.view_is in
+    let hashed : are_hashed volume.names ≡ true = ap (λ (v : Loaded). are_hashed v.names) (sym c.volume.view_is) ∙ (sym c.are_hashed.ensures ∙ c.if-not-are_hashed.false) in
+    places-within image c.args.site.now volume c.args.view.now c.volume.inside.omap (g.S.BlockSource.reads c.args.src.now) (g.S.BlockSource.reads c.walk_leaves.new.src) same hashed (c.walk_leaves.ensures.reads_met image told)
+
+pub returns-clause-reads_met : goal.returns-clause-reads_met
+returns-clause-reads_met g c image told =
+    let volume = c.args.volume.now in
+    let same : c.volume.inside.omap ≡ volume.omap = ap (λ (v : Loaded). v.omap) c.volume.view_is in
+    let hashed : are_hashed volume.names ≡ true = ap (λ (v : Loaded). are_hashed v.names) (sym c.volume.view_is) ∙ (sym c.are_hashed.ensures ∙ c.if-not-are_hashed.false) in
+    places-within image c.args.site.now volume c.args.view.now c.volume.inside.omap (g.S.BlockSource.reads c.args.src.now) (g.S.BlockSource.reads c.walk_leaves.new.src) same hashed (c.walk_leaves.ensures.reads_met image told)

@@ -2,6 +2,7 @@ use Rattle.std.proofs.Common.{rules, ◌≡◌, ◌∙◌, ◌+◌, ℕ, List, a
 use Rattle.std.proofs.lemmas.Grind.{common_steps}
 use Rattle.bt_cursor.specs.Tree.{Tree, tree_in}
 use Rattle.view_change.specs.Outline.{IsOutlined}
+use Rattle.view_change.proofs.Outlines.{outline-few}
 use Rattle.view_change.proofs.Passes.{at-some}
 use Rattle.view_change.proofs.outline.outline_of.Goals as goal
 
@@ -29,3 +30,21 @@ levels-preserved g c =
 
 pub levels-smaller : goal.levels-smaller
 levels-smaller g c = let down : c.in-Some-2.lower.level + 1 ≡ c.levels.outline.level = at-some c.in_ok-lower.field-0 c.in-Some-2.lower (λ lower. lower.level + 1 ≡ c.levels.outline.level) c.in-Some-2.is c.in_ok-lower.ensures.level in omega (arith, down)
+
+pub returns-in_default-2-clause-reads : goal.returns-in_default-2-clause-reads
+returns-in_default-2-clause-reads g c image told =
+    let reads = g.S.BlockSource.reads in
+    let tree = tree_in g.K.TreeKey.shape c.args.site.now (g.N.Namer.named c.args.namer.now) image in
+    omega (arith, c.below.ensures.reads, outline-few tree c.args.root (reads c.args.src.now) (reads c.levels.src) c.levels.outline (c.levels.invariant.outlined image told))
+
+pub returns-in_err-lower-clause-reads : goal.returns-in_err-lower-clause-reads
+returns-in_err-lower-clause-reads g c image told =
+    let reads = g.S.BlockSource.reads in
+    let tree = tree_in g.K.TreeKey.shape c.args.site.now (g.N.Namer.named c.args.namer.now) image in
+    omega (arith, c.below.ensures.reads, outline-few tree c.args.root (reads c.args.src.now) (reads c.levels.src) c.levels.outline (c.levels.invariant.outlined image told))
+
+pub returns-clause-reads : goal.returns-clause-reads
+returns-clause-reads g c image told =
+    let reads = g.S.BlockSource.reads in
+    let tree = tree_in g.K.TreeKey.shape c.args.site.now (g.N.Namer.named c.args.namer.now) image in
+    omega (arith, outline-few tree c.args.root (reads c.args.src.now) (reads c.levels.src) c.levels.outline (c.levels.invariant.outlined image told))

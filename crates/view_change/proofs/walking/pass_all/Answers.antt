@@ -2,6 +2,7 @@ use Rattle.std.proofs.Common.{rules, ◌∙◌, ◌+◌, [], sym, subst, drop, a
 use Rattle.std.proofs.lemmas.Grind.{common_steps}
 use Rattle.std.proofs.lemmas.List.{drop_all}
 use Rattle.view_change.specs.Outline.{HasSeen, IsPassed}
+use Rattle.view_change.proofs.Outlines.{left-next, part-left}
 use Rattle.view_change.proofs.Passes.{at-some, pass-start, pass-next, pass-end}
 use Rattle.view_change.proofs.walking.pass_all.Goals as goal
 
@@ -17,6 +18,7 @@ separators-init g c =
       passed = λ start image root begun told outlined none.
           subst (λ left. IsPassed shape site named image root outline.info.key_count outline.info.node_count (g.T.LeafTaker.holds start c.args.taker.now site image) begun reads left c.in-Some.seen) (sym c.deref-next-items.ensures.value)
           (pass-start shape site named image root begun reads outline (g.T.LeafTaker.holds start c.args.taker.now site image) c.in-Some.seen outlined c.requires.end right none);
+      few = omega arith;
       kept = first_of (search rules, grind (arith, common_steps));
     }
 
@@ -36,6 +38,7 @@ separators-preserved g c =
           at-some c.in_ok-more.field-0 c.in-Some-2.more (IsPassed shape site named image root keys nodes (g.T.LeafTaker.holds start c.pass.new.taker site image) begun (reads c.pass.new.src) (drop (i + 1) all)) c.in-Some-2.is
           (c.in_ok-more.ensures.passed start image root keys nodes begun (drop (i + 1) all) (old.kept.same_bytes ∙ told)
           (pass-next shape site named image root keys nodes (g.T.LeafTaker.holds start c.separators.taker site image) begun (reads c.separators.src) all i _ c.separators.seen c.separators-test.true (old.passed start image root begun told outlined none)));
+      few = left-next all i _ (reads c.args.src.now) (reads c.separators.src) (reads c.pass.new.src) c.separators-test.true old.few c.pass.ensures.reads;
       kept = first_of (search rules, grind (arith, common_steps));
     }
 
@@ -56,3 +59,13 @@ returns-clause-reads g c start image root begun told outlined none on =
     let all = c.deref-next-items.result.now in
     (pass-end g.K.TreeKey.shape site (g.N.Namer.named c.args.namer.now) image root begun (reads c.args.src.now) (reads c.separators.src) c.args.outline.now (g.T.LeafTaker.holds start c.separators.taker site image) (drop i all) c.separators.seen outlined
     (c.separators.invariant.passed start image root begun told outlined none) (drop_all i all c.separators-test.false) (c.is_all.ensures.keys on) (c.is_all.ensures.nodes on)).few
+
+pub returns-in_err-more-clause-reads_met : goal.returns-in_err-more-clause-reads_met
+returns-in_err-more-clause-reads_met g c =
+    let reads = g.S.BlockSource.reads in
+    part-left c.deref-next-items.result.now c.args.outline.now.separators.items c.separators.next-index _ (reads c.args.src.now) (reads c.separators.src) (reads c.pass.new.src) c.deref-next-items.ensures.value c.separators-test.true c.separators.invariant.few c.pass.ensures.reads
+
+pub returns-in_default-2-clause-reads_met : goal.returns-in_default-2-clause-reads_met
+returns-in_default-2-clause-reads_met g c =
+    let reads = g.S.BlockSource.reads in
+    part-left c.deref-next-items.result.now c.args.outline.now.separators.items c.separators.next-index _ (reads c.args.src.now) (reads c.separators.src) (reads c.pass.new.src) c.deref-next-items.ensures.value c.separators-test.true c.separators.invariant.few c.pass.ensures.reads

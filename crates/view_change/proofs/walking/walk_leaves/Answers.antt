@@ -1,6 +1,7 @@
-use Rattle.std.proofs.Common.{rules, ◌≡◌, ◌∙◌, true}
+use Rattle.std.proofs.Common.{rules, ◌≡◌, ◌∙◌, true, arith}
 use Rattle.bt_cursor.specs.Tree.{tree_in}
 use Rattle.view_change.specs.Outline.{IsOutlined}
+use Rattle.view_change.proofs.Outlines.{outline-few}
 use Rattle.view_change.proofs.Passes.{at-some}
 use Rattle.view_change.proofs.walking.walk_leaves.Goals as goal
 
@@ -19,3 +20,24 @@ returns-then-branch-clause-reads g c start image told none =
     let whole : c.in_ok-pass_all.field-0 ≡ true = search rules in
     let outlined = at-some c.in_ok-outline.field-0 c.in-Some.outline (IsOutlined tree c.args.root (reads c.args.src.now) (reads c.outline_of.new.src)) c.in-Some.is (c.in_ok-outline.ensures.outlined image told) in
     c.in_ok-pass_all.ensures.reads start image c.args.root (reads c.args.src.now) (c.outline_of.ensures.kept.same_bytes ∙ told) outlined (c.foresee.ensures.foreseen start c.args.site.now image none) whole
+
+pub returns-in_err-pass_all-clause-reads_met : goal.returns-in_err-pass_all-clause-reads_met
+returns-in_err-pass_all-clause-reads_met g c image told =
+    let reads = g.S.BlockSource.reads in
+    let tree = tree_in g.K.TreeKey.shape c.args.site.now (g.N.Namer.named c.args.namer.now) image in
+    let outlined = at-some c.in_ok-outline.field-0 c.in-Some.outline (IsOutlined tree c.args.root (reads c.args.src.now) (reads c.outline_of.new.src)) c.in-Some.is (c.in_ok-outline.ensures.outlined image told) in
+    omega (arith, c.pass_all.ensures.reads_met, outline-few tree c.args.root (reads c.args.src.now) (reads c.outline_of.new.src) c.in-Some.outline outlined)
+
+pub returns-then-branch-clause-reads_met : goal.returns-then-branch-clause-reads_met
+returns-then-branch-clause-reads_met g c image told =
+    let reads = g.S.BlockSource.reads in
+    let tree = tree_in g.K.TreeKey.shape c.args.site.now (g.N.Namer.named c.args.namer.now) image in
+    let outlined = at-some c.in_ok-outline.field-0 c.in-Some.outline (IsOutlined tree c.args.root (reads c.args.src.now) (reads c.outline_of.new.src)) c.in-Some.is (c.in_ok-outline.ensures.outlined image told) in
+    omega (arith, c.pass_all.ensures.reads_met, outline-few tree c.args.root (reads c.args.src.now) (reads c.outline_of.new.src) c.in-Some.outline outlined)
+
+pub returns-else-branch-clause-reads_met : goal.returns-else-branch-clause-reads_met
+returns-else-branch-clause-reads_met g c image told =
+    let reads = g.S.BlockSource.reads in
+    let tree = tree_in g.K.TreeKey.shape c.args.site.now (g.N.Namer.named c.args.namer.now) image in
+    let outlined = at-some c.in_ok-outline.field-0 c.in-Some.outline (IsOutlined tree c.args.root (reads c.args.src.now) (reads c.outline_of.new.src)) c.in-Some.is (c.in_ok-outline.ensures.outlined image told) in
+    omega (arith, c.pass_all.ensures.reads_met, outline-few tree c.args.root (reads c.args.src.now) (reads c.outline_of.new.src) c.in-Some.outline outlined)
