@@ -20,3 +20,4 @@ pub mod DataTold
 pub mod Checked
 pub mod Again
 pub mod Examples
+pub mod Spent

@@ -11,3 +11,4 @@ pub mod Held
 pub mod Steps
 pub mod DataSteps
 pub mod Again
+pub mod Reads

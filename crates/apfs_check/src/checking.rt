@@ -1,19 +1,22 @@
 // The whole check of a container.
-ghost use Rattle.std.specs.Prelude.{◌≡◌, ◌-◌, ◌++◌, ℕ, List, [], Some, Ok, OnOk, IfOk, IfErr, IsErrOf, length, min};
+ghost use Rattle.std.specs.Prelude.{◌≡◌, ◌+◌, ◌-◌, ◌≤◌, ◌++◌, ℕ, List, [], Some, Ok, OnOk, IfOk, IfErr, IsErrOf, length, min};
 ghost use Rattle.apfs_model.specs.Counts.{given, Rose};
 ghost use Rattle.apfs_model.specs.Kept.{IsKept};
 ghost use Rattle.obj_base.specs.Site.{IsSiteFor};
 ghost use Rattle.obj_base.specs.Stops.{Tells, IsFree};
 ghost use Rattle.obj_base.specs.declared.stop.Stop.TheVariants.{ReadFault};
 ghost use Rattle.nx_block.specs.Super.{slots};
-ghost use Rattle.nx_ring.specs.Checkpoint.{site_of};
+ghost use Rattle.nx_ring.specs.Checkpoint.{Seen, site_of};
 ghost use Rattle.nx_ring.specs.Features.{container_features};
 ghost use Rattle.nx_ring.specs.Newest.{newest_of};
+ghost use Rattle.space_map.specs.Blocks.{manager_of};
 ghost use Rattle.reach_rules.specs.Accounted.{IsAccounted};
+ghost use Rattle.reach_rules.specs.Bound.{account_reads};
 ghost use Rattle.reach_rules.specs.Tally.{IsTally};
 ghost use Rattle.view_rules.specs.declared.profile.Profile as rules;
 ghost use Rattle.apfs_check.specs.Notes.{skipped_notes};
 ghost use Rattle.apfs_check.specs.Present.{IsPresent, IsFeature};
+ghost use Rattle.apfs_check.specs.Reads.{newest_reads, check_reads};
 ghost use Rattle.apfs_check.specs.Report.{IsChecked};
 ghost use Rattle.apfs_check.specs.Steps.{IsThere, AreReady};
 ghost use Rattle.apfs_check.specs.WellFormed.{IsWellFormed};
@@ -38,6 +41,7 @@ fn newest_checkpoint<S: BlockSource>(alloc: Global, src: &mut S) -> Result<Check
     ensures clear { (image : List ℕ) → S.bytes src.old ≡ Some image → IfOk result (λ seen. newest_of image ≡ Ok seen) }
     ensures plain { IfOk result (λ seen. container_features seen.nx ≡ []) }
     ensures present { (profile : rules.Profile) (image : List ℕ) → S.bytes src.old ≡ Some image → IfErr result (IsThere profile image) }
+    ensures reads { (image : List ℕ) → S.bytes src.old ≡ Some image → S.reads src.new ≤ S.reads src.old + newest_reads image }
     ensures site { IfOk result (λ seen. IsSiteFor (site_of seen) (S.bytes_len src.old)) }
     ensures cause { IsErrOf result ReadFault → Rose (S.faults src.old) (S.faults src.new) }
     ensures kept { IsKept S.bytes S.bytes_len S.faults src.old src.new }
@@ -60,6 +64,7 @@ fn tally_of<S: BlockSource>(
     ensures clear { (image : List ℕ) → S.bytes src.old ≡ Some image → AreReady image cp.now volumes.now → OnOk result (IsAccounted image cp.now) }
     ensures tally { (image : List ℕ) → S.bytes src.old ≡ Some image → AreReady image cp.now volumes.now → IfOk result (λ tally. IsTally image cp.now tally.objects tally.owned) }
     ensures present { (profile : rules.Profile) (image : List ℕ) → S.bytes src.old ≡ Some image → AreReady image cp.now volumes.now → IfErr result (IsThere profile image) }
+    ensures reads { (image : List ℕ) → S.bytes src.old ≡ Some image → AreReady image cp.now volumes.now → IfOk result (λ tally. (manager : List ℕ) → manager_of cp.now ≡ Some manager → S.reads src.new ≤ S.reads src.old + account_reads tally.objects manager) }
     ensures cause { IsErrOf result ReadFault → Rose (S.faults src.old) (S.faults src.new) }
     ensures kept { IsKept S.bytes S.bytes_len S.faults src.old src.new }
 {
@@ -95,7 +100,8 @@ fn report(
 
 /// Whether a container is well-formed under a profile: what is told of it, or what is wrong with it. Its newest checkpoint comes
 /// first, then its volumes, the account of its blocks, and each volume with its views and its data. A fault or a feature that is
-/// named is there, and of one that is well-formed nothing is named.
+/// named is there, and of one that is well-formed nothing is named. `reads`: on Ok at most `check_reads`, which counts objects, chunks, and
+/// the nodes of each tree.
 pub fn check<S: BlockSource>(
     alloc: Global,
     src: &mut S,
@@ -104,6 +110,7 @@ pub fn check<S: BlockSource>(
     ensures clear { (image : List ℕ) → S.bytes src.old ≡ Some image → IfOk result (IsChecked profile image) }
     ensures present { (image : List ℕ) → S.bytes src.old ≡ Some image → IfErr result (Tells (IsPresent profile image) (IsFeature image)) }
     ensures exact { (image : List ℕ) → S.bytes src.old ≡ Some image → IsWellFormed profile image → IfErr result IsFree }
+    ensures reads { (image manager : List ℕ) (seen : Seen) → S.bytes src.old ≡ Some image → newest_of image ≡ Ok seen → manager_of seen ≡ Some manager → IfOk result (λ report. S.reads src.new ≤ S.reads src.old + check_reads image seen manager report.objects) }
     ensures cause { IsErrOf result ReadFault → Rose (S.faults src.old) (S.faults src.new) }
     ensures kept { IsKept S.bytes S.bytes_len S.faults src.old src.new }
 {

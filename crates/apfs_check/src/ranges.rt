@@ -1,5 +1,5 @@
 // The new ranges of a volume and of its snapshots.
-ghost use Rattle.std.specs.Prelude.{◌≡◌, ◌+◌, ◌<◌, ◌^◌, ◌∷◌, ◌++◌, [], ℕ, List, Some, Ok, map, flat_map, OnOk, IfOk, IfErr, IsErrOf};
+ghost use Rattle.std.specs.Prelude.{◌≡◌, ◌+◌, ◌≤◌, ◌<◌, ◌^◌, ◌∷◌, ◌++◌, [], ℕ, List, Some, Ok, map, flat_map, sum, OnOk, IfOk, IfErr, IsErrOf};
 ghost use Rattle.apfs_model.specs.Counts.{Rose};
 ghost use Rattle.apfs_model.specs.Lists.{In};
 ghost use Rattle.apfs_model.specs.Kept.{IsKept};
@@ -12,6 +12,7 @@ ghost use Rattle.ext_ref.specs.Ranges.{ranges_of};
 ghost use Rattle.ext_ref.specs.Left.{AreShort};
 ghost use Rattle.view_rules.specs.declared.profile.Profile as rules;
 ghost use Rattle.apfs_check.specs.Volumes as spec;
+ghost use Rattle.apfs_check.specs.Reads.{root_reads, ranges_reads};
 ghost use Rattle.apfs_check.specs.Steps.{IsThere, IsReady, IsExtentsRoot, snapshot_root};
 
 use crate::Fault;
@@ -57,6 +58,7 @@ fn put_ranges<S: BlockSource>(
     ensures clear { (image : List ℕ) → S.bytes src.old ≡ Some image → OnOk result (ranges.new.items ≡ ranges.old.items ++ ranges_of image (site_of cp.now) root) }
     ensures short { AreShort ranges.old.items → OnOk result (AreShort ranges.new.items) }
     ensures present { (profile : rules.Profile) (image : List ℕ) (head : VolHead) → S.bytes src.old ≡ Some image → newest_of image ≡ Ok cp.now → In head (spec.sound_heads image cp.now) → IsExtentsRoot image cp.now head root → IfErr result (IsThere profile image) }
+    ensures reads { (image : List ℕ) → S.bytes src.old ≡ Some image → OnOk result (S.reads src.new ≤ S.reads src.old + root_reads image (site_of cp.now) root) }
     ensures cause { IsErrOf result ReadFault → Rose (S.faults src.old) (S.faults src.new) }
     ensures kept { IsKept S.bytes S.bytes_len S.faults src.old src.new }
 {
@@ -79,6 +81,7 @@ fn put_past_ranges<S: BlockSource>(
     ensures clear { (image : List ℕ) → S.bytes src.old ≡ Some image → OnOk result (ranges.new.items ≡ ranges.old.items ++ flat_map (ranges_of image (site_of cp.now)) (map snapshot_root volume.now.snaps)) }
     ensures short { AreShort ranges.old.items → OnOk result (AreShort ranges.new.items) }
     ensures present { (profile : rules.Profile) (image : List ℕ) → S.bytes src.old ≡ Some image → IsReady image cp.now volume.now → IfErr result (IsThere profile image) }
+    ensures reads { (image : List ℕ) → S.bytes src.old ≡ Some image → OnOk result (S.reads src.new ≤ S.reads src.old + sum (map (root_reads image (site_of cp.now)) (map snapshot_root volume.now.snaps))) }
     ensures cause { IsErrOf result ReadFault → Rose (S.faults src.old) (S.faults src.new) }
     ensures kept { IsKept S.bytes S.bytes_len S.faults src.old src.new }
 {
@@ -102,6 +105,7 @@ pub(crate) fn volume_ranges<S: BlockSource>(
     ensures clear { (image : List ℕ) → S.bytes src.old ≡ Some image → IsReady image cp.now volume.now → IfOk result (λ ranges. ranges.items ≡ spec.volume_ranges image (site_of cp.now) volume.now.head) }
     ensures short { IfOk result (λ ranges. AreShort ranges.items) }
     ensures present { (profile : rules.Profile) (image : List ℕ) → S.bytes src.old ≡ Some image → IsReady image cp.now volume.now → IfErr result (IsThere profile image) }
+    ensures reads { (image : List ℕ) → S.bytes src.old ≡ Some image → OnOk result (S.reads src.new ≤ S.reads src.old + ranges_reads image (site_of cp.now) volume.now) }
     ensures cause { IsErrOf result ReadFault → Rose (S.faults src.old) (S.faults src.new) }
     ensures kept { IsKept S.bytes S.bytes_len S.faults src.old src.new }
 {

@@ -1,5 +1,5 @@
 // The views of a volume: their rules, what is told of them, and their extents.
-ghost use Rattle.std.specs.Prelude.{◌≡◌, ◌⊎◌, ◌+◌, ◌≤◌, ◌<◌, ◌^◌, ◌∷◌, ◌++◌, [], ℕ, List, Some, false, length, slice_get, All, OnOk, IfOk, IfErr, IfSome, IsErrOf, IsTrue, ◌↔◌};
+ghost use Rattle.std.specs.Prelude.{◌≡◌, ◌⊎◌, ◌+◌, ◌≤◌, ◌<◌, ◌^◌, ◌∷◌, ◌++◌, [], ℕ, List, map, sum, Some, false, length, slice_get, All, OnOk, IfOk, IfErr, IfSome, IsErrOf, IsTrue, ◌↔◌};
 ghost use Rattle.apfs_model.specs.Counts.{Rose};
 ghost use Rattle.apfs_model.specs.Lists.{In};
 ghost use Rattle.apfs_model.specs.Kept.{IsKept};
@@ -8,6 +8,8 @@ ghost use Rattle.obj_base.specs.Stops.{Tells};
 ghost use Rattle.obj_base.specs.declared.stop.Stop.TheVariants.{ReadFault};
 ghost use Rattle.nx_ring.specs.Checkpoint.{site_of};
 ghost use Rattle.fs_record.specs.StreamExtents as stream;
+ghost use Rattle.fs_record.specs.declared.extents.FileExt.{FileExt as Extent};
+ghost use Rattle.vol_view.specs.Placed.{view_nodes};
 ghost use Rattle.vol_view.specs.Views.{views_of, IsViewFeature};
 ghost use Rattle.view_rules.specs.Rules.{IsTreeFault};
 ghost use Rattle.tree_rules.specs.Known.{AddExtents, IsKnown, IsKnownBefore, IsCheckedNext, extents_before};
@@ -18,6 +20,7 @@ ghost use Rattle.apfs_check.specs.Volumes as spec;
 ghost use Rattle.apfs_check.specs.declared.views.Passed as declared;
 ghost use Rattle.apfs_check.specs.Again.{are_seen_alike, HaveOneTree, IsPassed};
 ghost use Rattle.apfs_check.specs.Held.{AddsViews};
+ghost use Rattle.apfs_check.specs.Reads.{view_reads};
 ghost use Rattle.apfs_check.specs.DataSteps.{AreShortOrHoles};
 ghost use Rattle.apfs_check.specs.Steps.{IsThere, IsReady};
 
@@ -28,7 +31,7 @@ use blk_source::BlockSource;
 use ext_ref::{Cover, NewRange, thin};
 use fs_record::FileExt;
 use nx_ring::Checkpoint;
-use obj_base::Stop;
+use obj_base::{Site, Stop};
 use omap_map::OmapRecord;
 use std::alloc::{AllocError, Global};
 use tree_rules::{CheckedNext, CheckedView, Profile, ViewTally, check_next, check_with_extents};
@@ -125,6 +128,32 @@ fn remember(passed: &mut Vec<Passed>, one: Option<Passed>) -> Result<(), AllocEr
     Ok(())
 }
 
+// What is told of the one view of a volume without snapshots.
+fn check_alone<S: BlockSource>(
+    alloc: Global,
+    src: &mut S,
+    volume: &Volume,
+    view: &View,
+    ranges: &[NewRange],
+    site: &Site,
+    profile: Profile,
+) -> Result<CheckedNext, Stop<TreeFault>>
+    requires site { IsSiteFor site.now (S.bytes_len src.old) }
+    ensures clear { (image : List ℕ) (before : List (ℕ × Extent)) → S.bytes src.old ≡ Some image → IfOk result (IsCheckedNext profile image site.now volume.now ranges.now view.now before) }
+    ensures present { (image : List ℕ) → S.bytes src.old ≡ Some image → IfErr result (Tells (IsTreeFault profile image site.now volume.now view.now ranges.now) (IsViewFeature image site.now volume.now view.now)) }
+    ensures reads { (image : List ℕ) → S.bytes src.old ≡ Some image → OnOk result (S.reads src.new ≤ S.reads src.old + length (view_nodes image site.now volume.now view.now)) }
+    ensures cause { IsErrOf result ReadFault → Rose (S.faults src.old) (S.faults src.new) }
+    ensures kept { IsKept S.bytes S.bytes_len S.faults src.old src.new }
+{
+    match check_with_extents(alloc, src, volume, view, ranges, site, profile) {
+        Ok(checked) => Ok(CheckedNext {
+            checked,
+            kept: None,
+        }),
+        Err(stop) => Err(stop),
+    }
+}
+
 // What is told of a view: by its difference from one before, if there is more than one view.
 fn check_one<S: BlockSource>(
     alloc: Global,
@@ -141,25 +170,17 @@ fn check_one<S: BlockSource>(
     requires cover { IsCoverOf ranges.now cover.now }
     ensures clear { (image : List ℕ) → S.bytes src.old ≡ Some image → IsKnownBefore profile image (site_of cp.now) volume.now ranges.now before → IfOk result (IsCheckedNext profile image (site_of cp.now) volume.now ranges.now view.now (extents_before before)) }
     ensures present { (image : List ℕ) → S.bytes src.old ≡ Some image → IsKnownBefore profile image (site_of cp.now) volume.now ranges.now before → IfErr result (Tells (IsTreeFault profile image (site_of cp.now) volume.now view.now ranges.now) (IsViewFeature image (site_of cp.now) volume.now view.now)) }
+    ensures reads { (image : List ℕ) → S.bytes src.old ≡ Some image → IsKnownBefore profile image (site_of cp.now) volume.now ranges.now before → OnOk result (S.reads src.new ≤ S.reads src.old + view_reads image (site_of cp.now) volume.now view.now) }
     ensures cause { IsErrOf result ReadFault → Rose (S.faults src.old) (S.faults src.new) }
     ensures kept { IsKept S.bytes S.bytes_len S.faults src.old src.new }
 {
     let site = cp.site();
-    if !volume.snaps.is_empty() {
-        return match check_next(
-            alloc, src, volume, view, before, ranges, cover, &site, profile,
-        ) {
-            Ok(next) => Ok(next),
-            Err(stop) => Err(stop),
-        };
+    if volume.snaps.is_empty() {
+        return check_alone(alloc, src, volume, view, ranges, &site, profile);
     }
-    match check_with_extents(alloc, src, volume, view, ranges, &site, profile) {
-        Ok(checked) => Ok(CheckedNext {
-            checked,
-            kept: None,
-        }),
-        Err(stop) => Err(stop),
-    }
+    check_next(
+        alloc, src, volume, view, before, ranges, cover, &site, profile,
+    )
 }
 
 // Adds what is told of a view that has its rules.
@@ -182,6 +203,7 @@ fn add_view<S: BlockSource>(
     ensures passed { (image : List ℕ) → S.bytes src.old ≡ Some image → IsKnownBefore profile image (site_of cp.now) volume.now ranges.now before → IfOk result (λ added. IfSome added.passed (IsPassed profile image (site_of cp.now) volume.now ranges.now (view.now ∷ []))) }
     ensures known { (image : List ℕ) → S.bytes src.old ≡ Some image → IsKnownBefore profile image (site_of cp.now) volume.now ranges.now before → IfOk result (λ added. IfSome added.kept (IsKnown profile image (site_of cp.now) volume.now ranges.now view.now)) }
     ensures present { (image : List ℕ) → S.bytes src.old ≡ Some image → IsKnownBefore profile image (site_of cp.now) volume.now ranges.now before → IsReady image cp.now volume.now → ranges.now ≡ spec.volume_ranges image (site_of cp.now) volume.now.head → In view.now (views_of volume.now cp.now) → IfErr result (IsThere profile image) }
+    ensures reads { (image : List ℕ) → S.bytes src.old ≡ Some image → IsKnownBefore profile image (site_of cp.now) volume.now ranges.now before → OnOk result (S.reads src.new ≤ S.reads src.old + view_reads image (site_of cp.now) volume.now view.now) }
     ensures cause { IsErrOf result ReadFault → Rose (S.faults src.old) (S.faults src.new) }
     ensures kept { IsKept S.bytes S.bytes_len S.faults src.old src.new }
 {
@@ -299,6 +321,7 @@ pub(crate) fn add_views<S: BlockSource>(
     ensures all { (image : List ℕ) → S.bytes src.old ≡ Some image → IsReady image cp.now volume.now → ranges.now ≡ spec.volume_ranges image (site_of cp.now) volume.now.head → IfOk result (λ extents. HaveSame extents.items (spec.volume_extents image cp.now volume.now.head)) }
     ensures short { IfOk result (λ extents. AreShortExtents (site_of cp.now).block_size extents.items) }
     ensures present { (image : List ℕ) → S.bytes src.old ≡ Some image → IsReady image cp.now volume.now → ranges.now ≡ spec.volume_ranges image (site_of cp.now) volume.now.head → IfErr result (IsThere profile image) }
+    ensures reads { (image : List ℕ) → S.bytes src.old ≡ Some image → OnOk result (S.reads src.new ≤ S.reads src.old + sum (map (view_reads image (site_of cp.now) volume.now) (views_of volume.now cp.now))) }
     ensures cause { IsErrOf result ReadFault → Rose (S.faults src.old) (S.faults src.new) }
     ensures kept { IsKept S.bytes S.bytes_len S.faults src.old src.new }
 {

@@ -1,5 +1,5 @@
 // The volumes of a container, one after another: what is told of each, and nothing else of it is held on.
-ghost use Rattle.std.specs.Prelude.{◌≡◌, ◌∷◌, [], ℕ, List, Some, map, OnOk, IfErr, IsErrOf};
+ghost use Rattle.std.specs.Prelude.{◌≡◌, ◌+◌, ◌≤◌, ◌∷◌, [], ℕ, List, Some, map, sum, OnOk, IfErr, IsErrOf};
 ghost use Rattle.apfs_model.specs.Counts.{Rose};
 ghost use Rattle.apfs_model.specs.Kept.{IsKept};
 ghost use Rattle.obj_base.specs.Site.{IsSiteFor};
@@ -7,6 +7,7 @@ ghost use Rattle.obj_base.specs.declared.stop.Stop.TheVariants.{ReadFault};
 ghost use Rattle.nx_ring.specs.Checkpoint.{site_of};
 ghost use Rattle.reach_sweep.specs.Views.{head_of};
 ghost use Rattle.apfs_check.specs.Held.{AddsVolumes};
+ghost use Rattle.apfs_check.specs.Reads.{volume_reads};
 ghost use Rattle.apfs_check.specs.Steps.{IsThere, IsReady, AreReady};
 
 use crate::Fault;
@@ -33,6 +34,7 @@ fn add_volume<S: BlockSource>(
     requires site { IsSiteFor (site_of cp.now) (S.bytes_len src.old) }
     ensures clear { (image : List ℕ) → S.bytes src.old ≡ Some image → IsReady image cp.now volume.now → OnOk result (AddsVolumes profile image cp.now (volume.now.head ∷ []) out.old out.new) }
     ensures present { (image : List ℕ) → S.bytes src.old ≡ Some image → IsReady image cp.now volume.now → IfErr result (IsThere profile image) }
+    ensures reads { (image : List ℕ) → S.bytes src.old ≡ Some image → OnOk result (S.reads src.new ≤ S.reads src.old + volume_reads image cp.now volume.now) }
     ensures cause { IsErrOf result ReadFault → Rose (S.faults src.old) (S.faults src.new) }
     ensures kept { IsKept S.bytes S.bytes_len S.faults src.old src.new }
 {
@@ -63,6 +65,7 @@ pub(crate) fn add_volumes<S: BlockSource>(
     requires site { IsSiteFor (site_of cp.now) (S.bytes_len src.old) }
     ensures clear { (image : List ℕ) → S.bytes src.old ≡ Some image → AreReady image cp.now volumes.now → OnOk result (AddsVolumes profile image cp.now (map head_of volumes.now) out.old out.new) }
     ensures present { (image : List ℕ) → S.bytes src.old ≡ Some image → AreReady image cp.now volumes.now → IfErr result (IsThere profile image) }
+    ensures reads { (image : List ℕ) → S.bytes src.old ≡ Some image → OnOk result (S.reads src.new ≤ S.reads src.old + sum (map (volume_reads image cp.now) volumes.now)) }
     ensures cause { IsErrOf result ReadFault → Rose (S.faults src.old) (S.faults src.new) }
     ensures kept { IsKept S.bytes S.bytes_len S.faults src.old src.new }
 {

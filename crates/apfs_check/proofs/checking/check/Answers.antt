@@ -1,5 +1,5 @@
-use Rattle.std.proofs.Common.{◌∙◌, ◌-◌, List, ◌++◌, length, map, sym, ap, subst}
-use Rattle.std.specs.Prelude.{min}
+use Rattle.std.proofs.Common.{◌∙◌, ◌+◌, ◌-◌, ◌≤◌, List, ◌++◌, length, map, sym, ap, subst}
+use Rattle.std.specs.Prelude.{min, sum}
 use Rattle.apfs_model.specs.Counts.{given}
 use Rattle.nx_block.specs.Super.{slots}
 use Rattle.nx_ring.specs.Checkpoint.{site_of}
@@ -7,9 +7,12 @@ use Rattle.vol_view.specs.Volumes.{Loaded}
 use Rattle.reach_sweep.specs.Views.{head_of}
 use Rattle.apfs_check.specs.Held.{AddsVolumes}
 use Rattle.apfs_check.specs.Notes.{skipped_notes}
+use Rattle.apfs_check.specs.Reads.{volume_reads, check_reads}
+use Rattle.apfs_check.specs.Report.{Told}
 use Rattle.apfs_check.specs.Steps.{AreReady}
 use Rattle.apfs_check.proofs.Checked.{checked}
 use Rattle.apfs_check.proofs.Law.{check-free}
+use Rattle.apfs_check.proofs.Spent.{check-within}
 use Rattle.apfs_check.proofs.checking.check.Goals as goal
 
 -- where the newest checkpoint isn't found
@@ -93,3 +96,20 @@ returns-in-Ok-report-clause-clear g c image told =
       free = (site_of seen).blocks - tally.owned;
       notes = skipped_notes seen ++ (held.hashes ++ (held.unreached ++ (held.unnamed ++ held.counts)));
     }) c.deref-3.ensures.value)
+
+pub returns-in-Ok-report-clause-reads : goal.returns-in-Ok-report-clause-reads
+returns-in-Ok-report-clause-reads g c image manager other told named has =
+    let reads = g.S.BlockSource.reads in
+    let seen = c.in-Ok.cp in
+    let newest = c.in-Ok.ensures.clear image told in
+    let first = c.newest_checkpoint.ensures.kept.same_bytes ∙ told in
+    let second = c.volumes_of.ensures.kept.same_bytes ∙ first in
+    let are = c.in-Ok-volumes_of.ensures.clear image first newest in
+    let tallied : AreReady image seen c.deref.result.now = subst (AreReady image seen) (sym c.deref.ensures.value) are in
+    let third = c.tally_of.ensures.kept.same_bytes ∙ second in
+    let volumes = c.in-Ok-volumes_of.volumes.items in
+    let tally = c.in-Ok-tally_of.tally in
+    subst (λ n. reads c.add_volumes.new.src ≤ reads c.args.src.now + check_reads image other manager n) (sym (ap (λ (t : Told). t.objects) c.in-Ok-report.ensures))
+    (check-within image manager seen other tally.objects volumes (reads c.args.src.now) (reads c.newest_checkpoint.new.src) (reads c.volumes_of.new.src) (reads c.tally_of.new.src) (reads c.add_volumes.new.src) named has are (c.newest_checkpoint.ensures.reads image told)
+    (c.in-Ok-volumes_of.ensures.reads image first) (λ managed. c.in-Ok-tally_of.ensures.reads image second tallied manager managed)
+    (subst (λ (vs : List Loaded). reads c.add_volumes.new.src ≤ reads c.tally_of.new.src + sum (map (volume_reads image seen) vs)) c.deref-2.ensures.value (c.in-Ok-add_volumes.ensures.reads image third)))

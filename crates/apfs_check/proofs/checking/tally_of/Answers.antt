@@ -17,3 +17,6 @@ returns-in-Err-clause-present g c profile image told are =
     let seen = c.args.cp.now in
     subst (IsThere profile image) (sym (c.stop_of.ensures ∙ ap (λ xid. raised (of_sweep xid) c.in-Err.stop) c.xid.ensures))
     (sweep-stops profile image seen are.newest c.in-Err.stop (c.in-Err.ensures.present image (heads_of image seen) told are.heads are.loaded))
+
+pub returns-in-Ok-clause-reads : goal.returns-in-Ok-clause-reads
+returns-in-Ok-clause-reads g c image told are = c.in-Ok.ensures.reads image (heads_of image c.args.cp.now) told are.heads are.loaded

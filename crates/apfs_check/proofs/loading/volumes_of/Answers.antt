@@ -1,7 +1,8 @@
-use Rattle.std.proofs.Common.{◌∙◌, sym, ap, subst}
+use Rattle.std.proofs.Common.{◌∙◌, sym, ap, subst, arith}
 use Rattle.apfs_model.specs.Lists.{In}
 use Rattle.obj_base.specs.Stops.{raised}
 use Rattle.vol_view.specs.Placed.{IsHead}
+use Rattle.vol_view.specs.ReadBound.{heads_reads}
 use Rattle.vol_view.specs.Stops.{AreHeads}
 use Rattle.apfs_check.specs.Raised.{of_volume}
 use Rattle.apfs_check.specs.Steps.{IsThere}
@@ -21,3 +22,7 @@ pub returns-clause-present : goal.returns-clause-present
 returns-clause-present g c profile image told newest =
     c.in-Err-load_all.ensures.present profile image (c.heads.ensures.kept.same_bytes ∙ told) newest
     (subst (AreHeads image c.args.cp.now) (sym c.deref.ensures.value) (c.in-Ok.ensures.clear image told))
+
+pub returns-in-Ok-load_all-clause-reads : goal.returns-in-Ok-load_all-clause-reads
+returns-in-Ok-load_all-clause-reads g c image told =
+    omega (arith, c.in-Ok.ensures.reads image told, c.in-Ok-load_all.ensures.reads image (c.heads.ensures.kept.same_bytes ∙ told), ap (heads_reads image c.args.cp.now) (c.in-Ok.ensures.clear image told).same)

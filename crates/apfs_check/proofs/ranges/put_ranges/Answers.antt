@@ -1,4 +1,4 @@
-use Rattle.std.proofs.Common.{◌≡◌, ◌∙◌, ◌++◌, sym, ap, subst}
+use Rattle.std.proofs.Common.{◌≡◌, ◌∙◌, ◌+◌, ◌≤◌, ◌++◌, sym, ap, subst}
 use Rattle.obj_base.specs.Stops.{Tells, raised}
 use Rattle.obj_base.specs.declared.site.Site.{Site}
 use Rattle.nx_ring.specs.Checkpoint.{site_of}
@@ -7,6 +7,7 @@ use Rattle.ext_ref.specs.Ranges.{ranges_of}
 use Rattle.ext_ref.specs.Scanned.{ext_steps, IsScanned, IsExtFeature}
 use Rattle.ext_ref.specs.Stops.{IsExtStop}
 use Rattle.apfs_check.specs.Raised.{of_extents}
+use Rattle.apfs_check.specs.Reads.{root_reads}
 use Rattle.apfs_check.specs.Steps.{IsThere}
 use Rattle.apfs_check.proofs.Short.{ranges-short}
 use Rattle.apfs_check.proofs.Stopped.{extents-stops}
@@ -27,3 +28,8 @@ returns-in-Err-clause-present g c profile image head told newest sound at =
     subst (IsThere profile image) (sym (c.stop_of.ensures ∙ ap (λ xid. raised (of_extents xid root) c.in-Err.stop) c.xid.ensures))
     (extents-stops profile image seen newest head sound root at c.in-Err.stop
     (subst (λ (s : Site). Tells (IsExtStop image s root) (IsExtFeature image s root) c.in-Err.stop) c.site-site.ensures (c.in-Err.ensures.present image told)))
+
+pub returns-in_ok-put_all_short-in-Ok-clause-reads : goal.returns-in_ok-put_all_short-in-Ok-clause-reads
+returns-in_ok-put_all_short-in-Ok-clause-reads g c image told =
+    let reads = g.S.BlockSource.reads in
+    subst (λ (s : Site). reads c.new_ranges.new.src ≤ reads c.args.src.now + root_reads image s c.args.root) c.site-site.ensures (c.in-Ok.ensures.reads image told)

@@ -18,3 +18,6 @@ pub returns-in-Err-clause-present : goal.returns-in-Err-clause-present
 returns-in-Err-clause-present g c image told known ready same one =
     subst (IsThere c.args.profile image) (sym c.stop_of.ensures)
     (view-stops-at c.args.profile image c.args.cp.now (site_of c.args.cp.now) c.args.volume.now c.args.ranges.now ready refl same c.args.view.now one c.in-Err.stop (c.in-Err.ensures.present image told known))
+
+pub returns-clause-reads : goal.returns-clause-reads
+returns-clause-reads g c image told known = c.in-Ok.ensures.reads image told known

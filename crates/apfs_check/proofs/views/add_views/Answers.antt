@@ -1,19 +1,22 @@
-use Rattle.std.proofs.Common.{◌≡◌, ◌∙◌, ℕ, List, ◌+◌, ◌<◌, ◌≤◌, ◌∷◌, [], ◌++◌, length, take, inl, refl, sym, ap, subst, arith}
-use Rattle.std.specs.Prelude.{◌^◌, flat_map, Some}
+use Rattle.std.proofs.Common.{◌≡◌, ◌∙◌, ℕ, List, ◌+◌, ◌<◌, ◌≤◌, ◌∷◌, [], ◌++◌, length, map, take, inl, refl, sym, ap, subst, arith}
+use Rattle.std.specs.Prelude.{◌^◌, flat_map, sum, Some}
 use Rattle.std.proofs.lemmas.List.{take_all}
 use Rattle.apfs_model.proofs.Searches.{get-in}
 use Rattle.obj_base.specs.declared.site.Site.{Site}
 use Rattle.nx_ring.specs.Checkpoint.{site_of}
 use Rattle.vol_view.specs.Volumes.{Loaded}
 use Rattle.vol_view.specs.Views.{views_of}
+use Rattle.vol_view.specs.declared.volume.View.{View}
 use Rattle.ext_ref.specs.Left.{AreShortExtents}
 use Rattle.ext_ref.specs.Same.{HaveSame}
 use Rattle.apfs_check.specs.Volumes.{view_extents}
 use Rattle.apfs_check.specs.DataSteps.{AreShortOrHoles}
 use Rattle.apfs_check.specs.Again.{IsPassed, IsKnownOf}
 use Rattle.apfs_check.specs.Held.{AddsViews}
+use Rattle.apfs_check.specs.Reads.{view_reads}
 use Rattle.apfs_check.proofs.Adding.{more-views, again-added}
 use Rattle.apfs_check.proofs.Again.{extents-again}
+use Rattle.apfs_check.proofs.Spent.{sum-more}
 use Rattle.apfs_check.proofs.ViewSteps.{take-one, views-length, extents-kept, passed-one, passed-kept, passed-more, known-one, known-kept, known-before, extents-known, extents-same, extents-next, extents-short, short-same}
 use Rattle.omap_map.proofs.Lists.{all-in}
 use Rattle.tree_rules.specs.Known.{extents_before}
@@ -27,6 +30,7 @@ returns-in-Err-clause-present g c image told ready same =
 
 pub views-preserved : goal.views-preserved
 views-preserved g c =
+    let reads = g.S.BlockSource.reads in
     let seen = c.args.cp.now in
     let site = site_of seen in
     let volume = c.args.volume.now in
@@ -61,6 +65,9 @@ views-preserved g c =
       short = short-same (site_of seen).block_size c.move_short.new.extents.items c.thin_past-limit.new.extents.items c.thin_past-limit.ensures
           (subst (λ (s : Site). AreShortExtents s.block_size c.move_short.new.extents.items) c.site-site.ensures
           (c.in_ok-move_short-in-Ok.ensures.short (subst (λ (s : Site). AreShortExtents s.block_size c.views.extents.items) (sym c.site-site.ensures) had.short)));
+      few = λ image told.
+          sum-more (view_reads image site volume) (take place views) (take (place + 1) views) view (reads c.args.src.now) (reads c.views.src) (reads c.add_view.new.src) (take-one views place view at) (had.few image told)
+          (c.in-Ok.ensures.reads image (had.kept.same_bytes ∙ told) (known-before profile image site volume ranges (take place views) c.take.result (kb image told)));
       kept = record {
         same_bytes = c.add_view.ensures.kept.same_bytes ∙ had.kept.same_bytes;
         same_size = c.add_view.ensures.kept.same_size ∙ had.kept.same_size;
@@ -70,6 +77,7 @@ views-preserved g c =
 
 pub views-preserved-in-Some : goal.views-preserved-in-Some
 views-preserved-in-Some g c =
+    let reads = g.S.BlockSource.reads in
     let seen = c.args.cp.now in
     let site = site_of seen in
     let volume = c.args.volume.now in
@@ -94,6 +102,7 @@ views-preserved-in-Some g c =
       passed = λ image told. passed-kept profile image site volume ranges views place view c.views.passed.items at (had.passed image told);
       known = λ image told. known-kept profile image site volume ranges views place view c.views.known at (had.known image told);
       short = had.short;
+      few = λ image told. sum-more (view_reads image site volume) (take place views) (take (place + 1) views) view (reads c.args.src.now) (reads c.views.src) (reads c.views.src) (take-one views place view at) (had.few image told) (omega arith);
       kept = had.kept;
     }
 
@@ -106,3 +115,12 @@ returns-clause-all g c image told ready same =
     subst (λ es. HaveSame c.views.extents.items es)
     (ap (λ vs. flat_map (view_extents image (site_of seen) volume) vs) (take_all c.views.place views end) ∙ extents-same image seen volume ready)
     (c.views.invariant.all image told ready same)
+
+pub returns-clause-reads : goal.returns-clause-reads
+returns-clause-reads g c image told =
+    let reads = g.S.BlockSource.reads in
+    let seen = c.args.cp.now in
+    let volume = c.args.volume.now in
+    let views = views_of volume seen in
+    let end : length views ≤ c.views.place = omega (arith, views-length volume seen, c.views-test.false, ap (λ (v : Loaded). length v.snaps) c.volume.view_is) in
+    subst (λ (vs : List View). reads c.views.src ≤ reads c.args.src.now + sum (map (view_reads image (site_of seen) volume) vs)) (take_all c.views.place views end) (c.views.invariant.few image told)

@@ -35,3 +35,6 @@ returns-clause-present g c image told ready =
     let ranges_too : c.deref-2.result.now ≡ volume_ranges image (site_of seen) volume.head = c.deref-2.ensures.value ∙ c.in-Ok.ensures.clear image told ready in
     let extents_are : HaveSame c.deref-3.result.now (volume_extents image seen volume.head) = subst (λ es. HaveSame es (volume_extents image seen volume.head)) (sym c.deref-3.ensures.value) (c.in-Ok-add_views.ensures.all image after_ranges ready ranges_are) in
     c.in-Err-add_data.ensures.present image ready ranges_too extents_are
+
+pub returns-in-Ok-add_data-clause-reads : goal.returns-in-Ok-add_data-clause-reads
+returns-in-Ok-add_data-clause-reads g c image told = omega (arith, c.in-Ok.ensures.reads image told, c.in-Ok-add_views.ensures.reads image (c.volume_ranges.ensures.kept.same_bytes ∙ told))
