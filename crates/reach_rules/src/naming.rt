@@ -25,9 +25,9 @@ pub enum LookUp {
     ByBlock,
     /// An ephemeral one stands in the checkpoint's mappings.
     ByMapping,
-    /// A virtual one stands in the container's object map,
+    /// A virtual one of the container stands in the container's object map.
     InContainer,
-    /// or in a volume's, at the transaction of a view.
+    /// A virtual one of a volume stands in the volume's object map, at the transaction of a view.
     InView(ViewAt),
 }
 
