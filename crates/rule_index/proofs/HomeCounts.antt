@@ -113,7 +113,7 @@ pub homes-sorted : (kins : List (ℕ × Kin)) (entries : List (Fact Entry)) (pla
     → HasHomes kins entries (places, pairs) → HasHomes kins entries (places, sorted)
 homes-sorted kins entries places pairs sorted same had = record { long = had.long; placed = had.placed; others = λ test. same test ∙ had.others test }
 
-find-none : {X : Type 0} (p : X → Bool) (xs : List X) → find p xs ≡ None → count_by p xs ≡ 0
+pub find-none : {X : Type 0} (p : X → Bool) (xs : List X) → find p xs ≡ None → count_by p xs ≡ 0
 find-none p [] e = refl
 find-none {X} p (x ∷ xs) e =
     let go : (b : Bool) → cond b (Some x) (find p xs) ≡ None → cond b 1 0 + count_by p xs ≡ 0 =

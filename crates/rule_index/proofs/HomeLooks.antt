@@ -14,8 +14,7 @@ use Rattle.fs_record.specs.Facts.{Fact, is_reserved, private_id}
 use Rattle.view_rules.specs.Facts.{Facts, names_file, entry_count, entry_count_in}
 use Rattle.view_rules.specs.Counts.{is_system_name}
 use Rattle.rule_index.specs.Homes.{is_named}
-use Rattle.rule_index.specs.Ids.{count_in, CountsIds, system_file}
-use Rattle.rule_index.proofs.Counting.{any-counted, system_counts}
+use Rattle.rule_index.proofs.Counting.{any-counted}
 
 -- the order of pairs of a file and a directory
 abbrev pub home_cmp : ℕ × ℕ → ℕ × ℕ → Ordering
@@ -87,22 +86,19 @@ counted-or-not false false true = refl
 counted-or-not false false false = refl
 
 -- an entry of a file counts, or stands in the private directory or one of a reserved id
-named_anywhere : (facts : Facts) (system : List ℕ) (q : ℕ) → CountsIds system_file facts.entries system
-    → (nat_lt 0 (entry_count facts q) || nat_lt 0 (count_in system q)) ≡ list_any (is_named q) facts.entries
-named_anywhere facts system q counts =
-    (λ i. any-counted (names_file q) facts.entries i || system_counts facts system q counts i)
-    ∙ any-either (names_file q) (is_system_name q) (is_named q) (λ e. counted-or-not (is_reserved e.id) (e.id == private_id) (e.what.file_id == q)) facts.entries
+pub named_either : (facts : Facts) (q : ℕ) → (list_any (names_file q) facts.entries || list_any (is_system_name q) facts.entries) ≡ list_any (is_named q) facts.entries
+named_either facts q = any-either (names_file q) (is_system_name q) (is_named q) (λ e. counted-or-not (is_reserved e.id) (e.id == private_id) (e.what.file_id == q)) facts.entries
 
 -- by how many entries it has among those that count
-pub named_counted : (facts : Facts) (system : List ℕ) (q n : ℕ) → CountsIds system_file facts.entries system
-    → n ≡ entry_count facts q → 0 < n → nat_lt 0 n ≡ list_any (is_named q) facts.entries
-named_counted facts system q n counts is above =
+pub named_counted : (facts : Facts) (q n : ℕ) → n ≡ entry_count facts q → 0 < n → nat_lt 0 n ≡ list_any (is_named q) facts.entries
+named_counted facts q n is above =
     let some : nat_lt 0 n ≡ true = from-below 0 n above in
-    some ∙ (sym (ap (λ b. b || nat_lt 0 (count_in system q)) (ap (nat_lt 0) (sym is) ∙ some)) ∙ named_anywhere facts system q counts)
+    let any : list_any (names_file q) facts.entries ≡ true = sym (any-counted (names_file q) facts.entries) ∙ (ap (nat_lt 0) (sym is) ∙ some) in
+    some ∙ (sym (ap (λ b. b || list_any (is_system_name q) facts.entries) any) ∙ named_either facts q)
 
 -- and by whether it has others
-pub named_else : (facts : Facts) (system : List ℕ) (q n : ℕ) (r : Bool) → CountsIds system_file facts.entries system
-    → n ≡ entry_count facts q → n ≤ 0 → r ≡ nat_lt 0 (count_in system q) → r ≡ list_any (is_named q) facts.entries
-named_else facts system q n r counts is low has =
+pub named_else : (facts : Facts) (q n : ℕ) (r : Bool) → n ≡ entry_count facts q → n ≤ 0 → r ≡ list_any (is_system_name q) facts.entries → r ≡ list_any (is_named q) facts.entries
+named_else facts q n r is low has =
     let none : nat_lt 0 n ≡ false = never-true (nat_lt 0 n) (λ h. let above = below-from 0 n h in omega arith) in
-    has ∙ (sym (ap (λ b. b || nat_lt 0 (count_in system q)) (ap (nat_lt 0) (sym is) ∙ none)) ∙ named_anywhere facts system q counts)
+    let any : list_any (names_file q) facts.entries ≡ false = sym (any-counted (names_file q) facts.entries) ∙ (ap (nat_lt 0) (sym is) ∙ none) in
+    has ∙ (sym (ap (λ b. b || list_any (is_system_name q) facts.entries) any) ∙ named_either facts q)

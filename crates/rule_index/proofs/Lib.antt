@@ -5,3 +5,6 @@ pub mod CountingKeys
 pub mod Wholes
 pub mod HomeCounts
 pub mod Together
+pub mod Runs
+pub mod Listed
+pub mod Chains

@@ -23,6 +23,10 @@ CountsIds id items ids = (q : ℕ) → count_in ids q ≡ count_by (has_id id q)
 abbrev pub system_file : Fact Entry → Option ℕ
 system_file e = if is_system_id e.id then Some e.what.file_id else None
 
--- the file of an attribute that is the target of a symbolic link
+-- an attribute is the target of a symbolic link
+abbrev pub is_target : Fact Attribute → Bool
+is_target a = bytes_eq a.what.name target_name && holds_target a.what.body
+
+-- the file of such an attribute
 abbrev pub target_file : Fact Attribute → Option ℕ
-target_file a = if bytes_eq a.what.name target_name && holds_target a.what.body then Some a.id else None
+target_file a = if is_target a then Some a.id else None

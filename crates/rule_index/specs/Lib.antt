@@ -5,3 +5,6 @@ pub mod Lost
 pub mod Keys
 pub mod Digests
 pub mod Twins
+pub mod Order
+pub mod Namings
+pub mod Looks

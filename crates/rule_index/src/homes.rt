@@ -60,8 +60,8 @@ fn count_at(places: &mut [Home], at: usize, directory: u64)
     places[at] = Home { entries, directory };
 }
 
-// The file and the directory of an entry.
-fn pair_of(e: &EntryFact) -> (u64, u64)
+/// The file and the directory of an entry.
+pub(crate) fn pair_of(e: &EntryFact) -> (u64, u64)
     ensures { result ≡ pair_of e.now }
 {
     (e.file_id(), e.id())

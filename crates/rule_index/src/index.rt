@@ -1,36 +1,22 @@
 // What the rules look up in the facts of a view.
-ghost use Rattle.std.specs.Prelude.{◌≡◌, IfOk, not};
+ghost use Rattle.std.specs.Prelude.{◌≡◌, IfOk, IfSome, not};
 ghost use Rattle.std.specs.List.{list_any};
-ghost use Rattle.rule_index.specs.Kins.{HasKins};
-ghost use Rattle.rule_index.specs.Homes.{HasHomes, is_astray};
-ghost use Rattle.rule_index.specs.Ids.{CountsIds, system_file, target_file};
+ghost use Rattle.rule_index.specs.Looks.{looked_at};
+ghost use Rattle.rule_index.specs.Order.{AreInOrder};
 
-use crate::counts::Counts;
-use crate::homes::Homes;
-use crate::ids::{ByDirectory, BySystemFile, ByTarget, tally};
-use crate::kin::Kins;
+use crate::counted::Counted;
+use crate::looks::Looks;
+use crate::near::Near;
 use blk_source::NoMemory;
-use id_lists::IdSlice;
 use std::alloc::Global;
-use view_facts::{EntryFact, Facts};
+use view_facts::Facts;
 
 /// The facts of a view, with what is looked up in them by an id.
 #[derive(Drop)]
 pub struct Index<'a> {
     pub facts: &'a Facts,
-    kins: Kins<'a>,
-    homes: Homes,
-    // Whether each entry that counts has its directory, and its file with its kind.
-    whole: bool,
-    directories: IdSlice<'a, EntryFact, ByDirectory>,
-    system: Counts,
-    targets: Counts,
-    ghost kins_right: { HasKins facts.now.inodes kins },
-    ghost homes_right: { HasHomes kins facts.now.entries homes },
-    ghost whole_right: { whole ≡ not (list_any (is_astray kins) facts.now.entries) },
-    ghost directories_right: { directories ≡ facts.now.entries },
-    ghost system_right: { CountsIds system_file facts.now.entries system },
-    ghost targets_right: { CountsIds target_file facts.now.attributes targets },
+    looks: Looks<'a>,
+    ghost looks_right: { looked_at looks ≡ facts.now },
 }
 
 impl<'a> Index<'a> {
@@ -46,36 +32,71 @@ impl<'a> Index<'a> {
     pub fn new(alloc: Global, facts: &'a Facts) -> Result<Index<'a>, NoMemory>
         ensures { IfOk result (λ index. index.facts.now ≡ facts.now) }
     {
-        let kins = Kins::of(alloc, &facts.inodes)?;
-        let counted = Homes::of(alloc, &facts.entries, &kins)?;
-        let directories = IdSlice::without_guesses(alloc, &facts.entries);
-        let system = tally::<_, BySystemFile>(alloc, &facts.entries)?;
-        let targets = tally::<_, ByTarget>(alloc, &facts.attributes)?;
+        let counted = Counted::new(alloc, facts)?;
         Ok(Index {
             facts,
-            kins,
-            homes: counted.0,
-            whole: counted.1,
-            directories,
-            system,
-            targets,
+            looks: Looks::Counted(counted),
         })
+    }
+
+    /// Looks up in facts in order, after a change, by what is gone and what has come. All that is told is right of each id, and told soon of those of which these speak.
+    ///
+    /// # Errors
+    ///
+    /// `NoMemory`: an allocation failed.
+    pub fn after(
+        alloc: Global,
+        facts: &'a Facts,
+        gone: &Facts,
+        come: &Facts,
+    ) -> Result<Index<'a>, NoMemory>
+        requires { AreInOrder facts.now }
+        ensures { IfOk result (λ index. index.facts.now ≡ facts.now) }
+    {
+        let near = Near::of(alloc, facts, gone, come)?;
+        Ok(Index {
+            facts,
+            looks: Looks::Near(near),
+        })
+    }
+
+    /// The facts in order, where they are looked up so.
+    pub fn as_near(&self) -> Option<&Near<'a>>
+        ensures { IfSome result (λ near. near.now.facts.now ≡ self.now.facts.now) }
+    {
+        match &self.looks {
+            Looks::Counted(_) => None,
+            Looks::Near(near) => Some(near),
+        }
+    }
+
+    // The facts with what is counted of all of them, where it is.
+    fn as_counted(&self) -> Option<&Counted<'a>>
+        ensures { IfSome result (λ counted. counted.now.facts.now ≡ self.now.facts.now) }
+    {
+        match &self.looks {
+            Looks::Counted(counted) => Some(counted),
+            Looks::Near(_) => None,
+        }
     }
 
     /// Whether an id has an inode.
     pub fn has_inode(&self, id: u64) -> bool
         ensures { result ≡ spec.has_inode self.now.facts.now id }
     {
-        self.kins.get(id).is_some()
+        match &self.looks {
+            Looks::Counted(counted) => counted.has_inode(id),
+            Looks::Near(near) => near.has_inode(id),
+        }
     }
 
     /// Whether an id has an inode that is a directory.
     pub fn has_directory(&self, id: u64) -> bool
         ensures { result ≡ spec.has_directory self.now.facts.now id }
     {
-        match self.kins.get(id) {
-            Some(kin) => kin.kind == 4,
-            None => false,
+        match &self.looks {
+            Looks::Counted(counted) => counted.has_directory(id),
+            Looks::Near(near) => near.has_directory(id),
         }
     }
 
@@ -83,9 +104,9 @@ impl<'a> Index<'a> {
     pub fn kind(&self, id: u64) -> Option<u16>
         ensures { result ≡ option_map inode_kind (spec.inode_at self.now.facts.now id) }
     {
-        match self.kins.get(id) {
-            Some(kin) => Some(kin.kind),
-            None => None,
+        match &self.looks {
+            Looks::Counted(counted) => counted.kind(id),
+            Looks::Near(near) => near.kind(id),
         }
     }
 
@@ -93,57 +114,76 @@ impl<'a> Index<'a> {
     pub fn has_whole_entries(&self) -> bool
         ensures { result ≡ not (list_any (is_lost self.now.facts.now) self.now.facts.now.entries) }
     {
-        self.whole
+        match &self.looks {
+            Looks::Counted(counted) => counted.has_whole_entries(),
+            Looks::Near(near) => near.has_whole_entries(),
+        }
     }
 
     /// Whether it shows at once that no file has two entries: each that has one has an inode.
     pub fn has_single_entries(&self) -> bool
         ensures { result ≡ true → (id : ℕ) → spec.entry_count self.now.facts.now id ≤ 1 }
     {
-        self.homes.are_single()
+        match self.as_counted() {
+            Some(counted) => counted.has_single_entries(),
+            None => false,
+        }
     }
 
     /// How many entries a file has.
     pub fn entry_count(&self, id: u64) -> u64
         ensures { result ≡ spec.entry_count self.now.facts.now id }
     {
-        self.homes.count(&self.kins, id)
+        match &self.looks {
+            Looks::Counted(counted) => counted.entry_count(id),
+            Looks::Near(near) => near.entry_count(id),
+        }
     }
 
     /// Whether an entry names a file, be it one that counts or not.
     pub fn is_named(&self, id: u64) -> bool
         ensures { result ≡ list_any (is_named id) self.now.facts.now.entries }
     {
-        self.entry_count(id) > 0 || self.system.has(id)
+        self.entry_count(id) > 0 || self.has_system_name(id)
     }
 
     /// How many entries a directory has.
     pub fn child_count(&self, id: u64) -> u64
         ensures { result ≡ spec.child_count self.now.facts.now id }
     {
-        self.directories.count(id) as u64
+        match &self.looks {
+            Looks::Counted(counted) => counted.child_count(id),
+            Looks::Near(near) => near.child_count(id),
+        }
     }
 
     /// Whether an entry of the private directory or of a reserved id names a file.
-    #[tactic(auto, using(crate::proofs::Counting::system_counts))]
     pub fn has_system_name(&self, id: u64) -> bool
         ensures { result ≡ list_any (is_system_name id) self.now.facts.now.entries }
     {
-        self.system.has(id)
+        match &self.looks {
+            Looks::Counted(counted) => counted.has_system_name(id),
+            Looks::Near(near) => near.has_system_name(id),
+        }
     }
 
     /// Whether an attribute gives the target of a file.
-    #[tactic(auto, using(crate::proofs::Counting::target_counts))]
     pub fn has_target(&self, id: u64) -> bool
         ensures { result ≡ list_any (gives_target id) self.now.facts.now.attributes }
     {
-        self.targets.has(id)
+        match &self.looks {
+            Looks::Counted(counted) => counted.has_target(id),
+            Looks::Near(near) => near.has_target(id),
+        }
     }
 
     /// The directory of a file's only entry among those that count, where it has exactly one.
     pub fn only_home(&self, id: u64) -> Option<u64>
         ensures { IsOnlyHome self.now.facts.now.entries id result }
     {
-        self.homes.only(&self.kins, id)
+        match &self.looks {
+            Looks::Counted(counted) => counted.only_home(id),
+            Looks::Near(near) => near.only_home(id),
+        }
     }
 }

@@ -9,7 +9,7 @@ use Rattle.view_rules.specs.Facts.{Facts}
 use Rattle.rule_index.specs.Kins.{HasKins}
 use Rattle.rule_index.specs.Homes.{HasHomes, is_astray}
 use Rattle.rule_index.specs.Ids.{CountsIds, system_file, target_file}
-use Rattle.rule_index.proofs.index.Index.new.Goals as goal
+use Rattle.rule_index.proofs.counted.Counted.new.Goals as goal
 
 pub invariant_of-result-clause-kins_right : goal.invariant_of-result-clause-kins_right
 invariant_of-result-clause-kins_right c = subst (λ (inodes : List (Fact Inode)). HasKins inodes c.in_ok-kins.kins) (c.deref.ensures.value ∙ ap (λ (f : Facts). f.inodes) c.facts.view_is) c.in_ok-kins.ensures
