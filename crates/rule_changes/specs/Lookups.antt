@@ -1,17 +1,12 @@
 -- What is looked up by an id.
-use Rattle.std.specs.Prelude.{ℕ, ◌+◌, ◌*◌, ◌%◌, ◌^◌, Bool, ◌==◌}
+use Rattle.std.specs.Prelude.{ℕ, Bool, ◌==◌}
 use Rattle.std.specs.List.{find}
 use Rattle.apfs_model.specs.Lists.{passes}
 use Rattle.fs_record.specs.Inodes.{Inode}
-use Rattle.fs_record.specs.Entries.{Entry}
 use Rattle.fs_record.specs.Siblings.{Link}
 use Rattle.fs_record.specs.Facts.{Fact}
 use Rattle.view_rules.specs.Facts.{Facts}
 use Rattle.rule_changes.specs.Changes.{is_of}
-
--- the directory of an entry and its hash as one number of 64 bits
-abbrev pub hash_rank : Fact Entry → ℕ
-hash_rank e = (e.id * 2 ^ 22 % 2 ^ 64 + e.what.hash) % 2 ^ 64
 
 -- the inode of an id breaks a rule
 abbrev pub breaks_at : (Fact Inode → Bool) → Facts → ℕ → Bool

@@ -18,9 +18,6 @@ use rule_breaks::inodes::{has_large_body, has_large_stream};
 use rule_breaks::order::is_even;
 use view_facts::{ExtentFact, Facts};
 
-/// How many extents of a stream are looked at for each that is gone or has come. Where there are more, no answer is given.
-const MOST_EXTENTS: usize = 1 << 12;
-
 // Whether an extent is even and doesn't begin before a place.
 #[tactic(auto, unfolding(fs_record::specs::StreamExtents::is_extent_even))]
 fn is_next(block_size: u32, end: u64, extent: FileExt) -> bool
@@ -32,12 +29,12 @@ fn is_next(block_size: u32, end: u64, extent: FileExt) -> bool
     end <= extent.logical && is_even(block_size, extent)
 }
 
-// Whether extents are few, and each is even and begins where the one before it ends, or later.
-fn are_in_order(block_size: u32, run: &[ExtentFact]) -> bool
+// Whether extents are at most so many, and each is even and begins where the one before it ends, or later.
+fn are_in_order(most: usize, block_size: u32, run: &[ExtentFact]) -> bool
     requires { 0 < block_size }
     ensures { IsTrue result → are_extents_ordered block_size (map (λ (f : Fact declared.FileExt). f.what) run.now) ≡ true }
 {
-    if run.len() > MOST_EXTENTS {
+    if run.len() > most {
         return false;
     }
     let mut end = 0;
@@ -56,7 +53,7 @@ fn is_stream_ordered(after: &After<'_>, block_size: u32, id: u64) -> bool
     requires { 0 < block_size }
     ensures { IsTrue result → are_extents_ordered block_size (all_for id after.now.index.now.facts.now.extents) ≡ true }
 {
-    are_in_order(block_size, after.extents_of(id))
+    are_in_order(after.most(), block_size, after.extents_of(id))
 }
 
 // Whether it shows that the streams of some extents are in order.

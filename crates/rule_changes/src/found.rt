@@ -15,15 +15,12 @@ use rule_index::ids::is_system_id;
 use rule_index::twins::go_together;
 use view_facts::{EntryFact, LinkFact, SiblingFact};
 
-/// How many links of a file, or entries of a directory, are looked through. Where there are more, no answer is given.
-const MOST_FELLOWS: usize = 1 << 12;
-
 /// The links of a file, where they are few.
 pub(crate) fn few_links<'a>(after: &After<'a>, file: u64) -> Option<&'a [LinkFact]>
     ensures { IfSome result (λ links. links.now ≡ filter (is_file_link file) after.now.index.now.facts.now.links) }
 {
     let links = after.links_of(file);
-    if links.len() > MOST_FELLOWS {
+    if links.len() > after.most() {
         return None;
     }
     Some(links)
@@ -34,7 +31,7 @@ fn few_entries<'a>(after: &After<'a>, directory: u64) -> Option<&'a [EntryFact]>
     ensures { IfSome result (λ entries. entries.now ≡ filter (is_of directory) after.now.index.now.facts.now.entries) }
 {
     let entries = after.entries_of(directory);
-    if entries.len() > MOST_FELLOWS {
+    if entries.len() > after.most() {
         return None;
     }
     Some(entries)

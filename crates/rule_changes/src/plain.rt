@@ -117,7 +117,7 @@ pub fn is_plain(
     if !hashed {
         return Ok(false);
     }
-    let Some(after) = After::of(index) else {
+    let Some(after) = After::of(index, gone, come) else {
         return Ok(false);
     };
     if !are_entries_right(index, come) {
@@ -154,7 +154,7 @@ pub fn is_silent(
     if !hashed {
         return Ok(false);
     }
-    let Some(after) = After::of(index) else {
+    let Some(after) = After::of(index, gone, come) else {
         return Ok(false);
     };
     Ok(do_renamed_keep::<Named>(&after, gone, come))

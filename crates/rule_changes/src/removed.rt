@@ -4,7 +4,8 @@ ghost use Rattle.view_rules.specs.Facts.{is_directory, entry_count, child_count}
 ghost use Rattle.rule_changes.specs.Changes as spec;
 ghost use Rattle.rule_changes.specs.Parts.{IsLetGo};
 
-use crate::lookups::{After, ByInode, Ordered};
+use crate::lookups::After;
+use rule_index::ordered::{ByInode, Ordered};
 use view_facts::{Facts, InodeFact};
 
 // Whether an inode has come of the same id and the same kind.

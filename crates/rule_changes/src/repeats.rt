@@ -9,9 +9,6 @@ ghost use Rattle.rule_changes.specs.Parts.{IsAlone};
 use crate::lookups::After;
 use view_facts::{AttributeFact, EntryFact, Facts};
 
-/// How many names are compared with one that has come. Where there are more, no answer is given.
-const MOST_NAMES: usize = 1 << 10;
-
 // How many entries have the directory and the name of one.
 fn count_alike(entries: &[EntryFact], e: &EntryFact) -> usize
     ensures { result ≡ count_by (spec.is_entry_at e.now.id e.now.what.name) entries.now }
@@ -43,18 +40,18 @@ fn rivals<'a>(after: &After<'a>, e: &EntryFact) -> &'a [EntryFact]
     }
 }
 
-// Whether few entries have the directory and the name of one, one at most.
-fn is_once(entries: &[EntryFact], e: &EntryFact) -> bool
+// Whether entries are at most so many, and one of them at most has the directory and the name of one.
+fn is_once(most: usize, entries: &[EntryFact], e: &EntryFact) -> bool
     ensures { IsTrue result → count_by (spec.is_entry_at e.now.id e.now.what.name) entries.now ≤ 1 }
 {
-    entries.len() <= MOST_NAMES && count_alike(entries, e) <= 1
+    entries.len() <= most && count_alike(entries, e) <= 1
 }
 
 // Whether it shows that an entry's name isn't there again in its directory.
 fn is_entry_alone(after: &After<'_>, e: &EntryFact) -> bool
     ensures { IsTrue result → IsAlone after.now.index.now.facts.now e.now }
 {
-    is_once(rivals(after, e), e)
+    is_once(after.most(), rivals(after, e), e)
 }
 
 /// Whether it shows that no name of an entry that has come is there again in its directory.
@@ -74,18 +71,18 @@ fn count_attributes_alike(attributes: &[AttributeFact], a: &AttributeFact) -> us
         .count()
 }
 
-// Whether few attributes have the file and the name of one, one at most.
-fn is_attribute_once(attributes: &[AttributeFact], a: &AttributeFact) -> bool
+// Whether attributes are at most so many, and one of them at most has the file and the name of one.
+fn is_attribute_once(most: usize, attributes: &[AttributeFact], a: &AttributeFact) -> bool
     ensures { IsTrue result → count_by (spec.is_attribute_at a.now.id a.now.what.name) attributes.now ≤ 1 }
 {
-    attributes.len() <= MOST_NAMES && count_attributes_alike(attributes, a) <= 1
+    attributes.len() <= most && count_attributes_alike(attributes, a) <= 1
 }
 
 // Whether it shows that an attribute's name isn't there again among those of its file.
 fn is_attribute_alone(after: &After<'_>, a: &AttributeFact) -> bool
     ensures { IsTrue result → spec.is_attribute_repeated after.now.index.now.facts.now a.now ≡ false }
 {
-    is_attribute_once(after.attributes_of(a.id()), a)
+    is_attribute_once(after.most(), after.attributes_of(a.id()), a)
 }
 
 /// Whether it shows that no name of an attribute that has come is there again among those of its file.

@@ -4,19 +4,17 @@ ghost use Rattle.view_rules.specs.Directories as rules;
 ghost use Rattle.rule_changes.specs.Changes as spec;
 ghost use Rattle.rule_changes.specs.Parts.{HasWay};
 
-use crate::lookups::{After, ByInode, Ordered};
+use crate::lookups::After;
 use rule_breaks::directories::is_user_directory;
+use rule_index::ordered::{ByInode, Ordered};
 use view_facts::{Facts, InodeFact};
-
-/// How many parents are followed from a directory. Where the way is longer, no answer is given.
-const MOST_STEPS: u32 = 1 << 10;
 
 // Whether it shows that parents lead from an id to one below 16.
 fn leads(after: &After<'_>, start: u64) -> bool
     ensures { IsTrue result → rules.Leads (rules.parent_at after.now.index.now.facts.now) start }
 {
     let mut id = start;
-    'climb: for _ in 0..MOST_STEPS {
+    'climb: for _ in 0..after.most() {
         if id < 16 {
             return true;
         }
