@@ -31,7 +31,7 @@ use Rattle.view_facts.specs.Kept.{IsGatheredView, IsWalkedView}
 use Rattle.view_facts.proofs.Walks.{walked-hashed}
 use Rattle.view_change.specs.declared.leaf.Leaf.{Leaf}
 use Rattle.view_change.specs.declared.kept.KeptLeaf.{KeptLeaf}
-use Rattle.view_change.specs.declared.kept.KeptView.{KeptView}
+use Rattle.view_change.specs.declared.kept_view.KeptView.{KeptView}
 use Rattle.view_change.specs.declared.changing.Changed.{Changed}
 use Rattle.view_change.specs.Leaves.{records_of, records_in}
 use Rattle.view_change.specs.Kept.{leaf_of, facts_of, facts_said, AreReadable, IsKeptLeaf, IsKeptView}
@@ -65,12 +65,12 @@ kept-view image site volume view before changed holds hashed named taken d =
     let after : IsKeptView fs_shape site image volume.names taken.leaves changed.after = subst (λ (n : Names). IsKeptView fs_shape site image n taken.leaves changed.after) names d.after in
     let facts : facts_of changed.after ≡ facts_said volume.names (flat_of tree root) =
     after.kept.said ∙ (ap (λ (ls : List Leaf). facts_said volume.names (records_in fs_shape site image ls)) after.listed ∙ ap (λ (ps : List Pair). facts_said volume.names ps) (sym taken.flat)) in
-    let pairs : records_in fs_shape site image (map leaf_of changed.after.leaves.items) ≡ leaf_pairs (line_of tree root) =
+    let pairs : records_in fs_shape site image (map leaf_of changed.after.held.leaves.items) ≡ leaf_pairs (line_of tree root) =
     ap (λ (ls : List Leaf). records_in fs_shape site image ls) after.listed ∙ (sym taken.flat ∙ sym (line-pairs tree root)) in
     let readable : HasRecords volume.names (line_of tree root) =
-    line-readable volume.names (line_of tree root) (subst (AreReadable volume.names) pairs (leaves-readable fs_shape site image volume.names changed.after.leaves.items after.kept.each)) in
-    let walked : IsWalkedView false image site volume view (record { facts = facts_of changed.after; records = changed.after.records; refusal = None }) =
-    walked-hashed false image site volume view (record { facts = facts_of changed.after; records = changed.after.records; refusal = None }) hashed (record {
+    line-readable volume.names (line_of tree root) (subst (AreReadable volume.names) pairs (leaves-readable fs_shape site image volume.names changed.after.held.leaves.items after.kept.each)) in
+    let walked : IsWalkedView false image site volume view (record { facts = facts_of changed.after; records = changed.after.held.records; refusal = None }) =
+    walked-hashed false image site volume view (record { facts = facts_of changed.after; records = changed.after.held.records; refusal = None }) hashed (record {
       whole = taken.whole;
       facts = facts;
       records = after.records ∙ ap (λ (ps : List Pair). given (length ps)) (sym taken.flat);

@@ -14,7 +14,7 @@ use Rattle.view_rules.specs.Facts.{Facts}
 use Rattle.view_facts.specs.Contents.{brief}
 use Rattle.view_facts.specs.Adding.{facts_with}
 use Rattle.view_facts.proofs.Adds.{facts-more}
-use Rattle.view_change.specs.Numbers.{numbers_of, numbers_since, no_facts_under, joined, first_facts, rest_facts}
+use Rattle.view_change.specs.Numbers.{numbers_of, numbers_since, no_facts_under, joined, behind, first_facts, rest_facts}
 use Rattle.view_change.specs.Kept.{facts_said, AreReadable}
 use Rattle.view_change.proofs.Weaving.{more-stay, more-differ}
 
@@ -86,6 +86,30 @@ joined-none a names = λ i. record {
   links = append-nil a.links i;
   siblings = append-nil a.siblings i;
   extents = append-nil a.extents i;
+}
+
+-- facts behind others, joined to more
+pub behind-joined : (others a b : Facts) → behind others (joined a b) ≡ joined (behind others a) b
+behind-joined others a b = λ i. record {
+  names = a.names;
+  inodes = sym (append_assoc others.inodes a.inodes b.inodes) i;
+  entries = sym (append_assoc others.entries a.entries b.entries) i;
+  attributes = sym (append_assoc others.attributes a.attributes b.attributes) i;
+  links = sym (append_assoc others.links a.links b.links) i;
+  siblings = sym (append_assoc others.siblings a.siblings b.siblings) i;
+  extents = sym (append_assoc others.extents a.extents b.extents) i;
+}
+
+-- no facts behind others
+pub behind-none : (others a b : Facts) → behind (joined (joined others a) b) (no_facts_under a.names) ≡ joined (behind others a) b
+behind-none others a b = λ i. record {
+  names = a.names;
+  inodes = append-nil ((others.inodes ++ a.inodes) ++ b.inodes) i;
+  entries = append-nil ((others.entries ++ a.entries) ++ b.entries) i;
+  attributes = append-nil ((others.attributes ++ a.attributes) ++ b.attributes) i;
+  links = append-nil ((others.links ++ a.links) ++ b.links) i;
+  siblings = append-nil ((others.siblings ++ a.siblings) ++ b.siblings) i;
+  extents = append-nil ((others.extents ++ a.extents) ++ b.extents) i;
 }
 
 -- what some records say, and others after them

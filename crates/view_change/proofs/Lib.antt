@@ -1,4 +1,5 @@
 mod Weaving
+mod Rings
 mod Outlines
 mod Passes
 mod Joined

@@ -20,14 +20,16 @@ use Rattle.view_change.specs.declared.leaf.Leaf.{Leaf}
 use Rattle.view_change.specs.declared.leaf_taker.Ends.{Ends}
 use Rattle.view_change.specs.declared.kept.Numbers.{Numbers}
 use Rattle.view_change.specs.declared.kept.KeptLeaf.{KeptLeaf}
-use Rattle.view_change.specs.declared.kept.KeptView.{KeptView}
+use Rattle.view_change.specs.declared.kept.Held.{Held}
+use Rattle.view_change.specs.declared.kept_view.KeptView.{KeptView}
 use Rattle.view_change.specs.declared.changing.Change.{Change}
 use Rattle.view_change.specs.Leaves.{records_of, records_in}
 use Rattle.view_change.specs.Ends.{leaf_item, leaf_items, HasEnds}
-use Rattle.view_change.specs.Numbers.{numbers_of, numbers_since, no_facts_under, joined, first_facts, rest_facts}
-use Rattle.view_change.specs.Kept.{leaf_of, facts_said, AreReadable, IsKeptLeaf, AreKept, IsKeptView}
-use Rattle.view_change.specs.Changing.{IsFollowed, IsUnderway, IsDifference}
-use Rattle.view_change.proofs.Joined.{joined-assoc, first-joined, rest-joined, since-joined, joined-none, said-append, said-none, joined-stay, joined-differ, none-woven}
+use Rattle.view_change.specs.Numbers.{numbers_of, numbers_since, no_facts_under, joined, behind, first_facts, rest_facts}
+use Rattle.view_change.specs.Kept.{leaf_of, facts_said, AreReadable, IsKeptLeaf, AreKept, IsHeld, IsKeptView}
+use Rattle.view_change.specs.declared.changing.Changing.{Changing}
+use Rattle.view_change.specs.Changing.{IsFollowed, IsUnderway, IsDifference, HasChangedTo, facts_before, held_after}
+use Rattle.view_change.proofs.Joined.{joined-assoc, first-joined, rest-joined, since-joined, joined-none, behind-joined, said-append, said-none, joined-stay, joined-differ, none-woven}
 
 module _ {K : Type 0} (shape : Shape K) (site : Site) (image : List ℕ) where
   -- what is kept of the facts that the records of a leaf say
@@ -68,7 +70,7 @@ module _ {K : Type 0} (shape : Shape K) (site : Site) (image : List ℕ) where
       ∙ ap (joined (joined passed (said names kept))) (sym (kept-rest names kept more facts all))))
 
   -- a leaf of the view before is passed over, and its facts are gone
-  pub passes-over : (before : Facts) (leaves : List Leaf) (kept : KeptLeaf) (more : List KeptLeaf) (left rest : Facts) (after : KeptView) (follows : Bool) (gone less come : Facts)
+  pub passes-over : (before : Facts) (leaves : List Leaf) (kept : KeptLeaf) (more : List KeptLeaf) (left rest : Facts) (after : Held) (follows : Bool) (gone less come : Facts)
       → rest ≡ rest_facts kept.numbers left → less ≡ joined gone (first_facts kept.numbers left)
       → IsUnderway shape site image before leaves (kept ∷ more) left after follows gone come → IsUnderway shape site image before leaves more rest after follows less come
   passes-over before leaves kept more left rest after follows gone less come on lost so =
@@ -104,8 +106,8 @@ module _ {K : Type 0} (shape : Shape K) (site : Site) (image : List ℕ) where
   records-more leaves leaf = flat_map-append (records_of shape site image) leaves (leaf ∷ []) ∙ ap (λ ps. records_in shape site image leaves ++ ps) (append-nil (records_of shape site image leaf))
 
   -- one more leaf is kept
-  view-more : (names : Names) (leaves : List Leaf) (view new : KeptView) (kept : KeptLeaf) → IsKeptLeaf shape site image names kept → new.leaves.items ≡ view.leaves.items ++ kept ∷ [] → new.facts ≡ joined view.facts (said names kept)
-      → new.records ≡ given (view.records + kept.ends.count) → IsKeptView shape site image names leaves view → IsKeptView shape site image names (leaves ++ kept.leaf ∷ []) new
+  view-more : (names : Names) (leaves : List Leaf) (view new : Held) (kept : KeptLeaf) → IsKeptLeaf shape site image names kept → new.leaves.items ≡ view.leaves.items ++ kept ∷ [] → new.facts ≡ joined view.facts (said names kept)
+      → new.records ≡ given (view.records + kept.ends.count) → IsHeld shape site image names leaves view → IsHeld shape site image names (leaves ++ kept.leaf ∷ []) new
   view-more names leaves view new kept one put said-too counted had =
       let all_leaves : map leaf_of new.leaves.items ≡ map leaf_of view.leaves.items ++ kept.leaf ∷ [] = ap (map leaf_of) put ∙ map-append leaf_of view.leaves.items (kept ∷ []) in
       let before = records_in shape site image (map leaf_of view.leaves.items) in
@@ -123,7 +125,7 @@ module _ {K : Type 0} (shape : Shape K) (site : Site) (image : List ℕ) where
       }
 
   -- a leaf of the view before is one of the view after, and its facts are the same
-  pub stays-too : (before : Facts) (leaves : List Leaf) (kept : KeptLeaf) (more : List KeptLeaf) (left rest : Facts) (after new : KeptView) (follows : Bool) (gone come : Facts)
+  pub stays-too : (before : Facts) (leaves : List Leaf) (kept : KeptLeaf) (more : List KeptLeaf) (left rest : Facts) (after new : Held) (follows : Bool) (gone come : Facts)
       → rest ≡ rest_facts kept.numbers left → new.facts ≡ joined after.facts (first_facts kept.numbers left)
       → new.leaves.items ≡ after.leaves.items ++ kept ∷ [] → new.records ≡ given (after.records + kept.ends.count)
       → IsUnderway shape site image before leaves (kept ∷ more) left after follows gone come → IsUnderway shape site image before (leaves ++ kept.leaf ∷ []) more rest new follows gone come
@@ -147,16 +149,16 @@ module _ {K : Type 0} (shape : Shape K) (site : Site) (image : List ℕ) where
   pub found-one : (leaf : Leaf) (found : Option KeptLeaf) (kept : KeptLeaf) → found ≡ Some kept → IfSome found (λ (other : KeptLeaf). Some leaf ≡ Some other.leaf) → leaf ≡ kept.leaf
   found-one leaf found kept is same = ap (λ o. unwrap_or o leaf) (subst (λ o. IfSome o (λ (other : KeptLeaf). Some leaf ≡ Some other.leaf)) is same)
 
-  pub found-first : (before : Facts) (leaves : List Leaf) (found : Option KeptLeaf) (kept : KeptLeaf) (more : List KeptLeaf) (left : Facts) (after : KeptView) (follows : Bool) (gone come : Facts) → found ≡ Some kept
+  pub found-first : (before : Facts) (leaves : List Leaf) (found : Option KeptLeaf) (kept : KeptLeaf) (more : List KeptLeaf) (left : Facts) (after : Held) (follows : Bool) (gone come : Facts) → found ≡ Some kept
       → IsUnderway shape site image before leaves (option_to_list found ++ more) left after follows gone come → IsUnderway shape site image before leaves (kept ∷ more) left after follows gone come
   found-first before leaves found kept more left after follows gone come is so = subst (λ o. IsUnderway shape site image before leaves (option_to_list o ++ more) left after follows gone come) is so
 
-  pub found-ends : (before : Facts) (leaves : List Leaf) (leaf : Leaf) (kept : KeptLeaf) (more : List KeptLeaf) (left : Facts) (after : KeptView) (follows : Bool) (gone come : Facts) → leaf ≡ kept.leaf
+  pub found-ends : (before : Facts) (leaves : List Leaf) (leaf : Leaf) (kept : KeptLeaf) (more : List KeptLeaf) (left : Facts) (after : Held) (follows : Bool) (gone come : Facts) → leaf ≡ kept.leaf
       → IsUnderway shape site image before leaves (kept ∷ more) left after follows gone come → HasEnds shape site image leaf kept.ends
   found-ends before leaves leaf kept more left after follows gone come one so = subst (λ (l : Leaf). HasEnds shape site image l kept.ends) (sym one) (kept-leaf before.names kept more left so.rest).ends
 
   -- another leaf is one of the view after, and its facts have come
-  pub comes-too : (before : Facts) (leaves : List Leaf) (kept : KeptLeaf) (left : List KeptLeaf) (facts : Facts) (after new : KeptView) (follows : Bool) (gone come more : Facts)
+  pub comes-too : (before : Facts) (leaves : List Leaf) (kept : KeptLeaf) (left : List KeptLeaf) (facts : Facts) (after new : Held) (follows : Bool) (gone come more : Facts)
       → IsKeptLeaf shape site image before.names kept → new.facts ≡ joined after.facts (said before.names kept) → (follows ≡ true → more ≡ joined come (said before.names kept))
       → new.leaves.items ≡ after.leaves.items ++ kept ∷ [] → new.records ≡ given (after.records + kept.ends.count)
       → IsUnderway shape site image before leaves left facts after follows gone come → IsUnderway shape site image before (leaves ++ kept.leaf ∷ []) left facts new follows gone more
@@ -175,32 +177,32 @@ module _ {K : Type 0} (shape : Shape K) (site : Site) (image : List ℕ) where
   }
 
   -- the names of the facts after are compared as those before
-  view-names : (names : Names) (leaves : List Leaf) (view : KeptView) → IsKeptView shape site image names leaves view → view.facts.names ≡ names
+  view-names : (names : Names) (leaves : List Leaf) (view : Held) → IsHeld shape site image names leaves view → view.facts.names ≡ names
   view-names names leaves view had = ap (λ (f : Facts). f.names) had.kept.said
 
   -- a leaf that was read is one of the view after
-  pub read-too : (before : Facts) (leaves : List Leaf) (leaf : Leaf) (ends : Ends) (numbers : Numbers) (pairs : List Pair) (left : List KeptLeaf) (facts : Facts) (after new : KeptView) (follows : Bool) (added gone come more : Facts)
-      → records_of shape site image leaf ≡ pairs → HasEnds shape site image leaf ends
-      → added ≡ joined after.facts (facts_said after.facts.names pairs) → AreReadable after.facts.names pairs → (follows ≡ true → more ≡ joined come (facts_said come.names pairs))
-      → numbers ≡ numbers_since (numbers_of added) (numbers_of after.facts) → new.facts ≡ added
+  pub read-too : (before : Facts) (leaves : List Leaf) (leaf : Leaf) (ends : Ends) (numbers : Numbers) (pairs : List Pair) (left : List KeptLeaf) (facts : Facts) (after new : Held) (follows : Bool) (stock fresh added gone come more : Facts)
+      → records_of shape site image leaf ≡ pairs → HasEnds shape site image leaf ends → after.facts ≡ behind stock fresh
+      → added ≡ joined fresh (facts_said fresh.names pairs) → AreReadable fresh.names pairs → (follows ≡ true → more ≡ joined come (facts_said come.names pairs))
+      → numbers ≡ numbers_since (numbers_of added) (numbers_of fresh) → new.facts ≡ behind stock added
       → new.leaves.items ≡ after.leaves.items ++ record { leaf = leaf; ends = ends; numbers = numbers } ∷ [] → new.records ≡ given (after.records + ends.count)
       → IsUnderway shape site image before leaves left facts after follows gone come → IsUnderway shape site image before (leaves ++ leaf ∷ []) left facts new follows gone more
-  read-too before leaves leaf ends numbers pairs left facts after new follows added gone come more read has adds readable adds-too numbered same put counted so =
+  read-too before leaves leaf ends numbers pairs left facts after new follows stock fresh added gone come more read has at adds readable adds-too numbered same put counted so =
       let kept : KeptLeaf = record { leaf = leaf; ends = ends; numbers = numbers } in
-      let named = view-names before.names leaves after so.view in
-      let said-here : facts_said after.facts.names pairs ≡ said before.names kept = λ i. facts_said (named i) (sym read i) in
+      let named : fresh.names ≡ before.names = sym (ap (λ (f : Facts). f.names) at) ∙ view-names before.names leaves after so.view in
+      let said-here : facts_said fresh.names pairs ≡ said before.names kept = λ i. facts_said (named i) (sym read i) in
       let said-there : follows ≡ true → facts_said come.names pairs ≡ said before.names kept = λ on i. facts_said ((so.followed on).come_names i) (sym read i) in
-      let adds-here : added ≡ joined after.facts (said before.names kept) = adds ∙ ap (joined after.facts) said-here in
+      let adds-here : added ≡ joined fresh (said before.names kept) = adds ∙ ap (joined fresh) said-here in
       comes-too before leaves kept left facts after new follows gone come more
       (record {
         ends = has;
-        numbers = numbered ∙ (ap (λ (f : Facts). numbers_since (numbers_of f) (numbers_of after.facts)) adds-here ∙ since-joined after.facts (said before.names kept));
+        numbers = numbered ∙ (ap (λ (f : Facts). numbers_since (numbers_of f) (numbers_of fresh)) adds-here ∙ since-joined fresh (said before.names kept));
         readable = subst (AreReadable before.names) (sym read) (subst (λ (n : Names). AreReadable n pairs) named readable);
       })
-      (same ∙ adds-here) (λ on. adds-too on ∙ ap (joined come) (said-there on)) put counted so
+      (same ∙ (ap (behind stock) adds-here ∙ (behind-joined stock fresh (said before.names kept) ∙ ap (λ (f : Facts). joined f (said before.names kept)) (sym at)))) (λ on. adds-too on ∙ ap (joined come) (said-there on)) put counted so
 
   -- a view without leaves
-  pub view-none : (names : Names) (view : KeptView) → view.leaves.items ≡ [] → view.facts ≡ no_facts_under names → view.records ≡ 0 → IsKeptView shape site image names [] view
+  pub view-none : (names : Names) (view : Held) → view.leaves.items ≡ [] → view.facts ≡ no_facts_under names → view.records ≡ 0 → IsHeld shape site image names [] view
   view-none names view none free counted = record {
     listed = ap (map leaf_of) none;
     kept = record {
@@ -211,8 +213,8 @@ module _ {K : Type 0} (shape : Shape K) (site : Site) (image : List ℕ) where
   }
 
   -- no leaf is taken yet
-  pub begins : (names : Names) (leaves : List Leaf) (view : KeptView) (left : List KeptLeaf) (facts : Facts) (after : KeptView) (follows : Bool) (gone come : Facts)
-      → IsKeptView shape site image names leaves view → left ≡ view.leaves.items → facts ≡ view.facts → IsKeptView shape site image view.facts.names [] after
+  pub begins : (names : Names) (leaves : List Leaf) (view : Held) (left : List KeptLeaf) (facts : Facts) (after : Held) (follows : Bool) (gone come : Facts)
+      → IsHeld shape site image names leaves view → left ≡ view.leaves.items → facts ≡ view.facts → IsHeld shape site image view.facts.names [] after
       → gone ≡ no_facts_under view.facts.names → come ≡ no_facts_under view.facts.names → IsUnderway shape site image facts [] left facts after follows gone come
   begins names leaves view left facts after follows gone come had on same empty lost made =
       let named : names ≡ view.facts.names = sym (ap (λ (f : Facts). f.names) had.kept.said) in
@@ -234,31 +236,45 @@ module _ {K : Type 0} (shape : Shape K) (site : Site) (image : List ℕ) where
       })
 
   -- the view before is let go
-  pub lets-go : (before : Facts) (leaves : List Leaf) (left none : List KeptLeaf) (facts free : Facts) (after : KeptView) (follows : Bool) (gone come : Facts) → none ≡ [] → free ≡ no_facts_under after.facts.names
-      → IsUnderway shape site image before leaves left facts after follows gone come → IsUnderway shape site image before leaves none free after false gone come
-  lets-go before leaves left none facts free after follows gone come over empty so = record {
-    rest = record {
-      each = subst (All (IsKeptLeaf shape site image before.names)) (sym over) (All-nil (IsKeptLeaf shape site image before.names));
-      said = empty ∙ (ap no_facts_under (view-names before.names leaves after so.view) ∙ (said-none before.names ∙ ap (λ ks. facts_said before.names (records_in shape site image (map leaf_of ks))) (sym over)));
-    };
-    view = so.view;
-    followed = λ on. absurd cc;
-  }
+  pub lets-go : (before : Facts) (left none : List KeptLeaf) (facts free : Facts) (after new : Held) (follows : Bool) (gone come : Facts) → none ≡ [] → free ≡ no_facts_under after.facts.names → IsHeld shape site image after.facts.names [] new
+      → IsUnderway shape site image before [] left facts after follows gone come → IsUnderway shape site image before [] none free new false gone come
+  lets-go before left none facts free after new follows gone come over empty anew so =
+      let named = view-names before.names [] after so.view in
+      record {
+        rest = record {
+          each = subst (All (IsKeptLeaf shape site image before.names)) (sym over) (All-nil (IsKeptLeaf shape site image before.names));
+          said = empty ∙ (ap no_facts_under named ∙ (said-none before.names ∙ ap (λ ks. facts_said before.names (records_in shape site image (map leaf_of ks))) (sym over)));
+        };
+        view = subst (λ (n : Names). IsHeld shape site image n [] new) named anew;
+        followed = λ on. absurd cc;
+      }
+
+  -- no facts are left where no leaf is
+  none-left : (names : Names) (left : List KeptLeaf) (facts : Facts) → left ≡ [] → AreKept shape site image names left facts → facts ≡ no_facts_under names
+  none-left names left facts none kept = kept.said ∙ (ap (λ ks. facts_said names (records_in shape site image (map leaf_of ks))) none ∙ sym (said-none names))
+
+  -- what is kept of the view after, where none is left of the one before
+  pub ends-view : (leaves : List Leaf) (start now : Changing) (left : List KeptLeaf) (view : KeptView) → left ≡ []
+      → view.held ≡ record { leaves = now.after.leaves; facts = behind (joined now.stock.0 now.stock.1) now.after.facts; records = now.after.records } → HasChangedTo shape site image leaves start left now → view.held ≡ held_after now
+  ends-view leaves start now left view none whole so =
+      let free = none-left (facts_before start).names left now.stock.0 none so.rest in
+      whole ∙ ap (λ (f : Facts). record { leaves = now.after.leaves; facts = behind (joined f now.stock.1) now.after.facts; records = now.after.records }) free
 
   -- nothing is left of the view before
-  pub ends-so : (before : Facts) (leaves : List Leaf) (left : List KeptLeaf) (facts : Facts) (after : KeptView) (follows : Bool) (change : Change)
-      → left ≡ [] → follows ≡ true → IsUnderway shape site image before leaves left facts after follows change.gone change.come → IsDifference shape site image leaves before (record { after = after; change = Some change })
-  ends-so before leaves left facts after follows change none on so =
+  pub ends-so : (before : Facts) (leaves : List Leaf) (left : List KeptLeaf) (facts : Facts) (held : Held) (after : KeptView) (follows : Bool) (change : Change)
+      → left ≡ [] → after.held ≡ held → follows ≡ true → IsUnderway shape site image before leaves left facts held follows change.gone change.come → IsDifference shape site image leaves before (record { after = after; change = Some change })
+  ends-so before leaves left facts held after follows change none whole on so =
       let had = so.followed on in
-      let free : facts ≡ no_facts_under before.names = so.rest.said ∙ (ap (λ ks. facts_said before.names (records_in shape site image (map leaf_of ks))) none ∙ sym (said-none before.names)) in
+      let free = none-left before.names left facts none so.rest in
       let all : before ≡ had.passed = had.split ∙ (ap (joined had.passed) free ∙ joined-none had.passed before.names) in
+      let view : IsKeptView shape site image before.names leaves after = subst (IsHeld shape site image before.names leaves) (sym whole) so.view in
       record {
-        after = so.view;
+        after = view;
         change = record {
           same = had.same;
           left = subst (λ (f : Facts). AreWoven f had.same change.gone) (sym all) had.lost;
-          made = had.made;
-          names = view-names before.names leaves after so.view;
+          made = subst (λ (h : Held). AreWoven h.facts had.same change.come) (sym whole) had.made;
+          names = view-names before.names leaves after.held view;
           gone_names = had.gone_names;
           come_names = had.come_names;
         };

@@ -5,17 +5,21 @@ use Rattle.bt_node.specs.Shape.{Shape}
 use Rattle.view_rules.specs.Facts.{Facts}
 use Rattle.rule_changes.specs.Changes.{AreWoven}
 use Rattle.view_change.specs.declared.leaf.Leaf.{Leaf}
+use Rattle.view_change.specs.declared.kept.Held.{Held}
 use Rattle.view_change.specs.declared.kept.KeptLeaf.{KeptLeaf}
-use Rattle.view_change.specs.declared.kept.KeptView.{KeptView}
 use Rattle.view_change.specs.declared.changing.Change.{Change}
 use Rattle.view_change.specs.declared.changing.Changed.{Changed}
 use Rattle.view_change.specs.declared.changing.Changing.{Changing}
-use Rattle.view_change.specs.Numbers.{joined}
-use Rattle.view_change.specs.Kept.{AreKept, IsKeptView}
+use Rattle.view_change.specs.Numbers.{joined, behind}
+use Rattle.view_change.specs.Kept.{facts_of, AreKept, IsHeld, IsKeptView}
 
 -- the facts of the view before, which are all left at the start
 abbrev pub facts_before : Changing → Facts
-facts_before start = start.left
+facts_before start = start.stock.0
+
+-- what is kept of the view after so far: the facts of the stock, and behind them those that were read since its last leaf
+abbrev pub held_after : Changing → Held
+held_after now = record { leaves = now.after.leaves; facts = behind now.stock.1 now.after.facts; records = now.after.records }
 
 -- some facts are gone, some have come, and what is the same is woven with each into the facts before and after
 pub record HasDifference (before after : Facts) (change : Change) : Type 0 where
@@ -37,14 +41,14 @@ pub record IsFollowed (before left after gone come : Facts) : Type 0 where
   pub come_names : come.names ≡ before.names
 
 -- after some leaves of a view: what is kept of it, what is left of the view before, and, if it is followed, what is gone and has come
-pub record IsUnderway {K : Type 0} (shape : Shape K) (site : Site) (image : List ℕ) (before : Facts) (leaves : List Leaf) (left : List KeptLeaf) (left_facts : Facts) (after : KeptView) (follows : Bool) (gone come : Facts) : Type 0 where
+pub record IsUnderway {K : Type 0} (shape : Shape K) (site : Site) (image : List ℕ) (before : Facts) (leaves : List Leaf) (left : List KeptLeaf) (left_facts : Facts) (after : Held) (follows : Bool) (gone come : Facts) : Type 0 where
   pub rest : AreKept shape site image before.names left left_facts
-  pub view : IsKeptView shape site image before.names leaves after
+  pub view : IsHeld shape site image before.names leaves after
   pub followed : follows ≡ true → IsFollowed before left_facts after.facts gone come
 
 -- begun as the first, it has taken some leaves in an image, and these leaves of the view before are left
 abbrev pub HasChangedTo : {K : Type 0} → Shape K → Site → List ℕ → List Leaf → Changing → List KeptLeaf → Changing → Type 0
-HasChangedTo shape site image leaves start left now = IsUnderway shape site image (facts_before start) leaves left now.left now.after now.follows now.gone now.come
+HasChangedTo shape site image leaves start left now = IsUnderway shape site image (facts_before start) leaves left now.stock.0 (held_after now) now.follows now.gone now.come
 
 -- begun as the first, it has taken some leaves in an image
 abbrev pub HasChanged : {K : Type 0} → Shape K → Site → List ℕ → List Leaf → Changing → Changing → Type 0
@@ -53,4 +57,4 @@ HasChanged shape site image leaves start now = HasChangedTo shape site image lea
 -- this is what is kept of a view with some leaves, and how its facts differ from those before, if that was followed
 pub record IsDifference {K : Type 0} (shape : Shape K) (site : Site) (image : List ℕ) (leaves : List Leaf) (before : Facts) (changed : Changed) : Type 0 where
   pub after : IsKeptView shape site image before.names leaves changed.after
-  pub change : IfSome changed.change (HasDifference before changed.after.facts)
+  pub change : IfSome changed.change (HasDifference before (facts_of changed.after))

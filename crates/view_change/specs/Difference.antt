@@ -11,7 +11,7 @@ use Rattle.vol_view.specs.declared.volume.View.{View}
 use Rattle.view_facts.specs.Kept.{IsGatheredView}
 use Rattle.view_facts.specs.declared.gathering.ViewFacts.{ViewFacts}
 use Rattle.view_change.specs.declared.leaf.Leaf.{Leaf}
-use Rattle.view_change.specs.declared.kept.KeptView.{KeptView}
+use Rattle.view_change.specs.declared.kept_view.KeptView.{KeptView}
 use Rattle.view_change.specs.Kept.{facts_of, records_kept, IsKeptView}
 
 -- the places that a walk over a view meets, each as often as it is met: those of its nodes where each of them has a node

@@ -10,18 +10,19 @@ use Rattle.view_rules.specs.Facts.{Facts, facts_in}
 use Rattle.view_facts.specs.Contents.{brief_facts}
 use Rattle.view_change.specs.declared.leaf.Leaf.{Leaf}
 use Rattle.view_change.specs.declared.kept.KeptLeaf.{KeptLeaf}
-use Rattle.view_change.specs.declared.kept.KeptView.{KeptView}
+use Rattle.view_change.specs.declared.kept.Held.{Held}
+use Rattle.view_change.specs.declared.kept_view.KeptView.{KeptView}
 use Rattle.view_change.specs.Leaves.{records_of, records_in}
 use Rattle.view_change.specs.Ends.{HasEnds}
 use Rattle.view_change.specs.Numbers.{numbers_of}
 
 -- the facts of a view that is kept
 abbrev pub facts_of : KeptView → Facts
-facts_of view = view.facts
+facts_of view = view.held.facts
 
 -- the number of its records, as it is given
 abbrev pub records_kept : KeptView → ℕ
-records_kept view = view.records
+records_kept view = view.held.records
 
 -- the leaf of what is kept of one
 abbrev pub leaf_of : KeptLeaf → Leaf
@@ -46,8 +47,12 @@ pub record AreKept {K : Type 0} (shape : Shape K) (site : Site) (image : List �
   pub each : All (IsKeptLeaf shape site image names) kept
   pub said : facts ≡ facts_said names (records_in shape site image (map leaf_of kept))
 
+-- this is what is kept of some leaves
+pub record IsHeld {K : Type 0} (shape : Shape K) (site : Site) (image : List ℕ) (names : Names) (leaves : List Leaf) (held : Held) : Type 0 where
+  pub listed : map leaf_of held.leaves.items ≡ leaves
+  pub kept : AreKept shape site image names held.leaves.items held.facts
+  pub records : held.records ≡ given (length (records_in shape site image leaves))
+
 -- this is what is kept of a view with some leaves
-pub record IsKeptView {K : Type 0} (shape : Shape K) (site : Site) (image : List ℕ) (names : Names) (leaves : List Leaf) (view : KeptView) : Type 0 where
-  pub listed : map leaf_of view.leaves.items ≡ leaves
-  pub kept : AreKept shape site image names view.leaves.items view.facts
-  pub records : view.records ≡ given (length (records_in shape site image leaves))
+abbrev pub IsKeptView : {K : Type 0} → Shape K → Site → List ℕ → Names → List Leaf → KeptView → Type 0
+IsKeptView shape site image names leaves view = IsHeld shape site image names leaves view.held

@@ -3,6 +3,7 @@ pub mod Ends
 pub mod Outline
 pub mod Walked
 pub mod Numbers
+pub mod Rings
 pub mod Kept
 pub mod Reading
 pub mod Changing

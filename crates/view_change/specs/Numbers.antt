@@ -73,3 +73,15 @@ rest_facts numbers facts = record {
   siblings = drop numbers.siblings facts.siblings;
   extents = drop numbers.extents facts.extents;
 }
+
+-- some facts behind others, kind by kind; names are compared as for them
+abbrev pub behind : Facts → Facts → Facts
+behind others facts = record {
+  names = facts.names;
+  inodes = others.inodes ++ facts.inodes;
+  entries = others.entries ++ facts.entries;
+  attributes = others.attributes ++ facts.attributes;
+  links = others.links ++ facts.links;
+  siblings = others.siblings ++ facts.siblings;
+  extents = others.extents ++ facts.extents;
+}

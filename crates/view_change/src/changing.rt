@@ -19,11 +19,11 @@ ghost use Rattle.view_change.specs.Changing.{facts_before, HasChanged, HasChange
 #[cfg(test)]
 mod tests;
 
-use crate::kept::{KeptLeaf, KeptView, Numbers, no_facts};
+use crate::kept::{Held, KeptLeaf, Numbers, no_facts};
 use crate::leaf_read::{add_records, ends_of};
 use crate::node::read_node;
 use crate::stock::Stock;
-use crate::{Ends, Leaf, LeafTaker};
+use crate::{Ends, KeptView, Leaf, LeafTaker};
 use apfs_model::NoMemory;
 use blk_source::BlockSource;
 use bt_keys::FsTreeKey;
@@ -41,10 +41,12 @@ const AHEAD: usize = 256;
 #[derive(Drop)]
 pub struct Changing {
     alloc: Global,
-    /// The leaves of the view before that are left, and their facts.
+    /// The leaves of the view before that are left.
     leaves: VecDeque<KeptLeaf>,
-    left: Stock,
-    after: KeptView,
+    /// Their facts, and those of the view after up to its last leaf that stays.
+    stock: Stock,
+    /// The leaves of the view after, and the facts of those that were read since.
+    after: Held,
     /// Whether what is gone and what has come is gathered.
     follows: bool,
     gone: Facts,
@@ -86,12 +88,14 @@ impl Changing {
         ensures begun { (site : Place) (image : List ℕ) (names : Names) (leaves : List One) → IsKeptView K.shape site image names leaves before → HasChanged K.shape site image [] result result }
         ensures before { facts_before result ≡ facts_of before }
     {
-        let names = before.facts.names;
+        let KeptView { held, in_order } = before;
+        let names = held.names();
+        let (leaves, facts) = held.parts();
         Changing {
             alloc,
-            leaves: VecDeque::from_vec(before.leaves),
-            left: Stock::new(before.facts),
-            after: KeptView::none::<K>(alloc, names),
+            leaves: VecDeque::from_vec(leaves),
+            stock: Stock::new(facts, in_order),
+            after: Held::nothing::<K>(alloc, names),
             follows: true,
             gone: no_facts(alloc, names),
             come: no_facts(alloc, names),
@@ -130,13 +134,14 @@ impl Changing {
         self.count_found(leaves) >= most - most / 2
     }
 
-    // Lets go of the view before: the difference from it isn't followed.
+    // Lets go of the view before, before a leaf is taken: the difference from it isn't followed.
     fn let_go<K: TreeKey>(&mut self) -> ()
-        ensures held { (start : State) (site : Place) (image : List ℕ) (leaves : List One) → HasChanged K.shape site image leaves start self.old → HasChanged K.shape site image leaves start self.new }
+        ensures held { (start : State) (site : Place) (image : List ℕ) → HasChanged K.shape site image [] start self.old → HasChanged K.shape site image [] start self.new }
     {
         let names = self.after.names();
         self.leaves = VecDeque::new(self.alloc);
-        self.left = Stock::new(no_facts(self.alloc, names));
+        self.stock = Stock::new(no_facts(self.alloc, names), false);
+        self.after = Held::nothing::<K>(self.alloc, names);
         self.follows = false;
     }
 
@@ -146,11 +151,11 @@ impl Changing {
         ensures same { IfOk result (λ found. IfSome found (λ kept. leaf ≡ Some kept.leaf)) }
         ensures end { IfOk result (λ found. IfNone found (self.new.leaves.items ≡ [])) }
     {
-        'pass: while let Some(kept) = self.leaves.pop_front() {
+        'gone: while let Some(kept) = self.leaves.pop_front() {
             if leaf == Some(kept.leaf) {
                 return Ok(Some(kept));
             }
-            self.left.move_to(&kept.numbers, &mut self.gone)?;
+            self.stock.pass(&kept.numbers, &mut self.gone)?;
         }
         Ok(None)
     }
@@ -163,7 +168,8 @@ impl Changing {
         let Some(kept) = self.pass_until::<K>(Some(leaf))? else {
             return Ok(None);
         };
-        self.left.move_to(&kept.numbers, &mut self.after.facts)?;
+        self.stock.put(self.after.take_facts(self.alloc))?;
+        self.stock.keep(&kept.numbers);
         self.after.put(kept)?;
         Ok(Some(kept.ends))
     }
@@ -228,12 +234,13 @@ impl Changing {
         let Changing {
             alloc: _,
             leaves: _,
-            left: _,
+            stock,
             after,
             follows,
             gone,
             come,
         } = self;
+        let after = KeptView::behind(stock, after)?;
         if !follows {
             return Ok(Changed {
                 after,

@@ -3,13 +3,14 @@ ghost use Rattle.std.specs.Prelude.{◌≡◌, ◌+◌, ◌++◌, [], ◌∷◌,
 ghost use Rattle.apfs_model.specs.Counts.{given};
 ghost use Rattle.obj_base.specs.declared.site.Site.{Site};
 ghost use Rattle.view_change.specs.Numbers.{numbers_of, numbers_since, no_facts_under};
-ghost use Rattle.view_change.specs.Kept.{facts_of, records_kept, IsKeptView};
+ghost use Rattle.view_change.specs.Kept.{IsHeld};
 
 use crate::{Ends, Leaf};
 use apfs_model::NoMemory;
 use bt_node::TreeKey;
 use fs_name::Names;
 use std::alloc::Global;
+use std::mem::replace;
 use view_facts::Facts;
 
 /// How many facts of each kind there are.
@@ -61,10 +62,9 @@ pub struct KeptLeaf {
     pub numbers: Numbers,
 }
 
-/// What is kept of a view: its leaves in the order of its tree, the facts that their records say in the order of the records, and the
-/// number of the records.
+/// Leaves in the order of a tree, facts in the order of their records, and the number of these.
 #[derive(Drop)]
-pub struct KeptView {
+pub struct Held {
     pub(crate) leaves: Vec<KeptLeaf>,
     pub(crate) facts: Facts,
     pub(crate) records: u64,
@@ -85,16 +85,41 @@ pub(crate) fn no_facts(alloc: Global, names: Names) -> Facts
     }
 }
 
-impl KeptView {
-    /// What is kept of a view without leaves.
-    pub fn none<K: TreeKey>(alloc: Global, names: Names) -> KeptView
-        ensures kept { (site : Site) (image : List ℕ) → IsKeptView K.shape site image names [] result }
+impl Held {
+    /// No leaves.
+    pub(crate) fn nothing<K: TreeKey>(alloc: Global, names: Names) -> Held
+        ensures { (site : Site) (image : List ℕ) → IsHeld K.shape site image names [] result }
     {
-        KeptView {
+        Held {
             leaves: Vec::new(alloc),
             facts: no_facts(alloc, names),
             records: 0,
         }
+    }
+
+    /// How names are compared.
+    pub(crate) fn names(&self) -> Names
+        ensures { result ≡ self.now.facts.names }
+    {
+        self.facts.names
+    }
+
+    /// The leaves and the facts.
+    pub(crate) fn parts(self) -> (Vec<KeptLeaf>, Facts)
+        ensures leaves { result.0 ≡ self.leaves }
+        ensures facts { result.1 ≡ self.facts }
+    {
+        (self.leaves, self.facts)
+    }
+
+    /// Takes the facts out.
+    pub(crate) fn take_facts(&mut self, alloc: Global) -> Facts
+        ensures taken { result ≡ self.old.facts }
+        ensures left { self.new.facts ≡ no_facts_under self.old.facts.names }
+        ensures same { (self.new.leaves ≡ self.old.leaves) × (self.new.records ≡ self.old.records) }
+    {
+        let none = no_facts(alloc, self.facts.names);
+        replace(&mut self.facts, none)
     }
 
     /// Puts a leaf after the others. Its facts are put by the caller.
@@ -106,26 +131,5 @@ impl KeptView {
         self.leaves.push(kept)?;
         self.records = self.records.saturating_add(kept.ends.count);
         Ok(())
-    }
-
-    /// How names are compared.
-    pub(crate) fn names(&self) -> Names
-        ensures { result ≡ (facts_of self.now).names }
-    {
-        self.facts.names
-    }
-
-    /// The facts.
-    pub fn facts(&self) -> &Facts
-        ensures { result.now ≡ facts_of self.now }
-    {
-        &self.facts
-    }
-
-    /// The number of records, or the greatest number where they are more.
-    pub fn records(&self) -> u64
-        ensures { result ≡ records_kept self.now }
-    {
-        self.records
     }
 }

@@ -4,11 +4,13 @@
 mod changing;
 mod differing;
 mod kept;
+mod kept_view;
 mod leaf;
 mod leaf_read;
 mod leaf_taker;
 mod node;
 mod outline;
+mod ring;
 mod seen;
 mod stock;
 #[cfg(test)]
@@ -17,7 +19,8 @@ mod walking;
 
 pub use changing::{Change, Changed, Changing};
 pub use differing::{difference, keep};
-pub use kept::{KeptLeaf, KeptView, Numbers};
+pub use kept::{Held, KeptLeaf, Numbers};
+pub use kept_view::KeptView;
 pub use leaf::Leaf;
 pub use leaf_taker::{Ends, LeafTaker};
 pub use walking::walk_leaves;

@@ -1,78 +1,115 @@
-// Facts of a view before that are left.
-ghost use Rattle.std.specs.Prelude.{◌≡◌, ◌++◌, take, drop, OnOk};
-ghost use Rattle.view_change.specs.Numbers.{joined, first_facts, rest_facts};
+// The facts of two views: those of the view before that are left, and those of the view after.
+ghost use Rattle.std.specs.Prelude.{◌≡◌, IfOk, IsTrue, OnOk};
+ghost use Rattle.rule_index.specs.Order.{AreInOrder};
+ghost use Rattle.view_change.specs.Numbers.{behind, joined, first_facts, no_facts_under, rest_facts};
 
 use crate::kept::Numbers;
+use crate::ring::Ring;
 use apfs_model::NoMemory;
 use fs_name::Names;
-use std::collections::VecDeque;
+use rule_index::ordered::{ByFile, ByHash, ByInode, ByLinkedFile, BySibling, ByStream};
 use std::marker::Model;
 use view_facts::{AttributeFact, EntryFact, ExtentFact, Facts, InodeFact, LinkFact, SiblingFact};
 
-/// Facts that are taken from the front.
+/// Those of each kind in a ring.
 #[derive(Drop)]
 pub(crate) struct Stock {
     names: Names,
-    inodes: VecDeque<InodeFact>,
-    entries: VecDeque<EntryFact>,
-    attributes: VecDeque<AttributeFact>,
-    links: VecDeque<LinkFact>,
-    siblings: VecDeque<SiblingFact>,
-    extents: VecDeque<ExtentFact>,
+    inodes: Ring<InodeFact, ByInode>,
+    entries: Ring<EntryFact, ByHash>,
+    attributes: Ring<AttributeFact, ByFile>,
+    links: Ring<LinkFact, ByLinkedFile>,
+    siblings: Ring<SiblingFact, BySibling>,
+    extents: Ring<ExtentFact, ByStream>,
 }
 
 impl Model for Stock {
     ghost use Rattle.view_rules.specs.Facts as spec;
 
-    ghost Value = { spec.Facts };
+    ghost Value = { spec.Facts × spec.Facts };
 
-    ghost view = { λ a. record { names = a.names; inodes = a.inodes.items; entries = a.entries.items; attributes = a.attributes.items; links = a.links.items; siblings = a.siblings.items; extents = a.extents.items } };
-}
-
-// Moves the first items, as many as there are up to a number.
-fn move_some<T: Drop>(
-    number: usize,
-    from: &mut VecDeque<T>,
-    to: &mut Vec<T>,
-) -> Result<(), NoMemory>
-    ensures left { OnOk result (from.new.items ≡ drop number from.old.items) }
-    ensures moved { OnOk result (to.new.items ≡ to.old.items ++ take number from.old.items) }
-{
-    'items: for _ in 0..number {
-        let Some(item) = from.pop_front() else {
-            return Ok(());
-        };
-        to.push(item)?;
-    }
-    Ok(())
+    ghost view = { λ a. (record { names = a.names; inodes = a.inodes.0; entries = a.entries.0; attributes = a.attributes.0; links = a.links.0; siblings = a.siblings.0; extents = a.extents.0 }, record { names = a.names; inodes = a.inodes.1; entries = a.entries.1; attributes = a.attributes.1; links = a.links.1; siblings = a.siblings.1; extents = a.extents.1 }) };
 }
 
 impl Stock {
-    /// All facts of a view.
-    pub(crate) fn new(facts: Facts) -> Stock
-        ensures { result ≡ facts }
+    /// The facts of a view before. They are in order where it is said so.
+    pub(crate) fn new(facts: Facts, in_order: bool) -> Stock
+        requires { IsTrue in_order → AreInOrder facts }
+        ensures { result ≡ (facts, no_facts_under facts.names) }
     {
         Stock {
             names: facts.names,
-            inodes: VecDeque::from_vec(facts.inodes),
-            entries: VecDeque::from_vec(facts.entries),
-            attributes: VecDeque::from_vec(facts.attributes),
-            links: VecDeque::from_vec(facts.links),
-            siblings: VecDeque::from_vec(facts.siblings),
-            extents: VecDeque::from_vec(facts.extents),
+            inodes: Ring::new(facts.inodes, in_order),
+            entries: Ring::new(facts.entries, in_order),
+            attributes: Ring::new(facts.attributes, in_order),
+            links: Ring::new(facts.links, in_order),
+            siblings: Ring::new(facts.siblings, in_order),
+            extents: Ring::new(facts.extents, in_order),
         }
     }
 
-    /// Moves the first facts of each kind.
-    pub(crate) fn move_to(&mut self, numbers: &Numbers, to: &mut Facts) -> Result<(), NoMemory>
-        ensures left { OnOk result (self.new ≡ rest_facts numbers.now self.old) }
-        ensures moved { OnOk result (to.new ≡ joined to.old (first_facts numbers.now self.old)) }
+    /// Makes the first facts of each kind that are left the last ones of the view after.
+    pub(crate) fn keep(&mut self, numbers: &Numbers) -> ()
+        ensures left { self.new.0 ≡ rest_facts numbers.now self.old.0 }
+        ensures taken { self.new.1 ≡ joined self.old.1 (first_facts numbers.now self.old.0) }
     {
-        move_some(numbers.inodes, &mut self.inodes, &mut to.inodes)?;
-        move_some(numbers.entries, &mut self.entries, &mut to.entries)?;
-        move_some(numbers.attributes, &mut self.attributes, &mut to.attributes)?;
-        move_some(numbers.links, &mut self.links, &mut to.links)?;
-        move_some(numbers.siblings, &mut self.siblings, &mut to.siblings)?;
-        move_some(numbers.extents, &mut self.extents, &mut to.extents)
+        self.inodes.keep(numbers.inodes);
+        self.entries.keep(numbers.entries);
+        self.attributes.keep(numbers.attributes);
+        self.links.keep(numbers.links);
+        self.siblings.keep(numbers.siblings);
+        self.extents.keep(numbers.extents);
+    }
+
+    /// Moves the first facts of each kind that are left.
+    pub(crate) fn pass(&mut self, numbers: &Numbers, to: &mut Facts) -> Result<(), NoMemory>
+        ensures left { OnOk result (self.new.0 ≡ rest_facts numbers.now self.old.0) }
+        ensures taken { OnOk result (self.new.1 ≡ self.old.1) }
+        ensures moved { OnOk result (to.new ≡ joined to.old (first_facts numbers.now self.old.0)) }
+    {
+        self.inodes.pass(numbers.inodes, &mut to.inodes)?;
+        self.entries.pass(numbers.entries, &mut to.entries)?;
+        self.attributes
+            .pass(numbers.attributes, &mut to.attributes)?;
+        self.links.pass(numbers.links, &mut to.links)?;
+        self.siblings.pass(numbers.siblings, &mut to.siblings)?;
+        self.extents.pass(numbers.extents, &mut to.extents)
+    }
+
+    /// Puts facts behind those of the view after.
+    pub(crate) fn put(&mut self, facts: Facts) -> Result<(), NoMemory>
+        ensures left { OnOk result (self.new.0 ≡ self.old.0) }
+        ensures taken { OnOk result (self.new.1 ≡ joined self.old.1 facts) }
+    {
+        self.inodes.put(facts.inodes)?;
+        self.entries.put(facts.entries)?;
+        self.attributes.put(facts.attributes)?;
+        self.links.put(facts.links)?;
+        self.siblings.put(facts.siblings)?;
+        self.extents.put(facts.extents)
+    }
+
+    /// All facts, and others behind them; and whether it is known that these are in order, where none is left of the view before.
+    pub(crate) fn whole(self, facts: Facts) -> Result<(Facts, bool), NoMemory>
+        ensures facts { IfOk result (λ whole. whole.0 ≡ behind (joined self.0 self.1) facts) }
+        ensures order { IfOk result (λ whole. IsTrue whole.1 → AreInOrder whole.0) }
+    {
+        let inodes = self.inodes.whole(facts.inodes)?;
+        let entries = self.entries.whole(facts.entries)?;
+        let attributes = self.attributes.whole(facts.attributes)?;
+        let links = self.links.whole(facts.links)?;
+        let siblings = self.siblings.whole(facts.siblings)?;
+        let extents = self.extents.whole(facts.extents)?;
+        let in_order = inodes.1 & entries.1 & attributes.1 & links.1 & siblings.1 & extents.1;
+        let facts = Facts {
+            names: facts.names,
+            inodes: inodes.0,
+            entries: entries.0,
+            attributes: attributes.0,
+            links: links.0,
+            siblings: siblings.0,
+            extents: extents.0,
+        };
+        Ok((facts, in_order))
     }
 }

@@ -110,33 +110,51 @@ fn has(
     }
 }
 
-// The leaves of a view, its ids, those that are gone and have come since the view before if that was followed, and how many reads were made till then.
+// The leaves of a view, its ids, those that are gone and have come since the view before if that was followed, whether its facts are in order, and how many reads were made till then.
 struct View {
     leaves: &'static [Leaf],
     ids: &'static [u64],
     change: Option<(&'static [u64], &'static [u64])>,
+    in_order: bool,
     reads: u64,
 }
 
-// The last one shares one leaf of three.
-const VIEWS: [View; 3] = [
+// The last one shares one leaf of two; the leaves of the third aren't those of a tree in order.
+const VIEWS: [View; 5] = [
     View {
         leaves: &[SEVEN, EIGHT, NINE],
         ids: &[1, 2, 3, 4, 5, 9, 10],
         change: None,
+        in_order: true,
         reads: 3,
     },
     View {
         leaves: &[SEVEN, NEW_EIGHT, NINE],
         ids: &[1, 2, 3, 4, 6, 9, 10],
         change: Some((&[4, 5], &[4, 6])),
+        in_order: true,
         reads: 4,
     },
     View {
-        leaves: &[SEVEN],
-        ids: &[1, 2, 3],
-        change: None,
+        leaves: &[SEVEN, EIGHT, NEW_EIGHT, NINE],
+        ids: &[1, 2, 3, 4, 5, 4, 6, 9, 10],
+        change: Some((&[], &[4, 5])),
+        in_order: false,
         reads: 5,
+    },
+    View {
+        leaves: &[SEVEN, NINE],
+        ids: &[1, 2, 3, 9, 10],
+        change: Some((&[4, 5, 4, 6], &[])),
+        in_order: true,
+        reads: 5,
+    },
+    View {
+        leaves: &[EIGHT],
+        ids: &[4, 5],
+        change: None,
+        in_order: true,
+        reads: 6,
     },
 ];
 
@@ -150,6 +168,7 @@ fn facts_of_leaves_that_both_views_have_are_the_same(rt: HostRuntime) -> Result<
         let Changed { after, change } = changed.expect(&rt, "a view");
         assert_eq!(rt; ids(alloc, after.facts())?.as_slice(), view.ids);
         assert_eq!(rt; after.records(), view.ids.len() as u64);
+        assert_eq!(rt; after.is_in_order(), view.in_order);
         assert!(rt; has(alloc, change.as_ref(), view.change)?);
         assert_eq!(rt; source.read_count(), view.reads);
         before = after;

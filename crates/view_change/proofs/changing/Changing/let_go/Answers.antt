@@ -1,13 +1,19 @@
-use Rattle.std.proofs.Common.{◌∙◌, ap}
-use Rattle.view_change.specs.Numbers.{no_facts_under}
-use Rattle.view_change.specs.Changing.{facts_before}
+use Rattle.std.proofs.Common.{◌∙◌, [], ap, sym, subst}
+use Rattle.view_rules.specs.Facts.{Facts}
+use Rattle.view_change.specs.Kept.{IsHeld}
+use Rattle.view_change.specs.Numbers.{behind, no_facts_under}
+use Rattle.view_change.specs.Changing.{facts_before, held_after}
 use Rattle.view_change.proofs.Underway.{lets-go}
 use Rattle.view_change.proofs.changing.Changing.let_go.Goals as goal
 
 pub returns : goal.returns
 returns g c = record {
-  held = λ start site image leaves had.
+  held = λ start site image had.
+      let shape = g.K.TreeKey.shape in
       let old = c.args.self.now in
-      lets-go g.K.TreeKey.shape site image (facts_before start) leaves old.leaves.items c.new.result.items old.left c.new-2.result old.after old.follows old.gone old.come c.new.ensures.items
-      (c.new-2.ensures ∙ (c.no_facts.ensures ∙ ap no_facts_under c.names-names.ensures)) had;
+      let held = c.nothing.result in
+      let named = c.names-names.ensures in
+      lets-go shape site image (facts_before start) old.leaves.items c.new.result.items old.stock.0 c.new-2.result.0 (held_after old) (record { leaves = held.leaves; facts = behind c.new-2.result.1 held.facts; records = held.records }) old.follows old.gone old.come c.new.ensures.items
+      (ap (λ v. v.0) c.new-2.ensures ∙ (c.no_facts.ensures ∙ ap no_facts_under c.names-names.ensures))
+      (subst (λ n. IsHeld shape site image n [] (record { leaves = held.leaves; facts = behind c.new-2.result.1 held.facts; records = held.records })) named (subst (λ v. IsHeld shape site image c.names-names.result [] (record { leaves = held.leaves; facts = behind v.1 held.facts; records = held.records })) (sym c.new-2.ensures) (c.nothing.ensures site image))) had;
 }

@@ -6,8 +6,8 @@ use Rattle.view_change.specs.declared.changing.Changing.{Changing}
 use Rattle.view_change.specs.Changing.{HasChanged}
 use Rattle.view_change.proofs.changing.Changing.pass_until.Given as goal
 
-abbrev pub invariant-pass : goal.invariant-pass
-invariant-pass g l = (start : Changing) (site : Site) (image : List ℕ) (leaves : List Leaf) → HasChanged g.K.TreeKey.shape site image leaves start l.fn.self → HasChanged g.K.TreeKey.shape site image leaves start l.self
+abbrev pub invariant-gone : goal.invariant-gone
+invariant-gone g l = (start : Changing) (site : Site) (image : List ℕ) (leaves : List Leaf) → HasChanged g.K.TreeKey.shape site image leaves start l.fn.self → HasChanged g.K.TreeKey.shape site image leaves start l.self
 
-abbrev pub decreases-pass : goal.decreases-pass
-decreases-pass g l = length l.self.leaves.items
+abbrev pub decreases-gone : goal.decreases-gone
+decreases-gone g l = length l.self.leaves.items
