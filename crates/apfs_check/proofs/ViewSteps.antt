@@ -26,7 +26,7 @@ use Rattle.view_rules.specs.Facts.{Facts}
 use Rattle.view_rules.specs.Extents.{is_misplaced}
 use Rattle.view_rules.specs.Rules.{view_facts}
 use Rattle.view_rules.specs.declared.profile.Profile.{Profile}
-use Rattle.view_change.specs.declared.kept.KeptView.{KeptView}
+use Rattle.view_change.specs.declared.kept_view.KeptView.{KeptView}
 use Rattle.tree_rules.specs.Known.{AddExtents, IsKnown, IsKnownBefore, extents_before}
 use Rattle.apfs_check.specs.Again.{IsPassed, IsKnownOf}
 use Rattle.apfs_check.specs.declared.views.Passed.{Passed}

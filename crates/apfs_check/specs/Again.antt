@@ -9,7 +9,7 @@ use Rattle.vol_view.specs.Volumes.{Loaded}
 use Rattle.vol_view.specs.Views.{view_flat}
 use Rattle.vol_view.specs.declared.volume.View.{View}
 use Rattle.ext_ref.specs.declared.range.NewRange.{NewRange}
-use Rattle.view_change.specs.declared.kept.KeptView.{KeptView}
+use Rattle.view_change.specs.declared.kept_view.KeptView.{KeptView}
 use Rattle.tree_rules.specs.Known.{IsKnown}
 use Rattle.tree_rules.specs.Tallies.{notes_of}
 use Rattle.view_rules.specs.Rules.{view_facts, HasTreeRules}

@@ -1,6 +1,7 @@
 -- Why a view is right that comes after another: by its notes, and by its difference.
-use Rattle.std.proofs.Common.{◌≡◌, ◌∙◌, ◌<◌, ◌≤◌, ◌+◌, ◌++◌, ℕ, suc, Bool, true, false, cond, List, [], ◌∷◌, length, map, filter, inl, inr, refl, ap, ap₂, sym, subst, arith}
-use Rattle.std.specs.Prelude.{◌⊎◌, ◌==◌, count_by, Option, None, Some, IfSome, Result, Ok, Err, IfOk}
+use Rattle.std.proofs.Common.{◌≡◌, ◌∙◌, ◌<◌, ◌≤◌, ◌+◌, ◌++◌, ℕ, suc, Bool, true, false, cond, List, [], ◌∷◌, length, map, filter, get_or, inl, inr, refl, ap, ap₂, sym, subst, arith}
+use Rattle.std.specs.Prelude.{◌⊎◌, ◌==◌, nat_lt, count_by, Option, None, Some, IfSome, Result, Ok, Err, IfOk}
+use Rattle.std.proofs.lemmas.Bool.Decides.{nat_tests}
 use Rattle.apfs_model.specs.Lists.{In}
 use Rattle.apfs_model.proofs.BoolTests.{test_or, equal-from, never-true}
 use Rattle.apfs_model.proofs.Empty.{left-none, right-none, map-none}
@@ -20,12 +21,13 @@ use Rattle.view_rules.specs.Rules.{view_facts, HasFactRules, HasTreeRules}
 use Rattle.view_rules.specs.declared.profile.Profile.{Profile}
 use Rattle.view_rules.specs.declared.profile.Profile.TheVariants.{Plain, Strict}
 use Rattle.parent_chain.specs.Directories.{Rise}
+use Rattle.rule_index.specs.Order.{IsChain, inode_follows}
 use Rattle.rule_changes.specs.Changes.{Weaves, AreWoven, IsChange, IsPlainChange, HasDistinctInodes, is_of}
 use Rattle.rule_changes.specs.Known.{is_nameless}
 use Rattle.rule_changes.proofs.Law.{change-keeps}
 use Rattle.rule_changes.proofs.Weaving.{one-yes, one-no, in-stays, in-differs, in-woven}
 use Rattle.view_facts.specs.Kept.{IsGatheredView}
-use Rattle.view_change.specs.declared.kept.KeptView.{KeptView}
+use Rattle.view_change.specs.declared.kept_view.KeptView.{KeptView}
 use Rattle.view_change.specs.declared.changing.Change.{Change}
 use Rattle.view_change.specs.Kept.{facts_of, records_kept}
 use Rattle.view_change.specs.Changing.{HasDifference}
@@ -111,9 +113,14 @@ once (f ∷ fs) rise id = elim (test_or (f.id == id)) as (λ _. count_by (is_of 
       omega arith
 ]
 
--- no id has two inodes where ids rise
-pub rise-distinct : (facts : Facts) → Rise facts.inodes → HasDistinctInodes facts
-rise-distinct facts rise = once facts.inodes rise
+below : (a b : ℕ) → nat_lt a b ≡ true → a < b
+below a b e = grind (arith, nat_tests)
+
+-- no id has two inodes where they are in order
+pub chain-distinct : (facts : Facts) → IsChain inode_follows facts.inodes → HasDistinctInodes facts
+chain-distinct facts chain = once facts.inodes (λ k d low.
+    let at : k + 1 ≡ suc k = omega arith in
+    below (get_or facts.inodes k d).id (get_or facts.inodes (suc k) d).id (ap (λ j. inode_follows (get_or facts.inodes k d) (get_or facts.inodes j d)) (sym at) ∙ chain k d (omega arith)))
 
 -- ---- what is told
 -- what two facts of an answer give

@@ -14,7 +14,7 @@ use Rattle.view_rules.specs.Rules.{view_facts, HasFactRules, HasTreeRules}
 use Rattle.view_rules.specs.declared.profile.Profile.{Profile}
 use Rattle.rule_changes.specs.Changes.{HasDistinctInodes}
 use Rattle.rule_changes.specs.Known.{is_nameless}
-use Rattle.view_change.specs.declared.kept.KeptView.{KeptView}
+use Rattle.view_change.specs.declared.kept_view.KeptView.{KeptView}
 use Rattle.view_change.specs.Kept.{facts_of}
 use Rattle.view_change.specs.Difference.{IsKeptOf}
 use Rattle.tree_rules.specs.Tallies.{IsTally}

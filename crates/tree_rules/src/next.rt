@@ -26,7 +26,6 @@ use crate::{CheckedView, Profile, ViewTally, check_with_extents};
 use blk_source::{BlockSource, NoMemory};
 use ext_ref::{Cover, NewRange};
 use obj_base::{Site, Stop};
-use parent_chain::do_ids_rise;
 use rule_breaks::extents::extents_with_ids;
 use rule_breaks::faults::Asked;
 use rule_changes::{is_plain, is_silent};
@@ -61,30 +60,23 @@ fn raise(stop: Stop<()>) -> Stop<TreeFault>
     }
 }
 
-// Whether it shows that no id has two inodes.
-fn are_inodes_distinct(facts: &Facts) -> bool
-    ensures { IsTrue result → HasDistinctInodes facts.now }
-{
-    do_ids_rise(&facts.inodes)
-}
-
 // Whether it shows that facts are right, by how they differ from facts that are.
 fn are_right_still(
     alloc: Global,
     asked: &Asked<'_>,
     cover: &Cover,
-    after: &Facts,
+    after: &KeptView,
     gone: &Facts,
     come: &Facts,
 ) -> Result<bool, NoMemory>
     requires size { 0 < asked.now.site.now.block_size }
     requires cover { IsCoverOf asked.now.ranges.now cover.now }
-    ensures { IfOk result (λ right. IsTrue right → (before same : facts.Facts) → spec.AreRight asked.now.profile asked.now.site.now asked.now.ranges.now before → after.now.names ≡ before.names → AreWoven before same gone.now → AreWoven after.now same come.now → spec.AreRight asked.now.profile asked.now.site.now asked.now.ranges.now after.now) }
+    ensures { IfOk result (λ right. IsTrue right → (before same : facts.Facts) → spec.AreRight asked.now.profile asked.now.site.now asked.now.ranges.now before → (facts_of after.now).names ≡ before.names → AreWoven before same gone.now → AreWoven (facts_of after.now) same come.now → spec.AreRight asked.now.profile asked.now.site.now asked.now.ranges.now (facts_of after.now)) }
 {
-    if !are_inodes_distinct(after) {
+    if !after.is_in_order() {
         return Ok(false);
     }
-    let index = Index::new(alloc, after)?;
+    let index = Index::after(alloc, after.facts(), gone, come)?;
     if !is_plain(alloc, asked, cover, &index, gone, come)? {
         return Ok(false);
     }
@@ -107,7 +99,7 @@ fn check_kept(
         Err(stop) => return Err(stop),
     };
     let extents = extents_with_ids(alloc, kept.facts())?;
-    let is_right = tally.notes.is_empty() && are_inodes_distinct(kept.facts());
+    let is_right = tally.notes.is_empty() && kept.is_in_order();
     let checked = CheckedView { tally, extents };
     let kept = if is_right { Some(kept) } else { None };
     Ok(CheckedNext { checked, kept })
@@ -146,14 +138,7 @@ fn check_followed(
     ensures present { (image : List ℕ) (volume : Loaded) → IsKeptOf image asked.now.site.now volume asked.now.view.now after → IfErr result (Tells (rules.IsTreeFault asked.now.profile image asked.now.site.now volume asked.now.view.now asked.now.ranges.now) (IsViewFeature image asked.now.site.now volume asked.now.view.now)) }
     ensures no_read { IsErrOf result ReadFault → ⊥ }
 {
-    if are_right_still(
-        alloc,
-        asked,
-        cover,
-        after.facts(),
-        &change.gone,
-        &change.come,
-    )? {
+    if are_right_still(alloc, asked, cover, &after, &change.gone, &change.come)? {
         return Ok(checked_by(alloc, after, &change.come)?);
     }
     match check_kept(alloc, asked, after) {

@@ -7,16 +7,17 @@ use crate::tests::trees::Top::Root;
 use crate::tests::trees::{
     At, Block, Count, FILE, FOLDER, Id, In, LINK, Rec, Sibling, Size, image_of,
 };
-use blk_source::MemSource;
+use blk_source::{MemSource, NoMemory};
 use ext_ref::{Cover, NewRange};
 use img_make::table;
 use obj_base::Site;
 use rule_breaks::faults::Asked;
 use rule_changes::{is_plain, is_silent};
 use rule_index::Index;
+use rule_index::chain::are_in_order;
 use std::alloc::{AllocError, Global};
 use std::test::Fail;
-use view_facts::{ViewFacts, view_facts};
+use view_facts::{Facts, ViewFacts, view_facts};
 use view_rules::Profile;
 
 // The ranges that cover the blocks of extents.
@@ -134,6 +135,19 @@ fn joined(alloc: Global, some: &[Rec], more: &[Rec]) -> Result<Vec<Rec>, AllocEr
     Ok(all)
 }
 
+// An index of the facts after a change; none where they aren't in order.
+fn index_after<'a>(
+    alloc: Global,
+    facts: &'a Facts,
+    gone: &Facts,
+    come: &Facts,
+) -> Result<Option<Index<'a>>, NoMemory> {
+    if !are_in_order(facts) {
+        return Ok(None);
+    }
+    Ok(Some(Index::after(alloc, facts, gone, come)?))
+}
+
 // Whether a change shows to be plain, and to bring no notes.
 fn shows(alloc: Global, same: &[Rec], gone: Tree, come: Tree) -> Result<(bool, bool), Fail> {
     let records = joined(alloc, same, come.1)?;
@@ -147,7 +161,9 @@ fn shows(alloc: Global, same: &[Rec], gone: Tree, come: Tree) -> Result<(bool, b
         profile: Profile::Strict,
     };
     let cover = Cover::of(alloc, &RANGES)?;
-    let index = Index::new(alloc, &after.facts)?;
+    let Some(index) = index_after(alloc, &after.facts, &gone.facts, &come.facts)? else {
+        return Ok((false, false));
+    };
     let plain = is_plain(alloc, &asked, &cover, &index, &gone.facts, &come.facts)?;
     let silent = is_silent(alloc, &index, &gone.facts, &come.facts)?;
     Ok((plain, silent))

@@ -1,20 +1,26 @@
-use Rattle.std.proofs.Common.{◌≡◌, sym, subst, true}
+use Rattle.std.proofs.Common.{◌≡◌, ◌∙◌, sym, subst, true}
 use Rattle.view_rules.specs.Words.{IsClear}
 use Rattle.view_rules.specs.Facts.{Facts}
 use Rattle.view_rules.specs.Names.{HasNameHashes}
+use Rattle.rule_index.specs.Order.{AreInOrder}
 use Rattle.rule_changes.specs.Changes.{HasDistinctInodes, IsChange, IsPlainChange}
 use Rattle.rule_changes.specs.Known.{is_nameless}
-use Rattle.tree_rules.proofs.Nexts.{both-ok, changed, right-still}
+use Rattle.view_change.specs.Kept.{facts_of}
+use Rattle.tree_rules.proofs.Nexts.{both-ok, chain-distinct, changed, right-still}
 use Rattle.tree_rules.proofs.next.are_right_still.Goals as goal
+
+pub after-requires : goal.after-requires
+after-requires c = subst AreInOrder (sym c.facts.ensures) (c.is_in_order.ensures c.if-not-is_in_order.false)
 
 pub returns : goal.returns
 returns c =
     let asked = c.args.asked.now in
-    let after = c.args.after.now in
+    let after = facts_of c.args.after.now in
     let gone = c.args.gone.now in
     let come = c.args.come.now in
-    let distinct : HasDistinctInodes after = c.are_inodes_distinct.ensures c.if-not-are_inodes_distinct.false in
-    let same_facts : c.in_ok-index.index.facts.now ≡ after = c.in_ok-index.ensures in
+    let order : AreInOrder after = c.is_in_order.ensures c.if-not-is_in_order.false in
+    let distinct : HasDistinctInodes after = chain-distinct after order.inodes in
+    let same_facts : c.in_ok-index.index.facts.now ≡ after = c.in_ok-index.ensures ∙ c.facts.ensures in
     both-ok c.is_silent.result (λ right named hashed told before same had names left made.
     let change = changed before after gone come same had.distinct distinct names left made in
     let there = subst (λ (f : Facts). IsChange before f gone come same) (sym same_facts) change in

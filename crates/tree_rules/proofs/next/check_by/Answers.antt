@@ -1,6 +1,6 @@
 use Rattle.std.proofs.Common.{sym, subst}
 use Rattle.std.specs.Prelude.{Option, IfSome}
-use Rattle.view_change.specs.declared.kept.KeptView.{KeptView}
+use Rattle.view_change.specs.declared.kept_view.KeptView.{KeptView}
 use Rattle.tree_rules.specs.Known.{IsKnownBefore, IsCheckedNext, extents_before}
 use Rattle.tree_rules.proofs.next.check_by.Goals as goal
 

@@ -1,6 +1,6 @@
 use Rattle.std.proofs.Common.{subst}
 use Rattle.std.specs.Prelude.{[], Option, IfSome}
-use Rattle.view_change.specs.declared.kept.KeptView.{KeptView}
+use Rattle.view_change.specs.declared.kept_view.KeptView.{KeptView}
 use Rattle.view_change.specs.Difference.{IsKeptOf}
 use Rattle.tree_rules.proofs.next.check_first.Goals as goal
 

@@ -1,8 +1,4 @@
-use Rattle.std.proofs.Common.{◌≡◌, ◌∙◌, sym, ap, subst}
-use Rattle.view_rules.specs.Facts.{Facts}
 use Rattle.view_rules.specs.Listed.{extents_with_ids}
-use Rattle.rule_changes.specs.Changes.{AreWoven}
-use Rattle.view_change.specs.declared.changing.Change.{Change}
 use Rattle.view_change.specs.Kept.{facts_of}
 use Rattle.tree_rules.specs.Known.{AreRight}
 use Rattle.tree_rules.proofs.Nexts.{told-change}
@@ -15,11 +11,8 @@ returns-then-branch-clause-clear c image volume before is right d =
     let ranges = asked.ranges.now in
     let after = c.args.after in
     let change = c.args.change.now in
-    let these : c.facts.result.now ≡ facts_of after = c.facts.ensures in
     let told = c.in_ok-checked_by.ensures in
-    let right_now : AreRight asked.profile site ranges (facts_of after) =
-    subst (λ (f : Facts). AreRight asked.profile site ranges f) these
-    (c.in_ok-are_right_still.ensures c.if-branch.true before d.same right (ap (λ (f : Facts). f.names) these ∙ d.names) d.left (subst (λ (f : Facts). AreWoven f d.same change.come) (sym these) d.made)) in
+    let right_now : AreRight asked.profile site ranges (facts_of after) = c.in_ok-are_right_still.ensures c.if-branch.true before d.same right d.names d.left d.made in
     told-change asked.profile image site volume ranges asked.view.now before after change c.in_ok-checked_by.field-0 is d right_now told.records told.notes told.extents told.kept
 
 pub returns-in-Ok-clause-clear : goal.returns-in-Ok-clause-clear

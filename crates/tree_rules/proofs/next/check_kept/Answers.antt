@@ -5,11 +5,11 @@ use Rattle.view_rules.specs.Facts.{Facts}
 use Rattle.view_rules.specs.Listed.{extents_with_ids}
 use Rattle.view_rules.specs.Rules.{HasFactRules}
 use Rattle.rule_changes.specs.Changes.{HasDistinctInodes}
-use Rattle.view_change.specs.declared.kept.KeptView.{KeptView}
+use Rattle.view_change.specs.declared.kept_view.KeptView.{KeptView}
 use Rattle.view_change.specs.Kept.{facts_of}
 use Rattle.tree_rules.specs.Known.{AreRight}
 use Rattle.tree_rules.specs.Tallies.{notes_of}
-use Rattle.tree_rules.proofs.Nexts.{none-long, gathered-same, right-if-silent, told-whole}
+use Rattle.tree_rules.proofs.Nexts.{chain-distinct, none-long, gathered-same, right-if-silent, told-whole}
 use Rattle.tree_rules.proofs.next.check_kept.Goals.{then-is_empty, else-is_empty, then-is_right, else-is_right}
 use Rattle.tree_rules.proofs.next.check_kept.Goals as goal
 
@@ -30,7 +30,7 @@ returns-clause-clear c image volume before is =
         refl,
         (elim c.if-is_empty.branch as (λ _. AreRight asked.profile site ranges (facts_of kept)) [
           | then-is_empty v ↦
-              let distinct : HasDistinctInodes (facts_of kept) = subst HasDistinctInodes v.facts-then-is_empty.ensures (v.are_inodes_distinct-is_right.ensures (sym v.is_right-is ∙ w.if-is_right.true)) in
+              let distinct : HasDistinctInodes (facts_of kept) = chain-distinct (facts_of kept) (v.is_in_order-is_right.ensures (sym v.is_right-is ∙ w.if-is_right.true)).inodes in
               let nothing : length c.in-Ok.tally.notes.items ≡ 0 = grind (arith, nat_tests, c.in-Ok.tally.notes.ok.0, c.is_empty.ensures, v.if-is_empty.true) in
               right-if-silent asked.profile site ranges view (facts_of kept) rules distinct (sym noted ∙ none-long c.in-Ok.tally.notes.items nothing)
           | else-is_empty v ↦ absurd (let no = sym v.is_right-is ∙ w.if-is_right.true in cc)
