@@ -148,6 +148,12 @@ def stream_id(id):
     return struct.pack("<Q", id | 6 << 60), struct.pack("<I", 1)
 
 
+def attribute(file, name, value):
+    """An attribute whose value stands in its record; of one file in the order of their names."""
+    text = name.encode() + b"\0"
+    return struct.pack("<QH", file | 4 << 60, len(text)) + text, struct.pack("<HH", 2, len(value)) + value
+
+
 def links(file, sibling, folder, name):
     """The link and the map of a sibling."""
     text = name.encode() + b"\0"

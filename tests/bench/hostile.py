@@ -19,7 +19,7 @@ import sys
 import tempfile
 
 sys.dont_write_bytecode = True
-from container import BLOCK, EPHEMERAL, FILE, FOLDER, IS_LEAF, IS_ROOT, PHYSICAL, Container, Volume, entry, extent, folders, inode, laid, links, node, order_of, sealed, stream_id
+from container import BLOCK, EPHEMERAL, FILE, FOLDER, IS_LEAF, IS_ROOT, PHYSICAL, Container, Volume, attribute, entry, extent, folders, inode, laid, links, node, order_of, sealed, stream_id
 
 
 def plain_files(count, folder=2, first=16):
@@ -41,6 +41,17 @@ def shared_tree(count, path):
     container = Container(xid=count + 1)
     volume = Volume(container)
     root = volume.files([*folders(20 * count), *plain_files(20 * count)])
+    for xid in range(1, count + 1):
+        volume.snapshot(xid, root)
+    volume.finish(root)
+    return container.finish(path)
+
+
+def tiny_tree(count, path):
+    """Snapshots that share one tree of twenty files"""
+    container = Container(xid=count + 1)
+    volume = Volume(container)
+    root = volume.files([*folders(20), *plain_files(20)])
     for xid in range(1, count + 1):
         volume.snapshot(xid, root)
     volume.finish(root)
@@ -90,6 +101,11 @@ def leaf_of_many(count, path):
 def leaves_of_many(count, path):
     """Snapshots between which twenty leaves of a tree of 50,000 files change"""
     return changing_leaves(count, 50000, 20, path)
+
+
+def million_in_snapshots(count, path):
+    """Snapshots between which twenty leaves of a tree of 1,000,000 files change"""
+    return changing_leaves(count, 1000000, 20, path)
 
 
 class Growing:
@@ -327,6 +343,32 @@ def hard_links(count, path):
     return one_volume(path, records)
 
 
+def two_names(count, path):
+    """Files with two names each, in one folder"""
+    records = folders(2 * count)
+    for i in range(count):
+        records.append(inode(16 + i, 2, FILE, 2))
+        for sibling, name in ((1 << 32 | 2 * i, f"one-{i:07}"), (1 << 32 | 2 * i + 1, f"two-{i:07}")):
+            records += [entry(2, name, 16 + i, FILE, sibling), *links(16 + i, sibling, 2, name)]
+    return one_volume(path, records)
+
+
+def attributes(count, path):
+    """Files with an attribute each, of a hundred bytes"""
+    return one_volume(path, [*folders(count), *plain_files(count), *(attribute(16 + i, "user.note", bytes(100)) for i in range(count))])
+
+
+def many_extents(count, path):
+    """Extents of one file, a block each, under every second block of one new range"""
+    container = Container()
+    data = container.take(2 * count)
+    records = [*folders(1), entry(2, "file", 16, FILE), inode(16, 2, FILE, 1, count * BLOCK), stream_id(16)]
+    records += [extent(16, i * BLOCK, BLOCK, data + 2 * i) for i in range(count)]
+    volume = Volume(container)
+    volume.finish(volume.files(records), [(data, 2 * count, 16, 1)])
+    return container.finish(path)
+
+
 def many_volumes(count, path):
     """Volumes of a thousand empty files each, a hundred of them at most"""
     container = Container()
@@ -371,10 +413,12 @@ def repeated_child(count, path):
 CHECK, LS, TREE, CAT, SPACE, SNAPSHOTS, USAGE, EXPORT = ["check"], ["ls", "/"], ["tree", "/"], ["cat", "/file", "--quick"], ["space"], ["snapshots"], ["usage"], ["export"]
 SHAPES = {
     "shared-tree": (shared_tree, 250, [CHECK, SNAPSHOTS]),
+    "tiny-tree": (tiny_tree, 5000, [CHECK]),
     "other-roots": (other_roots, 250, [CHECK]),
     "own-leaf": (own_leaf, 125, [CHECK]),
     "leaf-of-many": (leaf_of_many, 8, [CHECK]),
     "leaves-of-many": (leaves_of_many, 38, [CHECK]),
+    "million-in-snapshots": (million_in_snapshots, 4, [CHECK]),
     "files-come-and-go": (files_come_and_go, 38, [CHECK]),
     "extents-in-snapshots": (extents_in_snapshots, 125, [CHECK, CAT]),
     "turns-of-extents": (turns_of_extents, 50, [CHECK, USAGE]),
@@ -387,6 +431,9 @@ SHAPES = {
     "deep-files": (deep_files, 250, [CHECK, TREE, EXPORT]),
     "one-folder": (one_folder, 62500, [CHECK, LS, TREE]),
     "hard-links": (hard_links, 10000, [CHECK, TREE]),
+    "two-names": (two_names, 25000, [CHECK]),
+    "attributes": (attributes, 6250, [CHECK, TREE]),
+    "many-extents": (many_extents, 125000, [CHECK]),
     "many-volumes": (many_volumes, 12, [CHECK]),
     "free-blocks": (free_blocks, 64000000, [CHECK, SPACE]),
     "bare-chunks": (bare_chunks, 100000000, [CHECK, SPACE]),
