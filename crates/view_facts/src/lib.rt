@@ -2,6 +2,7 @@
 #![tactic(auto)]
 
 mod adding;
+mod alike;
 mod contents;
 mod facts;
 mod gathering;
@@ -10,5 +11,6 @@ mod scope;
 mod text;
 
 pub use adding::add_record;
+pub use alike::KeptFact;
 pub use facts::{AttributeFact, EntryFact, ExtentFact, Facts, InodeFact, LinkFact, SiblingFact};
 pub use gathering::{ViewFacts, fault_of, view_facts, view_files};

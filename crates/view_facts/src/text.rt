@@ -1,5 +1,5 @@
 // A name that is kept, and the sibling's id of its entry, where it has one.
-ghost use Rattle.std.specs.Prelude.{◌≡◌, ◌≤◌, Option, None, length, IsOk, IfOk};
+ghost use Rattle.std.specs.Prelude.{◌≡◌, ◌≤◌, Option, None, length, IsOk, IfOk, IsTrue};
 ghost use Rattle.std.specs.String.{string_bytes};
 ghost use Rattle.view_facts.specs.Texts.{bytes_of, sibling_of};
 
@@ -73,5 +73,13 @@ impl Text {
             Text::Long(_) => None,
             Text::Twin { name: _, sibling } => Some(*sibling),
         }
+    }
+
+    /// Whether it is the name of another, with the same sibling's id.
+    pub(crate) fn is_same(&self, other: &Text) -> bool
+        ensures name { IsTrue result → bytes_of self.now ≡ bytes_of other.now }
+        ensures sibling { IsTrue result → sibling_of self.now ≡ sibling_of other.now }
+    {
+        self.as_str() == other.as_str() && self.sibling() == other.sibling()
     }
 }
