@@ -13,6 +13,7 @@ use Rattle.fs_record.specs.Facts.{Fact}
 use Rattle.fs_record.specs.declared.extents.FileExt.{FileExt}
 use Rattle.vol_view.specs.Volumes.{Loaded}
 use Rattle.vol_view.specs.declared.volume.View.{View}
+use Rattle.fs_name.specs.declared.naming.Names.{Names}
 use Rattle.view_rules.specs.Words.{IsClear}
 use Rattle.view_rules.specs.Facts.{Facts}
 use Rattle.view_rules.specs.Listed.{extents_with_ids}
@@ -22,13 +23,14 @@ use Rattle.view_rules.specs.declared.profile.Profile.{Profile}
 use Rattle.view_rules.specs.declared.profile.Profile.TheVariants.{Plain, Strict}
 use Rattle.parent_chain.specs.Directories.{Rise}
 use Rattle.rule_index.specs.Order.{IsChain, inode_follows}
-use Rattle.rule_changes.specs.Changes.{Weaves, AreWoven, IsChange, IsPlainChange, HasDistinctInodes, is_of}
+use Rattle.rule_changes.specs.Changes.{Weaves, ended, stays, AreWoven, IsChange, IsPlainChange, HasDistinctInodes, is_of}
 use Rattle.rule_changes.specs.Known.{is_nameless}
 use Rattle.rule_changes.proofs.Law.{change-keeps}
 use Rattle.rule_changes.proofs.Weaving.{one-yes, one-no, in-stays, in-differs, in-woven}
 use Rattle.view_facts.specs.Kept.{IsGatheredView}
 use Rattle.view_change.specs.declared.kept_view.KeptView.{KeptView}
 use Rattle.view_change.specs.declared.changing.Change.{Change}
+use Rattle.view_change.specs.Numbers.{no_facts_under}
 use Rattle.view_change.specs.Kept.{facts_of, records_kept}
 use Rattle.view_change.specs.Changing.{HasDifference}
 use Rattle.view_change.specs.Difference.{IsKeptOf, gathered_of}
@@ -207,4 +209,21 @@ told-change profile image site volume ranges view before after change next is d 
   tally = facts_tally profile image site volume view (gathered_of after) next.checked.tally is.gathered records (notes ∙ sym (silent profile site ranges view (facts_of after) right));
   extents = come-extents image site volume view before (facts_of after) d.same change.come next.checked.extents.items (kept-extents image site volume view after is) d.made.extents (λ f h. in-stays d.left.extents f h) extents;
   known = subst (λ (o : Option KeptView). IfSome o (IsKnown profile image site volume ranges view)) (sym kept) (record { is = is; right = right });
+}
+
+-- a list is the same where nothing else is woven into it
+all-same : {X : Type 0} {all same : List X} → Weaves all same [] → all ≡ same
+all-same ended = refl
+all-same (stays x all same other w) = ap (λ xs. x ∷ xs) (all-same w)
+
+-- facts are the same where none is gone and none has come
+pub unchanged : (before after same : Facts) (n m : Names) → after.names ≡ before.names → AreWoven before same (no_facts_under n) → AreWoven after same (no_facts_under m) → before ≡ after
+unchanged before after same n m named left made = λ i. record {
+  names = sym named i;
+  inodes = (all-same left.inodes ∙ sym (all-same made.inodes)) i;
+  entries = (all-same left.entries ∙ sym (all-same made.entries)) i;
+  attributes = (all-same left.attributes ∙ sym (all-same made.attributes)) i;
+  links = (all-same left.links ∙ sym (all-same made.links)) i;
+  siblings = (all-same left.siblings ∙ sym (all-same made.siblings)) i;
+  extents = (all-same left.extents ∙ sym (all-same made.extents)) i;
 }

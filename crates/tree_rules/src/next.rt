@@ -31,7 +31,7 @@ use rule_breaks::faults::Asked;
 use rule_changes::{is_plain, is_silent};
 use rule_index::Index;
 use std::alloc::Global;
-use view_change::{Change, Changed, KeptView, difference, keep};
+use view_change::{Change, Changed, KeptView, are_none, difference, keep};
 use view_facts::{Facts, InodeFact};
 use view_rules::TreeFault;
 use vol_view::{View, Volume};
@@ -73,6 +73,9 @@ fn are_right_still(
     requires cover { IsCoverOf asked.now.ranges.now cover.now }
     ensures { IfOk result (λ right. IsTrue right → (before same : facts.Facts) → spec.AreRight asked.now.profile asked.now.site.now asked.now.ranges.now before → (facts_of after.now).names ≡ before.names → AreWoven before same gone.now → AreWoven (facts_of after.now) same come.now → spec.AreRight asked.now.profile asked.now.site.now asked.now.ranges.now (facts_of after.now)) }
 {
+    if are_none(gone) && are_none(come) {
+        return Ok(true);
+    }
     if !after.is_in_order() {
         return Ok(false);
     }

@@ -9,14 +9,14 @@ use Rattle.bt_keys.specs.RecordKey.{inode_record, attribute_record, sibling_link
 use Rattle.fs_name.specs.declared.naming.Names.{Names}
 use Rattle.fs_record.specs.Facts.{fact_of, read_inode, read_entry, read_attribute, read_link, read_sibling, read_extent, refused, inodes_of, entries_of, attributes_of, links_of, sibling_files_of, extents_of}
 use Rattle.fs_record.specs.declared.fault.RecFault.{RecFault}
-use Rattle.rule_changes.specs.Changes.{AreWoven, ended}
+use Rattle.rule_changes.specs.Changes.{Weaves, AreWoven, ended}
 use Rattle.view_rules.specs.Facts.{Facts}
 use Rattle.view_facts.specs.Contents.{brief}
 use Rattle.view_facts.specs.Adding.{facts_with}
 use Rattle.view_facts.proofs.Adds.{facts-more}
 use Rattle.view_change.specs.Numbers.{numbers_of, numbers_since, no_facts_under, joined, behind, first_facts, rest_facts}
 use Rattle.view_change.specs.Kept.{facts_said, AreReadable}
-use Rattle.view_change.proofs.Weaving.{more-stay, more-differ}
+use Rattle.view_change.proofs.Weaving.{more-stay}
 
 -- parts of joined lists
 take-front : {X : Type 0} (xs ys : List X) → take (length xs) (xs ++ ys) ≡ xs
@@ -100,16 +100,39 @@ behind-joined others a b = λ i. record {
   extents = sym (append_assoc others.extents a.extents b.extents) i;
 }
 
--- no facts behind others
-pub behind-none : (others a b : Facts) → behind (joined (joined others a) b) (no_facts_under a.names) ≡ joined (behind others a) b
-behind-none others a b = λ i. record {
-  names = a.names;
-  inodes = append-nil ((others.inodes ++ a.inodes) ++ b.inodes) i;
-  entries = append-nil ((others.entries ++ a.entries) ++ b.entries) i;
-  attributes = append-nil ((others.attributes ++ a.attributes) ++ b.attributes) i;
-  links = append-nil ((others.links ++ a.links) ++ b.links) i;
-  siblings = append-nil ((others.siblings ++ a.siblings) ++ b.siblings) i;
-  extents = append-nil ((others.extents ++ a.extents) ++ b.extents) i;
+-- no facts behind others that go on
+pub behind-none : (others a : Facts) (names : Names) → behind (joined others a) (no_facts_under names) ≡ joined (behind others (no_facts_under names)) a
+behind-none others a names = λ i. record {
+  names = names;
+  inodes = (append-nil (others.inodes ++ a.inodes) ∙ ap (λ xs. xs ++ a.inodes) (sym (append-nil others.inodes))) i;
+  entries = (append-nil (others.entries ++ a.entries) ∙ ap (λ xs. xs ++ a.entries) (sym (append-nil others.entries))) i;
+  attributes = (append-nil (others.attributes ++ a.attributes) ∙ ap (λ xs. xs ++ a.attributes) (sym (append-nil others.attributes))) i;
+  links = (append-nil (others.links ++ a.links) ∙ ap (λ xs. xs ++ a.links) (sym (append-nil others.links))) i;
+  siblings = (append-nil (others.siblings ++ a.siblings) ∙ ap (λ xs. xs ++ a.siblings) (sym (append-nil others.siblings))) i;
+  extents = (append-nil (others.extents ++ a.extents) ∙ ap (λ xs. xs ++ a.extents) (sym (append-nil others.extents))) i;
+}
+
+-- no facts behind some that were put behind others
+pub put-behind : (others a : Facts) (names : Names) → names ≡ a.names → behind (joined others a) (no_facts_under names) ≡ behind others a
+put-behind others a names e = λ i. record {
+  names = e i;
+  inodes = append-nil (others.inodes ++ a.inodes) i;
+  entries = append-nil (others.entries ++ a.entries) i;
+  attributes = append-nil (others.attributes ++ a.attributes) i;
+  links = append-nil (others.links ++ a.links) i;
+  siblings = append-nil (others.siblings ++ a.siblings) i;
+  extents = append-nil (others.extents ++ a.extents) i;
+}
+
+-- no facts behind others are woven as these are
+pub behind-woven : {others same other : Facts} (names : Names) → AreWoven others same other → AreWoven (behind others (no_facts_under names)) same other
+behind-woven {others = others} {same = same} {other = other} names w = record {
+  inodes = subst (λ xs. Weaves xs same.inodes other.inodes) (sym (append-nil others.inodes)) w.inodes;
+  entries = subst (λ xs. Weaves xs same.entries other.entries) (sym (append-nil others.entries)) w.entries;
+  attributes = subst (λ xs. Weaves xs same.attributes other.attributes) (sym (append-nil others.attributes)) w.attributes;
+  links = subst (λ xs. Weaves xs same.links other.links) (sym (append-nil others.links)) w.links;
+  siblings = subst (λ xs. Weaves xs same.siblings other.siblings) (sym (append-nil others.siblings)) w.siblings;
+  extents = subst (λ xs. Weaves xs same.extents other.extents) (sym (append-nil others.extents)) w.extents;
 }
 
 -- what some records say, and others after them
@@ -185,17 +208,6 @@ joined-stay xs w = record {
   links = more-stay xs.links w.links;
   siblings = more-stay xs.siblings w.siblings;
   extents = more-stay xs.extents w.extents;
-}
-
--- more facts of all and of the others
-pub joined-differ : (xs : Facts) {all same other : Facts} → AreWoven all same other → AreWoven (joined all xs) same (joined other xs)
-joined-differ xs w = record {
-  inodes = more-differ xs.inodes w.inodes;
-  entries = more-differ xs.entries w.entries;
-  attributes = more-differ xs.attributes w.attributes;
-  links = more-differ xs.links w.links;
-  siblings = more-differ xs.siblings w.siblings;
-  extents = more-differ xs.extents w.extents;
 }
 
 -- no facts are woven

@@ -1,4 +1,5 @@
 mod Weaving
+mod Settles
 mod Rings
 mod Outlines
 mod Passes

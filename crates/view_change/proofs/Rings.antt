@@ -1,6 +1,7 @@
 -- Chains in parts, and rings that turn.
-use Rattle.std.proofs.Common.{◌≡◌, ℕ, zero, suc, ◌+◌, ◌-◌, ◌<◌, ◌≤◌, Bool, true, List, [], ◌∷◌, ◌++◌, length, get_or, take, drop, ap, refl, sym, ◌∙◌, subst, min, arith}
+use Rattle.std.proofs.Common.{◌≡◌, ℕ, zero, suc, ◌+◌, ◌-◌, ◌<◌, ◌≤◌, Bool, true, List, [], ◌∷◌, ◌++◌, length, get_or, take, drop, ap, refl, sym, ◌∙◌, subst, min, arith, append_assoc}
 use Rattle.std.proofs.lemmas.List.{get_or-drop, get_or-take, get_or_default, length-drop, length-take-le, take-append-le, drop-append-le, drop-take, drop_all, take-append-drop}
+use Rattle.std.proofs.Math.Seq.{take-add}
 use Rattle.rule_index.specs.Order.{IsChain}
 use Rattle.view_change.specs.Rings.{MayCome}
 
@@ -88,6 +89,23 @@ drop-few zero zero (x ∷ xs) e = refl
 drop-few zero (suc k) (x ∷ xs) e = absurd (omega (arith, e))
 drop-few (suc n) zero (x ∷ xs) e = absurd (omega (arith, e))
 drop-few (suc n) (suc k) (x ∷ xs) e = drop-few n k xs (omega (arith, e))
+
+-- so they are the first of them
+pub take-few : {X : Type 0} (n k : ℕ) (xs : List X) → n ≡ min k (length xs) → take n xs ≡ take k xs
+take-few zero zero [] e = refl
+take-few zero (suc k) [] e = refl
+take-few (suc n) k [] e = absurd (omega (arith, e))
+take-few zero zero (x ∷ xs) e = refl
+take-few zero (suc k) (x ∷ xs) e = absurd (omega (arith, e))
+take-few (suc n) zero (x ∷ xs) e = absurd (omega (arith, e))
+take-few (suc n) (suc k) (x ∷ xs) e = ap (λ ys. x ∷ ys) (take-few n k xs (omega (arith, e)))
+
+-- more items of a ring wait to go to its end
+pub waits-taken : {X : Type 0} (items taken : List X) (waiting more number : ℕ) → more ≡ min number (length items - waiting) → taken ++ take (waiting + more) items ≡ (taken ++ take waiting items) ++ take number (drop waiting items)
+waits-taken items taken waiting more number e =
+    let long = length-drop waiting items in
+    ap (λ ys. taken ++ ys) (take-add waiting more items) ∙ (sym (append_assoc taken (take waiting items) (take more (drop waiting items)))
+    ∙ ap (λ ys. (taken ++ take waiting items) ++ ys) (take-few more number (drop waiting items) (omega (arith, e, long))))
 
 -- what is behind the first item of a ring
 pub next-left : {X : Type 0} (items : List X) (left : ℕ) → 0 < left → take (left - 1) (drop 1 items) ≡ drop 1 (take left items)

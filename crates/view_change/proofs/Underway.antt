@@ -28,8 +28,10 @@ use Rattle.view_change.specs.Ends.{leaf_item, leaf_items, HasEnds}
 use Rattle.view_change.specs.Numbers.{numbers_of, numbers_since, no_facts_under, joined, behind, first_facts, rest_facts}
 use Rattle.view_change.specs.Kept.{leaf_of, facts_said, AreReadable, IsKeptLeaf, AreKept, IsHeld, IsKeptView}
 use Rattle.view_change.specs.declared.changing.Changing.{Changing}
-use Rattle.view_change.specs.Changing.{IsFollowed, IsUnderway, IsDifference, HasChangedTo, facts_before, held_after}
-use Rattle.view_change.proofs.Joined.{joined-assoc, first-joined, rest-joined, since-joined, joined-none, behind-joined, said-append, said-none, joined-stay, joined-differ, none-woven}
+use Rattle.view_change.specs.Changing.{IsUnderway, IsDifference, HasChangedTo, HasSettledTo, facts_before, held_after}
+use Rattle.view_change.specs.Settled.{AreSettled}
+use Rattle.view_change.proofs.Joined.{joined-assoc, first-joined, rest-joined, since-joined, joined-none, behind-joined, behind-none, put-behind, behind-woven, said-append, said-none, joined-stay, none-woven}
+use Rattle.view_change.proofs.Settles.{same_of, gone-settled, come-settled}
 
 module _ {K : Type 0} (shape : Shape K) (site : Site) (image : List ℕ) where
   -- what is kept of the facts that the records of a leaf say
@@ -69,22 +71,23 @@ module _ {K : Type 0} (shape : Shape K) (site : Site) (image : List ℕ) where
       ∙ (sym (joined-assoc passed (said names kept) (facts_said names (records_in shape site image (map leaf_of more))))
       ∙ ap (joined (joined passed (said names kept))) (sym (kept-rest names kept more facts all))))
 
-  -- a leaf of the view before is passed over, and its facts are gone
-  pub passes-over : (before : Facts) (leaves : List Leaf) (kept : KeptLeaf) (more : List KeptLeaf) (left rest : Facts) (after : Held) (follows : Bool) (gone less come : Facts)
-      → rest ≡ rest_facts kept.numbers left → less ≡ joined gone (first_facts kept.numbers left)
-      → IsUnderway shape site image before leaves (kept ∷ more) left after follows gone come → IsUnderway shape site image before leaves more rest after follows less come
-  passes-over before leaves kept more left rest after follows gone less come on lost so =
+  -- a leaf of the view before is passed over
+  pub passes-over : (before : Facts) (leaves : List Leaf) (kept : KeptLeaf) (more : List KeptLeaf) (left rest : Facts) (after : Held) (follows : Bool) (taken passed farther gone come : Facts)
+      → rest ≡ rest_facts kept.numbers left → farther ≡ joined passed (first_facts kept.numbers left)
+      → IsUnderway shape site image before leaves (kept ∷ more) left after follows taken passed gone come → IsUnderway shape site image before leaves more rest after follows taken farther gone come
+  passes-over before leaves kept more left rest after follows taken passed farther gone come on over so =
       let first = kept-first before.names kept more left so.rest in
-      subst (λ (f : Facts). IsUnderway shape site image before leaves more f after follows less come) (sym on)
-      (subst (λ (f : Facts). IsUnderway shape site image before leaves more (rest_facts kept.numbers left) after follows f come) (sym (lost ∙ ap (joined gone) first)) (record {
+      subst (λ (f : Facts). IsUnderway shape site image before leaves more f after follows taken farther gone come) (sym on)
+      (subst (λ (f : Facts). IsUnderway shape site image before leaves more (rest_facts kept.numbers left) after follows taken f gone come) (sym (over ∙ ap (joined passed) first)) (record {
         rest = rest-kept before.names kept more left so.rest;
         view = so.view;
         followed = λ on. let had = so.followed on in record {
-          passed = joined had.passed (said before.names kept);
+          settled = had.settled;
           same = had.same;
-          split = pass-first before.names kept more before had.passed left so.rest had.split;
-          lost = joined-differ (said before.names kept) had.lost;
+          split = pass-first before.names kept more before (joined had.settled passed) left so.rest had.split ∙ ap (λ (f : Facts). joined f (rest_facts kept.numbers left)) (joined-assoc had.settled passed (said before.names kept));
+          lost = had.lost;
           made = had.made;
+          passed_names = had.passed_names;
           gone_names = had.gone_names;
           come_names = had.come_names;
         };
@@ -124,82 +127,111 @@ module _ {K : Type 0} (shape : Shape K) (site : Site) (image : List ℕ) where
         records = given-more view.records count kept.ends.count new.records had.records counted ∙ ap given (sym lengths);
       }
 
-  -- a leaf of the view before is one of the view after, and its facts are the same
-  pub stays-too : (before : Facts) (leaves : List Leaf) (kept : KeptLeaf) (more : List KeptLeaf) (left rest : Facts) (after new : Held) (follows : Bool) (gone come : Facts)
-      → rest ≡ rest_facts kept.numbers left → new.facts ≡ joined after.facts (first_facts kept.numbers left)
-      → new.leaves.items ≡ after.leaves.items ++ kept ∷ [] → new.records ≡ given (after.records + kept.ends.count)
-      → IsUnderway shape site image before leaves (kept ∷ more) left after follows gone come → IsUnderway shape site image before (leaves ++ kept.leaf ∷ []) more rest new follows gone come
-  stays-too before leaves kept more left rest after new follows gone come on said-first put counted so =
-      let same : new.facts ≡ joined after.facts (said before.names kept) = said-first ∙ ap (joined after.facts) (kept-first before.names kept more left so.rest) in
-      subst (λ (f : Facts). IsUnderway shape site image before (leaves ++ kept.leaf ∷ []) more f new follows gone come) (sym on) (record {
-        rest = rest-kept before.names kept more left so.rest;
-        view = view-more before.names leaves after new kept (kept-leaf before.names kept more left so.rest) put same counted so.view;
-        followed = λ on. let had = so.followed on in record {
-          passed = joined had.passed (said before.names kept);
-          same = joined had.same (said before.names kept);
-          split = pass-first before.names kept more before had.passed left so.rest had.split;
-          lost = joined-stay (said before.names kept) had.lost;
-          made = subst (λ (f : Facts). AreWoven f (joined had.same (said before.names kept)) come) (sym same) (joined-stay (said before.names kept) had.made);
-          gone_names = had.gone_names;
-          come_names = had.come_names;
+  -- the names of the facts after are compared as those before
+  view-names : (names : Names) (leaves : List Leaf) (view : Held) → IsHeld shape site image names leaves view → view.facts.names ≡ names
+  view-names names leaves view had = ap (λ (f : Facts). f.names) had.kept.said
+
+  -- it is told what is gone and what has come
+  pub settles : (start now new : Changing) (leaves : List Leaf) (left : List KeptLeaf) → new.after.leaves ≡ now.after.leaves → new.after.records ≡ now.after.records → new.follows ≡ now.follows
+      → new.stock.0 ≡ now.stock.0 → new.stock.1 ≡ joined now.stock.1 now.after.facts → new.passed ≡ no_facts_under now.after.facts.names → new.after.facts ≡ no_facts_under now.after.facts.names
+      → AreSettled now.passed now.after.facts now.gone new.gone now.come new.come → HasChangedTo shape site image leaves start left now → HasSettledTo shape site image leaves start left new
+  settles start now new leaves left listed counted on stays put passed read told so =
+      let before = facts_before start in
+      let named = view-names before.names leaves (held_after now) so.view in
+      let held : held_after new ≡ held_after now = (λ i. record { leaves = listed i; facts = behind (put i) (read i); records = counted i }) ∙ ap (λ (f : Facts). record { leaves = now.after.leaves; facts = f; records = now.after.records }) (put-behind now.stock.1 now.after.facts now.after.facts.names refl) in
+      record {
+        changed = record {
+          rest = subst (AreKept shape site image before.names left) (sym stays) so.rest;
+          view = subst (IsHeld shape site image before.names leaves) (sym held) so.view;
+          followed = λ follows. let had = so.followed (sym on ∙ follows) in record {
+            settled = joined had.settled now.passed;
+            same = joined had.same (same_of told);
+            split = had.split ∙ ((λ i. joined (sym (joined-none (joined had.settled now.passed) now.after.facts.names) i) (sym stays i)) ∙ ap (λ (f : Facts). joined (joined (joined had.settled now.passed) f) new.stock.0) (sym passed));
+            lost = gone-settled had.lost told;
+            made = subst (λ (f : Facts). AreWoven f (joined had.same (same_of told)) new.come) (sym put) (come-settled had.made told);
+            passed_names = ap (λ (f : Facts). f.names) passed ∙ named;
+            gone_names = told.gone_names ∙ had.gone_names;
+            come_names = told.come_names ∙ had.come_names;
+          };
         };
-      })
+        passed = passed ∙ ap (λ (f : Facts). no_facts_under f.names) (sym passed);
+        read = read ∙ ap (λ (f : Facts). no_facts_under f.names) (sym read);
+      }
+
+  -- a leaf of the view before is one of the view after, and its facts are the same
+  pub stays-too : (start now new : Changing) (leaves : List Leaf) (kept : KeptLeaf) (more : List KeptLeaf) → new.follows ≡ now.follows
+      → new.stock.0 ≡ rest_facts kept.numbers now.stock.0 → new.stock.1 ≡ joined now.stock.1 (first_facts kept.numbers now.stock.0)
+      → new.passed ≡ now.passed → new.gone ≡ now.gone → new.come ≡ now.come → new.after.facts ≡ now.after.facts
+      → new.after.leaves.items ≡ now.after.leaves.items ++ kept ∷ [] → new.after.records ≡ given (now.after.records + kept.ends.count)
+      → HasSettledTo shape site image leaves start (kept ∷ more) now → HasChangedTo shape site image (leaves ++ kept.leaf ∷ []) start more new
+  stays-too start now new leaves kept more on over put passed gone come read listed counted settled =
+      let so = settled.changed in
+      let before = facts_before start in
+      let first = kept-first before.names kept more now.stock.0 so.rest in
+      let named = view-names before.names leaves (held_after now) so.view in
+      let more-said : new.stock.1 ≡ joined now.stock.1 (said before.names kept) = put ∙ ap (joined now.stock.1) first in
+      let none : new.after.facts ≡ no_facts_under now.after.facts.names = read ∙ settled.read in
+      let was : behind now.stock.1 now.after.facts ≡ behind now.stock.1 (no_facts_under now.after.facts.names) = ap (behind now.stock.1) settled.read in
+      let same : (held_after new).facts ≡ joined (held_after now).facts (said before.names kept) =
+      (λ i. behind (more-said i) (none i)) ∙ (behind-none now.stock.1 (said before.names kept) now.after.facts.names ∙ ap (λ (f : Facts). joined f (said before.names kept)) (sym was)) in
+      record {
+        rest = subst (AreKept shape site image before.names more) (sym over) (rest-kept before.names kept more now.stock.0 so.rest);
+        view = view-more before.names leaves (held_after now) (held_after new) kept (kept-leaf before.names kept more now.stock.0 so.rest) listed same counted so.view;
+        followed = λ follows. let had = so.followed (sym on ∙ follows) in record {
+          settled = joined had.settled (said before.names kept);
+          same = joined had.same (said before.names kept);
+          split = pass-first before.names kept more before had.settled now.stock.0 so.rest (had.split ∙ (ap (λ (f : Facts). joined (joined had.settled f) now.stock.0) settled.passed ∙ ap (λ (f : Facts). joined f now.stock.0) (joined-none had.settled now.passed.names)))
+              ∙ ((λ i. joined (sym (joined-none (joined had.settled (said before.names kept)) now.passed.names) i) (sym over i)) ∙ ap (λ (f : Facts). joined (joined (joined had.settled (said before.names kept)) f) new.stock.0) (sym settled.passed ∙ sym passed));
+          lost = subst (λ (f : Facts). AreWoven (joined had.settled (said before.names kept)) (joined had.same (said before.names kept)) f) (sym gone) (joined-stay (said before.names kept) had.lost);
+          made = subst (λ (f : Facts). AreWoven f (joined had.same (said before.names kept)) new.come) (sym more-said) (subst (λ (f : Facts). AreWoven (joined now.stock.1 (said before.names kept)) (joined had.same (said before.names kept)) f) (sym come) (joined-stay (said before.names kept) had.made));
+          passed_names = ap (λ (f : Facts). f.names) passed ∙ had.passed_names;
+          gone_names = ap (λ (f : Facts). f.names) gone ∙ had.gone_names;
+          come_names = ap (λ (f : Facts). f.names) come ∙ had.come_names;
+        };
+      }
 
   -- the leaf that was sought was found
   pub found-one : (leaf : Leaf) (found : Option KeptLeaf) (kept : KeptLeaf) → found ≡ Some kept → IfSome found (λ (other : KeptLeaf). Some leaf ≡ Some other.leaf) → leaf ≡ kept.leaf
   found-one leaf found kept is same = ap (λ o. unwrap_or o leaf) (subst (λ o. IfSome o (λ (other : KeptLeaf). Some leaf ≡ Some other.leaf)) is same)
 
-  pub found-first : (before : Facts) (leaves : List Leaf) (found : Option KeptLeaf) (kept : KeptLeaf) (more : List KeptLeaf) (left : Facts) (after : Held) (follows : Bool) (gone come : Facts) → found ≡ Some kept
-      → IsUnderway shape site image before leaves (option_to_list found ++ more) left after follows gone come → IsUnderway shape site image before leaves (kept ∷ more) left after follows gone come
-  found-first before leaves found kept more left after follows gone come is so = subst (λ o. IsUnderway shape site image before leaves (option_to_list o ++ more) left after follows gone come) is so
+  pub found-first : (before : Facts) (leaves : List Leaf) (found : Option KeptLeaf) (kept : KeptLeaf) (more : List KeptLeaf) (left : Facts) (after : Held) (follows : Bool) (taken passed gone come : Facts) → found ≡ Some kept
+      → IsUnderway shape site image before leaves (option_to_list found ++ more) left after follows taken passed gone come → IsUnderway shape site image before leaves (kept ∷ more) left after follows taken passed gone come
+  found-first before leaves found kept more left after follows taken passed gone come is so = subst (λ o. IsUnderway shape site image before leaves (option_to_list o ++ more) left after follows taken passed gone come) is so
 
-  pub found-ends : (before : Facts) (leaves : List Leaf) (leaf : Leaf) (kept : KeptLeaf) (more : List KeptLeaf) (left : Facts) (after : Held) (follows : Bool) (gone come : Facts) → leaf ≡ kept.leaf
-      → IsUnderway shape site image before leaves (kept ∷ more) left after follows gone come → HasEnds shape site image leaf kept.ends
-  found-ends before leaves leaf kept more left after follows gone come one so = subst (λ (l : Leaf). HasEnds shape site image l kept.ends) (sym one) (kept-leaf before.names kept more left so.rest).ends
+  pub found-ends : (before : Facts) (leaves : List Leaf) (leaf : Leaf) (kept : KeptLeaf) (more : List KeptLeaf) (left : Facts) (after : Held) (follows : Bool) (taken passed gone come : Facts) → leaf ≡ kept.leaf
+      → IsUnderway shape site image before leaves (kept ∷ more) left after follows taken passed gone come → HasEnds shape site image leaf kept.ends
+  found-ends before leaves leaf kept more left after follows taken passed gone come one so = subst (λ (l : Leaf). HasEnds shape site image l kept.ends) (sym one) (kept-leaf before.names kept more left so.rest).ends
 
-  -- another leaf is one of the view after, and its facts have come
-  pub comes-too : (before : Facts) (leaves : List Leaf) (kept : KeptLeaf) (left : List KeptLeaf) (facts : Facts) (after new : Held) (follows : Bool) (gone come more : Facts)
-      → IsKeptLeaf shape site image before.names kept → new.facts ≡ joined after.facts (said before.names kept) → (follows ≡ true → more ≡ joined come (said before.names kept))
+  -- another leaf is one of the view after
+  pub comes-too : (before : Facts) (leaves : List Leaf) (kept : KeptLeaf) (left : List KeptLeaf) (facts : Facts) (after new : Held) (follows : Bool) (taken passed gone come : Facts)
+      → IsKeptLeaf shape site image before.names kept → new.facts ≡ joined after.facts (said before.names kept)
       → new.leaves.items ≡ after.leaves.items ++ kept ∷ [] → new.records ≡ given (after.records + kept.ends.count)
-      → IsUnderway shape site image before leaves left facts after follows gone come → IsUnderway shape site image before (leaves ++ kept.leaf ∷ []) left facts new follows gone more
-  comes-too before leaves kept left facts after new follows gone come more one said-too come-too put counted so = record {
+      → IsUnderway shape site image before leaves left facts after follows taken passed gone come → IsUnderway shape site image before (leaves ++ kept.leaf ∷ []) left facts new follows taken passed gone come
+  comes-too before leaves kept left facts after new follows taken passed gone come one said-too put counted so = record {
     rest = so.rest;
     view = view-more before.names leaves after new kept one put said-too counted so.view;
-    followed = λ on. let had = so.followed on in subst (λ (f : Facts). IsFollowed before facts new.facts gone f) (sym (come-too on)) (record {
-      passed = had.passed;
-      same = had.same;
-      split = had.split;
-      lost = had.lost;
-      made = subst (λ (f : Facts). AreWoven f had.same (joined come (said before.names kept))) (sym said-too) (joined-differ (said before.names kept) had.made);
-      gone_names = had.gone_names;
-      come_names = had.come_names;
-    });
+    followed = so.followed;
   }
 
-  -- the names of the facts after are compared as those before
-  view-names : (names : Names) (leaves : List Leaf) (view : Held) → IsHeld shape site image names leaves view → view.facts.names ≡ names
-  view-names names leaves view had = ap (λ (f : Facts). f.names) had.kept.said
-
   -- a leaf that was read is one of the view after
-  pub read-too : (before : Facts) (leaves : List Leaf) (leaf : Leaf) (ends : Ends) (numbers : Numbers) (pairs : List Pair) (left : List KeptLeaf) (facts : Facts) (after new : Held) (follows : Bool) (stock fresh added gone come more : Facts)
+  pub read-too : (before : Facts) (leaves : List Leaf) (leaf : Leaf) (ends : Ends) (numbers : Numbers) (pairs : List Pair) (left : List KeptLeaf) (facts : Facts) (after new : Held) (follows : Bool) (stock fresh added passed gone come : Facts)
       → records_of shape site image leaf ≡ pairs → HasEnds shape site image leaf ends → after.facts ≡ behind stock fresh
-      → added ≡ joined fresh (facts_said fresh.names pairs) → AreReadable fresh.names pairs → (follows ≡ true → more ≡ joined come (facts_said come.names pairs))
+      → added ≡ joined fresh (facts_said fresh.names pairs) → AreReadable fresh.names pairs
       → numbers ≡ numbers_since (numbers_of added) (numbers_of fresh) → new.facts ≡ behind stock added
       → new.leaves.items ≡ after.leaves.items ++ record { leaf = leaf; ends = ends; numbers = numbers } ∷ [] → new.records ≡ given (after.records + ends.count)
-      → IsUnderway shape site image before leaves left facts after follows gone come → IsUnderway shape site image before (leaves ++ leaf ∷ []) left facts new follows gone more
-  read-too before leaves leaf ends numbers pairs left facts after new follows stock fresh added gone come more read has at adds readable adds-too numbered same put counted so =
+      → IsUnderway shape site image before leaves left facts after follows stock passed gone come → IsUnderway shape site image before (leaves ++ leaf ∷ []) left facts new follows stock passed gone come
+  read-too before leaves leaf ends numbers pairs left facts after new follows stock fresh added passed gone come read has at adds readable numbered same put counted so =
       let kept : KeptLeaf = record { leaf = leaf; ends = ends; numbers = numbers } in
       let named : fresh.names ≡ before.names = sym (ap (λ (f : Facts). f.names) at) ∙ view-names before.names leaves after so.view in
       let said-here : facts_said fresh.names pairs ≡ said before.names kept = λ i. facts_said (named i) (sym read i) in
-      let said-there : follows ≡ true → facts_said come.names pairs ≡ said before.names kept = λ on i. facts_said ((so.followed on).come_names i) (sym read i) in
       let adds-here : added ≡ joined fresh (said before.names kept) = adds ∙ ap (joined fresh) said-here in
-      comes-too before leaves kept left facts after new follows gone come more
+      comes-too before leaves kept left facts after new follows stock passed gone come
       (record {
         ends = has;
         numbers = numbered ∙ (ap (λ (f : Facts). numbers_since (numbers_of f) (numbers_of fresh)) adds-here ∙ since-joined fresh (said before.names kept));
         readable = subst (AreReadable before.names) (sym read) (subst (λ (n : Names). AreReadable n pairs) named readable);
       })
-      (same ∙ (ap (behind stock) adds-here ∙ (behind-joined stock fresh (said before.names kept) ∙ ap (λ (f : Facts). joined f (said before.names kept)) (sym at)))) (λ on. adds-too on ∙ ap (joined come) (said-there on)) put counted so
+      (same ∙ (ap (behind stock) adds-here ∙ (behind-joined stock fresh (said before.names kept) ∙ ap (λ (f : Facts). joined f (said before.names kept)) (sym at)))) put counted so
 
   -- a view without leaves
   pub view-none : (names : Names) (view : Held) → view.leaves.items ≡ [] → view.facts ≡ no_facts_under names → view.records ≡ 0 → IsHeld shape site image names [] view
@@ -213,32 +245,34 @@ module _ {K : Type 0} (shape : Shape K) (site : Site) (image : List ℕ) where
   }
 
   -- no leaf is taken yet
-  pub begins : (names : Names) (leaves : List Leaf) (view : Held) (left : List KeptLeaf) (facts : Facts) (after : Held) (follows : Bool) (gone come : Facts)
-      → IsHeld shape site image names leaves view → left ≡ view.leaves.items → facts ≡ view.facts → IsHeld shape site image view.facts.names [] after
-      → gone ≡ no_facts_under view.facts.names → come ≡ no_facts_under view.facts.names → IsUnderway shape site image facts [] left facts after follows gone come
-  begins names leaves view left facts after follows gone come had on same empty lost made =
+  pub begins : (names : Names) (leaves : List Leaf) (view : Held) (left : List KeptLeaf) (facts : Facts) (after : Held) (follows : Bool) (taken passed gone come : Facts)
+      → IsHeld shape site image names leaves view → left ≡ view.leaves.items → facts ≡ view.facts → IsHeld shape site image view.facts.names [] after → taken ≡ no_facts_under view.facts.names
+      → passed ≡ no_facts_under view.facts.names → gone ≡ no_facts_under view.facts.names → come ≡ no_facts_under view.facts.names → IsUnderway shape site image facts [] left facts after follows taken passed gone come
+  begins names leaves view left facts after follows taken passed gone come had on same empty took over lost made =
       let named : names ≡ view.facts.names = sym (ap (λ (f : Facts). f.names) had.kept.said) in
       let kept : AreKept shape site image view.facts.names view.leaves.items view.facts = subst (λ (n : Names). AreKept shape site image n view.leaves.items view.facts) named had.kept in
-      let free : after.facts ≡ no_facts_under view.facts.names = empty.kept.said ∙ (ap (λ ls. facts_said view.facts.names (records_in shape site image ls)) empty.listed ∙ sym (said-none view.facts.names)) in
       let n = view.facts.names in
-      subst (λ (f : Facts). IsUnderway shape site image f [] left f after follows gone come) (sym same) (record {
+      let none = no_facts_under n in
+      let woven = none-woven n n n in
+      subst (λ (f : Facts). IsUnderway shape site image f [] left f after follows taken passed gone come) (sym same) (record {
         rest = subst (λ ks. AreKept shape site image n ks view.facts) (sym on) kept;
         view = empty;
         followed = λ on. record {
-          passed = no_facts_under n;
-          same = no_facts_under n;
-          split = refl;
-          lost = subst (λ (f : Facts). AreWoven (no_facts_under n) (no_facts_under n) f) (sym lost) (none-woven n n n);
-          made = subst (λ (f : Facts). AreWoven f (no_facts_under n) come) (sym free) (subst (λ (f : Facts). AreWoven (no_facts_under n) (no_facts_under n) f) (sym made) (none-woven n n n));
+          settled = none;
+          same = none;
+          split = ap (λ (f : Facts). joined (joined none f) view.facts) (sym over);
+          lost = subst (λ (f : Facts). AreWoven none none f) (sym lost) woven;
+          made = subst (λ (f : Facts). AreWoven f none come) (sym took) (subst (λ (f : Facts). AreWoven none none f) (sym made) woven);
+          passed_names = ap (λ (f : Facts). f.names) over;
           gone_names = ap (λ (f : Facts). f.names) lost;
           come_names = ap (λ (f : Facts). f.names) made;
         };
       })
 
   -- the view before is let go
-  pub lets-go : (before : Facts) (left none : List KeptLeaf) (facts free : Facts) (after new : Held) (follows : Bool) (gone come : Facts) → none ≡ [] → free ≡ no_facts_under after.facts.names → IsHeld shape site image after.facts.names [] new
-      → IsUnderway shape site image before [] left facts after follows gone come → IsUnderway shape site image before [] none free new false gone come
-  lets-go before left none facts free after new follows gone come over empty anew so =
+  pub lets-go : (before : Facts) (left none : List KeptLeaf) (facts free : Facts) (after new : Held) (follows : Bool) (taken fresh passed gone come : Facts) → none ≡ [] → free ≡ no_facts_under after.facts.names → IsHeld shape site image after.facts.names [] new
+      → IsUnderway shape site image before [] left facts after follows taken passed gone come → IsUnderway shape site image before [] none free new false fresh passed gone come
+  lets-go before left none facts free after new follows taken fresh passed gone come over empty anew so =
       let named = view-names before.names [] after so.view in
       record {
         rest = record {
@@ -261,22 +295,25 @@ module _ {K : Type 0} (shape : Shape K) (site : Site) (image : List ℕ) where
       whole ∙ ap (λ (f : Facts). record { leaves = now.after.leaves; facts = behind (joined f now.stock.1) now.after.facts; records = now.after.records }) free
 
   -- nothing is left of the view before
-  pub ends-so : (before : Facts) (leaves : List Leaf) (left : List KeptLeaf) (facts : Facts) (held : Held) (after : KeptView) (follows : Bool) (change : Change)
-      → left ≡ [] → after.held ≡ held → follows ≡ true → IsUnderway shape site image before leaves left facts held follows change.gone change.come → IsDifference shape site image leaves before (record { after = after; change = Some change })
-  ends-so before leaves left facts held after follows change none whole on so =
+  pub ends-so : (start now : Changing) (leaves : List Leaf) (left : List KeptLeaf) (view : KeptView) (change : Change) → left ≡ [] → view.held ≡ held_after now → change.gone ≡ now.gone → change.come ≡ now.come → now.follows ≡ true
+      → HasSettledTo shape site image leaves start left now → IsDifference shape site image leaves (facts_before start) (record { after = view; change = Some change })
+  ends-so start now leaves left view change none whole lost made on settled =
+      let so = settled.changed in
+      let before = facts_before start in
       let had = so.followed on in
-      let free = none-left before.names left facts none so.rest in
-      let all : before ≡ had.passed = had.split ∙ (ap (joined had.passed) free ∙ joined-none had.passed before.names) in
-      let view : IsKeptView shape site image before.names leaves after = subst (IsHeld shape site image before.names leaves) (sym whole) so.view in
+      let free = none-left before.names left now.stock.0 none so.rest in
+      let all : before ≡ had.settled = had.split ∙ ((λ i. joined (joined had.settled (settled.passed i)) (free i)) ∙ (joined-none (joined had.settled (no_facts_under now.passed.names)) before.names ∙ joined-none had.settled now.passed.names)) in
+      let is : IsKeptView shape site image before.names leaves view = subst (IsHeld shape site image before.names leaves) (sym whole) so.view in
+      let facts : view.held.facts ≡ behind now.stock.1 (no_facts_under now.after.facts.names) = ap (λ (h : Held). h.facts) whole ∙ ap (behind now.stock.1) settled.read in
       record {
-        after = view;
+        after = is;
         change = record {
           same = had.same;
-          left = subst (λ (f : Facts). AreWoven f had.same change.gone) (sym all) had.lost;
-          made = subst (λ (h : Held). AreWoven h.facts had.same change.come) (sym whole) had.made;
-          names = view-names before.names leaves after.held view;
-          gone_names = had.gone_names;
-          come_names = had.come_names;
+          left = subst (λ (f : Facts). AreWoven before had.same f) (sym lost) (subst (λ (f : Facts). AreWoven f had.same now.gone) (sym all) had.lost);
+          made = subst (λ (f : Facts). AreWoven view.held.facts had.same f) (sym made) (subst (λ (f : Facts). AreWoven f had.same now.come) (sym facts) (behind-woven now.after.facts.names had.made));
+          names = view-names before.names leaves view.held is;
+          gone_names = ap (λ (f : Facts). f.names) lost ∙ had.gone_names;
+          come_names = ap (λ (f : Facts). f.names) made ∙ had.come_names;
         };
       }
 

@@ -23,3 +23,9 @@ pub more-differ : {X : Type 0} (xs : List X) {all same other : List X} → Weave
 more-differ xs ended = all-differ xs
 more-differ xs (stays y all same other w) = stays y (all ++ xs) same (other ++ xs) (more-differ xs w)
 more-differ xs (differs y all same other w) = differs y (all ++ xs) same (other ++ xs) (more-differ xs w)
+
+-- what is woven after other items goes on
+pub append-woven : {X : Type 0} {all same other more stay differ : List X} → Weaves all same other → Weaves more stay differ → Weaves (all ++ more) (same ++ stay) (other ++ differ)
+append-woven ended v = v
+append-woven {more = more} {stay = stay} {differ = differ} (stays y all same other w) v = stays y (all ++ more) (same ++ stay) (other ++ differ) (append-woven w v)
+append-woven {more = more} {stay = stay} {differ = differ} (differs y all same other w) v = differs y (all ++ more) (same ++ stay) (other ++ differ) (append-woven w v)

@@ -10,7 +10,7 @@ use Rattle.view_change.specs.declared.kept.KeptLeaf.{KeptLeaf}
 use Rattle.view_change.specs.declared.changing.Change.{Change}
 use Rattle.view_change.specs.declared.changing.Changed.{Changed}
 use Rattle.view_change.specs.declared.changing.Changing.{Changing}
-use Rattle.view_change.specs.Numbers.{joined, behind}
+use Rattle.view_change.specs.Numbers.{joined, behind, no_facts_under}
 use Rattle.view_change.specs.Kept.{facts_of, AreKept, IsHeld, IsKeptView}
 
 -- the facts of the view before, which are all left at the start
@@ -30,29 +30,36 @@ pub record HasDifference (before after : Facts) (change : Change) : Type 0 where
   pub gone_names : change.gone.names ≡ before.names
   pub come_names : change.come.names ≡ before.names
 
--- some facts before are left, and the facts that were passed differ from those after as these are gone and have come
-pub record IsFollowed (before left after gone come : Facts) : Type 0 where
-  pub passed : Facts
+-- of the facts before some are left, and some were passed since the last leaf that stays; those before these differ from those after up to that leaf as some are gone and some have come
+pub record IsFollowed (before left taken passed gone come : Facts) : Type 0 where
+  pub settled : Facts
   pub same : Facts
-  pub split : before ≡ joined passed left
-  pub lost : AreWoven passed same gone
-  pub made : AreWoven after same come
+  pub split : before ≡ joined (joined settled passed) left
+  pub lost : AreWoven settled same gone
+  pub made : AreWoven taken same come
+  pub passed_names : passed.names ≡ before.names
   pub gone_names : gone.names ≡ before.names
   pub come_names : come.names ≡ before.names
 
--- after some leaves of a view: what is kept of it, what is left of the view before, and, if it is followed, what is gone and has come
-pub record IsUnderway {K : Type 0} (shape : Shape K) (site : Site) (image : List ℕ) (before : Facts) (leaves : List Leaf) (left : List KeptLeaf) (left_facts : Facts) (after : Held) (follows : Bool) (gone come : Facts) : Type 0 where
+-- after some leaves of a view: what is kept of it, what is left of the view before, and, if it is followed, what was passed, what is gone and what has come
+pub record IsUnderway {K : Type 0} (shape : Shape K) (site : Site) (image : List ℕ) (before : Facts) (leaves : List Leaf) (left : List KeptLeaf) (left_facts : Facts) (after : Held) (follows : Bool) (taken passed gone come : Facts) : Type 0 where
   pub rest : AreKept shape site image before.names left left_facts
   pub view : IsHeld shape site image before.names leaves after
-  pub followed : follows ≡ true → IsFollowed before left_facts after.facts gone come
+  pub followed : follows ≡ true → IsFollowed before left_facts taken passed gone come
 
 -- begun as the first, it has taken some leaves in an image, and these leaves of the view before are left
 abbrev pub HasChangedTo : {K : Type 0} → Shape K → Site → List ℕ → List Leaf → Changing → List KeptLeaf → Changing → Type 0
-HasChangedTo shape site image leaves start left now = IsUnderway shape site image (facts_before start) leaves left now.stock.0 (held_after now) now.follows now.gone now.come
+HasChangedTo shape site image leaves start left now = IsUnderway shape site image (facts_before start) leaves left now.stock.0 (held_after now) now.follows now.stock.1 now.passed now.gone now.come
 
 -- begun as the first, it has taken some leaves in an image
 abbrev pub HasChanged : {K : Type 0} → Shape K → Site → List ℕ → List Leaf → Changing → Changing → Type 0
 HasChanged shape site image leaves start now = HasChangedTo shape site image leaves start now.leaves.items now
+
+-- the same, where no leaf was passed or read since the last one that stays
+pub record HasSettledTo {K : Type 0} (shape : Shape K) (site : Site) (image : List ℕ) (leaves : List Leaf) (start : Changing) (left : List KeptLeaf) (now : Changing) : Type 0 where
+  pub changed : HasChangedTo shape site image leaves start left now
+  pub passed : now.passed ≡ no_facts_under now.passed.names
+  pub read : now.after.facts ≡ no_facts_under now.after.facts.names
 
 -- this is what is kept of a view with some leaves, and how its facts differ from those before, if that was followed
 pub record IsDifference {K : Type 0} (shape : Shape K) (site : Site) (image : List ℕ) (leaves : List Leaf) (before : Facts) (changed : Changed) : Type 0 where

@@ -6,5 +6,6 @@ pub mod Numbers
 pub mod Rings
 pub mod Kept
 pub mod Reading
+pub mod Settled
 pub mod Changing
 pub mod Difference

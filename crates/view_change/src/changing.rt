@@ -1,5 +1,5 @@
 // The difference of a view from the one before, leaf by leaf.
-ghost use Rattle.std.specs.Prelude.{◌≡◌, ◌+◌, ◌≤◌, ◌++◌, [], ◌∷◌, ℕ, List, Some, None, true, IfOk, IfErr, IfSome, IfNone, IsErrOf, IsTrue, option_to_list};
+ghost use Rattle.std.specs.Prelude.{◌≡◌, ◌+◌, ◌≤◌, ◌++◌, [], ◌∷◌, ℕ, List, Some, None, true, IfOk, IfErr, IfSome, IfNone, IsErrOf, IsTrue, OnOk, option_to_list};
 ghost use Rattle.apfs_model.specs.Counts.{Rose};
 ghost use Rattle.apfs_model.specs.Kept.{IsKept};
 ghost use Rattle.obj_base.specs.Site.{IsSiteFor};
@@ -9,12 +9,12 @@ ghost use Rattle.obj_base.specs.declared.stop.Stop.TheVariants.{ReadFault};
 ghost use Rattle.fs_name.specs.declared.naming.Names.{Names};
 ghost use Rattle.view_change.specs.declared.leaf.Leaf.{Leaf as One};
 ghost use Rattle.view_change.specs.declared.changing.Changing.{Changing as State};
+ghost use Rattle.view_change.specs.Numbers.{joined, behind};
 ghost use Rattle.view_change.specs.Ends.{HasEnds};
-ghost use Rattle.bt_node.specs.Entries.{pairs_of};
-ghost use Rattle.view_change.specs.Numbers.{joined};
-ghost use Rattle.view_change.specs.Kept.{facts_of, facts_said, IsKeptView};
+ghost use Rattle.view_change.specs.declared.kept.KeptLeaf.{KeptLeaf as Kept};
+ghost use Rattle.view_change.specs.Kept.{facts_of, IsKeptView};
 ghost use Rattle.view_change.specs.Reading.{IsNodeOf};
-ghost use Rattle.view_change.specs.Changing.{facts_before, HasChanged, HasChangedTo, IsDifference};
+ghost use Rattle.view_change.specs.Changing.{facts_before, HasChanged, HasChangedTo, HasSettledTo, IsDifference};
 
 #[cfg(test)]
 mod tests;
@@ -22,6 +22,7 @@ mod tests;
 use crate::kept::{Held, KeptLeaf, Numbers, no_facts};
 use crate::leaf_read::{add_records, ends_of};
 use crate::node::read_node;
+use crate::runs::{are_none, settle};
 use crate::stock::Stock;
 use crate::{Ends, KeptView, Leaf, LeafTaker};
 use apfs_model::NoMemory;
@@ -31,6 +32,7 @@ use bt_node::{NodeView, TreeKey};
 use obj_base::{Site, Stop};
 use std::alloc::Global;
 use std::collections::VecDeque;
+use std::mem::replace;
 use view_facts::Facts;
 
 /// Among how many of the next leaves of the view before a leaf is looked for.
@@ -49,6 +51,9 @@ pub struct Changing {
     after: Held,
     /// Whether what is gone and what has come is gathered.
     follows: bool,
+    /// The facts of the leaves of the view before that were passed since the last leaf that stays.
+    passed: Facts,
+    /// The facts that are gone and that have come up to that leaf.
     gone: Facts,
     come: Facts,
 }
@@ -67,21 +72,6 @@ pub struct Changed {
     pub change: Option<Change>,
 }
 
-// Adds the records of a leaf to the facts that have come, where these are followed; false where one is refused.
-fn add_come<K: FsTreeKey>(
-    alloc: Global,
-    follows: bool,
-    node: &NodeView<'_, K>,
-    come: &mut Facts,
-) -> Result<bool, NoMemory>
-    ensures { IfOk result (λ added. IsTrue added → follows ≡ true → come.new ≡ joined come.old (facts_said come.old.names (pairs_of K.shape node.now))) }
-{
-    if !follows {
-        return Ok(true);
-    }
-    add_records(alloc, node, come)
-}
-
 impl Changing {
     /// Begins with no leaf, after a view.
     pub fn new<K: TreeKey>(alloc: Global, before: KeptView) -> Changing
@@ -97,6 +87,7 @@ impl Changing {
             stock: Stock::new(facts, in_order),
             after: Held::nothing::<K>(alloc, names),
             follows: true,
+            passed: no_facts(alloc, names),
             gone: no_facts(alloc, names),
             come: no_facts(alloc, names),
         }
@@ -145,7 +136,7 @@ impl Changing {
         self.follows = false;
     }
 
-    // Passes over leaves of the view before, whose facts are gone, until one comes; over all of them where none is looked for.
+    // Passes over leaves of the view before until one comes; over all of them where none is looked for.
     fn pass_until<K: TreeKey>(&mut self, leaf: Option<Leaf>) -> Result<Option<KeptLeaf>, NoMemory>
         ensures held { (start : State) (site : Place) (image : List ℕ) (leaves : List One) → HasChanged K.shape site image leaves start self.old → IfOk result (λ found. HasChangedTo K.shape site image leaves start (option_to_list found ++ self.new.leaves.items) self.new) }
         ensures same { IfOk result (λ found. IfSome found (λ kept. leaf ≡ Some kept.leaf)) }
@@ -155,9 +146,25 @@ impl Changing {
             if leaf == Some(kept.leaf) {
                 return Ok(Some(kept));
             }
-            self.stock.pass(&kept.numbers, &mut self.gone)?;
+            self.stock.pass(&kept.numbers, &mut self.passed)?;
         }
         Ok(None)
+    }
+
+    // Tells what is gone and what has come since the last leaf that stays.
+    fn settle<K: TreeKey>(&mut self) -> Result<(), NoMemory>
+        ensures same { (self.new.leaves ≡ self.old.leaves) × (self.new.follows ≡ self.old.follows) }
+        ensures held { (start : State) (site : Place) (image : List ℕ) (leaves : List One) (left : List Kept) → HasChangedTo K.shape site image leaves start left self.old → OnOk result (HasSettledTo K.shape site image leaves start left self.new) }
+    {
+        if are_none(&self.passed) && are_none(&self.after.facts) {
+            return Ok(());
+        }
+        let none = no_facts(self.alloc, self.after.names());
+        let passed = replace(&mut self.passed, none);
+        let read = self.after.take_facts(self.alloc);
+        settle(self.alloc, passed, &read, &mut self.gone, &mut self.come)?;
+        self.stock.put(read)?;
+        Ok(())
     }
 
     // Takes a leaf that the view before has among its next ones.
@@ -168,7 +175,7 @@ impl Changing {
         let Some(kept) = self.pass_until::<K>(Some(leaf))? else {
             return Ok(None);
         };
-        self.stock.put(self.after.take_facts(self.alloc))?;
+        self.settle::<K>()?;
         self.stock.keep(&kept.numbers);
         self.after.put(kept)?;
         Ok(Some(kept.ends))
@@ -188,9 +195,6 @@ impl Changing {
         };
         let before = Numbers::of(&self.after.facts);
         if !add_records(self.alloc, node, &mut self.after.facts)? {
-            return Ok(None);
-        }
-        if !add_come(self.alloc, self.follows, node, &mut self.come)? {
             return Ok(None);
         }
         let numbers = Numbers::of(&self.after.facts).since(&before);
@@ -226,27 +230,47 @@ impl Changing {
         Ok(self.add(leaf, &node)?)
     }
 
-    /// What is kept, once all leaves are taken, and what has changed, where it was followed.
-    pub fn finish<K: TreeKey>(mut self) -> Result<Changed, NoMemory>
-        ensures { (start : State) (site : Place) (image : List ℕ) (leaves : List One) → HasChanged K.shape site image leaves start self → IfOk result (IsDifference K.shape site image leaves (facts_before start)) }
+    // What is kept, where the difference isn't followed.
+    fn unfollowed(self) -> Result<Changed, NoMemory>
+        ensures view { IfOk result (λ changed. changed.after.held ≡ record { leaves = self.after.leaves; facts = behind (joined self.stock.0 self.stock.1) self.after.facts; records = self.after.records }) }
+        ensures change { IfOk result (λ changed. changed.change ≡ None) }
     {
-        let _ = self.pass_until::<K>(None)?;
         let Changing {
             alloc: _,
             leaves: _,
             stock,
             after,
-            follows,
+            follows: _,
+            passed: _,
+            gone: _,
+            come: _,
+        } = self;
+        Ok(Changed {
+            after: KeptView::behind(stock, after)?,
+            change: None,
+        })
+    }
+
+    /// What is kept, once all leaves are taken, and what has changed, where it was followed.
+    pub fn finish<K: TreeKey>(mut self) -> Result<Changed, NoMemory>
+        ensures { (start : State) (site : Place) (image : List ℕ) (leaves : List One) → HasChanged K.shape site image leaves start self → IfOk result (IsDifference K.shape site image leaves (facts_before start)) }
+    {
+        let _ = self.pass_until::<K>(None)?;
+        if !self.follows {
+            return Ok(self.unfollowed()?);
+        }
+        self.settle::<K>()?;
+        let Changing {
+            alloc: _,
+            leaves: _,
+            stock,
+            after,
+            follows: _,
+            passed: _,
             gone,
             come,
         } = self;
         let after = KeptView::behind(stock, after)?;
-        if !follows {
-            return Ok(Changed {
-                after,
-                change: None,
-            });
-        }
         Ok(Changed {
             after,
             change: Some(Change { gone, come }),

@@ -45,6 +45,13 @@ impl<T: Drop, B: Follows<T>> Ring<T, B> {
         }
     }
 
+    /// How many are left of the view before.
+    pub(crate) fn left(&self) -> usize
+        ensures { result ≡ length self.now.0 }
+    {
+        self.left
+    }
+
     // Whether an item may stand behind those of the view after.
     fn may_come(&self, next: &T) -> bool
         ensures { IsTrue result → MayCome B.follows self.now.1 next.now }

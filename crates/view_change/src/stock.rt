@@ -4,7 +4,7 @@ ghost use Rattle.rule_index.specs.Order.{AreInOrder};
 ghost use Rattle.view_change.specs.Numbers.{behind, joined, first_facts, no_facts_under, rest_facts};
 
 use crate::kept::Numbers;
-use crate::ring::Ring;
+use crate::lazy_ring::LazyRing;
 use apfs_model::NoMemory;
 use fs_name::Names;
 use rule_index::ordered::{ByFile, ByHash, ByInode, ByLinkedFile, BySibling, ByStream};
@@ -15,12 +15,12 @@ use view_facts::{AttributeFact, EntryFact, ExtentFact, Facts, InodeFact, LinkFac
 #[derive(Drop)]
 pub(crate) struct Stock {
     names: Names,
-    inodes: Ring<InodeFact, ByInode>,
-    entries: Ring<EntryFact, ByHash>,
-    attributes: Ring<AttributeFact, ByFile>,
-    links: Ring<LinkFact, ByLinkedFile>,
-    siblings: Ring<SiblingFact, BySibling>,
-    extents: Ring<ExtentFact, ByStream>,
+    inodes: LazyRing<InodeFact, ByInode>,
+    entries: LazyRing<EntryFact, ByHash>,
+    attributes: LazyRing<AttributeFact, ByFile>,
+    links: LazyRing<LinkFact, ByLinkedFile>,
+    siblings: LazyRing<SiblingFact, BySibling>,
+    extents: LazyRing<ExtentFact, ByStream>,
 }
 
 impl Model for Stock {
@@ -39,12 +39,12 @@ impl Stock {
     {
         Stock {
             names: facts.names,
-            inodes: Ring::new(facts.inodes, in_order),
-            entries: Ring::new(facts.entries, in_order),
-            attributes: Ring::new(facts.attributes, in_order),
-            links: Ring::new(facts.links, in_order),
-            siblings: Ring::new(facts.siblings, in_order),
-            extents: Ring::new(facts.extents, in_order),
+            inodes: LazyRing::new(facts.inodes, in_order),
+            entries: LazyRing::new(facts.entries, in_order),
+            attributes: LazyRing::new(facts.attributes, in_order),
+            links: LazyRing::new(facts.links, in_order),
+            siblings: LazyRing::new(facts.siblings, in_order),
+            extents: LazyRing::new(facts.extents, in_order),
         }
     }
 

@@ -131,7 +131,7 @@ const VIEWS: [View; 5] = [
     View {
         leaves: &[SEVEN, NEW_EIGHT, NINE],
         ids: &[1, 2, 3, 4, 6, 9, 10],
-        change: Some((&[4, 5], &[4, 6])),
+        change: Some((&[5], &[6])),
         in_order: true,
         reads: 4,
     },

@@ -16,8 +16,7 @@ returns-clause-held g c start site image leaves is had =
     let leaf = c.args.leaf in
     let node = c.args.node.now in
     let here : c.in_ok-add_records.field-0 ≡ true = search rules in
-    let there : c.in_ok-add_come.field-0 ≡ true = search rules in
-    read-too shape site image (facts_before start) leaves leaf c.in-Some.ends c.since-numbers.result (pairs_of shape node) now.leaves.items now.stock.0 (held_after now) (record { leaves = c.put.new.self.leaves; facts = behind now.stock.1 c.put.new.self.facts; records = c.put.new.self.records }) now.follows now.stock.1 now.after.facts c.add_records.new.facts now.gone now.come c.add_come.new.come
+    read-too shape site image (facts_before start) leaves leaf c.in-Some.ends c.since-numbers.result (pairs_of shape node) now.leaves.items now.stock.0 (held_after now) (record { leaves = c.put.new.self.leaves; facts = behind now.stock.1 c.put.new.self.facts; records = c.put.new.self.records }) now.follows now.stock.1 now.after.facts c.add_records.new.facts now.passed now.gone now.come
     (records-read shape site image leaf node is) (ends-read shape site image leaf node c.in-Some.ends is c.in-Some.ensures) refl
-    (c.in_ok-add_records.ensures.facts here) (c.in_ok-add_records.ensures.readable here) (c.in_ok-add_come.ensures there)
+    (c.in_ok-add_records.ensures.facts here) (c.in_ok-add_records.ensures.readable here)
     (c.since-numbers.ensures ∙ (λ i. numbers_since (c.of.ensures i) (c.of-before.ensures i))) (ap (behind now.stock.1) c.put.ensures.facts) c.in_ok-put.ensures.leaves c.in_ok-put.ensures.records had

@@ -9,17 +9,17 @@ pub gone-preserved : goal.gone-preserved
 gone-preserved g c start site image leaves had =
     let shape = g.K.TreeKey.shape in
     let now = c.gone.self in
-    subst (λ (f : Facts). IsUnderway shape site image (facts_before start) leaves c.pop_front.new.self.items c.pass.new.self.0 (record { leaves = now.after.leaves; facts = behind f now.after.facts; records = now.after.records }) now.follows c.pass.new.to now.come) (sym c.in_ok-pass.ensures.taken)
-    (passes-over shape site image (facts_before start) leaves c.in-Some.kept c.pop_front.new.self.items now.stock.0 c.pass.new.self.0 (held_after now) now.follows now.gone c.pass.new.to now.come
+    subst (λ (f : Facts). IsUnderway shape site image (facts_before start) leaves c.pop_front.new.self.items c.pass.new.self.0 (record { leaves = now.after.leaves; facts = behind f now.after.facts; records = now.after.records }) now.follows f c.pass.new.to now.gone now.come) (sym c.in_ok-pass.ensures.taken)
+    (passes-over shape site image (facts_before start) leaves c.in-Some.kept c.pop_front.new.self.items now.stock.0 c.pass.new.self.0 (held_after now) now.follows now.stock.1 now.passed c.pass.new.to now.gone now.come
     c.in_ok-pass.ensures.left c.in_ok-pass.ensures.moved
-    (subst (λ ks. IsUnderway shape site image (facts_before start) leaves ks now.stock.0 (held_after now) now.follows now.gone now.come) c.in-Some.ensures.items (c.gone.invariant start site image leaves had)))
+    (subst (λ ks. IsUnderway shape site image (facts_before start) leaves ks now.stock.0 (held_after now) now.follows now.stock.1 now.passed now.gone now.come) c.in-Some.ensures.items (c.gone.invariant start site image leaves had)))
 
 pub returns-then-eq-clause-held : goal.returns-then-eq-clause-held
 returns-then-eq-clause-held g c start site image leaves had =
     let now = c.gone.self in
-    subst (λ ks. IsUnderway g.K.TreeKey.shape site image (facts_before start) leaves ks now.stock.0 (held_after now) now.follows now.gone now.come) c.in-Some.ensures.items (c.gone.invariant start site image leaves had)
+    subst (λ ks. IsUnderway g.K.TreeKey.shape site image (facts_before start) leaves ks now.stock.0 (held_after now) now.follows now.stock.1 now.passed now.gone now.come) c.in-Some.ensures.items (c.gone.invariant start site image leaves had)
 
 pub returns-clause-held : goal.returns-clause-held
 returns-clause-held g c start site image leaves had =
     let now = c.gone.self in
-    subst (λ ks. IsUnderway g.K.TreeKey.shape site image (facts_before start) leaves ks now.stock.0 (held_after now) now.follows now.gone now.come) c.in_default.ensures.items (c.gone.invariant start site image leaves had)
+    subst (λ ks. IsUnderway g.K.TreeKey.shape site image (facts_before start) leaves ks now.stock.0 (held_after now) now.follows now.stock.1 now.passed now.gone now.come) c.in_default.ensures.items (c.gone.invariant start site image leaves had)

@@ -1,4 +1,4 @@
--- The facts of the leaves that were passed over are gone.
+-- The facts of the leaves before are those that were passed.
 use Rattle.std.proofs.Common.{ℕ, List, length}
 use Rattle.obj_base.specs.declared.site.Site.{Site}
 use Rattle.view_change.specs.declared.leaf.Leaf.{Leaf}
