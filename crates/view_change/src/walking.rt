@@ -1,15 +1,15 @@
 // A walk over the leaves of a tree, by the nodes above them.
-ghost use Rattle.std.specs.Prelude.{◌≡◌, ℕ, ◌+◌, ◌≤◌, List, [], ◌∷◌, Some, length, IfOk, IfErr, IfSome, IsErrOf, IsTrue};
+ghost use Rattle.std.specs.Prelude.{◌≡◌, ℕ, ◌+◌, ◌≤◌, List, [], ◌∷◌, Some, length, All, IfOk, IfErr, IfSome, IsErrOf, IsTrue};
 ghost use Rattle.apfs_model.specs.Counts.{Rose};
 ghost use Rattle.apfs_model.specs.Kept.{IsKept};
 ghost use Rattle.obj_base.specs.Site.{IsSiteFor};
 ghost use Rattle.obj_base.specs.Stops.{IsFree};
 ghost use Rattle.obj_base.specs.declared.stop.Stop.TheVariants.{ReadFault};
-ghost use Rattle.bt_cursor.specs.Tree.{tree_in};
+ghost use Rattle.bt_cursor.specs.Tree.{block_named, tree_in};
 ghost use Rattle.bt_cursor.specs.Met.{nodes_of, places_of};
 ghost use Rattle.view_change.specs.declared.outline.Separator.{Separator};
 ghost use Rattle.view_change.specs.Outline.{reads_in, IsOutlined, IsPassed};
-ghost use Rattle.view_change.specs.Walked.{IsTaken};
+ghost use Rattle.view_change.specs.Walked.{IsNamed, IsTaken};
 
 use crate::Leaf;
 use crate::leaf_taker::LeafTaker;
@@ -22,17 +22,37 @@ use bt_node::TreeKey;
 use obj_base::{Site, Stop};
 use std::alloc::Global;
 
+// The block that an id names, which isn't looked up again if the leaf at a place among some has it.
+fn block_again<N: Namer>(
+    namer: &N,
+    site: &Site,
+    oid: u64,
+    leaves: &[Leaf],
+    at: usize,
+) -> Option<u64>
+    requires { All (IsNamed site.now (N.named namer.now)) leaves.now }
+    ensures { result ≡ block_named site.now (N.named namer.now) oid }
+{
+    match leaves.get(at) {
+        Some(leaf) if leaf.oid == oid => Some(leaf.block),
+        _ => block_in(namer, site, oid),
+    }
+}
+
 // Passes a separator and takes the leaf to which it leads, if it leads to one. None where one of them is out of order, where the root counts
 // fewer, and where the leaf has no block or isn't taken.
 fn pass<K: TreeKey, S: BlockSource, N: Namer, T: LeafTaker<K>>(
     src: &mut S,
     namer: &N,
     site: &Site,
+    leaves: &[Leaf],
+    at: usize,
     next: Separator,
     seen: Seen,
     taker: &mut T,
 ) -> Result<Option<Seen>, Stop<()>>
     requires site { IsSiteFor site.now (S.bytes_len src.old) }
+    requires named { All (IsNamed site.now (N.named namer.now)) leaves.now }
     ensures passed { (start : T) (image : List ℕ) (root keys nodes begun : ℕ) (left : List Separator) → S.bytes src.old ≡ Some image → IsPassed K.shape site.now (N.named namer.now) image root keys nodes (T.holds start taker.old site.now image) begun (S.reads src.old) (next ∷ left) seen → IfOk result (λ found. IfSome found (IsPassed K.shape site.now (N.named namer.now) image root keys nodes (T.holds start taker.new site.now image) begun (S.reads src.new) left)) }
     ensures reads { S.reads src.new ≤ S.reads src.old + reads_in (next ∷ []) }
     ensures free { IfErr result IsFree }
@@ -45,7 +65,7 @@ fn pass<K: TreeKey, S: BlockSource, N: Namer, T: LeafTaker<K>>(
     let Some(oid) = next.child else {
         return Ok(Some(seen));
     };
-    let Some(block) = block_in(namer, site, oid) else {
+    let Some(block) = block_again(namer, site, oid, leaves, at) else {
         return Ok(None);
     };
     let Some(ends) = taker.take(src, site, Leaf { oid, block })? else {
@@ -54,15 +74,17 @@ fn pass<K: TreeKey, S: BlockSource, N: Namer, T: LeafTaker<K>>(
     Ok(seen.after_leaf::<K>(&ends))
 }
 
-// Takes the leaves of an outline; true where the tree is whole.
+// Takes the leaves of an outline, of which those that have a block are told; true where the tree is whole.
 fn pass_all<K: TreeKey, S: BlockSource, N: Namer, T: LeafTaker<K>>(
     src: &mut S,
     namer: &N,
     site: &Site,
     outline: &Outline,
+    leaves: &[Leaf],
     taker: &mut T,
 ) -> Result<bool, Stop<()>>
     requires site { IsSiteFor site.now (S.bytes_len src.old) }
+    requires named { All (IsNamed site.now (N.named namer.now)) leaves.now }
     requires end { outline.now.level ≡ 0 }
     ensures taken { (start : T) (image : List ℕ) (root begun : ℕ) → S.bytes src.old ≡ Some image → IsOutlined (tree_in K.shape site.now (N.named namer.now) image) root begun (S.reads src.old) outline.now → T.holds start taker.old site.now image [] → IfOk result (λ whole. IsTrue whole → IsTaken K.shape site.now (N.named namer.now) image root (T.holds start taker.new site.now image)) }
     ensures reads { (start : T) (image : List ℕ) (root begun : ℕ) → S.bytes src.old ≡ Some image → IsOutlined (tree_in K.shape site.now (N.named namer.now) image) root begun (S.reads src.old) outline.now → T.holds start taker.old site.now image [] → IfOk result (λ whole. IsTrue whole → S.reads src.new ≤ begun + length (nodes_of (tree_in K.shape site.now (N.named namer.now) image) root)) }
@@ -74,11 +96,16 @@ fn pass_all<K: TreeKey, S: BlockSource, N: Namer, T: LeafTaker<K>>(
     let Some(mut seen) = Seen::nothing::<K>(&outline.info) else {
         return Ok(false);
     };
+    let mut at: usize = 0;
     'separators: for next in &outline.separators {
-        let Some(more) = pass::<K, S, N, T>(src, namer, site, *next, seen, taker)? else {
+        let Some(more) = pass::<K, S, N, T>(src, namer, site, leaves, at, *next, seen, taker)?
+        else {
             return Ok(false);
         };
         seen = more;
+        if next.child.is_some() {
+            at = at.saturating_add(1);
+        }
     }
     Ok(seen.is_all())
 }
@@ -89,7 +116,9 @@ fn leaves_of<N: Namer>(
     namer: &N,
     site: &Site,
     outline: &Outline,
-) -> Result<Vec<Leaf>, NoMemory> {
+) -> Result<Vec<Leaf>, NoMemory>
+    ensures { IfOk result (λ leaves. All (IsNamed site.now (N.named namer.now)) leaves.items) }
+{
     let mut leaves = Vec::new(alloc);
     'separators: for next in &outline.separators {
         if let Some(oid) = next.child {
@@ -124,8 +153,9 @@ pub fn walk_leaves<K: TreeKey, S: BlockSource, N: Namer, T: LeafTaker<K>>(
     let Some(outline) = outline_of::<K, S, N>(alloc, src, namer, site, root)? else {
         return Ok(None);
     };
-    taker.foresee(&leaves_of(alloc, namer, site, &outline)?);
-    if pass_all::<K, S, N, T>(src, namer, site, &outline, &mut taker)? {
+    let leaves = leaves_of(alloc, namer, site, &outline)?;
+    taker.foresee(&leaves);
+    if pass_all::<K, S, N, T>(src, namer, site, &outline, &leaves, &mut taker)? {
         Ok(Some(taker))
     } else {
         Ok(None)

@@ -18,12 +18,12 @@ returns-clause-passed g c start image root keys nodes begun left told p =
     let site = c.args.site.now in
     let seen = c.in-Some.seen in
     let ends = c.in-Some-2.ends in
-    let leaf : Leaf = record { oid = c.in-Some-child.oid; block = c.in-Some-block_in.block } in
+    let leaf : Leaf = record { oid = c.in-Some-child.oid; block = c.in-Some-block_again.block } in
     let held = g.T.LeafTaker.holds start c.take.new.self site image in
     let told_ends : HasEnds shape site image leaf ends = at-some c.in_ok-ends.field-0 ends (HasEnds shape site image leaf) c.in-Some-2.is (c.in_ok-ends.ensures.leaf_ends start image p.leaves told p.held) in
     let have : held (p.leaves ++ leaf ∷ []) = at-some c.in_ok-ends.field-0 ends (λ _. held (p.leaves ++ leaf ∷ [])) c.in-Some-2.is (c.in_ok-ends.ensures.held start image p.leaves told p.held) in
-    pass-leaf-if shape site (g.N.Namer.named c.args.namer.now) image root keys nodes (g.T.LeafTaker.holds start c.args.taker.now site image) held begun (g.S.BlockSource.reads c.args.src.now) (g.S.BlockSource.reads c.take.new.src) c.args.next left c.args.seen c.after_leaf.result c.in-Some-child.oid c.in-Some-block_in.block p c.in-Some-child.is
-    (sym c.block_in.ensures ∙ c.in-Some-block_in.is) told_ends.there
+    pass-leaf-if shape site (g.N.Namer.named c.args.namer.now) image root keys nodes (g.T.LeafTaker.holds start c.args.taker.now site image) held begun (g.S.BlockSource.reads c.args.src.now) (g.S.BlockSource.reads c.take.new.src) c.args.next left c.args.seen c.after_leaf.result c.in-Some-child.oid c.in-Some-block_again.block p c.in-Some-child.is
+    (sym c.block_again.ensures ∙ c.in-Some-block_again.is) told_ends.there
     (λ items item has separates. c.after_leaf.ensures keys nodes (items ++ item ∷ []) site image leaf
     (at-some c.after_separator.result seen (HasSeen shape keys nodes (items ++ item ∷ [])) c.in-Some.is (c.after_separator.ensures keys nodes items item has separates)) told_ends)
     have c.take.ensures.reads
