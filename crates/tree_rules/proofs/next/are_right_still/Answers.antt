@@ -10,12 +10,12 @@ use Rattle.tree_rules.specs.Known.{AreRight}
 use Rattle.tree_rules.proofs.Nexts.{both-ok, chain-distinct, changed, right-still, unchanged}
 use Rattle.tree_rules.proofs.next.are_right_still.Goals as goal
 
-pub returns-then-are_none : goal.returns-then-are_none
-returns-then-are_none c on before same had names left made =
+pub returns-then-are_none-2 : goal.returns-then-are_none-2
+returns-then-are_none-2 c on before same had names left made =
     let asked = c.args.asked.now in
     let after = facts_of c.args.after.now in
     let no_gone = c.are_none.ensures c.if-are_none.true in
-    let no_come = c.are_none-2.ensures c.if-are_none-2.true in
+    let no_come = c.are_none-then-are_none.ensures c.if-are_none-2.true in
     subst (AreRight asked.profile asked.site.now asked.ranges.now)
     (unchanged before after same c.args.gone.now.names c.args.come.now.names names (subst (AreWoven before same) no_gone left) (subst (AreWoven after same) no_come made)) had
 
