@@ -13,6 +13,3 @@ pub use count::count_ones;
 pub use differ::first_difference;
 pub use join::{and_any, and_into, or_into};
 pub use ranges::{least_set, set_range};
-
-#[cfg(test)]
-mod tests;

@@ -4,8 +4,6 @@
 mod edge;
 mod folder;
 mod memory;
-#[cfg(test)]
-mod tests;
 
 pub use edge::DirFolder;
 pub use folder::{Folder, Given};

@@ -5,8 +5,6 @@ mod edge;
 mod memory;
 mod sink;
 mod source;
-#[cfg(test)]
-mod tests;
 
 pub use apfs_model::{Bytes, NoMemory, ReadFailed, WriteFailed};
 pub use edge::{FileSource, StdSink};

@@ -14,6 +14,3 @@ pub use naming::Names;
 pub use normal::same_name;
 pub use shown::push_shown;
 pub use text::stored_name;
-
-#[cfg(test)]
-mod tests;

@@ -10,6 +10,3 @@ mod tally;
 pub use counting::count;
 pub use piece::{Holdings, Piece, ViewRun, Views};
 pub use tally::{Counts, ViewCount};
-
-#[cfg(test)]
-mod tests;

@@ -1,5 +1,5 @@
 // Counts and places worked out by hand. Runs of 130 bytes have two parts of 64 and a rest of two.
-use super::*;
+use bit_lanes::{and_any, and_into, count_ones, first_difference, least_set, or_into, set_range};
 
 #[test]
 fn counts(rt: HostRuntime) {

@@ -93,7 +93,7 @@ const CASES: &[Case] = table! {
         Refuses("x//y"), Refuses("d/../../x"), Refuses("x\0y"), Refuses("link"), Refuses("link/x"), Refuses("link/../x"), Refuses("dangling"),
         Refuses("dangling/x")], &[];
     // With an empty path the name would stand at the system's root.
-    NO_DIRECTORY, None, &[Refuses("apfs-folder-cases")], &[];
+    NO_DIRECTORY, None, &[Refuses("apfs-byte-cases")], &[];
     NO_DIRECTORY, Some("file"), &[Refuses("x")], &[];
     NO_DIRECTORY, Some("link"), &[Refuses("x")], &[];
     NO_DIRECTORY, Some("missing"), &[Refuses("x")], &[];
@@ -180,10 +180,10 @@ fn entries_in(rt: &HostRuntime, top: &str, rows: &[Row]) -> Result<usize, Fail> 
 // Puts a file in two pieces.
 fn write<F: Folder>(folder: &mut F, path: &str, text: &str) -> Result<(), WriteFailed> {
     let bytes = text.as_bytes();
-    let half = bytes.len() / 2;
+    let (first, second) = bytes.split_at(bytes.len() / 2);
     folder.start_file(path)?;
-    folder.append(&bytes[..half])?;
-    folder.append(&bytes[half..])
+    folder.append(first)?;
+    folder.append(second)
 }
 
 // Whether a call goes as it has to.
@@ -235,20 +235,31 @@ fn dir_of(alloc: Global, top: &str, into: Option<&str>) -> Result<String, AllocE
     }
 }
 
-// Fills the folder of a case. Afterwards all that stood and all that was put is there, and no other entry.
-fn run(rt: &HostRuntime, top: &str, case: &Case) -> Result<(), Fail> {
-    let (standing, into, calls, put) = *case;
+// Makes what stands in a case, and fills the directory.
+fn make(rt: &HostRuntime, top: &str, case: &Case) -> Result<(), Fail> {
+    let (standing, into, calls, _) = *case;
     fs::create_dir(rt, top)?;
     place_all(rt, top, standing)?;
-    fill(rt, dir_of(rt.alloc(), top, into)?, calls)?;
-    let found = entries(rt, top)?
-        .saturating_add(entries_in(rt, top, standing)?)
-        .saturating_add(entries_in(rt, top, put)?);
+    fill(rt, dir_of(rt.alloc(), top, into)?, calls)
+}
+
+// How many entries there are, all of which have to be those of a case.
+fn found(rt: &HostRuntime, top: &str, case: &Case) -> Result<usize, Fail> {
+    let (standing, _, _, put) = *case;
+    let stood = entries_in(rt, top, standing)?;
+    let came = entries_in(rt, top, put)?;
+    Ok(entries(rt, top)?.saturating_add(stood).saturating_add(came))
+}
+
+// Fills the folder of a case. Afterwards all that stood and all that was put is there, and no other entry.
+fn run(rt: &HostRuntime, top: &str, case: &Case) -> Result<(), Fail> {
+    make(rt, top, case)?;
+    let found = found(rt, top, case)?;
+    let (standing, _, _, put) = *case;
     if found != standing.len().saturating_add(put.len()) {
         return Err(Wrong::Entries(found))?;
     }
-    fs::remove_dir_all(rt, top)?;
-    Ok(())
+    Ok(fs::remove_dir_all(rt, top)?)
 }
 
 #[test]
@@ -256,7 +267,7 @@ fn real_directories_get_what_is_put_and_nothing_else(rt: HostRuntime) -> Result<
     let alloc = rt.alloc();
     let number = process::id(rt.process());
     for (i, case) in CASES.iter().enumerate() {
-        let below = format!(in alloc; "folder_cases.{number}.{i}")?;
+        let below = format!(in alloc; "byte_cases.{number}.{i}")?;
         let top = env::temp_dir(&rt)?
             .join(alloc, below.as_str())?
             .into_string();

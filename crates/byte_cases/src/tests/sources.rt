@@ -1,67 +1,88 @@
 // What no clause says: that calls succeed, and what a file and a writer do.
-use crate::{BlockSource, FileSource, MemSink, MemSource, Opened, Sink, StdSink, SureSource};
+use blk_source::{BlockSource, FileSource, MemSink, MemSource, Opened, Sink, StdSink, SureSource};
 use std::fs::OpenFile;
 use std::io::{self, ErrorKind, Write};
 use std::os::unix::fs::FileExt;
+use std::path::PathBuf;
 use std::test::Fail;
 use std::{env, fs, process};
+
+// Two bytes of a source from a place on, or none where it ends before them or the read fails.
+fn two<S: BlockSource>(source: &mut S, at: u64) -> Option<[u8; 2]> {
+    let size = source.size();
+    if size < 2 || size - 2 < at {
+        return None;
+    }
+    let mut into = [0u8; 2];
+    source.read_at(at, &mut into).ok()?;
+    Some(into)
+}
+
+// Four bytes of a source from a place on, or none where it ends before them or the read fails.
+fn four<S: BlockSource>(source: &mut S, at: u64) -> Option<[u8; 4]> {
+    let size = source.size();
+    if size < 4 || size - 4 < at {
+        return None;
+    }
+    let mut into = [0u8; 4];
+    source.read_at(at, &mut into).ok()?;
+    Some(into)
+}
 
 #[test]
 fn a_source_in_memory_refuses_chosen_reads(rt: HostRuntime) -> Result<(), Fail> {
     let alloc = rt.alloc();
     let mut source = MemSource::new(vec![in alloc; 1, 2, 3, 4]?, vec![in alloc; 2]?);
-    let mut into = [0u8; 2];
-    source.read_at(1, &mut into)?;
-    assert_eq!(rt; into, [2, 3]);
-    assert!(rt; source.read_at(0, &mut into).is_err());
-    source.read_at(2, &mut into)?;
-    assert_eq!(rt; into, [3, 4]);
-    assert_eq!(rt;
-        (source.size(), source.read_count(), source.fault_count()),
-        (4, 3, 1)
-    );
+    assert!(rt; two(&mut source, 1) == Some([2, 3]));
+    assert!(rt; two(&mut source, 0).is_none());
+    assert!(rt; two(&mut source, 2) == Some([3, 4]));
+    assert!(rt; source.size() == 4 && source.read_count() == 3 && source.fault_count() == 1);
     Ok(())
 }
 
 #[test]
 fn a_sure_source_reads(rt: HostRuntime) -> Result<(), Fail> {
-    let mut source = SureSource::new(vec![in rt.alloc(); 5, 6]?);
-    let mut into = [0u8; 1];
-    source.read_at(1, &mut into)?;
-    assert_eq!(rt; (into, source.size()), ([6], 2));
+    let mut source = SureSource::new(vec![in rt.alloc(); 5, 6, 7]?);
+    assert!(rt; two(&mut source, 1) == Some([6, 7]) && source.size() == 3);
     Ok(())
+}
+
+// Whether a sink has a text, and how many puts were refused.
+fn has(sink: &MemSink, contents: &[u8], faults: u64) -> bool {
+    sink.contents() == contents && sink.fault_count() == faults
 }
 
 #[test]
 fn a_sink_in_memory_refuses_by_number_and_by_room(rt: HostRuntime) -> Result<(), Fail> {
     let alloc = rt.alloc();
     let mut sink = MemSink::new(alloc, 5, vec![in alloc; 2]?)?;
-    sink.put(b"ab")?;
-    assert!(rt; sink.put(b"c").is_err());
-    sink.put(b"def")?;
-    assert!(rt; sink.put(b"g").is_err());
-    assert_eq!(rt; sink.contents(), b"abdef".as_slice());
-    assert_eq!(rt; sink.fault_count(), 2);
+    assert!(rt; sink.put(b"ab").is_ok() && sink.put(b"c").is_err());
+    assert!(rt; sink.put(b"def").is_ok() && sink.put(b"g").is_err());
+    assert!(rt; has(&sink, b"abdef", 2));
     Ok(())
+}
+
+// Where a file of a test stands.
+fn place(rt: &HostRuntime, name: &str) -> Result<PathBuf, Fail> {
+    let name = format!(in rt.alloc(); "{name}.{}", process::id(rt.process()))?;
+    Ok(env::temp_dir(rt)?.join(rt.alloc(), name.as_str())?)
+}
+
+// Whether a file of ten bytes is read, and is at its end after it is cut behind the source's back: the bytes from 8 on are not there any more.
+fn is_cut(rt: &HostRuntime, path: &PathBuf) -> Result<bool, Fail> {
+    let mut source = FileSource::new(fs::open(rt, path)?)?;
+    let whole = source.size() == 10 && four(&mut source, 3) == Some(*b"3456");
+    fs::create(rt, path)?.write_all(b"01234567")?;
+    let gone = two(&mut source, 8).is_none() && two(&mut source, 6) == Some(*b"67");
+    // Of these four bytes the file has two.
+    Ok(whole && gone && four(&mut source, 6).is_none())
 }
 
 #[test]
 fn a_file_is_read_and_its_end_is_a_failure(rt: HostRuntime) -> Result<(), Fail> {
-    let name = format!(in rt.alloc(); "blk_source.{}", process::id(rt.process()))?;
-    let path = env::temp_dir(&rt)?.join(rt.alloc(), name.as_str())?;
+    let path = place(&rt, "blk_source")?;
     fs::write(&rt, &path, b"0123456789")?;
-    let mut source = FileSource::new(fs::open(&rt, &path)?)?;
-    assert_eq!(rt; source.size(), 10);
-    let mut into = [0u8; 4];
-    source.read_at(3, &mut into)?;
-    assert_eq!(rt; into, *b"3456");
-    // The file is cut behind the source's back, so the bytes from 8 on are not there any more.
-    fs::create(&rt, &path)?.write_all(b"01234567")?;
-    assert!(rt; source.read_at(8, &mut into[..2]).is_err());
-    source.read_at(6, &mut into[..2])?;
-    assert_eq!(rt; into, *b"6756");
-    // Of these four bytes the file has two.
-    assert!(rt; source.read_at(6, &mut into).is_err());
+    assert!(rt; is_cut(&rt, &path)?);
     fs::remove_file(&rt, &path)?;
     Ok(())
 }
@@ -69,36 +90,34 @@ fn a_file_is_read_and_its_end_is_a_failure(rt: HostRuntime) -> Result<(), Fail> 
 // More than 2^40 bytes, of which the file keeps the few that are written.
 const FAR: u64 = (1 << 40) + 3;
 
+// Whether a long file is read near its start, at its end, and between.
+fn is_read<S: BlockSource>(source: &mut S) -> bool {
+    source.size() == FAR + 4
+        && four(source, FAR) == Some(*b"far!")
+        && four(source, 3) == Some(*b"near")
+        && four(source, FAR - 4) == Some([0; 4])
+}
+
 #[test]
 fn a_file_is_read_far_out(rt: HostRuntime) -> Result<(), Fail> {
-    let name = format!(in rt.alloc(); "blk_source_far.{}", process::id(rt.process()))?;
-    let path = env::temp_dir(&rt)?.join(rt.alloc(), name.as_str())?;
+    let path = place(&rt, "blk_source_far")?;
     let file = fs::create(&rt, &path)?;
     file.write_all_at(b"near", 3)?;
     file.write_all_at(b"far!", FAR)?;
     let mut source = FileSource::new(fs::open(&rt, &path)?)?;
-    assert_eq!(rt; source.size(), FAR + 4);
-    let mut into = [0u8; 4];
-    source.read_at(FAR, &mut into)?;
-    assert_eq!(rt; into, *b"far!");
-    source.read_at(3, &mut into)?;
-    assert_eq!(rt; into, *b"near");
-    source.read_at(FAR - 4, &mut into)?;
-    assert_eq!(rt; into, [0; 4]);
+    assert!(rt; is_read(&mut source));
     fs::remove_file(&rt, &path)?;
     Ok(())
 }
 
 #[test]
 fn a_file_that_may_not_be_read_fails(rt: HostRuntime) -> Result<(), Fail> {
-    let name = format!(in rt.alloc(); "blk_source_out.{}", process::id(rt.process()))?;
-    let path = env::temp_dir(&rt)?.join(rt.alloc(), name.as_str())?;
+    let path = place(&rt, "blk_source_out")?;
     // A file that was opened to be written: the system refuses to read by its descriptor.
     let file = fs::create(&rt, &path)?;
     file.write_all_at(b"0123", 0)?;
     let mut source = FileSource::new(file)?;
-    assert_eq!(rt; source.size(), 4);
-    assert!(rt; source.read_at(0, &mut [0u8; 4]).is_err());
+    assert!(rt; source.size() == 4 && four(&mut source, 0).is_none());
     fs::remove_file(&rt, &path)?;
     Ok(())
 }

@@ -1,0 +1,63 @@
+// That calls of a folder in memory succeed.
+use apfs_model::WriteFailed;
+use blk_folder::{Folder, Given, MemFolder};
+use std::test::Fail;
+
+// Puts a file in two pieces.
+fn put(folder: &mut MemFolder, path: &str, first: &[u8], second: &[u8]) -> Result<(), WriteFailed> {
+    folder.start_file(path)?;
+    folder.append(first)?;
+    folder.append(second)
+}
+
+// Starts a file, and says whether its only piece is refused.
+fn refuses(folder: &mut MemFolder, path: &str, piece: &[u8]) -> Result<bool, WriteFailed> {
+    folder.start_file(path)?;
+    Ok(folder.append(piece).is_err())
+}
+
+// Whether a folder has some items: each a path, and the bytes of a file.
+fn has(folder: &MemFolder, items: &[(&str, Option<&[u8]>)]) -> bool {
+    for i in 0..folder.len() {
+        if items.get(i) != Some(&(folder.path(i), folder.bytes(i))) {
+            return false;
+        }
+    }
+    folder.len() == items.len()
+}
+
+const FILLED: &[(&str, Option<&[u8]>)] = &[("d", None), ("d/f", Some(b"hello")), ("e", Some(b""))];
+
+#[test]
+fn a_folder_in_memory_has_what_was_put(rt: HostRuntime) -> Result<(), Fail> {
+    let mut folder = MemFolder::new(rt.alloc(), 3, 10, Vec::new(rt.alloc()))?;
+    folder.make_dir("d")?;
+    put(&mut folder, "d/f", b"hel", b"lo")?;
+    folder.start_file("e")?;
+    assert!(rt; has(&folder, FILLED));
+    assert!(rt; folder.fault_count() == 0);
+    Ok(())
+}
+
+const REFUSED: &[(&str, Option<&[u8]>)] = &[("f", Some(b"")), ("g", Some(b""))];
+
+#[test]
+fn a_folder_in_memory_refuses_by_number_and_by_room(rt: HostRuntime) -> Result<(), Fail> {
+    let alloc = rt.alloc();
+    let mut folder = MemFolder::new(alloc, 2, 6, vec![in alloc; 2]?)?;
+    assert!(rt; refuses(&mut folder, "f", b"a")?);
+    assert!(rt; folder.make_dir("longer").is_err());
+    assert!(rt; refuses(&mut folder, "g", b"hello")?);
+    assert!(rt; folder.make_dir("d").is_err());
+    assert!(rt; has(&folder, REFUSED));
+    assert!(rt; folder.fault_count() == 4);
+    Ok(())
+}
+
+#[test]
+fn a_folder_is_given_or_not(rt: HostRuntime) {
+    let given = [Given::Nothing, Given::Into(1u8)];
+    for (i, one) in given.iter().enumerate() {
+        assert!(rt; matches!(one, Given::Into(_)) == (i == 1));
+    }
+}
