@@ -1,20 +1,22 @@
 -- Listings, as they are told, and the steps of a path one after the other.
-use Rattle.std.proofs.Common.{◌≡◌, ℕ, ◌+◌, ◌<◌, Bool, true, false, cond, List, [], ◌∷◌, ◌++◌, length, map, take, drop, get_or, Option, Some, None, Result, Ok, Err, refl, ap, sym, ◌∙◌, arith}
+use Rattle.std.proofs.Common.{◌≡◌, ℕ, ◌+◌, ◌<◌, Bool, true, false, cond, List, [], ◌∷◌, ◌++◌, length, map, take, drop, get_or, ◌≤◌, Option, Some, None, Result, Ok, Err, refl, ap, sym, ◌∙◌, arith}
 use Rattle.std.specs.Prelude.{filter_map, option_map}
 use Rattle.std.specs.List.{cons_option}
-use Rattle.std.proofs.lemmas.List.{drop_more, take_more, take_all}
+use Rattle.std.proofs.lemmas.List.{drop_more, take_more, take_all, length-take-le}
 use Rattle.std.proofs.lemmas.List.Elements.{filter_map-append}
 use Rattle.apfs_model.specs.Lists.{and_then}
 use Rattle.fs_record.specs.Entries.{Entry}
 use Rattle.fs_record.specs.Facts.{Fact}
-use Rattle.view_rules.specs.Facts.{Facts, is_directory}
-use Rattle.path_walk.specs.Places.{Place, target_of}
+use Rattle.fs_record.specs.Inodes.{Inode}
+use Rattle.view_rules.specs.Facts.{Facts, inode_at, is_directory}
+use Rattle.path_walk.specs.Places.{Place, placed, target_of}
 use Rattle.path_walk.specs.Found.{entries_in, place_by, found}
 use Rattle.path_walk.specs.Order.{is_after, put_in, by_name}
 use Rattle.path_walk.specs.Listing.{children, listed, listing}
-use Rattle.path_walk.specs.Parts.{whats, by_part, along, target_by, targets_by}
+use Rattle.path_walk.specs.Parts.{whats, by_part, along, target_by, target_with, targets_by, targets_with}
 use Rattle.path_walk.specs.declared.answer.Answer.{Answer}
 use Rattle.path_walk.specs.declared.target.Target.{Target}
+use Rattle.path_walk.specs.declared.kinds.KindAndSize.{KindAndSize}
 use Rattle.path_walk.proofs.Known.{along_on, along_stops}
 
 -- ---- one part after another
@@ -51,6 +53,54 @@ targets_more facts es i e target targets low at there so_far =
 
 pub targets_done : (facts : Facts) (es : List (Fact Entry)) (i : ℕ) (targets : List Target) → i ≡ length es → targets ≡ targets_by facts (whats (take i es)) → targets ≡ targets_by facts (whats es)
 targets_done facts es i targets end so_far = so_far ∙ ap (λ l. targets_by facts (whats l)) (take_all i es (omega arith))
+
+-- ---- entries with the kinds and sizes of their files
+-- what an entry leads to has its name and its file's id
+same-target : (facts : Facts) (e : Fact Entry) (target : Target) (told : KindAndSize) → target_by facts e.what ≡ Some target → told.kind ≡ target.kind → told.size ≡ target.size → target ≡ target_with e told
+same-target facts e target told there kind size =
+    let go : (o : Option Inode) → option_map target_of (option_map (placed e.what.file_id e.what.name) o) ≡ Some target → target ≡ target_with e told = λ o. elim o as (λ o. option_map target_of (option_map (placed e.what.file_id e.what.name) o) ≡ Some target → target ≡ target_with e told) [
+      | None ↦ λ h. absurd cc
+      | Some inode ↦ λ h. let same : target_of (placed e.what.file_id e.what.name inode) ≡ target = cc in cc
+    ] in
+    go (inode_at facts e.what.file_id) there
+
+-- one entry more
+with-one : (es : List (Fact Entry)) (kinds : List KindAndSize) (e : Fact Entry) (told : KindAndSize) → length es ≡ length kinds → targets_with (es ++ e ∷ []) (kinds ++ told ∷ []) ≡ targets_with es kinds ++ target_with e told ∷ []
+with-one [] [] e told same = refl
+with-one [] (k ∷ ks) e told same = absurd (omega arith)
+with-one (f ∷ es) [] e told same = absurd (omega arith)
+with-one (f ∷ es) (k ∷ ks) e told same = ap (λ l. target_with f k ∷ l) (with-one es ks e told (omega arith))
+
+short : {X : Type 0} (i : ℕ) (xs : List X) → i ≤ length xs → length (take i xs) ≡ i
+short i xs low = length-take-le i xs low
+
+pub kinds_more : (facts : Facts) (es : List (Fact Entry)) (i : ℕ) (e : Fact Entry) (target : Target) (told : KindAndSize) (kinds more : List KindAndSize) → i < length es → e ≡ get_or es i e → target_by facts e.what ≡ Some target → told.kind ≡ target.kind → told.size ≡ target.size →
+    more ≡ kinds ++ told ∷ [] → i ≡ length kinds → targets_with (take i es) kinds ≡ targets_by facts (whats (take i es)) → targets_with (take (i + 1) es) more ≡ targets_by facts (whats (take (i + 1) es))
+kinds_more facts es i e target told kinds more low at there kind size pushed counted so_far =
+    let long : length (take i es) ≡ length kinds = short i es (omega arith) ∙ counted in
+    let next : take (i + 1) es ≡ take i es ++ e ∷ [] = take_more es i e low ∙ ap (λ (f : Fact Entry). take i es ++ f ∷ []) (sym at) in
+    ap (λ l. targets_with l more) next
+    ∙ (ap (targets_with (take i es ++ e ∷ [])) pushed
+    ∙ (with-one (take i es) kinds e told long
+    ∙ (ap (λ (t : Target). targets_with (take i es) kinds ++ t ∷ []) (sym (same-target facts e target told there kind size))
+    ∙ targets_more facts es i e target (targets_with (take i es) kinds) low at there so_far)))
+
+pub kinds_done : (facts : Facts) (es : List (Fact Entry)) (i : ℕ) (kinds : List KindAndSize) → i ≡ length es → targets_with (take i es) kinds ≡ targets_by facts (whats (take i es)) → targets_with es kinds ≡ targets_by facts (whats es)
+kinds_done facts es i kinds end so_far =
+    let all : take i es ≡ es = take_all i es (omega arith) in
+    sym (ap (λ l. targets_with l kinds) all) ∙ (so_far ∙ ap (λ l. targets_by facts (whats l)) all)
+
+-- the targets of the entries up to a place
+pub with_more : (es : List (Fact Entry)) (kinds : List KindAndSize) (i : ℕ) (e : Fact Entry) (told none : KindAndSize) → i < length es → length es ≡ length kinds → e ≡ get_or es i e → told ≡ get_or kinds i none → targets_with (take i es) (take i kinds) ++ target_with e told ∷ [] ≡ targets_with (take (i + 1) es) (take (i + 1) kinds)
+with_more es kinds i e told none low same at told_at =
+    let low_too : i < length kinds = omega arith in
+    let long : length (take i es) ≡ length (take i kinds) = short i es (omega arith) ∙ sym (short i kinds (omega arith)) in
+    let next : take (i + 1) es ≡ take i es ++ e ∷ [] = take_more es i e low ∙ ap (λ (f : Fact Entry). take i es ++ f ∷ []) (sym at) in
+    let next_kinds : take (i + 1) kinds ≡ take i kinds ++ told ∷ [] = take_more kinds i none low_too ∙ ap (λ (k : KindAndSize). take i kinds ++ k ∷ []) (sym told_at) in
+    sym (ap (λ l. targets_with l (take (i + 1) kinds)) next ∙ (ap (targets_with (take i es ++ e ∷ [])) next_kinds ∙ with-one (take i es) (take i kinds) e told long))
+
+pub with_all : (es : List (Fact Entry)) (kinds : List KindAndSize) (i : ℕ) → i ≡ length es → length es ≡ length kinds → targets_with (take i es) (take i kinds) ≡ targets_with es kinds
+with_all es kinds i end same = ap (λ l. targets_with l (take i kinds)) (take_all i es (omega arith)) ∙ ap (targets_with es) (take_all i kinds (omega arith))
 
 -- ---- listings
 given-map : {X Y Z : Type 0} (f : Y → Z) (g : X → Option Y) (xs : List X) → filter_map (λ x. option_map f (g x)) xs ≡ map f (filter_map g xs)

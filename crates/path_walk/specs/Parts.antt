@@ -26,6 +26,7 @@ use Rattle.path_walk.specs.Paths.{is_component}
 use Rattle.path_walk.specs.Places.{Place, root_of, target_of}
 use Rattle.path_walk.specs.Found.{has_name, has_form, place_by, step, walk}
 use Rattle.path_walk.specs.Needs.{AreRead, StepNeeds, WalkNeeds}
+use Rattle.path_walk.specs.declared.kinds.KindAndSize.{KindAndSize}
 use Rattle.path_walk.specs.declared.answer.Answer.{Answer}
 use Rattle.path_walk.specs.declared.answer.Answer.TheVariants.{NotFound}
 use Rattle.path_walk.specs.declared.stop.PathStop.{PathStop}
@@ -212,6 +213,16 @@ IsTargetKnown facts view e (Err stop) = IsPlaceKnown facts view e (Err stop)
 -- an entry's file as it is told
 abbrev pub target_by : Facts → Entry → Option Target
 target_by facts e = option_map target_of (place_by facts e)
+
+-- the target of an entry whose file has a kind and a size
+abbrev pub target_with : Fact Entry → KindAndSize → Target
+target_with e told = record { id = e.what.file_id; name = e.what.name; kind = told.kind; size = told.size }
+
+-- those of some entries, in their order
+abbrev pub targets_with : List (Fact Entry) → List KindAndSize → List Target
+targets_with [] kinds = []
+targets_with (e ∷ es) [] = []
+targets_with (e ∷ es) (told ∷ kinds) = target_with e told ∷ targets_with es kinds
 
 -- what a directory's entries lead to, as it is told, in record order
 abbrev pub targets_by : Facts → List Entry → List Target

@@ -1,5 +1,5 @@
 // Paths by the entries and the inodes of a view in memory.
-ghost use Rattle.std.specs.Prelude.{◌≡◌, map, IfOk, IfErr, IsErrOf};
+ghost use Rattle.std.specs.Prelude.{◌≡◌, map, length, IfOk, IfErr, IsErrOf};
 ghost use Rattle.obj_base.specs.declared.stop.Stop.TheVariants.{ReadFault};
 ghost use Rattle.view_rules.specs.Facts.{Facts};
 ghost use Rattle.path_walk.specs.Places.{target_of};
@@ -7,12 +7,13 @@ ghost use Rattle.path_walk.specs.Found.{step, found};
 ghost use Rattle.path_walk.specs.Listing.{children, listing};
 ghost use Rattle.path_walk.specs.Needs.{StepNeeds, PathNeeds, HaveFiles, ChildrenNeed, ListingNeeds};
 ghost use Rattle.path_walk.specs.Calls.{IsNoAnswer};
-ghost use Rattle.path_walk.specs.Parts.{whats, by_part, along, rooted, lacking_entry, targets_by, HasEntries, Remembers, Rises, IsKnown, IsPlaceKnown, IsTargetKnown, PartNeeds, AlongNeeds, WhereTold, of_any};
+ghost use Rattle.path_walk.specs.Parts.{whats, by_part, along, rooted, lacking_entry, targets_by, targets_with, HasEntries, Remembers, Rises, IsKnown, IsPlaceKnown, IsTargetKnown, PartNeeds, AlongNeeds, WhereTold, of_any};
 
 use crate::by_search::{ROOT, place_of, root_of_inode};
 use crate::choice::{choose, parts};
 use crate::files::{Files, directory_in, inode_in};
 use crate::kept::{KeptInode, KeptTarget, Place};
+use crate::kinds::KindAndSize;
 use crate::lent::LentTarget;
 use crate::order::{alone, kept_by_name, kept_of};
 use crate::{Answer, PathStop};
@@ -193,30 +194,31 @@ pub(crate) fn locate(
     }
 }
 
-// What some entries lead to, in their order.
-fn targets_in<'a>(
+// The kinds and sizes of what some entries lead to, in their order: a quarter of the memory that targets take.
+fn kinds_in(
     alloc: Global,
     inodes: &[InodeFact],
     view: &View,
-    entries: &'a [EntryFact],
-) -> Result<Vec<LentTarget<'a>>, Stop<PathStop>>
+    entries: &[EntryFact],
+) -> Result<Vec<KindAndSize>, Stop<PathStop>>
     ensures no_read { IsErrOf result ReadFault → ⊥ }
-    ensures known { (facts : Facts) → inodes.now ≡ facts.inodes → Rises inodes.now → HasEntries facts entries.now → IsKnown facts view.now (λ targets. targets.items) (Ok (targets_by facts (whats entries.now))) result }
+    ensures counted { IfOk result (λ kinds. length entries.now ≡ length kinds.items) }
+    ensures known { (facts : Facts) → inodes.now ≡ facts.inodes → Rises inodes.now → HasEntries facts entries.now → IsKnown facts view.now (λ kinds. targets_with entries.now kinds.items) (Ok (targets_by facts (whats entries.now))) result }
     ensures needs { (facts : Facts) → inodes.now ≡ facts.inodes → Rises inodes.now → HasEntries facts entries.now → WhereTold (HaveFiles facts (whats entries.now)) result }
 {
-    let mut targets = Vec::with_capacity(alloc, entries.len())?;
+    let mut kinds = Vec::with_capacity(alloc, entries.len())?;
     let mut shift = 0;
     for entry in entries {
         let target = match target_in(alloc, inodes, view, entry, &mut shift) {
             Ok(target) => target,
             Err(stop) => return Err(stop),
         };
-        targets.push(target)?;
+        kinds.push(target.kind_and_size())?;
     }
-    Ok(targets)
+    Ok(kinds)
 }
 
-/// What a directory has, by name. The inodes go before names are copied, and the entries before the targets are sorted.
+/// What a directory has, by name. The inodes go before names are copied, where their kinds and sizes alone are kept, and the entries go before the targets are sorted.
 pub(crate) fn children(
     alloc: Global,
     files: Files,
@@ -228,13 +230,14 @@ pub(crate) fn children(
     ensures needs { (facts : Facts) → Remembers facts files.entries.items files.inodes.items → WhereTold (ChildrenNeed facts of_any id) result }
 {
     let Files { entries, inodes } = files;
-    let targets = match targets_in(alloc, &inodes, view, directory_in(&entries, id)) {
-        Ok(targets) => targets,
+    let run = directory_in(&entries, id);
+    let kinds = match kinds_in(alloc, &inodes, view, run) {
+        Ok(kinds) => kinds,
         Err(stop) => return Err(stop),
     };
     drop(inodes);
-    let kept = kept_of(alloc, &targets)?;
-    drop(targets);
+    let kept = kept_of(alloc, run, &kinds)?;
+    drop(kinds);
     drop(entries);
     let sorted = kept_by_name(kept)?;
     Ok(sorted)

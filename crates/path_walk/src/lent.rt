@@ -3,6 +3,7 @@ ghost use Rattle.std.specs.Prelude.{◌≡◌, IfOk};
 ghost use Rattle.path_walk.specs.Places as spec;
 
 use crate::kept::{KeptTarget, size};
+use crate::kinds::KindAndSize;
 use apfs_model::NoMemory;
 use std::alloc::Global;
 use std::marker::Model;
@@ -33,6 +34,17 @@ impl<'a> LentTarget<'a> {
             entry,
             size: size(inode.stream()),
             kind: inode.kind(),
+        }
+    }
+
+    /// Its kind and its size.
+    pub(crate) fn kind_and_size(&self) -> KindAndSize
+        ensures kind { result.kind ≡ self.now.kind }
+        ensures size { result.size ≡ self.now.size }
+    {
+        KindAndSize {
+            size: self.size,
+            kind: self.kind,
         }
     }
 

@@ -1,13 +1,15 @@
 // Targets by name.
-ghost use Rattle.std.specs.Prelude.{◌≡◌, [], ◌∷◌, IfOk};
+ghost use Rattle.std.specs.Prelude.{◌≡◌, [], ◌∷◌, length, IfOk};
 ghost use Rattle.path_walk.specs.Order as order;
 ghost use Rattle.path_walk.specs.Places.{target_of};
+ghost use Rattle.path_walk.specs.Parts.{targets_with};
 
 use crate::Target;
 use crate::kept::{KeptTarget, Place};
-use crate::lent::LentTarget;
+use crate::kinds::KindAndSize;
 use apfs_model::NoMemory;
 use std::alloc::{AllocError, Global};
+use view_facts::EntryFact;
 
 /// Some targets by the bytes of their names, those of one name in their order. The names lie in place, so that a sort reads them where it moves them, and the comparison of
 /// texts takes their first sixteen bytes as two numbers.
@@ -18,13 +20,19 @@ pub fn kept_by_name(mut targets: Vec<KeptTarget>) -> Result<Vec<KeptTarget>, All
     Ok(targets)
 }
 
-/// The same targets, each with a name of its own.
-pub(crate) fn kept_of(alloc: Global, lent: &[LentTarget<'_>]) -> Result<Vec<KeptTarget>, NoMemory>
-    ensures { IfOk result (λ kept. kept.items ≡ lent.now) }
+/// The targets of some entries whose files have these kinds and sizes, each with a name of its own.
+pub(crate) fn kept_of(
+    alloc: Global,
+    entries: &[EntryFact],
+    kinds: &[KindAndSize],
+) -> Result<Vec<KeptTarget>, NoMemory>
+    requires { length entries.now ≡ length kinds.now }
+    ensures { IfOk result (λ kept. kept.items ≡ targets_with entries.now kinds.now) }
 {
-    let mut kept = Vec::with_capacity(alloc, lent.len())?;
-    'lent: for target in lent {
-        let target = target.kept(alloc)?;
+    let mut kept = Vec::with_capacity(alloc, entries.len())?;
+    for (number, entry) in entries.iter().enumerate() {
+        let told = &kinds[number];
+        let target = told.target(alloc, entry)?;
         kept.push(target)?;
     }
     Ok(kept)

@@ -1,5 +1,6 @@
 use Rattle.std.proofs.Common.{◌≡◌, take}
+use Rattle.path_walk.specs.Parts.{targets_with}
 use Rattle.path_walk.proofs.order.kept_of.Given as goal
 
-abbrev pub invariant-lent : goal.invariant-lent
-invariant-lent l = l.kept.items ≡ take l.target-index l.lent
+abbrev pub invariant-loop-number : goal.invariant-loop-number
+invariant-loop-number l = l.kept.items ≡ targets_with (take l.number l.entries) (take l.number l.kinds)
