@@ -4,14 +4,14 @@ use Rattle.std.specs.List.{list_any, All}
 use Rattle.std.proofs.Common.{arith, ap, sym, subst, ◌∙◌, inl, inr, get_or, take}
 use Rattle.std.proofs.lemmas.Bool.{cases_lt}
 use Rattle.std.proofs.lemmas.List.{get_or_default}
-use Rattle.std.proofs.lemmas.List.Elements.{All-head, All-tail}
+use Rattle.std.proofs.lemmas.List.Elements.{All-head, All-tail, All-push}
 use Rattle.std.proofs.lemmas.List.Folds.{list_any-append, list_any_none, list_any_at, list_any_more}
 use Rattle.apfs_model.specs.Blocks.{is_in}
 use Rattle.apfs_model.proofs.BoolTests.{test_or, never-true, equal-from, left-true, right-true, below-from, from-below, upto-from, from-upto}
 use Rattle.fs_record.specs.StreamExtents.{extent_blocks, is_hole}
 use Rattle.fs_record.specs.declared.extents.FileExt.{FileExt}
 use Rattle.ext_ref.specs.Cover.{is_owned, range_has}
-use Rattle.ext_ref.specs.Spans.{span_has, is_spanned, IsCoverOf, AreApart}
+use Rattle.ext_ref.specs.Spans.{span_of, span_has, is_spanned, IsCoverOf, AreProper, AreApart}
 use Rattle.ext_ref.specs.Unreached.{reaches, is_unreached, unreached_runs, end_of_ranges}
 use Rattle.ext_ref.specs.Left.{run_of, is_left, EndBy, AreUpTo, AreLow, AreLeft, AreShort, reach_of}
 use Rattle.ext_ref.specs.declared.range.NewRange.{NewRange}
@@ -19,26 +19,27 @@ use Rattle.ext_ref.specs.declared.covering.Span.{Span}
 use Rattle.ext_ref.proofs.Spans.{span-before, span-after, span-in, ascending-apart}
 use Rattle.ext_ref.proofs.Runs.{runs-left, last-in, owned-below}
 
-pub owned-none : (k : ℕ) → is_owned [] k ≡ false
-unfolding is_owned
-owned-none k = refl
-
-pub owned-push : (ranges : List NewRange) (r : NewRange) (k : ℕ) → is_owned (ranges ++ r ∷ []) k ≡ (is_owned ranges k || (range_has k r || false))
-unfolding is_owned
-owned-push ranges r k = list_any-append (range_has k) ranges (r ∷ [])
+pub spanned-push : (spans : List Span) (s : Span) (k : ℕ) → is_spanned (spans ++ s ∷ []) k ≡ (is_spanned spans k || (span_has k s || false))
+spanned-push spans s k = list_any-append (span_has k) spans (s ∷ [])
 
 pub or-none : (b : Bool) → (b || false) ≡ b
 or-none true = refl
 or-none false = refl
 
 -- the blocks of one more extent
-pub owned-reach : (block_size : ℕ) (old new : List NewRange) (x : ℕ × FileExt) (k : ℕ) → new ≡ old ++ reach_of block_size x.1 ∷ [] → (x.1.block ≡ 0 → ⊥) → is_owned new k ≡ (is_owned old k || reaches block_size k x)
-owned-reach block_size old new x k e some =
+pub spanned-reach : (block_size : ℕ) (old new : List Span) (x : ℕ × FileExt) (k : ℕ) → new ≡ old ++ span_of (reach_of block_size x.1) ∷ [] → (x.1.block ≡ 0 → ⊥) → is_spanned new k ≡ (is_spanned old k || reaches block_size k x)
+spanned-reach block_size old new x k e some =
     let whole : is_hole x.1 ≡ false = never-true (x.1.block == 0) (λ t. some (equal-from x.1.block 0 t)) in
-    ap (λ (rs : List NewRange). is_owned rs k) e
-    ∙ (owned-push old (reach_of block_size x.1) k
-    ∙ (ap (λ (b : Bool). is_owned old k || b) (or-none (range_has k (reach_of block_size x.1)))
-    ∙ ap (λ (b : Bool). is_owned old k || (not b && is_in k x.1.block (extent_blocks block_size x.1))) (sym whole)))
+    ap (λ (ss : List Span). is_spanned ss k) e
+    ∙ (spanned-push old (span_of (reach_of block_size x.1)) k
+    ∙ (ap (λ (b : Bool). is_spanned old k || b) (or-none (span_has k (span_of (reach_of block_size x.1))))
+    ∙ ap (λ (b : Bool). is_spanned old k || (not b && is_in k x.1.block (extent_blocks block_size x.1))) (sym whole)))
+
+-- one more span of a range
+pub proper-push : (old new : List Span) (r : NewRange) → new ≡ old ++ span_of r ∷ [] → AreProper old → AreProper new
+proper-push old new r e proper =
+    let P : Span → Type 0 = λ s. s.first ≤ s.end in
+    subst (λ (ss : List Span). AreProper ss) (sym e) (All-push P old (span_of r) proper (omega arith))
 
 -- spans that begin by a block begin by a later one, and so with ends
 pub up-later : (a b : ℕ) (spans : List Span) → a ≤ b → AreUpTo a spans → AreUpTo b spans
@@ -170,8 +171,10 @@ end-next cover others i place one apart low had k d more less =
     let e : (get_or cover i one).end ≡ (get_or cover i d).end = ap (λ (s : Span). s.end) (get_or_default cover i one d low) in
     end-later (get_or cover i one).end (get_or cover k d).first place others (omega arith) had
 
-left-of : (ranges others : List NewRange) (cover reach : List Span) (k : ℕ) → IsCoverOf ranges cover → IsCoverOf others reach → is_left cover reach k ≡ (is_owned ranges k && not (is_owned others k))
-left-of ranges others cover reach k of other = ap (λ (b : Bool). b && not (is_spanned reach k)) (of k) ∙ ap (λ (b : Bool). is_owned ranges k && not b) (other k)
+left-of : (block_size : ℕ) (ranges : List NewRange) (extents : List (ℕ × FileExt)) (cover reach : List Span) (k : ℕ) → IsCoverOf ranges cover → is_spanned reach k ≡ list_any (reaches block_size k) extents
+    → is_left cover reach k ≡ is_unreached block_size ranges extents k
+unfolding is_unreached
+left-of block_size ranges extents cover reach k of reached = ap (λ (b : Bool). b && not (is_spanned reach k)) (of k) ∙ ap (λ (b : Bool). is_owned ranges k && not b) reached
 
 -- an owned block comes before the end of a range, and that is short
 owned-short : (ranges : List NewRange) (k : ℕ) → AreShort ranges → is_owned ranges k ≡ true → k + 1 < 2 ^ 64
@@ -204,21 +207,17 @@ left-short ranges cover others spans short of left = λ i d low.
     let proper : s.first ≤ s.end = left.apart.proper i d low in
     (proper, omega (arith, small, proper))
 
-unreached-is : (block_size : ℕ) (ranges others : List NewRange) (extents : List (ℕ × FileExt)) (k : ℕ) → is_owned others k ≡ list_any (reaches block_size k) extents → (is_owned ranges k && not (is_owned others k)) ≡ is_unreached block_size ranges extents k
-unfolding is_unreached
-unreached-is block_size ranges others extents k same = ap (λ (b : Bool). is_owned ranges k && not b) same
-
 unreached-owned : (block_size : ℕ) (ranges : List NewRange) (extents : List (ℕ × FileExt)) (k : ℕ) → is_unreached block_size ranges extents k ≡ true → is_owned ranges k ≡ true
 unfolding is_unreached
 unreached-owned block_size ranges extents k e = left-true (is_owned ranges k) _ e
 
 -- as runs, they are the longest ones that no extent reaches
-pub runs-unreached : (block_size : ℕ) (ranges others : List NewRange) (extents : List (ℕ × FileExt)) (cover reach spans : List Span) → IsCoverOf ranges cover → IsCoverOf others reach
-    → ((k : ℕ) → is_owned others k ≡ list_any (reaches block_size k) extents) → AreLeft cover reach spans → map run_of spans ≡ unreached_runs block_size ranges extents
+pub runs-unreached : (block_size : ℕ) (ranges : List NewRange) (extents : List (ℕ × FileExt)) (cover reach spans : List Span) → IsCoverOf ranges cover → ((k : ℕ) → is_spanned reach k ≡ list_any (reaches block_size k) extents)
+    → AreLeft cover reach spans → map run_of spans ≡ unreached_runs block_size ranges extents
 unfolding unreached_runs
-runs-unreached block_size ranges others extents cover reach spans of other reached left =
+runs-unreached block_size ranges extents cover reach spans of reached left =
     runs-left (is_unreached block_size ranges extents) (end_of_ranges ranges) spans left.apart left.full
-    (λ k. left.blocks k ∙ (left-of ranges others cover reach k of other ∙ unreached-is block_size ranges others extents k (reached k)))
+    (λ k. left.blocks k ∙ left-of block_size ranges extents cover reach k of (reached k))
     (λ k e. owned-below ranges k (unreached-owned block_size ranges extents k e))
 
 pub ok-then : {T E : Type 0} (r : Result T E) (P Q : T → Type 0) → ((x : T) → P x → Q x) → IfOk r P → IfOk r Q

@@ -2,12 +2,12 @@
 use Rattle.std.specs.Prelude.{◌≡◌, ℕ, ◌+◌, ◌≤◌, ◌<◌, max, ◌&&◌, ◌||◌, nat_le, nat_lt, Bool, true, false, List, [], ◌∷◌, ◌++◌, length, map, Some, None, refl, if◌then◌else◌}
 use Rattle.std.specs.List.{range_with_len, list_all}
 use Rattle.std.specs.List.Sorted.{IsNonDecreasingBy, IsPartitionPoint, IsPartitionedBy}
-use Rattle.std.proofs.Common.{arith, ap, sym, subst, ◌∙◌, inl, inr, get_or, take}
+use Rattle.std.proofs.Common.{arith, ap, sym, subst, ◌∙◌, inl, inr, get_or}
 use Rattle.std.proofs.lemmas.Grind.{common_steps}
 use Rattle.std.proofs.lemmas.List.{get_or_append_left, length-append, get_or_default}
 use Rattle.std.proofs.Math.Seq.{get_or-append_seam}
 use Rattle.std.proofs.lemmas.List.Elements.{All-push, All-map}
-use Rattle.std.proofs.lemmas.List.Folds.{list_any_none, list_any_at, list_any_more}
+use Rattle.std.proofs.lemmas.List.Folds.{list_any_none, list_any_at}
 use Rattle.std.proofs.lemmas.List.Quantifiers.{all_pairs_push}
 use Rattle.std.proofs.lemmas.List.Sorted.{IsPartitionedBy-leb}
 use Rattle.std.proofs.lemmas.Bool.{cases_lt}
@@ -188,7 +188,3 @@ begin-later sorted spans i one low up by k d after less = λ k' d' low'.
     let b : (get_or sorted i d).first ≤ (get_or sorted k d).first = up i k d (omega arith) less in
     let e : (get_or sorted i one).first ≡ (get_or sorted i d).first = ap (λ (s : Span). s.first) (get_or_default sorted i one d low) in
     omega (arith, a, b, e)
-
-pub spanned-more : (sorted old new : List Span) (i : ℕ) (one : Span) (block : ℕ) → i < length sorted → is_spanned new block ≡ (is_spanned old block || span_has block (get_or sorted i one)) → is_spanned old block ≡ is_spanned (take i sorted) block
-    → is_spanned new block ≡ is_spanned (take (i + 1) sorted) block
-spanned-more sorted old new i one block low e f = e ∙ (ap (λ (b : Bool). b || span_has block (get_or sorted i one)) f ∙ sym (list_any_more (span_has block) sorted i one low))

@@ -17,14 +17,14 @@ use Rattle.apfs_model.proofs.Finite.{apart-same, apart-filter}
 use Rattle.apfs_model.proofs.Searches.{in-has, has-in, filter-test, in-filter}
 use Rattle.fs_record.specs.StreamExtents.{is_hole}
 use Rattle.fs_record.specs.declared.extents.FileExt.{FileExt}
-use Rattle.ext_ref.specs.Cover.{range_has, is_owned}
+use Rattle.ext_ref.specs.Cover.{range_has}
 use Rattle.ext_ref.specs.Spans.{span_of, span_has, is_spanned, AreProper, AreApart}
 use Rattle.ext_ref.specs.References.{end_of, touches, streams_of}
 use Rattle.ext_ref.specs.Sweep.{meets, streams_at, is_of, AreRising, AreCounts}
 use Rattle.ext_ref.specs.declared.range.NewRange.{NewRange}
 use Rattle.ext_ref.specs.declared.covering.Span.{Span}
 use Rattle.ext_ref.proofs.Counted.{into-distinct, from-distinct, apart-distinct}
-use Rattle.ext_ref.proofs.Left.{owned-push, or-none}
+use Rattle.ext_ref.proofs.Left.{spanned-push, or-none}
 use Rattle.ext_ref.proofs.Spans.{span-before, span-after, span-in}
 use Rattle.ext_ref.proofs.Touched.{has-of, window}
 
@@ -250,12 +250,12 @@ unfolding streams_of touches meets
 streams-span block_size extents r = refl
 
 -- what an extent meets, among what others meet
-pub owned-next : (block_size : ℕ) (s : Span) (extents : List (ℕ × FileExt)) (k i : ℕ) (d : ℕ × FileExt) (old new : List NewRange) (r : NewRange) → k < length extents → new ≡ old ++ r ∷ []
-    → range_has i r ≡ meets block_size s (get_or extents k d) → is_owned old i ≡ list_any (meets block_size s) (take k extents) → is_owned new i ≡ list_any (meets block_size s) (take (k + 1) extents)
-owned-next block_size s extents k i d old new r low e here had =
-    ap (λ (rs : List NewRange). is_owned rs i) e
-    ∙ (owned-push old r i
-    ∙ (ap (λ (b : Bool). is_owned old i || b) (or-none (range_has i r) ∙ here)
+pub spanned-next : (block_size : ℕ) (s : Span) (extents : List (ℕ × FileExt)) (k i : ℕ) (d : ℕ × FileExt) (old new : List Span) (r : NewRange) → k < length extents → new ≡ old ++ span_of r ∷ []
+    → range_has i r ≡ meets block_size s (get_or extents k d) → is_spanned old i ≡ list_any (meets block_size s) (take k extents) → is_spanned new i ≡ list_any (meets block_size s) (take (k + 1) extents)
+spanned-next block_size s extents k i d old new r low e here had =
+    ap (λ (ss : List Span). is_spanned ss i) e
+    ∙ (spanned-push old (span_of r) i
+    ∙ (ap (λ (b : Bool). is_spanned old i || b) (or-none (span_has i (span_of r)) ∙ here)
     ∙ (ap (λ (b : Bool). b || meets block_size s (get_or extents k d)) had
     ∙ sym (list_any_more (meets block_size s) extents k d low))))
 

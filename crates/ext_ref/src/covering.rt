@@ -1,5 +1,5 @@
 // Which blocks lie in ranges.
-ghost use Rattle.std.specs.Prelude.{◌≡◌, map, ◌≤◌, ◌<◌, ◌||◌, ℕ, length, true, false, nat_le, OnOk, IfOk};
+ghost use Rattle.std.specs.Prelude.{◌≡◌, map, ◌≤◌, ◌<◌, ◌||◌, ℕ, length, true, false, nat_le, OnOk, IfOk, MatchOption};
 ghost use Rattle.std.specs.List.Sorted.{IsNonDecreasingBy, IsPartitionPoint};
 ghost use Rattle.ext_ref.specs.declared.covering.Span as declared;
 ghost use Rattle.ext_ref.specs.Cover.{is_owned, is_covered};
@@ -105,18 +105,24 @@ pub(crate) fn put(spans: &mut Vec<Span>, span: Span) -> Result<(), AllocError>
     }
 }
 
-// Spans that are apart, of the same blocks as spans in the order of their first blocks.
-fn join(alloc: Global, sorted: &[Span]) -> Result<Vec<Span>, AllocError>
-    requires proper { AreProper sorted.now }
-    requires ascending { IsNonDecreasingBy (λ (s : declared.Span). s.first) sorted.now }
-    ensures apart { IfOk result (λ spans. AreApart spans.items) }
-    ensures blocks { IfOk result (λ spans. (block : ℕ) → is_spanned spans.items block ≡ is_spanned sorted.now block) }
+// Sorts spans by their first blocks, and joins those that meet.
+fn set_apart(spans: &mut Vec<Span>)
+    requires { AreProper spans.old.items }
+    ensures apart { AreApart spans.new.items }
+    ensures blocks { (block : ℕ) → is_spanned spans.new.items block ≡ is_spanned spans.old.items block }
 {
-    let mut spans = Vec::new(alloc);
-    for span in sorted {
-        put(&mut spans, *span)?;
-    }
-    Ok(spans)
+    spans.sort_unstable_by_key(|span| span.first);
+    spans.dedup_by(
+        |span: &mut Span, last: &mut Span| -> bool
+            ensures { MatchOption (joined_spans last.entry.now span.entry.now) ((result ≡ false) × (span.exit.now ≡ span.entry.now) × (last.exit.now ≡ last.entry.now)) (λ both. (result ≡ true) × (last.exit.now ≡ both)) }
+        {
+            let Some(both) = joined(*last, *span) else {
+                return false;
+            };
+            *last = both;
+            true
+        },
+    );
 }
 
 // How many spans don't begin after a block.
@@ -150,13 +156,22 @@ fn has_all(spans: &[Span], first: u64, length: u64) -> bool
 impl Cover {
     ghost use Rattle.ext_ref.specs.Spans.{IsCoverOf};
 
+    // The blocks of some spans, in the room that these have.
+    pub(crate) fn joining(mut spans: Vec<Span>) -> Cover
+        requires { AreProper spans.items }
+        ensures { (block : ℕ) → is_spanned result block ≡ is_spanned spans.items block }
+    {
+        set_apart(&mut spans);
+        spans.shrink_to_fit();
+        Cover { spans }
+    }
+
     /// The blocks of some ranges.
     pub fn of(alloc: Global, ranges: &[NewRange]) -> Result<Cover, AllocError>
         ensures { IfOk result (IsCoverOf ranges.now) }
     {
-        let sorted = sorted_spans(alloc, ranges)?;
-        let spans = join(alloc, &sorted)?;
-        Ok(Cover { spans })
+        let spans = spans_of(alloc, ranges)?;
+        Ok(Cover::joining(spans))
     }
 
     // Its spans, in ascending order.

@@ -2,12 +2,13 @@
 ghost use Rattle.std.specs.Prelude.{◌≡◌, ◌<◌, ◌≤◌, ◌^◌, ℕ, true, false, nat_le, nat_lt, length, slice_index_or, IfOk};
 ghost use Rattle.std.specs.List.{list_any};
 ghost use Rattle.std.specs.List.Sorted.{IsPartitionPoint};
-ghost use Rattle.ext_ref.specs.Cover.{range_has, is_owned};
+ghost use Rattle.ext_ref.specs.Cover.{range_has};
+ghost use Rattle.ext_ref.specs.Spans.{is_spanned, AreProper};
 ghost use Rattle.ext_ref.specs.Sweep.{meets, AreRising};
 ghost use Rattle.ext_ref.specs.declared.covering.Span as declared;
 
 use crate::NewRange;
-use crate::covering::Span;
+use crate::covering::{Span, span_of};
 use crate::referring::end_of;
 use fs_record::FileExt;
 use std::alloc::{AllocError, Global};
@@ -67,20 +68,21 @@ fn places_of(spans: &[Span], extent: (u64, FileExt), block_size: u32) -> NewRang
     }
 }
 
-// The places of the spans that each of some extents touches.
+// The places of the spans that each of some extents touches, a span for each extent.
 pub(crate) fn places(
     alloc: Global,
     spans: &[Span],
     extents: &[(u64, FileExt)],
     block_size: u32,
-) -> Result<Vec<NewRange>, AllocError>
+) -> Result<Vec<Span>, AllocError>
     requires some { 0 < block_size }
     requires rising { AreRising spans.now }
-    ensures { IfOk result (λ ranges. (i : ℕ) (none : declared.Span) → i < length spans.now → is_owned ranges.items i ≡ list_any (meets block_size (slice_index_or spans.now i none)) extents.now) }
+    ensures proper { IfOk result (λ places. AreProper places.items) }
+    ensures same { IfOk result (λ places. (i : ℕ) (none : declared.Span) → i < length spans.now → is_spanned places.items i ≡ list_any (meets block_size (slice_index_or spans.now i none)) extents.now) }
 {
-    let mut ranges = Vec::new(alloc);
+    let mut places = Vec::new(alloc);
     for extent in extents {
-        ranges.push(places_of(spans, *extent, block_size))?;
+        places.push(span_of(places_of(spans, *extent, block_size)))?;
     }
-    Ok(ranges)
+    Ok(places)
 }

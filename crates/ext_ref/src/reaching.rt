@@ -1,16 +1,15 @@
 // Which blocks of ranges no extent reaches.
-ghost use Rattle.std.specs.Prelude.{◌≡◌, ◌≤◌, ◌<◌, ◌+◌, ◌-◌, ◌^◌, ◌||◌, ◌&&◌, ℕ, true, not, nat_le, nat_lt, map, All, OnOk, IfOk};
+ghost use Rattle.std.specs.Prelude.{◌≡◌, ◌≤◌, ◌<◌, ◌+◌, ◌-◌, ◌^◌, ◌||◌, ◌&&◌, ℕ, List, true, not, nat_le, nat_lt, map, All, OnOk, IfOk};
 ghost use Rattle.std.specs.List.{list_any};
 ghost use Rattle.obj_base.specs.BlockSize.{is_accepted};
-ghost use Rattle.fs_record.specs.StreamExtents as stream;
+ghost use Rattle.fs_record.specs.declared.extents.FileExt as file;
 ghost use Rattle.ext_ref.specs.declared.covering.Span as declared;
-ghost use Rattle.ext_ref.specs.Cover.{is_owned};
-ghost use Rattle.ext_ref.specs.Spans.{span_has, is_spanned, AreApart};
+ghost use Rattle.ext_ref.specs.Spans.{span_has, is_spanned, AreProper, AreApart};
 ghost use Rattle.ext_ref.specs.Unreached.{reaches, unreached_runs};
 ghost use Rattle.ext_ref.specs.Left as spec;
 ghost use Rattle.ext_ref.specs.Left.{run_of, EndBy, AreUpTo, AreLow, AreLeft, AreShort, AreShortExtents};
 
-use crate::covering::{Span, put};
+use crate::covering::{Span, put, span_of};
 use crate::{Cover, NewRange};
 use apfs_model::NoMemory;
 use fs_record::FileExt;
@@ -28,40 +27,38 @@ fn reach_of(extent: FileExt, block_size: u32) -> NewRange
     }
 }
 
-// Adds the blocks that an extent reaches to those of other ranges.
+// Puts the blocks that an extent reaches after other spans.
 fn add_reach(
-    ranges: &mut Vec<NewRange>,
+    spans: &mut Vec<Span>,
     extent: (u64, FileExt),
     block_size: u32,
 ) -> Result<(), AllocError>
-    requires some { 0 < block_size }
-    requires short { extent.1.block + stream.extent_blocks block_size extent.1 < 2 ^ 64 }
-    ensures same { OnOk result ((k : ℕ) → is_owned ranges.new.items k ≡ (is_owned ranges.old.items k || reaches block_size k extent)) }
-    ensures short { AreShort ranges.old.items → OnOk result (AreShort ranges.new.items) }
+    requires { 0 < block_size }
+    ensures proper { AreProper spans.old.items → OnOk result (AreProper spans.new.items) }
+    ensures same { OnOk result ((k : ℕ) → is_spanned spans.new.items k ≡ (is_spanned spans.old.items k || reaches block_size k extent)) }
 {
     if extent.1.block == 0 {
         return Ok(());
     }
-    ranges.push(reach_of(extent.1, block_size))?;
+    spans.push(span_of(reach_of(extent.1, block_size)))?;
     Ok(())
 }
 
-// The blocks that extents reach, as ranges.
+// The blocks that extents reach, a span for each extent.
 fn reached(
     alloc: Global,
     extents: &[(u64, FileExt)],
     block_size: u32,
-) -> Result<Vec<NewRange>, AllocError>
-    requires some { 0 < block_size }
-    requires short { AreShortExtents block_size extents.now }
-    ensures same { IfOk result (λ ranges. (k : ℕ) → is_owned ranges.items k ≡ list_any (reaches block_size k) extents.now) }
-    ensures short { IfOk result (λ ranges. AreShort ranges.items) }
+) -> Result<Vec<Span>, AllocError>
+    requires { 0 < block_size }
+    ensures proper { IfOk result (λ spans. AreProper spans.items) }
+    ensures same { IfOk result (λ spans. (k : ℕ) → is_spanned spans.items k ≡ list_any (reaches block_size k) extents.now) }
 {
-    let mut ranges = Vec::new(alloc);
+    let mut spans = Vec::new(alloc);
     for extent in extents {
-        add_reach(&mut ranges, *extent, block_size)?;
+        add_reach(&mut spans, *extent, block_size)?;
     }
-    Ok(ranges)
+    Ok(spans)
 }
 
 // Puts the blocks from one up to an end after spans, where there are any.
@@ -133,23 +130,69 @@ fn runs(alloc: Global, spans: &[Span]) -> Result<Vec<(u64, u64)>, AllocError>
     Ok(runs)
 }
 
+// The blocks that extents reach.
+fn reach_of_all(
+    alloc: Global,
+    extents: &[(u64, FileExt)],
+    block_size: u32,
+) -> Result<Cover, AllocError>
+    requires { 0 < block_size }
+    ensures { IfOk result (λ reach. (k : ℕ) → is_spanned reach k ≡ list_any (reaches block_size k) extents.now) }
+{
+    Ok(Cover::joining(reached(alloc, extents, block_size)?))
+}
+
+// The same of extents that aren't needed further.
+fn reach_of_moved(
+    alloc: Global,
+    extents: Vec<(u64, FileExt)>,
+    block_size: u32,
+) -> Result<Cover, AllocError>
+    requires { 0 < block_size }
+    ensures { IfOk result (λ reach. (k : ℕ) → is_spanned reach k ≡ list_any (reaches block_size k) extents.items) }
+{
+    reach_of_all(alloc, &extents, block_size)
+}
+
+// The longest runs of blocks of ranges that are none of those that extents reach.
+fn left_out(alloc: Global, ranges: &[NewRange], reach: Cover) -> Result<Vec<(u64, u64)>, AllocError>
+    requires { AreShort ranges.now }
+    ensures { (block_size : ℕ) (extents : List (ℕ × file.FileExt)) → ((k : ℕ) → is_spanned reach k ≡ list_any (reaches block_size k) extents) → IfOk result (λ runs. runs.items ≡ unreached_runs block_size ranges.now extents) }
+{
+    let cover = Cover::of(alloc, ranges)?;
+    let spans = left(alloc, cover.as_spans(), reach.as_spans())?;
+    drop(reach);
+    runs(alloc, &spans)
+}
+
 // The longest runs of blocks of ranges that no extent with a block other than 0 reaches.
-fn left_out(
+fn runs_without(
     alloc: Global,
     ranges: &[NewRange],
     extents: &[(u64, FileExt)],
     block_size: u32,
 ) -> Result<Vec<(u64, u64)>, AllocError>
     requires short { AreShort ranges.now }
-    requires extents { AreShortExtents block_size extents.now }
     requires accepted { is_accepted block_size ≡ true }
     ensures { IfOk result (λ runs. runs.items ≡ unreached_runs block_size ranges.now extents.now) }
 {
-    let others = reached(alloc, extents, block_size)?;
-    let cover = Cover::of(alloc, ranges)?;
-    let reach = Cover::of(alloc, &others)?;
-    let spans = left(alloc, cover.as_spans(), reach.as_spans())?;
-    runs(alloc, &spans)
+    let reach = reach_of_all(alloc, extents, block_size)?;
+    left_out(alloc, ranges, reach)
+}
+
+// The same for extents that aren't needed further.
+fn runs_without_moved(
+    alloc: Global,
+    ranges: &[NewRange],
+    extents: Vec<(u64, FileExt)>,
+    block_size: u32,
+) -> Result<Vec<(u64, u64)>, AllocError>
+    requires short { AreShort ranges.now }
+    requires accepted { is_accepted block_size ≡ true }
+    ensures { IfOk result (λ runs. runs.items ≡ unreached_runs block_size ranges.now extents.items) }
+{
+    let reach = reach_of_moved(alloc, extents, block_size)?;
+    left_out(alloc, ranges, reach)
 }
 
 /// The longest runs of blocks of ranges that no extent with a block other than 0 reaches, each by its first block and its
@@ -170,7 +213,29 @@ pub fn unreached(
     requires accepted { is_accepted block_size ≡ true }
     ensures { IfOk result (λ runs. runs.items ≡ unreached_runs block_size ranges.now extents.now) }
 {
-    match left_out(alloc, ranges, extents, block_size) {
+    match runs_without(alloc, ranges, extents, block_size) {
+        Ok(runs) => Ok(runs),
+        Err(_) => Err(NoMemory),
+    }
+}
+
+/// What `unreached` answers, of extents that aren't needed further: their room is given back before the runs are looked for.
+///
+/// # Errors
+///
+/// `NoMemory`: an allocation failed.
+pub fn unreached_by_moved(
+    alloc: Global,
+    ranges: &[NewRange],
+    extents: Vec<(u64, FileExt)>,
+    block_size: u32,
+) -> Result<Vec<(u64, u64)>, NoMemory>
+    requires short { AreShort ranges.now }
+    requires extents { AreShortExtents block_size extents.items }
+    requires accepted { is_accepted block_size ≡ true }
+    ensures { IfOk result (λ runs. runs.items ≡ unreached_runs block_size ranges.now extents.items) }
+{
+    match runs_without_moved(alloc, ranges, extents, block_size) {
         Ok(runs) => Ok(runs),
         Err(_) => Err(NoMemory),
     }

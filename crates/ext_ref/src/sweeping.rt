@@ -15,7 +15,7 @@ use crate::places::places;
 use crate::rising::rising;
 use crate::{Cover, NewRange};
 use fs_record::FileExt;
-use id_lists::{ByItself, NO_GUESS, OrderBy, below, distinct, up_to};
+use id_lists::{ByItself, NO_GUESS, OrderBy, are_in_order, below, distinct, up_to};
 use std::alloc::{AllocError, Global};
 
 // Extents by their streams.
@@ -91,8 +91,7 @@ fn add_stream(
     ensures proper { AreProper out.old.items → OnOk result (AreProper out.new.items) }
     ensures counts { OnOk result ((i : ℕ) (none : declared.Span) → i < length spans.now → count_by (span_has i) out.new.items ≡ count_by (span_has i) out.old.items + cond (list_any (meets block_size (slice_index_or spans.now i none)) extents.now) 1 0) }
 {
-    let touched = places(alloc, spans, extents, block_size)?;
-    let cover = Cover::of(alloc, &touched)?;
+    let cover = Cover::joining(places(alloc, spans, extents, block_size)?);
     out.extend_from_slice(cover.as_spans())?;
     Ok(())
 }
@@ -121,7 +120,25 @@ fn touched_by(
     Ok(out)
 }
 
-// The places of the spans that each stream touches: as many have a place as streams touch the span there.
+// The same of all streams of extents in the order of their streams.
+fn touched_in_order(
+    alloc: Global,
+    spans: &[Span],
+    extents: &[(u64, FileExt)],
+    block_size: u32,
+) -> Result<Vec<Span>, AllocError>
+    requires some { 0 < block_size }
+    requires rising { AreRising spans.now }
+    requires ascending { IsNonDecreasingBy (λ (x : ℕ × file.FileExt). x.0) extents.now }
+    ensures proper { IfOk result (λ out. AreProper out.items) }
+    ensures counts { (all : List (ℕ × file.FileExt)) → IsPermutation all extents.now → IfOk result (λ out. (i : ℕ) (none : declared.Span) → i < length spans.now → count_by (span_has i) out.items ≡ streams_at block_size all (slice_index_or spans.now i none)) }
+{
+    let ids = ids_of(alloc, extents)?;
+    touched_by(alloc, spans, extents, &ids, block_size)
+}
+
+// The places of the spans that each stream touches: as many have a place as streams touch the span there. Extents that aren't in the
+// order of their streams are sorted first.
 fn touched(
     alloc: Global,
     spans: &[Span],
@@ -133,9 +150,11 @@ fn touched(
     ensures proper { IfOk result (λ out. AreProper out.items) }
     ensures counts { IfOk result (λ out. (i : ℕ) (none : declared.Span) → i < length spans.now → count_by (span_has i) out.items ≡ streams_at block_size extents.now (slice_index_or spans.now i none)) }
 {
+    if are_in_order::<(u64, FileExt), ByStream>(extents) {
+        return touched_in_order(alloc, spans, extents, block_size);
+    }
     let sorted = by_stream(alloc, extents)?;
-    let ids = ids_of(alloc, &sorted)?;
-    touched_by(alloc, spans, &sorted, &ids, block_size)
+    touched_in_order(alloc, spans, &sorted, block_size)
 }
 
 // The first blocks of spans, ascending.

@@ -6,7 +6,7 @@ ghost use Rattle.reach_gather.specs.Kept.{owners_in};
 ghost use Rattle.reach_gather.specs.Finished.{AreRangesOnce, first_of};
 
 use crate::gathered::Gathered;
-use crate::keeping::{KeptOwners, owners_of, ranges_of};
+use crate::keeping::{Noted, owners_of, ranges_of};
 use id_lists::distinct;
 use reach_rules::Owner;
 use std::alloc::{AllocError, Global};
@@ -35,7 +35,7 @@ fn do_rise(ranges: &[(u64, u64)]) -> bool
 
 // The ranges of owners that are kept, each owner once. An owner that was noted twice has two ranges that begin at one block, so the owners
 // themselves are compared only where two ranges do.
-fn ranges_once(alloc: Global, kept: &[KeptOwners]) -> Result<Vec<(u64, u64)>, AllocError>
+fn ranges_once(alloc: Global, kept: &[Noted]) -> Result<Vec<(u64, u64)>, AllocError>
     ensures { IfOk result (λ v. AreRangesOnce (flat_map owners_in kept.now) v.items) }
 {
     let mut ranges = ranges_of(alloc, kept)?;
@@ -53,13 +53,13 @@ impl Gathered {
     pub fn ranges(&self, alloc: Global) -> Result<Vec<(u64, u64)>, AllocError>
         ensures { IfOk result (λ v. AreRangesOnce self.now.owners v.items) }
     {
-        ranges_once(alloc, &self.owners)
+        ranges_once(alloc, &self.noted)
     }
 
     /// The ranges of the owners of the pool, each owner once.
     pub fn pool_ranges(&self, alloc: Global) -> Result<Vec<(u64, u64)>, AllocError>
         ensures { IfOk result (λ v. AreRangesOnce self.now.pool_owners v.items) }
     {
-        ranges_once(alloc, &self.pool_owners)
+        ranges_once(alloc, &self.pool)
     }
 }

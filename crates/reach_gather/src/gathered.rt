@@ -1,32 +1,32 @@
 // What is gathered of a container on the way.
 
-use crate::keeping::KeptOwners;
+use crate::keeping::Noted;
 use blk_source::NoMemory;
 use omap_map::OmapRecord;
 use reach_rules::{Naming, Owner, Who};
 use std::alloc::Global;
 use std::marker::Model;
 
-/// Namings, and the owners of one block or more that are met through them.
+/// Namings, and the owners of one block or more that are met through them. What a container has is noted in one list, and what its pool has in another.
 #[derive(Drop)]
 pub struct Gathered {
-    pub(crate) namings: Vec<Naming>,
-    pub(crate) owners: Vec<KeptOwners>,
-    pub(crate) pool_owners: Vec<KeptOwners>,
+    pub(crate) noted: Vec<Noted>,
+    pub(crate) pool: Vec<Noted>,
 }
 
 impl Model for Gathered {
     ghost use Rattle.std.specs.Prelude.{flat_map};
     ghost use Rattle.reach_gather.specs.Held.{Held};
-    ghost use Rattle.reach_gather.specs.Kept.{owners_in};
+    ghost use Rattle.reach_gather.specs.Kept.{namings_in, owners_in};
 
     ghost Value = { Held };
 
-    ghost view = { λ a. record { namings = a.namings.items; owners = flat_map owners_in a.owners.items; pool_owners = flat_map owners_in a.pool_owners.items } };
+    ghost view = { λ a. record { namings = flat_map namings_in a.noted.items; owners = flat_map owners_in a.noted.items; pool_owners = flat_map owners_in a.pool.items } };
 }
 
 impl Gathered {
-    ghost use Rattle.std.specs.Prelude.{◌≡◌, ◌++◌, ◌∷◌, [], ◌==◌, OnOk, if◌then◌else◌};
+    ghost use Rattle.std.specs.Prelude.{◌≡◌, ◌++◌, ◌∷◌, [], ◌==◌, OnOk, OnErr, if◌then◌else◌};
+    ghost use Rattle.reach_gather.specs.Kept.{namings_in, owners_in};
     ghost use Rattle.reach_rules.specs.Owners as spec;
     ghost use Rattle.reach_rules.specs.declared.owner.Who.TheVariants as who;
     ghost use Rattle.reach_gather.specs.Held.{some_owners};
@@ -38,45 +38,26 @@ impl Gathered {
         ensures pool_owners { result.pool_owners ≡ [] }
     {
         Gathered {
-            namings: Vec::new(alloc),
-            owners: Vec::new(alloc),
-            pool_owners: Vec::new(alloc),
+            noted: Vec::new(alloc),
+            pool: Vec::new(alloc),
         }
     }
 
-    // One more naming.
-    fn put_naming(&mut self, naming: Naming) -> Result<(), NoMemory>
-        ensures namings { OnOk result (self.new.namings ≡ self.old.namings ++ naming ∷ []) }
-        ensures owners { self.new.owners ≡ self.old.owners }
-        ensures pool_owners { self.new.pool_owners ≡ self.old.pool_owners }
+    // Puts what is noted after the rest.
+    fn put(&mut self, one: Noted) -> Result<(), NoMemory>
+        ensures ok { OnOk result (self.new ≡ record { namings = self.old.namings ++ namings_in one; owners = self.old.owners ++ owners_in one; pool_owners = self.old.pool_owners }) }
+        ensures err { OnErr result (self.new ≡ self.old) }
     {
-        self.namings.push(naming)?;
+        self.noted.push(one)?;
         Ok(())
     }
 
-    // One more owner; one without blocks isn't kept.
-    fn put_owner(&mut self, owner: Owner) -> Result<(), NoMemory>
-        ensures namings { self.new.namings ≡ self.old.namings }
-        ensures owners { OnOk result (self.new.owners ≡ self.old.owners ++ (if owner.blocks == 0 then [] else owner ∷ [])) }
-        ensures pool_owners { self.new.pool_owners ≡ self.old.pool_owners }
+    // Puts what is noted of the pool after the rest.
+    fn put_pool(&mut self, one: Noted) -> Result<(), NoMemory>
+        ensures ok { OnOk result (self.new ≡ record self.old { pool_owners = self.old.pool_owners ++ owners_in one }) }
+        ensures err { OnErr result (self.new ≡ self.old) }
     {
-        if owner.blocks == 0 {
-            return Ok(());
-        }
-        self.owners.push(KeptOwners::One(owner))?;
-        Ok(())
-    }
-
-    // One more owner of the pool; one without blocks isn't kept.
-    fn put_pool_owner(&mut self, owner: Owner) -> Result<(), NoMemory>
-        ensures namings { self.new.namings ≡ self.old.namings }
-        ensures owners { self.new.owners ≡ self.old.owners }
-        ensures pool_owners { OnOk result (self.new.pool_owners ≡ self.old.pool_owners ++ (if owner.blocks == 0 then [] else owner ∷ [])) }
-    {
-        if owner.blocks == 0 {
-            return Ok(());
-        }
-        self.pool_owners.push(KeptOwners::One(owner))?;
+        self.pool.push(one)?;
         Ok(())
     }
 
@@ -86,7 +67,7 @@ impl Gathered {
         ensures owners { self.new.owners ≡ self.old.owners }
         ensures pool_owners { self.new.pool_owners ≡ self.old.pool_owners }
     {
-        self.put_naming(naming)
+        self.put(Noted::Named(naming))
     }
 
     /// A naming of a physical object, which owns its block.
@@ -95,12 +76,7 @@ impl Gathered {
         ensures owners { OnOk result (self.new.owners ≡ self.old.owners ++ spec.owner (who.Named naming) naming.oid 1 ∷ []) }
         ensures pool_owners { self.new.pool_owners ≡ self.old.pool_owners }
     {
-        self.put_naming(naming)?;
-        self.put_owner(Owner {
-            who: Who::Named(naming),
-            first: naming.oid,
-            blocks: 1,
-        })
+        self.put(Noted::Block(naming))
     }
 
     /// A naming of a block that tells of chunks, which is the pool's.
@@ -109,12 +85,8 @@ impl Gathered {
         ensures owners { self.new.owners ≡ self.old.owners }
         ensures pool_owners { OnOk result (self.new.pool_owners ≡ self.old.pool_owners ++ spec.owner (who.Named naming) naming.oid 1 ∷ []) }
     {
-        self.put_naming(naming)?;
-        self.put_pool_owner(Owner {
-            who: Who::Named(naming),
-            first: naming.oid,
-            blocks: 1,
-        })
+        self.put(Noted::Named(naming))?;
+        self.put_pool(Noted::Block(naming))
     }
 
     /// A naming that resolves to the record of the object map in a block, which owns its block.
@@ -128,12 +100,12 @@ impl Gathered {
         ensures owners { OnOk result (self.new.owners ≡ self.old.owners ++ spec.owner (who.Recorded map mapping) mapping.paddr 1 ∷ []) }
         ensures pool_owners { self.new.pool_owners ≡ self.old.pool_owners }
     {
-        self.put_naming(naming)?;
-        self.put_owner(Owner {
+        self.put(Noted::Named(naming))?;
+        self.put(Noted::One(Owner {
             who: Who::Recorded(map, mapping),
             first: mapping.paddr,
             blocks: 1,
-        })
+        }))
     }
 
     /// An owner, with its range; one without blocks isn't kept.
@@ -142,7 +114,10 @@ impl Gathered {
         ensures owners { OnOk result (self.new.owners ≡ self.old.owners ++ (if owner.blocks == 0 then [] else owner ∷ [])) }
         ensures pool_owners { self.new.pool_owners ≡ self.old.pool_owners }
     {
-        self.put_owner(owner)
+        if owner.blocks == 0 {
+            return Ok(());
+        }
+        self.put(Noted::One(owner))
     }
 
     /// An owner of the pool, with its range; one without blocks isn't kept.
@@ -151,7 +126,10 @@ impl Gathered {
         ensures owners { self.new.owners ≡ self.old.owners }
         ensures pool_owners { OnOk result (self.new.pool_owners ≡ self.old.pool_owners ++ (if owner.blocks == 0 then [] else owner ∷ [])) }
     {
-        self.put_pool_owner(owner)
+        if owner.blocks == 0 {
+            return Ok(());
+        }
+        self.put_pool(Noted::One(owner))
     }
 
     /// The owners of the ranges of which the object of a naming tells, each by its place.
@@ -160,8 +138,10 @@ impl Gathered {
         ensures owners { OnOk result (self.new.owners ≡ self.old.owners ++ some_owners (spec.told_from naming 0 ranges.items)) }
         ensures pool_owners { self.new.pool_owners ≡ self.old.pool_owners }
     {
-        self.owners.push(KeptOwners::Those(naming, ranges))?;
-        Ok(())
+        if ranges.is_empty() {
+            return Ok(());
+        }
+        self.put(Noted::Those(naming, ranges))
     }
 
     /// The owners of the ranges of the pool of which the object of a naming tells, each by its place.
@@ -174,7 +154,9 @@ impl Gathered {
         ensures owners { self.new.owners ≡ self.old.owners }
         ensures pool_owners { OnOk result (self.new.pool_owners ≡ self.old.pool_owners ++ some_owners (spec.told_from naming 0 ranges.items)) }
     {
-        self.pool_owners.push(KeptOwners::Those(naming, ranges))?;
-        Ok(())
+        if ranges.is_empty() {
+            return Ok(());
+        }
+        self.put_pool(Noted::Those(naming, ranges))
     }
 }

@@ -1,5 +1,5 @@
 // Whether an id is named twice.
-ghost use Rattle.std.specs.Prelude.{◌≡◌, true, false, List, ℕ, filter, OnOk, IfOk, IfErr, IsErrOf};
+ghost use Rattle.std.specs.Prelude.{◌≡◌, ◌++◌, true, false, List, ℕ, filter, flat_map, option_to_list, OnOk, IfOk, IfErr, IsErrOf};
 ghost use Rattle.std.specs.List.Sorted.{IsPermutation, IsNonDecreasingBy};
 ghost use Rattle.apfs_model.specs.Lists.{In};
 ghost use Rattle.obj_base.specs.Stops.{Tells};
@@ -12,8 +12,10 @@ ghost use Rattle.reach_rules.specs.Features.{HasFeature};
 ghost use Rattle.reach_rules.specs.Reached.{IsReachedFault};
 ghost use Rattle.reach_gather.specs.ViewParts.{AreOnceAs};
 ghost use Rattle.reach_gather.specs.Finished.{is_look, id_of, AreOnceHere};
+ghost use Rattle.reach_gather.specs.Kept.{namings_in};
 
 use crate::gathered::Gathered;
+use crate::keeping::Noted;
 use nx_ring::Checkpoint;
 use obj_base::{Stop, Within};
 use reach_rules::{LookUp, Naming, ReachFault};
@@ -38,15 +40,28 @@ fn within_of(how: LookUp) -> Within
     }
 }
 
-// The namings that are looked up so.
-fn those(alloc: Global, namings: &[Naming], how: LookUp) -> Result<Vec<Naming>, AllocError>
-    ensures { IfOk result (λ v. v.items ≡ filter (λ (n : Naming). is_look n.how how) namings.now) }
+// Adds a naming, where there is one that is looked up so.
+fn add_that(naming: Option<Naming>, how: LookUp, out: &mut Vec<Naming>) -> Result<(), AllocError>
+    ensures { OnOk result (out.new.items ≡ out.old.items ++ filter (λ (n : Naming). is_look n.how how) (option_to_list naming)) }
 {
-    namings
-        .iter()
-        .filter(|naming| is_look(naming.how, how))
-        .copied()
-        .collect(alloc)
+    let Some(naming) = naming else {
+        return Ok(());
+    };
+    if is_look(naming.how, how) {
+        out.push(naming)?;
+    }
+    Ok(())
+}
+
+// The namings that are looked up so.
+fn those(alloc: Global, noted: &[Noted], how: LookUp) -> Result<Vec<Naming>, AllocError>
+    ensures { IfOk result (λ v. v.items ≡ filter (λ (n : Naming). is_look n.how how) (flat_map namings_in noted.now)) }
+{
+    let mut out = Vec::new(alloc);
+    for one in noted {
+        add_that(one.naming(), how, &mut out)?;
+    }
+    Ok(out)
 }
 
 // Puts the namings of one id side by side.
@@ -101,16 +116,16 @@ fn beside(namings: &[Naming], how: LookUp, cp: &Checkpoint) -> Result<(), Stop<R
 // Whether no two namings that are looked up so name one id.
 fn once_as(
     alloc: Global,
-    namings: &[Naming],
+    noted: &[Noted],
     how: LookUp,
     cp: &Checkpoint,
 ) -> Result<(), Stop<ReachFault>>
     requires each { spec.is_once how ≡ true }
-    ensures once { OnOk result (AreOnceAs how namings.now) }
-    ensures present { (image : List ℕ) → ((n : Naming) → In n namings.now → IsLive image cp.now n) → IfErr result (Tells (IsReachedFault image cp.now) (HasFeature image cp.now)) }
+    ensures once { OnOk result (AreOnceAs how (flat_map namings_in noted.now)) }
+    ensures present { (image : List ℕ) → ((n : Naming) → In n (flat_map namings_in noted.now) → IsLive image cp.now n) → IfErr result (Tells (IsReachedFault image cp.now) (HasFeature image cp.now)) }
     ensures no_read { IsErrOf result ReadFault → ⊥ }
 {
-    let mut kept = those(alloc, namings, how)?;
+    let mut kept = those(alloc, noted, how)?;
     by_id(&mut kept);
     beside(&kept, how, cp)
 }
@@ -122,10 +137,10 @@ impl Gathered {
         ensures present { (image : List ℕ) → ((n : Naming) → In n self.now.namings → IsLive image cp.now n) → IfErr result (Tells (IsReachedFault image cp.now) (HasFeature image cp.now)) }
         ensures no_read { IsErrOf result ReadFault → ⊥ }
     {
-        match once_as(alloc, &self.namings, LookUp::ByMapping, cp) {
+        match once_as(alloc, &self.noted, LookUp::ByMapping, cp) {
             Ok(()) => {}
             Err(stop) => return Err(stop),
         }
-        once_as(alloc, &self.namings, LookUp::InContainer, cp)
+        once_as(alloc, &self.noted, LookUp::InContainer, cp)
     }
 }

@@ -1,32 +1,12 @@
-use Rattle.std.proofs.Common.{◌≡◌, ◌∙◌, ◌<◌, ℕ, List, length, get_or, map, sym, subst}
-use Rattle.std.specs.Prelude.{filter, count_by}
-use Rattle.std.specs.List.{list_any}
+use Rattle.std.proofs.Common.{List, ℕ, sym, subst}
 use Rattle.std.specs.List.Sorted.{IsPermutation}
-use Rattle.std.proofs.lemmas.Result.{IfOk-weaker}
-use Rattle.apfs_model.specs.Apart.{Apart}
+use Rattle.std.proofs.lemmas.List.Sorted.{IsPermutation-refl}
 use Rattle.fs_record.specs.declared.extents.FileExt.{FileExt}
-use Rattle.ext_ref.specs.Same.{HaveSame}
-use Rattle.ext_ref.specs.Spans.{span_has}
-use Rattle.ext_ref.specs.Sweep.{meets, is_of, streams_at}
-use Rattle.ext_ref.specs.declared.covering.Span.{Span}
-use Rattle.ext_ref.proofs.Sweeps.{streams-counted}
 use Rattle.ext_ref.proofs.sweeping.touched.Goals as goal
+
+pub returns-then-are_in_order-clause-counts : goal.returns-then-are_in_order-clause-counts
+returns-then-are_in_order-clause-counts c = c.touched_in_order.ensures.counts c.args.extents.now (IsPermutation-refl c.args.extents.now)
 
 pub returns-clause-counts : goal.returns-clause-counts
 returns-clause-counts c =
-    let size : ℕ = c.args.block_size in
-    let spans : List Span = c.args.spans.now in
-    let extents : List (ℕ × FileExt) = c.args.extents.now in
-    let sorted : List (ℕ × FileExt) = c.deref-2.result.now in
-    let ids : List ℕ = c.deref-3.result.now in
-    let moves : IsPermutation extents sorted = subst (λ (xs : List (ℕ × FileExt)). IsPermutation extents xs) (sym c.deref-2.ensures.value) c.in_ok-sorted.ensures.same in
-    let same : HaveSame (map (λ (x : ℕ × FileExt). x.0) c.deref.result.now) ids =
-    subst (λ (ns : List ℕ). HaveSame (map (λ (x : ℕ × FileExt). x.0) c.deref.result.now) ns) (sym c.deref-3.ensures.value) c.in_ok-ids.ensures.same in
-    let all : HaveSame (map (λ (x : ℕ × FileExt). x.0) sorted) ids =
-    subst (λ (xs : List (ℕ × FileExt)). HaveSame (map (λ (x : ℕ × FileExt). x.0) xs) ids) (c.deref.ensures.value ∙ sym c.deref-2.ensures.value) same in
-    let apart : Apart ids = subst (λ (ns : List ℕ). Apart ns) (sym c.deref-3.ensures.value) c.in_ok-ids.ensures.apart in
-    IfOk-weaker c.touched_by.result
-    (λ out. (i : ℕ) (none : Span) → i < length spans → count_by (span_has i) out.items ≡ count_by (λ (id : ℕ). list_any (meets size (get_or spans i none)) (filter (is_of id) sorted)) ids)
-    (λ out. (i : ℕ) (none : Span) → i < length spans → count_by (span_has i) out.items ≡ streams_at size extents (get_or spans i none))
-    (λ out each i none low. each i none low ∙ streams-counted size extents sorted ids (get_or spans i none) moves all apart)
-    c.touched_by.ensures.counts
+    c.touched_in_order-2.ensures.counts c.args.extents.now (subst (λ (xs : List (ℕ × FileExt)). IsPermutation c.args.extents.now xs) (sym c.deref.ensures.value) c.in_ok-sorted.ensures.same)

@@ -2,7 +2,7 @@ use Rattle.std.proofs.Common.{◌≡◌, ◌++◌, ◌∙◌, map, OnOk, ap, sym
 use Rattle.reach_rules.specs.Reached.{range_of}
 use Rattle.reach_gather.specs.Kept.{owners_in, some_ranges}
 use Rattle.reach_gather.proofs.Kepts.{told-ranges}
-use Rattle.reach_gather.proofs.keeping.KeptOwners.add_ranges.Goals as goal
+use Rattle.reach_gather.proofs.keeping.Noted.add_ranges.Goals as goal
 
 pub returns-in-Those : goal.returns-in-Those
 returns-in-Those c =
