@@ -16,7 +16,7 @@ use Rattle.vol_view.specs.declared.volume.View.{View}
 use Rattle.ext_ref.specs.declared.range.NewRange.{NewRange}
 use Rattle.reach_sweep.specs.Account.{AreLoadedOf}
 use Rattle.reach_sweep.specs.Views.{head_of}
-use Rattle.tree_rules.specs.declared.notes.Note.{Note}
+use Rattle.view_rules.specs.declared.notes.Note.{Note}
 use Rattle.tree_rules.specs.Tallies as tallies
 use Rattle.view_rules.specs.Rules.{view_facts, HasTreeRules}
 use Rattle.view_rules.specs.declared.profile.Profile.{Profile}

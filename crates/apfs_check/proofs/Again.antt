@@ -30,7 +30,7 @@ use Rattle.view_rules.specs.declared.profile.Profile.{Profile}
 use Rattle.view_rules.specs.declared.profile.Profile.TheVariants.{Plain, Strict}
 use Rattle.tree_rules.specs.Notes.{hash_note, hash_notes, unnamed_note, unnamed_notes}
 use Rattle.tree_rules.specs.Tallies.{notes_of}
-use Rattle.tree_rules.specs.declared.notes.Note.{Note}
+use Rattle.view_rules.specs.declared.notes.Note.{Note}
 use Rattle.apfs_check.specs.Again.{HaveOneTree, IsPassed}
 use Rattle.apfs_check.specs.Volumes.{extent_of, view_extents}
 use Rattle.apfs_check.specs.declared.views.Passed.{Passed}

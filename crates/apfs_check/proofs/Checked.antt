@@ -17,7 +17,7 @@ use Rattle.vol_view.specs.declared.head.VolHead.{VolHead}
 use Rattle.reach_rules.specs.Accounted.{IsAccounted}
 use Rattle.reach_rules.specs.Tally.{IsObjectCount, IsOwnedCount, IsTally}
 use Rattle.reach_sweep.specs.Views.{head_of}
-use Rattle.tree_rules.specs.declared.notes.Note.{Note}
+use Rattle.view_rules.specs.declared.notes.Note.{Note}
 use Rattle.view_rules.specs.declared.profile.Profile.{Profile}
 use Rattle.view_rules.specs.declared.profile.Profile.TheVariants.{Plain, Strict}
 use Rattle.apfs_check.specs.Volumes.{volume_of}

@@ -8,7 +8,7 @@ use Rattle.view_rules.specs.Names.{has_other_name_hash}
 use Rattle.tree_rules.specs.Notes.{hash_note, hash_notes, is_unnamed, unnamed_note, unnamed_notes}
 use Rattle.tree_rules.specs.Tallies.{notes_of}
 use Rattle.view_rules.specs.Rules.{view_facts}
-use Rattle.tree_rules.specs.declared.notes.Note.{Note}
+use Rattle.view_rules.specs.declared.notes.Note.{Note}
 use Rattle.view_rules.specs.declared.profile.Profile.{Profile}
 use Rattle.view_rules.specs.declared.profile.Profile.TheVariants.{Plain, Strict}
 use Rattle.apfs_check.specs.Volumes.{volume_of}

@@ -22,7 +22,7 @@ use Rattle.apfs_model.proofs.Searches.{in-flat_map, from-flat_map, in-filter, fr
 use Rattle.reach_rules.proofs.Equal.{object_eq}
 use Rattle.reach_rules.proofs.Alive.{live_or}
 use Rattle.reach_rules.proofs.Decided as accounts
-use Rattle.tree_rules.specs.declared.notes.Note.{Note}
+use Rattle.view_rules.specs.declared.notes.Note.{Note}
 use Rattle.view_rules.specs.declared.profile.Profile.{Profile}
 use Rattle.apfs_check.specs.Notes.{notes_of}
 use Rattle.apfs_check.specs.WellFormed.{IsWellFormed}

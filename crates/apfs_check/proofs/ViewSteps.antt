@@ -26,8 +26,7 @@ use Rattle.view_rules.specs.Facts.{Facts}
 use Rattle.view_rules.specs.Extents.{is_misplaced}
 use Rattle.view_rules.specs.Rules.{view_facts}
 use Rattle.view_rules.specs.declared.profile.Profile.{Profile}
-use Rattle.view_change.specs.declared.kept_view.KeptView.{KeptView}
-use Rattle.tree_rules.specs.Known.{AddExtents, IsKnown, IsKnownBefore, extents_before}
+use Rattle.tree_rules.specs.Known.{KnownView, AddExtents, IsKnown, IsKnownBefore, extents_before}
 use Rattle.apfs_check.specs.Again.{IsPassed, IsKnownOf}
 use Rattle.apfs_check.specs.declared.views.Passed.{Passed}
 use Rattle.apfs_check.specs.Volumes.{volume_of, volume_ranges, extent_of, view_extents, volume_extents}
@@ -138,20 +137,20 @@ passed-more profile image site volume ranges views old new one of all is =
     ])
 
 -- what is kept of a view
-pub known-one : (profile : Profile) (image : List ℕ) (site : Site) (volume : Loaded) (ranges : List NewRange) (views : List View) (i : ℕ) (view : View) (kept : Option KeptView) → slice_get views i ≡ Some view → IfSome kept (IsKnown profile image site volume ranges view) → IsKnownOf profile image site volume ranges (take (i + 1) views) kept
+pub known-one : (profile : Profile) (image : List ℕ) (site : Site) (volume : Loaded) (ranges : List NewRange) (views : List View) (i : ℕ) (view : View) (kept : Option KnownView) → slice_get views i ≡ Some view → IfSome kept (IsKnown profile image site volume ranges view) → IsKnownOf profile image site volume ranges (take (i + 1) views) kept
 known-one profile image site volume ranges views i view None at is = tt
 known-one profile image site volume ranges views i view (Some kept) at is = (view, (subst (In view) (sym (take-one views i view at)) (in-right view (take i views) (view ∷ []) (inl refl)), is))
 
-pub known-kept : (profile : Profile) (image : List ℕ) (site : Site) (volume : Loaded) (ranges : List NewRange) (views : List View) (i : ℕ) (view : View) (kept : Option KeptView) → slice_get views i ≡ Some view → IsKnownOf profile image site volume ranges (take i views) kept → IsKnownOf profile image site volume ranges (take (i + 1) views) kept
+pub known-kept : (profile : Profile) (image : List ℕ) (site : Site) (volume : Loaded) (ranges : List NewRange) (views : List View) (i : ℕ) (view : View) (kept : Option KnownView) → slice_get views i ≡ Some view → IsKnownOf profile image site volume ranges (take i views) kept → IsKnownOf profile image site volume ranges (take (i + 1) views) kept
 known-kept profile image site volume ranges views i view None at is = tt
 known-kept profile image site volume ranges views i view (Some kept) at is = (is.0, (subst (In is.0) (sym (take-one views i view at)) (in-left is.0 (take i views) (view ∷ []) is.1.0), is.1.1))
 
-pub known-before : (profile : Profile) (image : List ℕ) (site : Site) (volume : Loaded) (ranges : List NewRange) (views : List View) (kept : Option KeptView) → IsKnownOf profile image site volume ranges views kept → IsKnownBefore profile image site volume ranges kept
+pub known-before : (profile : Profile) (image : List ℕ) (site : Site) (volume : Loaded) (ranges : List NewRange) (views : List View) (kept : Option KnownView) → IsKnownOf profile image site volume ranges views kept → IsKnownBefore profile image site volume ranges kept
 known-before profile image site volume ranges views None is = tt
 known-before profile image site volume ranges views (Some kept) is = (is.0, is.1.1)
 
 -- the extents of what is kept of a view are those of the view
-pub extents-known : (profile : Profile) (image : List ℕ) (site : Site) (volume : Loaded) (ranges : List NewRange) (views : List View) (kept : Option KeptView) → IsKnownOf profile image site volume ranges views kept → (x : ℕ × FileExt) → In x (extents_before kept) → In x (flat_map (view_extents image site volume) views)
+pub extents-known : (profile : Profile) (image : List ℕ) (site : Site) (volume : Loaded) (ranges : List NewRange) (views : List View) (kept : Option KnownView) → IsKnownOf profile image site volume ranges views kept → (x : ℕ × FileExt) → In x (extents_before kept) → In x (flat_map (view_extents image site volume) views)
 extents-known profile image site volume ranges views None is x h = absurd h
 extents-known profile image site volume ranges views (Some kept) is x h =
     in-flat_map (view_extents image site volume) is.0 x views is.1.0 (subst (λ fs. In x (map extent_of fs)) (ap (λ (facts : Facts). facts.extents) is.1.1.is.gathered.facts) h)

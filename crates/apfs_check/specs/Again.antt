@@ -9,8 +9,7 @@ use Rattle.vol_view.specs.Volumes.{Loaded}
 use Rattle.vol_view.specs.Views.{view_flat}
 use Rattle.vol_view.specs.declared.volume.View.{View}
 use Rattle.ext_ref.specs.declared.range.NewRange.{NewRange}
-use Rattle.view_change.specs.declared.kept_view.KeptView.{KeptView}
-use Rattle.tree_rules.specs.Known.{IsKnown}
+use Rattle.tree_rules.specs.Known.{KnownView, IsKnown}
 use Rattle.tree_rules.specs.Tallies.{notes_of}
 use Rattle.view_rules.specs.Rules.{view_facts, HasTreeRules}
 use Rattle.view_rules.specs.declared.profile.Profile.{Profile}
@@ -26,7 +25,7 @@ pub record HaveOneTree (volume : Loaded) (v w : View) : Type 0 where
   pub seen : (r : OmapRecord) → In r volume.omap.records → nat_le r.xid v.xid ≡ nat_le r.xid w.xid
 
 -- what is kept of a view, if it is, is that of one of some views, which has its rules and no notes
-abbrev pub IsKnownOf : Profile → List ℕ → Site → Loaded → List NewRange → List View → Option KeptView → Type 0
+abbrev pub IsKnownOf : Profile → List ℕ → Site → Loaded → List NewRange → List View → Option KnownView → Type 0
 IsKnownOf profile image site volume ranges views before = IfSome before (λ kept. (view : View) × (In view views × IsKnown profile image site volume ranges view kept))
 
 -- one of some views has its rules, so many records as are given, and no notes

@@ -7,8 +7,8 @@ use Rattle.fs_record.specs.declared.extents.FileExt.{FileExt}
 use Rattle.vol_view.specs.Volumes.{Loaded}
 use Rattle.ext_ref.specs.References.{streams_of}
 use Rattle.ext_ref.specs.declared.range.NewRange.{NewRange}
-use Rattle.tree_rules.specs.declared.notes.Note.{Note}
-use Rattle.tree_rules.specs.declared.notes.Note.TheVariants.{Count}
+use Rattle.view_rules.specs.declared.notes.Note.{Note}
+use Rattle.view_rules.specs.declared.notes.Note.TheVariants.{Count}
 use Rattle.apfs_check.specs.Data.{has_no_snapshots, is_miscounted}
 use Rattle.apfs_check.specs.declared.fault.Fault.{Fault}
 use Rattle.apfs_check.specs.declared.fault.Fault.TheVariants.{DataUnreached, DataCount}

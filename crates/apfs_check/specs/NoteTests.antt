@@ -1,7 +1,7 @@
 -- Which notes are of hashes, and which of entries without a name.
 use Rattle.std.specs.Prelude.{Bool, true, false}
-use Rattle.tree_rules.specs.declared.notes.Note.{Note}
-use Rattle.tree_rules.specs.declared.notes.Note.TheVariants.{Skipped, Hash, Unreached, Unnamed, Count}
+use Rattle.view_rules.specs.declared.notes.Note.{Note}
+use Rattle.view_rules.specs.declared.notes.Note.TheVariants.{Skipped, Hash, Unreached, Unnamed, Count}
 
 -- a note on a hash
 abbrev pub is_hash_note : Note → Bool

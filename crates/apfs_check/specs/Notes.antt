@@ -9,8 +9,8 @@ use Rattle.vol_view.specs.declared.volume.View.{View}
 use Rattle.ext_ref.specs.declared.range.NewRange.{NewRange}
 use Rattle.view_rules.specs.Rules.{view_facts}
 use Rattle.tree_rules.specs.Notes.{hash_notes, unnamed_notes}
-use Rattle.tree_rules.specs.declared.notes.Note.{Note}
-use Rattle.tree_rules.specs.declared.notes.Note.TheVariants.{Skipped, Unreached, Count}
+use Rattle.view_rules.specs.declared.notes.Note.{Note}
+use Rattle.view_rules.specs.declared.notes.Note.TheVariants.{Skipped, Unreached, Count}
 use Rattle.view_rules.specs.declared.profile.Profile.{Profile}
 use Rattle.view_rules.specs.declared.profile.Profile.TheVariants.{Plain, Strict}
 use Rattle.apfs_check.specs.Volumes.{volume_of}

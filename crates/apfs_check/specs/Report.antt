@@ -8,7 +8,7 @@ use Rattle.vol_view.specs.Views.{views_of, view_flat}
 use Rattle.vol_view.specs.declared.head.VolHead.{VolHead}
 use Rattle.vol_view.specs.declared.volume.View.{View}
 use Rattle.reach_rules.specs.Tally.{IsObjectCount, IsOwnedCount}
-use Rattle.tree_rules.specs.declared.notes.Note.{Note}
+use Rattle.view_rules.specs.declared.notes.Note.{Note}
 use Rattle.view_rules.specs.declared.profile.Profile.{Profile}
 use Rattle.apfs_check.specs.Volumes.{volume_of}
 use Rattle.apfs_check.specs.Notes.{notes_of}

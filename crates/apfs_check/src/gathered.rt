@@ -3,7 +3,8 @@
 use crate::notes::append;
 use std::alloc::{AllocError, Global};
 use std::marker::Model;
-use tree_rules::{Note, ViewTally};
+use tree_rules::ViewTally;
+use view_rules::Note;
 
 /// The numbers of views and of records, and the notes of each kind but those on candidates.
 #[derive(Drop)]
@@ -27,7 +28,7 @@ impl Model for Gathered {
 impl Gathered {
     ghost use Rattle.std.specs.Prelude.{◌≡◌, ◌+◌, ◌∷◌, ◌++◌, [], filter, OnOk, IfOk};
     ghost use Rattle.apfs_model.specs.Counts.{given};
-    ghost use Rattle.tree_rules.specs.declared.notes.Note.TheVariants as noted;
+    ghost use Rattle.view_rules.specs.declared.notes.Note.TheVariants as noted;
     ghost use Rattle.apfs_check.specs.Held.{nothing_held};
     ghost use Rattle.apfs_check.specs.NoteTests.{is_hash_note, is_unnamed_note};
 

@@ -4,7 +4,7 @@ ghost use Rattle.apfs_check.specs.Notes.{skipped_notes};
 
 use nx_ring::Checkpoint;
 use std::alloc::{AllocError, Global};
-use tree_rules::Note;
+use view_rules::Note;
 
 /// Puts notes after others. Where there are no others, their list is the one that is kept.
 pub(crate) fn append(notes: &mut Vec<Note>, more: Vec<Note>) -> Result<(), AllocError>

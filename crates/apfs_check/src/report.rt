@@ -2,7 +2,7 @@
 
 use reach_sweep::Tally;
 use std::marker::Model;
-use tree_rules::Note;
+use view_rules::Note;
 
 /// What is told of a well-formed container.
 #[derive(Debug, Drop)]

@@ -34,8 +34,9 @@ use nx_ring::Checkpoint;
 use obj_base::{Site, Stop};
 use omap_map::OmapRecord;
 use std::alloc::{AllocError, Global};
-use tree_rules::{CheckedNext, CheckedView, Profile, ViewTally, check_next, check_with_extents};
-use view_change::KeptView;
+use tree_rules::{
+    CheckedNext, CheckedView, KeptView, Profile, ViewTally, check_next, check_with_extents,
+};
 use view_rules::TreeFault;
 use vol_view::{View, Volume, live, past};
 

@@ -18,7 +18,7 @@ use Rattle.apfs_check.specs.declared.fault.Fault.TheVariants.{BlockZero, UnusedM
 use Rattle.apfs_check.specs.Present.{IsPresent}
 use Rattle.apfs_check.specs.WellFormed.{IsWellFormed}
 use Rattle.apfs_check.proofs.Examples.{no_bytes_present, no_bytes_flawed}
-use Rattle.tree_rules.specs.declared.notes.Note.TheVariants.{Skipped}
+use Rattle.view_rules.specs.declared.notes.Note.TheVariants.{Skipped}
 use Rattle.path_walk.specs.declared.answer.Answer.{Answer}
 use Rattle.path_walk.specs.declared.answer.Answer.TheVariants.{NotFound, NoVolume}
 use Rattle.tree_export.proofs.Examples.{both_stay}

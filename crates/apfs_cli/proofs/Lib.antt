@@ -5,5 +5,6 @@ pub mod Owed
 pub mod Statuses
 pub mod NewRow
 pub mod FilledRow
+mod Clean
 pub mod Plugs
 mod Examples

@@ -2,7 +2,9 @@
 #![tactic(auto)]
 
 mod in_partition;
+mod new_container;
 mod over_cache;
 mod program;
 
+pub use new_container::new_container_is_clean;
 pub use program::{gen_report, report, run};

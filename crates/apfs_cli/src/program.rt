@@ -28,7 +28,7 @@ use cmd_texts::commands::{check, generated, new_container};
 use cmd_words::Target;
 use std::alloc::Global;
 use std::mem;
-use tree_rules::Profile;
+use view_rules::Profile;
 
 // Runs a command that takes no folder on what was handed in.
 fn on_opened<S: BlockSource, W: Sink>(

@@ -3,8 +3,8 @@ use Rattle.std.specs.Prelude.{ℕ, List, length, codes}
 use Rattle.std.specs.Fmt.{decimal, signed_decimal}
 use Rattle.std.specs.List.{flat_map}
 use Rattle.apfs_model.specs.Counts.{given}
-use Rattle.tree_rules.specs.declared.notes.Note.{Note}
-use Rattle.tree_rules.specs.declared.notes.Note.TheVariants.{Skipped, Hash, Unreached, Unnamed, Count}
+use Rattle.view_rules.specs.declared.notes.Note.{Note}
+use Rattle.view_rules.specs.declared.notes.Note.TheVariants.{Skipped, Hash, Unreached, Unnamed, Count}
 use Rattle.apfs_check.specs.Report.{Told}
 use Rattle.cmd_lines.specs.Texts.{◌▹◌}
 use Rattle.cmd_lines.specs.FaultTexts.{id_text, name_text, run_text, count_text}

@@ -9,8 +9,8 @@ ghost use Rattle.uuid.specs.Text.{parsed};
 
 use cmd_words::{Flags, Line, Target, line_in};
 use std::alloc::{AllocError, Global};
-use tree_rules::Profile;
 use uuid::Uuid;
+use view_rules::Profile;
 
 // The most files of an image that is made.
 const MOST_FILES: u32 = 20_000;

@@ -26,4 +26,3 @@ pub mod Superblocks
 pub mod Bitmaps
 pub mod Image
 pub mod Fresh
-mod Clean

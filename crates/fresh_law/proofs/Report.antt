@@ -28,7 +28,7 @@ use Rattle.view_rules.specs.Names.{has_other_name_hash}
 use Rattle.view_rules.specs.declared.profile.Profile.{Profile}
 use Rattle.view_rules.specs.declared.profile.Profile.TheVariants.{Plain, Strict}
 use Rattle.tree_rules.specs.Notes.{hash_notes, is_unnamed, unnamed_notes}
-use Rattle.tree_rules.specs.declared.notes.Note.{Note}
+use Rattle.view_rules.specs.declared.notes.Note.{Note}
 use Rattle.apfs_check.specs.Data.{HasRightData}
 use Rattle.apfs_check.specs.Notes.{of_views, of_volumes, view_hash_notes, view_unnamed_notes, unreached_note, unreached_notes, count_note, count_notes, notes_of}
 use Rattle.apfs_check.specs.Report.{view_count, views_in, records_of_volume, records_in, IsToldOf}

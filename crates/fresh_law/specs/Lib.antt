@@ -4,4 +4,3 @@ pub mod Law
 pub mod Site
 pub mod Facts
 pub mod Says
-pub mod Formatted

@@ -1,7 +1,6 @@
-//! Why a new container is well-formed, and why a check of it is clean.
+//! What the blocks of a new container say, and why it is well-formed.
 #![tactic(auto)]
 
-ghost use Rattle.fresh_law.specs.Formatted.{FormattedIsClean};
 ghost use Rattle.fresh_law.specs.Law.{FreshHolds, FreshReported};
 ghost use Rattle.fresh_law.specs.Says.{FreshSays};
 
@@ -17,10 +16,4 @@ pub fn blocks_say()
 pub fn new_container_holds()
     ensures holds { FreshHolds }
     ensures reported { FreshReported }
-{}
-
-/// A run of `check` on the image that a run of `format` wrote ends with 0 and writes the report of a new container, under both
-/// profiles; or a read or a put failed, or memory ran out. It does nothing.
-pub fn new_container_is_clean()
-    ensures { FormattedIsClean }
 {}

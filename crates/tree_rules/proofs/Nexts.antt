@@ -38,7 +38,7 @@ use Rattle.tree_rules.specs.Notes.{hash_note, hash_notes, unnamed_note, unnamed_
 use Rattle.tree_rules.specs.Tallies.{notes_of, IsTally}
 use Rattle.tree_rules.specs.Known.{AreRight, IsKnown, AddExtents, IsCheckedNext}
 use Rattle.tree_rules.specs.declared.next.CheckedNext.{CheckedNext}
-use Rattle.tree_rules.specs.declared.notes.Note.{Note}
+use Rattle.view_rules.specs.declared.notes.Note.{Note}
 use Rattle.tree_rules.proofs.Checks.{facts_clear, facts_tally}
 
 -- ---- lists

@@ -20,6 +20,10 @@ use Rattle.view_change.specs.Difference.{IsKeptOf}
 use Rattle.tree_rules.specs.Tallies.{IsTally}
 use Rattle.tree_rules.specs.declared.next.CheckedNext.{CheckedNext}
 
+-- what is kept of a view, by which the next one of its volume is tested
+abbrev pub KnownView : Type 0
+KnownView = KeptView
+
 -- facts have their rules, no id has two inodes, and nothing is to be noted
 pub record AreRight (profile : Profile) (site : Site) (ranges : List NewRange) (facts : Facts) : Type 0 where
   pub rules : HasFactRules profile site ranges facts

@@ -7,8 +7,8 @@ use Rattle.fs_record.specs.Facts.{Fact, first_user_id}
 use Rattle.vol_view.specs.declared.volume.View.{View}
 use Rattle.view_rules.specs.Facts.{Facts, is_directory}
 use Rattle.view_rules.specs.Names.{has_other_name_hash}
-use Rattle.tree_rules.specs.declared.notes.Note.{Note}
-use Rattle.tree_rules.specs.declared.notes.Note.TheVariants.{Hash, Unnamed}
+use Rattle.view_rules.specs.declared.notes.Note.{Note}
+use Rattle.view_rules.specs.declared.notes.Note.TheVariants.{Hash, Unnamed}
 
 -- the note of an entry whose name isn't ASCII and whose key has another hash
 abbrev pub hash_note : View → Fact Entry → Note

@@ -10,7 +10,7 @@ use Rattle.view_rules.specs.declared.profile.Profile.{Profile}
 use Rattle.tree_rules.specs.Notes.{hash_notes, unnamed_notes}
 use Rattle.tree_rules.specs.declared.tallies.ViewTally.{ViewTally}
 use Rattle.view_rules.specs.Facts.{Facts}
-use Rattle.tree_rules.specs.declared.notes.Note.{Note}
+use Rattle.view_rules.specs.declared.notes.Note.{Note}
 use Rattle.view_rules.specs.declared.profile.Profile.TheVariants.{Plain, Strict}
 
 -- the notes of a view: those on hashes, which are faults under Strict, and then those on inodes, both in record order

@@ -7,14 +7,14 @@ ghost use Rattle.rule_breaks.specs.Faults as faults;
 ghost use Rattle.tree_rules.specs.Notes as spec;
 ghost use Rattle.tree_rules.specs.Tallies as tallies;
 
-use crate::{Note, Profile};
+use crate::Profile;
 use apfs_model::Bytes;
 use blk_source::NoMemory;
 use rule_breaks::names::has_other_name_hash;
 use rule_index::Index;
 use std::alloc::Global;
 use view_facts::{EntryFact, Facts, InodeFact};
-use view_rules::{IdAt, NamedAt};
+use view_rules::{IdAt, NamedAt, Note};
 use vol_view::View;
 
 /// The first entry whose name isn't ASCII and whose key has another hash.

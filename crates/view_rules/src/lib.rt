@@ -2,9 +2,11 @@
 #![tactic(auto)]
 
 mod fault;
+mod notes;
 mod profile;
 mod theorem;
 
 pub use fault::{IdAt, NamedAt, TreeFault};
+pub use notes::Note;
 pub use profile::Profile;
 pub use theorem::rules_or_flaw;

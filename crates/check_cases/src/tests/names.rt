@@ -9,8 +9,7 @@ use img_make::{FileTree, Item, Sample, image_with, put_u32};
 use obj_base::Stop;
 use std::alloc::{AllocError, Global};
 use std::test::Fail;
-use tree_rules::{Note, Profile};
-use view_rules::NamedAt;
+use view_rules::{NamedAt, Note, Profile};
 
 // The name, whose two bytes and the zero behind them follow 12 bytes in the key of its entry.
 const NAME: &str = "é";

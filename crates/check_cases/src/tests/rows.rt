@@ -9,7 +9,7 @@ use reach_rules::Why;
 use std::alloc::Global;
 use std::process::Abort;
 use std::test::Fail;
-use tree_rules::{Note, Profile};
+use view_rules::{Note, Profile};
 
 // The numbers of a report.
 #[derive(Clone, Copy, PartialEq, Eq, Debug)]

@@ -15,7 +15,7 @@ use apfs_check::Report;
 use blk_source::{BlockSource, Sink};
 use cmd_lines::{Stopped, fault_places as places};
 use std::alloc::{AllocError, Global};
-use tree_rules::{Note, Profile};
+use view_rules::{Note, Profile};
 
 // The text of a note, as its bytes: names in it are shown by bytes.
 fn note_bytes(alloc: Global, note: &Note) -> Result<Vec<u8>, AllocError>

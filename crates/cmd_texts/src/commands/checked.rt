@@ -11,7 +11,7 @@ use apfs_check::{Report, check};
 use blk_source::BlockSource;
 use cmd_lines::{Checks, Stopped, stopped_by};
 use std::alloc::Global;
-use tree_rules::Profile;
+use view_rules::Profile;
 
 /// What is told of a container that is well-formed under a profile, or why the run stops.
 pub fn checked<S: BlockSource>(

@@ -39,7 +39,7 @@ use obj_base::{Site, Stop};
 use path_walk::PathStop;
 use std::alloc::{AllocError, Global};
 use tree_export::{Done, ExportFault, ExportStop, Item, export, item_at, safe_path};
-use tree_rules::Profile;
+use view_rules::Profile;
 use view_tree::{KeptRows, Trail, kind_letter, tree_rows};
 use vol_view::View;
 

@@ -14,7 +14,7 @@ use blk_source::{NoMemory, Sink, SureSource};
 use cmd_lines::Stopped;
 use img_make::{gen_plan, make};
 use std::alloc::{AllocError, Global};
-use tree_rules::Profile;
+use view_rules::Profile;
 
 // The line before the report.
 fn lead_line(alloc: Global, files: u32) -> Result<String, AllocError>

@@ -13,8 +13,8 @@ use obj_base::Stop;
 use std::alloc::Global;
 use std::process::Abort;
 use std::test::Fail;
-use tree_rules::{Note, Profile, ViewTally, check_view};
-use view_rules::{IdAt, NamedAt, TreeFault};
+use tree_rules::{Profile, ViewTally, check_view};
+use view_rules::{IdAt, NamedAt, Note, TreeFault};
 
 // The ranges that cover the blocks of extents.
 const RANGES: [NewRange; 2] = [

@@ -109,7 +109,7 @@ returns-in-Err-check_used-clause-exact g c = λ image heads told h l whole r.
     reached-free image c.args.cp.now whole c.in-Err-check_used.stop r (returns-in-Err-check_used-clause-present g c image heads told h l)
 
 -- all that was swept, known and finished where all is put together
-swept-at : (g : _) (c : goal.After-drop-parts-inside-in-Ok-finish-3 g) (image : List ℕ) (heads : List VolHead) → g.S.BlockSource.bytes c.args.src.now ≡ Some image → AreHeads image c.args.cp.now heads → AreLoadedOf image c.args.cp.now heads c.args.volumes.now →
+swept-at : (g : _) (c : goal.After-drop-parts-inside-in-Ok-finish-2 g) (image : List ℕ) (heads : List VolHead) → g.S.BlockSource.bytes c.args.src.now ≡ Some image → AreHeads image c.args.cp.now heads → AreLoadedOf image c.args.cp.now heads c.args.volumes.now →
     AreSwept image c.args.cp.now heads c.args.volumes.now c.in_ok-parts.parts c.add_parts.new.out c.in-Ok-sweep_views.used.items c.in-Ok-head_records.found.items
 swept-at g c image heads told h l =
     let seen : Seen = c.args.cp.now in
@@ -127,7 +127,7 @@ swept-at g c image heads told h l =
       heads_found = c.in-Ok-head_records.ensures.found image heads namer v.parts (c.in-Ok-add_parts.ensures.records image before) v.volumes_are;
     }
 
-known-at : (g : _) (c : goal.After-drop-parts-inside-in-Ok-finish-3 g) (image : List ℕ) (heads : List VolHead) → g.S.BlockSource.bytes c.args.src.now ≡ Some image → AreHeads image c.args.cp.now heads → AreLoadedOf image c.args.cp.now heads c.args.volumes.now →
+known-at : (g : _) (c : goal.After-drop-parts-inside-in-Ok-finish-2 g) (image : List ℕ) (heads : List VolHead) → g.S.BlockSource.bytes c.args.src.now ≡ Some image → AreHeads image c.args.cp.now heads → AreLoadedOf image c.args.cp.now heads c.args.volumes.now →
     AreKnown image c.args.cp.now heads (maps_of c.args.cp.now c.args.volumes.now c.records.result.now) (c.in-Ok-head_records.found.items ++ c.in-Ok-sweep_views.used.items) c.in-Ok.space c.in-Ok-load_pool.pool.items
 known-at g c image heads told h l =
     let seen : Seen = c.args.cp.now in
@@ -144,7 +144,7 @@ known-at g c image heads told h l =
       queued = c.in-Ok-add_parts.ensures.queued image before;
     }
 
-finished-at : (g : _) (c : goal.After-drop-parts-inside-in-Ok-finish-3 g) → IsFinished (records_used c.in-Ok-sweep_views.used.items) (records_used c.in-Ok-head_records.found.items) c.add_parts.new.out c.in-Ok.space c.in-Ok-load_pool.pool.items c.in-Ok-finish.reached
+finished-at : (g : _) (c : goal.After-drop-parts-inside-in-Ok-finish-2 g) → IsFinished (records_used c.in-Ok-sweep_views.used.items) (records_used c.in-Ok-head_records.found.items) c.add_parts.new.out c.in-Ok.space c.in-Ok-load_pool.pool.items c.in-Ok-finish.reached
 finished-at g c =
     subst (λ (us : List Used). IsFinished (records_used us) (records_used c.in-Ok-head_records.found.items) c.add_parts.new.out c.in-Ok.space c.in-Ok-load_pool.pool.items c.in-Ok-finish.reached) c.deref-3.ensures.value
     (subst (λ (us : List Used). IsFinished (records_used c.deref-3.result.now) (records_used us) c.add_parts.new.out c.in-Ok.space c.in-Ok-load_pool.pool.items c.in-Ok-finish.reached) c.deref-4.ensures.value c.in-Ok-finish.ensures.done)

@@ -1,7 +1,7 @@
 -- The nine lines are put, and after them those of the notes.
 use Rattle.std.proofs.Common.{List, ◌∙◌, ap, subst}
 use Rattle.std.specs.List.{flat_map}
-use Rattle.tree_rules.specs.declared.notes.Note.{Note}
+use Rattle.view_rules.specs.declared.notes.Note.{Note}
 use Rattle.apfs_check.specs.Report.{Told}
 use Rattle.cmd_lines.specs.ReportText.{head_text, note_line}
 use Rattle.cmd_lines.specs.Written.{sunk}

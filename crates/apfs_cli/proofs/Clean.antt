@@ -23,7 +23,7 @@ use Rattle.cmd_lines.specs.Written.{Sunk}
 use Rattle.apfs_cli.proofs.NewRow.{new_row}
 use Rattle.cmd_lines.proofs.Orders.{format_valid}
 use Rattle.apfs_cli.proofs.Statuses.{one_line, text_row, whole_row}
-use Rattle.fresh_law.specs.Formatted.{IsFormatted, IsCheckOf, IsReportOrFree, FormattedIsClean}
+use Rattle.apfs_cli.specs.Formatted.{IsFormatted, IsCheckOf, IsReportOrFree, FormattedIsClean}
 
 -- ---- what was formatted
 image-is : (spec : Spec) (image : List ℕ) → IsFormatted spec image → image ≡ fresh spec
