@@ -30,8 +30,8 @@ use std::cell::Cell;
 use std::io::{self, Write};
 use std::process::Abort;
 use std::test::Fail;
-use tree_rules::Profile;
 use uses::USAGE_CASES;
+use view_rules::Profile;
 
 const ROOM: usize = 8192;
 
