@@ -21,7 +21,7 @@ ghost use Rattle.apfs_check.specs.DataSteps.{IsRunFault, IsCountFault, with_stre
 use crate::Fault;
 use crate::gathered::Gathered;
 use apfs_model::NoMemory;
-use ext_ref::{NewRange, references, unreached};
+use ext_ref::{NewRange, references, unreached_by_moved};
 use fs_record::FileExt;
 use nx_ring::Checkpoint;
 use obj_base::Stop;
@@ -49,6 +49,7 @@ fn refuse_runs(slot: u32, runs: &[(u64, u64)]) -> Result<(), Fault>
 fn note_runs(head: &VolHead, runs: &[(u64, u64)], out: &mut Gathered) -> Result<(), AllocError>
     ensures { OnOk result (out.new ≡ record out.old { unreached = out.old.unreached ++ map (unreached_note head.now) runs.now }) }
 {
+    out.reserve_unreached(runs.len())?;
     'runs: for run in runs {
         out.put_unreached(head.slot, *run)?;
     }
@@ -181,27 +182,27 @@ fn wrong_of(
     }
 }
 
-/// Tells of a volume's data, by its new ranges and the extents of its views.
+/// Tells of a volume's data, by its new ranges and the extents of its views, which aren't needed further.
 pub(crate) fn add_data(
     alloc: Global,
     cp: &Checkpoint,
     volume: &Volume,
     ranges: &[NewRange],
-    extents: &[(u64, FileExt)],
+    extents: Vec<(u64, FileExt)>,
     profile: Profile,
     out: &mut Gathered,
 ) -> Result<(), Stop<Fault>>
     requires accepted { is_accepted (site_of cp.now).block_size ≡ true }
     requires short { AreShort ranges.now }
-    requires extents { AreShortExtents (site_of cp.now).block_size extents.now }
-    ensures clear { (image : List ℕ) → IsReady image cp.now volume.now → ranges.now ≡ spec.volume_ranges image (site_of cp.now) volume.now.head → HaveSame extents.now (spec.volume_extents image cp.now volume.now.head) → OnOk result (AddsData profile image cp.now volume.now.head out.old out.new) }
-    ensures present { (image : List ℕ) → IsReady image cp.now volume.now → ranges.now ≡ spec.volume_ranges image (site_of cp.now) volume.now.head → HaveSame extents.now (spec.volume_extents image cp.now volume.now.head) → IfErr result (IsThere profile image) }
+    requires extents { AreShortExtents (site_of cp.now).block_size extents.items }
+    ensures clear { (image : List ℕ) → IsReady image cp.now volume.now → ranges.now ≡ spec.volume_ranges image (site_of cp.now) volume.now.head → HaveSame extents.items (spec.volume_extents image cp.now volume.now.head) → OnOk result (AddsData profile image cp.now volume.now.head out.old out.new) }
+    ensures present { (image : List ℕ) → IsReady image cp.now volume.now → ranges.now ≡ spec.volume_ranges image (site_of cp.now) volume.now.head → HaveSame extents.items (spec.volume_extents image cp.now volume.now.head) → IfErr result (IsThere profile image) }
     ensures no_read { IsErrOf result ReadFault → ⊥ }
 {
     let site = cp.site();
     // Looked for before any note on runs is kept, since both take memory.
-    let wrong = wrong_of(alloc, volume, ranges, extents, site.block_size)?;
-    let runs = unreached(alloc, ranges, extents, site.block_size)?;
+    let wrong = wrong_of(alloc, volume, ranges, &extents, site.block_size)?;
+    let runs = unreached_by_moved(alloc, ranges, extents, site.block_size)?;
     match tell_runs(&volume.head, &runs, profile, out) {
         Ok(()) => {}
         Err(stop) => return Err(stop),

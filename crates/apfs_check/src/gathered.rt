@@ -108,6 +108,14 @@ impl Gathered {
         self.put_all(notes)
     }
 
+    /// Makes room for so many notes on unreached blocks.
+    pub(crate) fn reserve_unreached(&mut self, notes: usize) -> Result<(), AllocError>
+        ensures { OnOk result (self.new ≡ self.old) }
+    {
+        self.unreached_notes.reserve_exact(notes)?;
+        Ok(())
+    }
+
     /// Keeps a note on unreached blocks of the volume in a slot.
     pub(crate) fn put_unreached(&mut self, slot: u32, run: (u64, u64)) -> Result<(), AllocError>
         ensures { OnOk result (self.new ≡ record self.old { unreached = self.old.unreached ++ noted.Unreached slot run.0 run.1 ∷ [] }) }

@@ -47,7 +47,7 @@ fn add_volume<S: BlockSource>(
         Err(stop) => return Err(stop),
     };
     out.count_views(volume.snaps.len() as u64 + 1);
-    match add_data(alloc, cp, volume, &ranges, &extents, profile, out) {
+    match add_data(alloc, cp, volume, &ranges, extents, profile, out) {
         Ok(()) => Ok(()),
         Err(stop) => Err(stop),
     }

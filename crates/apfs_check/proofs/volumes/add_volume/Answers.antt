@@ -1,4 +1,4 @@
-use Rattle.std.proofs.Common.{◌≡◌, ◌∙◌, ◌+◌, length, ap, sym, subst, arith}
+use Rattle.std.proofs.Common.{◌≡◌, ◌∙◌, ◌+◌, length, ap, arith}
 use Rattle.apfs_model.specs.Counts.{given}
 use Rattle.nx_ring.specs.Checkpoint.{site_of}
 use Rattle.vol_view.specs.Volumes.{Loaded}
@@ -20,7 +20,7 @@ returns-in-Ok-add_data-clause-clear g c image told ready =
     let ranges_are : c.deref.result.now ≡ volume_ranges image (site_of seen) volume.head = c.deref.ensures.value ∙ c.in-Ok.ensures.clear image told ready in
     let views = c.in-Ok-add_views.ensures.clear image after_ranges ready ranges_are in
     let ranges_too : c.deref-2.result.now ≡ volume_ranges image (site_of seen) volume.head = c.deref-2.ensures.value ∙ c.in-Ok.ensures.clear image told ready in
-    let extents_are : HaveSame c.deref-3.result.now (volume_extents image seen volume.head) = subst (λ es. HaveSame es (volume_extents image seen volume.head)) (sym c.deref-3.ensures.value) (c.in-Ok-add_views.ensures.all image after_ranges ready ranges_are) in
+    let extents_are : HaveSame c.in-Ok-add_views.extents.items (volume_extents image seen volume.head) = c.in-Ok-add_views.ensures.all image after_ranges ready ranges_are in
     let held = c.add_views.new.out in
     let count : c.len.result + 1 ≡ length (views_of volume seen) = omega (arith, views-length volume seen, c.len.ensures, ap (λ (v : Loaded). length v.snaps) c.volume.view_is) in
     one-volume c.args.profile image seen volume c.args.out.now held c.count_views.new.self c.add_data.new.out ready.loaded.same views
@@ -33,7 +33,7 @@ returns-clause-present g c image told ready =
     let after_ranges = c.volume_ranges.ensures.kept.same_bytes ∙ told in
     let ranges_are : c.deref.result.now ≡ volume_ranges image (site_of seen) volume.head = c.deref.ensures.value ∙ c.in-Ok.ensures.clear image told ready in
     let ranges_too : c.deref-2.result.now ≡ volume_ranges image (site_of seen) volume.head = c.deref-2.ensures.value ∙ c.in-Ok.ensures.clear image told ready in
-    let extents_are : HaveSame c.deref-3.result.now (volume_extents image seen volume.head) = subst (λ es. HaveSame es (volume_extents image seen volume.head)) (sym c.deref-3.ensures.value) (c.in-Ok-add_views.ensures.all image after_ranges ready ranges_are) in
+    let extents_are : HaveSame c.in-Ok-add_views.extents.items (volume_extents image seen volume.head) = c.in-Ok-add_views.ensures.all image after_ranges ready ranges_are in
     c.in-Err-add_data.ensures.present image ready ranges_too extents_are
 
 pub returns-in-Ok-add_data-clause-reads : goal.returns-in-Ok-add_data-clause-reads
