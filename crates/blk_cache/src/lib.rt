@@ -4,7 +4,5 @@
 mod cached;
 mod part;
 mod store;
-#[cfg(test)]
-mod tests;
 
 pub use cached::Cached;

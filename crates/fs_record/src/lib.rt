@@ -12,8 +12,6 @@ mod inodes;
 mod kept;
 mod refusals;
 mod siblings;
-#[cfg(test)]
-mod tests;
 
 pub use attribute::{Attr, AttrBody};
 pub use attributes::attr;

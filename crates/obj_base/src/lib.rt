@@ -8,8 +8,6 @@ mod site;
 mod soundness;
 mod stop;
 mod sum;
-#[cfg(test)]
-mod tests;
 
 pub use block_size::is_accepted;
 pub use header::{Expect, HeadFault, Header, ObjFlags};

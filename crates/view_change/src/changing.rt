@@ -16,9 +16,6 @@ ghost use Rattle.view_change.specs.Kept.{facts_of, IsKeptView};
 ghost use Rattle.view_change.specs.Reading.{IsNodeOf};
 ghost use Rattle.view_change.specs.Changing.{facts_before, HasChanged, HasChangedTo, HasSettledTo, IsDifference};
 
-#[cfg(test)]
-mod tests;
-
 use crate::kept::{Held, KeptLeaf, Numbers, no_facts};
 use crate::leaf_read::{add_records, ends_of};
 use crate::node::read_node;

@@ -15,8 +15,6 @@ mod ring;
 mod runs;
 mod seen;
 mod stock;
-#[cfg(test)]
-mod tests;
 mod walking;
 
 pub use changing::{Change, Changed, Changing};

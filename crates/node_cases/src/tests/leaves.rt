@@ -1,5 +1,4 @@
 // Nodes of object maps, each in a block of its own.
-use crate::{Ends, Leaf, LeafTaker, walk_leaves};
 use blk_source::{BlockSource, MemSource};
 use bt_cursor::Physical;
 use bt_keys::OmapKey;
@@ -9,23 +8,7 @@ use obj_base::{Site, Stop};
 use std::alloc::{AllocError, Global};
 use std::process::Abort;
 use std::test::Fail;
-
-// A leaf with a record for each of some ids.
-fn leaf(alloc: Global, oid: u64, ids: &[u64]) -> Result<Vec<u8>, AllocError> {
-    let mut items: Vec<Item> = Vec::new(alloc);
-    for id in ids {
-        let mut key = Vec::from_slice(alloc, &id.to_le_bytes())?;
-        key.extend_from_slice(&[1, 0, 0, 0, 0, 0, 0, 0])?;
-        items.push((key, vec![in alloc; 0u8; 16]?))?;
-    }
-    let head = NodeHead {
-        oid,
-        xid: 1,
-        level: 0,
-        totals: None,
-    };
-    node(alloc, 4096, &Tree::OBJECT_MAP, &head, &items)?.ok_or(AllocError)
-}
+use view_change::{Ends, Leaf, LeafTaker, walk_leaves};
 
 // What remembers the leaves; the leaf of an id has one record, for this id.
 #[derive(Drop)]
@@ -69,27 +52,12 @@ impl LeafTaker<OmapKey> for Leaves {
     }
 }
 
-// A node above the leaves, by the ids of its keys and of its children; a root where it has totals.
-fn upper(
-    alloc: Global,
+// A node: its id, its level, the totals of a root, and its entries: ids of keys, and above the leaves those of children.
+struct Made {
     oid: u64,
     level: u16,
     totals: Option<Totals>,
-    entries: &[(u64, u64)],
-) -> Result<Vec<u8>, AllocError> {
-    let mut items: Vec<Item> = Vec::new(alloc);
-    for (id, child) in entries {
-        let mut key = Vec::from_slice(alloc, &id.to_le_bytes())?;
-        key.extend_from_slice(&[1, 0, 0, 0, 0, 0, 0, 0])?;
-        items.push((key, Vec::from_slice(alloc, &child.to_le_bytes())?))?;
-    }
-    let head = NodeHead {
-        oid,
-        xid: 1,
-        level,
-        totals,
-    };
-    node(alloc, 4096, &Tree::OBJECT_MAP, &head, &items)?.ok_or(AllocError)
+    entries: &'static [(u64, u64)],
 }
 
 const TOTALS: Totals = Totals {
@@ -105,21 +73,69 @@ const SMALL: Totals = Totals {
     ..TOTALS
 };
 
+macro_rules! nodes {
+    ($($oid:expr, $level:expr, $totals:expr, $entries:expr;)*) => {
+        &[$(Made { oid: $oid, level: $level, totals: $totals, entries: $entries }),*]
+    };
+}
+
 // Trees of which each id is a block. That of block 6 has the nodes in blocks 4 and 5 below its root, and the leaves in blocks 1, 2 and 3. The
 // other roots stand above leaves: that of block 7 names a block outside the container, that of block 8 the leaf of block 1 by a greater key,
 // that of block 9 two leaves where it counts one, and that of block 10 the leaf of block 1 as it is.
+const NODES: &[Made] = nodes! {
+    1, 0, None, &[(1, 0)];
+    2, 0, None, &[(2, 0)];
+    3, 0, None, &[(3, 0)];
+    4, 1, None, &[(1, 1), (2, 2)];
+    5, 1, None, &[(3, 3)];
+    6, 2, Some(TOTALS), &[(1, 4), (3, 5)];
+    7, 1, Some(SMALL), &[(1, 11)];
+    8, 1, Some(SMALL), &[(2, 1)];
+    9, 1, Some(SMALL), &[(1, 1), (2, 2)];
+    10, 1, Some(SMALL), &[(1, 1)];
+};
+
+// The key of an id at transaction 1.
+fn key(alloc: Global, id: u64) -> Result<Vec<u8>, AllocError> {
+    let mut key = Vec::from_slice(alloc, &id.to_le_bytes())?;
+    key.extend_from_slice(&[1, 0, 0, 0, 0, 0, 0, 0])?;
+    Ok(key)
+}
+
+// The value of an entry: 16 zeros in a leaf, and the id of a child above.
+fn value(alloc: Global, level: u16, child: u64) -> Result<Vec<u8>, AllocError> {
+    if level == 0 {
+        vec![in alloc; 0u8; 16]
+    } else {
+        Vec::from_slice(alloc, &child.to_le_bytes())
+    }
+}
+
+fn items(alloc: Global, made: &Made) -> Result<Vec<Item>, AllocError> {
+    let mut items: Vec<Item> = Vec::new(alloc);
+    for (id, child) in made.entries {
+        items.push((key(alloc, *id)?, value(alloc, made.level, *child)?))?;
+    }
+    Ok(items)
+}
+
+fn block(alloc: Global, made: &Made) -> Result<Vec<u8>, AllocError> {
+    let head = NodeHead {
+        oid: made.oid,
+        xid: 1,
+        level: made.level,
+        totals: made.totals,
+    };
+    let items = items(alloc, made)?;
+    node(alloc, 4096, &Tree::OBJECT_MAP, &head, &items)?.ok_or(AllocError)
+}
+
+// Those trees; block 0 has nothing.
 fn tall_image(alloc: Global) -> Result<Vec<u8>, AllocError> {
     let mut image = vec![in alloc; 0u8; 4096]?;
-    image.extend_from_slice(&leaf(alloc, 1, &[1])?)?;
-    image.extend_from_slice(&leaf(alloc, 2, &[2])?)?;
-    image.extend_from_slice(&leaf(alloc, 3, &[3])?)?;
-    image.extend_from_slice(&upper(alloc, 4, 1, None, &[(1, 1), (2, 2)])?)?;
-    image.extend_from_slice(&upper(alloc, 5, 1, None, &[(3, 3)])?)?;
-    image.extend_from_slice(&upper(alloc, 6, 2, Some(TOTALS), &[(1, 4), (3, 5)])?)?;
-    image.extend_from_slice(&upper(alloc, 7, 1, Some(SMALL), &[(1, 11)])?)?;
-    image.extend_from_slice(&upper(alloc, 8, 1, Some(SMALL), &[(2, 1)])?)?;
-    image.extend_from_slice(&upper(alloc, 9, 1, Some(SMALL), &[(1, 1), (2, 2)])?)?;
-    image.extend_from_slice(&upper(alloc, 10, 1, Some(SMALL), &[(1, 1)])?)?;
+    for made in NODES {
+        image.extend_from_slice(&block(alloc, made)?)?;
+    }
     image.resize(45056, 0)?;
     Ok(image)
 }

@@ -1,10 +1,10 @@
 // Values from outside: sums worked out by the closed formula apart from the program, and each call once.
-use crate::{
+use apfs_model::{NoMemory, ReadFailed};
+use bitflags::Flags;
+use obj_base::{
     Bad, Expect, Feature, HeadFault, ObjFlags, Stop, Unsound, is_accepted, sound, sum64, u16_at,
     u32_at, u64_at,
 };
-use apfs_model::{NoMemory, ReadFailed};
-use bitflags::Flags;
 
 #[test]
 fn sums(rt: HostRuntime) {

@@ -1,6 +1,4 @@
 // Two views of one volume whose trees share leaves, each leaf in a block of its own.
-use super::{Change, Changed, Changing};
-use crate::{KeptView, Leaf, LeafTaker};
 use blk_source::{BlockSource, MemSource};
 use bt_keys::FsPlainKey;
 use fs_name::Names;
@@ -9,6 +7,7 @@ use obj_base::{Site, Stop};
 use std::alloc::{AllocError, Global};
 use std::process::Abort;
 use std::test::Fail;
+use view_change::{Change, Changed, Changing, KeptView, Leaf, LeafTaker};
 use view_facts::Facts;
 
 const SITE: Site = Site {
@@ -49,15 +48,21 @@ const NEW_EIGHT: Leaf = Leaf { oid: 8, block: 3 };
 
 const NINE: Leaf = Leaf { oid: 9, block: 4 };
 
-// Block 0 has nothing; block 1 the leaf 7, blocks 2 and 3 two states of the leaf 8, and block 4 the leaf 9.
-fn source(rt: &impl Abort, alloc: Global) -> Result<MemSource, AllocError> {
+// The leaves: the id of each, and what it has for some ids. The leaf 8 has two states.
+const LEAVES: &[(u64, u64, &[u64])] = &[
+    (7, SIBLING_MAP, &[1, 2, 3]),
+    (8, SIBLING_MAP, &[4, 5]),
+    (8, SIBLING_MAP, &[4, 6]),
+    (9, INODE, &[9, 10]),
+];
+
+// Block 0 has nothing, and the blocks from 1 on the leaves.
+fn source(alloc: Global) -> Result<MemSource, AllocError> {
     let mut image = vec![in alloc; 0u8; 4096]?;
-    image.extend_from_slice(&leaf(alloc, 7, SIBLING_MAP, &[1, 2, 3])?)?;
-    image.extend_from_slice(&leaf(alloc, 8, SIBLING_MAP, &[4, 5])?)?;
-    image.extend_from_slice(&leaf(alloc, 8, SIBLING_MAP, &[4, 6])?)?;
-    image.extend_from_slice(&leaf(alloc, 9, INODE, &[9, 10])?)?;
+    for (oid, kind, ids) in LEAVES {
+        image.extend_from_slice(&leaf(alloc, *oid, *kind, ids)?)?;
+    }
     image.resize(20480, 0)?;
-    assert_eq!(rt; image.len(), 20480);
     Ok(MemSource::new(image, Vec::new(alloc)))
 }
 
@@ -161,7 +166,7 @@ const VIEWS: [View; 5] = [
 #[test]
 fn facts_of_leaves_that_both_views_have_are_the_same(rt: HostRuntime) -> Result<(), Fail> {
     let alloc = rt.alloc();
-    let mut source = source(&rt, alloc)?;
+    let mut source = source(alloc)?;
     let mut before = KeptView::none::<FsPlainKey>(alloc, Names::Exact);
     for view in &VIEWS {
         let changed = change(&rt, alloc, &mut source, before, view.leaves).unwrap_or(None);
@@ -179,7 +184,7 @@ fn facts_of_leaves_that_both_views_have_are_the_same(rt: HostRuntime) -> Result<
 #[test]
 fn a_leaf_out_of_place_is_not_taken(rt: HostRuntime) -> Result<(), Fail> {
     let alloc = rt.alloc();
-    let mut source = source(&rt, alloc)?;
+    let mut source = source(alloc)?;
     let none = KeptView::none::<FsPlainKey>(alloc, Names::Exact);
     let outside = Leaf { oid: 7, block: 5 };
     assert!(rt; matches!(change(&rt, alloc, &mut source, none, &[outside]), Ok(None)));

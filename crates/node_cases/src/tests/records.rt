@@ -2,13 +2,13 @@
 ghost use Rattle.std.specs.Prelude.{◌≡◌};
 ghost use Rattle.fs_name.specs.Normal.{are_hashed};
 
-use crate::{
-    AttrBody, DirEntry, FileExt, RecFault, StreamSize, attr, entry, file_ext, inode, refused,
-    sibling_link, sibling_map,
-};
 use bt_keys::{FsKey, FsPlainKey, FsTreeKey};
 use bt_node::Entry;
 use fs_name::Names;
+use fs_record::{
+    AttrBody, DirEntry, FileExt, RecFault, StreamSize, attr, entry, file_ext, inode, refused,
+    sibling_link, sibling_map,
+};
 use std::alloc::Global;
 use std::test::Fail;
 

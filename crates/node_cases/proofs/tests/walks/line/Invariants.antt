@@ -1,7 +1,7 @@
 use Rattle.std.proofs.Common.{◌≡◌, ◌≤◌, length}
-use Rattle.cursor_cases.specs.declared.tests.walks.TheConstants.{SITE}
+use Rattle.node_cases.specs.declared.tests.walks.TheConstants.{SITE}
 use Rattle.bt_cursor.specs.Liners.{site_of}
-use Rattle.cursor_cases.proofs.tests.walks.line.Given as goal
+use Rattle.node_cases.proofs.tests.walks.line.Given as goal
 
 abbrev pub invariant-walk : goal.invariant-walk
 invariant-walk g l = record {

@@ -1,5 +1,0 @@
-//! Walks through made trees. For tests alone.
-#![tactic(auto)]
-
-#[cfg(test)]
-mod tests;

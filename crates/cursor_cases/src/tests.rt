@@ -1,3 +1,0 @@
-// Walks through made trees.
-
-mod walks;

@@ -1,0 +1,8 @@
+// Objects, blocks that are kept, walks through made trees, records, and the leaves of trees.
+
+mod cache;
+mod changes;
+mod leaves;
+mod objects;
+mod records;
+mod walks;
