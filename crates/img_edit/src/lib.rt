@@ -14,6 +14,3 @@ pub use counts::{free, mark};
 pub use editing::{edit, reseal_block, write};
 pub use seal::reseal;
 pub use writer::{put_bytes, put_u16, put_u32, put_u64};
-
-#[cfg(test)]
-mod tests;

@@ -8,8 +8,6 @@ mod object;
 mod places;
 mod roots;
 mod spec;
-#[cfg(test)]
-mod tests;
 mod writing;
 
 pub use spec::Spec;

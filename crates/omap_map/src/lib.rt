@@ -7,8 +7,6 @@ mod namer;
 mod object;
 mod omap;
 mod records;
-#[cfg(test)]
-mod tests;
 mod trees;
 
 pub use fault::OmapFault;

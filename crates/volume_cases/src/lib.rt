@@ -1,4 +1,4 @@
-//! The volumes, streams and extent references of made containers, and small rings of checkpoints. For tests alone.
+//! The volumes, streams and extent references of made containers, small object maps, and small rings of checkpoints. For tests alone.
 #![tactic(auto)]
 
 #[cfg(test)]

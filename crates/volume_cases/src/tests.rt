@@ -1,5 +1,6 @@
-// Volumes of made containers, and rings of checkpoints.
+// Volumes of made containers, object maps, and rings of checkpoints.
 
+mod maps;
 mod ranges;
 mod ring;
 mod streams;

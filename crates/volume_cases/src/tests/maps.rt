@@ -2,12 +2,12 @@
 
 mod image;
 
-use crate::{At, Omap, OmapFault, OmapRecord, Place};
 use blk_source::MemSource;
 use bt_cursor::{Namer, WalkFault};
 use image::{Entry, Map, Node, map_image};
 use img_edit::node::Tree;
 use obj_base::{Feature, HeadFault, Site, Stop};
+use omap_map::{At, Omap, OmapFault, OmapRecord, Place};
 use std::alloc::Global;
 use std::process::Abort;
 use std::test::Fail;

@@ -8,7 +8,7 @@ use img_edit::{put_u32, put_u64, reseal};
 use std::alloc::{AllocError, Global};
 
 /// The fields of an object map that are read.
-#[derive(Clone, Copy, PartialEq, Eq, Debug)]
+#[derive(Clone, Copy)]
 pub struct Map {
     pub snap_count: u32,
     pub tree: u64,

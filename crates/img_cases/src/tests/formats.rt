@@ -1,6 +1,6 @@
 // What no clause says: that the calls succeed, and that a program that shares nothing with this one writes the same bytes.
-use crate::{FormatStop, Spec, format};
 use blk_source::{Bytes, MemSink};
+use img_format::{FormatStop, Spec, format};
 use std::alloc::Global;
 use std::test::Fail;
 

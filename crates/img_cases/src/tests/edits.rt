@@ -1,5 +1,5 @@
 // Edits of a small image, against sums that are worked out by hand.
-use crate::{edit, reseal, reseal_block, write};
+use img_edit::{edit, reseal, reseal_block, write};
 use obj_base::u64_at;
 use std::test::Fail;
 
