@@ -1,6 +1,6 @@
-use Rattle.std.proofs.Common.{refl, true, ◌≡◌, ◌++◌, ◌∙◌, ap, sym, subst}
+use Rattle.std.proofs.Common.{refl, true, ◌≡◌, ◌++◌, ◌∙◌, sym, subst}
 use Rattle.std.specs.Prelude.{None, IfSome, option_to_list}
-use Rattle.view_change.specs.Changing.{facts_before, held_after, HasSettledTo, HasDifference}
+use Rattle.view_change.specs.Changing.{facts_before, HasSettledTo, HasDifference}
 use Rattle.view_change.specs.Kept.{facts_of, IsHeld}
 use Rattle.view_change.proofs.Underway.{ends-so, ends-view, none-found}
 use Rattle.view_change.proofs.changing.Changing.finish.Goals as goal
