@@ -8,7 +8,7 @@ use rule_index::chain::Follows;
 use std::marker::Model;
 use std::mem::replace;
 
-/// The items that are left of the view before, and those of the view after. What both have waits where it stands until something else comes to the view after.
+/// The items that are left of the view before, and those of the view after. What both have waits where it stands until something is gone or has come.
 #[derive(Drop)]
 pub(crate) struct LazyRing<T: Drop, B: Follows<T>> {
     ring: Ring<T, B>,
