@@ -1,4 +1,4 @@
-//! Bytes, files, bits and names: what no clause says of them. For tests alone.
+//! Bytes, files, bits, names and lines of words: what no clause says of them. For tests alone.
 #![tactic(auto)]
 
 #[cfg(test)]

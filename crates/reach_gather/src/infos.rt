@@ -7,7 +7,7 @@ ghost use Rattle.reach_gather.specs.Infos.{room_of, known_cab, known_cib, known_
 ghost use Rattle.reach_gather.specs.Steps.{block_owner};
 
 use crate::Gathered;
-use apfs_layout::space_manager as layout;
+use apfs_layout::{chunk_info, space_manager as layout};
 use blk_source::NoMemory;
 use obj_base::u32_at;
 use reach_rules::{Expected, LookUp, Namer, Naming, Object, Owner, Who};
@@ -84,7 +84,7 @@ fn cib(space: &Space, oid: u64, i: u32) -> Naming
     let room = room(space);
     Naming {
         namer: Namer::Whole(Object::InBlock(item(space.cabs(), i / room))),
-        at: 40 + 8 * u64::from(i % room),
+        at: chunk_info::CAB_ADDRESSES as u64 + 8 * u64::from(i % room),
         expected: Expected::InfoBlock(u64::from(i)),
         how: LookUp::ByBlock,
         oid: block,

@@ -13,6 +13,7 @@ ghost use Rattle.reach_gather.specs.Adds.{Adds};
 
 use crate::Gathered;
 use crate::starting::jumpstart;
+use apfs_layout::container;
 use blk_source::BlockSource;
 use nx_ring::Checkpoint;
 use obj_base::Stop;
@@ -43,7 +44,7 @@ pub fn add_jumpstart<S: BlockSource>(
     }
     let naming = Naming {
         namer: Namer::Whole(Object::Newest),
-        at: 1272,
+        at: container::JUMPSTART as u64,
         expected: Expected::Jumpstart,
         how: LookUp::ByBlock,
         oid: block,

@@ -11,6 +11,7 @@ ghost use Rattle.reach_gather.specs.Chain.{reap_at};
 
 use crate::Gathered;
 use crate::reaper_lists::reap;
+use apfs_layout::{container, reaping};
 use blk_source::NoMemory;
 use nx_ring::Checkpoint;
 use obj_base::Stop;
@@ -25,7 +26,7 @@ fn link(ids: &[u64], i: usize) -> Naming
     if i == 0 {
         return Naming {
             namer: Namer::Whole(Object::Newest),
-            at: 168,
+            at: container::REAPER_OID as u64,
             expected: Expected::ReaperObject,
             how: LookUp::ByMapping,
             oid: ids[i],
@@ -33,7 +34,11 @@ fn link(ids: &[u64], i: usize) -> Naming
     }
     Naming {
         namer: Namer::Whole(Object::OfId(ids[i - 1])),
-        at: if i == 1 { 48 } else { 32 },
+        at: if i == 1 {
+            reaping::REAPER_HEAD as u64
+        } else {
+            reaping::LIST_NEXT as u64
+        },
         expected: Expected::ReapList,
         how: LookUp::ByMapping,
         oid: ids[i],

@@ -20,6 +20,7 @@ ghost use Rattle.reach_gather.specs.Views.{IsSuperPart, AreSuperParts, past_view
 
 use crate::Gathered;
 use crate::trees::add_extents;
+use apfs_layout::value;
 use blk_source::BlockSource;
 use nx_ring::Checkpoint;
 use obj_base::Stop;
@@ -49,7 +50,7 @@ fn add_kept_extents<S: BlockSource>(
     }
     let root = Naming {
         namer: Namer::Kept(view),
-        at: 0,
+        at: value::SNAPSHOT_EXTENTS as u64,
         expected: Expected::TreeRoot(TreeKind::ExtentRefs),
         how: LookUp::ByBlock,
         oid,
@@ -78,7 +79,7 @@ pub(crate) fn add_snapshot<S: BlockSource>(
 {
     let named = Naming {
         namer: Namer::Kept(view),
-        at: 8,
+        at: value::SNAPSHOT_SUPERBLOCK as u64,
         expected: Expected::SnapshotSuper(view),
         how: LookUp::ByBlock,
         oid: snapshot.super_block,

@@ -26,7 +26,7 @@ ghost use Rattle.reach_gather.specs.Pooled.{ArePooled};
 use crate::Gathered;
 use crate::infos::note_space;
 use crate::queues::{add_main_queue, add_pool_queue};
-use apfs_layout::space_manager as layout;
+use apfs_layout::{container, space_manager as layout};
 use blk_source::{BlockSource, NoMemory};
 use nx_ring::Checkpoint;
 use obj_base::{Stop, u64_at};
@@ -43,7 +43,7 @@ fn add_manager(cp: &Checkpoint, space: &Space, out: &mut Gathered) -> Result<(),
 {
     let manager = Naming {
         namer: Namer::Whole(Object::Newest),
-        at: 152,
+        at: container::SPACE_OID as u64,
         expected: Expected::SpaceManager,
         how: LookUp::ByMapping,
         oid: cp.nx().space_oid(),

@@ -27,6 +27,7 @@ use crate::Gathered;
 use crate::maps::add_map;
 use crate::snapshots::add_snapshots;
 use crate::trees::{add_extents, add_nodes};
+use apfs_layout::{container, volume as layout};
 use blk_source::{BlockSource, NoMemory};
 use nx_ring::Checkpoint;
 use obj_base::{Stop, Within};
@@ -57,7 +58,7 @@ fn add_live_extents<S: BlockSource>(
     }
     let root = Naming {
         namer,
-        at: 144,
+        at: layout::EXTENTS_ROOT as u64,
         expected: Expected::TreeRoot(TreeKind::ExtentRefs),
         how: LookUp::ByBlock,
         oid,
@@ -79,7 +80,7 @@ fn add_live_metadata(volume: &Volume, namer: Namer, out: &mut Gathered) -> Resul
     }
     let root = Naming {
         namer,
-        at: 152,
+        at: layout::SNAPS_ROOT as u64,
         expected: Expected::TreeRoot(TreeKind::SnapMetadata),
         how: LookUp::ByBlock,
         oid,
@@ -94,7 +95,7 @@ fn named(volume: &Volume) -> Naming
 {
     Naming {
         namer: Namer::Whole(Object::Newest),
-        at: 184 + 8 * u64::from(volume.head.slot),
+        at: container::FS_OID as u64 + 8 * u64::from(volume.head.slot),
         expected: Expected::VolumeIn(volume.head.slot),
         how: LookUp::InContainer,
         oid: volume.head.oid,
@@ -120,7 +121,7 @@ fn add_named<S: BlockSource>(
     let map = volume.omap.block();
     let naming = Naming {
         namer,
-        at: 128,
+        at: layout::OMAP_OID as u64,
         expected: Expected::VolumeMap,
         how: LookUp::ByBlock,
         oid: map,

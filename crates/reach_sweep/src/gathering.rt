@@ -26,6 +26,7 @@ ghost use Rattle.reach_sweep.specs.Views.{AreVolumes, volumes_views};
 ghost use Rattle.reach_sweep.specs.Composed.{IsStart};
 
 use crate::loading::load_map;
+use apfs_layout::container;
 use blk_source::{BlockSource, NoMemory as OutOfMemory};
 use nx_ring::Checkpoint;
 use obj_base::Stop;
@@ -104,7 +105,7 @@ fn add_container_map<S: BlockSource>(
     };
     let naming = Naming {
         namer: Namer::Whole(Object::Newest),
-        at: 160,
+        at: container::OMAP_OID as u64,
         expected: Expected::ContainerMap,
         how: LookUp::ByBlock,
         oid: cp.nx().omap_oid(),

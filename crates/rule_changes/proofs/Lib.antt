@@ -8,8 +8,4 @@ pub mod Streams
 pub mod Known
 pub mod Law
 pub mod Right
-pub mod Looks
-pub mod Among
-pub mod Appended
-pub mod Tested
 pub mod Examples

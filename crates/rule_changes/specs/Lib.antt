@@ -1,6 +1,3 @@
 pub mod Changes
 pub mod Laws
 pub mod Known
-pub mod Lookups
-pub mod Parts
-pub mod Fellows

@@ -1,22 +1,8 @@
-//! Why a view has its rules if it differs by a plain change from one that has them, and whether a change is plain.
+//! Why a view has its rules if it differs by a plain change from one that has them.
 #![tactic(auto)]
-
-mod entries;
-mod extents;
-mod found;
-mod lookups;
-mod plain;
-mod removed;
-mod repeats;
-mod shared;
-mod siblings;
-mod touched;
-mod ways;
 
 ghost use Rattle.rule_changes.specs.Laws.{ChangeKeepsRules, PlainIfRight};
 ghost use Rattle.rule_changes.specs.Known.{RecordsWeave, CountsFollow, InodesKnown, ChildrenKnown, NamedOnce, NamedStill, AlikeByHash, FellowsAlone, DistinctIds, ChildrenStep, LinksKnown, NoNameless, NoOddHashes};
-
-pub use plain::{is_plain, is_silent};
 
 /// A plain change keeps the rules on the facts of a view, and nearly each change between views with their rules is plain. It does nothing.
 pub fn change_keeps_rules()

@@ -12,7 +12,7 @@ use ext_ref::{Cover, NewRange};
 use img_make::table;
 use obj_base::Site;
 use rule_breaks::faults::Asked;
-use rule_changes::{is_plain, is_silent};
+use plain_change::{is_plain, is_silent};
 use rule_index::Index;
 use rule_index::chain::are_in_order;
 use std::alloc::{AllocError, Global};

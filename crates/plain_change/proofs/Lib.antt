@@ -1,0 +1,4 @@
+mod Looks
+mod Among
+mod Appended
+mod Tested

@@ -1,0 +1,16 @@
+use Rattle.std.proofs.Common.{ℕ, sym, ◌∙◌}
+use Rattle.apfs_model.proofs.BoolTests.{not-true}
+use Rattle.rule_changes.specs.Changes.{is_stripped}
+use Rattle.plain_change.specs.Lookups.{breaks_at}
+use Rattle.plain_change.proofs.Looks.{where-clear}
+use Rattle.plain_change.proofs.Tested.{stripped-clear}
+use Rattle.plain_change.proofs.touched.do_stripped_keep.Goals as goal
+
+pub returns-then-not-is_come_broken : goal.returns-then-not-is_come_broken
+returns-then-not-is_come_broken g c holds distinct =
+    let after = c.args.after.now.index.now.facts.now in
+    let gone = c.args.gone.now in
+    let come = c.args.come.now in
+    let breaks = g.R.InodeRule.breaks after in
+    where-clear after distinct (is_stripped gone come) breaks
+    (stripped-clear gone come (λ (id : ℕ). breaks_at breaks after id) (sym c.is_come_broken.ensures ∙ c.if-not-is_come_broken.true) (sym c.is_owner_broken.ensures ∙ not-true c.is_owner_broken.result holds))

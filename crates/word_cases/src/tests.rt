@@ -1,3 +1,0 @@
-// Lines of words.
-
-mod lines;
