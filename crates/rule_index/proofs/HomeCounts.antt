@@ -135,9 +135,10 @@ homes-skipped kins entries e homes out had =
     record {
       long = had.long;
       none = λ file at is told. count-skip (names_file file) entries e (unnamed file) ∙ had.none file at is told;
-      one = λ file at is told.
-          (count-skip (names_file file) entries e (unnamed file) ∙ (had.one file at is told).0,
-          count-skip (is_home file (parent_at kins at)) entries e (home-false e file (parent_at kins at) (unnamed file)) ∙ (had.one file at is told).1);
+      one = λ file at is told. (
+        count-skip (names_file file) entries e (unnamed file) ∙ (had.one file at is told).0,
+        count-skip (is_home file (parent_at kins at)) entries e (home-false e file (parent_at kins at) (unnamed file)) ∙ (had.one file at is told).1,
+      );
       listed = λ test.
           had.listed test
           ∙ sym (count-skip (λ (e : Fact Entry). is_listed kins homes.0 e && test (pair_of e)) entries e (ap (λ b. (b && are_listed kins homes.0 e.what.file_id) && test (pair_of e)) out));
@@ -152,9 +153,10 @@ homes-pushed kins entries e places pairs counts listed had =
     record {
       long = had.long;
       none = λ file at is told. count-skip (names_file file) entries e (unnamed file at is (ap is_in_pairs told)) ∙ had.none file at is told;
-      one = λ file at is told.
-          (count-skip (names_file file) entries e (unnamed file at is (ap is_in_pairs told)) ∙ (had.one file at is told).0,
-          count-skip (is_home file (parent_at kins at)) entries e (home-false e file (parent_at kins at) (unnamed file at is (ap is_in_pairs told))) ∙ (had.one file at is told).1);
+      one = λ file at is told. (
+        count-skip (names_file file) entries e (unnamed file at is (ap is_in_pairs told)) ∙ (had.one file at is told).0,
+        count-skip (is_home file (parent_at kins at)) entries e (home-false e file (parent_at kins at) (unnamed file at is (ap is_in_pairs told))) ∙ (had.one file at is told).1,
+      );
       listed = λ test.
           let pairs-more = count-push test pairs (pair_of e) in
           let entries-more = count-push (λ (e : Fact Entry). is_listed kins places e && test (pair_of e)) entries e in
@@ -191,9 +193,10 @@ homes-first kins entries e places pairs at counts is empty parent had =
                 let here = count-more (is_home file (parent_at kins k)) entries e home in
                 (omega (arith, all, before), omega (arith, here, few, before))
             | inr other ↦
-                let had-one = had.one file k there (sym (other-told k other) ∙ told) in
-                (count-skip (names_file file) entries e (unnamed file k there other) ∙ had-one.0,
-                count-skip (is_home file (parent_at kins k)) entries e (home-false e file (parent_at kins k) (unnamed file k there other)) ∙ had-one.1)
+                let had-one = had.one file k there (sym (other-told k other) ∙ told) in (
+                  count-skip (names_file file) entries e (unnamed file k there other) ∙ had-one.0,
+                  count-skip (is_home file (parent_at kins k)) entries e (home-false e file (parent_at kins k) (unnamed file k there other)) ∙ had-one.1,
+                )
           ];
       listed = λ test.
           had.listed test
