@@ -128,22 +128,6 @@ apart-from kins places file other at is out listed =
     let there : are_listed kins places other ≡ is_in_pairs (get_or places at Nowhere) = ap (are_listed_at places) (ap (kin_place kins) (equal-from other file h) ∙ sym is) in
     clash (are_listed kins places other) listed (there ∙ out))
 
--- an entry that doesn't count changes nothing
-pub homes-skipped : (kins : List (ℕ × Kin)) (entries : List (Fact Entry)) (e : Fact Entry) (homes : List Told × List (ℕ × ℕ)) → does_count e ≡ false → HasHomes kins entries homes → HasHomes kins (entries ++ e ∷ []) homes
-homes-skipped kins entries e homes out had =
-    let unnamed : (file : ℕ) → names_file file e ≡ false = λ file. ap (λ b. b && (e.what.file_id == file)) out in
-    record {
-      long = had.long;
-      none = λ file at is told. count-skip (names_file file) entries e (unnamed file) ∙ had.none file at is told;
-      one = λ file at is told. (
-        count-skip (names_file file) entries e (unnamed file) ∙ (had.one file at is told).0,
-        count-skip (is_home file (parent_at kins at)) entries e (home-false e file (parent_at kins at) (unnamed file)) ∙ (had.one file at is told).1,
-      );
-      listed = λ test.
-          had.listed test
-          ∙ sym (count-skip (λ (e : Fact Entry). is_listed kins homes.0 e && test (pair_of e)) entries e (ap (λ b. (b && are_listed kins homes.0 e.what.file_id) && test (pair_of e)) out));
-    }
-
 -- one more entry of a file whose entries are among the pairs
 pub homes-pushed : (kins : List (ℕ × Kin)) (entries : List (Fact Entry)) (e : Fact Entry) (places : List Told) (pairs : List (ℕ × ℕ)) → does_count e ≡ true → are_listed kins places e.what.file_id ≡ true
     → HasHomes kins entries (places, pairs) → HasHomes kins (entries ++ e ∷ []) (places, pairs ++ pair_of e ∷ [])

@@ -1,12 +1,11 @@
 -- The kind of each inode.
-use Rattle.std.proofs.Common.{◌≡◌, ℕ, ◌+◌, ◌<◌, Bool, true, false, cond, List, [], ◌∷◌, length, get_or, Option, Some, None, refl, ap, sym, ◌∙◌, arith}
+use Rattle.std.proofs.Common.{◌≡◌, ℕ, ◌+◌, Bool, true, false, cond, List, [], ◌∷◌, length, get_or, Option, Some, None, refl, ap, sym, ◌∙◌, arith}
 use Rattle.std.specs.Prelude.{option_map, ◌==◌, not, map, nat_lt}
 use Rattle.std.specs.List.{find, position, position_or_len}
-use Rattle.std.proofs.lemmas.List.{get_or-map}
 use Rattle.apfs_model.specs.Lists.{passes}
 use Rattle.fs_record.specs.Inodes.{Inode, inode_kind}
 use Rattle.fs_record.specs.Facts.{Fact}
-use Rattle.rule_index.specs.Kins.{kin_of, with_id, kin_in, kin_place, parent_at, has_kind, HasKins}
+use Rattle.rule_index.specs.Kins.{kin_of, with_id, kin_in, kin_place, has_kind, HasKins}
 use Rattle.rule_index.specs.declared.kin.Kin.{Kin}
 use Rattle.id_lists.proofs.InOrder.{found-there, found-nowhere}
 
@@ -53,10 +52,6 @@ kin-nowhere inodes q e =
 -- the inode at the place of an id tells its kind
 pub kind-at : (inodes : List (Fact Inode)) (q at kind : ℕ) (d : Fact Inode) → Some at ≡ kin_place (map with_id inodes) q → (inode_kind (get_or inodes at d).what == kind) ≡ has_kind (map with_id inodes) q kind
 kind-at inodes q at kind d e = sym (ap (λ (o : Option Kin). passes o (λ (k : Kin). k.kind == kind)) (kin-there inodes q at d (e ∙ place-with q inodes)))
-
--- and its parent
-pub parent-there : (inodes : List (Fact Inode)) (at : ℕ) (d : Fact Inode) → at < length inodes → (get_or inodes at d).what.parent ≡ parent_at (map with_id inodes) at
-parent-there inodes at d low = ap (λ (k : ℕ × Kin). k.1.parent) (sym (get_or-map with_id inodes at d (0, record { kind = 0; parent = 0 }) low))
 
 -- whether there is a kind, and it is another
 pub kind_passes : (o : Option Inode) (kind : ℕ) → passes (option_map inode_kind o) (λ k. not (k == kind)) ≡ passes o (λ (x : Inode). not (inode_kind x == kind))

@@ -54,7 +54,10 @@ impl Short {
     }
 }
 
-/// A name, and a sibling's id that is too great for the room beside it.
+/// The least id of a sibling that has no room beside the name: one of 49 bits.
+const FAR_ID: u64 = 1 << 48;
+
+/// A name, and a sibling's id that has no room beside it.
 #[derive(Debug, Drop)]
 pub(crate) struct FarTwin {
     name: String,
@@ -62,12 +65,16 @@ pub(crate) struct FarTwin {
 }
 
 /// A name that is kept: in place where it is short, and on the heap where it is long, or where its entry has a sibling's id, as few have. Each takes 32 bytes,
-/// since small fields lie beside the tag: the id of a sibling too, where it is below 2^32.
+/// since small fields lie beside the tag: the two parts of a sibling's id too, where it has no more than 48 bits.
 #[derive(Debug, Drop)]
 pub(crate) enum Text {
     Short(Short),
     Long(String),
-    Twin { sibling: u32, name: String },
+    Twin {
+        upper: u16,
+        lower: u32,
+        name: String,
+    },
     FarTwin(Box<FarTwin>),
 }
 
@@ -97,10 +104,14 @@ impl Text {
         ensures sibling { IfOk result (λ text. sibling_of text ≡ Some sibling) }
     {
         let name = copied(alloc, name)?;
-        match u32::try_from(sibling) {
-            Ok(sibling) => Ok(Text::Twin { sibling, name }),
-            Err(_) => Ok(Text::FarTwin(Box::new(alloc, FarTwin { name, sibling })?)),
+        if sibling >= FAR_ID {
+            return Ok(Text::FarTwin(Box::new(alloc, FarTwin { name, sibling })?));
         }
+        Ok(Text::Twin {
+            upper: (sibling / (1 << 32)) as u16,
+            lower: (sibling % (1 << 32)) as u32,
+            name,
+        })
     }
 
     /// A copy of the name of an entry, with the sibling's id that it has or hasn't.
@@ -121,7 +132,11 @@ impl Text {
         match self {
             Text::Short(short) => short.as_str(),
             Text::Long(long) => long.as_str(),
-            Text::Twin { sibling: _, name } => name.as_str(),
+            Text::Twin {
+                upper: _,
+                lower: _,
+                name,
+            } => name.as_str(),
             Text::FarTwin(twin) => twin.name.as_str(),
         }
     }
@@ -133,7 +148,11 @@ impl Text {
         match self {
             Text::Short(_) => None,
             Text::Long(_) => None,
-            Text::Twin { sibling, name: _ } => Some(u64::from(*sibling)),
+            Text::Twin {
+                upper,
+                lower,
+                name: _,
+            } => Some(u64::from(*upper) * (1 << 32) + u64::from(*lower)),
             Text::FarTwin(twin) => Some(twin.sibling),
         }
     }
