@@ -1,11 +1,13 @@
 -- The directories of each file's entries.
-use Rattle.std.specs.Prelude.{◌≡◌, ◌≢◌, ℕ, ◌+◌, ◌<◌, Bool, ◌==◌, ◌&&◌, not, List, length, slice_index_or, count_by, Option, Some, is_none, MatchOption}
+use Rattle.std.specs.Prelude.{◌≡◌, ◌≢◌, ℕ, ◌<◌, Bool, true, false, ◌==◌, ◌&&◌, not, List, length, slice_index_or, count_by, Option, None, Some, MatchOption}
 use Rattle.fs_record.specs.Entries.{Entry}
 use Rattle.fs_record.specs.Facts.{Fact, directory_kind}
 use Rattle.view_rules.specs.Facts.{does_count, names_file}
-use Rattle.rule_index.specs.Kins.{kin_place, has_kind}
+use Rattle.rule_index.specs.Kins.{kin_place, parent_at, has_kind}
 use Rattle.rule_index.specs.declared.kin.Kin.{Kin}
 use Rattle.rule_index.specs.declared.homes.Home.{Home}
+use Rattle.rule_index.specs.declared.homes.Told.{Told}
+use Rattle.rule_index.specs.declared.homes.Told.TheVariants.{Nowhere, ByParent, InPairs}
 
 -- a pair is of a file
 abbrev pub is_file : ℕ → ℕ × ℕ → Bool
@@ -27,21 +29,28 @@ is_named file e = e.what.file_id == file
 abbrev pub is_home : ℕ → ℕ → Fact Entry → Bool
 is_home file directory e = names_file file e && (e.id == directory)
 
--- an entry counts, and its file has no inode
-abbrev pub is_homeless : List (ℕ × Kin) → Fact Entry → Bool
-is_homeless kins e = does_count e && is_none (kin_place kins e.what.file_id)
+-- entries are told among the pairs
+abbrev pub is_in_pairs : Told → Bool
+is_in_pairs Nowhere = false
+is_in_pairs ByParent = false
+is_in_pairs InPairs = true
+
+-- the entries of the file of an inode at a place are among the pairs, and so are those of one without an inode
+abbrev pub are_listed_at : List Told → Option ℕ → Bool
+are_listed_at places None = true
+are_listed_at places (Some at) = is_in_pairs (slice_index_or places at Nowhere)
+
+-- the entries of a file are among the pairs
+abbrev pub are_listed : List (ℕ × Kin) → List Told → ℕ → Bool
+are_listed kins places file = are_listed_at places (kin_place kins file)
+
+-- an entry counts, and those of its file are among the pairs
+abbrev pub is_listed : List (ℕ × Kin) → List Told → Fact Entry → Bool
+is_listed kins places e = does_count e && are_listed kins places e.what.file_id
 
 -- an entry that counts lacks its directory, or its file with its kind, by the kinds of inodes
 abbrev pub is_astray : List (ℕ × Kin) → Fact Entry → Bool
 is_astray kins e = does_count e && not (has_kind kins e.id directory_kind && has_kind kins e.what.file_id e.what.kind)
-
--- the home of a file that has no entry
-abbrev pub no_home : Home
-no_home = record { entries = 0; directory = 0 }
-
--- a home after one more entry, which stands in a directory
-abbrev pub one_more : Home → ℕ → Home
-one_more home directory = record { entries = home.entries + 1; directory = directory }
 
 -- a home tells how many pairs are of a file, and the directory of one of them
 abbrev pub IsHomeIn : List (ℕ × ℕ) → ℕ → Home → Type 0
@@ -56,8 +65,9 @@ abbrev pub IsOnlyHome : List (Fact Entry) → ℕ → Option ℕ → Type 0
 IsOnlyHome entries file answer =
     MatchOption answer (count_by (names_file file) entries ≢ 1) (λ directory. (count_by (names_file file) entries ≡ 1) × (count_by (is_home file directory) entries ≡ 1))
 
--- at the place of each inode stands its file's home, and pairs have the file and the directory of each entry that counts and whose file has no inode
-pub record HasHomes (kins : List (ℕ × Kin)) (entries : List (Fact Entry)) (homes : List Home × List (ℕ × ℕ)) : Type 0 where
+-- at the place of each inode stands where its file's entries are told, and pairs have the file and the directory of each entry that is told among them
+pub record HasHomes (kins : List (ℕ × Kin)) (entries : List (Fact Entry)) (homes : List Told × List (ℕ × ℕ)) : Type 0 where
   pub long : length homes.0 ≡ length kins
-  pub placed : (file at : ℕ) → Some at ≡ kin_place kins file → IsHomeOf entries file (slice_index_or homes.0 at no_home)
-  pub others : (test : ℕ × ℕ → Bool) → count_by test homes.1 ≡ count_by (λ (e : Fact Entry). is_homeless kins e && test (pair_of e)) entries
+  pub none : (file at : ℕ) → Some at ≡ kin_place kins file → slice_index_or homes.0 at Nowhere ≡ Nowhere → count_by (names_file file) entries ≡ 0
+  pub one : (file at : ℕ) → Some at ≡ kin_place kins file → slice_index_or homes.0 at Nowhere ≡ ByParent → (count_by (names_file file) entries ≡ 1) × (count_by (is_home file (parent_at kins at)) entries ≡ 1)
+  pub listed : (test : ℕ × ℕ → Bool) → count_by test homes.1 ≡ count_by (λ (e : Fact Entry). is_listed kins homes.0 e && test (pair_of e)) entries

@@ -1,14 +1,14 @@
--- The kind of each inode.
-use Rattle.std.specs.Prelude.{◌≡◌, ℕ, Bool, List, ◌==◌, Option, option_map}
+-- The kind of each inode, and the directory that it names as its parent.
+use Rattle.std.specs.Prelude.{◌≡◌, ℕ, Bool, List, ◌==◌, Option, option_map, slice_index_or}
 use Rattle.std.specs.List.{find, position}
 use Rattle.apfs_model.specs.Lists.{passes}
 use Rattle.fs_record.specs.Inodes.{Inode, inode_kind}
 use Rattle.fs_record.specs.Facts.{Fact, first_for}
 use Rattle.rule_index.specs.declared.kin.Kin.{Kin}
 
--- the kind of an inode
+-- the kind of an inode, and the directory that it names as its parent
 abbrev pub kin_of : Inode → Kin
-kin_of inode = record { kind = inode_kind inode }
+kin_of inode = record { kind = inode_kind inode; parent = inode.parent }
 
 -- those of an inode, after its id
 abbrev pub with_id : Fact Inode → ℕ × Kin
@@ -21,6 +21,10 @@ kin_in kins q = option_map (λ (k : ℕ × Kin). k.1) (find (λ (k : ℕ × Kin)
 -- the place of those of an id in a list, the first where there are more
 abbrev pub kin_place : List (ℕ × Kin) → ℕ → Option ℕ
 kin_place kins q = position (λ (k : ℕ × Kin). k.0 == q) kins
+
+-- the directory that the inode at a place in a list names as its parent
+abbrev pub parent_at : List (ℕ × Kin) → ℕ → ℕ
+parent_at kins at = (slice_index_or kins at (0, record { kind = 0; parent = 0 })).1.parent
 
 -- a list has an inode of an id that is of a kind
 abbrev pub has_kind : List (ℕ × Kin) → ℕ → ℕ → Bool

@@ -96,7 +96,7 @@ impl<'a> Counted<'a> {
         self.whole
     }
 
-    /// Whether it shows at once that no file has two entries: each that has one has an inode.
+    /// Whether it shows at once that no file has two entries: each that has one has an inode, and one alone in the inode's parent.
     pub(crate) fn has_single_entries(&self) -> bool
         ensures { result ≡ true → (id : ℕ) → spec.entry_count self.now.facts.now id ≤ 1 }
     {

@@ -1,12 +1,12 @@
 // The directories of each file's entries.
-ghost use Rattle.std.specs.Prelude.{◌≡◌, ◌<◌, ◌≤◌, ◌+◌, ◌-◌, ◌^◌, ◌++◌, ◌∷◌, [], ◌&&◌, not, ℕ, List, Some, true, false, length, replicate, slice_index_or, slice_set, count_by, IfOk, OnOk};
+ghost use Rattle.std.specs.Prelude.{◌≡◌, ◌<◌, ◌≤◌, ◌++◌, ◌∷◌, [], ◌&&◌, not, ℕ, List, Some, true, length, replicate, slice_index_or, count_by, IfOk, OnOk};
 ghost use Rattle.std.specs.List.{list_any};
 ghost use Rattle.fs_record.specs.Entries.{Entry};
 ghost use Rattle.fs_record.specs.Facts.{Fact, directory_kind};
-ghost use Rattle.view_rules.specs.Facts.{names_file};
+ghost use Rattle.view_rules.specs.Facts.{does_count, names_file};
 ghost use Rattle.rule_index.specs.declared.kin.Kin.{Kin};
-ghost use Rattle.rule_index.specs.Kins.{kin_place, has_kind};
-ghost use Rattle.rule_index.specs.Homes.{pair_of, no_home, one_more, is_astray, IsHomeOf, IsOnlyHome, HasHomes};
+ghost use Rattle.rule_index.specs.Kins.{kin_place, parent_at, has_kind};
+ghost use Rattle.rule_index.specs.Homes.{pair_of, are_listed, is_astray, IsHomeOf, IsOnlyHome, HasHomes};
 
 use crate::ids::does_count;
 use crate::kin::Kins;
@@ -23,41 +23,39 @@ pub(crate) struct Home {
     pub(crate) directory: u64,
 }
 
-/// The home of each inode's file, at the place of the inode, and the file and the directory of each entry that counts and whose file has no inode.
+/// Where the entries that count of an inode's file are told.
+#[derive(Clone, Copy, PartialEq, Eq, Debug)]
+pub(crate) enum Told {
+    // It has none.
+    Nowhere,
+    // It has one alone, in the directory that the inode names as its parent.
+    ByParent,
+    // They stand among the pairs.
+    InPairs,
+}
+
+/// At the place of each inode where the entries of its file are told, in a byte, and pairs of the file and the directory of each entry that counts and isn't told
+/// by its inode's parent: of files without an inode, and of those that have another entry than the one in the parent.
 #[derive(Drop)]
 pub(crate) struct Homes {
-    places: Vec<Home>,
-    others: Pairs,
+    places: Vec<Told>,
+    pairs: Pairs,
 }
 
 impl Model for Homes {
     ghost use Rattle.std.specs.Prelude.{List, ℕ};
-    ghost use Rattle.rule_index.specs.declared.homes.Home.{Home};
+    ghost use Rattle.rule_index.specs.declared.homes.Told.{Told};
 
-    ghost Value = { List Home × List (ℕ × ℕ) };
+    ghost Value = { List Told × List (ℕ × ℕ) };
 
-    ghost view = { λ homes. (homes.places.items, homes.others) };
+    ghost view = { λ homes. (homes.places.items, homes.pairs) };
 }
 
 // For each of some inodes, that its file has no entry.
-fn none_yet(alloc: Global, inodes: usize) -> Result<Vec<Home>, NoMemory>
-    ensures { IfOk result (λ places. places.items ≡ replicate inodes no_home) }
+fn none_yet(alloc: Global, inodes: usize) -> Result<Vec<Told>, NoMemory>
+    ensures { IfOk result (λ places. places.items ≡ replicate inodes Told.Nowhere) }
 {
-    let nothing = Home {
-        entries: 0,
-        directory: 0,
-    };
-    Ok(vec![in alloc; nothing; inodes]?)
-}
-
-// Counts one more entry at a place, which stands in a directory.
-fn count_at(places: &mut [Home], at: usize, directory: u64)
-    requires within { at < length places.old }
-    requires few { (slice_index_or places.old at no_home).entries < 2 ^ 64 - 1 }
-    ensures { places.new ≡ slice_set places.old at (one_more (slice_index_or places.old at no_home) directory) }
-{
-    let entries = places[at].entries + 1;
-    places[at] = Home { entries, directory };
+    Ok(vec![in alloc; Told::Nowhere; inodes]?)
 }
 
 /// The file and the directory of an entry.
@@ -96,30 +94,89 @@ fn has_both(kins: &Kins<'_>, at: usize, directory: bool, e: &EntryFact) -> bool
     directory && kins.has_kind_at(at, e.kind())
 }
 
-// Adds one more entry, of which it is known whether it has its directory: at the place of its file's inode, or to the others. Tells whether it is whole: it
-// doesn't count, or it has its directory, and its file with its kind.
+// Has the entries of a file, whose inode stands at a place, among the pairs from now on.
+fn list(
+    places: &mut [Told],
+    pairs: &mut Vec<(u64, u64)>,
+    kins: &Kins<'_>,
+    at: usize,
+    file: u64,
+) -> Result<(), NoMemory>
+    requires place { Some at ≡ kin_place kins.now file }
+    requires long { length places.old ≡ length kins.now }
+    ensures same { OnOk result ((entries : List (Fact Entry)) → HasHomes kins.now entries (places.old, pairs.old.items) → HasHomes kins.now entries (places.new, pairs.new.items)) }
+    ensures listed { OnOk result (are_listed kins.now places.new file ≡ true) }
+{
+    match places[at] {
+        Told::Nowhere => {
+            places[at] = Told::InPairs;
+        }
+        Told::ByParent => {
+            places[at] = Told::InPairs;
+            pairs.push((file, kins.parent_at(at)))?;
+        }
+        Told::InPairs => {}
+    }
+    Ok(())
+}
+
+// Whether an entry is the first one of its file, whose inode stands at a place, and stands in the directory that the inode names.
+fn is_first_in_parent(places: &[Told], kins: &Kins<'_>, at: usize, e: &EntryFact) -> bool
+    requires within { at < length kins.now }
+    requires long { length places.now ≡ length kins.now }
+    ensures { result ≡ true → (slice_index_or places.now at Told.Nowhere ≡ Told.Nowhere) × (e.now.id ≡ parent_at kins.now at) }
+{
+    match places[at] {
+        Told::Nowhere => e.id() == kins.parent_at(at),
+        Told::ByParent => false,
+        Told::InPairs => false,
+    }
+}
+
+// Adds one more entry that counts, of a file whose inode stands at a place.
+fn add_at(
+    places: &mut [Told],
+    pairs: &mut Vec<(u64, u64)>,
+    kins: &Kins<'_>,
+    at: usize,
+    e: &EntryFact,
+) -> Result<(), NoMemory>
+    requires counts { does_count e.now ≡ true }
+    requires place { Some at ≡ kin_place kins.now e.now.what.file_id }
+    requires long { length places.old ≡ length kins.now }
+    ensures { OnOk result ((entries : List (Fact Entry)) → HasHomes kins.now entries (places.old, pairs.old.items) → HasHomes kins.now (entries ++ e.now ∷ []) (places.new, pairs.new.items)) }
+{
+    if is_first_in_parent(places, kins, at, e) {
+        places[at] = Told::ByParent;
+        return Ok(());
+    }
+    list(places, pairs, kins, at, e.file_id())?;
+    pairs.push(pair_of(e))?;
+    Ok(())
+}
+
+// Adds one more entry, of which it is known whether it has its directory. Tells whether it is whole: it doesn't count, or it has its directory, and its file
+// with its kind.
 fn add(
-    places: &mut [Home],
-    others: &mut Vec<(u64, u64)>,
+    places: &mut [Told],
+    pairs: &mut Vec<(u64, u64)>,
     kins: &Kins<'_>,
     directory: bool,
     e: &EntryFact,
 ) -> Result<bool, NoMemory>
     requires directory { directory ≡ has_kind kins.now e.now.id directory_kind }
     requires long { length places.old ≡ length kins.now }
-    requires few { (at : ℕ) → Some at ≡ kin_place kins.now e.now.what.file_id → (slice_index_or places.old at no_home).entries < 2 ^ 64 - 1 }
-    ensures homes { OnOk result ((entries : List (Fact Entry)) → HasHomes kins.now entries (places.old, others.old.items) → HasHomes kins.now (entries ++ e.now ∷ []) (places.new, others.new.items)) }
+    ensures homes { OnOk result ((entries : List (Fact Entry)) → HasHomes kins.now entries (places.old, pairs.old.items) → HasHomes kins.now (entries ++ e.now ∷ []) (places.new, pairs.new.items)) }
     ensures whole { IfOk result (λ whole. whole ≡ not (is_astray kins.now e.now)) }
 {
     if !does_count(e) {
         return Ok(true);
     }
-    let pair = pair_of(e);
-    if let Some(at) = kins.place(pair.0) {
-        count_at(places, at, pair.1);
+    if let Some(at) = kins.place(e.file_id()) {
+        add_at(places, pairs, kins, at, e)?;
         return Ok(has_both(kins, at, directory, e));
     }
-    others.push(pair)?;
+    pairs.push(pair_of(e))?;
     Ok(false)
 }
 
@@ -128,18 +185,6 @@ fn are_still_whole(whole: bool, fits: bool) -> bool
     ensures { result ≡ (whole && fits) }
 {
     whole && fits
-}
-
-// Whether no place has two entries.
-fn are_single(places: &[Home]) -> bool
-    ensures { result ≡ true → (at : ℕ) → at < length places.now → (slice_index_or places.now at no_home).entries ≤ 1 }
-{
-    for home in places {
-        if home.entries > 1 {
-            return false;
-        }
-    }
-    true
 }
 
 impl Homes {
@@ -154,7 +199,7 @@ impl Homes {
         ensures whole { IfOk result (λ made. made.1 ≡ not (list_any (is_astray kins.now) entries.now)) }
     {
         let mut places = none_yet(alloc, kins.len())?;
-        let mut pairs = Vec::new(alloc);
+        let mut listed = Vec::new(alloc);
         let mut whole = true;
         let mut seen = Seen {
             id: 0,
@@ -162,21 +207,18 @@ impl Homes {
         };
         for e in entries {
             seen = seen_of(kins, seen, e.id());
-            let fits = add(&mut places, &mut pairs, kins, seen.directory, e)?;
+            let fits = add(&mut places, &mut listed, kins, seen.directory, e)?;
             whole = are_still_whole(whole, fits);
         }
-        let others = Pairs::of(alloc, pairs)?;
-        Ok((Homes { places, others }, whole))
+        let pairs = Pairs::of(alloc, listed)?;
+        Ok((Homes { places, pairs }, whole))
     }
 
-    /// Whether it shows at once that no file has two entries: each that has one has an inode.
+    /// Whether it shows at once that no file has two entries: each that has one has an inode, and one alone in the inode's parent.
     pub(crate) fn are_single(&self) -> bool
         ensures { result ≡ true → (kins : List (ℕ × Kin)) (entries : List (Fact Entry)) → HasHomes kins entries self.now → (file : ℕ) → count_by (names_file file) entries ≤ 1 }
     {
-        if !self.others.is_empty() {
-            return false;
-        }
-        are_single(&self.places)
+        self.pairs.is_empty()
     }
 
     // The entries of a file: how many, and the directory of one of them.
@@ -184,9 +226,19 @@ impl Homes {
         requires { length self.now.0 ≡ length kins.now }
         ensures { (entries : List (Fact Entry)) → HasHomes kins.now entries self.now → IsHomeOf entries file result }
     {
-        match kins.place(file) {
-            Some(at) => self.places[at],
-            None => self.others.home(file),
+        let Some(at) = kins.place(file) else {
+            return self.pairs.home(file);
+        };
+        match self.places[at] {
+            Told::Nowhere => Home {
+                entries: 0,
+                directory: 0,
+            },
+            Told::ByParent => Home {
+                entries: 1,
+                directory: kins.parent_at(at),
+            },
+            Told::InPairs => self.pairs.home(file),
         }
     }
 

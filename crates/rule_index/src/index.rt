@@ -120,7 +120,7 @@ impl<'a> Index<'a> {
         }
     }
 
-    /// Whether it shows at once that no file has two entries: each that has one has an inode.
+    /// Whether it shows at once that no file has two entries: each that has one has an inode, and one alone in the inode's parent.
     pub fn has_single_entries(&self) -> bool
         ensures { result ≡ true → (id : ℕ) → spec.entry_count self.now.facts.now id ≤ 1 }
     {

@@ -1,6 +1,6 @@
-// The kind of each inode.
+// The kind of each inode, and the directory that it names as its parent.
 ghost use Rattle.std.specs.Prelude.{◌≡◌, ◌<◌, ℕ, Some, length, IfOk};
-ghost use Rattle.rule_index.specs.Kins.{kin_in, kin_place, has_kind, HasKins};
+ghost use Rattle.rule_index.specs.Kins.{kin_in, kin_place, parent_at, has_kind, HasKins};
 
 use blk_source::NoMemory;
 use id_lists::{IdSlice, OrderBy};
@@ -8,10 +8,11 @@ use std::alloc::Global;
 use std::marker::Model;
 use view_facts::InodeFact;
 
-/// The kind of an inode.
+/// The kind of an inode, and the directory that it names as its parent.
 #[derive(Clone, Copy, PartialEq, Eq, Debug)]
 pub(crate) struct Kin {
     pub(crate) kind: u16,
+    pub(crate) parent: u64,
 }
 
 /// By the id of the inode.
@@ -75,8 +76,11 @@ impl<'a> Kins<'a> {
         let Some(at) = self.inodes.place(id) else {
             return None;
         };
-        let kind = self.inodes.as_slice()[at].kind();
-        Some(Kin { kind })
+        let inode = &self.inodes.as_slice()[at];
+        Some(Kin {
+            kind: inode.kind(),
+            parent: inode.parent(),
+        })
     }
 
     /// Whether the inode at the place of an id is of a kind.
@@ -85,6 +89,14 @@ impl<'a> Kins<'a> {
         ensures { (id : ℕ) → Some at ≡ kin_place self.now id → result ≡ has_kind self.now id kind }
     {
         self.inodes.as_slice()[at].kind() == kind
+    }
+
+    /// The directory that the inode at a place names as its parent.
+    pub(crate) fn parent_at(&self, at: usize) -> u64
+        requires { at < length self.now }
+        ensures { result ≡ parent_at self.now at }
+    {
+        self.inodes.as_slice()[at].parent()
     }
 
     /// Whether an id has an inode of a kind.

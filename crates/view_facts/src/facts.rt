@@ -106,7 +106,7 @@ impl InodeFact {
 pub struct EntryFact {
     pub(crate) id: u64,
     pub(crate) file_id: u64,
-    // The name and the sibling's id. Fields lie as they stand here, the small ones side by side, so that an entry takes 64 bytes.
+    // The name and the sibling's id. Fields lie as they stand here, the small ones side by side, so that an entry takes 56 bytes.
     pub(crate) name: Text,
     pub(crate) hash: u32,
     pub(crate) kind: u16,

@@ -1,22 +1,81 @@
 // A name that is kept, and the sibling's id of its entry, where it has one.
-ghost use Rattle.std.specs.Prelude.{◌≡◌, ◌≤◌, Option, None, length, IsOk, IfOk, IsTrue};
+ghost use Rattle.std.specs.Prelude.{◌≡◌, ◌≤◌, Option, None, Some, length, IsOk, IfOk, IfSome, IsSome, IsTrue};
 ghost use Rattle.std.specs.String.{string_bytes};
 ghost use Rattle.view_facts.specs.Texts.{bytes_of, sibling_of};
 
-use arrayvec::ArrayString;
 use blk_source::NoMemory;
 use std::alloc::Global;
+use std::marker::Model;
+use std::str;
 
-/// The greatest length of a name that is kept in place, in bytes.
-const SHORT_SIZE: usize = 24;
+/// The greatest length of a name that is kept in place, in bytes: what an entry has room for beside its numbers.
+const SHORT_SIZE: usize = 30;
 
-/// A name that is kept: in place where it is short, and on the heap where it is long, or where its entry has a sibling's id, as few have. The id takes the
-/// room that a short name would, so that entries without one don't have room for it.
+/// A name in place.
+#[derive(Debug, Drop)]
+pub(crate) struct Short {
+    len: u8,
+    bytes: [u8; SHORT_SIZE],
+}
+
+impl Model for Short {
+    ghost use Rattle.std.specs.Prelude.{◌≤◌, ℕ, List, take, IsUtf8};
+
+    ghost Value = { List ℕ };
+
+    ghost view = { λ short. take short.len short.bytes };
+
+    ghost invariant = { λ short. (short.len ≤ 30) × ∥ IsUtf8 (take short.len short.bytes) ∥₁ };
+}
+
+impl Short {
+    // A name in place, where it isn't too long.
+    fn of(name: &str) -> Option<Short>
+        ensures copy { IfSome result (λ short. short ≡ name.now) }
+        ensures fits { length name.now ≤ SHORT_SIZE → IsSome result }
+    {
+        let text = name.as_bytes();
+        if text.len() > SHORT_SIZE {
+            return None;
+        }
+        let mut bytes = [0; SHORT_SIZE];
+        bytes[..text.len()].copy_from_slice(text);
+        Some(Short {
+            len: text.len() as u8,
+            bytes,
+        })
+    }
+
+    // The name.
+    fn as_str(&self) -> &str
+        ensures { result.now ≡ self.now }
+    {
+        unsafe { str::from_utf8_unchecked(&self.bytes[..self.len as usize]) }
+    }
+}
+
+/// The least id of a sibling that has no room beside the name: one of 49 bits.
+const FAR_ID: u64 = 1 << 48;
+
+/// A name, and a sibling's id that has no room beside it.
+#[derive(Debug, Drop)]
+pub(crate) struct FarTwin {
+    name: String,
+    sibling: u64,
+}
+
+/// A name that is kept: in place where it is short, and on the heap where it is long, or where its entry has a sibling's id, as few have. Each takes 32 bytes,
+/// since small fields lie beside the tag: the two parts of a sibling's id too, where it has no more than 48 bits.
 #[derive(Debug, Drop)]
 pub(crate) enum Text {
-    Short(ArrayString<SHORT_SIZE>),
+    Short(Short),
     Long(String),
-    Twin { name: String, sibling: u64 },
+    Twin {
+        upper: u16,
+        lower: u32,
+        name: String,
+    },
+    FarTwin(Box<FarTwin>),
 }
 
 /// A copy of a name.
@@ -33,10 +92,26 @@ impl Text {
         ensures alone { IfOk result (λ text. sibling_of text ≡ None) }
         ensures short { length name.now ≤ SHORT_SIZE → IsOk result }
     {
-        match ArrayString::from(name) {
-            Ok(short) => Ok(Text::Short(short)),
-            Err(_) => Ok(Text::Long(copied(alloc, name)?)),
+        match Short::of(name) {
+            Some(short) => Ok(Text::Short(short)),
+            None => Ok(Text::Long(copied(alloc, name)?)),
         }
+    }
+
+    // A copy of the name of an entry with a sibling's id.
+    fn twin(alloc: Global, name: &str, sibling: u64) -> Result<Text, NoMemory>
+        ensures copy { IfOk result (λ text. bytes_of text ≡ name.now) }
+        ensures sibling { IfOk result (λ text. sibling_of text ≡ Some sibling) }
+    {
+        let name = copied(alloc, name)?;
+        if sibling >= FAR_ID {
+            return Ok(Text::FarTwin(Box::new(alloc, FarTwin { name, sibling })?));
+        }
+        Ok(Text::Twin {
+            upper: (sibling / (1 << 32)) as u16,
+            lower: (sibling % (1 << 32)) as u32,
+            name,
+        })
     }
 
     /// A copy of the name of an entry, with the sibling's id that it has or hasn't.
@@ -45,10 +120,7 @@ impl Text {
         ensures sibling { IfOk result (λ text. sibling_of text ≡ sibling) }
     {
         match sibling {
-            Some(sibling) => {
-                let name = copied(alloc, name)?;
-                Ok(Text::Twin { name, sibling })
-            }
+            Some(sibling) => Text::twin(alloc, name, sibling),
             None => Text::of(alloc, name),
         }
     }
@@ -60,7 +132,12 @@ impl Text {
         match self {
             Text::Short(short) => short.as_str(),
             Text::Long(long) => long.as_str(),
-            Text::Twin { name, sibling: _ } => name.as_str(),
+            Text::Twin {
+                upper: _,
+                lower: _,
+                name,
+            } => name.as_str(),
+            Text::FarTwin(twin) => twin.name.as_str(),
         }
     }
 
@@ -71,7 +148,12 @@ impl Text {
         match self {
             Text::Short(_) => None,
             Text::Long(_) => None,
-            Text::Twin { name: _, sibling } => Some(*sibling),
+            Text::Twin {
+                upper,
+                lower,
+                name: _,
+            } => Some(u64::from(*upper) * (1 << 32) + u64::from(*lower)),
+            Text::FarTwin(twin) => Some(twin.sibling),
         }
     }
 

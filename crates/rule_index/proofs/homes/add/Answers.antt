@@ -1,26 +1,25 @@
-use Rattle.std.proofs.Common.{ℕ, ◌≡◌, List, ◌∷◌, [], ◌++◌, true, None, Some, get_or, ap, sym, subst, ◌∙◌}
+use Rattle.std.proofs.Common.{◌≡◌, ℕ, List, ◌∷◌, [], ◌++◌, true, None, ap, sym, subst, ◌∙◌}
 use Rattle.view_rules.specs.Facts.{does_count}
-use Rattle.rule_index.specs.declared.homes.Home.{Home}
 use Rattle.rule_index.specs.Kins.{kin_place}
-use Rattle.rule_index.specs.Homes.{no_home, one_more, HasHomes}
-use Rattle.std.proofs.Math.ListN.{set}
-use Rattle.rule_index.proofs.HomeCounts.{homes-placed}
+use Rattle.rule_index.specs.Homes.{pair_of, are_listed_at, HasHomes}
+use Rattle.rule_index.proofs.HomeCounts.{homes-pushed}
 use Rattle.rule_index.proofs.Wholes.{astray-homeless}
 use Rattle.rule_index.proofs.homes.add.Goals as goal
 
-pub returns-in-Some-clause-homes : goal.returns-in-Some-clause-homes
-returns-in-Some-clause-homes c =
+pub returns-clause-homes : goal.returns-clause-homes
+returns-clause-homes c =
     let kins = c.args.kins.now in
     let e = c.args.e.now in
     let places = c.args.places.now in
-    let at = c.in-Some.at in
+    let pairs = c.args.pairs.now.items in
     let counted : does_count e ≡ true = cc in
-    let is : Some at ≡ kin_place kins e.what.file_id = c.in-Some.ensures ∙ ap (λ (pair : ℕ × ℕ). kin_place kins pair.0) c.pair_of-pair.ensures in
-    let now : c.count_at.new.places ≡ set places at (one_more (get_or places at no_home) e.id) = c.count_at.ensures ∙ ap (λ (pair : ℕ × ℕ). set places at (one_more (get_or places at no_home) pair.1)) c.pair_of-pair.ensures in
-    λ entries had. subst (λ (list : List Home). HasHomes kins (entries ++ e ∷ []) (list, c.args.others.now.items)) (sym now) (homes-placed kins entries e places c.args.others.now.items at counted is had)
+    let nowhere : None ≡ kin_place kins e.what.file_id = c.in_default.ensures ∙ ap (λ (file : ℕ). kin_place kins file) c.file_id.ensures in
+    let pushed : c.push.new.self.items ≡ pairs ++ pair_of e ∷ [] = c.in_ok-push.ensures.items ∙ ap (λ (pair : ℕ × ℕ). pairs ++ pair ∷ []) c.pair_of.ensures in
+    λ entries had.
+    subst (λ (list : List (ℕ × ℕ)). HasHomes kins (entries ++ e ∷ []) (places, list)) (sym pushed) (homes-pushed kins entries e places pairs counted (ap (are_listed_at places) (sym nowhere)) had)
 
 pub returns-clause-whole : goal.returns-clause-whole
 returns-clause-whole c =
     let counted : does_count c.args.e.now ≡ true = cc in
-    let nowhere : None ≡ kin_place c.args.kins.now c.args.e.now.what.file_id = c.in_default.ensures ∙ ap (λ (pair : ℕ × ℕ). kin_place c.args.kins.now pair.0) c.pair_of-pair.ensures in
+    let nowhere : None ≡ kin_place c.args.kins.now c.args.e.now.what.file_id = c.in_default.ensures ∙ ap (λ (file : ℕ). kin_place c.args.kins.now file) c.file_id.ensures in
     astray-homeless c.args.kins.now c.args.e.now counted nowhere

@@ -7,4 +7,4 @@ use Rattle.rule_index.specs.Homes.{is_astray, HasHomes}
 use Rattle.rule_index.proofs.homes.Homes.of.Given as goal
 
 abbrev pub invariant-loop-e : goal.invariant-loop-e
-invariant-loop-e l = record { homes : HasHomes l.kins (take l.e-index l.entries) (l.places.items, l.pairs.items); whole : l.whole ≡ not (list_any (is_astray l.kins) (take l.e-index l.entries)); seen : l.seen.directory ≡ has_kind l.kins l.seen.id directory_kind }
+invariant-loop-e l = record { homes : HasHomes l.kins (take l.e-index l.entries) (l.places.items, l.listed.items); whole : l.whole ≡ not (list_any (is_astray l.kins) (take l.e-index l.entries)); seen : l.seen.directory ≡ has_kind l.kins l.seen.id directory_kind }
