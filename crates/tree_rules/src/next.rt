@@ -15,9 +15,10 @@ ghost use Rattle.view_rules.specs.Listed.{extents_with_ids};
 ghost use Rattle.view_rules.specs.Rules as rules;
 ghost use Rattle.rule_changes.specs.Changes.{AreWoven, HasDistinctInodes};
 ghost use Rattle.vol_view.specs.declared.volume.View as declared;
-ghost use Rattle.view_change.specs.Kept.{facts_of, records_kept};
+ghost use Rattle.view_change.specs.Shared.{ShareLeaves};
+ghost use Rattle.view_change.specs.Kept.{facts_of, leaves_of, records_kept};
 ghost use Rattle.view_change.specs.Changing.{HasDifference};
-ghost use Rattle.view_change.specs.Difference.{view_places, IsKeptOf};
+ghost use Rattle.view_change.specs.Difference.{view_places, view_leaves, new_nodes, IsKeptOf};
 ghost use Rattle.tree_rules.specs.Tallies.{IsTally};
 ghost use Rattle.tree_rules.specs.Known as spec;
 
@@ -184,6 +185,7 @@ fn check_after<S: BlockSource>(
     ensures clear { (image : List ℕ) (earlier : declared.View) → S.bytes src.old ≡ Some image → spec.IsKnown asked.now.profile image asked.now.site.now volume.now asked.now.ranges.now earlier before → IfOk result (λ found. IfSome found (spec.IsCheckedNext asked.now.profile image asked.now.site.now volume.now asked.now.ranges.now asked.now.view.now (extents_with_ids (facts_of before)))) }
     ensures present { (image : List ℕ) (earlier : declared.View) → S.bytes src.old ≡ Some image → spec.IsKnown asked.now.profile image asked.now.site.now volume.now asked.now.ranges.now earlier before → IfErr result (Tells (rules.IsTreeFault asked.now.profile image asked.now.site.now volume.now asked.now.view.now asked.now.ranges.now) (IsViewFeature image asked.now.site.now volume.now asked.now.view.now)) }
     ensures reads_met { (image : List ℕ) → S.bytes src.old ≡ Some image → S.reads src.new ≤ S.reads src.old + length (view_places image asked.now.site.now volume.now asked.now.view.now) }
+    ensures reads_new { (image : List ℕ) → S.bytes src.old ≡ Some image → ShareLeaves (leaves_of before) (view_leaves image asked.now.site.now volume.now asked.now.view.now) → IfOk result (λ found. IfSome found (λ next. S.reads src.new ≤ S.reads src.old + new_nodes image asked.now.site.now volume.now asked.now.view.now (leaves_of before))) }
     ensures cause { IsErrOf result ReadFault → Rose (S.faults src.old) (S.faults src.new) }
     ensures kept { IsKept S.bytes S.bytes_len S.faults src.old src.new }
 {
@@ -237,6 +239,7 @@ fn check_by<S: BlockSource>(
     ensures clear { (image : List ℕ) → S.bytes src.old ≡ Some image → spec.IsKnownBefore asked.now.profile image asked.now.site.now volume.now asked.now.ranges.now before → IfOk result (λ found. IfSome found (spec.IsCheckedNext asked.now.profile image asked.now.site.now volume.now asked.now.ranges.now asked.now.view.now (spec.extents_before before))) }
     ensures present { (image : List ℕ) → S.bytes src.old ≡ Some image → spec.IsKnownBefore asked.now.profile image asked.now.site.now volume.now asked.now.ranges.now before → IfErr result (Tells (rules.IsTreeFault asked.now.profile image asked.now.site.now volume.now asked.now.view.now asked.now.ranges.now) (IsViewFeature image asked.now.site.now volume.now asked.now.view.now)) }
     ensures reads_met { (image : List ℕ) → S.bytes src.old ≡ Some image → S.reads src.new ≤ S.reads src.old + length (view_places image asked.now.site.now volume.now asked.now.view.now) }
+    ensures reads_new { (image : List ℕ) (kept : spec.KnownView) → S.bytes src.old ≡ Some image → before ≡ Some kept → ShareLeaves (leaves_of kept) (view_leaves image asked.now.site.now volume.now asked.now.view.now) → IfOk result (λ found. IfSome found (λ next. S.reads src.new ≤ S.reads src.old + new_nodes image asked.now.site.now volume.now asked.now.view.now (leaves_of kept))) }
     ensures cause { IsErrOf result ReadFault → Rose (S.faults src.old) (S.faults src.new) }
     ensures kept { IsKept S.bytes S.bytes_len S.faults src.old src.new }
 {
@@ -254,7 +257,8 @@ fn check_by<S: BlockSource>(
 
 /// What `check_with_extents` answers of a view, and what is kept of it for the next view of its volume, where it has its rules and no notes. Where a view before is known and shares half of the leaves at least, this one is
 /// tested by what it has more and less, if that shows that it has its rules; then `extents` are those that have come. `before` is what an earlier call kept of another view of the volume, under the same ranges and profile, and
-/// `cover` is that of the ranges. `reads`: on Ok at most two for each node of the view's tree.
+/// `cover` is that of the ranges. `reads`: on Ok at most two for each node of the view's tree. `reads_new`: where something is kept of the view, and it shares leaves with the one before (`ShareLeaves`), at most one for each
+/// node above its leaves, and for each leaf that the one before hasn't.
 pub fn check_next<S: BlockSource>(
     alloc: Global,
     src: &mut S,
@@ -271,6 +275,7 @@ pub fn check_next<S: BlockSource>(
     ensures clear { (image : List ℕ) → S.bytes src.old ≡ Some image → spec.IsKnownBefore profile image site.now volume.now ranges.now before → IfOk result (spec.IsCheckedNext profile image site.now volume.now ranges.now view.now (spec.extents_before before)) }
     ensures present { (image : List ℕ) → S.bytes src.old ≡ Some image → spec.IsKnownBefore profile image site.now volume.now ranges.now before → IfErr result (Tells (rules.IsTreeFault profile image site.now volume.now view.now ranges.now) (IsViewFeature image site.now volume.now view.now)) }
     ensures reads { (image : List ℕ) → S.bytes src.old ≡ Some image → spec.IsKnownBefore profile image site.now volume.now ranges.now before → OnOk result (S.reads src.new ≤ S.reads src.old + 2 * length (view_nodes image site.now volume.now view.now)) }
+    ensures reads_new { (image : List ℕ) (earlier : declared.View) (kept : spec.KnownView) → S.bytes src.old ≡ Some image → before ≡ Some kept → spec.IsKnown profile image site.now volume.now ranges.now earlier kept → ShareLeaves (view_leaves image site.now volume.now earlier) (view_leaves image site.now volume.now view.now) → IfOk result (λ next. IfSome next.kept (λ known. S.reads src.new ≤ S.reads src.old + new_nodes image site.now volume.now view.now (view_leaves image site.now volume.now earlier))) }
     ensures cause { IsErrOf result ReadFault → Rose (S.faults src.old) (S.faults src.new) }
     ensures kept { IsKept S.bytes S.bytes_len S.faults src.old src.new }
 {

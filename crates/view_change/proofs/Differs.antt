@@ -1,5 +1,5 @@
 -- What was found of the leaves of a view, said of the view.
-use Rattle.std.proofs.Common.{◌≡◌, ◌∙◌, ◌+◌, ◌<◌, ◌≤◌, ℕ, suc, Bool, true, false, List, [], ◌∷◌, ◌++◌, None, length, map, filter, refl, ap, sym, subst, arith}
+use Rattle.std.proofs.Common.{◌≡◌, ◌∙◌, ◌+◌, ◌≤◌, ℕ, suc, Bool, true, false, Option, List, [], ◌∷◌, None, length, map, filter, refl, ap, sym, subst, arith}
 use Rattle.std.specs.Prelude.{All, if◌then◌else◌}
 use Rattle.std.proofs.lemmas.List.Elements.{All-nil, All-append}
 use Rattle.apfs_model.specs.Counts.{given}
@@ -25,19 +25,20 @@ use Rattle.omap_map.proofs.Lists.{all-in}
 use Rattle.vol_view.specs.Volumes.{Loaded}
 use Rattle.vol_view.specs.Views.{hashed_tree, view_named}
 use Rattle.vol_view.specs.declared.volume.View.{View}
-use Rattle.view_rules.specs.Facts.{Facts, facts_in}
+use Rattle.view_rules.specs.Facts.{Facts}
 use Rattle.view_rules.specs.Rules.{refusal_of, HasRecords}
-use Rattle.view_facts.specs.Kept.{IsGatheredView, IsWalkedView}
+use Rattle.view_facts.specs.Kept.{IsWalkedView}
 use Rattle.view_facts.proofs.Walks.{walked-hashed}
 use Rattle.view_change.specs.declared.leaf.Leaf.{Leaf}
 use Rattle.view_change.specs.declared.kept.KeptLeaf.{KeptLeaf}
 use Rattle.view_change.specs.declared.kept_view.KeptView.{KeptView}
 use Rattle.view_change.specs.declared.changing.Changed.{Changed}
-use Rattle.view_change.specs.Leaves.{records_of, records_in}
+use Rattle.view_change.specs.Leaves.{leaves_at, uppers_in, records_of, records_in}
+use Rattle.view_change.specs.Shared.{ShareLeaves, IsWithin}
 use Rattle.view_change.specs.Kept.{leaf_of, facts_of, facts_said, AreReadable, IsKeptLeaf, IsKeptView}
 use Rattle.view_change.specs.Changing.{IsDifference}
 use Rattle.view_change.specs.Walked.{IsTaken}
-use Rattle.view_change.specs.Difference.{view_places, IsKeptOf, gathered_of}
+use Rattle.view_change.specs.Difference.{view_places, view_leaves, new_nodes, IsKeptOf}
 
 -- the records of leaves that are kept can be read
 leaves-readable : {K : Type 0} (shape : Shape K) (site : Site) (image : List ℕ) (names : Names) (kept : List KeptLeaf) → All (IsKeptLeaf shape site image names) kept → AreReadable names (records_in shape site image (map leaf_of kept))
@@ -54,6 +55,11 @@ item-readable names line item listed false upper all = refl
 line-readable : (names : Names) (line : List Item) → AreReadable names (leaf_pairs line) → HasRecords names line
 unfolding refusal_of
 line-readable names line all item listed = item-readable names line item listed (is_leaf_item item) refl all
+
+-- the places that a walk over a view meets
+places-hashed : (image : List ℕ) (site : Site) (volume : Loaded) (view : View) → are_hashed volume.names ≡ true → view_places image site volume view ≡ places_of (hashed_tree image site volume view) view.root_oid
+unfolding view_places
+places-hashed image site volume view e = rw e refl
 
 -- what is kept of the leaves that were taken is what is kept of the view
 pub kept-view : (image : List ℕ) (site : Site) (volume : Loaded) (view : View) (before : Facts) (changed : Changed) (holds : List Leaf → Type 0) → are_hashed volume.names ≡ true → before.names ≡ volume.names
@@ -78,6 +84,7 @@ kept-view image site volume view before changed holds hashed named taken d =
     }) in
     record {
       leaves = taken.leaves;
+      all = taken.all ∙ ap (leaves_at site (view_named site volume view)) (sym (places-hashed image site volume view hashed));
       leaves_kept = after;
       gathered = record {
         walkable = walked.walkable;
@@ -93,13 +100,20 @@ kept-view image site volume view before changed holds hashed named taken d =
 pub kept-names : (image : List ℕ) (site : Site) (names : Names) (leaves : List Leaf) (kept : KeptView) → IsKeptView fs_shape site image names leaves kept → (facts_of kept).names ≡ names
 kept-names image site names leaves kept is = ap (λ (f : Facts). f.names) is.kept.said
 
--- the places that a walk over a view meets
-places-hashed : (image : List ℕ) (site : Site) (volume : Loaded) (view : View) → are_hashed volume.names ≡ true → view_places image site volume view ≡ places_of (hashed_tree image site volume view) view.root_oid
-unfolding view_places
-places-hashed image site volume view e = rw e refl
-
+-- its reads are no more than the places
 pub places-within : (image : List ℕ) (site : Site) (volume : Loaded) (view : View) (omap : Contents) (first last : ℕ) → omap ≡ volume.omap → are_hashed volume.names ≡ true
     → last ≤ first + length (places_of (tree_in fs_shape site (λ oid. named_by omap.records view.xid site.blocks oid) image) view.root_oid) → last ≤ first + length (view_places image site volume view)
 places-within image site volume view omap first last same hashed few =
     subst (λ (ats : List NodeAt). last ≤ first + length ats) (sym (places-hashed image site volume view hashed))
     (subst (λ (o : Contents). last ≤ first + length (places_of (tree_in fs_shape site (λ oid. named_by o.records view.xid site.blocks oid) image) view.root_oid)) same few)
+
+-- a limit for a view that shares leaves with the one before: one read for each node above its leaves, and for each leaf that is new
+pub begins-so : (image : List ℕ) (site : Site) (volume : Loaded) (view : View) (omap : Contents) (before : List Leaf) (reads limit : ℕ) → omap ≡ volume.omap → are_hashed volume.names ≡ true → ShareLeaves before (view_leaves image site volume view)
+    → limit ≡ reads + new_nodes image site volume view before
+    → ShareLeaves before (leaves_at site (λ oid. named_by omap.records view.xid site.blocks oid) (places_of (tree_in fs_shape site (λ oid. named_by omap.records view.xid site.blocks oid) image) view.root_oid))
+    × IsWithin before (leaves_at site (λ oid. named_by omap.records view.xid site.blocks oid) (places_of (tree_in fs_shape site (λ oid. named_by omap.records view.xid site.blocks oid) image) view.root_oid)) (reads + length (uppers_in (places_of (tree_in fs_shape site (λ oid. named_by omap.records view.xid site.blocks oid) image) view.root_oid))) limit
+begins-so image site volume view omap before reads limit same hashed shares all =
+    let Q : (ℕ → Option ℕ) → List NodeAt → Type 0 = λ named ats. ShareLeaves before (leaves_at site named ats) × IsWithin before (leaves_at site named ats) (reads + length (uppers_in ats)) limit in
+    let here : Q (view_named site volume view) (view_places image site volume view) = (shares, omega (arith, all)) in
+    subst (λ (o : Contents). Q (λ oid. named_by o.records view.xid site.blocks oid) (places_of (tree_in fs_shape site (λ oid. named_by o.records view.xid site.blocks oid) image) view.root_oid)) (sym same)
+    (subst (Q (view_named site volume view)) (places-hashed image site volume view hashed) here)

@@ -1,6 +1,6 @@
 -- The outline of a tree, level by level.
 use Rattle.std.proofs.Common.{◌≡◌, ℕ, zero, suc, ◌+◌, ◌≤◌, Bool, true, false, ◌&&◌, ◌==◌, cond, List, [], ◌∷◌, ◌++◌, map, length, Option, None, Some, refl, ap, sym, ◌∙◌, subst, arith, append-nil, append_assoc, length-append, ◌<◌, take, get_or, Result, Ok, Err}
-use Rattle.std.specs.Prelude.{is_some, IfOk, IsTrue}
+use Rattle.std.specs.Prelude.{nat_lt, is_some, IfOk, IsTrue}
 use Rattle.std.specs.List.{flat_map, list_all, range_with_len}
 use Rattle.std.proofs.lemmas.Bool.{false≢true}
 use Rattle.std.proofs.lemmas.Bool.Decides.{nat_tests}
@@ -9,7 +9,7 @@ use Rattle.std.proofs.lemmas.List.{take_more}
 use Rattle.std.proofs.lemmas.List.FromFn.{get_or-map-range_with_len, length-map-range_with_len}
 use Rattle.std.proofs.lemmas.List.Folds.{list_all-append}
 use Rattle.apfs_model.specs.Blocks.{block_of}
-use Rattle.apfs_model.specs.Lists.{through, value_of}
+use Rattle.apfs_model.specs.Lists.{passes, through, value_of}
 use Rattle.obj_base.specs.declared.site.Site.{Site}
 use Rattle.obj_base.specs.Sound.{agrees}
 use Rattle.bt_node.specs.Shape.{Shape}
@@ -69,8 +69,20 @@ are-child tree level None = refl
 are-child tree level (Some oid) = are-found tree level oid (node_at tree (node_place (suc level) oid))
 
 leads-there : {K : Type 0} (tree : Tree K) (level : ℕ) (child : Option ℕ) (at : NodeAt) → LeadsTo tree level child at → is_child_there tree level child ≡ true → has_node tree at ≡ true
-leads-there tree level None at leads there = leads
+leads-there tree level None at leads there = leads.0
 leads-there tree level (Some oid) at leads there = ap (has_node tree) leads ∙ there
+
+above-next : (level : ℕ) (o : Option ℕ) → passes o (nat_lt (suc level)) ≡ true → passes o (nat_lt level) ≡ true
+above-next level None e = absurd (false≢true e)
+above-next level (Some l) e = grind (arith, nat_tests)
+
+above-self : (level : ℕ) → nat_lt level (suc level) ≡ true
+above-self level = grind (arith, nat_tests)
+
+-- a place to which a separator leads stands above the level below
+leads-above : {K : Type 0} (tree : Tree K) (level : ℕ) (child : Option ℕ) (at : NodeAt) → LeadsTo tree (suc level) child at → passes at.level (nat_lt level) ≡ true
+leads-above tree level None at leads = above-next level at.level leads.1
+leads-above tree level (Some oid) at leads = ap (λ (a : NodeAt). passes a.level (nat_lt level)) leads ∙ above-self level
 
 -- one level down
 are-down : {K : Type 0} (tree : Tree K) (level : ℕ) (xs : List Separator) (items : List Item) → AreSeparators tree (suc level) xs items → list_all (λ (x : Separator). is_child_there tree (suc level) x.child) xs ≡ true → AreSeparators tree level (flat_map (below_of tree (suc level)) xs) items
@@ -81,7 +93,7 @@ are-down tree level (x ∷ xs) items these there =
     let own = items_in tree (suc level) x.child in
     let rest = these.1.0 in
     let is = these.1.1 in
-    let one : IsSeparator tree level (opened x) these.0 = record { separates = is.0.separates; leads = leads-there tree (suc level) x.child is.0.separates.at is.0.leads (and-first here others there) } in
+    let one : IsSeparator tree level (opened x) these.0 = record { separates = is.0.separates; leads = (leads-there tree (suc level) x.child is.0.separates.at is.0.leads (and-first here others there), leads-above tree level x.child is.0.separates.at is.0.leads) } in
     let left = are-append tree level (separators_in tree (suc level) x.child) (flat_map (below_of tree (suc level)) xs) own rest (are-child tree level x.child) (are-down tree level xs rest is.2 (and-second here others there)) in
     (these.0, (own ++ rest, (one, is.1, left)))
 

@@ -1,6 +1,6 @@
 -- A pass over the outline of a tree, which takes its leaves.
 use Rattle.std.proofs.Common.{◌≡◌, ℕ, zero, suc, ◌+◌, ◌≤◌, Bool, true, false, ◌&&◌, ◌||◌, ◌==◌, cond, List, [], ◌∷◌, ◌++◌, map, length, Option, None, Some, Result, Ok, Err, refl, ap, sym, ◌∙◌, subst, arith, append-nil, append_assoc, length-append, ◌<◌, drop, get_or, drop-cons}
-use Rattle.std.specs.Prelude.{option_map, is_none, is_ok, is_some, IfSome}
+use Rattle.std.specs.Prelude.{option_map, is_none, is_ok, is_some, IfOk, IfSome, IfNone}
 use Rattle.std.specs.List.{flat_map, filter, list_all, range_with_len}
 use Rattle.std.proofs.lemmas.Bool.Decides.{nat_tests}
 use Rattle.std.proofs.lemmas.Grind.{flat_map-append}
@@ -37,11 +37,12 @@ use Rattle.view_change.specs.declared.leaf_taker.Ends.{Ends}
 use Rattle.view_change.specs.declared.outline.Outline.{Outline}
 use Rattle.view_change.specs.declared.outline.Separator.{Separator}
 use Rattle.view_change.specs.declared.seen.Seen.{Seen}
-use Rattle.view_change.specs.Leaves.{leaf_place, records_of, records_in, IsLeafThere}
+use Rattle.view_change.specs.Leaves.{leaf_place, leaf_at, records_of, records_in, IsLeafThere}
 use Rattle.view_change.specs.Ends.{leaf_item, leaf_items, HasEnds}
-use Rattle.view_change.specs.Outline.{node_place, reads_in, items_in, LeadsTo, Separates, AreSeparators, IsOutlined, HasSeen, IsPassed}
+use Rattle.view_change.specs.Outline.{node_place, reads_in, leaves_in, items_in, LeadsTo, Separates, AreSeparators, IsOutlined, HasSeen, IsPassed}
 use Rattle.view_change.specs.Walked.{IsTaken}
 use Rattle.view_change.proofs.Outlines.{and-both}
+use Rattle.view_change.proofs.TreeLeaves.{tree-leaves}
 
 pub and-no : (a b : Bool) → b ≡ false → (a && b) ≡ false
 and-no true b e = e
@@ -226,9 +227,9 @@ pairs-on passed below item inner =
 -- one separator more is passed, with the items below it
 pass-on : {K : Type 0} (shape : Shape K) (site : Site) (named : ℕ → Option ℕ) (image : List ℕ) (root keys nodes : ℕ) (holds held : List Leaf → Type 0) (start reads more : ℕ) (next : Separator) (left : List Separator) (seen new : Seen) (below : List Item) (taken : List Leaf)
     (p : IsPassed shape site named image root keys nodes holds start reads (next ∷ left) seen) → items_in (tree_in shape site named image) 0 next.child ≡ below → HasSeen shape keys nodes ((p.passed ++ p.separators.0 ∷ []) ++ below) new
-    → has_node (tree_in shape site named image) p.separators.1.1.0.separates.at ≡ true → places_in below ≡ [] → leaf_pairs below ≡ records_in shape site image taken → held (p.leaves ++ taken) → more ≤ reads + reads_in (next ∷ [])
-    → IsPassed shape site named image root keys nodes held start more left new
-pass-on shape site named image root keys nodes holds held start reads more next left seen new below taken p under right here none pairs have few =
+    → has_node (tree_in shape site named image) p.separators.1.1.0.separates.at ≡ true → places_in below ≡ [] → leaf_pairs below ≡ records_in shape site image taken → through next.child (λ oid. leaf_at site named (node_place 0 oid)) ≡ taken
+    → held (p.leaves ++ taken) → more ≤ reads + reads_in (next ∷ []) → IsPassed shape site named image root keys nodes held start more left new
+pass-on shape site named image root keys nodes holds held start reads more next left seen new below taken p under right here none pairs next_leaves have few =
     let tree = tree_in shape site named image in
     let item = p.separators.0 in
     let rest = p.separators.1.0 in
@@ -246,6 +247,7 @@ pass-on shape site named image root keys nodes holds held start reads more next 
           ∙ (list_all-append (has_node tree) (places_in p.passed) (separates.at ∷ []) ∙ and-both (list_all (has_node tree) (places_in p.passed)) (list_all (has_node tree) (separates.at ∷ [])) p.there (and-both (has_node tree separates.at) true here refl));
       leaves = p.leaves ++ taken;
       held = have;
+      all = p.all ∙ (ap (λ (ls : List Leaf). p.leaves ++ (ls ++ leaves_in site named left)) next_leaves ∙ sym (append_assoc p.leaves taken (leaves_in site named left)));
       records = pairs-on p.passed below item separates.inner
           ∙ (ap (λ ps. ps ++ leaf_pairs below) p.records ∙ (ap (λ ps. records_in shape site image p.leaves ++ ps) pairs ∙ sym (flat_map-append (records_of shape site image) p.leaves taken)));
       few = omega (arith, few, p.few, ap length places, length-append (places_in p.passed) (separates.at ∷ []));
@@ -260,9 +262,14 @@ pass-upper shape site named image root keys nodes holds start reads next left se
     let item = p.separators.0 in
     let separator = p.separators.1.1.0 in
     let right = sees p.passed item p.right separator.separates in
-    let here : has_node tree separator.separates.at ≡ true = subst (λ child. LeadsTo tree 0 child separator.separates.at) none separator.leads in
-    pass-on shape site named image root keys nodes holds holds start reads reads next left seen new [] [] p (ap (items_in tree 0) none) (subst (λ is. HasSeen shape keys nodes is new) (sym (append-nil (p.passed ++ item ∷ []))) right) here refl refl
-    (subst holds (sym (append-nil p.leaves)) p.held) (omega arith)
+    let leads : LeadsTo tree 0 None separator.separates.at = subst (λ child. LeadsTo tree 0 child separator.separates.at) none separator.leads in
+    pass-on shape site named image root keys nodes holds holds start reads reads next left seen new [] [] p (ap (items_in tree 0) none) (subst (λ is. HasSeen shape keys nodes is new) (sym (append-nil (p.passed ++ item ∷ []))) right) leads.0 refl refl
+    (ap (λ (child : Option ℕ). through child (λ oid. leaf_at site named (node_place 0 oid))) none) (subst holds (sym (append-nil p.leaves)) p.held) (omega arith)
+
+-- the leaf to which a separator leads
+pub next-leaf : (site : Site) (named : ℕ → Option ℕ) (next : Separator) (oid block : ℕ) → next.child ≡ Some oid → block_named site named oid ≡ Some block → through next.child (λ id. leaf_at site named (node_place 0 id)) ≡ leaf_in oid block ∷ []
+next-leaf site named next oid block child there =
+    ap (λ (c : Option ℕ). through c (λ id. leaf_at site named (node_place 0 id))) child ∙ ap (λ (found : Option ℕ). through found (λ b. leaf_in oid b ∷ [])) there
 
 -- a separator and the leaf below it
 pass-leaf : {K : Type 0} (shape : Shape K) (site : Site) (named : ℕ → Option ℕ) (image : List ℕ) (root keys nodes : ℕ) (holds held : List Leaf → Type 0) (start reads more : ℕ) (next : Separator) (left : List Separator) (seen new : Seen) (oid block : ℕ)
@@ -277,11 +284,29 @@ pass-leaf shape site named image root keys nodes holds held start reads more nex
     let leads : separator.separates.at ≡ node_place 0 oid = subst (λ c. LeadsTo tree 0 c separator.separates.at) child separator.leads in
     let one : reads_in (next ∷ []) ≡ 1 = ap (λ (c : Option ℕ). reads_for (is_some c) + 0) child in
     pass-on shape site named image root keys nodes holds held start reads more next left seen new (leaf_items shape site image leaf) (leaf ∷ []) p (ap (items_in tree 0) child ∙ line-below shape site named image oid block there) (sees p.passed p.separators.0 p.right separator.separates)
-    (ap (has_node tree) leads ∙ leaf-has shape site named image oid block there sound) of.places (of.pairs ∙ sym (append-nil (records_of shape site image leaf))) have (omega (arith, few, one))
+    (ap (has_node tree) leads ∙ leaf-has shape site named image oid block there sound) of.places (of.pairs ∙ sym (append-nil (records_of shape site image leaf))) (next-leaf site named next oid block child there) have (omega (arith, few, one))
 
 -- what is said of a value that is there
 pub at-some : {X : Type 0} (o : Option X) (x : X) (P : X → Type 0) → o ≡ Some x → IfSome o P → P x
 at-some o x P e h = subst (λ p. IfSome p P) e h
+
+-- what is said of it, whatever it is
+pub for-some : {X : Type 0} (o : Option X) (P Q : Type 0) → (P → Q) → IfSome o (λ _. P) → IfSome o (λ _. Q)
+for-some None P Q f h = tt
+for-some (Some x) P Q f h = f h
+
+pub any-some : {X : Type 0} (o : Option X) (P : Type 0) → P → IfSome o (λ _. P)
+any-some None P h = tt
+any-some (Some x) P h = h
+
+pub any-found : {X E : Type 0} (r : Result (Option X) E) (P : Type 0) → P → IfOk r (λ found. IfSome found (λ _. P))
+any-found (Ok found) P h = any-some found P h
+any-found (Err e) P h = tt
+
+-- and of none
+pub at-none : {X : Type 0} (o : Option X) (P : Type 0) → is_some o ≡ false → IfNone o P → P
+at-none None P e h = h
+at-none (Some x) P e h = absurd (cc)
 
 pub pass-leaf-if : {K : Type 0} (shape : Shape K) (site : Site) (named : ℕ → Option ℕ) (image : List ℕ) (root keys nodes : ℕ) (holds held : List Leaf → Type 0) (start reads more : ℕ) (next : Separator) (left : List Separator) (seen : Seen) (found : Option Seen) (oid block : ℕ)
     (p : IsPassed shape site named image root keys nodes holds start reads (next ∷ left) seen) → next.child ≡ Some oid → block_named site named oid ≡ Some block → IsLeafThere shape site image (leaf_in oid block)
@@ -305,6 +330,7 @@ pass-start shape site named image root start reads outline holds seen old end ri
       there = refl;
       leaves = [];
       held = none;
+      all = tree-leaves tree site named root start reads outline old end;
       records = refl;
       few = omega (arith, old.few);
     }
@@ -337,6 +363,7 @@ pass-end shape site named image root begun reads now outline holds left seen old
       taken = record {
         leaves = p.leaves;
         held = p.held;
+        all = sym (p.all ∙ (ap (λ (xs : List Separator). p.leaves ++ leaves_in site named xs) none ∙ append-nil p.leaves));
         whole = record {
           walkable = walkable;
           ordered = ap (λ is. is_none (first_misplaced shape [] is)) line ∙ ap (λ o. is_none o) p.right.ordered;
@@ -350,8 +377,12 @@ pass-end shape site named image root begun reads now outline holds left seen old
     }
 
 -- the next separator comes first among those that are left
+pub next-left : (all : List Separator) (i : ℕ) (d : Separator) → i < length all → drop i all ≡ get_or all i d ∷ drop (i + 1) all
+next-left all i d low =
+    let next : suc i ≡ i + 1 = omega arith in
+    drop-cons all i d low ∙ ap (λ n. get_or all i d ∷ drop n all) next
+
 pub pass-next : {K : Type 0} (shape : Shape K) (site : Site) (named : ℕ → Option ℕ) (image : List ℕ) (root keys nodes : ℕ) (holds : List Leaf → Type 0) (start reads : ℕ) (all : List Separator) (i : ℕ) (d : Separator) (seen : Seen) → i < length all
     → IsPassed shape site named image root keys nodes holds start reads (drop i all) seen → IsPassed shape site named image root keys nodes holds start reads (get_or all i d ∷ drop (i + 1) all) seen
 pass-next shape site named image root keys nodes holds start reads all i d seen low p =
-    let next : suc i ≡ i + 1 = omega arith in
-    subst (λ left. IsPassed shape site named image root keys nodes holds start reads left seen) (drop-cons all i d low ∙ ap (λ n. get_or all i d ∷ drop n all) next) p
+    subst (λ left. IsPassed shape site named image root keys nodes holds start reads left seen) (next-left all i d low) p

@@ -190,10 +190,6 @@ module _ {K : Type 0} (shape : Shape K) (site : Site) (image : List ℕ) where
         };
       }
 
-  -- the leaf that was sought was found
-  pub found-one : (leaf : Leaf) (found : Option KeptLeaf) (kept : KeptLeaf) → found ≡ Some kept → IfSome found (λ (other : KeptLeaf). Some leaf ≡ Some other.leaf) → leaf ≡ kept.leaf
-  found-one leaf found kept is same = ap (λ o. unwrap_or o leaf) (subst (λ o. IfSome o (λ (other : KeptLeaf). Some leaf ≡ Some other.leaf)) is same)
-
   pub found-first : (before : Facts) (leaves : List Leaf) (found : Option KeptLeaf) (kept : KeptLeaf) (more : List KeptLeaf) (left : Facts) (after : Held) (follows : Bool) (taken passed gone come : Facts) → found ≡ Some kept
       → IsUnderway shape site image before leaves (option_to_list found ++ more) left after follows taken passed gone come → IsUnderway shape site image before leaves (kept ∷ more) left after follows taken passed gone come
   found-first before leaves found kept more left after follows taken passed gone come is so = subst (λ o. IsUnderway shape site image before leaves (option_to_list o ++ more) left after follows taken passed gone come) is so
@@ -321,3 +317,7 @@ module _ {K : Type 0} (shape : Shape K) (site : Site) (image : List ℕ) where
 pub none-found : (sought : Option Leaf) (found : Option KeptLeaf) (left : List KeptLeaf) → sought ≡ None → IfSome found (λ (kept : KeptLeaf). sought ≡ Some kept.leaf) → IfNone found (left ≡ []) → option_to_list found ++ left ≡ []
 none-found sought None left none same over = over
 none-found sought (Some kept) left none same over = absurd cc
+
+-- the leaf that was sought was found
+pub found-one : (leaf : Leaf) (found : Option KeptLeaf) (kept : KeptLeaf) → found ≡ Some kept → IfSome found (λ (other : KeptLeaf). Some leaf ≡ Some other.leaf) → leaf ≡ kept.leaf
+found-one leaf found kept is same = ap (λ o. unwrap_or o leaf) (subst (λ o. IfSome o (λ (other : KeptLeaf). Some leaf ≡ Some other.leaf)) is same)

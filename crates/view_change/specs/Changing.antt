@@ -1,5 +1,5 @@
 -- What is known of a view and the one before while its leaves are taken.
-use Rattle.std.specs.Prelude.{◌≡◌, ℕ, Bool, true, List, IfSome}
+use Rattle.std.specs.Prelude.{◌≡◌, ℕ, Bool, true, List, map, IfSome}
 use Rattle.obj_base.specs.declared.site.Site.{Site}
 use Rattle.bt_node.specs.Shape.{Shape}
 use Rattle.view_rules.specs.Facts.{Facts}
@@ -11,11 +11,15 @@ use Rattle.view_change.specs.declared.changing.Change.{Change}
 use Rattle.view_change.specs.declared.changing.Changed.{Changed}
 use Rattle.view_change.specs.declared.changing.Changing.{Changing}
 use Rattle.view_change.specs.Numbers.{joined, behind, no_facts_under}
-use Rattle.view_change.specs.Kept.{facts_of, AreKept, IsHeld, IsKeptView}
+use Rattle.view_change.specs.Kept.{facts_of, leaf_of, AreKept, IsHeld, IsKeptView}
 
 -- the facts of the view before, which are all left at the start
 abbrev pub facts_before : Changing → Facts
 facts_before start = start.stock.0
+
+-- the leaves of the view before that are left
+abbrev pub leaves_left : Changing → List Leaf
+leaves_left now = map leaf_of now.leaves.items
 
 -- what is kept of the view after so far: the facts of the stock, and behind them those that were read since its last leaf
 abbrev pub held_after : Changing → Held

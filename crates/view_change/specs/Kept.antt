@@ -28,6 +28,10 @@ records_kept view = view.held.records
 abbrev pub leaf_of : KeptLeaf → Leaf
 leaf_of kept = kept.leaf
 
+-- the leaves of a view that is kept
+abbrev pub leaves_of : KeptView → List Leaf
+leaves_of view = map leaf_of view.held.leaves.items
+
 -- what is kept of the facts that some records say
 abbrev pub facts_said : Names → List Pair → Facts
 facts_said names pairs = brief_facts (facts_in names pairs)

@@ -1,4 +1,5 @@
 pub mod Leaves
+pub mod Shared
 pub mod Ends
 pub mod Outline
 pub mod Walked

@@ -1,7 +1,7 @@
 -- The state of a walk over a tree by the nodes above its leaves: its outline, and how much of it is passed. A caller needs none of it.
-use Rattle.std.specs.Prelude.{◌≡◌, ℕ, ◌+◌, ◌≤◌, Bool, true, false, is_some, List, [], ◌∷◌, ◌++◌, map, length, Option, None, Some, option_map, option_and_then}
+use Rattle.std.specs.Prelude.{◌≡◌, ℕ, ◌+◌, ◌≤◌, Bool, true, false, nat_lt, is_some, List, [], ◌∷◌, ◌++◌, map, length, Option, None, Some, option_map, option_and_then}
 use Rattle.std.specs.List.{flat_map, range_with_len, filter, list_all}
-use Rattle.apfs_model.specs.Lists.{last, through}
+use Rattle.apfs_model.specs.Lists.{last, passes, through}
 use Rattle.obj_base.specs.declared.site.Site.{Site}
 use Rattle.bt_node.specs.Shape.{Shape}
 use Rattle.bt_node.specs.Node.{count_of, key_count_of, node_count_of}
@@ -10,7 +10,7 @@ use Rattle.bt_node.specs.declared.key.Rank.{Rank}
 use Rattle.bt_node.specs.declared.node.NodeAt.{NodeAt}
 use Rattle.bt_cursor.specs.Tree.{Tree, tree_in, root_place, node_at}
 use Rattle.bt_cursor.specs.Line.{Item, entries_of, line_part, line_of, is_leaf_item}
-use Rattle.bt_cursor.specs.Met.{places_under, places_in, has_node}
+use Rattle.bt_cursor.specs.Met.{places_under, places_in, places_of, has_node}
 use Rattle.bt_cursor.specs.Order.{rank_of, first_misplaced}
 use Rattle.bt_cursor.specs.WholeTree.{leaf_pairs}
 use Rattle.bt_cursor.specs.Seen.{reads_for}
@@ -18,7 +18,7 @@ use Rattle.view_change.specs.declared.leaf.Leaf.{Leaf}
 use Rattle.view_change.specs.declared.outline.Separator.{Separator}
 use Rattle.view_change.specs.declared.outline.Outline.{Outline}
 use Rattle.view_change.specs.declared.seen.Seen.{Seen}
-use Rattle.view_change.specs.Leaves.{records_in}
+use Rattle.view_change.specs.Leaves.{leaf_at, leaves_at, records_in}
 
 -- the place of a node of a level below a root
 abbrev pub node_place : ℕ → ℕ → NodeAt
@@ -54,14 +54,18 @@ abbrev pub reads_in : List Separator → ℕ
 reads_in [] = 0
 reads_in (next ∷ others) = reads_for (is_some next.child) + reads_in others
 
+-- the leaves to which separators lead, those without a block left out
+abbrev pub leaves_in : Site → (ℕ → Option ℕ) → List Separator → List Leaf
+leaves_in site named separators = flat_map (λ (next : Separator). through next.child (λ oid. leaf_at site named (node_place 0 oid))) separators
+
 -- the items of a child of a level; none where there is no child, or it isn't there
 abbrev pub items_in : {K : Type 0} → Tree K → ℕ → Option ℕ → List Item
 items_in tree level None = []
 items_in tree level (Some oid) = through (node_at tree (node_place level oid)) (λ node. flat_map (line_part tree level oid) (entries_of tree.shape node))
 
--- the place of a child of a level is this one; where there is no child, there is a node at this place
+-- the place of a child of a level is this one; where there is no child, this is a place of a level above, and there is a node
 abbrev pub LeadsTo : {K : Type 0} → Tree K → ℕ → Option ℕ → NodeAt → Type 0
-LeadsTo tree level None at = has_node tree at ≡ true
+LeadsTo tree level None at = (has_node tree at ≡ true) × (passes at.level (nat_lt level) ≡ true)
 LeadsTo tree level (Some oid) at = at ≡ node_place level oid
 
 -- an item of a node above the leaves with this rank
@@ -109,5 +113,6 @@ pub record IsPassed {K : Type 0} (shape : Shape K) (site : Site) (named : ℕ �
   pub there : list_all (has_node (tree_in shape site named image)) (places_in passed) ≡ true
   pub leaves : List Leaf
   pub held : holds leaves
+  pub all : leaves_at site named (places_of (tree_in shape site named image) root) ≡ leaves ++ leaves_in site named left
   pub records : leaf_pairs passed ≡ records_in shape site image leaves
   pub few : reads + reads_in left ≤ start + (1 + (length (places_in passed) + length left))

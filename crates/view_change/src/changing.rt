@@ -1,5 +1,5 @@
 // The difference of a view from the one before, leaf by leaf.
-ghost use Rattle.std.specs.Prelude.{◌≡◌, ◌+◌, ◌≤◌, ◌++◌, [], ◌∷◌, ℕ, List, Some, None, true, IfOk, IfErr, IfSome, IfNone, IsErrOf, IsTrue, OnOk, option_to_list};
+ghost use Rattle.std.specs.Prelude.{◌≡◌, ◌+◌, ◌<◌, ◌≤◌, ◌++◌, [], ◌∷◌, ℕ, List, length, take, drop, Some, None, true, false, IfOk, IfErr, IfSome, IfNone, IsErrOf, IsTrue, OnOk, option_to_list};
 ghost use Rattle.apfs_model.specs.Counts.{Rose};
 ghost use Rattle.apfs_model.specs.Kept.{IsKept};
 ghost use Rattle.obj_base.specs.Site.{IsSiteFor};
@@ -12,9 +12,10 @@ ghost use Rattle.view_change.specs.declared.changing.Changing.{Changing as State
 ghost use Rattle.view_change.specs.Numbers.{joined, behind};
 ghost use Rattle.view_change.specs.Ends.{HasEnds};
 ghost use Rattle.view_change.specs.declared.kept.KeptLeaf.{KeptLeaf as Kept};
-ghost use Rattle.view_change.specs.Kept.{facts_of, IsKeptView};
+ghost use Rattle.view_change.specs.Kept.{facts_of, leaves_of, IsKeptView};
 ghost use Rattle.view_change.specs.Reading.{IsNodeOf};
-ghost use Rattle.view_change.specs.Changing.{facts_before, HasChanged, HasChangedTo, HasSettledTo, IsDifference};
+ghost use Rattle.view_change.specs.Shared.{is_among, shared_leaves, StayInOrder, ShareLeaves, IsWithin, ComesNext};
+ghost use Rattle.view_change.specs.Changing.{facts_before, leaves_left, HasChanged, HasChangedTo, HasSettledTo, IsDifference};
 
 use crate::kept::{Held, KeptLeaf, Numbers, no_facts};
 use crate::leaf_read::{add_records, ends_of};
@@ -74,6 +75,7 @@ impl Changing {
     pub fn new<K: TreeKey>(alloc: Global, before: KeptView) -> Changing
         ensures begun { (site : Place) (image : List ℕ) (names : Names) (leaves : List One) → IsKeptView K.shape site image names leaves before → HasChanged K.shape site image [] result result }
         ensures before { facts_before result ≡ facts_of before }
+        ensures leaves { leaves_left result ≡ leaves_of before }
     {
         let KeptView { held, in_order } = before;
         let names = held.names();
@@ -90,8 +92,12 @@ impl Changing {
         }
     }
 
-    // Where a leaf stands among the next of the view before from a place on. Nothing rests on it but the time.
-    fn place_of(&self, leaf: &Leaf, from: usize) -> Option<usize> {
+    // Where a leaf stands among the next of the view before from a place on.
+    fn place_of(&self, leaf: &Leaf, from: usize) -> Option<usize>
+        ensures inside { IfSome result (λ place. place < length (leaves_left self.now)) }
+        ensures found { IfSome result (λ place. ComesNext leaf.now (drop from (leaves_left self.now)) (drop (place + 1) (leaves_left self.now))) }
+        ensures none { IfNone result (is_among (take 256 (drop from (leaves_left self.now))) leaf.now ≡ false) }
+    {
         'next: for ahead in 0..AHEAD {
             let place = from.saturating_add(ahead);
             match self.leaves.get(place) {
@@ -104,7 +110,9 @@ impl Changing {
     }
 
     // How many of some leaves are found in the view before, one after the other.
-    fn count_found(&self, leaves: &[Leaf]) -> usize {
+    fn count_found(&self, leaves: &[Leaf]) -> usize
+        ensures { StayInOrder (leaves_left self.now) leaves.now → length (shared_leaves (leaves_left self.now) leaves.now) ≤ result }
+    {
         let mut from: usize = 0;
         let mut found: usize = 0;
         'leaves: for leaf in leaves {
@@ -117,7 +125,9 @@ impl Changing {
     }
 
     // Whether half of some leaves at least, and half of those of the view before, are in both.
-    fn shares_half(&self, leaves: &[Leaf]) -> bool {
+    fn shares_half(&self, leaves: &[Leaf]) -> bool
+        ensures { ShareLeaves (leaves_left self.now) leaves.now → result ≡ true }
+    {
         let most = leaves.len().max(self.leaves.len());
         self.count_found(leaves) >= most - most / 2
     }
@@ -138,6 +148,7 @@ impl Changing {
         ensures held { (start : State) (site : Place) (image : List ℕ) (leaves : List One) → HasChanged K.shape site image leaves start self.old → IfOk result (λ found. HasChangedTo K.shape site image leaves start (option_to_list found ++ self.new.leaves.items) self.new) }
         ensures same { IfOk result (λ found. IfSome found (λ kept. leaf ≡ Some kept.leaf)) }
         ensures end { IfOk result (λ found. IfNone found (self.new.leaves.items ≡ [])) }
+        ensures next { IfOk result (λ found. IfSome found (λ kept. ComesNext kept.leaf (leaves_left self.old) (leaves_left self.new))) }
     {
         'gone: while let Some(kept) = self.leaves.pop_front() {
             if leaf == Some(kept.leaf) {
@@ -166,6 +177,7 @@ impl Changing {
 
     // Takes a leaf that the view before has among its next ones.
     fn stay<K: TreeKey>(&mut self, leaf: Leaf) -> Result<Option<Ends>, NoMemory>
+        ensures next { IfOk result (λ found. IfSome found (λ ends. ComesNext leaf (leaves_left self.old) (leaves_left self.new))) }
         ensures leaf_ends { (start : State) (site : Place) (image : List ℕ) (leaves : List One) → HasChanged K.shape site image leaves start self.old → IfOk result (λ found. IfSome found (HasEnds K.shape site image leaf)) }
         ensures held { (start : State) (site : Place) (image : List ℕ) (leaves : List One) → HasChanged K.shape site image leaves start self.old → IfOk result (λ found. IfSome found (λ ends. HasChanged K.shape site image (leaves ++ leaf ∷ []) start self.new)) }
     {
@@ -184,6 +196,7 @@ impl Changing {
         leaf: Leaf,
         node: &NodeView<'_, K>,
     ) -> Result<Option<Ends>, NoMemory>
+        ensures same { self.new.leaves ≡ self.old.leaves }
         ensures leaf_ends { (site : Place) (image : List ℕ) → IsNodeOf K.shape site image leaf node.now → IfOk result (λ found. IfSome found (HasEnds K.shape site image leaf)) }
         ensures held { (start : State) (site : Place) (image : List ℕ) (leaves : List One) → IsNodeOf K.shape site image leaf node.now → HasChanged K.shape site image leaves start self.old → IfOk result (λ found. IfSome found (λ ends. HasChanged K.shape site image (leaves ++ leaf ∷ []) start self.new)) }
     {
@@ -213,6 +226,7 @@ impl Changing {
         requires { IsSiteFor site.now (S.bytes_len src.old) }
         ensures leaf_ends { (image : List ℕ) → S.bytes src.old ≡ Some image → IfOk result (λ found. IfSome found (HasEnds K.shape site.now image leaf)) }
         ensures held { (start : State) (image : List ℕ) (leaves : List One) → S.bytes src.old ≡ Some image → HasChanged K.shape site.now image leaves start self.old → IfOk result (λ found. IfSome found (λ ends. HasChanged K.shape site.now image (leaves ++ leaf ∷ []) start self.new)) }
+        ensures same { self.new.leaves ≡ self.old.leaves }
         ensures reads { S.reads src.new ≤ S.reads src.old + 1 }
         ensures free { IfErr result IsFree }
         ensures cause { IsErrOf result ReadFault → Rose (S.faults src.old) (S.faults src.new) }
@@ -277,6 +291,8 @@ impl Changing {
 
 impl<K: FsTreeKey> LeafTaker<K> for Changing {
     ghost holds = { λ start now site image leaves. HasChanged K.shape site image leaves start now };
+    ghost begins_within = { λ now leaves reads limit. ShareLeaves (leaves_left now) leaves × IsWithin (leaves_left now) leaves reads limit };
+    ghost goes_within = { λ now leaves reads limit. StayInOrder (leaves_left now) leaves × IsWithin (leaves_left now) leaves reads limit };
 
     fn foresee(&mut self, leaves: &[Leaf]) -> () {
         if !self.shares_half(leaves) {

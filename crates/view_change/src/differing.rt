@@ -8,9 +8,10 @@ ghost use Rattle.obj_base.specs.declared.stop.Stop.TheVariants.{ReadFault};
 ghost use Rattle.bt_keys.specs.Shapes.{fs_shape};
 ghost use Rattle.vol_view.specs.Placed.{view_nodes};
 ghost use Rattle.view_change.specs.declared.leaf.Leaf.{Leaf};
-ghost use Rattle.view_change.specs.Kept.{facts_of, IsKeptView};
+ghost use Rattle.view_change.specs.Shared.{ShareLeaves};
+ghost use Rattle.view_change.specs.Kept.{facts_of, leaves_of, IsKeptView};
 ghost use Rattle.view_change.specs.Changing.{HasDifference};
-ghost use Rattle.view_change.specs.Difference.{view_places, IsKeptOf};
+ghost use Rattle.view_change.specs.Difference.{view_places, view_leaves, new_nodes, IsKeptOf};
 
 use crate::{Changed, Changing, KeptView, walk_leaves};
 use blk_source::BlockSource;
@@ -22,6 +23,7 @@ use vol_view::{View, Volume};
 
 /// What is kept of a view, and how it differs from the one before, of which `before` is kept, where that is followed. A leaf that is found in the view before isn't read,
 /// unless fewer than half of the leaves of either view are in both: then the difference isn't followed. None where it isn't found: the names of the volume aren't hashed, the root is a leaf, the tree isn't whole, or a record can't be read.
+/// `reads_new`: of a view that shares leaves with the one before, each node is read at most once but for those leaves that the one before has.
 pub fn difference<S: BlockSource>(
     alloc: Global,
     src: &mut S,
@@ -35,6 +37,7 @@ pub fn difference<S: BlockSource>(
     ensures differs { (image : List ℕ) (leaves : List Leaf) → S.bytes src.old ≡ Some image → IsKeptView fs_shape site.now image volume.now.names leaves before → IfOk result (λ found. IfSome found (λ changed. IfSome changed.change (HasDifference (facts_of before) (facts_of changed.after)))) }
     ensures reads { (image : List ℕ) (leaves : List Leaf) → S.bytes src.old ≡ Some image → IsKeptView fs_shape site.now image volume.now.names leaves before → IfOk result (λ found. IfSome found (λ changed. S.reads src.new ≤ S.reads src.old + length (view_nodes image site.now volume.now view.now))) }
     ensures reads_met { (image : List ℕ) → S.bytes src.old ≡ Some image → S.reads src.new ≤ S.reads src.old + length (view_places image site.now volume.now view.now) }
+    ensures reads_new { (image : List ℕ) → S.bytes src.old ≡ Some image → ShareLeaves (leaves_of before) (view_leaves image site.now volume.now view.now) → IfOk result (λ found. IfSome found (λ changed. S.reads src.new ≤ S.reads src.old + new_nodes image site.now volume.now view.now (leaves_of before))) }
     ensures free { IfErr result IsFree }
     ensures cause { IsErrOf result ReadFault → Rose (S.faults src.old) (S.faults src.new) }
     ensures kept { IsKept S.bytes S.bytes_len S.faults src.old src.new }

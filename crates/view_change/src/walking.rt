@@ -8,7 +8,8 @@ ghost use Rattle.obj_base.specs.declared.stop.Stop.TheVariants.{ReadFault};
 ghost use Rattle.bt_cursor.specs.Tree.{block_named, tree_in};
 ghost use Rattle.bt_cursor.specs.Met.{nodes_of, places_of};
 ghost use Rattle.view_change.specs.declared.outline.Separator.{Separator};
-ghost use Rattle.view_change.specs.Outline.{reads_in, IsOutlined, IsPassed};
+ghost use Rattle.view_change.specs.Leaves.{leaves_at, uppers_in};
+ghost use Rattle.view_change.specs.Outline.{reads_in, leaves_in, IsOutlined, IsPassed};
 ghost use Rattle.view_change.specs.Walked.{IsNamed, IsTaken};
 
 use crate::Leaf;
@@ -55,6 +56,7 @@ fn pass<K: TreeKey, S: BlockSource, N: Namer, T: LeafTaker<K>>(
     requires named { All (IsNamed site.now (N.named namer.now)) leaves.now }
     ensures passed { (start : T) (image : List ℕ) (root keys nodes begun : ℕ) (left : List Separator) → S.bytes src.old ≡ Some image → IsPassed K.shape site.now (N.named namer.now) image root keys nodes (T.holds start taker.old site.now image) begun (S.reads src.old) (next ∷ left) seen → IfOk result (λ found. IfSome found (IsPassed K.shape site.now (N.named namer.now) image root keys nodes (T.holds start taker.new site.now image) begun (S.reads src.new) left)) }
     ensures reads { S.reads src.new ≤ S.reads src.old + reads_in (next ∷ []) }
+    ensures reads_new { (left : List Separator) (limit : ℕ) → T.goes_within taker.old (leaves_in site.now (N.named namer.now) (next ∷ left)) (S.reads src.old) limit → IfOk result (λ found. IfSome found (λ seen. T.goes_within taker.new (leaves_in site.now (N.named namer.now) left) (S.reads src.new) limit)) }
     ensures free { IfErr result IsFree }
     ensures cause { IsErrOf result ReadFault → Rose (S.faults src.old) (S.faults src.new) }
     ensures kept { IsKept S.bytes S.bytes_len S.faults src.old src.new }
@@ -89,6 +91,7 @@ fn pass_all<K: TreeKey, S: BlockSource, N: Namer, T: LeafTaker<K>>(
     ensures taken { (start : T) (image : List ℕ) (root begun : ℕ) → S.bytes src.old ≡ Some image → IsOutlined (tree_in K.shape site.now (N.named namer.now) image) root begun (S.reads src.old) outline.now → T.holds start taker.old site.now image [] → IfOk result (λ whole. IsTrue whole → IsTaken K.shape site.now (N.named namer.now) image root (T.holds start taker.new site.now image)) }
     ensures reads { (start : T) (image : List ℕ) (root begun : ℕ) → S.bytes src.old ≡ Some image → IsOutlined (tree_in K.shape site.now (N.named namer.now) image) root begun (S.reads src.old) outline.now → T.holds start taker.old site.now image [] → IfOk result (λ whole. IsTrue whole → S.reads src.new ≤ begun + length (nodes_of (tree_in K.shape site.now (N.named namer.now) image) root)) }
     ensures reads_met { S.reads src.new ≤ S.reads src.old + reads_in outline.now.separators.items }
+    ensures reads_new { (limit : ℕ) → T.goes_within taker.old (leaves_in site.now (N.named namer.now) outline.now.separators.items) (S.reads src.old) limit → IfOk result (λ whole. IsTrue whole → T.goes_within taker.new [] (S.reads src.new) limit) }
     ensures free { IfErr result IsFree }
     ensures cause { IsErrOf result ReadFault → Rose (S.faults src.old) (S.faults src.new) }
     ensures kept { IsKept S.bytes S.bytes_len S.faults src.old src.new }
@@ -117,7 +120,8 @@ fn leaves_of<N: Namer>(
     site: &Site,
     outline: &Outline,
 ) -> Result<Vec<Leaf>, NoMemory>
-    ensures { IfOk result (λ leaves. All (IsNamed site.now (N.named namer.now)) leaves.items) }
+    ensures named { IfOk result (λ leaves. All (IsNamed site.now (N.named namer.now)) leaves.items) }
+    ensures all { IfOk result (λ leaves. leaves.items ≡ leaves_in site.now (N.named namer.now) outline.now.separators.items) }
 {
     let mut leaves = Vec::new(alloc);
     'separators: for next in &outline.separators {
@@ -132,7 +136,8 @@ fn leaves_of<N: Namer>(
 
 /// Hands the leaves of a tree below its root to `taker`, in their order, and gives it back where the tree is whole; no leaf is read but by the
 /// taker. None where the root is a leaf, where a node isn't there, where something is out of order or counted wrong, and where a leaf isn't
-/// taken. `root` is the id of the root. Whatever is answered, there is at most one read for each place that the walk meets.
+/// taken. `root` is the id of the root. Whatever is answered, there is at most one read for each place that the walk meets. `reads_new`: with one for each
+/// node above the leaves, no more than the limit that the taker stays within.
 pub fn walk_leaves<K: TreeKey, S: BlockSource, N: Namer, T: LeafTaker<K>>(
     alloc: Global,
     src: &mut S,
@@ -145,6 +150,7 @@ pub fn walk_leaves<K: TreeKey, S: BlockSource, N: Namer, T: LeafTaker<K>>(
     ensures clear { (start : T) (image : List ℕ) → S.bytes src.old ≡ Some image → T.holds start taker site.now image [] → IfOk result (λ found. IfSome found (λ taker. IsTaken K.shape site.now (N.named namer.now) image root (T.holds start taker site.now image))) }
     ensures reads { (start : T) (image : List ℕ) → S.bytes src.old ≡ Some image → T.holds start taker site.now image [] → IfOk result (λ found. IfSome found (λ taker. S.reads src.new ≤ S.reads src.old + length (nodes_of (tree_in K.shape site.now (N.named namer.now) image) root))) }
     ensures reads_met { (image : List ℕ) → S.bytes src.old ≡ Some image → S.reads src.new ≤ S.reads src.old + length (places_of (tree_in K.shape site.now (N.named namer.now) image) root) }
+    ensures reads_new { (image : List ℕ) (limit : ℕ) → S.bytes src.old ≡ Some image → T.begins_within taker (leaves_at site.now (N.named namer.now) (places_of (tree_in K.shape site.now (N.named namer.now) image) root)) (S.reads src.old + length (uppers_in (places_of (tree_in K.shape site.now (N.named namer.now) image) root))) limit → IfOk result (λ found. IfSome found (λ taker. T.goes_within taker [] (S.reads src.new) limit)) }
     ensures free { IfErr result IsFree }
     ensures cause { IsErrOf result ReadFault → Rose (S.faults src.old) (S.faults src.new) }
     ensures kept { IsKept S.bytes S.bytes_len S.faults src.old src.new }

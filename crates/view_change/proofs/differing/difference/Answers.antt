@@ -1,4 +1,4 @@
-use Rattle.std.proofs.Common.{◌≡◌, ◌∙◌, ◌+◌, ◌≤◌, true, List, length, ap, sym, subst}
+use Rattle.std.proofs.Common.{◌≡◌, ◌∙◌, ◌+◌, ◌≤◌, true, List, [], length, ap, sym, subst, arith}
 use Rattle.std.specs.Prelude.{Option, IfSome}
 use Rattle.bt_keys.specs.Shapes.{fs_shape}
 use Rattle.bt_node.specs.declared.node.NodeAt.{NodeAt}
@@ -12,10 +12,13 @@ use Rattle.view_rules.specs.Facts.{Facts}
 use Rattle.view_facts.proofs.Walks.{nodes-hashed}
 use Rattle.view_change.specs.declared.leaf.Leaf.{Leaf}
 use Rattle.view_change.specs.declared.changing.Changing.{Changing}
-use Rattle.view_change.specs.Kept.{facts_of}
-use Rattle.view_change.specs.Changing.{HasChanged, HasDifference}
+use Rattle.view_change.specs.Kept.{facts_of, leaves_of}
+use Rattle.view_change.specs.Shared.{StayInOrder, ShareLeaves, IsWithin}
+use Rattle.view_change.specs.Changing.{leaves_left, HasChanged, HasDifference}
+use Rattle.view_change.specs.Difference.{view_leaves, new_nodes}
 use Rattle.view_change.specs.Walked.{IsTaken}
-use Rattle.view_change.proofs.Differs.{kept-view, kept-names, places-within}
+use Rattle.view_change.proofs.Passes.{at-some}
+use Rattle.view_change.proofs.Differs.{kept-view, kept-names, places-within, begins-so}
 use Rattle.view_change.proofs.differing.difference.Goals as goal
 
 pub returns-clause-after : goal.returns-clause-after
@@ -84,3 +87,19 @@ returns-clause-reads_met g c image told =
     let same : c.volume.inside.omap ≡ volume.omap = ap (λ (v : Loaded). v.omap) c.volume.view_is in
     let hashed : are_hashed volume.names ≡ true = ap (λ (v : Loaded). are_hashed v.names) (sym c.volume.view_is) ∙ (sym c.are_hashed.ensures ∙ c.if-not-are_hashed.false) in
     places-within image c.args.site.now volume c.args.view.now c.volume.inside.omap (g.S.BlockSource.reads c.args.src.now) (g.S.BlockSource.reads c.walk_leaves.new.src) same hashed (c.walk_leaves.ensures.reads_met image told)
+
+pub returns-clause-reads_new : goal.returns-clause-reads_new
+returns-clause-reads_new g c image told shares =
+    let site = c.args.site.now in
+    let volume = c.args.volume.now in
+    let view = c.args.view.now in
+    let reads = g.S.BlockSource.reads in
+    let before = leaves_of c.args.before in
+    let limit = reads c.args.src.now + new_nodes image site volume view before in
+    let same : c.volume.inside.omap ≡ volume.omap = ap (λ (v : Loaded). v.omap) c.volume.view_is in
+    let hashed : are_hashed volume.names ≡ true = ap (λ (v : Loaded). are_hashed v.names) (sym c.volume.view_is) ∙ (sym c.are_hashed.ensures ∙ c.if-not-are_hashed.false) in
+    let begins = begins-so image site volume view c.volume.inside.omap (leaves_left c.new-changing.result) (reads c.args.src.now) limit same hashed
+    (subst (λ (ls : List Leaf). ShareLeaves ls (view_leaves image site volume view)) (sym c.new-changing.ensures.leaves) shares)
+    (ap (λ (ls : List Leaf). reads c.args.src.now + new_nodes image site volume view ls) (sym c.new-changing.ensures.leaves)) in
+    let ends = at-some c.in_ok-changing.field-0 c.in-Some.changing (λ (now : Changing). StayInOrder (leaves_left now) [] × IsWithin (leaves_left now) [] (reads c.walk_leaves.new.src) limit) c.in-Some.is (c.in_ok-changing.ensures.reads_new image limit told begins) in
+    omega (arith, ends.1)
