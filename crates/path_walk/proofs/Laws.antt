@@ -1,6 +1,6 @@
 -- What the definitions promise of a view that meets its rules, and of every view.
 use Rattle.std.proofs.Common.{◌≡◌, ℕ, zero, suc, ◌+◌, ◌≤◌, ◌<◌, Bool, true, false, cond, List, [], ◌∷◌, length, Option, Some, None, Result, Ok, Err, ◌⊎◌, inl, inr, refl, ap, sym, ◌∙◌, subst, arith}
-use Rattle.std.specs.Prelude.{is_some, option_map, not, ◌&&◌, ◌==◌, slice_get}
+use Rattle.std.specs.Prelude.{is_some, option_map, not, ◌&&◌, slice_get}
 use Rattle.std.specs.List.{find, position, position_or_len}
 use Rattle.std.specs.Option.{option_or, ok_or}
 use Rattle.std.proofs.lemmas.Bool.{cases_lt, lt-ltb, le-ltb}
@@ -14,7 +14,7 @@ use Rattle.apfs_model.proofs.Searches.{get-in}
 use Rattle.path_walk.specs.Paths.{components}
 use Rattle.path_walk.specs.Places.{Place, placed, root_of}
 use Rattle.path_walk.specs.Found.{entries_in, has_name, has_form, entry_named, place_by, followed, step, walk, found, number_named}
-use Rattle.path_walk.specs.Listing.{listed, listing}
+use Rattle.path_walk.specs.Listing.{listing}
 use Rattle.path_walk.specs.declared.answer.Answer.{Answer}
 use Rattle.path_walk.specs.declared.answer.Answer.TheVariants.{NotFound, NotDirectory}
 use Rattle.apfs_model.proofs.BoolTests.{false-not, not-false}

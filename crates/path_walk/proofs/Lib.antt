@@ -13,3 +13,4 @@ pub mod Viewed
 pub mod Listed
 pub mod Gapless
 pub mod Needed
+pub mod Numbers

@@ -2,7 +2,7 @@
 use Rattle.std.proofs.Common.{◌≡◌, ℕ, ◌+◌, ◌<◌, Bool, true, false, cond, List, [], ◌∷◌, ◌++◌, length, map, take, drop, get_or, ◌≤◌, Option, Some, None, Result, Ok, Err, refl, ap, sym, ◌∙◌, arith}
 use Rattle.std.specs.Prelude.{filter_map, option_map}
 use Rattle.std.specs.List.{cons_option}
-use Rattle.std.proofs.lemmas.List.{drop_more, take_more, take_all, length-take-le}
+use Rattle.std.proofs.lemmas.List.{drop_more, take_more, take_all, length-take-le, map-append, take-map, drop-map}
 use Rattle.std.proofs.lemmas.List.Elements.{filter_map-append}
 use Rattle.apfs_model.specs.Lists.{and_then}
 use Rattle.fs_record.specs.Entries.{Entry}
@@ -51,10 +51,25 @@ targets_more facts es i e target targets low at there so_far =
     ∙ (ap (λ (o : Option Target). targets_by facts (whats (take i es)) ++ cons_option o []) (sym there)
     ∙ (sym (filter_map-append (target_by facts) (whats (take i es)) (e.what ∷ [])) ∙ ap (targets_by facts) (sym more)))
 
-pub targets_done : (facts : Facts) (es : List (Fact Entry)) (i : ℕ) (targets : List Target) → i ≡ length es → targets ≡ targets_by facts (whats (take i es)) → targets ≡ targets_by facts (whats es)
-targets_done facts es i targets end so_far = so_far ∙ ap (λ l. targets_by facts (whats l)) (take_all i es (omega arith))
-
 -- ---- entries with the kinds and sizes of their files
+-- what is told of each, one by one
+pub told_more : (f : Entry → Option KindAndSize) (es : List (Fact Entry)) (i : ℕ) (e : Fact Entry) (told : Option KindAndSize) (kinds : List (Option KindAndSize)) → i < length es → e ≡ get_or es i e → told ≡ f e.what → kinds ≡ map f (whats (take i es)) → kinds ++ told ∷ [] ≡ map f (whats (take (i + 1) es))
+told_more f es i e told kinds low at same so_far =
+    let more : whats (take (i + 1) es) ≡ whats (take i es) ++ e.what ∷ [] = ap whats (take_more es i e low ∙ ap (λ (g : Fact Entry). take i es ++ g ∷ []) (sym at)) ∙ whats-join (take i es) (e ∷ []) in
+    ap (λ l. l ++ told ∷ []) so_far
+    ∙ (ap (λ (o : Option KindAndSize). map f (whats (take i es)) ++ o ∷ []) same
+    ∙ (sym (map-append f (whats (take i es)) (e.what ∷ [])) ∙ ap (map f) (sym more)))
+
+pub told_done : (f : Entry → Option KindAndSize) (es : List (Fact Entry)) (i : ℕ) (kinds : List (Option KindAndSize)) → i ≡ length es → kinds ≡ map f (whats (take i es)) → kinds ≡ map f (whats es)
+told_done f es i kinds end so_far = so_far ∙ ap (λ l. map f (whats l)) (take_all i es (omega arith))
+
+-- what is told of a part of them
+pub told_part : (f : Entry → Option KindAndSize) (es : List (Fact Entry)) (from n : ℕ) → take n (drop from (map f (whats es))) ≡ map f (whats (take n (drop from es)))
+told_part f es from n =
+    let what : Fact Entry → Entry = λ (g : Fact Entry). g.what in
+    ap (take n) (drop-map f from (whats es))
+    ∙ (take-map f n (drop from (whats es)) ∙ ap (map f) (ap (take n) (drop-map what from es) ∙ take-map what n (drop from es)))
+
 -- what an entry leads to has its name and its file's id
 same-target : (facts : Facts) (e : Fact Entry) (target : Target) (told : KindAndSize) → target_by facts e.what ≡ Some target → told.kind ≡ target.kind → told.size ≡ target.size → target ≡ target_with e told
 same-target facts e target told there kind size =

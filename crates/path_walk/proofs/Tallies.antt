@@ -1,5 +1,5 @@
 -- How many items of a list pass a test.
-use Rattle.std.proofs.Common.{◌≡◌, ℕ, ◌+◌, ◌≤◌, Bool, true, false, cond, List, [], ◌∷◌, ◌++◌, map, Option, Some, None, ◌⊎◌, inl, inr, refl, ap, sym, ◌∙◌, arith}
+use Rattle.std.proofs.Common.{◌≡◌, ℕ, ◌+◌, ◌≤◌, Bool, true, false, cond, List, [], ◌∷◌, map, Option, Some, None, ◌⊎◌, inl, inr, refl, ap, sym, ◌∙◌, arith}
 use Rattle.std.specs.Prelude.{filter, filter_map, option_map, count_by}
 use Rattle.std.specs.List.{cons_option}
 use Rattle.std.proofs.lemmas.Bool.{false≢true}
@@ -26,6 +26,11 @@ pub bit-true : (b : Bool) → b ≡ true → bit b ≡ 1
 unfolding bit
 bit-true true e = refl
 bit-true false e = absurd (false≢true e)
+
+pub bit-false : (b : Bool) → b ≡ false → bit b ≡ 0
+unfolding bit
+bit-false true e = absurd (false≢true (sym e))
+bit-false false e = refl
 
 pub tally-is : {X : Type 0} (p : X → Bool) (xs : List X) → count_by p xs ≡ tally p xs
 unfolding tally
@@ -93,7 +98,7 @@ in-given {X} {Y} f (x ∷ xs) y h =
     ] in
     go (f x) refl h
 
-in-put : {X : Type 0} (name : X → List ℕ) (x : X) (xs : List X) (z : X) → In z (put_in name x xs) → (z ≡ x) ⊎ In z xs
+pub in-put : {X : Type 0} (name : X → List ℕ) (x : X) (xs : List X) (z : X) → In z (put_in name x xs) → (z ≡ x) ⊎ In z xs
 in-put name x [] z (inl e) = inl e
 in-put name x [] z (inr h) = absurd h
 in-put {X} name x (y ∷ ys) z h =
@@ -110,6 +115,37 @@ in-put {X} name x (y ∷ ys) z h =
 pub in-by : {X : Type 0} (name : X → List ℕ) (xs : List X) (z : X) → In z (by_name name xs) → In z xs
 in-by name [] z h = absurd h
 in-by name (x ∷ xs) z h = elim (in-put name x (by_name name xs) z h) as (λ _. In z (x ∷ xs)) [ inl e ↦ inl e | inr m ↦ inr (in-by name xs z m) ]
+
+-- a list by name has as many of each
+tally-put : {X : Type 0} (p : X → Bool) (name : X → List ℕ) (x : X) (xs : List X) → tally p (put_in name x xs) ≡ bit (p x) + tally p xs
+tally-put p name x [] = tally-cons p x []
+tally-put {X} p name x (y ∷ ys) =
+    let rest = tally-put p name x ys in
+    let two : tally p (y ∷ ys) ≡ bit (p y) + tally p ys = tally-cons p y ys in
+    let go : (b : Bool) → tally p (cond b (y ∷ put_in name x ys) (x ∷ y ∷ ys)) ≡ bit (p x) + tally p (y ∷ ys) = λ b. elim b as (λ b. tally p (cond b (y ∷ put_in name x ys) (x ∷ y ∷ ys)) ≡ bit (p x) + tally p (y ∷ ys)) [
+      | true ↦ let one : tally p (y ∷ put_in name x ys) ≡ bit (p y) + tally p (put_in name x ys) = tally-cons p y (put_in name x ys) in omega arith
+      | false ↦ tally-cons p x (y ∷ ys)
+    ] in
+    go (is_after name x y)
+
+pub tally-by : {X : Type 0} (p : X → Bool) (name : X → List ℕ) (xs : List X) → tally p (by_name name xs) ≡ tally p xs
+tally-by p name [] = refl
+tally-by p name (x ∷ xs) =
+    let rest = tally-by p name xs in
+    let one = tally-put p name x (by_name name xs) in
+    let two = tally-cons p x xs in omega arith
+
+-- of what is counted one is there
+pub tally-some : {X : Type 0} (p : X → Bool) (xs : List X) → 1 ≤ tally p xs → (x : X) × (In x xs × (p x ≡ true))
+tally-some p [] low = let none = tally-nil p in absurd (omega arith)
+tally-some {X} p (x ∷ xs) low =
+    let Found : Type 0 = (z : X) × (In z (x ∷ xs) × (p z ≡ true)) in
+    let more : tally p (x ∷ xs) ≡ bit (p x) + tally p xs = tally-cons p x xs in
+    let go : (b : Bool) → p x ≡ b → Found = λ b. elim b as (λ b. p x ≡ b → Found) [
+      | true ↦ λ e. (x, (inl refl, e))
+      | false ↦ λ e. let none : bit (p x) ≡ 0 = bit-false (p x) e in let t = tally-some p xs (omega arith) in (t.0, (inr t.1.0, t.1.1))
+    ] in
+    go (p x) refl
 
 pub mapped-at : {X Y : Type 0} (f : X → Y) (o : Option X) (y : Y) → option_map f o ≡ Some y → (x : X) × ((o ≡ Some x) × (f x ≡ y))
 mapped-at f None y e = absurd cc

@@ -1,7 +1,6 @@
 -- What the parts of the calls on paths give. These are for the contracts of this crate's own functions; what the calls promise is said elsewhere.
-use Rattle.std.specs.Prelude.{◌≡◌, ◌⊎◌, ℕ, ◌≤◌, Bool, true, false, List, [], ◌∷◌, ◌++◌, Option, None, Some, Result, Ok, Err, filter, filter_map, option_map, map, if◌then◌else◌}
+use Rattle.std.specs.Prelude.{◌≡◌, ◌⊎◌, ℕ, suc, ◌≤◌, Bool, true, false, List, [], ◌∷◌, ◌++◌, Option, None, Some, Result, Ok, Err, filter, filter_map, option_map, map, if◌then◌else◌}
 use Rattle.std.specs.Option.{ok_or}
-use Rattle.apfs_model.specs.Counts.{given}
 use Rattle.apfs_model.specs.Lists.{In, value_of}
 use Rattle.obj_base.specs.declared.stop.Stop.{Stop}
 use Rattle.obj_base.specs.declared.stop.Stop.TheVariants.{Found, Unsupported, ReadFault, NoMemory}
@@ -13,20 +12,21 @@ use Rattle.bt_cursor.specs.Flat.{flat_of}
 use Rattle.bt_cursor.specs.Gaps.{Gapped}
 use Rattle.bt_cursor.specs.From.{run_in, is_of_kind, starts_whole, is_kind_whole}
 use Rattle.fs_name.specs.declared.naming.Names.{Names}
-use Rattle.fs_record.specs.Inodes.{Inode}
+use Rattle.fs_record.specs.Inodes.{Inode, inode_kind}
 use Rattle.fs_record.specs.Entries.{Entry}
 use Rattle.fs_record.specs.Facts.{Fact, read_inode, read_entry, root_id, is_reserved}
 use Rattle.fs_record.specs.declared.fault.RecFault.{RecFault}
 use Rattle.view_rules.specs.declared.fault.TreeFault.{TreeFault}
 use Rattle.view_rules.specs.declared.fault.TreeFault.TheVariants.{NoInode}
 use Rattle.vol_view.specs.declared.volume.View.{View}
-use Rattle.view_rules.specs.Facts.{Facts, facts_in}
+use Rattle.view_rules.specs.Facts.{Facts, facts_in, inode_at}
 use Rattle.view_rules.specs.Entries.{IsNoInode, has_root}
 use Rattle.path_walk.specs.Paths.{is_component}
-use Rattle.path_walk.specs.Places.{Place, root_of, target_of}
+use Rattle.path_walk.specs.Places.{Place, root_of, size_of, target_of}
 use Rattle.path_walk.specs.Found.{has_name, has_form, place_by, step, walk}
 use Rattle.path_walk.specs.Needs.{AreRead, StepNeeds, WalkNeeds}
 use Rattle.path_walk.specs.declared.kinds.KindAndSize.{KindAndSize}
+use Rattle.path_walk.specs.declared.order.Numbered.{Numbered}
 use Rattle.path_walk.specs.declared.answer.Answer.{Answer}
 use Rattle.path_walk.specs.declared.answer.Answer.TheVariants.{NotFound}
 use Rattle.path_walk.specs.declared.stop.PathStop.{PathStop}
@@ -218,6 +218,20 @@ target_by facts e = option_map target_of (place_by facts e)
 abbrev pub target_with : Fact Entry → KindAndSize → Target
 target_with e told = record { id = e.what.file_id; name = e.what.name; kind = told.kind; size = told.size }
 
+-- the kind and the size of an inode, as they are told
+abbrev pub kind_told : Inode → KindAndSize
+kind_told inode = record { size = size_of inode.stream; kind = inode_kind inode }
+
+-- what is told so of an entry's file, where it has an inode
+abbrev pub kind_by : Facts → Entry → Option KindAndSize
+kind_by facts e = option_map kind_told (inode_at facts e.file_id)
+
+-- the entries of some facts, by ids that don't fall, and what is told of the file of each
+pub record Tells (facts : Facts) (entries : List (Fact Entry)) (kinds : List (Option KindAndSize)) : Type 0 where
+  pub all_entries : entries ≡ facts.entries
+  pub entries_rise : Rises entries
+  pub all_kinds : kinds ≡ map (kind_by facts) (whats entries)
+
 -- those of some entries, in their order
 abbrev pub targets_with : List (Fact Entry) → List KindAndSize → List Target
 targets_with [] kinds = []
@@ -227,3 +241,8 @@ targets_with (e ∷ es) (told ∷ kinds) = target_with e told ∷ targets_with e
 -- what a directory's entries lead to, as it is told, in record order
 abbrev pub targets_by : Facts → List Entry → List Target
 targets_by facts es = filter_map (target_by facts) es
+
+-- targets with their numbers, from one on
+abbrev pub numbered : ℕ → List Target → List Numbered
+numbered n [] = []
+numbered n (target ∷ targets) = record { number = n; target = target } ∷ numbered (suc n) targets

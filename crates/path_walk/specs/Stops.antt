@@ -5,7 +5,6 @@ use Rattle.view_rules.specs.declared.fault.TreeFault.{TreeFault}
 use Rattle.vol_view.specs.Volumes.{Loaded}
 use Rattle.vol_view.specs.declared.volume.View.{View}
 use Rattle.ext_ref.specs.declared.range.NewRange.{NewRange}
-use Rattle.view_rules.specs.Rules as rules
 use Rattle.view_rules.specs.Rules.{HasTreeRules, IsTreeFault}
 use Rattle.view_rules.specs.declared.profile.Profile.{Profile}
 

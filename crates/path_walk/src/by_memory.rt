@@ -61,7 +61,7 @@ pub fn place_in(
 }
 
 /// What an entry's file is, as it is told. What `shift` has is how far the last file's id is from the place of its inode, 0 at first; it decides nothing.
-pub fn target_in<'a>(
+pub(crate) fn target_in<'a>(
     alloc: Global,
     inodes: &[InodeFact],
     view: &View,

@@ -1,5 +1,5 @@
 // The entries and the inodes of a view in memory.
-ghost use Rattle.std.specs.Prelude.{◌≡◌, ◌==◌, ◌≤◌, nat_lt, true, false, length, Some, None, option_map, filter};
+ghost use Rattle.std.specs.Prelude.{◌≡◌, ◌==◌, ◌≤◌, ◌+◌, take, drop, nat_lt, true, false, length, Some, None, option_map, filter};
 ghost use Rattle.std.specs.List.Sorted.{IsPartitionPoint};
 ghost use Rattle.view_rules.specs.Facts.{Facts, inode_at};
 ghost use Rattle.path_walk.specs.Found.{entries_in};
@@ -132,14 +132,33 @@ fn inodes_below(inodes: &[InodeFact], id: u64, shift: &mut u64) -> usize
     found
 }
 
-// The entries of the directory of an id.
-fn run_of(entries: &[EntryFact], id: u64) -> &[EntryFact]
-    ensures { Rises entries.now → result.now ≡ filter (λ f. f.id == id) entries.now }
+/// So many items from a place on.
+pub(crate) fn part<T>(items: &[T], from: usize, count: usize) -> &[T]
+    requires { from + count ≤ length items.now }
+    ensures items { result.now ≡ take count (drop from items.now) }
+    ensures counted { length result.now ≡ count }
+{
+    let rest = &items[from..];
+    &rest[..count]
+}
+
+/// Where the entries of the directory of an id begin, and how many they are.
+pub(crate) fn run_at(entries: &[EntryFact], id: u64) -> (usize, usize)
+    ensures inside { result.0 + result.1 ≤ length entries.now }
+    ensures run { Rises entries.now → take result.1 (drop result.0 entries.now) ≡ filter (λ f. f.id == id) entries.now }
 {
     let from = entries_below(entries, id);
     let rest = &entries[from..];
     let count = entries_of(rest, id);
-    &rest[..count]
+    (from, count)
+}
+
+// The entries of the directory of an id.
+fn run_of(entries: &[EntryFact], id: u64) -> &[EntryFact]
+    ensures { Rises entries.now → result.now ≡ filter (λ f. f.id == id) entries.now }
+{
+    let (from, count) = run_at(entries, id);
+    part(entries, from, count)
 }
 
 /// The entries of a directory that are followed and listed.

@@ -1,17 +1,18 @@
 // What is told of an inode beside the name that leads to it.
-ghost use Rattle.std.specs.Prelude.{◌≡◌, IfOk};
-ghost use Rattle.path_walk.specs.Parts.{target_with};
+ghost use Rattle.std.specs.Prelude.{◌≡◌, IfOk, Some, None};
+ghost use Rattle.path_walk.specs.Parts.{target_with, kind_told};
 
-use crate::kept::KeptTarget;
+use crate::kept::{KeptTarget, size};
 use apfs_model::NoMemory;
 use std::alloc::Global;
-use view_facts::EntryFact;
+use std::marker::Model;
+use view_facts::{EntryFact, InodeFact};
 
 /// The kind of an inode, and the size of its stream, 0 without one.
 #[derive(Drop)]
-pub(crate) struct KindAndSize {
-    pub(crate) size: u64,
-    pub(crate) kind: u16,
+pub struct KindAndSize {
+    pub size: u64,
+    pub kind: u16,
 }
 
 impl KindAndSize {
@@ -20,5 +21,59 @@ impl KindAndSize {
         ensures { IfOk result (λ target. target ≡ target_with entry.now self.now) }
     {
         KeptTarget::named(alloc, entry.file_id(), entry.name(), self.kind, self.size)
+    }
+}
+
+/// The kind and the size of a file, or that it has no inode, in 16 bytes. Contracts see it as the one or the other.
+#[derive(Drop)]
+pub struct FileKind {
+    size: u64,
+    kind: u16,
+    found: bool,
+}
+
+impl Model for FileKind {
+    ghost use Rattle.std.specs.Prelude.{Option, None, Some, if◌then◌else◌};
+    ghost use Rattle.path_walk.specs.declared.kinds.KindAndSize.{KindAndSize};
+
+    ghost Value = { Option KindAndSize };
+
+    ghost view = { λ a. if a.found then Some (record { size = a.size; kind = a.kind }) else None };
+}
+
+impl FileKind {
+    /// What is told of a file with this inode.
+    pub(crate) fn of(inode: &InodeFact) -> FileKind
+        ensures { result ≡ Some (kind_told inode.now.what) }
+    {
+        FileKind {
+            size: size(inode.stream()),
+            kind: inode.kind(),
+            found: true,
+        }
+    }
+
+    /// What is told of a file without an inode.
+    pub(crate) fn none() -> FileKind
+        ensures { result ≡ None }
+    {
+        FileKind {
+            size: 0,
+            kind: 0,
+            found: false,
+        }
+    }
+
+    /// The kind and the size, where it has an inode.
+    pub(crate) fn told(&self) -> Option<KindAndSize>
+        ensures { result ≡ self.now }
+    {
+        if !self.found {
+            return None;
+        }
+        Some(KindAndSize {
+            size: self.size,
+            kind: self.kind,
+        })
     }
 }

@@ -1,6 +1,7 @@
 // Targets whose names stand in the entries that lead to them.
 ghost use Rattle.std.specs.Prelude.{◌≡◌, IfOk};
 ghost use Rattle.path_walk.specs.Places as spec;
+ghost use Rattle.path_walk.specs.Parts.{target_with};
 
 use crate::kept::{KeptTarget, size};
 use crate::kinds::KindAndSize;
@@ -34,6 +35,17 @@ impl<'a> LentTarget<'a> {
             entry,
             size: size(inode.stream()),
             kind: inode.kind(),
+        }
+    }
+
+    /// What an entry's file is, which has this kind and this size.
+    pub(crate) fn with(entry: &'a EntryFact, kind: KindAndSize) -> LentTarget<'a>
+        ensures { result ≡ target_with entry.now kind }
+    {
+        LentTarget {
+            entry,
+            size: kind.size,
+            kind: kind.kind,
         }
     }
 

@@ -1,8 +1,9 @@
 // Targets by name.
-ghost use Rattle.std.specs.Prelude.{◌≡◌, [], ◌∷◌, length, IfOk};
+ghost use Rattle.std.specs.Prelude.{◌≡◌, List, [], ◌∷◌, length, map, IfOk};
 ghost use Rattle.path_walk.specs.Order as order;
 ghost use Rattle.path_walk.specs.Places.{target_of};
-ghost use Rattle.path_walk.specs.Parts.{targets_with};
+ghost use Rattle.path_walk.specs.Parts.{targets_with, numbered};
+ghost use Rattle.path_walk.specs.declared.target.Target.{Target};
 
 use crate::Target;
 use crate::kept::{KeptTarget, Place};
@@ -13,11 +14,30 @@ use view_facts::EntryFact;
 
 /// Some targets by the bytes of their names, those of one name in their order. The names lie in place, so that a sort reads them where it moves them, and the comparison of
 /// texts takes their first sixteen bytes as two numbers.
-pub fn kept_by_name(mut targets: Vec<KeptTarget>) -> Result<Vec<KeptTarget>, AllocError>
+pub(crate) fn kept_by_name(mut targets: Vec<KeptTarget>) -> Result<Vec<KeptTarget>, AllocError>
     ensures { IfOk result (λ sorted. sorted.items ≡ order.by_name (λ target. target.name) targets.items) }
 {
     targets.sort_by(|a, b| a.name().cmp(b.name()))?;
     Ok(targets)
+}
+
+/// A target with the number of its entry among those of its directory.
+#[derive(Drop)]
+pub struct Numbered {
+    pub number: usize,
+    pub target: KeptTarget,
+}
+
+/// Sorts numbered targets as `kept_by_name` does, where they stand: their numbers tell how those of one name stood, so that no buffer is needed.
+pub fn sort_numbered(targets: &mut Vec<Numbered>)
+    ensures { (before : List Target) → targets.old.items ≡ numbered 0 before → map (λ t. t.target) targets.new.items ≡ order.by_name (λ target. target.name) before }
+{
+    targets.sort_unstable_by(|a, b| {
+        a.target
+            .name()
+            .cmp(b.target.name())
+            .then(a.number.cmp(&b.number))
+    });
 }
 
 /// The targets of some entries whose files have these kinds and sizes, each with a name of its own.

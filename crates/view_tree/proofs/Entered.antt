@@ -30,6 +30,7 @@ use Rattle.view_tree.specs.Tree.{rows_below, rows_at, lone_row, row_told, tree}
 use Rattle.path_walk.specs.Parts.{whats, IsLack, IsKnown, IsPlaceKnown, WhereTold}
 use Rattle.view_tree.specs.Parts.{IsUnderway, HasAll, IsTaken, is_opened_target, told_after, told_of, told_under, told_from, IsRepeat, IsTreeKnown, IsTreeStop, RowsEntered}
 use Rattle.path_walk.specs.declared.answer.Answer.{Answer}
+use Rattle.path_walk.specs.declared.kinds.KindAndSize.{KindAndSize}
 use Rattle.path_walk.specs.declared.stop.PathStop.{PathStop}
 use Rattle.path_walk.specs.declared.stop.PathStop.TheVariants as stops
 use Rattle.path_walk.specs.declared.target.Target.{Target}
@@ -219,13 +220,13 @@ pub entered_by : (facts : Facts) (first id other : ℕ) → id ≡ other → IsE
 entered_by facts first id other same is = subst (λ i. IsEntered facts first i) (sym same) is
 
 -- an entry of a directory that is entered, and what it leads to
-pub met_entry : (facts : Facts) (path : List ℕ) (first id number : ℕ) (entries : List (Fact Entry)) (inodes : List (Fact Inode)) (es : List (Fact Entry)) (e : Fact Entry) (place : Place) (target : Target) (opened : Bool) →
-    IsUnderway facts path first entries inodes → IsEntered facts first id → HasAll facts id es → number < length es → e ≡ get_or es number e → place_by facts e.what ≡ Some place → target ≡ target_of place → opened ≡ is_opened_target target →
+pub met_entry : (facts : Facts) (path : List ℕ) (first id number : ℕ) (entries : List (Fact Entry)) (kinds : List (Option KindAndSize)) (es : List (Fact Entry)) (e : Fact Entry) (place : Place) (target : Target) (opened : Bool) →
+    IsUnderway facts path first entries kinds → IsEntered facts first id → HasAll facts id es → number < length es → e ≡ get_or es number e → place_by facts e.what ≡ Some place → target ≡ target_of place → opened ≡ is_opened_target target →
     IsMet facts path (spot_in id number) × (IsEntryOf facts (spot_in id number) target.id × (opened ≡ true → is_user_id facts target.id ≡ true))
-met_entry facts path first id number entries inodes es e place target opened way entered all low at there same test =
+met_entry facts path first id number entries kinds es e place target opened way entered all low at there same test =
     let file : place.id ≡ e.what.file_id = (place-file facts e.what place there).0 in
     let is : target.id ≡ place.id = ap (λ (t : Target). t.id) same in (
-      met_under facts path first id number entries inodes way entered,
+      met_under facts path first id number entries kinds way entered,
       (
         subst (λ i. IsEntryOf facts (spot_in id number) i) (sym (is ∙ file)) (entry_of facts id number es e all low at),
         λ opens. ap (is_user_id facts) is ∙ user_of facts e.what place there (ap is_opened_target (sym same) ∙ (sym test ∙ opens)),

@@ -8,3 +8,4 @@ pub mod Staying
 pub mod RowsKept
 pub mod RowsPut
 pub mod Trails
+pub mod Numbered

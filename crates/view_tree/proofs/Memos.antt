@@ -20,6 +20,7 @@ use Rattle.view_tree.specs.Met.{Spot, spot_in, spot_named, taken_from, taken, is
 use Rattle.path_walk.specs.Parts.{whats, by_part}
 use Rattle.view_tree.specs.Parts.{is_opened_target, IsMemo, IsUnderway, HasAll, IsTaken}
 use Rattle.path_walk.specs.declared.answer.Answer.{Answer}
+use Rattle.path_walk.specs.declared.kinds.KindAndSize.{KindAndSize}
 use Rattle.path_walk.specs.declared.answer.Answer.TheVariants.{NotFound, NotDirectory}
 use Rattle.path_walk.proofs.Laws.{number_of_the_entry, ok-err}
 use Rattle.path_walk.proofs.Entries.{place-file}
@@ -56,8 +57,8 @@ entry_of facts id number es e all low at = record {
     what-there (g ∷ fs) zero f low at = ap (λ (h : Fact Entry). Some h.what) (sym at)
     what-there (g ∷ fs) (suc i) f low at = what-there fs i f (omega arith) at
 
-pub met_under : (facts : Facts) (path : List ℕ) (first id number : ℕ) (entries : List (Fact Entry)) (inodes : List (Fact Inode)) → IsUnderway facts path first entries inodes → IsEntered facts first id → IsMet facts path (spot_in id number)
-met_under facts path first id number entries inodes way entered = inr (record {
+pub met_under : (facts : Facts) (path : List ℕ) (first id number : ℕ) (entries : List (Fact Entry)) (kinds : List (Option KindAndSize)) → IsUnderway facts path first entries kinds → IsEntered facts first id → IsMet facts path (spot_in id number)
+met_under facts path first id number entries kinds way entered = inr (record {
   place = way.place;
   found_there = way.there;
   directory = way.directory;

@@ -3,7 +3,6 @@ use Rattle.std.proofs.Common.{◌≡◌, ℕ, zero, suc, ◌+◌, ◌-◌, ◌<�
 use Rattle.std.specs.Prelude.{slice_get}
 use Rattle.std.proofs.lemmas.List.{take_all, take-append-le}
 use Rattle.path_walk.specs.Paths.{slash}
-use Rattle.path_walk.specs.declared.target.Target.{Target}
 use Rattle.view_tree.specs.Kept.{path_after, told_rows, last_path}
 use Rattle.view_tree.specs.Trails.{path_before, IsOn, path_of}
 use Rattle.view_tree.specs.declared.kept.Row.{Row}

@@ -1,12 +1,11 @@
 -- What the parts of a tree give. These are for the contracts of this crate's own functions; what `tree` promises is said elsewhere.
-use Rattle.std.specs.Prelude.{◌≡◌, ◌⊎◌, ◌≤◌, ℕ, zero, suc, length, take, nat_le, IfSome, Bool, true, ◌&&◌, ◌==◌, List, [], ◌∷◌, ◌++◌, Some, Result, Ok, Err, filter, map, if◌then◌else◌}
+use Rattle.std.specs.Prelude.{◌≡◌, ◌⊎◌, ◌≤◌, ℕ, zero, suc, length, take, nat_le, IfSome, Bool, true, ◌&&◌, ◌==◌, List, [], ◌∷◌, ◌++◌, Option, Some, Result, Ok, Err, filter, map, if◌then◌else◌}
 use Rattle.std.specs.BTreeMap.{BTreeMap, get}
 use Rattle.std.specs.Ordering.{nat_cmp}
 use Rattle.apfs_model.specs.Lists.{In}
 use Rattle.obj_base.specs.declared.stop.Stop.{Stop}
 use Rattle.obj_base.specs.declared.stop.Stop.TheVariants.{Found, Unsupported, ReadFault, NoMemory}
 use Rattle.fs_name.specs.Shown.{shown_name}
-use Rattle.fs_record.specs.Inodes.{Inode}
 use Rattle.fs_record.specs.Entries.{Entry}
 use Rattle.fs_record.specs.Facts.{Fact, directory_kind, first_user_id}
 use Rattle.view_rules.specs.declared.fault.TreeFault.{TreeFault}
@@ -21,8 +20,9 @@ use Rattle.view_tree.specs.Met.{Spot, spot_in, taken_from, taken, is_user_id, Is
 use Rattle.path_walk.specs.declared.answer.Answer.{Answer}
 use Rattle.path_walk.specs.declared.stop.PathStop.{PathStop}
 use Rattle.path_walk.specs.declared.target.Target.{Target}
+use Rattle.path_walk.specs.declared.kinds.KindAndSize.{KindAndSize}
 use Rattle.path_walk.specs.declared.stop.PathStop.TheVariants as stops
-use Rattle.path_walk.specs.Parts.{whats, Remembers, HasEntries, IsLack}
+use Rattle.path_walk.specs.Parts.{whats, kind_by, Tells, HasEntries, IsLack}
 use Rattle.view_tree.specs.Kept.{path_after}
 use Rattle.view_tree.specs.declared.kept.Row.{Row}
 
@@ -121,9 +121,9 @@ IsTreeStop facts view path (Unsupported feature block) = ⊥
 IsTreeStop facts view path ReadFault = ⊥
 IsTreeStop facts view path NoMemory = Unit {0}
 
--- a tree is underway: its path leads to a directory of this id, and these are the facts of the view
-pub record IsUnderway (facts : Facts) (path : List ℕ) (first : ℕ) (entries : List (Fact Entry)) (inodes : List (Fact Inode)) : Type 0 where
-  pub remembers : Remembers facts entries inodes
+-- a tree is underway: its path leads to a directory of this id, and these are the entries of the view, with what is told of their files
+pub record IsUnderway (facts : Facts) (path : List ℕ) (first : ℕ) (entries : List (Fact Entry)) (kinds : List (Option KindAndSize)) : Type 0 where
+  pub tells : Tells facts entries kinds
   pub place : Place
   pub there : found facts path ≡ Ok place
   pub same : place.id ≡ first
@@ -133,6 +133,10 @@ pub record IsUnderway (facts : Facts) (path : List ℕ) (first : ℕ) (entries :
 pub record HasAll (facts : Facts) (id : ℕ) (entries : List (Fact Entry)) : Type 0 where
   pub all : whats entries ≡ entries_in facts id
   pub each : HasEntries facts entries
+
+-- this is what is told of their files
+abbrev pub AreTold : Facts → List (Fact Entry) → List (Option KindAndSize) → Type 0
+AreTold facts entries kinds = kinds ≡ map (kind_by facts) (whats entries)
 
 -- directories among the targets of some rows are entered by the tree of a directory
 abbrev pub RowsEntered : Facts → ℕ → List (List ℕ × Target) → Type 0

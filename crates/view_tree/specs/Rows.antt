@@ -1,6 +1,5 @@
 -- What the rows of a tree show of the entries that it meets.
 use Rattle.std.specs.Prelude.{◌≡◌, ◌⊎◌, ℕ, Bool, true, ◌&&◌, ◌==◌, nat_le, List, Ok}
-use Rattle.std.specs.List
 use Rattle.apfs_model.specs.Lists.{In}
 use Rattle.fs_record.specs.Facts.{directory_kind, first_user_id}
 use Rattle.view_rules.specs.Facts.{Facts, has_inode, is_directory}

@@ -47,7 +47,7 @@ pub fn tree_rows<S: BlockSource>(
         Ok(files) => files,
         Err(stop) => return Err(stop),
     };
-    match tree_in(alloc, &files, volume.names, view, path) {
+    match tree_in(alloc, files, volume.names, view, path) {
         Ok(rows) => Ok(rows),
         Err(stop) => Err(stop),
     }

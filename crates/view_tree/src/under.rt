@@ -14,21 +14,20 @@ ghost use Rattle.view_tree.specs.Met.{spot_in, is_user_id, IsEntryOf, IsEntered,
 ghost use Rattle.view_tree.specs.Rows.{IsShownTwice, HaveMetFiles};
 ghost use Rattle.path_walk.specs.Needs.{PathNeeds};
 ghost use Rattle.path_walk.specs.Calls.{IsNoAnswer};
-ghost use Rattle.path_walk.specs.Parts.{whats, by_part, along, targets_by, Remembers, PartNeeds, AlongNeeds, WhereTold, of_any};
-ghost use Rattle.view_tree.specs.Parts.{is_opened_target, told_of, told_from, row_at, kept_under, IsMemo, IsTaken, TakesFrom, HasAll, IsUnderway, IsTreeStop, IsTreeKnown, StaysKept, AreKeptIn, AreRowsKept, KeepsTaken, KeepsFrom, KeepsPath};
+ghost use Rattle.path_walk.specs.Parts.{whats, by_part, along, targets_by, numbered, Remembers, PartNeeds, AlongNeeds, WhereTold, of_any};
+ghost use Rattle.view_tree.specs.Parts.{is_opened_target, told_of, told_from, row_at, kept_under, IsMemo, IsTaken, TakesFrom, HasAll, AreTold, IsUnderway, IsTreeStop, IsTreeKnown, StaysKept, AreKeptIn, AreRowsKept, KeepsTaken, KeepsFrom, KeepsPath};
 
 use crate::kept::{KeptRows, Row};
 use crate::lines::push_name_of;
 use apfs_model::{Bytes, NoMemory};
 use fs_name::Names;
 use obj_base::Stop;
-use path_walk::by_memory::{go_by, root, target_in};
+use path_walk::by_memory::{go_by, root};
 use path_walk::choice::{choose_number, parts};
-use path_walk::order::kept_by_name;
-use path_walk::{Files, KeptTarget, PathStop, Place};
+use path_walk::order::{Numbered, sort_numbered};
+use path_walk::{Files, KeptTarget, PathStop, Place, ToldFiles, ToldRun, target_told};
 use std::alloc::Global;
 use std::collections::BTreeMap;
-use view_facts::EntryFact;
 use view_rules::{IdAt, TreeFault};
 use vol_view::View;
 
@@ -110,22 +109,21 @@ fn meet(
 // Meets the entries of a directory, each with its number there, and gives what they lead to, in their order.
 fn meet_entries(
     alloc: Global,
-    files: &Files,
+    files: &ToldFiles,
     view: &View,
     memo: &mut BTreeMap<u64, (u64, usize)>,
     id: u64,
-    entries: &[EntryFact],
-) -> Result<Vec<KeptTarget>, Stop<PathStop>>
+    run: &ToldRun<'_>,
+) -> Result<Vec<Numbered>, Stop<PathStop>>
     ensures no_read { IsErrOf result ReadFault → ⊥ }
-    ensures gives { (facts : Facts) (path : List ℕ) (first : ℕ) → IsUnderway facts path first files.now.entries.items files.now.inodes.items → IsEntered facts first id → HasAll facts id entries.now → IsMemo facts path memo.old → IfOk result (λ targets. targets.items ≡ targets_by facts (whats entries.now)) }
-    ensures kept { (facts : Facts) (path : List ℕ) (first : ℕ) → IsUnderway facts path first files.now.entries.items files.now.inodes.items → IsEntered facts first id → HasAll facts id entries.now → IsMemo facts path memo.old → OnOk result (IsMemo facts path memo.new) }
-    ensures stops { (facts : Facts) (path : List ℕ) (first : ℕ) → IsUnderway facts path first files.now.entries.items files.now.inodes.items → IsEntered facts first id → HasAll facts id entries.now → IsMemo facts path memo.old → IfErr result (IsTreeStop facts view.now path) }
-    ensures all { (facts : Facts) (path : List ℕ) (first : ℕ) → IsUnderway facts path first files.now.entries.items files.now.inodes.items → IsEntered facts first id → HasAll facts id entries.now → IsMemo facts path memo.old → OnOk result (StaysKept memo.old memo.new × AreKeptIn facts memo.new id) }
+    ensures gives { (facts : Facts) (path : List ℕ) (first : ℕ) → IsUnderway facts path first files.now.entries.items files.now.kinds.items → IsEntered facts first id → HasAll facts id run.now.entries.now → AreTold facts run.now.entries.now run.now.kinds.now → IsMemo facts path memo.old → IfOk result (λ targets. targets.items ≡ numbered 0 (targets_by facts (whats run.now.entries.now))) }
+    ensures kept { (facts : Facts) (path : List ℕ) (first : ℕ) → IsUnderway facts path first files.now.entries.items files.now.kinds.items → IsEntered facts first id → HasAll facts id run.now.entries.now → AreTold facts run.now.entries.now run.now.kinds.now → IsMemo facts path memo.old → OnOk result (IsMemo facts path memo.new) }
+    ensures stops { (facts : Facts) (path : List ℕ) (first : ℕ) → IsUnderway facts path first files.now.entries.items files.now.kinds.items → IsEntered facts first id → HasAll facts id run.now.entries.now → AreTold facts run.now.entries.now run.now.kinds.now → IsMemo facts path memo.old → IfErr result (IsTreeStop facts view.now path) }
+    ensures all { (facts : Facts) (path : List ℕ) (first : ℕ) → IsUnderway facts path first files.now.entries.items files.now.kinds.items → IsEntered facts first id → HasAll facts id run.now.entries.now → AreTold facts run.now.entries.now run.now.kinds.now → IsMemo facts path memo.old → OnOk result (StaysKept memo.old memo.new × AreKeptIn facts memo.new id) }
 {
-    let mut targets = Vec::with_capacity(alloc, entries.len())?;
-    let mut shift = 0;
-    for (number, entry) in entries.iter().enumerate() {
-        let lent = match target_in(alloc, &files.inodes, view, entry, &mut shift) {
+    let mut targets = Vec::with_capacity(alloc, run.entries.len())?;
+    for (number, entry) in run.entries.iter().enumerate() {
+        let lent = match target_told(alloc, view, entry, &run.kinds[number]) {
             Ok(lent) => lent,
             Err(stop) => return Err(stop),
         };
@@ -134,7 +132,7 @@ fn meet_entries(
             Ok(()) => {}
             Err(stop) => return Err(stop),
         }
-        targets.push(target)?;
+        targets.push(Numbered { number, target })?;
     }
     Ok(targets)
 }
@@ -142,51 +140,50 @@ fn meet_entries(
 // What a directory that is entered has, by name.
 fn enter(
     alloc: Global,
-    files: &Files,
+    files: &ToldFiles,
     view: &View,
     memo: &mut BTreeMap<u64, (u64, usize)>,
     id: u64,
-) -> Result<Vec<KeptTarget>, Stop<PathStop>>
+) -> Result<Vec<Numbered>, Stop<PathStop>>
     ensures no_read { IsErrOf result ReadFault → ⊥ }
-    ensures gives { (facts : Facts) (path : List ℕ) (first : ℕ) → IsUnderway facts path first files.now.entries.items files.now.inodes.items → IsEntered facts first id → IsMemo facts path memo.old → IfOk result (λ targets. targets.items ≡ map target_of (children facts id)) }
-    ensures kept { (facts : Facts) (path : List ℕ) (first : ℕ) → IsUnderway facts path first files.now.entries.items files.now.inodes.items → IsEntered facts first id → IsMemo facts path memo.old → OnOk result (IsMemo facts path memo.new) }
-    ensures stops { (facts : Facts) (path : List ℕ) (first : ℕ) → IsUnderway facts path first files.now.entries.items files.now.inodes.items → IsEntered facts first id → IsMemo facts path memo.old → IfErr result (IsTreeStop facts view.now path) }
-    ensures all { (facts : Facts) (path : List ℕ) (first : ℕ) → IsUnderway facts path first files.now.entries.items files.now.inodes.items → IsEntered facts first id → IsMemo facts path memo.old → OnOk result (StaysKept memo.old memo.new × AreKeptIn facts memo.new id) }
+    ensures gives { (facts : Facts) (path : List ℕ) (first : ℕ) → IsUnderway facts path first files.now.entries.items files.now.kinds.items → IsEntered facts first id → IsMemo facts path memo.old → IfOk result (λ targets. map (λ t. t.target) targets.items ≡ map target_of (children facts id)) }
+    ensures kept { (facts : Facts) (path : List ℕ) (first : ℕ) → IsUnderway facts path first files.now.entries.items files.now.kinds.items → IsEntered facts first id → IsMemo facts path memo.old → OnOk result (IsMemo facts path memo.new) }
+    ensures stops { (facts : Facts) (path : List ℕ) (first : ℕ) → IsUnderway facts path first files.now.entries.items files.now.kinds.items → IsEntered facts first id → IsMemo facts path memo.old → IfErr result (IsTreeStop facts view.now path) }
+    ensures all { (facts : Facts) (path : List ℕ) (first : ℕ) → IsUnderway facts path first files.now.entries.items files.now.kinds.items → IsEntered facts first id → IsMemo facts path memo.old → OnOk result (StaysKept memo.old memo.new × AreKeptIn facts memo.new id) }
 {
-    let targets = match meet_entries(alloc, files, view, memo, id, files.directory(id)) {
+    let run = files.directory(id);
+    let mut targets = match meet_entries(alloc, files, view, memo, id, &run) {
         Ok(targets) => targets,
         Err(stop) => return Err(stop),
     };
-    let sorted = kept_by_name(targets)?;
-    Ok(sorted)
+    sort_numbered(&mut targets);
+    Ok(targets)
+}
+
+// Gives memory back where a list has got short for its room. It leaves room, so that items which come and go don't make and free it each time.
+fn thin<T>(list: &mut Vec<T>)
+    ensures { list.new.items ≡ list.old.items }
+{
+    let room = list.capacity();
+    if MANY < room && list.len() < room / 4 * 3 {
+        list.shrink_to(room / 8 * 7);
+    }
 }
 
 // Puts targets on the rows that are left, the first of them on top.
-fn put_on(
-    shared: usize,
-    targets: Vec<KeptTarget>,
-    left: &mut Vec<Row>,
-) -> Result<(), Stop<PathStop>>
+fn put_on(shared: usize, targets: Vec<Numbered>, left: &mut Vec<Row>) -> Result<(), Stop<PathStop>>
     ensures no_read { IsErrOf result ReadFault → ⊥ }
-    ensures put { OnOk result (reverse left.new.items ≡ map (row_at shared) targets.items ++ reverse left.old.items) }
+    ensures put { OnOk result (reverse left.new.items ≡ map (row_at shared) (map (λ t. t.target) targets.items) ++ reverse left.old.items) }
     ensures memory { IfErr result (λ stop. stop ≡ stops.NoMemory) }
 {
     left.reserve(targets.len())?;
     let mut targets = targets;
-    'put: while let Some(target) = targets.pop() {
+    'put: while let Some(numbered) = targets.pop() {
+        let target = numbered.target;
         left.push(Row { shared, target })?;
+        thin(&mut targets);
     }
     Ok(())
-}
-
-// Gives memory back where few rows are left of many. It leaves room, so that rows which come and go don't make and free it each time.
-fn thin(left: &mut Vec<Row>)
-    ensures { left.new.items ≡ left.old.items }
-{
-    let room = left.capacity();
-    if MANY < room && left.len() < room / 8 * 3 {
-        left.shrink_to(room / 2);
-    }
 }
 
 // The row of a place that is no directory: the path of the root is its name, and that of another one is its name as it is shown.
@@ -205,7 +202,7 @@ fn lone_row(alloc: Global, place: Place) -> Result<KeptRows, Stop<PathStop>>
 // Puts the rows right under a row on those that are left.
 fn go_under(
     alloc: Global,
-    files: &Files,
+    files: &ToldFiles,
     view: &View,
     memo: &mut BTreeMap<u64, (u64, usize)>,
     target: &KeptTarget,
@@ -213,10 +210,10 @@ fn go_under(
     left: &mut Vec<Row>,
 ) -> Result<(), Stop<PathStop>>
     ensures no_read { IsErrOf result ReadFault → ⊥ }
-    ensures gives { (facts : Facts) (path : List ℕ) (first : ℕ) → IsUnderway facts path first files.now.entries.items files.now.inodes.items → (is_opened_target target.now ≡ true → IsEntered facts first target.now.id) → IsMemo facts path memo.old → OnOk result (reverse left.new.items ≡ kept_under facts shared target.now ++ reverse left.old.items) }
-    ensures kept { (facts : Facts) (path : List ℕ) (first : ℕ) → IsUnderway facts path first files.now.entries.items files.now.inodes.items → (is_opened_target target.now ≡ true → IsEntered facts first target.now.id) → IsMemo facts path memo.old → OnOk result (IsMemo facts path memo.new) }
-    ensures stops { (facts : Facts) (path : List ℕ) (first : ℕ) → IsUnderway facts path first files.now.entries.items files.now.inodes.items → (is_opened_target target.now ≡ true → IsEntered facts first target.now.id) → IsMemo facts path memo.old → IfErr result (IsTreeStop facts view.now path) }
-    ensures all { (facts : Facts) (path : List ℕ) (first : ℕ) → IsUnderway facts path first files.now.entries.items files.now.inodes.items → (is_opened_target target.now ≡ true → IsEntered facts first target.now.id) → IsMemo facts path memo.old → OnOk result (StaysKept memo.old memo.new × (is_opened_target target.now ≡ true → AreKeptIn facts memo.new target.now.id)) }
+    ensures gives { (facts : Facts) (path : List ℕ) (first : ℕ) → IsUnderway facts path first files.now.entries.items files.now.kinds.items → (is_opened_target target.now ≡ true → IsEntered facts first target.now.id) → IsMemo facts path memo.old → OnOk result (reverse left.new.items ≡ kept_under facts shared target.now ++ reverse left.old.items) }
+    ensures kept { (facts : Facts) (path : List ℕ) (first : ℕ) → IsUnderway facts path first files.now.entries.items files.now.kinds.items → (is_opened_target target.now ≡ true → IsEntered facts first target.now.id) → IsMemo facts path memo.old → OnOk result (IsMemo facts path memo.new) }
+    ensures stops { (facts : Facts) (path : List ℕ) (first : ℕ) → IsUnderway facts path first files.now.entries.items files.now.kinds.items → (is_opened_target target.now ≡ true → IsEntered facts first target.now.id) → IsMemo facts path memo.old → IfErr result (IsTreeStop facts view.now path) }
+    ensures all { (facts : Facts) (path : List ℕ) (first : ℕ) → IsUnderway facts path first files.now.entries.items files.now.kinds.items → (is_opened_target target.now ≡ true → IsEntered facts first target.now.id) → IsMemo facts path memo.old → OnOk result (StaysKept memo.old memo.new × (is_opened_target target.now ≡ true → AreKeptIn facts memo.new target.now.id)) }
 {
     if !is_opened(target) {
         thin(left);
@@ -235,15 +232,15 @@ fn go_under(
 // The rows under a directory, as many as the view has entries at most.
 fn rows_below(
     alloc: Global,
-    files: &Files,
+    files: &ToldFiles,
     view: &View,
     memo: &mut BTreeMap<u64, (u64, usize)>,
     id: u64,
 ) -> Result<Vec<Row>, Stop<PathStop>>
     ensures no_read { IsErrOf result ReadFault → ⊥ }
-    ensures gives { (facts : Facts) (path : List ℕ) → IsUnderway facts path id files.now.entries.items files.now.inodes.items → IsMemo facts path memo.old → IfOk result (λ rows. told_rows [] rows.items ≡ told_from facts (length facts.entries) (told_of facts [] id)) }
-    ensures stops { (facts : Facts) (path : List ℕ) → IsUnderway facts path id files.now.entries.items files.now.inodes.items → IsMemo facts path memo.old → IfErr result (IsTreeStop facts view.now path) }
-    ensures all { (facts : Facts) (path : List ℕ) → IsUnderway facts path id files.now.entries.items files.now.inodes.items → IsMemo facts path memo.old → IfOk result (λ rows. StaysKept memo.old memo.new × (AreKeptIn facts memo.new id × AreRowsKept facts memo.new (told_rows [] rows.items))) }
+    ensures gives { (facts : Facts) (path : List ℕ) → IsUnderway facts path id files.now.entries.items files.now.kinds.items → IsMemo facts path memo.old → IfOk result (λ rows. told_rows [] rows.items ≡ told_from facts (length facts.entries) (told_of facts [] id)) }
+    ensures stops { (facts : Facts) (path : List ℕ) → IsUnderway facts path id files.now.entries.items files.now.kinds.items → IsMemo facts path memo.old → IfErr result (IsTreeStop facts view.now path) }
+    ensures all { (facts : Facts) (path : List ℕ) → IsUnderway facts path id files.now.entries.items files.now.kinds.items → IsMemo facts path memo.old → IfOk result (λ rows. StaysKept memo.old memo.new × (AreKeptIn facts memo.new id × AreRowsKept facts memo.new (told_rows [] rows.items))) }
 {
     let targets = match enter(alloc, files, view, memo, id) {
         Ok(targets) => targets,
@@ -392,19 +389,19 @@ fn trace(
 /// The rows of a path's tree.
 pub(crate) fn tree_in(
     alloc: Global,
-    files: &Files,
+    files: Files,
     names: Names,
     view: &View,
     path: &str,
 ) -> Result<KeptRows, Stop<PathStop>>
     ensures no_read { IsErrOf result ReadFault → ⊥ }
-    ensures known { (facts : Facts) → facts.names ≡ names → Remembers facts files.now.entries.items files.now.inodes.items → IsTreeKnown facts view.now path.now (λ rows. rows) (spec.tree facts path.now) result }
-    ensures needs { (facts : Facts) → facts.names ≡ names → Remembers facts files.now.entries.items files.now.inodes.items → WhereTold (PathNeeds facts of_any path.now) result }
-    ensures files { (facts : Facts) → facts.names ≡ names → Remembers facts files.now.entries.items files.now.inodes.items → IfOk result (λ rows. HaveMetFiles facts path.now rows) }
-    ensures clear { (facts : Facts) → facts.names ≡ names → Remembers facts files.now.entries.items files.now.inodes.items → IfOk result (λ rows. (id : ℕ) → IsShownTwice facts path.now rows id → ⊥) }
+    ensures known { (facts : Facts) → facts.names ≡ names → Remembers facts files.entries.items files.inodes.items → IsTreeKnown facts view.now path.now (λ rows. rows) (spec.tree facts path.now) result }
+    ensures needs { (facts : Facts) → facts.names ≡ names → Remembers facts files.entries.items files.inodes.items → WhereTold (PathNeeds facts of_any path.now) result }
+    ensures files { (facts : Facts) → facts.names ≡ names → Remembers facts files.entries.items files.inodes.items → IfOk result (λ rows. HaveMetFiles facts path.now rows) }
+    ensures clear { (facts : Facts) → facts.names ≡ names → Remembers facts files.entries.items files.inodes.items → IfOk result (λ rows. (id : ℕ) → IsShownTwice facts path.now rows id → ⊥) }
 {
     let mut memo = BTreeMap::new(alloc);
-    let place = match trace(alloc, files, names, view, &mut memo, path) {
+    let place = match trace(alloc, &files, names, view, &mut memo, path) {
         Ok(place) => place,
         Err(stop) => return Err(stop),
     };
@@ -415,7 +412,8 @@ pub(crate) fn tree_in(
         };
         return Ok(rows);
     }
-    match rows_below(alloc, files, view, &mut memo, place.id()) {
+    let files = ToldFiles::of(alloc, files)?;
+    match rows_below(alloc, &files, view, &mut memo, place.id()) {
         Ok(rows) => Ok(KeptRows::below(rows)),
         Err(stop) => Err(stop),
     }

@@ -24,18 +24,18 @@ returns-in-Err-clause-told g c image told fault e =
     let same : c.in-Err.stop ≡ Found (stops.Fault fault) = cc in
     records_told c.args.view.now (view_facts image c.args.site.now c.args.volume.now c.args.view.now) c.args.path.now fault (c.in-Err.ensures.walked fault (ap Err same))
 
-pub returns-clause-exact : goal.returns-clause-exact
-returns-clause-exact g c image told lawful =
+pub returns-in-Err-tree_in-clause-exact : goal.returns-in-Err-tree_in-clause-exact
+returns-in-Err-tree_in-clause-exact g c image told lawful =
     let facts : Facts = view_facts image c.args.site.now c.args.volume.now c.args.view.now in
     tree_given image c.args.site.now c.args.volume.now c.args.view.now c.args.path.now (λ (v : List (List ℕ × Target)). v) (tree facts c.args.path.now) c.in-Err-tree_in.stop lawful (c.in-Err-tree_in.ensures.known facts (sym (ap (λ (v : Loaded). v.names) c.volume.view_is)) (c.in-Ok.ensures.clear image told))
 
-pub returns-clause-present : goal.returns-clause-present
-returns-clause-present g c image told =
+pub returns-in-Err-tree_in-clause-present : goal.returns-in-Err-tree_in-clause-present
+returns-in-Err-tree_in-clause-present g c image told =
     let facts : Facts = view_facts image c.args.site.now c.args.volume.now c.args.view.now in
     tree_there image c.args.site.now c.args.volume.now c.args.view.now c.args.path.now (λ (v : List (List ℕ × Target)). v) (tree facts c.args.path.now) c.in-Err-tree_in.stop (c.in-Err-tree_in.ensures.known facts (sym (ap (λ (v : Loaded). v.names) c.volume.view_is)) (c.in-Ok.ensures.clear image told))
 
-pub returns-clause-told : goal.returns-clause-told
-returns-clause-told g c image told fault e =
+pub returns-in-Err-tree_in-clause-told : goal.returns-in-Err-tree_in-clause-told
+returns-in-Err-tree_in-clause-told g c image told fault e =
     let facts : Facts = view_facts image c.args.site.now c.args.volume.now c.args.view.now in
     tree_told facts c.args.view.now c.args.path.now (λ (v : List (List ℕ × Target)). v) (tree facts c.args.path.now) c.in-Err-tree_in.stop fault (c.in-Err-tree_in.ensures.known facts (sym (ap (λ (v : Loaded). v.names) c.volume.view_is)) (c.in-Ok.ensures.clear image told)) e
 
@@ -59,8 +59,8 @@ returns-in-Ok-tree_in-clause-rests g c image told =
     (where_as {T = List (List ℕ × Target)} (PathNeeds facts of_any c.args.path.now) (TreeNeeds image c.args.site.now c.args.volume.now c.args.view.now c.args.path.now) (Ok c.in-Ok-tree_in.rows)
     (λ h. record { all = c.in-Ok.ensures.rests image told; led = path_mono facts c.args.path.now of_any (HasEntriesOf image c.args.site.now c.args.volume.now c.args.view.now) (λ id u. all_entries image c.args.site.now c.args.volume.now c.args.view.now (c.in-Ok.ensures.rests image told) id) h }) (c.in-Ok-tree_in.ensures.needs facts (sym (ap (λ (v : Loaded). v.names) c.volume.view_is)) (c.in-Ok.ensures.clear image told)))
 
-pub returns-clause-rests : goal.returns-clause-rests
-returns-clause-rests g c image told =
+pub returns-in-Err-tree_in-clause-rests : goal.returns-in-Err-tree_in-clause-rests
+returns-in-Err-tree_in-clause-rests g c image told =
     let facts : Facts = view_facts image c.args.site.now c.args.volume.now c.args.view.now in
     tree_rests facts c.args.view.now c.args.path.now (λ (v : List (List ℕ × Target)). v) (tree facts c.args.path.now) (TreeNeeds image c.args.site.now c.args.volume.now c.args.view.now c.args.path.now) (Err c.in-Err-tree_in.stop) (c.in-Err-tree_in.ensures.known facts (sym (ap (λ (v : Loaded). v.names) c.volume.view_is)) (c.in-Ok.ensures.clear image told))
     (where_as {T = List (List ℕ × Target)} (PathNeeds facts of_any c.args.path.now) (TreeNeeds image c.args.site.now c.args.volume.now c.args.view.now c.args.path.now) (Err c.in-Err-tree_in.stop)

@@ -6,13 +6,14 @@ use Rattle.view_tree.proofs.RowsKept.{kept_opened, kept_closed}
 use Rattle.view_tree.proofs.Entered.{entered_by}
 use Rattle.view_tree.proofs.Staying.{kept_by}
 use Rattle.apfs_model.proofs.BoolTests.{clash}
+use Rattle.path_walk.specs.declared.order.Numbered.{Numbered}
 use Rattle.view_tree.specs.declared.kept.Row.{Row}
 use Rattle.view_tree.proofs.under.go_under.Goals as goal
 
 pub returns-then-not-is_opened-clause-gives : goal.returns-then-not-is_opened-clause-gives
 returns-then-not-is_opened-clause-gives c facts path first way entered memo =
     let e : is_opened_target c.args.target.now ≡ false = search rules in
-    kept_closed facts c.args.shared c.args.target.now (reverse c.args.left.now.items) (reverse c.thin.new.left.items) e (ap (λ (l : List Row). reverse l) c.thin.ensures)
+    kept_closed facts c.args.shared c.args.target.now (reverse c.args.left.now.items) (reverse c.thin.new.list.items) e (ap (λ (l : List Row). reverse l) c.thin.ensures)
 
 pub returns-in-Err-clause-stops : goal.returns-in-Err-clause-stops
 returns-in-Err-clause-stops c facts path first way entered memo =
@@ -22,8 +23,8 @@ returns-in-Err-clause-stops c facts path first way entered memo =
 pub returns-in-Ok-put_on-clause-gives : goal.returns-in-Ok-put_on-clause-gives
 returns-in-Ok-put_on-clause-gives c facts path first way entered memo =
     let e : is_opened_target c.args.target.now ≡ true = search rules in
-    let these : c.in-Ok.targets.items ≡ map target_of (children facts c.args.target.now.id) = c.in-Ok.ensures.gives facts path first way (entered_by facts first c.id.result c.args.target.now.id c.id.ensures (entered e)) memo ∙ ap (λ i. map target_of (children facts i)) c.id.ensures in
-    kept_opened facts c.args.shared c.args.target.now c.in-Ok.targets.items (reverse c.args.left.now.items) (reverse c.put_on.new.left.items) e these c.in-Ok-put_on.ensures.put
+    let these : (map (λ (t : Numbered). t.target) c.in-Ok.targets.items) ≡ map target_of (children facts c.args.target.now.id) = c.in-Ok.ensures.gives facts path first way (entered_by facts first c.id.result c.args.target.now.id c.id.ensures (entered e)) memo ∙ ap (λ i. map target_of (children facts i)) c.id.ensures in
+    kept_opened facts c.args.shared c.args.target.now (map (λ (t : Numbered). t.target) c.in-Ok.targets.items) (reverse c.args.left.now.items) (reverse c.put_on.new.left.items) e these c.in-Ok-put_on.ensures.put
 
 pub returns-in-Ok-put_on-clause-kept : goal.returns-in-Ok-put_on-clause-kept
 returns-in-Ok-put_on-clause-kept c facts path first way entered memo =

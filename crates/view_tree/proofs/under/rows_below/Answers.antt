@@ -6,6 +6,7 @@ use Rattle.path_walk.specs.declared.target.Target.{Target}
 use Rattle.view_tree.specs.Met.{own}
 use Rattle.view_tree.specs.Kept.{path_after, told_rows, last_path}
 use Rattle.view_tree.specs.Parts.{told_after, told_of, told_under, told_from, row_at, kept_under, left_told, Fits, RowsEntered}
+use Rattle.path_walk.specs.declared.order.Numbered.{Numbered}
 use Rattle.view_tree.specs.declared.kept.Row.{Row}
 use Rattle.view_tree.proofs.Entered.{first_entered, next_entered, popped, told_start, told_step, told_end, told_full, none_left}
 use Rattle.view_tree.proofs.RowsKept.{told_more, path_more, told_length, first_left, first_fits, next_left, next_fits}
@@ -17,16 +18,16 @@ returns-in-Err-clause-stops c facts path way memo = c.in-Err.ensures.stops facts
 
 pub rows-init : goal.rows-init
 rows-init c =
-    let put : reverse c.put_on.new.left.items ≡ map (row_at 0) c.in-Ok.targets.items ++ reverse c.new-left.result.items = c.in-Ok-put_on.ensures.put in
+    let put : reverse c.put_on.new.left.items ≡ map (row_at 0) (map (λ (t : Numbered). t.target) c.in-Ok.targets.items) ++ reverse c.new-left.result.items = c.in-Ok-put_on.ensures.put in
     let none : reverse c.new-left.result.items ≡ [] = ap (λ (l : List Row). reverse l) c.new-left.ensures.items in
     let begins : c.new-path.result.items ≡ [] = c.new-path.ensures.items in
     let empty : told_rows [] c.new-rows.result.items ≡ [] = ap (told_rows []) c.new-rows.ensures.items in
     record {
       walk = λ facts path way memo.
           let k = c.in-Ok.ensures.all facts path c.args.id way own memo in
-          let these : c.in-Ok.targets.items ≡ map target_of (children facts c.args.id) = c.in-Ok.ensures.gives facts path c.args.id way own memo in
+          let these : (map (λ (t : Numbered). t.target) c.in-Ok.targets.items) ≡ map target_of (children facts c.args.id) = c.in-Ok.ensures.gives facts path c.args.id way own memo in
           let left : left_told c.new-path.result.items (reverse c.put_on.new.left.items) ≡ told_of facts [] c.args.id =
-          ap (λ (p : List ℕ). left_told p (reverse c.put_on.new.left.items)) begins ∙ (first_left c.in-Ok.targets.items (reverse c.put_on.new.left.items) (reverse c.new-left.result.items) put none ∙ ap (map (told_after [])) these) in (
+          ap (λ (p : List ℕ). left_told p (reverse c.put_on.new.left.items)) begins ∙ (first_left (map (λ (t : Numbered). t.target) c.in-Ok.targets.items) (reverse c.put_on.new.left.items) (reverse c.new-left.result.items) put none ∙ ap (map (told_after [])) these) in (
             told_start facts (length facts.entries) (told_rows [] c.new-rows.result.items) (left_told c.new-path.result.items (reverse c.put_on.new.left.items)) (told_of facts [] c.args.id) empty left,
             (
               first_entered facts c.args.id (left_told c.new-path.result.items (reverse c.put_on.new.left.items)) left,
@@ -34,7 +35,7 @@ rows-init c =
             ),
           );
       path = begins ∙ sym (ap (last_path []) c.new-rows.ensures.items);
-      fits = λ facts path way memo. subst (λ (p : List ℕ). Fits p (reverse c.put_on.new.left.items)) (sym begins) (first_fits c.in-Ok.targets.items (reverse c.put_on.new.left.items) (reverse c.new-left.result.items) put none);
+      fits = λ facts path way memo. subst (λ (p : List ℕ). Fits p (reverse c.put_on.new.left.items)) (sym begins) (first_fits (map (λ (t : Numbered). t.target) c.in-Ok.targets.items) (reverse c.put_on.new.left.items) (reverse c.new-left.result.items) put none);
     }
 
 pub returns-in_default-clause-gives : goal.returns-in_default-clause-gives
@@ -76,7 +77,7 @@ rows-preserved c =
           let fits : Fits before (row ∷ rest) = subst (λ (l : List Row). Fits before l) taken (c.rows.invariant.fits facts path way memo) in
           let put : next ≡ kept_under facts c.len-shared.result row.target ++ rest = c.in-Ok-go_under.ensures.gives facts path c.args.id way (rows told (inl refl)) h.1.1.0 in
           let goes : left_told after next ≡ told_under facts told ++ left_told (take row.shared before) rest = next_left facts row before after c.len-shared.result rest next fits led long put in
-          let same : length c.args.files.now.entries.items ≡ length facts.entries = ap length way.remembers.all_entries in
+          let same : length c.args.files.now.entries.items ≡ length facts.entries = ap length way.tells.all_entries in
           let many : length (told_rows [] c.rows.rows.items) ≡ length c.rows.rows.items = told_length [] c.rows.rows.items in
           let low : length (told_rows [] c.rows.rows.items) < length facts.entries = omega arith in
           let k = c.in-Ok-go_under.ensures.all facts path c.args.id way (rows told (inl refl)) h.1.1.0 in (
@@ -108,7 +109,7 @@ rows-preserved c =
 pub returns-clause-gives : goal.returns-clause-gives
 returns-clause-gives c facts path way memo =
     let h = c.rows.invariant.walk facts path way memo in
-    let same : length c.args.files.now.entries.items ≡ length facts.entries = ap length way.remembers.all_entries in
+    let same : length c.args.files.now.entries.items ≡ length facts.entries = ap length way.tells.all_entries in
     let many : length (told_rows [] c.rows.rows.items) ≡ length c.rows.rows.items = told_length [] c.rows.rows.items in
     let full : length facts.entries ≤ length (told_rows [] c.rows.rows.items) = omega arith in
     told_full facts (length facts.entries) (told_rows [] c.rows.rows.items) (left_told c.rows.path.items (reverse c.rows.left.items)) (told_from facts (length facts.entries) (told_of facts [] c.args.id)) full h.0

@@ -25,7 +25,7 @@ returns-in-Ok-rows_below-clause-known c facts named r =
     let empty : IsMemo facts c.args.path.now c.new-memo.result = memo_none facts c.args.path.now c.new-memo.result c.new-memo.ensures.empty in
     let directory : is_directory c.in-Ok.place.inode ≡ true = search rules in
     let there : found facts c.args.path.now ≡ Ok c.in-Ok.place = c.in-Ok.ensures.known facts named r empty in
-    let way : IsUnderway facts c.args.path.now c.id.result c.args.files.now.entries.items c.args.files.now.inodes.items = record { remembers = r; place = c.in-Ok.place; there = there; same = sym c.id.ensures; directory = directory } in
+    let way : IsUnderway facts c.args.path.now c.id.result c.in_ok-files.files.entries.items c.in_ok-files.files.kinds.items = record { tells = c.in_ok-files.ensures facts r; place = c.in-Ok.place; there = there; same = sym c.id.ensures; directory = directory } in
     tree_directory facts c.args.path.now c.in-Ok.place (told_rows [] c.in-Ok-rows_below.rows.items) there directory
     (c.in-Ok-rows_below.ensures.gives facts c.args.path.now way (c.in-Ok.ensures.kept facts named r empty) ∙ ap (λ (i : ℕ). told_from facts (length facts.entries) (told_of facts [] i)) c.id.ensures)
     ∙ ap (λ (l : List (List ℕ × Target)). Ok l) (sym c.below.ensures)
@@ -35,7 +35,7 @@ returns-clause-known c facts named r =
     let empty : IsMemo facts c.args.path.now c.new-memo.result = memo_none facts c.args.path.now c.new-memo.result c.new-memo.ensures.empty in
     let directory : is_directory c.in-Ok.place.inode ≡ true = search rules in
     let there : found facts c.args.path.now ≡ Ok c.in-Ok.place = c.in-Ok.ensures.known facts named r empty in
-    let way : IsUnderway facts c.args.path.now c.id.result c.args.files.now.entries.items c.args.files.now.inodes.items = record { remembers = r; place = c.in-Ok.place; there = there; same = sym c.id.ensures; directory = directory } in
+    let way : IsUnderway facts c.args.path.now c.id.result c.in_ok-files.files.entries.items c.in_ok-files.files.kinds.items = record { tells = c.in_ok-files.ensures facts r; place = c.in-Ok.place; there = there; same = sym c.id.ensures; directory = directory } in
     stop_known facts c.args.view.now c.args.path.now (λ (v : List (List ℕ × Target)). v) (tree facts c.args.path.now) c.in-Err-rows_below.stop (c.in-Err-rows_below.ensures.stops facts c.args.path.now way (c.in-Ok.ensures.kept facts named r empty))
 
 pub returns-then-not-is_directory-clause-clear : goal.returns-then-not-is_directory-clause-clear
@@ -57,7 +57,7 @@ returns-in-Ok-rows_below-clause-clear c facts named r id twice =
     let empty : IsMemo facts c.args.path.now c.new-memo.result = memo_none facts c.args.path.now c.new-memo.result c.new-memo.ensures.empty in
     let directory : is_directory c.in-Ok.place.inode ≡ true = search rules in
     let there : found facts c.args.path.now ≡ Ok c.in-Ok.place = c.in-Ok.ensures.known facts named r empty in
-    let way : IsUnderway facts c.args.path.now c.id.result c.args.files.now.entries.items c.args.files.now.inodes.items = record { remembers = r; place = c.in-Ok.place; there = there; same = sym c.id.ensures; directory = directory } in
+    let way : IsUnderway facts c.args.path.now c.id.result c.in_ok-files.files.entries.items c.in_ok-files.files.kinds.items = record { tells = c.in_ok-files.ensures facts r; place = c.in-Ok.place; there = there; same = sym c.id.ensures; directory = directory } in
     let k = c.in-Ok-rows_below.ensures.all facts c.args.path.now way (c.in-Ok.ensures.kept facts named r empty) in
     let kept = rows_kept facts c.rows_below.new.memo c.args.path.now c.in-Ok.place (told_rows [] c.in-Ok-rows_below.rows.items) there
     (path_stays facts c.trace.new.memo c.rows_below.new.memo c.args.path.now k.0 (c.in-Ok.ensures.all facts named r empty))
@@ -69,7 +69,7 @@ returns-in-Ok-rows_below-clause-files c facts named r =
     let empty : IsMemo facts c.args.path.now c.new-memo.result = memo_none facts c.args.path.now c.new-memo.result c.new-memo.ensures.empty in
     let directory : is_directory c.in-Ok.place.inode ≡ true = search rules in
     let there : found facts c.args.path.now ≡ Ok c.in-Ok.place = c.in-Ok.ensures.known facts named r empty in
-    let way : IsUnderway facts c.args.path.now c.id.result c.args.files.now.entries.items c.args.files.now.inodes.items = record { remembers = r; place = c.in-Ok.place; there = there; same = sym c.id.ensures; directory = directory } in
+    let way : IsUnderway facts c.args.path.now c.id.result c.in_ok-files.files.entries.items c.in_ok-files.files.kinds.items = record { tells = c.in_ok-files.ensures facts r; place = c.in-Ok.place; there = there; same = sym c.id.ensures; directory = directory } in
     let k = c.in-Ok-rows_below.ensures.all facts c.args.path.now way (c.in-Ok.ensures.kept facts named r empty) in
     let kept = rows_kept facts c.rows_below.new.memo c.args.path.now c.in-Ok.place (told_rows [] c.in-Ok-rows_below.rows.items) there
     (path_stays facts c.trace.new.memo c.rows_below.new.memo c.args.path.now k.0 (c.in-Ok.ensures.all facts named r empty))
@@ -96,5 +96,5 @@ returns-clause-needs c facts named r =
     let empty : IsMemo facts c.args.path.now c.new-memo.result = memo_none facts c.args.path.now c.new-memo.result c.new-memo.ensures.empty in
     let directory : is_directory c.in-Ok.place.inode ≡ true = search rules in
     let there : found facts c.args.path.now ≡ Ok c.in-Ok.place = c.in-Ok.ensures.known facts named r empty in
-    let way : IsUnderway facts c.args.path.now c.id.result c.args.files.now.entries.items c.args.files.now.inodes.items = record { remembers = r; place = c.in-Ok.place; there = there; same = sym c.id.ensures; directory = directory } in
+    let way : IsUnderway facts c.args.path.now c.id.result c.in_ok-files.files.entries.items c.in_ok-files.files.kinds.items = record { tells = c.in_ok-files.ensures facts r; place = c.in-Ok.place; there = there; same = sym c.id.ensures; directory = directory } in
     stop_untold (List (List ℕ × Target)) facts c.args.view.now c.args.path.now (PathNeeds facts of_any c.args.path.now) c.in-Err-rows_below.stop (c.in-Err-rows_below.ensures.stops facts c.args.path.now way (c.in-Ok.ensures.kept facts named r empty))
