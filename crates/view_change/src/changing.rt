@@ -291,7 +291,9 @@ impl Changing {
 
 impl<K: FsTreeKey> LeafTaker<K> for Changing {
     ghost holds = { λ start now site image leaves. HasChanged K.shape site image leaves start now };
+
     ghost begins_within = { λ now leaves reads limit. ShareLeaves (leaves_left now) leaves × IsWithin (leaves_left now) leaves reads limit };
+
     ghost goes_within = { λ now leaves reads limit. StayInOrder (leaves_left now) leaves × IsWithin (leaves_left now) leaves reads limit };
 
     fn foresee(&mut self, leaves: &[Leaf]) -> () {

@@ -22,7 +22,9 @@ impl LeafTaker<OmapKey> for Leaves {
     ghost use Rattle.obj_base.specs.declared.stop.Stop.TheVariants.{ReadFault};
 
     ghost holds = { λ start taker site image leaves. ⊥ };
+
     ghost begins_within = { λ taker leaves reads limit. ⊥ };
+
     ghost goes_within = { λ taker leaves reads limit. ⊥ };
 
     fn foresee(&mut self, leaves: &[Leaf]) -> () {
