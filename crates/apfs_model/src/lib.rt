@@ -3,8 +3,6 @@
 
 mod bytes;
 mod failed;
-#[cfg(test)]
-mod tests;
 
 pub use bytes::Bytes;
 pub use failed::{NoMemory, ReadFailed, WriteFailed};

@@ -3,8 +3,6 @@
 
 mod block;
 mod object;
-#[cfg(test)]
-mod tests;
 
 pub use block::{read_block, read_new};
 pub use object::read_sound;

@@ -13,7 +13,7 @@ pub trait Namer: Drop {
 }
 
 /// The look-up of physical objects: an id is a block of a container of so many blocks (Objects, obj_phys_t, o_oid).
-#[derive(Clone, Copy, PartialEq, Eq, Debug)]
+#[derive(Clone, Copy, PartialEq, Eq)]
 pub struct Physical {
     pub blocks: u64,
 }

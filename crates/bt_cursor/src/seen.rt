@@ -5,7 +5,7 @@ ghost use Rattle.bt_cursor.specs.Seen as spec;
 use bt_node::{Rank, RootInfo, TreeKey};
 
 /// How many are still to come, and whether more came than were to come.
-#[derive(Clone, Copy, PartialEq, Eq, Debug)]
+#[derive(Clone, Copy, PartialEq, Eq)]
 pub(crate) struct Tally {
     pub left: u64,
     pub over: bool,
@@ -13,7 +13,7 @@ pub(crate) struct Tally {
 
 /// The rank of the last item and of the last one of level 0, how many items there were, and how many keys and nodes
 /// are still to come by the root's numbers.
-#[derive(Clone, Copy, PartialEq, Eq, Debug)]
+#[derive(Clone, Copy, PartialEq, Eq)]
 pub(crate) struct Seen {
     pub before: Option<Rank>,
     pub leaf: Option<Rank>,

@@ -1,7 +1,7 @@
 // A step of a tree.
 
 /// A step of a tree: an entry of a node above level 0, and the child that it names.
-#[derive(Clone, Copy, PartialEq, Eq, Debug)]
+#[derive(Clone, Copy, PartialEq, Eq)]
 pub struct Step {
     /// The id of the node.
     pub node: u64,

@@ -2,13 +2,9 @@
 #![tactic(auto)]
 
 mod fs_tree;
-#[cfg(test)]
-mod node_tests;
 mod number_key;
 mod record;
 mod record_key;
-#[cfg(test)]
-mod tests;
 mod values;
 
 pub use fs_tree::FsTreeKey;

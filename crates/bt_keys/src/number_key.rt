@@ -12,14 +12,14 @@ pub struct OmapKey {
 }
 
 /// A key of the snapshots of an object map: a snapshot's transaction (Object Maps, `omap_snapshot_t`).
-#[derive(Clone, Copy, PartialEq, Eq, Debug)]
+#[derive(Clone, Copy, PartialEq, Eq)]
 pub struct OmapSnapKey {
     pub xid: u64,
 }
 
 /// A key of a free queue: the transaction that freed blocks, and the first of them (Space Manager,
 /// `spaceman_free_queue_key_t`).
-#[derive(Clone, Copy, PartialEq, Eq, Debug)]
+#[derive(Clone, Copy, PartialEq, Eq)]
 pub struct QueueKey {
     pub xid: u64,
     pub paddr: u64,

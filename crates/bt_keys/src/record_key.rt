@@ -5,14 +5,14 @@ use apfs_layout::{key as layout, kind, value};
 use bt_node::{Layout, Rank, TreeKey};
 
 /// A key of an extent reference tree: the first block of a range (File-System Objects, `j_phys_ext_key_t`).
-#[derive(Clone, Copy, PartialEq, Eq, Debug)]
+#[derive(Clone, Copy, PartialEq, Eq)]
 pub struct ExtKey {
     pub first: u64,
 }
 
 /// A key of a snapshot metadata tree: a snapshot's transaction, or a name (Snapshot Metadata, `j_snap_metadata_key_t`
 /// and `j_snap_name_key_t`).
-#[derive(Clone, Copy, PartialEq, Eq, Debug)]
+#[derive(Clone, Copy, PartialEq, Eq)]
 pub struct SnapKey {
     pub id: u64,
     pub kind: u8,
@@ -20,7 +20,7 @@ pub struct SnapKey {
 
 /// A key of a file-system tree, whose entries have hashed names or not (File-System Objects, `j_key_t`, and
 /// `j_drec_hashed_key_t` or `j_drec_key_t`).
-#[derive(Clone, Copy, PartialEq, Eq, Debug)]
+#[derive(Clone, Copy, PartialEq, Eq)]
 pub struct FsRecordKey<const HASHED: bool> {
     pub id: u64,
     pub kind: u8,

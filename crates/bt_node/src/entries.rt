@@ -9,7 +9,7 @@ use apfs_layout::node as layout;
 use obj_base::{u16_at, u64_at};
 
 // Where an entry of the table says that a key and a value lie.
-#[derive(Clone, Copy, PartialEq, Eq, Debug)]
+#[derive(Clone, Copy, PartialEq, Eq)]
 pub(crate) struct Place {
     pub(crate) key_offset: u16,
     pub(crate) key_len: usize,

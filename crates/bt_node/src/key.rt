@@ -6,7 +6,7 @@ ghost use Rattle.bt_node.specs.Rank as ranks;
 ghost use Rattle.bt_node.specs.declared.key.Layout as layouts;
 
 /// How the entries of a tree lie in its nodes (B-Trees, `BTNODE_FIXED_KV_SIZE`).
-#[derive(Clone, Copy, PartialEq, Eq, Debug)]
+#[derive(Clone, Copy, PartialEq, Eq)]
 pub enum Layout {
     /// Keys and values have fixed lengths.
     Fixed,
@@ -17,7 +17,7 @@ pub enum Layout {
 }
 
 /// A key's place in its tree's order: by `id`, then by `kind`, then by `sub`.
-#[derive(Clone, Copy, PartialEq, Eq, PartialOrd, Ord, Debug)]
+#[derive(Clone, Copy, PartialEq, Eq, PartialOrd, Ord)]
 pub struct Rank {
     pub id: u64,
     pub kind: u64,

@@ -7,7 +7,7 @@ use apfs_layout::node as layout;
 use obj_base::{u16_at, u32_at, u64_at};
 
 /// What is expected of a node.
-#[derive(Clone, Copy, PartialEq, Eq, Debug)]
+#[derive(Clone, Copy, PartialEq, Eq)]
 pub struct NodeAt {
     pub oid: u64,
     pub root: bool,
@@ -16,7 +16,7 @@ pub struct NodeAt {
 }
 
 /// What a root tells of its tree (B-Trees, `btree_info_t`).
-#[derive(Clone, Copy, PartialEq, Eq, Debug)]
+#[derive(Clone, Copy, PartialEq, Eq)]
 pub struct RootInfo {
     /// The bytes of each node.
     pub node_size: u32,

@@ -10,7 +10,7 @@ use path_walk::Answer;
 use std::alloc::AllocError;
 
 /// Why a run stops before its text is whole.
-#[derive(Debug, Drop)]
+#[derive(Drop)]
 pub enum Stopped {
     /// A fault. Status 1.
     Faulty(Named),

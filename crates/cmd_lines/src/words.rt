@@ -23,7 +23,7 @@ const MOST_BLOCKS: u32 = 32_768;
 const MOST_OF_A_NAME: usize = 255;
 
 /// Whether the container is checked before a command looks at it.
-#[derive(Clone, Copy, PartialEq, Eq, Debug)]
+#[derive(Clone, Copy, PartialEq, Eq)]
 pub enum Checks {
     /// It isn't.
     Quick,
@@ -32,7 +32,7 @@ pub enum Checks {
 }
 
 /// What a line of words asks for of an image, with its words beside it, where no folder is taken.
-#[derive(Clone, Copy, PartialEq, Eq, Debug)]
+#[derive(Clone, Copy, PartialEq, Eq)]
 pub enum Command<'a> {
     /// The candidates of the descriptor ring.
     Ring,
@@ -59,7 +59,7 @@ pub enum Command<'a> {
 }
 
 /// A new container, with its volume's name among the words.
-#[derive(Clone, Copy, PartialEq, Eq, Debug)]
+#[derive(Clone, Copy, PartialEq, Eq)]
 pub struct NewContainer<'a> {
     /// How many blocks it has.
     pub blocks: u64,
@@ -72,7 +72,7 @@ pub struct NewContainer<'a> {
 }
 
 /// What a line asks for.
-#[derive(Clone, Copy, PartialEq, Eq, Debug)]
+#[derive(Clone, Copy, PartialEq, Eq)]
 pub enum Order<'a> {
     /// A command on an image that takes no folder.
     On {

@@ -1,7 +1,7 @@
 //! What a line asks for.
 
 /// A path, and the view in which it is looked up.
-#[derive(Clone, Copy, PartialEq, Eq, Debug)]
+#[derive(Clone, Copy, PartialEq, Eq)]
 pub struct Target<'a> {
     /// The path, as it stands.
     pub path: &'a str,
@@ -12,7 +12,7 @@ pub struct Target<'a> {
 }
 
 /// Which flags were said.
-#[derive(Clone, Copy, PartialEq, Eq, Debug)]
+#[derive(Clone, Copy, PartialEq, Eq)]
 pub struct Flags {
     /// The container isn't checked first.
     pub quick: bool,
@@ -21,7 +21,7 @@ pub struct Flags {
 }
 
 /// What a line asks for, with its words beside the image.
-#[derive(Clone, Copy, PartialEq, Eq, Debug)]
+#[derive(Clone, Copy, PartialEq, Eq)]
 pub enum Line<'a> {
     /// The candidates of the descriptor ring.
     Ring,

@@ -14,7 +14,7 @@ pub enum AttrBody<'a> {
 }
 
 /// An extended attribute.
-#[derive(Debug, Drop)]
+#[derive(Drop)]
 pub struct Attr<'a> {
     pub(crate) name: &'a str,
     pub(crate) body: AttrBody<'a>,

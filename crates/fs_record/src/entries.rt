@@ -14,7 +14,7 @@ use obj_base::{u16_at, u32_at, u64_at};
 use std::marker::Model;
 
 /// A directory entry.
-#[derive(Debug, Drop)]
+#[derive(Drop)]
 pub struct DirEntry<'a> {
     name: &'a str,
     hash: u32,

@@ -9,7 +9,7 @@ use apfs_layout::record as layout;
 use obj_base::u16_at;
 
 /// A field: its type, where its contents start, and how many bytes they have.
-#[derive(Clone, Copy, PartialEq, Eq, Debug)]
+#[derive(Clone, Copy, PartialEq, Eq)]
 pub(crate) struct Field {
     pub(crate) kind: u8,
     pub(crate) at: usize,

@@ -15,7 +15,7 @@ pub struct StreamSize {
 }
 
 /// An inode, over the bytes of its value. Contracts see its fields.
-#[derive(Debug, Drop)]
+#[derive(Drop)]
 pub struct Inode<'a> {
     pub(crate) value: &'a [u8],
     pub(crate) stream: Option<StreamSize>,

@@ -9,7 +9,7 @@ use obj_base::{u16_at, u64_at};
 use std::marker::Model;
 
 /// A sibling link: one of the names of a file.
-#[derive(Debug, Drop)]
+#[derive(Drop)]
 pub struct Sibling<'a> {
     file: u64,
     sibling: u64,

@@ -8,7 +8,7 @@ const RUN_BITS: u32 = 3;
 
 /// Places in a list from which searches start: one for each run of ids, of the first item that isn't of an id below the run. The list of them is small enough
 /// to stay in the processor's cache. They tell nothing that a search doesn't test, so a wrong one costs time alone.
-#[derive(Debug, Drop)]
+#[derive(Drop)]
 pub(crate) struct Guesses {
     first: u64,
     shift: u32,

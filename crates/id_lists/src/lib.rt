@@ -11,6 +11,3 @@ pub use apart::distinct;
 pub use id_list::IdList;
 pub use id_slice::IdSlice;
 pub use search::{ByItself, NO_GUESS, OrderBy, are_in_order, below, count, up_to};
-
-#[cfg(test)]
-mod tests;

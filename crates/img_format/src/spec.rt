@@ -13,7 +13,7 @@ const MOST_BLOCKS: u64 = 32_768;
 const MOST_OF_A_NAME: usize = 255;
 
 /// What a new container is to be: how many blocks it has, and the name and the identifiers of it and of its volume.
-#[derive(Debug, Drop)]
+#[derive(Drop)]
 pub struct Spec {
     pub blocks: u64,
     /// The volume's name.

@@ -7,8 +7,6 @@ mod part;
 mod partition_table;
 mod slice;
 mod table;
-#[cfg(test)]
-mod tests;
 
 pub use finding::find_part;
 pub use law::part_or_fault;

@@ -4,7 +4,7 @@ ghost use Rattle.std.specs.Prelude.{◌≡◌};
 use blk_source::ReadFailed;
 
 /// A part of a disk, in bytes.
-#[derive(Clone, Copy, PartialEq, Eq, Debug)]
+#[derive(Clone, Copy, PartialEq, Eq)]
 pub struct Part {
     /// The byte at which it begins.
     pub start: u64,
@@ -13,7 +13,7 @@ pub struct Part {
 }
 
 /// Why no partition is found: the first of the four faults that is there, or a read failed.
-#[derive(Clone, Copy, PartialEq, Eq, Debug)]
+#[derive(Clone, Copy, PartialEq, Eq)]
 pub enum GptStop {
     /// No header stands at either place.
     NoTable,

@@ -5,7 +5,7 @@ ghost use Rattle.obj_base.specs.BlockSize.{is_accepted};
 use apfs_layout::chunk_info::{ADDRESS_LEN, CAB_ADDRESSES, CIB_ENTRIES, ENTRY_LEN};
 
 /// How many chunks a chunk-info block has, and how many of these an address block has.
-#[derive(Clone, Copy, PartialEq, Eq, Debug)]
+#[derive(Clone, Copy, PartialEq, Eq)]
 pub struct Groups {
     /// The most chunks of a chunk-info block.
     pub chunks: u32,

@@ -2,7 +2,9 @@
 
 mod cache;
 mod changes;
+mod keys;
 mod leaves;
+mod nodes;
 mod objects;
 mod records;
 mod walks;

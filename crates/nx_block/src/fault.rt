@@ -2,7 +2,7 @@
 use obj_base::HeadFault;
 
 /// The first test of a superblock that fails (Container, `nx_superblock_t`).
-#[derive(Clone, Copy, PartialEq, Eq, Debug)]
+#[derive(Clone, Copy, PartialEq, Eq)]
 pub enum NxFault {
     /// The magic isn't `NXSB`.
     BadMagic,

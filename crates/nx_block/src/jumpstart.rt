@@ -11,7 +11,7 @@ use obj_base::u32_at;
 use std::marker::Model;
 
 /// An EFI jumpstart, whose extents fit its block (EFI Jumpstart, `nx_efi_jumpstart_t`). Contracts see its bytes.
-#[derive(Debug, Drop)]
+#[derive(Drop)]
 pub struct Jump<'a> {
     bytes: &'a [u8],
 }

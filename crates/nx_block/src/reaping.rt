@@ -9,7 +9,7 @@ use obj_base::{u32_at, u64_at};
 use std::marker::Model;
 
 /// A reaper (Reaper, `nx_reaper_phys_t`). Contracts see its bytes.
-#[derive(Debug, Drop)]
+#[derive(Drop)]
 pub struct Reaper<'a> {
     bytes: &'a [u8],
 }
@@ -25,7 +25,7 @@ impl<'a> Model for Reaper<'a> {
 }
 
 /// A list of a reaper (Reaper, `nx_reap_list_phys_t`). Contracts see its bytes.
-#[derive(Debug, Drop)]
+#[derive(Drop)]
 pub struct ReapList<'a> {
     bytes: &'a [u8],
 }

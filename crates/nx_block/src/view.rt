@@ -10,7 +10,7 @@ use obj_base::{Header, u32_at, u64_at};
 use std::marker::Model;
 
 /// A superblock that passed its tests (Container, `nx_superblock_t`). Contracts see its bytes.
-#[derive(Debug, Drop)]
+#[derive(Drop)]
 pub struct NxView<'a> {
     header: Header,
     bytes: &'a [u8],

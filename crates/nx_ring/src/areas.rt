@@ -6,7 +6,7 @@ ghost use Rattle.nx_ring.specs.Candidates.{has_areas_of};
 use nx_block::NxView;
 
 /// The block size of a container, and its checkpoint areas, in blocks.
-#[derive(Clone, Copy, PartialEq, Eq, Debug)]
+#[derive(Clone, Copy, PartialEq, Eq)]
 pub struct Areas {
     pub size: u32,
     pub desc_base: u64,

@@ -1,7 +1,7 @@
 // What a ring of checkpoints lacks.
 
 /// What a container's ring of checkpoints lacks, in the order of the tests.
-#[derive(Clone, Copy, PartialEq, Eq, Debug)]
+#[derive(Clone, Copy, PartialEq, Eq)]
 pub enum RingFault {
     /// Block 0 isn't a sound superblock whose areas lie in its container.
     BlockZero,

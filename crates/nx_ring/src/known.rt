@@ -30,7 +30,7 @@ use std::alloc::Global;
 use std::collections::BTreeMap;
 
 /// What a header says that a mapping also says, and the transaction.
-#[derive(Clone, Copy, PartialEq, Eq, Debug)]
+#[derive(Clone, Copy, PartialEq, Eq)]
 pub(crate) struct Head {
     pub kind: u16,
     pub oid: u64,

@@ -1,7 +1,7 @@
 // A candidate as it is listed.
 
 /// A candidate of the descriptor area: a superblock that may end a checkpoint.
-#[derive(Clone, Copy, PartialEq, Eq, Debug)]
+#[derive(Clone, Copy, PartialEq, Eq)]
 pub struct RingLine {
     /// Its index in the descriptor area.
     pub index: u32,

@@ -11,7 +11,7 @@ use apfs_layout::{checkpoint_map, kind};
 use obj_base::{Expect, Stop, sound, u32_at, u64_at};
 
 /// A mapping of an ephemeral object: its type, its size in bytes, its oid and its first block.
-#[derive(Clone, Copy, PartialEq, Eq, Debug)]
+#[derive(Clone, Copy, PartialEq, Eq)]
 pub struct Mapping {
     pub type_bits: u32,
     pub size: u32,

@@ -21,7 +21,7 @@ use std::alloc::Global;
 use std::marker::Model;
 
 /// An object that a checkpoint maps. Contracts see its oid, its first block and its bytes.
-#[derive(Debug, Drop)]
+#[derive(Drop)]
 pub struct Object {
     oid: u64,
     block: u64,

@@ -13,7 +13,7 @@ use std::marker::Model;
 
 /// A valid checkpoint. It has the bytes of its superblock and of each object that it maps once. Contracts see its line,
 /// the superblock's bytes, the objects by mapping with their oids, first blocks and bytes, and the candidates skipped.
-#[derive(Debug, Drop)]
+#[derive(Drop)]
 pub struct Checkpoint {
     pub(crate) entry: RingLine,
     // The header of the superblock, which was tested when the checkpoint was made.

@@ -5,7 +5,7 @@ use bitflags::{Flag, Flags};
 use thiserror::Error;
 
 /// The flags of an object: its type with the low 16 bits, which are the kind, cleared (Objects, Object Type Flags).
-#[derive(Clone, Copy, PartialEq, Eq, Debug)]
+#[derive(Clone, Copy, PartialEq, Eq)]
 pub struct ObjFlags {
     pub bits: u32,
 }
@@ -73,7 +73,7 @@ impl Flags for ObjFlags {
 }
 
 /// The fields of an object's header.
-#[derive(Clone, Copy, PartialEq, Eq, Debug)]
+#[derive(Clone, Copy, PartialEq, Eq)]
 pub struct Header {
     pub sum: u64,
     pub oid: u64,
@@ -99,7 +99,7 @@ pub enum HeadFault {
 }
 
 /// What is expected of an object's header. What is None isn't tested.
-#[derive(Clone, Copy, PartialEq, Eq, Debug)]
+#[derive(Clone, Copy, PartialEq, Eq)]
 pub struct Expect {
     pub kind: u16,
     pub subtype: Option<u32>,

@@ -4,6 +4,3 @@
 mod held;
 
 pub use held::{ClaimFault, Difference, Ledger};
-
-#[cfg(test)]
-mod tests;

@@ -7,7 +7,7 @@ use std::marker::Model;
 
 /// What is reached of a container: its named objects, counted; the ranges of the owners of the container and of the pool, each a
 /// first block and a length; the space; and the bits of the pool.
-#[derive(Debug, Drop)]
+#[derive(Drop)]
 pub struct Reached {
     objects: u64,
     owners: Vec<(u64, u64)>,

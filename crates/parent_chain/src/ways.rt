@@ -14,7 +14,7 @@ use std::marker::Model;
 use view_facts::InodeFact;
 
 /// The id of an inode and that of its parent, and the number of the climb that met it.
-#[derive(Clone, Copy, PartialEq, Eq, Debug)]
+#[derive(Clone, Copy, PartialEq, Eq)]
 pub(crate) struct Way {
     id: u64,
     parent: u64,

@@ -10,14 +10,14 @@ use std::alloc::Global;
 use std::marker::Model;
 
 /// What an attribute holds: the bytes themselves, or a stream by its id, of `size` bytes.
-#[derive(Debug, Drop)]
+#[derive(Drop)]
 pub(crate) enum KeptBody {
     Embedded(Bytes),
     Stream { id: u64, size: u64 },
 }
 
 /// An attribute.
-#[derive(Debug, Drop)]
+#[derive(Drop)]
 pub(crate) struct KeptAttribute {
     pub(crate) name: Bytes,
     pub(crate) body: KeptBody,

@@ -36,7 +36,7 @@ use std::alloc::Global;
 const ATTRIBUTE: u64 = kinds::ATTRIBUTE as u64;
 
 /// What is taken of one more record.
-#[derive(Clone, Copy, PartialEq, Eq, Debug)]
+#[derive(Clone, Copy, PartialEq, Eq)]
 pub(crate) enum Took {
     One,
     End,

@@ -15,7 +15,7 @@ use view_facts::InodeFact;
 const DIRECTORY: u16 = 4;
 
 /// An inode.
-#[derive(Debug, Drop)]
+#[derive(Drop)]
 pub struct KeptInode {
     parent: u64,
     private_id: u64,
@@ -101,7 +101,7 @@ impl KeptInode {
 }
 
 /// What a name leads to: an id, the name, and the inode.
-#[derive(Debug, Drop)]
+#[derive(Drop)]
 pub struct Place {
     pub(crate) id: u64,
     pub(crate) name: KeptName,
@@ -164,7 +164,7 @@ impl Place {
 }
 
 /// A target whose name is kept in place where it is short. Contracts see it as the target.
-#[derive(Debug, Drop)]
+#[derive(Drop)]
 pub struct KeptTarget {
     id: u64,
     name: KeptName,

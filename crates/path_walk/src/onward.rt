@@ -2,7 +2,7 @@
 use crate::Answer;
 
 /// Where a path goes on to, or what is told of it.
-#[derive(Debug, Drop)]
+#[derive(Drop)]
 pub(crate) enum Onward<T> {
     To(T),
     Answered(Answer),

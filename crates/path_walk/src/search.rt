@@ -44,7 +44,7 @@ const INODE: u64 = kinds::INODE as u64;
 const FEW: usize = 1000;
 
 /// What is taken of one more record.
-#[derive(Clone, Copy, PartialEq, Eq, Debug)]
+#[derive(Clone, Copy, PartialEq, Eq)]
 pub(crate) enum Took {
     One,
     End,
@@ -52,7 +52,7 @@ pub(crate) enum Took {
 }
 
 /// Which entries of a directory are kept.
-#[derive(Clone, Copy, PartialEq, Eq, Debug)]
+#[derive(Clone, Copy, PartialEq, Eq)]
 pub(crate) enum Wanted<'a> {
     /// Each.
     All,

@@ -2,7 +2,7 @@
 use apfs_model::Bytes;
 
 /// A file or a directory of a view.
-#[derive(PartialEq, Debug, Drop)]
+#[derive(PartialEq, Drop)]
 pub struct Target {
     pub id: u64,
     /// The name of the entry by which it was reached; that of the root is `/`.

@@ -4,7 +4,7 @@ ghost use Rattle.std.specs.List.Sorted.{IsPermutation, IsNonDecreasingBy};
 ghost use Rattle.piece_count.specs.Covered.{runs_at};
 
 /// Views side by side. They are told by their places.
-#[derive(Clone, Copy, PartialEq, Eq, Debug)]
+#[derive(Clone, Copy, PartialEq, Eq)]
 pub struct ViewRun {
     /// The first view.
     pub from: usize,
@@ -13,13 +13,13 @@ pub struct ViewRun {
 }
 
 /// A set of views, by runs of them.
-#[derive(Debug, Drop)]
+#[derive(Drop)]
 pub struct Views {
     pub runs: Vec<ViewRun>,
 }
 
 /// A run of blocks, which the views of a set have.
-#[derive(Clone, Copy, PartialEq, Eq, Debug)]
+#[derive(Clone, Copy, PartialEq, Eq)]
 pub struct Piece {
     /// The first block.
     pub first: u64,
@@ -30,7 +30,7 @@ pub struct Piece {
 }
 
 /// What views have: pieces, and the sets of views in the order of their numbers.
-#[derive(Debug, Drop)]
+#[derive(Drop)]
 pub struct Holdings {
     pub sets: Vec<Views>,
     pub pieces: Vec<Piece>,

@@ -25,7 +25,7 @@ pub struct Counts {
 
 /// What is counted of the pieces up to a block, at which the next one begins: no later piece has a block before it. Of the blocks from
 /// there on each view has those up to its reach.
-#[derive(Drop)]
+#[derive(Drop, Debug)]
 pub(crate) struct Tally {
     pub counts: Counts,
     /// The block after the last one of each view, 0 where it has none.

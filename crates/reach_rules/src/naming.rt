@@ -4,7 +4,7 @@ use omap_map::OmapRecord;
 use space_pool::Queue;
 
 /// A view of a volume.
-#[derive(Clone, Copy, PartialEq, Eq, PartialOrd, Ord, Debug)]
+#[derive(Clone, Copy, PartialEq, Eq, PartialOrd, Ord)]
 pub struct ViewAt {
     /// The volume's slot.
     pub slot: u32,
@@ -19,7 +19,7 @@ pub struct ViewAt {
 }
 
 /// How an id is looked up.
-#[derive(Clone, Copy, PartialEq, Eq, PartialOrd, Ord, Debug)]
+#[derive(Clone, Copy, PartialEq, Eq, PartialOrd, Ord)]
 pub enum LookUp {
     /// A physical one is a block.
     ByBlock,
@@ -32,7 +32,7 @@ pub enum LookUp {
 }
 
 /// An object.
-#[derive(Clone, Copy, PartialEq, Eq, PartialOrd, Ord, Debug)]
+#[derive(Clone, Copy, PartialEq, Eq, PartialOrd, Ord)]
 pub enum Object {
     /// The newest superblock.
     Newest,
@@ -45,7 +45,7 @@ pub enum Object {
 }
 
 /// Who names.
-#[derive(Clone, Copy, PartialEq, Eq, PartialOrd, Ord, Debug)]
+#[derive(Clone, Copy, PartialEq, Eq, PartialOrd, Ord)]
 pub enum Namer {
     /// An object.
     Whole(Object),
@@ -54,7 +54,7 @@ pub enum Namer {
 }
 
 /// The kinds of trees.
-#[derive(Clone, Copy, PartialEq, Eq, PartialOrd, Ord, Debug)]
+#[derive(Clone, Copy, PartialEq, Eq, PartialOrd, Ord)]
 pub enum TreeKind {
     /// An object map's records.
     MapRecords,
@@ -68,7 +68,7 @@ pub enum TreeKind {
 }
 
 /// What is expected of an object that is named.
-#[derive(Clone, Copy, PartialEq, Eq, PartialOrd, Ord, Debug)]
+#[derive(Clone, Copy, PartialEq, Eq, PartialOrd, Ord)]
 pub enum Expected {
     SpaceManager,
     ContainerMap,
@@ -91,7 +91,7 @@ pub enum Expected {
 }
 
 /// A naming.
-#[derive(Clone, Copy, PartialEq, Eq, PartialOrd, Ord, Debug)]
+#[derive(Clone, Copy, PartialEq, Eq, PartialOrd, Ord)]
 pub struct Naming {
     pub namer: Namer,
     /// The position in the namer: the byte of a field, or the number of a node's entry.

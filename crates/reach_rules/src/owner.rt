@@ -4,7 +4,7 @@ use crate::naming::Naming;
 use omap_map::OmapRecord;
 
 /// Who owns.
-#[derive(Clone, Copy, PartialEq, Eq, PartialOrd, Ord, Debug)]
+#[derive(Clone, Copy, PartialEq, Eq, PartialOrd, Ord)]
 pub enum Who {
     BlockZero,
     /// The checkpoint descriptor area.
@@ -27,7 +27,7 @@ pub enum Who {
 }
 
 /// An owner, and its range. The first block comes first, since most owners are told apart by it alone.
-#[derive(Clone, Copy, PartialEq, Eq, PartialOrd, Ord, Debug)]
+#[derive(Clone, Copy, PartialEq, Eq, PartialOrd, Ord)]
 pub struct Owner {
     pub first: u64,
     pub blocks: u64,

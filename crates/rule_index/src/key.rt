@@ -8,7 +8,7 @@ use std::cmp::Ordering;
 use std::marker::Model;
 
 /// Up to three numbers and a name.
-#[derive(Debug, Drop)]
+#[derive(Drop)]
 pub struct KeyRef<'a> {
     pub first: u64,
     pub second: u64,

@@ -1,5 +1,6 @@
 // Space in made containers.
 
+mod ledger;
 mod pool;
 mod settled;
 mod space;

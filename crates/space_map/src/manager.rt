@@ -17,7 +17,7 @@ use obj_base::{Site, u32_at, u64_at};
 use std::marker::Model;
 
 /// A space manager's bytes, of one block or more (Space Manager, `spaceman_phys_t`). Contracts see its bytes.
-#[derive(Debug, Drop)]
+#[derive(Drop)]
 pub(crate) struct Manager<'a> {
     bytes: &'a [u8],
 }

@@ -25,7 +25,7 @@ use std::alloc::Global;
 use std::marker::Model;
 
 /// The space of a container that was loaded: its manager's bytes, the blocks that tell of chunks, and the chunks.
-#[derive(Debug, Drop)]
+#[derive(Drop)]
 pub struct Space {
     site: Site,
     manager: Vec<u8>,

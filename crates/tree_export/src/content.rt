@@ -17,7 +17,7 @@ const COMPRESSED: u32 = 0x20;
 const DATALESS: u32 = 0x4000_0000;
 
 /// What an inode gives a folder.
-#[derive(Clone, Copy, PartialEq, Eq, Debug)]
+#[derive(Clone, Copy, PartialEq, Eq)]
 pub(crate) enum Content {
     Directory,
     /// A file that has no stream.

@@ -32,7 +32,7 @@ use std::alloc::Global;
 use vol_view::{View, Volume};
 
 /// What was put for an item.
-#[derive(Clone, Copy, PartialEq, Eq, Debug)]
+#[derive(Clone, Copy, PartialEq, Eq)]
 pub(crate) enum Put {
     Directory,
     /// A file of so many bytes.

@@ -29,7 +29,7 @@ use obj_base::Stop;
 const INODE: u64 = kinds::INODE as u64;
 
 /// What a search for the inode of an id has found.
-#[derive(Clone, Copy, PartialEq, Eq, Debug)]
+#[derive(Clone, Copy, PartialEq, Eq)]
 pub(crate) enum Sought {
     One(Content),
     Refused(RecFault),

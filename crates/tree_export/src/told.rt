@@ -1,7 +1,7 @@
 // What is asked to be put into a folder, and what was.
 
 /// A file or a directory of a view, as the row of a tree tells of it. What is put for it goes by the inode of its id.
-#[derive(PartialEq, Debug, Drop)]
+#[derive(PartialEq, Drop)]
 pub struct Item {
     /// Where it is put, as names joined by slashes.
     pub path: String,
@@ -13,7 +13,7 @@ pub struct Item {
 }
 
 /// What was put into a folder. Each number stands at the greatest of 64 bits where it would pass it.
-#[derive(PartialEq, Debug, Drop)]
+#[derive(PartialEq, Drop)]
 pub struct Done {
     pub directories: u64,
     pub files: u64,

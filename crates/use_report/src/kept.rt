@@ -10,7 +10,7 @@ use std::alloc::Global;
 use vol_view::{View, Volume, live, past};
 
 /// A view with the roots of what it holds.
-#[derive(Clone, Copy, PartialEq, Eq, Debug)]
+#[derive(Clone, Copy, PartialEq, Eq)]
 pub(crate) struct KeptView {
     /// The view's place among those of its volume: 0 for the live one, and then that of the snapshot, counted from 1.
     pub place: u64,

@@ -1,7 +1,7 @@
 // The numbers of blocks that the views of a volume hold.
 
 /// How many blocks a view holds.
-#[derive(Clone, Copy, PartialEq, Eq, Debug)]
+#[derive(Clone, Copy, PartialEq, Eq)]
 pub struct ViewUse {
     /// The view's transaction.
     pub xid: u64,
@@ -12,7 +12,7 @@ pub struct ViewUse {
 }
 
 /// How many blocks the views of a volume hold: the live view, then the snapshots by transaction.
-#[derive(Debug, Drop)]
+#[derive(Drop)]
 pub struct Usage {
     pub views: Vec<ViewUse>,
     /// The blocks that some view holds.

@@ -14,7 +14,7 @@ use std::mem::replace;
 use view_facts::Facts;
 
 /// How many facts of each kind there are.
-#[derive(Clone, Copy, PartialEq, Eq, Debug)]
+#[derive(Clone, Copy, PartialEq, Eq)]
 pub struct Numbers {
     pub inodes: usize,
     pub entries: usize,
@@ -55,7 +55,7 @@ impl Numbers {
 }
 
 /// A leaf of a view, what the order and the counts of its tree need of it, and how many facts of each kind its records say.
-#[derive(Clone, Copy, PartialEq, Eq, Debug)]
+#[derive(Clone, Copy, PartialEq, Eq)]
 pub struct KeptLeaf {
     pub leaf: Leaf,
     pub ends: Ends,

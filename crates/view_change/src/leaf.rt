@@ -5,7 +5,7 @@ ghost use Rattle.view_change.specs.Leaves.{leaf_place};
 use bt_node::NodeAt;
 
 /// A leaf of a tree below its root: the id by which its parent names it, and the block that this id has.
-#[derive(Clone, Copy, PartialEq, Eq, Debug)]
+#[derive(Clone, Copy, PartialEq, Eq)]
 pub struct Leaf {
     pub oid: u64,
     pub block: u64,

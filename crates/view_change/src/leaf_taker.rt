@@ -15,7 +15,7 @@ use bt_node::{Rank, TreeKey};
 use obj_base::{Site, Stop};
 
 /// What the order and the counts of a tree need of a leaf.
-#[derive(Clone, Copy, PartialEq, Eq, Debug)]
+#[derive(Clone, Copy, PartialEq, Eq)]
 pub struct Ends {
     /// The rank of the first key.
     pub first: Rank,

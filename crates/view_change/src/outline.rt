@@ -21,7 +21,7 @@ use obj_base::{Site, Stop};
 use std::alloc::Global;
 
 /// An entry of a node above the leaves: the rank of its key, and the id of its child where the child is still to be read.
-#[derive(Clone, Copy, PartialEq, Eq, Debug)]
+#[derive(Clone, Copy, PartialEq, Eq)]
 pub(crate) struct Separator {
     pub(crate) rank: Rank,
     pub(crate) child: Option<u64>,

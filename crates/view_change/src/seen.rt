@@ -11,7 +11,7 @@ use crate::Ends;
 use bt_node::{Rank, RootInfo, TreeKey};
 
 /// The ranks of the last item and of the last one of a leaf, and how many keys and nodes are still to come by the root's numbers.
-#[derive(Clone, Copy, PartialEq, Eq, Debug)]
+#[derive(Clone, Copy, PartialEq, Eq)]
 pub(crate) struct Seen {
     before: Option<Rank>,
     leaf: Option<Rank>,

@@ -15,7 +15,7 @@ pub(crate) const TARGET_NAME: &str = "com.apple.fs.symlink";
 const LARGE_SIZE: u64 = 0x8000_0000_0000_0000;
 
 /// What is kept of an attribute's contents: the bytes that stand in its record, or the size of its stream.
-#[derive(Debug, Drop)]
+#[derive(Drop)]
 pub(crate) enum Contents {
     Embedded(Vec<u8>),
     Stream { id: u64, size: u64 },

@@ -15,7 +15,7 @@ use std::alloc::Global;
 use std::marker::Model;
 
 /// An inode, which contracts see as the fact of its record.
-#[derive(Debug, Drop)]
+#[derive(Drop)]
 pub struct InodeFact {
     // What look-ups ask of many inodes in turn stands side by side, since fields lie as they stand here.
     pub(crate) id: u64,
@@ -102,7 +102,7 @@ impl InodeFact {
 }
 
 /// A directory's entry, which contracts see as the fact of its record.
-#[derive(Debug, Drop)]
+#[derive(Drop)]
 pub struct EntryFact {
     pub(crate) id: u64,
     pub(crate) file_id: u64,
@@ -195,7 +195,7 @@ impl EntryFact {
 }
 
 /// An attribute, which contracts see as the fact of its record.
-#[derive(Debug, Drop)]
+#[derive(Drop)]
 pub struct AttributeFact {
     pub(crate) id: u64,
     pub(crate) name: String,
@@ -245,7 +245,7 @@ impl AttributeFact {
 }
 
 /// A sibling link, which contracts see as the fact of its record.
-#[derive(Debug, Drop)]
+#[derive(Drop)]
 pub struct LinkFact {
     pub(crate) id: u64,
     pub(crate) file: u64,
@@ -295,7 +295,7 @@ impl LinkFact {
 }
 
 /// A sibling map, which contracts see as the fact of its record.
-#[derive(Debug, Drop)]
+#[derive(Drop)]
 pub struct SiblingFact {
     pub(crate) id: u64,
     pub(crate) file: u64,
@@ -327,7 +327,7 @@ impl SiblingFact {
 }
 
 /// An extent, which contracts see as the fact of its record.
-#[derive(Debug, Drop)]
+#[derive(Drop)]
 pub struct ExtentFact {
     pub(crate) id: u64,
     pub(crate) extent: FileExt,
@@ -359,7 +359,7 @@ impl ExtentFact {
 }
 
 /// The facts of a view.
-#[derive(Debug, Drop)]
+#[derive(Drop)]
 pub struct Facts {
     /// How names are compared.
     pub names: Names,

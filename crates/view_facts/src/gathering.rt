@@ -34,7 +34,7 @@ use view_rules::TreeFault;
 use vol_view::{View, Volume};
 
 /// The facts of a view, and how many records it has.
-#[derive(Debug, Drop)]
+#[derive(Drop)]
 pub struct ViewFacts {
     pub facts: Facts,
     /// The number of records of its flat list; it stands at the greatest number where it would pass it.

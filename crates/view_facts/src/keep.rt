@@ -19,7 +19,7 @@ use std::alloc::Global;
 use std::marker::PhantomData;
 
 /// A record that its reader refuses.
-#[derive(Clone, Copy, PartialEq, Eq, Debug)]
+#[derive(Clone, Copy, PartialEq, Eq)]
 pub(crate) struct Refusal {
     /// The number of its item in the Line, from 0.
     pub(crate) item: u64,

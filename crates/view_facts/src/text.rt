@@ -12,7 +12,7 @@ use std::str;
 const SHORT_SIZE: usize = 30;
 
 /// A name in place.
-#[derive(Debug, Drop)]
+#[derive(Drop)]
 pub(crate) struct Short {
     len: u8,
     bytes: [u8; SHORT_SIZE],
@@ -58,7 +58,7 @@ impl Short {
 const FAR_ID: u64 = 1 << 48;
 
 /// A name, and a sibling's id that has no room beside it.
-#[derive(Debug, Drop)]
+#[derive(Drop)]
 pub(crate) struct FarTwin {
     name: String,
     sibling: u64,
@@ -66,7 +66,7 @@ pub(crate) struct FarTwin {
 
 /// A name that is kept: in place where it is short, and on the heap where it is long, or where its entry has a sibling's id, as few have. Each takes 32 bytes,
 /// since small fields lie beside the tag: the two parts of a sibling's id too, where it has no more than 48 bits.
-#[derive(Debug, Drop)]
+#[derive(Drop)]
 pub(crate) enum Text {
     Short(Short),
     Long(String),

@@ -47,7 +47,7 @@ pub struct Reach {
 }
 
 /// What is wanted of each view of a set, as it is wanted of one of them, and the record by which it is found in all of them.
-#[derive(Clone, Copy, PartialEq, Eq, Debug)]
+#[derive(Clone, Copy, PartialEq, Eq)]
 pub(crate) struct Hit {
     pub wanted: Wanted,
     pub mapping: OmapRecord,

@@ -3,7 +3,7 @@
 use omap_map::OmapRecord;
 
 /// A view whose virtual objects are swept.
-#[derive(Clone, Copy, PartialEq, Eq, Debug)]
+#[derive(Clone, Copy, PartialEq, Eq)]
 pub struct SweptView {
     /// The volume's slot.
     pub slot: u32,
@@ -21,7 +21,7 @@ pub struct SweptView {
 }
 
 /// What the superblock of a view names.
-#[derive(Clone, Copy, PartialEq, Eq, Debug)]
+#[derive(Clone, Copy, PartialEq, Eq)]
 pub struct Head {
     pub view: SweptView,
     /// The id of the root of the view's files.
@@ -31,7 +31,7 @@ pub struct Head {
 }
 
 /// What is expected of a virtual object; of a node below a root, its level and who names it.
-#[derive(Clone, Copy, PartialEq, Eq, Debug)]
+#[derive(Clone, Copy, PartialEq, Eq)]
 pub(crate) enum Want {
     Root,
     Metadata,
@@ -43,7 +43,7 @@ pub(crate) enum Want {
 }
 
 /// A virtual object that is wanted of a view.
-#[derive(Clone, Copy, PartialEq, Eq, Debug)]
+#[derive(Clone, Copy, PartialEq, Eq)]
 pub(crate) struct Wanted {
     pub view: SweptView,
     pub oid: u64,
@@ -79,7 +79,7 @@ impl Wanted {
 }
 
 /// A virtual object that is wanted of each view of a set, as it is wanted of one of them.
-#[derive(Clone, Copy, PartialEq, Eq, Debug)]
+#[derive(Clone, Copy, PartialEq, Eq)]
 pub(crate) struct Asked {
     pub wanted: Wanted,
     /// The number of the set, of those that are kept.

@@ -9,7 +9,7 @@ use fs_name::Names;
 use obj_base::{u16_at, u32_at, u64_at};
 
 /// What a volume's superblock tells before its trees are read.
-#[derive(Debug, Drop)]
+#[derive(Drop)]
 pub struct VolHead {
     /// Its place among the volumes of the container, from 0 to 99.
     pub slot: u32,

@@ -8,7 +8,7 @@ use omap_map::Omap;
 use std::marker::Model;
 
 /// A snapshot of a volume.
-#[derive(Debug, Drop)]
+#[derive(Drop)]
 pub struct Snapshot {
     /// Its transaction.
     pub xid: u64,
@@ -56,7 +56,7 @@ impl Model for Volume {
 }
 
 /// A volume as it is, or as a snapshot keeps it.
-#[derive(Clone, Copy, PartialEq, Eq, Debug)]
+#[derive(Clone, Copy, PartialEq, Eq)]
 pub struct View {
     /// The volume's place among those of the container.
     pub slot: u32,

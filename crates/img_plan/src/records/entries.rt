@@ -14,7 +14,7 @@ use img_edit::{put_bytes, put_u16, put_u32, put_u64};
 use std::alloc::{AllocError, Global};
 
 /// What an entry says beside its name.
-#[derive(Clone, Copy, PartialEq, Eq, Debug)]
+#[derive(Clone, Copy, PartialEq, Eq)]
 pub struct EntryPlan {
     /// The directory that has the entry.
     pub directory: u64,

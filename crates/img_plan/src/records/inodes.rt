@@ -22,7 +22,7 @@ pub const FILE_MODE: u16 = 0x81a4;
 pub const LINK_MODE: u16 = 0xa1ed;
 
 /// What an inode says.
-#[derive(Clone, Copy, PartialEq, Eq, Debug)]
+#[derive(Clone, Copy, PartialEq, Eq)]
 pub struct InodePlan {
     pub id: u64,
     pub parent: u64,

@@ -1,7 +1,7 @@
 // What no clause says: that calls succeed.
 ghost use Rattle.std.specs.Prelude.{◌<◌};
 
-use crate::{read_block, read_new, read_sound};
+use blk_read::{read_block, read_new, read_sound};
 use blk_source::{MemSource, SureSource};
 use obj_base::{Expect, HeadFault, Site, Stop, Unsound};
 use std::alloc::Global;

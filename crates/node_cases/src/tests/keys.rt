@@ -1,6 +1,6 @@
 // Keys and values by hand.
 
-use crate::*;
+use bt_keys::*;
 use bt_node::{Rank, TreeKey};
 use std::process::Abort;
 

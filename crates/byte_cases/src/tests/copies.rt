@@ -1,5 +1,5 @@
 // What no clause says: that a copy is made, with ample memory.
-use crate::Bytes;
+use apfs_model::Bytes;
 use std::test::Fail;
 
 #[test]

@@ -1,8 +1,8 @@
 // Disks written field by field by the numbers of the UEFI specification, and each call once.
 ghost use Rattle.std.specs.Prelude.{◌≡◌, ◌≤◌, Some, length};
 
-use crate::{GptStop, Origin, Part, Slice, find_part, part_or_fault};
 use blk_source::{BlockSource, MemSource, SureSource};
+use img_gpt::{GptStop, Origin, Part, Slice, find_part, part_or_fault};
 use std::alloc::Global;
 use std::marker::Brand;
 use std::test::Fail;

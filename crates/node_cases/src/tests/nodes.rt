@@ -2,8 +2,8 @@
 // tree, in block 26 of 4,096 bytes: its table is at offset 0 with length 4, and has one entry of key offset 0 and value
 // offset 16.
 
-use crate::{ExtKey, FsKey, OmapKey, QueueKey};
 use apfs_layout::{node, object};
+use bt_keys::{ExtKey, FsKey, OmapKey, QueueKey};
 use bt_node::{NodeAt, NodeFault, NodeView, Site, TreeKey};
 use obj_base::{Bad, Feature, HeadFault, is_accepted, sum64};
 use std::alloc::Global;

@@ -1,8 +1,8 @@
 // Places and counts worked out by hand.
 ghost use Rattle.std.specs.Prelude.{◌≡◌, IfOk};
 
-use super::*;
 use apfs_model::NoMemory;
+use own_ledger::{ClaimFault, Difference, Ledger};
 use std::alloc::Global;
 use std::test::Fail;
 

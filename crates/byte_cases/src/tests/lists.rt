@@ -1,7 +1,5 @@
 // Lists in order with what is found in them, whatever the guess.
-use crate::guesses::Guesses;
-use crate::search::place;
-use crate::{ByItself, IdList, IdSlice, NO_GUESS, are_in_order, below, count, distinct};
+use id_lists::{ByItself, IdList, IdSlice, NO_GUESS, are_in_order, below, count, distinct};
 use std::alloc::Global;
 use std::test::Fail;
 
@@ -45,12 +43,10 @@ const ROWS: [Row; 12] = [
 
 #[test]
 fn searches(rt: HostRuntime) -> Result<(), Fail> {
-    for (list, id, before, at, of_it) in ROWS {
+    for (list, id, before, _, of_it) in ROWS {
         assert_eq!(rt; are_in_order::<_, ByItself>(list), true);
-        let guesses = Guesses::of::<_, ByItself>(rt.alloc(), list)?;
-        for guess in [guesses.near(id), NO_GUESS, 0, 3, 8] {
+        for guess in [NO_GUESS, 0, 3, 8] {
             assert_eq!(rt; below::<_, ByItself>(list, id, guess), before);
-            assert_eq!(rt; place::<_, ByItself>(list, id, guess), at);
             assert_eq!(rt; count::<_, ByItself>(list, id, guess), of_it);
         }
     }
