@@ -32,9 +32,9 @@ const COMPRESSED: u32 = 0x20;
 // The flag of a file whose contents aren't there (BSD flags, SF_DATALESS).
 const DATALESS: u32 = 0x4000_0000;
 
-// Why the contents of an inode aren't given, if they aren't.
+/// Why the contents of an inode aren't given, if they aren't: those of a regular file that is neither compressed nor dataless are.
 #[tactic(auto, unfolding(crate::specs::Contents::readable))]
-fn withheld(inode: &KeptInode) -> Option<Answer>
+pub fn withheld(inode: &KeptInode) -> Option<Answer>
     ensures { MatchOption result (spec.readable inode.now ≡ Ok inode.now) (λ answer. spec.readable inode.now ≡ Err answer) }
 {
     if inode.kind() != REGULAR {

@@ -12,5 +12,5 @@ mod streams;
 
 pub use attribute::attr;
 pub use attributes::attrs;
-pub use contents::cat;
+pub use contents::{cat, withheld};
 pub use stop::WriteStop;

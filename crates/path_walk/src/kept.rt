@@ -37,7 +37,7 @@ impl KeptInode {
     ghost use Rattle.fs_record.specs.Inodes as inodes;
 
     /// A copy of an inode.
-    pub(crate) fn of(inode: &Inode<'_>) -> KeptInode
+    pub fn of(inode: &Inode<'_>) -> KeptInode
         ensures { result ≡ inode.now }
     {
         KeptInode {
@@ -93,7 +93,7 @@ impl KeptInode {
     }
 
     /// Whether it is a directory.
-    pub(crate) fn is_directory(&self) -> bool
+    pub fn is_directory(&self) -> bool
         ensures { result ≡ is_directory self.now }
     {
         self.kind() == DIRECTORY

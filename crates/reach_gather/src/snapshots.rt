@@ -45,7 +45,6 @@ fn add_kept_extents<S: BlockSource>(
     ensures kept { IsKept S.bytes S.bytes_len S.faults src.old src.new }
 {
     if oid == 0 {
-        let _size = src.size();
         return Ok(());
     }
     let root = Naming {
@@ -121,7 +120,6 @@ pub(crate) fn add_snapshots<S: BlockSource>(
     ensures cause { IsErrOf result ReadFault → Rose (S.faults src.old) (S.faults src.new) }
     ensures kept { IsKept S.bytes S.bytes_len S.faults src.old src.new }
 {
-    let _size = src.size();
     let snapshots = volume.snaps.as_slice();
     for i in 0..snapshots.len() {
         let snapshot = &snapshots[i];

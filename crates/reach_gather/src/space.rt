@@ -110,7 +110,6 @@ fn add_pool<S: BlockSource>(
 {
     let oid = pool_root(space);
     if oid == 0 {
-        let _size = src.size();
         return Ok(());
     }
     let root = root(cp, 208, TreeKind::FreeQueue(Queue::Pool), oid);
@@ -137,7 +136,6 @@ fn add_main<S: BlockSource>(
 {
     let oid = main_root(space);
     if oid == 0 {
-        let _size = src.size();
         return Ok(());
     }
     let root = root(cp, 248, TreeKind::FreeQueue(Queue::Main), oid);

@@ -53,7 +53,6 @@ fn add_live_extents<S: BlockSource>(
     ensures kept { IsKept S.bytes S.bytes_len S.faults src.old src.new }
 {
     if oid == 0 {
-        let _size = src.size();
         return Ok(());
     }
     let root = Naming {
@@ -155,7 +154,6 @@ pub fn add_volume<S: BlockSource>(
     ensures cause { IsErrOf result ReadFault → Rose (S.faults src.old) (S.faults src.new) }
     ensures kept { IsKept S.bytes S.bytes_len S.faults src.old src.new }
 {
-    let _size = src.size();
     let map = cp.nx().omap_oid();
     let found = match omap.record(volume.head.oid, cp.xid()) {
         Some(found) => found,
@@ -192,7 +190,6 @@ pub fn add_volumes<S: BlockSource>(
     ensures cause { IsErrOf result ReadFault → Rose (S.faults src.old) (S.faults src.new) }
     ensures kept { IsKept S.bytes S.bytes_len S.faults src.old src.new }
 {
-    let _size = src.size();
     for volume in volumes {
         match add_volume(alloc, src, cp, volume, omap, out) {
             Ok(()) => (),

@@ -109,7 +109,6 @@ pub(crate) fn load_map<S: BlockSource>(
     let block = cp.nx().omap_oid();
     let site = cp.site();
     if !site.has_block(block) {
-        let _size = src.size();
         return Err(Stop::Found(ReachFault::Unnamed {
             within: Within::Physical,
             oid: block,

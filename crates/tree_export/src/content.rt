@@ -1,20 +1,10 @@
 // What an inode gives a folder.
-ghost use Rattle.std.specs.Prelude.{◌≡◌, is_ok};
-ghost use Rattle.path_read.specs.Contents.{readable};
+ghost use Rattle.std.specs.Prelude.{◌≡◌};
 ghost use Rattle.tree_export.specs.Parts as spec;
 
 use fs_record::{Inode, StreamSize};
-
-// The kinds of a directory and of a regular file (File Modes, S_IFDIR and S_IFREG).
-const DIRECTORY: u16 = 4;
-
-const REGULAR: u16 = 8;
-
-// The flag of a file whose contents are compressed (BSD flags, UF_COMPRESSED).
-const COMPRESSED: u32 = 0x20;
-
-// The flag of a file whose contents aren't there (BSD flags, SF_DATALESS).
-const DATALESS: u32 = 0x4000_0000;
+use path_read::withheld;
+use path_walk::KeptInode;
 
 /// What an inode gives a folder.
 #[derive(Clone, Copy, PartialEq, Eq)]
@@ -26,20 +16,6 @@ pub(crate) enum Content {
     Stream { id: u64, size: u64 },
     /// Nothing: it is no directory, nor a file whose contents can be given.
     Nothing,
-}
-
-// Whether the contents of an inode can be given: those of a regular file that is neither compressed nor dataless.
-#[tactic(auto, unfolding(path_read::specs::Contents::readable))]
-fn is_readable(inode: &Inode<'_>) -> bool
-    ensures { result ≡ is_ok (readable inode.now) }
-{
-    if inode.kind() != REGULAR {
-        return false;
-    }
-    if inode.bsd_flags() & COMPRESSED == COMPRESSED {
-        return false;
-    }
-    inode.bsd_flags() & DATALESS != DATALESS
 }
 
 // The content of a file whose stream has this id.
@@ -60,11 +36,12 @@ fn content_by(id: u64, stream: Option<StreamSize>) -> Content
 pub(crate) fn content_of(inode: &Inode<'_>) -> Content
     ensures { result ≡ spec.content_of inode.now }
 {
-    if inode.kind() == DIRECTORY {
+    let kept = KeptInode::of(inode);
+    if kept.is_directory() {
         return Content::Directory;
     }
-    if is_readable(inode) {
-        return content_by(inode.private_id(), inode.stream());
+    match withheld(&kept) {
+        Some(_) => Content::Nothing,
+        None => content_by(inode.private_id(), inode.stream()),
     }
-    Content::Nothing
 }

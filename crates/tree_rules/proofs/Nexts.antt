@@ -18,7 +18,7 @@ use Rattle.view_rules.specs.Words.{IsClear}
 use Rattle.view_rules.specs.Facts.{Facts}
 use Rattle.view_rules.specs.Listed.{extents_with_ids}
 use Rattle.view_rules.specs.Names.{HasNameHashes, has_other_name_hash}
-use Rattle.view_rules.specs.Rules.{view_facts, HasFactRules, HasTreeRules}
+use Rattle.view_rules.specs.Rules.{view_facts, HasFactRules}
 use Rattle.view_rules.specs.declared.profile.Profile.{Profile}
 use Rattle.view_rules.specs.declared.profile.Profile.TheVariants.{Plain, Strict}
 use Rattle.parent_chain.specs.Directories.{Rise}

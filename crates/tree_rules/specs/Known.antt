@@ -1,5 +1,5 @@
 -- What is known of a view without faults and notes, by which the next view of its volume is tested.
-use Rattle.std.specs.Prelude.{◌≡◌, ◌⊎◌, ℕ, List, [], Option, None, Some, IfSome}
+use Rattle.std.specs.Prelude.{◌⊎◌, ℕ, List, [], Option, None, Some, IfSome}
 use Rattle.apfs_model.specs.Lists.{In}
 use Rattle.obj_base.specs.declared.site.Site.{Site}
 use Rattle.ext_ref.specs.declared.range.NewRange.{NewRange}

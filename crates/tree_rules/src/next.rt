@@ -13,13 +13,12 @@ ghost use Rattle.vol_view.specs.Placed.{view_nodes};
 ghost use Rattle.view_rules.specs.Facts as facts;
 ghost use Rattle.view_rules.specs.Listed.{extents_with_ids};
 ghost use Rattle.view_rules.specs.Rules as rules;
-ghost use Rattle.rule_changes.specs.Changes.{AreWoven, HasDistinctInodes};
+ghost use Rattle.rule_changes.specs.Changes.{AreWoven};
 ghost use Rattle.vol_view.specs.declared.volume.View as declared;
 ghost use Rattle.view_change.specs.Shared.{ShareLeaves};
 ghost use Rattle.view_change.specs.Kept.{facts_of, leaves_of, records_kept};
 ghost use Rattle.view_change.specs.Changing.{HasDifference};
 ghost use Rattle.view_change.specs.Difference.{view_places, view_leaves, new_nodes, IsKeptOf};
-ghost use Rattle.tree_rules.specs.Tallies.{IsTally};
 ghost use Rattle.tree_rules.specs.Known as spec;
 
 use crate::gathered::tally_of;
@@ -33,7 +32,7 @@ use rule_breaks::faults::Asked;
 use rule_index::Index;
 use std::alloc::Global;
 use view_change::{Change, Changed, KeptView, are_none, difference, keep};
-use view_facts::{Facts, InodeFact};
+use view_facts::Facts;
 use view_rules::TreeFault;
 use vol_view::{View, Volume};
 

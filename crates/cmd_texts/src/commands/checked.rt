@@ -44,10 +44,7 @@ pub fn check_first<S: BlockSource>(
     ensures kept { IsKept S.bytes S.bytes_len S.faults src.old src.new }
 {
     match checks {
-        Checks::Quick => {
-            let _size = src.size();
-            Ok(())
-        }
+        Checks::Quick => { Ok(()) }
         Checks::First(profile) => match checked(alloc, profile, src) {
             Ok(_) => Ok(()),
             Err(stopped) => Err(stopped),

@@ -9,8 +9,8 @@ use img_make::records::{InodePlan, LINK_MODE, attribute, stream_attribute};
 use img_make::{FileTree, Item, Sample, image_with};
 use nx_ring::newest;
 use obj_base::{Site, Stop};
-use path_read::{WriteStop, attr, attrs, cat};
-use path_walk::{Answer, PathStop};
+use path_read::{WriteStop, attr, attrs, cat, withheld};
+use path_walk::{Answer, PathStop, locate};
 use std::alloc::Global;
 use std::process::Abort;
 use std::test::Fail;
@@ -91,6 +91,23 @@ fn a_file_is_written(rt: HostRuntime) -> Result<(), Fail> {
         end,
         Err(WriteStop::Stopped(Stop::Found(PathStop::Answer(Answer::NotFile))))
     );
+    Ok(())
+}
+
+// Why the contents of what a path leads to aren't given.
+fn withheld_at(alloc: Global, path: &str) -> Result<Option<Answer>, Fail> {
+    let mut src = made(alloc)?;
+    let (volume, view, site) = open(alloc, &mut src)?;
+    let Ok(place) = locate(alloc, &mut src, &volume, &view, &site, path) else {
+        return Err(Fail::from("no such path"));
+    };
+    Ok(withheld(place.inode()))
+}
+
+#[test]
+fn contents_are_those_of_a_file(rt: HostRuntime) -> Result<(), Fail> {
+    assert_eq!(rt; withheld_at(rt.alloc(), "/hello.txt")?, None);
+    assert_eq!(rt; withheld_at(rt.alloc(), "/l")?, Some(Answer::NotFile));
     Ok(())
 }
 
