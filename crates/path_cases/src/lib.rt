@@ -1,4 +1,4 @@
-//! What paths lead to in made containers, what files and attributes hold there, and which blocks views hold. For tests alone.
+//! What paths lead to in made containers, what files and attributes hold there, which blocks views hold, and what folders get of them. For tests alone.
 #![tactic(auto)]
 
 #[cfg(test)]

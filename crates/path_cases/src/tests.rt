@@ -1,5 +1,6 @@
-// Paths in made containers, what they lead to, and what their views hold.
+// Paths in made containers, what they lead to, what their views hold, and what folders get of them.
 
+mod exports;
 mod reads;
 mod usage;
 mod walks;

@@ -1,7 +1,7 @@
 use Rattle.std.proofs.Common.{◌<◌, length, Some, arith}
 use Rattle.std.proofs.lemmas.Bool.Decides.{nat_tests}
 use Rattle.vol_view.proofs.HeadsKept.{head-kept}
-use Rattle.export_cases.proofs.tests.made.open_view.Goals as goal
+use Rattle.path_cases.proofs.tests.exports.made.open_view.Goals as goal
 
 pub load-requires-clause-head : goal.load-requires-clause-head
 load-requires-clause-head c =
