@@ -1,12 +1,12 @@
 use Rattle.std.proofs.Common.{◌≡◌, ◌<◌, length, Some, Ok, ap, sym, arith, Vec, Global, length-append}
 use Rattle.apfs_model.specs.Lists.{In}
 use Rattle.omap_map.proofs.Lists.{contains-in}
-use Rattle.path_walk.specs.Parts.{target_by, targets_with, whats}
-use Rattle.path_walk.specs.declared.kinds.KindAndSize.{KindAndSize}
-use Rattle.path_walk.proofs.Known.{known_lack}
-use Rattle.path_walk.proofs.Listed.{kinds_more, kinds_done}
-use Rattle.path_walk.proofs.Needed.{target_file, place_untold, files_next, files_done}
-use Rattle.path_walk.specs.Needs.{HaveFiles}
+use Rattle.path_search.specs.Parts.{target_by, targets_with, whats}
+use Rattle.path_search.specs.declared.kinds.KindAndSize.{KindAndSize}
+use Rattle.path_search.proofs.Known.{known_lack}
+use Rattle.path_search.proofs.Listed.{kinds_more, kinds_done}
+use Rattle.path_search.proofs.Needed.{target_file, place_untold, files_next, files_done}
+use Rattle.path_search.specs.Needs.{HaveFiles}
 use Rattle.path_walk.proofs.by_memory.kinds_in.Goals as goal
 
 pub returns-in-Err-clause-known : goal.returns-in-Err-clause-known
