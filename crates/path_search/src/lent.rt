@@ -51,8 +51,8 @@ impl<'a> LentTarget<'a> {
 
     /// Its kind and its size.
     pub fn kind_and_size(&self) -> KindAndSize
-        ensures kind { result.kind ≡ self.now.kind }
-        ensures size { result.size ≡ self.now.size }
+        ensures kind_told { result.kind ≡ self.now.kind }
+        ensures size_told { result.size ≡ self.now.size }
     {
         KindAndSize {
             size: self.size,

@@ -22,7 +22,7 @@ loop-entry-preserved c = record {
   targets = λ facts same rise.
       let low : c.loop-entry.entry-index < length c.args.entries.now = omega arith in
       let there : target_by facts c.entry-item.result.what ≡ Some c.in-Ok.target = c.in-Ok.ensures.known facts same rise in
-      kinds_more facts c.args.entries.now c.loop-entry.entry-index c.entry-item.result c.in-Ok.target c.kind_and_size.result c.loop-entry.kinds.items c.push.new.self.items low c.entry-item.is there c.kind_and_size.ensures.kind c.kind_and_size.ensures.size
+      kinds_more facts c.args.entries.now c.loop-entry.entry-index c.entry-item.result c.in-Ok.target c.kind_and_size.result c.loop-entry.kinds.items c.push.new.self.items low c.entry-item.is there c.kind_and_size.ensures.kind_told c.kind_and_size.ensures.size_told
       c.in_ok-push.ensures.items c.loop-entry.invariant.counted (c.loop-entry.invariant.targets facts same rise);
   files = λ facts same rise.
       let low : c.loop-entry.entry-index < length c.args.entries.now = omega arith in
