@@ -4,7 +4,7 @@ use Rattle.std.proofs.Common.{subst}
 use Rattle.view_rules.specs.declared.profile.Profile.{Profile}
 use Rattle.view_rules.specs.declared.profile.Profile.TheVariants.{Plain}
 use Rattle.apfs_check.specs.WellFormed.{IsWellFormed}
-use Rattle.path_walk.specs.declared.answer.Answer.{Answer}
+use Rattle.path_search.specs.declared.answer.Answer.{Answer}
 use Rattle.cmd_lines.specs.declared.words.Checks.{Checks}
 use Rattle.cmd_lines.specs.declared.words.Checks.TheVariants.{Quick, First}
 use Rattle.cmd_texts.specs.ByCommand.{IsText, IsAnswer, RestsOn, profile_in, profile_of}

@@ -19,8 +19,8 @@ use Rattle.apfs_check.specs.Present.{IsPresent}
 use Rattle.apfs_check.specs.WellFormed.{IsWellFormed}
 use Rattle.apfs_check.proofs.Examples.{no_bytes_present, no_bytes_flawed}
 use Rattle.view_rules.specs.declared.notes.Note.TheVariants.{Skipped}
-use Rattle.path_walk.specs.declared.answer.Answer.{Answer}
-use Rattle.path_walk.specs.declared.answer.Answer.TheVariants.{NotFound, NoVolume}
+use Rattle.path_search.specs.declared.answer.Answer.{Answer}
+use Rattle.path_search.specs.declared.answer.Answer.TheVariants.{NotFound, NoVolume}
 use Rattle.tree_export.proofs.Examples.{both_stay}
 use Rattle.img_format.specs.declared.spec.Spec.{Spec}
 use Rattle.img_format.specs.Fresh.{fresh}

@@ -12,7 +12,7 @@ use Rattle.img_gpt.specs.declared.part.GptStop.TheVariants as gpt
 use Rattle.img_gpt.proofs.Exactly.{found_not_faulty}
 use Rattle.view_rules.specs.declared.profile.Profile.{Profile}
 use Rattle.apfs_check.specs.WellFormed.{IsWellFormed}
-use Rattle.path_walk.specs.declared.answer.Answer.{Answer}
+use Rattle.path_search.specs.declared.answer.Answer.{Answer}
 use Rattle.cmd_texts.proofs.ByAnswers.{for_answer}
 use Rattle.cmd_lines.specs.Texts.{IsPrefix}
 use Rattle.cmd_lines.specs.Written.{Sunk, Failed, Ends}

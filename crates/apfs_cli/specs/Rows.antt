@@ -12,7 +12,7 @@ use Rattle.tree_export.specs.Safe.{AreSafe}
 use Rattle.apfs_check.specs.Present as container
 use Rattle.apfs_check.specs.WellFormed.{IsWellFormed}
 use Rattle.cmd_texts.specs.First.{PresentBy}
-use Rattle.path_walk.specs.declared.answer.Answer.{Answer}
+use Rattle.path_search.specs.declared.answer.Answer.{Answer}
 use Rattle.cmd_lines.specs.Written.{Sunk, Failed}
 use Rattle.cmd_lines.specs.Words.{Asked, Line}
 use Rattle.cmd_texts.specs.Handed.{Looked, LookFailed, OfImage, Stored, StoreFailed}

@@ -1,7 +1,7 @@
 -- How a run may end, with its status and what it has written: one case for each row of the table of statuses.
 use Rattle.std.specs.Prelude.{ℕ, [], List}
 use Rattle.obj_base.specs.declared.stop.Feature.{Feature}
-use Rattle.path_walk.specs.declared.answer.Answer.{Answer}
+use Rattle.path_search.specs.declared.answer.Answer.{Answer}
 use Rattle.cmd_lines.specs.Texts.{usage_line, fault_line, read_failed_line, out_of_memory_line, unsupported_line, answer_line, no_image_line, no_folder_line}
 use Rattle.cmd_lines.specs.FaultTexts.{named_fault_text}
 use Rattle.cmd_lines.specs.declared.named.Named.{Named}

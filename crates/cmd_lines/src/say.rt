@@ -12,7 +12,7 @@ use crate::named::Named;
 use crate::stopped::Stopped;
 use blk_source::Sink;
 use obj_base::Feature;
-use path_walk::Answer;
+use path_search::Answer;
 use std::alloc::{AllocError, Global};
 
 // The status of a run whose writing failed.

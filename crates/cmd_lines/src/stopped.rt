@@ -6,7 +6,7 @@ ghost use Rattle.cmd_lines.specs.declared.stopped.Stopped.TheVariants as stops;
 use crate::named::Named;
 use apfs_check::Raise;
 use obj_base::{Feature, Stop};
-use path_walk::Answer;
+use path_search::Answer;
 use std::alloc::AllocError;
 
 /// Why a run stops before its text is whole.

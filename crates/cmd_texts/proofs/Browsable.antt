@@ -20,9 +20,9 @@ use Rattle.apfs_check.specs.Laws.{IsBrowsable}
 use Rattle.apfs_check.specs.Volumes.{volume_of, volume_ranges}
 use Rattle.apfs_check.specs.WellFormed.{IsWellFormed}
 use Rattle.apfs_check.proofs.Browsed.{browsed}
-use Rattle.path_walk.specs.Stops.{IsLawful}
-use Rattle.path_walk.specs.declared.answer.Answer.{Answer}
-use Rattle.path_walk.specs.declared.answer.Answer.TheVariants.{NoVolume, NoSnapshot}
+use Rattle.path_search.specs.Stops.{IsLawful}
+use Rattle.path_search.specs.declared.answer.Answer.{Answer}
+use Rattle.path_search.specs.declared.answer.Answer.TheVariants.{NoVolume, NoSnapshot}
 use Rattle.cmd_texts.specs.Meant.{meant_head, IsMeant, IsMeantVolume, HasNoVolume}
 use Rattle.cmd_texts.specs.MeantView.{view_of, IsMeantView, HasNoSnapshot, IsLawfulView}
 use Rattle.cmd_texts.specs.Reached.{IsClear}

@@ -1,8 +1,8 @@
 -- Facts by what is answered.
 use Rattle.std.specs.Prelude.{◌≡◌, ◌⊎◌, refl}
 use Rattle.std.proofs.Common.{inl, inr}
-use Rattle.path_walk.specs.declared.answer.Answer.{Answer}
-use Rattle.path_walk.specs.declared.answer.Answer.TheVariants.{NotFound, NotDirectory, NotFile, Compressed, Dataless, NoAttribute, NoVolume, NoSnapshot}
+use Rattle.path_search.specs.declared.answer.Answer.{Answer}
+use Rattle.path_search.specs.declared.answer.Answer.TheVariants.{NotFound, NotDirectory, NotFile, Compressed, Dataless, NoAttribute, NoVolume, NoSnapshot}
 use Rattle.cmd_texts.specs.OnView.{ByAnswer}
 use Rattle.cmd_texts.specs.Seen.{answered_of}
 

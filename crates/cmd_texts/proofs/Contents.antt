@@ -13,9 +13,9 @@ use Rattle.vol_view.specs.Volumes.{Loaded}
 use Rattle.vol_view.specs.declared.volume.View.{View}
 use Rattle.view_rules.specs.Facts.{Facts}
 use Rattle.view_rules.specs.Rules.{view_facts}
-use Rattle.path_walk.specs.Stops.{IsLawful}
-use Rattle.path_walk.specs.declared.answer.Answer.{Answer}
-use Rattle.path_walk.specs.declared.stop.PathStop.TheVariants as paths
+use Rattle.path_search.specs.Stops.{IsLawful}
+use Rattle.path_search.specs.declared.answer.Answer.{Answer}
+use Rattle.path_search.specs.declared.stop.PathStop.TheVariants as paths
 use Rattle.path_read.specs.Written.{HasFront, HasWhole, HasPart, IsWritten, IsUntouched, IsWriteStopThere}
 use Rattle.path_read.specs.declared.stop.WriteStop.{WriteStop}
 use Rattle.path_read.specs.declared.stop.WriteStop.TheVariants as writes

@@ -5,7 +5,7 @@ use Rattle.obj_base.specs.declared.stop.Stop.{Stop}
 use Rattle.obj_base.specs.declared.stop.Stop.TheVariants as layer
 use Rattle.obj_base.specs.Stops.{Tells}
 use Rattle.apfs_check.specs.declared.fault.Fault.{Fault}
-use Rattle.path_walk.specs.declared.answer.Answer.{Answer}
+use Rattle.path_search.specs.declared.answer.Answer.{Answer}
 use Rattle.cmd_lines.proofs.Puts.{wrote_nothing, part_taken}
 use Rattle.cmd_lines.specs.Texts.{IsPrefix}
 use Rattle.cmd_lines.specs.Written.{Sunk, Failed}

@@ -17,15 +17,15 @@ use Rattle.view_rules.specs.Facts.{Facts}
 use Rattle.view_rules.specs.Rules.{view_facts}
 use Rattle.view_rules.specs.declared.profile.Profile.TheVariants.{Plain}
 use Rattle.apfs_check.specs.WellFormed.{IsWellFormed}
-use Rattle.path_walk.specs.Places.{root_name}
-use Rattle.path_walk.specs.Stops.{IsLawful}
-use Rattle.path_walk.specs.Calls.{IsGiven, IsNoAnswer}
-use Rattle.path_walk.specs.declared.stop.PathStop.{PathStop}
-use Rattle.path_walk.specs.declared.stop.PathStop.TheVariants as paths
-use Rattle.path_walk.specs.declared.target.Target.{Target}
+use Rattle.path_search.specs.Places.{root_name}
+use Rattle.path_search.specs.Stops.{IsLawful}
+use Rattle.path_search.specs.Calls.{IsGiven, IsNoAnswer}
+use Rattle.path_search.specs.declared.stop.PathStop.{PathStop}
+use Rattle.path_search.specs.declared.stop.PathStop.TheVariants as paths
+use Rattle.path_search.specs.declared.target.Target.{Target}
 use Rattle.view_tree.specs.Tree.{tree}
-use Rattle.path_walk.specs.declared.answer.Answer.{Answer}
-use Rattle.path_walk.specs.declared.answer.Answer.TheVariants.{NoVolume, NoSnapshot}
+use Rattle.path_search.specs.declared.answer.Answer.{Answer}
+use Rattle.path_search.specs.declared.answer.Answer.TheVariants.{NoVolume, NoSnapshot}
 use Rattle.blk_folder.specs.Items.{Item}
 use Rattle.tree_export.specs.Exported.{Wanted, put_all, items_in, exported, skipped}
 use Rattle.tree_export.specs.Stopping.{IsFailure}

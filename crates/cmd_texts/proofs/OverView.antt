@@ -15,12 +15,12 @@ use Rattle.view_rules.specs.Facts.{Facts}
 use Rattle.view_rules.specs.Rules.{view_facts}
 use Rattle.apfs_check.specs.declared.fault.Fault.{Fault}
 use Rattle.apfs_check.specs.Raised.{of_view}
-use Rattle.path_walk.specs.Stops.{IsLawful}
-use Rattle.path_walk.specs.Calls.{IsGiven as IsGivenBy, IsStopThere}
-use Rattle.path_walk.specs.declared.answer.Answer.{Answer}
-use Rattle.path_walk.specs.declared.answer.Answer.TheVariants.{NoVolume, NoSnapshot}
-use Rattle.path_walk.specs.declared.stop.PathStop.{PathStop}
-use Rattle.path_walk.specs.declared.stop.PathStop.TheVariants as paths
+use Rattle.path_search.specs.Stops.{IsLawful}
+use Rattle.path_search.specs.Calls.{IsGiven as IsGivenBy, IsStopThere}
+use Rattle.path_search.specs.declared.answer.Answer.{Answer}
+use Rattle.path_search.specs.declared.answer.Answer.TheVariants.{NoVolume, NoSnapshot}
+use Rattle.path_search.specs.declared.stop.PathStop.{PathStop}
+use Rattle.path_search.specs.declared.stop.PathStop.TheVariants as paths
 use Rattle.cmd_lines.specs.declared.stopped.Stopped.{Stopped}
 use Rattle.cmd_lines.specs.declared.stopped.Stopped.TheVariants as stops
 use Rattle.cmd_texts.specs.ByCommand.{lead_of, IsText, IsFault, IsFeature, IsAnswer, RestsOn, HasResult}

@@ -4,12 +4,12 @@ use Rattle.std.proofs.Common.{inl, inr, sym, subst}
 use Rattle.apfs_model.specs.Lists.{and_then}
 use Rattle.cmd_words.specs.Asked.{AskedTarget}
 use Rattle.view_rules.specs.Facts.{Facts}
-use Rattle.path_walk.specs.Listing.{listing}
-use Rattle.path_walk.specs.Texts.{ls_text}
+use Rattle.path_search.specs.Listing.{listing}
+use Rattle.path_search.specs.Texts.{ls_text}
 use Rattle.view_tree.specs.Texts.{tree_text}
 use Rattle.view_tree.specs.Tree as trees
-use Rattle.path_walk.specs.declared.answer.Answer.{Answer}
-use Rattle.path_walk.proofs.Laws.{IsPathAnswer, listing_answers}
+use Rattle.path_search.specs.declared.answer.Answer.{Answer}
+use Rattle.path_search.proofs.Laws.{IsPathAnswer, listing_answers}
 use Rattle.view_tree.proofs.Laws.{tree_answers}
 use Rattle.path_read.specs.Attributes.{attributes}
 use Rattle.path_read.specs.Texts.{xattr_text}

@@ -14,8 +14,8 @@ use Rattle.apfs_check.specs.WellFormed.{IsWellFormed}
 use Rattle.use_report.specs.Given.{IsGiven, IsRight}
 use Rattle.use_report.specs.declared.stop.UseFault.{UseFault}
 use Rattle.use_report.proofs.Numbered.{numbers_there}
-use Rattle.path_walk.specs.declared.answer.Answer.{Answer}
-use Rattle.path_walk.specs.declared.answer.Answer.TheVariants.{NoVolume}
+use Rattle.path_search.specs.declared.answer.Answer.{Answer}
+use Rattle.path_search.specs.declared.answer.Answer.TheVariants.{NoVolume}
 use Rattle.cmd_lines.specs.declared.stopped.Stopped.{Stopped}
 use Rattle.cmd_lines.specs.declared.stopped.Stopped.TheVariants as stops
 use Rattle.cmd_texts.specs.ByCommand.{HasResult}

@@ -9,8 +9,8 @@ use Rattle.vol_view.specs.declared.volume.View.{View}
 use Rattle.vol_view.specs.Volumes.{Loaded, loaded_of}
 use Rattle.vol_view.specs.Views.{by_name_of}
 use Rattle.view_rules.specs.Rules.{view_facts}
-use Rattle.path_walk.specs.Stops.{IsLawful}
-use Rattle.path_walk.specs.declared.answer.Answer.{Answer}
+use Rattle.path_search.specs.Stops.{IsLawful}
+use Rattle.path_search.specs.declared.answer.Answer.{Answer}
 use Rattle.cmd_texts.specs.Meant.{IsMeantVolume, HasVolume, HasNoVolume}
 use Rattle.cmd_texts.specs.MeantView.{view_of, IsMeantView, HasView, HasNoSnapshot, IsLawfulView}
 use Rattle.cmd_texts.specs.OnView.{Wanted, IsWantedOf, IsTextOn, IsAnswerOn}

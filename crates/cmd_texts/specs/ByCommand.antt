@@ -5,7 +5,7 @@ use Rattle.blk_folder.specs.Items.{Item}
 use Rattle.apfs_check.specs.declared.fault.Fault.{Fault}
 use Rattle.view_rules.specs.declared.profile.Profile.TheVariants.{Plain}
 use Rattle.view_rules.specs.declared.profile.Profile.{Profile}
-use Rattle.path_walk.specs.declared.answer.Answer.{Answer}
+use Rattle.path_search.specs.declared.answer.Answer.{Answer}
 use Rattle.cmd_lines.specs.declared.words.Checks.{Checks}
 use Rattle.cmd_lines.specs.declared.words.Checks.TheVariants.{Quick, First}
 use Rattle.cmd_texts.specs.MeantView.{IsLawfulView}

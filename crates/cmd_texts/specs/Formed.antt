@@ -9,9 +9,9 @@ use Rattle.space_map.specs.Stops.{Known}
 use Rattle.space_pool.specs.declared.entry.QueueEntry.{QueueEntry}
 use Rattle.apfs_check.specs.Report.{Told}
 use Rattle.use_report.specs.Numbers as uses
-use Rattle.path_walk.specs.Texts.{ls_text}
+use Rattle.path_search.specs.Texts.{ls_text}
 use Rattle.view_tree.specs.Texts.{tree_text}
-use Rattle.path_walk.specs.declared.target.Target.{Target}
+use Rattle.path_search.specs.declared.target.Target.{Target}
 use Rattle.path_read.specs.Texts.{xattr_text}
 use Rattle.tree_export.specs.Exported.{Wanted}
 use Rattle.tree_export.specs.Texts.{skipped_text, done_text}

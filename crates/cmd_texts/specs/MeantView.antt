@@ -5,7 +5,7 @@ use Rattle.nx_ring.specs.Checkpoint.{Seen, site_of}
 use Rattle.vol_view.specs.Volumes.{Loaded}
 use Rattle.vol_view.specs.Views.{live_of, past_of, by_name_of}
 use Rattle.vol_view.specs.declared.volume.View.{View}
-use Rattle.path_walk.specs.Stops.{IsLawful}
+use Rattle.path_search.specs.Stops.{IsLawful}
 use Rattle.cmd_texts.specs.Meant.{IsMeantVolume}
 
 -- the view that is meant of a volume: the live one where no snapshot is named, otherwise that of the snapshot of the name, where there is one

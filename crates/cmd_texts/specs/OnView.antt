@@ -11,9 +11,9 @@ use Rattle.view_rules.specs.Facts.{Facts}
 use Rattle.view_rules.specs.Rules.{view_facts}
 use Rattle.apfs_check.specs.declared.fault.Fault.{Fault}
 use Rattle.apfs_check.specs.Raised.{of_view}
-use Rattle.path_walk.specs.Stops.{IsLawful, IsPathFault}
-use Rattle.path_walk.specs.declared.answer.Answer.{Answer}
-use Rattle.path_walk.specs.declared.answer.Answer.TheVariants.{NotFound, NotDirectory, NotFile, Compressed, Dataless, NoAttribute, NoVolume, NoSnapshot}
+use Rattle.path_search.specs.Stops.{IsLawful, IsPathFault}
+use Rattle.path_search.specs.declared.answer.Answer.{Answer}
+use Rattle.path_search.specs.declared.answer.Answer.TheVariants.{NotFound, NotDirectory, NotFile, Compressed, Dataless, NoAttribute, NoVolume, NoSnapshot}
 use Rattle.cmd_texts.specs.Meant.{HasNoVolume, IsMeantFault, IsMeantFeature}
 use Rattle.cmd_texts.specs.MeantView.{IsMeantView, HasNoSnapshot}
 

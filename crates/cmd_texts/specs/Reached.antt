@@ -1,6 +1,6 @@
 -- What is said of a call that checks a container, or that looks for the volume that is meant. No public clause speaks of it.
 use Rattle.std.specs.Prelude.{◌≡◌, ◌⊎◌, ℕ, List, Option}
-use Rattle.path_walk.specs.declared.answer.Answer.TheVariants.{NoVolume}
+use Rattle.path_search.specs.declared.answer.Answer.TheVariants.{NoVolume}
 use Rattle.apfs_check.specs.declared.fault.Fault.{Fault}
 use Rattle.cmd_lines.specs.declared.named.Named.{Named}
 use Rattle.cmd_lines.specs.declared.named.Named.TheVariants.{InContainer, InUsage, InExport, NoTable, BadTable, NoPartition, PartOutside}

@@ -6,7 +6,7 @@ use Rattle.blk_folder.specs.Items.{Item, IsFront}
 use Rattle.blk_folder.specs.Put.{Filled}
 use Rattle.img_gpt.specs.Partition.{found_part, HasNoTable, HasBadTable, HasNoPartition, HasPartOutside}
 use Rattle.img_gpt.specs.declared.part.Part.{Part}
-use Rattle.path_walk.specs.declared.answer.Answer.{Answer}
+use Rattle.path_search.specs.declared.answer.Answer.{Answer}
 use Rattle.tree_export.specs.Safe.{AreSafe}
 use Rattle.cmd_texts.specs.OnView.{ByAnswer}
 use Rattle.cmd_lines.specs.Texts.{IsPrefix}

@@ -6,10 +6,10 @@ use Rattle.apfs_check.specs.Raised.{of_view}
 use Rattle.apfs_check.specs.declared.fault.Fault.{Fault}
 use Rattle.img_gpt.specs.declared.part.GptStop.{GptStop}
 use Rattle.img_gpt.specs.declared.part.GptStop.TheVariants as tables
-use Rattle.path_walk.specs.declared.answer.Answer.{Answer}
-use Rattle.path_walk.specs.declared.answer.Answer.TheVariants.{NotFound, NoVolume, NoSnapshot}
-use Rattle.path_walk.specs.declared.stop.PathStop.{PathStop}
-use Rattle.path_walk.specs.declared.stop.PathStop.TheVariants as paths
+use Rattle.path_search.specs.declared.answer.Answer.{Answer}
+use Rattle.path_search.specs.declared.answer.Answer.TheVariants.{NotFound, NoVolume, NoSnapshot}
+use Rattle.path_search.specs.declared.stop.PathStop.{PathStop}
+use Rattle.path_search.specs.declared.stop.PathStop.TheVariants as paths
 use Rattle.use_report.specs.declared.stop.UseFault.{UseFault}
 use Rattle.path_read.specs.declared.stop.WriteStop.{WriteStop}
 use Rattle.path_read.specs.declared.stop.WriteStop.TheVariants as writes

@@ -33,9 +33,9 @@ use Rattle.view_rules.specs.Inodes.{lacks_target, has_large_stream}
 use Rattle.view_rules.specs.Rules.{refusal_of, HasRecords, HasFactRules}
 use Rattle.view_rules.specs.declared.profile.Profile.{Profile}
 use Rattle.view_rules.proofs.HashExamples.{ascii-by}
-use Rattle.path_walk.specs.Paths.{components}
-use Rattle.path_walk.specs.Found.{entries_in, found}
-use Rattle.path_walk.specs.Listing.{children, listing}
+use Rattle.path_search.specs.Paths.{components}
+use Rattle.path_search.specs.Found.{entries_in, found}
+use Rattle.path_search.specs.Listing.{children, listing}
 use Rattle.img_format.specs.Tables.{num, laid}
 use Rattle.img_format.specs.Blocks.{file_entries, private_hash, root_hash}
 use Rattle.fresh_law.specs.Facts.{pair_of}

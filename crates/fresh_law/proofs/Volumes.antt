@@ -33,7 +33,7 @@ use Rattle.ext_ref.specs.Unreached.{unreached_runs}
 use Rattle.view_rules.specs.Facts.{facts_in}
 use Rattle.view_rules.specs.Rules.{view_facts, HasRecords, HasFactRules, HasTreeRules}
 use Rattle.view_rules.specs.declared.profile.Profile.{Profile}
-use Rattle.path_walk.specs.Listing.{listing}
+use Rattle.path_search.specs.Listing.{listing}
 use Rattle.apfs_check.specs.Volumes.{volume_of, volume_ranges, volume_extents, past_extents_roots}
 use Rattle.apfs_check.specs.Data.{unreached_in, is_miscounted, miscounted_in, has_no_snapshots, HasRightData}
 use Rattle.apfs_check.specs.WellFormed.{HasAgreement, HasViewRules, IsRightVolume}

@@ -8,7 +8,7 @@ use Rattle.vol_view.specs.declared.head.VolHead.{VolHead}
 use Rattle.view_rules.specs.Rules.{view_facts}
 use Rattle.view_rules.specs.declared.profile.Profile.{Profile}
 use Rattle.view_rules.specs.declared.profile.Profile.TheVariants.{Plain, Strict}
-use Rattle.path_walk.specs.Listing.{listing}
+use Rattle.path_search.specs.Listing.{listing}
 use Rattle.apfs_check.specs.Volumes.{volume_of}
 use Rattle.apfs_check.specs.Report.{IsReport}
 use Rattle.apfs_check.specs.WellFormed.{IsWellFormed}

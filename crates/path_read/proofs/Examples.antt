@@ -6,10 +6,10 @@ use Rattle.apfs_model.specs.Blocks.{block_of}
 use Rattle.fs_record.specs.Attributes.Body.{Embedded, Streamed}
 use Rattle.file_extent.specs.Streams.{stream_bytes, byte_of, byte_in}
 use Rattle.view_rules.specs.Facts.{Facts}
-use Rattle.path_walk.specs.Paths.{components}
-use Rattle.path_walk.specs.Found.{entries_in, entry_named, found}
-use Rattle.path_walk.specs.declared.answer.Answer.TheVariants.{NotFile, Compressed, Dataless, NoAttribute}
-use Rattle.path_walk.proofs.Examples.{inode, entry, held, extent, view, files, written, hello}
+use Rattle.path_search.specs.Paths.{components}
+use Rattle.path_search.specs.Found.{entries_in, entry_named, found}
+use Rattle.path_search.specs.declared.answer.Answer.TheVariants.{NotFile, Compressed, Dataless, NoAttribute}
+use Rattle.path_search.proofs.Examples.{inode, entry, held, extent, view, files, written, hello}
 use Rattle.path_read.specs.Contents.{readable, contents}
 use Rattle.path_read.specs.Attributes.{attributes_in, attribute_named, attributes, attribute}
 use Rattle.path_read.specs.Texts.{xattr_text}

@@ -17,20 +17,20 @@ use Rattle.file_extent.specs.Streams.{Opened, stream_bytes}
 use Rattle.file_extent.specs.Opening.{IsOpened}
 use Rattle.view_rules.specs.Facts.{Facts}
 use Rattle.view_rules.specs.Rules.{view_facts}
-use Rattle.path_walk.specs.Places.{Place}
-use Rattle.path_walk.specs.Found.{found}
+use Rattle.path_search.specs.Places.{Place}
+use Rattle.path_search.specs.Found.{found}
 use Rattle.path_read.specs.Contents.{stream_in, contents_by, contents_in, contents_at, contents, readable}
-use Rattle.path_walk.specs.Calls.{IsGiven, IsNoAnswer}
+use Rattle.path_search.specs.Calls.{IsGiven, IsNoAnswer}
 use Rattle.path_read.specs.Written.{IsWritten}
 use Rattle.path_read.specs.declared.stop.WriteStop.{WriteStop}
 use Rattle.path_read.proofs.Laws.{same_stream}
-use Rattle.path_walk.specs.declared.answer.Answer.{Answer}
-use Rattle.path_walk.specs.declared.stop.PathStop.{PathStop}
-use Rattle.path_walk.specs.declared.stop.PathStop.TheVariants as stops
+use Rattle.path_search.specs.declared.answer.Answer.{Answer}
+use Rattle.path_search.specs.declared.stop.PathStop.{PathStop}
+use Rattle.path_search.specs.declared.stop.PathStop.TheVariants as stops
 use Rattle.path_read.specs.Needs.{WhereWritten, ContentsNeed}
-use Rattle.path_walk.specs.Needs.{RestsOn, PathNeeds, HasEntriesOf}
-use Rattle.path_walk.specs.Parts.{WhereTold}
-use Rattle.path_walk.proofs.Listed.{ok_same}
+use Rattle.path_search.specs.Needs.{RestsOn, PathNeeds, HasEntriesOf}
+use Rattle.path_search.specs.Parts.{WhereTold}
+use Rattle.path_search.proofs.Listed.{ok_same}
 use Rattle.bt_keys.specs.RecordKey.{file_extent_record}
 use Rattle.path_read.specs.declared.stop.WriteStop.TheVariants as writes
 

@@ -9,10 +9,10 @@ use Rattle.fs_record.specs.Attributes.{Attribute}
 use Rattle.fs_record.specs.Facts.{regular_kind}
 use Rattle.file_extent.specs.Streams.{extents_for, stream_bytes}
 use Rattle.view_rules.specs.Facts.{Facts, facts_in}
-use Rattle.path_walk.specs.Found.{found}
-use Rattle.path_walk.specs.declared.answer.Answer.{Answer}
-use Rattle.path_walk.specs.declared.answer.Answer.TheVariants.{NotFile, Compressed, Dataless, NoAttribute}
-use Rattle.path_walk.proofs.Laws.{err-same, ok-err, answers_then, IsPathAnswer, found_answers}
+use Rattle.path_search.specs.Found.{found}
+use Rattle.path_search.specs.declared.answer.Answer.{Answer}
+use Rattle.path_search.specs.declared.answer.Answer.TheVariants.{NotFile, Compressed, Dataless, NoAttribute}
+use Rattle.path_search.proofs.Laws.{err-same, ok-err, answers_then, IsPathAnswer, found_answers}
 use Rattle.path_read.specs.Contents.{stream_in, readable, contents, compressed_flag, dataless_flag}
 use Rattle.path_read.specs.Attributes.{attributes, held_by, attribute_named, attribute}
 

@@ -9,11 +9,11 @@ use Rattle.vol_view.specs.Volumes.{Loaded}
 use Rattle.vol_view.specs.declared.volume.View.{View}
 use Rattle.view_rules.specs.Facts.{Facts}
 use Rattle.view_rules.specs.Rules.{view_facts}
-use Rattle.path_walk.specs.Places.{Place}
-use Rattle.path_walk.specs.Found.{found}
-use Rattle.path_walk.specs.Order.{by_name}
-use Rattle.path_walk.specs.declared.answer.Answer.{Answer}
-use Rattle.path_walk.proofs.Laws.{err-same, ok-err}
+use Rattle.path_search.specs.Places.{Place}
+use Rattle.path_search.specs.Found.{found}
+use Rattle.path_search.specs.Order.{by_name}
+use Rattle.path_search.specs.declared.answer.Answer.{Answer}
+use Rattle.path_search.proofs.Laws.{err-same, ok-err}
 use Rattle.path_read.specs.Attributes.{attributes_in, attribute_told, attributes, is_called, attribute_named, held_by, attribute}
 use Rattle.path_read.specs.Needs.{AttributesNeed, HasExtents, ValueNeed}
 use Rattle.path_read.specs.Parts.{attributes_at}

@@ -2,7 +2,7 @@
 use Rattle.std.proofs.Common.{◌≡◌, inl, inr, ℕ, List, [], ◌++◌, Option, Some, None, Result, Ok, Err, refl, ap, sym, ◌∙◌, append-nil}
 use Rattle.apfs_model.specs.Sink.{Wrote, WrotePart}
 use Rattle.file_extent.specs.Copied.{CopiedWhole, CopiedFront}
-use Rattle.path_walk.specs.declared.answer.Answer.{Answer}
+use Rattle.path_search.specs.declared.answer.Answer.{Answer}
 use Rattle.path_read.specs.Written.{HasFront, HasWhole, HasPart}
 use Rattle.path_read.specs.declared.stop.WriteStop.{WriteStop}
 

@@ -25,9 +25,9 @@ use Rattle.bt_cursor.proofs.Runs.{run-flat, run-kind, flat-suffix, moved-whole, 
 use Rattle.fs_record.specs.Attributes.{Attribute}
 use Rattle.fs_record.specs.Facts.{fault_of, all_for, read_attribute, attributes_of}
 use Rattle.fs_record.specs.declared.fault.RecFault.{RecFault}
-use Rattle.path_walk.specs.Parts.{with_read, HasKindIn}
-use Rattle.path_walk.proofs.Searched.{HasKeys, run_is, run_facts, cursor_keys}
-use Rattle.path_walk.proofs.Needed.{kind_read, refused-attribute}
+use Rattle.path_search.specs.Parts.{with_read, HasKindIn}
+use Rattle.path_search.proofs.Searched.{HasKeys, run_is, run_facts, cursor_keys}
+use Rattle.path_search.proofs.Needed.{kind_read, refused-attribute}
 use Rattle.fs_name.specs.declared.naming.Names.{Names}
 use Rattle.std.proofs.lemmas.Bool.{false≢true}
 use Rattle.path_read.specs.declared.search.Took.{Took}

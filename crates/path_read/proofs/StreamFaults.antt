@@ -38,12 +38,12 @@ use Rattle.view_rules.specs.Rules.{view_facts, refusal_of, HasRecords}
 use Rattle.view_rules.specs.Listed.{raised}
 use Rattle.view_rules.specs.declared.fault.TreeFault.TheVariants.{ExtentOrder, ExtentPlace}
 use Rattle.view_rules.specs.declared.fault.TreeFault.TheVariants.{ExtentOrder, ExtentPlace}
-use Rattle.path_walk.specs.Stops.{IsPathFault}
-use Rattle.path_walk.specs.Calls.{IsStopThere}
+use Rattle.path_search.specs.Stops.{IsPathFault}
+use Rattle.path_search.specs.Calls.{IsStopThere}
 use Rattle.path_read.specs.Parts.{HasRefused as HasAttributeRefused}
 use Rattle.path_read.specs.Streamed.{id_at, stream_raised}
-use Rattle.path_walk.specs.declared.stop.PathStop.{PathStop}
-use Rattle.path_walk.specs.declared.stop.PathStop.TheVariants as paths
+use Rattle.path_search.specs.declared.stop.PathStop.{PathStop}
+use Rattle.path_search.specs.declared.stop.PathStop.TheVariants as paths
 
 -- ---- a record of an extent that is refused
 record LeafOf (items : List Item) (pair : Pair) : Type 0 where

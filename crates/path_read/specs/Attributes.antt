@@ -6,12 +6,12 @@ use Rattle.fs_record.specs.Attributes.{Body, Attribute}
 use Rattle.fs_record.specs.Attributes.Body.{Embedded, Streamed}
 use Rattle.fs_record.specs.Facts.{all_for}
 use Rattle.view_rules.specs.Facts.{Facts}
-use Rattle.path_walk.specs.Places.{Place}
-use Rattle.path_walk.specs.Found.{found}
-use Rattle.path_walk.specs.Order.{by_name}
+use Rattle.path_search.specs.Places.{Place}
+use Rattle.path_search.specs.Found.{found}
+use Rattle.path_search.specs.Order.{by_name}
 use Rattle.path_read.specs.Contents.{body_in}
-use Rattle.path_walk.specs.declared.answer.Answer.{Answer}
-use Rattle.path_walk.specs.declared.answer.Answer.TheVariants.{NoAttribute}
+use Rattle.path_search.specs.declared.answer.Answer.{Answer}
+use Rattle.path_search.specs.declared.answer.Answer.TheVariants.{NoAttribute}
 
 -- how many bytes an attribute holds
 abbrev pub body_len : Body → ℕ

@@ -9,10 +9,10 @@ use Rattle.fs_record.specs.Facts.{all_for, regular_kind}
 use Rattle.fs_record.specs.declared.inode_view.StreamSize.{StreamSize}
 use Rattle.file_extent.specs.Streams.{stream_bytes}
 use Rattle.view_rules.specs.Facts.{Facts}
-use Rattle.path_walk.specs.Places.{Place}
-use Rattle.path_walk.specs.Found.{found}
-use Rattle.path_walk.specs.declared.answer.Answer.{Answer}
-use Rattle.path_walk.specs.declared.answer.Answer.TheVariants.{NotFile, Compressed, Dataless}
+use Rattle.path_search.specs.Places.{Place}
+use Rattle.path_search.specs.Found.{found}
+use Rattle.path_search.specs.declared.answer.Answer.{Answer}
+use Rattle.path_search.specs.declared.answer.Answer.TheVariants.{NotFile, Compressed, Dataless}
 
 -- the flag of a file whose contents are compressed (BSD flags, UF_COMPRESSED)
 abbrev pub compressed_flag : ℕ

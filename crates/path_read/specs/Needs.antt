@@ -9,10 +9,10 @@ use Rattle.vol_view.specs.Volumes.{Loaded}
 use Rattle.vol_view.specs.Placed.{has_all_records}
 use Rattle.vol_view.specs.declared.volume.View.{View}
 use Rattle.view_rules.specs.Rules.{view_facts}
-use Rattle.path_walk.specs.Places.{Place}
-use Rattle.path_walk.specs.Found.{found}
-use Rattle.path_walk.specs.Needs.{HasKind, HasEntriesOf, PathNeeds}
-use Rattle.path_walk.specs.declared.stop.PathStop.TheVariants as stops
+use Rattle.path_search.specs.Places.{Place}
+use Rattle.path_search.specs.Found.{found}
+use Rattle.path_search.specs.Needs.{HasKind, HasEntriesOf, PathNeeds}
+use Rattle.path_search.specs.declared.stop.PathStop.TheVariants as stops
 use Rattle.path_read.specs.Attributes.{attribute_named}
 use Rattle.path_read.specs.Contents.{readable}
 use Rattle.path_read.specs.declared.stop.WriteStop.{WriteStop}

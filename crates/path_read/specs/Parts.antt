@@ -11,10 +11,10 @@ use Rattle.fs_record.specs.Attributes.Body.{Embedded, Streamed}
 use Rattle.fs_record.specs.Facts.{read_attribute, all_for}
 use Rattle.fs_record.specs.declared.fault.RecFault.{RecFault}
 use Rattle.view_rules.specs.Facts.{Facts}
-use Rattle.path_walk.specs.Places.{Place}
-use Rattle.path_walk.specs.Found.{found}
-use Rattle.path_walk.specs.Parts.{with_read}
-use Rattle.path_walk.specs.declared.answer.Answer.{Answer}
+use Rattle.path_search.specs.Places.{Place}
+use Rattle.path_search.specs.Found.{found}
+use Rattle.path_search.specs.Parts.{with_read}
+use Rattle.path_search.specs.declared.answer.Answer.{Answer}
 use Rattle.path_read.specs.declared.kept.KeptBody.{KeptBody}
 use Rattle.path_read.specs.declared.kept.KeptBody.TheVariants as kept
 use Rattle.path_read.specs.declared.search.Took.{Took}

@@ -8,8 +8,8 @@ use Rattle.file_extent.specs.declared.stop.StreamStop.TheVariants as streams
 use Rattle.view_rules.specs.Listed as listed
 use Rattle.view_rules.specs.declared.fault.IdAt.{IdAt}
 use Rattle.view_rules.specs.declared.fault.TreeFault.TheVariants.{ExtentOrder, ExtentPlace}
-use Rattle.path_walk.specs.declared.stop.PathStop.{PathStop}
-use Rattle.path_walk.specs.declared.stop.PathStop.TheVariants as stops
+use Rattle.path_search.specs.declared.stop.PathStop.{PathStop}
+use Rattle.path_search.specs.declared.stop.PathStop.TheVariants as stops
 
 -- the place of a fault of an id
 abbrev pub id_at : View → ℕ → IdAt

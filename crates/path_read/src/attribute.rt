@@ -6,7 +6,7 @@ ghost use Rattle.apfs_model.specs.Kept.{IsKept};
 ghost use Rattle.obj_base.specs.declared.stop.Stop.TheVariants.{ReadFault};
 ghost use Rattle.obj_base.specs.Site.{IsSiteFor};
 ghost use Rattle.view_rules.specs.Rules.{view_facts};
-ghost use Rattle.path_walk.specs.Stops.{IsLawful};
+ghost use Rattle.path_search.specs.Stops.{IsLawful};
 ghost use Rattle.bt_keys.specs.RecordKey.{file_extent_record};
 ghost use Rattle.vol_view.specs.Views.{is_view_ordered};
 ghost use Rattle.vol_view.specs.Placed.{has_all_records};

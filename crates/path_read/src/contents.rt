@@ -6,11 +6,11 @@ ghost use Rattle.obj_base.specs.declared.stop.Stop.TheVariants.{ReadFault};
 ghost use Rattle.obj_base.specs.Site.{IsSiteFor};
 ghost use Rattle.view_rules.specs.Rules.{view_facts};
 ghost use Rattle.vol_view.specs.Views.{is_view_ordered};
-ghost use Rattle.path_walk.specs.Parts.{WhereTold};
+ghost use Rattle.path_search.specs.Parts.{WhereTold};
 ghost use Rattle.path_read.specs.Needs.{ContentsNeed, WhereWritten};
 ghost use Rattle.path_read.specs.Contents as spec;
-ghost use Rattle.path_walk.specs.Stops.{IsLawful};
-ghost use Rattle.path_walk.specs.Calls.{IsGiven, IsStopThere};
+ghost use Rattle.path_search.specs.Stops.{IsLawful};
+ghost use Rattle.path_search.specs.Calls.{IsGiven, IsStopThere};
 ghost use Rattle.path_read.specs.Written.{HasPart, IsWritten, IsUntouched, IsWriteStopThere, opened_bytes};
 ghost use Rattle.path_read.specs.declared.stop.WriteStop.TheVariants as writes;
 

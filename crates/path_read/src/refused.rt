@@ -6,7 +6,7 @@ ghost use Rattle.obj_base.specs.declared.stop.Stop.TheVariants.{ReadFault};
 ghost use Rattle.obj_base.specs.Site.{IsSiteFor};
 ghost use Rattle.view_rules.specs.Rules.{HasRecords};
 ghost use Rattle.vol_view.specs.Views.{view_line};
-ghost use Rattle.path_walk.specs.Calls.{IsStopThere, IsNoAnswer};
+ghost use Rattle.path_search.specs.Calls.{IsStopThere, IsNoAnswer};
 
 use blk_source::BlockSource;
 use fs_record::RecFault;

@@ -15,9 +15,9 @@ ghost use Rattle.bt_cursor.specs.Faults.{IsNodeFault, HasFeature};
 ghost use Rattle.bt_cursor.specs.Cursors.{site_of, root_of, tree_of, left_of, gapped_left_of, fuel_of, IsOn};
 ghost use Rattle.fs_record.specs.Facts as facts;
 ghost use Rattle.fs_record.specs.Facts.{all_for, attributes_of};
-ghost use Rattle.path_walk.specs.Pairs.{pair_by};
+ghost use Rattle.path_search.specs.Pairs.{pair_by};
 ghost use Rattle.fs_name.specs.declared.naming.Names.{Names};
-ghost use Rattle.path_walk.specs.Parts.{HasKindIn};
+ghost use Rattle.path_search.specs.Parts.{HasKindIn};
 ghost use Rattle.path_read.specs.Parts.{run_attributes, Takes, TakesNext, IsOfRun, are_whole, GoesWhole, HasRefused};
 ghost use Rattle.path_read.specs.declared.search.Took.TheVariants.{One};
 

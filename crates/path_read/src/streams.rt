@@ -6,7 +6,7 @@ ghost use Rattle.obj_base.specs.declared.stop.Stop.TheVariants.{ReadFault};
 ghost use Rattle.obj_base.specs.Site.{IsSiteFor};
 ghost use Rattle.vol_view.specs.Views.{is_view_ordered};
 ghost use Rattle.file_extent.specs.Opening.{IsOpened};
-ghost use Rattle.path_walk.specs.Calls.{IsStopThere, IsNoAnswer};
+ghost use Rattle.path_search.specs.Calls.{IsStopThere, IsNoAnswer};
 ghost use Rattle.path_read.specs.Streamed.{id_at, stream_raised};
 
 use crate::refused::refused;

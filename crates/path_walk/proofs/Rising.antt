@@ -14,7 +14,7 @@ use Rattle.apfs_model.proofs.BoolTests.{never-true}
 use Rattle.id_lists.proofs.InOrder.{point-here}
 use Rattle.fs_record.specs.Facts.{Fact, first_for}
 use Rattle.omap_map.proofs.Lists.{all-in, filter-none}
-use Rattle.path_walk.specs.Parts.{Rises, IsFirst}
+use Rattle.path_search.specs.Parts.{Rises, IsFirst}
 
 at-in : {X : Type 0} (xs : List X) (k : ℕ) (d : X) → k < length xs → In (get_or xs k d) xs
 at-in [] k d low = absurd (omega arith)

@@ -2,24 +2,21 @@
 ghost use Rattle.std.specs.Prelude.{◌≡◌, map, length, IfOk, IfErr, IsErrOf};
 ghost use Rattle.obj_base.specs.declared.stop.Stop.TheVariants.{ReadFault};
 ghost use Rattle.view_rules.specs.Facts.{Facts};
-ghost use Rattle.path_walk.specs.Places.{target_of};
-ghost use Rattle.path_walk.specs.Found.{step, found};
-ghost use Rattle.path_walk.specs.Listing.{children, listing};
-ghost use Rattle.path_walk.specs.Needs.{StepNeeds, PathNeeds, HaveFiles, ChildrenNeed, ListingNeeds};
-ghost use Rattle.path_walk.specs.Calls.{IsNoAnswer};
-ghost use Rattle.path_walk.specs.Parts.{whats, by_part, along, rooted, lacking_entry, targets_by, targets_with, HasEntries, Remembers, Rises, IsKnown, IsPlaceKnown, IsTargetKnown, PartNeeds, AlongNeeds, WhereTold, of_any};
+ghost use Rattle.path_search.specs.Places.{target_of};
+ghost use Rattle.path_search.specs.Found.{step, found};
+ghost use Rattle.path_search.specs.Listing.{children, listing};
+ghost use Rattle.path_search.specs.Needs.{StepNeeds, PathNeeds, HaveFiles, ChildrenNeed, ListingNeeds};
+ghost use Rattle.path_search.specs.Calls.{IsNoAnswer};
+ghost use Rattle.path_search.specs.Parts.{whats, by_part, along, rooted, lacking_entry, targets_by, targets_with, HasEntries, Remembers, Rises, IsKnown, IsPlaceKnown, IsTargetKnown, PartNeeds, AlongNeeds, WhereTold, of_any};
 
-use crate::by_search::{ROOT, place_of, root_of_inode};
-use crate::choice::{choose, parts};
 use crate::files::{Files, directory_in, inode_in};
-use crate::kept::{KeptInode, KeptTarget, Place};
-use crate::kinds::KindAndSize;
-use crate::lent::LentTarget;
-use crate::order::{alone, kept_by_name, kept_of};
-use crate::{Answer, PathStop};
 use apfs_model::{Bytes, NoMemory};
 use fs_name::Names;
 use obj_base::Stop;
+use path_search::by_search::{ROOT, place_of, root_of_inode};
+use path_search::choice::{choose, parts};
+use path_search::order::{alone, kept_by_name, kept_of};
+use path_search::{Answer, KeptInode, KeptTarget, KindAndSize, LentTarget, PathStop, Place};
 use std::alloc::Global;
 use view_facts::{EntryFact, InodeFact};
 use view_rules::TreeFault;
@@ -96,7 +93,7 @@ fn go_on(
     if !place.is_directory() {
         return Err(Stop::Found(PathStop::Answer(Answer::NotDirectory)));
     }
-    let chosen = choose(alloc, names, name, files.directory(place.id))?;
+    let chosen = choose(alloc, names, name, files.directory(place.id()))?;
     match chosen {
         None => Err(Stop::Found(PathStop::Answer(Answer::NotFound))),
         Some(entry) => match place_in(alloc, files, view, entry) {
@@ -263,7 +260,7 @@ pub(crate) fn list(
         let targets = alone(alloc, place)?;
         return Ok(targets);
     }
-    match children(alloc, files, view, place.id) {
+    match children(alloc, files, view, place.id()) {
         Ok(targets) => Ok(targets),
         Err(stop) => Err(stop),
     }

@@ -2,10 +2,10 @@
 ghost use Rattle.std.specs.Prelude.{◌≡◌, ◌==◌, ◌≤◌, ◌+◌, take, drop, nat_lt, true, false, length, Some, None, option_map, filter};
 ghost use Rattle.std.specs.List.Sorted.{IsPartitionPoint};
 ghost use Rattle.view_rules.specs.Facts.{Facts, inode_at};
-ghost use Rattle.path_walk.specs.Found.{entries_in};
-ghost use Rattle.path_walk.specs.Parts.{whats, Rises, IsFirst, Remembers, HasEntries};
+ghost use Rattle.path_search.specs.Found.{entries_in};
+ghost use Rattle.path_search.specs.Parts.{whats, Rises, IsFirst, Remembers, HasEntries};
 
-use crate::by_search::is_reserved;
+use path_search::by_search::is_reserved;
 use view_facts::{EntryFact, InodeFact};
 
 /// The entries of a view, by the ids of their directories, and its inodes by their ids, each in record order.
@@ -162,7 +162,7 @@ fn run_of(entries: &[EntryFact], id: u64) -> &[EntryFact]
 }
 
 /// The entries of a directory that are followed and listed.
-#[tactic(auto, unfolding(crate::specs::Found::entries_in))]
+#[tactic(auto, unfolding(path_search::specs::Found::entries_in))]
 pub(crate) fn directory_in(entries: &[EntryFact], id: u64) -> &[EntryFact]
     ensures counted { (facts : Facts) → entries.now ≡ facts.entries → Rises entries.now → HasEntries facts result.now }
     ensures all { (facts : Facts) → entries.now ≡ facts.entries → Rises entries.now → whats result.now ≡ entries_in facts id }

@@ -13,20 +13,20 @@ ghost use Rattle.fs_name.specs.Normal.{are_hashed};
 ghost use Rattle.vol_view.specs.Views.{view_tree, is_view_ordered};
 ghost use Rattle.view_rules.specs.Facts.{facts_in};
 ghost use Rattle.view_rules.specs.Rules.{view_facts};
-ghost use Rattle.path_walk.specs.Listing.{listing};
-ghost use Rattle.path_walk.specs.Stops.{IsLawful};
-ghost use Rattle.path_walk.specs.Calls.{IsGiven, IsStopThere, IsNoAnswer};
-ghost use Rattle.path_walk.specs.Needs.{HasEntriesOf, ListingNeeds, RestsOn};
-ghost use Rattle.path_walk.specs.Parts.{Leads, NeedsIn, WhereLed};
+ghost use Rattle.path_search.specs.Listing.{listing};
+ghost use Rattle.path_search.specs.Stops.{IsLawful};
+ghost use Rattle.path_search.specs.Calls.{IsGiven, IsStopThere, IsNoAnswer};
+ghost use Rattle.path_search.specs.Needs.{HasEntriesOf, ListingNeeds, RestsOn};
+ghost use Rattle.path_search.specs.Parts.{Leads, NeedsIn, WhereLed};
 
-use crate::onward::Onward;
-use crate::order::told;
+use crate::by_memory;
 use crate::whole::{gather_view, raise};
-use crate::{KeptTarget, PathStop, Target, by_memory, by_search};
 use blk_source::BlockSource;
 use bt_cursor::WalkFault;
 use bt_keys::{FsKey, FsPlainKey, FsTreeKey};
 use obj_base::{Site, Stop};
+use path_search::order::told;
+use path_search::{KeptTarget, Onward, PathStop, Target, by_search};
 use std::alloc::Global;
 use vol_view::{View, Volume};
 

@@ -2,17 +2,15 @@
 ghost use Rattle.std.specs.Prelude.{◌≡◌, length, map, option_map, IfOk, IsErrOf, vec_len};
 ghost use Rattle.obj_base.specs.declared.stop.Stop.TheVariants.{ReadFault};
 ghost use Rattle.view_rules.specs.Facts.{Facts, inode_at};
-ghost use Rattle.path_walk.specs.Found.{entries_in};
-ghost use Rattle.path_walk.specs.Parts.{whats, kind_told, kind_by, Rises, Remembers, Tells, HasEntries, IsTargetKnown};
+ghost use Rattle.path_search.specs.Found.{entries_in};
+ghost use Rattle.path_search.specs.Parts.{whats, kind_told, kind_by, Rises, Remembers, Tells, HasEntries, IsTargetKnown};
 
-use crate::PathStop;
 use crate::by_memory::lacking;
-use crate::by_search::is_reserved;
 use crate::files::{Files, inode_in, part, run_at};
-use crate::kinds::FileKind;
-use crate::lent::LentTarget;
 use apfs_model::NoMemory;
 use obj_base::Stop;
+use path_search::by_search::is_reserved;
+use path_search::{FileKind, LentTarget, PathStop};
 use std::alloc::Global;
 use view_facts::{EntryFact, InodeFact};
 use vol_view::View;
@@ -90,7 +88,7 @@ impl ToldFiles {
     }
 
     /// The entries of a directory that are followed and listed.
-    #[tactic(auto, unfolding(crate::specs::Found::entries_in))]
+    #[tactic(auto, unfolding(path_search::specs::Found::entries_in))]
     pub fn directory(&self, id: u64) -> ToldRun<'_>
         ensures counted { (facts : Facts) → Tells facts self.now.entries.items self.now.kinds.items → HasEntries facts result.entries.now }
         ensures all { (facts : Facts) → Tells facts self.now.entries.items self.now.kinds.items → whats result.entries.now ≡ entries_in facts id }

@@ -8,24 +8,24 @@ ghost use Rattle.obj_base.specs.Site.{IsSiteFor};
 ghost use Rattle.vol_view.specs.Views.{view_line};
 ghost use Rattle.view_rules.specs.Rules.{view_facts, HasRecords};
 ghost use Rattle.view_facts.specs.Stops.{IsOfRecords};
-ghost use Rattle.path_walk.specs.Calls.{IsStopThere, of_walk, IsNoAnswer};
-ghost use Rattle.path_walk.specs.Needs.{HasAll};
-ghost use Rattle.path_walk.specs.Parts.{Remembers};
-ghost use Rattle.path_walk.specs.declared.stop.PathStop.TheVariants as stops;
+ghost use Rattle.path_search.specs.Calls.{IsStopThere, of_walk, IsNoAnswer};
+ghost use Rattle.path_search.specs.Needs.{HasAll};
+ghost use Rattle.path_search.specs.Parts.{Remembers};
+ghost use Rattle.path_search.specs.declared.stop.PathStop.TheVariants as stops;
 ghost use Rattle.view_rules.specs.declared.fault.TreeFault.{TreeFault};
 
-use crate::PathStop;
 use crate::files::Files;
 use blk_source::BlockSource;
 use bt_cursor::WalkFault;
 use obj_base::{Site, Stop};
+use path_search::PathStop;
 use std::alloc::Global;
 use view_facts::{Facts, fault_of, view_files};
 use view_rules::TreeFault;
 use vol_view::{View, Volume};
 
 /// Why a walk stops, said of a path.
-#[tactic(auto, using(crate::proofs::Known::raised_unanswered))]
+#[tactic(auto, using(path_search::proofs::Known::raised_unanswered))]
 pub fn raise(view: &View, stop: Stop<WalkFault>) -> Stop<PathStop>
     ensures raised { result ≡ raised (of_walk view.now) stop }
     ensures unanswered { IsNoAnswer result }

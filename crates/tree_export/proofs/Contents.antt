@@ -11,8 +11,8 @@ use Rattle.fs_record.specs.Facts.{regular_kind, all_for}
 use Rattle.fs_record.specs.declared.inode_view.StreamSize.{StreamSize}
 use Rattle.file_extent.specs.Streams.{byte_of, stream_bytes}
 use Rattle.view_rules.specs.Facts.{Facts, facts_in, inode_at, is_directory}
-use Rattle.path_walk.specs.declared.answer.Answer.{Answer}
-use Rattle.path_walk.specs.declared.answer.Answer.TheVariants.{NotFile, Compressed, Dataless}
+use Rattle.path_search.specs.declared.answer.Answer.{Answer}
+use Rattle.path_search.specs.declared.answer.Answer.TheVariants.{NotFile, Compressed, Dataless}
 use Rattle.path_read.specs.Contents.{compressed_flag, dataless_flag, stream_in, contents_by, contents_in, readable}
 use Rattle.blk_folder.specs.Items.{Item, directory_at, file_at}
 use Rattle.tree_export.specs.Safe.{safe_path}

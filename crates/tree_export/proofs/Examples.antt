@@ -7,11 +7,11 @@ use Rattle.apfs_model.specs.Blocks.{block_of}
 use Rattle.file_extent.specs.Streams.{stream_bytes, byte_of, byte_in}
 use Rattle.blk_folder.specs.Items.{Item, directory_at, file_at, IsFront}
 use Rattle.view_rules.specs.Facts.{Facts}
-use Rattle.path_walk.specs.Paths.{components}
-use Rattle.path_walk.specs.Found.{entries_in, entry_named, found}
-use Rattle.path_walk.specs.Listing.{children}
-use Rattle.path_walk.specs.Texts.{kind_text}
-use Rattle.path_walk.proofs.Examples.{inode, file, entry, extent, view}
+use Rattle.path_search.specs.Paths.{components}
+use Rattle.path_search.specs.Found.{entries_in, entry_named, found}
+use Rattle.path_search.specs.Listing.{children}
+use Rattle.path_search.specs.Texts.{kind_text}
+use Rattle.path_search.proofs.Examples.{inode, file, entry, extent, view}
 use Rattle.view_tree.specs.Tree.{rows_under, rows_below}
 use Rattle.path_read.specs.Contents.{readable}
 use Rattle.tree_export.specs.Safe.{IsSafePart, IsSafe, AreSafe, safe_path}

@@ -18,7 +18,7 @@ use Rattle.fs_name.specs.Normal.{are_hashed}
 use Rattle.vol_view.specs.Volumes.{Loaded}
 use Rattle.vol_view.specs.Views.{hashed_tree, plain_tree, is_view_whole, FactBy, IsViewFeature}
 use Rattle.vol_view.specs.declared.volume.View.{View}
-use Rattle.path_walk.proofs.Viewed.{hashed_flat, plain_flat}
+use Rattle.path_search.proofs.Viewed.{hashed_flat, plain_flat}
 use Rattle.tree_export.specs.Faults.{IsRefusedInode, LacksInode}
 use Rattle.tree_export.specs.Stopping.{IsFaultOf}
 use Rattle.tree_export.specs.Parts.{IsLookupFault, gather_raised}

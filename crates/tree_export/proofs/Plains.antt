@@ -6,7 +6,7 @@ use Rattle.std.proofs.lemmas.List.{drop_all}
 use Rattle.std.proofs.lemmas.List.Elements.{All-nil, All-cons, All-head, All-tail}
 use Rattle.std.proofs.lemmas.List.Splits.{length-slice_split}
 use Rattle.apfs_model.proofs.BoolTests.{never-true, equal-from}
-use Rattle.path_walk.specs.Paths.{slash, parts_of}
+use Rattle.path_search.specs.Paths.{slash, parts_of}
 use Rattle.tree_export.specs.Parts.{MayFollow, IsPlainAfter}
 use Rattle.tree_export.specs.Safe.{safe_byte, safe_part, safe_path}
 use Rattle.tree_export.proofs.Safes.{join_map}

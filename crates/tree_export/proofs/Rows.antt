@@ -7,12 +7,12 @@ use Rattle.apfs_model.proofs.Searches.{in-append, from-map}
 use Rattle.fs_record.specs.Inodes.{Inode}
 use Rattle.fs_record.specs.Facts.{root_id}
 use Rattle.view_rules.specs.Facts.{Facts, inode_at, is_directory}
-use Rattle.path_walk.specs.Paths.{slash, components}
-use Rattle.path_walk.specs.Places.{Place, placed, root_name}
-use Rattle.path_walk.specs.Found.{found, walk}
-use Rattle.path_walk.specs.declared.answer.Answer.{Answer}
-use Rattle.path_walk.specs.declared.answer.Answer.TheVariants.{NotFound}
-use Rattle.path_walk.specs.declared.target.Target.{Target}
+use Rattle.path_search.specs.Paths.{slash, components}
+use Rattle.path_search.specs.Places.{Place, placed, root_name}
+use Rattle.path_search.specs.Found.{found, walk}
+use Rattle.path_search.specs.declared.answer.Answer.{Answer}
+use Rattle.path_search.specs.declared.answer.Answer.TheVariants.{NotFound}
+use Rattle.path_search.specs.declared.target.Target.{Target}
 use Rattle.view_tree.specs.Tree.{Row, is_opened, rows_of, rows_under, rows_from, rows_below, lone_row, rows_at, row_told}
 use Rattle.view_tree.proofs.Rows.{rows-from}
 use Rattle.tree_export.specs.Exported.{Wanted, item_of, items_in}

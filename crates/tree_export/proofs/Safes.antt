@@ -5,7 +5,7 @@ use Rattle.std.specs.List.{flat_map, join_by, list_all, slice_split, onto_first}
 use Rattle.std.proofs.lemmas.List.Elements.{All-nil, All-cons, All-head, All-tail, All-append, All-map, All-weaker}
 use Rattle.std.proofs.lemmas.List.Splits.{slice_split_none, slice_split_at, length-slice_split}
 use Rattle.apfs_model.proofs.BoolTests.{left-true, right-true, never-true, below-from, equal-from, unequal-from}
-use Rattle.path_walk.specs.Paths.{slash, parts_of}
+use Rattle.path_search.specs.Paths.{slash, parts_of}
 use Rattle.tree_export.specs.Safe.{IsSafePart, IsSafe, safe_byte, safe_part, safe_path}
 
 -- ---- parts that are joined

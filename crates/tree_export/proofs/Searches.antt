@@ -23,8 +23,8 @@ use Rattle.bt_cursor.proofs.Runs.{run-flat, run-kind, flat-suffix}
 use Rattle.fs_record.specs.Inodes.{Inode}
 use Rattle.fs_record.specs.Facts.{read_inode}
 use Rattle.fs_record.specs.declared.fault.RecFault.{RecFault}
-use Rattle.path_walk.specs.Parts.{first_inode}
-use Rattle.path_walk.proofs.Searched.{HasKeys, run_is, cursor_keys, inode_from}
+use Rattle.path_search.specs.Parts.{first_inode}
+use Rattle.path_search.proofs.Searched.{HasKeys, run_is, cursor_keys, inode_from}
 use Rattle.tree_export.specs.Faults.{IsInodeRecord}
 use Rattle.tree_export.specs.Parts.{first_record, sought_as, TellsOrdered, TellsRecord}
 use Rattle.tree_export.specs.declared.search.Sought.{Sought}

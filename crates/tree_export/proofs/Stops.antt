@@ -35,10 +35,10 @@ use Rattle.view_rules.specs.Listed.{raised}
 use Rattle.view_rules.specs.declared.fault.TreeFault.TheVariants.{ExtentOrder, ExtentPlace}
 use Rattle.view_rules.proofs.Law.{refutes, featureless_rules}
 use Rattle.view_rules.proofs.Trees.{ViewParts, view-clear, featureless}
-use Rattle.path_walk.specs.Stops.{IsLawful, IsPathFault}
-use Rattle.path_walk.specs.declared.stop.PathStop.TheVariants as paths
-use Rattle.path_walk.proofs.Needed.{records_read}
-use Rattle.path_walk.proofs.Tallies.{in-given, mapped-at}
+use Rattle.path_search.specs.Stops.{IsLawful, IsPathFault}
+use Rattle.path_search.specs.declared.stop.PathStop.TheVariants as paths
+use Rattle.path_search.proofs.Needed.{records_read}
+use Rattle.path_search.proofs.Tallies.{in-given, mapped-at}
 use Rattle.path_read.specs.Streamed.{id_at}
 use Rattle.path_read.proofs.StreamFaults.{unrefused, stream_there}
 use Rattle.tree_export.specs.Exported.{Wanted, items_in}

@@ -4,9 +4,9 @@ use Rattle.std.specs.Prelude.{filter, filter_map, slice_get, map, Result, Ok, Er
 use Rattle.std.specs.List.{cons_option, flat_map}
 use Rattle.apfs_model.specs.Lists.{through, value_of}
 use Rattle.view_rules.specs.Facts.{Facts}
-use Rattle.path_walk.specs.Places.{root_name}
-use Rattle.path_walk.specs.declared.answer.Answer.{Answer}
-use Rattle.path_walk.specs.declared.target.Target.{Target}
+use Rattle.path_search.specs.Places.{root_name}
+use Rattle.path_search.specs.declared.answer.Answer.{Answer}
+use Rattle.path_search.specs.declared.target.Target.{Target}
 use Rattle.view_tree.specs.Tree.{tree}
 use Rattle.blk_folder.specs.Items as folders
 use Rattle.tree_export.specs.Exported.{Wanted, item_of, put_all, items_in, exported, skipped, is_left_out}

@@ -3,8 +3,8 @@ use Rattle.std.specs.Prelude.{ℕ, Bool, not, ◌||◌, List, map, filter, filte
 use Rattle.apfs_model.specs.Lists.{passes, through, value_of}
 use Rattle.fs_record.specs.Inodes.{Inode}
 use Rattle.view_rules.specs.Facts.{Facts, inode_at, is_directory}
-use Rattle.path_walk.specs.Places.{root_name}
-use Rattle.path_walk.specs.declared.target.Target.{Target}
+use Rattle.path_search.specs.Places.{root_name}
+use Rattle.path_search.specs.declared.target.Target.{Target}
 use Rattle.view_tree.specs.Tree.{tree}
 use Rattle.path_read.specs.Contents.{readable, contents_in}
 use Rattle.blk_folder.specs.Items as folders

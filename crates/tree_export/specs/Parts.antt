@@ -24,7 +24,7 @@ use Rattle.vol_view.specs.Volumes.{Loaded}
 use Rattle.vol_view.specs.Views.{IsViewFeature}
 use Rattle.vol_view.specs.declared.volume.View.{View}
 use Rattle.view_rules.specs.Facts.{Facts, is_directory}
-use Rattle.path_walk.specs.Paths.{slash}
+use Rattle.path_search.specs.Paths.{slash}
 use Rattle.path_read.specs.Contents.{readable, stream_in}
 use Rattle.blk_folder.specs.Items as folders
 use Rattle.blk_folder.specs.Items.{directory_at, file_at}

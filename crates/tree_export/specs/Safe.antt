@@ -1,7 +1,7 @@
 -- Paths that stay in a folder.
 use Rattle.std.specs.Prelude.{◌≢◌, ℕ, ◌==◌, List, [], ◌∷◌, All, bytes_eq, codes, if◌then◌else◌}
 use Rattle.std.specs.List.{flat_map, join_by}
-use Rattle.path_walk.specs.Paths.{slash, parts_of}
+use Rattle.path_search.specs.Paths.{slash, parts_of}
 use Rattle.blk_folder.specs.Items.{Item}
 
 -- a component stays where it is: it isn't empty, nor `.`, nor `..`, and holds neither a slash nor a zero byte

@@ -2,7 +2,7 @@
 use Rattle.std.specs.Prelude.{ℕ, ◌++◌, List, codes}
 use Rattle.std.specs.Fmt.{decimal}
 use Rattle.std.specs.List.{flat_map}
-use Rattle.path_walk.specs.Texts.{kind_text}
+use Rattle.path_search.specs.Texts.{kind_text}
 use Rattle.blk_folder.specs.Items.{Item}
 use Rattle.tree_export.specs.Safe.{safe_path}
 use Rattle.tree_export.specs.Exported.{Wanted}

@@ -4,7 +4,7 @@ ghost use Rattle.tree_export.specs.Parts as spec;
 
 use fs_record::{Inode, StreamSize};
 use path_read::withheld;
-use path_walk::KeptInode;
+use path_search::KeptInode;
 
 /// What an inode gives a folder.
 #[derive(Clone, Copy, PartialEq, Eq)]

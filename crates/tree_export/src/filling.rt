@@ -6,7 +6,7 @@ ghost use Rattle.obj_base.specs.Site.{IsSiteFor};
 ghost use Rattle.obj_base.specs.declared.stop.Stop.TheVariants.{ReadFault};
 ghost use Rattle.vol_view.specs.Views.{view_flat, is_view_ordered};
 ghost use Rattle.view_rules.specs.Rules.{view_facts};
-ghost use Rattle.path_walk.specs.Stops.{IsLawful};
+ghost use Rattle.path_search.specs.Stops.{IsLawful};
 ghost use Rattle.blk_folder.specs.Put.{Filled};
 ghost use Rattle.tree_export.specs.Exported.{item_of, put_all, items_in, exported};
 ghost use Rattle.tree_export.specs.Stopping.{HaveInodes, StopsAt, IsFailure};

@@ -5,7 +5,7 @@ ghost use Rattle.tree_export.specs.Exported as spec;
 ghost use Rattle.tree_export.specs.Stopping.{wanted_of};
 
 use crate::Item;
-use path_walk::KeptTarget;
+use path_search::KeptTarget;
 use std::alloc::{AllocError, Global};
 use view_tree::{KeptRows, Trail};
 

@@ -22,7 +22,7 @@ use blk_source::BlockSource;
 use bt_cursor::WalkFault;
 use bt_keys::{FsKey, FsPlainKey, FsTreeKey};
 use obj_base::{Site, Stop};
-use path_walk::open_view;
+use path_search::open_view;
 use std::alloc::Global;
 use vol_view::{View, Volume};
 

@@ -5,7 +5,7 @@ ghost use Rattle.tree_export.specs.Safe as spec;
 ghost use Rattle.tree_export.specs.Safe.{IsSafe};
 ghost use Rattle.tree_export.specs.Parts.{MayFollow};
 
-use path_walk::choice::parts;
+use path_search::choice::parts;
 use std::alloc::{AllocError, Global};
 
 // Whether a byte is written as it is after another one, whatever stands beside them: it isn't zero, and no component begins with a

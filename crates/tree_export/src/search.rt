@@ -13,7 +13,7 @@ ghost use Rattle.bt_cursor.specs.Order.{is_ordered};
 ghost use Rattle.bt_cursor.specs.From.{run_in, is_of_kind};
 ghost use Rattle.bt_cursor.specs.Faults.{IsNodeFault, HasFeature};
 ghost use Rattle.bt_cursor.specs.Cursors.{site_of, root_of, tree_of, left_of, IsOn};
-ghost use Rattle.path_walk.specs.Pairs.{pair_by};
+ghost use Rattle.path_search.specs.Pairs.{pair_by};
 ghost use Rattle.tree_export.specs.Parts.{first_record, sought_as, TellsOrdered, TellsRecord};
 
 use crate::content::{Content, content_of};

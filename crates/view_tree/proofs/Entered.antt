@@ -18,28 +18,28 @@ use Rattle.view_rules.specs.Facts.{Facts, is_directory, has_directory}
 use Rattle.view_rules.specs.Rules.{view_facts, IsTreeFault}
 use Rattle.view_rules.specs.declared.fault.TreeFault.{TreeFault}
 use Rattle.view_rules.proofs.Law.{refutes}
-use Rattle.path_walk.specs.Paths.{slash, is_component}
-use Rattle.path_walk.specs.Places.{Place, target_of}
-use Rattle.path_walk.specs.Found.{entries_in, place_by, found, number_named}
-use Rattle.path_walk.specs.Listing.{children}
+use Rattle.path_search.specs.Paths.{slash, is_component}
+use Rattle.path_search.specs.Places.{Place, target_of}
+use Rattle.path_search.specs.Found.{entries_in, place_by, found, number_named}
+use Rattle.path_search.specs.Listing.{children}
 use Rattle.view_tree.specs.Met.{Spot, spot_in, is_user_id, IsEntered, own, below, IsEntryOf, IsMet}
-use Rattle.path_walk.specs.Stops.{IsLawful, IsPathFault}
-use Rattle.path_walk.specs.Calls.{IsGiven, IsStopThere}
+use Rattle.path_search.specs.Stops.{IsLawful, IsPathFault}
+use Rattle.path_search.specs.Calls.{IsGiven, IsStopThere}
 use Rattle.view_tree.specs.Told.{IsTold}
 use Rattle.view_tree.specs.Tree.{rows_below, rows_at, lone_row, row_told, tree}
-use Rattle.path_walk.specs.Parts.{whats, IsLack, IsKnown, IsPlaceKnown, WhereTold}
+use Rattle.path_search.specs.Parts.{whats, IsLack, IsKnown, IsPlaceKnown, WhereTold}
 use Rattle.view_tree.specs.Parts.{IsUnderway, HasAll, IsTaken, is_opened_target, told_after, told_of, told_under, told_from, IsRepeat, IsTreeKnown, IsTreeStop, RowsEntered}
-use Rattle.path_walk.specs.declared.answer.Answer.{Answer}
-use Rattle.path_walk.specs.declared.kinds.KindAndSize.{KindAndSize}
-use Rattle.path_walk.specs.declared.stop.PathStop.{PathStop}
-use Rattle.path_walk.specs.declared.stop.PathStop.TheVariants as stops
-use Rattle.path_walk.specs.declared.target.Target.{Target}
-use Rattle.path_walk.proofs.Tallies.{in-given, in-by}
-use Rattle.path_walk.proofs.Entries.{place-file}
+use Rattle.path_search.specs.declared.answer.Answer.{Answer}
+use Rattle.path_search.specs.declared.kinds.KindAndSize.{KindAndSize}
+use Rattle.path_search.specs.declared.stop.PathStop.{PathStop}
+use Rattle.path_search.specs.declared.stop.PathStop.TheVariants as stops
+use Rattle.path_search.specs.declared.target.Target.{Target}
+use Rattle.path_search.proofs.Tallies.{in-given, in-by}
+use Rattle.path_search.proofs.Entries.{place-file}
 use Rattle.view_tree.proofs.Laws.{met_twice_is_there}
-use Rattle.path_walk.proofs.Known.{lack_entry, known_there}
+use Rattle.path_search.proofs.Known.{lack_entry, known_there}
 use Rattle.view_tree.proofs.Told.{rows_told, told_none}
-use Rattle.path_walk.specs.Needs.{RestsOn}
+use Rattle.path_search.specs.Needs.{RestsOn}
 use Rattle.view_tree.proofs.Memos.{entry_of, met_under, user_of}
 
 -- ---- directories that are entered

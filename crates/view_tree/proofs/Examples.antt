@@ -3,16 +3,16 @@ use Rattle.std.proofs.Common.{◌≡◌, ℕ, List, [], ◌∷◌, Result, Ok, i
 use Rattle.std.specs.Prelude.{codes}
 use Rattle.std.specs.Fmt.{digits}
 use Rattle.view_rules.specs.Facts.{Facts}
-use Rattle.path_walk.specs.Paths.{components}
-use Rattle.path_walk.specs.Places.{Place, placed, root_name}
-use Rattle.path_walk.specs.Found.{entries_in, entry_named, found, number_named}
-use Rattle.path_walk.specs.Listing.{children}
+use Rattle.path_search.specs.Paths.{components}
+use Rattle.path_search.specs.Places.{Place, placed, root_name}
+use Rattle.path_search.specs.Found.{entries_in, entry_named, found, number_named}
+use Rattle.path_search.specs.Listing.{children}
 use Rattle.view_tree.specs.Tree.{rows_under, rows_below, tree}
-use Rattle.path_walk.specs.Texts.{kind_text}
+use Rattle.path_search.specs.Texts.{kind_text}
 use Rattle.view_tree.specs.Texts.{tree_text}
 use Rattle.view_tree.specs.Met.{Spot, spot_in, taken, own, below, IsMetTwice}
-use Rattle.path_walk.specs.declared.answer.Answer.{Answer}
-use Rattle.path_walk.proofs.Examples.{inode, entry, files, written, kept_apart}
+use Rattle.path_search.specs.declared.answer.Answer.{Answer}
+use Rattle.path_search.proofs.Examples.{inode, entry, files, written, kept_apart}
 
 abbrev tree_lines : Facts → List ℕ → Result (List ℕ) Answer
 tree_lines facts path = written tree_text (tree facts path)

@@ -9,16 +9,16 @@ use Rattle.fs_record.specs.Facts.{Fact, is_reserved, first_user_id}
 use Rattle.view_rules.specs.Facts.{Facts, inode_at, is_directory, has_directory, does_count, names_file, entry_count, entry_count_in}
 use Rattle.view_rules.specs.Directories.{is_user_directory, is_misnamed, IsDirNames}
 use Rattle.apfs_model.proofs.Searches.{get-in}
-use Rattle.path_walk.specs.Places.{placed}
-use Rattle.path_walk.specs.Found.{entries_in, found}
+use Rattle.path_search.specs.Places.{placed}
+use Rattle.path_search.specs.Found.{entries_in, found}
 use Rattle.view_tree.specs.Tree.{tree}
 use Rattle.view_tree.specs.Met.{Spot, spot_in, IsMetTwice}
-use Rattle.path_walk.specs.declared.answer.Answer.{Answer}
+use Rattle.path_search.specs.declared.answer.Answer.{Answer}
 use Rattle.apfs_model.proofs.BoolTests.{both-true, left-true, right-true, false-not, never-true}
-use Rattle.path_walk.proofs.Tallies.{tally, tally-is, tally-in, tally-apart}
-use Rattle.path_walk.proofs.Entries.{kept-entries}
+use Rattle.path_search.proofs.Tallies.{tally, tally-is, tally-in, tally-apart}
+use Rattle.path_search.proofs.Entries.{kept-entries}
 use Rattle.view_tree.proofs.Rows.{inode-fact}
-use Rattle.path_walk.proofs.Laws.{passing, ok-err, IsPathAnswer, answers_then, found_answers, two-in}
+use Rattle.path_search.proofs.Laws.{passing, ok-err, IsPathAnswer, answers_then, found_answers, two-in}
 
 -- what is answered of a tree is answered of the path
 pub tree_answers : (facts : Facts) (path : List ℕ) (a : Answer) → tree facts path ≡ Err a → IsPathAnswer a

@@ -13,18 +13,18 @@ use Rattle.fs_record.specs.Entries.{Entry}
 use Rattle.fs_record.specs.Facts.{Fact, first_user_id}
 use Rattle.view_rules.specs.Facts.{Facts, inode_at, is_directory, has_directory}
 use Rattle.std.specs.Option.{ok_or}
-use Rattle.path_walk.specs.Paths.{is_component, parts_of, components}
-use Rattle.path_walk.specs.Places.{Place, target_of, root_of}
-use Rattle.path_walk.specs.Found.{entries_in, entry_named, place_by, followed, step, number_named}
+use Rattle.path_search.specs.Paths.{is_component, parts_of, components}
+use Rattle.path_search.specs.Places.{Place, target_of, root_of}
+use Rattle.path_search.specs.Found.{entries_in, entry_named, place_by, followed, step, number_named}
 use Rattle.view_tree.specs.Met.{Spot, spot_in, spot_named, taken_from, taken, is_user_id, IsEntered, IsEntryOf, IsMet, IsMetTwice}
-use Rattle.path_walk.specs.Parts.{whats, by_part}
+use Rattle.path_search.specs.Parts.{whats, by_part}
 use Rattle.view_tree.specs.Parts.{is_opened_target, IsMemo, IsUnderway, HasAll, IsTaken}
-use Rattle.path_walk.specs.declared.answer.Answer.{Answer}
-use Rattle.path_walk.specs.declared.kinds.KindAndSize.{KindAndSize}
-use Rattle.path_walk.specs.declared.answer.Answer.TheVariants.{NotFound, NotDirectory}
-use Rattle.path_walk.proofs.Laws.{number_of_the_entry, ok-err}
-use Rattle.path_walk.proofs.Entries.{place-file}
-use Rattle.path_walk.proofs.Known.{step_file}
+use Rattle.path_search.specs.declared.answer.Answer.{Answer}
+use Rattle.path_search.specs.declared.kinds.KindAndSize.{KindAndSize}
+use Rattle.path_search.specs.declared.answer.Answer.TheVariants.{NotFound, NotDirectory}
+use Rattle.path_search.proofs.Laws.{number_of_the_entry, ok-err}
+use Rattle.path_search.proofs.Entries.{place-file}
+use Rattle.path_search.proofs.Known.{step_file}
 
 pub same_number : (a b : ℕ) → is_eq (nat_cmp a b) ≡ true → a ≡ b
 same_number a b e = grind arith

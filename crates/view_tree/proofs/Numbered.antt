@@ -3,11 +3,11 @@ use Rattle.std.proofs.Common.{◌≡◌, ℕ, zero, suc, ◌+◌, ◌<◌, List,
 use Rattle.fs_record.specs.Entries.{Entry}
 use Rattle.fs_record.specs.Facts.{Fact}
 use Rattle.view_rules.specs.Facts.{Facts}
-use Rattle.path_walk.specs.Parts.{whats, kind_by, target_by, targets_by, numbered}
-use Rattle.path_walk.specs.declared.kinds.KindAndSize.{KindAndSize}
-use Rattle.path_walk.specs.declared.order.Numbered.{Numbered}
-use Rattle.path_walk.specs.declared.target.Target.{Target}
-use Rattle.path_walk.proofs.Listed.{targets_more}
+use Rattle.path_search.specs.Parts.{whats, kind_by, target_by, targets_by, numbered}
+use Rattle.path_search.specs.declared.kinds.KindAndSize.{KindAndSize}
+use Rattle.path_search.specs.declared.order.Numbered.{Numbered}
+use Rattle.path_search.specs.declared.target.Target.{Target}
+use Rattle.path_search.proofs.Listed.{targets_more}
 use Rattle.view_tree.specs.Parts.{AreTold}
 
 -- what is told of the file of an entry at a place

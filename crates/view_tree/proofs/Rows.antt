@@ -9,14 +9,14 @@ use Rattle.fs_record.specs.Entries.{Entry}
 use Rattle.fs_record.specs.Facts.{Fact, is_reserved}
 use Rattle.view_rules.specs.Facts.{Facts, inode_at, does_count, names_file}
 use Rattle.apfs_model.proofs.Searches.{found-in}
-use Rattle.path_walk.specs.Places.{Place}
-use Rattle.path_walk.specs.Found.{entries_in, place_by}
-use Rattle.path_walk.specs.Listing.{children}
+use Rattle.path_search.specs.Places.{Place}
+use Rattle.path_search.specs.Found.{entries_in, place_by}
+use Rattle.path_search.specs.Listing.{children}
 use Rattle.view_tree.specs.Tree.{Row, row_after, rows_of}
 use Rattle.apfs_model.proofs.BoolTests.{both-true, false-not}
 use Rattle.apfs_model.proofs.Searches.{from-map}
-use Rattle.path_walk.proofs.Tallies.{in-given, in-by, mapped-at}
-use Rattle.path_walk.proofs.Entries.{in-entries, place-file}
+use Rattle.path_search.proofs.Tallies.{in-given, in-by, mapped-at}
+use Rattle.path_search.proofs.Entries.{in-entries, place-file}
 
 -- ---- what a directory has
 -- no more rows of a directory pass a test than entries of the view pass another

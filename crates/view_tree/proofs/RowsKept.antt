@@ -3,10 +3,10 @@ use Rattle.std.proofs.Common.{◌≡◌, ℕ, suc, ◌≤◌, Bool, true, false,
 use Rattle.std.proofs.lemmas.List.{take_all, take-append-le}
 use Rattle.fs_name.specs.Shown.{shown_name}
 use Rattle.view_rules.specs.Facts.{Facts}
-use Rattle.path_walk.specs.Paths.{slash}
-use Rattle.path_walk.specs.Places.{target_of}
-use Rattle.path_walk.specs.Listing.{children}
-use Rattle.path_walk.specs.declared.target.Target.{Target}
+use Rattle.path_search.specs.Paths.{slash}
+use Rattle.path_search.specs.Places.{target_of}
+use Rattle.path_search.specs.Listing.{children}
+use Rattle.path_search.specs.declared.target.Target.{Target}
 use Rattle.view_tree.specs.Kept.{path_after, told_rows, last_path}
 use Rattle.view_tree.specs.Parts.{is_opened_target, told_after, told_under, row_at, kept_under, left_told, Fits}
 use Rattle.view_tree.specs.declared.kept.Row.{Row}

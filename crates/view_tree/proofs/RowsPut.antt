@@ -6,8 +6,8 @@ use Rattle.std.proofs.lemmas.List.{take_all, take_more}
 use Rattle.std.proofs.lemmas.Grind.{flat_map-append}
 use Rattle.apfs_model.specs.Counts.{Rose}
 use Rattle.apfs_model.specs.Sink.{Wrote, WrotePart}
-use Rattle.path_walk.specs.Paths.{slash}
-use Rattle.path_walk.specs.declared.target.Target.{Target}
+use Rattle.path_search.specs.Paths.{slash}
+use Rattle.path_search.specs.declared.target.Target.{Target}
 use Rattle.view_tree.specs.Kept.{path_after, told_rows, last_path}
 use Rattle.view_tree.specs.Puts.{CutsText, IsPut, Passes}
 use Rattle.view_tree.specs.Texts.{row_text, tree_text}

@@ -12,18 +12,18 @@ use Rattle.fs_record.specs.Inodes.{Inode}
 use Rattle.fs_record.specs.Entries.{Entry}
 use Rattle.fs_record.specs.Facts.{Fact, first_user_id}
 use Rattle.view_rules.specs.Facts.{Facts, inode_at, has_inode, is_directory, has_directory}
-use Rattle.path_walk.specs.Paths.{is_component, parts_of, components}
-use Rattle.path_walk.specs.Places.{Place, root_of, target_of}
-use Rattle.path_walk.specs.Found.{entries_in, place_by, step, found, number_named}
+use Rattle.path_search.specs.Paths.{is_component, parts_of, components}
+use Rattle.path_search.specs.Places.{Place, root_of, target_of}
+use Rattle.path_search.specs.Found.{entries_in, place_by, step, found, number_named}
 use Rattle.view_tree.specs.Tree.{lone_row, row_told}
 use Rattle.view_tree.specs.Met.{Spot, spot_in, spot_named, taken_from, taken, is_user_id, IsEntryOf}
 use Rattle.view_tree.specs.Rows.{IsShown, IsShownAt, IsShownTwice, HaveMetFiles}
-use Rattle.path_walk.specs.Parts.{whats, by_part}
+use Rattle.path_search.specs.Parts.{whats, by_part}
 use Rattle.view_tree.specs.Parts.{is_opened_target, HasAll, IsTaken, IsKeptAt, AreKeptIn, AreRowsKept, StaysKept, KeepsTaken, KeepsFrom, KeepsPath}
-use Rattle.path_walk.specs.declared.answer.Answer.{Answer}
-use Rattle.path_walk.specs.declared.target.Target.{Target}
-use Rattle.path_walk.proofs.Entries.{place-file}
-use Rattle.path_walk.proofs.Needed.{has_file}
+use Rattle.path_search.specs.declared.answer.Answer.{Answer}
+use Rattle.path_search.specs.declared.target.Target.{Target}
+use Rattle.path_search.proofs.Entries.{place-file}
+use Rattle.path_search.proofs.Needed.{has_file}
 use Rattle.view_tree.proofs.Memos.{same_number, entry_of, step_directory}
 
 -- ---- what stays

@@ -1,9 +1,9 @@
 -- Trees, of rows as they are told, and what a fault says of them.
 use Rattle.std.proofs.Common.{◌≡◌, ℕ, zero, suc, Bool, true, false, cond, List, [], ◌∷◌, ◌++◌, length, map, inl, inr, refl, ap, sym, ◌∙◌, subst}
 use Rattle.view_rules.specs.Facts.{Facts}
-use Rattle.path_walk.specs.Paths.{slash}
-use Rattle.path_walk.specs.Places.{Place, target_of}
-use Rattle.path_walk.specs.Listing.{children}
+use Rattle.path_search.specs.Paths.{slash}
+use Rattle.path_search.specs.Places.{Place, target_of}
+use Rattle.path_search.specs.Listing.{children}
 use Rattle.view_tree.specs.Tree.{Row, is_opened, row_after, rows_of, rows_under, rows_from, rows_below, row_told}
 use Rattle.view_tree.specs.Parts.{told_after, told_of, told_under, told_from}
 use Rattle.view_facts.specs.Stops.{IsOfRecords}

@@ -1,8 +1,8 @@
 -- Rows as they are kept: of its path a row keeps how much it shares with the path of the row before it.
 use Rattle.std.specs.Prelude.{ℕ, List, [], ◌∷◌, ◌++◌, take}
 use Rattle.fs_name.specs.Shown.{shown_name}
-use Rattle.path_walk.specs.Paths.{slash}
-use Rattle.path_walk.specs.declared.target.Target.{Target}
+use Rattle.path_search.specs.Paths.{slash}
+use Rattle.path_search.specs.declared.target.Target.{Target}
 use Rattle.view_tree.specs.declared.kept.Held.{Held}
 use Rattle.view_tree.specs.declared.kept.Held.TheVariants.{Lone, Below}
 use Rattle.view_tree.specs.declared.kept.Row.{Row}

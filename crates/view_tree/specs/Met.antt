@@ -5,9 +5,9 @@ use Rattle.apfs_model.specs.Lists.{In, through, value_of}
 use Rattle.fs_record.specs.Entries.{Entry}
 use Rattle.fs_record.specs.Facts.{first_user_id}
 use Rattle.view_rules.specs.Facts.{Facts, is_directory, has_directory}
-use Rattle.path_walk.specs.Paths.{components}
-use Rattle.path_walk.specs.Places.{Place, root_of}
-use Rattle.path_walk.specs.Found.{entries_in, step, found, number_named}
+use Rattle.path_search.specs.Paths.{components}
+use Rattle.path_search.specs.Places.{Place, root_of}
+use Rattle.path_search.specs.Found.{entries_in, step, found, number_named}
 
 -- where an entry stands: the id of its directory, and its number among the entries there
 pub record Spot : Type 0 where

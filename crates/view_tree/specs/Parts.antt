@@ -12,17 +12,17 @@ use Rattle.view_rules.specs.declared.fault.TreeFault.{TreeFault}
 use Rattle.view_rules.specs.declared.fault.TreeFault.TheVariants.{DirNames}
 use Rattle.vol_view.specs.declared.volume.View.{View}
 use Rattle.view_rules.specs.Facts.{Facts, inode_at, has_inode, is_directory}
-use Rattle.path_walk.specs.Paths.{slash, is_component}
-use Rattle.path_walk.specs.Places.{Place, target_of}
-use Rattle.path_walk.specs.Found.{entries_in, found, number_named}
-use Rattle.path_walk.specs.Listing.{children}
+use Rattle.path_search.specs.Paths.{slash, is_component}
+use Rattle.path_search.specs.Places.{Place, target_of}
+use Rattle.path_search.specs.Found.{entries_in, found, number_named}
+use Rattle.path_search.specs.Listing.{children}
 use Rattle.view_tree.specs.Met.{Spot, spot_in, taken_from, taken, is_user_id, IsEntryOf, IsEntered, IsMet, IsMetTwice}
-use Rattle.path_walk.specs.declared.answer.Answer.{Answer}
-use Rattle.path_walk.specs.declared.stop.PathStop.{PathStop}
-use Rattle.path_walk.specs.declared.target.Target.{Target}
-use Rattle.path_walk.specs.declared.kinds.KindAndSize.{KindAndSize}
-use Rattle.path_walk.specs.declared.stop.PathStop.TheVariants as stops
-use Rattle.path_walk.specs.Parts.{whats, kind_by, Tells, HasEntries, IsLack}
+use Rattle.path_search.specs.declared.answer.Answer.{Answer}
+use Rattle.path_search.specs.declared.stop.PathStop.{PathStop}
+use Rattle.path_search.specs.declared.target.Target.{Target}
+use Rattle.path_search.specs.declared.kinds.KindAndSize.{KindAndSize}
+use Rattle.path_search.specs.declared.stop.PathStop.TheVariants as stops
+use Rattle.path_search.specs.Parts.{whats, kind_by, Tells, HasEntries, IsLack}
 use Rattle.view_tree.specs.Kept.{path_after}
 use Rattle.view_tree.specs.declared.kept.Row.{Row}
 

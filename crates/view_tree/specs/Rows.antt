@@ -3,9 +3,9 @@ use Rattle.std.specs.Prelude.{◌≡◌, ◌⊎◌, ℕ, Bool, true, ◌&&◌, �
 use Rattle.apfs_model.specs.Lists.{In}
 use Rattle.fs_record.specs.Facts.{directory_kind, first_user_id}
 use Rattle.view_rules.specs.Facts.{Facts, has_inode, is_directory}
-use Rattle.path_walk.specs.Places.{Place}
-use Rattle.path_walk.specs.Found.{found}
-use Rattle.path_walk.specs.declared.target.Target.{Target}
+use Rattle.path_search.specs.Places.{Place}
+use Rattle.path_search.specs.Found.{found}
+use Rattle.path_search.specs.declared.target.Target.{Target}
 use Rattle.view_tree.specs.Met.{Spot, IsEntryOf, taken, is_user_id}
 
 -- a row of a tree names a directory that is entered: one of 16 or more

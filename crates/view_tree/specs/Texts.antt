@@ -1,8 +1,8 @@
 -- What the command `tree` writes.
 use Rattle.std.specs.Prelude.{ℕ, List}
 use Rattle.std.specs.List.{flat_map}
-use Rattle.path_walk.specs.Texts.{line_text}
-use Rattle.path_walk.specs.declared.target.Target.{Target}
+use Rattle.path_search.specs.Texts.{line_text}
+use Rattle.path_search.specs.declared.target.Target.{Target}
 
 -- the line of a row: the shown path in the name's place
 abbrev pub row_text : List ℕ × Target → List ℕ

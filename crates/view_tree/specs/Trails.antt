@@ -1,7 +1,7 @@
 -- Where a walk along rows as they are told is.
 use Rattle.std.specs.Prelude.{◌≡◌, ◌-◌, ◌++◌, ℕ, zero, suc, List, [], ◌∷◌, length, take}
-use Rattle.path_walk.specs.Paths.{slash}
-use Rattle.path_walk.specs.declared.target.Target.{Target}
+use Rattle.path_search.specs.Paths.{slash}
+use Rattle.path_search.specs.declared.target.Target.{Target}
 use Rattle.view_tree.specs.declared.trail.Trail.{Trail}
 
 -- the path of the last of n rows, with a slash after it, or what stands before the first

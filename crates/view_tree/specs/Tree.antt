@@ -3,14 +3,14 @@ use Rattle.std.specs.Prelude.{ℕ, zero, suc, Bool, ◌&&◌, ◌++◌, nat_le, 
 use Rattle.apfs_model.specs.Lists.{and_then}
 use Rattle.fs_record.specs.Facts.{first_user_id}
 use Rattle.view_rules.specs.Facts.{Facts, is_directory}
-use Rattle.path_walk.specs.Paths.{slash}
-use Rattle.path_walk.specs.Places.{Place, target_of}
-use Rattle.path_walk.specs.Found.{found}
-use Rattle.path_walk.specs.Listing.{children}
+use Rattle.path_search.specs.Paths.{slash}
+use Rattle.path_search.specs.Places.{Place, target_of}
+use Rattle.path_search.specs.Found.{found}
+use Rattle.path_search.specs.Listing.{children}
 use Rattle.fs_name.specs.Shown.{shown_name}
-use Rattle.path_walk.specs.Shown.{shown_at}
-use Rattle.path_walk.specs.declared.answer.Answer.{Answer}
-use Rattle.path_walk.specs.declared.target.Target.{Target}
+use Rattle.path_search.specs.Shown.{shown_at}
+use Rattle.path_search.specs.declared.answer.Answer.{Answer}
+use Rattle.path_search.specs.declared.target.Target.{Target}
 
 -- a row of a tree: a place, and the shown names that lead to it, joined by slashes
 pub record Row : Type 0 where

@@ -7,13 +7,13 @@ ghost use Rattle.obj_base.specs.Site.{IsSiteFor};
 ghost use Rattle.view_rules.specs.Rules.{view_facts};
 ghost use Rattle.view_rules.specs.declared.fault.TreeFault.{TreeFault};
 ghost use Rattle.view_tree.specs.Rows.{IsShownTwice, HaveMetFiles};
-ghost use Rattle.path_walk.specs.Needs.{RestsOn};
+ghost use Rattle.path_search.specs.Needs.{RestsOn};
 ghost use Rattle.view_tree.specs.Needs.{TreeNeeds};
 ghost use Rattle.view_tree.specs.Tree as spec;
-ghost use Rattle.path_walk.specs.Stops.{IsLawful};
-ghost use Rattle.path_walk.specs.Calls.{IsGiven, IsStopThere};
+ghost use Rattle.path_search.specs.Stops.{IsLawful};
+ghost use Rattle.path_search.specs.Calls.{IsGiven, IsStopThere};
 ghost use Rattle.view_tree.specs.Told.{IsTold};
-ghost use Rattle.path_walk.specs.declared.stop.PathStop.TheVariants as stops;
+ghost use Rattle.path_search.specs.declared.stop.PathStop.TheVariants as stops;
 
 use crate::kept::KeptRows;
 use crate::under::tree_in;

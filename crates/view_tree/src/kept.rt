@@ -4,8 +4,8 @@ ghost use Rattle.apfs_model.specs.Counts.{Rose};
 ghost use Rattle.apfs_model.specs.Sink.{Wrote, WrotePart};
 ghost use Rattle.obj_base.specs.declared.stop.Stop.TheVariants as stops;
 ghost use Rattle.obj_base.specs.declared.stop.Stop.TheVariants.{ReadFault};
-ghost use Rattle.path_walk.specs.Paths.{slash};
-ghost use Rattle.path_walk.specs.declared.target.Target.{Target};
+ghost use Rattle.path_search.specs.Paths.{slash};
+ghost use Rattle.path_search.specs.declared.target.Target.{Target};
 ghost use Rattle.view_tree.specs.Kept.{path_after, told_rows, held_told};
 ghost use Rattle.view_tree.specs.Puts.{IsPut, Passes};
 ghost use Rattle.view_tree.specs.Trails.{IsOn, path_of};
@@ -71,7 +71,7 @@ pub struct KeptRows {
 
 impl Model for KeptRows {
     ghost use Rattle.std.specs.Prelude.{ℕ, List};
-    ghost use Rattle.path_walk.specs.declared.target.Target.{Target};
+    ghost use Rattle.path_search.specs.declared.target.Target.{Target};
     ghost use Rattle.view_tree.specs.Kept.{held_told};
 
     ghost Value = { List (List ℕ × Target) };

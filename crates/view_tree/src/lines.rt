@@ -2,8 +2,8 @@
 ghost use Rattle.std.specs.Prelude.{◌≡◌, ◌++◌, true, codes, OnOk};
 ghost use Rattle.std.specs.Fmt.{decimal};
 ghost use Rattle.fs_name.specs.Shown.{shown_name};
-ghost use Rattle.path_walk.specs.Shown.{shown_at};
-ghost use Rattle.path_walk.specs.Texts as texts;
+ghost use Rattle.path_search.specs.Shown.{shown_at};
+ghost use Rattle.path_search.specs.Texts as texts;
 
 use fs_name::push_shown;
 use itoa::Buffer;
@@ -11,7 +11,7 @@ use path_walk::{KeptTarget, ROOT};
 use std::alloc::AllocError;
 
 /// The letter of a kind of inode, as a listing shows it (File Modes).
-#[tactic(auto, unfolding(path_walk::specs::Texts::kind_text))]
+#[tactic(auto, unfolding(path_search::specs::Texts::kind_text))]
 pub fn kind_letter(kind: u16) -> &'static str
     ensures { result.now ≡ texts.kind_text kind }
 {

@@ -1,6 +1,6 @@
 // Where a walk along rows is.
 ghost use Rattle.std.specs.Prelude.{◌≡◌, ℕ, List, []};
-ghost use Rattle.path_walk.specs.declared.target.Target.{Target};
+ghost use Rattle.path_search.specs.declared.target.Target.{Target};
 ghost use Rattle.view_tree.specs.Trails.{IsOn, path_of};
 
 use std::alloc::Global;

@@ -6,7 +6,7 @@ use Rattle.obj_base.specs.declared.stop.Feature.{Feature}
 use Rattle.view_rules.specs.Facts.{Facts}
 use Rattle.apfs_check.specs.declared.fault.Fault.{Fault}
 use Rattle.path_read.specs.Contents.{contents}
-use Rattle.path_walk.specs.declared.answer.Answer.{Answer}
+use Rattle.path_search.specs.declared.answer.Answer.{Answer}
 use Rattle.cmd_texts.specs.OnView.{IsTextOn, IsAnswerOn, IsFaultOn, IsFeatureOn}
 
 -- the contents, byte by byte, or the answer

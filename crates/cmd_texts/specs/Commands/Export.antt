@@ -6,8 +6,8 @@ use Rattle.vol_view.specs.Volumes.{Loaded}
 use Rattle.vol_view.specs.declared.volume.View.{View}
 use Rattle.view_rules.specs.Facts.{Facts}
 use Rattle.view_rules.specs.Rules.{view_facts}
-use Rattle.path_walk.specs.Stops.{IsLawful}
-use Rattle.path_walk.specs.declared.answer.Answer.{Answer}
+use Rattle.path_search.specs.Stops.{IsLawful}
+use Rattle.path_search.specs.declared.answer.Answer.{Answer}
 use Rattle.blk_folder.specs.Items.{Item}
 use Rattle.tree_export.specs.Exported.{exported, skipped}
 use Rattle.tree_export.specs.Faults.{IsExportFault, fault_id}

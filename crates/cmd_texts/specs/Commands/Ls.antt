@@ -6,9 +6,9 @@ use Rattle.apfs_model.specs.Lists.{and_then}
 use Rattle.obj_base.specs.declared.stop.Feature.{Feature}
 use Rattle.view_rules.specs.Facts.{Facts}
 use Rattle.apfs_check.specs.declared.fault.Fault.{Fault}
-use Rattle.path_walk.specs.Listing.{listing}
-use Rattle.path_walk.specs.Texts.{ls_text}
-use Rattle.path_walk.specs.declared.answer.Answer.{Answer}
+use Rattle.path_search.specs.Listing.{listing}
+use Rattle.path_search.specs.Texts.{ls_text}
+use Rattle.path_search.specs.declared.answer.Answer.{Answer}
 use Rattle.cmd_texts.specs.OnView.{IsTextOn, IsAnswerOn, IsFaultOn, IsFeatureOn}
 
 -- a line for each target of the listing, or the answer

@@ -9,8 +9,8 @@ use Rattle.vol_view.specs.declared.head.VolHead.{VolHead}
 use Rattle.vol_view.specs.declared.volume.Snapshot.{Snapshot}
 use Rattle.vol_view.specs.Volumes.{Loaded}
 use Rattle.apfs_check.specs.declared.fault.Fault.{Fault}
-use Rattle.path_walk.specs.declared.answer.Answer.{Answer}
-use Rattle.path_walk.specs.declared.answer.Answer.TheVariants.{NoVolume}
+use Rattle.path_search.specs.declared.answer.Answer.{Answer}
+use Rattle.path_search.specs.declared.answer.Answer.TheVariants.{NoVolume}
 use Rattle.cmd_texts.specs.Meant.{IsMeantVolume, HasNoVolume, IsMeantFault, IsMeantFeature}
 use Rattle.cmd_lines.specs.Texts.{◌▹◌}
 

@@ -9,7 +9,7 @@ use Rattle.apfs_check.specs.declared.fault.Fault.{Fault}
 use Rattle.view_tree.specs.Told.{IsTold}
 use Rattle.view_tree.specs.Texts.{tree_text}
 use Rattle.view_tree.specs.Tree.{tree}
-use Rattle.path_walk.specs.declared.answer.Answer.{Answer}
+use Rattle.path_search.specs.declared.answer.Answer.{Answer}
 use Rattle.cmd_texts.specs.OnView.{IsTextOn, IsAnswerOn, IsFaultOn, IsFeatureOn}
 
 -- a line for each row of the tree, or the answer

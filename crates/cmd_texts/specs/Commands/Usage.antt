@@ -11,8 +11,8 @@ use Rattle.use_report.specs.Numbers.{Told, IsUsage}
 use Rattle.use_report.specs.declared.numbers.ViewUse.{ViewUse}
 use Rattle.use_report.specs.declared.stop.UseFault.{UseFault}
 use Rattle.use_report.specs.declared.stop.UseFault.TheVariants.{Walk, Value, Outside}
-use Rattle.path_walk.specs.declared.answer.Answer.{Answer}
-use Rattle.path_walk.specs.declared.answer.Answer.TheVariants.{NoVolume}
+use Rattle.path_search.specs.declared.answer.Answer.{Answer}
+use Rattle.path_search.specs.declared.answer.Answer.TheVariants.{NoVolume}
 use Rattle.cmd_texts.specs.Meant.{IsMeantVolume, HasNoVolume}
 use Rattle.cmd_lines.specs.Texts.{◌▹◌}
 

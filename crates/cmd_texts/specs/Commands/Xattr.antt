@@ -8,7 +8,7 @@ use Rattle.view_rules.specs.Facts.{Facts}
 use Rattle.apfs_check.specs.declared.fault.Fault.{Fault}
 use Rattle.path_read.specs.Attributes.{attributes, attribute}
 use Rattle.path_read.specs.Texts.{xattr_text}
-use Rattle.path_walk.specs.declared.answer.Answer.{Answer}
+use Rattle.path_search.specs.declared.answer.Answer.{Answer}
 use Rattle.cmd_texts.specs.OnView.{IsTextOn, IsAnswerOn, IsFaultOn, IsFeatureOn}
 
 -- without a name a line for each attribute, with one the bytes that the attribute of the name holds, or the answer

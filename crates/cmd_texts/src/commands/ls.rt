@@ -1,7 +1,7 @@
 // The command `ls`.
 ghost use Rattle.apfs_model.specs.Kept.{IsKept};
 ghost use Rattle.cmd_words.specs.Lent.{target_asked};
-ghost use Rattle.path_walk.specs.Texts.{target_text};
+ghost use Rattle.path_search.specs.Texts.{target_text};
 ghost use Rattle.cmd_texts.specs.Handed.{looked};
 ghost use Rattle.cmd_texts.specs.Ended.{HasEnded};
 ghost use Rattle.cmd_lines.specs.Words.{Ls};

@@ -4,16 +4,16 @@ use Rattle.std.specs.List.{find}
 use Rattle.fs_record.specs.Attributes.{Attribute, Body}
 use Rattle.view_rules.specs.Facts.{Facts}
 use Rattle.view_rules.specs.Rules.{view_facts}
-use Rattle.path_walk.proofs.Known.{given_on}
+use Rattle.path_search.proofs.Known.{given_on}
 use Rattle.path_read.specs.Attributes.{is_called, attribute}
 use Rattle.path_read.specs.Contents.{body_in}
 use Rattle.path_read.specs.Parts.{attributes_at, body_of}
 use Rattle.path_read.specs.Written.{IsWritten}
 use Rattle.path_read.proofs.Named.{attribute_given, attribute_lost, value_given, value_lost}
 use Rattle.obj_base.specs.declared.stop.Stop.TheVariants.{Found}
-use Rattle.path_walk.specs.Stops.{IsLawful}
-use Rattle.path_walk.specs.declared.stop.PathStop.TheVariants as stops
-use Rattle.path_walk.specs.declared.answer.Answer.TheVariants.{NoAttribute}
+use Rattle.path_search.specs.Stops.{IsLawful}
+use Rattle.path_search.specs.declared.stop.PathStop.TheVariants as stops
+use Rattle.path_search.specs.declared.answer.Answer.TheVariants.{NoAttribute}
 use Rattle.path_read.specs.declared.stop.WriteStop.TheVariants.{Stopped}
 use Rattle.path_read.proofs.Givens.{stopped_written, written_same, rests_written, written_where}
 use Rattle.path_read.proofs.Parted.{none_parted, parted_same}

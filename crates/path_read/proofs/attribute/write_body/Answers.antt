@@ -3,7 +3,7 @@ use Rattle.view_rules.specs.Rules.{view_facts}
 use Rattle.path_read.specs.Contents.{body_in}
 use Rattle.path_read.specs.Needs.{HasExtents, WhereWritten}
 use Rattle.path_read.specs.Parts.{body_of}
-use Rattle.path_walk.specs.Stops.{IsLawful}
+use Rattle.path_search.specs.Stops.{IsLawful}
 use Rattle.path_read.specs.Written.{IsWritten}
 use Rattle.path_read.specs.declared.stop.WriteStop.TheVariants.{WriteFault}
 use Rattle.path_read.proofs.Parted.{piece_parted, cut_parted, parted_same}

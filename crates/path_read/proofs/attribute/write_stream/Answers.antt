@@ -4,9 +4,9 @@ use Rattle.bt_keys.specs.RecordKey.{file_extent_record}
 use Rattle.vol_view.specs.Placed.{has_all_records}
 use Rattle.file_extent.specs.Streams.{Opened, stream_bytes}
 use Rattle.view_rules.specs.Rules.{view_facts}
-use Rattle.path_walk.proofs.Known.{unanswered_given}
+use Rattle.path_search.proofs.Known.{unanswered_given}
 use Rattle.path_read.specs.Contents.{stream_in}
-use Rattle.path_walk.specs.Stops.{IsLawful}
+use Rattle.path_search.specs.Stops.{IsLawful}
 use Rattle.obj_base.specs.declared.stop.Stop.TheVariants.{ReadFault}
 use Rattle.path_read.specs.declared.stop.WriteStop.TheVariants.{Stopped, WriteFault}
 use Rattle.path_read.proofs.Givens.{stopped_written, ok-same, stream_opened, unanswered_written}

@@ -2,9 +2,9 @@ use Rattle.std.proofs.Common.{◌≡◌, ◌∙◌, Vec, Global}
 use Rattle.fs_record.specs.Attributes.{Attribute}
 use Rattle.fs_record.specs.Facts.{all_for, attributes_of}
 use Rattle.vol_view.specs.Views.{view_flat}
-use Rattle.path_walk.proofs.Searched.{some_at}
+use Rattle.path_search.proofs.Searched.{some_at}
 use Rattle.path_read.proofs.StreamFaults.{attributes_unrefused}
-use Rattle.path_walk.specs.Needs.{HasKind}
+use Rattle.path_search.specs.Needs.{HasKind}
 use Rattle.bt_keys.specs.RecordKey.{attribute_record}
 use Rattle.path_read.proofs.attributes.attributes_for.Goals as goal
 

@@ -2,11 +2,11 @@ use Rattle.std.proofs.Common.{◌∙◌, ℕ, List, Ok, ap, sym, Vec, Global}
 use Rattle.fs_record.specs.Attributes.{Attribute}
 use Rattle.view_rules.specs.Facts.{Facts}
 use Rattle.view_rules.specs.Rules.{view_facts}
-use Rattle.path_walk.proofs.Known.{given_on}
+use Rattle.path_search.proofs.Known.{given_on}
 use Rattle.path_read.specs.Attributes.{attributes}
 use Rattle.path_read.specs.Parts.{attributes_at}
 use Rattle.path_read.proofs.Named.{attributes_given, attributes_lost}
-use Rattle.path_walk.proofs.Needed.{rests_on}
+use Rattle.path_search.proofs.Needed.{rests_on}
 use Rattle.path_read.specs.Needs.{AttributesNeed}
 use Rattle.path_read.proofs.attributes.attrs.Goals as goal
 

@@ -3,7 +3,7 @@ use Rattle.std.specs.Ordering.{is_lt, nat_cmp}
 use Rattle.std.specs.Cmp.Lexicographic.{slice_cmp, nat_list_cmp_total}
 use Rattle.std.proofs.lemmas.List.Sorted.{answers_always}
 use Rattle.std.proofs.lemmas.List.MinMax.{ranks_by}
-use Rattle.path_walk.proofs.Orders.{sorted_is_by_name, sorted_rises}
+use Rattle.path_search.proofs.Orders.{sorted_is_by_name, sorted_rises}
 use Rattle.path_read.proofs.attributes.by_name.Goals as goal
 
 pub returns : goal.returns

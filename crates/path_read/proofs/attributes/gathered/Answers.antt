@@ -3,17 +3,17 @@ use Rattle.fs_record.specs.Attributes.{Attribute}
 use Rattle.fs_record.specs.Facts.{all_for}
 use Rattle.view_rules.specs.Facts.{Facts}
 use Rattle.view_rules.specs.Rules.{view_facts}
-use Rattle.path_walk.specs.Places.{Place}
-use Rattle.path_walk.specs.Found.{found}
-use Rattle.path_walk.proofs.Known.{given_on, unanswered_given}
+use Rattle.path_search.specs.Places.{Place}
+use Rattle.path_search.specs.Found.{found}
+use Rattle.path_search.proofs.Known.{given_on, unanswered_given}
 use Rattle.path_read.specs.Parts.{attributes_at}
 use Rattle.path_read.proofs.Named.{gathered_at, gathered_lost}
-use Rattle.path_walk.specs.Needs.{HasKind, HasEntriesOf, PathNeeds}
+use Rattle.path_search.specs.Needs.{HasKind, HasEntriesOf, PathNeeds}
 use Rattle.bt_keys.specs.RecordKey.{attribute_record}
 use Rattle.path_read.specs.Needs.{AttributesNeed}
-use Rattle.path_walk.proofs.Needed.{rests_as, rests_stopped}
-use Rattle.path_walk.proofs.Listed.{ok_same}
-use Rattle.path_walk.proofs.Laws.{ok-err}
+use Rattle.path_search.proofs.Needed.{rests_as, rests_stopped}
+use Rattle.path_search.proofs.Listed.{ok_same}
+use Rattle.path_search.proofs.Laws.{ok-err}
 use Rattle.path_read.proofs.attributes.gathered.Goals as goal
 
 pub returns-in-Err-clause-exact : goal.returns-in-Err-clause-exact

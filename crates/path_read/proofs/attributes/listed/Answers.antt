@@ -1,6 +1,6 @@
 use Rattle.std.proofs.Common.{◌∙◌, ap, ℕ, List}
-use Rattle.path_walk.specs.Order.{by_name}
-use Rattle.path_walk.proofs.Listed.{name_map}
+use Rattle.path_search.specs.Order.{by_name}
+use Rattle.path_search.proofs.Listed.{name_map}
 use Rattle.path_read.specs.Attributes.{attribute_told}
 use Rattle.path_read.proofs.attributes.listed.Goals as goal
 

@@ -3,11 +3,11 @@ use Rattle.std.specs.Prelude.{IfSome}
 use Rattle.bt_node.specs.Entries.{Pair}
 use Rattle.fs_name.specs.Normal.{are_hashed}
 use Rattle.fs_record.specs.Facts.{all_for, attributes_of}
-use Rattle.path_walk.proofs.Viewed.{hashed_flat, plain_flat, hashed_ordered, plain_ordered}
+use Rattle.path_search.proofs.Viewed.{hashed_flat, plain_flat, hashed_ordered, plain_ordered}
 use Rattle.path_read.specs.Parts.{HasRefused}
-use Rattle.path_walk.proofs.Needed.{if_as, hashed_kind, plain_kind}
-use Rattle.path_walk.specs.Parts.{HasKindIn}
-use Rattle.path_walk.specs.Needs.{HasKind}
+use Rattle.path_search.proofs.Needed.{if_as, hashed_kind, plain_kind}
+use Rattle.path_search.specs.Parts.{HasKindIn}
+use Rattle.path_search.specs.Needs.{HasKind}
 use Rattle.bt_keys.specs.RecordKey.{attribute_record}
 use Rattle.vol_view.specs.Views.{hashed_tree, plain_tree}
 use Rattle.path_read.proofs.attributes.search.Goals as goal

@@ -4,10 +4,10 @@ use Rattle.bt_node.specs.Entries.{Pair}
 use Rattle.bt_cursor.specs.Cursors.{root_of, tree_of}
 use Rattle.fs_record.specs.Facts.{all_for, attributes_of}
 use Rattle.vol_view.specs.Views.{view_tree}
-use Rattle.path_walk.proofs.Searched.{flat_at, ordered_at, tells_at}
+use Rattle.path_search.proofs.Searched.{flat_at, ordered_at, tells_at}
 use Rattle.path_read.specs.Parts.{HasRefused}
-use Rattle.path_walk.proofs.Needed.{in_at, if_as}
-use Rattle.path_walk.specs.Parts.{HasKindIn}
+use Rattle.path_search.proofs.Needed.{in_at, if_as}
+use Rattle.path_search.specs.Parts.{HasKindIn}
 use Rattle.bt_keys.specs.RecordKey.{attribute_record}
 use Rattle.fs_name.specs.declared.naming.Names.{Names}
 use Rattle.path_read.proofs.attributes.search_by.Goals as goal

@@ -4,7 +4,7 @@ use Rattle.file_extent.specs.Streams.{Opened}
 use Rattle.view_rules.specs.Rules.{view_facts}
 use Rattle.path_read.specs.Contents.{contents}
 use Rattle.path_read.specs.Written.{opened_bytes}
-use Rattle.path_walk.specs.Stops.{IsLawful}
+use Rattle.path_search.specs.Stops.{IsLawful}
 use Rattle.path_read.proofs.Givens.{stopped_written, ok-same, told_written}
 use Rattle.path_read.proofs.Parted.{none_parted, empty_parted, whole_parted, front_parted}
 use Rattle.path_read.specs.declared.stop.WriteStop.TheVariants.{Stopped, WriteFault}

@@ -4,17 +4,17 @@ use Rattle.file_extent.specs.Streams.{Opened, stream_bytes}
 use Rattle.vol_view.specs.Views.{view_flat}
 use Rattle.view_rules.specs.Facts.{Facts}
 use Rattle.view_rules.specs.Rules.{view_facts}
-use Rattle.path_walk.specs.Places.{Place}
-use Rattle.path_walk.specs.Found.{found}
+use Rattle.path_search.specs.Places.{Place}
+use Rattle.path_search.specs.Found.{found}
 use Rattle.path_read.specs.Contents.{stream_in, contents, readable}
 use Rattle.path_read.specs.Written.{opened_bytes}
 use Rattle.path_read.proofs.Laws.{same_stream}
-use Rattle.path_walk.proofs.Known.{given_on, unanswered_given}
+use Rattle.path_search.proofs.Known.{given_on, unanswered_given}
 use Rattle.path_read.proofs.Givens.{contents_lost, contents_stream, open_none, open_refused, open_whole}
-use Rattle.path_walk.specs.Needs.{HasEntriesOf, PathNeeds}
+use Rattle.path_search.specs.Needs.{HasEntriesOf, PathNeeds}
 use Rattle.path_read.specs.Needs.{ContentsNeed}
-use Rattle.path_walk.proofs.Needed.{rests_told, untold}
-use Rattle.path_walk.proofs.Laws.{ok-err}
+use Rattle.path_search.proofs.Needed.{rests_told, untold}
+use Rattle.path_search.proofs.Laws.{ok-err}
 use Rattle.path_read.proofs.contents.open.Goals as goal
 
 pub returns-in-Err-clause-exact : goal.returns-in-Err-clause-exact

@@ -5,12 +5,12 @@ use Rattle.bt_cursor.specs.Cursors.{root_of, tree_of, left_of, gapped_left_of}
 use Rattle.fs_record.specs.Facts.{all_for, attributes_of}
 use Rattle.bt_cursor.specs.Flat.{flat_of}
 use Rattle.bt_cursor.proofs.Runs.{left-from, whole-from}
-use Rattle.path_walk.proofs.Searched.{tells_same, flat_same}
+use Rattle.path_search.proofs.Searched.{tells_same, flat_same}
 use Rattle.path_read.specs.Parts.{HasRefused, are_whole}
 use Rattle.path_read.proofs.Searched.{attributes_found, refused_found, if_seen, none_seen, attributes_there}
 use Rattle.bt_node.specs.declared.key.Rank.{Rank}
 use Rattle.bt_cursor.specs.From.{is_of_kind, is_kind_whole}
-use Rattle.path_walk.proofs.Needed.{if_as}
+use Rattle.path_search.proofs.Needed.{if_as}
 use Rattle.path_read.proofs.search.find_attributes.Goals as goal
 
 pub returns-in-Ok-take_run-clause-found : goal.returns-in-Ok-take_run-clause-found

@@ -1,6 +1,6 @@
 use Rattle.std.proofs.Common.{rules, ◌≡◌, true}
 use Rattle.bt_cursor.specs.Cursors.{passed_of}
-use Rattle.path_walk.proofs.Searched.{pair_same}
+use Rattle.path_search.proofs.Searched.{pair_same}
 use Rattle.path_read.proofs.Searched.{goes_whole}
 use Rattle.path_read.proofs.search.take_next.Goals as goal
 

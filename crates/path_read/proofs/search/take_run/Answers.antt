@@ -1,6 +1,6 @@
 use Rattle.std.proofs.Common.{◌∙◌}
 use Rattle.bt_cursor.specs.Cursors.{root_of, tree_of}
-use Rattle.path_walk.proofs.Searched.{tells_same}
+use Rattle.path_search.proofs.Searched.{tells_same}
 use Rattle.path_read.proofs.search.take_run.Goals as goal
 
 pub returns-in-Err-clause-present : goal.returns-in-Err-clause-present

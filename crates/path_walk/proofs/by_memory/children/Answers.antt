@@ -1,15 +1,15 @@
 use Rattle.std.proofs.Common.{◌≡◌, ◌∙◌, List, Ok, map, ap, sym, Vec, Global, subst}
 use Rattle.fs_record.specs.Entries.{Entry}
 use Rattle.fs_record.specs.Facts.{Fact}
-use Rattle.path_walk.specs.Places.{target_of}
-use Rattle.path_walk.specs.Listing.{children}
-use Rattle.path_walk.specs.Parts.{whats, targets_by, targets_with, Rises, HasEntries, of_any}
-use Rattle.path_walk.specs.declared.target.Target.{Target}
-use Rattle.path_walk.specs.declared.kinds.KindAndSize.{KindAndSize}
-use Rattle.path_walk.proofs.Known.{known_ends}
-use Rattle.path_walk.proofs.Listed.{ok_same, children_told}
-use Rattle.path_walk.specs.Needs.{HaveFiles, ChildrenNeed}
-use Rattle.path_walk.proofs.Needed.{told_as}
+use Rattle.path_search.specs.Places.{target_of}
+use Rattle.path_search.specs.Listing.{children}
+use Rattle.path_search.specs.Parts.{whats, targets_by, targets_with, Rises, HasEntries, of_any}
+use Rattle.path_search.specs.declared.target.Target.{Target}
+use Rattle.path_search.specs.declared.kinds.KindAndSize.{KindAndSize}
+use Rattle.path_search.proofs.Known.{known_ends}
+use Rattle.path_search.proofs.Listed.{ok_same, children_told}
+use Rattle.path_search.specs.Needs.{HaveFiles, ChildrenNeed}
+use Rattle.path_search.proofs.Needed.{told_as}
 use Rattle.path_walk.proofs.by_memory.children.Goals as goal
 
 rising : {X : Type 0} (items here : List (Fact X)) → here ≡ items → Rises items → Rises here

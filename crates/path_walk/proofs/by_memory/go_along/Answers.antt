@@ -1,10 +1,10 @@
 use Rattle.std.proofs.Common.{◌≡◌, ◌<◌, ℕ, List, Result, map, length, arith, Bor, get_or, []}
-use Rattle.path_walk.specs.Places.{Place}
-use Rattle.path_walk.specs.Parts.{along, PartNeeds, AlongNeeds, by_part, of_any}
-use Rattle.path_walk.specs.declared.answer.Answer.{Answer}
-use Rattle.path_walk.proofs.Known.{known_ends}
-use Rattle.path_walk.proofs.Listed.{along_next, along_ends}
-use Rattle.path_walk.proofs.Needed.{needs_next, needs_ends, needs_done, told_as, known_err}
+use Rattle.path_search.specs.Places.{Place}
+use Rattle.path_search.specs.Parts.{along, PartNeeds, AlongNeeds, by_part, of_any}
+use Rattle.path_search.specs.declared.answer.Answer.{Answer}
+use Rattle.path_search.proofs.Known.{known_ends}
+use Rattle.path_search.proofs.Listed.{along_next, along_ends}
+use Rattle.path_search.proofs.Needed.{needs_next, needs_ends, needs_done, told_as, known_err}
 use Rattle.path_walk.proofs.by_memory.go_along.Goals as goal
 
 pub returns-in-Err-clause-known : goal.returns-in-Err-clause-known

@@ -1,6 +1,6 @@
 use Rattle.std.proofs.Common.{◌≡◌, map, drop}
 use Rattle.view_rules.specs.Facts.{Facts}
-use Rattle.path_walk.specs.Parts.{along, Remembers, AlongNeeds, of_any}
+use Rattle.path_search.specs.Parts.{along, Remembers, AlongNeeds, of_any}
 use Rattle.path_walk.proofs.by_memory.go_along.Given as goal
 
 abbrev pub invariant-loop-part : goal.invariant-loop-part

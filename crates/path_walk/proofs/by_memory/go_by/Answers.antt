@@ -1,10 +1,10 @@
 use Rattle.std.proofs.Common.{rules, ◌≡◌, ◌==◌, false, length, Result, Err, sym, subst, true}
-use Rattle.path_walk.specs.Places.{Place}
-use Rattle.path_walk.specs.Parts.{IsKnown, PartNeeds, of_any}
-use Rattle.path_walk.specs.declared.answer.Answer.{Answer}
-use Rattle.path_walk.proofs.Known.{part_named}
-use Rattle.path_walk.specs.Needs.{StepNeeds}
-use Rattle.path_walk.proofs.Needed.{part_none, told_as}
+use Rattle.path_search.specs.Places.{Place}
+use Rattle.path_search.specs.Parts.{IsKnown, PartNeeds, of_any}
+use Rattle.path_search.specs.declared.answer.Answer.{Answer}
+use Rattle.path_search.proofs.Known.{part_named}
+use Rattle.path_search.specs.Needs.{StepNeeds}
+use Rattle.path_search.proofs.Needed.{part_none, told_as}
 use Rattle.path_walk.proofs.by_memory.go_by.Goals as goal
 
 pub returns-clause-known : goal.returns-clause-known

@@ -1,12 +1,12 @@
 use Rattle.std.proofs.Common.{◌≡◌, ◌<◌, length, Some, Ok, ap, sym, arith, Vec, Global, length-append}
 use Rattle.apfs_model.specs.Lists.{In}
 use Rattle.omap_map.proofs.Lists.{contains-in}
-use Rattle.path_walk.specs.Parts.{target_by, targets_with, whats}
-use Rattle.path_walk.specs.declared.kinds.KindAndSize.{KindAndSize}
-use Rattle.path_walk.proofs.Known.{known_lack}
-use Rattle.path_walk.proofs.Listed.{kinds_more, kinds_done}
-use Rattle.path_walk.proofs.Needed.{target_file, place_untold, files_next, files_done}
-use Rattle.path_walk.specs.Needs.{HaveFiles}
+use Rattle.path_search.specs.Parts.{target_by, targets_with, whats}
+use Rattle.path_search.specs.declared.kinds.KindAndSize.{KindAndSize}
+use Rattle.path_search.proofs.Known.{known_lack}
+use Rattle.path_search.proofs.Listed.{kinds_more, kinds_done}
+use Rattle.path_search.proofs.Needed.{target_file, place_untold, files_next, files_done}
+use Rattle.path_search.specs.Needs.{HaveFiles}
 use Rattle.path_walk.proofs.by_memory.kinds_in.Goals as goal
 
 pub returns-in-Err-clause-known : goal.returns-in-Err-clause-known
@@ -22,7 +22,7 @@ loop-entry-preserved c = record {
   targets = λ facts same rise.
       let low : c.loop-entry.entry-index < length c.args.entries.now = omega arith in
       let there : target_by facts c.entry-item.result.what ≡ Some c.in-Ok.target = c.in-Ok.ensures.known facts same rise in
-      kinds_more facts c.args.entries.now c.loop-entry.entry-index c.entry-item.result c.in-Ok.target c.kind_and_size.result c.loop-entry.kinds.items c.push.new.self.items low c.entry-item.is there c.kind_and_size.ensures.kind c.kind_and_size.ensures.size
+      kinds_more facts c.args.entries.now c.loop-entry.entry-index c.entry-item.result c.in-Ok.target c.kind_and_size.result c.loop-entry.kinds.items c.push.new.self.items low c.entry-item.is there c.kind_and_size.ensures.kind_told c.kind_and_size.ensures.size_told
       c.in_ok-push.ensures.items c.loop-entry.invariant.counted (c.loop-entry.invariant.targets facts same rise);
   files = λ facts same rise.
       let low : c.loop-entry.entry-index < length c.args.entries.now = omega arith in

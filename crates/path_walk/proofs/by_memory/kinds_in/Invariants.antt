@@ -1,7 +1,7 @@
 use Rattle.std.proofs.Common.{◌≡◌, length, take}
 use Rattle.view_rules.specs.Facts.{Facts}
-use Rattle.path_walk.specs.Needs.{HaveFiles}
-use Rattle.path_walk.specs.Parts.{whats, targets_by, targets_with, Rises}
+use Rattle.path_search.specs.Needs.{HaveFiles}
+use Rattle.path_search.specs.Parts.{whats, targets_by, targets_with, Rises}
 use Rattle.path_walk.proofs.by_memory.kinds_in.Given as goal
 
 abbrev pub invariant-loop-entry : goal.invariant-loop-entry

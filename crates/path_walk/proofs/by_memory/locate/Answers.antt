@@ -1,11 +1,11 @@
 use Rattle.std.proofs.Common.{◌≡◌, ◌∙◌, map, List, Ok, ap, subst, Some, ℕ, Bor}
-use Rattle.path_walk.specs.Paths.{parts_of}
-use Rattle.path_walk.specs.Places.{Place, root_of}
-use Rattle.path_walk.specs.Found.{found}
-use Rattle.path_walk.specs.Parts.{along, rooted, AlongNeeds, of_any}
-use Rattle.path_walk.proofs.Known.{known_ends, found_by, found_lost}
-use Rattle.path_walk.specs.Needs.{PathNeeds}
-use Rattle.path_walk.proofs.Needed.{untold, told_as, path_needs, rooted_some}
+use Rattle.path_search.specs.Paths.{parts_of}
+use Rattle.path_search.specs.Places.{Place, root_of}
+use Rattle.path_search.specs.Found.{found}
+use Rattle.path_search.specs.Parts.{along, rooted, AlongNeeds, of_any}
+use Rattle.path_search.proofs.Known.{known_ends, found_by, found_lost}
+use Rattle.path_search.specs.Needs.{PathNeeds}
+use Rattle.path_search.proofs.Needed.{untold, told_as, path_needs, rooted_some}
 use Rattle.path_walk.proofs.by_memory.locate.Goals as goal
 
 pub returns-in-Err-clause-known : goal.returns-in-Err-clause-known

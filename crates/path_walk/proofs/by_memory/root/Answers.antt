@@ -1,5 +1,5 @@
 use Rattle.std.proofs.Common.{refl, sym}
-use Rattle.path_walk.proofs.Known.{lack_root}
+use Rattle.path_search.proofs.Known.{lack_root}
 use Rattle.path_walk.proofs.by_memory.root.Goals as goal
 
 pub returns-in-None-clause-known : goal.returns-in-None-clause-known

@@ -2,7 +2,7 @@ use Rattle.std.proofs.Common.{◌≡◌, ◌∙◌, ◌-◌, List, length, take,
 use Rattle.std.proofs.lemmas.List.{take_rest}
 use Rattle.fs_record.specs.Entries.{Entry}
 use Rattle.fs_record.specs.Facts.{Fact}
-use Rattle.path_walk.specs.Parts.{IsFirst}
+use Rattle.path_search.specs.Parts.{IsFirst}
 use Rattle.path_walk.proofs.Rising.{rest_first, run_is_part}
 use Rattle.path_walk.proofs.files.run_at.Goals as goal
 

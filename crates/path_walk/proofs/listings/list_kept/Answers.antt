@@ -1,10 +1,10 @@
 use Rattle.std.proofs.Common.{Vec, Global}
 use Rattle.view_rules.specs.Rules.{view_facts}
-use Rattle.path_walk.specs.Listing.{listing}
-use Rattle.path_walk.specs.declared.target.Target.{Target}
-use Rattle.path_walk.proofs.Known.{unanswered_given}
-use Rattle.path_walk.specs.Needs.{ListingNeeds, HasEntriesOf}
-use Rattle.path_walk.proofs.Needed.{rests_stopped, rests_to, rests_ends}
+use Rattle.path_search.specs.Listing.{listing}
+use Rattle.path_search.specs.declared.target.Target.{Target}
+use Rattle.path_search.proofs.Known.{unanswered_given}
+use Rattle.path_search.specs.Needs.{ListingNeeds, HasEntriesOf}
+use Rattle.path_search.proofs.Needed.{rests_stopped, rests_to, rests_ends}
 use Rattle.view_rules.specs.Facts.{Facts}
 use Rattle.path_walk.proofs.listings.list_kept.Goals as goal
 

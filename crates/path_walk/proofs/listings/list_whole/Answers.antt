@@ -2,12 +2,12 @@ use Rattle.std.proofs.Common.{Err, ap, sym, Vec, Global, Ok}
 use Rattle.vol_view.specs.Volumes.{Loaded}
 use Rattle.view_rules.specs.Facts.{Facts}
 use Rattle.view_rules.specs.Rules.{view_facts}
-use Rattle.path_walk.specs.Listing.{listing}
-use Rattle.path_walk.specs.declared.target.Target.{Target}
-use Rattle.path_walk.proofs.Known.{unanswered_given, known_given, known_there}
-use Rattle.path_walk.specs.Needs.{ListingNeeds, HasEntriesOf}
-use Rattle.path_walk.proofs.Needed.{rests_stopped, rests_known, all_entries, where_as, listing_mono}
-use Rattle.path_walk.specs.Parts.{of_any}
+use Rattle.path_search.specs.Listing.{listing}
+use Rattle.path_search.specs.declared.target.Target.{Target}
+use Rattle.path_search.proofs.Known.{unanswered_given, known_given, known_there}
+use Rattle.path_search.specs.Needs.{ListingNeeds, HasEntriesOf}
+use Rattle.path_search.proofs.Needed.{rests_stopped, rests_known, all_entries, where_as, listing_mono}
+use Rattle.path_search.specs.Parts.{of_any}
 use Rattle.path_walk.proofs.listings.list_whole.Goals as goal
 
 pub returns-in-Err-clause-exact : goal.returns-in-Err-clause-exact

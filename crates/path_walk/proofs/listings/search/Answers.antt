@@ -1,11 +1,11 @@
 use Rattle.std.proofs.Common.{rules, ◌≡◌, true, false, Vec, Global}
 use Rattle.fs_name.specs.Normal.{are_hashed}
 use Rattle.view_rules.specs.Facts.{Facts}
-use Rattle.path_walk.specs.Listing.{listing}
-use Rattle.path_walk.specs.declared.target.Target.{Target}
-use Rattle.path_walk.proofs.Viewed.{leads_hashed, leads_plain}
-use Rattle.path_walk.specs.Needs.{ListingNeeds}
-use Rattle.path_walk.proofs.Needed.{listing_mono, needs_hashed, needs_plain}
+use Rattle.path_search.specs.Listing.{listing}
+use Rattle.path_search.specs.declared.target.Target.{Target}
+use Rattle.path_search.proofs.Viewed.{leads_hashed, leads_plain}
+use Rattle.path_search.specs.Needs.{ListingNeeds}
+use Rattle.path_search.proofs.Needed.{listing_mono, needs_hashed, needs_plain}
 use Rattle.path_walk.proofs.listings.search.Goals as goal
 
 pub returns-in-Ok-clause-leads : goal.returns-in-Ok-clause-leads

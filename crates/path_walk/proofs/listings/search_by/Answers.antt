@@ -5,13 +5,13 @@ use Rattle.bt_cursor.specs.Cursors.{root_of, tree_of}
 use Rattle.vol_view.specs.Volumes.{Loaded}
 use Rattle.vol_view.specs.Views.{view_tree}
 use Rattle.view_rules.specs.Facts.{facts_in}
-use Rattle.path_walk.specs.Listing.{listing}
-use Rattle.path_walk.specs.declared.target.Target.{Target}
-use Rattle.path_walk.proofs.Searched.{flat_at, ordered_at, tells_at}
-use Rattle.path_walk.proofs.Viewed.{leads_same}
-use Rattle.path_walk.specs.Needs.{ListingNeeds}
-use Rattle.path_walk.specs.Parts.{NeedsIn, WhereLed}
-use Rattle.path_walk.proofs.Needed.{in_at}
+use Rattle.path_search.specs.Listing.{listing}
+use Rattle.path_search.specs.declared.target.Target.{Target}
+use Rattle.path_search.proofs.Searched.{flat_at, ordered_at, tells_at}
+use Rattle.path_search.proofs.Viewed.{leads_same}
+use Rattle.path_search.specs.Needs.{ListingNeeds}
+use Rattle.path_search.specs.Parts.{NeedsIn, WhereLed}
+use Rattle.path_search.proofs.Needed.{in_at}
 use Rattle.path_walk.proofs.listings.search_by.Goals as goal
 
 pub returns-in-Ok-list-clause-leads : goal.returns-in-Ok-list-clause-leads

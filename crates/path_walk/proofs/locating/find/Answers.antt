@@ -1,11 +1,11 @@
 use Rattle.view_rules.specs.Facts.{Facts}
 use Rattle.view_rules.specs.Rules.{view_facts}
-use Rattle.path_walk.specs.Places.{Place}
-use Rattle.path_walk.specs.Found.{found, target_found}
-use Rattle.path_walk.specs.declared.target.Target.{Target}
-use Rattle.path_walk.proofs.Known.{given_on, target_lost}
-use Rattle.path_walk.specs.Needs.{PathNeeds, HasEntriesOf}
-use Rattle.path_walk.proofs.Needed.{rests_on}
+use Rattle.path_search.specs.Places.{Place}
+use Rattle.path_search.specs.Found.{found, target_found}
+use Rattle.path_search.specs.declared.target.Target.{Target}
+use Rattle.path_search.proofs.Known.{given_on, target_lost}
+use Rattle.path_search.specs.Needs.{PathNeeds, HasEntriesOf}
+use Rattle.path_search.proofs.Needed.{rests_on}
 use Rattle.path_walk.proofs.locating.find.Goals as goal
 
 pub returns-in-Err-clause-exact : goal.returns-in-Err-clause-exact

@@ -1,9 +1,9 @@
 use Rattle.view_rules.specs.Rules.{view_facts}
-use Rattle.path_walk.specs.Places.{Place}
-use Rattle.path_walk.specs.Found.{found}
-use Rattle.path_walk.proofs.Known.{unanswered_given}
-use Rattle.path_walk.specs.Needs.{PathNeeds, HasEntriesOf}
-use Rattle.path_walk.proofs.Needed.{rests_stopped, rests_to, rests_ends}
+use Rattle.path_search.specs.Places.{Place}
+use Rattle.path_search.specs.Found.{found}
+use Rattle.path_search.proofs.Known.{unanswered_given}
+use Rattle.path_search.specs.Needs.{PathNeeds, HasEntriesOf}
+use Rattle.path_search.proofs.Needed.{rests_stopped, rests_to, rests_ends}
 use Rattle.view_rules.specs.Facts.{Facts}
 use Rattle.path_walk.proofs.locating.locate.Goals as goal
 

@@ -2,12 +2,12 @@ use Rattle.std.proofs.Common.{Err, ap, sym, Ok}
 use Rattle.vol_view.specs.Volumes.{Loaded}
 use Rattle.view_rules.specs.Facts.{Facts}
 use Rattle.view_rules.specs.Rules.{view_facts}
-use Rattle.path_walk.specs.Places.{Place}
-use Rattle.path_walk.specs.Found.{found}
-use Rattle.path_walk.proofs.Known.{unanswered_given, known_given, known_there}
-use Rattle.path_walk.specs.Needs.{PathNeeds, HasEntriesOf}
-use Rattle.path_walk.proofs.Needed.{rests_stopped, rests_known, all_entries, where_as, path_mono}
-use Rattle.path_walk.specs.Parts.{of_any}
+use Rattle.path_search.specs.Places.{Place}
+use Rattle.path_search.specs.Found.{found}
+use Rattle.path_search.proofs.Known.{unanswered_given, known_given, known_there}
+use Rattle.path_search.specs.Needs.{PathNeeds, HasEntriesOf}
+use Rattle.path_search.proofs.Needed.{rests_stopped, rests_known, all_entries, where_as, path_mono}
+use Rattle.path_search.specs.Parts.{of_any}
 use Rattle.path_walk.proofs.locating.locate_whole.Goals as goal
 
 pub returns-in-Err-clause-exact : goal.returns-in-Err-clause-exact

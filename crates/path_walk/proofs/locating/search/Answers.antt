@@ -1,11 +1,11 @@
 use Rattle.std.proofs.Common.{rules, ◌≡◌, true, false}
 use Rattle.fs_name.specs.Normal.{are_hashed}
 use Rattle.view_rules.specs.Facts.{Facts}
-use Rattle.path_walk.specs.Places.{Place}
-use Rattle.path_walk.specs.Found.{found}
-use Rattle.path_walk.proofs.Viewed.{leads_hashed, leads_plain}
-use Rattle.path_walk.specs.Needs.{PathNeeds}
-use Rattle.path_walk.proofs.Needed.{path_mono, needs_hashed, needs_plain}
+use Rattle.path_search.specs.Places.{Place}
+use Rattle.path_search.specs.Found.{found}
+use Rattle.path_search.proofs.Viewed.{leads_hashed, leads_plain}
+use Rattle.path_search.specs.Needs.{PathNeeds}
+use Rattle.path_search.proofs.Needed.{path_mono, needs_hashed, needs_plain}
 use Rattle.path_walk.proofs.locating.search.Goals as goal
 
 pub returns-in-Ok-clause-leads : goal.returns-in-Ok-clause-leads

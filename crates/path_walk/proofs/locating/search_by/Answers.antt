@@ -5,12 +5,12 @@ use Rattle.bt_cursor.specs.Cursors.{root_of, tree_of}
 use Rattle.vol_view.specs.Volumes.{Loaded}
 use Rattle.vol_view.specs.Views.{view_tree}
 use Rattle.view_rules.specs.Facts.{facts_in}
-use Rattle.path_walk.specs.Places.{Place}
-use Rattle.path_walk.specs.Found.{found}
-use Rattle.path_walk.specs.Parts.{Leads, NeedsIn, WhereLed}
-use Rattle.path_walk.proofs.Searched.{flat_at, ordered_at, tells_at}
-use Rattle.path_walk.specs.Needs.{PathNeeds}
-use Rattle.path_walk.proofs.Needed.{in_at}
+use Rattle.path_search.specs.Places.{Place}
+use Rattle.path_search.specs.Found.{found}
+use Rattle.path_search.specs.Parts.{Leads, NeedsIn, WhereLed}
+use Rattle.path_search.proofs.Searched.{flat_at, ordered_at, tells_at}
+use Rattle.path_search.specs.Needs.{PathNeeds}
+use Rattle.path_search.proofs.Needed.{in_at}
 use Rattle.path_walk.proofs.locating.search_by.Goals as goal
 
 pub returns-in-Ok-locate-clause-leads : goal.returns-in-Ok-locate-clause-leads

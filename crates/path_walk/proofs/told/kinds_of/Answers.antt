@@ -1,8 +1,8 @@
 use Rattle.std.proofs.Common.{◌≡◌, ◌<◌, ◌∙◌, ℕ, length, arith, ap}
 use Rattle.std.specs.Prelude.{option_map}
 use Rattle.view_rules.specs.Facts.{inode_at}
-use Rattle.path_walk.specs.Parts.{kind_told, kind_by}
-use Rattle.path_walk.proofs.Listed.{told_more, told_done}
+use Rattle.path_search.specs.Parts.{kind_told, kind_by}
+use Rattle.path_search.proofs.Listed.{told_more, told_done}
 use Rattle.path_walk.proofs.told.kinds_of.Goals as goal
 
 pub loop-entry-preserved : goal.loop-entry-preserved

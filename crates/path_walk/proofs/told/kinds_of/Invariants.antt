@@ -1,7 +1,7 @@
 use Rattle.std.proofs.Common.{◌≡◌, map, take}
 use Rattle.std.specs.Prelude.{vec_len}
 use Rattle.view_rules.specs.Facts.{Facts}
-use Rattle.path_walk.specs.Parts.{whats, kind_by, Rises}
+use Rattle.path_search.specs.Parts.{whats, kind_by, Rises}
 use Rattle.path_walk.proofs.told.kinds_of.Given as goal
 
 abbrev pub invariant-loop-entry : goal.invariant-loop-entry

@@ -5,11 +5,11 @@ use Rattle.fs_record.specs.Entries.{Entry}
 use Rattle.fs_record.specs.Facts.{Fact}
 use Rattle.view_rules.specs.Facts.{Facts}
 use Rattle.view_rules.specs.declared.fault.TreeFault.{TreeFault}
-use Rattle.path_walk.specs.Parts.{Rises}
-use Rattle.path_walk.specs.Calls.{IsStopThere, IsNoAnswer}
-use Rattle.path_walk.specs.declared.stop.PathStop.{PathStop}
-use Rattle.path_walk.proofs.Known.{fault_said, said_unanswered, said_there}
-use Rattle.path_walk.proofs.Viewed.{view_rises}
+use Rattle.path_search.specs.Parts.{Rises}
+use Rattle.path_search.specs.Calls.{IsStopThere, IsNoAnswer}
+use Rattle.path_search.specs.declared.stop.PathStop.{PathStop}
+use Rattle.path_search.proofs.Known.{fault_said, said_unanswered, said_there}
+use Rattle.path_search.proofs.Viewed.{view_rises}
 use Rattle.path_walk.proofs.whole.gather_view.Goals as goal
 
 pub returns-in-Ok-clause-clear : goal.returns-in-Ok-clause-clear

@@ -1,7 +1,7 @@
 use Rattle.std.proofs.Common.{rules, ◌≡◌, List, true, false, sym, subst}
 use Rattle.bt_node.specs.Entries.{Pair}
 use Rattle.fs_name.specs.Normal.{are_hashed}
-use Rattle.path_walk.proofs.Viewed.{hashed_flat, plain_flat, hashed_ordered, plain_ordered}
+use Rattle.path_search.proofs.Viewed.{hashed_flat, plain_flat, hashed_ordered, plain_ordered}
 use Rattle.tree_export.specs.Parts.{IsContentIn, HasContent}
 use Rattle.tree_export.proofs.Lookups.{hashed_lookup, plain_lookup}
 use Rattle.tree_export.proofs.lookup.content_for.Goals as goal

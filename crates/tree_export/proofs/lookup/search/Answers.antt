@@ -2,7 +2,7 @@ use Rattle.std.proofs.Common.{◌∙◌, List, subst}
 use Rattle.bt_node.specs.Entries.{Pair}
 use Rattle.bt_cursor.specs.Cursors.{root_of, tree_of}
 use Rattle.vol_view.specs.Views.{view_tree}
-use Rattle.path_walk.proofs.Searched.{flat_at, ordered_at, tells_at}
+use Rattle.path_search.proofs.Searched.{flat_at, ordered_at, tells_at}
 use Rattle.tree_export.specs.Parts.{TellsOrdered, TellsRecord}
 use Rattle.tree_export.proofs.lookup.search.Goals as goal
 

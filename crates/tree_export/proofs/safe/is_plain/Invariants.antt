@@ -1,5 +1,5 @@
 use Rattle.std.proofs.Common.{drop}
-use Rattle.path_walk.specs.Paths.{slash}
+use Rattle.path_search.specs.Paths.{slash}
 use Rattle.tree_export.specs.Parts.{IsPlainAfter}
 use Rattle.tree_export.proofs.safe.is_plain.Given as goal
 

@@ -1,7 +1,7 @@
 use Rattle.std.proofs.Common.{◌≡◌, ◌∙◌, ℕ, List, [], ◌∷◌, map, ap, Bor}
 use Rattle.std.specs.Prelude.{string_bytes}
 use Rattle.std.specs.List.{flat_map, join_by}
-use Rattle.path_walk.specs.Paths.{slash, parts_of}
+use Rattle.path_search.specs.Paths.{slash, parts_of}
 use Rattle.tree_export.specs.Safe.{safe_byte, safe_part, safe_path}
 use Rattle.tree_export.proofs.Safes.{joined_as, mapped_by, ok_as}
 use Rattle.tree_export.proofs.safe.written.Goals as goal

@@ -2,7 +2,7 @@ use Rattle.std.proofs.Common.{◌∙◌, subst}
 use Rattle.bt_keys.specs.RecordKey.{inode_record}
 use Rattle.bt_cursor.specs.Cursors.{root_of, tree_of, left_of}
 use Rattle.bt_cursor.proofs.Runs.{left-from}
-use Rattle.path_walk.proofs.Searched.{tells_same, flat_same}
+use Rattle.path_search.proofs.Searched.{tells_same, flat_same}
 use Rattle.tree_export.specs.Parts.{TellsRecord}
 use Rattle.tree_export.proofs.Searches.{sought_ordered, sought_record}
 use Rattle.tree_export.proofs.search.find_inode.Goals as goal

@@ -1,7 +1,7 @@
 use Rattle.std.proofs.Common.{rules, ◌≡◌, ◌∙◌, ◌∷◌, true, ap, sym}
 use Rattle.bt_node.specs.Entries.{Pair}
 use Rattle.bt_cursor.specs.Cursors.{left_of, passed_of}
-use Rattle.path_walk.proofs.Searched.{moved_on, pair_same}
+use Rattle.path_search.proofs.Searched.{moved_on, pair_same}
 use Rattle.tree_export.specs.Parts.{first_record, sought_as}
 use Rattle.tree_export.proofs.search.next_inode.Goals as goal
 

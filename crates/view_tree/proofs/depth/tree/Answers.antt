@@ -3,12 +3,12 @@ use Rattle.std.proofs.Common.{◌≡◌, ◌∙◌, ℕ, List, Result, Err, Ok, 
 use Rattle.obj_base.specs.declared.stop.Stop.{Stop}
 use Rattle.obj_base.specs.declared.stop.Stop.TheVariants.{Found, Unsupported, ReadFault, NoMemory}
 use Rattle.view_rules.specs.Rules.{view_facts}
-use Rattle.path_walk.specs.Calls.{IsGiven}
-use Rattle.path_walk.specs.Needs.{RestsOn}
-use Rattle.path_walk.specs.declared.answer.Answer.{Answer}
-use Rattle.path_walk.specs.declared.stop.PathStop.{PathStop}
-use Rattle.path_walk.specs.declared.stop.PathStop.TheVariants as stops
-use Rattle.path_walk.specs.declared.target.Target.{Target}
+use Rattle.path_search.specs.Calls.{IsGiven}
+use Rattle.path_search.specs.Needs.{RestsOn}
+use Rattle.path_search.specs.declared.answer.Answer.{Answer}
+use Rattle.path_search.specs.declared.stop.PathStop.{PathStop}
+use Rattle.path_search.specs.declared.stop.PathStop.TheVariants as stops
+use Rattle.path_search.specs.declared.target.Target.{Target}
 use Rattle.view_tree.specs.Rows.{IsShownTwice, HaveMetFiles}
 use Rattle.view_tree.specs.Needs.{TreeNeeds}
 use Rattle.view_tree.specs.Tree.{tree}

@@ -4,15 +4,15 @@ use Rattle.vol_view.specs.Volumes.{Loaded}
 use Rattle.view_rules.specs.Facts.{Facts}
 use Rattle.view_rules.specs.Rules.{view_facts}
 use Rattle.view_tree.specs.Tree.{tree}
-use Rattle.path_walk.specs.declared.target.Target.{Target}
-use Rattle.path_walk.specs.declared.stop.PathStop.TheVariants as stops
-use Rattle.path_walk.proofs.Known.{unanswered_given}
+use Rattle.path_search.specs.declared.target.Target.{Target}
+use Rattle.path_search.specs.declared.stop.PathStop.TheVariants as stops
+use Rattle.path_search.proofs.Known.{unanswered_given}
 use Rattle.view_tree.proofs.Told.{records_told}
 use Rattle.view_tree.proofs.Entered.{tree_given, tree_there, tree_told, tree_rests}
-use Rattle.path_walk.specs.Needs.{HasEntriesOf, PathNeeds}
-use Rattle.path_walk.specs.Parts.{of_any}
+use Rattle.path_search.specs.Needs.{HasEntriesOf, PathNeeds}
+use Rattle.path_search.specs.Parts.{of_any}
 use Rattle.view_tree.specs.Needs.{TreeNeeds}
-use Rattle.path_walk.proofs.Needed.{rests_stopped, where_as, path_mono, all_entries}
+use Rattle.path_search.proofs.Needed.{rests_stopped, where_as, path_mono, all_entries}
 use Rattle.view_tree.proofs.depth.tree_rows.Goals as goal
 
 pub returns-in-Err-clause-exact : goal.returns-in-Err-clause-exact

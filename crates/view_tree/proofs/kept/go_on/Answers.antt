@@ -1,5 +1,5 @@
 use Rattle.std.proofs.Common.{◌∙◌, ◌<◌, ◌++◌, ◌∷◌, ℕ, List, [], length, ap, arith}
-use Rattle.path_walk.specs.Paths.{slash}
+use Rattle.path_search.specs.Paths.{slash}
 use Rattle.view_tree.proofs.Trails.{on_next}
 use Rattle.view_tree.proofs.kept.go_on.Goals as goal
 

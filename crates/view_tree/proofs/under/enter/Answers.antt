@@ -1,7 +1,7 @@
 use Rattle.std.proofs.Common.{refl}
-use Rattle.path_walk.specs.Parts.{whats, targets_by}
+use Rattle.path_search.specs.Parts.{whats, targets_by}
 use Rattle.view_tree.specs.Parts.{HasAll}
-use Rattle.path_walk.proofs.Listed.{children_told}
+use Rattle.path_search.proofs.Listed.{children_told}
 use Rattle.view_tree.proofs.under.enter.Goals as goal
 
 pub returns-in-Err-clause-stops : goal.returns-in-Err-clause-stops

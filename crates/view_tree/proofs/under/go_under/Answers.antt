@@ -1,12 +1,12 @@
 use Rattle.std.proofs.Common.{rules, ◌≡◌, true, false, List, map, reverse, ap, ◌∙◌}
-use Rattle.path_walk.specs.Places.{target_of}
-use Rattle.path_walk.specs.Listing.{children}
+use Rattle.path_search.specs.Places.{target_of}
+use Rattle.path_search.specs.Listing.{children}
 use Rattle.view_tree.specs.Parts.{is_opened_target}
 use Rattle.view_tree.proofs.RowsKept.{kept_opened, kept_closed}
 use Rattle.view_tree.proofs.Entered.{entered_by}
 use Rattle.view_tree.proofs.Staying.{kept_by}
 use Rattle.apfs_model.proofs.BoolTests.{clash}
-use Rattle.path_walk.specs.declared.order.Numbered.{Numbered}
+use Rattle.path_search.specs.declared.order.Numbered.{Numbered}
 use Rattle.view_tree.specs.declared.kept.Row.{Row}
 use Rattle.view_tree.proofs.under.go_under.Goals as goal
 

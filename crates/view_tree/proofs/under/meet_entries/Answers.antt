@@ -6,7 +6,7 @@ use Rattle.apfs_model.specs.Lists.{In}
 use Rattle.omap_map.proofs.Lists.{contains-in}
 use Rattle.fs_record.specs.Entries.{Entry}
 use Rattle.fs_record.specs.Facts.{Fact}
-use Rattle.path_walk.specs.Parts.{whats, target_by, targets_by, numbered}
+use Rattle.path_search.specs.Parts.{whats, target_by, targets_by, numbered}
 use Rattle.view_tree.proofs.Entered.{lack_stop, entry_by, place_told, met_entry}
 use Rattle.view_tree.proofs.Numbered.{kind_at, numbered_more}
 use Rattle.view_tree.specs.Met.{spot_in, is_user_id}

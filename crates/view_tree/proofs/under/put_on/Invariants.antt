@@ -1,5 +1,5 @@
 use Rattle.std.proofs.Common.{◌≡◌, ◌++◌, length, map, reverse}
-use Rattle.path_walk.specs.declared.order.Numbered.{Numbered}
+use Rattle.path_search.specs.declared.order.Numbered.{Numbered}
 use Rattle.view_tree.specs.Parts.{row_at}
 use Rattle.view_tree.proofs.under.put_on.Given as goal
 

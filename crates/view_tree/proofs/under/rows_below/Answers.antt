@@ -1,12 +1,12 @@
 use Rattle.std.proofs.Common.{◌≡◌, ◌∙◌, ◌++◌, ◌-◌, ◌<◌, ◌≤◌, ℕ, List, [], ◌∷◌, length, map, take, reverse, inl, refl, ap, sym, subst, arith}
-use Rattle.path_walk.specs.Paths.{slash}
-use Rattle.path_walk.specs.Places.{target_of}
-use Rattle.path_walk.specs.Listing.{children}
-use Rattle.path_walk.specs.declared.target.Target.{Target}
+use Rattle.path_search.specs.Paths.{slash}
+use Rattle.path_search.specs.Places.{target_of}
+use Rattle.path_search.specs.Listing.{children}
+use Rattle.path_search.specs.declared.target.Target.{Target}
 use Rattle.view_tree.specs.Met.{own}
 use Rattle.view_tree.specs.Kept.{path_after, told_rows, last_path}
 use Rattle.view_tree.specs.Parts.{told_after, told_of, told_under, told_from, row_at, kept_under, left_told, Fits, RowsEntered}
-use Rattle.path_walk.specs.declared.order.Numbered.{Numbered}
+use Rattle.path_search.specs.declared.order.Numbered.{Numbered}
 use Rattle.view_tree.specs.declared.kept.Row.{Row}
 use Rattle.view_tree.proofs.Entered.{first_entered, next_entered, popped, told_start, told_step, told_end, told_full, none_left}
 use Rattle.view_tree.proofs.RowsKept.{told_more, path_more, told_length, first_left, first_fits, next_left, next_fits}

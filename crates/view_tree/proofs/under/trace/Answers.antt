@@ -1,15 +1,15 @@
 use Rattle.std.proofs.Common.{◌≡◌, ◌∙◌, ℕ, List, Some, Ok, map, ap, sym, subst, Bor}
-use Rattle.path_walk.specs.Paths.{parts_of}
-use Rattle.path_walk.specs.Places.{Place, root_of}
-use Rattle.path_walk.specs.Found.{found}
-use Rattle.path_walk.specs.Parts.{along, rooted, AlongNeeds, of_any}
+use Rattle.path_search.specs.Paths.{parts_of}
+use Rattle.path_search.specs.Places.{Place, root_of}
+use Rattle.path_search.specs.Found.{found}
+use Rattle.path_search.specs.Parts.{along, rooted, AlongNeeds, of_any}
 use Rattle.view_tree.specs.Parts.{TakesFrom}
-use Rattle.path_walk.proofs.Known.{found_by, found_lost}
+use Rattle.path_search.proofs.Known.{found_by, found_lost}
 use Rattle.view_tree.proofs.Memos.{taken_root}
 use Rattle.view_tree.proofs.Entered.{path_known, tree_ends}
 use Rattle.view_tree.proofs.Staying.{keeps_path}
-use Rattle.path_walk.proofs.Needed.{rooted_some, told_as, untold, path_needs}
-use Rattle.path_walk.specs.Needs.{PathNeeds}
+use Rattle.path_search.proofs.Needed.{rooted_some, told_as, untold, path_needs}
+use Rattle.path_search.specs.Needs.{PathNeeds}
 use Rattle.view_tree.proofs.under.trace.Goals as goal
 
 pub returns-in-Err-clause-known : goal.returns-in-Err-clause-known

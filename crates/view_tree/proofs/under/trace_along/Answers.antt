@@ -1,12 +1,12 @@
 use Rattle.std.proofs.Common.{◌≡◌, ◌<◌, ◌+◌, ℕ, List, [], ◌∷◌, Result, map, length, drop, get_or, refl, ap, ◌∙◌, inr, subst, arith, Bor}
-use Rattle.path_walk.specs.Places.{Place}
-use Rattle.path_walk.specs.Parts.{along, by_part, PartNeeds, AlongNeeds, of_any}
+use Rattle.path_search.specs.Places.{Place}
+use Rattle.path_search.specs.Parts.{along, by_part, PartNeeds, AlongNeeds, of_any}
 use Rattle.view_tree.specs.Parts.{TakesFrom, KeepsFrom}
-use Rattle.path_walk.specs.declared.answer.Answer.{Answer}
-use Rattle.path_walk.proofs.Listed.{drop-all, drop_at, along_next, along_ends, along_done}
+use Rattle.path_search.specs.declared.answer.Answer.{Answer}
+use Rattle.path_search.proofs.Listed.{drop-all, drop_at, along_next, along_ends, along_done}
 use Rattle.view_tree.proofs.Entered.{tree_ends, tree_err}
 use Rattle.view_tree.proofs.Staying.{keeps_on}
-use Rattle.path_walk.proofs.Needed.{needs_next, needs_ends, needs_done, told_as}
+use Rattle.path_search.proofs.Needed.{needs_next, needs_ends, needs_done, told_as}
 use Rattle.view_tree.proofs.under.trace_along.Goals as goal
 
 pub returns-in-Err-clause-known : goal.returns-in-Err-clause-known

@@ -1,6 +1,6 @@
 use Rattle.std.proofs.Common.{◌≡◌, ℕ, List, map, drop}
 use Rattle.view_rules.specs.Facts.{Facts}
-use Rattle.path_walk.specs.Parts.{along, Remembers, AlongNeeds, of_any}
+use Rattle.path_search.specs.Parts.{along, Remembers, AlongNeeds, of_any}
 use Rattle.view_tree.specs.Parts.{IsMemo, TakesFrom, KeepsFrom}
 use Rattle.view_tree.proofs.under.trace_along.Given as goal
 

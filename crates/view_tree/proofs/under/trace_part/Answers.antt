@@ -1,11 +1,11 @@
 use Rattle.std.proofs.Common.{ℕ, sym, subst}
-use Rattle.path_walk.specs.Places.{Place}
-use Rattle.path_walk.specs.Parts.{by_part, PartNeeds, of_any}
+use Rattle.path_search.specs.Places.{Place}
+use Rattle.path_search.specs.Parts.{by_part, PartNeeds, of_any}
 use Rattle.view_tree.specs.Parts.{IsTaken, KeepsTaken}
 use Rattle.view_tree.proofs.Memos.{taken_part}
 use Rattle.view_tree.proofs.Entered.{path_known, stop_known}
 use Rattle.view_tree.proofs.Staying.{keeps_part}
-use Rattle.path_walk.proofs.Needed.{untold}
+use Rattle.path_search.proofs.Needed.{untold}
 use Rattle.view_tree.proofs.under.trace_part.Goals as goal
 
 pub returns-in-Err-clause-known : goal.returns-in-Err-clause-known

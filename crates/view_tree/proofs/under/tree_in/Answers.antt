@@ -1,18 +1,18 @@
 use Rattle.std.proofs.Common.{rules, refl, ◌≡◌, ◌∙◌, ℕ, List, [], length, Ok, true, false, ap, sym, subst}
 use Rattle.view_rules.specs.Facts.{is_directory}
-use Rattle.path_walk.specs.Places.{Place}
-use Rattle.path_walk.specs.Found.{found}
+use Rattle.path_search.specs.Places.{Place}
+use Rattle.path_search.specs.Found.{found}
 use Rattle.view_tree.specs.Tree.{tree, lone_row, row_told}
 use Rattle.view_tree.specs.Rows.{IsShownTwice, HaveMetFiles}
 use Rattle.view_tree.specs.Kept.{told_rows}
 use Rattle.view_tree.specs.Parts.{told_of, told_from, IsMemo, IsUnderway, AreKeptIn}
-use Rattle.path_walk.specs.declared.target.Target.{Target}
+use Rattle.path_search.specs.declared.target.Target.{Target}
 use Rattle.view_tree.proofs.Memos.{memo_none}
 use Rattle.view_tree.proofs.Entered.{stop_known, tree_ends, tree_answered, tree_directory, stop_untold}
 use Rattle.view_tree.proofs.Staying.{rows_kept, lone_kept, kept_clear, kept_files, path_stays}
-use Rattle.path_walk.proofs.Needed.{told_as}
-use Rattle.path_walk.specs.Parts.{of_any}
-use Rattle.path_walk.specs.Needs.{PathNeeds}
+use Rattle.path_search.proofs.Needed.{told_as}
+use Rattle.path_search.specs.Parts.{of_any}
+use Rattle.path_search.specs.Needs.{PathNeeds}
 use Rattle.view_tree.proofs.under.tree_in.Goals as goal
 
 pub returns-in-Err-clause-known : goal.returns-in-Err-clause-known

@@ -2,7 +2,7 @@
 use Rattle.std.proofs.Common.{◌∙◌, ℕ, List, ap, map}
 use Rattle.std.proofs.lemmas.Result.{IfErr-weaker, IfOk-weaker}
 use Rattle.view_rules.specs.Rules.{view_facts}
-use Rattle.path_walk.specs.declared.target.Target.{Target}
+use Rattle.path_search.specs.declared.target.Target.{Target}
 use Rattle.tree_export.specs.Exported.{item_of}
 use Rattle.tree_export.proofs.Tellings.{rows_items}
 use Rattle.cmd_texts.proofs.Exports.{free_stop, no_root_items}

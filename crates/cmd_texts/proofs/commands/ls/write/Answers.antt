@@ -6,9 +6,9 @@ use Rattle.obj_base.specs.declared.site.Site.{Site}
 use Rattle.nx_ring.specs.Checkpoint.{Seen}
 use Rattle.vol_view.specs.Volumes.{Loaded}
 use Rattle.vol_view.specs.declared.volume.View.{View}
-use Rattle.path_walk.specs.Listing.{listing}
-use Rattle.path_walk.specs.Texts.{ls_text}
-use Rattle.path_walk.specs.declared.target.Target.{Target}
+use Rattle.path_search.specs.Listing.{listing}
+use Rattle.path_search.specs.Texts.{ls_text}
+use Rattle.path_search.specs.declared.target.Target.{Target}
 use Rattle.cmd_texts.specs.Commands.Ls as command
 use Rattle.cmd_lines.specs.declared.words.Checks.TheVariants.{Quick}
 use Rattle.cmd_lines.specs.Words.{Ls}

@@ -9,8 +9,8 @@ use Rattle.vol_view.specs.Volumes.{Loaded}
 use Rattle.vol_view.specs.declared.volume.View.{View}
 use Rattle.view_tree.specs.Tree.{tree}
 use Rattle.view_tree.specs.Texts.{tree_text}
-use Rattle.path_walk.specs.declared.stop.PathStop.{PathStop}
-use Rattle.path_walk.specs.declared.target.Target.{Target}
+use Rattle.path_search.specs.declared.stop.PathStop.{PathStop}
+use Rattle.path_search.specs.declared.target.Target.{Target}
 use Rattle.cmd_texts.specs.Commands.Tree as command
 use Rattle.cmd_lines.specs.declared.words.Checks.TheVariants.{Quick}
 use Rattle.cmd_lines.specs.Words.{Tree}

@@ -1,7 +1,7 @@
 use Rattle.std.proofs.Common.{List, sym, subst, ◌∙◌}
 use Rattle.fs_record.specs.Entries.{Entry}
 use Rattle.fs_record.specs.Facts.{Fact}
-use Rattle.path_walk.specs.Parts.{Rises}
+use Rattle.path_search.specs.Parts.{Rises}
 use Rattle.path_walk.proofs.files.Files.directory.Goals as goal
 
 pub returns-clause-counted : goal.returns-clause-counted

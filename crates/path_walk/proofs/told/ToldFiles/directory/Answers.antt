@@ -5,10 +5,10 @@ use Rattle.apfs_model.specs.Lists.{In}
 use Rattle.apfs_model.proofs.Searches.{from-filter, filter-test}
 use Rattle.fs_record.specs.Entries.{Entry}
 use Rattle.fs_record.specs.Facts.{Fact, is_reserved}
-use Rattle.path_walk.specs.Found.{entries_in}
-use Rattle.path_walk.specs.Parts.{whats, kind_by, Rises}
-use Rattle.path_walk.specs.declared.kinds.KindAndSize.{KindAndSize}
-use Rattle.path_walk.proofs.Listed.{told_part}
+use Rattle.path_search.specs.Found.{entries_in}
+use Rattle.path_search.specs.Parts.{whats, kind_by, Rises}
+use Rattle.path_search.specs.declared.kinds.KindAndSize.{KindAndSize}
+use Rattle.path_search.proofs.Listed.{told_part}
 use Rattle.path_walk.proofs.told.ToldFiles.directory.Goals as goal
 
 pub returns-clause-counted : goal.returns-clause-counted

@@ -1,5 +1,5 @@
 use Rattle.std.proofs.Common.{ℕ, List, subst}
-use Rattle.path_walk.specs.declared.target.Target.{Target}
+use Rattle.path_search.specs.declared.target.Target.{Target}
 use Rattle.view_tree.specs.Puts.{IsPut}
 use Rattle.view_tree.specs.Texts.{tree_text}
 use Rattle.view_tree.proofs.RowsPut.{put_whole, put_part, put_cause, put_later}

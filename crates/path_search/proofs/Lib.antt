@@ -1,0 +1,15 @@
+pub mod Tallies
+pub mod Orders
+pub mod Entries
+pub mod Laws
+pub mod Answers
+pub mod Examples
+pub mod Searched
+pub mod Chosen
+pub mod RecordOrder
+pub mod Known
+pub mod Viewed
+pub mod Listed
+pub mod Gapless
+pub mod Needed
+pub mod Numbers

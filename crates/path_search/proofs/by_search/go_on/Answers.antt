@@ -1,0 +1,56 @@
+use Rattle.std.proofs.Common.{rules, ◌≡◌, ◌∙◌, List, Some, true, refl, ap, sym, subst}
+use Rattle.std.specs.Prelude.{option_map}
+use Rattle.bt_node.specs.Entries.{Pair}
+use Rattle.bt_cursor.specs.Flat.{flat_of}
+use Rattle.bt_cursor.specs.Cursors.{root_of, tree_of}
+use Rattle.fs_record.specs.Inodes.{Inode}
+use Rattle.fs_record.specs.Entries.{Entry}
+use Rattle.fs_record.specs.Facts.{Fact, first_for, inodes_of}
+use Rattle.view_rules.specs.Facts.{Facts, facts_in, inode_at, is_directory}
+use Rattle.path_search.specs.Places.{Place}
+use Rattle.path_search.specs.Found.{entries_in, entry_named}
+use Rattle.path_search.specs.Parts.{whats, HasEntriesIn}
+use Rattle.path_search.proofs.Searched.{tells_same, some_at, flat_same, ordered_same}
+use Rattle.path_search.proofs.Known.{step_to, place_there}
+use Rattle.path_search.proofs.Needed.{has_file, step_to_needs}
+use Rattle.path_search.proofs.by_search.go_on.Goals as goal
+
+pub returns-in-Err-find_inode-clause-present : goal.returns-in-Err-find_inode-clause-present
+returns-in-Err-find_inode-clause-present g c image told on =
+    tells_same (tree_of c.args.cursor.now) (tree_of c.candidates.new.cursor) (root_of c.args.cursor.now) (root_of c.candidates.new.cursor) image c.in-Err-find_inode.stop c.in-Ok.ensures.tree c.in-Ok.ensures.root
+    (c.in-Err-find_inode.ensures.present image (c.in-Ok.ensures.kept.same_bytes ∙ told) (c.in-Ok.ensures.within image told on))
+
+pub returns-clause-leads : goal.returns-clause-leads
+returns-clause-leads g c image told on ordered =
+    let flat : List Pair = flat_of (tree_of c.args.cursor.now image) (root_of c.args.cursor.now) in
+    let facts : Facts = facts_in c.args.names flat in
+    let e : Entry = c.in-Some-2.entry.now.what in
+    let directory : is_directory c.args.place.now.inode ≡ true = search rules in
+    let run = some_at (λ v. entry_named c.args.names c.args.name.now (whats v.items) ≡ entry_named c.args.names c.args.name.now (entries_in facts c.place.inside.id)) c.in-Ok.run' c.in-Some.entries (c.in-Ok.ensures.found image told on ordered) c.in-Some.is in
+    let es : entry_named c.args.names c.args.name.now (whats c.in-Some.entries.items) ≡ entry_named c.args.names c.args.name.now (entries_in facts c.args.place.now.id) = run ∙ ap (λ (p : Place). entry_named c.args.names c.args.name.now (entries_in facts p.id)) c.place.view_is in
+    let chosen : Some e ≡ entry_named c.args.names c.args.name.now (entries_in facts c.args.place.now.id) =
+    sym (ap (option_map (λ entry. entry.now.what)) c.in-Some-2.is) ∙ (c.in_ok-entry.ensures.chosen ∙ (ap (λ (l : List (Fact Entry)). entry_named c.args.names c.args.name.now (whats l)) c.deref.ensures.value ∙ es)) in
+    let same : flat_of (tree_of c.candidates.new.cursor image) (root_of c.candidates.new.cursor) ≡ flat = flat_same (tree_of c.args.cursor.now) (tree_of c.candidates.new.cursor) (root_of c.args.cursor.now) (root_of c.candidates.new.cursor) image c.in-Ok.ensures.tree c.in-Ok.ensures.root in
+    let found = some_at (λ (i : Inode). first_for c.file_id.result (inodes_of (flat_of (tree_of c.candidates.new.cursor image) (root_of c.candidates.new.cursor))) ≡ Some i) c.in-Ok-find_inode.found c.in-Some-found.inode
+    (c.in-Ok-find_inode.ensures.found image (c.in-Ok.ensures.kept.same_bytes ∙ told) (c.in-Ok.ensures.within image told on) (ordered_same g.K.TreeKey.shape (tree_of c.args.cursor.now) (tree_of c.candidates.new.cursor) (root_of c.args.cursor.now) (root_of c.candidates.new.cursor) image c.in-Ok.ensures.tree c.in-Ok.ensures.root ordered)) c.in-Some-found.is in
+    let inode : inode_at facts e.file_id ≡ Some c.in-Some-found.inode =
+    ap (λ id. first_for id (inodes_of flat)) (sym c.file_id.ensures) ∙ subst (λ (ps : List Pair). first_for c.file_id.result (inodes_of ps) ≡ Some c.in-Some-found.inode) same found in
+    step_to facts c.args.place.now c.args.name.now (entries_in facts c.args.place.now.id) e c.in_ok-next.next directory refl chosen (place_there facts e c.in-Some-found.inode c.in_ok-next.next inode c.in_ok-next.ensures)
+
+pub returns-clause-needs : goal.returns-clause-needs
+returns-clause-needs g c image told on ordered =
+    let flat : List Pair = flat_of (tree_of c.args.cursor.now image) (root_of c.args.cursor.now) in
+    let facts : Facts = facts_in c.args.names flat in
+    let e : Entry = c.in-Some-2.entry.now.what in
+    let run = some_at (λ v. entry_named c.args.names c.args.name.now (whats v.items) ≡ entry_named c.args.names c.args.name.now (entries_in facts c.place.inside.id)) c.in-Ok.run' c.in-Some.entries (c.in-Ok.ensures.found image told on ordered) c.in-Some.is in
+    let es : entry_named c.args.names c.args.name.now (whats c.in-Some.entries.items) ≡ entry_named c.args.names c.args.name.now (entries_in facts c.args.place.now.id) = run ∙ ap (λ (p : Place). entry_named c.args.names c.args.name.now (entries_in facts p.id)) c.place.view_is in
+    let all = some_at (λ v. HasEntriesIn c.args.names (tree_of c.args.cursor.now image) (root_of c.args.cursor.now) c.place.inside.id) c.in-Ok.run' c.in-Some.entries (c.in-Ok.ensures.all image told on ordered) c.in-Some.is in
+    let has = subst (λ (p : Place). HasEntriesIn c.args.names (tree_of c.args.cursor.now image) (root_of c.args.cursor.now) p.id) c.place.view_is all in
+    let chosen : Some e ≡ entry_named c.args.names c.args.name.now (entries_in facts c.args.place.now.id) =
+    sym (ap (option_map (λ entry. entry.now.what)) c.in-Some-2.is) ∙ (c.in_ok-entry.ensures.chosen ∙ (ap (λ (l : List (Fact Entry)). entry_named c.args.names c.args.name.now (whats l)) c.deref.ensures.value ∙ es)) in
+    let same : flat_of (tree_of c.candidates.new.cursor image) (root_of c.candidates.new.cursor) ≡ flat = flat_same (tree_of c.args.cursor.now) (tree_of c.candidates.new.cursor) (root_of c.args.cursor.now) (root_of c.candidates.new.cursor) image c.in-Ok.ensures.tree c.in-Ok.ensures.root in
+    let found = some_at (λ (i : Inode). first_for c.file_id.result (inodes_of (flat_of (tree_of c.candidates.new.cursor image) (root_of c.candidates.new.cursor))) ≡ Some i) c.in-Ok-find_inode.found c.in-Some-found.inode
+    (c.in-Ok-find_inode.ensures.found image (c.in-Ok.ensures.kept.same_bytes ∙ told) (c.in-Ok.ensures.within image told on) (ordered_same g.K.TreeKey.shape (tree_of c.args.cursor.now) (tree_of c.candidates.new.cursor) (root_of c.args.cursor.now) (root_of c.candidates.new.cursor) image c.in-Ok.ensures.tree c.in-Ok.ensures.root ordered)) c.in-Some-found.is in
+    let inode : inode_at facts e.file_id ≡ Some c.in-Some-found.inode =
+    ap (λ id. first_for id (inodes_of flat)) (sym c.file_id.ensures) ∙ subst (λ (ps : List Pair). first_for c.file_id.result (inodes_of ps) ≡ Some c.in-Some-found.inode) same found in
+    step_to_needs facts (HasEntriesIn c.args.names (tree_of c.args.cursor.now image) (root_of c.args.cursor.now)) c.args.place.now c.args.name.now (entries_in facts c.args.place.now.id) e has refl chosen (has_file facts e.file_id c.in-Some-found.inode inode)

@@ -1,6 +1,0 @@
-use Rattle.std.proofs.Common.{◌≡◌, take}
-use Rattle.path_walk.specs.Parts.{targets_with}
-use Rattle.path_walk.proofs.order.kept_of.Given as goal
-
-abbrev pub invariant-loop-number : goal.invariant-loop-number
-invariant-loop-number l = l.kept.items ≡ targets_with (take l.number l.entries) (take l.number l.kinds)

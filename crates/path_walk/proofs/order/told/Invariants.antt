@@ -1,5 +1,0 @@
-use Rattle.std.proofs.Common.{◌≡◌, take}
-use Rattle.path_walk.proofs.order.told.Given as goal
-
-abbrev pub invariant-kept : goal.invariant-kept
-invariant-kept l = l.targets.items ≡ take l.target-index l.kept
