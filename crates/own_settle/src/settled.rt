@@ -52,6 +52,7 @@ pub fn settle<S: BlockSource>(
     ensures kept { IsKept S.bytes S.bytes_len S.faults src.old src.new }
     ensures reads { S.reads src.new ≤ S.reads src.old + length reached.now.space.chunks }
 {
+    let _size = src.size();
     let space = reached.space();
     let sorted = by_first(alloc, reached.owners())?;
     let ranges = sorted.as_slice();

@@ -78,6 +78,7 @@ pub fn account<S: BlockSource>(
     ensures cause { IsErrOf result ReadFault → Rose (S.faults src.old) (S.faults src.new) }
     ensures kept { IsKept S.bytes S.bytes_len S.faults src.old src.new }
 {
+    let _size = src.size();
     let reached = match reached(alloc, src, cp, volumes) {
         Ok(reached) => reached,
         Err(stop) => return Err(stop),

@@ -153,6 +153,7 @@ pub(crate) fn sweep_views<S: BlockSource>(
     ensures cause { IsErrOf result ReadFault → Rose (S.faults src.old) (S.faults src.new) }
     ensures kept { IsKept S.bytes S.bytes_len S.faults src.old src.new }
 {
+    let _size = src.size();
     let heads = heads(alloc, cp, volumes)?;
     let site = cp.site();
     match reach_views(alloc, src, &site, volumes, &heads) {

@@ -94,6 +94,7 @@ fn add_share<S: BlockSource>(
     ensures cause { IsErrOf result ReadFailed → Rose (S.faults src.old) (S.faults src.new) }
     ensures kept { IsKept S.bytes S.bytes_len S.faults src.old src.new }
 {
+    let _size = src.size();
     held.add(share.used.mapping.paddr, 1)?;
     if !may_be_leaf(share.expected) {
         return Ok(true);
