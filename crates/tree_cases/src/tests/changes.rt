@@ -19,6 +19,7 @@ use std::alloc::{AllocError, Global};
 use std::test::Fail;
 use view_facts::{Facts, ViewFacts, view_facts};
 use view_rules::Profile;
+use vol_view::View;
 
 // The ranges that cover the blocks of extents.
 const RANGES: [NewRange; 1] = [NewRange {
@@ -148,25 +149,53 @@ fn index_after<'a>(
     Ok(Some(Index::after(alloc, facts, gone, come)?))
 }
 
-// Whether a change shows to be plain, and to bring no notes.
-fn shows(alloc: Global, same: &[Rec], gone: Tree, come: Tree) -> Result<(bool, bool), Fail> {
-    let records = joined(alloc, same, come.1)?;
-    let (after, at) = gathered(alloc, (come.0, &records))?;
-    let (gone, _) = gathered(alloc, gone)?;
-    let (come, _) = gathered(alloc, come)?;
+// The facts of these records.
+fn facts_of(alloc: Global, tree: Tree) -> Result<Facts, Fail> {
+    let (gathered, _) = gathered(alloc, tree)?;
+    Ok(gathered.facts)
+}
+
+// Whether a change shows to be plain, and to bring no notes, by an index of the facts after it.
+fn shown_by(
+    alloc: Global,
+    view: &View,
+    index: &Index<'_>,
+    gone: &Facts,
+    come: &Facts,
+) -> Result<(bool, bool), NoMemory> {
     let asked = Asked {
-        view: &at.view,
+        view,
         site: &SITE,
         ranges: &RANGES,
         profile: Profile::Strict,
     };
     let cover = Cover::of(alloc, &RANGES)?;
-    let Some(index) = index_after(alloc, &after.facts, &gone.facts, &come.facts)? else {
-        return Ok((false, false));
-    };
-    let plain = is_plain(alloc, &asked, &cover, &index, &gone.facts, &come.facts)?;
-    let silent = is_silent(alloc, &index, &gone.facts, &come.facts)?;
+    let plain = is_plain(alloc, &asked, &cover, index, gone, come)?;
+    let silent = is_silent(alloc, index, gone, come)?;
     Ok((plain, silent))
+}
+
+// The same by the facts after it.
+fn shown_after(
+    alloc: Global,
+    view: &View,
+    after: &Facts,
+    gone: &Facts,
+    come: &Facts,
+) -> Result<(bool, bool), NoMemory> {
+    match index_after(alloc, after, gone, come)? {
+        Some(index) => shown_by(alloc, view, &index, gone, come),
+        None => Ok((false, false)),
+    }
+}
+
+// The same by the records that stay, are gone and have come.
+fn shows(alloc: Global, same: &[Rec], gone: Tree, come: Tree) -> Result<(bool, bool), Fail> {
+    let records = joined(alloc, same, come.1)?;
+    let (after, at) = gathered(alloc, (come.0, &records))?;
+    let gone = facts_of(alloc, gone)?;
+    let come = facts_of(alloc, come)?;
+    Ok(shown_after(alloc, &at.view, &after.facts, &gone, &come)?)
 }
 
 #[test]
