@@ -5,7 +5,7 @@ use std::marker::Model;
 use view_rules::Note;
 
 /// What is told of a well-formed container.
-#[derive(Debug, Drop)]
+#[derive(Drop)]
 pub struct Report {
     /// The transaction of the newest checkpoint.
     pub xid: u64,

@@ -3,7 +3,7 @@
 use bt_node::NodeFault;
 
 /// What is wrong with a tree.
-#[derive(Clone, Copy, PartialEq, Eq, Debug)]
+#[derive(Clone, Copy, PartialEq, Eq)]
 pub enum WalkFault {
     /// The block in which a node is expected has no such node.
     Unsound { block: u64, why: NodeFault },

@@ -23,7 +23,7 @@ use obj_base::{Site, Stop};
 use std::alloc::Global;
 
 /// Why a tree can't be gathered.
-#[derive(Clone, Copy, PartialEq, Eq, Debug)]
+#[derive(Clone, Copy, PartialEq, Eq)]
 pub enum GatherFault {
     /// The tree isn't whole.
     Tree(WalkFault),

@@ -5,7 +5,7 @@ use bt_node::{Layout, Rank, TreeKey};
 use obj_base::u64_at;
 
 /// A key of an object map: an object's oid and the transaction of one of its versions (Object Maps, `omap_key_t`).
-#[derive(Clone, Copy, PartialEq, Eq, Debug)]
+#[derive(Clone, Copy, PartialEq, Eq)]
 pub struct OmapKey {
     pub oid: u64,
     pub xid: u64,

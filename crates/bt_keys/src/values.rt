@@ -8,7 +8,7 @@ use apfs_layout::value as layout;
 use obj_base::{u32_at, u64_at};
 
 /// Where a version of an object lies (Object Maps, `omap_val_t`).
-#[derive(Clone, Copy, PartialEq, Eq, Debug)]
+#[derive(Clone, Copy, PartialEq, Eq)]
 pub struct OmapValue {
     pub flags: u32,
     /// The object's size in bytes.
@@ -18,7 +18,7 @@ pub struct OmapValue {
 }
 
 /// What an extent reference tree says of a range of blocks (File-System Objects, `j_phys_ext_val_t`).
-#[derive(Clone, Copy, PartialEq, Eq, Debug)]
+#[derive(Clone, Copy, PartialEq, Eq)]
 pub struct ExtValue {
     /// The length in blocks.
     pub length: u64,

@@ -3,7 +3,7 @@
 use obj_base::HeadFault;
 
 /// The test of a node that fails.
-#[derive(Clone, Copy, PartialEq, Eq, Debug)]
+#[derive(Clone, Copy, PartialEq, Eq)]
 pub enum NodeFault {
     /// A test of the header.
     Head(HeadFault),

@@ -5,7 +5,7 @@ ghost use Rattle.fs_name.specs.Normal as spec;
 use apfs_layout::volume;
 
 /// Which names of a volume are the same (File-System Objects, `j_drec_hashed_key_t`; Volumes, Incompatible Volume Feature Flags).
-#[derive(Clone, Copy, PartialEq, Eq, Debug)]
+#[derive(Clone, Copy, PartialEq, Eq)]
 pub enum Names {
     /// Names of the same bytes.
     Exact,

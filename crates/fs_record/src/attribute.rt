@@ -5,7 +5,7 @@ ghost use Rattle.fs_record.specs.Reading.{body_seen};
 use std::marker::Model;
 
 /// What an attribute holds.
-#[derive(Clone, Copy, PartialEq, Eq, Debug)]
+#[derive(Clone, Copy, PartialEq, Eq)]
 pub enum AttrBody<'a> {
     /// The bytes themselves.
     Embedded(&'a [u8]),

@@ -7,7 +7,7 @@ use apfs_layout::{key as keys, record as layout};
 use obj_base::u64_at;
 
 /// An extent of a stream.
-#[derive(Clone, Copy, PartialEq, Eq, Debug)]
+#[derive(Clone, Copy, PartialEq, Eq)]
 pub struct FileExt {
     /// Where it starts in its stream, in bytes.
     pub logical: u64,

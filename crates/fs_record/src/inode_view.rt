@@ -7,7 +7,7 @@ use obj_base::{u16_at, u32_at, u64_at};
 use std::marker::Model;
 
 /// The size of a stream, in bytes (Data Streams, `j_dstream_t`).
-#[derive(Clone, Copy, PartialEq, Eq, Debug)]
+#[derive(Clone, Copy, PartialEq, Eq)]
 pub struct StreamSize {
     pub size: u64,
     /// How many bytes its blocks have.

@@ -10,14 +10,14 @@ use std::marker::Model;
 const SHORT_SIZE: usize = 24;
 
 // A name: in place where it is short, and on the heap where it is long.
-#[derive(Debug, Drop)]
+#[derive(Drop)]
 enum Held {
     Short(ArrayString<SHORT_SIZE>),
     Long(String),
 }
 
 /// A name that is kept: in place where it has at most 24 bytes, and on the heap where it has more. Contracts see it as the list of its bytes.
-#[derive(Debug, Drop)]
+#[derive(Drop)]
 pub struct KeptName {
     held: Held,
 }

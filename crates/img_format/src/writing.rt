@@ -15,7 +15,7 @@ use blk_source::Sink;
 use std::alloc::{AllocError, Global};
 
 /// Why a new container isn't written whole.
-#[derive(Clone, Copy, Debug, PartialEq, Eq, Drop)]
+#[derive(Clone, Copy, PartialEq, Eq, Drop)]
 pub enum FormatStop {
     WriteFault,
     NoMemory,

@@ -20,7 +20,7 @@ const END: usize = BLOCK - INFO_LEN;
 pub type Record = ([u64; 2], &'static [u64]);
 
 /// A change of an image.
-#[derive(Clone, Copy, Debug)]
+#[derive(Clone, Copy)]
 pub enum Change {
     /// Bytes from a byte of a block on, after which the block's sum is right.
     Put(usize, usize, &'static [u8]),

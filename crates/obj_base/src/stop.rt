@@ -9,7 +9,7 @@ use apfs_model::{NoMemory as OutOfMemory, ReadFailed};
 use std::alloc::{AllocError, AllocFailed};
 
 /// A feature of the format that is refused by name.
-#[derive(Clone, Copy, PartialEq, Eq, Debug)]
+#[derive(Clone, Copy, PartialEq, Eq)]
 pub enum Feature {
     /// A checkpoint area isn't contiguous.
     NonContiguous,
@@ -82,7 +82,7 @@ impl Feature {
 
 /// Where an id is looked up: the oid of a physical object is its block, an ephemeral one stands in the checkpoint's
 /// mappings, a virtual one in the container's object map or in that of the volume of a slot.
-#[derive(Clone, Copy, PartialEq, Eq, Debug)]
+#[derive(Clone, Copy, PartialEq, Eq)]
 pub enum Within {
     Physical,
     Ephemeral,
@@ -91,7 +91,7 @@ pub enum Within {
 }
 
 /// Why a call that neither reads nor allocates refuses.
-#[derive(Clone, Copy, PartialEq, Eq, Debug)]
+#[derive(Clone, Copy, PartialEq, Eq)]
 pub enum Bad<F> {
     Found(F),
     Unsupported(Feature),
@@ -99,7 +99,7 @@ pub enum Bad<F> {
 
 /// Why any other call stops. `Found` and `Unsupported` come only where the image has what they name, `ReadFault` only
 /// where the source failed in the call. Want of memory is free.
-#[derive(Clone, Copy, PartialEq, Eq, Debug)]
+#[derive(Clone, Copy, PartialEq, Eq)]
 pub enum Stop<F> {
     Found(F),
     /// `block` is that of the object in which the feature stands.
@@ -109,7 +109,7 @@ pub enum Stop<F> {
 }
 
 /// An object in a block fails a test.
-#[derive(Clone, Copy, PartialEq, Eq, Debug)]
+#[derive(Clone, Copy, PartialEq, Eq)]
 pub struct Unsound<F> {
     /// The block in which the object stands.
     pub block: u64,

@@ -4,7 +4,7 @@ use bt_cursor::WalkFault;
 use obj_base::HeadFault;
 
 /// What is wrong with an object map.
-#[derive(Clone, Copy, PartialEq, Eq, Debug)]
+#[derive(Clone, Copy, PartialEq, Eq)]
 pub enum OmapFault {
     /// The object in this block isn't a sound object map.
     Head { block: u64, why: HeadFault },

@@ -5,7 +5,7 @@ ghost use Rattle.std.specs.List.Sorted.{IsPartitionPoint};
 use apfs_layout::object_map;
 
 /// A record of an object map: where an object lies from a transaction on (Object Maps, `omap_key_t` and `omap_val_t`).
-#[derive(Clone, Copy, PartialEq, Eq, PartialOrd, Ord, Debug)]
+#[derive(Clone, Copy, PartialEq, Eq, PartialOrd, Ord)]
 pub struct OmapRecord {
     pub oid: u64,
     pub xid: u64,
@@ -17,7 +17,7 @@ pub struct OmapRecord {
 }
 
 /// Where an object lies at a transaction.
-#[derive(Clone, Copy, PartialEq, Eq, Debug)]
+#[derive(Clone, Copy, PartialEq, Eq)]
 pub struct Place {
     /// The object's first block.
     pub block: u64,

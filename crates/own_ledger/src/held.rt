@@ -7,7 +7,7 @@ use std::alloc::Global;
 use std::marker::Model;
 
 /// Why a range can't be claimed.
-#[derive(Clone, Copy, PartialEq, Eq, Debug)]
+#[derive(Clone, Copy, PartialEq, Eq)]
 pub enum ClaimFault {
     /// The range begins at this block, and leaves that of the ledger.
     Outside { block: u64 },
@@ -16,7 +16,7 @@ pub enum ClaimFault {
 }
 
 /// The least block at which a ledger and bits differ.
-#[derive(Clone, Copy, PartialEq, Eq, Debug)]
+#[derive(Clone, Copy, PartialEq, Eq)]
 pub struct Difference {
     /// The block.
     pub block: u64,

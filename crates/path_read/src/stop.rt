@@ -3,7 +3,7 @@ use obj_base::Stop;
 use path_walk::PathStop;
 
 /// Why contents weren't written to their end.
-#[derive(PartialEq, Debug, Drop)]
+#[derive(PartialEq, Drop)]
 pub enum WriteStop {
     Stopped(Stop<PathStop>),
     WriteFault,

@@ -6,7 +6,7 @@ use apfs_model::NoMemory;
 use std::alloc::Global;
 
 /// How many blocks a view has.
-#[derive(Clone, Copy, PartialEq, Eq, Debug)]
+#[derive(Clone, Copy, PartialEq, Eq)]
 pub struct ViewCount {
     /// The blocks that it has.
     pub held: u64,
@@ -15,7 +15,7 @@ pub struct ViewCount {
 }
 
 /// How many blocks views have.
-#[derive(Debug, Drop)]
+#[derive(Drop)]
 pub struct Counts {
     /// Of each view, by its place.
     pub views: Vec<ViewCount>,
@@ -25,7 +25,7 @@ pub struct Counts {
 
 /// What is counted of the pieces up to a block, at which the next one begins: no later piece has a block before it. Of the blocks from
 /// there on each view has those up to its reach.
-#[derive(Drop, Debug)]
+#[derive(Drop)]
 pub(crate) struct Tally {
     pub counts: Counts,
     /// The block after the last one of each view, 0 where it has none.

@@ -28,7 +28,7 @@ use std::marker::Model;
 use vol_view::Volume;
 
 /// How many objects of a container are named, and how many of its blocks are owned. `account` alone makes one.
-#[derive(Clone, Copy, PartialEq, Eq, Debug)]
+#[derive(Clone, Copy, PartialEq, Eq)]
 pub struct Tally {
     named: u64,
     held: u64,

@@ -5,7 +5,7 @@ use fs_record::RecFault;
 use obj_base::Stop;
 
 /// What is wrong with an item, which is told by its id. Of a view that meets its rules, and the items of its tree, nothing is.
-#[derive(Clone, Copy, PartialEq, Eq, Debug)]
+#[derive(Clone, Copy, PartialEq, Eq)]
 pub enum ExportFault {
     /// The stream of its inode isn't right.
     Stream { id: u64, why: StreamStop },
@@ -18,7 +18,7 @@ pub enum ExportFault {
 }
 
 /// Why a folder isn't filled: a look at the view stops, or a call of the folder failed.
-#[derive(PartialEq, Debug, Drop)]
+#[derive(PartialEq, Drop)]
 pub enum ExportStop {
     Stopped(Stop<ExportFault>),
     WriteFault,

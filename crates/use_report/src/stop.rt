@@ -3,7 +3,7 @@
 use bt_cursor::WalkFault;
 
 /// What is wrong with a view, which is told by its transaction. Of a well-formed container nothing is.
-#[derive(Clone, Copy, PartialEq, Eq, Debug)]
+#[derive(Clone, Copy, PartialEq, Eq)]
 pub enum UseFault {
     /// A node of its files' tree, or of its extent reference tree, isn't right, or one of these trees is out of order.
     Walk { xid: u64, why: WalkFault },

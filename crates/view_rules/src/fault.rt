@@ -5,7 +5,7 @@ use bt_node::NodeFault;
 use fs_record::RecFault;
 
 /// An object in a view.
-#[derive(Clone, Copy, PartialEq, Eq, Debug)]
+#[derive(Clone, Copy, PartialEq, Eq)]
 pub struct IdAt {
     /// The volume's slot.
     pub slot: u32,
@@ -15,7 +15,7 @@ pub struct IdAt {
 }
 
 /// A name of an object in a view.
-#[derive(PartialEq, Debug, Drop)]
+#[derive(PartialEq, Drop)]
 pub struct NamedAt {
     /// The volume's slot.
     pub slot: u32,
@@ -26,7 +26,7 @@ pub struct NamedAt {
 }
 
 /// What is wrong in the file-system tree of a view, by its row in the table of faults.
-#[derive(PartialEq, Debug, Drop)]
+#[derive(PartialEq, Drop)]
 pub enum TreeFault {
     Unsound {
         block: u64,

@@ -10,7 +10,7 @@ ghost use Rattle.view_sweep.specs.Runs.{has_place, AreRising, IsLeast, IsInBoth,
 use std::alloc::{AllocError, Global};
 
 /// The places from one up to another, which isn't among them.
-#[derive(Clone, Copy, PartialEq, Eq, Debug)]
+#[derive(Clone, Copy, PartialEq, Eq)]
 pub struct Run {
     pub from: usize,
     pub end: usize,

@@ -11,7 +11,7 @@ use crate::wanted::SweptView;
 use std::alloc::{AllocError, Global};
 
 /// A set of views.
-#[derive(Debug, Drop)]
+#[derive(Drop)]
 pub struct ViewSet {
     /// The runs of their places in the order of the heads, counted from 0: none is empty, and each begins where the one before it ends,
     /// or later.

@@ -5,7 +5,7 @@ use crate::wanted::{Want, Wanted};
 use omap_map::OmapRecord;
 
 /// A record of the object map in a block.
-#[derive(Clone, Copy, PartialEq, Eq, Debug)]
+#[derive(Clone, Copy, PartialEq, Eq)]
 pub struct Used {
     /// The block of the map.
     pub map: u64,
@@ -13,7 +13,7 @@ pub struct Used {
 }
 
 /// As what the object of a record is expected, whoever names it.
-#[derive(Clone, Copy, PartialEq, Eq, Debug)]
+#[derive(Clone, Copy, PartialEq, Eq)]
 pub enum SharedAs {
     /// The root of the files; its level stands in its block.
     Root,
@@ -24,7 +24,7 @@ pub enum SharedAs {
 }
 
 /// A record that is used by each view of a set, in one way.
-#[derive(Clone, Copy, PartialEq, Eq, Debug)]
+#[derive(Clone, Copy, PartialEq, Eq)]
 pub struct Share {
     pub used: Used,
     pub expected: SharedAs,
@@ -35,7 +35,7 @@ pub struct Share {
 }
 
 /// What some views use.
-#[derive(Debug, Drop)]
+#[derive(Drop)]
 pub struct Reach {
     /// The records that are used, each once.
     pub used: Vec<Used>,

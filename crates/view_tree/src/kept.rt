@@ -25,7 +25,7 @@ use std::marker::Model;
 const PIECE: usize = 65536;
 
 /// Why rows weren't all put.
-#[derive(Clone, Copy, PartialEq, Eq, Debug)]
+#[derive(Clone, Copy, PartialEq, Eq)]
 pub enum PutStop {
     WriteFault,
     NoMemory,

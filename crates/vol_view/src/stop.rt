@@ -5,7 +5,7 @@ use obj_base::{HeadFault, Within};
 use omap_map::OmapFault;
 
 /// What is wrong with the volumes of a container, or with one of them.
-#[derive(Clone, Copy, PartialEq, Eq, Debug)]
+#[derive(Clone, Copy, PartialEq, Eq)]
 pub enum VolStop {
     /// The object in this block isn't a sound superblock of a volume.
     Head { block: u64, why: HeadFault },

@@ -13,7 +13,7 @@ use img_edit::{put_u32, put_u64, reseal};
 use std::alloc::{AllocError, Global};
 
 /// A chunk of blocks.
-#[derive(Clone, Copy, Debug)]
+#[derive(Clone, Copy)]
 pub(crate) struct Chunk {
     pub blocks: usize,
     pub free: usize,
