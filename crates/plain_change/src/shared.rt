@@ -52,6 +52,20 @@ fn are_shared_by(after: &Index<'_>, old: &Index<'_>, new: &Index<'_>, come: &Fac
         .all(|e| is_still_shared(after, old, new, e))
 }
 
+// Whether no file that keeps its only entry gets another with a sibling's id, by what is gone and what has come.
+fn are_shared_after(
+    alloc: Global,
+    after: &Index<'_>,
+    gone: &Facts,
+    come: &Facts,
+) -> Result<bool, NoMemory>
+    ensures { IfOk result (λ shared. IsTrue shared → All (IsSharedStill after.now.facts.now gone.now come.now) come.now.entries) }
+{
+    let old = Index::new(alloc, gone)?;
+    let new = Index::new(alloc, come)?;
+    Ok(are_shared_by(after, &old, &new, come))
+}
+
 /// Whether no file that keeps its only entry gets another with a sibling's id.
 pub(crate) fn are_still_shared(
     alloc: Global,
@@ -64,7 +78,5 @@ pub(crate) fn are_still_shared(
     if !has_marks(come) {
         return Ok(true);
     }
-    let old = Index::new(alloc, gone)?;
-    let new = Index::new(alloc, come)?;
-    Ok(are_shared_by(after, &old, &new, come))
+    are_shared_after(alloc, after, gone, come)
 }

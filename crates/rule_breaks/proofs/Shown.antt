@@ -48,10 +48,14 @@ pub rest-holds : (asked : Asked) (facts : Facts) (A B C D : Type 0) (first : Opt
 rest-holds asked facts A B C D (Some f) a b d there = there
 rest-holds asked facts A B C D None a b d holds = (a, (b, (holds, d)))
 
--- the same about the last ones
-pub last-holds : (asked : Asked) (facts : Facts) (A B C D : Type 0) (first : Option TreeFault) → A × (B × C) → IsFirst asked facts D first → IsFirst asked facts (A × (B × (C × D))) first
-last-holds asked facts A B C D (Some f) all there = there
-last-holds asked facts A B C D None all holds = (all.0, (all.1.0, (all.1.1, holds)))
+-- some rules hold and a last one, or the first fault that is given is there
+pub last-of : (asked : Asked) (facts : Facts) (A B C D : Type 0) (one other : Option TreeFault) → IsFirst asked facts (A × (B × C)) one → IsFirst asked facts D other → IsFirst asked facts (A × (B × (C × D))) (option_or one other)
+last-of asked facts A B C D (Some f) other there more = there
+last-of asked facts A B C D None (Some g) all there = there
+last-of asked facts A B C D None None all holds = (all.0, (all.1.0, (all.1.1, holds)))
+
+pub and-last : (asked : Asked) (facts : Facts) (A B C D : Type 0) (one other first : Option TreeFault) → first ≡ option_or one other → IsFirst asked facts (A × (B × C)) one → IsFirst asked facts D other → IsFirst asked facts (A × (B × (C × D))) first
+and-last asked facts A B C D one other first is here there = subst (λ o. IsFirst asked facts (A × (B × (C × D))) o) (sym is) (last-of asked facts A B C D one other here there)
 
 -- no fault is given, so the rules hold
 pub none-given : (asked : Asked) (facts : Facts) (A : Type 0) (first : Option TreeFault) (none : Bool) → IsFirst asked facts A first → is_some first ≡ not none → none ≡ true → A

@@ -299,6 +299,20 @@ fn lost_map_by<'a>(
     None
 }
 
+// The first map that lacks its entry or its link, where there may be maps.
+fn lost_map_of<'a>(
+    alloc: Global,
+    fellows: &Fellows<'a>,
+) -> Result<Option<&'a SiblingFact>, NoMemory>
+    ensures { IfOk result (λ first. option_copied first ≡ find (spec.is_map_lost fellows.now.facts.now) fellows.now.facts.now.siblings) }
+{
+    let facts = fellows.facts;
+    let linked = linked_by(alloc, facts, &fellows.links)?;
+    let private = tally::<_, ByPrivate>(alloc, &facts.entries)?;
+    let system = tally::<_, BySystemLink>(alloc, &facts.links)?;
+    Ok(lost_map_by(facts, &linked, &private, &system))
+}
+
 /// The first map that lacks its entry or its link.
 pub fn lost_map<'a>(
     alloc: Global,
@@ -306,12 +320,8 @@ pub fn lost_map<'a>(
 ) -> Result<Option<&'a SiblingFact>, NoMemory>
     ensures { IfOk result (λ first. option_copied first ≡ find (spec.is_map_lost fellows.now.facts.now) fellows.now.facts.now.siblings) }
 {
-    let facts = fellows.facts;
-    if facts.siblings.is_empty() {
+    if fellows.facts.siblings.is_empty() {
         return Ok(None);
     }
-    let linked = linked_by(alloc, facts, &fellows.links)?;
-    let private = tally::<_, ByPrivate>(alloc, &facts.entries)?;
-    let system = tally::<_, BySystemLink>(alloc, &facts.links)?;
-    Ok(lost_map_by(facts, &linked, &private, &system))
+    lost_map_of(alloc, fellows)
 }

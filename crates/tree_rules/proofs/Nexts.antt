@@ -125,6 +125,11 @@ chain-distinct facts chain = once facts.inodes (λ k d low.
     below (get_or facts.inodes k d).id (get_or facts.inodes (suc k) d).id (ap (λ j. inode_follows (get_or facts.inodes k d) (get_or facts.inodes j d)) (sym at) ∙ chain k d (omega arith)))
 
 -- ---- what is told
+-- what a fact of an answer gives
+pub ok-so : {T E : Type 0} (r : Result T E) {P Q : T → Type 0} → ((x : T) → P x → Q x) → IfOk r P → IfOk r Q
+ok-so (Ok x) give p = give x p
+ok-so (Err e) give p = tt
+
 -- what two facts of an answer give
 pub both-ok : {T E : Type 0} (r : Result T E) {P Q R : T → Type 0} → ((x : T) → P x → Q x → R x) → IfOk r P → IfOk r Q → IfOk r R
 both-ok (Ok x) give p q = give x p q

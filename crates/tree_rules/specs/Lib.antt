@@ -1,3 +1,4 @@
+pub mod Groups
 pub mod Notes
 pub mod Tallies
 pub mod Known

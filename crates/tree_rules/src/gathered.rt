@@ -18,6 +18,29 @@ use std::alloc::Global;
 use view_facts::Facts;
 use view_rules::TreeFault;
 
+// The number of records and the notes of a view, by an index of its facts.
+fn tally_by(
+    alloc: Global,
+    asked: &Asked<'_>,
+    index: &Index<'_>,
+    records: u64,
+) -> Result<ViewTally, Stop<TreeFault>>
+    requires { 0 < asked.now.site.now.block_size }
+    ensures rules { OnOk result (HasFactRules asked.now.profile asked.now.site.now asked.now.ranges.now index.now.facts.now) }
+    ensures noted { IfOk result (λ tally. tally.notes.items ≡ notes_of asked.now.profile asked.now.view.now index.now.facts.now) }
+    ensures clear { (image : List ℕ) (volume : Loaded) → IsGatheredView image asked.now.site.now volume asked.now.view.now (record { facts = index.now.facts.now; records = records }) → OnOk result (HasTreeRules asked.now.profile image asked.now.site.now volume asked.now.view.now asked.now.ranges.now) }
+    ensures value { (image : List ℕ) (volume : Loaded) → IsGatheredView image asked.now.site.now volume asked.now.view.now (record { facts = index.now.facts.now; records = records }) → IfOk result (IsTally asked.now.profile image asked.now.site.now volume asked.now.view.now) }
+    ensures present { (image : List ℕ) (volume : Loaded) → IsGatheredView image asked.now.site.now volume asked.now.view.now (record { facts = index.now.facts.now; records = records }) → IfErr result (Tells (IsTreeFault asked.now.profile image asked.now.site.now volume asked.now.view.now asked.now.ranges.now) (IsViewFeature image asked.now.site.now volume asked.now.view.now)) }
+    ensures no_read { IsErrOf result ReadFault → ⊥ }
+{
+    let first = first_fault(alloc, asked, index)?;
+    if let Some(fault) = first {
+        return Err(Stop::Found(fault));
+    }
+    let notes = notes(alloc, asked.profile, asked.view, index)?;
+    Ok(ViewTally { records, notes })
+}
+
 /// The number of records and the notes of a view whose facts and whose number of records were gathered, where it meets its rules. A fault that is named is
 /// there.
 pub(crate) fn tally_of(
@@ -35,10 +58,5 @@ pub(crate) fn tally_of(
     ensures no_read { IsErrOf result ReadFault → ⊥ }
 {
     let index = Index::new(alloc, facts)?;
-    let first = first_fault(alloc, asked, &index)?;
-    if let Some(fault) = first {
-        return Err(Stop::Found(fault));
-    }
-    let notes = notes(alloc, asked.profile, asked.view, &index)?;
-    Ok(ViewTally { records, notes })
+    tally_by(alloc, asked, &index, records)
 }

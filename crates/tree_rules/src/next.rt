@@ -13,7 +13,7 @@ ghost use Rattle.vol_view.specs.Placed.{view_nodes};
 ghost use Rattle.view_rules.specs.Facts as facts;
 ghost use Rattle.view_rules.specs.Listed.{extents_with_ids};
 ghost use Rattle.view_rules.specs.Rules as rules;
-ghost use Rattle.rule_changes.specs.Changes.{AreWoven};
+ghost use Rattle.rule_changes.specs.Changes.{AreWoven, IsChange};
 ghost use Rattle.vol_view.specs.declared.volume.View as declared;
 ghost use Rattle.view_change.specs.Shared.{ShareLeaves};
 ghost use Rattle.view_change.specs.Kept.{facts_of, leaves_of, records_kept};
@@ -60,6 +60,25 @@ fn raise(stop: Stop<()>) -> Stop<TreeFault>
     }
 }
 
+// Whether it shows that indexed facts are right, by how they differ from facts that are.
+fn are_shown_right(
+    alloc: Global,
+    asked: &Asked<'_>,
+    cover: &Cover,
+    index: &Index<'_>,
+    gone: &Facts,
+    come: &Facts,
+) -> Result<bool, NoMemory>
+    requires size { 0 < asked.now.site.now.block_size }
+    requires cover { IsCoverOf asked.now.ranges.now cover.now }
+    ensures { IfOk result (λ right. IsTrue right → (before same : facts.Facts) → spec.AreRight asked.now.profile asked.now.site.now asked.now.ranges.now before → IsChange before index.now.facts.now gone.now come.now same → spec.AreRight asked.now.profile asked.now.site.now asked.now.ranges.now index.now.facts.now) }
+{
+    if !is_plain(alloc, asked, cover, index, gone, come)? {
+        return Ok(false);
+    }
+    is_silent(alloc, index, gone, come)
+}
+
 // Whether it shows that facts are right, by how they differ from facts that are.
 fn are_right_still(
     alloc: Global,
@@ -80,10 +99,7 @@ fn are_right_still(
         return Ok(false);
     }
     let index = Index::after(alloc, after.facts(), gone, come)?;
-    if !is_plain(alloc, asked, cover, &index, gone, come)? {
-        return Ok(false);
-    }
-    is_silent(alloc, &index, gone, come)
+    are_shown_right(alloc, asked, cover, &index, gone, come)
 }
 
 // A view of which all facts are kept, tested whole.

@@ -169,9 +169,9 @@ impl Changing {
         }
         let none = no_facts(self.alloc, self.after.names());
         let passed = replace(&mut self.passed, none);
-        let read = self.after.take_facts(self.alloc);
+        let mut read = self.after.take_facts(self.alloc);
         settle(self.alloc, passed, &read, &mut self.gone, &mut self.come)?;
-        self.stock.put(read)?;
+        self.stock.put(self.alloc, &mut read)?;
         Ok(())
     }
 
@@ -247,7 +247,7 @@ impl Changing {
         ensures change { IfOk result (λ changed. changed.change ≡ None) }
     {
         let Changing {
-            alloc: _,
+            alloc,
             leaves: _,
             stock,
             after,
@@ -257,8 +257,29 @@ impl Changing {
             come: _,
         } = self;
         Ok(Changed {
-            after: KeptView::behind(stock, after)?,
+            after: KeptView::behind(alloc, stock, after)?,
             change: None,
+        })
+    }
+
+    // What is kept and what has changed, where the difference is followed.
+    fn followed(self) -> Result<Changed, NoMemory>
+        ensures view { IfOk result (λ changed. changed.after.held ≡ record { leaves = self.after.leaves; facts = behind (joined self.stock.0 self.stock.1) self.after.facts; records = self.after.records }) }
+        ensures change { IfOk result (λ changed. changed.change ≡ Some (record { gone = self.gone; come = self.come })) }
+    {
+        let Changing {
+            alloc,
+            leaves: _,
+            stock,
+            after,
+            follows: _,
+            passed: _,
+            gone,
+            come,
+        } = self;
+        Ok(Changed {
+            after: KeptView::behind(alloc, stock, after)?,
+            change: Some(Change { gone, come }),
         })
     }
 
@@ -271,21 +292,7 @@ impl Changing {
             return Ok(self.unfollowed()?);
         }
         self.settle::<K>()?;
-        let Changing {
-            alloc: _,
-            leaves: _,
-            stock,
-            after,
-            follows: _,
-            passed: _,
-            gone,
-            come,
-        } = self;
-        let after = KeptView::behind(stock, after)?;
-        Ok(Changed {
-            after,
-            change: Some(Change { gone, come }),
-        })
+        Ok(self.followed()?)
     }
 }
 

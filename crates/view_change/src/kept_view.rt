@@ -45,16 +45,12 @@ impl KeptView {
     }
 
     /// What is kept of a view with some leaves, where the facts beside them stand behind those of a stock.
-    pub(crate) fn behind(stock: Stock, held: Held) -> Result<KeptView, NoMemory>
+    pub(crate) fn behind(alloc: Global, stock: Stock, held: Held) -> Result<KeptView, NoMemory>
         ensures { IfOk result (λ view. view.held ≡ record { leaves = held.leaves; facts = behind (joined stock.0 stock.1) held.facts; records = held.records }) }
     {
-        let (facts, known) = stock.whole(held.facts)?;
-        let in_order = are_known(known, &facts);
-        let held = Held {
-            leaves: held.leaves,
-            facts,
-            records: held.records,
-        };
+        let (mut stock, mut held) = (stock, held);
+        let known = stock.whole(alloc, &mut held.facts)?;
+        let in_order = are_known(known, &held.facts);
         Ok(KeptView { held, in_order })
     }
 

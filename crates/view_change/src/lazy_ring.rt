@@ -5,6 +5,7 @@ ghost use Rattle.rule_index.specs.Order.{IsChain};
 use crate::ring::Ring;
 use apfs_model::NoMemory;
 use rule_index::chain::Follows;
+use std::alloc::Global;
 use std::marker::Model;
 use std::mem::replace;
 
@@ -60,23 +61,26 @@ impl<T: Drop, B: Follows<T>> LazyRing<T, B> {
     }
 
     /// Puts items behind those of the view after.
-    pub(crate) fn put(&mut self, items: Vec<T>) -> Result<(), NoMemory>
+    pub(crate) fn put(&mut self, alloc: Global, items: &mut Vec<T>) -> Result<(), NoMemory>
         ensures left { OnOk result (self.new.0 ≡ self.old.0) }
-        ensures taken { OnOk result (self.new.1 ≡ self.old.1 ++ items.items) }
+        ensures taken { OnOk result (self.new.1 ≡ self.old.1 ++ items.old.items) }
     {
         let waiting = replace(&mut self.waiting, 0);
         self.ring.keep(waiting);
-        self.ring.put(items)?;
+        self.ring.put(replace(items, Vec::new(alloc)))?;
         Ok(())
     }
 
-    /// All items, and others behind them; and whether it is known that these are in order, where none is left of the view before.
-    pub(crate) fn whole(self, items: Vec<T>) -> Result<(Vec<T>, bool), NoMemory>
-        ensures items { IfOk result (λ whole. whole.0.items ≡ (self.0 ++ self.1) ++ items.items) }
-        ensures order { IfOk result (λ whole. IsTrue whole.1 → IsChain B.follows whole.0.items) }
+    /// Puts all items before some; and tells whether it is known that all these are in order, where none is left of the view before.
+    pub(crate) fn whole(&mut self, alloc: Global, items: &mut Vec<T>) -> Result<bool, NoMemory>
+        ensures items { OnOk result (items.new.items ≡ (self.old.0 ++ self.old.1) ++ items.old.items) }
+        ensures order { IfOk result (λ known. IsTrue known → IsChain B.follows items.new.items) }
     {
-        let LazyRing { mut ring, waiting } = self;
-        ring.keep(waiting);
-        ring.whole(items)
+        let none = Ring::new(Vec::new(alloc), false);
+        let mut ring = replace(&mut self.ring, none);
+        ring.keep(replace(&mut self.waiting, 0));
+        let (whole, known) = ring.whole(replace(items, Vec::new(alloc)))?;
+        *items = whole;
+        Ok(known)
     }
 }

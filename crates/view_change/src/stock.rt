@@ -8,6 +8,7 @@ use crate::lazy_ring::LazyRing;
 use apfs_model::NoMemory;
 use fs_name::Names;
 use rule_index::ordered::{ByFile, ByHash, ByInode, ByLinkedFile, BySibling, ByStream};
+use std::alloc::Global;
 use std::marker::Model;
 use view_facts::{AttributeFact, EntryFact, ExtentFact, Facts, InodeFact, LinkFact, SiblingFact};
 
@@ -77,39 +78,29 @@ impl Stock {
     }
 
     /// Puts facts behind those of the view after.
-    pub(crate) fn put(&mut self, facts: Facts) -> Result<(), NoMemory>
+    pub(crate) fn put(&mut self, alloc: Global, facts: &mut Facts) -> Result<(), NoMemory>
         ensures left { OnOk result (self.new.0 ≡ self.old.0) }
-        ensures taken { OnOk result (self.new.1 ≡ joined self.old.1 facts) }
+        ensures taken { OnOk result (self.new.1 ≡ joined self.old.1 facts.old) }
     {
-        self.inodes.put(facts.inodes)?;
-        self.entries.put(facts.entries)?;
-        self.attributes.put(facts.attributes)?;
-        self.links.put(facts.links)?;
-        self.siblings.put(facts.siblings)?;
-        self.extents.put(facts.extents)
+        self.inodes.put(alloc, &mut facts.inodes)?;
+        self.entries.put(alloc, &mut facts.entries)?;
+        self.attributes.put(alloc, &mut facts.attributes)?;
+        self.links.put(alloc, &mut facts.links)?;
+        self.siblings.put(alloc, &mut facts.siblings)?;
+        self.extents.put(alloc, &mut facts.extents)
     }
 
-    /// All facts, and others behind them; and whether it is known that these are in order, where none is left of the view before.
-    pub(crate) fn whole(self, facts: Facts) -> Result<(Facts, bool), NoMemory>
-        ensures facts { IfOk result (λ whole. whole.0 ≡ behind (joined self.0 self.1) facts) }
-        ensures order { IfOk result (λ whole. IsTrue whole.1 → AreInOrder whole.0) }
+    /// Puts all facts before some; and tells whether it is known that all these are in order, where none is left of the view before.
+    pub(crate) fn whole(&mut self, alloc: Global, facts: &mut Facts) -> Result<bool, NoMemory>
+        ensures facts { OnOk result (facts.new ≡ behind (joined self.old.0 self.old.1) facts.old) }
+        ensures order { IfOk result (λ known. IsTrue known → AreInOrder facts.new) }
     {
-        let inodes = self.inodes.whole(facts.inodes)?;
-        let entries = self.entries.whole(facts.entries)?;
-        let attributes = self.attributes.whole(facts.attributes)?;
-        let links = self.links.whole(facts.links)?;
-        let siblings = self.siblings.whole(facts.siblings)?;
-        let extents = self.extents.whole(facts.extents)?;
-        let in_order = inodes.1 & entries.1 & attributes.1 & links.1 & siblings.1 & extents.1;
-        let facts = Facts {
-            names: facts.names,
-            inodes: inodes.0,
-            entries: entries.0,
-            attributes: attributes.0,
-            links: links.0,
-            siblings: siblings.0,
-            extents: extents.0,
-        };
-        Ok((facts, in_order))
+        let inodes = self.inodes.whole(alloc, &mut facts.inodes)?;
+        let entries = self.entries.whole(alloc, &mut facts.entries)?;
+        let attributes = self.attributes.whole(alloc, &mut facts.attributes)?;
+        let links = self.links.whole(alloc, &mut facts.links)?;
+        let siblings = self.siblings.whole(alloc, &mut facts.siblings)?;
+        let extents = self.extents.whole(alloc, &mut facts.extents)?;
+        Ok(inodes & entries & attributes & links & siblings & extents)
     }
 }

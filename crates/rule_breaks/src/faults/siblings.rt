@@ -11,7 +11,7 @@ use blk_source::NoMemory;
 use rule_index::Index;
 use rule_index::twins::are_together;
 use std::alloc::Global;
-use view_facts::EntryFact;
+use view_facts::{EntryFact, Facts};
 use view_rules::TreeFault;
 
 // The fault of an entry of a sibling that lacks its fellows; none of an entry without a sibling's id.
@@ -78,6 +78,17 @@ fn unmarked(asked: &Asked<'_>, index: &Index<'_>) -> Option<TreeFault>
     }
 }
 
+// A fault of an entry, a link or a map that lacks its fellows.
+fn lost(alloc: Global, asked: &Asked<'_>, facts: &Facts) -> Result<Option<TreeFault>, NoMemory>
+    ensures { IfOk result (spec.IsFirst asked.now facts.now (rules.HasEntryFellows facts.now × (rules.HasLinkFellows facts.now × rules.HasMapFellows facts.now))) }
+{
+    let fellows = Fellows::of(alloc, facts)?;
+    let entry = lost_entry(asked, &fellows);
+    let link = lost_link(alloc, asked, &fellows)?;
+    let map = lost_map(alloc, asked, &fellows)?;
+    Ok(entry.or(link.or(map)))
+}
+
 /// A fault of a sibling, where one is there.
 pub fn fault(
     alloc: Global,
@@ -90,10 +101,6 @@ pub fn fault(
     if together {
         return Ok(unmarked(asked, index));
     }
-    let fellows = Fellows::of(alloc, index.facts)?;
-    let entry = lost_entry(asked, &fellows);
-    let link = lost_link(alloc, asked, &fellows)?;
-    let map = lost_map(alloc, asked, &fellows)?;
-    let mark = unmarked(asked, index);
-    Ok(entry.or(link.or(map.or(mark))))
+    let lost = lost(alloc, asked, index.facts)?;
+    Ok(lost.or(unmarked(asked, index)))
 }

@@ -1,41 +1,33 @@
-use Rattle.std.proofs.Common.{ap, refl, subst, ◌∙◌}
+use Rattle.std.proofs.Common.{◌≡◌, sym, subst}
+use Rattle.std.specs.Prelude.{OnOk, IfOk}
 use Rattle.view_rules.specs.Facts.{Facts}
 use Rattle.view_rules.specs.Rules.{HasFactRules}
-use Rattle.rule_breaks.specs.Faults.{IsShown}
+use Rattle.view_facts.specs.Kept.{IsGatheredView}
+use Rattle.tree_rules.specs.declared.tallies.ViewTally.{ViewTally}
 use Rattle.tree_rules.specs.Tallies.{notes_of}
-use Rattle.tree_rules.proofs.Checks.{facts_clear, facts_fault, facts_tally, first-there, first-clear}
 use Rattle.tree_rules.proofs.gathered.tally_of.Goals as goal
-
-pub returns-in-Some-clause-present : goal.returns-in-Some-clause-present
-returns-in-Some-clause-present c image volume gathered =
-    let asked = c.args.asked.now in
-    let seen = c.in_ok-index.index.facts.now in
-    facts_fault asked image volume (record { facts = c.args.facts.now; records = c.args.records }) c.in-Some.fault gathered
-    (subst (λ (facts : Facts). IsShown asked facts c.in-Some.fault) c.in_ok-index.ensures
-    (first-there asked seen (HasFactRules asked.profile asked.site.now asked.ranges.now seen) c.in_ok-first.first c.in-Some.fault c.in_ok-first.ensures c.in-Some.is))
 
 pub returns-clause-rules : goal.returns-clause-rules
 returns-clause-rules c =
     let asked = c.args.asked.now in
-    let seen = c.in_ok-index.index.facts.now in
-    subst (λ (facts : Facts). HasFactRules asked.profile asked.site.now asked.ranges.now facts) c.in_ok-index.ensures
-    (first-clear asked seen (HasFactRules asked.profile asked.site.now asked.ranges.now seen) c.in_ok-first.first c.in_ok-first.ensures c.in_default.is)
+    subst (λ (facts : Facts). OnOk c.tally_by.result (HasFactRules asked.profile asked.site.now asked.ranges.now facts)) c.in_ok-index.ensures c.tally_by.ensures.rules
 
 pub returns-clause-noted : goal.returns-clause-noted
 returns-clause-noted c =
     let asked = c.args.asked.now in
-    c.in_ok-notes.ensures ∙ ap (λ (facts : Facts). notes_of asked.profile asked.view.now facts) c.in_ok-index.ensures
+    subst (λ (facts : Facts). IfOk c.tally_by.result (λ (tally : ViewTally). tally.notes.items ≡ notes_of asked.profile asked.view.now facts)) c.in_ok-index.ensures c.tally_by.ensures.noted
 
 pub returns-clause-clear : goal.returns-clause-clear
 returns-clause-clear c image volume gathered =
     let asked = c.args.asked.now in
-    let seen = c.in_ok-index.index.facts.now in
-    facts_clear asked.profile image asked.site.now volume asked.view.now asked.ranges.now (record { facts = c.args.facts.now; records = c.args.records }) gathered
-    (subst (λ (facts : Facts). HasFactRules asked.profile asked.site.now asked.ranges.now facts) c.in_ok-index.ensures
-    (first-clear asked seen (HasFactRules asked.profile asked.site.now asked.ranges.now seen) c.in_ok-first.first c.in_ok-first.ensures c.in_default.is))
+    c.tally_by.ensures.clear image volume (subst (λ (facts : Facts). IsGatheredView image asked.site.now volume asked.view.now (record { facts = facts; records = c.args.records })) (sym c.in_ok-index.ensures) gathered)
 
 pub returns-clause-value : goal.returns-clause-value
 returns-clause-value c image volume gathered =
     let asked = c.args.asked.now in
-    facts_tally asked.profile image asked.site.now volume asked.view.now (record { facts = c.args.facts.now; records = c.args.records }) (record { records = c.args.records; notes = c.in_ok-notes.notes }) gathered refl
-    (c.in_ok-notes.ensures ∙ ap (λ (facts : Facts). notes_of asked.profile asked.view.now facts) c.in_ok-index.ensures)
+    c.tally_by.ensures.value image volume (subst (λ (facts : Facts). IsGatheredView image asked.site.now volume asked.view.now (record { facts = facts; records = c.args.records })) (sym c.in_ok-index.ensures) gathered)
+
+pub returns-clause-present : goal.returns-clause-present
+returns-clause-present c image volume gathered =
+    let asked = c.args.asked.now in
+    c.tally_by.ensures.present image volume (subst (λ (facts : Facts). IsGatheredView image asked.site.now volume asked.view.now (record { facts = facts; records = c.args.records })) (sym c.in_ok-index.ensures) gathered)

@@ -4,12 +4,12 @@ use Rattle.view_change.proofs.stock.Stock.whole.Goals as goal
 
 pub returns-clause-order : goal.returns-clause-order
 returns-clause-order c t =
-    let inodes = c.in_ok-inodes.inodes.1 in
-    let entries = c.in_ok-entries.entries.1 in
-    let attributes = c.in_ok-attributes.attributes.1 in
-    let links = c.in_ok-links.links.1 in
-    let siblings = c.in_ok-siblings.siblings.1 in
-    let extents = c.in_ok-extents.extents.1 in
+    let inodes = c.in_ok-inodes.inodes in
+    let entries = c.in_ok-entries.entries in
+    let attributes = c.in_ok-attributes.attributes in
+    let links = c.in_ok-links.links in
+    let siblings = c.in_ok-siblings.siblings in
+    let extents = c.in_ok-extents.extents in
     let five = left-true ((((inodes && entries) && attributes) && links) && siblings) extents t in
     let four = left-true (((inodes && entries) && attributes) && links) siblings five in
     let three = left-true ((inodes && entries) && attributes) links four in

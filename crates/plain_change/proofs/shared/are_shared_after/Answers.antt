@@ -2,7 +2,7 @@ use Rattle.std.proofs.Common.{subst}
 use Rattle.std.specs.Prelude.{All}
 use Rattle.view_rules.specs.Facts.{Facts}
 use Rattle.plain_change.specs.Fellows.{IsSharedStill}
-use Rattle.plain_change.proofs.shared.are_still_shared.Goals as goal
+use Rattle.plain_change.proofs.shared.are_shared_after.Goals as goal
 
 pub returns : goal.returns
 returns c holds =
