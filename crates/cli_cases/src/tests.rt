@@ -309,9 +309,11 @@ fn reports_end_as_said(rt: HostRuntime) -> Result<(), Fail> {
         let mut out = MemSink::new(alloc, ROOM, Vec::new(alloc))?;
         let mut err = MemSink::new(alloc, ROOM, Vec::new(alloc))?;
         let status = report(alloc, &mut source, Profile::Plain, &mut out, &mut err);
-        assert_eq!(rt; status, wanted);
-        assert!(rt; out.contents() == text.as_bytes());
-        assert!(rt; err.contents() == line.as_bytes());
+        assert!(rt;
+            status == wanted
+                && out.contents() == text.as_bytes()
+                && err.contents() == line.as_bytes()
+        );
     }
     Ok(())
 }
@@ -325,9 +327,11 @@ fn a_generated_report_leaves_its_image(rt: HostRuntime) -> Result<(), Fail> {
     let mut made = None;
     let status = gen_report(alloc, 1, &mut out, &mut err, &mut made);
     let size = made.map_or(0, |source| source.size());
-    assert_eq!(rt; (status, size), (0, 1028 * 4096));
-    assert!(rt; out.contents() == GEN_TEXT.as_bytes());
-    assert!(rt; err.contents().is_empty());
+    assert!(rt;
+        (status, size) == (0, 1028 * 4096)
+            && out.contents() == GEN_TEXT.as_bytes()
+            && err.contents().is_empty()
+    );
     Ok(())
 }
 
@@ -337,8 +341,9 @@ fn a_new_container_is_read(rt: HostRuntime) -> Result<(), Fail> {
     let alloc = rt.alloc();
     for format in FORMATS {
         let written = end_on(alloc, Opened::Absent, format, FORMATTED, NOTHING)?;
-        assert_eq!(rt; written.status, 0);
-        assert!(rt; written.held.is_empty() && written.err.contents().is_empty());
+        assert!(rt;
+            written.status == 0 && written.held.is_empty() && written.err.contents().is_empty()
+        );
         for (words, text) in READ_CASES {
             let image = written.out.contents().to_vec(alloc)?;
             let image = Opened::Image(MemSource::new(image, Vec::new(alloc)));
@@ -360,8 +365,10 @@ fn failure_of_each_put_of_format(rt: HostRuntime) -> Result<(), Fail> {
             ..NOTHING
         };
         let ended = end_on(alloc, Opened::Absent, FORMAT, FORMATTED, refused)?;
-        assert_eq!(rt; ended.status, status, "put {number}");
-        assert_eq!(rt; ended.out.contents().len(), blocks * 4096, "put {number}");
+        assert!(rt;
+            ended.status == status && ended.out.contents().len() == blocks * 4096,
+            "put {number}"
+        );
         assert!(rt; ended.held.is_empty() && ended.err.contents().is_empty());
     }
     Ok(())
@@ -390,8 +397,10 @@ fn a_hole_is_written_as_zeros(rt: HostRuntime) -> Result<(), Fail> {
     for (image, byte) in [(HOLE, b'A'), (HOLE_ALONE, 0)] {
         let ended = end(alloc, image, CAT_HOLE, NOTHING)?;
         let contents = hole_then(alloc, byte)?;
-        assert_eq!(rt; (ended.status, ended.err.contents().len()), (0, 0));
-        assert!(rt; ended.out.contents() == contents.as_slice());
+        assert!(rt;
+            (ended.status, ended.err.contents().len()) == (0, 0)
+                && ended.out.contents() == contents.as_slice()
+        );
     }
     Ok(())
 }
@@ -422,9 +431,9 @@ fn failure_of_a_later_put(rt: HostRuntime) -> Result<(), Fail> {
         let mut out = MemSink::new(alloc, 3 * 40_000, [refused].to_vec(alloc)?)?;
         let ended = put_lines(alloc, &items, &mut out);
         let contents = out.contents();
-        assert_eq!(rt; (ended.is_ok(), contents.len()), (is_whole, written));
+        assert!(rt; (ended.is_ok(), contents.len()) == (is_whole, written));
         let before = contents.iter().filter(|byte| **byte == b'a').count();
-        assert_eq!(rt; before, written.min(40_000));
+        assert!(rt; before == written.min(40_000));
     }
     Ok(())
 }
@@ -469,10 +478,7 @@ fn what_is_written_is_flushed(rt: HostRuntime) -> Result<(), Fail> {
         let mut image = handed(alloc, image, Vec::new(alloc))?;
         let mut folder: Given<MemFolder> = Given::Nothing;
         let _status = run(alloc, &words, &mut image, &mut out, &mut err, &mut folder);
-        assert_eq!(rt;
-            (shown.get(), said.get()),
-            (on_out.len() as u64, on_err.len() as u64)
-        );
+        assert!(rt; (shown.get(), said.get()) == (on_out.len() as u64, on_err.len() as u64));
     }
     Ok(())
 }

@@ -10,7 +10,7 @@ fn counts(rt: HostRuntime) {
         ([0xff; 64].as_slice(), 512),
         ([0x52; 130].as_slice(), 390),
     ] {
-        assert_eq!(rt; count_ones(bytes), want, "{bytes:?}");
+        assert!(rt; count_ones(bytes) == want, "{bytes:?}");
     }
 }
 
@@ -30,9 +30,8 @@ fn least_differences(rt: HostRuntime) {
         (zeros.as_slice(), in_rest.as_slice(), Some(1039)),
         (in_rest.as_slice(), in_rest.as_slice(), None),
     ] {
-        assert_eq!(rt; a.len(), b.len());
-        assert!(rt; a.len() < 1000);
-        assert_eq!(rt; first_difference(a, b), want, "{a:?} {b:?}");
+        assert!(rt; a.len() == b.len() && a.len() < 1000);
+        assert!(rt; first_difference(a, b) == want, "{a:?} {b:?}");
     }
 }
 
@@ -40,7 +39,7 @@ fn least_differences(rt: HostRuntime) {
 fn a_bit_of_either_is_set(rt: HostRuntime) {
     let mut few = [0x01, 0x80, 0x00];
     or_into(&mut few, &[0x10, 0x80, 0x00]);
-    assert_eq!(rt; few, [0x11, 0x80, 0x00]);
+    assert!(rt; few == [0x11, 0x80, 0x00]);
     let mut many = [0x03; 130];
     or_into(&mut many, &[0x06; 130]);
     assert!(rt; many.iter().all(|byte| *byte == 0x07));
@@ -61,8 +60,8 @@ fn shared_bits(rt: HostRuntime) {
         (ones.as_slice(), in_second_part.as_slice(), true),
         (ones.as_slice(), in_rest.as_slice(), true),
     ] {
-        assert_eq!(rt; a.len(), b.len());
-        assert_eq!(rt; and_any(a, b), want, "{a:?} {b:?}");
+        assert!(rt; a.len() == b.len());
+        assert!(rt; and_any(a, b) == want, "{a:?} {b:?}");
     }
 }
 
@@ -70,7 +69,7 @@ fn shared_bits(rt: HostRuntime) {
 fn a_bit_of_both_is_left(rt: HostRuntime) {
     let mut few = [0x11, 0x80, 0x0f];
     and_into(&mut few, &[0x10, 0x7f, 0x3c]);
-    assert_eq!(rt; few, [0x10, 0x00, 0x0c]);
+    assert!(rt; few == [0x10, 0x00, 0x0c]);
 }
 
 #[test]
@@ -79,9 +78,9 @@ fn bits_from_a_place_up_to_another(rt: HostRuntime) {
     set_range(&mut bits, 5, 5);
     assert!(rt; bits.iter().all(|byte| *byte == 0x00));
     set_range(&mut bits, 5, 19);
-    assert_eq!(rt; &bits[..4], [0xe0, 0xff, 0x07, 0x00].as_slice());
+    assert!(rt; &bits[..4] == [0xe0, 0xff, 0x07, 0x00].as_slice());
     set_range(&mut bits, 630, 633);
-    assert_eq!(rt; &bits[77..], [0x00, 0xc0, 0x01].as_slice());
+    assert!(rt; &bits[77..] == [0x00, 0xc0, 0x01].as_slice());
     for (from, to, want) in [
         (0, 5, None),
         (0, 6, Some(5)),
@@ -91,6 +90,6 @@ fn bits_from_a_place_up_to_another(rt: HostRuntime) {
         (633, 640, None),
     ] {
         assert!(rt; from <= to && to <= 640);
-        assert_eq!(rt; least_set(&bits, from, to), want, "{from} {to}");
+        assert!(rt; least_set(&bits, from, to) == want, "{from} {to}");
     }
 }

@@ -12,7 +12,7 @@ fn blocks_are_read_by_number(rt: HostRuntime) -> Result<(), Fail> {
     let mut source = SureSource::new(vec![in rt.alloc(); 1, 2, 3, 4, 5, 6, 7]?);
     let mut into = [0u8; 2];
     read_block(&mut source, 1, &mut into)?;
-    assert_eq!(rt; into, [3, 4]);
+    assert!(rt; into == [3, 4]);
     let bytes: Result<Vec<u8>, Stop<()>> = read_new(rt.alloc(), &mut source, 1, 3);
     assert!(rt; bytes.is_ok_and(|bytes| bytes.as_slice() == [4, 5, 6].as_slice()));
     Ok(())
@@ -64,15 +64,11 @@ fn judge(
 fn an_object_is_judged_where_it_stands(rt: HostRuntime) {
     let alloc = rt.alloc();
     let refused = |block, why| Err(Stop::Found(Unsound { block, why }));
-    assert_eq!(rt; judge(alloc, 1, 0xb, Some(1)), Ok(4096));
-    assert_eq!(rt; judge(alloc, 1, 0xb, None), Ok(4096));
-    assert_eq!(rt;
-        judge(alloc, 1, 0xc, Some(1)),
-        refused(1, HeadFault::BadKind)
+    assert!(rt;
+        judge(alloc, 1, 0xb, Some(1)) == Ok(4096)
+            && judge(alloc, 1, 0xb, None) == Ok(4096)
+            && judge(alloc, 1, 0xc, Some(1)) == refused(1, HeadFault::BadKind)
+            && judge(alloc, 1, 0xb, Some(2)) == refused(1, HeadFault::BadOid)
+            && judge(alloc, 0, 0, Some(0)) == refused(0, HeadFault::BadSum)
     );
-    assert_eq!(rt;
-        judge(alloc, 1, 0xb, Some(2)),
-        refused(1, HeadFault::BadOid)
-    );
-    assert_eq!(rt; judge(alloc, 0, 0, Some(0)), refused(0, HeadFault::BadSum));
 }

@@ -5,8 +5,10 @@ use std::test::Fail;
 #[test]
 fn bytes_are_a_copy(rt: HostRuntime) -> Result<(), Fail> {
     let name = Bytes::from_slice(rt.alloc(), b"name")?;
-    assert_eq!(rt; name.as_slice(), b"name".as_slice());
-    assert!(rt; name == Bytes::from_slice(rt.alloc(), b"name")?);
-    assert!(rt; name != Bytes::from_slice(rt.alloc(), b"names")?);
+    assert!(rt;
+        name.as_slice() == b"name".as_slice()
+            && name == Bytes::from_slice(rt.alloc(), b"name")?
+            && name != Bytes::from_slice(rt.alloc(), b"names")?
+    );
     Ok(())
 }

@@ -44,10 +44,12 @@ const ROWS: [Row; 12] = [
 #[test]
 fn searches(rt: HostRuntime) -> Result<(), Fail> {
     for (list, id, before, _, of_it) in ROWS {
-        assert_eq!(rt; are_in_order::<_, ByItself>(list), true);
+        assert!(rt; are_in_order::<_, ByItself>(list));
         for guess in [NO_GUESS, 0, 3, 8] {
-            assert_eq!(rt; below::<_, ByItself>(list, id, guess), before);
-            assert_eq!(rt; count::<_, ByItself>(list, id, guess), of_it);
+            assert!(rt;
+                below::<_, ByItself>(list, id, guess) == before
+                    && count::<_, ByItself>(list, id, guess) == of_it
+            );
         }
     }
     Ok(())
@@ -64,14 +66,16 @@ fn put_back(list: &mut IdList<u64, ByItself>, id: u64) {
 fn lists(rt: HostRuntime) -> Result<(), Fail> {
     for (list, id, _, at, of_it) in ROWS {
         let items = Vec::from_slice(rt.alloc(), list)?;
-        assert_eq!(rt; are_in_order::<_, ByItself>(&items), true);
+        assert!(rt; are_in_order::<_, ByItself>(&items));
         let mut made: IdList<u64, ByItself> = IdList::of(rt.alloc(), items)?;
-        assert_eq!(rt; made.len(), list.len());
-        assert_eq!(rt; made.as_slice(), list);
-        assert_eq!(rt; made.place(id), at);
-        assert_eq!(rt; made.count(id), of_it);
+        assert!(rt;
+            made.len() == list.len()
+                && made.as_slice() == list
+                && made.place(id) == at
+                && made.count(id) == of_it
+        );
         put_back(&mut made, id);
-        assert_eq!(rt; made.as_slice(), list);
+        assert!(rt; made.as_slice() == list);
     }
     Ok(())
 }
@@ -111,7 +115,7 @@ fn order(rt: HostRuntime) -> Result<(), Fail> {
         (&[2, 1], false),
     ];
     for (list, want) in rows {
-        assert_eq!(rt; are_in_order::<_, ByItself>(list), want);
+        assert!(rt; are_in_order::<_, ByItself>(list) == want);
     }
     Ok(())
 }
@@ -127,7 +131,7 @@ fn numbers_once(rt: HostRuntime) -> Result<(), Fail> {
     for (given, want) in rows {
         let mut items = Vec::from_slice(rt.alloc(), given)?;
         distinct(&mut items);
-        assert_eq!(rt; items.as_slice(), want);
+        assert!(rt; items.as_slice() == want);
     }
     Ok(())
 }

@@ -34,8 +34,7 @@ fn a_folder_in_memory_has_what_was_put(rt: HostRuntime) -> Result<(), Fail> {
     folder.make_dir("d")?;
     put(&mut folder, "d/f", b"hel", b"lo")?;
     folder.start_file("e")?;
-    assert!(rt; has(&folder, FILLED));
-    assert!(rt; folder.fault_count() == 0);
+    assert!(rt; has(&folder, FILLED) && folder.fault_count() == 0);
     Ok(())
 }
 
@@ -45,12 +44,14 @@ const REFUSED: &[(&str, Option<&[u8]>)] = &[("f", Some(b"")), ("g", Some(b""))];
 fn a_folder_in_memory_refuses_by_number_and_by_room(rt: HostRuntime) -> Result<(), Fail> {
     let alloc = rt.alloc();
     let mut folder = MemFolder::new(alloc, 2, 6, vec![in alloc; 2]?)?;
-    assert!(rt; refuses(&mut folder, "f", b"a")?);
-    assert!(rt; folder.make_dir("longer").is_err());
-    assert!(rt; refuses(&mut folder, "g", b"hello")?);
-    assert!(rt; folder.make_dir("d").is_err());
-    assert!(rt; has(&folder, REFUSED));
-    assert!(rt; folder.fault_count() == 4);
+    assert!(rt;
+        refuses(&mut folder, "f", b"a")?
+            && folder.make_dir("longer").is_err()
+            && refuses(&mut folder, "g", b"hello")?
+            && folder.make_dir("d").is_err()
+            && has(&folder, REFUSED)
+            && folder.fault_count() == 4
+    );
     Ok(())
 }
 

@@ -217,8 +217,10 @@ fn a_failed_read_is_told(rt: HostRuntime) -> Result<(), Fail> {
         let mut source = MemSource::new(bytes_of(alloc, &PLAIN)?, fails);
         let answer = find_part(&mut source);
         if number <= 2 {
-            assert!(rt; answer == Err(GptStop::ReadFault));
-            assert_eq!(rt; (source.read_count(), source.fault_count()), (number, 1));
+            assert!(rt;
+                answer == Err(GptStop::ReadFault)
+                    && (source.read_count(), source.fault_count()) == (number, 1)
+            );
         } else {
             assert!(rt; answer == Ok(PLAIN_PART));
         }
@@ -245,10 +247,9 @@ fn a_slice_reads_its_part(rt: HostRuntime) -> Result<(), Fail> {
     let alloc = rt.alloc();
     let source = MemSource::new(vec![in alloc; 1, 2, 3, 4, 5]?, vec![in alloc; 2]?);
     let (read, refused, length, source) = through::<Brand>(source)?;
-    assert_eq!(rt; (read, refused, length), ([3, 4], true, 3));
-    assert_eq!(rt;
-        (source.size(), source.read_count(), source.fault_count()),
-        (5, 2, 1)
+    assert!(rt;
+        (read, refused, length) == ([3, 4], true, 3)
+            && (source.size(), source.read_count(), source.fault_count()) == (5, 2, 1)
     );
     part_or_fault();
     Ok(())

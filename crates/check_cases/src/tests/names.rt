@@ -71,8 +71,7 @@ fn note_hash(rt: HostRuntime) -> Result<(), Fail> {
     let Ok(report) = told(alloc, other_hash(alloc)?, Profile::Plain) else {
         panic!(rt; "the container isn't well-formed");
     };
-    assert_eq!(rt; numbers_of(&report), NUMBERS);
-    assert!(rt; report.notes.as_slice() == notes.as_slice());
+    assert!(rt; numbers_of(&report) == NUMBERS && report.notes.as_slice() == notes.as_slice());
     Ok(())
 }
 

@@ -12,7 +12,7 @@ use std::test::Fail;
 use view_rules::{Note, Profile};
 
 // The numbers of a report.
-#[derive(Clone, Copy, PartialEq, Eq, Debug)]
+#[derive(Clone, Copy, PartialEq, Eq)]
 pub struct Numbers {
     pub xid: u64,
     pub volumes: u64,
@@ -35,7 +35,7 @@ pub const SMALL_NUMBERS: Numbers = Numbers {
 };
 
 // What is wrong with a container, with the numbers that tell of it; a volume is that of slot 0, and a view that of transaction 1.
-#[derive(Clone, Copy, PartialEq, Eq, Debug)]
+#[derive(Clone, Copy, PartialEq, Eq)]
 pub enum Wrong {
     Unsound(u64, NodeFault),
     NamedTwice(Within, u64, u64),
@@ -59,7 +59,7 @@ pub enum Wrong {
 }
 
 // A note; a volume is that of slot 0.
-#[derive(Clone, Copy, PartialEq, Eq, Debug)]
+#[derive(Clone, Copy, PartialEq, Eq)]
 pub enum Noted {
     Skipped(u32, u64),
     Unreached(u64, u64),
@@ -67,7 +67,7 @@ pub enum Noted {
 }
 
 // What is said of an image.
-#[derive(Clone, Copy, Debug)]
+#[derive(Clone, Copy)]
 pub enum Said {
     /// It is well-formed: the numbers of its report, and its notes.
     Clean(Numbers, &'static [Noted]),
@@ -213,7 +213,7 @@ pub(super) fn assert_row(
     for profile in profiles.iter() {
         let answer = told(alloc, image.to_vec(alloc)?, *profile);
         let as_said = is_as_said(&answer, said);
-        assert!(rt; as_said, "{name}: {answer:?}");
+        assert!(rt; as_said, "{name}");
     }
     Ok(())
 }

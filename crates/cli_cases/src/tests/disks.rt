@@ -15,7 +15,7 @@ const CONTAINER_TYPE: &[u8] = &[
 ];
 
 /// A disk with a table of 128 entries of 128 bytes, from the third sector on, whose first entry is the container's.
-#[derive(Clone, Copy, Debug)]
+#[derive(Clone, Copy)]
 pub struct Disk {
     /// How many bytes a sector has.
     pub sector: usize,

@@ -65,7 +65,7 @@ pub type Entry = (u64, u64, u16, &'static str);
 pub type Name = (u64, u64, &'static str);
 
 // What a case is run on.
-#[derive(Clone, Copy, Debug)]
+#[derive(Clone, Copy)]
 pub enum Image {
     Absent,
     /// A ring of eight blocks with superblocks at the indices 1, 3, 5 and 7, the second of them with a wrong sum.

@@ -11,22 +11,25 @@ fn an_edited_block_is_whole_once_it_is_resealed(rt: HostRuntime) -> Result<(), F
     let mut block = vec![in rt.alloc(); 0u8; 4096]?;
     block[8] = 1;
     reseal(&mut block);
-    assert_eq!(rt; u64_at(&block, 0), SUM);
-    assert_eq!(rt; u64_at(&block, 8), 1);
+    assert!(rt; u64_at(&block, 0) == SUM && u64_at(&block, 8) == 1);
     Ok(())
 }
 
 #[test]
 fn a_block_of_an_image_is_edited(rt: HostRuntime) -> Result<(), Fail> {
     let mut image = vec![in rt.alloc(); 0u8; 3 * 4096]?;
-    assert!(rt; edit(&mut image, 4096, 1, 8, &[1]));
-    assert_eq!(rt; u64_at(&image, 4096), SUM);
-    assert_eq!(rt; u64_at(&image, 4104), 1);
+    assert!(rt;
+        edit(&mut image, 4096, 1, 8, &[1])
+            && u64_at(&image, 4096) == SUM
+            && u64_at(&image, 4104) == 1
+    );
     // what is written is summed only once it is resealed
-    assert!(rt; write(&mut image, 4096, 2, 8, &[1]));
-    assert_eq!(rt; u64_at(&image, 8192), 0);
-    assert!(rt; reseal_block(&mut image, 4096, 2));
-    assert_eq!(rt; u64_at(&image, 8192), SUM);
+    assert!(rt;
+        write(&mut image, 4096, 2, 8, &[1])
+            && u64_at(&image, 8192) == 0
+            && reseal_block(&mut image, 4096, 2)
+            && u64_at(&image, 8192) == SUM
+    );
     // a block that isn't there, and bytes that leave a block
     for (block, at) in [(3, 0), (1, 4096), (1, 4095), (usize::MAX, 8)] {
         assert!(rt;

@@ -63,8 +63,8 @@ fn another_program_writes_the_same(rt: HostRuntime) -> Result<(), Fail> {
         let mut sink = MemSink::new(alloc, 300 * 4096, vec![in alloc;]?)?;
         format(alloc, &spec, &mut sink)?;
         let contents = sink.contents();
-        assert_eq!(rt; contents.len() as u64, case.blocks * 4096);
-        assert_eq!(rt; adler(contents), case.adler, "{}", case.name);
+        assert!(rt; contents.len() as u64 == case.blocks * 4096);
+        assert!(rt; adler(contents) == case.adler, "{}", case.name);
     }
     Ok(())
 }
@@ -77,11 +77,10 @@ fn a_refused_put_stops_it(rt: HostRuntime) -> Result<(), Fail> {
     // The used blocks are put at once, and then each block of zeros.
     for (put, kept) in [(1, 0), (2, 57), (200, 255)] {
         let mut sink = MemSink::new(alloc, 256 * 4096, vec![in alloc; put]?)?;
-        assert_eq!(rt;
-            format(alloc, &spec, &mut sink),
-            Err(FormatStop::WriteFault)
+        assert!(rt;
+            format(alloc, &spec, &mut sink) == Err(FormatStop::WriteFault)
+                && sink.contents().len() == kept * 4096
         );
-        assert_eq!(rt; sink.contents().len(), kept * 4096);
     }
     Ok(())
 }

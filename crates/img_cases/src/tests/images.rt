@@ -49,7 +49,7 @@ fn number(image: &[u8], block: usize, at: usize) -> Option<u64> {
 fn assert_numbers(rt: &impl Abort, image: &[u8], numbers: &[Number]) {
     for (block, at, wanted) in numbers {
         let found = number(image, *block, *at);
-        assert_eq!(rt; found, Some(*wanted), "block {block} byte {at}");
+        assert!(rt; found == Some(*wanted), "block {block} byte {at}");
     }
 }
 
@@ -80,7 +80,7 @@ fn assert_rows(rt: &impl Abort, image: &[u8], size: usize, rows: &[Row], small: 
         let wanted = row_in(rows, block)
             .or(row_in(small, block))
             .unwrap_or(empty_row(block));
-        assert_eq!(rt; row_of(image, size, block), Some(wanted));
+        assert!(rt; row_of(image, size, block) == Some(wanted));
     }
 }
 
@@ -100,7 +100,7 @@ fn each_sample_has_its_blocks(rt: HostRuntime) -> Result<(), Fail> {
     for (which, rows) in samples {
         let plan = sample(rt.alloc(), which)?;
         let image = image_of(rt.alloc(), &plan)?;
-        assert_eq!(rt; image.len(), 1_048_576, "{which:?}");
+        assert!(rt; image.len() == 1_048_576, "{which:?}");
         assert_rows(&rt, &image, 4096, rows, rows::SMALL);
     }
     Ok(())
@@ -151,11 +151,11 @@ fn address_blocks_name_groups(rt: HostRuntime) -> Result<(), Fail> {
 fn greater_blocks_hold_the_same(rt: HostRuntime) -> Result<(), Fail> {
     let sizes: [(u32, &[Row]); 2] = [(16384, rows::SMALL_16384), (65536, rows::SMALL_65536)];
     let plan = sample(rt.alloc(), Sample::S)?;
-    assert_eq!(rt; plan.blocks, 256);
+    assert!(rt; plan.blocks == 256);
     for (size, rows) in sizes {
         if plan.valid() && plan.blocks == 256 {
             let image = make_with(rt.alloc(), &plan, size)?;
-            assert_eq!(rt; image.len(), 256 * size as usize);
+            assert!(rt; image.len() == 256 * size as usize);
             assert_rows(&rt, &image, size as usize, rows, &[]);
         }
     }
@@ -165,9 +165,11 @@ fn greater_blocks_hold_the_same(rt: HostRuntime) -> Result<(), Fail> {
 #[test]
 fn a_container_has_the_blocks_that_it_needs(rt: HostRuntime) -> Result<(), Fail> {
     let image = image_of(rt.alloc(), &empty_plan(rt.alloc(), 0))?;
-    assert_eq!(rt; image.len(), 208_896);
-    assert_eq!(rt; number(&image, 2, 40), Some(51));
-    assert_eq!(rt; number(&image, 9, 72), Some(0));
+    assert!(rt;
+        image.len() == 208_896
+            && number(&image, 2, 40) == Some(51)
+            && number(&image, 9, 72) == Some(0)
+    );
     Ok(())
 }
 
@@ -175,9 +177,11 @@ fn a_container_has_the_blocks_that_it_needs(rt: HostRuntime) -> Result<(), Fail>
 fn a_second_chunk_has_no_bitmap(rt: HostRuntime) -> Result<(), Fail> {
     let image = image_of(rt.alloc(), &empty_plan(rt.alloc(), 32_769))?;
     // the address, the blocks with the free ones, and the bitmap of the second chunk
-    assert_eq!(rt; number(&image, 43, 80), Some(32_768));
-    assert_eq!(rt; number(&image, 43, 88), Some(0x0000_0001_0000_0001));
-    assert_eq!(rt; number(&image, 43, 96), Some(0));
+    assert!(rt;
+        number(&image, 43, 80) == Some(32_768)
+            && number(&image, 43, 88) == Some(0x0000_0001_0000_0001)
+            && number(&image, 43, 96) == Some(0)
+    );
     Ok(())
 }
 
@@ -257,7 +261,7 @@ fn a_full_container_has_its_parts(rt: HostRuntime) -> Result<(), Fail> {
     let image = image_of(rt.alloc(), &plan)?;
     assert_numbers(&rt, &image, FULL);
     // 68 blocks from 0 on, the three of the jumpstart, and those of the queue are used
-    assert_eq!(rt; number(&image, 9, 72), Some(1300 - 68 - 3 - 126));
+    assert!(rt; number(&image, 9, 72) == Some(1300 - 68 - 3 - 126));
     Ok(())
 }
 
@@ -265,14 +269,15 @@ fn a_full_container_has_its_parts(rt: HostRuntime) -> Result<(), Fail> {
 fn a_block_is_marked_and_freed(rt: HostRuntime) -> Result<(), Fail> {
     let plan = sample(rt.alloc(), Sample::S)?;
     let mut image = image_of(rt.alloc(), &plan)?;
-    assert!(rt; mark(&mut image, 4096, 200));
-    assert!(rt; !mark(&mut image, 4096, 200));
+    assert!(rt; mark(&mut image, 4096, 200) && !mark(&mut image, 4096, 200));
     // the bit, and the free blocks of the chunk, beside its blocks, and of the container
-    assert_eq!(rt; number(&image, 44, 24), Some(0x100));
-    assert_eq!(rt; number(&image, 43, 56), Some(0x0000_00c6_0000_0100));
-    assert_eq!(rt; number(&image, 9, 72), Some(198));
-    assert!(rt; free(&mut image, 4096, 200));
-    assert!(rt; !free(&mut image, 4096, 200));
+    assert!(rt;
+        number(&image, 44, 24) == Some(0x100)
+            && number(&image, 43, 56) == Some(0x0000_00c6_0000_0100)
+            && number(&image, 9, 72) == Some(198)
+            && free(&mut image, 4096, 200)
+            && !free(&mut image, 4096, 200)
+    );
     assert_rows(&rt, &image, 4096, &[], rows::SMALL);
     Ok(())
 }
@@ -300,6 +305,7 @@ fn images_of_several_checkpoints(rt: HostRuntime) -> Result<(), Fail> {
 
 #[test]
 fn plans_that_ask_too_much_are_refused(rt: HostRuntime) {
-    assert!(rt; empty_plan(rt.alloc(), 1_048_576).valid());
-    assert!(rt; !empty_plan(rt.alloc(), 1_048_577).valid());
+    assert!(rt;
+        empty_plan(rt.alloc(), 1_048_576).valid() && !empty_plan(rt.alloc(), 1_048_577).valid()
+    );
 }

@@ -18,12 +18,16 @@ fn number(bytes: &[u8], at: usize) -> Option<u64> {
 fn attributes_have_their_fields(rt: HostRuntime) -> Result<(), Fail> {
     let (key, value) = attribute(rt.alloc(), 16, b"x", b"abc")?;
     // id and kind, the length of the name with its zero, and the name; flags, length and contents
-    assert_eq!(rt; key.as_slice(), b"\x10\0\0\0\0\0\0\x40\x02\0x\0".as_slice());
-    assert_eq!(rt; value.as_slice(), b"\x02\0\x03\0abc".as_slice());
+    assert!(rt;
+        key.as_slice() == b"\x10\0\0\0\0\0\0\x40\x02\0x\0".as_slice()
+            && value.as_slice() == b"\x02\0\x03\0abc".as_slice()
+    );
     let (_, value) = stream_attribute(rt.alloc(), 16, b"x", 20, 5)?;
-    assert_eq!(rt; value.len(), 52);
-    assert_eq!(rt; number(&value, 0), Some(0x0014_0030_0001));
-    assert_eq!(rt; number(&value, 12), Some(5));
+    assert!(rt;
+        value.len() == 52
+            && number(&value, 0) == Some(0x0014_0030_0001)
+            && number(&value, 12) == Some(5)
+    );
     Ok(())
 }
 
@@ -35,16 +39,15 @@ fn a_queued_range_has_its_fields(rt: HostRuntime) -> Result<(), Fail> {
         length: 2,
     };
     let (key, value) = queue_record(rt.alloc(), &entry)?;
-    assert_eq!(rt; number(&key, 0), Some(3));
-    assert_eq!(rt; number(&key, 8), Some(60));
-    assert_eq!(rt; number(&value, 0), Some(2));
+    assert!(rt;
+        number(&key, 0) == Some(3) && number(&key, 8) == Some(60) && number(&value, 0) == Some(2)
+    );
     Ok(())
 }
 
 #[test]
 fn records_stand_by_their_rank(rt: HostRuntime) -> Result<(), Fail> {
     let (key, _) = file_extent(rt.alloc(), 16, 4096, 4096, 57)?;
-    assert_eq!(rt; rank(&key), (16, 8, 4096));
-    assert_eq!(rt; rank(b"short"), (0, 0, 0));
+    assert!(rt; rank(&key) == (16, 8, 4096) && rank(b"short") == (0, 0, 0));
     Ok(())
 }

@@ -72,11 +72,11 @@ fn gives_the_image<S: BlockSource>(alloc: Global, source: &mut S) -> Result<bool
 fn a_small_and_a_large_cache_give_the_same_bytes(rt: HostRuntime) -> Result<(), Fail> {
     let mut small = cached(rt.alloc(), SIZE, 3)?;
     let mut large = cached(rt.alloc(), SIZE, 256)?;
-    assert!(rt; gives_the_image(rt.alloc(), &mut small)?);
-    assert!(rt; gives_the_image(rt.alloc(), &mut large)?);
+    assert!(rt;
+        gives_the_image(rt.alloc(), &mut small)? && gives_the_image(rt.alloc(), &mut large)?
+    );
     // Block 3 is never the last one that a piece touches.
-    assert!(rt; keeps(&small, &[(4, true), (0, false)]));
-    assert!(rt; keeps(&large, &[(0, true), (3, false)]));
+    assert!(rt; keeps(&small, &[(4, true), (0, false)]) && keeps(&large, &[(0, true), (3, false)]));
     Ok(())
 }
 
@@ -98,16 +98,18 @@ fn what_is_kept_is_not_read_again(rt: HostRuntime) -> Result<(), Fail> {
     let alloc = rt.alloc();
     let source = MemSource::new(image(alloc)?, vec![in alloc; 2]?);
     let mut cached = Cached::new(alloc, source, 4096, 256).or(Err("no memory"))?;
-    assert!(rt; piece(alloc, &mut cached, 0, 4096).is_ok());
-    assert!(rt; piece(alloc, &mut cached, 4090, 10).is_err());
-    assert!(rt; cached.kept(0) && !cached.kept(1));
+    assert!(rt;
+        piece(alloc, &mut cached, 0, 4096).is_ok()
+            && piece(alloc, &mut cached, 4090, 10).is_err()
+            && cached.kept(0)
+            && !cached.kept(1)
+    );
     // After block 0 and the read that is refused: block 1, blocks 2 and 3 at once, 4, 2, and what is asked of 3.
     read_all(alloc, &mut cached)?;
     assert!(rt; counts(&cached) == (7, 0));
     // Block 3 alone isn't kept, and two pieces touch it.
     read_all(alloc, &mut cached)?;
-    assert!(rt; counts(&cached) == (9, 0));
-    assert!(rt; cached.into_inner().fault_count() == 1);
+    assert!(rt; counts(&cached) == (9, 0) && cached.into_inner().fault_count() == 1);
     Ok(())
 }
 

@@ -15,7 +15,7 @@ fn seen<K: TreeKey>(key: &[u8]) -> Option<(u64, u64, u64, bool)> {
 
 fn read_all<K: TreeKey>(rt: &impl Abort, cases: &[Case]) {
     for (key, expected) in cases {
-        assert_eq!(rt; seen::<K>(key), *expected, "{key:?}");
+        assert!(rt; seen::<K>(key) == *expected, "{key:?}");
     }
 }
 
@@ -119,17 +119,21 @@ fn parts<K: FsTreeKey>(key: &[u8]) -> Option<(u64, u8, bool)> {
 #[test]
 fn keys_of_file_systems(rt: HostRuntime) {
     let extent = [2, 0, 0, 0, 0, 0, 0, 0x80, 0, 16, 0, 0, 0, 0, 0, 0];
-    assert_eq!(rt; parts::<FsKey>(&extent), Some((2, 8, true)));
-    assert_eq!(rt; parts::<FsPlainKey>(&extent), Some((2, 8, false)));
-    assert_eq!(rt; parts::<FsPlainKey>(&extent[..15]), None);
+    assert!(rt;
+        parts::<FsKey>(&extent) == Some((2, 8, true))
+            && parts::<FsPlainKey>(&extent) == Some((2, 8, false))
+            && parts::<FsPlainKey>(&extent[..15]) == None
+    );
 }
 
 #[test]
 fn ranks_are_ordered_by_their_fields(rt: HostRuntime) {
-    assert!(rt; rank(1, 9, 9).is_below(&rank(2, 0, 0)));
-    assert!(rt; rank(2, 3, 9) < rank(2, 9, 0));
-    assert!(rt; rank(2, 9, 4) < rank(2, 9, 5));
-    assert!(rt; !rank(2, 9, 5).is_below(&rank(2, 9, 5)));
+    assert!(rt;
+        rank(1, 9, 9).is_below(&rank(2, 0, 0))
+            && rank(2, 3, 9) < rank(2, 9, 0)
+            && rank(2, 9, 4) < rank(2, 9, 5)
+            && !rank(2, 9, 5).is_below(&rank(2, 9, 5))
+    );
 }
 
 #[test]
@@ -140,18 +144,22 @@ fn values_of_an_object_map(rt: HostRuntime) {
         size: 4096,
         paddr: 61,
     };
-    assert_eq!(rt; omap_value(&value[..]), Some(place));
-    assert_eq!(rt; omap_value(&value[..15]), None);
-    assert_eq!(rt; omap_snap_flags(&value[..]), Some(4));
-    assert_eq!(rt; omap_snap_flags(&value[..15]), None);
+    assert!(rt;
+        omap_value(&value[..]) == Some(place)
+            && omap_value(&value[..15]) == None
+            && omap_snap_flags(&value[..]) == Some(4)
+            && omap_snap_flags(&value[..15]) == None
+    );
 }
 
 #[test]
 fn values_of_a_queue(rt: HostRuntime) {
     let value = [61, 0, 0, 0, 0, 0, 0, 0];
-    assert_eq!(rt; queue_length(None), Some(1));
-    assert_eq!(rt; queue_length(Some(&value[..])), Some(61));
-    assert_eq!(rt; queue_length(Some(&value[1..])), None);
+    assert!(rt;
+        queue_length(None) == Some(1)
+            && queue_length(Some(&value[..])) == Some(61)
+            && queue_length(Some(&value[1..])) == None
+    );
 }
 
 #[test]
@@ -165,6 +173,5 @@ fn values_of_ranges(rt: HostRuntime) {
         owner: 16,
         count: -1,
     };
-    assert_eq!(rt; ext_value(&value[..]), Some(range));
-    assert_eq!(rt; ext_value(&value[..19]), None);
+    assert!(rt; ext_value(&value[..]) == Some(range) && ext_value(&value[..19]) == None);
 }

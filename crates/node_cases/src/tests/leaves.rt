@@ -151,7 +151,7 @@ fn leaves_below(
     root: u64,
 ) -> Result<(Option<Leaves>, u64), AllocError> {
     let image = tall_image(alloc)?;
-    assert_eq!(rt; image.len(), 45056);
+    assert!(rt; image.len() == 45056);
     let mut source = MemSource::new(image, Vec::new(alloc));
     let site = Site {
         block_size: 4096,
@@ -177,8 +177,9 @@ fn leaves_are_taken_by_the_nodes_above_them(rt: HostRuntime) -> Result<(), Fail>
         Leaf { oid: 2, block: 2 },
         Leaf { oid: 3, block: 3 },
     ];
-    assert!(&rt; found.is_some_and(|leaves| leaves.0.as_slice() == expected.as_slice()));
-    assert_eq!(&rt; reads, 3);
+    assert!(rt;
+        found.is_some_and(|leaves| leaves.0.as_slice() == expected.as_slice()) && reads == 3
+    );
     let (small, _) = leaves_below(&rt, rt.alloc(), 10)?;
     assert!(&rt; small.is_some());
     Ok(())

@@ -160,7 +160,7 @@ const CASES: &[Case] = &[
 #[test]
 fn the_first_failing_test_is_named(rt: HostRuntime) {
     for (name, expected, edits) in CASES {
-        assert_eq!(rt; fault::<OmapKey>(&made(edits), &AT), *expected, "{name}");
+        assert!(rt; fault::<OmapKey>(&made(edits), &AT) == *expected, "{name}");
     }
 }
 
@@ -188,7 +188,7 @@ fn levels_are_compared_in_their_turn(rt: HostRuntime) {
         ..AT
     };
     for (name, expected, edits) in LEVEL_CASES {
-        assert_eq!(rt; fault::<OmapKey>(&made(edits), &at), *expected, "{name}");
+        assert!(rt; fault::<OmapKey>(&made(edits), &at) == *expected, "{name}");
     }
 }
 
@@ -216,7 +216,7 @@ fn keys_are_read_last(rt: HostRuntime) {
         let mut node = made(FS);
         put(&mut node, edits);
         seal(&mut node);
-        assert_eq!(rt; fault::<FsKey>(&node, &AT), *expected, "{name}");
+        assert!(rt; fault::<FsKey>(&node, &AT) == *expected, "{name}");
     }
 }
 
@@ -226,13 +226,14 @@ fn an_entry_is_lent_from_its_block(rt: HostRuntime) -> Result<(), Fail> {
     let Ok(read) = NodeView::<OmapKey>::read(&node[..], &AT, &SITE) else {
         return Err(Fail::from("not sound"));
     };
-    assert_eq!(rt; read.level(), 0);
-    assert_eq!(rt; read.len(), 1);
+    assert!(rt; read.level() == 0 && read.len() == 1);
     let view = NodeView::<OmapKey>::kept(&node[..], &AT, &SITE);
     let entry = view.entry(0);
-    assert_eq!(rt; entry.key_bytes, &node[60..76]);
-    assert_eq!(rt; entry.value, Some(&node[4040..4056]));
-    assert_eq!(rt; entry.key, OmapKey { oid: 5, xid: 0 });
+    assert!(rt;
+        entry.key_bytes == &node[60..76]
+            && entry.value == Some(&node[4040..4056])
+            && entry.key == OmapKey { oid: 5, xid: 0 }
+    );
     Ok(())
 }
 
@@ -242,11 +243,9 @@ fn a_root_without_entries_is_sound(rt: HostRuntime) -> Result<(), Fail> {
     let Ok(view) = NodeView::<OmapKey>::read(&node[..], &AT, &SITE) else {
         return Err(Fail::from("not sound"));
     };
-    assert_eq!(rt; view.len(), 0);
+    assert!(rt; view.len() == 0);
     let info = view.info().ok_or("no root")?;
-    assert_eq!(rt; info.node_size, 4096);
-    assert_eq!(rt; info.key_count, 1);
-    assert_eq!(rt; info.node_count, 1);
+    assert!(rt; info.node_size == 4096 && info.key_count == 1 && info.node_count == 1);
     Ok(())
 }
 
@@ -258,10 +257,10 @@ fn ghosts_and_both_layouts(rt: HostRuntime) -> Result<(), Fail> {
         return Err(Fail::from("not sound"));
     };
     if view.len() == 1 {
-        assert_eq!(rt; view.entry(0).value, None);
+        assert!(rt; view.entry(0).value == None);
     }
     let fixed = made(&[(SUBTYPE, 0xf), (VALUE_OFFSET, 20), (66, 0x2000)]);
-    assert_eq!(rt; fault::<ExtKey>(&fixed, &AT), None);
+    assert!(rt; fault::<ExtKey>(&fixed, &AT) == None);
     let variable = made(&[
         (SUBTYPE, 0xf),
         (FLAGS, 3),
@@ -271,7 +270,7 @@ fn ghosts_and_both_layouts(rt: HostRuntime) -> Result<(), Fail> {
         (62, 20),
         (70, 0x2000),
     ]);
-    assert_eq!(rt; fault::<ExtKey>(&variable, &AT), None);
+    assert!(rt; fault::<ExtKey>(&variable, &AT) == None);
     Ok(())
 }
 
@@ -282,7 +281,7 @@ fn a_node_above_the_leaves_names_children(rt: HostRuntime) -> Result<(), Fail> {
         return Err(Fail::from("not sound"));
     };
     if view.len() == 1 && view.level() == 1 {
-        assert_eq!(rt; view.child(0), 9 + 0x0100_0000_0000_0000);
+        assert!(rt; view.child(0) == 9 + 0x0100_0000_0000_0000);
     }
     Ok(())
 }
@@ -393,9 +392,11 @@ fn larger_nodes_end_where_their_blocks_do(rt: HostRuntime) -> Result<(), Fail> {
         let last = view.len().saturating_sub(1);
         assert!(rt; last < view.len());
         let entry = view.entry(last);
-        assert_eq!(rt; entry.key, OmapKey { oid: 5, xid: 1 });
-        assert_eq!(rt; Some(entry.key_bytes), node.get(key.0..key.1));
-        assert_eq!(rt; entry.value, node.get(value.0..value.1));
+        assert!(rt;
+            entry.key == OmapKey { oid: 5, xid: 1 }
+                && Some(entry.key_bytes) == node.get(key.0..key.1)
+                && entry.value == node.get(value.0..value.1)
+        );
     }
     Ok(())
 }

@@ -23,18 +23,20 @@ fn sums(rt: HostRuntime) {
         ([1; 131112].as_slice(), 0x8888_8888_eeee_eeee),
     ] {
         assert!(rt; bytes.len() >= 12 && bytes.len() % 4 == 0);
-        assert_eq!(rt; sum64(bytes), sum, "{} bytes", bytes.len());
+        assert!(rt; sum64(bytes) == sum, "{} bytes", bytes.len());
     }
     let stored = sum64(&first_word).to_le_bytes();
-    assert_eq!(rt; stored, [0, 0xfc, 0xff, 0xff, 0xfe, 3, 0, 0]);
+    assert!(rt; stored == [0, 0xfc, 0xff, 0xff, 0xfe, 3, 0, 0]);
 }
 
 #[test]
 fn numbers_have_the_lowest_byte_first(rt: HostRuntime) {
     let bytes = [9, 1, 2, 3, 4, 5, 6, 7, 8];
-    assert_eq!(rt; u16_at(&bytes, 1), 0x0201);
-    assert_eq!(rt; u32_at(&bytes, 1), 0x0403_0201);
-    assert_eq!(rt; u64_at(&bytes, 1), 0x0807_0605_0403_0201);
+    assert!(rt;
+        u16_at(&bytes, 1) == 0x0201
+            && u32_at(&bytes, 1) == 0x0403_0201
+            && u64_at(&bytes, 1) == 0x0807_0605_0403_0201
+    );
 }
 
 // An object map of oid 5 and transaction 3; its sum was worked out apart.
@@ -56,11 +58,10 @@ fn a_header_is_tested(rt: HostRuntime) {
     let Ok(header) = sound(&OBJECT, &expected) else {
         panic!(rt; "it isn't sound");
     };
-    assert_eq!(rt;
-        (header.oid, header.xid, header.kind, header.subtype),
-        (5, 3, 11, 7)
+    assert!(rt;
+        (header.oid, header.xid, header.kind, header.subtype) == (5, 3, 11, 7)
+            && header.flags.contains(ObjFlags::PHYSICAL)
     );
-    assert!(rt; header.flags.contains(ObjFlags::PHYSICAL));
     let earlier = Expect {
         max_xid: 2,
         ..EXPECTED
@@ -70,8 +71,10 @@ fn a_header_is_tested(rt: HostRuntime) {
 
 #[test]
 fn causes_are_carried(rt: HostRuntime) {
-    assert!(rt; Stop::<HeadFault>::from(ReadFailed) == Stop::ReadFault);
-    assert!(rt; Stop::<HeadFault>::from(NoMemory) == Stop::NoMemory);
+    assert!(rt;
+        Stop::<HeadFault>::from(ReadFailed) == Stop::ReadFault
+            && Stop::<HeadFault>::from(NoMemory) == Stop::NoMemory
+    );
     let sum = Bad::Found(HeadFault::BadSum).in_block(7);
     assert!(rt;
         sum == Stop::Found(Unsound {
@@ -88,7 +91,10 @@ fn causes_are_carried(rt: HostRuntime) {
             }
     );
     let raised = Stop::Found(HeadFault::BadSum).map(Bad::Found);
-    assert!(rt; raised == Stop::Found(Bad::Found(HeadFault::BadSum)));
-    assert_eq!(rt; Feature::LaterTree.name(), "LaterTree");
-    assert!(rt; is_accepted(4096) && !is_accepted(4097));
+    assert!(rt;
+        raised == Stop::Found(Bad::Found(HeadFault::BadSum))
+            && Feature::LaterTree.name() == "LaterTree"
+            && is_accepted(4096)
+            && !is_accepted(4097)
+    );
 }

@@ -58,15 +58,11 @@ fn an_inode_is_read(rt: HostRuntime) -> Result<(), Fail> {
     let read = inode(&value);
     assert!(rt; read.is_ok());
     if let Ok(inode) = read {
-        assert_eq!(rt;
-            (inode.parent(), inode.private_id(), inode.links()),
-            (2, 16, 1)
+        assert!(rt;
+            (inode.parent(), inode.private_id(), inode.links()) == (2, 16, 1)
+                && (inode.bsd_flags(), inode.mode(), inode.kind()) == (0x20, 0x8100, 8)
+                && inode.stream() == Some(STREAM)
         );
-        assert_eq!(rt;
-            (inode.bsd_flags(), inode.mode(), inode.kind()),
-            (0x20, 0x8100, 8)
-        );
-        assert_eq!(rt; inode.stream(), Some(STREAM));
     }
     for (len, why) in [
         (91, RecFault::Length),
@@ -126,8 +122,10 @@ fn is_refused<T: Drop>(read: Result<T, RecFault>, why: RecFault) -> bool {
 #[test]
 #[tactic(auto, unfolding(bt_keys::specs::RecordKey::plain_name_len, bt_keys::specs::RecordKey::len_and_hash_of, apfs_model::specs::Bytes::u16_at, apfs_model::specs::Bytes::u32_at))]
 fn an_entry_is_read(rt: HostRuntime) {
-    assert!(rt; is_hello(entry(Names::Folded, HASHED_KEY, ENTRY_VALUE), 0x12345));
-    assert!(rt; is_hello(entry(Names::Exact, PLAIN_KEY, ENTRY_VALUE), 0));
+    assert!(rt;
+        is_hello(entry(Names::Folded, HASHED_KEY, ENTRY_VALUE), 0x12345)
+            && is_hello(entry(Names::Exact, PLAIN_KEY, ENTRY_VALUE), 0)
+    );
     let short = entry(Names::Exact, PLAIN_KEY, &ENTRY_VALUE[..17]);
     assert!(rt; is_refused(short, RecFault::Length));
     let cut = entry(Names::Exact, PLAIN_KEY, &ENTRY_VALUE[..33]);
@@ -142,15 +140,14 @@ fn an_attribute_is_read(rt: HostRuntime) -> Result<(), Fail> {
     let embedded = attr(PLAIN_KEY, &[2, 0, 3, 0, 7, 8, 9]);
     assert!(rt; embedded.is_ok());
     if let Ok(attr) = embedded {
-        assert_eq!(rt; attr.name(), "hello");
-        assert_eq!(rt; attr.body(), AttrBody::Embedded(&[7, 8, 9]));
+        assert!(rt; attr.name() == "hello" && attr.body() == AttrBody::Embedded(&[7, 8, 9]));
     }
     let mut value = vec![in rt.alloc(); 0u8; 52]?;
     value[..13].copy_from_slice(&[1, 0, 48, 0, 20, 0, 0, 0, 0, 0, 0, 0, 5]);
     let streamed = attr(PLAIN_KEY, &value);
     assert!(rt; streamed.is_ok());
     if let Ok(attr) = streamed {
-        assert_eq!(rt; attr.body(), AttrBody::Stream { id: 20, size: 5 });
+        assert!(rt; attr.body() == AttrBody::Stream { id: 20, size: 5 });
     }
     for (value, why) in [
         ([2, 0, 0].as_slice(), RecFault::Length),
@@ -172,8 +169,9 @@ fn siblings_are_read(rt: HostRuntime) {
     let read = sibling_link(SECOND_KEY, &[2, 0, 0, 0, 0, 0, 0, 0, 2, 0, b'a', 0]);
     assert!(rt; read.is_ok());
     if let Ok(link) = read {
-        assert_eq!(rt; (link.file(), link.sibling(), link.parent()), (16, 18, 2));
-        assert_eq!(rt; link.name(), "a");
+        assert!(rt;
+            (link.file(), link.sibling(), link.parent()) == (16, 18, 2) && link.name() == "a"
+        );
     }
     for (value, why) in [
         ([2, 0, 0, 0, 0, 0, 0, 0, 2].as_slice(), RecFault::Length),
@@ -183,8 +181,10 @@ fn siblings_are_read(rt: HostRuntime) {
         let refused = sibling_link(SECOND_KEY, value);
         assert!(rt; matches!(refused, Err(found) if found == why), "{why:?}");
     }
-    assert_eq!(rt; sibling_map(&[16, 0, 0, 0, 0, 0, 0, 0]), Ok(16));
-    assert_eq!(rt; sibling_map(&[16]), Err(RecFault::Length));
+    assert!(rt;
+        sibling_map(&[16, 0, 0, 0, 0, 0, 0, 0]) == Ok(16)
+            && sibling_map(&[16]) == Err(RecFault::Length)
+    );
 }
 
 #[test]
@@ -198,8 +198,10 @@ fn an_extent_is_read(rt: HostRuntime) {
         length: 4096,
         block: 57,
     };
-    assert_eq!(rt; file_ext(SECOND_KEY, &value), Ok(extent));
-    assert_eq!(rt; file_ext(SECOND_KEY, &value[..23]), Err(RecFault::Length));
+    assert!(rt;
+        file_ext(SECOND_KEY, &value) == Ok(extent)
+            && file_ext(SECOND_KEY, &value[..23]) == Err(RecFault::Length)
+    );
 }
 
 #[test]
@@ -217,7 +219,7 @@ fn an_extent_has_the_blocks_of_its_length(rt: HostRuntime) {
             length,
             block: 57,
         };
-        assert_eq!(rt; extent.blocks(4096), wanted);
+        assert!(rt; extent.blocks(4096) == wanted);
     }
 }
 
@@ -274,23 +276,18 @@ const RECORDS: &[(&[u8], &[u8], Option<RecFault>)] = &[
 #[test]
 fn records_are_refused_by_their_readers(rt: HostRuntime) {
     for (key, value, want) in RECORDS {
-        assert_eq!(rt; why::<FsKey>(Names::Normal, key, value), *want, "{key:?}");
-        assert_eq!(rt;
-            why::<FsPlainKey>(Names::Exact, key, value),
-            *want,
+        assert!(rt;
+            why::<FsKey>(Names::Normal, key, value) == *want
+                && why::<FsPlainKey>(Names::Exact, key, value) == *want,
             "{key:?}"
         );
     }
     let short = Some(RecFault::Length);
-    assert_eq!(rt; why::<FsKey>(Names::Folded, HASHED_KEY, ENTRY_VALUE), None);
-    assert_eq!(rt;
-        why::<FsKey>(Names::Folded, HASHED_KEY, &ENTRY_VALUE[..17]),
-        short
-    );
-    assert_eq!(rt;
-        why::<FsPlainKey>(Names::Exact, PLAIN_KEY, ENTRY_VALUE),
-        None
+    assert!(rt;
+        why::<FsKey>(Names::Folded, HASHED_KEY, ENTRY_VALUE) == None
+            && why::<FsKey>(Names::Folded, HASHED_KEY, &ENTRY_VALUE[..17]) == short
+            && why::<FsPlainKey>(Names::Exact, PLAIN_KEY, ENTRY_VALUE) == None
     );
     let unnamed = why::<FsPlainKey>(Names::Exact, UNNAMED_KEY, &ENTRY_VALUE[..18]);
-    assert_eq!(rt; unnamed, Some(RecFault::Name));
+    assert!(rt; unnamed == Some(RecFault::Name));
 }

@@ -89,8 +89,7 @@ fn assert_line<K: TreeKey>(
     let image = tree_image(alloc, 4096, form, nodes)?;
     let mut passed = Vec::new(alloc);
     let stop = line::<K>(alloc, image, Vec::new(alloc), &mut passed);
-    assert_eq!(rt; stop, end);
-    assert_eq!(rt; passed.as_slice(), items);
+    assert!(rt; stop == end && passed.as_slice() == items);
     Ok(())
 }
 
@@ -105,8 +104,7 @@ fn assert_flat<K: TreeKey>(
 ) -> Result<(), Fail> {
     let image = tree_image(alloc, 4096, form, nodes)?;
     let mut passed = Vec::new(alloc);
-    assert_eq!(rt; flat::<K>(alloc, image, from, &mut passed), end);
-    assert_eq!(rt; passed.as_slice(), items);
+    assert!(rt; flat::<K>(alloc, image, from, &mut passed) == end && passed.as_slice() == items);
     Ok(())
 }
 
@@ -182,8 +180,7 @@ fn a_failed_read(rt: HostRuntime) -> Result<(), Fail> {
     let fails = vec![in rt.alloc(); 3u64; 1]?;
     let mut items = Vec::new(rt.alloc());
     let stop = line::<QueueKey>(rt.alloc(), image, fails, &mut items);
-    assert_eq!(rt; stop, Err(Stop::ReadFault));
-    assert_eq!(rt; items.as_slice(), &[(2, 1, 0), (1, 1, 0)][..]);
+    assert!(rt; stop == Err(Stop::ReadFault) && items.as_slice() == &[(2, 1, 0), (1, 1, 0)][..]);
     Ok(())
 }
 
@@ -253,9 +250,7 @@ fn larger_blocks(rt: HostRuntime) -> Result<(), Fail> {
     assert!(rt; image.len() >= 131072);
     let mut src = MemSource::new(image, Vec::new(rt.alloc()));
     let mut cursor = Cursor::<QueueKey, Physical>::new(rt.alloc(), &mut src, PHYSICAL, 1, site)?;
-    assert!(rt; cursor.next(&mut src)?);
-    assert_eq!(rt; cursor.item().key.xid, 7);
-    assert!(rt; !cursor.next(&mut src)?);
+    assert!(rt; cursor.next(&mut src)? && cursor.item().key.xid == 7 && !cursor.next(&mut src)?);
     Ok(())
 }
 

@@ -84,13 +84,9 @@ fn a_file_is_written(rt: HostRuntime) -> Result<(), Fail> {
         "/hello.txt",
         &mut out,
     );
-    assert_eq!(rt; end, Ok(()));
-    assert_eq!(rt; out.contents(), b"hello".as_slice());
+    assert!(rt; end == Ok(()) && out.contents() == b"hello".as_slice());
     let end = cat(alloc, &mut src, &volume, &view, &site, "/l", &mut out);
-    assert_eq!(rt;
-        end,
-        Err(WriteStop::Stopped(Stop::Found(PathStop::Answer(Answer::NotFile))))
-    );
+    assert!(rt; end == Err(WriteStop::Stopped(Stop::Found(PathStop::Answer(Answer::NotFile)))));
     Ok(())
 }
 
@@ -106,8 +102,10 @@ fn withheld_at(alloc: Global, path: &str) -> Result<Option<Answer>, Fail> {
 
 #[test]
 fn contents_are_those_of_a_file(rt: HostRuntime) -> Result<(), Fail> {
-    assert_eq!(rt; withheld_at(rt.alloc(), "/hello.txt")?, None);
-    assert_eq!(rt; withheld_at(rt.alloc(), "/l")?, Some(Answer::NotFile));
+    assert!(rt;
+        withheld_at(rt.alloc(), "/hello.txt")? == None
+            && withheld_at(rt.alloc(), "/l")? == Some(Answer::NotFile)
+    );
     Ok(())
 }
 
@@ -121,7 +119,7 @@ fn attributes_are_listed_by_name(rt: HostRuntime) -> Result<(), Fail> {
     };
     let first = (Bytes::from_slice(alloc, b"b")?, 3);
     let second = (Bytes::from_slice(alloc, b"com.apple.fs.symlink")?, 6);
-    assert_eq!(rt; listed, vec![in alloc; first, second]?);
+    assert!(rt; listed == vec![in alloc; first, second]?);
     Ok(())
 }
 
@@ -139,16 +137,13 @@ fn written(alloc: Global, name: &str) -> Result<(Result<(), WriteStop>, Vec<u8>)
 fn an_attribute_is_written(rt: HostRuntime) -> Result<(), Fail> {
     let alloc = rt.alloc();
     let (end, bytes) = written(alloc, "com.apple.fs.symlink")?;
-    assert_eq!(rt; end, Ok(()));
-    assert_eq!(rt; bytes.as_slice(), b"hello\0".as_slice());
+    assert!(rt; end == Ok(()) && bytes.as_slice() == b"hello\0".as_slice());
     let (end, bytes) = written(alloc, "b")?;
-    assert_eq!(rt; end, Ok(()));
-    assert_eq!(rt; bytes.as_slice(), b"hel".as_slice());
+    assert!(rt; end == Ok(()) && bytes.as_slice() == b"hel".as_slice());
     let (end, bytes) = written(alloc, "com.apple.fs.symlin")?;
-    assert_eq!(rt;
-        end,
-        Err(WriteStop::Stopped(Stop::Found(PathStop::Answer(Answer::NoAttribute))))
+    assert!(rt;
+        end == Err(WriteStop::Stopped(Stop::Found(PathStop::Answer(Answer::NoAttribute))))
+            && bytes.len() == 0
     );
-    assert_eq!(rt; bytes.len(), 0);
     Ok(())
 }

@@ -134,9 +134,9 @@ fn told(
 type Held = &'static [(u64, u64, u64)];
 
 fn assert_held(rt: &impl Abort, usage: &Usage, held: &[(u64, u64, u64)], all: u64) {
-    assert_eq!(rt; (usage.views.len(), usage.all), (held.len(), all));
+    assert!(rt; (usage.views.len(), usage.all) == (held.len(), all));
     for (view, (xid, blocks, only)) in usage.views.iter().zip(held) {
-        assert_eq!(rt; (view.xid, view.held, view.only), (*xid, *blocks, *only));
+        assert!(rt; (view.xid, view.held, view.only) == (*xid, *blocks, *only));
     }
 }
 
@@ -214,7 +214,7 @@ fn which_node_is_wrong(rt: HostRuntime) -> Result<(), Fail> {
             why: NodeFault::Head(HeadFault::BadSum),
         };
         let got = told(alloc, image, 0, Vec::new(alloc)).err();
-        assert_eq!(rt; got, Some(Stop::Found(UseFault::Walk { xid, why })));
+        assert!(rt; got == Some(Stop::Found(UseFault::Walk { xid, why })));
     }
     Ok(())
 }
@@ -240,7 +240,7 @@ fn which_extent_is_wrong(rt: HostRuntime) -> Result<(), Fail> {
         value.truncate(bytes);
         let image = made(alloc, &with_extent(alloc, &value)?)?;
         let got = told(alloc, image, 0, Vec::new(alloc)).err();
-        assert_eq!(rt; got, want.map(Stop::Found));
+        assert!(rt; got == want.map(Stop::Found));
     }
     Ok(())
 }
@@ -254,11 +254,10 @@ fn each_read_fails_in_turn(rt: HostRuntime) -> Result<(), Fail> {
         fails.push(number)?;
         match told(alloc, image.to_vec(alloc)?, 0, fails) {
             Ok(usage) => {
-                assert_eq!(rt; usage.all, 9);
-                assert!(rt; number > 9);
+                assert!(rt; usage.all == 9 && number > 9);
                 return Ok(());
             }
-            Err(stop) => assert_eq!(rt; stop, Stop::ReadFault),
+            Err(stop) => assert!(rt; stop == Stop::ReadFault),
         }
     }
     panic!(rt; "there are no 200 reads")

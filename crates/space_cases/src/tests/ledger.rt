@@ -34,8 +34,10 @@ fn claims(rt: HostRuntime) -> Result<(), Fail> {
         (99, 1, Ok(()), 11),
     ] {
         let mut ledger = ten_of_a_hundred(rt.alloc())?;
-        assert_eq!(rt; ledger.claim(first, length), want, "{first} {length}");
-        assert_eq!(rt; ledger.held(), held, "{first} {length}");
+        assert!(rt;
+            ledger.claim(first, length) == want && ledger.held() == held,
+            "{first} {length}"
+        );
     }
     Ok(())
 }
@@ -43,8 +45,7 @@ fn claims(rt: HostRuntime) -> Result<(), Fail> {
 #[test]
 fn long_claims(rt: HostRuntime) -> Result<(), Fail> {
     let mut ledger = Ledger::new(rt.alloc(), 1000, 5003)?;
-    assert_eq!(rt; ledger.claim(1003, 4000), Ok(()));
-    assert_eq!(rt; ledger.held(), 4000);
+    assert!(rt; ledger.claim(1003, 4000) == Ok(()) && ledger.held() == 4000);
     for (block, want) in [
         (999, false),
         (1002, false),
@@ -56,27 +57,25 @@ fn long_claims(rt: HostRuntime) -> Result<(), Fail> {
         (6002, false),
         (6003, false),
     ] {
-        assert_eq!(rt; ledger.holds(block), want, "{block}");
+        assert!(rt; ledger.holds(block) == want, "{block}");
     }
-    assert_eq!(rt; ledger.claim(5003, 1000), Ok(()));
-    assert_eq!(rt;
-        ledger.claim(1000, 5003),
-        Err(ClaimFault::Twice { block: 1003 })
+    assert!(rt;
+        ledger.claim(5003, 1000) == Ok(())
+            && ledger.claim(1000, 5003) == Err(ClaimFault::Twice { block: 1003 })
+            && ledger.held() == 5000
     );
-    assert_eq!(rt; ledger.held(), 5000);
     Ok(())
 }
 
 #[test]
 fn a_claim_finds_a_block_far_away(rt: HostRuntime) -> Result<(), Fail> {
     let mut ledger = Ledger::new(rt.alloc(), 0, 5000)?;
-    assert_eq!(rt; ledger.claim(4321, 1), Ok(()));
-    assert_eq!(rt;
-        ledger.claim(3, 4997),
-        Err(ClaimFault::Twice { block: 4321 })
+    assert!(rt;
+        ledger.claim(4321, 1) == Ok(())
+            && ledger.claim(3, 4997) == Err(ClaimFault::Twice { block: 4321 })
+            && ledger.claim(3, 4318) == Ok(())
+            && ledger.held() == 4319
     );
-    assert_eq!(rt; ledger.claim(3, 4318), Ok(()));
-    assert_eq!(rt; ledger.held(), 4319);
     Ok(())
 }
 
@@ -97,7 +96,7 @@ fn differences(rt: HostRuntime) -> Result<(), Fail> {
     ] {
         assert!(rt; first % 8 == 0 && first <= 64 && blocks <= 32);
         let found = ledger.compare(first, blocks, &bits);
-        assert_eq!(rt; found, want, "{first} {blocks} {bits:?}");
+        assert!(rt; found == want, "{first} {blocks} {bits:?}");
     }
     Ok(())
 }
@@ -110,11 +109,10 @@ fn parts_are_held(rt: HostRuntime) -> Result<(), Fail> {
     ledger.hold(102, 3);
     ledger.hold(0, 100);
     ledger.hold(u64::MAX, 5);
-    assert_eq!(rt; ledger.held(), 15);
+    assert!(rt; ledger.held() == 15);
     ledger.restart(1000);
-    assert_eq!(rt; ledger.held(), 0);
+    assert!(rt; ledger.held() == 0);
     ledger.hold(1049, 7);
-    assert_eq!(rt; ledger.held(), 1);
-    assert!(rt; ledger.holds(1049));
+    assert!(rt; ledger.held() == 1 && ledger.holds(1049));
     Ok(())
 }

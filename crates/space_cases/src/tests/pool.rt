@@ -63,9 +63,11 @@ fn two_blocks_of_the_pool_are_marked(rt: HostRuntime) -> Result<(), Fail> {
     let Ok(bits) = bits(alloc, image(alloc, &plan, &[])?) else {
         panic!(rt; "there are no bits");
     };
-    assert_eq!(rt; bits.len(), 4096);
-    assert_eq!(rt; bits.first().copied(), Some(3));
-    assert!(rt; bits.iter().skip(1).all(|byte| *byte == 0));
+    assert!(rt;
+        bits.len() == 4096
+            && bits.first().copied() == Some(3)
+            && bits.iter().skip(1).all(|byte| *byte == 0)
+    );
     Ok(())
 }
 
@@ -82,10 +84,7 @@ fn what_is_wrong_with_the_bitmap(rt: HostRuntime) -> Result<(), Fail> {
         (&[(POOL_BITMAP_SIZE, &[0])], PoolFault::Count),
     ];
     for (edits, fault) in cases {
-        assert_eq!(rt;
-            bits(alloc, image(alloc, &plan, edits)?).err(),
-            Some(Stop::Found(fault))
-        );
+        assert!(rt; bits(alloc, image(alloc, &plan, edits)?).err() == Some(Stop::Found(fault)));
     }
     Ok(())
 }
@@ -106,7 +105,7 @@ fn what_waits_in_a_queue(rt: HostRuntime) -> Result<(), Fail> {
         .iter()
         .map(|entry| (entry.xid, entry.paddr, entry.length))
         .collect::<Vec<_>>(alloc)?;
-    assert_eq!(rt; found.as_slice(), queued.as_slice());
+    assert!(rt; found.as_slice() == queued.as_slice());
     let pool = entries(alloc, image(alloc, &plan, &[])?, Queue::Pool);
     assert!(rt; pool.is_ok_and(|entries| entries.is_empty()));
     Ok(())
@@ -122,6 +121,6 @@ fn a_queue_without_a_tree(rt: HostRuntime) -> Result<(), Fail> {
     let elsewhere = image(alloc, &plan, &[(MAIN_QUEUE_TREE, &[0x88, 0x13])])?;
     let stop = entries(alloc, elsewhere, Queue::Main).err();
     let unnamed = PoolFault::Unnamed { oid: 5000 };
-    assert_eq!(rt; stop, Some(Stop::Found(unnamed)));
+    assert!(rt; stop == Some(Stop::Found(unnamed)));
     Ok(())
 }

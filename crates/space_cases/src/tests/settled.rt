@@ -130,8 +130,8 @@ fn blocks_settle(rt: HostRuntime) -> Result<(), Fail> {
             pool_bits,
         )?;
         match want {
-            Ok(number) => assert_eq!(rt; found, Ok(number), "{case:?}"),
-            Err(fault) => assert_eq!(rt; found, Err(Stop::Found(fault)), "{case:?}"),
+            Ok(number) => assert!(rt; found == Ok(number)),
+            Err(fault) => assert!(rt; found == Err(Stop::Found(fault))),
         }
     }
     Ok(())
@@ -142,7 +142,7 @@ fn large_blocks_settle(rt: HostRuntime) -> Result<(), Fail> {
     let alloc = rt.alloc();
     let image = image(alloc, 65536, &[])?;
     let found = settled(alloc, image, Vec::new(alloc), USED, POOL_USED, 0x03)?;
-    assert_eq!(rt; found, Ok(57));
+    assert!(rt; found == Ok(57));
     Ok(())
 }
 
@@ -153,6 +153,6 @@ fn a_read_that_fails_is_told(rt: HostRuntime) -> Result<(), Fail> {
     load(alloc, &mut src)?;
     let next = vec![in alloc; src.read_count().saturating_add(1)]?;
     let found = settled(alloc, image(alloc, 4096, &[])?, next, USED, POOL_USED, 0x03)?;
-    assert_eq!(rt; found, Err(Stop::ReadFault));
+    assert!(rt; found == Err(Stop::ReadFault));
     Ok(())
 }

@@ -26,7 +26,7 @@ use std::test::Fail;
 use vol_view::{VolHead, Volume, heads, load};
 
 // How many objects are named, and how many blocks are owned.
-#[derive(Clone, Copy, PartialEq, Eq, Debug)]
+#[derive(Clone, Copy, PartialEq, Eq)]
 struct Numbers {
     objects: u64,
     owned: u64,
@@ -135,7 +135,7 @@ fn assert_cases(rt: &impl Abort, alloc: Global, cases: &[Case]) -> Result<(), Fa
             Err(fault) => Err(Stop::Found(fault)),
         };
         let found = sum(alloc, image(alloc, base, changes)?)?;
-        assert_eq!(rt; found, want, "{base:?} {changes:?}");
+        assert!(rt; found == want);
     }
     Ok(())
 }
@@ -172,7 +172,7 @@ fn numbers_of_samples(rt: HostRuntime) -> Result<(), Fail> {
         (Sample::T, 20, 64),
     ] {
         let found = sum(alloc, plain(alloc, which)?)?;
-        assert_eq!(rt; found, Ok(Numbers { objects, owned }), "{which:?}");
+        assert!(rt; found == Ok(Numbers { objects, owned }), "{which:?}");
     }
     Ok(())
 }
@@ -185,7 +185,7 @@ fn owned_and_free_are_all_blocks(rt: HostRuntime) -> Result<(), Fail> {
             panic!(rt; "no account: {which:?}");
         };
         let (blocks, free) = space_of(alloc, plain(alloc, which)?)?;
-        assert_eq!(rt; numbers.owned.saturating_add(free), blocks, "{which:?}");
+        assert!(rt; numbers.owned.saturating_add(free) == blocks, "{which:?}");
     }
     Ok(())
 }
@@ -197,7 +197,7 @@ fn owned_and_free_with_address_blocks(rt: HostRuntime) -> Result<(), Fail> {
         panic!(rt; "no account");
     };
     let (blocks, free) = space_of(alloc, grouped(alloc, &[])?)?;
-    assert_eq!(rt; numbers.owned.saturating_add(free), blocks);
+    assert!(rt; numbers.owned.saturating_add(free) == blocks);
     Ok(())
 }
 
@@ -219,7 +219,7 @@ fn reads(rt: HostRuntime) -> Result<(), Fail> {
         let account = told(alloc, plain(alloc, which)?, Vec::new(alloc))?;
         assert!(rt; account.told.is_ok(), "{which:?}");
         let reads = account.after.saturating_sub(account.before);
-        assert_eq!(rt; reads, ONCE + files + extents, "{which:?}");
+        assert!(rt; reads == ONCE + files + extents, "{which:?}");
     }
     Ok(())
 }
@@ -232,7 +232,7 @@ fn each_read_that_fails_is_told(rt: HostRuntime) -> Result<(), Fail> {
     for number in whole.before..whole.after {
         let fails = vec![in alloc; number + 1]?;
         let stopped = told(alloc, plain(alloc, Sample::S)?, fails)?;
-        assert_eq!(rt; stopped.told, Err(Stop::ReadFault), "{number}");
+        assert!(rt; stopped.told == Err(Stop::ReadFault), "{number}");
     }
     Ok(())
 }

@@ -9,7 +9,7 @@ use Word::*;
 use img_make::table;
 
 // The word of a fault.
-#[derive(Clone, Copy, PartialEq, Eq, Debug)]
+#[derive(Clone, Copy, PartialEq, Eq)]
 pub enum Word {
     DupName,
     Hash,
@@ -30,7 +30,7 @@ pub enum Word {
 }
 
 // What is said of a view.
-#[derive(Clone, Copy, Debug)]
+#[derive(Clone, Copy)]
 pub enum Said {
     /// It meets its rules, and has so many records.
     Clean(u64),
@@ -51,7 +51,7 @@ pub enum Said {
 }
 
 // What a tree has beside its two directories, before the records of a case.
-#[derive(Clone, Copy, Debug)]
+#[derive(Clone, Copy)]
 pub enum Base {
     /// Nothing.
     Alone,

@@ -17,7 +17,7 @@ const FIRST_LEAF: u64 = 1031;
 const LAST_LEAF: u64 = 1032;
 
 // What stands in the place of the root, beside the private directory.
-#[derive(Clone, Copy, PartialEq, Eq, Debug)]
+#[derive(Clone, Copy, PartialEq, Eq)]
 pub enum Top {
     /// A root that says it has so many children.
     Root(u32),
@@ -30,31 +30,31 @@ pub enum Top {
 }
 
 /// The id of an object, of which a record is.
-#[derive(Clone, Copy, Debug)]
+#[derive(Clone, Copy)]
 pub struct Id(pub u64);
 
 /// The id of the directory in which something stands.
-#[derive(Clone, Copy, Debug)]
+#[derive(Clone, Copy)]
 pub struct In(pub u64);
 
 /// The id of a sibling.
-#[derive(Clone, Copy, Debug)]
+#[derive(Clone, Copy)]
 pub struct Sibling(pub u64);
 
 /// A number of children or of links.
-#[derive(Clone, Copy, Debug)]
+#[derive(Clone, Copy)]
 pub struct Count(pub u32);
 
 /// A number of bytes.
-#[derive(Clone, Copy, Debug)]
+#[derive(Clone, Copy)]
 pub struct Size(pub u64);
 
 /// A logical address in bytes.
-#[derive(Clone, Copy, Debug)]
+#[derive(Clone, Copy)]
 pub struct At(pub u64);
 
 /// A block of the container.
-#[derive(Clone, Copy, Debug)]
+#[derive(Clone, Copy)]
 pub struct Block(pub u64);
 
 /// The kind that an entry gives of a folder.
@@ -67,7 +67,7 @@ pub const FILE: u16 = 8;
 pub const LINK: u16 = 10;
 
 // A record of a tree.
-#[derive(Clone, Copy, Debug)]
+#[derive(Clone, Copy)]
 pub enum Rec {
     /// An inode, its mode, and the number of its children or links.
     Inode(Id, In, u16, Count),

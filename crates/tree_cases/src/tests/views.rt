@@ -171,7 +171,7 @@ fn assert_case(
     for profile in [Profile::Plain, Profile::Strict] {
         let answer = checked(alloc, image.to_vec(alloc)?, 0, profile)?;
         let as_said = is_as_said(alloc, &answer, said)?;
-        assert!(rt; as_said, "{name}: {answer:?}");
+        assert!(rt; as_said, "{name}");
     }
     Ok(())
 }
@@ -260,8 +260,7 @@ fn notes_stand_in_their_order(rt: HostRuntime) -> Result<(), Fail> {
         Note::Unnamed(at(16)),
         Note::Unnamed(at(19)),
     ]?;
-    assert_eq!(rt; tally.records, 12);
-    assert!(rt; tally.notes.as_slice() == notes.as_slice());
+    assert!(rt; tally.records == 12 && tally.notes.as_slice() == notes.as_slice());
     Ok(())
 }
 
@@ -282,9 +281,8 @@ fn samples_meet_the_rules(rt: HostRuntime) -> Result<(), Fail> {
         let Ok(tally) = checked(alloc, image, number, Profile::Strict)? else {
             panic!(rt; "{which:?} {number}: a rule is broken");
         };
-        assert_eq!(rt;
-            (tally.records, tally.notes.len()),
-            (records, 0),
+        assert!(rt;
+            (tally.records, tally.notes.len()) == (records, 0),
             "{which:?} {number}"
         );
     }

@@ -58,7 +58,7 @@ fn ways_lead_as_said(rt: HostRuntime) -> Result<(), Fail> {
     let alloc = rt.alloc();
     for (name, places, expected) in WAYS {
         let found = unreached(alloc, places)?;
-        assert_eq!(rt; found, *expected, "{name}");
+        assert!(rt; found == *expected, "{name}");
     }
     Ok(())
 }
@@ -78,7 +78,7 @@ fn a_long_way_is_followed_to_its_end(rt: HostRuntime) -> Result<(), Fail> {
     let alloc = rt.alloc();
     for (last, expected) in [(2, None), (45, Some(16)), (40, Some(16)), (46, Some(16))] {
         let found = unreached(alloc, &chain(alloc, last)?)?;
-        assert_eq!(rt; found, expected, "{last}");
+        assert!(rt; found == expected, "{last}");
     }
     Ok(())
 }

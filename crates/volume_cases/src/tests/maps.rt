@@ -65,11 +65,13 @@ fn place(block: u64, xid: u64) -> Option<Place> {
 }
 
 fn assert_five(rt: &impl Abort, omap: &Omap) {
-    assert_eq!(rt; omap.resolve(7, 4), place(5, 3));
-    assert_eq!(rt; omap.resolve(7, 5), None);
-    assert_eq!(rt; omap.resolve(7, 2), None);
-    assert_eq!(rt; omap.resolve(8, 9), None);
-    assert_eq!(rt; omap.resolve(9, 9), place(7, 2));
+    assert!(rt;
+        omap.resolve(7, 4) == place(5, 3)
+            && omap.resolve(7, 5) == None
+            && omap.resolve(7, 2) == None
+            && omap.resolve(8, 9) == None
+            && omap.resolve(9, 9) == place(7, 2)
+    );
 }
 
 #[test]
@@ -87,21 +89,23 @@ fn a_map_resolves_by_oid_and_transaction(rt: HostRuntime) -> Result<(), Fail> {
         size: 4096,
         paddr: 7,
     };
-    assert!(rt; omap.records().last() == Some(&last));
-    assert_eq!(rt; omap.record(9, 9), Some(last));
-    assert_eq!(rt; omap.records().len(), 3);
+    assert!(rt;
+        omap.records().last() == Some(&last)
+            && omap.record(9, 9) == Some(last)
+            && omap.records().len() == 3
+    );
     let at = At {
         omap: &omap,
         xid: 9,
         blocks: 8,
     };
-    assert_eq!(rt; at.block(9), Some(7));
+    assert!(rt; at.block(9) == Some(7));
     let before = At {
         omap: &omap,
         xid: 9,
         blocks: 7,
     };
-    assert_eq!(rt; before.block(9), None);
+    assert!(rt; before.block(9) == None);
     Ok(())
 }
 
@@ -124,10 +128,12 @@ fn a_map_of_two_levels_with_snapshots(rt: HostRuntime) -> Result<(), Fail> {
         panic!(rt; "it isn't whole");
     };
     assert_five(&rt, &omap);
-    assert_eq!(rt; omap.snap_count(), 2);
-    assert!(rt; omap.snapshots() == [(3, 0), (5, 2)].as_slice());
-    assert_eq!(rt; (omap.block(), omap.tree(), omap.snap_tree()), (1, 2, 5));
-    assert_eq!(rt; (omap.steps().len(), omap.snap_steps().len()), (2, 0));
+    assert!(rt;
+        omap.snap_count() == 2
+            && omap.snapshots() == [(3, 0), (5, 2)].as_slice()
+            && (omap.block(), omap.tree(), omap.snap_tree()) == (1, 2, 5)
+            && (omap.steps().len(), omap.snap_steps().len()) == (2, 0)
+    );
     Ok(())
 }
 
@@ -141,7 +147,7 @@ fn assert_stop(
     let image = map_image(alloc, map, nodes)?;
     match load(alloc, image, Vec::new(alloc)) {
         Ok(_) => panic!(rt; "it is whole"),
-        Err(other) => assert_eq!(rt; other, stop),
+        Err(other) => assert!(rt; other == stop),
     }
     Ok(())
 }
@@ -209,14 +215,14 @@ fn a_map_that_is_no_map(rt: HostRuntime) -> Result<(), Fail> {
     });
     match load(alloc, blank, Vec::new(alloc)) {
         Ok(_) => panic!(rt; "it is whole"),
-        Err(stop) => assert_eq!(rt; stop, head),
+        Err(stop) => assert!(rt; stop == head),
     }
     let image = map_image(alloc, MAP, &[records(0, Some((3, 1)), THREE)])?;
     let mut second = Vec::new(alloc);
     second.push(2)?;
     match load(alloc, image, second) {
         Ok(_) => panic!(rt; "it was read"),
-        Err(stop) => assert_eq!(rt; stop, Stop::ReadFault),
+        Err(stop) => assert!(rt; stop == Stop::ReadFault),
     }
     Ok(())
 }

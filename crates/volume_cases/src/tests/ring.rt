@@ -108,7 +108,7 @@ fn object(alloc: Global, size: usize, oid: u64, xid: u64) -> Result<Block, Alloc
 }
 
 // How the second checkpoint is broken.
-#[derive(Clone, Copy, PartialEq, Eq, Debug)]
+#[derive(Clone, Copy, PartialEq, Eq)]
 enum Broken {
     Nothing,
     End,
@@ -223,8 +223,10 @@ fn lists_candidates_in_the_fewest_reads(rt: HostRuntime) -> Result<(), Fail> {
             .iter()
             .map(|at| (at.index, at.block, at.xid, (at.desc_index, at.desc_len)))
             .collect::<Vec<_>>(alloc)?;
-        assert_eq!(rt; told.as_slice(), wanted.as_slice(), "{size}");
-        assert_eq!(rt; source.read_count(), reads, "{size}");
+        assert!(rt;
+            told.as_slice() == wanted.as_slice() && source.read_count() == reads,
+            "{size}"
+        );
     }
     Ok(())
 }
@@ -238,15 +240,19 @@ fn takes_the_newest(rt: HostRuntime) -> Result<(), Fail> {
         let checkpoint = newest_of(alloc, image.bytes).map_err(|_| "stopped")?;
         let maps = checkpoint.maps();
         let place = (checkpoint.block(), checkpoint.index());
-        assert_eq!(rt; (checkpoint.xid(), place, maps), (2, (5, 4), 2));
-        assert_eq!(rt; (checkpoint.mapped(), checkpoint.skipped().len()), (2, 0));
-        assert_eq!(rt; checkpoint.nx().block_count(), 32);
-        assert_eq!(rt; checkpoint.site().block_size, stored);
+        assert!(rt;
+            (checkpoint.xid(), place, maps) == (2, (5, 4), 2)
+                && (checkpoint.mapped(), checkpoint.skipped().len()) == (2, 0)
+                && checkpoint.nx().block_count() == 32
+                && checkpoint.site().block_size == stored
+        );
         let object = checkpoint.object(1024).unwrap_or(&[]);
-        assert_eq!(rt; object.len(), size.saturating_mul(2));
-        assert_eq!(rt; object.get(size).copied().unwrap_or(0), b'w');
-        assert_eq!(rt; checkpoint.object_block(1024), Some(12));
-        assert_eq!(rt; checkpoint.object_block(7), None);
+        assert!(rt;
+            object.len() == size.saturating_mul(2)
+                && object.get(size).copied().unwrap_or(0) == b'w'
+                && checkpoint.object_block(1024) == Some(12)
+                && checkpoint.object_block(7) == None
+        );
     }
     Ok(())
 }
@@ -257,12 +263,7 @@ fn takes_the_older_where_the_newer_is_broken(rt: HostRuntime) -> Result<(), Fail
     for broken in [End, MapSum, Size, Oid, Place, Twice, Shared, Xid] {
         let image = rings(alloc, 4096, broken)?;
         let checkpoint = newest_of(alloc, image.bytes).map_err(|_| "stopped")?;
-        assert_eq!(rt; checkpoint.xid(), 1, "{broken:?}");
-        assert_eq!(rt;
-            checkpoint.skipped(),
-            [(4u32, 2u64)].as_slice(),
-            "{broken:?}"
-        );
+        assert!(rt; checkpoint.xid() == 1 && checkpoint.skipped() == [(4u32, 2u64)].as_slice());
     }
     Ok(())
 }
@@ -295,11 +296,8 @@ fn the_first_test_that_fails_is_answered(rt: HostRuntime) -> Result<(), Fail> {
         image.bytes.truncate(kept);
         let mut source = MemSource::new(image.bytes, Vec::new(alloc));
         assert!(rt;
-            ring(alloc, &mut source).is_err_and(|other| other == stop),
-            "{stored} {kept}"
-        );
-        assert!(rt;
-            newest(alloc, &mut source).is_err_and(|other| other == stop),
+            ring(alloc, &mut source).is_err_and(|other| other == stop)
+                && newest(alloc, &mut source).is_err_and(|other| other == stop),
             "{stored} {kept}"
         );
     }
@@ -328,8 +326,10 @@ fn the_newest_is_read_twice_and_the_older_not_at_all(rt: HostRuntime) -> Result<
         let image = rings(alloc, size, Nothing)?;
         let mut source = MemSource::new(image.bytes, Vec::new(alloc));
         let checkpoint = newest(alloc, &mut source).map_err(|_| "stopped")?;
-        assert_eq!(rt; checkpoint.xid(), 2, "{size}");
-        assert_eq!(rt; source.read_count(), reads, "{size}");
+        assert!(rt;
+            checkpoint.xid() == 2 && source.read_count() == reads,
+            "{size}"
+        );
     }
     Ok(())
 }
@@ -366,10 +366,12 @@ fn the_greatest_transaction_comes_first_and_then_the_least_index(
         let image = bare_ring(alloc, xids, broken)?;
         let mut source = MemSource::new(image.bytes, Vec::new(alloc));
         let checkpoint = newest(alloc, &mut source).map_err(|_| "stopped")?;
-        assert_eq!(rt; (checkpoint.index(), checkpoint.xid()), (index, xid));
-        assert_eq!(rt; checkpoint.skipped(), skipped);
+        assert!(rt;
+            (checkpoint.index(), checkpoint.xid()) == (index, xid)
+                && checkpoint.skipped() == skipped
+        );
         // Block 0, the 8 descriptors, and the superblock again.
-        assert_eq!(rt; source.read_count(), 10);
+        assert!(rt; source.read_count() == 10);
     }
     Ok(())
 }
@@ -403,16 +405,15 @@ fn a_flawed_object_is_read_to_its_first_flaw_and_once(rt: HostRuntime) -> Result
         let mut source = MemSource::new(image.bytes, Vec::new(alloc));
         let stop = Stop::Found(RingFault::NoCheckpoint);
         assert!(rt;
-            newest(alloc, &mut source).is_err_and(|other| other == stop),
+            newest(alloc, &mut source).is_err_and(|other| other == stop)
+                && source.read_count() == reads,
             "{oid}"
         );
-        assert_eq!(rt; source.read_count(), reads, "{oid}");
     }
     // The object is sound: one map, its four blocks, then the superblock and the four blocks again.
     let image = crowd(alloc, 1024, 0)?;
     let mut source = MemSource::new(image.bytes, Vec::new(alloc));
     let checkpoint = newest(alloc, &mut source).map_err(|_| "stopped")?;
-    assert_eq!(rt; (checkpoint.xid(), checkpoint.index()), (5, 7));
-    assert_eq!(rt; source.read_count(), 19);
+    assert!(rt; (checkpoint.xid(), checkpoint.index()) == (5, 7) && source.read_count() == 19);
     Ok(())
 }

@@ -84,14 +84,13 @@ fn a_hole_is_zeros_and_the_size_is_the_end(rt: HostRuntime) -> Result<(), Fail> 
         panic!(rt; "there is no stream");
     };
     let mut into = [1u8; 20];
-    assert_eq!(rt; stream.read_into(&mut src, 4990, &mut into)?, 10);
-    assert_eq!(rt;
-        into,
-        *b"AAAAAAAAAA\x01\x01\x01\x01\x01\x01\x01\x01\x01\x01"
+    assert!(rt;
+        stream.read_into(&mut src, 4990, &mut into)? == 10
+            && into == *b"AAAAAAAAAA\x01\x01\x01\x01\x01\x01\x01\x01\x01\x01"
+            && stream.read_into(&mut src, 5000, &mut into)? == 0
+            && stream.read_into(&mut src, 4086, &mut into)? == 20
+            && into == *b"\0\0\0\0\0\0\0\0\0\0AAAAAAAAAA"
     );
-    assert_eq!(rt; stream.read_into(&mut src, 5000, &mut into)?, 0);
-    assert_eq!(rt; stream.read_into(&mut src, 4086, &mut into)?, 20);
-    assert_eq!(rt; into, *b"\0\0\0\0\0\0\0\0\0\0AAAAAAAAAA");
     Ok(())
 }
 
@@ -109,13 +108,12 @@ fn copied(alloc: Global, id: u64, put: u64) -> Result<(Result<(), CopyFault>, us
 #[test]
 fn a_copy_goes_in_pieces_up_to_a_refused_one(rt: HostRuntime) -> Result<(), Fail> {
     let alloc = rt.alloc();
-    assert_eq!(rt; copied(alloc, FILE, 3)?, (Ok(()), 70_000));
-    assert_eq!(rt;
-        copied(alloc, FILE, 2)?,
-        (Err(CopyFault::WriteFault), 65_536)
+    assert!(rt;
+        copied(alloc, FILE, 3)? == (Ok(()), 70_000)
+            && copied(alloc, FILE, 2)? == (Err(CopyFault::WriteFault), 65_536)
     );
     // No extent is of this id, so each byte is a zero.
-    assert_eq!(rt; copied(alloc, 99, 1)?, (Err(CopyFault::WriteFault), 0));
+    assert!(rt; copied(alloc, 99, 1)? == (Err(CopyFault::WriteFault), 0));
     Ok(())
 }
 
@@ -133,7 +131,7 @@ fn extents_that_are_wrong(rt: HostRuntime) -> Result<(), Fail> {
     for (at, byte, stop) in cases {
         match open(alloc, &mut edited(alloc, at, byte)?, FILE, SIZE) {
             Ok(_) => assert!(rt; stop.is_none(), "{at}"),
-            Err(other) => assert_eq!(rt; Some(other), stop.map(Stop::Found), "{at}"),
+            Err(other) => assert!(rt; Some(other) == stop.map(Stop::Found), "{at}"),
         }
     }
     Ok(())

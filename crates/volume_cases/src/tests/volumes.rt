@@ -102,19 +102,21 @@ fn assert_small(rt: &impl Abort, alloc: Global, image: Vec<u8>) -> Result<(), Fa
     let Ok(heads) = volumes(alloc, image, Vec::new(alloc)) else {
         panic!(rt; "there are no heads");
     };
-    assert_eq!(rt; heads.len(), 1);
+    assert!(rt; heads.len() == 1);
     let head = &heads[0];
-    assert_eq!(rt; (head.slot, head.oid, head.block), (0, 1026, 51));
-    assert_eq!(rt; head.uuid, UUID);
-    assert_eq!(rt; (head.role, head.incompat, head.snapshots), (0, 1, 0));
-    assert!(rt; head.name == Bytes::from_slice(alloc, b"Small")?);
+    assert!(rt;
+        (head.slot, head.oid, head.block) == (0, 1026, 51)
+            && head.uuid == UUID
+            && (head.role, head.incompat, head.snapshots) == (0, 1, 0)
+            && head.name == Bytes::from_slice(alloc, b"Small")?
+    );
     Ok(())
 }
 
 fn assert_stop(rt: &impl Abort, alloc: Global, image: Vec<u8>, stop: Stop<VolStop>) {
     match volumes(alloc, image, Vec::new(alloc)) {
         Ok(_) => panic!(rt; "there are heads"),
-        Err(other) => assert_eq!(rt; other, stop),
+        Err(other) => assert!(rt; other == stop),
     }
 }
 
@@ -132,19 +134,20 @@ fn two_volumes_with_an_empty_slot_between(rt: HostRuntime) -> Result<(), Fail> {
     let Ok(heads) = volumes(alloc, with_a_gap(alloc)?, Vec::new(alloc)) else {
         panic!(rt; "there are no heads");
     };
-    assert_eq!(rt; heads.len(), 2);
+    assert!(rt; heads.len() == 2);
     let first = &heads[0];
-    assert_eq!(rt; (first.slot, first.oid, first.block), (0, 1026, 51));
-    assert_eq!(rt; (first.role, first.incompat, first.snapshots), (0x40, 1, 0));
-    assert_eq!(rt; first.names(), Names::Folded);
-    let second = &heads[1];
-    assert_eq!(rt; (second.slot, second.oid, second.block), (3, 1031, 57));
-    assert_eq!(rt;
-        (second.role, second.incompat, second.snapshots),
-        (0x102, 0, 5)
+    assert!(rt;
+        (first.slot, first.oid, first.block) == (0, 1026, 51)
+            && (first.role, first.incompat, first.snapshots) == (0x40, 1, 0)
+            && first.names() == Names::Folded
     );
-    assert_eq!(rt; second.names(), Names::Exact);
-    assert!(rt; second.name == Bytes::from_slice(alloc, b"Second")?);
+    let second = &heads[1];
+    assert!(rt;
+        (second.slot, second.oid, second.block) == (3, 1031, 57)
+            && (second.role, second.incompat, second.snapshots) == (0x102, 0, 5)
+            && second.names() == Names::Exact
+            && second.name == Bytes::from_slice(alloc, b"Second")?
+    );
     Ok(())
 }
 
@@ -162,7 +165,7 @@ fn a_failed_read_stops_them(rt: HostRuntime) -> Result<(), Fail> {
         let fails = vec![in alloc; read]?;
         match volumes(alloc, image, fails) {
             Ok(_) => panic!(rt; "there are heads: {read}"),
-            Err(stop) => assert_eq!(rt; stop, Stop::ReadFault, "{read}"),
+            Err(stop) => assert!(rt; stop == Stop::ReadFault, "{read}"),
         }
     }
     Ok(())

@@ -13,7 +13,7 @@ pub struct Form {
 
 /// A node: how far it stands above the leaves, the numbers of keys and nodes that a root tells, and for each entry the
 /// first word of its key, and its value, which is a child's oid above the leaves.
-#[derive(Clone, Copy, PartialEq, Eq, Debug)]
+#[derive(Clone, Copy, PartialEq, Eq)]
 pub struct Node {
     pub level: u16,
     pub root: Option<(u64, u64)>,

@@ -75,12 +75,11 @@ fn a_hole_is_put_piece_by_piece(rt: HostRuntime) -> Result<(), Fail> {
         &rows,
         &mut folder,
     ) {
-        Ok(done) => assert_eq!(rt; (done.files, done.bytes), (1, HOLE + 5)),
-        Err(stop) => panic!(rt; "{stop:?}"),
+        Ok(done) => assert!(rt; (done.files, done.bytes) == (1, HOLE + 5)),
+        Err(_) => panic!(rt; "it stops"),
     }
-    assert_eq!(rt; folder.bytes, HOLE + 5);
-    assert!(rt; folder.longest <= MOST);
+    assert!(rt; folder.bytes == HOLE + 5 && folder.longest <= MOST);
     // `hello` is in the last piece.
-    assert_eq!(rt; folder.other, 1);
+    assert!(rt; folder.other == 1);
     Ok(())
 }

@@ -28,7 +28,7 @@ const HELLO_BLOCK: u64 = 57;
 pub(super) const HOLE: u64 = 1 << 30;
 
 /// What an image holds.
-#[derive(Clone, Copy, PartialEq, Eq, Debug)]
+#[derive(Clone, Copy, PartialEq, Eq)]
 pub(super) enum Holds {
     /// The file `hello.txt`.
     Hello,

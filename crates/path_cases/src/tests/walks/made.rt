@@ -19,7 +19,7 @@ const ROOT: u64 = 2;
 const PRIVATE: u64 = 3;
 
 /// What an image holds.
-#[derive(Clone, Copy, PartialEq, Eq, Debug)]
+#[derive(Clone, Copy, PartialEq, Eq)]
 pub(super) enum Holds {
     /// What a sample holds.
     Of(Sample),

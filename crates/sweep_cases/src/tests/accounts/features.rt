@@ -28,7 +28,7 @@ fn assert_features(rt: &impl Abort, alloc: Global, cases: &[Case]) -> Result<(),
             Err((feature, block)) => Err(Stop::Unsupported { feature, block }),
         };
         let found = sum(alloc, image(alloc, &SMALL, changes)?)?;
-        assert_eq!(rt; found, want, "{changes:?}");
+        assert!(rt; found == want);
     }
     Ok(())
 }

@@ -88,9 +88,9 @@ fn a_leaf_that_is_named_twice(rt: HostRuntime) -> Result<(), Fail> {
     let alloc = rt.alloc();
     let found = sum(alloc, image(alloc, &SNAPSHOTS, TWICE)?)?;
     let Err(Stop::Found(NamedTwice { within, oid, xid })) = found else {
-        panic!(rt; "{found:?}");
+        panic!(rt; "another answer");
     };
-    assert_eq!(rt; (within, oid), (Within::Volume(0), 1031));
+    assert!(rt; (within, oid) == (Within::Volume(0), 1031));
     assert!(rt; [2, 4, 5].contains(&xid), "{xid}");
     Ok(())
 }

@@ -32,7 +32,7 @@ fn an_address_block_of_another_index(rt: HostRuntime) -> Result<(), Fail> {
     let alloc = rt.alloc();
     let found = sum(alloc, grouped(alloc, &[Put(45, CAB_INDEX, &[1])])?)?;
     let fault = Space(SpaceFault::Cab { index: 0 });
-    assert_eq!(rt; found, Err(Stop::Found(fault)));
+    assert!(rt; found == Err(Stop::Found(fault)));
     Ok(())
 }
 

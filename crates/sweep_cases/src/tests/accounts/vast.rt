@@ -70,6 +70,6 @@ fn blocks_that_are_told_take_no_memory(rt: HostRuntime) -> Result<(), Fail> {
     };
     let at = open(alloc, &mut src)?;
     let want = ReachFault::Space(SpaceFault::Geometry);
-    assert_eq!(rt; account_of(alloc, &mut src, &at), Err(Stop::Found(want)));
+    assert!(rt; account_of(alloc, &mut src, &at) == Err(Stop::Found(want)));
     Ok(())
 }

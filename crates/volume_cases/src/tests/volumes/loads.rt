@@ -59,24 +59,26 @@ fn assert_loaded(rt: &impl Abort, alloc: Global, edits: &[Edit]) -> Result<(), F
     let Ok((volume, cp)) = loaded(alloc, edited(alloc, edits, true)?) else {
         panic!(rt; "there is no volume");
     };
-    assert_eq!(rt; volume.names, Names::Folded);
+    assert!(rt; volume.names == Names::Folded);
     let roots = (volume.root_oid, volume.extents_root, volume.snaps_root);
-    assert_eq!(rt; (roots, volume.meta_ext), ((1028, 55, 56), 0));
-    assert_eq!(rt; volume.snaps.len(), 2);
+    assert!(rt; (roots, volume.meta_ext) == ((1028, 55, 56), 0) && volume.snaps.len() == 2);
     let first = &volume.snaps[0];
     let roots = (first.super_block, first.extents_root, first.root_oid);
-    assert_eq!(rt; (first.xid, roots), (2, (60, 61, 1028)));
-    assert!(rt; first.name == Bytes::from_slice(alloc, b"s2")?);
+    assert!(rt;
+        (first.xid, roots) == (2, (60, 61, 1028)) && first.name == Bytes::from_slice(alloc, b"s2")?
+    );
     let last = &volume.snaps[1];
     let roots = (last.super_block, last.extents_root, last.root_oid);
-    assert_eq!(rt; (last.xid, roots), (4, (62, 63, 1028)));
+    assert!(rt; (last.xid, roots) == (4, (62, 63, 1028)));
     let now = live(&volume, &cp);
-    assert_eq!(rt; (now.slot, now.xid, now.root_oid), (0, 5, 1028));
+    assert!(rt; (now.slot, now.xid, now.root_oid) == (0, 5, 1028));
     let before = past(&volume, 1);
-    assert_eq!(rt; (before.slot, before.xid, before.root_oid), (0, 4, 1028));
-    assert_eq!(rt; by_name(&volume, b"s2"), Some(0));
-    assert_eq!(rt; by_name(&volume, b"s4"), Some(1));
-    assert_eq!(rt; by_name(&volume, b"s"), None);
+    assert!(rt;
+        (before.slot, before.xid, before.root_oid) == (0, 4, 1028)
+            && by_name(&volume, b"s2") == Some(0)
+            && by_name(&volume, b"s4") == Some(1)
+            && by_name(&volume, b"s") == None
+    );
     Ok(())
 }
 
@@ -96,8 +98,7 @@ fn the_small_volume_has_none(rt: HostRuntime) -> Result<(), Fail> {
     let Ok((volume, _)) = loaded(alloc, changed(alloc, &plan, &[], true)?) else {
         panic!(rt; "there is no volume");
     };
-    assert_eq!(rt; volume.snaps.len(), 0);
-    assert_eq!(rt; by_name(&volume, b"s2"), None);
+    assert!(rt; volume.snaps.len() == 0 && by_name(&volume, b"s2") == None);
     Ok(())
 }
 
@@ -110,7 +111,7 @@ fn assert_stop(
 ) -> Result<(), Fail> {
     match loaded(alloc, edited(alloc, &[edit], sealed)?) {
         Ok(_) => panic!(rt; "there is a volume"),
-        Err(other) => assert_eq!(rt; other, stop),
+        Err(other) => assert!(rt; other == stop),
     }
     Ok(())
 }
