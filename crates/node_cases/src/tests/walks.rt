@@ -249,8 +249,18 @@ fn larger_blocks(rt: HostRuntime) -> Result<(), Fail> {
     let image = tree_image(rt.alloc(), 16384, QUEUE, &[root(0, 1, 1, &[(7, 0)])])?;
     assert!(rt; image.len() >= 131072);
     let mut src = MemSource::new(image, Vec::new(rt.alloc()));
-    let mut cursor = Cursor::<QueueKey, Physical>::new(rt.alloc(), &mut src, PHYSICAL, 1, site)?;
-    assert!(rt; cursor.next(&mut src)? && cursor.item().key.xid == 7 && !cursor.next(&mut src)?);
+    let mut cursor = Cursor::<QueueKey, Physical>::new(
+        rt.alloc(),
+        &mut src,
+        PHYSICAL,
+        1,
+        site,
+    ).map_err(|_| "stopped")?;
+    assert!(rt;
+        cursor.next(&mut src) == Ok(true)
+            && cursor.item().key.xid == 7
+            && cursor.next(&mut src) == Ok(false)
+    );
     Ok(())
 }
 

@@ -33,22 +33,19 @@ const NOT_FOUND: &str = "not found";
 
 const NO_DIRECTORY: &str = "no directory";
 
+// The directory that stands in itself.
+const RING: IdAt = IdAt {
+    slot: 0,
+    xid: 1,
+    id: 16,
+};
+
 // Why there are no rows.
 fn why(stop: &Stop<PathStop>) -> &'static str {
     match stop {
         Stop::Found(PathStop::Answer(Answer::NotFound)) => NOT_FOUND,
         Stop::Found(PathStop::Answer(Answer::NotDirectory)) => NO_DIRECTORY,
-        Stop::Found(
-            PathStop::Fault(
-                TreeFault::DirNames(
-                    IdAt {
-                        slot: 0,
-                        xid: 1,
-                        id: 16,
-                    },
-                ),
-            ),
-        ) => TWICE,
+        Stop::Found(PathStop::Fault(TreeFault::DirNames(at))) if *at == RING => TWICE,
         _ => "another stop",
     }
 }
