@@ -104,7 +104,7 @@ const CASES: &[Case] = table! {
 
 // What is wrong with a case: a call that doesn't go as it has to, a call after which other files are open, files that are open at
 // the end, a row that doesn't stand, or the number of entries.
-#[derive(Drop)]
+#[derive(Debug, Drop)]
 enum Wrong {
     Call(usize),
     Open(usize),
