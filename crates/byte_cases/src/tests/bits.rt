@@ -1,37 +1,58 @@
 // Counts and places worked out by hand. Runs of 130 bytes have two parts of 64 and a rest of two.
 use bit_lanes::{and_any, and_into, count_ones, first_difference, least_set, or_into, set_range};
 
+// Bytes, and how many of their bits are set.
+const COUNTS: [(&[u8], u64); 5] = [
+    (&[], 0),
+    (&[0xff, 0xff, 0xff], 24),
+    (&[0x01, 0x80, 0x55], 6),
+    (&[0xff; 64], 512),
+    (&[0x52; 130], 390),
+];
+
 #[test]
 fn counts(rt: HostRuntime) {
-    for (bytes, want) in [
-        ([].as_slice(), 0),
-        ([0xff, 0xff, 0xff].as_slice(), 24),
-        ([0x01, 0x80, 0x55].as_slice(), 6),
-        ([0xff; 64].as_slice(), 512),
-        ([0x52; 130].as_slice(), 390),
-    ] {
+    for (bytes, want) in COUNTS {
         assert!(rt; count_ones(bytes) == want, "{bytes:?}");
     }
 }
 
+// 130 bytes that are alike but for one: what the others are, the place of the one, and what it is.
+type Long = (u8, usize, u8);
+
+fn long(row: Long) -> [u8; 130] {
+    let (others, at, one) = row;
+    let mut bytes = [others; 130];
+    if at < 130 {
+        bytes[at] = one;
+    }
+    bytes
+}
+
+// Two runs of bytes, and the place of the first bit in which they differ.
+const DIFFERENCES: [(&[u8], &[u8], Option<usize>); 4] = [
+    (&[], &[], None),
+    (&[0x00, 0x04], &[0x00, 0x00], Some(10)),
+    (&[0x80, 0x01], &[0x00, 0x00], Some(7)),
+    (&[0x11, 0xb0], &[0x11, 0x10], Some(13)),
+];
+
+const LONG_DIFFERENCES: [(Long, Long, Option<usize>); 3] = [
+    ((0, 100, 0x14), (0, 129, 0x80), Some(802)),
+    ((0, 0, 0), (0, 129, 0x80), Some(1039)),
+    ((0, 129, 0x80), (0, 129, 0x80), None),
+];
+
 #[test]
 fn least_differences(rt: HostRuntime) {
-    let zeros = [0; 130];
-    let mut in_second_part = zeros;
-    in_second_part[100] = 0x14;
-    let mut in_rest = zeros;
-    in_rest[129] = 0x80;
-    for (a, b, want) in [
-        ([].as_slice(), [].as_slice(), None),
-        ([0x00, 0x04].as_slice(), [0x00, 0x00].as_slice(), Some(10)),
-        ([0x80, 0x01].as_slice(), [0x00, 0x00].as_slice(), Some(7)),
-        ([0x11, 0xb0].as_slice(), [0x11, 0x10].as_slice(), Some(13)),
-        (in_second_part.as_slice(), in_rest.as_slice(), Some(802)),
-        (zeros.as_slice(), in_rest.as_slice(), Some(1039)),
-        (in_rest.as_slice(), in_rest.as_slice(), None),
-    ] {
-        assert!(rt; a.len() == b.len() && a.len() < 1000);
-        assert!(rt; first_difference(a, b) == want, "{a:?} {b:?}");
+    for (a, b, want) in DIFFERENCES {
+        assert!(rt;
+            a.len() == b.len() && a.len() < 1000 && first_difference(a, b) == want,
+            "{want:?}"
+        );
+    }
+    for (a, b, want) in LONG_DIFFERENCES {
+        assert!(rt; first_difference(&long(a), &long(b)) == want, "{want:?}");
     }
 }
 
@@ -45,23 +66,27 @@ fn a_bit_of_either_is_set(rt: HostRuntime) {
     assert!(rt; many.iter().all(|byte| *byte == 0x07));
 }
 
+// Two runs of bytes, and whether a bit is set in both.
+const SHARED: [(&[u8], &[u8], bool); 3] = [
+    (&[], &[], false),
+    (&[0x01, 0xf0], &[0x02, 0x0f], false),
+    (&[0x01, 0xf0], &[0x02, 0x10], true),
+];
+
+// The same of 130 bytes of which each is 1.
+const SHARED_WITH_ONES: [(Long, bool); 3] = [
+    ((0x06, 0, 0x06), false),
+    ((0x06, 70, 0x07), true),
+    ((0x06, 128, 0x07), true),
+];
+
 #[test]
 fn shared_bits(rt: HostRuntime) {
-    let ones = [0x01; 130];
-    let mut in_second_part = [0x06; 130];
-    in_second_part[70] = 0x07;
-    let mut in_rest = [0x06; 130];
-    in_rest[128] = 0x07;
-    for (a, b, want) in [
-        ([].as_slice(), [].as_slice(), false),
-        ([0x01, 0xf0].as_slice(), [0x02, 0x0f].as_slice(), false),
-        ([0x01, 0xf0].as_slice(), [0x02, 0x10].as_slice(), true),
-        (ones.as_slice(), [0x06; 130].as_slice(), false),
-        (ones.as_slice(), in_second_part.as_slice(), true),
-        (ones.as_slice(), in_rest.as_slice(), true),
-    ] {
-        assert!(rt; a.len() == b.len());
-        assert!(rt; and_any(a, b) == want, "{a:?} {b:?}");
+    for (a, b, want) in SHARED {
+        assert!(rt; a.len() == b.len() && and_any(a, b) == want, "{a:?}");
+    }
+    for (b, want) in SHARED_WITH_ONES {
+        assert!(rt; and_any(&[0x01; 130], &long(b)) == want, "{b:?}");
     }
 }
 
@@ -72,6 +97,16 @@ fn a_bit_of_both_is_left(rt: HostRuntime) {
     assert!(rt; few == [0x10, 0x00, 0x0c]);
 }
 
+// Where it begins and ends, and the least bit that is set there.
+const LEAST: [(usize, usize, Option<usize>); 6] = [
+    (0, 5, None),
+    (0, 6, Some(5)),
+    (7, 640, Some(7)),
+    (19, 630, None),
+    (19, 640, Some(630)),
+    (633, 640, None),
+];
+
 #[test]
 fn bits_from_a_place_up_to_another(rt: HostRuntime) {
     let mut bits = [0; 80];
@@ -81,15 +116,10 @@ fn bits_from_a_place_up_to_another(rt: HostRuntime) {
     assert!(rt; &bits[..4] == [0xe0, 0xff, 0x07, 0x00].as_slice());
     set_range(&mut bits, 630, 633);
     assert!(rt; &bits[77..] == [0x00, 0xc0, 0x01].as_slice());
-    for (from, to, want) in [
-        (0, 5, None),
-        (0, 6, Some(5)),
-        (7, 640, Some(7)),
-        (19, 630, None),
-        (19, 640, Some(630)),
-        (633, 640, None),
-    ] {
-        assert!(rt; from <= to && to <= 640);
-        assert!(rt; least_set(&bits, from, to) == want, "{from} {to}");
+    for (from, to, want) in LEAST {
+        assert!(rt;
+            from <= to && to <= 640 && least_set(&bits, from, to) == want,
+            "{from} {to}"
+        );
     }
 }

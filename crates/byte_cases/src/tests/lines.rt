@@ -13,22 +13,28 @@ fn asks_for(alloc: Global, text: &str, wanted: Option<Line<'_>>) -> Result<bool,
 }
 
 // A path in the volume and the snapshot that are meant.
-fn at<'a>(path: &'a str, volume: Option<u8>, snapshot: Option<&'a str>) -> Target<'a> {
-    Target {
-        path,
-        volume,
-        snapshot,
-    }
+macro_rules! at {
+    ($path:expr, $volume:expr, $snapshot:expr) => {
+        Target {
+            path: $path,
+            volume: $volume,
+            snapshot: $snapshot,
+        }
+    };
+}
+
+// Which flags were said: `--quick`, and `--strict`.
+macro_rules! said {
+    ($quick:expr, $strict:expr) => {
+        Flags {
+            quick: $quick,
+            strict: $strict,
+        }
+    };
 }
 
 // Neither flag was said.
-fn plain() -> Flags {
-    said(false, false)
-}
-
-fn said(quick: bool, strict: bool) -> Flags {
-    Flags { quick, strict }
-}
+const PLAIN: Flags = said!(false, false);
 
 // A table of tuples: a row is the parts of one, and ends with a semicolon.
 macro_rules! table {
@@ -37,70 +43,72 @@ macro_rules! table {
     };
 }
 
+const RIGHT: &[(&str, Line<'static>)] = table! {
+    "ring|img", Ring;
+    "info|img", Info;
+    "volumes|--help", Volumes;
+    "space|img", Space;
+    "check|", Check(false);
+    "check|img|--strict", Check(true);
+    "check|img|--strict|--", Check(true);
+    "snapshots|img", Snapshots(None);
+    "snapshots|img|--volume=2", Snapshots(Some(2));
+    "snapshots|img|--", Snapshots(None);
+    "usage|img", Usage(None);
+    "usage|--|--volume|41", Usage(Some(41));
+    "export|img|dir", Export(at!("/", None, None));
+    "export|img|", Export(at!("/", None, None));
+    "export|img|--volume|--volume=3", Export(at!("/", Some(3), None));
+    "export|img|--|--snapshot|s|--volume|1", Export(at!("/", Some(1), Some("s")));
+    "ls|img|/", Ls(PLAIN, at!("/", None, None));
+    "ls|img|a|--quick", Ls(said!(true, false), at!("a", None, None));
+    "ls|img|--strict|a", Ls(said!(false, true), at!("a", None, None));
+    "ls|img|", Ls(PLAIN, at!("", None, None));
+    "ls|--volume|é", Ls(PLAIN, at!("é", None, None));
+    "tree|img|a", Tree(PLAIN, at!("a", None, None));
+    "tree|img|--strict|--quick|a", Tree(said!(true, true), at!("a", None, None));
+    "tree|img|help", Tree(PLAIN, at!("help", None, None));
+    "xattr|img|a", Xattr(PLAIN, at!("a", None, None), None);
+    "xattr|img|a|--quick|n", Xattr(said!(true, false), at!("a", None, None), Some("n"));
+    "xattr|img|a|--|-n", Xattr(PLAIN, at!("a", None, None), Some("-n"));
+    "xattr|img|--volume=1|a|--snapshot|s|n", Xattr(PLAIN, at!("a", Some(1), Some("s")), Some("n"));
+};
+
 #[test]
 fn right_lines_say_their_parts(rt: HostRuntime) -> Result<(), AllocError> {
-    let rows: &[(&str, Line<'_>)] = table! {
-        "ring|img", Ring;
-        "info|img", Info;
-        "volumes|--help", Volumes;
-        "space|img", Space;
-        "check|", Check(false);
-        "check|img|--strict", Check(true);
-        "check|img|--strict|--", Check(true);
-        "snapshots|img", Snapshots(None);
-        "snapshots|img|--volume=2", Snapshots(Some(2));
-        "snapshots|img|--", Snapshots(None);
-        "usage|img", Usage(None);
-        "usage|--|--volume|41", Usage(Some(41));
-        "export|img|dir", Export(at("/", None, None));
-        "export|img|", Export(at("/", None, None));
-        "export|img|--volume|--volume=3", Export(at("/", Some(3), None));
-        "export|img|--|--snapshot|s|--volume|1", Export(at("/", Some(1), Some("s")));
-        "ls|img|/", Ls(plain(), at("/", None, None));
-        "ls|img|a|--quick", Ls(said(true, false), at("a", None, None));
-        "ls|img|--strict|a", Ls(said(false, true), at("a", None, None));
-        "ls|img|", Ls(plain(), at("", None, None));
-        "ls|--volume|é", Ls(plain(), at("é", None, None));
-        "tree|img|a", Tree(plain(), at("a", None, None));
-        "tree|img|--strict|--quick|a", Tree(said(true, true), at("a", None, None));
-        "tree|img|help", Tree(plain(), at("help", None, None));
-        "xattr|img|a", Xattr(plain(), at("a", None, None), None);
-        "xattr|img|a|--quick|n", Xattr(said(true, false), at("a", None, None), Some("n"));
-        "xattr|img|a|--|-n", Xattr(plain(), at("a", None, None), Some("-n"));
-        "xattr|img|--volume=1|a|--snapshot|s|n", Xattr(plain(), at("a", Some(1), Some("s")), Some("n"));
-    };
-    for (text, line) in rows {
+    for (text, line) in RIGHT {
         let as_said = asks_for(rt.alloc(), text, Some(*line))?;
         assert!(rt; as_said, "{text}");
     }
     Ok(())
 }
 
+const ANYWHERE: &[(&str, Target<'static>)] = table! {
+    "cat|img|a|--volume|3", at!("a", Some(3), None);
+    "cat|img|--volume=0|a", at!("a", Some(0), None);
+    "cat|img|a|--volume=10", at!("a", Some(10), None);
+    "cat|img|--snapshot|s|--volume|99|a", at!("a", Some(99), Some("s"));
+    "cat|img|a|--snapshot=", at!("a", None, Some(""));
+    "cat|img|a|--snapshot|", at!("a", None, Some(""));
+    "cat|img|a|--snapshot=-x", at!("a", None, Some("-x"));
+    "cat|img|a|--snapshot=--volume=3", at!("a", None, Some("--volume=3"));
+    "cat|img|a|--snapshot=a=b", at!("a", None, Some("a=b"));
+    "cat|img|a|--snapshot|-", at!("a", None, Some("-"));
+    "cat|img|a|--snapshot=-é", at!("a", None, Some("-é"));
+    "cat|img|--|-a", at!("-a", None, None);
+    "cat|img|--|--", at!("--", None, None);
+    "cat|img|--|--help", at!("--help", None, None);
+    "cat|img|--|--quick", at!("--quick", None, None);
+    "cat|img|a|--snapshot=--quick", at!("a", None, Some("--quick"));
+    "cat|img|--volume=3|--|--volume=4", at!("--volume=4", Some(3), None);
+    "cat|img|a|--", at!("a", None, None);
+    "cat|img|-", at!("-", None, None);
+};
+
 #[test]
 fn options_stand_anywhere(rt: HostRuntime) -> Result<(), AllocError> {
-    let rows: &[(&str, Target<'_>)] = table! {
-        "cat|img|a|--volume|3", at("a", Some(3), None);
-        "cat|img|--volume=0|a", at("a", Some(0), None);
-        "cat|img|a|--volume=10", at("a", Some(10), None);
-        "cat|img|--snapshot|s|--volume|99|a", at("a", Some(99), Some("s"));
-        "cat|img|a|--snapshot=", at("a", None, Some(""));
-        "cat|img|a|--snapshot|", at("a", None, Some(""));
-        "cat|img|a|--snapshot=-x", at("a", None, Some("-x"));
-        "cat|img|a|--snapshot=--volume=3", at("a", None, Some("--volume=3"));
-        "cat|img|a|--snapshot=a=b", at("a", None, Some("a=b"));
-        "cat|img|a|--snapshot|-", at("a", None, Some("-"));
-        "cat|img|a|--snapshot=-é", at("a", None, Some("-é"));
-        "cat|img|--|-a", at("-a", None, None);
-        "cat|img|--|--", at("--", None, None);
-        "cat|img|--|--help", at("--help", None, None);
-        "cat|img|--|--quick", at("--quick", None, None);
-        "cat|img|a|--snapshot=--quick", at("a", None, Some("--quick"));
-        "cat|img|--volume=3|--|--volume=4", at("--volume=4", Some(3), None);
-        "cat|img|a|--", at("a", None, None);
-        "cat|img|-", at("-", None, None);
-    };
-    for (text, target) in rows {
-        let as_said = asks_for(rt.alloc(), text, Some(Cat(plain(), *target)))?;
+    for (text, target) in ANYWHERE {
+        let as_said = asks_for(rt.alloc(), text, Some(Cat(PLAIN, *target)))?;
         assert!(rt; as_said, "{text}");
     }
     Ok(())

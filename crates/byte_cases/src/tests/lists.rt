@@ -41,11 +41,13 @@ const ROWS: [Row; 12] = [
     (SPARSE, u64::MAX, 8, Some(8), 1),
 ];
 
+const GUESSES: [usize; 4] = [NO_GUESS, 0, 3, 8];
+
 #[test]
 fn searches(rt: HostRuntime) -> Result<(), Fail> {
     for (list, id, before, _, of_it) in ROWS {
         assert!(rt; are_in_order::<_, ByItself>(list));
-        for guess in [NO_GUESS, 0, 3, 8] {
+        for guess in GUESSES {
             assert!(rt;
                 below::<_, ByItself>(list, id, guess) == before
                     && count::<_, ByItself>(list, id, guess) == of_it
@@ -105,30 +107,34 @@ fn lent_lists(rt: HostRuntime) -> Result<(), Fail> {
     Ok(())
 }
 
+// Lists, and whether they are in order.
+const ORDER: [(&[u64], bool); 5] = [
+    (&[], true),
+    (&[7], true),
+    (SPARSE, true),
+    (&[1, 3, 2], false),
+    (&[2, 1], false),
+];
+
 #[test]
 fn order(rt: HostRuntime) -> Result<(), Fail> {
-    let rows: [(&[u64], bool); 5] = [
-        (&[], true),
-        (&[7], true),
-        (SPARSE, true),
-        (&[1, 3, 2], false),
-        (&[2, 1], false),
-    ];
-    for (list, want) in rows {
+    for (list, want) in ORDER {
         assert!(rt; are_in_order::<_, ByItself>(list) == want);
     }
     Ok(())
 }
 
+// Numbers, and those that there are in order.
+const DISTINCT: [(&[u64], &[u64]); 4] = [
+    (&[], &[]),
+    (&[7], &[7]),
+    (&[3, 1, 3, 2, 1], &[1, 2, 3]),
+    (&[u64::MAX, 0, u64::MAX], &[0, u64::MAX]),
+];
+
 #[test]
 fn numbers_once(rt: HostRuntime) -> Result<(), Fail> {
-    let rows: [(&[u64], &[u64]); 4] = [
-        (&[], &[]),
-        (&[7], &[7]),
-        (&[3, 1, 3, 2, 1], &[1, 2, 3]),
-        (&[u64::MAX, 0, u64::MAX], &[0, u64::MAX]),
-    ];
-    for (given, want) in rows {
+    for (given, want) in DISTINCT {
         let mut items = Vec::from_slice(rt.alloc(), given)?;
         distinct(&mut items);
         assert!(rt; items.as_slice() == want);

@@ -91,117 +91,106 @@ const PLAIN_PART: Part = Part {
     length: 1_048_576,
 };
 
+const LARGE: Disk = Disk {
+    sector: 4096,
+    sectors: 300,
+    used: [(127, CONTAINER, 7, 262), (0, SYSTEM, 6, 6)],
+    ..PLAIN
+};
+
+// 1,024 entries of 4,096 bytes, of which the last is a container's.
+const MANY: Disk = Disk {
+    sectors: 9000,
+    entries: 3,
+    count: 1024,
+    size: 4096,
+    used: [(1023, CONTAINER, 8201, 8201), (0, SYSTEM, 8200, 8200)],
+    ..PLAIN
+};
+
+// The first of two.
+const TWO: Disk = Disk {
+    used: [(5, CONTAINER, 41, 50), (6, CONTAINER, 60, 70)],
+    ..PLAIN
+};
+
+// Disks, and where the partition begins and how long it is.
+const FOUND: [(Disk, u64, u64); 4] = [
+    (PLAIN, 20_480, 1_048_576),
+    (LARGE, 28_672, 1_048_576),
+    (MANY, 4_198_912, 512),
+    (TWO, 20_992, 5_120),
+];
+
 #[test]
 fn a_partition_is_found(rt: HostRuntime) -> Result<(), Fail> {
-    let alloc = rt.alloc();
-    let large = Disk {
-        sector: 4096,
-        sectors: 300,
-        used: [(127, CONTAINER, 7, 262), (0, SYSTEM, 6, 6)],
-        ..PLAIN
+    for (disk, start, length) in &FOUND {
+        let part = Part {
+            start: *start,
+            length: *length,
+        };
+        assert!(rt; found(rt.alloc(), disk)? == Ok(part));
+    }
+    Ok(())
+}
+
+// `PLAIN` but for some fields.
+macro_rules! plain_but {
+    ($($field:ident: $value:expr),+) => {
+        Disk { $($field: $value),+, ..PLAIN }
     };
-    // 1,024 entries of 4,096 bytes, of which the last is a container's.
-    let many = Disk {
-        sectors: 9000,
-        entries: 3,
-        count: 1024,
-        size: 4096,
-        used: [(1023, CONTAINER, 8201, 8201), (0, SYSTEM, 8200, 8200)],
-        ..PLAIN
+}
+
+// `PLAIN` with another partition, in entry 2.
+macro_rules! one {
+    ($first:expr, $last:expr) => {
+        plain_but!(used: [(2, CONTAINER, $first, $last), (0, SYSTEM, 34, 39)])
     };
-    // The first of two.
-    let two = Disk {
-        used: [(5, CONTAINER, 41, 50), (6, CONTAINER, 60, 70)],
-        ..PLAIN
-    };
-    for (disk, start, length) in [
-        (PLAIN, 20_480, 1_048_576),
-        (large, 28_672, 1_048_576),
-        (many, 4_198_912, 512),
-        (two, 20_992, 5_120),
-    ] {
-        assert!(rt; found(alloc, &disk)? == Ok(Part { start, length }));
+}
+
+const NONE: Disk = plain_but!(used: [(0, SYSTEM, 40, 2087), (127, SYSTEM, 34, 39)]);
+
+// Disks, and what is told of them.
+const FAULTS: [(Disk, GptStop); 14] = [
+    (plain_but!(sectors: 1), GptStop::NoTable),
+    (plain_but!(size: 127), GptStop::BadTable),
+    (plain_but!(size: 132), GptStop::BadTable),
+    (plain_but!(size: 4104), GptStop::BadTable),
+    (plain_but!(count: 0), GptStop::BadTable),
+    (plain_but!(count: 1025), GptStop::BadTable),
+    (plain_but!(entries: u64::MAX), GptStop::BadTable),
+    (plain_but!(entries: 2057), GptStop::BadTable),
+    (NONE, GptStop::NoPartition),
+    (plain_but!(sectors: 2087), GptStop::PartOutside { at: 0 }),
+    (one!(41, 40), GptStop::PartOutside { at: 2 }),
+    (one!(0, u64::MAX), GptStop::PartOutside { at: 2 }),
+    (one!(u64::MAX, u64::MAX), GptStop::PartOutside { at: 2 }),
+    (one!(1 << 55, 1 << 55), GptStop::PartOutside { at: 2 }),
+];
+
+#[test]
+fn faults_are_told_in_their_order(rt: HostRuntime) -> Result<(), Fail> {
+    for (disk, stop) in &FAULTS {
+        assert!(rt; found(rt.alloc(), disk)? == Err(*stop));
     }
     Ok(())
 }
 
 #[test]
-fn faults_are_told_in_their_order(rt: HostRuntime) -> Result<(), Fail> {
-    let alloc = rt.alloc();
-    let one = |first, last| Disk {
-        used: [(2, CONTAINER, first, last), (0, SYSTEM, 34, 39)],
-        ..PLAIN
-    };
-    let none = Disk {
-        used: [(0, SYSTEM, 40, 2087), (127, SYSTEM, 34, 39)],
-        ..PLAIN
-    };
-    for (disk, stop) in [
-        (
-            Disk {
-                sectors: 1,
-                ..PLAIN
-            },
-            GptStop::NoTable,
-        ),
-        (Disk { size: 127, ..PLAIN }, GptStop::BadTable),
-        (Disk { size: 132, ..PLAIN }, GptStop::BadTable),
-        (
-            Disk {
-                size: 4104,
-                ..PLAIN
-            },
-            GptStop::BadTable,
-        ),
-        (Disk { count: 0, ..PLAIN }, GptStop::BadTable),
-        (
-            Disk {
-                count: 1025,
-                ..PLAIN
-            },
-            GptStop::BadTable,
-        ),
-        (
-            Disk {
-                entries: u64::MAX,
-                ..PLAIN
-            },
-            GptStop::BadTable,
-        ),
-        (
-            Disk {
-                entries: 2057,
-                ..PLAIN
-            },
-            GptStop::BadTable,
-        ),
-        (none, GptStop::NoPartition),
-        (
-            Disk {
-                sectors: 2087,
-                ..PLAIN
-            },
-            GptStop::PartOutside { at: 0 },
-        ),
-        (one(41, 40), GptStop::PartOutside { at: 2 }),
-        (one(0, u64::MAX), GptStop::PartOutside { at: 2 }),
-        (one(u64::MAX, u64::MAX), GptStop::PartOutside { at: 2 }),
-        (one(1 << 55, 1 << 55), GptStop::PartOutside { at: 2 }),
-    ] {
-        assert!(rt; found(alloc, &disk)? == Err(stop));
-    }
-    let mut bytes = bytes_of(alloc, &PLAIN)?;
+fn a_table_without_entries_has_no_partition(rt: HostRuntime) -> Result<(), Fail> {
+    let mut bytes = bytes_of(rt.alloc(), &PLAIN)?;
     put(&mut bytes, 1024, &[0]);
     assert!(rt; find_part(&mut SureSource::new(bytes)) == Err(GptStop::NoPartition));
     Ok(())
 }
 
 // A header at 4,096 that is cut off is none; one of 92 bytes is one.
+const CUT: [(usize, GptStop); 2] = [(4187, GptStop::NoTable), (4188, GptStop::BadTable)];
+
 #[test]
 fn a_header_lies_in_the_disk(rt: HostRuntime) -> Result<(), Fail> {
-    let alloc = rt.alloc();
-    for (len, stop) in [(4187, GptStop::NoTable), (4188, GptStop::BadTable)] {
-        let mut bytes = vec![in alloc; 0u8; len]?;
+    for (len, stop) in CUT {
+        let mut bytes = vec![in rt.alloc(); 0u8; len]?;
         put(&mut bytes, 4096, b"EFI PART");
         assert!(rt; find_part(&mut SureSource::new(bytes)) == Err(stop));
     }

@@ -190,13 +190,16 @@ impl Write for Refusing {
     }
 }
 
+// Whether a write is refused, whether a flush is, and whether a put fails.
+const REFUSALS: [(bool, bool, bool); 3] = [
+    (false, false, false),
+    (true, false, true),
+    (false, true, true),
+];
+
 #[test]
 fn a_write_or_a_flush_that_fails_is_told(rt: HostRuntime) {
-    for (writes, flushes, fails) in [
-        (false, false, false),
-        (true, false, true),
-        (false, true, true),
-    ] {
+    for (writes, flushes, fails) in REFUSALS {
         let mut sink = StdSink::new(Refusing { writes, flushes });
         assert!(rt; sink.put(b"abc").is_err() == fails);
     }
