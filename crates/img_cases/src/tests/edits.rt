@@ -15,6 +15,9 @@ fn an_edited_block_is_whole_once_it_is_resealed(rt: HostRuntime) -> Result<(), F
     Ok(())
 }
 
+// Blocks that aren't there, and bytes that leave a block: the block, and the place in it.
+const OUTSIDE: [(usize, usize); 4] = [(3, 0), (1, 4096), (1, 4095), (usize::MAX, 8)];
+
 #[test]
 fn a_block_of_an_image_is_edited(rt: HostRuntime) -> Result<(), Fail> {
     let mut image = vec![in rt.alloc(); 0u8; 3 * 4096]?;
@@ -30,8 +33,7 @@ fn a_block_of_an_image_is_edited(rt: HostRuntime) -> Result<(), Fail> {
             && reseal_block(&mut image, 4096, 2)
             && u64_at(&image, 8192) == SUM
     );
-    // a block that isn't there, and bytes that leave a block
-    for (block, at) in [(3, 0), (1, 4096), (1, 4095), (usize::MAX, 8)] {
+    for (block, at) in OUTSIDE {
         assert!(rt;
             !edit(&mut image, 4096, block, at, &[1, 1]),
             "block {block}"

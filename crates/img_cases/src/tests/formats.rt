@@ -69,13 +69,15 @@ fn another_program_writes_the_same(rt: HostRuntime) -> Result<(), Fail> {
     Ok(())
 }
 
+// Which put is refused, and how many blocks are put before. The used blocks are put at once, and then each block of zeros.
+const REFUSED: [(u64, usize); 3] = [(1, 0), (2, 57), (200, 255)];
+
 #[test]
 fn a_refused_put_stops_it(rt: HostRuntime) -> Result<(), Fail> {
     let alloc = rt.alloc();
     let spec = spec_of(alloc, &CASES[0])?;
     assert!(rt; spec.valid());
-    // The used blocks are put at once, and then each block of zeros.
-    for (put, kept) in [(1, 0), (2, 57), (200, 255)] {
+    for (put, kept) in REFUSED {
         let mut sink = MemSink::new(alloc, 256 * 4096, vec![in alloc; put]?)?;
         assert!(rt;
             format(alloc, &spec, &mut sink) == Err(FormatStop::WriteFault)
@@ -85,21 +87,22 @@ fn a_refused_put_stops_it(rt: HostRuntime) -> Result<(), Fail> {
     Ok(())
 }
 
+// How many blocks are asked for, and a name.
+const WRONG: [(u64, &[u8]); 6] = [
+    (255, b"x"),
+    (32_769, b"x"),
+    (256, b""),
+    (256, &[b'x'; 256]),
+    (256, b"a\0b"),
+    (256, b"\xff"),
+];
+
 #[test]
 fn what_cannot_be_made(rt: HostRuntime) -> Result<(), Fail> {
-    let alloc = rt.alloc();
-    let wrong: [(u64, &[u8]); 6] = [
-        (255, b"x"),
-        (32_769, b"x"),
-        (256, b""),
-        (256, &[b'x'; 256]),
-        (256, b"a\0b"),
-        (256, b"\xff"),
-    ];
-    for (blocks, name) in wrong {
+    for (blocks, name) in WRONG {
         let spec = Spec {
             blocks,
-            name: Bytes::from_slice(alloc, name)?,
+            name: Bytes::from_slice(rt.alloc(), name)?,
             container: [0; 16],
             volume: [0; 16],
         };

@@ -84,20 +84,22 @@ fn assert_rows(rt: &impl Abort, image: &[u8], size: usize, rows: &[Row], small: 
     }
 }
 
+// Samples, with the rows in which each differs from the small one.
+const SAMPLES: [(Sample, &[Row]); 9] = [
+    (Sample::S, &[]),
+    (Sample::H, rows::HELLO),
+    (Sample::L, rows::LINKS),
+    (Sample::P, rows::HOLE),
+    (Sample::C, rows::SHARED),
+    (Sample::V, rows::SNAPSHOTS),
+    (Sample::V2, rows::EIGHT_SNAPSHOTS),
+    (Sample::J, rows::JUMPSTART),
+    (Sample::T, rows::TWO_VOLUMES),
+];
+
 #[test]
 fn each_sample_has_its_blocks(rt: HostRuntime) -> Result<(), Fail> {
-    let samples: [(Sample, &[Row]); 9] = [
-        (Sample::S, &[]),
-        (Sample::H, rows::HELLO),
-        (Sample::L, rows::LINKS),
-        (Sample::P, rows::HOLE),
-        (Sample::C, rows::SHARED),
-        (Sample::V, rows::SNAPSHOTS),
-        (Sample::V2, rows::EIGHT_SNAPSHOTS),
-        (Sample::J, rows::JUMPSTART),
-        (Sample::T, rows::TWO_VOLUMES),
-    ];
-    for (which, rows) in samples {
+    for (which, rows) in SAMPLES {
         let plan = sample(rt.alloc(), which)?;
         let image = image_of(rt.alloc(), &plan)?;
         assert!(rt; image.len() == 1_048_576, "{which:?}");
@@ -147,12 +149,14 @@ fn address_blocks_name_groups(rt: HostRuntime) -> Result<(), Fail> {
     Ok(())
 }
 
+// The bytes of a block, and the rows of the small sample.
+const SIZES: [(u32, &[Row]); 2] = [(16384, rows::SMALL_16384), (65536, rows::SMALL_65536)];
+
 #[test]
 fn greater_blocks_hold_the_same(rt: HostRuntime) -> Result<(), Fail> {
-    let sizes: [(u32, &[Row]); 2] = [(16384, rows::SMALL_16384), (65536, rows::SMALL_65536)];
     let plan = sample(rt.alloc(), Sample::S)?;
     assert!(rt; plan.blocks == 256);
-    for (size, rows) in sizes {
+    for (size, rows) in SIZES {
         if plan.valid() && plan.blocks == 256 {
             let image = make_with(rt.alloc(), &plan, size)?;
             assert!(rt; image.len() == 256 * size as usize);
