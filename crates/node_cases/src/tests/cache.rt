@@ -68,15 +68,21 @@ fn gives_the_image<S: BlockSource>(alloc: Global, source: &mut S) -> Result<bool
     Ok(true)
 }
 
+// What a small and a large cache keep after those pieces. Block 3 is never the last one that a piece touches.
+const SMALL_KEEPS: &[(u64, bool)] = &[(4, true), (0, false)];
+
+const LARGE_KEEPS: &[(u64, bool)] = &[(0, true), (3, false)];
+
 #[test]
 fn a_small_and_a_large_cache_give_the_same_bytes(rt: HostRuntime) -> Result<(), Fail> {
     let mut small = cached(rt.alloc(), SIZE, 3)?;
     let mut large = cached(rt.alloc(), SIZE, 256)?;
     assert!(rt;
-        gives_the_image(rt.alloc(), &mut small)? && gives_the_image(rt.alloc(), &mut large)?
+        gives_the_image(rt.alloc(), &mut small)?
+            && gives_the_image(rt.alloc(), &mut large)?
+            && keeps(&small, SMALL_KEEPS)
+            && keeps(&large, LARGE_KEEPS)
     );
-    // Block 3 is never the last one that a piece touches.
-    assert!(rt; keeps(&small, &[(4, true), (0, false)]) && keeps(&large, &[(0, true), (3, false)]));
     Ok(())
 }
 
@@ -129,6 +135,11 @@ fn keeps(cached: &Cached<SureSource>, blocks: &[(u64, bool)]) -> bool {
         .all(|(block, kept)| cached.kept(*block) == *kept)
 }
 
+// What is kept after them, and after a third node, which takes the place of contents.
+const KEPT: &[(u64, bool)] = &[(0, true), (1, true), (3, false), (5, false), (8, true)];
+
+const KEPT_AFTER_A_NODE: &[(u64, bool)] = &[(0, true), (1, true), (2, true), (8, false)];
+
 #[test]
 fn reads_of_several_blocks_push_out_one_block_at_most(rt: HostRuntime) -> Result<(), Fail> {
     let alloc = rt.alloc();
@@ -136,14 +147,8 @@ fn reads_of_several_blocks_push_out_one_block_at_most(rt: HostRuntime) -> Result
     for (at, len) in NODES_AND_CONTENTS {
         let _piece = piece(alloc, &mut cached, at, len)?;
     }
-    assert!(rt;
-        keeps(
-            &cached,
-            &[(0, true), (1, true), (3, false), (5, false), (8, true)]
-        )
-    );
-    // A third node takes the place of contents.
+    assert!(rt; keeps(&cached, KEPT));
     let _node = piece(alloc, &mut cached, 8192, 4096)?;
-    assert!(rt; keeps(&cached, &[(0, true), (1, true), (2, true), (8, false)]));
+    assert!(rt; keeps(&cached, KEPT_AFTER_A_NODE));
     Ok(())
 }

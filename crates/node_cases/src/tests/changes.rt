@@ -183,17 +183,22 @@ fn facts_of_leaves_that_both_views_have_are_the_same(rt: HostRuntime) -> Result<
     Ok(())
 }
 
+// The names of a volume, and the leaves of a view: one outside the container, one in the block of another, and one whose keys have no hashes, where names are
+// hashed.
+const OUT_OF_PLACE: [(Names, &[Leaf]); 3] = [
+    (Names::Exact, &[Leaf { oid: 7, block: 5 }]),
+    (Names::Exact, &[Leaf { oid: 7, block: 4 }]),
+    (Names::Normal, &[SEVEN]),
+];
+
 #[test]
 fn a_leaf_out_of_place_is_not_taken(rt: HostRuntime) -> Result<(), Fail> {
     let alloc = rt.alloc();
     let mut source = source(alloc)?;
-    let none = KeptView::none::<FsPlainKey>(alloc, Names::Exact);
-    let outside = Leaf { oid: 7, block: 5 };
-    assert!(rt; matches!(change(&rt, alloc, &mut source, none, &[outside]), Ok(None)));
-    let other = Leaf { oid: 7, block: 4 };
-    let none = KeptView::none::<FsPlainKey>(alloc, Names::Exact);
-    assert!(rt; matches!(change(&rt, alloc, &mut source, none, &[other]), Ok(None)));
-    let hashed = KeptView::none::<FsPlainKey>(alloc, Names::Normal);
-    assert!(rt; matches!(change(&rt, alloc, &mut source, hashed, &[SEVEN]), Ok(None)));
+    for (i, (names, leaves)) in OUT_OF_PLACE.iter().enumerate() {
+        let none = KeptView::none::<FsPlainKey>(alloc, *names);
+        let changed = change(&rt, alloc, &mut source, none, leaves);
+        assert!(rt; matches!(changed, Ok(None)), "leaf {i}");
+    }
     Ok(())
 }

@@ -14,8 +14,8 @@ fn seen<K: TreeKey>(key: &[u8]) -> Option<(u64, u64, u64, bool)> {
 }
 
 fn read_all<K: TreeKey>(rt: &impl Abort, cases: &[Case]) {
-    for (key, expected) in cases {
-        assert!(rt; seen::<K>(key) == *expected, "{key:?}");
+    for (i, (key, expected)) in cases.iter().enumerate() {
+        assert!(rt; seen::<K>(key) == *expected, "key {i}");
     }
 }
 
@@ -116,13 +116,14 @@ fn parts<K: FsTreeKey>(key: &[u8]) -> Option<(u64, u8, bool)> {
     Some((key.id(), key.kind(), K::HASHED))
 }
 
+const EXTENT: &[u8] = &[2, 0, 0, 0, 0, 0, 0, 0x80, 0, 16, 0, 0, 0, 0, 0, 0];
+
 #[test]
 fn keys_of_file_systems(rt: HostRuntime) {
-    let extent = [2, 0, 0, 0, 0, 0, 0, 0x80, 0, 16, 0, 0, 0, 0, 0, 0];
     assert!(rt;
-        parts::<FsKey>(&extent) == Some((2, 8, true))
-            && parts::<FsPlainKey>(&extent) == Some((2, 8, false))
-            && parts::<FsPlainKey>(&extent[..15]) == None
+        parts::<FsKey>(EXTENT) == Some((2, 8, true))
+            && parts::<FsPlainKey>(EXTENT) == Some((2, 8, false))
+            && parts::<FsPlainKey>(&EXTENT[..15]) == None
     );
 }
 
@@ -136,42 +137,50 @@ fn ranks_are_ordered_by_their_fields(rt: HostRuntime) {
     );
 }
 
+// The value of an entry of an object map, and what it says.
+const MAPPING: &[u8] = &[4, 0, 0, 0, 0, 16, 0, 0, 61, 0, 0, 0, 0, 0, 0, 0];
+
+const PLACE: OmapValue = OmapValue {
+    flags: 4,
+    size: 4096,
+    paddr: 61,
+};
+
 #[test]
 fn values_of_an_object_map(rt: HostRuntime) {
-    let value = [4, 0, 0, 0, 0, 16, 0, 0, 61, 0, 0, 0, 0, 0, 0, 0];
-    let place = OmapValue {
-        flags: 4,
-        size: 4096,
-        paddr: 61,
-    };
     assert!(rt;
-        omap_value(&value[..]) == Some(place)
-            && omap_value(&value[..15]) == None
-            && omap_snap_flags(&value[..]) == Some(4)
-            && omap_snap_flags(&value[..15]) == None
+        omap_value(MAPPING) == Some(PLACE)
+            && omap_value(&MAPPING[..15]) == None
+            && omap_snap_flags(MAPPING) == Some(4)
+            && omap_snap_flags(&MAPPING[..15]) == None
     );
 }
+
+// The value of an entry of a queue.
+const LENGTH: &[u8] = &[61, 0, 0, 0, 0, 0, 0, 0];
 
 #[test]
 fn values_of_a_queue(rt: HostRuntime) {
-    let value = [61, 0, 0, 0, 0, 0, 0, 0];
     assert!(rt;
         queue_length(None) == Some(1)
-            && queue_length(Some(&value[..])) == Some(61)
-            && queue_length(Some(&value[1..])) == None
+            && queue_length(Some(LENGTH)) == Some(61)
+            && queue_length(Some(&LENGTH[1..])) == None
     );
 }
 
+// The value of a range, and what it says.
+const RANGE: &[u8] = &[
+    3, 0, 0, 0, 0, 0, 0, 0x10, 16, 0, 0, 0, 0, 0, 0, 0, 0xff, 0xff, 0xff, 0xff,
+];
+
+const RANGE_PARTS: ExtValue = ExtValue {
+    length: 3,
+    kind: 1,
+    owner: 16,
+    count: -1,
+};
+
 #[test]
 fn values_of_ranges(rt: HostRuntime) {
-    let value = [
-        3, 0, 0, 0, 0, 0, 0, 0x10, 16, 0, 0, 0, 0, 0, 0, 0, 0xff, 0xff, 0xff, 0xff,
-    ];
-    let range = ExtValue {
-        length: 3,
-        kind: 1,
-        owner: 16,
-        count: -1,
-    };
-    assert!(rt; ext_value(&value[..]) == Some(range) && ext_value(&value[..19]) == None);
+    assert!(rt; ext_value(RANGE) == Some(RANGE_PARTS) && ext_value(&RANGE[..19]) == None);
 }

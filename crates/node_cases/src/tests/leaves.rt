@@ -144,6 +144,14 @@ fn tall_image(alloc: Global) -> Result<Vec<u8>, AllocError> {
     Ok(image)
 }
 
+const SITE: Site = Site {
+    block_size: 4096,
+    blocks: 11,
+    max_xid: 9,
+};
+
+const PHYSICAL: Physical = Physical { blocks: 11 };
+
 // The leaves of the tree of a root in that image, and the number of reads.
 fn leaves_below(
     rt: &impl Abort,
@@ -153,41 +161,39 @@ fn leaves_below(
     let image = tall_image(alloc)?;
     assert!(rt; image.len() == 45056);
     let mut source = MemSource::new(image, Vec::new(alloc));
-    let site = Site {
-        block_size: 4096,
-        blocks: 11,
-        max_xid: 9,
-    };
     let found = walk_leaves::<OmapKey, MemSource, Physical, Leaves>(
         alloc,
         &mut source,
-        &Physical { blocks: 11 },
-        &site,
+        &PHYSICAL,
+        &SITE,
         root,
         Leaves(Vec::new(alloc)),
     );
     Ok((found.unwrap_or(None), source.read_count()))
 }
 
+// The leaves of the tree of block 6.
+const THREE_LEAVES: &[Leaf] = &[
+    Leaf { oid: 1, block: 1 },
+    Leaf { oid: 2, block: 2 },
+    Leaf { oid: 3, block: 3 },
+];
+
 #[test]
 fn leaves_are_taken_by_the_nodes_above_them(rt: HostRuntime) -> Result<(), Fail> {
     let (found, reads) = leaves_below(&rt, rt.alloc(), 6)?;
-    let expected = [
-        Leaf { oid: 1, block: 1 },
-        Leaf { oid: 2, block: 2 },
-        Leaf { oid: 3, block: 3 },
-    ];
-    assert!(rt;
-        found.is_some_and(|leaves| leaves.0.as_slice() == expected.as_slice()) && reads == 3
-    );
+    assert!(rt; found.is_some_and(|leaves| leaves.0.as_slice() == THREE_LEAVES) && reads == 3);
     let (small, _) = leaves_below(&rt, rt.alloc(), 10)?;
     assert!(&rt; small.is_some());
     Ok(())
 }
 
+// Blocks that are no roots of whole trees.
+const NOT_WHOLE: [u64; 4] = [1, 7, 8, 9];
+
 #[test]
 fn no_tree_is_told_whole_that_is_not(rt: HostRuntime) -> Result<(), Fail> {
-    for root in [1, 7, 8, 9] {
+    for root in NOT_WHOLE {
         let (found, _) = leaves_below(&rt, rt.alloc(), root)?;
         assert!(&rt; found.is_none(), "root {root}");
     }

@@ -181,14 +181,18 @@ const LEVEL_CASES: &[Case] = &[
     ),
 ];
 
+const AT_LEVEL_ONE: NodeAt = NodeAt {
+    level: Some(1),
+    ..AT
+};
+
 #[test]
 fn levels_are_compared_in_their_turn(rt: HostRuntime) {
-    let at = NodeAt {
-        level: Some(1),
-        ..AT
-    };
     for (name, expected, edits) in LEVEL_CASES {
-        assert!(rt; fault::<OmapKey>(&made(edits), &at) == *expected, "{name}");
+        assert!(rt;
+            fault::<OmapKey>(&made(edits), &AT_LEVEL_ONE) == *expected,
+            "{name}"
+        );
     }
 }
 
@@ -220,9 +224,12 @@ fn keys_are_read_last(rt: HostRuntime) {
     }
 }
 
+// The entry's key has the id 5, and its value starts with 9.
+const FIVE_NINE: &[Edit] = &[(60, 5), (4040, 9)];
+
 #[test]
 fn an_entry_is_lent_from_its_block(rt: HostRuntime) -> Result<(), Fail> {
-    let node = made(&[(60, 5), (4040, 9)]);
+    let node = made(FIVE_NINE);
     let Ok(read) = NodeView::<OmapKey>::read(&node[..], &AT, &SITE) else {
         return Err(Fail::from("not sound"));
     };
@@ -237,9 +244,11 @@ fn an_entry_is_lent_from_its_block(rt: HostRuntime) -> Result<(), Fail> {
     Ok(())
 }
 
+const NO_ENTRY: &[Edit] = &[(COUNT, 0), (TABLE_LENGTH, 0)];
+
 #[test]
 fn a_root_without_entries_is_sound(rt: HostRuntime) -> Result<(), Fail> {
-    let node = made(&[(COUNT, 0), (TABLE_LENGTH, 0)]);
+    let node = made(NO_ENTRY);
     let Ok(view) = NodeView::<OmapKey>::read(&node[..], &AT, &SITE) else {
         return Err(Fail::from("not sound"));
     };
@@ -249,34 +258,47 @@ fn a_root_without_entries_is_sound(rt: HostRuntime) -> Result<(), Fail> {
     Ok(())
 }
 
-// A queue's entry may have no value, and an extent reference tree's nodes have either layout.
+// A queue's node, whose entry has no value.
+const QUEUE_GHOST: &[Edit] = &[(SUBTYPE, 9), (VALUE_OFFSET, 0xffff)];
+
 #[test]
-fn ghosts_and_both_layouts(rt: HostRuntime) -> Result<(), Fail> {
-    let node = made(&[(SUBTYPE, 9), (VALUE_OFFSET, 0xffff)]);
+fn an_entry_of_a_queue_may_have_no_value(rt: HostRuntime) -> Result<(), Fail> {
+    let node = made(QUEUE_GHOST);
     let Ok(view) = NodeView::<QueueKey>::read(&node[..], &AT, &SITE) else {
         return Err(Fail::from("not sound"));
     };
     if view.len() == 1 {
         assert!(rt; view.entry(0).value == None);
     }
-    let fixed = made(&[(SUBTYPE, 0xf), (VALUE_OFFSET, 20), (66, 0x2000)]);
-    assert!(rt; fault::<ExtKey>(&fixed, &AT) == None);
-    let variable = made(&[
-        (SUBTYPE, 0xf),
-        (FLAGS, 3),
-        (TABLE_LENGTH, 8),
-        (58, 8),
-        (60, 20),
-        (62, 20),
-        (70, 0x2000),
-    ]);
-    assert!(rt; fault::<ExtKey>(&variable, &AT) == None);
     Ok(())
 }
 
+// A node of an extent reference tree whose table has offsets alone, and one whose table has lengths too.
+const FIXED: &[Edit] = &[(SUBTYPE, 0xf), (VALUE_OFFSET, 20), (66, 0x2000)];
+
+const VARIABLE: &[Edit] = &[
+    (SUBTYPE, 0xf),
+    (FLAGS, 3),
+    (TABLE_LENGTH, 8),
+    (58, 8),
+    (60, 20),
+    (62, 20),
+    (70, 0x2000),
+];
+
+#[test]
+fn nodes_of_extent_references_have_either_layout(rt: HostRuntime) {
+    assert!(rt;
+        fault::<ExtKey>(&made(FIXED), &AT) == None && fault::<ExtKey>(&made(VARIABLE), &AT) == None
+    );
+}
+
+// The number of the child is 9, with 1 in its highest byte.
+const PARENT: &[Edit] = &[(FLAGS, 5), (LEVEL, 1), (4040, 9), (4046, 0x100)];
+
 #[test]
 fn a_node_above_the_leaves_names_children(rt: HostRuntime) -> Result<(), Fail> {
-    let node = made(&[(FLAGS, 5), (LEVEL, 1), (4040, 9), (4046, 0x100)]);
+    let node = made(PARENT);
     let Ok(view) = NodeView::<OmapKey>::read(&node[..], &AT, &SITE) else {
         return Err(Fail::from("not sound"));
     };

@@ -9,21 +9,33 @@ use fs_record::{
     AttrBody, DirEntry, FileExt, RecFault, StreamSize, attr, entry, file_ext, inode, refused,
     sibling_link, sibling_map,
 };
-use std::alloc::Global;
-use std::test::Fail;
+use std::alloc::{AllocError, Global};
 
-// An inode's value with a field of so many bytes of type 4, padded, and then a stream of 7 bytes in a block of 4,096.
-fn inode_value(alloc: Global, len: u8, padded: &[u8]) -> Result<Vec<u8>, Fail> {
+// What an inode's value starts with, and its stream of 7 bytes in a block of 4,096; in pieces.
+const INODE: &[&[u8]] = &[
+    &[2, 0, 0, 0, 0, 0, 0, 0, 16, 0, 0, 0, 0, 0, 0, 0],
+    &[0; 40],
+    &[1, 0, 0, 0, 0, 0, 0, 0, 0, 0, 0, 0, 0x20, 0, 0, 0],
+    &[0, 0, 0, 0, 0, 0, 0, 0, 0, 0x81],
+    &[0; 10],
+];
+
+const STREAM_FIELD: &[&[u8]] = &[&[7, 0, 0, 0, 0, 0, 0, 0, 0, 16], &[0; 30]];
+
+fn add(value: &mut Vec<u8>, pieces: &[&[u8]]) -> Result<(), AllocError> {
+    for piece in pieces {
+        value.extend_from_slice(piece)?;
+    }
+    Ok(())
+}
+
+// An inode's value with a field of so many bytes of type 4, padded, and then that stream.
+fn inode_value(alloc: Global, len: u8, padded: &[u8]) -> Result<Vec<u8>, AllocError> {
     let mut value = Vec::new(alloc);
-    value.extend_from_slice(&[2, 0, 0, 0, 0, 0, 0, 0, 16, 0, 0, 0, 0, 0, 0, 0])?;
-    value.extend_from_slice(&[0; 40])?;
-    value.extend_from_slice(&[1, 0, 0, 0, 0, 0, 0, 0, 0, 0, 0, 0, 0x20, 0, 0, 0])?;
-    value.extend_from_slice(&[0, 0, 0, 0, 0, 0, 0, 0, 0, 0x81])?;
-    value.extend_from_slice(&[0; 10])?;
+    add(&mut value, INODE)?;
     value.extend_from_slice(&[2, 0, 48, 0, 4, 0, len, 0, 8, 0, 40, 0])?;
     value.extend_from_slice(padded)?;
-    value.extend_from_slice(&[7, 0, 0, 0, 0, 0, 0, 0, 0, 16])?;
-    value.extend_from_slice(&[0; 30])?;
+    add(&mut value, STREAM_FIELD)?;
     Ok(value)
 }
 
@@ -32,17 +44,20 @@ const STREAM: StreamSize = StreamSize {
     allocated: 4096,
 };
 
+// How many bytes a field has, and those bytes with what pads them.
+const PADDED: &[(u8, &[u8])] = &[
+    (0, &[]),
+    (1, &[9; 8]),
+    (4, &[9; 8]),
+    (5, &[9; 8]),
+    (8, &[9; 8]),
+    (9, &[9; 16]),
+];
+
 #[test]
-fn a_stream_is_found_after_a_padded_field(rt: HostRuntime) -> Result<(), Fail> {
-    for (len, padded) in [
-        (0, [].as_slice()),
-        (1, &[9; 8]),
-        (4, &[9; 8]),
-        (5, &[9; 8]),
-        (8, &[9; 8]),
-        (9, &[9; 16]),
-    ] {
-        let value = inode_value(rt.alloc(), len, padded)?;
+fn a_stream_is_found_after_a_padded_field(rt: HostRuntime) -> Result<(), AllocError> {
+    for (len, padded) in PADDED {
+        let value = inode_value(rt.alloc(), *len, padded)?;
         let read = inode(&value);
         assert!(rt;
             matches!(read, Ok(inode) if inode.stream() == Some(STREAM)),
@@ -53,7 +68,7 @@ fn a_stream_is_found_after_a_padded_field(rt: HostRuntime) -> Result<(), Fail> {
 }
 
 #[test]
-fn an_inode_is_read(rt: HostRuntime) -> Result<(), Fail> {
+fn an_inode_is_read(rt: HostRuntime) -> Result<(), AllocError> {
     let value = inode_value(rt.alloc(), 3, &[9; 8])?;
     let read = inode(&value);
     assert!(rt; read.is_ok());
@@ -64,17 +79,23 @@ fn an_inode_is_read(rt: HostRuntime) -> Result<(), Fail> {
                 && inode.stream() == Some(STREAM)
         );
     }
-    for (len, why) in [
-        (91, RecFault::Length),
-        (95, RecFault::Fields),
-        (103, RecFault::Fields),
-        (151, RecFault::Fields),
-    ] {
+    Ok(())
+}
+
+// How many of an inode's bytes there are, and why it is refused.
+const CUT_INODES: [(usize, RecFault); 4] = [
+    (91, RecFault::Length),
+    (95, RecFault::Fields),
+    (103, RecFault::Fields),
+    (151, RecFault::Fields),
+];
+
+#[test]
+fn an_inode_that_is_cut_is_refused(rt: HostRuntime) -> Result<(), AllocError> {
+    let value = inode_value(rt.alloc(), 3, &[9; 8])?;
+    for (len, why) in CUT_INODES {
         let refused = inode(value.get(..len).unwrap_or(&[]));
-        assert!(rt;
-            matches!(refused, Err(found) if found == why),
-            "{len} bytes"
-        );
+        assert!(rt; is_refused(refused, why), "{len} bytes");
     }
     let bare = inode(value.get(..92).unwrap_or(&[]));
     assert!(rt; matches!(bare, Ok(inode) if inode.stream().is_none()));
@@ -134,86 +155,110 @@ fn an_entry_is_read(rt: HostRuntime) {
     assert!(rt; is_refused(unnamed, RecFault::Name));
 }
 
+// The values of an attribute of three bytes, and of one whose five bytes are in the stream 20.
+const EMBEDDED_VALUE: &[u8] = &[2, 0, 3, 0, 7, 8, 9];
+
+const STREAMED_VALUE: &[u8] = &[
+    1, 0, 48, 0, 20, 0, 0, 0, 0, 0, 0, 0, 5, 0, 0, 0, 0, 0, 0, 0, 0, 0, 0, 0, 0, 0, 0, 0, 0, 0, 0,
+    0, 0, 0, 0, 0, 0, 0, 0, 0, 0, 0, 0, 0, 0, 0, 0, 0, 0, 0, 0, 0,
+];
+
 #[test]
 #[tactic(auto, unfolding(bt_keys::specs::RecordKey::plain_name_len, apfs_model::specs::Bytes::u16_at))]
-fn an_attribute_is_read(rt: HostRuntime) -> Result<(), Fail> {
-    let embedded = attr(PLAIN_KEY, &[2, 0, 3, 0, 7, 8, 9]);
+fn an_attribute_is_read(rt: HostRuntime) {
+    let embedded = attr(PLAIN_KEY, EMBEDDED_VALUE);
     assert!(rt; embedded.is_ok());
     if let Ok(attr) = embedded {
         assert!(rt; attr.name() == "hello" && attr.body() == AttrBody::Embedded(&[7, 8, 9]));
     }
-    let mut value = vec![in rt.alloc(); 0u8; 52]?;
-    value[..13].copy_from_slice(&[1, 0, 48, 0, 20, 0, 0, 0, 0, 0, 0, 0, 5]);
-    let streamed = attr(PLAIN_KEY, &value);
+    let streamed = attr(PLAIN_KEY, STREAMED_VALUE);
     assert!(rt; streamed.is_ok());
     if let Ok(attr) = streamed {
         assert!(rt; attr.body() == AttrBody::Stream { id: 20, size: 5 });
     }
-    for (value, why) in [
-        ([2, 0, 0].as_slice(), RecFault::Length),
-        (&[2, 0, 1, 0], RecFault::Length),
-        (&[1, 0, 1, 0, 7], RecFault::Length),
-        (&[0, 0, 1, 0, 7], RecFault::Flags),
-    ] {
-        let refused = attr(PLAIN_KEY, value);
-        assert!(rt; matches!(refused, Err(found) if found == why), "{why:?}");
+}
+
+// Values of no attribute, and why they are refused.
+const WRONG_ATTRIBUTES: &[(&[u8], RecFault)] = &[
+    (&[2, 0, 0], RecFault::Length),
+    (&[2, 0, 1, 0], RecFault::Length),
+    (&[1, 0, 1, 0, 7], RecFault::Length),
+    (&[0, 0, 1, 0, 7], RecFault::Flags),
+];
+
+#[test]
+#[tactic(auto, unfolding(bt_keys::specs::RecordKey::plain_name_len, apfs_model::specs::Bytes::u16_at))]
+fn a_wrong_attribute_is_refused(rt: HostRuntime) {
+    for (i, (value, why)) in WRONG_ATTRIBUTES.iter().enumerate() {
+        assert!(rt; is_refused(attr(PLAIN_KEY, value), *why), "attribute {i}");
     }
-    Ok(())
 }
 
 // The key of file 16 and sibling 18, or of stream 16 from byte 18 on.
 const SECOND_KEY: &[u8] = &[16, 0, 0, 0, 0, 0, 0, 0x50, 18, 0, 0, 0, 0, 0, 0, 0];
 
+// The value of a sibling with the name `a` in directory 2.
+const LINK_VALUE: &[u8] = &[2, 0, 0, 0, 0, 0, 0, 0, 2, 0, b'a', 0];
+
+// The value of a sibling map: the file 16.
+const MAP_VALUE: &[u8] = &[16, 0, 0, 0, 0, 0, 0, 0];
+
 #[test]
 fn siblings_are_read(rt: HostRuntime) {
-    let read = sibling_link(SECOND_KEY, &[2, 0, 0, 0, 0, 0, 0, 0, 2, 0, b'a', 0]);
+    let read = sibling_link(SECOND_KEY, LINK_VALUE);
     assert!(rt; read.is_ok());
     if let Ok(link) = read {
         assert!(rt;
             (link.file(), link.sibling(), link.parent()) == (16, 18, 2) && link.name() == "a"
         );
     }
-    for (value, why) in [
-        ([2, 0, 0, 0, 0, 0, 0, 0, 2].as_slice(), RecFault::Length),
-        (&[2, 0, 0, 0, 0, 0, 0, 0, 2, 0, b'a'], RecFault::Length),
-        (&[2, 0, 0, 0, 0, 0, 0, 0, 1, 0, b'a', 0], RecFault::Name),
-    ] {
-        let refused = sibling_link(SECOND_KEY, value);
-        assert!(rt; matches!(refused, Err(found) if found == why), "{why:?}");
-    }
     assert!(rt;
-        sibling_map(&[16, 0, 0, 0, 0, 0, 0, 0]) == Ok(16)
-            && sibling_map(&[16]) == Err(RecFault::Length)
+        sibling_map(MAP_VALUE) == Ok(16) && sibling_map(&MAP_VALUE[..1]) == Err(RecFault::Length)
     );
 }
+
+// Values of no sibling, and why they are refused.
+const WRONG_LINKS: &[(&[u8], RecFault)] = &[
+    (&[2, 0, 0, 0, 0, 0, 0, 0, 2], RecFault::Length),
+    (&[2, 0, 0, 0, 0, 0, 0, 0, 2, 0, b'a'], RecFault::Length),
+    (&[2, 0, 0, 0, 0, 0, 0, 0, 1, 0, b'a', 0], RecFault::Name),
+];
+
+#[test]
+fn a_wrong_sibling_is_refused(rt: HostRuntime) {
+    for (i, (value, why)) in WRONG_LINKS.iter().enumerate() {
+        assert!(rt;
+            is_refused(sibling_link(SECOND_KEY, value), *why),
+            "sibling {i}"
+        );
+    }
+}
+
+// The value of an extent, with flags in its eighth byte, and what it says under that key.
+const EXTENT_VALUE: &[u8] = &[
+    0, 16, 0, 0, 0, 0, 0, 0xff, 57, 0, 0, 0, 0, 0, 0, 0, 0, 0, 0, 0, 0, 0, 0, 0,
+];
+
+const EXTENT: FileExt = FileExt {
+    logical: 18,
+    length: 4096,
+    block: 57,
+};
 
 #[test]
 fn an_extent_is_read(rt: HostRuntime) {
-    let mut value = [0u8; 24];
-    value[1] = 16;
-    value[7] = 0xff;
-    value[8] = 57;
-    let extent = FileExt {
-        logical: 18,
-        length: 4096,
-        block: 57,
-    };
     assert!(rt;
-        file_ext(SECOND_KEY, &value) == Ok(extent)
-            && file_ext(SECOND_KEY, &value[..23]) == Err(RecFault::Length)
+        file_ext(SECOND_KEY, EXTENT_VALUE) == Ok(EXTENT)
+            && file_ext(SECOND_KEY, &EXTENT_VALUE[..23]) == Err(RecFault::Length)
     );
 }
 
+// How many bytes an extent has, and how many blocks.
+const LENGTHS: [(u64, u64); 6] = [(0, 0), (1, 1), (4095, 1), (4096, 1), (4097, 2), (8192, 2)];
+
 #[test]
 fn an_extent_has_the_blocks_of_its_length(rt: HostRuntime) {
-    for (length, wanted) in [
-        (0u64, 0u64),
-        (1, 1),
-        (4095, 1),
-        (4096, 1),
-        (4097, 2),
-        (8192, 2),
-    ] {
+    for (length, wanted) in LENGTHS {
         let extent = FileExt {
             logical: 0,
             length,
@@ -275,19 +320,25 @@ const RECORDS: &[(&[u8], &[u8], Option<RecFault>)] = &[
 
 #[test]
 fn records_are_refused_by_their_readers(rt: HostRuntime) {
-    for (key, value, want) in RECORDS {
+    for (i, (key, value, want)) in RECORDS.iter().enumerate() {
         assert!(rt;
             why::<FsKey>(Names::Normal, key, value) == *want
                 && why::<FsPlainKey>(Names::Exact, key, value) == *want,
-            "{key:?}"
+            "record {i}"
         );
     }
-    let short = Some(RecFault::Length);
+}
+
+const SHORT: Option<RecFault> = Some(RecFault::Length);
+
+const UNNAMED: Option<RecFault> = Some(RecFault::Name);
+
+#[test]
+fn entries_are_refused_by_their_reader(rt: HostRuntime) {
     assert!(rt;
         why::<FsKey>(Names::Folded, HASHED_KEY, ENTRY_VALUE) == None
-            && why::<FsKey>(Names::Folded, HASHED_KEY, &ENTRY_VALUE[..17]) == short
+            && why::<FsKey>(Names::Folded, HASHED_KEY, &ENTRY_VALUE[..17]) == SHORT
             && why::<FsPlainKey>(Names::Exact, PLAIN_KEY, ENTRY_VALUE) == None
+            && why::<FsPlainKey>(Names::Exact, UNNAMED_KEY, &ENTRY_VALUE[..18]) == UNNAMED
     );
-    let unnamed = why::<FsPlainKey>(Names::Exact, UNNAMED_KEY, &ENTRY_VALUE[..18]);
-    assert!(rt; unnamed == Some(RecFault::Name));
 }

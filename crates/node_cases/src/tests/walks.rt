@@ -13,10 +13,7 @@ use obj_base::Stop;
 use std::alloc::Global;
 use std::process::Abort;
 use std::test::Fail;
-use trees::{
-    HASHED, Item, PLAIN, QUEUE, SIXTEEN_THREE, TWO_LEAVES, TWO_NINE, TWO_THREE, inner, leaf, root,
-    three_levels,
-};
+use trees::*;
 
 const SITE: Site = Site {
     block_size: 4096,
@@ -108,145 +105,125 @@ fn assert_flat<K: TreeKey>(
     Ok(())
 }
 
-fn rank(id: u64, kind: u64) -> Option<Rank> {
-    Some(Rank { id, kind, sub: 0 })
+// A rank of an id and a kind.
+macro_rules! rank {
+    ($id:expr, $kind:expr) => {
+        Some(Rank {
+            id: $id,
+            kind: $kind,
+            sub: 0,
+        })
+    };
 }
 
 #[test]
 fn a_whole_line(rt: HostRuntime) -> Result<(), Fail> {
-    let items = [
-        (2, 1, 0),
-        (1, 1, 0),
-        (0, 1, 0),
-        (0, 2, 0),
-        (1, 3, 0),
-        (0, 3, 0),
-        (2, 5, 0),
-        (1, 5, 0),
-        (0, 5, 0),
-        (0, 7, 0),
-    ];
-    assert_line::<QueueKey>(
-        &rt,
-        rt.alloc(),
-        QUEUE,
-        &three_levels()[..],
-        &items[..],
-        Ok(()),
-    )?;
-    assert_line::<QueueKey>(&rt, rt.alloc(), QUEUE, &[root(0, 0, 1, &[])], &[], Ok(()))
+    let alloc = rt.alloc();
+    assert_line::<QueueKey>(&rt, alloc, QUEUE, THREE_LEVELS, THREE_LEVELS_LINE, Ok(()))?;
+    assert_line::<QueueKey>(&rt, alloc, QUEUE, NO_KEY, &[], Ok(()))
 }
 
 #[test]
 fn lines_that_stop(rt: HostRuntime) -> Result<(), Fail> {
-    for (told, children, first, second, items, fault) in TWO_LEAVES {
-        let nodes = [
-            root(1, told.0, told.1, children),
-            leaf(first),
-            leaf(second),
-            inner(1, &[(3, 3)]),
-        ];
+    for (nodes, items, fault) in TWO_LEAVES {
         let end = Err(Stop::Found(*fault));
-        assert_line::<QueueKey>(&rt, rt.alloc(), QUEUE, &nodes[..], items, end)?;
+        assert_line::<QueueKey>(&rt, rt.alloc(), QUEUE, nodes, items, end)?;
     }
     Ok(())
 }
 
+// How a walk ends.
+type End = Result<(), Stop<WalkFault>>;
+
+// A tree, and how its walk ends.
+const NAMED_TWICE: [(&[Node], End); 2] = [
+    (COUNTED_TWICE, Ok(())),
+    (COUNTED_ONCE, Err(Stop::Found(WalkFault::Counts))),
+];
+
+// The items of the Line of both.
+const TWICE: &[Item] = &[(1, 2, 9), (0, 2, 9), (1, 2, 9), (0, 2, 9)];
+
 // A child that is named twice. A directory's entries in a tree whose names aren't hashed may have equal ranks, in one
-// leaf and across two; an inode's key stands once.
+// leaf and across two.
 #[test]
 fn a_repeated_child(rt: HostRuntime) -> Result<(), Fail> {
-    let twice = [(1, 2, 9), (0, 2, 9), (1, 2, 9), (0, 2, 9)];
-    for (keys, nodes, end) in [(2, 3, Ok(())), (1, 2, Err(Stop::Found(WalkFault::Counts)))] {
-        let tree = [
-            root(1, keys, nodes, &[(TWO_NINE, 2), (TWO_NINE, 2)]),
-            leaf(&[(TWO_NINE, 0)]),
-        ];
-        assert_line::<FsPlainKey>(&rt, rt.alloc(), PLAIN, &tree[..], &twice[..], end)?;
-        assert_line::<FsKey>(&rt, rt.alloc(), HASHED, &tree[..], &twice[..], end)?;
+    for (tree, end) in NAMED_TWICE {
+        assert_line::<FsPlainKey>(&rt, rt.alloc(), PLAIN, tree, TWICE, end)?;
+        assert_line::<FsKey>(&rt, rt.alloc(), HASHED, tree, TWICE, end)?;
     }
-    let tree = [
-        root(1, 2, 3, &[(TWO_THREE, 2), (TWO_THREE, 2)]),
-        leaf(&[(TWO_THREE, 0)]),
-    ];
-    let once = [(1, 2, 3), (0, 2, 3), (1, 2, 3)];
-    let end = Err(Stop::Found(WalkFault::Order { item: 3 }));
-    assert_line::<FsPlainKey>(&rt, rt.alloc(), PLAIN, &tree[..], &once[..], end)
+    Ok(())
+}
+
+const OUT_OF_ORDER: End = Err(Stop::Found(WalkFault::Order { item: 3 }));
+
+// The items of the Line before that.
+const ONCE: &[Item] = &[(1, 2, 3), (0, 2, 3), (1, 2, 3)];
+
+// An inode's key stands once.
+#[test]
+fn a_repeated_inode(rt: HostRuntime) -> Result<(), Fail> {
+    assert_line::<FsPlainKey>(&rt, rt.alloc(), PLAIN, INODE_TWICE, ONCE, OUT_OF_ORDER)
 }
 
 #[test]
 fn a_failed_read(rt: HostRuntime) -> Result<(), Fail> {
-    let image = tree_image(rt.alloc(), 4096, QUEUE, &three_levels()[..])?;
+    let image = tree_image(rt.alloc(), 4096, QUEUE, THREE_LEVELS)?;
     let fails = vec![in rt.alloc(); 3u64; 1]?;
     let mut items = Vec::new(rt.alloc());
     let stop = line::<QueueKey>(rt.alloc(), image, fails, &mut items);
-    assert!(rt; stop == Err(Stop::ReadFault) && items.as_slice() == &[(2, 1, 0), (1, 1, 0)][..]);
+    assert!(rt; stop == Err(Stop::ReadFault) && items.as_slice() == &THREE_LEVELS_LINE[..2]);
     Ok(())
 }
 
+// A rank from which a list is taken, and how many of the entries come before it.
+const SEARCHES: [(Option<Rank>, usize); 6] = [
+    (None, 0),
+    (rank!(0, 0), 0),
+    (rank!(3, 0), 2),
+    (rank!(3, 1), 3),
+    (rank!(7, 0), 4),
+    (rank!(8, 0), 5),
+];
+
 #[test]
 fn flat_lists(rt: HostRuntime) -> Result<(), Fail> {
-    let tree = three_levels();
-    let all = [(0, 1, 0), (0, 2, 0), (0, 3, 0), (0, 5, 0), (0, 7, 0)];
-    for (from, skipped) in [
-        (None, 0),
-        (rank(0, 0), 0),
-        (rank(3, 0), 2),
-        (rank(3, 1), 3),
-        (rank(7, 0), 4),
-        (rank(8, 0), 5),
-    ] {
-        assert_flat::<QueueKey>(
-            &rt,
-            rt.alloc(),
-            QUEUE,
-            &tree[..],
-            from,
-            &all[skipped..],
-            Ok(()),
-        )?;
+    let alloc = rt.alloc();
+    for (from, skipped) in SEARCHES {
+        let items = THREE_LEVELS_LIST.get(skipped..).unwrap_or(&[]);
+        assert_flat::<QueueKey>(&rt, alloc, QUEUE, THREE_LEVELS, from, items, Ok(()))?;
     }
-    assert_flat::<QueueKey>(
-        &rt,
-        rt.alloc(),
-        QUEUE,
-        &[root(0, 0, 1, &[])],
-        None,
-        &[],
-        Ok(()),
-    )
+    assert_flat::<QueueKey>(&rt, alloc, QUEUE, NO_KEY, None, &[], Ok(()))
 }
+
+const MISSING: End = Err(Stop::Found(WalkFault::Unnamed { oid: 9 }));
+
+// A rank from which a list is taken, its entries, and how the walk ends.
+const PAST_A_CHILD: [(Option<Rank>, &[Item], End); 4] = [
+    (None, &[(0, 1, 0)], MISSING),
+    (rank!(2, 0), &[], MISSING),
+    (rank!(4, 0), &[], MISSING),
+    (rank!(5, 1), &[], Ok(())),
+];
 
 // A child that isn't there: the entries before it are given, and it is named when it comes next, unless the search goes
 // past it.
 #[test]
 fn a_missing_child(rt: HostRuntime) -> Result<(), Fail> {
-    let tree = [
-        root(1, 3, 4, &[(1, 2), (3, 9), (5, 3)]),
-        leaf(&[(1, 0)]),
-        leaf(&[(5, 0)]),
-    ];
-    let missing = Err(Stop::Found(WalkFault::Unnamed { oid: 9 }));
-    let all = [(0, 1, 0), (0, 5, 0)];
-    for (from, items, end) in [
-        (None, &all[..1], missing),
-        (rank(2, 0), &all[..0], missing),
-        (rank(4, 0), &all[..0], missing),
-        (rank(5, 1), &all[..0], Ok(())),
-    ] {
-        assert_flat::<QueueKey>(&rt, rt.alloc(), QUEUE, &tree[..], from, items, end)?;
+    for (from, items, end) in PAST_A_CHILD {
+        assert_flat::<QueueKey>(&rt, rt.alloc(), QUEUE, MISSING_CHILD, from, items, end)?;
     }
     Ok(())
 }
 
+const LARGER: Site = Site {
+    block_size: 16384,
+    ..SITE
+};
+
 #[test]
 fn larger_blocks(rt: HostRuntime) -> Result<(), Fail> {
-    let site = Site {
-        block_size: 16384,
-        blocks: 8,
-        max_xid: 1,
-    };
-    let image = tree_image(rt.alloc(), 16384, QUEUE, &[root(0, 1, 1, &[(7, 0)])])?;
+    let image = tree_image(rt.alloc(), 16384, QUEUE, KEY_SEVEN)?;
     assert!(rt; image.len() >= 131072);
     let mut src = MemSource::new(image, Vec::new(rt.alloc()));
     let mut cursor = Cursor::<QueueKey, Physical>::new(
@@ -254,7 +231,7 @@ fn larger_blocks(rt: HostRuntime) -> Result<(), Fail> {
         &mut src,
         PHYSICAL,
         1,
-        site,
+        LARGER,
     ).map_err(|_| "stopped")?;
     assert!(rt;
         cursor.next(&mut src) == Ok(true)
@@ -264,47 +241,25 @@ fn larger_blocks(rt: HostRuntime) -> Result<(), Fail> {
     Ok(())
 }
 
+const FROM_SIXTEEN: Option<Rank> = rank!(16, 3);
+
+const SIXTEEN: &[Item] = &[(0, 16, 3)];
+
 // The kind stands in the high bits of a key's first word, and counts after the id.
 #[test]
 fn a_search_by_ranks(rt: HostRuntime) -> Result<(), Fail> {
-    let tree = [root(0, 2, 1, &[(TWO_NINE, 0), (SIXTEEN_THREE, 0)])];
-    let found = [(0, 16, 3)];
-    assert_flat::<FsKey>(
-        &rt,
-        rt.alloc(),
-        HASHED,
-        &tree[..],
-        rank(16, 3),
-        &found[..],
-        Ok(()),
-    )?;
-    assert_flat::<FsPlainKey>(
-        &rt,
-        rt.alloc(),
-        PLAIN,
-        &tree[..],
-        rank(16, 3),
-        &found[..],
-        Ok(()),
-    )
+    let alloc = rt.alloc();
+    assert_flat::<FsKey>(&rt, alloc, HASHED, TWO_RANKS, FROM_SIXTEEN, SIXTEEN, Ok(()))?;
+    assert_flat::<FsPlainKey>(&rt, alloc, PLAIN, TWO_RANKS, FROM_SIXTEEN, SIXTEEN, Ok(()))
 }
+
+const FROM_TWO: Option<Rank> = rank!(2, 9);
+
+const TWO_EQUAL: &[Item] = &[(0, 2, 9), (0, 2, 9), (0, 16, 3)];
 
 // Entries of equal ranks over two leaves, from the first of them on.
 #[test]
 fn equal_ranks(rt: HostRuntime) -> Result<(), Fail> {
-    let tree = [
-        root(1, 4, 3, &[(TWO_THREE, 2), (TWO_NINE, 3)]),
-        leaf(&[(TWO_THREE, 0), (TWO_NINE, 0)]),
-        leaf(&[(TWO_NINE, 0), (SIXTEEN_THREE, 0)]),
-    ];
-    let found = [(0, 2, 9), (0, 2, 9), (0, 16, 3)];
-    assert_flat::<FsPlainKey>(
-        &rt,
-        rt.alloc(),
-        PLAIN,
-        &tree[..],
-        rank(2, 9),
-        &found[..],
-        Ok(()),
-    )
+    let alloc = rt.alloc();
+    assert_flat::<FsPlainKey>(&rt, alloc, PLAIN, EQUAL_RANKS, FROM_TWO, TWO_EQUAL, Ok(()))
 }

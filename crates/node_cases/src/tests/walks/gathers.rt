@@ -1,7 +1,7 @@
 // Trees whose items are gathered.
 
 use super::image::{Node, tree_image};
-use super::trees::{QUEUE, leaf, root, three_levels};
+use super::trees::{QUEUE, THREE_LEVELS, TOO_FEW, WHOLE};
 use super::{PHYSICAL, SITE};
 use blk_source::{MemSource, NoMemory};
 use bt_cursor::{GatherFault, Keeper, LineItem, Physical, WalkFault, gather};
@@ -59,9 +59,7 @@ fn gathered(alloc: Global, nodes: &[Node], fails: Vec<u64>) -> Result<Words, Sto
 #[test]
 fn what_items_give_is_gathered(rt: HostRuntime) -> Result<(), Fail> {
     let alloc = rt.alloc();
-    let leaves = [leaf(&[(1, 0), (2, 0)]), leaf(&[(3, 0)])];
-    let tree = [root(1, 3, 3, &[(1, 2), (3, 3)]), leaves[0], leaves[1]];
-    match gathered(alloc, &tree[..], Vec::new(alloc)) {
+    match gathered(alloc, WHOLE, Vec::new(alloc)) {
         Ok(kept) => {
             assert!(rt;
                 kept.words.as_slice() == &[1, 2, 3][..] && kept.children.as_slice() == &[2, 3][..]
@@ -69,14 +67,28 @@ fn what_items_give_is_gathered(rt: HostRuntime) -> Result<(), Fail> {
         }
         Err(_) => panic!(rt; "it is whole"),
     }
-    let few = [root(1, 2, 3, &[(1, 2), (3, 3)]), leaves[0], leaves[1]];
-    let counts = Stop::Found(GatherFault::Tree(WalkFault::Counts));
-    let refused = Stop::Found(GatherFault::Refused { item: 0 });
-    for (nodes, fails, stop) in [
-        (&few[..], 0, counts),
-        (&three_levels()[..], 0, refused),
-        (&tree[..], 2, Stop::ReadFault),
-    ] {
+    Ok(())
+}
+
+// Trees, the number of the read that fails, if any does, and why they can't be gathered.
+const STOPPED: [(&[Node], u64, Stop<GatherFault>); 3] = [
+    (
+        TOO_FEW,
+        0,
+        Stop::Found(GatherFault::Tree(WalkFault::Counts)),
+    ),
+    (
+        THREE_LEVELS,
+        0,
+        Stop::Found(GatherFault::Refused { item: 0 }),
+    ),
+    (WHOLE, 2, Stop::ReadFault),
+];
+
+#[test]
+fn what_stops_is_not_gathered(rt: HostRuntime) -> Result<(), Fail> {
+    let alloc = rt.alloc();
+    for (nodes, fails, stop) in STOPPED {
         match gathered(alloc, nodes, vec![in alloc; fails]?) {
             Ok(_) => panic!(rt; "it is whole"),
             Err(other) => assert!(rt; other == stop),

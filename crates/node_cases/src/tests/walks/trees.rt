@@ -28,37 +28,83 @@ pub const PLAIN: Form = Form {
 /// An item: its level, and the id and the kind of its rank.
 pub type Item = (u16, u64, u64);
 
-pub(super) fn inner(level: u16, entries: &'static [(u64, u64)]) -> Node {
-    Node {
-        level,
-        root: None,
-        entries,
-    }
+macro_rules! inner {
+    ($level:expr, $entries:expr) => {
+        Node {
+            level: $level,
+            root: None,
+            entries: $entries,
+        }
+    };
 }
 
-pub(super) fn leaf(entries: &'static [(u64, u64)]) -> Node {
-    inner(0, entries)
+macro_rules! leaf {
+    ($entries:expr) => {
+        inner!(0, $entries)
+    };
 }
 
-pub(super) fn root(level: u16, keys: u64, nodes: u64, entries: &'static [(u64, u64)]) -> Node {
-    Node {
-        level,
-        root: Some((keys, nodes)),
-        entries,
-    }
+// A root that tells these numbers of keys and of nodes.
+macro_rules! root {
+    ($level:expr, $told:expr, $entries:expr) => {
+        Node {
+            level: $level,
+            root: Some($told),
+            entries: $entries,
+        }
+    };
 }
 
 /// A tree of three levels in the blocks 1 to 6, with the keys 1, 2, 3, 5 and 7.
-pub(super) fn three_levels() -> [Node; 6] {
-    [
-        root(2, 5, 6, &[(1, 2), (5, 3)]),
-        inner(1, &[(1, 4), (3, 5)]),
-        inner(1, &[(5, 6)]),
-        leaf(&[(1, 0), (2, 0)]),
-        leaf(&[(3, 0)]),
-        leaf(&[(5, 0), (7, 0)]),
-    ]
-}
+pub const THREE_LEVELS: &[Node] = &[
+    root!(2, (5, 6), &[(1, 2), (5, 3)]),
+    inner!(1, &[(1, 4), (3, 5)]),
+    inner!(1, &[(5, 6)]),
+    leaf!(&[(1, 0), (2, 0)]),
+    leaf!(&[(3, 0)]),
+    leaf!(&[(5, 0), (7, 0)]),
+];
+
+/// The items of its Line.
+pub const THREE_LEVELS_LINE: &[Item] = &[
+    (2, 1, 0),
+    (1, 1, 0),
+    (0, 1, 0),
+    (0, 2, 0),
+    (1, 3, 0),
+    (0, 3, 0),
+    (2, 5, 0),
+    (1, 5, 0),
+    (0, 5, 0),
+    (0, 7, 0),
+];
+
+/// Its flat list.
+pub const THREE_LEVELS_LIST: &[Item] = &[(0, 1, 0), (0, 2, 0), (0, 3, 0), (0, 5, 0), (0, 7, 0)];
+
+pub const NO_KEY: &[Node] = &[root!(0, (0, 1), &[])];
+
+pub const KEY_SEVEN: &[Node] = &[root!(0, (1, 1), &[(7, 0)])];
+
+/// A tree whose second child isn't there.
+pub const MISSING_CHILD: &[Node] = &[
+    root!(1, (3, 4), &[(1, 2), (3, 9), (5, 3)]),
+    leaf!(&[(1, 0)]),
+    leaf!(&[(5, 0)]),
+];
+
+/// A tree of two leaves, and the same where the root tells one key less.
+pub const WHOLE: &[Node] = &[
+    root!(1, (3, 3), &[(1, 2), (3, 3)]),
+    leaf!(&[(1, 0), (2, 0)]),
+    leaf!(&[(3, 0)]),
+];
+
+pub const TOO_FEW: &[Node] = &[
+    root!(1, (2, 3), &[(1, 2), (3, 3)]),
+    leaf!(&[(1, 0), (2, 0)]),
+    leaf!(&[(3, 0)]),
+];
 
 /// Words of records' keys: the ids 2 and 16 under the kinds 9 and 3.
 pub const TWO_NINE: u64 = 0x9000_0000_0000_0002;
@@ -67,25 +113,50 @@ pub const TWO_THREE: u64 = 0x3000_0000_0000_0002;
 
 pub const SIXTEEN_THREE: u64 = 0x3000_0000_0000_0010;
 
-// A table of tuples: a row is the parts of one, and ends with a semicolon.
-macro_rules! table {
-    ($($($part:expr),+;)*) => {
-        &[$(($($part),+)),*]
+/// A leaf that its root names twice, where the root counts it twice and where it counts it once.
+pub const COUNTED_TWICE: &[Node] = &[
+    root!(1, (2, 3), &[(TWO_NINE, 2), (TWO_NINE, 2)]),
+    leaf!(&[(TWO_NINE, 0)]),
+];
+
+pub const COUNTED_ONCE: &[Node] = &[
+    root!(1, (1, 2), &[(TWO_NINE, 2), (TWO_NINE, 2)]),
+    leaf!(&[(TWO_NINE, 0)]),
+];
+
+/// The same with an inode's key.
+pub const INODE_TWICE: &[Node] = &[
+    root!(1, (2, 3), &[(TWO_THREE, 2), (TWO_THREE, 2)]),
+    leaf!(&[(TWO_THREE, 0)]),
+];
+
+/// A tree of two keys, the first of them with the lower id and the higher kind.
+pub const TWO_RANKS: &[Node] = &[root!(0, (2, 1), &[(TWO_NINE, 0), (SIXTEEN_THREE, 0)])];
+
+/// A tree with equal ranks in two leaves.
+pub const EQUAL_RANKS: &[Node] = &[
+    root!(1, (4, 3), &[(TWO_THREE, 2), (TWO_NINE, 3)]),
+    leaf!(&[(TWO_THREE, 0), (TWO_NINE, 0)]),
+    leaf!(&[(TWO_NINE, 0), (SIXTEEN_THREE, 0)]),
+];
+
+/// Two leaves in the blocks 2 and 3 under a root, and a node above leaves in block 4; the items of the Line, and where the
+/// walk stops.
+pub type Pair = (&'static [Node], &'static [Item], WalkFault);
+
+// A table of these: a row has what the root tells and names, the keys of each leaf, the items, and the stop, and ends with a
+// semicolon.
+macro_rules! pairs {
+    ($($told:expr, $children:expr, $first:expr, $second:expr, $items:expr, $fault:expr;)*) => {
+        &[$((
+            &[root!(1, $told, $children), leaf!($first), leaf!($second), inner!(1, &[(3, 3)])],
+            $items,
+            $fault,
+        )),*]
     };
 }
 
-/// Two leaves in the blocks 2 and 3 under a root, the keys of each, what the root tells and names, and where the walk
-/// stops.
-pub type Pair = (
-    (u64, u64),
-    &'static [(u64, u64)],
-    &'static [(u64, u64)],
-    &'static [(u64, u64)],
-    &'static [Item],
-    WalkFault,
-);
-
-pub const TWO_LEAVES: &[Pair] = table! {
+pub const TWO_LEAVES: &[Pair] = pairs! {
     (3, 3), &[(1, 2), (3, 3)], &[(2, 0), (1, 0)], &[(3, 0)], &[(1, 1, 0), (0, 2, 0)], Order { item: 2 };
     (3, 3), &[(1, 2), (3, 3)], &[(1, 0), (4, 0)], &[(3, 0)], &[(1, 1, 0), (0, 1, 0), (0, 4, 0)], Order { item: 3 };
     (3, 3), &[(1, 2), (3, 3)], &[(1, 0), (3, 0)], &[(3, 0)], &[(1, 1, 0), (0, 1, 0), (0, 3, 0), (1, 3, 0)], Order { item: 4 };
