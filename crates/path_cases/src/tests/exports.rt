@@ -54,29 +54,6 @@ fn are_same(places: &[usize], wanted: &[usize]) -> bool {
     places == wanted
 }
 
-#[test]
-fn folders_get_the_tree_of_a_view(rt: HostRuntime) -> Result<(), Fail> {
-    let alloc = rt.alloc();
-    for (holds, wanted, counts, skipped) in CASES {
-        let holds = *holds;
-        let mut src = source(alloc, holds, Vec::new(alloc))?;
-        let seen = open_view(alloc, &mut src)?;
-        let rows = rows_of(alloc, &mut src, &seen)?;
-        let (end, put) = ended(alloc, &mut src, &seen, &rows, Vec::new(alloc))?;
-        match end {
-            Ok(done) => {
-                let told = (done.directories, done.files, done.bytes);
-                assert!(rt; told == *counts);
-                let is_same = are_same(&done.skipped, skipped);
-                assert!(rt; is_same);
-            }
-            Err(_) => panic!(rt; "it stops"),
-        }
-        assert!(rt; put.as_str() == *wanted);
-    }
-    Ok(())
-}
-
 // How an export ends, and what the folder has then.
 fn ended(
     alloc: Global,
@@ -101,6 +78,41 @@ fn ended(
     Ok((end, put))
 }
 
+// The same for the image that holds this, where reads and calls of these numbers are refused.
+fn exported(
+    alloc: Global,
+    holds: Holds,
+    reads: Vec<u64>,
+    calls: Vec<u64>,
+) -> Result<(Result<Done, ExportStop>, String), Fail> {
+    let mut src = source(alloc, holds, reads)?;
+    let seen = open_view(alloc, &mut src)?;
+    let rows = rows_of(alloc, &mut src, &seen)?;
+    ended(alloc, &mut src, &seen, &rows, calls)
+}
+
+// Whether an export doesn't stop, and ends as a case says.
+fn ends_as_said(alloc: Global, case: &Case) -> Result<bool, Fail> {
+    let (holds, wanted, counts, skipped) = *case;
+    let (end, put) = exported(alloc, holds, Vec::new(alloc), Vec::new(alloc))?;
+    let Ok(done) = end else {
+        return Ok(false);
+    };
+    Ok(
+        (done.directories, done.files, done.bytes) == counts
+            && are_same(&done.skipped, skipped)
+            && put.as_str() == wanted,
+    )
+}
+
+#[test]
+fn folders_get_the_tree_of_a_view(rt: HostRuntime) -> Result<(), Fail> {
+    for case in CASES {
+        assert!(rt; ends_as_said(rt.alloc(), case)?, "{}", case.1);
+    }
+    Ok(())
+}
+
 // Why an export stopped.
 fn stop_of(end: Result<Done, ExportStop>) -> Option<ExportStop> {
     match end {
@@ -109,62 +121,70 @@ fn stop_of(end: Result<Done, ExportStop>) -> Option<ExportStop> {
     }
 }
 
+// The number of a refused call, and what the folder has then. The calls are: the directory, its file and the file's bytes, the file
+// beside it and its two pieces, and the last directory.
+const LEFT: &[(u64, &str)] = table! {
+    1, "";
+    2, "\nd/";
+    3, "\nd/\nd/f=";
+    4, "\nd/\nd/f=hello";
+    5, WHOLE;
+};
+
+// What a folder gets where nothing is refused.
+const WHOLE: &str = "\nd/\nd/f=hello\nlast/";
+
+// Whether an export of which the call of a number is refused ends so, and puts this.
+fn puts(alloc: Global, number: u64, put: &str) -> Result<bool, Fail> {
+    let calls = vec![in alloc; number]?;
+    let (end, text) = exported(alloc, Holds::Several, Vec::new(alloc), calls)?;
+    let wanted = if number == 5 {
+        None
+    } else {
+        Some(ExportStop::WriteFault)
+    };
+    Ok(stop_of(end) == wanted && text.as_str() == put)
+}
+
 #[test]
 fn a_refused_call_ends_it(rt: HostRuntime) -> Result<(), Fail> {
-    let alloc = rt.alloc();
-    // The calls are: the directory, its file and the file's bytes, the file beside it and its two pieces, and the last directory.
-    let left = [
-        (1, ""),
-        (2, "\nd/"),
-        (3, "\nd/\nd/f="),
-        (4, "\nd/\nd/f=hello"),
-        (5, "\nd/\nd/f=hello\nlast/"),
-    ];
-    for (number, put) in left.iter() {
-        let fails = vec![in alloc; *number]?;
-        let mut src = source(alloc, Holds::Several, Vec::new(alloc))?;
-        let seen = open_view(alloc, &mut src)?;
-        let rows = rows_of(alloc, &mut src, &seen)?;
-        let (end, text) = ended(alloc, &mut src, &seen, &rows, fails)?;
-        let wanted = if *number == 5 {
-            None
-        } else {
-            Some(ExportStop::WriteFault)
-        };
-        assert!(rt;
-            stop_of(end) == wanted && text.as_str() == *put,
-            "call {number}"
-        );
+    for (number, put) in LEFT {
+        assert!(rt; puts(rt.alloc(), *number, put)?, "call {number}");
     }
     Ok(())
+}
+
+// Whether an export of which the read of a number is refused ends by that, and puts no more than the beginning.
+fn ends_by_read(alloc: Global, number: u64) -> Result<bool, Fail> {
+    let reads = vec![in alloc; number]?;
+    let (end, text) = exported(alloc, Holds::Several, reads, Vec::new(alloc))?;
+    Ok(
+        stop_of(end) == Some(ExportStop::Stopped(Stop::ReadFault))
+            && WHOLE.starts_with(text.as_str()),
+    )
 }
 
 #[test]
 fn a_refused_read_ends_it(rt: HostRuntime) -> Result<(), Fail> {
     let alloc = rt.alloc();
-    let whole = "\nd/\nd/f=hello\nlast/";
     let mut src = source(alloc, Holds::Several, Vec::new(alloc))?;
     let seen = open_view(alloc, &mut src)?;
     let rows = rows_of(alloc, &mut src, &seen)?;
     let before = src.read_count();
     let (end, text) = ended(alloc, &mut src, &seen, &rows, Vec::new(alloc))?;
-    assert!(rt; stop_of(end) == None && text.as_str() == whole);
     let after = src.read_count();
-    assert!(rt; before < after);
+    assert!(rt; stop_of(end) == None && text.as_str() == WHOLE && before < after);
     for number in before..after {
-        let fails = vec![in alloc; number.saturating_add(1)]?;
-        let mut src = source(alloc, Holds::Several, fails)?;
-        let seen = open_view(alloc, &mut src)?;
-        let rows = rows_of(alloc, &mut src, &seen)?;
-        let (end, text) = ended(alloc, &mut src, &seen, &rows, Vec::new(alloc))?;
         assert!(rt;
-            stop_of(end) == Some(ExportStop::Stopped(Stop::ReadFault))
-                && whole.starts_with(text.as_str()),
+            ends_by_read(alloc, number.saturating_add(1))?,
             "read {number}"
         );
     }
     Ok(())
 }
+
+// Why an export stops at the id of no file.
+const NO_INODE: ExportStop = ExportStop::Stopped(Stop::Found(ExportFault::NoInode { id: 17 }));
 
 #[test]
 fn an_id_without_an_inode_is_named(rt: HostRuntime) -> Result<(), Fail> {
@@ -176,9 +196,6 @@ fn an_id_without_an_inode_is_named(rt: HostRuntime) -> Result<(), Fail> {
     let mut src = source(alloc, Holds::Hello, Vec::new(alloc))?;
     let seen = open_view(alloc, &mut src)?;
     let (end, text) = ended(alloc, &mut src, &seen, &rows, Vec::new(alloc))?;
-    assert!(rt;
-        stop_of(end) == Some(ExportStop::Stopped(Stop::Found(ExportFault::NoInode { id: 17 })))
-            && text.as_str() == "\nd=hello"
-    );
+    assert!(rt; stop_of(end) == Some(NO_INODE) && text.as_str() == "\nd=hello");
     Ok(())
 }

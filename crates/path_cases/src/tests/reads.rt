@@ -6,7 +6,7 @@ use apfs_model::Bytes;
 use blk_source::{MemSink, MemSource};
 use fs_name::Names;
 use img_make::records::{InodePlan, LINK_MODE, attribute, stream_attribute};
-use img_make::{FileTree, Item, Sample, image_with};
+use img_make::{FileTree, Item, Sample, image_with, table};
 use nx_ring::newest;
 use obj_base::{Site, Stop};
 use path_read::{WriteStop, attr, attrs, cat, withheld};
@@ -25,19 +25,22 @@ const LINK: u64 = 17;
 
 const SECOND: u64 = 18;
 
+// The only extent of a stream: where it is in the stream, its length, and its block.
+const EXTENTS: &[(u64, u64, u64)] = &[(0, 4096, 57)];
+
 // The target's record comes first, and its name is the greater one.
 fn items(alloc: Global) -> Result<Vec<Item>, Fail> {
     let mut tree = FileTree::new(alloc, Names::Folded)?;
     let mut file = InodePlan::file(FILE, ROOT);
     file.stream = Some(5);
     tree.add(alloc, file, "hello.txt")?;
-    tree.stream(alloc, FILE, &[(0, 4096, 57)])?;
+    tree.stream(alloc, FILE, EXTENTS)?;
     let mut link = InodePlan::file(LINK, ROOT);
     link.mode = LINK_MODE;
     tree.add(alloc, link, "l")?;
     tree.record(attribute(alloc, LINK, b"com.apple.fs.symlink", b"hello\0")?)?;
     tree.record(stream_attribute(alloc, LINK, b"b", SECOND, 3)?)?;
-    tree.stream(alloc, SECOND, &[(0, 4096, 57)])?;
+    tree.stream(alloc, SECOND, EXTENTS)?;
     Ok(tree.items(alloc)?)
 }
 
@@ -69,6 +72,11 @@ fn open(alloc: Global, src: &mut MemSource) -> Result<(Volume, View, Site), Fail
     Ok((volume, view, site))
 }
 
+// How a call ends at what is no file.
+const NOT_FILE: Result<(), WriteStop> = Err(WriteStop::Stopped(Stop::Found(PathStop::Answer(
+    Answer::NotFile,
+))));
+
 #[test]
 fn a_file_is_written(rt: HostRuntime) -> Result<(), Fail> {
     let alloc = rt.alloc();
@@ -86,7 +94,7 @@ fn a_file_is_written(rt: HostRuntime) -> Result<(), Fail> {
     );
     assert!(rt; end == Ok(()) && out.contents() == b"hello".as_slice());
     let end = cat(alloc, &mut src, &volume, &view, &site, "/l", &mut out);
-    assert!(rt; end == Err(WriteStop::Stopped(Stop::Found(PathStop::Answer(Answer::NotFile)))));
+    assert!(rt; end == NOT_FILE);
     Ok(())
 }
 
@@ -123,27 +131,41 @@ fn attributes_are_listed_by_name(rt: HostRuntime) -> Result<(), Fail> {
     Ok(())
 }
 
-// What is written of an attribute of the link, and how that ends.
-fn written(alloc: Global, name: &str) -> Result<(Result<(), WriteStop>, Vec<u8>), Fail> {
+// Whether this is written of an attribute of the link, and that ends so.
+fn is_written(
+    alloc: Global,
+    name: &str,
+    wanted: Result<(), WriteStop>,
+    bytes: &[u8],
+) -> Result<bool, Fail> {
     let mut src = made(alloc)?;
     let (volume, view, site) = open(alloc, &mut src)?;
     let mut out = MemSink::new(alloc, 100, Vec::new(alloc))?;
     let end = attr(alloc, &mut src, &volume, &view, &site, "/l", name, &mut out);
-    let bytes = out.contents().to_vec(alloc)?;
-    Ok((end, bytes))
+    Ok(end == wanted && out.contents() == bytes)
 }
+
+// An attribute's name, and what is written.
+const WRITTEN: &[(&str, &[u8])] = table! {
+    "com.apple.fs.symlink", b"hello\0";
+    "b", b"hel";
+};
 
 #[test]
 fn an_attribute_is_written(rt: HostRuntime) -> Result<(), Fail> {
-    let alloc = rt.alloc();
-    let (end, bytes) = written(alloc, "com.apple.fs.symlink")?;
-    assert!(rt; end == Ok(()) && bytes.as_slice() == b"hello\0".as_slice());
-    let (end, bytes) = written(alloc, "b")?;
-    assert!(rt; end == Ok(()) && bytes.as_slice() == b"hel".as_slice());
-    let (end, bytes) = written(alloc, "com.apple.fs.symlin")?;
-    assert!(rt;
-        end == Err(WriteStop::Stopped(Stop::Found(PathStop::Answer(Answer::NoAttribute))))
-            && bytes.len() == 0
-    );
+    for (name, bytes) in WRITTEN {
+        assert!(rt; is_written(rt.alloc(), name, Ok(()), bytes)?, "{name}");
+    }
+    Ok(())
+}
+
+// How a call ends at a name that no attribute has.
+const NO_ATTRIBUTE: Result<(), WriteStop> = Err(WriteStop::Stopped(Stop::Found(PathStop::Answer(
+    Answer::NoAttribute,
+))));
+
+#[test]
+fn a_part_of_a_name_is_no_attribute(rt: HostRuntime) -> Result<(), Fail> {
+    assert!(rt; is_written(rt.alloc(), "com.apple.fs.symlin", NO_ATTRIBUTE, &[])?);
     Ok(())
 }

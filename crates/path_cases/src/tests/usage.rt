@@ -5,7 +5,7 @@ use bt_node::NodeFault;
 use img_make::{Plan, Sample, made, sample, table, write};
 use nx_ring::newest;
 use obj_base::{HeadFault, Stop};
-use std::alloc::Global;
+use std::alloc::{AllocError, Global};
 use std::process::Abort;
 use std::test::Fail;
 use use_report::{Usage, UseFault, usage};
@@ -167,15 +167,17 @@ fn what_views_hold(rt: HostRuntime) -> Result<(), Fail> {
     Ok(())
 }
 
+// Each view has a root and extent references of its own, and the snapshot a superblock. Both have the file's block.
+const SHARING: Held = &[(2, 3, 2), (1, 4, 3)];
+
 #[test]
 fn two_views_share_an_extent(rt: HostRuntime) -> Result<(), Fail> {
     let alloc = rt.alloc();
-    // Each view has a root and extent references of its own, and the snapshot a superblock. Both have the file's block.
     let image = made(alloc, &with_an_earlier_file(alloc)?)?;
     let Ok(usage) = told(alloc, image, 0, Vec::new(alloc)) else {
         panic!(rt; "nothing is told");
     };
-    assert_held(&rt, &usage, &[(2, 3, 2), (1, 4, 3)], 6);
+    assert_held(&rt, &usage, SHARING, 6);
     Ok(())
 }
 
@@ -197,50 +199,73 @@ fn a_node_that_views_share_is_read_once(rt: HostRuntime) -> Result<(), Fail> {
     Ok(())
 }
 
+// A sample, the block of which a byte is another, so that its sum is wrong, and the transaction that is told: the root of the live
+// view's files, that of its extent references, the leaf that the first snapshot keeps, and the root of the second one's extent
+// references.
+const WRONG_NODES: &[(Sample, usize, u64)] = table! {
+    Sample::S, 54, 1;
+    Sample::S, 55, 1;
+    Sample::V, 57, 2;
+    Sample::V, 63, 4;
+};
+
+// What stops the count where a byte of this block is another.
+fn stop_at(alloc: Global, which: Sample, block: usize) -> Result<Option<Stop<UseFault>>, Fail> {
+    let image = edited(alloc, &sample(alloc, which)?, &[(block, 2000, 0x55)])?;
+    Ok(told(alloc, image, 0, Vec::new(alloc)).err())
+}
+
 #[test]
 fn which_node_is_wrong(rt: HostRuntime) -> Result<(), Fail> {
-    let alloc = rt.alloc();
-    // A byte of the root of the live view's files, of that of its extent references, of the leaf that the first snapshot keeps,
-    // and of the root of the second one's extent references is another, and so the sums are wrong.
-    for (which, block, xid) in [
-        (Sample::S, 54, 1),
-        (Sample::S, 55, 1),
-        (Sample::V, 57, 2),
-        (Sample::V, 63, 4),
-    ] {
-        let image = edited(alloc, &sample(alloc, which)?, &[(block, 2000, 0x55)])?;
+    for &(which, block, xid) in WRONG_NODES {
         let why = WalkFault::Unsound {
             block: block as u64,
             why: NodeFault::Head(HeadFault::BadSum),
         };
-        let got = told(alloc, image, 0, Vec::new(alloc)).err();
-        assert!(rt; got == Some(Stop::Found(UseFault::Walk { xid, why })));
+        let got = stop_at(rt.alloc(), which, block)?;
+        assert!(rt;
+            got == Some(Stop::Found(UseFault::Walk { xid, why })),
+            "{block}"
+        );
     }
     Ok(())
+}
+
+// The length of an extent, its block, how many bytes its value has, and what is wrong with it.
+type Extent = (u64, u64, usize, Option<UseFault>);
+
+const OUTSIDE: Option<UseFault> = Some(UseFault::Outside { xid: 1 });
+
+const SHORT: Option<UseFault> = Some(UseFault::Value { xid: 1, item: 7 });
+
+// A length of one block or of two, and the last block of the container, that after it, or a negative one; and a value that is a byte
+// too short.
+const EXTENTS: &[Extent] = table! {
+    4096, 255, 24, None;
+    4096, 256, 24, OUTSIDE;
+    8192, 254, 24, None;
+    8192, 255, 24, OUTSIDE;
+    4096, 1 << 63, 24, OUTSIDE;
+    4096, 57, 23, SHORT;
+};
+
+// The first bytes of the value of an extent.
+fn value_of(alloc: Global, length: u64, block: u64, bytes: usize) -> Result<Vec<u8>, AllocError> {
+    let mut value = length.to_le_bytes().to_vec(alloc)?;
+    value.extend_from_slice(&block.to_le_bytes())?;
+    value.extend_from_slice(&[0; 8])?;
+    value.truncate(bytes);
+    Ok(value)
 }
 
 #[test]
 fn which_extent_is_wrong(rt: HostRuntime) -> Result<(), Fail> {
     let alloc = rt.alloc();
-    // A length of one block or of two, and the last block of the container, that after it, or a negative one; and a value that is
-    // a byte too short.
-    let outside = Some(UseFault::Outside { xid: 1 });
-    let short = Some(UseFault::Value { xid: 1, item: 7 });
-    for (length, block, bytes, want) in [
-        (4096u64, 255u64, 24, None),
-        (4096, 256, 24, outside),
-        (8192, 254, 24, None),
-        (8192, 255, 24, outside),
-        (4096, 1 << 63, 24, outside),
-        (4096, 57, 23, short),
-    ] {
-        let mut value = length.to_le_bytes().to_vec(alloc)?;
-        value.extend_from_slice(&block.to_le_bytes())?;
-        value.extend_from_slice(&[0; 8])?;
-        value.truncate(bytes);
+    for &(length, block, bytes, want) in EXTENTS {
+        let value = value_of(alloc, length, block, bytes)?;
         let image = made(alloc, &with_extent(alloc, &value)?)?;
         let got = told(alloc, image, 0, Vec::new(alloc)).err();
-        assert!(rt; got == want.map(Stop::Found));
+        assert!(rt; got == want.map(Stop::Found), "{block}");
     }
     Ok(())
 }

@@ -210,25 +210,37 @@ fn put(
 const LINES_OF_THE_ROOT: &str =
     "- 21 0 Ab\n- 22 0 ReadMe\n- 20 0 aB\nd 16 0 d\n- 17 0 d/f\n- 23 0 no directory\nd 3 0 private\nd 7 0 reserved\n";
 
+// What an image holds, a path in its live view, and the lines of the tree there.
+const LINES: &[(Holds, &str, &str)] = table! {
+    Holds::Of(Sample::S), "/", "";
+    HELLO, "/hello.txt", "- 16 5 hello.txt\n";
+    Holds::Names, "/", LINES_OF_THE_ROOT;
+};
+
 #[test]
 fn rows_are_put_as_lines(rt: HostRuntime) -> Result<(), Fail> {
-    let alloc = rt.alloc();
-    for (holds, path, lines) in [
-        (Holds::Of(Sample::S), "/", ""),
-        (HELLO, "/hello.txt", "- 16 5 hello.txt\n"),
-        (Holds::Names, "/", LINES_OF_THE_ROOT),
-    ] {
-        let (end, bytes) = put(alloc, holds, path, 1000)?;
-        assert!(rt; end == Ok(()));
-        assert!(rt; bytes.as_slice() == lines.as_bytes(), "{path}");
+    for (holds, path, lines) in LINES {
+        let (end, bytes) = put(rt.alloc(), *holds, path, 1000)?;
+        assert!(rt;
+            end == Ok(()) && bytes.as_slice() == lines.as_bytes(),
+            "{path}"
+        );
     }
-    let (end, bytes) = put(alloc, Holds::Names, "/", 10)?;
-    assert!(rt; end == Err(PutStop::WriteFault));
-    // the lines of a small tree are put at once
-    assert!(rt; bytes.is_empty());
-    // a whiteout, which no tree has
-    assert!(rt; kind_letter(14) == "w");
     Ok(())
+}
+
+// The lines of a small tree are put at once.
+#[test]
+fn a_sink_without_room_gets_no_rows(rt: HostRuntime) -> Result<(), Fail> {
+    let (end, bytes) = put(rt.alloc(), Holds::Names, "/", 10)?;
+    assert!(rt; end == Err(PutStop::WriteFault) && bytes.is_empty());
+    Ok(())
+}
+
+// A whiteout, which no tree has.
+#[test]
+fn a_whiteout_has_a_letter(rt: HostRuntime) {
+    assert!(rt; kind_letter(14) == "w");
 }
 
 // A tree of more than a hundred nodes, of which a search reads few.
@@ -244,8 +256,9 @@ fn a_search_reads_few_blocks(rt: HostRuntime) -> Result<(), Fail> {
     let (Ok(targets), Ok(rows)) = (searched, walked) else {
         panic!(rt; "nothing is told");
     };
-    assert!(rt; (targets.len(), rows.len()) == (1, 3003));
-    assert!(rt; first < 24, "{first} reads");
-    assert!(rt; all > 100, "{all} reads");
+    assert!(rt;
+        (targets.len(), rows.len()) == (1, 3003) && first < 24 && all > 100,
+        "{first} and {all} reads"
+    );
     Ok(())
 }

@@ -48,6 +48,13 @@ pub(super) enum Holds {
     Hole,
 }
 
+// The extents of a stream: of each where it is in the stream, its length, and its block, which is 0 of a hole.
+type Extents = &'static [(u64, u64, u64)];
+
+const HELLO_EXTENTS: Extents = &[(0, 4096, HELLO_BLOCK)];
+
+const HOLE_EXTENTS: Extents = &[(0, HOLE, 0), (HOLE, 4096, HELLO_BLOCK)];
+
 // Adds a file with the bytes `hello`.
 fn add_hello(
     alloc: Global,
@@ -61,7 +68,7 @@ fn add_hello(
     file.stream = Some(5);
     file.bsd_flags = flags;
     tree.add(alloc, file, name)?;
-    tree.stream(alloc, id, &[(0, 4096, HELLO_BLOCK)])
+    tree.stream(alloc, id, HELLO_EXTENTS)
 }
 
 // A file or a directory without contents: the directory in which it stands, its id, whether it is a directory, and its name.
@@ -111,7 +118,7 @@ fn add_hole(alloc: Global, tree: &mut FileTree) -> Result<(), AllocError> {
     let mut file = InodePlan::file(16, ROOT);
     file.stream = Some(HOLE + 5);
     tree.add(alloc, file, "hole")?;
-    tree.stream(alloc, 16, &[(0, HOLE, 0), (HOLE, 4096, HELLO_BLOCK)])
+    tree.stream(alloc, 16, HOLE_EXTENTS)
 }
 
 // The sample with the block `hello`, with these files.
