@@ -65,33 +65,41 @@ pub enum Base {
     DeepFolders,
 }
 
+const ONE_FILE: &[Rec] = &[
+    Entry(In(2), Id(16), FILE, "a"),
+    Inode(Id(16), In(2), F, Count(1)),
+];
+
+const ONE_LINK: &[Rec] = &[
+    Entry(In(2), Id(16), LINK, "l"),
+    Inode(Id(16), In(2), L, Count(1)),
+];
+
+const TWO_NAMES: &[Rec] = &[
+    Inode(Id(16), In(2), F, Count(2)),
+    Twin(In(2), Id(16), FILE, Sibling(17), "a"),
+    Twin(In(2), Id(16), FILE, Sibling(18), "b"),
+    Link(Id(16), Sibling(17), In(2), "a"),
+    Map(Sibling(17), Id(16)),
+];
+
+const DEEP_FOLDERS: &[Rec] = &[
+    Entry(In(2), Id(16), FOLDER, "a"),
+    Inode(Id(16), In(2), D, Count(1)),
+    Entry(In(16), Id(17), FOLDER, "b"),
+    Inode(Id(17), In(16), D, Count(1)),
+    Entry(In(17), Id(18), FOLDER, "c"),
+    Inode(Id(18), In(17), D, Count(0)),
+];
+
 impl Base {
     pub fn records(self) -> &'static [Rec] {
         match self {
             Alone => &[],
-            OneFile => &[
-                Entry(In(2), Id(16), FILE, "a"),
-                Inode(Id(16), In(2), F, Count(1)),
-            ],
-            OneLink => &[
-                Entry(In(2), Id(16), LINK, "l"),
-                Inode(Id(16), In(2), L, Count(1)),
-            ],
-            TwoNames => &[
-                Inode(Id(16), In(2), F, Count(2)),
-                Twin(In(2), Id(16), FILE, Sibling(17), "a"),
-                Twin(In(2), Id(16), FILE, Sibling(18), "b"),
-                Link(Id(16), Sibling(17), In(2), "a"),
-                Map(Sibling(17), Id(16)),
-            ],
-            DeepFolders => &[
-                Entry(In(2), Id(16), FOLDER, "a"),
-                Inode(Id(16), In(2), D, Count(1)),
-                Entry(In(16), Id(17), FOLDER, "b"),
-                Inode(Id(17), In(16), D, Count(1)),
-                Entry(In(17), Id(18), FOLDER, "c"),
-                Inode(Id(18), In(17), D, Count(0)),
-            ],
+            OneFile => ONE_FILE,
+            OneLink => ONE_LINK,
+            TwoNames => TWO_NAMES,
+            DeepFolders => DEEP_FOLDERS,
         }
     }
 }

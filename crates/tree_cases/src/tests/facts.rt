@@ -4,7 +4,7 @@ use blk_source::MemSource;
 use fs_name::Names;
 use fs_record::RecFault;
 use img_make::records::{InodePlan, Item, LINK_MODE, attribute};
-use img_make::{FileTree, Sample, image_with, made, sample};
+use img_make::{FileTree, Sample, image_with, made, sample, table};
 use obj_base::Stop;
 use std::alloc::{AllocError, Global};
 use std::process::Abort;
@@ -62,81 +62,104 @@ fn counts_of(found: &ViewFacts) -> Counts {
     ]
 }
 
+// A sample, and what it has. The bare volume has 4 records. A file has an inode and an entry, one with a stream also the record of its
+// id and its extents, and each of two names an entry, a link and a map.
+const SAMPLES: &[(Sample, Counts)] = table! {
+    Sample::S, [4, 2, 2, 0, 0, 0, 0];
+    Sample::H, [8, 3, 3, 0, 0, 0, 1];
+    Sample::L, [11, 3, 4, 0, 2, 2, 0];
+    Sample::P, [9, 3, 3, 0, 0, 0, 2];
+    Sample::V, [6, 3, 3, 0, 0, 0, 0];
+};
+
+// Whether the facts of an image are so many.
+fn has_counts(alloc: Global, image: Vec<u8>, wanted: Counts) -> Result<bool, Fail> {
+    let Ok(found) = facts_of(alloc, image)? else {
+        return Ok(false);
+    };
+    Ok(counts_of(&found) == wanted)
+}
+
+// Whether the inodes and the entries are so many where these alone are gathered, with no links, siblings and extents.
+fn has_files(alloc: Global, image: Vec<u8>, wanted: Counts) -> Result<bool, Fail> {
+    let Ok(files) = files_of(alloc, image)? else {
+        return Ok(false);
+    };
+    Ok(
+        [files.inodes.len() as u64, files.entries.len() as u64] == [wanted[1], wanted[2]]
+            && files.links.is_empty()
+            && files.siblings.is_empty()
+            && files.extents.is_empty(),
+    )
+}
+
 #[test]
 fn each_kind_of_record_is_counted(rt: HostRuntime) -> Result<(), Fail> {
     let alloc = rt.alloc();
-    // The bare volume has 4 records. A file has an inode and an entry, one with a stream also the record of its id and its
-    // extents, and each of two names an entry, a link and a map.
-    let cases = [
-        (Sample::S, [4, 2, 2, 0, 0, 0, 0]),
-        (Sample::H, [8, 3, 3, 0, 0, 0, 1]),
-        (Sample::L, [11, 3, 4, 0, 2, 2, 0]),
-        (Sample::P, [9, 3, 3, 0, 0, 0, 2]),
-        (Sample::V, [6, 3, 3, 0, 0, 0, 0]),
-    ];
-    for (which, wanted) in cases {
+    for &(which, wanted) in SAMPLES {
         let image = made(alloc, &sample(alloc, which)?)?;
-        let Ok(found) = facts_of(alloc, image.to_vec(alloc)?)? else {
-            panic!(rt; "{which:?}: there are no facts");
-        };
-        assert!(rt; counts_of(&found) == wanted, "{which:?}");
-        let Ok(files) = files_of(alloc, image)? else {
-            panic!(rt; "{which:?}: there are no files");
-        };
         assert!(rt;
-            [files.inodes.len() as u64, files.entries.len() as u64] == [wanted[1], wanted[2]],
-            "{which:?}"
-        );
-        assert!(rt;
-            files.links.is_empty() && files.siblings.is_empty() && files.extents.is_empty()
+            has_counts(alloc, image.to_vec(alloc)?, wanted)? && has_files(alloc, image, wanted)?,
+            "{} records",
+            wanted[0]
         );
     }
     Ok(())
 }
 
+// The bytes of an attribute, and whether they are a target.
+const TARGETS: &[(&[u8], bool)] = table! {
+    b"hello\0", true;
+    b"hello", false;
+    b"\0", false;
+    b"he\0lo\0", false;
+};
+
+// The only attribute of the link whose target has these bytes: its id, and whether it gives the target.
+fn attribute_of(alloc: Global, target: &[u8]) -> Result<(u64, bool), Fail> {
+    let image = with_items(alloc, linked(alloc, target)?)?;
+    let Ok(found) = facts_of(alloc, image)? else {
+        return Err(Fail::from("there are no facts"));
+    };
+    let [attribute] = found.facts.attributes.as_slice() else {
+        return Err(Fail::from("there isn't one attribute"));
+    };
+    Ok((attribute.id(), attribute.gives_target()))
+}
+
 #[test]
 fn the_target_of_a_link_is_kept(rt: HostRuntime) -> Result<(), Fail> {
-    let alloc = rt.alloc();
-    let cases: [(&[u8], bool); 4] = [
-        (b"hello\0", true),
-        (b"hello", false),
-        (b"\0", false),
-        (b"he\0lo\0", false),
-    ];
-    for (target, is_target) in cases {
-        let image = with_items(alloc, linked(alloc, target)?)?;
-        let Ok(found) = facts_of(alloc, image)? else {
-            panic!(rt; "there are no facts");
-        };
-        let [attribute] = found.facts.attributes.as_slice() else {
-            panic!(rt; "there isn't one attribute");
-        };
-        assert!(rt; (attribute.id(), attribute.gives_target()) == (FILE, is_target));
+    for (target, is_target) in TARGETS {
+        assert!(rt; attribute_of(rt.alloc(), target)? == (FILE, *is_target));
     }
     Ok(())
+}
+
+// The numbers of the items that are cut, and how many bytes of their values stay. Items 5 and 6 are the inode of the link and its
+// attribute. Before them stand the entries of directory 1, the root's inode and its entry, and the inode of directory 3.
+const CUT: &[(usize, usize)] = &[(6, 3), (5, 91)];
+
+// The small container with the link, and these items cut.
+fn cut(alloc: Global) -> Result<Vec<u8>, Fail> {
+    let mut items = linked(alloc, b"hello\0")?;
+    for &(number, length) in CUT {
+        if let Some(item) = items.get_mut(number) {
+            item.1.truncate(length);
+        }
+    }
+    with_items(alloc, items)
 }
 
 #[test]
 fn the_first_record_that_is_refused_is_named(rt: HostRuntime) -> Result<(), Fail> {
     let alloc = rt.alloc();
-    let mut items = linked(alloc, b"hello\0")?;
-    // Items 5 and 6 are the inode of the link and its attribute. Before them stand the entries of directory 1, the root's inode and
-    // its entry, and the inode of directory 3.
-    for (number, length) in [(6, 3), (5, 91)] {
-        if let Some(item) = items.get_mut(number) {
-            item.1.truncate(length);
-        }
-    }
-    let stop = match facts_of(alloc, with_items(alloc, items)?)? {
-        Ok(_) => panic!(rt; "there are facts"),
-        Err(stop) => stop,
-    };
+    let stop = facts_of(alloc, cut(alloc)?)?.err();
     let fault = TreeFault::Record {
         slot: 0,
         xid: 1,
         item: 5,
         why: RecFault::Length,
     };
-    assert!(rt; stop == Stop::Found(fault));
+    assert!(rt; stop == Some(Stop::Found(fault)));
     Ok(())
 }

@@ -8,7 +8,7 @@ use Base::Alone;
 use blk_source::{Bytes, MemSource};
 use ext_ref::NewRange;
 use fs_record::RecFault;
-use img_make::{Sample, make, sample};
+use img_make::{Sample, make, sample, table};
 use obj_base::Stop;
 use std::alloc::Global;
 use std::process::Abort;
@@ -161,6 +161,8 @@ fn is_as_said(
     })
 }
 
+const PROFILES: [Profile; 2] = [Profile::Plain, Profile::Strict];
+
 fn assert_case(
     rt: &impl Abort,
     alloc: Global,
@@ -168,10 +170,9 @@ fn assert_case(
     image: &[u8],
     said: Said,
 ) -> Result<(), Fail> {
-    for profile in [Profile::Plain, Profile::Strict] {
+    for profile in PROFILES {
         let answer = checked(alloc, image.to_vec(alloc)?, 0, profile)?;
-        let as_said = is_as_said(alloc, &answer, said)?;
-        assert!(rt; as_said, "{name}");
+        assert!(rt; is_as_said(alloc, &answer, said)?, "{name}");
     }
     Ok(())
 }
@@ -247,6 +248,16 @@ const NOTED: &[Rec] = &[
     Inode(Id(20), In(2), D, Count(1)),
 ];
 
+// The notes that those records lead to.
+fn noted(alloc: Global) -> Result<Vec<Note>, Fail> {
+    let mut notes = Vec::new(alloc);
+    notes.push(Note::Hash(named_at(alloc, 2, "é")?))?;
+    notes.push(Note::Hash(named_at(alloc, 20, "ü")?))?;
+    notes.push(Note::Unnamed(at(16)))?;
+    notes.push(Note::Unnamed(at(19)))?;
+    Ok(notes)
+}
+
 #[test]
 fn notes_stand_in_their_order(rt: HostRuntime) -> Result<(), Fail> {
     let alloc = rt.alloc();
@@ -254,36 +265,37 @@ fn notes_stand_in_their_order(rt: HostRuntime) -> Result<(), Fail> {
     let Ok(tally) = checked(alloc, image, 0, Profile::Plain)? else {
         panic!(rt; "the view breaks a rule");
     };
-    let notes = vec![in alloc;
-        Note::Hash(named_at(alloc, 2, "é")?),
-        Note::Hash(named_at(alloc, 20, "ü")?),
-        Note::Unnamed(at(16)),
-        Note::Unnamed(at(19)),
-    ]?;
-    assert!(rt; tally.records == 12 && tally.notes.as_slice() == notes.as_slice());
+    assert!(rt; tally.records == 12 && tally.notes.as_slice() == noted(alloc)?.as_slice());
     Ok(())
+}
+
+// A sample, the number of a view, and how many records that has.
+const SAMPLES: &[(Sample, usize, u64)] = table! {
+    Sample::S, 0, 4;
+    Sample::H, 0, 8;
+    Sample::L, 0, 11;
+    Sample::P, 0, 9;
+    Sample::C, 0, 12;
+    Sample::V, 0, 6;
+    Sample::V, 1, 6;
+    Sample::V, 2, 6;
+};
+
+// Whether a view of a sample meets the rules without a note, and has so many records.
+fn meets(alloc: Global, which: Sample, number: usize, records: u64) -> Result<bool, Fail> {
+    let image = make(alloc, &sample(alloc, which)?)?;
+    let Ok(tally) = checked(alloc, image, number, Profile::Strict)? else {
+        return Ok(false);
+    };
+    Ok(tally.records == records && tally.notes.is_empty())
 }
 
 #[test]
 fn samples_meet_the_rules(rt: HostRuntime) -> Result<(), Fail> {
-    let alloc = rt.alloc();
-    for (which, number, records) in [
-        (Sample::S, 0, 4),
-        (Sample::H, 0, 8),
-        (Sample::L, 0, 11),
-        (Sample::P, 0, 9),
-        (Sample::C, 0, 12),
-        (Sample::V, 0, 6),
-        (Sample::V, 1, 6),
-        (Sample::V, 2, 6),
-    ] {
-        let image = make(alloc, &sample(alloc, which)?)?;
-        let Ok(tally) = checked(alloc, image, number, Profile::Strict)? else {
-            panic!(rt; "{which:?} {number}: a rule is broken");
-        };
+    for &(which, number, records) in SAMPLES {
         assert!(rt;
-            (tally.records, tally.notes.len()) == (records, 0),
-            "{which:?} {number}"
+            meets(rt.alloc(), which, number, records)?,
+            "view {number}, {records} records"
         );
     }
     Ok(())
