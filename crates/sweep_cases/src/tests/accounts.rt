@@ -14,7 +14,7 @@ mod space;
 mod vast;
 
 use blk_source::{BlockSource, MemSource};
-use img_make::{Base, Change, Sample, grouped, image};
+use img_make::{Base, Change, Sample, grouped, image, table};
 use nx_ring::{Checkpoint, newest};
 use obj_base::Stop;
 use reach_rules::ReachFault;
@@ -157,35 +157,48 @@ fn plain(alloc: Global, which: Sample) -> Result<Vec<u8>, Fail> {
     image(alloc, &(which, &[], &[]), &[])
 }
 
+// A sample, how many objects it names, and how many blocks are owned.
+const SAMPLES: &[(Sample, u64, u64)] = table! {
+    Sample::S, 14, 57;
+    Sample::H, 14, 58;
+    Sample::L, 14, 57;
+    Sample::P, 14, 58;
+    Sample::C, 14, 58;
+    Sample::V, 22, 65;
+    Sample::V2, 34, 77;
+    Sample::J, 15, 60;
+    Sample::T, 20, 64;
+};
+
 #[test]
 fn numbers_of_samples(rt: HostRuntime) -> Result<(), Fail> {
     let alloc = rt.alloc();
-    for (which, objects, owned) in [
-        (Sample::S, 14, 57),
-        (Sample::H, 14, 58),
-        (Sample::L, 14, 57),
-        (Sample::P, 14, 58),
-        (Sample::C, 14, 58),
-        (Sample::V, 22, 65),
-        (Sample::V2, 34, 77),
-        (Sample::J, 15, 60),
-        (Sample::T, 20, 64),
-    ] {
+    for &(which, objects, owned) in SAMPLES {
         let found = sum(alloc, plain(alloc, which)?)?;
-        assert!(rt; found == Ok(Numbers { objects, owned }), "{which:?}");
+        assert!(rt;
+            found == Ok(Numbers { objects, owned }),
+            "{objects} objects, {owned} blocks"
+        );
     }
     Ok(())
 }
 
+// Whether the blocks of an image that are owned and those that are free are all of its blocks.
+fn are_all(alloc: Global, image: Vec<u8>) -> Result<bool, Fail> {
+    let (blocks, free) = space_of(alloc, image.to_vec(alloc)?)?;
+    let Ok(numbers) = sum(alloc, image)? else {
+        return Err(Fail::from("no account"));
+    };
+    Ok(numbers.owned.saturating_add(free) == blocks)
+}
+
+const SOME_SAMPLES: [Sample; 4] = [Sample::L, Sample::P, Sample::J, Sample::T];
+
 #[test]
 fn owned_and_free_are_all_blocks(rt: HostRuntime) -> Result<(), Fail> {
     let alloc = rt.alloc();
-    for which in [Sample::L, Sample::P, Sample::J, Sample::T] {
-        let Ok(numbers) = sum(alloc, plain(alloc, which)?)? else {
-            panic!(rt; "no account: {which:?}");
-        };
-        let (blocks, free) = space_of(alloc, plain(alloc, which)?)?;
-        assert!(rt; numbers.owned.saturating_add(free) == blocks, "{which:?}");
+    for which in SOME_SAMPLES {
+        assert!(rt; are_all(alloc, plain(alloc, which)?)?, "{which:?}");
     }
     Ok(())
 }
@@ -193,11 +206,7 @@ fn owned_and_free_are_all_blocks(rt: HostRuntime) -> Result<(), Fail> {
 #[test]
 fn owned_and_free_with_address_blocks(rt: HostRuntime) -> Result<(), Fail> {
     let alloc = rt.alloc();
-    let Ok(numbers) = sum(alloc, grouped(alloc, &[])?)? else {
-        panic!(rt; "no account");
-    };
-    let (blocks, free) = space_of(alloc, grouped(alloc, &[])?)?;
-    assert!(rt; numbers.owned.saturating_add(free) == blocks);
+    assert!(rt; are_all(alloc, grouped(alloc, &[])?)?);
     Ok(())
 }
 
@@ -205,23 +214,41 @@ fn owned_and_free_with_address_blocks(rt: HostRuntime) -> Result<(), Fail> {
 // object map and the root of its tree, and the bitmaps of the chunk and of the pool.
 const ONCE: u64 = 7;
 
-// Beside those, the nodes of files and the roots of extent references. The superblocks and the nodes of a volume's map and of its snapshot
-// metadata, which were loaded with the volume, aren't read again.
+// A sample, and what its account reads: beside those, the nodes of files and the roots of extent references. The superblocks and the nodes
+// of a volume's map and of its snapshot metadata, which were loaded with the volume, aren't read again.
+const READS: &[(Sample, u64)] = table! {
+    Sample::S, ONCE + 1 + 1;
+    Sample::V, ONCE + 4 + 3;
+    Sample::V2, ONCE + 4 + 9;
+    Sample::T, ONCE + 2 + 2;
+};
+
+// How many reads the account of an image takes.
+fn reads_of(alloc: Global, image: Vec<u8>) -> Result<u64, Fail> {
+    let account = told(alloc, image, Vec::new(alloc))?;
+    if account.told.is_err() {
+        return Err(Fail::from("no account"));
+    }
+    Ok(account.after.saturating_sub(account.before))
+}
+
 #[test]
 fn reads(rt: HostRuntime) -> Result<(), Fail> {
     let alloc = rt.alloc();
-    for (which, files, extents) in [
-        (Sample::S, 1, 1),
-        (Sample::V, 4, 3),
-        (Sample::V2, 4, 9),
-        (Sample::T, 2, 2),
-    ] {
-        let account = told(alloc, plain(alloc, which)?, Vec::new(alloc))?;
-        assert!(rt; account.told.is_ok(), "{which:?}");
-        let reads = account.after.saturating_sub(account.before);
-        assert!(rt; reads == ONCE + files + extents, "{which:?}");
+    for &(which, wanted) in READS {
+        assert!(rt;
+            reads_of(alloc, plain(alloc, which)?)? == wanted,
+            "{wanted} reads"
+        );
     }
     Ok(())
+}
+
+// Whether an account of which the read of a number fails is stopped by that.
+fn is_stopped(alloc: Global, number: u64) -> Result<bool, Fail> {
+    let fails = vec![in alloc; number]?;
+    let account = told(alloc, plain(alloc, Sample::S)?, fails)?;
+    Ok(account.told == Err(Stop::ReadFault))
 }
 
 #[test]
@@ -230,9 +257,7 @@ fn each_read_that_fails_is_told(rt: HostRuntime) -> Result<(), Fail> {
     let whole = told(alloc, plain(alloc, Sample::S)?, Vec::new(alloc))?;
     assert!(rt; whole.before < whole.after);
     for number in whole.before..whole.after {
-        let fails = vec![in alloc; number + 1]?;
-        let stopped = told(alloc, plain(alloc, Sample::S)?, fails)?;
-        assert!(rt; stopped.told == Err(Stop::ReadFault), "{number}");
+        assert!(rt; is_stopped(alloc, number + 1)?, "{number}");
     }
     Ok(())
 }

@@ -8,7 +8,7 @@ mod uses;
 
 use blk_source::MemSource;
 use bt_node::NodeFault;
-use img_make::{Sample, edit, make, sample};
+use img_make::{Sample, edit, make, sample, table};
 use nx_ring::newest;
 use obj_base::{HeadFault, Site, Stop, Within};
 use omap_map::OmapRecord;
@@ -100,91 +100,97 @@ fn swept(
     Ok(reach_views(alloc, &mut src, &at.site, &volumes, &heads))
 }
 
-// The root of all versions, the leaf of the name before and after transaction 4, and the leaf that never changed.
+// The id of a record, its transaction and its block: the root of all versions, the leaf of the name before and after transaction 4,
+// and the leaf that never changed.
+const USED: &[(u64, u64, u64)] = table! {
+    1028, 1, 54; 1031, 1, 57; 1031, 4, 58; 1032, 1, 59;
+};
+
+// Whether a record is among those that are used.
+fn is_used(used: &[Used], oid: u64, xid: u64, paddr: u64) -> bool {
+    let mapping = OmapRecord {
+        oid,
+        xid,
+        flags: 0,
+        size: 4096,
+        paddr,
+    };
+    used.contains(&Used { map: MAP, mapping })
+}
+
 #[test]
 fn eight_views_use_four_records(rt: HostRuntime) -> Result<(), Fail> {
-    let alloc = rt.alloc();
-    match swept(alloc, 1028, None)? {
-        Ok(used) => {
-            assert!(rt; used.len() == 4);
-            let wanted = [(1028, 1, 54), (1031, 1, 57), (1031, 4, 58), (1032, 1, 59)];
-            for (oid, xid, paddr) in wanted {
-                let mapping = OmapRecord {
-                    oid,
-                    xid,
-                    flags: 0,
-                    size: 4096,
-                    paddr,
-                };
-                let one = Used { map: MAP, mapping };
-                assert!(rt; used.contains(&one), "{oid} {xid}");
-            }
-        }
-        Err(_) => panic!(rt; "it stops"),
+    let Ok(used) = swept(rt.alloc(), 1028, None)? else {
+        panic!(rt; "it stops");
+    };
+    assert!(rt; used.len() == 4);
+    for &(oid, xid, paddr) in USED {
+        assert!(rt; is_used(&used, oid, xid, paddr), "{oid} {xid}");
     }
     Ok(())
 }
+
+// The id of the root, a byte that is changed, and what stops the sweep.
+type Stopped = (u64, Option<(usize, usize, u8)>, ReachFault);
 
 // An id without a record, and a leaf whose header says another object.
+const STOPS: &[Stopped] = table! {
+    1027, None, ReachFault::Unnamed { within: Within::Volume(0), oid: 1027, xid: 1 };
+    1028, Some((58, 8, 1)), ReachFault::Unsound { block: 58, why: Why::Node(NodeFault::Head(HeadFault::BadOid)) };
+};
+
 #[test]
 fn what_stops_the_sweep(rt: HostRuntime) -> Result<(), Fail> {
-    let alloc = rt.alloc();
-    let unnamed = ReachFault::Unnamed {
-        within: Within::Volume(0),
-        oid: 1027,
-        xid: 1,
-    };
-    let bad = ReachFault::Unsound {
-        block: 58,
-        why: Why::Node(NodeFault::Head(HeadFault::BadOid)),
-    };
-    let cases = [(1027, None, unnamed), (1028, Some((58, 8, 1)), bad)];
-    for (root_oid, byte, fault) in cases {
-        match swept(alloc, root_oid, byte)? {
-            Ok(_) => panic!(rt; "nothing stops it"),
-            Err(stop) => assert!(rt; stop == Stop::Found(fault)),
-        }
+    for &(root_oid, byte, fault) in STOPS {
+        let stop = swept(rt.alloc(), root_oid, byte)?.err();
+        assert!(rt; stop == Some(Stop::Found(fault)), "{root_oid}");
     }
     Ok(())
 }
 
-fn record(oid: u64, flags: u32) -> OmapRecord {
-    OmapRecord {
-        oid,
-        xid: 1,
-        flags,
-        size: 4096,
-        paddr: 60,
-    }
-}
+const KEPT: OmapRecord = OmapRecord {
+    oid: 7,
+    xid: 1,
+    flags: 0,
+    size: 4096,
+    paddr: 60,
+};
 
-// A map with a record that is marked deleted and one that isn't: this one is used, or another map's is, or the deleted one is.
+const DELETED: OmapRecord = OmapRecord {
+    oid: 8,
+    flags: 1,
+    ..KEPT
+};
+
+// A map with a record that is marked deleted and one that isn't.
+const MAPS: &[MapRecords<'static>] = &[MapRecords {
+    within: Within::Volume(0),
+    map: MAP,
+    records: &[KEPT, DELETED],
+}];
+
+const IDLE: ReachFault = ReachFault::UnusedMapping {
+    within: Within::Volume(0),
+    oid: 7,
+    xid: 1,
+};
+
+// The only record that is used, and whether all is well: the one that isn't marked deleted, another map's, or the deleted one.
+const USES: &[(Used, bool)] = table! {
+    Used { map: MAP, mapping: KEPT }, true;
+    Used { map: MAP + 1, mapping: KEPT }, false;
+    Used { map: MAP, mapping: DELETED }, false;
+};
+
 #[test]
 fn what_is_not_used(rt: HostRuntime) -> Result<(), Fail> {
-    let alloc = rt.alloc();
-    let records = [record(7, 0), record(8, 1)];
-    let maps = [MapRecords {
-        within: Within::Volume(0),
-        map: MAP,
-        records: &records,
-    }];
-    let idle = ReachFault::UnusedMapping {
-        within: Within::Volume(0),
-        oid: 7,
-        xid: 1,
-    };
-    let cases = [(MAP, 0, true), (MAP + 1, 0, false), (MAP, 1, false)];
-    for (map, i, is_used) in cases {
-        let one = Used {
-            map,
-            mapping: records[i],
-        };
-        let wanted = if is_used {
+    for &(one, is_well) in USES {
+        let wanted = if is_well {
             Ok(())
         } else {
-            Err(Stop::Found(idle))
+            Err(Stop::Found(IDLE))
         };
-        assert!(rt; unused(alloc, &maps, &[one]) == wanted);
+        assert!(rt; unused(rt.alloc(), MAPS, &[one]) == wanted);
     }
     Ok(())
 }

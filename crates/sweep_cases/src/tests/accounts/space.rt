@@ -6,7 +6,7 @@ use apfs_layout::space_manager::{BLOCKS_PER_CHUNK, MAIN_FREE, POOL_BITMAP_SIZE};
 use img_make::Change::*;
 use img_make::cases::RING_INDEX;
 use img_make::places::{POOL_BASE, POOL_QUEUE, SPACE_MANAGER};
-use img_make::{SMALL, grouped, table};
+use img_make::{Change, SMALL, grouped, table};
 use obj_base::Stop;
 use reach_rules::ReachFault::*;
 use space_map::SpaceFault;
@@ -27,10 +27,12 @@ fn chunks(rt: HostRuntime) -> Result<(), Fail> {
 }
 
 // The address block stands in the third block of the pool.
+const OTHER_INDEX: &[Change] = &[Put(45, CAB_INDEX, &[1])];
+
 #[test]
 fn an_address_block_of_another_index(rt: HostRuntime) -> Result<(), Fail> {
     let alloc = rt.alloc();
-    let found = sum(alloc, grouped(alloc, &[Put(45, CAB_INDEX, &[1])])?)?;
+    let found = sum(alloc, grouped(alloc, OTHER_INDEX)?)?;
     let fault = Space(SpaceFault::Cab { index: 0 });
     assert!(rt; found == Err(Stop::Found(fault)));
     Ok(())

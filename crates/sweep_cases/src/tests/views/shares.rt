@@ -45,21 +45,23 @@ fn items_of(alloc: Global, children: &[u64]) -> Result<Vec<Item>, AllocError> {
     Ok(items)
 }
 
+// What a root tells of its tree.
+const TOTALS: Totals = Totals {
+    keys: 1,
+    nodes: 1,
+    longest_key: 8,
+    longest_value: 8,
+};
+
 // Writes a node in its block.
 fn put(alloc: Global, image: &mut [u8], made: &Made) -> Result<(), Fail> {
     let (block, oid, level, children) = *made;
     let items = items_of(alloc, children)?;
-    let totals = Totals {
-        keys: 1,
-        nodes: 1,
-        longest_key: 8,
-        longest_value: 8,
-    };
     let head = NodeHead {
         oid,
         xid: 1,
         level,
-        totals: (level == 2).then_some(totals),
+        totals: (level == 2).then_some(TOTALS),
     };
     let Some(bytes) = node(alloc, 4096, &Tree::FILE_SYSTEM, &head, &items)? else {
         return Err(Fail::from("the items have no room"));
@@ -155,21 +157,26 @@ const CASES: &[Case] = table! {
         [2000, 2000], false, Some(NamedTwice { within: Within::Volume(0), oid: 2003, xid: 5 });
 };
 
+// Whether these records are used, in any order, and each was read once.
+fn are_used(swept: &Swept, used: &[Used], wanted: &[Used]) -> bool {
+    wanted.iter().all(|one| used.contains(one))
+        && (used.len(), swept.reads) == (wanted.len(), wanted.len() as u64)
+}
+
+// Whether the sweep of a case answers what is said.
+fn is_as_said(alloc: Global, case: &Case) -> Result<bool, Fail> {
+    let swept = sweep(alloc, case)?;
+    Ok(match (&swept.told, case.3) {
+        (Ok(used), None) => are_used(&swept, used, &wanted(alloc, case.0)?),
+        (Err(stop), Some(fault)) => *stop == Stop::Found(fault),
+        _ => false,
+    })
+}
+
 #[test]
 fn sets_of_views_split_and_meet(rt: HostRuntime) -> Result<(), Fail> {
-    let alloc = rt.alloc();
-    for case in CASES {
-        let swept = sweep(alloc, case)?;
-        match (&swept.told, case.3) {
-            (Ok(used), None) => {
-                let want = wanted(alloc, case.0)?;
-                let are_used = want.iter().all(|one| used.contains(one));
-                assert!(rt; are_used);
-                assert!(rt; (used.len(), swept.reads) == (want.len(), want.len() as u64));
-            }
-            (Err(stop), Some(fault)) => assert!(rt; *stop == Stop::Found(fault)),
-            _ => panic!(rt; "another answer"),
-        }
+    for (number, case) in CASES.iter().enumerate() {
+        assert!(rt; is_as_said(rt.alloc(), case)?, "case {number}");
     }
     Ok(())
 }

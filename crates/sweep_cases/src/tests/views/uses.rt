@@ -5,7 +5,7 @@ ghost use Rattle.view_sweep.specs.Wanted.{AreToldHeads, AreBelowHeads};
 
 use super::{MAP, open};
 use blk_source::MemSource;
-use img_make::{Sample, make, sample};
+use img_make::{Sample, make, sample, table};
 use omap_map::OmapRecord;
 use std::alloc::{AllocError, Global};
 use std::test::Fail;
@@ -104,34 +104,45 @@ const THIRD: Run = Run { from: 2, end: 3 };
 
 const LATER: Run = Run { from: 1, end: 3 };
 
-// The root and the second leaf are those of all views, and the first leaf is one before transaction 4 and another from it on.
+// By transaction: the snapshots, then the live view. The root and the second leaf are those of all views, and the first leaf is one before
+// transaction 4 and another from it on.
+const BY_TRANSACTION: &[One] = table! {
+    1028, 1, 54, SharedAs::Root, ALL;
+    1031, 1, 57, LEAF, FIRST;
+    1031, 4, 58, LEAF, LATER;
+    1032, 1, 59, LEAF, ALL;
+};
+
+// The live view, then the snapshots: a view that uses another leaf stands between two that share one.
+const LIVE_FIRST: &[One] = table! {
+    1028, 1, 54, SharedAs::Root, ALL;
+    1031, 1, 57, LEAF, SECOND;
+    1031, 4, 58, LEAF, FIRST;
+    1031, 4, 58, LEAF, THIRD;
+    1032, 1, 59, LEAF, ALL;
+};
+
+// The order of the views, and what they use.
+const ORDERS: &[([u64; 3], &[One])] = table! {
+    [1, 2, 0], BY_TRANSACTION;
+    [0, 1, 2], LIVE_FIRST;
+};
+
+// Whether the views use four records, and these with their sets.
+fn is_reached(reach: &Reach, wanted: &[One]) -> bool {
+    reach.used.len() == 4
+        && reach.shares.len() == wanted.len()
+        && wanted.iter().all(|one| has(reach, one))
+}
+
 #[test]
 fn each_record_tells_its_views(rt: HostRuntime) -> Result<(), Fail> {
-    let alloc = rt.alloc();
-    // by transaction: the snapshots, then the live view
-    let by_transaction = [
-        (1028, 1, 54, SharedAs::Root, ALL),
-        (1031, 1, 57, LEAF, FIRST),
-        (1031, 4, 58, LEAF, LATER),
-        (1032, 1, 59, LEAF, ALL),
-    ];
-    // the live view, then the snapshots: a view that uses another leaf stands between two that share one
-    let live_first = [
-        (1028, 1, 54, SharedAs::Root, ALL),
-        (1031, 1, 57, LEAF, SECOND),
-        (1031, 4, 58, LEAF, FIRST),
-        (1031, 4, 58, LEAF, THIRD),
-        (1032, 1, 59, LEAF, ALL),
-    ];
-    for (order, want) in [
-        ([1, 2, 0], by_transaction.as_slice()),
-        ([0, 1, 2], live_first.as_slice()),
-    ] {
-        let reach = reach(alloc, order)?;
-        assert!(rt; reach.used.len() == 4 && reach.shares.len() == want.len());
-        for one in want {
-            assert!(rt; has(&reach, one));
-        }
+    for (order, wanted) in ORDERS {
+        assert!(rt;
+            is_reached(&reach(rt.alloc(), *order)?, wanted),
+            "{} first",
+            order[0]
+        );
     }
     Ok(())
 }
