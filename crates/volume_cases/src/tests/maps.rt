@@ -6,6 +6,7 @@ use blk_source::MemSource;
 use bt_cursor::{Namer, WalkFault};
 use image::{Entry, Map, Node, map_image};
 use img_edit::node::Tree;
+use img_make::table;
 use obj_base::{Feature, HeadFault, Site, Stop};
 use omap_map::{At, Omap, OmapFault, OmapRecord, Place};
 use std::alloc::Global;
@@ -28,23 +29,20 @@ const MAP: Map = Map {
 // The records of (7, 3), (7, 5) marked deleted, and (9, 2).
 const THREE: &[Entry] = &[(7, 3, 0, 5), (7, 5, 1, 6), (9, 2, 0, 7)];
 
-fn records(level: u16, root: Option<(u64, u64)>, entries: &'static [Entry]) -> Node {
-    Node {
-        tree: Tree::OBJECT_MAP,
-        level,
-        root,
-        entries,
-    }
+// A node of records, of a level, with the totals that a root has and its entries.
+macro_rules! records {
+    ($level:expr, $root:expr, $entries:expr) => {
+        Node {
+            tree: Tree::OBJECT_MAP,
+            level: $level,
+            root: $root,
+            entries: $entries,
+        }
+    };
 }
 
-fn snapshots(entries: &'static [Entry]) -> Node {
-    Node {
-        tree: Tree::MAP_SNAPSHOTS,
-        level: 0,
-        root: Some((2, 1)),
-        entries,
-    }
-}
+// The root of a tree of these records alone.
+const WHOLE: Node = records!(0, Some((3, 1)), THREE);
 
 // Loads the map in block 1, over a source of which some calls fail.
 fn load(alloc: Global, image: Vec<u8>, fails: Vec<u64>) -> Result<Omap, Stop<OmapFault>> {
@@ -74,56 +72,70 @@ fn assert_five(rt: &impl Abort, omap: &Omap) {
     );
 }
 
+// The record of (9, 2).
+const LAST: OmapRecord = OmapRecord {
+    oid: 9,
+    xid: 2,
+    flags: 0,
+    size: 4096,
+    paddr: 7,
+};
+
+// The block of the object 9, in a container of so many blocks.
+fn block_of_nine(omap: &Omap, blocks: u64) -> Option<u64> {
+    let at = At {
+        omap,
+        xid: 9,
+        blocks,
+    };
+    at.block(9)
+}
+
 #[test]
 fn a_map_resolves_by_oid_and_transaction(rt: HostRuntime) -> Result<(), Fail> {
     let alloc = rt.alloc();
-    let image = map_image(alloc, MAP, &[records(0, Some((3, 1)), THREE)])?;
+    let image = map_image(alloc, MAP, &[WHOLE])?;
     let Ok(omap) = load(alloc, image, Vec::new(alloc)) else {
         panic!(rt; "it isn't whole");
     };
     assert_five(&rt, &omap);
-    let last = OmapRecord {
-        oid: 9,
-        xid: 2,
-        flags: 0,
-        size: 4096,
-        paddr: 7,
-    };
     assert!(rt;
-        omap.records().last() == Some(&last)
-            && omap.record(9, 9) == Some(last)
+        omap.records().last() == Some(&LAST)
+            && omap.record(9, 9) == Some(LAST)
             && omap.records().len() == 3
+            && block_of_nine(&omap, 8) == Some(7)
+            && block_of_nine(&omap, 7) == None
     );
-    let at = At {
-        omap: &omap,
-        xid: 9,
-        blocks: 8,
-    };
-    assert!(rt; at.block(9) == Some(7));
-    let before = At {
-        omap: &omap,
-        xid: 9,
-        blocks: 7,
-    };
-    assert!(rt; before.block(9) == None);
     Ok(())
 }
+
+// A map with two snapshots, whose tree is in block 5.
+const WITH_SNAPSHOTS: Map = Map {
+    snap_count: 2,
+    snap_tree: 5,
+    ..MAP
+};
+
+// The root of the snapshots.
+const SNAPSHOTS: Node = Node {
+    tree: Tree::MAP_SNAPSHOTS,
+    level: 0,
+    root: Some((2, 1)),
+    entries: &[(3, 0, 0, 0), (5, 0, 2, 0)],
+};
+
+// A root of records, its two children, and the snapshots.
+const TWO_LEVELS: [Node; 4] = [
+    records!(1, Some((3, 3)), &[(7, 3, 0, 3), (9, 2, 0, 4)]),
+    records!(0, None, &[(7, 3, 0, 5), (7, 5, 1, 6)]),
+    records!(0, None, &[(9, 2, 0, 7)]),
+    SNAPSHOTS,
+];
 
 #[test]
 fn a_map_of_two_levels_with_snapshots(rt: HostRuntime) -> Result<(), Fail> {
     let alloc = rt.alloc();
-    let map = Map {
-        snap_count: 2,
-        snap_tree: 5,
-        ..MAP
-    };
-    let nodes = [
-        records(1, Some((3, 3)), &[(7, 3, 0, 3), (9, 2, 0, 4)]),
-        records(0, None, &[(7, 3, 0, 5), (7, 5, 1, 6)]),
-        records(0, None, &[(9, 2, 0, 7)]),
-        snapshots(&[(3, 0, 0, 0), (5, 0, 2, 0)]),
-    ];
-    let image = map_image(alloc, map, &nodes)?;
+    let image = map_image(alloc, WITH_SNAPSHOTS, &TWO_LEVELS)?;
     let Ok(omap) = load(alloc, image, Vec::new(alloc)) else {
         panic!(rt; "it isn't whole");
     };
@@ -152,77 +164,64 @@ fn assert_stop(
     Ok(())
 }
 
-fn tree(root: u64, why: WalkFault) -> Stop<OmapFault> {
-    Stop::Found(OmapFault::Tree { root, why })
+// A fault of the tree with this root.
+macro_rules! tree {
+    ($root:expr, $why:expr) => {
+        Stop::Found(OmapFault::Tree {
+            root: $root,
+            why: $why,
+        })
+    };
 }
+
+// Maps without a tree of records, with a pending revert, and with a tree of snapshots past the last block.
+const NO_TREE: Map = Map { tree: 0, ..MAP };
+
+const REVERTING: Map = Map { revert: 4, ..MAP };
+
+const SNAPPED: Map = Map {
+    snap_tree: 8,
+    ..MAP
+};
+
+// A map, the nodes after it, and what stops it.
+const STOPS: &[(Map, &[Node], Stop<OmapFault>)] = table! {
+    NO_TREE, &[WHOLE], tree!(0, WalkFault::Unnamed { oid: 0 });
+    REVERTING, &[], Stop::Unsupported { feature: Feature::Revert, block: 1 };
+    MAP, &[records!(0, Some((2, 1)), THREE)], tree!(2, WalkFault::Counts);
+    MAP, &[records!(0, Some((2, 1)), &[(9, 2, 0, 7), (7, 3, 0, 5)])], tree!(2, WalkFault::Order { item: 1 });
+    MAP, &[records!(0, Some((2, 1)), &[(7, 3, 0, 5), (7, 3, 0, 6)])], tree!(2, WalkFault::Order { item: 1 });
+    SNAPPED, &[WHOLE], tree!(8, WalkFault::Unnamed { oid: 8 });
+};
 
 #[test]
 fn what_stops_a_map(rt: HostRuntime) -> Result<(), Fail> {
     let alloc = rt.alloc();
-    let whole = records(0, Some((3, 1)), THREE);
-    let no_tree = Map { tree: 0, ..MAP };
-    assert_stop(
-        &rt,
-        alloc,
-        no_tree,
-        &[whole],
-        tree(0, WalkFault::Unnamed { oid: 0 }),
-    )?;
-    let reverting = Map { revert: 4, ..MAP };
-    let revert = Stop::Unsupported {
-        feature: Feature::Revert,
-        block: 1,
-    };
-    assert_stop(&rt, alloc, reverting, &[], revert)?;
-    let few = records(0, Some((2, 1)), THREE);
-    assert_stop(&rt, alloc, MAP, &[few], tree(2, WalkFault::Counts))?;
-    let mixed = records(0, Some((2, 1)), &[(9, 2, 0, 7), (7, 3, 0, 5)]);
-    assert_stop(
-        &rt,
-        alloc,
-        MAP,
-        &[mixed],
-        tree(2, WalkFault::Order { item: 1 }),
-    )?;
-    let twice = records(0, Some((2, 1)), &[(7, 3, 0, 5), (7, 3, 0, 6)]);
-    assert_stop(
-        &rt,
-        alloc,
-        MAP,
-        &[twice],
-        tree(2, WalkFault::Order { item: 1 }),
-    )?;
-    let snapped = Map {
-        snap_tree: 8,
-        ..MAP
-    };
-    assert_stop(
-        &rt,
-        alloc,
-        snapped,
-        &[whole],
-        tree(8, WalkFault::Unnamed { oid: 8 }),
-    )
+    for (map, nodes, stop) in STOPS {
+        assert_stop(&rt, alloc, *map, nodes, *stop)?;
+    }
+    Ok(())
 }
+
+// Block 1 is blank.
+const BLANK: Stop<OmapFault> = Stop::Found(OmapFault::Head {
+    block: 1,
+    why: HeadFault::BadSum,
+});
 
 #[test]
 fn a_map_that_is_no_map(rt: HostRuntime) -> Result<(), Fail> {
     let alloc = rt.alloc();
     let blank = vec![in alloc; 0u8; 32768]?;
-    let head = Stop::Found(OmapFault::Head {
-        block: 1,
-        why: HeadFault::BadSum,
-    });
-    match load(alloc, blank, Vec::new(alloc)) {
-        Ok(_) => panic!(rt; "it is whole"),
-        Err(stop) => assert!(rt; stop == head),
-    }
-    let image = map_image(alloc, MAP, &[records(0, Some((3, 1)), THREE)])?;
-    let mut second = Vec::new(alloc);
-    second.push(2)?;
-    match load(alloc, image, second) {
-        Ok(_) => panic!(rt; "it was read"),
-        Err(stop) => assert!(rt; stop == Stop::ReadFault),
-    }
+    assert!(rt; load(alloc, blank, Vec::new(alloc)).err() == Some(BLANK));
+    Ok(())
+}
+
+#[test]
+fn a_failed_read_stops_a_map(rt: HostRuntime) -> Result<(), Fail> {
+    let alloc = rt.alloc();
+    let image = map_image(alloc, MAP, &[WHOLE])?;
+    let stop = load(alloc, image, vec![in alloc; 2]?).err();
+    assert!(rt; stop == Some(Stop::ReadFault));
     Ok(())
 }

@@ -21,6 +21,13 @@ const SITE: Site = Site {
     max_xid: 1,
 };
 
+// A slice of ranges: a row is the first block and the number of blocks of one, and ends with a semicolon.
+macro_rules! ranges {
+    ($($first:expr, $length:expr;)*) => {
+        &[$(NewRange { first: $first, length: $length, count: 1 }),*]
+    };
+}
+
 // The container in which two files share block 57.
 fn shared(alloc: Global, fails: &[u64]) -> Result<MemSource, Fail> {
     let plan = sample(alloc, Sample::C)?;
@@ -53,18 +60,20 @@ fn range(first: u64, length: u64) -> NewRange
     }
 }
 
+// The range of the shared block.
+const SHARED: NewRange = NewRange {
+    first: 57,
+    length: 1,
+    count: 2,
+};
+
 #[test]
 fn a_shared_block_is_one_range(rt: HostRuntime) -> Result<(), Fail> {
     let alloc = rt.alloc();
     let Ok(scan) = scanned(alloc, 55, &[])? else {
         panic!(rt; "the tree isn't right");
     };
-    let one = NewRange {
-        first: 57,
-        length: 1,
-        count: 2,
-    };
-    assert!(rt; scan.steps.len() == 0 && scan.ranges.as_slice() == [one].as_slice());
+    assert!(rt; scan.steps.len() == 0 && scan.ranges.as_slice() == [SHARED].as_slice());
     Ok(())
 }
 
@@ -80,39 +89,39 @@ fn no_tree_has_no_ranges(rt: HostRuntime) -> Result<(), Fail> {
     Ok(())
 }
 
+// The container has no block 256.
+const UNNAMED: Stop<ExtStop> = Stop::Found(ExtStop::Walk(WalkFault::Unnamed { oid: 256 }));
+
 #[test]
 fn what_stops_a_scan(rt: HostRuntime) -> Result<(), Fail> {
     let alloc = rt.alloc();
-    let unnamed = ExtStop::Walk(WalkFault::Unnamed { oid: 256 });
     assert!(rt;
-        scanned(alloc, 256, &[])?.err() == Some(Stop::Found(unnamed))
+        scanned(alloc, 256, &[])?.err() == Some(UNNAMED)
             && scanned(alloc, 55, &[1])?.err() == Some(Stop::ReadFault)
     );
     Ok(())
 }
 
+// Ranges that meet, overlap or hold one another, one without a block, and one that passes the greatest number.
+const COVERING: &[NewRange] = ranges! {
+    60, 2; 57, 3; 58, 1; 70, 0; 80, 5; 82, 9; TOP, 5;
+};
+
+// The first block and the number of blocks of a range, and whether it is covered.
+const COVERED: &[(u64, u64, bool)] = table! {
+    57, 5, true; 58, 4, true; 56, 2, false; 61, 2, false; 60, 1, true; 70, 1, false; 70, 0, true; 80, 11, true; 81, 11, false;
+    0, 1, false; TOP, 5, true; TOP, 6, false; TOP, TOP, false;
+};
+
 #[test]
 fn which_ranges_are_covered(rt: HostRuntime) -> Result<(), Fail> {
-    let alloc = rt.alloc();
-    let ranges = [
-        range(60, 2),
-        range(57, 3),
-        range(58, 1),
-        range(70, 0),
-        range(80, 5),
-        range(82, 9),
-        range(TOP, 5),
-    ];
-    let cover = Cover::of(alloc, &ranges)?;
-    let cases: &[(u64, u64, bool)] = table! {
-        57, 5, true; 58, 4, true; 56, 2, false; 61, 2, false; 60, 1, true; 70, 1, false; 70, 0, true; 80, 11, true; 81, 11, false;
-        0, 1, false; TOP, 5, true; TOP, 6, false; TOP, TOP, false;
-    };
-    for (first, length, expected) in cases {
-        let found = cover.covers(*first, *length);
-        assert!(rt; found == *expected, "{first} {length}");
-        let found = covered(&ranges, *first, *length);
-        assert!(rt; found == *expected, "{first} {length}");
+    let cover = Cover::of(rt.alloc(), COVERING)?;
+    for (first, length, expected) in COVERED {
+        assert!(rt;
+            cover.covers(*first, *length) == *expected
+                && covered(COVERING, *first, *length) == *expected,
+            "{first} {length}"
+        );
     }
     Ok(())
 }
@@ -130,27 +139,27 @@ fn extent(block: u64, blocks: u64) -> FileExt
     }
 }
 
+// A slice of extents with their streams: a row is a stream, the first block and the number of blocks, and ends with a semicolon. `less`
+// says by how many bytes each extent is shorter than its blocks.
+macro_rules! extents {
+    (less $less:expr; $($stream:expr, $block:expr, $blocks:expr;)*) => {
+        &[$(($stream, FileExt { logical: 0, length: 4096 * $blocks - $less, block: $block })),*]
+    };
+}
+
+// Ranges that overlap or hold one another, one without a block, and one that passes the greatest number.
+const REFERRED: &[NewRange] = ranges! {
+    40, 1; 10, 5; 12, 8; 30, 0; TOP, 5; 1, 1000;
+};
+
+// Streams 1 and 2 share block 14, stream 2 twice; a hole; an extent over two ranges; one about an empty range.
+const REFERRING: &[(u64, FileExt)] = extents! {
+    less 1; 3, 39, 2; 2, 14, 1; 1, 10, 2; 2, 14, 2; 4, 0, 1000; 1, 14, 1; 5, 29, 3;
+};
+
 #[test]
 fn streams_are_counted_once_a_range(rt: HostRuntime) -> Result<(), Fail> {
-    let ranges = [
-        range(40, 1),
-        range(10, 5),
-        range(12, 8),
-        range(30, 0),
-        range(TOP, 5),
-        range(1, 1000),
-    ];
-    // streams 1 and 2 share block 14, stream 2 twice; a hole; an extent over two ranges; one about an empty range
-    let extents = [
-        (3, extent(39, 2)),
-        (2, extent(14, 1)),
-        (1, extent(10, 2)),
-        (2, extent(14, 2)),
-        (4, extent(0, 1000)),
-        (1, extent(14, 1)),
-        (5, extent(29, 3)),
-    ];
-    let counts = references(rt.alloc(), &ranges, &extents, 4096)?;
+    let counts = references(rt.alloc(), REFERRED, REFERRING, 4096)?;
     assert!(rt; counts.as_slice() == [1, 2, 2, 0, 0, 4].as_slice());
     Ok(())
 }
@@ -158,100 +167,113 @@ fn streams_are_counted_once_a_range(rt: HostRuntime) -> Result<(), Fail> {
 // Of stream 1 two extents touch: it has blocks 10 to 14. Of stream 2 two leave block 13 out: it has 11, 12 and 14. Of stream 3 one covers
 // another and a third goes on past it: it has 20 to 30. Stream 4 has block 29, an extent without a block and a hole. Stream 5 has
 // blocks 40 and 44, and stream 6 has 39 to 45.
-const FILES: &[(u64, u64, u64)] = table! {
-    3, 25, 6; 1, 12, 3; 4, 12, 0; 5, 44, 1; 3, 20, 10; 2, 14, 1; 4, 29, 1; 6, 39, 7; 1, 10, 2; 4, 0, 1000; 2, 11, 2; 5, 40, 1;
+const FILES: &[(u64, FileExt)] = extents! {
+    less 0; 3, 25, 6; 1, 12, 3; 4, 12, 0; 5, 44, 1; 3, 20, 10; 2, 14, 1; 4, 29, 1; 6, 39, 7; 1, 10, 2; 4, 0, 1000; 2, 11, 2; 5, 40, 1;
     3, 22, 2;
 };
 
-// An extent of so many blocks of 4,096 bytes.
-fn at(block: u64, blocks: u64) -> FileExt {
-    FileExt {
-        logical: 0,
-        length: blocks.saturating_mul(4096),
-        block,
-    }
+// How many of these streams touch each of some ranges.
+fn touching(alloc: Global, ranges: &[NewRange]) -> Result<Vec<u64>, Fail> {
+    Ok(references(alloc, ranges, FILES, 4096)?)
 }
 
-// How many streams touch each of some ranges, of which the first block and the number of blocks are given.
-fn touching(alloc: Global, pairs: &[(u64, u64)]) -> Result<Vec<u64>, Fail> {
-    let mut ranges = Vec::new(alloc);
-    for (first, length) in pairs {
-        ranges.push(range(*first, *length))?;
-    }
-    let mut extents = Vec::new(alloc);
-    for (stream, block, blocks) in FILES {
-        extents.push((*stream, at(*block, *blocks)))?;
-    }
-    Ok(references(alloc, &ranges, &extents, 4096)?)
-}
-
-const APART: &[(u64, u64)] = table! {
+// Ranges of which no two have a block in common.
+const APART: &[NewRange] = ranges! {
     44, 1; 10, 1; 15, 5; 12, 1; 31, 8; 13, 1; 42, 1; 11, 1; 20, 4; 30, 1; 14, 1; 40, 1; 9, 1; 24, 4; 28, 2; 46, 1; TOP, 1;
 };
+
+// How many streams touch each.
+const APART_COUNTS: [u64; 17] = [2, 1, 0, 2, 0, 1, 1, 2, 1, 1, 2, 2, 0, 1, 2, 0, 0];
 
 #[test]
 fn streams_of_ranges_that_lie_apart(rt: HostRuntime) -> Result<(), Fail> {
     let counts = touching(rt.alloc(), APART)?;
-    assert!(rt;
-        counts.as_slice() == [2, 1, 0, 2, 0, 1, 1, 2, 1, 1, 2, 2, 0, 1, 2, 0, 0].as_slice()
-    );
+    assert!(rt; counts.as_slice() == APART_COUNTS.as_slice());
     Ok(())
 }
 
 // The third ends before the first, which begins no later; two are one; two begin together; two meet two others; one has no block.
-const OVERLAPPING: &[(u64, u64)] = table! {
+const OVERLAPPING: &[NewRange] = ranges! {
     10, 5; 13, 3; 12, 2; 10, 5; 10, 1; 21, 9; 29, 2; 13, 0; 43, 100; 41, 3;
+};
+
+// How many streams touch each.
+const OVERLAPPING_COUNTS: [u64; 10] = [2, 2, 2, 2, 1, 2, 2, 0, 2, 1];
+
+// One range about all others.
+const ABOUT: &[NewRange] = ranges! {
+    1, 1000; 41, 3; 13, 1; 0, 10;
 };
 
 #[test]
 fn streams_of_ranges_that_overlap(rt: HostRuntime) -> Result<(), Fail> {
     let counts = touching(rt.alloc(), OVERLAPPING)?;
-    assert!(rt; counts.as_slice() == [2, 2, 2, 2, 1, 2, 2, 0, 2, 1].as_slice());
-    // one range about all others
-    let counts = touching(rt.alloc(), &[(1, 1000), (41, 3), (13, 1), (0, 10)])?;
+    assert!(rt; counts.as_slice() == OVERLAPPING_COUNTS.as_slice());
+    let counts = touching(rt.alloc(), ABOUT)?;
     assert!(rt; counts.as_slice() == [6, 1, 1, 0].as_slice());
     Ok(())
 }
+
+// Two ranges, of which one holds the other.
+const TWO: &[NewRange] = ranges! {
+    1, 5; 3, 1;
+};
 
 #[test]
 fn no_ranges_and_no_extents(rt: HostRuntime) -> Result<(), Fail> {
     let alloc = rt.alloc();
     assert!(rt; touching(alloc, &[])?.is_empty());
-    let counts = references(alloc, &[range(1, 5), range(3, 1)], &[], 4096)?;
+    let counts = references(alloc, TWO, &[], 4096)?;
     assert!(rt; counts.as_slice() == [0, 0].as_slice());
     Ok(())
 }
 
+// An extent of so many blocks of 4,096 bytes.
+macro_rules! at {
+    ($block:expr, $blocks:expr) => {
+        FileExt {
+            logical: 0,
+            length: 4096 * $blocks,
+            block: $block,
+        }
+    };
+}
+
+// An extent that lies further on in its stream.
+const ODD: FileExt = FileExt {
+    logical: 4096,
+    length: 8192,
+    block: 10,
+};
+
+// Two streams that share an extent, and extents that differ in one number alone.
+const REPEATED: &[(u64, FileExt)] = table! {
+    1, at!(10, 2);
+    2, at!(10, 2);
+    1, at!(10, 2);
+    1, at!(10, 3);
+    1, ODD;
+    2, at!(10, 2);
+    1, at!(11, 2);
+    1, ODD;
+};
+
+// Each of these once.
+const LEFT: &[(u64, FileExt)] = table! {
+    1, at!(10, 2);
+    2, at!(10, 2);
+    1, at!(10, 3);
+    1, ODD;
+    1, at!(11, 2);
+};
+
 #[test]
 fn each_extent_is_left_once(rt: HostRuntime) -> Result<(), Fail> {
-    // two streams that share an extent, and extents that differ in one number alone
-    let odd = FileExt {
-        logical: 4096,
-        length: 8192,
-        block: 10,
-    };
-    let mut extents = [
-        (1, at(10, 2)),
-        (2, at(10, 2)),
-        (1, at(10, 2)),
-        (1, at(10, 3)),
-        (1, odd),
-        (2, at(10, 2)),
-        (1, at(11, 2)),
-        (1, odd),
-    ]
-    .to_vec(rt.alloc())?;
+    let mut extents = REPEATED.to_vec(rt.alloc())?;
     thin(&mut extents);
-    let left = [
-        (1, at(10, 2)),
-        (2, at(10, 2)),
-        (1, at(10, 3)),
-        (1, odd),
-        (1, at(11, 2)),
-    ];
-    assert!(rt; extents.len() == left.len());
-    for one in left {
-        assert!(rt; extents.contains(&one));
+    assert!(rt; extents.len() == LEFT.len());
+    for one in LEFT {
+        assert!(rt; extents.contains(one));
     }
     Ok(())
 }

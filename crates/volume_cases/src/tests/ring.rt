@@ -210,12 +210,16 @@ fn newest_of(alloc: Global, image: Vec<u8>) -> Result<Checkpoint, Stop<RingFault
     newest(alloc, &mut MemSource::new(image, Vec::new(alloc)))
 }
 
+// Each candidate's index, block, transaction, and the index and the number of its descriptors.
+const CANDIDATES: [(u32, u64, u64, (u32, u32)); 2] = [(1, 2, 1, (0, 2)), (4, 5, 2, (2, 3))];
+
+// The bytes of a block, and the reads.
+const LIST_READS: [(u32, u64); 3] = [(4096, 9), (16384, 10), (65536, 10)];
+
 #[test]
 fn lists_candidates_in_the_fewest_reads(rt: HostRuntime) -> Result<(), Fail> {
     let alloc = rt.alloc();
-    // each one's index, block, transaction, and the index and the number of its descriptors
-    let wanted = [(1, 2, 1, (0, 2)), (4, 5, 2, (2, 3))];
-    for (size, reads) in [(4096u32, 9u64), (16384, 10), (65536, 10)] {
+    for (size, reads) in LIST_READS {
         let image = rings(alloc, size, Nothing)?;
         let mut source = MemSource::new(image.bytes, Vec::new(alloc));
         let lines = ring(alloc, &mut source).map_err(|_| "stopped")?;
@@ -224,43 +228,55 @@ fn lists_candidates_in_the_fewest_reads(rt: HostRuntime) -> Result<(), Fail> {
             .map(|at| (at.index, at.block, at.xid, (at.desc_index, at.desc_len)))
             .collect::<Vec<_>>(alloc)?;
         assert!(rt;
-            told.as_slice() == wanted.as_slice() && source.read_count() == reads,
+            told.as_slice() == CANDIDATES.as_slice() && source.read_count() == reads,
             "{size}"
         );
     }
     Ok(())
 }
 
+// The bytes of a block.
+const SIZES: [u32; 3] = [4096, 16384, 65536];
+
+// Whether this is the second checkpoint, of a ring with blocks of so many bytes.
+fn is_second(checkpoint: &Checkpoint, size: u32) -> bool {
+    (checkpoint.xid(), checkpoint.block(), checkpoint.index()) == (2, 5, 4)
+        && (checkpoint.maps(), checkpoint.mapped()) == (2, 2)
+        && checkpoint.skipped().is_empty()
+        && checkpoint.nx().block_count() == 32
+        && checkpoint.site().block_size == size
+}
+
+// Whether the second checkpoint has the object of two blocks, and doesn't have one of another id.
+fn has_long_object(checkpoint: &Checkpoint, size: usize) -> bool {
+    let object = checkpoint.object(1024).unwrap_or(&[]);
+    object.len() == size.saturating_mul(2)
+        && object.get(size).copied().unwrap_or(0) == b'w'
+        && checkpoint.object_block(1024) == Some(12)
+        && checkpoint.object_block(7) == None
+}
+
 #[test]
 fn takes_the_newest(rt: HostRuntime) -> Result<(), Fail> {
     let alloc = rt.alloc();
-    for stored in [4096u32, 16384, 65536] {
-        let size = stored as usize;
-        let image = rings(alloc, stored, Nothing)?;
+    for size in SIZES {
+        let image = rings(alloc, size, Nothing)?;
         let checkpoint = newest_of(alloc, image.bytes).map_err(|_| "stopped")?;
-        let maps = checkpoint.maps();
-        let place = (checkpoint.block(), checkpoint.index());
         assert!(rt;
-            (checkpoint.xid(), place, maps) == (2, (5, 4), 2)
-                && (checkpoint.mapped(), checkpoint.skipped().len()) == (2, 0)
-                && checkpoint.nx().block_count() == 32
-                && checkpoint.site().block_size == stored
-        );
-        let object = checkpoint.object(1024).unwrap_or(&[]);
-        assert!(rt;
-            object.len() == size.saturating_mul(2)
-                && object.get(size).copied().unwrap_or(0) == b'w'
-                && checkpoint.object_block(1024) == Some(12)
-                && checkpoint.object_block(7) == None
+            is_second(&checkpoint, size) && has_long_object(&checkpoint, size as usize),
+            "{size}"
         );
     }
     Ok(())
 }
 
+// How the second checkpoint is broken, once in each way.
+const FLAWS: [Broken; 8] = [End, MapSum, Size, Oid, Place, Twice, Shared, Xid];
+
 #[test]
 fn takes_the_older_where_the_newer_is_broken(rt: HostRuntime) -> Result<(), Fail> {
     let alloc = rt.alloc();
-    for broken in [End, MapSum, Size, Oid, Place, Twice, Shared, Xid] {
+    for broken in FLAWS {
         let image = rings(alloc, 4096, broken)?;
         let checkpoint = newest_of(alloc, image.bytes).map_err(|_| "stopped")?;
         assert!(rt; checkpoint.xid() == 1 && checkpoint.skipped() == [(4u32, 2u64)].as_slice());
@@ -272,25 +288,31 @@ fn takes_the_older_where_the_newer_is_broken(rt: HostRuntime) -> Result<(), Fail
 // kept, and what is answered.
 type Zero = (u32, u32, usize, Stop<RingFault>);
 
+// The bytes of the whole image.
+const WHOLE: usize = 32 * 16384;
+
+const WRONG: Stop<RingFault> = Stop::Found(RingFault::BlockZero);
+
+const SHORT: Stop<RingFault> = Stop::Found(RingFault::Truncated { have: 31, need: 32 });
+
+const APART: Stop<RingFault> = Stop::Unsupported {
+    feature: Feature::NonContiguous,
+    block: 0,
+};
+
+const ZEROS: [Zero; 6] = [
+    (16384, 0, 4095, WRONG),
+    (16384, 0, 4096, WRONG),
+    (12288, 0, WHOLE, WRONG),
+    (16384, 0, WHOLE - 16384, SHORT),
+    (16384, 0x8000_0000, WHOLE - 16384, SHORT),
+    (16384, 0x8000_0000, WHOLE, APART),
+];
+
 #[test]
 fn the_first_test_that_fails_is_answered(rt: HostRuntime) -> Result<(), Fail> {
     let alloc = rt.alloc();
-    let whole: usize = 32 * 16384;
-    let wrong = Stop::Found(RingFault::BlockZero);
-    let short = Stop::Found(RingFault::Truncated { have: 31, need: 32 });
-    let apart = Stop::Unsupported {
-        feature: Feature::NonContiguous,
-        block: 0,
-    };
-    let cases: [Zero; 6] = [
-        (16384, 0, 4095, wrong),
-        (16384, 0, 4096, wrong),
-        (12288, 0, whole, wrong),
-        (16384, 0, whole - 16384, short),
-        (16384, 0x8000_0000, whole - 16384, short),
-        (16384, 0x8000_0000, whole, apart),
-    ];
-    for (stored, bit, kept, stop) in cases {
+    for (stored, bit, kept, stop) in ZEROS {
         let mut image = rings(alloc, 16384, Nothing)?;
         image.put(0, &zero(alloc, 16384, stored, bit)?.bytes);
         image.bytes.truncate(kept);
@@ -304,10 +326,13 @@ fn the_first_test_that_fails_is_answered(rt: HostRuntime) -> Result<(), Fail> {
     Ok(())
 }
 
+// Reads that fail.
+const READS: [u64; 7] = [1, 2, 3, 12, 15, 16, 19];
+
 #[test]
 fn a_failed_read_stops_it(rt: HostRuntime) -> Result<(), Fail> {
     let alloc = rt.alloc();
-    for read in [1u64, 2, 3, 12, 15, 16, 19] {
+    for read in READS {
         let image = rings(alloc, 16384, Nothing)?;
         let mut source = MemSource::new(image.bytes, vec![in alloc; read]?);
         assert!(rt;
@@ -318,11 +343,14 @@ fn a_failed_read_stops_it(rt: HostRuntime) -> Result<(), Fail> {
     Ok(())
 }
 
+// The bytes of a block, and the reads: block 0, the 8 descriptors, 2 maps and 3 blocks of objects; then the superblock and
+// these 3 blocks again.
+const NEWEST_READS: [(u32, u64); 3] = [(4096, 18), (16384, 19), (65536, 19)];
+
 #[test]
 fn the_newest_is_read_twice_and_the_older_not_at_all(rt: HostRuntime) -> Result<(), Fail> {
     let alloc = rt.alloc();
-    // Block 0, the 8 descriptors, 2 maps and 3 blocks of objects; then the superblock and these 3 blocks again.
-    for (size, reads) in [(4096u32, 18u64), (16384, 19), (65536, 19)] {
+    for (size, reads) in NEWEST_READS {
         let image = rings(alloc, size, Nothing)?;
         let mut source = MemSource::new(image.bytes, Vec::new(alloc));
         let checkpoint = newest(alloc, &mut source).map_err(|_| "stopped")?;
@@ -351,27 +379,28 @@ fn bare_ring(alloc: Global, xids: [u64; 8], broken: u64) -> Result<Image, AllocE
 // Transactions, the one that is broken, and what is the newest: its index, its transaction, those skipped.
 type Bare = ([u64; 8], u64, u32, u64, &'static [(u32, u64)]);
 
+const BARE: [Bare; 4] = [
+    ([3, 5, 5, 2, 5, 1, 4, 2], 9, 1, 5, &[]),
+    ([3, 5, 5, 2, 5, 1, 4, 2], 5, 6, 4, &[(1, 5), (2, 5), (4, 5)]),
+    ([7, 7, 7, 7, 7, 7, 7, 7], 9, 0, 7, &[]),
+    ([1, 2, 3, 9, 8, 8, 3, 9], 9, 4, 8, &[(3, 9), (7, 9)]),
+];
+
 #[test]
 fn the_greatest_transaction_comes_first_and_then_the_least_index(
     rt: HostRuntime,
 ) -> Result<(), Fail> {
     let alloc = rt.alloc();
-    let cases: [Bare; 4] = [
-        ([3, 5, 5, 2, 5, 1, 4, 2], 9, 1, 5, &[]),
-        ([3, 5, 5, 2, 5, 1, 4, 2], 5, 6, 4, &[(1, 5), (2, 5), (4, 5)]),
-        ([7, 7, 7, 7, 7, 7, 7, 7], 9, 0, 7, &[]),
-        ([1, 2, 3, 9, 8, 8, 3, 9], 9, 4, 8, &[(3, 9), (7, 9)]),
-    ];
-    for (xids, broken, index, xid, skipped) in cases {
+    for (xids, broken, index, xid, skipped) in BARE {
         let image = bare_ring(alloc, xids, broken)?;
         let mut source = MemSource::new(image.bytes, Vec::new(alloc));
         let checkpoint = newest(alloc, &mut source).map_err(|_| "stopped")?;
+        // The reads are those of block 0, of the 8 descriptors, and of the superblock again.
         assert!(rt;
             (checkpoint.index(), checkpoint.xid()) == (index, xid)
                 && checkpoint.skipped() == skipped
+                && source.read_count() == 10
         );
-        // Block 0, the 8 descriptors, and the superblock again.
-        assert!(rt; source.read_count() == 10);
     }
     Ok(())
 }
@@ -396,21 +425,32 @@ fn crowd(alloc: Global, oid: u64, last: u8) -> Result<Image, AllocError> {
     Ok(image)
 }
 
+// The oid of the object, its last byte, and the reads: block 0, the 8 descriptors, 4 maps; the first block for each
+// candidate, or the four blocks for the first.
+const FLAWED: [(u64, u8, u64); 2] = [(7, 0, 17), (1024, 1, 17)];
+
+// No candidate is sound.
+const NO_CHECKPOINT: Stop<RingFault> = Stop::Found(RingFault::NoCheckpoint);
+
 #[test]
 fn a_flawed_object_is_read_to_its_first_flaw_and_once(rt: HostRuntime) -> Result<(), Fail> {
     let alloc = rt.alloc();
-    // Block 0, the 8 descriptors, 4 maps; the first block for each candidate, or the four blocks for the first.
-    for (oid, last, reads) in [(7u64, 0u8, 17u64), (1024, 1, 17)] {
+    for (oid, last, reads) in FLAWED {
         let image = crowd(alloc, oid, last)?;
         let mut source = MemSource::new(image.bytes, Vec::new(alloc));
-        let stop = Stop::Found(RingFault::NoCheckpoint);
         assert!(rt;
-            newest(alloc, &mut source).is_err_and(|other| other == stop)
+            newest(alloc, &mut source).is_err_and(|other| other == NO_CHECKPOINT)
                 && source.read_count() == reads,
             "{oid}"
         );
     }
-    // The object is sound: one map, its four blocks, then the superblock and the four blocks again.
+    Ok(())
+}
+
+// One map, the four blocks of the object, then the superblock and the four blocks again.
+#[test]
+fn a_sound_object_is_read_twice(rt: HostRuntime) -> Result<(), Fail> {
+    let alloc = rt.alloc();
     let image = crowd(alloc, 1024, 0)?;
     let mut source = MemSource::new(image.bytes, Vec::new(alloc));
     let checkpoint = newest(alloc, &mut source).map_err(|_| "stopped")?;

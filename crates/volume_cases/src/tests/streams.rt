@@ -117,18 +117,20 @@ fn a_copy_goes_in_pieces_up_to_a_refused_one(rt: HostRuntime) -> Result<(), Fail
     Ok(())
 }
 
+// A place in the extent, the byte that it gets, and what stops the stream: a length of 4,097 and of 0; blocks 313 and 255,
+// of which there are 256, and none.
+const WRONG: [(usize, u8, Option<StreamStop>); 5] = [
+    (0, 1, Some(StreamStop::Order)),
+    (1, 0, Some(StreamStop::Order)),
+    (9, 1, Some(StreamStop::Outside)),
+    (8, 255, None),
+    (8, 0, None),
+];
+
 #[test]
 fn extents_that_are_wrong(rt: HostRuntime) -> Result<(), Fail> {
     let alloc = rt.alloc();
-    // A length of 4,097 and of 0; blocks 313 and 255, of which there are 256, and none.
-    let cases = [
-        (0, 1, Some(StreamStop::Order)),
-        (1, 0, Some(StreamStop::Order)),
-        (9, 1, Some(StreamStop::Outside)),
-        (8, 255, None),
-        (8, 0, None),
-    ];
-    for (at, byte, stop) in cases {
+    for (at, byte, stop) in WRONG {
         match open(alloc, &mut edited(alloc, at, byte)?, FILE, SIZE) {
             Ok(_) => assert!(rt; stop.is_none(), "{at}"),
             Err(other) => assert!(rt; Some(other) == stop.map(Stop::Found), "{at}"),

@@ -61,8 +61,21 @@ fn large(alloc: Global) -> Result<Vec<u8>, Fail> {
     Ok(make_with(alloc, &plan, 65536)?)
 }
 
-// A container of two volumes in the slots 0 and 3, with the roles 0x40 and 0x102. The second has no features and counts
-// five snapshots.
+// What gives the two volumes of a container the slots 0 and 3, and the roles 0x40 and 0x102. The second gets no features
+// and counts five snapshots.
+const GAP: &[Edit] = table! {
+    NEWEST, 192, 0;
+    NEWEST, 193, 0;
+    NEWEST, 208, 0x07;
+    NEWEST, 209, 0x04;
+    SUPER, 964, 0x40;
+    SECOND, 56, 0;
+    SECOND, 216, 5;
+    SECOND, 964, 0x02;
+    SECOND, 965, 0x01;
+};
+
+// The small container with a second volume, changed by these edits.
 fn with_a_gap(alloc: Global) -> Result<Vec<u8>, Fail> {
     let mut plan = sample(alloc, Sample::S)?;
     let mut other = sample(alloc, Sample::S)?;
@@ -71,18 +84,7 @@ fn with_a_gap(alloc: Global) -> Result<Vec<u8>, Fail> {
     };
     volume.name = b"Second".to_vec(alloc)?;
     plan.volumes.push(volume)?;
-    let edits = [
-        (NEWEST, 192, 0),
-        (NEWEST, 193, 0),
-        (NEWEST, 208, 0x07),
-        (NEWEST, 209, 0x04),
-        (SUPER, 964, 0x40),
-        (SECOND, 56, 0),
-        (SECOND, 216, 5),
-        (SECOND, 964, 0x02),
-        (SECOND, 965, 0x01),
-    ];
-    changed(alloc, &plan, &edits, true)
+    changed(alloc, &plan, GAP, true)
 }
 
 // The heads of an image, by its newest checkpoint; a fault of the ring is no answer of these tests.
@@ -120,11 +122,14 @@ fn assert_stop(rt: &impl Abort, alloc: Global, image: Vec<u8>, stop: Stop<VolSto
     }
 }
 
+// The volume's flags become 0.
+const NO_FLAGS: &[Edit] = &[(SUPER, 264, 0)];
+
 #[test]
 fn the_small_volume(rt: HostRuntime) -> Result<(), Fail> {
     let alloc = rt.alloc();
     assert_small(&rt, alloc, edited(alloc, &[], true)?)?;
-    assert_small(&rt, alloc, edited(alloc, &[(SUPER, 264, 0)], true)?)?;
+    assert_small(&rt, alloc, edited(alloc, NO_FLAGS, true)?)?;
     assert_small(&rt, alloc, large(alloc)?)
 }
 
@@ -136,14 +141,12 @@ fn two_volumes_with_an_empty_slot_between(rt: HostRuntime) -> Result<(), Fail> {
     };
     assert!(rt; heads.len() == 2);
     let first = &heads[0];
+    let second = &heads[1];
     assert!(rt;
         (first.slot, first.oid, first.block) == (0, 1026, 51)
             && (first.role, first.incompat, first.snapshots) == (0x40, 1, 0)
             && first.names() == Names::Folded
-    );
-    let second = &heads[1];
-    assert!(rt;
-        (second.slot, second.oid, second.block) == (3, 1031, 57)
+            && (second.slot, second.oid, second.block) == (3, 1031, 57)
             && (second.role, second.incompat, second.snapshots) == (0x102, 0, 5)
             && second.names() == Names::Exact
             && second.name == Bytes::from_slice(alloc, b"Second")?
@@ -158,44 +161,46 @@ fn a_failed_read_stops_them(rt: HostRuntime) -> Result<(), Fail> {
     let mut src = MemSource::new(edited(alloc, &[], true)?, Vec::new(alloc));
     assert!(rt; volumes_in(alloc, &mut src).is_ok());
     let last = src.read_count();
-    assert!(rt; last > 3, "{last}");
+    assert!(rt; last > 3);
     for before in 0..3u64 {
         let read = last.saturating_sub(before);
         let image = edited(alloc, &[], true)?;
         let fails = vec![in alloc; read]?;
-        match volumes(alloc, image, fails) {
-            Ok(_) => panic!(rt; "there are heads: {read}"),
-            Err(stop) => assert!(rt; stop == Stop::ReadFault, "{read}"),
-        }
+        let stop = volumes(alloc, image, fails).err();
+        assert!(rt; stop == Some(Stop::ReadFault), "{read}");
     }
     Ok(())
 }
 
+// An edit, whether its block is sealed again, and the fault.
+const FAULTS: &[(Edit, bool, VolStop)] = table! {
+    (RECORDS, 4040, 1), true, Unnamed { within: Within::Container, oid: 1026 };
+    (SUPER, 4095, 1), false, Head { block: 51, why: HeadFault::BadSum };
+    (SUPER, 32, 0), true, Magic { block: 51 };
+    (MAP, 4095, 1), false, Omap(OmapFault::Head { block: 25, why: HeadFault::BadSum });
+};
+
 #[test]
 fn what_stops_the_volumes(rt: HostRuntime) -> Result<(), Fail> {
     let alloc = rt.alloc();
-    let faults: &[(Edit, bool, VolStop)] = table! {
-        (RECORDS, 4040, 1), true, Unnamed { within: Within::Container, oid: 1026 };
-        (SUPER, 4095, 1), false, Head { block: 51, why: HeadFault::BadSum };
-        (SUPER, 32, 0), true, Magic { block: 51 };
-        (MAP, 4095, 1), false, Omap(OmapFault::Head { block: 25, why: HeadFault::BadSum });
-    };
-    for (edit, sealed, fault) in faults {
+    for (edit, sealed, fault) in FAULTS {
         let image = edited(alloc, &[*edit], *sealed)?;
         assert_stop(&rt, alloc, image, Stop::Found(*fault));
     }
     Ok(())
 }
 
+// An edit, the feature, and the block that is told with it.
+const FEATURES: [(Edit, Feature, u64); 3] = [
+    ((MAP, 36, 1), Feature::ContainerSnapshots, 25),
+    ((RECORDS, 4040, 8), Feature::NoHeader, 51),
+    ((RECORDS, 4045, 32), Feature::Size, 51),
+];
+
 #[test]
 fn features_of_the_map_and_of_its_record(rt: HostRuntime) -> Result<(), Fail> {
     let alloc = rt.alloc();
-    let features: [(Edit, Feature, u64); 3] = [
-        ((MAP, 36, 1), Feature::ContainerSnapshots, 25),
-        ((RECORDS, 4040, 8), Feature::NoHeader, 51),
-        ((RECORDS, 4045, 32), Feature::Size, 51),
-    ];
-    for (edit, feature, block) in features {
+    for (edit, feature, block) in FEATURES {
         let image = edited(alloc, &[edit], true)?;
         assert_stop(&rt, alloc, image, Stop::Unsupported { feature, block });
     }

@@ -55,26 +55,36 @@ fn loaded(alloc: Global, image: Vec<u8>) -> Result<(Volume, Checkpoint), Stop<Vo
     Ok((volume, cp))
 }
 
+fn assert_snapshots(rt: &impl Abort, alloc: Global, volume: &Volume) -> Result<(), Fail> {
+    assert!(rt; volume.snaps.len() == 2);
+    let first = &volume.snaps[0];
+    let last = &volume.snaps[1];
+    assert!(rt;
+        (first.xid, first.super_block) == (2, 60)
+            && (first.extents_root, first.root_oid) == (61, 1028)
+            && first.name == Bytes::from_slice(alloc, b"s2")?
+            && (last.xid, last.super_block) == (4, 62)
+            && (last.extents_root, last.root_oid) == (63, 1028)
+    );
+    Ok(())
+}
+
 fn assert_loaded(rt: &impl Abort, alloc: Global, edits: &[Edit]) -> Result<(), Fail> {
     let Ok((volume, cp)) = loaded(alloc, edited(alloc, edits, true)?) else {
         panic!(rt; "there is no volume");
     };
-    assert!(rt; volume.names == Names::Folded);
-    let roots = (volume.root_oid, volume.extents_root, volume.snaps_root);
-    assert!(rt; (roots, volume.meta_ext) == ((1028, 55, 56), 0) && volume.snaps.len() == 2);
-    let first = &volume.snaps[0];
-    let roots = (first.super_block, first.extents_root, first.root_oid);
+    assert_snapshots(rt, alloc, &volume)?;
     assert!(rt;
-        (first.xid, roots) == (2, (60, 61, 1028)) && first.name == Bytes::from_slice(alloc, b"s2")?
+        volume.names == Names::Folded
+            && (volume.root_oid, volume.extents_root) == (1028, 55)
+            && (volume.snaps_root, volume.meta_ext) == (56, 0)
+            && volume.snaps.len() == 2
     );
-    let last = &volume.snaps[1];
-    let roots = (last.super_block, last.extents_root, last.root_oid);
-    assert!(rt; (last.xid, roots) == (4, (62, 63, 1028)));
     let now = live(&volume, &cp);
-    assert!(rt; (now.slot, now.xid, now.root_oid) == (0, 5, 1028));
     let before = past(&volume, 1);
     assert!(rt;
-        (before.slot, before.xid, before.root_oid) == (0, 4, 1028)
+        (now.slot, now.xid, now.root_oid) == (0, 5, 1028)
+            && (before.slot, before.xid, before.root_oid) == (0, 4, 1028)
             && by_name(&volume, b"s2") == Some(0)
             && by_name(&volume, b"s4") == Some(1)
             && by_name(&volume, b"s") == None
@@ -82,13 +92,14 @@ fn assert_loaded(rt: &impl Abort, alloc: Global, edits: &[Edit]) -> Result<(), F
     Ok(())
 }
 
+// Of a snapshot's superblock neither the reserved number nor the types of its physical trees are looked at.
+const NEAR_MISSES: &[Edit] = &[(FIRST, 1048, 1), (FIRST, 123, 0), (FIRST, 160, 1)];
+
 #[test]
 fn a_volume_with_two_snapshots(rt: HostRuntime) -> Result<(), Fail> {
     let alloc = rt.alloc();
     assert_loaded(&rt, alloc, &[])?;
-    // Of a snapshot's superblock neither the reserved number nor the types of its physical trees are looked at.
-    let edits = [(FIRST, 1048, 1), (FIRST, 123, 0), (FIRST, 160, 1)];
-    assert_loaded(&rt, alloc, &edits)
+    assert_loaded(&rt, alloc, NEAR_MISSES)
 }
 
 #[test]
@@ -116,47 +127,51 @@ fn assert_stop(
     Ok(())
 }
 
+// An edit, whether its block is sealed again, and the fault.
+const FAULTS: &[(Edit, bool, VolStop)] = table! {
+    (SUPER, 128, 0), true, Unnamed { within: Within::Physical, oid: 0 };
+    (METADATA, RECORD_2 + 8, 0), true, Unnamed { within: Within::Physical, oid: 0 };
+    (METADATA, RECORD_2 + 52, 0x33), true, SnapRecord { slot: 0 };
+    (SUPER, 216, 3), true, SnapCount { slot: 0 };
+    (METADATA, RECORD_2 + 51, 0x33), true, SnapName { slot: 0 };
+    (METADATA, NAME_2, 4), true, SnapName { slot: 0 };
+    (VOLUME_MAP, 36, 3), true, OmapSnaps { slot: 0 };
+    (FIRST, 32, 0), true, Magic { block: 60 };
+    (FIRST, 4095, 1), false, Head { block: 60, why: HeadFault::BadSum };
+    (VOLUME_MAP, 4095, 1), false, Omap(OmapFault::Head { block: 52, why: HeadFault::BadSum });
+    (METADATA, 4000, 1), false, Walk { root: 56, why: WalkFault::Unsound { block: 56, why: NodeFault::Head(HeadFault::BadSum) } };
+};
+
 #[test]
 fn what_stops_a_volume(rt: HostRuntime) -> Result<(), Fail> {
     let alloc = rt.alloc();
-    let faults: &[(Edit, bool, VolStop)] = table! {
-        (SUPER, 128, 0), true, Unnamed { within: Within::Physical, oid: 0 };
-        (METADATA, RECORD_2 + 8, 0), true, Unnamed { within: Within::Physical, oid: 0 };
-        (METADATA, RECORD_2 + 52, 0x33), true, SnapRecord { slot: 0 };
-        (SUPER, 216, 3), true, SnapCount { slot: 0 };
-        (METADATA, RECORD_2 + 51, 0x33), true, SnapName { slot: 0 };
-        (METADATA, NAME_2, 4), true, SnapName { slot: 0 };
-        (VOLUME_MAP, 36, 3), true, OmapSnaps { slot: 0 };
-        (FIRST, 32, 0), true, Magic { block: 60 };
-        (FIRST, 4095, 1), false, Head { block: 60, why: HeadFault::BadSum };
-        (VOLUME_MAP, 4095, 1), false, Omap(OmapFault::Head { block: 52, why: HeadFault::BadSum });
-        (METADATA, 4000, 1), false, Walk { root: 56, why: WalkFault::Unsound { block: 56, why: NodeFault::Head(HeadFault::BadSum) } };
-    };
-    for (edit, sealed, fault) in faults {
+    for (edit, sealed, fault) in FAULTS {
         assert_stop(&rt, alloc, *edit, *sealed, Stop::Found(*fault))?;
     }
     Ok(())
 }
 
+// An edit, the feature, and the block that is told with it.
+const FEATURES: &[(Edit, Feature, u64)] = table! {
+    (SUPER, 160, 1), Feature::Revert, 51;
+    (SUPER, 264, 0), Feature::Encrypted, 51;
+    (SUPER, 1024, 1), Feature::Sealed, 51;
+    (SUPER, 56, 3), Feature::Dataless, 51;
+    (SUPER, 56, 0x11), Feature::Restore, 51;
+    (SUPER, 123, 0), Feature::Storage, 51;
+    (SUPER, 1048, 1), Feature::LaterTree, 51;
+    (SUPER, 56, 0x41), Feature::UnknownVolume, 51;
+    (MAP_SNAPSHOTS, 4096 - 40 - 16, 1), Feature::SnapshotState, 52;
+    (METADATA, RECORD_2 + 44, 2), Feature::SnapshotState, 60;
+    (METADATA, RECORD_4 + 44, 1), Feature::Dataless, 62;
+    (FIRST, 264, 0), Feature::Encrypted, 60;
+    (FIRST, 56, 0x21), Feature::Sealed, 60;
+};
+
 #[test]
 fn features_of_a_volume(rt: HostRuntime) -> Result<(), Fail> {
     let alloc = rt.alloc();
-    let features: &[(Edit, Feature, u64)] = table! {
-        (SUPER, 160, 1), Feature::Revert, 51;
-        (SUPER, 264, 0), Feature::Encrypted, 51;
-        (SUPER, 1024, 1), Feature::Sealed, 51;
-        (SUPER, 56, 3), Feature::Dataless, 51;
-        (SUPER, 56, 0x11), Feature::Restore, 51;
-        (SUPER, 123, 0), Feature::Storage, 51;
-        (SUPER, 1048, 1), Feature::LaterTree, 51;
-        (SUPER, 56, 0x41), Feature::UnknownVolume, 51;
-        (MAP_SNAPSHOTS, 4096 - 40 - 16, 1), Feature::SnapshotState, 52;
-        (METADATA, RECORD_2 + 44, 2), Feature::SnapshotState, 60;
-        (METADATA, RECORD_4 + 44, 1), Feature::Dataless, 62;
-        (FIRST, 264, 0), Feature::Encrypted, 60;
-        (FIRST, 56, 0x21), Feature::Sealed, 60;
-    };
-    for (edit, feature, block) in features {
+    for (edit, feature, block) in FEATURES {
         let (feature, block) = (*feature, *block);
         assert_stop(
             &rt,
