@@ -2,6 +2,8 @@
 ghost use Rattle.std.specs.Prelude.{◌≡◌, IfOk};
 
 use apfs_model::NoMemory;
+use img_make::table;
+use own_ledger::ClaimFault::{Outside, Twice};
 use own_ledger::{ClaimFault, Difference, Ledger};
 use std::alloc::Global;
 use std::test::Fail;
@@ -15,53 +17,57 @@ fn ten_of_a_hundred(alloc: Global) -> Result<Ledger, NoMemory>
     Ok(ledger)
 }
 
+// The first block and the number of blocks of a claim, its answer, and how many blocks are held after it.
+const CLAIMS: &[(u64, u64, Result<(), ClaimFault>, u64)] = table! {
+    5, 8, Err(Twice { block: 10 }), 10;
+    99, 2, Err(Outside { block: 99 }), 10;
+    50, 0, Ok(()), 10;
+    200, 0, Ok(()), 10;
+    u64::MAX, 2, Err(Outside { block: u64::MAX }), 10;
+    100, 1, Err(Outside { block: 100 }), 10;
+    0, 101, Err(Outside { block: 0 }), 10;
+    15, 3, Err(Twice { block: 15 }), 10;
+    19, 81, Err(Twice { block: 19 }), 10;
+    20, 80, Ok(()), 90;
+    0, 10, Ok(()), 20;
+    99, 1, Ok(()), 11;
+};
+
 #[test]
 fn claims(rt: HostRuntime) -> Result<(), Fail> {
-    let outside = |block| Err(ClaimFault::Outside { block });
-    let twice = |block| Err(ClaimFault::Twice { block });
-    for (first, length, want, held) in [
-        (5, 8, twice(10), 10),
-        (99, 2, outside(99), 10),
-        (50, 0, Ok(()), 10),
-        (200, 0, Ok(()), 10),
-        (u64::MAX, 2, outside(u64::MAX), 10),
-        (100, 1, outside(100), 10),
-        (0, 101, outside(0), 10),
-        (15, 3, twice(15), 10),
-        (19, 81, twice(19), 10),
-        (20, 80, Ok(()), 90),
-        (0, 10, Ok(()), 20),
-        (99, 1, Ok(()), 11),
-    ] {
+    for (first, length, want, held) in CLAIMS {
         let mut ledger = ten_of_a_hundred(rt.alloc())?;
         assert!(rt;
-            ledger.claim(first, length) == want && ledger.held() == held,
+            ledger.claim(*first, *length) == *want && ledger.held() == *held,
             "{first} {length}"
         );
     }
     Ok(())
 }
 
+// A block, and whether it is held.
+const HELD: [(u64, bool); 9] = [
+    (999, false),
+    (1002, false),
+    (1003, true),
+    (1004, true),
+    (3000, true),
+    (5002, true),
+    (5003, false),
+    (6002, false),
+    (6003, false),
+];
+
 #[test]
 fn long_claims(rt: HostRuntime) -> Result<(), Fail> {
     let mut ledger = Ledger::new(rt.alloc(), 1000, 5003)?;
     assert!(rt; ledger.claim(1003, 4000) == Ok(()) && ledger.held() == 4000);
-    for (block, want) in [
-        (999, false),
-        (1002, false),
-        (1003, true),
-        (1004, true),
-        (3000, true),
-        (5002, true),
-        (5003, false),
-        (6002, false),
-        (6003, false),
-    ] {
+    for (block, want) in HELD {
         assert!(rt; ledger.holds(block) == want, "{block}");
     }
     assert!(rt;
         ledger.claim(5003, 1000) == Ok(())
-            && ledger.claim(1000, 5003) == Err(ClaimFault::Twice { block: 1003 })
+            && ledger.claim(1000, 5003) == Err(Twice { block: 1003 })
             && ledger.held() == 5000
     );
     Ok(())
@@ -72,31 +78,43 @@ fn a_claim_finds_a_block_far_away(rt: HostRuntime) -> Result<(), Fail> {
     let mut ledger = Ledger::new(rt.alloc(), 0, 5000)?;
     assert!(rt;
         ledger.claim(4321, 1) == Ok(())
-            && ledger.claim(3, 4997) == Err(ClaimFault::Twice { block: 4321 })
+            && ledger.claim(3, 4997) == Err(Twice { block: 4321 })
             && ledger.claim(3, 4318) == Ok(())
             && ledger.held() == 4319
     );
     Ok(())
 }
 
+// A difference: the block, and whether it is held.
+macro_rules! of {
+    ($block:expr, $held:expr) => {
+        Some(Difference {
+            block: $block,
+            held: $held,
+        })
+    };
+}
+
+// The first block and the number of blocks that are compared, their bits, and the difference.
+const DIFFERENCES: [(u64, u64, [u8; 4], Option<Difference>); 9] = [
+    (0, 24, [0x00, 0xfc, 0x0f, 0xff], None),
+    (0, 24, [0x00, 0xfc, 0x0e, 0x00], of!(16, true)),
+    (0, 24, [0x00, 0x7c, 0x0f, 0x00], of!(15, true)),
+    (0, 24, [0x00, 0xfc, 0x1f, 0x00], of!(20, false)),
+    (0, 20, [0x00, 0xfc, 0xff, 0x00], None),
+    (0, 21, [0x00, 0xfc, 0xff, 0x00], of!(20, false)),
+    (16, 16, [0x0f, 0x80, 0xff, 0xff], of!(31, false)),
+    (16, 15, [0x0f, 0x80, 0xff, 0xff], None),
+    (8, 0, [0xff, 0xff, 0xff, 0xff], None),
+];
+
 #[test]
 fn differences(rt: HostRuntime) -> Result<(), Fail> {
     let ledger = ten_of_a_hundred(rt.alloc())?;
-    let of = |block, held| Some(Difference { block, held });
-    for (first, blocks, bits, want) in [
-        (0, 24, [0x00, 0xfc, 0x0f, 0xff], None),
-        (0, 24, [0x00, 0xfc, 0x0e, 0x00], of(16, true)),
-        (0, 24, [0x00, 0x7c, 0x0f, 0x00], of(15, true)),
-        (0, 24, [0x00, 0xfc, 0x1f, 0x00], of(20, false)),
-        (0, 20, [0x00, 0xfc, 0xff, 0x00], None),
-        (0, 21, [0x00, 0xfc, 0xff, 0x00], of(20, false)),
-        (16, 16, [0x0f, 0x80, 0xff, 0xff], of(31, false)),
-        (16, 15, [0x0f, 0x80, 0xff, 0xff], None),
-        (8, 0, [0xff, 0xff, 0xff, 0xff], None),
-    ] {
+    for (first, blocks, bits, want) in DIFFERENCES {
         assert!(rt; first % 8 == 0 && first <= 64 && blocks <= 32);
         let found = ledger.compare(first, blocks, &bits);
-        assert!(rt; found == want, "{first} {blocks} {bits:?}");
+        assert!(rt; found == want, "{first} {blocks}");
     }
     Ok(())
 }

@@ -2,7 +2,7 @@
 
 use apfs_layout::space_manager::{MAIN_QUEUE_TREE, POOL_BITMAP_SIZE};
 use blk_source::MemSource;
-use img_make::{Plan, Sample, edit, made, sample};
+use img_make::{Plan, Sample, edit, made, sample, table};
 use nx_ring::newest;
 use obj_base::Stop;
 use space_map::Space;
@@ -71,30 +71,31 @@ fn two_blocks_of_the_pool_are_marked(rt: HostRuntime) -> Result<(), Fail> {
     Ok(())
 }
 
+// Edits, and the fault.
+const FAULTS: &[(&[Edit<'static>], PoolFault)] = table! {
+    &[(INDEXES, &[16])], PoolFault::Index { at: 0 };
+    &[(POOL_BITMAP_SIZE, &[2]), (INDEXES, &[1, 0, 1, 0])], PoolFault::Index { at: 1 };
+    &[(POOL_BITMAP_SIZE, &[0])], PoolFault::Count;
+};
+
 #[test]
 fn what_is_wrong_with_the_bitmap(rt: HostRuntime) -> Result<(), Fail> {
     let alloc = rt.alloc();
     let plan = sample(alloc, Sample::S)?;
-    let cases: [(&[Edit<'_>], PoolFault); 3] = [
-        (&[(INDEXES, &[16])], PoolFault::Index { at: 0 }),
-        (
-            &[(POOL_BITMAP_SIZE, &[2]), (INDEXES, &[1, 0, 1, 0])],
-            PoolFault::Index { at: 1 },
-        ),
-        (&[(POOL_BITMAP_SIZE, &[0])], PoolFault::Count),
-    ];
-    for (edits, fault) in cases {
-        assert!(rt; bits(alloc, image(alloc, &plan, edits)?).err() == Some(Stop::Found(fault)));
+    for (edits, fault) in FAULTS {
+        assert!(rt; bits(alloc, image(alloc, &plan, edits)?).err() == Some(Stop::Found(*fault)));
     }
     Ok(())
 }
+
+// The entries of the main queue: a transaction, the first block, and the number of blocks.
+const QUEUED: [(u64, u64, u64); 2] = [(1, 100, 1), (1, 102, 3)];
 
 #[test]
 fn what_waits_in_a_queue(rt: HostRuntime) -> Result<(), Fail> {
     let alloc = rt.alloc();
     let mut plan = sample(alloc, Sample::S)?;
-    let queued = [(1, 100, 1), (1, 102, 3)];
-    for (xid, paddr, length) in queued {
+    for (xid, paddr, length) in QUEUED {
         plan.queued
             .push(img_make::QueueEntry { xid, paddr, length })?;
     }
@@ -105,22 +106,29 @@ fn what_waits_in_a_queue(rt: HostRuntime) -> Result<(), Fail> {
         .iter()
         .map(|entry| (entry.xid, entry.paddr, entry.length))
         .collect::<Vec<_>>(alloc)?;
-    assert!(rt; found.as_slice() == queued.as_slice());
+    assert!(rt; found.as_slice() == QUEUED.as_slice());
     let pool = entries(alloc, image(alloc, &plan, &[])?, Queue::Pool);
     assert!(rt; pool.is_ok_and(|entries| entries.is_empty()));
     Ok(())
 }
 
+// The main queue has no tree.
+const WITHOUT: &[Edit<'static>] = &[(MAIN_QUEUE_TREE, &[0, 0])];
+
+// The root of the queue's tree is 5000, which isn't mapped.
+const ELSEWHERE: &[Edit<'static>] = &[(MAIN_QUEUE_TREE, &[0x88, 0x13])];
+
+const UNNAMED: Stop<PoolFault> = Stop::Found(PoolFault::Unnamed { oid: 5000 });
+
 #[test]
 fn a_queue_without_a_tree(rt: HostRuntime) -> Result<(), Fail> {
     let alloc = rt.alloc();
     let plan = sample(alloc, Sample::S)?;
-    let without = image(alloc, &plan, &[(MAIN_QUEUE_TREE, &[0, 0])])?;
+    let without = image(alloc, &plan, WITHOUT)?;
     let none = entries(alloc, without, Queue::Main);
     assert!(rt; none.is_ok_and(|entries| entries.is_empty()));
-    let elsewhere = image(alloc, &plan, &[(MAIN_QUEUE_TREE, &[0x88, 0x13])])?;
+    let elsewhere = image(alloc, &plan, ELSEWHERE)?;
     let stop = entries(alloc, elsewhere, Queue::Main).err();
-    let unnamed = PoolFault::Unnamed { oid: 5000 };
-    assert!(rt; stop == Some(Stop::Found(unnamed)));
+    assert!(rt; stop == Some(UNNAMED));
     Ok(())
 }

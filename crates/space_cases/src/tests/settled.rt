@@ -129,10 +129,7 @@ fn blocks_settle(rt: HostRuntime) -> Result<(), Fail> {
             pool_owners,
             pool_bits,
         )?;
-        match want {
-            Ok(number) => assert!(rt; found == Ok(number)),
-            Err(fault) => assert!(rt; found == Err(Stop::Found(fault))),
-        }
+        assert!(rt; found == want.map_err(Stop::Found));
     }
     Ok(())
 }

@@ -115,6 +115,14 @@ fn ones(alloc: Global, image: Vec<u8>, chunk: usize) -> Option<u32> {
     Some(ones)
 }
 
+// The one chunk of the small container.
+const CHUNK: Chunk = Chunk {
+    first: 0,
+    blocks: 256,
+    free: 199,
+    bitmap: 44,
+};
+
 fn assert_small(rt: &impl Abort, alloc: Global, image: Vec<u8>, cabs: &[u64]) {
     let mut src = MemSource::new(image, Vec::new(alloc));
     let Ok(space) = load(alloc, &mut src) else {
@@ -125,60 +133,63 @@ fn assert_small(rt: &impl Abort, alloc: Global, image: Vec<u8>, cabs: &[u64]) {
             && (space.pool(), space.pool_ring()) == ((43, 8), (27, 16))
             && space.cabs() == cabs
             && space.cibs() == [43].as_slice()
-    );
-    let chunk = Chunk {
-        first: 0,
-        blocks: 256,
-        free: 199,
-        bitmap: 44,
-    };
-    assert!(rt;
-        space.chunks() == [chunk].as_slice()
+            && space.chunks() == [CHUNK].as_slice()
             && &space.manager()[TYPE..TYPE + 4] == [5, 0, 0, 0x80].as_slice()
     );
 }
+
+// Of a chunk's number of blocks the low 20 bits count.
+const HIGH_BITS: &[Edit] = &[(CIB, CIB_ENTRIES + CHUNK_BLOCKS + 3, &[0xf0])];
 
 #[test]
 fn the_small_container(rt: HostRuntime) -> Result<(), Fail> {
     let alloc = rt.alloc();
     assert_small(&rt, alloc, edited(alloc, &[], &[], true)?, &[]);
     assert_small(&rt, alloc, edited(alloc, WITH_CAB, &[], true)?, &[45]);
-    // Of a chunk's number of blocks the low 20 bits count.
-    let bits: &[Edit] = &[(CIB, CIB_ENTRIES + CHUNK_BLOCKS + 3, &[0xf0])];
-    assert_small(&rt, alloc, edited(alloc, bits, &[], true)?, &[]);
+    assert_small(&rt, alloc, edited(alloc, HIGH_BITS, &[], true)?, &[]);
     assert_small(&rt, alloc, large(alloc)?, &[]);
     Ok(())
 }
 
+// A block, and whether it is marked.
+const MARKS: [(u64, bool); 4] = [(0, true), (56, true), (57, false), (255, false)];
+
+// The chunk has no bitmap.
+const NO_BITMAP: &[Edit] = &[(CIB, CIB_ENTRIES + CHUNK_BITMAP, &[0])];
+
 #[test]
 fn marks(rt: HostRuntime) -> Result<(), Fail> {
     let alloc = rt.alloc();
-    for (block, mark) in [(0, true), (56, true), (57, false), (255, false)] {
+    for (block, mark) in MARKS {
         let image = edited(alloc, &[], &[], true)?;
         let answer = marked(alloc, image, Vec::new(alloc), block);
         assert!(rt; answer == Some(mark), "{block}");
     }
-    assert!(rt; ones(alloc, edited(alloc, &[], &[], true)?, 0) == Some(57));
-    let none: &[Edit] = &[(CIB, CIB_ENTRIES + CHUNK_BITMAP, &[0])];
-    assert!(rt; ones(alloc, edited(alloc, none, &[], true)?, 0) == Some(0));
-    let image = edited(alloc, none, &[], true)?;
-    assert!(rt; marked(alloc, image, Vec::new(alloc), 0) == Some(false));
+    let image = edited(alloc, NO_BITMAP, &[], true)?;
+    assert!(rt;
+        ones(alloc, edited(alloc, &[], &[], true)?, 0) == Some(57)
+            && ones(alloc, edited(alloc, NO_BITMAP, &[], true)?, 0) == Some(0)
+            && marked(alloc, image, Vec::new(alloc), 0) == Some(false)
+    );
     Ok(())
 }
 
-// A chunk's free count isn't tested against its bitmap, and a bitmap may stand anywhere in the pool.
+// A chunk's free count isn't tested against its bitmap.
+const COUNTS: &[Edit] = &[
+    (MANAGER, MAIN_FREE, &[198]),
+    (CIB, CIB_ENTRIES + CHUNK_FREE, &[198]),
+];
+
+// A bitmap may stand anywhere in the pool.
+const MOVED: &[Edit] = &[(CIB, CIB_ENTRIES + CHUNK_BITMAP, &[50])];
+
 #[test]
 fn near_misses(rt: HostRuntime) -> Result<(), Fail> {
     let alloc = rt.alloc();
-    let counts: &[Edit] = &[
-        (MANAGER, MAIN_FREE, &[198]),
-        (CIB, CIB_ENTRIES + CHUNK_FREE, &[198]),
-    ];
-    let counted = edited(alloc, counts, &[], true)?;
+    let counted = edited(alloc, COUNTS, &[], true)?;
     let mut src = MemSource::new(counted, Vec::new(alloc));
     assert!(rt; load(alloc, &mut src).is_ok_and(|space| space.free() == 198));
-    let bitmap: &[Edit] = &[(CIB, CIB_ENTRIES + CHUNK_BITMAP, &[50])];
-    let moved = edited(alloc, bitmap, &[], true)?;
+    let moved = edited(alloc, MOVED, &[], true)?;
     assert!(rt; marked(alloc, moved, Vec::new(alloc), 56) == Some(false));
     Ok(())
 }
@@ -191,50 +202,83 @@ fn assert_stop(rt: &impl Abort, alloc: Global, image: Vec<u8>, stop: Stop<SpaceF
     }
 }
 
+// An edit, and the fault.
+const FAULTS: &[(Edit, SpaceFault)] = table! {
+    (NEWEST, SPACE_OID, &[77]), Unnamed { within: Within::Ephemeral, oid: 1101 };
+    (MANAGER, ADDRESS, &[0]), Unnamed { within: Within::Physical, oid: 0 };
+    (NEWEST, SPACE_OID, &[1]), Unsound { block: 10, why: HeadFault::BadKind };
+    (CIB, TYPE, &[8]), Unsound { block: 43, why: HeadFault::BadKind };
+    (MANAGER, BLOCKS_PER_CHUNK, &[0xf8, 0x7f]), Geometry;
+    (MANAGER, MAIN_CHUNKS, &[2]), Geometry;
+    (CIB, CIB_INDEX, &[1]), Cib { index: 0 };
+    (CIB, CIB_COUNT, &[2]), Cib { index: 0 };
+    (CIB, CIB_ENTRIES + CHUNK_ADDRESS, &[1]), Index { chunk: 0 };
+    (CIB, CIB_ENTRIES + CHUNK_BLOCKS, &[255, 0]), Index { chunk: 0 };
+    (CIB, CIB_ENTRIES + CHUNK_BITMAP, &[200]), Place { block: 200 };
+    (MANAGER, ADDRESS, &[51]), Place { block: 51 };
+    (MANAGER, MAIN_FREE, &[198]), FreeTotal;
+};
+
 #[test]
 fn what_stops_it(rt: HostRuntime) -> Result<(), Fail> {
     let alloc = rt.alloc();
-    let cases: &[(Edit, SpaceFault)] = table! {
-        (NEWEST, SPACE_OID, &[77]), Unnamed { within: Within::Ephemeral, oid: 1101 };
-        (MANAGER, ADDRESS, &[0]), Unnamed { within: Within::Physical, oid: 0 };
-        (NEWEST, SPACE_OID, &[1]), Unsound { block: 10, why: HeadFault::BadKind };
-        (CIB, TYPE, &[8]), Unsound { block: 43, why: HeadFault::BadKind };
-        (MANAGER, BLOCKS_PER_CHUNK, &[0xf8, 0x7f]), Geometry;
-        (MANAGER, MAIN_CHUNKS, &[2]), Geometry;
-        (CIB, CIB_INDEX, &[1]), Cib { index: 0 };
-        (CIB, CIB_COUNT, &[2]), Cib { index: 0 };
-        (CIB, CIB_ENTRIES + CHUNK_ADDRESS, &[1]), Index { chunk: 0 };
-        (CIB, CIB_ENTRIES + CHUNK_BLOCKS, &[255, 0]), Index { chunk: 0 };
-        (CIB, CIB_ENTRIES + CHUNK_BITMAP, &[200]), Place { block: 200 };
-        (MANAGER, ADDRESS, &[51]), Place { block: 51 };
-        (MANAGER, MAIN_FREE, &[198]), FreeTotal;
-    };
-    for (change, fault) in cases {
+    for (change, fault) in FAULTS {
         let image = edited(alloc, &[*change], &[], true)?;
         assert_stop(&rt, alloc, image, Stop::Found(*fault));
     }
-    let torn = edited(alloc, &[], &[(CIB, 4095, &[1])], false)?;
-    let why = HeadFault::BadSum;
-    let unsound = Unsound { block: 43, why };
-    assert_stop(&rt, alloc, torn, Stop::Found(unsound));
-    let numbered = edited(alloc, WITH_CAB, &[(SPARE, CAB_INDEX, &[1])], true)?;
+    Ok(())
+}
+
+// A byte of the chunk-info block is changed, and its sum isn't.
+const TORN: &[Edit] = &[(CIB, 4095, &[1])];
+
+const UNSOUND: SpaceFault = Unsound {
+    block: 43,
+    why: HeadFault::BadSum,
+};
+
+#[test]
+fn a_torn_block_stops_it(rt: HostRuntime) -> Result<(), Fail> {
+    let alloc = rt.alloc();
+    let torn = edited(alloc, &[], TORN, false)?;
+    assert_stop(&rt, alloc, torn, Stop::Found(UNSOUND));
+    Ok(())
+}
+
+// The address block gets another index.
+const NUMBERED: &[Edit] = &[(SPARE, CAB_INDEX, &[1])];
+
+#[test]
+fn an_address_block_of_another_index_stops_it(rt: HostRuntime) -> Result<(), Fail> {
+    let alloc = rt.alloc();
+    let numbered = edited(alloc, WITH_CAB, NUMBERED, true)?;
     assert_stop(&rt, alloc, numbered, Stop::Found(Cab { index: 0 }));
     Ok(())
 }
 
+// Edits of which each gives the container a second device.
+const SECOND_DEVICE: [Edit; 2] = [
+    (MANAGER, SECOND_BLOCKS, &[1]),
+    (MANAGER, SECOND_QUEUE_TREE, &[1]),
+];
+
+const FUSION: Stop<SpaceFault> = Stop::Unsupported {
+    feature: Feature::Fusion,
+    block: 9,
+};
+
 #[test]
 fn a_second_device_is_refused(rt: HostRuntime) -> Result<(), Fail> {
     let alloc = rt.alloc();
-    for place in [SECOND_BLOCKS, SECOND_QUEUE_TREE] {
-        let image = edited(alloc, &[(MANAGER, place, &[1])], &[], true)?;
-        let fusion = Stop::Unsupported {
-            feature: Feature::Fusion,
-            block: 9,
-        };
-        assert_stop(&rt, alloc, image, fusion);
+    for change in SECOND_DEVICE {
+        let image = edited(alloc, &[change], &[], true)?;
+        assert_stop(&rt, alloc, image, FUSION);
     }
     Ok(())
 }
+
+// How many reads after the last one fails, and whether block 0 is marked.
+const LATER: [(u64, Option<bool>); 2] = [(1, None), (2, Some(true))];
 
 // The last read is the one of the chunk-info block.
 #[test]
@@ -246,7 +290,7 @@ fn a_failed_read_stops_it(rt: HostRuntime) -> Result<(), Fail> {
     let fails = vec![in alloc; last]?;
     let mut src = MemSource::new(edited(alloc, &[], &[], true)?, fails);
     assert!(rt; matches!(load(alloc, &mut src), Err(Stop::ReadFault)));
-    for (later, answer) in [(1, None), (2, Some(true))] {
+    for (later, answer) in LATER {
         let fails = vec![in alloc; last.saturating_add(later)]?;
         let image = edited(alloc, &[], &[], true)?;
         assert!(rt; marked(alloc, image, fails, 0) == answer, "{later}");
