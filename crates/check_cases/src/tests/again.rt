@@ -77,6 +77,9 @@ fn reads_of_a_leaf(alloc: Global, names: &[&str]) -> Result<u64, Fail> {
     Ok(five.0.saturating_sub(four.0))
 }
 
+// The names of the file in the snapshots.
+const ONE_SNAPSHOT: [&str; 1] = ["old"];
+
 const ONE_TREE: [&str; 8] = ["old"; 8];
 
 const TWO_TREES: [&str; 8] = ["old", "old", "old", "new", "new", "new", "new", "new"];
@@ -85,7 +88,7 @@ const TWO_TREES: [&str; 8] = ["old", "old", "old", "new", "new", "new", "new", "
 fn one_tree_is_walked_once(rt: HostRuntime) -> Result<(), Fail> {
     let alloc = rt.alloc();
     assert!(rt;
-        reads_of_a_leaf(alloc, &ONE_TREE)? == reads_of_a_leaf(alloc, &["old"])?
+        reads_of_a_leaf(alloc, &ONE_TREE)? == reads_of_a_leaf(alloc, &ONE_SNAPSHOT)?
             && reads_of(alloc, &ONE_TREE, 5)?.1 == 9 * RECORDS
     );
     Ok(())
@@ -95,9 +98,8 @@ fn one_tree_is_walked_once(rt: HostRuntime) -> Result<(), Fail> {
 #[test]
 fn a_leaf_that_both_trees_have_is_read_once(rt: HostRuntime) -> Result<(), Fail> {
     let alloc = rt.alloc();
-    let once = reads_of_a_leaf(alloc, &["old"])?;
     assert!(rt;
-        reads_of_a_leaf(alloc, &TWO_TREES)? == once
+        reads_of_a_leaf(alloc, &TWO_TREES)? == reads_of_a_leaf(alloc, &ONE_SNAPSHOT)?
             && reads_of(alloc, &TWO_TREES, 5)?.1 == 9 * RECORDS
     );
     Ok(())
@@ -161,15 +163,20 @@ const CASES: [([Held; 5], Said); 5] = [
     ([X, X, Held::TwoLinks, X, X], Said::Links { xid: 3, id: 31 }),
 ];
 
-// What a check says of snapshots that hold this.
-fn told(alloc: Global, held: &[Held]) -> Result<Said, Fail> {
+// A container whose volume has snapshots that hold this.
+fn source_holding(alloc: Global, held: &[Held]) -> Result<MemSource, Fail> {
     let mut versions = Vec::new(alloc);
     let mut xid = 0u64;
     for one in held {
         xid = xid.saturating_add(1);
         versions.push(holding(alloc, xid, *one)?)?;
     }
-    let mut src = source_of(alloc, versions)?;
+    source_of(alloc, versions)
+}
+
+// What a check says of snapshots that hold this.
+fn told(alloc: Global, held: &[Held]) -> Result<Said, Fail> {
+    let mut src = source_holding(alloc, held)?;
     match check(alloc, &mut src, Profile::Plain) {
         Ok(report) => {
             if !report.notes.is_empty() {

@@ -23,13 +23,16 @@ const NUMBERS: Numbers = Numbers {
     ..SMALL_NUMBERS
 };
 
+// The only extent of the file: where it is in the file, its length, and its block.
+const EXTENTS: &[(u64, u64, u64)] = &[(0, 4096, 57)];
+
 // The records of a volume with the file `é`, which has block 57.
 fn items_of(alloc: Global) -> Result<Vec<Item>, AllocError> {
     let mut tree = FileTree::new(alloc, Names::Folded)?;
     let mut file = InodePlan::file(16, 2);
     file.stream = Some(5);
     tree.add(alloc, file, NAME)?;
-    tree.stream(alloc, 16, &[(0, 4096, 57)])?;
+    tree.stream(alloc, 16, EXTENTS)?;
     tree.items(alloc)
 }
 

@@ -212,8 +212,7 @@ pub(super) fn assert_row(
 ) -> Result<(), Fail> {
     for profile in profiles.iter() {
         let answer = told(alloc, image.to_vec(alloc)?, *profile);
-        let as_said = is_as_said(&answer, said);
-        assert!(rt; as_said, "{name}");
+        assert!(rt; is_as_said(&answer, said), "{name}");
     }
     Ok(())
 }
