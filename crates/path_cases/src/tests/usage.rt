@@ -234,6 +234,7 @@ fn which_node_is_wrong(rt: HostRuntime) -> Result<(), Fail> {
 // The length of an extent, its block, how many bytes its value has, and what is wrong with it.
 type Extent = (u64, u64, usize, Option<UseFault>);
 
+// An extent leaves the container, or its value is too short.
 const OUTSIDE: Option<UseFault> = Some(UseFault::Outside { xid: 1 });
 
 const SHORT: Option<UseFault> = Some(UseFault::Value { xid: 1, item: 7 });

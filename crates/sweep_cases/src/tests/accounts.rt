@@ -192,6 +192,7 @@ fn are_all(alloc: Global, image: Vec<u8>) -> Result<bool, Fail> {
     Ok(numbers.owned.saturating_add(free) == blocks)
 }
 
+// Samples whose blocks are counted.
 const SOME_SAMPLES: [Sample; 4] = [Sample::L, Sample::P, Sample::J, Sample::T];
 
 #[test]

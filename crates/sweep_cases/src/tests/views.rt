@@ -148,6 +148,7 @@ fn what_stops_the_sweep(rt: HostRuntime) -> Result<(), Fail> {
     Ok(())
 }
 
+// A record of a map.
 const KEPT: OmapRecord = OmapRecord {
     oid: 7,
     xid: 1,
@@ -156,19 +157,21 @@ const KEPT: OmapRecord = OmapRecord {
     paddr: 60,
 };
 
+// Another one, which is marked deleted.
 const DELETED: OmapRecord = OmapRecord {
     oid: 8,
     flags: 1,
     ..KEPT
 };
 
-// A map with a record that is marked deleted and one that isn't.
+// A map with these two records.
 const MAPS: &[MapRecords<'static>] = &[MapRecords {
     within: Within::Volume(0),
     map: MAP,
     records: &[KEPT, DELETED],
 }];
 
+// What is told where the first record isn't used.
 const IDLE: ReachFault = ReachFault::UnusedMapping {
     within: Within::Volume(0),
     oid: 7,

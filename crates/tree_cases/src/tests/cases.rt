@@ -65,6 +65,7 @@ pub enum Base {
     DeepFolders,
 }
 
+// The records of the bases.
 const ONE_FILE: &[Rec] = &[
     Entry(In(2), Id(16), FILE, "a"),
     Inode(Id(16), In(2), F, Count(1)),

@@ -161,6 +161,7 @@ fn is_as_said(
     })
 }
 
+// The profiles under which each case is checked.
 const PROFILES: [Profile; 2] = [Profile::Plain, Profile::Strict];
 
 fn assert_case(

@@ -51,6 +51,7 @@ pub(super) enum Holds {
 // The extents of a stream: of each where it is in the stream, its length, and its block, which is 0 of a hole.
 type Extents = &'static [(u64, u64, u64)];
 
+// Those of `hello`, and of the large hole with `hello` behind it.
 const HELLO_EXTENTS: Extents = &[(0, 4096, HELLO_BLOCK)];
 
 const HOLE_EXTENTS: Extents = &[(0, HOLE, 0), (HOLE, 4096, HELLO_BLOCK)];
