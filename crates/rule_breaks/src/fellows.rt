@@ -320,7 +320,8 @@ pub fn lost_map<'a>(
 ) -> Result<Option<&'a SiblingFact>, NoMemory>
     ensures { IfOk result (λ first. option_copied first ≡ find (spec.is_map_lost fellows.now.facts.now) fellows.now.facts.now.siblings) }
 {
-    if fellows.facts.siblings.is_empty() {
+    let facts = fellows.facts;
+    if facts.siblings.is_empty() {
         return Ok(None);
     }
     lost_map_of(alloc, fellows)
