@@ -150,11 +150,18 @@ fn assert_as_said(
     let ended = end_with(alloc, image, words, held, NOTHING)?;
     let (status, text, line) = ends.said();
     let as_said = ended_so(&ended, status, text, line, held.unwrap_or(""));
-    assert!(rt; as_said, "{name}: status {}, {}", ended.status, ended.held);
+    assert!(rt; as_said, "{name}: status {}", ended.status);
     Ok(())
 }
 
-// Whether it ends with 4 and writes nothing where the first put on each sink is refused. Nothing is put where there is nothing to write.
+// The first put on each sink is refused.
+const FIRST_PUTS: Refused = Refused {
+    put: 1,
+    line: 1,
+    ..NOTHING
+};
+
+// Whether it ends with 4 and writes nothing where those are refused. Nothing is put where there is nothing to write.
 fn failure_of_the_first_put_of_a_case(
     rt: &impl Abort,
     alloc: Global,
@@ -163,12 +170,7 @@ fn failure_of_the_first_put_of_a_case(
     held: Option<&str>,
 ) -> Result<(), Fail> {
     let (name, _, words, ends) = *case;
-    let refused = Refused {
-        put: 1,
-        line: 1,
-        ..NOTHING
-    };
-    let ended = end_with(alloc, image, words, held, refused)?;
+    let ended = end_with(alloc, image, words, held, FIRST_PUTS)?;
     let (_, text, line) = ends.said();
     let is_silent = text.is_empty() && line.is_empty();
     let status = if is_silent { 0 } else { 4 };
@@ -293,27 +295,29 @@ fn refused_cases_end_as_said(rt: HostRuntime) -> Result<(), Fail> {
     assert_exports(&rt, rt.alloc(), REFUSED_CASES)
 }
 
-// `report` is what `check` does once its words are read.
+// An image, and how its report ends.
+const REPORTS: [(Image, Ends); 2] = [
+    (Image::Small, Ends::Wrote(SMALL_REPORT)),
+    (MARKED, Ends::Faulty(LEAKED)),
+];
+
+// Whether the report of an image ends so. `report` is what `check` does once its words are read.
+fn is_reported_so(alloc: Global, image: Image, ends: Ends) -> Result<bool, Fail> {
+    let (wanted, text, line) = ends.said();
+    let mut source = match handed(alloc, image, Vec::new(alloc))? {
+        Opened::Image(source) => source,
+        Opened::Absent => MemSource::new(Vec::new(alloc), Vec::new(alloc)),
+    };
+    let mut out = MemSink::new(alloc, ROOM, Vec::new(alloc))?;
+    let mut err = MemSink::new(alloc, ROOM, Vec::new(alloc))?;
+    let status = report(alloc, &mut source, Profile::Plain, &mut out, &mut err);
+    Ok(status == wanted && out.contents() == text.as_bytes() && err.contents() == line.as_bytes())
+}
+
 #[test]
 fn reports_end_as_said(rt: HostRuntime) -> Result<(), Fail> {
-    let alloc = rt.alloc();
-    for (image, ends) in [
-        (Image::Small, Ends::Wrote(SMALL_REPORT)),
-        (MARKED, Ends::Faulty(LEAKED)),
-    ] {
-        let (wanted, text, line) = ends.said();
-        let mut source = match handed(alloc, image, Vec::new(alloc))? {
-            Opened::Image(source) => source,
-            Opened::Absent => MemSource::new(Vec::new(alloc), Vec::new(alloc)),
-        };
-        let mut out = MemSink::new(alloc, ROOM, Vec::new(alloc))?;
-        let mut err = MemSink::new(alloc, ROOM, Vec::new(alloc))?;
-        let status = report(alloc, &mut source, Profile::Plain, &mut out, &mut err);
-        assert!(rt;
-            status == wanted
-                && out.contents() == text.as_bytes()
-                && err.contents() == line.as_bytes()
-        );
+    for (image, ends) in REPORTS {
+        assert!(rt; is_reported_so(rt.alloc(), image, ends)?);
     }
     Ok(())
 }
@@ -335,6 +339,13 @@ fn a_generated_report_leaves_its_image(rt: HostRuntime) -> Result<(), Fail> {
     Ok(())
 }
 
+// Whether other commands write what they should of a new container with these bytes.
+fn is_read_so(alloc: Global, bytes: &[u8], words: &[&str], text: &str) -> Result<bool, Fail> {
+    let image = Opened::Image(MemSource::new(bytes.to_vec(alloc)?, Vec::new(alloc)));
+    let ended = end_on(alloc, image, words, ROOM, NOTHING)?;
+    Ok(ended_so(&ended, 0, text, "", ""))
+}
+
 // Each form of the identifiers asks for the same container, and what was written is read by other commands.
 #[test]
 fn a_new_container_is_read(rt: HostRuntime) -> Result<(), Fail> {
@@ -345,31 +356,33 @@ fn a_new_container_is_read(rt: HostRuntime) -> Result<(), Fail> {
             written.status == 0 && written.held.is_empty() && written.err.contents().is_empty()
         );
         for (words, text) in READ_CASES {
-            let image = written.out.contents().to_vec(alloc)?;
-            let image = Opened::Image(MemSource::new(image, Vec::new(alloc)));
-            let ended = end_on(alloc, image, words, ROOM, NOTHING)?;
-            let as_said = ended_so(&ended, 0, text, "", "");
-            assert!(rt; as_said, "{text}: status {}", ended.status);
+            let as_said = is_read_so(alloc, written.out.contents(), words, text)?;
+            assert!(rt; as_said, "{text}");
         }
     }
     Ok(())
 }
 
-// The 57 used blocks are put at once, and then each block of zeros.
+// A put that is refused, how `format` ends then, and how many bytes it has written: the 57 used blocks are put at once, and then each block of zeros.
+const FORMAT_PUTS: [(u64, u8, usize); 4] = [
+    (1, 4, 0),
+    (2, 4, 57 * 4096),
+    (200, 4, 255 * 4096),
+    (201, 0, 256 * 4096),
+];
+
 #[test]
 fn failure_of_each_put_of_format(rt: HostRuntime) -> Result<(), Fail> {
-    let alloc = rt.alloc();
-    for (number, status, blocks) in [(1, 4, 0), (2, 4, 57), (200, 4, 255), (201, 0, 256)] {
-        let refused = Refused {
-            put: number,
-            ..NOTHING
-        };
-        let ended = end_on(alloc, Opened::Absent, FORMAT, FORMATTED, refused)?;
+    for (put, status, written) in FORMAT_PUTS {
+        let refused = Refused { put, ..NOTHING };
+        let ended = end_on(rt.alloc(), Opened::Absent, FORMAT, FORMATTED, refused)?;
         assert!(rt;
-            ended.status == status && ended.out.contents().len() == blocks * 4096,
-            "put {number}"
+            ended.status == status
+                && ended.out.contents().len() == written
+                && ended.held.is_empty()
+                && ended.err.contents().is_empty(),
+            "put {put}"
         );
-        assert!(rt; ended.held.is_empty() && ended.err.contents().is_empty());
     }
     Ok(())
 }
@@ -391,10 +404,13 @@ const HOLE: Image = Image::Streamed(5000, &[(0, 4096, 0), (4096, 4096, 57)]);
 
 const HOLE_ALONE: Image = Image::Streamed(5000, &[(0, 4096, 0)]);
 
+// Both, and what the bytes after the hole are.
+const HOLES: [(Image, u8); 2] = [(HOLE, b'A'), (HOLE_ALONE, 0)];
+
 #[test]
 fn a_hole_is_written_as_zeros(rt: HostRuntime) -> Result<(), Fail> {
     let alloc = rt.alloc();
-    for (image, byte) in [(HOLE, b'A'), (HOLE_ALONE, 0)] {
+    for (image, byte) in HOLES {
         let ended = end(alloc, image, CAT_HOLE, NOTHING)?;
         let contents = hole_then(alloc, byte)?;
         assert!(rt;
@@ -420,20 +436,32 @@ impl Line for Long {
     }
 }
 
+// A line of 40,000 bytes.
+macro_rules! long {
+    ($byte:expr) => {
+        Long {
+            byte: $byte,
+            length: 40_000,
+        }
+    };
+}
+
+const LONG_LINES: &[Long] = &[long!(b'a'), long!(b'b'), long!(b'c')];
+
+// A put that is refused, whether all lines are put then, and how many bytes are.
+const LATER_PUTS: [(u64, bool, usize); 3] = [(1, false, 0), (2, false, 80_000), (3, true, 120_000)];
+
 #[test]
 fn failure_of_a_later_put(rt: HostRuntime) -> Result<(), Fail> {
     let alloc = rt.alloc();
-    let items = [b'a', b'b', b'c'].map(|byte| Long {
-        byte,
-        length: 40_000,
-    });
-    for (refused, is_whole, written) in [(1, false, 0), (2, false, 80_000), (3, true, 120_000)] {
+    for (refused, is_whole, written) in LATER_PUTS {
         let mut out = MemSink::new(alloc, 3 * 40_000, [refused].to_vec(alloc)?)?;
-        let ended = put_lines(alloc, &items, &mut out);
+        let ended = put_lines(alloc, LONG_LINES, &mut out);
         let contents = out.contents();
-        assert!(rt; (ended.is_ok(), contents.len()) == (is_whole, written));
         let before = contents.iter().filter(|byte| **byte == b'a').count();
-        assert!(rt; before == written.min(40_000));
+        assert!(rt;
+            ended.is_ok() == is_whole && contents.len() == written && before == written.min(40_000)
+        );
     }
     Ok(())
 }
@@ -458,27 +486,43 @@ impl Write for Holding<'_> {
     }
 }
 
-#[test]
-fn what_is_written_is_flushed(rt: HostRuntime) -> Result<(), Fail> {
-    let alloc = rt.alloc();
+// An image, and what `ring` writes of it on each sink.
+const RINGS: [(Image, &str, &str); 2] = [
+    (Image::Ring, RING_LINES, ""),
+    (Image::Absent, "", NO_IMAGE),
+];
+
+fn ring_words(alloc: Global) -> Result<Vec<String>, AllocError> {
     let words = vec![in alloc;
         String::from_str(alloc, "ring")?,
         String::from_str(alloc, "x")?,
     ]?;
-    for (image, on_out, on_err) in [(Image::Ring, RING_LINES, ""), (Image::Absent, "", NO_IMAGE)] {
-        let (shown, said) = (Cell::new(0), Cell::new(0));
-        let mut out = StdSink::new(Holding {
-            held: 0,
-            shown: &shown,
-        });
-        let mut err = StdSink::new(Holding {
-            held: 0,
-            shown: &said,
-        });
-        let mut image = handed(alloc, image, Vec::new(alloc))?;
-        let mut folder: Given<MemFolder> = Given::Nothing;
-        let _status = run(alloc, &words, &mut image, &mut out, &mut err, &mut folder);
-        assert!(rt; (shown.get(), said.get()) == (on_out.len() as u64, on_err.len() as u64));
+    Ok(words)
+}
+
+// How many bytes `ring` lets go on each sink.
+fn flushed(alloc: Global, image: Image) -> Result<(u64, u64), Fail> {
+    let words = ring_words(alloc)?;
+    let mut image = handed(alloc, image, Vec::new(alloc))?;
+    let (shown, said) = (Cell::new(0), Cell::new(0));
+    let mut out = StdSink::new(Holding {
+        held: 0,
+        shown: &shown,
+    });
+    let mut err = StdSink::new(Holding {
+        held: 0,
+        shown: &said,
+    });
+    let mut folder: Given<MemFolder> = Given::Nothing;
+    let _status = run(alloc, &words, &mut image, &mut out, &mut err, &mut folder);
+    Ok((shown.get(), said.get()))
+}
+
+#[test]
+fn what_is_written_is_flushed(rt: HostRuntime) -> Result<(), Fail> {
+    for (image, on_out, on_err) in RINGS {
+        let wanted = (on_out.len() as u64, on_err.len() as u64);
+        assert!(rt; flushed(rt.alloc(), image)? == wanted);
     }
     Ok(())
 }

@@ -66,16 +66,25 @@ pub fn sectors(alloc: Global, disk: Disk) -> Result<Vec<u8>, AllocError> {
     vec![in alloc; 0u8; disk.sector.saturating_mul(FIRST)]
 }
 
+// What all tables have: a sector, a byte in it, and bytes from there on.
+const TABLE: &[(usize, usize, &[u8])] = &[
+    (1, 0, b"EFI PART"),
+    (1, 72, &[2]),
+    (1, 80, &[128]),
+    (1, 84, &[128]),
+    (2, 0, CONTAINER_TYPE),
+    (2, 32, &[40]),
+];
+
 /// Writes the table. Answers whether the disk has room for it.
 pub fn write_table(bytes: &mut [u8], disk: Disk) -> bool {
+    for (block, at, part) in TABLE {
+        if !write(bytes, disk.sector, *block, *at, part) {
+            return false;
+        }
+    }
     let (block, at, other) = disk.other;
-    write(bytes, disk.sector, 1, 0, b"EFI PART")
-        && write(bytes, disk.sector, 1, 72, &[2])
-        && write(bytes, disk.sector, 1, 80, &[128])
-        && write(bytes, disk.sector, 1, 84, &[128])
-        && write(bytes, disk.sector, 2, 0, CONTAINER_TYPE)
-        && write(bytes, disk.sector, 2, 32, &[40])
-        && write(bytes, disk.sector, 2, 40, &disk.last.to_le_bytes())
+    write(bytes, disk.sector, 2, 40, &disk.last.to_le_bytes())
         && write(bytes, disk.sector, block, at, other)
 }
 

@@ -192,6 +192,9 @@ fn with_records(alloc: Global, items: Vec<Item>) -> Result<Vec<u8>, Fail> {
     with_items(alloc, Sample::S, items)
 }
 
+// The extents of a file of one block: block 57.
+const ONE_BLOCK: &[(u64, u64, u64)] = &[(0, 4096, 57)];
+
 // The file 16 in the root, with so many bytes in these extents, and with these flags.
 fn with_file(
     alloc: Global,
@@ -223,7 +226,7 @@ fn with_bytes(alloc: Global, files: &[Entry], directory: u64) -> Result<Vec<u8>,
     let mut file = InodePlan::file(17, directory);
     file.stream = Some(5);
     tree.add(alloc, file, "hello")?;
-    tree.stream(alloc, 17, &[(0, 4096, 57)])?;
+    tree.stream(alloc, 17, ONE_BLOCK)?;
     with_items(alloc, Sample::H, tree.items(alloc)?)
 }
 
@@ -248,10 +251,12 @@ fn backwards(alloc: Global) -> Result<Vec<u8>, Fail> {
     with_records(alloc, items)
 }
 
-// The key of the inode 16, and a value of 8 bytes.
+// The key of the inode 16.
+const INODE_KEY: &[u8] = &[16, 0, 0, 0, 0, 0, 0, 0x30];
+
+// That key, and a value of 8 bytes.
 fn short_inode(alloc: Global) -> Result<Item, AllocError> {
-    let key = [16, 0, 0, 0, 0, 0, 0, 0x30].to_vec(alloc)?;
-    Ok((key, [0u8; 8].to_vec(alloc)?))
+    Ok((INODE_KEY.to_vec(alloc)?, vec![in alloc; 0u8; 8]?))
 }
 
 // A container whose volume has such a record besides its two directories.
@@ -270,7 +275,7 @@ fn unhashed(alloc: Global) -> Result<Vec<u8>, Fail> {
     let mut file = InodePlan::file(16, 2);
     file.stream = Some(5);
     tree.add(alloc, file, "é")?;
-    tree.stream(alloc, 16, &[(0, 4096, 57)])?;
+    tree.stream(alloc, 16, ONE_BLOCK)?;
     let mut items = tree.items(alloc)?;
     for item in items.iter_mut() {
         if item.0.len() == SHORT_ENTRY {
@@ -294,9 +299,7 @@ fn bytes(alloc: Global, image: Image) -> Result<Vec<u8>, Fail> {
         Image::Views | Image::ViewsChanged(..) => made(alloc, &sample(alloc, Sample::V)?),
         Image::ViewsNamed(name) => views_named(alloc, name),
         Image::Hello => made(alloc, &sample(alloc, Sample::H)?),
-        Image::Flagged(flags) => {
-            with_file(alloc, Sample::H, "hello.txt", flags, 5, &[(0, 4096, 57)])
-        }
+        Image::Flagged(flags) => with_file(alloc, Sample::H, "hello.txt", flags, 5, ONE_BLOCK),
         Image::Streamed(size, extents) => { with_file(alloc, Sample::P, "hole", 0, size, extents) }
         Image::Link => with_link(alloc, None),
         Image::LinkUnsaid => with_link(alloc, Some(0)),
