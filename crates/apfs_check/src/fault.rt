@@ -7,7 +7,7 @@ use reach_rules::Why;
 use view_rules::{IdAt, NamedAt};
 
 /// What is wrong with a container.
-#[derive(PartialEq, Drop)]
+#[derive(Drop)]
 pub enum Fault {
     /// Block 0 isn't right.
     BlockZero,

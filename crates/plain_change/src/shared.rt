@@ -52,7 +52,20 @@ fn are_shared_by(after: &Index<'_>, old: &Index<'_>, new: &Index<'_>, come: &Fac
         .all(|e| is_still_shared(after, old, new, e))
 }
 
-// Whether no file that keeps its only entry gets another with a sibling's id, by what is gone and what has come.
+// The same, where what has come isn't looked at yet.
+fn are_shared_since(
+    alloc: Global,
+    after: &Index<'_>,
+    old: &Index<'_>,
+    come: &Facts,
+) -> Result<bool, NoMemory>
+    ensures { IfOk result (λ shared. IsTrue shared → All (IsSharedStill after.now.facts.now old.now.facts.now come.now) come.now.entries) }
+{
+    let new = Index::new(alloc, come)?;
+    Ok(are_shared_by(after, old, &new, come))
+}
+
+// The same, where neither is.
 fn are_shared_after(
     alloc: Global,
     after: &Index<'_>,
@@ -62,8 +75,7 @@ fn are_shared_after(
     ensures { IfOk result (λ shared. IsTrue shared → All (IsSharedStill after.now.facts.now gone.now come.now) come.now.entries) }
 {
     let old = Index::new(alloc, gone)?;
-    let new = Index::new(alloc, come)?;
-    Ok(are_shared_by(after, &old, &new, come))
+    are_shared_since(alloc, after, &old, come)
 }
 
 /// Whether no file that keeps its only entry gets another with a sibling's id.

@@ -5,6 +5,7 @@ use Rattle.std.proofs.lemmas.List.{map-append, length-map}
 use Rattle.std.proofs.lemmas.Grind.{flat_map-append}
 use Rattle.std.proofs.lemmas.List.Elements.{All-nil, All-head, All-tail, All-push}
 use Rattle.std.specs.List.{range_with_len}
+use Rattle.std.specs.Bool.{then_some}
 use Rattle.apfs_model.specs.Blocks.{block_of}
 use Rattle.apfs_model.specs.Counts.{given}
 use Rattle.apfs_model.specs.Lists.{through, value_of}
@@ -21,14 +22,12 @@ use Rattle.view_change.specs.declared.leaf_taker.Ends.{Ends}
 use Rattle.view_change.specs.declared.kept.Numbers.{Numbers}
 use Rattle.view_change.specs.declared.kept.KeptLeaf.{KeptLeaf}
 use Rattle.view_change.specs.declared.kept.Held.{Held}
-use Rattle.view_change.specs.declared.kept_view.KeptView.{KeptView}
-use Rattle.view_change.specs.declared.changing.Change.{Change}
 use Rattle.view_change.specs.Leaves.{records_of, records_in}
 use Rattle.view_change.specs.Ends.{leaf_item, leaf_items, HasEnds}
 use Rattle.view_change.specs.Numbers.{numbers_of, numbers_since, no_facts_under, joined, behind, first_facts, rest_facts}
-use Rattle.view_change.specs.Kept.{leaf_of, facts_said, AreReadable, IsKeptLeaf, AreKept, IsHeld, IsKeptView}
+use Rattle.view_change.specs.Kept.{leaf_of, facts_said, AreReadable, IsKeptLeaf, AreKept, IsHeld}
 use Rattle.view_change.specs.declared.changing.Changing.{Changing}
-use Rattle.view_change.specs.Changing.{IsUnderway, IsDifference, HasChangedTo, HasSettledTo, facts_before, held_after}
+use Rattle.view_change.specs.Changing.{IsUnderway, HasDifference, HasChangedTo, HasSettledTo, facts_before, held_after}
 use Rattle.view_change.specs.Settled.{AreSettled}
 use Rattle.view_change.proofs.Joined.{joined-assoc, first-joined, rest-joined, since-joined, joined-none, behind-joined, behind-none, put-behind, behind-woven, said-append, said-none, joined-stay, none-woven}
 use Rattle.view_change.proofs.Settles.{same_of, gone-settled, come-settled}
@@ -283,35 +282,40 @@ module _ {K : Type 0} (shape : Shape K) (site : Site) (image : List ℕ) where
   none-left : (names : Names) (left : List KeptLeaf) (facts : Facts) → left ≡ [] → AreKept shape site image names left facts → facts ≡ no_facts_under names
   none-left names left facts none kept = kept.said ∙ (ap (λ ks. facts_said names (records_in shape site image (map leaf_of ks))) none ∙ sym (said-none names))
 
-  -- what is kept of the view after, where none is left of the one before
-  pub ends-view : (leaves : List Leaf) (start now : Changing) (left : List KeptLeaf) (view : KeptView) → left ≡ []
-      → view.held ≡ record { leaves = now.after.leaves; facts = behind (joined now.stock.0 now.stock.1) now.after.facts; records = now.after.records } → HasChangedTo shape site image leaves start left now → view.held ≡ held_after now
-  ends-view leaves start now left view none whole so =
-      let free = none-left (facts_before start).names left now.stock.0 none so.rest in
-      whole ∙ ap (λ (f : Facts). record { leaves = now.after.leaves; facts = behind (joined f now.stock.1) now.after.facts; records = now.after.records }) free
+  -- the facts of the view after, where none is left of the one before
+  ends-facts : (leaves : List Leaf) (start now : Changing) (facts : Facts) → facts ≡ behind (joined now.stock.0 now.stock.1) now.after.facts → HasChangedTo shape site image leaves start [] now → facts ≡ (held_after now).facts
+  ends-facts leaves start now facts whole so =
+      whole ∙ ap (λ (f : Facts). behind (joined f now.stock.1) now.after.facts) (none-left (facts_before start).names [] now.stock.0 refl so.rest)
 
-  -- nothing is left of the view before
-  pub ends-so : (start now : Changing) (leaves : List Leaf) (left : List KeptLeaf) (view : KeptView) (change : Change) → left ≡ [] → view.held ≡ held_after now → change.gone ≡ now.gone → change.come ≡ now.come → now.follows ≡ true
-      → HasSettledTo shape site image leaves start left now → IsDifference shape site image leaves (facts_before start) (record { after = view; change = Some change })
-  ends-so start now leaves left view change none whole lost made on settled =
+  -- what is kept of it then
+  pub ends-held : (leaves : List Leaf) (start now : Changing) (facts : Facts) → facts ≡ behind (joined now.stock.0 now.stock.1) now.after.facts → HasChangedTo shape site image leaves start [] now
+      → IsHeld shape site image (facts_before start).names leaves (record { leaves = now.after.leaves; facts = facts; records = now.after.records })
+  ends-held leaves start now facts whole so =
+      subst (λ (f : Facts). IsHeld shape site image (facts_before start).names leaves (record { leaves = now.after.leaves; facts = f; records = now.after.records })) (sym (ends-facts leaves start now facts whole so)) so.view
+
+  -- how its facts differ from those before
+  pub ends-so : (leaves : List Leaf) (start now : Changing) (facts : Facts) → facts ≡ behind (joined now.stock.0 now.stock.1) now.after.facts → HasSettledTo shape site image leaves start [] now → now.follows ≡ true
+      → HasDifference (facts_before start) facts (record { gone = now.gone; come = now.come })
+  ends-so leaves start now facts whole settled on =
       let so = settled.changed in
       let before = facts_before start in
       let had = so.followed on in
-      let free = none-left before.names left now.stock.0 none so.rest in
+      let free = none-left before.names [] now.stock.0 refl so.rest in
       let all : before ≡ had.settled = had.split ∙ ((λ i. joined (joined had.settled (settled.passed i)) (free i)) ∙ (joined-none (joined had.settled (no_facts_under now.passed.names)) before.names ∙ joined-none had.settled now.passed.names)) in
-      let is : IsKeptView shape site image before.names leaves view = subst (IsHeld shape site image before.names leaves) (sym whole) so.view in
-      let facts : view.held.facts ≡ behind now.stock.1 (no_facts_under now.after.facts.names) = ap (λ (h : Held). h.facts) whole ∙ ap (behind now.stock.1) settled.read in
+      let read : facts ≡ behind now.stock.1 (no_facts_under now.after.facts.names) = ends-facts leaves start now facts whole so ∙ ap (behind now.stock.1) settled.read in
       record {
-        after = is;
-        change = record {
-          same = had.same;
-          left = subst (λ (f : Facts). AreWoven before had.same f) (sym lost) (subst (λ (f : Facts). AreWoven f had.same now.gone) (sym all) had.lost);
-          made = subst (λ (f : Facts). AreWoven view.held.facts had.same f) (sym made) (subst (λ (f : Facts). AreWoven f had.same now.come) (sym facts) (behind-woven now.after.facts.names had.made));
-          names = view-names before.names leaves view.held is;
-          gone_names = ap (λ (f : Facts). f.names) lost ∙ had.gone_names;
-          come_names = ap (λ (f : Facts). f.names) made ∙ had.come_names;
-        };
+        same = had.same;
+        left = subst (λ (f : Facts). AreWoven f had.same now.gone) (sym all) had.lost;
+        made = subst (λ (f : Facts). AreWoven f had.same now.come) (sym read) (behind-woven now.after.facts.names had.made);
+        names = view-names before.names leaves (record { leaves = now.after.leaves; facts = facts; records = now.after.records }) (ends-held leaves start now facts whole so);
+        gone_names = had.gone_names;
+        come_names = had.come_names;
       }
+
+-- what is given where something is so, is so of it
+pub if-given : {X : Type 0} (P : X → Type 0) (is : Bool) (x : X) → (is ≡ true → P x) → IfSome (then_some is x) P
+if-given P true x holds = holds refl
+if-given P false x holds = tt
 
 -- no leaf was found where none was looked for
 pub none-found : (sought : Option Leaf) (found : Option KeptLeaf) (left : List KeptLeaf) → sought ≡ None → IfSome found (λ (kept : KeptLeaf). sought ≡ Some kept.leaf) → IfNone found (left ≡ []) → option_to_list found ++ left ≡ []

@@ -9,15 +9,16 @@ ghost use Rattle.obj_base.specs.declared.stop.Stop.TheVariants.{ReadFault};
 ghost use Rattle.fs_name.specs.declared.naming.Names.{Names};
 ghost use Rattle.view_change.specs.declared.leaf.Leaf.{Leaf as One};
 ghost use Rattle.view_change.specs.declared.changing.Changing.{Changing as State};
-ghost use Rattle.view_change.specs.Numbers.{joined, behind};
+ghost use Rattle.rule_index.specs.Order.{AreInOrder};
 ghost use Rattle.view_change.specs.Ends.{HasEnds};
 ghost use Rattle.view_change.specs.declared.kept.KeptLeaf.{KeptLeaf as Kept};
-ghost use Rattle.view_change.specs.Kept.{facts_of, leaves_of, IsKeptView};
+ghost use Rattle.view_change.specs.Kept.{facts_of, leaves_of, IsHeld, IsKeptView};
 ghost use Rattle.view_change.specs.Reading.{IsNodeOf};
 ghost use Rattle.view_change.specs.Shared.{is_among, shared_leaves, StayInOrder, ShareLeaves, IsWithin, ComesNext};
-ghost use Rattle.view_change.specs.Changing.{facts_before, leaves_left, HasChanged, HasChangedTo, HasSettledTo, IsDifference};
+ghost use Rattle.view_change.specs.Changing.{facts_before, leaves_left, HasChanged, HasChangedTo, HasSettledTo, HasDifference, IsDifference};
 
 use crate::kept::{Held, KeptLeaf, Numbers, no_facts};
+use crate::kept_view::are_known;
 use crate::leaf_read::{add_records, ends_of};
 use crate::node::read_node;
 use crate::runs::{are_none, settle};
@@ -241,58 +242,47 @@ impl Changing {
         Ok(self.add(leaf, &node)?)
     }
 
-    // What is kept, where the difference isn't followed.
-    fn unfollowed(self) -> Result<Changed, NoMemory>
-        ensures view { IfOk result (λ changed. changed.after.held ≡ record { leaves = self.after.leaves; facts = behind (joined self.stock.0 self.stock.1) self.after.facts; records = self.after.records }) }
-        ensures change { IfOk result (λ changed. changed.change ≡ None) }
+    // Passes over the rest of the view before, and settles what has changed where it is followed.
+    fn end<K: TreeKey>(&mut self) -> Result<(), NoMemory>
+        ensures held { (start : State) (site : Place) (image : List ℕ) (leaves : List One) → HasChanged K.shape site image leaves start self.old → OnOk result (HasChangedTo K.shape site image leaves start [] self.new) }
+        ensures settled { (start : State) (site : Place) (image : List ℕ) (leaves : List One) → HasChanged K.shape site image leaves start self.old → OnOk result (self.new.follows ≡ true → HasSettledTo K.shape site image leaves start [] self.new) }
     {
-        let Changing {
-            alloc,
-            leaves: _,
-            stock,
-            after,
-            follows: _,
-            passed: _,
-            gone: _,
-            come: _,
-        } = self;
-        Ok(Changed {
-            after: KeptView::behind(alloc, stock, after)?,
-            change: None,
-        })
+        let _ = self.pass_until::<K>(None)?;
+        if self.follows {
+            self.settle::<K>()?;
+        }
+        Ok(())
     }
 
-    // What is kept and what has changed, where the difference is followed.
-    fn followed(self) -> Result<Changed, NoMemory>
-        ensures view { IfOk result (λ changed. changed.after.held ≡ record { leaves = self.after.leaves; facts = behind (joined self.stock.0 self.stock.1) self.after.facts; records = self.after.records }) }
-        ensures change { IfOk result (λ changed. changed.change ≡ Some (record { gone = self.gone; come = self.come })) }
+    // Puts all facts of the view after into one place, once all leaves are taken, and tells whether it is known that they are in order.
+    fn close<K: TreeKey>(&mut self) -> Result<bool, NoMemory>
+        ensures order { IfOk result (λ known. IsTrue known → AreInOrder self.new.after.facts) }
+        ensures held { (start : State) (site : Place) (image : List ℕ) (leaves : List One) → HasChanged K.shape site image leaves start self.old → OnOk result (IsHeld K.shape site image (facts_before start).names leaves self.new.after) }
+        ensures change { (start : State) (site : Place) (image : List ℕ) (leaves : List One) → HasChanged K.shape site image leaves start self.old → OnOk result (self.new.follows ≡ true → HasDifference (facts_before start) self.new.after.facts (record { gone = self.new.gone; come = self.new.come })) }
     {
-        let Changing {
-            alloc,
-            leaves: _,
-            stock,
-            after,
-            follows: _,
-            passed: _,
-            gone,
-            come,
-        } = self;
-        Ok(Changed {
-            after: KeptView::behind(alloc, stock, after)?,
-            change: Some(Change { gone, come }),
-        })
+        self.end::<K>()?;
+        let known = self.stock.whole(self.alloc, &mut self.after.facts)?;
+        Ok(are_known(known, &self.after.facts))
     }
 
     /// What is kept, once all leaves are taken, and what has changed, where it was followed.
     pub fn finish<K: TreeKey>(mut self) -> Result<Changed, NoMemory>
         ensures { (start : State) (site : Place) (image : List ℕ) (leaves : List One) → HasChanged K.shape site image leaves start self → IfOk result (IsDifference K.shape site image leaves (facts_before start)) }
     {
-        let _ = self.pass_until::<K>(None)?;
-        if !self.follows {
-            return Ok(self.unfollowed()?);
-        }
-        self.settle::<K>()?;
-        Ok(self.followed()?)
+        let in_order = self.close::<K>()?;
+        let Changing {
+            alloc: _,
+            leaves: _,
+            stock: _,
+            after: held,
+            follows,
+            passed: _,
+            gone,
+            come,
+        } = self;
+        let after = KeptView { held, in_order };
+        let change = follows.then_some(Change { gone, come });
+        Ok(Changed { after, change })
     }
 }
 

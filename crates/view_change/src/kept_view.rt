@@ -3,8 +3,6 @@ ghost use Rattle.std.specs.Prelude.{◌≡◌, true};
 ghost use Rattle.rule_index.specs.Order.{AreInOrder};
 
 use crate::kept::Held;
-use crate::stock::Stock;
-use apfs_model::NoMemory;
 use bt_node::TreeKey;
 use fs_name::Names;
 use rule_index::chain::are_in_order;
@@ -20,8 +18,8 @@ pub struct KeptView {
     pub(crate) ghost order: { in_order ≡ true → AreInOrder held.facts },
 }
 
-// Whether it is known, or shows by a look at all, that some facts are in order.
-fn are_known(known: bool, facts: &Facts) -> bool
+/// Whether it is known, or shows by a look at all, that some facts are in order.
+pub(crate) fn are_known(known: bool, facts: &Facts) -> bool
     requires { known ≡ true → AreInOrder facts.now }
     ensures { result ≡ true → AreInOrder facts.now }
 {
@@ -29,9 +27,8 @@ fn are_known(known: bool, facts: &Facts) -> bool
 }
 
 impl KeptView {
-    ghost use Rattle.std.specs.Prelude.{ℕ, List, [], IfOk, IsTrue};
+    ghost use Rattle.std.specs.Prelude.{ℕ, List, [], IsTrue};
     ghost use Rattle.obj_base.specs.declared.site.Site.{Site};
-    ghost use Rattle.view_change.specs.Numbers.{behind, joined};
     ghost use Rattle.view_change.specs.Kept.{facts_of, records_kept, IsKeptView};
 
     /// What is kept of a view without leaves.
@@ -42,16 +39,6 @@ impl KeptView {
             held: Held::nothing::<K>(alloc, names),
             in_order: false,
         }
-    }
-
-    /// What is kept of a view with some leaves, where the facts beside them stand behind those of a stock.
-    pub(crate) fn behind(alloc: Global, stock: Stock, held: Held) -> Result<KeptView, NoMemory>
-        ensures { IfOk result (λ view. view.held ≡ record { leaves = held.leaves; facts = behind (joined stock.0 stock.1) held.facts; records = held.records }) }
-    {
-        let (mut stock, mut held) = (stock, held);
-        let known = stock.whole(alloc, &mut held.facts)?;
-        let in_order = are_known(known, &held.facts);
-        Ok(KeptView { held, in_order })
     }
 
     /// The facts.

@@ -81,9 +81,10 @@ fn note_hash(rt: HostRuntime) -> Result<(), Fail> {
 #[test]
 fn fault_name_hash(rt: HostRuntime) -> Result<(), Fail> {
     let alloc = rt.alloc();
-    let fault = Fault::NameHash(named(alloc)?);
-    let answer = told(alloc, other_hash(alloc)?, Profile::Strict);
-    assert!(rt; answer.is_err_and(|stop| stop == Stop::Found(fault)));
+    let Err(Stop::Found(Fault::NameHash(at))) = told(alloc, other_hash(alloc)?, Profile::Strict) else {
+        panic!(rt; "the name's hash isn't at fault");
+    };
+    assert!(rt; at == named(alloc)?);
     Ok(())
 }
 

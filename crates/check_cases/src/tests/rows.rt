@@ -114,46 +114,47 @@ pub(super) fn numbers_of(report: &Report) -> Numbers {
     }
 }
 
-// The fault that is meant.
-fn fault_of(wrong: Wrong) -> Fault {
-    match wrong {
-        Wrong::Unsound(block, why) => Fault::Unsound {
+// A fault by the numbers that tell of it, if the tables have it.
+fn wrong_of(fault: &Fault) -> Option<Wrong> {
+    Some(match *fault {
+        Fault::Unsound {
             block,
             why: Why::Node(why),
-        },
-        Wrong::NamedTwice(within, oid, xid) => Fault::NamedTwice { within, oid, xid },
-        Wrong::OwnedTwice(block) => Fault::OwnedTwice { block },
-        Wrong::Outside(block) => Fault::Outside { block },
-        Wrong::UnusedMapping(within, oid, xid) => Fault::UnusedMapping { within, oid, xid },
-        Wrong::Leaked(block) => Fault::Leaked { block },
-        Wrong::Missing(block) => Fault::Missing { block },
-        Wrong::PoolLeaked(block) => Fault::PoolLeaked { block },
-        Wrong::PoolMissing(block) => Fault::PoolMissing { block },
-        Wrong::SpaceCab(index) => Fault::SpaceCab { index },
-        Wrong::SpaceCib(index) => Fault::SpaceCib { index },
-        Wrong::SpaceIndex(chunk) => Fault::SpaceIndex { chunk },
-        Wrong::SpaceFreeCount(chunk) => Fault::SpaceFreeCount { chunk },
-        Wrong::PoolCount => Fault::PoolCount,
-        Wrong::PoolPlace(block) => Fault::PoolPlace { block },
-        Wrong::TreeRecord(root, item) => Fault::TreeRecord { root, item },
-        Wrong::Record(item, why) => Fault::Record {
+        } => Wrong::Unsound(block, why),
+        Fault::NamedTwice { within, oid, xid } => Wrong::NamedTwice(within, oid, xid),
+        Fault::OwnedTwice { block } => Wrong::OwnedTwice(block),
+        Fault::Outside { block } => Wrong::Outside(block),
+        Fault::UnusedMapping { within, oid, xid } => Wrong::UnusedMapping(within, oid, xid),
+        Fault::Leaked { block } => Wrong::Leaked(block),
+        Fault::Missing { block } => Wrong::Missing(block),
+        Fault::PoolLeaked { block } => Wrong::PoolLeaked(block),
+        Fault::PoolMissing { block } => Wrong::PoolMissing(block),
+        Fault::SpaceCab { index } => Wrong::SpaceCab(index),
+        Fault::SpaceCib { index } => Wrong::SpaceCib(index),
+        Fault::SpaceIndex { chunk } => Wrong::SpaceIndex(chunk),
+        Fault::SpaceFreeCount { chunk } => Wrong::SpaceFreeCount(chunk),
+        Fault::PoolCount => Wrong::PoolCount,
+        Fault::PoolPlace { block } => Wrong::PoolPlace(block),
+        Fault::TreeRecord { root, item } => Wrong::TreeRecord(root, item),
+        Fault::Record {
             slot: 0,
             xid: 1,
             item,
             why,
-        },
-        Wrong::DataUnreached(block, length) => Fault::DataUnreached {
+        } => Wrong::Record(item, why),
+        Fault::DataUnreached {
             slot: 0,
             block,
             length,
-        },
-        Wrong::DataCount(block, stored, streams) => Fault::DataCount {
+        } => Wrong::DataUnreached(block, length),
+        Fault::DataCount {
             slot: 0,
             block,
             stored,
             streams,
-        },
-    }
+        } => Wrong::DataCount(block, stored, streams),
+        _ => return None,
+    })
 }
 
 // The note that is meant.
@@ -193,7 +194,7 @@ fn is_as_said(answer: &Result<Report, Stop<Fault>>, said: Said) -> bool {
         (Ok(report), Said::Clean(want, notes)) => {
             numbers_of(report) == want && are_notes(&report.notes, notes)
         }
-        (Err(Stop::Found(fault)), Said::Fault(wrong)) => *fault == fault_of(wrong),
+        (Err(Stop::Found(fault)), Said::Fault(wrong)) => wrong_of(fault) == Some(wrong),
         (Err(Stop::Unsupported { feature, block }), Said::Feature(want, at)) => {
             *feature == want && *block == at
         }
