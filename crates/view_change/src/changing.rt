@@ -1,4 +1,5 @@
 // The difference of a view from the one before, leaf by leaf.
+ghost use Rattle.std.specs.Bool.{then_some};
 ghost use Rattle.std.specs.Prelude.{◌≡◌, ◌+◌, ◌<◌, ◌≤◌, ◌++◌, [], ◌∷◌, ℕ, List, length, take, drop, Some, None, true, false, IfOk, IfErr, IfSome, IfNone, IsErrOf, IsTrue, OnOk, option_to_list};
 ghost use Rattle.apfs_model.specs.Counts.{Rose};
 ghost use Rattle.apfs_model.specs.Kept.{IsKept};
@@ -254,35 +255,37 @@ impl Changing {
         Ok(())
     }
 
-    // Puts all facts of the view after into one place, once all leaves are taken, and tells whether it is known that they are in order.
-    fn close<K: TreeKey>(&mut self) -> Result<bool, NoMemory>
-        ensures order { IfOk result (λ known. IsTrue known → AreInOrder self.new.after.facts) }
-        ensures held { (start : State) (site : Place) (image : List ℕ) (leaves : List One) → HasChanged K.shape site image leaves start self.old → OnOk result (IsHeld K.shape site image (facts_before start).names leaves self.new.after) }
-        ensures change { (start : State) (site : Place) (image : List ℕ) (leaves : List One) → HasChanged K.shape site image leaves start self.old → OnOk result (self.new.follows ≡ true → HasDifference (facts_before start) self.new.after.facts (record { gone = self.new.gone; come = self.new.come })) }
+    // Takes out what is kept, and what has changed where that is followed.
+    fn take_changed<K: TreeKey>(&mut self, in_order: bool) -> Changed
+        requires { IsTrue in_order → AreInOrder self.old.after.facts }
+        ensures held { result.after.held ≡ self.old.after }
+        ensures change { result.change ≡ then_some self.old.follows (record { gone = self.old.gone; come = self.old.come }) }
+    {
+        let names = self.after.names();
+        let held = replace(&mut self.after, Held::nothing::<K>(self.alloc, names));
+        let gone = replace(&mut self.gone, no_facts(self.alloc, names));
+        let come = replace(&mut self.come, no_facts(self.alloc, names));
+        Changed {
+            after: KeptView { held, in_order },
+            change: self.follows.then_some(Change { gone, come }),
+        }
+    }
+
+    // What is kept, once all leaves are taken, and what has changed, where it was followed. Both are taken out.
+    fn close<K: TreeKey>(&mut self) -> Result<Changed, NoMemory>
+        ensures { (start : State) (site : Place) (image : List ℕ) (leaves : List One) → HasChanged K.shape site image leaves start self.old → IfOk result (IsDifference K.shape site image leaves (facts_before start)) }
     {
         self.end::<K>()?;
         let known = self.stock.whole(self.alloc, &mut self.after.facts)?;
-        Ok(are_known(known, &self.after.facts))
+        let in_order = are_known(known, &self.after.facts);
+        Ok(self.take_changed::<K>(in_order))
     }
 
     /// What is kept, once all leaves are taken, and what has changed, where it was followed.
     pub fn finish<K: TreeKey>(mut self) -> Result<Changed, NoMemory>
         ensures { (start : State) (site : Place) (image : List ℕ) (leaves : List One) → HasChanged K.shape site image leaves start self → IfOk result (IsDifference K.shape site image leaves (facts_before start)) }
     {
-        let in_order = self.close::<K>()?;
-        let Changing {
-            alloc: _,
-            leaves: _,
-            stock: _,
-            after: held,
-            follows,
-            passed: _,
-            gone,
-            come,
-        } = self;
-        let after = KeptView { held, in_order };
-        let change = follows.then_some(Change { gone, come });
-        Ok(Changed { after, change })
+        self.close::<K>()
     }
 }
 
