@@ -132,11 +132,10 @@ module _ {K : Type 0} (shape : Shape K) (site : Site) (image : List ℕ) where
 
   -- it is told what is gone and what has come
   pub settles : (start now new : Changing) (leaves : List Leaf) (left : List KeptLeaf) → new.after.leaves ≡ now.after.leaves → new.after.records ≡ now.after.records → new.follows ≡ now.follows
-      → new.stock.0 ≡ now.stock.0 → new.stock.1 ≡ joined now.stock.1 now.after.facts → new.passed ≡ no_facts_under now.after.facts.names → new.after.facts ≡ no_facts_under now.after.facts.names
+      → new.stock.0 ≡ now.stock.0 → new.stock.1 ≡ joined now.stock.1 now.after.facts → new.passed ≡ no_facts_under now.passed.names → new.after.facts ≡ no_facts_under now.after.facts.names
       → AreSettled now.passed now.after.facts now.gone new.gone now.come new.come → HasChangedTo shape site image leaves start left now → HasSettledTo shape site image leaves start left new
   settles start now new leaves left listed counted on stays put passed read told so =
       let before = facts_before start in
-      let named = view-names before.names leaves (held_after now) so.view in
       let held : held_after new ≡ held_after now = (λ i. record { leaves = listed i; facts = behind (put i) (read i); records = counted i }) ∙ ap (λ (f : Facts). record { leaves = now.after.leaves; facts = f; records = now.after.records }) (put-behind now.stock.1 now.after.facts now.after.facts.names refl) in
       record {
         changed = record {
@@ -145,10 +144,10 @@ module _ {K : Type 0} (shape : Shape K) (site : Site) (image : List ℕ) where
           followed = λ follows. let had = so.followed (sym on ∙ follows) in record {
             settled = joined had.settled now.passed;
             same = joined had.same (same_of told);
-            split = had.split ∙ ((λ i. joined (sym (joined-none (joined had.settled now.passed) now.after.facts.names) i) (sym stays i)) ∙ ap (λ (f : Facts). joined (joined (joined had.settled now.passed) f) new.stock.0) (sym passed));
+            split = had.split ∙ ((λ i. joined (sym (joined-none (joined had.settled now.passed) now.passed.names) i) (sym stays i)) ∙ ap (λ (f : Facts). joined (joined (joined had.settled now.passed) f) new.stock.0) (sym passed));
             lost = gone-settled had.lost told;
             made = subst (λ (f : Facts). AreWoven f (joined had.same (same_of told)) new.come) (sym put) (come-settled had.made told);
-            passed_names = ap (λ (f : Facts). f.names) passed ∙ named;
+            passed_names = ap (λ (f : Facts). f.names) passed ∙ had.passed_names;
             gone_names = told.gone_names ∙ had.gone_names;
             come_names = told.come_names ∙ had.come_names;
           };

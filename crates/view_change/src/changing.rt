@@ -169,11 +169,14 @@ impl Changing {
         if are_none(&self.passed) && are_none(&self.after.facts) {
             return Ok(());
         }
-        let none = no_facts(self.alloc, self.after.names());
-        let passed = replace(&mut self.passed, none);
-        let mut read = self.after.take_facts(self.alloc);
-        settle(self.alloc, passed, &read, &mut self.gone, &mut self.come)?;
-        self.stock.put(self.alloc, &mut read)?;
+        settle(
+            self.alloc,
+            &mut self.passed,
+            &self.after.facts,
+            &mut self.gone,
+            &mut self.come,
+        )?;
+        self.stock.put(self.alloc, &mut self.after.facts)?;
         Ok(())
     }
 

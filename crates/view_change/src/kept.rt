@@ -10,7 +10,6 @@ use apfs_model::NoMemory;
 use bt_node::TreeKey;
 use fs_name::Names;
 use std::alloc::Global;
-use std::mem::replace;
 use view_facts::Facts;
 
 /// How many facts of each kind there are.
@@ -110,16 +109,6 @@ impl Held {
         ensures facts { result.1 ≡ self.facts }
     {
         (self.leaves, self.facts)
-    }
-
-    /// Takes the facts out.
-    pub(crate) fn take_facts(&mut self, alloc: Global) -> Facts
-        ensures taken { result ≡ self.old.facts }
-        ensures left { self.new.facts ≡ no_facts_under self.old.facts.names }
-        ensures same { (self.new.leaves ≡ self.old.leaves) × (self.new.records ≡ self.old.records) }
-    {
-        let none = no_facts(alloc, self.facts.names);
-        replace(&mut self.facts, none)
     }
 
     /// Puts a leaf after the others. Its facts are put by the caller.

@@ -60,10 +60,11 @@ impl<T: Drop, B: Follows<T>> LazyRing<T, B> {
         Ok(())
     }
 
-    /// Puts items behind those of the view after.
+    /// Moves items behind those of the view after.
     pub(crate) fn put(&mut self, alloc: Global, items: &mut Vec<T>) -> Result<(), NoMemory>
         ensures left { OnOk result (self.new.0 ≡ self.old.0) }
         ensures taken { OnOk result (self.new.1 ≡ self.old.1 ++ items.old.items) }
+        ensures none { items.new.items ≡ [] }
     {
         let waiting = replace(&mut self.waiting, 0);
         self.ring.keep(waiting);

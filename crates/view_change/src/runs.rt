@@ -1,10 +1,11 @@
 // What two runs of leaves have more and less than one another: each of one view, between two leaves that both views have.
-ghost use Rattle.std.specs.Prelude.{◌≡◌, ◌≤◌, ◌++◌, length, slice_get, Some, IsTrue, OnOk};
+ghost use Rattle.std.specs.Prelude.{◌≡◌, ◌≤◌, ◌++◌, [], length, slice_get, Some, IsTrue, OnOk};
 ghost use Rattle.view_change.specs.Numbers.{no_facts_under};
 ghost use Rattle.view_change.specs.Settled.{IsSettled, AreSettled};
 
 use apfs_model::NoMemory;
 use std::alloc::Global;
+use std::mem::replace;
 use view_facts::{Facts, KeptFact};
 
 // Adds copies of some facts to others.
@@ -42,7 +43,7 @@ fn is_at<T: KeptFact>(facts: &[T], place: usize, fact: &T) -> bool
 }
 
 // Tells which of some facts that were passed are gone, and which of some that were read have come: those that aren't found in both, one after the other.
-fn settle_kind<T: KeptFact>(
+fn settle_each<T: KeptFact>(
     alloc: Global,
     passed: Vec<T>,
     read: &[T],
@@ -66,54 +67,70 @@ fn settle_kind<T: KeptFact>(
     Ok(())
 }
 
-/// Tells which of the facts that were passed are gone, and which of those that were read have come.
+// The same, where those that were passed are taken out.
+fn settle_kind<T: KeptFact>(
+    alloc: Global,
+    passed: &mut Vec<T>,
+    read: &[T],
+    gone: &mut Vec<T>,
+    come: &mut Vec<T>,
+) -> Result<(), NoMemory>
+    ensures settled { OnOk result (IsSettled passed.old.items read.now gone.old.items gone.new.items come.old.items come.new.items) }
+    ensures none { passed.new.items ≡ [] }
+{
+    let all = replace(passed, Vec::new(alloc));
+    settle_each(alloc, all, read, gone, come)
+}
+
+/// Tells which of the facts that were passed are gone, and which of those that were read have come. Those that were passed are taken out.
 pub(crate) fn settle(
     alloc: Global,
-    passed: Facts,
+    passed: &mut Facts,
     read: &Facts,
     gone: &mut Facts,
     come: &mut Facts,
 ) -> Result<(), NoMemory>
-    ensures { OnOk result (AreSettled passed read.now gone.old gone.new come.old come.new) }
+    ensures settled { OnOk result (AreSettled passed.old read.now gone.old gone.new come.old come.new) }
+    ensures none { OnOk result (passed.new ≡ no_facts_under passed.old.names) }
 {
     settle_kind(
         alloc,
-        passed.inodes,
+        &mut passed.inodes,
         &read.inodes,
         &mut gone.inodes,
         &mut come.inodes,
     )?;
     settle_kind(
         alloc,
-        passed.entries,
+        &mut passed.entries,
         &read.entries,
         &mut gone.entries,
         &mut come.entries,
     )?;
     settle_kind(
         alloc,
-        passed.attributes,
+        &mut passed.attributes,
         &read.attributes,
         &mut gone.attributes,
         &mut come.attributes,
     )?;
     settle_kind(
         alloc,
-        passed.links,
+        &mut passed.links,
         &read.links,
         &mut gone.links,
         &mut come.links,
     )?;
     settle_kind(
         alloc,
-        passed.siblings,
+        &mut passed.siblings,
         &read.siblings,
         &mut gone.siblings,
         &mut come.siblings,
     )?;
     settle_kind(
         alloc,
-        passed.extents,
+        &mut passed.extents,
         &read.extents,
         &mut gone.extents,
         &mut come.extents,

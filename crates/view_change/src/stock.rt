@@ -77,10 +77,11 @@ impl Stock {
         self.extents.pass(numbers.extents, &mut to.extents)
     }
 
-    /// Puts facts behind those of the view after.
+    /// Moves facts behind those of the view after.
     pub(crate) fn put(&mut self, alloc: Global, facts: &mut Facts) -> Result<(), NoMemory>
         ensures left { OnOk result (self.new.0 ≡ self.old.0) }
         ensures taken { OnOk result (self.new.1 ≡ joined self.old.1 facts.old) }
+        ensures none { OnOk result (facts.new ≡ no_facts_under facts.old.names) }
     {
         self.inodes.put(alloc, &mut facts.inodes)?;
         self.entries.put(alloc, &mut facts.entries)?;

@@ -1,6 +1,6 @@
 use Rattle.std.proofs.Common.{◌≤◌, length, take}
 use Rattle.view_change.specs.Settled.{IsSettled}
-use Rattle.view_change.proofs.runs.settle_kind.Given as goal
+use Rattle.view_change.proofs.runs.settle_each.Given as goal
 
 abbrev pub invariant-passed : goal.invariant-passed
 invariant-passed g l = record {

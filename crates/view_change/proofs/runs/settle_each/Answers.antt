@@ -5,7 +5,7 @@ use Rattle.std.proofs.lemmas.List.{map-id}
 use Rattle.std.proofs.lemmas.Option.{slice_get_within}
 use Rattle.view_change.specs.Settled.{IsSettled}
 use Rattle.view_change.proofs.Settles.{settled-none, settled-to, settled-rest, settled-at, settled-lost}
-use Rattle.view_change.proofs.runs.settle_kind.Goals as goal
+use Rattle.view_change.proofs.runs.settle_each.Goals as goal
 
 pub passed-init : goal.passed-init
 passed-init g c = record { within = omega arith; told = settled-none c.args.gone.now.items c.args.come.now.items }
