@@ -3,7 +3,7 @@ use apfs_check::Fault;
 
 /// A fault that is named: of the container, of a view whose blocks can't be counted, of what can't be put into a folder, or of
 /// the table of a disk's partitions.
-#[derive(PartialEq, Drop)]
+#[derive(Drop)]
 pub enum Named {
     /// One of the container.
     InContainer(Fault),

@@ -81,7 +81,8 @@ fn note_hash(rt: HostRuntime) -> Result<(), Fail> {
 #[test]
 fn fault_name_hash(rt: HostRuntime) -> Result<(), Fail> {
     let alloc = rt.alloc();
-    let Err(Stop::Found(Fault::NameHash(at))) = told(alloc, other_hash(alloc)?, Profile::Strict) else {
+    let Err(Stop::Found(Fault::NameHash(at))) = told(alloc, other_hash(alloc)?, Profile::Strict)
+    else {
         panic!(rt; "the name's hash isn't at fault");
     };
     assert!(rt; at == named(alloc)?);
