@@ -123,7 +123,6 @@ impl<K: TreeKey, N: Namer> Liner<K, N> {
     }
 
     // Moves onto the next item, by what was seen so far.
-    #[tactic(auto, using(crate::proofs::Nodes::step_few))]
     fn step<S: BlockSource>(&mut self, src: &mut S) -> Result<bool, Stop<WalkFault>>
         requires site { IsSiteFor (site_of self.old) (S.bytes_len src.old) }
         ensures site { site_of self.new ≡ site_of self.old }
@@ -142,8 +141,10 @@ impl<K: TreeKey, N: Namer> Liner<K, N> {
         ensures no_memory { IsErrOf result NoMemory → ⊥ }
         ensures kept { IsKept S.bytes S.bytes_len S.faults src.old src.new }
     {
-        fall::<K, S, N>(src, &self.namer, &self.site, &mut self.way, self.deep)?;
-        self.deep = false;
+        match fall::<K, S, N>(src, &self.namer, &self.site, &mut self.way, self.deep) {
+            Ok(()) => self.deep = false,
+            Err(stop) => return Err(stop),
+        }
         if !climb::<K>(&self.site, &mut self.way) {
             if fits(self.seen) {
                 return Ok(false);
