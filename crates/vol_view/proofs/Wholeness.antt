@@ -1,5 +1,5 @@
 -- A volume whose parts were loaded: how its records agree, its snapshots, and the whole.
-use Rattle.std.specs.Prelude.{◌≡◌, ℕ, ◌+◌, ◌<◌, ◌++◌, Result, Ok, Err, IfOk, Bool, true, cond, ◌&&◌, ◌||◌, ◌==◌, List, [], ◌∷◌, length, map, refl, bytes_eq}
+use Rattle.std.specs.Prelude.{◌≡◌, ℕ, ◌+◌, ◌<◌, ◌++◌, Result, Ok, Err, IfOk, IfErr, Bool, true, cond, ◌&&◌, ◌||◌, ◌==◌, List, [], ◌∷◌, length, map, refl, bytes_eq}
 use Rattle.std.specs.List.{list_all, list_any}
 use Rattle.std.proofs.lemmas.List.{length-map, map-append, take_more}
 use Rattle.omap_map.proofs.Lists.{contains-in}
@@ -8,6 +8,7 @@ use Rattle.apfs_model.specs.Lists.{In, are_distinct}
 use Rattle.apfs_model.proofs.BoolTests.{left-true}
 use Rattle.apfs_model.proofs.Searches.{from-map, in-map, in-append}
 use Rattle.obj_base.specs.Stops.{Tells, NoFeature, IsFree}
+use Rattle.obj_base.specs.declared.stop.Feature.{Feature}
 use Rattle.obj_base.specs.declared.stop.Stop.{Stop}
 use Rattle.obj_base.specs.declared.stop.Stop.TheVariants.{Found, Unsupported, ReadFault, NoMemory}
 use Rattle.obj_base.specs.declared.stop.Within.TheVariants.{Physical, Ephemeral, Container, Volume}
@@ -299,3 +300,19 @@ parts-of image r s head bytes b1 b2 b3 contents snapshots later names further sa
 pub made-volume : (P : Loaded → Type 0) (r : Result Loaded (Stop VolStop)) (volume : Loaded) → IfOk r (λ made. made ≡ volume) → P volume → IfOk r P
 made-volume P (Ok made) volume e h = subst P (sym e) h
 made-volume P (Err stop) volume e h = tt
+
+-- a stop that is free tells of nothing
+pub free-tells : (is_stop : VolStop → Type 0) (is_feature : Feature → ℕ → Type 0) (stop : Stop VolStop) → IsFree stop → Tells is_stop is_feature stop
+free-tells is_stop is_feature (Found f) h = absurd h
+free-tells is_stop is_feature (Unsupported name at) h = absurd h
+free-tells is_stop is_feature ReadFault h = tt
+free-tells is_stop is_feature NoMemory h = tt
+
+-- nor does one that is of memory
+pub memory-free : {X : Type 0} (r : Result X (Stop VolStop)) → IfErr r (λ stop. stop ≡ NoMemory) → IfErr r IsFree
+memory-free (Ok x) e = tt
+memory-free (Err stop) e = subst IsFree (sym e) tt
+
+pub memory-tells : {X : Type 0} (is_stop : VolStop → Type 0) (is_feature : Feature → ℕ → Type 0) (r : Result X (Stop VolStop)) → IfErr r (λ stop. stop ≡ NoMemory) → IfErr r (Tells is_stop is_feature)
+memory-tells is_stop is_feature (Ok x) e = tt
+memory-tells is_stop is_feature (Err stop) e = subst (Tells is_stop is_feature) (sym e) tt

@@ -97,7 +97,10 @@ pub fn heads<S: BlockSource>(
             Ok(head) => head,
             Err(stop) => return Err(stop),
         };
-        add(&mut heads, head)?;
+        match add(&mut heads, head) {
+            Ok(()) => {}
+            Err(stop) => return Err(stop),
+        }
     }
     Ok(heads)
 }

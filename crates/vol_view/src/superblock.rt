@@ -50,7 +50,7 @@ fn raise(stop: Stop<Unsound<HeadFault>>) -> Stop<VolStop>
 
 /// The superblock of a volume in a block, or the first test that fails: those of the header, then the magic. An oid that
 /// is left out isn't tested.
-#[tactic(auto, using(crate::proofs::Supers::raise_head, crate::proofs::Supers::long_enough), unfolding(blk_read::specs::Object::sound_object))]
+#[tactic(auto, using(crate::proofs::Supers::long_enough), unfolding(blk_read::specs::Object::sound_object))]
 pub(crate) fn superblock<S: BlockSource>(
     alloc: Global,
     src: &mut S,

@@ -1,4 +1,4 @@
-use Rattle.std.proofs.Common.{◌≡◌, ◌∙◌, ◌≤◌, ◌+◌, [], ap, sym, subst, arith}
+use Rattle.std.proofs.Common.{◌≡◌, ◌∙◌, ◌≤◌, ◌+◌, [], refl, ap, sym, subst, arith}
 use Rattle.obj_base.specs.Stops.{Tells}
 use Rattle.nx_ring.specs.Checkpoint.{site_of}
 use Rattle.vol_view.specs.Features.{volume_features}
@@ -9,8 +9,12 @@ use Rattle.vol_view.specs.ReadBound.{metadata_nodes, load_reads}
 use Rattle.vol_view.specs.Volumes.{super_of, loaded_by}
 use Rattle.vol_view.specs.LoadStops.{IsLoadStop, IsLoadFeature, IsVolumeOf}
 use Rattle.vol_view.specs.Gathered.{IsStopOfOne, IsFeatureOfOne, AreSnapshots}
-use Rattle.vol_view.proofs.Wholeness.{parts-of, agree-tells, snapshots-tell, parts-volume, made-volume, load-free}
+use Rattle.vol_view.proofs.Wholeness.{parts-of, agree-tells, snapshots-tell, parts-volume, made-volume, load-free, free-tells, memory-free, memory-tells}
 use Rattle.vol_view.proofs.loading.load.Goals as goal
+
+pub returns-in-Err-clause-present : goal.returns-in-Err-clause-present
+returns-in-Err-clause-present g c image told =
+    free-tells (IsLoadStop image (site_of c.args.cp.now) c.args.head.now) (IsLoadFeature image (site_of c.args.cp.now) c.args.head.now) c.in-Err.stop c.in-Err.ensures.free
 
 pub returns-in-Err-volume_map-clause-present : goal.returns-in-Err-volume_map-clause-present
 returns-in-Err-volume_map-clause-present g c image told =
@@ -95,3 +99,62 @@ returns-clause-reads g c image told =
     let snaps = c.in-Ok-snapshots.snaps.items in
     made-volume (λ volume. g.S.BlockSource.reads c.snapshots.new.src ≤ g.S.BlockSource.reads c.args.src.now + load_reads image site head volume.snaps) c.made.result (loaded_by head c.deref-8.result.now c.in-Ok-volume_map.omap c.in-Ok-gathered.metadata.steps.items snaps) c.made.ensures.same
     (omega (arith, mapped, walked, c.superblock_of.ensures.reads, c.in-Ok-volume_map.ensures.reads image told1, c.in-Ok-gathered.ensures.reads image told2, c.in-Ok-snapshots.ensures.reads))
+
+pub returns-in-Err-test-clause-clear : goal.returns-in-Err-test-clause-clear
+returns-in-Err-test-clause-clear g c image told = tt
+
+pub returns-in-Err-test-clause-same : goal.returns-in-Err-test-clause-same
+returns-in-Err-test-clause-same g c = tt
+
+pub returns-in-Err-test-clause-reads : goal.returns-in-Err-test-clause-reads
+returns-in-Err-test-clause-reads g c image told = tt
+
+pub returns-in-Err-volume_map-clause-clear : goal.returns-in-Err-volume_map-clause-clear
+returns-in-Err-volume_map-clause-clear g c image told = tt
+
+pub returns-in-Err-volume_map-clause-same : goal.returns-in-Err-volume_map-clause-same
+returns-in-Err-volume_map-clause-same g c = tt
+
+pub returns-in-Err-volume_map-clause-reads : goal.returns-in-Err-volume_map-clause-reads
+returns-in-Err-volume_map-clause-reads g c image told = tt
+
+pub returns-in-Err-gathered-clause-clear : goal.returns-in-Err-gathered-clause-clear
+returns-in-Err-gathered-clause-clear g c image told = tt
+
+pub returns-in-Err-gathered-clause-same : goal.returns-in-Err-gathered-clause-same
+returns-in-Err-gathered-clause-same g c = tt
+
+pub returns-in-Err-gathered-clause-reads : goal.returns-in-Err-gathered-clause-reads
+returns-in-Err-gathered-clause-reads g c image told = tt
+
+pub returns-in-Err-agree-clause-clear : goal.returns-in-Err-agree-clause-clear
+returns-in-Err-agree-clause-clear g c image told = tt
+
+pub returns-in-Err-agree-clause-same : goal.returns-in-Err-agree-clause-same
+returns-in-Err-agree-clause-same g c = tt
+
+pub returns-in-Err-agree-clause-reads : goal.returns-in-Err-agree-clause-reads
+returns-in-Err-agree-clause-reads g c image told = tt
+
+pub returns-in-Err-snapshots-clause-clear : goal.returns-in-Err-snapshots-clause-clear
+returns-in-Err-snapshots-clause-clear g c image told = tt
+
+pub returns-in-Err-snapshots-clause-same : goal.returns-in-Err-snapshots-clause-same
+returns-in-Err-snapshots-clause-same g c = tt
+
+pub returns-in-Err-snapshots-clause-reads : goal.returns-in-Err-snapshots-clause-reads
+returns-in-Err-snapshots-clause-reads g c image told = tt
+
+pub returns-in-Err-clause-exact : goal.returns-in-Err-clause-exact
+returns-in-Err-clause-exact g c image told right = c.in-Err.ensures.free
+
+pub returns-clause-same : goal.returns-clause-same
+returns-clause-same g c =
+    made-volume (λ volume. volume.head ≡ c.args.head.now) c.made.result (loaded_by c.args.head.now c.deref-8.result.now c.in-Ok-volume_map.omap c.in-Ok-gathered.metadata.steps.items c.in-Ok-snapshots.snaps.items) c.made.ensures.same refl
+
+pub returns-clause-exact : goal.returns-clause-exact
+returns-clause-exact g c image told right = memory-free c.made.result c.made.ensures.memory_only
+
+pub returns-clause-present : goal.returns-clause-present
+returns-clause-present g c image told =
+    memory-tells (IsLoadStop image (site_of c.args.cp.now) c.args.head.now) (IsLoadFeature image (site_of c.args.cp.now) c.args.head.now) c.made.result c.made.ensures.memory_only

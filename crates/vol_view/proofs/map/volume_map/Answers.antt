@@ -14,3 +14,12 @@ returns-in-Err-clause-present g c image told head same =
 pub returns-then-has_marked-clause-present : goal.returns-then-has_marked-clause-present
 returns-then-has_marked-clause-present g c image told head same =
     map-marked image c.args.site.now head c.omap_oid-block.result c.in-Ok.omap (c.in-Ok.ensures.clear image told) (c.omap_oid-block.ensures ∙ ap omap_oid_of same) (sym c.has_marked.ensures ∙ c.if-has_marked.true)
+
+pub returns-then-has_marked-clause-clear : goal.returns-then-has_marked-clause-clear
+returns-then-has_marked-clause-clear g c image told = tt
+
+pub returns-then-has_marked-clause-reads : goal.returns-then-has_marked-clause-reads
+returns-then-has_marked-clause-reads g c image told = tt
+
+pub returns-clause-present : goal.returns-clause-present
+returns-clause-present g c image told head same = tt

@@ -43,3 +43,6 @@ returns-clause-clear g c image told =
       };
       same = snapshot-same from.xid from.created from.name c.in_ok-name.name block from.extents_root c.root_oid.result c.meta_ext.result _ _ (c.in_ok-name.ensures ∙ c.as_slice.ensures) root meta;
     }
+
+pub returns-clause-present : goal.returns-clause-present
+returns-clause-present g c image told = tt
