@@ -53,3 +53,24 @@ returns-then-not-more-clause-ordered g c = let done = all g c in record { items 
 
 pub returns-then-not-more-clause-reads : goal.returns-then-not-more-clause-reads
 returns-then-not-more-clause-reads g c image told = ((all g c).walked image told).few
+
+pub returns-in-Err-take_next-clause-clear : goal.returns-in-Err-take_next-clause-clear
+returns-in-Err-take_next-clause-clear g c image told = tt
+
+pub returns-in-Err-take_next-clause-ordered : goal.returns-in-Err-take_next-clause-ordered
+returns-in-Err-take_next-clause-ordered g c = tt
+
+pub returns-in-Err-take_next-clause-reads : goal.returns-in-Err-take_next-clause-reads
+returns-in-Err-take_next-clause-reads g c image told = tt
+
+pub returns-then-not-more-clause-present : goal.returns-then-not-more-clause-present
+returns-then-not-more-clause-present g c image told = tt
+
+pub returns-then-not-more-clause-refused : goal.returns-then-not-more-clause-refused
+returns-then-not-more-clause-refused g c = tt
+
+pub returns-then-not-more-clause-exact : goal.returns-then-not-more-clause-exact
+returns-then-not-more-clause-exact g c image told whole none = tt
+
+pub returns-in-Err-take_next-clause-refused : goal.returns-in-Err-take_next-clause-refused
+returns-in-Err-take_next-clause-refused g c = c.in-Err-take_next.ensures.refused

@@ -60,3 +60,9 @@ returns-then-not-kept-clause-present g c start had image told =
     c.in-Ok.ensures.tree c.in-Ok.ensures.root
     (subst (λ b. Passes image had.passed old new b) on (c.in-Ok.ensures.passed image told had.passed (had.walked image told).has))
     (sym (ap g.P.Keeper.refuses same) ∙ wrong)
+
+pub returns-then-not-more-clause-fuel : goal.returns-then-not-more-clause-fuel
+returns-then-not-more-clause-fuel g c more = absurd (cc)
+
+pub returns-clause-fuel : goal.returns-clause-fuel
+returns-clause-fuel g c moved = c.in-Ok.ensures.fuel (search rules)
