@@ -1,5 +1,5 @@
-use Rattle.std.proofs.Common.{◌≡◌, ◌+◌, ◌-◌, ◌<◌, nat_lt, true, false, refl, ap, sym, ◌∙◌, subst, arith, rules}
-use Rattle.bt_node.specs.Node.{level_of, count_of}
+use Rattle.std.proofs.Common.{◌≡◌, ◌+◌, ◌-◌, nat_lt, true, false, refl, ap, sym, ◌∙◌, subst, arith, rules}
+use Rattle.bt_node.specs.Node.{level_of}
 use Rattle.bt_node.specs.Entries.{pair_of}
 use Rattle.bt_cursor.specs.Tree.{tree_in, look_in}
 use Rattle.bt_cursor.specs.Line.{item_at}
