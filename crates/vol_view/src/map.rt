@@ -63,7 +63,6 @@ fn test(omap: &Omap, block: u64) -> Result<(), Stop<VolStop>>
 }
 
 /// The container's object map, where it is whole and has no feature.
-#[tactic(auto, using(crate::proofs::SlotsLemmas::raise_tells))]
 pub(crate) fn container_map<S: BlockSource>(
     alloc: Global,
     src: &mut S,
