@@ -5,6 +5,7 @@ use Rattle.std.specs.List.{find, cons_option, take_while, flat_map, range_with_l
 use Rattle.std.proofs.lemmas.Bool.{false≢true}
 use Rattle.std.proofs.lemmas.List.Sums.{take_while-cons}
 use Rattle.apfs_model.specs.Blocks.{block_of}
+use Rattle.apfs_model.specs.Kept.{IsKept}
 use Rattle.apfs_model.specs.Lists.{In, value_of, through}
 use Rattle.apfs_model.proofs.BoolTests.{from-range}
 use Rattle.apfs_model.proofs.Searches.{from-map, from-flat_map}
@@ -242,6 +243,10 @@ moved_on image old new false moved e = absurd (false≢true e)
 -- a record by its parts
 pub pair_same : (key : List ℕ) (value : Option (List ℕ)) (pair : Pair) → key ≡ pair.key → value ≡ pair.value → pair_by key value ≡ pair
 pair_same key value pair e f = ap₂ pair_by e f
+
+-- what a source keeps over some calls, and then over some more, it keeps over all of them
+pub kept_on : {S : Type 0} {bytes : S → Option (List ℕ)} {size faults : S → ℕ} {old mid new : S} → IsKept bytes size faults old mid → IsKept bytes size faults mid new → IsKept bytes size faults old new
+kept_on one other = record { same_bytes = other.same_bytes ∙ one.same_bytes; same_size = other.same_size ∙ one.same_size; later = omega (arith, one.later, other.later) }
 
 -- what a walk tells of a tree and a root it tells of the same ones
 pub tells_same : {K : Type 0} (tree other : List ℕ → Tree K) (root same : ℕ) (image : List ℕ) (stop : Stop WalkFault) → other ≡ tree → same ≡ root → Tells (IsNodeFault (other image) same) (HasFeature (other image) same) stop → Tells (IsNodeFault (tree image) root) (HasFeature (tree image) root) stop

@@ -11,7 +11,7 @@ use Rattle.path_search.specs.Found.{entries_in, entry_named, has_name, has_form}
 use Rattle.path_search.specs.Parts.{whats, HasKindIn, HasEntriesIn}
 use Rattle.path_search.proofs.Chosen.{among_same, among_alike}
 use Rattle.path_search.proofs.Needed.{if_as, in_same}
-use Rattle.path_search.proofs.Searched.{tells_same, some_at, flat_same, ordered_same}
+use Rattle.path_search.proofs.Searched.{kept_on, tells_same, some_at, flat_same, ordered_same}
 use Rattle.path_search.proofs.by_search.candidates.Goals as goal
 
 pub returns-then-not-is_empty-clause-found : goal.returns-then-not-is_empty-clause-found
@@ -49,3 +49,9 @@ pub returns-clause-present : goal.returns-clause-present
 returns-clause-present g c image told on =
     tells_same (tree_of c.args.cursor.now) (tree_of c.find_entries.new.cursor) (root_of c.args.cursor.now) (root_of c.find_entries.new.cursor) image c.in-Err-find_entries.stop c.in-Ok.ensures.tree c.in-Ok.ensures.root
     (c.in-Err-find_entries.ensures.present image (c.in-Ok.ensures.kept.same_bytes ∙ told) (c.in-Ok.ensures.within image told on))
+
+pub returns-in-Ok-find_entries-clause-kept : goal.returns-in-Ok-find_entries-clause-kept
+returns-in-Ok-find_entries-clause-kept g c = kept_on c.in-Ok.ensures.kept c.in-Ok-find_entries.ensures.kept
+
+pub returns-clause-kept : goal.returns-clause-kept
+returns-clause-kept g c = kept_on c.in-Ok.ensures.kept c.in-Err-find_entries.ensures.kept

@@ -7,7 +7,7 @@ use Rattle.fs_record.specs.Facts.{Fact}
 use Rattle.view_rules.specs.Facts.{Facts, facts_in}
 use Rattle.path_search.specs.Found.{entries_in}
 use Rattle.path_search.specs.Parts.{whats, targets_by, HasEntriesIn, NeedsIn}
-use Rattle.path_search.proofs.Searched.{tells_same, some_at, flat_same, ordered_same}
+use Rattle.path_search.proofs.Searched.{kept_on, tells_same, some_at, flat_same, ordered_same}
 use Rattle.path_search.proofs.Listed.{children_told}
 use Rattle.path_search.proofs.Needed.{in_same}
 use Rattle.path_search.specs.Needs.{HaveFiles}
@@ -41,3 +41,15 @@ returns-clause-needs g c image told on ordered =
     let files : HaveFiles facts (whats c.deref.result.now) =
     in_same (λ t r. NeedsIn (λ f h. HaveFiles f (whats c.deref.result.now)) c.args.names t r) (tree_of c.args.cursor.now) (tree_of c.directory.new.cursor) (root_of c.args.cursor.now) (root_of c.directory.new.cursor) image c.in-Ok.ensures.tree c.in-Ok.ensures.root led in
     (all, subst (λ l. HaveFiles facts l) (ap whats c.deref.ensures.value ∙ run) files)
+
+pub returns-in-Err-targets_at-clause-kept : goal.returns-in-Err-targets_at-clause-kept
+returns-in-Err-targets_at-clause-kept g c = kept_on c.in-Ok.ensures.kept c.in-Err-targets_at.ensures.kept
+
+pub returns-in_default-found-clause-kept : goal.returns-in_default-found-clause-kept
+returns-in_default-found-clause-kept g c = kept_on c.in-Ok.ensures.kept c.in-Ok-targets_at.ensures.kept
+
+pub returns-in_err-sorted-clause-kept : goal.returns-in_err-sorted-clause-kept
+returns-in_err-sorted-clause-kept g c = kept_on c.in-Ok.ensures.kept c.in-Ok-targets_at.ensures.kept
+
+pub returns-clause-kept : goal.returns-clause-kept
+returns-clause-kept g c = kept_on c.in-Ok.ensures.kept c.in-Ok-targets_at.ensures.kept

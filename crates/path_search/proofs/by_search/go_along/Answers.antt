@@ -6,7 +6,7 @@ use Rattle.view_rules.specs.Facts.{Facts, facts_in}
 use Rattle.path_search.specs.Places.{Place}
 use Rattle.path_search.specs.Parts.{along, by_part, Leads, HasEntriesIn, NeedsIn, PartNeeds, WhereLed}
 use Rattle.path_search.specs.declared.answer.Answer.{Answer}
-use Rattle.path_search.proofs.Searched.{tells_same, flat_same, ordered_same}
+use Rattle.path_search.proofs.Searched.{kept_on, tells_same, flat_same, ordered_same}
 use Rattle.path_search.proofs.Viewed.{leads_to, leads_err, led_to, led_err}
 use Rattle.path_search.proofs.Listed.{along_next, along_ends}
 use Rattle.path_search.proofs.Needed.{in_same, needs_next, needs_ends, needs_done}
@@ -59,11 +59,7 @@ loop-part-preserved g c = record {
   root = c.in-Ok.ensures.root ∙ c.loop-part.invariant.root;
   tree = c.in-Ok.ensures.tree ∙ c.loop-part.invariant.tree;
   within = λ image told on. c.in-Ok.ensures.within image (c.loop-part.invariant.kept.same_bytes ∙ told) (c.loop-part.invariant.within image told on);
-  kept = record {
-    same_bytes = c.in-Ok.ensures.kept.same_bytes ∙ c.loop-part.invariant.kept.same_bytes;
-    same_size = c.in-Ok.ensures.kept.same_size ∙ c.loop-part.invariant.kept.same_size;
-    later = omega (arith, c.in-Ok.ensures.kept.later, c.loop-part.invariant.kept.later);
-  };
+  kept = kept_on c.loop-part.invariant.kept c.in-Ok.ensures.kept;
   goes = λ image told on ordered.
       let flat : List Pair = flat_of (tree_of c.args.cursor.now image) (root_of c.args.cursor.now) in
       let facts : Facts = facts_in c.args.names flat in
@@ -103,3 +99,12 @@ returns-clause-needs g c image told on ordered =
     let facts : Facts = facts_in c.args.names (flat_of (tree_of c.args.cursor.now image) (root_of c.args.cursor.now)) in
     let end : c.loop-part.part-index ≡ length c.args.parts.now = omega arith in
     c.loop-part.invariant.needs image told on ordered (needs_done (λ (p : Bor (List ℕ)). p.now) facts (HasEntriesIn c.args.names (tree_of c.args.cursor.now image) (root_of c.args.cursor.now)) c.args.parts.now c.loop-part.part-index c.loop-part.place end)
+
+pub returns-in-Err-clause-kept : goal.returns-in-Err-clause-kept
+returns-in-Err-clause-kept g c = kept_on c.loop-part.invariant.kept c.in-Err.ensures.kept
+
+pub returns-in-Answered-clause-kept : goal.returns-in-Answered-clause-kept
+returns-in-Answered-clause-kept g c = kept_on c.loop-part.invariant.kept c.in-Ok.ensures.kept
+
+pub returns-in-Lost-clause-kept : goal.returns-in-Lost-clause-kept
+returns-in-Lost-clause-kept g c = kept_on c.loop-part.invariant.kept c.in-Ok.ensures.kept

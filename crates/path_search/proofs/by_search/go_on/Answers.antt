@@ -10,7 +10,7 @@ use Rattle.view_rules.specs.Facts.{Facts, facts_in, inode_at, is_directory}
 use Rattle.path_search.specs.Places.{Place}
 use Rattle.path_search.specs.Found.{entries_in, entry_named}
 use Rattle.path_search.specs.Parts.{whats, HasEntriesIn}
-use Rattle.path_search.proofs.Searched.{tells_same, some_at, flat_same, ordered_same}
+use Rattle.path_search.proofs.Searched.{kept_on, tells_same, some_at, flat_same, ordered_same}
 use Rattle.path_search.proofs.Known.{step_to, place_there}
 use Rattle.path_search.proofs.Needed.{has_file, step_to_needs}
 use Rattle.path_search.proofs.by_search.go_on.Goals as goal
@@ -54,3 +54,15 @@ returns-clause-needs g c image told on ordered =
     let inode : inode_at facts e.file_id ≡ Some c.in-Some-found.inode =
     ap (λ id. first_for id (inodes_of flat)) (sym c.file_id.ensures) ∙ subst (λ (ps : List Pair). first_for c.file_id.result (inodes_of ps) ≡ Some c.in-Some-found.inode) same found in
     step_to_needs facts (HasEntriesIn c.args.names (tree_of c.args.cursor.now image) (root_of c.args.cursor.now)) c.args.place.now c.args.name.now (entries_in facts c.args.place.now.id) e has refl chosen (has_file facts e.file_id c.in-Some-found.inode inode)
+
+pub returns-in-Err-find_inode-clause-kept : goal.returns-in-Err-find_inode-clause-kept
+returns-in-Err-find_inode-clause-kept g c = kept_on c.in-Ok.ensures.kept c.in-Err-find_inode.ensures.kept
+
+pub returns-in_default-found-clause-kept : goal.returns-in_default-found-clause-kept
+returns-in_default-found-clause-kept g c = kept_on c.in-Ok.ensures.kept c.in-Ok-find_inode.ensures.kept
+
+pub returns-in_err-next-clause-kept : goal.returns-in_err-next-clause-kept
+returns-in_err-next-clause-kept g c = kept_on c.in-Ok.ensures.kept c.in-Ok-find_inode.ensures.kept
+
+pub returns-clause-kept : goal.returns-clause-kept
+returns-clause-kept g c = kept_on c.in-Ok.ensures.kept c.in-Ok-find_inode.ensures.kept

@@ -7,7 +7,7 @@ use Rattle.path_search.specs.Places.{Place, target_of}
 use Rattle.path_search.specs.Found.{found}
 use Rattle.path_search.specs.Listing.{listed}
 use Rattle.path_search.specs.declared.target.Target.{Target}
-use Rattle.path_search.proofs.Searched.{tells_same, some_at, flat_same, ordered_same}
+use Rattle.path_search.proofs.Searched.{kept_on, tells_same, some_at, flat_same, ordered_same}
 use Rattle.path_search.proofs.Viewed.{leads_to, leads_err, led_to, led_err}
 use Rattle.path_search.proofs.Listed.{listing_found}
 use Rattle.path_search.proofs.Needed.{in_same, listing_needs, listing_ends}
@@ -52,3 +52,12 @@ pub returns-in-Err-listed-clause-present : goal.returns-in-Err-listed-clause-pre
 returns-in-Err-listed-clause-present g c image told on =
     tells_same (tree_of c.args.cursor.now) (tree_of c.locate.new.cursor) (root_of c.args.cursor.now) (root_of c.locate.new.cursor) image c.in-Err-listed.stop c.in-Ok.ensures.tree c.in-Ok.ensures.root
     (c.in-Err-listed.ensures.present image (c.in-Ok.ensures.kept.same_bytes ∙ told) (c.in-Ok.ensures.within image told on))
+
+pub returns-in-Ok-Some-clause-kept : goal.returns-in-Ok-Some-clause-kept
+returns-in-Ok-Some-clause-kept g c = kept_on c.in-Ok.ensures.kept c.in-Ok-Some.ensures.kept
+
+pub returns-in-Ok-None-clause-kept : goal.returns-in-Ok-None-clause-kept
+returns-in-Ok-None-clause-kept g c = kept_on c.in-Ok.ensures.kept c.in-Ok-None.ensures.kept
+
+pub returns-in-Err-listed-clause-kept : goal.returns-in-Err-listed-clause-kept
+returns-in-Err-listed-clause-kept g c = kept_on c.in-Ok.ensures.kept c.in-Err-listed.ensures.kept

@@ -10,7 +10,7 @@ use Rattle.path_search.specs.Places.{Place, root_of as root_place}
 use Rattle.path_search.specs.Parts.{along, rooted, Leads, HasEntriesIn, NeedsIn, AlongNeeds, WhereLed}
 use Rattle.path_search.specs.declared.answer.Answer.{Answer}
 use Rattle.path_search.specs.declared.answer.Answer.TheVariants.{NotFound}
-use Rattle.path_search.proofs.Searched.{tells_same, some_at, flat_same, ordered_same}
+use Rattle.path_search.proofs.Searched.{kept_on, tells_same, some_at, flat_same, ordered_same}
 use Rattle.path_search.proofs.Known.{root_there, found_by}
 use Rattle.path_search.proofs.Needed.{in_same, path_needs, led_as}
 use Rattle.path_search.specs.Needs.{PathNeeds}
@@ -52,3 +52,9 @@ pub returns-clause-present : goal.returns-clause-present
 returns-clause-present g c image told on =
     tells_same (tree_of c.args.cursor.now) (tree_of c.find_inode.new.cursor) (root_of c.args.cursor.now) (root_of c.find_inode.new.cursor) image c.in-Err-go_along.stop c.in-Ok.ensures.tree c.in-Ok.ensures.root
     (c.in-Err-go_along.ensures.present image (c.in-Ok.ensures.kept.same_bytes ∙ told) (c.in-Ok.ensures.within image told on))
+
+pub returns-in-Ok-go_along-clause-kept : goal.returns-in-Ok-go_along-clause-kept
+returns-in-Ok-go_along-clause-kept g c = kept_on c.in-Ok.ensures.kept c.in-Ok-go_along.ensures.kept
+
+pub returns-clause-kept : goal.returns-clause-kept
+returns-clause-kept g c = kept_on c.in-Ok.ensures.kept c.in-Err-go_along.ensures.kept

@@ -5,7 +5,7 @@ use Rattle.bt_cursor.specs.Cursors.{root_of, tree_of}
 use Rattle.view_rules.specs.Facts.{Facts, facts_in}
 use Rattle.path_search.specs.Parts.{target_by}
 use Rattle.path_search.specs.declared.target.Target.{Target}
-use Rattle.path_search.proofs.Searched.{tells_same, some_at, flat_same, ordered_same}
+use Rattle.path_search.proofs.Searched.{kept_on, tells_same, some_at, flat_same, ordered_same}
 use Rattle.path_search.proofs.Listed.{targets_more}
 use Rattle.path_search.proofs.Needed.{target_file, files_next, files_done}
 use Rattle.path_search.proofs.by_search.targets_at.Goals as goal
@@ -30,11 +30,7 @@ loop-entry-preserved g c = record {
   root = c.in-Ok.ensures.root ∙ c.loop-entry.invariant.root;
   tree = c.in-Ok.ensures.tree ∙ c.loop-entry.invariant.tree;
   within = λ image told on. c.in-Ok.ensures.within image (c.loop-entry.invariant.kept.same_bytes ∙ told) (c.loop-entry.invariant.within image told on);
-  kept = record {
-    same_bytes = c.in-Ok.ensures.kept.same_bytes ∙ c.loop-entry.invariant.kept.same_bytes;
-    same_size = c.in-Ok.ensures.kept.same_size ∙ c.loop-entry.invariant.kept.same_size;
-    later = omega (arith, c.in-Ok.ensures.kept.later, c.loop-entry.invariant.kept.later);
-  };
+  kept = kept_on c.loop-entry.invariant.kept c.in-Ok.ensures.kept;
   found = λ image told on ordered.
       let flat : List Pair = flat_of (tree_of c.args.cursor.now image) (root_of c.args.cursor.now) in
       let low : c.loop-entry.entry-index < length c.args.entries.now = omega arith in
@@ -59,3 +55,12 @@ returns-clause-needs g c image told on ordered =
     let facts : Facts = facts_in c.args.names (flat_of (tree_of c.args.cursor.now image) (root_of c.args.cursor.now)) in
     let end : c.loop-entry.entry-index ≡ length c.args.entries.now = omega arith in
     files_done facts c.args.entries.now c.loop-entry.entry-index end (c.loop-entry.invariant.files image told on ordered)
+
+pub returns-in-Err-clause-kept : goal.returns-in-Err-clause-kept
+returns-in-Err-clause-kept g c = kept_on c.loop-entry.invariant.kept c.in-Err.ensures.kept
+
+pub returns-in_default-clause-kept : goal.returns-in_default-clause-kept
+returns-in_default-clause-kept g c = kept_on c.loop-entry.invariant.kept c.in-Ok.ensures.kept
+
+pub returns-in_err-push-clause-kept : goal.returns-in_err-push-clause-kept
+returns-in_err-push-clause-kept g c = kept_on c.loop-entry.invariant.kept c.in-Ok.ensures.kept

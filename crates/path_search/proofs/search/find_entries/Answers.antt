@@ -8,7 +8,7 @@ use Rattle.bt_cursor.specs.Flat.{flat_of}
 use Rattle.bt_cursor.specs.From.{is_of_kind, is_kind_whole}
 use Rattle.bt_cursor.proofs.Runs.{left-from, whole-from}
 use Rattle.path_search.specs.Parts.{whats, is_wanted, run_entries, are_whole}
-use Rattle.path_search.proofs.Searched.{entries_at, tells_same}
+use Rattle.path_search.proofs.Searched.{kept_on, entries_at, tells_same}
 use Rattle.path_search.proofs.Needed.{if_as, entries_there}
 use Rattle.path_search.proofs.search.find_entries.Goals as goal
 
@@ -34,3 +34,9 @@ pub returns-in-Err-take_run-clause-present : goal.returns-in-Err-take_run-clause
 returns-in-Err-take_run-clause-present g c image told on =
     tells_same (tree_of c.args.cursor.now) (tree_of c.seek.new.self) (root_of c.args.cursor.now) (root_of c.seek.new.self) image c.in-Err-take_run.stop c.in-Ok.ensures.tree c.in-Ok.ensures.root
     (c.in-Err-take_run.ensures.present image (c.in-Ok.ensures.kept.same_bytes ∙ told) (c.in-Ok.ensures.within image told on))
+
+pub returns-in-Ok-take_run-clause-kept : goal.returns-in-Ok-take_run-clause-kept
+returns-in-Ok-take_run-clause-kept g c = kept_on c.in-Ok.ensures.kept c.in-Ok-take_run.ensures.kept
+
+pub returns-in-Err-take_run-clause-kept : goal.returns-in-Err-take_run-clause-kept
+returns-in-Err-take_run-clause-kept g c = kept_on c.in-Ok.ensures.kept c.in-Err-take_run.ensures.kept

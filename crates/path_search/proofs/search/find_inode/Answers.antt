@@ -2,7 +2,7 @@ use Rattle.std.proofs.Common.{◌∙◌}
 use Rattle.bt_keys.specs.RecordKey.{inode_record}
 use Rattle.bt_cursor.specs.Cursors.{root_of, tree_of, left_of}
 use Rattle.bt_cursor.proofs.Runs.{left-from}
-use Rattle.path_search.proofs.Searched.{inode_from, tells_same}
+use Rattle.path_search.proofs.Searched.{kept_on, inode_from, tells_same}
 use Rattle.path_search.proofs.search.find_inode.Goals as goal
 
 pub returns-in-Ok-next_inode-clause-found : goal.returns-in-Ok-next_inode-clause-found
@@ -14,3 +14,9 @@ pub returns-in-Err-next_inode-clause-present : goal.returns-in-Err-next_inode-cl
 returns-in-Err-next_inode-clause-present g c image told on =
     tells_same (tree_of c.args.cursor.now) (tree_of c.seek.new.self) (root_of c.args.cursor.now) (root_of c.seek.new.self) image c.in-Err-next_inode.stop c.in-Ok.ensures.tree c.in-Ok.ensures.root
     (c.in-Err-next_inode.ensures.present image (c.in-Ok.ensures.kept.same_bytes ∙ told) (c.in-Ok.ensures.within image told on))
+
+pub returns-in-Ok-next_inode-clause-kept : goal.returns-in-Ok-next_inode-clause-kept
+returns-in-Ok-next_inode-clause-kept g c = kept_on c.in-Ok.ensures.kept c.in-Ok-next_inode.ensures.kept
+
+pub returns-in-Err-next_inode-clause-kept : goal.returns-in-Err-next_inode-clause-kept
+returns-in-Err-next_inode-clause-kept g c = kept_on c.in-Ok.ensures.kept c.in-Err-next_inode.ensures.kept
