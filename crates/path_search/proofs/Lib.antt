@@ -5,6 +5,7 @@ pub mod Laws
 pub mod Answers
 pub mod Examples
 pub mod Searched
+pub mod Stays
 pub mod Chosen
 pub mod RecordOrder
 pub mod Known

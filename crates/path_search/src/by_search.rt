@@ -18,6 +18,7 @@ ghost use Rattle.path_search.specs.Places.{placed, target_of};
 ghost use Rattle.path_search.specs.Listing.{children, listed, listing};
 ghost use Rattle.path_search.specs.Found.{entries_in, entry_named, step, walk, found};
 ghost use Rattle.path_search.specs.Needs.{StepNeeds, PathNeeds, ChildrenNeed, ListingNeeds, HaveFiles};
+ghost use Rattle.path_search.specs.Stays.{Stays, StopsFrom};
 ghost use Rattle.path_search.specs.Parts.{whats, by_part, along, target_by, targets_by, Leads, HasEntriesIn, NeedsIn, PartNeeds, AlongNeeds, WhereLed};
 
 use crate::Answer;
@@ -83,15 +84,10 @@ fn directory<K: FsTreeKey, S: BlockSource, N: Namer>(
 ) -> Result<Option<Vec<EntryFact>>, Stop<WalkFault>>
     requires site { IsSiteFor (site_of cursor.old) (S.bytes_len src.old) }
     requires hashed { are_hashed names ≡ K.HASHED }
-    ensures site { site_of cursor.new ≡ site_of cursor.old }
-    ensures root { root_of cursor.new ≡ root_of cursor.old }
-    ensures tree { tree_of cursor.new ≡ tree_of cursor.old }
-    ensures within { (image : List ℕ) → S.bytes src.old ≡ Some image → IsOn image cursor.old → IsOn image cursor.new }
+    ensures stays { Stays S.bytes S.bytes_len S.faults src.old src.new cursor.old cursor.new }
     ensures found { (image : List ℕ) → S.bytes src.old ≡ Some image → IsOn image cursor.old → is_ordered K.shape (line_of (tree_of cursor.old image) (root_of cursor.old)) ≡ true → IfOk result (λ run. IfSome run (λ v. whats v.items ≡ entries_in (facts_in names (flat_of (tree_of cursor.old image) (root_of cursor.old))) id)) }
     ensures all { (image : List ℕ) → S.bytes src.old ≡ Some image → IsOn image cursor.old → is_ordered K.shape (line_of (tree_of cursor.old image) (root_of cursor.old)) ≡ true → IfOk result (λ run. IfSome run (λ v. HasEntriesIn names (tree_of cursor.old image) (root_of cursor.old) id)) }
-    ensures present { (image : List ℕ) → S.bytes src.old ≡ Some image → IsOn image cursor.old → IfErr result (Tells (IsNodeFault (tree_of cursor.old image) (root_of cursor.old)) (HasFeature (tree_of cursor.old image) (root_of cursor.old))) }
-    ensures cause { IsErrOf result ReadFault → Rose (S.faults src.old) (S.faults src.new) }
-    ensures kept { IsKept S.bytes S.bytes_len S.faults src.old src.new }
+    ensures stops { IfErr result (StopsFrom S.bytes S.faults src.old src.new cursor.old) }
 {
     if is_reserved(id) {
         return Ok(Some(Vec::new(alloc)));
@@ -115,15 +111,10 @@ fn candidates<K: FsTreeKey, S: BlockSource, N: Namer>(
 ) -> Result<Option<Vec<EntryFact>>, Stop<WalkFault>>
     requires site { IsSiteFor (site_of cursor.old) (S.bytes_len src.old) }
     requires hashed { are_hashed names ≡ K.HASHED }
-    ensures site { site_of cursor.new ≡ site_of cursor.old }
-    ensures root { root_of cursor.new ≡ root_of cursor.old }
-    ensures tree { tree_of cursor.new ≡ tree_of cursor.old }
-    ensures within { (image : List ℕ) → S.bytes src.old ≡ Some image → IsOn image cursor.old → IsOn image cursor.new }
+    ensures stays { Stays S.bytes S.bytes_len S.faults src.old src.new cursor.old cursor.new }
     ensures found { (image : List ℕ) → S.bytes src.old ≡ Some image → IsOn image cursor.old → is_ordered K.shape (line_of (tree_of cursor.old image) (root_of cursor.old)) ≡ true → IfOk result (λ run. IfSome run (λ v. entry_named names name.now (whats v.items) ≡ entry_named names name.now (entries_in (facts_in names (flat_of (tree_of cursor.old image) (root_of cursor.old))) id))) }
     ensures all { (image : List ℕ) → S.bytes src.old ≡ Some image → IsOn image cursor.old → is_ordered K.shape (line_of (tree_of cursor.old image) (root_of cursor.old)) ≡ true → IfOk result (λ run. IfSome run (λ v. HasEntriesIn names (tree_of cursor.old image) (root_of cursor.old) id)) }
-    ensures present { (image : List ℕ) → S.bytes src.old ≡ Some image → IsOn image cursor.old → IfErr result (Tells (IsNodeFault (tree_of cursor.old image) (root_of cursor.old)) (HasFeature (tree_of cursor.old image) (root_of cursor.old))) }
-    ensures cause { IsErrOf result ReadFault → Rose (S.faults src.old) (S.faults src.new) }
-    ensures kept { IsKept S.bytes S.bytes_len S.faults src.old src.new }
+    ensures stops { IfErr result (StopsFrom S.bytes S.faults src.old src.new cursor.old) }
 {
     if is_reserved(id) {
         return Ok(Some(Vec::new(alloc)));
@@ -155,15 +146,10 @@ fn go_on<K: FsTreeKey, S: BlockSource, N: Namer>(
 ) -> Result<Onward<Place>, Stop<WalkFault>>
     requires site { IsSiteFor (site_of cursor.old) (S.bytes_len src.old) }
     requires hashed { are_hashed names ≡ K.HASHED }
-    ensures site { site_of cursor.new ≡ site_of cursor.old }
-    ensures root { root_of cursor.new ≡ root_of cursor.old }
-    ensures tree { tree_of cursor.new ≡ tree_of cursor.old }
-    ensures within { (image : List ℕ) → S.bytes src.old ≡ Some image → IsOn image cursor.old → IsOn image cursor.new }
+    ensures stays { Stays S.bytes S.bytes_len S.faults src.old src.new cursor.old cursor.new }
     ensures leads { (image : List ℕ) → S.bytes src.old ≡ Some image → IsOn image cursor.old → is_ordered K.shape (line_of (tree_of cursor.old image) (root_of cursor.old)) ≡ true → IfOk result (Leads (λ place. place) (step (facts_in names (flat_of (tree_of cursor.old image) (root_of cursor.old))) place.now name.now)) }
     ensures needs { (image : List ℕ) → S.bytes src.old ≡ Some image → IsOn image cursor.old → is_ordered K.shape (line_of (tree_of cursor.old image) (root_of cursor.old)) ≡ true → IfOk result (WhereLed (NeedsIn (λ facts has_all. StepNeeds facts has_all place.now name.now) names (tree_of cursor.old image) (root_of cursor.old))) }
-    ensures present { (image : List ℕ) → S.bytes src.old ≡ Some image → IsOn image cursor.old → IfErr result (Tells (IsNodeFault (tree_of cursor.old image) (root_of cursor.old)) (HasFeature (tree_of cursor.old image) (root_of cursor.old))) }
-    ensures cause { IsErrOf result ReadFault → Rose (S.faults src.old) (S.faults src.new) }
-    ensures kept { IsKept S.bytes S.bytes_len S.faults src.old src.new }
+    ensures stops { IfErr result (StopsFrom S.bytes S.faults src.old src.new cursor.old) }
 {
     if !place.is_directory() {
         return Ok(Onward::Answered(Answer::NotDirectory));
@@ -200,15 +186,10 @@ fn go_by<K: FsTreeKey, S: BlockSource, N: Namer>(
 ) -> Result<Onward<Place>, Stop<WalkFault>>
     requires site { IsSiteFor (site_of cursor.old) (S.bytes_len src.old) }
     requires hashed { are_hashed names ≡ K.HASHED }
-    ensures site { site_of cursor.new ≡ site_of cursor.old }
-    ensures root { root_of cursor.new ≡ root_of cursor.old }
-    ensures tree { tree_of cursor.new ≡ tree_of cursor.old }
-    ensures within { (image : List ℕ) → S.bytes src.old ≡ Some image → IsOn image cursor.old → IsOn image cursor.new }
+    ensures stays { Stays S.bytes S.bytes_len S.faults src.old src.new cursor.old cursor.new }
     ensures leads { (image : List ℕ) → S.bytes src.old ≡ Some image → IsOn image cursor.old → is_ordered K.shape (line_of (tree_of cursor.old image) (root_of cursor.old)) ≡ true → IfOk result (Leads (λ place. place) (by_part (facts_in names (flat_of (tree_of cursor.old image) (root_of cursor.old))) place part.now)) }
     ensures needs { (image : List ℕ) → S.bytes src.old ≡ Some image → IsOn image cursor.old → is_ordered K.shape (line_of (tree_of cursor.old image) (root_of cursor.old)) ≡ true → IfOk result (WhereLed (NeedsIn (λ facts has_all. PartNeeds facts has_all place part.now) names (tree_of cursor.old image) (root_of cursor.old))) }
-    ensures present { (image : List ℕ) → S.bytes src.old ≡ Some image → IsOn image cursor.old → IfErr result (Tells (IsNodeFault (tree_of cursor.old image) (root_of cursor.old)) (HasFeature (tree_of cursor.old image) (root_of cursor.old))) }
-    ensures cause { IsErrOf result ReadFault → Rose (S.faults src.old) (S.faults src.new) }
-    ensures kept { IsKept S.bytes S.bytes_len S.faults src.old src.new }
+    ensures stops { IfErr result (StopsFrom S.bytes S.faults src.old src.new cursor.old) }
 {
     if part.is_empty() {
         return Ok(Onward::To(place));
@@ -227,15 +208,10 @@ fn go_along<K: FsTreeKey, S: BlockSource, N: Namer>(
 ) -> Result<Onward<Place>, Stop<WalkFault>>
     requires site { IsSiteFor (site_of cursor.old) (S.bytes_len src.old) }
     requires hashed { are_hashed names ≡ K.HASHED }
-    ensures site { site_of cursor.new ≡ site_of cursor.old }
-    ensures root { root_of cursor.new ≡ root_of cursor.old }
-    ensures tree { tree_of cursor.new ≡ tree_of cursor.old }
-    ensures within { (image : List ℕ) → S.bytes src.old ≡ Some image → IsOn image cursor.old → IsOn image cursor.new }
+    ensures stays { Stays S.bytes S.bytes_len S.faults src.old src.new cursor.old cursor.new }
     ensures leads { (image : List ℕ) → S.bytes src.old ≡ Some image → IsOn image cursor.old → is_ordered K.shape (line_of (tree_of cursor.old image) (root_of cursor.old)) ≡ true → IfOk result (Leads (λ place. place) (along (facts_in names (flat_of (tree_of cursor.old image) (root_of cursor.old))) (map (λ part. part.now) parts.now) start)) }
     ensures needs { (image : List ℕ) → S.bytes src.old ≡ Some image → IsOn image cursor.old → is_ordered K.shape (line_of (tree_of cursor.old image) (root_of cursor.old)) ≡ true → IfOk result (WhereLed (NeedsIn (λ facts has_all. AlongNeeds facts has_all (map (λ part. part.now) parts.now) start) names (tree_of cursor.old image) (root_of cursor.old))) }
-    ensures present { (image : List ℕ) → S.bytes src.old ≡ Some image → IsOn image cursor.old → IfErr result (Tells (IsNodeFault (tree_of cursor.old image) (root_of cursor.old)) (HasFeature (tree_of cursor.old image) (root_of cursor.old))) }
-    ensures cause { IsErrOf result ReadFault → Rose (S.faults src.old) (S.faults src.new) }
-    ensures kept { IsKept S.bytes S.bytes_len S.faults src.old src.new }
+    ensures stops { IfErr result (StopsFrom S.bytes S.faults src.old src.new cursor.old) }
 {
     let mut place = start;
     for part in parts {
@@ -297,14 +273,9 @@ fn target_at<K: FsTreeKey, S: BlockSource, N: Namer>(
 ) -> Result<Option<KeptTarget>, Stop<WalkFault>>
     requires site { IsSiteFor (site_of cursor.old) (S.bytes_len src.old) }
     requires hashed { are_hashed names ≡ K.HASHED }
-    ensures site { site_of cursor.new ≡ site_of cursor.old }
-    ensures root { root_of cursor.new ≡ root_of cursor.old }
-    ensures tree { tree_of cursor.new ≡ tree_of cursor.old }
-    ensures within { (image : List ℕ) → S.bytes src.old ≡ Some image → IsOn image cursor.old → IsOn image cursor.new }
+    ensures stays { Stays S.bytes S.bytes_len S.faults src.old src.new cursor.old cursor.new }
     ensures found { (image : List ℕ) → S.bytes src.old ≡ Some image → IsOn image cursor.old → is_ordered K.shape (line_of (tree_of cursor.old image) (root_of cursor.old)) ≡ true → IfOk result (λ found. IfSome found (λ target. target_by (facts_in names (flat_of (tree_of cursor.old image) (root_of cursor.old))) entry.now.what ≡ Some target)) }
-    ensures present { (image : List ℕ) → S.bytes src.old ≡ Some image → IsOn image cursor.old → IfErr result (Tells (IsNodeFault (tree_of cursor.old image) (root_of cursor.old)) (HasFeature (tree_of cursor.old image) (root_of cursor.old))) }
-    ensures cause { IsErrOf result ReadFault → Rose (S.faults src.old) (S.faults src.new) }
-    ensures kept { IsKept S.bytes S.bytes_len S.faults src.old src.new }
+    ensures stops { IfErr result (StopsFrom S.bytes S.faults src.old src.new cursor.old) }
 {
     let Some(inode) = find_inode(src, cursor, entry.file_id())? else {
         return Ok(None);
@@ -323,15 +294,10 @@ fn targets_at<K: FsTreeKey, S: BlockSource, N: Namer>(
 ) -> Result<Option<Vec<KeptTarget>>, Stop<WalkFault>>
     requires site { IsSiteFor (site_of cursor.old) (S.bytes_len src.old) }
     requires hashed { are_hashed names ≡ K.HASHED }
-    ensures site { site_of cursor.new ≡ site_of cursor.old }
-    ensures root { root_of cursor.new ≡ root_of cursor.old }
-    ensures tree { tree_of cursor.new ≡ tree_of cursor.old }
-    ensures within { (image : List ℕ) → S.bytes src.old ≡ Some image → IsOn image cursor.old → IsOn image cursor.new }
+    ensures stays { Stays S.bytes S.bytes_len S.faults src.old src.new cursor.old cursor.new }
     ensures found { (image : List ℕ) → S.bytes src.old ≡ Some image → IsOn image cursor.old → is_ordered K.shape (line_of (tree_of cursor.old image) (root_of cursor.old)) ≡ true → IfOk result (λ found. IfSome found (λ targets. targets.items ≡ targets_by (facts_in names (flat_of (tree_of cursor.old image) (root_of cursor.old))) (whats entries.now))) }
     ensures needs { (image : List ℕ) → S.bytes src.old ≡ Some image → IsOn image cursor.old → is_ordered K.shape (line_of (tree_of cursor.old image) (root_of cursor.old)) ≡ true → IfOk result (λ found. IfSome found (λ targets. NeedsIn (λ facts has_all. HaveFiles facts (whats entries.now)) names (tree_of cursor.old image) (root_of cursor.old))) }
-    ensures present { (image : List ℕ) → S.bytes src.old ≡ Some image → IsOn image cursor.old → IfErr result (Tells (IsNodeFault (tree_of cursor.old image) (root_of cursor.old)) (HasFeature (tree_of cursor.old image) (root_of cursor.old))) }
-    ensures cause { IsErrOf result ReadFault → Rose (S.faults src.old) (S.faults src.new) }
-    ensures kept { IsKept S.bytes S.bytes_len S.faults src.old src.new }
+    ensures stops { IfErr result (StopsFrom S.bytes S.faults src.old src.new cursor.old) }
 {
     let mut targets = Vec::new(alloc);
     for entry in entries {
@@ -357,15 +323,10 @@ fn children<K: FsTreeKey, S: BlockSource, N: Namer>(
 ) -> Result<Option<Vec<KeptTarget>>, Stop<WalkFault>>
     requires site { IsSiteFor (site_of cursor.old) (S.bytes_len src.old) }
     requires hashed { are_hashed names ≡ K.HASHED }
-    ensures site { site_of cursor.new ≡ site_of cursor.old }
-    ensures root { root_of cursor.new ≡ root_of cursor.old }
-    ensures tree { tree_of cursor.new ≡ tree_of cursor.old }
-    ensures within { (image : List ℕ) → S.bytes src.old ≡ Some image → IsOn image cursor.old → IsOn image cursor.new }
+    ensures stays { Stays S.bytes S.bytes_len S.faults src.old src.new cursor.old cursor.new }
     ensures found { (image : List ℕ) → S.bytes src.old ≡ Some image → IsOn image cursor.old → is_ordered K.shape (line_of (tree_of cursor.old image) (root_of cursor.old)) ≡ true → IfOk result (λ found. IfSome found (λ targets. targets.items ≡ map target_of (children (facts_in names (flat_of (tree_of cursor.old image) (root_of cursor.old))) id))) }
     ensures needs { (image : List ℕ) → S.bytes src.old ≡ Some image → IsOn image cursor.old → is_ordered K.shape (line_of (tree_of cursor.old image) (root_of cursor.old)) ≡ true → IfOk result (λ found. IfSome found (λ targets. NeedsIn (λ facts has_all. ChildrenNeed facts has_all id) names (tree_of cursor.old image) (root_of cursor.old))) }
-    ensures present { (image : List ℕ) → S.bytes src.old ≡ Some image → IsOn image cursor.old → IfErr result (Tells (IsNodeFault (tree_of cursor.old image) (root_of cursor.old)) (HasFeature (tree_of cursor.old image) (root_of cursor.old))) }
-    ensures cause { IsErrOf result ReadFault → Rose (S.faults src.old) (S.faults src.new) }
-    ensures kept { IsKept S.bytes S.bytes_len S.faults src.old src.new }
+    ensures stops { IfErr result (StopsFrom S.bytes S.faults src.old src.new cursor.old) }
 {
     let run = match directory(alloc, src, cursor, names, id) {
         Ok(run) => run,
@@ -396,15 +357,10 @@ fn listed<K: FsTreeKey, S: BlockSource, N: Namer>(
 ) -> Result<Option<Vec<KeptTarget>>, Stop<WalkFault>>
     requires site { IsSiteFor (site_of cursor.old) (S.bytes_len src.old) }
     requires hashed { are_hashed names ≡ K.HASHED }
-    ensures site { site_of cursor.new ≡ site_of cursor.old }
-    ensures root { root_of cursor.new ≡ root_of cursor.old }
-    ensures tree { tree_of cursor.new ≡ tree_of cursor.old }
-    ensures within { (image : List ℕ) → S.bytes src.old ≡ Some image → IsOn image cursor.old → IsOn image cursor.new }
+    ensures stays { Stays S.bytes S.bytes_len S.faults src.old src.new cursor.old cursor.new }
     ensures found { (image : List ℕ) → S.bytes src.old ≡ Some image → IsOn image cursor.old → is_ordered K.shape (line_of (tree_of cursor.old image) (root_of cursor.old)) ≡ true → IfOk result (λ found. IfSome found (λ targets. targets.items ≡ map target_of (listed (facts_in names (flat_of (tree_of cursor.old image) (root_of cursor.old))) place))) }
     ensures needs { (image : List ℕ) → S.bytes src.old ≡ Some image → IsOn image cursor.old → is_ordered K.shape (line_of (tree_of cursor.old image) (root_of cursor.old)) ≡ true → IfOk result (λ found. IfSome found (λ targets. NeedsIn (λ facts has_all. is_directory place.inode ≡ true → ChildrenNeed facts has_all place.id) names (tree_of cursor.old image) (root_of cursor.old))) }
-    ensures present { (image : List ℕ) → S.bytes src.old ≡ Some image → IsOn image cursor.old → IfErr result (Tells (IsNodeFault (tree_of cursor.old image) (root_of cursor.old)) (HasFeature (tree_of cursor.old image) (root_of cursor.old))) }
-    ensures cause { IsErrOf result ReadFault → Rose (S.faults src.old) (S.faults src.new) }
-    ensures kept { IsKept S.bytes S.bytes_len S.faults src.old src.new }
+    ensures stops { IfErr result (StopsFrom S.bytes S.faults src.old src.new cursor.old) }
 {
     if place.is_directory() {
         return children(alloc, src, cursor, names, place.id);

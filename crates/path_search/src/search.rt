@@ -18,6 +18,7 @@ ghost use Rattle.fs_name.specs.Normal.{are_hashed};
 ghost use Rattle.fs_record.specs.Inodes.{inode_of};
 ghost use Rattle.fs_record.specs.Facts as facts;
 ghost use Rattle.fs_record.specs.Facts.{all_for, first_for, entries_of, inodes_of};
+ghost use Rattle.path_search.specs.Stays.{Stays, StopsFrom};
 ghost use Rattle.path_search.specs.Parts.{whats, is_wanted, with_kept, run_entries, first_inode, Takes, TakesNext, IsOfRun, are_whole, GoesWhole, HasKindIn};
 ghost use Rattle.path_search.specs.Pairs.{pair_by};
 ghost use Rattle.path_search.specs.declared.search.Took.TheVariants.{One};
@@ -189,16 +190,11 @@ fn take_next<K: FsTreeKey, S: BlockSource, N: Namer>(
 ) -> Result<Took, Stop<WalkFault>>
     requires site { IsSiteFor (site_of cursor.old) (S.bytes_len src.old) }
     requires hashed { are_hashed names ≡ K.HASHED }
-    ensures site { site_of cursor.new ≡ site_of cursor.old }
-    ensures root { root_of cursor.new ≡ root_of cursor.old }
-    ensures tree { tree_of cursor.new ≡ tree_of cursor.old }
-    ensures within { (image : List ℕ) → S.bytes src.old ≡ Some image → IsOn image cursor.old → IsOn image cursor.new }
+    ensures stays { Stays S.bytes S.bytes_len S.faults src.old src.new cursor.old cursor.new }
     ensures whole { (image : List ℕ) → S.bytes src.old ≡ Some image → IfOk result (GoesWhole K.shape id (gapped_left_of cursor.old image) (gapped_left_of cursor.new image)) }
     ensures taken { (image : List ℕ) → S.bytes src.old ≡ Some image → IfOk result (TakesNext K.shape names (is_wanted names wanted.entry) id (left_of cursor.old image) (left_of cursor.new image) (whats taken.old.items) (whats taken.new.items)) }
-    ensures present { (image : List ℕ) → S.bytes src.old ≡ Some image → IsOn image cursor.old → IfErr result (Tells (IsNodeFault (tree_of cursor.old image) (root_of cursor.old)) (HasFeature (tree_of cursor.old image) (root_of cursor.old))) }
+    ensures stops { IfErr result (StopsFrom S.bytes S.faults src.old src.new cursor.old) }
     ensures fuel { IfOk result (λ took. took ≡ One → fuel_of cursor.new < fuel_of cursor.old) }
-    ensures cause { IsErrOf result ReadFault → Rose (S.faults src.old) (S.faults src.new) }
-    ensures kept { IsKept S.bytes S.bytes_len S.faults src.old src.new }
 {
     let more = match cursor.next(src) {
         Ok(more) => more,
@@ -222,15 +218,10 @@ fn take_run<K: FsTreeKey, S: BlockSource, N: Namer>(
 ) -> Result<Option<Vec<EntryFact>>, Stop<WalkFault>>
     requires site { IsSiteFor (site_of cursor.old) (S.bytes_len src.old) }
     requires hashed { are_hashed names ≡ K.HASHED }
-    ensures site { site_of cursor.new ≡ site_of cursor.old }
-    ensures root { root_of cursor.new ≡ root_of cursor.old }
-    ensures tree { tree_of cursor.new ≡ tree_of cursor.old }
-    ensures within { (image : List ℕ) → S.bytes src.old ≡ Some image → IsOn image cursor.old → IsOn image cursor.new }
+    ensures stays { Stays S.bytes S.bytes_len S.faults src.old src.new cursor.old cursor.new }
     ensures whole { (image : List ℕ) → S.bytes src.old ≡ Some image → IfOk result (λ run. IfSome run (λ v. are_whole K.shape id (gapped_left_of cursor.old image) ≡ true)) }
     ensures taken { (image : List ℕ) → S.bytes src.old ≡ Some image → IfOk result (λ run. IfSome run (λ v. run_entries K.shape names (is_wanted names wanted.entry) id [] (left_of cursor.old image) ≡ Some (whats v.items))) }
-    ensures present { (image : List ℕ) → S.bytes src.old ≡ Some image → IsOn image cursor.old → IfErr result (Tells (IsNodeFault (tree_of cursor.old image) (root_of cursor.old)) (HasFeature (tree_of cursor.old image) (root_of cursor.old))) }
-    ensures cause { IsErrOf result ReadFault → Rose (S.faults src.old) (S.faults src.new) }
-    ensures kept { IsKept S.bytes S.bytes_len S.faults src.old src.new }
+    ensures stops { IfErr result (StopsFrom S.bytes S.faults src.old src.new cursor.old) }
 {
     let mut taken = Vec::new(alloc);
     'run: loop {
@@ -261,15 +252,10 @@ pub(crate) fn find_entries<K: FsTreeKey, S: BlockSource, N: Namer>(
 ) -> Result<Option<Vec<EntryFact>>, Stop<WalkFault>>
     requires site { IsSiteFor (site_of cursor.old) (S.bytes_len src.old) }
     requires hashed { are_hashed names ≡ K.HASHED }
-    ensures site { site_of cursor.new ≡ site_of cursor.old }
-    ensures root { root_of cursor.new ≡ root_of cursor.old }
-    ensures tree { tree_of cursor.new ≡ tree_of cursor.old }
-    ensures within { (image : List ℕ) → S.bytes src.old ≡ Some image → IsOn image cursor.old → IsOn image cursor.new }
+    ensures stays { Stays S.bytes S.bytes_len S.faults src.old src.new cursor.old cursor.new }
     ensures found { (image : List ℕ) → S.bytes src.old ≡ Some image → IsOn image cursor.old → is_ordered K.shape (line_of (tree_of cursor.old image) (root_of cursor.old)) ≡ true → IfOk result (λ run. IfSome run (λ v. whats v.items ≡ filter (is_wanted names wanted.entry) (all_for id (entries_of names (flat_of (tree_of cursor.old image) (root_of cursor.old)))))) }
     ensures all { (image : List ℕ) → S.bytes src.old ≡ Some image → IsOn image cursor.old → is_ordered K.shape (line_of (tree_of cursor.old image) (root_of cursor.old)) ≡ true → IfOk result (λ run. IfSome run (λ v. HasKindIn names (tree_of cursor.old image) (root_of cursor.old) id entry_record)) }
-    ensures present { (image : List ℕ) → S.bytes src.old ≡ Some image → IsOn image cursor.old → IfErr result (Tells (IsNodeFault (tree_of cursor.old image) (root_of cursor.old)) (HasFeature (tree_of cursor.old image) (root_of cursor.old))) }
-    ensures cause { IsErrOf result ReadFault → Rose (S.faults src.old) (S.faults src.new) }
-    ensures kept { IsKept S.bytes S.bytes_len S.faults src.old src.new }
+    ensures stops { IfErr result (StopsFrom S.bytes S.faults src.old src.new cursor.old) }
 {
     let rank = Rank {
         id,
@@ -305,14 +291,9 @@ fn next_inode<K: FsTreeKey, S: BlockSource, N: Namer>(
     id: u64,
 ) -> Result<Option<KeptInode>, Stop<WalkFault>>
     requires site { IsSiteFor (site_of cursor.old) (S.bytes_len src.old) }
-    ensures site { site_of cursor.new ≡ site_of cursor.old }
-    ensures root { root_of cursor.new ≡ root_of cursor.old }
-    ensures tree { tree_of cursor.new ≡ tree_of cursor.old }
-    ensures within { (image : List ℕ) → S.bytes src.old ≡ Some image → IsOn image cursor.old → IsOn image cursor.new }
+    ensures stays { Stays S.bytes S.bytes_len S.faults src.old src.new cursor.old cursor.new }
     ensures found { (image : List ℕ) → S.bytes src.old ≡ Some image → IfOk result (λ inode. inode ≡ first_inode K.shape id (left_of cursor.old image)) }
-    ensures present { (image : List ℕ) → S.bytes src.old ≡ Some image → IsOn image cursor.old → IfErr result (Tells (IsNodeFault (tree_of cursor.old image) (root_of cursor.old)) (HasFeature (tree_of cursor.old image) (root_of cursor.old))) }
-    ensures cause { IsErrOf result ReadFault → Rose (S.faults src.old) (S.faults src.new) }
-    ensures kept { IsKept S.bytes S.bytes_len S.faults src.old src.new }
+    ensures stops { IfErr result (StopsFrom S.bytes S.faults src.old src.new cursor.old) }
 {
     let more = match cursor.next(src) {
         Ok(more) => more,
@@ -332,14 +313,9 @@ pub(crate) fn find_inode<K: FsTreeKey, S: BlockSource, N: Namer>(
     id: u64,
 ) -> Result<Option<KeptInode>, Stop<WalkFault>>
     requires site { IsSiteFor (site_of cursor.old) (S.bytes_len src.old) }
-    ensures site { site_of cursor.new ≡ site_of cursor.old }
-    ensures root { root_of cursor.new ≡ root_of cursor.old }
-    ensures tree { tree_of cursor.new ≡ tree_of cursor.old }
-    ensures within { (image : List ℕ) → S.bytes src.old ≡ Some image → IsOn image cursor.old → IsOn image cursor.new }
+    ensures stays { Stays S.bytes S.bytes_len S.faults src.old src.new cursor.old cursor.new }
     ensures found { (image : List ℕ) → S.bytes src.old ≡ Some image → IsOn image cursor.old → is_ordered K.shape (line_of (tree_of cursor.old image) (root_of cursor.old)) ≡ true → IfOk result (λ found. IfSome found (λ inode. first_for id (inodes_of (flat_of (tree_of cursor.old image) (root_of cursor.old))) ≡ Some inode)) }
-    ensures present { (image : List ℕ) → S.bytes src.old ≡ Some image → IsOn image cursor.old → IfErr result (Tells (IsNodeFault (tree_of cursor.old image) (root_of cursor.old)) (HasFeature (tree_of cursor.old image) (root_of cursor.old))) }
-    ensures cause { IsErrOf result ReadFault → Rose (S.faults src.old) (S.faults src.new) }
-    ensures kept { IsKept S.bytes S.bytes_len S.faults src.old src.new }
+    ensures stops { IfErr result (StopsFrom S.bytes S.faults src.old src.new cursor.old) }
 {
     let rank = Rank {
         id,

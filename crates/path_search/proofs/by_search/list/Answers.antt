@@ -7,12 +7,14 @@ use Rattle.path_search.specs.Places.{Place, target_of}
 use Rattle.path_search.specs.Found.{found}
 use Rattle.path_search.specs.Listing.{listed}
 use Rattle.path_search.specs.declared.target.Target.{Target}
-use Rattle.path_search.proofs.Searched.{kept_on, tells_same, some_at, flat_same, ordered_same}
+use Rattle.path_search.proofs.Searched.{some_at, flat_same, ordered_same}
 use Rattle.path_search.proofs.Viewed.{leads_to, leads_err, led_to, led_err}
 use Rattle.path_search.proofs.Listed.{listing_found}
 use Rattle.path_search.proofs.Needed.{in_same, listing_needs, listing_ends}
 use Rattle.path_search.specs.Parts.{HasEntriesIn, NeedsIn}
 use Rattle.path_search.specs.Needs.{PathNeeds, ChildrenNeed}
+use Rattle.path_search.specs.Stays.{Stays}
+use Rattle.path_search.proofs.Stays.{stays_on, stops_on}
 use Rattle.path_search.proofs.by_search.list.Goals as goal
 
 pub returns-in-Ok-Some-clause-leads : goal.returns-in-Ok-Some-clause-leads
@@ -48,16 +50,42 @@ returns-in-Answered-clause-needs g c image told on ordered =
     let ends : found facts c.args.path.now ≡ Err c.in-Answered.answer = leads_err (λ (p : Place). p) (found facts c.args.path.now) c.in-Ok.onward c.in-Answered.answer c.in-Answered.is (c.in-Ok.ensures.leads image told on ordered) in
     listing_ends facts has_all c.args.path.now c.in-Answered.answer (led_err (PathNeeds facts has_all c.args.path.now) c.in-Ok.onward c.in-Answered.answer c.in-Answered.is (c.in-Ok.ensures.needs image told on ordered)) ends
 
-pub returns-in-Err-listed-clause-present : goal.returns-in-Err-listed-clause-present
-returns-in-Err-listed-clause-present g c image told on =
-    tells_same (tree_of c.args.cursor.now) (tree_of c.locate.new.cursor) (root_of c.args.cursor.now) (root_of c.locate.new.cursor) image c.in-Err-listed.stop c.in-Ok.ensures.tree c.in-Ok.ensures.root
-    (c.in-Err-listed.ensures.present image (c.in-Ok.ensures.kept.same_bytes ∙ told) (c.in-Ok.ensures.within image told on))
+pub returns-in-Ok-Some-clause-within : goal.returns-in-Ok-Some-clause-within
+returns-in-Ok-Some-clause-within g c =
+    let one : Stays g.S.BlockSource.bytes g.S.BlockSource.bytes_len g.S.BlockSource.faults c.args.src.now c.locate.new.src c.args.cursor.now c.locate.new.cursor = record { site = c.in-Ok.ensures.site; root = c.in-Ok.ensures.root; tree = c.in-Ok.ensures.tree; within = c.in-Ok.ensures.within; kept = c.in-Ok.ensures.kept } in
+    (stays_on one c.in-Ok-Some.ensures.stays).within
 
 pub returns-in-Ok-Some-clause-kept : goal.returns-in-Ok-Some-clause-kept
-returns-in-Ok-Some-clause-kept g c = kept_on c.in-Ok.ensures.kept c.in-Ok-Some.ensures.kept
+returns-in-Ok-Some-clause-kept g c =
+    let one : Stays g.S.BlockSource.bytes g.S.BlockSource.bytes_len g.S.BlockSource.faults c.args.src.now c.locate.new.src c.args.cursor.now c.locate.new.cursor = record { site = c.in-Ok.ensures.site; root = c.in-Ok.ensures.root; tree = c.in-Ok.ensures.tree; within = c.in-Ok.ensures.within; kept = c.in-Ok.ensures.kept } in
+    (stays_on one c.in-Ok-Some.ensures.stays).kept
+
+pub returns-in-Ok-None-clause-within : goal.returns-in-Ok-None-clause-within
+returns-in-Ok-None-clause-within g c =
+    let one : Stays g.S.BlockSource.bytes g.S.BlockSource.bytes_len g.S.BlockSource.faults c.args.src.now c.locate.new.src c.args.cursor.now c.locate.new.cursor = record { site = c.in-Ok.ensures.site; root = c.in-Ok.ensures.root; tree = c.in-Ok.ensures.tree; within = c.in-Ok.ensures.within; kept = c.in-Ok.ensures.kept } in
+    (stays_on one c.in-Ok-None.ensures.stays).within
 
 pub returns-in-Ok-None-clause-kept : goal.returns-in-Ok-None-clause-kept
-returns-in-Ok-None-clause-kept g c = kept_on c.in-Ok.ensures.kept c.in-Ok-None.ensures.kept
+returns-in-Ok-None-clause-kept g c =
+    let one : Stays g.S.BlockSource.bytes g.S.BlockSource.bytes_len g.S.BlockSource.faults c.args.src.now c.locate.new.src c.args.cursor.now c.locate.new.cursor = record { site = c.in-Ok.ensures.site; root = c.in-Ok.ensures.root; tree = c.in-Ok.ensures.tree; within = c.in-Ok.ensures.within; kept = c.in-Ok.ensures.kept } in
+    (stays_on one c.in-Ok-None.ensures.stays).kept
+
+pub returns-in-Err-listed-clause-within : goal.returns-in-Err-listed-clause-within
+returns-in-Err-listed-clause-within g c =
+    let one : Stays g.S.BlockSource.bytes g.S.BlockSource.bytes_len g.S.BlockSource.faults c.args.src.now c.locate.new.src c.args.cursor.now c.locate.new.cursor = record { site = c.in-Ok.ensures.site; root = c.in-Ok.ensures.root; tree = c.in-Ok.ensures.tree; within = c.in-Ok.ensures.within; kept = c.in-Ok.ensures.kept } in
+    (stays_on one c.in-Err-listed.ensures.stays).within
 
 pub returns-in-Err-listed-clause-kept : goal.returns-in-Err-listed-clause-kept
-returns-in-Err-listed-clause-kept g c = kept_on c.in-Ok.ensures.kept c.in-Err-listed.ensures.kept
+returns-in-Err-listed-clause-kept g c =
+    let one : Stays g.S.BlockSource.bytes g.S.BlockSource.bytes_len g.S.BlockSource.faults c.args.src.now c.locate.new.src c.args.cursor.now c.locate.new.cursor = record { site = c.in-Ok.ensures.site; root = c.in-Ok.ensures.root; tree = c.in-Ok.ensures.tree; within = c.in-Ok.ensures.within; kept = c.in-Ok.ensures.kept } in
+    (stays_on one c.in-Err-listed.ensures.stays).kept
+
+pub returns-in-Err-listed-clause-present : goal.returns-in-Err-listed-clause-present
+returns-in-Err-listed-clause-present g c =
+    let one : Stays g.S.BlockSource.bytes g.S.BlockSource.bytes_len g.S.BlockSource.faults c.args.src.now c.locate.new.src c.args.cursor.now c.locate.new.cursor = record { site = c.in-Ok.ensures.site; root = c.in-Ok.ensures.root; tree = c.in-Ok.ensures.tree; within = c.in-Ok.ensures.within; kept = c.in-Ok.ensures.kept } in
+    (stops_on one c.in-Err-listed.ensures.stops).present
+
+pub returns-in-Err-listed-clause-cause : goal.returns-in-Err-listed-clause-cause
+returns-in-Err-listed-clause-cause g c e =
+    let one : Stays g.S.BlockSource.bytes g.S.BlockSource.bytes_len g.S.BlockSource.faults c.args.src.now c.locate.new.src c.args.cursor.now c.locate.new.cursor = record { site = c.in-Ok.ensures.site; root = c.in-Ok.ensures.root; tree = c.in-Ok.ensures.tree; within = c.in-Ok.ensures.within; kept = c.in-Ok.ensures.kept } in
+    (stops_on one c.in-Err-listed.ensures.stops).cause cc

@@ -10,11 +10,12 @@ use Rattle.path_search.specs.Places.{Place, root_of as root_place}
 use Rattle.path_search.specs.Parts.{along, rooted, Leads, HasEntriesIn, NeedsIn, AlongNeeds, WhereLed}
 use Rattle.path_search.specs.declared.answer.Answer.{Answer}
 use Rattle.path_search.specs.declared.answer.Answer.TheVariants.{NotFound}
-use Rattle.path_search.proofs.Searched.{kept_on, tells_same, some_at, flat_same, ordered_same}
+use Rattle.path_search.proofs.Searched.{some_at, flat_same, ordered_same}
 use Rattle.path_search.proofs.Known.{root_there, found_by}
 use Rattle.path_search.proofs.Needed.{in_same, path_needs, led_as}
 use Rattle.path_search.specs.Needs.{PathNeeds}
 use Rattle.path_search.specs.Paths.{parts_of}
+use Rattle.path_search.proofs.Stays.{stays_on, stops_on}
 use Rattle.path_search.proofs.by_search.locate.Goals as goal
 
 pub returns-in-Ok-go_along-clause-leads : goal.returns-in-Ok-go_along-clause-leads
@@ -24,9 +25,9 @@ returns-in-Ok-go_along-clause-leads g c image told on ordered =
     let parts : List (List ℕ) = map (λ (part : Bor (List ℕ)). part.now) c.deref.result.now in
     let inode : inode_at facts root_id ≡ Some c.in-Some.inode = some_at (λ (i : Inode). first_for root_id (inodes_of flat) ≡ Some i) c.in-Ok.found c.in-Some.inode (c.in-Ok.ensures.found image told on ordered) c.in-Some.is in
     let there : rooted facts ≡ Ok c.in_ok-root.root = ap (λ (o : Option Place). ok_or o NotFound) (root_there facts c.in-Some.inode c.in_ok-root.root inode c.in_ok-root.ensures) in
-    let same : flat_of (tree_of c.find_inode.new.cursor image) (root_of c.find_inode.new.cursor) ≡ flat = flat_same (tree_of c.args.cursor.now) (tree_of c.find_inode.new.cursor) (root_of c.args.cursor.now) (root_of c.find_inode.new.cursor) image c.in-Ok.ensures.tree c.in-Ok.ensures.root in
-    let here = c.in-Ok-go_along.ensures.leads image (c.in-Ok.ensures.kept.same_bytes ∙ told) (c.in-Ok.ensures.within image told on)
-    (ordered_same g.K.TreeKey.shape (tree_of c.args.cursor.now) (tree_of c.find_inode.new.cursor) (root_of c.args.cursor.now) (root_of c.find_inode.new.cursor) image c.in-Ok.ensures.tree c.in-Ok.ensures.root ordered) in
+    let same : flat_of (tree_of c.find_inode.new.cursor image) (root_of c.find_inode.new.cursor) ≡ flat = flat_same (tree_of c.args.cursor.now) (tree_of c.find_inode.new.cursor) (root_of c.args.cursor.now) (root_of c.find_inode.new.cursor) image c.in-Ok.ensures.stays.tree c.in-Ok.ensures.stays.root in
+    let here = c.in-Ok-go_along.ensures.leads image (c.in-Ok.ensures.stays.kept.same_bytes ∙ told) (c.in-Ok.ensures.stays.within image told on)
+    (ordered_same g.K.TreeKey.shape (tree_of c.args.cursor.now) (tree_of c.find_inode.new.cursor) (root_of c.args.cursor.now) (root_of c.find_inode.new.cursor) image c.in-Ok.ensures.stays.tree c.in-Ok.ensures.stays.root ordered) in
     let goes : Leads (λ (p : Place). p) (along facts parts c.in_ok-root.root) c.in-Ok-go_along.onward = subst (λ (ps : List Pair). Leads (λ (p : Place). p) (along (facts_in c.args.names ps) parts c.in_ok-root.root) c.in-Ok-go_along.onward) same here in
     subst (λ (w : Result Place Answer). Leads (λ (p : Place). p) w c.in-Ok-go_along.onward) (sym (found_by facts c.args.path.now c.in_ok-root.root parts (along facts parts c.in_ok-root.root) there (ap (map (λ (part : Bor (List ℕ)). part.now)) c.deref.ensures.value ∙ c.in_ok-parts.ensures) refl)) goes
 
@@ -40,21 +41,46 @@ returns-in-Ok-go_along-clause-needs g c image told on ordered =
     let parts : List (List ℕ) = map (λ (part : Bor (List ℕ)). part.now) c.deref.result.now in
     let inode : inode_at facts root_id ≡ Some c.in-Some.inode = some_at (λ (i : Inode). first_for root_id (inodes_of flat) ≡ Some i) c.in-Ok.found c.in-Some.inode (c.in-Ok.ensures.found image told on ordered) c.in-Some.is in
     let there : root_place facts ≡ Some c.in_ok-root.root = root_there facts c.in-Some.inode c.in_ok-root.root inode c.in_ok-root.ensures in
-    let led = c.in-Ok-go_along.ensures.needs image (c.in-Ok.ensures.kept.same_bytes ∙ told) (c.in-Ok.ensures.within image told on)
-    (ordered_same g.K.TreeKey.shape (tree_of c.args.cursor.now) (tree_of c.find_inode.new.cursor) (root_of c.args.cursor.now) (root_of c.find_inode.new.cursor) image c.in-Ok.ensures.tree c.in-Ok.ensures.root ordered) in
+    let led = c.in-Ok-go_along.ensures.needs image (c.in-Ok.ensures.stays.kept.same_bytes ∙ told) (c.in-Ok.ensures.stays.within image told on)
+    (ordered_same g.K.TreeKey.shape (tree_of c.args.cursor.now) (tree_of c.find_inode.new.cursor) (root_of c.args.cursor.now) (root_of c.find_inode.new.cursor) image c.in-Ok.ensures.stays.tree c.in-Ok.ensures.stays.root ordered) in
     let needs : WhereLed (AlongNeeds facts has_all parts c.in_ok-root.root) c.in-Ok-go_along.onward =
-    in_same (λ t r. WhereLed (NeedsIn (λ f h. AlongNeeds f h parts c.in_ok-root.root) c.args.names t r) c.in-Ok-go_along.onward) (tree_of c.args.cursor.now) (tree_of c.find_inode.new.cursor) (root_of c.args.cursor.now) (root_of c.find_inode.new.cursor) image c.in-Ok.ensures.tree c.in-Ok.ensures.root led in
+    in_same (λ t r. WhereLed (NeedsIn (λ f h. AlongNeeds f h parts c.in_ok-root.root) c.args.names t r) c.in-Ok-go_along.onward) (tree_of c.args.cursor.now) (tree_of c.find_inode.new.cursor) (root_of c.args.cursor.now) (root_of c.find_inode.new.cursor) image c.in-Ok.ensures.stays.tree c.in-Ok.ensures.stays.root led in
     let same : parts ≡ parts_of c.args.path.now = ap (map (λ (part : Bor (List ℕ)). part.now)) c.deref.ensures.value ∙ c.in_ok-parts.ensures in
     led_as (AlongNeeds facts has_all parts c.in_ok-root.root) (PathNeeds facts has_all c.args.path.now) c.in-Ok-go_along.onward
     (λ h. path_needs facts has_all c.args.path.now c.in_ok-root.root there (subst (λ ps. AlongNeeds facts has_all ps c.in_ok-root.root) same h)) needs
 
-pub returns-clause-present : goal.returns-clause-present
-returns-clause-present g c image told on =
-    tells_same (tree_of c.args.cursor.now) (tree_of c.find_inode.new.cursor) (root_of c.args.cursor.now) (root_of c.find_inode.new.cursor) image c.in-Err-go_along.stop c.in-Ok.ensures.tree c.in-Ok.ensures.root
-    (c.in-Err-go_along.ensures.present image (c.in-Ok.ensures.kept.same_bytes ∙ told) (c.in-Ok.ensures.within image told on))
+pub returns-in-Ok-go_along-clause-site : goal.returns-in-Ok-go_along-clause-site
+returns-in-Ok-go_along-clause-site g c = (stays_on c.in-Ok.ensures.stays c.in-Ok-go_along.ensures.stays).site
+
+pub returns-in-Ok-go_along-clause-root : goal.returns-in-Ok-go_along-clause-root
+returns-in-Ok-go_along-clause-root g c = (stays_on c.in-Ok.ensures.stays c.in-Ok-go_along.ensures.stays).root
+
+pub returns-in-Ok-go_along-clause-tree : goal.returns-in-Ok-go_along-clause-tree
+returns-in-Ok-go_along-clause-tree g c = (stays_on c.in-Ok.ensures.stays c.in-Ok-go_along.ensures.stays).tree
+
+pub returns-in-Ok-go_along-clause-within : goal.returns-in-Ok-go_along-clause-within
+returns-in-Ok-go_along-clause-within g c = (stays_on c.in-Ok.ensures.stays c.in-Ok-go_along.ensures.stays).within
 
 pub returns-in-Ok-go_along-clause-kept : goal.returns-in-Ok-go_along-clause-kept
-returns-in-Ok-go_along-clause-kept g c = kept_on c.in-Ok.ensures.kept c.in-Ok-go_along.ensures.kept
+returns-in-Ok-go_along-clause-kept g c = (stays_on c.in-Ok.ensures.stays c.in-Ok-go_along.ensures.stays).kept
+
+pub returns-clause-site : goal.returns-clause-site
+returns-clause-site g c = (stays_on c.in-Ok.ensures.stays c.in-Err-go_along.ensures.stays).site
+
+pub returns-clause-root : goal.returns-clause-root
+returns-clause-root g c = (stays_on c.in-Ok.ensures.stays c.in-Err-go_along.ensures.stays).root
+
+pub returns-clause-tree : goal.returns-clause-tree
+returns-clause-tree g c = (stays_on c.in-Ok.ensures.stays c.in-Err-go_along.ensures.stays).tree
+
+pub returns-clause-within : goal.returns-clause-within
+returns-clause-within g c = (stays_on c.in-Ok.ensures.stays c.in-Err-go_along.ensures.stays).within
 
 pub returns-clause-kept : goal.returns-clause-kept
-returns-clause-kept g c = kept_on c.in-Ok.ensures.kept c.in-Err-go_along.ensures.kept
+returns-clause-kept g c = (stays_on c.in-Ok.ensures.stays c.in-Err-go_along.ensures.stays).kept
+
+pub returns-clause-present : goal.returns-clause-present
+returns-clause-present g c = (stops_on c.in-Ok.ensures.stays c.in-Err-go_along.ensures.stops).present
+
+pub returns-clause-cause : goal.returns-clause-cause
+returns-clause-cause g c e = (stops_on c.in-Ok.ensures.stays c.in-Err-go_along.ensures.stops).cause cc

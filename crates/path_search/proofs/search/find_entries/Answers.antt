@@ -8,8 +8,10 @@ use Rattle.bt_cursor.specs.Flat.{flat_of}
 use Rattle.bt_cursor.specs.From.{is_of_kind, is_kind_whole}
 use Rattle.bt_cursor.proofs.Runs.{left-from, whole-from}
 use Rattle.path_search.specs.Parts.{whats, is_wanted, run_entries, are_whole}
-use Rattle.path_search.proofs.Searched.{kept_on, entries_at, tells_same}
+use Rattle.path_search.proofs.Searched.{entries_at}
 use Rattle.path_search.proofs.Needed.{if_as, entries_there}
+use Rattle.path_search.specs.Stays.{Stays}
+use Rattle.path_search.proofs.Stays.{stays_on, stops_on}
 use Rattle.path_search.proofs.search.find_entries.Goals as goal
 
 pub returns-in-Ok-take_run-clause-found : goal.returns-in-Ok-take_run-clause-found
@@ -30,13 +32,17 @@ returns-in-Ok-take_run-clause-all g c image told on ordered =
     (if_as (λ v. are_whole g.K.TreeKey.shape c.args.id (gapped_left_of c.seek.new.self image) ≡ true) (λ v. is_kind_whole (tree_of c.args.cursor.now image) (root_of c.args.cursor.now) c.args.id entry_record ≡ true) c.in-Ok-take_run.run'
     (λ v whole. whole-from image c.args.cursor.now c.seek.new.self rank (is_of_kind c.args.id entry_record) left whole) (c.in-Ok-take_run.ensures.whole image later))
 
-pub returns-in-Err-take_run-clause-present : goal.returns-in-Err-take_run-clause-present
-returns-in-Err-take_run-clause-present g c image told on =
-    tells_same (tree_of c.args.cursor.now) (tree_of c.seek.new.self) (root_of c.args.cursor.now) (root_of c.seek.new.self) image c.in-Err-take_run.stop c.in-Ok.ensures.tree c.in-Ok.ensures.root
-    (c.in-Err-take_run.ensures.present image (c.in-Ok.ensures.kept.same_bytes ∙ told) (c.in-Ok.ensures.within image told on))
+pub returns-in-Ok-take_run-clause-stays : goal.returns-in-Ok-take_run-clause-stays
+returns-in-Ok-take_run-clause-stays g c =
+    let one : Stays g.S.BlockSource.bytes g.S.BlockSource.bytes_len g.S.BlockSource.faults c.args.src.now c.seek.new.src c.args.cursor.now c.seek.new.self = record { site = c.in-Ok.ensures.site; root = c.in-Ok.ensures.root; tree = c.in-Ok.ensures.tree; within = c.in-Ok.ensures.within; kept = c.in-Ok.ensures.kept } in
+    stays_on one c.in-Ok-take_run.ensures.stays
 
-pub returns-in-Ok-take_run-clause-kept : goal.returns-in-Ok-take_run-clause-kept
-returns-in-Ok-take_run-clause-kept g c = kept_on c.in-Ok.ensures.kept c.in-Ok-take_run.ensures.kept
+pub returns-in-Err-take_run-clause-stays : goal.returns-in-Err-take_run-clause-stays
+returns-in-Err-take_run-clause-stays g c =
+    let one : Stays g.S.BlockSource.bytes g.S.BlockSource.bytes_len g.S.BlockSource.faults c.args.src.now c.seek.new.src c.args.cursor.now c.seek.new.self = record { site = c.in-Ok.ensures.site; root = c.in-Ok.ensures.root; tree = c.in-Ok.ensures.tree; within = c.in-Ok.ensures.within; kept = c.in-Ok.ensures.kept } in
+    stays_on one c.in-Err-take_run.ensures.stays
 
-pub returns-in-Err-take_run-clause-kept : goal.returns-in-Err-take_run-clause-kept
-returns-in-Err-take_run-clause-kept g c = kept_on c.in-Ok.ensures.kept c.in-Err-take_run.ensures.kept
+pub returns-in-Err-take_run-clause-stops : goal.returns-in-Err-take_run-clause-stops
+returns-in-Err-take_run-clause-stops g c =
+    let one : Stays g.S.BlockSource.bytes g.S.BlockSource.bytes_len g.S.BlockSource.faults c.args.src.now c.seek.new.src c.args.cursor.now c.seek.new.self = record { site = c.in-Ok.ensures.site; root = c.in-Ok.ensures.root; tree = c.in-Ok.ensures.tree; within = c.in-Ok.ensures.within; kept = c.in-Ok.ensures.kept } in
+    stops_on one c.in-Err-take_run.ensures.stops

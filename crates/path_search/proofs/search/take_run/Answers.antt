@@ -1,21 +1,28 @@
-use Rattle.std.proofs.Common.{◌∙◌}
-use Rattle.bt_cursor.specs.Cursors.{root_of, tree_of}
-use Rattle.path_search.proofs.Searched.{kept_on, tells_same}
+use Rattle.std.proofs.Common.{◌∙◌, subst}
+use Rattle.bt_cursor.specs.Cursors.{left_of, gapped_left_of}
+use Rattle.path_search.specs.Parts.{whats, is_wanted, TakesNext, GoesWhole}
+use Rattle.path_search.specs.declared.search.Took.{Took}
+use Rattle.path_search.proofs.Stays.{stays_on, stops_on}
 use Rattle.path_search.proofs.search.take_run.Goals as goal
 
-pub returns-in-Err-clause-present : goal.returns-in-Err-clause-present
-returns-in-Err-clause-present g c image told on =
-    tells_same (tree_of c.args.cursor.now) (tree_of c.run.cursor) (root_of c.args.cursor.now) (root_of c.run.cursor) image c.in-Err.stop c.run.invariant.tree c.run.invariant.root
-    (c.in-Err.ensures.present image (c.run.invariant.kept.same_bytes ∙ told) (c.run.invariant.within image told on))
+pub returns-in-Err-clause-stays : goal.returns-in-Err-clause-stays
+returns-in-Err-clause-stays g c = stays_on c.run.invariant.stays c.in-Err.ensures.stays
 
-pub returns-in-Err-clause-kept : goal.returns-in-Err-clause-kept
-returns-in-Err-clause-kept g c = kept_on c.run.invariant.kept c.in-Err.ensures.kept
+pub returns-in-Err-clause-stops : goal.returns-in-Err-clause-stops
+returns-in-Err-clause-stops g c = stops_on c.run.invariant.stays c.in-Err.ensures.stops
 
-pub returns-in-End-clause-kept : goal.returns-in-End-clause-kept
-returns-in-End-clause-kept g c = kept_on c.run.invariant.kept c.in-Ok.ensures.kept
+pub returns-in-End-clause-stays : goal.returns-in-End-clause-stays
+returns-in-End-clause-stays g c = stays_on c.run.invariant.stays c.in-Ok.ensures.stays
 
-pub returns-in-Refused-clause-kept : goal.returns-in-Refused-clause-kept
-returns-in-Refused-clause-kept g c = kept_on c.run.invariant.kept c.in-Ok.ensures.kept
+pub returns-in-Refused-clause-stays : goal.returns-in-Refused-clause-stays
+returns-in-Refused-clause-stays g c = stays_on c.run.invariant.stays c.in-Ok.ensures.stays
 
-pub returns-then-len-gt-FEW-clause-kept : goal.returns-then-len-gt-FEW-clause-kept
-returns-then-len-gt-FEW-clause-kept g c = kept_on c.run.invariant.kept c.in-Ok.ensures.kept
+pub returns-then-len-gt-FEW-clause-stays : goal.returns-then-len-gt-FEW-clause-stays
+returns-then-len-gt-FEW-clause-stays g c = stays_on c.run.invariant.stays c.in-Ok.ensures.stays
+
+pub run-preserved : goal.run-preserved
+run-preserved g c = record {
+  stays = stays_on c.run.invariant.stays c.in-Ok.ensures.stays;
+  whole = λ image told. c.run.invariant.whole image told ∙ subst (λ (t : Took). GoesWhole g.K.TreeKey.shape c.args.id (gapped_left_of c.run.cursor image) (gapped_left_of c.take_next.new.cursor image) t) c.in-One.is (c.in-Ok.ensures.whole image (c.run.invariant.stays.kept.same_bytes ∙ told));
+  taken = λ image told. c.run.invariant.taken image told ∙ subst (λ (t : Took). TakesNext g.K.TreeKey.shape c.args.names (is_wanted c.args.names c.args.wanted) c.args.id (left_of c.run.cursor image) (left_of c.take_next.new.cursor image) (whats c.run.taken.items) (whats c.take_next.new.taken.items) t) c.in-One.is (c.in-Ok.ensures.taken image (c.run.invariant.stays.kept.same_bytes ∙ told));
+}

@@ -1,18 +1,14 @@
 use Rattle.std.proofs.Common.{◌≡◌, ℕ, List, [], Some}
-use Rattle.apfs_model.specs.Kept.{IsKept}
-use Rattle.bt_cursor.specs.Cursors.{site_of, root_of, tree_of, left_of, gapped_left_of, fuel_of, IsOn}
+use Rattle.bt_cursor.specs.Cursors.{left_of, gapped_left_of, fuel_of}
+use Rattle.path_search.specs.Stays.{Stays}
 use Rattle.path_search.specs.Parts.{whats, is_wanted, run_entries, are_whole}
 use Rattle.path_search.proofs.search.take_run.Given as goal
 
 abbrev pub invariant-run : goal.invariant-run
 invariant-run g l = record {
-  site : site_of l.cursor ≡ site_of l.fn.cursor;
-  root : root_of l.cursor ≡ root_of l.fn.cursor;
-  tree : tree_of l.cursor ≡ tree_of l.fn.cursor;
-  within : (image : List ℕ) → g.S.BlockSource.bytes l.fn.src ≡ Some image → IsOn image l.fn.cursor → IsOn image l.cursor;
+  stays : Stays g.S.BlockSource.bytes g.S.BlockSource.bytes_len g.S.BlockSource.faults l.fn.src l.src l.fn.cursor l.cursor;
   whole : (image : List ℕ) → g.S.BlockSource.bytes l.fn.src ≡ Some image → are_whole g.K.TreeKey.shape l.id (gapped_left_of l.fn.cursor image) ≡ are_whole g.K.TreeKey.shape l.id (gapped_left_of l.cursor image);
   taken : (image : List ℕ) → g.S.BlockSource.bytes l.fn.src ≡ Some image → run_entries g.K.TreeKey.shape l.names (is_wanted l.names l.wanted) l.id [] (left_of l.fn.cursor image) ≡ run_entries g.K.TreeKey.shape l.names (is_wanted l.names l.wanted) l.id (whats l.taken.items) (left_of l.cursor image);
-  kept : IsKept g.S.BlockSource.bytes g.S.BlockSource.bytes_len g.S.BlockSource.faults l.fn.src l.src;
 }
 
 abbrev pub decreases-run : goal.decreases-run
