@@ -14,6 +14,7 @@ ghost use Rattle.fs_name.specs.Normal.{are_hashed};
 ghost use Rattle.fs_record.specs.Facts as facts;
 ghost use Rattle.vol_view.specs.Views.{view_tree};
 ghost use Rattle.view_rules.specs.Facts.{facts_in, is_directory};
+ghost use Rattle.path_search.specs.Paths.{parts_of};
 ghost use Rattle.path_search.specs.Places.{placed, target_of};
 ghost use Rattle.path_search.specs.Listing.{children, listed, listing};
 ghost use Rattle.path_search.specs.Found.{entries_in, entry_named, step, walk, found};
@@ -228,6 +229,35 @@ fn go_along<K: FsTreeKey, S: BlockSource, N: Namer>(
     Ok(Onward::To(place))
 }
 
+// All parts of a path on from the root; what it says holds for each path that has these parts.
+fn go_from_root<K: FsTreeKey, S: BlockSource, N: Namer>(
+    alloc: Global,
+    src: &mut S,
+    cursor: &mut Cursor<K, N>,
+    names: Names,
+    parts: &[&str],
+) -> Result<Onward<Place>, Stop<WalkFault>>
+    requires site { IsSiteFor (site_of cursor.old) (S.bytes_len src.old) }
+    requires hashed { are_hashed names ≡ K.HASHED }
+    ensures stays { Stays S.bytes S.bytes_len S.faults src.old src.new cursor.old cursor.new }
+    ensures leads { (path : List ℕ) → map (λ part. part.now) parts.now ≡ parts_of path → (image : List ℕ) → S.bytes src.old ≡ Some image → IsOn image cursor.old → is_ordered K.shape (line_of (tree_of cursor.old image) (root_of cursor.old)) ≡ true → IfOk result (Leads (λ place. place) (found (facts_in names (flat_of (tree_of cursor.old image) (root_of cursor.old))) path)) }
+    ensures needs { (path : List ℕ) → map (λ part. part.now) parts.now ≡ parts_of path → (image : List ℕ) → S.bytes src.old ≡ Some image → IsOn image cursor.old → is_ordered K.shape (line_of (tree_of cursor.old image) (root_of cursor.old)) ≡ true → IfOk result (WhereLed (NeedsIn (λ facts has_all. PathNeeds facts has_all path) names (tree_of cursor.old image) (root_of cursor.old))) }
+    ensures stops { IfErr result (StopsFrom S.bytes S.faults src.old src.new cursor.old) }
+{
+    let found = match find_inode(src, cursor, ROOT) {
+        Ok(found) => found,
+        Err(stop) => return Err(stop),
+    };
+    let Some(inode) = found else {
+        return Ok(Onward::Lost);
+    };
+    let root = root_of_inode(alloc, inode)?;
+    match go_along(alloc, src, cursor, names, root, parts) {
+        Ok(onward) => Ok(onward),
+        Err(stop) => Err(stop),
+    }
+}
+
 /// Where a path leads, from a cursor of the view's tree.
 pub fn locate<K: FsTreeKey, S: BlockSource, N: Namer>(
     alloc: Global,
@@ -249,18 +279,7 @@ pub fn locate<K: FsTreeKey, S: BlockSource, N: Namer>(
     ensures kept { IsKept S.bytes S.bytes_len S.faults src.old src.new }
 {
     let parts = parts(alloc, path)?;
-    let found = match find_inode(src, cursor, ROOT) {
-        Ok(found) => found,
-        Err(stop) => return Err(stop),
-    };
-    let Some(inode) = found else {
-        return Ok(Onward::Lost);
-    };
-    let root = root_of_inode(alloc, inode)?;
-    match go_along(alloc, src, cursor, names, root, &parts) {
-        Ok(onward) => Ok(onward),
-        Err(stop) => Err(stop),
-    }
+    go_from_root(alloc, src, cursor, names, &parts)
 }
 
 // An entry's file as it is told; None where it has no inode, or one that can't be read.

@@ -1,86 +1,21 @@
-use Rattle.std.proofs.Common.{◌≡◌, ◌∙◌, ℕ, List, Option, Some, Result, Ok, map, refl, ap, sym, subst, Bor}
-use Rattle.std.specs.Option.{ok_or}
-use Rattle.bt_node.specs.Entries.{Pair}
-use Rattle.bt_cursor.specs.Flat.{flat_of}
-use Rattle.bt_cursor.specs.Cursors.{root_of, tree_of}
-use Rattle.fs_record.specs.Inodes.{Inode}
-use Rattle.fs_record.specs.Facts.{first_for, inodes_of, root_id}
-use Rattle.view_rules.specs.Facts.{Facts, facts_in, inode_at}
-use Rattle.path_search.specs.Places.{Place, root_of as root_place}
-use Rattle.path_search.specs.Parts.{along, rooted, Leads, HasEntriesIn, NeedsIn, AlongNeeds, WhereLed}
-use Rattle.path_search.specs.declared.answer.Answer.{Answer}
-use Rattle.path_search.specs.declared.answer.Answer.TheVariants.{NotFound}
-use Rattle.path_search.proofs.Searched.{some_at, flat_same, ordered_same}
-use Rattle.path_search.proofs.Known.{root_there, found_by}
-use Rattle.path_search.proofs.Needed.{in_same, path_needs, led_as}
-use Rattle.path_search.specs.Needs.{PathNeeds}
-use Rattle.path_search.specs.Paths.{parts_of}
-use Rattle.path_search.proofs.Stays.{stays_on, stops_on}
+use Rattle.std.proofs.Common.{◌∙◌, ℕ, List, map, ap, Bor}
+use Rattle.path_search.proofs.Stays.{tells_stop, read_failed}
 use Rattle.path_search.proofs.by_search.locate.Goals as goal
 
-pub returns-in-Ok-go_along-clause-leads : goal.returns-in-Ok-go_along-clause-leads
-returns-in-Ok-go_along-clause-leads g c image told on ordered =
-    let flat : List Pair = flat_of (tree_of c.args.cursor.now image) (root_of c.args.cursor.now) in
-    let facts : Facts = facts_in c.args.names flat in
-    let parts : List (List ℕ) = map (λ (part : Bor (List ℕ)). part.now) c.deref.result.now in
-    let inode : inode_at facts root_id ≡ Some c.in-Some.inode = some_at (λ (i : Inode). first_for root_id (inodes_of flat) ≡ Some i) c.in-Ok.found c.in-Some.inode (c.in-Ok.ensures.found image told on ordered) c.in-Some.is in
-    let there : rooted facts ≡ Ok c.in_ok-root.root = ap (λ (o : Option Place). ok_or o NotFound) (root_there facts c.in-Some.inode c.in_ok-root.root inode c.in_ok-root.ensures) in
-    let same : flat_of (tree_of c.find_inode.new.cursor image) (root_of c.find_inode.new.cursor) ≡ flat = flat_same (tree_of c.args.cursor.now) (tree_of c.find_inode.new.cursor) (root_of c.args.cursor.now) (root_of c.find_inode.new.cursor) image c.in-Ok.ensures.stays.tree c.in-Ok.ensures.stays.root in
-    let here = c.in-Ok-go_along.ensures.leads image (c.in-Ok.ensures.stays.kept.same_bytes ∙ told) (c.in-Ok.ensures.stays.within image told on)
-    (ordered_same g.K.TreeKey.shape (tree_of c.args.cursor.now) (tree_of c.find_inode.new.cursor) (root_of c.args.cursor.now) (root_of c.find_inode.new.cursor) image c.in-Ok.ensures.stays.tree c.in-Ok.ensures.stays.root ordered) in
-    let goes : Leads (λ (p : Place). p) (along facts parts c.in_ok-root.root) c.in-Ok-go_along.onward = subst (λ (ps : List Pair). Leads (λ (p : Place). p) (along (facts_in c.args.names ps) parts c.in_ok-root.root) c.in-Ok-go_along.onward) same here in
-    subst (λ (w : Result Place Answer). Leads (λ (p : Place). p) w c.in-Ok-go_along.onward) (sym (found_by facts c.args.path.now c.in_ok-root.root parts (along facts parts c.in_ok-root.root) there (ap (map (λ (part : Bor (List ℕ)). part.now)) c.deref.ensures.value ∙ c.in_ok-parts.ensures) refl)) goes
+pub returns-clause-leads : goal.returns-clause-leads
+returns-clause-leads g c = c.go_from_root.ensures.leads c.args.path.now (ap (map (λ (part : Bor (List ℕ)). part.now)) c.deref.ensures.value ∙ c.in_ok-parts.ensures)
 
-pub returns-in-Ok-go_along-clause-needs : goal.returns-in-Ok-go_along-clause-needs
-returns-in-Ok-go_along-clause-needs g c image told on ordered =
-    let tree = tree_of c.args.cursor.now image in
-    let root = root_of c.args.cursor.now in
-    let flat : List Pair = flat_of tree root in
-    let facts : Facts = facts_in c.args.names flat in
-    let has_all : ℕ → Type 0 = HasEntriesIn c.args.names tree root in
-    let parts : List (List ℕ) = map (λ (part : Bor (List ℕ)). part.now) c.deref.result.now in
-    let inode : inode_at facts root_id ≡ Some c.in-Some.inode = some_at (λ (i : Inode). first_for root_id (inodes_of flat) ≡ Some i) c.in-Ok.found c.in-Some.inode (c.in-Ok.ensures.found image told on ordered) c.in-Some.is in
-    let there : root_place facts ≡ Some c.in_ok-root.root = root_there facts c.in-Some.inode c.in_ok-root.root inode c.in_ok-root.ensures in
-    let led = c.in-Ok-go_along.ensures.needs image (c.in-Ok.ensures.stays.kept.same_bytes ∙ told) (c.in-Ok.ensures.stays.within image told on)
-    (ordered_same g.K.TreeKey.shape (tree_of c.args.cursor.now) (tree_of c.find_inode.new.cursor) (root_of c.args.cursor.now) (root_of c.find_inode.new.cursor) image c.in-Ok.ensures.stays.tree c.in-Ok.ensures.stays.root ordered) in
-    let needs : WhereLed (AlongNeeds facts has_all parts c.in_ok-root.root) c.in-Ok-go_along.onward =
-    in_same (λ t r. WhereLed (NeedsIn (λ f h. AlongNeeds f h parts c.in_ok-root.root) c.args.names t r) c.in-Ok-go_along.onward) (tree_of c.args.cursor.now) (tree_of c.find_inode.new.cursor) (root_of c.args.cursor.now) (root_of c.find_inode.new.cursor) image c.in-Ok.ensures.stays.tree c.in-Ok.ensures.stays.root led in
-    let same : parts ≡ parts_of c.args.path.now = ap (map (λ (part : Bor (List ℕ)). part.now)) c.deref.ensures.value ∙ c.in_ok-parts.ensures in
-    led_as (AlongNeeds facts has_all parts c.in_ok-root.root) (PathNeeds facts has_all c.args.path.now) c.in-Ok-go_along.onward
-    (λ h. path_needs facts has_all c.args.path.now c.in_ok-root.root there (subst (λ ps. AlongNeeds facts has_all ps c.in_ok-root.root) same h)) needs
-
-pub returns-in-Ok-go_along-clause-site : goal.returns-in-Ok-go_along-clause-site
-returns-in-Ok-go_along-clause-site g c = (stays_on c.in-Ok.ensures.stays c.in-Ok-go_along.ensures.stays).site
-
-pub returns-in-Ok-go_along-clause-root : goal.returns-in-Ok-go_along-clause-root
-returns-in-Ok-go_along-clause-root g c = (stays_on c.in-Ok.ensures.stays c.in-Ok-go_along.ensures.stays).root
-
-pub returns-in-Ok-go_along-clause-tree : goal.returns-in-Ok-go_along-clause-tree
-returns-in-Ok-go_along-clause-tree g c = (stays_on c.in-Ok.ensures.stays c.in-Ok-go_along.ensures.stays).tree
-
-pub returns-in-Ok-go_along-clause-within : goal.returns-in-Ok-go_along-clause-within
-returns-in-Ok-go_along-clause-within g c = (stays_on c.in-Ok.ensures.stays c.in-Ok-go_along.ensures.stays).within
-
-pub returns-in-Ok-go_along-clause-kept : goal.returns-in-Ok-go_along-clause-kept
-returns-in-Ok-go_along-clause-kept g c = (stays_on c.in-Ok.ensures.stays c.in-Ok-go_along.ensures.stays).kept
-
-pub returns-clause-site : goal.returns-clause-site
-returns-clause-site g c = (stays_on c.in-Ok.ensures.stays c.in-Err-go_along.ensures.stays).site
-
-pub returns-clause-root : goal.returns-clause-root
-returns-clause-root g c = (stays_on c.in-Ok.ensures.stays c.in-Err-go_along.ensures.stays).root
-
-pub returns-clause-tree : goal.returns-clause-tree
-returns-clause-tree g c = (stays_on c.in-Ok.ensures.stays c.in-Err-go_along.ensures.stays).tree
-
-pub returns-clause-within : goal.returns-clause-within
-returns-clause-within g c = (stays_on c.in-Ok.ensures.stays c.in-Err-go_along.ensures.stays).within
-
-pub returns-clause-kept : goal.returns-clause-kept
-returns-clause-kept g c = (stays_on c.in-Ok.ensures.stays c.in-Err-go_along.ensures.stays).kept
+pub returns-clause-needs : goal.returns-clause-needs
+returns-clause-needs g c = c.go_from_root.ensures.needs c.args.path.now (ap (map (λ (part : Bor (List ℕ)). part.now)) c.deref.ensures.value ∙ c.in_ok-parts.ensures)
 
 pub returns-clause-present : goal.returns-clause-present
-returns-clause-present g c = (stops_on c.in-Ok.ensures.stays c.in-Err-go_along.ensures.stops).present
+returns-clause-present g c = tells_stop g.S.BlockSource.bytes g.S.BlockSource.faults c.args.src.now c.go_from_root.new.src c.args.cursor.now c.go_from_root.result c.go_from_root.ensures.stops
 
 pub returns-clause-cause : goal.returns-clause-cause
-returns-clause-cause g c e = (stops_on c.in-Ok.ensures.stays c.in-Err-go_along.ensures.stops).cause cc
+returns-clause-cause g c = read_failed g.S.BlockSource.bytes g.S.BlockSource.faults c.args.src.now c.go_from_root.new.src c.args.cursor.now c.go_from_root.result c.go_from_root.ensures.stops
+
+pub returns-clause-within : goal.returns-clause-within
+returns-clause-within g c = c.go_from_root.ensures.stays.within
+
+pub returns-clause-kept : goal.returns-clause-kept
+returns-clause-kept g c = c.go_from_root.ensures.stays.kept
