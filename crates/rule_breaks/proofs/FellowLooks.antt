@@ -1,7 +1,8 @@
 -- Entries, links and maps that go together.
-use Rattle.std.proofs.Common.{◌≡◌, ℕ, Bool, true, false, cond, List, [], ◌∷◌, Option, Some, None, refl, ap, sym, ◌∙◌}
-use Rattle.std.specs.Prelude.{bytes_eq, ◌==◌, ◌&&◌, ◌||◌, nat_lt, not, option_map, is_some}
+use Rattle.std.proofs.Common.{◌≡◌, ℕ, ◌+◌, ◌<◌, Bool, true, false, cond, List, [], ◌∷◌, length, take, get_or, Option, Some, None, refl, ap, sym, ◌∙◌, subst, arith}
+use Rattle.std.specs.Prelude.{bytes_eq, ◌==◌, ◌&&◌, ◌||◌, nat_lt, not, option_map, is_some, count_by}
 use Rattle.std.specs.List.{list_any}
+use Rattle.std.proofs.lemmas.List.Sums.{count_by_more_yes, count_by_more_no}
 use Rattle.std.proofs.lemmas.Cmp.{nat_eq_equiv, nat_list_eq_equiv}
 use Rattle.apfs_model.specs.Lists.{passes}
 use Rattle.fs_record.specs.Entries.{Entry}
@@ -113,3 +114,24 @@ linked_some facts e s is = ap (λ o. cond ((is_some o && not (is_system_id e.id)
 
 pub linked_none : (facts : Facts) (e : Fact Entry) → e.what.sibling ≡ None → linked_sibling facts e ≡ None
 linked_none facts e is = ap (λ o. cond ((is_some o && not (is_system_id e.id)) && has_link facts e) (option_map (sibling_key e.what.file_id) o) None) is
+
+-- one more item is counted by its key, where it has one
+pub key-more : {X : Type 0} (key : X → Option Key) (q : Key) (xs items : List X) (i : ℕ) (x : X) (k : Key) (old new : ℕ) → items ≡ xs → i < length items → x ≡ get_or items i x → Some k ≡ key x
+    → old ≡ count_by (has_key key q) (take i xs) → new ≡ old + cond (is_same_key k q) 1 0 → new ≡ count_by (has_key key q) (take (i + 1) xs)
+key-more {X} key q xs items i x k old new same low is has counted added =
+    let low2 : i < length xs = subst (λ (ys : List X). i < length ys) same low in
+    let test : has_key key q (get_or xs i x) ≡ is_same_key k q = ap (has_key key q) (sym (is ∙ ap (λ (ys : List X). get_or ys i x) same)) ∙ ap (λ o. passes o (λ k. is_same_key k q)) (sym has) in
+    let go : (b : Bool) → is_same_key k q ≡ b → old + cond b 1 0 ≡ count_by (has_key key q) (take (i + 1) xs) =
+    λ b. elim b as (λ b. is_same_key k q ≡ b → old + cond b 1 0 ≡ count_by (has_key key q) (take (i + 1) xs)) [
+      | true ↦ λ e. omega (arith, counted, count_by_more_yes (has_key key q) xs i x low2 (test ∙ e))
+      | false ↦ λ e. omega (arith, counted, count_by_more_no (has_key key q) xs i x low2 (test ∙ e))
+    ] in
+    added ∙ go (is_same_key k q) refl
+
+-- it has none
+pub key-none : {X : Type 0} (key : X → Option Key) (q : Key) (xs items : List X) (i : ℕ) (x : X) (old : ℕ) → items ≡ xs → i < length items → x ≡ get_or items i x → None ≡ key x
+    → old ≡ count_by (has_key key q) (take i xs) → old ≡ count_by (has_key key q) (take (i + 1) xs)
+key-none {X} key q xs items i x old same low is has counted =
+    let low2 : i < length xs = subst (λ (ys : List X). i < length ys) same low in
+    let test : has_key key q (get_or xs i x) ≡ false = ap (has_key key q) (sym (is ∙ ap (λ (ys : List X). get_or ys i x) same)) ∙ ap (λ o. passes o (λ k. is_same_key k q)) (sym has) in
+    counted ∙ sym (count_by_more_no (has_key key q) xs i x low2 test)

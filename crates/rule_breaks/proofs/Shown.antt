@@ -1,6 +1,6 @@
 -- What a fact that breaks a rule shows.
-use Rattle.std.proofs.Common.{◌≡◌, ℕ, Bool, true, false, List, Option, Some, None, inl, inr, refl, ap, sym, ◌∙◌, subst}
-use Rattle.std.specs.Prelude.{option_map, is_some, not}
+use Rattle.std.proofs.Common.{◌≡◌, ℕ, Bool, true, false, List, Option, Some, None, Result, Ok, Err, inl, inr, refl, ap, sym, ◌∙◌, subst}
+use Rattle.std.specs.Prelude.{option_map, is_some, not, IfOk}
 use Rattle.std.specs.Option.{option_or}
 use Rattle.std.specs.List.{find}
 use Rattle.fs_record.specs.Inodes.{Inode}
@@ -23,12 +23,13 @@ use Rattle.view_rules.specs.declared.fault.NamedAt.{NamedAt}
 use Rattle.view_rules.specs.declared.fault.TreeFault.{TreeFault}
 use Rattle.view_rules.specs.declared.fault.TreeFault.TheVariants.{DupName, Hash, NoParent, NoInode, KindMismatch, DirNames, Unreached, Children, Links, SiblingLost, ExtentOrder, ExtentPlace, ExtentUncovered, LinkTarget, Stream, AttrOwner, NameHash}
 use Rattle.view_rules.specs.declared.profile.Profile.TheVariants.{Strict}
+use Rattle.apfs_model.specs.declared.failed.NoMemory.{NoMemory}
 use Rattle.apfs_model.proofs.BoolTests.{clash}
 use Rattle.apfs_model.proofs.Searches.{found-in}
 use Rattle.rule_breaks.proofs.Finds.{none-clear, found-broken}
 use Rattle.rule_breaks.proofs.FellowLooks.{lost_none}
 use Rattle.rule_breaks.specs.declared.faults.Asked.{Asked}
-use Rattle.rule_breaks.specs.Faults.{id_at, named_at, IsShown, IsFirst}
+use Rattle.rule_breaks.specs.Faults.{id_at, named_at, IsShown, IsFirst, either}
 
 -- where nothing is found no item breaks the rule
 pub none_clear : {X : Type 0} (breaks : X → Bool) (xs : List X) → None ≡ find breaks xs → IsClear breaks xs
@@ -42,6 +43,25 @@ first-of asked facts A B None None holds more = (holds, more)
 
 pub both : (asked : Asked) (facts : Facts) (A B : Type 0) (one other first : Option TreeFault) → first ≡ option_or one other → IsFirst asked facts A one → IsFirst asked facts B other → IsFirst asked facts (A × B) first
 both asked facts A B one other first is here there = subst (λ o. IsFirst asked facts (A × B) o) (sym is) (first-of asked facts A B one other here there)
+
+either-of : (asked : Asked) (facts : Facts) (A B : Type 0) (one other : Result (Option TreeFault) NoMemory) → IfOk one (IsFirst asked facts A) → IfOk other (IsFirst asked facts B) → IfOk (either one other) (IsFirst asked facts (A × B))
+either-of asked facts A B (Ok one) (Ok other) here there = first-of asked facts A B one other here there
+either-of asked facts A B (Ok one) (Err e) here there = there
+either-of asked facts A B (Err e) other here there = here
+
+-- the same where memory was enough for both
+pub either-first : (asked : Asked) (facts : Facts) (A B : Type 0) (one other result : Result (Option TreeFault) NoMemory) → result ≡ either one other → IfOk one (IsFirst asked facts A) → IfOk other (IsFirst asked facts B) → IfOk result (IsFirst asked facts (A × B))
+either-first asked facts A B one other result is here there = subst (λ r. IfOk r (IsFirst asked facts (A × B))) (sym is) (either-of asked facts A B one other here there)
+
+regroup : (asked : Asked) (facts : Facts) (A B C : Type 0) (result : Result (Option TreeFault) NoMemory) → IfOk result (IsFirst asked facts ((A × B) × C)) → IfOk result (IsFirst asked facts (A × (B × C)))
+regroup asked facts A B C (Err e) none = none
+regroup asked facts A B C (Ok (Some f)) there = there
+regroup asked facts A B C (Ok None) all = (all.0.0, (all.0.1, all.1))
+
+-- two rules hold and some more, or the first fault that is given is there
+pub two-and : (asked : Asked) (facts : Facts) (A B C : Type 0) (one other result : Result (Option TreeFault) NoMemory) → result ≡ either one other → IfOk one (IsFirst asked facts (A × B)) → IfOk other (IsFirst asked facts C)
+    → IfOk result (IsFirst asked facts (A × (B × C)))
+two-and asked facts A B C one other result is here there = regroup asked facts A B C result (either-first asked facts (A × B) C one other result is here there)
 
 -- some rules hold, so it is about the one that is left
 pub rest-holds : (asked : Asked) (facts : Facts) (A B C D : Type 0) (first : Option TreeFault) → A → B → D → IsFirst asked facts C first → IsFirst asked facts (A × (B × (C × D))) first

@@ -1,5 +1,7 @@
 -- The faults that the facts of a view show.
-use Rattle.std.specs.Prelude.{◌≡◌, ℕ, List, Option, None, Some, MatchOption}
+use Rattle.std.specs.Prelude.{◌≡◌, ℕ, List, Option, None, Some, MatchOption, Result, Ok, Err}
+use Rattle.std.specs.Option.{option_or}
+use Rattle.apfs_model.specs.declared.failed.NoMemory.{NoMemory}
 use Rattle.vol_view.specs.declared.volume.View.{View}
 use Rattle.view_rules.specs.Facts.{Facts}
 use Rattle.view_rules.specs.Names.{IsDupName, IsHash, IsNameHash}
@@ -54,3 +56,9 @@ IsShown asked facts (NameHash at) = IsOf asked.view.now at.slot at.xid × (asked
 -- some rules hold, or the fault that is given is there
 abbrev pub IsFirst : Asked → Facts → Type 0 → Option TreeFault → Type 0
 IsFirst asked facts rules first = MatchOption first rules (IsShown asked facts)
+
+-- the first of two faults, where memory was enough for both
+abbrev pub either : Result (Option TreeFault) NoMemory → Result (Option TreeFault) NoMemory → Result (Option TreeFault) NoMemory
+either (Ok one) (Ok other) = Ok (option_or one other)
+either (Ok one) (Err e) = Err e
+either (Err e) other = Err e

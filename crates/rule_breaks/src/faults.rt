@@ -16,7 +16,7 @@ use blk_source::NoMemory;
 use ext_ref::NewRange;
 use obj_base::Site;
 use std::alloc::Global;
-use view_rules::{IdAt, NamedAt, Profile};
+use view_rules::{IdAt, NamedAt, Profile, TreeFault};
 use vol_view::View;
 
 /// Of which view the facts are, and what they are tested against.
@@ -38,6 +38,18 @@ fn id_at(view: &View, id: u64) -> IdAt
         xid: view.xid,
         id,
     }
+}
+
+// The first of two faults, where memory was enough for both.
+fn either(
+    one: Result<Option<TreeFault>, NoMemory>,
+    other: Result<Option<TreeFault>, NoMemory>,
+) -> Result<Option<TreeFault>, NoMemory>
+    ensures { result ≡ spec.either one other }
+{
+    let one = one?;
+    let other = other?;
+    Ok(one.or(other))
 }
 
 // A name of an object of a view.

@@ -3,7 +3,7 @@ ghost use Rattle.std.specs.Prelude.{◌≡◌, true, IfOk};
 ghost use Rattle.view_rules.specs.Entries as rules;
 ghost use Rattle.rule_breaks.specs.Faults as spec;
 
-use super::{Asked, named_at};
+use super::{Asked, either, named_at};
 use crate::entries;
 use blk_source::NoMemory;
 use rule_index::Index;
@@ -85,6 +85,30 @@ fn other_kind(
     }
 }
 
+// An entry in what is no directory, or of a file without an inode.
+fn lacking(
+    alloc: Global,
+    asked: &Asked<'_>,
+    index: &Index<'_>,
+) -> Result<Option<TreeFault>, NoMemory>
+    ensures { IfOk result (spec.IsFirst asked.now index.now.facts.now (rules.HasParents index.now.facts.now × rules.HasFiles index.now.facts.now)) }
+{
+    let parent = no_parent(alloc, asked, index)?;
+    either(Ok(parent), no_inode(alloc, asked, index))
+}
+
+// A fault of the root, or an entry of another kind.
+fn root_or_kind(
+    alloc: Global,
+    asked: &Asked<'_>,
+    index: &Index<'_>,
+) -> Result<Option<TreeFault>, NoMemory>
+    ensures { IfOk result (spec.IsFirst asked.now index.now.facts.now ((rules.has_root index.now.facts.now ≡ true) × rules.HasKinds index.now.facts.now)) }
+{
+    let root = no_root(asked, index);
+    either(Ok(root), other_kind(alloc, asked, index))
+}
+
 /// A fault of an entry or of the root, where one is there.
 pub fn fault(
     alloc: Global,
@@ -96,9 +120,6 @@ pub fn fault(
     if entries::are_whole(index) {
         return Ok(no_root(asked, index));
     }
-    let parent = no_parent(alloc, asked, index)?;
-    let inode = no_inode(alloc, asked, index)?;
-    let root = no_root(asked, index);
-    let kind = other_kind(alloc, asked, index)?;
-    Ok(parent.or(inode.or(root.or(kind))))
+    let lacking = lacking(alloc, asked, index)?;
+    either(Ok(lacking), root_or_kind(alloc, asked, index))
 }

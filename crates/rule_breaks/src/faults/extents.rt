@@ -3,7 +3,7 @@ ghost use Rattle.std.specs.Prelude.{◌<◌, IfOk};
 ghost use Rattle.view_rules.specs.Extents as rules;
 ghost use Rattle.rule_breaks.specs.Faults as spec;
 
-use super::{Asked, id_at};
+use super::{Asked, either, id_at};
 use crate::extents::{misplaced, uncovered};
 use crate::order::disordered;
 use blk_source::NoMemory;
@@ -54,7 +54,6 @@ pub fn fault(alloc: Global, asked: &Asked<'_>, facts: &Facts) -> Result<Option<T
     ensures { IfOk result (spec.IsFirst asked.now facts.now (rules.HasExtentOrder asked.now.site.now.block_size facts.now × (rules.HasExtentPlaces asked.now.site.now.block_size asked.now.site.now.blocks facts.now × rules.HasCover asked.now.site.now.block_size asked.now.ranges.now facts.now))) }
 {
     let order = order(alloc, asked, facts)?;
-    let place = place(asked, facts);
-    let cover = cover(alloc, asked, facts)?;
-    Ok(order.or(place.or(cover)))
+    let rest = either(Ok(place(asked, facts)), cover(alloc, asked, facts));
+    either(Ok(order), rest)
 }

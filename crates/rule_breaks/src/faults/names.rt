@@ -3,7 +3,7 @@ ghost use Rattle.std.specs.Prelude.{◌≡◌, true, IfOk};
 ghost use Rattle.view_rules.specs.Names as rules;
 ghost use Rattle.rule_breaks.specs.Faults as spec;
 
-use super::{Asked, named_at};
+use super::{Asked, either, named_at};
 use crate::names::other_ascii_hash;
 use crate::repeats::{repeated_attribute, repeated_entry};
 use blk_source::NoMemory;
@@ -69,12 +69,25 @@ fn other_hash(
     }
 }
 
+// A name that is twice, in a directory or among the attributes of a file.
+fn name_twice(
+    alloc: Global,
+    asked: &Asked<'_>,
+    facts: &Facts,
+    hashed: bool,
+) -> Result<Option<TreeFault>, NoMemory>
+    requires { hashed ≡ true → rules.HasAsciiHashes facts.now }
+    ensures { IfOk result (spec.IsFirst asked.now facts.now (rules.HasDistinctEntries facts.now × rules.HasDistinctAttributes facts.now)) }
+{
+    let entry = entry_twice(alloc, asked, facts, hashed)?;
+    either(Ok(entry), attribute_twice(alloc, asked, facts))
+}
+
 /// A fault of a name, where one is there.
 pub fn fault(alloc: Global, asked: &Asked<'_>, facts: &Facts) -> Result<Option<TreeFault>, NoMemory>
     ensures { IfOk result (spec.IsFirst asked.now facts.now (rules.HasDistinctEntries facts.now × (rules.HasDistinctAttributes facts.now × rules.HasAsciiHashes facts.now))) }
 {
     let hash = other_hash(alloc, asked, facts)?;
-    let entry = entry_twice(alloc, asked, facts, hash.is_none())?;
-    let attribute = attribute_twice(alloc, asked, facts)?;
-    Ok(entry.or(attribute.or(hash)))
+    let twice = name_twice(alloc, asked, facts, hash.is_none());
+    either(twice, Ok(hash))
 }

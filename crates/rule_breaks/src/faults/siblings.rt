@@ -4,7 +4,7 @@ ghost use Rattle.view_rules.specs.Siblings as rules;
 ghost use Rattle.view_rules.specs.declared.fault.TreeFault.TheVariants.{SiblingLost};
 ghost use Rattle.rule_breaks.specs.Faults as spec;
 
-use super::{Asked, id_at};
+use super::{Asked, either, id_at};
 use crate::fellows::Fellows;
 use crate::{fellows, names};
 use blk_source::NoMemory;
@@ -78,15 +78,25 @@ fn unmarked(asked: &Asked<'_>, index: &Index<'_>) -> Option<TreeFault>
     }
 }
 
+// A fault of an entry, a link or a map that lacks its fellows, by what counts them.
+fn lost_by(
+    alloc: Global,
+    asked: &Asked<'_>,
+    fellows: &Fellows<'_>,
+) -> Result<Option<TreeFault>, NoMemory>
+    ensures { IfOk result (spec.IsFirst asked.now fellows.now.facts.now (rules.HasEntryFellows fellows.now.facts.now × (rules.HasLinkFellows fellows.now.facts.now × rules.HasMapFellows fellows.now.facts.now))) }
+{
+    let link = lost_link(alloc, asked, fellows)?;
+    let rest = either(Ok(link), lost_map(alloc, asked, fellows));
+    either(Ok(lost_entry(asked, fellows)), rest)
+}
+
 // A fault of an entry, a link or a map that lacks its fellows.
 fn lost(alloc: Global, asked: &Asked<'_>, facts: &Facts) -> Result<Option<TreeFault>, NoMemory>
     ensures { IfOk result (spec.IsFirst asked.now facts.now (rules.HasEntryFellows facts.now × (rules.HasLinkFellows facts.now × rules.HasMapFellows facts.now))) }
 {
     let fellows = Fellows::of(alloc, facts)?;
-    let entry = lost_entry(asked, &fellows);
-    let link = lost_link(alloc, asked, &fellows)?;
-    let map = lost_map(alloc, asked, &fellows)?;
-    Ok(entry.or(link.or(map)))
+    lost_by(alloc, asked, &fellows)
 }
 
 /// A fault of a sibling, where one is there.
