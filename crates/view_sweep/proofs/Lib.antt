@@ -6,7 +6,7 @@ pub mod Orders
 pub mod Kids
 pub mod Sounds
 pub mod Losts
-pub mod Sizes
+pub mod Buffers
 pub mod Hits
 pub mod Steps
 pub mod Levels

@@ -38,7 +38,6 @@ fn is_held(held: &Option<Used>, used: &Used) -> bool
 }
 
 // Holds the block of a record, which is read where it isn't the one that is held.
-#[tactic(auto, using(crate::proofs::Sizes::accepted_size))]
 fn turn<S: BlockSource>(
     src: &mut S,
     site: &Site,

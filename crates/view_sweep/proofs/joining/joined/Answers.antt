@@ -1,7 +1,7 @@
-use Rattle.std.proofs.Common.{◌+◌, length, take, sym, subst}
-use Rattle.std.proofs.lemmas.List.{take_more}
+use Rattle.std.proofs.Common.{List, ◌+◌, length, take, sym, subst}
+use Rattle.std.proofs.lemmas.List.{take_all, take_more}
 use Rattle.view_sweep.specs.declared.wanted.Asked.{Asked}
-use Rattle.view_sweep.specs.Asked.{nth_asked}
+use Rattle.view_sweep.specs.Asked.{AreSought, nth_asked}
 use Rattle.view_sweep.specs.Sets.{IsSetOf}
 use Rattle.view_sweep.proofs.Joins.{sought-more}
 use Rattle.view_sweep.proofs.Onces.{noasked, nth-numbered, set-rising}
@@ -25,3 +25,6 @@ loop-one-preserved c =
       sets = c.in_ok-put.ensures.sets c.args.views.now c.loop-one.invariant.sets
           (subst (IsSetOf c.args.views.now) (sym c.runs_of-set.ensures) (c.requires.sets a.set (nth-numbered (length c.args.sets.now) c.args.asked.now c.loop-one.one-index c.requires.numbers c.loop-one-test.true)));
     }
+
+pub returns-clause-all : goal.returns-clause-all
+returns-clause-all c = subst (λ (xs : List Asked). AreSought c.args.sets.now xs c.loop-one.all.items) (take_all c.loop-one.one-index c.args.asked.now c.loop-one-test.false) c.loop-one.invariant.all

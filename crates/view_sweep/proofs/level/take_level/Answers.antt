@@ -8,13 +8,14 @@ use Rattle.view_sweep.specs.declared.joining.Sought.{Sought}
 use Rattle.view_sweep.specs.declared.wanted.SweptView.{SweptView}
 use Rattle.view_sweep.specs.declared.wanted.Asked.{Asked}
 use Rattle.view_sweep.specs.declared.used.Hit.{Hit}
+use Rattle.view_sweep.specs.Sets.{AreSets, IsSetOf, all_asked, hit_by, AreNumbered}
 use Rattle.view_sweep.specs.Found.{World, world, looked, used_of}
 use Rattle.view_sweep.specs.Here.{Among, IsTwiceHere, IsLostHere, IsMappedBy, IsBadHit, IsRefusedHit}
-use Rattle.view_sweep.specs.Sets.{all_asked, hit_by, AreNumbered}
 use Rattle.view_sweep.specs.Swept.{IsOnce, ArePlaced, AreSound, AreRead, hit_asks}
 use Rattle.view_sweep.specs.Shared.{share_of}
 use Rattle.view_sweep.specs.Asked.{AreSought, IsOfSought}
 use Rattle.view_sweep.specs.Hits.{AreHitsOf}
+use Rattle.view_sweep.proofs.Buffers.{no-err, same-err}
 use Rattle.view_sweep.proofs.Fors.{sought-like, lost-here, asked-permuted, numbered-permuted, once-permuted, level-for, hits-placed, hits-numbered, after-to, after-from}
 use Rattle.view_sweep.proofs.Members.{numbered-more}
 use Rattle.view_sweep.proofs.Shares.{level-shares}
@@ -139,3 +140,57 @@ returns-clause-shares g c =
     (hits-numbered k.look k.site views new all found hits of c.by_record.ensures.order) c.args.site.now.blocks c.args.shares.now.items c.add_shares.new.out.items
     (placed-permuted c.args.site.now.blocks found hits c.by_record.ensures.order (hits-placed k.look k.site views new all found of))
     (subst (λ (hs : List Hit). c.add_shares.new.out.items ≡ c.args.shares.now.items ++ map share_of hs) c.deref-7.ensures.value c.in_ok-add_shares.ensures)
+
+pub hits-requires-clause-below : goal.hits-requires-clause-below
+hits-requires-clause-below g c = c.requires.below
+
+pub hits-requires-clause-all : goal.hits-requires-clause-all
+hits-requires-clause-all g c = subst (λ (xs : List Sought). (s : Sought) → In s xs → IsSetOf c.args.views.now s.set.items) (sym c.deref-5.ensures.value) c.in_ok-all.ensures.sets
+
+pub read_hits-requires-clause-long : goal.read_hits-requires-clause-long
+read_hits-requires-clause-long g c = c.requires.long
+
+pub returns-clause-cause : goal.returns-clause-cause
+returns-clause-cause g c = λ e. absurd (no-err _ _ e)
+
+pub returns-clause-same : goal.returns-clause-same
+returns-clause-same g c = c.in-Ok-hits.ensures.kept
+
+pub returns-clause-long : goal.returns-clause-long
+returns-clause-long g c = c.in-Ok-read_hits.ensures.long
+
+pub returns-in-Err-clause-cause : goal.returns-in-Err-clause-cause
+returns-in-Err-clause-cause g c = λ e. absurd (c.in-Err.ensures.no_read (same-err c.in-Err.stop _ e))
+
+pub returns-in-Err-hits-clause-cause : goal.returns-in-Err-hits-clause-cause
+returns-in-Err-hits-clause-cause g c = λ e. absurd (c.in-Err-hits.ensures.no_read (same-err c.in-Err-hits.stop _ e))
+
+pub returns-in-Err-read_hits-clause-cause : goal.returns-in-Err-read_hits-clause-cause
+returns-in-Err-read_hits-clause-cause g c = c.in-Err-read_hits.ensures.cause
+
+pub returns-clause-reads : goal.returns-clause-reads
+returns-clause-reads g c = c.in-Ok-read_hits.ensures.reads
+
+pub returns-clause-sets : goal.returns-clause-sets
+returns-clause-sets g c = c.in-Ok-hits.ensures.sets
+
+pub returns-clause-kept : goal.returns-clause-kept
+returns-clause-kept g c = c.read_hits.ensures.kept
+
+pub returns-in-Err-read_hits-clause-long : goal.returns-in-Err-read_hits-clause-long
+returns-in-Err-read_hits-clause-long g c = c.read_hits.ensures.long
+
+pub returns-in-Err-hits-clause-long : goal.returns-in-Err-hits-clause-long
+returns-in-Err-hits-clause-long g c = c.requires.long
+
+pub once-requires-clause-sets : goal.once-requires-clause-sets
+once-requires-clause-sets g c = subst (λ (ss : List ViewSet). AreSets c.args.views.now ss) (sym c.deref.ensures.value) c.requires.sets
+
+pub joined-requires-clause-sets : goal.joined-requires-clause-sets
+joined-requires-clause-sets g c = subst (λ (ss : List ViewSet). AreSets c.args.views.now ss) (sym c.deref-3.ensures.value) c.requires.sets
+
+pub returns-in_err-add_shares-clause-kept : goal.returns-in_err-add_shares-clause-kept
+returns-in_err-add_shares-clause-kept g c = c.read_hits.ensures.kept
+
+pub returns-in_err-add_shares-clause-long : goal.returns-in_err-add_shares-clause-long
+returns-in_err-add_shares-clause-long g c = c.read_hits.ensures.long

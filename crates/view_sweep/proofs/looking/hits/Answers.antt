@@ -1,7 +1,8 @@
-use Rattle.std.proofs.Common.{◌+◌, ◌∷◌, [], ◌++◌, take, ap, sym, ◌∙◌, subst}
-use Rattle.std.proofs.lemmas.List.{take_more}
+use Rattle.std.proofs.Common.{List, ◌+◌, ◌∷◌, [], ◌++◌, take, ap, sym, ◌∙◌, subst}
+use Rattle.std.proofs.lemmas.List.{take_all, take_more}
 use Rattle.apfs_model.specs.Lists.{In}
 use Rattle.view_sweep.specs.declared.joining.Sought.{Sought}
+use Rattle.view_sweep.specs.Hits.{AreHitsOf}
 use Rattle.view_sweep.specs.Found.{looked}
 use Rattle.view_sweep.specs.Asked.{IsOfSet, IsOfSought}
 use Rattle.view_sweep.proofs.Losts.{lost-more}
@@ -31,3 +32,7 @@ loop-sought-preserved c =
       sets = c.in-Ok.ensures.sets;
       kept = kept-both c.args.sets.now.items c.loop-sought.sets.items c.add_hits.new.sets.items c.loop-sought.invariant.kept c.in-Ok.ensures.kept;
     }
+
+pub returns-clause-hits : goal.returns-clause-hits
+returns-clause-hits c =
+    subst (λ (xs : List Sought). AreHitsOf (looked c.args.volumes.now c.args.site.now) c.args.site.now c.args.views.now c.loop-sought.sets.items xs c.loop-sought.hits.items) (take_all c.loop-sought.sought-index c.args.all.now c.loop-sought-test.false) c.loop-sought.invariant.hits

@@ -4,9 +4,10 @@ use Rattle.std.proofs.lemmas.List.{take_all}
 use Rattle.apfs_model.specs.Blocks.{in_container}
 use Rattle.view_sweep.specs.declared.used.Used.{Used}
 use Rattle.view_sweep.specs.declared.used.Hit.{Hit}
+use Rattle.view_sweep.specs.Swept.{AreSound, IsTurned, hit_asks}
 use Rattle.view_sweep.specs.Found.{used_of, bytes_at, is_sound, wants_of}
 use Rattle.view_sweep.specs.Sets.{asked_with}
-use Rattle.view_sweep.specs.Swept.{IsTurned, hit_asks}
+use Rattle.view_sweep.proofs.Buffers.{same-err}
 use Rattle.view_sweep.proofs.Ranked.{place-in}
 use Rattle.view_sweep.proofs.Readings.{reading-more, reading-all}
 use Rattle.view_sweep.proofs.Waits.{asked-more}
@@ -63,3 +64,13 @@ pub returns-clause-read : goal.returns-clause-read
 returns-clause-read g c =
     let t = reading-all used_of c.args.hits.now c.loop-hit.hit-index c.loop-hit.held c.loop-hit.read.items c.loop-hit-test.false c.loop-hit.invariant.reading in
     record { apart = c.loop-hit.invariant.reading.apart; each = t.0; only = t.1 }
+
+pub returns-clause-sound : goal.returns-clause-sound
+returns-clause-sound g c = λ image told.
+    subst (λ (hs : List Hit). AreSound c.args.site.now (bytes_at image c.args.site.now) hs) (take_all c.loop-hit.hit-index c.args.hits.now c.loop-hit-test.false) (c.loop-hit.invariant.sound image told)
+
+pub turn-requires-clause-held : goal.turn-requires-clause-held
+turn-requires-clause-held g c = λ image told. c.loop-hit.invariant.held image (sym c.loop-hit.invariant.kept.same_bytes ∙ told)
+
+pub returns-in-Err-clause-cause : goal.returns-in-Err-clause-cause
+returns-in-Err-clause-cause g c = λ e. absurd (c.in-Err.ensures.no_read (same-err c.in-Err.stop _ e))

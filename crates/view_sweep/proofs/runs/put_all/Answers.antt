@@ -1,5 +1,7 @@
-use Rattle.std.proofs.Common.{◌+◌, ◌≤◌, take, get_or, arith}
-use Rattle.std.proofs.lemmas.List.{take_more}
+use Rattle.std.proofs.Common.{List, ◌||◌, ap, ◌∙◌, ◌+◌, ◌≤◌, take, get_or, arith}
+use Rattle.std.proofs.lemmas.List.{take_all, take_more}
+use Rattle.view_sweep.specs.declared.runs.Run.{Run}
+use Rattle.view_sweep.specs.Runs.{has_place}
 use Rattle.view_sweep.proofs.Ranked.{place-in}
 use Rattle.view_sweep.proofs.Rises.{nowhere, has-start, has-more}
 use Rattle.view_sweep.proofs.runs.put_all.Goals as goal
@@ -29,3 +31,6 @@ loop-run-preserved c =
           let b : run.from ≤ (get_or c.args.more.now j nowhere).from = c.requires.order i j nowhere (omega arith) within in
           omega arith;
     }
+
+pub returns-clause-places : goal.returns-clause-places
+returns-clause-places c = λ k. c.loop-run.invariant.places k ∙ ap (λ (rs : List Run). has_place c.args.runs.now.items k || has_place rs k) (take_all c.loop-run.run-index c.args.more.now c.loop-run-test.false)

@@ -11,6 +11,7 @@ use Rattle.view_sweep.specs.Here.{Among}
 use Rattle.view_sweep.specs.Sets.{all_asked}
 use Rattle.view_sweep.specs.Shared.{AreShares, IsAbove}
 use Rattle.view_sweep.specs.Swept.{IsLive, IsSwept, IsStep}
+use Rattle.view_sweep.proofs.Buffers.{kept-on, rose-later, same-err}
 use Rattle.view_sweep.proofs.Members.{kept-both}
 use Rattle.view_sweep.proofs.Shares.{inside-more, shares-level}
 use Rattle.view_sweep.proofs.Steps.{here-more}
@@ -98,3 +99,17 @@ returns-clause-shares g c = λ image told.
     let none : c.loop-level.level ≡ 0 = omega (arith, c.loop-level-test.false) in
     subst (λ (n : ℕ). AreShares (looked c.args.volumes.now c.args.site.now) c.args.views.now (IsAbove (world c.args.volumes.now c.args.site.now image) c.args.heads.now n) c.loop-level.out.sets.items c.loop-level.out.shares.items) none
     (c.loop-level.invariant.shares image told)
+
+pub returns-clause-clear : goal.returns-clause-clear
+returns-clause-clear g c = λ image told.
+    let z : c.loop-level.level ≡ 0 = omega (arith, c.loop-level-test.false) in
+    subst (λ (n : ℕ). IsSwept (world c.args.volumes.now c.args.site.now image) c.args.heads.now n c.loop-level.out.used.items) z (c.loop-level.invariant.swept image told)
+
+pub returns-in-Err-clause-cause : goal.returns-in-Err-clause-cause
+returns-in-Err-clause-cause g c = λ e. rose-later (g.S.BlockSource.faults c.args.src.now) (g.S.BlockSource.faults c.loop-level.src) (g.S.BlockSource.faults c.take_level.new.src) c.loop-level.invariant.kept.later (c.in-Err.ensures.cause (same-err c.in-Err.stop _ e))
+
+pub returns-in_err-extend_from_slice-clause-kept : goal.returns-in_err-extend_from_slice-clause-kept
+returns-in_err-extend_from_slice-clause-kept g c = kept-on g.S.BlockSource.bytes g.S.BlockSource.bytes_len g.S.BlockSource.faults c.args.src.now c.loop-level.src c.take_level.new.src c.loop-level.invariant.kept c.take_level.ensures.kept
+
+pub take_level-requires-clause-below : goal.take_level-requires-clause-below
+take_level-requires-clause-below g c = c.requires.below

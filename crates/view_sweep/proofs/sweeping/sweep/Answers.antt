@@ -1,4 +1,8 @@
-use Rattle.std.proofs.Common.{◌≡◌, ℕ, List, [], Option, length, sym, ◌∙◌, subst}
+use Rattle.std.proofs.Common.{◌≤◌, ◌+◌, ap, arith, ◌≡◌, ℕ, List, [], Option, length, sym, ◌∙◌, subst}
+use Rattle.std.proofs.lemmas.List.{length-replicate}
+use Rattle.apfs_model.specs.Counts.{Rose}
+use Rattle.apfs_model.specs.Lists.{In}
+use Rattle.obj_base.specs.Site.{IsSiteFor}
 use Rattle.omap_map.specs.declared.records.OmapRecord.{OmapRecord}
 use Rattle.reach_rules.specs.Live.{rooted}
 use Rattle.view_sweep.specs.declared.runs.Run.{Run}
@@ -9,15 +13,16 @@ use Rattle.view_sweep.specs.declared.wanted.Head.{Head}
 use Rattle.view_sweep.specs.declared.wanted.Wanted.{Wanted}
 use Rattle.view_sweep.specs.declared.used.Used.{Used}
 use Rattle.view_sweep.specs.declared.used.Share.{Share}
+use Rattle.view_sweep.specs.Sets.{AreSets, AreNumbered, HaveSame, all_asked}
 use Rattle.view_sweep.specs.Wanted.{heads_want}
 use Rattle.view_sweep.specs.Found.{World, world, looked}
 use Rattle.view_sweep.specs.Here.{TellsHere, Among}
 use Rattle.view_sweep.specs.Hits.{AreBelowViews}
 use Rattle.view_sweep.specs.Next.{AreStretches}
 use Rattle.view_sweep.specs.Runs.{AreRising}
-use Rattle.view_sweep.specs.Sets.{AreNumbered, HaveSame, all_asked}
 use Rattle.view_sweep.specs.Shared.{AreInside, AreShares, AddsShares, IsAbove}
 use Rattle.view_sweep.specs.Swept.{AreKids, IsLive, IsStep}
+use Rattle.view_sweep.proofs.Buffers.{kept-on, rose-later, no-err, same-err}
 use Rattle.view_sweep.proofs.Shares.{shares-top, inside-top}
 use Rattle.view_sweep.proofs.Steps.{here-more}
 use Rattle.view_sweep.proofs.Tops.{views-below, step-same}
@@ -134,3 +139,54 @@ returns-in-Ok-levels-clause-shares g c = λ image told.
 pub returns-in-Ok-levels-clause-inside : goal.returns-in-Ok-levels-clause-inside
 returns-in-Ok-levels-clause-inside g c =
     subst (λ (vs : List SweptView). AreInside c.args.site.now.blocks vs c.levels.new.out.sets.items c.levels.new.out.shares.items) (c.deref-5.ensures.value ∙ c.in_ok-views.ensures) c.in-Ok-levels.ensures.inside
+
+pub take_level-requires-clause-long : goal.take_level-requires-clause-long
+take_level-requires-clause-long g c = ap length (c.in_ok-block.ensures.items_if_clones_equal (λ y same. same)) ∙ length-replicate c.args.site.now.block_size 0
+
+pub levels-requires-clause-long : goal.levels-requires-clause-long
+levels-requires-clause-long g c = c.in-Ok.ensures.long
+
+pub levels-requires-clause-site : goal.levels-requires-clause-site
+levels-requires-clause-site g c = subst (λ n. IsSiteFor c.args.site.now n) (sym c.take_level.ensures.kept.same_size) c.requires.site
+
+pub take_level-requires-clause-waiting : goal.take_level-requires-clause-waiting
+take_level-requires-clause-waiting g c = λ a listed. absurd (subst (λ (xs : List Asked). In a xs) c.new-kids.ensures.items listed)
+
+pub take_level-requires-clause-sets : goal.take_level-requires-clause-sets
+take_level-requires-clause-sets g c = subst (λ (vs : List SweptView). AreSets vs c.wants.new.sets.items) (c.deref.ensures.value ∙ sym c.deref-3.ensures.value) c.in_ok-first.ensures.sets
+
+pub take_level-requires-clause-numbers : goal.take_level-requires-clause-numbers
+take_level-requires-clause-numbers g c = c.in_ok-first.ensures.numbers
+
+pub returns-in-Ok-levels-clause-clear : goal.returns-in-Ok-levels-clause-clear
+returns-in-Ok-levels-clause-clear g c = λ image told. c.in-Ok-levels.ensures.clear image (c.take_level.ensures.kept.same_bytes ∙ told)
+
+pub returns-in-Ok-levels-clause-cause : goal.returns-in-Ok-levels-clause-cause
+returns-in-Ok-levels-clause-cause g c = λ e. absurd (no-err _ _ e)
+
+pub returns-in-Ok-levels-clause-reads : goal.returns-in-Ok-levels-clause-reads
+returns-in-Ok-levels-clause-reads g c =
+    let a : g.S.BlockSource.reads c.take_level.new.src ≤ g.S.BlockSource.reads c.args.src.now + length c.in-Ok.read.items = c.in-Ok.ensures.reads in
+    let b : g.S.BlockSource.reads c.levels.new.src + length c.in-Ok.read.items ≤ g.S.BlockSource.reads c.take_level.new.src + length c.levels.new.out.used.items = c.in-Ok-levels.ensures.reads in
+    omega arith
+
+pub returns-clause-present : goal.returns-clause-present
+returns-clause-present g c = λ image told. c.in-Err-levels.ensures.present image (c.take_level.ensures.kept.same_bytes ∙ told)
+
+pub returns-clause-cause : goal.returns-clause-cause
+returns-clause-cause g c = λ e.
+    let a : g.S.BlockSource.faults c.args.src.now ≤ g.S.BlockSource.faults c.take_level.new.src = c.take_level.ensures.kept.later in
+    let b : Rose (g.S.BlockSource.faults c.take_level.new.src) (g.S.BlockSource.faults c.levels.new.src) = c.in-Err-levels.ensures.cause (same-err c.in-Err-levels.stop _ e) in
+    rose-later (g.S.BlockSource.faults c.args.src.now) (g.S.BlockSource.faults c.take_level.new.src) (g.S.BlockSource.faults c.levels.new.src) a b
+
+pub returns-in-Err-clause-cause : goal.returns-in-Err-clause-cause
+returns-in-Err-clause-cause g c = λ e. c.in-Err.ensures.cause (same-err c.in-Err.stop _ e)
+
+pub returns-in-Ok-levels-clause-kept : goal.returns-in-Ok-levels-clause-kept
+returns-in-Ok-levels-clause-kept g c = kept-on g.S.BlockSource.bytes g.S.BlockSource.bytes_len g.S.BlockSource.faults c.args.src.now c.take_level.new.src c.levels.new.src c.take_level.ensures.kept c.levels.ensures.kept
+
+pub returns-clause-kept : goal.returns-clause-kept
+returns-clause-kept g c = kept-on g.S.BlockSource.bytes g.S.BlockSource.bytes_len g.S.BlockSource.faults c.args.src.now c.take_level.new.src c.levels.new.src c.take_level.ensures.kept c.levels.ensures.kept
+
+pub returns-in-Err-clause-kept : goal.returns-in-Err-clause-kept
+returns-in-Err-clause-kept g c = c.take_level.ensures.kept
