@@ -20,6 +20,13 @@ pub path_more : (before : List ℕ) (rows : List Row) (row : Row) → last_path 
 path_more before [] row = refl
 path_more before (r ∷ rows) row = path_more (path_after before r ++ slash ∷ []) rows row
 
+-- a row is told after those before it
+pub row_told : (rows : List Row) (row : Row) (path : List ℕ) (told new : List (List ℕ × Target)) → told ≡ told_rows [] rows → path ≡ last_path [] rows → new ≡ told ++ (path_after path row, row.target) ∷ [] → new ≡ told_rows [] (rows ++ row ∷ [])
+row_told rows row path told new had at added = added ∙ ((λ i. had i ++ (path_after (at i) row, row.target) ∷ []) ∙ sym (told_more [] rows row))
+
+pub row_path : (rows : List Row) (row : Row) (path new : List ℕ) → path ≡ last_path [] rows → new ≡ path_after path row ++ slash ∷ [] → new ≡ last_path [] (rows ++ row ∷ [])
+row_path rows row path new at made = made ∙ (ap (λ (p : List ℕ). path_after p row ++ slash ∷ []) at ∙ sym (path_more [] rows row))
+
 pub told_length : (before : List ℕ) (rows : List Row) → length (told_rows before rows) ≡ length rows
 told_length before [] = refl
 told_length before (r ∷ rows) = ap suc (told_length (path_after before r ++ slash ∷ []) rows)

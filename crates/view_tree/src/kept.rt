@@ -169,8 +169,26 @@ fn put_held<W: Sink>(alloc: Global, held: &Held, out: &mut W) -> Result<(), PutS
     }
 }
 
+// Tells a row with its path, and makes of its path what the next one is told after.
+fn tell(
+    alloc: Global,
+    row: &Row,
+    path: &mut Vec<u8>,
+    told: &mut Vec<(Bytes, Target)>,
+) -> Result<(), Stop<PathStop>>
+    ensures memory { IfErr result (λ stop. stop ≡ stops.NoMemory) }
+    ensures path { OnOk result (path.new.items ≡ path_after path.old.items row.now ++ slash ∷ []) }
+    ensures told { OnOk result (told.new.items ≡ told.old.items ++ (path_after path.old.items row.now, row.now.target) ∷ []) }
+{
+    row.lead(path)?;
+    let shown = Bytes::from_slice(alloc, path.as_slice())?;
+    let target = row.target.target(alloc)?;
+    told.push((shown, target))?;
+    path.push(b'/')?;
+    Ok(())
+}
+
 // The rows below a directory, each with its path.
-#[tactic(auto, using(crate::proofs::RowsKept::told_more, crate::proofs::RowsKept::path_more))]
 fn told_below(alloc: Global, rows: Vec<Row>) -> Result<Vec<(Bytes, Target)>, Stop<PathStop>>
     ensures no_read { IsErrOf result ReadFault → ⊥ }
     ensures memory { IfErr result (λ stop. stop ≡ stops.NoMemory) }
@@ -179,11 +197,10 @@ fn told_below(alloc: Global, rows: Vec<Row>) -> Result<Vec<(Bytes, Target)>, Sto
     let mut told = Vec::new(alloc);
     let mut path = Vec::new(alloc);
     'rows: for row in rows {
-        row.lead(&mut path)?;
-        let shown = Bytes::from_slice(alloc, path.as_slice())?;
-        let target = row.target.target(alloc)?;
-        told.push((shown, target))?;
-        path.push(b'/')?;
+        match tell(alloc, &row, &mut path, &mut told) {
+            Ok(()) => {}
+            Err(stop) => return Err(stop),
+        }
     }
     Ok(told)
 }
@@ -240,6 +257,20 @@ fn go_alone<'a>(
     Ok(target)
 }
 
+// The only row, with its path.
+fn told_alone(
+    alloc: Global,
+    path: Bytes,
+    target: &KeptTarget,
+) -> Result<Vec<(Bytes, Target)>, Stop<PathStop>>
+    ensures memory { IfErr result (λ stop. stop ≡ stops.NoMemory) }
+    ensures told { IfOk result (λ told. told.items ≡ (path, target.now) ∷ []) }
+{
+    let mut told = Vec::new(alloc);
+    told.push((path, target.target(alloc)?))?;
+    Ok(told)
+}
+
 impl KeptRows {
     /// No rows.
     pub fn none(alloc: Global) -> KeptRows
@@ -273,15 +304,8 @@ impl KeptRows {
         ensures told { IfOk result (λ rows. rows.items ≡ self) }
     {
         match self.held {
-            Held::Lone(path, target) => {
-                let mut told = Vec::new(alloc);
-                told.push((path, target.target(alloc)?))?;
-                Ok(told)
-            }
-            Held::Below(rows) => match told_below(alloc, rows) {
-                Ok(told) => Ok(told),
-                Err(stop) => Err(stop),
-            },
+            Held::Lone(path, target) => told_alone(alloc, path, &target),
+            Held::Below(rows) => told_below(alloc, rows),
         }
     }
 
