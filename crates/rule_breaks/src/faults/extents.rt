@@ -54,6 +54,8 @@ pub fn fault(alloc: Global, asked: &Asked<'_>, facts: &Facts) -> Result<Option<T
     ensures { IfOk result (spec.IsFirst asked.now facts.now (rules.HasExtentOrder asked.now.site.now.block_size facts.now × (rules.HasExtentPlaces asked.now.site.now.block_size asked.now.site.now.blocks facts.now × rules.HasCover asked.now.site.now.block_size asked.now.ranges.now facts.now))) }
 {
     let order = order(alloc, asked, facts)?;
-    let rest = either(Ok(place(asked, facts)), cover(alloc, asked, facts));
+    let place = place(asked, facts);
+    let cover = cover(alloc, asked, facts);
+    let rest = either(Ok(place), cover);
     either(Ok(order), rest)
 }

@@ -10,4 +10,4 @@ returns c =
     let places = HasExtentPlaces a.site.now.block_size a.site.now.blocks f in
     let covered = HasCover a.site.now.block_size a.ranges.now f in
     either-first a f (HasExtentOrder a.site.now.block_size f) (places × covered) (Ok c.in_ok-order.order) c.either-rest.result c.either.result c.either.ensures c.in_ok-order.ensures
-    (either-first a f places covered (Ok c.place.result) c.cover.result c.either-rest.result c.either-rest.ensures c.place.ensures c.cover.ensures)
+    (either-first a f places covered (Ok c.place-place.result) c.cover-cover.result c.either-rest.result c.either-rest.ensures c.place-place.ensures c.cover-cover.ensures)
