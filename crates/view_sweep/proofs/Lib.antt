@@ -7,6 +7,7 @@ pub mod Kids
 pub mod Sounds
 pub mod Losts
 pub mod Buffers
+pub mod Sizes
 pub mod Hits
 pub mod Steps
 pub mod Levels
