@@ -1,40 +1,111 @@
 // What no clause says: what a folder gets of small containers, and how the call ends where a read or a call of the folder is
 // refused. What is wanted was worked out by hand.
 
-ghost use Rattle.std.specs.Prelude.{length};
+ghost use Rattle.std.specs.Prelude.{length, ◌≡◌};
 ghost use Rattle.obj_base.specs.Site.{IsSiteFor};
 
 mod holed;
-mod made;
 
-use blk_folder::MemFolder;
-use blk_source::MemSource;
-use img_make::table;
-use made::{Holds, Seen, open_view, rows_of, source};
+use crate::tests::made::Holds;
+use crate::tests::opened::{Opened, open};
+use blk_folder::{Folder, MemFolder};
+use img_make::{Sample, table};
 use obj_base::Stop;
 use std::alloc::Global;
-use std::process::Abort;
 use std::test::Fail;
 use tree_export::{Done, ExportFault, ExportStop, export};
-use view_tree::KeptRows;
+use view_tree::{KeptRows, tree_rows};
 
-// What a folder has: of each item its path, and of a file its bytes.
-fn told(alloc: Global, folder: &MemFolder) -> Result<String, Fail> {
-    let mut text = String::new(alloc);
+// The only file is `hello.txt`.
+const HELLO: Holds = Holds::Of(Sample::H);
+
+// What is left of a text after what a folder has: of each item its path, and of a file its bytes. None where the text doesn't
+// begin so.
+fn rest_of<'a>(folder: &MemFolder, text: &'a str) -> Option<&'a [u8]> {
+    let mut rest = text.as_bytes();
     for i in 0..folder.len() {
-        text.push_str("\n")?;
-        text.push_str(folder.path(i))?;
+        rest = rest.strip_prefix(b"\n")?;
+        rest = rest.strip_prefix(folder.path(i).as_bytes())?;
         let Some(bytes) = folder.bytes(i) else {
-            text.push_str("/")?;
+            rest = rest.strip_prefix(b"/")?;
             continue;
         };
-        let Ok(bytes) = str::from_utf8(bytes) else {
-            return Err(Fail::from("the bytes of a file aren't UTF-8"));
-        };
-        text.push_str("=")?;
-        text.push_str(bytes)?;
+        rest = rest.strip_prefix(b"=")?;
+        rest = rest.strip_prefix(bytes)?;
     }
-    Ok(text)
+    Some(rest)
+}
+
+// Whether this is all that a folder has.
+fn has(folder: &MemFolder, text: &str) -> bool {
+    matches!(rest_of(folder, text), Some([]))
+}
+
+// An empty folder, of which the call of a number is refused, and none where it is 0.
+fn folder_with(alloc: Global, call: u64) -> Result<MemFolder, Fail> {
+    Ok(MemFolder::new(alloc, 10, 1000, vec![in alloc; call]?)?)
+}
+
+// Why an export stops.
+const READ_REFUSED: &str = "a read is refused";
+
+const CALL_REFUSED: &str = "a call is refused";
+
+const NO_INODE: &str = "17 has no inode";
+
+fn why(stop: &ExportStop) -> &'static str {
+    match stop {
+        ExportStop::WriteFault => CALL_REFUSED,
+        ExportStop::Stopped(Stop::ReadFault) => READ_REFUSED,
+        ExportStop::Stopped(Stop::Found(ExportFault::NoInode { id: 17 })) => NO_INODE,
+        _ => "another stop",
+    }
+}
+
+// The rows of the view's tree.
+fn rows_of(alloc: Global, at: &mut Opened) -> Result<KeptRows, Fail>
+    requires { IsSiteFor at.old.site (length at.old.src.bytes) }
+    ensures { IsSiteFor at.new.site (length at.new.src.bytes) }
+{
+    match tree_rows(alloc, &mut at.src, &at.volume, &at.view, &at.site, "/") {
+        Ok(rows) => Ok(rows),
+        Err(_) => Err(Fail::from("there is no tree")),
+    }
+}
+
+// How an export of these rows ends.
+fn ended<F: Folder>(
+    alloc: Global,
+    at: &mut Opened,
+    rows: &KeptRows,
+    folder: &mut F,
+) -> Result<Done, &'static str>
+    requires { IsSiteFor at.old.site (length at.old.src.bytes) }
+{
+    match export(
+        alloc,
+        &mut at.src,
+        &at.volume,
+        &at.view,
+        &at.site,
+        rows,
+        folder,
+    ) {
+        Ok(done) => Ok(done),
+        Err(stop) => Err(why(&stop)),
+    }
+}
+
+// How an export of what an image holds ends, where the read of a number is refused, and none where it is 0.
+fn exported(
+    alloc: Global,
+    holds: Holds,
+    read: u64,
+    folder: &mut MemFolder,
+) -> Result<Result<Done, &'static str>, Fail> {
+    let mut at = open(alloc, holds, vec![in alloc; read]?, None)?;
+    let rows = rows_of(alloc, &mut at)?;
+    Ok(ended(alloc, &mut at, &rows, folder))
 }
 
 // What an image holds, what a folder gets of it, and what the call tells: how many directories, files and bytes, and which places
@@ -42,7 +113,7 @@ fn told(alloc: Global, folder: &MemFolder) -> Result<String, Fail> {
 type Case = (Holds, &'static str, (u64, u64, u64), &'static [usize]);
 
 const CASES: &[Case] = table! {
-    Holds::Hello, "\nhello.txt=hello", (0, 1, 5), &[];
+    HELLO, "\nhello.txt=hello", (0, 1, 5), &[];
     Holds::Folders, "\nd/\nd/f=\ne/", (2, 1, 0), &[];
     Holds::Link, "", (0, 0, 0), &[0];
     Holds::Dots, "\n\\x2e/\n\\x2e/\\x2e\\x2e=\n\\x2e\\x2e=\n...=", (1, 3, 0), &[];
@@ -50,59 +121,21 @@ const CASES: &[Case] = table! {
     Holds::Empty, "", (0, 0, 0), &[];
 };
 
-fn are_same(places: &[usize], wanted: &[usize]) -> bool {
-    places == wanted
-}
-
-// How an export ends, and what the folder has then.
-fn ended(
-    alloc: Global,
-    src: &mut MemSource,
-    seen: &Seen,
-    rows: &KeptRows,
-    fails: Vec<u64>,
-) -> Result<(Result<Done, ExportStop>, String), Fail>
-    requires { IsSiteFor seen.now.site (length src.old.bytes) }
-{
-    let mut folder = MemFolder::new(alloc, 10, 1000, fails)?;
-    let end = export(
-        alloc,
-        src,
-        &seen.volume,
-        &seen.view,
-        &seen.site,
-        rows,
-        &mut folder,
-    );
-    let put = told(alloc, &folder)?;
-    Ok((end, put))
-}
-
-// The same for the image that holds this, where reads and calls of these numbers are refused.
-fn exported(
-    alloc: Global,
-    holds: Holds,
-    reads: Vec<u64>,
-    calls: Vec<u64>,
-) -> Result<(Result<Done, ExportStop>, String), Fail> {
-    let mut src = source(alloc, holds, reads)?;
-    let seen = open_view(alloc, &mut src)?;
-    let rows = rows_of(alloc, &mut src, &seen)?;
-    ended(alloc, &mut src, &seen, &rows, calls)
+// Whether these numbers are told, and these places.
+fn tells(done: &Done, counts: (u64, u64, u64), skipped: &[usize]) -> bool {
+    done.directories == counts.0
+        && done.files == counts.1
+        && done.bytes == counts.2
+        && done.skipped.as_slice() == skipped
 }
 
 // Whether an export doesn't stop, and ends as a case says.
 fn ends_as_said(alloc: Global, case: &Case) -> Result<bool, Fail> {
-    let (holds, wanted, counts, skipped) = *case;
-    let (end, put) = exported(alloc, holds, Vec::new(alloc), Vec::new(alloc))?;
-    let Ok(done) = end else {
+    let mut folder = folder_with(alloc, 0)?;
+    let Ok(done) = exported(alloc, case.0, 0, &mut folder)? else {
         return Ok(false);
     };
-    Ok(
-        (done.directories, done.files, done.bytes) == counts
-            && are_same(&done.skipped, skipped)
-            && put.as_str() == wanted,
-    )
+    Ok(tells(&done, case.2, case.3) && has(&folder, case.1))
 }
 
 #[test]
@@ -111,14 +144,6 @@ fn folders_get_the_tree_of_a_view(rt: HostRuntime) -> Result<(), Fail> {
         assert!(rt; ends_as_said(rt.alloc(), case)?, "{}", case.1);
     }
     Ok(())
-}
-
-// Why an export stopped.
-fn stop_of(end: Result<Done, ExportStop>) -> Option<ExportStop> {
-    match end {
-        Ok(_) => None,
-        Err(stop) => Some(stop),
-    }
 }
 
 // The number of a refused call, and what the folder has then. The calls are: the directory, its file and the file's bytes, the file
@@ -136,14 +161,14 @@ const WHOLE: &str = "\nd/\nd/f=hello\nlast/";
 
 // Whether an export of which the call of a number is refused ends so, and puts this.
 fn puts(alloc: Global, number: u64, put: &str) -> Result<bool, Fail> {
-    let calls = vec![in alloc; number]?;
-    let (end, text) = exported(alloc, Holds::Several, Vec::new(alloc), calls)?;
+    let mut folder = folder_with(alloc, number)?;
+    let stop = exported(alloc, Holds::Several, 0, &mut folder)?.err();
     let wanted = if number == 5 {
         None
     } else {
-        Some(ExportStop::WriteFault)
+        Some(CALL_REFUSED)
     };
-    Ok(stop_of(end) == wanted && text.as_str() == put)
+    Ok(stop == wanted && has(&folder, put))
 }
 
 #[test]
@@ -156,24 +181,30 @@ fn a_refused_call_ends_it(rt: HostRuntime) -> Result<(), Fail> {
 
 // Whether an export of which the read of a number is refused ends by that, and puts no more than the beginning.
 fn ends_by_read(alloc: Global, number: u64) -> Result<bool, Fail> {
-    let reads = vec![in alloc; number]?;
-    let (end, text) = exported(alloc, Holds::Several, reads, Vec::new(alloc))?;
-    Ok(
-        stop_of(end) == Some(ExportStop::Stopped(Stop::ReadFault))
-            && WHOLE.starts_with(text.as_str()),
-    )
+    let mut folder = folder_with(alloc, 0)?;
+    let stop = exported(alloc, Holds::Several, number, &mut folder)?.err();
+    Ok(stop == Some(READ_REFUSED) && rest_of(&folder, WHOLE).is_some())
+}
+
+// How many reads there were before an export, and after it. None where it stops.
+fn reads_of(alloc: Global, folder: &mut MemFolder) -> Result<Option<(u64, u64)>, Fail> {
+    let mut at = open(alloc, Holds::Several, Vec::new(alloc), None)?;
+    let rows = rows_of(alloc, &mut at)?;
+    let before = at.src.read_count();
+    if ended(alloc, &mut at, &rows, folder).is_err() {
+        return Ok(None);
+    }
+    Ok(Some((before, at.src.read_count())))
 }
 
 #[test]
 fn a_refused_read_ends_it(rt: HostRuntime) -> Result<(), Fail> {
     let alloc = rt.alloc();
-    let mut src = source(alloc, Holds::Several, Vec::new(alloc))?;
-    let seen = open_view(alloc, &mut src)?;
-    let rows = rows_of(alloc, &mut src, &seen)?;
-    let before = src.read_count();
-    let (end, text) = ended(alloc, &mut src, &seen, &rows, Vec::new(alloc))?;
-    let after = src.read_count();
-    assert!(rt; stop_of(end) == None && text.as_str() == WHOLE && before < after);
+    let mut folder = folder_with(alloc, 0)?;
+    let Some((before, after)) = reads_of(alloc, &mut folder)? else {
+        panic!(rt; "it stops");
+    };
+    assert!(rt; has(&folder, WHOLE) && before < after);
     for number in before..after {
         assert!(rt;
             ends_by_read(alloc, number.saturating_add(1))?,
@@ -183,19 +214,24 @@ fn a_refused_read_ends_it(rt: HostRuntime) -> Result<(), Fail> {
     Ok(())
 }
 
-// Why an export stops at the id of no file.
-const NO_INODE: ExportStop = ExportStop::Stopped(Stop::Found(ExportFault::NoInode { id: 17 }));
+// The rows of the tree that an image holds.
+fn rows_in(alloc: Global, holds: Holds) -> Result<KeptRows, Fail> {
+    let mut at = open(alloc, holds, Vec::new(alloc), None)?;
+    rows_of(alloc, &mut at)
+}
 
+// Why an export of the rows of another image stops.
+fn stop_of_others(alloc: Global, folder: &mut MemFolder) -> Result<Option<&'static str>, Fail> {
+    let rows = rows_in(alloc, Holds::Several)?;
+    let mut at = open(alloc, HELLO, Vec::new(alloc), None)?;
+    Ok(ended(alloc, &mut at, &rows, folder).err())
+}
+
+// The directory `d` of the rows has the id of the only file, and no file has the next one.
 #[test]
 fn an_id_without_an_inode_is_named(rt: HostRuntime) -> Result<(), Fail> {
-    let alloc = rt.alloc();
-    let mut other = source(alloc, Holds::Several, Vec::new(alloc))?;
-    let seen = open_view(alloc, &mut other)?;
-    let rows = rows_of(alloc, &mut other, &seen)?;
-    // The directory `d` of those rows has the id of the only file here, and no file here has the next one.
-    let mut src = source(alloc, Holds::Hello, Vec::new(alloc))?;
-    let seen = open_view(alloc, &mut src)?;
-    let (end, text) = ended(alloc, &mut src, &seen, &rows, Vec::new(alloc))?;
-    assert!(rt; stop_of(end) == Some(NO_INODE) && text.as_str() == "\nd=hello");
+    let mut folder = folder_with(rt.alloc(), 0)?;
+    let stop = stop_of_others(rt.alloc(), &mut folder)?;
+    assert!(rt; stop == Some(NO_INODE) && has(&folder, "\nd=hello"));
     Ok(())
 }

@@ -1,58 +1,64 @@
 // What the views of small containers hold, worked out by hand.
+ghost use Rattle.std.specs.Prelude.{length};
+ghost use Rattle.obj_base.specs.Site.{IsSiteFor};
+ghost use Rattle.nx_ring.specs.Checkpoint.{site_of};
+
+use crate::tests::opened::volume_in;
 use blk_source::MemSource;
 use bt_cursor::WalkFault;
 use bt_node::NodeFault;
-use img_make::{Plan, Sample, made, sample, table, write};
-use nx_ring::newest;
+use img_make::{Plan, Sample, Version, VolPlan, made, sample, table, write};
+use nx_ring::{Checkpoint, newest};
 use obj_base::{HeadFault, Stop};
 use std::alloc::{AllocError, Global};
-use std::process::Abort;
 use std::test::Fail;
 use use_report::{Usage, UseFault, usage};
-use vol_view::{heads, load};
 
-// An edit: a block, a place in it, and the byte that it gets. Sums stay as they are.
-type Edit = (usize, usize, u8);
-
-fn edited(alloc: Global, plan: &Plan, edits: &[Edit]) -> Result<Vec<u8>, Fail> {
-    let mut image = made(alloc, plan)?;
-    for (block, place, byte) in edits.iter() {
-        if !write(&mut image, 4096, *block, *place, &[*byte]) {
-            return Err(Fail::from("no such place"));
-        }
+// The sample whose byte in the middle of a block is another. Sums stay as they are.
+fn edited(alloc: Global, which: Sample, block: usize) -> Result<Vec<u8>, Fail> {
+    let mut image = made(alloc, &sample(alloc, which)?)?;
+    if !write(&mut image, 4096, block, 2000, &[0x55]) {
+        return Err(Fail::from("no such place"));
     }
     Ok(image)
 }
 
-// The container whose file begins with a hole, and a snapshot of before, when the file was the block after the hole alone.
-fn with_an_earlier_file(alloc: Global) -> Result<Plan, Fail> {
-    let mut plan = sample(alloc, Sample::P)?;
-    let mut earlier = sample(alloc, Sample::H)?;
-    let Some(mut volume) = earlier.volumes.pop() else {
+// The tree of the container with a file, kept by a snapshot.
+fn earlier(alloc: Global) -> Result<Version, Fail> {
+    let mut plan = sample(alloc, Sample::H)?;
+    let Some(volume) = plan.volumes.first_mut() else {
         return Err(Fail::from("no volume"));
     };
     let Some(mut first) = volume.versions.pop() else {
         return Err(Fail::from("no version"));
     };
     first.snapshot = Some(b"s1".to_vec(alloc)?);
-    let Some(volume) = plan.volumes.first_mut() else {
-        return Err(Fail::from("no volume"));
-    };
+    Ok(first)
+}
+
+// Puts that tree before the only one of a volume.
+fn put_earlier(alloc: Global, volume: &mut VolPlan) -> Result<(), Fail> {
     let Some(last) = volume.versions.first_mut() else {
         return Err(Fail::from("no version"));
     };
     last.xid = 2;
-    volume.versions.insert(0, first)?;
+    volume.versions.insert(0, earlier(alloc)?)?;
+    Ok(())
+}
+
+// The container whose file begins with a hole, and a snapshot of before, when the file was the block after the hole alone.
+fn with_an_earlier_file(alloc: Global) -> Result<Plan, Fail> {
+    let mut plan = sample(alloc, Sample::P)?;
+    let Some(volume) = plan.volumes.first_mut() else {
+        return Err(Fail::from("no volume"));
+    };
+    put_earlier(alloc, volume)?;
     plan.xid = 2;
     Ok(plan)
 }
 
-// The container with a file of one extent, the value of whose record is another. It is the last record.
-fn with_extent(alloc: Global, value: &[u8]) -> Result<Plan, Fail> {
-    let mut plan = sample(alloc, Sample::H)?;
-    let Some(volume) = plan.volumes.first_mut() else {
-        return Err(Fail::from("no volume"));
-    };
+// Gives the last record of the first leaf this value.
+fn set_last(volume: &mut VolPlan, value: &[u8]) -> Result<(), Fail> {
     let Some(version) = volume.versions.first_mut() else {
         return Err(Fail::from("no version"));
     };
@@ -62,8 +68,34 @@ fn with_extent(alloc: Global, value: &[u8]) -> Result<Plan, Fail> {
     let Some(item) = leaf.items.last_mut() else {
         return Err(Fail::from("no record"));
     };
-    item.1 = value.to_vec(alloc)?;
+    item.1.clear();
+    item.1.extend_from_slice(value)?;
+    Ok(())
+}
+
+// The container with a file of one extent, the value of whose record is another. It is the last record.
+fn with_extent(alloc: Global, value: &[u8]) -> Result<Plan, Fail> {
+    let mut plan = sample(alloc, Sample::H)?;
+    let Some(volume) = plan.volumes.first_mut() else {
+        return Err(Fail::from("no volume"));
+    };
+    set_last(volume, value)?;
     Ok(plan)
+}
+
+// Gives the value of the first record the version's transaction as its first byte.
+fn set_first(version: &mut Version) -> Result<(), Fail> {
+    let Some(leaf) = version.leaves.first_mut() else {
+        return Err(Fail::from("no leaf"));
+    };
+    let Some(item) = leaf.items.first_mut() else {
+        return Err(Fail::from("no record"));
+    };
+    let Some(byte) = item.1.first_mut() else {
+        return Err(Fail::from("no value"));
+    };
+    *byte = version.xid.to_le_bytes()[0];
+    Ok(())
 }
 
 // The container with eight snapshots, each of which has a first leaf of its own: the last one's is that of the live view too.
@@ -73,71 +105,82 @@ fn with_own_leaves(alloc: Global) -> Result<Plan, Fail> {
         return Err(Fail::from("no volume"));
     };
     for version in volume.versions.iter_mut() {
-        let Some(leaf) = version.leaves.first_mut() else {
-            return Err(Fail::from("no leaf"));
-        };
-        let Some(item) = leaf.items.first_mut() else {
-            return Err(Fail::from("no record"));
-        };
-        let Some(byte) = item.1.first_mut() else {
-            return Err(Fail::from("no value"));
-        };
-        *byte = version.xid.to_le_bytes()[0];
+        set_first(version)?;
     }
     Ok(plan)
 }
 
-// What is told of the volume in a place among those of an image, when reads of these numbers fail, and how many reads that takes
-// once the volume is loaded.
-fn told_in(
+// The same stop where a read is refused, and another one where something is wrong before the count.
+fn early<F>(stop: &Stop<F>) -> Stop<UseFault> {
+    match stop {
+        Stop::ReadFault => Stop::ReadFault,
+        _ => Stop::NoMemory,
+    }
+}
+
+// What is told of the volume in a place among those of a checkpoint, and how many reads that takes once the volume is loaded.
+fn told_of(
+    alloc: Global,
+    src: &mut MemSource,
+    cp: &Checkpoint,
+    place: usize,
+) -> Result<(Usage, u64), Stop<UseFault>>
+    requires { IsSiteFor (site_of cp.now) (length src.old.bytes) }
+{
+    let volume = match volume_in(alloc, src, cp, place) {
+        Ok(volume) => volume,
+        Err(stop) => return Err(early(&stop)),
+    };
+    let before = src.read_count();
+    match usage(alloc, src, cp, &volume) {
+        Ok(usage) => Ok((usage, src.read_count().saturating_sub(before))),
+        Err(stop) => Err(stop),
+    }
+}
+
+// What is told of the volume in a place among those of an image, when reads of these numbers fail, with those reads.
+fn told(
     alloc: Global,
     image: Vec<u8>,
     place: usize,
     fails: Vec<u64>,
 ) -> Result<(Usage, u64), Stop<UseFault>> {
     let mut src = MemSource::new(image, fails);
-    let cp = match newest(alloc, &mut src) {
-        Ok(cp) => cp,
-        Err(Stop::ReadFault) => return Err(Stop::ReadFault),
-        Err(_) => return Err(Stop::NoMemory),
-    };
-    let found = match heads(alloc, &mut src, &cp) {
-        Ok(found) => found,
-        Err(Stop::ReadFault) => return Err(Stop::ReadFault),
-        Err(_) => return Err(Stop::NoMemory),
-    };
-    if place >= found.len() {
-        return Err(Stop::NoMemory);
+    match newest(alloc, &mut src) {
+        Ok(cp) => told_of(alloc, &mut src, &cp, place),
+        Err(stop) => Err(early(&stop)),
     }
-    let volume = match load(alloc, &mut src, &cp, &found[place]) {
-        Ok(volume) => volume,
-        Err(Stop::ReadFault) => return Err(Stop::ReadFault),
-        Err(_) => return Err(Stop::NoMemory),
-    };
-    let before = src.read_count();
-    let usage = usage(alloc, &mut src, &cp, &volume)?;
-    Ok((usage, src.read_count().saturating_sub(before)))
-}
-
-// The same without the reads.
-fn told(
-    alloc: Global,
-    image: Vec<u8>,
-    place: usize,
-    fails: Vec<u64>,
-) -> Result<Usage, Stop<UseFault>> {
-    let (usage, _) = told_in(alloc, image, place, fails)?;
-    Ok(usage)
 }
 
 // What the views of a volume hold: of each its transaction, how many blocks it holds, and how many it alone.
 type Held = &'static [(u64, u64, u64)];
 
-fn assert_held(rt: &impl Abort, usage: &Usage, held: &[(u64, u64, u64)], all: u64) {
-    assert!(rt; (usage.views.len(), usage.all) == (held.len(), all));
-    for (view, (xid, blocks, only)) in usage.views.iter().zip(held) {
-        assert!(rt; (view.xid, view.held, view.only) == (*xid, *blocks, *only));
+// Whether this is told.
+fn tells(usage: &Usage, held: &[(u64, u64, u64)], all: u64) -> bool {
+    if usage.views.len() != held.len() || usage.all != all {
+        return false;
     }
+    for (view, (xid, blocks, only)) in usage.views.iter().zip(held) {
+        if view.xid != *xid || view.held != *blocks || view.only != *only {
+            return false;
+        }
+    }
+    true
+}
+
+// How many reads it takes to tell this of the volume in a place. None where something else is told.
+fn reads_to_tell(
+    alloc: Global,
+    plan: &Plan,
+    place: usize,
+    held: &[(u64, u64, u64)],
+    all: u64,
+) -> Result<Option<u64>, Fail> {
+    let image = made(alloc, plan)?;
+    Ok(match told(alloc, image, place, Vec::new(alloc)) {
+        Ok((usage, reads)) if tells(&usage, held, all) => Some(reads),
+        _ => None,
+    })
 }
 
 // A sample, the place of a volume, what its views hold, and all that they hold.
@@ -158,11 +201,8 @@ const SAMPLES: &[(Sample, usize, Held, u64)] = table! {
 fn what_views_hold(rt: HostRuntime) -> Result<(), Fail> {
     let alloc = rt.alloc();
     for (which, place, held, all) in SAMPLES {
-        let image = made(alloc, &sample(alloc, *which)?)?;
-        let Ok(usage) = told(alloc, image, *place, Vec::new(alloc)) else {
-            panic!(rt; "nothing is told");
-        };
-        assert_held(&rt, &usage, held, *all);
+        let plan = sample(alloc, *which)?;
+        assert!(rt; reads_to_tell(alloc, &plan, *place, held, *all)?.is_some());
     }
     Ok(())
 }
@@ -172,12 +212,8 @@ const SHARING: Held = &[(2, 3, 2), (1, 4, 3)];
 
 #[test]
 fn two_views_share_an_extent(rt: HostRuntime) -> Result<(), Fail> {
-    let alloc = rt.alloc();
-    let image = made(alloc, &with_an_earlier_file(alloc)?)?;
-    let Ok(usage) = told(alloc, image, 0, Vec::new(alloc)) else {
-        panic!(rt; "nothing is told");
-    };
-    assert_held(&rt, &usage, SHARING, 6);
+    let plan = with_an_earlier_file(rt.alloc())?;
+    assert!(rt; reads_to_tell(rt.alloc(), &plan, 0, SHARING, 6)?.is_some());
     Ok(())
 }
 
@@ -189,13 +225,11 @@ const OWN_LEAVES: Held = table! {
 // the files is read by the sweep, and the root and the leaves once more; a walk of each view would take 36 reads.
 #[test]
 fn a_node_that_views_share_is_read_once(rt: HostRuntime) -> Result<(), Fail> {
-    let alloc = rt.alloc();
-    let image = made(alloc, &with_own_leaves(alloc)?)?;
-    let Ok((usage, reads)) = told_in(alloc, image, 0, Vec::new(alloc)) else {
-        panic!(rt; "nothing is told");
+    let plan = with_own_leaves(rt.alloc())?;
+    let Some(reads) = reads_to_tell(rt.alloc(), &plan, 0, OWN_LEAVES, 27)? else {
+        panic!(rt; "something else is told");
     };
     assert!(rt; reads <= 29);
-    assert_held(&rt, &usage, OWN_LEAVES, 27);
     Ok(())
 }
 
@@ -211,7 +245,7 @@ const WRONG_NODES: &[(Sample, usize, u64)] = table! {
 
 // What stops the count where a byte of this block is another.
 fn stop_at(alloc: Global, which: Sample, block: usize) -> Result<Option<Stop<UseFault>>, Fail> {
-    let image = edited(alloc, &sample(alloc, which)?, &[(block, 2000, 0x55)])?;
+    let image = edited(alloc, which, block)?;
     Ok(told(alloc, image, 0, Vec::new(alloc)).err())
 }
 
@@ -259,16 +293,30 @@ fn value_of(alloc: Global, length: u64, block: u64, bytes: usize) -> Result<Vec<
     Ok(value)
 }
 
+// What stops the count where the value of the extent is this.
+fn stop_with(alloc: Global, value: &[u8]) -> Result<Option<Stop<UseFault>>, Fail> {
+    let image = made(alloc, &with_extent(alloc, value)?)?;
+    Ok(told(alloc, image, 0, Vec::new(alloc)).err())
+}
+
 #[test]
 fn which_extent_is_wrong(rt: HostRuntime) -> Result<(), Fail> {
     let alloc = rt.alloc();
     for &(length, block, bytes, want) in EXTENTS {
-        let value = value_of(alloc, length, block, bytes)?;
-        let image = made(alloc, &with_extent(alloc, &value)?)?;
-        let got = told(alloc, image, 0, Vec::new(alloc)).err();
+        let got = stop_with(alloc, &value_of(alloc, length, block, bytes)?)?;
         assert!(rt; got == want.map(Stop::Found), "{block}");
     }
     Ok(())
+}
+
+// How the count of an image ends where the read of a number is refused: by that, or it tells that 9 blocks are held.
+fn end_of(alloc: Global, image: &[u8], number: u64) -> Result<Option<bool>, Fail> {
+    let fails = vec![in alloc; number]?;
+    Ok(match told(alloc, image.to_vec(alloc)?, 0, fails) {
+        Ok((usage, _)) if usage.all == 9 => Some(true),
+        Err(Stop::ReadFault) => Some(false),
+        _ => None,
+    })
 }
 
 #[test]
@@ -276,14 +324,12 @@ fn each_read_fails_in_turn(rt: HostRuntime) -> Result<(), Fail> {
     let alloc = rt.alloc();
     let image = made(alloc, &sample(alloc, Sample::V)?)?;
     for number in 1..200u64 {
-        let mut fails = Vec::new(alloc);
-        fails.push(number)?;
-        match told(alloc, image.to_vec(alloc)?, 0, fails) {
-            Ok(usage) => {
-                assert!(rt; usage.all == 9 && number > 9);
-                return Ok(());
-            }
-            Err(stop) => assert!(rt; stop == Stop::ReadFault),
+        let Some(is_whole) = end_of(alloc, &image, number)? else {
+            panic!(rt; "it ends otherwise");
+        };
+        if is_whole {
+            assert!(rt; number > 9);
+            return Ok(());
         }
     }
     panic!(rt; "there are no 200 reads")

@@ -1,15 +1,15 @@
 // Paths in the sample containers, and in small ones made for them. What is wanted was worked out by hand.
+ghost use Rattle.std.specs.Prelude.{length, ◌≡◌};
+ghost use Rattle.obj_base.specs.Site.{IsSiteFor};
 
-mod made;
-
+use crate::tests::made::Holds;
+use crate::tests::opened::{Opened, open};
 use apfs_model::Bytes;
-use blk_source::{MemSink, MemSource};
+use blk_source::MemSink;
 use img_make::{Sample, table};
-use made::{Holds, open_view, source};
 use obj_base::Stop;
 use path_walk::{Answer, PathStop, Target, find, list};
 use std::alloc::Global;
-use std::process::Abort;
 use std::test::Fail;
 use view_rules::{IdAt, TreeFault};
 use view_tree::{PutStop, kind_letter, tree, tree_rows};
@@ -50,50 +50,67 @@ fn why(stop: &Stop<PathStop>) -> &'static str {
     }
 }
 
-// What is told of a listing: its rows, or why there is none.
-fn listed(alloc: Global, src: &mut MemSource, case: &Case) -> Result<String, Fail> {
-    let (_, snapshot, path, _) = *case;
-    let at = open_view(alloc, src, snapshot)?;
-    let mut text = String::new(alloc);
-    match list(alloc, src, &at.volume, &at.view, &at.site, path) {
+// Adds what is told of a listing: its rows, or why there is none.
+fn add_listing(alloc: Global, text: &mut String, at: &mut Opened, path: &str) -> Result<(), Fail>
+    requires { IsSiteFor at.old.site (length at.old.src.bytes) }
+{
+    match list(alloc, &mut at.src, &at.volume, &at.view, &at.site, path) {
         Ok(targets) => {
             for target in targets.iter() {
-                add_row(alloc, &mut text, target, &target.name)?;
+                add_row(alloc, text, target, &target.name)?;
             }
-            Ok(text)
         }
-        Err(stop) => Ok(why(&stop).to_string(alloc)?),
+        Err(stop) => text.push_str(why(&stop))?,
     }
+    Ok(())
 }
 
-// What is told of a tree.
-fn grown(alloc: Global, src: &mut MemSource, case: &Case) -> Result<String, Fail> {
-    let (_, snapshot, path, _) = *case;
-    let at = open_view(alloc, src, snapshot)?;
-    let mut text = String::new(alloc);
-    match tree(alloc, src, &at.volume, &at.view, &at.site, path) {
+// Adds what is told of a tree.
+fn add_tree(alloc: Global, text: &mut String, at: &mut Opened, path: &str) -> Result<(), Fail>
+    requires { IsSiteFor at.old.site (length at.old.src.bytes) }
+{
+    match tree(alloc, &mut at.src, &at.volume, &at.view, &at.site, path) {
         Ok(rows) => {
             for (path, target) in rows.iter() {
-                add_row(alloc, &mut text, target, path)?;
+                add_row(alloc, text, target, path)?;
             }
-            Ok(text)
         }
-        Err(stop) => Ok(why(&stop).to_string(alloc)?),
+        Err(stop) => text.push_str(why(&stop))?,
     }
+    Ok(())
 }
 
-// What is told of where a path leads.
-fn found(alloc: Global, src: &mut MemSource, case: &Case) -> Result<String, Fail> {
-    let (_, snapshot, path, _) = *case;
-    let at = open_view(alloc, src, snapshot)?;
-    let mut text = String::new(alloc);
-    match find(alloc, src, &at.volume, &at.view, &at.site, path) {
-        Ok(target) => {
-            add_row(alloc, &mut text, &target, &target.name)?;
-            Ok(text)
-        }
-        Err(stop) => Ok(why(&stop).to_string(alloc)?),
+// Adds what is told of where a path leads.
+fn add_found(alloc: Global, text: &mut String, at: &mut Opened, path: &str) -> Result<(), Fail>
+    requires { IsSiteFor at.old.site (length at.old.src.bytes) }
+{
+    match find(alloc, &mut at.src, &at.volume, &at.view, &at.site, path) {
+        Ok(target) => add_row(alloc, text, &target, &target.name)?,
+        Err(stop) => text.push_str(why(&stop))?,
     }
+    Ok(())
+}
+
+// What is asked of a path.
+#[derive(Clone, Copy)]
+enum Ask {
+    List,
+    Tree,
+    Find,
+}
+
+// Whether what is told is what a case says.
+fn is_told(alloc: Global, case: &Case, ask: Ask) -> Result<bool, Fail> {
+    let mut at = open(alloc, case.0, Vec::new(alloc), case.1)?;
+    let mut text = String::new(alloc);
+    let path = case.2;
+    let end = match ask {
+        Ask::List => add_listing(alloc, &mut text, &mut at, path),
+        Ask::Tree => add_tree(alloc, &mut text, &mut at, path),
+        Ask::Find => add_found(alloc, &mut text, &mut at, path),
+    };
+    end?;
+    Ok(text.as_str() == case.3)
 }
 
 const HELLO: Holds = Holds::Of(Sample::H);
@@ -162,9 +179,7 @@ const TREES: &[Case] = table! {
 #[test]
 fn listings_are_by_name(rt: HostRuntime) -> Result<(), Fail> {
     for case in LISTINGS {
-        let mut src = source(rt.alloc(), case.0)?;
-        let told = listed(rt.alloc(), &mut src, case)?;
-        assert!(rt; told.as_str() == case.3);
+        assert!(rt; is_told(rt.alloc(), case, Ask::List)?);
     }
     Ok(())
 }
@@ -172,9 +187,7 @@ fn listings_are_by_name(rt: HostRuntime) -> Result<(), Fail> {
 #[test]
 fn paths_lead_by_bytes_then_by_form(rt: HostRuntime) -> Result<(), Fail> {
     for case in FINDS {
-        let mut src = source(rt.alloc(), case.0)?;
-        let told = found(rt.alloc(), &mut src, case)?;
-        assert!(rt; told.as_str() == case.3);
+        assert!(rt; is_told(rt.alloc(), case, Ask::Find)?);
     }
     Ok(())
 }
@@ -182,29 +195,23 @@ fn paths_lead_by_bytes_then_by_form(rt: HostRuntime) -> Result<(), Fail> {
 #[test]
 fn trees_enter_each_directory_once(rt: HostRuntime) -> Result<(), Fail> {
     for case in TREES {
-        let mut src = source(rt.alloc(), case.0)?;
-        let told = grown(rt.alloc(), &mut src, case)?;
-        assert!(rt; told.as_str() == case.3);
+        assert!(rt; is_told(rt.alloc(), case, Ask::Tree)?);
     }
     Ok(())
 }
 
-// How the rows of a tree are put on a sink with room for so many bytes, and what the sink has then.
+// Puts the rows of a tree on a sink, and tells how that ends.
 fn put(
     alloc: Global,
     holds: Holds,
     path: &str,
-    room: usize,
-) -> Result<(Result<(), PutStop>, Vec<u8>), Fail> {
-    let mut src = source(alloc, holds)?;
-    let at = open_view(alloc, &mut src, None)?;
-    let Ok(rows) = tree_rows(alloc, &mut src, &at.volume, &at.view, &at.site, path) else {
-        return Err(Fail::from("there are no rows"));
-    };
-    let mut out = MemSink::new(alloc, room, Vec::new(alloc))?;
-    let end = rows.put(alloc, &mut out);
-    let bytes = out.contents().to_vec(alloc)?;
-    Ok((end, bytes))
+    out: &mut MemSink,
+) -> Result<Result<(), PutStop>, Fail> {
+    let mut at = open(alloc, holds, Vec::new(alloc), None)?;
+    match tree_rows(alloc, &mut at.src, &at.volume, &at.view, &at.site, path) {
+        Ok(rows) => Ok(rows.put(alloc, out)),
+        Err(_) => Err(Fail::from("there are no rows")),
+    }
 }
 
 const LINES_OF_THE_ROOT: &str =
@@ -217,14 +224,17 @@ const LINES: &[(Holds, &str, &str)] = table! {
     Holds::Names, "/", LINES_OF_THE_ROOT;
 };
 
+// Whether the rows of the tree there are put as these lines.
+fn are_put(alloc: Global, holds: Holds, path: &str, lines: &str) -> Result<bool, Fail> {
+    let mut out = MemSink::new(alloc, 1000, Vec::new(alloc))?;
+    let end = put(alloc, holds, path, &mut out)?;
+    Ok(end == Ok(()) && out.contents() == lines.as_bytes())
+}
+
 #[test]
 fn rows_are_put_as_lines(rt: HostRuntime) -> Result<(), Fail> {
     for (holds, path, lines) in LINES {
-        let (end, bytes) = put(rt.alloc(), *holds, path, 1000)?;
-        assert!(rt;
-            end == Ok(()) && bytes.as_slice() == lines.as_bytes(),
-            "{path}"
-        );
+        assert!(rt; are_put(rt.alloc(), *holds, path, lines)?, "{path}");
     }
     Ok(())
 }
@@ -232,8 +242,9 @@ fn rows_are_put_as_lines(rt: HostRuntime) -> Result<(), Fail> {
 // The lines of a small tree are put at once.
 #[test]
 fn a_sink_without_room_gets_no_rows(rt: HostRuntime) -> Result<(), Fail> {
-    let (end, bytes) = put(rt.alloc(), Holds::Names, "/", 10)?;
-    assert!(rt; end == Err(PutStop::WriteFault) && bytes.is_empty());
+    let mut out = MemSink::new(rt.alloc(), 10, Vec::new(rt.alloc()))?;
+    let end = put(rt.alloc(), Holds::Names, "/", &mut out)?;
+    assert!(rt; end == Err(PutStop::WriteFault) && out.contents().is_empty());
     Ok(())
 }
 
@@ -243,21 +254,38 @@ fn a_whiteout_has_a_letter(rt: HostRuntime) {
     assert!(rt; kind_letter(14) == "w");
 }
 
+// How many targets are listed; None where that stops.
+fn list_len(alloc: Global, at: &mut Opened) -> Option<usize>
+    requires { IsSiteFor at.old.site (length at.old.src.bytes) }
+    ensures { IsSiteFor at.new.site (length at.new.src.bytes) }
+{
+    match list(alloc, &mut at.src, &at.volume, &at.view, &at.site, "/x/y") {
+        Ok(targets) => Some(targets.len()),
+        Err(_) => None,
+    }
+}
+
+// How many rows the tree has; None where that stops.
+fn tree_len(alloc: Global, at: &mut Opened) -> Option<usize>
+    requires { IsSiteFor at.old.site (length at.old.src.bytes) }
+{
+    match tree(alloc, &mut at.src, &at.volume, &at.view, &at.site, "/") {
+        Ok(rows) => Some(rows.len()),
+        Err(_) => None,
+    }
+}
+
 // A tree of more than a hundred nodes, of which a search reads few.
 #[test]
 fn a_search_reads_few_blocks(rt: HostRuntime) -> Result<(), Fail> {
-    let mut src = source(rt.alloc(), Holds::Many)?;
-    let at = open_view(rt.alloc(), &mut src, None)?;
-    let start = src.read_count();
-    let searched = list(rt.alloc(), &mut src, &at.volume, &at.view, &at.site, "/x/y");
-    let first = src.read_count().saturating_sub(start);
-    let walked = tree(rt.alloc(), &mut src, &at.volume, &at.view, &at.site, "/");
-    let all = src.read_count().saturating_sub(start);
-    let (Ok(targets), Ok(rows)) = (searched, walked) else {
-        panic!(rt; "nothing is told");
-    };
+    let mut at = open(rt.alloc(), Holds::Many, Vec::new(rt.alloc()), None)?;
+    let start = at.src.read_count();
+    let searched = list_len(rt.alloc(), &mut at);
+    let first = at.src.read_count().saturating_sub(start);
+    let walked = tree_len(rt.alloc(), &mut at);
+    let all = at.src.read_count().saturating_sub(start);
     assert!(rt;
-        (targets.len(), rows.len()) == (1, 3003) && first < 24 && all > 100,
+        searched == Some(1) && walked == Some(3003) && first < 24 && all > 100,
         "{first} and {all} reads"
     );
     Ok(())

@@ -1,13 +1,13 @@
 // A large hole is put piece by piece and not read.
 ghost use Rattle.blk_folder.specs.Edge.{untold};
 
-use super::made::{HOLE, Holds, open_view, rows_of, source};
+use crate::tests::exports::{ended, rows_of};
+use crate::tests::made::{HOLE, Holds};
+use crate::tests::opened::open;
 use apfs_model::WriteFailed;
 use blk_folder::Folder;
 use std::alloc::{AllocError, Global};
-use std::process::Abort;
 use std::test::Fail;
-use tree_export::export;
 
 // The most bytes that are put at once.
 const MOST: usize = 65_536;
@@ -59,30 +59,26 @@ fn refused(alloc: Global) -> Result<Vec<u64>, AllocError> {
     Ok(fails)
 }
 
+// How many files and bytes are told where the hole is put into a folder; None where it stops.
+fn put_hole(alloc: Global, folder: &mut Tally) -> Result<Option<(u64, u64)>, Fail> {
+    let mut at = open(alloc, Holds::Hole, refused(alloc)?, None)?;
+    let rows = rows_of(alloc, &mut at)?;
+    let Ok(done) = ended(alloc, &mut at, &rows, folder) else {
+        return Ok(None);
+    };
+    Ok(Some((done.files, done.bytes)))
+}
+
 #[test]
 fn a_hole_is_put_piece_by_piece(rt: HostRuntime) -> Result<(), Fail> {
-    let alloc = rt.alloc();
-    let mut src = source(alloc, Holds::Hole, refused(alloc)?)?;
-    let seen = open_view(alloc, &mut src)?;
-    let rows = rows_of(alloc, &mut src, &seen)?;
     let mut folder = Tally {
         bytes: 0,
         longest: 0,
         other: 0,
         writing: false,
     };
-    match export(
-        alloc,
-        &mut src,
-        &seen.volume,
-        &seen.view,
-        &seen.site,
-        &rows,
-        &mut folder,
-    ) {
-        Ok(done) => assert!(rt; (done.files, done.bytes) == (1, HOLE + 5)),
-        Err(_) => panic!(rt; "it stops"),
-    }
+    let told = put_hole(rt.alloc(), &mut folder)?;
+    assert!(rt; told == Some((1, HOLE + 5)));
     // `hello` is in the last piece.
     assert!(rt; folder.bytes == HOLE + 5 && folder.longest <= MOST && folder.other == 1);
     Ok(())
