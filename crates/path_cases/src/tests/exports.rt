@@ -8,6 +8,7 @@ mod holed;
 
 use crate::tests::made::Holds;
 use crate::tests::opened::{Opened, open};
+use crate::tests::walks::why;
 use blk_folder::{Folder, MemFolder};
 use img_make::{Sample, table};
 use obj_base::Stop;
@@ -53,8 +54,8 @@ const CALL_REFUSED: &str = "a call is refused";
 
 const NO_INODE: &str = "17 has no inode";
 
-fn why(stop: &ExportStop) -> &'static str {
-    match stop {
+fn word(stop: ExportStop) -> &'static str {
+    match &stop {
         ExportStop::WriteFault => CALL_REFUSED,
         ExportStop::Stopped(Stop::ReadFault) => READ_REFUSED,
         ExportStop::Stopped(Stop::Found(ExportFault::NoInode { id: 17 })) => NO_INODE,
@@ -69,7 +70,7 @@ fn rows_of(alloc: Global, at: &mut Opened) -> Result<KeptRows, Fail>
 {
     match tree_rows(alloc, &mut at.src, &at.volume, &at.view, &at.site, "/") {
         Ok(rows) => Ok(rows),
-        Err(_) => Err(Fail::from("there is no tree")),
+        Err(stop) => Err(Fail::from(why(stop))),
     }
 }
 
@@ -92,20 +93,34 @@ fn ended<F: Folder>(
         folder,
     ) {
         Ok(done) => Ok(done),
-        Err(stop) => Err(why(&stop)),
+        Err(stop) => Err(word(stop)),
     }
 }
 
-// How an export of what an image holds ends, where the read of a number is refused, and none where it is 0.
-fn exported(
+// How an export ends, and how many reads there were before and after it.
+#[derive(Drop)]
+struct Outcome {
+    before: u64,
+    end: Result<Done, &'static str>,
+    after: u64,
+}
+
+// That of what an image holds, where the reads of these numbers are refused.
+fn exported<F: Folder>(
     alloc: Global,
     holds: Holds,
-    read: u64,
-    folder: &mut MemFolder,
-) -> Result<Result<Done, &'static str>, Fail> {
-    let mut at = open(alloc, holds, vec![in alloc; read]?, None)?;
+    reads: Vec<u64>,
+    folder: &mut F,
+) -> Result<Outcome, Fail> {
+    let mut at = open(alloc, holds, reads, None)?;
     let rows = rows_of(alloc, &mut at)?;
-    Ok(ended(alloc, &mut at, &rows, folder))
+    let before = at.src.read_count();
+    let end = ended(alloc, &mut at, &rows, folder);
+    Ok(Outcome {
+        before,
+        end,
+        after: at.src.read_count(),
+    })
 }
 
 // What an image holds, what a folder gets of it, and what the call tells: how many directories, files and bytes, and which places
@@ -132,7 +147,7 @@ fn tells(done: &Done, counts: (u64, u64, u64), skipped: &[usize]) -> bool {
 // Whether an export doesn't stop, and ends as a case says.
 fn ends_as_said(alloc: Global, case: &Case) -> Result<bool, Fail> {
     let mut folder = folder_with(alloc, 0)?;
-    let Ok(done) = exported(alloc, case.0, 0, &mut folder)? else {
+    let Ok(done) = exported(alloc, case.0, Vec::new(alloc), &mut folder)?.end else {
         return Ok(false);
     };
     Ok(tells(&done, case.2, case.3) && has(&folder, case.1))
@@ -159,10 +174,16 @@ const LEFT: &[(u64, &str)] = table! {
 // What a folder gets where nothing is refused.
 const WHOLE: &str = "\nd/\nd/f=hello\nlast/";
 
+// Why an export stops where the read of a number is refused, and none where it is 0.
+fn stop_of(alloc: Global, read: u64, folder: &mut MemFolder) -> Result<Option<&'static str>, Fail> {
+    let reads = vec![in alloc; read]?;
+    Ok(exported(alloc, Holds::Several, reads, folder)?.end.err())
+}
+
 // Whether an export of which the call of a number is refused ends so, and puts this.
 fn puts(alloc: Global, number: u64, put: &str) -> Result<bool, Fail> {
     let mut folder = folder_with(alloc, number)?;
-    let stop = exported(alloc, Holds::Several, 0, &mut folder)?.err();
+    let stop = stop_of(alloc, 0, &mut folder)?;
     let wanted = if number == 5 {
         None
     } else {
@@ -182,32 +203,27 @@ fn a_refused_call_ends_it(rt: HostRuntime) -> Result<(), Fail> {
 // Whether an export of which the read of a number is refused ends by that, and puts no more than the beginning.
 fn ends_by_read(alloc: Global, number: u64) -> Result<bool, Fail> {
     let mut folder = folder_with(alloc, 0)?;
-    let stop = exported(alloc, Holds::Several, number, &mut folder)?.err();
+    let stop = stop_of(alloc, number, &mut folder)?;
     Ok(stop == Some(READ_REFUSED) && rest_of(&folder, WHOLE).is_some())
 }
 
-// How many reads there were before an export, and after it. None where it stops.
-fn reads_of(alloc: Global, folder: &mut MemFolder) -> Result<Option<(u64, u64)>, Fail> {
-    let mut at = open(alloc, Holds::Several, Vec::new(alloc), None)?;
-    let rows = rows_of(alloc, &mut at)?;
-    let before = at.src.read_count();
-    if ended(alloc, &mut at, &rows, folder).is_err() {
-        return Ok(None);
+// How many reads there were before a whole export, and after it.
+fn reads_of(alloc: Global) -> Result<(u64, u64), Fail> {
+    let mut folder = folder_with(alloc, 0)?;
+    let ended = exported(alloc, Holds::Several, Vec::new(alloc), &mut folder)?;
+    if ended.end.is_err() || !has(&folder, WHOLE) {
+        return Err(Fail::from("it isn't whole"));
     }
-    Ok(Some((before, at.src.read_count())))
+    Ok((ended.before, ended.after))
 }
 
 #[test]
 fn a_refused_read_ends_it(rt: HostRuntime) -> Result<(), Fail> {
-    let alloc = rt.alloc();
-    let mut folder = folder_with(alloc, 0)?;
-    let Some((before, after)) = reads_of(alloc, &mut folder)? else {
-        panic!(rt; "it stops");
-    };
-    assert!(rt; has(&folder, WHOLE) && before < after);
+    let (before, after) = reads_of(rt.alloc())?;
+    assert!(rt; before < after);
     for number in before..after {
         assert!(rt;
-            ends_by_read(alloc, number.saturating_add(1))?,
+            ends_by_read(rt.alloc(), number.saturating_add(1))?,
             "read {number}"
         );
     }
@@ -221,7 +237,7 @@ fn rows_in(alloc: Global, holds: Holds) -> Result<KeptRows, Fail> {
 }
 
 // Why an export of the rows of another image stops.
-fn stop_of_others(alloc: Global, folder: &mut MemFolder) -> Result<Option<&'static str>, Fail> {
+fn stop_by_others(alloc: Global, folder: &mut MemFolder) -> Result<Option<&'static str>, Fail> {
     let rows = rows_in(alloc, Holds::Several)?;
     let mut at = open(alloc, HELLO, Vec::new(alloc), None)?;
     Ok(ended(alloc, &mut at, &rows, folder).err())
@@ -231,7 +247,7 @@ fn stop_of_others(alloc: Global, folder: &mut MemFolder) -> Result<Option<&'stat
 #[test]
 fn an_id_without_an_inode_is_named(rt: HostRuntime) -> Result<(), Fail> {
     let mut folder = folder_with(rt.alloc(), 0)?;
-    let stop = stop_of_others(rt.alloc(), &mut folder)?;
+    let stop = stop_by_others(rt.alloc(), &mut folder)?;
     assert!(rt; stop == Some(NO_INODE) && has(&folder, "\nd=hello"));
     Ok(())
 }

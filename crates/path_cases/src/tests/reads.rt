@@ -1,6 +1,7 @@
 // What no clause says: each call once on its happy path, in a container with a file and a symbolic link that has two attributes.
 use crate::tests::made::Holds;
 use crate::tests::opened::open;
+use crate::tests::walks::why;
 use apfs_model::Bytes;
 use blk_source::MemSink;
 use img_make::table;
@@ -17,8 +18,8 @@ const NOT_FILE: &str = "no file";
 
 const NO_ATTRIBUTE: &str = "no attribute";
 
-fn how(end: &Result<(), WriteStop>) -> &'static str {
-    match end {
+fn how(end: Result<(), WriteStop>) -> &'static str {
+    match &end {
         Ok(()) => WHOLE,
         Err(WriteStop::Stopped(Stop::Found(PathStop::Answer(Answer::NotFile)))) => NOT_FILE,
         Err(WriteStop::Stopped(Stop::Found(PathStop::Answer(Answer::NoAttribute)))) => NO_ATTRIBUTE,
@@ -55,7 +56,7 @@ fn written(
             out,
         ),
     };
-    Ok(how(&end))
+    Ok(how(end))
 }
 
 // A path, the name of an attribute or none, how writing it ends, and what is written.
@@ -114,7 +115,7 @@ fn withheld_at(alloc: Global, path: &str) -> Result<Option<Answer>, Fail> {
     let mut at = open(alloc, Holds::Attributes, Vec::new(alloc), None)?;
     match locate(alloc, &mut at.src, &at.volume, &at.view, &at.site, path) {
         Ok(place) => Ok(withheld(place.inode())),
-        Err(_) => Err(Fail::from("no such path")),
+        Err(stop) => Err(Fail::from(why(stop))),
     }
 }
 
@@ -143,7 +144,7 @@ fn are_listed(alloc: Global) -> Result<bool, Fail> {
     let mut at = open(alloc, Holds::Attributes, Vec::new(alloc), None)?;
     match attrs(alloc, &mut at.src, &at.volume, &at.view, &at.site, "/l") {
         Ok(listed) => Ok(are_named(&listed)),
-        Err(_) => Ok(false),
+        Err(stop) => Err(Fail::from(why(stop))),
     }
 }
 

@@ -3,11 +3,12 @@ ghost use Rattle.std.specs.Prelude.{length};
 ghost use Rattle.obj_base.specs.Site.{IsSiteFor};
 ghost use Rattle.nx_ring.specs.Checkpoint.{site_of};
 
+use crate::tests::made::{Holds, image_of};
 use crate::tests::opened::volume_in;
 use blk_source::MemSource;
 use bt_cursor::WalkFault;
 use bt_node::NodeFault;
-use img_make::{Plan, Sample, Version, VolPlan, made, sample, table, write};
+use img_make::{Sample, Version, VolPlan, made, sample, table, write};
 use nx_ring::{Checkpoint, newest};
 use obj_base::{HeadFault, Stop};
 use std::alloc::{AllocError, Global};
@@ -16,7 +17,7 @@ use use_report::{Usage, UseFault, usage};
 
 // The sample whose byte in the middle of a block is another. Sums stay as they are.
 fn edited(alloc: Global, which: Sample, block: usize) -> Result<Vec<u8>, Fail> {
-    let mut image = made(alloc, &sample(alloc, which)?)?;
+    let mut image = image_of(alloc, Holds::Of(which))?;
     if !write(&mut image, 4096, block, 2000, &[0x55]) {
         return Err(Fail::from("no such place"));
     }
@@ -47,14 +48,14 @@ fn put_earlier(alloc: Global, volume: &mut VolPlan) -> Result<(), Fail> {
 }
 
 // The container whose file begins with a hole, and a snapshot of before, when the file was the block after the hole alone.
-fn with_an_earlier_file(alloc: Global) -> Result<Plan, Fail> {
+fn with_an_earlier_file(alloc: Global) -> Result<Vec<u8>, Fail> {
     let mut plan = sample(alloc, Sample::P)?;
     let Some(volume) = plan.volumes.first_mut() else {
         return Err(Fail::from("no volume"));
     };
     put_earlier(alloc, volume)?;
     plan.xid = 2;
-    Ok(plan)
+    made(alloc, &plan)
 }
 
 // Gives the last record of the first leaf this value.
@@ -74,13 +75,13 @@ fn set_last(volume: &mut VolPlan, value: &[u8]) -> Result<(), Fail> {
 }
 
 // The container with a file of one extent, the value of whose record is another. It is the last record.
-fn with_extent(alloc: Global, value: &[u8]) -> Result<Plan, Fail> {
+fn with_extent(alloc: Global, value: &[u8]) -> Result<Vec<u8>, Fail> {
     let mut plan = sample(alloc, Sample::H)?;
     let Some(volume) = plan.volumes.first_mut() else {
         return Err(Fail::from("no volume"));
     };
     set_last(volume, value)?;
-    Ok(plan)
+    made(alloc, &plan)
 }
 
 // Gives the value of the first record the version's transaction as its first byte.
@@ -99,7 +100,7 @@ fn set_first(version: &mut Version) -> Result<(), Fail> {
 }
 
 // The container with eight snapshots, each of which has a first leaf of its own: the last one's is that of the live view too.
-fn with_own_leaves(alloc: Global) -> Result<Plan, Fail> {
+fn with_own_leaves(alloc: Global) -> Result<Vec<u8>, Fail> {
     let mut plan = sample(alloc, Sample::V2)?;
     let Some(volume) = plan.volumes.first_mut() else {
         return Err(Fail::from("no volume"));
@@ -107,11 +108,11 @@ fn with_own_leaves(alloc: Global) -> Result<Plan, Fail> {
     for version in volume.versions.iter_mut() {
         set_first(version)?;
     }
-    Ok(plan)
+    made(alloc, &plan)
 }
 
 // The same stop where a read is refused, and another one where something is wrong before the count.
-fn early<F>(stop: &Stop<F>) -> Stop<UseFault> {
+fn early<F: Drop>(stop: Stop<F>) -> Stop<UseFault> {
     match stop {
         Stop::ReadFault => Stop::ReadFault,
         _ => Stop::NoMemory,
@@ -129,7 +130,7 @@ fn told_of(
 {
     let volume = match volume_in(alloc, src, cp, place) {
         Ok(volume) => volume,
-        Err(stop) => return Err(early(&stop)),
+        Err(stop) => return Err(early(stop)),
     };
     let before = src.read_count();
     match usage(alloc, src, cp, &volume) {
@@ -148,7 +149,7 @@ fn told(
     let mut src = MemSource::new(image, fails);
     match newest(alloc, &mut src) {
         Ok(cp) => told_of(alloc, &mut src, &cp, place),
-        Err(stop) => Err(early(&stop)),
+        Err(stop) => Err(early(stop)),
     }
 }
 
@@ -171,16 +172,15 @@ fn tells(usage: &Usage, held: &[(u64, u64, u64)], all: u64) -> bool {
 // How many reads it takes to tell this of the volume in a place. None where something else is told.
 fn reads_to_tell(
     alloc: Global,
-    plan: &Plan,
+    image: Vec<u8>,
     place: usize,
     held: &[(u64, u64, u64)],
     all: u64,
-) -> Result<Option<u64>, Fail> {
-    let image = made(alloc, plan)?;
-    Ok(match told(alloc, image, place, Vec::new(alloc)) {
+) -> Option<u64> {
+    match told(alloc, image, place, Vec::new(alloc)) {
         Ok((usage, reads)) if tells(&usage, held, all) => Some(reads),
         _ => None,
-    })
+    }
 }
 
 // A sample, the place of a volume, what its views hold, and all that they hold.
@@ -201,8 +201,8 @@ const SAMPLES: &[(Sample, usize, Held, u64)] = table! {
 fn what_views_hold(rt: HostRuntime) -> Result<(), Fail> {
     let alloc = rt.alloc();
     for (which, place, held, all) in SAMPLES {
-        let plan = sample(alloc, *which)?;
-        assert!(rt; reads_to_tell(alloc, &plan, *place, held, *all)?.is_some());
+        let image = image_of(alloc, Holds::Of(*which))?;
+        assert!(rt; reads_to_tell(alloc, image, *place, held, *all).is_some());
     }
     Ok(())
 }
@@ -212,8 +212,8 @@ const SHARING: Held = &[(2, 3, 2), (1, 4, 3)];
 
 #[test]
 fn two_views_share_an_extent(rt: HostRuntime) -> Result<(), Fail> {
-    let plan = with_an_earlier_file(rt.alloc())?;
-    assert!(rt; reads_to_tell(rt.alloc(), &plan, 0, SHARING, 6)?.is_some());
+    let image = with_an_earlier_file(rt.alloc())?;
+    assert!(rt; reads_to_tell(rt.alloc(), image, 0, SHARING, 6).is_some());
     Ok(())
 }
 
@@ -225,8 +225,8 @@ const OWN_LEAVES: Held = table! {
 // the files is read by the sweep, and the root and the leaves once more; a walk of each view would take 36 reads.
 #[test]
 fn a_node_that_views_share_is_read_once(rt: HostRuntime) -> Result<(), Fail> {
-    let plan = with_own_leaves(rt.alloc())?;
-    let Some(reads) = reads_to_tell(rt.alloc(), &plan, 0, OWN_LEAVES, 27)? else {
+    let image = with_own_leaves(rt.alloc())?;
+    let Some(reads) = reads_to_tell(rt.alloc(), image, 0, OWN_LEAVES, 27) else {
         panic!(rt; "something else is told");
     };
     assert!(rt; reads <= 29);
@@ -294,17 +294,17 @@ fn value_of(alloc: Global, length: u64, block: u64, bytes: usize) -> Result<Vec<
 }
 
 // What stops the count where the value of the extent is this.
-fn stop_with(alloc: Global, value: &[u8]) -> Result<Option<Stop<UseFault>>, Fail> {
-    let image = made(alloc, &with_extent(alloc, value)?)?;
+fn stop_with(alloc: Global, extent: &Extent) -> Result<Option<Stop<UseFault>>, Fail> {
+    let value = value_of(alloc, extent.0, extent.1, extent.2)?;
+    let image = with_extent(alloc, &value)?;
     Ok(told(alloc, image, 0, Vec::new(alloc)).err())
 }
 
 #[test]
 fn which_extent_is_wrong(rt: HostRuntime) -> Result<(), Fail> {
-    let alloc = rt.alloc();
-    for &(length, block, bytes, want) in EXTENTS {
-        let got = stop_with(alloc, &value_of(alloc, length, block, bytes)?)?;
-        assert!(rt; got == want.map(Stop::Found), "{block}");
+    for extent in EXTENTS {
+        let got = stop_with(rt.alloc(), extent)?;
+        assert!(rt; got == extent.3.map(Stop::Found), "{}", extent.1);
     }
     Ok(())
 }
@@ -322,7 +322,7 @@ fn end_of(alloc: Global, image: &[u8], number: u64) -> Result<Option<bool>, Fail
 #[test]
 fn each_read_fails_in_turn(rt: HostRuntime) -> Result<(), Fail> {
     let alloc = rt.alloc();
-    let image = made(alloc, &sample(alloc, Sample::V)?)?;
+    let image = image_of(alloc, Holds::Of(Sample::V))?;
     for number in 1..200u64 {
         let Some(is_whole) = end_of(alloc, &image, number)? else {
             panic!(rt; "it ends otherwise");

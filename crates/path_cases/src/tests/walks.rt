@@ -40,9 +40,9 @@ const RING: IdAt = IdAt {
     id: 16,
 };
 
-// Why there are no rows.
-fn why(stop: &Stop<PathStop>) -> &'static str {
-    match stop {
+/// Why there are no rows.
+pub(super) fn why(stop: Stop<PathStop>) -> &'static str {
+    match &stop {
         Stop::Found(PathStop::Answer(Answer::NotFound)) => NOT_FOUND,
         Stop::Found(PathStop::Answer(Answer::NotDirectory)) => NO_DIRECTORY,
         Stop::Found(PathStop::Fault(TreeFault::DirNames(at))) if *at == RING => TWICE,
@@ -60,7 +60,7 @@ fn add_listing(alloc: Global, text: &mut String, at: &mut Opened, path: &str) ->
                 add_row(alloc, text, target, &target.name)?;
             }
         }
-        Err(stop) => text.push_str(why(&stop))?,
+        Err(stop) => text.push_str(why(stop))?,
     }
     Ok(())
 }
@@ -75,7 +75,7 @@ fn add_tree(alloc: Global, text: &mut String, at: &mut Opened, path: &str) -> Re
                 add_row(alloc, text, target, path)?;
             }
         }
-        Err(stop) => text.push_str(why(&stop))?,
+        Err(stop) => text.push_str(why(stop))?,
     }
     Ok(())
 }
@@ -86,7 +86,7 @@ fn add_found(alloc: Global, text: &mut String, at: &mut Opened, path: &str) -> R
 {
     match find(alloc, &mut at.src, &at.volume, &at.view, &at.site, path) {
         Ok(target) => add_row(alloc, text, &target, &target.name)?,
-        Err(stop) => text.push_str(why(&stop))?,
+        Err(stop) => text.push_str(why(stop))?,
     }
     Ok(())
 }
@@ -99,17 +99,20 @@ enum Ask {
     Find,
 }
 
-// Whether what is told is what a case says.
-fn is_told(alloc: Global, case: &Case, ask: Ask) -> Result<bool, Fail> {
+// Adds what is told of a case.
+fn tell(alloc: Global, text: &mut String, case: &Case, ask: Ask) -> Result<(), Fail> {
     let mut at = open(alloc, case.0, Vec::new(alloc), case.1)?;
+    match ask {
+        Ask::List => add_listing(alloc, text, &mut at, case.2),
+        Ask::Tree => add_tree(alloc, text, &mut at, case.2),
+        Ask::Find => add_found(alloc, text, &mut at, case.2),
+    }
+}
+
+// Whether that is what the case says.
+fn is_told(alloc: Global, case: &Case, ask: Ask) -> Result<bool, Fail> {
     let mut text = String::new(alloc);
-    let path = case.2;
-    let end = match ask {
-        Ask::List => add_listing(alloc, &mut text, &mut at, path),
-        Ask::Tree => add_tree(alloc, &mut text, &mut at, path),
-        Ask::Find => add_found(alloc, &mut text, &mut at, path),
-    };
-    end?;
+    tell(alloc, &mut text, case, ask)?;
     Ok(text.as_str() == case.3)
 }
 
@@ -210,7 +213,7 @@ fn put(
     let mut at = open(alloc, holds, Vec::new(alloc), None)?;
     match tree_rows(alloc, &mut at.src, &at.volume, &at.view, &at.site, path) {
         Ok(rows) => Ok(rows.put(alloc, out)),
-        Err(_) => Err(Fail::from("there are no rows")),
+        Err(stop) => Err(Fail::from(why(stop))),
     }
 }
 
@@ -254,39 +257,43 @@ fn a_whiteout_has_a_letter(rt: HostRuntime) {
     assert!(rt; kind_letter(14) == "w");
 }
 
-// How many targets are listed; None where that stops.
-fn list_len(alloc: Global, at: &mut Opened) -> Option<usize>
+// How many targets are listed.
+fn list_len(alloc: Global, at: &mut Opened) -> Result<usize, Fail>
     requires { IsSiteFor at.old.site (length at.old.src.bytes) }
     ensures { IsSiteFor at.new.site (length at.new.src.bytes) }
 {
     match list(alloc, &mut at.src, &at.volume, &at.view, &at.site, "/x/y") {
-        Ok(targets) => Some(targets.len()),
-        Err(_) => None,
+        Ok(targets) => Ok(targets.len()),
+        Err(stop) => Err(Fail::from(why(stop))),
     }
 }
 
-// How many rows the tree has; None where that stops.
-fn tree_len(alloc: Global, at: &mut Opened) -> Option<usize>
+// How many rows the tree has.
+fn tree_len(alloc: Global, at: &mut Opened) -> Result<usize, Fail>
     requires { IsSiteFor at.old.site (length at.old.src.bytes) }
 {
     match tree(alloc, &mut at.src, &at.volume, &at.view, &at.site, "/") {
-        Ok(rows) => Some(rows.len()),
-        Err(_) => None,
+        Ok(rows) => Ok(rows.len()),
+        Err(stop) => Err(Fail::from(why(stop))),
     }
+}
+
+// Whether a search finds one of all the rows, and reads few of the blocks.
+fn finds_one(alloc: Global, at: &mut Opened) -> Result<bool, Fail>
+    requires { IsSiteFor at.old.site (length at.old.src.bytes) }
+{
+    let start = at.src.read_count();
+    let targets = list_len(alloc, at)?;
+    let first = at.src.read_count().saturating_sub(start);
+    let rows = tree_len(alloc, at)?;
+    let all = at.src.read_count().saturating_sub(start);
+    Ok(targets == 1 && rows == 3003 && first < 24 && all > 100)
 }
 
 // A tree of more than a hundred nodes, of which a search reads few.
 #[test]
 fn a_search_reads_few_blocks(rt: HostRuntime) -> Result<(), Fail> {
     let mut at = open(rt.alloc(), Holds::Many, Vec::new(rt.alloc()), None)?;
-    let start = at.src.read_count();
-    let searched = list_len(rt.alloc(), &mut at);
-    let first = at.src.read_count().saturating_sub(start);
-    let walked = tree_len(rt.alloc(), &mut at);
-    let all = at.src.read_count().saturating_sub(start);
-    assert!(rt;
-        searched == Some(1) && walked == Some(3003) && first < 24 && all > 100,
-        "{first} and {all} reads"
-    );
+    assert!(rt; finds_one(rt.alloc(), &mut at)?);
     Ok(())
 }

@@ -1,9 +1,8 @@
 // A large hole is put piece by piece and not read.
 ghost use Rattle.blk_folder.specs.Edge.{untold};
 
-use crate::tests::exports::{ended, rows_of};
+use crate::tests::exports::exported;
 use crate::tests::made::{HOLE, Holds};
-use crate::tests::opened::open;
 use apfs_model::WriteFailed;
 use blk_folder::Folder;
 use std::alloc::{AllocError, Global};
@@ -59,16 +58,6 @@ fn refused(alloc: Global) -> Result<Vec<u64>, AllocError> {
     Ok(fails)
 }
 
-// How many files and bytes are told where the hole is put into a folder; None where it stops.
-fn put_hole(alloc: Global, folder: &mut Tally) -> Result<Option<(u64, u64)>, Fail> {
-    let mut at = open(alloc, Holds::Hole, refused(alloc)?, None)?;
-    let rows = rows_of(alloc, &mut at)?;
-    let Ok(done) = ended(alloc, &mut at, &rows, folder) else {
-        return Ok(None);
-    };
-    Ok(Some((done.files, done.bytes)))
-}
-
 #[test]
 fn a_hole_is_put_piece_by_piece(rt: HostRuntime) -> Result<(), Fail> {
     let mut folder = Tally {
@@ -77,8 +66,11 @@ fn a_hole_is_put_piece_by_piece(rt: HostRuntime) -> Result<(), Fail> {
         other: 0,
         writing: false,
     };
-    let told = put_hole(rt.alloc(), &mut folder)?;
-    assert!(rt; told == Some((1, HOLE + 5)));
+    let reads = refused(rt.alloc())?;
+    let Ok(done) = exported(rt.alloc(), Holds::Hole, reads, &mut folder)?.end else {
+        panic!(rt; "it stops");
+    };
+    assert!(rt; done.files == 1 && done.bytes == HOLE + 5);
     // `hello` is in the last piece.
     assert!(rt; folder.bytes == HOLE + 5 && folder.longest <= MOST && folder.other == 1);
     Ok(())
