@@ -1,21 +1,20 @@
 // What no clause says: what a folder gets of small containers, and how the call ends where a read or a call of the folder is
 // refused. What is wanted was worked out by hand.
 
-ghost use Rattle.std.specs.Prelude.{length, ◌≡◌};
+ghost use Rattle.std.specs.Prelude.{length};
 ghost use Rattle.obj_base.specs.Site.{IsSiteFor};
 
 mod holed;
 
 use crate::tests::made::Holds;
-use crate::tests::opened::{Opened, open};
-use crate::tests::walks::why;
+use crate::tests::opened::{Opened, open, rows_in, rows_of};
 use blk_folder::{Folder, MemFolder};
 use img_make::{Sample, table};
 use obj_base::Stop;
 use std::alloc::Global;
 use std::test::Fail;
 use tree_export::{Done, ExportFault, ExportStop, export};
-use view_tree::{KeptRows, tree_rows};
+use view_tree::KeptRows;
 
 // The only file is `hello.txt`.
 const HELLO: Holds = Holds::Of(Sample::H);
@@ -63,17 +62,6 @@ fn word(stop: ExportStop) -> &'static str {
     }
 }
 
-// The rows of the view's tree.
-fn rows_of(alloc: Global, at: &mut Opened) -> Result<KeptRows, Fail>
-    requires { IsSiteFor at.old.site (length at.old.src.bytes) }
-    ensures { IsSiteFor at.new.site (length at.new.src.bytes) }
-{
-    match tree_rows(alloc, &mut at.src, &at.volume, &at.view, &at.site, "/") {
-        Ok(rows) => Ok(rows),
-        Err(stop) => Err(Fail::from(why(stop))),
-    }
-}
-
 // How an export of these rows ends.
 fn ended<F: Folder>(
     alloc: Global,
@@ -113,7 +101,7 @@ fn exported<F: Folder>(
     folder: &mut F,
 ) -> Result<Outcome, Fail> {
     let mut at = open(alloc, holds, reads, None)?;
-    let rows = rows_of(alloc, &mut at)?;
+    let rows = rows_of(alloc, &mut at, "/")?;
     let before = at.src.read_count();
     let end = ended(alloc, &mut at, &rows, folder);
     Ok(Outcome {
@@ -230,15 +218,9 @@ fn a_refused_read_ends_it(rt: HostRuntime) -> Result<(), Fail> {
     Ok(())
 }
 
-// The rows of the tree that an image holds.
-fn rows_in(alloc: Global, holds: Holds) -> Result<KeptRows, Fail> {
-    let mut at = open(alloc, holds, Vec::new(alloc), None)?;
-    rows_of(alloc, &mut at)
-}
-
 // Why an export of the rows of another image stops.
 fn stop_by_others(alloc: Global, folder: &mut MemFolder) -> Result<Option<&'static str>, Fail> {
-    let rows = rows_in(alloc, Holds::Several)?;
+    let rows = rows_in(alloc, Holds::Several, "/")?;
     let mut at = open(alloc, HELLO, Vec::new(alloc), None)?;
     Ok(ended(alloc, &mut at, &rows, folder).err())
 }

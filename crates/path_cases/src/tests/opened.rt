@@ -4,11 +4,13 @@ ghost use Rattle.obj_base.specs.Site.{IsSiteFor};
 ghost use Rattle.nx_ring.specs.Checkpoint.{site_of};
 
 use crate::tests::made::{Holds, image_of};
+use crate::tests::walks::why;
 use blk_source::MemSource;
 use nx_ring::{Checkpoint, newest};
 use obj_base::{Site, Stop};
 use std::alloc::Global;
 use std::test::Fail;
+use view_tree::{KeptRows, tree_rows};
 use vol_view::{View, VolStop, Volume, heads, live, load, past};
 
 /// The volume in a place among those of a checkpoint.
@@ -88,4 +90,21 @@ pub(super) fn open(
         view,
         site,
     })
+}
+
+/// The rows of the view's tree at a path.
+pub(super) fn rows_of(alloc: Global, at: &mut Opened, path: &str) -> Result<KeptRows, Fail>
+    requires { IsSiteFor at.old.site (length at.old.src.bytes) }
+    ensures { IsSiteFor at.new.site (length at.new.src.bytes) }
+{
+    match tree_rows(alloc, &mut at.src, &at.volume, &at.view, &at.site, path) {
+        Ok(rows) => Ok(rows),
+        Err(stop) => Err(Fail::from(why(stop))),
+    }
+}
+
+/// Those of what an image holds.
+pub(super) fn rows_in(alloc: Global, holds: Holds, path: &str) -> Result<KeptRows, Fail> {
+    let mut at = open(alloc, holds, Vec::new(alloc), None)?;
+    rows_of(alloc, &mut at, path)
 }

@@ -18,13 +18,18 @@ const NOT_FILE: &str = "no file";
 
 const NO_ATTRIBUTE: &str = "no attribute";
 
-fn how(end: Result<(), WriteStop>) -> &'static str {
-    match &end {
+fn word(end: &Result<(), WriteStop>) -> &'static str {
+    match end {
         Ok(()) => WHOLE,
         Err(WriteStop::Stopped(Stop::Found(PathStop::Answer(Answer::NotFile)))) => NOT_FILE,
         Err(WriteStop::Stopped(Stop::Found(PathStop::Answer(Answer::NoAttribute)))) => NO_ATTRIBUTE,
         Err(_) => "another stop",
     }
+}
+
+// How a call ends.
+fn how(end: Result<(), WriteStop>) -> &'static str {
+    word(&end)
 }
 
 // Writes the contents of what a path leads to, or those of its attribute of a name, and tells how that ends.

@@ -1,9 +1,9 @@
 // Paths in the sample containers, and in small ones made for them. What is wanted was worked out by hand.
-ghost use Rattle.std.specs.Prelude.{length, ◌≡◌};
+ghost use Rattle.std.specs.Prelude.{length};
 ghost use Rattle.obj_base.specs.Site.{IsSiteFor};
 
 use crate::tests::made::Holds;
-use crate::tests::opened::{Opened, open};
+use crate::tests::opened::{Opened, open, rows_in};
 use apfs_model::Bytes;
 use blk_source::MemSink;
 use img_make::{Sample, table};
@@ -12,7 +12,7 @@ use path_walk::{Answer, PathStop, Target, find, list};
 use std::alloc::Global;
 use std::test::Fail;
 use view_rules::{IdAt, TreeFault};
-use view_tree::{PutStop, kind_letter, tree, tree_rows};
+use view_tree::{PutStop, kind_letter, tree};
 
 // What an image holds, the number of a snapshot or none for the live view, a path in that view, and what is told of it.
 type Case = (Holds, Option<usize>, &'static str, &'static str);
@@ -40,14 +40,19 @@ const RING: IdAt = IdAt {
     id: 16,
 };
 
-/// Why there are no rows.
-pub(super) fn why(stop: Stop<PathStop>) -> &'static str {
-    match &stop {
+// What a stop is called.
+fn word(stop: &Stop<PathStop>) -> &'static str {
+    match stop {
         Stop::Found(PathStop::Answer(Answer::NotFound)) => NOT_FOUND,
         Stop::Found(PathStop::Answer(Answer::NotDirectory)) => NO_DIRECTORY,
         Stop::Found(PathStop::Fault(TreeFault::DirNames(at))) if *at == RING => TWICE,
         _ => "another stop",
     }
+}
+
+/// Why there are no rows.
+pub(super) fn why(stop: Stop<PathStop>) -> &'static str {
+    word(&stop)
 }
 
 // Adds what is told of a listing: its rows, or why there is none.
@@ -210,11 +215,7 @@ fn put(
     path: &str,
     out: &mut MemSink,
 ) -> Result<Result<(), PutStop>, Fail> {
-    let mut at = open(alloc, holds, Vec::new(alloc), None)?;
-    match tree_rows(alloc, &mut at.src, &at.volume, &at.view, &at.site, path) {
-        Ok(rows) => Ok(rows.put(alloc, out)),
-        Err(stop) => Err(Fail::from(why(stop))),
-    }
+    Ok(rows_in(alloc, holds, path)?.put(alloc, out))
 }
 
 const LINES_OF_THE_ROOT: &str =
