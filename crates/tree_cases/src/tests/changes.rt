@@ -1,13 +1,13 @@
 // Whether a change between two views shows to be plain. What is expected was worked out by hand from the rules' words.
 use crate::tests::cases::Base::Alone;
 use crate::tests::cases::{D, F, L};
-use crate::tests::opened::{Opened, open};
+use crate::tests::opened::{open, refusal};
 use crate::tests::trees::Rec::*;
 use crate::tests::trees::Top::Root;
 use crate::tests::trees::{
     At, Block, Count, FILE, FOLDER, Id, In, LINK, Rec, Sibling, Size, image_of,
 };
-use blk_source::{MemSource, NoMemory};
+use blk_source::NoMemory;
 use ext_ref::{Cover, NewRange};
 use img_make::table;
 use obj_base::Site;
@@ -117,13 +117,12 @@ const CHANGES: &[Change] = table! {
 };
 
 // The facts of a view of these records, with the view.
-fn gathered(alloc: Global, tree: (u32, &[Rec])) -> Result<(ViewFacts, Opened), Fail> {
+fn gathered(alloc: Global, tree: (u32, &[Rec])) -> Result<(ViewFacts, View), Fail> {
     let image = image_of(alloc, Root(tree.0), Alone, tree.1)?;
-    let mut src = MemSource::new(image, Vec::new(alloc));
-    let at = open(alloc, &mut src, 0)?;
-    match view_facts(alloc, &mut src, &at.volume, &at.view, &at.site) {
-        Ok(gathered) => Ok((gathered, at)),
-        Err(_) => Err(Fail::from("the tree isn't whole")),
+    let mut at = open(alloc, image, 0)?;
+    match view_facts(alloc, &mut at.src, &at.volume, &at.view, &at.site) {
+        Ok(gathered) => Ok((gathered, at.view)),
+        Err(stop) => Err(refusal(stop)),
     }
 }
 
@@ -134,19 +133,6 @@ fn joined(alloc: Global, some: &[Rec], more: &[Rec]) -> Result<Vec<Rec>, AllocEr
         all.push(*record)?;
     }
     Ok(all)
-}
-
-// An index of the facts after a change; none where they aren't in order.
-fn index_after<'a>(
-    alloc: Global,
-    facts: &'a Facts,
-    gone: &Facts,
-    come: &Facts,
-) -> Result<Option<Index<'a>>, NoMemory> {
-    if !are_in_order(facts) {
-        return Ok(None);
-    }
-    Ok(Some(Index::after(alloc, facts, gone, come)?))
 }
 
 // The facts of these records.
@@ -175,7 +161,7 @@ fn shown_by(
     Ok((plain, silent))
 }
 
-// The same by the facts after it.
+// The same by the facts after it; neither where these aren't in order.
 fn shown_after(
     alloc: Global,
     view: &View,
@@ -183,27 +169,39 @@ fn shown_after(
     gone: &Facts,
     come: &Facts,
 ) -> Result<(bool, bool), NoMemory> {
-    match index_after(alloc, after, gone, come)? {
-        Some(index) => shown_by(alloc, view, &index, gone, come),
-        None => Ok((false, false)),
+    if !are_in_order(after) {
+        return Ok((false, false));
     }
+    let index = Index::after(alloc, after, gone, come)?;
+    shown_by(alloc, view, &index, gone, come)
 }
 
-// The same by the records that stay, are gone and have come.
-fn shows(alloc: Global, same: &[Rec], gone: Tree, come: Tree) -> Result<(bool, bool), Fail> {
-    let records = joined(alloc, same, come.1)?;
-    let (after, at) = gathered(alloc, (come.0, &records))?;
+// The same by the records that are gone and have come.
+fn shown_of(
+    alloc: Global,
+    view: &View,
+    after: &Facts,
+    gone: Tree,
+    come: Tree,
+) -> Result<(bool, bool), Fail> {
     let gone = facts_of(alloc, gone)?;
     let come = facts_of(alloc, come)?;
-    Ok(shown_after(alloc, &at.view, &after.facts, &gone, &come)?)
+    Ok(shown_after(alloc, view, after, &gone, &come)?)
+}
+
+// Whether that is what a change says, by the records that stay, too.
+fn is_shown(alloc: Global, change: &Change) -> Result<bool, Fail> {
+    let (_, same, gone, come, expected) = *change;
+    let records = joined(alloc, same, come.1)?;
+    let (after, view) = gathered(alloc, (come.0, &records))?;
+    let (plain, silent) = shown_of(alloc, &view, &after.facts, gone, come)?;
+    Ok(plain == expected.0 && silent == expected.1)
 }
 
 #[test]
 fn changes_show_to_be_plain(rt: HostRuntime) -> Result<(), Fail> {
-    let alloc = rt.alloc();
-    for (name, same, gone, come, expected) in CHANGES {
-        let shown = shows(alloc, same, *gone, *come)?;
-        assert!(rt; shown == *expected, "{name}");
+    for change in CHANGES {
+        assert!(rt; is_shown(rt.alloc(), change)?, "{}", change.0);
     }
     Ok(())
 }

@@ -1,13 +1,11 @@
 // The facts of the sample containers, and of a small one with a symbolic link. What is wanted was worked out by hand.
-use crate::tests::opened::open;
-use blk_source::MemSource;
+use crate::tests::opened::{open, refusal};
 use fs_name::Names;
 use fs_record::RecFault;
 use img_make::records::{InodePlan, Item, LINK_MODE, attribute};
 use img_make::{FileTree, Sample, image_with, made, sample, table};
 use obj_base::Stop;
 use std::alloc::{AllocError, Global};
-use std::process::Abort;
 use std::test::Fail;
 use view_facts::{Facts, ViewFacts, view_facts, view_files};
 use view_rules::TreeFault;
@@ -17,27 +15,31 @@ const FILE: u64 = 16;
 const ROOT: u64 = 2;
 
 fn facts_of(alloc: Global, image: Vec<u8>) -> Result<Result<ViewFacts, Stop<TreeFault>>, Fail> {
-    let mut src = MemSource::new(image, Vec::new(alloc));
-    let at = open(alloc, &mut src, 0)?;
-    Ok(view_facts(alloc, &mut src, &at.volume, &at.view, &at.site))
+    let mut at = open(alloc, image, 0)?;
+    Ok(view_facts(alloc, &mut at.src, &at.volume, &at.view, &at.site))
 }
 
 // The inodes and the entries alone.
 fn files_of(alloc: Global, image: Vec<u8>) -> Result<Result<Facts, Stop<TreeFault>>, Fail> {
-    let mut src = MemSource::new(image, Vec::new(alloc));
-    let at = open(alloc, &mut src, 0)?;
-    Ok(view_files(alloc, &mut src, &at.volume, &at.view, &at.site))
+    let mut at = open(alloc, image, 0)?;
+    Ok(view_files(alloc, &mut at.src, &at.volume, &at.view, &at.site))
 }
 
-// The small container with a symbolic link whose target has these bytes.
-fn linked(alloc: Global, target: &[u8]) -> Result<Vec<Item>, AllocError> {
-    let mut tree = FileTree::new(alloc, Names::Folded)?;
+// Adds a symbolic link whose target has these bytes.
+fn add_link(alloc: Global, tree: &mut FileTree, target: &[u8]) -> Result<(), AllocError> {
     let mut link = InodePlan::file(FILE, ROOT);
     link.mode = LINK_MODE;
     tree.add(alloc, link, "l")?;
     if target.len() <= 100 {
         tree.record(attribute(alloc, FILE, b"com.apple.fs.symlink", target)?)?;
     }
+    Ok(())
+}
+
+// The records of the small container with that link.
+fn linked(alloc: Global, target: &[u8]) -> Result<Vec<Item>, AllocError> {
+    let mut tree = FileTree::new(alloc, Names::Folded)?;
+    add_link(alloc, &mut tree, target)?;
     tree.items(alloc)
 }
 
@@ -74,32 +76,40 @@ const SAMPLES: &[(Sample, Counts)] = table! {
 
 // Whether the facts of an image are so many.
 fn has_counts(alloc: Global, image: Vec<u8>, wanted: Counts) -> Result<bool, Fail> {
-    let Ok(found) = facts_of(alloc, image)? else {
-        return Ok(false);
-    };
-    Ok(counts_of(&found) == wanted)
+    match facts_of(alloc, image)? {
+        Ok(found) => Ok(counts_of(&found) == wanted),
+        Err(stop) => Err(refusal(stop)),
+    }
+}
+
+// Whether these are the inodes and the entries alone, and so many.
+fn are_files(files: &Facts, wanted: Counts) -> bool {
+    files.inodes.len() as u64 == wanted[1]
+        && files.entries.len() as u64 == wanted[2]
+        && files.links.is_empty()
+        && files.siblings.is_empty()
+        && files.extents.is_empty()
 }
 
 // Whether the inodes and the entries are so many where these alone are gathered, with no links, siblings and extents.
 fn has_files(alloc: Global, image: Vec<u8>, wanted: Counts) -> Result<bool, Fail> {
-    let Ok(files) = files_of(alloc, image)? else {
-        return Ok(false);
-    };
-    Ok(
-        [files.inodes.len() as u64, files.entries.len() as u64] == [wanted[1], wanted[2]]
-            && files.links.is_empty()
-            && files.siblings.is_empty()
-            && files.extents.is_empty(),
-    )
+    match files_of(alloc, image)? {
+        Ok(files) => Ok(are_files(&files, wanted)),
+        Err(stop) => Err(refusal(stop)),
+    }
+}
+
+// Whether both are so of a sample.
+fn is_counted(alloc: Global, which: Sample, wanted: Counts) -> Result<bool, Fail> {
+    let image = made(alloc, &sample(alloc, which)?)?;
+    Ok(has_counts(alloc, image.to_vec(alloc)?, wanted)? && has_files(alloc, image, wanted)?)
 }
 
 #[test]
 fn each_kind_of_record_is_counted(rt: HostRuntime) -> Result<(), Fail> {
-    let alloc = rt.alloc();
     for &(which, wanted) in SAMPLES {
-        let image = made(alloc, &sample(alloc, which)?)?;
         assert!(rt;
-            has_counts(alloc, image.to_vec(alloc)?, wanted)? && has_files(alloc, image, wanted)?,
+            is_counted(rt.alloc(), which, wanted)?,
             "{} records",
             wanted[0]
         );
@@ -115,16 +125,21 @@ const TARGETS: &[(&[u8], bool)] = table! {
     b"he\0lo\0", false;
 };
 
-// The only attribute of the link whose target has these bytes: its id, and whether it gives the target.
-fn attribute_of(alloc: Global, target: &[u8]) -> Result<(u64, bool), Fail> {
-    let image = with_items(alloc, linked(alloc, target)?)?;
-    let Ok(found) = facts_of(alloc, image)? else {
-        return Err(Fail::from("there are no facts"));
-    };
-    let [attribute] = found.facts.attributes.as_slice() else {
+// The only attribute: its id, and whether it gives the target.
+fn attribute_in(facts: &Facts) -> Result<(u64, bool), Fail> {
+    let [attribute] = facts.attributes.as_slice() else {
         return Err(Fail::from("there isn't one attribute"));
     };
     Ok((attribute.id(), attribute.gives_target()))
+}
+
+// That of the link whose target has these bytes.
+fn attribute_of(alloc: Global, target: &[u8]) -> Result<(u64, bool), Fail> {
+    let image = with_items(alloc, linked(alloc, target)?)?;
+    match facts_of(alloc, image)? {
+        Ok(found) => attribute_in(&found.facts),
+        Err(stop) => Err(refusal(stop)),
+    }
 }
 
 #[test]
@@ -150,16 +165,22 @@ fn cut(alloc: Global) -> Result<Vec<u8>, Fail> {
     with_items(alloc, items)
 }
 
+// Whether the record of the link's inode is named.
+fn is_named(found: Result<ViewFacts, Stop<TreeFault>>) -> bool {
+    matches!(
+        &found,
+        Err(Stop::Found(TreeFault::Record {
+            slot: 0,
+            xid: 1,
+            item: 5,
+            why: RecFault::Length,
+        }))
+    )
+}
+
 #[test]
 fn the_first_record_that_is_refused_is_named(rt: HostRuntime) -> Result<(), Fail> {
-    let alloc = rt.alloc();
-    let stop = facts_of(alloc, cut(alloc)?)?.err();
-    let fault = TreeFault::Record {
-        slot: 0,
-        xid: 1,
-        item: 5,
-        why: RecFault::Length,
-    };
-    assert!(rt; stop == Some(Stop::Found(fault)));
+    let found = facts_of(rt.alloc(), cut(rt.alloc())?)?;
+    assert!(rt; is_named(found));
     Ok(())
 }

@@ -163,24 +163,38 @@ fn large_of(alloc: Global, file: u64, name: &str, size: u64) -> Result<Item, All
     stream_attribute(alloc, file, name.as_bytes(), file, size)
 }
 
+// An inode whose value lacks its last byte.
+fn cut_inode(alloc: Global, id: u64, parent: u64) -> Result<Item, AllocError> {
+    let mut item = inode_of(alloc, id, parent, 0x81a4, 1, None)?;
+    item.1.pop();
+    Ok(item)
+}
+
+// An entry whose hash is greater by one.
+fn hashed_entry(
+    alloc: Global,
+    directory: u64,
+    file: u64,
+    kind: u16,
+    name: &str,
+) -> Result<Item, AllocError> {
+    let mut item = entry_of(alloc, directory, file, kind, None, name)?;
+    raise_hash(&mut item);
+    Ok(item)
+}
+
 fn item_of(alloc: Global, record: Rec) -> Result<Item, AllocError> {
     match record {
         Rec::Inode(Id(id), In(parent), mode, Count(number)) => inode_of(
             alloc, id, parent, mode, number, None,
         ),
         Rec::Streamed(Id(id), Size(size)) => inode_of(alloc, id, 2, 0x81a4, 1, Some(size)),
-        Rec::Cut(Id(id), In(parent)) => {
-            let mut item = inode_of(alloc, id, parent, 0x81a4, 1, None)?;
-            item.1.pop();
-            Ok(item)
-        }
+        Rec::Cut(Id(id), In(parent)) => cut_inode(alloc, id, parent),
         Rec::Entry(In(directory), Id(file), kind, name) => {
             entry_of(alloc, directory, file, kind, None, name)
         }
         Rec::Hashed(In(directory), Id(file), kind, name) => {
-            let mut item = entry_of(alloc, directory, file, kind, None, name)?;
-            raise_hash(&mut item);
-            Ok(item)
+            hashed_entry(alloc, directory, file, kind, name)
         }
         Rec::Twin(In(directory), Id(file), kind, Sibling(sibling), name) => {
             entry_of(alloc, directory, file, kind, Some(sibling), name)
@@ -197,34 +211,49 @@ fn item_of(alloc: Global, record: Rec) -> Result<Item, AllocError> {
     }
 }
 
-// The directories that each volume has: their entries, and their inodes as a case has them.
-fn top_items(alloc: Global, top: Top) -> Result<Vec<Item>, AllocError> {
-    let (children, private) = match top {
-        Top::Root(children) => (children, 0),
-        Top::Private(private) => (0, private),
-        Top::File | Top::None => (0, 0),
-    };
-    let mut items = vec![in alloc;
-        entry_of(alloc, 1, 2, FOLDER, None, "root")?,
-        entry_of(alloc, 1, 3, FOLDER, None, "private-dir")?,
-        inode_of(alloc, 3, 1, DIRECTORY_MODE, private, None)?,
-    ]?;
+// The number of children of the private directory.
+fn private_children(top: Top) -> u32 {
     match top {
-        Top::Root(_) | Top::Private(_) => {
-            items.push(inode_of(alloc, 2, 1, DIRECTORY_MODE, children, None)?)?;
-        }
-        Top::File => items.push(inode_of(alloc, 2, 1, 0x81a4, 1, None)?)?,
-        Top::None => {}
+        Top::Private(private) => private,
+        _ => 0,
     }
-    Ok(items)
+}
+
+// Adds the inode of the root as a case has it.
+fn add_root(alloc: Global, items: &mut Vec<Item>, top: Top) -> Result<(), AllocError> {
+    let (mode, number) = match top {
+        Top::Root(children) => (DIRECTORY_MODE, children),
+        Top::Private(_) => (DIRECTORY_MODE, 0),
+        Top::File => (0x81a4, 1),
+        Top::None => return Ok(()),
+    };
+    items.push(inode_of(alloc, 2, 1, mode, number, None)?)?;
+    Ok(())
+}
+
+// Adds the directories that each volume has: their entries, and their inodes as a case has them.
+fn add_top(alloc: Global, items: &mut Vec<Item>, top: Top) -> Result<(), AllocError> {
+    items.push(entry_of(alloc, 1, 2, FOLDER, None, "root")?)?;
+    items.push(entry_of(alloc, 1, 3, FOLDER, None, "private-dir")?)?;
+    let private = private_children(top);
+    items.push(inode_of(alloc, 3, 1, DIRECTORY_MODE, private, None)?)?;
+    add_root(alloc, items, top)
+}
+
+// Adds the items of these records.
+fn add_all(alloc: Global, items: &mut Vec<Item>, records: &[Rec]) -> Result<(), AllocError> {
+    for record in records {
+        items.push(item_of(alloc, *record)?)?;
+    }
+    Ok(())
 }
 
 // The items of a tree, in its order.
 fn items_of(alloc: Global, top: Top, base: Base, records: &[Rec]) -> Result<Vec<Item>, AllocError> {
-    let mut items = top_items(alloc, top)?;
-    for record in base.records().iter().chain(records) {
-        items.push(item_of(alloc, *record)?)?;
-    }
+    let mut items = Vec::new(alloc);
+    add_top(alloc, &mut items, top)?;
+    add_all(alloc, &mut items, base.records())?;
+    add_all(alloc, &mut items, records)?;
     items.sort_by_key(|item| rank(&item.0))?;
     Ok(items)
 }
@@ -249,14 +278,8 @@ fn set_tree(plan: &mut Plan, leaves: Vec<Leaf>) {
     }
 }
 
-// A container whose volume has this tree, in two leaves below the root, of which the last has its last item alone.
-pub(super) fn image_of_two(
-    alloc: Global,
-    top: Top,
-    base: Base,
-    records: &[Rec],
-) -> Result<Vec<u8>, Fail> {
-    let mut items = items_of(alloc, top, base, records)?;
+// These items in two leaves, of which the last has the last item alone.
+fn leaves_of(alloc: Global, mut items: Vec<Item>) -> Result<Vec<Leaf>, AllocError> {
     let mut last = Vec::new(alloc);
     if let Some(item) = items.pop() {
         last.push(item)?;
@@ -269,7 +292,18 @@ pub(super) fn image_of_two(
         oid: LAST_LEAF,
         items: last,
     };
+    Ok(vec![in alloc; first, second]?)
+}
+
+// A container whose volume has this tree, in two leaves below the root, of which the last has its last item alone.
+pub(super) fn image_of_two(
+    alloc: Global,
+    top: Top,
+    base: Base,
+    records: &[Rec],
+) -> Result<Vec<u8>, Fail> {
     let mut plan = sample(alloc, Sample::S)?;
-    set_tree(&mut plan, vec![in alloc; first, second]?);
+    let items = items_of(alloc, top, base, records)?;
+    set_tree(&mut plan, leaves_of(alloc, items)?);
     made(alloc, &plan)
 }

@@ -5,7 +5,7 @@ use crate::tests::trees::Rec::*;
 use crate::tests::trees::Top::Root;
 use crate::tests::trees::{Count, FILE, FOLDER, Id, In, Rec, image_of, image_of_two};
 use Base::Alone;
-use blk_source::{Bytes, MemSource};
+use blk_source::Bytes;
 use ext_ref::NewRange;
 use fs_record::RecFault;
 use img_make::{Sample, make, sample, table};
@@ -37,10 +37,15 @@ fn checked(
     number: usize,
     profile: Profile,
 ) -> Result<Result<ViewTally, Stop<TreeFault>>, Fail> {
-    let mut src = MemSource::new(image, Vec::new(alloc));
-    let at = open(alloc, &mut src, number)?;
+    let mut at = open(alloc, image, number)?;
     Ok(check_view(
-        alloc, &mut src, &at.volume, &at.view, &RANGES, &at.site, profile,
+        alloc,
+        &mut at.src,
+        &at.volume,
+        &at.view,
+        &RANGES,
+        &at.site,
+        profile,
     ))
 }
 
@@ -137,15 +142,20 @@ fn is_tally(tally: &ViewTally, said: Said) -> bool {
     }
 }
 
+// Whether there is a fault, and it is this one.
+fn is(found: Option<TreeFault>, fault: &TreeFault) -> bool {
+    match &found {
+        Some(found) => found == fault,
+        None => false,
+    }
+}
+
 // Whether a fault is one that is said to be there.
 fn is_fault(alloc: Global, fault: &TreeFault, said: Said) -> Result<bool, Fail> {
     if let Said::Either(one, other, id) = said {
-        return Ok(
-            fault_at(one, id).is_some_and(|f| f == *fault)
-                || fault_at(other, id).is_some_and(|f| f == *fault),
-        );
+        return Ok(is(fault_at(one, id), fault) || is(fault_at(other, id), fault));
     }
-    Ok(fault_of(alloc, said)?.is_some_and(|f| f == *fault))
+    Ok(is(fault_of(alloc, said)?, fault))
 }
 
 // Whether what is answered is what is said.
@@ -161,27 +171,24 @@ fn is_as_said(
     })
 }
 
-// The profiles under which each case is checked.
-const PROFILES: [Profile; 2] = [Profile::Plain, Profile::Strict];
+// Whether that is so of an image under a profile.
+fn ends_as_said(alloc: Global, image: Vec<u8>, said: Said, profile: Profile) -> Result<bool, Fail> {
+    let answer = checked(alloc, image, 0, profile)?;
+    is_as_said(alloc, &answer, said)
+}
 
-fn assert_case(
-    rt: &impl Abort,
-    alloc: Global,
-    name: &str,
-    image: &[u8],
-    said: Said,
-) -> Result<(), Fail> {
-    for profile in PROFILES {
-        let answer = checked(alloc, image.to_vec(alloc)?, 0, profile)?;
-        assert!(rt; is_as_said(alloc, &answer, said)?, "{name}");
-    }
-    Ok(())
+// Whether it is so under both profiles.
+fn is_said(alloc: Global, image: Vec<u8>, said: Said) -> Result<bool, Fail> {
+    Ok(
+        ends_as_said(alloc, image.to_vec(alloc)?, said, Profile::Plain)?
+            && ends_as_said(alloc, image, said, Profile::Strict)?,
+    )
 }
 
 fn assert_cases(rt: &impl Abort, alloc: Global, cases: &[Case]) -> Result<(), Fail> {
     for (name, top, base, records, said) in cases {
         let image = image_of(alloc, *top, *base, records)?;
-        assert_case(rt, alloc, name, &image, *said)?;
+        assert!(rt; is_said(alloc, image, *said)?, "{name}");
     }
     Ok(())
 }
@@ -213,10 +220,9 @@ fn inode_cases_end_as_said(rt: HostRuntime) -> Result<(), Fail> {
 
 #[test]
 fn cases_of_two_leaves_end_as_said(rt: HostRuntime) -> Result<(), Fail> {
-    let alloc = rt.alloc();
     for (name, top, base, records, said) in LEAF_CASES {
-        let image = image_of_two(alloc, *top, *base, records)?;
-        assert_case(&rt, alloc, name, &image, *said)?;
+        let image = image_of_two(rt.alloc(), *top, *base, records)?;
+        assert!(rt; is_said(rt.alloc(), image, *said)?, "{name}");
     }
     Ok(())
 }
@@ -227,13 +233,20 @@ const OTHER_HASH: &[Rec] = &[
     Inode(Id(16), In(2), F, Count(1)),
 ];
 
+// Whether the answer is the fault of that entry.
+fn is_name_hash(answer: Result<ViewTally, Stop<TreeFault>>, at: &NamedAt) -> bool {
+    match &answer {
+        Err(Stop::Found(TreeFault::NameHash(found))) => found == at,
+        _ => false,
+    }
+}
+
 #[test]
 fn another_hash_is_a_fault_under_strict(rt: HostRuntime) -> Result<(), Fail> {
     let alloc = rt.alloc();
     let image = image_of(alloc, Root(1), Alone, OTHER_HASH)?;
-    let fault = TreeFault::NameHash(named_at(alloc, 2, "é")?);
     let answer = checked(alloc, image, 0, Profile::Strict)?;
-    assert!(rt; answer.is_err_and(|stop| stop == Stop::Found(fault)));
+    assert!(rt; is_name_hash(answer, &named_at(alloc, 2, "é")?));
     Ok(())
 }
 
@@ -259,14 +272,19 @@ fn noted(alloc: Global) -> Result<Vec<Note>, Fail> {
     Ok(notes)
 }
 
+// Whether a view has so many records, and leads to these notes.
+fn has(answer: Result<ViewTally, Stop<TreeFault>>, records: u64, notes: &[Note]) -> bool {
+    match &answer {
+        Ok(tally) => tally.records == records && tally.notes.as_slice() == notes,
+        Err(_) => false,
+    }
+}
+
 #[test]
 fn notes_stand_in_their_order(rt: HostRuntime) -> Result<(), Fail> {
-    let alloc = rt.alloc();
-    let image = image_of(alloc, Root(2), Alone, NOTED)?;
-    let Ok(tally) = checked(alloc, image, 0, Profile::Plain)? else {
-        panic!(rt; "the view breaks a rule");
-    };
-    assert!(rt; tally.records == 12 && tally.notes.as_slice() == noted(alloc)?.as_slice());
+    let image = image_of(rt.alloc(), Root(2), Alone, NOTED)?;
+    let answer = checked(rt.alloc(), image, 0, Profile::Plain)?;
+    assert!(rt; has(answer, 12, &noted(rt.alloc())?));
     Ok(())
 }
 
@@ -285,10 +303,11 @@ const SAMPLES: &[(Sample, usize, u64)] = table! {
 // Whether a view of a sample meets the rules without a note, and has so many records.
 fn meets(alloc: Global, which: Sample, number: usize, records: u64) -> Result<bool, Fail> {
     let image = make(alloc, &sample(alloc, which)?)?;
-    let Ok(tally) = checked(alloc, image, number, Profile::Strict)? else {
-        return Ok(false);
-    };
-    Ok(tally.records == records && tally.notes.is_empty())
+    Ok(has(
+        checked(alloc, image, number, Profile::Strict)?,
+        records,
+        &[],
+    ))
 }
 
 #[test]

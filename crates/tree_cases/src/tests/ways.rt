@@ -1,8 +1,7 @@
 // From which directory parents never lead to the root.
 use crate::tests::cases::{Base, D, F};
-use crate::tests::opened::open;
+use crate::tests::opened::{open, refusal};
 use crate::tests::trees::{Count, Id, In, Rec, Top, image_of};
-use blk_source::MemSource;
 use img_make::table;
 use parent_chain::first_unreached;
 use std::alloc::{AllocError, Global};
@@ -45,19 +44,17 @@ fn records(alloc: Global, places: &[Place]) -> Result<Vec<Rec>, AllocError> {
 // The directory that is found among these inodes.
 fn unreached(alloc: Global, places: &[Place]) -> Result<Option<u64>, Fail> {
     let image = image_of(alloc, Top::Root(0), Base::Alone, &records(alloc, places)?)?;
-    let mut src = MemSource::new(image, Vec::new(alloc));
-    let at = open(alloc, &mut src, 0)?;
-    let Ok(gathered) = view_facts(alloc, &mut src, &at.volume, &at.view, &at.site) else {
-        return Err(Fail::from("the tree isn't whole"));
-    };
-    Ok(first_unreached(alloc, &gathered.facts)?.map(|f| f.id()))
+    let mut at = open(alloc, image, 0)?;
+    match view_facts(alloc, &mut at.src, &at.volume, &at.view, &at.site) {
+        Ok(gathered) => Ok(first_unreached(alloc, &gathered.facts)?.map(|f| f.id())),
+        Err(stop) => Err(refusal(stop)),
+    }
 }
 
 #[test]
 fn ways_lead_as_said(rt: HostRuntime) -> Result<(), Fail> {
-    let alloc = rt.alloc();
     for (name, places, expected) in WAYS {
-        let found = unreached(alloc, places)?;
+        let found = unreached(rt.alloc(), places)?;
         assert!(rt; found == *expected, "{name}");
     }
     Ok(())
