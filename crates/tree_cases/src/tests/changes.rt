@@ -16,6 +16,7 @@ use rule_breaks::faults::Asked;
 use rule_index::Index;
 use rule_index::chain::are_in_order;
 use std::alloc::{AllocError, Global};
+use std::process::Abort;
 use std::test::Fail;
 use view_facts::{Facts, ViewFacts, view_facts};
 use view_rules::Profile;
@@ -198,10 +199,14 @@ fn is_shown(alloc: Global, change: &Change) -> Result<bool, Fail> {
     Ok(plain == expected.0 && silent == expected.1)
 }
 
-#[test]
-fn changes_show_to_be_plain(rt: HostRuntime) -> Result<(), Fail> {
-    for change in CHANGES {
-        assert!(rt; is_shown(rt.alloc(), change)?, "{}", change.0);
+fn assert_changes(rt: &impl Abort, alloc: Global, changes: &[Change]) -> Result<(), Fail> {
+    for change in changes {
+        assert!(rt; is_shown(alloc, change)?, "{}", change.0);
     }
     Ok(())
+}
+
+#[test]
+fn changes_show_to_be_plain(rt: HostRuntime) -> Result<(), Fail> {
+    assert_changes(&rt, rt.alloc(), CHANGES)
 }

@@ -233,9 +233,9 @@ const OTHER_HASH: &[Rec] = &[
     Inode(Id(16), In(2), F, Count(1)),
 ];
 
-// Whether the answer is the fault of that entry.
-fn is_name_hash(answer: Result<ViewTally, Stop<TreeFault>>, at: &NamedAt) -> bool {
-    match &answer {
+// Whether an answer is the fault of that entry.
+fn is_name_hash(answer: &Result<ViewTally, Stop<TreeFault>>, at: &NamedAt) -> bool {
+    match answer {
         Err(Stop::Found(TreeFault::NameHash(found))) => found == at,
         _ => false,
     }
@@ -246,7 +246,7 @@ fn another_hash_is_a_fault_under_strict(rt: HostRuntime) -> Result<(), Fail> {
     let alloc = rt.alloc();
     let image = image_of(alloc, Root(1), Alone, OTHER_HASH)?;
     let answer = checked(alloc, image, 0, Profile::Strict)?;
-    assert!(rt; is_name_hash(answer, &named_at(alloc, 2, "é")?));
+    assert!(rt; is_name_hash(&answer, &named_at(alloc, 2, "é")?));
     Ok(())
 }
 
@@ -273,8 +273,8 @@ fn noted(alloc: Global) -> Result<Vec<Note>, Fail> {
 }
 
 // Whether a view has so many records, and leads to these notes.
-fn has(answer: Result<ViewTally, Stop<TreeFault>>, records: u64, notes: &[Note]) -> bool {
-    match &answer {
+fn has(answer: &Result<ViewTally, Stop<TreeFault>>, records: u64, notes: &[Note]) -> bool {
+    match answer {
         Ok(tally) => tally.records == records && tally.notes.as_slice() == notes,
         Err(_) => false,
     }
@@ -284,7 +284,7 @@ fn has(answer: Result<ViewTally, Stop<TreeFault>>, records: u64, notes: &[Note])
 fn notes_stand_in_their_order(rt: HostRuntime) -> Result<(), Fail> {
     let image = image_of(rt.alloc(), Root(2), Alone, NOTED)?;
     let answer = checked(rt.alloc(), image, 0, Profile::Plain)?;
-    assert!(rt; has(answer, 12, &noted(rt.alloc())?));
+    assert!(rt; has(&answer, 12, &noted(rt.alloc())?));
     Ok(())
 }
 
@@ -303,11 +303,8 @@ const SAMPLES: &[(Sample, usize, u64)] = table! {
 // Whether a view of a sample meets the rules without a note, and has so many records.
 fn meets(alloc: Global, which: Sample, number: usize, records: u64) -> Result<bool, Fail> {
     let image = make(alloc, &sample(alloc, which)?)?;
-    Ok(has(
-        checked(alloc, image, number, Profile::Strict)?,
-        records,
-        &[],
-    ))
+    let answer = checked(alloc, image, number, Profile::Strict)?;
+    Ok(has(&answer, records, &[]))
 }
 
 #[test]
