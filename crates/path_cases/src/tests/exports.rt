@@ -46,13 +46,14 @@ fn folder_with(alloc: Global, call: u64) -> Result<MemFolder, Fail> {
     Ok(MemFolder::new(alloc, 10, 1000, vec![in alloc; call]?)?)
 }
 
-// Why an export stops.
+// What stops are called.
 const READ_REFUSED: &str = "a read is refused";
 
 const CALL_REFUSED: &str = "a call is refused";
 
 const NO_INODE: &str = "17 has no inode";
 
+// Why an export stops.
 fn word(stop: ExportStop) -> &'static str {
     match &stop {
         ExportStop::WriteFault => CALL_REFUSED,
