@@ -4,6 +4,7 @@ ghost use Rattle.std.specs.Prelude.{◌<◌};
 use blk_cache::Cached;
 use blk_source::{BlockSource, MemSource, SureSource};
 use std::alloc::{AllocError, Global};
+use std::process::Abort;
 use std::test::Fail;
 
 // So many bytes.
@@ -23,11 +24,13 @@ fn image(alloc: Global) -> Result<Vec<u8>, AllocError> {
 }
 
 // A cache of so many blocks over a source of so many bytes.
-fn cached(alloc: Global, count: u32, capacity: usize) -> Result<Cached<SureSource>, &'static str>
+fn cached(rt: &impl Abort, alloc: Global, count: u32, capacity: usize) -> Cached<SureSource>
     requires { 0 < capacity }
 {
-    let bytes = bytes(alloc, count).or(Err("no memory"))?;
-    Cached::new(alloc, SureSource::new(bytes), 4096, capacity).or(Err("no memory"))
+    let bytes = bytes(alloc, count).ok().expect(rt, "memory");
+    Cached::new(alloc, SureSource::new(bytes), 4096, capacity)
+        .ok()
+        .expect(rt, "memory")
 }
 
 // The bytes of a source from a place on.
@@ -56,16 +59,31 @@ const PIECES: [(u16, u16); 7] = [
     (16_000, 4000),
 ];
 
-// Whether a source has the bytes of the image in each of the pieces.
-fn gives_the_image<S: BlockSource>(alloc: Global, source: &mut S) -> Result<bool, Fail> {
-    let mut plain = SureSource::new(image(alloc)?);
+// Asserts that a source has the bytes of an image in each of the pieces.
+fn assert_pieces<S: BlockSource>(rt: &impl Abort, alloc: Global, image: &[u8], source: &mut S) {
     for (at, len) in PIECES {
-        let bytes = piece(alloc, &mut plain, at, len)?;
-        if piece(alloc, source, at, len)?.as_slice() != bytes.as_slice() {
-            return Ok(false);
-        }
+        let start = at as usize;
+        let bytes = piece(alloc, source, at, len).ok().expect(rt, "a piece");
+        assert!(rt; Some(bytes.as_slice()) == image.get(start..start + len as usize));
     }
-    Ok(true)
+}
+
+// Asserts of some blocks that those are kept that are marked.
+fn assert_kept(rt: &impl Abort, cached: &Cached<SureSource>, blocks: &[(u64, bool)]) {
+    for (block, kept) in blocks {
+        assert!(rt; cached.kept(*block) == *kept, "{block}");
+    }
+}
+
+// Asserts that a cache gives the image, and what it keeps after those pieces.
+fn assert_cache(rt: &impl Abort, alloc: Global, capacity: usize, blocks: &[(u64, bool)])
+    requires { 0 < capacity }
+{
+    let image = image(alloc).ok().expect(rt, "memory");
+    let mut cached = cached(rt, alloc, SIZE, capacity);
+    assert_pieces(rt, alloc, &image, &mut cached);
+    assert_kept(rt, &cached, blocks);
+    drop(cached);
 }
 
 // What a small and a large cache keep after those pieces. Block 3 is never the last one that a piece touches.
@@ -74,48 +92,37 @@ const SMALL_KEEPS: &[(u64, bool)] = &[(4, true), (0, false)];
 const LARGE_KEEPS: &[(u64, bool)] = &[(0, true), (3, false)];
 
 #[test]
-fn a_small_and_a_large_cache_give_the_same_bytes(rt: HostRuntime) -> Result<(), Fail> {
-    let mut small = cached(rt.alloc(), SIZE, 3)?;
-    let mut large = cached(rt.alloc(), SIZE, 256)?;
+fn a_small_and_a_large_cache_give_the_same_bytes(rt: HostRuntime) {
+    assert_cache(&rt, rt.alloc(), 3, SMALL_KEEPS);
+    assert_cache(&rt, rt.alloc(), 256, LARGE_KEEPS);
+}
+
+// Asserts how often the source inside is read, of which the second read is refused.
+fn assert_reads(rt: &impl Abort, alloc: Global, image: &[u8], cached: &mut Cached<MemSource>) {
     assert!(rt;
-        gives_the_image(rt.alloc(), &mut small)?
-            && gives_the_image(rt.alloc(), &mut large)?
-            && keeps(&small, SMALL_KEEPS)
-            && keeps(&large, LARGE_KEEPS)
+        piece(alloc, cached, 0, 4096).is_ok()
+            && piece(alloc, cached, 4090, 10).is_err()
+            && cached.kept(0)
+            && !cached.kept(1)
     );
-    Ok(())
-}
-
-// Reads all pieces.
-fn read_all<S: BlockSource>(alloc: Global, source: &mut S) -> Result<(), Fail> {
-    for (at, len) in PIECES {
-        let _piece = piece(alloc, source, at, len)?;
-    }
-    Ok(())
-}
-
-// The reads of the source inside, and the blocks that were lost.
-fn counts(cached: &Cached<MemSource>) -> (u64, u64) {
-    (cached.inner().read_count(), cached.lost())
+    // After block 0 and the read that is refused: block 1, blocks 2 and 3 at once, 4, 2, and what is asked of 3.
+    assert_pieces(rt, alloc, image, cached);
+    assert!(rt; cached.inner().read_count() == 7 && cached.lost() == 0);
+    // Block 3 alone isn't kept, and two pieces touch it.
+    assert_pieces(rt, alloc, image, cached);
+    assert!(rt; cached.inner().read_count() == 9 && cached.lost() == 0);
 }
 
 #[test]
 fn what_is_kept_is_not_read_again(rt: HostRuntime) -> Result<(), Fail> {
     let alloc = rt.alloc();
+    let bytes = image(alloc)?;
     let source = MemSource::new(image(alloc)?, vec![in alloc; 2]?);
-    let mut cached = Cached::new(alloc, source, 4096, 256).or(Err("no memory"))?;
-    assert!(rt;
-        piece(alloc, &mut cached, 0, 4096).is_ok()
-            && piece(alloc, &mut cached, 4090, 10).is_err()
-            && cached.kept(0)
-            && !cached.kept(1)
-    );
-    // After block 0 and the read that is refused: block 1, blocks 2 and 3 at once, 4, 2, and what is asked of 3.
-    read_all(alloc, &mut cached)?;
-    assert!(rt; counts(&cached) == (7, 0));
-    // Block 3 alone isn't kept, and two pieces touch it.
-    read_all(alloc, &mut cached)?;
-    assert!(rt; counts(&cached) == (9, 0) && cached.into_inner().fault_count() == 1);
+    let mut cached = Cached::new(alloc, source, 4096, 256)
+        .ok()
+        .expect(&rt, "memory");
+    assert_reads(&rt, alloc, &bytes, &mut cached);
+    assert!(rt; cached.into_inner().fault_count() == 1);
     Ok(())
 }
 
@@ -128,27 +135,20 @@ const NODES_AND_CONTENTS: [(u16, u16); 5] = [
     (24_576, 12_288),
 ];
 
-// Whether of some blocks those are kept that are marked.
-fn keeps(cached: &Cached<SureSource>, blocks: &[(u64, bool)]) -> bool {
-    blocks
-        .iter()
-        .all(|(block, kept)| cached.kept(*block) == *kept)
-}
-
 // What is kept after them, and after a third node, which takes the place of contents.
 const KEPT: &[(u64, bool)] = &[(0, true), (1, true), (3, false), (5, false), (8, true)];
 
 const KEPT_AFTER_A_NODE: &[(u64, bool)] = &[(0, true), (1, true), (2, true), (8, false)];
 
 #[test]
-fn reads_of_several_blocks_push_out_one_block_at_most(rt: HostRuntime) -> Result<(), Fail> {
+fn reads_of_several_blocks_push_out_one_block_at_most(rt: HostRuntime) {
     let alloc = rt.alloc();
-    let mut cached = cached(alloc, 36_864, 3)?;
+    let mut cached = cached(&rt, alloc, 36_864, 3);
     for (at, len) in NODES_AND_CONTENTS {
-        let _piece = piece(alloc, &mut cached, at, len)?;
+        assert!(rt; piece(alloc, &mut cached, at, len).is_ok());
     }
-    assert!(rt; keeps(&cached, KEPT));
-    let _node = piece(alloc, &mut cached, 8192, 4096)?;
-    assert!(rt; keeps(&cached, KEPT_AFTER_A_NODE));
-    Ok(())
+    assert_kept(&rt, &cached, KEPT);
+    assert!(rt; piece(alloc, &mut cached, 8192, 4096).is_ok());
+    assert_kept(&rt, &cached, KEPT_AFTER_A_NODE);
+    drop(cached);
 }

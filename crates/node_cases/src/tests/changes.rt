@@ -7,7 +7,7 @@ use obj_base::{Site, Stop};
 use std::alloc::{AllocError, Global};
 use std::process::Abort;
 use std::test::Fail;
-use view_change::{Change, Changed, Changing, KeptView, Leaf, LeafTaker};
+use view_change::{Changed, Changing, KeptView, Leaf, LeafTaker};
 use view_facts::Facts;
 
 const SITE: Site = Site {
@@ -23,21 +23,15 @@ const INODE: u64 = 3;
 
 const SIBLING_MAP: u64 = 12;
 
-// A leaf with an inode for each of some ids, or with a sibling map.
-fn leaf(alloc: Global, oid: u64, kind: u64, ids: &[u64]) -> Result<Vec<u8>, AllocError> {
+// The records of a leaf: an inode for each of some ids, or a sibling map.
+fn items(alloc: Global, kind: u64, ids: &[u64]) -> Result<Vec<Item>, AllocError> {
     let size = if kind == INODE { 92 } else { 8 };
     let mut items: Vec<Item> = Vec::new(alloc);
     for id in ids {
         let key = Vec::from_slice(alloc, &(*id | kind.wrapping_mul(KIND)).to_le_bytes())?;
         items.push((key, vec![in alloc; 0u8; size]?))?;
     }
-    let head = NodeHead {
-        oid,
-        xid: 1,
-        level: 0,
-        totals: None,
-    };
-    node(alloc, 4096, &Tree::FILE_SYSTEM, &head, &items)?.ok_or(AllocError)
+    Ok(items)
 }
 
 const SEVEN: Leaf = Leaf { oid: 7, block: 1 };
@@ -56,34 +50,69 @@ const LEAVES: &[(u64, u64, &[u64])] = &[
     (9, INODE, &[9, 10]),
 ];
 
+// Adds the block of a leaf with these records.
+fn add_leaf(
+    alloc: Global,
+    image: &mut Vec<u8>,
+    oid: u64,
+    items: &[Item],
+) -> Result<(), AllocError> {
+    let head = NodeHead {
+        oid,
+        xid: 1,
+        level: 0,
+        totals: None,
+    };
+    match node(alloc, 4096, &Tree::FILE_SYSTEM, &head, items)? {
+        Some(block) => image.extend_from_slice(&block),
+        None => Err(AllocError),
+    }
+}
+
+// Adds the blocks of all leaves.
+fn add_leaves(alloc: Global, image: &mut Vec<u8>) -> Result<(), AllocError> {
+    for (oid, kind, ids) in LEAVES {
+        add_leaf(alloc, image, *oid, &items(alloc, *kind, ids)?)?;
+    }
+    image.resize(20480, 0)
+}
+
 // Block 0 has nothing, and the blocks from 1 on the leaves.
 fn source(alloc: Global) -> Result<MemSource, AllocError> {
     let mut image = vec![in alloc; 0u8; 4096]?;
-    for (oid, kind, ids) in LEAVES {
-        image.extend_from_slice(&leaf(alloc, *oid, *kind, ids)?)?;
-    }
-    image.resize(20480, 0)?;
+    add_leaves(alloc, &mut image)?;
     Ok(MemSource::new(image, Vec::new(alloc)))
 }
 
-// What has changed in a view with some leaves; none where one isn't taken.
-fn change(
+// Whether all of some leaves are taken.
+fn take_all(
+    rt: &impl Abort,
+    source: &mut MemSource,
+    changing: &mut Changing,
+    leaves: &[Leaf],
+) -> Result<bool, Stop<()>> {
+    LeafTaker::<FsPlainKey>::foresee(changing, leaves);
+    for leaf in leaves {
+        assert!(rt; source.size() == 20480);
+        let ends = LeafTaker::<FsPlainKey>::take(changing, source, &SITE, *leaf)?;
+        if ends.is_none() {
+            return Ok(false);
+        }
+    }
+    Ok(true)
+}
+
+// The view with some leaves, and what has changed in it.
+fn changed(
     rt: &impl Abort,
     alloc: Global,
     source: &mut MemSource,
     before: KeptView,
     leaves: &[Leaf],
-) -> Result<Option<Changed>, Stop<()>> {
+) -> Changed {
     let mut changing = Changing::new::<FsPlainKey>(alloc, before);
-    LeafTaker::<FsPlainKey>::foresee(&mut changing, leaves);
-    for leaf in leaves {
-        assert!(rt; source.size() == 20480);
-        let ends = LeafTaker::<FsPlainKey>::take(&mut changing, source, &SITE, *leaf)?;
-        if ends.is_none() {
-            return Ok(None);
-        }
-    }
-    Ok(Some(changing.finish::<FsPlainKey>()?))
+    assert!(rt; take_all(rt, source, &mut changing, leaves) == Ok(true));
+    changing.finish::<FsPlainKey>().ok().expect(rt, "a view")
 }
 
 // The ids of the siblings and of the inodes among some facts.
@@ -98,21 +127,10 @@ fn ids(alloc: Global, facts: &Facts) -> Result<Vec<u64>, AllocError> {
     Ok(ids)
 }
 
-// Whether this is what a change has: the ids that are gone and those that have come, if it was followed.
-fn has(
-    alloc: Global,
-    change: Option<&Change>,
-    told: Option<(&[u64], &[u64])>,
-) -> Result<bool, AllocError> {
-    match (change, told) {
-        (Some(change), Some((gone, come))) => {
-            let lost = ids(alloc, &change.gone)?;
-            let made = ids(alloc, &change.come)?;
-            Ok(lost.as_slice() == gone && made.as_slice() == come)
-        }
-        (None, None) => Ok(true),
-        _ => Ok(false),
-    }
+// Asserts that some facts have these ids.
+fn assert_ids(rt: &impl Abort, alloc: Global, facts: &Facts, wanted: &[u64]) {
+    let ids = ids(alloc, facts).ok().expect(rt, "memory");
+    assert!(rt; ids.as_slice() == wanted);
 }
 
 // The leaves of a view, its ids, those that are gone and have come since the view before if that was followed, whether its facts are in order, and how many reads were made till then.
@@ -163,22 +181,41 @@ const VIEWS: [View; 5] = [
     },
 ];
 
+// Asserts what a view has, and what is gone and has come in it, if that was followed.
+fn assert_view(rt: &impl Abort, alloc: Global, changed: &Changed, view: &View) {
+    assert_ids(rt, alloc, changed.after.facts(), view.ids);
+    assert!(rt;
+        changed.after.records() == view.ids.len() as u64
+            && changed.after.is_in_order() == view.in_order
+            && changed.change.is_some() == view.change.is_some()
+    );
+    if let Some(change) = &changed.change {
+        let (gone, come) = view.change.unwrap_or((&[], &[]));
+        assert_ids(rt, alloc, &change.gone, gone);
+        assert_ids(rt, alloc, &change.come, come);
+    }
+}
+
+// The view with the leaves of a row, after another.
+fn view_after(
+    rt: &impl Abort,
+    alloc: Global,
+    source: &mut MemSource,
+    before: KeptView,
+    view: &View,
+) -> KeptView {
+    let changed = changed(rt, alloc, source, before, view.leaves);
+    assert_view(rt, alloc, &changed, view);
+    assert!(rt; source.read_count() == view.reads);
+    changed.after
+}
+
 #[test]
 fn facts_of_leaves_that_both_views_have_are_the_same(rt: HostRuntime) -> Result<(), Fail> {
-    let alloc = rt.alloc();
-    let mut source = source(alloc)?;
-    let mut before = KeptView::none::<FsPlainKey>(alloc, Names::Exact);
+    let mut source = source(rt.alloc())?;
+    let mut before = KeptView::none::<FsPlainKey>(rt.alloc(), Names::Exact);
     for view in &VIEWS {
-        let changed = change(&rt, alloc, &mut source, before, view.leaves).unwrap_or(None);
-        let Changed { after, change } = changed.expect(&rt, "a view");
-        assert!(rt;
-            ids(alloc, after.facts())?.as_slice() == view.ids
-                && after.records() == view.ids.len() as u64
-                && after.is_in_order() == view.in_order
-                && has(alloc, change.as_ref(), view.change)?
-                && source.read_count() == view.reads
-        );
-        before = after;
+        before = view_after(&rt, rt.alloc(), &mut source, before, view);
     }
     Ok(())
 }
@@ -191,14 +228,27 @@ const OUT_OF_PLACE: [(Names, &[Leaf]); 3] = [
     (Names::Normal, &[SEVEN]),
 ];
 
+// Whether all leaves of a first view are taken.
+fn takes_first(
+    rt: &impl Abort,
+    alloc: Global,
+    source: &mut MemSource,
+    names: Names,
+    leaves: &[Leaf],
+) -> Result<bool, Stop<()>> {
+    let none = KeptView::none::<FsPlainKey>(alloc, names);
+    let mut changing = Changing::new::<FsPlainKey>(alloc, none);
+    let taken = take_all(rt, source, &mut changing, leaves);
+    drop(changing);
+    taken
+}
+
 #[test]
 fn a_leaf_out_of_place_is_not_taken(rt: HostRuntime) -> Result<(), Fail> {
-    let alloc = rt.alloc();
-    let mut source = source(alloc)?;
+    let mut source = source(rt.alloc())?;
     for (i, (names, leaves)) in OUT_OF_PLACE.iter().enumerate() {
-        let none = KeptView::none::<FsPlainKey>(alloc, *names);
-        let changed = change(&rt, alloc, &mut source, none, leaves);
-        assert!(rt; matches!(changed, Ok(None)), "leaf {i}");
+        let taken = takes_first(&rt, rt.alloc(), &mut source, *names, leaves);
+        assert!(rt; taken == Ok(false), "leaf {i}");
     }
     Ok(())
 }

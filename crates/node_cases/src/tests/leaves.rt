@@ -7,7 +7,6 @@ use img_edit::node::{Item, NodeHead, Totals, Tree, node};
 use obj_base::{Site, Stop};
 use std::alloc::{AllocError, Global};
 use std::process::Abort;
-use std::test::Fail;
 use view_change::{Ends, Leaf, LeafTaker, walk_leaves};
 
 // What remembers the leaves; the leaf of an id has one record, for this id.
@@ -152,24 +151,29 @@ const SITE: Site = Site {
 
 const PHYSICAL: Physical = Physical { blocks: 11 };
 
-// The leaves of the tree of a root in that image, and the number of reads.
+// A source of that image.
+fn source(rt: &impl Abort, alloc: Global) -> MemSource {
+    let image = tall_image(alloc).ok().expect(rt, "memory");
+    MemSource::new(image, Vec::new(alloc))
+}
+
+// The leaves of the tree of a root in that source.
 fn leaves_below(
     rt: &impl Abort,
     alloc: Global,
+    source: &mut MemSource,
     root: u64,
-) -> Result<(Option<Leaves>, u64), AllocError> {
-    let image = tall_image(alloc)?;
-    assert!(rt; image.len() == 45056);
-    let mut source = MemSource::new(image, Vec::new(alloc));
-    let found = walk_leaves::<OmapKey, MemSource, Physical, Leaves>(
+) -> Option<Leaves> {
+    assert!(rt; source.size() == 45056);
+    walk_leaves::<OmapKey, MemSource, Physical, Leaves>(
         alloc,
-        &mut source,
+        source,
         &PHYSICAL,
         &SITE,
         root,
         Leaves(Vec::new(alloc)),
-    );
-    Ok((found.unwrap_or(None), source.read_count()))
+    )
+    .unwrap_or(None)
 }
 
 // The leaves of the tree of block 6.
@@ -180,22 +184,25 @@ const THREE_LEAVES: &[Leaf] = &[
 ];
 
 #[test]
-fn leaves_are_taken_by_the_nodes_above_them(rt: HostRuntime) -> Result<(), Fail> {
-    let (found, reads) = leaves_below(&rt, rt.alloc(), 6)?;
-    assert!(rt; found.is_some_and(|leaves| leaves.0.as_slice() == THREE_LEAVES) && reads == 3);
-    let (small, _) = leaves_below(&rt, rt.alloc(), 10)?;
-    assert!(&rt; small.is_some());
-    Ok(())
+fn leaves_are_taken_by_the_nodes_above_them(rt: HostRuntime) {
+    let alloc = rt.alloc();
+    let mut source = source(&rt, alloc);
+    let leaves = leaves_below(&rt, alloc, &mut source, 6).expect(&rt, "a tall tree");
+    assert!(rt; leaves.0.as_slice() == THREE_LEAVES && source.read_count() == 3);
+    assert!(rt; leaves_below(&rt, alloc, &mut source, 10).is_some());
 }
 
 // Blocks that are no roots of whole trees.
 const NOT_WHOLE: [u64; 4] = [1, 7, 8, 9];
 
 #[test]
-fn no_tree_is_told_whole_that_is_not(rt: HostRuntime) -> Result<(), Fail> {
+fn no_tree_is_told_whole_that_is_not(rt: HostRuntime) {
+    let alloc = rt.alloc();
+    let mut source = source(&rt, alloc);
     for root in NOT_WHOLE {
-        let (found, _) = leaves_below(&rt, rt.alloc(), root)?;
-        assert!(&rt; found.is_none(), "root {root}");
+        assert!(rt;
+            leaves_below(&rt, alloc, &mut source, root).is_none(),
+            "root {root}"
+        );
     }
-    Ok(())
 }

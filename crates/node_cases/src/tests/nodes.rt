@@ -7,6 +7,7 @@ use bt_keys::{ExtKey, FsKey, OmapKey, QueueKey};
 use bt_node::{NodeAt, NodeFault, NodeView, Site, TreeKey};
 use obj_base::{Bad, Feature, HeadFault, is_accepted, sum64};
 use std::alloc::Global;
+use std::process::Abort;
 use std::test::Fail;
 
 const SITE: Site = Site {
@@ -82,10 +83,11 @@ fn seal(node: &mut [u8; 4096]) {
     }
 }
 
-fn made(edits: &[Edit]) -> [u8; 4096] {
+fn made(edits: &[Edit], more: &[Edit]) -> [u8; 4096] {
     let mut node = [0; 4096];
     put(&mut node, BASE);
     put(&mut node, edits);
+    put(&mut node, more);
     seal(&mut node);
     node
 }
@@ -95,6 +97,13 @@ fn fault<K: TreeKey>(node: &[u8; 4096], at: &NodeAt) -> Option<Bad<NodeFault>> {
     match NodeView::<K>::read(&node[..], at, &SITE) {
         Ok(_) => None,
         Err(bad) => Some(bad),
+    }
+}
+
+// Asserts why the nodes of some cases aren't sound, after these edits of each.
+fn assert_faults<K: TreeKey>(rt: &impl Abort, at: &NodeAt, edits: &[Edit], cases: &[Case]) {
+    for (name, expected, more) in cases {
+        assert!(rt; fault::<K>(&made(edits, more), at) == *expected, "{name}");
     }
 }
 
@@ -157,13 +166,6 @@ const CASES: &[Case] = &[
     ),
 ];
 
-#[test]
-fn the_first_failing_test_is_named(rt: HostRuntime) {
-    for (name, expected, edits) in CASES {
-        assert!(rt; fault::<OmapKey>(&made(edits), &AT) == *expected, "{name}");
-    }
-}
-
 // The same where level 1 is expected of the root.
 const LEVEL_CASES: &[Case] = &[
     ("level", WRONG_LEVEL, &[]),
@@ -186,16 +188,6 @@ const AT_LEVEL_ONE: NodeAt = NodeAt {
     ..AT
 };
 
-#[test]
-fn levels_are_compared_in_their_turn(rt: HostRuntime) {
-    for (name, expected, edits) in LEVEL_CASES {
-        assert!(rt;
-            fault::<OmapKey>(&made(edits), &AT_LEVEL_ONE) == *expected,
-            "{name}"
-        );
-    }
-}
-
 // The record key of an inode of a file-system tree is 8 bytes with kind 3; the entry of the table has lengths.
 const FS: &[Edit] = &[
     (SUBTYPE, 0xe),
@@ -214,24 +206,44 @@ const KEY_CASES: &[Case] = &[
     ("ghost, key", GHOST, &[(58, 7), (60, 0xffff)]),
 ];
 
+// A node of an extent reference tree whose table has offsets alone, and one whose table has lengths too.
+const EXT_CASES: &[Case] = &[
+    (
+        "offsets",
+        None,
+        &[(SUBTYPE, 0xf), (VALUE_OFFSET, 20), (66, 0x2000)],
+    ),
+    (
+        "offsets and lengths",
+        None,
+        &[
+            (SUBTYPE, 0xf),
+            (FLAGS, 3),
+            (TABLE_LENGTH, 8),
+            (58, 8),
+            (60, 20),
+            (62, 20),
+            (70, 0x2000),
+        ],
+    ),
+];
+
 #[test]
-fn keys_are_read_last(rt: HostRuntime) {
-    for (name, expected, edits) in KEY_CASES {
-        let mut node = made(FS);
-        put(&mut node, edits);
-        seal(&mut node);
-        assert!(rt; fault::<FsKey>(&node, &AT) == *expected, "{name}");
-    }
+fn the_first_failing_test_is_named(rt: HostRuntime) {
+    assert_faults::<OmapKey>(&rt, &AT, &[], CASES);
+    assert_faults::<OmapKey>(&rt, &AT_LEVEL_ONE, &[], LEVEL_CASES);
+    assert_faults::<FsKey>(&rt, &AT, FS, KEY_CASES);
+    assert_faults::<ExtKey>(&rt, &AT, &[], EXT_CASES);
 }
 
 // The entry's key has the id 5, and its value starts with 9.
 const FIVE_NINE: &[Edit] = &[(60, 5), (4040, 9)];
 
 #[test]
-fn an_entry_is_lent_from_its_block(rt: HostRuntime) -> Result<(), Fail> {
-    let node = made(FIVE_NINE);
+fn an_entry_is_lent_from_its_block(rt: HostRuntime) {
+    let node = made(FIVE_NINE, &[]);
     let Ok(read) = NodeView::<OmapKey>::read(&node[..], &AT, &SITE) else {
-        return Err(Fail::from("not sound"));
+        panic!(rt; "not sound");
     };
     assert!(rt; read.level() == 0 && read.len() == 1);
     let view = NodeView::<OmapKey>::kept(&node[..], &AT, &SITE);
@@ -241,71 +253,46 @@ fn an_entry_is_lent_from_its_block(rt: HostRuntime) -> Result<(), Fail> {
             && entry.value == Some(&node[4040..4056])
             && entry.key == OmapKey { oid: 5, xid: 0 }
     );
-    Ok(())
 }
 
 const NO_ENTRY: &[Edit] = &[(COUNT, 0), (TABLE_LENGTH, 0)];
 
 #[test]
-fn a_root_without_entries_is_sound(rt: HostRuntime) -> Result<(), Fail> {
-    let node = made(NO_ENTRY);
+fn a_root_without_entries_is_sound(rt: HostRuntime) {
+    let node = made(NO_ENTRY, &[]);
     let Ok(view) = NodeView::<OmapKey>::read(&node[..], &AT, &SITE) else {
-        return Err(Fail::from("not sound"));
+        panic!(rt; "not sound");
     };
-    assert!(rt; view.len() == 0);
-    let info = view.info().ok_or("no root")?;
-    assert!(rt; info.node_size == 4096 && info.key_count == 1 && info.node_count == 1);
-    Ok(())
+    let info = view.info().expect(&rt, "no root");
+    assert!(rt;
+        view.len() == 0 && info.node_size == 4096 && info.key_count == 1 && info.node_count == 1
+    );
 }
 
 // A queue's node, whose entry has no value.
 const QUEUE_GHOST: &[Edit] = &[(SUBTYPE, 9), (VALUE_OFFSET, 0xffff)];
 
 #[test]
-fn an_entry_of_a_queue_may_have_no_value(rt: HostRuntime) -> Result<(), Fail> {
-    let node = made(QUEUE_GHOST);
+fn an_entry_of_a_queue_may_have_no_value(rt: HostRuntime) {
+    let node = made(QUEUE_GHOST, &[]);
     let Ok(view) = NodeView::<QueueKey>::read(&node[..], &AT, &SITE) else {
-        return Err(Fail::from("not sound"));
+        panic!(rt; "not sound");
     };
-    if view.len() == 1 {
-        assert!(rt; view.entry(0).value == None);
-    }
-    Ok(())
-}
-
-// A node of an extent reference tree whose table has offsets alone, and one whose table has lengths too.
-const FIXED: &[Edit] = &[(SUBTYPE, 0xf), (VALUE_OFFSET, 20), (66, 0x2000)];
-
-const VARIABLE: &[Edit] = &[
-    (SUBTYPE, 0xf),
-    (FLAGS, 3),
-    (TABLE_LENGTH, 8),
-    (58, 8),
-    (60, 20),
-    (62, 20),
-    (70, 0x2000),
-];
-
-#[test]
-fn nodes_of_extent_references_have_either_layout(rt: HostRuntime) {
-    assert!(rt;
-        fault::<ExtKey>(&made(FIXED), &AT) == None && fault::<ExtKey>(&made(VARIABLE), &AT) == None
-    );
+    assert!(rt; view.len() == 1);
+    assert!(rt; view.entry(0).value == None);
 }
 
 // The number of the child is 9, with 1 in its highest byte.
 const PARENT: &[Edit] = &[(FLAGS, 5), (LEVEL, 1), (4040, 9), (4046, 0x100)];
 
 #[test]
-fn a_node_above_the_leaves_names_children(rt: HostRuntime) -> Result<(), Fail> {
-    let node = made(PARENT);
+fn a_node_above_the_leaves_names_children(rt: HostRuntime) {
+    let node = made(PARENT, &[]);
     let Ok(view) = NodeView::<OmapKey>::read(&node[..], &AT, &SITE) else {
-        return Err(Fail::from("not sound"));
+        panic!(rt; "not sound");
     };
-    if view.len() == 1 && view.level() == 1 {
-        assert!(rt; view.child(0) == 9 + 0x0100_0000_0000_0000);
-    }
-    Ok(())
+    assert!(rt; view.len() == 1 && view.level() == 1);
+    assert!(rt; view.child(0) == 9 + 0x0100_0000_0000_0000);
 }
 
 // Where bytes start and end.
@@ -398,27 +385,32 @@ fn filled(alloc: Global, len: usize, bytes: &[(usize, u8)]) -> Result<Vec<u8>, F
     Ok(node)
 }
 
+// Asserts where the key and the value of the last entry of a node lie.
+fn assert_last(rt: &impl Abort, node: &[u8], at: &NodeAt, site: &Site, key: Part, value: Part) {
+    assert!(rt; is_accepted(site.block_size) && node.len() == site.block_size as usize);
+    let Ok(view) = NodeView::<OmapKey>::read(node, at, site) else {
+        panic!(rt; "not sound");
+    };
+    let last = view.len().saturating_sub(1);
+    assert!(rt; last < view.len());
+    let entry = view.entry(last);
+    assert!(rt;
+        entry.key == OmapKey { oid: 5, xid: 1 }
+            && Some(entry.key_bytes) == node.get(key.0..key.1)
+            && entry.value == node.get(value.0..value.1)
+    );
+}
+
 #[test]
 fn larger_nodes_end_where_their_blocks_do(rt: HostRuntime) -> Result<(), Fail> {
     for (block_size, root, bytes, key, value) in LARGE {
-        let node = filled(rt.alloc(), *block_size as usize, bytes)?;
         let site = Site {
             block_size: *block_size,
             ..SITE
         };
         let at = NodeAt { root: *root, ..AT };
-        assert!(rt; is_accepted(*block_size) && node.len() == *block_size as usize);
-        let Ok(view) = NodeView::<OmapKey>::read(&node, &at, &site) else {
-            return Err(Fail::from("not sound"));
-        };
-        let last = view.len().saturating_sub(1);
-        assert!(rt; last < view.len());
-        let entry = view.entry(last);
-        assert!(rt;
-            entry.key == OmapKey { oid: 5, xid: 1 }
-                && Some(entry.key_bytes) == node.get(key.0..key.1)
-                && entry.value == node.get(value.0..value.1)
-        );
+        let node = filled(rt.alloc(), *block_size as usize, bytes)?;
+        assert_last(&rt, &node, &at, &site, *key, *value);
     }
     Ok(())
 }

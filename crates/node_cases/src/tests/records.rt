@@ -6,8 +6,8 @@ use bt_keys::{FsKey, FsPlainKey, FsTreeKey};
 use bt_node::Entry;
 use fs_name::Names;
 use fs_record::{
-    AttrBody, DirEntry, FileExt, RecFault, StreamSize, attr, entry, file_ext, inode, refused,
-    sibling_link, sibling_map,
+    AttrBody, DirEntry, FileExt, Inode, RecFault, StreamSize, attr, entry, file_ext, inode,
+    refused, sibling_link, sibling_map,
 };
 use std::alloc::{AllocError, Global};
 
@@ -54,51 +54,59 @@ const PADDED: &[(u8, &[u8])] = &[
     (9, &[9; 16]),
 ];
 
+// The stream of an inode with this value.
+fn stream_in(value: &[u8]) -> Result<Option<StreamSize>, RecFault> {
+    Ok(inode(value)?.stream())
+}
+
 #[test]
 fn a_stream_is_found_after_a_padded_field(rt: HostRuntime) -> Result<(), AllocError> {
     for (len, padded) in PADDED {
         let value = inode_value(rt.alloc(), *len, padded)?;
-        let read = inode(&value);
-        assert!(rt;
-            matches!(read, Ok(inode) if inode.stream() == Some(STREAM)),
-            "{len} bytes"
-        );
+        assert!(rt; stream_in(&value) == Ok(Some(STREAM)), "{len} bytes");
     }
     Ok(())
+}
+
+// Whether this is the inode of such a value.
+fn is_inode(read: Result<Inode<'_>, RecFault>) -> bool {
+    match read {
+        Ok(inode) => {
+            inode.parent() == 2
+                && inode.private_id() == 16
+                && inode.links() == 1
+                && inode.bsd_flags() == 0x20
+                && inode.mode() == 0x8100
+                && inode.kind() == 8
+                && inode.stream() == Some(STREAM)
+        }
+        Err(_) => false,
+    }
 }
 
 #[test]
 fn an_inode_is_read(rt: HostRuntime) -> Result<(), AllocError> {
     let value = inode_value(rt.alloc(), 3, &[9; 8])?;
-    let read = inode(&value);
-    assert!(rt; read.is_ok());
-    if let Ok(inode) = read {
-        assert!(rt;
-            (inode.parent(), inode.private_id(), inode.links()) == (2, 16, 1)
-                && (inode.bsd_flags(), inode.mode(), inode.kind()) == (0x20, 0x8100, 8)
-                && inode.stream() == Some(STREAM)
-        );
-    }
+    assert!(rt; is_inode(inode(&value)));
     Ok(())
 }
 
-// How many of an inode's bytes there are, and why it is refused.
-const CUT_INODES: [(usize, RecFault); 4] = [
-    (91, RecFault::Length),
-    (95, RecFault::Fields),
-    (103, RecFault::Fields),
-    (151, RecFault::Fields),
+// How many of an inode's bytes there are, and its stream or why it is refused.
+const CUT_INODES: [(usize, Result<Option<StreamSize>, RecFault>); 5] = [
+    (91, Err(RecFault::Length)),
+    (92, Ok(None)),
+    (95, Err(RecFault::Fields)),
+    (103, Err(RecFault::Fields)),
+    (151, Err(RecFault::Fields)),
 ];
 
 #[test]
 fn an_inode_that_is_cut_is_refused(rt: HostRuntime) -> Result<(), AllocError> {
     let value = inode_value(rt.alloc(), 3, &[9; 8])?;
-    for (len, why) in CUT_INODES {
-        let refused = inode(value.get(..len).unwrap_or(&[]));
-        assert!(rt; is_refused(refused, why), "{len} bytes");
+    for (len, stream) in CUT_INODES {
+        let cut = value.get(..len).unwrap_or(&[]);
+        assert!(rt; stream_in(cut) == stream, "{len} bytes");
     }
-    let bare = inode(value.get(..92).unwrap_or(&[]));
-    assert!(rt; matches!(bare, Ok(inode) if inode.stream().is_none()));
     Ok(())
 }
 
@@ -209,7 +217,7 @@ fn siblings_are_read(rt: HostRuntime) {
     assert!(rt; read.is_ok());
     if let Ok(link) = read {
         assert!(rt;
-            (link.file(), link.sibling(), link.parent()) == (16, 18, 2) && link.name() == "a"
+            link.file() == 16 && link.sibling() == 18 && link.parent() == 2 && link.name() == "a"
         );
     }
     assert!(rt;

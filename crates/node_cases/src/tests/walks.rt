@@ -1,5 +1,10 @@
 // Walks over trees that are written here.
 
+ghost use Rattle.std.specs.Prelude.{◌≡◌, ◌≤◌, length};
+ghost use Rattle.obj_base.specs.Site.{IsSiteFor};
+ghost use Rattle.bt_cursor.specs.Cursors.{site_of as cursor_site};
+ghost use Rattle.bt_cursor.specs.Liners.{site_of as liner_site};
+
 mod gathers;
 mod image;
 mod trees;
@@ -23,20 +28,27 @@ const SITE: Site = Site {
 
 const PHYSICAL: Physical = Physical { blocks: 8 };
 
-// Adds the items of the Line of the tree in block 1, until the walk stops.
-fn line<K: TreeKey>(
-    alloc: Global,
-    image: Vec<u8>,
-    fails: Vec<u64>,
+// The container of a tree, and the number of the read that fails, if any does.
+fn container(rt: &impl Abort, alloc: Global, form: Form, nodes: &[Node], fails: u64) -> MemSource
+    ensures { 32768 ≤ length result.bytes }
+{
+    let image = tree_image(alloc, 4096, form, nodes)
+        .ok()
+        .expect(rt, "memory");
+    assert!(rt; image.len() >= 32768);
+    MemSource::new(image, vec![in alloc; fails].ok().expect(rt, "memory"))
+}
+
+// Adds the items of a Line, until the walk stops.
+fn add_items<K: TreeKey>(
+    liner: &mut Liner<K, Physical>,
+    src: &mut MemSource,
     items: &mut Vec<Item>,
-) -> Result<(), Stop<WalkFault>> {
-    if image.len() < 32768 {
-        return Err(Stop::NoMemory);
-    }
-    let mut src = MemSource::new(image, fails);
-    let mut liner = Liner::<K, Physical>::new(alloc, &mut src, PHYSICAL, 1, SITE)?;
+) -> Result<(), Stop<WalkFault>>
+    requires { IsSiteFor (liner_site liner.old) (length src.old.bytes) }
+{
     'walk: for _ in 0..100 {
-        if !liner.next(&mut src)? {
+        if !liner.next(src)? {
             return Ok(());
         }
         let item = liner.item();
@@ -46,48 +58,85 @@ fn line<K: TreeKey>(
     Ok(())
 }
 
-// Adds the entries of the flat list of the tree in block 1, from a rank on.
-fn flat<K: TreeKey>(
+// Adds the items of the Line of the tree in block 1, until the walk stops.
+fn line<K: TreeKey>(
     alloc: Global,
-    image: Vec<u8>,
-    from: Option<Rank>,
+    src: &mut MemSource,
     items: &mut Vec<Item>,
-) -> Result<(), Stop<WalkFault>> {
-    if image.len() < 32768 {
-        return Err(Stop::NoMemory);
-    }
-    let mut src = MemSource::new(image, Vec::new(alloc));
-    let mut cursor = Cursor::<K, Physical>::new(alloc, &mut src, PHYSICAL, 1, SITE)?;
-    cursor.first(&mut src)?;
-    if let Some(rank) = from {
-        cursor.seek(&mut src, &rank)?;
-    }
+) -> Result<(), Stop<WalkFault>>
+    requires { 32768 ≤ length src.old.bytes }
+{
+    let mut liner = Liner::<K, Physical>::new(alloc, src, PHYSICAL, 1, SITE)?;
+    let end = add_items(&mut liner, src, items);
+    drop(liner);
+    end
+}
+
+// Adds the entries of a flat list from a cursor's place on, until the walk stops.
+fn add_entries<K: TreeKey>(
+    cursor: &mut Cursor<K, Physical>,
+    src: &mut MemSource,
+    items: &mut Vec<Item>,
+) -> Result<(), Stop<WalkFault>>
+    requires { IsSiteFor (cursor_site cursor.old) (length src.old.bytes) }
+{
     'walk: for _ in 0..100 {
-        match cursor.next(&mut src) {
-            Ok(true) => {
-                let rank = cursor.item().key.rank();
-                items.push((0, rank.id, rank.kind))?;
-            }
-            Ok(false) => return Ok(()),
-            Err(stop) => return Err(stop),
+        if !cursor.next(src)? {
+            return Ok(());
         }
+        let rank = cursor.item().key.rank();
+        items.push((0, rank.id, rank.kind))?;
     }
     Ok(())
 }
+
+// The same from a rank on.
+fn add_entries_from<K: TreeKey>(
+    cursor: &mut Cursor<K, Physical>,
+    src: &mut MemSource,
+    from: Option<Rank>,
+    items: &mut Vec<Item>,
+) -> Result<(), Stop<WalkFault>>
+    requires { IsSiteFor (cursor_site cursor.old) (length src.old.bytes) }
+{
+    cursor.first(src)?;
+    if let Some(rank) = from {
+        cursor.seek(src, &rank)?;
+    }
+    add_entries(cursor, src, items)
+}
+
+// Adds the entries of the flat list of the tree in block 1, from a rank on.
+fn flat<K: TreeKey>(
+    alloc: Global,
+    src: &mut MemSource,
+    from: Option<Rank>,
+    items: &mut Vec<Item>,
+) -> Result<(), Stop<WalkFault>>
+    requires { 32768 ≤ length src.old.bytes }
+{
+    let mut cursor = Cursor::<K, Physical>::new(alloc, src, PHYSICAL, 1, SITE)?;
+    let end = add_entries_from(&mut cursor, src, from, items);
+    drop(cursor);
+    end
+}
+
+// How a walk ends.
+type End = Result<(), Stop<WalkFault>>;
 
 fn assert_line<K: TreeKey>(
     rt: &impl Abort,
     alloc: Global,
     form: Form,
     nodes: &[Node],
+    fails: u64,
     items: &[Item],
-    end: Result<(), Stop<WalkFault>>,
-) -> Result<(), Fail> {
-    let image = tree_image(alloc, 4096, form, nodes)?;
+    end: End,
+) {
+    let mut src = container(rt, alloc, form, nodes, fails);
     let mut passed = Vec::new(alloc);
-    let stop = line::<K>(alloc, image, Vec::new(alloc), &mut passed);
+    let stop = line::<K>(alloc, &mut src, &mut passed);
     assert!(rt; stop == end && passed.as_slice() == items);
-    Ok(())
 }
 
 fn assert_flat<K: TreeKey>(
@@ -97,12 +146,12 @@ fn assert_flat<K: TreeKey>(
     nodes: &[Node],
     from: Option<Rank>,
     items: &[Item],
-    end: Result<(), Stop<WalkFault>>,
-) -> Result<(), Fail> {
-    let image = tree_image(alloc, 4096, form, nodes)?;
+    end: End,
+) {
+    let mut src = container(rt, alloc, form, nodes, 0);
     let mut passed = Vec::new(alloc);
-    assert!(rt; flat::<K>(alloc, image, from, &mut passed) == end && passed.as_slice() == items);
-    Ok(())
+    let stop = flat::<K>(alloc, &mut src, from, &mut passed);
+    assert!(rt; stop == end && passed.as_slice() == items);
 }
 
 // A rank of an id and a kind.
@@ -116,104 +165,91 @@ macro_rules! rank {
     };
 }
 
-#[test]
-fn a_whole_line(rt: HostRuntime) -> Result<(), Fail> {
-    let alloc = rt.alloc();
-    assert_line::<QueueKey>(&rt, alloc, QUEUE, THREE_LEVELS, THREE_LEVELS_LINE, Ok(()))?;
-    assert_line::<QueueKey>(&rt, alloc, QUEUE, NO_KEY, &[], Ok(()))
-}
+// A tree, the number of the read that fails, if any does, the items of its Line, and how its walk ends.
+type Walk = (&'static [Node], u64, &'static [Item], End);
 
-#[test]
-fn lines_that_stop(rt: HostRuntime) -> Result<(), Fail> {
-    for (nodes, items, fault) in TWO_LEAVES {
-        let end = Err(Stop::Found(*fault));
-        assert_line::<QueueKey>(&rt, rt.alloc(), QUEUE, nodes, items, end)?;
-    }
-    Ok(())
-}
-
-// How a walk ends.
-type End = Result<(), Stop<WalkFault>>;
-
-// A tree, and how its walk ends.
-const NAMED_TWICE: [(&[Node], End); 2] = [
-    (COUNTED_TWICE, Ok(())),
-    (COUNTED_ONCE, Err(Stop::Found(WalkFault::Counts))),
+const LINES: [Walk; 3] = [
+    (THREE_LEVELS, 0, THREE_LEVELS_LINE, Ok(())),
+    (NO_KEY, 0, &[], Ok(())),
+    (
+        THREE_LEVELS,
+        3,
+        &[(2, 1, 0), (1, 1, 0)],
+        Err(Stop::ReadFault),
+    ),
 ];
 
-// The items of the Line of both.
-const TWICE: &[Item] = &[(1, 2, 9), (0, 2, 9), (1, 2, 9), (0, 2, 9)];
-
-// A child that is named twice. A directory's entries in a tree whose names aren't hashed may have equal ranks, in one
-// leaf and across two.
 #[test]
-fn a_repeated_child(rt: HostRuntime) -> Result<(), Fail> {
-    for (tree, end) in NAMED_TWICE {
-        assert_line::<FsPlainKey>(&rt, rt.alloc(), PLAIN, tree, TWICE, end)?;
-        assert_line::<FsKey>(&rt, rt.alloc(), HASHED, tree, TWICE, end)?;
+fn whole_lines_and_a_failed_read(rt: HostRuntime) {
+    for (nodes, fails, items, end) in LINES {
+        assert_line::<QueueKey>(&rt, rt.alloc(), QUEUE, nodes, fails, items, end);
     }
-    Ok(())
+}
+
+#[test]
+fn lines_that_stop(rt: HostRuntime) {
+    for (nodes, items, fault) in TWO_LEAVES {
+        let end = Err(Stop::Found(*fault));
+        assert_line::<QueueKey>(&rt, rt.alloc(), QUEUE, nodes, 0, items, end);
+    }
 }
 
 const OUT_OF_ORDER: End = Err(Stop::Found(WalkFault::Order { item: 3 }));
 
-// The items of the Line before that.
+const COUNTED_WRONG: End = Err(Stop::Found(WalkFault::Counts));
+
+// The items of the Line of a directory's entry that is named twice, and those before an inode that is.
+const TWICE: &[Item] = &[(1, 2, 9), (0, 2, 9), (1, 2, 9), (0, 2, 9)];
+
 const ONCE: &[Item] = &[(1, 2, 3), (0, 2, 3), (1, 2, 3)];
 
-// An inode's key stands once.
-#[test]
-fn a_repeated_inode(rt: HostRuntime) -> Result<(), Fail> {
-    assert_line::<FsPlainKey>(&rt, rt.alloc(), PLAIN, INODE_TWICE, ONCE, OUT_OF_ORDER)
-}
-
-#[test]
-fn a_failed_read(rt: HostRuntime) -> Result<(), Fail> {
-    let image = tree_image(rt.alloc(), 4096, QUEUE, THREE_LEVELS)?;
-    let fails = vec![in rt.alloc(); 3u64; 1]?;
-    let mut items = Vec::new(rt.alloc());
-    let stop = line::<QueueKey>(rt.alloc(), image, fails, &mut items);
-    assert!(rt; stop == Err(Stop::ReadFault) && items.as_slice() == &THREE_LEVELS_LINE[..2]);
-    Ok(())
-}
-
-// A rank from which a list is taken, and how many of the entries come before it.
-const SEARCHES: [(Option<Rank>, usize); 6] = [
-    (None, 0),
-    (rank!(0, 0), 0),
-    (rank!(3, 0), 2),
-    (rank!(3, 1), 3),
-    (rank!(7, 0), 4),
-    (rank!(8, 0), 5),
+// Trees that name a child twice. A directory's entries may have equal ranks, in one leaf and across two; an inode's key
+// stands once.
+const NAMED_TWICE: [Walk; 3] = [
+    (COUNTED_TWICE, 0, TWICE, Ok(())),
+    (COUNTED_ONCE, 0, TWICE, COUNTED_WRONG),
+    (INODE_TWICE, 0, ONCE, OUT_OF_ORDER),
 ];
 
 #[test]
-fn flat_lists(rt: HostRuntime) -> Result<(), Fail> {
-    let alloc = rt.alloc();
-    for (from, skipped) in SEARCHES {
-        let items = THREE_LEVELS_LIST.get(skipped..).unwrap_or(&[]);
-        assert_flat::<QueueKey>(&rt, alloc, QUEUE, THREE_LEVELS, from, items, Ok(()))?;
+fn a_repeated_child(rt: HostRuntime) {
+    for (nodes, fails, items, end) in NAMED_TWICE {
+        assert_line::<FsPlainKey>(&rt, rt.alloc(), PLAIN, nodes, fails, items, end);
+        assert_line::<FsKey>(&rt, rt.alloc(), HASHED, nodes, fails, items, end);
     }
-    assert_flat::<QueueKey>(&rt, alloc, QUEUE, NO_KEY, None, &[], Ok(()))
 }
+
+// A tree, a rank from which its list is taken, the entries, and how the walk ends.
+type Search = (&'static [Node], Option<Rank>, &'static [Item], End);
 
 const MISSING: End = Err(Stop::Found(WalkFault::Unnamed { oid: 9 }));
 
-// A rank from which a list is taken, its entries, and how the walk ends.
-const PAST_A_CHILD: [(Option<Rank>, &[Item], End); 4] = [
-    (None, &[(0, 1, 0)], MISSING),
-    (rank!(2, 0), &[], MISSING),
-    (rank!(4, 0), &[], MISSING),
-    (rank!(5, 1), &[], Ok(())),
+// Where a child isn't there, the entries before it are given, and it is named when it comes next, unless the search goes past
+// it.
+const SEARCHES: [Search; 11] = [
+    (THREE_LEVELS, None, THREE_LEVELS_LIST, Ok(())),
+    (THREE_LEVELS, rank!(0, 0), THREE_LEVELS_LIST, Ok(())),
+    (
+        THREE_LEVELS,
+        rank!(3, 0),
+        &[(0, 3, 0), (0, 5, 0), (0, 7, 0)],
+        Ok(()),
+    ),
+    (THREE_LEVELS, rank!(3, 1), &[(0, 5, 0), (0, 7, 0)], Ok(())),
+    (THREE_LEVELS, rank!(7, 0), &[(0, 7, 0)], Ok(())),
+    (THREE_LEVELS, rank!(8, 0), &[], Ok(())),
+    (NO_KEY, None, &[], Ok(())),
+    (MISSING_CHILD, None, &[(0, 1, 0)], MISSING),
+    (MISSING_CHILD, rank!(2, 0), &[], MISSING),
+    (MISSING_CHILD, rank!(4, 0), &[], MISSING),
+    (MISSING_CHILD, rank!(5, 1), &[], Ok(())),
 ];
 
-// A child that isn't there: the entries before it are given, and it is named when it comes next, unless the search goes
-// past it.
 #[test]
-fn a_missing_child(rt: HostRuntime) -> Result<(), Fail> {
-    for (from, items, end) in PAST_A_CHILD {
-        assert_flat::<QueueKey>(&rt, rt.alloc(), QUEUE, MISSING_CHILD, from, items, end)?;
+fn flat_lists_and_a_missing_child(rt: HostRuntime) {
+    for (nodes, from, items, end) in SEARCHES {
+        assert_flat::<QueueKey>(&rt, rt.alloc(), QUEUE, nodes, from, items, end);
     }
-    Ok(())
 }
 
 const LARGER: Site = Site {
@@ -221,45 +257,44 @@ const LARGER: Site = Site {
     ..SITE
 };
 
+// Adds the entries of the flat list of the tree in block 1 of larger blocks, from where a new cursor stands.
+fn larger_list(alloc: Global, src: &mut MemSource, items: &mut Vec<Item>) -> End
+    requires { 131072 ≤ length src.old.bytes }
+{
+    let mut cursor = Cursor::<QueueKey, Physical>::new(alloc, src, PHYSICAL, 1, LARGER)?;
+    let end = add_entries(&mut cursor, src, items);
+    drop(cursor);
+    end
+}
+
 #[test]
 fn larger_blocks(rt: HostRuntime) -> Result<(), Fail> {
-    let image = tree_image(rt.alloc(), 16384, QUEUE, KEY_SEVEN)?;
+    let alloc = rt.alloc();
+    let image = tree_image(alloc, 16384, QUEUE, KEY_SEVEN)?;
     assert!(rt; image.len() >= 131072);
-    let mut src = MemSource::new(image, Vec::new(rt.alloc()));
-    let mut cursor = Cursor::<QueueKey, Physical>::new(
-        rt.alloc(),
-        &mut src,
-        PHYSICAL,
-        1,
-        LARGER,
-    ).map_err(|_| "stopped")?;
-    assert!(rt;
-        cursor.next(&mut src) == Ok(true)
-            && cursor.item().key.xid == 7
-            && cursor.next(&mut src) == Ok(false)
-    );
+    let mut src = MemSource::new(image, Vec::new(alloc));
+    let mut items = Vec::new(alloc);
+    let end = larger_list(alloc, &mut src, &mut items);
+    assert!(rt; end == Ok(()) && items.as_slice() == [(0, 7, 0)].as_slice());
     Ok(())
 }
 
-const FROM_SIXTEEN: Option<Rank> = rank!(16, 3);
+// Searches among records. The kind stands in the high bits of a key's first word, and counts after the id. Equal ranks over
+// two leaves are given from the first of them on.
+const BY_RANKS: [Search; 2] = [
+    (TWO_RANKS, rank!(16, 3), &[(0, 16, 3)], Ok(())),
+    (
+        EQUAL_RANKS,
+        rank!(2, 9),
+        &[(0, 2, 9), (0, 2, 9), (0, 16, 3)],
+        Ok(()),
+    ),
+];
 
-const SIXTEEN: &[Item] = &[(0, 16, 3)];
-
-// The kind stands in the high bits of a key's first word, and counts after the id.
 #[test]
-fn a_search_by_ranks(rt: HostRuntime) -> Result<(), Fail> {
-    let alloc = rt.alloc();
-    assert_flat::<FsKey>(&rt, alloc, HASHED, TWO_RANKS, FROM_SIXTEEN, SIXTEEN, Ok(()))?;
-    assert_flat::<FsPlainKey>(&rt, alloc, PLAIN, TWO_RANKS, FROM_SIXTEEN, SIXTEEN, Ok(()))
-}
-
-const FROM_TWO: Option<Rank> = rank!(2, 9);
-
-const TWO_EQUAL: &[Item] = &[(0, 2, 9), (0, 2, 9), (0, 16, 3)];
-
-// Entries of equal ranks over two leaves, from the first of them on.
-#[test]
-fn equal_ranks(rt: HostRuntime) -> Result<(), Fail> {
-    let alloc = rt.alloc();
-    assert_flat::<FsPlainKey>(&rt, alloc, PLAIN, EQUAL_RANKS, FROM_TWO, TWO_EQUAL, Ok(()))
+fn searches_by_ranks(rt: HostRuntime) {
+    for (nodes, from, items, end) in BY_RANKS {
+        assert_flat::<FsKey>(&rt, rt.alloc(), HASHED, nodes, from, items, end);
+        assert_flat::<FsPlainKey>(&rt, rt.alloc(), PLAIN, nodes, from, items, end);
+    }
 }

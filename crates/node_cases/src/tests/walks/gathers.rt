@@ -1,14 +1,14 @@
 // Trees whose items are gathered.
 
-use super::image::{Node, tree_image};
+use super::image::Node;
 use super::trees::{QUEUE, THREE_LEVELS, TOO_FEW, WHOLE};
-use super::{PHYSICAL, SITE};
+use super::{PHYSICAL, SITE, container};
 use blk_source::{MemSource, NoMemory};
 use bt_cursor::{GatherFault, Keeper, LineItem, Physical, WalkFault, gather};
 use bt_keys::QueueKey;
 use obj_base::Stop;
 use std::alloc::Global;
-use std::test::Fail;
+use std::process::Abort;
 
 /// The first words of the keys of leaves, and the ids of the children; an item above level 1 is refused.
 #[derive(Drop)]
@@ -40,15 +40,14 @@ impl Keeper<QueueKey> for Words {
     }
 }
 
-// Gathers the tree in block 1.
-fn gathered(alloc: Global, nodes: &[Node], fails: Vec<u64>) -> Result<Words, Stop<GatherFault>> {
-    let Ok(image) = tree_image(alloc, 4096, QUEUE, nodes) else {
-        return Err(Stop::NoMemory);
-    };
-    if image.len() < 32768 {
-        return Err(Stop::NoMemory);
-    }
-    let mut src = MemSource::new(image, fails);
+// Gathers the tree in block 1, over a source of which a read fails, if any does.
+fn gathered(
+    rt: &impl Abort,
+    alloc: Global,
+    nodes: &[Node],
+    fails: u64,
+) -> Result<Words, Stop<GatherFault>> {
+    let mut src = container(rt, alloc, QUEUE, nodes, fails);
     let none = Words {
         words: Vec::new(alloc),
         children: Vec::new(alloc),
@@ -57,17 +56,14 @@ fn gathered(alloc: Global, nodes: &[Node], fails: Vec<u64>) -> Result<Words, Sto
 }
 
 #[test]
-fn what_items_give_is_gathered(rt: HostRuntime) -> Result<(), Fail> {
-    let alloc = rt.alloc();
-    match gathered(alloc, WHOLE, Vec::new(alloc)) {
-        Ok(kept) => {
-            assert!(rt;
-                kept.words.as_slice() == &[1, 2, 3][..] && kept.children.as_slice() == &[2, 3][..]
-            );
-        }
-        Err(_) => panic!(rt; "it is whole"),
-    }
-    Ok(())
+fn what_items_give_is_gathered(rt: HostRuntime) {
+    let kept = gathered(&rt, rt.alloc(), WHOLE, 0)
+        .ok()
+        .expect(&rt, "it is whole");
+    assert!(rt;
+        kept.words.as_slice() == [1, 2, 3].as_slice()
+            && kept.children.as_slice() == [2, 3].as_slice()
+    );
 }
 
 // Trees, the number of the read that fails, if any does, and why they can't be gathered.
@@ -86,13 +82,9 @@ const STOPPED: [(&[Node], u64, Stop<GatherFault>); 3] = [
 ];
 
 #[test]
-fn what_stops_is_not_gathered(rt: HostRuntime) -> Result<(), Fail> {
-    let alloc = rt.alloc();
+fn what_stops_is_not_gathered(rt: HostRuntime) {
     for (nodes, fails, stop) in STOPPED {
-        match gathered(alloc, nodes, vec![in alloc; fails]?) {
-            Ok(_) => panic!(rt; "it is whole"),
-            Err(other) => assert!(rt; other == stop),
-        }
+        let found = gathered(&rt, rt.alloc(), nodes, fails).err();
+        assert!(rt; found == Some(stop));
     }
-    Ok(())
 }
