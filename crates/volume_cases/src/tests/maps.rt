@@ -11,7 +11,6 @@ use obj_base::{Feature, HeadFault, Site, Stop};
 use omap_map::{At, Omap, OmapFault, OmapRecord, Place};
 use std::alloc::Global;
 use std::process::Abort;
-use std::test::Fail;
 
 const SITE: Site = Site {
     block_size: 4096,
@@ -44,12 +43,12 @@ macro_rules! records {
 // The root of a tree of these records alone.
 const WHOLE: Node = records!(0, Some((3, 1)), THREE);
 
-// Loads the map in block 1, over a source of which some calls fail.
-fn load(alloc: Global, image: Vec<u8>, fails: Vec<u64>) -> Result<Omap, Stop<OmapFault>> {
+// Loads the map in block 1, over a source of which a read fails, if any does.
+fn load(alloc: Global, image: Vec<u8>, fails: u64) -> Result<Omap, Stop<OmapFault>> {
     if image.len() < 32768 {
         return Err(Stop::NoMemory);
     }
-    let mut src = MemSource::new(image, fails);
+    let mut src = MemSource::new(image, vec![in alloc; fails]?);
     Omap::load(alloc, &mut src, 1, &SITE)
 }
 
@@ -92,12 +91,10 @@ fn block_of_nine(omap: &Omap, blocks: u64) -> Option<u64> {
 }
 
 #[test]
-fn a_map_resolves_by_oid_and_transaction(rt: HostRuntime) -> Result<(), Fail> {
+fn a_map_resolves_by_oid_and_transaction(rt: HostRuntime) {
     let alloc = rt.alloc();
-    let image = map_image(alloc, MAP, &[WHOLE])?;
-    let Ok(omap) = load(alloc, image, Vec::new(alloc)) else {
-        panic!(rt; "it isn't whole");
-    };
+    let image = map_image(alloc, MAP, &[WHOLE]).ok().expect(&rt, "memory");
+    let omap = load(alloc, image, 0).ok().expect(&rt, "it isn't whole");
     assert_five(&rt, &omap);
     assert!(rt;
         omap.records().last() == Some(&LAST)
@@ -106,7 +103,7 @@ fn a_map_resolves_by_oid_and_transaction(rt: HostRuntime) -> Result<(), Fail> {
             && block_of_nine(&omap, 8) == Some(7)
             && block_of_nine(&omap, 7) == None
     );
-    Ok(())
+    drop(omap);
 }
 
 // A map with two snapshots, whose tree is in block 5.
@@ -133,35 +130,23 @@ const TWO_LEVELS: [Node; 4] = [
 ];
 
 #[test]
-fn a_map_of_two_levels_with_snapshots(rt: HostRuntime) -> Result<(), Fail> {
+fn a_map_of_two_levels_with_snapshots(rt: HostRuntime) {
     let alloc = rt.alloc();
-    let image = map_image(alloc, WITH_SNAPSHOTS, &TWO_LEVELS)?;
-    let Ok(omap) = load(alloc, image, Vec::new(alloc)) else {
-        panic!(rt; "it isn't whole");
-    };
+    let image = map_image(alloc, WITH_SNAPSHOTS, &TWO_LEVELS)
+        .ok()
+        .expect(&rt, "memory");
+    let omap = load(alloc, image, 0).ok().expect(&rt, "it isn't whole");
     assert_five(&rt, &omap);
     assert!(rt;
         omap.snap_count() == 2
             && omap.snapshots() == [(3, 0), (5, 2)].as_slice()
-            && (omap.block(), omap.tree(), omap.snap_tree()) == (1, 2, 5)
-            && (omap.steps().len(), omap.snap_steps().len()) == (2, 0)
+            && omap.block() == 1
+            && omap.tree() == 2
+            && omap.snap_tree() == 5
+            && omap.steps().len() == 2
+            && omap.snap_steps().len() == 0
     );
-    Ok(())
-}
-
-fn assert_stop(
-    rt: &impl Abort,
-    alloc: Global,
-    map: Map,
-    nodes: &[Node],
-    stop: Stop<OmapFault>,
-) -> Result<(), Fail> {
-    let image = map_image(alloc, map, nodes)?;
-    match load(alloc, image, Vec::new(alloc)) {
-        Ok(_) => panic!(rt; "it is whole"),
-        Err(other) => assert!(rt; other == stop),
-    }
-    Ok(())
+    drop(omap);
 }
 
 // A fault of the tree with this root.
@@ -184,23 +169,24 @@ const SNAPPED: Map = Map {
     ..MAP
 };
 
-// A map, the nodes after it, and what stops it.
-const STOPS: &[(Map, &[Node], Stop<OmapFault>)] = table! {
-    NO_TREE, &[WHOLE], tree!(0, WalkFault::Unnamed { oid: 0 });
-    REVERTING, &[], Stop::Unsupported { feature: Feature::Revert, block: 1 };
-    MAP, &[records!(0, Some((2, 1)), THREE)], tree!(2, WalkFault::Counts);
-    MAP, &[records!(0, Some((2, 1)), &[(9, 2, 0, 7), (7, 3, 0, 5)])], tree!(2, WalkFault::Order { item: 1 });
-    MAP, &[records!(0, Some((2, 1)), &[(7, 3, 0, 5), (7, 3, 0, 6)])], tree!(2, WalkFault::Order { item: 1 });
-    SNAPPED, &[WHOLE], tree!(8, WalkFault::Unnamed { oid: 8 });
+// A map, the nodes after it, the number of the read that fails, if any does, and what stops it.
+const STOPS: &[(Map, &[Node], u64, Stop<OmapFault>)] = table! {
+    NO_TREE, &[WHOLE], 0, tree!(0, WalkFault::Unnamed { oid: 0 });
+    REVERTING, &[], 0, Stop::Unsupported { feature: Feature::Revert, block: 1 };
+    MAP, &[records!(0, Some((2, 1)), THREE)], 0, tree!(2, WalkFault::Counts);
+    MAP, &[records!(0, Some((2, 1)), &[(9, 2, 0, 7), (7, 3, 0, 5)])], 0, tree!(2, WalkFault::Order { item: 1 });
+    MAP, &[records!(0, Some((2, 1)), &[(7, 3, 0, 5), (7, 3, 0, 6)])], 0, tree!(2, WalkFault::Order { item: 1 });
+    SNAPPED, &[WHOLE], 0, tree!(8, WalkFault::Unnamed { oid: 8 });
+    MAP, &[WHOLE], 2, Stop::ReadFault;
 };
 
 #[test]
-fn what_stops_a_map(rt: HostRuntime) -> Result<(), Fail> {
+fn what_stops_a_map(rt: HostRuntime) {
     let alloc = rt.alloc();
-    for (map, nodes, stop) in STOPS {
-        assert_stop(&rt, alloc, *map, nodes, *stop)?;
+    for (map, nodes, fails, stop) in STOPS {
+        let image = map_image(alloc, *map, nodes).ok().expect(&rt, "memory");
+        assert!(rt; load(alloc, image, *fails).err() == Some(*stop));
     }
-    Ok(())
 }
 
 // Block 1 is blank.
@@ -210,18 +196,8 @@ const BLANK: Stop<OmapFault> = Stop::Found(OmapFault::Head {
 });
 
 #[test]
-fn a_map_that_is_no_map(rt: HostRuntime) -> Result<(), Fail> {
+fn a_map_that_is_no_map(rt: HostRuntime) {
     let alloc = rt.alloc();
-    let blank = vec![in alloc; 0u8; 32768]?;
-    assert!(rt; load(alloc, blank, Vec::new(alloc)).err() == Some(BLANK));
-    Ok(())
-}
-
-#[test]
-fn a_failed_read_stops_a_map(rt: HostRuntime) -> Result<(), Fail> {
-    let alloc = rt.alloc();
-    let image = map_image(alloc, MAP, &[WHOLE])?;
-    let stop = load(alloc, image, vec![in alloc; 2]?).err();
-    assert!(rt; stop == Some(Stop::ReadFault));
-    Ok(())
+    let blank = vec![in alloc; 0u8; 32768].ok().expect(&rt, "memory");
+    assert!(rt; load(alloc, blank, 0).err() == Some(BLANK));
 }

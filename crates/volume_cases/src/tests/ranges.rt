@@ -84,8 +84,10 @@ fn no_tree_has_no_ranges(rt: HostRuntime) -> Result<(), Fail> {
     if src.size() < 4096 * 256 {
         return Err(Fail::from("the image is too short"));
     }
-    let ranges = new_ranges(alloc, &mut src, 0, &SITE);
-    assert!(rt; ranges.is_ok_and(|ranges| ranges.is_empty()));
+    let ranges = new_ranges(alloc, &mut src, 0, &SITE)
+        .ok()
+        .expect(&rt, "the tree isn't right");
+    assert!(rt; ranges.is_empty());
     Ok(())
 }
 
@@ -114,8 +116,8 @@ const COVERED: &[(u64, u64, bool)] = table! {
 };
 
 #[test]
-fn which_ranges_are_covered(rt: HostRuntime) -> Result<(), Fail> {
-    let cover = Cover::of(rt.alloc(), COVERING)?;
+fn which_ranges_are_covered(rt: HostRuntime) {
+    let cover = Cover::of(rt.alloc(), COVERING).ok().expect(&rt, "memory");
     for (first, length, expected) in COVERED {
         assert!(rt;
             cover.covers(*first, *length) == *expected
@@ -123,7 +125,6 @@ fn which_ranges_are_covered(rt: HostRuntime) -> Result<(), Fail> {
             "{first} {length}"
         );
     }
-    Ok(())
 }
 
 // An extent of so many blocks of 4,096 bytes, less one byte.
@@ -157,13 +158,6 @@ const REFERRING: &[(u64, FileExt)] = extents! {
     less 1; 3, 39, 2; 2, 14, 1; 1, 10, 2; 2, 14, 2; 4, 0, 1000; 1, 14, 1; 5, 29, 3;
 };
 
-#[test]
-fn streams_are_counted_once_a_range(rt: HostRuntime) -> Result<(), Fail> {
-    let counts = references(rt.alloc(), REFERRED, REFERRING, 4096)?;
-    assert!(rt; counts.as_slice() == [1, 2, 2, 0, 0, 4].as_slice());
-    Ok(())
-}
-
 // Of stream 1 two extents touch: it has blocks 10 to 14. Of stream 2 two leave block 13 out: it has 11, 12 and 14. Of stream 3 one covers
 // another and a third goes on past it: it has 20 to 30. Stream 4 has block 29, an extent without a block and a hole. Stream 5 has
 // blocks 40 and 44, and stream 6 has 39 to 45.
@@ -172,25 +166,13 @@ const FILES: &[(u64, FileExt)] = extents! {
     3, 22, 2;
 };
 
-// How many of these streams touch each of some ranges.
-fn touching(alloc: Global, ranges: &[NewRange]) -> Result<Vec<u64>, Fail> {
-    Ok(references(alloc, ranges, FILES, 4096)?)
-}
-
 // Ranges of which no two have a block in common.
 const APART: &[NewRange] = ranges! {
     44, 1; 10, 1; 15, 5; 12, 1; 31, 8; 13, 1; 42, 1; 11, 1; 20, 4; 30, 1; 14, 1; 40, 1; 9, 1; 24, 4; 28, 2; 46, 1; TOP, 1;
 };
 
 // How many streams touch each.
-const APART_COUNTS: [u64; 17] = [2, 1, 0, 2, 0, 1, 1, 2, 1, 1, 2, 2, 0, 1, 2, 0, 0];
-
-#[test]
-fn streams_of_ranges_that_lie_apart(rt: HostRuntime) -> Result<(), Fail> {
-    let counts = touching(rt.alloc(), APART)?;
-    assert!(rt; counts.as_slice() == APART_COUNTS.as_slice());
-    Ok(())
-}
+const APART_COUNTS: &[u64] = &[2, 1, 0, 2, 0, 1, 1, 2, 1, 1, 2, 2, 0, 1, 2, 0, 0];
 
 // The third ends before the first, which begins no later; two are one; two begin together; two meet two others; one has no block.
 const OVERLAPPING: &[NewRange] = ranges! {
@@ -198,34 +180,36 @@ const OVERLAPPING: &[NewRange] = ranges! {
 };
 
 // How many streams touch each.
-const OVERLAPPING_COUNTS: [u64; 10] = [2, 2, 2, 2, 1, 2, 2, 0, 2, 1];
+const OVERLAPPING_COUNTS: &[u64] = &[2, 2, 2, 2, 1, 2, 2, 0, 2, 1];
 
 // One range about all others.
 const ABOUT: &[NewRange] = ranges! {
     1, 1000; 41, 3; 13, 1; 0, 10;
 };
 
-#[test]
-fn streams_of_ranges_that_overlap(rt: HostRuntime) -> Result<(), Fail> {
-    let counts = touching(rt.alloc(), OVERLAPPING)?;
-    assert!(rt; counts.as_slice() == OVERLAPPING_COUNTS.as_slice());
-    let counts = touching(rt.alloc(), ABOUT)?;
-    assert!(rt; counts.as_slice() == [6, 1, 1, 0].as_slice());
-    Ok(())
-}
-
 // Two ranges, of which one holds the other.
 const TWO: &[NewRange] = ranges! {
     1, 5; 3, 1;
 };
 
+// Ranges, extents, and how many streams touch each range.
+const TOUCHED: &[(&[NewRange], &[(u64, FileExt)], &[u64])] = table! {
+    REFERRED, REFERRING, &[1, 2, 2, 0, 0, 4];
+    APART, FILES, APART_COUNTS;
+    OVERLAPPING, FILES, OVERLAPPING_COUNTS;
+    ABOUT, FILES, &[6, 1, 1, 0];
+    &[], FILES, &[];
+    TWO, &[], &[0, 0];
+};
+
 #[test]
-fn no_ranges_and_no_extents(rt: HostRuntime) -> Result<(), Fail> {
-    let alloc = rt.alloc();
-    assert!(rt; touching(alloc, &[])?.is_empty());
-    let counts = references(alloc, TWO, &[], 4096)?;
-    assert!(rt; counts.as_slice() == [0, 0].as_slice());
-    Ok(())
+fn streams_are_counted_once_a_range(rt: HostRuntime) {
+    for (i, (ranges, extents, wanted)) in TOUCHED.iter().enumerate() {
+        let counts = references(rt.alloc(), ranges, extents, 4096)
+            .ok()
+            .expect(&rt, "memory");
+        assert!(rt; counts.as_slice() == *wanted, "row {i}");
+    }
 }
 
 // An extent of so many blocks of 4,096 bytes.
@@ -268,14 +252,13 @@ const LEFT: &[(u64, FileExt)] = table! {
 };
 
 #[test]
-fn each_extent_is_left_once(rt: HostRuntime) -> Result<(), Fail> {
-    let mut extents = REPEATED.to_vec(rt.alloc())?;
+fn each_extent_is_left_once(rt: HostRuntime) {
+    let mut extents = REPEATED.to_vec(rt.alloc()).ok().expect(&rt, "memory");
     thin(&mut extents);
     assert!(rt; extents.len() == LEFT.len());
     for one in LEFT {
         assert!(rt; extents.contains(one));
     }
-    Ok(())
 }
 
 // Puts a range after others.
@@ -303,21 +286,37 @@ fn put_extent(
     Ok(())
 }
 
+// Puts blocks 10 to 17, 30 and 31, and 50, of which a range ends where the next one begins.
+fn put_ranges(ranges: &mut Vec<NewRange>) -> Result<(), AllocError>
+    requires { AreShort ranges.old.items }
+    ensures { OnOk result (AreShort ranges.new.items) }
+{
+    put_range(ranges, 30, 2)?;
+    put_range(ranges, 10, 5)?;
+    put_range(ranges, 50, 1)?;
+    put_range(ranges, 15, 3)?;
+    Ok(())
+}
+
+// Puts blocks 11 and 12, 16, and 31 to 70; and a hole.
+fn put_extents(extents: &mut Vec<(u64, FileExt)>) -> Result<(), AllocError>
+    requires { AreShortExtents 4096 extents.old.items }
+    ensures { OnOk result (AreShortExtents 4096 extents.new.items) }
+{
+    put_extent(extents, 3, 31, 40)?;
+    put_extent(extents, 1, 11, 2)?;
+    put_extent(extents, 2, 0, 1000)?;
+    put_extent(extents, 1, 16, 1)?;
+    Ok(())
+}
+
 #[test]
 fn runs_that_no_extent_reaches(rt: HostRuntime) -> Result<(), Fail> {
     let alloc = rt.alloc();
-    // Blocks 10 to 17, 30 and 31, and 50, of which a range ends where the next one begins.
     let mut ranges = Vec::new(alloc);
-    put_range(&mut ranges, 30, 2)?;
-    put_range(&mut ranges, 10, 5)?;
-    put_range(&mut ranges, 50, 1)?;
-    put_range(&mut ranges, 15, 3)?;
-    // Blocks 11 and 12, 16, and 31 to 70; and a hole.
+    put_ranges(&mut ranges)?;
     let mut extents = Vec::new(alloc);
-    put_extent(&mut extents, 3, 31, 40)?;
-    put_extent(&mut extents, 1, 11, 2)?;
-    put_extent(&mut extents, 2, 0, 1000)?;
-    put_extent(&mut extents, 1, 16, 1)?;
+    put_extents(&mut extents)?;
     let runs = unreached(alloc, &ranges, &extents, 4096)?;
     assert!(rt; runs.as_slice() == [(10, 1), (13, 3), (17, 1), (30, 1)].as_slice());
     Ok(())

@@ -1,10 +1,10 @@
 // Small rings of checkpoints at three block sizes. The container has 32 blocks: descriptors in blocks 1 to 8, data in
 // blocks 9 to 12.
 use blk_source::MemSource;
-use nx_ring::{Checkpoint, RingFault, newest, ring};
+use nx_ring::{Checkpoint, RingFault, RingLine, newest, ring};
 use obj_base::{Feature, Stop, sum64};
 use std::alloc::{AllocError, Global};
-use std::test::Fail;
+use std::process::Abort;
 
 // The types of a superblock, of a map, and of a space manager.
 const SUPERBLOCK: u32 = 0x8000_0001;
@@ -140,14 +140,18 @@ impl Image {
         );
     }
 
+    fn put_block(&mut self, at: usize, block: Block) {
+        self.put(at, &block.bytes);
+    }
+
     // A checkpoint of transaction 1, with one map.
     fn first(&mut self, alloc: Global) -> Result<(), AllocError> {
         let stored = self.size;
         let size = stored as usize;
-        self.put(0, &zero(alloc, size, stored, 0)?.bytes);
-        self.put(1, &map(alloc, size, 1, 1, (stored, 1024, 10))?.bytes);
-        self.put(2, &zero(alloc, size, stored, 0)?.bytes);
-        self.put(10, &object(alloc, size, 1024, 1)?.bytes);
+        self.put_block(0, zero(alloc, size, stored, 0)?);
+        self.put_block(1, map(alloc, size, 1, 1, (stored, 1024, 10))?);
+        self.put_block(2, zero(alloc, size, stored, 0)?);
+        self.put_block(10, object(alloc, size, 1024, 1)?);
         Ok(())
     }
 
@@ -168,30 +172,70 @@ impl Image {
         };
         let oid = if broken == Twice { 1024 } else { 1025 };
         let start = if broken == End { 3 } else { 2 };
-        self.put(3, &map(alloc, size, 3, 2, (long, 1024, 12))?.bytes);
-        self.put(4, &map(alloc, size, 4, 2, (stored, oid, paddr))?.bytes);
-        self.put(5, &superblock(alloc, size, stored, 0, (2, start, 3))?.bytes);
+        self.put_block(3, map(alloc, size, 3, 2, (long, 1024, 12))?);
+        self.put_block(4, map(alloc, size, 4, 2, (stored, oid, paddr))?);
+        self.put_block(5, superblock(alloc, size, stored, 0, (2, start, 3))?);
         let there = if broken == Oid { 7 } else { oid };
         let xid = if broken == Xid { 3 } else { 2 };
-        self.put(11, &object(alloc, size, there, xid)?.bytes);
-        self.long_object(alloc, broken)
-    }
-
-    // An object of two blocks, the first in block 12 and the second in block 9. Where two mappings share a block, the
-    // second half is an object of its own.
-    fn long_object(&mut self, alloc: Global, broken: Broken) -> Result<(), AllocError> {
-        let size = self.size as usize;
-        let mut both = Block::new(alloc, size.saturating_mul(2))?;
-        if broken == Shared {
-            put(&mut both.bytes, size, &object(alloc, size, 1025, 2)?.bytes);
-        } else {
-            put(&mut both.bytes, size, b"wrapped");
-        }
-        both.seal(1024, 2, MANAGER);
-        self.put(12, both.bytes.get(..size).unwrap_or(&[]));
-        self.put(9, both.bytes.get(size..).unwrap_or(&[]));
+        self.put_block(11, object(alloc, size, there, xid)?);
+        self.put_halves(long_object(alloc, size, broken)?);
         Ok(())
     }
+
+    // Eight candidates without maps, of these transactions; those of `broken` don't end at their superblocks.
+    fn put_bare(&mut self, alloc: Global, xids: [u64; 8], broken: u64) -> Result<(), AllocError> {
+        self.put_block(0, zero(alloc, 4096, 4096, 0)?);
+        for index in 0u32..8 {
+            let xid = xids.get(index as usize).copied().unwrap_or(0);
+            let (start, blocks) = if xid == broken { (8, 0) } else { (index, 1) };
+            let candidate = superblock(alloc, 4096, 4096, 0, (xid, start, blocks))?;
+            self.put_block((index as usize).saturating_add(1), candidate);
+        }
+        Ok(())
+    }
+
+    // Four candidates, each behind its map. All map one object of four blocks.
+    fn put_crowd(&mut self, alloc: Global) -> Result<(), AllocError> {
+        self.put_block(0, zero(alloc, 4096, 4096, 0)?);
+        for i in 0u32..4 {
+            let at = (i as usize).saturating_mul(2).saturating_add(1);
+            let xid = u64::from(i).saturating_add(2);
+            self.put_block(at, map(alloc, 4096, at as u64, xid, (16384, 1024, 9))?);
+            let candidate = superblock(alloc, 4096, 4096, 0, (xid, i.saturating_mul(2), 2))?;
+            self.put_block(at.saturating_add(1), candidate);
+        }
+        Ok(())
+    }
+
+    // An object of two blocks, the first in block 12 and the second in block 9.
+    fn put_halves(&mut self, object: Block) {
+        let size = self.size as usize;
+        self.put(12, object.bytes.get(..size).unwrap_or(&[]));
+        self.put(9, object.bytes.get(size..).unwrap_or(&[]));
+    }
+}
+
+// Puts what the second half of an object of two blocks has: where two mappings share a block, an object of its own.
+fn put_second_half(
+    alloc: Global,
+    object_of_two: &mut Block,
+    size: usize,
+    broken: Broken,
+) -> Result<(), AllocError> {
+    if broken == Shared {
+        let shared = object(alloc, size, 1025, 2)?;
+        put(&mut object_of_two.bytes, size, &shared.bytes);
+    } else {
+        put(&mut object_of_two.bytes, size, b"wrapped");
+    }
+    Ok(())
+}
+
+fn long_object(alloc: Global, size: usize, broken: Broken) -> Result<Block, AllocError> {
+    let mut both = Block::new(alloc, size.saturating_mul(2))?;
+    put_second_half(alloc, &mut both, size, broken)?;
+    both.seal(1024, 2, MANAGER);
+    Ok(both)
 }
 
 fn rings(alloc: Global, size: u32, broken: Broken) -> Result<Image, AllocError> {
@@ -205,43 +249,54 @@ fn rings(alloc: Global, size: u32, broken: Broken) -> Result<Image, AllocError> 
     Ok(image)
 }
 
-// The newest checkpoint of an image.
-fn newest_of(alloc: Global, image: Vec<u8>) -> Result<Checkpoint, Stop<RingFault>> {
-    newest(alloc, &mut MemSource::new(image, Vec::new(alloc)))
+// A source of a ring, and the number of the read that fails, if any does.
+fn ring_source(rt: &impl Abort, alloc: Global, size: u32, broken: Broken, fails: u64) -> MemSource {
+    let image = rings(alloc, size, broken).ok().expect(rt, "memory");
+    let fails = vec![in alloc; fails].ok().expect(rt, "memory");
+    MemSource::new(image.bytes, fails)
 }
 
 // Each candidate's index, block, transaction, and the index and the number of its descriptors.
-const CANDIDATES: [(u32, u64, u64, (u32, u32)); 2] = [(1, 2, 1, (0, 2)), (4, 5, 2, (2, 3))];
+const CANDIDATES: [(u32, u64, u64, u32, u32); 2] = [(1, 2, 1, 0, 2), (4, 5, 2, 2, 3)];
+
+// Whether these are the two candidates.
+fn are_candidates(lines: &[RingLine]) -> bool {
+    for (at, (index, block, xid, desc_index, desc_len)) in lines.iter().zip(&CANDIDATES) {
+        if at.index != *index
+            || at.block != *block
+            || at.xid != *xid
+            || at.desc_index != *desc_index
+            || at.desc_len != *desc_len
+        {
+            return false;
+        }
+    }
+    lines.len() == CANDIDATES.len()
+}
 
 // The bytes of a block, and the reads.
 const LIST_READS: [(u32, u64); 3] = [(4096, 9), (16384, 10), (65536, 10)];
 
 #[test]
-fn lists_candidates_in_the_fewest_reads(rt: HostRuntime) -> Result<(), Fail> {
+fn lists_candidates_in_the_fewest_reads(rt: HostRuntime) {
     let alloc = rt.alloc();
     for (size, reads) in LIST_READS {
-        let image = rings(alloc, size, Nothing)?;
-        let mut source = MemSource::new(image.bytes, Vec::new(alloc));
-        let lines = ring(alloc, &mut source).map_err(|_| "stopped")?;
-        let told = lines
-            .iter()
-            .map(|at| (at.index, at.block, at.xid, (at.desc_index, at.desc_len)))
-            .collect::<Vec<_>>(alloc)?;
+        let mut source = ring_source(&rt, alloc, size, Nothing, 0);
+        let lines = ring(alloc, &mut source).ok().expect(&rt, "stopped");
         assert!(rt;
-            told.as_slice() == CANDIDATES.as_slice() && source.read_count() == reads,
+            are_candidates(&lines) && source.read_count() == reads,
             "{size}"
         );
     }
-    Ok(())
 }
-
-// The bytes of a block.
-const SIZES: [u32; 3] = [4096, 16384, 65536];
 
 // Whether this is the second checkpoint, of a ring with blocks of so many bytes.
 fn is_second(checkpoint: &Checkpoint, size: u32) -> bool {
-    (checkpoint.xid(), checkpoint.block(), checkpoint.index()) == (2, 5, 4)
-        && (checkpoint.maps(), checkpoint.mapped()) == (2, 2)
+    checkpoint.xid() == 2
+        && checkpoint.block() == 5
+        && checkpoint.index() == 4
+        && checkpoint.maps() == 2
+        && checkpoint.mapped() == 2
         && checkpoint.skipped().is_empty()
         && checkpoint.nx().block_count() == 32
         && checkpoint.site().block_size == size
@@ -256,32 +311,36 @@ fn has_long_object(checkpoint: &Checkpoint, size: usize) -> bool {
         && checkpoint.object_block(7) == None
 }
 
+// The bytes of a block, and the reads: block 0, the 8 descriptors, 2 maps and 3 blocks of objects; then the superblock and
+// these 3 blocks again.
+const NEWEST_READS: [(u32, u64); 3] = [(4096, 18), (16384, 19), (65536, 19)];
+
 #[test]
-fn takes_the_newest(rt: HostRuntime) -> Result<(), Fail> {
+fn takes_the_newest_that_is_read_twice_and_the_older_not_at_all(rt: HostRuntime) {
     let alloc = rt.alloc();
-    for size in SIZES {
-        let image = rings(alloc, size, Nothing)?;
-        let checkpoint = newest_of(alloc, image.bytes).map_err(|_| "stopped")?;
+    for (size, reads) in NEWEST_READS {
+        let mut source = ring_source(&rt, alloc, size, Nothing, 0);
+        let checkpoint = newest(alloc, &mut source).ok().expect(&rt, "stopped");
         assert!(rt;
-            is_second(&checkpoint, size) && has_long_object(&checkpoint, size as usize),
+            is_second(&checkpoint, size)
+                && has_long_object(&checkpoint, size as usize)
+                && source.read_count() == reads,
             "{size}"
         );
     }
-    Ok(())
 }
 
 // How the second checkpoint is broken, once in each way.
 const FLAWS: [Broken; 8] = [End, MapSum, Size, Oid, Place, Twice, Shared, Xid];
 
 #[test]
-fn takes_the_older_where_the_newer_is_broken(rt: HostRuntime) -> Result<(), Fail> {
+fn takes_the_older_where_the_newer_is_broken(rt: HostRuntime) {
     let alloc = rt.alloc();
     for broken in FLAWS {
-        let image = rings(alloc, 4096, broken)?;
-        let checkpoint = newest_of(alloc, image.bytes).map_err(|_| "stopped")?;
+        let mut source = ring_source(&rt, alloc, 4096, broken, 0);
+        let checkpoint = newest(alloc, &mut source).ok().expect(&rt, "stopped");
         assert!(rt; checkpoint.xid() == 1 && checkpoint.skipped() == [(4u32, 2u64)].as_slice());
     }
-    Ok(())
 }
 
 // A block 0: the block size that it gives, the bit of an area that isn't contiguous, the bytes of the image that are
@@ -309,71 +368,50 @@ const ZEROS: [Zero; 6] = [
     (16384, 0x8000_0000, WHOLE, APART),
 ];
 
+// A source of a ring with this block 0, of which so many bytes are kept.
+fn cut_ring(alloc: Global, stored: u32, bit: u32, kept: usize) -> Result<MemSource, AllocError> {
+    let mut image = rings(alloc, 16384, Nothing)?;
+    image.put_block(0, zero(alloc, 16384, stored, bit)?);
+    image.bytes.truncate(kept);
+    Ok(MemSource::new(image.bytes, Vec::new(alloc)))
+}
+
 #[test]
-fn the_first_test_that_fails_is_answered(rt: HostRuntime) -> Result<(), Fail> {
+fn the_first_test_that_fails_is_answered(rt: HostRuntime) {
     let alloc = rt.alloc();
     for (stored, bit, kept, stop) in ZEROS {
-        let mut image = rings(alloc, 16384, Nothing)?;
-        image.put(0, &zero(alloc, 16384, stored, bit)?.bytes);
-        image.bytes.truncate(kept);
-        let mut source = MemSource::new(image.bytes, Vec::new(alloc));
+        let mut source = cut_ring(alloc, stored, bit, kept)
+            .ok()
+            .expect(&rt, "memory");
         assert!(rt;
-            ring(alloc, &mut source).is_err_and(|other| other == stop)
-                && newest(alloc, &mut source).is_err_and(|other| other == stop),
+            ring(alloc, &mut source).err() == Some(stop)
+                && newest(alloc, &mut source).err() == Some(stop),
             "{stored} {kept}"
         );
     }
-    Ok(())
 }
 
 // Reads that fail.
 const READS: [u64; 7] = [1, 2, 3, 12, 15, 16, 19];
 
 #[test]
-fn a_failed_read_stops_it(rt: HostRuntime) -> Result<(), Fail> {
+fn a_failed_read_stops_it(rt: HostRuntime) {
     let alloc = rt.alloc();
     for read in READS {
-        let image = rings(alloc, 16384, Nothing)?;
-        let mut source = MemSource::new(image.bytes, vec![in alloc; read]?);
+        let mut source = ring_source(&rt, alloc, 16384, Nothing, read);
         assert!(rt;
-            newest(alloc, &mut source).is_err_and(|stop| stop == Stop::ReadFault),
+            newest(alloc, &mut source).err() == Some(Stop::ReadFault),
             "{read}"
         );
     }
-    Ok(())
-}
-
-// The bytes of a block, and the reads: block 0, the 8 descriptors, 2 maps and 3 blocks of objects; then the superblock and
-// these 3 blocks again.
-const NEWEST_READS: [(u32, u64); 3] = [(4096, 18), (16384, 19), (65536, 19)];
-
-#[test]
-fn the_newest_is_read_twice_and_the_older_not_at_all(rt: HostRuntime) -> Result<(), Fail> {
-    let alloc = rt.alloc();
-    for (size, reads) in NEWEST_READS {
-        let image = rings(alloc, size, Nothing)?;
-        let mut source = MemSource::new(image.bytes, Vec::new(alloc));
-        let checkpoint = newest(alloc, &mut source).map_err(|_| "stopped")?;
-        assert!(rt;
-            checkpoint.xid() == 2 && source.read_count() == reads,
-            "{size}"
-        );
-    }
-    Ok(())
 }
 
 // A ring of eight candidates without maps, of these transactions; those of `broken` don't end at their superblocks.
-fn bare_ring(alloc: Global, xids: [u64; 8], broken: u64) -> Result<Image, AllocError> {
+fn bare_ring(alloc: Global, xids: [u64; 8], broken: u64) -> Result<MemSource, AllocError> {
     let bytes = vec![in alloc; 0u8; 4096 * 32]?;
     let mut image = Image { bytes, size: 4096 };
-    image.put(0, &zero(alloc, 4096, 4096, 0)?.bytes);
-    for index in 0u32..8 {
-        let xid = xids.get(index as usize).copied().unwrap_or(0);
-        let (start, blocks) = if xid == broken { (8, 0) } else { (index, 1) };
-        let candidate = superblock(alloc, 4096, 4096, 0, (xid, start, blocks))?;
-        image.put((index as usize).saturating_add(1), &candidate.bytes);
-    }
-    Ok(image)
+    image.put_bare(alloc, xids, broken)?;
+    Ok(MemSource::new(image.bytes, Vec::new(alloc)))
 }
 
 // Transactions, the one that is broken, and what is the newest: its index, its transaction, those skipped.
@@ -387,42 +425,31 @@ const BARE: [Bare; 4] = [
 ];
 
 #[test]
-fn the_greatest_transaction_comes_first_and_then_the_least_index(
-    rt: HostRuntime,
-) -> Result<(), Fail> {
+fn the_greatest_transaction_comes_first_and_then_the_least_index(rt: HostRuntime) {
     let alloc = rt.alloc();
     for (xids, broken, index, xid, skipped) in BARE {
-        let image = bare_ring(alloc, xids, broken)?;
-        let mut source = MemSource::new(image.bytes, Vec::new(alloc));
-        let checkpoint = newest(alloc, &mut source).map_err(|_| "stopped")?;
+        let mut source = bare_ring(alloc, xids, broken).ok().expect(&rt, "memory");
+        let checkpoint = newest(alloc, &mut source).ok().expect(&rt, "stopped");
         // The reads are those of block 0, of the 8 descriptors, and of the superblock again.
         assert!(rt;
-            (checkpoint.index(), checkpoint.xid()) == (index, xid)
+            checkpoint.index() == index
+                && checkpoint.xid() == xid
                 && checkpoint.skipped() == skipped
                 && source.read_count() == 10
         );
     }
-    Ok(())
 }
 
 // Four candidates, each behind its map. All map the one object of four blocks that fills the data area, of which the oid
 // or the last byte is wrong.
-fn crowd(alloc: Global, oid: u64, last: u8) -> Result<Image, AllocError> {
+fn crowd(alloc: Global, oid: u64, last: u8) -> Result<MemSource, AllocError> {
     let bytes = vec![in alloc; 0u8; 4096 * 32]?;
     let mut image = Image { bytes, size: 4096 };
-    image.put(0, &zero(alloc, 4096, 4096, 0)?.bytes);
-    for i in 0u32..4 {
-        let at = (i as usize).saturating_mul(2).saturating_add(1);
-        let xid = u64::from(i).saturating_add(2);
-        let mapped = map(alloc, 4096, at as u64, xid, (16384, 1024, 9))?;
-        image.put(at, &mapped.bytes);
-        let candidate = superblock(alloc, 4096, 4096, 0, (xid, i.saturating_mul(2), 2))?;
-        image.put(at.saturating_add(1), &candidate.bytes);
-    }
+    image.put_crowd(alloc)?;
     let mut object = object(alloc, 16384, oid, 2)?;
     put(&mut object.bytes, 16383, &[last]);
-    image.put(9, &object.bytes);
-    Ok(image)
+    image.put_block(9, object);
+    Ok(MemSource::new(image.bytes, Vec::new(alloc)))
 }
 
 // The oid of the object, its last byte, and the reads: block 0, the 8 descriptors, 4 maps; the first block for each
@@ -433,27 +460,22 @@ const FLAWED: [(u64, u8, u64); 2] = [(7, 0, 17), (1024, 1, 17)];
 const NO_CHECKPOINT: Stop<RingFault> = Stop::Found(RingFault::NoCheckpoint);
 
 #[test]
-fn a_flawed_object_is_read_to_its_first_flaw_and_once(rt: HostRuntime) -> Result<(), Fail> {
+fn a_flawed_object_is_read_to_its_first_flaw_and_once(rt: HostRuntime) {
     let alloc = rt.alloc();
     for (oid, last, reads) in FLAWED {
-        let image = crowd(alloc, oid, last)?;
-        let mut source = MemSource::new(image.bytes, Vec::new(alloc));
+        let mut source = crowd(alloc, oid, last).ok().expect(&rt, "memory");
         assert!(rt;
-            newest(alloc, &mut source).is_err_and(|other| other == NO_CHECKPOINT)
-                && source.read_count() == reads,
+            newest(alloc, &mut source).err() == Some(NO_CHECKPOINT) && source.read_count() == reads,
             "{oid}"
         );
     }
-    Ok(())
 }
 
 // One map, the four blocks of the object, then the superblock and the four blocks again.
 #[test]
-fn a_sound_object_is_read_twice(rt: HostRuntime) -> Result<(), Fail> {
+fn a_sound_object_is_read_twice(rt: HostRuntime) {
     let alloc = rt.alloc();
-    let image = crowd(alloc, 1024, 0)?;
-    let mut source = MemSource::new(image.bytes, Vec::new(alloc));
-    let checkpoint = newest(alloc, &mut source).map_err(|_| "stopped")?;
-    assert!(rt; (checkpoint.xid(), checkpoint.index()) == (5, 7) && source.read_count() == 19);
-    Ok(())
+    let mut source = crowd(alloc, 1024, 0).ok().expect(&rt, "memory");
+    let checkpoint = newest(alloc, &mut source).ok().expect(&rt, "stopped");
+    assert!(rt; checkpoint.xid() == 5 && checkpoint.index() == 7 && source.read_count() == 19);
 }

@@ -76,6 +76,20 @@ fn open(alloc: Global, src: &mut MemSource, id: u64, size: u64) -> Result<Stream
     )
 }
 
+// Asserts what a stream of the file has around its end and around the end of the hole.
+fn assert_bytes(rt: &impl Abort, stream: &Stream, src: &mut MemSource)
+    requires { IsSiteFor stream.now.site (length src.old.bytes) }
+{
+    let mut into = [1u8; 20];
+    assert!(rt;
+        stream.read_into(src, 4990, &mut into) == Ok(10)
+            && into == *b"AAAAAAAAAA\x01\x01\x01\x01\x01\x01\x01\x01\x01\x01"
+            && stream.read_into(src, 5000, &mut into) == Ok(0)
+            && stream.read_into(src, 4086, &mut into) == Ok(20)
+            && into == *b"\0\0\0\0\0\0\0\0\0\0AAAAAAAAAA"
+    );
+}
+
 #[test]
 fn a_hole_is_zeros_and_the_size_is_the_end(rt: HostRuntime) -> Result<(), Fail> {
     let alloc = rt.alloc();
@@ -83,14 +97,7 @@ fn a_hole_is_zeros_and_the_size_is_the_end(rt: HostRuntime) -> Result<(), Fail> 
     let Ok(stream) = open(alloc, &mut src, FILE, SIZE) else {
         panic!(rt; "there is no stream");
     };
-    let mut into = [1u8; 20];
-    assert!(rt;
-        stream.read_into(&mut src, 4990, &mut into)? == 10
-            && into == *b"AAAAAAAAAA\x01\x01\x01\x01\x01\x01\x01\x01\x01\x01"
-            && stream.read_into(&mut src, 5000, &mut into)? == 0
-            && stream.read_into(&mut src, 4086, &mut into)? == 20
-            && into == *b"\0\0\0\0\0\0\0\0\0\0AAAAAAAAAA"
-    );
+    assert_bytes(&rt, &stream, &mut src);
     Ok(())
 }
 
@@ -117,12 +124,16 @@ fn a_copy_goes_in_pieces_up_to_a_refused_one(rt: HostRuntime) -> Result<(), Fail
     Ok(())
 }
 
+const ORDER: Option<Stop<StreamStop>> = Some(Stop::Found(StreamStop::Order));
+
+const OUTSIDE: Option<Stop<StreamStop>> = Some(Stop::Found(StreamStop::Outside));
+
 // A place in the extent, the byte that it gets, and what stops the stream: a length of 4,097 and of 0; blocks 313 and 255,
 // of which there are 256, and none.
-const WRONG: [(usize, u8, Option<StreamStop>); 5] = [
-    (0, 1, Some(StreamStop::Order)),
-    (1, 0, Some(StreamStop::Order)),
-    (9, 1, Some(StreamStop::Outside)),
+const WRONG: [(usize, u8, Option<Stop<StreamStop>>); 5] = [
+    (0, 1, ORDER),
+    (1, 0, ORDER),
+    (9, 1, OUTSIDE),
     (8, 255, None),
     (8, 0, None),
 ];
@@ -131,10 +142,8 @@ const WRONG: [(usize, u8, Option<StreamStop>); 5] = [
 fn extents_that_are_wrong(rt: HostRuntime) -> Result<(), Fail> {
     let alloc = rt.alloc();
     for (at, byte, stop) in WRONG {
-        match open(alloc, &mut edited(alloc, at, byte)?, FILE, SIZE) {
-            Ok(_) => assert!(rt; stop.is_none(), "{at}"),
-            Err(other) => assert!(rt; Some(other) == stop.map(Stop::Found), "{at}"),
-        }
+        let mut src = edited(alloc, at, byte)?;
+        assert!(rt; open(alloc, &mut src, FILE, SIZE).err() == stop, "{at}");
     }
     Ok(())
 }

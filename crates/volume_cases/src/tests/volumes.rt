@@ -2,7 +2,7 @@
 
 mod loads;
 
-use blk_source::{Bytes, MemSource};
+use blk_source::MemSource;
 use fs_name::Names;
 use img_make::{Plan, Sample, edit, made, make_with, sample, table, write};
 use nx_ring::{RingFault, newest};
@@ -47,8 +47,9 @@ fn changed(alloc: Global, plan: &Plan, edits: &[Edit], sealed: bool) -> Result<V
     Ok(image)
 }
 
-fn edited(alloc: Global, edits: &[Edit], sealed: bool) -> Result<Vec<u8>, Fail> {
-    let plan = sample(alloc, Sample::S)?;
+// A sample container, changed by these edits.
+fn edited(alloc: Global, of: Sample, edits: &[Edit], sealed: bool) -> Result<Vec<u8>, Fail> {
+    let plan = sample(alloc, of)?;
     changed(alloc, &plan, edits, sealed)
 }
 
@@ -75,15 +76,20 @@ const GAP: &[Edit] = table! {
     SECOND, 965, 0x01;
 };
 
-// The small container with a second volume, changed by these edits.
-fn with_a_gap(alloc: Global) -> Result<Vec<u8>, Fail> {
-    let mut plan = sample(alloc, Sample::S)?;
+// Adds a second volume to the plan of the small container.
+fn add_second(alloc: Global, plan: &mut Plan) -> Result<(), Fail> {
     let mut other = sample(alloc, Sample::S)?;
     let Some(mut volume) = other.volumes.pop() else {
         return Err(Fail::from("the sample has no volume"));
     };
     volume.name = b"Second".to_vec(alloc)?;
-    plan.volumes.push(volume)?;
+    Ok(plan.volumes.push(volume)?)
+}
+
+// The small container with a second volume, changed by these edits.
+fn with_a_gap(alloc: Global) -> Result<Vec<u8>, Fail> {
+    let mut plan = sample(alloc, Sample::S)?;
+    add_second(alloc, &mut plan)?;
     changed(alloc, &plan, GAP, true)
 }
 
@@ -96,30 +102,25 @@ fn volumes_in(alloc: Global, src: &mut MemSource) -> Result<Vec<VolHead>, Stop<V
     }
 }
 
-fn volumes(alloc: Global, image: Vec<u8>, fails: Vec<u64>) -> Result<Vec<VolHead>, Stop<VolStop>> {
-    volumes_in(alloc, &mut MemSource::new(image, fails))
+fn volumes(alloc: Global, image: Vec<u8>) -> Result<Vec<VolHead>, Stop<VolStop>> {
+    volumes_in(alloc, &mut MemSource::new(image, Vec::new(alloc)))
 }
 
-fn assert_small(rt: &impl Abort, alloc: Global, image: Vec<u8>) -> Result<(), Fail> {
-    let Ok(heads) = volumes(alloc, image, Vec::new(alloc)) else {
-        panic!(rt; "there are no heads");
-    };
-    assert!(rt; heads.len() == 1);
-    let head = &heads[0];
-    assert!(rt;
-        (head.slot, head.oid, head.block) == (0, 1026, 51)
-            && head.uuid == UUID
-            && (head.role, head.incompat, head.snapshots) == (0, 1, 0)
-            && head.name == Bytes::from_slice(alloc, b"Small")?
-    );
-    Ok(())
+// Whether this is the head of the small container's volume.
+fn is_small(head: &VolHead) -> bool {
+    head.slot == 0
+        && head.oid == 1026
+        && head.block == 51
+        && head.uuid == UUID
+        && head.role == 0
+        && head.incompat == 1
+        && head.snapshots == 0
+        && head.name.as_slice() == b"Small".as_slice()
 }
 
-fn assert_stop(rt: &impl Abort, alloc: Global, image: Vec<u8>, stop: Stop<VolStop>) {
-    match volumes(alloc, image, Vec::new(alloc)) {
-        Ok(_) => panic!(rt; "there are heads"),
-        Err(other) => assert!(rt; other == stop),
-    }
+fn assert_small(rt: &impl Abort, alloc: Global, image: Vec<u8>) {
+    let heads = volumes(alloc, image).ok().expect(rt, "there are no heads");
+    assert!(rt; heads.len() == 1 && is_small(&heads[0]));
 }
 
 // The volume's flags become 0.
@@ -128,46 +129,75 @@ const NO_FLAGS: &[Edit] = &[(SUPER, 264, 0)];
 #[test]
 fn the_small_volume(rt: HostRuntime) -> Result<(), Fail> {
     let alloc = rt.alloc();
-    assert_small(&rt, alloc, edited(alloc, &[], true)?)?;
-    assert_small(&rt, alloc, edited(alloc, NO_FLAGS, true)?)?;
-    assert_small(&rt, alloc, large(alloc)?)
+    assert_small(&rt, alloc, edited(alloc, Sample::S, &[], true)?);
+    assert_small(&rt, alloc, edited(alloc, Sample::S, NO_FLAGS, true)?);
+    assert_small(&rt, alloc, large(alloc)?);
+    Ok(())
+}
+
+fn assert_two(rt: &impl Abort, heads: &[VolHead]) {
+    assert!(rt; heads.len() == 2);
+    let first = &heads[0];
+    assert!(rt;
+        first.slot == 0
+            && first.oid == 1026
+            && first.block == 51
+            && first.role == 0x40
+            && first.incompat == 1
+            && first.snapshots == 0
+            && first.names() == Names::Folded
+    );
+    let second = &heads[1];
+    assert!(rt;
+        second.slot == 3
+            && second.oid == 1031
+            && second.block == 57
+            && second.role == 0x102
+            && second.incompat == 0
+            && second.snapshots == 5
+            && second.names() == Names::Exact
+            && second.name.as_slice() == b"Second".as_slice()
+    );
 }
 
 #[test]
 fn two_volumes_with_an_empty_slot_between(rt: HostRuntime) -> Result<(), Fail> {
-    let alloc = rt.alloc();
-    let Ok(heads) = volumes(alloc, with_a_gap(alloc)?, Vec::new(alloc)) else {
-        panic!(rt; "there are no heads");
-    };
-    assert!(rt; heads.len() == 2);
-    let first = &heads[0];
-    let second = &heads[1];
-    assert!(rt;
-        (first.slot, first.oid, first.block) == (0, 1026, 51)
-            && (first.role, first.incompat, first.snapshots) == (0x40, 1, 0)
-            && first.names() == Names::Folded
-            && (second.slot, second.oid, second.block) == (3, 1031, 57)
-            && (second.role, second.incompat, second.snapshots) == (0x102, 0, 5)
-            && second.names() == Names::Exact
-            && second.name == Bytes::from_slice(alloc, b"Second")?
-    );
+    let image = with_a_gap(rt.alloc())?;
+    let heads = volumes(rt.alloc(), image)
+        .ok()
+        .expect(&rt, "there are no heads");
+    assert_two(&rt, &heads);
     Ok(())
+}
+
+// A source of the small container, and the number of the read that fails, if any does.
+fn small_source(alloc: Global, fails: u64) -> Result<MemSource, Fail> {
+    let image = edited(alloc, Sample::S, &[], true)?;
+    Ok(MemSource::new(image, vec![in alloc; fails]?))
+}
+
+// The reads of the small container's heads.
+fn reads_of_small(rt: &impl Abort, alloc: Global) -> Result<u64, Fail> {
+    let mut src = small_source(alloc, 0)?;
+    assert!(rt; volumes_in(alloc, &mut src).is_ok());
+    let reads = src.read_count();
+    drop(src);
+    Ok(reads)
 }
 
 // The last three reads are those of the container's map, of the node of its records, and of the volume's superblock.
 #[test]
 fn a_failed_read_stops_them(rt: HostRuntime) -> Result<(), Fail> {
     let alloc = rt.alloc();
-    let mut src = MemSource::new(edited(alloc, &[], true)?, Vec::new(alloc));
-    assert!(rt; volumes_in(alloc, &mut src).is_ok());
-    let last = src.read_count();
+    let last = reads_of_small(&rt, alloc)?;
     assert!(rt; last > 3);
     for before in 0..3u64 {
         let read = last.saturating_sub(before);
-        let image = edited(alloc, &[], true)?;
-        let fails = vec![in alloc; read]?;
-        let stop = volumes(alloc, image, fails).err();
-        assert!(rt; stop == Some(Stop::ReadFault), "{read}");
+        let mut src = small_source(alloc, read)?;
+        assert!(rt;
+            volumes_in(alloc, &mut src).err() == Some(Stop::ReadFault),
+            "{read}"
+        );
     }
     Ok(())
 }
@@ -184,8 +214,8 @@ const FAULTS: &[(Edit, bool, VolStop)] = table! {
 fn what_stops_the_volumes(rt: HostRuntime) -> Result<(), Fail> {
     let alloc = rt.alloc();
     for (edit, sealed, fault) in FAULTS {
-        let image = edited(alloc, &[*edit], *sealed)?;
-        assert_stop(&rt, alloc, image, Stop::Found(*fault));
+        let image = edited(alloc, Sample::S, &[*edit], *sealed)?;
+        assert!(rt; volumes(alloc, image).err() == Some(Stop::Found(*fault)));
     }
     Ok(())
 }
@@ -201,8 +231,9 @@ const FEATURES: [(Edit, Feature, u64); 3] = [
 fn features_of_the_map_and_of_its_record(rt: HostRuntime) -> Result<(), Fail> {
     let alloc = rt.alloc();
     for (edit, feature, block) in FEATURES {
-        let image = edited(alloc, &[edit], true)?;
-        assert_stop(&rt, alloc, image, Stop::Unsupported { feature, block });
+        let image = edited(alloc, Sample::S, &[edit], true)?;
+        let stop = Stop::Unsupported { feature, block };
+        assert!(rt; volumes(alloc, image).err() == Some(stop));
     }
     Ok(())
 }

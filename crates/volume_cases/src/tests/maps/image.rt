@@ -71,7 +71,14 @@ fn items(alloc: Global, plan: &Node) -> Result<Vec<Item>, AllocError> {
     Ok(items)
 }
 
-fn node_block(alloc: Global, oid: u64, plan: &Node) -> Result<Vec<u8>, AllocError> {
+// Adds the block of a node with these entries.
+fn add_node(
+    alloc: Global,
+    image: &mut Vec<u8>,
+    oid: u64,
+    plan: &Node,
+    items: &[Item],
+) -> Result<(), AllocError> {
     let head = NodeHead {
         oid,
         xid: 1,
@@ -83,18 +90,30 @@ fn node_block(alloc: Global, oid: u64, plan: &Node) -> Result<Vec<u8>, AllocErro
             longest_value: 0,
         }),
     };
-    let items = items(alloc, plan)?;
-    node(alloc, 4096, &plan.tree, &head, &items)?.ok_or(AllocError)
+    match node(alloc, 4096, &plan.tree, &head, items)? {
+        Some(block) => image.extend_from_slice(&block),
+        None => Err(AllocError),
+    }
+}
+
+// Adds the block of a map, those of some nodes, and zeros up to eight blocks.
+fn add_blocks(
+    alloc: Global,
+    image: &mut Vec<u8>,
+    map: Map,
+    nodes: &[Node],
+) -> Result<(), AllocError> {
+    image.extend_from_slice(&map_block(alloc, map)?)?;
+    for (i, plan) in nodes.iter().enumerate() {
+        let oid = (i as u64).saturating_add(2);
+        add_node(alloc, image, oid, plan, &items(alloc, plan)?)?;
+    }
+    image.resize(image.len().max(32768), 0)
 }
 
 /// The container with this map in block 1 and these nodes in the blocks from 2 on.
 pub fn map_image(alloc: Global, map: Map, nodes: &[Node]) -> Result<Vec<u8>, AllocError> {
     let mut image = vec![in alloc; 0u8; 4096]?;
-    image.extend_from_slice(&map_block(alloc, map)?)?;
-    for (i, plan) in nodes.iter().enumerate() {
-        let oid = (i as u64).saturating_add(2);
-        image.extend_from_slice(&node_block(alloc, oid, plan)?)?;
-    }
-    image.resize(image.len().max(32768), 0)?;
+    add_blocks(alloc, &mut image, map, nodes)?;
     Ok(image)
 }

@@ -1,11 +1,11 @@
 // The volume of the sample container with two snapshots, and small edits of it.
 
-use super::{Edit, SUPER, changed};
-use blk_source::{Bytes, MemSource};
+use super::{Edit, SUPER, edited};
+use blk_source::MemSource;
 use bt_cursor::WalkFault;
 use bt_node::NodeFault;
 use fs_name::Names;
-use img_make::{Sample, sample, table};
+use img_make::{Sample, table};
 use nx_ring::{Checkpoint, newest};
 use obj_base::{Feature, HeadFault, Stop, Within};
 use omap_map::OmapFault;
@@ -13,7 +13,7 @@ use std::alloc::Global;
 use std::process::Abort;
 use std::test::Fail;
 use vol_view::VolStop::*;
-use vol_view::{VolStop, Volume, by_name, heads, live, load, past};
+use vol_view::{Snapshot, VolStop, Volume, by_name, heads, live, load, past};
 
 // The volume's map, the root of its snapshot metadata tree, the superblock of its first snapshot, and the root of the
 // map's tree of snapshots.
@@ -31,11 +31,6 @@ const RECORD_2: usize = 4096 - 40 - 53;
 const RECORD_4: usize = RECORD_2 - 53;
 
 const NAME_2: usize = RECORD_4 - 8;
-
-fn edited(alloc: Global, edits: &[Edit], sealed: bool) -> Result<Vec<u8>, Fail> {
-    let plan = sample(alloc, Sample::V)?;
-    changed(alloc, &plan, edits, sealed)
-}
 
 // The first volume of an image by its newest checkpoint, and that; a fault of the ring or of the heads is no answer of
 // these tests.
@@ -55,40 +50,58 @@ fn loaded(alloc: Global, image: Vec<u8>) -> Result<(Volume, Checkpoint), Stop<Vo
     Ok((volume, cp))
 }
 
-fn assert_snapshots(rt: &impl Abort, alloc: Global, volume: &Volume) -> Result<(), Fail> {
-    assert!(rt; volume.snaps.len() == 2);
-    let first = &volume.snaps[0];
-    let last = &volume.snaps[1];
+fn assert_snapshots(rt: &impl Abort, snaps: &[Snapshot]) {
+    assert!(rt; snaps.len() == 2);
+    let first = &snaps[0];
+    let last = &snaps[1];
     assert!(rt;
-        (first.xid, first.super_block) == (2, 60)
-            && (first.extents_root, first.root_oid) == (61, 1028)
-            && first.name == Bytes::from_slice(alloc, b"s2")?
-            && (last.xid, last.super_block) == (4, 62)
-            && (last.extents_root, last.root_oid) == (63, 1028)
+        first.xid == 2
+            && first.super_block == 60
+            && first.extents_root == 61
+            && first.root_oid == 1028
+            && first.name.as_slice() == b"s2".as_slice()
+            && last.xid == 4
+            && last.super_block == 62
+            && last.extents_root == 63
+            && last.root_oid == 1028
     );
-    Ok(())
+}
+
+// The live view, and the one before it.
+fn assert_views(rt: &impl Abort, volume: &Volume, cp: &Checkpoint) {
+    assert!(rt; volume.snaps.len() == 2);
+    let now = live(volume, cp);
+    let before = past(volume, 1);
+    assert!(rt;
+        now.slot == 0
+            && now.xid == 5
+            && now.root_oid == 1028
+            && before.slot == 0
+            && before.xid == 4
+            && before.root_oid == 1028
+    );
+}
+
+fn assert_volume(rt: &impl Abort, volume: &Volume) {
+    assert!(rt;
+        volume.names == Names::Folded
+            && volume.root_oid == 1028
+            && volume.extents_root == 55
+            && volume.snaps_root == 56
+            && volume.meta_ext == 0
+            && by_name(volume, b"s2") == Some(0)
+            && by_name(volume, b"s4") == Some(1)
+            && by_name(volume, b"s") == None
+    );
 }
 
 fn assert_loaded(rt: &impl Abort, alloc: Global, edits: &[Edit]) -> Result<(), Fail> {
-    let Ok((volume, cp)) = loaded(alloc, edited(alloc, edits, true)?) else {
-        panic!(rt; "there is no volume");
-    };
-    assert_snapshots(rt, alloc, &volume)?;
-    assert!(rt;
-        volume.names == Names::Folded
-            && (volume.root_oid, volume.extents_root) == (1028, 55)
-            && (volume.snaps_root, volume.meta_ext) == (56, 0)
-            && volume.snaps.len() == 2
-    );
-    let now = live(&volume, &cp);
-    let before = past(&volume, 1);
-    assert!(rt;
-        (now.slot, now.xid, now.root_oid) == (0, 5, 1028)
-            && (before.slot, before.xid, before.root_oid) == (0, 4, 1028)
-            && by_name(&volume, b"s2") == Some(0)
-            && by_name(&volume, b"s4") == Some(1)
-            && by_name(&volume, b"s") == None
-    );
+    let image = edited(alloc, Sample::V, edits, true)?;
+    let found = loaded(alloc, image).ok().expect(rt, "there is no volume");
+    assert_snapshots(rt, &found.0.snaps);
+    assert_volume(rt, &found.0);
+    assert_views(rt, &found.0, &found.1);
+    drop(found);
     Ok(())
 }
 
@@ -104,12 +117,12 @@ fn a_volume_with_two_snapshots(rt: HostRuntime) -> Result<(), Fail> {
 
 #[test]
 fn the_small_volume_has_none(rt: HostRuntime) -> Result<(), Fail> {
-    let alloc = rt.alloc();
-    let plan = sample(alloc, Sample::S)?;
-    let Ok((volume, _)) = loaded(alloc, changed(alloc, &plan, &[], true)?) else {
-        panic!(rt; "there is no volume");
-    };
-    assert!(rt; volume.snaps.len() == 0 && by_name(&volume, b"s2") == None);
+    let image = edited(rt.alloc(), Sample::S, &[], true)?;
+    let found = loaded(rt.alloc(), image)
+        .ok()
+        .expect(&rt, "there is no volume");
+    assert!(rt; found.0.snaps.len() == 0 && by_name(&found.0, b"s2") == None);
+    drop(found);
     Ok(())
 }
 
@@ -120,10 +133,8 @@ fn assert_stop(
     sealed: bool,
     stop: Stop<VolStop>,
 ) -> Result<(), Fail> {
-    match loaded(alloc, edited(alloc, &[edit], sealed)?) {
-        Ok(_) => panic!(rt; "there is a volume"),
-        Err(other) => assert!(rt; other == stop),
-    }
+    let image = edited(alloc, Sample::V, &[edit], sealed)?;
+    assert!(rt; loaded(alloc, image).err() == Some(stop));
     Ok(())
 }
 
