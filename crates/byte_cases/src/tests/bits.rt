@@ -63,7 +63,7 @@ fn a_bit_of_either_is_set(rt: HostRuntime) {
     assert!(rt; few == [0x11, 0x80, 0x00]);
     let mut many = [0x03; 130];
     or_into(&mut many, &[0x06; 130]);
-    assert!(rt; many.iter().all(|byte| *byte == 0x07));
+    assert!(rt; many == [0x07; 130]);
 }
 
 // Two runs of bytes, and whether a bit is set in both.
@@ -111,7 +111,7 @@ const LEAST: [(usize, usize, Option<usize>); 6] = [
 fn bits_from_a_place_up_to_another(rt: HostRuntime) {
     let mut bits = [0; 80];
     set_range(&mut bits, 5, 5);
-    assert!(rt; bits.iter().all(|byte| *byte == 0x00));
+    assert!(rt; bits == [0x00; 80]);
     set_range(&mut bits, 5, 19);
     assert!(rt; &bits[..4] == [0xe0, 0xff, 0x07, 0x00].as_slice());
     set_range(&mut bits, 630, 633);

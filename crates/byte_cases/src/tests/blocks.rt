@@ -14,7 +14,8 @@ fn blocks_are_read_by_number(rt: HostRuntime) -> Result<(), Fail> {
     read_block(&mut source, 1, &mut into)?;
     assert!(rt; into == [3, 4]);
     let bytes: Result<Vec<u8>, Stop<()>> = read_new(rt.alloc(), &mut source, 1, 3);
-    assert!(rt; bytes.is_ok_and(|bytes| bytes.as_slice() == [4, 5, 6].as_slice()));
+    let bytes = bytes.ok().expect(&rt, "no bytes");
+    assert!(rt; bytes.as_slice() == [4, 5, 6].as_slice());
     Ok(())
 }
 
@@ -60,15 +61,35 @@ fn judge(
     Ok(object.len())
 }
 
+// Why an object isn't sound.
+macro_rules! refused {
+    ($block:expr, $why:expr) => {
+        Err(Stop::Found(Unsound {
+            block: $block,
+            why: $why,
+        }))
+    };
+}
+
+// A block, the kind and the oid that are expected, and the object's length or why it is refused.
+type Judged = (
+    u64,
+    u16,
+    Option<u64>,
+    Result<usize, Stop<Unsound<HeadFault>>>,
+);
+
+const JUDGED: [Judged; 5] = [
+    (1, 0xb, Some(1), Ok(4096)),
+    (1, 0xb, None, Ok(4096)),
+    (1, 0xc, Some(1), refused!(1, HeadFault::BadKind)),
+    (1, 0xb, Some(2), refused!(1, HeadFault::BadOid)),
+    (0, 0, Some(0), refused!(0, HeadFault::BadSum)),
+];
+
 #[test]
 fn an_object_is_judged_where_it_stands(rt: HostRuntime) {
-    let alloc = rt.alloc();
-    let refused = |block, why| Err(Stop::Found(Unsound { block, why }));
-    assert!(rt;
-        judge(alloc, 1, 0xb, Some(1)) == Ok(4096)
-            && judge(alloc, 1, 0xb, None) == Ok(4096)
-            && judge(alloc, 1, 0xc, Some(1)) == refused(1, HeadFault::BadKind)
-            && judge(alloc, 1, 0xb, Some(2)) == refused(1, HeadFault::BadOid)
-            && judge(alloc, 0, 0, Some(0)) == refused(0, HeadFault::BadSum)
-    );
+    for (block, kind, oid, wanted) in JUDGED {
+        assert!(rt; block < 2 && judge(rt.alloc(), block, kind, oid) == wanted);
+    }
 }

@@ -206,19 +206,31 @@ fn opened(call: Call) -> usize {
 // Linux lists what a process has open.
 const OPEN: &str = "/proc/self/fd";
 
-// Fills a directory, and looks after each call whether its file is open and nothing more.
-fn fill(rt: &HostRuntime, dir: String, calls: &[Call]) -> Result<(), Fail> {
-    let before = entries(rt, OPEN)?;
-    let mut folder = DirFolder::new(rt, dir);
+// Makes calls, and looks after each whether its file is open and nothing more than before.
+fn call_all<F: Folder>(
+    rt: &HostRuntime,
+    folder: &mut F,
+    before: usize,
+    calls: &[Call],
+) -> Result<(), Fail> {
     for (i, call) in calls.iter().enumerate() {
-        if !goes(&mut folder, *call) {
+        if !goes(folder, *call) {
             return Err(Wrong::Call(i))?;
         }
         if entries(rt, OPEN)? != before.saturating_add(opened(*call)) {
             return Err(Wrong::Open(i))?;
         }
     }
+    Ok(())
+}
+
+// Fills a directory, after which nothing more is open than before.
+fn fill(rt: &HostRuntime, dir: String, calls: &[Call]) -> Result<(), Fail> {
+    let before = entries(rt, OPEN)?;
+    let mut folder = DirFolder::new(rt, dir);
+    let called = call_all(rt, &mut folder, before, calls);
     drop(folder);
+    called?;
     let left = entries(rt, OPEN)?;
     if left == before {
         Ok(())
@@ -262,15 +274,21 @@ fn run(rt: &HostRuntime, top: &str, case: &Case) -> Result<(), Fail> {
     Ok(fs::remove_dir_all(rt, top)?)
 }
 
+// Where the folder of a case stands.
+fn top_of(rt: &HostRuntime, i: usize) -> Result<String, Fail> {
+    let number = process::id(rt.process());
+    let below = format!(in rt.alloc(); "byte_cases.{number}.{i}")?;
+    Ok(
+        env::temp_dir(rt)?
+            .join(rt.alloc(), below.as_str())?
+            .into_string(),
+    )
+}
+
 #[test]
 fn real_directories_get_what_is_put_and_nothing_else(rt: HostRuntime) -> Result<(), Fail> {
-    let alloc = rt.alloc();
-    let number = process::id(rt.process());
     for (i, case) in CASES.iter().enumerate() {
-        let below = format!(in alloc; "byte_cases.{number}.{i}")?;
-        let top = env::temp_dir(&rt)?
-            .join(alloc, below.as_str())?
-            .into_string();
+        let top = top_of(&rt, i)?;
         run(&rt, &top, case)?;
     }
     Ok(())

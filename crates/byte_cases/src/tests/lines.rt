@@ -2,14 +2,28 @@
 use cmd_words::Line::*;
 use cmd_words::{Flags, Line, Target, line_in};
 use std::alloc::{AllocError, Global};
+use std::process::Abort;
 
-// Whether the words ask for this.
-fn asks_for(alloc: Global, text: &str, wanted: Option<Line<'_>>) -> Result<bool, AllocError> {
+// The words of a line.
+fn words(alloc: Global, text: &str) -> Result<Vec<String>, AllocError> {
     let mut words: Vec<String> = Vec::new(alloc);
     for word in text.split('|') {
         words.push(format!(in alloc; "{word}")?)?;
     }
-    Ok(line_in(alloc, words.as_slice())? == wanted)
+    Ok(words)
+}
+
+// Whether the words ask for this.
+fn ask_for(alloc: Global, words: &[String], wanted: Option<Line<'_>>) -> Result<bool, AllocError> {
+    Ok(line_in(alloc, words)? == wanted)
+}
+
+// Asserts that the words of a line ask for this.
+fn assert_asked(rt: &impl Abort, alloc: Global, text: &str, wanted: Option<Line<'_>>) {
+    let words = words(alloc, text).ok().expect(rt, "memory");
+    let as_said = ask_for(alloc, words.as_slice(), wanted);
+    drop(words);
+    assert!(rt; as_said == Ok(true), "{text}");
 }
 
 // A path in the volume and the snapshot that are meant.
@@ -75,12 +89,10 @@ const RIGHT: &[(&str, Line<'static>)] = table! {
 };
 
 #[test]
-fn right_lines_say_their_parts(rt: HostRuntime) -> Result<(), AllocError> {
+fn right_lines_say_their_parts(rt: HostRuntime) {
     for (text, line) in RIGHT {
-        let as_said = asks_for(rt.alloc(), text, Some(*line))?;
-        assert!(rt; as_said, "{text}");
+        assert_asked(&rt, rt.alloc(), text, Some(*line));
     }
-    Ok(())
 }
 
 const ANYWHERE: &[(&str, Target<'static>)] = table! {
@@ -106,12 +118,10 @@ const ANYWHERE: &[(&str, Target<'static>)] = table! {
 };
 
 #[test]
-fn options_stand_anywhere(rt: HostRuntime) -> Result<(), AllocError> {
+fn options_stand_anywhere(rt: HostRuntime) {
     for (text, target) in ANYWHERE {
-        let as_said = asks_for(rt.alloc(), text, Some(Cat(PLAIN, *target)))?;
-        assert!(rt; as_said, "{text}");
+        assert_asked(&rt, rt.alloc(), text, Some(Cat(PLAIN, *target)));
     }
-    Ok(())
 }
 
 // Lines, parted by spaces. The first has no word.
@@ -129,10 +139,8 @@ const WRONG: &str =
     usage|img|--volume=100 usage|img|--snapshot=a usage|img|--strict usage|img|--quick";
 
 #[test]
-fn wrong_words_are_no_line(rt: HostRuntime) -> Result<(), AllocError> {
+fn wrong_words_are_no_line(rt: HostRuntime) {
     for text in WRONG.split(' ') {
-        let as_said = asks_for(rt.alloc(), text, None)?;
-        assert!(rt; as_said, "{text}");
+        assert_asked(&rt, rt.alloc(), text, None);
     }
-    Ok(())
 }

@@ -1,7 +1,7 @@
 // Lists in order with what is found in them, whatever the guess.
 use id_lists::{ByItself, IdList, IdSlice, NO_GUESS, are_in_order, below, count, distinct};
 use std::alloc::Global;
-use std::test::Fail;
+use std::process::Abort;
 
 /// A list, an id, how many items are below it, its place, and how many items are of it.
 type Row = (&'static [u64], u64, usize, Option<usize>, usize);
@@ -44,7 +44,7 @@ const ROWS: [Row; 12] = [
 const GUESSES: [usize; 4] = [NO_GUESS, 0, 3, 8];
 
 #[test]
-fn searches(rt: HostRuntime) -> Result<(), Fail> {
+fn searches(rt: HostRuntime) {
     for (list, id, before, _, of_it) in ROWS {
         assert!(rt; are_in_order::<_, ByItself>(list));
         for guess in GUESSES {
@@ -54,7 +54,6 @@ fn searches(rt: HostRuntime) -> Result<(), Fail> {
             );
         }
     }
-    Ok(())
 }
 
 // Puts an id where it stands.
@@ -64,47 +63,59 @@ fn put_back(list: &mut IdList<u64, ByItself>, id: u64) {
     }
 }
 
+// Whether a list is this one, and an id is found in it as a row says, also after it is put back.
+fn is_made(
+    made: &mut IdList<u64, ByItself>,
+    list: &[u64],
+    id: u64,
+    at: Option<usize>,
+    of_it: usize,
+) -> bool {
+    let found = made.len() == list.len()
+        && made.as_slice() == list
+        && made.place(id) == at
+        && made.count(id) == of_it;
+    put_back(made, id);
+    found && made.as_slice() == list
+}
+
 #[test]
-fn lists(rt: HostRuntime) -> Result<(), Fail> {
+fn lists(rt: HostRuntime) {
     for (list, id, _, at, of_it) in ROWS {
-        let items = Vec::from_slice(rt.alloc(), list)?;
+        let items = Vec::from_slice(rt.alloc(), list).ok().expect(&rt, "memory");
         assert!(rt; are_in_order::<_, ByItself>(&items));
-        let mut made: IdList<u64, ByItself> = IdList::of(rt.alloc(), items)?;
-        assert!(rt;
-            made.len() == list.len()
-                && made.as_slice() == list
-                && made.place(id) == at
-                && made.count(id) == of_it
-        );
-        put_back(&mut made, id);
-        assert!(rt; made.as_slice() == list);
+        let mut made: IdList<u64, ByItself> = IdList::of(rt.alloc(), items)
+            .ok()
+            .expect(&rt, "memory");
+        assert!(rt; is_made(&mut made, list, id, at, of_it));
+        drop(made);
     }
-    Ok(())
 }
 
-// Whether an id is found in a lent list, with guesses and without, as a row says.
-fn is_found(alloc: Global, row: Lent) -> Result<bool, Fail> {
+// Whether an id is found in a lent list as a row says.
+fn is_found(lent: &IdSlice<'_, u64, ByItself>, row: Lent) -> bool {
     let (list, id, at, of_it) = row;
-    let lent: IdSlice<'_, u64, ByItself> = IdSlice::of(alloc, list)?;
-    let plain: IdSlice<'_, u64, ByItself> = IdSlice::without_guesses(alloc, list);
-    Ok(
-        lent.place(id) == at
-            && lent.count(id) == of_it
-            && plain.place(id) == at
-            && plain.count(id) == of_it
-            && lent.len() == list.len(),
-    )
+    lent.place(id) == at && lent.count(id) == of_it && lent.len() == list.len()
+}
+
+// Asserts that an id is found in a lent list, with guesses and without, as a row says.
+fn assert_found(rt: &impl Abort, alloc: Global, row: Lent) {
+    let lent: IdSlice<'_, u64, ByItself> = IdSlice::of(alloc, row.0).ok().expect(rt, "memory");
+    assert!(rt; is_found(&lent, row));
+    drop(lent);
+    let plain: IdSlice<'_, u64, ByItself> = IdSlice::without_guesses(alloc, row.0);
+    assert!(rt; is_found(&plain, row));
+    drop(plain);
 }
 
 #[test]
-fn lent_lists(rt: HostRuntime) -> Result<(), Fail> {
+fn lent_lists(rt: HostRuntime) {
     for (list, id, _, at, of_it) in ROWS {
-        assert!(rt; is_found(rt.alloc(), (list, id, at, of_it))?);
+        assert_found(&rt, rt.alloc(), (list, id, at, of_it));
     }
     for row in LENT {
-        assert!(rt; is_found(rt.alloc(), row)?);
+        assert_found(&rt, rt.alloc(), row);
     }
-    Ok(())
 }
 
 // Lists, and whether they are in order.
@@ -117,11 +128,10 @@ const ORDER: [(&[u64], bool); 5] = [
 ];
 
 #[test]
-fn order(rt: HostRuntime) -> Result<(), Fail> {
+fn order(rt: HostRuntime) {
     for (list, want) in ORDER {
         assert!(rt; are_in_order::<_, ByItself>(list) == want);
     }
-    Ok(())
 }
 
 // Numbers, and those that there are in order.
@@ -133,11 +143,12 @@ const DISTINCT: [(&[u64], &[u64]); 4] = [
 ];
 
 #[test]
-fn numbers_once(rt: HostRuntime) -> Result<(), Fail> {
+fn numbers_once(rt: HostRuntime) {
     for (given, want) in DISTINCT {
-        let mut items = Vec::from_slice(rt.alloc(), given)?;
+        let mut items = Vec::from_slice(rt.alloc(), given)
+            .ok()
+            .expect(&rt, "memory");
         distinct(&mut items);
         assert!(rt; items.as_slice() == want);
     }
-    Ok(())
 }

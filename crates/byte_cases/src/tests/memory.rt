@@ -1,7 +1,6 @@
 // That calls of a folder in memory succeed.
 use apfs_model::WriteFailed;
 use blk_folder::{Folder, Given, MemFolder};
-use std::test::Fail;
 
 // Puts a file in two pieces.
 fn put(folder: &mut MemFolder, path: &str, first: &[u8], second: &[u8]) -> Result<(), WriteFailed> {
@@ -11,9 +10,8 @@ fn put(folder: &mut MemFolder, path: &str, first: &[u8], second: &[u8]) -> Resul
 }
 
 // Starts a file, and says whether its only piece is refused.
-fn refuses(folder: &mut MemFolder, path: &str, piece: &[u8]) -> Result<bool, WriteFailed> {
-    folder.start_file(path)?;
-    Ok(folder.append(piece).is_err())
+fn refuses(folder: &mut MemFolder, path: &str, piece: &[u8]) -> bool {
+    folder.start_file(path).is_ok() && folder.append(piece).is_err()
 }
 
 // Whether a folder has some items: each a path, and the bytes of a file.
@@ -29,30 +27,36 @@ fn has(folder: &MemFolder, items: &[(&str, Option<&[u8]>)]) -> bool {
 const FILLED: &[(&str, Option<&[u8]>)] = &[("d", None), ("d/f", Some(b"hello")), ("e", Some(b""))];
 
 #[test]
-fn a_folder_in_memory_has_what_was_put(rt: HostRuntime) -> Result<(), Fail> {
-    let mut folder = MemFolder::new(rt.alloc(), 3, 10, Vec::new(rt.alloc()))?;
-    folder.make_dir("d")?;
-    put(&mut folder, "d/f", b"hel", b"lo")?;
-    folder.start_file("e")?;
-    assert!(rt; has(&folder, FILLED) && folder.fault_count() == 0);
-    Ok(())
+fn a_folder_in_memory_has_what_was_put(rt: HostRuntime) {
+    let mut folder = MemFolder::new(rt.alloc(), 3, 10, Vec::new(rt.alloc()))
+        .ok()
+        .expect(&rt, "memory");
+    assert!(rt;
+        folder.make_dir("d").is_ok()
+            && put(&mut folder, "d/f", b"hel", b"lo").is_ok()
+            && folder.start_file("e").is_ok()
+            && has(&folder, FILLED)
+            && folder.fault_count() == 0
+    );
 }
 
 const REFUSED: &[(&str, Option<&[u8]>)] = &[("f", Some(b"")), ("g", Some(b""))];
 
 #[test]
-fn a_folder_in_memory_refuses_by_number_and_by_room(rt: HostRuntime) -> Result<(), Fail> {
+fn a_folder_in_memory_refuses_by_number_and_by_room(rt: HostRuntime) {
     let alloc = rt.alloc();
-    let mut folder = MemFolder::new(alloc, 2, 6, vec![in alloc; 2]?)?;
+    let fails = vec![in alloc; 2].ok().expect(&rt, "memory");
+    let mut folder = MemFolder::new(alloc, 2, 6, fails)
+        .ok()
+        .expect(&rt, "memory");
     assert!(rt;
-        refuses(&mut folder, "f", b"a")?
+        refuses(&mut folder, "f", b"a")
             && folder.make_dir("longer").is_err()
-            && refuses(&mut folder, "g", b"hello")?
+            && refuses(&mut folder, "g", b"hello")
             && folder.make_dir("d").is_err()
             && has(&folder, REFUSED)
             && folder.fault_count() == 4
     );
-    Ok(())
 }
 
 #[test]

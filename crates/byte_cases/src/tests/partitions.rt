@@ -3,7 +3,7 @@ ghost use Rattle.std.specs.Prelude.{◌≡◌, ◌≤◌, Some, length};
 
 use blk_source::{BlockSource, MemSource, SureSource};
 use img_gpt::{GptStop, Origin, Part, Slice, find_part, part_or_fault};
-use std::alloc::Global;
+use std::alloc::{AllocError, Global};
 use std::marker::Brand;
 use std::test::Fail;
 
@@ -53,7 +53,7 @@ fn put_entry(bytes: &mut Vec<u8>, at: usize, kind: [u8; 16], first: u64, last: u
     put(bytes, at.saturating_add(40), &last.to_le_bytes());
 }
 
-fn bytes_of(alloc: Global, disk: &Disk) -> Result<Vec<u8>, Fail> {
+fn bytes_of(alloc: Global, disk: &Disk) -> Result<Vec<u8>, AllocError> {
     let mut bytes = vec![in alloc; 0u8; disk.sector.saturating_mul(disk.sectors)]?;
     let header = disk.sector;
     put(&mut bytes, header, b"EFI PART");
@@ -81,15 +81,16 @@ fn bytes_of(alloc: Global, disk: &Disk) -> Result<Vec<u8>, Fail> {
     Ok(bytes)
 }
 
-// What is found on a disk.
-fn found(alloc: Global, disk: &Disk) -> Result<Result<Part, GptStop>, Fail> {
-    Ok(find_part(&mut SureSource::new(bytes_of(alloc, disk)?)))
-}
+// Where a partition begins and how long it is, or why none is found.
+type Found = Result<(u64, u64), GptStop>;
 
-const PLAIN_PART: Part = Part {
-    start: 20_480,
-    length: 1_048_576,
-};
+// What is found on a disk.
+fn found(alloc: Global, disk: &Disk) -> Result<Found, AllocError> {
+    match find_part(&mut SureSource::new(bytes_of(alloc, disk)?)) {
+        Ok(part) => Ok(Ok((part.start, part.length))),
+        Err(stop) => Ok(Err(stop)),
+    }
+}
 
 const LARGE: Disk = Disk {
     sector: 4096,
@@ -114,26 +115,6 @@ const TWO: Disk = Disk {
     ..PLAIN
 };
 
-// Disks, and where the partition begins and how long it is.
-const FOUND: [(Disk, u64, u64); 4] = [
-    (PLAIN, 20_480, 1_048_576),
-    (LARGE, 28_672, 1_048_576),
-    (MANY, 4_198_912, 512),
-    (TWO, 20_992, 5_120),
-];
-
-#[test]
-fn a_partition_is_found(rt: HostRuntime) -> Result<(), Fail> {
-    for (disk, start, length) in &FOUND {
-        let part = Part {
-            start: *start,
-            length: *length,
-        };
-        assert!(rt; found(rt.alloc(), disk)? == Ok(part));
-    }
-    Ok(())
-}
-
 // `PLAIN` but for some fields.
 macro_rules! plain_but {
     ($($field:ident: $value:expr),+) => {
@@ -150,71 +131,84 @@ macro_rules! one {
 
 const NONE: Disk = plain_but!(used: [(0, SYSTEM, 40, 2087), (127, SYSTEM, 34, 39)]);
 
-// Disks, and what is told of them.
-const FAULTS: [(Disk, GptStop); 14] = [
-    (plain_but!(sectors: 1), GptStop::NoTable),
-    (plain_but!(size: 127), GptStop::BadTable),
-    (plain_but!(size: 132), GptStop::BadTable),
-    (plain_but!(size: 4104), GptStop::BadTable),
-    (plain_but!(count: 0), GptStop::BadTable),
-    (plain_but!(count: 1025), GptStop::BadTable),
-    (plain_but!(entries: u64::MAX), GptStop::BadTable),
-    (plain_but!(entries: 2057), GptStop::BadTable),
-    (NONE, GptStop::NoPartition),
-    (plain_but!(sectors: 2087), GptStop::PartOutside { at: 0 }),
-    (one!(41, 40), GptStop::PartOutside { at: 2 }),
-    (one!(0, u64::MAX), GptStop::PartOutside { at: 2 }),
-    (one!(u64::MAX, u64::MAX), GptStop::PartOutside { at: 2 }),
-    (one!(1 << 55, 1 << 55), GptStop::PartOutside { at: 2 }),
+const PLAIN_PART: Part = Part {
+    start: 20_480,
+    length: 1_048_576,
+};
+
+// Disks, and what is found on them or told of them.
+const DISKS: [(Disk, Found); 18] = [
+    (PLAIN, Ok((20_480, 1_048_576))),
+    (LARGE, Ok((28_672, 1_048_576))),
+    (MANY, Ok((4_198_912, 512))),
+    (TWO, Ok((20_992, 5_120))),
+    (plain_but!(sectors: 1), Err(GptStop::NoTable)),
+    (plain_but!(size: 127), Err(GptStop::BadTable)),
+    (plain_but!(size: 132), Err(GptStop::BadTable)),
+    (plain_but!(size: 4104), Err(GptStop::BadTable)),
+    (plain_but!(count: 0), Err(GptStop::BadTable)),
+    (plain_but!(count: 1025), Err(GptStop::BadTable)),
+    (plain_but!(entries: u64::MAX), Err(GptStop::BadTable)),
+    (plain_but!(entries: 2057), Err(GptStop::BadTable)),
+    (NONE, Err(GptStop::NoPartition)),
+    (
+        plain_but!(sectors: 2087),
+        Err(GptStop::PartOutside { at: 0 }),
+    ),
+    (one!(41, 40), Err(GptStop::PartOutside { at: 2 })),
+    (one!(0, u64::MAX), Err(GptStop::PartOutside { at: 2 })),
+    (
+        one!(u64::MAX, u64::MAX),
+        Err(GptStop::PartOutside { at: 2 }),
+    ),
+    (one!(1 << 55, 1 << 55), Err(GptStop::PartOutside { at: 2 })),
 ];
 
 #[test]
-fn faults_are_told_in_their_order(rt: HostRuntime) -> Result<(), Fail> {
-    for (disk, stop) in &FAULTS {
-        assert!(rt; found(rt.alloc(), disk)? == Err(*stop));
+fn a_partition_is_found_and_faults_are_told_in_their_order(rt: HostRuntime) {
+    for (disk, wanted) in &DISKS {
+        assert!(rt; found(rt.alloc(), disk) == Ok(*wanted));
     }
-    Ok(())
 }
 
 #[test]
-fn a_table_without_entries_has_no_partition(rt: HostRuntime) -> Result<(), Fail> {
-    let mut bytes = bytes_of(rt.alloc(), &PLAIN)?;
+fn a_table_without_entries_has_no_partition(rt: HostRuntime) {
+    let mut bytes = bytes_of(rt.alloc(), &PLAIN).ok().expect(&rt, "memory");
     put(&mut bytes, 1024, &[0]);
     assert!(rt; find_part(&mut SureSource::new(bytes)) == Err(GptStop::NoPartition));
-    Ok(())
 }
 
 // A header at 4,096 that is cut off is none; one of 92 bytes is one.
 const CUT: [(usize, GptStop); 2] = [(4187, GptStop::NoTable), (4188, GptStop::BadTable)];
 
 #[test]
-fn a_header_lies_in_the_disk(rt: HostRuntime) -> Result<(), Fail> {
+fn a_header_lies_in_the_disk(rt: HostRuntime) {
     for (len, stop) in CUT {
-        let mut bytes = vec![in rt.alloc(); 0u8; len]?;
+        let mut bytes = vec![in rt.alloc(); 0u8; len].ok().expect(&rt, "memory");
         put(&mut bytes, 4096, b"EFI PART");
         assert!(rt; find_part(&mut SureSource::new(bytes)) == Err(stop));
     }
-    Ok(())
 }
 
 // The search reads the header, and the entry that is a container's.
 #[test]
-fn a_failed_read_is_told(rt: HostRuntime) -> Result<(), Fail> {
+fn a_failed_read_is_told(rt: HostRuntime) {
     let alloc = rt.alloc();
     for number in 1..=3u64 {
-        let fails = vec![in alloc; number]?;
-        let mut source = MemSource::new(bytes_of(alloc, &PLAIN)?, fails);
+        let fails = vec![in alloc; number].ok().expect(&rt, "memory");
+        let bytes = bytes_of(alloc, &PLAIN).ok().expect(&rt, "memory");
+        let mut source = MemSource::new(bytes, fails);
         let answer = find_part(&mut source);
         if number <= 2 {
             assert!(rt;
                 answer == Err(GptStop::ReadFault)
-                    && (source.read_count(), source.fault_count()) == (number, 1)
+                    && source.read_count() == number
+                    && source.fault_count() == 1
             );
         } else {
             assert!(rt; answer == Ok(PLAIN_PART));
         }
     }
-    Ok(())
 }
 
 // What is read through a slice, whether a read that is refused fails, its length, and the source that it gives back.

@@ -1,6 +1,7 @@
 // Numbers worked out by hand.
 use piece_count::{Counts, Holdings, Piece, ViewCount, ViewRun, Views, count};
 use std::alloc::{AllocError, Global};
+use std::process::Abort;
 use std::test::Fail;
 
 // A run of blocks: the first one, the one after the last, and the number of its set.
@@ -82,18 +83,24 @@ fn counted(alloc: Global, runs: &[Run]) -> Result<Counts, Fail> {
     Ok(count(alloc, held, 3, 16)?)
 }
 
+// Asserts what three views have, and all of them.
+fn assert_counts(rt: &impl Abort, counts: &Counts, row: &Row) {
+    let (runs, views, all) = row;
+    assert!(rt; counts.all == *all, "{runs:?}");
+    for (view, (held, only)) in views.iter().enumerate() {
+        let want = ViewCount {
+            held: *held,
+            only: *only,
+        };
+        assert!(rt; counts.views.get(view) == Some(&want), "{runs:?} {view}");
+    }
+}
+
 #[test]
 fn counts_what_views_have(rt: HostRuntime) -> Result<(), Fail> {
-    for (runs, views, all) in ROWS {
-        let counts = counted(rt.alloc(), runs)?;
-        assert!(rt; counts.all == *all, "{runs:?}");
-        for (view, (held, only)) in views.iter().enumerate() {
-            let want = ViewCount {
-                held: *held,
-                only: *only,
-            };
-            assert!(rt; counts.views.get(view) == Some(&want), "{runs:?} {view}");
-        }
+    for row in ROWS {
+        let counts = counted(rt.alloc(), row.0)?;
+        assert_counts(&rt, &counts, row);
     }
     Ok(())
 }

@@ -30,9 +30,11 @@ fn four<S: BlockSource>(source: &mut S, at: u64) -> Option<[u8; 4]> {
 }
 
 #[test]
-fn a_source_in_memory_refuses_chosen_reads(rt: HostRuntime) -> Result<(), Fail> {
+fn a_source_in_memory_refuses_chosen_reads(rt: HostRuntime) {
     let alloc = rt.alloc();
-    let mut source = MemSource::new(vec![in alloc; 1, 2, 3, 4]?, vec![in alloc; 2]?);
+    let bytes = vec![in alloc; 1, 2, 3, 4].ok().expect(&rt, "memory");
+    let fails = vec![in alloc; 2].ok().expect(&rt, "memory");
+    let mut source = MemSource::new(bytes, fails);
     assert!(rt;
         two(&mut source, 1) == Some([2, 3])
             && two(&mut source, 0).is_none()
@@ -41,14 +43,13 @@ fn a_source_in_memory_refuses_chosen_reads(rt: HostRuntime) -> Result<(), Fail> 
             && source.read_count() == 3
             && source.fault_count() == 1
     );
-    Ok(())
 }
 
 #[test]
-fn a_sure_source_reads(rt: HostRuntime) -> Result<(), Fail> {
-    let mut source = SureSource::new(vec![in rt.alloc(); 5, 6, 7]?);
+fn a_sure_source_reads(rt: HostRuntime) {
+    let bytes = vec![in rt.alloc(); 5, 6, 7].ok().expect(&rt, "memory");
+    let mut source = SureSource::new(bytes);
     assert!(rt; two(&mut source, 1) == Some([6, 7]) && source.size() == 3);
-    Ok(())
 }
 
 // Whether a sink has a text, and how many puts were refused.
@@ -57,9 +58,10 @@ fn has(sink: &MemSink, contents: &[u8], faults: u64) -> bool {
 }
 
 #[test]
-fn a_sink_in_memory_refuses_by_number_and_by_room(rt: HostRuntime) -> Result<(), Fail> {
+fn a_sink_in_memory_refuses_by_number_and_by_room(rt: HostRuntime) {
     let alloc = rt.alloc();
-    let mut sink = MemSink::new(alloc, 5, vec![in alloc; 2]?)?;
+    let fails = vec![in alloc; 2].ok().expect(&rt, "memory");
+    let mut sink = MemSink::new(alloc, 5, fails).ok().expect(&rt, "memory");
     assert!(rt;
         sink.put(b"ab").is_ok()
             && sink.put(b"c").is_err()
@@ -67,7 +69,6 @@ fn a_sink_in_memory_refuses_by_number_and_by_room(rt: HostRuntime) -> Result<(),
             && sink.put(b"g").is_err()
             && has(&sink, b"abdef", 2)
     );
-    Ok(())
 }
 
 // Where a file of a test stands.
@@ -106,12 +107,18 @@ fn is_read<S: BlockSource>(source: &mut S) -> bool {
         && four(source, FAR - 4) == Some([0; 4])
 }
 
+// Writes a few bytes near the start of a long file, and at its end.
+fn write_far(rt: &HostRuntime, path: &PathBuf) -> Result<(), Fail> {
+    let file = fs::create(rt, path)?;
+    file.write_all_at(b"near", 3)?;
+    file.write_all_at(b"far!", FAR)?;
+    Ok(())
+}
+
 #[test]
 fn a_file_is_read_far_out(rt: HostRuntime) -> Result<(), Fail> {
     let path = place(&rt, "blk_source_far")?;
-    let file = fs::create(&rt, &path)?;
-    file.write_all_at(b"near", 3)?;
-    file.write_all_at(b"far!", FAR)?;
+    write_far(&rt, &path)?;
     let mut source = FileSource::new(fs::open(&rt, &path)?)?;
     assert!(rt; is_read(&mut source));
     fs::remove_file(&rt, &path)?;
@@ -156,15 +163,12 @@ impl Write for Narrow {
 }
 
 #[test]
-fn a_writer_that_takes_nothing_fails(rt: HostRuntime) -> Result<(), Fail> {
+fn a_writer_that_takes_nothing_fails(rt: HostRuntime) {
     let mut sink = StdSink::new(Narrow {
         left: 3,
         is_ready: true,
     });
-    sink.put(b"ab")?;
-    sink.put(b"")?;
-    assert!(rt; sink.put(b"cd").is_err());
-    Ok(())
+    assert!(rt; sink.put(b"ab").is_ok() && sink.put(b"").is_ok() && sink.put(b"cd").is_err());
 }
 
 // A writer that refuses to write, or to hand on what it took.
