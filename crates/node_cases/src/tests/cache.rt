@@ -5,7 +5,6 @@ use blk_cache::Cached;
 use blk_source::{BlockSource, MemSource, SureSource};
 use std::alloc::{AllocError, Global};
 use std::process::Abort;
-use std::test::Fail;
 
 // So many bytes.
 fn bytes(alloc: Global, count: u32) -> Result<Vec<u8>, AllocError> {
@@ -114,16 +113,16 @@ fn assert_reads(rt: &impl Abort, alloc: Global, image: &[u8], cached: &mut Cache
 }
 
 #[test]
-fn what_is_kept_is_not_read_again(rt: HostRuntime) -> Result<(), Fail> {
+fn what_is_kept_is_not_read_again(rt: HostRuntime) {
     let alloc = rt.alloc();
-    let bytes = image(alloc)?;
-    let source = MemSource::new(image(alloc)?, vec![in alloc; 2]?);
+    let bytes = image(alloc).ok().expect(&rt, "memory");
+    let fails = vec![in alloc; 2].ok().expect(&rt, "memory");
+    let source = MemSource::new(image(alloc).ok().expect(&rt, "memory"), fails);
     let mut cached = Cached::new(alloc, source, 4096, 256)
         .ok()
         .expect(&rt, "memory");
     assert_reads(&rt, alloc, &bytes, &mut cached);
     assert!(rt; cached.into_inner().fault_count() == 1);
-    Ok(())
 }
 
 // Two nodes, and contents whose last blocks are 3, 5 and 8.

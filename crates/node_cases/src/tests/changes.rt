@@ -6,7 +6,6 @@ use img_edit::node::{Item, NodeHead, Tree, node};
 use obj_base::{Site, Stop};
 use std::alloc::{AllocError, Global};
 use std::process::Abort;
-use std::test::Fail;
 use view_change::{Changed, Changing, KeptView, Leaf, LeafTaker};
 use view_facts::Facts;
 
@@ -211,13 +210,12 @@ fn view_after(
 }
 
 #[test]
-fn facts_of_leaves_that_both_views_have_are_the_same(rt: HostRuntime) -> Result<(), Fail> {
-    let mut source = source(rt.alloc())?;
+fn facts_of_leaves_that_both_views_have_are_the_same(rt: HostRuntime) {
+    let mut source = source(rt.alloc()).ok().expect(&rt, "memory");
     let mut before = KeptView::none::<FsPlainKey>(rt.alloc(), Names::Exact);
     for view in &VIEWS {
         before = view_after(&rt, rt.alloc(), &mut source, before, view);
     }
-    Ok(())
 }
 
 // The names of a volume, and the leaves of a view: one outside the container, one in the block of another, and one whose keys have no hashes, where names are
@@ -244,11 +242,10 @@ fn takes_first(
 }
 
 #[test]
-fn a_leaf_out_of_place_is_not_taken(rt: HostRuntime) -> Result<(), Fail> {
-    let mut source = source(rt.alloc())?;
+fn a_leaf_out_of_place_is_not_taken(rt: HostRuntime) {
+    let mut source = source(rt.alloc()).ok().expect(&rt, "memory");
     for (i, (names, leaves)) in OUT_OF_PLACE.iter().enumerate() {
         let taken = takes_first(&rt, rt.alloc(), &mut source, *names, leaves);
         assert!(rt; taken == Ok(false), "leaf {i}");
     }
-    Ok(())
 }

@@ -6,9 +6,8 @@ use apfs_layout::{node, object};
 use bt_keys::{ExtKey, FsKey, OmapKey, QueueKey};
 use bt_node::{NodeAt, NodeFault, NodeView, Site, TreeKey};
 use obj_base::{Bad, Feature, HeadFault, is_accepted, sum64};
-use std::alloc::Global;
+use std::alloc::{AllocError, Global};
 use std::process::Abort;
-use std::test::Fail;
 
 const SITE: Site = Site {
     block_size: 4096,
@@ -375,7 +374,7 @@ const LARGE: &[Large] = &[
     ),
 ];
 
-fn filled(alloc: Global, len: usize, bytes: &[(usize, u8)]) -> Result<Vec<u8>, Fail> {
+fn filled(alloc: Global, len: usize, bytes: &[(usize, u8)]) -> Result<Vec<u8>, AllocError> {
     let mut node = vec![in alloc; 0u8; len]?;
     for (at, byte) in bytes {
         if let Some(place) = node.get_mut(*at) {
@@ -402,15 +401,16 @@ fn assert_last(rt: &impl Abort, node: &[u8], at: &NodeAt, site: &Site, key: Part
 }
 
 #[test]
-fn larger_nodes_end_where_their_blocks_do(rt: HostRuntime) -> Result<(), Fail> {
+fn larger_nodes_end_where_their_blocks_do(rt: HostRuntime) {
     for (block_size, root, bytes, key, value) in LARGE {
         let site = Site {
             block_size: *block_size,
             ..SITE
         };
         let at = NodeAt { root: *root, ..AT };
-        let node = filled(rt.alloc(), *block_size as usize, bytes)?;
+        let node = filled(rt.alloc(), *block_size as usize, bytes)
+            .ok()
+            .expect(&rt, "memory");
         assert_last(&rt, &node, &at, &site, *key, *value);
     }
-    Ok(())
 }

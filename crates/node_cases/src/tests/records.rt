@@ -60,12 +60,13 @@ fn stream_in(value: &[u8]) -> Result<Option<StreamSize>, RecFault> {
 }
 
 #[test]
-fn a_stream_is_found_after_a_padded_field(rt: HostRuntime) -> Result<(), AllocError> {
+fn a_stream_is_found_after_a_padded_field(rt: HostRuntime) {
     for (len, padded) in PADDED {
-        let value = inode_value(rt.alloc(), *len, padded)?;
+        let value = inode_value(rt.alloc(), *len, padded)
+            .ok()
+            .expect(&rt, "memory");
         assert!(rt; stream_in(&value) == Ok(Some(STREAM)), "{len} bytes");
     }
-    Ok(())
 }
 
 // Whether this is the inode of such a value.
@@ -85,10 +86,11 @@ fn is_inode(read: Result<Inode<'_>, RecFault>) -> bool {
 }
 
 #[test]
-fn an_inode_is_read(rt: HostRuntime) -> Result<(), AllocError> {
-    let value = inode_value(rt.alloc(), 3, &[9; 8])?;
+fn an_inode_is_read(rt: HostRuntime) {
+    let value = inode_value(rt.alloc(), 3, &[9; 8])
+        .ok()
+        .expect(&rt, "memory");
     assert!(rt; is_inode(inode(&value)));
-    Ok(())
 }
 
 // How many of an inode's bytes there are, and its stream or why it is refused.
@@ -101,13 +103,14 @@ const CUT_INODES: [(usize, Result<Option<StreamSize>, RecFault>); 5] = [
 ];
 
 #[test]
-fn an_inode_that_is_cut_is_refused(rt: HostRuntime) -> Result<(), AllocError> {
-    let value = inode_value(rt.alloc(), 3, &[9; 8])?;
+fn an_inode_that_is_cut_is_refused(rt: HostRuntime) {
+    let value = inode_value(rt.alloc(), 3, &[9; 8])
+        .ok()
+        .expect(&rt, "memory");
     for (len, stream) in CUT_INODES {
         let cut = value.get(..len).unwrap_or(&[]);
         assert!(rt; stream_in(cut) == stream, "{len} bytes");
     }
-    Ok(())
 }
 
 // The keys of the entry `hello` of directory 2 with the hash 0x12345, and of the entry and the attribute `hello` without

@@ -17,7 +17,6 @@ use image::{Form, Node, tree_image};
 use obj_base::Stop;
 use std::alloc::Global;
 use std::process::Abort;
-use std::test::Fail;
 use trees::*;
 
 const SITE: Site = Site {
@@ -268,15 +267,16 @@ fn larger_list(alloc: Global, src: &mut MemSource, items: &mut Vec<Item>) -> End
 }
 
 #[test]
-fn larger_blocks(rt: HostRuntime) -> Result<(), Fail> {
+fn larger_blocks(rt: HostRuntime) {
     let alloc = rt.alloc();
-    let image = tree_image(alloc, 16384, QUEUE, KEY_SEVEN)?;
+    let image = tree_image(alloc, 16384, QUEUE, KEY_SEVEN)
+        .ok()
+        .expect(&rt, "memory");
     assert!(rt; image.len() >= 131072);
     let mut src = MemSource::new(image, Vec::new(alloc));
     let mut items = Vec::new(alloc);
     let end = larger_list(alloc, &mut src, &mut items);
     assert!(rt; end == Ok(()) && items.as_slice() == [(0, 7, 0)].as_slice());
-    Ok(())
 }
 
 // Searches among records. The kind stands in the high bits of a key's first word, and counts after the id. Equal ranks over

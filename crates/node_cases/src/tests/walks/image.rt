@@ -11,12 +11,12 @@ pub struct Form {
     pub name: &'static [u8],
 }
 
-/// A node: how far it stands above the leaves, the numbers of keys and nodes that a root tells, and for each entry the
-/// first word of its key, and its value, which is a child's oid above the leaves.
-#[derive(Clone, Copy, PartialEq, Eq)]
+/// A node: how far it stands above the leaves, the totals that a root tells, and for each entry the first word of its key,
+/// and its value, which is a child's oid above the leaves.
+#[derive(Clone, Copy)]
 pub struct Node {
     pub level: u16,
-    pub root: Option<(u64, u64)>,
+    pub root: Option<Totals>,
     pub entries: &'static [(u64, u64)],
 }
 
@@ -52,12 +52,7 @@ fn block(
         oid,
         xid: 1,
         level: plan.level,
-        totals: plan.root.map(|(keys, nodes)| Totals {
-            keys,
-            nodes,
-            longest_key: 0,
-            longest_value: 0,
-        }),
+        totals: plan.root,
     };
     node(alloc, size, &form.tree, &head, &items)?.ok_or(AllocError)
 }

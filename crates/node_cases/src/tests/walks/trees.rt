@@ -4,7 +4,7 @@ use crate::tests::walks::image::{Form, Node};
 use bt_cursor::WalkFault;
 use bt_cursor::WalkFault::*;
 use bt_node::NodeFault;
-use img_edit::node::Tree;
+use img_edit::node::{Totals, Tree};
 use obj_base::HeadFault;
 
 /// The keys of a queue are two numbers, and a tree has each once.
@@ -46,10 +46,15 @@ macro_rules! leaf {
 
 // A root that tells these numbers of keys and of nodes.
 macro_rules! root {
-    ($level:expr, $told:expr, $entries:expr) => {
+    ($level:expr, ($keys:expr, $nodes:expr), $entries:expr) => {
         Node {
             level: $level,
-            root: Some($told),
+            root: Some(Totals {
+                keys: $keys,
+                nodes: $nodes,
+                longest_key: 0,
+                longest_value: 0,
+            }),
             entries: $entries,
         }
     };
@@ -147,9 +152,9 @@ pub type Pair = (&'static [Node], &'static [Item], WalkFault);
 // A table of these: a row has what the root tells and names, the keys of each leaf, the items, and the stop, and ends with a
 // semicolon.
 macro_rules! pairs {
-    ($($told:expr, $children:expr, $first:expr, $second:expr, $items:expr, $fault:expr;)*) => {
+    ($(($keys:expr, $nodes:expr), $children:expr, $first:expr, $second:expr, $items:expr, $fault:expr;)*) => {
         &[$((
-            &[root!(1, $told, $children), leaf!($first), leaf!($second), inner!(1, &[(3, 3)])],
+            &[root!(1, ($keys, $nodes), $children), leaf!($first), leaf!($second), inner!(1, &[(3, 3)])],
             $items,
             $fault,
         )),*]
