@@ -95,3 +95,13 @@ header_fits size accepted = Prim.grind (arith, common_steps, accepted)
 pub some_blocks : (areas : Areas) (m : Mapping) → is_placed areas m ≡ true → 1 ≤ object_blocks areas m
 unfolding is_placed
 some_blocks areas m e = Prim.grind (arith, common_steps, e)
+
+-- a placed mapping starts in the data area
+pub starts_inside : (areas : Areas) (m : Mapping) → is_placed areas m ≡ true → (areas.data_base ≤ m.paddr) × (m.paddr < areas.data_base + areas.data_blocks)
+unfolding is_placed
+starts_inside areas m e = (Prim.grind (arith, common_steps, e), Prim.grind (arith, common_steps, e))
+
+-- a placed mapping has a size of whole blocks
+pub whole_blocks : (areas : Areas) (m : Mapping) → is_placed areas m ≡ true → areas.size * object_blocks areas m ≡ m.size
+unfolding is_placed
+whole_blocks areas m e = Prim.grind (arith, common_steps, e)

@@ -22,3 +22,11 @@ all_fail p (x ∷ xs) zero d low e = ap (λ b. b && list_all p xs) e
 all_fail p (x ∷ xs) (suc i) d low e =
     let rest : list_all p xs ≡ false = all_fail p xs i d (Prim.omega (arith, low)) e in
     elim (p x) as (λ b. (b && list_all p xs) ≡ false) [ true ↦ rest | false ↦ refl ]
+
+passes_or : {X : Type 0} (p : X → Bool) (xs : List X) (i : ℕ) (d : X) (b : Bool) → p (get_or xs i d) ≡ b → i < length xs → list_all p xs ≡ true → b ≡ true
+passes_or p xs i d true here low e = refl
+passes_or p xs i d false here low e = sym (all_fail p xs i d low here) ∙ e
+
+-- where a list passes, each item does
+pub all_pass : {X : Type 0} (p : X → Bool) (xs : List X) (i : ℕ) (d : X) → i < length xs → list_all p xs ≡ true → p (get_or xs i d) ≡ true
+all_pass p xs i d low e = passes_or p xs i d (p (get_or xs i d)) refl low e

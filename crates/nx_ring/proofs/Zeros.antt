@@ -1,5 +1,5 @@
 -- Reading block 0.
-use Rattle.std.proofs.Common.{◌≡◌, ℕ, ◌≤◌, true, false, List, length, Some, Ok, Err, Result, nat_lt, IfOk, IfErr, ap, sym, ◌∙◌, arith}
+use Rattle.std.proofs.Common.{◌≡◌, ℕ, ◌≤◌, true, false, List, length, Some, None, Ok, Err, Result, nat_lt, IfOk, IfErr, ap, sym, ◌∙◌, arith}
 use Rattle.std.specs.Prelude.{◌==◌}
 use Rattle.std.proofs.lemmas.Grind.{common_steps}
 use Rattle.apfs_model.specs.Blocks.{block_of}
@@ -52,6 +52,16 @@ zero_first image first size e f long same =
 pub zero_cut : (image first : List ℕ) (size : ℕ) → first ≡ first_of image → Some size ≡ size_of first → nat_lt (length image) size ≡ true → zero_in image ≡ Err (Found BlockZero)
 unfolding zero_in has_zero
 zero_cut image first size e f cut = let is = size_is image first size e f in Prim.grind (arith, common_steps, is, cut)
+
+-- block 0 isn't there, where an image has fewer than its first bytes
+pub zero_short : (image : List ℕ) → nat_lt (length image) 4096 ≡ true → zero_in image ≡ Err (Found BlockZero)
+unfolding zero_in has_zero
+zero_short image short = Prim.grind (arith, common_steps, short)
+
+-- block 0 isn't there, where the first bytes tell of no size
+pub zero_unsized : (image first : List ℕ) → first ≡ first_of image → None ≡ size_of first → zero_in image ≡ Err (Found BlockZero)
+unfolding zero_in has_zero
+zero_unsized image first e f = let none = f ∙ ap size_of e in Prim.grind (arith, common_steps, none)
 
 bounds : (n : ℕ) → is_accepted n ≡ true → (1 ≤ n) × (n ≤ 65536)
 bounds n e = (Prim.grind (arith, common_steps, e), Prim.grind (arith, common_steps, e))

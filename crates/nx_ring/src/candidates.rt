@@ -84,7 +84,6 @@ fn keep(lines: &mut Vec<RingLine>, found: Option<RingLine>) -> Result<(), Stop<R
 }
 
 // Reads the blocks of the descriptor area.
-#[tactic(auto, using(crate::proofs::More::candidates_more), unfolding(crate::specs::Candidates::all_candidates))]
 pub(crate) fn lines<S: BlockSource>(
     alloc: Global,
     src: &mut S,

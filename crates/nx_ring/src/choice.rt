@@ -38,7 +38,6 @@ use std::alloc::Global;
 use std::collections::BTreeMap;
 
 // The checkpoint of a candidate that was found valid, with its mappings, by reading its objects.
-#[tactic(auto, using(crate::proofs::Fitting::block_fits), unfolding(crate::specs::Candidates::candidate_in, crate::specs::Candidates::is_candidate, crate::specs::Candidates::ring_block))]
 fn load<S: BlockSource>(
     alloc: Global,
     src: &mut S,
@@ -137,7 +136,6 @@ fn add_skipped(line: &RingLine, xid: u64, into: &mut Vec<(u32, u64)>) -> Result<
 }
 
 // The checkpoint, with the candidates before which it stands.
-#[tactic(auto, using(crate::proofs::Read::skipped_more))]
 fn with_skipped(
     alloc: Global,
     mut checkpoint: Checkpoint,
@@ -156,7 +154,6 @@ fn with_skipped(
 }
 
 // The newest checkpoint, or the first of the four tests that fails.
-#[tactic(auto, using(crate::proofs::Chosen::early))]
 fn find<S: BlockSource>(alloc: Global, src: &mut S) -> Result<Checkpoint, Stop<RingFault>>
     ensures found { (image : List ℕ) → S.bytes src.old ≡ Some image → Gives (λ seen. seen) result (found.newest_of image) }
     ensures holds { IfOk result (λ seen. reading.IsHeld seen.nx (S.bytes_len src.old)) }

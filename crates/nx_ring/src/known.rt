@@ -97,7 +97,6 @@ fn is_found(xid: u64, m: &Mapping, sound: Option<Head>) -> bool
 }
 
 // Whether the stored sum of an object is that of its blocks, the first of which was read.
-#[tactic(auto, using(crate::proofs::Fitting::block_fits), unfolding(crate::specs::Objects::is_placed))]
 fn is_summed<S: BlockSource>(
     alloc: Global,
     src: &mut S,
@@ -140,7 +139,6 @@ fn keep(known: &mut Known, m: &Mapping, sound: Option<Head>) -> Result<(), Stop<
 }
 
 // Reads a mapping's object as far as it is sound, and tells whether it is so to its end, which is kept.
-#[tactic(auto, using(crate::proofs::Fitting::block_fits), unfolding(crate::specs::Objects::is_placed))]
 fn judge<S: BlockSource>(
     alloc: Global,
     src: &mut S,

@@ -56,7 +56,6 @@ pub(crate) fn is_map(block: u64, xid: u64, bytes: &[u8]) -> bool
 }
 
 // Adds the mappings of a checkpoint map.
-#[tactic(auto, using(crate::proofs::More::mappings_more), unfolding(crate::specs::Mappings::has_count, crate::specs::Mappings::map_count_of))]
 pub(crate) fn add_mappings(bytes: &[u8], into: &mut Vec<Mapping>) -> Result<(), Stop<RingFault>>
     requires fits { maps.has_count bytes.now ≡ true }
     requires long { 40 ≤ length bytes.now }

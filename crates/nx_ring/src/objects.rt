@@ -88,7 +88,6 @@ pub(crate) fn data_block(areas: &Areas, paddr: u64, t: u32) -> u64
 }
 
 // Reads the bytes of a mapped object.
-#[tactic(auto, using(crate::proofs::More::part_more, crate::proofs::Fitting::block_fits), unfolding(crate::specs::Objects::is_placed))]
 fn read_object<S: BlockSource>(
     alloc: Global,
     src: &mut S,
@@ -133,7 +132,6 @@ fn is_mapped(xid: u64, m: &Mapping, bytes: &[u8]) -> bool
 
 // Reads a mapped object, and gives it where it is sound, of the mapping's kind and oid, and of a transaction of at most
 // `xid`.
-#[tactic(auto, using(crate::proofs::Fitting::whole_object), unfolding(crate::specs::Objects::is_placed))]
 pub(crate) fn read_mapped<S: BlockSource>(
     alloc: Global,
     src: &mut S,

@@ -51,7 +51,6 @@ fn ends_here(areas: &Areas, line: &RingLine) -> bool
 }
 
 // Reads the block that is so many after the checkpoint's start, and adds its mappings where it is a sound map.
-#[tactic(auto, using(crate::proofs::Fitting::block_fits), unfolding(crate::specs::Valid::is_map_after, crate::specs::Candidates::ring_block))]
 fn add_map<S: BlockSource>(
     alloc: Global,
     src: &mut S,
@@ -79,7 +78,6 @@ fn add_map<S: BlockSource>(
 }
 
 // Reads a checkpoint's maps, and gives its mappings where all maps are sound.
-#[tactic(auto, using(crate::proofs::More::first_more, crate::proofs::More::maps_more, crate::proofs::More::maps_fail), unfolding(crate::specs::Valid::has_maps, crate::specs::Valid::mappings_of))]
 fn read_maps<S: BlockSource>(
     alloc: Global,
     src: &mut S,
@@ -147,7 +145,6 @@ fn add_blocks(areas: &Areas, m: &Mapping, into: &mut Vec<u64>) -> Result<(), Sto
 }
 
 // The data blocks of mappings.
-#[tactic(auto, using(crate::proofs::More::blocks_more), unfolding(crate::specs::Valid::are_placed))]
 fn blocks_of(
     alloc: Global,
     areas: &Areas,
@@ -256,7 +253,6 @@ fn are_apart(alloc: Global, areas: &Areas, mappings: &[Mapping]) -> Result<bool,
 
 // Reads the maps of a candidate, and gives its mappings where it ends at its superblock, its maps are sound, and its
 // mappings are placed and apart.
-#[tactic(auto, unfolding(crate::specs::Valid::has_mappings))]
 fn read_mappings<S: BlockSource>(
     alloc: Global,
     src: &mut S,
@@ -287,7 +283,6 @@ fn read_mappings<S: BlockSource>(
 }
 
 // Whether each mapping finds a sound object. No object is kept, and the first that isn't sound ends it.
-#[tactic(auto, using(crate::proofs::More::blocks_length, crate::proofs::More::blocks_part), unfolding(crate::specs::Valid::have_objects, crate::specs::Valid::are_placed))]
 fn have_objects<S: BlockSource>(
     alloc: Global,
     src: &mut S,
@@ -314,7 +309,6 @@ fn have_objects<S: BlockSource>(
 }
 
 // Gives the mappings of a candidate where it is valid.
-#[tactic(auto, using(crate::proofs::Few::few_blocks, crate::proofs::Few::apart_placed), unfolding(crate::specs::Valid::is_valid))]
 pub(crate) fn valid_mappings<S: BlockSource>(
     alloc: Global,
     src: &mut S,
@@ -343,7 +337,6 @@ pub(crate) fn valid_mappings<S: BlockSource>(
 }
 
 // Reads the objects of mappings, and gives them where each is sound.
-#[tactic(auto, using(crate::proofs::More::blocks_length, crate::proofs::More::blocks_part), unfolding(crate::specs::Valid::have_objects, crate::specs::Valid::are_placed))]
 pub(crate) fn read_objects<S: BlockSource>(
     alloc: Global,
     src: &mut S,

@@ -58,7 +58,6 @@ fn are_contiguous(zero: &NxView<'_>) -> bool
 }
 
 // Reads block 0, by the block size that its first bytes give: these alone where the block is no larger.
-#[tactic(auto, using(nx_block::proofs::Laws::size_means, crate::proofs::Zeros::one_read), unfolding(crate::specs::Reading::zero_in, crate::specs::Zero::has_zero, crate::specs::Zero::zero_of, crate::specs::Zero::size_in, nx_block::specs::Super::block_size_of))]
 fn read_zero<S: BlockSource>(alloc: Global, src: &mut S) -> Result<Vec<u8>, Stop<RingFault>>
     ensures found { (image : List ℕ) → S.bytes src.old ≡ Some image → Gives (λ bytes. bytes.items) result (zero_in image) }
     ensures whole { IfOk result (λ bytes. sizes.is_accepted (length bytes.items) ≡ true) }

@@ -1,7 +1,8 @@
-use Rattle.std.proofs.Common.{◌∙◌, ◌<◌, subst, sym, arith}
+use Rattle.std.proofs.Common.{◌≡◌, ◌∙◌, ◌<◌, Ok, ap, subst, sym, arith}
 use Rattle.std.proofs.lemmas.Grind.{common_steps}
 use Rattle.std.specs.List.{All}
 use Rattle.nx_ring.specs.declared.line.RingLine.{RingLine}
+use Rattle.nx_ring.specs.Candidates.{candidates, all_candidates}
 use Rattle.nx_ring.proofs.More.{candidates_more}
 use Rattle.nx_ring.proofs.Tried.{inside_more}
 use Rattle.nx_ring.proofs.candidates.lines.Goals as goal
@@ -22,3 +23,9 @@ indices-preserved g c =
       };
       reads = Prim.omega (arith, c.in_ok-found.ensures.reads, old.reads);
     }
+
+pub returns-clause-found : goal.returns-clause-found
+unfolding all_candidates
+returns-clause-found g c image told =
+    let all : c.indices.index ≡ c.args.areas.now.desc_blocks = Prim.omega (arith, c.indices.auto.index-end, c.indices-test.false) in
+    ap Ok (sym (c.indices.invariant.found image told ∙ ap (candidates image c.args.areas.now) all))

@@ -11,7 +11,7 @@ use Rattle.nx_ring.specs.Candidates.{all_candidates}
 use Rattle.nx_ring.specs.Reading.{AreCandidates, passing}
 use Rattle.nx_ring.specs.Valid.{is_valid}
 use Rattle.nx_ring.specs.Newest.{newest_of, seen_of, skipped_of}
-use Rattle.nx_ring.proofs.Chosen.{sizes_are, found_is, nothing_is, given_by}
+use Rattle.nx_ring.proofs.Chosen.{early, sizes_are, found_is, nothing_is, given_by}
 use Rattle.nx_ring.proofs.Tried.{tried_are, first_is_newest}
 use Rattle.nx_ring.proofs.choice.find.Goals as goal
 
@@ -19,6 +19,9 @@ pub first_valid-requires-clause-inside : goal.first_valid-requires-clause-inside
 first_valid-requires-clause-inside g c =
     let P : RingLine → Type 0 = λ line. line.index < c.in_ok-areas.areas.desc_blocks in
     subst (All P) (sym c.as_slice.ensures.value) (All-permutation P c.as_slice-listed.result.now c.in_ok-tried.tried.items c.in_ok-tried.ensures.order (subst (All P) (sym c.as_slice-listed.ensures.value) c.in_ok-lines.ensures.inside))
+
+pub returns-in_err-areas-clause-found : goal.returns-in_err-areas-clause-found
+returns-in_err-areas-clause-found g c image told = Prim.grind (arith, early, c.from_residual.ensures, c.in_err-areas.ensures.found image told)
 
 pub returns-in_err-lines-clause-reads : goal.returns-in_err-lines-clause-reads
 returns-in_err-lines-clause-reads g c image told =

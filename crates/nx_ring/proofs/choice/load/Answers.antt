@@ -7,6 +7,18 @@ use Rattle.nx_ring.proofs.Some.{some_at}
 use Rattle.nx_ring.proofs.Read.{seen_is, objects_there}
 use Rattle.nx_ring.proofs.choice.load.Goals as goal
 
+pub returns-in_default-clause-found : goal.returns-in_default-clause-found
+unfolding ring_block
+returns-in_default-clause-found g c image told at valid same =
+    let whole = g.met.S.BlockSource.whole c.args.src.now image told in
+    let size = c.size-len.ensures in
+    let index = c.from.ensures in
+    let read = c.in_ok-superblock.ensures.found image told in
+    let value = c.as_slice.ensures.value in
+    let found = c.line_in.ensures.found in
+    let none = c.in_default.is in
+    absurd (Prim.cc)
+
 pub returns-in_default-2-clause-found : goal.returns-in_default-2-clause-found
 returns-in_default-2-clause-found g c image told at valid same =
     let there = objects_there image c.args.areas.now c.args.line.now c.args.mappings.now valid same in

@@ -1,4 +1,4 @@
-use Rattle.std.proofs.Common.{◌≡◌, ◌∙◌, ◌++◌, [], ℕ, List, length, sum, refl, ap, sym, subst, arith, length-append}
+use Rattle.std.proofs.Common.{◌≡◌, ◌∙◌, ◌++◌, ◌+◌, [], ℕ, List, length, sum, refl, ap, sym, subst, arith, length-append}
 use Rattle.apfs_model.specs.Blocks.{block_of}
 use Rattle.apfs_model.specs.Object.{sum_field}
 use Rattle.apfs_model.specs.Sum.{sum_of, weighted, stored_sum}
@@ -6,7 +6,8 @@ use Rattle.nx_ring.specs.Objects.{mapped_part, mapped_bytes, data_block, object_
 use Rattle.nx_ring.specs.Known.{is_summed}
 use Rattle.nx_ring.specs.Sums.{words_after, IsSumOf}
 use Rattle.nx_ring.proofs.More.{part_more}
-use Rattle.nx_ring.proofs.Parts.{words_joined, even_blocks, header_fits, some_blocks}
+use Rattle.nx_ring.proofs.Parts.{words_joined, even_blocks, header_fits, some_blocks, starts_inside}
+use Rattle.nx_ring.proofs.Fitting.{block_fits}
 use Rattle.nx_ring.proofs.Heads.{first_head}
 use Rattle.nx_ring.proofs.known.is_summed.Goals as goal
 
@@ -62,3 +63,14 @@ returns-clause-found g c image told e =
 
 pub returns-clause-reads : goal.returns-clause-reads
 returns-clause-reads g c = Prim.omega (arith, some_blocks c.args.areas.now c.args.m.now c.requires.placed, c.parts.auto.t-end, c.parts-test.false, c.parts.invariant.reads)
+
+pub data_block-requires-clause-starts : goal.data_block-requires-clause-starts
+data_block-requires-clause-starts g c = (starts_inside c.args.areas.now c.args.m.now c.requires.placed).0
+
+pub data_block-requires-clause-inside : goal.data_block-requires-clause-inside
+data_block-requires-clause-inside g c = (starts_inside c.args.areas.now c.args.m.now c.requires.placed).1
+
+pub read_new-requires-clause-inside : goal.read_new-requires-clause-inside
+read_new-requires-clause-inside g c =
+    let areas = c.args.areas.now in
+    block_fits areas.size c.data_block.result (areas.data_base + areas.data_blocks) _ c.data_block.ensures.high (Prim.omega (arith, c.requires.fits.«data», c.parts.invariant.kept.same_size))

@@ -1,9 +1,10 @@
-use Rattle.std.proofs.Common.{◌≡◌, ◌∙◌, ◌&&◌, ◌≤◌, true, false, length, ap, sym, arith}
+use Rattle.std.proofs.Common.{◌≡◌, ◌∙◌, ◌&&◌, ◌+◌, ◌≤◌, true, false, length, ap, sym, arith}
 use Rattle.std.proofs.lemmas.Grind.{common_steps}
 use Rattle.apfs_model.specs.Blocks.{block_of}
 use Rattle.nx_ring.specs.Objects.{mapped_part, mapped_bytes}
 use Rattle.nx_ring.specs.Known.{head_of, is_plain, is_expected}
-use Rattle.nx_ring.proofs.Parts.{first_part, header_fits}
+use Rattle.nx_ring.proofs.Fitting.{block_fits}
+use Rattle.nx_ring.proofs.Parts.{first_part, header_fits, some_blocks, starts_inside}
 use Rattle.nx_ring.proofs.Heads.{first_head, flawed, summed}
 use Rattle.nx_ring.proofs.known.judge.Goals as goal
 
@@ -53,3 +54,23 @@ returns-clause-known g c image told was =
     let plain : is_plain (mapped_bytes image areas m) ≡ true = h.1 ∙ (sym c.is_plain.ensures ∙ c.if-not-is_plain.false) in
     let right = c.in_ok-summed.ensures.found image (c.in_ok-first.ensures.kept.same_bytes ∙ told) part in
     c.in_ok-keep.ensures.known image areas was (Prim.grind (arith, common_steps, c.then_some.ensures, right, plain, h.0, c.head_in-head.ensures))
+
+pub data_block-requires-clause-starts : goal.data_block-requires-clause-starts
+data_block-requires-clause-starts g c = (starts_inside c.args.areas.now c.args.m.now c.requires.placed).0
+
+pub data_block-requires-clause-inside : goal.data_block-requires-clause-inside
+data_block-requires-clause-inside g c = (starts_inside c.args.areas.now c.args.m.now c.requires.placed).1
+
+pub read_new-requires-clause-inside : goal.read_new-requires-clause-inside
+read_new-requires-clause-inside g c =
+    let areas = c.args.areas.now in
+    block_fits areas.size c.data_block.result (areas.data_base + areas.data_blocks) _ c.data_block.ensures.high c.requires.fits.«data»
+
+pub returns-in_err-first-clause-reads : goal.returns-in_err-first-clause-reads
+returns-in_err-first-clause-reads g c = Prim.omega (arith, some_blocks c.args.areas.now c.args.m.now c.requires.placed, c.in_err-first.ensures.reads)
+
+pub returns-then-not-is_plain-clause-reads : goal.returns-then-not-is_plain-clause-reads
+returns-then-not-is_plain-clause-reads g c = Prim.omega (arith, some_blocks c.args.areas.now c.args.m.now c.requires.placed, c.in_ok-first.ensures.reads)
+
+pub returns-then-not-is_expected-clause-reads : goal.returns-then-not-is_expected-clause-reads
+returns-then-not-is_expected-clause-reads g c = Prim.omega (arith, some_blocks c.args.areas.now c.args.m.now c.requires.placed, c.in_ok-first.ensures.reads)

@@ -1,12 +1,30 @@
-use Rattle.std.proofs.Common.{◌∙◌, ap, arith}
+use Rattle.std.proofs.Common.{◌∙◌, ap, sym, arith}
 use Rattle.std.proofs.lemmas.Result.{IfOk-weaker}
 use Rattle.std.proofs.lemmas.Grind.{common_steps}
 use Rattle.apfs_model.specs.Blocks.{block_of}
 use Rattle.nx_block.specs.Read.{size_of}
 use Rattle.obj_base.specs.BlockSize.{is_accepted}
 use Rattle.nx_ring.specs.Reading.{zero_in}
-use Rattle.nx_ring.proofs.Zeros.{given, zero_there, zero_first, zero_cut, size_bounds, two_reads}
+use Rattle.nx_ring.proofs.Zeros.{given, zero_short, zero_unsized, zero_there, zero_first, zero_cut, size_bounds, one_read, two_reads}
 use Rattle.nx_ring.proofs.zero.read_zero.Goals as goal
+
+pub returns-then-len-from-clause-found : goal.returns-then-len-from-clause-found
+returns-then-len-from-clause-found g c image told = zero_short image (Prim.grind (arith, common_steps, c.if-len-from.true, c.size-len.ensures, g.met.S.BlockSource.whole c.args.src.now image told, c.from.ensures))
+
+pub returns-in_err-first-clause-reads : goal.returns-in_err-first-clause-reads
+returns-in_err-first-clause-reads g c image told = Prim.omega (arith, one_read image, c.in_err-first.ensures.reads)
+
+pub returns-in_default-clause-found : goal.returns-in_default-clause-found
+returns-in_default-clause-found g c image told = zero_unsized image c.in_ok-first.first.items (c.in_ok-first.ensures.found image told) (sym c.in_default.is ∙ (c.nx_size.ensures ∙ ap size_of c.deref.ensures.value))
+
+pub returns-in_default-clause-reads : goal.returns-in_default-clause-reads
+returns-in_default-clause-reads g c image told = Prim.omega (arith, one_read image, c.in_ok-first.ensures.reads)
+
+pub returns-then-size-eq-FIRST-clause-reads : goal.returns-then-size-eq-FIRST-clause-reads
+returns-then-size-eq-FIRST-clause-reads g c image told = Prim.omega (arith, one_read image, c.in_ok-first.ensures.reads)
+
+pub returns-then-len-from-2-clause-reads : goal.returns-then-len-from-2-clause-reads
+returns-then-len-from-2-clause-reads g c image told = Prim.omega (arith, one_read image, c.in_ok-first.ensures.reads)
 
 pub returns-then-size-eq-FIRST-clause-found : goal.returns-then-size-eq-FIRST-clause-found
 returns-then-size-eq-FIRST-clause-found g c image told =
