@@ -30,14 +30,14 @@ fn long(row: Long) -> [u8; 130] {
 }
 
 // Two runs of bytes, and the place of the first bit in which they differ.
-const DIFFERENCES: [(&[u8], &[u8], Option<usize>); 4] = [
+const DIFFERENCES: &[(&[u8], &[u8], Option<usize>)] = &[
     (&[], &[], None),
     (&[0x00, 0x04], &[0x00, 0x00], Some(10)),
     (&[0x80, 0x01], &[0x00, 0x00], Some(7)),
     (&[0x11, 0xb0], &[0x11, 0x10], Some(13)),
 ];
 
-const LONG_DIFFERENCES: [(Long, Long, Option<usize>); 3] = [
+const LONG_DIFFERENCES: &[(Long, Long, Option<usize>)] = &[
     ((0, 100, 0x14), (0, 129, 0x80), Some(802)),
     ((0, 0, 0), (0, 129, 0x80), Some(1039)),
     ((0, 129, 0x80), (0, 129, 0x80), None),
@@ -47,12 +47,12 @@ const LONG_DIFFERENCES: [(Long, Long, Option<usize>); 3] = [
 fn least_differences(rt: HostRuntime) {
     for (a, b, want) in DIFFERENCES {
         assert!(rt;
-            a.len() == b.len() && a.len() < 1000 && first_difference(a, b) == want,
+            a.len() == b.len() && a.len() < 1000 && first_difference(a, b) == *want,
             "{want:?}"
         );
     }
     for (a, b, want) in LONG_DIFFERENCES {
-        assert!(rt; first_difference(&long(a), &long(b)) == want, "{want:?}");
+        assert!(rt; first_difference(&long(*a), &long(*b)) == *want, "{want:?}");
     }
 }
 
@@ -67,14 +67,14 @@ fn a_bit_of_either_is_set(rt: HostRuntime) {
 }
 
 // Two runs of bytes, and whether a bit is set in both.
-const SHARED: [(&[u8], &[u8], bool); 3] = [
+const SHARED: &[(&[u8], &[u8], bool)] = &[
     (&[], &[], false),
     (&[0x01, 0xf0], &[0x02, 0x0f], false),
     (&[0x01, 0xf0], &[0x02, 0x10], true),
 ];
 
 // The same of 130 bytes of which each is 1.
-const SHARED_WITH_ONES: [(Long, bool); 3] = [
+const SHARED_WITH_ONES: &[(Long, bool)] = &[
     ((0x06, 0, 0x06), false),
     ((0x06, 70, 0x07), true),
     ((0x06, 128, 0x07), true),
@@ -83,10 +83,10 @@ const SHARED_WITH_ONES: [(Long, bool); 3] = [
 #[test]
 fn shared_bits(rt: HostRuntime) {
     for (a, b, want) in SHARED {
-        assert!(rt; a.len() == b.len() && and_any(a, b) == want, "{a:?}");
+        assert!(rt; a.len() == b.len() && and_any(a, b) == *want, "{a:?}");
     }
     for (b, want) in SHARED_WITH_ONES {
-        assert!(rt; and_any(&[0x01; 130], &long(b)) == want, "{b:?}");
+        assert!(rt; and_any(&[0x01; 130], &long(*b)) == *want, "{b:?}");
     }
 }
 
@@ -98,7 +98,7 @@ fn a_bit_of_both_is_left(rt: HostRuntime) {
 }
 
 // Where it begins and ends, and the least bit that is set there.
-const LEAST: [(usize, usize, Option<usize>); 6] = [
+const LEAST: &[(usize, usize, Option<usize>)] = &[
     (0, 5, None),
     (0, 6, Some(5)),
     (7, 640, Some(7)),
@@ -118,7 +118,7 @@ fn bits_from_a_place_up_to_another(rt: HostRuntime) {
     assert!(rt; &bits[77..] == [0x00, 0xc0, 0x01].as_slice());
     for (from, to, want) in LEAST {
         assert!(rt;
-            from <= to && to <= 640 && least_set(&bits, from, to) == want,
+            from <= to && *to <= 640 && least_set(&bits, *from, *to) == *want,
             "{from} {to}"
         );
     }

@@ -16,7 +16,7 @@ const LOOSE: &[u64] = &[3, 1, 3, 2];
 /// A list, an id, its place, and how many items are of it.
 type Lent = (&'static [u64], u64, Option<usize>, usize);
 
-const LENT: [Lent; 7] = [
+const LENT: &[Lent] = &[
     (RISING, 2, Some(0), 1),
     (RISING, 18, Some(3), 1),
     (RISING, 19, None, 0),
@@ -26,7 +26,7 @@ const LENT: [Lent; 7] = [
     (LOOSE, 4, None, 0),
 ];
 
-const ROWS: [Row; 12] = [
+const ROWS: &[Row] = &[
     (&[], 0, 0, None, 0),
     (&[], u64::MAX, 0, None, 0),
     (&[5], 4, 0, None, 0),
@@ -49,8 +49,8 @@ fn searches(rt: HostRuntime) {
         assert!(rt; are_in_order::<_, ByItself>(list));
         for guess in GUESSES {
             assert!(rt;
-                below::<_, ByItself>(list, id, guess) == before
-                    && count::<_, ByItself>(list, id, guess) == of_it
+                below::<_, ByItself>(list, *id, guess) == *before
+                    && count::<_, ByItself>(list, *id, guess) == *of_it
             );
         }
     }
@@ -87,7 +87,7 @@ fn lists(rt: HostRuntime) {
         let mut made: IdList<u64, ByItself> = IdList::of(rt.alloc(), items)
             .ok()
             .expect(&rt, "memory");
-        assert!(rt; is_made(&mut made, list, id, at, of_it));
+        assert!(rt; is_made(&mut made, list, *id, *at, *of_it));
         drop(made);
     }
 }
@@ -111,10 +111,10 @@ fn assert_found(rt: &impl Abort, alloc: Global, row: Lent) {
 #[test]
 fn lent_lists(rt: HostRuntime) {
     for (list, id, _, at, of_it) in ROWS {
-        assert_found(&rt, rt.alloc(), (list, id, at, of_it));
+        assert_found(&rt, rt.alloc(), (*list, *id, *at, *of_it));
     }
     for row in LENT {
-        assert_found(&rt, rt.alloc(), row);
+        assert_found(&rt, rt.alloc(), *row);
     }
 }
 

@@ -8,16 +8,28 @@ use std::marker::Brand;
 use std::test::Fail;
 
 // The type of a partition with a container, 7C3457EF-0000-11AA-AA11-00306543ECAC, its first three parts with the lowest byte first.
-const CONTAINER: [u8; 16] = [
+const CONTAINER_TYPE: [u8; 16] = [
     0xef, 0x57, 0x34, 0x7c, 0x00, 0x00, 0xaa, 0x11, 0xaa, 0x11, 0x00, 0x30, 0x65, 0x43, 0xec, 0xac,
 ];
 
 // Another type: an EFI system partition.
-const SYSTEM: [u8; 16] = [
+const SYSTEM_TYPE: [u8; 16] = [
     0x28, 0x73, 0x2a, 0xc1, 0x1f, 0xf8, 0xd2, 0x11, 0xba, 0x4b, 0x00, 0xa0, 0xc9, 0x3e, 0xc9, 0x3b,
 ];
 
-// A disk with a table: its sectors, its entries, and those of them that are no zeros.
+// Which of these an entry has.
+#[derive(Clone, Copy)]
+enum Kind {
+    Container,
+    System,
+}
+
+use Kind::{Container, System};
+
+// An entry: its number, its type, and the first and the last sector of its partition.
+type Entry = (u32, Kind, u64, u64);
+
+// A disk with a table: its sectors, its entries, and the two of them that are no zeros.
 #[derive(Clone, Copy)]
 struct Disk {
     sector: usize,
@@ -25,7 +37,8 @@ struct Disk {
     entries: u64,
     count: u32,
     size: u32,
-    used: [(u32, [u8; 16], u64, u64); 2],
+    one: Entry,
+    other: Entry,
 }
 
 // 2,088 sectors of 512 bytes, with 128 entries of 128 bytes from sector 2, the first of which is a container's partition from
@@ -36,7 +49,8 @@ const PLAIN: Disk = Disk {
     entries: 2,
     count: 128,
     size: 128,
-    used: [(0, CONTAINER, 40, 2087), (3, SYSTEM, 34, 39)],
+    one: (0, Container, 40, 2087),
+    other: (3, System, 34, 39),
 };
 
 // Writes bytes where the disk has them.
@@ -47,8 +61,11 @@ fn put(bytes: &mut Vec<u8>, at: usize, part: &[u8]) {
 }
 
 // Writes an entry.
-fn put_entry(bytes: &mut Vec<u8>, at: usize, kind: [u8; 16], first: u64, last: u64) {
-    put(bytes, at, &kind);
+fn put_entry(bytes: &mut Vec<u8>, at: usize, kind: Kind, first: u64, last: u64) {
+    match kind {
+        Container => put(bytes, at, &CONTAINER_TYPE),
+        System => put(bytes, at, &SYSTEM_TYPE),
+    }
     put(bytes, at.saturating_add(32), &first.to_le_bytes());
     put(bytes, at.saturating_add(40), &last.to_le_bytes());
 }
@@ -72,7 +89,7 @@ fn bytes_of(alloc: Global, disk: &Disk) -> Result<Vec<u8>, AllocError> {
         header.saturating_add(84),
         &disk.size.to_le_bytes(),
     );
-    for (number, kind, first, last) in disk.used {
+    for (number, kind, first, last) in [disk.one, disk.other] {
         let offset = u64::from(number).saturating_mul(u64::from(disk.size));
         let start = disk.entries.saturating_mul(disk.sector as u64);
         let at = start.saturating_add(offset) as usize;
@@ -95,7 +112,8 @@ fn found(alloc: Global, disk: &Disk) -> Result<Found, AllocError> {
 const LARGE: Disk = Disk {
     sector: 4096,
     sectors: 300,
-    used: [(127, CONTAINER, 7, 262), (0, SYSTEM, 6, 6)],
+    one: (127, Container, 7, 262),
+    other: (0, System, 6, 6),
     ..PLAIN
 };
 
@@ -105,13 +123,15 @@ const MANY: Disk = Disk {
     entries: 3,
     count: 1024,
     size: 4096,
-    used: [(1023, CONTAINER, 8201, 8201), (0, SYSTEM, 8200, 8200)],
+    one: (1023, Container, 8201, 8201),
+    other: (0, System, 8200, 8200),
     ..PLAIN
 };
 
 // The first of two.
 const TWO: Disk = Disk {
-    used: [(5, CONTAINER, 41, 50), (6, CONTAINER, 60, 70)],
+    one: (5, Container, 41, 50),
+    other: (6, Container, 60, 70),
     ..PLAIN
 };
 
@@ -125,11 +145,11 @@ macro_rules! plain_but {
 // `PLAIN` with another partition, in entry 2.
 macro_rules! one {
     ($first:expr, $last:expr) => {
-        plain_but!(used: [(2, CONTAINER, $first, $last), (0, SYSTEM, 34, 39)])
+        plain_but!(one: (2, Container, $first, $last), other: (0, System, 34, 39))
     };
 }
 
-const NONE: Disk = plain_but!(used: [(0, SYSTEM, 40, 2087), (127, SYSTEM, 34, 39)]);
+const NONE: Disk = plain_but!(one: (0, System, 40, 2087), other: (127, System, 34, 39));
 
 const PLAIN_PART: Part = Part {
     start: 20_480,
@@ -137,7 +157,7 @@ const PLAIN_PART: Part = Part {
 };
 
 // Disks, and what is found on them or told of them.
-const DISKS: [(Disk, Found); 18] = [
+const DISKS: &[(Disk, Found)] = &[
     (PLAIN, Ok((20_480, 1_048_576))),
     (LARGE, Ok((28_672, 1_048_576))),
     (MANY, Ok((4_198_912, 512))),
@@ -166,8 +186,8 @@ const DISKS: [(Disk, Found); 18] = [
 
 #[test]
 fn a_partition_is_found_and_faults_are_told_in_their_order(rt: HostRuntime) {
-    for (disk, wanted) in &DISKS {
-        assert!(rt; found(rt.alloc(), disk) == Ok(*wanted));
+    for (i, (disk, wanted)) in DISKS.iter().enumerate() {
+        assert!(rt; found(rt.alloc(), disk) == Ok(*wanted), "disk {i}");
     }
 }
 
